@@ -1,0 +1,176 @@
+// A disk in memory. It keeps its calls, so each image of each moment is a function of what it stores.
+ghost use Rattle.std.specs.Prelude.{◌≡◌, ◌≤◌, ◌<◌, ◌+◌, ◌-◌, ◌^◌, ℕ, true, false, IsTrue, IfOk, OnOk, OnErr, MatchResult, ◌||◌, is_err, Some, None, [], length, max, vec_len};
+ghost use Rattle.nqs_outside.specs.Causes.{Rose};
+ghost use Rattle.nqs_outside.specs.History.{after, fresh, is_sound, state, content, IsImage};
+ghost use Rattle.nqs_disk.specs.Calls.{calls_of};
+
+use crate::fuse::{is_blown, is_done};
+use crate::kept::{keep_sync, keep_write};
+use crate::torn::torn_bytes;
+use crate::{DiskCall, Fuse};
+use nqs_outside::{Disk, Failed, Fused};
+use nqs_types::{Memory, Tear};
+use std::alloc::Global;
+
+#[derive(Drop)]
+pub struct MemDisk {
+    alloc: Global,
+    start: Vec<u8>,
+    content: Vec<u8>,
+    calls: Vec<DiskCall>,
+    fuse: Option<Fuse>,
+    faults: u64,
+    starved: bool,
+    ghost replayed: { (after (fresh start.items) (calls_of calls.items)).content ≡ content.items },
+    ghost sound: { IsTrue (is_sound start.items (calls_of calls.items)) },
+    ghost small: { length content.items ≤ 2 ^ 40 },
+}
+
+impl MemDisk {
+    ghost use Rattle.nqs_disk.specs.MemDisk.{history_of, faults_of, is_starved, fuse_of};
+    ghost use Rattle.nqs_disk.specs.Torn.{torn};
+
+    /// An empty disk without a fuse.
+    pub fn new(alloc: Global) -> Result<MemDisk, Memory>
+        ensures history { IfOk result (λ disk. history_of disk ≡ record { start = []; calls = [] }) }
+        ensures faults { IfOk result (λ disk. faults_of disk ≡ 0) }
+        ensures starved { IfOk result (λ disk. is_starved disk ≡ false) }
+        ensures fuse { IfOk result (λ disk. fuse_of disk ≡ None) }
+    {
+        Ok(MemDisk {
+            alloc,
+            start: Vec::new(alloc),
+            content: Vec::new(alloc),
+            calls: Vec::new(alloc),
+            fuse: None,
+            faults: 0,
+            starved: false,
+        })
+    }
+
+    /// What a stop leaves.
+    pub fn crash(self, tear: Tear) -> Result<MemDisk, Memory>
+        ensures history { IfOk result (λ disk. history_of disk ≡ record { start = torn tear (state (history_of self)); calls = [] }) }
+        ensures image { IfOk result (λ disk. IsImage (state (history_of self)) (content (history_of disk))) }
+        ensures faults { IfOk result (λ disk. faults_of disk ≡ 0) }
+        ensures starved { IfOk result (λ disk. is_starved disk ≡ false) }
+        ensures fuse { IfOk result (λ disk. fuse_of disk ≡ None) }
+    {
+        let MemDisk {
+            alloc,
+            start,
+            content,
+            calls,
+            fuse: _,
+            faults: _,
+            starved: _,
+        } = self;
+        let content = torn_bytes(alloc, &start, content, &calls, tear)?;
+        Ok(MemDisk {
+            alloc,
+            start: content.to_vec(alloc)?,
+            content,
+            calls: Vec::new(alloc),
+            fuse: None,
+            faults: 0,
+            starved: false,
+        })
+    }
+
+    /// Whether a failed call was a refused growth, or a write past the greatest length.
+    pub fn starved(&self) -> bool
+        ensures { result ≡ is_starved self.now }
+    {
+        self.starved
+    }
+}
+
+// The answer to a call, by whether it was kept and whether the fuse let it be done.
+fn answer(
+    kept: Result<(), Memory>,
+    done: bool,
+    faults: &mut u64,
+    starved: &mut bool,
+) -> Result<(), Failed>
+    ensures ok { OnOk result ((kept ≡ Ok tt) × (done ≡ true)) }
+    ensures err { OnErr result (MatchResult kept (λ _. done ≡ false) (λ _. Unit {0})) }
+    ensures later { faults.old ≤ faults.new }
+    ensures failed { OnErr result (Rose faults.old faults.new) }
+    ensures starved { starved.new ≡ (starved.old || is_err kept) }
+{
+    if kept.is_err() {
+        *starved = true;
+    }
+    if kept.is_err() || !done {
+        *faults = faults.saturating_add(1);
+        return Err(Failed);
+    }
+    Ok(())
+}
+
+impl Disk for MemDisk {
+    ghost use Rattle.nqs_disk.specs.MemDisk.{history_of, fails_of};
+
+    ghost tells = { true };
+
+    ghost history = { history_of };
+
+    ghost fails = { fails_of };
+
+    ghost starved = { λ disk. disk.starved };
+
+    ghost faults = { λ disk. disk.faults };
+
+    fn len(&mut self) -> Result<u64, Failed> {
+        if is_blown(self.fuse, self.calls.len()) {
+            self.faults = self.faults.saturating_add(1);
+            return Err(Failed);
+        }
+        Ok(self.content.len() as u64)
+    }
+
+    fn read_at(&mut self, place: u64, buf: &mut [u8]) -> Result<usize, Failed> {
+        if is_blown(self.fuse, self.calls.len()) {
+            self.faults = self.faults.saturating_add(1);
+            return Err(Failed);
+        }
+        if place >= self.content.len() as u64 {
+            return Ok(0);
+        }
+        let found = &self.content[place as usize..];
+        let count = buf.len().min(found.len());
+        buf[..count].copy_from_slice(&found[..count]);
+        Ok(count)
+    }
+
+    fn write_at(&mut self, place: u64, bytes: &[u8]) -> Result<(), Failed> {
+        let done = is_done(self.fuse, self.calls.len());
+        let kept = keep_write(
+            self.alloc,
+            &mut self.content,
+            &mut self.calls,
+            place,
+            bytes,
+            done,
+        );
+        answer(kept, done, &mut self.faults, &mut self.starved)
+    }
+
+    fn sync(&mut self) -> Result<(), Failed> {
+        let done = is_done(self.fuse, self.calls.len());
+        let kept = keep_sync(&mut self.calls, done);
+        answer(kept, done, &mut self.faults, &mut self.starved)
+    }
+}
+
+impl Fused for MemDisk {
+    fn fuse(&mut self, calls: u64) {
+        let made = self.calls.len();
+        if !is_blown(self.fuse, made) {
+            self.fuse = Some(Fuse {
+                set_at: made,
+                after: calls.max(1) - 1,
+            });
+        }
+    }
+}

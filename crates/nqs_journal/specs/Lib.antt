@@ -1,0 +1,6 @@
+pub mod Text
+pub mod Faults
+pub mod Plan
+pub mod Gate
+pub mod Opened
+pub mod Open

@@ -1,0 +1,41 @@
+// A journal that begins with a snapshot.
+ghost use Rattle.std.specs.Prelude.{◌≡◌, ◌⊎◌, ◌+◌, ◌<◌, ◌≤◌, ◌^◌, ◌++◌, [], ◌∷◌, ℕ, List, IsTrue, OnOk, OnErr, IfOk, length, vec_len};
+ghost use Rattle.nqs_outside.specs.Causes.{Rose};
+ghost use Rattle.nqs_outside.specs.History.{Call, content, extended, StopsShort};
+ghost use Rattle.nqs_journal.specs.Text.{snapshot_front};
+ghost use Rattle.nqs_journal.specs.Plan.{begin_calls};
+ghost use Rattle.nqs_journal.specs.Opened.{IsOpen};
+
+use nqs_outside::{Disk, Failed};
+use std::alloc::{AllocError, Global};
+
+const SNAPSHOT: [u8; 16] = *b"NQS-SNAPSHOT-v1\n";
+
+#[tactic(auto, unfolding(crate::specs::Text::snapshot_front))]
+pub(crate) fn snapshot_text(alloc: Global, snapshot: &[u8]) -> Result<Vec<u8>, AllocError>
+    ensures text { IfOk result (λ text. text.items ≡ snapshot_front snapshot.now ++ 0 ∷ []) }
+    ensures length { IfOk result (λ text. vec_len text ≡ length snapshot.now + 25) }
+{
+    let mut text = Vec::new(alloc);
+    text.extend_from_slice(&SNAPSHOT)?;
+    text.extend_from_slice(&(snapshot.len() as u64).to_be_bytes())?;
+    text.extend_from_slice(snapshot)?;
+    text.extend_from_slice(&[0])?;
+    Ok(text)
+}
+
+// The text in place of what stood there.
+pub(crate) fn write_begin<D: Disk>(disk: &mut D, text: &[u8]) -> Result<(), Failed>
+    ensures small { OnOk result (length text.now ≤ 2 ^ 40) }
+    ensures made { IsTrue D.tells → OnOk result (D.history disk.new ≡ extended (D.history disk.old) (begin_calls text.now)) }
+    ensures broken { IsTrue D.tells → OnErr result ((calls : List Call) × (D.history disk.new ≡ extended (D.history disk.old) calls)
+        × StopsShort (begin_calls text.now) calls) }
+    ensures open { IsTrue D.tells → OnOk result ((front : List ℕ) → text.now ≡ front ++ 0 ∷ [] → IsOpen (D.history disk.new) front (length front) []) }
+    ensures length { IsTrue D.tells → OnOk result (length text.now ≤ length (content (D.history disk.new))) }
+    ensures later { D.faults disk.old ≤ D.faults disk.new }
+    ensures failed { OnErr result (Rose (D.faults disk.old) (D.faults disk.new)) }
+{
+    disk.write_at(0, text)?;
+    disk.sync()?;
+    Ok(())
+}

@@ -1,0 +1,226 @@
+ghost use Rattle.std.specs.Prelude.{◌≡◌, ◌-◌, max, nat_le, IfOk, IfErr, ◌⊎◌, ◌↔◌, ◌+◌, ◌<◌, ◌≤◌, ◌^◌, ◌++◌, [], ◌∷◌, List, ℕ, IsTrue, IsErrOf, OnOk, OnErr, MatchResult, true, false, length, vec_capacity};
+ghost use Rattle.nqs_outside.specs.Causes.{Rose};
+ghost use Rattle.nqs_outside.specs.History.{Call, content, IsQuiet, extended, moment, state_at, MayLeave, EachSince, StopsShort, IsExact};
+ghost use Rattle.nqs_journal.specs.Text.{header, snapshot_front, StandsAfter};
+ghost use Rattle.nqs_journal.specs.Plan.{append_calls, format_calls, begin_calls};
+ghost use Rattle.nqs_journal.specs.Faults.{IsAppendFault, IsLoadFault, MatchBegin};
+ghost use Rattle.nqs_journal.specs.Opened.{IsOpen};
+ghost use Rattle.nqs_journal.specs.Gate.{IsAtGate};
+
+use crate::JournalFault;
+use crate::begin::{snapshot_text, write_begin};
+use crate::load::{read_journal, read_payloads};
+use crate::write::{fill, write_behind};
+use nqs_outside::{Disk, Failed, Fused};
+use nqs_types::Bytes;
+use std::alloc::Global;
+
+pub(crate) const LONGEST: usize = 65_536;
+
+/// A length, the longest payload and a gate.
+const ROOM: usize = 65_541;
+
+#[derive(Drop)]
+pub struct Journal<D: Disk> {
+    disk: D,
+    /// The place of the next record's gate.
+    gate: u64,
+    buffer: Vec<u8>,
+    stopped: bool,
+    ghost small: { gate ≤ 2 ^ 40 },
+    ghost within: { IsTrue D.tells → stopped ≡ false → gate < length (content (D.history disk)) },
+    ghost room: { 65541 ≤ vec_capacity buffer },
+}
+
+impl<D: Disk> Journal<D> {
+    ghost use Rattle.nqs_journal.specs.Open.{disk_of, gate_of, is_stopped, history_of, Tells, BeforeOrAfter};
+
+    /// Adds a payload. It is on the disk before the answer. After `Disk` the journal is stopped.
+    pub fn append(&mut self, payload: &[u8]) -> Result<(), JournalFault>
+        ensures too_long { IsErrOf result JournalFault.TooLong ↔ (65536 < length payload.now) }
+        ensures stopped { IsErrOf result JournalFault.Stopped ↔ ((length payload.now ≤ 65536) × IsTrue (is_stopped self.old)) }
+        ensures only { IfErr result IsAppendFault }
+        ensures disk { IsErrOf result JournalFault.Disk → Rose (D.faults (disk_of self.old)) (D.faults (disk_of self.new)) }
+        ensures stops { IsTrue (is_stopped self.new) ↔ (IsTrue (is_stopped self.old) ⊎ IsErrOf result JournalFault.Disk) }
+        ensures running { OnOk result (is_stopped self.new ≡ false) }
+        ensures later { D.faults (disk_of self.old) ≤ D.faults (disk_of self.new) }
+
+        // The calls that it makes: all four, or the first of them, of which only the last may have failed.
+        ensures made { IsTrue D.tells → OnOk result (history_of self.new ≡ extended (history_of self.old) (append_calls (gate_of self.old) payload.now)) }
+        ensures broken { IsTrue D.tells → OnErr result ((calls : List Call) × (history_of self.new ≡ extended (history_of self.old) calls)
+            × StopsShort (append_calls (gate_of self.old) payload.now) calls) }
+
+        // Which of them fails is the disk's to say, unless it is starved.
+        ensures exact { IsTrue D.tells → length payload.now ≤ 65536 → is_stopped self.old ≡ false
+            → IsExact (D.fails (disk_of self.old)) (D.starved (disk_of self.old)) (D.starved (disk_of self.new)) (history_of self.old) (history_of self.new)
+            (append_calls (gate_of self.old) payload.now) }
+        ensures fuse { IsTrue D.tells → (i : ℕ) → D.fails (disk_of self.new) i ≡ D.fails (disk_of self.old) i }
+
+        // Each image of each moment of the call has the payloads from before it, with the new one or without.
+        ensures any_moment { IsTrue D.tells → (front : List ℕ) (payloads : List (List ℕ)) → Tells self.old front payloads
+            → EachSince (moment (history_of self.old)) (history_of self.new) (BeforeOrAfter front payloads payload.now) }
+
+        // At Ok it is there.
+        ensures acknowledged { IsTrue D.tells → OnOk result ((front : List ℕ) (payloads : List (List ℕ)) → Tells self.old front payloads → Tells self.new front (payloads ++ payload.now ∷ [])) }
+
+        // Before the third call it isn't.
+        ensures until_third { IsTrue D.tells → (front : List ℕ) (payloads : List (List ℕ)) → Tells self.old front payloads
+            → (t : ℕ) (image : List ℕ) → moment (history_of self.old) ≤ t → t ≤ moment (history_of self.old) + 2 → t ≤ moment (history_of self.new)
+            → MayLeave (history_of self.new) t image → StandsAfter front image payloads }
+
+        // From the third on, until the fourth is answered Ok, the gate's byte decides.
+        ensures at_the_gate { IsTrue D.tells → (front : List ℕ) (payloads : List (List ℕ)) → Tells self.old front payloads
+            → (t : ℕ) → moment (history_of self.old) + 3 ≤ t → t ≤ moment (history_of self.new) → OnOk result (t ≡ moment (history_of self.old) + 3)
+            → IsAtGate (state_at (history_of self.new) t) (gate_of self.old) (λ image. StandsAfter front image payloads) (λ image. StandsAfter front image (payloads ++ payload.now ∷ [])) }
+
+        ensures refused { (result ≡ Err JournalFault.TooLong) ⊎ (result ≡ Err JournalFault.Stopped) → self.new ≡ self.old }
+    {
+        if payload.len() > LONGEST {
+            return Err(JournalFault::TooLong);
+        }
+        if self.stopped {
+            return Err(JournalFault::Stopped);
+        }
+        fill(&mut self.buffer, payload);
+        match write_behind(&mut self.disk, self.gate, &self.buffer) {
+            Ok(()) => {
+                self.gate += 5 + payload.len() as u64;
+                Ok(())
+            }
+            Err(Failed) => {
+                self.stopped = true;
+                Err(JournalFault::Disk)
+            }
+        }
+    }
+}
+
+// The text of a journal without records.
+const EMPTY: [u8; 17] = *b"NQS-JOURNAL-v1\n\n\0";
+
+/// Makes an empty disk a journal.
+pub fn format<D: Disk>(disk: &mut D) -> Result<(), JournalFault>
+    requires { IsTrue D.tells → IsQuiet (D.history disk.old) × (content (D.history disk.old) ≡ []) }
+    ensures disk { OnErr result (Rose (D.faults disk.old) (D.faults disk.new)) }
+    ensures fault { IfErr result (λ fault. fault ≡ JournalFault.Disk) }
+    ensures later { D.faults disk.old ≤ D.faults disk.new }
+    ensures made { IsTrue D.tells → OnOk result (D.history disk.new ≡ extended (D.history disk.old) format_calls) }
+    ensures broken { IsTrue D.tells → OnErr result ((calls : List Call) × (D.history disk.new ≡ extended (D.history disk.old) calls)
+        × StopsShort format_calls calls) }
+    ensures formatted { IsTrue D.tells → OnOk result (IsOpen (D.history disk.new) header 16 []) }
+{
+    disk.write_at(0, &EMPTY)?;
+    disk.sync()?;
+    Ok(())
+}
+
+impl<D: Disk> Journal<D> {
+    ghost use Rattle.nqs_journal.specs.Open.{disk_of, is_stopped, history_of, Tells};
+
+    /// Opens a journal and adds its payloads to those found. On a refusal these are as before.
+    pub fn load(
+        alloc: Global,
+        disk: D,
+        found: &mut Vec<Bytes>,
+    ) -> Result<Journal<D>, (JournalFault, D)>
+        requires { IsTrue D.tells → IsQuiet (D.history disk) }
+        ensures tells { IsTrue D.tells → IfOk result (λ journal. (payloads : List (List ℕ)) × Tells journal header payloads
+            × (found.new.items ≡ found.old.items ++ payloads)) }
+        ensures same { IsTrue D.tells → IfOk result (λ journal. history_of journal ≡ D.history disk) }
+        ensures running { IfOk result (λ journal. is_stopped journal ≡ false) }
+        ensures unchanged { OnErr result (found.new.items ≡ found.old.items) }
+        ensures same_err { IsTrue D.tells → IfErr result (λ e. D.history e.1 ≡ D.history disk) }
+        ensures fault { IsTrue D.tells → IfErr result (λ e. IsLoadFault (content (D.history disk)) e.0) }
+        ensures failed { IfErr result (λ e. e.0 ≡ JournalFault.Disk → Rose (D.faults disk) (D.faults e.1)) }
+        ensures later { MatchResult result (λ journal. D.faults disk ≤ D.faults (disk_of journal)) (λ e. D.faults disk ≤ D.faults e.1) }
+    {
+        let mut disk = disk;
+        let Ok(buffer) = Vec::with_capacity(alloc, ROOM) else {
+            return Err((JournalFault::Memory, disk));
+        };
+        let mut reading = match read_journal(alloc, &mut disk) {
+            Ok(reading) => reading,
+            Err(fault) => return Err((fault, disk)),
+        };
+        if found.append(&mut reading.payloads).is_err() {
+            return Err((JournalFault::Memory, disk));
+        }
+        Ok(Journal {
+            disk,
+            gate: reading.gate,
+            buffer,
+            stopped: false,
+        })
+    }
+
+    /// Makes a disk the journal of a snapshot, whatever stood there.
+    pub fn begin(alloc: Global, disk: D, snapshot: &[u8]) -> Result<Journal<D>, (JournalFault, D)>
+        requires { length snapshot.now < 2 ^ 40 }
+        ensures tells { IsTrue D.tells → IfOk result (λ journal. Tells journal (snapshot_front snapshot.now) []) }
+        ensures made { IsTrue D.tells → IfOk result (λ journal. history_of journal ≡ extended (D.history disk) (begin_calls (snapshot_front snapshot.now ++ 0 ∷ []))) }
+        ensures broken { IsTrue D.tells → IfErr result (λ e. MatchBegin e.0 (D.history disk) (D.history e.1) (begin_calls (snapshot_front snapshot.now ++ 0 ∷ []))) }
+        ensures failed { IfErr result (λ e. e.0 ≡ JournalFault.Disk → Rose (D.faults disk) (D.faults e.1)) }
+        ensures running { IfOk result (λ journal. is_stopped journal ≡ false) }
+    {
+        let mut disk = disk;
+        let Ok(buffer) = Vec::with_capacity(alloc, ROOM) else {
+            return Err((JournalFault::Memory, disk));
+        };
+        let Ok(text) = snapshot_text(alloc, snapshot) else {
+            return Err((JournalFault::Memory, disk));
+        };
+        match write_begin(&mut disk, &text) {
+            Ok(()) => Ok(Journal {
+                disk,
+                gate: text.len() as u64 - 1,
+                buffer,
+                stopped: false,
+            }),
+            Err(Failed) => Err((JournalFault::Disk, disk)),
+        }
+    }
+
+    /// Hands the disk back.
+    pub fn close(self) -> D
+        ensures { result ≡ disk_of self }
+    {
+        let Journal {
+            disk,
+            gate: _,
+            buffer: _,
+            stopped: _,
+        } = self;
+        disk
+    }
+
+    /// Adds the payloads that a read finds now.
+    pub fn reread(&mut self, alloc: Global, found: &mut Vec<Bytes>) -> Result<(), JournalFault>
+        ensures found { IsTrue D.tells → OnOk result ((payloads : List (List ℕ)) → Tells self.old header payloads
+            → found.new.items ≡ found.old.items ++ payloads) }
+        ensures unchanged { OnErr result (found.new.items ≡ found.old.items) }
+        ensures same { IsTrue D.tells → history_of self.new ≡ history_of self.old }
+        ensures tells { IsTrue D.tells → (front : List ℕ) (payloads : List (List ℕ)) → Tells self.old front payloads → Tells self.new front payloads }
+        ensures later { D.faults (disk_of self.old) ≤ D.faults (disk_of self.new) }
+        ensures fault { IsTrue D.tells → IfErr result (IsLoadFault (content (history_of self.old))) }
+        ensures failed { IsErrOf result JournalFault.Disk → Rose (D.faults (disk_of self.old)) (D.faults (disk_of self.new)) }
+    {
+        read_payloads(alloc, &mut self.disk, found)
+    }
+}
+
+impl<D: Fused> Journal<D> {
+    ghost use Rattle.nqs_journal.specs.Open.{disk_of, gate_of, is_stopped, history_of};
+
+    /// Sets the disk to fail.
+    pub fn fuse(&mut self, calls: u64)
+        ensures same { D.history (disk_of self.new) ≡ D.history (disk_of self.old) }
+        ensures set { IsTrue D.tells → ((i : ℕ) → i < moment (history_of self.old) → D.fails (disk_of self.old) i ≡ false)
+            → (i : ℕ) → D.fails (disk_of self.new) i ≡ nat_le (moment (history_of self.old) + (max calls 1 - 1)) i }
+        ensures starved { D.starved (disk_of self.new) ≡ D.starved (disk_of self.old) }
+        ensures gate { gate_of self.new ≡ gate_of self.old }
+        ensures stopped { is_stopped self.new ≡ is_stopped self.old }
+        ensures faults { D.faults (disk_of self.new) ≡ D.faults (disk_of self.old) }
+    {
+        self.disk.fuse(calls);
+    }
+}

@@ -1,0 +1,71 @@
+// The payloads of a disk.
+ghost use Rattle.std.specs.Prelude.{[], ◌≡◌, ◌+◌, ◌<◌, ◌≤◌, ◌^◌, ◌++◌, ℕ, List, IsTrue, IsErrOf, OnOk, OnErr, IfOk, IfErr, length, vec_len, MatchResult};
+ghost use Rattle.nqs_outside.specs.Causes.{Rose};
+ghost use Rattle.nqs_outside.specs.History.{content};
+ghost use Rattle.nqs_journal.specs.Text.{header, records, StandsFor};
+ghost use Rattle.nqs_journal.specs.Faults.{IsLoadFault};
+
+use crate::JournalFault;
+use crate::read::{Reading, read_text};
+use nqs_outside::{Disk, Failed};
+use nqs_types::Bytes;
+use std::alloc::Global;
+
+impl From<Failed> for JournalFault {
+    ghost use Rattle.nqs_journal.specs.declared.fault.JournalFault.TheVariants.{Disk};
+
+    ghost from_gives = { λ _ e. e ≡ Disk };
+
+    fn from(_: Failed) -> Self {
+        JournalFault::Disk
+    }
+}
+
+// All the bytes.
+fn read_disk<D: Disk>(alloc: Global, disk: &mut D) -> Result<Vec<u8>, JournalFault>
+    ensures bytes { IsTrue D.tells → IfOk result (λ bytes. bytes.items ≡ content (D.history disk.old)) }
+    ensures small { IfOk result (λ bytes. vec_len bytes ≤ 2 ^ 40) }
+    ensures same { IsTrue D.tells → D.history disk.new ≡ D.history disk.old }
+    ensures later { D.faults disk.old ≤ D.faults disk.new }
+    ensures fault { IfErr result (λ e. (bytes : List ℕ) → IsLoadFault bytes e) }
+    ensures failed { IsErrOf result JournalFault.Disk → Rose (D.faults disk.old) (D.faults disk.new) }
+{
+    let length = disk.len()?;
+    let mut bytes = vec![in alloc; 0; length as usize]?;
+    let count = disk.read_at(0, &mut bytes)?;
+    bytes.truncate(count);
+    Ok(bytes)
+}
+
+// What the bytes stand for.
+pub(crate) fn read_journal<D: Disk>(alloc: Global, disk: &mut D) -> Result<Reading, JournalFault>
+    ensures stands { IsTrue D.tells → IfOk result (λ found. StandsFor (content (D.history disk.old)) found.payloads.items) }
+    ensures gate { IfOk result (λ found. found.gate ≡ length (header ++ records found.payloads.items)) }
+    ensures small { IfOk result (λ found. found.gate ≤ 2 ^ 40) }
+    ensures same { IsTrue D.tells → D.history disk.new ≡ D.history disk.old }
+    ensures later { D.faults disk.old ≤ D.faults disk.new }
+    ensures fault { IsTrue D.tells → IfErr result (IsLoadFault (content (D.history disk.old))) }
+    ensures failed { IsErrOf result JournalFault.Disk → Rose (D.faults disk.old) (D.faults disk.new) }
+{
+    let bytes = read_disk(alloc, disk)?;
+    read_text(alloc, &bytes)
+}
+
+/// Adds the payloads that a read finds now. It writes nothing. An `Err` changes nothing.
+pub fn read_payloads<D: Disk>(
+    alloc: Global,
+    disk: &mut D,
+    found: &mut Vec<Bytes>,
+) -> Result<(), JournalFault>
+    ensures found { IsTrue D.tells → OnOk result ((payloads : List (List ℕ)) × StandsFor (content (D.history disk.old)) payloads
+        × (found.new.items ≡ found.old.items ++ payloads)) }
+    ensures unchanged { OnErr result (found.new.items ≡ found.old.items) }
+    ensures same { IsTrue D.tells → D.history disk.new ≡ D.history disk.old }
+    ensures later { D.faults disk.old ≤ D.faults disk.new }
+    ensures fault { IsTrue D.tells → IfErr result (IsLoadFault (content (D.history disk.old))) }
+    ensures failed { IsErrOf result JournalFault.Disk → Rose (D.faults disk.old) (D.faults disk.new) }
+{
+    let mut reading = read_journal(alloc, disk)?;
+    found.append(&mut reading.payloads)?;
+    Ok(())
+}

@@ -1,0 +1,6 @@
+pub mod Histories
+pub mod Images
+pub mod Planned
+pub mod Coherence
+pub mod Exact
+pub mod Known

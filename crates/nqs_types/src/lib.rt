@@ -1,0 +1,16 @@
+//! The types that the other crates share.
+#![tactic(auto)]
+
+mod ids;
+mod list;
+mod memory;
+mod name;
+mod table_row;
+mod tear;
+
+pub use ids::{HostId, RequestId};
+pub use list::{Bytes, ListOf};
+pub use memory::Memory;
+pub use name::{Name, NameFault};
+pub use table_row::{NetState, TableRow};
+pub use tear::Tear;
