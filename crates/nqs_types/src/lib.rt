@@ -1,6 +1,7 @@
 //! The types that the other crates share.
 #![tactic(auto)]
 
+mod extent;
 mod ids;
 mod list;
 mod memory;
@@ -8,6 +9,7 @@ mod name;
 mod table_row;
 mod tear;
 
+pub use extent::Extent;
 pub use ids::{HostId, RequestId};
 pub use list::{Bytes, ListOf};
 pub use memory::Memory;
