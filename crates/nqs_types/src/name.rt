@@ -10,6 +10,7 @@ ghost use Rattle.std.specs.Hash as fed;
 ghost use Rattle.std.proofs.Common.{rules};
 ghost use Rattle.nqs_types.specs.Name.{IsName, padded, allowed_at};
 
+use crate::list::ListOf;
 use std::hash::{Hash, Hasher};
 use std::marker::Model;
 
@@ -30,6 +31,9 @@ impl Model for Name {
 
     ghost inverse = { λ bytes. record { bytes = padded bytes; len = length bytes } };
 }
+
+/// A list of names.
+pub type NameList = ListOf<Name>;
 
 /// Why bytes are no name.
 #[derive(Clone, Copy, Debug, PartialEq, Eq)]

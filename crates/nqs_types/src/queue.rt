@@ -1,0 +1,65 @@
+//! Queues, complexes and devices of a host.
+
+use crate::ids::Dest;
+use crate::list::ListOf;
+use crate::name::{Name, NameList};
+use crate::request::Limits;
+
+/// The destinations of a pipe queue, in the order in which they are tried.
+pub type DestList = ListOf<Dest>;
+
+/// What a queue feeds: jobs, devices, or other queues.
+#[derive(Clone, Copy, Debug, PartialEq, Eq)]
+pub enum Kind {
+    Batch,
+    Device,
+    Pipe,
+}
+
+/// Who may use a queue: everybody, or the users of a list.
+#[derive(Clone, Drop)]
+pub enum Access {
+    All,
+    Users(NameList),
+}
+
+#[derive(Clone, Drop)]
+pub struct QueueDef {
+    pub name: Name,
+    pub kind: Kind,
+    /// Whether it accepts requests.
+    pub enabled: bool,
+    /// Whether it starts them.
+    pub started: bool,
+    /// Whether it takes requests from pipe queues only.
+    pub pipe_only: bool,
+    /// Among the queues of its host, from 0 to 63.
+    pub priority: u8,
+    /// How many of its requests may run or be on their way at once.
+    pub run_limit: u16,
+    /// How many of one owner.
+    pub user_limit: Option<u16>,
+    /// What a request may ask for at most.
+    pub limits: Limits,
+    pub access: Access,
+    /// Of a pipe queue.
+    pub dests: DestList,
+    /// Of a device queue, in the order in which they are tried.
+    pub devices: NameList,
+}
+
+/// A set of batch queues with a run limit over all of them.
+#[derive(Clone, Drop)]
+pub struct ComplexDef {
+    pub name: Name,
+    pub limit: u16,
+    pub queues: NameList,
+}
+
+#[derive(Clone, Copy, Debug, PartialEq, Eq)]
+pub struct DeviceDef {
+    pub name: Name,
+    /// The forms that it has now.
+    pub forms: Name,
+    pub enabled: bool,
+}

@@ -1,0 +1,156 @@
+//! Requests: what a job is, and where a request stands in its host.
+
+use crate::extent::Extent;
+use crate::ids::{Dest, HostId, RequestId};
+use crate::list::{Bytes, ListOf};
+use crate::name::Name;
+
+/// What a request or a queue limits: seconds of processor time, and bytes of memory.
+#[derive(Clone, Copy, Debug, PartialEq, Eq)]
+pub struct Limits {
+    pub cpu: Option<u64>,
+    pub memory: Option<u64>,
+}
+
+/// A destination that refused a request, and the number of the refusal.
+#[derive(Clone, Copy, Debug, PartialEq, Eq)]
+pub struct Refused {
+    pub dest: Dest,
+    pub cause: u8,
+}
+
+/// The destinations that refused a request, in order of refusal.
+pub type RefusedList = ListOf<Refused>;
+
+/// Who holds a request back: nobody, a command, or the system since no destination takes it.
+#[derive(Clone, Copy, Debug, PartialEq, Eq)]
+pub enum Hold {
+    No,
+    User,
+    System,
+}
+
+#[derive(Clone, Copy, Debug, PartialEq, Eq)]
+pub enum RowState {
+    Queued,
+    /// On its way to another host, which hasn't taken it yet.
+    Routing,
+    Running,
+}
+
+/// What is asked for by a submission, beside the script.
+#[derive(Clone, Drop)]
+pub struct Job {
+    pub name: Name,
+    pub owner: Name,
+    /// From 0 to 63; the greater starts first.
+    pub priority: u8,
+    /// The earliest start, in seconds since 1970.
+    pub earliest: u64,
+    /// Whether it may be started again after a stop of its host.
+    pub rerun: bool,
+    pub limits: Limits,
+    /// The forms that its device must have.
+    pub forms: Option<Name>,
+    /// The path of its output.
+    pub out: Bytes,
+    /// The path of its error output.
+    pub err: Bytes,
+    /// Whether the error output goes into the output.
+    pub join: bool,
+}
+
+/// A request in its host. `E` stands for the script: its extent of the spool, or the bytes.
+#[derive(Clone, Drop)]
+pub struct Row<E: Copy + Drop = Extent> {
+    pub id: RequestId,
+    pub job: Job,
+    pub queue: Name,
+    pub state: RowState,
+    pub hold: Hold,
+    /// Rises with each arrival in a queue of the host.
+    pub arrival: u64,
+    /// Whether its job was told to end.
+    pub doomed: bool,
+    /// How often it was started.
+    pub starts: u16,
+    /// How often it was running when its host stopped.
+    pub lost: u16,
+    /// How often a pipe queue has moved it.
+    pub hops: u8,
+    /// The device that it runs on.
+    pub device: Option<Name>,
+    pub refused: RefusedList,
+    pub script: E,
+}
+
+/// What of a request goes to another host, beside its script.
+#[derive(Clone, Drop)]
+pub struct Carried {
+    pub id: RequestId,
+    pub job: Job,
+    pub starts: u16,
+    pub lost: u16,
+    pub hops: u8,
+}
+
+/// A request that another host has offered and that this one has said it will take.
+#[derive(Clone, Drop)]
+pub struct Promise<E: Copy + Drop = Extent> {
+    pub peer: HostId,
+    pub number: u64,
+    pub row: Row<E>,
+}
+
+#[derive(Clone, Copy, Debug, PartialEq, Eq)]
+pub enum Phase {
+    /// Offered: the request is still this host's.
+    Offered,
+    /// Committed: the request is the other host's.
+    Committed,
+}
+
+/// A handover of a request to another host.
+#[derive(Clone, Copy, Debug, PartialEq, Eq)]
+pub struct Hand {
+    pub peer: HostId,
+    pub number: u64,
+    pub id: RequestId,
+    /// The destination queue.
+    pub queue: Name,
+    /// When it was opened, in seconds since 1970.
+    pub since: u64,
+    pub phase: Phase,
+}
+
+/// What a host knows of its dealings with another one.
+#[derive(Clone, Copy, Debug, PartialEq, Eq)]
+pub struct Peer {
+    /// The number of the next handover to it.
+    pub next: u64,
+    /// Each handover from it with a number up to this one is closed.
+    pub closed: u64,
+    /// Until when no handover to it is opened, in seconds since 1970.
+    pub wait: u64,
+    /// The number of the next stage to it.
+    pub stage_next: u64,
+    /// The number of the last stage that was taken from it.
+    pub stage_got: u64,
+}
+
+/// An output on its way to the host where its request was submitted.
+#[derive(Drop)]
+pub struct Stage<E: Copy + Drop = Extent> {
+    pub peer: HostId,
+    pub number: u64,
+    pub path: Bytes,
+    pub bytes: E,
+}
+
+/// An output that is to be written into a file of this host.
+#[derive(Drop)]
+pub struct FileOut<E: Copy + Drop = Extent> {
+    pub number: u64,
+    pub path: Bytes,
+    pub bytes: E,
+}

@@ -1,0 +1,226 @@
+//! A map in order of creation, each value under its own key. A removal keeps the order of the others.
+ghost use Rattle.std.specs.Prelude.{◌≡◌, ℕ, ◌+◌, ◌-◌, ◌≤◌, ◌<◌, [], ◌∷◌, ◌++◌, length, map, position, find, Some, None, OnOk, OnErr, IsOk, IfSome, Bool, Option, Contains, filter, if◌then◌else◌, slice_get, slice_set, remove, true, false};
+ghost use Rattle.std.specs.Option.{option_copied};
+ghost use Rattle.nqs_types.specs.Table.{has_key, change_first, without_first};
+ghost use Rattle.std.specs.List.{filter_map, list_all, list_any};
+ghost use Rattle.std.specs.Fn.{FnOnceReturnsAtMut, FnReturnsAt};
+ghost use Rattle.std.specs.Map.Calls.{CalledAtPair};
+
+use indexmap::IndexMap;
+use std::alloc::{AllocError, Global};
+use std::hash::Hash;
+use std::marker::Model;
+
+/// What names a value among others.
+pub trait Key: Eq + Hash + Copy + Drop {
+    /// A copy of the key.
+    fn copy(&self) -> Self
+        ensures { result ≡ self.now };
+
+    /// Keys that compare alike are one.
+    ghost exact: { (a b : Self) → Self.eq a b ≡ true → a ≡ b };
+}
+
+/// A value that has a key.
+pub trait Keyed<K: Key> {
+    ghost key_of: { Self → K };
+
+    fn key(&self) -> K
+        ensures { result ≡ key_of self.now };
+}
+
+/// Values in order of creation, each found by its key.
+#[derive(Drop)]
+pub struct Table<K: Key, V: Keyed<K> + Drop> {
+    map: IndexMap<K, V>,
+}
+
+impl<K: Key, V: Keyed<K> + Drop> Model for Table<K, V> {
+    ghost use Rattle.nqs_types.specs.Table.{Roomy, IsKeyed};
+    ghost use Rattle.indexmap.specs.IndexMap.{values, spare, IsUnique};
+
+    ghost Value = { Roomy V };
+
+    ghost view = { λ t. record { items = values t.map; spare = spare t.map } };
+
+    ghost invariant = { λ t. IsKeyed V.key_of t.map.entries × IsUnique K.eq t.map };
+}
+
+impl<K: Key, V: Keyed<K> + Drop> Table<K, V> {
+    pub fn new(alloc: Global) -> Self
+        ensures { result.items ≡ [] }
+    {
+        Table {
+            map: IndexMap::new(alloc),
+        }
+    }
+
+    pub fn allocator(&self) -> Global {
+        *self.map.allocator()
+    }
+
+    pub fn len(&self) -> usize
+        ensures { result ≡ length self.now.items }
+    {
+        self.map.len()
+    }
+
+    /// Makes room for more values.
+    pub fn reserve(&mut self, additional: usize) -> Result<(), AllocError>
+        ensures items { self.new.items ≡ self.old.items }
+        ensures ok { OnOk result (additional ≤ self.new.spare) }
+        ensures room { self.old.spare ≤ self.new.spare }
+    {
+        self.map.reserve(additional)
+    }
+
+    /// The place of the value with this key.
+    pub fn place(&self, key: &K) -> Option<usize>
+        ensures place { result ≡ position (has_key K.eq V.key_of key.now) self.now.items }
+        ensures within { IfSome result (λ i. i < length self.now.items) }
+    {
+        self.map.get_index_of(key)
+    }
+
+    /// The value at a place.
+    pub fn at(&self, place: usize) -> &V
+        requires { place < length self.now.items }
+        ensures { slice_get self.now.items place ≡ Some result.now }
+    {
+        self.map.get_index(place).unwrap().1
+    }
+
+    /// The value with this key.
+    pub fn get(&self, key: &K) -> Option<&V>
+        ensures { option_copied result ≡ find (has_key K.eq V.key_of key.now) self.now.items }
+    {
+        self.map.get(key)
+    }
+
+    /// Adds a value under a new key.
+    pub fn push(&mut self, value: V)
+        requires room { 0 < self.old.spare }
+        requires absent { list_any (has_key K.eq V.key_of (V.key_of value)) self.old.items ≡ false }
+        ensures items { self.new.items ≡ self.old.items ++ value ∷ [] }
+        ensures room { self.old.spare ≤ self.new.spare + 1 }
+    {
+        let key = value.key();
+        let _none = self.map.insert(key, value).unwrap();
+    }
+
+    /// Exchanges the value at a place for another of the same key.
+    pub fn exchange(&mut self, place: usize, value: &mut V)
+        requires within { place < length self.old.items }
+        requires same { slice_get (map V.key_of self.old.items) place ≡ Some (V.key_of value.old) }
+        ensures out { slice_get self.old.items place ≡ Some value.new }
+        ensures items { self.new.items ≡ slice_set self.old.items place value.old }
+        ensures room { self.old.spare ≤ self.new.spare }
+    {
+        std::mem::swap(&mut self.map[place], value);
+    }
+
+    /// Removes the value at a place. The later ones move down.
+    pub fn remove(&mut self, place: usize) -> V
+        requires { place < length self.old.items }
+        ensures out { slice_get self.old.items place ≡ Some result }
+        ensures items { self.new.items ≡ remove self.old.items place }
+        ensures room { self.old.spare ≤ self.new.spare }
+    {
+        self.map.shift_remove_index(place).unwrap().1
+    }
+
+    /// Changes the value with this key, if there is one, and not its key.
+    pub fn change<F: FnOnce(&mut V)>(&mut self, key: &K, f: F)
+        requires may { F.IsAlwaysCallable f }
+        requires keeps { (v w : V) → FnOnceReturnsAtMut F.FnOnce f v tt w → V.key_of w ≡ V.key_of v }
+        ensures changed { (g : V → V) → ((v w : V) → find (has_key K.eq V.key_of key.now) self.old.items ≡ Some v → FnOnceReturnsAtMut F.FnOnce f v tt w → w ≡ g v) → self.new.items ≡ change_first (has_key K.eq V.key_of key.now) g self.old.items }
+        ensures room { self.old.spare ≤ self.new.spare }
+    {
+        match self.map.get_index_of(key) {
+            Some(place) => {
+                let value = &mut self.map[place];
+                f(value);
+            }
+            None => {}
+        }
+    }
+
+    /// Removes the value with this key, if there is one. The later ones move down.
+    pub fn remove_key(&mut self, key: &K)
+        ensures items { self.new.items ≡ without_first (has_key K.eq V.key_of key.now) self.old.items }
+        ensures room { self.old.spare ≤ self.new.spare }
+    {
+        let _gone = self.map.shift_remove(key);
+    }
+
+    /// Goes over the values in order: each is changed, and kept where the answer is true. No key changes.
+    pub fn revise<F: FnMut(&K, &mut V) -> bool>(&mut self, f: F)
+        requires may { (s : _) (x y : _) → F.pre s x y }
+        requires keeps { (s t : F) (k : K) (v w : V) (b : Bool) → CalledAtPair F.FnMut s k v b w t → V.key_of w ≡ V.key_of v }
+        ensures revised { (h : V → Option V) → ((k : K) (v w : V) (b : Bool) (t : F) → Contains self.old.items v → CalledAtPair F.FnMut f k v b w t → (h v ≡ (if b then Some w else None)) × (t ≡ f)) → self.new.items ≡ filter_map h self.old.items }
+        ensures mapped { (g : V → V) → ((k : K) (v w : V) (b : Bool) (t : F) → CalledAtPair F.FnMut f k v b w t → (b ≡ true) × (w ≡ g v) × (t ≡ f)) → self.new.items ≡ map g self.old.items }
+        ensures filtered { (p : V → Bool) → ((k : K) (v w : V) (b : Bool) (t : F) → CalledAtPair F.FnMut f k v b w t → (b ≡ p v) × (w ≡ v) × (t ≡ f)) → self.new.items ≡ filter p self.old.items }
+        ensures room { self.old.spare ≤ self.new.spare }
+    {
+        self.map.retain(f);
+    }
+
+    /// Whether a value has this key.
+    pub fn has(&self, key: &K) -> bool
+        ensures { result ≡ list_any (has_key K.eq V.key_of key.now) self.now.items }
+    {
+        self.get(key).is_some()
+    }
+
+    /// How many values pass the test.
+    pub fn count<F: Fn(&V) -> bool>(&self, f: F) -> usize
+        requires { F.IsAlwaysCallable f }
+        ensures counted { (p : V → Bool) → ((v : V) (b : Bool) → FnReturnsAt F.Fn f v b → b ≡ p v) → result ≡ length (filter p self.now.items) }
+        ensures within { result ≤ length self.now.items }
+    {
+        let mut count = 0usize;
+        for place in 0..self.len() {
+            if f(self.at(place)) {
+                count += 1;
+            }
+        }
+        count
+    }
+
+    /// Whether each value passes the test.
+    pub fn all<F: Fn(&V) -> bool>(&self, f: F) -> bool
+        requires { F.IsAlwaysCallable f }
+        ensures { (p : V → Bool) → ((v : V) (b : Bool) → FnReturnsAt F.Fn f v b → b ≡ p v) → result ≡ list_all p self.now.items }
+    {
+        for place in 0..self.len() {
+            if !f(self.at(place)) {
+                return false;
+            }
+        }
+        true
+    }
+
+    /// Whether a value passes the test.
+    pub fn any<F: Fn(&V) -> bool>(&self, f: F) -> bool
+        requires { F.IsAlwaysCallable f }
+        ensures { (p : V → Bool) → ((v : V) (b : Bool) → FnReturnsAt F.Fn f v b → b ≡ p v) → result ≡ list_any p self.now.items }
+    {
+        for place in 0..self.len() {
+            if f(self.at(place)) {
+                return true;
+            }
+        }
+        false
+    }
+
+    /// The value at a place, if there is one.
+    pub fn get_at(&self, place: usize) -> Option<&V>
+        ensures { option_copied result ≡ slice_get self.now.items place }
+    {
+        if place < self.len() {
+            Some(self.at(place))
+        } else {
+            None
+        }
+    }
+}
