@@ -2,3 +2,6 @@ pub mod Name
 pub mod NameRead
 pub mod Ids
 pub mod Table
+pub mod State
+pub mod Keys
+pub mod Room

@@ -16,6 +16,7 @@ mod name;
 mod queue;
 mod refusal;
 mod request;
+mod room;
 mod state;
 mod table;
 mod table_row;
