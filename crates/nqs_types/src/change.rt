@@ -19,12 +19,22 @@ pub struct OutPart<E: Copy + Drop = Extent> {
 #[derive(Drop)]
 pub enum Change<E: Copy + Drop = Extent> {
     /// The host is formatted: which one it is, and the hosts of its site.
-    Site { me: HostId, site: NameList },
-    Submitted { queue: Name, job: Job, script: E },
+    Site {
+        me: HostId,
+        site: NameList,
+    },
+    Submitted {
+        queue: Name,
+        job: Job,
+        script: E,
+    },
     Deleted(RequestId),
     /// The job of a running request is told to end.
     Doomed(RequestId),
-    Started { id: RequestId, device: Option<Name> },
+    Started {
+        id: RequestId,
+        device: Option<Name>,
+    },
     Ended {
         id: RequestId,
         outputs: Items<OutPart<E>>,
@@ -39,13 +49,23 @@ pub enum Change<E: Copy + Drop = Extent> {
         queue: Name,
         since: u64,
     },
-    HandCommitted { peer: HostId, number: u64 },
-    HandRefused { peer: HostId, number: u64, cause: u8 },
+    HandCommitted {
+        peer: HostId,
+        number: u64,
+    },
+    HandRefused {
+        peer: HostId,
+        number: u64,
+        cause: u8,
+    },
     HandsSilent {
         until: u64,
         hands: ListOf<PeerNumber>,
     },
-    HandDone { peer: HostId, number: u64 },
+    HandDone {
+        peer: HostId,
+        number: u64,
+    },
     Promised {
         peer: HostId,
         number: u64,
@@ -53,9 +73,18 @@ pub enum Change<E: Copy + Drop = Extent> {
         carried: Carried,
         script: E,
     },
-    Accepted { peer: HostId, number: u64 },
-    Dropped { peer: HostId, number: u64 },
-    MovedLocal { id: RequestId, queue: Name },
+    Accepted {
+        peer: HostId,
+        number: u64,
+    },
+    Dropped {
+        peer: HostId,
+        number: u64,
+    },
+    MovedLocal {
+        id: RequestId,
+        queue: Name,
+    },
     RefusedLocal {
         id: RequestId,
         queue: Name,
@@ -69,6 +98,11 @@ pub enum Change<E: Copy + Drop = Extent> {
         path: Bytes,
         bytes: E,
     },
-    StageGone { peer: HostId, number: u64 },
-    FileGone { file: u64 },
+    StageGone {
+        peer: HostId,
+        number: u64,
+    },
+    FileGone {
+        file: u64,
+    },
 }

@@ -30,7 +30,10 @@ pub enum Command {
         user: Option<Name>,
         queues: NameList,
     },
-    Delete { id: Named, kill: bool },
+    Delete {
+        id: Named,
+        kill: bool,
+    },
     /// A list of qmgr, by the code of its line, from 48 to 52.
     Show(u8),
     Shutdown,
@@ -49,7 +52,10 @@ pub enum Event {
         user: Name,
         command: Command,
     },
-    Arrived { now: u64, message: Message },
+    Arrived {
+        now: u64,
+        message: Message,
+    },
     Ended {
         now: u64,
         port: u16,
@@ -59,10 +65,22 @@ pub enum Event {
         out: Bytes,
         err: Bytes,
     },
-    Unlaunched { now: u64, id: RequestId, start: u16 },
-    Written { now: u64, file: u64 },
-    Unwritten { now: u64, file: u64 },
-    Tick { now: u64 },
+    Unlaunched {
+        now: u64,
+        id: RequestId,
+        start: u16,
+    },
+    Written {
+        now: u64,
+        file: u64,
+    },
+    Unwritten {
+        now: u64,
+        file: u64,
+    },
+    Tick {
+        now: u64,
+    },
 }
 
 /// The answer to a command.
@@ -108,7 +126,10 @@ pub enum Output {
         order: LaunchOrder,
         script: Bytes,
     },
-    Kill { id: RequestId, start: u16 },
+    Kill {
+        id: RequestId,
+        start: u16,
+    },
     File {
         file: u64,
         path: Bytes,
@@ -119,7 +140,10 @@ pub enum Output {
         start: u16,
         status: u8,
     },
-    Unlaunched { id: RequestId, start: u16 },
+    Unlaunched {
+        id: RequestId,
+        start: u16,
+    },
     Again(RequestId),
     Lost(RequestId),
     Ack {

@@ -17,6 +17,7 @@ mod queue;
 mod refusal;
 mod request;
 mod room;
+mod rule;
 mod state;
 mod table;
 mod table_row;
@@ -40,6 +41,7 @@ pub use request::{
     Carried, FileOut, Hand, Hold, Job, Limits, Peer, Phase, Promise, Refused, RefusedList, Row,
     RowState, Stage,
 };
+pub use rule::{Choice, Entry, Rank};
 pub use state::{HostState, PeerList};
 pub use table::{Key, Keyed, Table};
 pub use table_row::{NetState, TableRow};

@@ -17,7 +17,7 @@ pub enum Tool {
 }
 
 /// What a datagram says, one variant a kind, from 1 to 13 in this order.
-#[derive(Drop)]
+#[derive(Clone, Drop)]
 pub enum Body {
     Offer {
         number: u64,
@@ -25,18 +25,33 @@ pub enum Body {
         carried: Carried,
         script: Bytes,
     },
-    Ready { number: u64 },
-    Refused { number: u64, cause: u8 },
-    Commit { number: u64 },
-    Done { number: u64 },
-    Inquire { number: u64 },
-    Abort { number: u64 },
+    Ready {
+        number: u64,
+    },
+    Refused {
+        number: u64,
+        cause: u8,
+    },
+    Commit {
+        number: u64,
+    },
+    Done {
+        number: u64,
+    },
+    Inquire {
+        number: u64,
+    },
+    Abort {
+        number: u64,
+    },
     Stage {
         number: u64,
         path: Bytes,
         bytes: Bytes,
     },
-    Staged { number: u64 },
+    Staged {
+        number: u64,
+    },
     Ask {
         port: u16,
         token: u64,
@@ -45,7 +60,11 @@ pub enum Body {
         words: Items<Bytes>,
         script: Bytes,
     },
-    Answer { token: u64, ok: bool, text: Bytes },
+    Answer {
+        token: u64,
+        ok: bool,
+        text: Bytes,
+    },
     Ended {
         port: u16,
         id: RequestId,
@@ -54,10 +73,13 @@ pub enum Body {
         out: Bytes,
         err: Bytes,
     },
-    EndedAck { id: RequestId, start: u16 },
+    EndedAck {
+        id: RequestId,
+        start: u16,
+    },
 }
 
-#[derive(Drop)]
+#[derive(Clone, Drop)]
 pub struct Message {
     pub from: HostId,
     pub to: HostId,

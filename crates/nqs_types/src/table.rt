@@ -1,9 +1,9 @@
 //! A map in order of creation, each value under its own key. A removal keeps the order of the others.
 ghost use Rattle.std.specs.Prelude.{◌≡◌, ℕ, ◌+◌, ◌-◌, ◌≤◌, ◌<◌, [], ◌∷◌, ◌++◌, length, map, position, find, Some, None, OnOk, OnErr, IsOk, IfSome, Bool, Option, Contains, filter, if◌then◌else◌, slice_get, slice_set, remove, true, false};
-ghost use Rattle.std.specs.Option.{option_copied};
-ghost use Rattle.nqs_types.specs.Table.{has_key, change_first, without_first};
+ghost use Rattle.std.specs.Option.{option_copied, option_map};
+ghost use Rattle.nqs_types.specs.Table.{has_key, change_first, without_first, better, best_from};
 ghost use Rattle.std.specs.List.{filter_map, list_all, list_any};
-ghost use Rattle.std.specs.Fn.{FnOnceReturnsAtMut, FnReturnsAt};
+ghost use Rattle.std.specs.Fn.{FnOnceReturnsAtMut, FnReturnsAt, FnReturnsAtPair};
 ghost use Rattle.std.specs.Map.Calls.{CalledAtPair};
 
 use indexmap::IndexMap;
@@ -221,6 +221,53 @@ impl<K: Key, V: Keyed<K> + Drop> Table<K, V> {
             Some(self.at(place))
         } else {
             None
+        }
+    }
+
+    /// The best of the values that pass, with its place: none that passes beats it, and of several such it is the first.
+    pub fn best<P: Fn(&V) -> bool, B: Fn(&V, &V) -> bool>(
+        &self,
+        passes: P,
+        beats: B,
+    ) -> Option<(usize, &V)>
+        requires passes { P.IsAlwaysCallable passes }
+        requires beats { B.IsAlwaysCallable beats }
+        ensures { (p : V → Bool) (b : V → V → Bool) → ((v : V) (r : Bool) → FnReturnsAt P.Fn passes v r → r ≡ p v)
+            → ((u v : V) (r : Bool) → FnReturnsAtPair B.Fn beats u v r → r ≡ b u v)
+            → option_map (λ x. (x.0, x.1.now)) result ≡ best_from p b 0 self.now.items }
+    {
+        let mut best: Option<(usize, &V)> = None;
+        let mut place = self.len();
+        while place > 0 {
+            place -= 1;
+            let value = self.at(place);
+            if passes(value) {
+                best = better(place, value, best, &beats);
+            }
+        }
+        best
+    }
+}
+
+// The better of a value and the best of the later ones.
+fn better<'a, V, B: Fn(&V, &V) -> bool>(
+    place: usize,
+    value: &'a V,
+    best: Option<(usize, &'a V)>,
+    beats: &B,
+) -> Option<(usize, &'a V)>
+    requires { B.IsAlwaysCallable beats.now }
+    ensures { (b : V → V → Bool) → ((u v : V) (r : Bool) → FnReturnsAtPair B.Fn beats.now u v r → r ≡ b u v)
+        → option_map (λ x. (x.0, x.1.now)) result ≡ better b (place, value.now) (option_map (λ x. (x.0, x.1.now)) best.entry) }
+{
+    match best {
+        None => Some((place, value)),
+        Some((later, other)) => {
+            if beats(other, value) {
+                Some((later, other))
+            } else {
+                Some((place, value))
+            }
         }
     }
 }

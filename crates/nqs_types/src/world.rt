@@ -21,7 +21,10 @@ pub enum Which {
 /// An event of a schedule, one variant a line.
 #[derive(Drop)]
 pub enum WorldEvent {
-    Submit { user: Name, name: Name },
+    Submit {
+        user: Name,
+        name: Name,
+    },
     Qsub {
         host: HostId,
         user: Name,
@@ -51,21 +54,38 @@ pub enum WorldEvent {
         out: Bytes,
         err: Bytes,
     },
-    Finish { host: HostId },
+    Finish {
+        host: HostId,
+    },
     Fail {
         host: HostId,
         id: RequestId,
         start: u16,
     },
-    Written { host: HostId, file: u64 },
-    Unwritten { host: HostId, file: u64 },
+    Written {
+        host: HostId,
+        file: u64,
+    },
+    Unwritten {
+        host: HostId,
+        file: u64,
+    },
     /// The packet of this number, from 1 on, arrives.
-    Deliver { packet: u64 },
+    Deliver {
+        packet: u64,
+    },
     /// The packet with the greatest number between these two hosts, either way, arrives.
-    Newest { one: HostId, other: HostId },
-    Tick { host: HostId },
+    Newest {
+        one: HostId,
+        other: HostId,
+    },
+    Tick {
+        host: HostId,
+    },
     /// The moment, in seconds since 1970.
-    Clock { moment: u64 },
+    Clock {
+        moment: u64,
+    },
     /// The call of this number, from 1 on, to write to or to sync the disk stops the host.
     Fuse {
         host: HostId,
@@ -73,8 +93,12 @@ pub enum WorldEvent {
         calls: u64,
         tear: Tear,
     },
-    Crash { host: HostId },
-    Boot { host: HostId },
+    Crash {
+        host: HostId,
+    },
+    Boot {
+        host: HostId,
+    },
     Show,
 }
 
@@ -122,13 +146,29 @@ pub enum Seen {
         id: RequestId,
         start: u16,
     },
-    Again { host: HostId, id: RequestId },
-    Lost { host: HostId, id: RequestId },
-    Boot { host: HostId },
-    Stop { host: HostId },
-    Down { host: HostId },
-    Up { host: HostId },
+    Again {
+        host: HostId,
+        id: RequestId,
+    },
+    Lost {
+        host: HostId,
+        id: RequestId,
+    },
+    Boot {
+        host: HostId,
+    },
+    Stop {
+        host: HostId,
+    },
+    Down {
+        host: HostId,
+    },
+    Up {
+        host: HostId,
+    },
     NoPacket(Option<u64>),
-    Idle { host: HostId },
+    Idle {
+        host: HostId,
+    },
     Table(Items<TableRow>),
 }
