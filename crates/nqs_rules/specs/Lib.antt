@@ -1,0 +1,13 @@
+pub mod Tests
+pub mod Plain
+pub mod Format
+pub mod Causes
+pub mod Find
+pub mod Edits
+pub mod Access
+pub mod Conf
+pub mod Limits
+pub mod Devices
+pub mod Routing
+pub mod Rows
+pub mod Order

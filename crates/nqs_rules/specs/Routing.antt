@@ -1,0 +1,82 @@
+-- Destinations of pipe queues: which one is tried, and what a refusal or a silence leaves.
+use Rattle.std.specs.Prelude.{ℕ, ◌+◌, Bool, true, false, not, ◌&&◌, ◌||◌, nat_lt, nat_le, if◌then◌else◌, List, [], ◌∷◌, ◌++◌, filter, find, position, Option, None, Some}
+use Rattle.std.specs.List.{list_any, list_all}
+use Rattle.nqs_types.specs.State.{State}
+use Rattle.nqs_rules.specs.Tests.{passes, same_host, same_dest, last_u64}
+use Rattle.nqs_rules.specs.Find.{find_queue, find_peer}
+use Rattle.nqs_types.specs.declared.ids.HostId.{HostId}
+use Rattle.nqs_types.specs.declared.ids.Dest.{Dest}
+use Rattle.nqs_types.specs.declared.request.Refused.{Refused}
+use Rattle.nqs_types.specs.declared.request.Hold.TheVariants.{System}
+use Rattle.nqs_types.specs.declared.request.Row.{Row}
+use Rattle.nqs_types.specs.declared.request.Hand.{Hand}
+use Rattle.nqs_types.specs.declared.request.Peer.{Peer}
+use Rattle.nqs_types.specs.declared.queue.QueueDef.{QueueDef}
+
+-- a number of a handover from a peer is closed
+abbrev pub is_closed : ℕ → Peer → Bool
+is_closed number p = nat_le number p.closed
+
+-- nothing new may come under a number that isn't closed yet: the number is closed by this
+abbrev pub close : ℕ → Peer → Peer
+close number p = record p { closed = number }
+
+abbrev pub is_hand_to : HostId → Hand → Bool
+is_hand_to peer h = same_host peer h.peer
+
+abbrev pub has_number_left : Peer → Bool
+has_number_left p = nat_lt p.next last_u64
+
+abbrev pub is_over_wait : ℕ → Peer → Bool
+is_over_wait now p = nat_le p.wait now
+
+abbrev pub refuses : Dest → Refused → Bool
+refuses dest r = same_dest dest r.dest
+
+abbrev pub was_refused : Dest → List Refused → Bool
+was_refused dest refused = list_any (refuses dest) refused
+
+module _ {E : Type 0} where
+  -- no handover to the peer is open, and there is a number for one
+  abbrev pub is_free_peer : HostId → State E → Bool
+  is_free_peer peer s = not (list_any (is_hand_to peer) s.hands) && passes has_number_left (find_peer peer s)
+
+  -- a destination on another host is tried where its host is free and not waited for
+  abbrev pub is_reachable : ℕ → HostId → State E → Bool
+  is_reachable now peer s = is_free_peer peer s && passes (is_over_wait now) (find_peer peer s)
+
+  abbrev pub may_try : ℕ → State E → Row E → Dest → Bool
+  may_try now s r dest = not (was_refused dest r.refused) && (same_host s.me dest.host || is_reachable now dest.host s)
+
+  -- the place in the queue's list of the first destination that may be tried
+  abbrev pub destination : QueueDef → ℕ → State E → Row E → Option ℕ
+  destination d now s r = position (may_try now s r) d.dests
+
+abbrev pub dests_of : Option QueueDef → List Dest
+dests_of None = []
+dests_of (Some d) = d.dests
+
+abbrev pub is_present : List Dest → Refused → Bool
+is_present dests r = list_any (same_dest r.dest) dests
+
+abbrev pub with_refusal : List Dest → Dest → ℕ → List Refused → List Refused
+with_refusal dests dest refusal refused = filter (is_present dests) (refused ++ record { dest = dest; cause = refusal } ∷ [])
+
+abbrev pub all_refused : List Dest → List Refused → Bool
+all_refused dests refused = list_all (λ dest. was_refused dest refused) dests
+
+module _ {E : Type 0} where
+  abbrev pub held_where : Bool → Row E → Row E
+  held_where true r = record r { hold = System }
+  held_where false r = r
+
+  -- A refusal is noted, and refusals by no present destination go. Where each destination has refused, the system holds the request.
+  abbrev pub refusal_noted : List Dest → Dest → ℕ → Row E → Row E
+  refusal_noted dests dest refusal r =
+      let refused = with_refusal dests dest refusal r.refused in
+      held_where (all_refused dests refused) (record r { refused = refused })
+
+  -- the destinations of a row's queue
+  abbrev pub dests_for : Row E → State E → List Dest
+  dests_for r s = dests_of (find_queue r.queue s)
+

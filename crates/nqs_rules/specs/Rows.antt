@@ -1,0 +1,141 @@
+-- Requests: submissions, deletions and the edits of single requests.
+use Rattle.std.specs.Prelude.{ℕ, ◌+◌, Bool, true, false, not, ◌&&◌, ◌||◌, ◌==◌, nat_le, if◌then◌else◌, List, [], ◌∷◌, ◌++◌, map, Option, None, Some, Result, is_none}
+use Rattle.std.specs.Option.{option_map}
+use Rattle.nqs_types.specs.Ids.{name_eq}
+use Rattle.nqs_types.specs.State.{State}
+use Rattle.nqs_rules.specs.Tests.{passes, is_running, is_routing, is_unheld, is_pipe, last_u64, last_seq}
+use Rattle.nqs_rules.specs.Causes.{Cause, cause, first_refusal}
+use Rattle.nqs_rules.specs.Find.{has_name, has_queue, find_queue, meant_request, meant_row, held_count}
+use Rattle.nqs_rules.specs.Edits.{change_row}
+use Rattle.nqs_rules.specs.Access.{entry_causes, rank, is_plain_user}
+use Rattle.nqs_rules.specs.Conf.{queue_causes}
+use Rattle.nqs_rules.specs.Limits.{over_causes}
+use Rattle.nqs_types.specs.declared.ids.RequestId.{RequestId}
+use Rattle.nqs_types.specs.declared.ids.Named.{Named}
+use Rattle.nqs_types.specs.declared.request.Job.{Job}
+use Rattle.nqs_types.specs.declared.request.Row.{Row}
+use Rattle.nqs_types.specs.declared.request.Hold.TheVariants.{No, User}
+use Rattle.nqs_types.specs.declared.queue.QueueDef.{QueueDef}
+use Rattle.nqs_types.specs.declared.rule.Entry.TheVariants.{Direct, FromPipe}
+use Rattle.nqs_types.specs.declared.refusal.Refusal.{Refusal}
+use Rattle.nqs_types.specs.declared.refusal.Refusal.TheVariants.{NoQueue, NoDefault, NoRequest, NotOwner, RequestRouting, RequestRunning, NotHeld, IsHeld, WrongKind, HostFull, NumbersUsed}
+use Rattle.nqs_types.specs.declared.event.Submission.{Submission}
+use Rattle.nqs_types.specs.declared.edit.RowsEdit.{RowsEdit}
+use Rattle.nqs_types.specs.declared.edit.RowsEdit.TheVariants.{AbortQueue, HoldRequest, ReleaseRequest, MoveRequest, ModifyRequest}
+
+-- the queue that is meant, or else the default one
+abbrev pub queue_meant : Option (List ℕ) → Option (List ℕ) → Option (List ℕ)
+queue_meant None fallback = fallback
+queue_meant (Some q) fallback = Some q
+
+-- the causes of one value, and none where there is none
+abbrev pub causes_of : {V : Type 0} → (V → List Cause) → Option V → List Cause
+causes_of f None = []
+causes_of f (Some v) = f v
+
+module _ {E : Type 0} where
+  -- no arrival number is left
+  abbrev pub arrivals_used : State E → Bool
+  arrivals_used s = nat_le last_u64 s.arrivals
+
+  abbrev pub is_host_full : State E → Bool
+  is_host_full s = nat_le 10000 (held_count s)
+
+  abbrev pub numbers_used : State E → Bool
+  numbers_used s = nat_le last_seq s.seq || arrivals_used s
+
+-- why a user's job isn't let into a queue
+abbrev pub queue_entry_causes : Job → QueueDef → List Cause
+queue_entry_causes job d = entry_causes d job.owner Direct ++ over_causes d job.limits
+
+module _ {E : Type 0} where
+  abbrev pub submit_causes_at : Job → Option (List ℕ) → State E → List Cause
+  submit_causes_at job None s = cause true NoDefault ∷ []
+  submit_causes_at job (Some q) s =
+      cause (not (has_queue q s)) (NoQueue q) ∷ causes_of (queue_entry_causes job) (find_queue q s) ++ cause (is_host_full s) HostFull ∷ cause (numbers_used s) NumbersUsed ∷ []
+
+  -- the causes for which a submission is refused, in order
+  abbrev pub submit_causes : Submission → State E → List Cause
+  submit_causes sub s = submit_causes_at sub.job (queue_meant sub.queue s.default_queue) s
+
+  abbrev pub is_stranger : List ℕ → State E → Row E → Bool
+  is_stranger user s r = is_plain_user (rank user s) && not (name_eq user r.job.owner)
+
+  abbrev pub delete_row_causes : List ℕ → Named → Bool → State E → Row E → List Cause
+  delete_row_causes user id kill s r = cause (is_stranger user s r) NotOwner ∷ cause (is_running r.state && not kill) (RequestRunning id) ∷ []
+
+  abbrev pub named_causes : Named → (Row E → List Cause) → Option (Row E) → List Cause
+  named_causes id f None = cause true (NoRequest id) ∷ []
+  named_causes id f (Some r) = f r
+
+  -- the causes for which a deletion is refused, in order
+  abbrev pub delete_causes : List ℕ → Named → Bool → State E → List Cause
+  delete_causes user id kill s = named_causes id (delete_row_causes user id kill s) (meant_row id s)
+
+  abbrev pub idle_causes : Named → Row E → List Cause
+  idle_causes id r = cause (is_routing r.state) (RequestRouting id) ∷ cause (is_running r.state) (RequestRunning id) ∷ []
+
+  abbrev pub hold_causes : Named → Row E → List Cause
+  hold_causes id r = idle_causes id r ++ cause (not (is_unheld r.hold)) (IsHeld id) ∷ []
+
+  abbrev pub release_causes : Named → Row E → List Cause
+  release_causes id r = cause (is_unheld r.hold) (NotHeld id) ∷ []
+
+  -- the way of a row's job into a queue from another one
+  abbrev pub move_entry_causes : Row E → QueueDef → List Cause
+  move_entry_causes r d = entry_causes d r.job.owner FromPipe ++ over_causes d r.job.limits
+
+  abbrev pub move_causes : Named → List ℕ → State E → Row E → List Cause
+  move_causes id q s r =
+      cause (not (has_queue q s)) (NoQueue q) ∷ idle_causes id r ++ causes_of (move_entry_causes r) (find_queue q s) ++ cause (arrivals_used s) NumbersUsed ∷ []
+
+abbrev pub is_pipe_named : QueueDef → Bool
+is_pipe_named d = is_pipe d.kind
+
+module _ {E : Type 0} where
+  -- the causes for which an edit of requests is refused, in order
+  abbrev pub rows_causes : RowsEdit → State E → List Cause
+  rows_causes (AbortQueue q) s = cause (not (has_queue q s)) (NoQueue q) ∷ cause (passes is_pipe_named (find_queue q s)) WrongKind ∷ []
+  rows_causes (HoldRequest id) s = named_causes id (hold_causes id) (meant_row id s)
+  rows_causes (ReleaseRequest id) s = named_causes id (release_causes id) (meant_row id s)
+  rows_causes (MoveRequest id q) s = named_causes id (move_causes id q s) (meant_row id s)
+  rows_causes (ModifyRequest id _) s = named_causes id (idle_causes id) (meant_row id s)
+
+  -- effects
+
+  abbrev pub doomed_in : List ℕ → Row E → Row E
+  doomed_in q r = if is_running r.state && name_eq q r.queue then record r { doomed = true } else r
+
+  abbrev pub held_row : Row E → Row E
+  held_row r = record r { hold = User }
+
+  abbrev pub released_row : Row E → Row E
+  released_row r = record r { hold = No; refused = []; hops = 0 }
+
+  -- a moved row keeps its hold
+  abbrev pub moved_row : List ℕ → ℕ → Row E → Row E
+  moved_row q arrival r = record r { queue = q; arrival = arrival; hops = 0; refused = [] }
+
+  abbrev pub with_priority : ℕ → Row E → Row E
+  with_priority n r = record r { job = record (r.job) { priority = n } }
+
+  abbrev pub change_meant : Option RequestId → (Row E → Row E) → State E → State E
+  change_meant None f s = s
+  change_meant (Some id) f s = change_row id f s
+
+  abbrev pub next_arrival : State E → State E
+  next_arrival s = record s { arrivals = s.arrivals + 1 }
+
+  -- what an edit of requests makes of a state
+  abbrev pub rows_applied : RowsEdit → State E → State E
+  rows_applied (AbortQueue q) s = record s { rows = map (doomed_in q) s.rows }
+  rows_applied (HoldRequest id) s = change_meant (meant_request id s) held_row s
+  rows_applied (ReleaseRequest id) s = change_meant (meant_request id s) released_row s
+  rows_applied (MoveRequest id q) s = change_meant (meant_request id s) (moved_row q (s.arrivals + 1)) (next_arrival s)
+  rows_applied (ModifyRequest id n) s = change_meant (meant_request id s) (with_priority n) s
+
+-- the numbers of an edit are within their limits
+abbrev pub is_rows_within : RowsEdit → Bool
+is_rows_within (ModifyRequest _ n) = nat_le n 63
+is_rows_within _ = true
+
