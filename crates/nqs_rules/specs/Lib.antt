@@ -11,3 +11,17 @@ pub mod Devices
 pub mod Routing
 pub mod Rows
 pub mod Order
+pub mod Applied
+pub mod Fits
+pub mod InOrder
+pub mod Stepped
+pub mod Handover
+pub mod Stage
+pub mod Start
+pub mod Text
+pub mod Step
+pub mod Measure
+pub mod World
+pub mod Net
+pub mod Run
+pub mod Transcript

@@ -1,0 +1,169 @@
+-- What holds of a host's state at every moment.
+use Rattle.std.specs.Prelude.{◌≡◌, ℕ, ◌+◌, Bool, true, false, not, ◌&&◌, ◌||◌, ◌==◌, nat_lt, nat_le, if◌then◌else◌, List, [], ◌∷◌, ◌++◌, map, filter, length, Option, None, Some}
+use Rattle.std.specs.List.{list_any, list_all}
+use Rattle.nqs_types.specs.Ids.{name_eq, id_eq, peer_number_eq, hand_key, promise_key, stage_key}
+use Rattle.nqs_types.specs.State.{State}
+use Rattle.nqs_rules.specs.Tests.{passes, is_running, is_routing, is_queued, is_unheld, is_offered, same_host, last_u64, last_seq}
+use Rattle.nqs_rules.specs.Find.{has_name, has_queue, has_device, find_row, find_peer, held_count}
+use Rattle.nqs_rules.specs.Conf.{is_wait, at_most}
+use Rattle.nqs_rules.specs.Routing.{is_closed}
+use Rattle.nqs_rules.specs.Applied.{is_offered_for}
+use Rattle.nqs_rules.specs.Fits.{is_site_host, is_offered_hand}
+use Rattle.nqs_types.specs.declared.ids.HostId.{HostId}
+use Rattle.nqs_types.specs.declared.ids.RequestId.{RequestId}
+use Rattle.nqs_types.specs.declared.ids.Dest.{Dest}
+use Rattle.nqs_types.specs.declared.request.Refused.{Refused}
+use Rattle.nqs_types.specs.declared.request.Row.{Row}
+use Rattle.nqs_types.specs.declared.request.Hand.{Hand}
+use Rattle.nqs_types.specs.declared.request.Promise.{Promise}
+use Rattle.nqs_types.specs.declared.request.Peer.{Peer}
+use Rattle.nqs_types.specs.declared.request.Stage.{Stage}
+use Rattle.nqs_types.specs.declared.request.FileOut.{FileOut}
+use Rattle.nqs_types.specs.declared.queue.Access.{Access}
+use Rattle.nqs_types.specs.declared.queue.Access.TheVariants.{All, Users}
+use Rattle.nqs_types.specs.declared.queue.QueueDef.{QueueDef}
+use Rattle.nqs_types.specs.declared.queue.ComplexDef.{ComplexDef}
+
+-- no two of a list are alike
+abbrev pub are_distinct : {A : Type 0} → (A → A → Bool) → List A → Bool
+are_distinct eq [] = true
+are_distinct eq (x ∷ xs) = not (list_any (eq x) xs) && are_distinct eq xs
+
+abbrev pub same_number : ℕ → ℕ → Bool
+same_number a b = a == b
+
+abbrev pub is_user_list_short : Access → Bool
+is_user_list_short All = true
+is_user_list_short (Users users) = nat_le (length users) 256
+
+-- a number is from 1 on and below a counter
+abbrev pub is_given : ℕ → ℕ → Bool
+is_given number next = nat_le 1 number && nat_lt number next
+
+abbrev pub is_peer_right : Peer → Bool
+is_peer_right p = nat_le 1 p.next && nat_le 1 p.stage_next
+
+abbrev pub is_hand_given : ℕ → Peer → Bool
+is_hand_given number p = is_given number p.next
+
+abbrev pub is_stage_given : ℕ → Peer → Bool
+is_stage_given number p = is_given number p.stage_next
+
+abbrev pub is_promise_open : ℕ → Peer → Bool
+is_promise_open number p = not (is_closed number p)
+
+module _ {E : Type 0} where
+  -- names are there
+
+  abbrev pub is_dest_right : State E → Dest → Bool
+  is_dest_right s d = is_site_host d.host s
+
+  abbrev pub is_refused_right : State E → Refused → Bool
+  is_refused_right s r = is_site_host r.dest.host s
+
+  abbrev pub is_default_there : Option (List ℕ) → State E → Bool
+  is_default_there None s = true
+  is_default_there (Some q) s = has_queue q s
+
+  abbrev pub is_queue_right : State E → QueueDef → Bool
+  is_queue_right s d =
+      nat_le d.priority 63 && nat_le d.run_limit 10000 && at_most 10000 d.user_limit && is_user_list_short d.access
+      && nat_le (length d.dests) 16 && list_all (is_dest_right s) d.dests && nat_le (length d.devices) 64 && list_all (λ n. has_device n s) d.devices
+
+  abbrev pub is_complex_right : State E → ComplexDef → Bool
+  is_complex_right s c = nat_le c.limit 10000 && list_all (λ q. has_queue q s) c.queues
+
+  -- the request's host is of the site, and its number was given if it is of this host
+  abbrev pub is_id_right : State E → RequestId → Bool
+  is_id_right s id = is_site_host id.host s && (not (same_host s.me id.host) || nat_le id.seq s.seq)
+
+  abbrev pub is_device_there : Option (List ℕ) → State E → Bool
+  is_device_there None s = true
+  is_device_there (Some d) s = has_device d s
+
+  abbrev pub has_no_device : Row E → Bool
+  has_no_device r = not (passes (λ _. true) r.device)
+
+  -- One start more than losses where it runs, and else as many. Only a running row is doomed or names a device, only a queued one is held.
+  abbrev pub is_count_right : Row E → Bool
+  is_count_right r = if is_running r.state then r.starts == r.lost + 1 else r.starts == r.lost && has_no_device r && not r.doomed
+
+  abbrev pub is_hold_right : Row E → Bool
+  is_hold_right r = is_queued r.state || is_unheld r.hold
+
+  abbrev pub is_hop_right : Row E → Bool
+  is_hop_right r = if is_routing r.state then nat_lt r.hops 32 else nat_le r.hops 32
+
+  abbrev pub is_row_right : State E → Row E → Bool
+  is_row_right s r =
+      is_id_right s r.id && has_queue r.queue s && is_device_there r.device s && list_all (is_refused_right s) r.refused && nat_le r.job.priority 63
+      && nat_le r.arrival s.arrivals && nat_lt r.lost 65535 && is_count_right r && is_hold_right r && is_hop_right r
+
+  -- a promise's row is queued and not held, its number isn't closed
+  abbrev pub is_promise_right : State E → Promise E → Bool
+  is_promise_right s p = is_row_right s p.row && is_queued p.row.state && is_unheld p.row.hold && nat_le 1 p.number && passes (is_promise_open p.number) (find_peer p.peer s)
+
+  abbrev pub is_routing_row : Row E → Bool
+  is_routing_row r = is_routing r.state
+
+  -- a hand's number was given, and an offered one has a routing row
+  abbrev pub is_hand_right : State E → Hand → Bool
+  is_hand_right s h = is_id_right s h.id && passes (is_hand_given h.number) (find_peer h.peer s) && (not (is_offered h.phase) || passes is_routing_row (find_row h.id s))
+
+  -- and a routing row has an offered hand
+  abbrev pub has_hand : State E → Row E → Bool
+  has_hand s r = not (is_routing r.state) || list_any (is_offered_for r.id) s.hands
+
+  abbrev pub is_stage_right : State E → Stage E → Bool
+  is_stage_right s t = passes (is_stage_given t.number) (find_peer t.peer s)
+
+  abbrev pub is_file_right : State E → FileOut E → Bool
+  is_file_right s f = is_given f.number s.file_next
+
+  abbrev pub are_keys_distinct : State E → Bool
+  are_keys_distinct s =
+      are_distinct name_eq (map (λ q. q.name) s.queues) && are_distinct name_eq (map (λ c. c.name) s.complexes) && are_distinct name_eq (map (λ d. d.name) s.devices)
+      && are_distinct id_eq (map (λ r. r.id) s.rows) && are_distinct peer_number_eq (map hand_key s.hands) && are_distinct peer_number_eq (map promise_key s.promises)
+      && are_distinct peer_number_eq (map stage_key s.stages) && are_distinct same_number (map (λ f. f.number) s.files)
+
+  -- one arrival number for one row or promise
+  abbrev pub arrivals_of : State E → List ℕ
+  arrivals_of s = map (λ r. r.arrival) s.rows ++ map (λ p. p.row.arrival) s.promises
+
+  abbrev pub offered_ids : State E → List RequestId
+  offered_ids s = map (λ h. h.id) (filter is_offered_hand s.hands)
+
+  abbrev pub hands_to : HostId → State E → List Hand
+  hands_to peer s = filter (λ h. same_host peer h.peer) s.hands
+
+  -- 1 to 16 hosts, this one among them, and what is known of each
+  abbrev pub is_site_right : State E → Bool
+  is_site_right s = nat_le 1 (length s.site) && nat_le (length s.site) 16 && is_site_host s.me s && length s.peers == length s.site
+
+  abbrev pub are_lists_short : State E → Bool
+  are_lists_short s =
+      nat_le (length s.queues) 256 && nat_le (length s.complexes) 64 && nat_le (length s.devices) 64 && nat_le (length s.managers) 256
+      && nat_le (length s.operators) 256 && nat_le (held_count s) 10000
+
+  abbrev pub are_parameters_right : State E → Bool
+  are_parameters_right s =
+      nat_le s.global_limit 10000 && is_wait s.patience && is_wait s.retry_wait && nat_le s.seq last_seq && nat_le s.arrivals last_u64
+      && nat_le 1 s.file_next && nat_le s.file_next last_u64 && is_default_there s.default_queue s
+
+  -- what a state in order is
+  pub record IsInOrder (s : State E) : Type 0 where
+    pub site : is_site_right s ≡ true
+    pub parameters : are_parameters_right s ≡ true
+    pub short : are_lists_short s ≡ true
+    pub keys : are_keys_distinct s ≡ true
+    pub arrivals : are_distinct same_number (arrivals_of s) ≡ true
+    pub queues : list_all (is_queue_right s) s.queues ≡ true
+    pub complexes : list_all (is_complex_right s) s.complexes ≡ true
+    pub rows : list_all (is_row_right s) s.rows ≡ true
+    pub promises : list_all (is_promise_right s) s.promises ≡ true
+    pub hands : list_all (is_hand_right s) s.hands ≡ true
+    pub offers : are_distinct id_eq (offered_ids s) ≡ true
+    pub routing : list_all (has_hand s) s.rows ≡ true
+    pub peers : list_all is_peer_right s.peers ≡ true
+    pub stages : list_all (is_stage_right s) s.stages ≡ true
+    pub files : list_all (is_file_right s) s.files ≡ true

@@ -1,0 +1,386 @@
+-- A network of hosts as a pure machine of events. There is no byte of a disk in it: a stop is told by the count of device calls.
+use Rattle.std.specs.Prelude.{ℕ, zero, suc, ◌+◌, ◌-◌, ◌*◌, ◌%◌, Bool, true, false, not, ◌&&◌, ◌||◌, ◌==◌, nat_le, nat_lt, max, if◌then◌else◌, List, [], ◌∷◌, ◌++◌, map, filter, flat_map, length, slice_get, Option, None, Some, is_ok}
+use Rattle.std.specs.Option.{option_map}
+use Rattle.std.specs.List.{filter_map}
+use Rattle.nqs_types.specs.State.{State, Plain}
+use Rattle.nqs_types.specs.Table.{best_from}
+use Rattle.nqs_rules.specs.Tests.{passes, is_running, same_host}
+use Rattle.nqs_rules.specs.Edits.{change_at}
+use Rattle.nqs_rules.specs.Access.{rank, may_command}
+use Rattle.nqs_rules.specs.Applied.{applied, may_start_again}
+use Rattle.nqs_rules.specs.Format.{formatted}
+use Rattle.nqs_rules.specs.Stepped.{Stepped, shown, stored_parts}
+use Rattle.nqs_rules.specs.Step.{step}
+use Rattle.nqs_rules.specs.Start.{start}
+use Rattle.nqs_rules.specs.Measure.{starts_left}
+use Rattle.nqs_types.specs.declared.ids.HostId.{HostId}
+use Rattle.nqs_types.specs.declared.ids.RequestId.{RequestId}
+use Rattle.nqs_types.specs.declared.request.Row.{Row}
+use Rattle.nqs_types.specs.declared.tear.Tear.{Tear}
+use Rattle.nqs_types.specs.declared.tear.Tear.TheVariants.{Old, New, Mixed}
+use Rattle.nqs_types.specs.declared.world.Which.{Which}
+use Rattle.nqs_types.specs.declared.world.Which.TheVariants.{Root, First, Second, Spool}
+use Rattle.nqs_types.specs.declared.world.Seen.{Seen}
+use Rattle.nqs_types.specs.declared.world.Seen.TheVariants as seen
+use Rattle.nqs_types.specs.declared.message.Message.{Message}
+use Rattle.nqs_types.specs.declared.message.Body.{Body}
+use Rattle.nqs_types.specs.declared.message.Body.TheVariants as body
+use Rattle.nqs_types.specs.declared.message.BodyKind.{BodyKind}
+use Rattle.nqs_types.specs.declared.message.BodyKind.TheVariants as kind
+use Rattle.nqs_types.specs.declared.change.Change.{Change}
+use Rattle.nqs_types.specs.declared.change.Change.TheVariants.{Boot}
+use Rattle.nqs_types.specs.declared.event.Command.{Command}
+use Rattle.nqs_types.specs.declared.event.Command.TheVariants as command
+use Rattle.nqs_types.specs.declared.event.Event.{Event}
+use Rattle.nqs_types.specs.declared.event.Event.TheVariants as event
+use Rattle.nqs_types.specs.declared.event.Output.{Output}
+use Rattle.nqs_types.specs.declared.event.Output.TheVariants as out
+
+abbrev pub Bytes : Type 0
+Bytes = List ℕ
+
+-- for each disk of a host: the calls left until its fuse, or none
+pub record Fuses : Type 0 where
+  pub root : Option ℕ
+  pub first : Option ℕ
+  pub second : Option ℕ
+  pub spool : Option ℕ
+
+-- for each disk of a host: its writes and syncs since it was new or last became the image of a stop
+pub record Calls : Type 0 where
+  pub root : ℕ
+  pub first : ℕ
+  pub second : ℕ
+  pub spool : ℕ
+
+pub record Host : Type 0 where
+  pub up : Bool
+  pub state : Plain
+  pub tear : Tear
+  pub fuses : Fuses
+  pub calls : Calls
+
+-- the packets are all that were ever sent, the first of them with the number 1
+pub record World : Type 0 where
+  pub site : List Bytes
+  pub hosts : List Host
+  pub packets : List Message
+  pub now : ℕ
+
+-- an event of a schedule, its words read
+pub data Act : Type 0 where
+  Asks : HostId → Bytes → Command → Act
+  Ends : HostId → RequestId → ℕ → ℕ → Bytes → Bytes → Act
+  Finishes : HostId → Act
+  Fails : HostId → RequestId → ℕ → Act
+  Writes : HostId → ℕ → Act
+  Leaves : HostId → ℕ → Act
+  Delivers : ℕ → Act
+  Newest : HostId → HostId → Act
+  Ticks : HostId → Act
+  Clock : ℕ → Act
+  Fuse : HostId → Which → ℕ → Tear → Act
+  Crashes : HostId → Act
+  Boots : HostId → Act
+  Shows : Act
+
+-- a world after something, and what was seen of it
+pub record Ran : Type 0 where
+  pub world : World
+  pub seen : List Seen
+
+-- a new world
+
+abbrev pub no_fuses : Fuses
+no_fuses = record { root = None; first = None; second = None; spool = None }
+
+abbrev pub no_calls : Calls
+no_calls = record { root = 0; first = 0; second = 0; spool = 0 }
+
+-- two calls of the format and four of the boot
+abbrev pub new_calls : Calls
+new_calls = record no_calls { first = 6 }
+
+abbrev pub new_host : List Bytes → ℕ → Host
+new_host site place = record { up = true; state = formatted (record { 0 = place }) site; tear = Old; fuses = no_fuses; calls = new_calls }
+
+abbrev pub hosts_from : ℕ → List Bytes → List Bytes → List Host
+hosts_from place site [] = []
+hosts_from place site (name ∷ names) = new_host site place ∷ hosts_from (place + 1) site names
+
+abbrev pub new_world : List Bytes → World
+new_world site = record { site = site; hosts = hosts_from 0 site site; packets = []; now = 0 }
+
+-- hosts
+
+abbrev pub host_of : HostId → World → Option Host
+host_of h w = slice_get w.hosts h.0
+
+abbrev pub put_host : HostId → Host → World → World
+put_host h host w = record w { hosts = change_at h.0 (λ _. host) w.hosts }
+
+abbrev pub then_seen : List Seen → Ran → Ran
+then_seen seen r = record { world = r.world; seen = seen ++ r.seen }
+
+abbrev pub unseen : World → Ran
+unseen w = record { world = w; seen = [] }
+
+abbrev pub seeing : Seen → World → Ran
+seeing x w = record { world = w; seen = x ∷ [] }
+
+-- how a change ends: it is made, or a fuse stops the host before it is kept or after
+pub data Fate : Type 0 where
+  Made : Fate
+  StoppedBefore : Fate
+  StoppedAfter : Fate
+
+-- a fuse falls among so many calls
+abbrev pub falls : Option ℕ → ℕ → Bool
+falls None n = false
+falls (Some k) n = nat_le k n
+
+abbrev pub burnt : ℕ → Option ℕ → Option ℕ
+burnt n None = None
+burnt n (Some k) = Some (k - n)
+
+-- the tear leaves the new gate of a record whose gate isn't synced
+abbrev pub keeps_gate : Tear → Bool
+keeps_gate Old = false
+keeps_gate New = true
+keeps_gate (Mixed n) = n % 4 == 1
+
+-- the fuse falls at the gate's write or at its sync
+abbrev pub falls_at_gate : Option ℕ → Bool
+falls_at_gate None = false
+falls_at_gate (Some k) = nat_le 3 k
+
+-- two calls of the spool for each list of bytes that is stored
+abbrev pub spool_calls : List Bytes → ℕ
+spool_calls [] = 0
+spool_calls ([] ∷ puts) = spool_calls puts
+spool_calls ((b ∷ bs) ∷ puts) = 2 + spool_calls puts
+
+-- the spool's calls come first, then the four of the journal
+abbrev pub fate : List Bytes → Host → Fate
+fate puts h =
+    if falls h.fuses.spool (spool_calls puts) then StoppedBefore
+    else (if falls h.fuses.first 4 then (if falls_at_gate h.fuses.first && keeps_gate h.tear then StoppedAfter else StoppedBefore) else Made)
+
+abbrev pub stopped : Plain → Host → Host
+stopped s h = record { up = false; state = s; tear = h.tear; fuses = no_fuses; calls = no_calls }
+
+abbrev pub used : List Bytes → Plain → Host → Host
+used puts s h = record {
+  up = true;
+  state = s;
+  tear = h.tear;
+  fuses = record { root = h.fuses.root; first = burnt 4 h.fuses.first; second = h.fuses.second; spool = burnt (spool_calls puts) h.fuses.spool };
+  calls = record { root = h.calls.root; first = h.calls.first + 4; second = h.calls.second; spool = h.calls.spool + spool_calls puts };
+}
+
+-- what is seen
+
+abbrev pub body_kind : Body → BodyKind
+body_kind (body.Offer _ _ _ _) = kind.Offer
+body_kind (body.Ready _) = kind.Ready
+body_kind (body.Refused _ _) = kind.Refused
+body_kind (body.Commit _) = kind.Commit
+body_kind (body.Done _) = kind.Done
+body_kind (body.Inquire _) = kind.Inquire
+body_kind (body.Abort _) = kind.Abort
+body_kind (body.Stage _ _ _) = kind.Stage
+body_kind (body.Staged _) = kind.Staged
+body_kind (body.Ask _ _ _ _ _ _) = kind.Ask
+body_kind (body.Answer _ _ _) = kind.Answer
+body_kind (body.Ended _ _ _ _ _ _) = kind.Ended
+body_kind (body.EndedAck _ _) = kind.EndedAck
+
+-- the number of a datagram among hosts, and 0 for one of a client
+abbrev pub body_number : Body → ℕ
+body_number (body.Offer n _ _ _) = n
+body_number (body.Ready n) = n
+body_number (body.Refused n _) = n
+body_number (body.Commit n) = n
+body_number (body.Done n) = n
+body_number (body.Inquire n) = n
+body_number (body.Abort n) = n
+body_number (body.Stage n _ _) = n
+body_number (body.Staged n) = n
+body_number _ = 0
+
+abbrev pub seen_packet : ℕ → Message → Seen
+seen_packet k m = seen.Packet k m.from m.to (body_kind m.body) (body_number m.body)
+
+-- an output of a host, where a packet that it sends gets the number k
+abbrev pub seen_output : HostId → ℕ → Output → List Seen
+seen_output h k (out.Reply _ _ reply) = seen.Reply reply ∷ []
+seen_output h k (out.Send m) = seen_packet k m ∷ []
+seen_output h k (out.Launch order _) = seen.Launch h order.id order.start ∷ []
+seen_output h k (out.Print device order _) = seen.Print h order.id order.start device ∷ []
+seen_output h k (out.Kill id n) = seen.Kill h id n ∷ []
+seen_output h k (out.File file path bytes) = seen.Write h file path (length bytes) ∷ []
+seen_output h k (out.Ended id n status) = seen.Ended h id n status ∷ []
+seen_output h k (out.Unlaunched id n) = seen.Unlaunched h id n ∷ []
+seen_output h k (out.Again id) = seen.Again h id ∷ []
+seen_output h k (out.Lost id) = seen.Lost h id ∷ []
+seen_output h k (out.Ack _ _ _) = []
+
+abbrev pub sent_by : Output → List Message
+sent_by (out.Send m) = m ∷ []
+sent_by _ = []
+
+abbrev pub next_number : World → ℕ
+next_number w = length w.packets + 1
+
+-- the outputs of a host, one after the other
+abbrev pub emits : HostId → List Output → World → Ran
+emits h [] w = unseen w
+emits h (o ∷ os) w = then_seen (seen_output h (next_number w) o) (emits h os (record w { packets = w.packets ++ sent_by o }))
+
+-- changes
+
+abbrev pub change_fated : Fate → HostId → Host → Change Bytes → List Seen → List Output → World → Ran
+change_fated Made h host c first os w = then_seen first (emits h os (put_host h (used (stored_parts c) (applied c host.state) host) w))
+change_fated StoppedBefore h host c first os w = seeing (seen.Stop h) (put_host h (stopped host.state host) w)
+change_fated StoppedAfter h host c first os w = seeing (seen.Stop h) (put_host h (stopped (applied c host.state) host) w)
+
+-- a host makes a change, which is seen first, and then come the outputs; a stop is all that is seen of it
+abbrev pub makes_change : HostId → Host → Change Bytes → List Seen → List Output → World → Ran
+makes_change h host c first os w = change_fated (fate (stored_parts c) host) h host c first os w
+
+abbrev pub carries_out : HostId → Host → Option (Change Bytes) → List Output → World → Ran
+carries_out h host None os w = emits h os w
+carries_out h host (Some c) os w = makes_change h host c [] os w
+
+abbrev pub steps : HostId → Host → Stepped Bytes → World → Ran
+steps h host s w = carries_out h host s.change (map shown s.outputs) w
+
+abbrev pub then_ran : Ran → (World → Ran) → Ran
+then_ran r f = then_seen r.seen (f r.world)
+
+-- starts
+
+-- at most so many starts of a host that is up
+abbrev pub starts : ℕ → HostId → World → Ran
+starts zero h w = unseen w
+starts (suc n) h w = elim (host_of h w) [
+  | None ↦ unseen w
+  | Some host ↦ elim host.up [
+    | false ↦ unseen w
+    | true ↦ elim (start w.now host.state) [
+      | None ↦ unseen w
+      | Some s ↦ (let r = steps h host s w in then_seen r.seen (starts n h r.world))
+    ]
+  ]
+]
+
+abbrev pub left_of : Option Host → ℕ
+left_of None = 0
+left_of (Some host) = starts_left host.state
+
+-- starts until there is none
+abbrev pub all_starts : HostId → World → Ran
+all_starts h w = starts (left_of (host_of h w)) h w
+
+-- events that a host takes
+
+abbrev pub is_shutdown : Command → Bool
+is_shutdown command.Shutdown = true
+is_shutdown _ = false
+
+-- a shutdown that is answered Done
+abbrev pub shuts_down : Event → Plain → Bool
+shuts_down (event.Ask _ _ _ user c) s = is_shutdown c && is_ok (may_command (rank user s) c)
+shuts_down _ s = false
+
+abbrev pub halted_host : HostId → Option Host → World → Ran
+halted_host h None w = unseen w
+halted_host h (Some host) w = if host.up then seeing (seen.Stop h) (put_host h (stopped host.state host) w) else unseen w
+
+-- a host that is up is stopped
+abbrev pub halts : Bool → HostId → World → Ran
+halts false h w = unseen w
+halts true h w = halted_host h (host_of h w) w
+
+abbrev pub takes_up : HostId → Host → Event → World → Ran
+takes_up h host e w = then_ran (then_ran (steps h host (step e host.state) w) (all_starts h)) (halts (shuts_down e host.state) h)
+
+abbrev pub taken_by : Option Host → HostId → (Host → World → Ran) → World → Ran
+taken_by None h f w = unseen w
+taken_by (Some host) h f w = if host.up then f host w else seeing (seen.Down h) w
+
+-- a host that is down takes no event
+abbrev pub takes : HostId → Event → World → Ran
+takes h e w = taken_by (host_of h w) h (λ host. takes_up h host e) w
+
+-- the least running request of a host, by the host of its submission and then by its number
+
+abbrev pub is_less_id : RequestId → RequestId → Bool
+is_less_id a b = nat_lt a.host.0 b.host.0 || (a.host.0 == b.host.0 && nat_lt a.seq b.seq)
+
+abbrev pub runs_now : Row Bytes → Bool
+runs_now r = is_running r.state
+
+abbrev pub is_less_row : Row Bytes → Row Bytes → Bool
+is_less_row a b = is_less_id a.id b.id
+
+abbrev pub finishes : HostId → Host → Option (ℕ × Row Bytes) → World → Ran
+finishes h host None w = seeing (seen.Idle h) w
+finishes h host (Some p) w = takes_up h host (event.Ended w.now 0 p.1.id p.1.starts 0 [] []) w
+
+abbrev pub finishes_up : HostId → Host → World → Ran
+finishes_up h host w = finishes h host (best_from runs_now is_less_row 0 host.state.rows) w
+
+-- packets
+
+abbrev pub arrives : Message → World → Ran
+arrives m w = takes m.to (event.Arrived w.now m) w
+
+abbrev pub delivers : Option ℕ → Option Message → World → Ran
+delivers k None w = seeing (seen.NoPacket k) w
+delivers k (Some m) w = arrives m w
+
+abbrev pub packet_at : ℕ → World → Option Message
+packet_at zero w = None
+packet_at (suc k) w = slice_get w.packets k
+
+abbrev pub is_between : HostId → HostId → Message → Bool
+is_between a b m = (same_host a m.from && same_host b m.to) || (same_host b m.from && same_host a m.to)
+
+abbrev pub last_of : {A : Type 0} → List A → Option A
+last_of [] = None
+last_of (x ∷ []) = Some x
+last_of (x ∷ y ∷ xs) = last_of (y ∷ xs)
+
+abbrev pub newest_between : HostId → HostId → World → Option Message
+newest_between a b w = last_of (filter (is_between a b) w.packets)
+
+-- boots and stops
+
+-- what a boot says of a row that ran
+abbrev pub boot_output : Row Bytes → Option Output
+boot_output r = if is_running r.state then Some (if may_start_again r then out.Again r.id else out.Lost r.id) else None
+
+abbrev pub boots_down : HostId → Host → World → Ran
+boots_down h host w = then_ran (makes_change h host Boot (seen.Boot h ∷ []) (filter_map boot_output host.state.rows) w) (all_starts h)
+
+abbrev pub boots : HostId → Option Host → World → Ran
+boots h None w = unseen w
+boots h (Some host) w = if host.up then seeing (seen.Up h) w else boots_down h host w
+
+abbrev pub crashes_up : HostId → Host → World → Ran
+crashes_up h host w = seeing (seen.Stop h) (put_host h (stopped host.state host) w)
+
+-- the calls-th call from here stops the host; 0 is treated as 1
+abbrev pub fused : Which → ℕ → Fuses → Fuses
+fused Root calls f = record f { root = Some (max calls 1) }
+fused First calls f = record f { first = Some (max calls 1) }
+fused Second calls f = record f { second = Some (max calls 1) }
+fused Spool calls f = record f { spool = Some (max calls 1) }
+
+-- a later fuse replaces the tear of the host's earlier ones
+abbrev pub fused_host : Which → ℕ → Tear → Host → Host
+fused_host disk calls tear h = record h { tear = tear; fuses = fused disk calls h.fuses }
+
+abbrev pub fuses : HostId → Which → ℕ → Tear → World → World
+fuses h disk calls tear w = record w { hosts = change_at h.0 (fused_host disk calls tear) w.hosts }
