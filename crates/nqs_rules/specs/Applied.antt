@@ -245,4 +245,3 @@ module _ {E : Type 0} where
   applied (StageGot peer number path bytes) s = stage_got peer number (record { path = path; bytes = bytes }) s
   applied (StageGone peer number) s = record s { stages = without_first (is_stage (peer_number peer number)) s.stages }
   applied (FileGone file) s = record s { files = without_first (is_file file) s.files }
-

@@ -202,4 +202,3 @@ module _ {E : Type 0} where
   -- silent offers are taken back, the other hands said again, and each promise asked for
   abbrev pub on_tick : ℕ → State E → Stepped E
   on_tick now s = record { change = silence now s.retry_wait (silent_hands now s); outputs = repeated_hands now s ++ inquiries s }
-

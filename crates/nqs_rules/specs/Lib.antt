@@ -25,3 +25,6 @@ pub mod World
 pub mod Net
 pub mod Run
 pub mod Transcript
+pub mod RowWords
+pub mod HostRows
+pub mod NetRows

@@ -109,4 +109,3 @@ module _ {E : Type 0} where
   -- what is started next
   abbrev pub pick : ℕ → State E → Option Choice
   pick now s = pick_in now s (next_queue now s)
-

@@ -79,4 +79,3 @@ module _ {E : Type 0} where
   -- the destinations of a row's queue
   abbrev pub dests_for : Row E → State E → List Dest
   dests_for r s = dests_of (find_queue r.queue s)
-

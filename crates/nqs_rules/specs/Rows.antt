@@ -138,4 +138,3 @@ module _ {E : Type 0} where
 abbrev pub is_rows_within : RowsEdit → Bool
 is_rows_within (ModifyRequest _ n) = nat_le n 63
 is_rows_within _ = true
-

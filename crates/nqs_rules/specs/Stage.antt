@@ -87,7 +87,6 @@ module _ {E : Type 0} where
   on_end status r output error s =
       let parts = kept_parts s r output error in
       makes (Ended r.id parts) (ready (out.Ended r.id r.starts status) ∷ parts_sent s r.id parts)
-
   -- STAGE
 
 abbrev pub is_got : ℕ → Peer → Bool
@@ -141,4 +140,3 @@ module _ {E : Type 0} where
   -- what a tick sends of outputs: the due stage to each host, then each file
   abbrev pub due_outputs : State E → List (Pending E)
   due_outputs s = stages_from 0 s s.site ++ map file_again s.files
-

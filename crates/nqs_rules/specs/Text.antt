@@ -128,4 +128,3 @@ module _ {E : Type 0} where
   parameter_lines s =
       (codes "global_limit " ++ decimal s.global_limit) ∷ (codes "patience " ++ decimal s.patience) ∷ (codes "retry_wait " ++ decimal s.retry_wait)
       ∷ (codes "default_queue " ++ default_text s.default_queue) ∷ []
-

@@ -1,0 +1,80 @@
+-- Words for schedules.
+use Rattle.std.specs.Prelude.{ℕ, true, false, List, [], ◌∷◌, map, flat_map, codes, Option, None, Some}
+use Rattle.nqs_rules.specs.Format.{no_limits}
+use Rattle.nqs_rules.specs.World.{Act, Asks, Fuse, Boots, Shows, Ran}
+use Rattle.nqs_rules.specs.Run.{run_of}
+use Rattle.nqs_rules.specs.Transcript.{transcript, lines}
+use Rattle.nqs_types.specs.declared.ids.HostId.{HostId}
+use Rattle.nqs_types.specs.declared.ids.RequestId.{RequestId}
+use Rattle.nqs_types.specs.declared.ids.Named.{Named}
+use Rattle.nqs_types.specs.declared.ids.NamedDest.{NamedDest}
+use Rattle.nqs_types.specs.declared.request.Job.{Job}
+use Rattle.nqs_types.specs.declared.fault.WordsCause.{WordsCause}
+use Rattle.nqs_types.specs.declared.tear.Tear.{Tear}
+use Rattle.nqs_types.specs.declared.tear.Tear.TheVariants.{Old, New, Mixed}
+use Rattle.nqs_types.specs.declared.world.Which.{Which}
+use Rattle.nqs_types.specs.declared.event.Command.{Command}
+use Rattle.nqs_types.specs.declared.event.Command.TheVariants.{Submit, UnreadWords}
+
+abbrev pub host : ℕ → HostId
+host place = record { 0 = place }
+
+abbrev pub request : ℕ → ℕ → RequestId
+request seq place = record { seq = seq; host = host place }
+
+abbrev pub named : ℕ → List ℕ → Named
+named seq name = record { seq = seq; host = name }
+
+abbrev pub typed : List ℕ → List ℕ → NamedDest
+typed queue name = record { queue = queue; host = name }
+
+-- a job without options
+abbrev pub job_of : List ℕ → Job
+job_of owner = record {
+  name = codes "STDIN";
+  owner = owner;
+  priority = 31;
+  earliest = 0;
+  rerun = true;
+  limits = no_limits;
+  forms = None;
+  out = [];
+  err = [];
+  join = false;
+}
+
+abbrev pub submission : Option (List ℕ) → Job → List ℕ → Command
+submission queue job script = Submit (record { queue = queue; job = job; script = script })
+
+abbrev pub unread_words : WordsCause → ℕ → ℕ → Command
+unread_words cause line word = UnreadWords (record { cause = cause; line = line; word = word })
+
+abbrev pub one_host : List (List ℕ)
+one_host = codes "alpha" ∷ []
+
+-- the transcript of a run of a new network
+abbrev pub told : List (List ℕ) → List Act → List ℕ
+told site acts = transcript site (run_of site acts).seen
+
+-- a fuse falls in a submission with a script, and the host boots
+abbrev pub stopped_submission : Which → ℕ → Tear → List Act
+stopped_submission disk calls tear =
+    Fuse (host 0) disk calls tear ∷ Asks (host 0) (codes "ann") (submission None (job_of (codes "ann")) (codes "date")) ∷ Boots (host 0) ∷ Shows ∷ []
+
+abbrev pub stop_told : Which → ℕ → Tear → List ℕ
+stop_told disk calls tear = told one_host (stopped_submission disk calls tear)
+
+abbrev pub tears : List Tear
+tears = Old ∷ New ∷ Mixed 1 ∷ Mixed 2 ∷ []
+
+-- by call and then by tear
+abbrev pub stops_told : Which → List ℕ → List (List ℕ)
+stops_told disk calls = flat_map (λ k. map (stop_told disk k) tears) calls
+
+-- the submission wasn't kept
+abbrev pub not_kept : List ℕ
+not_kept = lines (codes "stop alpha" ∷ codes "boot alpha" ∷ codes "table 0" ∷ [])
+
+-- and was
+abbrev pub kept : List ℕ
+kept = lines (codes "stop alpha" ∷ codes "boot alpha" ∷ codes "table 1" ∷ codes "alpha batch 1.alpha QUEUED ann starts 0 lost 0" ∷ [])
