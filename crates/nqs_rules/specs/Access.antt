@@ -1,5 +1,5 @@
 -- Who may do what: ranks, the way into a queue, and the edits of lists of users.
-use Rattle.std.specs.Prelude.{ℕ, Bool, true, false, not, ◌&&◌, ◌||◌, nat_le, if◌then◌else◌, List, [], ◌∷◌, ◌++◌, filter, length, codes, Option, None, Some, Result, Ok}
+use Rattle.std.specs.Prelude.{ℕ, Bool, true, false, not, ◌&&◌, nat_le, if◌then◌else◌, List, [], ◌∷◌, ◌++◌, filter, length, codes, Result}
 use Rattle.nqs_types.specs.Ids.{name_eq}
 use Rattle.nqs_types.specs.State.{State}
 use Rattle.nqs_rules.specs.Tests.{passes}

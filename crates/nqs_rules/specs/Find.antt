@@ -1,5 +1,5 @@
 -- What of a state is meant by a name or a number, and whether it is there.
-use Rattle.std.specs.Prelude.{ℕ, Bool, not, List, find, filter, length, position, ◌+◌, ◌==◌, slice_get, Option, None, Some}
+use Rattle.std.specs.Prelude.{ℕ, Bool, List, find, length, position, ◌+◌, slice_get, Option, None, Some}
 use Rattle.std.specs.Option.{option_map}
 use Rattle.std.specs.List.{list_any}
 use Rattle.nqs_types.specs.Ids.{name_eq}

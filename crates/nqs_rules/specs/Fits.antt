@@ -1,27 +1,24 @@
 -- When a change may be made of a state.
-use Rattle.std.specs.Prelude.{ℕ, ◌+◌, Bool, true, false, not, ◌&&◌, ◌||◌, ◌==◌, nat_lt, nat_le, if◌then◌else◌, List, [], ◌∷◌, filter, length, Option, None, Some, is_some, is_ok}
+use Rattle.std.specs.Prelude.{ℕ, ◌+◌, Bool, true, false, not, ◌&&◌, ◌||◌, ◌==◌, nat_lt, nat_le, List, filter, length, Option, None, Some, is_ok}
 use Rattle.std.specs.List.{list_any, list_all}
 use Rattle.nqs_types.specs.State.{State}
 use Rattle.nqs_types.specs.Keys.{is_file}
 use Rattle.nqs_rules.specs.Tests.{passes, is_running, is_ready, is_offered, is_committed, same_host, last_u64, last_seq}
 use Rattle.nqs_rules.specs.Causes.{Cause, first_refusal}
-use Rattle.nqs_rules.specs.Find.{has_queue, has_device, has_row, find_row, find_hand, has_promise, has_stage, find_peer, held_count}
+use Rattle.nqs_rules.specs.Find.{has_queue, has_device, has_row, find_row, find_hand, has_promise, has_stage, find_peer}
 use Rattle.nqs_rules.specs.Access.{access_causes}
-use Rattle.nqs_rules.specs.Conf.{conf_causes, is_conf_within}
-use Rattle.nqs_rules.specs.Limits.{limits_causes, is_limits_within}
+use Rattle.nqs_rules.specs.Conf.{conf_causes}
+use Rattle.nqs_rules.specs.Limits.{limits_causes}
 use Rattle.nqs_rules.specs.Devices.{devices_causes, is_busy}
-use Rattle.nqs_rules.specs.Rows.{rows_causes, is_rows_within, arrivals_used, is_host_full}
+use Rattle.nqs_rules.specs.Rows.{rows_causes, arrivals_used, is_host_full}
 use Rattle.nqs_rules.specs.Routing.{is_closed, is_hand_to}
 use Rattle.nqs_rules.specs.Applied.{is_promise_of}
 use Rattle.nqs_types.specs.declared.ids.HostId.{HostId}
 use Rattle.nqs_types.specs.declared.ids.RequestId.{RequestId}
 use Rattle.nqs_types.specs.declared.ids.PeerNumber.{PeerNumber}
 use Rattle.nqs_types.specs.declared.request.Row.{Row}
-use Rattle.nqs_types.specs.declared.request.Promise.{Promise}
 use Rattle.nqs_types.specs.declared.request.Hand.{Hand}
 use Rattle.nqs_types.specs.declared.request.Peer.{Peer}
-use Rattle.nqs_types.specs.declared.request.Job.{Job}
-use Rattle.nqs_types.specs.declared.request.Carried.{Carried}
 use Rattle.nqs_types.specs.declared.change.Change.{Change}
 use Rattle.nqs_types.specs.declared.change.Change.TheVariants.{Site, Submitted, Deleted, Doomed, Started, Ended, Unlaunched, Boot, Edited, HandOpened, HandCommitted, HandRefused, HandsSilent, HandDone, Promised, Accepted, Dropped, MovedLocal, RefusedLocal, HeldFar, StageGot, StageGone, FileGone}
 use Rattle.nqs_types.specs.declared.edit.Edit.{Edit}

@@ -1,5 +1,5 @@
 -- The rules of the handover, one definition a row of the table of steps.
-use Rattle.std.specs.Prelude.{ℕ, ◌+◌, Bool, true, false, not, ◌&&◌, ◌||◌, nat_lt, nat_le, min, if◌then◌else◌, List, [], ◌∷◌, ◌++◌, map, filter, flat_map, Option, None, Some, Result, Ok, Err, slice_get, unwrap_or}
+use Rattle.std.specs.Prelude.{ℕ, ◌+◌, Bool, not, ◌&&◌, ◌||◌, nat_lt, nat_le, min, if◌then◌else◌, List, [], ◌∷◌, ◌++◌, map, filter, flat_map, Option, None, Some, Result, Ok, Err, slice_get, unwrap_or}
 use Rattle.nqs_types.specs.State.{State}
 use Rattle.nqs_types.specs.declared.ids.Named.{Named}
 use Rattle.nqs_rules.specs.Tests.{passes, is_offered, same_host, last_u64}
@@ -9,7 +9,7 @@ use Rattle.nqs_rules.specs.Access.{entry_causes}
 use Rattle.nqs_rules.specs.Limits.{over_causes}
 use Rattle.nqs_rules.specs.Rows.{causes_of, arrivals_used}
 use Rattle.nqs_rules.specs.Routing.{is_closed}
-use Rattle.nqs_rules.specs.Fits.{is_offered_hand, offer_full}
+use Rattle.nqs_rules.specs.Fits.{offer_full}
 use Rattle.nqs_rules.specs.Stepped.{Stepped, Pending, quiet, says, makes, message, ready}
 use Rattle.nqs_types.specs.declared.ids.HostId.{HostId}
 use Rattle.nqs_types.specs.declared.ids.RequestId.{RequestId}

@@ -1,9 +1,9 @@
 -- Schedules of one host, their words read.
-use Rattle.std.specs.Prelude.{ℕ, Bool, true, false, List, [], ◌∷◌, ◌++◌, codes, Option, None, Some}
-use Rattle.nqs_rules.specs.World.{Act, Asks, Ends, Finishes, Fails, Writes, Delivers, Ticks, Clock, Fuse, Crashes, Boots, Shows}
+use Rattle.std.specs.Prelude.{false, List, [], ◌∷◌, codes, None, Some}
+use Rattle.nqs_rules.specs.World.{Act, Asks, Ends, Writes, Delivers, Ticks, Fuse, Crashes, Boots, Shows}
 use Rattle.nqs_rules.specs.RowWords.{host, request, named, typed, job_of, submission, unread_words}
-use Rattle.nqs_types.specs.declared.tear.Tear.TheVariants.{Old, New, Mixed}
-use Rattle.nqs_types.specs.declared.world.Which.TheVariants.{First, Spool}
+use Rattle.nqs_types.specs.declared.tear.Tear.TheVariants.{Old, New}
+use Rattle.nqs_types.specs.declared.world.Which.TheVariants.{First}
 use Rattle.nqs_types.specs.declared.fault.GrammarFault.TheVariants.{Ambiguous}
 use Rattle.nqs_types.specs.declared.fault.WordsCause.TheVariants.{BadNumber, Both}
 use Rattle.nqs_types.specs.declared.event.Command.TheVariants.{Edit, Stat, Delete, UnreadLine}

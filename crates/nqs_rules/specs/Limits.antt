@@ -1,5 +1,5 @@
 -- Resource limits, complexes, and the edits of both.
-use Rattle.std.specs.Prelude.{ℕ, Bool, true, false, not, nat_lt, nat_le, List, [], ◌∷◌, ◌++◌, length, Option, None, Some, Result}
+use Rattle.std.specs.Prelude.{ℕ, Bool, true, false, not, nat_lt, nat_le, List, [], ◌∷◌, ◌++◌, length, Option, Some, Result}
 use Rattle.nqs_types.specs.State.{State}
 use Rattle.nqs_types.specs.Table.{without_first}
 use Rattle.nqs_types.specs.Keys.{is_complex}

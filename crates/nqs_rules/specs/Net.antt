@@ -1,10 +1,9 @@
 -- The network table: where each request lies, over the plain states of all hosts at once. No journal, message, hand number or phase is in it.
-use Rattle.std.specs.Prelude.{ℕ, ◌+◌, Bool, true, false, not, ◌&&◌, ◌||◌, ◌==◌, if◌then◌else◌, List, [], ◌∷◌, ◌++◌, map, filter, find, flat_map, length, slice_get, Option, None, Some}
+use Rattle.std.specs.Prelude.{ℕ, ◌+◌, Bool, if◌then◌else◌, List, [], ◌∷◌, ◌++◌, map, filter, find, slice_get, Option, None, Some}
 use Rattle.nqs_types.specs.Ids.{id_eq}
-use Rattle.nqs_types.specs.State.{State, Plain}
-use Rattle.nqs_types.specs.Keys.{is_hand}
-use Rattle.nqs_rules.specs.Tests.{passes, same_host}
-use Rattle.nqs_rules.specs.Find.{peer_number, find_hand, host_at}
+use Rattle.nqs_types.specs.State.{Plain}
+use Rattle.nqs_rules.specs.Tests.{passes}
+use Rattle.nqs_rules.specs.Find.{find_hand, host_at}
 use Rattle.nqs_rules.specs.Fits.{is_committed_hand}
 use Rattle.nqs_rules.specs.InOrder.{are_distinct}
 use Rattle.nqs_rules.specs.Text.{seen_state}
@@ -14,7 +13,7 @@ use Rattle.nqs_types.specs.declared.ids.RequestId.{RequestId}
 use Rattle.nqs_types.specs.declared.request.Row.{Row}
 use Rattle.nqs_types.specs.declared.request.Promise.{Promise}
 use Rattle.nqs_types.specs.declared.table_row.NetState.{NetState}
-use Rattle.nqs_types.specs.declared.table_row.NetState.TheVariants.{Queued, Held, Routing, Arriving, Running}
+use Rattle.nqs_types.specs.declared.table_row.NetState.TheVariants.{Arriving}
 use Rattle.nqs_types.specs.declared.table_row.TableRow.{TableRow}
 
 -- a request in the network: the host that it lies with, its queue and state, and what goes with it

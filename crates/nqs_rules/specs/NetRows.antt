@@ -1,17 +1,14 @@
 -- Schedules of several hosts, their words read.
-use Rattle.std.specs.Prelude.{ℕ, Bool, true, false, List, [], ◌∷◌, ◌++◌, codes, Option, None, Some}
-use Rattle.nqs_rules.specs.World.{Act, Asks, Ends, Finishes, Fails, Writes, Delivers, Ticks, Clock, Fuse, Crashes, Boots, Shows}
-use Rattle.nqs_rules.specs.RowWords.{host, request, named, typed, job_of, submission, unread_words}
-use Rattle.nqs_types.specs.declared.tear.Tear.TheVariants.{Old, New, Mixed}
-use Rattle.nqs_types.specs.declared.world.Which.TheVariants.{First, Spool}
-use Rattle.nqs_types.specs.declared.fault.GrammarFault.TheVariants.{Ambiguous}
-use Rattle.nqs_types.specs.declared.fault.WordsCause.TheVariants.{BadNumber, Both}
-use Rattle.nqs_types.specs.declared.event.Command.TheVariants.{Edit, Stat, Delete, UnreadLine}
-use Rattle.nqs_types.specs.declared.edit.Edit.TheVariants.{Conf, Limits, Access, Devices, Rows}
-use Rattle.nqs_types.specs.declared.edit.ConfEdit.TheVariants.{CreateBatchQueue, CreateDeviceQueue, CreatePipeQueue, EnableQueue, DisableQueue, StartQueue, StopQueue, SetRunLimit, AddDestination}
-use Rattle.nqs_types.specs.declared.edit.LimitsEdit.TheVariants.{CreateComplex, AddQueue, SetComplexLimit}
-use Rattle.nqs_types.specs.declared.edit.AccessEdit.TheVariants.{SetNoAccess, AddOperator, AddUser}
-use Rattle.nqs_types.specs.declared.edit.DevicesEdit.TheVariants.{CreateDevice, EnableDevice, SetForms, AddDevice}
+use Rattle.std.specs.Prelude.{true, false, List, [], ◌∷◌, ◌++◌, codes, None, Some}
+use Rattle.nqs_rules.specs.World.{Act, Asks, Ends, Writes, Delivers, Ticks, Clock, Fuse, Crashes, Boots, Shows}
+use Rattle.nqs_rules.specs.RowWords.{host, request, named, typed, job_of, submission}
+use Rattle.nqs_types.specs.declared.tear.Tear.TheVariants.{New}
+use Rattle.nqs_types.specs.declared.world.Which.TheVariants.{First}
+use Rattle.nqs_types.specs.declared.event.Command.TheVariants.{Edit, Delete}
+use Rattle.nqs_types.specs.declared.edit.Edit.TheVariants.{Conf, Access, Devices, Rows}
+use Rattle.nqs_types.specs.declared.edit.ConfEdit.TheVariants.{CreateBatchQueue, CreateDeviceQueue, CreatePipeQueue, EnableQueue, DisableQueue, StartQueue, AddDestination}
+use Rattle.nqs_types.specs.declared.edit.AccessEdit.TheVariants.{SetNoAccess}
+use Rattle.nqs_types.specs.declared.edit.DevicesEdit.TheVariants.{CreateDevice, EnableDevice, AddDevice}
 use Rattle.nqs_types.specs.declared.edit.RowsEdit.TheVariants.{ReleaseRequest}
 
 -- a handover, with each packet repeated

@@ -1,6 +1,6 @@
 -- The scheduler: which request of which queue starts next.
-use Rattle.std.specs.Prelude.{ℕ, ◌+◌, Bool, true, false, not, ◌&&◌, ◌||◌, ◌==◌, nat_lt, nat_le, if◌then◌else◌, List, [], ◌∷◌, filter, length, Option, None, Some, is_some}
-use Rattle.std.specs.List.{list_any, list_all}
+use Rattle.std.specs.Prelude.{ℕ, Bool, true, not, ◌&&◌, ◌||◌, ◌==◌, nat_lt, nat_le, if◌then◌else◌, List, filter, length, Option, None, Some, is_some}
+use Rattle.std.specs.List.{list_all}
 use Rattle.nqs_types.specs.Ids.{name_eq}
 use Rattle.nqs_types.specs.State.{State}
 use Rattle.nqs_types.specs.Table.{best_from}
@@ -9,7 +9,6 @@ use Rattle.nqs_rules.specs.Find.{has_name, find_queue}
 use Rattle.nqs_rules.specs.Limits.{is_batch_queue}
 use Rattle.nqs_rules.specs.Devices.{free_device}
 use Rattle.nqs_rules.specs.Routing.{destination}
-use Rattle.nqs_types.specs.declared.ids.Dest.{Dest}
 use Rattle.nqs_types.specs.declared.request.Row.{Row}
 use Rattle.nqs_types.specs.declared.queue.Kind.{Kind}
 use Rattle.nqs_types.specs.declared.queue.Kind.TheVariants.{Batch, Device, Pipe}

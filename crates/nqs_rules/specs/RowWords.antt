@@ -1,7 +1,7 @@
 -- Words for schedules.
-use Rattle.std.specs.Prelude.{ℕ, true, false, List, [], ◌∷◌, map, flat_map, codes, Option, None, Some}
+use Rattle.std.specs.Prelude.{ℕ, true, false, List, [], ◌∷◌, map, flat_map, codes, Option, None}
 use Rattle.nqs_rules.specs.Format.{no_limits}
-use Rattle.nqs_rules.specs.World.{Act, Asks, Fuse, Boots, Shows, Ran}
+use Rattle.nqs_rules.specs.World.{Act, Asks, Fuse, Boots, Shows}
 use Rattle.nqs_rules.specs.Run.{run_of}
 use Rattle.nqs_rules.specs.Transcript.{transcript, lines}
 use Rattle.nqs_types.specs.declared.ids.HostId.{HostId}

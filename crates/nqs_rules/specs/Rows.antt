@@ -1,14 +1,12 @@
 -- Requests: submissions, deletions and the edits of single requests.
-use Rattle.std.specs.Prelude.{ℕ, ◌+◌, Bool, true, false, not, ◌&&◌, ◌||◌, ◌==◌, nat_le, if◌then◌else◌, List, [], ◌∷◌, ◌++◌, map, Option, None, Some, Result, is_none}
-use Rattle.std.specs.Option.{option_map}
+use Rattle.std.specs.Prelude.{ℕ, ◌+◌, Bool, true, not, ◌&&◌, ◌||◌, nat_le, if◌then◌else◌, List, [], ◌∷◌, ◌++◌, map, Option, None, Some}
 use Rattle.nqs_types.specs.Ids.{name_eq}
 use Rattle.nqs_types.specs.State.{State}
 use Rattle.nqs_rules.specs.Tests.{passes, is_running, is_routing, is_unheld, is_pipe, last_u64, last_seq}
-use Rattle.nqs_rules.specs.Causes.{Cause, cause, first_refusal}
-use Rattle.nqs_rules.specs.Find.{has_name, has_queue, find_queue, meant_request, meant_row, held_count}
+use Rattle.nqs_rules.specs.Causes.{Cause, cause}
+use Rattle.nqs_rules.specs.Find.{has_queue, find_queue, meant_request, meant_row, held_count}
 use Rattle.nqs_rules.specs.Edits.{change_row}
 use Rattle.nqs_rules.specs.Access.{entry_causes, rank, is_plain_user}
-use Rattle.nqs_rules.specs.Conf.{queue_causes}
 use Rattle.nqs_rules.specs.Limits.{over_causes}
 use Rattle.nqs_types.specs.declared.ids.RequestId.{RequestId}
 use Rattle.nqs_types.specs.declared.ids.Named.{Named}
@@ -17,7 +15,6 @@ use Rattle.nqs_types.specs.declared.request.Row.{Row}
 use Rattle.nqs_types.specs.declared.request.Hold.TheVariants.{No, User}
 use Rattle.nqs_types.specs.declared.queue.QueueDef.{QueueDef}
 use Rattle.nqs_types.specs.declared.rule.Entry.TheVariants.{Direct, FromPipe}
-use Rattle.nqs_types.specs.declared.refusal.Refusal.{Refusal}
 use Rattle.nqs_types.specs.declared.refusal.Refusal.TheVariants.{NoQueue, NoDefault, NoRequest, NotOwner, RequestRouting, RequestRunning, NotHeld, IsHeld, WrongKind, HostFull, NumbersUsed}
 use Rattle.nqs_types.specs.declared.event.Submission.{Submission}
 use Rattle.nqs_types.specs.declared.edit.RowsEdit.{RowsEdit}

@@ -1,16 +1,16 @@
 -- What a host does at an event.
-use Rattle.std.specs.Prelude.{ℕ, ◌+◌, Bool, true, false, not, ◌&&◌, ◌||◌, ◌==◌, if◌then◌else◌, List, [], ◌∷◌, ◌++◌, map, filter, Option, None, Some, Result, Ok, Err}
+use Rattle.std.specs.Prelude.{ℕ, ◌+◌, Bool, not, ◌&&◌, ◌==◌, if◌then◌else◌, List, [], ◌∷◌, ◌++◌, map, filter, Option, None, Some, Result, Ok, Err}
 use Rattle.std.specs.Fmt.{decimal}
 use Rattle.nqs_types.specs.Ids.{name_eq}
 use Rattle.nqs_types.specs.State.{State}
-use Rattle.nqs_rules.specs.Tests.{passes, is_running}
+use Rattle.nqs_rules.specs.Tests.{is_running}
 use Rattle.nqs_rules.specs.Causes.{Cause, cause, first_refusal}
 use Rattle.nqs_rules.specs.Find.{has_queue, find_row, meant_row}
 use Rattle.nqs_rules.specs.Access.{rank, may_command}
 use Rattle.nqs_rules.specs.Rows.{queue_meant, submit_causes, delete_causes}
 use Rattle.nqs_rules.specs.Applied.{next_id}
 use Rattle.nqs_rules.specs.Fits.{edit_causes}
-use Rattle.nqs_rules.specs.Stepped.{Stepped, Pending, quiet, says, makes, answer, replied, ready}
+use Rattle.nqs_rules.specs.Stepped.{Stepped, Pending, quiet, makes, answer, replied, ready}
 use Rattle.nqs_rules.specs.Handover.{on_offer, on_ready, on_refused, on_commit, on_done, on_abort, on_tick}
 use Rattle.nqs_rules.specs.Stage.{on_end, on_stage, on_staged, on_written, due_outputs}
 use Rattle.nqs_rules.specs.Text.{stat_lines, queue_line, device_line, complex_line, manager_line, operator_line, parameter_lines}

@@ -1,11 +1,10 @@
 -- The texts of states, and the lines of lists.
-use Rattle.std.specs.Prelude.{ℕ, ◌+◌, Bool, true, false, ◌&&◌, not, if◌then◌else◌, List, [], ◌∷◌, ◌++◌, map, filter, find, flat_map, length, codes, Option, None, Some}
+use Rattle.std.specs.Prelude.{ℕ, Bool, true, false, ◌&&◌, if◌then◌else◌, List, [], ◌∷◌, ◌++◌, map, filter, find, flat_map, length, codes, Option, None, Some}
 use Rattle.std.specs.Fmt.{decimal}
 use Rattle.nqs_types.specs.Ids.{name_eq}
 use Rattle.nqs_types.specs.State.{State}
-use Rattle.nqs_rules.specs.Tests.{is_running, is_unheld}
+use Rattle.nqs_rules.specs.Tests.{is_unheld}
 use Rattle.nqs_rules.specs.Find.{has_name}
-use Rattle.nqs_rules.specs.Causes.{Cause, cause}
 use Rattle.nqs_rules.specs.Conf.{row_in}
 use Rattle.nqs_rules.specs.Devices.{runs_on}
 use Rattle.nqs_rules.specs.Order.{comes_before}

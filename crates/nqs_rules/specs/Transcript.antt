@@ -1,12 +1,11 @@
 -- The text of each reply and of each thing that is seen.
-use Rattle.std.specs.Prelude.{ℕ, ◌+◌, Bool, true, false, ◌==◌, if◌then◌else◌, List, [], ◌∷◌, ◌++◌, map, flat_map, length, codes, Option, None, Some}
+use Rattle.std.specs.Prelude.{ℕ, ◌==◌, if◌then◌else◌, List, [], ◌∷◌, ◌++◌, map, flat_map, length, codes, Option, None, Some}
 use Rattle.std.specs.Fmt.{decimal}
 use Rattle.nqs_rules.specs.Causes.{refusal_number}
 use Rattle.nqs_rules.specs.Handover.{name_at}
 use Rattle.nqs_rules.specs.Text.{Text, id_text, named_text, words, net_text}
 use Rattle.nqs_types.specs.declared.ids.HostId.{HostId}
 use Rattle.nqs_types.specs.declared.ids.RequestId.{RequestId}
-use Rattle.nqs_types.specs.declared.ids.Named.{Named}
 use Rattle.nqs_types.specs.declared.table_row.TableRow.{TableRow}
 use Rattle.nqs_types.specs.declared.message.BodyKind.{BodyKind}
 use Rattle.nqs_types.specs.declared.message.BodyKind.TheVariants as kind

@@ -1,8 +1,6 @@
 -- The room that a change needs, so that making it takes no memory.
-use Rattle.std.specs.Prelude.{ℕ, ◌<◌, ◌≤◌, ◌==◌, length, Option, None, Some, find, if◌then◌else◌}
+use Rattle.std.specs.Prelude.{ℕ, ◌<◌, ◌≤◌, length, Option, None, Some, find}
 use Rattle.nqs_types.specs.Keys.{is_queue, is_complex, is_row, is_hand}
-use Rattle.nqs_types.specs.declared.ids.PeerNumber.{PeerNumber}
-use Rattle.nqs_types.specs.declared.ids.NamedDest.{NamedDest}
 use Rattle.nqs_types.specs.declared.queue.Access.{Access}
 use Rattle.nqs_types.specs.declared.queue.Access.TheVariants.{All, Users}
 use Rattle.nqs_types.specs.declared.queue.QueueDef.{QueueDef}
