@@ -28,3 +28,4 @@ pub mod Transcript
 pub mod RowWords
 pub mod HostRows
 pub mod NetRows
+pub mod Licence

@@ -47,3 +47,6 @@ pub use table::{Key, Keyed, Table};
 pub use table_row::{NetState, TableRow};
 pub use tear::Tear;
 pub use world::{Seen, Which, WorldEvent};
+
+#[cfg(test)]
+mod tests;
