@@ -1,3 +1,4 @@
 pub mod Name
 pub mod NameRead
 pub mod Ids
+pub mod Path
