@@ -1,12 +1,15 @@
 -- Putting and taking undo each other: from what an answer says, from refusals, and from fields that are one value's.
 use Rattle.std.proofs.Common.{◌≡◌, ℕ, ◌+◌, ◌<◌, ◌^◌, List, ◌++◌, length, take, drop, refl, sym, ap, ◌∙◌, Result, Ok, Err}
 use Rattle.std.proofs.lemmas.List.{drop_at}
-use Rattle.nqs_codec.specs.Fields.{u8_field, u16_field, u32_field, u64_field}
-use Rattle.nqs_codec.specs.Takes.{Stands, StandsNone, TakesNumber}
+use Rattle.std.specs.Prelude.{⊤, Bool, true, false, [], ◌∷◌}
+use Rattle.nqs_types.specs.Name.{IsName}
+use Rattle.nqs_codec.specs.Fields.{u8_field, u16_field, u32_field, u64_field, bool_field, short_field}
+use Rattle.nqs_codec.specs.Takes.{Stands, StandsNone, TakesNumber, TakesBool, TakesName}
 use Rattle.nqs_codec.specs.Laws.{IsOne, IsReadBack}
 use Rattle.nqs_codec.specs.declared.fault.Short.{Short}
 use Rattle.nqs_codec.proofs.Places.{rest_is}
-use Rattle.nqs_codec.proofs.One.{one_u8, one_u16, one_u32, one_u64}
+use Rattle.nqs_codec.proofs.One.{one_u8, one_u16, one_u32, one_u64, one_short}
+use Rattle.nqs_codec.proofs.Refusals.{refused_bool, refused_name}
 
 module _ {A E : Type 0} (IsValue : A → Type 0) (field : A → List ℕ) (Takes : List ℕ → ℕ → Result (A × ℕ) E → Type 0)
     (stands : (bytes : List ℕ) (place : ℕ) (value : A) (next : ℕ) → Takes bytes place (Ok (value, next)) → IsValue value × Stands bytes place (field value) next)
@@ -44,3 +47,16 @@ u32_back = number_back (2 ^ 32) u32_field (λ m n x y. one_u32 m n x y)
 
 pub u64_back : IsReadBack (λ n. n < 2 ^ 64) u64_field (TakesNumber (2 ^ 64) u64_field)
 u64_back = number_back (2 ^ 64) u64_field (λ m n x y. one_u64 m n x y)
+
+one_bool : IsOne (λ _. ⊤) bool_field
+unfolding bool_field
+one_bool true true x y _ _ same = (refl, cc)
+one_bool true false x y _ _ same = absurd (let no : ⊥ = cc in no)
+one_bool false true x y _ _ same = absurd (let no : ⊥ = cc in no)
+one_bool false false x y _ _ same = (refl, cc)
+
+pub bool_back : IsReadBack (λ _. ⊤) bool_field TakesBool
+bool_back = read_back (λ _. ⊤) bool_field TakesBool (λ bytes place value next takes. (tt, takes)) refused_bool one_bool
+
+pub name_back : IsReadBack IsName short_field TakesName
+name_back = read_back IsName short_field TakesName (λ bytes place value next takes. takes) refused_name (λ p q x y _ _. one_short p q x y)

@@ -39,7 +39,8 @@ IsLong bytes = length bytes < 2 ^ 32
 
 -- the extent of the bytes behind their length, or too few bytes
 abbrev pub TakesBytes : List ℕ → ℕ → Result (Extent × ℕ) Short → Type 0
-TakesBytes bytes place (Ok (extent, next)) = Stands bytes place (bytes_field (extent_bytes bytes extent)) next × IsExtentAt bytes (place + 4) extent
+TakesBytes bytes place (Ok (extent, next)) =
+    IsLong (extent_bytes bytes extent) × Stands bytes place (bytes_field (extent_bytes bytes extent)) next × IsExtentAt bytes (place + 4) extent
 TakesBytes bytes place (Err short) = (short.0 ≡ length bytes) × StandsNone IsLong bytes_field bytes place
 
 -- ---- fields whose bytes are tested

@@ -1,4 +1,4 @@
-use Rattle.std.proofs.Common.{arith, rules}
+use Rattle.std.proofs.Common.{arith, drop}
 use Rattle.std.proofs.lemmas.Result.{err_from_is_err_and}
 use Rattle.std.proofs.lemmas.List.{length-take-le}
 use Rattle.nqs_codec.proofs.Lengths.{bytes_stand, behind_length, none_without_length, none_behind_length}
@@ -17,9 +17,13 @@ returns-in_err-part_at c =
 
 pub returns : goal.returns
 returns c =
-    let field = c.in_ok-length.ensures.1 in
+    let start = c.in_ok-length.start in
+    let count = c.in_ok-length.length in
+    let field = c.in_ok-length.ensures in
     let whole = c.in_ok-part_at.ensures.whole in
+    let size = length-take-le count (drop start c.args.bytes.now) whole in
     rw c.from.ensures (
-      bytes_stand c.args.bytes.now c.args.place c.in_ok-length.length c.in_ok-length.start field whole,
-      record { first = behind_length c.args.bytes.now c.args.place c.in_ok-length.length c.in_ok-length.start field; whole = length-take-le c.in_ok-length.length _ whole },
+      omega (arith, size, field.0),
+      bytes_stand c.args.bytes.now c.args.place count start field.1 whole,
+      record { first = behind_length c.args.bytes.now c.args.place count start field.1; whole = size },
     )
