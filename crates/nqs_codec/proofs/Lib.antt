@@ -4,5 +4,6 @@ pub mod One
 pub mod Lengths
 pub mod Shorts
 pub mod Refusals
+pub mod Faults
 pub mod ReadBack
 pub mod InPlace

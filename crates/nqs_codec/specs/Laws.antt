@@ -8,6 +8,10 @@ use Rattle.nqs_codec.specs.Takes.{StandsNone}
 abbrev pub IsOne : {A : Type 0} → (A → Type 0) → (A → List ℕ) → Type 0
 IsOne {A} IsValue field = (value other : A) (rest more : List ℕ) → IsValue value → IsValue other → field value ++ rest ≡ field other ++ more → (value ≡ other) × (rest ≡ more)
 
+-- at one place of one list there is one answer
+abbrev pub HasOneAnswer : {A E : Type 0} → (List ℕ → ℕ → Result (A × ℕ) E → Type 0) → Type 0
+HasOneAnswer {A} {E} Takes = (bytes : List ℕ) (place : ℕ) (answer other : Result (A × ℕ) E) → Takes bytes place answer → Takes bytes place other → answer ≡ other
+
 -- A value's field that stands at a place is taken from there, and what is behind it is left; a refusal says that none stands there.
 pub record IsReadBack {A E : Type 0} (IsValue : A → Type 0) (field : A → List ℕ) (Takes : List ℕ → ℕ → Result (A × ℕ) E → Type 0) : Type 0 where
   pub taken : (bytes rest : List ℕ) (place : ℕ) (value : A) (answer : Result (A × ℕ) E) → IsValue value → drop place bytes ≡ field value ++ rest → Takes bytes place answer → answer ≡ Ok (value, place + length (field value))
@@ -15,6 +19,7 @@ pub record IsReadBack {A E : Type 0} (IsValue : A → Type 0) (field : A → Lis
   pub put_taken : (front rest : List ℕ) (value : A) (answer : Result (A × ℕ) E) → IsValue value → Takes (front ++ (field value ++ rest)) (length front) answer → answer ≡ Ok (value, length front + length (field value))
   pub refused : (bytes : List ℕ) (place : ℕ) (fault : E) → Takes bytes place (Err fault) → StandsNone IsValue field bytes place
   pub one : IsOne IsValue field
+  pub one_answer : HasOneAnswer Takes
 
 -- the extent of a value behind a head of its field
 abbrev pub extent_of : ℕ → ℕ → List ℕ → Extent
@@ -28,3 +33,4 @@ pub record IsReadInPlace {E : Type 0} (head : ℕ) (IsValue : List ℕ → Type 
   pub put_taken : (front rest value : List ℕ) (answer : Result (Extent × ℕ) E) → IsValue value → Takes (front ++ (field value ++ rest)) (length front) answer → answer ≡ Ok (extent_of head (length front) value, length front + length (field value))
   pub refused : (bytes : List ℕ) (place : ℕ) (fault : E) → Takes bytes place (Err fault) → StandsNone IsValue field bytes place
   pub one : IsOne IsValue field
+  pub one_answer : HasOneAnswer Takes
