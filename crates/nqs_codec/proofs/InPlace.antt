@@ -1,5 +1,5 @@
 -- Putting and taking undo each other, for bytes that are taken by their extent.
-use Rattle.std.proofs.Common.{◌≡◌, ℕ, ◌+◌, ◌<◌, ◌^◌, List, ◌++◌, length, take, drop, refl, sym, ap, ◌∙◌, Result, Ok, Err}
+use Rattle.std.proofs.Common.{◌≡◌, ℕ, ◌+◌, List, ◌++◌, length, take, drop, refl, sym, ap, ◌∙◌, Result, Ok, Err}
 use Rattle.std.proofs.lemmas.List.{drop_at}
 use Rattle.nqs_types.specs.Path.{IsPath}
 use Rattle.nqs_types.specs.declared.extent.Extent.{Extent}
@@ -19,7 +19,6 @@ module _ {E : Type 0} (head : ℕ) (IsValue : List ℕ → Type 0) (field : List
     (refused : (bytes : List ℕ) (place : ℕ) (fault : E) → Takes bytes place (Err fault) → StandsNone IsValue field bytes place)
     (one : IsOne IsValue field)
     (one_fault : (bytes : List ℕ) (place : ℕ) (e f : E) → Takes bytes place (Err e) → Takes bytes place (Err f) → e ≡ f) where
-
   taken : (bytes rest : List ℕ) (place : ℕ) (value : List ℕ) (answer : Result (Extent × ℕ) E) → IsValue value → drop place bytes ≡ field value ++ rest → Takes bytes place answer → answer ≡ Ok (extent_of head place value, place + length (field value))
   taken bytes rest place value (Ok (extent, next)) is_value is takes =
       let there = stands bytes place extent next takes in

@@ -1,5 +1,5 @@
 -- Bytes behind their length.
-use Rattle.std.proofs.Common.{◌≡◌, ℕ, ◌+◌, ◌<◌, ◌≤◌, ◌^◌, List, ◌∷◌, ◌++◌, length, take, drop, refl, sym, ap, ◌∙◌, subst, arith, append_assoc, length-append}
+use Rattle.std.proofs.Common.{◌≡◌, ℕ, ◌+◌, ◌<◌, ◌≤◌, ◌^◌, List, ◌++◌, length, take, drop, refl, sym, ap, ◌∙◌, subst, arith, append_assoc, length-append}
 use Rattle.std.proofs.lemmas.List.{length-take-le}
 use Rattle.nqs_codec.specs.Fields.{u32_field, bytes_field}
 use Rattle.nqs_codec.specs.Takes.{Stands, StandsNone, IsLong}
@@ -19,8 +19,8 @@ bytes_stand bytes place n start stands long =
     let value = take n (drop start bytes) in
     let size = length-take-le n (drop start bytes) long in
     two_stand bytes place start (start + n) (u32_field (length value)) value
-      (subst (λ (k : ℕ). Stands bytes place (u32_field k) start) (sym size) stands)
-      (part_stands bytes start n value refl long)
+    (subst (λ (k : ℕ). Stands bytes place (u32_field k) start) (sym size) stands)
+    (part_stands bytes start n value refl long)
 
 pub behind_length : (bytes : List ℕ) (place n start : ℕ) → Stands bytes place (u32_field n) start → start ≡ place + 4
 unfolding u32_field

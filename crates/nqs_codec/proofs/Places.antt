@@ -1,6 +1,6 @@
 -- What stands at a place.
-use Rattle.std.proofs.Common.{◌≡◌, ℕ, zero, suc, ◌+◌, ◌<◌, ◌≤◌, List, [], ◌∷◌, ◌++◌, length, take, drop, get_or, refl, sym, ap, ◌∙◌, arith, length-append, length-drop, take-append-drop, subst}
-use Rattle.std.proofs.lemmas.List.{drop-drop, get_or-drop, length-take-le, drop_at, take_at}
+use Rattle.std.proofs.Common.{◌≡◌, ℕ, zero, suc, ◌+◌, ◌<◌, ◌≤◌, List, [], ◌∷◌, ◌++◌, length, take, drop, get_or, refl, sym, ap, ◌∙◌, arith, length-append, take-append-drop, subst}
+use Rattle.std.proofs.lemmas.List.{drop-drop, get_or-drop, length-take-le, drop_at}
 use Rattle.nqs_codec.specs.Takes.{Stands, StandsNone}
 
 -- bytes of a list are bytes of each part

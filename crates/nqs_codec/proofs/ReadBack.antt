@@ -1,7 +1,7 @@
 -- Putting and taking undo each other: from what an answer says, from refusals, and from fields that are one value's.
-use Rattle.std.proofs.Common.{◌≡◌, ℕ, ◌+◌, ◌<◌, ◌^◌, List, ◌++◌, length, take, drop, refl, sym, ap, ◌∙◌, Result, Ok, Err}
+use Rattle.std.proofs.Common.{◌≡◌, ℕ, ◌+◌, ◌<◌, ◌^◌, List, ◌++◌, length, drop, refl, sym, ap, ◌∙◌, Result, Ok, Err}
 use Rattle.std.proofs.lemmas.List.{drop_at}
-use Rattle.std.specs.Prelude.{⊤, Bool, true, false, [], ◌∷◌}
+use Rattle.std.specs.Prelude.{⊤, true, false}
 use Rattle.nqs_types.specs.Name.{IsName}
 use Rattle.nqs_codec.specs.Fields.{u8_field, u16_field, u32_field, u64_field, bool_field, short_field}
 use Rattle.nqs_codec.specs.Takes.{Stands, StandsNone, TakesNumber, TakesBool, TakesName}
@@ -17,7 +17,6 @@ module _ {A E : Type 0} (IsValue : A → Type 0) (field : A → List ℕ) (Takes
     (refused : (bytes : List ℕ) (place : ℕ) (fault : E) → Takes bytes place (Err fault) → StandsNone IsValue field bytes place)
     (one : IsOne IsValue field)
     (one_fault : (bytes : List ℕ) (place : ℕ) (e f : E) → Takes bytes place (Err e) → Takes bytes place (Err f) → e ≡ f) where
-
   taken : (bytes rest : List ℕ) (place : ℕ) (value : A) (answer : Result (A × ℕ) E) → IsValue value → drop place bytes ≡ field value ++ rest → Takes bytes place answer → answer ≡ Ok (value, place + length (field value))
   taken bytes rest place value (Ok (v, next)) is_value is takes =
       let there = stands bytes place v next takes in

@@ -1,10 +1,10 @@
 -- Where a take refuses, no field stands.
-use Rattle.std.proofs.Common.{◌≡◌, ℕ, ◌+◌, ◌<◌, ◌≤◌, ◌⊎◌, inl, inr, Bool, true, false, IsTrue, List, [], ◌∷◌, ◌++◌, length, take, drop, refl, sym, ap, ◌∙◌, subst, arith, length-append, Err, slice_index}
+use Rattle.std.proofs.Common.{◌≡◌, ℕ, ◌+◌, ◌<◌, ◌≤◌, ◌⊎◌, inl, inr, Bool, true, false, IsTrue, List, [], ◌++◌, length, drop, sym, ap, ◌∙◌, subst, arith, length-append, Err}
 use Rattle.std.specs.Prelude.{⊤}
-use Rattle.nqs_types.specs.Name.{IsName, IsFirstBad, allowed_at}
-use Rattle.nqs_types.specs.Path.{IsPath, IsFirstBadOfPath, path_allowed_at, has_parent}
+use Rattle.nqs_types.specs.Name.{IsName, IsFirstBad}
+use Rattle.nqs_types.specs.Path.{IsPath, IsFirstBadOfPath, has_parent}
 use Rattle.nqs_codec.specs.Fields.{short_field, bool_field}
-use Rattle.nqs_codec.specs.Takes.{Stands, StandsNone, TakesBool, TakesName, TakesPath, IsOther, IsCutShort, IsBadLength, IsShortFault, IsShortAt, HasBadByte, HasParentAt}
+use Rattle.nqs_codec.specs.Takes.{StandsNone, TakesBool, TakesName, TakesPath, IsOther, IsCutShort, IsBadLength, IsShortFault, HasBadByte, HasParentAt}
 use Rattle.nqs_codec.specs.declared.fault.FieldFault.{FieldFault}
 use Rattle.nqs_codec.specs.declared.fault.FieldFault.TheVariants.{Short, Bad}
 use Rattle.nqs_codec.proofs.One.{one_short}
@@ -26,7 +26,6 @@ refused_bool bytes place (Bad at) takes = λ value rest _ is. no_other value res
 -- ---- names and paths
 
 module _ (IsValue : List ℕ → Type 0) (most : ℕ) (some : (value : List ℕ) → IsValue value → 0 < length value) (few : (value : List ℕ) → IsValue value → length value ≤ most) where
-
   refused_short : (bytes : List ℕ) (place : ℕ) (fault : FieldFault) → IsShortFault most bytes place fault → StandsNone IsValue short_field bytes place
   unfolding short_field
   refused_short bytes place (Short end) takes = λ value rest is_value is.

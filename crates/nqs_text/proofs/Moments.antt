@@ -1,5 +1,5 @@
 -- A text of the form and the moment that it names.
-use Rattle.std.proofs.Common.{◌≡◌, ℕ, ◌+◌, ◌*◌, ◌<◌, ◌≤◌, List, ◌++◌, refl, sym, ap, ◌∙◌, subst, arith, Some, None, Result, Ok, Err}
+use Rattle.std.proofs.Common.{◌≡◌, ℕ, ◌+◌, ◌*◌, ◌<◌, ◌≤◌, List, ◌++◌, sym, ap, ◌∙◌, subst, arith, Some, None, Ok, Err}
 use Rattle.std.specs.Prelude.{ℤ, pos, negsuc, nat_abs, ◌+ℤ◌, ◌*ℤ◌, ◌≤ℤ◌, ◌/◌, ◌%◌}
 use Rattle.std.proofs.Common.{w16, to_z, of_z}
 use Rattle.std.proofs.lemmas.Int.{to_z_pos}
@@ -10,10 +10,9 @@ use Rattle.jiff_core.specs.declared.civil.date.Date.{Date}
 use Rattle.jiff_core.proofs.DateLemmas.{epoch_day_injective}
 use Rattle.jiff_core.proofs.CalendarLemmas.{days_in_month_bounds}
 use Rattle.jiff_core.proofs.SignedLemmas.{signed_arith}
-use Rattle.nqs_text.specs.Moment.{IsSecond, IsMoment, moment_misfit, moment_text, ReadsMoment, PrintsMoment}
+use Rattle.nqs_text.specs.Moment.{IsSecond, IsMoment, moment_misfit, moment_text}
 use Rattle.nqs_text.specs.Parts.{part, IsNamed}
 use Rattle.nqs_text.specs.Laws.{PrintedReadsBack, ReadPrintsBack}
-use Rattle.nqs_text.specs.declared.moment.MomentFault.{MomentFault}
 use Rattle.nqs_text.specs.declared.moment.MomentFault.TheVariants.{Form, Range}
 use Rattle.nqs_text.proofs.Texts.{has_numbers, text_formed, year_part, month_part, day_part, hour_part, minute_part, second_part}
 

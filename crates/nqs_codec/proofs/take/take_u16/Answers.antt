@@ -1,4 +1,4 @@
-use Rattle.std.proofs.Common.{arith, rules}
+use Rattle.std.proofs.Common.{arith}
 use Rattle.std.proofs.lemmas.Result.{err_from_is_err_and}
 use Rattle.nqs_codec.proofs.Numbers.{none_u16, stands_u16}
 use Rattle.nqs_codec.proofs.take.take_u16.Goals as goal

@@ -1,4 +1,4 @@
-use Rattle.std.proofs.Common.{rules, arith, refl, sym, ap, ◌∙◌, subst, inl, inr}
+use Rattle.std.proofs.Common.{arith, refl, sym, subst, inl, inr}
 use Rattle.std.proofs.lemmas.Result.{err_from_is_err_and}
 use Rattle.nqs_codec.specs.Takes.{IsBadLength, IsCutShort}
 use Rattle.nqs_codec.proofs.Shorts.{no_byte, byte_there, short_stands}

@@ -1,4 +1,4 @@
-use Rattle.std.proofs.Common.{rules, arith, ap, ◌∙◌}
+use Rattle.std.proofs.Common.{rules, arith}
 use Rattle.nqs_text.proofs.Facts.{since_1970}
 use Rattle.jiff_core.proofs.SignedLemmas.{signed_arith}
 use Rattle.nqs_text.proofs.moment.date_of.Goals as goal

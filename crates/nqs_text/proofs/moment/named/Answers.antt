@@ -1,4 +1,3 @@
-use Rattle.std.proofs.Common.{rules, sym}
 use Rattle.nqs_text.proofs.moment.named.Goals as goal
 
 pub returns : goal.returns

@@ -1,4 +1,4 @@
-use Rattle.std.proofs.Common.{◌≡◌, ◌+◌, ◌*◌, rules, arith, ap, ◌∙◌, sym}
+use Rattle.std.proofs.Common.{◌+◌, ◌*◌, rules, arith}
 use Rattle.nqs_text.proofs.Facts.{no_second}
 use Rattle.nqs_text.proofs.moment.second_of.Goals as goal
 

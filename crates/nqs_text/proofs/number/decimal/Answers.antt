@@ -1,5 +1,5 @@
-use Rattle.std.proofs.Common.{◌≡◌, ◌≤◌, ◌^◌, ◌+◌, ◌*◌, ◌-◌, ◌∙◌, arith, get_or}
-use Rattle.nqs_text.specs.Number.{decimal, decimal_from}
+use Rattle.std.proofs.Common.{◌∙◌, arith}
+use Rattle.nqs_text.specs.Number.{decimal}
 use Rattle.nqs_text.proofs.Facts.{next_digit, all_read}
 use Rattle.nqs_text.proofs.number.decimal.Goals as goal
 
