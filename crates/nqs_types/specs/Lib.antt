@@ -1,5 +1,6 @@
 pub mod Name
 pub mod NameRead
+pub mod Path
 pub mod Ids
 pub mod Table
 pub mod State

@@ -1,0 +1,4 @@
+pub mod Fields
+pub mod Puts
+pub mod Takes
+pub mod Laws

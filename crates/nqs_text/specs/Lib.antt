@@ -1,0 +1,4 @@
+pub mod Number
+pub mod Moment
+pub mod Parts
+pub mod Laws
