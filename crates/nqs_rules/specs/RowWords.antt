@@ -1,5 +1,5 @@
 -- Words for schedules.
-use Rattle.std.specs.Prelude.{ℕ, true, false, List, [], ◌∷◌, map, flat_map, codes, Option, None}
+use Rattle.std.specs.Prelude.{ℕ, true, false, List, [], ◌∷◌, map, flat_map, codes, Option, None, Some}
 use Rattle.nqs_rules.specs.Format.{no_limits}
 use Rattle.nqs_rules.specs.World.{Act, Asks, Fuse, Boots, Shows}
 use Rattle.nqs_rules.specs.Run.{run_of}
@@ -14,7 +14,8 @@ use Rattle.nqs_types.specs.declared.tear.Tear.{Tear}
 use Rattle.nqs_types.specs.declared.tear.Tear.TheVariants.{Old, New, Mixed}
 use Rattle.nqs_types.specs.declared.world.Which.{Which}
 use Rattle.nqs_types.specs.declared.event.Command.{Command}
-use Rattle.nqs_types.specs.declared.event.Command.TheVariants.{Submit, UnreadWords}
+use Rattle.nqs_types.specs.declared.event.Command.TheVariants.{Submit, Edit as EditOf, UnreadWords}
+use Rattle.nqs_types.specs.declared.edit.Edit.{Edit}
 
 abbrev pub host : ℕ → HostId
 host place = record { 0 = place }
@@ -51,6 +52,17 @@ unread_words cause line word = UnreadWords (record { cause = cause; line = line;
 
 abbrev pub one_host : List (List ℕ)
 one_host = codes "alpha" ∷ []
+
+abbrev pub two_hosts : List (List ℕ)
+two_hosts = codes "alpha" ∷ codes "beta" ∷ []
+
+-- an edit by root on the first host
+abbrev pub edits : Edit → Act
+edits e = Asks (host 0) (codes "root") (EditOf e)
+
+-- a submission on the first host, to a queue
+abbrev pub submits : List ℕ → List ℕ → Act
+submits user queue = Asks (host 0) user (submission (Some queue) (job_of user) [])
 
 -- the transcript of a run of a new network
 abbrev pub told : List (List ℕ) → List Act → List ℕ

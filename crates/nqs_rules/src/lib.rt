@@ -4,3 +4,7 @@
 
 pub mod host_rows;
 pub mod net_rows;
+pub mod small_net_rows;
+pub mod small_rows;
+pub mod stop_rows;
+pub mod test_rows;

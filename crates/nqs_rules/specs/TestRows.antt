@@ -1,0 +1,139 @@
+-- States, changes and texts on which single definitions are computed.
+use Rattle.std.specs.Prelude.{ℕ, ◌-◌, Bool, true, false, List, [], ◌∷◌, ◌++◌, map, replicate, codes, Option, None, Some, Result}
+use Rattle.std.specs.List.{list_all}
+use Rattle.nqs_types.specs.State.{State, Plain}
+use Rattle.nqs_rules.specs.Tests.{same_host, last_u64, last_seq}
+use Rattle.nqs_types.specs.Ids.{id_eq}
+use Rattle.nqs_rules.specs.Format.{formatted, first_queue, new_queue, new_peer}
+use Rattle.nqs_rules.specs.Causes.{first_refusal}
+use Rattle.nqs_rules.specs.Limits.{new_complex}
+use Rattle.nqs_rules.specs.Devices.{new_device}
+use Rattle.nqs_rules.specs.Applied.{new_row, first_carried, applied}
+use Rattle.nqs_rules.specs.Fits.{edit_causes, fits}
+use Rattle.nqs_rules.specs.InOrder.{is_site_right, are_parameters_right, are_lists_short, are_keys_distinct, are_distinct, same_number, arrivals_of, is_queue_right, is_complex_right, is_row_right, is_promise_right, promisers, is_hand_right, has_few_hands, offered_ids, is_peer_right, is_stage_right, is_file_right, is_doom_right, is_hold_right, has_hand, is_promise_free, is_hand_of_given}
+use Rattle.nqs_rules.specs.World.{Act}
+use Rattle.nqs_rules.specs.Run.{run_of, states_of}
+use Rattle.nqs_rules.specs.RowWords.{host, request, named, typed, job_of, two_hosts}
+use Rattle.nqs_types.specs.declared.ids.Dest.{Dest}
+use Rattle.nqs_types.specs.declared.request.Row.{Row}
+use Rattle.nqs_types.specs.declared.request.Carried.{Carried}
+use Rattle.nqs_types.specs.declared.request.Promise.{Promise}
+use Rattle.nqs_types.specs.declared.request.Hand.{Hand}
+use Rattle.nqs_types.specs.declared.request.Phase.{Phase}
+use Rattle.nqs_types.specs.declared.request.RowState.TheVariants.{Running, Routing}
+use Rattle.nqs_types.specs.declared.queue.Kind.TheVariants.{Pipe}
+use Rattle.nqs_types.specs.declared.queue.Access.TheVariants.{Users}
+use Rattle.nqs_types.specs.declared.queue.QueueDef.{QueueDef}
+use Rattle.nqs_types.specs.declared.change.Change.{Change}
+use Rattle.nqs_types.specs.declared.change.Change.TheVariants.{Submitted, HandOpened, HandCommitted}
+use Rattle.nqs_types.specs.declared.edit.Edit.{Edit}
+use Rattle.nqs_types.specs.declared.refusal.Refusal.{Refusal}
+use Rattle.nqs_types.specs.declared.refusal.Refusal.TheVariants.{NotManager, NotOperator, NoQueue, NoComplex, NoDevice, NoRequest, NoHost, NoDefault, QueueExists, ComplexExists, DeviceExists, WrongKind, DestExists, NoDest, NotMember, IsMember, KeepRoot, NotOwner, Disabled, PipeOnly, NoAccess, RequestRouting, RequestRunning, NotHeld, IsHeld, QueueInUse, DeviceBusy, OverCpu, OverMemory, TooMany, HostFull, NumbersUsed, RequestExists}
+
+-- the first of two hosts as it is formatted
+abbrev pub fresh : Plain
+fresh = formatted (host 0) two_hosts
+
+abbrev pub far : Dest
+far = record { queue = codes "batch"; host = host 1 }
+
+-- a pipe queue with a destination on the other host
+abbrev pub link : QueueDef
+link = new_queue (codes "link") Pipe None None false (far ∷ [])
+
+abbrev pub with_link : Plain
+with_link = record fresh { queues = first_queue ∷ link ∷ [] }
+
+-- states whose lists have so many items
+
+abbrev pub with_queues : ℕ → Plain
+with_queues n = record fresh { queues = replicate n first_queue }
+
+abbrev pub with_complexes : ℕ → Plain
+with_complexes n = record fresh { complexes = replicate n (new_complex (codes "c")) }
+
+abbrev pub with_devices : ℕ → Plain
+with_devices n = record fresh { devices = replicate n (new_device (codes "d") (codes "f")) }
+
+abbrev pub with_managers : ℕ → Plain
+with_managers n = record fresh { managers = replicate n (codes "root") }
+
+abbrev pub with_operators : ℕ → Plain
+with_operators n = record fresh { operators = replicate n (codes "op") }
+
+abbrev pub with_users : ℕ → Plain
+with_users n = record fresh { queues = record first_queue { access = Users (replicate n (codes "bob")) } ∷ [] }
+
+abbrev pub with_dests : ℕ → Plain
+with_dests n = record fresh { queues = record link { dests = replicate n far } ∷ [] }
+
+-- how an edit is refused
+abbrev pub refused : Edit → Plain → Result (Unit {0}) Refusal
+refused e s = first_refusal (edit_causes e s)
+
+-- requests of the first host
+
+abbrev pub carried : ℕ → Carried
+carried seq = first_carried (request seq 0) (record (job_of (codes "ann")) { out = codes "o"; err = codes "e" })
+
+abbrev pub queued : ℕ → Row (List ℕ)
+queued seq = new_row (carried seq) (codes "batch") seq []
+
+abbrev pub in_link : ℕ → Row (List ℕ)
+in_link seq = record (queued seq) { queue = codes "link" }
+
+abbrev pub running : ℕ → Row (List ℕ)
+running n = record (queued 1) { state = Running; starts = n; lost = n - 1 }
+
+abbrev pub with_row : Row (List ℕ) → Plain
+with_row r = record with_link { rows = r ∷ []; seq = 9; arrivals = 9 }
+
+-- its request is on its way to the other host
+abbrev pub on_its_way : Plain
+on_its_way = applied (HandOpened (host 1) 1 (request 1 0) (codes "batch") 7) (with_row (in_link 1))
+
+abbrev pub handed_over : Plain
+handed_over = applied (HandCommitted (host 1) 1) on_its_way
+
+abbrev pub promise : ℕ → ℕ → Promise (List ℕ)
+promise number seq = record { peer = host 1; number = number; row = record (queued seq) { id = request seq 1 } }
+
+abbrev pub with_promise : Plain
+with_promise = record fresh { promises = promise 3 3 ∷ []; arrivals = 9 }
+
+-- the host has so many rows and a promise of the other one
+abbrev pub crowded : ℕ → Plain
+crowded n = record with_promise { rows = replicate n (queued 1) }
+
+abbrev pub all_fit : List (Change (List ℕ)) → Plain → Bool
+all_fit cs s = list_all (λ c. fits c s) cs
+
+abbrev pub none_fit : List (Change (List ℕ)) → Plain → List Bool
+none_fit cs s = map (λ c. fits c s) cs
+
+-- each test of a state in order, and what besides holds of it
+abbrev pub order_tests : Plain → List Bool
+order_tests s =
+    is_site_right s ∷ are_parameters_right s ∷ are_lists_short s ∷ are_keys_distinct s ∷ are_distinct same_number (arrivals_of s)
+    ∷ list_all (is_queue_right s) s.queues ∷ list_all (is_complex_right s) s.complexes ∷ list_all (is_row_right s) s.rows
+    ∷ list_all (is_promise_right s) s.promises ∷ are_distinct same_host (promisers s) ∷ list_all (is_hand_right s) s.hands
+    ∷ list_all (has_few_hands s) s.hands ∷ are_distinct id_eq (offered_ids s) ∷ list_all is_peer_right s.peers
+    ∷ list_all (is_stage_right s) s.stages ∷ list_all (is_file_right s) s.files
+    ∷ list_all is_doom_right s.rows ∷ list_all is_hold_right s.rows ∷ list_all (has_hand s) s.rows ∷ list_all is_promise_free s.promises
+    ∷ list_all (is_hand_of_given s) s.hands ∷ []
+
+abbrev pub is_all_right : Plain → Bool
+is_all_right s = list_all (λ b. b) (order_tests s)
+
+-- whether each host of a run ends so
+abbrev pub order_told : List (List ℕ) → List Act → List Bool
+order_told site acts = map is_all_right (states_of (run_of site acts).world)
+
+-- each refusal in turn
+abbrev pub refusals : List Refusal
+refusals =
+    NotManager ∷ NotOperator ∷ NoQueue (codes "q") ∷ NoComplex (codes "c") ∷ NoDevice (codes "d") ∷ NoRequest (named 7 (codes "h")) ∷ NoHost (codes "h") ∷ NoDefault
+    ∷ QueueExists (codes "q") ∷ ComplexExists (codes "c") ∷ DeviceExists (codes "d") ∷ WrongKind ∷ DestExists ∷ NoDest ∷ NotMember ∷ IsMember ∷ KeepRoot ∷ NotOwner
+    ∷ Disabled (codes "q") ∷ PipeOnly (codes "q") ∷ NoAccess (codes "q") ∷ RequestRouting (named 7 (codes "h")) ∷ RequestRunning (named 7 (codes "h"))
+    ∷ NotHeld (named 7 (codes "h")) ∷ IsHeld (named 7 (codes "h")) ∷ QueueInUse (codes "q") 3 ∷ DeviceBusy (codes "d") ∷ OverCpu (codes "q") ∷ OverMemory (codes "q")
+    ∷ TooMany ∷ HostFull ∷ NumbersUsed ∷ RequestExists (named 7 (codes "h")) ∷ []
