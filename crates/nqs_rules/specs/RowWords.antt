@@ -10,6 +10,7 @@ use Rattle.nqs_types.specs.declared.ids.Named.{Named}
 use Rattle.nqs_types.specs.declared.ids.NamedDest.{NamedDest}
 use Rattle.nqs_types.specs.declared.request.Job.{Job}
 use Rattle.nqs_types.specs.declared.fault.WordsCause.{WordsCause}
+use Rattle.nqs_types.specs.declared.fault.WordsFault.{WordsFault}
 use Rattle.nqs_types.specs.declared.tear.Tear.{Tear}
 use Rattle.nqs_types.specs.declared.tear.Tear.TheVariants.{Old, New, Mixed}
 use Rattle.nqs_types.specs.declared.world.Which.{Which}
@@ -47,8 +48,11 @@ job_of owner = record {
 abbrev pub submission : Option (List ℕ) → Job → List ℕ → Command
 submission queue job script = Submit (record { queue = queue; job = job; script = script })
 
+abbrev pub bad_words : WordsCause → ℕ → ℕ → WordsFault
+bad_words cause line word = record { cause = cause; line = line; word = word }
+
 abbrev pub unread_words : WordsCause → ℕ → ℕ → Command
-unread_words cause line word = UnreadWords (record { cause = cause; line = line; word = word })
+unread_words cause line word = UnreadWords (bad_words cause line word)
 
 abbrev pub one_host : List (List ℕ)
 one_host = codes "alpha" ∷ []

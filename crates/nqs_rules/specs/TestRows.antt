@@ -17,6 +17,11 @@ use Rattle.nqs_rules.specs.RowWords.{host, request, named, typed, job_of, two_ho
 use Rattle.nqs_types.specs.declared.ids.Dest.{Dest}
 use Rattle.nqs_types.specs.declared.request.Row.{Row}
 use Rattle.nqs_types.specs.declared.request.Carried.{Carried}
+use Rattle.nqs_types.specs.declared.request.Peer.{Peer}
+use Rattle.nqs_types.specs.declared.extent.Extent.{Extent}
+use Rattle.nqs_types.specs.declared.event.Submission.{Submission}
+use Rattle.nqs_types.specs.declared.event.Output.TheVariants as out
+use Rattle.nqs_rules.specs.Stepped.{Stepped, makes, ready}
 use Rattle.nqs_types.specs.declared.request.Promise.{Promise}
 use Rattle.nqs_types.specs.declared.request.Hand.{Hand}
 use Rattle.nqs_types.specs.declared.request.Phase.{Phase}
@@ -25,7 +30,7 @@ use Rattle.nqs_types.specs.declared.queue.Kind.TheVariants.{Pipe}
 use Rattle.nqs_types.specs.declared.queue.Access.TheVariants.{Users}
 use Rattle.nqs_types.specs.declared.queue.QueueDef.{QueueDef}
 use Rattle.nqs_types.specs.declared.change.Change.{Change}
-use Rattle.nqs_types.specs.declared.change.Change.TheVariants.{Submitted, HandOpened, HandCommitted}
+use Rattle.nqs_types.specs.declared.change.Change.TheVariants.{Ended, HandOpened, HandCommitted, Promised}
 use Rattle.nqs_types.specs.declared.edit.Edit.{Edit}
 use Rattle.nqs_types.specs.declared.refusal.Refusal.{Refusal}
 use Rattle.nqs_types.specs.declared.refusal.Refusal.TheVariants.{NotManager, NotOperator, NoQueue, NoComplex, NoDevice, NoRequest, NoHost, NoDefault, QueueExists, ComplexExists, DeviceExists, WrongKind, DestExists, NoDest, NotMember, IsMember, KeepRoot, NotOwner, Disabled, PipeOnly, NoAccess, RequestRouting, RequestRunning, NotHeld, IsHeld, QueueInUse, DeviceBusy, OverCpu, OverMemory, TooMany, HostFull, NumbersUsed, RequestExists}
@@ -105,11 +110,30 @@ with_promise = record fresh { promises = promise 3 3 ∷ []; arrivals = 9 }
 abbrev pub crowded : ℕ → Plain
 crowded n = record with_promise { rows = replicate n (queued 1) }
 
-abbrev pub all_fit : List (Change (List ℕ)) → Plain → Bool
-all_fit cs s = list_all (λ c. fits c s) cs
+abbrev pub fit_each : List (Change (List ℕ)) → Plain → List Bool
+fit_each cs s = map (λ c. fits c s) cs
 
-abbrev pub none_fit : List (Change (List ℕ)) → Plain → List Bool
-none_fit cs s = map (λ c. fits c s) cs
+-- a submission to the default queue
+abbrev pub sample : Submission
+sample = record { queue = None; job = job_of (codes "ann"); script = [] }
+
+-- a request of the other host
+abbrev pub far_carried : Carried
+far_carried = record (carried 3) { id = request 3 1 }
+
+-- this is known of the other host
+abbrev pub with_peer : Peer → Plain
+with_peer p = record with_link { peers = new_peer ∷ p ∷ [] }
+
+-- the other host, which was promised the request
+abbrev pub with_promised : Plain
+with_promised = applied (Promised (host 0) 1 (codes "batch") (carried 1) []) (formatted (host 1) two_hosts)
+
+-- a job's end with two outputs, and two files whose bytes are in the spool
+abbrev pub planned : Stepped Extent
+planned =
+    makes (Ended (request 1 0) (record { path = codes "o"; bytes = codes "ab" } ∷ record { path = codes "e"; bytes = codes "c" } ∷ []))
+      (ready (out.Ended (request 1 0) 1 0) ∷ (out.File 4 (codes "o") [], Some (record { place = 7; length = 2 })) ∷ (out.File 5 (codes "e") [], Some (record { place = 9; length = 3 })) ∷ [])
 
 -- each test of a state in order, and what besides holds of it
 abbrev pub order_tests : Plain → List Bool
@@ -128,6 +152,15 @@ is_all_right s = list_all (λ b. b) (order_tests s)
 -- whether each host of a run ends so
 abbrev pub order_told : List (List ℕ) → List Act → List Bool
 order_told site acts = map is_all_right (states_of (run_of site acts).world)
+
+-- states that aren't in order, each for one cause
+abbrev pub wrong_states : List Plain
+wrong_states =
+    with_row (record (queued 1) { queue = codes "nope" }) ∷ with_row (record (queued 1) { id = request 10 0 }) ∷ with_row (record (queued 1) { id = request 0 0 })
+    ∷ with_row (record (queued 1) { id = request 1 2 }) ∷ with_row (record (queued 1) { arrival = 10 }) ∷ with_row (record (queued 1) { starts = 1 })
+    ∷ with_row (running 65536) ∷ with_row (record (running 1) { lost = 1 }) ∷ with_row (record (queued 1) { state = Routing }) ∷ with_row (record (queued 1) { hops = 33 })
+    ∷ with_row (record (queued 1) { device = Some (codes "laser") }) ∷ record with_promise { promises = promise 3 3 ∷ promise 4 4 ∷ [] }
+    ∷ record on_its_way { rows = [] } ∷ record fresh { patience = 0 } ∷ []
 
 -- each refusal in turn
 abbrev pub refusals : List Refusal
