@@ -21,7 +21,14 @@ use Rattle.nqs_types.specs.declared.request.Peer.{Peer}
 use Rattle.nqs_types.specs.declared.extent.Extent.{Extent}
 use Rattle.nqs_types.specs.declared.event.Submission.{Submission}
 use Rattle.nqs_types.specs.declared.event.Output.TheVariants as out
-use Rattle.nqs_rules.specs.Stepped.{Stepped, makes, ready}
+use Rattle.nqs_types.specs.declared.event.Output.{Output}
+use Rattle.nqs_types.specs.declared.event.Event.{Event}
+use Rattle.nqs_types.specs.declared.message.Body.{Body}
+use Rattle.nqs_types.specs.declared.request.Stage.{Stage}
+use Rattle.nqs_types.specs.declared.request.FileOut.{FileOut}
+use Rattle.nqs_types.specs.declared.request.Phase.TheVariants.{Offered, Committed}
+use Rattle.nqs_rules.specs.Step.{step}
+use Rattle.nqs_rules.specs.Stepped.{Stepped, makes, message, ready, shown}
 use Rattle.nqs_types.specs.declared.request.Promise.{Promise}
 use Rattle.nqs_types.specs.declared.request.Hand.{Hand}
 use Rattle.nqs_types.specs.declared.request.Phase.{Phase}
@@ -152,6 +159,34 @@ is_all_right s = list_all (λ b. b) (order_tests s)
 -- whether each host of a run ends so
 abbrev pub order_told : List (List ℕ) → List Act → List Bool
 order_told site acts = map is_all_right (states_of (run_of site acts).world)
+
+abbrev pub a_stage : ℕ → ℕ → Stage (List ℕ)
+a_stage peer number = record { peer = host peer; number = number; path = codes "o"; bytes = codes "s" }
+
+abbrev pub a_file : ℕ → FileOut (List ℕ)
+a_file number = record { number = number; path = codes "e"; bytes = codes "f" }
+
+-- a host of three that has something of each kind to say again
+abbrev pub busy : Plain
+busy = record (formatted (host 0) (codes "alpha" ∷ codes "beta" ∷ codes "gamma" ∷ [])) {
+  rows = record (in_link 1) { state = Routing; script = codes "date"; hops = 2 } ∷ [];
+  hands =
+    record { peer = host 1; number = 1; id = request 1 0; queue = codes "batch"; since = 0; phase = Offered }
+    ∷ record { peer = host 2; number = 4; id = request 2 0; queue = codes "batch"; since = 0; phase = Committed } ∷ [];
+  promises = record (promise 9 9) { peer = host 2 } ∷ promise 3 3 ∷ [];
+  stages = a_stage 2 2 ∷ a_stage 1 8 ∷ a_stage 1 7 ∷ a_stage 2 1 ∷ [];
+  files = a_file 3 ∷ a_file 4 ∷ [];
+}
+
+abbrev pub sends : ℕ → Body → Output
+sends to b = message (host 0) (host to) b
+
+-- what goes out of a host at an event
+abbrev pub told_at : Event → Plain → List Output
+told_at e s = map shown (step e s).outputs
+
+abbrev pub changed_at : Event → Plain → Option (Change (List ℕ))
+changed_at e s = (step e s).change
 
 -- states that aren't in order, each for one cause
 abbrev pub wrong_states : List Plain

@@ -1,6 +1,6 @@
 //! Single definitions that are computed: limits of lists, last numbers, states in order, changes that fit, and texts.
 ghost use Rattle.std.specs.Prelude.{◌≡◌, ◌-◌, codes, [], ◌∷◌, map, replicate, true, false, None, Some, Ok, Err};
-ghost use Rattle.nqs_rules.specs.TestRows.{refused, with_queues, with_complexes, with_devices, with_managers, with_operators, with_users, with_dests, fresh, far, link, with_link, carried, queued, in_link, running, with_row, on_its_way, handed_over, promise, with_promise, crowded, fit_each, order_told, is_all_right, refusals, sample, far_carried, with_peer, wrong_states, with_promised, planned};
+ghost use Rattle.nqs_rules.specs.TestRows.{refused, with_queues, with_complexes, with_devices, with_managers, with_operators, with_users, with_dests, fresh, far, link, with_link, carried, queued, in_link, running, with_row, on_its_way, handed_over, promise, with_promise, crowded, fit_each, order_told, is_all_right, refusals, sample, far_carried, with_peer, wrong_states, with_promised, planned, busy, a_stage, sends, told_at, changed_at};
 ghost use Rattle.nqs_types.specs.declared.edit.Edit.TheVariants.{Conf, Limits, Access, Devices};
 ghost use Rattle.nqs_types.specs.declared.edit.ConfEdit.TheVariants.{CreateBatchQueue, AddDestination};
 ghost use Rattle.nqs_types.specs.declared.edit.LimitsEdit.TheVariants.{CreateComplex};
@@ -14,6 +14,8 @@ ghost use Rattle.nqs_types.specs.declared.change.Change.TheVariants.{Site, Submi
 ghost use Rattle.nqs_types.specs.declared.message.Body.TheVariants as body;
 ghost use Rattle.nqs_types.specs.declared.event.Output.TheVariants as out;
 ghost use Rattle.nqs_types.specs.declared.event.Reply.TheVariants.{Refused, Done, UnreadLine, UnreadWords};
+ghost use Rattle.nqs_types.specs.declared.event.Event.TheVariants as event;
+ghost use Rattle.nqs_types.specs.declared.event.Command.TheVariants.{Tick};
 ghost use Rattle.nqs_types.specs.declared.fault.GrammarFault.TheVariants as grammar;
 ghost use Rattle.nqs_types.specs.declared.fault.WordsCause.TheVariants as words_cause;
 ghost use Rattle.nqs_types.specs.declared.table_row.NetState.TheVariants.{Arriving};
@@ -143,6 +145,7 @@ pub fn promises_are_kept()
     ensures replaced { map (λ p. p.number) (applied (Promised (host 1) 5 (codes "batch") far_carried []) with_promise).promises ≡ 5 ∷ [] }
     ensures arrival { map (λ p. p.row.arrival) (applied (Promised (host 1) 5 (codes "batch") far_carried []) with_promise).promises ≡ 10 ∷ [] }
     ensures closed { map (λ c. map (λ p. p.closed) (applied c with_promise).peers) (Promised (host 1) 5 (codes "batch") far_carried [] ∷ Accepted (host 1) 3 ∷ Dropped (host 1) 3 ∷ []) ≡ (0 ∷ 4 ∷ []) ∷ (0 ∷ 3 ∷ []) ∷ (0 ∷ 3 ∷ []) ∷ [] }
+    ensures behind { map (λ p. p.number) (applied (Promised (host 2) 10 (codes "batch") far_carried []) busy).promises ≡ 3 ∷ 10 ∷ [] }
     ensures taken { (applied (Accepted (host 1) 3) with_promise).rows ≡ (promise 3 3).row ∷ [] }
     ensures once { (applied (Accepted (host 1) 3) (record with_promise { rows = (promise 3 3).row ∷ [] })).rows ≡ (promise 3 3).row ∷ [] }
 {}
@@ -154,6 +157,39 @@ pub fn requests_lie()
     ensures arriving { entry_of (request 1 0) (handed_over ∷ with_promised ∷ []) ≡ Some (record { id = request 1 0; host = host 1; queue = codes "batch"; state = Arriving; owner = codes "ann"; rerun = true; doomed = false; starts = 0; lost = 0 }) }
     ensures twice { is_table (with_row (queued 1) ∷ with_row (queued 1) ∷ []) ≡ false }
     ensures numbers { map (λ h. last_given h (handed_over ∷ with_promised ∷ [])) (host 0 ∷ host 1 ∷ host 2 ∷ []) ≡ 9 ∷ 0 ∷ 0 ∷ [] }
+{}
+
+/// A tick says each handover again, asks for each promise, and sends the least stage to each host and each file, in this order.
+pub fn ticks_say_again()
+    ensures early { told_at (event.Tick 59) busy ≡
+        sends 1 (body.Offer 1 (codes "batch") (record (carried 1) { hops = 3 }) (codes "date"))
+        ∷ sends 2 (body.Commit 4) ∷ sends 2 (body.Inquire 9) ∷ sends 1 (body.Inquire 3)
+        ∷ sends 1 (body.Stage 7 (codes "o") (codes "s")) ∷ sends 2 (body.Stage 1 (codes "o") (codes "s"))
+        ∷ out.File 3 (codes "e") (codes "f") ∷ out.File 4 (codes "e") (codes "f") ∷ [] }
+    ensures unchanged { changed_at (event.Tick 59) busy ≡ None }
+    ensures silent { changed_at (event.Tick 60) busy ≡ Some (HandsSilent 360 (peer_number (host 1) 1 ∷ [])) }
+    ensures command { told_at (event.Ask 60 9 77 (codes "ann") Tick) busy ≡
+        sends 2 (body.Commit 4) ∷ sends 2 (body.Inquire 9) ∷ sends 1 (body.Inquire 3)
+        ∷ sends 1 (body.Stage 7 (codes "o") (codes "s")) ∷ sends 2 (body.Stage 1 (codes "o") (codes "s"))
+        ∷ out.File 3 (codes "e") (codes "f") ∷ out.File 4 (codes "e") (codes "f") ∷ out.Reply 9 77 Done ∷ [] }
+    ensures back { map (λ r. r.state) (applied (HandsSilent 360 (peer_number (host 1) 1 ∷ [])) busy).rows ≡ Queued ∷ [] }
+    ensures waits { map (λ p. p.wait) (applied (HandsSilent 360 (peer_number (host 1) 1 ∷ [])) busy).peers ≡ 0 ∷ 360 ∷ 0 ∷ [] }
+{}
+
+/// A client that tells of an end gets an acknowledgement last, in every case, and a datagram of a client among hosts is nothing.
+pub fn clients_are_answered()
+    ensures unknown { told_at (event.Ended 5 9 (request 1 0) 1 0 [] []) fresh ≡ out.Ack 9 (request 1 0) 1 ∷ [] }
+    ensures ended { told_at (event.Ended 5 9 (request 1 0) 1 7 (codes "a") []) (with_row (running 1)) ≡ out.Ended (request 1 0) 1 7 ∷ out.File 1 (codes "o") (codes "a") ∷ out.Ack 9 (request 1 0) 1 ∷ [] }
+    ensures world { told_at (event.Ended 5 0 (request 1 0) 2 7 (codes "a") []) (with_row (running 1)) ≡ [] }
+    ensures hosts { told_at (event.Arrived 5 (record { from = host 1; to = host 0; body = body.EndedAck (request 1 0) 1 })) (with_row (running 1)) ≡ [] }
+{}
+
+/// Outputs go out of a host one at a time, the least first.
+pub fn stages_wait()
+    ensures first { told_at (event.Ended 5 0 (request 3 1) 1 0 (codes "a") (codes "b")) (with_row (record (running 1) { id = request 3 1 })) ≡ out.Ended (request 3 1) 1 0 ∷ sends 1 (body.Stage 1 (codes "o") (codes "a")) ∷ [] }
+    ensures behind { told_at (event.Ended 5 0 (request 3 1) 1 0 (codes "a") []) (record (with_row (record (running 1) { id = request 3 1 })) { stages = a_stage 1 7 ∷ [] }) ≡ out.Ended (request 3 1) 1 0 ∷ [] }
+    ensures next { told_at (event.Arrived 5 (record { from = host 1; to = host 0; body = body.Staged 8 })) busy ≡ sends 1 (body.Stage 7 (codes "o") (codes "s")) ∷ [] }
+    ensures unknown { told_at (event.Arrived 5 (record { from = host 1; to = host 0; body = body.Staged 2 })) busy ≡ [] }
 {}
 
 /// A plan has the bytes to be stored in order, and names the outputs whose bytes are read from the spool.

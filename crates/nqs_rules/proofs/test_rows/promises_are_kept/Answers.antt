@@ -14,6 +14,10 @@ pub returns-clause-closed : goal.returns-clause-closed
 unfolding digits
 returns-clause-closed c = refl
 
+pub returns-clause-behind : goal.returns-clause-behind
+unfolding digits
+returns-clause-behind c = refl
+
 pub returns-clause-taken : goal.returns-clause-taken
 unfolding digits
 returns-clause-taken c = refl
