@@ -29,6 +29,7 @@ pub mod Transcript
 pub mod RowWords
 pub mod HostRows
 pub mod NetRows
+pub mod EditRows
 pub mod SmallRows
 pub mod StopRows
 pub mod SmallNetRows

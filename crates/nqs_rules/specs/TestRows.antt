@@ -1,8 +1,8 @@
 -- States, changes and texts on which single definitions are computed.
-use Rattle.std.specs.Prelude.{ℕ, ◌-◌, Bool, true, false, List, [], ◌∷◌, ◌++◌, map, replicate, codes, Option, None, Some, Result}
+use Rattle.std.specs.Prelude.{ℕ, ◌-◌, Bool, false, List, [], ◌∷◌, map, replicate, codes, Option, None, Some, Result}
 use Rattle.std.specs.List.{list_all}
-use Rattle.nqs_types.specs.State.{State, Plain}
-use Rattle.nqs_rules.specs.Tests.{same_host, last_u64, last_seq}
+use Rattle.nqs_types.specs.State.{Plain}
+use Rattle.nqs_rules.specs.Tests.{same_host}
 use Rattle.nqs_types.specs.Ids.{id_eq}
 use Rattle.nqs_rules.specs.Format.{formatted, first_queue, new_queue, new_peer}
 use Rattle.nqs_rules.specs.Causes.{first_refusal}
@@ -13,7 +13,7 @@ use Rattle.nqs_rules.specs.Fits.{edit_causes, fits}
 use Rattle.nqs_rules.specs.InOrder.{is_site_right, are_parameters_right, are_lists_short, are_keys_distinct, are_distinct, same_number, arrivals_of, is_queue_right, is_complex_right, is_row_right, is_promise_right, promisers, is_hand_right, has_few_hands, offered_ids, is_peer_right, is_stage_right, is_file_right, is_doom_right, is_hold_right, has_hand, is_promise_free, is_hand_of_given}
 use Rattle.nqs_rules.specs.World.{Act}
 use Rattle.nqs_rules.specs.Run.{run_of, states_of}
-use Rattle.nqs_rules.specs.RowWords.{host, request, named, typed, job_of, two_hosts}
+use Rattle.nqs_rules.specs.RowWords.{host, request, named, job_of, two_hosts}
 use Rattle.nqs_types.specs.declared.ids.Dest.{Dest}
 use Rattle.nqs_types.specs.declared.request.Row.{Row}
 use Rattle.nqs_types.specs.declared.request.Carried.{Carried}
@@ -30,8 +30,6 @@ use Rattle.nqs_types.specs.declared.request.Phase.TheVariants.{Offered, Committe
 use Rattle.nqs_rules.specs.Step.{step}
 use Rattle.nqs_rules.specs.Stepped.{Stepped, makes, message, ready, shown}
 use Rattle.nqs_types.specs.declared.request.Promise.{Promise}
-use Rattle.nqs_types.specs.declared.request.Hand.{Hand}
-use Rattle.nqs_types.specs.declared.request.Phase.{Phase}
 use Rattle.nqs_types.specs.declared.request.RowState.TheVariants.{Running, Routing}
 use Rattle.nqs_types.specs.declared.queue.Kind.TheVariants.{Pipe}
 use Rattle.nqs_types.specs.declared.queue.Access.TheVariants.{Users}
@@ -48,6 +46,9 @@ fresh = formatted (host 0) two_hosts
 
 abbrev pub far : Dest
 far = record { queue = codes "batch"; host = host 1 }
+
+abbrev pub near : Dest
+near = record far { host = host 0 }
 
 -- a pipe queue with a destination on the other host
 abbrev pub link : QueueDef
@@ -93,6 +94,10 @@ queued seq = new_row (carried seq) (codes "batch") seq []
 
 abbrev pub in_link : ℕ → Row (List ℕ)
 in_link seq = record (queued seq) { queue = codes "link" }
+
+-- a destination has refused it
+abbrev pub refused_by : Dest → ℕ → Row (List ℕ)
+refused_by dest refusal = record (in_link 1) { refused = record { dest = dest; cause = refusal } ∷ [] }
 
 abbrev pub running : ℕ → Row (List ℕ)
 running n = record (queued 1) { state = Running; starts = n; lost = n - 1 }

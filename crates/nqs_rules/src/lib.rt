@@ -2,6 +2,7 @@
 //! `docs/rules.md` says them in words, table by table.
 #![tactic(auto)]
 
+pub mod edit_rows;
 pub mod host_rows;
 pub mod net_rows;
 pub mod small_net_rows;

@@ -1,14 +1,18 @@
 //! Single definitions that are computed: limits of lists, last numbers, states in order, changes that fit, and texts.
-ghost use Rattle.std.specs.Prelude.{◌≡◌, ◌-◌, codes, [], ◌∷◌, map, replicate, true, false, None, Some, Ok, Err};
-ghost use Rattle.nqs_rules.specs.TestRows.{refused, with_queues, with_complexes, with_devices, with_managers, with_operators, with_users, with_dests, fresh, far, link, with_link, carried, queued, in_link, running, with_row, on_its_way, handed_over, promise, with_promise, crowded, fit_each, order_told, is_all_right, refusals, sample, far_carried, with_peer, wrong_states, with_promised, planned, busy, a_stage, sends, told_at, changed_at};
-ghost use Rattle.nqs_types.specs.declared.edit.Edit.TheVariants.{Conf, Limits, Access, Devices};
-ghost use Rattle.nqs_types.specs.declared.edit.ConfEdit.TheVariants.{CreateBatchQueue, AddDestination};
-ghost use Rattle.nqs_types.specs.declared.edit.LimitsEdit.TheVariants.{CreateComplex};
+ghost use Rattle.std.specs.Prelude.{◌≡◌, codes, [], ◌∷◌, ◌++◌, map, replicate, length, true, false, None, Some, Ok, Err};
+ghost use Rattle.nqs_rules.specs.TestRows.{refused, near, refused_by, with_queues, with_complexes, with_devices, with_managers, with_operators, with_users, with_dests, fresh, far, link, with_link, carried, queued, in_link, running, with_row, on_its_way, handed_over, promise, with_promise, crowded, fit_each, order_told, is_all_right, refusals, sample, far_carried, with_peer, wrong_states, with_promised, planned, busy, a_stage, sends, told_at, changed_at};
+ghost use Rattle.nqs_types.specs.declared.edit.Edit.TheVariants.{Conf, Limits, Access, Devices, Rows};
+ghost use Rattle.nqs_types.specs.declared.edit.ConfEdit.TheVariants.{CreateBatchQueue, AddDestination, SetPriority, SetRunLimit, SetPatience, SetRetryWait};
+ghost use Rattle.nqs_types.specs.declared.edit.LimitsEdit.TheVariants.{CreateComplex, SetUserLimit, SetCpuLimit, SetComplexLimit, SetGlobalLimit};
 ghost use Rattle.nqs_types.specs.declared.edit.AccessEdit.TheVariants.{AddManager, AddOperator, AddUser};
 ghost use Rattle.nqs_types.specs.declared.edit.DevicesEdit.TheVariants.{CreateDevice};
-ghost use Rattle.nqs_types.specs.declared.refusal.Refusal.TheVariants.{TooMany, NumbersUsed, RequestExists, HostFull};
+ghost use Rattle.nqs_types.specs.declared.edit.RowsEdit.TheVariants.{MoveRequest, ModifyRequest};
+ghost use Rattle.nqs_types.specs.declared.queue.Access.TheVariants.{Users};
+ghost use Rattle.nqs_types.specs.declared.rule.Entry.TheVariants.{Direct, FromPipe};
+ghost use Rattle.nqs_types.specs.declared.tear.Tear.TheVariants.{Old, New, Mixed};
+ghost use Rattle.nqs_types.specs.declared.refusal.Refusal.TheVariants.{Disabled, PipeOnly, NoAccess, OverCpu, OverMemory, TooMany, NumbersUsed, RequestExists, HostFull};
 ghost use Rattle.nqs_types.specs.declared.request.RowState.TheVariants.{Queued, Running};
-ghost use Rattle.nqs_types.specs.declared.request.Hold.TheVariants.{User};
+ghost use Rattle.nqs_types.specs.declared.request.Hold.TheVariants.{User, System};
 ghost use Rattle.nqs_types.specs.declared.request.Phase.TheVariants.{Offered, Committed};
 ghost use Rattle.nqs_types.specs.declared.change.Change.TheVariants.{Site, Submitted, Deleted, Doomed, Started, Ended, Unlaunched, Boot, Edited, HandOpened, HandCommitted, HandRefused, HandsSilent, HandDone, Promised, Accepted, Dropped, MovedLocal, RefusedLocal, HeldFar, StageGot, StageGone, FileGone};
 ghost use Rattle.nqs_types.specs.declared.message.Body.TheVariants as body;
@@ -24,21 +28,29 @@ ghost use Rattle.nqs_rules.specs.Format.{first_queue, new_peer};
 ghost use Rattle.nqs_rules.specs.Causes.{first_refusal};
 ghost use Rattle.nqs_rules.specs.Find.{peer_number};
 ghost use Rattle.nqs_rules.specs.Path.{is_path};
-ghost use Rattle.nqs_rules.specs.Rows.{submit_causes};
-ghost use Rattle.nqs_rules.specs.Routing.{destination};
+ghost use Rattle.nqs_rules.specs.Access.{may_use};
+ghost use Rattle.nqs_rules.specs.Conf.{is_conf_within};
+ghost use Rattle.nqs_rules.specs.Limits.{over_limits, is_limits_within};
+ghost use Rattle.nqs_rules.specs.Rows.{submit_causes, is_rows_within};
+ghost use Rattle.nqs_rules.specs.Order.{is_within_limits, is_eligible};
+ghost use Rattle.nqs_rules.specs.Plain.{map_state};
+ghost use Rattle.nqs_rules.specs.InOrder.{IsInOrder, IsWholeInOrder, IsConsistent, are_parts_short};
+ghost use Rattle.nqs_rules.specs.Routing.{destination, refusal_noted};
 ghost use Rattle.nqs_rules.specs.Handover.{later, offer_causes, on_tick};
 ghost use Rattle.nqs_rules.specs.Stage.{kept_parts, on_end, on_stage};
-ghost use Rattle.nqs_rules.specs.Start.{limits_of};
+ghost use Rattle.nqs_rules.specs.Start.{limits_of, local_causes};
 ghost use Rattle.nqs_rules.specs.Applied.{applied, booted_row};
 ghost use Rattle.nqs_rules.specs.Fits.{fits};
-ghost use Rattle.nqs_rules.specs.Stepped.{makes, says, message, ready, plan_of};
+ghost use Rattle.nqs_rules.specs.Stepped.{makes, message, ready, plan_of, map_stepped};
+ghost use Rattle.nqs_rules.specs.World.{keeps_gate, is_less_id};
 ghost use Rattle.nqs_rules.specs.Measure.{starts_left};
-ghost use Rattle.nqs_rules.specs.Net.{is_table, entry_of, last_given};
+ghost use Rattle.nqs_rules.specs.Net.{is_table, entry_of, last_given, table};
 ghost use Rattle.nqs_rules.specs.Transcript.{lines, reply_text};
 ghost use Rattle.nqs_rules.specs.RowWords.{host, request, named, typed, job_of, one_host, two_hosts, bad_words};
 ghost use Rattle.nqs_rules.specs.HostRows.{request_goes_round, devices_and_forms};
 ghost use Rattle.nqs_rules.specs.NetRows.{handover, source_stops_at_commit, late_copies, site_of_two};
-ghost use Rattle.nqs_rules.specs.SmallRows.{jobs_are_told_to_end, requests_are_held_and_moved, devices_are_edited};
+ghost use Rattle.nqs_rules.specs.SmallRows.{jobs_are_told_to_end, requests_are_held_and_moved};
+ghost use Rattle.nqs_rules.specs.EditRows.{devices_are_edited};
 ghost use Rattle.nqs_rules.specs.StopRows.{outputs_are_written, rows_come_back_in_order};
 ghost use Rattle.nqs_rules.specs.SmallNetRows.{purge_keeps_what_is_active, packets_repeat_after_boots, stages_repeat, peer_is_silent, promises_count_for_a_queue};
 
@@ -59,6 +71,9 @@ pub fn numbers_end()
     ensures arrivals { map (λ n. first_refusal (submit_causes sample (record fresh { arrivals = n }))) (18446744073709551614 ∷ 18446744073709551615 ∷ []) ≡ Ok tt ∷ Err NumbersUsed ∷ [] }
     ensures offers { map (λ n. first_refusal (offer_causes (host 1) (codes "batch") far_carried (record fresh { arrivals = n }))) (18446744073709551614 ∷ 18446744073709551615 ∷ []) ≡ Ok tt ∷ Err NumbersUsed ∷ [] }
     ensures given { map (λ n. first_refusal (offer_causes (host 1) (codes "batch") (carried 5) (record fresh { seq = n }))) (4 ∷ 5 ∷ []) ≡ Err (RequestExists (named 5 (codes "alpha"))) ∷ Ok tt ∷ [] }
+    ensures full_first { first_refusal (submit_causes sample (record (crowded 9999) { seq = 4294967294 })) ≡ Err HostFull }
+    ensures moves { map (λ n. refused (Rows (MoveRequest (named 1 (codes "alpha")) (codes "link"))) (record (with_row (queued 1)) { arrivals = n; queues = first_queue ∷ record link { enabled = true } ∷ [] })) (18446744073709551614 ∷ 18446744073709551615 ∷ []) ≡ Ok tt ∷ Err NumbersUsed ∷ [] }
+    ensures local { map (λ n. first_refusal (local_causes (codes "batch") (record fresh { arrivals = n }) (queued 1))) (18446744073709551614 ∷ 18446744073709551615 ∷ []) ≡ Ok tt ∷ Err NumbersUsed ∷ [] }
     ensures sums { map (λ n. later 18446744073709551600 n) (14 ∷ 15 ∷ 16 ∷ 86400 ∷ []) ≡ 18446744073709551614 ∷ 18446744073709551615 ∷ 18446744073709551615 ∷ 18446744073709551615 ∷ [] }
 {}
 
@@ -66,6 +81,7 @@ pub fn numbers_end()
 pub fn hosts_are_full()
     ensures submissions { map (λ n. first_refusal (submit_causes sample (crowded n))) (9998 ∷ 9999 ∷ []) ≡ Ok tt ∷ Err HostFull ∷ [] }
     ensures same_peer { first_refusal (offer_causes (host 1) (codes "batch") far_carried (crowded 9999)) ≡ Ok tt }
+    ensures numbers { first_refusal (offer_causes (host 0) (codes "batch") far_carried (record (crowded 9999) { arrivals = 18446744073709551615 })) ≡ Err HostFull }
     ensures other_peer { first_refusal (offer_causes (host 0) (codes "batch") far_carried (crowded 9999)) ≡ Err HostFull }
 {}
 
@@ -75,6 +91,55 @@ pub fn destinations_are_free()
     ensures waits { map (λ n. destination link 7 (with_peer (record new_peer { wait = n })) (in_link 1)) (7 ∷ 8 ∷ []) ≡ Some 0 ∷ None ∷ [] }
     ensures hands { map (λ s. destination link 7 s (in_link 1)) (with_link ∷ on_its_way ∷ handed_over ∷ []) ≡ Some 0 ∷ None ∷ None ∷ [] }
     ensures refusals { map (λ d. destination link 7 with_link (record (in_link 1) { refused = record { dest = d; cause = 19 } ∷ [] })) (far ∷ record far { host = host 0 } ∷ []) ≡ None ∷ Some 0 ∷ [] }
+{}
+
+/// A refusal is noted, those of removed destinations go, and the system holds a request that each destination has refused.
+pub fn refusals_are_noted()
+    ensures all { refusal_noted (far ∷ []) far 19 (refused_by near 3) ≡ record (refused_by far 19) { hold = System } }
+    ensures some { refusal_noted (near ∷ far ∷ []) far 19 (in_link 1) ≡ refused_by far 19 }
+    ensures both { refusal_noted (near ∷ far ∷ []) far 19 (refused_by near 3) ≡ record (in_link 1) { refused = record { dest = near; cause = 3 } ∷ record { dest = far; cause = 19 } ∷ []; hold = System } }
+    ensures removed { refusal_noted (near ∷ []) far 19 (in_link 1) ≡ in_link 1 }
+    ensures none { refusal_noted [] far 19 (in_link 1) ≡ record (in_link 1) { hold = System } }
+{}
+
+/// What is on its way counts against the run limit of its queue and against the limit of its owner.
+pub fn limits_count_what_routes()
+    ensures queue { map (λ n. is_within_limits (record link { run_limit = n }) on_its_way) (1 ∷ 2 ∷ []) ≡ false ∷ true ∷ [] }
+    ensures owner { map (λ n. is_eligible (record link { user_limit = n; dests = near ∷ [] }) 9 (record on_its_way { rows = on_its_way.rows ++ in_link 2 ∷ [] }) (in_link 2)) (Some 1 ∷ Some 2 ∷ None ∷ []) ≡ false ∷ true ∷ true ∷ [] }
+    ensures other { is_eligible (record link { user_limit = Some 1; dests = near ∷ [] }) 9 on_its_way (record (in_link 2) { job = job_of (codes "bob") }) ≡ true }
+    ensures far { map (λ n. is_eligible (record link { dests = [] }) 9 with_link (record (in_link 2) { hops = n })) (31 ∷ 32 ∷ []) ≡ false ∷ true ∷ [] }
+{}
+
+/// The ways into a queue, and the limits of what is asked for.
+pub fn queues_let_in()
+    ensures direct { map (λ d. may_use d (codes "ann") Direct) (first_queue ∷ record first_queue { pipe_only = true } ∷ record first_queue { pipe_only = true; enabled = false } ∷ record first_queue { access = Users (codes "bob" ∷ []) } ∷ record first_queue { pipe_only = true; access = Users [] } ∷ record first_queue { access = Users (codes "bob" ∷ codes "ann" ∷ []) } ∷ [])
+        ≡ Ok tt ∷ Err (PipeOnly (codes "batch")) ∷ Err (Disabled (codes "batch")) ∷ Err (NoAccess (codes "batch")) ∷ Err (PipeOnly (codes "batch")) ∷ Ok tt ∷ [] }
+    ensures pipe { map (λ d. may_use d (codes "ann") FromPipe) (record first_queue { pipe_only = true } ∷ record first_queue { pipe_only = true; access = Users [] } ∷ []) ≡ Ok tt ∷ Err (NoAccess (codes "batch")) ∷ [] }
+    ensures limits { map (λ n. over_limits (record first_queue { limits = record { cpu = Some 5; memory = Some 7 } }) n) (record { cpu = Some 5; memory = Some 7 } ∷ record { cpu = None; memory = Some 8 } ∷ record { cpu = Some 6; memory = Some 8 } ∷ []) ≡ Ok tt ∷ Err (OverMemory (codes "batch")) ∷ Err (OverCpu (codes "batch")) ∷ [] }
+    ensures conf { map is_conf_within (SetPatience 0 ∷ SetPatience 1 ∷ SetRetryWait 86400 ∷ SetRetryWait 86401 ∷ SetPriority 63 (codes "q") ∷ SetPriority 64 (codes "q") ∷ SetRunLimit 10000 (codes "q") ∷ SetRunLimit 10001 (codes "q") ∷ CreateBatchQueue (codes "q") (Some 64) None false ∷ CreateBatchQueue (codes "q") None None false ∷ []) ≡ false ∷ true ∷ true ∷ false ∷ true ∷ false ∷ true ∷ false ∷ false ∷ true ∷ [] }
+    ensures edits { map is_limits_within (SetUserLimit (Some 10000) (codes "q") ∷ SetUserLimit (Some 10001) (codes "q") ∷ SetGlobalLimit 10001 ∷ SetCpuLimit (Some 18446744073709551615) (codes "q") ∷ SetComplexLimit 10001 (codes "c") ∷ []) ≡ true ∷ false ∷ false ∷ true ∷ false ∷ [] }
+    ensures rows { map is_rows_within (ModifyRequest (named 1 (codes "h")) 63 ∷ ModifyRequest (named 1 (codes "h")) 64 ∷ []) ≡ true ∷ false ∷ [] }
+{}
+
+/// A tear keeps a new gate by two bits of its number.
+pub fn gates_are_kept()
+    ensures { map keeps_gate (Old ∷ New ∷ Mixed 0 ∷ Mixed 1 ∷ Mixed 2 ∷ Mixed 3 ∷ Mixed 4 ∷ Mixed 5 ∷ []) ≡ false ∷ true ∷ false ∷ true ∷ false ∷ false ∷ false ∷ true ∷ [] }
+{}
+
+/// A table is by host and then by request, and the least request is by host of submission and then by number.
+pub fn requests_are_ordered()
+    ensures table { map (λ r. r.id) (table (record fresh { rows = record (queued 1) { id = request 2 1 } ∷ record (queued 2) { id = request 1 1 } ∷ queued 9 ∷ [] } ∷ with_promise ∷ with_row (queued 3) ∷ [])) ≡ request 9 0 ∷ request 1 1 ∷ request 2 1 ∷ request 3 0 ∷ [] }
+    ensures least { map (λ a. is_less_id a (request 5 1)) (request 9 0 ∷ request 4 1 ∷ request 5 1 ∷ request 1 2 ∷ []) ≡ true ∷ true ∷ false ∷ false ∷ [] }
+{}
+
+/// A host with its stored parts replaced is the same host, and a formatted one is in order.
+pub fn states_are_plain()
+    ensures state { map_state (λ b. b) busy ≡ busy }
+    ensures step { map_stepped (λ x. x.length) planned ≡ makes (Ended (request 1 0) (record { path = codes "o"; bytes = codes "ab" } ∷ record { path = codes "e"; bytes = codes "c" } ∷ [])) (ready (out.Ended (request 1 0) 1 0) ∷ (out.File 4 (codes "o") [], Some 2) ∷ (out.File 5 (codes "e") [], Some 3) ∷ []) }
+    ensures parts { map (λ n. are_parts_short (λ b. n) busy) (32768 ∷ 32769 ∷ []) ≡ true ∷ false ∷ [] }
+    ensures order { IsInOrder fresh }
+    ensures whole { IsWholeInOrder length fresh }
+    ensures consistent { IsConsistent fresh }
 {}
 
 /// An output that no number is left for is dropped.

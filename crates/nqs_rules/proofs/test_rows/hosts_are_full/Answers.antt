@@ -10,6 +10,10 @@ pub returns-clause-same_peer : goal.returns-clause-same_peer
 unfolding digits
 returns-clause-same_peer c = refl
 
+pub returns-clause-numbers : goal.returns-clause-numbers
+unfolding digits
+returns-clause-numbers c = refl
+
 pub returns-clause-other_peer : goal.returns-clause-other_peer
 unfolding digits
 returns-clause-other_peer c = refl

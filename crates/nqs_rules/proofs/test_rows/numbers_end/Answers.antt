@@ -18,6 +18,18 @@ pub returns-clause-given : goal.returns-clause-given
 unfolding digits
 returns-clause-given c = refl
 
+pub returns-clause-full_first : goal.returns-clause-full_first
+unfolding digits
+returns-clause-full_first c = refl
+
+pub returns-clause-moves : goal.returns-clause-moves
+unfolding digits
+returns-clause-moves c = refl
+
+pub returns-clause-local : goal.returns-clause-local
+unfolding digits
+returns-clause-local c = refl
+
 pub returns-clause-sums : goal.returns-clause-sums
 unfolding digits
 returns-clause-sums c = refl

@@ -1,6 +1,6 @@
 use Rattle.std.proofs.Common.{refl}
 use Rattle.std.specs.Fmt.{digits}
-use Rattle.nqs_rules.proofs.small_rows.lists_are_shown.Goals as goal
+use Rattle.nqs_rules.proofs.test_rows.gates_are_kept.Goals as goal
 
 pub returns : goal.returns
 unfolding digits

@@ -1,6 +1,6 @@
 use Rattle.std.proofs.Common.{refl}
 use Rattle.std.specs.Fmt.{digits}
-use Rattle.nqs_rules.proofs.small_rows.devices_are_edited.Goals as goal
+use Rattle.nqs_rules.proofs.edit_rows.destinations_are_edited.Goals as goal
 
 pub returns : goal.returns
 unfolding digits

@@ -1,6 +1,6 @@
 use Rattle.std.proofs.Common.{refl}
 use Rattle.std.specs.Fmt.{digits}
-use Rattle.nqs_rules.proofs.small_rows.destinations_are_edited.Goals as goal
+use Rattle.nqs_rules.proofs.edit_rows.users_are_listed.Goals as goal
 
 pub returns : goal.returns
 unfolding digits
