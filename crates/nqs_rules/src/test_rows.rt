@@ -6,7 +6,7 @@ ghost use Rattle.nqs_types.specs.declared.edit.ConfEdit.TheVariants.{CreateBatch
 ghost use Rattle.nqs_types.specs.declared.edit.LimitsEdit.TheVariants.{CreateComplex, SetUserLimit, SetCpuLimit, SetComplexLimit, SetGlobalLimit};
 ghost use Rattle.nqs_types.specs.declared.edit.AccessEdit.TheVariants.{AddManager, AddOperator, AddUser};
 ghost use Rattle.nqs_types.specs.declared.edit.DevicesEdit.TheVariants.{CreateDevice};
-ghost use Rattle.nqs_types.specs.declared.edit.RowsEdit.TheVariants.{MoveRequest, ModifyRequest};
+ghost use Rattle.nqs_types.specs.declared.edit.RowsEdit.TheVariants.{HoldRequest, ReleaseRequest, MoveRequest, ModifyRequest};
 ghost use Rattle.nqs_types.specs.declared.queue.Access.TheVariants.{Users};
 ghost use Rattle.nqs_types.specs.declared.rule.Entry.TheVariants.{Direct, FromPipe};
 ghost use Rattle.nqs_types.specs.declared.tear.Tear.TheVariants.{Old, New, Mixed};
@@ -100,6 +100,20 @@ pub fn refusals_are_noted()
     ensures both { refusal_noted (near ∷ far ∷ []) far 19 (refused_by near 3) ≡ record (in_link 1) { refused = record { dest = near; cause = 3 } ∷ record { dest = far; cause = 19 } ∷ []; hold = System } }
     ensures removed { refusal_noted (near ∷ []) far 19 (in_link 1) ≡ in_link 1 }
     ensures none { refusal_noted [] far 19 (in_link 1) ≡ record (in_link 1) { hold = System } }
+{}
+
+/// What changes of one row leave of it.
+pub fn rows_are_changed()
+    ensures release { (applied (Edited (Rows (ReleaseRequest (named 1 (codes "alpha"))))) (with_row (record (refused_by far 3) { hold = System; hops = 32 }))).rows ≡ in_link 1 ∷ [] }
+    ensures moved { (applied (Edited (Rows (MoveRequest (named 1 (codes "alpha")) (codes "batch")))) (with_row (record (refused_by far 3) { hold = User; hops = 5 }))).rows ≡ record (queued 1) { hold = User; arrival = 10 } ∷ [] }
+    ensures local { (applied (MovedLocal (request 1 0) (codes "batch")) (with_row (record (refused_by far 3) { hops = 5 }))).rows ≡ record (queued 1) { arrival = 10; hops = 6 } ∷ [] }
+    ensures arrivals { (applied (MovedLocal (request 1 0) (codes "batch")) (with_row (queued 1))).arrivals ≡ 10 }
+    ensures hold { (applied (Edited (Rows (HoldRequest (named 1 (codes "alpha"))))) (with_row (queued 1))).rows ≡ record (queued 1) { hold = User } ∷ [] }
+    ensures far { (applied (HeldFar (request 1 0)) (with_row (queued 1))).rows ≡ record (queued 1) { hold = System } ∷ [] }
+    ensures start { (applied (Started (request 1 0) (Some (codes "laser"))) (with_row (queued 1))).rows ≡ record (running 1) { device = Some (codes "laser") } ∷ [] }
+    ensures doom { (applied (Doomed (request 1 0)) (with_row (running 1))).rows ≡ record (running 1) { doomed = true } ∷ [] }
+    ensures refused { (applied (HandRefused (host 1) 1 19) on_its_way).rows ≡ record (refused_by far 19) { hold = System } ∷ [] }
+    ensures next { map (λ p. p.next) on_its_way.peers ≡ 1 ∷ 2 ∷ [] }
 {}
 
 /// What is on its way counts against the run limit of its queue and against the limit of its owner.
