@@ -1,4 +1,4 @@
--- What holds of a host's state at every moment.
+-- What a host's state in order is, and what besides holds of it at every moment.
 use Rattle.std.specs.Prelude.{◌≡◌, ℕ, ◌+◌, Bool, true, not, ◌&&◌, ◌||◌, ◌==◌, nat_lt, nat_le, if◌then◌else◌, List, [], ◌∷◌, ◌++◌, map, filter, length, Option, None, Some}
 use Rattle.std.specs.List.{list_any, list_all}
 use Rattle.nqs_types.specs.Ids.{name_eq, id_eq, peer_number_eq, hand_key, promise_key, stage_key}
@@ -6,12 +6,14 @@ use Rattle.nqs_types.specs.State.{State}
 use Rattle.nqs_rules.specs.Tests.{passes, is_running, is_routing, is_queued, is_unheld, is_offered, same_host, last_u64, last_seq}
 use Rattle.nqs_rules.specs.Find.{has_queue, has_device, find_row, find_peer, held_count}
 use Rattle.nqs_rules.specs.Conf.{is_wait, at_most}
+use Rattle.nqs_rules.specs.Path.{is_path}
 use Rattle.nqs_rules.specs.Routing.{is_closed}
 use Rattle.nqs_rules.specs.Applied.{is_offered_for}
 use Rattle.nqs_rules.specs.Fits.{is_site_host, is_offered_hand}
 use Rattle.nqs_types.specs.declared.ids.HostId.{HostId}
 use Rattle.nqs_types.specs.declared.ids.RequestId.{RequestId}
 use Rattle.nqs_types.specs.declared.ids.Dest.{Dest}
+use Rattle.nqs_types.specs.declared.request.Job.{Job}
 use Rattle.nqs_types.specs.declared.request.Refused.{Refused}
 use Rattle.nqs_types.specs.declared.request.Row.{Row}
 use Rattle.nqs_types.specs.declared.request.Hand.{Hand}
@@ -52,6 +54,10 @@ is_stage_given number p = is_given number p.stage_next
 abbrev pub is_promise_open : ℕ → Peer → Bool
 is_promise_open number p = not (is_closed number p)
 
+-- a job's priority and the paths of its outputs are within their limits
+abbrev pub is_job_right : Job → Bool
+is_job_right j = nat_le j.priority 63 && is_path j.out && is_path j.err
+
 module _ {E : Type 0} where
   -- names are there
 
@@ -73,9 +79,13 @@ module _ {E : Type 0} where
   abbrev pub is_complex_right : State E → ComplexDef → Bool
   is_complex_right s c = nat_le c.limit 10000 && list_all (λ q. has_queue q s) c.queues
 
-  -- the request's host is of the site, and its number was given if it is of this host
+  -- the request's host is of the site, and its number one that a host may give
   abbrev pub is_id_right : State E → RequestId → Bool
-  is_id_right s id = is_site_host id.host s && (not (same_host s.me id.host) || nat_le id.seq s.seq)
+  is_id_right s id = is_site_host id.host s && nat_le 1 id.seq && nat_le id.seq last_seq
+
+  -- the request's number was given, if it is of this host
+  abbrev pub is_id_given : State E → RequestId → Bool
+  is_id_given s id = not (same_host s.me id.host) || nat_le id.seq s.seq
 
   abbrev pub is_device_there : Option (List ℕ) → State E → Bool
   is_device_there None s = true
@@ -84,24 +94,21 @@ module _ {E : Type 0} where
   abbrev pub has_no_device : Row E → Bool
   has_no_device r = not (passes (λ _. true) r.device)
 
-  -- One start more than losses where it runs, and else as many. Only a running row is doomed or names a device, only a queued one is held.
+  -- One start more than losses where it runs, and else as many. Only a running row names a device.
   abbrev pub is_count_right : Row E → Bool
-  is_count_right r = if is_running r.state then r.starts == r.lost + 1 else r.starts == r.lost && has_no_device r && not r.doomed
-
-  abbrev pub is_hold_right : Row E → Bool
-  is_hold_right r = is_queued r.state || is_unheld r.hold
+  is_count_right r = if is_running r.state then r.starts == r.lost + 1 else r.starts == r.lost && has_no_device r
 
   abbrev pub is_hop_right : Row E → Bool
   is_hop_right r = if is_routing r.state then nat_lt r.hops 32 else nat_le r.hops 32
 
   abbrev pub is_row_right : State E → Row E → Bool
   is_row_right s r =
-      is_id_right s r.id && has_queue r.queue s && is_device_there r.device s && list_all (is_refused_right s) r.refused && nat_le r.job.priority 63
-      && nat_le r.arrival s.arrivals && nat_lt r.lost 65535 && is_count_right r && is_hold_right r && is_hop_right r
+      is_id_right s r.id && is_id_given s r.id && is_job_right r.job && has_queue r.queue s && is_device_there r.device s && list_all (is_refused_right s) r.refused
+      && nat_le r.arrival s.arrivals && nat_lt r.lost 65535 && is_count_right r && is_hop_right r
 
-  -- a promise's row is queued and not held, its number isn't closed
+  -- a promise's row is queued, its number isn't closed
   abbrev pub is_promise_right : State E → Promise E → Bool
-  is_promise_right s p = is_row_right s p.row && is_queued p.row.state && is_unheld p.row.hold && nat_le 1 p.number && passes (is_promise_open p.number) (find_peer p.peer s)
+  is_promise_right s p = is_row_right s p.row && is_queued p.row.state && nat_le 1 p.number && passes (is_promise_open p.number) (find_peer p.peer s)
 
   abbrev pub is_routing_row : Row E → Bool
   is_routing_row r = is_routing r.state
@@ -110,15 +117,11 @@ module _ {E : Type 0} where
   abbrev pub is_hand_right : State E → Hand → Bool
   is_hand_right s h = is_id_right s h.id && passes (is_hand_given h.number) (find_peer h.peer s) && (not (is_offered h.phase) || passes is_routing_row (find_row h.id s))
 
-  -- and a routing row has an offered hand
-  abbrev pub has_hand : State E → Row E → Bool
-  has_hand s r = not (is_routing r.state) || list_any (is_offered_for r.id) s.hands
-
   abbrev pub is_stage_right : State E → Stage E → Bool
-  is_stage_right s t = passes (is_stage_given t.number) (find_peer t.peer s)
+  is_stage_right s t = is_path t.path && passes (is_stage_given t.number) (find_peer t.peer s)
 
   abbrev pub is_file_right : State E → FileOut E → Bool
-  is_file_right s f = is_given f.number s.file_next
+  is_file_right s f = is_path f.path && is_given f.number s.file_next
 
   abbrev pub are_keys_distinct : State E → Bool
   are_keys_distinct s =
@@ -136,6 +139,13 @@ module _ {E : Type 0} where
   abbrev pub hands_to : HostId → State E → List Hand
   hands_to peer s = filter (λ h. same_host peer h.peer) s.hands
 
+  -- at most eight hands go where this one goes
+  abbrev pub has_few_hands : State E → Hand → Bool
+  has_few_hands s h = nat_le (length (hands_to h.peer s)) 8
+
+  abbrev pub promisers : State E → List HostId
+  promisers s = map (λ p. p.peer) s.promises
+
   -- 1 to 16 hosts, this one among them, and what is known of each
   abbrev pub is_site_right : State E → Bool
   is_site_right s = nat_le 1 (length s.site) && nat_le (length s.site) 16 && is_site_host s.me s && length s.peers == length s.site
@@ -150,7 +160,7 @@ module _ {E : Type 0} where
       nat_le s.global_limit 10000 && is_wait s.patience && is_wait s.retry_wait && nat_le s.seq last_seq && nat_le s.arrivals last_u64
       && nat_le 1 s.file_next && nat_le s.file_next last_u64 && is_default_there s.default_queue s
 
-  -- what a state in order is
+  -- what a state in order is, but for the lengths of its stored parts
   pub record IsInOrder (s : State E) : Type 0 where
     pub site : is_site_right s ≡ true
     pub parameters : are_parameters_right s ≡ true
@@ -161,9 +171,50 @@ module _ {E : Type 0} where
     pub complexes : list_all (is_complex_right s) s.complexes ≡ true
     pub rows : list_all (is_row_right s) s.rows ≡ true
     pub promises : list_all (is_promise_right s) s.promises ≡ true
+    pub promisers : are_distinct same_host (promisers s) ≡ true
     pub hands : list_all (is_hand_right s) s.hands ≡ true
+    pub few : list_all (has_few_hands s) s.hands ≡ true
     pub offers : are_distinct id_eq (offered_ids s) ≡ true
-    pub routing : list_all (has_hand s) s.rows ≡ true
     pub peers : list_all is_peer_right s.peers ≡ true
     pub stages : list_all (is_stage_right s) s.stages ≡ true
     pub files : list_all (is_file_right s) s.files ≡ true
+
+module _ {E : Type 0} (size : E → ℕ) where
+  -- each stored script and output is at most 32,768 bytes long
+  abbrev pub are_parts_short : State E → Bool
+  are_parts_short s =
+      list_all (λ r. nat_le (size r.script) 32768) s.rows && list_all (λ p. nat_le (size p.row.script) 32768) s.promises
+      && list_all (λ t. nat_le (size t.bytes) 32768) s.stages && list_all (λ f. nat_le (size f.bytes) 32768) s.files
+
+  -- what a state in order is, where size gives the length of a stored part
+  pub record IsWholeInOrder (s : State E) : Type 0 where
+    pub order : IsInOrder s
+    pub parts : are_parts_short s ≡ true
+
+-- what besides holds of a host at every moment, and what the network's law stands on
+
+module _ {E : Type 0} where
+  -- only a running row is doomed
+  abbrev pub is_doom_right : Row E → Bool
+  is_doom_right r = is_running r.state || not r.doomed
+
+  -- only a queued row is held
+  abbrev pub is_hold_right : Row E → Bool
+  is_hold_right r = is_queued r.state || is_unheld r.hold
+
+  -- a routing row has an offered hand
+  abbrev pub has_hand : State E → Row E → Bool
+  has_hand s r = not (is_routing r.state) || list_any (is_offered_for r.id) s.hands
+
+  abbrev pub is_promise_free : Promise E → Bool
+  is_promise_free p = is_unheld p.row.hold && not p.row.doomed
+
+  abbrev pub is_hand_of_given : State E → Hand → Bool
+  is_hand_of_given s h = is_id_given s h.id
+
+  pub record IsConsistent (s : State E) : Type 0 where
+    pub doomed : list_all is_doom_right s.rows ≡ true
+    pub held : list_all is_hold_right s.rows ≡ true
+    pub routing : list_all (has_hand s) s.rows ≡ true
+    pub promises : list_all is_promise_free s.promises ≡ true
+    pub given : list_all (is_hand_of_given s) s.hands ≡ true

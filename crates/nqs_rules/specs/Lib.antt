@@ -13,6 +13,7 @@ pub mod Rows
 pub mod Order
 pub mod Applied
 pub mod Fits
+pub mod Path
 pub mod InOrder
 pub mod Stepped
 pub mod Handover
@@ -29,3 +30,8 @@ pub mod RowWords
 pub mod HostRows
 pub mod NetRows
 pub mod Licence
+pub mod EditRows
+pub mod SmallRows
+pub mod StopRows
+pub mod SmallNetRows
+pub mod TestRows

@@ -1,5 +1,5 @@
 -- Words for schedules.
-use Rattle.std.specs.Prelude.{ℕ, true, false, List, [], ◌∷◌, map, flat_map, codes, Option, None}
+use Rattle.std.specs.Prelude.{ℕ, true, false, List, [], ◌∷◌, map, flat_map, codes, Option, None, Some}
 use Rattle.nqs_rules.specs.Format.{no_limits}
 use Rattle.nqs_rules.specs.World.{Act, Asks, Fuse, Boots, Shows}
 use Rattle.nqs_rules.specs.Run.{run_of}
@@ -10,11 +10,13 @@ use Rattle.nqs_types.specs.declared.ids.Named.{Named}
 use Rattle.nqs_types.specs.declared.ids.NamedDest.{NamedDest}
 use Rattle.nqs_types.specs.declared.request.Job.{Job}
 use Rattle.nqs_types.specs.declared.fault.WordsCause.{WordsCause}
+use Rattle.nqs_types.specs.declared.fault.WordsFault.{WordsFault}
 use Rattle.nqs_types.specs.declared.tear.Tear.{Tear}
 use Rattle.nqs_types.specs.declared.tear.Tear.TheVariants.{Old, New, Mixed}
 use Rattle.nqs_types.specs.declared.world.Which.{Which}
 use Rattle.nqs_types.specs.declared.event.Command.{Command}
-use Rattle.nqs_types.specs.declared.event.Command.TheVariants.{Submit, UnreadWords}
+use Rattle.nqs_types.specs.declared.event.Command.TheVariants.{Submit, Edit as EditOf, UnreadWords}
+use Rattle.nqs_types.specs.declared.edit.Edit.{Edit}
 
 abbrev pub host : ℕ → HostId
 host place = record { 0 = place }
@@ -46,11 +48,25 @@ job_of owner = record {
 abbrev pub submission : Option (List ℕ) → Job → List ℕ → Command
 submission queue job script = Submit (record { queue = queue; job = job; script = script })
 
+abbrev pub bad_words : WordsCause → ℕ → ℕ → WordsFault
+bad_words cause line word = record { cause = cause; line = line; word = word }
+
 abbrev pub unread_words : WordsCause → ℕ → ℕ → Command
-unread_words cause line word = UnreadWords (record { cause = cause; line = line; word = word })
+unread_words cause line word = UnreadWords (bad_words cause line word)
 
 abbrev pub one_host : List (List ℕ)
 one_host = codes "alpha" ∷ []
+
+abbrev pub two_hosts : List (List ℕ)
+two_hosts = codes "alpha" ∷ codes "beta" ∷ []
+
+-- an edit by root on the first host
+abbrev pub edits : Edit → Act
+edits e = Asks (host 0) (codes "root") (EditOf e)
+
+-- a submission on the first host, to a queue
+abbrev pub submits : List ℕ → List ℕ → Act
+submits user queue = Asks (host 0) user (submission (Some queue) (job_of user) [])
 
 -- the transcript of a run of a new network
 abbrev pub told : List (List ℕ) → List Act → List ℕ

@@ -1,0 +1,23 @@
+use Rattle.std.proofs.Common.{refl}
+use Rattle.std.specs.Fmt.{digits}
+use Rattle.nqs_rules.proofs.test_rows.states_are_in_order.Goals as goal
+
+pub returns-clause-one : goal.returns-clause-one
+unfolding digits
+returns-clause-one c = refl
+
+pub returns-clause-two : goal.returns-clause-two
+unfolding digits
+returns-clause-two c = refl
+
+pub returns-clause-sites : goal.returns-clause-sites
+unfolding digits
+returns-clause-sites c = refl
+
+pub returns-clause-right : goal.returns-clause-right
+unfolding digits
+returns-clause-right c = refl
+
+pub returns-clause-wrong : goal.returns-clause-wrong
+unfolding digits
+returns-clause-wrong c = refl
