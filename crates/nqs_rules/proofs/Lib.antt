@@ -1,0 +1,9 @@
+pub mod ListMaps
+pub mod PlainLemmas
+pub mod FoundPlain
+pub mod FitsPlain
+pub mod TextPlain
+pub mod OutputsPlain
+pub mod MessagesPlain
+pub mod StepPlain
+pub mod StartPlain

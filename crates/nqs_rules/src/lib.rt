@@ -3,4 +3,6 @@
 #![tactic(auto)]
 
 pub mod host_rows;
+pub mod laws;
 pub mod net_rows;
+pub mod start_laws;
