@@ -7,3 +7,4 @@ pub mod OutputsPlain
 pub mod MessagesPlain
 pub mod StepPlain
 pub mod StartPlain
+pub mod FilledLemmas
