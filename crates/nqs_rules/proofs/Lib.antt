@@ -8,3 +8,4 @@ pub mod MessagesPlain
 pub mod StepPlain
 pub mod StartPlain
 pub mod FilledLemmas
+pub mod BestLaws

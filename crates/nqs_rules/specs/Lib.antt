@@ -15,6 +15,7 @@ pub mod Applied
 pub mod Fits
 pub mod InOrder
 pub mod Stepped
+pub mod Picked
 pub mod Filled
 pub mod Handover
 pub mod Stage
