@@ -9,3 +9,5 @@ pub mod StepPlain
 pub mod StartPlain
 pub mod FilledLemmas
 pub mod BestLaws
+pub mod PickLaws
+pub mod ListFacts

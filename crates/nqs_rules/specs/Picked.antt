@@ -2,7 +2,7 @@
 use Rattle.std.specs.Prelude.{◌≡◌, ℕ, ◌<◌, Bool, true, false, ◌&&◌, List, slice_get, Some}
 use Rattle.std.specs.List.{list_any}
 use Rattle.nqs_types.specs.State.{Plain}
-use Rattle.nqs_rules.specs.Order.{is_greater, is_within_limits, is_eligible, comes_before}
+use Rattle.nqs_rules.specs.Order.{is_greater, is_within_limits, is_eligible, comes_before, choice_for}
 use Rattle.nqs_types.specs.declared.request.Row.{Row}
 use Rattle.nqs_types.specs.declared.queue.QueueDef.{QueueDef}
 use Rattle.nqs_types.specs.declared.rule.Choice.{Choice}
@@ -40,10 +40,11 @@ row_place (TooFar row) = row
 row_place (Local row _) = row
 row_place (Hand row _) = row
 
--- a choice starts the first row of the next queue
+-- a choice starts the first row of the next queue, in the way of that queue's kind
 pub record IsPicked (now : ℕ) (s : Plain) (c : Choice) : Type 0 where
   pub queue_place : ℕ
   pub queue : QueueDef
   pub row : PlainRow
   pub next : IsNextQueue now s queue_place queue
   pub first : IsFirstRow queue now s (row_place c) row
+  pub way : choice_for queue.kind queue now s (row_place c) row ≡ Some c
