@@ -11,3 +11,4 @@ pub mod FilledLemmas
 pub mod BestLaws
 pub mod PickLaws
 pub mod ListFacts
+pub mod StartIs
