@@ -12,3 +12,4 @@ pub mod BestLaws
 pub mod PickLaws
 pub mod ListFacts
 pub mod StartIs
+pub mod Lowers
