@@ -13,3 +13,4 @@ pub mod PickLaws
 pub mod ListFacts
 pub mod StartIs
 pub mod Lowers
+pub mod Until

@@ -29,6 +29,10 @@ module _ {V : Type 0} where
       by true all rest h = ap p (sym (same_Some x v h)) ∙ all.0
       by false all rest h = rest all.1 h
 
+  pub list_all-weaker : (p q : V → Bool) → ((v : V) → p v ≡ true → q v ≡ true) → (vs : List V) → list_all p vs ≡ true → list_all q vs ≡ true
+  list_all-weaker p q h [] all = refl
+  list_all-weaker p q h (v ∷ vs) all = let parts : (p v ≡ true) × (list_all p vs ≡ true) = and_parts (p v) (list_all p vs) all in and_from (q v) (list_all q vs) (h v parts.0) (list_all-weaker p q h vs parts.1)
+
   pub list_all-changed : (p test : V → Bool) (g : V → V) (vs : List V) → list_all p vs ≡ true → ((v : V) → find test vs ≡ Some v → p (g v) ≡ true) → list_all p (change_first test g vs) ≡ true
   list_all-changed p test g [] all h = refl
   list_all-changed p test g (x ∷ vs) all h = by (test x) (and_parts (p x) (list_all p vs) all) (list_all-changed p test g vs) h

@@ -72,7 +72,7 @@ module _ (s : Plain) (steady : IsSteady s) where
       let ds = dests_for r s in
       omega (arith, length-filter (λ d. not (was_refused d r.refused)) ds, count_by-le-length (λ d. not (was_refused d r.refused)) ds, few_dests r.queue)
 
-  few_starts : (r : PlainRow) → starts_of s r ≤ 577
+  pub few_starts : (r : PlainRow) → starts_of s r ≤ 577
   few_starts r = by (is_ready r)
     where
       by : (b : Bool) → (if b then (33 - r.hops) * 17 + length (untried r s) else 0) ≤ 577

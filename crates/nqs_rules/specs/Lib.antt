@@ -23,6 +23,7 @@ pub mod Start
 pub mod Text
 pub mod Step
 pub mod Measure
+pub mod Starts
 pub mod World
 pub mod Net
 pub mod Run
