@@ -1,5 +1,5 @@
 -- Whether a change fits a state looks neither at the stored parts of the one nor of the other.
-use Rattle.std.proofs.Common.{◌≡◌, ℕ, Bool, not, ◌&&◌, ◌||◌, nat_lt, nat_le, List, [], ◌∷◌, Option, None, Some, is_ok, refl, ap, ◌∙◌}
+use Rattle.std.proofs.Common.{◌≡◌, ℕ, not, ◌&&◌, ◌||◌, nat_lt, nat_le, List, [], ◌∷◌, Option, None, Some, is_ok, refl, ap}
 use Rattle.std.specs.List.{list_any}
 use Rattle.nqs_types.specs.State.{State}
 use Rattle.nqs_types.specs.declared.change.Change.{Change}
@@ -18,8 +18,8 @@ use Rattle.nqs_types.specs.declared.edit.RowsEdit.{RowsEdit}
 use Rattle.nqs_types.specs.declared.edit.RowsEdit.TheVariants.{AbortQueue, HoldRequest, ReleaseRequest, MoveRequest, ModifyRequest}
 use Rattle.nqs_types.specs.declared.refusal.Refusal.TheVariants.{NoQueue, QueueInUse, NoDevice, DeviceBusy}
 use Rattle.nqs_rules.specs.Tests.{passes, is_ready, same_host, last_seq}
-use Rattle.nqs_rules.specs.Causes.{Cause, cause, first_refusal}
-use Rattle.nqs_rules.specs.Find.{peer_number, has_queue, has_device, find_peer}
+use Rattle.nqs_rules.specs.Causes.{cause, first_refusal}
+use Rattle.nqs_rules.specs.Find.{has_queue, has_device, find_peer}
 use Rattle.nqs_rules.specs.Access.{access_causes}
 use Rattle.nqs_rules.specs.Conf.{conf_causes}
 use Rattle.nqs_rules.specs.Limits.{limits_causes}
@@ -27,7 +27,7 @@ use Rattle.nqs_rules.specs.Devices.{devices_causes}
 use Rattle.nqs_rules.specs.Rows.{hold_causes, release_causes, move_causes, idle_causes, rows_causes, arrivals_used}
 use Rattle.nqs_rules.specs.Routing.{is_hand_to}
 use Rattle.nqs_rules.specs.Fits.{is_idle, runs, may_hop, is_next, is_open_number, is_site_host, device_fits, edit_causes, fits}
-use Rattle.nqs_rules.specs.Plain.{map_row, map_state}
+use Rattle.nqs_rules.specs.Plain.{map_state}
 use Rattle.nqs_rules.specs.Stepped.{map_change}
 use Rattle.nqs_rules.proofs.FoundPlain.{row_passes-map, has_row-map, has_promise-map, has_stage-map, has_file-map, held_count-map, held_in-map, offered_count-map, is_busy-map, named_causes-map}
 

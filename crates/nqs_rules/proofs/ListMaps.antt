@@ -1,5 +1,5 @@
 -- Lists over a map: what a test finds among images is the image of what it finds.
-use Rattle.std.proofs.Common.{◌≡◌, ℕ, ◌+◌, Bool, true, false, cond, ◌||◌, List, [], ◌∷◌, map, filter, find, length, position, sum, flat_map, ◌++◌, Option, None, Some, option_map, refl, sym, ap, ◌∙◌, if◌then◌else◌}
+use Rattle.std.proofs.Common.{◌≡◌, ℕ, ◌+◌, Bool, true, false, cond, ◌||◌, List, [], ◌∷◌, map, filter, find, length, flat_map, ◌++◌, Option, None, Some, option_map, refl, sym, ap, ◌∙◌, if◌then◌else◌}
 use Rattle.std.proofs.lemmas.List.{length-map, map-append}
 use Rattle.std.specs.List.{filter_map, cons_option, list_any}
 use Rattle.nqs_types.specs.Table.{change_first, without_first, better, best_from}

@@ -1,5 +1,5 @@
 -- Each start lowers the number of starts that there may still be, and leaves what the starts rest on.
-use Rattle.std.proofs.Common.{◌≡◌, ℕ, ◌+◌, ◌-◌, ◌*◌, ◌<◌, ◌≤◌, Bool, true, false, not, ◌&&◌, ◌||◌, ◌==◌, nat_lt, nat_le, List, [], ◌∷◌, ◌++◌, map, filter, find, slice_get, length, sum, Option, None, Some, true≢false, zero, suc, refl, sym, ap, subst, ◌∙◌, arith, if◌then◌else◌}
+use Rattle.std.proofs.Common.{◌≡◌, ℕ, ◌+◌, ◌-◌, ◌*◌, ◌<◌, ◌≤◌, Bool, true, false, not, ◌||◌, nat_lt, nat_le, List, [], ◌∷◌, ◌++◌, map, filter, find, slice_get, length, sum, Option, None, Some, zero, suc, refl, sym, ap, subst, ◌∙◌, arith, if◌then◌else◌}
 use Rattle.std.proofs.lemmas.Bool.{and_parts, and_from, and_right, or_parts, or_left, or_right, eqb-true, not_from_true, not_from_false}
 use Rattle.std.proofs.lemmas.Bool.Decides.{nat_tests}
 use Rattle.std.proofs.lemmas.Option.{same_Some, none-some}
@@ -9,25 +9,24 @@ use Rattle.std.proofs.lemmas.List.Sums.{length-filter, count_by-le-length}
 use Rattle.std.proofs.lemmas.Map.Views.{any-filter_same}
 use Rattle.std.specs.List.{list_any, list_all}
 use Rattle.nqs_types.specs.Ids.{name_eq, id_eq, name_exact}
-use Rattle.nqs_types.specs.State.{State, Plain}
+use Rattle.nqs_types.specs.State.{Plain}
 use Rattle.nqs_types.specs.Table.{change_first}
 use Rattle.nqs_types.specs.Keys.{is_row, is_queue}
 use Rattle.nqs_types.specs.declared.ids.RequestId.{RequestId}
 use Rattle.nqs_types.specs.declared.ids.Dest.{Dest}
 use Rattle.nqs_types.specs.declared.request.Refused.{Refused}
-use Rattle.nqs_types.specs.declared.request.RowState.{RowState}
 use Rattle.nqs_types.specs.declared.request.Hold.TheVariants.{System}
 use Rattle.nqs_types.specs.declared.queue.QueueDef.{QueueDef}
 use Rattle.nqs_types.specs.declared.change.Change.{Change}
 use Rattle.nqs_types.specs.declared.change.Change.TheVariants.{Started, HandOpened, MovedLocal, RefusedLocal, HeldFar, Boot}
-use Rattle.nqs_rules.specs.Tests.{is_ready, is_queued, is_unheld, is_routing, same_dest, same_host}
-use Rattle.nqs_rules.specs.Find.{find_row, find_queue}
-use Rattle.nqs_rules.specs.Routing.{refuses, was_refused, dests_of, is_present, with_refusal, all_refused, held_where, refusal_noted, dests_for}
+use Rattle.nqs_rules.specs.Tests.{is_ready, is_queued, same_dest, same_host}
+use Rattle.nqs_rules.specs.Find.{find_row}
+use Rattle.nqs_rules.specs.Routing.{refuses, was_refused, dests_of, is_present, with_refusal, all_refused, held_where, dests_for}
 use Rattle.nqs_rules.specs.Applied.{started_row, routing_row, held_far, moved_local, local_refused, applied}
 use Rattle.nqs_rules.specs.Measure.{untried, starts_of, starts_left}
 use Rattle.nqs_rules.specs.InOrder.{are_distinct}
 use Rattle.nqs_rules.specs.Picked.{PlainRow}
-use Rattle.nqs_rules.proofs.ListFacts.{not_true, list_all-found, list_all-changed, map-changed, sum-changed, filter_fewer, filter_less}
+use Rattle.nqs_rules.proofs.ListFacts.{not_true, list_all-found, list_all-changed, map-changed, sum-changed, filter_less}
 use Rattle.nqs_rules.proofs.StartIs.{IsSteady, IsUntried, StartsRow}
 
 -- destinations are alike where they are the same

@@ -1,5 +1,5 @@
 -- What a host does at a message looks at no stored part.
-use Rattle.std.proofs.Common.{◌≡◌, ℕ, ◌+◌, Bool, true, false, not, ◌&&◌, ◌||◌, nat_lt, nat_le, List, [], ◌∷◌, ◌++◌, find, Option, None, Some, Result, Ok, Err, option_map, refl, sym, ap, ◌∙◌, if◌then◌else◌}
+use Rattle.std.proofs.Common.{◌≡◌, ℕ, Bool, not, ◌||◌, nat_le, List, [], ◌∷◌, ◌++◌, Option, None, Some, Result, Ok, Err, refl, sym, ap, ◌∙◌, if◌then◌else◌}
 use Rattle.std.specs.List.{list_any}
 use Rattle.nqs_types.specs.State.{State}
 use Rattle.nqs_types.specs.Table.{without_first}
@@ -18,9 +18,9 @@ use Rattle.nqs_rules.specs.Tests.{passes}
 use Rattle.nqs_rules.specs.Causes.{cause, first_refusal}
 use Rattle.nqs_rules.specs.Find.{peer_number, has_queue, find_queue, has_promise, has_stage, find_hand, find_peer}
 use Rattle.nqs_rules.specs.Rows.{causes_of, arrivals_used}
-use Rattle.nqs_rules.specs.Stepped.{Stepped, map_pending, map_stepped, quiet, says, makes}
-use Rattle.nqs_rules.specs.Handover.{closes, was_given, is_given_here, named_of, offer_entry_causes, offer_causes, offer_by, on_offer, send_done, send_ready, send_abort, ready_phase, ready_without, ready_with, on_ready, refused_phase, refused_with, on_refused, commit_without, on_commit, done_phase, done_with, on_done, on_abort}
-use Rattle.nqs_rules.specs.Stage.{has_left, send_staged, is_got, stage_taken, on_stage, due_of, on_staged, on_written}
+use Rattle.nqs_rules.specs.Stepped.{Stepped, map_stepped, quiet, says, makes}
+use Rattle.nqs_rules.specs.Handover.{closes, was_given, is_given_here, named_of, offer_entry_causes, offer_causes, offer_by, on_offer, send_done, send_ready, ready_phase, ready_with, on_ready, refused_phase, refused_with, on_refused, commit_without, on_commit, done_phase, done_with, on_done, on_abort}
+use Rattle.nqs_rules.specs.Stage.{has_left, is_got, on_stage, due_of, on_staged, on_written}
 use Rattle.nqs_rules.specs.Step.{on_message}
 use Rattle.nqs_rules.specs.Plain.{map_stage, map_state}
 use Rattle.nqs_rules.proofs.ListMaps.{if-map, map-without_first}

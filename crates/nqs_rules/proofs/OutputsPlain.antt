@@ -1,12 +1,10 @@
 -- What goes out of a state and of what it is mapped to: stored parts go out mapped, and nothing else differs.
-use Rattle.std.proofs.Common.{◌≡◌, ℕ, ◌+◌, Bool, true, false, not, ◌&&◌, List, [], ◌∷◌, ◌++◌, map, filter, flat_map, Option, None, Some, option_map, refl, sym, ap, ◌∙◌, if◌then◌else◌}
+use Rattle.std.proofs.Common.{◌≡◌, ℕ, ◌+◌, List, [], ◌∷◌, ◌++◌, map, Option, None, Some, option_map, refl, sym, ap, ◌∙◌, if◌then◌else◌}
 use Rattle.std.proofs.lemmas.List.{map-append}
 use Rattle.nqs_types.specs.State.{State}
-use Rattle.nqs_types.specs.Table.{best_from, without_first}
-use Rattle.nqs_types.specs.Keys.{is_stage}
+use Rattle.nqs_types.specs.Table.{best_from}
 use Rattle.nqs_types.specs.declared.ids.HostId.{HostId}
 use Rattle.nqs_types.specs.declared.ids.RequestId.{RequestId}
-use Rattle.nqs_types.specs.declared.ids.PeerNumber.{PeerNumber}
 use Rattle.nqs_types.specs.declared.request.Row.{Row}
 use Rattle.nqs_types.specs.declared.request.Hand.{Hand}
 use Rattle.nqs_types.specs.declared.request.Phase.{Phase}
@@ -14,12 +12,12 @@ use Rattle.nqs_types.specs.declared.request.Phase.TheVariants.{Offered, Committe
 use Rattle.nqs_types.specs.declared.request.Stage.{Stage}
 use Rattle.nqs_types.specs.declared.event.Output.TheVariants as out
 use Rattle.nqs_rules.specs.Find.{find_row, host_at}
-use Rattle.nqs_rules.specs.Stepped.{Stepped, Pending, map_pending, map_stepped}
+use Rattle.nqs_rules.specs.Stepped.{Pending, map_pending, map_stepped}
 use Rattle.nqs_rules.specs.Handover.{is_silent, repeat_offer, repeat_phase, repeat_hand, repeated_hands, send_inquire, inquiries, silence, silent_hands, on_tick}
 use Rattle.nqs_rules.specs.Stage.{Part, goes_here, files_written, is_stage_to, has_stage_to, stage_sent, stage_due, parts_sent, first_number, kept_parts, is_earlier_stage, send_stage, due_of, file_again, stages_from, due_outputs, on_end}
 use Rattle.nqs_rules.specs.Step.{ticked}
 use Rattle.nqs_rules.specs.Plain.{map_row, map_promise, map_stage, map_file, map_state}
-use Rattle.nqs_rules.proofs.ListMaps.{if-map, map-mapped, map-flat_map, map-without_first, list_any-map, best_from-map, at_place}
+use Rattle.nqs_rules.proofs.ListMaps.{if-map, map-mapped, map-flat_map, list_any-map, best_from-map, at_place}
 use Rattle.nqs_rules.proofs.FoundPlain.{find_row-map}
 
 module _ {E F : Type 0} (f : E → F) where

@@ -1,5 +1,5 @@
 -- What a start makes of its row.
-use Rattle.std.proofs.Common.{◌≡◌, ℕ, ◌+◌, Bool, true, false, not, ◌&&◌, ◌||◌, ◌==◌, nat_lt, nat_le, List, [], ◌∷◌, map, find, slice_get, length, Option, None, Some, Result, Ok, Err, option_map, true≢false, refl, sym, ap, subst, ◌∙◌, arith, if◌then◌else◌}
+use Rattle.std.proofs.Common.{◌≡◌, ℕ, Bool, true, false, not, ◌||◌, ◌==◌, nat_lt, nat_le, List, map, slice_get, length, Option, None, Some, Result, Ok, Err, option_map, true≢false, refl, sym, ap, subst, ◌∙◌, arith, if◌then◌else◌}
 use Rattle.std.proofs.lemmas.Bool.{and_parts, and_from, eqb-true}
 use Rattle.std.proofs.lemmas.Bool.Decides.{nat_tests}
 use Rattle.std.proofs.lemmas.Cmp.{nat_eq_equiv, nat_list_eq_equiv}
@@ -7,7 +7,7 @@ use Rattle.std.proofs.lemmas.Option.{same_Some, none-some}
 use Rattle.std.specs.List.{list_all}
 use Rattle.std.specs.Option.{IfSome, option_and_then}
 use Rattle.nqs_types.specs.Ids.{name_eq, id_eq, name_exact, id_exact}
-use Rattle.nqs_types.specs.State.{State, Plain}
+use Rattle.nqs_types.specs.State.{Plain}
 use Rattle.nqs_types.specs.declared.ids.RequestId.{RequestId}
 use Rattle.nqs_types.specs.declared.ids.Dest.{Dest}
 use Rattle.nqs_types.specs.declared.request.Peer.{Peer}
@@ -19,17 +19,17 @@ use Rattle.nqs_types.specs.declared.rule.Choice.TheVariants.{Launch, Print, TooF
 use Rattle.nqs_types.specs.declared.refusal.Refusal.{Refusal}
 use Rattle.nqs_types.specs.declared.change.Change.{Change}
 use Rattle.nqs_types.specs.declared.change.Change.TheVariants.{Started, HandOpened, MovedLocal, RefusedLocal, HeldFar}
-use Rattle.nqs_rules.specs.Tests.{passes, is_ready, is_routing, same_host}
+use Rattle.nqs_rules.specs.Tests.{passes, is_ready, same_host}
 use Rattle.nqs_rules.specs.Causes.{first_refusal, refusal_number}
 use Rattle.nqs_rules.specs.Find.{find_queue, find_row, find_peer}
 use Rattle.nqs_rules.specs.Devices.{free_device}
-use Rattle.nqs_rules.specs.Routing.{was_refused, has_number_left, is_over_wait, is_free_peer, is_reachable, may_try, destination, dests_of, dests_for}
-use Rattle.nqs_rules.specs.Order.{is_eligible, is_local, print_on, move_to, choice_for, pick}
+use Rattle.nqs_rules.specs.Routing.{was_refused, is_over_wait, is_free_peer, is_reachable, may_try, destination, dests_of, dests_for}
+use Rattle.nqs_rules.specs.Order.{is_local, print_on, move_to, choice_for, pick}
 use Rattle.nqs_rules.specs.Handover.{opened_with, open_hand}
 use Rattle.nqs_rules.specs.Stepped.{Stepped}
 use Rattle.nqs_rules.specs.Start.{launching, printing, local_causes, moving_by, moving, holding, with_row, device_at, dest_at, started, start_by, start}
-use Rattle.nqs_rules.specs.InOrder.{are_distinct, is_row_right, is_queue_right, is_hop_right, are_keys_distinct, IsInOrder}
-use Rattle.nqs_rules.specs.Picked.{PlainRow, IsFirstRow, IsNextQueue, row_place, IsPicked}
+use Rattle.nqs_rules.specs.InOrder.{are_distinct}
+use Rattle.nqs_rules.specs.Picked.{PlainRow, IsFirstRow, IsPicked}
 use Rattle.nqs_rules.proofs.ListFacts.{not_true, found_again, list_all-found, IsAt, position_at}
 use Rattle.nqs_rules.proofs.PickLaws.{eligible_parts, picked_is}
 
@@ -144,13 +144,16 @@ module _ (now : ℕ) (s : Plain) (steady : IsSteady s) (x : Stepped (List ℕ)) 
 
         by : (o : Result (Unit {0}) Refusal) → moving_by o tried.value.queue r ≡ x → IsStart s x
         by (Ok u) e = begins (MovedLocal r.id tried.value.queue) (moving_by (Ok u) tried.value.queue r) refl e (refl, below_32 r.hops (list_all-found (λ q. nat_le q.hops 32) (λ q. id_eq r.id q.id) s.rows r steady.hops row_found) hop)
-        by (Err refusal) e = begins (RefusedLocal r.id tried.value.queue (refusal_number refusal)) (moving_by (Err refusal) tried.value.queue r) refl e (refl, record {
-          place = dest;
-          dest = tried.value;
-          at = ap (λ o. slice_get (dests_of o) dest) queue_found ∙ tried.at;
-          new = not_true (was_refused tried.value r.refused) (and_parts (not (was_refused tried.value r.refused)) (same_host s.me tried.value.host || is_reachable now tried.value.host s) tried.passes).0;
-          is = λ j. record { queue = tried.value.queue; host = record { 0 = host_is j } };
-        })
+        by (Err refusal) e = begins (RefusedLocal r.id tried.value.queue (refusal_number refusal)) (moving_by (Err refusal) tried.value.queue r) refl e (
+          refl,
+          record {
+            place = dest;
+            dest = tried.value;
+            at = ap (λ o. slice_get (dests_of o) dest) queue_found ∙ tried.at;
+            new = not_true (was_refused tried.value r.refused) (and_parts (not (was_refused tried.value r.refused)) (same_host s.me tried.value.host || is_reachable now tried.value.host s) tried.passes).0;
+            is = λ j. record { queue = tried.value.queue; host = record { 0 = host_is j } };
+          },
+        )
 
     handed : is_local dest d s ≡ false → open_hand tried.value now s r ≡ x → IsStart s x
     handed here e = by (find_peer tried.value.host s) known e

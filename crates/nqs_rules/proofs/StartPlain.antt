@@ -1,5 +1,5 @@
 -- A start looks at no stored part.
-use Rattle.std.proofs.Common.{◌≡◌, ℕ, ◌+◌, Bool, true, false, not, ◌&&◌, ◌||◌, ◌==◌, nat_lt, nat_le, List, [], ◌∷◌, map, sum, slice_get, position, Option, None, Some, is_some, Result, Ok, Err, option_map, refl, ap, ◌∙◌, if◌then◌else◌}
+use Rattle.std.proofs.Common.{◌≡◌, ℕ, not, ◌&&◌, ◌||◌, nat_lt, nat_le, List, sum, slice_get, position, Option, None, Some, is_some, Result, Ok, Err, option_map, refl, ap, ◌∙◌}
 use Rattle.std.specs.Option.{option_and_then}
 use Rattle.std.specs.List.{list_all}
 use Rattle.std.proofs.lemmas.Simd.{map-map}
@@ -20,8 +20,7 @@ use Rattle.nqs_types.specs.declared.refusal.Refusal.{Refusal}
 use Rattle.nqs_rules.specs.Tests.{passes, is_ready, is_batch}
 use Rattle.nqs_rules.specs.Causes.{first_refusal}
 use Rattle.nqs_rules.specs.Find.{has_name, find_device, find_peer}
-use Rattle.nqs_rules.specs.Devices.{can_serve, is_free_device, free_device}
-use Rattle.nqs_rules.specs.Routing.{destination}
+use Rattle.nqs_rules.specs.Devices.{can_serve, free_device}
 use Rattle.nqs_rules.specs.Order.{below, is_greater, is_active_in, is_active_of, runs_in, runs_in_batch, complex_allows, is_within_limits, kind_allows, is_eligible, comes_before, first_eligible, is_candidate, next_queue, print_on, choice_for, choice_of, pick_in, pick}
 use Rattle.nqs_rules.specs.Handover.{opened_with, open_hand}
 use Rattle.nqs_rules.specs.Stepped.{Stepped, map_stepped}

@@ -1,5 +1,5 @@
 -- A step looks at no stored part.
-use Rattle.std.proofs.Common.{◌≡◌, ℕ, ◌+◌, Bool, true, false, not, ◌&&◌, ◌||◌, ◌==◌, nat_lt, nat_le, List, [], ◌∷◌, ◌++◌, map, filter, Option, None, Some, Result, Ok, Err, option_map, refl, sym, ap, ◌∙◌, if◌then◌else◌}
+use Rattle.std.proofs.Common.{◌≡◌, ℕ, Bool, true, false, not, ◌==◌, nat_le, List, [], ◌∷◌, ◌++◌, map, filter, Option, None, Some, Result, Ok, Err, option_map, refl, sym, ap, ◌∙◌, if◌then◌else◌}
 use Rattle.std.proofs.lemmas.List.{map-append}
 use Rattle.nqs_types.specs.State.{State}
 use Rattle.nqs_types.specs.declared.ids.RequestId.{RequestId}
@@ -9,9 +9,9 @@ use Rattle.nqs_types.specs.declared.request.Row.{Row}
 use Rattle.nqs_types.specs.declared.refusal.Refusal.{Refusal}
 use Rattle.nqs_types.specs.declared.refusal.Refusal.TheVariants.{NoQueue, HostFull, NumbersUsed}
 use Rattle.nqs_types.specs.declared.edit.Edit.{Edit}
-use Rattle.nqs_types.specs.declared.edit.Edit.TheVariants.{Conf, Limits as LimitsOf, Access as AccessOf, Devices as DevicesOf, Rows as RowsOf}
-use Rattle.nqs_types.specs.declared.edit.RowsEdit.TheVariants.{AbortQueue, HoldRequest, ReleaseRequest, MoveRequest, ModifyRequest}
-use Rattle.nqs_types.specs.declared.change.Change.TheVariants.{Edited, Unlaunched}
+use Rattle.nqs_types.specs.declared.edit.Edit.TheVariants.{Rows as RowsOf}
+use Rattle.nqs_types.specs.declared.edit.RowsEdit.TheVariants.{AbortQueue}
+use Rattle.nqs_types.specs.declared.change.Change.TheVariants.{Edited}
 use Rattle.nqs_types.specs.declared.event.Submission.{Submission}
 use Rattle.nqs_types.specs.declared.event.Command.{Command}
 use Rattle.nqs_types.specs.declared.event.Command.TheVariants as command
@@ -25,9 +25,9 @@ use Rattle.nqs_rules.specs.Find.{has_queue, find_queue, find_row, meant_row}
 use Rattle.nqs_rules.specs.Access.{rank, may_command}
 use Rattle.nqs_rules.specs.Rows.{queue_meant, causes_of, queue_entry_causes, numbers_used, submit_causes_at, submit_causes, delete_causes, delete_row_causes}
 use Rattle.nqs_rules.specs.Fits.{edit_causes}
-use Rattle.nqs_rules.specs.Stepped.{Stepped, Pending, map_pending, map_stepped, quiet, makes, ready}
+use Rattle.nqs_rules.specs.Stepped.{Stepped, Pending, map_pending, map_stepped, makes, ready}
 use Rattle.nqs_rules.specs.Text.{stat_lines}
-use Rattle.nqs_rules.specs.Step.{Asker, reply_to, answer_to, unless_refused, submit_to, on_submit, kill, delete_row, delete_meant, on_delete, runs_in_queue, kills_of, on_edit, stat_causes, on_stat, show_lines, ticked, then_reply, on_allowed, on_command, is_start, ended_by, then_ack, acknowledged, unlaunched_by, step}
+use Rattle.nqs_rules.specs.Step.{Asker, reply_to, answer_to, unless_refused, submit_to, on_submit, kill, delete_meant, on_delete, runs_in_queue, kills_of, on_edit, stat_causes, on_stat, ticked, then_reply, on_allowed, is_start, ended_by, then_ack, acknowledged, unlaunched_by, step}
 use Rattle.nqs_rules.specs.Plain.{map_row, map_state}
 use Rattle.nqs_rules.proofs.ListMaps.{map-mapped, map-filter}
 use Rattle.nqs_rules.proofs.FoundPlain.{held_count-map, find_row-map, meant_row-map, named_causes-map}

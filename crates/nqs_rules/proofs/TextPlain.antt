@@ -1,5 +1,5 @@
 -- Lists of requests and devices look at no stored part.
-use Rattle.std.proofs.Common.{◌≡◌, ℕ, ◌+◌, Bool, true, false, ◌&&◌, ◌==◌, List, [], ◌∷◌, ◌++◌, map, filter, find, flat_map, length, codes, Option, None, Some, option_map, refl, sym, ap, ◌∙◌, if◌then◌else◌}
+use Rattle.std.proofs.Common.{◌≡◌, ℕ, Bool, true, false, ◌&&◌, ◌==◌, List, [], ◌∷◌, ◌++◌, map, filter, find, length, codes, Option, None, Some, option_map, refl, sym, ap, ◌∙◌, if◌then◌else◌}
 use Rattle.std.specs.Fmt.{decimal}
 use Rattle.std.proofs.lemmas.List.{length-map}
 use Rattle.nqs_types.specs.State.{State}
@@ -12,7 +12,7 @@ use Rattle.nqs_rules.specs.Order.{comes_before}
 use Rattle.nqs_rules.specs.Text.{Text, words, either, put_in, sorted, is_owned_by, listed_rows, is_asked, stat_rows, row_line, stat_lines, queue_line, complex_line, manager_line, operator_line, parameter_lines, user_text, device_line}
 use Rattle.nqs_rules.specs.Step.{show_lines}
 use Rattle.nqs_rules.specs.Plain.{map_row, map_state}
-use Rattle.nqs_rules.proofs.ListMaps.{map-filter, map-flat_map, map-mapped, find-map}
+use Rattle.nqs_rules.proofs.ListMaps.{map-filter, map-flat_map, find-map}
 
 module _ {E F : Type 0} (f : E → F) where
   put_in-map : (r : Row E) (rs : List (Row E)) → put_in comes_before (map_row f r) (map (map_row f) rs) ≡ map (map_row f) (put_in comes_before r rs)
