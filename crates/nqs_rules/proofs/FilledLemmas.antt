@@ -1,10 +1,11 @@
 -- What is stored for a change fills it.
-use Rattle.std.proofs.Common.{◌≡◌, ℕ, List, [], ◌∷◌, map, refl, sym, ap, ◌∙◌}
+use Rattle.std.proofs.Common.{◌≡◌, ℕ, List, [], ◌∷◌, map, Option, None, Some, option_map, refl, sym, ap, ◌∙◌}
+use Rattle.std.proofs.lemmas.Option.{same_Some, none-some}
 use Rattle.nqs_types.specs.declared.extent.Extent.{Extent}
 use Rattle.nqs_types.specs.declared.change.OutPart.{OutPart}
 use Rattle.nqs_types.specs.declared.change.Change.{Change}
 use Rattle.nqs_types.specs.declared.change.Change.TheVariants.{Ended, Boot}
-use Rattle.nqs_rules.specs.Stepped.{map_part, map_change, part_bytes, stored_parts, no_extent}
+use Rattle.nqs_rules.specs.Stepped.{Stepped, puts_of, plan_of, map_part, map_change, part_bytes, stored_parts, no_extent}
 use Rattle.nqs_rules.specs.Filled.{filled_parts, filled}
 
 parts-filled : (parts : List (OutPart (List ℕ))) → filled_parts (map (map_part (λ _. no_extent)) parts) (map part_bytes parts) ≡ parts
@@ -44,3 +45,11 @@ module _ (c : Change Extent) (planned : Change (List ℕ)) (shape : map_change (
 
   pub read-planned : (f : Extent → List ℕ) → map f (stored_parts c) ≡ stored_parts planned → map_change f c ≡ planned
   read-planned f same = filled-read f c ∙ ap (filled c) same ∙ filled-planned
+
+-- what is filled into a plan's change is the step's change
+pub filled-plan : (done : Stepped Extent) (c : Change Extent) → Some (map_change (λ _. no_extent) c) ≡ (plan_of done).change → Some (filled c (plan_of done).puts) ≡ done.change
+filled-plan done c shape = by done.change shape
+  where
+    by : (o : Option (Change (List ℕ))) → Some (map_change (λ _. no_extent) c) ≡ option_map (map_change (λ _. no_extent)) o → Some (filled c (puts_of o)) ≡ o
+    by None shape = absurd (none-some (map_change (λ _. no_extent) c) (sym shape))
+    by (Some planned) shape = ap Some (filled-planned c planned (same_Some (map_change (λ _. no_extent) c) (map_change (λ _. no_extent) planned) shape))

@@ -6,10 +6,12 @@ use Rattle.nqs_types.specs.declared.change.Change.{Change}
 use Rattle.nqs_types.specs.declared.change.Change.TheVariants.{Submitted, Ended, Promised, StageGot}
 use Rattle.nqs_rules.specs.Stepped.{map_change}
 
+-- the first of the bytes to be stored
 abbrev pub first_put : List (List ℕ) → List ℕ
 first_put [] = []
 first_put (put ∷ puts) = put
 
+-- each part with its own bytes
 abbrev pub filled_parts : List (OutPart Extent) → List (List ℕ) → List (OutPart (List ℕ))
 filled_parts [] puts = []
 filled_parts (part ∷ parts) [] = []

@@ -8,6 +8,7 @@ use Rattle.nqs_types.specs.declared.queue.QueueDef.{QueueDef}
 use Rattle.nqs_types.specs.declared.rule.Choice.{Choice}
 use Rattle.nqs_types.specs.declared.rule.Choice.TheVariants.{Launch, Print, TooFar, Local, Hand}
 
+-- a row of a plain state
 abbrev pub PlainRow : Type 0
 PlainRow = Row (List ℕ)
 

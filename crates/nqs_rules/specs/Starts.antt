@@ -7,6 +7,7 @@ use Rattle.nqs_rules.specs.Start.{start}
 use Rattle.nqs_rules.specs.Stepped.{Stepped}
 use Rattle.nqs_types.specs.declared.change.Change.{Change}
 
+-- the state after a change, if there is one
 abbrev pub after_change : Option (Change (List ℕ)) → Plain → Plain
 after_change None s = s
 after_change (Some c) s = applied c s
