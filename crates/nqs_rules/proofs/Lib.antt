@@ -1,0 +1,16 @@
+pub mod ListMaps
+pub mod PlainLemmas
+pub mod FoundPlain
+pub mod FitsPlain
+pub mod TextPlain
+pub mod OutputsPlain
+pub mod MessagesPlain
+pub mod StepPlain
+pub mod StartPlain
+pub mod FilledLemmas
+pub mod BestLaws
+pub mod PickLaws
+pub mod ListFacts
+pub mod StartIs
+pub mod Lowers
+pub mod Until

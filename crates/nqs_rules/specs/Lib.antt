@@ -16,12 +16,15 @@ pub mod Fits
 pub mod Path
 pub mod InOrder
 pub mod Stepped
+pub mod Picked
+pub mod Filled
 pub mod Handover
 pub mod Stage
 pub mod Start
 pub mod Text
 pub mod Step
 pub mod Measure
+pub mod Starts
 pub mod World
 pub mod Net
 pub mod Run

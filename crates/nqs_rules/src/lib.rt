@@ -4,8 +4,10 @@
 
 pub mod edit_rows;
 pub mod host_rows;
+pub mod laws;
 pub mod net_rows;
 pub mod small_net_rows;
 pub mod small_rows;
 pub mod stop_rows;
 pub mod test_rows;
+pub mod start_laws;

@@ -1,0 +1,116 @@
+-- Starts go on until there is none.
+use Rattle.std.proofs.Common.{◌≡◌, ℕ, ◌<◌, ◌≤◌, Bool, true, false, ◌&&◌, nat_lt, nat_le, List, [], ◌∷◌, map, length, Option, None, Some, is_some, true≢false, zero, suc, refl, sym, ap, subst, ◌∙◌, arith, if◌then◌else◌}
+use Rattle.std.proofs.lemmas.Bool.Decides.{nat_tests}
+use Rattle.nqs_types.specs.Ids.{name_eq}
+use Rattle.nqs_types.specs.State.{Plain}
+use Rattle.nqs_types.specs.declared.change.Change.{Change}
+use Rattle.nqs_rules.specs.Tests.{is_routing}
+use Rattle.nqs_rules.specs.Applied.{applied}
+use Rattle.nqs_rules.specs.Start.{start}
+use Rattle.nqs_rules.specs.Stepped.{Stepped}
+use Rattle.nqs_rules.specs.Measure.{starts_of, starts_left}
+use Rattle.nqs_rules.specs.InOrder.{are_distinct, is_id_right, is_row_right, is_hop_right, is_queue_right, IsInOrder}
+use Rattle.nqs_rules.specs.Picked.{PlainRow}
+use Rattle.nqs_rules.specs.Starts.{after_change, after_step, starts_at_most, starts, after_starts}
+use Rattle.nqs_rules.proofs.ListFacts.{list_all-weaker}
+use Rattle.nqs_rules.proofs.StartIs.{IsSteady, IsStart, start_is}
+use Rattle.nqs_rules.proofs.Lowers.{lower, stays, few_starts}
+
+-- a state in order is steady
+
+eight : (a b c d e f g h : Bool) → (a && b && c && d && e && f && g && h) ≡ true → (a ≡ true) × (d ≡ true) × (e ≡ true)
+eight true true true true true f g h t = (refl, refl, refl)
+eight a b c d e f g h t = absurd (true≢false (sym t))
+
+tenth : (a b c d e f g h i j : Bool) → (a && b && c && d && e && f && g && h && i && j) ≡ true → j ≡ true
+tenth true true true true true true true true true j h = h
+tenth a b c d e f g h i j t = absurd (true≢false (sym t))
+
+few_hops : (r : PlainRow) → is_hop_right r ≡ true → nat_le r.hops 32 ≡ true
+few_hops r h = by (is_routing r.state) h
+  where
+    by : (b : Bool) → (if b then nat_lt r.hops 32 else nat_le r.hops 32) ≡ true → nat_le r.hops 32 ≡ true
+    by true h = grind (arith, nat_tests)
+    by false h = h
+
+pub steady : (s : Plain) → IsInOrder s → IsSteady s
+steady s order = record {
+  ids = (eight (are_distinct name_eq (map (λ q. q.name) s.queues)) _ _ _ _ _ _ _ order.keys).1;
+  names = (eight (are_distinct name_eq (map (λ q. q.name) s.queues)) _ _ _ _ _ _ _ order.keys).0;
+  hops = list_all-weaker (is_row_right s) (λ r. nat_le r.hops 32) (λ r h. few_hops r (tenth (is_id_right s r.id) _ _ _ _ _ _ _ _ _ h)) s.rows order.rows;
+  dests = list_all-weaker (is_queue_right s) (λ q. nat_le (length q.dests) 16) (λ q h. (eight (nat_le q.priority 63) _ _ _ _ _ _ _ h).2) s.queues order.queues;
+}
+
+-- one start
+
+module _ (now : ℕ) (s : Plain) (x : Stepped (List ℕ)) (is : IsStart s x) (calm : IsSteady s) where
+  lowered : starts_left (after_step x s) < starts_left s
+  lowered = subst (λ o. starts_left (after_change o s) < starts_left s) (sym is.makes) (lower s calm is.row is.found is.ready is.change is.starts)
+
+  stayed : IsSteady (after_step x s)
+  stayed = subst (λ o. IsSteady (after_change o s)) (sym is.makes) (stays s calm is.row is.found is.ready is.change is.starts)
+
+pub start_lowers : (now : ℕ) (s : Plain) (x : Stepped (List ℕ)) (c : Change (List ℕ)) → IsInOrder s → start now s ≡ Some x → x.change ≡ Some c → starts_left (applied c s) < starts_left s
+start_lowers now s x c order e makes = subst (λ o. starts_left (after_change o s) < starts_left s) makes (lowered now s x (start_is now s x (steady s order) e) (steady s order))
+
+pub start_changes : (now : ℕ) (s : Plain) (x : Stepped (List ℕ)) → IsInOrder s → start now s ≡ Some x → is_some x.change ≡ true
+start_changes now s x order e = ap is_some (start_is now s x (steady s order) e).makes
+
+pub starts_few : (s : Plain) (r : PlainRow) → IsInOrder s → starts_of s r ≤ 577
+starts_few s r order = few_starts s (steady s order) r
+
+-- starts one after the other
+module _ (now : ℕ) where
+  -- the starts from a state on, by what starts there
+  abbrev Going : ℕ → Plain → Option (Stepped (List ℕ)) → List (Stepped (List ℕ))
+  Going n s o = elim o as (λ _. List (Stepped (List ℕ))) [ None ↦ [] | Some x ↦ x ∷ starts_at_most n now (after_step x s) ]
+
+  none_starts : (n : ℕ) (s : Plain) → start now s ≡ None → starts_at_most n now s ≡ []
+  none_starts zero s e = refl
+  none_starts (suc n) s e = ap (Going n s) e
+
+  idle : (s : Plain) → IsSteady s → starts_left s ≤ 0 → start now s ≡ None
+  idle s calm few = by (start now s) refl
+    where
+      by : (o : Option (Stepped (List ℕ))) → start now s ≡ o → start now s ≡ None
+      by None e = e
+      by (Some x) e = absurd (let less : starts_left (after_step x s) < starts_left s = lowered now s x (start_is now s x calm e) calm in omega arith)
+
+  -- more than there may be changes nothing
+  enough : (n m : ℕ) (s : Plain) → IsSteady s → starts_left s ≤ n → starts_left s ≤ m → starts_at_most n now s ≡ starts_at_most m now s
+  enough zero m s calm few also = sym (none_starts m s (idle s calm few))
+  enough (suc n) zero s calm few also = none_starts (suc n) s (idle s calm also)
+  enough (suc n) (suc m) s calm few also = by (start now s) refl (enough n m)
+    where
+      by : (o : Option (Stepped (List ℕ))) → start now s ≡ o → ((t : Plain) → IsSteady t → starts_left t ≤ n → starts_left t ≤ m → starts_at_most n now t ≡ starts_at_most m now t) → Going n s o ≡ Going m s o
+      by None e rest = refl
+      by (Some x) e rest =
+          let is : IsStart s x = start_is now s x calm e in
+          let less : starts_left (after_step x s) < starts_left s = lowered now s x is calm in
+          ap (λ l. x ∷ l) (rest (after_step x s) (stayed now s x is calm) (omega arith) (omega arith))
+
+  pub starts-none : (s : Plain) → start now s ≡ None → starts now s ≡ []
+  starts-none s e = none_starts (starts_left s) s e
+
+  pub starts-some : (s : Plain) (x : Stepped (List ℕ)) → IsInOrder s → start now s ≡ Some x → starts now s ≡ x ∷ starts now (after_step x s)
+  starts-some s x order e =
+      let calm : IsSteady s = steady s order in
+      let is : IsStart s x = start_is now s x calm e in
+      let less : starts_left (after_step x s) < starts_left s = lowered now s x is calm in
+      enough (starts_left s) (suc (starts_left s)) s calm (omega arith) (omega arith)
+      ∙ ap (Going (starts_left s) s) e
+      ∙ ap (λ l. x ∷ l) (enough (starts_left s) (starts_left (after_step x s)) (after_step x s) (stayed now s x is calm) (omega arith) (omega arith))
+
+  end : (n : ℕ) (s : Plain) → IsSteady s → starts_left s ≤ n → start now (after_starts (starts_at_most n now s) s) ≡ None
+  end zero s calm few = idle s calm few
+  end (suc n) s calm few = by (start now s) refl (end n)
+    where
+      by : (o : Option (Stepped (List ℕ))) → start now s ≡ o → ((t : Plain) → IsSteady t → starts_left t ≤ n → start now (after_starts (starts_at_most n now t) t) ≡ None) → start now (after_starts (Going n s o) s) ≡ None
+      by None e rest = e
+      by (Some x) e rest =
+          let is : IsStart s x = start_is now s x calm e in
+          let less : starts_left (after_step x s) < starts_left s = lowered now s x is calm in
+          rest (after_step x s) (stayed now s x is calm) (omega arith)
+
+  pub starts_end : (s : Plain) → IsInOrder s → start now (after_starts (starts now s) s) ≡ None
+  starts_end s order = end (starts_left s) s (steady s order) (omega arith)
