@@ -6,7 +6,8 @@ use Rattle.nqs_types.specs.State.{State}
 use Rattle.nqs_rules.specs.Tests.{passes, is_running, is_routing, is_queued, is_unheld, is_offered, same_host, last_u64, last_seq}
 use Rattle.nqs_rules.specs.Find.{has_queue, has_device, find_row, find_peer, held_count}
 use Rattle.nqs_rules.specs.Conf.{is_wait, at_most}
-use Rattle.nqs_rules.specs.Path.{is_path}
+use Rattle.nqs_rules.specs.Sane.{is_sane_job, is_sane_id}
+use Rattle.nqs_types.specs.Path.{is_path}
 use Rattle.nqs_rules.specs.Routing.{is_closed}
 use Rattle.nqs_rules.specs.Applied.{is_offered_for}
 use Rattle.nqs_rules.specs.Fits.{is_site_host, is_offered_hand}
@@ -54,10 +55,6 @@ is_stage_given number p = is_given number p.stage_next
 abbrev pub is_promise_open : ℕ → Peer → Bool
 is_promise_open number p = not (is_closed number p)
 
--- a job's priority and the paths of its outputs are within their limits
-abbrev pub is_job_right : Job → Bool
-is_job_right j = nat_le j.priority 63 && is_path j.out && is_path j.err
-
 module _ {E : Type 0} where
   -- names are there
 
@@ -81,7 +78,7 @@ module _ {E : Type 0} where
 
   -- the request's host is of the site, and its number one that a host may give
   abbrev pub is_id_right : State E → RequestId → Bool
-  is_id_right s id = is_site_host id.host s && nat_le 1 id.seq && nat_le id.seq last_seq
+  is_id_right s id = is_site_host id.host s && is_sane_id id
 
   -- the request's number was given, if it is of this host
   abbrev pub is_id_given : State E → RequestId → Bool
@@ -103,7 +100,7 @@ module _ {E : Type 0} where
 
   abbrev pub is_row_right : State E → Row E → Bool
   is_row_right s r =
-      is_id_right s r.id && is_id_given s r.id && is_job_right r.job && has_queue r.queue s && is_device_there r.device s && list_all (is_refused_right s) r.refused
+      is_id_right s r.id && is_id_given s r.id && is_sane_job r.job && has_queue r.queue s && is_device_there r.device s && list_all (is_refused_right s) r.refused
       && nat_le r.arrival s.arrivals && nat_lt r.lost 65535 && is_count_right r && is_hop_right r
 
   -- a promise's row is queued, its number isn't closed

@@ -13,7 +13,7 @@ pub mod Rows
 pub mod Order
 pub mod Applied
 pub mod Fits
-pub mod Path
+pub mod Sane
 pub mod InOrder
 pub mod Stepped
 pub mod Picked

@@ -27,7 +27,7 @@ ghost use Rattle.nqs_rules.specs.Tests.{last_u64, last_seq};
 ghost use Rattle.nqs_rules.specs.Format.{first_queue, new_peer};
 ghost use Rattle.nqs_rules.specs.Causes.{first_refusal};
 ghost use Rattle.nqs_rules.specs.Find.{peer_number};
-ghost use Rattle.nqs_rules.specs.Path.{is_path};
+ghost use Rattle.nqs_types.specs.Path.{is_path};
 ghost use Rattle.nqs_rules.specs.Access.{may_use};
 ghost use Rattle.nqs_rules.specs.Conf.{is_conf_within};
 ghost use Rattle.nqs_rules.specs.Limits.{over_limits, is_limits_within};
