@@ -145,7 +145,7 @@ with_promised = applied (Promised (host 0) 1 (codes "batch") (carried 1) []) (fo
 abbrev pub planned : Stepped Extent
 planned =
     makes (Ended (request 1 0) (record { path = codes "o"; bytes = codes "ab" } ∷ record { path = codes "e"; bytes = codes "c" } ∷ []))
-      (ready (out.Ended (request 1 0) 1 0) ∷ (out.File 4 (codes "o") [], Some (record { place = 7; length = 2 })) ∷ (out.File 5 (codes "e") [], Some (record { place = 9; length = 3 })) ∷ [])
+    (ready (out.Ended (request 1 0) 1 0) ∷ (out.File 4 (codes "o") [], Some (record { place = 7; length = 2 })) ∷ (out.File 5 (codes "e") [], Some (record { place = 9; length = 3 })) ∷ [])
 
 -- each test of a state in order, and what besides holds of it
 abbrev pub order_tests : Plain → List Bool
@@ -176,8 +176,8 @@ abbrev pub busy : Plain
 busy = record (formatted (host 0) (codes "alpha" ∷ codes "beta" ∷ codes "gamma" ∷ [])) {
   rows = record (in_link 1) { state = Routing; script = codes "date"; hops = 2 } ∷ [];
   hands =
-    record { peer = host 1; number = 1; id = request 1 0; queue = codes "batch"; since = 0; phase = Offered }
-    ∷ record { peer = host 2; number = 4; id = request 2 0; queue = codes "batch"; since = 0; phase = Committed } ∷ [];
+      record { peer = host 1; number = 1; id = request 1 0; queue = codes "batch"; since = 0; phase = Offered }
+      ∷ record { peer = host 2; number = 4; id = request 2 0; queue = codes "batch"; since = 0; phase = Committed } ∷ [];
   promises = record (promise 9 9) { peer = host 2 } ∷ promise 3 3 ∷ [];
   stages = a_stage 2 2 ∷ a_stage 1 8 ∷ a_stage 1 7 ∷ a_stage 2 1 ∷ [];
   files = a_file 3 ∷ a_file 4 ∷ [];
