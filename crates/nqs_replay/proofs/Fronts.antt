@@ -2,7 +2,7 @@
 use Rattle.std.proofs.Common.{◌≡◌, ◌≤◌, ◌+◌, ◌⊎◌, inl, inr, ℕ, List, [], ◌∷◌, ◌++◌, take, drop, sym, ap, ◌∙◌, append_assoc, take-append-drop, arith}
 use Rattle.nqs_outside.specs.Causes.{Rose}
 use Rattle.nqs_replay.specs.declared.event.Event.{Event}
-use Rattle.nqs_replay.specs.Table.{Submissions, after_all}
+use Rattle.nqs_replay.specs.Table.{after_all}
 use Rattle.nqs_replay.specs.Transcript.{seen_text, seen_texts, transcript}
 use Rattle.nqs_replay.specs.Sunk.{BeginsWith}
 use Rattle.nqs_replay.proofs.Told.{seen_split, seen_more}

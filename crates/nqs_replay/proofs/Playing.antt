@@ -1,5 +1,5 @@
 -- What comes of events and of a bad line is what comes of the input.
-use Rattle.std.proofs.Common.{◌≡◌, ℕ, List, refl, inl, inr}
+use Rattle.std.proofs.Common.{ℕ, List, refl, inl, inr}
 use Rattle.nqs_disk.specs.declared.mem_disk.MemDisk.{MemDisk}
 use Rattle.nqs_replay.specs.declared.event.Event.{Event}
 use Rattle.nqs_replay.specs.declared.event.Cause.{Cause}

@@ -1,4 +1,4 @@
-use Rattle.std.proofs.Common.{◌≡◌, ◌≤◌, [], take}
+use Rattle.std.proofs.Common.{◌≤◌, [], take}
 use Rattle.std.specs.Io.KnownBytes.{Appends}
 use Rattle.nqs_replay.specs.Table.{after_all}
 use Rattle.nqs_replay.specs.Transcript.{seen_texts}

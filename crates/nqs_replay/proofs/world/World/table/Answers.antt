@@ -1,10 +1,9 @@
-use Rattle.std.proofs.Common.{◌≡◌, subst, sym, ap, ◌∙◌, length, arith}
-use Rattle.std.proofs.lemmas.List.{length-map}
-use Rattle.nqs_outside.specs.History.{content, IsQuiet}
+use Rattle.std.proofs.Common.{subst, sym, ◌∙◌}
+use Rattle.nqs_outside.specs.History.{content}
 use Rattle.nqs_disk.specs.MemDisk.{history_of}
 use Rattle.nqs_disk.specs.declared.mem_disk.MemDisk.{MemDisk}
 use Rattle.nqs_journal.specs.Text.{StandsFor}
-use Rattle.nqs_replay.specs.Payload.{payload_of, payloads_of}
+use Rattle.nqs_replay.specs.Payload.{payloads_of}
 use Rattle.nqs_replay.proofs.world.World.table.Goals as goal
 
 pub returns : goal.returns
