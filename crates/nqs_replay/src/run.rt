@@ -52,7 +52,6 @@ pub fn run<K: Sink>(alloc: Global, events: &[Event], out: &mut K) -> Result<MemD
     let mut text = Vec::new(alloc);
     let mut world = World::new(alloc)?;
     for event in events {
-        text.clear();
         world = world.step(alloc, event, &mut text)?;
         write_whole(out, &text)?;
     }

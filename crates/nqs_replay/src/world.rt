@@ -1,7 +1,7 @@
 //! A world of one host. Its requests stand in a journal, one record each: the user and the request's
 //! name, each as a length byte and its bytes. The table is made of what the journal's disk holds.
 
-ghost use Rattle.std.specs.Prelude.{◌≡◌, ◌-◌, ◌^◌, ◌<◌, ◌++◌, [], List, ℕ, IfOk};
+ghost use Rattle.std.specs.Prelude.{◌≡◌, ◌-◌, ◌^◌, ◌<◌, [], List, ℕ, IfOk};
 ghost use Rattle.nqs_outside.specs.History.{content, IsQuiet};
 ghost use Rattle.nqs_disk.specs.MemDisk.{history_of};
 ghost use Rattle.nqs_journal.specs.Text.{header, StandsFor};
@@ -84,13 +84,14 @@ impl World {
         Ok((World { journal, count }, rows))
     }
 
-    /// Takes an event, and adds what is seen of it to the text.
+    /// Takes an event. The text becomes what is seen of it.
     pub fn step(self, alloc: Global, event: &Event, text: &mut Vec<u8>) -> Result<World, Memory>
         requires room { self.count < 2 ^ 32 - 2 }
         requires told { (subs : Submissions) × IsWorld self subs }
         ensures { IfOk result (λ new. (subs : Submissions) → IsWorld self subs →
-            IsWorld new (after subs event.now) × (text.new.items ≡ text.old.items ++ seen_text subs event.now)) }
+            IsWorld new (after subs event.now) × (text.new.items ≡ seen_text subs event.now)) }
     {
+        text.clear();
         let site = [alpha()];
         match event {
             Event::Submit(user, name) => {

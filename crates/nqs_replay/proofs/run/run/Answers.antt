@@ -30,7 +30,7 @@ returns-in_err-write_whole g c =
     let before = take i events in
     let more : take (i + 1) events ≡ before ++ event ∷ [] = take_more events i event c.loop-event-test.true ∙ ap (λ (e : Event). before ++ e ∷ []) (sym c.event-item.is) in
     let stepped = c.in_ok-world-2.ensures (after_all [] before) c.loop-event.invariant.world in
-    let piece : c.deref.result.now ≡ seen_text (after_all [] before) event = c.deref.ensures.value ∙ stepped.1 ∙ ap (λ (l : List ℕ). l ++ seen_text (after_all [] before) event) c.clear.ensures.items in
+    let piece : c.deref.result.now ≡ seen_text (after_all [] before) event = c.deref.ensures.value ∙ stepped.1 in
     let stop = c.in_err-write_whole.ensures in
     let n = stop.err.0 in
     let both = Appends-then (g.K.Sink.taken c.args.out.now) (g.K.Sink.taken c.loop-event.out) (g.K.Sink.taken c.write_whole.new.sink) (seen_texts [] before) (take n c.deref.result.now) c.loop-event.invariant.written stop.err.2 in
@@ -45,7 +45,7 @@ loop-event-preserved g c =
     let before = take i events in
     let more : take (i + 1) events ≡ before ++ event ∷ [] = take_more events i event c.loop-event-test.true ∙ ap (λ (e : Event). before ++ e ∷ []) (sym c.event-item.is) in
     let stepped = c.in_ok-world-2.ensures (after_all [] before) c.loop-event.invariant.world in
-    let piece : c.deref.result.now ≡ seen_text (after_all [] before) event = c.deref.ensures.value ∙ stepped.1 ∙ ap (λ (l : List ℕ). l ++ seen_text (after_all [] before) event) c.clear.ensures.items in
+    let piece : c.deref.result.now ≡ seen_text (after_all [] before) event = c.deref.ensures.value ∙ stepped.1 in
     let both = Appends-then (g.K.Sink.taken c.args.out.now) (g.K.Sink.taken c.loop-event.out) (g.K.Sink.taken c.write_whole.new.sink) (seen_texts [] before) c.deref.result.now c.loop-event.invariant.written c.in_ok-write_whole.ensures.ok in
     let seen : seen_texts [] before ++ c.deref.result.now ≡ seen_texts [] (take (i + 1) events) = ap (λ (l : List ℕ). seen_texts [] before ++ l) piece ∙ sym (seen_there events i event more) in
     record {
