@@ -34,8 +34,10 @@ returns-in_err-write_whole g c =
     let stop = c.in_err-write_whole.ensures in
     let n = stop.err.0 in
     let both = Appends-then (g.K.Sink.taken c.args.out.now) (g.K.Sink.taken c.loop-event.out) (g.K.Sink.taken c.write_whole.new.sink) (seen_texts [] before) (take n c.deref.result.now) c.loop-event.invariant.written stop.err.2 in
-    rw (p.1, p.2) (failed_since _ _ _ _ _ _ c.loop-event.invariant.later.0 c.loop-event.invariant.later.1 stop.fault,
-        (seen_texts [] before ++ take n c.deref.result.now, subst (λ (l : List ℕ). BeginsWith (transcript events) (seen_texts [] before ++ take n l)) (sym piece) (front_there events i event n more), both))
+    rw (p.1, p.2) (
+      failed_since _ _ _ _ _ _ c.loop-event.invariant.later.0 c.loop-event.invariant.later.1 stop.fault,
+      (seen_texts [] before ++ take n c.deref.result.now, subst (λ (l : List ℕ). BeginsWith (transcript events) (seen_texts [] before ++ take n l)) (sym piece) (front_there events i event n more), both),
+    )
 
 pub loop-event-preserved : goal.loop-event-preserved
 loop-event-preserved g c =
