@@ -4,3 +4,4 @@ pub mod Plan
 pub mod Gate
 pub mod Opened
 pub mod Open
+pub mod Laws

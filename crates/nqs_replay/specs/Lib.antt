@@ -1,0 +1,10 @@
+pub mod Schedule
+pub mod Table
+pub mod Transcript
+pub mod Reading
+pub mod Payload
+pub mod Sunk
+pub mod Running
+pub mod Replay
+pub mod Laws
+pub mod Numbers
