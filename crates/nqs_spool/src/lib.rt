@@ -1,0 +1,5 @@
+//! Scripts and outputs of requests, as byte ranges of one disk.
+#![tactic(auto)]
+
+mod slot;
+mod tree;
