@@ -1,2 +1,4 @@
 pub mod Slots
 pub mod Nodes
+pub mod Extents
+pub mod Live

@@ -1,5 +1,6 @@
 -- Lists of slots. A slot is an extent with where the free bytes before it begin.
 use Rattle.std.specs.Prelude.{◌≡◌, ℕ, ◌+◌, ◌-◌, ◌<◌, ◌≤◌, max, nat_lt, nat_le, eqb, if◌then◌else◌, List, [], ◌∷◌, Option, Some, None}
+use Rattle.std.proofs.Props.{props}
 use Rattle.nqs_spool.specs.declared.slot.Slot.{Slot}
 
 -- the free bytes before the extent
@@ -64,3 +65,13 @@ begun_if_empty from (slot ∷ slots) = None
 abbrev pub left_by : ℕ → List Slot → Option ℕ
 left_by place [] = None
 left_by place (slot ∷ slots) = if eqb slot.place place then begun_if_empty slot.from slots else left_by place slots
+
+-- It is a proposition, so a type can keep it.
+pub IsRow-prop : (from : ℕ) (slots : List Slot) (end : ℕ) → IsProp (IsRow from slots end)
+IsRow-prop from [] end = Prim.hlevel props
+IsRow-prop from (slot ∷ slots) end =
+    let later = IsRow-prop (end_of slot) slots end in
+    let place : IsProp (slot.from ≡ from) = Prim.hlevel props in
+    let order : IsProp (from ≤ slot.place) = Prim.hlevel props in
+    let some : IsProp (0 < slot.length) = Prim.hlevel props in
+    λ x y j. (place x.0 y.0 j, order x.1 y.1 j, some x.2 y.2 j, later x.3 y.3 j)

@@ -1,0 +1,105 @@
+//! The live extents of a disk, as a set in order of place. An empty extent isn't kept.
+ghost use Rattle.std.specs.Prelude.{◌≡◌, ◌+◌, ◌<◌, ◌≤◌, ◌^◌, max, ℕ, [], OnOk, OnErr, vec_len};
+ghost use Rattle.nqs_spool.specs.Slots.{IsRow, IsRow-prop};
+ghost use Rattle.nqs_spool.specs.Extents.{past, IsClearOf, IsLeastPlace, Has, IsWith};
+
+use crate::tree::{Room, Tree};
+use nqs_types::{Extent, Memory};
+use std::alloc::Global;
+
+/// Each slot of the tree begins its free bytes where the one before ends; `end` is behind the last.
+#[derive(Drop)]
+pub(crate) struct LiveExtents {
+    alloc: Global,
+    tree: Tree,
+    end: u64,
+    rooms: Vec<Room>,
+    ghost row: { IsRow 0 tree end } by { IsRow-prop 0 tree end },
+}
+
+impl LiveExtents {
+    ghost use Rattle.nqs_spool.specs.Live.{kept, end_of, room_of};
+
+    pub fn new(alloc: Global) -> LiveExtents
+        ensures none { kept result ≡ [] }
+        ensures end { end_of result ≡ 0 }
+    {
+        LiveExtents {
+            alloc,
+            tree: Tree::new(),
+            end: 0,
+            rooms: Vec::new(alloc),
+        }
+    }
+
+    // Memory for so many more.
+    pub fn make_room(&mut self, count: u64) -> Result<(), Memory>
+        ensures room { OnOk result (count ≤ room_of self.new) }
+        ensures more { room_of self.old ≤ room_of self.new }
+        ensures same { kept self.new ≡ kept self.old }
+        ensures end { end_of self.new ≡ end_of self.old }
+    {
+        'rooms: while (self.rooms.len() as u64) < count {
+            self.rooms.push(Room::new(self.alloc)?)?;
+        }
+        Ok(())
+    }
+
+    // Memory for one.
+    pub fn take_room(&mut self) -> Result<Room, Memory>
+        ensures memory { OnErr result (room_of self.old ≡ 0) }
+        ensures room { room_of self.old ≤ room_of self.new + 1 }
+        ensures same { kept self.new ≡ kept self.old }
+        ensures end { end_of self.new ≡ end_of self.old }
+    {
+        match self.rooms.pop() {
+            Some(room) => Ok(room),
+            None => Ok(Room::new(self.alloc)?),
+        }
+    }
+
+    // The least place at which so many bytes meet none.
+    pub fn least_place(&self, count: u32) -> u64
+        requires { 0 < count }
+        ensures least { IsLeastPlace (kept self.now) count result }
+        ensures within { result ≤ end_of self.now }
+    {
+        self.tree.first_fit(u64::from(count), self.end)
+    }
+
+    pub fn insert(&mut self, room: Room, extent: Extent)
+        requires clear { IsClearOf (kept self.old) extent }
+        requires some { 0 < extent.length }
+        requires small { past extent < 2 ^ 64 }
+        ensures more { IsWith (kept self.old) extent (kept self.new) }
+        ensures end { end_of self.new ≤ max (end_of self.old) (past extent) }
+        ensures room { room_of self.new ≡ room_of self.old }
+    {
+        let last = self
+            .tree
+            .insert(room, self.end, extent.place, extent.length);
+        self.end = last.unwrap_or(self.end);
+    }
+
+    // Takes the extent out. It takes no memory.
+    pub fn remove(&mut self, extent: &Extent)
+        ensures less { Has (kept self.old) extent.now → IsWith (kept self.new) extent.now (kept self.old) }
+        ensures end { end_of self.new ≤ end_of self.old }
+        ensures room { room_of self.old ≤ room_of self.new }
+    {
+        let freed = self.tree.remove(extent.place);
+        self.end = freed.from.unwrap_or(self.end);
+        keep_room(&mut self.rooms, freed.room);
+    }
+}
+
+// What has no place among the spare rooms is given back.
+fn keep_room(rooms: &mut Vec<Room>, room: Option<Room>)
+    ensures { vec_len rooms.old ≤ vec_len rooms.new }
+{
+    if let Some(room) = room {
+        if rooms.len() < rooms.capacity() {
+            rooms.push(room).unwrap();
+        }
+    }
+}
