@@ -7,6 +7,8 @@ use Rattle.nqs_types.specs.declared.extent.Extent.{Extent}
 use Rattle.nqs_spool.specs.declared.slot.Slot.{Slot}
 use Rattle.nqs_spool.specs.Slots.{gap_of, end_of, IsRow, set_from, slot_at, ended, first_fit, inserted, begun_at, removed, begun_if_empty, left_by}
 use Rattle.nqs_spool.specs.Extents.{extent_at, past, IsApart, IsClearOf, AreApart, IsLeastPlace, Has, IsWith, extent_of, extents_of}
+use Rattle.nqs_spool.specs.declared.live.LiveExtents.{LiveExtents}
+use Rattle.nqs_spool.specs.Live.{kept}
 use Rattle.nqs_spool.proofs.Rows.{le_cases, lt_cases, eq_cases, then_of, else_of, row_rises}
 use Rattle.nqs_spool.proofs.Lists.{has_all, all_has}
 
@@ -144,3 +146,14 @@ removed_less from end (slot ∷ slots) row x (inr has) = elim (eq_cases slot.pla
       (let rest = removed_less (end_of slot) end slots row.3 x has in
       record { front = extent_of slot ∷ rest.front; back = rest.back; without = ap (λ l. extent_of slot ∷ l) rest.without; within = ap (λ l. extent_of slot ∷ l) rest.within })
 ]
+
+-- of a set
+
+pub kept_some : (live : LiveExtents) (x : Extent) → Has (kept live) x → 0 < x.length
+kept_some live x has = row_some 0 live.end live.tree live.row x has
+
+pub kept_apart : (live : LiveExtents) → AreApart (kept live)
+kept_apart live = row_apart 0 live.end live.tree live.row
+
+pub kept_to : (live : LiveExtents) (x : Extent) → Has (kept live) x → past x ≤ live.end
+kept_to live x has = row_to 0 live.end live.tree live.row x has

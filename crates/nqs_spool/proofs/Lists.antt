@@ -2,7 +2,8 @@
 use Rattle.std.proofs.Common.{◌≡◌, ◌⊎◌, inl, inr, ℕ, ◌+◌, ◌<◌, ◌≤◌, min, max, List, [], ◌∷◌, ◌++◌, refl, sym, ap, ◌∙◌, arith, subst}
 use Rattle.std.specs.List.{AllByRecursion}
 use Rattle.nqs_types.specs.declared.extent.Extent.{Extent}
-use Rattle.nqs_spool.specs.Extents.{past, IsApart, IsClearOf, AreApart, Has, IsWith, Covers}
+use Rattle.nqs_spool.specs.Extents.{extent_at, past, IsApart, IsClearOf, AreApart, IsLeastPlace, Has, IsWith, Covers}
+use Rattle.nqs_spool.proofs.Rows.{lt_cases}
 
 pub all_put : (P : Extent → Type 0) (front back : List Extent) (x : Extent) → P x → AllByRecursion P (front ++ back) → AllByRecursion P (front ++ x ∷ back)
 all_put P [] back x new all = (new, all)
@@ -63,3 +64,81 @@ module _ (kept more live more' : List Extent) (x : Extent) (at : IsWith kept x m
       );
     apart = rw at'.within (apart_put at'.front at'.back x (rw at'.without at clear) (rw at'.without at so_far.apart));
   }
+
+  pub covers_cut : 0 < x.length → AreApart more → Covers more more' → Covers kept live
+  covers_cut some kept_apart so_far =
+      let apart = apart_cut at'.front at'.back x (rw at'.within at so_far.apart) in
+      let alone = apart_cut at.front at.back x (rw at.within at kept_apart) in
+      record {
+        same = λ y some_y. (
+            (λ has. elim (has_cut at.front at.back x y (rw at.within at ((so_far.same y some_y).0 (rw at'.within (has_put at'.front at'.back x y (inr (rw at'.without at has))))))) [
+              | inl is ↦ absurd (once (at'.front ++ at'.back) x some apart.0 (subst (Has (at'.front ++ at'.back)) is (rw at'.without at has)))
+              | inr rest ↦ rw at.without rest
+            ]),
+            (λ has. elim (has_cut at'.front at'.back x y (rw at'.within at ((so_far.same y some_y).1 (rw at.within (has_put at.front at.back x y (inr (rw at.without at has))))))) [
+              | inl is ↦ absurd (once (at.front ++ at.back) x some alone.0 (subst (Has (at.front ++ at.back)) is (rw at.without at has)))
+              | inr rest ↦ rw at'.without rest
+            ]),
+          );
+        apart = rw at'.without apart.1;
+      }
+
+-- an empty extent meets nothing, and isn't kept
+module _ (kept live more : List Extent) (x : Extent) (empty : x.length ≡ 0) (at : IsWith live x more) where
+  not_it : (y : Extent) → 0 < y.length → y ≡ x → ⊥
+  not_it y some is = absurd (omega (arith, some, empty, ap (λ (z : Extent). z.length) is))
+
+  clear : (others : List Extent) → IsClearOf others x
+  clear others = has_all (IsApart x) others (λ y has. omega (arith, empty))
+
+  pub empty_put : Covers kept live → Covers kept more
+  empty_put so_far = record {
+    same = λ y some. (
+        (λ has. elim (has_cut at.front at.back x y (rw at.within at has)) [ inl is ↦ absurd (not_it y some is) | inr rest ↦ (so_far.same y some).0 (rw at.without rest) ]),
+        (λ has. rw at.within (has_put at.front at.back x y (inr (rw at.without at ((so_far.same y some).1 has))))),
+      );
+    apart = rw at.within (apart_put at.front at.back x (clear (at.front ++ at.back)) (rw at.without at so_far.apart));
+  }
+
+  pub empty_cut : Covers kept more → Covers kept live
+  empty_cut so_far = record {
+    same = λ y some. (
+        (λ has. (so_far.same y some).0 (rw at.within (has_put at.front at.back x y (inr (rw at.without at has))))),
+        (λ has. elim (has_cut at.front at.back x y (rw at.within at ((so_far.same y some).1 has))) [ inl is ↦ absurd (not_it y some is) | inr rest ↦ rw at.without rest ]),
+      );
+    apart = rw at.without (apart_cut at.front at.back x (rw at.within at so_far.apart)).1;
+  }
+
+pub all_front : (P : Extent → Type 0) (front back : List Extent) → AllByRecursion P (front ++ back) → AllByRecursion P front
+all_front P [] back all = tt
+all_front P (y ∷ front) back all = (all.0, all_front P front back all.1)
+
+-- what meets none of the live extents meets none of those that are kept
+pub clear_kept : (kept live : List Extent) (x : Extent) → ((y : Extent) → Has kept y → 0 < y.length) → Covers kept live → IsClearOf live x → IsClearOf kept x
+clear_kept kept live x some so_far clear = has_all (IsApart x) kept (λ y has. all_has (IsApart x) live y clear ((so_far.same y (some y has)).1 has))
+
+-- what is the least place for those that are kept is it for the live extents
+pub least_of_live : (kept live : List Extent) (count place : ℕ) → ((y : Extent) → Has kept y → 0 < y.length) → Covers kept live → IsLeastPlace kept count place → IsLeastPlace live count place
+least_of_live kept live count place some so_far is = record {
+  clear = has_all (IsApart (extent_at place count)) live (λ y has. elim (lt_cases 0 y.length) [
+    | inl full ↦ all_has (IsApart (extent_at place count)) kept y is.clear ((so_far.same y full.1).0 has)
+    | inr empty ↦ omega (arith, empty.1)
+  ]);
+  least = λ other clear. is.least other (clear_kept kept live (extent_at other count) some so_far clear);
+}
+
+pub all_with : (P : Extent → Type 0) (live more : List Extent) (x : Extent) → IsWith live x more → P x → AllByRecursion P live → AllByRecursion P more
+all_with P live more x at new all = rw at.within (all_put P at.front at.back x new (rw at.without at all))
+
+pub all_without : (P : Extent → Type 0) (live more : List Extent) (x : Extent) → IsWith live x more → AllByRecursion P more → AllByRecursion P live
+all_without P live more x at all = rw at.without (all_cut P at.front at.back x (rw at.within at all)).1
+
+pub all_map : (P Q : Extent → Type 0) (live : List Extent) → ((x : Extent) → P x → Q x) → AllByRecursion P live → AllByRecursion Q live
+all_map P Q [] from all = tt
+all_map P Q (x ∷ live) from all = (from x all.0, all_map P Q live from all.1)
+
+pub has_with : (live more : List Extent) (x : Extent) → IsWith live x more → Has more x
+has_with live more x at = rw at.within (has_put at.front at.back x x (inl refl))
+
+pub clear_of_none : (live : List Extent) (x : Extent) → x.length ≡ 0 → IsClearOf live x
+clear_of_none live x empty = has_all (IsApart x) live (λ y has. omega (arith, empty))

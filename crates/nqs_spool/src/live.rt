@@ -1,7 +1,9 @@
 //! The live extents of a disk, as a set in order of place. An empty extent isn't kept.
-ghost use Rattle.std.specs.Prelude.{◌≡◌, ◌+◌, ◌<◌, ◌≤◌, ◌^◌, max, ℕ, [], OnOk, OnErr, vec_len};
+ghost use Rattle.std.specs.Prelude.{◌≡◌, ◌+◌, ◌<◌, ◌≤◌, ◌^◌, max, ℕ, [], OnOk, OnErr, IfOk, List, vec_len};
+ghost use Rattle.std.specs.List.{AllByRecursion};
+ghost use Rattle.nqs_types.specs.declared.extent.Extent.{Extent};
 ghost use Rattle.nqs_spool.specs.Slots.{IsRow, IsRow-prop};
-ghost use Rattle.nqs_spool.specs.Extents.{past, IsClearOf, IsLeastPlace, Has, IsWith};
+ghost use Rattle.nqs_spool.specs.Extents.{past, IsClearOf, AreApart, IsLeastPlace, Has, IsWith, Covers};
 
 use crate::tree::{Room, Tree};
 use nqs_types::{Extent, Memory};
@@ -18,7 +20,7 @@ pub(crate) struct LiveExtents {
 }
 
 impl LiveExtents {
-    ghost use Rattle.nqs_spool.specs.Live.{kept, end_of, room_of};
+    ghost use Rattle.nqs_spool.specs.Live.{kept, slots, end_of, room_of, place_for};
 
     pub fn new(alloc: Global) -> LiveExtents
         ensures none { kept result ≡ [] }
@@ -32,11 +34,27 @@ impl LiveExtents {
         }
     }
 
+    // The set of these.
+    pub fn load(alloc: Global, live: &[Extent]) -> Result<LiveExtents, Memory>
+        requires apart { AreApart live.now }
+        requires small { AllByRecursion (λ extent. past extent < 2 ^ 64) live.now }
+        ensures covers { IfOk result (λ loaded. Covers (kept loaded) live.now) }
+        ensures end { (bound : ℕ) → AllByRecursion (λ extent. past extent ≤ bound) live.now → IfOk result (λ loaded. end_of loaded ≤ bound) }
+    {
+        let mut loaded = LiveExtents::new(alloc);
+        let mut rest = live;
+        'extents: while let Some((extent, more)) = rest.split_first() {
+            loaded.add(extent)?;
+            rest = more;
+        }
+        Ok(loaded)
+    }
+
     // Memory for so many more.
     pub fn make_room(&mut self, count: u64) -> Result<(), Memory>
         ensures room { OnOk result (count ≤ room_of self.new) }
         ensures more { room_of self.old ≤ room_of self.new }
-        ensures same { kept self.new ≡ kept self.old }
+        ensures same { slots self.new ≡ slots self.old }
         ensures end { end_of self.new ≡ end_of self.old }
     {
         'rooms: while (self.rooms.len() as u64) < count {
@@ -49,7 +67,7 @@ impl LiveExtents {
     pub fn take_room(&mut self) -> Result<Room, Memory>
         ensures memory { OnErr result (room_of self.old ≡ 0) }
         ensures room { room_of self.old ≤ room_of self.new + 1 }
-        ensures same { kept self.new ≡ kept self.old }
+        ensures same { slots self.new ≡ slots self.old }
         ensures end { end_of self.new ≡ end_of self.old }
     {
         match self.rooms.pop() {
@@ -62,6 +80,7 @@ impl LiveExtents {
     pub fn least_place(&self, count: u32) -> u64
         requires { 0 < count }
         ensures least { IsLeastPlace (kept self.now) count result }
+        ensures place { result ≡ place_for self.now count }
         ensures within { result ≤ end_of self.now }
     {
         self.tree.first_fit(u64::from(count), self.end)
@@ -79,6 +98,22 @@ impl LiveExtents {
             .tree
             .insert(room, self.end, extent.place, extent.length);
         self.end = last.unwrap_or(self.end);
+    }
+
+    // The same with memory of its own. An empty extent is left out.
+    fn add(&mut self, extent: &Extent) -> Result<(), Memory>
+        requires clear { IsClearOf (kept self.old) extent.now }
+        requires small { past extent.now < 2 ^ 64 }
+        ensures covers { OnOk result ((live more : List Extent) → IsWith live extent.now more → IsClearOf live extent.now
+            → Covers (kept self.old) live → Covers (kept self.new) more) }
+        ensures end { OnOk result (end_of self.new ≤ max (end_of self.old) (past extent.now)) }
+    {
+        if extent.length == 0 {
+            return Ok(());
+        }
+        let room = self.take_room()?;
+        self.insert(room, *extent);
+        Ok(())
     }
 
     // Takes the extent out. It takes no memory.
