@@ -8,6 +8,8 @@ mod fault;
 mod live;
 mod slot;
 mod spool;
+#[cfg(test)]
+mod tests;
 mod tree;
 mod write;
 

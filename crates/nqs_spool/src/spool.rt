@@ -89,6 +89,8 @@ impl<D: Disk> Spool<D> {
         ensures refused { (result ≡ Err SpoolFault.TooLong) ⊎ (result ≡ Err SpoolFault.Memory) → disk_of self.new ≡ disk_of self.old }
         ensures unchanged { (result ≡ Err SpoolFault.TooLong) ⊎ (result ≡ Err SpoolFault.Memory) → (live : List Extent) → Tells self.old live → Tells self.new live }
 
+        ensures empty { length bytes.now ≡ 0 → (result ≡ Ok (extent_at 0 0)) × (self.new ≡ self.old) }
+
         // Where they stand.
         ensures extent { IfOk result (λ extent. extent ≡ extent_at (place_for self.old bytes.now) (length bytes.now)) }
         ensures small { IfOk result (λ extent. past extent ≤ 2 ^ 40) }

@@ -81,7 +81,7 @@ impl Tree {
         }
     }
 
-    fn height(&self) -> u8 {
+    pub fn height(&self) -> u8 {
         match &self.node {
             Node::Leaf => 0,
             Node::Fork(_, _, _, height, _) => *height,
