@@ -182,6 +182,9 @@ module _ (left : List Slot) (slot : Slot) (right d : List Slot) (is : left ++ sl
       sym (ap (inserted place count end) is) ∙ inserted-right place count end row.0 slot.from left (slot ∷ right) parts.0 (omega (arith, parts.1, behind))
       ∙ elim (lt_cases place slot.place) [ inl hit ↦ absurd (omega (arith, hit.1, behind)) | inr miss ↦ ap (λ b. left ++ (if b then slot_at slot.from place count ∷ set_from (Some (place + count)) slot ∷ right else slot ∷ inserted place count end right)) miss.0 ]
 
+  pub ended-before : (place count : ℕ) → place < slot.place → ended place count d ≡ None
+  ended-before place count before = sym (ap (ended place count) is) ∙ ended-left place count left slot right before
+
   pub ended-behind : (place count : ℕ) → slot.place ≤ place → ended place count d ≡ ended place count right
   ended-behind place count behind =
       sym (ap (ended place count) is) ∙ ended-right place count row.0 slot.from left (slot ∷ right) parts.0 (omega (arith, parts.1, behind))

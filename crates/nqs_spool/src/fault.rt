@@ -1,6 +1,7 @@
 //! Why a call of the spool failed.
 ghost use Rattle.std.specs.Prelude.{◌≡◌};
 
+use nqs_outside::Failed;
 use nqs_types::Memory;
 use std::alloc::AllocError;
 use thiserror::Error;
@@ -36,5 +37,15 @@ impl From<AllocError> for SpoolFault {
 
     fn from(_: AllocError) -> Self {
         SpoolFault::Memory
+    }
+}
+
+impl From<Failed> for SpoolFault {
+    ghost use Rattle.nqs_spool.specs.declared.fault.SpoolFault.TheVariants as fault;
+
+    ghost from_gives = { λ _ e. e ≡ fault.Disk };
+
+    fn from(_: Failed) -> Self {
+        SpoolFault::Disk
     }
 }

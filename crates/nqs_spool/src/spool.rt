@@ -71,10 +71,7 @@ impl<D: Disk> Spool<D> {
         ensures tells { (live : List Extent) → Tells self.old live → Tells self.new live }
         ensures room { room_of self.new ≡ room_of self.old }
     {
-        match self.disk.len() {
-            Ok(length) => Ok(length),
-            Err(Failed) => Err(SpoolFault::Disk),
-        }
+        Ok(self.disk.len()?)
     }
 
     /// Writes the bytes, at most 32,768, at the least place where they meet no live extent, and

@@ -1,5 +1,5 @@
 use Rattle.std.proofs.Common.{◌≡◌, ◌++◌, ◌∷◌, sym, ap, ◌∙◌, arith, length, length-append}
-use Rattle.nqs_spool.proofs.Rows.{inserted-left, ended-left, inserted-behind, ended-behind, left_row, right_row, shorter}
+use Rattle.nqs_spool.proofs.Rows.{inserted-left, ended-before, inserted-behind, ended-behind, left_row, right_row, shorter}
 use Rattle.nqs_spool.proofs.tree.Tree.+insert.Goals as goal
 
 pub insert-behind-requires : goal.insert-behind-requires
@@ -14,7 +14,7 @@ returns-then-place-slot-clause-slots t c =
 
 pub returns-then-place-slot-clause-last : goal.returns-then-place-slot-clause-last
 returns-then-place-slot-clause-last t c =
-    cc (c.in-Fork.ensures.slots, ended-left c.args.place c.args.length c.in-Fork.left.value c.in-Fork.slot c.in-Fork.right.value c.if-place-slot.true)
+    sym (ended-before c.in-Fork.left.value c.in-Fork.slot c.in-Fork.right.value c.args.self.now c.in-Fork.ensures.slots c.requires.row c.args.place c.args.length c.if-place-slot.true)
 
 pub insert-last-requires : goal.insert-last-requires
 insert-last-requires t c =
@@ -23,7 +23,7 @@ insert-last-requires t c =
 
 pub returns-else-place-slot-clause-slots : goal.returns-else-place-slot-clause-slots
 returns-else-place-slot-clause-slots t c =
-    cc (c.close-in-Fork.ensures, c.balanced-in-Fork.ensures.slots, c.insert-last.ensures.slots, c.deref_mut-in-Fork.ensures.value, c.in-Fork.ensures.slots,
+    cc (c.close-in-Fork.ensures, c.balanced-in-Fork.ensures.slots, c.insert-last.ensures.slots, c.deref_mut-in-Fork.ensures.value,
       inserted-behind c.in-Fork.left.value c.in-Fork.slot c.in-Fork.right.value c.args.self.now c.in-Fork.ensures.slots c.requires.row c.args.place c.args.length c.args.end c.if-place-slot.false)
 
 pub returns-else-place-slot-clause-last : goal.returns-else-place-slot-clause-last
