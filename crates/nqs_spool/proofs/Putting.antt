@@ -13,7 +13,7 @@ use Rattle.nqs_spool.specs.Spooled.{history_of, place_for, Tells}
 use Rattle.nqs_spool.specs.declared.spool.Spool.{Spool}
 use Rattle.nqs_spool.proofs.Lists.{all_has, all_with, all_map, covers_put, empty_put, least_of_live, clear_of_none}
 use Rattle.nqs_spool.proofs.Kept.{fit_is_least, kept_some}
-use Rattle.nqs_spool.proofs.Writing.{held_throughout, quiet_after, length_after, no_shorter}
+use Rattle.nqs_spool.proofs.Writing.{held_throughout, held_after, quiet_after, length_after, no_shorter}
 
 pub some_of : (bytes : List ℕ) → (length bytes == 0) ≡ false → 0 < length bytes
 some_of [] is = cc
@@ -49,6 +49,13 @@ module _ {D : Type 0} {g : disk.Ghosts D} (spool : Spool D g) where
     held told x script has holds k calls is off =
         let apart = all_has (IsApart new) extents x clear has in
         held_throughout (history_of spool) place bytes (tells.quiet told) (within told) x script (omega (arith, apart)) holds k calls is off
+
+    -- what a read gives after it
+    pub held_still : IsTrue g.tells → (x : Extent) (script : List ℕ) → Has extents x → Holds (content (history_of spool)) x script
+        → (k : History) (calls : List Call) → k ≡ extended (history_of spool) calls → BreaksOff (written_through place bytes) calls → Holds (content k) x script
+    held_still told x script has holds k calls is off =
+        let apart = all_has (IsApart new) extents x clear has in
+        held_after (history_of spool) place bytes (tells.quiet told) (within told) x script (omega (arith, apart)) holds k calls is off
 
     -- once it is written
     pub tells_more : (spool' : Spool D g) → IsWith (live.kept spool.live) new (live.kept spool'.live) → (IsTrue g.tells → history_of spool' ≡ extended (history_of spool) (written_through place bytes))

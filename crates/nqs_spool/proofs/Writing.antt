@@ -61,6 +61,21 @@ module _ (h : History) (place : ℕ) (bytes : List ℕ) (quiet : IsQuiet h) (wit
         let r = moments h k (written_through place bytes) calls is off t from to in
         held_at r.i r.within image (subst (λ s. IsImage s image) (r.is ∙ ap (λ s. after s (take r.i (written_through place bytes))) quiet) leaves)
 
+    held_read : (i : ℕ) → i ≤ 2 → Holds (after (fresh old) (take i (written_through place bytes))).content x script
+    held_read zero le = held
+    held_read (suc zero) le = held_while_writing new written_image
+    held_read (suc (suc zero)) le = held_while_writing new written_image
+    held_read (suc (suc (suc i))) le = absurd (omega (arith, le))
+
+    -- what a read gives after it
+    pub held_after : (k : History) (calls : List Call) → k ≡ extended h calls → BreaksOff (written_through place bytes) calls → Holds (content k) x script
+    held_after k calls is off =
+        let size : moment h ≤ moment k = omega (arith, ap moment is, length-append h.calls calls) in
+        let r = moments h k (written_through place bytes) calls is off (moment k) size (omega arith) in
+        let now : state k ≡ after (fresh old) (take r.i (written_through place bytes)) =
+            sym (ap (after (fresh k.start)) (take-length k.calls)) ∙ r.is ∙ ap (λ s. after s (take r.i (written_through place bytes))) quiet in
+        subst (λ (s : State). Holds s.content x script) (sym now) (held_read r.i r.within)
+
   -- once it is done
   module _ (k : History) (is : k ≡ extended h (written_through place bytes)) where
     now : state k ≡ fresh new
@@ -104,8 +119,8 @@ module _ (h : History) (place : ℕ) (bytes : List ℕ) (within : place ≤ leng
       }
 
 -- where nothing was done
-pub held_still : (h k : History) (x : Extent) (script : List ℕ) → IsQuiet h → k ≡ h → Holds (content h) x script → EachSince (moment h) k (λ image. Holds image x script)
-held_still h k x script quiet is held = λ t image from to leaves.
+pub held_idle : (h k : History) (x : Extent) (script : List ℕ) → IsQuiet h → k ≡ h → Holds (content h) x script → EachSince (moment h) k (λ image. Holds image x script)
+held_idle h k x script quiet is held = λ t image from to leaves.
     let now : t ≡ moment h = omega (arith, from, to, ap moment is) in
     let at : state_at k t ≡ fresh (content h) = ap (λ l. state_at l t) is ∙ ap (state_at h) now ∙ ap (after (fresh h.start)) (take-length h.calls) ∙ quiet in
     subst (λ l. Holds l x script) (sym (fresh_image (content h) image (subst (λ s. IsImage s image) at leaves))) held

@@ -108,6 +108,10 @@ impl<D: Disk> Spool<D> {
         ensures kept { IsTrue D.tells → (live : List Extent) → Tells self.old live → (extent : Extent) (script : List ℕ) → Has live extent
             → Holds (content (history_of self.old)) extent script → EachSince (moment (history_of self.old)) (history_of self.new) (λ image. Holds image extent script) }
 
+        // So does what a read gives after it.
+        ensures still { IsTrue D.tells → (live : List Extent) → Tells self.old live → (extent : Extent) (script : List ℕ) → Has live extent
+            → Holds (content (history_of self.old)) extent script → Holds (content (history_of self.new)) extent script }
+
         // At Ok the new one is live, and holds the bytes.
         ensures tells { IfOk result (λ extent. (live more : List Extent) → Tells self.old live → IsWith live extent more → Tells self.new more) }
         ensures stored { IsTrue D.tells → IfOk result (λ extent. Holds (content (history_of self.new)) extent bytes.now) }

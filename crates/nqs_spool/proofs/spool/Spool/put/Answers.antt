@@ -5,8 +5,8 @@ use Rattle.nqs_spool.specs.Puts.{put_calls, written_through}
 use Rattle.nqs_spool.specs.Extents.{extent_at, IsWith, Holds, extents_of}
 use Rattle.nqs_spool.specs.Live as live
 use Rattle.nqs_spool.specs.Spooled.{history_of, place_for}
-use Rattle.nqs_spool.proofs.Writing.{held_still, no_shorter, length_after, stored}
-use Rattle.nqs_spool.proofs.Putting.{least, held, tells_more, tells_empty, found}
+use Rattle.nqs_spool.proofs.Writing.{held_idle, no_shorter, length_after, stored}
+use Rattle.nqs_spool.proofs.Putting.{least, held, held_still, tells_more, tells_empty, found}
 use Rattle.nqs_spool.proofs.spool.Spool.put.Goals as goal
 
 -- refused, or no bytes
@@ -15,13 +15,13 @@ pub returns-then-bytes-gt-LONGEST-clause-least : goal.returns-then-bytes-gt-LONG
 returns-then-bytes-gt-LONGEST-clause-least g c = least c.args.self.now c.args.bytes.now
 
 pub returns-then-bytes-gt-LONGEST-clause-kept : goal.returns-then-bytes-gt-LONGEST-clause-kept
-returns-then-bytes-gt-LONGEST-clause-kept g c = λ told extents tells x script has holds. held_still _ _ x script (tells.quiet told) refl holds
+returns-then-bytes-gt-LONGEST-clause-kept g c = λ told extents tells x script has holds. held_idle _ _ x script (tells.quiet told) refl holds
 
 pub returns-then-is_empty-clause-least : goal.returns-then-is_empty-clause-least
 returns-then-is_empty-clause-least g c = least c.args.self.now c.args.bytes.now
 
 pub returns-then-is_empty-clause-kept : goal.returns-then-is_empty-clause-kept
-returns-then-is_empty-clause-kept g c = λ told extents tells x script has holds. held_still _ _ x script (tells.quiet told) refl holds
+returns-then-is_empty-clause-kept g c = λ told extents tells x script has holds. held_idle _ _ x script (tells.quiet told) refl holds
 
 pub returns-then-is_empty-clause-tells : goal.returns-then-is_empty-clause-tells
 returns-then-is_empty-clause-tells g c = tells_empty c.args.self.now
@@ -30,7 +30,7 @@ pub returns-in_err-room-clause-least : goal.returns-in_err-room-clause-least
 returns-in_err-room-clause-least g c = least c.args.self.now c.args.bytes.now
 
 pub returns-in_err-room-clause-kept : goal.returns-in_err-room-clause-kept
-returns-in_err-room-clause-kept g c = λ told extents tells x script has holds. held_still _ _ x script (tells.quiet told) refl holds
+returns-in_err-room-clause-kept g c = λ told extents tells x script has holds. held_idle _ _ x script (tells.quiet told) refl holds
 
 -- written
 
@@ -110,3 +110,16 @@ returns-in-Ok-clause-stored g c = λ told.
     let h = history_of c.args.self.now in
     let f = found c.args.self.now c.take_room.new.self c.args.bytes.now c.least_place-place.result c.is_empty.result c.is_empty.ensures c.if-is_empty.false c.in_ok-room.ensures.same c.in_ok-room.ensures.end c.least_place-place.ensures.place c.least_place-place.ensures.within in
     stored h c.least_place-place.result c.args.bytes.now (f.within told) (g.D.Disk.history c.write_through.new.disk) (c.in-Ok.ensures.made told)
+
+pub returns-in-Ok-clause-still : goal.returns-in-Ok-clause-still
+returns-in-Ok-clause-still g c = λ told extents tells x script has holds.
+    let f = found c.args.self.now c.take_room.new.self c.args.bytes.now c.least_place-place.result c.is_empty.result c.is_empty.ensures c.if-is_empty.false c.in_ok-room.ensures.same c.in_ok-room.ensures.end c.least_place-place.ensures.place c.least_place-place.ensures.within in
+    held_still c.args.self.now c.args.bytes.now c.least_place-place.result f.at f.within extents tells told x script has holds
+      (g.D.Disk.history c.write_through.new.disk) (written_through c.least_place-place.result c.args.bytes.now) (c.in-Ok.ensures.made told) (whole_is_prefix (written_through c.least_place-place.result c.args.bytes.now))
+
+pub returns-in-Err-clause-still : goal.returns-in-Err-clause-still
+returns-in-Err-clause-still g c = λ told extents tells x script has holds.
+    let f = found c.args.self.now c.take_room.new.self c.args.bytes.now c.least_place-place.result c.is_empty.result c.is_empty.ensures c.if-is_empty.false c.in_ok-room.ensures.same c.in_ok-room.ensures.end c.least_place-place.ensures.place c.least_place-place.ensures.within in
+    let broken = c.in-Err.ensures.broken told in
+    held_still c.args.self.now c.args.bytes.now c.least_place-place.result f.at f.within extents tells told x script has holds
+      (g.D.Disk.history c.write_through.new.disk) broken.0 broken.1 (short_is_prefix _ _ broken.2)
