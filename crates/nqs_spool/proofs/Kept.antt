@@ -1,7 +1,5 @@
 -- The extents of a row of slots.
-use Rattle.std.proofs.Common.{◌≡◌, ◌⊎◌, inl, inr, ℕ, ◌+◌, ◌-◌, ◌<◌, ◌≤◌, min, max, nat_lt, eqb, List, [], ◌∷◌, ◌++◌, Option, Some, None, refl, sym, ap, ◌∙◌, arith, subst}
-use Rattle.std.specs.Prelude.{if◌then◌else◌}
-use Rattle.std.specs.List.{AllByRecursion}
+use Rattle.std.proofs.Common.{◌≡◌, inl, inr, ℕ, ◌+◌, ◌<◌, ◌≤◌, max, List, [], ◌∷◌, Some, None, refl, sym, ap, arith, subst}
 use Rattle.std.specs.Option.{unwrap_or}
 use Rattle.nqs_types.specs.declared.extent.Extent.{Extent}
 use Rattle.nqs_spool.specs.declared.slot.Slot.{Slot}
@@ -10,7 +8,7 @@ use Rattle.nqs_spool.specs.Extents.{extent_at, past, IsApart, IsClearOf, AreApar
 use Rattle.nqs_spool.specs.declared.live.LiveExtents.{LiveExtents}
 use Rattle.nqs_spool.specs.Live.{kept}
 use Rattle.nqs_spool.proofs.Rows.{le_cases, lt_cases, eq_cases, then_of, else_of, row_rises}
-use Rattle.nqs_spool.proofs.Lists.{has_all, all_has}
+use Rattle.nqs_spool.proofs.Lists.{has_all}
 
 -- each extent of a row lies between its ends
 pub row_from : (from end : ℕ) (slots : List Slot) → IsRow from slots end → (x : Extent) → Has (extents_of slots) x → from ≤ x.place
@@ -31,9 +29,9 @@ row_some from end (slot ∷ slots) row x (inr has) = row_some (end_of slot) end 
 pub row_apart : (from end : ℕ) (slots : List Slot) → IsRow from slots end → AreApart (extents_of slots)
 row_apart from end [] row = tt
 row_apart from end (slot ∷ slots) row = (
-    has_all (IsApart (extent_of slot)) (extents_of slots) (λ x has. omega (arith, row_from (end_of slot) end slots row.3 x has)),
-    row_apart (end_of slot) end slots row.3,
-  )
+  has_all (IsApart (extent_of slot)) (extents_of slots) (λ x has. omega (arith, row_from (end_of slot) end slots row.3 x has)),
+  row_apart (end_of slot) end slots row.3,
+)
 
 -- the first fit
 
@@ -55,9 +53,9 @@ fit_clear : (count from end : ℕ) (slots : List Slot) → IsRow from slots end 
 fit_clear count from end [] row some = tt
 fit_clear count from end (slot ∷ slots) row some = elim (le_cases count (gap_of slot)) [
   | inl hit ↦ subst (λ place. IsClearOf (extents_of (slot ∷ slots)) (extent_at place count)) (sym (then_of slot.from (first_fit count end slots) hit.0)) (
-      omega (arith, row.0, row.1, hit.1, some),
-      has_all (IsApart (extent_at slot.from count)) (extents_of slots) (λ x has. omega (arith, row.0, row.1, hit.1, some, row_from (end_of slot) end slots row.3 x has)),
-    )
+    omega (arith, row.0, row.1, hit.1, some),
+    has_all (IsApart (extent_at slot.from count)) (extents_of slots) (λ x has. omega (arith, row.0, row.1, hit.1, some, row_from (end_of slot) end slots row.3 x has)),
+  )
   | inr miss ↦ subst (λ place. IsClearOf (extents_of (slot ∷ slots)) (extent_at place count)) (sym (else_of slot.from (first_fit count end slots) miss.0))
       (omega (arith, fit_from count (end_of slot) end slots row.3), fit_clear count (end_of slot) end slots row.3 some)
 ]

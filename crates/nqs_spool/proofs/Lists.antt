@@ -1,8 +1,8 @@
 -- Lists with an extent more or less.
-use Rattle.std.proofs.Common.{◌≡◌, ◌⊎◌, inl, inr, ℕ, ◌+◌, ◌<◌, ◌≤◌, min, max, List, [], ◌∷◌, ◌++◌, refl, sym, ap, ◌∙◌, arith, subst}
+use Rattle.std.proofs.Common.{◌≡◌, ◌⊎◌, inl, inr, ℕ, ◌<◌, List, [], ◌∷◌, ◌++◌, refl, sym, ap, arith, subst}
 use Rattle.std.specs.List.{AllByRecursion}
 use Rattle.nqs_types.specs.declared.extent.Extent.{Extent}
-use Rattle.nqs_spool.specs.Extents.{extent_at, past, IsApart, IsClearOf, AreApart, IsLeastPlace, Has, IsWith, Covers}
+use Rattle.nqs_spool.specs.Extents.{extent_at, IsApart, IsClearOf, AreApart, IsLeastPlace, Has, IsWith, Covers}
 use Rattle.nqs_spool.proofs.Rows.{lt_cases}
 
 pub all_put : (P : Extent → Type 0) (front back : List Extent) (x : Extent) → P x → AllByRecursion P (front ++ back) → AllByRecursion P (front ++ x ∷ back)
@@ -59,9 +59,9 @@ module _ (kept more live more' : List Extent) (x : Extent) (at : IsWith kept x m
   pub covers_put : IsClearOf live x → Covers kept live → Covers more more'
   covers_put clear so_far = record {
     same = λ y some. (
-        (λ has. rw at.within (has_put at.front at.back x y (elim (has_cut at'.front at'.back x y (rw at'.within at has)) [ inl is ↦ inl is | inr rest ↦ inr (rw at.without at ((so_far.same y some).0 (rw at'.without rest))) ]))),
-        (λ has. rw at'.within (has_put at'.front at'.back x y (elim (has_cut at.front at.back x y (rw at.within at has)) [ inl is ↦ inl is | inr rest ↦ inr (rw at'.without at ((so_far.same y some).1 (rw at.without rest))) ]))),
-      );
+      (λ has. rw at.within (has_put at.front at.back x y (elim (has_cut at'.front at'.back x y (rw at'.within at has)) [ inl is ↦ inl is | inr rest ↦ inr (rw at.without at ((so_far.same y some).0 (rw at'.without rest))) ]))),
+      (λ has. rw at'.within (has_put at'.front at'.back x y (elim (has_cut at.front at.back x y (rw at.within at has)) [ inl is ↦ inl is | inr rest ↦ inr (rw at'.without at ((so_far.same y some).1 (rw at.without rest))) ]))),
+    );
     apart = rw at'.within (apart_put at'.front at'.back x (rw at'.without at clear) (rw at'.without at so_far.apart));
   }
 
@@ -71,15 +71,15 @@ module _ (kept more live more' : List Extent) (x : Extent) (at : IsWith kept x m
       let alone = apart_cut at.front at.back x (rw at.within at kept_apart) in
       record {
         same = λ y some_y. (
-            (λ has. elim (has_cut at.front at.back x y (rw at.within at ((so_far.same y some_y).0 (rw at'.within (has_put at'.front at'.back x y (inr (rw at'.without at has))))))) [
-              | inl is ↦ absurd (once (at'.front ++ at'.back) x some apart.0 (subst (Has (at'.front ++ at'.back)) is (rw at'.without at has)))
-              | inr rest ↦ rw at.without rest
-            ]),
-            (λ has. elim (has_cut at'.front at'.back x y (rw at'.within at ((so_far.same y some_y).1 (rw at.within (has_put at.front at.back x y (inr (rw at.without at has))))))) [
-              | inl is ↦ absurd (once (at.front ++ at.back) x some alone.0 (subst (Has (at.front ++ at.back)) is (rw at.without at has)))
-              | inr rest ↦ rw at'.without rest
-            ]),
-          );
+          (λ has. elim (has_cut at.front at.back x y (rw at.within at ((so_far.same y some_y).0 (rw at'.within (has_put at'.front at'.back x y (inr (rw at'.without at has))))))) [
+            | inl is ↦ absurd (once (at'.front ++ at'.back) x some apart.0 (subst (Has (at'.front ++ at'.back)) is (rw at'.without at has)))
+            | inr rest ↦ rw at.without rest
+          ]),
+          (λ has. elim (has_cut at'.front at'.back x y (rw at'.within at ((so_far.same y some_y).1 (rw at.within (has_put at.front at.back x y (inr (rw at.without at has))))))) [
+            | inl is ↦ absurd (once (at.front ++ at.back) x some alone.0 (subst (Has (at.front ++ at.back)) is (rw at.without at has)))
+            | inr rest ↦ rw at'.without rest
+          ]),
+        );
         apart = rw at'.without apart.1;
       }
 
@@ -94,18 +94,18 @@ module _ (kept live more : List Extent) (x : Extent) (empty : x.length ≡ 0) (a
   pub empty_put : Covers kept live → Covers kept more
   empty_put so_far = record {
     same = λ y some. (
-        (λ has. elim (has_cut at.front at.back x y (rw at.within at has)) [ inl is ↦ absurd (not_it y some is) | inr rest ↦ (so_far.same y some).0 (rw at.without rest) ]),
-        (λ has. rw at.within (has_put at.front at.back x y (inr (rw at.without at ((so_far.same y some).1 has))))),
-      );
+      (λ has. elim (has_cut at.front at.back x y (rw at.within at has)) [ inl is ↦ absurd (not_it y some is) | inr rest ↦ (so_far.same y some).0 (rw at.without rest) ]),
+      (λ has. rw at.within (has_put at.front at.back x y (inr (rw at.without at ((so_far.same y some).1 has))))),
+    );
     apart = rw at.within (apart_put at.front at.back x (clear (at.front ++ at.back)) (rw at.without at so_far.apart));
   }
 
   pub empty_cut : Covers kept more → Covers kept live
   empty_cut so_far = record {
     same = λ y some. (
-        (λ has. (so_far.same y some).0 (rw at.within (has_put at.front at.back x y (inr (rw at.without at has))))),
-        (λ has. elim (has_cut at.front at.back x y (rw at.within at ((so_far.same y some).1 has))) [ inl is ↦ absurd (not_it y some is) | inr rest ↦ rw at.without rest ]),
-      );
+      (λ has. (so_far.same y some).0 (rw at.within (has_put at.front at.back x y (inr (rw at.without at has))))),
+      (λ has. elim (has_cut at.front at.back x y (rw at.within at ((so_far.same y some).1 has))) [ inl is ↦ absurd (not_it y some is) | inr rest ↦ rw at.without rest ]),
+    );
     apart = rw at.without (apart_cut at.front at.back x (rw at.within at so_far.apart)).1;
   }
 

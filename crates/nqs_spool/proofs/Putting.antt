@@ -1,11 +1,10 @@
 -- What a put leaves of a spool.
-use Rattle.std.proofs.Common.{◌≡◌, ◌==◌, Bool, false, ℕ, ◌+◌, ◌<◌, ◌≤◌, max, IsTrue, List, [], ◌∷◌, length, refl, sym, ap, ◌∙◌, subst, arith}
-use Rattle.std.specs.List.{AllByRecursion}
+use Rattle.std.proofs.Common.{◌≡◌, ◌==◌, Bool, false, ℕ, ◌<◌, ◌≤◌, IsTrue, List, [], ◌∷◌, length, refl, sym, ap, ◌∙◌, subst, arith}
 use Rattle.nqs_types.specs.declared.extent.Extent.{Extent}
-use Rattle.nqs_outside.specs.History.{Call, History, extended, content, moment, IsQuiet, EachSince, BreaksOff}
+use Rattle.nqs_outside.specs.History.{Call, History, extended, content, moment, EachSince, BreaksOff}
 use Rattle.nqs_outside.specs.declared.disk.Disk as disk
 use Rattle.nqs_spool.specs.Puts.{written_through, put_calls}
-use Rattle.nqs_spool.specs.Extents.{extent_at, past, IsApart, IsClearOf, IsLeastPlace, Has, IsWith, Holds, Covers}
+use Rattle.nqs_spool.specs.Extents.{extent_at, past, IsApart, IsClearOf, IsLeastPlace, Has, IsWith, Holds}
 use Rattle.nqs_spool.specs.Live as live
 use Rattle.nqs_spool.specs.Slots.{first_fit}
 use Rattle.nqs_spool.specs.declared.live.LiveExtents.{LiveExtents}
@@ -13,7 +12,7 @@ use Rattle.nqs_spool.specs.Spooled.{history_of, place_for, Tells}
 use Rattle.nqs_spool.specs.declared.spool.Spool.{Spool}
 use Rattle.nqs_spool.proofs.Lists.{all_has, all_with, all_map, covers_put, empty_put, least_of_live, clear_of_none}
 use Rattle.nqs_spool.proofs.Kept.{fit_is_least, kept_some}
-use Rattle.nqs_spool.proofs.Writing.{held_throughout, held_after, quiet_after, length_after, no_shorter}
+use Rattle.nqs_spool.proofs.Writing.{held_throughout, held_after, quiet_after, length_after}
 
 pub some_of : (bytes : List ℕ) → (length bytes == 0) ≡ false → 0 < length bytes
 some_of [] is = cc
@@ -33,7 +32,7 @@ module _ {D : Type 0} {g : disk.Ghosts D} (spool : Spool D g) where
   least (byte ∷ bytes) extents tells =
       let count = length (byte ∷ bytes) in
       least_of_live (live.kept spool.live) extents count (place_for spool (byte ∷ bytes)) (kept_some spool.live) tells.live
-        (fit_is_least count spool.live.end spool.live.tree spool.live.row (omega arith))
+      (fit_is_least count spool.live.end spool.live.tree spool.live.row (omega arith))
 
   -- what is written at that place
   module _ (bytes : List ℕ) (place : ℕ) (at : place ≡ place_for spool bytes) (within : IsTrue g.tells → place ≤ length (content (history_of spool))) (extents : List Extent) (tells : Tells spool extents) where
@@ -65,7 +64,7 @@ module _ {D : Type 0} {g : disk.Ghosts D} (spool : Spool D g) where
       within = λ told.
           let size = length_after (history_of spool) place bytes (within told) (history_of spool') (made told) in
           all_with (λ y. past y ≤ length (content (history_of spool'))) extents more new at' (omega (arith, size))
-            (all_map (λ y. past y ≤ length (content (history_of spool))) (λ y. past y ≤ length (content (history_of spool'))) extents (λ y le. omega (arith, le, size)) (tells.within told));
+          (all_map (λ y. past y ≤ length (content (history_of spool))) (λ y. past y ≤ length (content (history_of spool'))) extents (λ y le. omega (arith, le, size)) (tells.within told));
       quiet = λ told. quiet_after (history_of spool) place bytes (tells.quiet told) (within told) (history_of spool') (made told);
     }
 

@@ -2,9 +2,8 @@
 use Rattle.std.proofs.Common.{◌≡◌, ℕ, ◌+◌, ◌-◌, ◌<◌, ◌≤◌, min, List, ◌++◌, length, take, drop, get_or, sym, ap, ◌∙◌, arith, append_assoc, length-append, length-drop}
 use Rattle.std.proofs.lemmas.List.{length-replicate}
 use Rattle.std.specs.Prelude.{replicate}
-use Rattle.std.proofs.lemmas.List.{length-take, take-take, take_min, take_all, take_at, take-append-le, get_or-take, get_or-drop}
+use Rattle.std.proofs.lemmas.List.{length-take, take-take, take_min, take_all, take_at, get_or-take, get_or-drop}
 use Rattle.std.proofs.lemmas.Grind.{same_number_lists}
-use Rattle.std.proofs.Math.Seq.{take-append-add, take-length}
 
 take_of_read : (content : List ℕ) (place count read : ℕ) → read ≡ min count (length content - place) → take read (drop place content) ≡ take count (drop place content)
 take_of_read content place count read is = ap (λ n. take n (drop place content)) (is ∙ ap (λ n. min count n) (sym (length-drop place content))) ∙ take_min count (drop place content)
@@ -19,7 +18,7 @@ read_behind filled later post rest content start size place count read within mo
     let new = take read (drop place content) in
     let size_is : length (front ++ new) ≡ start + read = omega (arith, length-append front new, length-take start filled, within, length_of_read content place count read is) in
     let whole : (front ++ ((new ++ later) ++ post)) ++ rest ≡ (front ++ new) ++ (later ++ (post ++ rest)) =
-        append_assoc front ((new ++ later) ++ post) rest ∙ ap (λ l. front ++ l) (append_assoc (new ++ later) post rest ∙ append_assoc new later (post ++ rest)) ∙ sym (append_assoc front new (later ++ (post ++ rest))) in
+    append_assoc front ((new ++ later) ++ post) rest ∙ ap (λ l. front ++ l) (append_assoc (new ++ later) post rest ∙ append_assoc new later (post ++ rest)) ∙ sym (append_assoc front new (later ++ (post ++ rest))) in
     take-take (start + read) size _ most ∙ ap (take (start + read)) whole ∙ take_at (front ++ new) (later ++ (post ++ rest)) (start + read) size_is
     ∙ ap (λ l. front ++ l) (take_of_read content place count read is)
 
@@ -29,8 +28,8 @@ same_slice a b from count long long' same =
     let left : length (take count (drop from a)) ≡ count = omega (arith, length-take count (drop from a), length-drop from a, long) in
     let right : length (take count (drop from b)) ≡ count = omega (arith, length-take count (drop from b), length-drop from b, long') in
     same_number_lists (take count (drop from a)) (take count (drop from b)) (left ∙ sym right) (λ i lt.
-      let below : i < count = omega (arith, lt, left) in
-      get_or-take count (drop from a) i 0 below ∙ get_or-drop from a i 0 ∙ same (from + i) (omega arith) (omega (arith, below)) ∙ sym (get_or-drop from b i 0) ∙ sym (get_or-take count (drop from b) i 0 below))
+    let below : i < count = omega (arith, lt, left) in
+    get_or-take count (drop from a) i 0 below ∙ get_or-drop from a i 0 ∙ same (from + i) (omega arith) (omega (arith, below)) ∙ sym (get_or-drop from b i 0) ∙ sym (get_or-take count (drop from b) i 0 below))
 
 -- a list that was filled up behind its elements
 pub filled_front : (out filled : List ℕ) (start count more byte : ℕ) → start ≡ length out → filled ≡ take (start + count) out ++ replicate more byte → take start filled ≡ out

@@ -1,9 +1,9 @@
 -- What the images of a disk hold while bytes are written through.
-use Rattle.std.proofs.Common.{◌≡◌, ◌⊎◌, inl, inr, ℕ, zero, suc, ◌+◌, ◌<◌, ◌≤◌, min, max, true, false, List, [], ◌∷◌, ◌++◌, length, take, drop, refl, sym, ap, ◌∙◌, subst, arith, append_assoc, length-append}
+use Rattle.std.proofs.Common.{◌≡◌, inl, inr, ℕ, zero, suc, ◌+◌, ◌<◌, ◌≤◌, max, true, false, List, [], ◌∷◌, ◌++◌, length, take, drop, refl, sym, ap, ◌∙◌, subst, arith, append_assoc, length-append}
 use Rattle.std.proofs.lemmas.List.{length-take, take_at, drop_at}
 use Rattle.std.proofs.Math.Seq.{take-length}
 use Rattle.nqs_types.specs.declared.extent.Extent.{Extent}
-use Rattle.nqs_outside.specs.History.{State, Call, write, sync, step, after, fresh, written, made, covers, IsImage, History, extended, state, content, moment, state_at, IsQuiet, EachSince, BreaksOff, StopsShort}
+use Rattle.nqs_outside.specs.History.{State, Call, write, step, after, fresh, written, made, covers, IsImage, History, extended, state, content, moment, state_at, IsQuiet, EachSince, BreaksOff}
 use Rattle.nqs_outside.proofs.Histories.{state-extended, length-written, content-after}
 use Rattle.nqs_outside.proofs.Images.{fresh_image, uncovered_below, uncovered_above}
 use Rattle.nqs_outside.proofs.Coherence.{after_coherent, fresh_coherent, sound_push}
@@ -73,7 +73,7 @@ module _ (h : History) (place : ℕ) (bytes : List ℕ) (quiet : IsQuiet h) (wit
         let size : moment h ≤ moment k = omega (arith, ap moment is, length-append h.calls calls) in
         let r = moments h k (written_through place bytes) calls is off (moment k) size (omega arith) in
         let now : state k ≡ after (fresh old) (take r.i (written_through place bytes)) =
-            sym (ap (after (fresh k.start)) (take-length k.calls)) ∙ r.is ∙ ap (λ s. after s (take r.i (written_through place bytes))) quiet in
+        sym (ap (after (fresh k.start)) (take-length k.calls)) ∙ r.is ∙ ap (λ s. after s (take r.i (written_through place bytes))) quiet in
         subst (λ (s : State). Holds s.content x script) (sym now) (held_read r.i r.within)
 
   -- once it is done
@@ -97,7 +97,7 @@ module _ (h : History) (place : ℕ) (bytes : List ℕ) (within : place ≤ leng
       let size : moment h ≤ moment k = omega (arith, ap moment is, length-append h.calls calls) in
       let r = moments h k (written_through place bytes) calls is off (moment k) size (omega arith) in
       let now : content k ≡ made (content h) (take r.i (written_through place bytes)) =
-          sym (ap (λ l. (after (fresh k.start) l).content) (take-length k.calls)) ∙ ap (λ (s : State). s.content) r.is ∙ content-after (state h) (take r.i (written_through place bytes)) in
+      sym (ap (λ l. (after (fresh k.start) l).content) (take-length k.calls)) ∙ ap (λ (s : State). s.content) r.is ∙ content-after (state h) (take r.i (written_through place bytes)) in
       subst (λ l. length (content h) ≤ length l) (sym now) (no_shorter_at r.i r.within)
 
   pub length_after : (k : History) → k ≡ extended h (written_through place bytes) → length (content k) ≡ max (length (content h)) (place + length bytes)

@@ -168,7 +168,13 @@ mod tests {
             live.remove(&Extent { place, length: 1 });
         }
         assert!(rt; live.tree.height() <= 12);
-        assert_eq!(rt; put_byte(&mut live)?, Extent { place: 0, length: 1 });
+        assert_eq!(rt;
+            put_byte(&mut live)?,
+            Extent {
+                place: 0,
+                length: 1
+            }
+        );
         Ok(())
     }
 }

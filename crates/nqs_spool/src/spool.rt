@@ -29,11 +29,7 @@ impl<D: Disk> Spool<D> {
     ghost use Rattle.nqs_spool.specs.Spooled.{disk_of, history_of, room_of, place_for, Tells};
 
     /// Opens a spool whose live extents are these. It makes no call of the disk.
-    pub fn load(
-        alloc: Global,
-        disk: D,
-        live: &[Extent],
-    ) -> Result<Spool<D>, (SpoolFault, D)>
+    pub fn load(alloc: Global, disk: D, live: &[Extent]) -> Result<Spool<D>, (SpoolFault, D)>
         requires apart { AreApart live.now }
         requires small { AllByRecursion (λ extent. past extent < 2 ^ 64) live.now }
         requires within { IsTrue D.tells → AllByRecursion (λ extent. past extent ≤ length (content (D.history disk))) live.now }

@@ -45,8 +45,14 @@ fn least_places(rt: HostRuntime) -> Result<(), Fail> {
     assert_eq!(rt; spool.put(b"fg")?, at(10, 2));
     assert_eq!(rt; spool.put(b"h")?, at(7, 1));
     assert_eq!(rt; spool.length()?, 12);
-    assert_eq!(rt; bytes_of(alloc, &mut spool, &four)?.as_slice(), b"four".as_slice());
-    assert_eq!(rt; bytes_of(alloc, &mut spool, &at(0, 12))?.as_slice(), b"abcfourhdefg".as_slice());
+    assert_eq!(rt;
+        bytes_of(alloc, &mut spool, &four)?.as_slice(),
+        b"four".as_slice()
+    );
+    assert_eq!(rt;
+        bytes_of(alloc, &mut spool, &at(0, 12))?.as_slice(),
+        b"abcfourhdefg".as_slice()
+    );
     Ok(())
 }
 
@@ -95,7 +101,10 @@ fn stops(rt: HostRuntime) -> Result<(), Fail> {
     let alloc = rt.alloc();
     for calls in 1..3 {
         for tear in [Tear::Old, Tear::New, Tear::Mixed(0), Tear::Mixed(0xE4E5)] {
-            assert_eq!(rt; left_after(alloc, calls, tear)?.as_slice(), b"live".as_slice());
+            assert_eq!(rt;
+                left_after(alloc, calls, tear)?.as_slice(),
+                b"live".as_slice()
+            );
         }
     }
     Ok(())

@@ -136,7 +136,15 @@ impl Tree {
             Node::Leaf => {
                 let Room { left, right } = room;
                 let from = end;
-                *self = Tree::close(fork(left, Slot { from, place, length }, right));
+                *self = Tree::close(fork(
+                    left,
+                    Slot {
+                        from,
+                        place,
+                        length,
+                    },
+                    right,
+                ));
                 Some(place + u64::from(length))
             }
             Node::Fork(mut left, slot, _, _, mut right) => {

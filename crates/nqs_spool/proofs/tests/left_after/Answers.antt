@@ -1,4 +1,4 @@
-use Rattle.std.proofs.Common.{◌≤◌, length, ap, arith}
+use Rattle.std.proofs.Common.{length, ap, arith}
 use Rattle.nqs_outside.specs.History.{History, content}
 use Rattle.nqs_spool.proofs.tests.left_after.Goals as goal
 

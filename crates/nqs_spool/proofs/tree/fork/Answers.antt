@@ -1,4 +1,4 @@
-use Rattle.std.proofs.Common.{sym, ◌∙◌, arith}
+use Rattle.std.proofs.Common.{arith}
 use Rattle.nqs_spool.proofs.Rows.{widest-append}
 use Rattle.nqs_spool.proofs.tree.fork.Goals as goal
 

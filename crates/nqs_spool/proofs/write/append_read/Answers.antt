@@ -1,5 +1,5 @@
-use Rattle.std.proofs.Common.{◌≡◌, ◌+◌, ◌-◌, ◌≤◌, ◌++◌, ℕ, List, length, take, drop, min, sym, ap, ◌∙◌, arith, length-append, length-drop, vec_len}
-use Rattle.std.proofs.lemmas.List.{take_at, take_all, length-take, length-replicate}
+use Rattle.std.proofs.Common.{◌≡◌, ◌+◌, ◌-◌, ◌++◌, ℕ, List, length, take, drop, ap, ◌∙◌, arith, length-drop, vec_len}
+use Rattle.std.proofs.lemmas.List.{length-take}
 use Rattle.nqs_outside.specs.History.{content}
 use Rattle.nqs_spool.proofs.Reading.{read_behind, filled_front, filled_length}
 use Rattle.nqs_spool.proofs.write.append_read.Goals as goal
@@ -18,6 +18,6 @@ returns-in-Ok-clause-bytes g c = λ told.
     let part = length-take (length all - start) (drop start all) in
     let tail = length-drop start all in
     rw (c.truncate.ensures.items, c.in-Ok.ensures.bytes told) (
-      read_behind all _ _ _ bytes start c.resize.new.self.len c.args.place c.args.count c.in-Ok.read
-        (omega (arith, size)) (omega (arith, c.in-Ok.ensures.within, part, tail, size, c.in_ok-resize.ensures.len)) (omega (arith, c.in-Ok.ensures.count told, part, tail, size))
-      ∙ ap (λ (l : List ℕ). l ++ take c.args.count (drop c.args.place bytes)) front)
+    read_behind all _ _ _ bytes start c.resize.new.self.len c.args.place c.args.count c.in-Ok.read
+    (omega (arith, size)) (omega (arith, c.in-Ok.ensures.within, part, tail, size, c.in_ok-resize.ensures.len)) (omega (arith, c.in-Ok.ensures.count told, part, tail, size))
+    ∙ ap (λ (l : List ℕ). l ++ take c.args.count (drop c.args.place bytes)) front)

@@ -1,8 +1,5 @@
-use Rattle.std.proofs.Common.{◌≤◌, max, sym, ap, ◌∙◌, subst, arith}
-use Rattle.std.specs.Option.{unwrap_or}
+use Rattle.std.proofs.Common.{arith}
 use Rattle.nqs_spool.specs.Live.{slots, end_of}
-use Rattle.nqs_spool.specs.Slots.{IsRow}
-use Rattle.nqs_spool.specs.Extents.{IsWith, extents_of}
 use Rattle.nqs_spool.proofs.Kept.{inserted_row, inserted_more, ended_to}
 use Rattle.nqs_spool.proofs.live.LiveExtents.insert.Goals as goal
 

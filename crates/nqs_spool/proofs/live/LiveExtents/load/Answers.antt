@@ -1,9 +1,8 @@
-use Rattle.std.proofs.Common.{◌≡◌, ℕ, ◌+◌, ◌<◌, ◌≤◌, ◌^◌, List, [], ◌∷◌, ◌++◌, refl, sym, ap, ◌∙◌, subst, arith, append_assoc}
+use Rattle.std.proofs.Common.{◌<◌, ◌≤◌, ◌^◌, [], ◌∷◌, ◌++◌, refl, sym, ap, ◌∙◌, subst, arith, append_assoc}
 use Rattle.std.proofs.lemmas.List.{append-nil}
 use Rattle.std.specs.List.{AllByRecursion}
-use Rattle.nqs_types.specs.declared.extent.Extent.{Extent}
-use Rattle.nqs_spool.specs.Extents.{past, IsApart, IsClearOf, AreApart, IsWith}
-use Rattle.nqs_spool.specs.Live.{kept, end_of}
+use Rattle.nqs_spool.specs.Extents.{past, IsApart, AreApart, IsWith}
+use Rattle.nqs_spool.specs.Live.{kept}
 use Rattle.nqs_spool.proofs.Lists.{all_cut, all_front, apart_cut, clear_kept}
 use Rattle.nqs_spool.proofs.Kept.{kept_some}
 use Rattle.nqs_spool.proofs.live.LiveExtents.load.Goals as goal
@@ -29,8 +28,7 @@ extents-preserved c =
     let whole = inv.1 ∙ ap (λ l. inv.0 ++ l) c.in-Some.ensures.cases.0 in
     let apart = apart_cut inv.0 c.in-Some.more.now x (subst AreApart whole c.requires.apart) in
     let clear = all_front (IsApart x) inv.0 c.in-Some.more.now apart.0 in
-    let at : IsWith inv.0 x (inv.0 ++ x ∷ []) = record { front = inv.0; back = []; without = sym (append-nil inv.0); within = refl } in
-    (
+    let at : IsWith inv.0 x (inv.0 ++ x ∷ []) = record { front = inv.0; back = []; without = sym (append-nil inv.0); within = refl } in (
       inv.0 ++ x ∷ [],
       whole ∙ sym (append_assoc inv.0 (x ∷ []) c.in-Some.more.now),
       c.in_ok-add.ensures.covers inv.0 (inv.0 ++ x ∷ []) at clear inv.2,

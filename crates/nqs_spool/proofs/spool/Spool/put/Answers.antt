@@ -1,10 +1,10 @@
-use Rattle.std.proofs.Common.{◌≡◌, ◌<◌, ◌≤◌, refl, sym, ap, ◌∙◌, subst, length, arith}
-use Rattle.nqs_outside.specs.History.{content, IsExact, extended, StopsShort}
+use Rattle.std.proofs.Common.{refl, sym, ap, ◌∙◌, subst, length, arith}
+use Rattle.nqs_outside.specs.History.{extended, StopsShort}
 use Rattle.nqs_outside.proofs.Planned.{whole_is_prefix, short_is_prefix}
-use Rattle.nqs_spool.specs.Puts.{put_calls, written_through}
-use Rattle.nqs_spool.specs.Extents.{extent_at, IsWith, Holds, extents_of}
+use Rattle.nqs_spool.specs.Puts.{written_through}
+use Rattle.nqs_spool.specs.Extents.{extent_at, IsWith, extents_of}
 use Rattle.nqs_spool.specs.Live as live
-use Rattle.nqs_spool.specs.Spooled.{history_of, place_for}
+use Rattle.nqs_spool.specs.Spooled.{history_of}
 use Rattle.nqs_spool.proofs.Writing.{held_idle, no_shorter, length_after, stored}
 use Rattle.nqs_spool.proofs.Putting.{least, held, held_still, tells_more, tells_empty, found}
 use Rattle.nqs_spool.proofs.spool.Spool.put.Goals as goal
@@ -45,8 +45,13 @@ invariant_of-self-in-Ok g c = record {
   within = λ told.
       let h = history_of c.args.self.now in
       let f = found c.args.self.now c.take_room.new.self c.args.bytes.now c.least_place-place.result c.is_empty.result c.is_empty.ensures c.if-is_empty.false c.in_ok-room.ensures.same c.in_ok-room.ensures.end c.least_place-place.ensures.place c.least_place-place.ensures.within in
-      omega (arith, c.insert.ensures.end, c.in_ok-room.ensures.end, c.args.self.now.within told,
-        length_after h c.least_place-place.result c.args.bytes.now (f.within told) (g.D.Disk.history c.write_through.new.disk) (c.in-Ok.ensures.made told));
+      omega (
+        arith,
+        c.insert.ensures.end,
+        c.in_ok-room.ensures.end,
+        c.args.self.now.within told,
+        length_after h c.least_place-place.result c.args.bytes.now (f.within told) (g.D.Disk.history c.write_through.new.disk) (c.in-Ok.ensures.made told),
+      );
 }
 
 pub invariant_of-self-in-Err : goal.invariant_of-self-in-Err
@@ -55,8 +60,12 @@ invariant_of-self-in-Err g c = record {
       let h = history_of c.args.self.now in
       let f = found c.args.self.now c.take_room.new.self c.args.bytes.now c.least_place-place.result c.is_empty.result c.is_empty.ensures c.if-is_empty.false c.in_ok-room.ensures.same c.in_ok-room.ensures.end c.least_place-place.ensures.place c.least_place-place.ensures.within in
       let broken = c.in-Err.ensures.broken told in
-      omega (arith, c.in_ok-room.ensures.end, c.args.self.now.within told,
-        no_shorter h c.least_place-place.result c.args.bytes.now (f.within told) (g.D.Disk.history c.write_through.new.disk) broken.0 broken.1 (short_is_prefix _ _ broken.2));
+      omega (
+        arith,
+        c.in_ok-room.ensures.end,
+        c.args.self.now.within told,
+        no_shorter h c.least_place-place.result c.args.bytes.now (f.within told) (g.D.Disk.history c.write_through.new.disk) broken.0 broken.1 (short_is_prefix _ _ broken.2),
+      );
 }
 
 pub returns-in-Ok-clause-extent : goal.returns-in-Ok-clause-extent
@@ -89,21 +98,21 @@ pub returns-in-Ok-clause-kept : goal.returns-in-Ok-clause-kept
 returns-in-Ok-clause-kept g c = λ told extents tells x script has holds.
     let f = found c.args.self.now c.take_room.new.self c.args.bytes.now c.least_place-place.result c.is_empty.result c.is_empty.ensures c.if-is_empty.false c.in_ok-room.ensures.same c.in_ok-room.ensures.end c.least_place-place.ensures.place c.least_place-place.ensures.within in
     held c.args.self.now c.args.bytes.now c.least_place-place.result f.at f.within extents tells told x script has holds
-      (g.D.Disk.history c.write_through.new.disk) (written_through c.least_place-place.result c.args.bytes.now) (c.in-Ok.ensures.made told) (whole_is_prefix (written_through c.least_place-place.result c.args.bytes.now))
+    (g.D.Disk.history c.write_through.new.disk) (written_through c.least_place-place.result c.args.bytes.now) (c.in-Ok.ensures.made told) (whole_is_prefix (written_through c.least_place-place.result c.args.bytes.now))
 
 pub returns-in-Err-clause-kept : goal.returns-in-Err-clause-kept
 returns-in-Err-clause-kept g c = λ told extents tells x script has holds.
     let f = found c.args.self.now c.take_room.new.self c.args.bytes.now c.least_place-place.result c.is_empty.result c.is_empty.ensures c.if-is_empty.false c.in_ok-room.ensures.same c.in_ok-room.ensures.end c.least_place-place.ensures.place c.least_place-place.ensures.within in
     let broken = c.in-Err.ensures.broken told in
     held c.args.self.now c.args.bytes.now c.least_place-place.result f.at f.within extents tells told x script has holds
-      (g.D.Disk.history c.write_through.new.disk) broken.0 broken.1 (short_is_prefix _ _ broken.2)
+    (g.D.Disk.history c.write_through.new.disk) broken.0 broken.1 (short_is_prefix _ _ broken.2)
 
 pub returns-in-Ok-clause-tells : goal.returns-in-Ok-clause-tells
 returns-in-Ok-clause-tells g c = λ extents more tells with_it.
     let f = found c.args.self.now c.take_room.new.self c.args.bytes.now c.least_place-place.result c.is_empty.result c.is_empty.ensures c.if-is_empty.false c.in_ok-room.ensures.same c.in_ok-room.ensures.end c.least_place-place.ensures.place c.least_place-place.ensures.within in
     let new = extent_at c.least_place-place.result (length c.args.bytes.now) in
     tells_more c.args.self.now c.args.bytes.now c.least_place-place.result f.at f.within extents tells _
-      (subst (λ l. IsWith (extents_of l) new (live.kept c.insert.new.self)) c.in_ok-room.ensures.same c.insert.ensures.more) c.in-Ok.ensures.made more with_it
+    (subst (λ l. IsWith (extents_of l) new (live.kept c.insert.new.self)) c.in_ok-room.ensures.same c.insert.ensures.more) c.in-Ok.ensures.made more with_it
 
 pub returns-in-Ok-clause-stored : goal.returns-in-Ok-clause-stored
 returns-in-Ok-clause-stored g c = λ told.
@@ -115,11 +124,11 @@ pub returns-in-Ok-clause-still : goal.returns-in-Ok-clause-still
 returns-in-Ok-clause-still g c = λ told extents tells x script has holds.
     let f = found c.args.self.now c.take_room.new.self c.args.bytes.now c.least_place-place.result c.is_empty.result c.is_empty.ensures c.if-is_empty.false c.in_ok-room.ensures.same c.in_ok-room.ensures.end c.least_place-place.ensures.place c.least_place-place.ensures.within in
     held_still c.args.self.now c.args.bytes.now c.least_place-place.result f.at f.within extents tells told x script has holds
-      (g.D.Disk.history c.write_through.new.disk) (written_through c.least_place-place.result c.args.bytes.now) (c.in-Ok.ensures.made told) (whole_is_prefix (written_through c.least_place-place.result c.args.bytes.now))
+    (g.D.Disk.history c.write_through.new.disk) (written_through c.least_place-place.result c.args.bytes.now) (c.in-Ok.ensures.made told) (whole_is_prefix (written_through c.least_place-place.result c.args.bytes.now))
 
 pub returns-in-Err-clause-still : goal.returns-in-Err-clause-still
 returns-in-Err-clause-still g c = λ told extents tells x script has holds.
     let f = found c.args.self.now c.take_room.new.self c.args.bytes.now c.least_place-place.result c.is_empty.result c.is_empty.ensures c.if-is_empty.false c.in_ok-room.ensures.same c.in_ok-room.ensures.end c.least_place-place.ensures.place c.least_place-place.ensures.within in
     let broken = c.in-Err.ensures.broken told in
     held_still c.args.self.now c.args.bytes.now c.least_place-place.result f.at f.within extents tells told x script has holds
-      (g.D.Disk.history c.write_through.new.disk) broken.0 broken.1 (short_is_prefix _ _ broken.2)
+    (g.D.Disk.history c.write_through.new.disk) broken.0 broken.1 (short_is_prefix _ _ broken.2)

@@ -1,4 +1,4 @@
-use Rattle.std.proofs.Common.{◌≡◌, ◌++◌, ◌∷◌, sym, ap, ◌∙◌, arith}
+use Rattle.std.proofs.Common.{◌∷◌, sym, ap, ◌∙◌, arith}
 use Rattle.nqs_spool.specs.Slots.{widest_of, first_fit}
 use Rattle.nqs_spool.specs.Nodes.{slots_of}
 use Rattle.nqs_spool.proofs.Rows.{fit-left, fit-right, fit-here, fit-later}

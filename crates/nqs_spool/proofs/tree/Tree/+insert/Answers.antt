@@ -1,4 +1,4 @@
-use Rattle.std.proofs.Common.{◌≡◌, ◌++◌, ◌∷◌, sym, ap, ◌∙◌, arith, length, length-append}
+use Rattle.std.proofs.Common.{sym, arith}
 use Rattle.nqs_spool.proofs.Rows.{inserted-left, ended-before, inserted-behind, ended-behind, left_row, right_row, shorter}
 use Rattle.nqs_spool.proofs.tree.Tree.+insert.Goals as goal
 
@@ -9,8 +9,16 @@ insert-behind-requires t c =
 
 pub returns-then-place-slot-clause-slots : goal.returns-then-place-slot-clause-slots
 returns-then-place-slot-clause-slots t c =
-    cc (c.close-then-place-slot.ensures, c.balanced.ensures.slots, c.set_from.ensures, c.insert-behind.ensures.slots, c.insert-behind.ensures.last, c.deref_mut.ensures.value, c.in-Fork.ensures.slots,
-      inserted-left c.args.place c.args.length c.args.end c.in-Fork.left.value c.in-Fork.slot c.in-Fork.right.value c.if-place-slot.true)
+    cc (
+      c.close-then-place-slot.ensures,
+      c.balanced.ensures.slots,
+      c.set_from.ensures,
+      c.insert-behind.ensures.slots,
+      c.insert-behind.ensures.last,
+      c.deref_mut.ensures.value,
+      c.in-Fork.ensures.slots,
+      inserted-left c.args.place c.args.length c.args.end c.in-Fork.left.value c.in-Fork.slot c.in-Fork.right.value c.if-place-slot.true,
+    )
 
 pub returns-then-place-slot-clause-last : goal.returns-then-place-slot-clause-last
 returns-then-place-slot-clause-last t c =
@@ -23,10 +31,18 @@ insert-last-requires t c =
 
 pub returns-else-place-slot-clause-slots : goal.returns-else-place-slot-clause-slots
 returns-else-place-slot-clause-slots t c =
-    cc (c.close-in-Fork.ensures, c.balanced-in-Fork.ensures.slots, c.insert-last.ensures.slots, c.deref_mut-in-Fork.ensures.value,
-      inserted-behind c.in-Fork.left.value c.in-Fork.slot c.in-Fork.right.value c.args.self.now c.in-Fork.ensures.slots c.requires.row c.args.place c.args.length c.args.end c.if-place-slot.false)
+    cc (
+      c.close-in-Fork.ensures,
+      c.balanced-in-Fork.ensures.slots,
+      c.insert-last.ensures.slots,
+      c.deref_mut-in-Fork.ensures.value,
+      inserted-behind c.in-Fork.left.value c.in-Fork.slot c.in-Fork.right.value c.args.self.now c.in-Fork.ensures.slots c.requires.row c.args.place c.args.length c.args.end c.if-place-slot.false,
+    )
 
 pub returns-else-place-slot-clause-last : goal.returns-else-place-slot-clause-last
 returns-else-place-slot-clause-last t c =
-    cc (c.insert-last.ensures.last, c.deref_mut-in-Fork.ensures.value,
-      ended-behind c.in-Fork.left.value c.in-Fork.slot c.in-Fork.right.value c.args.self.now c.in-Fork.ensures.slots c.requires.row c.args.place c.args.length c.if-place-slot.false)
+    cc (
+      c.insert-last.ensures.last,
+      c.deref_mut-in-Fork.ensures.value,
+      ended-behind c.in-Fork.left.value c.in-Fork.slot c.in-Fork.right.value c.args.self.now c.in-Fork.ensures.slots c.requires.row c.args.place c.args.length c.if-place-slot.false,
+    )

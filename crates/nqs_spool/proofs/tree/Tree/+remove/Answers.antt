@@ -1,4 +1,4 @@
-use Rattle.std.proofs.Common.{◌≡◌, ◌++◌, ◌∷◌, sym, ap, ◌∙◌, arith}
+use Rattle.std.proofs.Common.{sym, arith}
 use Rattle.nqs_spool.proofs.Rows.{left_row, right_row, shorter, removed-before, left_by-before, removed-behind, left_by-behind, removed-here, left_by-here}
 use Rattle.nqs_spool.proofs.tree.Tree.+remove.Goals as goal
 
@@ -9,8 +9,15 @@ remove-freed-requires t c =
 
 pub returns-then-place-slot-clause-slots : goal.returns-then-place-slot-clause-slots
 returns-then-place-slot-clause-slots t c =
-    cc (c.close.ensures, c.balanced.ensures.slots, c.set_from.ensures, c.remove-freed.ensures.slots, c.remove-freed.ensures.from, c.deref_mut.ensures.value,
-      removed-before c.in-Fork.left.value c.in-Fork.slot c.in-Fork.right.value c.args.self.now c.in-Fork.ensures.slots c.requires c.args.place c.if-place-slot.true)
+    cc (
+      c.close.ensures,
+      c.balanced.ensures.slots,
+      c.set_from.ensures,
+      c.remove-freed.ensures.slots,
+      c.remove-freed.ensures.from,
+      c.deref_mut.ensures.value,
+      removed-before c.in-Fork.left.value c.in-Fork.slot c.in-Fork.right.value c.args.self.now c.in-Fork.ensures.slots c.requires c.args.place c.if-place-slot.true,
+    )
 
 pub returns-then-place-slot-clause-from : goal.returns-then-place-slot-clause-from
 returns-then-place-slot-clause-from t c = sym (left_by-before c.in-Fork.left.value c.in-Fork.slot c.in-Fork.right.value c.args.self.now c.in-Fork.ensures.slots c.requires c.args.place c.if-place-slot.true)
@@ -22,8 +29,13 @@ remove-freed-requires-then-slot-place t c =
 
 pub returns-then-slot-place-clause-slots : goal.returns-then-slot-place-clause-slots
 returns-then-slot-place-clause-slots t c =
-    cc (c.close-then-slot-place.ensures, c.balanced-then-slot-place.ensures.slots, c.remove-freed-then-slot-place.ensures.slots, c.deref_mut-then-slot-place.ensures.value,
-      removed-behind c.in-Fork.left.value c.in-Fork.slot c.in-Fork.right.value c.args.self.now c.in-Fork.ensures.slots c.requires c.args.place c.if-slot-place.true)
+    cc (
+      c.close-then-slot-place.ensures,
+      c.balanced-then-slot-place.ensures.slots,
+      c.remove-freed-then-slot-place.ensures.slots,
+      c.deref_mut-then-slot-place.ensures.value,
+      removed-behind c.in-Fork.left.value c.in-Fork.slot c.in-Fork.right.value c.args.self.now c.in-Fork.ensures.slots c.requires c.args.place c.if-slot-place.true,
+    )
 
 pub returns-then-slot-place-clause-from : goal.returns-then-slot-place-clause-from
 returns-then-slot-place-clause-from t c =
