@@ -17,7 +17,8 @@ use std::alloc::Global;
 
 const LONGEST: usize = 32_768;
 
-/// Keeps scripts and outputs of requests on a disk.
+/// Keeps scripts and outputs of requests, each in a range of the bytes of one disk. No byte is in
+/// two live ranges, so a write changes no live range, whenever it stops.
 #[derive(Drop)]
 pub struct Spool<D: Disk> {
     disk: D,
@@ -28,7 +29,8 @@ pub struct Spool<D: Disk> {
 impl<D: Disk> Spool<D> {
     ghost use Rattle.nqs_spool.specs.Spooled.{disk_of, history_of, room_of, place_for, Tells};
 
-    /// Opens a spool whose live extents are these. It makes no call of the disk.
+    /// Opens a spool whose live extents are these, in any order. It makes no call of the disk.
+    /// The only fault is `Memory`, which hands the disk back.
     pub fn load(alloc: Global, disk: D, live: &[Extent]) -> Result<Spool<D>, (SpoolFault, D)>
         requires apart { AreApart live.now }
         requires small { AllByRecursion (λ extent. past extent < 2 ^ 64) live.now }
@@ -54,7 +56,7 @@ impl<D: Disk> Spool<D> {
         self.live.make_room(count)
     }
 
-    /// The disk's length in bytes.
+    /// The disk's length in bytes. The only fault is `Disk`, which leaves all as it was.
     pub fn length(&mut self) -> Result<u64, SpoolFault>
         ensures length { IsTrue D.tells → IfOk result (λ length_now. length_now ≡ length (content (history_of self.old))) }
         ensures small { IfOk result (λ length_now. length_now ≤ 2 ^ 40) }
@@ -134,7 +136,8 @@ impl<D: Disk> Spool<D> {
         }
     }
 
-    /// Adds the bytes of a live extent. It takes no memory where there is room for them.
+    /// Adds the bytes of a live extent to `out`, or those up to the disk's end. It takes no memory
+    /// where there is room for them. A fault (`Disk` or `Memory`) adds nothing.
     pub fn get(&mut self, extent: &Extent, out: &mut Vec<u8>) -> Result<(), SpoolFault>
         ensures bytes { IsTrue D.tells → (script : List ℕ) → Holds (content (history_of self.old)) extent.now script
             → OnOk result (out.new.items ≡ out.old.items ++ script) }
@@ -152,7 +155,8 @@ impl<D: Disk> Spool<D> {
         append_read(&mut self.disk, extent.place, extent.length, out)
     }
 
-    /// Makes a live extent free. It takes no memory.
+    /// Makes a live extent free: its bytes may be given out again. It takes no memory and makes no
+    /// call of the disk.
     pub fn free(&mut self, extent: &Extent)
         ensures tells { (live fewer : List Extent) → Tells self.old live → IsWith fewer extent.now live → Tells self.new fewer }
         ensures same { disk_of self.new ≡ disk_of self.old }
@@ -175,7 +179,7 @@ impl<D: Disk> Spool<D> {
 impl<D: Fused> Spool<D> {
     ghost use Rattle.nqs_spool.specs.Spooled.{disk_of, history_of, room_of, Tells};
 
-    /// Sets the disk to fail.
+    /// Makes the disk's calls-th write or sync from here fail, and each later call.
     pub fn fuse(&mut self, calls: u64)
         ensures same { D.history (disk_of self.new) ≡ D.history (disk_of self.old) }
         ensures set { IsTrue D.tells → ((i : ℕ) → i < moment (history_of self.old) → D.fails (disk_of self.old) i ≡ false)
