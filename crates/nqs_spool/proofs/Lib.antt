@@ -1,0 +1,6 @@
+mod Rows
+mod Lists
+mod Kept
+mod Reading
+mod Writing
+mod Putting

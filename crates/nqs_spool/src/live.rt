@@ -1,0 +1,180 @@
+//! The live extents of a disk, as a set in order of place. An empty extent isn't kept.
+ghost use Rattle.std.specs.Prelude.{◌≡◌, ◌+◌, ◌<◌, ◌≤◌, ◌^◌, max, ℕ, [], OnOk, OnErr, IfOk, List, vec_len};
+ghost use Rattle.std.specs.List.{AllByRecursion};
+ghost use Rattle.nqs_types.specs.declared.extent.Extent.{Extent};
+ghost use Rattle.nqs_spool.specs.Slots.{IsRow, IsRow-prop};
+ghost use Rattle.nqs_spool.specs.Extents.{past, IsClearOf, AreApart, IsLeastPlace, Has, IsWith, Covers};
+
+use crate::tree::{Room, Tree};
+use nqs_types::{Extent, Memory};
+use std::alloc::Global;
+
+/// Each slot of the tree begins its free bytes where the one before ends; `end` is behind the last.
+#[derive(Drop)]
+pub(crate) struct LiveExtents {
+    alloc: Global,
+    tree: Tree,
+    end: u64,
+    rooms: Vec<Room>,
+    ghost row: { IsRow 0 tree end } by { IsRow-prop 0 tree end },
+}
+
+impl LiveExtents {
+    ghost use Rattle.nqs_spool.specs.Live.{kept, slots, end_of, room_of, place_for};
+
+    pub fn new(alloc: Global) -> LiveExtents
+        ensures none { kept result ≡ [] }
+        ensures end { end_of result ≡ 0 }
+    {
+        LiveExtents {
+            alloc,
+            tree: Tree::new(),
+            end: 0,
+            rooms: Vec::new(alloc),
+        }
+    }
+
+    // The set of these.
+    pub fn load(alloc: Global, live: &[Extent]) -> Result<LiveExtents, Memory>
+        requires apart { AreApart live.now }
+        requires small { AllByRecursion (λ extent. past extent < 2 ^ 64) live.now }
+        ensures covers { IfOk result (λ loaded. Covers (kept loaded) live.now) }
+        ensures end { (bound : ℕ) → AllByRecursion (λ extent. past extent ≤ bound) live.now → IfOk result (λ loaded. end_of loaded ≤ bound) }
+    {
+        let mut loaded = LiveExtents::new(alloc);
+        let mut rest = live;
+        'extents: while let Some((extent, more)) = rest.split_first() {
+            loaded.add(extent)?;
+            rest = more;
+        }
+        Ok(loaded)
+    }
+
+    // Memory for so many more.
+    pub fn make_room(&mut self, count: u64) -> Result<(), Memory>
+        ensures room { OnOk result (count ≤ room_of self.new) }
+        ensures more { room_of self.old ≤ room_of self.new }
+        ensures same { slots self.new ≡ slots self.old }
+        ensures end { end_of self.new ≡ end_of self.old }
+    {
+        'rooms: while (self.rooms.len() as u64) < count {
+            self.rooms.push(Room::new(self.alloc)?)?;
+        }
+        Ok(())
+    }
+
+    // Memory for one.
+    pub fn take_room(&mut self) -> Result<Room, Memory>
+        ensures memory { OnErr result (room_of self.old ≡ 0) }
+        ensures room { room_of self.old ≤ room_of self.new + 1 }
+        ensures same { slots self.new ≡ slots self.old }
+        ensures end { end_of self.new ≡ end_of self.old }
+    {
+        match self.rooms.pop() {
+            Some(room) => Ok(room),
+            None => Ok(Room::new(self.alloc)?),
+        }
+    }
+
+    // The least place at which so many bytes meet none.
+    pub fn least_place(&self, count: u32) -> u64
+        requires { 0 < count }
+        ensures least { IsLeastPlace (kept self.now) count result }
+        ensures place { result ≡ place_for self.now count }
+        ensures within { result ≤ end_of self.now }
+    {
+        self.tree.first_fit(u64::from(count), self.end)
+    }
+
+    pub fn insert(&mut self, room: Room, extent: Extent)
+        requires clear { IsClearOf (kept self.old) extent }
+        requires some { 0 < extent.length }
+        requires small { past extent < 2 ^ 64 }
+        ensures more { IsWith (kept self.old) extent (kept self.new) }
+        ensures end { end_of self.new ≤ max (end_of self.old) (past extent) }
+        ensures room { room_of self.new ≡ room_of self.old }
+    {
+        let last = self
+            .tree
+            .insert(room, self.end, extent.place, extent.length);
+        self.end = last.unwrap_or(self.end);
+    }
+
+    // The same with memory of its own. An empty extent is left out.
+    fn add(&mut self, extent: &Extent) -> Result<(), Memory>
+        requires clear { IsClearOf (kept self.old) extent.now }
+        requires small { past extent.now < 2 ^ 64 }
+        ensures covers { OnOk result ((live more : List Extent) → IsWith live extent.now more → IsClearOf live extent.now
+            → Covers (kept self.old) live → Covers (kept self.new) more) }
+        ensures end { OnOk result (end_of self.new ≤ max (end_of self.old) (past extent.now)) }
+    {
+        if extent.length == 0 {
+            return Ok(());
+        }
+        let room = self.take_room()?;
+        self.insert(room, *extent);
+        Ok(())
+    }
+
+    // Takes the extent out. It takes no memory.
+    pub fn remove(&mut self, extent: &Extent)
+        ensures less { Has (kept self.old) extent.now → IsWith (kept self.new) extent.now (kept self.old) }
+        ensures end { end_of self.new ≤ end_of self.old }
+        ensures room { room_of self.old ≤ room_of self.new }
+    {
+        let freed = self.tree.remove(extent.place);
+        self.end = freed.from.unwrap_or(self.end);
+        keep_room(&mut self.rooms, freed.room);
+    }
+}
+
+// What has no place among the spare rooms is given back.
+fn keep_room(rooms: &mut Vec<Room>, room: Option<Room>)
+    ensures { vec_len rooms.old ≤ vec_len rooms.new }
+{
+    if let Some(room) = room {
+        if rooms.len() < rooms.capacity() {
+            rooms.push(room).unwrap();
+        }
+    }
+}
+
+#[cfg(test)]
+mod tests {
+    use super::*;
+    use std::test::Fail;
+
+    // One byte more at the least place.
+    fn put_byte(live: &mut LiveExtents) -> Result<Extent, Fail> {
+        let room = live.take_room()?;
+        let place = live.least_place(1);
+        if place > 10_000 {
+            return Err("place")?;
+        }
+        let extent = Extent { place, length: 1 };
+        live.insert(room, extent);
+        Ok(extent)
+    }
+
+    // A tree of 1,000 slots whose sides differ by at most one is no higher than 14, and one of 500 than 12.
+    #[test]
+    fn stays_low(rt: HostRuntime) -> Result<(), Fail> {
+        let mut live = LiveExtents::new(rt.alloc());
+        for place in 0..1_000u64 {
+            assert_eq!(rt; put_byte(&mut live)?, Extent { place, length: 1 });
+        }
+        assert!(rt; live.tree.height() <= 14);
+        for place in 0..500u64 {
+            live.remove(&Extent { place, length: 1 });
+        }
+        assert!(rt; live.tree.height() <= 12);
+        assert_eq!(rt;
+            put_byte(&mut live)?,
+            Extent {
+                place: 0,
+                length: 1
+            }
+        );
+        Ok(())
+    }
+}
