@@ -8,6 +8,6 @@ pub mod laws;
 pub mod net_rows;
 pub mod small_net_rows;
 pub mod small_rows;
+pub mod start_laws;
 pub mod stop_rows;
 pub mod test_rows;
-pub mod start_laws;
