@@ -28,8 +28,8 @@ fn first_other(bytes: &[u8]) -> Option<usize>
     bytes.iter().position(|byte| !is_digit(*byte))
 }
 
-// The number that digits write, if it is one of 64 bits.
-pub(crate) fn decimal(bytes: &[u8]) -> Option<u64>
+/// The number that digits write; none where it is past 18,446,744,073,709,551,615. It takes no memory.
+pub fn decimal(bytes: &[u8]) -> Option<u64>
     ensures { MatchOption result (2 ^ 64 ≤ decimal bytes.now) (λ number. number ≡ decimal bytes.now) }
 {
     let mut value = 0u64;

@@ -1,0 +1,16 @@
+//! The edits of queues and of a host's parameters.
+//!
+//! Each call is the rule of its name in `nqs_rules` (specs/Conf.antt); `docs/rules.md` says them in words.
+//! No call takes memory.
+#![tactic(auto)]
+
+mod apply;
+mod check;
+mod create;
+mod dest;
+
+pub use apply::apply_conf;
+pub use check::check_conf;
+
+#[cfg(test)]
+mod tests;
