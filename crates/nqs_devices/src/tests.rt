@@ -1,0 +1,1 @@
+//! Which device is free, what is refused, and what edits leave.

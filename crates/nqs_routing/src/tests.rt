@@ -1,0 +1,1 @@
+//! Which destination is tried, and what a refusal and a silence leave.
