@@ -4,10 +4,10 @@
 //! handover to that host is open and the host isn't waited for. `nqs_rules/specs/Routing.antt` has the rules.
 #![tactic(auto)]
 
-mod destination;
+mod dests;
 mod note;
 
-pub use destination::{destination, destination_in};
+pub use dests::{destination, destination_in};
 pub use note::{note_refusal, note_silence};
 
 #[cfg(test)]

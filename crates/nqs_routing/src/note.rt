@@ -2,19 +2,21 @@
 
 ghost use Rattle.std.specs.Prelude.{◌≡◌, ◌<◌, find};
 ghost use Rattle.nqs_types.specs.State.{content};
-ghost use Rattle.nqs_types.specs.Keys.{is_row};
+ghost use Rattle.nqs_types.specs.Keys.{is_row, is_queue};
 ghost use Rattle.nqs_types.specs.Room.{refusals_of};
 ghost use Rattle.nqs_rules.specs.Edits.{change_row, change_peer};
-ghost use Rattle.nqs_rules.specs.Routing.{dests_for, is_present, with_refusal, all_refused, held_where, refusal_noted};
+ghost use Rattle.nqs_rules.specs.Routing.{dests_of, dests_for, is_present, with_refusal, all_refused, held_where, refusal_noted};
 
-use crate::destination::was_refused;
-use nqs_types::{Dest, Hold, HostId, HostState, Peer, Refused, RefusedList, RequestId, Row};
+use crate::dests::{find_peer, was_refused};
+use nqs_types::{
+    Dest, Hold, HostId, HostState, Name, Peer, QueueDef, Refused, RefusedList, RequestId, Row, Table,
+};
 
-// The destinations of a row's queue.
-fn dests_for<'a>(state: &'a HostState, row: &Row) -> &'a [Dest]
-    ensures { result.now ≡ dests_for row.now (content state.now) }
+// The destinations of a queue.
+fn dests_of<'a>(queues: &'a Table<Name, QueueDef>, queue: &Name) -> &'a [Dest]
+    ensures { result.now ≡ dests_of (find (is_queue queue.now) queues.now.items) }
 {
-    match state.queues.get(&row.queue) {
+    match queues.get(queue) {
         Some(queue) => queue.dests.as_slice(),
         None => &[],
     }
@@ -53,7 +55,7 @@ pub fn note_refusal(state: &mut HostState, id: RequestId, dest: Dest, cause: u8)
     let mut refused = state
         .spare_refused
         .grown(row.refused.as_slice(), Refused { dest, cause });
-    let dests = dests_for(state, row);
+    let dests = dests_of(&state.queues, &row.queue);
     refused.keep(|refused: &Refused| is_present(dests, refused));
     let held = all_refused(dests, refused.as_slice());
     state
@@ -66,12 +68,11 @@ pub fn note_refusal(state: &mut HostState, id: RequestId, dest: Dest, cause: u8)
 pub fn note_silence(state: &mut HostState, peer: HostId, until: u64)
     ensures { content state.new ≡ change_peer peer (λ p. record p { wait = until }) (content state.old) }
 {
-    let place = peer.0 as usize;
-    if let Some(known) = state.peers.as_slice().get(place) {
+    if let Some(known) = find_peer(state, peer) {
         let waiting = Peer {
             wait: until,
             ..*known
         };
-        state.peers.replace(place, waiting);
+        state.peers.replace(peer.0 as usize, waiting);
     }
 }
