@@ -3,7 +3,6 @@
 ghost use Rattle.std.specs.Prelude.{◌≡◌, ◌+◌, ◌<◌, ◌≤◌, ◌^◌, length, is_ok, IsTrue};
 ghost use Rattle.nqs_types.specs.State.{content};
 ghost use Rattle.nqs_rules.specs.Causes.{first_refusal};
-ghost use Rattle.nqs_rules.specs.InOrder.{IsInOrder};
 ghost use Rattle.nqs_rules.specs.Find.{meant_request};
 ghost use Rattle.nqs_rules.specs.Rows.{doomed_in, change_meant, rows_causes, rows_applied, is_rows_within};
 ghost use Rattle.nqs_rows.specs.OneRow.{row_edited};
@@ -79,7 +78,7 @@ fn abort_queue(state: &mut HostState, queue: &Name)
 
 /// Makes an edit of requests that isn't refused. It takes no memory.
 pub fn apply_rows(state: &mut HostState, edit: RowsEdit)
-    requires order { IsInOrder (content state.old) }
+    requires site { length state.old.site ≤ 16 }
     requires check { IsTrue (is_ok (first_refusal (rows_causes edit (content state.old)))) }
     requires within { IsTrue (is_rows_within edit) }
     ensures { content state.new ≡ rows_applied edit (content state.old) }

@@ -1,18 +1,17 @@
 //! Whether a deletion or an edit of requests is refused.
 
-ghost use Rattle.std.specs.Prelude.{◌≡◌, ◌≤◌, ◌∷◌, [], length};
+ghost use Rattle.std.specs.Prelude.{◌≡◌, ◌≤◌, ◌∷◌, ◌++◌, [], length};
 ghost use Rattle.nqs_types.specs.State.{content};
 ghost use Rattle.nqs_rules.specs.Causes.{cause, first_refusal};
-ghost use Rattle.nqs_rules.specs.InOrder.{IsInOrder};
 ghost use Rattle.nqs_rules.specs.Find.{meant_row};
 ghost use Rattle.nqs_rules.specs.Access.{rank, is_plain_user};
-ghost use Rattle.nqs_rules.specs.Rows.{arrivals_used, delete_row_causes, delete_causes, named_causes, idle_causes, hold_causes, release_causes, move_causes, rows_causes};
+ghost use Rattle.nqs_rules.specs.Rows.{arrivals_used, delete_row_causes, delete_causes, named_causes, idle_causes, hold_causes, release_causes, move_entry_causes, move_causes, is_pipe_named, rows_causes};
 ghost use Rattle.nqs_rows.specs.OneRow.{row_causes};
 
 use crate::entry::{check_job, has_name};
 use crate::meant::meant_row;
 use nqs_types::{
-    Entry, Hold, HostState, Kind, Name, Named, Refusal, Row, RowState, RowsEdit,
+    Entry, Hold, HostState, Kind, Name, Named, QueueDef, Refusal, Row, RowState, RowsEdit,
 };
 
 fn is_plain_user(state: &HostState, user: &Name) -> bool
@@ -41,7 +40,7 @@ fn check_delete_row(
 
 /// Whether a user may delete a request: `Ok`, or why not. With `kill` a running one may be deleted too.
 pub fn check_delete(state: &HostState, user: &Name, id: &Named, kill: bool) -> Result<(), Refusal>
-    requires order { IsInOrder (content state.now) }
+    requires site { length state.now.site ≤ 16 }
     ensures { result ≡ first_refusal (delete_causes user.now id.now kill (content state.now)) }
 {
     match meant_row(state, id) {
@@ -88,15 +87,22 @@ fn check_arrivals(state: &HostState) -> Result<(), Refusal>
     Ok(())
 }
 
+// A move into this queue.
+fn check_move_to(state: &HostState, id: &Named, row: &Row, queue: &QueueDef) -> Result<(), Refusal>
+    ensures { result ≡ first_refusal (idle_causes id.now row.now ++ move_entry_causes row.now queue.now ++ cause (arrivals_used (content state.now)) Refusal.NumbersUsed ∷ []) }
+{
+    check_idle(row, id)?;
+    check_job(queue, &row.job, Entry::FromPipe)?;
+    check_arrivals(state)
+}
+
 fn check_move(state: &HostState, id: &Named, queue: &Name, row: &Row) -> Result<(), Refusal>
     ensures { result ≡ first_refusal (move_causes id.now queue.now (content state.now) row.now) }
 {
-    let Some(def) = state.queues.get(queue) else {
-        return Err(Refusal::NoQueue(*queue));
-    };
-    check_idle(row, id)?;
-    check_job(def, &row.job, Entry::FromPipe)?;
-    check_arrivals(state)
+    match state.queues.get(queue) {
+        Some(def) => check_move_to(state, id, row, def),
+        None => Err(Refusal::NoQueue(*queue)),
+    }
 }
 
 fn check_row(state: &HostState, edit: &RowsEdit, row: &Row) -> Result<(), Refusal>
@@ -122,21 +128,27 @@ fn check_named(state: &HostState, request: &Named, edit: &RowsEdit) -> Result<()
     }
 }
 
-fn check_abort(state: &HostState, queue: &Name) -> Result<(), Refusal>
-    ensures { result ≡ first_refusal (rows_causes (RowsEdit.AbortQueue queue.now) (content state.now)) }
+fn check_kind(queue: &QueueDef) -> Result<(), Refusal>
+    ensures { result ≡ first_refusal (cause (is_pipe_named queue.now) Refusal.WrongKind ∷ []) }
 {
-    let Some(def) = state.queues.get(queue) else {
-        return Err(Refusal::NoQueue(*queue));
-    };
-    if def.kind == Kind::Pipe {
+    if queue.kind == Kind::Pipe {
         return Err(Refusal::WrongKind);
     }
     Ok(())
 }
 
+fn check_abort(state: &HostState, queue: &Name) -> Result<(), Refusal>
+    ensures { result ≡ first_refusal (rows_causes (RowsEdit.AbortQueue queue.now) (content state.now)) }
+{
+    match state.queues.get(queue) {
+        Some(def) => check_kind(def),
+        None => Err(Refusal::NoQueue(*queue)),
+    }
+}
+
 /// Whether an edit of requests may be made: `Ok`, or why not.
 pub fn check_rows(state: &HostState, edit: &RowsEdit) -> Result<(), Refusal>
-    requires order { IsInOrder (content state.now) }
+    requires site { length state.now.site ≤ 16 }
     ensures { result ≡ first_refusal (rows_causes edit.now (content state.now)) }
 {
     match edit {

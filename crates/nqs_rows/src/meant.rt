@@ -1,18 +1,19 @@
 //! The request that is typed as `SEQ.HOST`.
 
-ghost use Rattle.std.specs.Prelude.{◌≡◌, ◌≤◌, length};
+ghost use Rattle.std.specs.Prelude.{◌≡◌, ◌<◌, ◌≤◌, length, position, IfSome};
 ghost use Rattle.std.specs.Option.{option_copied};
+ghost use Rattle.nqs_types.specs.Ids.{name_eq};
 ghost use Rattle.nqs_types.specs.State.{content};
-ghost use Rattle.nqs_rules.specs.Find.{host_named, meant_request, meant_row};
+ghost use Rattle.nqs_rules.specs.Find.{meant_request, meant_row};
 
 use nqs_types::{HostId, HostState, Name, Named, RequestId, Row};
 
-fn host_named(state: &HostState, name: &Name) -> Option<HostId>
-    requires { length state.now.site ≤ 16 }
-    ensures { result ≡ host_named name.now (content state.now) }
+// The place of a host in the site.
+fn host_place(site: &[Name], host: &Name) -> Option<usize>
+    ensures place { result ≡ position (name_eq host.now) site.now }
+    ensures within { IfSome result (λ place. place < length site.now) }
 {
-    let place = state.site.as_slice().iter().position(|host| *name == *host)?;
-    Some(HostId(place as u8))
+    site.iter().position(|name| *host == *name)
 }
 
 // The request, where its host is of the site.
@@ -20,11 +21,13 @@ pub(crate) fn meant_request(state: &HostState, request: &Named) -> Option<Reques
     requires { length state.now.site ≤ 16 }
     ensures { result ≡ meant_request request.now (content state.now) }
 {
-    let host = host_named(state, &request.host)?;
-    Some(RequestId {
-        seq: request.seq,
-        host,
-    })
+    match host_place(state.site.as_slice(), &request.host) {
+        Some(place) => Some(RequestId {
+            seq: request.seq,
+            host: HostId(place as u8),
+        }),
+        None => None,
+    }
 }
 
 // The row of the request.
@@ -32,6 +35,8 @@ pub(crate) fn meant_row<'a>(state: &'a HostState, request: &Named) -> Option<&'a
     requires { length state.now.site ≤ 16 }
     ensures { option_copied result ≡ meant_row request.now (content state.now) }
 {
-    let id = meant_request(state, request)?;
-    state.rows.get(&id)
+    match meant_request(state, request) {
+        Some(id) => state.rows.get(&id),
+        None => None,
+    }
 }
