@@ -1,0 +1,15 @@
+//! Devices: which one is free for a request, and the edits of devices.
+//!
+//! A device is busy while a running request is on it. `nqs_rules/specs/Devices.antt` has the rules.
+#![tactic(auto)]
+
+mod apply;
+mod check;
+mod free;
+
+pub use apply::apply_devices;
+pub use check::check_devices;
+pub use free::{free_device, has_name};
+
+#[cfg(test)]
+mod tests;

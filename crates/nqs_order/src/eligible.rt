@@ -1,0 +1,85 @@
+//! The first row of a queue that may start.
+
+ghost use Rattle.std.specs.Prelude.{◌≡◌, length, filter};
+ghost use Rattle.std.specs.Option.{option_map};
+ghost use Rattle.nqs_types.specs.State.{content};
+ghost use Rattle.nqs_rules.specs.Order.{is_active_of, below, kind_allows, is_eligible, comes_before, first_eligible};
+ghost use Rattle.nqs_order.specs.Places.{first_place};
+
+use crate::limits::is_active_in;
+use nqs_devices::free_device;
+use nqs_routing::destination_in;
+use nqs_types::{Hold, HostState, Kind, Name, QueueDef, Row, RowState};
+
+fn is_active_of(row: &Row, queue: &Name, owner: &Name) -> bool
+    ensures { result ≡ is_active_of queue.now owner.now row.now }
+{
+    is_active_in(row, queue) && *owner == row.job.owner
+}
+
+// Whether the owner has fewer active requests in the queue than its user limit.
+fn user_allows(state: &HostState, queue: &QueueDef, owner: &Name) -> bool
+    ensures { result ≡ below (length (filter (is_active_of queue.now.name owner.now) state.now.rows.items)) queue.now.user_limit }
+{
+    match queue.user_limit {
+        Some(limit) => {
+            state
+                .rows
+                .count(|row: &Row| is_active_of(row, &queue.name, owner))
+                < limit as usize
+        }
+        None => true,
+    }
+}
+
+fn kind_allows(state: &HostState, queue: &QueueDef, now: u64, row: &Row) -> bool
+    ensures { result ≡ kind_allows queue.now.kind queue.now now (content state.now) row.now }
+{
+    match queue.kind {
+        Kind::Batch => true,
+        Kind::Device => free_device(state, queue, row.job.forms.as_ref()).is_some(),
+        Kind::Pipe => row.hops == 32 || destination_in(state, queue, row, now).is_some(),
+    }
+}
+
+fn is_eligible(state: &HostState, queue: &QueueDef, now: u64, row: &Row) -> bool
+    ensures { result ≡ is_eligible queue.now now (content state.now) row.now }
+{
+    queue.name == row.queue
+        && row.state == RowState::Queued
+        && row.hold == Hold::No
+        && row.job.earliest <= now
+        && user_allows(state, queue, &row.job.owner)
+        && kind_allows(state, queue, now, row)
+}
+
+fn comes_before(one: &Row, other: &Row) -> bool
+    ensures { result ≡ comes_before one.now other.now }
+{
+    other.job.priority < one.job.priority
+        || (one.job.priority == other.job.priority && one.arrival < other.arrival)
+}
+
+// A queue's first eligible row, with its place among the rows.
+pub(crate) fn first_row<'a>(
+    state: &'a HostState,
+    queue: &QueueDef,
+    now: u64,
+) -> Option<(usize, &'a Row)>
+    ensures { option_map (λ p. (p.0, p.1.now)) result ≡ first_eligible queue.now now (content state.now) }
+{
+    state.rows.best(
+        |row: &Row| is_eligible(state, queue, now, row),
+        |one: &Row, other: &Row| comes_before(one, other),
+    )
+}
+
+/// The row that starts first of those that may start at a moment, in seconds since 1970: of greatest priority,
+/// and among those the earliest arrival. The queue is given and the row answered by its place in the host's list, from 0.
+pub fn first_eligible(state: &HostState, queue: usize, now: u64) -> Option<usize>
+    ensures { result ≡ first_place queue now (content state.now) }
+{
+    let def = state.queues.get_at(queue)?;
+    let (place, _) = first_row(state, def, now)?;
+    Some(place)
+}

@@ -1,0 +1,17 @@
+//! The scheduler: which request of which queue starts next.
+//!
+//! `limits` has the limits of queues and complexes, `eligible` the first row of a queue that may start, `choice`
+//! the next start of the host. `nqs_rules/specs/Order.antt` has the rules.
+#![tactic(auto)]
+
+mod choice;
+mod eligible;
+mod limits;
+
+pub use choice::pick;
+pub use eligible::first_eligible;
+pub use limits::within_limits;
+pub use nqs_types::Choice;
+
+#[cfg(test)]
+mod tests;

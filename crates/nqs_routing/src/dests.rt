@@ -1,0 +1,80 @@
+//! Which destination is tried.
+
+ghost use Rattle.std.specs.Prelude.{◌≡◌};
+ghost use Rattle.std.specs.Option.{option_copied};
+ghost use Rattle.nqs_types.specs.State.{content};
+ghost use Rattle.nqs_rules.specs.Find.{find_peer};
+ghost use Rattle.nqs_rules.specs.Routing.{is_hand_to, refuses, was_refused, is_reachable, may_try, destination};
+ghost use Rattle.nqs_routing.specs.Destination.{destination_of};
+
+use nqs_types::{Dest, Hand, HostId, HostState, Peer, QueueDef, Refused, Row};
+
+fn refuses(refused: &Refused, dest: &Dest) -> bool
+    ensures { result ≡ refuses dest.now refused.now }
+{
+    *dest == refused.dest
+}
+
+// Whether the destination is one of those that refused.
+pub(crate) fn was_refused(refused: &[Refused], dest: &Dest) -> bool
+    ensures { result ≡ was_refused dest.now refused.now }
+{
+    refused.iter().any(|refused| refuses(refused, dest))
+}
+
+fn is_hand_to(hand: &Hand, peer: HostId) -> bool
+    ensures { result ≡ is_hand_to peer hand.now }
+{
+    peer == hand.peer
+}
+
+// What is known of a host.
+pub(crate) fn find_peer(state: &HostState, peer: HostId) -> Option<&Peer>
+    ensures { option_copied result ≡ find_peer peer (content state.now) }
+{
+    state.peers.as_slice().get(peer.0 as usize)
+}
+
+// Whether a handover to the host may be opened at this moment.
+fn is_reachable(state: &HostState, now: u64, peer: HostId) -> bool
+    ensures { result ≡ is_reachable now peer (content state.now) }
+{
+    match find_peer(state, peer) {
+        Some(known) => {
+            !state.hands.any(|hand: &Hand| is_hand_to(hand, peer))
+                && known.next < u64::MAX
+                && known.wait <= now
+        }
+        None => false,
+    }
+}
+
+fn may_try(state: &HostState, row: &Row, now: u64, dest: &Dest) -> bool
+    ensures { result ≡ may_try now (content state.now) row.now dest.now }
+{
+    !was_refused(row.refused.as_slice(), dest)
+        && (state.me == dest.host || is_reachable(state, now, dest.host))
+}
+
+/// The first destination of the queue that may be tried for the row at a moment, in seconds since 1970.
+/// It is given by its place in the queue's list, from 0.
+pub fn destination_in(state: &HostState, queue: &QueueDef, row: &Row, now: u64) -> Option<usize>
+    ensures { result ≡ destination queue.now now (content state.now) row.now }
+{
+    queue
+        .dests
+        .as_slice()
+        .iter()
+        .position(|dest| may_try(state, row, now, dest))
+}
+
+/// The first destination of the row's queue that may be tried for it, as `destination_in` has it.
+/// There is none where the queue isn't there.
+pub fn destination(state: &HostState, row: &Row, now: u64) -> Option<usize>
+    ensures { result ≡ destination_of now (content state.now) row.now }
+{
+    match state.queues.get(&row.queue) {
+        Some(queue) => destination_in(state, queue, row, now),
+        None => None,
+    }
+}

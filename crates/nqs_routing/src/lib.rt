@@ -1,0 +1,14 @@
+//! Routing: which destination of a pipe queue is tried for a request, and what a refusal or a silence leaves.
+//!
+//! A destination that refused a request isn't tried again for it, and one on another host only while no
+//! handover to that host is open and the host isn't waited for. `nqs_rules/specs/Routing.antt` has the rules.
+#![tactic(auto)]
+
+mod dests;
+mod note;
+
+pub use dests::{destination, destination_in};
+pub use note::{note_refusal, note_silence};
+
+#[cfg(test)]
+mod tests;

@@ -1,0 +1,17 @@
+//! Requests: whether a submission, a deletion or an edit of one is refused, and what the edits make of a state.
+//!
+//! `entry` has the way into a queue, `meant` the request that is typed. `nqs_rules/specs/Rows.antt` has the rules.
+#![tactic(auto)]
+
+mod apply;
+mod check;
+mod entry;
+mod meant;
+mod submit;
+
+pub use apply::apply_rows;
+pub use check::{check_delete, check_rows};
+pub use submit::check_submit;
+
+#[cfg(test)]
+mod tests;
