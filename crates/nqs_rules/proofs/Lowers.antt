@@ -25,8 +25,9 @@ use Rattle.nqs_rules.specs.Routing.{refuses, was_refused, dests_of, is_present, 
 use Rattle.nqs_rules.specs.Applied.{started_row, routing_row, held_far, moved_local, local_refused, applied}
 use Rattle.nqs_rules.specs.Measure.{untried, starts_of, starts_left}
 use Rattle.nqs_rules.specs.InOrder.{are_distinct}
+use Rattle.nqs_rules.specs.Picked.{PlainRow}
 use Rattle.nqs_rules.proofs.ListFacts.{not_true, list_all-found, list_all-changed, map-changed, sum-changed, filter_less}
-use Rattle.nqs_rules.proofs.StartIs.{PlainRow, IsSteady, IsUntried, StartsRow}
+use Rattle.nqs_rules.proofs.StartIs.{IsSteady, IsUntried, StartsRow}
 
 -- destinations are alike where they are the same
 

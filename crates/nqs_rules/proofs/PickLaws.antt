@@ -4,8 +4,7 @@ use Rattle.std.proofs.lemmas.Bool.Decides.{nat_tests}
 use Rattle.std.specs.List.{list_any}
 use Rattle.std.specs.Option.{IfSome}
 use Rattle.nqs_types.specs.Ids.{name_eq}
-use Rattle.nqs_types.specs.State.{State}
-use Rattle.nqs_types.specs.declared.request.Row.{Row}
+use Rattle.nqs_types.specs.State.{Plain}
 use Rattle.nqs_types.specs.declared.queue.Kind.{Kind}
 use Rattle.nqs_types.specs.declared.queue.Kind.TheVariants.{Batch, Device, Pipe}
 use Rattle.nqs_types.specs.declared.queue.QueueDef.{QueueDef}
@@ -15,26 +14,25 @@ use Rattle.nqs_rules.specs.Tests.{is_ready}
 use Rattle.nqs_rules.specs.Devices.{free_device}
 use Rattle.nqs_rules.specs.Routing.{destination}
 use Rattle.nqs_rules.specs.Order.{is_greater, is_within_limits, kind_allows, is_eligible, comes_before, first_eligible, is_candidate, next_queue, is_local, print_on, move_to, choice_for, choice_of, pick_in, pick}
-use Rattle.nqs_rules.specs.Picked.{has_eligible, may_start, IsFirstRow, IsNextQueue, row_place, IsPicked}
+use Rattle.nqs_rules.specs.Picked.{PlainRow, has_eligible, may_start, IsFirstRow, IsNextQueue, row_place, IsPicked}
 use Rattle.nqs_rules.proofs.BestLaws.{IsBest, best_is, best_is_some}
 
 -- the orders
 
-module _ {E : Type 0} where
-  not_before_itself : (r : Row E) → comes_before r r ≡ false
-  not_before_itself r = grind (arith, nat_tests)
+not_before_itself : (r : PlainRow) → comes_before r r ≡ false
+not_before_itself r = grind (arith, nat_tests)
 
-  not_both_before : (a b : Row E) → comes_before a b ≡ true → comes_before b a ≡ false
-  not_both_before a b h = numbers a.job.priority b.job.priority a.arrival b.arrival h
-    where
-      numbers : (p q m n : ℕ) → (nat_lt q p || (p == q && nat_lt m n)) ≡ true → (nat_lt p q || (q == p && nat_lt n m)) ≡ false
-      numbers p q m n h = grind (arith, nat_tests)
+not_both_before : (a b : PlainRow) → comes_before a b ≡ true → comes_before b a ≡ false
+not_both_before a b h = numbers a.job.priority b.job.priority a.arrival b.arrival h
+  where
+    numbers : (p q m n : ℕ) → (nat_lt q p || (p == q && nat_lt m n)) ≡ true → (nat_lt p q || (q == p && nat_lt n m)) ≡ false
+    numbers p q m n h = grind (arith, nat_tests)
 
-  not_before_through : (a b c : Row E) → comes_before a b ≡ false → comes_before b c ≡ false → comes_before a c ≡ false
-  not_before_through a b c h g = numbers a.job.priority b.job.priority c.job.priority a.arrival b.arrival c.arrival h g
-    where
-      numbers : (p q r m n o : ℕ) → (nat_lt q p || (p == q && nat_lt m n)) ≡ false → (nat_lt r q || (q == r && nat_lt n o)) ≡ false → (nat_lt r p || (p == r && nat_lt m o)) ≡ false
-      numbers p q r m n o h g = grind (arith, nat_tests)
+not_before_through : (a b c : PlainRow) → comes_before a b ≡ false → comes_before b c ≡ false → comes_before a c ≡ false
+not_before_through a b c h g = numbers a.job.priority b.job.priority c.job.priority a.arrival b.arrival c.arrival h g
+  where
+    numbers : (p q r m n o : ℕ) → (nat_lt q p || (p == q && nat_lt m n)) ≡ false → (nat_lt r q || (q == r && nat_lt n o)) ≡ false → (nat_lt r p || (p == r && nat_lt m o)) ≡ false
+    numbers p q r m n o h g = grind (arith, nat_tests)
 
 not_greater_itself : (d : QueueDef) → is_greater d d ≡ false
 not_greater_itself d = grind (arith, nat_tests)
@@ -51,19 +49,19 @@ not_greater_through a b c h g = numbers a.priority b.priority c.priority h g
     numbers : (p q r : ℕ) → nat_lt q p ≡ false → nat_lt r q ≡ false → nat_lt r p ≡ false
     numbers p q r h g = grind (arith, nat_tests)
 
-module _ {E : Type 0} (now : ℕ) (s : State E) where
-  -- what an eligible row is
-  pub eligible_parts : (d : QueueDef) (r : Row E) → is_eligible d now s r ≡ true → (name_eq d.name r.queue ≡ true) × (is_ready r ≡ true) × (kind_allows d.kind d now s r ≡ true)
-  eligible_parts d r h = five (name_eq d.name r.queue) (is_ready r) _ _ _ h
-    where
-      five : (u v w x y : Bool) → (u && v && w && x && y) ≡ true → (u ≡ true) × (v ≡ true) × (y ≡ true)
-      five true true true true y h = (refl, refl, h)
-      five u v w x y h = absurd (true≢false (sym h))
+-- what an eligible row is
+pub eligible_parts : (d : QueueDef) (now : ℕ) (s : Plain) (r : PlainRow) → is_eligible d now s r ≡ true → (name_eq d.name r.queue ≡ true) × (is_ready r ≡ true) × (kind_allows d.kind d now s r ≡ true)
+eligible_parts d now s r h = five (name_eq d.name r.queue) (is_ready r) _ _ _ h
+  where
+    five : (u v w x y : Bool) → (u && v && w && x && y) ≡ true → (u ≡ true) × (v ≡ true) × (y ≡ true)
+    five true true true true y h = (refl, refl, h)
+    five u v w x y h = absurd (true≢false (sym h))
 
+module _ (now : ℕ) (s : Plain) where
   pub first_row_is : (d : QueueDef) → IfSome (first_eligible d now s) (λ p. IsFirstRow d now s p.0 p.1)
   first_row_is d = of (first_eligible d now s) (best_is (is_eligible d now s) comes_before not_before_itself not_both_before not_before_through s.rows)
     where
-      of : (o : Option (ℕ × Row E)) → IfSome o (λ p. IsBest (is_eligible d now s) comes_before s.rows p.0 p.1) → IfSome o (λ p. IsFirstRow d now s p.0 p.1)
+      of : (o : Option (ℕ × PlainRow)) → IfSome o (λ p. IsBest (is_eligible d now s) comes_before s.rows p.0 p.1) → IfSome o (λ p. IsFirstRow d now s p.0 p.1)
       of None h = tt
       of (Some p) h = record { at = h.at; eligible = h.passes; first = h.unbeaten }
 
@@ -94,7 +92,7 @@ module _ {E : Type 0} (now : ℕ) (s : State E) where
 
   -- something can be done with an eligible row
 
-  place_is : (k : Kind) (d : QueueDef) (place : ℕ) (r : Row E) → IfSome (choice_for k d now s place r) (λ c. row_place c ≡ place)
+  place_is : (k : Kind) (d : QueueDef) (place : ℕ) (r : PlainRow) → IfSome (choice_for k d now s place r) (λ c. row_place c ≡ place)
   place_is Batch d place r = refl
   place_is Device d place r = of (free_device d r.job.forms s)
     where
@@ -112,7 +110,7 @@ module _ {E : Type 0} (now : ℕ) (s : State E) where
           of true = refl
           of false = refl
 
-  choice_is_some : (k : Kind) (d : QueueDef) (place : ℕ) (r : Row E) → is_some (choice_for k d now s place r) ≡ kind_allows k d now s r
+  choice_is_some : (k : Kind) (d : QueueDef) (place : ℕ) (r : PlainRow) → is_some (choice_for k d now s place r) ≡ kind_allows k d now s r
   choice_is_some Batch d place r = refl
   choice_is_some Device d place r = of (free_device d r.job.forms s)
     where
@@ -133,7 +131,7 @@ module _ {E : Type 0} (now : ℕ) (s : State E) where
   pub picked_is : IfSome (pick now s) (IsPicked now s)
   picked_is = in_queue (next_queue now s) next_queue_is
     where
-      with_row : (q : ℕ × QueueDef) → IsNextQueue now s q.0 q.1 → (p : ℕ × Row E) → IsFirstRow q.1 now s p.0 p.1 → (o : Option Choice) → choice_for q.1.kind q.1 now s p.0 p.1 ≡ o → IfSome o (λ c. row_place c ≡ p.0)
+      with_row : (q : ℕ × QueueDef) → IsNextQueue now s q.0 q.1 → (p : ℕ × PlainRow) → IsFirstRow q.1 now s p.0 p.1 → (o : Option Choice) → choice_for q.1.kind q.1 now s p.0 p.1 ≡ o → IfSome o (λ c. row_place c ≡ p.0)
           → IfSome o (IsPicked now s)
       with_row q next p first None way place = tt
       with_row q next p first (Some c) way place = record {
@@ -145,7 +143,7 @@ module _ {E : Type 0} (now : ℕ) (s : State E) where
         way = ap (λ n. choice_for q.1.kind q.1 now s n p.1) place ∙ way;
       }
 
-      of_queue : (q : ℕ × QueueDef) → IsNextQueue now s q.0 q.1 → (o : Option (ℕ × Row E)) → IfSome o (λ p. IsFirstRow q.1 now s p.0 p.1) → IfSome (choice_of q.1 now s o) (IsPicked now s)
+      of_queue : (q : ℕ × QueueDef) → IsNextQueue now s q.0 q.1 → (o : Option (ℕ × PlainRow)) → IfSome o (λ p. IsFirstRow q.1 now s p.0 p.1) → IfSome (choice_of q.1 now s o) (IsPicked now s)
       of_queue q next None first = tt
       of_queue q next (Some p) first = with_row q next p first (choice_for q.1.kind q.1 now s p.0 p.1) refl (place_is q.1.kind q.1 p.0 p.1)
 
@@ -156,9 +154,9 @@ module _ {E : Type 0} (now : ℕ) (s : State E) where
   pub picked_is_some : is_some (pick now s) ≡ list_any (may_start now s) s.queues
   picked_is_some = in_queue (next_queue now s) next_queue_is ∙ next_queue_is_some
     where
-      of_queue : (d : QueueDef) (o : Option (ℕ × Row E)) → is_some o ≡ true → IfSome o (λ p. IsFirstRow d now s p.0 p.1) → is_some (choice_of d now s o) ≡ true
+      of_queue : (d : QueueDef) (o : Option (ℕ × PlainRow)) → is_some o ≡ true → IfSome o (λ p. IsFirstRow d now s p.0 p.1) → is_some (choice_of d now s o) ≡ true
       of_queue d None some first = absurd (true≢false (sym some))
-      of_queue d (Some p) some first = choice_is_some d.kind d p.0 p.1 ∙ (eligible_parts d p.1 first.eligible).2
+      of_queue d (Some p) some first = choice_is_some d.kind d p.0 p.1 ∙ (eligible_parts d now s p.1 first.eligible).2
 
       has_row : (d : QueueDef) → may_start now s d ≡ true → has_eligible now s d ≡ true
       has_row d may = three d.started (is_within_limits d s) (has_eligible now s d) may

@@ -11,7 +11,6 @@ use Rattle.nqs_types.specs.Keys.{is_row}
 use Rattle.nqs_types.specs.State.{Plain}
 use Rattle.nqs_types.specs.declared.ids.RequestId.{RequestId}
 use Rattle.nqs_types.specs.declared.ids.Dest.{Dest}
-use Rattle.nqs_types.specs.declared.request.Row.{Row}
 use Rattle.nqs_types.specs.declared.request.Peer.{Peer}
 use Rattle.nqs_types.specs.declared.queue.Kind.{Kind}
 use Rattle.nqs_types.specs.declared.queue.Kind.TheVariants.{Batch, Device, Pipe}
@@ -31,13 +30,9 @@ use Rattle.nqs_rules.specs.Handover.{opened_with, open_hand}
 use Rattle.nqs_rules.specs.Stepped.{Stepped}
 use Rattle.nqs_rules.specs.Start.{launching, printing, local_causes, moving_by, moving, holding, with_row, device_at, dest_at, started, start_by, start}
 use Rattle.nqs_rules.specs.InOrder.{are_distinct}
-use Rattle.nqs_rules.specs.Picked.{row_place, IsPicked}
+use Rattle.nqs_rules.specs.Picked.{PlainRow, row_place, IsPicked}
 use Rattle.nqs_rules.proofs.ListFacts.{not_true, found_again, list_all-found, IsAt, position_at}
 use Rattle.nqs_rules.proofs.PickLaws.{eligible_parts, picked_is}
-
--- a row of a plain state
-abbrev pub PlainRow : Type 0
-PlainRow = Row (List ℕ)
 
 -- what of the order of a state the starts rest on: ids and names are distinct, hops and destinations few
 pub record IsSteady (s : Plain) : Type 0 where
@@ -116,11 +111,11 @@ module _ (now : ℕ) (s : Plain) (steady : IsSteady s) (x : Stepped (List ℕ)) 
 
   queue_found : find_queue r.queue s ≡ Some d
   queue_found =
-      subst (λ n. find_queue n s ≡ Some d) (name_exact d.name r.queue (eligible_parts now s d r p.first.eligible).0)
+      subst (λ n. find_queue n s ≡ Some d) (name_exact d.name r.queue (eligible_parts d now s r p.first.eligible).0)
       (found_again name_eq (λ q. q.name) name_exact nat_list_eq_equiv.refl s.queues p.queue_place d steady.names p.next.at)
 
   begins : (change : Change (List ℕ)) (y : Stepped (List ℕ)) → y.change ≡ Some change → y ≡ x → StartsRow s r change → IsStart s x
-  begins change y makes is starts = record { row = r; found = row_found; ready = (eligible_parts now s d r p.first.eligible).1; change = change; makes = ap (λ z. z.change) (sym is) ∙ makes; starts = starts }
+  begins change y makes is starts = record { row = r; found = row_found; ready = (eligible_parts d now s r p.first.eligible).1; change = change; makes = ap (λ z. z.change) (sym is) ∙ makes; starts = starts }
 
   -- what is done with the picked row
   done : (f : PlainRow → Option (Stepped (List ℕ))) → with_row (row_place c) s f ≡ Some x → f r ≡ Some x

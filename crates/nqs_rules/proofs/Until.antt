@@ -10,9 +10,10 @@ use Rattle.nqs_rules.specs.Start.{start}
 use Rattle.nqs_rules.specs.Stepped.{Stepped}
 use Rattle.nqs_rules.specs.Measure.{starts_of, starts_left}
 use Rattle.nqs_rules.specs.InOrder.{are_distinct, is_id_right, is_row_right, is_hop_right, is_queue_right, IsInOrder}
+use Rattle.nqs_rules.specs.Picked.{PlainRow}
 use Rattle.nqs_rules.specs.Starts.{after_change, after_step, starts_at_most, starts, after_starts}
 use Rattle.nqs_rules.proofs.ListFacts.{list_all-weaker}
-use Rattle.nqs_rules.proofs.StartIs.{PlainRow, IsSteady, IsStart, start_is}
+use Rattle.nqs_rules.proofs.StartIs.{IsSteady, IsStart, start_is}
 use Rattle.nqs_rules.proofs.Lowers.{lower, stays, few_starts}
 
 -- a state in order is steady

@@ -5,13 +5,12 @@ ghost use Rattle.std.specs.Option.{option_map};
 ghost use Rattle.nqs_types.specs.State.{State, Plain};
 ghost use Rattle.nqs_types.specs.declared.queue.QueueDef.{QueueDef};
 ghost use Rattle.nqs_types.specs.declared.extent.Extent.{Extent};
-ghost use Rattle.nqs_types.specs.declared.request.Row.{Row};
 ghost use Rattle.nqs_types.specs.declared.change.Change.{Change};
 ghost use Rattle.nqs_rules.specs.Applied.{applied};
 ghost use Rattle.nqs_rules.specs.InOrder.{IsInOrder};
 ghost use Rattle.nqs_rules.specs.Measure.{starts_of, starts_left};
 ghost use Rattle.nqs_rules.specs.Order.{first_eligible, next_queue, pick};
-ghost use Rattle.nqs_rules.specs.Picked.{has_eligible, may_start, IsFirstRow, IsNextQueue, IsPicked};
+ghost use Rattle.nqs_rules.specs.Picked.{has_eligible, may_start, PlainRow, IsFirstRow, IsNextQueue, IsPicked};
 ghost use Rattle.nqs_rules.specs.Plain.{map_state};
 ghost use Rattle.nqs_rules.specs.Start.{start};
 ghost use Rattle.nqs_rules.specs.Stepped.{Stepped, map_stepped};
@@ -46,7 +45,7 @@ pub fn first_row_of_next_queue_is_picked()
 pub fn start_lowers_starts_left()
     ensures lowers { (now : ℕ) (s : Plain) (x : Stepped (List ℕ)) (c : Change (List ℕ)) → IsInOrder s → start now s ≡ Some x → x.change ≡ Some c → starts_left (applied c s) < starts_left s }
     ensures changes { (now : ℕ) (s : Plain) (x : Stepped (List ℕ)) → IsInOrder s → start now s ≡ Some x → is_some x.change ≡ true }
-    ensures few { (s : Plain) (r : Row (List ℕ)) → IsInOrder s → starts_of s r ≤ 577 }
+    ensures few { (s : Plain) (r : PlainRow) → IsInOrder s → starts_of s r ≤ 577 }
 {}
 
 /// Starts go on until there is none: there are none where nothing starts, where one starts it is followed by the starts from the state after it, and after them all nothing starts.
