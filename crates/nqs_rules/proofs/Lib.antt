@@ -14,3 +14,10 @@ pub mod ListFacts
 pub mod StartIs
 pub mod Lowers
 pub mod Until
+pub mod Chains
+pub mod Sublists
+pub mod KeyFacts
+pub mod RowFacts
+pub mod StateFacts
+pub mod RowsOrder
+pub mod Formatted
