@@ -9,7 +9,9 @@ use Rattle.nqs_types.specs.declared.request.Peer.{Peer}
 use Rattle.nqs_rules.specs.Format.{formatted, new_peer}
 use Rattle.nqs_rules.specs.InOrder.{IsInOrder, is_peer_right, is_site_right}
 use Rattle.nqs_rules.proofs.Chains.{chained}
-use Rattle.nqs_rules.proofs.RowsOrder.{row_added}
+use Rattle.nqs_rules.proofs.RowKinds.{row_moved}
+use Rattle.nqs_rules.proofs.HandsOrder.{hand_added}
+use Rattle.nqs_rules.proofs.RowChanges.{booted_right}
 use Rattle.nqs_rules.proofs.KeyFacts.{key_gone_behind}
 
 new_peers : (site : List (List ℕ)) → list_all is_peer_right (map (λ _. new_peer) site) ≡ true

@@ -20,4 +20,8 @@ pub mod KeyFacts
 pub mod RowFacts
 pub mod StateFacts
 pub mod RowsOrder
+pub mod RowChanges
+pub mod FindKept
+pub mod RowKinds
+pub mod HandsOrder
 pub mod Formatted

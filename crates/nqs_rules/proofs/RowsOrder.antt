@@ -125,7 +125,7 @@ module _ {E : Type 0} where
 
   -- one row changes, by what keeps its request
   module _ (s : State E) (id : RequestId) (f : Row E → Row E) (h : IsInOrder s) (ids : (r : Row E) → (f r).id ≡ r.id) (right : (r : Row E) → find_row id s ≡ Some r → is_row_right s r ≡ true → is_row_right s (f r) ≡ true) where
-    changed_with : are_distinct same_number (map (λ r. r.arrival) (change_first (is_row id) f s.rows) ++ map (λ p. p.row.arrival) s.promises) ≡ true → list_all (stands (change_first (is_row id) f s.rows)) s.hands ≡ true → IsInOrder (change_row id f s)
+    pub changed_with : are_distinct same_number (map (λ r. r.arrival) (change_first (is_row id) f s.rows) ++ map (λ p. p.row.arrival) s.promises) ≡ true → list_all (stands (change_first (is_row id) f s.rows)) s.hands ≡ true → IsInOrder (change_row id f s)
     changed_with arrivals offers =
         with_rows s (change_first (is_row id) f s.rows) h (ap (λ n. nat_le (n + length s.promises) 10000) (length_changed (is_row id) f s.rows) ∙ (short_are s h.short).held)
         (list_all-changed (is_row_right s) (is_row id) f s.rows h.rows (λ r found. right r found (list_all-found (is_row_right s) (is_row id) s.rows r h.rows found)))

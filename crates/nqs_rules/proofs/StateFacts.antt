@@ -120,7 +120,7 @@ module _ {E : Type 0} where
 
   -- the host's parameters, where its default queue stays
 
-  default_kept : (s t : State E) → ((q : List ℕ) → has_queue q s ≡ true → has_queue q t ≡ true) → (o : Option (List ℕ)) → is_default_there o s ≡ true → is_default_there o t ≡ true
+  pub default_kept : (s t : State E) → ((q : List ℕ) → has_queue q s ≡ true → has_queue q t ≡ true) → (o : Option (List ℕ)) → is_default_there o s ≡ true → is_default_there o t ≡ true
   default_kept s t queues None h = refl
   default_kept s t queues (Some q) h = queues q h
 
