@@ -24,4 +24,6 @@ pub mod RowChanges
 pub mod FindKept
 pub mod RowKinds
 pub mod HandsOrder
+pub mod PeersOrder
+pub mod OutputsOrder
 pub mod Formatted
