@@ -26,4 +26,6 @@ pub mod RowKinds
 pub mod HandsOrder
 pub mod PeersOrder
 pub mod OutputsOrder
+pub mod QueuesOrder
+pub mod DevicesOrder
 pub mod Formatted

@@ -49,7 +49,7 @@ idle_is Running a b = absurd (true≢false b)
 module _ {E : Type 0} where
   -- counts and hops by the state
 
-  waits : (r : Row E) → is_running r.state ≡ false → is_count_right r ≡ true → (r.starts == r.lost && has_no_device r) ≡ true
+  pub waits : (r : Row E) → is_running r.state ≡ false → is_count_right r ≡ true → (r.starts == r.lost && has_no_device r) ≡ true
   waits r e h = subst (λ b. (if b then r.starts == r.lost + 1 else r.starts == r.lost && has_no_device r) ≡ true) e h
 
   runs_once : (r : Row E) → is_running r.state ≡ true → is_count_right r ≡ true → (r.starts == r.lost + 1) ≡ true
