@@ -13,7 +13,7 @@ use Rattle.nqs_rules.proofs.RowKinds.{row_moved}
 use Rattle.nqs_rules.proofs.HandsOrder.{hand_added}
 use Rattle.nqs_rules.proofs.PeersOrder.{promise_added}
 use Rattle.nqs_rules.proofs.OutputsOrder.{outputs_added}
-use Rattle.nqs_rules.proofs.DevicesOrder.{with_parameters}
+use Rattle.nqs_rules.proofs.ConfOrder.{conf_order}
 use Rattle.nqs_rules.proofs.RowChanges.{booted_right}
 use Rattle.nqs_rules.proofs.KeyFacts.{key_gone_behind}
 

@@ -28,4 +28,5 @@ pub mod PeersOrder
 pub mod OutputsOrder
 pub mod QueuesOrder
 pub mod DevicesOrder
+pub mod ConfOrder
 pub mod Formatted
