@@ -30,7 +30,7 @@ use Rattle.nqs_rules.specs.InOrder.{IsInOrder, is_dest_right, is_queue_right, is
 use Rattle.nqs_rules.proofs.Chains.{differ}
 use Rattle.nqs_rules.proofs.Sublists.{filter_part, part_length, part_all}
 use Rattle.nqs_rules.proofs.ListFacts.{IsAt, position_at}
-use Rattle.nqs_rules.proofs.KeyFacts.{all-added}
+use Rattle.nqs_rules.proofs.KeyFacts.{all-added, place_below}
 use Rattle.nqs_rules.proofs.StateFacts.{IsParameters, parameters_are}
 use Rattle.nqs_rules.proofs.RowKinds.{rows_purged}
 use Rattle.nqs_rules.proofs.QueuesOrder.{IsQueue, queue_is, queue_right, queue_changed, queue_added, queue_deleted}
@@ -66,11 +66,6 @@ stated : (limit n : ℕ) (o : Option ℕ) → nat_le n limit ≡ true → at_mos
 stated limit n None default within = default
 stated limit n (Some m) default within = within
 
-below_length : {V : Type 0} (vs : List V) (n : ℕ) (v : V) → slice_get vs n ≡ Some v → n < length vs
-below_length [] n v e = absurd (none-some v e)
-below_length (x ∷ vs) zero v e = omega arith
-below_length (x ∷ vs) (suc n) v e = let k = below_length vs n v e in omega (arith, k)
-
 module _ {E : Type 0} (s : State E) where
   -- the destination that is typed so is of the site
 
@@ -79,7 +74,7 @@ module _ {E : Type 0} (s : State E) where
     where
       by : (o : Option ℕ) → position (name_eq d.host) s.site ≡ o → list_all (is_dest_right s) (dest_list (dest_of d.queue (option_map host_at o))) ≡ true
       by None e = refl
-      by (Some n) e = let p = position_at (name_eq d.host) s.site n e in and_from (nat_lt n (length s.site)) true (lt-ltb n (length s.site) (below_length s.site n p.value p.at)) refl
+      by (Some n) e = let p = position_at (name_eq d.host) s.site n e in and_from (nat_lt n (length s.site)) true (lt-ltb n (length s.site) (place_below s.site n p.value p.at)) refl
 
   created_right : (o : Option NamedDest) → (list_all (is_dest_right s) (created_dests o s) ≡ true) × (nat_le (length (created_dests o s)) 16 ≡ true)
   created_right None = (refl, refl)

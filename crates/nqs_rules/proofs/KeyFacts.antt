@@ -1,5 +1,5 @@
 -- Lists of values under keys: what a change, a loss or a gain of one value leaves of the others, and of the keys.
-use Rattle.std.proofs.Common.{◌≡◌, ℕ, ◌+◌, ◌≤◌, Bool, true, false, cond, not, ◌&&◌, ◌||◌, List, [], ◌∷◌, ◌++◌, map, filter, find, length, Option, None, Some, true≢false, suc, refl, sym, ap, subst, ◌∙◌, arith, if◌then◌else◌}
+use Rattle.std.proofs.Common.{◌≡◌, ℕ, ◌+◌, ◌≤◌, Bool, true, false, cond, not, ◌&&◌, ◌||◌, List, [], ◌∷◌, ◌++◌, map, filter, find, length, slice_get, ◌<◌, Option, None, Some, option_map, true≢false, zero, suc, refl, sym, ap, subst, ◌∙◌, arith, if◌then◌else◌}
 use Rattle.std.proofs.lemmas.Bool.{and_parts, and_from, or_parts, or_from, or_left, or_right, not-true, not_from_false, not_from_true, false_from_ne_true}
 use Rattle.std.proofs.lemmas.List.Folds.{list_any-append, list_all-append}
 use Rattle.std.proofs.lemmas.List.{map-append, append_assoc, append-nil}
@@ -37,6 +37,30 @@ module _ {V : Type 0} where
       by : (b : Bool) → (list_any t vs ≡ true → passes (λ _. true) (find t vs) ≡ true) → (b || list_any t vs) ≡ true → passes (λ _. true) (cond b (Some x) (find t vs)) ≡ true
       by true rest h = refl
       by false rest h = rest h
+
+  pub none_found : (t : V → Bool) (vs : List V) → list_any t vs ≡ false → find t vs ≡ None
+  none_found t [] h = refl
+  none_found t (x ∷ vs) h = let p = or_parts (t x) (list_any t vs) h in (λ j. cond (p.0 j) (Some x) (find t vs)) ∙ none_found t vs p.1
+
+  -- what stands at a place
+  pub all_get : (p : V → Bool) (vs : List V) (n : ℕ) (v : V) → list_all p vs ≡ true → slice_get vs n ≡ Some v → p v ≡ true
+  all_get p [] n v all e = absurd (none-some v e)
+  all_get p (x ∷ vs) zero v all e = ap p (sym (same_Some x v e)) ∙ (and_parts (p x) (list_all p vs) all).0
+  all_get p (x ∷ vs) (suc n) v all e = all_get p vs n v (and_parts (p x) (list_all p vs) all).1 e
+
+  pub place_below : (vs : List V) (n : ℕ) (v : V) → slice_get vs n ≡ Some v → n < length vs
+  place_below [] n v e = absurd (none-some v e)
+  place_below (x ∷ vs) zero v e = omega arith
+  place_below (x ∷ vs) (suc n) v e = let k = place_below vs n v e in omega (arith, k)
+
+  -- the one that changes is found changed
+  pub find-changed : (t : V → Bool) (g : V → V) → ((v : V) → t (g v) ≡ t v) → (vs : List V) → find t (change_first t g vs) ≡ option_map g (find t vs)
+  find-changed t g same [] = refl
+  find-changed t g same (x ∷ vs) = by (t x) refl (find-changed t g same vs)
+    where
+      by : (b : Bool) → t x ≡ b → find t (change_first t g vs) ≡ option_map g (find t vs) → find t (if b then g x ∷ vs else x ∷ change_first t g vs) ≡ option_map g (cond b (Some x) (find t vs))
+      by true e rest = ap (λ b. cond b (Some (g x)) (find t vs)) (same x ∙ e)
+      by false e rest = ap (λ b. cond b (Some x) (find t (change_first t g vs))) e ∙ rest
 
   -- where one goes that was there
   pub length_without : (t : V → Bool) (vs : List V) → list_any t vs ≡ true → length vs ≡ length (without_first t vs) + 1

@@ -29,4 +29,7 @@ pub mod OutputsOrder
 pub mod QueuesOrder
 pub mod DevicesOrder
 pub mod ConfOrder
+pub mod EditOrder
+pub mod AppliedOrder
+pub mod HandoversOrder
 pub mod Formatted

@@ -26,21 +26,21 @@ use Rattle.nqs_rules.specs.InOrder.{IsInOrder, is_peer_right, are_distinct, same
 use Rattle.nqs_rules.proofs.Sublists.{IsPart, without_part, map_part, part_all, part_distinct}
 use Rattle.nqs_rules.proofs.ListFacts.{list_all-weaker}
 use Rattle.nqs_rules.proofs.ListMaps.{list_any-map}
-use Rattle.nqs_rules.proofs.KeyFacts.{all-added, none_from_all, distinct-added}
+use Rattle.nqs_rules.proofs.KeyFacts.{all_get, all-added, none_from_all, distinct-added}
 use Rattle.nqs_rules.proofs.StateFacts.{default_kept, parameters_kept, parameters_are, parameters_right, keys_are, keys_right}
 use Rattle.nqs_rules.proofs.RowFacts.{same_it, same_peer_number, Keeps, rows_kept, promises_kept}
 use Rattle.nqs_rules.proofs.PeersOrder.{given_more, same_host_exact, peer_counted}
 
-get-changed : {V : Type 0} (n : ℕ) (f : V → V) (vs : List V) → slice_get (change_at n f vs) n ≡ option_map f (slice_get vs n)
+pub get-changed : {V : Type 0} (n : ℕ) (f : V → V) (vs : List V) → slice_get (change_at n f vs) n ≡ option_map f (slice_get vs n)
 get-changed n f [] = refl
 get-changed zero f (v ∷ vs) = refl
 get-changed (suc n) f (v ∷ vs) = get-changed n f vs
 
 -- the counter itself was given to none, and is given by the next one
-not_given : (n : ℕ) → is_given n n ≡ false
+pub not_given : (n : ℕ) → is_given n n ≡ false
 not_given n = false_from_ne_true (is_given n n) (λ h. let k = ltb-true n n (and_parts (nat_le 1 n) (nat_lt n n) h).1 in omega arith)
 
-given_next : (n : ℕ) → nat_le 1 n ≡ true → is_given n (n + 1) ≡ true
+pub given_next : (n : ℕ) → nat_le 1 n ≡ true → is_given n (n + 1) ≡ true
 given_next n h = and_from (nat_le 1 n) (nat_lt n (n + 1)) h (lt-ltb n (n + 1) (omega arith))
 
 module _ {E : Type 0} where
@@ -170,12 +170,7 @@ module _ {E : Type 0} where
       with_stage t (record { peer = host; number = p.stage_next; path = part.path; bytes = part.bytes }) k (and_from (is_path part.path) (passes (is_stage_given p.stage_next) (find_peer host t)) path right) new
     where
       counts : nat_le 1 p.stage_next ≡ true
-      counts = (and_parts (nat_le 1 p.next) (nat_le 1 p.stage_next) (right_at s.peers host.0 h.peers found)).1
-        where
-          right_at : (ps : List Peer) (n : ℕ) → list_all is_peer_right ps ≡ true → slice_get ps n ≡ Some p → is_peer_right p ≡ true
-          right_at [] n all e = absurd (none-some p e)
-          right_at (q ∷ ps) zero all e = ap is_peer_right (sym (same_Some q p e)) ∙ (and_parts (is_peer_right q) (list_all is_peer_right ps) all).0
-          right_at (q ∷ ps) (suc n) all e = right_at ps n (and_parts (is_peer_right q) (list_all is_peer_right ps) all).1 e
+      counts = (and_parts (nat_le 1 p.next) (nat_le 1 p.stage_next) (all_get is_peer_right s.peers host.0 p h.peers found)).1
 
       new : list_any (peer_number_eq (peer_number host p.stage_next)) (map stage_key s.stages) ≡ false
       new = list_any-map stage_key (peer_number_eq (peer_number host p.stage_next)) s.stages ∙ none_from_all (is_stage_right s) (λ x. peer_number_eq (peer_number host p.stage_next) (stage_key x)) (λ x k.

@@ -10,6 +10,7 @@ use Rattle.nqs_types.specs.Ids.{name_eq}
 use Rattle.nqs_types.specs.declared.ids.Dest.{Dest}
 use Rattle.nqs_types.specs.declared.request.Row.{Row}
 use Rattle.nqs_types.specs.declared.request.Refused.{Refused}
+use Rattle.nqs_types.specs.declared.request.Hold.TheVariants.{System}
 use Rattle.nqs_types.specs.declared.request.RowState.{RowState}
 use Rattle.nqs_types.specs.declared.request.RowState.TheVariants.{Queued, Routing, Running}
 use Rattle.nqs_rules.specs.Tests.{is_running, is_routing, is_queued, is_ready, is_unheld}
@@ -63,6 +64,15 @@ module _ {E : Type 0} where
 
   pub ready_queued : (r : Row E) → is_ready r ≡ true → r.state ≡ Queued
   ready_queued r h = queued_is r.state (and_parts (is_queued r.state) (is_unheld r.hold) h).0
+
+  -- what a noted refusal doesn't touch
+  pub noted_kept : {K : Type 0} (key : Row E → K) → ((q : Row E) (refused : List Refused) → key (record q { refused = refused }) ≡ key q) → ((q : Row E) → key (record q { hold = System }) ≡ key q)
+      → (dests : List Dest) (dest : Dest) (refusal : ℕ) (r : Row E) → key (refusal_noted dests dest refusal r) ≡ key r
+  noted_kept key refused held dests dest refusal r = by (all_refused dests (with_refusal dests dest refusal r.refused)) ∙ refused r (with_refusal dests dest refusal r.refused)
+    where
+      by : (b : Bool) → key (held_where b (record r { refused = with_refusal dests dest refusal r.refused })) ≡ key (record r { refused = with_refusal dests dest refusal r.refused })
+      by true = held (record r { refused = with_refusal dests dest refusal r.refused })
+      by false = refl
 
   module _ (s : State E) where
     -- the row with another state, device and count
