@@ -42,6 +42,14 @@ use Rattle.nqs_rules.proofs.HandsOrder.{hand_dropped, hand_changed, hand_added, 
 use Rattle.nqs_rules.proofs.PeersOrder.{same_host_exact, peer_counted, peer_closed, promises_part, promise_dropped, promise_added}
 use Rattle.nqs_rules.proofs.OutputsOrder.{get-changed, given_next}
 
+abbrev not_committed : Option Hand → Bool
+not_committed None = true
+not_committed (Some x) = is_offered x.phase
+
+offer_or_none : (o : Option Hand) → passes is_offered_hand o ≡ true → not_committed o ≡ true
+offer_or_none None h = refl
+offer_or_none (Some x) h = h
+
 module _ {E : Type 0} where
   -- what is known of a peer and of a hand that a change speaks of
 
@@ -88,14 +96,6 @@ module _ {E : Type 0} where
     silent_one until = peer_counted (change_row x.id requeued_row (drop_hand k s)) k.peer (λ p. record p { wait = until }) requeued (λ p e. record { next = omega arith; stage_next = omega arith }) (λ p. refl)
 
   -- hands of offers that are taken back one after the other
-
-  abbrev not_committed : Option Hand → Bool
-  not_committed None = true
-  not_committed (Some x) = is_offered x.phase
-
-  offer_or_none : (o : Option Hand) → passes is_offered_hand o ≡ true → not_committed o ≡ true
-  offer_or_none None h = refl
-  offer_or_none (Some x) h = h
 
   still_offered : (s : State E) → IsInOrder s → (k l : PeerNumber) → not_committed (find (is_hand l) s.hands) ≡ true → not_committed (find (is_hand l) (without_first (is_hand k) s.hands)) ≡ true
   still_offered s h k l opened = by (peer_number_eq l k) refl

@@ -32,4 +32,5 @@ pub mod ConfOrder
 pub mod EditOrder
 pub mod AppliedOrder
 pub mod HandoversOrder
+pub mod ChangesOrder
 pub mod Formatted
