@@ -58,6 +58,9 @@ few_names (n ∷ ns) ms distinct all =
     ns a.1 (all_from_none (λ m. not (name_eq n m)) (name_eq n) (λ m e. not_from_false (name_eq n m) e) ns (not-true (list_any (name_eq n) ns) d.0))) in
     omega (arith, less, rest)
 
+pub once_added : {E : Type 0} (s : State E) (x : List ℕ) (q : List ℕ) (d : QueueDef) → find (is_queue q) s.queues ≡ Some d → lists_once d ≡ true → passes (lists_device x) (find_queue q s) ≡ false → lists_once (with_device x d) ≡ true
+once_added s x q d found once new = distinct-added name_eq name_exact same_name d.devices x (ap (passes (lists_device x)) (sym found) ∙ new) once
+
 module _ {E : Type 0} (s : State E) (h : IsInOrder s) where
   short : IsShort s
   short = short_are s h.short
@@ -110,9 +113,6 @@ module _ {E : Type 0} (s : State E) (h : IsInOrder s) where
       let p = queue_is s d k in
       queue_right s (record d { devices = devices }) (record { priority = p.priority; run_limit = p.run_limit; user_limit = p.user_limit; access = p.access; few_dests = p.few_dests; dests = p.dests; few_devices = few; devices = there })
 
-  pub once_added : (x : List ℕ) (q : List ℕ) (d : QueueDef) → find (is_queue q) s.queues ≡ Some d → lists_once d ≡ true → passes (lists_device x) (find_queue q s) ≡ false → lists_once (with_device x d) ≡ true
-  once_added x q d found once new = distinct-added name_eq name_exact same_name d.devices x (ap (passes (lists_device x)) (sym found) ∙ new) once
-
   few_listed : (devices : List (List ℕ)) → are_distinct name_eq devices ≡ true → list_all (λ n. has_device n s) devices ≡ true → nat_le (length devices) 64 ≡ true
   few_listed devices once there =
       let fewer = few_names devices (map (λ d. d.name) s.devices) once (all-both (λ n. has_device n s) (λ n. has_device n s) (λ n. list_any (name_eq n) (map (λ d. d.name) s.devices)) (λ n k l. list_any-map (λ d. d.name) (name_eq n) s.devices ∙ k) devices there there) in
@@ -134,7 +134,7 @@ module _ {E : Type 0} (s : State E) (h : IsInOrder s) where
       let causes = none_holds (devices_causes (AddDevice d q) s) fit in
       queue_changed s q (with_device d) h (λ x. refl) (λ x found k.
       let there = all-added (λ n. has_device n s) x.devices d (queue_is s x k).devices (not-false (has_device d s) causes.0) in
-      list_right x (x.devices ++ d ∷ []) k (few_listed (x.devices ++ d ∷ []) (once_added d q x found (list_all-found lists_once (is_queue q) s.queues x once found) causes.1.1.1.0) there) there)
+      list_right x (x.devices ++ d ∷ []) k (few_listed (x.devices ++ d ∷ []) (once_added s d q x found (list_all-found lists_once (is_queue q) s.queues x once found) causes.1.1.1.0) there) there)
   devices_order (RemoveDevice d q) once fit = queue_changed s q (without_device d) h (λ x. refl) (λ x found k.
       let p = queue_is s x k in
       let part = filter_part (λ n. not (name_eq d n)) x.devices in

@@ -33,4 +33,5 @@ pub mod EditOrder
 pub mod AppliedOrder
 pub mod HandoversOrder
 pub mod ChangesOrder
+pub mod OnceOrder
 pub mod Formatted

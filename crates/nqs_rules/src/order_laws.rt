@@ -1,12 +1,24 @@
 //! Laws of order: what a host's state in order is stays so, and whatever a step makes fits it.
-ghost use Rattle.std.specs.Prelude.{◌≡◌, ℕ, List, length, ◌<◌, ◌≤◌};
+ghost use Rattle.std.specs.Prelude.{◌≡◌, ℕ, List, length, ◌<◌, ◌≤◌, IsTrue};
 ghost use Rattle.nqs_types.specs.State.{State};
+ghost use Rattle.nqs_types.specs.declared.change.Change.{Change};
 ghost use Rattle.nqs_types.specs.declared.extent.Extent.{Extent};
 ghost use Rattle.nqs_types.specs.declared.ids.HostId.{HostId};
+ghost use Rattle.nqs_rules.specs.Applied.{applied};
+ghost use Rattle.nqs_rules.specs.DeviceLists.{lists_devices_once};
+ghost use Rattle.nqs_rules.specs.Fits.{fits};
 ghost use Rattle.nqs_rules.specs.Format.{formatted};
 ghost use Rattle.nqs_rules.specs.InOrder.{IsInOrder};
+ghost use Rattle.nqs_rules.specs.Sane.{is_sane_change};
 
-/// A host of a site of 1 to 16 hosts is in order as it is formatted.
+/// A host of a site of 1 to 16 hosts is in order as it is formatted, and none of its queues lists a device twice.
 pub fn formatted_is_in_order()
-    ensures { (me : HostId) (site : List (List ℕ)) → me.0 < length site → length site ≤ 16 → IsInOrder (formatted {E = Extent} me site) }
+    ensures order { (me : HostId) (site : List (List ℕ)) → me.0 < length site → length site ≤ 16 → IsInOrder (formatted {E = Extent} me site) }
+    ensures devices { (me : HostId) (site : List (List ℕ)) → IsTrue (lists_devices_once (formatted {E = Extent} me site)) }
+{}
+
+/// Whatever change fits a state in order, and is within its limits, leaves it in order. That holds where no queue lists a device twice, and stays so.
+pub fn order_is_kept()
+    ensures order { (c : Change Extent) (s : State Extent) → IsInOrder s → IsTrue (lists_devices_once s) → IsTrue (is_sane_change c) → IsTrue (fits c s) → IsInOrder (applied c s) }
+    ensures devices { (c : Change Extent) (s : State Extent) → IsTrue (lists_devices_once s) → IsTrue (fits c s) → IsTrue (lists_devices_once (applied c s)) }
 {}
