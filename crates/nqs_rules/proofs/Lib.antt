@@ -34,4 +34,5 @@ pub mod AppliedOrder
 pub mod HandoversOrder
 pub mod ChangesOrder
 pub mod OnceOrder
+pub mod Consistent
 pub mod Formatted
