@@ -35,6 +35,23 @@ use Rattle.nqs_rules.proofs.EditOrder.{access_order, devices_order, rows_order}
 use Rattle.nqs_rules.proofs.AppliedOrder.{submitted_order, deleted_order, started_order, moved_order, noted_order}
 use Rattle.nqs_rules.proofs.HandoversOrder.{committed_order, refused_order, silent_order, opened_order, promised_order, dropped_order, accepted_order}
 
+module _ {E : Type 0} (P : State E → Type 0) (s : State E) (peer : HostId) (number : ℕ) where
+  -- the hand or the promise that is there
+
+  pub with_offer : (made : Option Hand → State E) → ((x : Hand) → find_hand peer number s ≡ Some x → is_offered_hand x ≡ true → P (made (Some x))) → hand_passes is_offered_hand peer number s ≡ true → P (made (find_hand peer number s))
+  with_offer made kept fit = of (find_hand peer number s) refl fit
+    where
+      of : (o : Option Hand) → find_hand peer number s ≡ o → passes is_offered_hand o ≡ true → P (made o)
+      of None e fit = absurd (true≢false (sym fit))
+      of (Some x) e fit = kept x e fit
+
+  pub with_promise : (made : Option (Promise E) → State E) → ((x : Promise E) → find_promise peer number s ≡ Some x → P (made (Some x))) → has_promise peer number s ≡ true → P (made (find_promise peer number s))
+  with_promise made kept fit = of (find_promise peer number s) refl (found_any (is_promise (peer_number peer number)) s.promises fit)
+    where
+      of : (o : Option (Promise E)) → find_promise peer number s ≡ o → passes (λ _. true) o ≡ true → P (made o)
+      of None e fit = absurd (true≢false (sym fit))
+      of (Some x) e fit = kept x e
+
 module _ {E : Type 0} where
   edit_order : (e : Edit) (s : State E) → IsInOrder s → lists_devices_once s ≡ true → is_sane_edit e ≡ true → edit_fits e s ≡ true → IsInOrder (edit_applied e s)
   edit_order (Conf e) s h once sane fit = conf_order s h e sane fit
@@ -42,21 +59,6 @@ module _ {E : Type 0} where
   edit_order (AccessOf e) s h once sane fit = access_order s h e fit
   edit_order (DevicesOf e) s h once sane fit = devices_order s h e once fit
   edit_order (RowsOf e) s h once sane fit = rows_order s h e sane fit
-
-  -- the hand or the promise that is there
-  with_offer : (s : State E) (peer : HostId) (number : ℕ) (made : Option Hand → State E) → ((x : Hand) → find_hand peer number s ≡ Some x → is_offered_hand x ≡ true → IsInOrder (made (Some x))) → hand_passes is_offered_hand peer number s ≡ true → IsInOrder (made (find_hand peer number s))
-  with_offer s peer number made kept fit = of (find_hand peer number s) refl fit
-    where
-      of : (o : Option Hand) → find_hand peer number s ≡ o → passes is_offered_hand o ≡ true → IsInOrder (made o)
-      of None e fit = absurd (true≢false (sym fit))
-      of (Some x) e fit = kept x e fit
-
-  with_promise : (s : State E) (peer : HostId) (number : ℕ) (made : Option (Promise E) → State E) → ((x : Promise E) → find_promise peer number s ≡ Some x → IsInOrder (made (Some x))) → has_promise peer number s ≡ true → IsInOrder (made (find_promise peer number s))
-  with_promise s peer number made kept fit = of (find_promise peer number s) refl (found_any (is_promise (peer_number peer number)) s.promises fit)
-    where
-      of : (o : Option (Promise E)) → find_promise peer number s ≡ o → passes (λ _. true) o ≡ true → IsInOrder (made o)
-      of None e fit = absurd (true≢false (sym fit))
-      of (Some x) e fit = kept x e
 
   pub applied_order : (c : Change E) (s : State E) → IsInOrder s → lists_devices_once s ≡ true → is_sane_change c ≡ true → fits c s ≡ true → IsInOrder (applied c s)
   applied_order (Site me site) s h once sane fit = absurd (true≢false (sym fit))
@@ -75,17 +77,17 @@ module _ {E : Type 0} where
       let p = each (row_passes may_hop id s) (passes (is_next number) (find_peer peer s) ∷ not (list_any (is_hand_to peer) s.hands) ∷ []) fit in
       opened_order s h peer number id queue since p.0 p.1.0 (not-true (list_any (is_hand_to peer) s.hands) p.1.1.0)
   applied_order (HandCommitted peer number) s h once sane fit =
-      with_offer s peer number (λ o. hand_committed (peer_number peer number) o s) (λ x e offered. committed_order s h (peer_number peer number) x e offered) fit
+      with_offer IsInOrder s peer number (λ o. hand_committed (peer_number peer number) o s) (λ x e offered. committed_order s h (peer_number peer number) x e offered) fit
   applied_order (HandRefused peer number refusal) s h once sane fit =
-      with_offer s peer number (λ o. hand_refused (peer_number peer number) refusal o s) (λ x e offered. refused_order s h (peer_number peer number) x e offered refusal) fit
+      with_offer IsInOrder s peer number (λ o. hand_refused (peer_number peer number) refusal o s) (λ x e offered. refused_order s h (peer_number peer number) x e offered refusal) fit
   applied_order (HandsSilent until ks) s h once sane fit = silent_order until ks s h fit
   applied_order (HandDone peer number) s h once sane fit = hand_dropped s (peer_number peer number) h
   applied_order (Promised peer number queue c script) s h once sane fit =
       let p = each (has_queue queue s) (passes (is_open_number number) (find_peer peer s) ∷ not (has_promise peer number s) ∷ is_site_host c.id.host s ∷ is_unknown c.id s ∷ not (offer_full peer s) ∷ not (arrivals_used s) ∷ []) fit in
       promised_order s h peer number queue c script sane p.0 p.1.0 p.1.1.1.0 p.1.1.1.1.0 (not-true (offer_full peer s) p.1.1.1.1.1.0) (not-true (arrivals_used s) p.1.1.1.1.1.1.0)
   applied_order (Accepted peer number) s h once sane fit =
-      with_promise s peer number (λ o. accepted (peer_number peer number) o s) (λ x e. accepted_order s h (peer_number peer number) x e) fit
-  applied_order (Dropped peer number) s h once sane fit = with_promise s peer number (λ o. dropped (peer_number peer number) s) (λ x e. dropped_order s h (peer_number peer number) x e) fit
+      with_promise IsInOrder s peer number (λ o. accepted (peer_number peer number) o s) (λ x e. accepted_order s h (peer_number peer number) x e) fit
+  applied_order (Dropped peer number) s h once sane fit = with_promise IsInOrder s peer number (λ o. dropped (peer_number peer number) s) (λ x e. dropped_order s h (peer_number peer number) x e) fit
   applied_order (MovedLocal id queue) s h once sane fit = let p = each (row_passes may_hop id s) (has_queue queue s ∷ not (arrivals_used s) ∷ []) fit in moved_order s h id queue p.0 p.1.0 p.1.1.0
   applied_order (RefusedLocal id queue refusal) s h once sane fit = noted_order s h id queue refusal fit
   applied_order (HeldFar id) s h once sane fit = row_changed s id held_far h (λ q. refl) (λ q e k. k) (λ q. refl) (unoffered is_ready id s h ready_unrouted fit)

@@ -61,6 +61,29 @@ few_names (n ∷ ns) ms distinct all =
 pub once_added : {E : Type 0} (s : State E) (x : List ℕ) (q : List ℕ) (d : QueueDef) → find (is_queue q) s.queues ≡ Some d → lists_once d ≡ true → passes (lists_device x) (find_queue q s) ≡ false → lists_once (with_device x d) ≡ true
 once_added s x q d found once new = distinct-added name_eq name_exact same_name d.devices x (ap (passes (lists_device x)) (sym found) ∙ new) once
 
+module _ {E : Type 0} (s : State E) (P : State E → Type 0) where
+  -- the row that is meant, with what lets its change be
+  pub meant : (id : Named) (causes : Row E → List Cause) (f : Row E → Row E) (t : State E) → ((rid : RequestId) (r : Row E) → find_row rid s ≡ Some r → Allows (causes r) → P (change_meant (Some rid) f t)) → Allows (named_causes id causes (meant_row id s)) → P (change_meant (meant_request id s) f t)
+  meant id causes f t kept fit = of (meant_request id s) fit
+    where
+      at : (rid : RequestId) (o : Option (Row E)) → find_row rid s ≡ o → Allows (named_causes id causes o) → P (change_meant (Some rid) f t)
+      at rid None found fit = absurd (true≢false (sym fit))
+      at rid (Some r) found fit = kept rid r found fit
+
+      of : (o : Option RequestId) → Allows (named_causes id causes (row_of o s)) → P (change_meant o f t)
+      of None fit = absurd (true≢false (sym fit))
+      of (Some rid) fit = at rid (find_row rid s) refl fit
+
+module _ {E : Type 0} (s : State E) where
+  pub may_move : (id : Named) (q : List ℕ) (r : Row E) → Allows (move_causes id q s r) → (has_queue q s ≡ true) × (r.state ≡ Queued) × (arrivals_used s ≡ false)
+  may_move id q r allows =
+      let first : List Cause = cause (not (has_queue q s)) (NoQueue q) ∷ idle_causes id r in
+      let entry : List Cause = causes_of (move_entry_causes r) (find_queue q s) in
+      let last : List Cause = cause (arrivals_used s) NumbersUsed ∷ [] in
+      let a = causes_behind (first ++ entry) last allows in
+      let b = none_holds first (causes_behind first entry a.0).0 in
+      (not-false (has_queue q s) b.0, idle_is r.state b.1.0 b.1.1.0, (none_holds last a.1).0)
+
 module _ {E : Type 0} (s : State E) (h : IsInOrder s) where
   short : IsShort s
   short = short_are s h.short
@@ -144,37 +167,16 @@ module _ {E : Type 0} (s : State E) (h : IsInOrder s) where
 
   -- requests
 
-  -- the row that is meant, with what lets its change be
-  meant : (id : Named) (causes : Row E → List Cause) (f : Row E → Row E) (t : State E) → ((rid : RequestId) (r : Row E) → find_row rid s ≡ Some r → Allows (causes r) → IsInOrder (change_meant (Some rid) f t)) → Allows (named_causes id causes (meant_row id s)) → IsInOrder (change_meant (meant_request id s) f t)
-  meant id causes f t kept fit = of (meant_request id s) fit
-    where
-      at : (rid : RequestId) (o : Option (Row E)) → find_row rid s ≡ o → Allows (named_causes id causes o) → IsInOrder (change_meant (Some rid) f t)
-      at rid None found fit = absurd (true≢false (sym fit))
-      at rid (Some r) found fit = kept rid r found fit
-
-      of : (o : Option RequestId) → Allows (named_causes id causes (row_of o s)) → IsInOrder (change_meant o f t)
-      of None fit = absurd (true≢false (sym fit))
-      of (Some rid) fit = at rid (find_row rid s) refl fit
-
-  may_move : (id : Named) (q : List ℕ) (r : Row E) → Allows (move_causes id q s r) → (has_queue q s ≡ true) × (r.state ≡ Queued) × (arrivals_used s ≡ false)
-  may_move id q r allows =
-      let first : List Cause = cause (not (has_queue q s)) (NoQueue q) ∷ idle_causes id r in
-      let entry : List Cause = causes_of (move_entry_causes r) (find_queue q s) in
-      let last : List Cause = cause (arrivals_used s) NumbersUsed ∷ [] in
-      let a = causes_behind (first ++ entry) last allows in
-      let b = none_holds first (causes_behind first entry a.0).0 in
-      (not-false (has_queue q s) b.0, idle_is r.state b.1.0 b.1.1.0, (none_holds last a.1).0)
-
   pub rows_order : (e : RowsEdit) → is_rows_within e ≡ true → Allows (rows_causes e s) → IsInOrder (rows_applied e s)
   rows_order (AbortQueue q) sane fit = rows_aborted s q h
-  rows_order (HoldRequest id) sane fit = meant id (hold_causes id) held_row s (λ rid r found allows.
+  rows_order (HoldRequest id) sane fit = meant s IsInOrder id (hold_causes id) held_row s (λ rid r found allows.
       let idle = none_holds (idle_causes id r) (causes_behind (idle_causes id r) (cause (not (is_unheld r.hold)) (IsHeld id) ∷ []) allows).0 in
       row_changed s rid held_row h (λ q. refl) (λ q e k. k) (λ q. refl) (no_offer s rid h r found idle.0)) fit
-  rows_order (ReleaseRequest id) sane fit = meant id (release_causes id) released_row s (λ rid r found allows. row_released s rid h) fit
-  rows_order (MoveRequest id q) sane fit = meant id (move_causes id q s) (moved_row q (s.arrivals + 1)) (next_arrival s) (λ rid r found allows.
-      let p = may_move id q r allows in
+  rows_order (ReleaseRequest id) sane fit = meant s IsInOrder id (release_causes id) released_row s (λ rid r found allows. row_released s rid h) fit
+  rows_order (MoveRequest id q) sane fit = meant s IsInOrder id (move_causes id q s) (moved_row q (s.arrivals + 1)) (next_arrival s) (λ rid r found allows.
+      let p = may_move s id q r allows in
       row_moved s rid (moved_row q (s.arrivals + 1)) h (not_from_false (arrivals_used s) p.2) (λ x. refl) (λ x. refl) (λ x e k.
       moved_right (next_arrival s) x k q (s.arrivals + 1) 0 (ap (λ y. y.state) (same_Some x r (sym e ∙ found)) ∙ p.1) p.0 (le-leb (s.arrivals + 1) (s.arrivals + 1) (omega arith)) refl)
       (no_offer s rid h r found (ap is_routing p.1))) fit
-  rows_order (ModifyRequest id n) sane fit = meant id (idle_causes id) (with_priority n) s (λ rid r found allows.
+  rows_order (ModifyRequest id n) sane fit = meant s IsInOrder id (idle_causes id) (with_priority n) s (λ rid r found allows.
       row_changed s rid (with_priority n) h (λ q. refl) (λ q e k. priority_right s q k n sane) (λ q. refl) (no_offer s rid h r found (none_holds (idle_causes id r) allows).0)) fit

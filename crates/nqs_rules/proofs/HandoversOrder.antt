@@ -42,11 +42,11 @@ use Rattle.nqs_rules.proofs.HandsOrder.{hand_dropped, hand_changed, hand_added, 
 use Rattle.nqs_rules.proofs.PeersOrder.{same_host_exact, peer_counted, peer_closed, promises_part, promise_dropped, promise_added}
 use Rattle.nqs_rules.proofs.OutputsOrder.{get-changed, given_next}
 
-abbrev not_committed : Option Hand → Bool
+abbrev pub not_committed : Option Hand → Bool
 not_committed None = true
 not_committed (Some x) = is_offered x.phase
 
-offer_or_none : (o : Option Hand) → passes is_offered_hand o ≡ true → not_committed o ≡ true
+pub offer_or_none : (o : Option Hand) → passes is_offered_hand o ≡ true → not_committed o ≡ true
 offer_or_none None h = refl
 offer_or_none (Some x) h = h
 
@@ -76,7 +76,7 @@ module _ {E : Type 0} where
     peer_known : is_site_host x.peer s ≡ true
     peer_known = let p = found_peer (is_hand_given x.number) x.peer s is.given in known_host s h x.peer p.0 p.1
 
-    routes : (q : Row E) → find_row x.id s ≡ Some q → is_routing q.state ≡ true
+    pub routes : (q : Row E) → find_row x.id s ≡ Some q → is_routing q.state ≡ true
     routes q e = ap (passes is_routing_row) (sym e) ∙ implied (is_offered x.phase) (passes is_routing_row (find_row x.id s)) is.stands offered
 
     pub committed_order : IsInOrder (hand_committed k (Some x) s)
@@ -92,12 +92,12 @@ module _ {E : Type 0} where
         (λ q e right. noted_right (drop_hand k s) (requeued_row q) (requeued_right (drop_hand k s) q right (ap is_running (routing_is q.state (routes q e)))) (dests_for q s) dest refusal peer_known)
         (λ q. noted_kept (λ y. y.arrival) (λ y l. refl) (λ y. refl) (dests_for q s) dest refusal (requeued_row q)) (offer_gone (is_hand k) x offered s.hands found h.offers)
 
-    silent_one : (until : ℕ) → IsInOrder (hand_silent until k (Some x) s)
+    pub silent_one : (until : ℕ) → IsInOrder (hand_silent until k (Some x) s)
     silent_one until = peer_counted (change_row x.id requeued_row (drop_hand k s)) k.peer (λ p. record p { wait = until }) requeued (λ p e. record { next = omega arith; stage_next = omega arith }) (λ p. refl)
 
   -- hands of offers that are taken back one after the other
 
-  still_offered : (s : State E) → IsInOrder s → (k l : PeerNumber) → not_committed (find (is_hand l) s.hands) ≡ true → not_committed (find (is_hand l) (without_first (is_hand k) s.hands)) ≡ true
+  pub still_offered : (s : State E) → IsInOrder s → (k l : PeerNumber) → not_committed (find (is_hand l) s.hands) ≡ true → not_committed (find (is_hand l) (without_first (is_hand k) s.hands)) ≡ true
   still_offered s h k l opened = by (peer_number_eq l k) refl
     where
       by : (b : Bool) → peer_number_eq l k ≡ b → not_committed (find (is_hand l) (without_first (is_hand k) s.hands)) ≡ true

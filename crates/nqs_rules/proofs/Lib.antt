@@ -35,4 +35,5 @@ pub mod HandoversOrder
 pub mod ChangesOrder
 pub mod OnceOrder
 pub mod Consistent
+pub mod ConsistentOrder
 pub mod Formatted
