@@ -36,4 +36,5 @@ pub mod ChangesOrder
 pub mod OnceOrder
 pub mod Consistent
 pub mod ConsistentOrder
+pub mod ChangesConsistent
 pub mod Formatted

@@ -8,7 +8,7 @@ ghost use Rattle.nqs_rules.specs.Applied.{applied};
 ghost use Rattle.nqs_rules.specs.DeviceLists.{lists_devices_once};
 ghost use Rattle.nqs_rules.specs.Fits.{fits};
 ghost use Rattle.nqs_rules.specs.Format.{formatted};
-ghost use Rattle.nqs_rules.specs.InOrder.{IsInOrder};
+ghost use Rattle.nqs_rules.specs.InOrder.{IsConsistent, IsInOrder};
 ghost use Rattle.nqs_rules.specs.Sane.{is_sane_change};
 
 /// A host of a site of 1 to 16 hosts is in order as it is formatted, and none of its queues lists a device twice.
@@ -21,4 +21,9 @@ pub fn formatted_is_in_order()
 pub fn order_is_kept()
     ensures order { (c : Change Extent) (s : State Extent) → IsInOrder s → IsTrue (lists_devices_once s) → IsTrue (is_sane_change c) → IsTrue (fits c s) → IsInOrder (applied c s) }
     ensures devices { (c : Change Extent) (s : State Extent) → IsTrue (lists_devices_once s) → IsTrue (fits c s) → IsTrue (lists_devices_once (applied c s)) }
+{}
+
+/// What besides holds of a host at every moment stays so under each change that fits.
+pub fn consistent_is_kept()
+    ensures { (c : Change Extent) (s : State Extent) → IsInOrder s → IsConsistent s → IsTrue (is_sane_change c) → IsTrue (fits c s) → IsConsistent (applied c s) }
 {}
