@@ -37,4 +37,5 @@ pub mod OnceOrder
 pub mod Consistent
 pub mod ConsistentOrder
 pub mod ChangesConsistent
+pub mod PathsFit
 pub mod Formatted
