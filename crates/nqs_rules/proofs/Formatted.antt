@@ -15,7 +15,7 @@ use Rattle.nqs_rules.proofs.PeersOrder.{promise_added}
 use Rattle.nqs_rules.proofs.OutputsOrder.{outputs_added}
 use Rattle.nqs_rules.proofs.ConfOrder.{conf_order}
 use Rattle.nqs_rules.proofs.EditOrder.{rows_order}
-use Rattle.nqs_rules.proofs.PathsFit.{completed_sane}
+use Rattle.nqs_rules.proofs.StepFits.{command_fits}
 use Rattle.nqs_rules.proofs.RowChanges.{booted_right}
 use Rattle.nqs_rules.proofs.KeyFacts.{key_gone_behind}
 

@@ -38,4 +38,5 @@ pub mod Consistent
 pub mod ConsistentOrder
 pub mod ChangesConsistent
 pub mod PathsFit
+pub mod StepFits
 pub mod Formatted
