@@ -39,4 +39,5 @@ pub mod ConsistentOrder
 pub mod ChangesConsistent
 pub mod PathsFit
 pub mod StepFits
+pub mod MessagesFit
 pub mod Formatted
