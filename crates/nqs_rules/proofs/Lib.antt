@@ -40,4 +40,5 @@ pub mod ChangesConsistent
 pub mod PathsFit
 pub mod StepFits
 pub mod MessagesFit
+pub mod StartFits
 pub mod Formatted

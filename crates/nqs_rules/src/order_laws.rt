@@ -11,6 +11,7 @@ ghost use Rattle.nqs_rules.specs.Fits.{fits};
 ghost use Rattle.nqs_rules.specs.Format.{formatted};
 ghost use Rattle.nqs_rules.specs.InOrder.{IsConsistent, IsInOrder};
 ghost use Rattle.nqs_rules.specs.Sane.{is_sane_change, is_sane_event};
+ghost use Rattle.nqs_rules.specs.Start.{start};
 ghost use Rattle.nqs_rules.specs.Step.{step};
 
 /// A host of a site of 1 to 16 hosts is in order as it is formatted, and none of its queues lists a device twice.
@@ -33,4 +34,9 @@ pub fn consistent_is_kept()
 /// Whatever change a step makes at a host in order fits the host, and is within its limits, where the event is within its own.
 pub fn step_fits()
     ensures { (e : Event) (s : State Extent) → IsInOrder s → IsTrue (is_sane_event (length s.site) e) → IfSome (step e s).change (λ c. IsTrue (fits c s) × IsTrue (is_sane_change c)) }
+{}
+
+/// Whatever change a start makes of a host in order fits the host, and is within its limits.
+pub fn start_fits()
+    ensures { (now : ℕ) (s : State Extent) → IsInOrder s → IfSome (start now s) (λ x. IfSome x.change (λ c. IsTrue (fits c s) × IsTrue (is_sane_change c))) }
 {}
