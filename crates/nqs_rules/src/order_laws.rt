@@ -14,9 +14,10 @@ ghost use Rattle.nqs_rules.specs.Sane.{is_sane_change, is_sane_event};
 ghost use Rattle.nqs_rules.specs.Start.{start};
 ghost use Rattle.nqs_rules.specs.Step.{step};
 
-/// A host of a site of 1 to 16 hosts is in order as it is formatted, and none of its queues lists a device twice.
+/// A host of a site of 1 to 16 hosts is in order as it is formatted, with what besides holds at every moment, and none of its queues lists a device twice.
 pub fn formatted_is_in_order()
     ensures order { (me : HostId) (site : List (List ℕ)) → me.0 < length site → length site ≤ 16 → IsInOrder (formatted {E = Extent} me site) }
+    ensures consistent { (me : HostId) (site : List (List ℕ)) → IsConsistent (formatted {E = Extent} me site) }
     ensures devices { (me : HostId) (site : List (List ℕ)) → IsTrue (lists_devices_once (formatted {E = Extent} me site)) }
 {}
 
