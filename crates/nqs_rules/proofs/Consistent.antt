@@ -21,8 +21,7 @@ use Rattle.nqs_rules.proofs.Chains.{imply, implied, differ}
 use Rattle.nqs_rules.proofs.Sublists.{IsPart, part_all}
 use Rattle.nqs_rules.proofs.ListFacts.{list_all-weaker, list_all-changed, list_all-found}
 use Rattle.nqs_rules.proofs.ListMaps.{list_any-map}
-use Rattle.nqs_rules.proofs.KeyFacts.{all-added, all_from_none}
-use Rattle.nqs_rules.proofs.QueuesOrder.{all-both}
+use Rattle.nqs_rules.proofs.KeyFacts.{all-both, all-added, all_from_none}
 
 module _ {V : Type 0} where
   -- what a test finds is still there

@@ -32,13 +32,12 @@ use Rattle.nqs_rules.specs.InOrder.{IsInOrder, IsConsistent, are_distinct, is_do
 use Rattle.nqs_rules.proofs.Chains.{implied, differ}
 use Rattle.nqs_rules.proofs.Sublists.{IsPart, without_part, filter_part, part_all}
 use Rattle.nqs_rules.proofs.ListFacts.{found_passes, list_all-weaker, list_all-changed, list_all-found}
-use Rattle.nqs_rules.proofs.KeyFacts.{all-added, any-before, all_from_none, gone_without, turned}
+use Rattle.nqs_rules.proofs.KeyFacts.{all-both, all-added, any-before, all_from_none, gone_without, turned}
 use Rattle.nqs_rules.proofs.FindKept.{all-filter_map, all-mapped}
 use Rattle.nqs_rules.proofs.StateFacts.{keys_are}
 use Rattle.nqs_rules.proofs.RowFacts.{same_id, row_is, promise_is}
 use Rattle.nqs_rules.proofs.RowChanges.{noted_kept, queued_is, routing_is, ready_queued}
 use Rattle.nqs_rules.proofs.RowKinds.{found_row}
-use Rattle.nqs_rules.proofs.QueuesOrder.{all-both}
 use Rattle.nqs_rules.proofs.HandoversOrder.{routes, silent_one, still_offered, not_committed, offer_or_none}
 use Rattle.nqs_rules.proofs.Consistent.{any-filter_kept, any-changed_other, any-without_found, all-changed_alone, same_core, IsCalm, row_calm, row_stays, rows_stay, row_joins, promises_stay, seq_grows, hand_stays, other_offer}
 

@@ -25,12 +25,12 @@ use Rattle.nqs_rules.proofs.Chains.{each, chained}
 use Rattle.nqs_rules.proofs.Sublists.{IsPart, without_part, filter_part, map_part, part_length, part_all, part_distinct}
 use Rattle.nqs_rules.proofs.ListFacts.{list_all-weaker, list_all-changed, list_all-found, map-changed}
 use Rattle.nqs_rules.proofs.ListMaps.{list_any-map}
-use Rattle.nqs_rules.proofs.KeyFacts.{all-added, any-before, any-changed, any-without_other, all_from_none, distinct-added, length_changed, turned}
+use Rattle.nqs_rules.proofs.KeyFacts.{all-both, filter_all, all-added, any-before, any-changed, any-without_other, all_from_none, distinct-added, length_changed, turned}
 use Rattle.nqs_rules.proofs.FindKept.{all-mapped, map-kept}
 use Rattle.nqs_rules.proofs.StateFacts.{parameters_kept, default_kept, parameters_are, parameters_right, short_are, short_right, keys_are, keys_right}
 use Rattle.nqs_rules.proofs.RowFacts.{same_name, Keeps, row_is, row_kept_by, promise_is, promise_right, rows_kept, promises_kept}
 use Rattle.nqs_rules.proofs.RowChanges.{waits, queued_is}
-use Rattle.nqs_rules.proofs.QueuesOrder.{complex_kept, all-both, filter_all, IsQueue, queue_is, queue_right}
+use Rattle.nqs_rules.proofs.QueuesOrder.{complex_kept, IsQueue, queue_is, queue_right}
 
 module _ {E : Type 0} where
   -- complexes

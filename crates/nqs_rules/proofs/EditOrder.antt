@@ -34,14 +34,14 @@ use Rattle.nqs_rules.specs.DeviceLists.{lists_once, lists_devices_once}
 use Rattle.nqs_rules.specs.InOrder.{IsInOrder, are_distinct, is_user_list_short, is_queue_right}
 use Rattle.nqs_rules.proofs.Sublists.{filter_part, part_length, part_all}
 use Rattle.nqs_rules.proofs.ListFacts.{list_all-found}
-use Rattle.nqs_rules.proofs.KeyFacts.{all-added, all_from_none, any-without_other, distinct-added, length_without, turned}
+use Rattle.nqs_rules.proofs.KeyFacts.{all-both, all-added, all_from_none, any-without_other, distinct-added, length_without, turned}
 use Rattle.nqs_rules.proofs.ListMaps.{list_any-map}
 use Rattle.nqs_rules.proofs.StateFacts.{IsShort, short_are}
 use Rattle.nqs_rules.proofs.RowFacts.{same_name}
 use Rattle.nqs_rules.proofs.RowsOrder.{no_offer, row_changed}
 use Rattle.nqs_rules.proofs.RowChanges.{idle_is, moved_right, priority_right}
 use Rattle.nqs_rules.proofs.RowKinds.{row_released, rows_aborted, row_moved}
-use Rattle.nqs_rules.proofs.QueuesOrder.{all-both, IsQueue, queue_is, queue_right, queue_changed}
+use Rattle.nqs_rules.proofs.QueuesOrder.{IsQueue, queue_is, queue_right, queue_changed}
 use Rattle.nqs_rules.proofs.DevicesOrder.{device_changed, device_added, device_deleted, with_staff}
 use Rattle.nqs_rules.proofs.ConfOrder.{Allows, none_holds, causes_behind}
 

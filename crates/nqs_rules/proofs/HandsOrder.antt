@@ -22,7 +22,7 @@ use Rattle.nqs_rules.specs.InOrder.{IsInOrder, are_distinct, offered_ids, hands_
 use Rattle.nqs_rules.proofs.Chains.{each, chained, implied, differ, not_both}
 use Rattle.nqs_rules.proofs.Sublists.{IsPart, skip, keep, whole, without_part, filter_part, filter_parts, map_part, part_length, part_all, part_distinct}
 use Rattle.nqs_rules.proofs.ListFacts.{list_all-weaker, list_all-changed, map-changed, list_all-found}
-use Rattle.nqs_rules.proofs.KeyFacts.{all-added, none_from_all, all_from_none, distinct-added, turned}
+use Rattle.nqs_rules.proofs.KeyFacts.{all-both, all-added, none_from_all, all_from_none, distinct-added, turned}
 use Rattle.nqs_rules.proofs.StateFacts.{parameters_kept, keys_are, keys_right}
 use Rattle.nqs_rules.proofs.RowFacts.{same_id, same_it, same_peer_number, Keeps, rows_kept, promises_kept}
 use Rattle.nqs_rules.proofs.RowsOrder.{is_no_offer_of, hand_is, hand_right}
@@ -207,7 +207,7 @@ module _ {E : Type 0} where
         promises = promises_kept s t keeps refl s.promises h.promises;
         promisers = h.promisers;
         hands = all-added (is_hand_right s) s.hands x h.hands right;
-        few = all-added (has_few_hands t) s.hands x (few_all s.hands h.few new) few_new;
+        few = all-added (has_few_hands t) s.hands x (all-both (has_few_hands s) (λ y. not (is_hand_to x.peer y)) (has_few_hands t) (λ y few other. few_old y few (not-true (is_hand_to x.peer y) other)) s.hands h.few (all_from_none (λ y. not (is_hand_to x.peer y)) (is_hand_to x.peer) (λ y e. not_from_false (is_hand_to x.peer y) e) s.hands new)) few_new;
         offers = ap (are_distinct id_eq) offers_more ∙ distinct-added id_eq id_exact same_id (offered_ids s) x.id (offer_new s.hands unoffered) h.offers;
         peers = h.peers;
         stages = h.stages;
@@ -237,13 +237,6 @@ module _ {E : Type 0} where
           let k = leb-true (length (hands_to y.peer s)) 8 few in
           let no : length (cond (same_host y.peer x.peer) (x ∷ []) []) ≡ 0 = ap (λ b. length (cond b (x ∷ []) [])) (turned (λ a b. a == b) number_exact same_it x.peer.0 y.peer.0 other) in
           le-leb (length (hands_to y.peer (record s { hands = s.hands ++ x ∷ [] }))) 8 (omega (arith, count y.peer, no, k))
-
-      few_all : (hs : List Hand) → list_all (has_few_hands s) hs ≡ true → list_any (is_hand_to x.peer) hs ≡ false → list_all (has_few_hands (record s { hands = s.hands ++ x ∷ [] })) hs ≡ true
-      few_all [] few none = refl
-      few_all (y ∷ hs) few none =
-          let p = and_parts (has_few_hands s y) (list_all (has_few_hands s) hs) few in
-          let q = or_parts (is_hand_to x.peer y) (list_any (is_hand_to x.peer) hs) none in
-          and_from (has_few_hands (record s { hands = s.hands ++ x ∷ [] }) y) (list_all (has_few_hands (record s { hands = s.hands ++ x ∷ [] })) hs) (few_old y p.0 q.0) (few_all hs p.1 q.1)
 
       few_new : has_few_hands (record s { hands = s.hands ++ x ∷ [] }) x ≡ true
       few_new =

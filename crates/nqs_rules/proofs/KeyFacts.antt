@@ -94,6 +94,29 @@ module _ {V : Type 0} where
   pub all-added : (t : V → Bool) (vs : List V) (v : V) → list_all t vs ≡ true → t v ≡ true → list_all t (vs ++ v ∷ []) ≡ true
   all-added t vs v all h = list_all-append t vs (v ∷ []) ∙ and_from (list_all t vs) (t v && true) all (and_from (t v) true h refl)
 
+-- what passes two tests passes what follows from both
+pub all-both : {V : Type 0} (p q r : V → Bool) → ((v : V) → p v ≡ true → q v ≡ true → r v ≡ true) → (vs : List V) → list_all p vs ≡ true → list_all q vs ≡ true → list_all r vs ≡ true
+all-both p q r f [] a b = refl
+all-both p q r f (v ∷ vs) a b = let k = and_parts (p v) (list_all p vs) a in let l = and_parts (q v) (list_all q vs) b in and_from (r v) (list_all r vs) (f v k.0 l.0) (all-both p q r f vs k.1 l.1)
+
+-- where none is counted, none passes
+pub none_passes : {V : Type 0} (t : V → Bool) (vs : List V) → length (filter t vs) ≤ 0 → list_all (λ v. not (t v)) vs ≡ true
+none_passes t [] h = refl
+none_passes t (v ∷ vs) h = by (t v) h (none_passes t vs)
+  where
+    by : (b : Bool) → length (cond b (v ∷ filter t vs) (filter t vs)) ≤ 0 → (length (filter t vs) ≤ 0 → list_all (λ v. not (t v)) vs ≡ true) → (not b && list_all (λ v. not (t v)) vs) ≡ true
+    by true h rest = absurd (omega arith)
+    by false h rest = rest h
+
+-- what is kept passes what follows from that
+pub filter_all : {V : Type 0} (keep p q : V → Bool) → ((v : V) → keep v ≡ true → p v ≡ true → q v ≡ true) → (vs : List V) → list_all p vs ≡ true → list_all q (filter keep vs) ≡ true
+filter_all keep p q f [] h = refl
+filter_all keep p q f (v ∷ vs) h = let k = and_parts (p v) (list_all p vs) h in by (keep v) refl k.0 (filter_all keep p q f vs k.1)
+  where
+    by : (b : Bool) → keep v ≡ b → p v ≡ true → list_all q (filter keep vs) ≡ true → list_all q (cond b (v ∷ filter keep vs) (filter keep vs)) ≡ true
+    by true e k rest = and_from (q v) (list_all q (filter keep vs)) (f v e k) rest
+    by false e k rest = rest
+
 -- keys that are distinct
 module _ {K : Type 0} (eq : K → K → Bool) (exact : (a b : K) → eq a b ≡ true → a ≡ b) (same : (a : K) → eq a a ≡ true) where
   pub turned : (a b : K) → eq a b ≡ false → eq b a ≡ false

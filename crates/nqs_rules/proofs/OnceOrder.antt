@@ -91,62 +91,50 @@ module _ {E : Type 0} where
     queue_once : (q : List ℕ) (f : QueueDef → QueueDef) → ((d : QueueDef) → find (is_queue q) s.queues ≡ Some d → lists_once d ≡ true → lists_once (f d) ≡ true) → lists_devices_once (change_queue q f s) ≡ true
     queue_once q f keeps = list_all-changed lists_once (is_queue q) f s.queues once (λ d found. keeps d found (list_all-found lists_once (is_queue q) s.queues d once found))
 
+    same_devices : (q : List ℕ) (f : QueueDef → QueueDef) → ((d : QueueDef) → (f d).devices ≡ d.devices) → lists_devices_once (change_queue q f s) ≡ true
+    same_devices q f same = queue_once q f (λ d found k. ap (are_distinct name_eq) (same d) ∙ k)
+
     conf_once : (e : ConfEdit) → lists_devices_once (conf_applied e s) ≡ true
     conf_once (CreateBatchQueue q p r o) = all-added lists_once s.queues _ once refl
     conf_once (CreateDeviceQueue q p r o) = all-added lists_once s.queues _ once refl
     conf_once (CreatePipeQueue q p r o d) = all-added lists_once s.queues _ once refl
     conf_once (DeleteQueue q) = part_all lists_once (without_part (is_queue q) s.queues) once
-    conf_once (EnableQueue q) = queue_once q (conf_edited (EnableQueue q)) (λ d found k. k)
-    conf_once (DisableQueue q) = queue_once q (conf_edited (DisableQueue q)) (λ d found k. k)
-    conf_once (StartQueue q) = queue_once q (conf_edited (StartQueue q)) (λ d found k. k)
-    conf_once (StopQueue q) = queue_once q (conf_edited (StopQueue q)) (λ d found k. k)
-    conf_once (PurgeQueue q) = once
-    conf_once (SetPriority n q) = queue_once q (conf_edited (SetPriority n q)) (λ d found k. k)
-    conf_once (SetRunLimit n q) = queue_once q (conf_edited (SetRunLimit n q)) (λ d found k. k)
-    conf_once (AddDestination d q) = queue_once q (with_dest (meant_dest d s)) (λ x found k. of (meant_dest d s) x k)
+    conf_once (EnableQueue q) = same_devices q (conf_edited (EnableQueue q)) (λ d. refl)
+    conf_once (DisableQueue q) = same_devices q (conf_edited (DisableQueue q)) (λ d. refl)
+    conf_once (StartQueue q) = same_devices q (conf_edited (StartQueue q)) (λ d. refl)
+    conf_once (StopQueue q) = same_devices q (conf_edited (StopQueue q)) (λ d. refl)
+    conf_once (SetPriority n q) = same_devices q (conf_edited (SetPriority n q)) (λ d. refl)
+    conf_once (SetRunLimit n q) = same_devices q (conf_edited (SetRunLimit n q)) (λ d. refl)
+    conf_once (AddDestination d q) = same_devices q (with_dest (meant_dest d s)) (of (meant_dest d s))
       where
-        of : (o : Option Dest) (x : QueueDef) → lists_once x ≡ true → lists_once (with_dest o x) ≡ true
-        of None x k = k
-        of (Some y) x k = k
-    conf_once (RemoveDestination d q) = queue_once q (without_dest (meant_dest d s)) (λ x found k. of (meant_dest d s) x k)
+        of : (o : Option Dest) (x : QueueDef) → (with_dest o x).devices ≡ x.devices
+        of None x = refl
+        of (Some y) x = refl
+    conf_once (RemoveDestination d q) = same_devices q (without_dest (meant_dest d s)) (of (meant_dest d s))
       where
-        of : (o : Option Dest) (x : QueueDef) → lists_once x ≡ true → lists_once (without_dest o x) ≡ true
-        of None x k = k
-        of (Some y) x k = k
-    conf_once (SetDefaultQueue q) = once
-    conf_once SetNoDefaultQueue = once
-    conf_once (SetPatience n) = once
-    conf_once (SetRetryWait n) = once
+        of : (o : Option Dest) (x : QueueDef) → (without_dest o x).devices ≡ x.devices
+        of None x = refl
+        of (Some y) x = refl
+    conf_once e = once
 
     limits_once : (e : LimitsEdit) → lists_devices_once (limits_applied e s) ≡ true
-    limits_once (SetUserLimit n q) = queue_once q (limits_edited (SetUserLimit n q)) (λ d found k. k)
-    limits_once (SetCpuLimit n q) = queue_once q (limits_edited (SetCpuLimit n q)) (λ d found k. k)
-    limits_once (SetMemoryLimit n q) = queue_once q (limits_edited (SetMemoryLimit n q)) (λ d found k. k)
-    limits_once (CreateComplex c) = once
-    limits_once (DeleteComplex c) = once
-    limits_once (AddQueue q c) = once
-    limits_once (RemoveQueue q c) = once
-    limits_once (SetComplexLimit n c) = once
-    limits_once (SetGlobalLimit n) = once
+    limits_once (SetUserLimit n q) = same_devices q (limits_edited (SetUserLimit n q)) (λ d. refl)
+    limits_once (SetCpuLimit n q) = same_devices q (limits_edited (SetCpuLimit n q)) (λ d. refl)
+    limits_once (SetMemoryLimit n q) = same_devices q (limits_edited (SetMemoryLimit n q)) (λ d. refl)
+    limits_once e = once
 
     access_once : (e : AccessEdit) → lists_devices_once (access_applied e s) ≡ true
-    access_once (SetUnrestrictedAccess q) = queue_once q (access_edited (SetUnrestrictedAccess q)) (λ d found k. k)
-    access_once (SetNoAccess q) = queue_once q (access_edited (SetNoAccess q)) (λ d found k. k)
-    access_once (AddUser user q) = queue_once q (access_edited (AddUser user q)) (λ d found k. k)
-    access_once (RemoveUser user q) = queue_once q (access_edited (RemoveUser user q)) (λ d found k. k)
-    access_once (AddManager user) = once
-    access_once (RemoveManager user) = once
-    access_once (AddOperator user) = once
-    access_once (RemoveOperator user) = once
+    access_once (SetUnrestrictedAccess q) = same_devices q (access_edited (SetUnrestrictedAccess q)) (λ d. refl)
+    access_once (SetNoAccess q) = same_devices q (access_edited (SetNoAccess q)) (λ d. refl)
+    access_once (AddUser user q) = same_devices q (access_edited (AddUser user q)) (λ d. refl)
+    access_once (RemoveUser user q) = same_devices q (access_edited (RemoveUser user q)) (λ d. refl)
+    access_once e = once
 
     devices_once : (e : DevicesEdit) → edit_fits (DevicesOf e) s ≡ true → lists_devices_once (devices_applied e s) ≡ true
-    devices_once (CreateDevice d forms) fit = once
     devices_once (DeleteDevice d) fit = all-mapped lists_once lists_once (without_device d) (λ x k. part_distinct name_eq (filter_part (λ n. not (name_eq d n)) x.devices) k) s.queues once
-    devices_once (EnableDevice d) fit = once
-    devices_once (DisableDevice d) fit = once
-    devices_once (SetForms forms d) fit = once
     devices_once (AddDevice d q) fit = queue_once q (with_device d) (λ x found k. once_added s d q x found k (none_holds (devices_causes (AddDevice d q) s) fit).1.1.1.0)
     devices_once (RemoveDevice d q) fit = queue_once q (without_device d) (λ x found k. part_distinct name_eq (filter_part (λ n. not (name_eq d n)) x.devices) k)
+    devices_once e fit = once
 
     meant_once : (o : Option RequestId) (f : Row E → Row E) → lists_devices_once (change_meant o f s) ≡ true
     meant_once None f = once
@@ -172,15 +160,8 @@ module _ {E : Type 0} where
 
     pub applied_once : (c : Change E) → fits c s ≡ true → lists_devices_once (applied c s) ≡ true
     applied_once (Site me site) fit = refl
-    applied_once (Submitted queue job script) fit = once
-    applied_once (Deleted id) fit = once
-    applied_once (Doomed id) fit = once
-    applied_once (Started id device) fit = once
     applied_once (Ended id parts) fit = ap (list_all lists_once) (outputs_keep (λ t. t.queues) (λ t fs n. refl) (λ t ts ps. refl) id parts (drop_row id s)) ∙ once
-    applied_once (Unlaunched id) fit = once
-    applied_once Boot fit = once
     applied_once (Edited e) fit = edit_once e fit
-    applied_once (HandOpened peer number id queue since) fit = once
     applied_once (HandCommitted peer number) fit = of (find_hand peer number s)
       where
         of : (o : Option Hand) → lists_devices_once (hand_committed (peer_number peer number) o s) ≡ true
@@ -192,8 +173,6 @@ module _ {E : Type 0} where
         of None = once
         of (Some x) = once
     applied_once (HandsSilent until ks) fit = ap (list_all lists_once) (silent_queues until ks s) ∙ once
-    applied_once (HandDone peer number) fit = once
-    applied_once (Promised peer number queue c script) fit = once
     applied_once (Accepted peer number) fit = of (find_promise peer number s)
       where
         at : (b : Bool) (t : State E) (r : Row E) → lists_devices_once t ≡ true → lists_devices_once (if b then t else record t { rows = t.rows ++ requeued_row r ∷ [] }) ≡ true
@@ -203,10 +182,5 @@ module _ {E : Type 0} where
         of : (o : Option (Promise E)) → lists_devices_once (accepted (peer_number peer number) o s) ≡ true
         of None = once
         of (Some p) = at (has_row p.row.id (drop_promise (peer_number peer number) s)) (drop_promise (peer_number peer number) s) p.row once
-    applied_once (Dropped peer number) fit = once
-    applied_once (MovedLocal id queue) fit = once
-    applied_once (RefusedLocal id queue refusal) fit = once
-    applied_once (HeldFar id) fit = once
     applied_once (StageGot peer number path bytes) fit = ap (list_all lists_once) (file_keeps (λ t. t.queues) (λ t fs n. refl) (λ t ts ps. refl) (record { path = path; bytes = bytes }) (change_peer peer (λ p. record p { stage_got = number }) s)) ∙ once
-    applied_once (StageGone peer number) fit = once
-    applied_once (FileGone file) fit = once
+    applied_once c fit = once

@@ -27,7 +27,7 @@ use Rattle.nqs_rules.specs.InOrder.{IsInOrder, are_distinct, same_number, arriva
 use Rattle.nqs_rules.proofs.Chains.{each, chained, implied, differ}
 use Rattle.nqs_rules.proofs.Sublists.{IsPart, without_part, filter_part, map_part, part_behind, part_length, part_all, part_distinct}
 use Rattle.nqs_rules.proofs.ListFacts.{list_all-weaker}
-use Rattle.nqs_rules.proofs.KeyFacts.{all-added, none_from_all, all_from_none, distinct-added, turned}
+use Rattle.nqs_rules.proofs.KeyFacts.{all-both, all-added, none_from_all, all_from_none, distinct-added, turned}
 use Rattle.nqs_rules.proofs.ListMaps.{list_any-map}
 use Rattle.nqs_rules.proofs.StateFacts.{parameters_kept, sites_are, sites_right, short_are, short_right, keys_are, keys_right}
 use Rattle.nqs_rules.proofs.RowFacts.{same_it, same_peer_number, Keeps, IsPromise, promise_is, promise_right, row_kept, rows_kept, promises_kept}
@@ -92,7 +92,7 @@ module _ {E : Type 0} where
         queues = h.queues;
         complexes = h.complexes;
         rows = rows_kept s t keeps s.rows h.rows;
-        promises = promises s.promises h.promises opens;
+        promises = all-both (is_promise_right s) (λ p. passes (is_promise_open p.number) (find_peer p.peer t)) (is_promise_right t) promise s.promises h.promises opens;
         promisers = h.promisers;
         hands = list_all-weaker (is_hand_right s) (is_hand_right t) hand s.hands h.hands;
         few = h.few;
@@ -123,15 +123,12 @@ module _ {E : Type 0} where
           and_from (is_path x.path) (passes (is_stage_given x.number) (find_peer x.peer (change_peer host f s))) p.0
           (get-kept (is_stage_given x.number) (is_stage_given x.number) host.0 x.peer.0 f s.peers (λ q found g. given_more x.number q.stage_next (f q).stage_next (counts q found).stage_next g) (λ q g. g) p.1)
 
-      promises : (ps : List (Promise E)) → list_all (is_promise_right s) ps ≡ true → list_all (λ p. passes (is_promise_open p.number) (find_peer p.peer (change_peer host f s))) ps ≡ true → list_all (is_promise_right (change_peer host f s)) ps ≡ true
-      promises [] all opens = refl
-      promises (p ∷ ps) all opens =
+      promise : (p : Promise E) → is_promise_right s p ≡ true → passes (is_promise_open p.number) (find_peer p.peer (change_peer host f s)) ≡ true → is_promise_right (change_peer host f s) p ≡ true
+      promise p k opens =
           let t : State E = change_peer host f s in
-          let k = and_parts (is_promise_right s p) (list_all (is_promise_right s) ps) all in
-          let o = and_parts (passes (is_promise_open p.number) (find_peer p.peer t)) (list_all (λ q. passes (is_promise_open q.number) (find_peer q.peer t)) ps) opens in
-          let q = promise_is s p k.0 in
+          let q = promise_is s p k in
           let keeps : Keeps s t = record { me = refl; site = refl; seq = omega arith; arrivals = omega arith; queues = λ q k. k; devices = λ d k. k } in
-          and_from (is_promise_right t p) (list_all (is_promise_right t) ps) (promise_right t p (record { row = row_kept s t keeps p.row q.row; queued = q.queued; some = q.some; opens = o.0 })) (promises ps k.1 o.1)
+          promise_right t p (record { row = row_kept s t keeps p.row q.row; queued = q.queued; some = q.some; opens = opens })
 
   -- where nothing is closed, all stays open
   pub peer_counted : (s : State E) (host : HostId) (f : Peer → Peer) → IsInOrder s → ((p : Peer) → find_peer host s ≡ Some p → Counts p (f p)) → ((p : Peer) → (f p).closed ≡ p.closed) → IsInOrder (change_peer host f s)
@@ -140,17 +137,12 @@ module _ {E : Type 0} where
 
   -- numbers of a host that has no promise may be closed
   pub peer_closed : (s : State E) (host : HostId) (number : ℕ) → IsInOrder s → list_all (λ p. not (is_promise_of host p)) s.promises ≡ true → IsInOrder (change_peer host (close number) s)
-  peer_closed s host number h none = peer_changed s host (close number) h (λ p found. record { next = omega arith; stage_next = omega arith }) (by s.promises h.promises none)
-    where
-      by : (ps : List (Promise E)) → list_all (is_promise_right s) ps ≡ true → list_all (λ p. not (is_promise_of host p)) ps ≡ true → list_all (λ p. passes (is_promise_open p.number) (find_peer p.peer (change_peer host (close number) s))) ps ≡ true
-      by [] all none = refl
-      by (p ∷ ps) all none =
-          let t : State E = change_peer host (close number) s in
-          let k = and_parts (is_promise_right s p) (list_all (is_promise_right s) ps) all in
-          let n = and_parts (not (is_promise_of host p)) (list_all (λ q. not (is_promise_of host q)) ps) none in
-          let other : host.0 ≡ p.peer.0 → ⊥ = λ e. true≢false (sym (same_it host.0) ∙ ap (λ m. host.0 == m) e ∙ not-true _ n.0) in
-          and_from (passes (is_promise_open p.number) (find_peer p.peer t)) (list_all (λ q. passes (is_promise_open q.number) (find_peer q.peer t)) ps)
-          (ap (passes (is_promise_open p.number)) (get-other host.0 p.peer.0 (close number) s.peers other) ∙ (promise_is s p k.0).opens) (by ps k.1 n.1)
+  peer_closed s host number h none =
+      let t : State E = change_peer host (close number) s in
+      peer_changed s host (close number) h (λ p found. record { next = omega arith; stage_next = omega arith })
+      (all-both (is_promise_right s) (λ p. not (is_promise_of host p)) (λ p. passes (is_promise_open p.number) (find_peer p.peer t)) (λ p k other.
+      let apart : host.0 ≡ p.peer.0 → ⊥ = λ e. true≢false (sym (same_it host.0) ∙ ap (λ m. host.0 == m) e ∙ not-true (is_promise_of host p) other) in
+      ap (passes (is_promise_open p.number)) (get-other host.0 p.peer.0 (close number) s.peers apart) ∙ (promise_is s p k).opens) s.promises h.promises none)
 
   -- fewer promises
   pub promises_part : (s : State E) (ps : List (Promise E)) → IsPart ps s.promises → IsInOrder s → IsInOrder (record s { promises = ps })

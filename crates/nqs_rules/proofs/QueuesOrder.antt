@@ -21,32 +21,10 @@ use Rattle.nqs_rules.proofs.Chains.{each, chained}
 use Rattle.nqs_rules.proofs.Sublists.{IsPart, without_part, map_part, part_length, part_all, part_distinct}
 use Rattle.nqs_rules.proofs.ListFacts.{list_all-weaker, list_all-changed, list_all-found, map-changed}
 use Rattle.nqs_rules.proofs.ListMaps.{list_any-map}
-use Rattle.nqs_rules.proofs.KeyFacts.{all-added, any-before, any-changed, any-without_other, distinct-added, length_changed, turned}
+use Rattle.nqs_rules.proofs.KeyFacts.{all-both, none_passes, filter_all, all-added, any-before, any-changed, any-without_other, distinct-added, length_changed, turned}
 use Rattle.nqs_rules.proofs.FindKept.{all-mapped, map-kept}
 use Rattle.nqs_rules.proofs.StateFacts.{parameters_kept, default_kept, parameters_are, parameters_right, short_are, short_right, keys_are, keys_right}
 use Rattle.nqs_rules.proofs.RowFacts.{same_name, Keeps, row_is, row_kept_by, promise_is, promise_right, rows_kept, promises_kept}
-
-pub all-both : {V : Type 0} (p q r : V → Bool) → ((v : V) → p v ≡ true → q v ≡ true → r v ≡ true) → (vs : List V) → list_all p vs ≡ true → list_all q vs ≡ true → list_all r vs ≡ true
-all-both p q r f [] a b = refl
-all-both p q r f (v ∷ vs) a b = let k = and_parts (p v) (list_all p vs) a in let l = and_parts (q v) (list_all q vs) b in and_from (r v) (list_all r vs) (f v k.0 l.0) (all-both p q r f vs k.1 l.1)
-
--- where none is counted, none passes
-none_passes : {V : Type 0} (t : V → Bool) (vs : List V) → length (filter t vs) ≤ 0 → list_all (λ v. not (t v)) vs ≡ true
-none_passes t [] h = refl
-none_passes t (v ∷ vs) h = by (t v) h (none_passes t vs)
-  where
-    by : (b : Bool) → length (cond b (v ∷ filter t vs) (filter t vs)) ≤ 0 → (length (filter t vs) ≤ 0 → list_all (λ v. not (t v)) vs ≡ true) → (not b && list_all (λ v. not (t v)) vs) ≡ true
-    by true h rest = absurd (omega arith)
-    by false h rest = rest h
-
--- names that are all there but for one are there without it
-pub filter_all : {V : Type 0} (keep p q : V → Bool) → ((v : V) → keep v ≡ true → p v ≡ true → q v ≡ true) → (vs : List V) → list_all p vs ≡ true → list_all q (filter keep vs) ≡ true
-filter_all keep p q f [] h = refl
-filter_all keep p q f (v ∷ vs) h = let k = and_parts (p v) (list_all p vs) h in by (keep v) refl k.0 (filter_all keep p q f vs k.1)
-  where
-    by : (b : Bool) → keep v ≡ b → p v ≡ true → list_all q (filter keep vs) ≡ true → list_all q (cond b (v ∷ filter keep vs) (filter keep vs)) ≡ true
-    by true e k rest = and_from (q v) (list_all q (filter keep vs)) (f v e k) rest
-    by false e k rest = rest
 
 module _ {E : Type 0} where
   pub record IsQueue (s : State E) (d : QueueDef) : Type 0 where

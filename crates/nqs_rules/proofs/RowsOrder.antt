@@ -23,7 +23,7 @@ use Rattle.nqs_rules.proofs.Chains.{each, chained, imply, implied, differ, not_b
 use Rattle.nqs_rules.proofs.Sublists.{IsPart, without_part, map_part, part_before, part_length, part_all, part_distinct}
 use Rattle.nqs_rules.proofs.ListFacts.{list_all-found, list_all-weaker, list_all-changed, map-changed, found_passes}
 use Rattle.nqs_rules.proofs.ListMaps.{list_any-map}
-use Rattle.nqs_rules.proofs.KeyFacts.{all-added, find-before, turned, distinct-added, distinct-between, find-without_other, find-changed_other, length_changed}
+use Rattle.nqs_rules.proofs.KeyFacts.{all-both, all-added, find-before, turned, distinct-added, distinct-between, find-without_other, find-changed_other, length_changed}
 use Rattle.nqs_rules.proofs.StateFacts.{parameters_kept, short_are, short_right, keys_are, keys_right}
 use Rattle.nqs_rules.proofs.RowFacts.{same_id, same_it, Keeps, rows_kept, promises_kept}
 
@@ -69,21 +69,13 @@ module _ {E : Type 0} where
         rows = rows_kept s t keeps rows right;
         promises = promises_kept s t keeps refl s.promises h.promises;
         promisers = h.promisers;
-        hands = both s.hands h.hands offers;
+        hands = all-both (is_hand_right s) (stands rows) (is_hand_right t) (λ x k stay. let p = hand_is s x k in hand_right t x (record { id = p.id; given = p.given; stands = stay })) s.hands h.hands offers;
         few = h.few;
         offers = h.offers;
         peers = h.peers;
         stages = h.stages;
         files = h.files;
       }
-    where
-      both : (hs : List Hand) → list_all (is_hand_right s) hs ≡ true → list_all (stands rows) hs ≡ true → list_all (is_hand_right (record s { rows = rows })) hs ≡ true
-      both [] a b = refl
-      both (x ∷ hs) a b =
-          let p = and_parts (is_hand_right s x) (list_all (is_hand_right s) hs) a in
-          let q = and_parts (stands rows x) (list_all (stands rows) hs) b in
-          let k = hand_is s x p.0 in
-          and_from (is_hand_right (record s { rows = rows }) x) (list_all (is_hand_right (record s { rows = rows })) hs) (hand_right (record s { rows = rows }) x (record { id = k.id; given = k.given; stands = q.0 })) (both hs p.1 q.1)
 
   -- a row that isn't on its way has no offer
   pub no_offer : (s : State E) (id : RequestId) → IsInOrder s → (r : Row E) → find_row id s ≡ Some r → is_routing r.state ≡ false → list_all (is_no_offer_of id) s.hands ≡ true
@@ -94,20 +86,13 @@ module _ {E : Type 0} where
 
   -- offers of other requests stand where the others are found as before
   pub others_stand : (s : State E) (id : RequestId) (rows : List (Row E)) → IsInOrder s → list_all (is_no_offer_of id) s.hands ≡ true → ((k : RequestId) → id_eq k id ≡ false → find (is_row k) rows ≡ find (is_row k) s.rows) → list_all (stands rows) s.hands ≡ true
-  others_stand s id rows h none others = by s.hands h.hands none
+  others_stand s id rows h none others = all-both (is_hand_right s) (is_no_offer_of id) (stands rows) (λ x k n. one x (is_offered x.phase) refl k n) s.hands h.hands none
     where
       one : (x : Hand) (b : Bool) → is_offered x.phase ≡ b → is_hand_right s x ≡ true → not (b && id_eq id x.id) ≡ true → (not b || passes is_routing_row (find (is_row x.id) rows)) ≡ true
       one x true e k n =
           ap (passes is_routing_row) (others x.id (turned id_eq id_exact same_id id x.id (not-true (id_eq id x.id) n)))
           ∙ implied (is_offered x.phase) (passes is_routing_row (find_row x.id s)) (hand_is s x k).stands e
       one x false e k n = refl
-
-      by : (hs : List Hand) → list_all (is_hand_right s) hs ≡ true → list_all (is_no_offer_of id) hs ≡ true → list_all (stands rows) hs ≡ true
-      by [] a b = refl
-      by (x ∷ hs) a b =
-          let p = and_parts (is_hand_right s x) (list_all (is_hand_right s) hs) a in
-          let q = and_parts (is_no_offer_of id x) (list_all (is_no_offer_of id) hs) b in
-          and_from (stands rows x) (list_all (stands rows) hs) (one x (is_offered x.phase) refl p.0 q.0) (by hs p.1 q.1)
 
   -- rows whose offers still find them on their way
   pub still_stand : (s : State E) (rows : List (Row E)) → IsInOrder s → ((k : RequestId) → passes is_routing_row (find_row k s) ≡ true → passes is_routing_row (find (is_row k) rows) ≡ true) → list_all (stands rows) s.hands ≡ true

@@ -35,11 +35,11 @@ use Rattle.nqs_rules.specs.Step.{Asker, reply_to, answer_to, kill, kills_of, sta
 use Rattle.nqs_rules.specs.Text.{stat_lines}
 use Rattle.nqs_rules.specs.InOrder.{IsInOrder, are_distinct}
 use Rattle.nqs_rules.proofs.Chains.{chained, implied}
+use Rattle.nqs_rules.proofs.KeyFacts.{filter_all}
 use Rattle.nqs_rules.proofs.ListFacts.{found_passes, found_again}
 use Rattle.nqs_rules.proofs.FindKept.{all-mapped}
 use Rattle.nqs_rules.proofs.StateFacts.{keys_are}
 use Rattle.nqs_rules.proofs.RowFacts.{same_peer_number}
-use Rattle.nqs_rules.proofs.QueuesOrder.{filter_all}
 use Rattle.nqs_rules.proofs.ConfOrder.{Allows, none_holds, causes_behind}
 use Rattle.nqs_rules.proofs.PathsFit.{completed_sane}
 
