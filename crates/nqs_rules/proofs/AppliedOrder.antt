@@ -38,7 +38,7 @@ use Rattle.nqs_rules.proofs.KeyFacts.{any_found, found_any, none_from_all, key_g
 use Rattle.nqs_rules.proofs.StateFacts.{IsSite, sites_are, parameters_are, short_are}
 use Rattle.nqs_rules.proofs.RowFacts.{same_id, same_it, IsRow, row_is, row_right, IsPromise, promise_is, promise_right}
 use Rattle.nqs_rules.proofs.RowsOrder.{is_no_offer_of, no_offer, row_dropped, row_changed, row_added, hand_is, hand_right}
-use Rattle.nqs_rules.proofs.RowChanges.{noted_kept, queued_is, routing_is, running_is, ready_queued, started_right, routing_right, requeued_right, moved_right, noted_right, few_hops}
+use Rattle.nqs_rules.proofs.RowChanges.{new_row_right, noted_kept, queued_is, routing_is, running_is, ready_queued, started_right, routing_right, requeued_right, moved_right, noted_right, few_hops}
 use Rattle.nqs_rules.proofs.RowKinds.{found_row, unoffered, running_unrouted, ready_unrouted, counted, arrival_given, arrival_new, number_new, row_moved}
 use Rattle.nqs_rules.proofs.HandsOrder.{hands_part, hand_dropped, hand_changed, hand_added, offer_gone, offer_committed}
 
@@ -67,18 +67,10 @@ module _ {E : Type 0} (s : State E) (h : IsInOrder s) where
       let r : Row E = new_row (first_carried (next_id s) job) queue (s.arrivals + 1) script in
       let k : IsInOrder t = counted s (s.seq + 1) (s.arrivals + 1) h (omega arith) (omega (arith, few)) (omega arith) (omega (arith, below)) in
       row_added t r k (let k = leb-false 10000 (held_count s) room in lt-ltb (held_count s) 10000 (omega (arith, k)))
-      (row_right t r (record {
-        id = and_from (is_site_host s.me s) (is_sane_id (next_id s)) site.me (and_from (nat_le 1 (s.seq + 1)) (nat_le (s.seq + 1) last_seq) (le-leb 1 (s.seq + 1) (omega arith)) (le-leb (s.seq + 1) last_seq (omega (arith, few))));
-        given = or_right (not (same_host s.me s.me)) (nat_le (s.seq + 1) (s.seq + 1)) (le-leb (s.seq + 1) (s.seq + 1) (omega arith));
-        job = sane;
-        queue = there;
-        device = refl;
-        refused = refl;
-        arrival = le-leb (s.arrivals + 1) (s.arrivals + 1) (omega arith);
-        lost = refl;
-        count = refl;
-        hop = refl;
-      })) (number_new s h) (arrival_new s h)
+      (new_row_right t (first_carried (next_id s) job) queue (s.arrivals + 1) script
+      (and_from (is_site_host s.me s) (is_sane_id (next_id s)) site.me (and_from (nat_le 1 (s.seq + 1)) (nat_le (s.seq + 1) last_seq) (le-leb 1 (s.seq + 1) (omega arith)) (le-leb (s.seq + 1) last_seq (omega (arith, few)))))
+      (or_right (not (same_host s.me s.me)) (nat_le (s.seq + 1) (s.seq + 1)) (le-leb (s.seq + 1) (s.seq + 1) (omega arith))) sane there (le-leb (s.arrivals + 1) (s.arrivals + 1) (omega arith)) refl refl refl)
+      (number_new s h) (arrival_new s h)
 
   pub deleted_order : (id : RequestId) → IsInOrder (deleted id s)
   deleted_order id =

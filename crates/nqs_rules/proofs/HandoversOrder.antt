@@ -36,7 +36,7 @@ use Rattle.nqs_rules.proofs.KeyFacts.{all_get, place_below, any_found, none_foun
 use Rattle.nqs_rules.proofs.StateFacts.{IsSite, sites_are, parameters_are, short_are, keys_are}
 use Rattle.nqs_rules.proofs.RowFacts.{same_it, same_peer_number, Keeps, row_kept, IsRow, row_is, row_right, IsPromise, promise_is, promise_right}
 use Rattle.nqs_rules.proofs.RowsOrder.{IsHand, row_dropped, row_changed, row_added, hand_is, hand_right}
-use Rattle.nqs_rules.proofs.RowChanges.{noted_kept, queued_is, routing_is, ready_queued, routing_right, requeued_right, noted_right}
+use Rattle.nqs_rules.proofs.RowChanges.{new_row_right, noted_kept, queued_is, routing_is, ready_queued, routing_right, requeued_right, noted_right}
 use Rattle.nqs_rules.proofs.RowKinds.{found_row, unoffered, ready_unrouted, counted, arrival_new}
 use Rattle.nqs_rules.proofs.HandsOrder.{hand_dropped, hand_changed, hand_added, offer_gone, offer_committed}
 use Rattle.nqs_rules.proofs.PeersOrder.{same_host_exact, peer_counted, peer_closed, promises_part, promise_dropped, promise_added}
@@ -147,7 +147,7 @@ module _ {E : Type 0} where
 
   -- promises
 
-  -- the row of a promise is none of a routing or running request
+  -- promises of other hosts
   others_only : (peer : HostId) (ps : List (Promise E)) → list_all (λ p. not (is_promise_of peer p)) (filter (λ p. not (is_promise_of peer p)) ps) ≡ true
   others_only peer [] = refl
   others_only peer (p ∷ ps) = by (is_promise_of peer p) refl (others_only peer ps)
@@ -181,18 +181,8 @@ module _ {E : Type 0} where
       let as_often : c.lost ≡ c.starts = eqb-true c.lost c.starts values.1.1.1.0 in
       let fewer = ltb-true c.starts 65535 values.1.1.0 in
       promise_added s3 p d (promise_right s3 p (record {
-        row = row_right s3 (new_row c queue (s.arrivals + 1) script) (record {
-          id = and_from (is_site_host c.id.host s) (is_sane_id c.id) host values.0;
-          given = (and_parts (not (has_row c.id s)) (not (same_host s.me c.id.host) || nat_le c.id.seq s.seq) unknown).1;
-          job = values.1.0;
-          queue = there;
-          device = refl;
-          refused = refl;
-          arrival = le-leb (s.arrivals + 1) (s.arrivals + 1) (omega arith);
-          lost = lt-ltb c.lost 65535 (omega (arith, fewer, as_often));
-          count = and_from (c.starts == c.lost) true (eq-eqb c.starts c.lost (sym as_often)) refl;
-          hop = values.1.1.1.1.0;
-        });
+        row = new_row_right s3 c queue (s.arrivals + 1) script (and_from (is_site_host c.id.host s) (is_sane_id c.id) host values.0) (and_parts (not (has_row c.id s)) (not (same_host s.me c.id.host) || nat_le c.id.seq s.seq) unknown).1 values.1.0 there
+            (le-leb (s.arrivals + 1) (s.arrivals + 1) (omega arith)) (sym as_often) (lt-ltb c.lost 65535 (omega (arith, fewer, as_often))) values.1.1.1.1.0;
         queued = refl;
         some = le-leb 1 number (omega (arith, some));
         opens = ap (passes (is_promise_open number)) (get-changed peer.0 (close (number - 1)) s.peers ∙ ap (option_map (close (number - 1))) found.1) ∙ not_from_false (nat_le number (number - 1)) (lt-leb number (number - 1) (omega (arith, some)));

@@ -8,6 +8,7 @@ use Rattle.nqs_types.specs.State.{State}
 use Rattle.nqs_types.specs.Path.{is_path}
 use Rattle.nqs_types.specs.Ids.{name_eq}
 use Rattle.nqs_types.specs.declared.ids.Dest.{Dest}
+use Rattle.nqs_types.specs.declared.request.Carried.{Carried}
 use Rattle.nqs_types.specs.declared.request.Row.{Row}
 use Rattle.nqs_types.specs.declared.request.Refused.{Refused}
 use Rattle.nqs_types.specs.declared.request.Hold.TheVariants.{System}
@@ -17,9 +18,10 @@ use Rattle.nqs_rules.specs.Tests.{is_running, is_routing, is_queued, is_ready, i
 use Rattle.nqs_rules.specs.Find.{has_queue}
 use Rattle.nqs_rules.specs.Fits.{may_hop, is_site_host, is_idle, runs}
 use Rattle.nqs_rules.specs.Rows.{doomed_in, released_row, moved_row, with_priority}
+use Rattle.nqs_rules.specs.Sane.{is_sane_job}
 use Rattle.nqs_rules.specs.Routing.{is_present, with_refusal, all_refused, held_where, refusal_noted}
-use Rattle.nqs_rules.specs.Applied.{started_row, may_start_again, lost_row, booted_row, routing_row, requeued_row, moved_local}
-use Rattle.nqs_rules.specs.InOrder.{is_device_there, is_refused_right, has_no_device, is_count_right, is_hop_right, is_row_right}
+use Rattle.nqs_rules.specs.Applied.{new_row, started_row, may_start_again, lost_row, booted_row, routing_row, requeued_row, moved_local}
+use Rattle.nqs_rules.specs.InOrder.{is_id_right, is_id_given, is_device_there, is_refused_right, has_no_device, is_count_right, is_hop_right, is_row_right}
 use Rattle.nqs_rules.proofs.Chains.{each, chained, differ}
 use Rattle.nqs_rules.proofs.Sublists.{filter_part, part_all}
 use Rattle.nqs_rules.proofs.KeyFacts.{all-added}
@@ -62,6 +64,13 @@ module _ {E : Type 0} where
   pub some_hops : (r : Row E) → is_routing r.state ≡ false → is_hop_right r ≡ true → nat_le r.hops 32 ≡ true
   some_hops r e h = subst (λ b. (if b then nat_lt r.hops 32 else nat_le r.hops 32) ≡ true) e h
 
+  pub at_most_32 : (r : Row E) → is_hop_right r ≡ true → nat_le r.hops 32 ≡ true
+  at_most_32 r h = by (is_routing r.state) h
+    where
+      by : (b : Bool) → (if b then nat_lt r.hops 32 else nat_le r.hops 32) ≡ true → nat_le r.hops 32 ≡ true
+      by true e = grind (arith, nat_tests)
+      by false e = e
+
   pub ready_queued : (r : Row E) → is_ready r ≡ true → r.state ≡ Queued
   ready_queued r h = queued_is r.state (and_parts (is_queued r.state) (is_unheld r.hold) h).0
 
@@ -75,6 +84,22 @@ module _ {E : Type 0} where
       by false = refl
 
   module _ (s : State E) where
+    -- a row that comes in
+    pub new_row_right : (c : Carried) (queue : List ℕ) (arrival : ℕ) (script : E) → is_id_right s c.id ≡ true → is_id_given s c.id ≡ true → is_sane_job c.job ≡ true → has_queue queue s ≡ true → nat_le arrival s.arrivals ≡ true → c.starts ≡ c.lost → nat_lt c.lost 65535 ≡ true → nat_le c.hops 32 ≡ true
+        → is_row_right s (new_row c queue arrival script) ≡ true
+    new_row_right c queue arrival script id given job there later as_often few hops = row_right s (new_row c queue arrival script) (record {
+      id = id;
+      given = given;
+      job = job;
+      queue = there;
+      device = refl;
+      refused = refl;
+      arrival = later;
+      lost = few;
+      count = and_from (c.starts == c.lost) true (eq-eqb c.starts c.lost as_often) refl;
+      hop = hops;
+    })
+
     -- the row with another state, device and count
     module _ (r : Row E) (h : is_row_right s r ≡ true) where
       p : IsRow s r
@@ -135,12 +160,8 @@ module _ {E : Type 0} where
         arrival = p.arrival;
         lost = p.lost;
         count = waits r idle p.count;
-        hop = by (is_routing r.state) p.hop;
+        hop = at_most_32 r p.hop;
       })
-        where
-          by : (b : Bool) → (if b then nat_lt r.hops 32 else nat_le r.hops 32) ≡ true → nat_le r.hops 32 ≡ true
-          by true e = grind (arith, nat_tests)
-          by false e = e
 
       pub released_right : is_row_right s (released_row r) ≡ true
       released_right = row_right s (released_row r) (record {

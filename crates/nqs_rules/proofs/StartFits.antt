@@ -19,24 +19,17 @@ use Rattle.nqs_rules.proofs.StartPlain.{start-map}
 use Rattle.nqs_rules.proofs.StartIs.{IsSteady, IsStart, start_is}
 use Rattle.nqs_rules.proofs.StateFacts.{keys_are}
 use Rattle.nqs_rules.proofs.RowFacts.{row_is}
-use Rattle.nqs_rules.proofs.RowChanges.{some_hops, few_hops}
+use Rattle.nqs_rules.proofs.RowChanges.{at_most_32}
 use Rattle.nqs_rules.proofs.QueuesOrder.{queue_is}
 use Rattle.nqs_rules.proofs.StepFits.{Fitting}
 
 module _ {E : Type 0} where
-  at_most_32 : (s : State E) (r : Row E) → is_row_right s r ≡ true → nat_le r.hops 32 ≡ true
-  at_most_32 s r h = by (is_routing r.state) refl
-    where
-      by : (b : Bool) → is_routing r.state ≡ b → nat_le r.hops 32 ≡ true
-      by true e = let few = few_hops r e (row_is s r h).hop in grind (arith, nat_tests)
-      by false e = some_hops r e (row_is s r h).hop
-
   -- a state in order is steady, whatever bytes are put for its scripts
   steady_plain : (f : E → List ℕ) (s : State E) → IsInOrder s → IsSteady (map_state f s)
   steady_plain f s h = record {
     ids = ap (are_distinct id_eq) (map-map (λ r. r.id) (map_row f) s.rows) ∙ (keys_are s h.keys).rows;
     names = (keys_are s h.keys).queues;
-    hops = all-mapped (is_row_right s) (λ r. nat_le r.hops 32) (map_row f) (at_most_32 s) s.rows h.rows;
+    hops = all-mapped (is_row_right s) (λ r. nat_le r.hops 32) (map_row f) (λ r k. at_most_32 r (row_is s r k).hop) s.rows h.rows;
     dests = list_all-weaker (is_queue_right s) (λ q. nat_le (length q.dests) 16) (λ q k. (queue_is s q k).few_dests) s.queues h.queues;
   }
 

@@ -40,6 +40,7 @@ use Rattle.nqs_rules.proofs.ListFacts.{not_true, found_again, list_all-found, Is
 use Rattle.nqs_rules.proofs.Chains.{chained}
 use Rattle.nqs_rules.proofs.KeyFacts.{any_found}
 use Rattle.nqs_rules.proofs.ConfOrder.{none_holds, causes_behind}
+use Rattle.nqs_rules.proofs.RowFacts.{same_id}
 use Rattle.nqs_rules.proofs.PickLaws.{eligible_parts, picked_is}
 
 -- what of the order of a state the starts rest on: ids and names are distinct, hops and destinations few
@@ -101,9 +102,6 @@ way_is Pipe d now s place r = by (r.hops == 32) refl (destination d now s r) ref
     by false hop None e = tt
     by false hop (Some n) e = at n (is_local n d s) hop e refl
 
-same_request : (i : RequestId) → id_eq i i ≡ true
-same_request i = and_from (i.seq == i.seq) (i.host.0 == i.host.0) (nat_eq_equiv.refl i.seq) (nat_eq_equiv.refl i.host.0)
-
 below_32 : (n : ℕ) → nat_le n 32 ≡ true → (n == 32) ≡ false → nat_lt n 32 ≡ true
 below_32 n few other = grind (arith, nat_tests)
 
@@ -117,7 +115,7 @@ module _ (now : ℕ) (s : Plain) (steady : IsSteady s) (x : Stepped (List ℕ)) 
   -- the picked row, and its queue, are those that their names find
 
   row_found : find_row r.id s ≡ Some r
-  row_found = found_again id_eq (λ q. q.id) id_exact same_request s.rows (row_place c) r steady.ids p.first.at
+  row_found = found_again id_eq (λ q. q.id) id_exact same_id s.rows (row_place c) r steady.ids p.first.at
 
   queue_found : find_queue r.queue s ≡ Some d
   queue_found =
