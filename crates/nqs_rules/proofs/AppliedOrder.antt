@@ -1,46 +1,29 @@
 -- Each change that fits leaves a state in order.
-use Rattle.std.proofs.Common.{◌≡◌, ℕ, ◌+◌, ◌-◌, ◌<◌, ◌≤◌, Bool, true, false, cond, not, ◌&&◌, ◌||◌, ◌==◌, nat_lt, nat_le, List, [], ◌∷◌, ◌++◌, map, filter, find, length, Option, None, Some, true≢false, refl, sym, ap, subst, ◌∙◌, arith, if◌then◌else◌}
-use Rattle.std.proofs.lemmas.Bool.{and_parts, and_from, leb-true, leb-false, le-leb, ltb-true, lt-ltb, or_right, not-true, not-false, not_from_false, eqb-true, eq-eqb}
-use Rattle.std.proofs.lemmas.Bool.Decides.{nat_tests}
-use Rattle.std.proofs.lemmas.List.Folds.{list_any-append}
+use Rattle.std.proofs.Common.{◌≡◌, ℕ, ◌+◌, Bool, true, false, cond, not, nat_lt, nat_le, List, [], ◌∷◌, filter, Option, None, Some, refl, sym, ap, ◌∙◌, arith}
+use Rattle.std.proofs.lemmas.Bool.{and_parts, and_from, leb-false, le-leb, ltb-true, lt-ltb, or_right, not_from_false}
 use Rattle.std.proofs.lemmas.Option.{same_Some}
-use Rattle.std.specs.List.{list_any, list_all}
-use Rattle.std.specs.Option.{IfSome}
+use Rattle.std.specs.List.{list_all}
 use Rattle.nqs_types.specs.State.{State}
-use Rattle.nqs_types.specs.Ids.{id_eq, id_exact, peer_number_eq, peer_number_exact, hand_key, number_exact}
-use Rattle.nqs_types.specs.Table.{change_first, without_first}
-use Rattle.nqs_types.specs.Keys.{is_hand, is_promise, is_row}
-use Rattle.nqs_types.specs.declared.ids.HostId.{HostId}
 use Rattle.nqs_types.specs.declared.ids.RequestId.{RequestId}
-use Rattle.nqs_types.specs.declared.ids.PeerNumber.{PeerNumber}
 use Rattle.nqs_types.specs.declared.request.Job.{Job}
 use Rattle.nqs_types.specs.declared.request.Row.{Row}
-use Rattle.nqs_types.specs.declared.request.RowState.TheVariants.{Queued, Routing, Running}
-use Rattle.nqs_types.specs.declared.request.Phase.TheVariants.{Offered}
 use Rattle.nqs_types.specs.declared.request.Hand.{Hand}
-use Rattle.nqs_types.specs.declared.request.Promise.{Promise}
-use Rattle.nqs_types.specs.declared.request.Carried.{Carried}
-use Rattle.nqs_types.specs.declared.request.Peer.{Peer}
-use Rattle.nqs_rules.specs.Tests.{passes, is_running, is_routing, is_queued, is_ready, is_offered, same_host, last_u64, last_seq}
-use Rattle.nqs_rules.specs.Find.{peer_number, has_queue, has_device, has_row, find_row, find_hand, find_promise, find_peer, held_count}
+use Rattle.nqs_rules.specs.Tests.{passes, is_ready, same_host, last_u64, last_seq}
+use Rattle.nqs_rules.specs.Find.{has_queue, has_device, held_count}
 use Rattle.nqs_rules.specs.Devices.{is_busy}
-use Rattle.nqs_rules.specs.Edits.{change_row, drop_row, change_peer}
+use Rattle.nqs_rules.specs.Edits.{change_row}
 use Rattle.nqs_rules.specs.Rows.{arrivals_used, is_host_full, next_arrival}
-use Rattle.nqs_rules.specs.Routing.{is_hand_to, close, dests_for}
-use Rattle.nqs_rules.specs.Sane.{is_sane_job, is_sane_id, is_sane_carried}
-use Rattle.nqs_rules.specs.Applied.{committed, new_row, first_carried, next_id, submitted, deleted, doomed_row, started_row, routing_row, requeued_row, drop_hand, hand_opened, hand_committed, hand_refused, hand_silent, hands_silent, is_offered_for, is_promise_of, drop_promise, add_promised, accepted, dropped, moved_local, local_refused, promised}
-use Rattle.nqs_rules.specs.Fits.{is_offered_hand, is_committed_hand, row_passes, hand_passes, is_idle, runs, may_hop, is_next, is_open_number, is_site_host, is_unknown, offer_full, device_fits, are_offered}
-use Rattle.nqs_rules.specs.InOrder.{IsInOrder, are_distinct, same_number, arrivals_of, is_id_right, is_device_there, is_row_right, is_hand_right, is_routing_row, is_promise_right}
-use Rattle.nqs_rules.proofs.Chains.{each, implied, differ, not_both}
+use Rattle.nqs_rules.specs.Routing.{dests_for}
+use Rattle.nqs_rules.specs.Sane.{is_sane_job, is_sane_id}
+use Rattle.nqs_rules.specs.Applied.{new_row, first_carried, next_id, submitted, deleted, started_row, is_offered_for, moved_local, local_refused}
+use Rattle.nqs_rules.specs.Fits.{row_passes, may_hop, is_site_host, device_fits}
+use Rattle.nqs_rules.specs.InOrder.{IsInOrder, is_device_there}
 use Rattle.nqs_rules.proofs.Sublists.{filter_part}
-use Rattle.nqs_rules.proofs.ListFacts.{found_passes, list_all-found}
-use Rattle.nqs_rules.proofs.KeyFacts.{any_found, found_any, none_from_all, key_gone, key_gone_behind, turned}
-use Rattle.nqs_rules.proofs.StateFacts.{IsSite, sites_are, parameters_are, short_are}
-use Rattle.nqs_rules.proofs.RowFacts.{same_id, same_it, IsRow, row_is, row_right, IsPromise, promise_is, promise_right}
-use Rattle.nqs_rules.proofs.RowsOrder.{is_no_offer_of, no_offer, row_dropped, row_changed, row_added, hand_is, hand_right}
-use Rattle.nqs_rules.proofs.RowChanges.{new_row_right, noted_kept, queued_is, routing_is, running_is, ready_queued, started_right, routing_right, requeued_right, moved_right, noted_right, few_hops}
-use Rattle.nqs_rules.proofs.RowKinds.{found_row, unoffered, running_unrouted, ready_unrouted, counted, arrival_given, arrival_new, number_new, row_moved}
-use Rattle.nqs_rules.proofs.HandsOrder.{hands_part, hand_dropped, hand_changed, hand_added, offer_gone, offer_committed}
+use Rattle.nqs_rules.proofs.StateFacts.{IsSite, sites_are}
+use Rattle.nqs_rules.proofs.RowsOrder.{is_no_offer_of, row_dropped, row_changed, row_added}
+use Rattle.nqs_rules.proofs.RowChanges.{new_row_right, noted_kept, ready_queued, started_right, moved_right, noted_right}
+use Rattle.nqs_rules.proofs.RowKinds.{found_row, unoffered, ready_unrouted, counted, arrival_new, number_new, row_moved}
+use Rattle.nqs_rules.proofs.HandsOrder.{hands_part}
 
 -- a hand that a filter leaves is no offer of the request
 none_left : (id : RequestId) (hs : List Hand) → list_all (is_no_offer_of id) (filter (λ h. not (is_offered_for id h)) hs) ≡ true

@@ -1,5 +1,5 @@
 -- Tests that hold together.
-use Rattle.std.proofs.Common.{◌≡◌, Bool, true, false, not, ◌&&◌, ◌||◌, List, [], ◌∷◌, sym, ap, ◌∙◌, true≢false}
+use Rattle.std.proofs.Common.{◌≡◌, Bool, true, false, not, ◌&&◌, ◌||◌, List, [], ◌∷◌, sym, ◌∙◌, true≢false}
 use Rattle.std.proofs.lemmas.Bool.{and_parts, and_from}
 
 abbrev pub Each : List Bool → Type 0

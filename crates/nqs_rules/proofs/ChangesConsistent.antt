@@ -1,13 +1,12 @@
 -- Whatever change fits, what besides holds of a state stays so.
-use Rattle.std.proofs.Common.{◌≡◌, ℕ, ◌+◌, Bool, true, false, not, ◌&&◌, ◌||◌, nat_lt, List, [], ◌∷◌, filter, find, Option, None, Some, true≢false, refl, sym, ap, ◌∙◌}
-use Rattle.std.proofs.lemmas.Bool.{and_parts, or_left, or_right, not_from_false, not-true}
+use Rattle.std.proofs.Common.{◌≡◌, ◌+◌, true, false, not, [], ◌∷◌, filter, Option, None, Some, true≢false, refl, sym, ap, ◌∙◌}
+use Rattle.std.proofs.lemmas.Bool.{and_parts, or_left, or_right}
 use Rattle.std.proofs.lemmas.Option.{same_Some}
-use Rattle.std.specs.List.{list_any, list_all}
+use Rattle.std.specs.List.{list_any}
 use Rattle.nqs_types.specs.State.{State}
 use Rattle.nqs_types.specs.Keys.{is_row}
 use Rattle.nqs_types.specs.declared.ids.RequestId.{RequestId}
 use Rattle.nqs_types.specs.declared.request.Row.{Row}
-use Rattle.nqs_types.specs.declared.request.RowState.TheVariants.{Queued}
 use Rattle.nqs_types.specs.declared.request.Hand.{Hand}
 use Rattle.nqs_types.specs.declared.request.Phase.{Phase}
 use Rattle.nqs_types.specs.declared.request.Phase.TheVariants.{Offered, Committed}
@@ -26,23 +25,22 @@ use Rattle.nqs_types.specs.declared.edit.Edit.TheVariants.{Conf, Limits as Limit
 use Rattle.nqs_types.specs.declared.change.OutPart.{OutPart}
 use Rattle.nqs_types.specs.declared.change.Change.{Change}
 use Rattle.nqs_types.specs.declared.change.Change.TheVariants.{Site, Submitted, Deleted, Doomed, Started, Ended, Unlaunched, Boot, Edited, HandOpened, HandCommitted, HandRefused, HandsSilent, HandDone, Promised, Accepted, Dropped, MovedLocal, RefusedLocal, HeldFar, StageGot, StageGone, FileGone}
-use Rattle.nqs_rules.specs.Tests.{passes, is_ready, is_running, is_routing, is_queued, is_unheld, is_offered, is_committed}
-use Rattle.nqs_rules.specs.Causes.{cause}
-use Rattle.nqs_rules.specs.Find.{peer_number, has_queue, find_row, find_hand, find_peer, meant_request}
+use Rattle.nqs_rules.specs.Tests.{passes, is_ready, is_running, is_queued, is_unheld, is_offered, is_committed}
+use Rattle.nqs_rules.specs.Find.{peer_number, find_hand, find_peer}
 use Rattle.nqs_rules.specs.Edits.{change_row, change_peer, drop_row}
 use Rattle.nqs_rules.specs.Conf.{conf_applied, is_queued_in}
 use Rattle.nqs_rules.specs.Limits.{limits_applied}
 use Rattle.nqs_rules.specs.Devices.{devices_applied}
-use Rattle.nqs_rules.specs.Rows.{rows_causes, rows_applied, idle_causes, hold_causes, release_causes, move_causes, held_row, released_row, moved_row, with_priority, next_arrival, arrivals_used}
+use Rattle.nqs_rules.specs.Rows.{rows_causes, rows_applied, idle_causes, hold_causes, release_causes, move_causes, held_row, released_row, moved_row, with_priority, next_arrival}
 use Rattle.nqs_rules.specs.Routing.{dests_for, is_hand_to}
-use Rattle.nqs_rules.specs.Applied.{applied, edit_applied, access_applied, doomed_row, started_row, held_far, moved_local, local_refused, hand_committed, hand_refused, accepted, dropped, add_file}
-use Rattle.nqs_rules.specs.Fits.{fits, edit_fits, is_offered_hand, is_committed_hand, runs, may_hop, is_next, row_passes, hand_passes, device_fits}
-use Rattle.nqs_rules.specs.InOrder.{IsInOrder, IsConsistent, is_doom_right}
-use Rattle.nqs_rules.proofs.Chains.{each, differ}
+use Rattle.nqs_rules.specs.Applied.{applied, edit_applied, access_applied, doomed_row, started_row, held_far, moved_local, local_refused, hand_committed, hand_refused, accepted}
+use Rattle.nqs_rules.specs.Fits.{fits, edit_fits, is_committed_hand, runs, may_hop, is_next, row_passes, device_fits}
+use Rattle.nqs_rules.specs.InOrder.{IsInOrder, IsConsistent}
+use Rattle.nqs_rules.proofs.Chains.{each}
 use Rattle.nqs_rules.proofs.Sublists.{without_part, filter_part}
 use Rattle.nqs_rules.proofs.RowChanges.{noted_kept, idle_is, ready_queued}
 use Rattle.nqs_rules.proofs.RowKinds.{found_row}
-use Rattle.nqs_rules.proofs.ConfOrder.{Allows, none_holds, causes_behind}
+use Rattle.nqs_rules.proofs.ConfOrder.{Allows, none_holds}
 use Rattle.nqs_rules.proofs.EditOrder.{meant}
 use Rattle.nqs_rules.proofs.ChangesOrder.{with_offer, with_promise}
 use Rattle.nqs_rules.proofs.OnceOrder.{file_keeps, outputs_keep}

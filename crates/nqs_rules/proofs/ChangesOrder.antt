@@ -1,26 +1,24 @@
 -- Whatever change fits, it leaves a state in order.
-use Rattle.std.proofs.Common.{◌≡◌, ℕ, ◌+◌, ◌≤◌, Bool, true, false, not, ◌&&◌, ◌||◌, ◌==◌, nat_lt, nat_le, List, [], ◌∷◌, find, length, Option, None, Some, is_ok, true≢false, refl, sym, ap, ◌∙◌, arith}
-use Rattle.std.proofs.lemmas.Bool.{and_parts, not-true, not-false}
+use Rattle.std.proofs.Common.{◌≡◌, ℕ, true, not, nat_lt, nat_le, [], ◌∷◌, length, Option, None, Some, true≢false, refl, sym, arith}
+use Rattle.std.proofs.lemmas.Bool.{and_parts, not-true}
 use Rattle.std.specs.List.{list_any, list_all}
 use Rattle.nqs_types.specs.State.{State}
-use Rattle.nqs_types.specs.Keys.{is_hand, is_promise}
+use Rattle.nqs_types.specs.Keys.{is_promise}
 use Rattle.nqs_types.specs.declared.ids.HostId.{HostId}
 use Rattle.nqs_types.specs.declared.request.Hand.{Hand}
 use Rattle.nqs_types.specs.declared.request.Promise.{Promise}
-use Rattle.nqs_types.specs.declared.request.Peer.{Peer}
-use Rattle.nqs_types.specs.declared.request.Row.{Row}
 use Rattle.nqs_types.specs.declared.edit.Edit.{Edit}
 use Rattle.nqs_types.specs.declared.edit.Edit.TheVariants.{Conf, Limits as LimitsOf, Access as AccessOf, Devices as DevicesOf, Rows as RowsOf}
 use Rattle.nqs_types.specs.declared.change.Change.{Change}
 use Rattle.nqs_types.specs.declared.change.Change.TheVariants.{Site, Submitted, Deleted, Doomed, Started, Ended, Unlaunched, Boot, Edited, HandOpened, HandCommitted, HandRefused, HandsSilent, HandDone, Promised, Accepted, Dropped, MovedLocal, RefusedLocal, HeldFar, StageGot, StageGone, FileGone}
-use Rattle.nqs_rules.specs.Tests.{passes, is_ready, is_running, last_seq}
-use Rattle.nqs_rules.specs.Find.{peer_number, has_queue, has_row, has_promise, find_hand, find_promise, find_peer}
+use Rattle.nqs_rules.specs.Tests.{passes, is_ready, last_seq}
+use Rattle.nqs_rules.specs.Find.{peer_number, has_queue, has_promise, find_hand, find_promise, find_peer}
 use Rattle.nqs_rules.specs.Edits.{drop_row, change_peer}
 use Rattle.nqs_rules.specs.Rows.{arrivals_used, is_host_full}
 use Rattle.nqs_rules.specs.Routing.{is_hand_to}
 use Rattle.nqs_rules.specs.Sane.{is_sane_edit, has_path, is_sane_change}
 use Rattle.nqs_rules.specs.Applied.{dropped, applied, edit_applied, doomed_row, held_far, hand_committed, hand_refused, accepted}
-use Rattle.nqs_rules.specs.Fits.{fits, edit_fits, is_offered_hand, runs, is_idle, may_hop, is_next, is_open_number, is_site_host, is_unknown, offer_full, row_passes, hand_passes, device_fits}
+use Rattle.nqs_rules.specs.Fits.{fits, edit_fits, is_offered_hand, runs, may_hop, is_next, is_open_number, is_site_host, is_unknown, offer_full, row_passes, hand_passes, device_fits}
 use Rattle.nqs_rules.specs.DeviceLists.{lists_devices_once}
 use Rattle.nqs_rules.specs.InOrder.{IsInOrder}
 use Rattle.nqs_rules.proofs.Chains.{each}

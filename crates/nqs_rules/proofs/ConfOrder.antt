@@ -1,39 +1,33 @@
 -- The edits of queues, limits and complexes: a state in order stays so.
-use Rattle.std.proofs.Common.{◌≡◌, ℕ, ◌+◌, ◌<◌, ◌≤◌, Bool, true, false, cond, not, ◌&&◌, ◌||◌, ◌==◌, nat_lt, nat_le, List, [], ◌∷◌, ◌++◌, map, filter, find, length, position, slice_get, unwrap_or, Option, None, Some, option_map, is_ok, is_none, Err, true≢false, zero, suc, refl, sym, ap, subst, ◌∙◌, arith, if◌then◌else◌}
-use Rattle.std.proofs.lemmas.Bool.{and_parts, and_from, leb-true, leb-false, le-leb, lt-ltb, not-true, not-false}
-use Rattle.std.proofs.lemmas.Bool.Decides.{nat_tests}
+use Rattle.std.proofs.Common.{◌≡◌, ℕ, ◌+◌, Bool, true, false, not, nat_lt, nat_le, List, [], ◌∷◌, ◌++◌, filter, length, position, unwrap_or, Option, None, Some, option_map, is_ok, Err, true≢false, refl, sym, ap, ◌∙◌, arith, if◌then◌else◌}
+use Rattle.std.proofs.lemmas.Bool.{and_parts, and_from, leb-true, leb-false, le-leb, lt-ltb, not-false}
 use Rattle.std.proofs.lemmas.List.{length-append}
-use Rattle.std.proofs.lemmas.Option.{same_Some, none-some}
-use Rattle.std.specs.List.{list_any, list_all}
+use Rattle.std.specs.List.{list_all}
 use Rattle.nqs_types.specs.State.{State}
 use Rattle.nqs_types.specs.Ids.{name_eq}
-use Rattle.nqs_types.specs.Keys.{is_queue}
 use Rattle.nqs_types.specs.declared.ids.Dest.{Dest}
 use Rattle.nqs_types.specs.declared.ids.NamedDest.{NamedDest}
 use Rattle.nqs_types.specs.declared.queue.Kind.{Kind}
 use Rattle.nqs_types.specs.declared.queue.Kind.TheVariants.{Batch, Device, Pipe}
-use Rattle.nqs_types.specs.declared.queue.QueueDef.{QueueDef}
-use Rattle.nqs_types.specs.declared.queue.ComplexDef.{ComplexDef}
 use Rattle.nqs_types.specs.declared.edit.ConfEdit.{ConfEdit}
 use Rattle.nqs_types.specs.declared.edit.ConfEdit.TheVariants.{CreateBatchQueue, CreateDeviceQueue, CreatePipeQueue, DeleteQueue, EnableQueue, DisableQueue, StartQueue, StopQueue, PurgeQueue, SetPriority, SetRunLimit, AddDestination, RemoveDestination, SetDefaultQueue, SetNoDefaultQueue, SetPatience, SetRetryWait}
 use Rattle.nqs_types.specs.declared.edit.LimitsEdit.{LimitsEdit}
 use Rattle.nqs_types.specs.declared.edit.LimitsEdit.TheVariants.{SetUserLimit, SetCpuLimit, SetMemoryLimit, CreateComplex, DeleteComplex, AddQueue, RemoveQueue, SetComplexLimit, SetGlobalLimit}
 use Rattle.nqs_rules.specs.Tests.{passes, same_dest}
-use Rattle.nqs_rules.specs.Causes.{Cause, cause, first_refusal}
+use Rattle.nqs_rules.specs.Causes.{Cause, first_refusal}
 use Rattle.nqs_rules.specs.Edits.{change_queue}
-use Rattle.nqs_rules.specs.Find.{host_at, dest_of, host_named, has_queue, find_queue, has_complex, has_name, meant_dest}
+use Rattle.nqs_rules.specs.Find.{host_at, dest_of, has_queue, find_queue, meant_dest}
 use Rattle.nqs_rules.specs.Format.{new_queue}
 use Rattle.nqs_rules.specs.Access.{without_name}
-use Rattle.nqs_rules.specs.Conf.{no_host_cause, at_most, is_wait, is_conf_within, create_causes, conf_causes, dest_list, with_dest, without_dest, created_dests, add_queue, conf_applied, conf_edited, has_full_dests, held_in}
+use Rattle.nqs_rules.specs.Conf.{no_host_cause, at_most, is_conf_within, create_causes, conf_causes, dest_list, with_dest, without_dest, created_dests, add_queue, conf_applied, conf_edited, has_full_dests}
 use Rattle.nqs_rules.specs.Limits.{is_limits_within, limits_causes, limits_applied, limits_edited, complex_edited, new_complex}
-use Rattle.nqs_rules.specs.InOrder.{IsInOrder, is_dest_right, is_queue_right, is_complex_right}
-use Rattle.nqs_rules.proofs.Chains.{differ}
+use Rattle.nqs_rules.specs.InOrder.{IsInOrder, is_dest_right}
 use Rattle.nqs_rules.proofs.Sublists.{filter_part, part_length, part_all}
-use Rattle.nqs_rules.proofs.ListFacts.{IsAt, position_at}
+use Rattle.nqs_rules.proofs.ListFacts.{position_at}
 use Rattle.nqs_rules.proofs.KeyFacts.{all-added, place_below}
 use Rattle.nqs_rules.proofs.StateFacts.{IsParameters, parameters_are}
 use Rattle.nqs_rules.proofs.RowKinds.{rows_purged}
-use Rattle.nqs_rules.proofs.QueuesOrder.{IsQueue, queue_is, queue_right, queue_changed, queue_added, queue_deleted}
+use Rattle.nqs_rules.proofs.QueuesOrder.{queue_is, queue_right, queue_changed, queue_added, queue_deleted}
 use Rattle.nqs_rules.proofs.DevicesOrder.{complex_changed, complex_added, complex_deleted, with_parameters}
 
 -- what isn't refused

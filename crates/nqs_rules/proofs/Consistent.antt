@@ -1,9 +1,8 @@
 -- What besides holds of a state at every moment stays so: the sorts of changes.
-use Rattle.std.proofs.Common.{◌≡◌, ℕ, ◌+◌, ◌<◌, ◌≤◌, Bool, true, false, cond, not, ◌&&◌, ◌||◌, ◌==◌, nat_lt, nat_le, List, [], ◌∷◌, ◌++◌, map, filter, find, length, Option, None, Some, true≢false, refl, sym, ap, subst, ◌∙◌, arith, if◌then◌else◌}
-use Rattle.std.proofs.lemmas.Bool.{and_parts, and_from, or_parts, or_left, or_right, leb-true, le-leb, not-true, not_from_false}
-use Rattle.std.proofs.lemmas.Option.{same_Some, none-some}
-use Rattle.std.specs.List.{list_any, list_all, filter_map}
-use Rattle.std.specs.Option.{IfSome}
+use Rattle.std.proofs.Common.{◌≡◌, ℕ, ◌≤◌, Bool, true, false, cond, not, ◌&&◌, ◌||◌, nat_le, List, [], ◌∷◌, ◌++◌, map, filter, find, Some, refl, sym, ap, ◌∙◌, arith, if◌then◌else◌}
+use Rattle.std.proofs.lemmas.Bool.{and_parts, and_from, or_left, or_right, leb-true, le-leb, not-true, not_from_false}
+use Rattle.std.proofs.lemmas.Option.{same_Some}
+use Rattle.std.specs.List.{list_any, list_all}
 use Rattle.nqs_types.specs.State.{State}
 use Rattle.nqs_types.specs.Ids.{id_eq, id_exact}
 use Rattle.nqs_types.specs.Table.{has_key, change_first, without_first}
@@ -12,12 +11,12 @@ use Rattle.nqs_types.specs.declared.ids.RequestId.{RequestId}
 use Rattle.nqs_types.specs.declared.request.Row.{Row}
 use Rattle.nqs_types.specs.declared.request.Hand.{Hand}
 use Rattle.nqs_types.specs.declared.request.Promise.{Promise}
-use Rattle.nqs_rules.specs.Tests.{is_routing, is_running, is_queued, is_unheld, is_offered, same_host}
+use Rattle.nqs_rules.specs.Tests.{is_routing, is_offered, same_host}
 use Rattle.nqs_rules.specs.Find.{find_row}
-use Rattle.nqs_rules.specs.Edits.{change_row, drop_row}
+use Rattle.nqs_rules.specs.Edits.{change_row}
 use Rattle.nqs_rules.specs.Applied.{is_offered_for}
-use Rattle.nqs_rules.specs.InOrder.{IsConsistent, are_distinct, is_doom_right, is_hold_right, has_hand, is_promise_free, is_hand_of_given, is_id_given}
-use Rattle.nqs_rules.proofs.Chains.{imply, implied, differ}
+use Rattle.nqs_rules.specs.InOrder.{IsConsistent, are_distinct, is_doom_right, is_hold_right, has_hand, is_promise_free, is_hand_of_given}
+use Rattle.nqs_rules.proofs.Chains.{imply, differ}
 use Rattle.nqs_rules.proofs.Sublists.{IsPart, part_all}
 use Rattle.nqs_rules.proofs.ListFacts.{list_all-weaker, list_all-changed, list_all-found}
 use Rattle.nqs_rules.proofs.ListMaps.{list_any-map}

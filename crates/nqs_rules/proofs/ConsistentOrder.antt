@@ -1,45 +1,43 @@
 -- What besides holds of a state at every moment stays so: kind by kind.
-use Rattle.std.proofs.Common.{◌≡◌, ℕ, ◌+◌, ◌-◌, ◌<◌, ◌≤◌, Bool, true, false, cond, not, ◌&&◌, ◌||◌, ◌==◌, nat_lt, nat_le, List, [], ◌∷◌, ◌++◌, map, filter, find, length, Option, None, Some, true≢false, refl, sym, ap, subst, ◌∙◌, arith, if◌then◌else◌}
-use Rattle.std.proofs.lemmas.Bool.{and_parts, and_from, or_left, or_right, and_right, not-true, not_from_false}
+use Rattle.std.proofs.Common.{◌≡◌, ℕ, ◌+◌, Bool, true, false, not, ◌&&◌, ◌||◌, nat_lt, List, [], ◌∷◌, ◌++◌, map, filter, find, Option, None, Some, refl, sym, ap, subst, ◌∙◌, arith, if◌then◌else◌}
+use Rattle.std.proofs.lemmas.Bool.{and_parts, or_left, or_right, and_right, not-true, not_from_false}
 use Rattle.std.proofs.lemmas.List.Folds.{list_any-append}
 use Rattle.std.proofs.lemmas.Option.{same_Some}
 use Rattle.std.specs.List.{list_any, list_all, filter_map}
 use Rattle.std.specs.Option.{IfSome}
 use Rattle.nqs_types.specs.State.{State}
 use Rattle.nqs_types.specs.Ids.{name_eq, id_eq, id_exact}
-use Rattle.nqs_types.specs.Table.{change_first, without_first}
+use Rattle.nqs_types.specs.Table.{without_first}
 use Rattle.nqs_types.specs.Keys.{is_row, is_hand, is_promise}
 use Rattle.nqs_types.specs.declared.ids.HostId.{HostId}
 use Rattle.nqs_types.specs.declared.ids.RequestId.{RequestId}
 use Rattle.nqs_types.specs.declared.ids.Dest.{Dest}
 use Rattle.nqs_types.specs.declared.ids.PeerNumber.{PeerNumber}
 use Rattle.nqs_types.specs.declared.request.Row.{Row}
-use Rattle.nqs_types.specs.declared.request.RowState.TheVariants.{Queued, Routing, Running}
+use Rattle.nqs_types.specs.declared.request.RowState.TheVariants.{Queued}
 use Rattle.nqs_types.specs.declared.request.Phase.TheVariants.{Offered}
 use Rattle.nqs_types.specs.declared.request.Hand.{Hand}
 use Rattle.nqs_types.specs.declared.request.Promise.{Promise}
-use Rattle.nqs_types.specs.declared.request.Peer.{Peer}
 use Rattle.nqs_types.specs.declared.request.Carried.{Carried}
 use Rattle.nqs_types.specs.declared.request.Job.{Job}
-use Rattle.nqs_rules.specs.Tests.{passes, is_routing, is_running, is_queued, is_ready, is_unheld, is_offered, same_host}
-use Rattle.nqs_rules.specs.Find.{peer_number, has_row, find_row, find_hand, find_promise}
-use Rattle.nqs_rules.specs.Edits.{change_row, change_peer, drop_row}
+use Rattle.nqs_rules.specs.Tests.{is_routing, is_running, is_queued, is_ready, is_unheld, is_offered}
+use Rattle.nqs_rules.specs.Find.{has_row, find_row, find_hand}
+use Rattle.nqs_rules.specs.Edits.{change_row, change_peer}
 use Rattle.nqs_rules.specs.Rows.{doomed_in}
 use Rattle.nqs_rules.specs.Routing.{dests_for, refusal_noted, close}
-use Rattle.nqs_rules.specs.Applied.{is_offered_for, committed, new_row, submitted, deleted, may_start_again, lost_row, booted_row, routing_row, requeued_row, drop_hand, hand_opened, hand_committed, hand_refused, hand_silent, hands_silent, is_promise_of, promised, drop_promise, add_promised, accepted, dropped}
-use Rattle.nqs_rules.specs.Fits.{row_passes, may_hop, is_offered_hand, is_committed_hand, are_offered, hand_passes}
+use Rattle.nqs_rules.specs.Applied.{is_offered_for, committed, submitted, deleted, may_start_again, lost_row, booted_row, routing_row, requeued_row, drop_hand, hand_opened, hand_committed, hand_refused, hand_silent, hands_silent, is_promise_of, promised, drop_promise, accepted, dropped}
+use Rattle.nqs_rules.specs.Fits.{row_passes, may_hop, is_offered_hand, are_offered, hand_passes}
 use Rattle.nqs_rules.specs.InOrder.{IsInOrder, IsConsistent, are_distinct, is_doom_right, is_hold_right, has_hand, is_promise_free, is_hand_of_given, is_id_given, is_row_right}
-use Rattle.nqs_rules.proofs.Chains.{implied, differ}
-use Rattle.nqs_rules.proofs.Sublists.{IsPart, without_part, filter_part, part_all}
+use Rattle.nqs_rules.proofs.Sublists.{without_part, filter_part, part_all}
 use Rattle.nqs_rules.proofs.ListFacts.{found_passes, list_all-weaker, list_all-changed, list_all-found}
 use Rattle.nqs_rules.proofs.KeyFacts.{all-both, all-added, any-before, all_from_none, gone_without, turned}
 use Rattle.nqs_rules.proofs.FindKept.{all-filter_map, all-mapped}
 use Rattle.nqs_rules.proofs.StateFacts.{keys_are}
-use Rattle.nqs_rules.proofs.RowFacts.{same_id, row_is, promise_is}
-use Rattle.nqs_rules.proofs.RowChanges.{noted_kept, queued_is, routing_is, ready_queued}
+use Rattle.nqs_rules.proofs.RowFacts.{same_id, row_is}
+use Rattle.nqs_rules.proofs.RowChanges.{noted_kept, routing_is, ready_queued}
 use Rattle.nqs_rules.proofs.RowKinds.{found_row}
 use Rattle.nqs_rules.proofs.HandoversOrder.{routes, silent_one, still_offered, not_committed, offer_or_none}
-use Rattle.nqs_rules.proofs.Consistent.{any-filter_kept, any-changed_other, any-without_found, all-changed_alone, same_core, IsCalm, row_calm, row_stays, rows_stay, row_joins, promises_stay, seq_grows, hand_stays, other_offer}
+use Rattle.nqs_rules.proofs.Consistent.{any-filter_kept, any-changed_other, any-without_found, all-changed_alone, same_core, IsCalm, row_calm, row_joins, promises_stay, seq_grows, hand_stays, other_offer}
 
 module _ {E : Type 0} where
   -- a queued row that isn't doomed

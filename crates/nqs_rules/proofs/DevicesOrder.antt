@@ -1,6 +1,6 @@
 -- Changes of complexes, devices and parameters: a state in order stays so.
-use Rattle.std.proofs.Common.{◌≡◌, ℕ, ◌+◌, ◌<◌, ◌≤◌, Bool, true, false, cond, not, ◌&&◌, ◌||◌, ◌==◌, nat_lt, nat_le, List, [], ◌∷◌, ◌++◌, map, filter, find, length, Option, None, Some, true≢false, refl, sym, ap, subst, ◌∙◌, arith, if◌then◌else◌}
-use Rattle.std.proofs.lemmas.Bool.{and_parts, and_from, and_left, and_cases, leb-true, le-leb, ltb-true, lt-ltb, not-true, not_from_false, or_parts}
+use Rattle.std.proofs.Common.{◌≡◌, ℕ, ◌+◌, Bool, true, false, not, ◌&&◌, ◌==◌, nat_lt, nat_le, List, [], ◌∷◌, ◌++◌, map, length, Option, None, Some, true≢false, refl, sym, ap, ◌∙◌, arith}
+use Rattle.std.proofs.lemmas.Bool.{and_parts, and_left, leb-true, le-leb, ltb-true, not-true, not_from_false}
 use Rattle.std.proofs.lemmas.List.{map-append, length-append, length-map}
 use Rattle.std.specs.List.{list_any, list_all}
 use Rattle.nqs_types.specs.State.{State}
@@ -8,7 +8,6 @@ use Rattle.nqs_types.specs.Ids.{name_eq, name_exact}
 use Rattle.nqs_types.specs.Table.{change_first, without_first}
 use Rattle.nqs_types.specs.Keys.{is_complex, is_device}
 use Rattle.nqs_types.specs.declared.request.Row.{Row}
-use Rattle.nqs_types.specs.declared.request.RowState.TheVariants.{Queued}
 use Rattle.nqs_types.specs.declared.request.Promise.{Promise}
 use Rattle.nqs_types.specs.declared.queue.QueueDef.{QueueDef}
 use Rattle.nqs_types.specs.declared.queue.ComplexDef.{ComplexDef}
@@ -20,9 +19,8 @@ use Rattle.nqs_rules.specs.Find.{has_queue, has_device, has_complex}
 use Rattle.nqs_rules.specs.Access.{without_name}
 use Rattle.nqs_rules.specs.Devices.{same_name_as, runs_on, is_busy, without_device, devices_applied}
 use Rattle.nqs_rules.specs.Conf.{is_wait}
-use Rattle.nqs_rules.specs.InOrder.{IsInOrder, are_distinct, is_default_there, is_queue_right, is_complex_right, is_device_there, has_no_device, is_count_right, is_row_right, is_promise_right}
-use Rattle.nqs_rules.proofs.Chains.{each, chained}
-use Rattle.nqs_rules.proofs.Sublists.{IsPart, without_part, filter_part, map_part, part_length, part_all, part_distinct}
+use Rattle.nqs_rules.specs.InOrder.{IsInOrder, are_distinct, is_default_there, is_queue_right, is_complex_right, is_device_there, has_no_device, is_row_right, is_promise_right}
+use Rattle.nqs_rules.proofs.Sublists.{without_part, filter_part, map_part, part_length, part_all, part_distinct}
 use Rattle.nqs_rules.proofs.ListFacts.{list_all-weaker, list_all-changed, list_all-found, map-changed}
 use Rattle.nqs_rules.proofs.ListMaps.{list_any-map}
 use Rattle.nqs_rules.proofs.KeyFacts.{all-both, filter_all, all-added, any-before, any-changed, any-without_other, all_from_none, distinct-added, length_changed, turned}
@@ -30,7 +28,7 @@ use Rattle.nqs_rules.proofs.FindKept.{all-mapped, map-kept}
 use Rattle.nqs_rules.proofs.StateFacts.{parameters_kept, default_kept, parameters_are, parameters_right, short_are, short_right, keys_are, keys_right}
 use Rattle.nqs_rules.proofs.RowFacts.{same_name, Keeps, row_is, row_kept_by, promise_is, promise_right, rows_kept, promises_kept}
 use Rattle.nqs_rules.proofs.RowChanges.{waits, queued_is}
-use Rattle.nqs_rules.proofs.QueuesOrder.{complex_kept, IsQueue, queue_is, queue_right}
+use Rattle.nqs_rules.proofs.QueuesOrder.{complex_kept, queue_is, queue_right}
 
 module _ {E : Type 0} where
   -- complexes

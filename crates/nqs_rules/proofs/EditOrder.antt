@@ -1,13 +1,13 @@
 -- The edits of users, devices and requests: a state in order stays so.
-use Rattle.std.proofs.Common.{◌≡◌, ℕ, ◌+◌, ◌<◌, ◌≤◌, Bool, true, false, cond, not, ◌&&◌, ◌||◌, ◌==◌, nat_lt, nat_le, List, [], ◌∷◌, ◌++◌, map, filter, find, length, Option, None, Some, is_ok, true≢false, refl, sym, ap, subst, ◌∙◌, arith, if◌then◌else◌}
-use Rattle.std.proofs.lemmas.Bool.{and_parts, and_from, leb-true, leb-false, le-leb, lt-ltb, not-true, not-false, not_from_false, or_parts}
+use Rattle.std.proofs.Common.{◌≡◌, ℕ, ◌+◌, ◌≤◌, true, false, not, nat_le, List, [], ◌∷◌, ◌++◌, map, find, length, Option, None, Some, true≢false, refl, sym, ap, ◌∙◌, arith}
+use Rattle.std.proofs.lemmas.Bool.{and_parts, leb-true, leb-false, le-leb, lt-ltb, not-true, not-false, not_from_false}
 use Rattle.std.proofs.lemmas.List.{length-append, length-map}
 use Rattle.std.proofs.lemmas.Option.{same_Some}
 use Rattle.std.specs.List.{list_any, list_all}
 use Rattle.nqs_types.specs.State.{State}
 use Rattle.nqs_types.specs.Ids.{name_eq, name_exact}
 use Rattle.nqs_types.specs.Table.{without_first}
-use Rattle.nqs_types.specs.Keys.{is_queue, is_row, is_device}
+use Rattle.nqs_types.specs.Keys.{is_queue}
 use Rattle.nqs_types.specs.declared.ids.Named.{Named}
 use Rattle.nqs_types.specs.declared.ids.RequestId.{RequestId}
 use Rattle.nqs_types.specs.declared.request.Row.{Row}
@@ -16,14 +16,13 @@ use Rattle.nqs_types.specs.declared.refusal.Refusal.TheVariants.{NoQueue, IsHeld
 use Rattle.nqs_types.specs.declared.queue.Access.{Access}
 use Rattle.nqs_types.specs.declared.queue.Access.TheVariants.{All, Users}
 use Rattle.nqs_types.specs.declared.queue.QueueDef.{QueueDef}
-use Rattle.nqs_types.specs.declared.queue.DeviceDef.{DeviceDef}
 use Rattle.nqs_types.specs.declared.edit.AccessEdit.{AccessEdit}
 use Rattle.nqs_types.specs.declared.edit.AccessEdit.TheVariants.{SetUnrestrictedAccess, SetNoAccess, AddUser, RemoveUser, AddManager, RemoveManager, AddOperator, RemoveOperator}
 use Rattle.nqs_types.specs.declared.edit.DevicesEdit.{DevicesEdit}
 use Rattle.nqs_types.specs.declared.edit.DevicesEdit.TheVariants.{CreateDevice, DeleteDevice, EnableDevice, DisableDevice, SetForms, AddDevice, RemoveDevice}
 use Rattle.nqs_types.specs.declared.edit.RowsEdit.{RowsEdit}
 use Rattle.nqs_types.specs.declared.edit.RowsEdit.TheVariants.{AbortQueue, HoldRequest, ReleaseRequest, MoveRequest, ModifyRequest}
-use Rattle.nqs_rules.specs.Tests.{passes, is_running, is_routing, is_unheld}
+use Rattle.nqs_rules.specs.Tests.{passes, is_routing, is_unheld}
 use Rattle.nqs_rules.specs.Causes.{Cause, cause}
 use Rattle.nqs_rules.specs.Find.{has_queue, find_queue, has_device, find_row, row_of, meant_request, meant_row}
 use Rattle.nqs_rules.specs.Access.{access_causes, access_edited, with_user, without_user, without_name, has_full_list, is_full, add_name_causes}
@@ -41,7 +40,7 @@ use Rattle.nqs_rules.proofs.RowFacts.{same_name}
 use Rattle.nqs_rules.proofs.RowsOrder.{no_offer, row_changed}
 use Rattle.nqs_rules.proofs.RowChanges.{idle_is, moved_right, priority_right}
 use Rattle.nqs_rules.proofs.RowKinds.{row_released, rows_aborted, row_moved}
-use Rattle.nqs_rules.proofs.QueuesOrder.{IsQueue, queue_is, queue_right, queue_changed}
+use Rattle.nqs_rules.proofs.QueuesOrder.{queue_is, queue_right, queue_changed}
 use Rattle.nqs_rules.proofs.DevicesOrder.{device_changed, device_added, device_deleted, with_staff}
 use Rattle.nqs_rules.proofs.ConfOrder.{Allows, none_holds, causes_behind}
 

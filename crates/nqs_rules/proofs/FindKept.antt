@@ -1,5 +1,5 @@
 -- What a test finds in a list stays found, where the list changes by what the test doesn't see.
-use Rattle.std.proofs.Common.{◌≡◌, Bool, true, false, cond, not, ◌&&◌, ◌||◌, List, [], ◌∷◌, ◌++◌, map, filter, find, Option, None, Some, true≢false, refl, sym, ap, ◌∙◌, if◌then◌else◌}
+use Rattle.std.proofs.Common.{◌≡◌, Bool, true, false, cond, List, [], ◌∷◌, map, filter, find, Option, None, Some, true≢false, refl, sym, ap, ◌∙◌, if◌then◌else◌}
 use Rattle.std.proofs.lemmas.Bool.{and_parts, and_from}
 use Rattle.std.specs.List.{list_all, filter_map, cons_option}
 use Rattle.std.specs.Option.{IfSome}

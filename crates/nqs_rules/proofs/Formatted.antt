@@ -1,23 +1,12 @@
 -- A host as it is formatted is in order.
-use Rattle.std.proofs.Common.{◌≡◌, ℕ, ◌+◌, ◌<◌, ◌≤◌, Bool, true, false, ◌&&◌, ◌==◌, nat_lt, nat_le, List, [], ◌∷◌, map, length, refl, arith}
-use Rattle.std.proofs.lemmas.Bool.{and_from, lt-ltb, le-leb, eq-eqb}
+use Rattle.std.proofs.Common.{◌≡◌, ℕ, ◌<◌, ◌≤◌, true, ◌==◌, nat_lt, nat_le, List, [], ◌∷◌, map, length, refl, arith}
+use Rattle.std.proofs.lemmas.Bool.{lt-ltb, le-leb, eq-eqb}
 use Rattle.std.proofs.lemmas.List.{length-map}
 use Rattle.std.specs.List.{list_all}
-use Rattle.nqs_types.specs.State.{State}
 use Rattle.nqs_types.specs.declared.ids.HostId.{HostId}
-use Rattle.nqs_types.specs.declared.request.Peer.{Peer}
 use Rattle.nqs_rules.specs.Format.{formatted, new_peer}
-use Rattle.nqs_rules.specs.InOrder.{IsInOrder, is_peer_right, is_site_right}
+use Rattle.nqs_rules.specs.InOrder.{IsInOrder, is_peer_right}
 use Rattle.nqs_rules.proofs.Chains.{chained}
-use Rattle.nqs_rules.proofs.RowKinds.{row_moved}
-use Rattle.nqs_rules.proofs.HandsOrder.{hand_added}
-use Rattle.nqs_rules.proofs.PeersOrder.{promise_added}
-use Rattle.nqs_rules.proofs.OutputsOrder.{outputs_added}
-use Rattle.nqs_rules.proofs.ConfOrder.{conf_order}
-use Rattle.nqs_rules.proofs.EditOrder.{rows_order}
-use Rattle.nqs_rules.proofs.StepFits.{command_fits}
-use Rattle.nqs_rules.proofs.RowChanges.{booted_right}
-use Rattle.nqs_rules.proofs.KeyFacts.{key_gone_behind}
 
 new_peers : (site : List (List ℕ)) → list_all is_peer_right (map (λ _. new_peer) site) ≡ true
 new_peers [] = refl

@@ -1,11 +1,10 @@
 -- The changes of handovers: a state in order stays so.
-use Rattle.std.proofs.Common.{◌≡◌, ℕ, ◌+◌, ◌-◌, ◌<◌, ◌≤◌, Bool, true, false, cond, not, ◌&&◌, ◌||◌, ◌==◌, nat_lt, nat_le, List, [], ◌∷◌, ◌++◌, map, filter, find, length, slice_get, Option, None, Some, option_map, true≢false, refl, sym, ap, subst, ◌∙◌, arith, if◌then◌else◌}
-use Rattle.std.proofs.lemmas.Bool.{and_parts, and_from, leb-true, leb-false, le-leb, lt-leb, ltb-true, lt-ltb, or_right, not-true, not-false, not_from_false, eqb-true, eq-eqb}
-use Rattle.std.proofs.lemmas.Bool.Decides.{nat_tests}
+use Rattle.std.proofs.Common.{◌≡◌, ℕ, ◌+◌, ◌-◌, Bool, true, false, cond, not, ◌||◌, ◌==◌, nat_lt, nat_le, List, [], ◌∷◌, ◌++◌, map, filter, find, length, Option, None, Some, option_map, true≢false, refl, sym, ap, ◌∙◌, arith, if◌then◌else◌}
+use Rattle.std.proofs.lemmas.Bool.{and_parts, and_from, leb-true, leb-false, le-leb, lt-leb, ltb-true, lt-ltb, not-true, not_from_false, eqb-true}
 use Rattle.std.proofs.lemmas.Option.{same_Some}
 use Rattle.std.specs.List.{list_any, list_all}
 use Rattle.nqs_types.specs.State.{State}
-use Rattle.nqs_types.specs.Ids.{id_eq, id_exact, peer_number_eq, peer_number_exact, hand_key, promise_key, number_exact}
+use Rattle.nqs_types.specs.Ids.{id_exact, peer_number_eq, peer_number_exact, hand_key, promise_key, number_exact}
 use Rattle.nqs_types.specs.Table.{change_first, without_first}
 use Rattle.nqs_types.specs.Keys.{is_hand, is_promise, is_row}
 use Rattle.nqs_types.specs.declared.ids.HostId.{HostId}
@@ -13,28 +12,27 @@ use Rattle.nqs_types.specs.declared.ids.RequestId.{RequestId}
 use Rattle.nqs_types.specs.declared.ids.Dest.{Dest}
 use Rattle.nqs_types.specs.declared.ids.PeerNumber.{PeerNumber}
 use Rattle.nqs_types.specs.declared.request.Row.{Row}
-use Rattle.nqs_types.specs.declared.request.RowState.TheVariants.{Queued, Routing, Running}
 use Rattle.nqs_types.specs.declared.request.Phase.TheVariants.{Offered}
 use Rattle.nqs_types.specs.declared.request.Hand.{Hand}
 use Rattle.nqs_types.specs.declared.request.Promise.{Promise}
 use Rattle.nqs_types.specs.declared.request.Carried.{Carried}
 use Rattle.nqs_types.specs.declared.request.Peer.{Peer}
-use Rattle.nqs_rules.specs.Tests.{passes, is_running, is_routing, is_queued, is_ready, is_offered, same_host, last_u64, last_seq}
-use Rattle.nqs_rules.specs.Find.{peer_number, has_queue, has_row, find_row, find_hand, find_promise, has_promise, find_peer, held_count}
+use Rattle.nqs_rules.specs.Tests.{passes, is_running, is_routing, is_ready, is_offered, same_host, last_u64, last_seq}
+use Rattle.nqs_rules.specs.Find.{has_queue, has_row, find_row, find_hand, find_peer, held_count}
 use Rattle.nqs_rules.specs.Edits.{change_row, change_peer}
 use Rattle.nqs_rules.specs.Rows.{arrivals_used}
 use Rattle.nqs_rules.specs.Routing.{is_hand_to, close, dests_for, refusal_noted}
 use Rattle.nqs_rules.specs.Sane.{is_sane_job, is_sane_id, is_sane_carried}
 use Rattle.nqs_rules.specs.Applied.{committed, new_row, routing_row, requeued_row, drop_hand, hand_opened, hand_committed, hand_refused, hand_silent, hands_silent, is_promise_of, drop_promise, add_promised, accepted, dropped, promised}
 use Rattle.nqs_rules.specs.Fits.{is_offered_hand, row_passes, hand_passes, may_hop, is_next, is_open_number, is_site_host, is_unknown, offer_full, are_offered}
-use Rattle.nqs_rules.specs.InOrder.{IsInOrder, are_distinct, same_number, arrivals_of, promisers, is_id_right, is_hand_given, is_peer_right, is_promise_open, is_row_right, is_hand_right, is_routing_row, is_promise_right}
-use Rattle.nqs_rules.proofs.Chains.{each, implied, differ, not_both}
+use Rattle.nqs_rules.specs.InOrder.{IsInOrder, same_number, is_id_right, is_hand_given, is_peer_right, is_promise_open, is_row_right, is_hand_right, is_routing_row, is_promise_right}
+use Rattle.nqs_rules.proofs.Chains.{each, implied}
 use Rattle.nqs_rules.proofs.Sublists.{filter_part}
 use Rattle.nqs_rules.proofs.ListFacts.{found_passes, list_all-found, list_all-weaker}
 use Rattle.nqs_rules.proofs.ListMaps.{list_any-map}
 use Rattle.nqs_rules.proofs.KeyFacts.{all_get, place_below, any_found, none_found, find-changed, find-without_other, gone_without, all_from_none, key_gone, key_gone_behind, length_without}
-use Rattle.nqs_rules.proofs.StateFacts.{IsSite, sites_are, parameters_are, short_are, keys_are}
-use Rattle.nqs_rules.proofs.RowFacts.{same_it, same_peer_number, Keeps, row_kept, IsRow, row_is, row_right, IsPromise, promise_is, promise_right}
+use Rattle.nqs_rules.proofs.StateFacts.{sites_are, parameters_are, short_are, keys_are}
+use Rattle.nqs_rules.proofs.RowFacts.{same_it, same_peer_number, Keeps, row_kept, IsRow, row_is, IsPromise, promise_is, promise_right}
 use Rattle.nqs_rules.proofs.RowsOrder.{IsHand, row_dropped, row_changed, row_added, hand_is, hand_right}
 use Rattle.nqs_rules.proofs.RowChanges.{new_row_right, noted_kept, queued_is, routing_is, ready_queued, routing_right, requeued_right, noted_right}
 use Rattle.nqs_rules.proofs.RowKinds.{found_row, unoffered, ready_unrouted, counted, arrival_new}

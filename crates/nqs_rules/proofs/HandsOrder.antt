@@ -1,6 +1,6 @@
 -- Changes of handovers: a state in order stays so.
-use Rattle.std.proofs.Common.{◌≡◌, ℕ, ◌+◌, ◌<◌, ◌≤◌, Bool, true, false, cond, not, ◌&&◌, ◌||◌, ◌==◌, nat_lt, nat_le, List, [], ◌∷◌, ◌++◌, map, filter, find, length, Option, None, Some, true≢false, suc, refl, sym, ap, subst, ◌∙◌, arith, if◌then◌else◌}
-use Rattle.std.proofs.lemmas.Bool.{and_parts, and_from, leb-true, le-leb, eqb-true, not-true, not_from_false, or_parts, or_from, and_left}
+use Rattle.std.proofs.Common.{◌≡◌, ◌+◌, Bool, true, false, cond, not, ◌&&◌, ◌==◌, nat_le, List, [], ◌∷◌, ◌++◌, map, filter, find, length, Some, suc, refl, sym, ap, ◌∙◌, arith, if◌then◌else◌}
+use Rattle.std.proofs.lemmas.Bool.{and_parts, and_from, leb-true, le-leb, not-true, not_from_false, or_parts, or_from, and_left}
 use Rattle.std.proofs.lemmas.List.{map-append, length-append}
 use Rattle.std.proofs.lemmas.List.Elements.{filter-append}
 use Rattle.std.proofs.lemmas.Option.{same_Some, none-some}
@@ -13,16 +13,15 @@ use Rattle.nqs_types.specs.declared.ids.HostId.{HostId}
 use Rattle.nqs_types.specs.declared.ids.RequestId.{RequestId}
 use Rattle.nqs_types.specs.declared.ids.PeerNumber.{PeerNumber}
 use Rattle.nqs_types.specs.declared.request.Hand.{Hand}
-use Rattle.nqs_rules.specs.Tests.{passes, is_offered, same_host}
+use Rattle.nqs_rules.specs.Tests.{is_offered, same_host}
 use Rattle.nqs_rules.specs.Routing.{is_hand_to}
-use Rattle.nqs_rules.specs.Applied.{committed, drop_hand, is_offered_for}
-use Rattle.nqs_rules.specs.Fits.{is_offered_hand, hand_passes}
-use Rattle.nqs_rules.specs.Find.{find_hand}
+use Rattle.nqs_rules.specs.Applied.{committed, drop_hand}
+use Rattle.nqs_rules.specs.Fits.{is_offered_hand}
 use Rattle.nqs_rules.specs.InOrder.{IsInOrder, are_distinct, offered_ids, hands_to, has_few_hands, is_hand_right}
-use Rattle.nqs_rules.proofs.Chains.{each, chained, implied, differ, not_both}
-use Rattle.nqs_rules.proofs.Sublists.{IsPart, skip, keep, whole, without_part, filter_part, filter_parts, map_part, part_length, part_all, part_distinct}
+use Rattle.nqs_rules.proofs.Chains.{differ}
+use Rattle.nqs_rules.proofs.Sublists.{IsPart, skip, keep, whole, without_part, filter_parts, map_part, part_length, part_all, part_distinct}
 use Rattle.nqs_rules.proofs.ListFacts.{list_all-weaker, list_all-changed, map-changed, list_all-found}
-use Rattle.nqs_rules.proofs.KeyFacts.{all-both, all-added, none_from_all, all_from_none, distinct-added, turned}
+use Rattle.nqs_rules.proofs.KeyFacts.{all-both, all-added, all_from_none, distinct-added, turned}
 use Rattle.nqs_rules.proofs.StateFacts.{parameters_kept, keys_are, keys_right}
 use Rattle.nqs_rules.proofs.RowFacts.{same_id, same_it, same_peer_number, Keeps, rows_kept, promises_kept}
 use Rattle.nqs_rules.proofs.RowsOrder.{is_no_offer_of, hand_is, hand_right}

@@ -1,11 +1,10 @@
 -- What a step makes fits its state: messages, and ends of jobs.
-use Rattle.std.proofs.Common.{◌≡◌, ℕ, ◌+◌, ◌<◌, ◌≤◌, Bool, true, false, cond, not, ◌&&◌, ◌||◌, ◌==◌, nat_lt, nat_le, List, [], ◌∷◌, ◌++◌, length, slice_get, Option, None, Some, Result, Ok, Err, is_ok, true≢false, zero, suc, refl, sym, ap, subst, ◌∙◌, arith, if◌then◌else◌}
-use Rattle.std.proofs.lemmas.Bool.{and_parts, and_from, or_parts, leb-true, leb-false, le-leb, ltb-true, lt-ltb, eqb-true, not-true, not-false, not_from_false}
+use Rattle.std.proofs.Common.{◌≡◌, ℕ, ◌+◌, ◌<◌, ◌≤◌, Bool, true, false, not, ◌&&◌, ◌||◌, ◌==◌, nat_lt, nat_le, List, [], ◌∷◌, ◌++◌, length, slice_get, Option, None, Some, Result, Ok, Err, is_ok, true≢false, zero, suc, refl, sym, ap, ◌∙◌, arith, if◌then◌else◌}
+use Rattle.std.proofs.lemmas.Bool.{and_parts, and_from, or_parts, leb-false, le-leb, ltb-true, lt-ltb, eqb-true, not-false, not_from_false}
 use Rattle.std.proofs.lemmas.Bool.Decides.{nat_tests}
 use Rattle.std.proofs.lemmas.List.Folds.{list_all-append}
 use Rattle.std.proofs.lemmas.List.{length-append}
 use Rattle.std.specs.List.{list_any, list_all}
-use Rattle.std.specs.Option.{IfSome}
 use Rattle.nqs_types.specs.State.{State}
 use Rattle.nqs_types.specs.Keys.{is_row, is_file, is_stage}
 use Rattle.nqs_types.specs.Table.{without_first}
@@ -21,8 +20,7 @@ use Rattle.nqs_types.specs.declared.request.Phase.{Phase}
 use Rattle.nqs_types.specs.declared.request.Phase.TheVariants.{Offered, Committed}
 use Rattle.nqs_types.specs.declared.refusal.Refusal.{Refusal}
 use Rattle.nqs_types.specs.declared.refusal.Refusal.TheVariants.{NoQueue, HostFull, NumbersUsed, RequestExists}
-use Rattle.nqs_types.specs.declared.change.Change.TheVariants.{Ended, Unlaunched, HandCommitted, HandRefused, HandDone, Promised, Accepted, Dropped, StageGot, StageGone, FileGone}
-use Rattle.nqs_types.specs.declared.message.Message.{Message}
+use Rattle.nqs_types.specs.declared.change.Change.TheVariants.{Unlaunched, Accepted, Dropped, StageGot, StageGone, FileGone}
 use Rattle.nqs_types.specs.declared.message.Body.{Body}
 use Rattle.nqs_types.specs.declared.message.Body.TheVariants as body
 use Rattle.nqs_types.specs.declared.event.Event.{Event}
@@ -33,19 +31,19 @@ use Rattle.nqs_rules.specs.Causes.{Cause, cause, first_refusal}
 use Rattle.nqs_rules.specs.Find.{peer_number, has_queue, find_queue, has_row, find_row, find_hand, has_promise, has_stage, find_peer}
 use Rattle.nqs_rules.specs.Rows.{causes_of, arrivals_used}
 use Rattle.nqs_rules.specs.Routing.{is_closed}
-use Rattle.nqs_rules.specs.Sane.{is_of_site, is_short_script, is_sane_carried, is_sane_job, has_path, is_sane_body, is_sane_message, is_sane_event}
+use Rattle.nqs_rules.specs.Sane.{is_of_site, is_short_script, is_sane_carried, is_sane_job, has_path, is_sane_body, is_sane_event}
 use Rattle.nqs_rules.specs.Fits.{is_offered_hand, is_committed_hand, is_open_number, is_new_stage, is_site_host, is_unknown, offer_full, runs}
-use Rattle.nqs_rules.specs.Stepped.{Stepped, quiet, says, makes, ready}
-use Rattle.nqs_rules.specs.Handover.{closes, was_given, send_abort, send_done, send_ready, send_commit, named_of, is_given_here, offer_entry_causes, offer_causes, offer_by, on_offer, ready_phase, ready_without, ready_with, on_ready, refused_phase, refused_with, on_refused, commit_without, on_commit, done_phase, done_with, on_done, on_abort}
-use Rattle.nqs_rules.specs.Stage.{Part, part_to, parts_of, has_left, numbered, first_number, kept_parts, parts_sent, on_end, is_got, send_staged, stage_taken, on_stage, due_of, on_staged, on_written}
-use Rattle.nqs_rules.specs.Step.{on_message, is_start, ended_by, unlaunched_by, then_ack, step}
+use Rattle.nqs_rules.specs.Stepped.{quiet, says, makes, ready}
+use Rattle.nqs_rules.specs.Handover.{closes, was_given, send_abort, send_done, send_ready, named_of, is_given_here, offer_entry_causes, offer_causes, offer_by, on_offer, ready_phase, ready_with, on_ready, refused_phase, refused_with, on_refused, on_commit, done_phase, done_with, on_done, on_abort}
+use Rattle.nqs_rules.specs.Stage.{Part, part_to, parts_of, has_left, numbered, first_number, kept_parts, on_end, is_got, send_staged, on_stage, due_of, on_staged, on_written}
+use Rattle.nqs_rules.specs.Step.{on_message, is_start, ended_by, unlaunched_by, step}
 use Rattle.nqs_rules.specs.InOrder.{IsInOrder, is_row_right}
-use Rattle.nqs_rules.proofs.Chains.{each, chained, differ}
+use Rattle.nqs_rules.proofs.Chains.{each, chained}
 use Rattle.nqs_rules.proofs.Sublists.{IsPart, none, skip, keep, part_all, part_length}
 use Rattle.nqs_rules.proofs.ListFacts.{list_all-found}
 use Rattle.nqs_rules.proofs.StateFacts.{sites_are}
 use Rattle.nqs_rules.proofs.RowFacts.{row_is}
-use Rattle.nqs_rules.proofs.ConfOrder.{Allows, none_holds, causes_behind}
+use Rattle.nqs_rules.proofs.ConfOrder.{none_holds, causes_behind}
 use Rattle.nqs_rules.proofs.StepFits.{Fitting, found_itself, passes_found, tick_fits, command_fits}
 
 -- outputs
@@ -111,11 +109,25 @@ module _ {E : Type 0} (s : State E) (h : IsInOrder s) where
           let parts = causes_behind first last (ap is_ok e) in
           let front = none_holds first parts.0 in
           let back = none_holds last parts.1 in
-          let known = or_parts (has_row c.id s) (is_given_here c.id s) front.0 in
-          (chained (has_queue queue s) (passes (is_open_number n) (find_peer peer s) ∷ not (has_promise peer n s) ∷ is_site_host c.id.host s ∷ is_unknown c.id s ∷ not (offer_full peer s) ∷ not (arrivals_used s) ∷ [])
-          (not-false (has_queue queue s) front.1.0, (not_passed (is_closed n) (is_open_number n) (find_peer peer s) (λ p e. not_from_false (is_closed n p) e) (peer_known peer of_site) opens, (not_from_false (has_promise peer n s) new, (host,
-          (and_from (not (has_row c.id s)) (not (same_host s.me c.id.host) || nat_le c.id.seq s.seq) (not_from_false (has_row c.id s) known.0) (given (same_host s.me c.id.host) known.1),
-          (not_from_false (offer_full peer s) back.0, (not_from_false (arrivals_used s) back.1.0, tt))))))), sane)
+          let known = or_parts (has_row c.id s) (is_given_here c.id s) front.0 in (
+            chained (has_queue queue s) (passes (is_open_number n) (find_peer peer s) ∷ not (has_promise peer n s) ∷ is_site_host c.id.host s ∷ is_unknown c.id s ∷ not (offer_full peer s) ∷ not (arrivals_used s) ∷ []) (
+              not-false (has_queue queue s) front.1.0,
+              (
+                not_passed (is_closed n) (is_open_number n) (find_peer peer s) (λ p e. not_from_false (is_closed n p) e) (peer_known peer of_site) opens,
+                (
+                  not_from_false (has_promise peer n s) new,
+                  (
+                    host,
+                    (
+                      and_from (not (has_row c.id s)) (not (same_host s.me c.id.host) || nat_le c.id.seq s.seq) (not_from_false (has_row c.id s) known.0) (given (same_host s.me c.id.host) known.1),
+                      (not_from_false (offer_full peer s) back.0, (not_from_false (arrivals_used s) back.1.0, tt)),
+                    ),
+                  ),
+                ),
+              ),
+            ),
+            sane,
+          )
         where
           given : (b : Bool) → (b && nat_lt s.seq c.id.seq) ≡ false → (not b || nat_le c.id.seq s.seq) ≡ true
           given true e = grind (arith, nat_tests)
@@ -214,9 +226,10 @@ module _ {E : Type 0} (s : State E) (h : IsInOrder s) where
           let parts = parts_sane r.job output error job in
           let few = parts.0 in
           let part = numbered_part (first_number s r.id) 0 (parts_of r.job output error) in
-          let fewer = part_length part in
-          (passes_found runs s r found (and_parts (is_running r.state) (r.starts == start) e).0,
-          and_from (nat_le (length (kept_parts s r output error)) 2) (list_all has_path (kept_parts s r output error)) (le-leb (length (kept_parts s r output error)) 2 (omega (arith, few, fewer))) (part_all has_path part parts.1))
+          let fewer = part_length part in (
+            passes_found runs s r found (and_parts (is_running r.state) (r.starts == start) e).0,
+            and_from (nat_le (length (kept_parts s r output error)) 2) (list_all has_path (kept_parts s r output error)) (le-leb (length (kept_parts s r output error)) 2 (omega (arith, few, fewer))) (part_all has_path part parts.1),
+          )
       by r found false e = tt
 
       of : (o : Option (Row E)) → find_row id s ≡ o → Fitting s (ended_by o start status output error s).change

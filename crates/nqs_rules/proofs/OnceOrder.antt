@@ -1,6 +1,6 @@
 -- No change that fits makes a queue list a device twice.
-use Rattle.std.proofs.Common.{◌≡◌, ℕ, ◌+◌, Bool, true, false, cond, not, ◌&&◌, ◌||◌, ◌==◌, nat_lt, List, [], ◌∷◌, ◌++◌, map, filter, find, Option, None, Some, true≢false, refl, sym, ap, ◌∙◌, if◌then◌else◌}
-use Rattle.std.specs.List.{list_any, list_all}
+use Rattle.std.proofs.Common.{◌≡◌, ℕ, ◌+◌, Bool, true, false, not, nat_lt, List, [], ◌∷◌, ◌++◌, find, Option, None, Some, refl, ap, ◌∙◌, if◌then◌else◌}
+use Rattle.std.specs.List.{list_all}
 use Rattle.nqs_types.specs.State.{State}
 use Rattle.nqs_types.specs.Ids.{name_eq}
 use Rattle.nqs_types.specs.Keys.{is_queue}
@@ -16,29 +16,29 @@ use Rattle.nqs_types.specs.declared.request.Stage.{Stage}
 use Rattle.nqs_types.specs.declared.request.FileOut.{FileOut}
 use Rattle.nqs_types.specs.declared.queue.QueueDef.{QueueDef}
 use Rattle.nqs_types.specs.declared.edit.ConfEdit.{ConfEdit}
-use Rattle.nqs_types.specs.declared.edit.ConfEdit.TheVariants.{CreateBatchQueue, CreateDeviceQueue, CreatePipeQueue, DeleteQueue, EnableQueue, DisableQueue, StartQueue, StopQueue, PurgeQueue, SetPriority, SetRunLimit, AddDestination, RemoveDestination, SetDefaultQueue, SetNoDefaultQueue, SetPatience, SetRetryWait}
+use Rattle.nqs_types.specs.declared.edit.ConfEdit.TheVariants.{CreateBatchQueue, CreateDeviceQueue, CreatePipeQueue, DeleteQueue, EnableQueue, DisableQueue, StartQueue, StopQueue, SetPriority, SetRunLimit, AddDestination, RemoveDestination}
 use Rattle.nqs_types.specs.declared.edit.LimitsEdit.{LimitsEdit}
-use Rattle.nqs_types.specs.declared.edit.LimitsEdit.TheVariants.{SetUserLimit, SetCpuLimit, SetMemoryLimit, CreateComplex, DeleteComplex, AddQueue, RemoveQueue, SetComplexLimit, SetGlobalLimit}
+use Rattle.nqs_types.specs.declared.edit.LimitsEdit.TheVariants.{SetUserLimit, SetCpuLimit, SetMemoryLimit}
 use Rattle.nqs_types.specs.declared.edit.AccessEdit.{AccessEdit}
-use Rattle.nqs_types.specs.declared.edit.AccessEdit.TheVariants.{SetUnrestrictedAccess, SetNoAccess, AddUser, RemoveUser, AddManager, RemoveManager, AddOperator, RemoveOperator}
+use Rattle.nqs_types.specs.declared.edit.AccessEdit.TheVariants.{SetUnrestrictedAccess, SetNoAccess, AddUser, RemoveUser}
 use Rattle.nqs_types.specs.declared.edit.DevicesEdit.{DevicesEdit}
-use Rattle.nqs_types.specs.declared.edit.DevicesEdit.TheVariants.{CreateDevice, DeleteDevice, EnableDevice, DisableDevice, SetForms, AddDevice, RemoveDevice}
+use Rattle.nqs_types.specs.declared.edit.DevicesEdit.TheVariants.{DeleteDevice, AddDevice, RemoveDevice}
 use Rattle.nqs_types.specs.declared.edit.RowsEdit.{RowsEdit}
 use Rattle.nqs_types.specs.declared.edit.RowsEdit.TheVariants.{AbortQueue, HoldRequest, ReleaseRequest, MoveRequest, ModifyRequest}
 use Rattle.nqs_types.specs.declared.edit.Edit.{Edit}
 use Rattle.nqs_types.specs.declared.edit.Edit.TheVariants.{Conf, Limits as LimitsOf, Access as AccessOf, Devices as DevicesOf, Rows as RowsOf}
 use Rattle.nqs_types.specs.declared.change.OutPart.{OutPart}
 use Rattle.nqs_types.specs.declared.change.Change.{Change}
-use Rattle.nqs_types.specs.declared.change.Change.TheVariants.{Site, Submitted, Deleted, Doomed, Started, Ended, Unlaunched, Boot, Edited, HandOpened, HandCommitted, HandRefused, HandsSilent, HandDone, Promised, Accepted, Dropped, MovedLocal, RefusedLocal, HeldFar, StageGot, StageGone, FileGone}
+use Rattle.nqs_types.specs.declared.change.Change.TheVariants.{Site, Ended, Edited, HandCommitted, HandRefused, HandsSilent, Accepted, StageGot}
 use Rattle.nqs_rules.specs.Tests.{same_host, last_u64}
-use Rattle.nqs_rules.specs.Edits.{change_queue, change_row, change_peer, drop_row}
+use Rattle.nqs_rules.specs.Edits.{change_queue, change_peer, drop_row}
 use Rattle.nqs_rules.specs.Find.{peer_number, has_row, find_hand, find_peer, find_promise, meant_dest, meant_request}
 use Rattle.nqs_rules.specs.Access.{access_edited}
 use Rattle.nqs_rules.specs.Conf.{conf_applied, conf_edited, with_dest, without_dest}
 use Rattle.nqs_rules.specs.Limits.{limits_applied, limits_edited}
 use Rattle.nqs_rules.specs.Devices.{devices_causes, devices_applied, with_device, without_device}
 use Rattle.nqs_rules.specs.Rows.{rows_applied, change_meant, held_row, released_row, moved_row, with_priority, next_arrival}
-use Rattle.nqs_rules.specs.Applied.{add_file, add_stage_to, add_stage, add_output, add_outputs, stage_counted, drop_hand, hand_committed, hand_refused, hand_silent, hands_silent, add_promised, drop_promise, accepted, stage_got, requeued_row, access_applied, edit_applied, applied}
+use Rattle.nqs_rules.specs.Applied.{add_file, add_stage_to, add_stage, add_output, add_outputs, stage_counted, hand_committed, hand_refused, hand_silent, hands_silent, drop_promise, accepted, requeued_row, access_applied, edit_applied, applied}
 use Rattle.nqs_rules.specs.Fits.{fits, edit_fits}
 use Rattle.nqs_rules.specs.InOrder.{are_distinct}
 use Rattle.nqs_rules.specs.DeviceLists.{lists_once, lists_devices_once}

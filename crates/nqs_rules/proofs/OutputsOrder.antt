@@ -1,7 +1,6 @@
 -- Changes of outputs: a state in order stays so.
-use Rattle.std.proofs.Common.{◌≡◌, ℕ, ◌+◌, ◌<◌, ◌≤◌, Bool, true, false, cond, not, ◌&&◌, ◌||◌, ◌==◌, nat_lt, nat_le, List, [], ◌∷◌, ◌++◌, map, length, slice_get, Option, None, Some, option_map, true≢false, zero, suc, refl, sym, ap, subst, ◌∙◌, arith, if◌then◌else◌}
-use Rattle.std.proofs.lemmas.Bool.{and_parts, and_from, leb-true, le-leb, ltb-true, lt-ltb, eqb-true, false_from_ne_true}
-use Rattle.std.proofs.lemmas.Bool.Decides.{nat_tests}
+use Rattle.std.proofs.Common.{◌≡◌, ℕ, ◌+◌, Bool, true, false, ◌&&◌, nat_lt, nat_le, List, [], ◌∷◌, ◌++◌, map, slice_get, Option, None, Some, option_map, true≢false, zero, suc, refl, sym, ap, ◌∙◌, arith, if◌then◌else◌}
+use Rattle.std.proofs.lemmas.Bool.{and_parts, and_from, le-leb, ltb-true, lt-ltb, eqb-true, false_from_ne_true}
 use Rattle.std.proofs.lemmas.List.{map-append}
 use Rattle.std.specs.List.{list_any, list_all}
 use Rattle.nqs_types.specs.State.{State}
@@ -21,15 +20,14 @@ use Rattle.nqs_rules.specs.Edits.{change_at, change_peer}
 use Rattle.nqs_rules.specs.Find.{find_peer, peer_number}
 use Rattle.nqs_rules.specs.Sane.{has_path}
 use Rattle.nqs_rules.specs.Applied.{add_file, stage_counted, add_stage_to, add_stage, add_output, add_outputs}
-use Rattle.std.proofs.lemmas.Option.{same_Some, none-some}
 use Rattle.nqs_rules.specs.InOrder.{IsInOrder, is_peer_right, are_distinct, same_number, is_given, is_stage_given, is_stage_right, is_file_right}
-use Rattle.nqs_rules.proofs.Sublists.{IsPart, without_part, map_part, part_all, part_distinct}
+use Rattle.nqs_rules.proofs.Sublists.{without_part, map_part, part_all, part_distinct}
 use Rattle.nqs_rules.proofs.ListFacts.{list_all-weaker}
 use Rattle.nqs_rules.proofs.ListMaps.{list_any-map}
 use Rattle.nqs_rules.proofs.KeyFacts.{all_get, all-added, none_from_all, distinct-added}
 use Rattle.nqs_rules.proofs.StateFacts.{default_kept, parameters_kept, parameters_are, parameters_right, keys_are, keys_right}
 use Rattle.nqs_rules.proofs.RowFacts.{same_it, same_peer_number, Keeps, rows_kept, promises_kept}
-use Rattle.nqs_rules.proofs.PeersOrder.{given_more, same_host_exact, peer_counted}
+use Rattle.nqs_rules.proofs.PeersOrder.{given_more, peer_counted}
 
 pub get-changed : {V : Type 0} (n : ℕ) (f : V → V) (vs : List V) → slice_get (change_at n f vs) n ≡ option_map f (slice_get vs n)
 get-changed n f [] = refl

@@ -1,13 +1,13 @@
 -- The default paths of a job's outputs are paths.
-use Rattle.std.proofs.Common.{◌≡◌, ℕ, ◌+◌, ◌<◌, ◌≤◌, ◌^◌, ◌%◌, Bool, true, false, cond, not, ◌&&◌, ◌||◌, ◌==◌, nat_lt, nat_le, List, [], ◌∷◌, ◌++◌, length, slice_index, true≢false, zero, suc, refl, sym, ap, ◌∙◌, arith}
+use Rattle.std.proofs.Common.{◌≡◌, ℕ, ◌+◌, ◌<◌, ◌≤◌, ◌^◌, ◌%◌, true, false, cond, not, ◌&&◌, ◌==◌, nat_le, List, [], ◌∷◌, ◌++◌, length, refl, ap, ◌∙◌, arith}
 use Rattle.std.proofs.lemmas.Bool.{and_parts, and_from, le-leb, leb-true, not-true, not_from_false, false_from_ne_true, or_from}
 use Rattle.std.proofs.lemmas.Bool.Decides.{nat_tests}
 use Rattle.std.proofs.lemmas.List.{length-append}
 use Rattle.std.proofs.lemmas.List.Folds.{list_all-append}
-use Rattle.std.specs.List.{list_any, list_all, slice_split, onto_first}
+use Rattle.std.specs.List.{list_any, list_all, onto_first}
 use Rattle.std.specs.Fmt.{decimal}
 use Rattle.std.proofs.lemmas.Fmt.{decimal_by_steps, length-decimal-le}
-use Rattle.nqs_types.specs.Ids.{name_eq, name_exact}
+use Rattle.nqs_types.specs.Ids.{name_exact}
 use Rattle.nqs_types.specs.Path.{is_visible, begins_with_slash, is_parent, components, has_parent, is_path}
 use Rattle.nqs_types.specs.declared.request.Job.{Job}
 use Rattle.nqs_rules.specs.Tests.{last_seq}
@@ -52,10 +52,16 @@ default_path name letter seq sane seen few =
     let all : list_all is_name_byte path ≡ true =
     list_all-append is_name_byte (name ++ 46 ∷ letter ∷ []) (decimal seq) ∙ and_from (list_all is_name_byte (name ++ 46 ∷ letter ∷ [])) (list_all is_name_byte (decimal seq))
     (list_all-append is_name_byte name (46 ∷ letter ∷ []) ∙ and_from (list_all is_name_byte name) (is_name_byte letter && true) k.1.1.0 (and_from (is_name_byte letter) true seen refl)) (digits_seen seq (omega arith)) in
-    chained (nat_le 1 (length path)) (nat_le (length path) 255 ∷ list_all is_visible path ∷ not (begins_with_slash path) ∷ not (has_parent path) ∷ [])
-    (le-leb 1 (length path) (omega (arith, size, front, two, some)), (le-leb (length path) 255 (omega (arith, size, front, two, short, digits)),
-    (list_all-weaker is_name_byte is_visible (λ b h. (and_parts (is_visible b) (not (b == 47)) h).0) path all,
-    (not_from_false (begins_with_slash path) (no_slash path all), (not_from_false (has_parent path) (no_parent path all (omega (arith, size, front, two, some))), tt)))))
+    chained (nat_le 1 (length path)) (nat_le (length path) 255 ∷ list_all is_visible path ∷ not (begins_with_slash path) ∷ not (has_parent path) ∷ []) (
+      le-leb 1 (length path) (omega (arith, size, front, two, some)),
+      (
+        le-leb (length path) 255 (omega (arith, size, front, two, short, digits)),
+        (
+          list_all-weaker is_name_byte is_visible (λ b h. (and_parts (is_visible b) (not (b == 47)) h).0) path all,
+          (not_from_false (begins_with_slash path) (no_slash path all), (not_from_false (has_parent path) (no_parent path all (omega (arith, size, front, two, some))), tt)),
+        ),
+      ),
+    )
 
 path_given : (path name : List ℕ) (letter seq : ℕ) → is_path_or_none path ≡ true → is_sane_name name ≡ true → is_name_byte letter ≡ true → seq ≤ last_seq → is_path (path_or path name letter seq) ≡ true
 path_given [] name letter seq asked sane seen few = default_path name letter seq sane seen few

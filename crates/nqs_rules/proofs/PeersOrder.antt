@@ -1,13 +1,10 @@
 -- Changes of peers and promises: a state in order stays so.
-use Rattle.std.proofs.Common.{◌≡◌, ℕ, ◌+◌, ◌-◌, ◌<◌, ◌≤◌, Bool, true, false, cond, not, ◌&&◌, ◌||◌, ◌==◌, nat_lt, nat_le, List, [], ◌∷◌, ◌++◌, map, filter, find, length, slice_get, Option, None, Some, true≢false, zero, suc, refl, sym, ap, subst, ◌∙◌, arith, if◌then◌else◌}
-use Rattle.std.proofs.lemmas.Bool.{and_parts, and_from, leb-true, le-leb, ltb-true, lt-ltb, eqb-true, not-true, not_from_false, or_parts, or_from, and_left}
-use Rattle.std.proofs.lemmas.Bool.Decides.{nat_tests}
+use Rattle.std.proofs.Common.{◌≡◌, ℕ, ◌+◌, ◌≤◌, Bool, true, false, not, ◌==◌, nat_lt, nat_le, List, [], ◌∷◌, ◌++◌, map, length, slice_get, Option, None, Some, true≢false, zero, suc, refl, sym, ap, ◌∙◌, arith}
+use Rattle.std.proofs.lemmas.Bool.{and_parts, and_from, leb-true, le-leb, ltb-true, lt-ltb, eqb-true, not-true, or_from, and_left}
 use Rattle.std.proofs.lemmas.List.{map-append, length-append, append_assoc}
-use Rattle.std.proofs.lemmas.List.Folds.{list_any-append}
-use Rattle.std.proofs.lemmas.Option.{same_Some, none-some}
 use Rattle.std.specs.List.{list_any, list_all}
 use Rattle.nqs_types.specs.State.{State}
-use Rattle.nqs_types.specs.Ids.{id_eq, peer_number_eq, peer_number_exact, promise_key, number_exact}
+use Rattle.nqs_types.specs.Ids.{peer_number_eq, peer_number_exact, promise_key, number_exact}
 use Rattle.nqs_types.specs.Table.{without_first}
 use Rattle.nqs_types.specs.Keys.{is_promise}
 use Rattle.nqs_types.specs.declared.ids.HostId.{HostId}
@@ -15,23 +12,20 @@ use Rattle.nqs_types.specs.declared.ids.PeerNumber.{PeerNumber}
 use Rattle.nqs_types.specs.declared.request.Hand.{Hand}
 use Rattle.nqs_types.specs.declared.request.Promise.{Promise}
 use Rattle.nqs_types.specs.declared.request.Peer.{Peer}
-use Rattle.nqs_types.specs.declared.request.Row.{Row}
 use Rattle.nqs_types.specs.declared.request.Stage.{Stage}
 use Rattle.nqs_types.specs.Path.{is_path}
-use Rattle.nqs_rules.specs.Tests.{passes, is_offered, is_queued, same_host}
-use Rattle.nqs_rules.specs.Routing.{is_closed, close}
+use Rattle.nqs_rules.specs.Tests.{passes, same_host}
+use Rattle.nqs_rules.specs.Routing.{close}
 use Rattle.nqs_rules.specs.Applied.{drop_promise, is_promise_of}
 use Rattle.nqs_rules.specs.Edits.{change_at, change_peer}
-use Rattle.nqs_rules.specs.Find.{find_peer, find_row, held_count}
-use Rattle.nqs_rules.specs.InOrder.{IsInOrder, are_distinct, same_number, arrivals_of, promisers, is_given, is_peer_right, is_hand_given, is_stage_given, is_promise_open, is_hand_right, is_promise_right, is_stage_right, is_row_right}
-use Rattle.nqs_rules.proofs.Chains.{each, chained, implied, differ}
-use Rattle.nqs_rules.proofs.Sublists.{IsPart, without_part, filter_part, map_part, part_behind, part_length, part_all, part_distinct}
+use Rattle.nqs_rules.specs.Find.{find_peer, held_count}
+use Rattle.nqs_rules.specs.InOrder.{IsInOrder, are_distinct, same_number, arrivals_of, promisers, is_given, is_peer_right, is_hand_given, is_stage_given, is_promise_open, is_hand_right, is_promise_right, is_stage_right}
+use Rattle.nqs_rules.proofs.Sublists.{IsPart, without_part, map_part, part_behind, part_length, part_all, part_distinct}
 use Rattle.nqs_rules.proofs.ListFacts.{list_all-weaker}
-use Rattle.nqs_rules.proofs.KeyFacts.{all-both, all-added, none_from_all, all_from_none, distinct-added, turned}
-use Rattle.nqs_rules.proofs.ListMaps.{list_any-map}
+use Rattle.nqs_rules.proofs.KeyFacts.{all-both, all-added, distinct-added}
 use Rattle.nqs_rules.proofs.StateFacts.{parameters_kept, sites_are, sites_right, short_are, short_right, keys_are, keys_right}
-use Rattle.nqs_rules.proofs.RowFacts.{same_it, same_peer_number, Keeps, IsPromise, promise_is, promise_right, row_kept, rows_kept, promises_kept}
-use Rattle.nqs_rules.proofs.RowsOrder.{IsHand, hand_is, hand_right}
+use Rattle.nqs_rules.proofs.RowFacts.{same_it, same_peer_number, Keeps, promise_is, promise_right, row_kept, rows_kept, promises_kept}
+use Rattle.nqs_rules.proofs.RowsOrder.{hand_is, hand_right}
 
 module _ {V : Type 0} where
   length-at : (n : ℕ) (f : V → V) (vs : List V) → length (change_at n f vs) ≡ length vs

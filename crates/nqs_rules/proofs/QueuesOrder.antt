@@ -1,11 +1,11 @@
 -- Changes of queues: a state in order stays so.
-use Rattle.std.proofs.Common.{◌≡◌, ℕ, ◌+◌, ◌<◌, ◌≤◌, Bool, true, false, cond, not, ◌&&◌, ◌||◌, ◌==◌, nat_lt, nat_le, List, [], ◌∷◌, ◌++◌, map, filter, find, length, Option, None, Some, true≢false, refl, sym, ap, subst, ◌∙◌, arith, if◌then◌else◌}
-use Rattle.std.proofs.lemmas.Bool.{and_parts, and_from, leb-true, le-leb, ltb-true, lt-ltb, ltb-false, not-true, not_from_false}
+use Rattle.std.proofs.Common.{◌≡◌, ℕ, ◌+◌, ◌≤◌, Bool, true, false, not, nat_lt, nat_le, List, [], ◌∷◌, ◌++◌, map, filter, find, length, Option, None, Some, refl, ap, ◌∙◌, arith, if◌then◌else◌}
+use Rattle.std.proofs.lemmas.Bool.{and_parts, and_from, leb-true, le-leb, ltb-true, ltb-false, not-true}
 use Rattle.std.proofs.lemmas.List.{map-append, length-append, length-map}
-use Rattle.std.specs.List.{list_any, list_all}
+use Rattle.std.specs.List.{list_all}
 use Rattle.nqs_types.specs.State.{State}
 use Rattle.nqs_types.specs.Ids.{name_eq, name_exact}
-use Rattle.nqs_types.specs.Table.{change_first, without_first}
+use Rattle.nqs_types.specs.Table.{without_first}
 use Rattle.nqs_types.specs.Keys.{is_queue}
 use Rattle.nqs_types.specs.declared.request.Row.{Row}
 use Rattle.nqs_types.specs.declared.request.Promise.{Promise}
@@ -18,12 +18,12 @@ use Rattle.nqs_rules.specs.Conf.{at_most, row_in, promise_in, held_in, without_m
 use Rattle.nqs_types.specs.declared.edit.ConfEdit.TheVariants.{DeleteQueue}
 use Rattle.nqs_rules.specs.InOrder.{IsInOrder, are_distinct, is_user_list_short, is_dest_right, is_default_there, is_queue_right, is_complex_right, is_device_there, is_row_right, is_promise_right}
 use Rattle.nqs_rules.proofs.Chains.{each, chained}
-use Rattle.nqs_rules.proofs.Sublists.{IsPart, without_part, map_part, part_length, part_all, part_distinct}
+use Rattle.nqs_rules.proofs.Sublists.{without_part, map_part, part_length, part_all, part_distinct}
 use Rattle.nqs_rules.proofs.ListFacts.{list_all-weaker, list_all-changed, list_all-found, map-changed}
 use Rattle.nqs_rules.proofs.ListMaps.{list_any-map}
 use Rattle.nqs_rules.proofs.KeyFacts.{all-both, none_passes, filter_all, all-added, any-before, any-changed, any-without_other, distinct-added, length_changed, turned}
 use Rattle.nqs_rules.proofs.FindKept.{all-mapped, map-kept}
-use Rattle.nqs_rules.proofs.StateFacts.{parameters_kept, default_kept, parameters_are, parameters_right, short_are, short_right, keys_are, keys_right}
+use Rattle.nqs_rules.proofs.StateFacts.{parameters_kept, parameters_are, parameters_right, short_are, short_right, keys_are, keys_right}
 use Rattle.nqs_rules.proofs.RowFacts.{same_name, Keeps, row_is, row_kept_by, promise_is, promise_right, rows_kept, promises_kept}
 
 module _ {E : Type 0} where

@@ -1,8 +1,8 @@
 -- What each change makes of one row: a right row stays right.
-use Rattle.std.proofs.Common.{◌≡◌, ℕ, ◌+◌, ◌≤◌, Bool, true, false, cond, not, ◌&&◌, ◌||◌, ◌==◌, nat_lt, nat_le, List, [], ◌∷◌, ◌++◌, map, filter, length, Option, None, Some, true≢false, refl, sym, ap, subst, ◌∙◌, arith, if◌then◌else◌}
-use Rattle.std.proofs.lemmas.Bool.{and_parts, and_from, leb-true, le-leb, ltb-true, lt-ltb, eqb-true, eq-eqb}
+use Rattle.std.proofs.Common.{◌≡◌, ℕ, ◌+◌, Bool, true, false, not, ◌&&◌, ◌==◌, nat_lt, nat_le, List, [], ◌∷◌, ◌++◌, Option, None, Some, true≢false, refl, sym, ap, subst, ◌∙◌, arith, if◌then◌else◌}
+use Rattle.std.proofs.lemmas.Bool.{and_parts, and_from, eqb-true, eq-eqb}
 use Rattle.std.proofs.lemmas.Bool.Decides.{nat_tests}
-use Rattle.std.specs.List.{list_any, list_all}
+use Rattle.std.specs.List.{list_all}
 use Rattle.std.specs.Option.{IfSome}
 use Rattle.nqs_types.specs.State.{State}
 use Rattle.nqs_types.specs.Path.{is_path}
@@ -16,13 +16,13 @@ use Rattle.nqs_types.specs.declared.request.RowState.{RowState}
 use Rattle.nqs_types.specs.declared.request.RowState.TheVariants.{Queued, Routing, Running}
 use Rattle.nqs_rules.specs.Tests.{is_running, is_routing, is_queued, is_ready, is_unheld}
 use Rattle.nqs_rules.specs.Find.{has_queue}
-use Rattle.nqs_rules.specs.Fits.{may_hop, is_site_host, is_idle, runs}
-use Rattle.nqs_rules.specs.Rows.{doomed_in, released_row, moved_row, with_priority}
+use Rattle.nqs_rules.specs.Fits.{is_site_host}
+use Rattle.nqs_rules.specs.Rows.{doomed_in, released_row, with_priority}
 use Rattle.nqs_rules.specs.Sane.{is_sane_job}
 use Rattle.nqs_rules.specs.Routing.{is_present, with_refusal, all_refused, held_where, refusal_noted}
-use Rattle.nqs_rules.specs.Applied.{new_row, started_row, may_start_again, lost_row, booted_row, routing_row, requeued_row, moved_local}
+use Rattle.nqs_rules.specs.Applied.{new_row, started_row, may_start_again, lost_row, booted_row, routing_row, requeued_row}
 use Rattle.nqs_rules.specs.InOrder.{is_id_right, is_id_given, is_device_there, is_refused_right, has_no_device, is_count_right, is_hop_right, is_row_right}
-use Rattle.nqs_rules.proofs.Chains.{each, chained, differ}
+use Rattle.nqs_rules.proofs.Chains.{each, chained}
 use Rattle.nqs_rules.proofs.Sublists.{filter_part, part_all}
 use Rattle.nqs_rules.proofs.KeyFacts.{all-added}
 use Rattle.nqs_rules.proofs.RowFacts.{IsRow, row_is, row_right}

@@ -1,21 +1,18 @@
 -- What a row in order needs of its host, and that it stays so where the host keeps that.
-use Rattle.std.proofs.Common.{◌≡◌, ℕ, ◌+◌, ◌≤◌, Bool, true, false, cond, not, ◌&&◌, ◌||◌, ◌==◌, nat_lt, nat_le, List, [], ◌∷◌, ◌++◌, map, find, length, Option, None, Some, true≢false, refl, sym, ap, subst, ◌∙◌, arith, if◌then◌else◌}
-use Rattle.std.proofs.lemmas.Bool.{and_parts, and_from, leb-true, le-leb, eqb-true, not-true, not_from_false}
-use Rattle.std.proofs.lemmas.Bool.Decides.{nat_tests}
-use Rattle.std.specs.List.{list_any, list_all}
+use Rattle.std.proofs.Common.{◌≡◌, ℕ, ◌≤◌, Bool, true, not, ◌&&◌, ◌||◌, ◌==◌, nat_lt, nat_le, List, [], ◌∷◌, length, Option, None, Some, refl, sym, subst, ◌∙◌, arith}
+use Rattle.std.proofs.lemmas.Bool.{and_from, leb-true, le-leb}
+use Rattle.std.specs.List.{list_all}
 use Rattle.nqs_types.specs.State.{State}
 use Rattle.nqs_types.specs.Ids.{name_eq, id_eq, peer_number_eq}
 use Rattle.std.proofs.lemmas.Cmp.{nat_eq_equiv, nat_list_eq_equiv}
 use Rattle.nqs_types.specs.declared.ids.PeerNumber.{PeerNumber}
-use Rattle.nqs_types.specs.declared.ids.HostId.{HostId}
 use Rattle.nqs_types.specs.declared.ids.RequestId.{RequestId}
 use Rattle.nqs_types.specs.declared.request.Row.{Row}
 use Rattle.nqs_types.specs.declared.request.Promise.{Promise}
-use Rattle.nqs_rules.specs.Tests.{passes, is_running, is_routing, is_queued, same_host}
+use Rattle.nqs_rules.specs.Tests.{passes, is_queued, same_host}
 use Rattle.nqs_rules.specs.Find.{has_queue, has_device, find_peer}
-use Rattle.nqs_rules.specs.Fits.{is_site_host}
 use Rattle.nqs_rules.specs.Sane.{is_sane_job, is_sane_id}
-use Rattle.nqs_rules.specs.InOrder.{is_id_right, is_id_given, is_device_there, is_refused_right, has_no_device, is_count_right, is_hop_right, is_row_right, is_promise_right, is_promise_open}
+use Rattle.nqs_rules.specs.InOrder.{is_id_right, is_id_given, is_device_there, is_refused_right, is_count_right, is_hop_right, is_row_right, is_promise_right, is_promise_open}
 use Rattle.nqs_rules.proofs.Chains.{each, chained, imply}
 use Rattle.nqs_rules.proofs.ListFacts.{list_all-weaker}
 

@@ -1,6 +1,6 @@
 -- The changes of rows, and what counts requests: a state in order stays so.
-use Rattle.std.proofs.Common.{◌≡◌, ℕ, ◌+◌, ◌<◌, ◌≤◌, Bool, true, false, cond, not, ◌&&◌, ◌||◌, ◌==◌, nat_lt, nat_le, List, [], ◌∷◌, ◌++◌, map, filter, find, length, Option, None, Some, true≢false, refl, sym, ap, subst, ◌∙◌, arith, if◌then◌else◌}
-use Rattle.std.proofs.lemmas.Bool.{and_parts, and_from, leb-true, leb-false, le-leb, ltb-true, lt-ltb, eqb-true, not-true, not_from_false, false_from_ne_true, or_from}
+use Rattle.std.proofs.Common.{◌≡◌, ℕ, ◌+◌, ◌≤◌, Bool, true, false, not, ◌&&◌, ◌||◌, ◌==◌, nat_le, List, ◌++◌, map, filter, length, Option, None, Some, true≢false, refl, sym, ap, ◌∙◌, arith, if◌then◌else◌}
+use Rattle.std.proofs.lemmas.Bool.{and_parts, leb-true, leb-false, le-leb, not-true, not_from_false, false_from_ne_true, or_from}
 use Rattle.std.proofs.lemmas.Bool.Decides.{nat_tests}
 use Rattle.std.proofs.lemmas.List.{length-map}
 use Rattle.std.proofs.lemmas.List.Folds.{list_any-append}
@@ -11,28 +11,24 @@ use Rattle.nqs_types.specs.Ids.{name_eq, id_eq, id_exact, number_exact}
 use Rattle.nqs_types.specs.Table.{change_first}
 use Rattle.nqs_types.specs.Keys.{is_row}
 use Rattle.nqs_types.specs.declared.ids.RequestId.{RequestId}
-use Rattle.nqs_types.specs.declared.request.Job.{Job}
-use Rattle.nqs_types.specs.declared.request.Carried.{Carried}
 use Rattle.nqs_types.specs.declared.request.Row.{Row}
-use Rattle.nqs_types.specs.declared.request.Promise.{Promise}
 use Rattle.nqs_rules.specs.Tests.{passes, is_running, is_routing, is_queued, is_ready, is_unheld, same_host, last_u64, last_seq}
-use Rattle.nqs_rules.specs.Find.{find_row, has_row, has_queue, has_device, held_count}
-use Rattle.nqs_rules.specs.Fits.{row_passes, runs, is_idle, may_hop, is_site_host}
-use Rattle.nqs_rules.specs.Edits.{change_row, drop_row}
+use Rattle.nqs_rules.specs.Find.{find_row, has_row}
+use Rattle.nqs_rules.specs.Fits.{row_passes}
+use Rattle.nqs_rules.specs.Edits.{change_row}
 use Rattle.nqs_rules.specs.Conf.{is_queued_in}
 use Rattle.nqs_rules.specs.Rows.{doomed_in, released_row, next_arrival, arrivals_used}
-use Rattle.nqs_rules.specs.Applied.{booted_row, lost_row, may_start_again, new_row, next_id}
-use Rattle.nqs_rules.specs.Sane.{is_sane_job, is_sane_id}
+use Rattle.nqs_rules.specs.Applied.{booted_row, lost_row, may_start_again, next_id}
 use Rattle.nqs_rules.specs.InOrder.{IsInOrder, are_distinct, same_number, arrivals_of, is_routing_row, is_row_right, is_promise_right}
-use Rattle.nqs_rules.proofs.Chains.{implied, differ}
+use Rattle.nqs_rules.proofs.Chains.{implied}
 use Rattle.nqs_rules.proofs.Sublists.{IsPart, filter_part, filter_map_part, map_part, part_before, part_length, part_all, part_distinct}
-use Rattle.nqs_rules.proofs.ListFacts.{map-changed, found_passes, list_all-found}
+use Rattle.nqs_rules.proofs.ListFacts.{map-changed}
 use Rattle.nqs_rules.proofs.ListMaps.{list_any-map}
 use Rattle.nqs_rules.proofs.KeyFacts.{none_from_all, distinct-renamed}
 use Rattle.nqs_rules.proofs.FindKept.{find-filter_kept, find-filter_map_kept, find-map_kept, find-changed_kept, all-filter_map, all-mapped, map-kept}
-use Rattle.nqs_rules.proofs.StateFacts.{default_kept, sites_are, parameters_are, parameters_right, short_are, keys_are}
-use Rattle.nqs_rules.proofs.RowFacts.{same_id, same_it, Keeps, IsRow, row_is, row_right, IsPromise, promise_is, rows_kept, promises_kept}
-use Rattle.nqs_rules.proofs.RowsOrder.{is_no_offer_of, with_rows, no_offer, still_stand, row_dropped, changed_with, others_stand, others_found}
+use Rattle.nqs_rules.proofs.StateFacts.{default_kept, parameters_are, parameters_right, short_are, keys_are}
+use Rattle.nqs_rules.proofs.RowFacts.{same_it, Keeps, row_is, promise_is, rows_kept, promises_kept}
+use Rattle.nqs_rules.proofs.RowsOrder.{is_no_offer_of, with_rows, no_offer, still_stand, changed_with, others_stand, others_found}
 use Rattle.nqs_rules.proofs.RowChanges.{queued_is, routing_is, running_is, doomed_in_right, booted_right, released_right}
 
 module _ {E : Type 0} where

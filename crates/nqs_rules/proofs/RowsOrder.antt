@@ -1,9 +1,8 @@
 -- Changes of rows: a state in order stays so.
-use Rattle.std.proofs.Common.{◌≡◌, ℕ, ◌+◌, ◌≤◌, Bool, true, false, cond, not, ◌&&◌, ◌||◌, ◌==◌, nat_lt, nat_le, List, [], ◌∷◌, ◌++◌, map, filter, find, length, Option, None, Some, true≢false, refl, sym, ap, subst, ◌∙◌, arith, if◌then◌else◌}
-use Rattle.std.proofs.lemmas.Bool.{and_parts, and_from, leb-true, le-leb, not-true, not_from_false, false_from_ne_true}
+use Rattle.std.proofs.Common.{◌≡◌, ◌+◌, Bool, true, false, not, ◌&&◌, ◌||◌, nat_lt, nat_le, List, [], ◌∷◌, ◌++◌, map, find, length, Some, true≢false, refl, sym, ap, ◌∙◌, arith}
+use Rattle.std.proofs.lemmas.Bool.{leb-true, le-leb, not-true}
 use Rattle.std.proofs.lemmas.Bool.Decides.{nat_tests}
 use Rattle.std.proofs.lemmas.List.{map-append, length-append}
-use Rattle.std.proofs.lemmas.List.Folds.{list_any-append}
 use Rattle.std.specs.List.{list_any, list_all}
 use Rattle.nqs_types.specs.State.{State}
 use Rattle.nqs_types.specs.Ids.{id_eq, id_exact, number_exact}
@@ -11,17 +10,15 @@ use Rattle.nqs_types.specs.Table.{change_first, without_first}
 use Rattle.nqs_types.specs.Keys.{is_row}
 use Rattle.nqs_types.specs.declared.ids.RequestId.{RequestId}
 use Rattle.nqs_types.specs.declared.request.Row.{Row}
-use Rattle.nqs_types.specs.declared.request.Promise.{Promise}
 use Rattle.nqs_types.specs.declared.request.Hand.{Hand}
 use Rattle.nqs_rules.specs.Tests.{passes, is_offered, is_routing}
 use Rattle.nqs_rules.specs.Find.{find_row, find_peer, has_row, held_count}
 use Rattle.nqs_rules.specs.Applied.{is_offered_for}
-use Rattle.nqs_rules.specs.Fits.{row_passes}
 use Rattle.nqs_rules.specs.Edits.{change_row, drop_row}
 use Rattle.nqs_rules.specs.InOrder.{IsInOrder, are_distinct, same_number, arrivals_of, is_id_right, is_hand_given, is_hand_right, is_routing_row, is_row_right}
-use Rattle.nqs_rules.proofs.Chains.{each, chained, imply, implied, differ, not_both}
-use Rattle.nqs_rules.proofs.Sublists.{IsPart, without_part, map_part, part_before, part_length, part_all, part_distinct}
-use Rattle.nqs_rules.proofs.ListFacts.{list_all-found, list_all-weaker, list_all-changed, map-changed, found_passes}
+use Rattle.nqs_rules.proofs.Chains.{each, chained, imply, implied, not_both}
+use Rattle.nqs_rules.proofs.Sublists.{without_part, map_part, part_before, part_length, part_all, part_distinct}
+use Rattle.nqs_rules.proofs.ListFacts.{list_all-found, list_all-weaker, list_all-changed, map-changed}
 use Rattle.nqs_rules.proofs.ListMaps.{list_any-map}
 use Rattle.nqs_rules.proofs.KeyFacts.{all-both, all-added, find-before, turned, distinct-added, distinct-between, find-without_other, find-changed_other, length_changed}
 use Rattle.nqs_rules.proofs.StateFacts.{parameters_kept, short_are, short_right, keys_are, keys_right}

@@ -1,13 +1,9 @@
 -- What a start makes fits its state.
-use Rattle.std.proofs.Common.{◌≡◌, ℕ, Bool, true, nat_le, List, [], map, length, Option, None, Some, option_map, refl, sym, ap, subst, ◌∙◌, if◌then◌else◌, nat_lt, false, arith}
-use Rattle.std.proofs.lemmas.Bool.Decides.{nat_tests}
+use Rattle.std.proofs.Common.{◌≡◌, ℕ, nat_le, List, [], length, Option, None, Some, option_map, refl, sym, ap, subst, ◌∙◌}
 use Rattle.std.proofs.lemmas.Simd.{map-map}
-use Rattle.std.specs.List.{list_all}
 use Rattle.std.specs.Option.{IfSome}
-use Rattle.nqs_types.specs.State.{State, Plain}
+use Rattle.nqs_types.specs.State.{State}
 use Rattle.nqs_types.specs.Ids.{id_eq}
-use Rattle.nqs_types.specs.declared.request.Row.{Row}
-use Rattle.nqs_rules.specs.Tests.{is_routing}
 use Rattle.nqs_rules.specs.Plain.{map_row, map_state}
 use Rattle.nqs_rules.specs.Start.{start}
 use Rattle.nqs_rules.specs.Stepped.{Stepped, map_stepped}

@@ -9,7 +9,6 @@ use Rattle.std.specs.Option.{IfSome, option_and_then}
 use Rattle.nqs_types.specs.Ids.{name_eq, id_eq, name_exact, id_exact}
 use Rattle.nqs_types.specs.Keys.{is_row, is_device}
 use Rattle.nqs_types.specs.State.{Plain}
-use Rattle.nqs_types.specs.declared.ids.RequestId.{RequestId}
 use Rattle.nqs_types.specs.declared.ids.Dest.{Dest}
 use Rattle.nqs_types.specs.declared.request.Peer.{Peer}
 use Rattle.nqs_types.specs.declared.queue.Kind.{Kind}
@@ -221,9 +220,11 @@ module _ (now : ℕ) (s : Plain) (steady : IsSteady s) (x : Stepped (List ℕ)) 
 
         by : (o : Option Peer) → find_peer tried.value.host s ≡ o → opened_with o tried.value now s r ≡ x → IsStart s x
         by None known e = absurd (true≢false (sym parts.1 ∙ ap (passes (is_over_wait now)) known))
-        by (Some peer) known e = begins (HandOpened tried.value.host peer.next r.id tried.value.queue now) (opened_with (Some peer) tried.value now s r) refl e refl
-            (chained (row_passes may_hop r.id s) (passes (is_next peer.next) (find_peer tried.value.host s) ∷ not (list_any (is_hand_to tried.value.host) s.hands) ∷ [])
-            (may_go hop, (ap (passes (is_next peer.next)) known ∙ and_from (peer.next == peer.next) (nat_lt peer.next last_u64) (nat_eq_equiv.refl peer.next) (sym (ap (passes has_number_left) known) ∙ open_to.1), (open_to.0, tt))), refl)
+        by (Some peer) known e = begins (HandOpened tried.value.host peer.next r.id tried.value.queue now) (opened_with (Some peer) tried.value now s r) refl e refl (
+          chained (row_passes may_hop r.id s) (passes (is_next peer.next) (find_peer tried.value.host s) ∷ not (list_any (is_hand_to tried.value.host) s.hands) ∷ [])
+              (may_go hop, (ap (passes (is_next peer.next)) known ∙ and_from (peer.next == peer.next) (nat_lt peer.next last_u64) (nat_eq_equiv.refl peer.next) (sym (ap (passes has_number_left) known) ∙ open_to.1), (open_to.0, tt))),
+          refl,
+        )
 
 -- what starts is a start of the picked row
 pub start_is : (now : ℕ) (s : Plain) (x : Stepped (List ℕ)) → IsSteady s → start now s ≡ Some x → IsStart s x

@@ -1,39 +1,36 @@
 -- What a step makes fits its state: commands.
-use Rattle.std.proofs.Common.{◌≡◌, ℕ, ◌+◌, ◌<◌, ◌≤◌, Bool, true, false, cond, not, ◌&&◌, ◌||◌, ◌==◌, nat_lt, nat_le, List, [], ◌∷◌, ◌++◌, map, filter, find, length, slice_get, Option, None, Some, Result, Ok, Err, is_ok, true≢false, zero, suc, refl, sym, ap, subst, ◌∙◌, arith, if◌then◌else◌}
-use Rattle.std.proofs.lemmas.Bool.{and_parts, and_from, or_parts, or_right, leb-true, leb-false, le-leb, ltb-true, lt-ltb, not-true, not-false, not_from_false}
-use Rattle.std.proofs.lemmas.Option.{none-some}
-use Rattle.std.specs.List.{list_any, list_all}
+use Rattle.std.proofs.Common.{◌≡◌, ℕ, ◌+◌, Bool, true, false, not, ◌&&◌, ◌||◌, nat_lt, nat_le, List, [], ◌∷◌, filter, slice_get, Option, None, Some, Result, Ok, Err, is_ok, suc, refl, sym, ap, ◌∙◌, arith, if◌then◌else◌}
+use Rattle.std.proofs.lemmas.Bool.{and_parts, and_from, or_parts, or_right, leb-false, lt-ltb, not-false, not_from_false}
+use Rattle.std.specs.List.{list_all}
 use Rattle.std.specs.Option.{IfSome}
 use Rattle.nqs_types.specs.State.{State}
-use Rattle.nqs_types.specs.Ids.{id_eq, id_exact, peer_number_eq, peer_number_exact, hand_key}
-use Rattle.nqs_types.specs.Keys.{is_row, is_hand}
-use Rattle.nqs_types.specs.declared.ids.HostId.{HostId}
+use Rattle.nqs_types.specs.Ids.{id_exact, peer_number_eq, peer_number_exact, hand_key}
+use Rattle.nqs_types.specs.Keys.{is_row}
 use Rattle.nqs_types.specs.declared.ids.Named.{Named}
 use Rattle.nqs_types.specs.declared.ids.RequestId.{RequestId}
 use Rattle.nqs_types.specs.declared.ids.PeerNumber.{PeerNumber}
 use Rattle.nqs_types.specs.declared.request.Row.{Row}
 use Rattle.nqs_types.specs.declared.request.Hand.{Hand}
 use Rattle.nqs_types.specs.declared.refusal.Refusal.{Refusal}
-use Rattle.nqs_types.specs.declared.refusal.Refusal.TheVariants.{NoQueue, NoDefault, HostFull, NumbersUsed}
-use Rattle.nqs_types.specs.declared.edit.Edit.{Edit}
+use Rattle.nqs_types.specs.declared.refusal.Refusal.TheVariants.{NoQueue, HostFull, NumbersUsed}
 use Rattle.nqs_types.specs.declared.change.Change.{Change}
-use Rattle.nqs_types.specs.declared.change.Change.TheVariants.{Submitted, Deleted, Doomed, Edited, HandsSilent}
+use Rattle.nqs_types.specs.declared.change.Change.TheVariants.{Deleted, Doomed, Edited}
 use Rattle.nqs_types.specs.declared.event.Submission.{Submission}
 use Rattle.nqs_types.specs.declared.event.Command.{Command}
 use Rattle.nqs_types.specs.declared.event.Command.TheVariants as command
 use Rattle.nqs_types.specs.declared.event.Reply.TheVariants as reply
-use Rattle.nqs_rules.specs.Tests.{passes, is_running, is_offered, last_u64, last_seq}
+use Rattle.nqs_rules.specs.Tests.{passes, is_running, is_offered, last_seq}
 use Rattle.nqs_rules.specs.Causes.{Cause, cause, first_refusal}
-use Rattle.nqs_rules.specs.Find.{peer_number, has_queue, find_queue, find_row, find_hand, row_of, meant_request, meant_row}
+use Rattle.nqs_rules.specs.Find.{peer_number, has_queue, find_queue, find_row, row_of, meant_request, meant_row}
 use Rattle.nqs_rules.specs.Access.{rank, command_causes}
 use Rattle.nqs_rules.specs.Rows.{queue_meant, causes_of, queue_entry_causes, submit_causes_at, delete_causes, is_host_full, numbers_used, arrivals_used}
-use Rattle.nqs_rules.specs.Sane.{is_sane_edit, is_asked_job, is_short_script, is_sane_command, is_sane_change}
+use Rattle.nqs_rules.specs.Sane.{is_asked_job, is_short_script, is_sane_command, is_sane_change}
 use Rattle.nqs_rules.specs.Fits.{fits, edit_causes, is_offered_hand, hand_passes, runs, is_idle, row_passes}
 use Rattle.nqs_rules.specs.Stepped.{Stepped, makes}
 use Rattle.nqs_rules.specs.Handover.{later, is_silent, silent_hands, silence}
-use Rattle.nqs_rules.specs.Step.{Asker, reply_to, answer_to, kill, kills_of, stat_causes, refuse, unless_refused, submit_to, on_submit, delete_row, delete_meant, on_delete, on_edit, on_allowed, on_command, ticked, completed}
+use Rattle.nqs_rules.specs.Step.{Asker, reply_to, answer_to, kill, kills_of, stat_causes, unless_refused, submit_to, on_submit, delete_row, delete_meant, on_delete, on_allowed, on_command, ticked}
 use Rattle.nqs_rules.specs.Text.{stat_lines}
-use Rattle.nqs_rules.specs.InOrder.{IsInOrder, are_distinct}
+use Rattle.nqs_rules.specs.InOrder.{IsInOrder}
 use Rattle.nqs_rules.proofs.Chains.{chained, implied}
 use Rattle.nqs_rules.proofs.KeyFacts.{filter_all}
 use Rattle.nqs_rules.proofs.ListFacts.{found_passes, found_again}
@@ -80,9 +77,10 @@ module _ {E : Type 0} where
             let there = not-false (has_queue q s) (none_holds first parts.0).0 in
             let room = none_holds last parts.1 in
             let used = or_parts (nat_le last_seq s.seq) (arrivals_used s) room.1.0 in
-            let below = leb-false last_seq s.seq used.0 in
-            (chained (has_queue q s) (not (is_host_full s) ∷ nat_lt s.seq last_seq ∷ not (arrivals_used s) ∷ []) (there, (not_from_false (is_host_full s) room.0, (lt-ltb s.seq last_seq (omega (arith, below)), (not_from_false (arrivals_used s) used.1, tt)))),
-            completed_sane (s.seq + 1) sub.job (omega (arith, below)) asked)
+            let below = leb-false last_seq s.seq used.0 in (
+              chained (has_queue q s) (not (is_host_full s) ∷ nat_lt s.seq last_seq ∷ not (arrivals_used s) ∷ []) (there, (not_from_false (is_host_full s) room.0, (lt-ltb s.seq last_seq (omega (arith, below)), (not_from_false (arrivals_used s) used.1, tt)))),
+              completed_sane (s.seq + 1) sub.job (omega (arith, below)) asked,
+            )
 
         of : (o : Option (List ℕ)) → Fitting s (unless_refused a (first_refusal (submit_causes_at sub.job o s)) (submit_to a sub s o)).change
         of None = tt

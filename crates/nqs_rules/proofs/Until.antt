@@ -1,15 +1,12 @@
 -- Starts go on until there is none.
-use Rattle.std.proofs.Common.{◌≡◌, ℕ, ◌<◌, ◌≤◌, Bool, true, false, ◌&&◌, nat_lt, nat_le, List, [], ◌∷◌, map, length, Option, None, Some, is_some, true≢false, zero, suc, refl, sym, ap, subst, ◌∙◌, arith, if◌then◌else◌}
-use Rattle.std.proofs.lemmas.Bool.Decides.{nat_tests}
-use Rattle.nqs_types.specs.Ids.{name_eq}
+use Rattle.std.proofs.Common.{◌≡◌, ℕ, ◌<◌, ◌≤◌, true, nat_le, List, [], ◌∷◌, length, Option, None, Some, is_some, zero, suc, refl, sym, ap, subst, ◌∙◌, arith}
 use Rattle.nqs_types.specs.State.{Plain}
 use Rattle.nqs_types.specs.declared.change.Change.{Change}
-use Rattle.nqs_rules.specs.Tests.{is_routing}
 use Rattle.nqs_rules.specs.Applied.{applied}
 use Rattle.nqs_rules.specs.Start.{start}
 use Rattle.nqs_rules.specs.Stepped.{Stepped}
 use Rattle.nqs_rules.specs.Measure.{starts_of, starts_left}
-use Rattle.nqs_rules.specs.InOrder.{are_distinct, is_id_right, is_row_right, is_hop_right, is_queue_right, IsInOrder}
+use Rattle.nqs_rules.specs.InOrder.{is_row_right, is_queue_right, IsInOrder}
 use Rattle.nqs_rules.specs.Picked.{PlainRow}
 use Rattle.nqs_rules.specs.Starts.{after_change, after_step, starts_at_most, starts, after_starts}
 use Rattle.nqs_rules.proofs.ListFacts.{list_all-weaker}

@@ -9,6 +9,6 @@ pub mod net_rows;
 pub mod order_laws;
 pub mod small_net_rows;
 pub mod small_rows;
+pub mod start_laws;
 pub mod stop_rows;
 pub mod test_rows;
-pub mod start_laws;
