@@ -1,44 +1,30 @@
 -- Starts go on until there is none.
-use Rattle.std.proofs.Common.{◌≡◌, ℕ, ◌<◌, ◌≤◌, Bool, true, false, ◌&&◌, nat_lt, nat_le, List, [], ◌∷◌, map, length, Option, None, Some, is_some, true≢false, zero, suc, refl, sym, ap, subst, ◌∙◌, arith, if◌then◌else◌}
-use Rattle.std.proofs.lemmas.Bool.Decides.{nat_tests}
-use Rattle.nqs_types.specs.Ids.{name_eq}
+use Rattle.std.proofs.Common.{◌≡◌, ℕ, ◌<◌, ◌≤◌, true, nat_le, List, [], ◌∷◌, length, Option, None, Some, is_some, zero, suc, refl, sym, ap, subst, ◌∙◌, arith}
 use Rattle.nqs_types.specs.State.{Plain}
 use Rattle.nqs_types.specs.declared.change.Change.{Change}
-use Rattle.nqs_rules.specs.Tests.{is_routing}
 use Rattle.nqs_rules.specs.Applied.{applied}
 use Rattle.nqs_rules.specs.Start.{start}
 use Rattle.nqs_rules.specs.Stepped.{Stepped}
 use Rattle.nqs_rules.specs.Measure.{starts_of, starts_left}
-use Rattle.nqs_rules.specs.InOrder.{are_distinct, is_id_right, is_row_right, is_hop_right, is_queue_right, IsInOrder}
+use Rattle.nqs_rules.specs.InOrder.{is_row_right, is_queue_right, IsInOrder}
 use Rattle.nqs_rules.specs.Picked.{PlainRow}
 use Rattle.nqs_rules.specs.Starts.{after_change, after_step, starts_at_most, starts, after_starts}
 use Rattle.nqs_rules.proofs.ListFacts.{list_all-weaker}
+use Rattle.nqs_rules.proofs.StateFacts.{keys_are}
+use Rattle.nqs_rules.proofs.RowFacts.{row_is}
+use Rattle.nqs_rules.proofs.RowChanges.{at_most_32}
+use Rattle.nqs_rules.proofs.QueuesOrder.{queue_is}
 use Rattle.nqs_rules.proofs.StartIs.{IsSteady, IsStart, start_is}
 use Rattle.nqs_rules.proofs.Lowers.{lower, stays, few_starts}
 
 -- a state in order is steady
 
-eight : (a b c d e f g h : Bool) → (a && b && c && d && e && f && g && h) ≡ true → (a ≡ true) × (d ≡ true) × (e ≡ true)
-eight true true true true true f g h t = (refl, refl, refl)
-eight a b c d e f g h t = absurd (true≢false (sym t))
-
-tenth : (a b c d e f g h i j : Bool) → (a && b && c && d && e && f && g && h && i && j) ≡ true → j ≡ true
-tenth true true true true true true true true true j h = h
-tenth a b c d e f g h i j t = absurd (true≢false (sym t))
-
-few_hops : (r : PlainRow) → is_hop_right r ≡ true → nat_le r.hops 32 ≡ true
-few_hops r h = by (is_routing r.state) h
-  where
-    by : (b : Bool) → (if b then nat_lt r.hops 32 else nat_le r.hops 32) ≡ true → nat_le r.hops 32 ≡ true
-    by true h = grind (arith, nat_tests)
-    by false h = h
-
 pub steady : (s : Plain) → IsInOrder s → IsSteady s
 steady s order = record {
-  ids = (eight (are_distinct name_eq (map (λ q. q.name) s.queues)) _ _ _ _ _ _ _ order.keys).1;
-  names = (eight (are_distinct name_eq (map (λ q. q.name) s.queues)) _ _ _ _ _ _ _ order.keys).0;
-  hops = list_all-weaker (is_row_right s) (λ r. nat_le r.hops 32) (λ r h. few_hops r (tenth (is_id_right s r.id) _ _ _ _ _ _ _ _ _ h)) s.rows order.rows;
-  dests = list_all-weaker (is_queue_right s) (λ q. nat_le (length q.dests) 16) (λ q h. (eight (nat_le q.priority 63) _ _ _ _ _ _ _ h).2) s.queues order.queues;
+  ids = (keys_are s order.keys).rows;
+  names = (keys_are s order.keys).queues;
+  hops = list_all-weaker (is_row_right s) (λ r. nat_le r.hops 32) (λ r h. at_most_32 r (row_is s r h).hop) s.rows order.rows;
+  dests = list_all-weaker (is_queue_right s) (λ q. nat_le (length q.dests) 16) (λ q h. (queue_is s q h).few_dests) s.queues order.queues;
 }
 
 -- one start

@@ -1,8 +1,7 @@
 -- Values within their limits: what the readers of records, words and datagrams make sure of.
-use Rattle.std.specs.Prelude.{ℕ, Bool, true, false, not, ◌&&◌, ◌||◌, ◌==◌, nat_le, nat_lt, List, [], ◌∷◌, length, Option, None, Some}
+use Rattle.std.specs.Prelude.{ℕ, Bool, true, not, ◌&&◌, ◌==◌, nat_le, nat_lt, List, [], ◌∷◌, length}
 use Rattle.std.specs.List.{list_all, list_any}
-use Rattle.nqs_types.specs.State.{State}
-use Rattle.nqs_types.specs.Path.{is_path}
+use Rattle.nqs_types.specs.Path.{is_visible, is_path}
 use Rattle.nqs_rules.specs.Tests.{last_seq}
 use Rattle.nqs_rules.specs.Conf.{is_conf_within}
 use Rattle.nqs_rules.specs.Limits.{is_limits_within}
@@ -19,7 +18,6 @@ use Rattle.nqs_types.specs.declared.change.Change.TheVariants.{Site, Submitted, 
 use Rattle.nqs_types.specs.declared.message.Message.{Message}
 use Rattle.nqs_types.specs.declared.message.Body.{Body}
 use Rattle.nqs_types.specs.declared.message.Body.TheVariants as body
-use Rattle.nqs_types.specs.declared.event.Submission.{Submission}
 use Rattle.nqs_types.specs.declared.event.Command.{Command}
 use Rattle.nqs_types.specs.declared.event.Command.TheVariants as command
 use Rattle.nqs_types.specs.declared.event.Event.{Event}
@@ -62,8 +60,17 @@ abbrev pub is_path_or_none : List ℕ → Bool
 is_path_or_none [] = true
 is_path_or_none (b ∷ bs) = is_path (b ∷ bs)
 
+-- a byte that a name may have: one that is seen, but no `/`
+abbrev pub is_name_byte : ℕ → Bool
+is_name_byte b = is_visible b && not (b == 47)
+
+-- a name: 1 to 15 bytes that are seen, no `/` among them
+abbrev pub is_sane_name : List ℕ → Bool
+is_sane_name name = nat_le 1 (length name) && nat_le (length name) 15 && list_all is_name_byte name
+
+-- a job as it is asked for
 abbrev pub is_asked_job : Job → Bool
-is_asked_job j = nat_le j.priority 63 && is_path_or_none j.out && is_path_or_none j.err
+is_asked_job j = is_sane_name j.name && nat_le j.priority 63 && is_path_or_none j.out && is_path_or_none j.err
 
 abbrev pub is_short_script : List ℕ → Bool
 is_short_script bytes = nat_le (length bytes) 32768

@@ -6,6 +6,7 @@ pub mod edit_rows;
 pub mod host_rows;
 pub mod laws;
 pub mod net_rows;
+pub mod order_laws;
 pub mod small_net_rows;
 pub mod small_rows;
 pub mod start_laws;
