@@ -1,0 +1,5 @@
+pub mod Reading
+pub mod Fields
+pub mod Values
+pub mod Parts
+pub mod Spelling
