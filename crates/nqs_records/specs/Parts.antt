@@ -1,5 +1,5 @@
 -- Readings of what records are made of.
-use Rattle.std.specs.Prelude.{ℕ, ◌==◌, List, Option}
+use Rattle.std.specs.Prelude.{ℕ, Bool, ◌==◌, List, Option}
 use Rattle.nqs_types.specs.declared.ids.HostId.{HostId}
 use Rattle.nqs_types.specs.declared.ids.RequestId.{RequestId}
 use Rattle.nqs_types.specs.declared.ids.PeerNumber.{PeerNumber}
@@ -14,8 +14,11 @@ use Rattle.nqs_records.specs.Values.{is_host, is_seq, is_at_most}
 unfoldable pub host_at : Reading HostId
 host_at = mapped (λ n. record { 0 = n }) (within is_host u8_at)
 
+unfoldable pub seq_at : Reading ℕ
+seq_at = within is_seq u32_at
+
 unfoldable pub id_at : Reading RequestId
-id_at = mapped (λ v. record { seq = v.0; host = v.1 }) (both (within is_seq u32_at) (λ _. host_at))
+id_at = mapped (λ v. record { seq = v.0; host = v.1 }) (both seq_at (λ _. host_at))
 
 unfoldable pub extent_at : Reading Extent
 extent_at = mapped (λ v. record { place = v.0; length = v.1 }) (both u64_at (λ _. within (is_at_most 32768) u32_at))

@@ -1,8 +1,8 @@
 -- Readings: a value that stands at a place of bytes and the place behind it, or the first fault from the left.
-use Rattle.std.specs.Prelude.{ℕ, zero, suc, ◌+◌, Bool, true, false, List, [], ◌∷◌, Option, Some, None, if◌then◌else◌, Ok, Err}
+use Rattle.std.specs.Prelude.{◌≡◌, ℕ, zero, suc, ◌+◌, Bool, true, false, List, [], ◌∷◌, Option, Some, None, if◌then◌else◌, Ok, Err}
 use Rattle.std.specs.declared.result.Result.{Result}
 use Rattle.nqs_records.specs.declared.fault.RecordFault.{RecordFault}
-use Rattle.nqs_records.specs.declared.fault.RecordFault.TheVariants.{BadField}
+use Rattle.nqs_records.specs.declared.fault.RecordFault.TheVariants.{BadField, Memory}
 
 infixl 10 ◌>>=◌
 abbrev pub ◌>>=◌ : {E A B : Type 0} → Result A E → (A → Result B E) → Result B E
@@ -51,3 +51,11 @@ counted {A} count item bytes place = do
 abbrev pub if_there : {A : Type 0} → Bool → Reading A → Reading (Option A)
 if_there {A} true item bytes place = mapped (λ a. Some a) item bytes place
 if_there {A} false item bytes place = Ok (None, place)
+
+abbrev pub is_memory : {A : Type 0} → Read A → Bool
+is_memory {A} (Err Memory) = true
+is_memory {A} _ = false
+
+-- what is read, unless memory is wanting
+abbrev pub Answers : {A : Type 0} → Read A → Read A → Type 0
+Answers {A} read answer = is_memory answer ≡ false → answer ≡ read

@@ -1,5 +1,8 @@
 //! Why bytes are no record.
 
+ghost use Rattle.std.specs.Prelude.{◌≡◌};
+ghost use Rattle.nqs_records.specs.declared.fault.RecordFault.TheVariants as fault;
+
 use std::alloc::AllocError;
 
 /// The first thing that is wrong with bytes that are no record. Places are counted from 0.
@@ -18,6 +21,8 @@ pub enum RecordFault {
 }
 
 impl From<AllocError> for RecordFault {
+    ghost from_gives = { λ _ f. f ≡ fault.Memory };
+
     fn from(_: AllocError) -> RecordFault {
         RecordFault::Memory
     }

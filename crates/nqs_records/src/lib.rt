@@ -3,5 +3,7 @@
 
 mod fault;
 mod field;
+mod job;
+mod part;
 
 pub use fault::RecordFault;
