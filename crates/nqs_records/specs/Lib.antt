@@ -3,3 +3,4 @@ pub mod Fields
 pub mod Values
 pub mod Parts
 pub mod Spelling
+pub mod Kinds

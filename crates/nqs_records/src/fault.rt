@@ -3,7 +3,7 @@
 ghost use Rattle.std.specs.Prelude.{◌≡◌};
 ghost use Rattle.nqs_records.specs.declared.fault.RecordFault.TheVariants as fault;
 
-use std::alloc::AllocError;
+use std::alloc::{AllocError, AllocFailed};
 
 /// The first thing that is wrong with bytes that are no record. Places are counted from 0.
 #[derive(Clone, Copy, Debug, PartialEq, Eq)]
@@ -24,6 +24,14 @@ impl From<AllocError> for RecordFault {
     ghost from_gives = { λ _ f. f ≡ fault.Memory };
 
     fn from(_: AllocError) -> RecordFault {
+        RecordFault::Memory
+    }
+}
+
+impl<T: Drop> From<AllocFailed<T>> for RecordFault {
+    ghost from_gives = { λ _ f. f ≡ fault.Memory };
+
+    fn from(_: AllocFailed<T>) -> RecordFault {
         RecordFault::Memory
     }
 }

@@ -3,7 +3,11 @@
 
 mod fault;
 mod field;
+mod hand_kinds;
+mod host_kinds;
 mod job;
+mod lists;
 mod part;
+mod request_kinds;
 
 pub use fault::RecordFault;
