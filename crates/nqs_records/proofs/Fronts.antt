@@ -1,5 +1,5 @@
 -- Reading a list from its front.
-use Rattle.std.proofs.Common.{◌≡◌, ℕ, zero, suc, List, [], ◌∷◌, ◌++◌, refl, sym, ap, ◌∙◌, append_assoc, append-[], Result, Ok, Err}
+use Rattle.std.proofs.Common.{◌≡◌, ℕ, zero, suc, List, [], ◌∷◌, ◌++◌, refl, sym, ap, ◌∙◌, append_assoc, append-nil, Result, Ok, Err}
 use Rattle.nqs_records.specs.Reading.{Read, Reading, ◌>>=◌, repeated}
 use Rattle.nqs_records.specs.declared.fault.RecordFault.{RecordFault}
 
@@ -24,4 +24,4 @@ stops whole front n item bytes here e is fails = sym (rw fails at is)
 pub all_read : {A : Type 0} (whole : Read (List A × ℕ)) (front : List A) (item : Reading A) (bytes : List ℕ) (here : ℕ)
     → whole ≡ after front (repeated 0 item bytes here) → Ok (front, here) ≡ whole
 unfolding repeated
-all_read whole front item bytes here is = ap (λ l. Ok (l, here)) (sym (append-[] front)) ∙ sym is
+all_read whole front item bytes here is = ap (λ l. Ok (l, here)) (sym (append-nil front)) ∙ sym is

@@ -6,9 +6,7 @@ use Rattle.nqs_codec.specs.declared.fault.Short.{Short}
 use Rattle.nqs_codec.specs.declared.fault.FieldFault.{FieldFault}
 use Rattle.nqs_records.specs.Reading.{Read, Reading, ◌>>=◌}
 use Rattle.nqs_records.specs.Fields.{or_short, or_fault}
-
-abbrev pub AreBytes : List ℕ → Type 0
-AreBytes bytes = (i : ℕ) → get_or bytes i 0 < 256
+use Rattle.nqs_records.specs.Changes.{AreBytes}
 
 pub record IsRead {A : Type 0} (IsValue : A → Type 0) (field : A → List ℕ) (reading : Reading A) : Type 0 where
   pub found : (bytes : List ℕ) (place : ℕ) (value : A) (next : ℕ) → AreBytes bytes → reading bytes place ≡ Ok (value, next) → IsValue value × Stands bytes place (field value) next

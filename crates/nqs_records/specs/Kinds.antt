@@ -3,7 +3,8 @@ use Rattle.std.specs.Prelude.{ℕ, zero, suc, Bool, nat_lt, List, [], ◌∷◌,
 use Rattle.nqs_types.specs.declared.extent.Extent.{Extent}
 use Rattle.nqs_types.specs.declared.change.Change.{Change}
 use Rattle.nqs_types.specs.declared.change.Change.TheVariants.{Site, Submitted, Deleted, Doomed, Started, Ended, Unlaunched, Boot, Edited, HandOpened, HandCommitted, HandRefused, HandsSilent, HandDone, Promised, Accepted, Dropped, MovedLocal, RefusedLocal, HeldFar, StageGot, StageGone, FileGone}
-use Rattle.nqs_records.specs.Reading.{Read, Reading, ◌>>=◌, mapped, both, within, counted}
+use Rattle.nqs_records.specs.Edits.{edit_at}
+use Rattle.nqs_records.specs.Reading.{Read, Reading, ◌>>=◌, mapped, both, within, counted, numbered}
 use Rattle.nqs_records.specs.Fields.{u8_at, u64_at, name_at, path_at, opt_at}
 use Rattle.nqs_records.specs.Values.{is_site_count, is_at_most}
 use Rattle.nqs_records.specs.Parts.{host_at, id_at, extent_at, job_at, carried_at, part_at, hand_at}
@@ -85,3 +86,29 @@ stage_gone_at = mapped (λ v. StageGone v.0 v.1) (both host_at λ _. u64_at)
 
 unfoldable pub file_gone_at : Reading HostChange
 file_gone_at = mapped (λ file. FileGone file) u64_at
+
+unfoldable pub edited_at : Reading HostChange
+edited_at = mapped (λ e. Edited e) edit_at
+
+-- the kinds, in the order of their numbers
+unfoldable pub kinds : List (Reading HostChange)
+kinds =
+    site_at ∷ submitted_at ∷ deleted_at ∷ doomed_at ∷ started_at ∷ ended_at ∷ unlaunched_at ∷ boot_at ∷ edited_at
+    ∷ hand_opened_at ∷ hand_committed_at ∷ hand_refused_at ∷ hands_silent_at ∷ hand_done_at
+    ∷ promised_at ∷ accepted_at ∷ dropped_at ∷ moved_local_at ∷ refused_local_at ∷ held_far_at
+    ∷ stage_got_at ∷ stage_gone_at ∷ file_gone_at ∷ []
+
+abbrev pub no_kind : Reading HostChange
+no_kind bytes place = Err (Kind 0)
+
+-- a kind, and its fields
+unfoldable pub change_at : Reading HostChange
+change_at bytes place = do
+  kind ← u8_at bytes place
+  numbered kinds kind.0 no_kind bytes kind.1
+
+-- the whole list as one record
+unfoldable pub record_of : List ℕ → Read HostChange
+record_of bytes = do
+  change ← change_at bytes 0
+  if nat_lt change.1 (length bytes) then Err (Trailing change.1) else Ok change.0

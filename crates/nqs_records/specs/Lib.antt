@@ -3,4 +3,8 @@ pub mod Fields
 pub mod Values
 pub mod Parts
 pub mod Spelling
+pub mod EditSpelling
+pub mod EditValues
+pub mod Edits
 pub mod Kinds
+pub mod Changes

@@ -59,3 +59,17 @@ is_memory {A} _ = false
 -- what is read, unless memory is wanting
 abbrev pub Answers : {A : Type 0} → Read A → Read A → Type 0
 Answers {A} read answer = is_memory answer ≡ false → answer ≡ read
+
+abbrev pub nth_of : {A : Type 0} → List A → ℕ → A → A
+nth_of {A} [] n other = other
+nth_of {A} (x ∷ xs) zero other = x
+nth_of {A} (x ∷ xs) (suc n) other = nth_of xs n other
+
+-- the one with that number, from 1
+abbrev pub numbered : {A : Type 0} → List A → ℕ → A → A
+numbered {A} xs zero other = other
+numbered {A} xs (suc n) other = nth_of xs n other
+
+-- nothing may stand there
+abbrev pub bad_at : {A : Type 0} → ℕ → Reading A
+bad_at {A} at bytes place = Err (BadField at)

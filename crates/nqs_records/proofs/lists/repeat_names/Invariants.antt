@@ -6,8 +6,8 @@ use Rattle.nqs_records.proofs.Fronts.{after}
 use Rattle.nqs_records.proofs.lists.repeat_names.Given as goal
 
 -- those that were read, and as many more as are left
-abbrev pub invariant-loop : goal.invariant-loop
-invariant-loop l = repeated l.count name_at l.bytes l.place ≡ after l.names.items (repeated l.left name_at l.bytes l.here)
+abbrev pub invariant-loop-left : goal.invariant-loop-left
+invariant-loop-left l = repeated l.count name_at l.bytes l.place ≡ after l.names.items (repeated l.left name_at l.bytes l.here)
 
-abbrev pub decreases-loop : goal.decreases-loop
-decreases-loop l = l.left
+abbrev pub decreases-loop-left : goal.decreases-loop-left
+decreases-loop-left l = l.left
