@@ -19,7 +19,7 @@ use Rattle.nqs_codec.proofs.Faults.{path_fault}
 use Rattle.nqs_codec.proofs.ReadBack.{bool_back, name_back, read_back}
 use Rattle.nqs_records.specs.Reading.{◌>>=◌}
 use Rattle.nqs_records.specs.Fields.{bool_of, bool_at, short_of, first_bad, named, pathed, name_of, path_of, name_at, path_at, or_fault, as_fault}
-use Rattle.nqs_records.proofs.Read.{IsRead, fault_read, fault_same}
+use Rattle.nqs_records.proofs.IsRead.{IsRead, fault_read, fault_same}
 use Rattle.nqs_records.proofs.Numbers.{below, not_below}
 
 behind : (bytes : List ℕ) (place b : ℕ) (rest : List ℕ) → drop place bytes ≡ b ∷ rest → rest ≡ drop (place + 1) bytes

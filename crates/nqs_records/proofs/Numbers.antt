@@ -10,7 +10,7 @@ use Rattle.nqs_codec.proofs.Numbers.{none_u16, none_u32, none_u64, stands_u16, s
 use Rattle.nqs_codec.proofs.ReadBack.{u8_back, u16_back, u32_back, u64_back}
 use Rattle.nqs_records.specs.Fields.{number_at, u8_at, u16_at, u32_at, u64_at, or_short}
 use Rattle.nqs_records.specs.Changes.{AreBytes}
-use Rattle.nqs_records.proofs.Read.{IsRead, short_read, short_same}
+use Rattle.nqs_records.proofs.IsRead.{IsRead, short_read, short_same}
 
 pub below : (m n : ℕ) → nat_lt m n ≡ true → m < n
 below m n is = grind (arith, nat_tests)

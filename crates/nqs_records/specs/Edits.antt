@@ -19,8 +19,9 @@ use Rattle.nqs_records.specs.Reading.{Reading, ◌>>=◌, mapped, both, within, 
 use Rattle.nqs_records.specs.Fields.{u8_at, u64_at, bool_at, opt_at, name_at}
 use Rattle.nqs_records.specs.Values.{is_at_most}
 use Rattle.nqs_records.specs.Parts.{seq_at}
+use Rattle.nqs_records.specs.declared.edit_parts.Created.{Created}
 
-unfoldable pub nothing_at : Reading (Unit {0})
+abbrev pub nothing_at : Reading (Unit {0})
 nothing_at bytes place = Ok (tt, place)
 
 unfoldable pub at_most_at : ℕ → Reading ℕ
@@ -38,12 +39,15 @@ dest_at = mapped (λ v. record { queue = v.0; host = v.1 }) names_at
 unfoldable pub named_at : Reading Named
 named_at = mapped (λ v. record { seq = v.0; host = v.1 }) (both seq_at (λ _. name_at))
 
-unfoldable pub created_at : Reading (List ℕ × (Option ℕ × (Option ℕ × Bool)))
-created_at = both name_at λ _. both (opt_at (at_most_at 63)) λ _. both (opt_at (at_most_at 10000)) λ _. bool_at
+unfoldable pub created_at : Reading Created
+created_at =
+    mapped (λ v. record { queue = v.0; priority = v.1.0; run_limit = v.1.1.0; pipe_only = v.1.1.1 })
+    (both name_at λ _. both (opt_at (at_most_at 63)) λ _. both (opt_at (at_most_at 10000)) λ _. bool_at)
 
-unfoldable pub pipe_created_at : Reading (List ℕ × (Option ℕ × (Option ℕ × (Bool × Option NamedDest))))
+unfoldable pub pipe_created_at : Reading Edit
 pipe_created_at =
-    both name_at λ _. both (opt_at (at_most_at 63)) λ _. both (opt_at (at_most_at 10000)) λ _. both bool_at λ _. opt_at dest_at
+    mapped (λ v. Conf (CreatePipeQueue v.0 v.1.0 v.1.1.0 v.1.1.1.0 v.1.1.1.1))
+    (both name_at λ _. both (opt_at (at_most_at 63)) λ _. both (opt_at (at_most_at 10000)) λ _. both bool_at λ _. opt_at dest_at)
 
 unfoldable pub number_and_name_at : ℕ → Reading (ℕ × List ℕ)
 number_and_name_at limit = both (at_most_at limit) (λ _. name_at)
@@ -66,9 +70,9 @@ named_and_priority_at = both named_at (λ _. at_most_at 63)
 -- the edits, in the order of their codes
 unfoldable pub edits : List (Reading Edit)
 edits =
-    mapped (λ v. Conf (CreateBatchQueue v.0 v.1.0 v.1.1.0 v.1.1.1)) created_at
-    ∷ mapped (λ v. Conf (CreateDeviceQueue v.0 v.1.0 v.1.1.0 v.1.1.1)) created_at
-    ∷ mapped (λ v. Conf (CreatePipeQueue v.0 v.1.0 v.1.1.0 v.1.1.1.0 v.1.1.1.1)) pipe_created_at
+    mapped (λ v. Conf (CreateBatchQueue v.queue v.priority v.run_limit v.pipe_only)) created_at
+    ∷ mapped (λ v. Conf (CreateDeviceQueue v.queue v.priority v.run_limit v.pipe_only)) created_at
+    ∷ pipe_created_at
     ∷ mapped (λ queue. Conf (DeleteQueue queue)) name_at
     ∷ mapped (λ queue. Conf (EnableQueue queue)) name_at
     ∷ mapped (λ queue. Conf (DisableQueue queue)) name_at

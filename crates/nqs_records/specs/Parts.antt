@@ -28,17 +28,17 @@ abbrev pub JobFields : Type 0
 JobFields = List ℕ × (List ℕ × (ℕ × (ℕ × (Bool × (Option ℕ × (Option ℕ × (Option (List ℕ) × (List ℕ × (List ℕ × Bool)))))))))
 
 abbrev pub job_of : JobFields → Job
-job_of (name, (owner, (priority, (earliest, (rerun, (cpu, (memory, (forms, (out, (err, join)))))))))) = record {
-  name = name;
-  owner = owner;
-  priority = priority;
-  earliest = earliest;
-  rerun = rerun;
-  limits = record { cpu = cpu; memory = memory };
-  forms = forms;
-  out = out;
-  err = err;
-  join = join;
+job_of v = record {
+  name = v.0;
+  owner = v.1.0;
+  priority = v.1.1.0;
+  earliest = v.1.1.1.0;
+  rerun = v.1.1.1.1.0;
+  limits = record { cpu = v.1.1.1.1.1.0; memory = v.1.1.1.1.1.1.0 };
+  forms = v.1.1.1.1.1.1.1.0;
+  out = v.1.1.1.1.1.1.1.1.0;
+  err = v.1.1.1.1.1.1.1.1.1.0;
+  join = v.1.1.1.1.1.1.1.1.1.1;
 }
 
 unfoldable pub job_at : Reading Job

@@ -1,6 +1,10 @@
 //! The journal records of a host: each change of its state has one spelling as bytes.
 #![tactic(auto)]
 
+mod edit_kinds;
+mod edit_others;
+mod edit_pairs;
+mod edit_parts;
 mod fault;
 mod field;
 mod hand_kinds;
@@ -8,6 +12,8 @@ mod host_kinds;
 mod job;
 mod lists;
 mod part;
+mod read;
 mod request_kinds;
 
 pub use fault::RecordFault;
+pub use read::read_change;
