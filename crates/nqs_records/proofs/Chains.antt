@@ -19,7 +19,7 @@ use Rattle.nqs_records.proofs.Named.{bool_read}
 pub bind : {E A B : Type 0} (r : Result A E) (f : A → Result B E) (a : A) (b : B) → r ≡ Ok a → f a ≡ Ok b → (r >>= f) ≡ Ok b
 bind r f a b e g = rw e g
 
-same_Ok : {E A : Type 0} (a b : A) → Ok {E = E} a ≡ Ok b → a ≡ b
+pub same_Ok : {A : Type 0} (a b : A) → ◌≡◌ {A = Read A} (Ok a) (Ok b) → a ≡ b
 same_Ok a b e = cc
 
 -- what a reading found

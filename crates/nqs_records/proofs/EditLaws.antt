@@ -82,7 +82,7 @@ conf_taken : (e : ConfEdit) (bytes rest : List ℕ) (place : ℕ) → AreBytes b
 unfolding edit_at edits conf_field pipe_created_at
 conf_taken (CreateBatchQueue queue priority run_limit pipe_only) bytes rest place fits ok is = coded_taken edits (λ at. bad_at at) 1 (λ v. Conf (CreateBatchQueue v.queue v.priority v.run_limit v.pipe_only)) created (below 1 (2 ^ 8) refl) (record { queue = queue; priority = priority; run_limit = run_limit; pipe_only = pipe_only }) bytes rest place fits ok refl is
 conf_taken (CreateDeviceQueue queue priority run_limit pipe_only) bytes rest place fits ok is = coded_taken edits (λ at. bad_at at) 2 (λ v. Conf (CreateDeviceQueue v.queue v.priority v.run_limit v.pipe_only)) created (below 2 (2 ^ 8) refl) (record { queue = queue; priority = priority; run_limit = run_limit; pipe_only = pipe_only }) bytes rest place fits ok refl is
-conf_taken (CreatePipeQueue queue priority run_limit pipe_only destination) bytes rest place fits ok is = coded_taken edits (λ at. bad_at at) 3 (λ v. Conf (CreatePipeQueue v.0 v.1.0 v.1.1.0 v.1.1.1.0 v.1.1.1.1)) pipe_created (below 3 (2 ^ 8) refl) (queue, (priority, (run_limit, (pipe_only, destination)))) bytes rest place fits ok refl is
+conf_taken (CreatePipeQueue queue priority run_limit pipe_only destination) bytes rest place fits ok is = coded_taken edits (λ at. bad_at at) 3 (λ v. Conf (CreatePipeQueue v.0 v.1.0 v.1.1.0 v.1.1.1.0 v.1.1.1.1)) pipe_created (below 3 (2 ^ 8) refl) (queue, (priority, (run_limit, (pipe_only, destination)))) bytes rest place fits (ok.0, (ok.1, (ok.2, (ok.3, ok.4)))) refl is
 conf_taken (DeleteQueue queue) bytes rest place fits ok is = coded_taken edits (λ at. bad_at at) 4 (λ queue. Conf (DeleteQueue queue)) one_name (below 4 (2 ^ 8) refl) queue bytes rest place fits ok refl is
 conf_taken (EnableQueue queue) bytes rest place fits ok is = coded_taken edits (λ at. bad_at at) 5 (λ queue. Conf (EnableQueue queue)) one_name (below 5 (2 ^ 8) refl) queue bytes rest place fits ok refl is
 conf_taken (DisableQueue queue) bytes rest place fits ok is = coded_taken edits (λ at. bad_at at) 6 (λ queue. Conf (DisableQueue queue)) one_name (below 6 (2 ^ 8) refl) queue bytes rest place fits ok refl is
@@ -141,7 +141,7 @@ rows_taken (ModifyRequest request priority) bytes rest place fits ok is = coded_
 
 edit_found : (bytes : List ℕ) (place : ℕ) (e : Edit) (next : ℕ) → AreBytes bytes → edit_at bytes place ≡ Ok (e, next) → Found IsEdit edit_field bytes place (e, next)
 unfolding edit_at
-edit_found bytes place e next fits is = coded_found edits (λ at. bad_at at) no_edit edits_find bytes place e next fits is
+edit_found bytes place e next fits is = coded_found IsEdit edit_field edits (λ at. bad_at at) no_edit edits_find bytes place e next fits is
 
 edit_taken : (e : Edit) (bytes rest : List ℕ) (place : ℕ) → AreBytes bytes → IsEdit e → drop place bytes ≡ edit_field e ++ rest → edit_at bytes place ≡ Ok (e, place + length (edit_field e))
 unfolding edit_field

@@ -1,5 +1,5 @@
 -- The laws of the arguments of edits.
-use Rattle.std.proofs.Common.{◌≡◌, ℕ, ◌+◌, ◌<◌, ◌^◌, true, nat_le, IsTrue, List, [], ◌∷◌, ◌++◌, drop, refl, arith, Ok}
+use Rattle.std.proofs.Common.{◌≡◌, ℕ, ◌+◌, ◌<◌, ◌^◌, true, nat_le, IsTrue, List, [], ◌∷◌, ◌++◌, drop, refl, ap, arith, Ok}
 use Rattle.std.specs.Prelude.{⊤}
 use Rattle.std.proofs.lemmas.Bool.Decides.{nat_tests}
 use Rattle.nqs_types.specs.Name.{IsName}
@@ -19,7 +19,7 @@ use Rattle.nqs_records.specs.declared.edit_parts.Created.{Created}
 use Rattle.nqs_records.proofs.IsRead.{IsRead}
 use Rattle.nqs_records.proofs.Numbers.{u64_read}
 use Rattle.nqs_records.proofs.Named.{bool_read, name_read}
-use Rattle.nqs_records.proofs.Chains.{Found, both_read, mapped_read, within_read, last_read, opt_read}
+use Rattle.nqs_records.proofs.Chains.{same_Ok, both_read, mapped_read, within_read, last_read, opt_read}
 use Rattle.nqs_records.proofs.PartLaws.{seq_law}
 
 limit_fits : (limit n : ℕ) → nat_le limit 10000 ≡ true → IsTrue (is_at_most limit n) → n < 2 ^ 64
@@ -38,7 +38,7 @@ plus_zero n = omega arith
 pub nothing : IsRead (λ _. ⊤) (λ _. []) nothing_at
 nothing = record {
   found = λ bytes place value next fits e.
-      let same : place ≡ next = cc in
+      let same : place ≡ next = ap (λ v. v.1) (same_Ok (tt, place) (value, next) e) in
       (tt, record { text = λ j. drop (same j) bytes; behind = omega (arith, same) });
   taken = λ bytes rest place value fits is_value is. λ j. Ok (tt, plus_zero place j);
 }

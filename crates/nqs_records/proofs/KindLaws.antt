@@ -55,7 +55,7 @@ no_change at bytes place v e = cc
 
 pub change_found : (bytes : List ℕ) (place : ℕ) (c : HostChange) (next : ℕ) → AreBytes bytes → change_at bytes place ≡ Ok (c, next) → Found MayStand spelling bytes place (c, next)
 unfolding change_at
-change_found bytes place c next fits is = coded_found kinds (λ at. no_kind) no_change kinds_find bytes place c next fits is
+change_found bytes place c next fits is = coded_found MayStand spelling kinds (λ at. no_kind) no_change kinds_find bytes place c next fits is
 
 pub change_taken : (c : HostChange) (bytes rest : List ℕ) (place : ℕ) → AreBytes bytes → MayStand c → drop place bytes ≡ spelling c ++ rest → change_at bytes place ≡ Ok (c, place + length (spelling c))
 unfolding change_at kinds spelling site_at submitted_at deleted_at doomed_at started_at ended_at unlaunched_at boot_at edited_at hand_opened_at hand_committed_at hand_refused_at hands_silent_at hand_done_at promised_at accepted_at dropped_at moved_local_at refused_local_at held_far_at stage_got_at stage_gone_at file_gone_at

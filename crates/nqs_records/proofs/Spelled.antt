@@ -38,7 +38,7 @@ spelled_is : (bytes : List ℕ) (c : HostChange) → AreBytes bytes → bytes �
 unfolding record_of
 spelled_is bytes c fits is ok =
     let there = change_taken c bytes [] 0 fits ok (is ∙ sym (append-nil (spelling c))) in
-    bind (change_at bytes 0) _ _ _ there (rw (none_behind (length (spelling c)) (length bytes) (ap length (sym is))) refl)
+    bind (change_at bytes 0) _ _ _ there (rw (none_behind (0 + length (spelling c)) (length bytes) (omega (arith, ap length is))) refl)
 
 pub reads_the_spelling : ReadsTheSpelling
 reads_the_spelling bytes c fits = (λ e. is_spelled bytes c fits e, λ p. spelled_is bytes c fits p.0 p.1)

@@ -4,6 +4,7 @@ ghost use Rattle.std.specs.Prelude.{◌≡◌};
 ghost use Rattle.nqs_records.specs.Reading.{Answers, numbered, bad_at};
 ghost use Rattle.nqs_records.specs.Kinds.{kinds, no_kind, edited_at, record_of};
 ghost use Rattle.nqs_records.specs.Edits.{edits, edit_at};
+ghost use Rattle.nqs_records.specs.Changes.{ReadsTheSpelling};
 
 use crate::edit_kinds::{read_complex_edit, read_creation, read_number_edit, read_queue_edit};
 use crate::edit_others::{read_access_edit, read_default_edit, read_device_edit, read_request_edit};
@@ -25,7 +26,11 @@ use std::alloc::Global;
 fn read_edit_of(code: u8, bytes: &[u8], place: u64, at: u64) -> Result<(Edit, u64), RecordFault>
     ensures { result ≡ numbered edits code (bad_at at) bytes.now place }
 {
+    if code > 46 {
+        return Err(RecordFault::BadField(at));
+    }
     match code {
+        0 => Err(RecordFault::BadField(at)),
         1..=3 => read_creation(code, bytes, place, at),
         4..=10 => read_queue_edit(code, bytes, place, at),
         11..=17 => read_number_edit(code, bytes, place, at),
@@ -33,8 +38,7 @@ fn read_edit_of(code: u8, bytes: &[u8], place: u64, at: u64) -> Result<(Edit, u6
         24..=30 => read_device_edit(code, bytes, place, at),
         31..=38 => read_access_edit(code, bytes, place, at),
         39..=42 => read_default_edit(code, bytes, place, at),
-        43..=46 => read_request_edit(code, bytes, place, at),
-        _ => Err(RecordFault::BadField(at)),
+        _ => read_request_edit(code, bytes, place, at),
     }
 }
 
@@ -102,3 +106,8 @@ pub fn read_change(alloc: Global, bytes: &[u8]) -> Result<Change, RecordFault>
     }
     Ok(change)
 }
+
+/// What `read_change` reads as a change is its spelling, and nothing else is: a law that callers call.
+pub fn reads_the_spelling()
+    ensures { ReadsTheSpelling }
+{}
