@@ -9,3 +9,5 @@ pub mod EditShapes
 pub mod EditLaws
 pub mod KindLaws
 pub mod Spelled
+pub mod Joined
+pub mod Rests

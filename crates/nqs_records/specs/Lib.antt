@@ -1,3 +1,4 @@
+pub mod Adds
 pub mod Reading
 pub mod Fields
 pub mod Values

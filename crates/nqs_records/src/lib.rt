@@ -12,8 +12,15 @@ mod host_kinds;
 mod job;
 mod lists;
 mod part;
+mod put_edits;
+mod put_kinds;
+mod put_lists;
+mod put_parts;
+mod put_shapes;
 mod read;
 mod request_kinds;
+mod write;
 
 pub use fault::RecordFault;
-pub use read::read_change;
+pub use read::{read_change, reads_the_spelling};
+pub use write::write_change;
