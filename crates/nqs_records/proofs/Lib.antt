@@ -10,4 +10,3 @@ pub mod EditLaws
 pub mod KindLaws
 pub mod Spelled
 pub mod Joined
-pub mod Rests

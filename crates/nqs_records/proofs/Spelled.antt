@@ -1,11 +1,11 @@
 -- Bytes are read as a change exactly where they are its spelling.
-use Rattle.std.proofs.Common.{◌≡◌, ℕ, zero, suc, ◌+◌, ◌≤◌, Bool, true, false, cond, nat_lt, List, [], ◌∷◌, ◌++◌, length, drop, refl, sym, ap, ◌∙◌, subst, arith, append-nil, Ok, Err}
+use Rattle.std.proofs.Common.{◌≡◌, ◌≢◌, ℕ, zero, suc, ◌+◌, ◌≤◌, Bool, true, false, cond, nat_lt, List, [], ◌∷◌, ◌++◌, length, drop, refl, sym, ap, ◌∙◌, subst, arith, append-nil, Ok, Err, IfOk, IfErr}
 use Rattle.std.proofs.lemmas.Bool.Decides.{nat_tests}
-use Rattle.nqs_records.specs.Reading.{◌>>=◌}
+use Rattle.nqs_records.specs.Reading.{Read, ◌>>=◌, is_memory, Answers}
 use Rattle.nqs_records.specs.Kinds.{HostChange, change_at, record_of}
-use Rattle.nqs_records.specs.Changes.{AreBytes, MayStand, spelling, ReadsTheSpelling}
+use Rattle.nqs_records.specs.Changes.{AreBytes, MayStand, spelling, ReadsTheSpelling, IsSpelledBy, SpellsNone}
 use Rattle.nqs_records.specs.declared.fault.RecordFault.{RecordFault}
-use Rattle.nqs_records.specs.declared.fault.RecordFault.TheVariants.{Trailing}
+use Rattle.nqs_records.specs.declared.fault.RecordFault.TheVariants.{Short, Kind, BadField, Trailing, Memory}
 use Rattle.nqs_records.proofs.IsRead.{bound}
 use Rattle.nqs_records.proofs.Numbers.{not_below}
 use Rattle.nqs_records.proofs.Chains.{bind}
@@ -42,3 +42,25 @@ spelled_is bytes c fits is ok =
 
 pub reads_the_spelling : ReadsTheSpelling
 reads_the_spelling bytes c fits = (λ e. is_spelled bytes c fits e, λ p. spelled_is bytes c fits p.0 p.1)
+
+-- ---- what the call answers
+
+pub if_read : (bytes : List ℕ) (answer : Read HostChange) → AreBytes bytes → Answers (record_of bytes) answer → IfOk answer (IsSpelledBy bytes)
+if_read bytes (Ok c) fits answers = is_spelled bytes c fits (sym (answers refl))
+if_read bytes (Err fault) fits answers = tt
+
+not_memory : (fault : RecordFault) → fault ≢ Memory → is_memory {A = HostChange} (Err fault) ≡ false
+not_memory (Short place) other = refl
+not_memory (Kind place) other = refl
+not_memory (BadField place) other = refl
+not_memory (Trailing place) other = refl
+not_memory Memory other = absurd (other refl)
+
+apart : (c : HostChange) (fault : RecordFault) (r : Read HostChange) → Err fault ≡ r → r ≡ Ok c → ⊥
+apart c fault (Ok d) e f = cc
+apart c fault (Err x) e f = cc
+
+pub if_refused : (bytes : List ℕ) (answer : Read HostChange) → AreBytes bytes → Answers (record_of bytes) answer → IfErr answer (λ fault. fault ≢ Memory → SpellsNone bytes)
+if_refused bytes (Ok c) fits answers = tt
+if_refused bytes (Err fault) fits answers = λ other c ok is.
+    apart c fault (record_of bytes) (answers (not_memory fault other)) (spelled_is bytes c fits is ok)

@@ -73,3 +73,11 @@ AreBytes bytes = (i : ℕ) → get_or bytes i 0 < 256
 -- What is read is what was spelled: bytes are read as a change exactly where they are its spelling and it may stand.
 abbrev pub ReadsTheSpelling : Type 0
 ReadsTheSpelling = (bytes : List ℕ) (change : Change Extent) → AreBytes bytes → record_of bytes ≡ Ok change ↔ (bytes ≡ spelling change) × MayStand change
+
+-- no change has these bytes as its spelling
+abbrev pub SpellsNone : List ℕ → Type 0
+SpellsNone bytes = (change : Change Extent) → MayStand change → bytes ≡ spelling change → ⊥
+
+-- the change of these bytes
+abbrev pub IsSpelledBy : List ℕ → Change Extent → Type 0
+IsSpelledBy bytes change = (bytes ≡ spelling change) × MayStand change

@@ -1,10 +1,11 @@
 //! A whole record, read as a change.
 
-ghost use Rattle.std.specs.Prelude.{◌≡◌};
+ghost use Rattle.std.specs.Prelude.{◌≡◌, ◌≢◌, IfOk, IfErr};
 ghost use Rattle.nqs_records.specs.Reading.{Answers, numbered, bad_at};
 ghost use Rattle.nqs_records.specs.Kinds.{kinds, no_kind, edited_at, record_of};
 ghost use Rattle.nqs_records.specs.Edits.{edits, edit_at};
-ghost use Rattle.nqs_records.specs.Changes.{ReadsTheSpelling};
+ghost use Rattle.nqs_records.specs.Changes.{ReadsTheSpelling, IsSpelledBy, SpellsNone};
+ghost use Rattle.nqs_records.specs.declared.fault.RecordFault.TheVariants.{Memory};
 
 use crate::edit_kinds::{read_complex_edit, read_creation, read_number_edit, read_queue_edit};
 use crate::edit_others::{read_access_edit, read_default_edit, read_device_edit, read_request_edit};
@@ -96,7 +97,7 @@ fn read_kind(
 }
 
 #[tactic(auto, unfolding(crate::specs::Kinds::change_at, crate::specs::Kinds::record_of))]
-pub fn read_change(alloc: Global, bytes: &[u8]) -> Result<Change, RecordFault>
+fn read_record(alloc: Global, bytes: &[u8]) -> Result<Change, RecordFault>
     ensures { Answers (record_of bytes.now) result }
 {
     let (kind, place) = read_u8(bytes, 0)?;
@@ -107,7 +108,17 @@ pub fn read_change(alloc: Global, bytes: &[u8]) -> Result<Change, RecordFault>
     Ok(change)
 }
 
-/// What `read_change` reads as a change is its spelling, and nothing else is: a law that callers call.
+/// Reads the whole list as one record. A fault other than `Memory` is the first from the left, as `record_of` says it.
+pub fn read_change(alloc: Global, bytes: &[u8]) -> Result<Change, RecordFault>
+    ensures answer { Answers (record_of bytes.now) result }
+    ensures ok { IfOk result (IsSpelledBy bytes.now) }
+    ensures none { IfErr result (λ fault. fault ≢ Memory → SpellsNone bytes.now) }
+{
+    read_record(alloc, bytes)
+}
+
+/// Bytes are read as a change exactly where they are its spelling and its values are within their limits:
+/// a law, which callers call for its contract.
 pub fn reads_the_spelling()
     ensures { ReadsTheSpelling }
 {}

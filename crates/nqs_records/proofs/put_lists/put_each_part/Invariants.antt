@@ -6,8 +6,8 @@ use Rattle.nqs_records.specs.Values.{IsPart}
 use Rattle.nqs_records.proofs.put_lists.put_each_part.Given as goal
 
 -- what is there and the rest are the whole
-abbrev pub invariant-loop-rest : goal.invariant-loop-rest
-invariant-loop-rest l = (l.out.old.items ++ flat_map part_field l.items ≡ l.out.now.items ++ flat_map part_field l.rest) × AllByRecursion IsPart l.rest.now
+abbrev pub invariant-loop-item : goal.invariant-loop-item
+invariant-loop-item l = (l.fn.out.items ++ flat_map part_field l.items ≡ l.out.items ++ flat_map part_field l.rest) × AllByRecursion IsPart l.rest
 
-abbrev pub decreases-loop-rest : goal.decreases-loop-rest
-decreases-loop-rest l = length l.rest
+abbrev pub decreases-loop-item : goal.decreases-loop-item
+decreases-loop-item l = length l.rest
