@@ -149,9 +149,10 @@ counted_read {A} {IsN} {fn} {rn} {IsA} {f} {r} count one = record {
   found = λ bytes place value next fits e.
       let n = bound (rn bytes place) (λ n. repeated n.0 r bytes n.1) (value, next) e in
       let here = count.found bytes place n.0.0 n.0.1 fits n.1 in
-      let there = repeated_found one n.0.0 bytes n.0.1 value next fits n.2 in
-      ((subst IsN (sym there.0.0) here.0, there.0.1),
-        two_stand bytes place n.0.1 next (fn (length value)) (flat_map f value) (subst (λ (k : ℕ). Stands bytes place (fn k) n.0.1) (sym there.0.0) here.1) there.1);
+      let there = repeated_found one n.0.0 bytes n.0.1 value next fits n.2 in (
+        (subst IsN (sym there.0.0) here.0, there.0.1),
+        two_stand bytes place n.0.1 next (fn (length value)) (flat_map f value) (subst (λ (k : ℕ). Stands bytes place (fn k) n.0.1) (sym there.0.0) here.1) there.1,
+      );
   taken = λ bytes rest place value fits is_value is.
       let front = fn (length value) in
       let text = is ∙ append_assoc front (flat_map f value) rest in

@@ -27,53 +27,144 @@ use Rattle.nqs_records.proofs.EditShapes.{created, dest_and_name, cpu_or_memory,
 edits_find : AllFind IsEdit edit_field 1 edits
 unfolding edits edit_field conf_field limits_field access_field devices_field rows_field pipe_created_at
 edits_find = (
-  finds 1 (λ v. Conf (CreateBatchQueue v.queue v.priority v.run_limit v.pipe_only)) (λ v is. is) (λ v. refl) created, (
-  finds 2 (λ v. Conf (CreateDeviceQueue v.queue v.priority v.run_limit v.pipe_only)) (λ v is. is) (λ v. refl) created, (
-  finds 3 (λ v. Conf (CreatePipeQueue v.0 v.1.0 v.1.1.0 v.1.1.1.0 v.1.1.1.1)) (λ v is. (is.0, is.1.0, is.1.1.0, is.1.1.1.0, is.1.1.1.1)) (λ v. refl) pipe_created, (
-  finds 4 (λ queue. Conf (DeleteQueue queue)) (λ v is. is) (λ v. refl) one_name, (
-  finds 5 (λ queue. Conf (EnableQueue queue)) (λ v is. is) (λ v. refl) one_name, (
-  finds 6 (λ queue. Conf (DisableQueue queue)) (λ v is. is) (λ v. refl) one_name, (
-  finds 7 (λ queue. Conf (StartQueue queue)) (λ v is. is) (λ v. refl) one_name, (
-  finds 8 (λ queue. Conf (StopQueue queue)) (λ v is. is) (λ v. refl) one_name, (
-  finds 9 (λ queue. Conf (PurgeQueue queue)) (λ v is. is) (λ v. refl) one_name, (
-  finds 10 (λ queue. RowsOf (AbortQueue queue)) (λ v is. is) (λ v. refl) one_name, (
-  finds 11 (λ v. Conf (SetPriority v.0 v.1)) (λ v is. is) (λ v. refl) (number_and_name 63 refl), (
-  finds 12 (λ v. Conf (SetRunLimit v.0 v.1)) (λ v is. is) (λ v. refl) (number_and_name 10000 refl), (
-  finds 13 (λ v. LimitsOf (SetUserLimit v.0 v.1)) (λ v is. is) (λ v. refl) user_limit, (
-  finds 14 (λ v. LimitsOf (SetCpuLimit v.0 v.1)) (λ v is. is) (λ v. refl) cpu_or_memory, (
-  finds 15 (λ v. LimitsOf (SetMemoryLimit v.0 v.1)) (λ v is. is) (λ v. refl) cpu_or_memory, (
-  finds 16 (λ v. Conf (AddDestination v.0 v.1)) (λ v is. is) (λ v. refl) dest_and_name, (
-  finds 17 (λ v. Conf (RemoveDestination v.0 v.1)) (λ v is. is) (λ v. refl) dest_and_name, (
-  finds 18 (λ complex. LimitsOf (CreateComplex complex)) (λ v is. is) (λ v. refl) one_name, (
-  finds 19 (λ complex. LimitsOf (DeleteComplex complex)) (λ v is. is) (λ v. refl) one_name, (
-  finds 20 (λ v. LimitsOf (AddQueue v.0 v.1)) (λ v is. is) (λ v. refl) two_names, (
-  finds 21 (λ v. LimitsOf (RemoveQueue v.0 v.1)) (λ v is. is) (λ v. refl) two_names, (
-  finds 22 (λ v. LimitsOf (SetComplexLimit v.0 v.1)) (λ v is. is) (λ v. refl) (number_and_name 10000 refl), (
-  finds 23 (λ limit. LimitsOf (SetGlobalLimit limit)) (λ v is. is) (λ v. refl) (number 10000 refl), (
-  finds 24 (λ v. DevicesOf (CreateDevice v.0 v.1)) (λ v is. is) (λ v. refl) two_names, (
-  finds 25 (λ device. DevicesOf (DeleteDevice device)) (λ v is. is) (λ v. refl) one_name, (
-  finds 26 (λ device. DevicesOf (EnableDevice device)) (λ v is. is) (λ v. refl) one_name, (
-  finds 27 (λ device. DevicesOf (DisableDevice device)) (λ v is. is) (λ v. refl) one_name, (
-  finds 28 (λ v. DevicesOf (SetForms v.0 v.1)) (λ v is. is) (λ v. refl) two_names, (
-  finds 29 (λ v. DevicesOf (AddDevice v.0 v.1)) (λ v is. is) (λ v. refl) two_names, (
-  finds 30 (λ v. DevicesOf (RemoveDevice v.0 v.1)) (λ v is. is) (λ v. refl) two_names, (
-  finds 31 (λ queue. AccessOf (SetUnrestrictedAccess queue)) (λ v is. is) (λ v. refl) one_name, (
-  finds 32 (λ queue. AccessOf (SetNoAccess queue)) (λ v is. is) (λ v. refl) one_name, (
-  finds 33 (λ v. AccessOf (AddUser v.0 v.1)) (λ v is. is) (λ v. refl) two_names, (
-  finds 34 (λ v. AccessOf (RemoveUser v.0 v.1)) (λ v is. is) (λ v. refl) two_names, (
-  finds 35 (λ user. AccessOf (AddManager user)) (λ v is. is) (λ v. refl) one_name, (
-  finds 36 (λ user. AccessOf (RemoveManager user)) (λ v is. is) (λ v. refl) one_name, (
-  finds 37 (λ user. AccessOf (AddOperator user)) (λ v is. is) (λ v. refl) one_name, (
-  finds 38 (λ user. AccessOf (RemoveOperator user)) (λ v is. is) (λ v. refl) one_name, (
-  finds 39 (λ queue. Conf (SetDefaultQueue queue)) (λ v is. is) (λ v. refl) one_name, (
-  finds 40 (λ _. Conf SetNoDefaultQueue) (λ v is. is) (λ v. refl) nothing, (
-  finds 41 (λ seconds. Conf (SetPatience seconds)) (λ v is. is) (λ v. refl) wait, (
-  finds 42 (λ seconds. Conf (SetRetryWait seconds)) (λ v is. is) (λ v. refl) wait, (
-  finds 43 (λ request. RowsOf (HoldRequest request)) (λ v is. is) (λ v. refl) named, (
-  finds 44 (λ request. RowsOf (ReleaseRequest request)) (λ v is. is) (λ v. refl) named, (
-  finds 45 (λ v. RowsOf (MoveRequest v.0 v.1)) (λ v is. is) (λ v. refl) named_and_name, (
-  finds 46 (λ v. RowsOf (ModifyRequest v.0 v.1)) (λ v is. is) (λ v. refl) named_and_priority, tt
-))))))))))))))))))))))))))))))))))))))))))))))
+  finds 1 (λ v. Conf (CreateBatchQueue v.queue v.priority v.run_limit v.pipe_only)) (λ v is. is) (λ v. refl) created,
+  (
+    finds 2 (λ v. Conf (CreateDeviceQueue v.queue v.priority v.run_limit v.pipe_only)) (λ v is. is) (λ v. refl) created,
+    (
+      finds 3 (λ v. Conf (CreatePipeQueue v.0 v.1.0 v.1.1.0 v.1.1.1.0 v.1.1.1.1)) (λ v is. (is.0, is.1.0, is.1.1.0, is.1.1.1.0, is.1.1.1.1)) (λ v. refl) pipe_created,
+      (
+        finds 4 (λ queue. Conf (DeleteQueue queue)) (λ v is. is) (λ v. refl) one_name,
+        (
+          finds 5 (λ queue. Conf (EnableQueue queue)) (λ v is. is) (λ v. refl) one_name,
+          (
+            finds 6 (λ queue. Conf (DisableQueue queue)) (λ v is. is) (λ v. refl) one_name,
+            (
+              finds 7 (λ queue. Conf (StartQueue queue)) (λ v is. is) (λ v. refl) one_name,
+              (
+                finds 8 (λ queue. Conf (StopQueue queue)) (λ v is. is) (λ v. refl) one_name,
+                (
+                  finds 9 (λ queue. Conf (PurgeQueue queue)) (λ v is. is) (λ v. refl) one_name,
+                  (
+                    finds 10 (λ queue. RowsOf (AbortQueue queue)) (λ v is. is) (λ v. refl) one_name,
+                    (
+                      finds 11 (λ v. Conf (SetPriority v.0 v.1)) (λ v is. is) (λ v. refl) (number_and_name 63 refl),
+                      (
+                        finds 12 (λ v. Conf (SetRunLimit v.0 v.1)) (λ v is. is) (λ v. refl) (number_and_name 10000 refl),
+                        (
+                          finds 13 (λ v. LimitsOf (SetUserLimit v.0 v.1)) (λ v is. is) (λ v. refl) user_limit,
+                          (
+                            finds 14 (λ v. LimitsOf (SetCpuLimit v.0 v.1)) (λ v is. is) (λ v. refl) cpu_or_memory,
+                            (
+                              finds 15 (λ v. LimitsOf (SetMemoryLimit v.0 v.1)) (λ v is. is) (λ v. refl) cpu_or_memory,
+                              (
+                                finds 16 (λ v. Conf (AddDestination v.0 v.1)) (λ v is. is) (λ v. refl) dest_and_name,
+                                (
+                                  finds 17 (λ v. Conf (RemoveDestination v.0 v.1)) (λ v is. is) (λ v. refl) dest_and_name,
+                                  (
+                                    finds 18 (λ complex. LimitsOf (CreateComplex complex)) (λ v is. is) (λ v. refl) one_name,
+                                    (
+                                      finds 19 (λ complex. LimitsOf (DeleteComplex complex)) (λ v is. is) (λ v. refl) one_name,
+                                      (
+                                        finds 20 (λ v. LimitsOf (AddQueue v.0 v.1)) (λ v is. is) (λ v. refl) two_names,
+                                        (
+                                          finds 21 (λ v. LimitsOf (RemoveQueue v.0 v.1)) (λ v is. is) (λ v. refl) two_names,
+                                          (
+                                            finds 22 (λ v. LimitsOf (SetComplexLimit v.0 v.1)) (λ v is. is) (λ v. refl) (number_and_name 10000 refl),
+                                            (
+                                              finds 23 (λ limit. LimitsOf (SetGlobalLimit limit)) (λ v is. is) (λ v. refl) (number 10000 refl),
+                                              (
+                                                finds 24 (λ v. DevicesOf (CreateDevice v.0 v.1)) (λ v is. is) (λ v. refl) two_names,
+                                                (
+                                                  finds 25 (λ device. DevicesOf (DeleteDevice device)) (λ v is. is) (λ v. refl) one_name,
+                                                  (
+                                                    finds 26 (λ device. DevicesOf (EnableDevice device)) (λ v is. is) (λ v. refl) one_name,
+                                                    (
+                                                      finds 27 (λ device. DevicesOf (DisableDevice device)) (λ v is. is) (λ v. refl) one_name,
+                                                      (
+                                                        finds 28 (λ v. DevicesOf (SetForms v.0 v.1)) (λ v is. is) (λ v. refl) two_names,
+                                                        (
+                                                          finds 29 (λ v. DevicesOf (AddDevice v.0 v.1)) (λ v is. is) (λ v. refl) two_names,
+                                                          (
+                                                            finds 30 (λ v. DevicesOf (RemoveDevice v.0 v.1)) (λ v is. is) (λ v. refl) two_names,
+                                                            (
+                                                              finds 31 (λ queue. AccessOf (SetUnrestrictedAccess queue)) (λ v is. is) (λ v. refl) one_name,
+                                                              (
+                                                                finds 32 (λ queue. AccessOf (SetNoAccess queue)) (λ v is. is) (λ v. refl) one_name,
+                                                                (
+                                                                  finds 33 (λ v. AccessOf (AddUser v.0 v.1)) (λ v is. is) (λ v. refl) two_names,
+                                                                  (
+                                                                    finds 34 (λ v. AccessOf (RemoveUser v.0 v.1)) (λ v is. is) (λ v. refl) two_names,
+                                                                    (
+                                                                      finds 35 (λ user. AccessOf (AddManager user)) (λ v is. is) (λ v. refl) one_name,
+                                                                      (
+                                                                        finds 36 (λ user. AccessOf (RemoveManager user)) (λ v is. is) (λ v. refl) one_name,
+                                                                        (
+                                                                          finds 37 (λ user. AccessOf (AddOperator user)) (λ v is. is) (λ v. refl) one_name,
+                                                                          (
+                                                                            finds 38 (λ user. AccessOf (RemoveOperator user)) (λ v is. is) (λ v. refl) one_name,
+                                                                            (
+                                                                              finds 39 (λ queue. Conf (SetDefaultQueue queue)) (λ v is. is) (λ v. refl) one_name,
+                                                                              (
+                                                                                finds 40 (λ _. Conf SetNoDefaultQueue) (λ v is. is) (λ v. refl) nothing,
+                                                                                (
+                                                                                  finds 41 (λ seconds. Conf (SetPatience seconds)) (λ v is. is) (λ v. refl) wait,
+                                                                                  (
+                                                                                    finds 42 (λ seconds. Conf (SetRetryWait seconds)) (λ v is. is) (λ v. refl) wait,
+                                                                                    (
+                                                                                      finds 43 (λ request. RowsOf (HoldRequest request)) (λ v is. is) (λ v. refl) named,
+                                                                                      (
+                                                                                        finds 44 (λ request. RowsOf (ReleaseRequest request)) (λ v is. is) (λ v. refl) named,
+                                                                                        (
+                                                                                          finds 45 (λ v. RowsOf (MoveRequest v.0 v.1)) (λ v is. is) (λ v. refl) named_and_name,
+                                                                                          (
+                                                                                            finds 46 (λ v. RowsOf (ModifyRequest v.0 v.1)) (λ v is. is) (λ v. refl) named_and_priority,
+                                                                                            tt,
+                                                                                          ),
+                                                                                        ),
+                                                                                      ),
+                                                                                    ),
+                                                                                  ),
+                                                                                ),
+                                                                              ),
+                                                                            ),
+                                                                          ),
+                                                                        ),
+                                                                      ),
+                                                                    ),
+                                                                  ),
+                                                                ),
+                                                              ),
+                                                            ),
+                                                          ),
+                                                        ),
+                                                      ),
+                                                    ),
+                                                  ),
+                                                ),
+                                              ),
+                                            ),
+                                          ),
+                                        ),
+                                      ),
+                                    ),
+                                  ),
+                                ),
+                              ),
+                            ),
+                          ),
+                        ),
+                      ),
+                    ),
+                  ),
+                ),
+              ),
+            ),
+          ),
+        ),
+      ),
+    ),
+  ),
+)
 
 no_edit : (at : ℕ) (bytes : List ℕ) (place : ℕ) (v : Edit × ℕ) → bad_at at bytes place ≡ Ok v → ⊥
 no_edit at bytes place v e = cc

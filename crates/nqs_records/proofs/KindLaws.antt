@@ -25,30 +25,75 @@ hand = both_read host_law (λ _ _. last_read u64_read)
 kinds_find : AllFind MayStand spelling 1 kinds
 unfolding kinds spelling site_at submitted_at deleted_at doomed_at started_at ended_at unlaunched_at boot_at edited_at hand_opened_at hand_committed_at hand_refused_at hands_silent_at hand_done_at promised_at accepted_at dropped_at moved_local_at refused_local_at held_far_at stage_got_at stage_gone_at file_gone_at
 kinds_find = (
-  finds 1 (λ v. Site v.0 v.1) (λ v is. is) (λ v. refl) (both_read host_law (λ me _. last_read (site_law me))), (
-  finds 2 (λ v. Submitted v.0 v.1.0 v.1.1) (λ v is. (is.0, is.1.0, is.1.1)) (λ v. refl) (both_read name_read λ _ _. both_read job_law λ _ _. last_read extent_law), (
-  finds 3 (λ v. Deleted v) (λ v is. is) (λ v. refl) (last_read id_law), (
-  finds 4 (λ v. Doomed v) (λ v is. is) (λ v. refl) (last_read id_law), (
-  finds 5 (λ v. Started v.0 v.1) (λ v is. is) (λ v. refl) (both_read id_law (λ _ _. last_read (opt_read name_read))), (
-  finds 6 (λ v. Ended v.0 v.1) (λ v is. is) (λ v. refl) (both_read id_law (λ _ _. last_read parts_law)), (
-  finds 7 (λ v. Unlaunched v) (λ v is. is) (λ v. refl) (last_read id_law), (
-  finds 8 (λ _. Boot) (λ v is. is) (λ v. refl) nothing, (
-  finds 9 (λ v. Edited v) (λ v is. is) (λ v. refl) (last_read edit_law), (
-  finds 10 (λ v. HandOpened v.0 v.1.0 v.1.1.0 v.1.1.1.0 v.1.1.1.1) (λ v is. (is.0, is.1.0, is.1.1.0, is.1.1.1.0, is.1.1.1.1)) (λ v. refl) (both_read host_law λ _ _. both_read u64_read λ _ _. both_read id_law λ _ _. both_read name_read λ _ _. last_read u64_read), (
-  finds 11 (λ v. HandCommitted v.0 v.1) (λ v is. is) (λ v. refl) hand, (
-  finds 12 (λ v. HandRefused v.0 v.1.0 v.1.1) (λ v is. (is.0, is.1.0, is.1.1)) (λ v. refl) (both_read host_law λ _ _. both_read u64_read λ _ _. last_read u8_read), (
-  finds 13 (λ v. HandsSilent v.0 v.1) (λ v is. is) (λ v. refl) (both_read u64_read (λ _ _. last_read hands_law)), (
-  finds 14 (λ v. HandDone v.0 v.1) (λ v is. is) (λ v. refl) hand, (
-  finds 15 (λ v. Promised v.0 v.1.0 v.1.1.0 v.1.1.1.0 v.1.1.1.1) (λ v is. (is.0, is.1.0, is.1.1.0, is.1.1.1.0, is.1.1.1.1)) (λ v. refl) (both_read host_law λ _ _. both_read u64_read λ _ _. both_read name_read λ _ _. both_read carried_law λ _ _. last_read extent_law), (
-  finds 16 (λ v. Accepted v.0 v.1) (λ v is. is) (λ v. refl) hand, (
-  finds 17 (λ v. Dropped v.0 v.1) (λ v is. is) (λ v. refl) hand, (
-  finds 18 (λ v. MovedLocal v.0 v.1) (λ v is. is) (λ v. refl) (both_read id_law (λ _ _. last_read name_read)), (
-  finds 19 (λ v. RefusedLocal v.0 v.1.0 v.1.1) (λ v is. (is.0, is.1.0, is.1.1)) (λ v. refl) (both_read id_law λ _ _. both_read name_read λ _ _. last_read u8_read), (
-  finds 20 (λ v. HeldFar v) (λ v is. is) (λ v. refl) (last_read id_law), (
-  finds 21 (λ v. StageGot v.0 v.1.0 v.1.1.0 v.1.1.1) (λ v is. (is.0, is.1.0, is.1.1.0, is.1.1.1)) (λ v. refl) (both_read host_law λ _ _. both_read u64_read λ _ _. both_read path_read λ _ _. last_read extent_law), (
-  finds 22 (λ v. StageGone v.0 v.1) (λ v is. is) (λ v. refl) hand, (
-  finds 23 (λ v. FileGone v) (λ v is. is) (λ v. refl) (last_read u64_read), tt
-)))))))))))))))))))))))
+  finds 1 (λ v. Site v.0 v.1) (λ v is. is) (λ v. refl) (both_read host_law (λ me _. last_read (site_law me))),
+  (
+    finds 2 (λ v. Submitted v.0 v.1.0 v.1.1) (λ v is. (is.0, is.1.0, is.1.1)) (λ v. refl) (both_read name_read λ _ _. both_read job_law λ _ _. last_read extent_law),
+    (
+      finds 3 (λ v. Deleted v) (λ v is. is) (λ v. refl) (last_read id_law),
+      (
+        finds 4 (λ v. Doomed v) (λ v is. is) (λ v. refl) (last_read id_law),
+        (
+          finds 5 (λ v. Started v.0 v.1) (λ v is. is) (λ v. refl) (both_read id_law (λ _ _. last_read (opt_read name_read))),
+          (
+            finds 6 (λ v. Ended v.0 v.1) (λ v is. is) (λ v. refl) (both_read id_law (λ _ _. last_read parts_law)),
+            (
+              finds 7 (λ v. Unlaunched v) (λ v is. is) (λ v. refl) (last_read id_law),
+              (
+                finds 8 (λ _. Boot) (λ v is. is) (λ v. refl) nothing,
+                (
+                  finds 9 (λ v. Edited v) (λ v is. is) (λ v. refl) (last_read edit_law),
+                  (
+                    finds 10 (λ v. HandOpened v.0 v.1.0 v.1.1.0 v.1.1.1.0 v.1.1.1.1) (λ v is. (is.0, is.1.0, is.1.1.0, is.1.1.1.0, is.1.1.1.1)) (λ v. refl) (both_read host_law λ _ _. both_read u64_read λ _ _. both_read id_law λ _ _. both_read name_read λ _ _. last_read u64_read),
+                    (
+                      finds 11 (λ v. HandCommitted v.0 v.1) (λ v is. is) (λ v. refl) hand,
+                      (
+                        finds 12 (λ v. HandRefused v.0 v.1.0 v.1.1) (λ v is. (is.0, is.1.0, is.1.1)) (λ v. refl) (both_read host_law λ _ _. both_read u64_read λ _ _. last_read u8_read),
+                        (
+                          finds 13 (λ v. HandsSilent v.0 v.1) (λ v is. is) (λ v. refl) (both_read u64_read (λ _ _. last_read hands_law)),
+                          (
+                            finds 14 (λ v. HandDone v.0 v.1) (λ v is. is) (λ v. refl) hand,
+                            (
+                              finds 15 (λ v. Promised v.0 v.1.0 v.1.1.0 v.1.1.1.0 v.1.1.1.1) (λ v is. (is.0, is.1.0, is.1.1.0, is.1.1.1.0, is.1.1.1.1)) (λ v. refl) (both_read host_law λ _ _. both_read u64_read λ _ _. both_read name_read λ _ _. both_read carried_law λ _ _. last_read extent_law),
+                              (
+                                finds 16 (λ v. Accepted v.0 v.1) (λ v is. is) (λ v. refl) hand,
+                                (
+                                  finds 17 (λ v. Dropped v.0 v.1) (λ v is. is) (λ v. refl) hand,
+                                  (
+                                    finds 18 (λ v. MovedLocal v.0 v.1) (λ v is. is) (λ v. refl) (both_read id_law (λ _ _. last_read name_read)),
+                                    (
+                                      finds 19 (λ v. RefusedLocal v.0 v.1.0 v.1.1) (λ v is. (is.0, is.1.0, is.1.1)) (λ v. refl) (both_read id_law λ _ _. both_read name_read λ _ _. last_read u8_read),
+                                      (
+                                        finds 20 (λ v. HeldFar v) (λ v is. is) (λ v. refl) (last_read id_law),
+                                        (
+                                          finds 21 (λ v. StageGot v.0 v.1.0 v.1.1.0 v.1.1.1) (λ v is. (is.0, is.1.0, is.1.1.0, is.1.1.1)) (λ v. refl) (both_read host_law λ _ _. both_read u64_read λ _ _. both_read path_read λ _ _. last_read extent_law),
+                                          (
+                                            finds 22 (λ v. StageGone v.0 v.1) (λ v is. is) (λ v. refl) hand,
+                                            (
+                                              finds 23 (λ v. FileGone v) (λ v is. is) (λ v. refl) (last_read u64_read),
+                                              tt,
+                                            ),
+                                          ),
+                                        ),
+                                      ),
+                                    ),
+                                  ),
+                                ),
+                              ),
+                            ),
+                          ),
+                        ),
+                      ),
+                    ),
+                  ),
+                ),
+              ),
+            ),
+          ),
+        ),
+      ),
+    ),
+  ),
+)
 
 no_change : (at : ℕ) (bytes : List ℕ) (place : ℕ) (v : HostChange × ℕ) → no_kind bytes place ≡ Ok v → ⊥
 no_change at bytes place v e = cc

@@ -78,8 +78,8 @@ job_law =
     (λ j is. (is.0, (is.1, (is.2, (is.3, (is.4, (is.5, (is.6, (is.7, (is.8, (is.9, is.10)))))))))))
     (λ v. refl)
     (both_read name_read λ _ _. both_read name_read λ _ _. both_read (within_read (is_at_most 63) priority_fits u8_read) λ _ _.
-      both_read u64_read λ _ _. both_read bool_read λ _ _. both_read (opt_read u64_read) λ _ _. both_read (opt_read u64_read) λ _ _.
-      both_read (opt_read name_read) λ _ _. both_read path_read λ _ _. both_read path_read λ _ _. last_read bool_read)
+    both_read u64_read λ _ _. both_read bool_read λ _ _. both_read (opt_read u64_read) λ _ _. both_read (opt_read u64_read) λ _ _.
+    both_read (opt_read name_read) λ _ _. both_read path_read λ _ _. both_read path_read λ _ _. last_read bool_read)
 
 pub carried_law : IsRead IsCarried carried_field carried_at
 unfolding carried_at carried_field
@@ -91,8 +91,8 @@ carried_law =
     (λ c is. (is.0, (is.1, (is.2, (is.3, is.4)))))
     (λ v. refl)
     (both_read id_law λ _ _. both_read job_law λ _ _. both_read (within_read (is_at_most 65534) starts_fit u16_read) λ starts few.
-      both_read (within_read (λ lost. lost == starts) (λ lost same. lost_fits starts lost few same) u16_read) λ _ _.
-      last_read (within_read (is_at_most 32) hops_fit u8_read))
+    both_read (within_read (λ lost. lost == starts) (λ lost same. lost_fits starts lost few same) u16_read) λ _ _.
+    last_read (within_read (is_at_most 32) hops_fit u8_read))
 
 pub part_law : IsRead IsPart part_field part_at
 unfolding part_at part_field

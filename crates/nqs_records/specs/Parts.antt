@@ -43,16 +43,16 @@ job_of v = record {
 
 unfoldable pub job_at : Reading Job
 job_at = mapped job_of (
-  both name_at λ _. both name_at λ _. both (within (is_at_most 63) u8_at) λ _. both u64_at λ _. both bool_at λ _.
-  both (opt_at u64_at) λ _. both (opt_at u64_at) λ _. both (opt_at name_at) λ _.
-  both path_at λ _. both path_at λ _. bool_at
-)
+    both name_at λ _. both name_at λ _. both (within (is_at_most 63) u8_at) λ _. both u64_at λ _. both bool_at λ _.
+    both (opt_at u64_at) λ _. both (opt_at u64_at) λ _. both (opt_at name_at) λ _.
+    both path_at λ _. both path_at λ _. bool_at
+    )
 
 unfoldable pub carried_at : Reading Carried
 carried_at = mapped (λ v. record { id = v.0; job = v.1.0; starts = v.1.1.0; lost = v.1.1.1.0; hops = v.1.1.1.1 }) (
-  both id_at λ _. both job_at λ _. both (within (is_at_most 65534) u16_at) λ starts.
-  both (within (λ lost. lost == starts) u16_at) λ _. within (is_at_most 32) u8_at
-)
+    both id_at λ _. both job_at λ _. both (within (is_at_most 65534) u16_at) λ starts.
+    both (within (λ lost. lost == starts) u16_at) λ _. within (is_at_most 32) u8_at
+    )
 
 unfoldable pub part_at : Reading (OutPart Extent)
 part_at = mapped (λ v. record { path = v.0; bytes = v.1 }) (both path_at (λ _. extent_at))

@@ -32,10 +32,10 @@ extent_field e = fields (u64_field e.place ∷ u32_field e.length ∷ [])
 
 unfoldable pub job_field : Job → List ℕ
 job_field j = fields (
-  short_field j.name ∷ short_field j.owner ∷ u8_field j.priority ∷ u64_field j.earliest ∷ bool_field j.rerun
-  ∷ opt_field u64_field j.limits.cpu ∷ opt_field u64_field j.limits.memory ∷ opt_field short_field j.forms
-  ∷ short_field j.out ∷ short_field j.err ∷ bool_field j.join ∷ []
-)
+    short_field j.name ∷ short_field j.owner ∷ u8_field j.priority ∷ u64_field j.earliest ∷ bool_field j.rerun
+    ∷ opt_field u64_field j.limits.cpu ∷ opt_field u64_field j.limits.memory ∷ opt_field short_field j.forms
+    ∷ short_field j.out ∷ short_field j.err ∷ bool_field j.join ∷ []
+    )
 
 unfoldable pub carried_field : Carried → List ℕ
 carried_field c = fields (id_field c.id ∷ job_field c.job ∷ u16_field c.starts ∷ u16_field c.lost ∷ u8_field c.hops ∷ [])

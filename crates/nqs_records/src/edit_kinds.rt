@@ -4,9 +4,11 @@ ghost use Rattle.std.specs.Prelude.{◌≡◌, ◌&&◌, nat_le, IsTrue};
 ghost use Rattle.nqs_records.specs.Reading.{numbered, bad_at};
 ghost use Rattle.nqs_records.specs.Edits.{edits};
 
-use crate::fault::RecordFault;
-use crate::edit_pairs::{read_dest_and_name, read_limit, read_names, read_number_and_name, read_user_limit};
+use crate::edit_pairs::{
+    read_dest_and_name, read_limit, read_names, read_number_and_name, read_user_limit,
+};
 use crate::edit_parts::{read_at_most, read_created, read_pipe_created};
+use crate::fault::RecordFault;
 use crate::field::read_name;
 use nqs_types::{ConfEdit, Edit, LimitsEdit, RowsEdit};
 
@@ -23,11 +25,27 @@ pub(crate) fn read_creation(
     match code {
         1 => {
             let (made, place) = read_created(bytes, place)?;
-            Ok((Edit::Conf(ConfEdit::CreateBatchQueue { queue: made.queue, priority: made.priority, run_limit: made.run_limit, pipe_only: made.pipe_only }), place))
+            Ok((
+                Edit::Conf(ConfEdit::CreateBatchQueue {
+                    queue: made.queue,
+                    priority: made.priority,
+                    run_limit: made.run_limit,
+                    pipe_only: made.pipe_only,
+                }),
+                place,
+            ))
         }
         2 => {
             let (made, place) = read_created(bytes, place)?;
-            Ok((Edit::Conf(ConfEdit::CreateDeviceQueue { queue: made.queue, priority: made.priority, run_limit: made.run_limit, pipe_only: made.pipe_only }), place))
+            Ok((
+                Edit::Conf(ConfEdit::CreateDeviceQueue {
+                    queue: made.queue,
+                    priority: made.priority,
+                    run_limit: made.run_limit,
+                    pipe_only: made.pipe_only,
+                }),
+                place,
+            ))
         }
         3 => read_pipe_created(bytes, place),
         _ => unreachable!(),
@@ -98,23 +116,38 @@ pub(crate) fn read_number_edit(
         }
         13 => {
             let ((limit, queue), place) = read_user_limit(bytes, place)?;
-            Ok((Edit::Limits(LimitsEdit::SetUserLimit { limit, queue }), place))
+            Ok((
+                Edit::Limits(LimitsEdit::SetUserLimit { limit, queue }),
+                place,
+            ))
         }
         14 => {
             let ((limit, queue), place) = read_limit(bytes, place)?;
-            Ok((Edit::Limits(LimitsEdit::SetCpuLimit { limit, queue }), place))
+            Ok((
+                Edit::Limits(LimitsEdit::SetCpuLimit { limit, queue }),
+                place,
+            ))
         }
         15 => {
             let ((limit, queue), place) = read_limit(bytes, place)?;
-            Ok((Edit::Limits(LimitsEdit::SetMemoryLimit { limit, queue }), place))
+            Ok((
+                Edit::Limits(LimitsEdit::SetMemoryLimit { limit, queue }),
+                place,
+            ))
         }
         16 => {
             let ((destination, queue), place) = read_dest_and_name(bytes, place)?;
-            Ok((Edit::Conf(ConfEdit::AddDestination { destination, queue }), place))
+            Ok((
+                Edit::Conf(ConfEdit::AddDestination { destination, queue }),
+                place,
+            ))
         }
         17 => {
             let ((destination, queue), place) = read_dest_and_name(bytes, place)?;
-            Ok((Edit::Conf(ConfEdit::RemoveDestination { destination, queue }), place))
+            Ok((
+                Edit::Conf(ConfEdit::RemoveDestination { destination, queue }),
+                place,
+            ))
         }
         _ => unreachable!(),
     }
@@ -145,11 +178,17 @@ pub(crate) fn read_complex_edit(
         }
         21 => {
             let ((queue, complex), place) = read_names(bytes, place)?;
-            Ok((Edit::Limits(LimitsEdit::RemoveQueue { queue, complex }), place))
+            Ok((
+                Edit::Limits(LimitsEdit::RemoveQueue { queue, complex }),
+                place,
+            ))
         }
         22 => {
             let ((limit, complex), place) = read_number_and_name(bytes, place, 10000)?;
-            Ok((Edit::Limits(LimitsEdit::SetComplexLimit { limit, complex }), place))
+            Ok((
+                Edit::Limits(LimitsEdit::SetComplexLimit { limit, complex }),
+                place,
+            ))
         }
         23 => {
             let (limit, place) = read_at_most(bytes, place, 10000)?;

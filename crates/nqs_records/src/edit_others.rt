@@ -4,9 +4,9 @@ ghost use Rattle.std.specs.Prelude.{◌≡◌, ◌&&◌, nat_le, IsTrue};
 ghost use Rattle.nqs_records.specs.Reading.{numbered, bad_at};
 ghost use Rattle.nqs_records.specs.Edits.{edits};
 
-use crate::fault::RecordFault;
 use crate::edit_pairs::{read_named_and_name, read_named_and_priority, read_names};
 use crate::edit_parts::{read_named, read_wait};
+use crate::fault::RecordFault;
 use crate::field::read_name;
 use nqs_types::{AccessEdit, ConfEdit, DevicesEdit, Edit, RowsEdit};
 
@@ -23,7 +23,10 @@ pub(crate) fn read_device_edit(
     match code {
         24 => {
             let ((device, forms), place) = read_names(bytes, place)?;
-            Ok((Edit::Devices(DevicesEdit::CreateDevice { device, forms }), place))
+            Ok((
+                Edit::Devices(DevicesEdit::CreateDevice { device, forms }),
+                place,
+            ))
         }
         25 => {
             let (device, place) = read_name(bytes, place)?;
@@ -39,15 +42,24 @@ pub(crate) fn read_device_edit(
         }
         28 => {
             let ((forms, device), place) = read_names(bytes, place)?;
-            Ok((Edit::Devices(DevicesEdit::SetForms { forms, device }), place))
+            Ok((
+                Edit::Devices(DevicesEdit::SetForms { forms, device }),
+                place,
+            ))
         }
         29 => {
             let ((device, queue), place) = read_names(bytes, place)?;
-            Ok((Edit::Devices(DevicesEdit::AddDevice { device, queue }), place))
+            Ok((
+                Edit::Devices(DevicesEdit::AddDevice { device, queue }),
+                place,
+            ))
         }
         30 => {
             let ((device, queue), place) = read_names(bytes, place)?;
-            Ok((Edit::Devices(DevicesEdit::RemoveDevice { device, queue }), place))
+            Ok((
+                Edit::Devices(DevicesEdit::RemoveDevice { device, queue }),
+                place,
+            ))
         }
         _ => unreachable!(),
     }
@@ -66,7 +78,10 @@ pub(crate) fn read_access_edit(
     match code {
         31 => {
             let (queue, place) = read_name(bytes, place)?;
-            Ok((Edit::Access(AccessEdit::SetUnrestrictedAccess { queue }), place))
+            Ok((
+                Edit::Access(AccessEdit::SetUnrestrictedAccess { queue }),
+                place,
+            ))
         }
         32 => {
             let (queue, place) = read_name(bytes, place)?;
@@ -115,9 +130,7 @@ pub(crate) fn read_default_edit(
             let (queue, place) = read_name(bytes, place)?;
             Ok((Edit::Conf(ConfEdit::SetDefaultQueue { queue }), place))
         }
-        40 => {
-            Ok((Edit::Conf(ConfEdit::SetNoDefaultQueue), place))
-        }
+        40 => { Ok((Edit::Conf(ConfEdit::SetNoDefaultQueue), place)) }
         41 => {
             let (seconds, place) = read_wait(bytes, place)?;
             Ok((Edit::Conf(ConfEdit::SetPatience { seconds }), place))
@@ -155,7 +168,10 @@ pub(crate) fn read_request_edit(
         }
         46 => {
             let ((request, priority), place) = read_named_and_priority(bytes, place)?;
-            Ok((Edit::Rows(RowsEdit::ModifyRequest { request, priority }), place))
+            Ok((
+                Edit::Rows(RowsEdit::ModifyRequest { request, priority }),
+                place,
+            ))
         }
         _ => unreachable!(),
     }

@@ -10,10 +10,7 @@ use crate::part::read_opt_u64;
 use nqs_types::{Name, Named, NamedDest};
 
 #[tactic(auto, unfolding(crate::specs::Edits::names_at))]
-pub(crate) fn read_names(
-    bytes: &[u8],
-    place: u64,
-) -> Result<((Name, Name), u64), RecordFault>
+pub(crate) fn read_names(bytes: &[u8], place: u64) -> Result<((Name, Name), u64), RecordFault>
     ensures { result ≡ names_at bytes.now place }
 {
     let (first, next) = read_name(bytes, place)?;

@@ -5,7 +5,7 @@ ghost use Rattle.nqs_records.specs.Reading.{Answers};
 ghost use Rattle.nqs_records.specs.Kinds.{accepted_at, dropped_at, hand_committed_at, hand_done_at, hand_opened_at, hand_refused_at, hands_silent_at, promised_at};
 
 use crate::fault::RecordFault;
-use crate::field::{read_name, read_u64, read_u8};
+use crate::field::{read_name, read_u8, read_u64};
 use crate::job::read_carried;
 use crate::lists::read_hands;
 use crate::part::{read_extent, read_host, read_id};

@@ -107,7 +107,11 @@ fn slice_of(bytes: &[u8], extent: Extent) -> &[u8]
     &bytes[start..start + extent.length as usize]
 }
 
-pub(crate) fn read_path(alloc: Global, bytes: &[u8], place: u64) -> Result<(Bytes, u64), RecordFault>
+pub(crate) fn read_path(
+    alloc: Global,
+    bytes: &[u8],
+    place: u64,
+) -> Result<(Bytes, u64), RecordFault>
     ensures { Answers (path_at bytes.now place) result }
 {
     match take_path(bytes, place) {
@@ -120,7 +124,11 @@ pub(crate) fn read_path(alloc: Global, bytes: &[u8], place: u64) -> Result<(Byte
 }
 
 #[tactic(auto, unfolding(crate::specs::Parts::part_at))]
-pub(crate) fn read_part(alloc: Global, bytes: &[u8], place: u64) -> Result<(OutPart, u64), RecordFault>
+pub(crate) fn read_part(
+    alloc: Global,
+    bytes: &[u8],
+    place: u64,
+) -> Result<(OutPart, u64), RecordFault>
     ensures { Answers (part_at bytes.now place) result }
 {
     let (path, next) = read_path(alloc, bytes, place)?;

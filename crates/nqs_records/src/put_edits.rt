@@ -3,7 +3,11 @@
 ghost use Rattle.nqs_records.specs.Adds.{Adds};
 ghost use Rattle.nqs_records.specs.EditSpelling.{edit_field, conf_field, limits_field, access_field, devices_field, rows_field};
 
-use crate::put_shapes::{put_code, put_created, put_pipe_created, put_with_dest, put_with_limit, put_with_name, put_with_names, put_with_number, put_with_number_and_name, put_with_request, put_with_request_and_name, put_with_request_and_number};
+use crate::put_shapes::{
+    put_code, put_created, put_pipe_created, put_with_dest, put_with_limit, put_with_name,
+    put_with_names, put_with_number, put_with_number_and_name, put_with_request,
+    put_with_request_and_name, put_with_request_and_number,
+};
 use nqs_types::{AccessEdit, ConfEdit, DevicesEdit, Edit, LimitsEdit, Memory, RowsEdit};
 
 #[tactic(auto, unfolding(crate::specs::EditSpelling::conf_field))]
@@ -11,19 +15,47 @@ fn put_conf(edit: ConfEdit, out: &mut Vec<u8>) -> Result<(), Memory>
     ensures { Adds out.old.items (conf_field edit) result out.new.items }
 {
     match edit {
-        ConfEdit::CreateBatchQueue { queue, priority, run_limit, pipe_only } => put_created(1, queue, priority, run_limit, pipe_only, out),
-        ConfEdit::CreateDeviceQueue { queue, priority, run_limit, pipe_only } => put_created(2, queue, priority, run_limit, pipe_only, out),
-        ConfEdit::CreatePipeQueue { queue, priority, run_limit, pipe_only, destination } => put_pipe_created(queue, priority, run_limit, pipe_only, destination, out),
+        ConfEdit::CreateBatchQueue {
+            queue,
+            priority,
+            run_limit,
+            pipe_only,
+        } => put_created(1, queue, priority, run_limit, pipe_only, out),
+        ConfEdit::CreateDeviceQueue {
+            queue,
+            priority,
+            run_limit,
+            pipe_only,
+        } => put_created(2, queue, priority, run_limit, pipe_only, out),
+        ConfEdit::CreatePipeQueue {
+            queue,
+            priority,
+            run_limit,
+            pipe_only,
+            destination,
+        } => put_pipe_created(queue, priority, run_limit, pipe_only, destination, out),
         ConfEdit::DeleteQueue { queue } => put_with_name(4, queue, out),
         ConfEdit::EnableQueue { queue } => put_with_name(5, queue, out),
         ConfEdit::DisableQueue { queue } => put_with_name(6, queue, out),
         ConfEdit::StartQueue { queue } => put_with_name(7, queue, out),
         ConfEdit::StopQueue { queue } => put_with_name(8, queue, out),
         ConfEdit::PurgeQueue { queue } => put_with_name(9, queue, out),
-        ConfEdit::SetPriority { priority, queue } => put_with_number_and_name(11, priority, queue, out),
+        ConfEdit::SetPriority { priority, queue } => put_with_number_and_name(
+            11, priority, queue, out,
+        ),
         ConfEdit::SetRunLimit { limit, queue } => put_with_number_and_name(12, limit, queue, out),
-        ConfEdit::AddDestination { destination, queue } => put_with_dest(16, destination, queue, out),
-        ConfEdit::RemoveDestination { destination, queue } => put_with_dest(17, destination, queue, out),
+        ConfEdit::AddDestination { destination, queue } => put_with_dest(
+            16,
+            destination,
+            queue,
+            out,
+        ),
+        ConfEdit::RemoveDestination { destination, queue } => put_with_dest(
+            17,
+            destination,
+            queue,
+            out,
+        ),
         ConfEdit::SetDefaultQueue { queue } => put_with_name(39, queue, out),
         ConfEdit::SetNoDefaultQueue => put_code(40, out),
         ConfEdit::SetPatience { seconds } => put_with_number(41, seconds, out),
@@ -43,7 +75,9 @@ fn put_limits(edit: LimitsEdit, out: &mut Vec<u8>) -> Result<(), Memory>
         LimitsEdit::DeleteComplex { complex } => put_with_name(19, complex, out),
         LimitsEdit::AddQueue { queue, complex } => put_with_names(20, queue, complex, out),
         LimitsEdit::RemoveQueue { queue, complex } => put_with_names(21, queue, complex, out),
-        LimitsEdit::SetComplexLimit { limit, complex } => put_with_number_and_name(22, limit, complex, out),
+        LimitsEdit::SetComplexLimit { limit, complex } => put_with_number_and_name(
+            22, limit, complex, out,
+        ),
         LimitsEdit::SetGlobalLimit { limit } => put_with_number(23, limit, out),
     }
 }
@@ -87,8 +121,12 @@ fn put_rows(edit: RowsEdit, out: &mut Vec<u8>) -> Result<(), Memory>
         RowsEdit::AbortQueue { queue } => put_with_name(10, queue, out),
         RowsEdit::HoldRequest { request } => put_with_request(43, request, out),
         RowsEdit::ReleaseRequest { request } => put_with_request(44, request, out),
-        RowsEdit::MoveRequest { request, queue } => put_with_request_and_name(45, request, queue, out),
-        RowsEdit::ModifyRequest { request, priority } => put_with_request_and_number(46, request, priority, out),
+        RowsEdit::MoveRequest { request, queue } => put_with_request_and_name(
+            45, request, queue, out,
+        ),
+        RowsEdit::ModifyRequest { request, priority } => put_with_request_and_number(
+            46, request, priority, out,
+        ),
     }
 }
 

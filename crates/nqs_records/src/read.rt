@@ -8,7 +8,9 @@ ghost use Rattle.nqs_records.specs.Changes.{ReadsTheSpelling, IsSpelledBy, Spell
 ghost use Rattle.nqs_records.specs.declared.fault.RecordFault.TheVariants.{Memory};
 
 use crate::edit_kinds::{read_complex_edit, read_creation, read_number_edit, read_queue_edit};
-use crate::edit_others::{read_access_edit, read_default_edit, read_device_edit, read_request_edit};
+use crate::edit_others::{
+    read_access_edit, read_default_edit, read_device_edit, read_request_edit,
+};
 use crate::fault::RecordFault;
 use crate::field::read_u8;
 use crate::hand_kinds::{

@@ -23,11 +23,7 @@ pub(crate) fn read_submitted(
     let (queue, place) = read_name(bytes, place)?;
     let (job, place) = read_job(alloc, bytes, place)?;
     let (script, place) = read_extent(bytes, place)?;
-    let change = Change::Submitted {
-        queue,
-        job,
-        script,
-    };
+    let change = Change::Submitted { queue, job, script };
     Ok((change, place))
 }
 
@@ -93,11 +89,7 @@ pub(crate) fn read_refused_local(bytes: &[u8], place: u64) -> Result<(Change, u6
     let (id, place) = read_id(bytes, place)?;
     let (queue, place) = read_name(bytes, place)?;
     let (cause, place) = read_u8(bytes, place)?;
-    let change = Change::RefusedLocal {
-        id,
-        queue,
-        cause,
-    };
+    let change = Change::RefusedLocal { id, queue, cause };
     Ok((change, place))
 }
 
