@@ -1,0 +1,12 @@
+pub mod IsRead
+pub mod Numbers
+pub mod Named
+pub mod Fronts
+pub mod Chains
+pub mod PartLaws
+pub mod Numbered
+pub mod EditShapes
+pub mod EditLaws
+pub mod KindLaws
+pub mod Spelled
+pub mod Joined

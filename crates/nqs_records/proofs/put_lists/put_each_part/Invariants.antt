@@ -1,0 +1,13 @@
+use Rattle.std.proofs.Common.{◌≡◌, ◌++◌, length}
+use Rattle.std.specs.Prelude.{flat_map}
+use Rattle.std.specs.List.{AllByRecursion}
+use Rattle.nqs_records.specs.Spelling.{part_field}
+use Rattle.nqs_records.specs.Values.{IsPart}
+use Rattle.nqs_records.proofs.put_lists.put_each_part.Given as goal
+
+-- what is there and the rest are the whole
+abbrev pub invariant-loop-item : goal.invariant-loop-item
+invariant-loop-item l = (l.fn.out.items ++ flat_map part_field l.items ≡ l.out.items ++ flat_map part_field l.rest) × AllByRecursion IsPart l.rest
+
+abbrev pub decreases-loop-item : goal.decreases-loop-item
+decreases-loop-item l = length l.rest

@@ -1,0 +1,11 @@
+pub mod Adds
+pub mod Reading
+pub mod Fields
+pub mod Values
+pub mod Parts
+pub mod Spelling
+pub mod EditSpelling
+pub mod EditValues
+pub mod Edits
+pub mod Kinds
+pub mod Changes

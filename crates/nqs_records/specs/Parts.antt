@@ -1,0 +1,61 @@
+-- Readings of what records are made of.
+use Rattle.std.specs.Prelude.{ℕ, Bool, ◌==◌, List, Option}
+use Rattle.nqs_types.specs.declared.ids.HostId.{HostId}
+use Rattle.nqs_types.specs.declared.ids.RequestId.{RequestId}
+use Rattle.nqs_types.specs.declared.ids.PeerNumber.{PeerNumber}
+use Rattle.nqs_types.specs.declared.extent.Extent.{Extent}
+use Rattle.nqs_types.specs.declared.request.Job.{Job}
+use Rattle.nqs_types.specs.declared.request.Carried.{Carried}
+use Rattle.nqs_types.specs.declared.change.OutPart.{OutPart}
+use Rattle.nqs_records.specs.Reading.{Reading, mapped, both, within, counted}
+use Rattle.nqs_records.specs.Fields.{u8_at, u16_at, u32_at, u64_at, bool_at, opt_at, name_at, path_at}
+use Rattle.nqs_records.specs.Values.{is_host, is_seq, is_at_most}
+
+unfoldable pub host_at : Reading HostId
+host_at = mapped (λ n. record { 0 = n }) (within is_host u8_at)
+
+unfoldable pub seq_at : Reading ℕ
+seq_at = within is_seq u32_at
+
+unfoldable pub id_at : Reading RequestId
+id_at = mapped (λ v. record { seq = v.0; host = v.1 }) (both seq_at (λ _. host_at))
+
+unfoldable pub extent_at : Reading Extent
+extent_at = mapped (λ v. record { place = v.0; length = v.1 }) (both u64_at (λ _. within (is_at_most 32768) u32_at))
+
+-- the values of a job's fields, in order
+abbrev pub JobFields : Type 0
+JobFields = List ℕ × (List ℕ × (ℕ × (ℕ × (Bool × (Option ℕ × (Option ℕ × (Option (List ℕ) × (List ℕ × (List ℕ × Bool)))))))))
+
+abbrev pub job_of : JobFields → Job
+job_of v = record {
+  name = v.0;
+  owner = v.1.0;
+  priority = v.1.1.0;
+  earliest = v.1.1.1.0;
+  rerun = v.1.1.1.1.0;
+  limits = record { cpu = v.1.1.1.1.1.0; memory = v.1.1.1.1.1.1.0 };
+  forms = v.1.1.1.1.1.1.1.0;
+  out = v.1.1.1.1.1.1.1.1.0;
+  err = v.1.1.1.1.1.1.1.1.1.0;
+  join = v.1.1.1.1.1.1.1.1.1.1;
+}
+
+unfoldable pub job_at : Reading Job
+job_at = mapped job_of (
+    both name_at λ _. both name_at λ _. both (within (is_at_most 63) u8_at) λ _. both u64_at λ _. both bool_at λ _.
+    both (opt_at u64_at) λ _. both (opt_at u64_at) λ _. both (opt_at name_at) λ _.
+    both path_at λ _. both path_at λ _. bool_at
+    )
+
+unfoldable pub carried_at : Reading Carried
+carried_at = mapped (λ v. record { id = v.0; job = v.1.0; starts = v.1.1.0; lost = v.1.1.1.0; hops = v.1.1.1.1 }) (
+    both id_at λ _. both job_at λ _. both (within (is_at_most 65534) u16_at) λ starts.
+    both (within (λ lost. lost == starts) u16_at) λ _. within (is_at_most 32) u8_at
+    )
+
+unfoldable pub part_at : Reading (OutPart Extent)
+part_at = mapped (λ v. record { path = v.0; bytes = v.1 }) (both path_at (λ _. extent_at))
+
+unfoldable pub hand_at : Reading PeerNumber
+hand_at = mapped (λ v. record { peer = v.0; number = v.1 }) (both host_at (λ _. u64_at))

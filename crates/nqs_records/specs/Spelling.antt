@@ -1,0 +1,47 @@
+-- The one spelling of each value. Fields stand one behind the other, and numbers with their highest byte first.
+use Rattle.std.specs.Prelude.{ℕ, Bool, true, false, List, [], ◌∷◌, ◌++◌, length, flat_map, Option, Some, None}
+use Rattle.nqs_codec.specs.Fields.{u8_field, u16_field, u32_field, u64_field, short_field, bool_field}
+use Rattle.nqs_types.specs.declared.ids.RequestId.{RequestId}
+use Rattle.nqs_types.specs.declared.ids.PeerNumber.{PeerNumber}
+use Rattle.nqs_types.specs.declared.extent.Extent.{Extent}
+use Rattle.nqs_types.specs.declared.request.Job.{Job}
+use Rattle.nqs_types.specs.declared.request.Carried.{Carried}
+use Rattle.nqs_types.specs.declared.change.OutPart.{OutPart}
+use Rattle.nqs_types.specs.declared.change.Change.{Change}
+use Rattle.nqs_types.specs.declared.change.Change.TheVariants.{Site, Submitted, Deleted, Doomed, Started, Ended, Unlaunched, Boot, Edited, HandOpened, HandCommitted, HandRefused, HandsSilent, HandDone, Promised, Accepted, Dropped, MovedLocal, RefusedLocal, HeldFar, StageGot, StageGone, FileGone}
+
+-- fields one behind the other
+abbrev pub fields : List (List ℕ) → List ℕ
+fields [] = []
+fields (f ∷ fs) = f ++ fields fs
+
+-- 0, or 1 and the field of what is there
+abbrev pub opt_field : {A : Type 0} → (A → List ℕ) → Option A → List ℕ
+opt_field {A} field None = bool_field false
+opt_field {A} field (Some a) = bool_field true ++ field a
+
+-- a byte that counts the values, and their fields
+unfoldable pub list_field : {A : Type 0} → (A → List ℕ) → List A → List ℕ
+list_field {A} field xs = u8_field (length xs) ++ flat_map field xs
+
+unfoldable pub id_field : RequestId → List ℕ
+id_field id = fields (u32_field id.seq ∷ u8_field id.host.0 ∷ [])
+
+unfoldable pub extent_field : Extent → List ℕ
+extent_field e = fields (u64_field e.place ∷ u32_field e.length ∷ [])
+
+unfoldable pub job_field : Job → List ℕ
+job_field j = fields (
+    short_field j.name ∷ short_field j.owner ∷ u8_field j.priority ∷ u64_field j.earliest ∷ bool_field j.rerun
+    ∷ opt_field u64_field j.limits.cpu ∷ opt_field u64_field j.limits.memory ∷ opt_field short_field j.forms
+    ∷ short_field j.out ∷ short_field j.err ∷ bool_field j.join ∷ []
+    )
+
+unfoldable pub carried_field : Carried → List ℕ
+carried_field c = fields (id_field c.id ∷ job_field c.job ∷ u16_field c.starts ∷ u16_field c.lost ∷ u8_field c.hops ∷ [])
+
+unfoldable pub part_field : OutPart Extent → List ℕ
+part_field p = fields (short_field p.path ∷ extent_field p.bytes ∷ [])
+
+unfoldable pub hand_field : PeerNumber → List ℕ
+hand_field h = fields (u8_field h.peer.0 ∷ u64_field h.number ∷ [])

@@ -1,0 +1,38 @@
+//! The journal records of a host: each change of its state has exactly one spelling as bytes.
+//!
+//! A record is its kind's byte and its fields, and nothing else (`specs/Changes.antt` has the fields of each kind).
+//! Numbers go with their highest byte first. A name or a path is a byte of length and its bytes; yes and no are 1
+//! and 0; what may be left out is 0, or 1 and the value; a list is a byte that counts it, and its values. A request
+//! is its sequence number (4 bytes) and its host (1); an extent its place (8) and its length (4). An edit is its
+//! code's byte and its arguments (`specs/EditSpelling.antt`).
+//!
+//! Fields are read in order, and the first fault is the answer. A value that is not all there is `Short`; one that
+//! is there and is past its limits (`specs/Values.antt`, `specs/EditValues.antt`) is `BadField` at its first byte.
+#![tactic(auto)]
+
+mod edit_kinds;
+mod edit_others;
+mod edit_pairs;
+mod edit_parts;
+mod fault;
+mod field;
+mod hand_kinds;
+mod host_kinds;
+mod job;
+mod lists;
+mod part;
+mod put_edits;
+mod put_kinds;
+mod put_lists;
+mod put_parts;
+mod put_shapes;
+mod read;
+mod request_kinds;
+mod write;
+
+pub use fault::RecordFault;
+pub use read::{read_change, reads_the_spelling};
+pub use write::write_change;
+
+#[cfg(test)]
+mod tests;

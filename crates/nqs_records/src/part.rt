@@ -1,0 +1,143 @@
+//! What records are made of: hosts, requests, extents, paths, jobs and what may be left out.
+
+ghost use Rattle.std.specs.Prelude.{◌≡◌, ◌<◌};
+ghost use Rattle.nqs_codec.specs.Takes.{IsExtentAt, extent_bytes};
+ghost use Rattle.nqs_records.specs.Reading.{Answers};
+ghost use Rattle.nqs_records.specs.Fields.{u64_at, name_at, path_at, opt_at};
+ghost use Rattle.nqs_records.specs.Parts.{host_at, seq_at, id_at, extent_at, part_at, hand_at};
+
+use crate::fault::RecordFault;
+use crate::field::{as_fault, read_bool, read_name, read_u8, read_u32, read_u64};
+use nqs_codec::take_path;
+use nqs_types::{Bytes, Extent, HostId, Name, OutPart, PeerNumber, RequestId};
+use std::alloc::Global;
+
+#[tactic(auto, unfolding(crate::specs::Fields::opt_at))]
+pub(crate) fn read_opt_u64(bytes: &[u8], place: u64) -> Result<(Option<u64>, u64), RecordFault>
+    ensures { result ≡ opt_at u64_at bytes.now place }
+{
+    let (is_there, next) = read_bool(bytes, place)?;
+    if !is_there {
+        return Ok((None, next));
+    }
+    let (value, end) = read_u64(bytes, next)?;
+    Ok((Some(value), end))
+}
+
+#[tactic(auto, unfolding(crate::specs::Fields::opt_at))]
+pub(crate) fn read_opt_name(bytes: &[u8], place: u64) -> Result<(Option<Name>, u64), RecordFault>
+    ensures { result ≡ opt_at name_at bytes.now place }
+{
+    let (is_there, next) = read_bool(bytes, place)?;
+    if !is_there {
+        return Ok((None, next));
+    }
+    let (name, end) = read_name(bytes, next)?;
+    Ok((Some(name), end))
+}
+
+#[tactic(auto, unfolding(crate::specs::Parts::host_at))]
+pub(crate) fn read_host(bytes: &[u8], place: u64) -> Result<(HostId, u64), RecordFault>
+    ensures { result ≡ host_at bytes.now place }
+{
+    let (host, next) = read_u8(bytes, place)?;
+    if host < 16 {
+        Ok((HostId(host), next))
+    } else {
+        Err(RecordFault::BadField(place))
+    }
+}
+
+#[tactic(auto, unfolding(crate::specs::Parts::id_at))]
+pub(crate) fn read_id(bytes: &[u8], place: u64) -> Result<(RequestId, u64), RecordFault>
+    ensures { result ≡ id_at bytes.now place }
+{
+    let (seq, next) = read_seq(bytes, place)?;
+    let (host, end) = read_host(bytes, next)?;
+    Ok((RequestId { seq, host }, end))
+}
+
+#[tactic(auto, unfolding(crate::specs::Parts::seq_at))]
+pub(crate) fn read_seq(bytes: &[u8], place: u64) -> Result<(u32, u64), RecordFault>
+    ensures { result ≡ seq_at bytes.now place }
+{
+    let (seq, next) = read_u32(bytes, place)?;
+    if 1 <= seq && seq <= 4_294_967_294 {
+        Ok((seq, next))
+    } else {
+        Err(RecordFault::BadField(place))
+    }
+}
+
+#[tactic(auto, unfolding(crate::specs::Parts::extent_at))]
+pub(crate) fn read_extent(bytes: &[u8], place: u64) -> Result<(Extent, u64), RecordFault>
+    ensures { result ≡ extent_at bytes.now place }
+{
+    let (start, next) = read_u64(bytes, place)?;
+    let (length, end) = read_u32(bytes, next)?;
+    if length <= 32_768 {
+        Ok((
+            Extent {
+                place: start,
+                length,
+            },
+            end,
+        ))
+    } else {
+        Err(RecordFault::BadField(next))
+    }
+}
+
+#[tactic(auto, unfolding(crate::specs::Parts::hand_at))]
+pub(crate) fn read_hand(bytes: &[u8], place: u64) -> Result<(PeerNumber, u64), RecordFault>
+    ensures { result ≡ hand_at bytes.now place }
+{
+    let (peer, next) = read_host(bytes, place)?;
+    let (number, end) = read_u64(bytes, next)?;
+    Ok((PeerNumber { peer, number }, end))
+}
+
+// The bytes of an extent that lies within.
+fn slice_of(bytes: &[u8], extent: Extent) -> &[u8]
+    requires inside { IsExtentAt bytes.now extent.place extent }
+    requires some { 0 < extent.length }
+    ensures { result.now ≡ extent_bytes bytes.now extent }
+{
+    let start = extent.place as usize;
+    &bytes[start..start + extent.length as usize]
+}
+
+pub(crate) fn read_path(
+    alloc: Global,
+    bytes: &[u8],
+    place: u64,
+) -> Result<(Bytes, u64), RecordFault>
+    ensures { Answers (path_at bytes.now place) result }
+{
+    match take_path(bytes, place) {
+        Ok((extent, next)) => {
+            let path = Vec::from_slice(alloc, slice_of(bytes, extent))?;
+            Ok((Bytes::from_vec(path), next))
+        }
+        Err(fault) => Err(as_fault(fault)),
+    }
+}
+
+#[tactic(auto, unfolding(crate::specs::Parts::part_at))]
+pub(crate) fn read_part(
+    alloc: Global,
+    bytes: &[u8],
+    place: u64,
+) -> Result<(OutPart, u64), RecordFault>
+    ensures { Answers (part_at bytes.now place) result }
+{
+    let (path, next) = read_path(alloc, bytes, place)?;
+    let (extent, end) = read_extent(bytes, next)?;
+    Ok((
+        OutPart {
+            path,
+            bytes: extent,
+        },
+        end,
+    ))
+}

@@ -1,0 +1,210 @@
+//! Kinds of record, put at the end of a list: the kind's number and its fields. After `Memory` a part may stand there.
+
+ghost use Rattle.std.specs.Prelude.{◌≡◌, ◌∷◌, []};
+ghost use Rattle.std.specs.Prelude.{◌<◌, length, IsTrue};
+ghost use Rattle.std.specs.List.{AllByRecursion};
+ghost use Rattle.nqs_types.specs.Path.{IsPath};
+ghost use Rattle.nqs_codec.specs.Fields.{u8_field, u64_field, short_field};
+ghost use Rattle.nqs_records.specs.Adds.{Adds};
+ghost use Rattle.nqs_records.specs.Spelling.{fields, opt_field, list_field, id_field, extent_field, job_field, carried_field, part_field, hand_field};
+ghost use Rattle.nqs_records.specs.Values.{IsJob, IsCarried, IsPart};
+
+use crate::put_lists::{put_hands, put_names, put_parts};
+use crate::put_parts::{put_carried, put_extent, put_id, put_job, put_opt_name};
+use nqs_codec::{put_name, put_path, put_u8, put_u64};
+use nqs_types::{Carried, Extent, HostId, Job, Memory, Name, OutPart, PeerNumber, RequestId};
+
+#[tactic(auto, using(crate::proofs::Joined::joined))]
+pub(crate) fn put_with_id(kind: u8, id: RequestId, out: &mut Vec<u8>) -> Result<(), Memory>
+    ensures { Adds out.old.items (fields (u8_field kind ∷ id_field id ∷ [])) result out.new.items }
+{
+    put_u8(kind, out)?;
+    put_id(id, out)?;
+    Ok(())
+}
+
+#[tactic(auto, using(crate::proofs::Joined::joined))]
+pub(crate) fn put_with_hand(
+    kind: u8,
+    peer: HostId,
+    number: u64,
+    out: &mut Vec<u8>,
+) -> Result<(), Memory>
+    ensures { Adds out.old.items (fields (u8_field kind ∷ u8_field peer.0 ∷ u64_field number ∷ [])) result out.new.items }
+{
+    put_u8(kind, out)?;
+    put_u8(peer.0, out)?;
+    put_u64(number, out)?;
+    Ok(())
+}
+
+#[tactic(auto, using(crate::proofs::Joined::joined))]
+pub(crate) fn put_site(me: HostId, site: &[Name], out: &mut Vec<u8>) -> Result<(), Memory>
+    requires { length site.now < 256 }
+    ensures { Adds out.old.items (fields (u8_field 1 ∷ u8_field me.0 ∷ list_field short_field site.now ∷ [])) result out.new.items }
+{
+    put_u8(1, out)?;
+    put_u8(me.0, out)?;
+    put_names(site, out)?;
+    Ok(())
+}
+
+#[tactic(auto, using(crate::proofs::Joined::joined))]
+pub(crate) fn put_submitted(
+    queue: &Name,
+    job: &Job,
+    script: Extent,
+    out: &mut Vec<u8>,
+) -> Result<(), Memory>
+    requires { IsJob job.now }
+    ensures { Adds out.old.items (fields (u8_field 2 ∷ short_field queue.now ∷ job_field job.now ∷ extent_field script ∷ [])) result out.new.items }
+{
+    put_u8(2, out)?;
+    put_name(queue, out)?;
+    put_job(job, out)?;
+    put_extent(script, out)?;
+    Ok(())
+}
+
+#[tactic(auto, using(crate::proofs::Joined::joined))]
+pub(crate) fn put_started(
+    id: RequestId,
+    device: &Option<Name>,
+    out: &mut Vec<u8>,
+) -> Result<(), Memory>
+    ensures { Adds out.old.items (fields (u8_field 5 ∷ id_field id ∷ opt_field short_field device.now ∷ [])) result out.new.items }
+{
+    put_u8(5, out)?;
+    put_id(id, out)?;
+    put_opt_name(device, out)?;
+    Ok(())
+}
+
+#[tactic(auto, using(crate::proofs::Joined::joined))]
+pub(crate) fn put_ended(id: RequestId, outputs: &[OutPart], out: &mut Vec<u8>) -> Result<(), Memory>
+    requires all { AllByRecursion IsPart outputs.now }
+    requires few { length outputs.now < 256 }
+    ensures { Adds out.old.items (fields (u8_field 6 ∷ id_field id ∷ list_field part_field outputs.now ∷ [])) result out.new.items }
+{
+    put_u8(6, out)?;
+    put_id(id, out)?;
+    put_parts(outputs, out)?;
+    Ok(())
+}
+
+#[tactic(auto, using(crate::proofs::Joined::joined))]
+pub(crate) fn put_hand_opened(
+    peer: HostId,
+    number: u64,
+    id: RequestId,
+    queue: &Name,
+    since: u64,
+    out: &mut Vec<u8>,
+) -> Result<(), Memory>
+    ensures { Adds out.old.items (fields (u8_field 10 ∷ u8_field peer.0 ∷ u64_field number ∷ id_field id ∷ short_field queue.now ∷ u64_field since ∷ [])) result out.new.items }
+{
+    put_u8(10, out)?;
+    put_u8(peer.0, out)?;
+    put_u64(number, out)?;
+    put_id(id, out)?;
+    put_name(queue, out)?;
+    put_u64(since, out)?;
+    Ok(())
+}
+
+#[tactic(auto, using(crate::proofs::Joined::joined))]
+pub(crate) fn put_hand_refused(
+    peer: HostId,
+    number: u64,
+    cause: u8,
+    out: &mut Vec<u8>,
+) -> Result<(), Memory>
+    ensures { Adds out.old.items (fields (u8_field 12 ∷ u8_field peer.0 ∷ u64_field number ∷ u8_field cause ∷ [])) result out.new.items }
+{
+    put_u8(12, out)?;
+    put_u8(peer.0, out)?;
+    put_u64(number, out)?;
+    put_u8(cause, out)?;
+    Ok(())
+}
+
+#[tactic(auto, using(crate::proofs::Joined::joined))]
+pub(crate) fn put_hands_silent(
+    until: u64,
+    hands: &[PeerNumber],
+    out: &mut Vec<u8>,
+) -> Result<(), Memory>
+    requires { length hands.now < 256 }
+    ensures { Adds out.old.items (fields (u8_field 13 ∷ u64_field until ∷ list_field hand_field hands.now ∷ [])) result out.new.items }
+{
+    put_u8(13, out)?;
+    put_u64(until, out)?;
+    put_hands(hands, out)?;
+    Ok(())
+}
+
+#[tactic(auto, using(crate::proofs::Joined::joined))]
+pub(crate) fn put_promised(
+    peer: HostId,
+    number: u64,
+    queue: &Name,
+    carried: &Carried,
+    script: Extent,
+    out: &mut Vec<u8>,
+) -> Result<(), Memory>
+    requires { IsCarried carried.now }
+    ensures { Adds out.old.items (fields (u8_field 15 ∷ u8_field peer.0 ∷ u64_field number ∷ short_field queue.now ∷ carried_field carried.now ∷ extent_field script ∷ [])) result out.new.items }
+{
+    put_u8(15, out)?;
+    put_u8(peer.0, out)?;
+    put_u64(number, out)?;
+    put_name(queue, out)?;
+    put_carried(carried, out)?;
+    put_extent(script, out)?;
+    Ok(())
+}
+
+#[tactic(auto, using(crate::proofs::Joined::joined))]
+pub(crate) fn put_moved_local(id: RequestId, queue: &Name, out: &mut Vec<u8>) -> Result<(), Memory>
+    ensures { Adds out.old.items (fields (u8_field 18 ∷ id_field id ∷ short_field queue.now ∷ [])) result out.new.items }
+{
+    put_u8(18, out)?;
+    put_id(id, out)?;
+    put_name(queue, out)?;
+    Ok(())
+}
+
+#[tactic(auto, using(crate::proofs::Joined::joined))]
+pub(crate) fn put_refused_local(
+    id: RequestId,
+    queue: &Name,
+    cause: u8,
+    out: &mut Vec<u8>,
+) -> Result<(), Memory>
+    ensures { Adds out.old.items (fields (u8_field 19 ∷ id_field id ∷ short_field queue.now ∷ u8_field cause ∷ [])) result out.new.items }
+{
+    put_u8(19, out)?;
+    put_id(id, out)?;
+    put_name(queue, out)?;
+    put_u8(cause, out)?;
+    Ok(())
+}
+
+#[tactic(auto, using(crate::proofs::Joined::joined))]
+pub(crate) fn put_stage_got(
+    peer: HostId,
+    number: u64,
+    path: &[u8],
+    bytes: Extent,
+    out: &mut Vec<u8>,
+) -> Result<(), Memory>
+    requires { IsPath path.now }
+    ensures { Adds out.old.items (fields (u8_field 21 ∷ u8_field peer.0 ∷ u64_field number ∷ short_field path.now ∷ extent_field bytes ∷ [])) result out.new.items }
+{
+    put_u8(21, out)?;
+    put_u8(peer.0, out)?;
+    put_u64(number, out)?;
+    put_path(path, out)?;
+    put_extent(bytes, out)?;
+    Ok(())
+}
