@@ -75,7 +75,10 @@ fn host(alloc: Global) -> Result<HostState, Fail> {
     let mut state = empty(alloc);
     add_queue(&mut state, queue(alloc, name(b"open")?, Access::All))?;
     let users = ListOf::of(alloc, name(b"carl")?)?;
-    add_queue(&mut state, queue(alloc, name(b"short")?, Access::Users(users)))?;
+    add_queue(
+        &mut state,
+        queue(alloc, name(b"short")?, Access::Users(users)),
+    )?;
     state.managers = ListOf::of(alloc, name(b"root")?)?;
     state.operators = ListOf::of(alloc, name(b"olga")?)?;
     Ok(state)

@@ -5,8 +5,8 @@ ghost use Rattle.nqs_rules.specs.Conf.{is_conf_within};
 use crate::*;
 use nqs_types::{
     Access, Change, ComplexDef, ConfEdit, Dest, Edit, Extent, Hold, HostId, HostState, Job, Kind,
-    Limits, ListOf, Memory, Name, NameFault, NamedDest, QueueDef, Refusal, RequestId, Row, RowState, Spare,
-    Table,
+    Limits, ListOf, Memory, Name, NameFault, NamedDest, QueueDef, Refusal, RequestId, Row,
+    RowState, Spare, Table,
 };
 use std::alloc::Global;
 use std::process::Abort;
@@ -142,7 +142,14 @@ fn host(alloc: Global) -> Result<HostState, Fail> {
     add_request(&mut state, row(alloc, used)?)?;
     let queues = ListOf::of(alloc, used)?;
     let name = name(b"both")?;
-    add_complex(&mut state, ComplexDef { name, limit: 1, queues })?;
+    add_complex(
+        &mut state,
+        ComplexDef {
+            name,
+            limit: 1,
+            queues,
+        },
+    )?;
     Ok(state)
 }
 

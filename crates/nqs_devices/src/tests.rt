@@ -176,9 +176,15 @@ fn refusals(rt: HostRuntime) -> Result<(), Fail> {
     for (edit, refusal) in [
         (create, Some(Refusal::DeviceExists(d1))),
         (forms, Some(Refusal::DeviceBusy(d2))),
-        (DevicesEdit::DeleteDevice { device: d2 }, Some(Refusal::DeviceBusy(d2))),
+        (
+            DevicesEdit::DeleteDevice { device: d2 },
+            Some(Refusal::DeviceBusy(d2)),
+        ),
         (DevicesEdit::DisableDevice { device: d2 }, None),
-        (DevicesEdit::EnableDevice { device: d9 }, Some(Refusal::NoDevice(d9))),
+        (
+            DevicesEdit::EnableDevice { device: d9 },
+            Some(Refusal::NoDevice(d9)),
+        ),
         (add(d9, d9), Some(Refusal::NoDevice(d9))),
         (add(d1, d9), Some(Refusal::NoQueue(d9))),
         (add(d1, jobs), Some(Refusal::WrongKind)),
@@ -196,10 +202,30 @@ fn effects(rt: HostRuntime) -> Result<(), Fail> {
     let mut state = four_devices(rt.alloc())?;
     let d4 = name(b"d4")?;
     let queue = name(b"plots")?;
-    edit(&mut state, DevicesEdit::DeleteDevice { device: name(b"d1")? })?;
-    edit(&mut state, DevicesEdit::RemoveDevice { device: name(b"d3")?, queue })?;
-    edit(&mut state, DevicesEdit::SetForms { forms: queue, device: d4 })?;
-    let devices = state.queues.get(&queue).map(|queue| queue.devices.as_slice());
+    edit(
+        &mut state,
+        DevicesEdit::DeleteDevice {
+            device: name(b"d1")?,
+        },
+    )?;
+    edit(
+        &mut state,
+        DevicesEdit::RemoveDevice {
+            device: name(b"d3")?,
+            queue,
+        },
+    )?;
+    edit(
+        &mut state,
+        DevicesEdit::SetForms {
+            forms: queue,
+            device: d4,
+        },
+    )?;
+    let devices = state
+        .queues
+        .get(&queue)
+        .map(|queue| queue.devices.as_slice());
     assert_eq!(rt; devices, Some([name(b"d2")?, d4].as_slice()));
     let changed = DeviceDef {
         name: d4,

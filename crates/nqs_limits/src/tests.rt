@@ -89,7 +89,14 @@ fn host(alloc: Global) -> Result<HostState, Fail> {
     add_queue(&mut state, queue(alloc, name(b"road")?, Kind::Pipe))?;
     let queues = ListOf::of(alloc, long)?;
     let name = name(b"all")?;
-    add_complex(&mut state, ComplexDef { name, limit: 1, queues })?;
+    add_complex(
+        &mut state,
+        ComplexDef {
+            name,
+            limit: 1,
+            queues,
+        },
+    )?;
     Ok(state)
 }
 

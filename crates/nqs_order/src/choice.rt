@@ -14,9 +14,7 @@ use nqs_types::{Choice, HostState, Kind, QueueDef, Row};
 fn is_candidate(state: &HostState, queue: &QueueDef, now: u64) -> bool
     ensures { result ≡ is_candidate now (content state.now) queue.now }
 {
-    queue.started
-        && is_within_limits(state, queue)
-        && first_row(state, queue, now).is_some()
+    queue.started && is_within_limits(state, queue) && first_row(state, queue, now).is_some()
 }
 
 fn is_greater(one: &QueueDef, other: &QueueDef) -> bool

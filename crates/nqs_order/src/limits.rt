@@ -49,9 +49,7 @@ fn complex_allows(state: &HostState, queue: &Name, complex: &ComplexDef) -> bool
 fn batch_allows(state: &HostState, queue: &Name) -> bool
     ensures { result ≡ batch_allows queue.now (content state.now) }
 {
-    state
-        .complexes
-        .all(|complex: &ComplexDef| complex_allows(state, queue, complex))
+    state.complexes.all(|complex: &ComplexDef| complex_allows(state, queue, complex))
         && state.rows.count(|row: &Row| runs_in_batch(state, row)) < state.global_limit as usize
 }
 

@@ -201,7 +201,10 @@ fn user_limits(rt: HostRuntime) -> Result<(), Fail> {
     other.job.owner = name(b"bob")?;
     add_row(&mut state, other)?;
     assert_eq!(rt; first_eligible(&state, 1, 100), Some(3));
-    state.queues.change(&name(b"jobs")?, |queue: &mut QueueDef| queue.user_limit = Some(1));
+    state.queues.change(
+        &name(b"jobs")?,
+        |queue: &mut QueueDef| queue.user_limit = Some(1),
+    );
     assert_eq!(rt; first_eligible(&state, 1, 100), Some(5));
     Ok(())
 }

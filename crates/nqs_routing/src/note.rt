@@ -9,7 +9,8 @@ ghost use Rattle.nqs_rules.specs.Routing.{dests_of, dests_for, is_present, with_
 
 use crate::dests::{find_peer, was_refused};
 use nqs_types::{
-    Dest, Hold, HostId, HostState, Name, Peer, QueueDef, Refused, RefusedList, RequestId, Row, Table,
+    Dest, Hold, HostId, HostState, Name, Peer, QueueDef, Refused, RefusedList, RequestId, Row,
+    Table,
 };
 
 // The destinations of a queue.

@@ -2,8 +2,8 @@
 
 use crate::{destination, note_refusal, note_silence};
 use nqs_types::{
-    Access, Change, Dest, Extent, Hand, Hold, HostId, HostState, Job, Keyed, Kind, Limits, ListOf, Name,
-    NameFault, Peer, Phase, QueueDef, RequestId, Row, RowState, Spare, Table,
+    Access, Change, Dest, Extent, Hand, Hold, HostId, HostState, Job, Keyed, Kind, Limits, ListOf,
+    Name, NameFault, Peer, Phase, QueueDef, RequestId, Row, RowState, Spare, Table,
 };
 use std::alloc::Global;
 use std::test::Fail;

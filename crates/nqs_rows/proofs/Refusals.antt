@@ -96,5 +96,5 @@ module _ {E : Type 0} (s : State E) where
       by None h = absurd (true≢false (sym h))
       by (Some r) h =
           let unused : nat_le 18446744073709551615 s.arrivals ≡ false =
-              last_fails (cause (not (list_any (is_queue q) s.queues)) (NoQueue q) ∷ idle_causes id r ++ causes_of (move_entry_causes r) (find_queue q s)) (arrivals_used s) NumbersUsed h in
+          last_fails (cause (not (list_any (is_queue q) s.queues)) (NoQueue q) ∷ idle_causes id r ++ causes_of (move_entry_causes r) (find_queue q s)) (arrivals_used s) NumbersUsed h in
           grind (arith, nat_tests)

@@ -182,7 +182,10 @@ fn submissions(rt: HostRuntime) -> Result<(), Fail> {
         job: job(alloc, None)?,
         script: ListOf::new(alloc),
     };
-    assert_eq!(rt; check_submit(&state, &submission).err(), Some(Refusal::NumbersUsed));
+    assert_eq!(rt;
+        check_submit(&state, &submission).err(),
+        Some(Refusal::NumbersUsed)
+    );
     Ok(())
 }
 
@@ -235,12 +238,18 @@ fn refusals(rt: HostRuntime) -> Result<(), Fail> {
         (hold(runs), Some(Refusal::RequestRunning(runs))),
         (hold(routing), Some(Refusal::RequestRouting(routing))),
         (hold(held), Some(Refusal::IsHeld(held))),
-        (RowsEdit::ReleaseRequest { request: first }, Some(Refusal::NotHeld(first))),
+        (
+            RowsEdit::ReleaseRequest { request: first },
+            Some(Refusal::NotHeld(first)),
+        ),
         (move_to(name(b"inner")?), None),
         (move_to(shut), Some(Refusal::Disabled(shut))),
         (modify(routing), Some(Refusal::RequestRouting(routing))),
         (modify(held), None),
-        (RowsEdit::AbortQueue { queue: pipe }, Some(Refusal::WrongKind)),
+        (
+            RowsEdit::AbortQueue { queue: pipe },
+            Some(Refusal::WrongKind),
+        ),
     ] {
         assert_eq!(rt; check_rows(&state, &edit).err(), refusal);
     }
@@ -267,13 +276,22 @@ fn effects(rt: HostRuntime) -> Result<(), Fail> {
     let queue = name(b"inner")?;
     let jobs = name(b"jobs")?;
     edit(&mut state, RowsEdit::MoveRequest { request, queue })?;
-    let moved = state.rows.get(&id(4, 0)).map(|row| (row.queue, row.arrival, row.hold));
+    let moved = state
+        .rows
+        .get(&id(4, 0))
+        .map(|row| (row.queue, row.arrival, row.hold));
     assert_eq!(rt; moved, Some((queue, 5, Hold::User)));
     assert_eq!(rt; state.arrivals, 5);
     edit(&mut state, RowsEdit::ReleaseRequest { request })?;
-    assert_eq!(rt; state.rows.get(&id(4, 0)).map(|row| row.hold), Some(Hold::No));
+    assert_eq!(rt;
+        state.rows.get(&id(4, 0)).map(|row| row.hold),
+        Some(Hold::No)
+    );
     edit(&mut state, RowsEdit::AbortQueue { queue: jobs })?;
-    assert_eq!(rt; state.rows.get(&id(1, 0)).map(|row| row.doomed), Some(false));
+    assert_eq!(rt;
+        state.rows.get(&id(1, 0)).map(|row| row.doomed),
+        Some(false)
+    );
     assert_eq!(rt; state.rows.get(&id(2, 0)).map(|row| row.doomed), Some(true));
     Ok(())
 }

@@ -1,8 +1,6 @@
 -- What each event may change of the network table, step by step.
-use Rattle.std.specs.Prelude.{◌≡◌, ◌⊎◌, ℕ, ◌+◌, ◌<◌, Bool, true, false, not, ◌&&◌, List, [], ◌∷◌, Option, None, Some}
+use Rattle.std.specs.Prelude.{◌≡◌, ◌+◌, ◌<◌, true, false, Option, None, Some}
 use Rattle.nqs_rules.specs.Net.{Entry}
-use Rattle.nqs_types.specs.declared.ids.HostId.{HostId}
-use Rattle.nqs_types.specs.declared.ids.RequestId.{RequestId}
 use Rattle.nqs_types.specs.declared.table_row.NetState.{NetState}
 use Rattle.nqs_types.specs.declared.table_row.NetState.TheVariants.{Queued, Held, Routing, Arriving, Running}
 

@@ -17,12 +17,12 @@ returns c =
     let dests : c.dests_of-dests.result.now ≡ dests_for row s = c.dests_of-dests.ensures in
     let grown : c.grown-refused.result ≡ row.refused ++ record { dest = dest; cause = cause } ∷ [] = c.grown-refused.ensures ∙ ap (λ l. l ++ record { dest = dest; cause = cause } ∷ []) c.as_slice.ensures in
     let kept : c.keep.new.self ≡ with_refusal (dests_for row s) dest cause row.refused =
-        c.keep.ensures (is_present c.dests_of-dests.result.now) (λ x r t call. search rules) ∙ (λ j. filter (is_present (dests j)) (grown j)) in
+    c.keep.ensures (is_present c.dests_of-dests.result.now) (λ x r t call. search rules) ∙ (λ j. filter (is_present (dests j)) (grown j)) in
     let held : c.all_refused-held.result ≡ all_refused (dests_for row s) (with_refusal (dests_for row s) dest cause row.refused) =
-        c.all_refused-held.ensures ∙ (λ j. all_refused (dests j) ((c.as_slice-2.ensures ∙ kept) j)) in
+    c.all_refused-held.ensures ∙ (λ j. all_refused (dests j) ((c.as_slice-2.ensures ∙ kept) j)) in
     ap (λ rs. record s { rows = rs }) (c.change.ensures.changed (λ r. refusal_noted (dests_for r s) dest cause r) (λ v w found ran.
-        let same : row ≡ v = same_Some _ _ (c.in-Some.ensures ∙ found) in
-        let set : w ≡ held_where c.all_refused-held.result (record v { refused = c.keep.new.self }) = search rules in
-        set
-        ∙ (λ j. held_where (held j) (record v { refused = kept j }))
-        ∙ (λ j. held_where (all_refused (dests_for (same j) s) (with_refusal (dests_for (same j) s) dest cause (same j).refused)) (record v { refused = with_refusal (dests_for (same j) s) dest cause (same j).refused }))))
+    let same : row ≡ v = same_Some _ _ (c.in-Some.ensures ∙ found) in
+    let set : w ≡ held_where c.all_refused-held.result (record v { refused = c.keep.new.self }) = search rules in
+    set
+    ∙ (λ j. held_where (held j) (record v { refused = kept j }))
+    ∙ (λ j. held_where (all_refused (dests_for (same j) s) (with_refusal (dests_for (same j) s) dest cause (same j).refused)) (record v { refused = with_refusal (dests_for (same j) s) dest cause (same j).refused }))))
