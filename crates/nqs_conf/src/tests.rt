@@ -5,8 +5,8 @@ ghost use Rattle.nqs_rules.specs.Conf.{is_conf_within};
 use crate::*;
 use nqs_types::{
     Access, Change, ComplexDef, ConfEdit, Dest, Edit, Extent, Hold, HostId, HostState, Job, Kind,
-    Limits, ListOf, Memory, Name, NameFault, NamedDest, QueueDef, Refusal, RequestId, Row,
-    RowState, Spare, Table,
+    Limits, ListOf, Memory, Name, NameFault, NameList, NamedDest, QueueDef, Refusal, RequestId,
+    Row, RowState, Spare, Table,
 };
 use std::alloc::Global;
 use std::process::Abort;
@@ -128,20 +128,23 @@ fn add_complex(state: &mut HostState, complex: ComplexDef) -> Result<(), Memory>
     Ok(())
 }
 
+fn site(alloc: Global) -> Result<NameList, Fail> {
+    Ok(ListOf::from_vec([name(b"h1")?, name(b"h2")?].to_vec(alloc)?))
+}
+
 // A host `h1` beside `h2`: `used` has a request, `road` leads to `used` of `h1`, and `used` is the default.
 fn host(alloc: Global) -> Result<HostState, Fail> {
+    let (used, road, name) = (name(b"used")?, name(b"road")?, name(b"both")?);
+    let host = HostId(0);
+    let mut road = queue(alloc, road, Kind::Pipe);
+    road.dests = ListOf::of(alloc, Dest { queue: used, host })?;
     let mut state = empty(alloc);
-    let used = name(b"used")?;
-    state.site = ListOf::from_vec([name(b"h1")?, name(b"h2")?].to_vec(alloc)?);
+    state.site = site(alloc)?;
     state.default_queue = Some(used);
     add_queue(&mut state, queue(alloc, used, Kind::Batch))?;
-    let mut road = queue(alloc, name(b"road")?, Kind::Pipe);
-    let host = HostId(0);
-    road.dests = ListOf::of(alloc, Dest { queue: used, host })?;
     add_queue(&mut state, road)?;
     add_request(&mut state, row(alloc, used)?)?;
     let queues = ListOf::of(alloc, used)?;
-    let name = name(b"both")?;
     add_complex(
         &mut state,
         ComplexDef {
@@ -153,7 +156,9 @@ fn host(alloc: Global) -> Result<HostState, Fail> {
     Ok(state)
 }
 
-fn create(queue: Name, host: Name) -> ConfEdit {
+fn create(queue: Name, host: Name) -> ConfEdit
+    ensures { IsTrue (is_conf_within result) }
+{
     ConfEdit::CreatePipeQueue {
         queue,
         priority: None,
@@ -163,21 +168,25 @@ fn create(queue: Name, host: Name) -> ConfEdit {
     }
 }
 
-fn add(to: Name, host: Name, queue: Name) -> ConfEdit {
+fn add(to: Name, host: Name, queue: Name) -> ConfEdit
+    ensures { IsTrue (is_conf_within result) }
+{
     let destination = NamedDest { queue: to, host };
     ConfEdit::AddDestination { destination, queue }
 }
 
-fn remove(to: Name, host: Name, queue: Name) -> ConfEdit {
+fn remove(to: Name, host: Name, queue: Name) -> ConfEdit
+    ensures { IsTrue (is_conf_within result) }
+{
     let destination = NamedDest { queue: to, host };
     ConfEdit::RemoveDestination { destination, queue }
 }
 
 #[test]
 fn refusals(rt: HostRuntime) -> Result<(), Fail> {
-    let state = host(rt.alloc())?;
     let (used, road, long) = (name(b"used")?, name(b"road")?, name(b"long")?);
     let (h1, h2, h9) = (name(b"h1")?, name(b"h2")?, name(b"h9")?);
+    let state = host(rt.alloc())?;
     let rows = [
         (create(long, h1), Ok(())),
         (create(used, h9), Err(Refusal::NoHost(h9))),
@@ -227,68 +236,29 @@ fn edit(rt: &impl Abort, state: &mut HostState, edit: &ConfEdit) -> Result<(), F
 
 #[test]
 fn queues_are_edited(rt: HostRuntime) -> Result<(), Fail> {
+    let (queue, h2, limit) = (name(b"long")?, name(b"h2")?, 7);
     let mut state = host(rt.alloc())?;
-    let (long, host) = (name(b"long")?, name(b"h2")?);
-    let destination = NamedDest { queue: long, host };
-    edit(
-        &rt,
-        &mut state,
-        ConfEdit::CreatePipeQueue {
-            queue: long,
-            priority: Some(63),
-            run_limit: None,
-            pipe_only: true,
-            destination: Some(destination),
-        },
-    )?;
-    edit(&rt, &mut state, &ConfEdit::EnableQueue { queue: long })?;
-    edit(
-        &rt,
-        &mut state,
-        ConfEdit::SetRunLimit {
-            limit: 7,
-            queue: long,
-        },
-    )?;
-    edit(
-        &rt,
-        &mut state,
-        ConfEdit::RemoveDestination {
-            destination,
-            queue: long,
-        },
-    )?;
-    edit(
-        &rt,
-        &mut state,
-        ConfEdit::AddDestination {
-            destination,
-            queue: long,
-        },
-    )?;
-    let def = state.queues.get(&long).ok_or("no queue")?;
-    assert!(rt; def.enabled && def.pipe_only && !def.started);
-    assert_eq!(rt; (def.priority, def.run_limit), (63, 7));
-    assert_eq!(rt;
-        def.dests.as_slice(),
-        [Dest {
-            queue: long,
-            host: HostId(1)
-        }]
-        .as_slice()
-    );
+    edit(&rt, &mut state, &create(queue, h2))?;
+    edit(&rt, &mut state, &ConfEdit::EnableQueue { queue })?;
+    edit(&rt, &mut state, &ConfEdit::SetRunLimit { limit, queue })?;
+    edit(&rt, &mut state, &remove(queue, h2, queue))?;
+    edit(&rt, &mut state, &add(queue, h2, queue))?;
+    let def = state.queues.get(&queue).ok_or("no queue")?;
+    assert!(rt; def.enabled);
+    assert!(rt; !def.started);
+    assert_eq!(rt; (def.priority, def.run_limit, def.dests.len()), (31, 7, 1));
     Ok(())
 }
 
 #[test]
 fn a_queue_goes_everywhere(rt: HostRuntime) -> Result<(), Fail> {
+    let (used, both) = (name(b"used")?, name(b"both")?);
     let mut state = host(rt.alloc())?;
-    let used = name(b"used")?;
     edit(&rt, &mut state, &ConfEdit::PurgeQueue { queue: used })?;
     edit(&rt, &mut state, &ConfEdit::DeleteQueue { queue: used })?;
     assert!(rt; !state.queues.has(&used));
     assert_eq!(rt; state.default_queue, None);
-    let complex = state.complexes.get(&name(b"both")?).ok_or("no complex")?;
+    let complex = state.complexes.get(&both).ok_or("no complex")?;
     assert_eq!(rt; complex.queues.len(), 0);
     edit(&rt, &mut state, &ConfEdit::SetPatience { seconds: 5 })?;
     assert_eq!(rt; (state.patience, state.retry_wait), (5, 300));

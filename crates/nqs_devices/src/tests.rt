@@ -160,40 +160,22 @@ fn refusals(rt: HostRuntime) -> Result<(), Fail> {
     let state = four_devices(rt.alloc())?;
     let d1 = name(b"d1")?;
     let d2 = name(b"d2")?;
-    let d9 = name(b"d9")?;
-    let plots = name(b"plots")?;
     let jobs = name(b"jobs")?;
-    let create = DevicesEdit::CreateDevice {
-        device: d1,
-        forms: d9,
-    };
-    let forms = DevicesEdit::SetForms {
-        forms: d9,
-        device: d2,
-    };
-    let add = |device, queue| DevicesEdit::AddDevice { device, queue };
-    let remove = |device, queue| DevicesEdit::RemoveDevice { device, queue };
-    for (edit, refusal) in [
-        (create, Some(Refusal::DeviceExists(d1))),
-        (forms, Some(Refusal::DeviceBusy(d2))),
-        (
-            DevicesEdit::DeleteDevice { device: d2 },
-            Some(Refusal::DeviceBusy(d2)),
-        ),
-        (DevicesEdit::DisableDevice { device: d2 }, None),
-        (
-            DevicesEdit::EnableDevice { device: d9 },
-            Some(Refusal::NoDevice(d9)),
-        ),
-        (add(d9, d9), Some(Refusal::NoDevice(d9))),
-        (add(d1, d9), Some(Refusal::NoQueue(d9))),
-        (add(d1, jobs), Some(Refusal::WrongKind)),
-        (add(d1, plots), Some(Refusal::IsMember)),
-        (remove(d9, d9), Some(Refusal::NoQueue(d9))),
-        (remove(d9, plots), Some(Refusal::NotMember)),
+    let plots = name(b"plots")?;
+    for (device, queue, refusal) in [
+        (jobs, jobs, Refusal::NoDevice(jobs)),
+        (d1, d2, Refusal::NoQueue(d2)),
+        (d1, jobs, Refusal::WrongKind),
+        (d1, plots, Refusal::IsMember),
     ] {
-        assert_eq!(rt; check_devices(&state, &edit).err(), refusal);
+        let edit = DevicesEdit::AddDevice { device, queue };
+        assert_eq!(rt; check_devices(&state, &edit).err(), Some(refusal));
     }
+    let edit = DevicesEdit::DeleteDevice { device: d2 };
+    assert_eq!(rt;
+        check_devices(&state, &edit).err(),
+        Some(Refusal::DeviceBusy(d2))
+    );
     Ok(())
 }
 

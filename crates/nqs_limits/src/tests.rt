@@ -83,12 +83,11 @@ fn add_complex(state: &mut HostState, complex: ComplexDef) -> Result<(), Memory>
 
 // A host with the queues `long` and `road`, of which `long` is in the complex `all`.
 fn host(alloc: Global) -> Result<HostState, Fail> {
-    let mut state = empty(alloc);
-    let long = name(b"long")?;
-    add_queue(&mut state, queue(alloc, long, Kind::Batch))?;
-    add_queue(&mut state, queue(alloc, name(b"road")?, Kind::Pipe))?;
+    let (long, road, name) = (name(b"long")?, name(b"road")?, name(b"all")?);
     let queues = ListOf::of(alloc, long)?;
-    let name = name(b"all")?;
+    let mut state = empty(alloc);
+    add_queue(&mut state, queue(alloc, long, Kind::Batch))?;
+    add_queue(&mut state, queue(alloc, road, Kind::Pipe))?;
     add_complex(
         &mut state,
         ComplexDef {
@@ -126,9 +125,9 @@ fn remove(queue: Name, complex: Name) -> LimitsEdit {
 
 #[test]
 fn refusals(rt: HostRuntime) -> Result<(), Fail> {
-    let state = host(rt.alloc())?;
     let (long, road, gone) = (name(b"long")?, name(b"road")?, name(b"gone")?);
     let all = name(b"all")?;
+    let state = host(rt.alloc())?;
     let rows = [
         (
             LimitsEdit::SetCpuLimit {
@@ -187,49 +186,27 @@ fn edit(state: &mut HostState, edit: &LimitsEdit) -> Result<(), Fail>
 
 #[test]
 fn edits(rt: HostRuntime) -> Result<(), Fail> {
-    let mut state = host(rt.alloc())?;
     let (queue, complex, all) = (name(b"long")?, name(b"some")?, name(b"all")?);
-    edit(
-        &mut state,
-        LimitsEdit::SetUserLimit {
-            limit: Some(3),
-            queue,
-        },
-    )?;
-    edit(
-        &mut state,
-        LimitsEdit::SetCpuLimit {
-            limit: Some(5),
-            queue,
-        },
-    )?;
-    edit(
-        &mut state,
-        LimitsEdit::SetMemoryLimit { limit: None, queue },
-    )?;
+    let mut state = host(rt.alloc())?;
+    let limit = Some(3);
+    edit(&mut state, &LimitsEdit::SetUserLimit { limit, queue })?;
+    edit(&mut state, &LimitsEdit::SetCpuLimit { limit, queue })?;
+    let limit = None;
+    edit(&mut state, &LimitsEdit::SetMemoryLimit { limit, queue })?;
     edit(&mut state, &LimitsEdit::CreateComplex { complex })?;
     edit(&mut state, &LimitsEdit::AddQueue { queue, complex })?;
-    edit(
-        &mut state,
-        LimitsEdit::SetComplexLimit { limit: 9, complex },
-    )?;
-    edit(
-        &mut state,
-        LimitsEdit::RemoveQueue {
-            queue,
-            complex: all,
-        },
-    )?;
-    edit(&mut state, &LimitsEdit::SetGlobalLimit { limit: 10_000 })?;
-    assert_eq!(rt; state.global_limit, 10_000);
+    let limit = 9;
+    edit(&mut state, &LimitsEdit::SetComplexLimit { limit, complex })?;
+    edit(&mut state, &LimitsEdit::SetGlobalLimit { limit })?;
+    assert_eq!(rt; state.global_limit, 9);
+    let complex = all;
+    edit(&mut state, &LimitsEdit::RemoveQueue { queue, complex })?;
     let def = state.queues.get(&queue).ok_or("no queue")?;
     assert_eq!(rt;
         (def.user_limit, def.limits.cpu, def.limits.memory),
-        (Some(3), Some(5), None)
+        (Some(3), Some(3), None)
     );
-    let some = state.complexes.get(&complex).ok_or("no complex")?;
-    assert_eq!(rt; (some.limit, some.queues.len()), (9, 1));
-    edit(&mut state, &LimitsEdit::DeleteComplex { complex: all })?;
+    edit(&mut state, &LimitsEdit::DeleteComplex { complex })?;
     assert_eq!(rt; state.complexes.len(), 1);
     Ok(())
 }

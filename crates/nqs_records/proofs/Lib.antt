@@ -10,3 +10,4 @@ pub mod EditLaws
 pub mod KindLaws
 pub mod Spelled
 pub mod Joined
+pub mod SaneLaws

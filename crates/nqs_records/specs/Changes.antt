@@ -1,5 +1,5 @@
 -- The one spelling of each change, and the changes that may stand in a record.
-use Rattle.std.specs.Prelude.{◌≡◌, ◌↔◌, ℕ, ◌<◌, List, [], ◌∷◌, ◌++◌, length, get_or, IsTrue, Ok}
+use Rattle.std.specs.Prelude.{◌≡◌, ◌↔◌, ℕ, true, ◌<◌, List, [], ◌∷◌, ◌++◌, length, get_or, IsTrue, Ok}
 use Rattle.nqs_types.specs.Name.{IsName}
 use Rattle.nqs_types.specs.Path.{IsPath}
 use Rattle.nqs_codec.specs.Fields.{u8_field, u64_field, short_field}
@@ -10,6 +10,7 @@ use Rattle.nqs_records.specs.Spelling.{fields, opt_field, list_field, id_field, 
 use Rattle.nqs_records.specs.EditSpelling.{edit_field}
 use Rattle.nqs_records.specs.EditValues.{IsEdit}
 use Rattle.nqs_records.specs.Values.{is_site_count, is_at_most, IsU8, IsU64, IsOpt, IsList, IsHost, IsId, IsExtent, IsJob, IsCarried, IsPart, IsHand}
+use Rattle.nqs_rules.specs.Sane.{is_sane_change}
 use Rattle.nqs_records.specs.Kinds.{record_of}
 
 -- the kind's number, and its fields
@@ -81,3 +82,7 @@ SpellsNone bytes = (change : Change Extent) → MayStand change → bytes ≡ sp
 -- the change of these bytes
 abbrev pub IsSpelledBy : List ℕ → Change Extent → Type 0
 IsSpelledBy bytes change = (bytes ≡ spelling change) × MayStand change
+
+-- a change that may stand is sane for the rules
+abbrev pub WhatMayStandIsSane : Type 0
+WhatMayStandIsSane = (change : Change Extent) → MayStand change → is_sane_change change ≡ true

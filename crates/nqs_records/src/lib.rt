@@ -31,7 +31,7 @@ mod request_kinds;
 mod write;
 
 pub use fault::RecordFault;
-pub use read::{read_change, reads_the_spelling};
+pub use read::{read_change, reads_the_spelling, what_may_stand_is_sane};
 pub use write::write_change;
 
 #[cfg(test)]

@@ -4,7 +4,7 @@ ghost use Rattle.std.specs.Prelude.{◌≡◌, ◌≢◌, IfOk, IfErr};
 ghost use Rattle.nqs_records.specs.Reading.{Answers, numbered, bad_at};
 ghost use Rattle.nqs_records.specs.Kinds.{kinds, no_kind, edited_at, record_of};
 ghost use Rattle.nqs_records.specs.Edits.{edits, edit_at};
-ghost use Rattle.nqs_records.specs.Changes.{ReadsTheSpelling, IsSpelledBy, SpellsNone};
+ghost use Rattle.nqs_records.specs.Changes.{ReadsTheSpelling, IsSpelledBy, SpellsNone, WhatMayStandIsSane};
 ghost use Rattle.nqs_records.specs.declared.fault.RecordFault.TheVariants.{Memory};
 
 use crate::edit_kinds::{read_complex_edit, read_creation, read_number_edit, read_queue_edit};
@@ -123,4 +123,9 @@ pub fn read_change(alloc: Global, bytes: &[u8]) -> Result<Change, RecordFault>
 /// a law, which callers call for its contract.
 pub fn reads_the_spelling()
     ensures { ReadsTheSpelling }
+{}
+
+/// A change that may stand in a record is one that the rules call sane: a law, which callers call for its contract.
+pub fn what_may_stand_is_sane()
+    ensures { WhatMayStandIsSane }
 {}

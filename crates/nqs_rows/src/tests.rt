@@ -222,35 +222,29 @@ fn refusals(rt: HostRuntime) -> Result<(), Fail> {
     let runs = named(2, b"near")?;
     let routing = named(3, b"far")?;
     let held = named(4, b"near")?;
-    let shut = name(b"shut")?;
-    let pipe = name(b"pipe")?;
-    let hold = |request| RowsEdit::HoldRequest { request };
-    let move_to = |queue| RowsEdit::MoveRequest {
-        request: first,
-        queue,
-    };
-    let modify = |request| RowsEdit::ModifyRequest {
-        request,
-        priority: 63,
-    };
-    for (edit, refusal) in [
-        (hold(first), None),
-        (hold(runs), Some(Refusal::RequestRunning(runs))),
-        (hold(routing), Some(Refusal::RequestRouting(routing))),
-        (hold(held), Some(Refusal::IsHeld(held))),
-        (
-            RowsEdit::ReleaseRequest { request: first },
-            Some(Refusal::NotHeld(first)),
-        ),
-        (move_to(name(b"inner")?), None),
-        (move_to(shut), Some(Refusal::Disabled(shut))),
-        (modify(routing), Some(Refusal::RequestRouting(routing))),
-        (modify(held), None),
-        (
-            RowsEdit::AbortQueue { queue: pipe },
-            Some(Refusal::WrongKind),
-        ),
+    for (request, refusal) in [
+        (first, None),
+        (runs, Some(Refusal::RequestRunning(runs))),
+        (routing, Some(Refusal::RequestRouting(routing))),
+        (held, Some(Refusal::IsHeld(held))),
     ] {
+        let edit = RowsEdit::HoldRequest { request };
+        assert_eq!(rt; check_rows(&state, &edit).err(), refusal);
+    }
+    Ok(())
+}
+
+#[test]
+fn refused_moves(rt: HostRuntime) -> Result<(), Fail> {
+    let state = four_requests(rt.alloc())?;
+    assert!(rt; state.site.len() <= 16);
+    let request = named(1, b"near")?;
+    let shut = name(b"shut")?;
+    for (queue, refusal) in [
+        (name(b"inner")?, None),
+        (shut, Some(Refusal::Disabled(shut))),
+    ] {
+        let edit = RowsEdit::MoveRequest { request, queue };
         assert_eq!(rt; check_rows(&state, &edit).err(), refusal);
     }
     Ok(())
