@@ -16,6 +16,3 @@ pub use names::{drop_name, has_name, known_queue};
 pub use nqs_types::{Entry, Rank};
 pub use ranks::{may_command, rank};
 pub use way::may_use;
-
-#[cfg(test)]
-mod tests;

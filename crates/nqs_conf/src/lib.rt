@@ -11,6 +11,3 @@ mod dest;
 
 pub use apply::apply_conf;
 pub use check::check_conf;
-
-#[cfg(test)]
-mod tests;

@@ -10,6 +10,3 @@ mod free;
 pub use apply::apply_devices;
 pub use check::check_devices;
 pub use free::{free_device, has_name};
-
-#[cfg(test)]
-mod tests;

@@ -16,6 +16,3 @@ pub use check::check_limits;
 pub use over::over_limits;
 pub use size::read_size;
 pub use time::read_time;
-
-#[cfg(test)]
-mod tests;

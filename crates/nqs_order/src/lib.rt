@@ -12,6 +12,3 @@ pub use choice::pick;
 pub use eligible::first_eligible;
 pub use limits::within_limits;
 pub use nqs_types::Choice;
-
-#[cfg(test)]
-mod tests;

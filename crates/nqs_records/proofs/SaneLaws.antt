@@ -108,7 +108,6 @@ rows_sane (ReleaseRequest request) is = refl
 rows_sane (MoveRequest request queue) is = refl
 rows_sane (ModifyRequest request priority) is = is.1
 
-
 edit_sane : (e : Edit) → IsEdit e → is_sane_edit e ≡ true
 edit_sane (Conf e) is = conf_sane e is
 edit_sane (LimitsOf e) is = limits_sane e is

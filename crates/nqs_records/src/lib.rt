@@ -33,6 +33,3 @@ mod write;
 pub use fault::RecordFault;
 pub use read::{read_change, reads_the_spelling, what_may_stand_is_sane};
 pub use write::write_change;
-
-#[cfg(test)]
-mod tests;

@@ -9,6 +9,3 @@ mod note;
 
 pub use dests::{destination, destination_in};
 pub use note::{note_refusal, note_silence};
-
-#[cfg(test)]
-mod tests;

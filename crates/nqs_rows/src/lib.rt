@@ -12,6 +12,3 @@ mod submit;
 pub use apply::apply_rows;
 pub use check::{check_delete, check_rows};
 pub use submit::check_submit;
-
-#[cfg(test)]
-mod tests;
