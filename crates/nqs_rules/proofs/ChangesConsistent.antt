@@ -43,7 +43,7 @@ use Rattle.nqs_rules.proofs.RowKinds.{found_row}
 use Rattle.nqs_rules.proofs.ConfOrder.{Allows, none_holds}
 use Rattle.nqs_rules.proofs.EditOrder.{meant}
 use Rattle.nqs_rules.proofs.ChangesOrder.{with_offer, with_promise}
-use Rattle.nqs_rules.proofs.OnceOrder.{file_keeps, outputs_keep}
+use Rattle.nqs_rules.proofs.OutputsKept.{file_keeps, outputs_keep}
 use Rattle.nqs_rules.proofs.Consistent.{same_core, IsCalm, row_stays, rows_stay}
 use Rattle.nqs_rules.proofs.ConsistentOrder.{queued_calm, ready_spared, deleted_calm, submitted_calm, booted_calm, aborted_calm, opened_calm, committed_calm, done_calm, refused_calm, promised_calm, dropped_calm, accepted_calm, silent_calm}
 

@@ -19,7 +19,6 @@ use Rattle.nqs_rules.specs.Routing.{is_hand_to}
 use Rattle.nqs_rules.specs.Sane.{is_sane_edit, has_path, is_sane_change}
 use Rattle.nqs_rules.specs.Applied.{dropped, applied, edit_applied, doomed_row, held_far, hand_committed, hand_refused, accepted}
 use Rattle.nqs_rules.specs.Fits.{fits, edit_fits, is_offered_hand, runs, may_hop, is_next, is_open_number, is_site_host, is_unknown, offer_full, row_passes, hand_passes, device_fits}
-use Rattle.nqs_rules.specs.DeviceLists.{lists_devices_once}
 use Rattle.nqs_rules.specs.InOrder.{IsInOrder}
 use Rattle.nqs_rules.proofs.Chains.{each}
 use Rattle.nqs_rules.proofs.KeyFacts.{found_any}
@@ -51,46 +50,46 @@ module _ {E : Type 0} (P : State E → Type 0) (s : State E) (peer : HostId) (nu
       of (Some x) e fit = kept x e
 
 module _ {E : Type 0} where
-  edit_order : (e : Edit) (s : State E) → IsInOrder s → lists_devices_once s ≡ true → is_sane_edit e ≡ true → edit_fits e s ≡ true → IsInOrder (edit_applied e s)
-  edit_order (Conf e) s h once sane fit = conf_order s h e sane fit
-  edit_order (LimitsOf e) s h once sane fit = limits_order s h e sane fit
-  edit_order (AccessOf e) s h once sane fit = access_order s h e fit
-  edit_order (DevicesOf e) s h once sane fit = devices_order s h e once fit
-  edit_order (RowsOf e) s h once sane fit = rows_order s h e sane fit
+  edit_order : (e : Edit) (s : State E) → IsInOrder s → is_sane_edit e ≡ true → edit_fits e s ≡ true → IsInOrder (edit_applied e s)
+  edit_order (Conf e) s h sane fit = conf_order s h e sane fit
+  edit_order (LimitsOf e) s h sane fit = limits_order s h e sane fit
+  edit_order (AccessOf e) s h sane fit = access_order s h e fit
+  edit_order (DevicesOf e) s h sane fit = devices_order s h e fit
+  edit_order (RowsOf e) s h sane fit = rows_order s h e sane fit
 
-  pub applied_order : (c : Change E) (s : State E) → IsInOrder s → lists_devices_once s ≡ true → is_sane_change c ≡ true → fits c s ≡ true → IsInOrder (applied c s)
-  applied_order (Site me site) s h once sane fit = absurd (true≢false (sym fit))
-  applied_order (Submitted queue job script) s h once sane fit =
+  pub applied_order : (c : Change E) (s : State E) → IsInOrder s → is_sane_change c ≡ true → fits c s ≡ true → IsInOrder (applied c s)
+  applied_order (Site me site) s h sane fit = absurd (true≢false (sym fit))
+  applied_order (Submitted queue job script) s h sane fit =
       let p = each (has_queue queue s) (not (is_host_full s) ∷ nat_lt s.seq last_seq ∷ not (arrivals_used s) ∷ []) fit in
       submitted_order s h queue job script sane p.0 (not-true (is_host_full s) p.1.0) p.1.1.0 (not-true (arrivals_used s) p.1.1.1.0)
-  applied_order (Deleted id) s h once sane fit = deleted_order s h id
-  applied_order (Doomed id) s h once sane fit = row_changed s id doomed_row h (λ q. refl) (λ q e k. k) (λ q. refl) (unoffered runs id s h running_unrouted fit)
-  applied_order (Started id device) s h once sane fit = let p = and_parts (row_passes is_ready id s) (device_fits device s) fit in started_order s h id device p.0 p.1
-  applied_order (Ended id parts) s h once sane fit =
+  applied_order (Deleted id) s h sane fit = deleted_order s h id
+  applied_order (Doomed id) s h sane fit = row_changed s id doomed_row h (λ q. refl) (λ q e k. k) (λ q. refl) (unoffered runs id s h running_unrouted fit)
+  applied_order (Started id device) s h sane fit = let p = and_parts (row_passes is_ready id s) (device_fits device s) fit in started_order s h id device p.0 p.1
+  applied_order (Ended id parts) s h sane fit =
       outputs_added (drop_row id s) id parts (row_dropped s id h (unoffered runs id s h running_unrouted fit)) (and_parts (nat_le (length parts) 2) (list_all has_path parts) sane).1
-  applied_order (Unlaunched id) s h once sane fit = row_dropped s id h (unoffered runs id s h running_unrouted fit)
-  applied_order Boot s h once sane fit = rows_booted s h
-  applied_order (Edited e) s h once sane fit = edit_order e s h once sane fit
-  applied_order (HandOpened peer number id queue since) s h once sane fit =
+  applied_order (Unlaunched id) s h sane fit = row_dropped s id h (unoffered runs id s h running_unrouted fit)
+  applied_order Boot s h sane fit = rows_booted s h
+  applied_order (Edited e) s h sane fit = edit_order e s h sane fit
+  applied_order (HandOpened peer number id queue since) s h sane fit =
       let p = each (row_passes may_hop id s) (passes (is_next number) (find_peer peer s) ∷ not (list_any (is_hand_to peer) s.hands) ∷ []) fit in
       opened_order s h peer number id queue since p.0 p.1.0 (not-true (list_any (is_hand_to peer) s.hands) p.1.1.0)
-  applied_order (HandCommitted peer number) s h once sane fit =
+  applied_order (HandCommitted peer number) s h sane fit =
       with_offer IsInOrder s peer number (λ o. hand_committed (peer_number peer number) o s) (λ x e offered. committed_order s h (peer_number peer number) x e offered) fit
-  applied_order (HandRefused peer number refusal) s h once sane fit =
+  applied_order (HandRefused peer number refusal) s h sane fit =
       with_offer IsInOrder s peer number (λ o. hand_refused (peer_number peer number) refusal o s) (λ x e offered. refused_order s h (peer_number peer number) x e offered refusal) fit
-  applied_order (HandsSilent until ks) s h once sane fit = silent_order until ks s h fit
-  applied_order (HandDone peer number) s h once sane fit = hand_dropped s (peer_number peer number) h
-  applied_order (Promised peer number queue c script) s h once sane fit =
+  applied_order (HandsSilent until ks) s h sane fit = silent_order until ks s h fit
+  applied_order (HandDone peer number) s h sane fit = hand_dropped s (peer_number peer number) h
+  applied_order (Promised peer number queue c script) s h sane fit =
       let p = each (has_queue queue s) (passes (is_open_number number) (find_peer peer s) ∷ not (has_promise peer number s) ∷ is_site_host c.id.host s ∷ is_unknown c.id s ∷ not (offer_full peer s) ∷ not (arrivals_used s) ∷ []) fit in
       promised_order s h peer number queue c script sane p.0 p.1.0 p.1.1.1.0 p.1.1.1.1.0 (not-true (offer_full peer s) p.1.1.1.1.1.0) (not-true (arrivals_used s) p.1.1.1.1.1.1.0)
-  applied_order (Accepted peer number) s h once sane fit =
+  applied_order (Accepted peer number) s h sane fit =
       with_promise IsInOrder s peer number (λ o. accepted (peer_number peer number) o s) (λ x e. accepted_order s h (peer_number peer number) x e) fit
-  applied_order (Dropped peer number) s h once sane fit = with_promise IsInOrder s peer number (λ o. dropped (peer_number peer number) s) (λ x e. dropped_order s h (peer_number peer number) x e) fit
-  applied_order (MovedLocal id queue) s h once sane fit = let p = each (row_passes may_hop id s) (has_queue queue s ∷ not (arrivals_used s) ∷ []) fit in moved_order s h id queue p.0 p.1.0 p.1.1.0
-  applied_order (RefusedLocal id queue refusal) s h once sane fit = noted_order s h id queue refusal fit
-  applied_order (HeldFar id) s h once sane fit = row_changed s id held_far h (λ q. refl) (λ q e k. k) (λ q. refl) (unoffered is_ready id s h ready_unrouted fit)
-  applied_order (StageGot peer number path bytes) s h once sane fit =
+  applied_order (Dropped peer number) s h sane fit = with_promise IsInOrder s peer number (λ o. dropped (peer_number peer number) s) (λ x e. dropped_order s h (peer_number peer number) x e) fit
+  applied_order (MovedLocal id queue) s h sane fit = let p = each (row_passes may_hop id s) (has_queue queue s ∷ not (arrivals_used s) ∷ []) fit in moved_order s h id queue p.0 p.1.0 p.1.1.0
+  applied_order (RefusedLocal id queue refusal) s h sane fit = noted_order s h id queue refusal fit
+  applied_order (HeldFar id) s h sane fit = row_changed s id held_far h (λ q. refl) (λ q e k. k) (λ q. refl) (unoffered is_ready id s h ready_unrouted fit)
+  applied_order (StageGot peer number path bytes) s h sane fit =
       file_added (change_peer peer (λ p. record p { stage_got = number }) s) (record { path = path; bytes = bytes })
       (peer_counted s peer (λ p. record p { stage_got = number }) h (λ p e. record { next = omega arith; stage_next = omega arith }) (λ p. refl)) sane
-  applied_order (StageGone peer number) s h once sane fit = stages_part s (peer_number peer number) h
-  applied_order (FileGone file) s h once sane fit = files_part s file h
+  applied_order (StageGone peer number) s h sane fit = stages_part s (peer_number peer number) h
+  applied_order (FileGone file) s h sane fit = files_part s file h

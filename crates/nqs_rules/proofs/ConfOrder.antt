@@ -86,7 +86,7 @@ module _ {E : Type 0} (s : State E) where
         let full : nat_le 256 (length s.queues) ≡ false = causes.1.0 in
         let below = leb-false 256 (length s.queues) full in
         queue_added s (new_queue q kind priority run_limit pipe_only dests) h
-        (queue_right s (new_queue q kind priority run_limit pipe_only dests) (record { priority = stated 63 31 priority refl low; run_limit = stated 10000 1 run_limit refl few; user_limit = refl; access = refl; few_dests = short; dests = there; few_devices = refl; devices = refl }))
+        (queue_right s (new_queue q kind priority run_limit pipe_only dests) (record { priority = stated 63 31 priority refl low; run_limit = stated 10000 1 run_limit refl few; user_limit = refl; access = refl; few_dests = short; dests = there; few_devices = refl; devices = refl; once = refl }))
         causes.0 (lt-ltb (length s.queues) 256 (omega (arith, below)))
 
     params : IsParameters s
@@ -107,9 +107,9 @@ module _ {E : Type 0} (s : State E) where
     conf_order (StopQueue q) sane fit = queue_changed s q (conf_edited (StopQueue q)) h (λ d. refl) (λ d found k. k)
     conf_order (PurgeQueue q) sane fit = rows_purged s q h
     conf_order (SetPriority n q) sane fit = queue_changed s q (conf_edited (SetPriority n q)) h (λ d. refl) (λ d found k. let p = queue_is s d k in
-        queue_right s (conf_edited (SetPriority n q) d) (record { priority = sane; run_limit = p.run_limit; user_limit = p.user_limit; access = p.access; few_dests = p.few_dests; dests = p.dests; few_devices = p.few_devices; devices = p.devices }))
+        queue_right s (conf_edited (SetPriority n q) d) (record { priority = sane; run_limit = p.run_limit; user_limit = p.user_limit; access = p.access; few_dests = p.few_dests; dests = p.dests; few_devices = p.few_devices; devices = p.devices; once = p.once }))
     conf_order (SetRunLimit n q) sane fit = queue_changed s q (conf_edited (SetRunLimit n q)) h (λ d. refl) (λ d found k. let p = queue_is s d k in
-        queue_right s (conf_edited (SetRunLimit n q) d) (record { priority = p.priority; run_limit = sane; user_limit = p.user_limit; access = p.access; few_dests = p.few_dests; dests = p.dests; few_devices = p.few_devices; devices = p.devices }))
+        queue_right s (conf_edited (SetRunLimit n q) d) (record { priority = p.priority; run_limit = sane; user_limit = p.user_limit; access = p.access; few_dests = p.few_dests; dests = p.dests; few_devices = p.few_devices; devices = p.devices; once = p.once }))
     conf_order (AddDestination d q) sane fit =
         let full : passes has_full_dests (find_queue q s) ≡ false = (none_holds (conf_causes (AddDestination d q) s) fit).1.1.1.1.0 in
         added (meant_dest d s) (meant_right d) full
@@ -131,6 +131,7 @@ module _ {E : Type 0} (s : State E) where
               dests = all-added (is_dest_right s) d.dests x p.dests (and_parts (is_dest_right s x) true there).0;
               few_devices = p.few_devices;
               devices = p.devices;
+              once = p.once;
             }))
     conf_order (RemoveDestination d q) sane fit = removed (meant_dest d s)
       where
@@ -150,6 +151,7 @@ module _ {E : Type 0} (s : State E) where
               dests = part_all (is_dest_right s) part p.dests;
               few_devices = p.few_devices;
               devices = p.devices;
+              once = p.once;
             }))
     conf_order (SetDefaultQueue q) sane fit = with_parameters s (Some q) s.global_limit s.patience s.retry_wait h (not-false (has_queue q s) (none_holds (conf_causes (SetDefaultQueue q) s) fit).0) params.limit params.patience params.wait
     conf_order SetNoDefaultQueue sane fit = with_parameters s None s.global_limit s.patience s.retry_wait h refl params.limit params.patience params.wait
@@ -158,7 +160,7 @@ module _ {E : Type 0} (s : State E) where
 
     pub limits_order : (e : LimitsEdit) → is_limits_within e ≡ true → Allows (limits_causes e s) → IsInOrder (limits_applied e s)
     limits_order (SetUserLimit n q) sane fit = queue_changed s q (limits_edited (SetUserLimit n q)) h (λ d. refl) (λ d found k. let p = queue_is s d k in
-        queue_right s (limits_edited (SetUserLimit n q) d) (record { priority = p.priority; run_limit = p.run_limit; user_limit = sane; access = p.access; few_dests = p.few_dests; dests = p.dests; few_devices = p.few_devices; devices = p.devices }))
+        queue_right s (limits_edited (SetUserLimit n q) d) (record { priority = p.priority; run_limit = p.run_limit; user_limit = sane; access = p.access; few_dests = p.few_dests; dests = p.dests; few_devices = p.few_devices; devices = p.devices; once = p.once }))
     limits_order (SetCpuLimit n q) sane fit = queue_changed s q (limits_edited (SetCpuLimit n q)) h (λ d. refl) (λ d found k. k)
     limits_order (SetMemoryLimit n q) sane fit = queue_changed s q (limits_edited (SetMemoryLimit n q)) h (λ d. refl) (λ d found k. k)
     limits_order (CreateComplex c) sane fit =

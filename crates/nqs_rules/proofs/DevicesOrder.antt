@@ -113,7 +113,7 @@ module _ {E : Type 0} where
       queue : (d : QueueDef) → is_queue_right s d ≡ true → is_queue_right (record s { devices = ds }) d ≡ true
       queue d k =
           let p = queue_is s d k in
-          queue_right (record s { devices = ds }) d (record { priority = p.priority; run_limit = p.run_limit; user_limit = p.user_limit; access = p.access; few_dests = p.few_dests; dests = p.dests; few_devices = p.few_devices; devices = list_all-weaker (λ n. has_device n s) (λ n. list_any (is_device n) ds) there d.devices p.devices })
+          queue_right (record s { devices = ds }) d (record { priority = p.priority; run_limit = p.run_limit; user_limit = p.user_limit; access = p.access; few_dests = p.few_dests; dests = p.dests; few_devices = p.few_devices; devices = list_all-weaker (λ n. has_device n s) (λ n. list_any (is_device n) ds) there d.devices p.devices; once = p.once })
 
   pub device_changed : (s : State E) (d : List ℕ) (f : DeviceDef → DeviceDef) → IsInOrder s → ((x : DeviceDef) → (f x).name ≡ x.name) → IsInOrder (change_device d f s)
   device_changed s d f h names =
@@ -176,6 +176,7 @@ module _ {E : Type 0} where
             dests = p.dests;
             few_devices = le-leb (length (without_name d q.devices)) 64 (omega (arith, fewer, few));
             devices = filter_all (λ n. not (name_eq d n)) (λ n. has_device n s) (λ n. has_device n (devices_applied (DeleteDevice d) s)) (λ n e k. there n (not-true _ e) k) q.devices p.devices;
+            once = part_distinct name_eq (filter_part (λ n. not (name_eq d n)) q.devices) p.once;
           })
 
       -- the device of a row is another one

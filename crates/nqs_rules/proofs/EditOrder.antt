@@ -29,10 +29,8 @@ use Rattle.nqs_rules.specs.Access.{access_causes, access_edited, with_user, with
 use Rattle.nqs_rules.specs.Applied.{access_applied}
 use Rattle.nqs_rules.specs.Devices.{devices_causes, devices_applied, device_edited, new_device, with_device, without_device, lists_device}
 use Rattle.nqs_rules.specs.Rows.{arrivals_used, named_causes, idle_causes, hold_causes, release_causes, move_causes, move_entry_causes, causes_of, rows_causes, rows_applied, change_meant, held_row, released_row, moved_row, with_priority, next_arrival, is_rows_within}
-use Rattle.nqs_rules.specs.DeviceLists.{lists_once, lists_devices_once}
 use Rattle.nqs_rules.specs.InOrder.{IsInOrder, are_distinct, is_user_list_short, is_queue_right}
-use Rattle.nqs_rules.proofs.Sublists.{filter_part, part_length, part_all}
-use Rattle.nqs_rules.proofs.ListFacts.{list_all-found}
+use Rattle.nqs_rules.proofs.Sublists.{filter_part, part_length, part_all, part_distinct}
 use Rattle.nqs_rules.proofs.KeyFacts.{all-both, all-added, all_from_none, any-without_other, distinct-added, length_without, turned}
 use Rattle.nqs_rules.proofs.ListMaps.{list_any-map}
 use Rattle.nqs_rules.proofs.StateFacts.{IsShort, short_are}
@@ -57,7 +55,7 @@ few_names (n ∷ ns) ms distinct all =
     ns a.1 (all_from_none (λ m. not (name_eq n m)) (name_eq n) (λ m e. not_from_false (name_eq n m) e) ns (not-true (list_any (name_eq n) ns) d.0))) in
     omega (arith, less, rest)
 
-pub once_added : {E : Type 0} (s : State E) (x : List ℕ) (q : List ℕ) (d : QueueDef) → find (is_queue q) s.queues ≡ Some d → lists_once d ≡ true → passes (lists_device x) (find_queue q s) ≡ false → lists_once (with_device x d) ≡ true
+pub once_added : {E : Type 0} (s : State E) (x : List ℕ) (q : List ℕ) (d : QueueDef) → find (is_queue q) s.queues ≡ Some d → are_distinct name_eq d.devices ≡ true → passes (lists_device x) (find_queue q s) ≡ false → are_distinct name_eq (with_device x d).devices ≡ true
 once_added s x q d found once new = distinct-added name_eq name_exact same_name d.devices x (ap (passes (lists_device x)) (sym found) ∙ new) once
 
 module _ {E : Type 0} (s : State E) (P : State E → Type 0) where
@@ -92,7 +90,7 @@ module _ {E : Type 0} (s : State E) (h : IsInOrder s) where
   with_access : (d : QueueDef) (access : Access) → is_queue_right s d ≡ true → is_user_list_short access ≡ true → is_queue_right s (record d { access = access }) ≡ true
   with_access d access k few =
       let p = queue_is s d k in
-      queue_right s (record d { access = access }) (record { priority = p.priority; run_limit = p.run_limit; user_limit = p.user_limit; access = few; few_dests = p.few_dests; dests = p.dests; few_devices = p.few_devices; devices = p.devices })
+      queue_right s (record d { access = access }) (record { priority = p.priority; run_limit = p.run_limit; user_limit = p.user_limit; access = few; few_dests = p.few_dests; dests = p.dests; few_devices = p.few_devices; devices = p.devices; once = p.once })
 
   one_more : (names : List (List ℕ)) (name : List ℕ) → nat_le 256 (length names) ≡ false → nat_le (length (names ++ name ∷ [])) 256 ≡ true
   one_more names name room =
@@ -130,10 +128,10 @@ module _ {E : Type 0} (s : State E) (h : IsInOrder s) where
 
   -- devices
 
-  list_right : (d : QueueDef) (devices : List (List ℕ)) → is_queue_right s d ≡ true → nat_le (length devices) 64 ≡ true → list_all (λ n. has_device n s) devices ≡ true → is_queue_right s (record d { devices = devices }) ≡ true
-  list_right d devices k few there =
+  list_right : (d : QueueDef) (devices : List (List ℕ)) → is_queue_right s d ≡ true → nat_le (length devices) 64 ≡ true → list_all (λ n. has_device n s) devices ≡ true → are_distinct name_eq devices ≡ true → is_queue_right s (record d { devices = devices }) ≡ true
+  list_right d devices k few there once =
       let p = queue_is s d k in
-      queue_right s (record d { devices = devices }) (record { priority = p.priority; run_limit = p.run_limit; user_limit = p.user_limit; access = p.access; few_dests = p.few_dests; dests = p.dests; few_devices = few; devices = there })
+      queue_right s (record d { devices = devices }) (record { priority = p.priority; run_limit = p.run_limit; user_limit = p.user_limit; access = p.access; few_dests = p.few_dests; dests = p.dests; few_devices = few; devices = there; once = once })
 
   few_listed : (devices : List (List ℕ)) → are_distinct name_eq devices ≡ true → list_all (λ n. has_device n s) devices ≡ true → nat_le (length devices) 64 ≡ true
   few_listed devices once there =
@@ -142,27 +140,29 @@ module _ {E : Type 0} (s : State E) (h : IsInOrder s) where
       let few = leb-true (length s.devices) 64 short.devices in
       le-leb (length devices) 64 (omega (arith, fewer, same, few))
 
-  pub devices_order : (e : DevicesEdit) → lists_devices_once s ≡ true → Allows (devices_causes e s) → IsInOrder (devices_applied e s)
-  devices_order (CreateDevice d forms) once fit =
+  pub devices_order : (e : DevicesEdit) → Allows (devices_causes e s) → IsInOrder (devices_applied e s)
+  devices_order (CreateDevice d forms) fit =
       let causes = none_holds (devices_causes (CreateDevice d forms) s) fit in
       let room : nat_le 64 (length s.devices) ≡ false = causes.1.0 in
       let below = leb-false 64 (length s.devices) room in
       device_added s (new_device d forms) h causes.0 (lt-ltb (length s.devices) 64 (omega (arith, below)))
-  devices_order (DeleteDevice d) once fit = device_deleted s d h (none_holds (devices_causes (DeleteDevice d) s) fit).1.0
-  devices_order (EnableDevice d) once fit = device_changed s d (device_edited (EnableDevice d)) h (λ x. refl)
-  devices_order (DisableDevice d) once fit = device_changed s d (device_edited (DisableDevice d)) h (λ x. refl)
-  devices_order (SetForms forms d) once fit = device_changed s d (device_edited (SetForms forms d)) h (λ x. refl)
-  devices_order (AddDevice d q) once fit =
+  devices_order (DeleteDevice d) fit = device_deleted s d h (none_holds (devices_causes (DeleteDevice d) s) fit).1.0
+  devices_order (EnableDevice d) fit = device_changed s d (device_edited (EnableDevice d)) h (λ x. refl)
+  devices_order (DisableDevice d) fit = device_changed s d (device_edited (DisableDevice d)) h (λ x. refl)
+  devices_order (SetForms forms d) fit = device_changed s d (device_edited (SetForms forms d)) h (λ x. refl)
+  devices_order (AddDevice d q) fit =
       let causes = none_holds (devices_causes (AddDevice d q) s) fit in
       queue_changed s q (with_device d) h (λ x. refl) (λ x found k.
-      let there = all-added (λ n. has_device n s) x.devices d (queue_is s x k).devices (not-false (has_device d s) causes.0) in
-      list_right x (x.devices ++ d ∷ []) k (few_listed (x.devices ++ d ∷ []) (once_added s d q x found (list_all-found lists_once (is_queue q) s.queues x once found) causes.1.1.1.0) there) there)
-  devices_order (RemoveDevice d q) once fit = queue_changed s q (without_device d) h (λ x. refl) (λ x found k.
+      let p = queue_is s x k in
+      let there = all-added (λ n. has_device n s) x.devices d p.devices (not-false (has_device d s) causes.0) in
+      let once = once_added s d q x found p.once causes.1.1.1.0 in
+      list_right x (x.devices ++ d ∷ []) k (few_listed (x.devices ++ d ∷ []) once there) there once)
+  devices_order (RemoveDevice d q) fit = queue_changed s q (without_device d) h (λ x. refl) (λ x found k.
       let p = queue_is s x k in
       let part = filter_part (λ n. not (name_eq d n)) x.devices in
       let fewer = part_length part in
       let few = leb-true (length x.devices) 64 p.few_devices in
-      list_right x (without_name d x.devices) k (le-leb (length (without_name d x.devices)) 64 (omega (arith, fewer, few))) (part_all (λ n. has_device n s) part p.devices))
+      list_right x (without_name d x.devices) k (le-leb (length (without_name d x.devices)) 64 (omega (arith, fewer, few))) (part_all (λ n. has_device n s) part p.devices) (part_distinct name_eq part p.once))
 
   -- requests
 

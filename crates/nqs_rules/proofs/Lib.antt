@@ -33,7 +33,7 @@ pub mod EditOrder
 pub mod AppliedOrder
 pub mod HandoversOrder
 pub mod ChangesOrder
-pub mod OnceOrder
+pub mod OutputsKept
 pub mod Consistent
 pub mod ConsistentOrder
 pub mod ChangesConsistent

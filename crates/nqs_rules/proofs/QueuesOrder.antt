@@ -36,17 +36,18 @@ module _ {E : Type 0} where
     pub dests : list_all (is_dest_right s) d.dests ≡ true
     pub few_devices : nat_le (length d.devices) 64 ≡ true
     pub devices : list_all (λ n. has_device n s) d.devices ≡ true
+    pub once : are_distinct name_eq d.devices ≡ true
 
   abbrev tests : State E → QueueDef → List Bool
-  tests s d = nat_le d.run_limit 10000 ∷ at_most 10000 d.user_limit ∷ is_user_list_short d.access ∷ nat_le (length d.dests) 16 ∷ list_all (is_dest_right s) d.dests ∷ nat_le (length d.devices) 64 ∷ list_all (λ n. has_device n s) d.devices ∷ []
+  tests s d = nat_le d.run_limit 10000 ∷ at_most 10000 d.user_limit ∷ is_user_list_short d.access ∷ nat_le (length d.dests) 16 ∷ list_all (is_dest_right s) d.dests ∷ nat_le (length d.devices) 64 ∷ list_all (λ n. has_device n s) d.devices ∷ are_distinct name_eq d.devices ∷ []
 
   pub queue_is : (s : State E) (d : QueueDef) → is_queue_right s d ≡ true → IsQueue s d
   queue_is s d h =
       let p = each (nat_le d.priority 63) (tests s d) h in
-      record { priority = p.0; run_limit = p.1.0; user_limit = p.1.1.0; access = p.1.1.1.0; few_dests = p.1.1.1.1.0; dests = p.1.1.1.1.1.0; few_devices = p.1.1.1.1.1.1.0; devices = p.1.1.1.1.1.1.1.0 }
+      record { priority = p.0; run_limit = p.1.0; user_limit = p.1.1.0; access = p.1.1.1.0; few_dests = p.1.1.1.1.0; dests = p.1.1.1.1.1.0; few_devices = p.1.1.1.1.1.1.0; devices = p.1.1.1.1.1.1.1.0; once = p.1.1.1.1.1.1.1.1.0 }
 
   pub queue_right : (s : State E) (d : QueueDef) → IsQueue s d → is_queue_right s d ≡ true
-  queue_right s d h = chained (nat_le d.priority 63) (tests s d) (h.priority, (h.run_limit, (h.user_limit, (h.access, (h.few_dests, (h.dests, (h.few_devices, (h.devices, tt))))))))
+  queue_right s d h = chained (nat_le d.priority 63) (tests s d) (h.priority, (h.run_limit, (h.user_limit, (h.access, (h.few_dests, (h.dests, (h.few_devices, (h.devices, (h.once, tt)))))))))
 
   pub complex_kept : (s t : State E) → ((q : List ℕ) → has_queue q s ≡ true → has_queue q t ≡ true) → (c : ComplexDef) → is_complex_right s c ≡ true → is_complex_right t c ≡ true
   complex_kept s t queues c h =

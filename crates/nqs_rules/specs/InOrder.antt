@@ -67,10 +67,12 @@ module _ {E : Type 0} where
   is_default_there None s = true
   is_default_there (Some q) s = has_queue q s
 
+  -- within the limits, with destinations and devices that are there, and no device listed twice
   abbrev pub is_queue_right : State E → QueueDef → Bool
   is_queue_right s d =
       nat_le d.priority 63 && nat_le d.run_limit 10000 && at_most 10000 d.user_limit && is_user_list_short d.access
       && nat_le (length d.dests) 16 && list_all (is_dest_right s) d.dests && nat_le (length d.devices) 64 && list_all (λ n. has_device n s) d.devices
+      && are_distinct name_eq d.devices
 
   abbrev pub is_complex_right : State E → ComplexDef → Bool
   is_complex_right s c = nat_le c.limit 10000 && list_all (λ q. has_queue q s) c.queues

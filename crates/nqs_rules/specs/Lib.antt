@@ -15,7 +15,6 @@ pub mod Applied
 pub mod Fits
 pub mod Sane
 pub mod InOrder
-pub mod DeviceLists
 pub mod Stepped
 pub mod Picked
 pub mod Filled

@@ -193,6 +193,10 @@ told_at e s = map shown (step e s).outputs
 abbrev pub changed_at : Event → Plain → Option (Change (List ℕ))
 changed_at e s = (step e s).change
 
+-- the default queue lists the host's device so many times
+abbrev pub listing : ℕ → Plain
+listing n = record (with_devices 1) { queues = record first_queue { devices = replicate n (codes "d") } ∷ [] }
+
 -- states that aren't in order, each for one cause
 abbrev pub wrong_states : List Plain
 wrong_states =
@@ -200,7 +204,7 @@ wrong_states =
     ∷ with_row (record (queued 1) { id = request 1 2 }) ∷ with_row (record (queued 1) { arrival = 10 }) ∷ with_row (record (queued 1) { starts = 1 })
     ∷ with_row (running 65536) ∷ with_row (record (running 1) { lost = 1 }) ∷ with_row (record (queued 1) { state = Routing }) ∷ with_row (record (queued 1) { hops = 33 })
     ∷ with_row (record (queued 1) { device = Some (codes "laser") }) ∷ record with_promise { promises = promise 3 3 ∷ promise 4 4 ∷ [] }
-    ∷ record on_its_way { rows = [] } ∷ record fresh { patience = 0 } ∷ []
+    ∷ record on_its_way { rows = [] } ∷ record fresh { patience = 0 } ∷ listing 2 ∷ []
 
 -- each refusal in turn
 abbrev pub refusals : List Refusal

@@ -6,7 +6,6 @@ ghost use Rattle.nqs_types.specs.declared.event.Event.{Event};
 ghost use Rattle.nqs_types.specs.declared.extent.Extent.{Extent};
 ghost use Rattle.nqs_types.specs.declared.ids.HostId.{HostId};
 ghost use Rattle.nqs_rules.specs.Applied.{applied};
-ghost use Rattle.nqs_rules.specs.DeviceLists.{lists_devices_once};
 ghost use Rattle.nqs_rules.specs.Fits.{fits};
 ghost use Rattle.nqs_rules.specs.Format.{formatted};
 ghost use Rattle.nqs_rules.specs.InOrder.{IsConsistent, IsInOrder};
@@ -14,17 +13,15 @@ ghost use Rattle.nqs_rules.specs.Sane.{is_sane_change, is_sane_event};
 ghost use Rattle.nqs_rules.specs.Start.{start};
 ghost use Rattle.nqs_rules.specs.Step.{step};
 
-/// A host of a site of 1 to 16 hosts is in order as it is formatted, with what besides holds at every moment, and none of its queues lists a device twice.
+/// A host of a site of 1 to 16 hosts is in order as it is formatted, with what besides holds at every moment.
 pub fn formatted_is_in_order()
     ensures order { (me : HostId) (site : List (List ℕ)) → me.0 < length site → length site ≤ 16 → IsInOrder (formatted {E = Extent} me site) }
     ensures consistent { (me : HostId) (site : List (List ℕ)) → IsConsistent (formatted {E = Extent} me site) }
-    ensures devices { (me : HostId) (site : List (List ℕ)) → IsTrue (lists_devices_once (formatted {E = Extent} me site)) }
 {}
 
-/// Whatever change fits a state in order, and is within its limits, leaves it in order. That holds where no queue lists a device twice, and stays so.
+/// Whatever change fits a state in order, and is within its limits, leaves it in order.
 pub fn order_is_kept()
-    ensures order { (c : Change Extent) (s : State Extent) → IsInOrder s → IsTrue (lists_devices_once s) → IsTrue (is_sane_change c) → IsTrue (fits c s) → IsInOrder (applied c s) }
-    ensures devices { (c : Change Extent) (s : State Extent) → IsTrue (lists_devices_once s) → IsTrue (fits c s) → IsTrue (lists_devices_once (applied c s)) }
+    ensures { (c : Change Extent) (s : State Extent) → IsInOrder s → IsTrue (is_sane_change c) → IsTrue (fits c s) → IsInOrder (applied c s) }
 {}
 
 /// What besides holds of a host at every moment stays so under each change that fits.

@@ -1,6 +1,6 @@
 //! Single definitions that are computed: limits of lists, last numbers, states in order, changes that fit, and texts.
 ghost use Rattle.std.specs.Prelude.{◌≡◌, codes, [], ◌∷◌, ◌++◌, map, replicate, length, true, false, None, Some, Ok, Err};
-ghost use Rattle.nqs_rules.specs.TestRows.{refused, near, refused_by, with_queues, with_complexes, with_devices, with_managers, with_operators, with_users, with_dests, fresh, far, link, with_link, carried, queued, in_link, running, with_row, on_its_way, handed_over, promise, with_promise, crowded, fit_each, order_told, is_all_right, refusals, sample, far_carried, with_peer, wrong_states, with_promised, planned, busy, a_stage, sends, told_at, changed_at};
+ghost use Rattle.nqs_rules.specs.TestRows.{refused, near, refused_by, with_queues, with_complexes, with_devices, with_managers, with_operators, with_users, with_dests, fresh, far, link, with_link, carried, queued, in_link, running, with_row, on_its_way, handed_over, promise, with_promise, listing, crowded, fit_each, order_told, is_all_right, refusals, sample, far_carried, with_peer, wrong_states, with_promised, planned, busy, a_stage, sends, told_at, changed_at};
 ghost use Rattle.nqs_types.specs.declared.edit.Edit.TheVariants.{Conf, Limits, Access, Devices, Rows};
 ghost use Rattle.nqs_types.specs.declared.edit.ConfEdit.TheVariants.{CreateBatchQueue, AddDestination, SetPriority, SetRunLimit, SetPatience, SetRetryWait};
 ghost use Rattle.nqs_types.specs.declared.edit.LimitsEdit.TheVariants.{CreateComplex, SetUserLimit, SetCpuLimit, SetComplexLimit, SetGlobalLimit};
@@ -200,8 +200,8 @@ pub fn states_are_in_order()
     ensures one { map (order_told one_host) (request_goes_round ∷ devices_and_forms ∷ jobs_are_told_to_end ∷ requests_are_held_and_moved ∷ devices_are_edited ∷ outputs_are_written ∷ rows_come_back_in_order ∷ []) ≡ replicate 7 (true ∷ []) }
     ensures two { map (order_told two_hosts) (handover ∷ source_stops_at_commit ∷ late_copies ∷ purge_keeps_what_is_active ∷ packets_repeat_after_boots ∷ stages_repeat ∷ peer_is_silent ∷ promises_count_for_a_queue ∷ []) ≡ replicate 8 (true ∷ true ∷ []) }
     ensures sites { order_told (codes "cray" ∷ codes "front" ∷ []) site_of_two ≡ true ∷ true ∷ [] }
-    ensures right { map is_all_right (fresh ∷ with_row (queued 1) ∷ with_row (running 65535) ∷ on_its_way ∷ handed_over ∷ with_promise ∷ []) ≡ replicate 6 true }
-    ensures wrong { map is_all_right (wrong_states) ≡ replicate 14 false }
+    ensures right { map is_all_right (fresh ∷ with_row (queued 1) ∷ with_row (running 65535) ∷ on_its_way ∷ handed_over ∷ with_promise ∷ listing 1 ∷ []) ≡ replicate 7 true }
+    ensures wrong { map is_all_right (wrong_states) ≡ replicate 15 false }
 {}
 
 /// Which changes fit a formatted host, one with a queued request, and so on.

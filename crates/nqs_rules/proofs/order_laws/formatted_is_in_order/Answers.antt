@@ -6,5 +6,4 @@ pub returns : goal.returns
 returns c = record {
   order = λ me site among few. formatted_order me site among few;
   consistent = λ me site. record { doomed = refl; held = refl; routing = refl; promises = refl; given = refl };
-  devices = λ me site. refl;
 }
