@@ -29,12 +29,4 @@ pub mod World
 pub mod Net
 pub mod Run
 pub mod Transcript
-pub mod RowWords
-pub mod HostRows
-pub mod NetRows
 pub mod Licence
-pub mod EditRows
-pub mod SmallRows
-pub mod StopRows
-pub mod SmallNetRows
-pub mod TestRows

@@ -1,7 +1,0 @@
-use Rattle.std.proofs.Common.{refl}
-use Rattle.std.specs.Fmt.{digits}
-use Rattle.nqs_rules.proofs.edit_rows.queue_is_deleted.Goals as goal
-
-pub returns : goal.returns
-unfolding digits
-returns c = refl

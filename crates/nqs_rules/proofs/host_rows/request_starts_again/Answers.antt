@@ -1,7 +1,0 @@
-use Rattle.std.proofs.Common.{refl}
-use Rattle.std.specs.Fmt.{digits}
-use Rattle.nqs_rules.proofs.host_rows.request_starts_again.Goals as goal
-
-pub returns : goal.returns
-unfolding digits
-returns c = refl

@@ -1,0 +1,19 @@
+use Rattle.std.proofs.Common.{refl}
+use Rattle.std.specs.Fmt.{digits}
+use Rattle.nqs_worked.proofs.definitions.destinations_are_free.Goals as goal
+
+pub returns-clause-numbers : goal.returns-clause-numbers
+unfolding digits
+returns-clause-numbers c = refl
+
+pub returns-clause-waits : goal.returns-clause-waits
+unfolding digits
+returns-clause-waits c = refl
+
+pub returns-clause-hands : goal.returns-clause-hands
+unfolding digits
+returns-clause-hands c = refl
+
+pub returns-clause-refusals : goal.returns-clause-refusals
+unfolding digits
+returns-clause-refusals c = refl

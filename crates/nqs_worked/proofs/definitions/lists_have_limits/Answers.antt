@@ -1,0 +1,31 @@
+use Rattle.std.proofs.Common.{refl}
+use Rattle.std.specs.Fmt.{digits}
+use Rattle.nqs_worked.proofs.definitions.lists_have_limits.Goals as goal
+
+pub returns-clause-queues : goal.returns-clause-queues
+unfolding digits
+returns-clause-queues c = refl
+
+pub returns-clause-complexes : goal.returns-clause-complexes
+unfolding digits
+returns-clause-complexes c = refl
+
+pub returns-clause-devices : goal.returns-clause-devices
+unfolding digits
+returns-clause-devices c = refl
+
+pub returns-clause-managers : goal.returns-clause-managers
+unfolding digits
+returns-clause-managers c = refl
+
+pub returns-clause-operators : goal.returns-clause-operators
+unfolding digits
+returns-clause-operators c = refl
+
+pub returns-clause-users : goal.returns-clause-users
+unfolding digits
+returns-clause-users c = refl
+
+pub returns-clause-dests : goal.returns-clause-dests
+unfolding digits
+returns-clause-dests c = refl
