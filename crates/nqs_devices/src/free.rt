@@ -39,14 +39,15 @@ fn can_serve(device: &DeviceDef, forms: Option<&Name>) -> bool
     device.enabled && has_forms(device, forms)
 }
 
-fn runs_on(row: &Row, device: &Name) -> bool
+/// Whether the row runs on the device.
+pub fn runs_on(row: &Row, device: &Name) -> bool
     ensures { result ≡ runs_on device.now row.now }
 {
     row.state == RowState::Running && same_name_as(device, row.device)
 }
 
-// Whether a running request is on the device.
-pub(crate) fn is_busy(state: &HostState, device: &Name) -> bool
+/// Whether a running request is on the device.
+pub fn is_busy(state: &HostState, device: &Name) -> bool
     ensures { result ≡ is_busy device.now (content state.now) }
 {
     state.rows.any(|row: &Row| runs_on(row, device))

@@ -9,4 +9,4 @@ mod free;
 
 pub use apply::apply_devices;
 pub use check::check_devices;
-pub use free::{free_device, has_name};
+pub use free::{free_device, has_name, is_busy, runs_on};

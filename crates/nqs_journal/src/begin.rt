@@ -1,11 +1,13 @@
-// A journal that begins with a snapshot.
-ghost use Rattle.std.specs.Prelude.{◌≡◌, ◌⊎◌, ◌+◌, ◌<◌, ◌≤◌, ◌^◌, ◌++◌, [], ◌∷◌, ℕ, List, IsTrue, OnOk, OnErr, IfOk, length, vec_len};
+// A journal that begins with a snapshot or with a payload.
+ghost use Rattle.std.specs.Prelude.{◌≡◌, ◌⊎◌, ◌+◌, ◌<◌, ◌≤◌, ◌^◌, ◌++◌, [], ◌∷◌, ℕ, List, IsTrue, IsErrOf, OnOk, OnErr, IfOk, IfErr, length, vec_len};
 ghost use Rattle.nqs_outside.specs.Causes.{Rose};
 ghost use Rattle.nqs_outside.specs.History.{Call, content, extended, StopsShort};
-ghost use Rattle.nqs_journal.specs.Text.{snapshot_front};
+ghost use Rattle.nqs_journal.specs.Text.{header, records, frame, snapshot_front};
 ghost use Rattle.nqs_journal.specs.Plan.{begin_calls};
 ghost use Rattle.nqs_journal.specs.Opened.{IsOpen};
+ghost use Rattle.nqs_journal.specs.Faults.{MatchBegin};
 
+use crate::JournalFault;
 use nqs_outside::{Disk, Failed};
 use std::alloc::{AllocError, Global};
 
@@ -38,4 +40,40 @@ pub(crate) fn write_begin<D: Disk>(disk: &mut D, text: &[u8]) -> Result<(), Fail
     disk.write_at(0, text)?;
     disk.sync()?;
     Ok(())
+}
+
+const HEADER: [u8; 16] = *b"NQS-JOURNAL-v1\n\n";
+
+// The header, an open gate, the payload, and a closed gate.
+#[tactic(auto, unfolding(crate::specs::Text::frame))]
+fn one_payload_text(alloc: Global, payload: &[u8]) -> Result<Vec<u8>, AllocError>
+    requires { length payload.now < 2 ^ 32 }
+    ensures { IfOk result (λ text. text.items ≡ header ++ records (payload.now ∷ []) ++ 0 ∷ []) }
+{
+    let mut text = Vec::new(alloc);
+    text.extend_from_slice(&HEADER)?;
+    text.extend_from_slice(&[1])?;
+    text.extend_from_slice(&(payload.len() as u32).to_be_bytes())?;
+    text.extend_from_slice(payload)?;
+    text.extend_from_slice(&[0])?;
+    Ok(text)
+}
+
+/// Makes a disk the journal of one payload, of at most 65,536 bytes, whatever stood there. `Memory` comes before the first call.
+pub fn format_with<D: Disk>(alloc: Global, disk: &mut D, payload: &[u8]) -> Result<(), JournalFault>
+    requires { length payload.now ≤ 65536 }
+    ensures made { IsTrue D.tells → OnOk result (D.history disk.new ≡ extended (D.history disk.old) (begin_calls (header ++ records (payload.now ∷ []) ++ 0 ∷ []))) }
+    ensures broken { IsTrue D.tells → IfErr result (λ fault. MatchBegin fault (D.history disk.old) (D.history disk.new) (begin_calls (header ++ records (payload.now ∷ []) ++ 0 ∷ []))) }
+    ensures formatted { IsTrue D.tells → OnOk result (IsOpen (D.history disk.new) header (length (header ++ records (payload.now ∷ []))) (payload.now ∷ [])) }
+    ensures only { IfErr result (λ fault. (fault ≡ JournalFault.Disk) ⊎ (fault ≡ JournalFault.Memory)) }
+    ensures disk { IsErrOf result JournalFault.Disk → Rose (D.faults disk.old) (D.faults disk.new) }
+    ensures later { D.faults disk.old ≤ D.faults disk.new }
+{
+    let Ok(text) = one_payload_text(alloc, payload) else {
+        return Err(JournalFault::Memory);
+    };
+    match write_begin(disk, &text) {
+        Ok(()) => Ok(()),
+        Err(Failed) => Err(JournalFault::Disk),
+    }
 }

@@ -1,7 +1,7 @@
 ghost use Rattle.std.specs.Prelude.{◌≡◌, ◌-◌, max, nat_le, IfOk, IfErr, ◌⊎◌, ◌↔◌, ◌+◌, ◌<◌, ◌≤◌, ◌^◌, ◌++◌, [], ◌∷◌, List, ℕ, IsTrue, IsErrOf, OnOk, OnErr, MatchResult, true, false, length, vec_capacity};
 ghost use Rattle.nqs_outside.specs.Causes.{Rose};
 ghost use Rattle.nqs_outside.specs.History.{Call, content, IsQuiet, extended, moment, state_at, MayLeave, EachSince, StopsShort, IsExact};
-ghost use Rattle.nqs_journal.specs.Text.{header, snapshot_front, StandsAfter};
+ghost use Rattle.nqs_journal.specs.Text.{header, records, snapshot_front, StandsAfter};
 ghost use Rattle.nqs_journal.specs.Plan.{append_calls, format_calls, begin_calls};
 ghost use Rattle.nqs_journal.specs.Faults.{IsAppendFault, IsLoadFault, MatchBegin};
 ghost use Rattle.nqs_journal.specs.Opened.{IsOpen};
@@ -126,6 +126,7 @@ impl<D: Disk> Journal<D> {
         requires { IsTrue D.tells → IsQuiet (D.history disk) }
         ensures tells { IsTrue D.tells → IfOk result (λ journal. (payloads : List (List ℕ)) × Tells journal header payloads
             × (found.new.items ≡ found.old.items ++ payloads)) }
+        ensures small { OnOk result ((payloads : List (List ℕ)) × (found.new.items ≡ found.old.items ++ payloads) × (length (header ++ records payloads) ≤ 2 ^ 40)) }
         ensures same { IsTrue D.tells → IfOk result (λ journal. history_of journal ≡ D.history disk) }
         ensures running { IfOk result (λ journal. is_stopped journal ≡ false) }
         ensures unchanged { OnErr result (found.new.items ≡ found.old.items) }
@@ -197,6 +198,7 @@ impl<D: Disk> Journal<D> {
     pub fn reread(&mut self, alloc: Global, found: &mut Vec<Bytes>) -> Result<(), JournalFault>
         ensures found { IsTrue D.tells → OnOk result ((payloads : List (List ℕ)) → Tells self.old header payloads
             → found.new.items ≡ found.old.items ++ payloads) }
+        ensures small { OnOk result ((payloads : List (List ℕ)) × (found.new.items ≡ found.old.items ++ payloads) × (length (header ++ records payloads) ≤ 2 ^ 40)) }
         ensures unchanged { OnErr result (found.new.items ≡ found.old.items) }
         ensures same { IsTrue D.tells → history_of self.new ≡ history_of self.old }
         ensures tells { IsTrue D.tells → (front : List ℕ) (payloads : List (List ℕ)) → Tells self.old front payloads → Tells self.new front payloads }

@@ -59,6 +59,7 @@ pub fn read_payloads<D: Disk>(
 ) -> Result<(), JournalFault>
     ensures found { IsTrue D.tells → OnOk result ((payloads : List (List ℕ)) × StandsFor (content (D.history disk.old)) payloads
         × (found.new.items ≡ found.old.items ++ payloads)) }
+    ensures small { OnOk result ((payloads : List (List ℕ)) × (found.new.items ≡ found.old.items ++ payloads) × (length (header ++ records payloads) ≤ 2 ^ 40)) }
     ensures unchanged { OnErr result (found.new.items ≡ found.old.items) }
     ensures same { IsTrue D.tells → D.history disk.new ≡ D.history disk.old }
     ensures later { D.faults disk.old ≤ D.faults disk.new }

@@ -53,7 +53,8 @@ fn is_eligible(state: &HostState, queue: &QueueDef, now: u64, row: &Row) -> bool
         && kind_allows(state, queue, now, row)
 }
 
-fn comes_before(one: &Row, other: &Row) -> bool
+/// Whether one row starts before the other: it has the greater priority, or the same one and the earlier arrival.
+pub fn comes_before(one: &Row, other: &Row) -> bool
     ensures { result ≡ comes_before one.now other.now }
 {
     other.job.priority < one.job.priority

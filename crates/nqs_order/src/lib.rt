@@ -9,6 +9,6 @@ mod eligible;
 mod limits;
 
 pub use choice::pick;
-pub use eligible::first_eligible;
+pub use eligible::{comes_before, first_eligible};
 pub use limits::within_limits;
 pub use nqs_types::Choice;

@@ -28,8 +28,8 @@ fn is_hand_to(hand: &Hand, peer: HostId) -> bool
     peer == hand.peer
 }
 
-// What is known of a host.
-pub(crate) fn find_peer(state: &HostState, peer: HostId) -> Option<&Peer>
+/// What is known of a host. There is nothing where it isn't of the site.
+pub fn find_peer(state: &HostState, peer: HostId) -> Option<&Peer>
     ensures { option_copied result ≡ find_peer peer (content state.now) }
 {
     state.peers.as_slice().get(peer.0 as usize)

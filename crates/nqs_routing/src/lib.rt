@@ -7,5 +7,5 @@
 mod dests;
 mod note;
 
-pub use dests::{destination, destination_in};
+pub use dests::{destination, destination_in, find_peer};
 pub use note::{note_refusal, note_silence};

@@ -11,4 +11,5 @@ mod submit;
 
 pub use apply::apply_rows;
 pub use check::{check_delete, check_rows};
+pub use meant::meant_row;
 pub use submit::check_submit;

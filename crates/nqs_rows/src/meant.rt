@@ -30,8 +30,8 @@ pub(crate) fn meant_request(state: &HostState, request: &Named) -> Option<Reques
     }
 }
 
-// The row of the request.
-pub(crate) fn meant_row<'a>(state: &'a HostState, request: &Named) -> Option<&'a Row>
+/// The row of the request that is typed so, if there is one.
+pub fn meant_row<'a>(state: &'a HostState, request: &Named) -> Option<&'a Row>
     requires { length state.now.site ≤ 16 }
     ensures { option_copied result ≡ meant_row request.now (content state.now) }
 {

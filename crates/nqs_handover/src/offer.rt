@@ -1,0 +1,174 @@
+//! An offer comes.
+ghost use Rattle.std.specs.Prelude.{◌≡◌, ◌∷◌, ◌++◌, [], ◌||◌, IfOk};
+ghost use Rattle.nqs_types.specs.State.{content};
+ghost use Rattle.nqs_rules.specs.Causes.{first_refusal};
+ghost use Rattle.nqs_rules.specs.Find.{has_row, has_promise, find_peer};
+ghost use Rattle.nqs_rules.specs.Fits.{offer_full};
+ghost use Rattle.nqs_rules.specs.Handover.{closes, is_given_here, offer_causes, on_offer, send_ready};
+ghost use Rattle.nqs_types.specs.declared.change.Change.TheVariants.{Promised};
+ghost use Rattle.nqs_rules.specs.Stepped.{plan_of, makes};
+ghost use Rattle.nqs_rules.specs.Applied.{is_promise_of};
+ghost use Rattle.nqs_handover.specs.Offers.{by_number, way_causes, host_causes, into_causes};
+
+use nqs_access::may_use;
+use nqs_limits::over_limits;
+use nqs_plans::{
+    add, change_storing, copy_bytes, copy_carried, find_peer, message, no_extent, refusal_number,
+    says,
+};
+use nqs_types::{
+    Body, Bytes, Carried, Change, Entry, HostId, HostState, Job, Memory, Name, PeerNumber, Plan,
+    Promise, QueueDef, Refusal, RequestId,
+};
+use std::alloc::Global;
+
+// The number of a refusal for a request that exists.
+const EXISTS: u8 = 33;
+
+// Whether the number of a handover from the peer is closed.
+pub(crate) fn is_closed(state: &HostState, peer: HostId, number: u64) -> bool
+    ensures { result ≡ closes number (find_peer peer (content state.now)) }
+{
+    match find_peer(state, peer) {
+        Some(known) => number <= known.closed,
+        None => false,
+    }
+}
+
+// Whether this number was promised to the peer.
+pub(crate) fn has_promise(state: &HostState, peer: HostId, number: u64) -> bool
+    ensures { result ≡ has_promise peer number (content state.now) }
+{
+    state.promises.has(&PeerNumber { peer, number })
+}
+
+// Whether the request is of this host, with a number that it didn't give yet.
+fn is_given_here(state: &HostState, id: RequestId) -> bool
+    ensures { result ≡ is_given_here id (content state.now) }
+{
+    state.me == id.host && state.seq < id.seq
+}
+
+fn is_promise_of(promise: &Promise, peer: HostId) -> bool
+    ensures { result ≡ is_promise_of peer promise.now }
+{
+    peer == promise.peer
+}
+
+// Whether the host has no room for one more request. A promise that the offer replaces isn't counted.
+fn is_full(state: &HostState, peer: HostId) -> bool
+    ensures { result ≡ offer_full peer (content state.now) }
+{
+    let others = state
+        .promises
+        .count(|promise: &Promise| !is_promise_of(promise, peer));
+    others >= 10000usize.saturating_sub(state.rows.len())
+}
+
+/// Whether a job may come into the queue from a pipe queue: the first refusal of the way in and of the limits.
+pub fn check_way(queue: &QueueDef, job: &Job) -> Result<(), Refusal>
+    ensures { result ≡ first_refusal (way_causes queue.now job.now) }
+{
+    may_use(queue, &job.owner, Entry::FromPipe)?;
+    over_limits(queue, &job.limits)
+}
+
+fn check_host(state: &HostState, peer: HostId) -> Result<(), Refusal>
+    ensures { result ≡ first_refusal (host_causes peer (content state.now)) }
+{
+    if is_full(state, peer) {
+        return Err(Refusal::HostFull);
+    }
+    if state.arrivals == u64::MAX {
+        return Err(Refusal::NumbersUsed);
+    }
+    Ok(())
+}
+
+fn check_found(state: &HostState, peer: HostId, queue: &QueueDef, job: &Job) -> Result<(), Refusal>
+    ensures { result ≡ first_refusal (way_causes queue.now job.now ++ host_causes peer (content state.now)) }
+{
+    check_way(queue, job)?;
+    check_host(state, peer)
+}
+
+fn check_into(
+    state: &HostState,
+    peer: HostId,
+    queue: &Name,
+    carried: &Carried,
+) -> Result<(), Refusal>
+    ensures { result ≡ first_refusal (into_causes peer queue.now carried.now (content state.now)) }
+{
+    match state.queues.get(queue) {
+        Some(def) => check_found(state, peer, def, &carried.job),
+        None => Err(Refusal::NoQueue(*queue)),
+    }
+}
+
+fn is_known(state: &HostState, id: RequestId) -> bool
+    ensures { result ≡ (has_row id (content state.now) || is_given_here id (content state.now)) }
+{
+    state.rows.has(&id) || is_given_here(state, id)
+}
+
+// Whether the offer is taken, or the number of its refusal.
+fn check_offer(state: &HostState, peer: HostId, queue: &Name, carried: &Carried) -> Result<(), u8>
+    ensures { result ≡ by_number (first_refusal (offer_causes peer queue.now carried.now (content state.now))) }
+{
+    if is_known(state, carried.id) {
+        return Err(EXISTS);
+    }
+    match check_into(state, peer, queue, carried) {
+        Ok(()) => Ok(()),
+        Err(refusal) => Err(refusal_number(&refusal)),
+    }
+}
+
+// The offered request is promised.
+fn promise(
+    alloc: Global,
+    state: &HostState,
+    peer: HostId,
+    number: u64,
+    queue: &Name,
+    carried: &Carried,
+    script: &Bytes,
+) -> Result<Plan, Memory>
+    ensures { IfOk result (λ plan. plan ≡ plan_of (makes (Promised peer number queue.now carried.now script.now) (send_ready (content state.now) peer number ∷ []))) }
+{
+    let promised = Change::Promised {
+        peer,
+        number,
+        queue: *queue,
+        carried: copy_carried(carried)?,
+        script: no_extent(),
+    };
+    let plan = change_storing(alloc, promised, copy_bytes(script)?)?;
+    add(plan, message(state, peer, Body::Ready { number }))
+}
+
+/// OFFER: the request is promised and READY goes out, or REFUSED with the number of the first refusal. DONE goes
+/// out where the number is closed, and READY where it is promised already.
+pub fn on_offer(
+    alloc: Global,
+    state: &HostState,
+    peer: HostId,
+    number: u64,
+    queue: &Name,
+    carried: &Carried,
+    script: &Bytes,
+) -> Result<Plan, Memory>
+    ensures { IfOk result (λ plan. plan ≡ plan_of (on_offer peer number queue.now carried.now script.now (content state.now))) }
+{
+    if is_closed(state, peer, number) {
+        return says(alloc, message(state, peer, Body::Done { number }));
+    }
+    if has_promise(state, peer, number) {
+        return says(alloc, message(state, peer, Body::Ready { number }));
+    }
+    match check_offer(state, peer, queue, carried) {
+        Ok(()) => promise(alloc, state, peer, number, queue, carried, script),
+        Err(cause) => says(alloc, message(state, peer, Body::Refused { number, cause })),
+    }
+}

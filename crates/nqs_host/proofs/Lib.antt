@@ -1,0 +1,5 @@
+pub mod Fresh
+pub mod Places
+pub mod Losses
+pub mod Refused
+pub mod PromiseFits

@@ -1,0 +1,118 @@
+//! A host as it is formatted. `nqs_rules/specs/Format.antt` has the rule.
+
+ghost use Rattle.std.specs.Prelude.{◌≡◌, ◌∷◌, [], codes, IfOk, map};
+ghost use Rattle.nqs_types.specs.State.{content};
+ghost use Rattle.nqs_rules.specs.Format.{no_limits, new_peer, first_queue, formatted};
+
+use nqs_types::{
+    Access, HostId, HostState, Kind, Limits, ListOf, Memory, Name, NameList, Peer, PeerList,
+    QueueDef, Spare, Table,
+};
+use std::alloc::Global;
+
+/// Requests that may run at once.
+const GLOBAL_LIMIT: u16 = 64;
+/// Seconds.
+const PATIENCE: u64 = 60;
+/// Seconds.
+const RETRY_WAIT: u64 = 300;
+
+const NEW_PEER: Peer = Peer {
+    next: 1,
+    closed: 0,
+    wait: 0,
+    stage_next: 1,
+    stage_got: 0,
+};
+
+fn batch() -> Name
+    ensures { result ≡ codes "batch" }
+{
+    match Name::read(b"batch") {
+        Ok(name) => name,
+        Err(_) => unreachable!(),
+    }
+}
+
+fn root() -> Name
+    ensures { result ≡ codes "root" }
+{
+    match Name::read(b"root") {
+        Ok(name) => name,
+        Err(_) => unreachable!(),
+    }
+}
+
+// The queue that a formatted host has.
+fn first_queue(alloc: Global) -> QueueDef
+    ensures { result ≡ first_queue }
+{
+    QueueDef {
+        name: batch(),
+        kind: Kind::Batch,
+        enabled: true,
+        started: false,
+        pipe_only: false,
+        priority: 31,
+        run_limit: 1,
+        user_limit: None,
+        limits: Limits {
+            cpu: None,
+            memory: None,
+        },
+        access: Access::All,
+        dests: ListOf::new(alloc),
+        devices: ListOf::new(alloc),
+    }
+}
+
+fn first_queues(alloc: Global) -> Result<Table<Name, QueueDef>, Memory>
+    ensures { IfOk result (λ queues. queues.items ≡ first_queue ∷ []) }
+{
+    let mut queues = Table::new(alloc);
+    queues.reserve(1)?;
+    queues.push(first_queue(alloc));
+    Ok(queues)
+}
+
+// What is known of each host at first.
+fn new_peers(alloc: Global, site: &NameList) -> Result<PeerList, Memory>
+    ensures { IfOk result (λ peers. peers ≡ map (λ _. new_peer) site.now) }
+{
+    let peers = vec![in alloc; NEW_PEER; site.len()]?;
+    Ok(ListOf::from_vec(peers))
+}
+
+/// A host of this site, as it is formatted.
+pub fn formatted(alloc: Global, me: HostId, site: NameList) -> Result<HostState, Memory>
+    ensures { IfOk result (λ state. content state ≡ formatted me site) }
+{
+    let queues = first_queues(alloc)?;
+    let peers = new_peers(alloc, &site)?;
+    let managers = ListOf::of(alloc, root())?;
+    Ok(HostState {
+        me,
+        site,
+        queues,
+        complexes: Table::new(alloc),
+        devices: Table::new(alloc),
+        rows: Table::new(alloc),
+        hands: Table::new(alloc),
+        promises: Table::new(alloc),
+        peers,
+        stages: Table::new(alloc),
+        files: Table::new(alloc),
+        managers,
+        operators: ListOf::new(alloc),
+        default_queue: Some(batch()),
+        global_limit: GLOBAL_LIMIT,
+        patience: PATIENCE,
+        retry_wait: RETRY_WAIT,
+        seq: 0,
+        arrivals: 0,
+        file_next: 1,
+        spare_names: Spare::new(alloc),
+        spare_dests: Spare::new(alloc),
+        spare_refused: Spare::new(alloc),
+    })
+}

@@ -1,0 +1,424 @@
+-- What each step of a world keeps, a whole run keeps, whatever stops.
+use Rattle.std.proofs.Common.{◌≡◌, ℕ, ◌+◌, Bool, true, false, cond, List, [], ◌∷◌, ◌++◌, map, filter, length, slice_get, Option, None, Some, zero, suc, refl, sym, ap, subst, ◌∙◌, if◌then◌else◌}
+use Rattle.std.proofs.lemmas.Bool.{and_parts}
+use Rattle.std.proofs.lemmas.List.{append_assoc, append-nil, length-append}
+use Rattle.std.proofs.lemmas.Option.{same_Some, none-some, slice_get-map}
+use Rattle.std.specs.Option.{option_map}
+use Rattle.std.specs.List.{filter_map, flat_map, list_all}
+use Rattle.nqs_types.specs.State.{Plain}
+use Rattle.nqs_types.specs.Table.{best_from}
+use Rattle.nqs_rules.specs.Edits.{change_at}
+use Rattle.nqs_rules.specs.Applied.{applied}
+use Rattle.nqs_rules.specs.Sane.{is_sane_event}
+use Rattle.nqs_rules.specs.Starts.{after_change}
+use Rattle.nqs_rules.specs.Step.{step}
+use Rattle.nqs_rules.specs.Start.{start}
+use Rattle.nqs_rules.specs.Stepped.{Stepped, shown, stored_parts}
+use Rattle.nqs_rules.specs.World.{World, Host, Ran, Fate, Made, StoppedBefore, StoppedAfter, Act, Asks, Ends, Finishes, Fails, Writes, Leaves, Delivers, Newest, Ticks, Clock, Fuse, Crashes, Boots, Shows, fate, host_of, put_host, then_seen, seeing, unseen, stopped, used, seen_output, sent_by, emits, change_fated, makes_change, steps, starts, all_starts, left_of, shuts_down, halted_host, halts, takes_up, taken_by, takes, finishes, finishes_up, delivers, packet_at, last_of, is_between, newest_between, boot_output, boots_down, boots, crashes_up, runs_now, is_less_row, fused_host, fuses}
+use Rattle.nqs_rules.specs.Run.{states_of, happens, run}
+use Rattle.nqs_laws.specs.History.{Why, ByEvent, ByStart, ByBoot, Note, Saw, Kept, saws, kept_by, change_notes, plan_notes, step_notes, start_notes, all_start_notes, event_notes, taken_notes, take_notes, finish_notes, finish_up_notes, deliver_notes, boot_down_notes, boot_notes, notes, history}
+use Rattle.nqs_laws.specs.Sane.{is_sane_act, AreSane}
+use Rattle.nqs_types.specs.declared.ids.HostId.{HostId}
+use Rattle.nqs_types.specs.declared.request.Row.{Row}
+use Rattle.nqs_types.specs.declared.message.Message.{Message}
+use Rattle.nqs_types.specs.declared.change.Change.{Change}
+use Rattle.nqs_types.specs.declared.change.Change.TheVariants.{Boot}
+use Rattle.nqs_types.specs.declared.event.Event.{Event}
+use Rattle.nqs_types.specs.declared.event.Event.TheVariants as event
+use Rattle.nqs_types.specs.declared.event.Output.{Output}
+use Rattle.nqs_types.specs.declared.world.Seen.{Seen}
+use Rattle.nqs_types.specs.declared.world.Seen.TheVariants as seen
+
+-- what laws look at: the states of the hosts, all packets ever sent, and what happened so far
+pub record Moment : Type 0 where
+  pub states : List Plain
+  pub packets : List Message
+  pub notes : List Note
+
+abbrev pub moment : World → List Note → Moment
+moment w ns = record { states = states_of w; packets = w.packets; notes = ns }
+
+abbrev pub put_state : HostId → Plain → List Plain → List Plain
+put_state h s states = change_at h.0 (λ _. s) states
+
+abbrev pub WasSent : Message → List Message → Type 0
+WasSent m packets = (k : ℕ) × (slice_get packets k ≡ Some m)
+
+-- what may come to a host: a packet that was sent to it, or what is within its limits
+abbrev pub Comes : List Message → HostId → Event → Type 0
+Comes packets h (event.Arrived now m) = (m.to ≡ h) × WasSent m packets
+Comes packets h e = is_sane_event 0 e ≡ true
+
+-- why a host does something
+pub data Way (packets : List Message) (h : HostId) (s : Plain) : Type 0 where
+  Taken : (e : Event) → Comes packets h e → Way packets h s
+  Begun : (now : ℕ) → (x : Stepped (List ℕ)) → start now s ≡ Some x → Way packets h s
+  Booted : Way packets h s
+
+module _ {packets : List Message} {h : HostId} {s : Plain} where
+  abbrev pub change_by : Way packets h s → Option (Change (List ℕ))
+  change_by (Taken e c) = (step e s).change
+  change_by (Begun now x e) = x.change
+  change_by Booted = Some Boot
+
+  abbrev pub outputs_by : Way packets h s → List Output
+  outputs_by (Taken e c) = map shown (step e s).outputs
+  outputs_by (Begun now x e) = map shown x.outputs
+  outputs_by Booted = filter_map boot_output s.rows
+
+  abbrev pub first_by : Way packets h s → List Seen
+  first_by (Taken e c) = []
+  first_by (Begun now x e) = []
+  first_by Booted = seen.Boot h ∷ []
+
+abbrev pub why_by : {packets : List Message} {h : HostId} {s : Plain} → Way packets h s → Why
+why_by (Taken e c) = ByEvent e
+why_by (Begun now x e) = ByStart
+why_by Booted = ByBoot
+
+abbrev pub kept_of : HostId → Why → Option (Change (List ℕ)) → List Note
+kept_of h why None = []
+kept_of h why (Some c) = Kept h why c ∷ []
+
+-- what is seen of outputs, behind so many packets
+abbrev pub seen_from : HostId → ℕ → List Output → List Seen
+seen_from h n [] = []
+seen_from h n (o ∷ os) = seen_output h (n + 1) o ++ seen_from h (n + length (sent_by o)) os
+
+abbrev pub sent_in : List Output → List Message
+sent_in os = flat_map sent_by os
+
+-- what nothing is done for
+abbrev pub IsIdle : Seen → Type 0
+IsIdle (seen.Stop h) = Unit {0}
+IsIdle (seen.Down h) = Unit {0}
+IsIdle (seen.Up h) = Unit {0}
+IsIdle (seen.Idle h) = Unit {0}
+IsIdle (seen.NoPacket k) = Unit {0}
+IsIdle (seen.Table rows) = Unit {0}
+IsIdle _ = ⊥
+
+abbrev pub noted : Moment → List Note → Moment
+noted m ns = record { states = m.states; packets = m.packets; notes = m.notes ++ ns }
+
+-- a change is kept, and nothing goes out
+abbrev pub silent : Moment → HostId → Plain → Why → Change (List ℕ) → Moment
+silent m h s why c = record { states = put_state h (applied c s) m.states; packets = m.packets; notes = m.notes ++ Kept h why c ∷ [] }
+
+abbrev pub notes_by : {packets : List Message} {s : Plain} → (h : HostId) → ℕ → Way packets h s → List Note
+notes_by h n way = kept_of h (why_by way) (change_by way) ++ saws (first_by way ++ seen_from h n (outputs_by way))
+
+-- all is done
+abbrev pub whole : {packets : List Message} → Moment → (h : HostId) → (s : Plain) → Way packets h s → Moment
+whole m h s way = record {
+  states = put_state h (after_change (change_by way) s) m.states;
+  packets = m.packets ++ sent_in (outputs_by way);
+  notes = m.notes ++ notes_by h (length m.packets) way;
+}
+
+-- what each step keeps
+pub record Frames (P : Moment → Type 0) : Type 0 where
+  pub idle : (m : Moment) (x : Seen) → IsIdle x → P m → P (noted m (Saw x ∷ []))
+  pub kept : (m : Moment) (h : HostId) (s : Plain) → slice_get m.states h.0 ≡ Some s → (way : Way m.packets h s) (c : Change (List ℕ)) → change_by way ≡ Some c → P m → P (silent m h s (why_by way) c)
+  pub made : (m : Moment) (h : HostId) (s : Plain) → slice_get m.states h.0 ≡ Some s → (way : Way m.packets h s) → P m → P (whole m h s way)
+
+-- lists of hosts
+
+pub put-same : {V : Type 0} (n : ℕ) (v : V) (vs : List V) → slice_get vs n ≡ Some v → change_at n (λ _. v) vs ≡ vs
+put-same n v [] e = refl
+put-same zero v (x ∷ vs) e = ap (λ y. y ∷ vs) (sym (same_Some x v e))
+put-same (suc n) v (x ∷ vs) e = ap (λ l. x ∷ l) (put-same n v vs e)
+
+pub map-at : {V W : Type 0} (m : V → W) (n : ℕ) (f : V → V) (g : W → W) → ((v : V) → m (f v) ≡ g (m v)) → (vs : List V) → map m (change_at n f vs) ≡ change_at n g (map m vs)
+map-at m n f g same [] = refl
+map-at m zero f g same (v ∷ vs) = ap (λ y. y ∷ map m vs) (same v)
+map-at m (suc n) f g same (v ∷ vs) = ap (λ l. m v ∷ l) (map-at m n f g same vs)
+
+at-id : {V : Type 0} (n : ℕ) (vs : List V) → change_at n (λ v. v) vs ≡ vs
+at-id n [] = refl
+at-id zero (v ∷ vs) = refl
+at-id (suc n) (v ∷ vs) = ap (λ l. v ∷ l) (at-id n vs)
+
+abbrev state_in : Host → Plain
+state_in host = host.state
+
+put_states : (h : HostId) (host : Host) (w : World) → states_of (put_host h host w) ≡ put_state h host.state (states_of w)
+put_states h host w = map-at state_in h.0 (λ _. host) (λ _. host.state) (λ v. refl) w.hosts
+
+state_at : (h : HostId) (host : Host) (w : World) → host_of h w ≡ Some host → slice_get (states_of w) h.0 ≡ Some host.state
+state_at h host w e = slice_get-map state_in w.hosts h.0 ∙ ap (option_map state_in) e
+
+-- a host that stops as it is
+stop_states : (h : HostId) (host : Host) (w : World) → host_of h w ≡ Some host → states_of (put_host h (stopped host.state host) w) ≡ states_of w
+stop_states h host w e = put_states h (stopped host.state host) w ∙ put-same h.0 host.state (states_of w) (state_at h host w e)
+
+-- outputs
+
+emits_seen : (h : HostId) (os : List Output) (w : World) → (emits h os w).seen ≡ seen_from h (length w.packets) os
+emits_seen h [] w = refl
+emits_seen h (o ∷ os) w = ap (λ l. seen_output h (length w.packets + 1) o ++ l) (emits_seen h os (record w { packets = w.packets ++ sent_by o }) ∙ ap (λ n. seen_from h n os) (length-append w.packets (sent_by o)))
+
+emits_world : (h : HostId) (os : List Output) (w : World) → (emits h os w).world ≡ record w { packets = w.packets ++ sent_in os }
+emits_world h [] w = λ j. record w { packets = sym (append-nil w.packets) j }
+emits_world h (o ∷ os) w = emits_world h os (record w { packets = w.packets ++ sent_by o }) ∙ (λ j. record w { packets = append_assoc w.packets (sent_by o) (sent_in os) j })
+
+-- packets
+
+was_first : {V : Type 0} (t : V → Bool) (vs : List V) (v : V) → last_of (filter t vs) ≡ Some v → (k : ℕ) × (slice_get vs k ≡ Some v)
+was_first t [] v e = absurd (none-some v e)
+was_first t (x ∷ vs) v e = by (t x) e (was_first t vs v)
+  where
+    next : (k : ℕ) × (slice_get vs k ≡ Some v) → (k : ℕ) × (slice_get (x ∷ vs) k ≡ Some v)
+    next (k, at) = (suc k, at)
+
+    of : (ys : List _) → last_of (x ∷ ys) ≡ Some v → (last_of ys ≡ Some v → (k : ℕ) × (slice_get vs k ≡ Some v)) → (k : ℕ) × (slice_get (x ∷ vs) k ≡ Some v)
+    of [] e rest = (0, e)
+    of (y ∷ ys) e rest = next (rest e)
+
+    by : (b : Bool) → last_of (cond b (x ∷ filter t vs) (filter t vs)) ≡ Some v → (last_of (filter t vs) ≡ Some v → (k : ℕ) × (slice_get vs k ≡ Some v)) → (k : ℕ) × (slice_get (x ∷ vs) k ≡ Some v)
+    by true e rest = of (filter t vs) e rest
+    by false e rest = next (rest e)
+
+packet_sent : (k : ℕ) (w : World) (m : Message) → packet_at k w ≡ Some m → WasSent m w.packets
+packet_sent zero w m e = absurd (none-some m e)
+packet_sent (suc k) w m e = (k, e)
+
+abbrev world_of : Ran → World
+world_of r = r.world
+
+module _ (P : Moment → Type 0) (f : Frames P) where
+  -- what is known after something, and of what happened in it
+  abbrev pub After : World → List Note → Type 0
+  After w ns = P (moment w ns)
+
+  -- what happened in two parts
+  parts : (w : World) (ns a b : List Note) → After w ((ns ++ a) ++ b) → After w (ns ++ (a ++ b))
+  parts w ns a b p = subst (λ l. After w l) (append_assoc ns a b) p
+
+  nothing : (w : World) (ns : List Note) → After w ns → After w (ns ++ [])
+  nothing w ns p = subst (λ l. After w l) (sym (append-nil ns)) p
+
+  -- a change or none, and what goes out
+
+  abbrev does : HostId → Host → Option (Change (List ℕ)) → List Seen → List Output → World → Ran
+  does h host None first os w = then_seen first (emits h os w)
+  does h host (Some c) first os w = makes_change h host c first os w
+
+  module _ (w : World) (ns : List Note) (h : HostId) (host : Host) (there : host_of h w ≡ Some host) (way : Way w.packets h host.state) (p : After w ns) where
+    abbrev at : slice_get (states_of w) h.0 ≡ Some host.state
+    at = state_at h host w there
+
+    done : P (whole (moment w ns) h host.state way)
+    done = f.made (moment w ns) h host.state at way p
+
+    fated : (x : Fate) (c : Change (List ℕ)) → change_by way ≡ Some c
+        → (let r = change_fated x h host c (first_by way) (outputs_by way) w in After r.world (ns ++ (kept_by x h (why_by way) c ++ saws r.seen)))
+    fated Made c e =
+        let v : World = put_host h (used (stored_parts c) (applied c host.state) host) w in
+        let states : put_state h (after_change (change_by way) host.state) (states_of w) ≡ states_of v =
+        ap (λ o. put_state h (after_change o host.state) (states_of w)) e ∙ sym (put_states h (used (stored_parts c) (applied c host.state) host) w) in
+        let world = emits_world h (outputs_by way) v in
+        let sights = emits_seen h (outputs_by way) v in
+        subst P
+        ((λ j. record { states = states j; packets = w.packets ++ sent_in (outputs_by way); notes = ns ++ (kept_of h (why_by way) (e j) ++ saws (first_by way ++ sym sights j)) })
+        ∙ (λ j. moment (sym world j) (ns ++ (Kept h (why_by way) c ∷ saws (first_by way ++ (emits h (outputs_by way) v).seen)))))
+        done
+    fated StoppedBefore c e =
+        subst (λ l. P (record { states = l; packets = w.packets; notes = ns ++ Saw (seen.Stop h) ∷ [] })) (sym (stop_states h host w there)) (f.idle (moment w ns) (seen.Stop h) tt p)
+    fated StoppedAfter c e =
+        let v : World = put_host h (stopped (applied c host.state) host) w in
+        let kept = f.idle (silent (moment w ns) h host.state (why_by way) c) (seen.Stop h) tt (f.kept (moment w ns) h host.state at way c e p) in
+        subst P (λ j. record { states = sym (put_states h (stopped (applied c host.state) host) w) j; packets = w.packets; notes = append_assoc ns (Kept h (why_by way) c ∷ []) (Saw (seen.Stop h) ∷ []) j }) kept
+
+    pub does_kept : (o : Option (Change (List ℕ))) → change_by way ≡ o
+        → (let r = does h host o (first_by way) (outputs_by way) w in After r.world (ns ++ (plan_notes h host (why_by way) o ++ saws r.seen)))
+    does_kept (Some c) e = fated (fate (stored_parts c) host) c e
+    does_kept None e =
+        let states : put_state h (after_change (change_by way) host.state) (states_of w) ≡ states_of w =
+        ap (λ o. put_state h (after_change o host.state) (states_of w)) e ∙ put-same h.0 host.state (states_of w) at in
+        let world = emits_world h (outputs_by way) w in
+        let sights = emits_seen h (outputs_by way) w in
+        subst P
+        ((λ j. record { states = states j; packets = w.packets ++ sent_in (outputs_by way); notes = ns ++ (kept_of h (why_by way) (e j) ++ saws (first_by way ++ sym sights j)) })
+        ∙ (λ j. moment (sym world j) (ns ++ saws (first_by way ++ (emits h (outputs_by way) w).seen))))
+        done
+
+  -- a step
+
+  step_kept : (w : World) (ns : List Note) (h : HostId) (host : Host) → host_of h w ≡ Some host → (e : Event) → Comes w.packets h e → After w ns
+      → (let s = step e host.state in After (steps h host s w).world (ns ++ step_notes h host (ByEvent e) s w))
+  step_kept w ns h host there e comes p = by (step e host.state).change refl
+    where
+      by : (o : Option (Change (List ℕ))) → (step e host.state).change ≡ o
+          → (let s : Stepped (List ℕ) = record { change = o; outputs = (step e host.state).outputs } in After (steps h host s w).world (ns ++ step_notes h host (ByEvent e) s w))
+      by None k = does_kept w ns h host there (Taken e comes) p None k
+      by (Some c) k = does_kept w ns h host there (Taken e comes) p (Some c) k
+
+  begin_kept : (w : World) (ns : List Note) (h : HostId) (host : Host) → host_of h w ≡ Some host → (x : Stepped (List ℕ)) → start w.now host.state ≡ Some x → After w ns
+      → After (steps h host x w).world (ns ++ step_notes h host ByStart x w)
+  begin_kept w ns h host there x e p = by x.change refl
+    where
+      by : (o : Option (Change (List ℕ))) → x.change ≡ o
+          → (let s : Stepped (List ℕ) = record { change = o; outputs = x.outputs } in After (steps h host s w).world (ns ++ step_notes h host ByStart s w))
+      by None k = does_kept w ns h host there (Begun w.now x e) p None k
+      by (Some c) k = does_kept w ns h host there (Begun w.now x e) p (Some c) k
+
+  -- starts
+
+  starts_kept : (n : ℕ) (h : HostId) (w : World) (ns : List Note) → After w ns → After (starts n h w).world (ns ++ start_notes n h w)
+  starts_kept zero h w ns p = nothing w ns p
+  starts_kept (suc n) h w ns p = of (host_of h w) refl (starts_kept n h)
+    where
+      by : (host : Host) → host_of h w ≡ Some host → (up : Bool) (o : Option (Stepped (List ℕ))) → start w.now host.state ≡ o
+          → ((v : World) (ms : List Note) → After v ms → After (starts n h v).world (ms ++ start_notes n h v))
+          → After (world_of (elim up [
+            | false ↦ unseen w
+            | true ↦ elim o [
+              | None ↦ unseen w
+              | Some s ↦ (let r = steps h host s w in then_seen r.seen (starts n h r.world))
+            ]
+          ]))
+          (ns ++ elim up [
+            | false ↦ []
+            | true ↦ elim o [
+              | None ↦ []
+              | Some s ↦ step_notes h host ByStart s w ++ start_notes n h (steps h host s w).world
+            ]
+          ])
+      by host there false o e rest = nothing w ns p
+      by host there true None e rest = nothing w ns p
+      by host there true (Some s) e rest =
+          let v : World = (steps h host s w).world in
+          parts (starts n h v).world ns (step_notes h host ByStart s w) (start_notes n h v) (rest v (ns ++ step_notes h host ByStart s w) (begin_kept w ns h host there s e p))
+
+      of : (o : Option Host) → host_of h w ≡ o → ((v : World) (ms : List Note) → After v ms → After (starts n h v).world (ms ++ start_notes n h v))
+          → After (world_of (elim o [
+            | None ↦ unseen w
+            | Some host ↦ elim host.up [
+              | false ↦ unseen w
+              | true ↦ elim (start w.now host.state) [
+                | None ↦ unseen w
+                | Some s ↦ (let r = steps h host s w in then_seen r.seen (starts n h r.world))
+              ]
+            ]
+          ]))
+          (ns ++ elim o [
+            | None ↦ []
+            | Some host ↦ elim host.up [
+              | false ↦ []
+              | true ↦ elim (start w.now host.state) [
+                | None ↦ []
+                | Some s ↦ step_notes h host ByStart s w ++ start_notes n h (steps h host s w).world
+              ]
+            ]
+          ])
+      of None e rest = nothing w ns p
+      of (Some host) e rest = by host e host.up (start w.now host.state) refl rest
+
+  all_starts_kept : (h : HostId) (w : World) (ns : List Note) → After w ns → After (all_starts h w).world (ns ++ all_start_notes h w)
+  all_starts_kept h w ns p = starts_kept (left_of (host_of h w)) h w ns p
+
+  -- stops
+
+  halts_kept : (b : Bool) (h : HostId) (w : World) (ns : List Note) → After w ns → After (halts b h w).world (ns ++ saws (halts b h w).seen)
+  halts_kept false h w ns p = nothing w ns p
+  halts_kept true h w ns p = of (host_of h w) refl
+    where
+      by : (host : Host) → host_of h w ≡ Some host → (up : Bool)
+          → (let r = if up then seeing (seen.Stop h) (put_host h (stopped host.state host) w) else unseen w in After r.world (ns ++ saws r.seen))
+      by host there true = subst (λ l. P (record { states = l; packets = w.packets; notes = ns ++ Saw (seen.Stop h) ∷ [] })) (sym (stop_states h host w there)) (f.idle (moment w ns) (seen.Stop h) tt p)
+      by host there false = nothing w ns p
+
+      of : (o : Option Host) → host_of h w ≡ o → After (halted_host h o w).world (ns ++ saws (halted_host h o w).seen)
+      of None e = nothing w ns p
+      of (Some host) e = by host e host.up
+
+  -- events
+
+  event_kept : (w : World) (ns : List Note) (h : HostId) (host : Host) → host_of h w ≡ Some host → (e : Event) → Comes w.packets h e → After w ns
+      → After (takes_up h host e w).world (ns ++ event_notes h host e w)
+  event_kept w ns h host there e comes p =
+      let v : World = (steps h host (step e host.state) w).world in
+      let u : World = (all_starts h v).world in
+      let a = step_notes h host (ByEvent e) (step e host.state) w in
+      let b = all_start_notes h v in
+      let started : After u (ns ++ (a ++ b)) = parts u ns a b (all_starts_kept h v (ns ++ a) (step_kept w ns h host there e comes p)) in
+      let r = halts (shuts_down e host.state) h u in
+      parts r.world ns (a ++ b) (saws r.seen) (halts_kept (shuts_down e host.state) h u (ns ++ (a ++ b)) started)
+
+  -- a host that is down takes nothing
+  taken_kept : (w : World) (ns : List Note) (h : HostId) (g : Host → World → Ran) (k : Host → World → List Note) → After w ns
+      → ((host : Host) → host_of h w ≡ Some host → After (g host w).world (ns ++ k host w)) → After (taken_by (host_of h w) h g w).world (ns ++ taken_notes (host_of h w) h k w)
+  taken_kept w ns h g k p done = of (host_of h w) refl
+    where
+      by : (host : Host) → host_of h w ≡ Some host → (up : Bool) → After (if up then g host w else seeing (seen.Down h) w).world (ns ++ (if up then k host w else Saw (seen.Down h) ∷ []))
+      by host there true = done host there
+      by host there false = f.idle (moment w ns) (seen.Down h) tt p
+
+      of : (o : Option Host) → host_of h w ≡ o → After (taken_by o h g w).world (ns ++ taken_notes o h k w)
+      of None e = nothing w ns p
+      of (Some host) e = by host e host.up
+
+  takes_kept : (w : World) (ns : List Note) (h : HostId) (e : Event) → Comes w.packets h e → After w ns → After (takes h e w).world (ns ++ take_notes h e w)
+  takes_kept w ns h e comes p = taken_kept w ns h (λ host. takes_up h host e) (λ host. event_notes h host e) p (λ host there. event_kept w ns h host there e comes p)
+
+  finishes_kept : (w : World) (ns : List Note) (h : HostId) (host : Host) → host_of h w ≡ Some host → After w ns → (o : Option (ℕ × Row (List ℕ))) → After (finishes h host o w).world (ns ++ finish_notes h host o w)
+  finishes_kept w ns h host there p None = f.idle (moment w ns) (seen.Idle h) tt p
+  finishes_kept w ns h host there p (Some q) = event_kept w ns h host there (event.Ended w.now 0 q.1.id q.1.starts 0 [] []) refl p
+
+  delivers_kept : (w : World) (ns : List Note) (k : Option ℕ) (o : Option Message) → ((m : Message) → o ≡ Some m → WasSent m w.packets) → After w ns → After (delivers k o w).world (ns ++ deliver_notes k o w)
+  delivers_kept w ns k None sent p = f.idle (moment w ns) (seen.NoPacket k) tt p
+  delivers_kept w ns k (Some m) sent p = takes_kept w ns m.to (event.Arrived w.now m) (refl, sent m refl) p
+
+  boots_kept : (w : World) (ns : List Note) (h : HostId) → After w ns → After (boots h (host_of h w) w).world (ns ++ boot_notes h (host_of h w) w)
+  boots_kept w ns h p = of (host_of h w) refl
+    where
+      down : (host : Host) → host_of h w ≡ Some host → After (boots_down h host w).world (ns ++ boot_down_notes h host w)
+      down host there =
+          let r = makes_change h host Boot (seen.Boot h ∷ []) (filter_map boot_output host.state.rows) w in
+          let a = change_notes h host ByBoot Boot ++ saws r.seen in
+          parts (all_starts h r.world).world ns a (all_start_notes h r.world) (all_starts_kept h r.world (ns ++ a) (does_kept w ns h host there Booted p (Some Boot) refl))
+
+      by : (host : Host) → host_of h w ≡ Some host → (up : Bool) → After (if up then seeing (seen.Up h) w else boots_down h host w).world (ns ++ (if up then Saw (seen.Up h) ∷ [] else boot_down_notes h host w))
+      by host there true = f.idle (moment w ns) (seen.Up h) tt p
+      by host there false = down host there
+
+      of : (o : Option Host) → host_of h w ≡ o → After (boots h o w).world (ns ++ boot_notes h o w)
+      of None e = nothing w ns p
+      of (Some host) e = by host e host.up
+
+  crash_kept : (w : World) (ns : List Note) (h : HostId) → After w ns → (let r = taken_by (host_of h w) h (crashes_up h) w in After r.world (ns ++ saws r.seen))
+  crash_kept w ns h p = of (host_of h w) refl
+    where
+      by : (host : Host) → host_of h w ≡ Some host → (up : Bool) → (let r = if up then crashes_up h host w else seeing (seen.Down h) w in After r.world (ns ++ saws r.seen))
+      by host there true = subst (λ l. P (record { states = l; packets = w.packets; notes = ns ++ Saw (seen.Stop h) ∷ [] })) (sym (stop_states h host w there)) (f.idle (moment w ns) (seen.Stop h) tt p)
+      by host there false = f.idle (moment w ns) (seen.Down h) tt p
+
+      of : (o : Option Host) → host_of h w ≡ o → (let r = taken_by o h (crashes_up h) w in After r.world (ns ++ saws r.seen))
+      of None e = nothing w ns p
+      of (Some host) e = by host e host.up
+
+  happens_kept : (a : Act) (w : World) (ns : List Note) → is_sane_act a ≡ true → After w ns → After (happens a w).world (ns ++ notes a w)
+  happens_kept (Asks h user c) w ns sane p = takes_kept w ns h (event.Ask w.now 0 0 user c) sane p
+  happens_kept (Ends h id start status output error) w ns sane p = takes_kept w ns h (event.Ended w.now 0 id start status output error) sane p
+  happens_kept (Finishes h) w ns sane p = taken_kept w ns h (finishes_up h) (finish_up_notes h) p (λ host there. finishes_kept w ns h host there p (best_from runs_now is_less_row 0 host.state.rows))
+  happens_kept (Fails h id start) w ns sane p = takes_kept w ns h (event.Unlaunched w.now id start) refl p
+  happens_kept (Writes h file) w ns sane p = takes_kept w ns h (event.Written w.now file) refl p
+  happens_kept (Leaves h file) w ns sane p = takes_kept w ns h (event.Unwritten w.now file) refl p
+  happens_kept (Delivers k) w ns sane p = delivers_kept w ns (Some k) (packet_at k w) (λ m e. packet_sent k w m e) p
+  happens_kept (Newest a b) w ns sane p = delivers_kept w ns None (newest_between a b w) (λ m e. was_first (is_between a b) w.packets m e) p
+  happens_kept (Ticks h) w ns sane p = takes_kept w ns h (event.Tick w.now) refl p
+  happens_kept (Clock n) w ns sane p = nothing (record w { now = n }) ns p
+  happens_kept (Fuse h disk calls tear) w ns sane p =
+      nothing (fuses h disk calls tear w) ns (subst (λ l. P (record { states = l; packets = w.packets; notes = ns })) (sym (map-at state_in h.0 (fused_host disk calls tear) (λ s. s) (λ v. refl) w.hosts ∙ at-id h.0 (states_of w))) p)
+  happens_kept (Crashes h) w ns sane p = crash_kept w ns h p
+  happens_kept (Boots h) w ns sane p = boots_kept w ns h p
+  happens_kept Shows w ns sane p = f.idle (moment w ns) _ tt p
+
+  -- and so does each run
+  pub run_kept : (acts : List Act) (w : World) (ns : List Note) → AreSane acts → After w ns → After (run acts w).world (ns ++ history acts w)
+  run_kept [] w ns sane p = nothing w ns p
+  run_kept (a ∷ acts) w ns sane p =
+      let sane_each = and_parts (is_sane_act a) (list_all is_sane_act acts) sane in
+      let v : World = (happens a w).world in
+      parts (run acts v).world ns (notes a w) (history acts v) (run_kept acts v (ns ++ notes a w) sane_each.1 (happens_kept a w ns sane_each.0 p))

@@ -1,0 +1,15 @@
+pub mod Frame
+pub mod Told
+pub mod RowTests
+pub mod Sides
+pub mod Sent
+pub mod Sound
+pub mod Always
+pub mod Makes
+pub mod StartLaws
+pub mod Found
+pub mod Pair
+pub mod After
+pub mod Spares
+pub mod Views
+pub mod Turns

@@ -1,0 +1,6 @@
+//! Laws of whole runs of a network of hosts, with stops at any call of a device.
+//! `specs/` has the words that the laws are said in; each law is the contract of a function.
+#![tactic(auto)]
+
+pub mod runs;
+pub mod starts;

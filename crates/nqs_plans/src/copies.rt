@@ -1,0 +1,26 @@
+//! Copies of what a plan holds.
+ghost use Rattle.std.specs.Prelude.{◌≡◌, IfOk};
+
+use nqs_types::{Bytes, Carried, Job, ListOf, Memory};
+use std::alloc::Global;
+
+/// The same bytes.
+pub fn copy_bytes(bytes: &Bytes) -> Result<Bytes, Memory>
+    ensures { IfOk result (λ copy. copy ≡ bytes.now) }
+{
+    Ok(bytes.clone()?)
+}
+
+/// The same job.
+pub fn copy_job(job: &Job) -> Result<Job, Memory>
+    ensures { IfOk result (λ copy. copy ≡ job.now) }
+{
+    Ok(job.clone()?)
+}
+
+/// The same request on its way.
+pub fn copy_carried(carried: &Carried) -> Result<Carried, Memory>
+    ensures { IfOk result (λ copy. copy ≡ carried.now) }
+{
+    Ok(carried.clone()?)
+}

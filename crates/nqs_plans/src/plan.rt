@@ -1,0 +1,108 @@
+//! The shapes of plans.
+ghost use Rattle.std.specs.Prelude.{◌≡◌, ◌∷◌, [], Some, IfOk};
+ghost use Rattle.nqs_types.specs.declared.extent.Extent.{Extent};
+ghost use Rattle.nqs_rules.specs.Stepped.{plan_of, quiet, says, message, ready, no_extent};
+ghost use Rattle.nqs_plans.specs.More.{change_alone, with_more};
+
+use nqs_types::{
+    Body, Bytes, Change, Extent, HostId, HostState, Items, ListOf, Memory, Message, Output, Plan,
+    PlanRead,
+};
+use std::alloc::Global;
+
+/// The extent that stands in a planned change until the bytes are stored.
+pub fn no_extent() -> Extent
+    ensures { result ≡ no_extent }
+{
+    Extent {
+        place: 0,
+        length: 0,
+    }
+}
+
+/// Nothing happens. It takes no memory.
+pub fn quiet(alloc: Global) -> Plan
+    ensures { result ≡ plan_of quiet }
+{
+    Plan {
+        change: None,
+        puts: Items::new(alloc),
+        outputs: Items::new(alloc),
+        reads: ListOf::new(alloc),
+    }
+}
+
+/// A change that stores nothing, and nothing that goes out. It takes no memory.
+pub fn change_alone(alloc: Global, change: Change) -> Plan
+    ensures { result ≡ change_alone change [] }
+{
+    Plan {
+        change: Some(change),
+        puts: Items::new(alloc),
+        outputs: Items::new(alloc),
+        reads: ListOf::new(alloc),
+    }
+}
+
+/// A change that stores these bytes, and nothing that goes out.
+pub fn change_storing(alloc: Global, change: Change, bytes: Bytes) -> Result<Plan, Memory>
+    ensures { IfOk result (λ plan. plan ≡ change_alone change (bytes ∷ [])) }
+{
+    Ok(Plan {
+        change: Some(change),
+        puts: Items::of(alloc, bytes)?,
+        outputs: Items::new(alloc),
+        reads: ListOf::new(alloc),
+    })
+}
+
+/// The plan, and an output behind its others.
+pub fn add(plan: Plan, output: Output) -> Result<Plan, Memory>
+    ensures { IfOk result (λ more. more ≡ with_more plan (ready output ∷ [])) }
+{
+    let mut outputs = plan.outputs;
+    outputs.push(output)?;
+    Ok(Plan {
+        change: plan.change,
+        puts: plan.puts,
+        outputs,
+        reads: plan.reads,
+    })
+}
+
+/// The plan, and an output behind its others whose bytes are those of an extent of the spool.
+pub fn add_kept(plan: Plan, output: Output, extent: Extent) -> Result<Plan, Memory>
+    ensures { IfOk result (λ more. more ≡ with_more plan ((output, Some extent) ∷ [])) }
+{
+    let mut outputs = plan.outputs;
+    let mut reads = plan.reads.into_vec();
+    reads.push(PlanRead {
+        output: outputs.len(),
+        extent,
+    })?;
+    outputs.push(output)?;
+    Ok(Plan {
+        change: plan.change,
+        puts: plan.puts,
+        outputs,
+        reads: ListOf::from_vec(reads),
+    })
+}
+
+/// One output and no change.
+pub fn says(alloc: Global, output: Output) -> Result<Plan, Memory>
+    ensures { IfOk result (λ plan. plan ≡ plan_of (says (ready output ∷ []))) }
+{
+    add(quiet(alloc), output)
+}
+
+/// A datagram of this host. It takes no memory.
+pub fn message(state: &HostState, to: HostId, body: Body) -> Output
+    ensures { result ≡ message state.now.me to body }
+{
+    Output::Send(Message {
+        from: state.me,
+        to,
+        body,
+    })
+}

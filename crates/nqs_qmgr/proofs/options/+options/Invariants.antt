@@ -1,0 +1,4 @@
+use Rattle.nqs_qmgr.proofs.options.+options.Given as goal
+
+abbrev pub decreases-options : goal.decreases-options
+decreases-options l = l.left

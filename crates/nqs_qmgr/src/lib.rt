@@ -1,0 +1,24 @@
+//! Command lines of qmgr. `read_qmgr` gives the command that a line says, or the first fault from the left.
+//!
+//! specs/Lines.antt has the table of lines, by verb and second keyword, and how lines are read; specs/Says.antt
+//! the same as a grammar, and specs/Law.antt that both agree. docs/commands.md has the lines in plain words.
+//! No call takes memory.
+#![tactic(auto)]
+
+mod edits;
+mod head;
+mod laws;
+mod lines;
+mod nouns;
+mod options;
+mod shape;
+mod value;
+
+pub use head::Head;
+pub use laws::reads_what_is_said;
+pub use lines::read_qmgr;
+pub use options::Settings;
+pub use value::Amount;
+
+#[cfg(test)]
+mod tests;

@@ -1,0 +1,4 @@
+pub mod Tokens
+pub mod Options
+pub mod Script
+pub mod Qsub

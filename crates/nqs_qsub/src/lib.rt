@@ -1,0 +1,23 @@
+//! Submissions as qsub takes them: options among the command's words and in the lines of the script that begin
+//! with `#@$`. `read_qsub` gives the submission, or the first fault.
+//!
+//! specs/Options.antt says what each option says, specs/Script.antt which lines hold options, specs/Qsub.antt
+//! which word wins and what a submission is. docs/commands.md has it in plain words.
+#![tactic(auto)]
+
+mod options;
+mod path;
+mod reading;
+mod script;
+mod submission;
+mod token;
+
+pub use options::{Flag, Options};
+pub use reading::Progress;
+pub use script::LineKind;
+pub use submission::read_qsub;
+pub use token::{Place, Source, Token};
+
+
+#[cfg(test)]
+mod tests;
