@@ -18,6 +18,7 @@ use std::process::ExitCode;
 use words::{Work, work_of};
 
 const BAD_WORDS: u8 = 2;
+
 const MEMORY: u8 = 6;
 
 fn status_of(done: Result<(), Memory>) -> u8 {

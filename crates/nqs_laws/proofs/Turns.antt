@@ -353,9 +353,9 @@ module _ (s : Plain) (h : IsInOrder s) (calm : IsConsistent s) (lone : IsLone s.
       by false e = stays_source s (applied (HandCommitted peer number) s) b
           (stands_in (applied (HandCommitted peer number) s) b (hands ∙ ap (λ c. if c then Some (committed there.0) else find (is_hand_to b) s.hands) e)
           (λ z r at is row routes.
-              row_after z.id (HandCommitted peer number) s h fit
-              ∙ (ap (λ o. committed_after o z.id (find_row z.id s)) there.1
-              ∙ (ap (without_at there.0.id z.id) row ∙ ap (λ c. if c then None else Some r) (other_request s h (peer_number peer number) there.0 lone there.1 there.2 b e z at is)))))
+          row_after z.id (HandCommitted peer number) s h fit
+          ∙ (ap (λ o. committed_after o z.id (find_row z.id s)) there.1
+          ∙ (ap (without_at there.0.id z.id) row ∙ ap (λ c. if c then None else Some r) (other_request s h (peer_number peer number) there.0 lone there.1 there.2 b e z at is)))))
           (ap (next_of b) made)
 
   -- a deletion
@@ -370,9 +370,9 @@ module _ (s : Plain) (h : IsInOrder s) (calm : IsConsistent s) (lone : IsLone s.
       by y e false is = stays_source s (applied (Deleted id) s) b
           (stands_in (applied (Deleted id) s) b (kept ∙ (ap (only (λ y. not (is_offered_for id y))) e ∙ (ap (λ c. if not c then Some y else None) is ∙ sym e)))
           (λ z r at opens row routes.
-              let same : y ≡ z = same_Some y z (sym e ∙ at) in
-              let other : id_eq id z.id ≡ false = both (is_offered z.phase) (id_eq id z.id) opens (ap (is_offered_for id) (sym same) ∙ is) in
-              row_after z.id (Deleted id) s h fit ∙ (ap (without_at id z.id) row ∙ ap (λ c. if c then None else Some r) (turned id_eq id_exact same_id id z.id other))))
+          let same : y ≡ z = same_Some y z (sym e ∙ at) in
+          let other : id_eq id z.id ≡ false = both (is_offered z.phase) (id_eq id z.id) opens (ap (is_offered_for id) (sym same) ∙ is) in
+          row_after z.id (Deleted id) s h fit ∙ (ap (without_at id z.id) row ∙ ap (λ c. if c then None else Some r) (turned id_eq id_exact same_id id z.id other))))
           refl
         where
           both : (a c : Bool) → a ≡ true → (a && c) ≡ false → c ≡ false

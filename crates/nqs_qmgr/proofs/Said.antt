@@ -39,19 +39,21 @@ named_pair a n p e = (cc, cc)
 
 pub means-name : (line : List ℕ) (place : ℕ) → Means (name_at line place) (NameIs line place)
 unfolding name_at
-means-name line place p =
-    ( (λ e.
-        let d = bound (word_at line place) f p e in
-        let n = bound (or_fault (name_of (word_text line d.0)) (fault.BadName d.0.start)) (g d.0) p d.2 in
-        let named = or_fault-Ok (name_of (word_text line d.0)) (fault.BadName d.0.start) n.0 n.1 in
-        let same = named_pair n.0 d.0.end p n.2 in
-        (d.0, (means-word line place d.0).0 d.1, named ∙ ap (λ (x : List ℕ). Some x) same.0, same.1))
-    , (λ h. bind (word_at line place) f h.0 p ((means-word line place h.0).1 h.1)
-        (bind (or_fault (name_of (word_text line h.0)) (fault.BadName h.0.start)) (g h.0) p.0 p (or_fault-Some (name_of (word_text line h.0)) (fault.BadName h.0.start) p.0 h.2)
-        (ap (λ (n : ℕ). Ok (p.0, n)) (sym h.3)))) )
+means-name line place p = (
+  (λ e.
+      let d = bound (word_at line place) f p e in
+      let n = bound (or_fault (name_of (word_text line d.0)) (fault.BadName d.0.start)) (g d.0) p d.2 in
+      let named = or_fault-Ok (name_of (word_text line d.0)) (fault.BadName d.0.start) n.0 n.1 in
+      let same = named_pair n.0 d.0.end p n.2 in
+      (d.0, (means-word line place d.0).0 d.1, named ∙ ap (λ (x : List ℕ). Some x) same.0, same.1)),
+  (λ h. bind (word_at line place) f h.0 p ((means-word line place h.0).1 h.1)
+      (bind (or_fault (name_of (word_text line h.0)) (fault.BadName h.0.start)) (g h.0) p.0 p (or_fault-Some (name_of (word_text line h.0)) (fault.BadName h.0.start) p.0 h.2)
+      (ap (λ (n : ℕ). Ok (p.0, n)) (sym h.3)))),
+)
   where
     g : Word → List ℕ → Read (List ℕ × ℕ)
     g word name = Ok (name, word.end)
+
     f : Word → Read (List ℕ × ℕ)
     f word = or_fault (name_of (word_text line word)) (fault.BadName word.start) >>= g word
 
@@ -62,19 +64,21 @@ named-Ok place (Err BadName) id e = cc
 
 pub means-request : (line : List ℕ) (place : ℕ) → Means (request_at line place) (RequestIs line place)
 unfolding request_at
-means-request line place p =
-    ( (λ e.
-        let d = bound (word_at line place) f p e in
-        let n = bound (or_not_named d.0.start (named_of (word_text line d.0))) (g d.0) p d.2 in
-        let named = named-Ok d.0.start (named_of (word_text line d.0)) n.0 n.1 in
-        let same = named_pair n.0 d.0.end p n.2 in
-        (d.0, (means-word line place d.0).0 d.1, named ∙ ap (λ (x : Named). Ok x) same.0, same.1))
-    , (λ h. bind (word_at line place) f h.0 p ((means-word line place h.0).1 h.1)
-        (bind (or_not_named h.0.start (named_of (word_text line h.0))) (g h.0) p.0 p (ap (or_not_named h.0.start) h.2)
-        (ap (λ (n : ℕ). Ok (p.0, n)) (sym h.3)))) )
+means-request line place p = (
+  (λ e.
+      let d = bound (word_at line place) f p e in
+      let n = bound (or_not_named d.0.start (named_of (word_text line d.0))) (g d.0) p d.2 in
+      let named = named-Ok d.0.start (named_of (word_text line d.0)) n.0 n.1 in
+      let same = named_pair n.0 d.0.end p n.2 in
+      (d.0, (means-word line place d.0).0 d.1, named ∙ ap (λ (x : Named). Ok x) same.0, same.1)),
+  (λ h. bind (word_at line place) f h.0 p ((means-word line place h.0).1 h.1)
+      (bind (or_not_named h.0.start (named_of (word_text line h.0))) (g h.0) p.0 p (ap (or_not_named h.0.start) h.2)
+      (ap (λ (n : ℕ). Ok (p.0, n)) (sym h.3)))),
+)
   where
     g : Word → Named → Read (Named × ℕ)
     g word id = Ok (id, word.end)
+
     f : Word → Read (Named × ℕ)
     f word = or_not_named word.start (named_of (word_text line word)) >>= g word
 
@@ -107,9 +111,10 @@ head_of-has ks line place head h = rw (← h.stem, h.named) refl
 
 pub means-head : (ks : List Keyword) (line : List ℕ) (place : ℕ) → Means (head_at ks line place) (HasHead ks line place)
 unfolding head_at
-means-head ks line place head =
-    ( (λ e. let b = bound (word_at line place) (head_of ks line) head e in head_of-Ok ks line place b.0 head ((means-word line place b.0).0 b.1) b.2)
-    , (λ h. bind (word_at line place) (head_of ks line) head.word head ((means-word line place head.word).1 h.next) (head_of-has ks line place head h)) )
+means-head ks line place head = (
+  (λ e. let b = bound (word_at line place) (head_of ks line) head e in head_of-Ok ks line place b.0 head ((means-word line place b.0).0 b.1) b.2),
+  (λ h. bind (word_at line place) (head_of ks line) head.word head ((means-word line place head.word).1 h.next) (head_of-has ks line place head h)),
+)
 
 tested : {A : Type 0} (t : Bool) (x : GrammarFault) (a b : A) → cond t (Err x) (Ok a) ≡ Ok b → (t ≡ false) × (b ≡ a)
 tested true x a b e = cc
@@ -117,13 +122,14 @@ tested false x a b e = (refl, cc)
 
 pub means-bare : {B : Type 0} (head : Head) (f : ℕ → Read B) (Q : B → Type 0) → Means (f head.word.end) Q → Means (bare head >>= f) (λ (b : B). HasNoValue head × Q b)
 unfolding bare
-means-bare {B} head f Q hf b =
-    ( (λ e.
-        let d = bound (cond (nat_lt head.stem head.word.end) (Err (fault.Extra head.word.start)) (Ok head.word.end)) f b e in
-        let t = tested (nat_lt head.stem head.word.end) (fault.Extra head.word.start) head.word.end d.0 d.1 in
-        let none = t.0 in
-        (grind (arith, nat_tests), (hf b).0 (ap f (sym t.1) ∙ d.2)))
-    , (λ h. let past = h.0 in let none : nat_lt head.stem head.word.end ≡ false = grind (arith, nat_tests) in rw none ((hf b).1 h.1)) )
+means-bare {B} head f Q hf b = (
+  (λ e.
+      let d = bound (cond (nat_lt head.stem head.word.end) (Err (fault.Extra head.word.start)) (Ok head.word.end)) f b e in
+      let t = tested (nat_lt head.stem head.word.end) (fault.Extra head.word.start) head.word.end d.0 d.1 in
+      let none = t.0 in
+      (grind (arith, nat_tests), (hf b).0 (ap f (sym t.1) ∙ d.2))),
+  (λ h. let past = h.0 in let none : nat_lt head.stem head.word.end ≡ false = grind (arith, nat_tests) in rw none ((hf b).1 h.1)),
+)
 
 -- ---- values
 
@@ -144,13 +150,14 @@ value_at-has head h = let some : nat_lt head.stem head.word.end ≡ true = grind
 
 pub means-valued : {A : Type 0} (read : List ℕ → Option A) (bad : ℕ → GrammarFault) (line : List ℕ) (head : Head) → Means (valued read bad line head) (Given read line head)
 unfolding valued
-means-valued {A} read bad line head a =
-    ( (λ e.
-        let b = bound (value_at head) f a e in
-        let v = value_at-Ok head b.0 b.1 in
-        let r = or_fault-Ok (read (slice_range line b.0 head.word.end)) (bad b.0) a b.2 in
-        (v.0, ap (λ (q : ℕ). read (slice_range line q head.word.end)) v.1 ∙ r))
-    , (λ h. bind (value_at head) f (head.stem + 1) a (value_at-has head h.0) (or_fault-Some (read (slice_range line (head.stem + 1) head.word.end)) (bad (head.stem + 1)) a h.1)) )
+means-valued {A} read bad line head a = (
+  (λ e.
+      let b = bound (value_at head) f a e in
+      let v = value_at-Ok head b.0 b.1 in
+      let r = or_fault-Ok (read (slice_range line b.0 head.word.end)) (bad b.0) a b.2 in
+      (v.0, ap (λ (q : ℕ). read (slice_range line q head.word.end)) v.1 ∙ r)),
+  (λ h. bind (value_at head) f (head.stem + 1) a (value_at-has head h.0) (or_fault-Some (read (slice_range line (head.stem + 1) head.word.end)) (bad (head.stem + 1)) a h.1)),
+)
   where
     f : ℕ → Read A
     f place = or_fault (read (slice_range line place head.word.end)) (bad place)

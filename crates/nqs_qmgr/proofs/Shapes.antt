@@ -53,7 +53,7 @@ means-one_request : (line : List ℕ) (head : Head) → Means (read_one_request 
 unfolding read_one_request
 means-one_request line head =
     means-bare head f (λ (r : Named). (after : ℕ) × RequestIs line head.word.end (r, after) × Ends line after)
-        (means-last (request_at line head.word.end) (nothing_after line) (RequestIs line head.word.end) (Ends line) (means-request line head.word.end) (means-end line))
+    (means-last (request_at line head.word.end) (nothing_after line) (RequestIs line head.word.end) (Ends line) (means-request line head.word.end) (means-end line))
   where
     f : ℕ → Read Named
     f place = request_at line place >>= (λ id. nothing_after line id.1 >>= (λ done. Ok id.0))
@@ -63,7 +63,7 @@ request_then : {A : Type 0} (line : List ℕ) (head : Head) (s : ℕ → Read A)
     → Means (bare head >>= (λ place. request_at line place >>= (λ id. s id.1 >>= (λ a. Ok (id.0, a))))) (RequestThen Follows line head)
 request_then {A} line head s Follows hs =
     means-bare head f (λ (z : Named × A). (after : ℕ) × RequestIs line head.word.end (z.0, after) × Follows after z.1)
-        (means-pair-after (request_at line head.word.end) s (RequestIs line head.word.end) Follows (means-request line head.word.end) hs)
+    (means-pair-after (request_at line head.word.end) s (RequestIs line head.word.end) Follows (means-request line head.word.end) hs)
   where
     f : ℕ → Read (Named × A)
     f place = request_at line place >>= (λ id. s id.1 >>= (λ a. Ok (id.0, a)))
@@ -72,7 +72,7 @@ name_then : {A : Type 0} (line : List ℕ) (head : Head) (s : ℕ → Read A) (F
     → Means (bare head >>= (λ place. name_at line place >>= (λ name. s name.1 >>= (λ a. Ok (name.0, a))))) (NameThen Follows line head)
 name_then {A} line head s Follows hs =
     means-bare head f (λ (z : List ℕ × A). (after : ℕ) × NameIs line head.word.end (z.0, after) × Follows after z.1)
-        (means-pair-after (name_at line head.word.end) s (NameIs line head.word.end) Follows (means-name line head.word.end) hs)
+    (means-pair-after (name_at line head.word.end) s (NameIs line head.word.end) Follows (means-name line head.word.end) hs)
   where
     f : ℕ → Read (List ℕ × A)
     f place = name_at line place >>= (λ name. s name.1 >>= (λ a. Ok (name.0, a)))
@@ -102,16 +102,16 @@ means-option : (line : List ℕ) (head : Head) (s : Settings) (keyword : Keyword
 unfolding with_option with_priority with_run_limit with_pipe_only with_destination
 means-option line head s k.Priority =
     means-once (is_some s.priority) head (valued (number_of 0 63) fault.BadNumber line head >>= (λ n. Ok (record s { priority = Some n }))) _
-        (means-map (valued (number_of 0 63) fault.BadNumber line head) (λ (n : ℕ). record s { priority = Some n }) (Given (number_of 0 63) line head) (means-valued (number_of 0 63) fault.BadNumber line head))
+    (means-map (valued (number_of 0 63) fault.BadNumber line head) (λ (n : ℕ). record s { priority = Some n }) (Given (number_of 0 63) line head) (means-valued (number_of 0 63) fault.BadNumber line head))
 means-option line head s k.RunLimit =
     means-once (is_some s.run_limit) head (valued (number_of 0 10000) fault.BadNumber line head >>= (λ n. Ok (record s { run_limit = Some n }))) _
-        (means-map (valued (number_of 0 10000) fault.BadNumber line head) (λ (n : ℕ). record s { run_limit = Some n }) (Given (number_of 0 10000) line head) (means-valued (number_of 0 10000) fault.BadNumber line head))
+    (means-map (valued (number_of 0 10000) fault.BadNumber line head) (λ (n : ℕ). record s { run_limit = Some n }) (Given (number_of 0 10000) line head) (means-valued (number_of 0 10000) fault.BadNumber line head))
 means-option line head s k.PipeOnly =
     means-once s.pipe_only head (bare head >>= (λ place. Ok (record s { pipe_only = true }))) _
-        (means-bare head (λ (place : ℕ). Ok (record s { pipe_only = true })) (λ (b : Settings). b ≡ record s { pipe_only = true }) (means-Ok (record s { pipe_only = true })))
+    (means-bare head (λ (place : ℕ). Ok (record s { pipe_only = true })) (λ (b : Settings). b ≡ record s { pipe_only = true }) (means-Ok (record s { pipe_only = true })))
 means-option line head s k.Destination =
     means-once (is_some s.destination) head (valued dest_of fault.BadName line head >>= (λ d. Ok (record s { destination = Some d }))) _
-        (means-map (valued dest_of fault.BadName line head) (λ (d : NamedDest). record s { destination = Some d }) (Given dest_of line head) (means-valued dest_of fault.BadName line head))
+    (means-map (valued dest_of fault.BadName line head) (λ (d : NamedDest). record s { destination = Some d }) (Given dest_of line head) (means-valued dest_of fault.BadName line head))
 means-option line head s _ = λ (more : Settings). (λ e. cc, λ h. absurd h)
 
 missing : Bool → ℕ
@@ -197,8 +197,8 @@ means-other : (line : List ℕ) (verb : Head) (keyword : Keyword) → Means (bar
 unfolding Other
 means-other line verb keyword =
     means-bare verb f (λ (c : Command). (head : Head) × HasHead (nouns keyword) line verb.word.end head × HasShape (shape_of keyword head.keyword) line head c)
-        (means-bind (head_at (nouns keyword) line verb.word.end) (λ (head : Head). read_shape (shape_of keyword head.keyword) line head) (HasHead (nouns keyword) line verb.word.end) (λ (head : Head). HasShape (shape_of keyword head.keyword) line head)
-            (means-head (nouns keyword) line verb.word.end) (λ (head : Head). means-shape (shape_of keyword head.keyword) line head))
+    (means-bind (head_at (nouns keyword) line verb.word.end) (λ (head : Head). read_shape (shape_of keyword head.keyword) line head) (HasHead (nouns keyword) line verb.word.end) (λ (head : Head). HasShape (shape_of keyword head.keyword) line head)
+    (means-head (nouns keyword) line verb.word.end) (λ (head : Head). means-shape (shape_of keyword head.keyword) line head))
   where
     f : ℕ → Read Command
     f place = head_at (nouns keyword) line place >>= (λ head. read_shape (shape_of keyword head.keyword) line head)

@@ -18,6 +18,5 @@ pub use script::LineKind;
 pub use submission::read_qsub;
 pub use token::{Place, Source, Token};
 
-
 #[cfg(test)]
 mod tests;

@@ -314,12 +314,7 @@ fn with_forms(options: Options, text: &[u8]) -> Result<Options, WordsCause>
 
 /// The options with one and the text of its value, which stands at that place.
 #[tactic(auto, unfolding(crate::specs::Options::valued))]
-pub fn valued(
-    options: Options,
-    flag: Flag,
-    text: &[u8],
-    at: Place,
-) -> Result<Options, WordsCause>
+pub fn valued(options: Options, flag: Flag, text: &[u8], at: Place) -> Result<Options, WordsCause>
     ensures { result ≡ valued options flag text.now at }
 {
     match flag {

@@ -139,5 +139,14 @@ pub fn read_words(
         return Ok(options);
     };
     let step = one_option(source, words, text, line, number, token, options)?;
-    read_words(left - 1, source, words, text, line, step.number, step.place, step.options)
+    read_words(
+        left - 1,
+        source,
+        words,
+        text,
+        line,
+        step.number,
+        step.place,
+        step.options,
+    )
 }

@@ -116,7 +116,16 @@ fn words_of_line(
 {
     let end = line_end(script, place);
     let from = place.saturating_add(3);
-    read_words(12, Source::Script, &[], &script[..end], line, 1, from, options)
+    read_words(
+        12,
+        Source::Script,
+        &[],
+        &script[..end],
+        line,
+        1,
+        from,
+        options,
+    )
 }
 
 // The options with those of the line, and whether the reading goes on.

@@ -31,11 +31,7 @@ fn read(alloc: Global, text: &[u8], script: &[u8]) -> Result<Submission, WordsFa
     }
 }
 
-fn fault(
-    alloc: Global,
-    text: &[u8],
-    script: &[u8],
-) -> Option<(WordsCause, u32, u32)> {
+fn fault(alloc: Global, text: &[u8], script: &[u8]) -> Option<(WordsCause, u32, u32)> {
     match read(alloc, text, script) {
         Ok(_) => None,
         Err(fault) => Some((fault.cause, fault.line, fault.word)),
@@ -107,7 +103,9 @@ fn finds_faults_of_the_script(rt: HostRuntime) {
     let alloc = rt.alloc();
     let words = b"-p 5";
     assert!(rt; fault(alloc, words, b"#@$ -p 64") == Some((WordsCause::BadNumber, 1, 2)));
-    assert!(rt; fault(alloc, words, b"#\n#@$ -q a\n#@$\t-nr -q b\n") == Some((WordsCause::Repeated, 3, 2)));
+    assert!(rt;
+        fault(alloc, words, b"#\n#@$ -q a\n#@$\t-nr -q b\n") == Some((WordsCause::Repeated, 3, 2))
+    );
     assert!(rt; fault(alloc, words, b"#@$ -q\n#@$ a\n") == Some((WordsCause::Missing, 1, 1)));
     assert!(rt; fault(alloc, words, b"date\n#@$ -x\n").is_none());
     assert!(rt; fault(alloc, words, b"#@$ \n#@$ -x\n") == Some((WordsCause::Unknown, 2, 1)));

@@ -27,7 +27,7 @@ of_lt a b h = grind (arith, nat_tests)
 dated : (year month day : ℕ) → IsDate (pos year) (pos month) (pos day) → is_date year month day ≡ true
 dated year month day d =
     and_from _ _ (and_from _ _ (le year 9999 (omega (arith, signed_arith, d))) (and_from _ _ (le 1 month (omega (arith, signed_arith, d))) (le month 12 (omega (arith, signed_arith, d)))))
-        (and_from _ _ (le 1 day (omega (arith, signed_arith, d))) (le day (days_in_month (pos year) month) (omega (arith, signed_arith, d))))
+    (and_from _ _ (le 1 day (omega (arith, signed_arith, d))) (le day (days_in_month (pos year) month) (omega (arith, signed_arith, d))))
 
 timed : (hour minute second : ℕ) → hour < 24 → minute < 60 → second < 60 → is_time hour minute second ≡ true
 timed hour minute second h m s = and_from _ _ (lt hour 24 h) (and_from _ _ (lt minute 60 m) (lt second 60 s))
@@ -42,10 +42,11 @@ date_of year month day t =
     let low_month = of_le 1 month m.0 in
     let high_month = of_le month 12 m.1 in
     let low_day = of_le 1 day d.0 in
-    let high_day = of_le day (days_in_month (pos year) month) d.1 in
-    ( (omega (arith, signed_arith), omega (arith, signed_arith))
-    , (omega (arith, signed_arith), omega (arith, signed_arith))
-    , (omega (arith, signed_arith), omega (arith, signed_arith)) )
+    let high_day = of_le day (days_in_month (pos year) month) d.1 in (
+      (omega (arith, signed_arith), omega (arith, signed_arith)),
+      (omega (arith, signed_arith), omega (arith, signed_arith)),
+      (omega (arith, signed_arith), omega (arith, signed_arith)),
+    )
 
 second_says : (year month day hour minute second moment : ℕ) → IsSecond year month day hour minute second moment → second_of year month day hour minute second ≡ Some moment
 unfolding second_of seconds_to
@@ -59,9 +60,11 @@ said_second year month day hour minute second moment e = by (is_date year month 
   where
     count : ℤ
     count = (days_from_civil (pos year) month day *ℤ pos 86400) +ℤ pos (hour * 3600 + minute * 60 + second)
+
     counted : (z : ℤ) → natural z ≡ Some moment → pos moment ≡ z
     counted (pos n) h = let same : n ≡ moment = cc in ap pos (sym same)
     counted (negsuc n) h = cc
+
     by : (t : Bool) → (is_date year month day && is_time hour minute second) ≡ t → cond t (natural count) None ≡ Some moment → IsSecond year month day hour minute second moment
     by false is h = cc
     by true is h =
@@ -84,4 +87,4 @@ unfolding moment_of
 moment_of-Err bytes (Form place) is = rw is refl
 moment_of-Err bytes Range is =
     rw is.0 (none_of (second_of (part bytes 0 4) (part bytes 5 2) (part bytes 8 2) (part bytes 11 2) (part bytes 14 2) (part bytes 17 2))
-        (λ m h. is.1 m (named_moment bytes m is.0 (said_second (part bytes 0 4) (part bytes 5 2) (part bytes 8 2) (part bytes 11 2) (part bytes 14 2) (part bytes 17 2) m h))))
+    (λ m h. is.1 m (named_moment bytes m is.0 (said_second (part bytes 0 4) (part bytes 5 2) (part bytes 8 2) (part bytes 11 2) (part bytes 14 2) (part bytes 17 2) m h))))

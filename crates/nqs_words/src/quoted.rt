@@ -31,6 +31,7 @@ impl<T: Drop> From<AllocFailed<T>> for QuoteFault {
         QuoteFault::Memory
     }
 }
+
 fn escape_of(bytes: &[u8]) -> Step
     ensures step { result ≡ escape_of bytes.now }
 {
