@@ -13,3 +13,15 @@ pub mod After
 pub mod Spares
 pub mod Views
 pub mod Turns
+pub mod Targets
+pub mod Paired
+pub mod Guarded
+pub mod Spoken
+pub mod PairedRuns
+pub mod Tabled
+pub mod Handed
+pub mod Advance
+pub mod TabledRuns
+pub mod Entries
+pub mod NetLaws
+pub mod RowSteps

@@ -200,7 +200,7 @@ module _ (site : List (List ℕ)) where
     };
   }
 
-  new_hosts : (few : length site ≤ 16) (place : ℕ) (names : List (List ℕ)) → place + length names ≡ length site → (n : ℕ) (s : Plain) → slice_get (map (λ h. h.state) (hosts_from place site names)) n ≡ Some s → IsHost site (place + n) s
+  pub new_hosts : (few : length site ≤ 16) (place : ℕ) (names : List (List ℕ)) → place + length names ≡ length site → (n : ℕ) (s : Plain) → slice_get (map (λ h. h.state) (hosts_from place site names)) n ≡ Some s → IsHost site (place + n) s
   new_hosts few place [] all n s e = absurd (none-some s e)
   new_hosts few place (name ∷ names) all zero s e =
       let me : HostId = record { 0 = place } in

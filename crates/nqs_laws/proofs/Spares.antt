@@ -48,7 +48,7 @@ IsNew (Submitted queue job script) s x = x ≡ next_id s
 IsNew (Accepted peer number) s x = (p : Promise (List ℕ)) × (find_promise peer number s ≡ Some p) × (x ≡ p.row.id)
 IsNew c s x = ⊥
 
-changed_none : (id : Request) (f : PlainRow → PlainRow) (x : Request) → changed_at id f x None ≡ None
+pub changed_none : (id : Request) (f : PlainRow → PlainRow) (x : Request) → changed_at id f x None ≡ None
 changed_none id f x = by (id_eq x id)
   where
     by : (b : Bool) → (if b then option_map f None else None) ≡ None

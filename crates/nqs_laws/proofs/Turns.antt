@@ -72,10 +72,10 @@ IsQuiet (Accepted peer number) = ⊥
 IsQuiet (Dropped peer number) = ⊥
 IsQuiet c = Unit {0}
 
-abbrev Ties : Type 0
+abbrev pub Ties : Type 0
 Ties = List Hand × List Pledging
 
-abbrev ties : Plain → Ties
+abbrev pub ties : Plain → Ties
 ties s = (s.hands, s.promises)
 
 abbrev pub numbers : HostId → Plain → ℕ × ℕ
@@ -185,11 +185,11 @@ from_move (Accepted peer number) a = if same_host a peer then Accepts else Stays
 from_move (Dropped peer number) a = if same_host a peer then Drops else Stays
 from_move c a = Stays
 
-stays_source : (s s' : Plain) (b : HostId) → offered s' b ≡ offered s b → next_of b s' ≡ next_of b s → Source s s' b Stays
+pub stays_source : (s s' : Plain) (b : HostId) → offered s' b ≡ offered s b → next_of b s' ≡ next_of b s → Source s s' b Stays
 stays_source s s' b o n = record { offer = o; next = n; is = tt }
 
-stays_target : (t t' : Plain) (a : HostId) → t'.promises ≡ t.promises → closed_of a t' ≡ closed_of a t → Target t t' a Stays
-stays_target t t' a p c = record { pledge = ap (λ l. pledge_seen (find (is_promise_of a) l)) p; closed = c; is = tt }
+pub stays_target : (t t' : Plain) (a : HostId) → t'.promises ≡ t.promises → closed_of a t' ≡ closed_of a t → Target t t' a Stays
+stays_target t t' a p c = record { pledge = ap (λ l. pledge_seen (find (is_promise_of a) l)) p; closed = c; is = tt; stays = λ e. ap (λ l. find (is_promise_of a) l) p }
 
 keyed : (u : Hand → Bool) (y : Hand) (b : HostId) (hands : List Hand) → find u hands ≡ Some y → IsLone hands → find (is_hand_to b) (without_first u hands) ≡ (if same_host b y.peer then None else find (is_hand_to b) hands)
 keyed u y b hands found lone = find-without same_host (λ (z : Hand). z.peer) host_exact host_same u y b hands found lone
@@ -251,9 +251,6 @@ module _ (s : Plain) (h : IsInOrder s) (calm : IsConsistent s) (lone : IsLone s.
       let k = quiet_ties c s fit quiet in
       stays_source s (applied c s) b (stands_in (applied c s) b (ap (λ (l : Ties). find (is_hand_to b) l.0) k.0) (λ y r e is found routes. row_spared c fit (quiet_plain c quiet) y.id r found routes)) (ap (λ (l : ℕ × ℕ). l.0) (k.1 b))
 
-  quiet_target : (c : Change (List ℕ)) → fits c s ≡ true → IsQuiet c → (a : HostId) → Target s (applied c s) a Stays
-  quiet_target c fit quiet a = let k = quiet_ties c s fit quiet in stays_target s (applied c s) a (ap (λ (l : Ties). l.1) k.0) (ap (λ (l : ℕ × ℕ). l.1) (k.1 a))
-
   -- a hand that goes, with what that makes of rows
   module _ (k : PeerNumber) (y : Hand) (found : find (is_hand k) s.hands ≡ Some y) (s' : Plain) (hands : s'.hands ≡ without_first (is_hand k) s.hands) (next : (g : HostId) → next_of g s' ≡ next_of g s) where
     gone_to : (b : HostId) → find (is_hand_to b) s'.hands ≡ (if same_host b k.peer then None else find (is_hand_to b) s.hands)
@@ -284,7 +281,7 @@ module _ (s : Plain) (h : IsInOrder s) (calm : IsConsistent s) (lone : IsLone s.
         gone_source k y found s' hands next Withdraws tt (λ o n. refl) (λ o n. refl)
         (λ b far z r there is row routes. rows z.id ∙ (ap (changed_at y.id f z.id) row ∙ ap (λ c. if c then Some (f r) else Some r) (other_request s h k y lone found opens b far z there is)))
 
-  offer_at : (peer : HostId) (number : ℕ) (test : Hand → Bool) → hand_passes test peer number s ≡ true → (y : Hand) × (find_hand peer number s ≡ Some y) × (test y ≡ true)
+  pub offer_at : (peer : HostId) (number : ℕ) (test : Hand → Bool) → hand_passes test peer number s ≡ true → (y : Hand) × (find_hand peer number s ≡ Some y) × (test y ≡ true)
   offer_at peer number test fit = of (find_hand peer number s) refl fit
     where
       of : (o : Option Hand) → find_hand peer number s ≡ o → passes test o ≡ true → (y : Hand) × (find_hand peer number s ≡ Some y) × (test y ≡ true)
@@ -302,7 +299,7 @@ module _ (s : Plain) (h : IsInOrder s) (calm : IsConsistent s) (lone : IsLone s.
       back_source (peer_number peer number) k.0 k.1 k.2 (back_row k.0 refusal s) s' row (ap (λ (u : Plain). u.hands) made) (λ g. ap (next_of g) made) b
 
   -- a silent offer
-  silent_source : (until : ℕ) (k : PeerNumber) (y : Hand) → find (is_hand k) s.hands ≡ Some y → is_offered y.phase ≡ true → (b : HostId) → Source s (hand_silent until k (Some y) s) b (if same_host b k.peer then Withdraws else Stays)
+  pub silent_source : (until : ℕ) (k : PeerNumber) (y : Hand) → find (is_hand k) s.hands ≡ Some y → is_offered y.phase ≡ true → (b : HostId) → Source s (hand_silent until k (Some y) s) b (if same_host b k.peer then Withdraws else Stays)
   silent_source until k y found opens b =
       back_source k y found opens requeued_row (hand_silent until k (Some y) s) (λ x. silent_found x until k (Some y) s (keys_are s h.keys).rows) refl
       (λ g. field_kept next_field 1 k.peer.0 g.0 (λ p. record p { wait = until }) s.peers (λ p. refl)) b

@@ -115,6 +115,7 @@ pub record Target (t t' : Plain) (a : HostId) (m : Move) : Type 0 where
   pub pledge : pledged t' a ≡ (moved (pair NoOffer (pledged t a) 0 (closed_of a t)) m).pledge
   pub closed : closed_of a t' ≡ (moved (pair NoOffer (pledged t a) 0 (closed_of a t)) m).closed
   pub is : IsTarget m
+  pub stays : m ≡ Stays → promise_of a t' ≡ promise_of a t
 
 pub source_pair : (a : HostId) (s s' : Plain) (b : HostId) (t : Plain) (m : Move) → Source s s' b m → pair_of a s' b t ≡ moved (pair_of a s b t) m
 source_pair a s s' b t Stays k = λ j. record { offer = k.offer j; next = k.next j; pledge = pledged t a; closed = closed_of a t }

@@ -1,3 +1,4 @@
 pub mod History
 pub mod Sane
 pub mod Words
+pub mod Licensed

@@ -4,3 +4,4 @@
 
 pub mod runs;
 pub mod starts;
+pub mod tables;

@@ -85,14 +85,21 @@ fn edit_code(edit: Edit) -> u8 {
     }
 }
 
+fn command_code(command: Command) -> u8 {
+    match command {
+        Command::Edit(edit) => edit_code(edit),
+        Command::Delete { kill, .. } => { if kill { 47 } else { 0 } }
+        Command::Show(code) => code,
+        Command::Shutdown => 53,
+        _ => 0,
+    }
+}
+
 // The number of the line in the table of docs/commands.md; 0 where it is none.
 fn code(line: &[u8]) -> u8 {
     match read_qmgr(line) {
-        Ok(Command::Edit(edit)) => edit_code(edit),
-        Ok(Command::Delete { kill: true, .. }) => 47,
-        Ok(Command::Show(code)) => code,
-        Ok(Command::Shutdown) => 53,
-        _ => 0,
+        Ok(command) => command_code(command),
+        Err(_) => 0,
     }
 }
 

@@ -1,5 +1,5 @@
 -- The lines of a script that hold options.
-use Rattle.std.specs.Prelude.{ℕ, zero, suc, ◌+◌, ◌-◌, Bool, true, false, ◌==◌, ◌&&◌, nat_lt, List, [], ◌∷◌, length, take, drop, Option, Some, None, unwrap_or, if◌then◌else◌, Ok, Err}
+use Rattle.std.specs.Prelude.{ℕ, zero, suc, ◌+◌, ◌-◌, Bool, true, false, ◌==◌, ◌&&◌, nat_lt, List, [], ◌∷◌, length, take, drop, unwrap_or, if◌then◌else◌, Ok}
 use Rattle.nqs_words.specs.Values.{place_of}
 use Rattle.nqs_qsub.specs.declared.token.Source.TheVariants.{Script}
 use Rattle.nqs_qsub.specs.declared.script.LineKind.{LineKind}

@@ -11,3 +11,4 @@ pub mod KindLaws
 pub mod Spelled
 pub mod Joined
 pub mod SaneLaws
+pub mod PutBack

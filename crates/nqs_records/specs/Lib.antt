@@ -8,4 +8,5 @@ pub mod EditSpelling
 pub mod EditValues
 pub mod Edits
 pub mod Kinds
+pub mod Extents
 pub mod Changes

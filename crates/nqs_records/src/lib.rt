@@ -14,6 +14,7 @@ mod edit_kinds;
 mod edit_others;
 mod edit_pairs;
 mod edit_parts;
+mod extents;
 mod fault;
 mod field;
 mod hand_kinds;
@@ -30,6 +31,7 @@ mod read;
 mod request_kinds;
 mod write;
 
+pub use extents::put_extents;
 pub use fault::RecordFault;
 pub use read::{read_change, reads_the_spelling, what_may_stand_is_sane};
 pub use write::write_change;

@@ -1,5 +1,5 @@
 mod Rows
-mod Lists
+pub mod Lists
 mod Kept
 mod Reading
 mod Writing

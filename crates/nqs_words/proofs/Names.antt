@@ -1,10 +1,9 @@
-use Rattle.std.proofs.Common.{◌≡◌, ◌≢◌, ℕ, zero, suc, ◌+◌, ◌<◌, ◌≤◌, List, [], ◌∷◌, length, arith, refl, ap, ◌∙◌, sym, subst, Some, None, Option, Result, Ok, Err, cond, Bool, true, false, get_or, slice_index, IsTrue, ◌&&◌, nat_le, rules}
+use Rattle.std.proofs.Common.{◌≡◌, ℕ, zero, suc, ◌<◌, ◌≤◌, List, [], ◌∷◌, length, arith, refl, ap, Some, None, Ok, Err, cond, Bool, true, false, get_or, IsTrue, nat_le}
 use Rattle.std.proofs.lemmas.Bool.{and_parts, and_from}
 use Rattle.std.proofs.lemmas.List.Sums.{AllPass-from_list_all}
 use Rattle.std.specs.List.{list_all}
-use Rattle.std.proofs.lemmas.List.Folds.{list_all_at}
 use Rattle.std.proofs.lemmas.Bool.Decides.{nat_tests}
-use Rattle.nqs_types.specs.Name.{IsName, IsFirstBad, AllowedBelow, allowed_at, is_letter}
+use Rattle.nqs_types.specs.Name.{IsName, AllowedBelow, is_letter}
 use Rattle.nqs_types.specs.NameRead.{ReadsName}
 use Rattle.nqs_types.specs.declared.name.NameFault.{NameFault}
 use Rattle.nqs_types.specs.declared.name.NameFault.TheVariants.{Empty, Long, BadByte}

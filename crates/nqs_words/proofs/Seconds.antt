@@ -1,12 +1,12 @@
 -- The moment of a text as a function says what reading a moment does.
-use Rattle.std.proofs.Common.{◌≡◌, ℕ, ◌+◌, ◌*◌, ◌<◌, ◌≤◌, List, sym, ap, ◌∙◌, subst, refl, arith, Some, None, Option, Result, Ok, Err, Bool, true, false, cond, ◌&&◌, nat_le, nat_lt}
-use Rattle.std.specs.Prelude.{ℤ, pos, negsuc, ◌+ℤ◌, ◌*ℤ◌, is_none}
+use Rattle.std.proofs.Common.{◌≡◌, ℕ, ◌+◌, ◌*◌, ◌<◌, ◌≤◌, List, sym, ap, refl, arith, Some, None, Option, Ok, Err, Bool, true, false, cond, ◌&&◌, nat_le, nat_lt}
+use Rattle.std.specs.Prelude.{ℤ, pos, negsuc, ◌+ℤ◌, ◌*ℤ◌}
 use Rattle.std.proofs.lemmas.Bool.{and_parts, and_from}
 use Rattle.std.proofs.lemmas.Bool.Decides.{nat_tests}
 use Rattle.jiff_core.specs.Calendar.{IsDate, days_in_month, days_from_civil}
 use Rattle.jiff_core.proofs.SignedLemmas.{signed_arith}
-use Rattle.nqs_text.specs.Moment.{IsSecond, IsMoment, ReadsMoment, moment_misfit}
-use Rattle.nqs_text.specs.Parts.{part, IsNamed}
+use Rattle.nqs_text.specs.Moment.{IsSecond, ReadsMoment}
+use Rattle.nqs_text.specs.Parts.{part}
 use Rattle.nqs_text.specs.declared.moment.MomentFault.{MomentFault}
 use Rattle.nqs_text.specs.declared.moment.MomentFault.TheVariants.{Form, Range}
 use Rattle.nqs_text.proofs.Moments.{moment_formed, moment_named, named_moment}

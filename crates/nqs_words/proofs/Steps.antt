@@ -1,7 +1,5 @@
-use Rattle.std.proofs.Common.{◌≡◌, ℕ, zero, suc, ◌+◌, ◌-◌, ◌<◌, ◌≤◌, List, [], ◌∷◌, ◌++◌, length, drop, arith, refl, ap, ◌∙◌, sym, Some, None, Option, append_assoc, cond, Bool, true, false, ◌==◌, rules}
-use Rattle.std.proofs.lemmas.List.{append-nil}
+use Rattle.std.proofs.Common.{◌≡◌, ℕ, suc, ◌+◌, ◌-◌, ◌<◌, ◌≤◌, List, [], ◌∷◌, ◌++◌, length, drop, arith, refl, ap, ◌∙◌, sym, Some, None, append_assoc, cond, Bool, true, false, ◌==◌}
 use Rattle.std.proofs.Math.Seq.{drop-drop}
-use Rattle.std.proofs.lemmas.Grind.{common_steps}
 use Rattle.nqs_words.specs.Quoted.{Quoted, after, step_of, escape_of, quoted, by_step}
 use Rattle.nqs_words.specs.declared.quoted.Step.{Step}
 use Rattle.nqs_words.specs.declared.quoted.Step.TheVariants.{End, Bad, Byte}

@@ -1,5 +1,5 @@
 -- Keywords of qmgr, and which of them a word names.
-use Rattle.std.specs.Prelude.{ℕ, ◌+◌, Bool, true, false, ◌&&◌, ◌==◌, nat_lt, nat_le, List, [], ◌∷◌, length, codes, Option, Some, None, if◌then◌else◌, Ok, Err, find, count_by}
+use Rattle.std.specs.Prelude.{ℕ, ◌+◌, Bool, true, false, ◌&&◌, ◌==◌, nat_lt, nat_le, List, [], ◌∷◌, length, codes, if◌then◌else◌, Ok, Err, find, count_by}
 use Rattle.std.specs.Option.{option_map_or}
 use Rattle.std.specs.declared.result.Result.{Result}
 use Rattle.nqs_words.specs.declared.keyword.Keyword.{Keyword}

@@ -1,5 +1,5 @@
 -- What words may say: names, numbers, requests and destinations.
-use Rattle.std.specs.Prelude.{◌≡◌, ℕ, ◌+◌, Bool, true, false, ◌&&◌, ◌||◌, ◌==◌, nat_le, List, [], ◌∷◌, length, take, drop, Option, Some, None, is_none, unwrap_or, if◌then◌else◌, Ok, Err}
+use Rattle.std.specs.Prelude.{ℕ, ◌+◌, Bool, false, ◌&&◌, ◌||◌, ◌==◌, nat_le, List, [], ◌∷◌, length, take, drop, Option, Some, None, is_none, if◌then◌else◌, Ok, Err}
 use Rattle.std.specs.List.{position, list_all}
 use Rattle.std.specs.declared.result.Result.{Result}
 use Rattle.nqs_types.specs.Name.{is_letter, is_digit}

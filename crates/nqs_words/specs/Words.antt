@@ -1,5 +1,5 @@
 -- Words of a line, with their places in bytes.
-use Rattle.std.specs.Prelude.{ℕ, ◌+◌, ◌-◌, ◌<◌, ◌≤◌, Bool, not, ◌||◌, ◌==◌, List, length, take, drop, Option, Some, None, option_map, unwrap_or}
+use Rattle.std.specs.Prelude.{ℕ, ◌+◌, ◌-◌, ◌≤◌, Bool, not, ◌||◌, ◌==◌, List, length, drop, Option, option_map, unwrap_or}
 use Rattle.std.specs.List.{position}
 use Rattle.nqs_words.specs.declared.words.Word.{Word}
 use Rattle.nqs_words.specs.declared.words.Gaps.{Gaps}

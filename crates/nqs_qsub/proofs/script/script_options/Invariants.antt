@@ -1,4 +1,4 @@
-use Rattle.std.proofs.Common.{◌≡◌, ℕ, ◌+◌, ◌-◌, ◌≤◌, length}
+use Rattle.std.proofs.Common.{◌≡◌, ◌+◌, ◌-◌, ◌≤◌, length}
 use Rattle.nqs_qsub.specs.Script.{script_options}
 use Rattle.nqs_qsub.specs.Options.{no_options}
 use Rattle.nqs_qsub.proofs.script.script_options.Given as goal

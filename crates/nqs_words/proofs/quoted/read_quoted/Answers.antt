@@ -1,6 +1,6 @@
-use Rattle.std.proofs.Common.{◌≡◌, ◌≤◌, ◌-◌, ◌+◌, ℕ, length, drop, List, [], ◌∷◌, ◌++◌, ap, sym, ◌∙◌, arith, rules, Some, None}
+use Rattle.std.proofs.Common.{◌≡◌, length, drop, [], ◌∷◌, ◌++◌, sym, arith, rules}
 use Rattle.std.proofs.lemmas.List.{append-nil, length-drop, take_rest}
-use Rattle.nqs_words.specs.Quoted.{Quoted, after, quoted}
+use Rattle.nqs_words.specs.Quoted.{quoted}
 use Rattle.nqs_words.specs.declared.quoted.Step.TheVariants.{End, Bad, Byte}
 use Rattle.nqs_words.proofs.Steps.{turned, quoted-none, after-after, byte_inside, end_inside, drops}
 use Rattle.nqs_words.proofs.quoted.read_quoted.Goals as goal

@@ -1,0 +1,223 @@
+-- What holds of each pair of hosts and of each message holds at every moment of a run.
+use Rattle.std.proofs.Common.{◌≡◌, ℕ, ◌+◌, ◌<◌, ◌≤◌, ◌⊎◌, inl, inr, Bool, true, false, if◌then◌else◌, not, ◌&&◌, List, [], ◌∷◌, ◌++◌, map, find, length, slice_get, Option, None, Some, true≢false, zero, suc, refl, sym, ap, subst, ◌∙◌, arith}
+use Rattle.std.proofs.lemmas.Bool.{and_parts, and_from}
+use Rattle.std.proofs.lemmas.Option.{same_Some, none-some}
+use Rattle.std.specs.List.{list_all, AllByRecursion, filter_map, cons_option}
+use Rattle.nqs_types.specs.State.{State, Plain}
+use Rattle.nqs_types.specs.Table.{without_first}
+use Rattle.nqs_types.specs.Keys.{is_hand}
+use Rattle.nqs_types.specs.declared.ids.HostId.{HostId}
+use Rattle.nqs_types.specs.declared.ids.PeerNumber.{PeerNumber}
+use Rattle.nqs_types.specs.declared.request.Hand.{Hand}
+use Rattle.nqs_types.specs.declared.request.Carried.{Carried}
+use Rattle.nqs_types.specs.declared.request.Phase.{Phase}
+use Rattle.nqs_types.specs.declared.request.Phase.TheVariants.{Offered, Committed}
+use Rattle.nqs_types.specs.declared.change.Change.{Change}
+use Rattle.nqs_types.specs.declared.change.Change.TheVariants.{Site, Submitted, Deleted, Doomed, Started, Ended, Unlaunched, Boot, Edited, HandOpened, HandCommitted, HandRefused, HandsSilent, HandDone, Promised, Accepted, Dropped, MovedLocal, RefusedLocal, HeldFar, StageGot, StageGone, FileGone}
+use Rattle.nqs_types.specs.declared.message.Message.{Message}
+use Rattle.nqs_types.specs.declared.message.Body.{Body}
+use Rattle.nqs_types.specs.declared.message.Body.TheVariants as body
+use Rattle.nqs_types.specs.declared.event.Event.{Event}
+use Rattle.nqs_types.specs.declared.event.Event.TheVariants as event
+use Rattle.nqs_types.specs.declared.event.Output.{Output}
+use Rattle.nqs_types.specs.declared.event.Output.TheVariants as out
+use Rattle.nqs_rules.specs.Tests.{is_offered, is_running, same_host}
+use Rattle.nqs_rules.specs.Find.{find_row, find_hand}
+use Rattle.nqs_rules.specs.Edits.{change_at}
+use Rattle.nqs_rules.specs.Routing.{is_hand_to}
+use Rattle.nqs_rules.specs.Handover.{carried_of}
+use Rattle.nqs_rules.specs.Applied.{applied, hand_silent, hands_silent, may_start_again}
+use Rattle.nqs_rules.specs.Fits.{fits, is_offered_hand}
+use Rattle.nqs_rules.specs.Starts.{after_change}
+use Rattle.nqs_rules.specs.Step.{step}
+use Rattle.nqs_rules.specs.Stepped.{Stepped, Pending, shown}
+use Rattle.nqs_rules.specs.World.{World, sent_by, boot_output, new_world}
+use Rattle.nqs_rules.specs.InOrder.{IsInOrder, IsConsistent}
+use Rattle.nqs_rules.proofs.ListFacts.{list_all-weaker}
+use Rattle.nqs_rules.proofs.HandoversOrder.{not_committed, offer_or_none, still_offered, silent_one}
+use Rattle.nqs_rules.proofs.ConsistentOrder.{silent_calm_one}
+use Rattle.nqs_laws.proofs.Frame.{Moment, moment, put_state, put-same, WasSent, Comes, Way, Taken, Begun, Booted, change_by, outputs_by, sent_in}
+use Rattle.nqs_laws.proofs.Sound.{IsHost, IsSound, Keeps, Suits, get-here, new_hosts}
+use Rattle.nqs_laws.proofs.RowTests.{PlainRow}
+use Rattle.nqs_laws.proofs.Sent.{begins}
+use Rattle.nqs_laws.proofs.Pair.{Offer, Open, Holds, Move, Stays, Withdraws, May, MayWithdraw}
+use Rattle.nqs_laws.proofs.Views.{phase_seen, offer_seen, offered, pair_of, next_of, IsLone, host_exact, hand_to_peer, hand_number, routing_of}
+use Rattle.nqs_laws.proofs.Turns.{to_move, from_move, sources, silent_source}
+use Rattle.nqs_laws.proofs.Targets.{targets, silent_target, fewer, lone_kept}
+use Rattle.nqs_laws.proofs.Paired.{At, HoldsFor, IsTrueWord, IsPaired, Turn, Guards, IsOne, turn_paired, more_words}
+use Rattle.nqs_laws.proofs.Guarded.{way_guards}
+use Rattle.nqs_laws.proofs.Spoken.{Local, local_true, LocalOut, Spoken, step_spoken, begun_spoken}
+
+-- one part of a change moves: the source's or the receiver's
+abbrev pub OneSide : Change (List ℕ) → Plain → Type 0
+OneSide c s = ((a : HostId) → from_move c a ≡ Stays) ⊎ ((b : HostId) → to_move c s b ≡ Stays)
+
+pub one_side : (c : Change (List ℕ)) (s : Plain) → OneSide c s
+one_side (Promised peer number queue c script) s = inr (λ b. refl)
+one_side (Accepted peer number) s = inr (λ b. refl)
+one_side (Dropped peer number) s = inr (λ b. refl)
+one_side c s = inl (λ a. refl)
+
+pub silent_or_one : (c : Change (List ℕ)) → IsOne c ⊎ ((until : ℕ) × (ks : List PeerNumber) × (c ≡ HandsSilent until ks))
+silent_or_one (HandsSilent until ks) = inr (until, ks, refl)
+silent_or_one (Edited e) = inl (λ until ks e. let no : ⊥ = cc in no)
+silent_or_one c = inl (λ until ks e. let no : ⊥ = cc in no)
+
+-- a state that is put twice
+pub put-twice : {V : Type 0} (n : ℕ) (u v : V) (vs : List V) → change_at n (λ _. u) (change_at n (λ _. v) vs) ≡ change_at n (λ _. u) vs
+put-twice n u v [] = refl
+put-twice zero u v (x ∷ vs) = refl
+put-twice (suc n) u v (x ∷ vs) = ap (λ l. x ∷ l) (put-twice n u v vs)
+
+-- a silent offer may be taken back
+pub silent_guards : (until : ℕ) (states : List Plain) (packets : List Message) (h : HostId) (s : Plain) (there : At states h s) (o : IsInOrder s) (k : IsPaired states packets) (n : PeerNumber) (y : Hand) → find_hand n.peer n.number s ≡ Some y → is_offered y.phase ≡ true
+    → Guards states h s (λ b. if same_host b n.peer then Withdraws else Stays) (λ a. Stays)
+silent_guards until states packets h s there o k n y e opens = record { to_peers = λ b t at. may b t (same_host b n.peer) refl; from_peers = λ a v at. tt }
+  where
+    phase : (p : Phase) → y.phase ≡ p → is_offered p ≡ true → (r : PlainRow) → find_row y.id s ≡ Some r → phase_seen p y (find_row y.id s) ≡ Open y.number (carried_of r)
+    phase Offered g z r row = ap (phase_seen Offered y) row
+    phase Committed g z r row = absurd (true≢false (sym z))
+
+    may : (b : HostId) (t : Plain) (c : Bool) → same_host b n.peer ≡ c → May (pair_of h s b t) (if c then Withdraws else Stays)
+    may b t true f =
+        let r = routing_of s o (is_hand n) y e opens in
+        let seen : offered s n.peer ≡ phase_seen y.phase y (find_row y.id s) = ap (λ x. offer_seen x s) (hand_to_peer s (k.lone h s there) n y e) in
+        subst MayWithdraw (sym (ap (offered s) (host_exact b n.peer f) ∙ (seen ∙ phase y.phase refl opens r.0 r.1))) tt
+    may b t false f = tt
+
+-- silent offers are taken back one after the other
+silent_paired : (until : ℕ) (ks : List PeerNumber) (states : List Plain) (packets : List Message) (h : HostId) (s : Plain) → At states h s → IsInOrder s → IsConsistent s → list_all (λ k. not_committed (find_hand k.peer k.number s)) ks ≡ true → IsPaired states packets
+    → IsPaired (put_state h (hands_silent until ks s) states) packets
+silent_paired until [] states packets h s there o calm fit k = subst (λ l. IsPaired l packets) (sym (put-same h.0 s states there)) k
+silent_paired until (n ∷ ks) states packets h s there o calm fit k =
+    let p = and_parts (not_committed (find_hand n.peer n.number s)) (list_all (λ l. not_committed (find_hand l.peer l.number s)) ks) fit in
+    of (find_hand n.peer n.number s) refl p.0 p.1 (silent_paired until ks)
+  where
+    of : (x : Option Hand) → find_hand n.peer n.number s ≡ x → not_committed x ≡ true → list_all (λ l. not_committed (find_hand l.peer l.number s)) ks ≡ true
+        → ((states : List Plain) (packets : List Message) (h : HostId) (s : Plain) → At states h s → IsInOrder s → IsConsistent s → list_all (λ k. not_committed (find_hand k.peer k.number s)) ks ≡ true → IsPaired states packets → IsPaired (put_state h (hands_silent until ks s) states) packets)
+        → IsPaired (put_state h (hands_silent until ks (hand_silent until n x s)) states) packets
+    of None e opens rest again = again states packets h s there o calm rest k
+    of (Some y) e opens rest again =
+        let lone = k.lone h s there in
+        let u : Plain = hand_silent until n (Some y) s in
+        let to : HostId → Move = λ b. if same_host b n.peer then Withdraws else Stays in
+        let from : HostId → Move = λ a. Stays in
+        let turn : Turn s u to from = record { sources = silent_source s o calm lone until n y e opens; targets = silent_target s until n y; lone = fewer s lone (is_hand n); side = inl (λ a. refl) } in
+        let guards : Guards states h s to from = silent_guards until states packets h s there o k n y e opens in
+        subst (λ l. IsPaired l packets) (put-twice h.0 (hands_silent until ks u) u states)
+        (again (put_state h u states) packets h u (get-here h.0 u s states there) (silent_one s o n y e opens until) (silent_calm_one s o calm n y e opens until)
+        (list_all-weaker (λ l. not_committed (find_hand l.peer l.number s)) (λ l. not_committed (find (is_hand l) (without_first (is_hand n) s.hands))) (λ l. still_offered s o n l) ks rest) (turn_paired states packets h s u there to from turn guards k))
+
+module _ (site : List (List ℕ)) (m : Moment) (sound : IsSound site m) (k : IsPaired m.states m.packets) (h : HostId) (s : Plain) (there : At m.states h s) where
+  host : IsHost site h.0 s
+  host = sound.hosts h.0 s there
+
+  -- a change
+  pub change_paired : (way : Way m.packets h s) (c : Change (List ℕ)) → change_by way ≡ Some c → Suits s c → IsPaired (put_state h (applied c s) m.states) m.packets
+  change_paired way c is suits = of (silent_or_one c)
+    where
+      of : IsOne c ⊎ ((until : ℕ) × (ks : List PeerNumber) × (c ≡ HandsSilent until ks)) → IsPaired (put_state h (applied c s) m.states) m.packets
+      of (inl one) =
+          let g = sound.hosts h.0 s there in
+          let lone = k.lone h s there in
+          turn_paired m.states m.packets h s (applied c s) there (to_move c s) (from_move c)
+          (record { sources = sources s g.order g.calm lone c suits.fit one; targets = targets s g.order c suits.fit one; lone = lone_kept s lone c suits.fit one; side = one_side c s })
+          (way_guards m.states m.packets k h s there g.order way c is suits.fit one) k
+      of (inr (until, ks, e)) =
+          let g = sound.hosts h.0 s there in
+          let fit : fits {F = List ℕ} (HandsSilent until ks) s ≡ true = ap (λ y. fits y s) (sym e) ∙ suits.fit in
+          subst (λ y. IsPaired (put_state h (applied y s) m.states) m.packets) (sym e)
+          (silent_paired until ks m.states m.packets h s there g.order g.calm (list_all-weaker _ (λ l. not_committed (find_hand l.peer l.number s)) (λ l. offer_or_none (find_hand l.peer l.number s)) ks fit) k)
+
+  abbrev after : Way m.packets h s → Plain
+  after way = after_change (change_by way) s
+
+  abbrev states_after : Way m.packets h s → List Plain
+  states_after way = put_state h (after way) m.states
+
+  after_paired : (way : Way m.packets h s) → ((c : Change (List ℕ)) → change_by way ≡ Some c → Suits s c) → IsPaired (states_after way) m.packets
+  after_paired way suits = of (change_by way) refl
+    where
+      of : (x : Option (Change (List ℕ))) → change_by way ≡ x → IsPaired (put_state h (after_change x s) m.states) m.packets
+      of None e = subst (λ l. IsPaired l m.packets) (sym (put-same h.0 s m.states there)) k
+      of (Some c) e = change_paired way c e (suits c e)
+
+  -- what is said of the states before is said of those after, where nothing changed
+  me_is : s.me ≡ h
+  me_is = λ j. (host.head j).0
+
+  here_after : (way : Way m.packets h s) → At (states_after way) h (after way)
+  here_after way = get-here h.0 (after way) s m.states there
+
+  -- what is sent is true
+  sent_true : (way : Way m.packets h s) → IsPaired (states_after way) m.packets → (os : List Output) → AllByRecursion (LocalOut (states_after way) h s host.order host.calm (k.lone h s there) (after way)) os → AllByRecursion (IsTrueWord (states_after way)) (sent_in os)
+  sent_true way paired [] all = tt
+  sent_true way paired (o ∷ os) all = by o all.0 (sent_true way paired os all.1)
+    where
+      by : (o : Output) → LocalOut (states_after way) h s host.order host.calm (k.lone h s there) (after way) o → AllByRecursion (IsTrueWord (states_after way)) (sent_in os) → AllByRecursion (IsTrueWord (states_after way)) (sent_by o ++ sent_in os)
+      by (out.Send x) local rest =
+          let from : x.from ≡ h = local.0 ∙ (λ j. ((sound.hosts h.0 s there).head j).0) in (
+            local_true (states_after way) paired.pairs x (after way) (ap (λ (i : HostId). slice_get (states_after way) i.0) from ∙ get-here h.0 (after way) s m.states there)
+                (subst (λ i. Local (states_after way) i (after way) x.to x.body) (sym from) local.1),
+            rest,
+          )
+      by (out.Reply port token reply) local rest = rest
+      by (out.Launch order bytes) local rest = rest
+      by (out.Print device order bytes) local rest = rest
+      by (out.Kill id n) local rest = rest
+      by (out.File file path bytes) local rest = rest
+      by (out.Ended id n status) local rest = rest
+      by (out.Unlaunched id n) local rest = rest
+      by (out.Again id) local rest = rest
+      by (out.Lost id) local rest = rest
+      by (out.Ack port id n) local rest = rest
+
+  shown_all : (t : Plain) (ps : List (Pending (List ℕ))) (P : Output → Type 0) → AllByRecursion (λ p. P (shown p)) ps → AllByRecursion P (map shown ps)
+  shown_all t [] P all = tt
+  shown_all t (p ∷ ps) P all = (all.0, shown_all t ps P all.1)
+
+  boots_say : (P : Output → Type 0) → ((r : PlainRow) → P (out.Again r.id)) → ((r : PlainRow) → P (out.Lost r.id)) → (rows : List PlainRow) → AllByRecursion P (filter_map boot_output rows)
+  boots_say P again lost [] = tt
+  boots_say P again lost (r ∷ rows) = by (is_running r.state) (may_start_again r) (boots_say P again lost rows)
+    where
+      by : (b c : Bool) → AllByRecursion P (filter_map boot_output rows) → AllByRecursion P (cons_option (if b then Some (if c then out.Again r.id else out.Lost r.id) else None) (filter_map boot_output rows))
+      by true true rest = (again r, rest)
+      by true false rest = (lost r, rest)
+      by false c rest = rest
+
+  said : (way : Way m.packets h s) → ((c : Change (List ℕ)) → change_by way ≡ Some c → Suits s c) → IsPaired (states_after way) m.packets → AllByRecursion (LocalOut (states_after way) h s host.order host.calm (k.lone h s there) (after way)) (outputs_by way)
+  said (Taken e comes) suits paired =
+      shown_all s (step e s).outputs (LocalOut (states_after (Taken e comes)) h s host.order host.calm (k.lone h s there) (after (Taken e comes)))
+      (step_spoken (states_after (Taken e comes)) h s host.order host.calm (k.lone h s there) e
+      (λ now x n queue c script is offers v vat.
+      (below now x n queue c script is offers v vat))
+      (λ c is. (suits c is).fit))
+    where
+      below : (now : ℕ) (x : Message) (n : ℕ) (queue : List ℕ) (c : Carried) (script : List ℕ) → e ≡ event.Arrived now x → x.body ≡ body.Offer n queue c script → (v : Plain) → At (put_state h (after_change (step e s).change s) m.states) x.from v → n < next_of h v
+      below now x n queue c script is offers v vat =
+          let came : (x.to ≡ h) × WasSent x m.packets = subst (Comes m.packets h) is comes in
+          let at : At (put_state h (after_change (step e s).change s) m.states) x.to (after_change (step e s).change s) = ap (λ (i : HostId). slice_get (put_state h (after_change (step e s).change s) m.states) i.0) came.0 ∙ get-here h.0 (after_change (step e s).change s) s m.states there in
+          let word = paired.words x came.1 v (after_change (step e s).change s) vat at in
+          let holds : HoldsFor (pair_of x.from v x.to (after_change (step e s).change s)) (pair_of x.to (after_change (step e s).change s) x.from v) (body.Offer n queue c script) =
+          subst (HoldsFor (pair_of x.from v x.to (after_change (step e s).change s)) (pair_of x.to (after_change (step e s).change s) x.from v)) offers word in
+          subst (λ i. n < next_of i v) came.0 holds.0
+  said (Begun now x begun) suits paired =
+      shown_all s x.outputs (LocalOut (states_after (Begun now x begun)) h s host.order host.calm (k.lone h s there) (after (Begun now x begun)))
+      (begun_spoken (states_after (Begun now x begun)) h s host.order host.calm (k.lone h s there) now x (begins s host.order now x begun) (λ c is. (suits c is).fit))
+  said Booted suits paired = boots_say (LocalOut (states_after Booted) h s host.order host.calm (k.lone h s there) (after Booted)) (λ r. tt) (λ r. tt) s.rows
+
+  -- all that is done
+  pub made_paired : (way : Way m.packets h s) → ((c : Change (List ℕ)) → change_by way ≡ Some c → Suits s c) → IsPaired (states_after way) (m.packets ++ sent_in (outputs_by way))
+  made_paired way suits =
+      let paired = after_paired way suits in
+      more_words (states_after way) m.packets (sent_in (outputs_by way)) paired (sent_true way paired (outputs_by way) (said way suits paired))
+
+abbrev pub PairedAt : Moment → Type 0
+PairedAt m = IsPaired m.states m.packets
+
+pub paired_keeps : (site : List (List ℕ)) → Keeps site PairedAt
+paired_keeps site = record {
+  idle = λ m x sound idle k. k;
+  kept = λ m sound h s there way c is suits k. change_paired site m sound k h s there way c is suits;
+  made = λ m sound h s there way suits k. made_paired site m sound k h s there way suits;
+}

@@ -1,0 +1,18 @@
+//! Questions and answers: the words of qstat and qdel, and the text of each reply.
+//!
+//! specs/Words.antt says what the words ask for; the texts stand in nqs_rules (specs/Transcript.antt).
+//! docs/commands.md has both in plain words.
+#![tactic(auto)]
+
+mod put;
+mod refusal;
+mod reply;
+mod words;
+
+pub use put::{put_decimal, put_host, put_id, put_line_end, put_named, put_text, put_word};
+pub use refusal::put_refusal;
+pub use reply::print_reply;
+pub use words::{NotNames, read_qdel, read_qstat};
+
+#[cfg(test)]
+mod tests;

@@ -1,0 +1,73 @@
+//! Parts of texts, appended to a list of bytes. Want of memory leaves a front of the part.
+
+ghost use Rattle.std.specs.Prelude.{◌≡◌, ◌++◌, ◌∷◌, [], codes, OnOk};
+ghost use Rattle.std.specs.Fmt.{decimal};
+ghost use Rattle.nqs_rules.specs.Text.{id_text, named_text};
+ghost use Rattle.nqs_rules.specs.Transcript.{host_text};
+
+use nqs_types::{HostId, Memory, Name, Named, RequestId};
+use std::alloc::Global;
+
+/// Appends bytes.
+pub fn put_text(text: &[u8], out: &mut Vec<u8>) -> Result<(), Memory>
+    ensures { OnOk result (out.new.items ≡ out.old.items ++ text.now) }
+{
+    out.extend_from_slice(text)?;
+    Ok(())
+}
+
+/// Appends a space and bytes.
+pub fn put_word(text: &[u8], out: &mut Vec<u8>) -> Result<(), Memory>
+    ensures { OnOk result (out.new.items ≡ out.old.items ++ (codes " " ++ text.now)) }
+{
+    out.push(b' ')?;
+    out.extend_from_slice(text)?;
+    Ok(())
+}
+
+/// Appends a line feed.
+pub fn put_line_end(out: &mut Vec<u8>) -> Result<(), Memory>
+    ensures { OnOk result (out.new.items ≡ out.old.items ++ 10 ∷ []) }
+{
+    out.push(b'\n')?;
+    Ok(())
+}
+
+/// Appends a number in decimal digits.
+pub fn put_decimal(alloc: Global, number: u64, out: &mut Vec<u8>) -> Result<(), Memory>
+    ensures { OnOk result (out.new.items ≡ out.old.items ++ decimal number) }
+{
+    let text = number.to_string(alloc)?;
+    out.extend_from_slice(text.as_bytes())?;
+    Ok(())
+}
+
+/// Appends the name of a host; none where the site has no such host.
+pub fn put_host(site: &[Name], host: HostId, out: &mut Vec<u8>) -> Result<(), Memory>
+    ensures { OnOk result (out.new.items ≡ out.old.items ++ host_text site.now host) }
+{
+    if let Some(name) = site.get(host.0 as usize) {
+        out.extend_from_slice(name.as_bytes())?;
+    }
+    Ok(())
+}
+
+/// Appends a request, as `SEQ.HOST`.
+pub fn put_id(alloc: Global, site: &[Name], id: RequestId, out: &mut Vec<u8>) -> Result<(), Memory>
+    ensures { OnOk result (out.new.items ≡ out.old.items ++ id_text site.now id) }
+{
+    put_decimal(alloc, u64::from(id.seq), out)?;
+    out.push(b'.')?;
+    put_host(site, id.host, out)?;
+    Ok(())
+}
+
+/// Appends a request as it was typed.
+pub fn put_named(alloc: Global, id: &Named, out: &mut Vec<u8>) -> Result<(), Memory>
+    ensures { OnOk result (out.new.items ≡ out.old.items ++ named_text id.now) }
+{
+    put_decimal(alloc, u64::from(id.seq), out)?;
+    out.push(b'.')?;
+    out.extend_from_slice(id.host.as_bytes())?;
+    Ok(())
+}

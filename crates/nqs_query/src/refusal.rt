@@ -1,0 +1,156 @@
+//! The texts of refusals.
+
+ghost use Rattle.std.specs.Prelude.{◌≡◌, ◌++◌, OnOk};
+ghost use Rattle.nqs_rules.specs.Causes.{refusal_number};
+ghost use Rattle.nqs_rules.specs.Text.{named_text};
+ghost use Rattle.nqs_rules.specs.Transcript.{refusal_text};
+ghost use Rattle.nqs_types.specs.declared.refusal.Refusal.TheVariants.{NoRequest, QueueInUse};
+
+use crate::put::{put_decimal, put_named, put_text};
+use nqs_types::{Memory, Name, Named, Refusal};
+use std::alloc::Global;
+
+// A name between two texts.
+fn put_about(before: &[u8], name: &Name, after: &[u8], out: &mut Vec<u8>) -> Result<(), Memory>
+    ensures { OnOk result (out.new.items ≡ out.old.items ++ (before.now ++ name.now ++ after.now)) }
+{
+    put_text(before, out)?;
+    put_text(name.as_bytes(), out)?;
+    put_text(after, out)?;
+    Ok(())
+}
+
+// A text and a name.
+fn put_of(before: &[u8], name: &Name, out: &mut Vec<u8>) -> Result<(), Memory>
+    ensures { OnOk result (out.new.items ≡ out.old.items ++ (before.now ++ name.now)) }
+{
+    put_text(before, out)?;
+    put_text(name.as_bytes(), out)?;
+    Ok(())
+}
+
+// A request between two texts.
+fn put_request(
+    alloc: Global,
+    before: &[u8],
+    id: &Named,
+    after: &[u8],
+    out: &mut Vec<u8>,
+) -> Result<(), Memory>
+    ensures { OnOk result (out.new.items ≡ out.old.items ++ (before.now ++ named_text id.now ++ after.now)) }
+{
+    put_text(before, out)?;
+    put_named(alloc, id, out)?;
+    put_text(after, out)?;
+    Ok(())
+}
+
+fn put_no_request(alloc: Global, id: &Named, out: &mut Vec<u8>) -> Result<(), Memory>
+    ensures { OnOk result (out.new.items ≡ out.old.items ++ refusal_text (NoRequest id.now)) }
+{
+    put_text(b"no request ", out)?;
+    put_named(alloc, id, out)?;
+    Ok(())
+}
+
+fn put_in_use(alloc: Global, queue: &Name, count: u64, out: &mut Vec<u8>) -> Result<(), Memory>
+    ensures { OnOk result (out.new.items ≡ out.old.items ++ refusal_text (QueueInUse queue.now count)) }
+{
+    put_about(b"queue ", queue, b" holds ", out)?;
+    put_decimal(alloc, count, out)?;
+    put_text(b" requests", out)?;
+    Ok(())
+}
+
+/// The number of a refusal, from 1 to 33.
+pub fn number_of(refusal: &Refusal) -> u8
+    ensures { result ≡ refusal_number refusal.now }
+{
+    match refusal {
+        Refusal::NotManager => 1,
+        Refusal::NotOperator => 2,
+        Refusal::NoQueue(_) => 3,
+        Refusal::NoComplex(_) => 4,
+        Refusal::NoDevice(_) => 5,
+        Refusal::NoRequest(_) => 6,
+        Refusal::NoHost(_) => 7,
+        Refusal::NoDefault => 8,
+        Refusal::QueueExists(_) => 9,
+        Refusal::ComplexExists(_) => 10,
+        Refusal::DeviceExists(_) => 11,
+        Refusal::WrongKind => 12,
+        Refusal::DestExists => 13,
+        Refusal::NoDest => 14,
+        Refusal::NotMember => 15,
+        Refusal::IsMember => 16,
+        Refusal::KeepRoot => 17,
+        Refusal::NotOwner => 18,
+        Refusal::Disabled(_) => 19,
+        Refusal::PipeOnly(_) => 20,
+        Refusal::NoAccess(_) => 21,
+        Refusal::RequestRouting(_) => 22,
+        Refusal::RequestRunning(_) => 23,
+        Refusal::NotHeld(_) => 24,
+        Refusal::IsHeld(_) => 25,
+        Refusal::QueueInUse(_, _) => 26,
+        Refusal::DeviceBusy(_) => 27,
+        Refusal::OverCpu(_) => 28,
+        Refusal::OverMemory(_) => 29,
+        Refusal::TooMany => 30,
+        Refusal::HostFull => 31,
+        Refusal::NumbersUsed => 32,
+        Refusal::RequestExists(_) => 33,
+    }
+}
+
+/// Appends the text of a refusal, without its number.
+pub fn put_refusal(alloc: Global, refusal: &Refusal, out: &mut Vec<u8>) -> Result<(), Memory>
+    ensures { OnOk result (out.new.items ≡ out.old.items ++ refusal_text refusal.now) }
+{
+    match refusal {
+        Refusal::NotManager => put_text(b"not a manager", out),
+        Refusal::NotOperator => put_text(b"not an operator", out),
+        Refusal::NoDefault => put_text(b"no default queue", out),
+        Refusal::WrongKind => put_text(b"wrong kind of queue", out),
+        Refusal::DestExists => put_text(b"destination exists", out),
+        Refusal::NoDest => put_text(b"no such destination", out),
+        Refusal::NotMember => put_text(b"not a member", out),
+        Refusal::IsMember => put_text(b"already a member", out),
+        Refusal::KeepRoot => put_text(b"root stays a manager", out),
+        Refusal::NotOwner => put_text(b"not the owner", out),
+        Refusal::TooMany => put_text(b"too many", out),
+        Refusal::HostFull => put_text(b"the host is full", out),
+        Refusal::NumbersUsed => put_text(b"all numbers are used", out),
+        Refusal::NoQueue(name) => put_of(b"no queue ", name, out),
+        Refusal::NoComplex(name) => put_of(b"no complex ", name, out),
+        Refusal::NoDevice(name) => put_of(b"no device ", name, out),
+        Refusal::NoHost(name) => put_of(b"no host ", name, out),
+        Refusal::QueueExists(name) => put_about(b"queue ", name, b" exists", out),
+        Refusal::ComplexExists(name) => put_about(b"complex ", name, b" exists", out),
+        Refusal::DeviceExists(name) => put_about(b"device ", name, b" exists", out),
+        Refusal::Disabled(name) => put_about(b"queue ", name, b" is disabled", out),
+        Refusal::PipeOnly(name) => put_about(
+            b"queue ",
+            name,
+            b" takes requests from pipe queues only",
+            out,
+        ),
+        Refusal::NoAccess(name) => put_of(b"no access to queue ", name, out),
+        Refusal::QueueInUse(queue, count) => put_in_use(alloc, queue, *count, out),
+        Refusal::DeviceBusy(name) => put_about(b"device ", name, b" is busy", out),
+        Refusal::OverCpu(name) => put_of(b"over the cpu limit of queue ", name, out),
+        Refusal::OverMemory(name) => put_of(b"over the memory limit of queue ", name, out),
+        Refusal::NoRequest(id) => put_no_request(alloc, id, out),
+        Refusal::RequestRouting(id) => put_request(
+            alloc,
+            b"request ",
+            id,
+            b" is being routed",
+            out,
+        ),
+        Refusal::RequestRunning(id) => put_request(alloc, b"request ", id, b" is running", out),
+        Refusal::NotHeld(id) => put_request(alloc, b"request ", id, b" is not held", out),
+        Refusal::IsHeld(id) => put_request(alloc, b"request ", id, b" is held", out),
+        Refusal::RequestExists(id) => put_request(alloc, b"request ", id, b" exists", out),
+    }
+}
