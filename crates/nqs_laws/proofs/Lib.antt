@@ -25,3 +25,6 @@ pub mod TabledRuns
 pub mod Entries
 pub mod NetLaws
 pub mod RowSteps
+pub mod Away
+pub mod EntrySteps
+pub mod LicensedRuns

@@ -51,7 +51,7 @@ use Rattle.nqs_rules.proofs.StateFacts.{keys_are}
 use Rattle.nqs_rules.proofs.RowFacts.{same_id, same_peer_number}
 use Rattle.nqs_rules.proofs.HandoversOrder.{not_committed, offer_or_none, still_offered, silent_one}
 use Rattle.nqs_rules.proofs.ConsistentOrder.{silent_calm_one}
-use Rattle.nqs_laws.specs.Licensed.{IsHanded}
+use Rattle.nqs_laws.specs.Licensed.{IsHanded, IsPromised, LicensesEdit}
 use Rattle.nqs_laws.proofs.RowTests.{PlainRow}
 use Rattle.nqs_laws.proofs.Found.{only, find-without}
 use Rattle.nqs_laws.proofs.After.{Request, without_at, changed_at, meant_after, conf_after, rows_after, edit_after, back_row, refused_after, silent_after, silents_after, after, silent_found}
@@ -60,14 +60,6 @@ use Rattle.nqs_laws.proofs.Views.{routing_of}
 use Rattle.nqs_laws.proofs.Advance.{IsInHost}
 
 -- the kinds of step that a change takes, and of which requests
-abbrev pub TurnsEdit : Edit → Plain → Request → Kind → Type 0
-TurnsEdit (Conf (PurgeQueue q)) s x Delete = passes (row_in q) (find_row x s) ≡ true
-TurnsEdit (RowsOf (AbortQueue q)) s x Doom = passes (row_in q) (find_row x s) ≡ true
-TurnsEdit (RowsOf (HoldRequest id)) s x Hold = meant_request id s ≡ Some x
-TurnsEdit (RowsOf (ReleaseRequest id)) s x Release = meant_request id s ≡ Some x
-TurnsEdit (RowsOf (MoveRequest id q)) s x Move = meant_request id s ≡ Some x
-TurnsEdit e s x k = ⊥
-
 abbrev pub Turns : Change (List ℕ) → Plain → Request → Kind → Type 0
 Turns (Submitted queue job script) s x Submit = x ≡ next_id s
 Turns (Deleted id) s x Delete = x ≡ id
@@ -77,12 +69,12 @@ Turns (Ended id parts) s x End = x ≡ id
 Turns (Unlaunched id) s x End = x ≡ id
 Turns Boot s x Again = Unit {0}
 Turns Boot s x Gone = Unit {0}
-Turns (Edited e) s x k = TurnsEdit e s x k
+Turns (Edited e) s x k = LicensesEdit e s x k
 Turns (HandOpened peer number id queue since) s x Open = x ≡ id
 Turns (HandCommitted peer number) s x Route = IsHanded peer number s x
 Turns (HandRefused peer number refusal) s x Back = IsHanded peer number s x
 Turns (HandsSilent until ks) s x Back = list_any (λ (k : PeerNumber). passes (λ y. id_eq x y.id) (find_hand k.peer k.number s)) ks ≡ true
-Turns (Accepted peer number) s x Arrive = passes (λ p. id_eq x p.row.id) (find (λ p. peer_number_eq (peer_number peer number) (record { peer = p.peer; number = p.number })) s.promises) ≡ true
+Turns (Accepted peer number) s x Arrive = IsPromised peer number s x
 Turns (MovedLocal id queue) s x Move = x ≡ id
 Turns (RefusedLocal id queue refusal) s x Hold = x ≡ id
 Turns (HeldFar id) s x Hold = x ≡ id
@@ -199,7 +191,7 @@ module _ (h : HostId) where
         by false e c m = inl refl
 
     -- a request that an edit names
-    meant_step : (e : Edit) (id : Named) (causes : PlainRow → List Cause) (f : PlainRow → PlainRow) (k : Kind) → (meant_request id s ≡ Some x → TurnsEdit e s x k) → (Allows (causes r) → Steps k (Some (row_entry h r)) (Some (row_entry h (f r))))
+    meant_step : (e : Edit) (id : Named) (causes : PlainRow → List Cause) (f : PlainRow → PlainRow) (k : Kind) → (meant_request id s ≡ Some x → LicensesEdit e s x k) → (Allows (causes r) → Steps k (Some (row_entry h r)) (Some (row_entry h (f r))))
         → IsNamed s id causes → RowStep (Edited e) s x r (meant_after (meant_request id s) f x (Some r))
     meant_step e id causes f k turns step n = subst (λ o. RowStep (Edited e) s x r (meant_after o f x (Some r))) (sym n.meant) (by (id_eq x n.request) refl)
       where

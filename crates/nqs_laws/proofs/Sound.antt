@@ -163,12 +163,12 @@ get-here n v u [] e = absurd (none-some u e)
 get-here zero v u (x ∷ vs) e = refl
 get-here (suc n) v u (x ∷ vs) e = get-here n v u vs e
 
-length-put : {V : Type 0} (n : ℕ) (v : V) (vs : List V) → length (change_at n (λ _. v) vs) ≡ length vs
+pub length-put : {V : Type 0} (n : ℕ) (v : V) (vs : List V) → length (change_at n (λ _. v) vs) ≡ length vs
 length-put n v [] = refl
 length-put zero v (x ∷ vs) = refl
 length-put (suc n) v (x ∷ vs) = ap suc (length-put n v vs)
 
-hosts_put : (site : List (List ℕ)) (states : List Plain) (h : HostId) (s u : Plain) → slice_get states h.0 ≡ Some s → ((place : ℕ) (v : Plain) → slice_get states place ≡ Some v → IsHost site place v) → IsHost site h.0 u
+pub hosts_put : (site : List (List ℕ)) (states : List Plain) (h : HostId) (s u : Plain) → slice_get states h.0 ≡ Some s → ((place : ℕ) (v : Plain) → slice_get states place ≡ Some v → IsHost site place v) → IsHost site h.0 u
     → (place : ℕ) (v : Plain) → slice_get (put_state h u states) place ≡ Some v → IsHost site place v
 hosts_put site states h s u there all new place v at = by (h.0 == place) refl
   where

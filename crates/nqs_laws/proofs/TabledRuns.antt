@@ -1,6 +1,6 @@
 -- At every moment of a run the hosts tell one table.
 use Rattle.std.proofs.Common.{◌≡◌, ℕ, ◌+◌, ◌<◌, ◌≤◌, ◌⊎◌, inl, inr, Bool, true, false, not, ◌&&◌, ◌||◌, ◌==◌, List, [], ◌∷◌, ◌++◌, map, find, length, slice_get, Option, None, Some, true≢false, zero, suc, refl, sym, ap, subst, ◌∙◌, arith, if◌then◌else◌}
-use Rattle.std.proofs.lemmas.Bool.{and_parts, eqb-true}
+use Rattle.std.proofs.lemmas.Bool.{and_parts, eqb-true, not-true}
 use Rattle.std.proofs.lemmas.Option.{same_Some, none-some}
 use Rattle.std.specs.List.{list_all}
 use Rattle.nqs_types.specs.Ids.{id_eq, id_exact}
@@ -15,14 +15,14 @@ use Rattle.nqs_types.specs.declared.request.Phase.TheVariants.{Offered, Committe
 use Rattle.nqs_types.specs.declared.change.Change.{Change}
 use Rattle.nqs_types.specs.declared.change.Change.TheVariants.{Submitted, HandCommitted, HandsSilent, Accepted}
 use Rattle.nqs_types.specs.declared.message.Message.{Message}
-use Rattle.nqs_rules.specs.Tests.{passes, is_offered, is_routing, same_host}
+use Rattle.nqs_rules.specs.Tests.{passes, is_offered, is_routing, is_unheld, same_host}
 use Rattle.nqs_rules.specs.Find.{peer_number, find_row, find_hand, find_promise, find_peer, host_at}
 use Rattle.nqs_rules.specs.Format.{formatted, new_peer}
 use Rattle.nqs_rules.specs.Handover.{carried_of}
 use Rattle.nqs_rules.specs.Applied.{applied, requeued_row}
 use Rattle.nqs_rules.specs.Fits.{fits, is_offered_hand}
 use Rattle.nqs_rules.specs.Starts.{after_change}
-use Rattle.nqs_rules.specs.InOrder.{IsInOrder, IsConsistent, is_hand_right, is_hand_given}
+use Rattle.nqs_rules.specs.InOrder.{IsInOrder, IsConsistent, is_hand_right, is_hand_given, is_promise_free}
 use Rattle.nqs_rules.specs.World.{World, Act, new_world, hosts_from}
 use Rattle.nqs_rules.specs.Run.{run}
 use Rattle.nqs_rules.proofs.KeyFacts.{place_below}
@@ -54,7 +54,7 @@ use Rattle.nqs_laws.proofs.Advance.{row_table, IsInHost, host_tabled, silent_tab
 abbrev pub StepOf : Change (List ℕ) → HostId → Plain → Request → Place → Place → Type 0
 StepOf (HandCommitted peer number) h s x t t' =
     (t' ≡ t)
-    ⊎ ((y : Hand) × (r : PlainRow) × (p : Pledging) × (find_hand peer number s ≡ Some y) × (x ≡ y.id) × (t ≡ Sits h r) × (is_routing r.state ≡ true) × (t' ≡ Arrives h peer p.row) × (carried_in p.row ≡ carried_of r))
+    ⊎ ((y : Hand) × (r : PlainRow) × (p : Pledging) × (find_hand peer number s ≡ Some y) × (x ≡ y.id) × (t ≡ Sits h r) × (is_routing r.state ≡ true) × (t' ≡ Arrives h peer p.row) × (carried_in p.row ≡ carried_of r) × (p.row.doomed ≡ false))
 StepOf (Accepted peer number) h s x t t' = (t' ≡ t) ⊎ ((p : Pledging) × (find_promise peer number s ≡ Some p) × (x ≡ p.row.id) × (t ≡ Arrives peer h p.row) × (t' ≡ Sits h (requeued_row p.row)))
 StepOf c h s x t t' = t' ≡ updated h (find_row x (applied c s)) t
 
@@ -64,12 +64,12 @@ pub record Advanced (states : List Plain) (h : HostId) (s : Plain) (c : Change (
   pub told : IsTabled (put_state h (applied c s) states) then_table
   pub steps : (x : Request) → StepOf c h s x (table x) (then_table x)
 
-committed_step : (table : Table) (h : HostId) (s : Plain) (peer : HostId) (number : ℕ) (y : Hand) (r : PlainRow) (p : Pledging) → find_hand peer number s ≡ Some y → is_routing r.state ≡ true → carried_in p.row ≡ carried_of r → table y.id ≡ Sits h r
+committed_step : (table : Table) (h : HostId) (s : Plain) (peer : HostId) (number : ℕ) (y : Hand) (r : PlainRow) (p : Pledging) → find_hand peer number s ≡ Some y → is_routing r.state ≡ true → carried_in p.row ≡ carried_of r → p.row.doomed ≡ false → table y.id ≡ Sits h r
     → (x : Request) → StepOf (HandCommitted peer number) h s x (table x) (put_place y.id (Arrives h peer p.row) table x)
-committed_step table h s peer number y r p found routes carried here x = by (id_eq x y.id) refl
+committed_step table h s peer number y r p found routes carried free here x = by (id_eq x y.id) refl
   where
     by : (b : Bool) → id_eq x y.id ≡ b → StepOf (HandCommitted peer number) h s x (table x) (if b then Arrives h peer p.row else table x)
-    by true e = inr (y, r, p, found, id_exact x y.id e, ap table (id_exact x y.id e) ∙ here, routes, refl, carried)
+    by true e = inr (y, r, p, found, id_exact x y.id e, ap table (id_exact x y.id e) ∙ here, routes, refl, carried, free)
     by false e = inl refl
 
 accepted_step : (table : Table) (h : HostId) (s : Plain) (peer : HostId) (number : ℕ) (p : Pledging) → find_promise peer number s ≡ Some p → table p.row.id ≡ Arrives peer h p.row
@@ -115,6 +115,9 @@ module _ (site : List (List ℕ)) (m : Moment) (sound : IsSound site m) (paired 
       by Offered e k = e
       by Committed e k = absurd (true≢false (sym k))
 
+  undoomed : (peer : HostId) (t : Plain) → At m.states peer t → (p : Pledging) → promise_of h t ≡ Some p → p.row.doomed ≡ false
+  undoomed peer t at p e = not-true p.row.doomed (and_parts (is_unheld p.row.hold) (not p.row.doomed) (list_all-found is_promise_free (λ (q : Pledging). same_host h q.peer) t.promises p (sound.hosts peer.0 t at).calm.promises e)).1
+
   module _ (table : Table) (told : IsTabled m.states table) (way : Way m.packets h s) where
     committed : (peer : HostId) (number : ℕ) → change_by way ≡ Some (HandCommitted peer number) → Suits s (HandCommitted peer number) → (o : IsInOrder s) (calm : IsConsistent s) (hand : HasHand Offered peer number s) (t : Plain) (at : At m.states peer t)
         → Advanced m.states h s (HandCommitted peer number) table
@@ -125,7 +128,7 @@ module _ (site : List (List ℕ)) (m : Moment) (sound : IsSound site m) (paired 
         record {
           then_table = committed_table m.states m.packets paired h s there o calm table told peer number suits.fit guards hand t at;
           told = committed_tabled m.states m.packets paired h s there o calm table told peer number suits.fit guards hand t at;
-          steps = committed_step table h s peer number hand.hand r.0 p.0 hand.found r.2 p.3 (was_here m.states m.packets paired h s there o calm table told peer number suits.fit guards hand t at);
+          steps = committed_step table h s peer number hand.hand r.0 p.0 hand.found r.2 p.3 (undoomed peer t at p.0 p.1) (was_here m.states m.packets paired h s there o calm table told peer number suits.fit guards hand t at);
         }
 
     accepts : (peer : HostId) (number : ℕ) → change_by way ≡ Some (Accepted peer number) → Suits s (Accepted peer number) → (o : IsInOrder s) (calm : IsConsistent s) (u : Plain) (at : At m.states peer u) → Advanced m.states h s (Accepted peer number) table
@@ -170,7 +173,7 @@ pub record IsNet (m : Moment) : Type 0 where
 
 -- a new network
 
-new_state : (site : List (List ℕ)) (place : ℕ) (names : List (List ℕ)) (n : ℕ) (s : Plain) → slice_get (map (λ x. x.state) (hosts_from place site names)) n ≡ Some s → (k : ℕ) × (s ≡ formatted (host_at k) site)
+pub new_state : (site : List (List ℕ)) (place : ℕ) (names : List (List ℕ)) (n : ℕ) (s : Plain) → slice_get (map (λ x. x.state) (hosts_from place site names)) n ≡ Some s → (k : ℕ) × (s ≡ formatted (host_at k) site)
 new_state site place [] n s e = absurd (none-some s e)
 new_state site place (name ∷ names) zero s e = (place, sym (same_Some _ s e))
 new_state site place (name ∷ names) (suc n) s e = new_state site (place + 1) names n s e

@@ -162,22 +162,22 @@ history_seen (a ∷ acts) w = joins (notes a w) (history acts (happens a w).worl
 
 -- the kept changes
 
-replayed-append : (a b : List Note) (states : List Plain) → replayed (a ++ b) states ≡ replayed b (replayed a states)
+pub replayed-append : (a b : List Note) (states : List Plain) → replayed (a ++ b) states ≡ replayed b (replayed a states)
 replayed-append [] b states = refl
 replayed-append (Saw x ∷ a) b states = replayed-append a b states
 replayed-append (Kept h why c ∷ a) b states = replayed-append a b (change_at h.0 (applied c) states)
 
-nothing_kept : (xs : List Seen) (states : List Plain) → replayed (saws xs) states ≡ states
+pub nothing_kept : (xs : List Seen) (states : List Plain) → replayed (saws xs) states ≡ states
 nothing_kept [] states = refl
 nothing_kept (x ∷ xs) states = nothing_kept xs states
 
-at-value : {V : Type 0} (n : ℕ) (f : V → V) (v : V) (vs : List V) → slice_get vs n ≡ Some v → change_at n f vs ≡ change_at n (λ _. f v) vs
+pub at-value : {V : Type 0} (n : ℕ) (f : V → V) (v : V) (vs : List V) → slice_get vs n ≡ Some v → change_at n f vs ≡ change_at n (λ _. f v) vs
 at-value n f v [] e = refl
 at-value zero f v (x ∷ vs) e = ap (λ y. f y ∷ vs) (same_Some x v e)
 at-value (suc n) f v (x ∷ vs) e = ap (λ l. x ∷ l) (at-value n f v vs e)
 
 module _ (first : List Plain) where
-  abbrev Leads : Moment → Type 0
+  abbrev pub Leads : Moment → Type 0
   Leads m = replayed m.notes first ≡ m.states
 
   more : (ns : List Note) (xs : List Seen) → replayed (ns ++ saws xs) first ≡ replayed ns first
@@ -189,7 +189,7 @@ module _ (first : List Plain) where
   kept_leads ns states h s there why (Some c) xs k =
       replayed-append ns (Kept h why c ∷ saws xs) first ∙ (nothing_kept xs (change_at h.0 (applied c) (replayed ns first)) ∙ (ap (change_at h.0 (applied c)) k ∙ at-value h.0 (applied c) s states there))
 
-  leads_frames : Frames Leads
+  pub leads_frames : Frames Leads
   leads_frames = record {
     idle = λ m x idle k. more m.notes (x ∷ []) ∙ k;
     kept = λ m h s there way c is k. kept_leads m.notes m.states h s there (why_by way) (Some c) [] k;

@@ -1,0 +1,4 @@
+pub mod Orderly
+pub mod Picks
+pub mod Locals
+pub mod Kills

@@ -1,0 +1,15 @@
+use Rattle.std.proofs.Common.{◌∙◌, sym}
+use Rattle.std.proofs.lemmas.Result.{err_from_is_err_and}
+use Rattle.nqs_types.specs.State.{content}
+use Rattle.nqs_rules.specs.Rows.{move_entry_causes}
+use Rattle.nqs_rows.proofs.Refusals.{passed, refused}
+use Rattle.nqs_step.specs.Started.{used_causes}
+use Rattle.nqs_step.proofs.start.check_found.Goals as goal
+
+pub returns-in_err-check_way : goal.returns-in_err-check_way
+returns-in_err-check_way c =
+    let p = err_from_is_err_and c.from_residual.result c.from_residual.ensures.1 in
+    rw (p.1, p.2) (refused (move_entry_causes c.args.row.now c.args.queue.now) (used_causes (content c.args.state.now)) _ c.in_err-check_way.ensures)
+
+pub returns : goal.returns
+returns c = c.check_arrivals.ensures ∙ sym (passed (move_entry_causes c.args.row.now c.args.queue.now) (used_causes (content c.args.state.now)) c.in_ok-check_way.ensures)

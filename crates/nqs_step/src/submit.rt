@@ -1,0 +1,88 @@
+//! A request is submitted.
+ghost use Rattle.std.specs.Prelude.{◌≡◌, ◌+◌, ◌<◌, ◌^◌, IfOk, Some};
+ghost use Rattle.nqs_types.specs.State.{content};
+ghost use Rattle.nqs_rules.specs.Step.{path_or, completed, submit_to, on_submit};
+ghost use Rattle.nqs_rules.specs.Stepped.{plan_of};
+ghost use Rattle.nqs_step.specs.Asked.{asked};
+
+use crate::reply::{Asker, refuse, reply_to};
+use nqs_plans::{add, change_storing, copy_bytes, no_extent};
+use nqs_rows::check_submit;
+use nqs_types::{
+    Bytes, Change, HostState, Job, ListOf, Memory, Name, Plan, Refusal, Reply, RequestId,
+    Submission,
+};
+use std::alloc::Global;
+
+// The path, or the default one where it is empty: NAME.oSEQ or NAME.eSEQ.
+fn path_or(alloc: Global, path: &Bytes, name: &Name, letter: u8, seq: u32) -> Result<Bytes, Memory>
+    ensures { IfOk result (λ p. p ≡ path_or path.now name.now letter seq) }
+{
+    if !path.as_slice().is_empty() {
+        return copy_bytes(path);
+    }
+    let mut bytes = Vec::from_slice(alloc, name.as_bytes())?;
+    bytes.extend_from_slice(&[b'.', letter])?;
+    let number = format!(in alloc; "{seq}")?;
+    bytes.extend_from_slice(number.as_bytes())?;
+    Ok(ListOf::from_vec(bytes))
+}
+
+// The job under its number, with its default paths.
+fn completed(alloc: Global, seq: u32, job: &Job) -> Result<Job, Memory>
+    ensures { IfOk result (λ j. j ≡ completed seq job.now) }
+{
+    Ok(Job {
+        name: job.name,
+        owner: job.owner,
+        priority: job.priority,
+        earliest: job.earliest,
+        rerun: job.rerun,
+        limits: job.limits,
+        forms: job.forms,
+        out: path_or(alloc, &job.out, &job.name, b'o', seq)?,
+        err: path_or(alloc, &job.err, &job.name, b'e', seq)?,
+        join: job.join,
+    })
+}
+
+fn submit_to(
+    alloc: Global,
+    state: &HostState,
+    asker: Asker,
+    submission: &Submission,
+    queue: Name,
+) -> Result<Plan, Memory>
+    requires { state.now.seq + 1 < 2 ^ 32 }
+    ensures { IfOk result (λ plan. plan ≡ plan_of (submit_to (asked asker) submission.now (content state.now) (Some queue))) }
+{
+    let seq = state.seq + 1;
+    let host = state.me;
+    let submitted = Change::Submitted {
+        queue,
+        job: completed(alloc, seq, &submission.job)?,
+        script: no_extent(),
+    };
+    let plan = change_storing(alloc, submitted, copy_bytes(&submission.script)?)?;
+    let id = RequestId { seq, host };
+    add(plan, reply_to(asker, Reply::Submitted { id, queue }))
+}
+
+/// qsub: a request is made in the queue that is asked for, or in the default one.
+pub(crate) fn on_submit(
+    alloc: Global,
+    state: &HostState,
+    asker: Asker,
+    submission: &Submission,
+) -> Result<Plan, Memory>
+    requires { state.now.seq + 1 < 2 ^ 32 }
+    ensures { IfOk result (λ plan. plan ≡ plan_of (on_submit (asked asker) submission.now (content state.now))) }
+{
+    match check_submit(state, submission) {
+        Err(refusal) => refuse(alloc, asker, refusal),
+        Ok(()) => match submission.queue.or(state.default_queue) {
+            None => refuse(alloc, asker, Refusal::NoDefault),
+            Some(queue) => submit_to(alloc, state, asker, submission, queue),
+        },
+    }
+}
