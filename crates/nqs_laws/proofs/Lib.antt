@@ -28,3 +28,8 @@ pub mod RowSteps
 pub mod Away
 pub mod EntrySteps
 pub mod LicensedRuns
+pub mod Walks
+pub mod Launched
+pub mod LaunchRuns
+pub mod LaunchLaws
+pub mod Acknowledged

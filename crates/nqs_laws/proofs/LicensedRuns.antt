@@ -48,7 +48,7 @@ module _ (site : List (List ℕ)) (m : Moment) (sound : IsSound site m) (net : I
   later_paired = (paired_keeps site).kept m sound h s there way c is suits net.paired
 
   -- one kept change
-  change_licensed : (xs : List Seen) → AreLicensed m.states (Kept h (why_by way) c ∷ saws xs)
+  pub change_licensed : (xs : List Seen) → AreLicensed m.states (Kept h (why_by way) c ∷ saws xs)
   change_licensed xs =
       let host = sound.hosts h.0 s there in
       let a = advance site m sound net.paired h s there net.table net.told way c is suits in

@@ -30,7 +30,7 @@ use Rattle.nqs_types.specs.declared.edit.Edit.{Edit}
 use Rattle.nqs_types.specs.declared.edit.Edit.TheVariants.{Rows as RowsOf}
 use Rattle.nqs_types.specs.declared.edit.RowsEdit.TheVariants.{AbortQueue}
 use Rattle.nqs_types.specs.declared.change.Change.{Change}
-use Rattle.nqs_types.specs.declared.change.Change.TheVariants.{Deleted, Doomed, Edited, Unlaunched, HandOpened, Accepted, Dropped, StageGot, StageGone, FileGone}
+use Rattle.nqs_types.specs.declared.change.Change.TheVariants.{Submitted, Deleted, Doomed, Edited, Unlaunched, HandOpened, Accepted, Dropped, StageGot, StageGone, FileGone}
 use Rattle.nqs_types.specs.declared.message.Message.{Message}
 use Rattle.nqs_types.specs.declared.message.Body.{Body}
 use Rattle.nqs_types.specs.declared.message.Body.TheVariants as body
@@ -54,7 +54,8 @@ use Rattle.nqs_rules.specs.Handover.{closes, was_given, carried_of, offer, send_
 use Rattle.nqs_rules.specs.Stage.{Part, part_to, parts_of, has_left, numbered, stage_counter, goes_here, first_number, kept_parts, files_written, is_stage_to, has_stage_to, stage_sent, parts_sent, on_end, is_got, send_staged, on_stage, is_earlier_stage, send_stage, due_of, on_staged, on_written, file_again, stages_from, due_outputs}
 use Rattle.nqs_rules.specs.Start.{launching, printing, moving_by, moving, holding, local_causes, with_row, device_at, dest_at, started, start_by, start}
 use Rattle.nqs_rules.specs.Order.{pick}
-use Rattle.nqs_rules.specs.Step.{Asker, reply_to, answer_to, unless_refused, submit_to, kill, delete_meant, runs_in_queue, kills_of, stat_causes, ticked, on_allowed, on_message, is_start, ended_by, acknowledged, unlaunched_by, step}
+use Rattle.nqs_rules.specs.Applied.{next_id}
+use Rattle.nqs_rules.specs.Step.{completed, Asker, reply_to, answer_to, unless_refused, submit_to, kill, delete_meant, runs_in_queue, kills_of, stat_causes, ticked, on_allowed, on_message, is_start, ended_by, acknowledged, unlaunched_by, step}
 use Rattle.nqs_rules.specs.Text.{stat_lines}
 use Rattle.nqs_rules.specs.World.{sent_by}
 use Rattle.nqs_rules.specs.InOrder.{IsInOrder, is_row_right, is_hand_right, is_hand_given, is_stage_right, is_stage_given, is_peer_right, is_routing_row}
@@ -113,18 +114,19 @@ refusal_of p (c ∷ cs) r h e = let k = and_parts (p c.refusal || not c.holds) (
 abbrev pub is_fine_message : ℕ → (Carried → Bool) → Message → Bool
 is_fine_message hosts test m = is_sane_message hosts m && body_passes test m.body
 
--- an output that sends nothing beyond the limits, and is neither a start nor what a boot tells
-abbrev pub is_fine_output : ℕ → (Carried → Bool) → Output → Bool
-is_fine_output hosts test (out.Send m) = is_fine_message hosts test m
-is_fine_output hosts test (out.Launch order bytes) = false
-is_fine_output hosts test (out.Print device order bytes) = false
-is_fine_output hosts test (out.Again id) = false
-is_fine_output hosts test (out.Lost id) = false
-is_fine_output hosts test o = true
+-- an output that sends nothing beyond the limits, acknowledges what it may, and is neither a start nor what a boot tells
+abbrev pub is_fine_output : ℕ → (Carried → Bool) → (RequestId → Bool) → Output → Bool
+is_fine_output hosts test may (out.Send m) = is_fine_message hosts test m
+is_fine_output hosts test may (out.Reply port token (reply.Submitted id queue)) = may id
+is_fine_output hosts test may (out.Launch order bytes) = false
+is_fine_output hosts test may (out.Print device order bytes) = false
+is_fine_output hosts test may (out.Again id) = false
+is_fine_output hosts test may (out.Lost id) = false
+is_fine_output hosts test may o = true
 
-fine_sent : (hosts : ℕ) (test : Carried → Bool) (o : Output) → is_fine_output hosts test o ≡ true → list_all (is_fine_message hosts test) (sent_by o) ≡ true
-fine_sent hosts test (out.Send m) k = and_from (is_fine_message hosts test m) true k refl
-fine_sent hosts test o k = refl
+fine_sent : (hosts : ℕ) (test : Carried → Bool) (may : RequestId → Bool) (o : Output) → is_fine_output hosts test may o ≡ true → list_all (is_fine_message hosts test) (sent_by o) ≡ true
+fine_sent hosts test may (out.Send m) k = and_from (is_fine_message hosts test m) true k refl
+fine_sent hosts test may o k = refl
 
 -- what is stored is short
 abbrev pub is_short_change : Change (List ℕ) → Bool
@@ -175,20 +177,20 @@ module _ (s : Plain) (h : IsInOrder s) where
       of (Some c) e = by c e
 
   module _ (test : Carried → Bool) where
-    pub all_sent : (os : List Output) → list_all (is_fine_output hosts test) os ≡ true → list_all (is_fine_message hosts test) (sent_in os) ≡ true
-    all_sent [] k = refl
-    all_sent (o ∷ os) k =
-        let q = and_parts (is_fine_output hosts test o) (list_all (is_fine_output hosts test) os) k in
+    pub all_sent : (may : RequestId → Bool) (os : List Output) → list_all (is_fine_output hosts test may) os ≡ true → list_all (is_fine_message hosts test) (sent_in os) ≡ true
+    all_sent may [] k = refl
+    all_sent may (o ∷ os) k =
+        let q = and_parts (is_fine_output hosts test may o) (list_all (is_fine_output hosts test may) os) k in
         list_all-append (is_fine_message hosts test) (sent_by o) (sent_in os)
-        ∙ and_from (list_all (is_fine_message hosts test) (sent_by o)) (list_all (is_fine_message hosts test) (sent_in os)) (fine_sent hosts test o q.0) (all_sent os q.1)
+        ∙ and_from (list_all (is_fine_message hosts test) (sent_by o)) (list_all (is_fine_message hosts test) (sent_in os)) (fine_sent hosts test may o q.0) (all_sent may os q.1)
 
     -- a message that offers nothing
     sane_alone : (peer : HostId) (b : Body) → is_sane_body hosts b ≡ true → body_passes test b ≡ true → is_fine_message hosts test (record { from = s.me; to = peer; body = b }) ≡ true
     sane_alone peer b k f = and_from (is_sane_message hosts (record { from = s.me; to = peer; body = b })) (body_passes test b) (and_from (is_of_site hosts s.me) (is_sane_body hosts b) (sites_are s h.site).me k) f
 
-  module _ (test : Carried → Bool) (scripts : AllPass (λ r. is_short_script r.script) s) (outputs : AreShort s) (carries : list_all (λ (r : PlainRow). test (carried_of r)) s.rows ≡ true) where
+  module _ (test : Carried → Bool) (may : RequestId → Bool) (scripts : AllPass (λ r. is_short_script r.script) s) (outputs : AreShort s) (carries : list_all (λ (r : PlainRow). test (carried_of r)) s.rows ≡ true) where
     abbrev pub is_fine : Pending (List ℕ) → Bool
-    is_fine p = is_fine_output hosts test (shown p)
+    is_fine p = is_fine_output hosts test may (shown p)
 
     abbrev pub AreFine : List (Pending (List ℕ)) → Type 0
     AreFine ps = list_all is_fine ps ≡ true
@@ -407,9 +409,17 @@ module _ (s : Plain) (h : IsInOrder s) where
     edit_outputs (RowsOf (AbortQueue q)) = kills_fine (filter (runs_in_queue q) s.rows)
     edit_outputs e = refl
 
-    submit_outputs : (a : Asker) (o : Option (List ℕ)) (sub : _) → AreFine (submit_to a sub s o).outputs
-    submit_outputs a None sub = refl
-    submit_outputs a (Some q) sub = refl
+    -- what is submitted may be acknowledged
+    abbrev pub MaySubmit : Option (Change (List ℕ)) → Type 0
+    MaySubmit o = (queue : List ℕ) (job : Job) (script : List ℕ) → o ≡ Some (Submitted queue job script) → may (next_id s) ≡ true
+
+    submit_outputs : (a : Asker) (o : Option (List ℕ)) (sub : _) → MaySubmit (submit_to a sub s o).change → AreFine (submit_to a sub s o).outputs
+    submit_outputs a None sub submits = refl
+    submit_outputs a (Some q) sub submits = and_from (may (next_id s)) true (submits q (completed (s.seq + 1) sub.job) sub.script refl) refl
+
+    unless_submits : (a : Asker) (o : Result (Unit {0}) Refusal) (done : Stepped (List ℕ)) → MaySubmit (unless_refused a o done).change → (MaySubmit done.change → AreFine done.outputs) → AreFine (unless_refused a o done).outputs
+    unless_submits a (Err r) done submits k = refl
+    unless_submits a (Ok u) done submits k = k submits
 
     delete_outputs : (a : Asker) (id : Named) (o : Option PlainRow) → AreFine (delete_meant a id o).outputs
     delete_outputs a id None = refl
@@ -419,16 +429,16 @@ module _ (s : Plain) (h : IsInOrder s) where
         by true = refl
         by false = refl
 
-    command_outputs : (now : ℕ) (a : Asker) (user : List ℕ) (c : Command) → AreFine (on_allowed now a user c s).outputs
-    command_outputs now a user (command.Submit sub) = unless_fine a (first_refusal (submit_causes sub s)) (submit_to a sub s (queue_meant sub.queue s.default_queue)) (submit_outputs a (queue_meant sub.queue s.default_queue) sub)
-    command_outputs now a user (command.Edit e) = unless_fine a (first_refusal (edit_causes e s)) (makes (Edited e) (reply_to a reply.Done ∷ kills_of e s)) (edit_outputs e)
-    command_outputs now a user (command.Stat owner queues) = unless_fine a (first_refusal (stat_causes queues s)) (answer_to a (reply.Lines (stat_lines owner queues s))) refl
-    command_outputs now a user (command.Delete id forced) = unless_fine a (first_refusal (delete_causes user id forced s)) (delete_meant a id (meant_row id s)) (delete_outputs a id (meant_row id s))
-    command_outputs now a user (command.Show code) = refl
-    command_outputs now a user command.Shutdown = refl
-    command_outputs now a user command.Tick = joined (ticked now s).outputs (reply_to a reply.Done ∷ []) (tick_fine now) refl
-    command_outputs now a user (command.UnreadLine fault) = refl
-    command_outputs now a user (command.UnreadWords fault) = refl
+    command_outputs : (now : ℕ) (a : Asker) (user : List ℕ) (c : Command) → MaySubmit (on_allowed now a user c s).change → AreFine (on_allowed now a user c s).outputs
+    command_outputs now a user (command.Submit sub) submits = unless_submits a (first_refusal (submit_causes sub s)) (submit_to a sub s (queue_meant sub.queue s.default_queue)) submits (submit_outputs a (queue_meant sub.queue s.default_queue) sub)
+    command_outputs now a user (command.Edit e) submits = unless_fine a (first_refusal (edit_causes e s)) (makes (Edited e) (reply_to a reply.Done ∷ kills_of e s)) (edit_outputs e)
+    command_outputs now a user (command.Stat owner queues) submits = unless_fine a (first_refusal (stat_causes queues s)) (answer_to a (reply.Lines (stat_lines owner queues s))) refl
+    command_outputs now a user (command.Delete id forced) submits = unless_fine a (first_refusal (delete_causes user id forced s)) (delete_meant a id (meant_row id s)) (delete_outputs a id (meant_row id s))
+    command_outputs now a user (command.Show code) submits = refl
+    command_outputs now a user command.Shutdown submits = refl
+    command_outputs now a user command.Tick submits = joined (ticked now s).outputs (reply_to a reply.Done ∷ []) (tick_fine now) refl
+    command_outputs now a user (command.UnreadLine fault) submits = refl
+    command_outputs now a user (command.UnreadWords fault) submits = refl
 
     -- ends
 
@@ -527,19 +537,19 @@ module _ (s : Plain) (h : IsInOrder s) where
         by false = refl
 
     -- what an event makes a host send is within its limits
-    pub step_fine : (e : Event) → is_sane_event hosts e ≡ true → list_all (is_fine_output hosts test) (map shown (step e s).outputs) ≡ true
-    step_fine e k = all-mapped is_fine (is_fine_output hosts test) shown (λ p q. q) (step e s).outputs (fine e k)
+    pub step_fine : (e : Event) → is_sane_event hosts e ≡ true → MaySubmit (step e s).change → list_all (is_fine_output hosts test may) (map shown (step e s).outputs) ≡ true
+    step_fine e k submits = all-mapped is_fine (is_fine_output hosts test may) shown (λ p q. q) (step e s).outputs (fine e k submits)
       where
-        fine : (e : Event) → is_sane_event hosts e ≡ true → AreFine (step e s).outputs
-        fine (event.Ask now port token user c) k = unless_fine (record { port = port; token = token }) (may_command (rank user s) c) (on_allowed now (record { port = port; token = token }) user c s) (command_outputs now (record { port = port; token = token }) user c)
-        fine (event.Arrived now m) k = message_outputs m.from m.body (and_parts (is_of_site hosts m.from) (is_sane_body hosts m.body) k).1
-        fine (event.Ended now port id start status output error) k =
+        fine : (e : Event) → is_sane_event hosts e ≡ true → MaySubmit (step e s).change → AreFine (step e s).outputs
+        fine (event.Ask now port token user c) k submits = unless_submits (record { port = port; token = token }) (may_command (rank user s) c) (on_allowed now (record { port = port; token = token }) user c s) submits (command_outputs now (record { port = port; token = token }) user c)
+        fine (event.Arrived now m) k submits = message_outputs m.from m.body (and_parts (is_of_site hosts m.from) (is_sane_body hosts m.body) k).1
+        fine (event.Ended now port id start status output error) k submits =
             let p = and_parts (is_short_output output) (is_short_output error) k in
             joined (ended_by (find_row id s) start status output error s).outputs (acknowledged port id start) (ended_outputs id start status output error p.0 p.1).0 (acks_fine port id start)
-        fine (event.Unlaunched now id start) k = unlaunched_outputs (find_row id s) id start
-        fine (event.Written now file) k = written_outputs file
-        fine (event.Unwritten now file) k = refl
-        fine (event.Tick now) k = tick_fine now
+        fine (event.Unlaunched now id start) k submits = unlaunched_outputs (find_row id s) id start
+        fine (event.Written now file) k submits = written_outputs file
+        fine (event.Unwritten now file) k submits = refl
+        fine (event.Tick now) k submits = tick_fine now
 
     pub start_sends : (now : ℕ) (x : Stepped (List ℕ)) → start now s ≡ Some x → ((c : Change (List ℕ)) → x.change ≡ Some c → fits c s ≡ true) → list_all (is_fine_message hosts test) (sent_in (map shown x.outputs)) ≡ true
     start_sends now x e fit = of (begins now x e)
@@ -554,10 +564,10 @@ module _ (s : Plain) (h : IsInOrder s) where
         opened : (r : PlainRow) (dest : Dest) → find_row r.id s ≡ Some r → (o : Option Peer) → find_peer dest.host s ≡ o → opened_with o dest now s r ≡ x → IsSent (opened_with o dest now s r)
         opened r dest found None known e = refl
         opened r dest found (Some p) known e =
-            let may = fit (HandOpened dest.host p.next r.id dest.queue now) (sym (ap (λ (y : Stepped (List ℕ)). y.change) e)) in
-            let hop : may_hop r ≡ true = ap (passes may_hop) (sym found) ∙ (each (row_passes (may_hop {E = List ℕ}) r.id s) (passes (is_next p.next) (find_peer dest.host s) ∷ not (list_any (is_hand_to dest.host) s.hands) ∷ []) may).0 in
+            let fitting = fit (HandOpened dest.host p.next r.id dest.queue now) (sym (ap (λ (y : Stepped (List ℕ)). y.change) e)) in
+            let hop : may_hop r ≡ true = ap (passes may_hop) (sym found) ∙ (each (row_passes (may_hop {E = List ℕ}) r.id s) (passes (is_next p.next) (find_peer dest.host s) ∷ not (list_any (is_hand_to dest.host) s.hands) ∷ []) fitting).0 in
             let k = row_right_at r.id r found in
-            fine_sent hosts test (shown (offer s.me dest.host p.next dest.queue r)) (offers_fine dest.host p.next dest.queue r (and_parts (nat_le 1 p.next) (nat_le 1 p.stage_next) (all_get is_peer_right s.peers dest.host.0 p h.peers known)).0 k.0 (ap is_running (ready_queued r (and_parts (is_ready r) (nat_lt r.hops 32) hop).0)) (and_parts (is_ready r) (nat_lt r.hops 32) hop).1 k.1 k.2)
+            fine_sent hosts test may (shown (offer s.me dest.host p.next dest.queue r)) (offers_fine dest.host p.next dest.queue r (and_parts (nat_le 1 p.next) (nat_le 1 p.stage_next) (all_get is_peer_right s.peers dest.host.0 p h.peers known)).0 k.0 (ap is_running (ready_queued r (and_parts (is_ready r) (nat_lt r.hops 32) hop).0)) (and_parts (is_ready r) (nat_lt r.hops 32) hop).1 k.1 k.2)
 
         of : Begins now s x → IsSent x
         of (Launches r found is) = subst IsSent is refl

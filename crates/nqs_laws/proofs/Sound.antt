@@ -137,7 +137,7 @@ module _ (site : List (List ℕ)) (m : Moment) (k : IsSound site m) (h : HostId)
   way_suits (Taken e comes) c is =
       let sane = event_sane m.packets h (length s.site) e all_sane comes in
       let p = some-if (λ c. (fits c s ≡ true) × (is_sane_change c ≡ true)) (step e s).change c (step_fits s host.order e sane) is in
-      record { fit = p.0; sane = p.1; short = some-if (λ c. is_short_change c ≡ true) (step e s).change c (step_stores s host.order (λ c. true) host.scripts host.outputs (all-true s.rows) e sane) is }
+      record { fit = p.0; sane = p.1; short = some-if (λ c. is_short_change c ≡ true) (step e s).change c (step_stores s host.order (λ c. true) (λ id. true) host.scripts host.outputs (all-true s.rows) e sane) is }
   way_suits (Begun now x begins) c is =
       let started = start_is now s x (steady s host.order) begins in
       let same : started.change ≡ c = same_Some started.change c (sym started.makes ∙ is) in
@@ -146,8 +146,8 @@ module _ (site : List (List ℕ)) (m : Moment) (k : IsSound site m) (h : HostId)
 
   pub way_sends : (test : Carried → Bool) → list_all (λ (r : PlainRow). test (carried_of r)) s.rows ≡ true → (way : Way m.packets h s) → list_all (is_fine_message (length s.site) test) (sent_in (outputs_by way)) ≡ true
   way_sends test carries (Taken e comes) =
-      all_sent s host.order test (map shown (step e s).outputs) (step_fine s host.order test host.scripts host.outputs carries e (event_sane m.packets h (length s.site) e all_sane comes))
-  way_sends test carries (Begun now x begins) = start_sends s host.order test host.scripts host.outputs carries now x begins (λ c is. (way_suits (Begun now x begins) c is).fit)
+      all_sent s host.order test (λ id. true) (map shown (step e s).outputs) (step_fine s host.order test (λ id. true) host.scripts host.outputs carries e (event_sane m.packets h (length s.site) e all_sane comes) (λ queue job script submits. refl))
+  way_sends test carries (Begun now x begins) = start_sends s host.order test (λ id. true) host.scripts host.outputs carries now x begins (λ c is. (way_suits (Begun now x begins) c is).fit)
   way_sends test carries Booted = boot_sends (length s.site) test s.rows
 
   sent_sane : (way : Way m.packets h s) → list_all (is_sane_message (length site)) (m.packets ++ sent_in (outputs_by way)) ≡ true

@@ -125,7 +125,7 @@ offers_counted site acts few sane =
 
 -- a request that isn't rerunnable was never lost
 
-abbrev is_never : PlainRow → Bool
+abbrev pub is_never : PlainRow → Bool
 is_never r = r.job.rerun || r.lost == 0
 
 never_kept : IsKept is_never
@@ -209,7 +209,7 @@ module _ (site : List (List ℕ)) (m : Moment) (k : IsSound site m) (p : IsNever
       (list_all-weaker (is_fine_message (length s.site) is_carried_never_lost) (offers_pass is_carried_never_lost) (λ x q. (and_parts (is_sane_message (length s.site) x) (body_passes is_carried_never_lost x.body) q).1) (sent_in (outputs_by way))
       (way_sends site m k h s there is_carried_never_lost (p.rows h.0 s there).rows way))
 
-never_keeps : (site : List (List ℕ)) → Keeps site IsNever
+pub never_keeps : (site : List (List ℕ)) → Keeps site IsNever
 never_keeps site = record {
   idle = λ m x k idle p. record { rows = p.rows; packets = p.packets };
   kept = λ m k h s there way c is suits p. record {
@@ -222,7 +222,7 @@ never_keeps site = record {
   };
 }
 
-new_never : (site : List (List ℕ)) → IsNever (moment (new_world site) [])
+pub new_never : (site : List (List ℕ)) → IsNever (moment (new_world site) [])
 new_never site = record { rows = λ place s at. new 0 site place s at; packets = refl }
   where
     new : (place : ℕ) (names : List (List ℕ)) (n : ℕ) (s : Plain) → slice_get (map (λ x. x.state) (hosts_from place site names)) n ≡ Some s → AllPass is_never s
@@ -263,7 +263,7 @@ is_untold (out.Again id) = false
 is_untold (out.Lost id) = false
 is_untold o = true
 
-fine_untold : (n : ℕ) (test : Carried → Bool) (o : Output) → is_fine_output n test o ≡ true → is_untold o ≡ true
+fine_untold : (n : ℕ) (test : Carried → Bool) (o : Output) → is_fine_output n test (λ id. true) o ≡ true → is_untold o ≡ true
 fine_untold n test (out.Again id) k = k
 fine_untold n test (out.Lost id) k = k
 fine_untold n test o k = refl
@@ -327,8 +327,8 @@ way_told : (site : List (List ℕ)) (m : Moment) (k : IsSound site m) (h : HostI
 way_told site m k h s there (Taken e comes) n =
     let host = k.hosts h.0 s there in
     untold_outputs h n (map shown (step e s).outputs)
-    (list_all-weaker (is_fine_output (length s.site) (λ c. true)) is_untold (λ o p. fine_untold (length s.site) (λ c. true) o p) (map shown (step e s).outputs)
-    (step_fine s host.order (λ c. true) host.scripts host.outputs (all-true s.rows) e (event_sane m.packets h (length s.site) e (all_sane site m k h s there) comes)))
+    (list_all-weaker (is_fine_output (length s.site) (λ c. true) (λ id. true)) is_untold (λ o p. fine_untold (length s.site) (λ c. true) o p) (map shown (step e s).outputs)
+    (step_fine s host.order (λ c. true) (λ id. true) host.scripts host.outputs (all-true s.rows) e (event_sane m.packets h (length s.site) e (all_sane site m k h s there) comes) (λ queue job script submits. refl)))
 way_told site m k h s there (Begun now x begun) n = untold_outputs h n (map shown x.outputs) (start_untold now s x (begins s (k.hosts h.0 s there).order now x begun))
 way_told site m k h s there Booted n = boot_tells h n s.rows
 

@@ -2,6 +2,8 @@
 //! `specs/` has the words that the laws are said in; each law is the contract of a function.
 #![tactic(auto)]
 
+pub mod launches;
+pub mod requests;
 pub mod runs;
 pub mod starts;
 pub mod tables;

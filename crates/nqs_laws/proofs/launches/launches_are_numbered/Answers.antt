@@ -1,0 +1,6 @@
+use Rattle.std.proofs.Common.{List, ℕ}
+use Rattle.nqs_laws.proofs.LaunchLaws.{run_launches}
+use Rattle.nqs_laws.proofs.launches.launches_are_numbered.Goals as goal
+
+pub returns : goal.returns
+returns c = λ site acts few sane. (run_launches site few acts sane).started

@@ -1,0 +1,18 @@
+//! Laws of requests that a host acknowledged, for the whole network: over every list of events on 1 to 16 hosts, with stops at any call.
+ghost use Rattle.std.specs.Prelude.{◌≡◌, ◌++◌, List, ℕ, IsTrue, true, false, not};
+ghost use Rattle.nqs_types.specs.declared.ids.RequestId.{RequestId};
+ghost use Rattle.nqs_rules.specs.World.{Act, new_world};
+ghost use Rattle.nqs_rules.specs.Run.{run_of, states_of};
+ghost use Rattle.nqs_laws.specs.History.{history};
+ghost use Rattle.nqs_laws.specs.Launches.{is_acknowledged, lies, was_taken_out};
+ghost use Rattle.nqs_laws.specs.Sane.{AreSane, IsSite};
+
+/// An acknowledged request lies in the network until it is deleted or has finished, and not longer. It lies in one queue of one host, as no request lies in two places.
+pub fn acknowledged_requests_stay()
+    ensures { (site : List (List ℕ)) (acts : List Act) → IsSite site → AreSane acts → (x : RequestId) → is_acknowledged x (history acts (new_world site)) ≡ true → lies x (states_of (run_of site acts).world) ≡ not (was_taken_out x (states_of (new_world site)) (history acts (new_world site))) }
+{}
+
+/// A request that was deleted or has finished never comes back, however the run goes on.
+pub fn what_is_taken_out_stays_out()
+    ensures { (site : List (List ℕ)) (acts more : List Act) → IsSite site → AreSane (acts ++ more) → (x : RequestId) → was_taken_out x (states_of (new_world site)) (history acts (new_world site)) ≡ true → lies x (states_of (run_of site (acts ++ more)).world) ≡ false }
+{}

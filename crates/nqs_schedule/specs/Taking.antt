@@ -1,0 +1,17 @@
+-- What taking a line makes of what was read so far.
+use Rattle.std.specs.Prelude.{◌≡◌, ℕ, List, Ok, Err}
+use Rattle.std.specs.declared.result.Result.{Result}
+use Rattle.nqs_schedule.specs.declared.line.Says.{Says}
+use Rattle.nqs_schedule.specs.declared.reader.Reading.{Reading}
+use Rattle.nqs_schedule.specs.declared.reader.ScheduleFault.{ScheduleFault}
+use Rattle.nqs_schedule.specs.declared.reader.ScheduleFault.TheVariants.{Bad, Memory}
+use Rattle.nqs_schedule.specs.Says.{line_says}
+use Rattle.nqs_schedule.specs.Schedule.{State, after}
+
+abbrev pub state_of : Reading → State
+state_of r = record { site = r.site; events = r.events; is_open = r.is_open }
+
+abbrev pub TakesLine : State → List ℕ → ℕ → Result (Unit {0}) ScheduleFault → State → Type 0
+TakesLine old line number (Ok done) new = (says : Says) × (line_says old.site old.is_open line ≡ Ok says) × (new ≡ after old says)
+TakesLine old line number (Err (Bad fault)) new = (fault.line ≡ number) × (line_says old.site old.is_open line ≡ Err fault.cause)
+TakesLine old line number (Err Memory) new = Unit {0}
