@@ -1,4 +1,4 @@
-// A journal that begins with a snapshot or with a payload.
+//! The first text of a journal: one that begins with a snapshot, and one that has a payload.
 ghost use Rattle.std.specs.Prelude.{◌≡◌, ◌⊎◌, ◌+◌, ◌<◌, ◌≤◌, ◌^◌, ◌++◌, [], ◌∷◌, ℕ, List, IsTrue, IsErrOf, OnOk, OnErr, IfOk, IfErr, length, vec_len};
 ghost use Rattle.nqs_outside.specs.Causes.{Rose};
 ghost use Rattle.nqs_outside.specs.History.{Call, content, extended, StopsShort};

@@ -1,3 +1,4 @@
+//! Why a call of a journal failed.
 ghost use Rattle.std.specs.Prelude.{◌≡◌};
 ghost use Rattle.nqs_journal.specs.declared.fault.JournalFault.TheVariants.{Memory};
 

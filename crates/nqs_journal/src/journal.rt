@@ -1,3 +1,4 @@
+//! An open journal: payloads are appended by four calls of its disk, the gate's byte last.
 ghost use Rattle.std.specs.Prelude.{◌≡◌, ◌-◌, max, nat_le, IfOk, IfErr, ◌⊎◌, ◌↔◌, ◌+◌, ◌<◌, ◌≤◌, ◌^◌, ◌++◌, [], ◌∷◌, List, ℕ, IsTrue, IsErrOf, OnOk, OnErr, MatchResult, true, false, length, vec_capacity};
 ghost use Rattle.nqs_outside.specs.Causes.{Rose};
 ghost use Rattle.nqs_outside.specs.History.{Call, content, IsQuiet, extended, moment, state_at, MayLeave, EachSince, StopsShort, IsExact};

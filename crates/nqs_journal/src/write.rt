@@ -1,4 +1,4 @@
-// The writes and syncs of a journal.
+//! The writes and syncs of a journal.
 ghost use Rattle.std.specs.Prelude.{◌≡◌, ℕ, ◌+◌, ◌<◌, ◌≤◌, ◌^◌, ◌++◌, [], ◌∷◌, List, IsTrue, OnOk, OnErr, length, vec_len, vec_capacity};
 ghost use Rattle.nqs_outside.specs.Causes.{Rose};
 ghost use Rattle.nqs_outside.specs.History.{Call, content, extended, StopsShort, IsExact};
