@@ -1,4 +1,6 @@
 //! Puts and frees of a spool.
+ghost use Rattle.std.specs.Prelude.{◌≤◌};
+
 use nqs_disk::MemDisk;
 use nqs_spool::Spool;
 use nqs_types::{Extent, Memory};
@@ -10,7 +12,9 @@ const LONGEST: u64 = 2_000;
 static BYTES: [u8; 2_000] = [7; 2_000];
 
 // The length of the turn's list of bytes, from 1 to LONGEST, and different from turn to turn.
-fn length_of(turn: u64) -> usize {
+fn length_of(turn: u64) -> usize
+    ensures { result ≤ 2000 }
+{
     (turn % LONGEST * 7_919 % LONGEST + 1) as usize
 }
 

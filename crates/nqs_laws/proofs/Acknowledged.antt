@@ -1,9 +1,9 @@
 -- An acknowledged request lies somewhere until it is taken out, and what was taken out never comes back.
-use Rattle.std.proofs.Common.{◌≡◌, ℕ, ◌+◌, ◌<◌, ◌≤◌, Bool, true, false, not, ◌&&◌, ◌||◌, ◌==◌, List, [], ◌∷◌, ◌++◌, map, length, slice_get, Option, None, Some, is_some, Result, Ok, Err, true≢false, refl, sym, ap, subst, ◌∙◌, arith, if◌then◌else◌}
+use Rattle.std.proofs.Common.{◌≡◌, ℕ, ◌+◌, Bool, true, false, not, ◌&&◌, ◌||◌, List, [], ◌∷◌, ◌++◌, map, length, slice_get, Option, None, Some, is_some, Result, Ok, Err, true≢false, refl, sym, ap, subst, ◌∙◌, arith, if◌then◌else◌}
 use Rattle.std.proofs.lemmas.Bool.{and_parts, and_from, or_left, not-true}
 use Rattle.std.proofs.lemmas.Option.{same_Some, none-some}
 use Rattle.std.proofs.lemmas.List.{append_assoc}
-use Rattle.std.specs.List.{list_any, list_all, filter_map, cons_option}
+use Rattle.std.specs.List.{list_all, filter_map, cons_option}
 use Rattle.nqs_types.specs.Ids.{id_eq, id_exact}
 use Rattle.nqs_types.specs.State.{Plain}
 use Rattle.nqs_types.specs.declared.ids.HostId.{HostId}
@@ -25,7 +25,7 @@ use Rattle.nqs_rules.specs.Edits.{change_at}
 use Rattle.nqs_rules.specs.Find.{find_row, find_peer}
 use Rattle.nqs_rules.specs.Handover.{opened_with}
 use Rattle.nqs_rules.specs.Applied.{applied, next_id, may_start_again}
-use Rattle.nqs_rules.specs.Net.{Entry, row_entry, entry_of}
+use Rattle.nqs_rules.specs.Net.{Entry, entry_of}
 use Rattle.nqs_rules.specs.Start.{moving_by, local_causes}
 use Rattle.nqs_rules.specs.Starts.{after_change}
 use Rattle.nqs_rules.specs.Step.{step}
@@ -36,8 +36,8 @@ use Rattle.nqs_rules.proofs.RowFacts.{same_id}
 use Rattle.nqs_laws.specs.History.{Note, Saw, Kept, saws, notes, history}
 use Rattle.nqs_laws.specs.Sane.{AreSane, IsSite}
 use Rattle.nqs_laws.specs.Words.{replayed}
-use Rattle.nqs_laws.specs.Launches.{acknowledges, is_acknowledged, lies, was_taken_out}
-use Rattle.nqs_laws.proofs.Frame.{Moment, moment, put_state, put-same, silent, Way, Taken, Begun, Booted, change_by, why_by, outputs_by, first_by, seen_from, kept_of, IsIdle}
+use Rattle.nqs_laws.specs.Launches.{is_acknowledged, lies, was_taken_out}
+use Rattle.nqs_laws.proofs.Frame.{Moment, put_state, put-same, silent, Way, Taken, Begun, Booted, change_by, why_by, seen_from, kept_of, IsIdle}
 use Rattle.nqs_laws.proofs.Told.{at-value}
 use Rattle.nqs_laws.proofs.RowTests.{PlainRow}
 use Rattle.nqs_laws.proofs.Sent.{is_fine_output, all-true, Begins, Launches, Prints, Holds, Moves, Opens, begins, step_fine}
@@ -45,7 +45,7 @@ use Rattle.nqs_laws.proofs.Sound.{IsSound, Keeps, Suits, sound_frames, event_san
 use Rattle.nqs_laws.proofs.After.{Request, submitted_row, row_after}
 use Rattle.nqs_laws.proofs.Found.{first_of_two}
 use Rattle.nqs_laws.proofs.Paired.{At}
-use Rattle.nqs_laws.proofs.TabledRuns.{IsNet, new_net}
+use Rattle.nqs_laws.proofs.TabledRuns.{new_net}
 use Rattle.nqs_laws.proofs.Advance.{seq_after}
 use Rattle.nqs_laws.proofs.Away.{new_away}
 use Rattle.nqs_laws.proofs.LicensedRuns.{IsHistory, history_keeps}

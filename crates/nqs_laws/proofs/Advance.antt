@@ -1,18 +1,14 @@
 -- The table that the hosts tell, after each change.
-use Rattle.std.proofs.Common.{◌≡◌, ℕ, ◌+◌, ◌<◌, ◌≤◌, ◌⊎◌, inl, inr, Bool, true, false, not, ◌&&◌, ◌||◌, ◌==◌, nat_le, List, [], ◌∷◌, ◌++◌, map, find, length, slice_get, Option, None, Some, true≢false, zero, suc, refl, sym, ap, subst, ◌∙◌, arith, if◌then◌else◌}
-use Rattle.std.proofs.lemmas.Bool.{and_parts, leb-true, lt-ltb, eqb-true}
-use Rattle.std.proofs.lemmas.Option.{same_Some, none-some}
+use Rattle.std.proofs.Common.{◌≡◌, ℕ, ◌+◌, ◌<◌, ◌≤◌, ◌⊎◌, inl, inr, Bool, true, false, ◌==◌, nat_le, List, [], ◌∷◌, ◌++◌, find, slice_get, Option, None, Some, true≢false, refl, sym, ap, subst, ◌∙◌, arith, if◌then◌else◌}
+use Rattle.std.proofs.lemmas.Bool.{and_parts, leb-true}
+use Rattle.std.proofs.lemmas.Option.{same_Some}
 use Rattle.std.specs.List.{list_all}
-use Rattle.nqs_types.specs.Ids.{id_eq}
-use Rattle.nqs_types.specs.State.{State, Plain}
+use Rattle.nqs_types.specs.State.{Plain}
 use Rattle.nqs_types.specs.Table.{without_first}
 use Rattle.nqs_types.specs.Keys.{is_row, is_hand}
 use Rattle.nqs_types.specs.declared.ids.HostId.{HostId}
 use Rattle.nqs_types.specs.declared.ids.PeerNumber.{PeerNumber}
 use Rattle.nqs_types.specs.declared.request.Hand.{Hand}
-use Rattle.nqs_types.specs.declared.request.Peer.{Peer}
-use Rattle.nqs_types.specs.declared.request.Phase.{Phase}
-use Rattle.nqs_types.specs.declared.request.Phase.TheVariants.{Offered, Committed}
 use Rattle.nqs_types.specs.declared.edit.ConfEdit.{ConfEdit}
 use Rattle.nqs_types.specs.declared.edit.ConfEdit.TheVariants.{PurgeQueue}
 use Rattle.nqs_types.specs.declared.edit.LimitsEdit.{LimitsEdit}
@@ -21,30 +17,28 @@ use Rattle.nqs_types.specs.declared.edit.AccessEdit.{AccessEdit}
 use Rattle.nqs_types.specs.declared.edit.AccessEdit.TheVariants.{AddManager}
 use Rattle.nqs_types.specs.declared.edit.DevicesEdit.{DevicesEdit}
 use Rattle.nqs_types.specs.declared.edit.DevicesEdit.TheVariants.{DeleteDevice}
-use Rattle.nqs_types.specs.declared.edit.RowsEdit.{RowsEdit}
 use Rattle.nqs_types.specs.declared.edit.RowsEdit.TheVariants.{AbortQueue, HoldRequest, ReleaseRequest, MoveRequest, ModifyRequest}
 use Rattle.nqs_types.specs.declared.edit.Edit.{Edit}
 use Rattle.nqs_types.specs.declared.edit.Edit.TheVariants.{Conf, Limits as LimitsOf, Access as AccessOf, Devices as DevicesOf, Rows as RowsOf}
 use Rattle.nqs_types.specs.declared.change.Change.{Change}
-use Rattle.nqs_types.specs.declared.change.Change.TheVariants.{Site, Submitted, Deleted, Doomed, Started, Ended, Unlaunched, Boot, Edited, HandOpened, HandCommitted, HandRefused, HandsSilent, HandDone, Promised, Accepted, Dropped, MovedLocal, RefusedLocal, HeldFar, StageGot, StageGone, FileGone}
+use Rattle.nqs_types.specs.declared.change.Change.TheVariants.{Site, Submitted, Deleted, Ended, Edited, HandOpened, HandCommitted, HandRefused, HandsSilent, HandDone, Promised, Accepted, Dropped, StageGot}
 use Rattle.nqs_types.specs.declared.message.Message.{Message}
-use Rattle.nqs_rules.specs.Tests.{is_offered, same_host}
+use Rattle.nqs_rules.specs.Tests.{same_host}
 use Rattle.nqs_rules.specs.Find.{peer_number, has_row, find_row, find_hand, find_promise, meant_request}
 use Rattle.nqs_rules.specs.Conf.{conf_applied}
 use Rattle.nqs_rules.specs.Limits.{limits_applied}
 use Rattle.nqs_rules.specs.Devices.{devices_applied}
-use Rattle.nqs_rules.specs.Rows.{rows_applied, change_meant, next_arrival, held_row, released_row, moved_row, with_priority}
+use Rattle.nqs_rules.specs.Rows.{change_meant, next_arrival, held_row, released_row, moved_row, with_priority}
 use Rattle.nqs_rules.specs.Edits.{drop_row, change_peer}
-use Rattle.nqs_rules.specs.Handover.{carried_of}
 use Rattle.nqs_rules.specs.Applied.{applied, edit_applied, access_applied, next_id, requeued_row, hand_committed, hand_refused, hand_silent, hands_silent, drop_promise, accepted}
 use Rattle.nqs_rules.specs.Fits.{fits}
-use Rattle.nqs_rules.specs.InOrder.{IsInOrder, IsConsistent, is_row_right, is_id_given}
+use Rattle.nqs_rules.specs.InOrder.{IsInOrder, IsConsistent, is_row_right}
 use Rattle.nqs_rules.proofs.Chains.{implied}
 use Rattle.nqs_rules.proofs.ListFacts.{list_all-found, list_all-weaker}
 use Rattle.nqs_rules.proofs.RowFacts.{row_is}
 use Rattle.nqs_rules.proofs.StateFacts.{keys_are}
 use Rattle.nqs_rules.proofs.PeersOrder.{get-other}
-use Rattle.nqs_rules.proofs.HandoversOrder.{not_committed, offer_or_none, still_offered, silent_one}
+use Rattle.nqs_rules.proofs.HandoversOrder.{not_committed, still_offered, silent_one}
 use Rattle.nqs_rules.proofs.ConsistentOrder.{silent_calm_one}
 use Rattle.nqs_rules.proofs.OutputsKept.{file_keeps, outputs_keep}
 use Rattle.nqs_laws.proofs.Frame.{put_state, put-same}
@@ -52,13 +46,13 @@ use Rattle.nqs_laws.proofs.Sound.{get-here}
 use Rattle.nqs_laws.proofs.RowTests.{PlainRow}
 use Rattle.nqs_laws.proofs.After.{Request, id_of, changed_at, after, row_after, silent_found}
 use Rattle.nqs_laws.proofs.Spares.{IsNew, changed_none, grows}
-use Rattle.nqs_laws.proofs.Pair.{Move, Stays, Withdraws, Finishes, Pledges, Drops, May}
-use Rattle.nqs_laws.proofs.Views.{Pledging, pair_of, IsLone, host_exact, host_same}
+use Rattle.nqs_laws.proofs.Pair.{Move, Stays, Withdraws, Finishes, Pledges, Drops}
+use Rattle.nqs_laws.proofs.Views.{Pledging, host_exact, host_same}
 use Rattle.nqs_laws.proofs.Turns.{to_move, from_move, deleted_move, offers_by, sources, silent_source}
 use Rattle.nqs_laws.proofs.Targets.{targets, silent_target, fewer, lone_kept}
-use Rattle.nqs_laws.proofs.Paired.{At, IsPaired, Turn, Guards, GuardsOf, IsOne, turn_paired}
+use Rattle.nqs_laws.proofs.Paired.{At, IsPaired, Turn, GuardsOf, IsOne, turn_paired}
 use Rattle.nqs_laws.proofs.PairedRuns.{one_side, put-twice, silent_guards}
-use Rattle.nqs_laws.proofs.Tabled.{Place, Nowhere, Sits, Arrives, row_in, Table, IsTabled, IsPlaced, IsHeldMove, updated, placed_at, rows_tabled}
+use Rattle.nqs_laws.proofs.Tabled.{Place, Nowhere, Sits, Arrives, row_in, Table, IsTabled, IsHeldMove, updated, placed_at, rows_tabled}
 
 -- the last number given grows
 

@@ -1,19 +1,15 @@
 -- The row of a request after a change, from the row before it.
-use Rattle.std.proofs.Common.{◌≡◌, ℕ, ◌+◌, ◌⊎◌, inl, inr, Bool, true, false, cond, not, ◌&&◌, ◌||◌, nat_lt, List, [], ◌∷◌, ◌++◌, map, filter, find, Option, None, Some, true≢false, refl, sym, ap, subst, ◌∙◌, if◌then◌else◌}
-use Rattle.std.proofs.lemmas.Bool.{and_parts, not-true, not_from_false}
-use Rattle.std.proofs.lemmas.Option.{same_Some, none-some}
-use Rattle.std.specs.List.{list_any, list_all, filter_map}
+use Rattle.std.proofs.Common.{◌≡◌, ℕ, ◌+◌, Bool, true, false, cond, not, ◌&&◌, ◌||◌, List, [], ◌∷◌, ◌++◌, map, find, Option, None, Some, true≢false, refl, sym, ap, ◌∙◌, if◌then◌else◌}
+use Rattle.std.proofs.lemmas.Option.{none-some}
+use Rattle.std.specs.List.{list_any}
 use Rattle.std.specs.Option.{option_map, option_and_then, IfSome}
 use Rattle.nqs_types.specs.Ids.{name_eq, id_eq, id_exact}
-use Rattle.nqs_types.specs.State.{State, Plain}
+use Rattle.nqs_types.specs.State.{Plain}
 use Rattle.nqs_types.specs.Table.{change_first, without_first}
-use Rattle.nqs_types.specs.Keys.{is_row, is_hand}
-use Rattle.nqs_types.specs.declared.ids.HostId.{HostId}
+use Rattle.nqs_types.specs.Keys.{is_row}
 use Rattle.nqs_types.specs.declared.ids.PeerNumber.{PeerNumber}
 use Rattle.nqs_types.specs.declared.ids.RequestId.{RequestId}
-use Rattle.nqs_types.specs.declared.ids.Named.{Named}
 use Rattle.nqs_types.specs.declared.request.Job.{Job}
-use Rattle.nqs_types.specs.declared.request.Row.{Row}
 use Rattle.nqs_types.specs.declared.request.Hand.{Hand}
 use Rattle.nqs_types.specs.declared.request.Promise.{Promise}
 use Rattle.nqs_types.specs.declared.edit.ConfEdit.{ConfEdit}
@@ -30,25 +26,20 @@ use Rattle.nqs_types.specs.declared.edit.Edit.{Edit}
 use Rattle.nqs_types.specs.declared.edit.Edit.TheVariants.{Conf, Limits as LimitsOf, Access as AccessOf, Devices as DevicesOf, Rows as RowsOf}
 use Rattle.nqs_types.specs.declared.change.Change.{Change}
 use Rattle.nqs_types.specs.declared.change.Change.TheVariants.{Site, Submitted, Deleted, Doomed, Started, Ended, Unlaunched, Boot, Edited, HandOpened, HandCommitted, HandRefused, HandsSilent, HandDone, Promised, Accepted, Dropped, MovedLocal, RefusedLocal, HeldFar, StageGot, StageGone, FileGone}
-use Rattle.nqs_rules.specs.Tests.{passes, is_ready, is_routing, is_running, is_queued, is_unheld}
-use Rattle.nqs_rules.specs.Find.{peer_number, has_row, find_row, find_hand, find_promise, meant_request, meant_row, row_of}
-use Rattle.nqs_rules.specs.Causes.{Cause}
-use Rattle.nqs_rules.specs.Edits.{drop_row, change_row, change_peer}
+use Rattle.nqs_rules.specs.Tests.{is_running}
+use Rattle.nqs_rules.specs.Find.{peer_number, has_row, find_row, find_hand, find_promise, meant_request}
+use Rattle.nqs_rules.specs.Edits.{drop_row, change_peer}
 use Rattle.nqs_rules.specs.Conf.{conf_applied, is_queued_in}
 use Rattle.nqs_rules.specs.Limits.{limits_applied}
 use Rattle.nqs_rules.specs.Devices.{devices_applied}
-use Rattle.nqs_rules.specs.Rows.{rows_causes, named_causes, idle_causes, hold_causes, release_causes, move_causes, rows_applied, change_meant, next_arrival, doomed_in, held_row, released_row, moved_row, with_priority}
+use Rattle.nqs_rules.specs.Rows.{rows_applied, change_meant, next_arrival, doomed_in, held_row, released_row, moved_row, with_priority}
 use Rattle.nqs_rules.specs.Routing.{refusal_noted, dests_for}
-use Rattle.nqs_rules.specs.Applied.{applied, edit_applied, access_applied, new_row, first_carried, next_id, may_start_again, lost_row, booted_row, doomed_row, started_row, routing_row, requeued_row, moved_local, local_refused, held_far, hand_committed, hand_refused, hand_silent, hands_silent, drop_promise, add_promised, accepted}
-use Rattle.nqs_rules.specs.Fits.{fits, edit_fits, row_passes, runs, is_idle, may_hop}
-use Rattle.nqs_rules.specs.InOrder.{IsInOrder, IsConsistent, are_distinct, is_hold_right}
-use Rattle.nqs_rules.proofs.Chains.{each}
-use Rattle.nqs_rules.proofs.ConfOrder.{Allows, none_holds, causes_behind}
-use Rattle.nqs_rules.proofs.ListFacts.{found_passes, list_all-found}
+use Rattle.nqs_rules.specs.Applied.{applied, edit_applied, access_applied, new_row, first_carried, next_id, may_start_again, lost_row, booted_row, doomed_row, started_row, routing_row, requeued_row, moved_local, local_refused, held_far, hand_committed, hand_refused, hand_silent, hands_silent, drop_promise, accepted}
+use Rattle.nqs_rules.specs.Fits.{fits}
+use Rattle.nqs_rules.specs.InOrder.{IsInOrder, are_distinct}
+use Rattle.nqs_rules.proofs.ListFacts.{found_passes}
 use Rattle.nqs_rules.proofs.RowFacts.{same_id}
-use Rattle.nqs_rules.proofs.RowChanges.{routing_is, noted_kept, idle_is}
-use Rattle.nqs_rules.proofs.RowKinds.{found_row}
-use Rattle.nqs_rules.proofs.EditOrder.{may_move}
+use Rattle.nqs_rules.proofs.RowChanges.{noted_kept}
 use Rattle.nqs_rules.proofs.StateFacts.{keys_are}
 use Rattle.nqs_rules.proofs.OutputsKept.{file_keeps, outputs_keep}
 use Rattle.nqs_laws.proofs.RowTests.{PlainRow}

@@ -1,36 +1,32 @@
 -- The entries of the network table are those of the table that the hosts tell.
-use Rattle.std.proofs.Common.{◌≡◌, ℕ, ◌+◌, ◌<◌, ◌≤◌, ◌⊎◌, inl, inr, Bool, true, false, cond, not, ◌&&◌, ◌||◌, ◌==◌, List, [], ◌∷◌, ◌++◌, map, filter, find, length, slice_get, Option, None, Some, true≢false, zero, suc, refl, sym, ap, subst, ◌∙◌, arith, if◌then◌else◌}
+use Rattle.std.proofs.Common.{◌≡◌, ℕ, ◌+◌, ◌<◌, ◌⊎◌, inl, inr, Bool, true, false, cond, not, ◌||◌, ◌==◌, List, [], ◌∷◌, ◌++◌, map, filter, find, slice_get, Option, None, Some, true≢false, zero, suc, refl, sym, ap, subst, ◌∙◌, arith, if◌then◌else◌}
 use Rattle.std.proofs.lemmas.Bool.{and_parts, and_from, or_parts, or_left, or_right, eqb-true, eq-eqb, not_from_false, not-true, false_from_ne_true}
 use Rattle.std.proofs.lemmas.Option.{same_Some, none-some}
 use Rattle.std.proofs.lemmas.List.{map-append}
 use Rattle.std.proofs.lemmas.List.Folds.{list_any-append}
-use Rattle.std.specs.Option.{option_map}
-use Rattle.std.specs.List.{list_any, list_all, AllByRecursion}
-use Rattle.nqs_types.specs.Ids.{id_eq, id_exact, peer_number_eq, peer_number_exact, hand_key}
-use Rattle.nqs_types.specs.State.{State, Plain}
-use Rattle.nqs_types.specs.Keys.{is_row, is_hand}
+use Rattle.std.specs.List.{list_any, AllByRecursion}
+use Rattle.nqs_types.specs.Ids.{id_eq, id_exact}
+use Rattle.nqs_types.specs.State.{Plain}
+use Rattle.nqs_types.specs.Keys.{is_row}
 use Rattle.nqs_types.specs.declared.ids.HostId.{HostId}
-use Rattle.nqs_types.specs.declared.ids.PeerNumber.{PeerNumber}
 use Rattle.nqs_types.specs.declared.request.Hand.{Hand}
 use Rattle.nqs_types.specs.declared.request.Phase.{Phase}
 use Rattle.nqs_types.specs.declared.request.Phase.TheVariants.{Offered, Committed}
 use Rattle.nqs_types.specs.declared.table_row.NetState.TheVariants.{Arriving}
 use Rattle.nqs_rules.specs.Tests.{passes, is_committed, same_host}
-use Rattle.nqs_rules.specs.Find.{peer_number, find_row, find_hand, host_at}
+use Rattle.nqs_rules.specs.Find.{find_row, find_hand, host_at}
 use Rattle.nqs_rules.specs.Fits.{is_committed_hand}
-use Rattle.nqs_rules.specs.Routing.{is_hand_to}
-use Rattle.nqs_rules.specs.InOrder.{IsInOrder, are_distinct, promisers}
+use Rattle.nqs_rules.specs.InOrder.{IsInOrder, are_distinct}
 use Rattle.nqs_rules.specs.Net.{Entry, entry_in, row_entry, promise_entry, is_committed_at, is_arriving, arriving, entries_at, entries_from, entries, is_table, entry_of}
 use Rattle.nqs_rules.proofs.ListFacts.{found_passes, found_again}
-use Rattle.nqs_rules.proofs.RowFacts.{same_id, same_peer_number}
+use Rattle.nqs_rules.proofs.RowFacts.{same_id}
 use Rattle.nqs_rules.proofs.StateFacts.{keys_are}
 use Rattle.nqs_rules.proofs.Sublists.{part_distinct, map_part, filter_part}
 use Rattle.nqs_laws.proofs.RowTests.{PlainRow}
-use Rattle.nqs_laws.proofs.After.{Request, id_of}
-use Rattle.nqs_laws.proofs.Makes.{HasHand}
+use Rattle.nqs_laws.proofs.After.{Request}
 use Rattle.nqs_laws.proofs.Pair.{Offer, NoOffer, Open, Given}
-use Rattle.nqs_laws.proofs.Views.{Pledging, phase_seen, offer_seen, offered, promise_of, IsLone, host_exact, host_same, found_by_key}
-use Rattle.nqs_laws.proofs.Paired.{At, given_offer}
+use Rattle.nqs_laws.proofs.Views.{Pledging, offered, promise_of, IsLone, host_exact, host_same}
+use Rattle.nqs_laws.proofs.Paired.{At, given_offer, committed_hand}
 use Rattle.nqs_laws.proofs.Tabled.{Place, Nowhere, Sits, Arrives, Table, IsTabled, IsPlaced, row_in, claim_in, claim, sits_here, arrives_here, row_of_sits, claim_of_arrives}
 
 -- the entry of a place
@@ -297,26 +293,6 @@ module _ (states : List Plain) (table : Table) (told : IsTabled states table) (o
       at_hosts : (s : Plain) × (t : Plain) × At states a s × At states b t → list_any (λ (e : Entry). id_eq x e.id) (entries states) ≡ true
       at_hosts (s, t, sat, tat) = by (offered s b) refl (promise_of a t) refl (told.claims a b s t sat tat x ∙ (ap (claim_in a b) e ∙ claim_of_arrives a b r))
         where
-          hand_of : (n : ℕ) → offered s b ≡ Given n → passes is_committed_hand (find_hand b n s) ≡ true
-          hand_of n given = of (find (is_hand_to b) s.hands) refl given
-            where
-              phase : (y : Hand) → find (is_hand_to b) s.hands ≡ Some y → (p : Phase) → y.phase ≡ p → phase_seen p y (find_row y.id s) ≡ Given n → passes is_committed_hand (find_hand b n s) ≡ true
-              phase y f Offered is g = offers (find_row y.id s) g
-                where
-                  offers : (o : Option PlainRow) → phase_seen Offered y o ≡ Given n → passes is_committed_hand (find_hand b n s) ≡ true
-                  offers None g = absurd (let no : ⊥ = cc in no)
-                  offers (Some q) g = absurd (let no : ⊥ = cc in no)
-              phase y f Committed is g =
-                  let number : y.number ≡ n = cc in
-                  let peer : b ≡ y.peer = host_exact b y.peer (found_passes (is_hand_to b) s.hands y f) in
-                  let again : find (is_hand (hand_key y)) s.hands ≡ Some y = found_by_key peer_number_eq hand_key peer_number_exact same_peer_number (is_hand_to b) s.hands y f (keys_are s (orders a s sat).keys).hands in
-                  let key : hand_key y ≡ peer_number b n = λ j. record { peer = sym peer j; number = number j } in
-                  ap (passes is_committed_hand) (ap (λ k. find (is_hand k) s.hands) (sym key) ∙ again) ∙ ap is_committed is
-
-              of : (y : Option Hand) → find (is_hand_to b) s.hands ≡ y → offer_seen y s ≡ Given n → passes is_committed_hand (find_hand b n s) ≡ true
-              of None f g = absurd (let no : ⊥ = cc in no)
-              of (Some y) f g = phase y f y.phase refl g
-
           by : (o : Offer) → offered s b ≡ o → (q : Option Pledging) → promise_of a t ≡ q → claim o q x ≡ Some r → list_any (λ (e : Entry). id_eq x e.id) (entries states) ≡ true
           by NoOffer f q g k = absurd (none-some r k)
           by (Open n load) f q g k = absurd (none-some r k)
@@ -326,7 +302,7 @@ module _ (states : List Plain) (table : Table) (told : IsTabled states table) (o
               named : p.number ≡ n → (c : Bool) → id_eq x p.row.id ≡ c → (if c then Some p.row else None) ≡ Some r → list_any (λ (e : Entry). id_eq x e.id) (entries states) ≡ true
               named number true is k =
                   let peer : a ≡ p.peer = host_exact a p.peer (found_passes (λ (q : Pledging). same_host a q.peer) t.promises p g) in
-                  let comes : is_arriving states b p ≡ true = (λ j. passes (is_committed_at b (number j)) (slice_get states (sym peer j).0)) ∙ (ap (passes (is_committed_at b n)) sat ∙ hand_of n f) in
+                  let comes : is_arriving states b p ≡ true = (λ j. passes (is_committed_at b (number j)) (slice_get states (sym peer j).0)) ∙ (ap (passes (is_committed_at b n)) sat ∙ committed_hand s (orders a s sat) b n f) in
                   let z : 0 + b.0 ≡ b.0 = omega arith in
                   somewhere (λ (e : Entry). id_eq x e.id) 0 states b.0 t tat
                   ((λ j. list_any (λ (e : Entry). id_eq x e.id) (entries_at states (host_at (z j)) t))

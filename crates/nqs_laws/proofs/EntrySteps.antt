@@ -1,20 +1,19 @@
 -- Each change takes each request by one step of its entry at most, of a kind that its cause licenses.
-use Rattle.std.proofs.Common.{◌≡◌, ℕ, ◌+◌, ◌<◌, ◌≤◌, ◌⊎◌, inl, inr, Bool, true, false, cond, not, ◌&&◌, ◌||◌, ◌==◌, List, [], ◌∷◌, ◌++◌, map, filter, find, slice_get, Option, None, Some, true≢false, zero, suc, refl, sym, ap, subst, ◌∙◌, arith, if◌then◌else◌}
+use Rattle.std.proofs.Common.{◌≡◌, ℕ, ◌+◌, ◌⊎◌, inl, inr, Bool, true, false, cond, not, ◌&&◌, ◌||◌, List, [], ◌∷◌, filter, slice_get, Option, None, Some, true≢false, suc, refl, sym, ap, subst, ◌∙◌, if◌then◌else◌}
 use Rattle.std.proofs.lemmas.Bool.{and_parts, and_from, or_left, or_right, not-true}
 use Rattle.std.proofs.lemmas.Option.{same_Some, none-some}
 use Rattle.std.specs.Option.{option_map}
 use Rattle.std.specs.List.{list_any, list_all}
-use Rattle.nqs_types.specs.Ids.{id_eq, id_exact, peer_number_eq, peer_number_exact, hand_key}
-use Rattle.nqs_types.specs.State.{State, Plain}
+use Rattle.nqs_types.specs.Ids.{id_eq, peer_number_eq, peer_number_exact, hand_key}
+use Rattle.nqs_types.specs.State.{Plain}
 use Rattle.nqs_types.specs.Keys.{is_hand, is_promise}
 use Rattle.nqs_types.specs.declared.ids.HostId.{HostId}
 use Rattle.nqs_types.specs.declared.ids.Named.{Named}
 use Rattle.nqs_types.specs.declared.ids.PeerNumber.{PeerNumber}
 use Rattle.nqs_types.specs.declared.request.Carried.{Carried}
 use Rattle.nqs_types.specs.declared.request.Hand.{Hand}
-use Rattle.nqs_types.specs.declared.request.Promise.{Promise}
 use Rattle.nqs_types.specs.declared.change.Change.{Change}
-use Rattle.nqs_types.specs.declared.change.Change.TheVariants.{Site, Submitted, Deleted, Doomed, Started, Ended, Unlaunched, Boot, Edited, HandOpened, HandCommitted, HandRefused, HandsSilent, HandDone, Promised, Accepted, Dropped, MovedLocal, RefusedLocal, HeldFar, StageGot, StageGone, FileGone}
+use Rattle.nqs_types.specs.declared.change.Change.TheVariants.{Submitted, Deleted, Doomed, Started, Ended, Unlaunched, Boot, HandOpened, HandCommitted, HandRefused, HandsSilent, Accepted, MovedLocal, RefusedLocal, HeldFar}
 use Rattle.nqs_types.specs.declared.message.Body.{Body}
 use Rattle.nqs_types.specs.declared.message.Body.TheVariants as body
 use Rattle.nqs_types.specs.declared.message.Message.{Message}
@@ -24,16 +23,14 @@ use Rattle.nqs_types.specs.declared.event.Event.{Event}
 use Rattle.nqs_types.specs.declared.event.Event.TheVariants as event
 use Rattle.nqs_types.specs.declared.table_row.NetState.TheVariants as net
 use Rattle.nqs_rules.specs.Tests.{passes, is_routing, is_running, is_unheld, same_host}
-use Rattle.nqs_rules.specs.Find.{peer_number, find_row, find_hand, find_promise, meant_request, meant_row, row_of}
+use Rattle.nqs_rules.specs.Find.{peer_number, find_row, find_hand, meant_request, meant_row, row_of}
 use Rattle.nqs_rules.specs.Handover.{carried_of, is_silent, silent_hands}
 use Rattle.nqs_rules.specs.Applied.{applied, next_id, requeued_row}
 use Rattle.nqs_rules.specs.Fits.{fits}
 use Rattle.nqs_rules.specs.Step.{completed, is_start, step}
-use Rattle.nqs_rules.specs.Stepped.{Stepped}
 use Rattle.nqs_rules.specs.InOrder.{IsInOrder, IsConsistent, is_doom_right, is_promise_free}
-use Rattle.nqs_rules.specs.Text.{seen_state}
 use Rattle.nqs_rules.specs.Net.{Entry, entry_in, row_entry}
-use Rattle.nqs_rules.specs.Licence.{Kind, Submit, Delete, Doom, Hold, Release, Move, Open, Back, Route, Arrive, Start, End, Again, Gone, Steps}
+use Rattle.nqs_rules.specs.Licence.{Kind, Submit, Delete, Doom, Hold, Move, Open, Back, Route, Arrive, Start, End, Again, Gone, Steps}
 use Rattle.nqs_rules.proofs.ListFacts.{found_passes, list_all-found, found_again}
 use Rattle.nqs_rules.proofs.ListMaps.{list_any-map}
 use Rattle.nqs_rules.proofs.RowFacts.{same_id, same_peer_number}
@@ -41,21 +38,19 @@ use Rattle.nqs_rules.proofs.RowChanges.{routing_is}
 use Rattle.nqs_rules.proofs.StateFacts.{keys_are}
 use Rattle.nqs_rules.proofs.StartIs.{StartsRow, start_is}
 use Rattle.nqs_rules.proofs.Until.{steady}
-use Rattle.nqs_laws.specs.History.{Why, ByEvent, ByStart, ByBoot}
-use Rattle.nqs_laws.specs.Licensed.{IsHanded, IsPromised, LicensesEdit, LicensesMessage, LicensesTick, LicensesCommand, LicensesEnd, LicensesEvent, LicensesStart, LicensesBoot, Licenses, IsLicensed}
-use Rattle.nqs_laws.proofs.Frame.{Moment, Way, Taken, Begun, Booted, Comes, change_by, why_by}
-use Rattle.nqs_laws.proofs.Sound.{IsHost, IsSound, Suits, some-if}
+use Rattle.nqs_laws.specs.Licensed.{LicensesMessage, LicensesTick, LicensesCommand, LicensesEnd, LicensesEvent, LicensesStart, LicensesBoot, Licenses, LiesWith, IsLicensed}
+use Rattle.nqs_laws.proofs.Frame.{Way, Taken, Begun, Booted, change_by, why_by}
+use Rattle.nqs_laws.proofs.Sound.{some-if}
 use Rattle.nqs_laws.proofs.RowTests.{PlainRow}
 use Rattle.nqs_laws.proofs.After.{Request, id_of, submitted_row, after, row_after}
 use Rattle.nqs_laws.proofs.Spares.{IsNew, grows}
-use Rattle.nqs_laws.proofs.Makes.{Answers, Obeys, Follows, IsDeleted, step_makes}
-use Rattle.nqs_laws.proofs.Views.{Pledging, carried_in, host_exact, host_same, hand_peer}
-use Rattle.nqs_laws.proofs.Paired.{At}
-use Rattle.nqs_laws.proofs.Tabled.{Place, Nowhere, Sits, Arrives, Table, IsTabled, row_in, updated, placed_at}
+use Rattle.nqs_laws.proofs.Makes.{Answers, Obeys, Follows, step_makes}
+use Rattle.nqs_laws.proofs.Views.{Pledging, carried_in, host_exact, host_same}
+use Rattle.nqs_laws.proofs.Tabled.{Place, Nowhere, Sits, Arrives, row_in, updated, placed_at}
 use Rattle.nqs_laws.proofs.Advance.{IsInHost}
 use Rattle.nqs_laws.proofs.TabledRuns.{StepOf}
 use Rattle.nqs_laws.proofs.Entries.{entry_at}
-use Rattle.nqs_laws.proofs.RowSteps.{Turns, RowStep, row_step, seen_queued, seen_routing}
+use Rattle.nqs_laws.proofs.RowSteps.{Turns, row_step, seen_queued, seen_routing}
 use Rattle.nqs_laws.proofs.Away.{is_away}
 
 -- an entry stays, or takes a step of a kind that goes with the change
@@ -280,6 +275,25 @@ module _ (s : Plain) (o : IsInOrder s) (x : Request) where
       start_licence started.row c (subst (StartsRow s started.row) (same_Some started.change c (sym started.makes ∙ is)) started.starts) k t
   way_licence Booted c is k t = boot_licence k (subst (λ y. Turns y s x k) (sym (same_Some Boot c is)) t)
 
-  pub licensed_step : {packets : List Message} {h : HostId} (way : Way packets h s) (c : Change (List ℕ)) → change_by way ≡ Some c → (a b : Option Entry) → TurnStep c s x a b → IsLicensed (why_by way) s x a b
-  licensed_step way c is a b (inl same) = inl same
-  licensed_step way c is a b (inr (k, t, steps)) = inr (k, way_licence way c is k t, steps)
+  pub licensed_step : {packets : List Message} {h : HostId} (way : Way packets h s) (c : Change (List ℕ)) → change_by way ≡ Some c → (a b : Option Entry) → TurnStep c s x a b → (b ≡ a) ⊎ LiesWith s.me a → IsLicensed (why_by way) s x a b
+  licensed_step way c is a b (inl same) lies = inl same
+  licensed_step way c is a b (inr (k, t, steps)) (inl same) = inl same
+  licensed_step way c is a b (inr (k, t, steps)) (inr lies) = inr (k, way_licence way c is k t, steps, lies)
+
+-- a change takes requests that lie with its host
+
+updated_here : (h : HostId) (o : Option PlainRow) (t : Place) → (entry_at (updated h o t) ≡ entry_at t) ⊎ LiesWith h (entry_at t)
+updated_here h o Nowhere = inr tt
+updated_here h o (Sits g r) = by (same_host g h) refl
+  where
+    by : (b : Bool) → same_host g h ≡ b → (entry_at (if b then placed_at h o else Sits g r) ≡ Some (row_entry g r)) ⊎ (g ≡ h)
+    by true e = inr (host_exact g h e)
+    by false e = inl refl
+updated_here h o (Arrives a b r) = inl refl
+
+pub lies_here : (c : Change (List ℕ)) (h : HostId) (s : Plain) (x : Request) (t t' : Place) → StepOf c h s x t t' → (entry_at t' ≡ entry_at t) ⊎ LiesWith h (entry_at t)
+lies_here (HandCommitted peer number) h s x t t' (inl same) = inl (ap entry_at same)
+lies_here (HandCommitted peer number) h s x t t' (inr (y, r, p, found, same, was, routes, is, carried, free)) = inr (subst (λ u. LiesWith h (entry_at u)) (sym was) refl)
+lies_here (Accepted peer number) h s x t t' (inl same) = inl (ap entry_at same)
+lies_here (Accepted peer number) h s x t t' (inr (p, found, same, was, is)) = inr (subst (λ u. LiesWith h (entry_at u)) (sym was) refl)
+lies_here c h s x t t' is = subst (λ u. (entry_at u ≡ entry_at t) ⊎ LiesWith h (entry_at t)) (sym is) (updated_here h (find_row x (applied c s)) t)

@@ -1,20 +1,16 @@
 -- Each change comes only where its moves may come.
-use Rattle.std.proofs.Common.{◌≡◌, ℕ, ◌+◌, ◌-◌, ◌<◌, ◌≤◌, ◌⊎◌, inl, inr, Bool, true, false, not, ◌&&◌, ◌||◌, ◌==◌, nat_le, nat_lt, List, [], ◌∷◌, ◌++◌, map, filter, find, length, slice_get, Option, None, Some, true≢false, zero, suc, refl, sym, ap, subst, ◌∙◌, arith, if◌then◌else◌}
+use Rattle.std.proofs.Common.{◌≡◌, ℕ, ◌+◌, ◌<◌, Bool, true, false, not, List, [], ◌∷◌, find, slice_get, Option, None, Some, true≢false, refl, sym, ap, subst, ◌∙◌, if◌then◌else◌}
 use Rattle.std.proofs.lemmas.Bool.{and_parts, leb-false, not-true}
-use Rattle.std.proofs.lemmas.Bool.Decides.{nat_tests}
-use Rattle.std.proofs.lemmas.Option.{same_Some, none-some}
-use Rattle.std.specs.List.{list_any, list_all}
-use Rattle.nqs_types.specs.State.{State, Plain}
-use Rattle.nqs_types.specs.Keys.{is_hand}
+use Rattle.std.proofs.lemmas.Option.{same_Some}
+use Rattle.std.specs.List.{list_any}
+use Rattle.nqs_types.specs.State.{Plain}
 use Rattle.nqs_types.specs.declared.ids.HostId.{HostId}
-use Rattle.nqs_types.specs.declared.ids.PeerNumber.{PeerNumber}
-use Rattle.nqs_types.specs.declared.request.Carried.{Carried}
 use Rattle.nqs_types.specs.declared.request.Hand.{Hand}
 use Rattle.nqs_types.specs.declared.request.Peer.{Peer}
 use Rattle.nqs_types.specs.declared.request.Phase.{Phase}
 use Rattle.nqs_types.specs.declared.request.Phase.TheVariants.{Offered, Committed}
 use Rattle.nqs_types.specs.declared.change.Change.{Change}
-use Rattle.nqs_types.specs.declared.change.Change.TheVariants.{Site, Submitted, Deleted, Doomed, Started, Ended, Unlaunched, Boot, Edited, HandOpened, HandCommitted, HandRefused, HandsSilent, HandDone, Promised, Accepted, Dropped, MovedLocal, RefusedLocal, HeldFar, StageGot, StageGone, FileGone}
+use Rattle.nqs_types.specs.declared.change.Change.TheVariants.{Submitted, Deleted, Doomed, Started, Ended, Unlaunched, Boot, Edited, HandOpened, HandCommitted, HandRefused, HandsSilent, HandDone, Promised, Accepted, Dropped, MovedLocal, RefusedLocal, HeldFar, StageGot, StageGone, FileGone}
 use Rattle.nqs_types.specs.declared.message.Message.{Message}
 use Rattle.nqs_types.specs.declared.message.Body.{Body}
 use Rattle.nqs_types.specs.declared.message.Body.TheVariants as body
@@ -22,28 +18,27 @@ use Rattle.nqs_types.specs.declared.event.Command.{Command}
 use Rattle.nqs_types.specs.declared.event.Command.TheVariants as command
 use Rattle.nqs_types.specs.declared.event.Event.{Event}
 use Rattle.nqs_types.specs.declared.event.Event.TheVariants as event
-use Rattle.nqs_rules.specs.Tests.{passes, is_offered, is_running, is_routing, same_host}
-use Rattle.nqs_rules.specs.Find.{peer_number, has_queue, has_promise, find_row, find_hand, find_peer}
+use Rattle.nqs_rules.specs.Tests.{passes, is_offered, is_running, same_host}
+use Rattle.nqs_rules.specs.Find.{has_queue, has_promise, find_row, find_peer}
 use Rattle.nqs_rules.specs.Rows.{arrivals_used}
 use Rattle.nqs_rules.specs.Routing.{is_hand_to, is_closed}
-use Rattle.nqs_rules.specs.Handover.{carried_of, closes}
-use Rattle.nqs_rules.specs.Applied.{applied, is_offered_for, hand_silent, hands_silent}
-use Rattle.nqs_rules.specs.Fits.{fits, is_offered_hand, hand_passes, are_offered, row_passes, may_hop, is_next, is_open_number, is_site_host, is_unknown, offer_full}
+use Rattle.nqs_rules.specs.Handover.{carried_of}
+use Rattle.nqs_rules.specs.Applied.{is_offered_for}
+use Rattle.nqs_rules.specs.Fits.{fits, row_passes, may_hop, is_next, is_open_number, is_site_host, is_unknown, offer_full}
 use Rattle.nqs_rules.specs.Step.{completed}
-use Rattle.nqs_rules.specs.InOrder.{IsInOrder, IsConsistent}
+use Rattle.nqs_rules.specs.InOrder.{IsInOrder}
 use Rattle.nqs_rules.proofs.Chains.{each}
 use Rattle.nqs_rules.proofs.KeyFacts.{none_found}
 use Rattle.nqs_rules.proofs.StartIs.{StartsRow, start_is}
 use Rattle.nqs_rules.proofs.Until.{steady}
-use Rattle.nqs_laws.proofs.Frame.{Moment, put_state, WasSent, Comes, Way, Taken, Begun, Booted, change_by}
-use Rattle.nqs_laws.proofs.Sound.{IsHost, IsSound, Suits, some-if, get-here}
+use Rattle.nqs_laws.proofs.Frame.{WasSent, Comes, Way, Taken, Begun, Booted, change_by}
+use Rattle.nqs_laws.proofs.Sound.{some-if}
 use Rattle.nqs_laws.proofs.RowTests.{PlainRow}
-use Rattle.nqs_laws.proofs.Makes.{HasHand, Answers, Obeys, Follows, IsDeleted, step_makes}
-use Rattle.nqs_laws.proofs.Pair.{Offer, NoOffer, Open, Given, Pledge, NoPledge, Pledged, Pair, IsTaken, IsNoPledge, IsGiven, IsNoOffer, IsOf, Ok, Holds, Move, Stays, Offers, Withdraws, Commits, Finishes, Pledges, Accepts, Drops, moved, May, MayOffer, MayWithdraw, MayCommit, MayFinish, MayAccept, MayDrop}
-use Rattle.nqs_laws.proofs.Views.{carried_in, phase_seen, offer_seen, offered, pledged, closed_of, next_of, pair_of, IsLone, host_exact, routing_of, peer_field, closed_field}
-use Rattle.nqs_laws.proofs.Turns.{to_move, from_move, deleted_move, offers_by, sources, IsQuiet}
-use Rattle.nqs_laws.proofs.Targets.{targets, lone_kept}
-use Rattle.nqs_laws.proofs.Paired.{At, HoldsFor, IsTrueWord, IsPaired, Turn, Guards, IsOne, GuardsOf, open_offer, given_offer, pledge_at, no_pledge, turn_paired}
+use Rattle.nqs_laws.proofs.Makes.{HasHand, Answers, Obeys, Follows, step_makes}
+use Rattle.nqs_laws.proofs.Pair.{NoOffer, Open, IsTaken, Move, Stays, Withdraws, Commits, Finishes, Pledges, Accepts, Drops, May, MayOffer, MayWithdraw, MayCommit, MayFinish, MayAccept, MayDrop}
+use Rattle.nqs_laws.proofs.Views.{phase_seen, offer_seen, offered, pledged, closed_of, pair_of, IsLone, host_exact, routing_of, peer_field, closed_field}
+use Rattle.nqs_laws.proofs.Turns.{to_move, from_move, deleted_move, offers_by, IsQuiet}
+use Rattle.nqs_laws.proofs.Paired.{At, HoldsFor, IsPaired, IsOne, GuardsOf, open_offer, given_offer, pledge_at, no_pledge}
 
 module _ (states : List Plain) (packets : List Message) (k : IsPaired states packets) (h : HostId) (s : Plain) (there : At states h s) (o : IsInOrder s) where
   lone : IsLone s.hands

@@ -1,39 +1,35 @@
 -- Where requests lie after a handover is committed, and after it is accepted.
-use Rattle.std.proofs.Common.{◌≡◌, ℕ, ◌+◌, ◌-◌, ◌<◌, ◌≤◌, ◌⊎◌, inl, inr, Bool, true, false, not, ◌&&◌, ◌||◌, ◌==◌, List, [], ◌∷◌, ◌++◌, map, find, length, slice_get, Option, None, Some, true≢false, zero, suc, refl, sym, ap, subst, ◌∙◌, arith, if◌then◌else◌}
-use Rattle.std.proofs.lemmas.Bool.{and_parts, and_from, eqb-true, eq-eqb, false_from_ne_true}
-use Rattle.std.proofs.lemmas.Option.{same_Some, none-some}
+use Rattle.std.proofs.Common.{◌≡◌, ℕ, ◌<◌, ◌≤◌, inl, inr, Bool, true, false, ◌&&◌, List, [], ◌∷◌, ◌++◌, slice_get, Option, None, Some, true≢false, refl, sym, ap, subst, ◌∙◌, arith, if◌then◌else◌}
+use Rattle.std.proofs.lemmas.Bool.{and_parts, eq-eqb}
+use Rattle.std.proofs.lemmas.Option.{same_Some}
 use Rattle.nqs_types.specs.Ids.{id_eq, id_exact}
-use Rattle.nqs_types.specs.State.{State, Plain}
-use Rattle.nqs_types.specs.Keys.{is_hand, is_promise}
+use Rattle.nqs_types.specs.State.{Plain}
+use Rattle.nqs_types.specs.Keys.{is_hand}
 use Rattle.nqs_types.specs.declared.ids.HostId.{HostId}
-use Rattle.nqs_types.specs.declared.ids.PeerNumber.{PeerNumber}
 use Rattle.nqs_types.specs.declared.request.Carried.{Carried}
 use Rattle.nqs_types.specs.declared.request.Hand.{Hand}
-use Rattle.nqs_types.specs.declared.request.Phase.{Phase}
-use Rattle.nqs_types.specs.declared.request.Phase.TheVariants.{Offered, Committed}
-use Rattle.nqs_types.specs.declared.change.Change.{Change}
+use Rattle.nqs_types.specs.declared.request.Phase.TheVariants.{Offered}
 use Rattle.nqs_types.specs.declared.change.Change.TheVariants.{HandCommitted, Accepted}
 use Rattle.nqs_types.specs.declared.message.Message.{Message}
 use Rattle.nqs_rules.specs.Tests.{is_offered, is_routing, same_host}
-use Rattle.nqs_rules.specs.Find.{peer_number, find_row, find_hand, find_promise, has_promise, has_row}
+use Rattle.nqs_rules.specs.Find.{peer_number, find_row, find_hand, find_promise, has_row}
 use Rattle.nqs_rules.specs.Handover.{carried_of}
 use Rattle.nqs_rules.specs.Applied.{applied, requeued_row, hand_committed, accepted, drop_promise}
 use Rattle.nqs_rules.specs.Fits.{fits}
 use Rattle.nqs_rules.specs.InOrder.{IsInOrder, IsConsistent}
 use Rattle.nqs_rules.proofs.RowFacts.{same_id}
-use Rattle.nqs_rules.proofs.PeersOrder.{get-other}
 use Rattle.nqs_laws.proofs.Frame.{put_state}
 use Rattle.nqs_laws.proofs.Sound.{get-here}
 use Rattle.nqs_laws.proofs.RowTests.{PlainRow}
 use Rattle.nqs_laws.proofs.Found.{first_of_two}
-use Rattle.nqs_laws.proofs.After.{Request, id_of, without_at, committed_after, accepted_after, after, row_after}
+use Rattle.nqs_laws.proofs.After.{Request, id_of, without_at, committed_after, accepted_after, row_after}
 use Rattle.nqs_laws.proofs.Makes.{HasHand}
-use Rattle.nqs_laws.proofs.Pair.{Offer, NoOffer, Open, Given, Pledge, NoPledge, Pledged, Pair, pair, IsTaken, IsGiven, Ok, Move, Stays, Commits, Accepts, moved, May, MayCommit, MayAccept, given}
-use Rattle.nqs_laws.proofs.Views.{Pledging, carried_in, phase_seen, offer_seen, offered, pledge_seen, promise_of, pledged, next_of, closed_of, pair_of, Source, Target, host_exact, host_same, host_other, host_cases, hand_to_peer, hand_number, promise_to_peer, promise_number, promise_peer, routing_of}
+use Rattle.nqs_laws.proofs.Pair.{Offer, NoOffer, Open, Given, NoPledge, Pledged, pair, Ok, Stays, Commits, Accepts, moved, May, MayCommit, MayAccept, given}
+use Rattle.nqs_laws.proofs.Views.{Pledging, carried_in, phase_seen, offer_seen, offered, pledge_seen, promise_of, pledged, next_of, closed_of, pair_of, host_exact, host_same, hand_to_peer, hand_number, promise_to_peer, promise_number, routing_of}
 use Rattle.nqs_laws.proofs.Turns.{to_move, from_move, sources}
 use Rattle.nqs_laws.proofs.Targets.{targets, lone_kept, promise_at}
-use Rattle.nqs_laws.proofs.Paired.{At, IsPaired, Turn, Guards, GuardsOf, IsOne, Was, was, open_offer, given_offer, pledge_at}
-use Rattle.nqs_laws.proofs.Tabled.{Place, Nowhere, Sits, Arrives, row_in, claim_in, claim, Table, IsTabled, IsPlaced, IsHeldMove, sits_here, arrives_here, row_of_sits, row_elsewhere, claim_of_arrives, claim_stays, given_before, still_placed, row_before, state_here}
+use Rattle.nqs_laws.proofs.Paired.{At, IsPaired, Turn, GuardsOf, IsOne, Was, was}
+use Rattle.nqs_laws.proofs.Tabled.{Place, Nowhere, Sits, Arrives, row_in, claim_in, claim, Table, IsTabled, IsPlaced, IsHeldMove, sits_here, arrives_here, row_of_sits, row_elsewhere, claim_of_arrives, claim_stays, given_before, still_placed, row_before}
 
 -- the table with another place of one request
 abbrev pub put_place : Request → Place → Table → Table

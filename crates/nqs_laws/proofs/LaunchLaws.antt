@@ -1,10 +1,9 @@
 -- The laws of launches over a whole run.
-use Rattle.std.proofs.Common.{◌≡◌, ℕ, ◌+◌, ◌<◌, ◌≤◌, Bool, true, false, ◌&&◌, ◌||◌, ◌==◌, nat_le, List, [], ◌∷◌, ◌++◌, length, slice_get, Option, None, Some, true≢false, refl, sym, ap, subst, ◌∙◌, arith, if◌then◌else◌}
+use Rattle.std.proofs.Common.{◌≡◌, ℕ, ◌+◌, ◌<◌, ◌≤◌, Bool, true, false, ◌||◌, ◌==◌, nat_le, List, [], ◌∷◌, ◌++◌, length, Option, None, Some, true≢false, refl, sym, ap, subst, ◌∙◌, arith, if◌then◌else◌}
 use Rattle.std.proofs.lemmas.Bool.{and_parts, eqb-true, leb-true, leb-false}
-use Rattle.std.proofs.lemmas.Option.{same_Some, none-some}
+use Rattle.std.proofs.lemmas.Option.{none-some}
 use Rattle.std.proofs.lemmas.List.{append_assoc}
 use Rattle.std.specs.List.{AllByRecursion}
-use Rattle.nqs_types.specs.Ids.{id_eq}
 use Rattle.nqs_types.specs.Keys.{is_row}
 use Rattle.nqs_types.specs.State.{Plain}
 use Rattle.nqs_types.specs.declared.ids.HostId.{HostId}
@@ -15,7 +14,7 @@ use Rattle.nqs_types.specs.declared.table_row.NetState.TheVariants as net
 use Rattle.nqs_rules.specs.Tests.{passes, is_ready, is_queued, is_unheld}
 use Rattle.nqs_rules.specs.Find.{find_row}
 use Rattle.nqs_rules.specs.Applied.{applied, started_row}
-use Rattle.nqs_rules.specs.Fits.{fits, row_passes, device_fits}
+use Rattle.nqs_rules.specs.Fits.{row_passes, device_fits}
 use Rattle.nqs_rules.specs.InOrder.{is_row_right}
 use Rattle.nqs_rules.specs.Net.{Entry, row_entry, entry_of}
 use Rattle.nqs_rules.specs.Starts.{after_change}
@@ -28,7 +27,7 @@ use Rattle.nqs_laws.specs.History.{Note, Saw, Kept, saws, history}
 use Rattle.nqs_laws.specs.Sane.{AreSane, IsSite}
 use Rattle.nqs_laws.specs.Words.{replayed}
 use Rattle.nqs_laws.specs.Launches.{Launch, launched, launches, IsStarted}
-use Rattle.nqs_laws.proofs.Frame.{Moment, moment, put_state, put-same, silent, Way, change_by, why_by, kept_of}
+use Rattle.nqs_laws.proofs.Frame.{Moment, put_state, put-same, silent, Way, change_by, why_by, kept_of}
 use Rattle.nqs_laws.proofs.Sound.{IsSound, Keeps, Suits, sound_frames, get-here, runs_keep}
 use Rattle.nqs_laws.proofs.RowTests.{PlainRow}
 use Rattle.nqs_laws.proofs.After.{Request, changed_at, row_after}
@@ -42,7 +41,7 @@ use Rattle.nqs_laws.proofs.Away.{new_away}
 use Rattle.nqs_laws.proofs.LicensedRuns.{IsHistory, history_keeps}
 use Rattle.nqs_laws.proofs.Walks.{pending_at, pending-append, launches-append}
 use Rattle.nqs_laws.proofs.Launched.{Launching, Nothing, One, seen_by, way_launches, idle_launches}
-use Rattle.nqs_laws.proofs.LaunchRuns.{IsGiven, IsPast, IsPending, HasLaunches, all_past, quiet_more, launch_more, later, kept_more}
+use Rattle.nqs_laws.proofs.LaunchRuns.{IsGiven, IsPast, HasLaunches, all_past, quiet_more, launch_more, kept_more}
 use Rattle.std.proofs.lemmas.List.{append-nil}
 
 -- where requests lie

@@ -2,18 +2,17 @@
 use Rattle.std.proofs.Common.{◌≡◌, ℕ, ◌+◌, ◌<◌, ◌≤◌, ◌⊎◌, inl, inr, Bool, true, false, not, ◌&&◌, ◌||◌, ◌==◌, List, [], ◌∷◌, ◌++◌, slice_get, Option, None, Some, true≢false, refl, sym, ap, subst, ◌∙◌, arith}
 use Rattle.std.proofs.lemmas.Bool.{and_parts, and_from, eqb-true, eq-eqb, or_from, false_from_ne_true, not-true}
 use Rattle.std.proofs.lemmas.Option.{same_Some, none-some}
-use Rattle.std.proofs.lemmas.List.{append_assoc, append-nil}
+use Rattle.std.proofs.lemmas.List.{append-nil}
 use Rattle.std.specs.List.{list_any, cons_option, AllByRecursion}
 use Rattle.nqs_types.specs.Ids.{id_eq, id_exact}
 use Rattle.nqs_types.specs.State.{Plain}
 use Rattle.nqs_types.specs.declared.ids.HostId.{HostId}
 use Rattle.nqs_types.specs.declared.change.Change.{Change}
 use Rattle.nqs_types.specs.declared.world.Seen.{Seen}
-use Rattle.nqs_types.specs.declared.table_row.NetState.{NetState}
 use Rattle.nqs_types.specs.declared.table_row.NetState.TheVariants as net
 use Rattle.nqs_rules.specs.Edits.{change_at}
 use Rattle.nqs_rules.specs.Applied.{applied, next_id}
-use Rattle.nqs_rules.specs.InOrder.{IsInOrder, are_distinct}
+use Rattle.nqs_rules.specs.InOrder.{are_distinct}
 use Rattle.nqs_rules.specs.Licence.{Kind, Steps}
 use Rattle.nqs_rules.specs.Net.{Entry, entry_of}
 use Rattle.nqs_rules.proofs.KeyFacts.{distinct-added}
@@ -22,13 +21,12 @@ use Rattle.nqs_rules.proofs.RowFacts.{same_id}
 use Rattle.nqs_laws.specs.History.{Note, Saw, Kept, saws}
 use Rattle.nqs_laws.specs.Words.{replayed}
 use Rattle.nqs_laws.specs.Licensed.{Licenses, IsLicensed}
-use Rattle.nqs_laws.specs.Launches.{Launch, launched, launches, same_launch, is_again, is_launch_of, states_after, pending_after, AreApart, IsStarted, IsStartedIn, AreStarted}
+use Rattle.nqs_laws.specs.Launches.{Launch, launched, launches, same_launch, is_again, is_launch_of, AreApart, IsStarted, IsStartedIn, AreStarted}
 use Rattle.nqs_laws.proofs.Frame.{Moment, put_state, Way, change_by, why_by}
 use Rattle.nqs_laws.proofs.Told.{replayed-append, nothing_kept, at-value}
 use Rattle.nqs_laws.proofs.Sound.{IsSound, Suits, get-here}
 use Rattle.nqs_laws.proofs.After.{Request}
 use Rattle.nqs_laws.proofs.Paired.{At}
-use Rattle.nqs_laws.proofs.Views.{host_exact}
 use Rattle.nqs_laws.proofs.Advance.{seq_grows}
 use Rattle.nqs_laws.proofs.LicensedRuns.{IsHistory, change_licensed}
 use Rattle.nqs_laws.proofs.Walks.{pending_at, pending-append, apart-append, started-append, launches-append, starts_grow, runs_or_lost, comes_new, submit_new}

@@ -1,5 +1,5 @@
 -- What a step of a host launches: nothing, or one request.
-use Rattle.std.proofs.Common.{◌≡◌, ℕ, ◌+◌, Bool, true, false, ◌&&◌, List, [], ◌∷◌, ◌++◌, map, length, slice_get, Option, None, Some, Result, Ok, Err, true≢false, refl, sym, ap, subst, ◌∙◌, if◌then◌else◌}
+use Rattle.std.proofs.Common.{◌≡◌, ℕ, ◌+◌, Bool, true, false, List, [], ◌∷◌, ◌++◌, map, length, slice_get, Option, None, Some, Result, Ok, Err, true≢false, refl, sym, ap, subst, if◌then◌else◌}
 use Rattle.std.proofs.lemmas.Bool.{and_parts}
 use Rattle.std.specs.List.{list_all, filter_map, cons_option}
 use Rattle.nqs_types.specs.State.{Plain}
@@ -7,7 +7,6 @@ use Rattle.nqs_types.specs.declared.ids.HostId.{HostId}
 use Rattle.nqs_types.specs.declared.request.Peer.{Peer}
 use Rattle.nqs_types.specs.declared.request.Carried.{Carried}
 use Rattle.nqs_types.specs.declared.refusal.Refusal.{Refusal}
-use Rattle.nqs_types.specs.declared.change.Change.{Change}
 use Rattle.nqs_types.specs.declared.change.Change.TheVariants.{Started}
 use Rattle.nqs_types.specs.declared.message.Message.{Message}
 use Rattle.nqs_types.specs.declared.event.Output.{Output}
@@ -19,13 +18,13 @@ use Rattle.nqs_rules.specs.Causes.{first_refusal}
 use Rattle.nqs_rules.specs.Applied.{may_start_again}
 use Rattle.nqs_rules.specs.Find.{find_row, find_peer}
 use Rattle.nqs_rules.specs.Handover.{opened_with}
-use Rattle.nqs_rules.specs.Start.{launching, printing, moving_by, local_causes}
+use Rattle.nqs_rules.specs.Start.{moving_by, local_causes}
 use Rattle.nqs_rules.specs.Step.{step}
 use Rattle.nqs_rules.specs.Stepped.{Stepped, shown}
 use Rattle.nqs_rules.specs.World.{boot_output, sent_by}
 use Rattle.nqs_rules.proofs.ListFacts.{list_all-weaker}
-use Rattle.nqs_laws.specs.History.{Note, Saw, saws}
-use Rattle.nqs_laws.specs.Launches.{Launch, launched, launches}
+use Rattle.nqs_laws.specs.History.{Saw, saws}
+use Rattle.nqs_laws.specs.Launches.{launched, launches}
 use Rattle.nqs_laws.proofs.Frame.{Moment, Way, Taken, Begun, Booted, change_by, outputs_by, first_by, seen_from, IsIdle}
 use Rattle.nqs_laws.proofs.RowTests.{PlainRow}
 use Rattle.nqs_laws.proofs.Sent.{is_fine_output, all-true, Begins, Launches, Prints, Holds, Moves, Opens, begins, step_fine}

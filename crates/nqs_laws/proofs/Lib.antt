@@ -33,3 +33,7 @@ pub mod Launched
 pub mod LaunchRuns
 pub mod LaunchLaws
 pub mod Acknowledged
+pub mod HandoverLaws
+pub mod Closing
+pub mod HealSteps
+pub mod HealLaws

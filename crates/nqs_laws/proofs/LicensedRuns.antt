@@ -1,33 +1,28 @@
 -- In the history of a run each change is licensed by its cause.
-use Rattle.std.proofs.Common.{◌≡◌, ℕ, ◌⊎◌, inl, inr, Bool, true, false, List, [], ◌∷◌, ◌++◌, slice_get, Option, None, Some, true≢false, refl, sym, ap, subst, ◌∙◌}
-use Rattle.std.proofs.lemmas.Option.{same_Some, none-some}
-use Rattle.std.specs.List.{list_all}
+use Rattle.std.proofs.Common.{◌≡◌, ℕ, ◌⊎◌, List, [], ◌∷◌, ◌++◌, Option, None, Some, refl, sym, ap, subst, ◌∙◌}
+use Rattle.std.proofs.lemmas.Option.{same_Some}
 use Rattle.nqs_types.specs.State.{Plain}
 use Rattle.nqs_types.specs.declared.ids.HostId.{HostId}
-use Rattle.nqs_types.specs.declared.message.Message.{Message}
 use Rattle.nqs_types.specs.declared.change.Change.{Change}
 use Rattle.nqs_types.specs.declared.world.Seen.{Seen}
 use Rattle.nqs_rules.specs.Edits.{change_at}
 use Rattle.nqs_rules.specs.Applied.{applied}
 use Rattle.nqs_rules.specs.InOrder.{IsInOrder}
 use Rattle.nqs_rules.specs.Net.{is_table, entry_of}
-use Rattle.nqs_rules.specs.World.{World, Act, new_world}
+use Rattle.nqs_rules.specs.World.{Act, new_world}
 use Rattle.nqs_rules.specs.Run.{run, states_of}
-use Rattle.nqs_laws.specs.History.{Why, ByStart, Note, Saw, Kept, saws, history}
+use Rattle.nqs_laws.specs.History.{Note, Saw, Kept, saws, history}
 use Rattle.nqs_laws.specs.Sane.{AreSane, IsSite}
 use Rattle.nqs_laws.specs.Words.{replayed}
-use Rattle.nqs_laws.specs.Licensed.{IsLicensed, AreLicensed}
+use Rattle.nqs_laws.specs.Licensed.{LiesWith, IsLicensed, AreLicensed}
 use Rattle.nqs_laws.proofs.Frame.{Moment, moment, put_state, Way, change_by, why_by, kept_of}
-use Rattle.nqs_laws.proofs.Told.{replayed-append, nothing_kept, at-value, leads_frames}
-use Rattle.nqs_laws.proofs.Sound.{IsSound, Keeps, Suits, sound_frames, host_kept, hosts_put, length-put, runs_keep}
-use Rattle.nqs_laws.proofs.After.{Request}
-use Rattle.nqs_laws.proofs.Views.{IsLone}
+use Rattle.nqs_laws.proofs.Told.{at-value, leads_frames}
+use Rattle.nqs_laws.proofs.Sound.{IsSound, Keeps, Suits, host_kept, hosts_put, runs_keep}
 use Rattle.nqs_laws.proofs.Paired.{At, IsPaired}
 use Rattle.nqs_laws.proofs.PairedRuns.{paired_keeps}
-use Rattle.nqs_laws.proofs.Tabled.{Table, IsTabled}
 use Rattle.nqs_laws.proofs.TabledRuns.{IsNet, net_keeps, new_net, advance}
 use Rattle.nqs_laws.proofs.Entries.{entry_at, one_place, entry_is}
-use Rattle.nqs_laws.proofs.EntrySteps.{entry_step, licensed_step}
+use Rattle.nqs_laws.proofs.EntrySteps.{entry_step, licensed_step, lies_here}
 use Rattle.nqs_laws.proofs.Away.{IsAway, away_keeps, new_away}
 
 licensed-append : (a b : List Note) (states : List Plain) → AreLicensed states a → AreLicensed (replayed a states) b → AreLicensed states (a ++ b)
@@ -64,7 +59,8 @@ module _ (site : List (List ℕ)) (m : Moment) (sound : IsSound site m) (net : I
             (subst (λ e. IsLicensed (why_by way) s x e (entry_of x later)) (sym (entry_is m.states net.table net.told before net.paired.lone x))
             (subst (IsLicensed (why_by way) s x (entry_at (net.table x))) (sym (entry_is later a.then_table a.told order later_paired.lone x))
             (licensed_step s host.order x way c is (entry_at (net.table x)) (entry_at (a.then_table x))
-            (entry_step h s (λ j. (host.head j).0) host.order host.calm (away.hands h s there) c suits.fit x (net.table x) (a.then_table x) (net.told.rows h s there x) (a.steps x)))))),
+            (entry_step h s (λ j. (host.head j).0) host.order host.calm (away.hands h s there) c suits.fit x (net.table x) (a.then_table x) (net.told.rows h s there x) (a.steps x))
+            (subst (λ i. (entry_at (a.then_table x) ≡ entry_at (net.table x)) ⊎ LiesWith i (entry_at (net.table x))) (sym (λ j. (host.head j).0)) (lies_here c h s x (net.table x) (a.then_table x) (a.steps x))))))),
         sights_licensed xs (change_at h.0 (applied c) m.states),
       )
 

@@ -1,9 +1,8 @@
 -- The network's law, in its public words.
-use Rattle.std.proofs.Common.{◌≡◌, ℕ, true, List, refl}
-use Rattle.nqs_rules.specs.World.{World, Act, new_world}
-use Rattle.nqs_rules.specs.Run.{run, run_of, states_of}
+use Rattle.std.proofs.Common.{◌≡◌, ℕ, true, List}
+use Rattle.nqs_rules.specs.World.{Act}
+use Rattle.nqs_rules.specs.Run.{run_of, states_of}
 use Rattle.nqs_rules.specs.Net.{is_table}
-use Rattle.nqs_laws.specs.History.{history}
 use Rattle.nqs_laws.specs.Sane.{AreSane, IsSite}
 use Rattle.nqs_laws.proofs.Sound.{run_sound}
 use Rattle.nqs_laws.proofs.Entries.{one_place}

@@ -1,52 +1,40 @@
 -- What holds of each pair of hosts and of each message, after each change.
-use Rattle.std.proofs.Common.{◌≡◌, ℕ, ◌+◌, ◌-◌, ◌<◌, ◌≤◌, ◌⊎◌, inl, inr, Bool, true, false, not, ◌&&◌, ◌||◌, ◌==◌, nat_le, nat_lt, List, [], ◌∷◌, ◌++◌, map, filter, find, length, slice_get, Option, None, Some, true≢false, zero, suc, refl, sym, ap, subst, ◌∙◌, arith, if◌then◌else◌}
-use Rattle.std.proofs.lemmas.Bool.{and_parts, and_from, eqb-true, eq-eqb, leb-true, leb-false, le-leb, not-true, false_from_ne_true}
+use Rattle.std.proofs.Common.{◌≡◌, ℕ, ◌⊎◌, inl, inr, Bool, true, false, ◌||◌, ◌==◌, List, [], ◌∷◌, ◌++◌, find, slice_get, Option, None, Some, true≢false, zero, suc, refl, sym, ap, subst, ◌∙◌, if◌then◌else◌}
+use Rattle.std.proofs.lemmas.Bool.{and_from, eq-eqb}
 use Rattle.std.proofs.lemmas.Option.{same_Some, none-some}
-use Rattle.std.specs.List.{list_any, list_all, AllByRecursion}
-use Rattle.std.specs.Option.{IfSome}
-use Rattle.nqs_types.specs.Ids.{id_eq, peer_number_eq}
-use Rattle.nqs_types.specs.State.{State, Plain}
+use Rattle.std.specs.List.{list_any, AllByRecursion}
+use Rattle.nqs_types.specs.Ids.{peer_number_eq, peer_number_exact, hand_key}
+use Rattle.nqs_types.specs.State.{Plain}
 use Rattle.nqs_types.specs.Keys.{is_hand, is_promise}
 use Rattle.nqs_types.specs.declared.ids.HostId.{HostId}
 use Rattle.nqs_types.specs.declared.ids.PeerNumber.{PeerNumber}
-use Rattle.nqs_types.specs.declared.request.Row.{Row}
 use Rattle.nqs_types.specs.declared.request.Carried.{Carried}
 use Rattle.nqs_types.specs.declared.request.Hand.{Hand}
-use Rattle.nqs_types.specs.declared.request.Promise.{Promise}
-use Rattle.nqs_types.specs.declared.request.Peer.{Peer}
 use Rattle.nqs_types.specs.declared.request.Phase.{Phase}
 use Rattle.nqs_types.specs.declared.request.Phase.TheVariants.{Offered, Committed}
 use Rattle.nqs_types.specs.declared.change.Change.{Change}
-use Rattle.nqs_types.specs.declared.change.Change.TheVariants.{Site, Submitted, Deleted, Doomed, Started, Ended, Unlaunched, Boot, Edited, HandOpened, HandCommitted, HandRefused, HandsSilent, HandDone, Promised, Accepted, Dropped, MovedLocal, RefusedLocal, HeldFar, StageGot, StageGone, FileGone}
+use Rattle.nqs_types.specs.declared.change.Change.TheVariants.{HandsSilent}
 use Rattle.nqs_types.specs.declared.message.Message.{Message}
 use Rattle.nqs_types.specs.declared.message.Body.{Body}
 use Rattle.nqs_types.specs.declared.message.Body.TheVariants as body
-use Rattle.nqs_types.specs.declared.event.Command.{Command}
-use Rattle.nqs_types.specs.declared.event.Command.TheVariants as command
-use Rattle.nqs_types.specs.declared.event.Event.{Event}
-use Rattle.nqs_types.specs.declared.event.Event.TheVariants as event
-use Rattle.nqs_rules.specs.Tests.{passes, is_offered, is_running, is_routing, same_host}
-use Rattle.nqs_rules.specs.Find.{peer_number, has_queue, has_promise, find_row, find_hand, find_promise, find_peer}
-use Rattle.nqs_rules.specs.Rows.{arrivals_used}
-use Rattle.nqs_rules.specs.Routing.{is_hand_to, is_closed}
+use Rattle.nqs_rules.specs.Tests.{passes, is_offered, is_committed, same_host}
+use Rattle.nqs_rules.specs.Find.{peer_number, has_promise, find_row, find_hand}
+use Rattle.nqs_rules.specs.Routing.{is_hand_to}
 use Rattle.nqs_rules.specs.Handover.{carried_of}
-use Rattle.nqs_rules.specs.Applied.{applied, is_offered_for, hand_silent, hands_silent}
-use Rattle.nqs_rules.specs.Fits.{fits, is_offered_hand, hand_passes, are_offered, row_passes, may_hop, is_next, is_open_number, is_site_host, is_unknown, offer_full}
-use Rattle.nqs_rules.specs.InOrder.{IsInOrder, IsConsistent}
-use Rattle.nqs_rules.proofs.Chains.{each}
-use Rattle.nqs_rules.proofs.KeyFacts.{any_found, none_found}
+use Rattle.nqs_rules.specs.Fits.{is_committed_hand}
+use Rattle.nqs_rules.specs.InOrder.{IsInOrder}
+use Rattle.nqs_rules.proofs.ListFacts.{found_passes}
+use Rattle.nqs_rules.proofs.StateFacts.{keys_are}
 use Rattle.nqs_rules.proofs.PeersOrder.{get-other}
-use Rattle.nqs_rules.proofs.StartIs.{StartsRow, start_is}
-use Rattle.nqs_rules.proofs.Until.{steady}
 use Rattle.nqs_rules.proofs.RowFacts.{same_peer_number}
-use Rattle.nqs_laws.proofs.Frame.{Moment, put_state, WasSent, Comes, Way, Taken, Begun, Booted, change_by}
-use Rattle.nqs_laws.proofs.Sound.{IsHost, IsSound, Suits, some-if, get-here}
+use Rattle.nqs_laws.proofs.Frame.{put_state, WasSent}
+use Rattle.nqs_laws.proofs.Sound.{get-here}
 use Rattle.nqs_laws.proofs.RowTests.{PlainRow}
-use Rattle.nqs_laws.proofs.Makes.{HasHand, Answers, Obeys, Follows, IsDeleted, step_makes}
-use Rattle.nqs_laws.proofs.Pair.{Offer, NoOffer, Open, Given, Pledge, NoPledge, Pledged, Pair, Word, OfferOf, ReadyFor, RefusedOf, CommitOf, DoneOf, AbortOf, IsTaken, IsNoPledge, IsGiven, IsNoOffer, IsOf, Ok, Holds, Move, Stays, Offers, Withdraws, Commits, Finishes, Pledges, Accepts, Drops, moved, May, MayOffer, MayWithdraw, MayCommit, MayFinish, MayAccept, MayDrop, moved-ok, moved-holds, pair}
-use Rattle.nqs_laws.proofs.Views.{Pledging, carried_in, phase_seen, offer_seen, offered, pledge_seen, promise_of, pledged, closed_of, next_of, pair_of, IsLone, Source, Target, source_pair, target_pair, host_exact, host_same, hand_to_peer, hand_number, promise_to_peer, promise_number, routing_of, peer_field, closed_field}
-use Rattle.nqs_laws.proofs.Turns.{to_move, from_move, deleted_move, offers_by, sources, silent_source, stays_source, stays_target}
-use Rattle.nqs_laws.proofs.Targets.{targets, silent_target, lone_kept, fewer, promise_at}
+use Rattle.nqs_laws.proofs.Makes.{HasHand}
+use Rattle.nqs_laws.proofs.Pair.{Open, Given, NoPledge, Pledged, Pair, OfferOf, ReadyFor, RefusedOf, CommitOf, DoneOf, AbortOf, IsNoPledge, Ok, Holds, Move, Stays, moved, May, moved-ok, moved-holds, pair}
+use Rattle.nqs_laws.proofs.Views.{Pledging, carried_in, phase_seen, offer_seen, offered, pledge_seen, promise_of, pledged, next_of, pair_of, IsLone, Source, Target, source_pair, target_pair, host_exact, host_same, found_by_key, hand_to_peer, hand_number, promise_to_peer, promise_number, routing_of}
+use Rattle.nqs_laws.proofs.Turns.{to_move, from_move, stays_source, stays_target}
+use Rattle.nqs_laws.proofs.Targets.{promise_at}
 
 -- what holds of a message, by the pairs of its hosts: from its sender, and to it
 abbrev pub HoldsFor : Pair → Pair → Body → Type 0
@@ -261,18 +249,42 @@ abbrev pub GuardsOf : List Plain → HostId → Plain → Change (List ℕ) → 
 GuardsOf states h s c = Guards states h s (to_move c s) (from_move c)
 
 -- an offer under a number, seen from outside
-pub open_offer : (s : Plain) → IsInOrder s → IsLone s.hands → (peer : HostId) (n : ℕ) → HasHand Offered peer n s → (load : Carried) × (offered s peer ≡ Open n load)
-open_offer s o lone peer n k =
+pub open_row : (s : Plain) → IsInOrder s → IsLone s.hands → (peer : HostId) (n : ℕ) → (k : HasHand Offered peer n s) → (r : PlainRow) × (find_row k.hand.id s ≡ Some r) × (offered s peer ≡ Open n (carried_of r))
+open_row s o lone peer n k =
     let r = routing_of s o (is_hand (peer_number peer n)) k.hand k.found (ap is_offered k.is) in (
-      carried_of r.0,
+      r.0,
+      r.1,
       ap (λ x. offer_seen x s) (hand_to_peer s lone (peer_number peer n) k.hand k.found)
           ∙ (ap (λ p. phase_seen p k.hand (find_row k.hand.id s)) k.is ∙ (ap (phase_seen Offered k.hand) r.1 ∙ ap (λ i. Open i (carried_of r.0)) (sym (hand_number s lone (peer_number peer n) k.hand k.found)))),
     )
+
+pub open_offer : (s : Plain) → IsInOrder s → IsLone s.hands → (peer : HostId) (n : ℕ) → HasHand Offered peer n s → (load : Carried) × (offered s peer ≡ Open n load)
+open_offer s o lone peer n k = let r = open_row s o lone peer n k in (carried_of r.0, r.2)
 
 pub given_offer : (s : Plain) → IsLone s.hands → (peer : HostId) (n : ℕ) → HasHand Committed peer n s → offered s peer ≡ Given n
 given_offer s lone peer n k =
     ap (λ x. offer_seen x s) (hand_to_peer s lone (peer_number peer n) k.hand k.found)
     ∙ (ap (λ p. phase_seen p k.hand (find_row k.hand.id s)) k.is ∙ ap Given (sym (hand_number s lone (peer_number peer n) k.hand k.found)))
+
+pub committed_hand : (s : Plain) → IsInOrder s → (b : HostId) (n : ℕ) → offered s b ≡ Given n → passes is_committed_hand (find_hand b n s) ≡ true
+committed_hand s o b n given = of (find (is_hand_to b) s.hands) refl given
+  where
+    phase : (y : Hand) → find (is_hand_to b) s.hands ≡ Some y → (p : Phase) → y.phase ≡ p → phase_seen p y (find_row y.id s) ≡ Given n → passes is_committed_hand (find_hand b n s) ≡ true
+    phase y f Offered is g = offers (find_row y.id s) g
+      where
+        offers : (o : Option PlainRow) → phase_seen Offered y o ≡ Given n → passes is_committed_hand (find_hand b n s) ≡ true
+        offers None g = absurd (let no : ⊥ = cc in no)
+        offers (Some q) g = absurd (let no : ⊥ = cc in no)
+    phase y f Committed is g =
+        let number : y.number ≡ n = cc in
+        let peer : b ≡ y.peer = host_exact b y.peer (found_passes (is_hand_to b) s.hands y f) in
+        let again : find (is_hand (hand_key y)) s.hands ≡ Some y = found_by_key peer_number_eq hand_key peer_number_exact same_peer_number (is_hand_to b) s.hands y f (keys_are s o.keys).hands in
+        let key : hand_key y ≡ peer_number b n = λ j. record { peer = sym peer j; number = number j } in
+        ap (passes is_committed_hand) (ap (λ k. find (is_hand k) s.hands) (sym key) ∙ again) ∙ ap is_committed is
+
+    of : (y : Option Hand) → find (is_hand_to b) s.hands ≡ y → offer_seen y s ≡ Given n → passes is_committed_hand (find_hand b n s) ≡ true
+    of None f g = absurd (let no : ⊥ = cc in no)
+    of (Some y) f g = phase y f y.phase refl g
 
 pub pledge_at : (s : Plain) → IsInOrder s → (peer : HostId) (n : ℕ) → has_promise peer n s ≡ true → (p : Pledging) × (pledged s peer ≡ Pledged n (carried_in p.row))
 pledge_at s o peer n fit =

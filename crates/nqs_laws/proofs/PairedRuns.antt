@@ -1,9 +1,8 @@
 -- What holds of each pair of hosts and of each message holds at every moment of a run.
-use Rattle.std.proofs.Common.{◌≡◌, ℕ, ◌+◌, ◌<◌, ◌≤◌, ◌⊎◌, inl, inr, Bool, true, false, if◌then◌else◌, not, ◌&&◌, List, [], ◌∷◌, ◌++◌, map, find, length, slice_get, Option, None, Some, true≢false, zero, suc, refl, sym, ap, subst, ◌∙◌, arith}
-use Rattle.std.proofs.lemmas.Bool.{and_parts, and_from}
-use Rattle.std.proofs.lemmas.Option.{same_Some, none-some}
+use Rattle.std.proofs.Common.{◌≡◌, ℕ, ◌<◌, ◌⊎◌, inl, inr, Bool, true, false, if◌then◌else◌, List, [], ◌∷◌, ◌++◌, map, find, slice_get, Option, None, Some, true≢false, zero, suc, refl, sym, ap, subst, ◌∙◌}
+use Rattle.std.proofs.lemmas.Bool.{and_parts}
 use Rattle.std.specs.List.{list_all, AllByRecursion, filter_map, cons_option}
-use Rattle.nqs_types.specs.State.{State, Plain}
+use Rattle.nqs_types.specs.State.{Plain}
 use Rattle.nqs_types.specs.Table.{without_first}
 use Rattle.nqs_types.specs.Keys.{is_hand}
 use Rattle.nqs_types.specs.declared.ids.HostId.{HostId}
@@ -13,40 +12,37 @@ use Rattle.nqs_types.specs.declared.request.Carried.{Carried}
 use Rattle.nqs_types.specs.declared.request.Phase.{Phase}
 use Rattle.nqs_types.specs.declared.request.Phase.TheVariants.{Offered, Committed}
 use Rattle.nqs_types.specs.declared.change.Change.{Change}
-use Rattle.nqs_types.specs.declared.change.Change.TheVariants.{Site, Submitted, Deleted, Doomed, Started, Ended, Unlaunched, Boot, Edited, HandOpened, HandCommitted, HandRefused, HandsSilent, HandDone, Promised, Accepted, Dropped, MovedLocal, RefusedLocal, HeldFar, StageGot, StageGone, FileGone}
+use Rattle.nqs_types.specs.declared.change.Change.TheVariants.{Edited, HandsSilent, Promised, Accepted, Dropped}
 use Rattle.nqs_types.specs.declared.message.Message.{Message}
-use Rattle.nqs_types.specs.declared.message.Body.{Body}
 use Rattle.nqs_types.specs.declared.message.Body.TheVariants as body
-use Rattle.nqs_types.specs.declared.event.Event.{Event}
 use Rattle.nqs_types.specs.declared.event.Event.TheVariants as event
 use Rattle.nqs_types.specs.declared.event.Output.{Output}
 use Rattle.nqs_types.specs.declared.event.Output.TheVariants as out
 use Rattle.nqs_rules.specs.Tests.{is_offered, is_running, same_host}
 use Rattle.nqs_rules.specs.Find.{find_row, find_hand}
 use Rattle.nqs_rules.specs.Edits.{change_at}
-use Rattle.nqs_rules.specs.Routing.{is_hand_to}
 use Rattle.nqs_rules.specs.Handover.{carried_of}
 use Rattle.nqs_rules.specs.Applied.{applied, hand_silent, hands_silent, may_start_again}
-use Rattle.nqs_rules.specs.Fits.{fits, is_offered_hand}
+use Rattle.nqs_rules.specs.Fits.{fits}
 use Rattle.nqs_rules.specs.Starts.{after_change}
 use Rattle.nqs_rules.specs.Step.{step}
-use Rattle.nqs_rules.specs.Stepped.{Stepped, Pending, shown}
-use Rattle.nqs_rules.specs.World.{World, sent_by, boot_output, new_world}
+use Rattle.nqs_rules.specs.Stepped.{Pending, shown}
+use Rattle.nqs_rules.specs.World.{sent_by, boot_output}
 use Rattle.nqs_rules.specs.InOrder.{IsInOrder, IsConsistent}
 use Rattle.nqs_rules.proofs.ListFacts.{list_all-weaker}
 use Rattle.nqs_rules.proofs.HandoversOrder.{not_committed, offer_or_none, still_offered, silent_one}
 use Rattle.nqs_rules.proofs.ConsistentOrder.{silent_calm_one}
-use Rattle.nqs_laws.proofs.Frame.{Moment, moment, put_state, put-same, WasSent, Comes, Way, Taken, Begun, Booted, change_by, outputs_by, sent_in}
-use Rattle.nqs_laws.proofs.Sound.{IsHost, IsSound, Keeps, Suits, get-here, new_hosts}
+use Rattle.nqs_laws.proofs.Frame.{Moment, put_state, put-same, WasSent, Comes, Way, Taken, Begun, Booted, change_by, outputs_by, sent_in}
+use Rattle.nqs_laws.proofs.Sound.{IsHost, IsSound, Keeps, Suits, get-here}
 use Rattle.nqs_laws.proofs.RowTests.{PlainRow}
 use Rattle.nqs_laws.proofs.Sent.{begins}
-use Rattle.nqs_laws.proofs.Pair.{Offer, Open, Holds, Move, Stays, Withdraws, May, MayWithdraw}
-use Rattle.nqs_laws.proofs.Views.{phase_seen, offer_seen, offered, pair_of, next_of, IsLone, host_exact, hand_to_peer, hand_number, routing_of}
+use Rattle.nqs_laws.proofs.Pair.{Open, Move, Stays, Withdraws, May, MayWithdraw}
+use Rattle.nqs_laws.proofs.Views.{phase_seen, offer_seen, offered, pair_of, next_of, host_exact, hand_to_peer, routing_of}
 use Rattle.nqs_laws.proofs.Turns.{to_move, from_move, sources, silent_source}
 use Rattle.nqs_laws.proofs.Targets.{targets, silent_target, fewer, lone_kept}
 use Rattle.nqs_laws.proofs.Paired.{At, HoldsFor, IsTrueWord, IsPaired, Turn, Guards, IsOne, turn_paired, more_words}
 use Rattle.nqs_laws.proofs.Guarded.{way_guards}
-use Rattle.nqs_laws.proofs.Spoken.{Local, local_true, LocalOut, Spoken, step_spoken, begun_spoken}
+use Rattle.nqs_laws.proofs.Spoken.{Local, local_true, LocalOut, step_spoken, begun_spoken}
 
 -- one part of a change moves: the source's or the receiver's
 abbrev pub OneSide : Change (List ℕ) → Plain → Type 0
@@ -112,22 +108,25 @@ module _ (site : List (List ℕ)) (m : Moment) (sound : IsSound site m) (k : IsP
   host : IsHost site h.0 s
   host = sound.hosts h.0 s there
 
-  -- a change
-  pub change_paired : (way : Way m.packets h s) (c : Change (List ℕ)) → change_by way ≡ Some c → Suits s c → IsPaired (put_state h (applied c s) m.states) m.packets
-  change_paired way c is suits = of (silent_or_one c)
+  -- a change keeps what holds of pairs, and of messages
+  pub change_words : (others : List Message) → IsPaired m.states others → (way : Way m.packets h s) (c : Change (List ℕ)) → change_by way ≡ Some c → Suits s c → IsPaired (put_state h (applied c s) m.states) others
+  change_words others l way c is suits = of (silent_or_one c)
     where
-      of : IsOne c ⊎ ((until : ℕ) × (ks : List PeerNumber) × (c ≡ HandsSilent until ks)) → IsPaired (put_state h (applied c s) m.states) m.packets
+      of : IsOne c ⊎ ((until : ℕ) × (ks : List PeerNumber) × (c ≡ HandsSilent until ks)) → IsPaired (put_state h (applied c s) m.states) others
       of (inl one) =
           let g = sound.hosts h.0 s there in
           let lone = k.lone h s there in
-          turn_paired m.states m.packets h s (applied c s) there (to_move c s) (from_move c)
+          turn_paired m.states others h s (applied c s) there (to_move c s) (from_move c)
           (record { sources = sources s g.order g.calm lone c suits.fit one; targets = targets s g.order c suits.fit one; lone = lone_kept s lone c suits.fit one; side = one_side c s })
-          (way_guards m.states m.packets k h s there g.order way c is suits.fit one) k
+          (way_guards m.states m.packets k h s there g.order way c is suits.fit one) l
       of (inr (until, ks, e)) =
           let g = sound.hosts h.0 s there in
           let fit : fits {F = List ℕ} (HandsSilent until ks) s ≡ true = ap (λ y. fits y s) (sym e) ∙ suits.fit in
-          subst (λ y. IsPaired (put_state h (applied y s) m.states) m.packets) (sym e)
-          (silent_paired until ks m.states m.packets h s there g.order g.calm (list_all-weaker _ (λ l. not_committed (find_hand l.peer l.number s)) (λ l. offer_or_none (find_hand l.peer l.number s)) ks fit) k)
+          subst (λ y. IsPaired (put_state h (applied y s) m.states) others) (sym e)
+          (silent_paired until ks m.states others h s there g.order g.calm (list_all-weaker _ (λ l. not_committed (find_hand l.peer l.number s)) (λ l. offer_or_none (find_hand l.peer l.number s)) ks fit) l)
+
+  pub change_paired : (way : Way m.packets h s) (c : Change (List ℕ)) → change_by way ≡ Some c → Suits s c → IsPaired (put_state h (applied c s) m.states) m.packets
+  change_paired way c is suits = change_words m.packets k way c is suits
 
   abbrev after : Way m.packets h s → Plain
   after way = after_change (change_by way) s

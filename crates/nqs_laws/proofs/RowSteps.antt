@@ -1,27 +1,24 @@
 -- Each change of a row is one step of its request's entry, of a kind that goes with the change.
-use Rattle.std.proofs.Common.{◌≡◌, ℕ, ◌+◌, ◌<◌, ◌≤◌, ◌⊎◌, inl, inr, Bool, true, false, not, ◌&&◌, ◌||◌, ◌==◌, nat_lt, List, [], ◌∷◌, ◌++◌, map, filter, find, Option, None, Some, true≢false, refl, sym, ap, subst, ◌∙◌, arith, if◌then◌else◌}
-use Rattle.std.proofs.lemmas.Bool.{and_parts, or_left, or_right, not-true, not-false, not_from_false, ltb-true, false_from_ne_true}
+use Rattle.std.proofs.Common.{◌≡◌, ℕ, ◌+◌, ◌⊎◌, inl, inr, Bool, true, false, not, ◌&&◌, ◌||◌, nat_lt, List, [], ◌∷◌, find, Option, None, Some, true≢false, refl, sym, ap, subst, ◌∙◌, arith, if◌then◌else◌}
+use Rattle.std.proofs.lemmas.Bool.{and_parts, or_left, or_right, not-true, not-false, ltb-true}
 use Rattle.std.proofs.lemmas.Bool.Decides.{nat_tests}
-use Rattle.std.proofs.lemmas.Option.{same_Some, none-some}
-use Rattle.std.specs.Option.{option_map, option_and_then}
+use Rattle.std.proofs.lemmas.Option.{same_Some}
+use Rattle.std.specs.Option.{option_map}
 use Rattle.std.specs.List.{list_any, list_all}
 use Rattle.nqs_types.specs.Ids.{name_eq, id_eq, id_exact, peer_number_eq, peer_number_exact, hand_key}
-use Rattle.nqs_types.specs.State.{State, Plain}
+use Rattle.nqs_types.specs.State.{Plain}
 use Rattle.nqs_types.specs.Table.{without_first}
 use Rattle.nqs_types.specs.Keys.{is_row, is_hand}
 use Rattle.nqs_types.specs.declared.ids.HostId.{HostId}
 use Rattle.nqs_types.specs.declared.ids.Dest.{Dest}
 use Rattle.nqs_types.specs.declared.ids.PeerNumber.{PeerNumber}
 use Rattle.nqs_types.specs.declared.ids.Named.{Named}
-use Rattle.nqs_types.specs.declared.request.Row.{Row}
 use Rattle.nqs_types.specs.declared.request.RowState.{RowState}
 use Rattle.nqs_types.specs.declared.request.RowState.TheVariants as row_state
 use Rattle.nqs_types.specs.declared.request.Hold.{Hold as Holding}
 use Rattle.nqs_types.specs.declared.request.Hold.TheVariants.{No, User, System}
 use Rattle.nqs_types.specs.declared.request.Hand.{Hand}
-use Rattle.nqs_types.specs.declared.edit.ConfEdit.{ConfEdit}
 use Rattle.nqs_types.specs.declared.edit.ConfEdit.TheVariants.{PurgeQueue}
-use Rattle.nqs_types.specs.declared.edit.RowsEdit.{RowsEdit}
 use Rattle.nqs_types.specs.declared.edit.RowsEdit.TheVariants.{AbortQueue, HoldRequest, ReleaseRequest, MoveRequest, ModifyRequest}
 use Rattle.nqs_types.specs.declared.edit.Edit.{Edit}
 use Rattle.nqs_types.specs.declared.edit.Edit.TheVariants.{Conf, Limits as LimitsOf, Access as AccessOf, Devices as DevicesOf, Rows as RowsOf}
@@ -29,32 +26,31 @@ use Rattle.nqs_types.specs.declared.change.Change.{Change}
 use Rattle.nqs_types.specs.declared.change.Change.TheVariants.{Site, Submitted, Deleted, Doomed, Started, Ended, Unlaunched, Boot, Edited, HandOpened, HandCommitted, HandRefused, HandsSilent, HandDone, Promised, Accepted, Dropped, MovedLocal, RefusedLocal, HeldFar, StageGot, StageGone, FileGone}
 use Rattle.nqs_types.specs.declared.table_row.NetState.{NetState}
 use Rattle.nqs_types.specs.declared.table_row.NetState.TheVariants as net
-use Rattle.nqs_rules.specs.Tests.{passes, is_ready, is_queued, is_routing, is_running, is_unheld, is_offered}
+use Rattle.nqs_rules.specs.Tests.{passes, is_ready, is_queued, is_routing, is_running, is_unheld}
 use Rattle.nqs_rules.specs.Find.{peer_number, has_queue, find_row, find_hand, find_peer, meant_request}
 use Rattle.nqs_rules.specs.Causes.{Cause}
-use Rattle.nqs_rules.specs.Conf.{is_queued_in, row_in}
-use Rattle.nqs_rules.specs.Rows.{hold_causes, release_causes, move_causes, idle_causes, doomed_in, held_row, released_row, moved_row, with_priority, arrivals_used}
+use Rattle.nqs_rules.specs.Conf.{row_in}
+use Rattle.nqs_rules.specs.Rows.{hold_causes, release_causes, move_causes, held_row, released_row, moved_row, with_priority, arrivals_used}
 use Rattle.nqs_rules.specs.Routing.{is_hand_to, held_where, all_refused, with_refusal, refusal_noted, dests_for}
 use Rattle.nqs_rules.specs.Applied.{next_id, may_start_again, lost_row, booted_row, doomed_row, started_row, routing_row, requeued_row, moved_local, local_refused, held_far, hand_silent}
 use Rattle.nqs_rules.specs.Fits.{fits, edit_fits, row_passes, runs, is_idle, may_hop, is_next, device_fits, hand_passes, is_offered_hand}
 use Rattle.nqs_rules.specs.InOrder.{IsInOrder, IsConsistent, is_hold_right}
 use Rattle.nqs_rules.specs.Text.{seen_state}
-use Rattle.nqs_rules.specs.Net.{Entry, entry_in, row_entry}
-use Rattle.nqs_rules.specs.Licence.{Kind, Submit, Delete, Doom, Hold, Release, Move, Open, Back, Route, Arrive, Start, End, Again, Gone, in_state, IsIdle, IsWaiting, MayStartAgain, Steps}
+use Rattle.nqs_rules.specs.Net.{row_entry}
+use Rattle.nqs_rules.specs.Licence.{Kind, Submit, Delete, Doom, Hold, Release, Move, Open, Back, Route, Arrive, Start, End, Again, Gone, IsIdle, IsWaiting, MayStartAgain, Steps}
 use Rattle.nqs_rules.proofs.Chains.{each}
 use Rattle.nqs_rules.proofs.ConfOrder.{Allows, none_holds}
-use Rattle.nqs_rules.proofs.ListFacts.{found_passes, list_all-found, list_all-weaker}
+use Rattle.nqs_rules.proofs.ListFacts.{list_all-found, list_all-weaker}
 use Rattle.nqs_rules.proofs.RowChanges.{queued_is, routing_is, running_is, idle_is, ready_queued}
-use Rattle.nqs_rules.proofs.RowKinds.{found_row}
 use Rattle.nqs_rules.proofs.EditOrder.{may_move}
 use Rattle.nqs_rules.proofs.StateFacts.{keys_are}
-use Rattle.nqs_rules.proofs.RowFacts.{same_id, same_peer_number}
+use Rattle.nqs_rules.proofs.RowFacts.{same_peer_number}
 use Rattle.nqs_rules.proofs.HandoversOrder.{not_committed, offer_or_none, still_offered, silent_one}
 use Rattle.nqs_rules.proofs.ConsistentOrder.{silent_calm_one}
 use Rattle.nqs_laws.specs.Licensed.{IsHanded, IsPromised, LicensesEdit}
 use Rattle.nqs_laws.proofs.RowTests.{PlainRow}
-use Rattle.nqs_laws.proofs.Found.{only, find-without}
-use Rattle.nqs_laws.proofs.After.{Request, without_at, changed_at, meant_after, conf_after, rows_after, edit_after, back_row, refused_after, silent_after, silents_after, after, silent_found}
+use Rattle.nqs_laws.proofs.Found.{find-without}
+use Rattle.nqs_laws.proofs.After.{Request, without_at, changed_at, meant_after, edit_after, back_row, refused_after, silent_after, silents_after, after, silent_found}
 use Rattle.nqs_laws.proofs.Spares.{IsNamed, named}
 use Rattle.nqs_laws.proofs.Views.{routing_of}
 use Rattle.nqs_laws.proofs.Advance.{IsInHost}

@@ -27,7 +27,7 @@ use Rattle.nqs_rules.specs.Start.{start}
 use Rattle.nqs_rules.specs.Starts.{after_change}
 use Rattle.nqs_rules.specs.Step.{step}
 use Rattle.nqs_rules.specs.Stepped.{shown}
-use Rattle.nqs_rules.specs.World.{Act, new_world, hosts_from, boot_output}
+use Rattle.nqs_rules.specs.World.{World, Act, new_world, hosts_from, boot_output}
 use Rattle.nqs_rules.specs.Run.{run}
 use Rattle.nqs_rules.specs.Handover.{carried_of}
 use Rattle.nqs_rules.proofs.ListFacts.{list_all-weaker}
@@ -39,7 +39,7 @@ use Rattle.nqs_rules.proofs.MessagesFit.{step_fits}
 use Rattle.nqs_rules.proofs.StartIs.{StartsRow, start_is}
 use Rattle.nqs_rules.proofs.Until.{steady}
 use Rattle.nqs_rules.proofs.Formatted.{formatted_order}
-use Rattle.nqs_laws.specs.History.{Saw, history}
+use Rattle.nqs_laws.specs.History.{Note, Saw, history}
 use Rattle.nqs_laws.specs.Words.{body_passes}
 use Rattle.nqs_laws.specs.Sane.{AreSane}
 use Rattle.nqs_laws.proofs.Frame.{Moment, moment, put_state, Comes, Way, Taken, Begun, Booted, change_by, why_by, outputs_by, sent_in, IsIdle, noted, silent, whole, Frames, run_kept}
@@ -254,3 +254,7 @@ module _ (site : List (List ℕ)) (P : Moment → Type 0) (f : Keeps site P) whe
   -- what each step keeps holds of every run of a new network
   pub runs_keep : length site ≤ 16 → P (moment (new_world site) []) → (acts : List Act) → AreSane acts → P (moment (run acts (new_world site)).world (history acts (new_world site)))
   runs_keep few new acts sane = (run_kept (Both (IsSound site) P) keeps_frames acts (new_world site) [] sane (record { first = new_sound site few; second = new })).second
+
+  -- and of what comes behind any moment
+  pub goes_on : (w : World) (ns : List Note) → IsSound site (moment w ns) → P (moment w ns) → (more : List Act) → AreSane more → P (moment (run more w).world (ns ++ history more w))
+  goes_on w ns sound k more sane = (run_kept (Both (IsSound site) P) keeps_frames more w ns sane (record { first = sound; second = k })).second

@@ -1,46 +1,40 @@
 -- A change makes no row appear but a submitted or an accepted one, and spares a row that is on its way.
-use Rattle.std.proofs.Common.{◌≡◌, ℕ, ◌+◌, ◌⊎◌, inl, inr, Bool, true, false, not, ◌&&◌, ◌||◌, nat_lt, List, [], ◌∷◌, ◌++◌, map, filter, find, Option, None, Some, true≢false, refl, sym, ap, subst, ◌∙◌, if◌then◌else◌}
-use Rattle.std.proofs.lemmas.Bool.{and_parts, not-true, not_from_false, false_from_ne_true}
-use Rattle.std.proofs.lemmas.Option.{same_Some, none-some}
-use Rattle.std.specs.List.{list_any, list_all}
-use Rattle.std.specs.Option.{option_map, option_and_then}
+use Rattle.std.proofs.Common.{◌≡◌, ℕ, ◌+◌, ◌⊎◌, inl, inr, Bool, true, false, not, ◌&&◌, ◌||◌, nat_lt, List, [], ◌∷◌, Option, None, Some, true≢false, refl, sym, ap, ◌∙◌, if◌then◌else◌}
+use Rattle.std.proofs.lemmas.Bool.{and_parts, false_from_ne_true}
+use Rattle.std.proofs.lemmas.Option.{same_Some}
+use Rattle.std.specs.List.{list_any}
+use Rattle.std.specs.Option.{option_map}
 use Rattle.nqs_types.specs.Ids.{name_eq, id_eq, id_exact}
-use Rattle.nqs_types.specs.State.{State, Plain}
+use Rattle.nqs_types.specs.State.{Plain}
 use Rattle.nqs_types.specs.Keys.{is_row}
-use Rattle.nqs_types.specs.declared.ids.HostId.{HostId}
 use Rattle.nqs_types.specs.declared.ids.PeerNumber.{PeerNumber}
 use Rattle.nqs_types.specs.declared.ids.Named.{Named}
-use Rattle.nqs_types.specs.declared.request.Row.{Row}
 use Rattle.nqs_types.specs.declared.request.RowState.{RowState}
 use Rattle.nqs_types.specs.declared.request.RowState.TheVariants.{Queued, Routing, Running}
 use Rattle.nqs_types.specs.declared.request.Hand.{Hand}
 use Rattle.nqs_types.specs.declared.request.Promise.{Promise}
-use Rattle.nqs_types.specs.declared.edit.ConfEdit.{ConfEdit}
 use Rattle.nqs_types.specs.declared.edit.ConfEdit.TheVariants.{PurgeQueue}
-use Rattle.nqs_types.specs.declared.edit.RowsEdit.{RowsEdit}
 use Rattle.nqs_types.specs.declared.edit.RowsEdit.TheVariants.{AbortQueue, HoldRequest, ReleaseRequest, MoveRequest, ModifyRequest}
 use Rattle.nqs_types.specs.declared.edit.Edit.{Edit}
 use Rattle.nqs_types.specs.declared.edit.Edit.TheVariants.{Conf, Limits as LimitsOf, Access as AccessOf, Devices as DevicesOf, Rows as RowsOf}
 use Rattle.nqs_types.specs.declared.change.Change.{Change}
 use Rattle.nqs_types.specs.declared.change.Change.TheVariants.{Site, Submitted, Deleted, Doomed, Started, Ended, Unlaunched, Boot, Edited, HandOpened, HandCommitted, HandRefused, HandsSilent, HandDone, Promised, Accepted, Dropped, MovedLocal, RefusedLocal, HeldFar, StageGot, StageGone, FileGone}
 use Rattle.nqs_rules.specs.Tests.{passes, is_ready, is_routing, is_running, is_queued, is_unheld}
-use Rattle.nqs_rules.specs.Find.{peer_number, has_queue, find_row, find_hand, find_promise, find_peer, meant_request, meant_row, row_of}
+use Rattle.nqs_rules.specs.Find.{has_queue, find_row, find_hand, find_promise, find_peer, meant_request, meant_row, row_of}
 use Rattle.nqs_rules.specs.Causes.{Cause}
-use Rattle.nqs_rules.specs.Conf.{is_queued_in}
-use Rattle.nqs_rules.specs.Rows.{rows_causes, named_causes, idle_causes, hold_causes, release_causes, move_causes, arrivals_used, doomed_in, held_row, released_row, moved_row, with_priority}
-use Rattle.nqs_rules.specs.Applied.{next_id, may_start_again, lost_row, booted_row, doomed_row, started_row, routing_row, requeued_row, moved_local, local_refused, held_far, hand_silent}
-use Rattle.nqs_rules.specs.Fits.{fits, edit_fits, row_passes, runs, is_idle, may_hop, is_next, device_fits}
+use Rattle.nqs_rules.specs.Rows.{named_causes, idle_causes, hold_causes, release_causes, move_causes, arrivals_used, held_row, released_row, moved_row, with_priority}
+use Rattle.nqs_rules.specs.Applied.{next_id, may_start_again, lost_row, doomed_row, started_row, routing_row, requeued_row, moved_local, local_refused, held_far, hand_silent}
+use Rattle.nqs_rules.specs.Fits.{fits, edit_fits, row_passes, runs, may_hop, is_next, device_fits}
 use Rattle.nqs_rules.specs.Routing.{is_hand_to}
 use Rattle.nqs_rules.specs.InOrder.{IsInOrder, IsConsistent, is_hold_right}
-use Rattle.nqs_rules.proofs.Chains.{each, implied}
+use Rattle.nqs_rules.proofs.Chains.{each}
 use Rattle.nqs_rules.proofs.ConfOrder.{Allows, none_holds}
 use Rattle.nqs_rules.proofs.ListFacts.{list_all-found}
 use Rattle.nqs_rules.proofs.RowChanges.{routing_is, running_is, ready_queued}
 use Rattle.nqs_rules.proofs.RowKinds.{found_row}
 use Rattle.nqs_rules.proofs.EditOrder.{may_move}
 use Rattle.nqs_laws.proofs.RowTests.{PlainRow}
-use Rattle.nqs_laws.proofs.Found.{only, first_of_two}
-use Rattle.nqs_laws.proofs.After.{Request, without_at, changed_at, meant_after, conf_after, rows_after, edit_after, committed_after, back_row, refused_after, silent_after, silents_after, accepted_after, submitted_row, after, id_of}
+use Rattle.nqs_laws.proofs.After.{Request, without_at, changed_at, meant_after, edit_after, committed_after, back_row, refused_after, silent_after, silents_after, accepted_after, submitted_row, after}
 
 -- the request that a change brings in
 abbrev pub IsNew : Change (List ℕ) → Plain → Request → Type 0

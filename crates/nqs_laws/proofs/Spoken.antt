@@ -1,28 +1,24 @@
 -- What a host sends is true of its state when it sends it.
-use Rattle.std.proofs.Common.{◌≡◌, ℕ, ◌+◌, ◌<◌, ◌≤◌, ◌⊎◌, inl, inr, Bool, true, false, not, ◌&&◌, ◌||◌, ◌==◌, nat_le, nat_lt, cond, List, [], ◌∷◌, ◌++◌, map, filter, find, length, slice_get, Option, None, Some, Result, Ok, Err, true≢false, zero, suc, refl, sym, ap, subst, ◌∙◌, arith, if◌then◌else◌}
-use Rattle.std.proofs.lemmas.Bool.{and_parts, and_from, eqb-true, eq-eqb, leb-true, ltb-true, not_from_false, false_from_ne_true}
+use Rattle.std.proofs.Common.{◌≡◌, ℕ, ◌+◌, ◌<◌, ◌≤◌, Bool, true, false, not, ◌&&◌, ◌==◌, nat_lt, cond, List, [], ◌∷◌, ◌++◌, map, filter, find, slice_get, Option, None, Some, Result, Ok, Err, true≢false, suc, refl, sym, ap, subst, ◌∙◌, arith, if◌then◌else◌}
+use Rattle.std.proofs.lemmas.Bool.{and_parts, and_from, eq-eqb, leb-true, ltb-true, not_from_false, false_from_ne_true}
 use Rattle.std.proofs.lemmas.Option.{same_Some, none-some}
 use Rattle.std.specs.List.{list_any, list_all, flat_map, AllByRecursion}
-use Rattle.nqs_types.specs.Ids.{id_eq, peer_number_eq}
-use Rattle.nqs_types.specs.State.{State, Plain}
+use Rattle.nqs_types.specs.State.{Plain}
 use Rattle.nqs_types.specs.Table.{best_from, without_first}
-use Rattle.nqs_types.specs.Keys.{is_hand, is_promise, is_stage, is_file}
+use Rattle.nqs_types.specs.Keys.{is_hand, is_stage, is_file}
 use Rattle.nqs_types.specs.declared.ids.HostId.{HostId}
 use Rattle.nqs_types.specs.declared.ids.RequestId.{RequestId}
-use Rattle.nqs_types.specs.declared.ids.Dest.{Dest}
 use Rattle.nqs_types.specs.declared.ids.Named.{Named}
 use Rattle.nqs_types.specs.declared.ids.PeerNumber.{PeerNumber}
 use Rattle.nqs_types.specs.declared.request.Carried.{Carried}
-use Rattle.nqs_types.specs.declared.request.Row.{Row}
 use Rattle.nqs_types.specs.declared.request.Hand.{Hand}
-use Rattle.nqs_types.specs.declared.request.Promise.{Promise}
 use Rattle.nqs_types.specs.declared.request.Peer.{Peer}
 use Rattle.nqs_types.specs.declared.request.Stage.{Stage}
 use Rattle.nqs_types.specs.declared.request.Phase.{Phase}
 use Rattle.nqs_types.specs.declared.request.Phase.TheVariants.{Offered, Committed}
 use Rattle.nqs_types.specs.declared.refusal.Refusal.{Refusal}
 use Rattle.nqs_types.specs.declared.edit.Edit.{Edit}
-use Rattle.nqs_types.specs.declared.edit.Edit.TheVariants.{Conf, Limits as LimitsOf, Access as AccessOf, Devices as DevicesOf, Rows as RowsOf}
+use Rattle.nqs_types.specs.declared.edit.Edit.TheVariants.{Rows as RowsOf}
 use Rattle.nqs_types.specs.declared.edit.RowsEdit.TheVariants.{AbortQueue}
 use Rattle.nqs_types.specs.declared.change.Change.{Change}
 use Rattle.nqs_types.specs.declared.change.Change.TheVariants.{Doomed, Deleted, Edited, Unlaunched, HandOpened, HandCommitted, HandsSilent, Promised, Accepted, Dropped, StageGot, StageGone, FileGone}
@@ -37,8 +33,8 @@ use Rattle.nqs_types.specs.declared.event.Event.TheVariants as event
 use Rattle.nqs_types.specs.declared.event.Reply.TheVariants as reply
 use Rattle.nqs_types.specs.declared.event.Output.{Output}
 use Rattle.nqs_types.specs.declared.event.Output.TheVariants as out
-use Rattle.nqs_rules.specs.Tests.{passes, is_offered, is_running, is_routing, same_host}
-use Rattle.nqs_rules.specs.Causes.{first_refusal, refusal_number}
+use Rattle.nqs_rules.specs.Tests.{passes, is_running, same_host}
+use Rattle.nqs_rules.specs.Causes.{first_refusal}
 use Rattle.nqs_rules.specs.Find.{peer_number, find_row, meant_row, find_hand, has_promise, has_stage, find_peer, host_at}
 use Rattle.nqs_rules.specs.Access.{rank, may_command}
 use Rattle.nqs_rules.specs.Rows.{queue_meant, submit_causes, delete_causes}
@@ -46,9 +42,9 @@ use Rattle.nqs_rules.specs.Routing.{is_hand_to, is_closed}
 use Rattle.nqs_rules.specs.Fits.{fits, edit_causes}
 use Rattle.nqs_rules.specs.Starts.{after_change}
 use Rattle.nqs_rules.specs.Applied.{applied, hand_silent, hands_silent}
-use Rattle.nqs_rules.specs.Stepped.{Stepped, Pending, quiet, says, makes, message, ready, shown}
-use Rattle.nqs_rules.specs.Handover.{closes, was_given, carried_of, offer, send_commit, send_abort, send_ready, send_done, send_refused, send_inquire, opened_with, open_hand, offer_causes, offer_by, on_offer, ready_phase, ready_with, on_ready, refused_phase, refused_with, on_refused, on_commit, done_phase, done_with, on_done, on_abort, is_silent, silent_hands, repeat_offer, repeat_phase, repeat_hand, repeated_hands, inquiries, silence}
-use Rattle.nqs_rules.specs.Stage.{Part, part_to, has_left, kept_parts, files_written, is_stage_to, has_stage_to, stage_sent, stage_due, parts_sent, on_end, is_got, send_staged, on_stage, is_earlier_stage, send_stage, due_of, on_staged, on_written, file_again, stages_from, due_outputs, goes_here, first_number}
+use Rattle.nqs_rules.specs.Stepped.{Stepped, Pending, quiet, says, makes, ready, shown}
+use Rattle.nqs_rules.specs.Handover.{closes, was_given, carried_of, send_abort, send_ready, send_done, send_inquire, opened_with, offer_causes, offer_by, on_offer, ready_phase, ready_with, on_ready, refused_phase, refused_with, on_refused, on_commit, done_phase, done_with, on_done, on_abort, is_silent, silent_hands, repeat_offer, repeat_phase, repeat_hand, repeated_hands, inquiries, silence}
+use Rattle.nqs_rules.specs.Stage.{Part, has_left, kept_parts, files_written, is_stage_to, has_stage_to, stage_sent, parts_sent, on_end, is_got, send_staged, on_stage, is_earlier_stage, send_stage, due_of, on_staged, on_written, file_again, stages_from, due_outputs, goes_here, first_number}
 use Rattle.nqs_rules.specs.Step.{Asker, reply_to, answer_to, unless_refused, submit_to, kill, delete_meant, runs_in_queue, kills_of, stat_causes, ticked, on_allowed, on_message, is_start, ended_by, acknowledged, unlaunched_by, step}
 use Rattle.nqs_rules.specs.Text.{stat_lines}
 use Rattle.nqs_rules.specs.InOrder.{IsInOrder, IsConsistent}
@@ -56,18 +52,16 @@ use Rattle.nqs_rules.specs.Start.{moving_by, local_causes}
 use Rattle.nqs_rules.specs.Fits.{is_offered_hand}
 use Rattle.nqs_rules.proofs.ListFacts.{found_again, list_all-weaker, not_true}
 use Rattle.nqs_rules.proofs.FindKept.{all-mapped}
-use Rattle.nqs_rules.proofs.KeyFacts.{any_found}
 use Rattle.nqs_rules.proofs.HandoversOrder.{not_committed, offer_or_none, still_offered, silent_one}
 use Rattle.nqs_rules.proofs.ConsistentOrder.{silent_calm_one}
-use Rattle.nqs_laws.proofs.Frame.{sent_in}
 use Rattle.nqs_laws.proofs.RowTests.{PlainRow}
 use Rattle.nqs_laws.proofs.Makes.{HasHand}
 use Rattle.nqs_laws.proofs.Sent.{Begins, Launches, Prints, Holds as HoldsFar, Moves, Opens}
-use Rattle.nqs_laws.proofs.Pair.{Offer, NoOffer, Open, Given, Pledge, NoPledge, Pledged, Pair, Word, OfferOf, ReadyFor, CommitOf, DoneOf, IsNoOffer, Ok as IsPairOk, Holds, Move, moved, pair, given, closed_by, Stays, Offers, Withdraws, Commits, Pledges, Accepts}
-use Rattle.nqs_laws.proofs.Views.{Pledging, carried_in, phase_seen, offer_seen, offered, pledge_seen, promise_of, pledged, peer_field, next_field, closed_field, next_of, closed_of, pair_of, IsLone, Source, Target, host_exact, host_same, host_turned, routing_of}
+use Rattle.nqs_laws.proofs.Pair.{Offer, NoOffer, Open, Given, Pledge, NoPledge, Pledged, Pair, OfferOf, ReadyFor, CommitOf, DoneOf, IsNoOffer, Ok as IsPairOk, Holds, moved, pair, given, closed_by, Stays, Withdraws, Commits, Pledges, Accepts}
+use Rattle.nqs_laws.proofs.Views.{Pledging, carried_in, phase_seen, offer_seen, offered, pledge_seen, pledged, peer_field, next_field, closed_field, next_of, closed_of, pair_of, IsLone, Source, Target, host_exact, host_same}
 use Rattle.nqs_laws.proofs.Turns.{to_move, from_move, sources, offers_by, silent_source}
-use Rattle.nqs_laws.proofs.Targets.{targets, silent_target, fewer, lone_kept}
-use Rattle.nqs_laws.proofs.Paired.{At, HoldsFor, IsTrueWord, IsPaired, open_offer, given_offer, pledge_at}
+use Rattle.nqs_laws.proofs.Targets.{targets, fewer}
+use Rattle.nqs_laws.proofs.Paired.{At, HoldsFor, IsTrueWord, open_offer, given_offer, pledge_at}
 
 -- what makes a message true, of the state of its sender
 abbrev pub Local : List Plain → HostId → Plain → HostId → Body → Type 0

@@ -1,24 +1,20 @@
 -- Where each request lies: a table that the hosts tell, and what a change makes of it.
-use Rattle.std.proofs.Common.{◌≡◌, ℕ, ◌+◌, ◌-◌, ◌<◌, ◌≤◌, ◌⊎◌, inl, inr, Bool, true, false, not, ◌&&◌, ◌||◌, ◌==◌, nat_le, List, [], ◌∷◌, ◌++◌, map, filter, find, length, slice_get, Option, None, Some, true≢false, zero, suc, refl, sym, ap, subst, ◌∙◌, arith, if◌then◌else◌}
-use Rattle.std.proofs.lemmas.Bool.{and_parts, eqb-true, eq-eqb, leb-true, false_from_ne_true}
-use Rattle.std.proofs.lemmas.Bool.Decides.{nat_tests}
+use Rattle.std.proofs.Common.{◌≡◌, ℕ, ◌<◌, ◌≤◌, inl, inr, Bool, true, false, ◌&&◌, ◌==◌, List, slice_get, Option, None, Some, true≢false, refl, sym, ap, subst, ◌∙◌, arith, if◌then◌else◌}
+use Rattle.std.proofs.lemmas.Bool.{eqb-true, false_from_ne_true}
 use Rattle.std.proofs.lemmas.Option.{same_Some, none-some}
-use Rattle.nqs_types.specs.Ids.{id_eq, id_exact}
-use Rattle.nqs_types.specs.State.{State, Plain}
+use Rattle.nqs_types.specs.Ids.{id_eq}
+use Rattle.nqs_types.specs.State.{Plain}
 use Rattle.nqs_types.specs.declared.ids.HostId.{HostId}
-use Rattle.nqs_types.specs.declared.request.Carried.{Carried}
 use Rattle.nqs_types.specs.declared.message.Message.{Message}
 use Rattle.nqs_rules.specs.Tests.{same_host}
 use Rattle.nqs_rules.specs.Find.{find_row}
-use Rattle.nqs_rules.proofs.RowFacts.{same_id}
 use Rattle.nqs_rules.proofs.PeersOrder.{get-other}
 use Rattle.nqs_laws.proofs.Frame.{put_state}
 use Rattle.nqs_laws.proofs.Sound.{get-here}
 use Rattle.nqs_laws.proofs.RowTests.{PlainRow}
-use Rattle.nqs_laws.proofs.Found.{only}
 use Rattle.nqs_laws.proofs.After.{Request}
-use Rattle.nqs_laws.proofs.Pair.{Offer, NoOffer, Open, Given, Pledge, NoPledge, Pledged, Pair, pair, IsTaken, IsNoPledge, Ok, Move, Stays, Offers, Withdraws, Commits, Finishes, Pledges, Accepts, Drops, moved, May}
-use Rattle.nqs_laws.proofs.Views.{Pledging, carried_in, offered, pledge_seen, promise_of, pledged, next_of, closed_of, pair_of, IsSource, IsTarget, Source, Target, host_exact, host_same, host_other, host_cases}
+use Rattle.nqs_laws.proofs.Pair.{Offer, NoOffer, Open, Given, NoPledge, Pledged, pair, Ok, Move, Stays, Offers, Withdraws, Commits, Finishes, Pledges, Accepts, Drops, moved, May}
+use Rattle.nqs_laws.proofs.Views.{Pledging, carried_in, offered, pledge_seen, promise_of, next_of, closed_of, IsSource, IsTarget, host_exact, host_same, host_other}
 use Rattle.nqs_laws.proofs.Paired.{At, IsPaired, Turn, Guards, Was, was, PairTurn, pair_turn}
 
 -- where a request is: as a row of a host, or as a promise of a host to another that has committed it

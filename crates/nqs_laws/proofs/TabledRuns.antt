@@ -1,54 +1,50 @@
 -- At every moment of a run the hosts tell one table.
-use Rattle.std.proofs.Common.{◌≡◌, ℕ, ◌+◌, ◌<◌, ◌≤◌, ◌⊎◌, inl, inr, Bool, true, false, not, ◌&&◌, ◌||◌, ◌==◌, List, [], ◌∷◌, ◌++◌, map, find, length, slice_get, Option, None, Some, true≢false, zero, suc, refl, sym, ap, subst, ◌∙◌, arith, if◌then◌else◌}
+use Rattle.std.proofs.Common.{◌≡◌, ℕ, ◌+◌, ◌<◌, ◌⊎◌, inl, inr, Bool, true, false, not, List, [], ◌∷◌, map, length, slice_get, Option, None, Some, true≢false, zero, suc, refl, sym, ap, subst, ◌∙◌, arith, if◌then◌else◌}
 use Rattle.std.proofs.lemmas.Bool.{and_parts, eqb-true, not-true}
 use Rattle.std.proofs.lemmas.Option.{same_Some, none-some}
-use Rattle.std.specs.List.{list_all}
 use Rattle.nqs_types.specs.Ids.{id_eq, id_exact}
-use Rattle.nqs_types.specs.State.{State, Plain}
+use Rattle.nqs_types.specs.State.{Plain}
 use Rattle.nqs_types.specs.Keys.{is_hand}
 use Rattle.nqs_types.specs.declared.ids.HostId.{HostId}
-use Rattle.nqs_types.specs.declared.ids.PeerNumber.{PeerNumber}
 use Rattle.nqs_types.specs.declared.request.Hand.{Hand}
 use Rattle.nqs_types.specs.declared.request.Peer.{Peer}
 use Rattle.nqs_types.specs.declared.request.Phase.{Phase}
 use Rattle.nqs_types.specs.declared.request.Phase.TheVariants.{Offered, Committed}
 use Rattle.nqs_types.specs.declared.change.Change.{Change}
 use Rattle.nqs_types.specs.declared.change.Change.TheVariants.{Submitted, HandCommitted, HandsSilent, Accepted}
-use Rattle.nqs_types.specs.declared.message.Message.{Message}
-use Rattle.nqs_rules.specs.Tests.{passes, is_offered, is_routing, is_unheld, same_host}
-use Rattle.nqs_rules.specs.Find.{peer_number, find_row, find_hand, find_promise, find_peer, host_at}
+use Rattle.nqs_rules.specs.Tests.{is_offered, is_routing, is_unheld, same_host}
+use Rattle.nqs_rules.specs.Find.{peer_number, find_row, find_hand, find_promise, host_at}
 use Rattle.nqs_rules.specs.Format.{formatted, new_peer}
 use Rattle.nqs_rules.specs.Handover.{carried_of}
 use Rattle.nqs_rules.specs.Applied.{applied, requeued_row}
-use Rattle.nqs_rules.specs.Fits.{fits, is_offered_hand}
+use Rattle.nqs_rules.specs.Fits.{is_offered_hand}
 use Rattle.nqs_rules.specs.Starts.{after_change}
 use Rattle.nqs_rules.specs.InOrder.{IsInOrder, IsConsistent, is_hand_right, is_hand_given, is_promise_free}
-use Rattle.nqs_rules.specs.World.{World, Act, new_world, hosts_from}
+use Rattle.nqs_rules.specs.World.{Act, new_world, hosts_from}
 use Rattle.nqs_rules.specs.Run.{run}
 use Rattle.nqs_rules.proofs.KeyFacts.{place_below}
 use Rattle.nqs_rules.proofs.ListFacts.{list_all-found, list_all-weaker}
 use Rattle.nqs_rules.proofs.StateFacts.{sites_are}
 use Rattle.nqs_rules.proofs.RowsOrder.{hand_is}
 use Rattle.nqs_rules.proofs.HandoversOrder.{not_committed, offer_or_none}
-use Rattle.nqs_rules.proofs.ChangesOrder.{applied_order}
 use Rattle.nqs_laws.specs.History.{history}
 use Rattle.nqs_laws.specs.Sane.{AreSane, IsSite}
 use Rattle.nqs_laws.proofs.Frame.{Moment, moment, put_state, put-same, Way, change_by}
-use Rattle.nqs_laws.proofs.Sides.{head, head_kept}
-use Rattle.nqs_laws.proofs.Sound.{IsHost, IsSound, Keeps, Suits, Both, host_kept, runs_keep}
+use Rattle.nqs_laws.proofs.Sides.{head_kept}
+use Rattle.nqs_laws.proofs.Sound.{IsSound, Keeps, Suits, host_kept, runs_keep}
 use Rattle.nqs_laws.proofs.RowTests.{PlainRow}
 use Rattle.nqs_laws.proofs.After.{Request}
 use Rattle.nqs_laws.proofs.Makes.{HasHand}
-use Rattle.nqs_laws.proofs.Pair.{Ok, Pair}
+use Rattle.nqs_laws.proofs.Pair.{Ok}
 use Rattle.nqs_laws.proofs.Views.{Pledging, carried_in, pair_of, offered, promise_of, next_of, closed_of, peer_field, next_field, closed_field, IsLone, hand_peer}
-use Rattle.nqs_laws.proofs.Turns.{to_move, from_move, offer_at}
+use Rattle.nqs_laws.proofs.Turns.{offer_at}
 use Rattle.nqs_laws.proofs.Targets.{KeptPeer, known_peer, sender_known, promise_at}
 use Rattle.nqs_laws.proofs.Paired.{At, IsPaired, GuardsOf, IsOne}
 use Rattle.nqs_laws.proofs.Guarded.{way_guards}
-use Rattle.nqs_laws.proofs.PairedRuns.{PairedAt, paired_keeps, silent_or_one}
-use Rattle.nqs_laws.proofs.Tabled.{Place, Nowhere, Sits, Arrives, Table, IsTabled, IsPlaced, claim, updated, row_in}
-use Rattle.nqs_laws.proofs.Handed.{row, promise, was_here, committed_table, committed_tabled, pledge, was_arriving, accepted_table, accepted_tabled, put_place, put_other}
-use Rattle.nqs_laws.proofs.Advance.{row_table, IsInHost, host_tabled, silent_tabled, updated_same}
+use Rattle.nqs_laws.proofs.PairedRuns.{paired_keeps}
+use Rattle.nqs_laws.proofs.Tabled.{Place, Nowhere, Sits, Arrives, Table, IsTabled, claim, updated}
+use Rattle.nqs_laws.proofs.Handed.{row, promise, was_here, committed_table, committed_tabled, pledge, was_arriving, accepted_table, accepted_tabled, put_place}
+use Rattle.nqs_laws.proofs.Advance.{row_table, IsInHost, host_tabled, silent_tabled}
 
 -- what a change makes of the place of a request
 abbrev pub StepOf : Change (List ℕ) → HostId → Plain → Request → Place → Place → Type 0

@@ -1,42 +1,37 @@
 -- What each change of a host makes of its promises, and that it has one hand to each host.
-use Rattle.std.proofs.Common.{◌≡◌, ℕ, ◌+◌, ◌-◌, ◌<◌, ◌≤◌, ◌⊎◌, inl, inr, Bool, true, false, cond, not, ◌&&◌, ◌||◌, ◌==◌, List, [], ◌∷◌, ◌++◌, map, filter, find, slice_get, Option, None, Some, true≢false, refl, sym, ap, subst, ◌∙◌, if◌then◌else◌}
-use Rattle.std.proofs.lemmas.Bool.{and_parts, not-true, not_from_false, false_from_ne_true}
-use Rattle.std.proofs.lemmas.Option.{same_Some, none-some}
-use Rattle.std.specs.List.{list_any, list_all}
-use Rattle.nqs_types.specs.State.{State, Plain}
-use Rattle.nqs_types.specs.Table.{change_first, without_first}
-use Rattle.nqs_types.specs.Keys.{is_row, is_hand, is_promise}
+use Rattle.std.proofs.Common.{◌≡◌, ℕ, ◌+◌, ◌-◌, Bool, true, false, not, ◌==◌, List, [], ◌∷◌, ◌++◌, map, filter, find, slice_get, Option, None, Some, true≢false, refl, sym, ap, subst, ◌∙◌, if◌then◌else◌}
+use Rattle.std.proofs.lemmas.Bool.{not-true}
+use Rattle.std.specs.List.{list_any}
+use Rattle.nqs_types.specs.State.{Plain}
+use Rattle.nqs_types.specs.Table.{without_first}
+use Rattle.nqs_types.specs.Keys.{is_hand, is_promise}
 use Rattle.nqs_types.specs.declared.ids.HostId.{HostId}
 use Rattle.nqs_types.specs.declared.ids.PeerNumber.{PeerNumber}
-use Rattle.nqs_types.specs.declared.request.Row.{Row}
 use Rattle.nqs_types.specs.declared.request.Carried.{Carried}
 use Rattle.nqs_types.specs.declared.request.Hand.{Hand}
-use Rattle.nqs_types.specs.declared.request.Promise.{Promise}
 use Rattle.nqs_types.specs.declared.request.Peer.{Peer}
-use Rattle.nqs_types.specs.declared.request.Phase.TheVariants.{Offered, Committed}
 use Rattle.nqs_types.specs.declared.change.Change.{Change}
 use Rattle.nqs_types.specs.declared.change.Change.TheVariants.{Site, Submitted, Deleted, Doomed, Started, Ended, Unlaunched, Boot, Edited, HandOpened, HandCommitted, HandRefused, HandsSilent, HandDone, Promised, Accepted, Dropped, MovedLocal, RefusedLocal, HeldFar, StageGot, StageGone, FileGone}
 use Rattle.nqs_rules.specs.Tests.{passes, same_host}
 use Rattle.nqs_rules.specs.Find.{peer_number, has_queue, has_row, find_hand, find_promise, has_promise, find_peer}
 use Rattle.nqs_rules.specs.Rows.{arrivals_used}
 use Rattle.nqs_rules.specs.Routing.{is_hand_to, close}
-use Rattle.nqs_rules.specs.Applied.{applied, is_offered_for, committed, new_row, requeued_row, hand_committed, hand_refused, hand_silent, drop_hand, drop_promise, add_promised, accepted, is_promise_of}
+use Rattle.nqs_rules.specs.Applied.{applied, is_offered_for, committed, new_row, requeued_row, hand_committed, hand_refused, hand_silent, drop_promise, accepted, is_promise_of}
 use Rattle.nqs_rules.specs.Fits.{fits, row_passes, may_hop, is_next, is_open_number, is_site_host, is_unknown, offer_full}
-use Rattle.nqs_rules.specs.InOrder.{IsInOrder, IsConsistent, is_promise_open, is_promise_right}
+use Rattle.nqs_rules.specs.InOrder.{IsInOrder, is_promise_open, is_promise_right}
 use Rattle.nqs_rules.proofs.Chains.{each}
 use Rattle.nqs_rules.proofs.ListFacts.{found_passes, list_all-found, map-changed}
 use Rattle.std.proofs.lemmas.List.{map-append}
-use Rattle.nqs_rules.specs.Edits.{change_at, change_peer}
+use Rattle.nqs_rules.specs.Edits.{change_at}
 use Rattle.nqs_rules.specs.InOrder.{are_distinct}
 use Rattle.nqs_rules.proofs.ListMaps.{list_any-map}
-use Rattle.nqs_rules.proofs.KeyFacts.{found_any, none_found, distinct-added}
+use Rattle.nqs_rules.proofs.KeyFacts.{found_any, distinct-added}
 use Rattle.nqs_rules.proofs.Sublists.{part_distinct, map_part, without_part, filter_part}
 use Rattle.nqs_rules.proofs.RowFacts.{promise_is}
-use Rattle.nqs_laws.proofs.RowTests.{PlainRow}
 use Rattle.nqs_laws.proofs.Found.{only, first_of_two, find-added, find-without, find-filtered}
-use Rattle.nqs_laws.proofs.Pair.{Offer, NoOffer, Pledge, NoPledge, Pledged, Move, Stays, Offers, Pledges, Accepts, Drops, moved, pair, closed_by}
-use Rattle.nqs_laws.proofs.Views.{Pledging, carried_in, pledge_seen, promise_of, pledged, peer_field, closed_field, closed_of, next_of, IsLone, IsTarget, Target, host_exact, host_same, host_turned, promise_peer, promise_number, promise_to_peer, field_kept, field_other, field_here}
-use Rattle.nqs_laws.proofs.Turns.{IsQuiet, ties, Ties, quiet_ties, from_move, stays_target}
+use Rattle.nqs_laws.proofs.Pair.{NoOffer, Pledge, NoPledge, Move, Stays, Pledges, Accepts, Drops, moved, pair, closed_by}
+use Rattle.nqs_laws.proofs.Views.{Pledging, pledge_seen, promise_of, pledged, peer_field, closed_field, closed_of, IsLone, IsTarget, Target, host_exact, host_same, host_turned, promise_peer, promise_number, promise_to_peer, field_kept, field_other, field_here}
+use Rattle.nqs_laws.proofs.Turns.{IsQuiet, Ties, quiet_ties, from_move, stays_target}
 
 abbrev pub KeptPeer : Plain → HostId → Type 0
 KeptPeer s peer = (p : Peer) × (find_peer peer s ≡ Some p)

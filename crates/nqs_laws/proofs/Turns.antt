@@ -1,19 +1,15 @@
 -- What each change of a host makes of its part of the pairs.
-use Rattle.std.proofs.Common.{◌≡◌, ℕ, ◌+◌, ◌-◌, ◌<◌, ◌≤◌, ◌⊎◌, inl, inr, Bool, true, false, cond, not, ◌&&◌, ◌||◌, ◌==◌, nat_lt, List, [], ◌∷◌, ◌++◌, map, filter, find, slice_get, Option, None, Some, true≢false, zero, suc, refl, sym, ap, subst, ◌∙◌, if◌then◌else◌}
-use Rattle.std.proofs.lemmas.Bool.{and_parts, and_from, eqb-true, not-true, false_from_ne_true}
+use Rattle.std.proofs.Common.{◌≡◌, ℕ, ◌+◌, ◌-◌, Bool, true, false, cond, not, ◌&&◌, ◌==◌, nat_lt, List, [], ◌∷◌, ◌++◌, filter, find, Option, None, Some, true≢false, refl, sym, ap, subst, ◌∙◌, if◌then◌else◌}
+use Rattle.std.proofs.lemmas.Bool.{and_parts, eqb-true, not-true, false_from_ne_true}
 use Rattle.std.proofs.lemmas.Option.{same_Some, none-some}
-use Rattle.std.specs.List.{list_any, list_all}
+use Rattle.std.specs.List.{list_any}
 use Rattle.nqs_types.specs.Ids.{id_eq, id_exact}
-use Rattle.nqs_types.specs.State.{State, Plain}
-use Rattle.nqs_types.specs.Table.{change_first, without_first}
-use Rattle.nqs_types.specs.Keys.{is_row, is_hand, is_promise}
+use Rattle.nqs_types.specs.State.{Plain}
+use Rattle.nqs_types.specs.Table.{without_first}
+use Rattle.nqs_types.specs.Keys.{is_hand}
 use Rattle.nqs_types.specs.declared.ids.HostId.{HostId}
 use Rattle.nqs_types.specs.declared.ids.PeerNumber.{PeerNumber}
-use Rattle.nqs_types.specs.declared.ids.RequestId.{RequestId}
-use Rattle.nqs_types.specs.declared.request.Row.{Row}
-use Rattle.nqs_types.specs.declared.request.Carried.{Carried}
 use Rattle.nqs_types.specs.declared.request.Hand.{Hand}
-use Rattle.nqs_types.specs.declared.request.Promise.{Promise}
 use Rattle.nqs_types.specs.declared.request.Peer.{Peer}
 use Rattle.nqs_types.specs.declared.request.Phase.{Phase}
 use Rattle.nqs_types.specs.declared.request.Phase.TheVariants.{Offered, Committed}
@@ -25,39 +21,38 @@ use Rattle.nqs_types.specs.declared.edit.AccessEdit.{AccessEdit}
 use Rattle.nqs_types.specs.declared.edit.AccessEdit.TheVariants.{AddManager}
 use Rattle.nqs_types.specs.declared.edit.DevicesEdit.{DevicesEdit}
 use Rattle.nqs_types.specs.declared.edit.DevicesEdit.TheVariants.{DeleteDevice}
-use Rattle.nqs_types.specs.declared.edit.RowsEdit.{RowsEdit}
 use Rattle.nqs_types.specs.declared.edit.RowsEdit.TheVariants.{AbortQueue, HoldRequest, ReleaseRequest, MoveRequest, ModifyRequest}
 use Rattle.nqs_types.specs.declared.edit.Edit.{Edit}
 use Rattle.nqs_types.specs.declared.edit.Edit.TheVariants.{Conf, Limits as LimitsOf, Access as AccessOf, Devices as DevicesOf, Rows as RowsOf}
 use Rattle.nqs_types.specs.declared.change.OutPart.{OutPart}
 use Rattle.nqs_types.specs.declared.change.Change.{Change}
 use Rattle.nqs_types.specs.declared.change.Change.TheVariants.{Site, Submitted, Deleted, Doomed, Started, Ended, Unlaunched, Boot, Edited, HandOpened, HandCommitted, HandRefused, HandsSilent, HandDone, Promised, Accepted, Dropped, MovedLocal, RefusedLocal, HeldFar, StageGot, StageGone, FileGone}
-use Rattle.nqs_rules.specs.Tests.{passes, is_ready, is_routing, is_offered, same_host, last_u64}
-use Rattle.nqs_rules.specs.Find.{peer_number, has_queue, has_row, find_row, find_hand, find_promise, has_promise, find_peer, meant_request}
-use Rattle.nqs_rules.specs.Edits.{change_at, change_peer, drop_row}
+use Rattle.nqs_rules.specs.Tests.{passes, is_routing, is_offered, same_host, last_u64}
+use Rattle.nqs_rules.specs.Find.{peer_number, has_row, find_row, find_hand, find_promise, find_peer, meant_request}
+use Rattle.nqs_rules.specs.Edits.{change_peer, drop_row}
 use Rattle.nqs_rules.specs.Conf.{conf_applied}
 use Rattle.nqs_rules.specs.Limits.{limits_applied}
 use Rattle.nqs_rules.specs.Devices.{devices_applied}
-use Rattle.nqs_rules.specs.Rows.{rows_applied, change_meant, next_arrival, held_row, released_row, moved_row, with_priority, arrivals_used}
+use Rattle.nqs_rules.specs.Rows.{change_meant, next_arrival, held_row, released_row, moved_row, with_priority}
 use Rattle.nqs_rules.specs.Routing.{is_hand_to, close}
 use Rattle.nqs_rules.specs.Handover.{carried_of}
-use Rattle.nqs_rules.specs.Applied.{applied, edit_applied, access_applied, is_offered_for, committed, new_row, routing_row, requeued_row, stage_counted, add_file, add_stage_to, add_output, add_outputs, hand_committed, hand_refused, hand_silent, drop_hand, drop_promise, add_promised, accepted, is_promise_of}
-use Rattle.nqs_rules.specs.Fits.{fits, is_offered_hand, is_committed_hand, hand_passes, row_passes, may_hop, is_next, is_open_number, is_site_host, is_unknown, offer_full}
-use Rattle.nqs_rules.specs.InOrder.{IsInOrder, IsConsistent, are_distinct, offered_ids, is_promise_open, is_promise_right}
+use Rattle.nqs_rules.specs.Applied.{applied, edit_applied, access_applied, is_offered_for, committed, routing_row, requeued_row, stage_counted, add_file, add_stage_to, add_output, add_outputs, hand_committed, hand_refused, hand_silent, drop_hand, drop_promise, accepted, is_promise_of}
+use Rattle.nqs_rules.specs.Fits.{fits, is_offered_hand, is_committed_hand, hand_passes, row_passes, may_hop, is_next}
+use Rattle.nqs_rules.specs.InOrder.{IsInOrder, IsConsistent}
 use Rattle.nqs_rules.proofs.Chains.{each}
-use Rattle.nqs_rules.proofs.ListFacts.{found_passes, list_all-found}
-use Rattle.nqs_rules.proofs.KeyFacts.{found_any, none_found, distinct-added, turned}
+use Rattle.nqs_rules.proofs.ListFacts.{found_passes}
+use Rattle.nqs_rules.proofs.KeyFacts.{none_found, turned}
 use Rattle.nqs_rules.proofs.StateFacts.{keys_are}
-use Rattle.nqs_rules.proofs.Sublists.{part_distinct, map_part, without_part, filter_part}
-use Rattle.nqs_rules.proofs.RowFacts.{same_id, promise_is}
+use Rattle.nqs_rules.proofs.Sublists.{part_distinct, map_part, without_part}
+use Rattle.nqs_rules.proofs.RowFacts.{same_id}
 use Rattle.nqs_rules.proofs.RowKinds.{found_row}
 use Rattle.nqs_rules.proofs.OutputsKept.{file_keeps, outputs_keep}
 use Rattle.nqs_laws.proofs.RowTests.{PlainRow}
 use Rattle.nqs_laws.proofs.Found.{only, first_of_two, find-added, find-without, find-changed, find-filtered}
 use Rattle.nqs_laws.proofs.After.{Request, without_at, changed_at, back_row, refused_after, committed_after, after, row_after, silent_found}
-use Rattle.nqs_laws.proofs.Spares.{IsPlain, spares, differs}
-use Rattle.nqs_laws.proofs.Pair.{Offer, NoOffer, Open, Given, Pledge, NoPledge, Pledged, Pair, Move, Stays, Offers, Withdraws, Commits, Finishes, Pledges, Accepts, Drops, moved, pair, given}
-use Rattle.nqs_laws.proofs.Views.{Pledging, carried_in, phase_seen, offer_seen, offered, pledge_seen, promise_of, pledged, peer_field, next_field, closed_field, next_of, closed_of, IsLone, IsSource, IsTarget, Source, Target, host_exact, host_same, host_other, host_turned, found_by_key, hand_peer, hand_number, hand_to_peer, promise_peer, promise_number, promise_to_peer, routing_of, offer_stands, field_kept, field_other, field_here}
+use Rattle.nqs_laws.proofs.Spares.{IsPlain, spares}
+use Rattle.nqs_laws.proofs.Pair.{Offer, NoOffer, Open, Given, NoPledge, Move, Stays, Offers, Withdraws, Commits, Finishes, Pledges, Accepts, Drops, moved, pair, given}
+use Rattle.nqs_laws.proofs.Views.{Pledging, phase_seen, offer_seen, offered, pledge_seen, peer_field, next_field, closed_field, next_of, closed_of, IsLone, IsSource, Source, Target, host_exact, host_same, found_by_key, hand_peer, hand_to_peer, routing_of, field_kept, field_other, field_here}
 
 -- the change touches neither offers nor promises
 abbrev pub IsQuiet : Change (List ℕ) → Type 0

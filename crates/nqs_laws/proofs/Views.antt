@@ -1,15 +1,14 @@
 -- What two hosts have of one another, and what a change of one of them makes of it.
-use Rattle.std.proofs.Common.{◌≡◌, ℕ, ◌+◌, ◌-◌, ◌<◌, ◌≤◌, ◌⊎◌, inl, inr, Bool, true, false, cond, not, ◌&&◌, ◌||◌, ◌==◌, List, [], ◌∷◌, ◌++◌, map, filter, find, slice_get, Option, None, Some, true≢false, zero, suc, refl, sym, ap, subst, ◌∙◌, if◌then◌else◌}
-use Rattle.std.proofs.lemmas.Bool.{and_parts, and_from, eqb-true, eq-eqb, not-true, false_from_ne_true}
+use Rattle.std.proofs.Common.{◌≡◌, ℕ, ◌⊎◌, inl, inr, Bool, true, false, cond, not, ◌||◌, List, [], ◌∷◌, map, find, slice_get, Option, None, Some, true≢false, zero, suc, refl, sym, ap, ◌∙◌}
+use Rattle.std.proofs.lemmas.Bool.{and_parts, eqb-true, eq-eqb, not-true, false_from_ne_true}
 use Rattle.std.proofs.lemmas.Option.{same_Some, none-some}
-use Rattle.std.specs.List.{list_any, list_all}
-use Rattle.nqs_types.specs.Ids.{id_eq, id_exact, peer_number_eq, peer_number_exact, hand_key, promise_key}
-use Rattle.nqs_types.specs.State.{State, Plain}
-use Rattle.nqs_types.specs.Table.{has_key, change_first, without_first}
-use Rattle.nqs_types.specs.Keys.{is_row, is_hand, is_promise}
+use Rattle.std.specs.List.{list_any}
+use Rattle.nqs_types.specs.Ids.{peer_number_exact, hand_key, promise_key}
+use Rattle.nqs_types.specs.State.{Plain}
+use Rattle.nqs_types.specs.Table.{has_key}
+use Rattle.nqs_types.specs.Keys.{is_hand, is_promise}
 use Rattle.nqs_types.specs.declared.ids.HostId.{HostId}
 use Rattle.nqs_types.specs.declared.ids.PeerNumber.{PeerNumber}
-use Rattle.nqs_types.specs.declared.request.Row.{Row}
 use Rattle.nqs_types.specs.declared.request.Carried.{Carried}
 use Rattle.nqs_types.specs.declared.request.Hand.{Hand}
 use Rattle.nqs_types.specs.declared.request.Promise.{Promise}
@@ -17,7 +16,7 @@ use Rattle.nqs_types.specs.declared.request.Peer.{Peer}
 use Rattle.nqs_types.specs.declared.request.Phase.{Phase}
 use Rattle.nqs_types.specs.declared.request.Phase.TheVariants.{Offered, Committed}
 use Rattle.nqs_rules.specs.Tests.{passes, is_routing, is_offered, same_host}
-use Rattle.nqs_rules.specs.Find.{peer_number, find_row, find_hand, find_promise, find_peer}
+use Rattle.nqs_rules.specs.Find.{find_row, find_peer}
 use Rattle.nqs_rules.specs.Edits.{change_at}
 use Rattle.nqs_rules.specs.Routing.{is_hand_to}
 use Rattle.nqs_rules.specs.Handover.{carried_of}

@@ -1,12 +1,9 @@
 -- Walks along a history: of launches, losses and what is taken out.
-use Rattle.std.proofs.Common.{◌≡◌, ℕ, ◌+◌, ◌<◌, ◌≤◌, ◌⊎◌, inl, inr, Bool, true, false, not, ◌&&◌, ◌||◌, ◌==◌, List, [], ◌∷◌, ◌++◌, slice_get, Option, None, Some, true≢false, refl, sym, ap, subst, ◌∙◌, arith}
-use Rattle.std.proofs.lemmas.Bool.{and_parts}
+use Rattle.std.proofs.Common.{◌≡◌, ℕ, ◌+◌, ◌≤◌, ◌⊎◌, inl, inr, Bool, true, false, not, ◌&&◌, ◌||◌, List, [], ◌∷◌, ◌++◌, None, Some, refl, sym, ap, subst, ◌∙◌, arith}
 use Rattle.std.proofs.lemmas.List.Elements.{filter_map-append}
 use Rattle.std.proofs.lemmas.List.Folds.{list_any-append}
-use Rattle.std.specs.List.{list_any}
 use Rattle.nqs_types.specs.State.{Plain}
-use Rattle.nqs_types.specs.Ids.{id_eq, id_exact}
-use Rattle.nqs_rules.specs.Net.{Entry, entry_of}
+use Rattle.nqs_rules.specs.Net.{Entry}
 use Rattle.nqs_rules.specs.Licence.{Kind, Submit, Delete, Doom, Hold, Release, Move, Open, Back, Route, Arrive, Start, End, Again, Gone, Steps, IsWaiting}
 use Rattle.nqs_rules.specs.Applied.{next_id}
 use Rattle.nqs_types.specs.declared.table_row.NetState.{NetState}
@@ -26,8 +23,8 @@ use Rattle.nqs_types.specs.declared.message.Body.{Body}
 use Rattle.nqs_types.specs.declared.message.Body.TheVariants as body
 use Rattle.nqs_laws.specs.History.{Why, ByEvent, ByStart, ByBoot, Note, Saw, Kept}
 use Rattle.nqs_laws.specs.Words.{replayed}
-use Rattle.nqs_laws.specs.Licensed.{LicensesEdit, LicensesMessage, LicensesTick, LicensesCommand, LicensesEnd, LicensesEvent, Licenses}
-use Rattle.nqs_laws.specs.Launches.{Launch, launched, launches, is_again, is_launch_of, states_after, pending_after, AreApart, IsStarted, IsStartedIn, AreStarted, acknowledges, is_acknowledged, lies, was_taken_out}
+use Rattle.nqs_laws.specs.Licensed.{LicensesEdit, LicensesMessage, LicensesCommand, LicensesEvent, Licenses}
+use Rattle.nqs_laws.specs.Launches.{launched, launches, states_after, pending_after, AreApart, AreStarted, acknowledges, is_acknowledged, lies, was_taken_out}
 use Rattle.nqs_laws.proofs.After.{Request}
 
 -- the end of a walk

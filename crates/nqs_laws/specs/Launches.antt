@@ -1,14 +1,12 @@
 -- Launches, losses and ends of requests, as a history has them.
-use Rattle.std.specs.Prelude.{◌≡◌, ℕ, ◌+◌, ◌<◌, Bool, true, false, not, ◌&&◌, ◌||◌, ◌==◌, List, [], ◌∷◌, Option, None, Some, is_some}
+use Rattle.std.specs.Prelude.{◌≡◌, ℕ, ◌+◌, Bool, true, false, not, ◌&&◌, ◌||◌, ◌==◌, List, [], ◌∷◌, Option, None, Some, is_some}
 use Rattle.std.specs.List.{list_any, filter_map}
 use Rattle.nqs_types.specs.Ids.{id_eq}
 use Rattle.nqs_types.specs.State.{Plain}
 use Rattle.nqs_rules.specs.Applied.{applied}
 use Rattle.nqs_rules.specs.Edits.{change_at}
-use Rattle.nqs_rules.specs.InOrder.{are_distinct}
 use Rattle.nqs_rules.specs.Net.{Entry, entry_of}
 use Rattle.nqs_laws.specs.History.{Note, Saw, Kept}
-use Rattle.nqs_types.specs.declared.ids.HostId.{HostId}
 use Rattle.nqs_types.specs.declared.ids.RequestId.{RequestId}
 use Rattle.nqs_types.specs.declared.event.Reply.TheVariants as reply
 use Rattle.nqs_types.specs.declared.table_row.NetState.TheVariants.{Running}

@@ -3,3 +3,5 @@ pub mod Sane
 pub mod Words
 pub mod Licensed
 pub mod Launches
+pub mod Handovers
+pub mod Sending

@@ -1,5 +1,5 @@
 -- Which steps a change of a host may take, and of which requests.
-use Rattle.std.specs.Prelude.{◌≡◌, ◌⊎◌, ℕ, Bool, true, ◌&&◌, List, [], ◌∷◌, Option, None, Some, slice_get}
+use Rattle.std.specs.Prelude.{◌≡◌, ◌⊎◌, ℕ, true, ◌&&◌, List, [], ◌∷◌, Option, None, Some, slice_get}
 use Rattle.std.specs.List.{list_any}
 use Rattle.nqs_types.specs.Ids.{id_eq}
 use Rattle.nqs_types.specs.State.{Plain}
@@ -94,9 +94,14 @@ Licenses (ByEvent e) s x k = LicensesEvent e s x k
 Licenses ByStart s x k = LicensesStart k
 Licenses ByBoot s x k = LicensesBoot k
 
--- an entry stays as it is, or takes one licensed step
+-- a request that lies anywhere lies with this host
+abbrev pub LiesWith : HostId → Option Entry → Type 0
+LiesWith h None = Unit {0}
+LiesWith h (Some e) = e.host ≡ h
+
+-- an entry stays as it is, or lies with the host that makes the change and takes one licensed step
 abbrev pub IsLicensed : Why → Plain → RequestId → Option Entry → Option Entry → Type 0
-IsLicensed why s x a b = (b ≡ a) ⊎ ((k : Kind) × Licenses why s x k × Steps k a b)
+IsLicensed why s x a b = (b ≡ a) ⊎ ((k : Kind) × Licenses why s x k × Steps k a b × LiesWith s.me a)
 
 -- After each kept change no request lies in two places, and the change has taken each request by a licensed step at most.
 abbrev pub AreLicensed : List Plain → List Note → Type 0

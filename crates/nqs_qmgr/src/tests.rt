@@ -85,11 +85,11 @@ fn edit_code(edit: Edit) -> u8 {
     }
 }
 
-fn command_code(command: Command) -> u8 {
+fn command_code(command: &Command) -> u8 {
     match command {
-        Command::Edit(edit) => edit_code(edit),
-        Command::Delete { kill, .. } => { if kill { 47 } else { 0 } }
-        Command::Show(code) => code,
+        Command::Edit(edit) => edit_code(*edit),
+        Command::Delete { kill, .. } => { if *kill { 47 } else { 0 } }
+        Command::Show(code) => *code,
         Command::Shutdown => 53,
         _ => 0,
     }
@@ -98,15 +98,22 @@ fn command_code(command: Command) -> u8 {
 // The number of the line in the table of docs/commands.md; 0 where it is none.
 fn code(line: &[u8]) -> u8 {
     match read_qmgr(line) {
-        Ok(command) => command_code(command),
+        Ok(command) => command_code(&command),
         Err(_) => 0,
+    }
+}
+
+fn edit_of(command: &Command) -> Option<Edit> {
+    match command {
+        Command::Edit(edit) => Some(*edit),
+        _ => None,
     }
 }
 
 fn edit(line: &[u8]) -> Option<Edit> {
     match read_qmgr(line) {
-        Ok(Command::Edit(edit)) => Some(edit),
-        _ => None,
+        Ok(command) => edit_of(&command),
+        Err(_) => None,
     }
 }
 

@@ -50,11 +50,17 @@ fn delete_fault(alloc: Global, text: &[u8]) -> Option<(WordsCause, u32)> {
     }
 }
 
+fn deleted(command: &Command) -> Option<(Named, bool)> {
+    match command {
+        Command::Delete { id, kill } => Some((*id, *kill)),
+        _ => None,
+    }
+}
+
 // The request and whether it is killed.
 fn deletion(answer: Result<Command, WordsFault>) -> Option<(Named, bool)> {
     match answer {
-        Ok(Command::Delete { id, kill }) => Some((id, kill)),
-        Ok(_) => None,
+        Ok(command) => deleted(&command),
         Err(_) => None,
     }
 }

@@ -6,3 +6,6 @@ pub mod Says
 pub mod Schedule
 pub mod Taking
 pub mod Seen
+pub mod Generated
+pub mod Summary
+pub mod Laws

@@ -5,19 +5,25 @@
 #![tactic(auto)]
 
 mod cause;
+mod draw;
 mod event;
+mod laws;
 mod line;
 mod plan;
 mod reader;
 mod seen;
+mod summary;
 mod values;
 mod words;
 
 pub use cause::Cause;
+pub use draw::generate;
+pub use laws::one_reading;
 pub use line::{ReadError, Says};
 pub use plan::{Plan, Verb};
 pub use reader::{LineFault, Schedule, ScheduleFault, read_schedule};
 pub use seen::print_seen;
+pub use summary::{Summary, print_summary, summarize, summary_of};
 pub use words::{LineWord, LineWords, Next};
 
 #[cfg(test)]

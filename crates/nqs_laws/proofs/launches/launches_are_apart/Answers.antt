@@ -1,4 +1,3 @@
-use Rattle.std.proofs.Common.{List, ℕ}
 use Rattle.nqs_laws.proofs.LaunchLaws.{run_launches}
 use Rattle.nqs_laws.proofs.launches.launches_are_apart.Goals as goal
 

@@ -1,0 +1,291 @@
+-- Handovers in every world that a run reaches.
+use Rattle.std.proofs.Common.{◌≡◌, ℕ, ◌+◌, ◌<◌, ◌≤◌, Bool, true, false, ◌||◌, ◌==◌, nat_le, nat_lt, List, [], ◌∷◌, length, slice_get, Option, None, Some, is_some, zero, suc, true≢false, refl, sym, ap, subst, ◌∙◌, arith, if◌then◌else◌}
+use Rattle.std.proofs.lemmas.Bool.{and_parts, or_left, or_right, or_from, eqb-true, eq-eqb, leb-true, leb-false, ltb-true, le-leb, lt-ltb, not-true, false_from_ne_true}
+use Rattle.std.proofs.lemmas.Option.{none-some}
+use Rattle.std.specs.Option.{option_map}
+use Rattle.nqs_types.specs.Ids.{id_eq}
+use Rattle.nqs_types.specs.Keys.{is_row, is_hand, is_promise}
+use Rattle.nqs_types.specs.State.{Plain}
+use Rattle.nqs_types.specs.declared.ids.HostId.{HostId}
+use Rattle.nqs_types.specs.declared.request.Carried.{Carried}
+use Rattle.nqs_types.specs.declared.request.Hand.{Hand}
+use Rattle.nqs_types.specs.declared.request.Peer.{Peer}
+use Rattle.nqs_types.specs.declared.request.Phase.{Phase}
+use Rattle.nqs_types.specs.declared.request.Phase.TheVariants.{Offered, Committed}
+use Rattle.nqs_types.specs.declared.message.Message.{Message}
+use Rattle.nqs_types.specs.declared.message.Body.{Body}
+use Rattle.nqs_types.specs.declared.message.Body.TheVariants as body
+use Rattle.nqs_rules.specs.Tests.{passes, is_offered, is_committed, same_host}
+use Rattle.nqs_rules.specs.Find.{peer_number, has_row, find_row, find_hand, find_promise, has_promise, find_peer}
+use Rattle.nqs_rules.specs.Fits.{is_offered_hand, is_committed_hand}
+use Rattle.nqs_rules.specs.InOrder.{IsInOrder}
+use Rattle.nqs_rules.specs.Handover.{closes, was_given, carried_of, is_given_here}
+use Rattle.nqs_rules.specs.World.{World, Act, new_world}
+use Rattle.nqs_rules.specs.Run.{run, states_of}
+use Rattle.nqs_rules.proofs.KeyFacts.{place_below, found_any, any_found}
+use Rattle.nqs_rules.proofs.RowFacts.{same_id}
+use Rattle.nqs_rules.proofs.ListFacts.{list_all-found}
+use Rattle.nqs_rules.proofs.StateFacts.{sites_are}
+use Rattle.nqs_laws.specs.History.{history}
+use Rattle.nqs_laws.specs.Sane.{AreSane, IsSite}
+use Rattle.nqs_laws.specs.Handovers.{IsStateOf, WasSent as WasSentIn, is_open, is_given, is_closed_for, is_taken_for, AreInStep, IsTrueOf}
+use Rattle.nqs_laws.proofs.Frame.{Moment, moment, WasSent as Sent}
+use Rattle.nqs_laws.proofs.RowTests.{PlainRow}
+use Rattle.nqs_laws.proofs.Sound.{IsSound, run_sound}
+use Rattle.nqs_laws.proofs.Makes.{HasHand}
+use Rattle.nqs_laws.proofs.After.{id_of}
+use Rattle.nqs_laws.proofs.Pair.{Offer, NoOffer, Open, Given, Pledge, NoPledge, Pledged, IsTaken, IsNoPledge, IsNoOffer, IsGiven, IsOf, OfferOk, PledgeOk, Ok}
+use Rattle.nqs_laws.proofs.Views.{Pledging, offered, promise_of, pledged, peer_field, next_field, closed_field, next_of, closed_of, pair_of, host_exact, host_same, hand_peer, promise_to_peer, promise_number}
+use Rattle.nqs_laws.proofs.Paired.{At, HoldsFor, open_row, open_offer, given_offer, committed_hand, pledge_at, no_pledge}
+use Rattle.nqs_laws.proofs.Tabled.{Nowhere, Sits, Arrives, row_in, claim, sits_here, arrives_here}
+use Rattle.nqs_laws.proofs.TabledRuns.{IsNet}
+use Rattle.nqs_laws.proofs.Away.{IsAway, is_away}
+use Rattle.nqs_laws.proofs.LicensedRuns.{IsHistory, run_history}
+
+-- a value at each place of a list
+pub value_at : {V : Type 0} (vs : List V) (n : ℕ) → n < length vs → (v : V) × (slice_get vs n ≡ Some v)
+value_at [] n below = absurd (omega arith)
+value_at (v ∷ vs) zero below = (v, refl)
+value_at (v ∷ vs) (suc n) below = value_at vs n (omega arith)
+
+-- a handover that is found
+hand_is : (phase : Phase) (test : Hand → Bool) → ((y : Hand) → test y ≡ true → y.phase ≡ phase) → (to : HostId) (n : ℕ) (s : Plain) → passes test (find_hand to n s) ≡ true → HasHand phase to n s
+hand_is phase test exact to n s k = of (find_hand to n s) refl k
+  where
+    of : (o : Option Hand) → find_hand to n s ≡ o → passes test o ≡ true → HasHand phase to n s
+    of None e k = absurd (true≢false (sym k))
+    of (Some y) e k = record { hand = y; found = e; is = exact y k }
+
+phase_offered : (p : Phase) → is_offered p ≡ true → p ≡ Offered
+phase_offered Offered k = refl
+phase_offered Committed k = absurd (true≢false (sym k))
+
+phase_committed : (p : Phase) → is_committed p ≡ true → p ≡ Committed
+phase_committed Offered k = absurd (true≢false (sym k))
+phase_committed Committed k = refl
+
+pub open_hand : (to : HostId) (n : ℕ) (s : Plain) → is_open to n s ≡ true → HasHand Offered to n s
+open_hand = hand_is Offered is_offered_hand (λ y k. phase_offered y.phase k)
+
+pub given_hand : (to : HostId) (n : ℕ) (s : Plain) → is_given to n s ≡ true → HasHand Committed to n s
+given_hand = hand_is Committed is_committed_hand (λ y k. phase_committed y.phase k)
+
+module _ (site : List (List ℕ)) (m : Moment) (sound : IsSound site m) (net : IsNet m) where
+  -- hosts know one another
+  peer_is : (a b : HostId) (s t : Plain) → At m.states a s → At m.states b t → (p : Peer) × (find_peer a t ≡ Some p)
+  peer_is a b s t sat tat =
+      let host = sound.hosts b.0 t tat in
+      let below = place_below m.states a.0 s sat in
+      let peers : length t.peers ≡ length t.site = eqb-true (length t.peers) (length t.site) (sites_are t host.order.site).peers in
+      let sites : length t.site ≡ length site = ap length (λ j. (host.head j).1) in
+      value_at t.peers a.0 (let count = sound.count in omega (arith, below, peers, sites, count))
+
+  module _ (a b : HostId) (s t : Plain) (sat : At m.states a s) (tat : At m.states b t) where
+    order_s : IsInOrder s
+    order_s = (sound.hosts a.0 s sat).order
+
+    order_t : IsInOrder t
+    order_t = (sound.hosts b.0 t tat).order
+
+    ok : Ok (pair_of a s b t)
+    ok = net.paired.pairs a b s t sat tat
+
+    -- closed numbers
+
+    pub closed_up : (n : ℕ) → n ≤ closed_of a t → is_closed_for a n t ≡ true
+    closed_up n below =
+        let p = peer_is a b s t sat tat in
+        ap (closes n) p.1 ∙ le-leb n p.0.closed (let e : closed_of a t ≡ p.0.closed = ap (peer_field closed_field 0) p.1 in omega (arith, below, e))
+
+    pub closed_down : (n : ℕ) → is_closed_for a n t ≡ true → n ≤ closed_of a t
+    closed_down n k = of (find_peer a t) k
+      where
+        of : (o : Option Peer) → closes n o ≡ true → n ≤ peer_field closed_field 0 o
+        of None k = absurd (true≢false (sym k))
+        of (Some p) k = leb-true n p.closed k
+
+    still_open : (n : ℕ) → closed_of a t < n → is_closed_for a n t ≡ false
+    still_open n above = false_from_ne_true (is_closed_for a n t) (λ k. (let below = closed_down n k in omega (arith, above, below)))
+
+    pub given_up : (n : ℕ) → n < next_of b s → was_given n (find_peer b s) ≡ true
+    given_up n below =
+        let p = peer_is b a t s tat sat in
+        ap (λ o. was_given n o) p.1 ∙ lt-ltb n p.0.next (let e : next_of b s ≡ p.0.next = ap (peer_field next_field 1) p.1 in omega (arith, below, e))
+
+    pub taken_up : (n : ℕ) → IsTaken (pledged t a) (closed_of a t) n → is_taken_for a n t ≡ true
+    taken_up n taken = by (has_promise a n t) refl
+      where
+        closed_now : (y : Pledge) → IsNoPledge y n → IsTaken y (closed_of a t) n → n ≤ closed_of a t
+        closed_now NoPledge none taken = taken
+        closed_now (Pledged k load) none taken = decide (nat_le n (closed_of a t)) refl
+          where
+            decide : (b : Bool) → nat_le n (closed_of a t) ≡ b → n ≤ closed_of a t
+            decide true e = leb-true n (closed_of a t) e
+            decide false e = absurd (none (taken (leb-false n (closed_of a t) e)))
+
+        by : (b : Bool) → has_promise a n t ≡ b → (b || is_closed_for a n t) ≡ true
+        by true e = refl
+        by false e = closed_up n (closed_now (pledged t a) (no_pledge t a n e) taken)
+
+    pub in_step : AreInStep a b s t
+    in_step = record {
+      offered = λ n k. (let e = open_offer s order_s (net.paired.lone a s sat) b n (open_hand b n s k) in let o = subst (λ o. OfferOk o (next_of b s) (pledged t a) (closed_of a t)) e.1 ok.offer in still_open n o.1);
+      given = λ n k. (let e = given_offer s (net.paired.lone a s sat) b n (given_hand b n s k) in let o = subst (λ o. OfferOk o (next_of b s) (pledged t a) (closed_of a t)) e ok.offer in taken_up n o.1);
+      promised = λ n k. (let p = promised_next n k in still_open n (let q = p.0 in omega (arith, q)));
+      numbered = λ n k. numbered n (has_promise a n t) refl k;
+    }
+      where
+        promised_next : (n : ℕ) → has_promise a n t ≡ true → (n ≡ closed_of a t + 1) × (n < next_of b s)
+        promised_next n k = let p = pledge_at t order_t a n k in subst (λ q. PledgeOk q (next_of b s) (closed_of a t)) p.1 ok.pledge
+
+        numbered : (n : ℕ) (c : Bool) → has_promise a n t ≡ c → (c || is_closed_for a n t) ≡ true → was_given n (find_peer b s) ≡ true
+        numbered n true e k = given_up n (promised_next n e).1
+        numbered n false e k = given_up n (let below = closed_down n k in let less = ok.below in omega (arith, below, less))
+
+    -- messages
+
+    given_or_closed : (n : ℕ) → IsGiven (offered s b) (closed_of a t) n → (is_given b n s || is_closed_for a n t) ≡ true
+    given_or_closed n given = by (nat_le n (closed_of a t)) refl
+      where
+        committed : (o : Offer) → offered s b ≡ o → closed_of a t < n → IsGiven o (closed_of a t) n → is_given b n s ≡ true
+        committed NoOffer e above g = absurd (omega (arith, above, g))
+        committed (Open k load) e above g = absurd (omega (arith, above, g))
+        committed (Given k) e above g = committed_hand s order_s b n (e ∙ ap Given (g above))
+
+        by : (c : Bool) → nat_le n (closed_of a t) ≡ c → (is_given b n s || is_closed_for a n t) ≡ true
+        by true e = or_right (is_given b n s) (is_closed_for a n t) (closed_up n (leb-true n (closed_of a t) e))
+        by false e = or_left (is_given b n s) (is_closed_for a n t) (committed (offered s b) refl (leb-false n (closed_of a t) e) given)
+
+    no_hand : (n : ℕ) → IsNoOffer (offered s b) n → is_some (find_hand b n s) ≡ false
+    no_hand n none = of (find_hand b n s) refl
+      where
+        by : (y : Hand) → find_hand b n s ≡ Some y → (p : Phase) → y.phase ≡ p → ⊥
+        by y e Offered is = let o = open_offer s order_s (net.paired.lone a s sat) b n (record { hand = y; found = e; is = is }) in subst (λ o. IsNoOffer o n) o.1 none refl
+        by y e Committed is = let o = given_offer s (net.paired.lone a s sat) b n (record { hand = y; found = e; is = is }) in subst (λ o. IsNoOffer o n) o none refl
+
+        of : (o : Option Hand) → find_hand b n s ≡ o → is_some o ≡ false
+        of None e = refl
+        of (Some y) e = absurd (by y e y.phase refl)
+
+    offers_row : (n : ℕ) (c : Carried) → IsOf (offered s b) n c → is_open b n s ≡ true → option_map carried_of (find_row c.id s) ≡ Some c
+    offers_row n c is k =
+        let hand = open_hand b n s k in
+        let r = open_row s order_s (net.paired.lone a s sat) b n hand in
+        let same : c ≡ carried_of r.0 = subst (λ o. IsOf o n c) r.2 is refl in
+        let key : c.id ≡ hand.hand.id = ap (λ (x : Carried). x.id) same ∙ sym (id_of hand.hand.id s.rows r.0 r.1) in
+        ap (option_map carried_of) (ap (λ x. find_row x s) key ∙ r.1) ∙ ap Some (sym same)
+
+  -- what was ever said is true
+  pub words_are_true : (x : Message) → Sent x m.packets → (s t : Plain) → At m.states x.from s → At m.states x.to t → IsTrueOf x.body x.from x.to s t
+  words_are_true x sent s t sat tat = of x.body (net.paired.words x sent s t sat tat)
+    where
+      of : (b : Body) → HoldsFor (pair_of x.from s x.to t) (pair_of x.to t x.from s) b → IsTrueOf b x.from x.to s t
+      of (body.Offer n queue c script) h = offers_row x.from x.to s t sat tat n c h.1
+      of (body.Ready n) h = taken_up x.to x.from t s tat sat n h.1
+      of (body.Refused n refusal) h = given_up x.to x.from t s tat sat n h.0
+      of (body.Commit n) h = given_or_closed x.from x.to s t sat tat n h.1
+      of (body.Done n) h = closed_up x.to x.from t s tat sat n h.1
+      of (body.Inquire n) h = taken_up x.to x.from t s tat sat n h.1
+      of (body.Abort n) h = no_hand x.from x.to s t sat tat n h.1
+      of b h = tt
+
+  module _ (away : IsAway m) where
+    -- an open offer finds its request at its receiver neither as a row nor as one that is still to come
+    pub offer_is_new : (a b : HostId) (s t : Plain) → At m.states a s → At m.states b t → (n : ℕ) (c : Carried) → is_open b n s ≡ true → option_map carried_of (find_row c.id s) ≡ Some c → (has_row c.id t || is_given_here c.id t) ≡ false
+    offer_is_new a b s t sat tat n c is carried = or_from (has_row c.id t) (is_given_here c.id t) (false_from_ne_true (has_row c.id t) no_row) (false_from_ne_true (is_given_here c.id t) no_number)
+      where
+        row : (r : PlainRow) × (find_row c.id s ≡ Some r)
+        row = of (find_row c.id s) refl carried
+          where
+            of : (o : Option PlainRow) → find_row c.id s ≡ o → option_map carried_of o ≡ Some c → (r : PlainRow) × (find_row c.id s ≡ Some r)
+            of None e k = absurd (none-some c k)
+            of (Some r) e k = (r, e)
+
+        here : net.table c.id ≡ Sits a row.0
+        here = sits_here a (net.table c.id) row.0 (sym (net.told.rows a s sat c.id) ∙ row.1)
+
+        apart : a ≡ b → ⊥
+        apart e =
+            let hand = open_hand b n s is in
+            let peer : b ≡ hand.hand.peer = hand_peer s (net.paired.lone a s sat) (peer_number b n) hand.hand hand.found in
+            let far = list_all-found (is_away a) (is_hand (peer_number b n)) s.hands hand.hand (away.hands a s sat) hand.found in
+            true≢false (sym (host_same a) ∙ (ap (same_host a) (e ∙ peer) ∙ not-true (same_host a hand.hand.peer) far))
+
+        no_row : has_row c.id t ≡ true → ⊥
+        no_row k = of (find_row c.id t) refl (found_any (is_row c.id) t.rows k)
+          where
+            of : (o : Option PlainRow) → find_row c.id t ≡ o → passes (λ _. true) o ≡ true → ⊥
+            of None e k = true≢false (sym k)
+            of (Some q) e k =
+                let there : net.table c.id ≡ Sits b q = sits_here b (net.table c.id) q (sym (net.told.rows b t tat c.id) ∙ e) in
+                apart (host_of (sym here ∙ there))
+              where
+                host_of : Sits a row.0 ≡ Sits b q → a ≡ b
+                host_of e = cc
+
+        no_number : is_given_here c.id t ≡ true → ⊥
+        no_number k =
+            let p = and_parts (same_host t.me c.id.host) (nat_lt t.seq c.id.seq) k in
+            let me : t.me ≡ b = λ j. ((sound.hosts b.0 t tat).head j).0 in
+            let host : c.id.host ≡ b = sym (host_exact t.me c.id.host p.0) ∙ me in
+            let none = net.told.given c.id t ((λ j. slice_get m.states (host j).0) ∙ tat) (ltb-true t.seq c.id.seq p.1) in
+            let no : Nowhere ≡ Sits a row.0 = sym none ∙ here in
+            let wrong : ⊥ = cc in wrong
+
+  -- a promise whose commit was sent finds no row of its request
+  pub commit_finds_none : (a b : HostId) (s t : Plain) → At m.states a s → At m.states b t → (n : ℕ) (p : Pledging) → find_promise a n t ≡ Some p → (is_given b n s || is_closed_for a n t) ≡ true → has_row p.row.id t ≡ false
+  commit_finds_none a b s t sat tat n p found sent = false_from_ne_true (has_row p.row.id t) (λ k. of (find_row p.row.id t) refl (found_any (is_row p.row.id) t.rows k))
+    where
+      promised : has_promise a n t ≡ true
+      promised = any_found (is_promise (peer_number a n)) t.promises p found
+
+      committed : (c : Bool) → is_given b n s ≡ c → (c || is_closed_for a n t) ≡ true → is_given b n s ≡ true
+      committed true e k = e
+      committed false e k = absurd (true≢false (sym k ∙ (in_step a b s t sat tat).promised n promised))
+
+      arrives : net.table p.row.id ≡ Arrives a b p.row
+      arrives =
+          let order = (sound.hosts b.0 t tat).order in
+          let given : offered s b ≡ Given n = given_offer s (net.paired.lone a s sat) b n (given_hand b n s (committed (is_given b n s) refl sent)) in
+          let here : promise_of a t ≡ Some p = promise_to_peer t order (peer_number a n) p found in
+          let number : (p.number == n) ≡ true = eq-eqb p.number n (sym (promise_number t order (peer_number a n) p found)) in
+          let claims : claim (offered s b) (promise_of a t) p.row.id ≡ Some p.row =
+          (λ j. claim (given j) (here j) p.row.id) ∙ (ap (λ (c : Bool). if c then (if id_eq p.row.id p.row.id then Some p.row else None) else None) number ∙ ap (λ (c : Bool). if c then Some p.row else None) (same_id p.row.id)) in
+          arrives_here a b (net.table p.row.id) p.row (sym (net.told.claims a b s t sat tat p.row.id) ∙ claims)
+
+      of : (o : Option PlainRow) → find_row p.row.id t ≡ o → passes (λ _. true) o ≡ true → ⊥
+      of None e k = true≢false (sym k)
+      of (Some q) e k = none-some q (ap (row_in b) (sym arrives) ∙ (sym (net.told.rows b t tat p.row.id) ∙ e))
+
+-- worlds that a run reaches
+
+was_sent : (w : World) (m : Message) → WasSentIn w m → Sent m w.packets
+was_sent w m (zero, e) = absurd (none-some m e)
+was_sent w m (suc k, e) = (k, e)
+
+module _ (site : List (List ℕ)) (few : IsSite site) (acts : List Act) (sane : AreSane acts) where
+  abbrev world : World
+  world = (run acts (new_world site)).world
+
+  abbrev end : Moment
+  end = moment world (history acts (new_world site))
+
+  sound_end : IsSound site end
+  sound_end = run_sound site few.1 acts sane
+
+  history_end : IsHistory (states_of (new_world site)) end
+  history_end = run_history site few acts sane
+
+  pub all_in_step : (a b : HostId) (s t : Plain) → IsStateOf world a s → IsStateOf world b t → AreInStep a b s t
+  all_in_step a b s t sat tat = in_step site end sound_end history_end.net a b s t sat tat
+
+  pub all_true : (m : Message) → WasSentIn world m → (s t : Plain) → IsStateOf world m.from s → IsStateOf world m.to t → IsTrueOf m.body m.from m.to s t
+  all_true m sent s t sat tat = words_are_true site end sound_end history_end.net m (was_sent world m sent) s t sat tat
+
+  pub open_offers : (m : Message) (n : ℕ) (queue : List ℕ) (c : Carried) (script : List ℕ) → WasSentIn world m → m.body ≡ body.Offer n queue c script → (s t : Plain) → IsStateOf world m.from s → IsStateOf world m.to t → is_open m.to n s ≡ true → (has_row c.id t || is_given_here c.id t) ≡ false
+  open_offers m n queue c script sent is s t sat tat opens =
+      offer_is_new site end sound_end history_end.net history_end.away m.from m.to s t sat tat n c opens (subst (λ b. IsTrueOf b m.from m.to s t) is (all_true m sent s t sat tat) opens)
+
+  pub accepted_rows : (m : Message) (n : ℕ) (p : Pledging) → WasSentIn world m → m.body ≡ body.Commit n → (s t : Plain) → IsStateOf world m.from s → IsStateOf world m.to t → find_promise m.from n t ≡ Some p → has_row p.row.id t ≡ false
+  accepted_rows m n p sent is s t sat tat found =
+      commit_finds_none site end sound_end history_end.net m.from m.to s t sat tat n p found (subst (λ b. IsTrueOf b m.from m.to s t) is (all_true m sent s t sat tat))

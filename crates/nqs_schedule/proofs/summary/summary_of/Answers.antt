@@ -1,0 +1,12 @@
+use Rattle.std.proofs.Common.{◌≡◌, ◌∙◌, ap, sym}
+use Rattle.nqs_schedule.specs.Summary.{nothing_seen, counted, summary_of}
+use Rattle.nqs_schedule.proofs.Counts.{count_more, count_end}
+use Rattle.nqs_schedule.proofs.summary.summary_of.Goals as goal
+
+pub loop-i-preserved : goal.loop-i-preserved
+loop-i-preserved c = record {
+  so_far = count_more c.args.seen.now c.loop-i.i c.index-seen-i.result c.loop-i.summary c.count.new.self (summary_of nothing_seen c.args.seen.now) c.loop-i-test.true c.index-seen-i.is c.count.ensures c.loop-i.invariant.so_far;
+}
+
+pub returns : goal.returns
+returns c = count_end c.args.seen.now c.loop-i.i c.loop-i.summary (summary_of nothing_seen c.args.seen.now) c.loop-i-test.false c.loop-i.invariant.so_far
