@@ -1,4 +1,6 @@
-use crate::{Cause, LineFault, Schedule, ScheduleFault, print_seen, read_schedule};
+use crate::{
+    Cause, LineFault, Schedule, ScheduleFault, generate, print_seen, read_schedule, summarize,
+};
 use nqs_types::{BodyKind, Bytes, HostId, Items, Name, NetState, RequestId, Seen, TableRow};
 use std::alloc::Global;
 use std::rt::HostRuntime;
@@ -136,5 +138,35 @@ fn prints_what_is_seen(rt: HostRuntime) -> Result<(), Fail> {
             b"table 1\nalpha batch 1.alpha QUEUED ann starts 0 lost 0\n"
         )
     );
+    Ok(())
+}
+
+fn drawn(alloc: Global, hosts: u8, events: u32) -> Option<(usize, usize)> {
+    if hosts == 0 {
+        return None;
+    }
+    if hosts > 16 {
+        return None;
+    }
+    match generate(alloc, 1, hosts, events) {
+        Ok(schedule) => Some(sizes(&schedule)),
+        Err(_) => None,
+    }
+}
+
+#[test]
+fn generates_schedules(rt: HostRuntime) {
+    assert!(rt; drawn(rt.alloc(), 1, 0) == Some((1, 6)));
+    assert!(rt; drawn(rt.alloc(), 16, 100) == Some((16, 181)));
+}
+
+#[test]
+fn sums_up_what_was_seen(rt: HostRuntime) -> Result<(), Fail> {
+    let host = HostId(0);
+    let seen = [Seen::Stop { host }, Seen::Up { host }];
+    let mut out = Vec::new(rt.alloc());
+    summarize(rt.alloc(), seen.as_slice(), 6, 0, &mut out).map_err(|_| "memory")?;
+    let text = b"events 6\nsubmitted 0\nlaunches 0\nended 0\npackets 0\nstops 1\ntable 0\n";
+    assert!(rt; out.as_slice() == text.as_slice());
     Ok(())
 }
