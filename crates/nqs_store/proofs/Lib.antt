@@ -1,0 +1,4 @@
+pub mod Lists
+pub mod Formatted
+pub mod Telling
+pub mod Loading

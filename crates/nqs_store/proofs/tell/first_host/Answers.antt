@@ -1,0 +1,15 @@
+use Rattle.std.proofs.Common.{◌∙◌, ap, sym, subst, Ok, Some, None}
+use Rattle.nqs_store.specs.Told.{read_taken}
+use Rattle.nqs_store.specs.Sound.{IsSoundHost}
+use Rattle.nqs_records.specs.Changes.{MayStand}
+use Rattle.nqs_store.proofs.Formatted.{formatted_sound}
+use Rattle.nqs_store.proofs.tell.first_host.Goals as goal
+
+pub returns-in-Site-clause-ok : goal.returns-in-Site-clause-ok
+returns-in-Site-clause-ok c =
+    let read = c.in_ok-me.ensures.ok in
+    let is = c.in-Site.is in
+    let now = c.in_ok-formatted-in-Site.ensures in (
+      ap (λ r. read_taken r None) (read.0 ∙ ap Ok is) ∙ ap Some (sym now),
+      subst IsSoundHost (sym now) (formatted_sound c.in-Site.me c.in-Site.site (subst MayStand is read.1)),
+    )

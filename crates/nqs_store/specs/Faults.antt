@@ -1,0 +1,58 @@
+-- What the faults of a store say.
+use Rattle.std.specs.Prelude.{◌≡◌, ◌⊎◌, ℕ, List, length, Some}
+use Rattle.nqs_types.specs.declared.world.Which.TheVariants.{Root, First, Second, Spool}
+use Rattle.nqs_types.specs.declared.extent.Extent.{Extent}
+use Rattle.nqs_journal.specs.Text.{StandsFor}
+use Rattle.nqs_journal.specs.Faults as faults
+use Rattle.nqs_journal.specs.declared.fault.JournalFault.{JournalFault}
+use Rattle.nqs_journal.specs.declared.fault.JournalFault.TheVariants as journal
+use Rattle.nqs_store.specs.Told.{Host, told, IsUntold}
+use Rattle.nqs_store.specs.Live.{live, IsBadExtent}
+use Rattle.nqs_store.specs.declared.fault.LoadFault.{LoadFault}
+use Rattle.nqs_store.specs.declared.fault.LoadFault.TheVariants as load
+
+-- the journal's fault, on its disk
+abbrev pub JournalIsAt : JournalFault → LoadFault → Type 0
+JournalIsAt journal.Disk fault = fault ≡ load.Disk First
+JournalIsAt (journal.NotJournal place) fault = fault ≡ load.NotNqs First place
+JournalIsAt journal.TooLong fault = fault ≡ load.Memory
+JournalIsAt journal.Stopped fault = fault ≡ load.Memory
+JournalIsAt journal.Memory fault = fault ≡ load.Memory
+
+-- why records tell no host; want of memory is free
+abbrev pub IsHostFault : List (List ℕ) → LoadFault → Type 0
+IsHostFault payloads (load.Disk which) = ⊥
+IsHostFault payloads (load.NotNqs Root place) = ⊥
+IsHostFault payloads (load.NotNqs First place) = IsUntold payloads place
+IsHostFault payloads (load.NotNqs Second place) = ⊥
+IsHostFault payloads (load.NotNqs Spool place) = ⊥
+IsHostFault payloads load.Memory = Unit {0}
+
+-- why a spool of so many bytes can't have these extents
+abbrev pub IsExtentFault : ℕ → List Extent → LoadFault → Type 0
+IsExtentFault size extents (load.Disk which) = ⊥
+IsExtentFault size extents (load.NotNqs Root place) = ⊥
+IsExtentFault size extents (load.NotNqs First place) = ⊥
+IsExtentFault size extents (load.NotNqs Second place) = ⊥
+IsExtentFault size extents (load.NotNqs Spool place) = IsBadExtent size extents place
+IsExtentFault size extents load.Memory = Unit {0}
+
+-- the records tell a host, of whose extents one is bad
+abbrev pub IsSpoolFault : List (List ℕ) → List ℕ → ℕ → Type 0
+IsSpoolFault payloads spool place = (host : Host) × (told payloads ≡ Some host) × IsBadExtent (length spool) (live host) place
+
+-- why records and a spool are no host's
+abbrev pub IsReadFault : List (List ℕ) → List ℕ → LoadFault → Type 0
+IsReadFault payloads spool (load.Disk Root) = ⊥
+IsReadFault payloads spool (load.Disk First) = ⊥
+IsReadFault payloads spool (load.Disk Second) = ⊥
+IsReadFault payloads spool (load.Disk Spool) = Unit {0}
+IsReadFault payloads spool (load.NotNqs Root place) = ⊥
+IsReadFault payloads spool (load.NotNqs First place) = IsUntold payloads place
+IsReadFault payloads spool (load.NotNqs Second place) = ⊥
+IsReadFault payloads spool (load.NotNqs Spool place) = IsSpoolFault payloads spool place
+IsReadFault payloads spool load.Memory = Unit {0}
+
+-- Why the bytes of a journal and a spool are no host's: the first are no journal from this place on, or the records that they stand for are at fault.
+abbrev pub IsLoadFault : (first spool : List ℕ) → LoadFault → Type 0
+IsLoadFault first spool fault = ((journal : JournalFault) × faults.IsLoadFault first journal × JournalIsAt journal fault) ⊎ ((payloads : List (List ℕ)) × StandsFor first payloads × IsReadFault payloads spool fault)

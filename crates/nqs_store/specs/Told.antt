@@ -1,0 +1,54 @@
+-- What the records of a journal tell.
+use Rattle.std.specs.Prelude.{◌≡◌, ◌⊎◌, ℕ, if◌then◌else◌, List, [], ◌∷◌, ◌++◌, length, Option, Some, None, Ok, Err, IsTrue, is_some}
+use Rattle.nqs_types.specs.State.{State}
+use Rattle.nqs_types.specs.declared.extent.Extent.{Extent}
+use Rattle.nqs_types.specs.declared.change.Change.{Change}
+use Rattle.nqs_types.specs.declared.change.Change.TheVariants.{Site}
+use Rattle.nqs_rules.specs.Format.{formatted}
+use Rattle.nqs_rules.specs.Fits.{fits}
+use Rattle.nqs_rules.specs.Applied.{applied}
+use Rattle.nqs_journal.specs.Text.{header, records}
+use Rattle.nqs_records.specs.Reading.{Read}
+use Rattle.nqs_records.specs.Kinds.{record_of}
+
+-- a host with the extents of its scripts and outputs
+abbrev pub Host : Type 0
+Host = State Extent
+
+-- What a change makes of the host so far. The first one formats it, and each other one has to fit.
+abbrev pub taken : Change Extent → Option Host → Option Host
+taken (Site me site) None = Some (formatted me site)
+taken change None = None
+taken change (Some host) = if fits change host then Some (applied change host) else None
+
+-- the same of what was read as a change
+abbrev pub read_taken : Read (Change Extent) → Option Host → Option Host
+read_taken (Ok change) so_far = taken change so_far
+read_taken (Err fault) so_far = None
+
+-- what a record makes of the host so far
+abbrev pub record_taken : List ℕ → Option Host → Option Host
+record_taken payload so_far = read_taken (record_of payload) so_far
+
+-- what the records make of the host so far, one after the other
+abbrev pub told_from : Option Host → List (List ℕ) → Option Host
+told_from so_far [] = so_far
+told_from so_far (payload ∷ payloads) = elim (record_taken payload so_far) [ None ↦ None | Some host ↦ told_from (Some host) payloads ]
+
+-- the host that the records tell, if they tell one
+abbrev pub told : List (List ℕ) → Option Host
+told payloads = told_from None payloads
+
+-- The first record that is no change or doesn't fit what those before it tell. Its gate stands at the place.
+pub record IsBadRecord (payloads : List (List ℕ)) (place : ℕ) : Type 0 where
+  pub before : List (List ℕ)
+  pub payload : List ℕ
+  pub later : List (List ℕ)
+  pub is : payloads ≡ before ++ payload ∷ later
+  pub so_far : (before ≡ []) ⊎ IsTrue (is_some (told before))
+  pub bad : record_taken payload (told before) ≡ None
+  pub at : place ≡ length (header ++ records before)
+
+-- why payloads tell no host: there is none, or one is bad
+abbrev pub IsUntold : List (List ℕ) → ℕ → Type 0
+IsUntold payloads place = ((payloads ≡ []) × (place ≡ 16)) ⊎ IsBadRecord payloads place

@@ -1,0 +1,66 @@
+//! Why a call of the store failed.
+
+ghost use Rattle.std.specs.Prelude.{◌≡◌};
+
+use nqs_types::{Memory, Which};
+use std::alloc::AllocError;
+use thiserror::Error;
+
+/// Why disks are no host's.
+#[derive(Clone, Copy, Debug, PartialEq, Eq, Error)]
+pub enum LoadFault {
+    /// A call of this disk failed.
+    #[error("a disk failed")]
+    Disk(Which),
+    /// The disk has no host's bytes from this place on, counted from 0. On `first` it is the place of a byte that is
+    /// none of a journal, or of the gate of a record that is no change or doesn't fit; on the spool that of an
+    /// extent that runs past the end or meets an earlier one.
+    #[error("not a host's disk: byte {1}")]
+    NotNqs(Which, u64),
+    #[error("out of memory")]
+    Memory,
+}
+
+/// Why a call of an open store failed.
+#[derive(Clone, Copy, Debug, PartialEq, Eq, Error)]
+pub enum StoreFault {
+    /// A call of this disk failed. After a commit that is answered so the store is to be closed.
+    #[error("a disk failed")]
+    Disk(Which),
+    /// It leaves all as it was.
+    #[error("out of memory")]
+    Memory,
+    /// An earlier commit was answered `Disk`.
+    #[error("the store is stopped")]
+    Stopped,
+}
+
+impl From<Memory> for LoadFault {
+    ghost use Rattle.nqs_store.specs.declared.fault.LoadFault.TheVariants as fault;
+
+    ghost from_gives = { λ _ e. e ≡ fault.Memory };
+
+    fn from(_: Memory) -> LoadFault {
+        LoadFault::Memory
+    }
+}
+
+impl From<Memory> for StoreFault {
+    ghost use Rattle.nqs_store.specs.declared.fault.StoreFault.TheVariants as fault;
+
+    ghost from_gives = { λ _ e. e ≡ fault.Memory };
+
+    fn from(_: Memory) -> StoreFault {
+        StoreFault::Memory
+    }
+}
+
+impl From<AllocError> for StoreFault {
+    ghost use Rattle.nqs_store.specs.declared.fault.StoreFault.TheVariants as fault;
+
+    ghost from_gives = { λ _ e. e ≡ fault.Memory };
+
+    fn from(_: AllocError) -> StoreFault {
+        StoreFault::Memory
+    }
+}

@@ -1,0 +1,73 @@
+//! The disks of a host that is formatted.
+
+ghost use Rattle.std.specs.Prelude.{◌≡◌, ◌⊎◌, ◌≤◌, IsTrue, IsErrOf, OnOk, IfOk, IfErr, length, vec_len, ◌++◌, ◌∷◌, [], Ok};
+ghost use Rattle.nqs_outside.specs.Causes.{Rose};
+ghost use Rattle.nqs_outside.specs.History.{extended};
+ghost use Rattle.nqs_journal.specs.Text.{header, records};
+ghost use Rattle.nqs_journal.specs.Plan.{begin_calls};
+ghost use Rattle.nqs_records.specs.Changes.{MayStand, spelling};
+ghost use Rattle.nqs_records.specs.Kinds.{record_of};
+ghost use Rattle.nqs_store.specs.Formatted.{IsFormatted};
+ghost use Rattle.nqs_types.specs.declared.change.Change.{Change};
+
+use crate::disks::Disks;
+use crate::fault::StoreFault;
+use nqs_journal::{JournalFault, format_with};
+use nqs_outside::Disk;
+use nqs_records::write_change;
+use nqs_types::{Change, HostId, ListOf, Name, Which};
+use std::alloc::Global;
+
+/// Bytes of a record's payload at most.
+const LONGEST: usize = 65_536;
+
+// The record of a change.
+pub(crate) fn written(alloc: Global, change: &Change) -> Result<Vec<u8>, StoreFault>
+    requires { MayStand change.now }
+    ensures text { IfOk result (λ text. text.items ≡ spelling change.now) }
+    ensures short { IfOk result (λ text. vec_len text ≤ 65536) }
+    ensures fault { IfErr result (λ fault. fault ≡ StoreFault.Memory) }
+{
+    let mut text = Vec::new(alloc);
+    write_change(alloc, change, &mut text)?;
+    if text.len() > LONGEST {
+        return Err(StoreFault::Memory);
+    }
+    Ok(text)
+}
+
+// A record is read as the change that it was written of: a law, which callers call for its contract.
+fn read_back(text: &[u8], change: &Change)
+    ensures { MayStand change.now → text.now ≡ spelling change.now → record_of text.now ≡ Ok change.now }
+{}
+
+/// Makes empty disks those of a host of this site. `Memory` comes before the first call of a disk.
+pub fn format<D: Disk>(
+    alloc: Global,
+    disks: &mut Disks<D>,
+    me: HostId,
+    site: &[Name],
+) -> Result<(), StoreFault>
+    requires { MayStand (Change.Site me site.now) }
+    ensures told { IsTrue D.tells → OnOk result (IsFormatted (D.history disks.new.first) me site.now) }
+    ensures made { IsTrue D.tells → OnOk result (D.history disks.new.first ≡ extended (D.history disks.old.first) (begin_calls (header ++ records (spelling (Change.Site me site.now) ∷ []) ++ 0 ∷ []))) }
+    ensures only { IfErr result (λ fault. (fault ≡ StoreFault.Disk Which.First) ⊎ (fault ≡ StoreFault.Memory)) }
+    ensures memory { IsTrue D.tells → IsErrOf result StoreFault.Memory → D.history disks.new.first ≡ D.history disks.old.first }
+    ensures failed { IsErrOf result (StoreFault.Disk Which.First) → Rose (D.faults disks.old.first) (D.faults disks.new.first) }
+    ensures root { disks.new.root ≡ disks.old.root }
+    ensures second { disks.new.second ≡ disks.old.second }
+    ensures spool { disks.new.spool ≡ disks.old.spool }
+{
+    let hosts = site.to_vec(alloc)?;
+    let change = Change::Site {
+        me,
+        site: ListOf::from_vec(hosts),
+    };
+    let text = written(alloc, &change)?;
+    read_back(&text, &change);
+    match format_with(alloc, &mut disks.first, &text) {
+        Ok(()) => Ok(()),
+        Err(JournalFault::Disk) => Err(StoreFault::Disk(Which::First)),
+        Err(_) => Err(StoreFault::Memory),
+    }
+}

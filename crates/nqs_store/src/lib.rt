@@ -1,0 +1,20 @@
+//! The durable state of a host: a journal of its changes, and a spool of its scripts and outputs.
+//!
+//! A change is one record of the journal on the disk `first`; its scripts and outputs stand in extents of the disk
+//! `spool`, which the record names. The host that a journal tells (`specs/Told.antt`) begins with the record that
+//! formats it; each other record is a change that fits what those before it tell. Its extents (`specs/Live.antt`) end
+//! within the spool, and no two meet. Disks are formatted, told and opened here; nothing keeps a change yet. `root`
+//! and `second` are not used.
+#![tactic(auto)]
+
+mod disks;
+mod fault;
+mod formatting;
+mod live;
+mod store;
+mod tell;
+
+pub use disks::Disks;
+pub use fault::{LoadFault, StoreFault};
+pub use formatting::format;
+pub use store::{Store, read_only};

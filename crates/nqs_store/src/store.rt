@@ -1,0 +1,203 @@
+//! A host's state on its disks: opened, read again, and closed.
+
+ghost use Rattle.std.specs.Prelude.{◌≡◌, ◌≤◌, ◌^◌, ◌++◌, ℕ, List, false, Some, IsTrue, IsErrOf, IfOk, IfErr, length};
+ghost use Rattle.nqs_types.specs.State.{content};
+ghost use Rattle.nqs_types.specs.declared.world.Which.{Which};
+ghost use Rattle.nqs_outside.specs.Causes.{Rose};
+ghost use Rattle.nqs_outside.specs.History.{IsQuiet, content as bytes_now};
+ghost use Rattle.nqs_journal.specs.Open.{is_stopped as is_journal_stopped};
+ghost use Rattle.nqs_journal.specs.Text.{header, records, StandsFor};
+ghost use Rattle.nqs_store.specs.Told.{told};
+ghost use Rattle.nqs_store.specs.Live.{live, AreSound};
+ghost use Rattle.nqs_store.specs.Sound.{IsSoundHost};
+ghost use Rattle.nqs_store.specs.Disks.{disk_at};
+ghost use Rattle.nqs_store.specs.Faults.{JournalIsAt, IsHostFault, IsExtentFault, IsReadFault, IsLoadFault};
+
+use crate::disks::Disks;
+use crate::fault::LoadFault;
+use crate::live::{bad_extent, live_extents};
+use crate::tell::{TellFault, tell};
+use nqs_journal::{Journal, JournalFault, read_payloads};
+use nqs_outside::Disk;
+use nqs_spool::Spool;
+use nqs_types::{Bytes, Extent, HostState, Which};
+use std::alloc::Global;
+
+/// The durable state of a host: each change is one record of the journal, and the scripts and outputs that it names
+/// stand in the spool.
+#[derive(Drop)]
+pub struct Store<D: Disk> {
+    root: D,
+    first: Journal<D>,
+    second: D,
+    spool: Spool<D>,
+    stopped: bool,
+    ghost running: { stopped ≡ false → is_journal_stopped first ≡ false },
+}
+
+// What a fault of the journal is to a host's disks.
+fn first_fault(fault: JournalFault) -> LoadFault
+    ensures { JournalIsAt fault result }
+{
+    match fault {
+        JournalFault::Disk => LoadFault::Disk(Which::First),
+        JournalFault::NotJournal(place) => LoadFault::NotNqs(Which::First, place),
+        _ => LoadFault::Memory,
+    }
+}
+
+// The host that the records tell.
+fn told_host(alloc: Global, payloads: &[Bytes]) -> Result<HostState, LoadFault>
+    requires { length (header ++ records payloads.now) ≤ 2 ^ 40 }
+    ensures ok { IfOk result (λ state. (told payloads.now ≡ Some (content state)) × IsSoundHost (content state)) }
+    ensures err { IfErr result (IsHostFault payloads.now) }
+{
+    match tell(alloc, payloads) {
+        Ok(state) => Ok(state),
+        Err(TellFault::Untold(place)) => Err(LoadFault::NotNqs(Which::First, place)),
+        Err(TellFault::Memory) => Err(LoadFault::Memory),
+    }
+}
+
+// The live extents of a host, which a spool of so many bytes may have.
+fn sound_extents(alloc: Global, state: &HostState, size: u64) -> Result<Vec<Extent>, LoadFault>
+    ensures ok { IfOk result (λ extents. (extents.items ≡ live (content state.now)) × AreSound size (live (content state.now))) }
+    ensures err { IfErr result (IsExtentFault size (live (content state.now))) }
+{
+    let extents = live_extents(alloc, state)?;
+    match bad_extent(&extents, size) {
+        Some(place) => Err(LoadFault::NotNqs(Which::Spool, place)),
+        None => Ok(extents),
+    }
+}
+
+// The host that the records tell, with its live extents in the spool.
+fn host_in<D: Disk>(
+    alloc: Global,
+    payloads: &[Bytes],
+    spool: &mut D,
+) -> Result<(HostState, Vec<Extent>), LoadFault>
+    requires { length (header ++ records payloads.now) ≤ 2 ^ 40 }
+    ensures host { IfOk result (λ r. (told payloads.now ≡ Some (content r.0)) × IsSoundHost (content r.0) × (r.1.items ≡ live (content r.0))) }
+    ensures extents { IfOk result (λ r. (size : ℕ) × (size ≤ 2 ^ 40) × AreSound size (live (content r.0)) × (IsTrue D.tells → size ≡ length (bytes_now (D.history spool.old)))) }
+    ensures fault { IsTrue D.tells → IfErr result (IsReadFault payloads.now (bytes_now (D.history spool.old))) }
+    ensures failed { IsErrOf result (LoadFault.Disk Which.Spool) → Rose (D.faults spool.old) (D.faults spool.new) }
+    ensures spool { (which : Which) → IsErrOf result (LoadFault.Disk which) → which ≡ Which.Spool }
+    ensures same { IsTrue D.tells → D.history spool.new ≡ D.history spool.old }
+    ensures later { D.faults spool.old ≤ D.faults spool.new }
+{
+    let state = told_host(alloc, payloads)?;
+    let Ok(size) = spool.len() else {
+        return Err(LoadFault::Disk(Which::Spool));
+    };
+    let extents = sound_extents(alloc, &state, size)?;
+    Ok((state, extents))
+}
+
+/// Tells the host of these disks, and writes nothing.
+pub fn read_only<D: Disk>(alloc: Global, disks: &mut Disks<D>) -> Result<HostState, LoadFault>
+    ensures told { IsTrue D.tells → IfOk result (λ state. (payloads : List (List ℕ)) × StandsFor (bytes_now (D.history disks.old.first)) payloads × (told payloads ≡ Some (content state))
+        × AreSound (length (bytes_now (D.history disks.old.spool))) (live (content state))) }
+    ensures sound { IfOk result (λ state. IsSoundHost (content state)) }
+    ensures fault { IsTrue D.tells → IfErr result (IsLoadFault (bytes_now (D.history disks.old.first)) (bytes_now (D.history disks.old.spool))) }
+    ensures failed { (which : Which) → IsErrOf result (LoadFault.Disk which) → Rose (D.faults (disk_at which disks.old)) (D.faults (disk_at which disks.new)) }
+    ensures same { IsTrue D.tells → (which : Which) → D.history (disk_at which disks.new) ≡ D.history (disk_at which disks.old) }
+{
+    let mut found = Vec::new(alloc);
+    match read_payloads(alloc, &mut disks.first, &mut found) {
+        Err(fault) => Err(first_fault(fault)),
+        Ok(()) => {
+            let (state, _extents) = host_in(alloc, &found, &mut disks.spool)?;
+            Ok(state)
+        }
+    }
+}
+
+impl<D: Disk> Store<D> {
+    ghost use Rattle.nqs_store.specs.Stores.{disk_of, history_of, is_stopped, Tells};
+
+    /// Opens the disks of a host, and tells it. Nothing is pending on them. On a refusal they are handed back.
+    pub fn load(
+        alloc: Global,
+        disks: Disks<D>,
+    ) -> Result<(Store<D>, HostState), (LoadFault, Disks<D>)>
+        requires { IsTrue D.tells → IsQuiet (D.history disks.first) × IsQuiet (D.history disks.spool) }
+        ensures tells { IsTrue D.tells → IfOk result (λ r. Tells r.0 (content r.1)) }
+        ensures sound { IfOk result (λ r. IsSoundHost (content r.1)) }
+        ensures running { IfOk result (λ r. is_stopped r.0 ≡ false) }
+        ensures same { IsTrue D.tells → IfOk result (λ r. (which : Which) → history_of r.0 which ≡ D.history (disk_at which disks)) }
+        ensures same_err { IsTrue D.tells → IfErr result (λ e. (which : Which) → D.history (disk_at which e.1) ≡ D.history (disk_at which disks)) }
+        ensures fault { IsTrue D.tells → IfErr result (λ e. IsLoadFault (bytes_now (D.history disks.first)) (bytes_now (D.history disks.spool)) e.0) }
+        ensures failed { IfErr result (λ e. (which : Which) → e.0 ≡ LoadFault.Disk which → Rose (D.faults (disk_at which disks)) (D.faults (disk_at which e.1))) }
+    {
+        let Disks {
+            root,
+            first,
+            second,
+            mut spool,
+        } = disks;
+        let mut found = Vec::new(alloc);
+        match Journal::load(alloc, first, &mut found) {
+            Err((fault, first)) => Err((
+                first_fault(fault),
+                Disks {
+                    root,
+                    first,
+                    second,
+                    spool,
+                },
+            )),
+            Ok(journal) => match host_in(alloc, &found, &mut spool) {
+                Err(fault) => Err((
+                    fault,
+                    Disks {
+                        root,
+                        first: journal.close(),
+                        second,
+                        spool,
+                    },
+                )),
+                Ok((state, extents)) => match Spool::load(alloc, spool, &extents) {
+                    Err((_, spool)) => Err((
+                        LoadFault::Memory,
+                        Disks {
+                            root,
+                            first: journal.close(),
+                            second,
+                            spool,
+                        },
+                    )),
+                    Ok(spool) => Ok((
+                        Store {
+                            root,
+                            first: journal,
+                            second,
+                            spool,
+                            stopped: false,
+                        },
+                        state,
+                    )),
+                },
+            },
+        }
+    }
+
+    /// Hands the disks back.
+    pub fn close(self) -> Disks<D>
+        ensures { (which : Which) → disk_at which result ≡ disk_of which self }
+    {
+        let Store {
+            root,
+            first,
+            second,
+            spool,
+            stopped: _,
+        } = self;
+        Disks {
+            root,
+            first: first.close(),
+            second,
+            spool: spool.close(),
+        }
+    }
+}
