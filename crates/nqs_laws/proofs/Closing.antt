@@ -1,6 +1,6 @@
--- A closed number stays closed, however the run goes on.
-use Rattle.std.proofs.Common.{◌≡◌, ℕ, ◌<◌, true, List, [], ◌∷◌, ◌++◌, length, slice_get, Option, None, Some, zero, suc, true≢false, refl, sym, ap, subst, ◌∙◌, arith}
-use Rattle.std.proofs.lemmas.Bool.{and_parts, eqb-true}
+-- What a message would say stays true, however the run goes on: a closed number stays closed, and a taken one taken.
+use Rattle.std.proofs.Common.{◌≡◌, ℕ, true, List, [], ◌∷◌, ◌++◌, ◌||◌, Bool, false, length, slice_get, Option, None, Some, zero, suc, true≢false, refl, sym, ap, subst, ◌∙◌, arith}
+use Rattle.std.proofs.lemmas.Bool.{and_parts, or_right, eqb-true}
 use Rattle.std.proofs.lemmas.Option.{same_Some, none-some}
 use Rattle.std.proofs.lemmas.List.Folds.{list_all-append}
 use Rattle.std.specs.List.{list_all}
@@ -10,7 +10,8 @@ use Rattle.nqs_types.specs.declared.request.Peer.{Peer}
 use Rattle.nqs_types.specs.declared.change.Change.{Change}
 use Rattle.nqs_types.specs.declared.message.Message.{Message}
 use Rattle.nqs_types.specs.declared.message.Body.TheVariants as body
-use Rattle.nqs_rules.specs.Find.{find_peer}
+use Rattle.nqs_rules.specs.Find.{peer_number, has_promise, find_peer}
+use Rattle.nqs_rules.specs.InOrder.{IsInOrder}
 use Rattle.nqs_rules.specs.Handover.{closes}
 use Rattle.nqs_rules.specs.Starts.{after_change}
 use Rattle.nqs_rules.specs.World.{World, Act, new_world}
@@ -19,15 +20,16 @@ use Rattle.nqs_rules.proofs.KeyFacts.{place_below}
 use Rattle.nqs_rules.proofs.StateFacts.{sites_are}
 use Rattle.nqs_laws.specs.History.{history}
 use Rattle.nqs_laws.specs.Sane.{is_sane_act, AreSane, IsSite}
-use Rattle.nqs_laws.specs.Handovers.{is_closed_for}
+use Rattle.nqs_laws.specs.Handovers.{is_closed_for, is_taken_for}
 use Rattle.nqs_laws.proofs.Frame.{Moment, moment, put_state, put-same, Way, change_by}
 use Rattle.nqs_laws.proofs.Sound.{IsSound, Keeps, Suits, goes_on, run_sound}
-use Rattle.nqs_laws.proofs.Pair.{Holds, DoneOf}
-use Rattle.nqs_laws.proofs.Views.{pair_of}
-use Rattle.nqs_laws.proofs.Paired.{At, IsTrueWord, IsPaired}
+use Rattle.nqs_laws.proofs.Pair.{IsTaken, PledgeOk, Holds, ReadyFor, DoneOf}
+use Rattle.nqs_laws.proofs.Views.{next_of, closed_of, pair_of}
+use Rattle.nqs_laws.proofs.Paired.{At, IsTrueWord, IsPaired, pledge_at}
+use Rattle.nqs_laws.proofs.Targets.{sender_known, promise_at}
 use Rattle.nqs_laws.proofs.PairedRuns.{change_words, paired_keeps}
 use Rattle.nqs_laws.proofs.TabledRuns.{IsNet, run_net}
-use Rattle.nqs_laws.proofs.HandoverLaws.{value_at, closed_up, closed_down}
+use Rattle.nqs_laws.proofs.HandoverLaws.{value_at, closed_up, closed_down, taken_up}
 
 pub record IsClosing (said : Message) (m : Moment) : Type 0 where
   pub paired : IsPaired m.states m.packets
@@ -55,51 +57,93 @@ run-append : (acts more : List Act) (w : World) → (run (acts ++ more) w).world
 run-append [] more w = refl
 run-append (a ∷ acts) more w = run-append acts more (happens a w).world
 
--- a number that is closed now is as if its end had been told
-module _ (site : List (List ℕ)) (m : Moment) (sound : IsSound site m) (net : IsNet m) (a b : HostId) (n : ℕ) (t : Plain) (tat : At m.states b t) (closed : is_closed_for a n t ≡ true) where
-  abbrev pub told : Message
-  told = record { from = b; to = a; body = body.Done n }
+-- What a message would say stays true: it is as if it had been sent.
+module _ (site : List (List ℕ)) (few : IsSite site) (acts more : List Act) (sane : AreSane (acts ++ more)) where
+  abbrev start_world : World
+  start_world = (run acts (new_world site)).world
 
-  -- the sender is a host of the site
-  pub sender_below : a.0 < length site
-  sender_below = of (find_peer a t) refl closed
+  abbrev pub start : Moment
+  start = moment start_world (history acts (new_world site))
+
+  abbrev pub end : Moment
+  end = moment (run (acts ++ more) (new_world site)).world (history (acts ++ more) (new_world site))
+
+  parts_sane : (list_all is_sane_act acts ≡ true) × (list_all is_sane_act more ≡ true)
+  parts_sane = and_parts (list_all is_sane_act acts) (list_all is_sane_act more) (sym (list_all-append is_sane_act acts more) ∙ sane)
+
+  pub start_sound : IsSound site start
+  start_sound = run_sound site few.1 acts parts_sane.0
+
+  pub start_net : IsNet start
+  start_net = run_net site few acts parts_sane.0
+
+  pub end_sound : IsSound site end
+  end_sound = run_sound site few.1 (acts ++ more) sane
+
+  pub end_net : IsNet end
+  end_net = run_net site few (acts ++ more) sane
+
+  pub stays_true : (said : Message) → IsTrueWord start.states said → IsTrueWord end.states said
+  stays_true said holds =
+      let told : IsPaired start.states (said ∷ []) = record { lone = start_net.paired.lone; pairs = start_net.paired.pairs; words = λ x sent. of sent.0 x sent.1 } in
+      let kept = goes_on site (IsClosing said) (closing_keeps site said) start_world start.notes start_sound (record { paired = start_net.paired; closed = told }) more parts_sane.1 in
+      subst (λ v. IsTrueWord (states_of v) said) (sym (run-append acts more (new_world site))) (kept.closed.words said (0, refl))
     where
-      of : (o : Option Peer) → find_peer a t ≡ o → closes n o ≡ true → a.0 < length site
-      of None e k = absurd (true≢false (sym k))
-      of (Some p) e k =
-          let host = sound.hosts b.0 t tat in
-          let below = place_below t.peers a.0 p e in
-          let peers : length t.peers ≡ length t.site = eqb-true (length t.peers) (length t.site) (sites_are t host.order.site).peers in
-          let sites : length t.site ≡ length site = ap length (λ j. (host.head j).1) in
-          omega (arith, below, peers, sites)
-
-  pub told_paired : IsPaired m.states (told ∷ [])
-  told_paired = record { lone = net.paired.lone; pairs = net.paired.pairs; words = λ x sent. of sent.0 x sent.1 }
-    where
-      true_now : (v s : Plain) → At m.states b v → At m.states a s → Holds (pair_of a s b v) (DoneOf n)
-      true_now v s vat sat =
-          let same : t ≡ v = same_Some t v (sym tat ∙ vat) in
-          let below = closed_down site m sound net a b s v sat vat n (ap (is_closed_for a n) (sym same) ∙ closed) in
-          let less = (net.paired.pairs a b s v sat vat).below in
-          (omega (arith, below, less), below)
-
-      of : (k : ℕ) (x : Message) → slice_get (told ∷ []) k ≡ Some x → IsTrueWord m.states x
-      of zero x e = subst (IsTrueWord m.states) (same_Some told x e) (λ v s vat sat. true_now v s vat sat)
+      of : (k : ℕ) (x : Message) → slice_get (said ∷ []) k ≡ Some x → IsTrueWord start.states x
+      of zero x e = subst (IsTrueWord start.states) (same_Some said x e) holds
       of (suc k) x e = absurd (none-some x e)
 
-pub stays_closed : (site : List (List ℕ)) → IsSite site → (acts more : List Act) → AreSane (acts ++ more) → (a b : HostId) (n : ℕ) (t u : Plain) → At (states_of (run acts (new_world site)).world) b t → At (states_of (run (acts ++ more) (new_world site)).world) b u → is_closed_for a n t ≡ true → is_closed_for a n u ≡ true
-stays_closed site few acts more sane a b n t u tat uat closed =
-    let w : World = (run acts (new_world site)).world in
-    let ns = history acts (new_world site) in
-    let p = and_parts (list_all is_sane_act acts) (list_all is_sane_act more) (sym (list_all-append is_sane_act acts more) ∙ sane) in
-    let start : Moment = moment w ns in
-    let end : Moment = moment (run (acts ++ more) (new_world site)).world (history (acts ++ more) (new_world site)) in
-    let sound : IsSound site start = run_sound site few.1 acts p.0 in
-    let net : IsNet start = run_net site few acts p.0 in
-    let then_sound : IsSound site end = run_sound site few.1 (acts ++ more) sane in
-    let then_net : IsNet end = run_net site few (acts ++ more) sane in
-    let said = told site start sound net a b n t tat closed in
-    let kept = goes_on site (IsClosing said) (closing_keeps site said) w ns sound (record { paired = net.paired; closed = told_paired site start sound net a b n t tat closed }) more p.1 in
-    let paired : IsPaired end.states (said ∷ []) = subst (λ v. IsPaired (states_of v) (said ∷ [])) (sym (run-append acts more (new_world site))) kept.closed in
-    let s = value_at end.states a.0 (let below = sender_below site start sound net a b n t tat closed in let count = then_sound.count in omega (arith, below, count)) in
-    closed_up site end then_sound then_net a b s.0 u s.1 uat n (paired.words said (0, refl) u s.0 uat s.1).1
+  module _ (a b : HostId) (n : ℕ) (t u : Plain) (tat : At start.states b t) (uat : At end.states b u) where
+    -- a host with a promise or a closed number for a sender knows it
+    sender_at : (p : Peer) → find_peer a t ≡ Some p → (s : Plain) × At end.states a s
+    sender_at p e =
+        let host = start_sound.hosts b.0 t tat in
+        let below = place_below t.peers a.0 p e in
+        let peers : length t.peers ≡ length t.site = eqb-true (length t.peers) (length t.site) (sites_are t host.order.site).peers in
+        let sites : length t.site ≡ length site = ap length (λ j. (host.head j).1) in
+        let count = end_sound.count in
+        value_at end.states a.0 (omega (arith, below, peers, sites, count))
+
+    known : (o : Option Peer) → closes n o ≡ true → (p : Peer) × (o ≡ Some p)
+    known None k = absurd (true≢false (sym k))
+    known (Some p) k = (p, refl)
+
+    pub stays_closed : is_closed_for a n t ≡ true → is_closed_for a n u ≡ true
+    stays_closed closed =
+        let p = known (find_peer a t) closed in
+        let s = sender_at p.0 p.1 in
+        let said : Message = record { from = b; to = a; body = body.Done n } in
+        closed_up site end end_sound end_net a b s.0 u s.1 uat n (stays_true said (λ v w vat wat. true_now v w vat wat) u s.0 uat s.1).1
+      where
+        true_now : (v w : Plain) → At start.states b v → At start.states a w → Holds (pair_of a w b v) (DoneOf n)
+        true_now v w vat wat =
+            let same : t ≡ v = same_Some t v (sym tat ∙ vat) in
+            let below = closed_down site start start_sound start_net a b w v wat vat n (ap (is_closed_for a n) (sym same) ∙ closed) in
+            let less = (start_net.paired.pairs a b w v wat vat).below in
+            (omega (arith, below, less), below)
+
+    pub stays_taken : is_taken_for a n t ≡ true → is_taken_for a n u ≡ true
+    stays_taken taken = by (has_promise a n t) refl taken
+      where
+        order : IsInOrder t
+        order = (start_sound.hosts b.0 t tat).order
+
+        promised : has_promise a n t ≡ true → is_taken_for a n u ≡ true
+        promised k =
+            let q = promise_at t a n k in
+            let p = sender_known t order (peer_number a n) q.0 q.1 in
+            let s = sender_at p.0 p.1 in
+            let said : Message = record { from = b; to = a; body = body.Ready n } in
+            taken_up site end end_sound end_net a b s.0 u s.1 uat n (stays_true said (λ v w vat wat. true_now v w vat wat) u s.0 uat s.1).1
+          where
+            true_now : (v w : Plain) → At start.states b v → At start.states a w → Holds (pair_of a w b v) (ReadyFor n)
+            true_now v w vat wat =
+                let same : t ≡ v = same_Some t v (sym tat ∙ vat) in
+                let q = pledge_at v ((start_sound.hosts b.0 v vat).order) a n (ap (has_promise a n) (sym same) ∙ k) in
+                let ok = start_net.paired.pairs a b w v wat vat in
+                let less = subst (λ y. PledgeOk y (next_of b w) (closed_of a v)) q.1 ok.pledge in
+                (less.1, subst (λ y. IsTaken y (closed_of a v) n) (sym q.1) (λ above. refl))
+
+        by : (c : Bool) → has_promise a n t ≡ c → (c || is_closed_for a n t) ≡ true → is_taken_for a n u ≡ true
+        by true e k = promised e
+        by false e k = or_right (has_promise a n u) (is_closed_for a n u) (stays_closed k)

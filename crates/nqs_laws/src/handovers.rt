@@ -10,7 +10,7 @@ ghost use Rattle.nqs_rules.specs.Find.{has_row, find_promise};
 ghost use Rattle.nqs_rules.specs.Handover.{is_given_here};
 ghost use Rattle.nqs_rules.specs.World.{Act};
 ghost use Rattle.nqs_rules.specs.Run.{run_of};
-ghost use Rattle.nqs_laws.specs.Handovers.{IsStateOf, WasSent, is_open, is_closed_for, AreInStep, IsTrueOf};
+ghost use Rattle.nqs_laws.specs.Handovers.{IsStateOf, WasSent, is_open, is_closed_for, is_taken_for, AreInStep, IsTrueOf};
 ghost use Rattle.nqs_laws.specs.Sane.{AreSane, IsSite};
 
 /// What two hosts have of a handover goes together: an offered number isn't closed at its receiver, a committed one is promised or closed there, and a promised one isn't closed.
@@ -26,6 +26,11 @@ pub fn messages_stay_true()
 /// A closed number stays closed, however the run goes on.
 pub fn closed_numbers_stay_closed()
     ensures { (site : List (List ℕ)) (acts more : List Act) → IsSite site → AreSane (acts ++ more) → (from to : HostId) (number : ℕ) (t u : Plain) → IsStateOf (run_of site acts).world to t → IsStateOf (run_of site (acts ++ more)).world to u → is_closed_for from number t ≡ true → is_closed_for from number u ≡ true }
+{}
+
+/// What was promised stays promised until its number is closed, however the run goes on.
+pub fn promises_go_when_closed()
+    ensures { (site : List (List ℕ)) (acts more : List Act) → IsSite site → AreSane (acts ++ more) → (from to : HostId) (number : ℕ) (t u : Plain) → IsStateOf (run_of site acts).world to t → IsStateOf (run_of site (acts ++ more)).world to u → is_taken_for from number t ≡ true → is_taken_for from number u ≡ true }
 {}
 
 /// While an offer is open, none of its packets finds its request at the receiver: it is never refused because the request exists.

@@ -5,3 +5,4 @@ pub mod Tables
 pub mod Draws
 pub mod Counts
 pub mod OneReading
+pub mod Quotes
