@@ -10,6 +10,8 @@ use Rattle.nqs_store.specs.Told.{Host, told, IsUntold}
 use Rattle.nqs_store.specs.Live.{live, IsBadExtent}
 use Rattle.nqs_store.specs.declared.fault.LoadFault.{LoadFault}
 use Rattle.nqs_store.specs.declared.fault.LoadFault.TheVariants as load
+use Rattle.nqs_store.specs.declared.fault.StoreFault.{StoreFault}
+use Rattle.nqs_store.specs.declared.fault.StoreFault.TheVariants as store
 
 -- the journal's fault, on its disk
 abbrev pub JournalIsAt : JournalFault → LoadFault → Type 0
@@ -56,3 +58,21 @@ IsReadFault payloads spool load.Memory = Unit {0}
 -- Why the bytes of a journal and a spool are no host's: the first are no journal from this place on, or the records that they stand for are at fault.
 abbrev pub IsLoadFault : (first spool : List ℕ) → LoadFault → Type 0
 IsLoadFault first spool fault = ((journal : JournalFault) × faults.IsLoadFault first journal × JournalIsAt journal fault) ⊎ ((payloads : List (List ℕ)) × StandsFor first payloads × IsReadFault payloads spool fault)
+
+-- the faults of a commit
+abbrev pub IsCommitFault : StoreFault → Type 0
+IsCommitFault (store.Disk Root) = ⊥
+IsCommitFault (store.Disk First) = Unit {0}
+IsCommitFault (store.Disk Second) = ⊥
+IsCommitFault (store.Disk Spool) = Unit {0}
+IsCommitFault store.Memory = Unit {0}
+IsCommitFault store.Stopped = Unit {0}
+
+-- the faults of reading an extent
+abbrev pub IsScriptFault : StoreFault → Type 0
+IsScriptFault (store.Disk Root) = ⊥
+IsScriptFault (store.Disk First) = ⊥
+IsScriptFault (store.Disk Second) = ⊥
+IsScriptFault (store.Disk Spool) = Unit {0}
+IsScriptFault store.Memory = Unit {0}
+IsScriptFault store.Stopped = Unit {0}

@@ -6,3 +6,10 @@ pub mod Disks
 pub mod Stores
 pub mod Faults
 pub mod Formatted
+pub mod Accounts
+pub mod Frees
+pub mod Puts
+pub mod Hosts
+pub mod Plan
+pub mod Images
+pub mod Commits

@@ -43,3 +43,11 @@ module _ {D : Type 0} {g : disk.Ghosts D} where
   -- a host with the bytes of its extents
   abbrev pub plain_of : Store D g → Host → Plain
   plain_of store host = map_state (bytes_of store) host
+
+  -- which of its disks' calls are to fail
+  abbrev pub fails_of : Store D g → Which → ℕ → Bool
+  fails_of store which = g.fails (disk_of which store)
+
+  -- a failed call of one of its disks wasn't made
+  abbrev pub is_starved : Store D g → Which → Bool
+  is_starved store which = g.starved (disk_of which store)

@@ -7,10 +7,12 @@
 //! and `second` are not used.
 #![tactic(auto)]
 
+mod commit;
 mod disks;
 mod fault;
 mod formatting;
 mod live;
+mod opened;
 mod store;
 mod tell;
 

@@ -27,11 +27,11 @@ use std::alloc::Global;
 /// stand in the spool.
 #[derive(Drop)]
 pub struct Store<D: Disk> {
-    root: D,
-    first: Journal<D>,
-    second: D,
-    spool: Spool<D>,
-    stopped: bool,
+    pub(crate) root: D,
+    pub(crate) first: Journal<D>,
+    pub(crate) second: D,
+    pub(crate) spool: Spool<D>,
+    pub(crate) stopped: bool,
     ghost running: { stopped ≡ false → is_journal_stopped first ≡ false },
 }
 

@@ -1,0 +1,40 @@
+//! Laws of what a step or a start makes at a host in order.
+
+ghost use Rattle.std.specs.Prelude.{◌≡◌, ℕ, IsTrue, IfSome, length};
+ghost use Rattle.std.specs.List.{AllByRecursion};
+ghost use Rattle.nqs_types.specs.State.{State, content};
+ghost use Rattle.nqs_types.specs.declared.event.Event.{Event};
+ghost use Rattle.nqs_types.specs.declared.extent.Extent.{Extent};
+ghost use Rattle.nqs_records.specs.Changes.{MayStand};
+ghost use Rattle.nqs_records.specs.Values.{IsExtent};
+ghost use Rattle.nqs_rules.specs.Fits.{fits};
+ghost use Rattle.nqs_rules.specs.InOrder.{IsInOrder};
+ghost use Rattle.nqs_rules.specs.Sane.{is_sane_change, is_sane_event};
+ghost use Rattle.nqs_rules.specs.Start.{start};
+ghost use Rattle.nqs_rules.specs.Step.{step};
+ghost use Rattle.nqs_rules.specs.Stepped.{puts_of, stored_parts};
+ghost use Rattle.nqs_store.specs.Puts.{IsShortPut};
+ghost use Rattle.nqs_kept.specs.Reads.{AreLive};
+
+use nqs_types::{Change, HostState};
+
+/// A change that fits a host in order, and is within its limits, may stand in a record.
+pub fn fitting_changes_may_stand(state: &HostState, change: &Change)
+    requires order { IsInOrder (content state.now) }
+    requires fits { IsTrue (fits change.now (content state.now)) }
+    requires sane { IsTrue (is_sane_change change.now) }
+    requires extents { AllByRecursion IsExtent (stored_parts change.now) }
+    ensures { MayStand change.now }
+{}
+
+/// What is stored for a step or a start is short enough for the spool.
+pub fn stored_bytes_are_short()
+    ensures step { (e : Event) (s : State Extent) → IsInOrder s → IsTrue (is_sane_event (length s.site) e) → AllByRecursion IsShortPut (puts_of (step e s).change) }
+    ensures start { (now : ℕ) (s : State Extent) → IsInOrder s → IfSome (start now s) (λ x. AllByRecursion IsShortPut (puts_of x.change)) }
+{}
+
+/// What goes out reads live extents alone.
+pub fn outputs_read_live_extents()
+    ensures step { (e : Event) (s : State Extent) → IsInOrder s → AreLive s (step e s).outputs }
+    ensures start { (now : ℕ) (s : State Extent) → IsInOrder s → IfSome (start now s) (λ x. AreLive s x.outputs) }
+{}

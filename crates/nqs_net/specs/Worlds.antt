@@ -1,0 +1,81 @@
+-- A world in memory, and the pure machine that it stands for.
+use Rattle.std.specs.Prelude.{◌≡◌, ℕ, ◌+◌, ◌-◌, ◌≤◌, nat_le, Bool, true, false, List, [], ◌∷◌, Option, None, Some, length}
+use Rattle.nqs_types.specs.declared.world.Which.{Which}
+use Rattle.nqs_types.specs.declared.world.Which.TheVariants.{Root, First, Second, Spool}
+use Rattle.nqs_types.specs.declared.tear.Tear.{Tear}
+use Rattle.nqs_outside.specs.History.{Call, write, sync, History, content, moment}
+use Rattle.nqs_disk.specs.MemDisk as mem
+use Rattle.nqs_disk.specs.declared.mem_disk.MemDisk.{MemDisk}
+use Rattle.nqs_rules.specs.World.{Fuses, Calls, Host, World as Network}
+use Rattle.nqs_store.specs.Disks.{histories_of, failing_of}
+use Rattle.nqs_store.specs.declared.disks.Disks.{Disks}
+use Rattle.nqs_store.specs.Images.{IsTold}
+use Rattle.nqs_store.specs.Sound.{IsSoundHost}
+use Rattle.nqs_node.specs.Nodes.{history_of, fails_of, content_of, Tells}
+use Rattle.nqs_node.specs.declared.node.Node.{Node}
+use Rattle.nqs_net.specs.declared.world.Slot.{Slot}
+use Rattle.nqs_net.specs.declared.world.Slot.TheVariants.{Up, Down}
+use Rattle.nqs_net.specs.declared.world.World.{World}
+
+abbrev pub fuse_of : Which → Fuses → Option ℕ
+fuse_of Root fuses = fuses.root
+fuse_of First fuses = fuses.first
+fuse_of Second fuses = fuses.second
+fuse_of Spool fuses = fuses.spool
+
+abbrev pub calls_of : Which → Calls → ℕ
+calls_of Root calls = calls.root
+calls_of First calls = calls.first
+calls_of Second calls = calls.second
+calls_of Spool calls = calls.spool
+
+-- After so many calls, this many are left until one is to fail, and each later one.
+abbrev pub IsFuse : Option ℕ → ℕ → (ℕ → Bool) → Type 0
+IsFuse None made fails = (i : ℕ) → fails i ≡ false
+IsFuse (Some left) made fails = (1 ≤ left) × ((i : ℕ) → fails i ≡ nat_le (made + (left - 1)) i)
+
+-- a write and a sync in turn, each answered Ok
+abbrev pub AreInTurn : List Call → Type 0
+AreInTurn [] = Unit {0}
+AreInTurn (write place bytes true ∷ sync true ∷ calls) = AreInTurn calls
+AreInTurn calls = ⊥
+
+-- so many calls, and so many left until its fuse
+pub record IsDisk (fuse : Option ℕ) (calls : ℕ) (h : History) (fails : ℕ → Bool) : Type 0 where
+  pub fuse : IsFuse fuse (moment h) fails
+  pub count : moment h ≡ calls
+  pub turn : AreInTurn h.calls
+
+abbrev pub AreDisks : Host → (Which → History) → (Which → ℕ → Bool) → Type 0
+AreDisks host histories fails = (which : Which) → IsDisk (fuse_of which host.fuses) (calls_of which host.calls) (histories which) (fails which)
+
+-- a node that is up
+pub record IsUp (node : Node MemDisk) (host : Host) : Type 0 where
+  pub up : host.up ≡ true
+  pub tells : Tells node host.state
+  pub sound : IsSoundHost (content_of node)
+  pub disks : AreDisks host (history_of node) (fails_of node)
+
+-- The disks of a host that is down. No call was made of them.
+pub record IsDown (disks : Disks MemDisk) (host : Host) : Type 0 where
+  pub down : host.up ≡ false
+  pub tells : IsTold (content (histories_of mem.history_of disks First)) (content (histories_of mem.history_of disks Spool)) host.state
+  pub disks : AreDisks host (histories_of mem.history_of disks) (failing_of mem.fails_of disks)
+  pub calls : (which : Which) → (histories_of mem.history_of disks which).calls ≡ []
+
+abbrev pub IsSlot : Slot → Host → Type 0
+IsSlot (Up node) host = IsUp node host
+IsSlot (Down disks) host = IsDown disks host
+
+-- each slot and its tear stand for the host of their place
+abbrev pub AreSlots : List Slot → List Tear → List Host → Type 0
+AreSlots [] [] [] = Unit {0}
+AreSlots (slot ∷ slots) (tear ∷ tears) (host ∷ hosts) = IsSlot slot host × (tear ≡ host.tear) × AreSlots slots tears hosts
+AreSlots slots tears hosts = ⊥
+
+-- it stands for this network
+pub record IsWorld (world : World) (network : Network) : Type 0 where
+  pub site : world.site ≡ network.site
+  pub hosts : AreSlots world.slots world.tears network.hosts
+  pub packets : world.packets ≡ network.packets
+  pub now : world.now ≡ network.now

@@ -1,0 +1,47 @@
+-- What a node does where a change is to be kept, or none.
+use Rattle.std.specs.Prelude.{◌≡◌, ℕ, ◌<◌, Bool, IsTrue, List, [], Option, None, Some}
+use Rattle.nqs_types.specs.State.{Plain}
+use Rattle.nqs_types.specs.declared.change.Change.{Change}
+use Rattle.nqs_types.specs.declared.world.Which.{Which}
+use Rattle.nqs_types.specs.declared.world.Which.TheVariants.{First, Spool}
+use Rattle.nqs_outside.specs.History.{History, moment}
+use Rattle.nqs_rules.specs.Applied.{applied}
+use Rattle.nqs_rules.specs.Start.{start}
+use Rattle.nqs_rules.specs.Starts.{after_change}
+use Rattle.nqs_rules.specs.Stepped.{Stepped, quiet, stored_parts}
+use Rattle.nqs_store.specs.Commits.{IsKept, IsCutAt}
+use Rattle.nqs_store.specs.Hosts.{StopsShort, EachMoment}
+use Rattle.nqs_store.specs.Images.{TellsOneOf}
+use Rattle.nqs_store.specs.Plan.{CommitsBy}
+
+-- what is to be kept: a change with its bytes, or none
+abbrev pub Kept : Type 0
+Kept = Option (Change (List ℕ))
+
+-- the next start, or nothing where none may start
+abbrev pub started : ℕ → Plain → Stepped (List ℕ)
+started now s = elim (start now s) [ None ↦ quiet | Some x ↦ x ]
+
+module _ (fails : Which → ℕ → Bool) (old now : Which → History) where
+  -- Just the calls of its commit were made, and none of them was to fail. Where there is no change there is no call.
+  abbrev pub IsMade : Kept → Type 0
+  IsMade None = (which : Which) → now which ≡ old which
+  IsMade (Some c) = IsKept fails (stored_parts c) old now
+
+  -- a failed call of this disk cut its commit off
+  abbrev pub IsCutBy : Kept → Plain → Which → Type 0
+  IsCutBy None before which = ⊥
+  IsCutBy (Some c) before which = IsCutAt fails (stored_parts c) old now before (applied c before) which
+
+-- a part of its calls was made, of which only the last may have failed
+abbrev pub IsBrokenOff : (old now : Which → History) → Kept → Type 0
+IsBrokenOff old now None = (which : Which) → now which ≡ old which
+IsBrokenOff old now (Some c) = CommitsBy StopsShort (stored_parts c) old now
+
+-- at each moment, whatever images the disks may leave, they tell the state before the change or the one after it
+abbrev pub IsOneOrOther : (old now : Which → History) → Kept → Plain → Type 0
+IsOneOrOther old now kept before = EachMoment old now (λ images. TellsOneOf before (after_change kept before) (images First) (images Spool))
+
+-- a call that was to fail has been made
+abbrev pub IsBlown : (ℕ → Bool) → History → Type 0
+IsBlown fails h = (i : ℕ) × (i < moment h) × IsTrue (fails i)

@@ -1,0 +1,44 @@
+-- What a node tells.
+use Rattle.std.specs.Prelude.{◌≡◌, ℕ, Bool, false}
+use Rattle.nqs_types.specs.State.{State, Plain, content}
+use Rattle.nqs_types.specs.declared.extent.Extent.{Extent}
+use Rattle.nqs_types.specs.declared.world.Which.{Which}
+use Rattle.nqs_outside.specs.History.{History}
+use Rattle.nqs_outside.specs.declared.disk.Disk as disk
+use Rattle.nqs_store.specs.Stores as store
+use Rattle.nqs_store.specs.declared.store.Store.{Store}
+use Rattle.nqs_node.specs.declared.node.Node.{Node}
+
+module _ {D : Type 0} {g : disk.Ghosts D} where
+  abbrev pub disk_of : Which → Node D g → D
+  disk_of which node = store.disk_of which node.store
+
+  -- what one of its disks did
+  abbrev pub history_of : Node D g → Which → History
+  history_of node which = g.history (disk_of which node)
+
+  -- which of its disks' calls are to fail
+  abbrev pub fails_of : Node D g → Which → ℕ → Bool
+  fails_of node which = g.fails (disk_of which node)
+
+  -- a failed call of one of its disks wasn't made
+  abbrev pub is_starved : Node D g → Which → Bool
+  is_starved node which = g.starved (disk_of which node)
+
+  -- its state, with extents of the spool
+  abbrev pub content_of : Node D g → State Extent
+  content_of node = content node.state
+
+  -- its state, with the bytes of its extents
+  abbrev pub plain_of : Node D g → Plain
+  plain_of node = store.plain_of node.store (content_of node)
+
+  -- an earlier call was answered `Disk`
+  abbrev pub is_stopped : Node D g → Bool
+  is_stopped node = node.stopped
+
+  -- This is its state, and its disks tell it.
+  pub record Tells (node : Node D g) (s : Plain) : Type 0 where
+    pub is : plain_of node ≡ s
+    pub told : store.Tells node.store (content_of node)
+    pub running : is_stopped node ≡ false

@@ -1,0 +1,41 @@
+//! Why a call of a node failed.
+
+ghost use Rattle.std.specs.Prelude.{◌≡◌};
+
+use nqs_types::{Memory, Which};
+use std::alloc::AllocError;
+use thiserror::Error;
+
+/// Why a call of a node failed.
+#[derive(Clone, Copy, Debug, PartialEq, Eq, Error)]
+pub enum NodeFault {
+    /// It leaves the state, the outputs and the disks as they were.
+    #[error("out of memory")]
+    Memory,
+    /// A call of this disk failed. The node is stopped: it is to be closed.
+    #[error("a disk failed")]
+    Disk(Which),
+    /// An earlier call was answered `Disk`.
+    #[error("the node is stopped")]
+    Stopped,
+}
+
+impl From<Memory> for NodeFault {
+    ghost use Rattle.nqs_node.specs.declared.fault.NodeFault.TheVariants as fault;
+
+    ghost from_gives = { λ _ e. e ≡ fault.Memory };
+
+    fn from(_: Memory) -> NodeFault {
+        NodeFault::Memory
+    }
+}
+
+impl From<AllocError> for NodeFault {
+    ghost use Rattle.nqs_node.specs.declared.fault.NodeFault.TheVariants as fault;
+
+    ghost from_gives = { λ _ e. e ≡ fault.Memory };
+
+    fn from(_: AllocError) -> NodeFault {
+        NodeFault::Memory
+    }
+}

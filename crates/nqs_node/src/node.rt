@@ -1,0 +1,171 @@
+//! A node: a host's state, and the store that keeps it.
+
+ghost use Rattle.std.specs.Prelude.{◌≡◌, ◌≢◌, ◌⊎◌, ◌↔◌, ◌<◌, ◌≤◌, ◌+◌, ◌-◌, ◌++◌, ℕ, Bool, List, IsTrue, IsErrOf, OnOk, OnErr, IfOk, IfErr, false, length, map, max, nat_le, is_some};
+ghost use Rattle.nqs_types.specs.State.{Plain, content};
+ghost use Rattle.nqs_types.specs.declared.world.Which.{Which};
+ghost use Rattle.nqs_outside.specs.Causes.{Rose};
+ghost use Rattle.nqs_outside.specs.History.{moment};
+ghost use Rattle.nqs_rules.specs.Sane.{is_sane_event};
+ghost use Rattle.nqs_rules.specs.Start.{start};
+ghost use Rattle.nqs_rules.specs.Starts.{after_step};
+ghost use Rattle.nqs_rules.specs.Step.{step};
+ghost use Rattle.nqs_rules.specs.Stepped.{shown};
+ghost use Rattle.nqs_store.specs.Disks.{disk_at};
+ghost use Rattle.nqs_store.specs.Sound.{IsSoundHost};
+ghost use Rattle.nqs_store.specs.Stores.{is_stopped as is_store_stopped};
+ghost use Rattle.nqs_node.specs.Carried.{started, IsMade, IsCutBy, IsBrokenOff, IsOneOrOther, IsBlown};
+
+use crate::fault::NodeFault;
+use nqs_outside::{Disk, Fused};
+use nqs_store::{Disks, LoadFault, Store};
+use nqs_types::{Event, HostState, Output, Which};
+use std::alloc::Global;
+
+/// A host over its disks.
+#[derive(Drop)]
+pub struct Node<D: Disk> {
+    pub(crate) store: Store<D>,
+    pub(crate) state: HostState,
+    pub(crate) stopped: bool,
+    ghost running: { stopped ≡ false → is_store_stopped store ≡ false },
+}
+
+impl<D: Disk> Node<D> {
+    ghost use Rattle.nqs_node.specs.Nodes.{disk_of, history_of, fails_of, is_starved, content_of, is_stopped, Tells};
+
+    /// Takes an event: keeps its change, makes it, and adds to `out` what goes out. `Memory` leaves all as it was.
+    pub fn take(
+        &mut self,
+        alloc: Global,
+        event: &Event,
+        out: &mut Vec<Output>,
+    ) -> Result<(), NodeFault>
+        requires sound { IsSoundHost (content_of self.old) }
+        requires sane { IsTrue (is_sane_event (length (content_of self.old).site) event.now) }
+        ensures sound { IsSoundHost (content_of self.new) }
+        ensures site { (content_of self.new).site ≡ (content_of self.old).site }
+        ensures stopped { IsErrOf result NodeFault.Stopped ↔ IsTrue (is_stopped self.old) }
+        ensures running { OnOk result (is_stopped self.new ≡ false) }
+        ensures broken { (which : Which) → IsErrOf result (NodeFault.Disk which) → IsTrue (is_stopped self.new) × Rose (D.faults (disk_of which self.old)) (D.faults (disk_of which self.new)) }
+        ensures unsaid { OnErr result (out.new.items ≡ out.old.items) }
+        ensures memory { IsTrue D.tells → IsErrOf result NodeFault.Memory → (content_of self.new ≡ content_of self.old) × (is_stopped self.new ≡ is_stopped self.old)
+            × ((which : Which) → history_of self.new which ≡ history_of self.old which) × ((s : Plain) → Tells self.old s → Tells self.new s) }
+
+        // At Ok its state is that after the step, and its disks tell it; what goes out is the step's.
+        ensures told { IsTrue D.tells → (s : Plain) → Tells self.old s → OnOk result (Tells self.new (after_step (step event.now s) s)) }
+        ensures outputs { IsTrue D.tells → (s : Plain) → Tells self.old s → OnOk result (out.new.items ≡ out.old.items ++ map shown (step event.now s).outputs) }
+
+        // The calls that it makes: at Ok just those of the change's commit, else a part of them, of which only the last may have failed.
+        ensures made { IsTrue D.tells → (s : Plain) → Tells self.old s → OnOk result (IsMade (fails_of self.old) (history_of self.old) (history_of self.new) (step event.now s).change) }
+        ensures broken_off { IsTrue D.tells → (s : Plain) → Tells self.old s → OnErr result (IsBrokenOff (history_of self.old) (history_of self.new) (step event.now s).change) }
+
+        // Which of them fails is the disk's to say, unless it is starved.
+        ensures cut { IsTrue D.tells → (s : Plain) → Tells self.old s → (which : Which) → IsErrOf result (NodeFault.Disk which)
+            → IsTrue (is_starved self.new which) ⊎ (IsBlown (fails_of self.old which) (history_of self.old which)
+            ⊎ IsCutBy (fails_of self.old) (history_of self.old) (history_of self.new) (step event.now s).change s which) }
+        ensures fuse { IsTrue D.tells → (which : Which) (i : ℕ) → fails_of self.new which i ≡ fails_of self.old which i }
+
+        // At each moment, whatever images the disks may leave, they tell the state before the step or the one after it.
+        ensures any_moment { IsTrue D.tells → (s : Plain) → Tells self.old s → IsOneOrOther (history_of self.old) (history_of self.new) (step event.now s).change s }
+    {
+        if self.stopped {
+            return Err(NodeFault::Stopped);
+        }
+        Err(NodeFault::Memory)
+    }
+
+    /// Starts the next request, if one may start: `false` where none may. `Memory` leaves all as it was.
+    pub fn start_next(
+        &mut self,
+        alloc: Global,
+        now: u64,
+        out: &mut Vec<Output>,
+    ) -> Result<bool, NodeFault>
+        requires sound { IsSoundHost (content_of self.old) }
+        ensures sound { IsSoundHost (content_of self.new) }
+        ensures site { (content_of self.new).site ≡ (content_of self.old).site }
+        ensures stopped { IsErrOf result NodeFault.Stopped ↔ IsTrue (is_stopped self.old) }
+        ensures running { OnOk result (is_stopped self.new ≡ false) }
+        ensures broken { (which : Which) → IsErrOf result (NodeFault.Disk which) → IsTrue (is_stopped self.new) × Rose (D.faults (disk_of which self.old)) (D.faults (disk_of which self.new)) }
+        ensures unsaid { OnErr result (out.new.items ≡ out.old.items) }
+        ensures memory { IsTrue D.tells → IsErrOf result NodeFault.Memory → (content_of self.new ≡ content_of self.old) × (is_stopped self.new ≡ is_stopped self.old)
+            × ((which : Which) → history_of self.new which ≡ history_of self.old which) × ((s : Plain) → Tells self.old s → Tells self.new s) }
+
+        // It is false exactly where none may start.
+        ensures more { IfOk result (λ more. more ≡ is_some (start now (content_of self.old))) }
+
+        // At Ok its state is that after the start, and its disks tell it; what goes out is the start's.
+        ensures told { IsTrue D.tells → (s : Plain) → Tells self.old s → OnOk result (Tells self.new (after_step (started now s) s)) }
+        ensures outputs { IsTrue D.tells → (s : Plain) → Tells self.old s → OnOk result (out.new.items ≡ out.old.items ++ map shown (started now s).outputs) }
+
+        // The calls that it makes: at Ok just those of the change's commit, else a part of them, of which only the last may have failed.
+        ensures made { IsTrue D.tells → (s : Plain) → Tells self.old s → OnOk result (IsMade (fails_of self.old) (history_of self.old) (history_of self.new) (started now s).change) }
+        ensures broken_off { IsTrue D.tells → (s : Plain) → Tells self.old s → OnErr result (IsBrokenOff (history_of self.old) (history_of self.new) (started now s).change) }
+
+        // Which of them fails is the disk's to say, unless it is starved.
+        ensures cut { IsTrue D.tells → (s : Plain) → Tells self.old s → (which : Which) → IsErrOf result (NodeFault.Disk which)
+            → IsTrue (is_starved self.new which) ⊎ (IsBlown (fails_of self.old which) (history_of self.old which)
+            ⊎ IsCutBy (fails_of self.old) (history_of self.old) (history_of self.new) (started now s).change s which) }
+        ensures fuse { IsTrue D.tells → (which : Which) (i : ℕ) → fails_of self.new which i ≡ fails_of self.old which i }
+
+        // At each moment, whatever images the disks may leave, they tell the state before the start or the one after it.
+        ensures any_moment { IsTrue D.tells → (s : Plain) → Tells self.old s → IsOneOrOther (history_of self.old) (history_of self.new) (started now s).change s }
+    {
+        if self.stopped {
+            return Err(NodeFault::Stopped);
+        }
+        Err(NodeFault::Memory)
+    }
+
+    /// The host's state.
+    pub fn state(&self) -> &HostState
+        ensures { content result.now ≡ content_of self.now }
+    {
+        &self.state
+    }
+
+    /// Whether an earlier call was answered `Disk`.
+    pub fn is_stopped(&self) -> bool
+        ensures { result ≡ is_stopped self.now }
+    {
+        self.stopped
+    }
+
+    /// Hands the disks back. After `Disk` they may have writes pending.
+    pub fn close(self) -> Disks<D>
+        ensures { (which : Which) → disk_at which result ≡ disk_of which self }
+    {
+        self.store.close()
+    }
+
+    /// Tells the host by what its disks hold now, and writes nothing.
+    pub fn reread(&mut self, alloc: Global) -> Result<HostState, LoadFault>
+        ensures told { IsTrue D.tells → (s : Plain) → Tells self.old s → IfOk result (λ state. content state ≡ content_of self.old) }
+        ensures never { IsTrue D.tells → (s : Plain) → Tells self.old s → (which : Which) (place : ℕ) → IsErrOf result (LoadFault.NotNqs which place) → ⊥ }
+        ensures failed { (which : Which) → IsErrOf result (LoadFault.Disk which) → Rose (D.faults (disk_of which self.old)) (D.faults (disk_of which self.new)) }
+        ensures state { content_of self.new ≡ content_of self.old }
+        ensures stays { is_stopped self.new ≡ is_stopped self.old }
+        ensures same { IsTrue D.tells → (which : Which) → history_of self.new which ≡ history_of self.old which }
+        ensures fuse { IsTrue D.tells → (which : Which) (i : ℕ) → fails_of self.new which i ≡ fails_of self.old which i }
+        ensures tells { IsTrue D.tells → (s : Plain) → Tells self.old s → Tells self.new s }
+    {
+        self.store.reread(alloc)
+    }
+}
+
+impl<D: Fused> Node<D> {
+    ghost use Rattle.nqs_node.specs.Nodes.{disk_of, history_of, fails_of, is_starved, content_of, is_stopped, Tells};
+
+    /// Makes the calls-th write or sync from here of the disk fail, and each later call of it. It changes nothing else.
+    pub fn fuse(&mut self, which: Which, calls: u64)
+        ensures same { (disk : Which) → history_of self.new disk ≡ history_of self.old disk }
+        ensures set { IsTrue D.tells → ((i : ℕ) → i < moment (history_of self.old which) → fails_of self.old which i ≡ false)
+            → (i : ℕ) → fails_of self.new which i ≡ nat_le (moment (history_of self.old which) + (max calls 1 - 1)) i }
+        ensures others { (disk : Which) → disk ≢ which → (i : ℕ) → fails_of self.new disk i ≡ fails_of self.old disk i }
+        ensures state { content_of self.new ≡ content_of self.old }
+        ensures stopped { is_stopped self.new ≡ is_stopped self.old }
+        ensures tells { (s : Plain) → Tells self.old s → Tells self.new s }
+    {
+        self.store.fuse(which, calls);
+    }
+}

@@ -1,0 +1,97 @@
+//! Calls of an open store that keep nothing.
+
+ghost use Rattle.std.specs.Prelude.{◌≡◌, ◌≢◌, ◌⊎◌, ◌↔◌, ◌<◌, ◌≤◌, ◌+◌, ◌-◌, ◌++◌, ℕ, List, IsTrue, IsErrOf, OnOk, OnErr, IfOk, IfErr, false, length, max, nat_le, vec_capacity};
+ghost use Rattle.nqs_types.specs.State.{content};
+ghost use Rattle.nqs_types.specs.declared.world.Which.{Which};
+ghost use Rattle.nqs_types.specs.declared.world.Which.TheVariants.{Spool};
+ghost use Rattle.nqs_outside.specs.Causes.{Rose};
+ghost use Rattle.nqs_outside.specs.History.{moment};
+ghost use Rattle.nqs_spool.specs.Extents.{Has};
+ghost use Rattle.nqs_store.specs.Told.{Host};
+ghost use Rattle.nqs_store.specs.Live.{live};
+ghost use Rattle.nqs_store.specs.Sound.{IsSoundHost};
+ghost use Rattle.nqs_store.specs.Faults.{IsScriptFault};
+
+use crate::fault::{LoadFault, StoreFault};
+use crate::store::Store;
+use nqs_outside::{Disk, Fused};
+use nqs_spool::SpoolFault;
+use nqs_types::{Extent, HostState, Which};
+use std::alloc::Global;
+
+impl<D: Disk> Store<D> {
+    ghost use Rattle.nqs_store.specs.Stores.{disk_of, history_of, fails_of, is_starved, is_stopped, Tells, bytes_of};
+
+    /// Whether an earlier commit was answered `Disk`.
+    pub fn is_stopped(&self) -> bool
+        ensures { result ≡ is_stopped self.now }
+    {
+        self.stopped
+    }
+
+    /// Adds the bytes of a live extent to `out`. It takes no memory where there is room for them. An `Err` adds nothing.
+    pub fn script(&mut self, extent: &Extent, out: &mut Vec<u8>) -> Result<(), StoreFault>
+        ensures stopped { IsErrOf result StoreFault.Stopped ↔ IsTrue (is_stopped self.old) }
+        ensures only { IfErr result IsScriptFault }
+        ensures bytes { IsTrue D.tells → OnOk result ((host : Host) → Tells self.old host → Has (live host) extent.now → out.new.items ≡ out.old.items ++ bytes_of self.old extent.now) }
+        ensures unchanged { OnErr result (out.new.items ≡ out.old.items) }
+        ensures memory { IsErrOf result StoreFault.Memory → vec_capacity out.old < length out.old.items + extent.now.length }
+        ensures failed { IsErrOf result (StoreFault.Disk Spool) → Rose (D.faults (disk_of Spool self.old)) (D.faults (disk_of Spool self.new)) }
+        // Only after a call that was to fail.
+        ensures cause { IsTrue D.tells → IsErrOf result (StoreFault.Disk Spool) → (i : ℕ) × (i < moment (history_of self.old Spool)) × IsTrue (fails_of self.old Spool i) }
+        ensures same { IsTrue D.tells → (which : Which) → history_of self.new which ≡ history_of self.old which }
+        ensures fuse { IsTrue D.tells → (which : Which) (i : ℕ) → fails_of self.new which i ≡ fails_of self.old which i }
+        ensures starved { IsTrue D.tells → (which : Which) → is_starved self.new which ≡ is_starved self.old which }
+        ensures stays { is_stopped self.new ≡ is_stopped self.old }
+        ensures later { (which : Which) → D.faults (disk_of which self.old) ≤ D.faults (disk_of which self.new) }
+        ensures tells { IsTrue D.tells → (host : Host) → Tells self.old host → Tells self.new host }
+    {
+        if self.stopped {
+            return Err(StoreFault::Stopped);
+        }
+        match self.spool.get(extent, out) {
+            Ok(()) => Ok(()),
+            Err(SpoolFault::Memory) => Err(StoreFault::Memory),
+            Err(_) => Err(StoreFault::Disk(Which::Spool)),
+        }
+    }
+
+    /// Tells the host by what its disks hold now, and writes nothing.
+    pub fn reread(&mut self, alloc: Global) -> Result<HostState, LoadFault>
+        ensures told { IsTrue D.tells → (host : Host) → Tells self.old host → IfOk result (λ state. content state ≡ host) }
+        ensures sound { IfOk result (λ state. IsSoundHost (content state)) }
+        ensures never { IsTrue D.tells → (host : Host) → Tells self.old host → (which : Which) (place : ℕ) → IsErrOf result (LoadFault.NotNqs which place) → ⊥ }
+        ensures failed { (which : Which) → IsErrOf result (LoadFault.Disk which) → Rose (D.faults (disk_of which self.old)) (D.faults (disk_of which self.new)) }
+        ensures same { IsTrue D.tells → (which : Which) → history_of self.new which ≡ history_of self.old which }
+        ensures fuse { IsTrue D.tells → (which : Which) (i : ℕ) → fails_of self.new which i ≡ fails_of self.old which i }
+        ensures starved { IsTrue D.tells → (which : Which) → is_starved self.new which ≡ is_starved self.old which }
+        ensures stays { is_stopped self.new ≡ is_stopped self.old }
+        ensures later { (which : Which) → D.faults (disk_of which self.old) ≤ D.faults (disk_of which self.new) }
+        ensures tells { IsTrue D.tells → (host : Host) → Tells self.old host → Tells self.new host }
+    {
+        Err(LoadFault::Memory)
+    }
+}
+
+impl<D: Fused> Store<D> {
+    ghost use Rattle.nqs_store.specs.Stores.{disk_of, history_of, fails_of, is_starved, is_stopped, Tells};
+
+    /// Makes the calls-th write or sync from here of the disk fail, and each later call of it. It changes nothing else.
+    pub fn fuse(&mut self, which: Which, calls: u64)
+        ensures same { (disk : Which) → history_of self.new disk ≡ history_of self.old disk }
+        ensures set { IsTrue D.tells → ((i : ℕ) → i < moment (history_of self.old which) → fails_of self.old which i ≡ false)
+            → (i : ℕ) → fails_of self.new which i ≡ nat_le (moment (history_of self.old which) + (max calls 1 - 1)) i }
+        ensures others { (disk : Which) → disk ≢ which → (i : ℕ) → fails_of self.new disk i ≡ fails_of self.old disk i }
+        ensures starved { (disk : Which) → is_starved self.new disk ≡ is_starved self.old disk }
+        ensures faults { (disk : Which) → D.faults (disk_of disk self.new) ≡ D.faults (disk_of disk self.old) }
+        ensures stopped { is_stopped self.new ≡ is_stopped self.old }
+        ensures tells { (host : Host) → Tells self.old host → Tells self.new host }
+    {
+        match which {
+            Which::Root => self.root.fuse(calls),
+            Which::First => self.first.fuse(calls),
+            Which::Second => self.second.fuse(calls),
+            Which::Spool => self.spool.fuse(calls),
+        }
+    }
+}
