@@ -25,7 +25,7 @@ use Rattle.nqs_store.specs.Disks.{histories_of, failing_of}
 use Rattle.nqs_store.specs.Images.{IsTold}
 use Rattle.nqs_store.specs.declared.disks.Disks.{Disks}
 use Rattle.nqs_node.specs.Carried.{IsMade, IsCutBy, IsBlown}
-use Rattle.nqs_node.specs.Nodes.{history_of, fails_of, content_of, Tells}
+use Rattle.nqs_node.specs.Nodes.{history_of, fails_of, is_starved, content_of, Tells}
 use Rattle.nqs_disk.specs.contracts.mem_disk.MemDiskDisk.TheImpl.{ghosts}
 use Rattle.nqs_node.specs.declared.node.Node.{Node}
 use Rattle.nqs_store.specs.Sound.{IsSoundHost}
@@ -34,7 +34,7 @@ use Rattle.nqs_laws.proofs.PairedRuns.{put-twice}
 use Rattle.nqs_laws.proofs.Sound.{get-here}
 use Rattle.nqs_net.specs.Lists.{sent_in, seen_from}
 use Rattle.nqs_net.specs.Worlds.{fuse_of, AreInTurn, AreDisks, IsUp, IsDown, IsSlot}
-use Rattle.nqs_net.specs.Turns.{IsTorn, IsStopped, Faces, IsAt, IsSameBut, Turns}
+use Rattle.nqs_net.specs.Turns.{IsTorn, IsStopped, IsTaken, Faces, IsAt, IsSameBut, Turns}
 use Rattle.nqs_net.specs.declared.slot.Slot.{Slot}
 use Rattle.nqs_net.specs.declared.slot.Slot.TheVariants.{Up, Down}
 use Rattle.nqs_net.proofs.Fates.{CutsTo, unblown, kept_fate, cut_fate}
@@ -187,3 +187,17 @@ module _ (h : HostId) (w : Network) (host : Host) (tear : Tear) (packets : List 
   stopped_step now slot which starved before after saw is fed (inl no) = absurd (true≢false (sym no ∙ fed))
   stopped_step now slot which starved before after saw is fed (inr (inl blown)) = absurd (unblown (fuse_of which host.fuses) (old which) (fails which) (disks which).fuse blown)
   stopped_step now slot which starved before after saw is fed (inr (inr cut)) = cut_step now slot which before after saw is cut
+
+-- what a node's call did is what the step does
+module _ (h : HostId) (w : Network) (host : Host) (tear : Tear) (packets : List Message) (faces : Faces h host tear packets w) (x : Stepped (List ℕ)) (node : Node MemDisk ghosts) (out : List Output) where
+  pub took_turn : IsTaken host x node out true → IsSoundHost (content_of node) → (sent : List Message) (before after : List Seen) → sent ≡ packets ++ sent_in out → after ≡ before ++ seen_from h (length packets) out
+      → Turns h (IsUp node) tear sent before after w (steps h host x w)
+  took_turn t sound sent before after sends saw =
+      made_turn h w host tear packets faces x t.fails t.old t.disks node t.up t.ended.1 t.ended.0 sound t.same sent before after
+      (sends ∙ ap (λ l. packets ++ sent_in l) t.ended.2) (saw ∙ ap (λ l. before ++ seen_from h (length packets) l) t.ended.2)
+
+  pub broke_turn : IsTaken host x node out false → (slot : Slot) (before after : List Seen) → after ≡ before ++ seen.Stop h ∷ [] → IsStopped tear (history_of node) slot → ((which : Which) → is_starved node which ≡ false)
+      → Turns h (IsSlot slot) tear packets before after w (steps h host x w)
+  broke_turn t slot before after saw is fed =
+      let which = t.ended.0 in
+      stopped_step h w host tear packets faces x t.fails t.old t.disks (history_of node) slot which (is_starved node which) before after saw is (fed which) t.ended.1
