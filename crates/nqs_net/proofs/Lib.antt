@@ -2,3 +2,6 @@ pub mod Fates
 pub mod Burns
 pub mod Turning
 pub mod Starting
+pub mod Placing
+pub mod Meaning
+pub mod Finishing

@@ -72,13 +72,13 @@ module _ (h : HostId) (w : Network) where
       seen = saw;
     }
 
-    pub out_turn : (os : List Output) (first before after : List Seen) (packets : List Message) → packets ≡ w.packets ++ sent_in os → after ≡ before ++ first ++ seen_from h (length w.packets) os
+    pub out_turn : (os : List Output) (first before after : List Seen) (packets : List Message) → packets ≡ w.packets ++ sent_in os → after ≡ before ++ (first ++ seen_from h (length w.packets) os)
         → Turns h P tear packets before after w (then_seen first (emits h os (put_host h x w)))
     out_turn os first before after packets sent saw =
         subst (λ (v : Network). Turns h P tear packets before after w (record { world = v; seen = first ++ (emits h os (put_host h x w)).seen })) (sym (emits_world h os (put_host h x w))) (record {
           at = record { host = x; stands = p; faces = record { there = get-here h.0 x host w.hosts there; tear = same; packets = sent } };
           rest = record { hosts = λ y. put-twice h.0 y x w.hosts; site = refl; now = refl };
-          seen = saw ∙ append_assoc before first (seen_from h (length w.packets) os) ∙ ap (λ l. before ++ (first ++ l)) (sym (emits_seen h os (put_host h x w)));
+          seen = saw ∙ ap (λ l. before ++ (first ++ l)) (sym (emits_seen h os (put_host h x w)));
         })
 
   -- without a change
@@ -126,12 +126,12 @@ module _ (h : HostId) (w : Network) (host : Host) (tear : Tear) (packets : List 
     (fails : Which → ℕ → Bool) (old : Which → History) (disks : AreDisks host old fails) where
   -- it was kept
   pub kept_turn : (now : Which → History) (P : Host → Type 0) → IsKept fails (stored_parts c) old now → P (used (stored_parts c) (applied c host.state) host)
-      → (sent : List Message) (before after : List Seen) → sent ≡ packets ++ sent_in os → after ≡ before ++ first ++ seen_from h (length packets) os
+      → (sent : List Message) (before after : List Seen) → sent ≡ packets ++ sent_in os → after ≡ before ++ (first ++ seen_from h (length packets) os)
       → Turns h P tear sent before after w (makes_change h host c first os w)
   kept_turn now P kept p sent before after sends saw =
       subst (λ (f : Fate). Turns h P tear sent before after w (change_fated f h host c first os w)) (sym (kept_fate host fails old disks (stored_parts c) now kept))
       (out_turn h w host (used (stored_parts c) (applied c host.state) host) faces.there P p tear faces.tear os first before after sent
-      (sends ∙ ap (λ l. l ++ sent_in os) faces.packets) (saw ∙ ap (λ l. before ++ first ++ seen_from h (length l) os) faces.packets))
+      (sends ∙ ap (λ l. l ++ sent_in os) faces.packets) (saw ∙ ap (λ l. before ++ (first ++ seen_from h (length l) os)) faces.packets))
 
   -- it was cut off
   module _ (now : Which → History) (before after : List Seen) (saw : after ≡ before ++ seen.Stop h ∷ []) where
@@ -184,7 +184,7 @@ module _ (h : HostId) (w : Network) (host : Host) (tear : Tear) (packets : List 
   pub stopped_step : (now : Which → History) (slot : Slot) (which : Which) (starved : Bool) (before after : List Seen) → after ≡ before ++ seen.Stop h ∷ [] → IsStopped tear now slot → starved ≡ false
       → IsTrue starved ⊎ (IsBlown (fails which) (old which) ⊎ IsCutBy fails old now x.change host.state which)
       → Turns h (IsSlot slot) tear packets before after w (steps h host x w)
-  stopped_step now slot which starved before after saw is fed (inl no) = absurd (true≢false (sym no ∙ fed))
+  stopped_step now slot which starved before after saw is fed (inl hungry) = absurd (true≢false (sym hungry ∙ fed))
   stopped_step now slot which starved before after saw is fed (inr (inl blown)) = absurd (unblown (fuse_of which host.fuses) (old which) (fails which) (disks which).fuse blown)
   stopped_step now slot which starved before after saw is fed (inr (inr cut)) = cut_step now slot which before after saw is cut
 

@@ -2,3 +2,5 @@ pub mod Lists
 pub mod Props
 pub mod Worlds
 pub mod Turns
+pub mod Deeds
+pub mod Least

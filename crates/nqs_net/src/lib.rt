@@ -5,7 +5,11 @@
 //! `nqs_rules`, in which there is no byte of a disk.
 #![tactic(auto)]
 
+mod deed;
 mod emit;
+mod host;
+mod packets;
+mod places;
 mod slot;
 mod stop;
 mod turn;

@@ -11,11 +11,11 @@ returns-in-Ok-clause-taken c = λ host is empty. record {
   fails = fails_of c.args.node.now;
   old = history_of c.args.node.now;
   disks = is.disks;
-  same = c.in-Ok.ensures.fuse tt;
+  same = c.in-Ok.ensures.fuse refl;
   ended = (
-    c.in-Ok.ensures.told tt host.state is.tells,
-    c.in-Ok.ensures.made tt host.state is.tells,
-    c.in-Ok.ensures.outputs tt host.state is.tells ∙ ap (λ l. l ++ map shown (started c.args.now host.state).outputs) empty,
+    c.in-Ok.ensures.told refl host.state is.tells,
+    c.in-Ok.ensures.made refl host.state is.tells,
+    c.in-Ok.ensures.outputs refl host.state is.tells ∙ ap (λ l. l ++ map shown (started c.args.now host.state).outputs) empty,
   );
 }
 
@@ -25,8 +25,8 @@ returns-in-Err-Disk-clause-taken c = λ host is empty. record {
   fails = fails_of c.args.node.now;
   old = history_of c.args.node.now;
   disks = is.disks;
-  same = c.in-Err-Disk.ensures.fuse tt;
-  ended = (c.in-Err-Disk.field-0-0, c.in-Err-Disk.ensures.cut tt host.state is.tells c.in-Err-Disk.field-0-0 refl);
+  same = c.in-Err-Disk.ensures.fuse refl;
+  ended = (c.in-Err-Disk.field-0-0, c.in-Err-Disk.ensures.cut refl host.state is.tells c.in-Err-Disk.field-0-0 refl);
 }
 
 pub returns-in-Ok-clause-last : goal.returns-in-Ok-clause-last

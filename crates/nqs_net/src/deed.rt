@@ -1,0 +1,169 @@
+//! What comes to one host, whether it is up or down.
+
+ghost use Rattle.std.specs.Prelude.{◌≡◌, ◌++◌, ◌∷◌, [], IfOk, OnOk, length};
+ghost use Rattle.nqs_types.specs.State.{content};
+ghost use Rattle.nqs_types.specs.declared.event.Event.TheVariants as event;
+ghost use Rattle.nqs_rules.specs.Tests.{is_running};
+ghost use Rattle.nqs_rules.specs.World.{World as Network, Host, is_less_id, finishes_up};
+ghost use Rattle.nqs_node.specs.Nodes.{content_of};
+ghost use Rattle.nqs_store.specs.Sound.{IsSoundHost};
+ghost use Rattle.nqs_net.specs.Worlds.{IsUp, IsDown, IsSlot};
+ghost use Rattle.nqs_net.specs.Turns.{Faces, Turns};
+ghost use Rattle.nqs_net.specs.Deeds.{done_up, done_down, done_at, IsSaneFor, IsSaneAt};
+ghost use Rattle.nqs_net.specs.Least.{least_of};
+
+use crate::host::{boot_down, crash_up, take_up};
+use crate::slot::{DownHost, Slot, UpHost};
+use nqs_disk::MemDisk;
+use nqs_node::Node;
+use nqs_types::{
+    Bytes, Event, HostId, HostState, Memory, Message, RequestId, Row, RowState, Seen, Tear,
+};
+use std::alloc::Global;
+
+/// What comes to one host.
+#[derive(Drop)]
+pub enum Deed {
+    /// The host takes an event.
+    Take(Event),
+    /// Its least running request ends.
+    Finish,
+    Crash,
+    Boot,
+}
+
+fn is_running(row: &Row) -> bool
+    ensures { result ≡ is_running row.now.state }
+{
+    row.state == RowState::Running
+}
+
+fn is_less(one: &Row, other: &Row) -> bool
+    ensures { result ≡ is_less_id one.now.id other.now.id }
+{
+    one.id.host.0 < other.id.host.0
+        || (one.id.host.0 == other.id.host.0 && one.id.seq < other.id.seq)
+}
+
+// The least running request, by the host of its submission and then by its number, and how often it was started.
+fn least_running(state: &HostState) -> Option<(RequestId, u16)>
+    ensures { result ≡ least_of (content state.now).rows }
+{
+    let least = state.rows.best(
+        |row: &Row| is_running(row),
+        |one: &Row, other: &Row| is_less(one, other),
+    );
+    match least {
+        Some((_, row)) => Some((row.id, row.starts)),
+        None => None,
+    }
+}
+
+// A host stays as it is, and this is seen.
+fn stay(slot: Slot, sight: Seen, seen: &mut Vec<Seen>) -> Result<Slot, Memory>
+    ensures same { IfOk result (λ new. new ≡ slot) }
+    ensures seen { OnOk result (seen.new.items ≡ seen.old.items ++ sight ∷ []) }
+{
+    seen.push(sight)?;
+    Ok(slot)
+}
+
+fn ended(alloc: Global, now: u64, id: RequestId, start: u16) -> Event
+    ensures { result ≡ event.Ended now 0 id start 0 [] [] }
+{
+    Event::Ended {
+        now,
+        port: 0,
+        id,
+        start,
+        status: 0,
+        out: Bytes::new(alloc),
+        err: Bytes::new(alloc),
+    }
+}
+
+// The least running request of a host that is up ends.
+fn finish_up(
+    alloc: Global,
+    me: HostId,
+    node: Node<MemDisk>,
+    tear: Tear,
+    now: u64,
+    packets: &mut Vec<Message>,
+    seen: &mut Vec<Seen>,
+) -> Result<Slot, Memory>
+    requires sound { IsSoundHost (content_of node) }
+    ensures { (w : Network) (host : Host) → Faces me host tear packets.old.items w → IsUp node host → w.now ≡ now
+        → IfOk result (λ slot. Turns me (IsSlot slot) tear packets.new.items seen.old.items seen.new.items w (finishes_up me host w)) }
+{
+    match least_running(node.state()) {
+        Some((id, start)) => {
+            let event = ended(alloc, now, id, start);
+            take_up(alloc, me, node, tear, &event, now, packets, seen)
+        }
+        None => stay(Slot::Up(UpHost { node }), Seen::Idle { host: me }, seen),
+    }
+}
+
+fn do_up(
+    alloc: Global,
+    me: HostId,
+    node: Node<MemDisk>,
+    tear: Tear,
+    deed: &Deed,
+    now: u64,
+    packets: &mut Vec<Message>,
+    seen: &mut Vec<Seen>,
+) -> Result<Slot, Memory>
+    requires sound { IsSoundHost (content_of node) }
+    requires sane { IsSaneFor (length (content_of node).site) deed.now }
+    ensures { (w : Network) (host : Host) → Faces me host tear packets.old.items w → IsUp node host → w.now ≡ now
+        → IfOk result (λ slot. Turns me (IsSlot slot) tear packets.new.items seen.old.items seen.new.items w (done_up deed.now me host w)) }
+{
+    match deed {
+        Deed::Take(event) => take_up(alloc, me, node, tear, event, now, packets, seen),
+        Deed::Finish => finish_up(alloc, me, node, tear, now, packets, seen),
+        Deed::Crash => crash_up(me, node, tear, packets, seen),
+        Deed::Boot => stay(Slot::Up(UpHost { node }), Seen::Up { host: me }, seen),
+    }
+}
+
+fn do_down(
+    alloc: Global,
+    me: HostId,
+    down: DownHost,
+    tear: Tear,
+    deed: &Deed,
+    now: u64,
+    packets: &mut Vec<Message>,
+    seen: &mut Vec<Seen>,
+) -> Result<Slot, Memory>
+    ensures { (w : Network) (host : Host) → Faces me host tear packets.old.items w → IsDown down.disks host → w.now ≡ now
+        → IfOk result (λ slot. Turns me (IsSlot slot) tear packets.new.items seen.old.items seen.new.items w (done_down deed.now me host w)) }
+{
+    match deed {
+        Deed::Boot => boot_down(alloc, me, down, tear, now, packets, seen),
+        _ => stay(Slot::Down(down), Seen::Down { host: me }, seen),
+    }
+}
+
+/// What comes to a host: one that is down only boots.
+pub(crate) fn do_at(
+    alloc: Global,
+    me: HostId,
+    slot: Slot,
+    tear: Tear,
+    deed: &Deed,
+    now: u64,
+    packets: &mut Vec<Message>,
+    seen: &mut Vec<Seen>,
+) -> Result<Slot, Memory>
+    requires sane { IsSaneAt deed.now slot }
+    ensures { (w : Network) (host : Host) → Faces me host tear packets.old.items w → IsSlot slot host → w.now ≡ now
+        → IfOk result (λ new. Turns me (IsSlot new) tear packets.new.items seen.old.items seen.new.items w (done_at deed.now me host w)) }
+{
+    match slot {
+        Slot::Up(up) => do_up(alloc, me, up.node, tear, deed, now, packets, seen),
+        Slot::Down(down) => do_down(alloc, me, down, tear, deed, now, packets, seen),
+    }
+}

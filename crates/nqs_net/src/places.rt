@@ -1,0 +1,45 @@
+//! What comes to one place of a world: its slot is taken out, changed, and put back.
+
+ghost use Rattle.std.specs.Prelude.{◌≡◌, ◌++◌, OnOk};
+ghost use Rattle.nqs_rules.specs.World.{World as Network};
+ghost use Rattle.nqs_net.specs.Worlds.{IsWorld};
+ghost use Rattle.nqs_net.specs.Deeds.{done, IsReady};
+
+use crate::deed::{Deed, do_at};
+use crate::world::World;
+use nqs_types::{HostId, Memory, Seen};
+use std::alloc::Global;
+
+impl World {
+    /// Does this at a host. Where there is no such host nothing happens.
+    pub(crate) fn act(
+        &mut self,
+        alloc: Global,
+        host: HostId,
+        deed: &Deed,
+        seen: &mut Vec<Seen>,
+    ) -> Result<(), Memory>
+        requires ready { IsReady self.old deed.now }
+        ensures world { (network : Network) → IsWorld self.old network → OnOk result (IsWorld self.new (done deed.now host network).world) }
+        ensures seen { (network : Network) → IsWorld self.old network → OnOk result (seen.new.items ≡ seen.old.items ++ (done deed.now host network).seen) }
+    {
+        let place = host.0 as usize;
+        if self.slots.len() <= place {
+            return Ok(());
+        }
+        let tear = self.tears[place];
+        let slot = self.slots.remove(place);
+        let slot = do_at(
+            alloc,
+            host,
+            slot,
+            tear,
+            deed,
+            self.now,
+            &mut self.packets,
+            seen,
+        )?;
+        self.slots.insert(place, slot)?;
+        Ok(())
+    }
+}
