@@ -1,5 +1,5 @@
 -- The least running request of a node is that of its host.
-use Rattle.std.proofs.Common.{◌≡◌, ◌×◌, ℕ, List, [], ◌∷◌, ◌++◌, length, map, Option, None, Some, Ok, Err, IfOk, OnOk, refl, sym, ap, subst, ◌∙◌}
+use Rattle.std.proofs.Common.{◌≡◌, ℕ, List, [], ◌∷◌, ◌++◌, length, map, Option, None, Some, Ok, Err, IfOk, OnOk, refl, sym, ap, subst, ◌∙◌}
 use Rattle.std.proofs.lemmas.Option.{same_Some, none-some}
 use Rattle.std.specs.Option.{option_map}
 use Rattle.std.specs.declared.result.Result.{Result}
@@ -17,21 +17,21 @@ use Rattle.nqs_types.specs.declared.world.Seen.TheVariants as seen
 use Rattle.nqs_rules.specs.Plain.{map_row}
 use Rattle.nqs_rules.specs.Tests.{is_running}
 use Rattle.nqs_rules.specs.World.{Host, World as Network, is_less_id, runs_now, is_less_row, takes_up, Ran, finishes, finishes_up, seeing}
-use Rattle.nqs_rules.proofs.ListMaps.{best_from-map}
+use Rattle.nqs_rules.proofs.ListMaps.{best_from-map, at_place}
 use Rattle.nqs_disk.specs.contracts.mem_disk.MemDiskDisk.TheImpl.{ghosts}
 use Rattle.nqs_disk.specs.declared.mem_disk.MemDisk.{MemDisk}
 use Rattle.nqs_node.specs.Nodes.{content_of}
 use Rattle.nqs_node.specs.declared.node.Node.{Node}
 use Rattle.nqs_store.specs.Stores.{bytes_of}
-use Rattle.nqs_net.specs.Least.{least_of}
+use Rattle.nqs_net.specs.Least.{start_of, least_of}
 use Rattle.nqs_net.specs.Worlds.{IsUp, IsSlot}
 use Rattle.nqs_net.specs.declared.slot.Slot.{Slot}
 use Rattle.nqs_net.specs.Turns.{Faces, Turns}
 
 least_same : (f : Extent → List ℕ) (rows : List (Row Extent)) → least_of (map (map_row f) rows) ≡ least_of rows
-least_same f rows = ap (option_map (λ p. (p.1.id, p.1.starts))) (best_from-map (map_row f) (λ r. is_running r.state) (λ a b. is_less_id a.id b.id) 0 rows) ∙ by (best_from (λ r. is_running r.state) (λ a b. is_less_id a.id b.id) 0 rows)
+least_same f rows = ap (option_map start_of) (best_from-map (map_row f) (λ r. is_running r.state) (λ a b. is_less_id a.id b.id) 0 rows) ∙ by (best_from (λ r. is_running r.state) (λ a b. is_less_id a.id b.id) 0 rows)
   where
-    by : (o : Option (ℕ × Row Extent)) → option_map (λ p. (p.1.id, p.1.starts)) (option_map (λ p. (p.0, map_row f p.1)) o) ≡ option_map (λ p. (p.1.id, p.1.starts)) o
+    by : (o : Option (ℕ × Row Extent)) → option_map start_of (option_map (at_place (map_row f)) o) ≡ option_map start_of o
     by None = refl
     by (Some p) = refl
 
@@ -39,13 +39,13 @@ module _ (node : Node MemDisk ghosts) (host : Host) (is : IsUp node host) (h : H
   least_up : least_of host.state.rows ≡ least_of (content_of node).rows
   least_up = ap (λ s. least_of s.rows) (sym is.tells.is) ∙ least_same (bytes_of node.store) (content_of node).rows
 
-  by_id : (o : Option (ℕ × Row (List ℕ))) (p : RequestId × ℕ) → option_map (λ q. (q.1.id, q.1.starts)) o ≡ Some p → finishes h host o w ≡ takes_up h host (event.Ended w.now 0 p.0 p.1 0 [] []) w
+  by_id : (o : Option (ℕ × Row (List ℕ))) (p : RequestId × ℕ) → option_map start_of o ≡ Some p → finishes h host o w ≡ takes_up h host (event.Ended w.now 0 p.0 p.1 0 [] []) w
   by_id None p e = absurd (none-some p e)
-  by_id (Some q) p e = ap (λ x. takes_up h host (event.Ended w.now 0 x.0 x.1 0 [] []) w) (same_Some (q.1.id, q.1.starts) p e)
+  by_id (Some q) p e = ap (λ x. takes_up h host (event.Ended w.now 0 x.0 x.1 0 [] []) w) (same_Some (start_of q) p e)
 
-  by_none : (o : Option (ℕ × Row (List ℕ))) → option_map (λ q. (q.1.id, q.1.starts)) o ≡ None → finishes h host o w ≡ seeing (seen.Idle h) w
+  by_none : (o : Option (ℕ × Row (List ℕ))) → option_map start_of o ≡ None → finishes h host o w ≡ seeing (seen.Idle h) w
   by_none None e = refl
-  by_none (Some q) e = absurd (none-some (q.1.id, q.1.starts) (sym e))
+  by_none (Some q) e = absurd (none-some (start_of q) (sym e))
 
   pub least_ends : (p : RequestId × ℕ) → Some p ≡ least_of (content_of node).rows → finishes_up h host w ≡ takes_up h host (event.Ended w.now 0 p.0 p.1 0 [] []) w
   least_ends p e = by_id (best_from runs_now is_less_row 0 host.state.rows) p (least_up ∙ sym e)

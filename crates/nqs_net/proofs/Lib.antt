@@ -3,5 +3,7 @@ pub mod Burns
 pub mod Turning
 pub mod Starting
 pub mod Placing
-pub mod Meaning
+pub mod Means
 pub mod Finishing
+pub mod Fusing
+pub mod Arriving

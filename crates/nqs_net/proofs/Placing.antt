@@ -1,5 +1,5 @@
 -- One slot of a world is changed, and with it the host at its place.
-use Rattle.std.proofs.Common.{◌≡◌, ◌×◌, ℕ, zero, suc, ◌<◌, ◌≤◌, IsTrue, List, [], ◌∷◌, ◌++◌, length, map, get_or, slice_get, Option, None, Some, refl, sym, ap, subst, ◌∙◌, arith}
+use Rattle.std.proofs.Common.{◌≡◌, ℕ, zero, suc, ◌<◌, ◌≤◌, IsTrue, List, [], ◌∷◌, ◌++◌, length, map, get_or, slice_get, Option, None, Some, refl, sym, ap, subst, ◌∙◌, arith}
 use Rattle.std.specs.List.{insert, remove}
 use Rattle.std.proofs.lemmas.Option.{slice_get-map}
 use Rattle.std.specs.Option.{option_map}
@@ -12,7 +12,7 @@ use Rattle.nqs_rules.specs.World.{Host, World as Network, Ran, host_of}
 use Rattle.nqs_laws.proofs.Frame.{put-same}
 use Rattle.nqs_net.specs.Worlds.{IsSlot, IsUp, AreSlots, IsWorld}
 use Rattle.nqs_net.specs.Turns.{Faces, IsAt, IsSameBut, Turns}
-use Rattle.nqs_net.specs.Deeds.{IsSaneFor, IsSaneAt, IsReady}
+use Rattle.nqs_net.specs.Deeds.{done, done_by, done_at, IsSaneFor, IsSaneAt, IsReady}
 use Rattle.nqs_net.specs.declared.deed.Deed.{Deed}
 use Rattle.nqs_net.specs.declared.slot.Slot.{Slot}
 use Rattle.nqs_net.specs.declared.slot.Slot.TheVariants.{Up, Down}
@@ -24,7 +24,7 @@ tears_as_long [] [] (host ∷ hosts) are = absurd are
 tears_as_long [] (tear ∷ tears) hosts are = absurd are
 tears_as_long (slot ∷ slots) [] hosts are = absurd are
 tears_as_long (slot ∷ slots) (tear ∷ tears) [] are = absurd are
-tears_as_long (slot ∷ slots) (tear ∷ tears) (host ∷ hosts) are = ap suc (tears_as_long slots tears hosts are.1.1)
+tears_as_long (slot ∷ slots) (tear ∷ tears) (host ∷ hosts) are = ap suc (tears_as_long slots tears hosts are.2)
 
 pub no_host : (slots : List Slot) (tears : List Tear) (hosts : List Host) (n : ℕ) → AreSlots slots tears hosts → length slots ≤ n → slice_get hosts n ≡ None
 no_host [] [] [] n are past = refl
@@ -33,7 +33,7 @@ no_host [] (tear ∷ tears) hosts n are past = absurd are
 no_host (slot ∷ slots) [] hosts n are past = absurd are
 no_host (slot ∷ slots) (tear ∷ tears) [] n are past = absurd are
 no_host (slot ∷ slots) (tear ∷ tears) (host ∷ hosts) zero are past = absurd (omega (arith, past))
-no_host (slot ∷ slots) (tear ∷ tears) (host ∷ hosts) (suc n) are past = no_host slots tears hosts n are.1.1 (omega (arith, past))
+no_host (slot ∷ slots) (tear ∷ tears) (host ∷ hosts) (suc n) are past = no_host slots tears hosts n are.2 (omega (arith, past))
 
 -- the host at a place
 pub record Placed (slot : Slot) (tear : Tear) (hosts : List Host) (n : ℕ) : Type 0 where
@@ -47,9 +47,9 @@ pub slot_at : (slots : List Slot) (tears : List Tear) (hosts : List Host) (n : �
 slot_at [] tears hosts n slot tear are within here also = absurd (omega (arith, within))
 slot_at (x ∷ slots) [] hosts n slot tear are within here also = absurd are
 slot_at (x ∷ slots) (t ∷ tears) [] n slot tear are within here also = absurd are
-slot_at (x ∷ slots) (t ∷ tears) (host ∷ hosts) zero slot tear are within here also = record { host = host; there = refl; stands = subst (λ s. IsSlot s host) (sym here) are.0; same = also ∙ are.1.0 }
+slot_at (x ∷ slots) (t ∷ tears) (host ∷ hosts) zero slot tear are within here also = record { host = host; there = refl; stands = subst (λ s. IsSlot s host) (sym here) are.0; same = also ∙ are.1 }
 slot_at (x ∷ slots) (t ∷ tears) (host ∷ hosts) (suc n) slot tear are within here also =
-    let at = slot_at slots tears hosts n slot tear are.1.1 (omega (arith, within)) here also in
+    let at = slot_at slots tears hosts n slot tear are.2 (omega (arith, within)) here also in
     record { host = at.host; there = at.there; stands = at.stands; same = at.same }
 
 pub put_slot : (slots : List Slot) (tears : List Tear) (hosts : List Host) (n : ℕ) (slot : Slot) (tear : Tear) (host : Host) → AreSlots slots tears hosts → n < length slots
@@ -57,9 +57,9 @@ pub put_slot : (slots : List Slot) (tears : List Tear) (hosts : List Host) (n : 
 put_slot [] tears hosts n slot tear host are within also same is = absurd (omega (arith, within))
 put_slot (x ∷ slots) [] hosts n slot tear host are within also same is = absurd are
 put_slot (x ∷ slots) (t ∷ tears) [] n slot tear host are within also same is = absurd are
-put_slot (x ∷ slots) (t ∷ tears) (old ∷ hosts) zero slot tear host are within also same is = (is, sym also ∙ same, are.1.1)
+put_slot (x ∷ slots) (t ∷ tears) (old ∷ hosts) zero slot tear host are within also same is = (is, sym also ∙ same, are.2)
 put_slot (x ∷ slots) (t ∷ tears) (old ∷ hosts) (suc n) slot tear host are within also same is =
-    (are.0, are.1.0, put_slot slots tears hosts n slot tear host are.1.1 (omega (arith, within)) also same is)
+    (are.0, are.1, put_slot slots tears hosts n slot tear host are.2 (omega (arith, within)) also same is)
 
 -- what was done at a place stands for what was done in the network
 pub turned_slots : (h : HostId) (w r : Network) (slots : List Slot) (tears : List Tear) (slot : Slot) (tear : Tear) (packets : List Message) → AreSlots slots tears w.hosts → h.0 < length slots
@@ -78,3 +78,28 @@ sane_at world deed n slot tear ready within here also =
     by : (s : Slot) {host : Host} → IsSlot s host → host.state.site ≡ ready.site → IsSaneAt deed s
     by (Up up) is names = subst (λ l. IsSaneFor (length l) deed) (sym (ap (λ s. s.site) is.tells.is ∙ names)) ready.sane
     by (Down down) is names = tt
+
+-- a slot was taken out, and what it became put back
+module _ (world : World) (h : HostId) (deed : Deed) (old new : Slot) (tear : Tear) (packets : List Message) (before after : List Seen) (within : h.0 < length world.slots.items)
+    (here : old ≡ get_or world.slots.items h.0 old) (also : tear ≡ get_or world.tears.items h.0 tear)
+    (turns : (w : Network) (host : Host) → Faces h host tear world.packets.items w → IsSlot old host → w.now ≡ world.now → Turns h (IsSlot new) tear packets before after w (done_at deed h host w))
+    (network : Network) (stands : IsWorld world network) where
+  place : Placed old tear network.hosts h.0
+  place = slot_at world.slots.items world.tears.items network.hosts h.0 old tear stands.hosts within here also
+
+  turned : Turns h (IsSlot new) tear packets before after network (done deed h network)
+  turned = subst (λ o. Turns h (IsSlot new) tear packets before after network (done_by o deed h network)) (sym place.there)
+      (turns network place.host (record { there = place.there; tear = place.same; packets = stands.packets }) place.stands (sym stands.now))
+
+  pub acted_seen : after ≡ before ++ (done deed h network).seen
+  acted_seen = turned.seen
+
+  pub acted_world : (next : World) → next.site ≡ world.site → next.tears ≡ world.tears → next.now ≡ world.now → next.packets.items ≡ packets → next.slots.items ≡ insert (remove world.slots.items h.0) h.0 new
+      → IsWorld next (done deed h network).world
+  acted_world next site tears now sent slots = record {
+    site = site ∙ stands.site ∙ sym turned.rest.site;
+    hosts = subst (λ l. AreSlots l next.tears.items (done deed h network).world.hosts) (sym slots) (subst (λ l. AreSlots (insert (remove world.slots.items h.0) h.0 new) l (done deed h network).world.hosts) (ap (λ v. v.items) (sym tears))
+        (turned_slots h network (done deed h network).world world.slots.items world.tears.items new tear packets stands.hosts within also turned.at turned.rest));
+    packets = sent ∙ turned.at.faces.packets;
+    now = now ∙ stands.now ∙ sym turned.rest.now;
+  }

@@ -7,7 +7,10 @@
 
 mod deed;
 mod emit;
+mod event;
+mod fuses;
 mod host;
+mod meaning;
 mod packets;
 mod places;
 mod slot;

@@ -1,15 +1,13 @@
 //! A world of 1 to 16 hosts.
 
-ghost use Rattle.std.specs.Prelude.{◌≡◌, ◌≤◌, ◌++◌, List, ℕ, IsTrue, IfOk, OnOk, length};
+ghost use Rattle.std.specs.Prelude.{◌≡◌, ◌≤◌, IfOk, OnOk, length};
 ghost use Rattle.nqs_rules.specs.Net.{table};
-ghost use Rattle.nqs_rules.specs.Run.{happens, states_of};
+ghost use Rattle.nqs_rules.specs.Run.{states_of};
 ghost use Rattle.nqs_rules.specs.World.{World as Network, new_world};
-ghost use Rattle.nqs_laws.specs.Words.{IsInOrderAll};
-ghost use Rattle.nqs_lines.specs.Acts.{act_of, is_sane_line};
 ghost use Rattle.nqs_net.specs.Worlds.{IsWorld};
 
 use crate::slot::Slot;
-use nqs_types::{Memory, Message, Name, NameList, Seen, TableRow, Tear, WorldEvent};
+use nqs_types::{Memory, Message, Name, NameList, TableRow, Tear};
 use std::alloc::Global;
 
 /// A network of hosts: a slot and a tear for each, in the order of the site. The packets are all that were ever sent;
@@ -29,20 +27,6 @@ impl World {
         requires some { 1 ≤ length site.now }
         requires few { length site.now ≤ 16 }
         ensures { IfOk result (λ world. IsWorld world (new_world site.now)) }
-    {
-        Err(Memory)
-    }
-
-    /// Takes an event, and adds to `seen` what is seen of it. After `Memory` the world is used no more.
-    pub fn event(
-        &mut self,
-        alloc: Global,
-        event: &WorldEvent,
-        seen: &mut Vec<Seen>,
-    ) -> Result<(), Memory>
-        requires sane { IsTrue (is_sane_line event.now) }
-        ensures world { (site : List (List ℕ)) (network : Network) → IsInOrderAll site network → IsWorld self.old network → OnOk result (IsWorld self.new (happens (act_of event.now) network).world) }
-        ensures seen { (site : List (List ℕ)) (network : Network) → IsInOrderAll site network → IsWorld self.old network → OnOk result (seen.new.items ≡ seen.old.items ++ (happens (act_of event.now) network).seen) }
     {
         Err(Memory)
     }

@@ -8,7 +8,7 @@ use Rattle.nqs_net.proofs.deed.finish_up.Goals as goal
 pub returns-in-Some : goal.returns-in-Some
 returns-in-Some c = λ w host faces is now.
     turns_as c.take_up.result c.args.me c.args.tear _ _ _ w _ _
-    (ap (λ e. takes_up c.args.me host e w) (c.ended.ensures ∙ ap (λ n. event.Ended n 0 c.in-Some.id c.in-Some.start 0 [] []) (sym now))
+    (ap (λ e. takes_up c.args.me host e w) (c.ended-event.ensures ∙ ap (λ n. event.Ended n 0 c.in-Some.id c.in-Some.start 0 [] []) (sym now))
     ∙ sym (least_ends c.args.node host is c.args.me w (c.in-Some.id, c.in-Some.start) (c.in-Some.ensures ∙ ap (λ s. least_of s.rows) c.state.ensures)))
     (c.take_up.ensures w host faces is now)
 

@@ -1,4 +1,4 @@
-use Rattle.std.proofs.Common.{◌≡◌, ◌≤◌, ◌×◌, [], drop, filter, length}
+use Rattle.std.proofs.Common.{◌≡◌, ◌≤◌, [], drop, filter, length}
 use Rattle.nqs_rules.specs.World.{is_between}
 use Rattle.nqs_net.proofs.packets.newest_between.Given as goal
 

@@ -1,5 +1,5 @@
 -- What comes to one host is what happens.
-use Rattle.std.proofs.Common.{◌≡◌, ◌×◌, ℕ, Bool, true, IsTrue, Option, None, Some, refl, sym, ap, subst, ◌∙◌}
+use Rattle.std.proofs.Common.{◌≡◌, ℕ, Bool, true, IsTrue, List, length, Option, None, Some, refl, sym, ap, subst, ◌∙◌}
 use Rattle.std.proofs.lemmas.Option.{same_Some, none-some}
 use Rattle.nqs_types.specs.declared.event.Event.{Event}
 use Rattle.nqs_types.specs.declared.event.Event.TheVariants as event
@@ -7,7 +7,10 @@ use Rattle.nqs_types.specs.declared.ids.HostId.{HostId}
 use Rattle.nqs_rules.specs.Run.{happens}
 use Rattle.nqs_rules.specs.World.{Act, Asks, Ends, Finishes, Fails, Writes, Leaves, Delivers, Newest, Ticks, Clock, Fuse, Crashes, Boots, Shows, Host, World as Network, host_of, takes, taken_by, takes_up, finishes_up, crashes_up, boots}
 use Rattle.nqs_laws.specs.Sane.{is_sane_act}
-use Rattle.nqs_net.specs.Deeds.{done, done_by, deed_of, plain_deed, IsSaneFor}
+use Rattle.nqs_laws.specs.Words.{IsInOrderAll}
+use Rattle.nqs_net.specs.Deeds.{done, done_by, deed_of, plain_deed, IsSaneFor, IsReady}
+use Rattle.nqs_net.specs.Worlds.{IsWorld}
+use Rattle.nqs_net.specs.declared.world.World.{World}
 use Rattle.nqs_net.specs.declared.deed.Deed.{Deed}
 use Rattle.nqs_net.specs.declared.deed.Deed.TheVariants as deed
 
@@ -57,3 +60,14 @@ means_all Shows w = tt
 
 pub means : (a : Act) (w : Network) (p : HostId × Deed) → deed_of a w.now ≡ Some p → Means a w p
 means a w p e = subst (MeansSome a w) e (means_all a w)
+
+module _ (a : Act) (world : World) (p : HostId × Deed) (e : deed_of a world.now ≡ Some p) where
+  same_now : (network : Network) → IsWorld world network → deed_of a network.now ≡ Some p
+  same_now network stands = ap (deed_of a) (sym stands.now) ∙ e
+
+  pub happened : (network : Network) → IsWorld world network → happens a network ≡ done p.1 p.0 network
+  happened network stands = (means a network p (same_now network stands)).happens
+
+  pub ready_by : is_sane_act a ≡ true → (site : List (List ℕ)) (network : Network) → IsInOrderAll site network → IsWorld world network → IsReady world p.1
+  ready_by is site network order stands =
+      record { site = site; network = network; order = order; stands = stands; sane = (means a network p (same_now network stands)).sane is (length site) }

@@ -1,0 +1,36 @@
+use Rattle.std.proofs.Common.{◌≡◌, ◌∙◌, ◌++◌, ◌<◌, ◌≤◌, length, refl, sym, ap, subst, arith}
+use Rattle.std.specs.List.{insert}
+use Rattle.std.proofs.lemmas.List.{append-nil}
+use Rattle.nqs_net.specs.Deeds.{done_by}
+use Rattle.nqs_net.specs.Worlds.{IsWorld}
+use Rattle.nqs_net.proofs.Placing.{tears_as_long, no_host, sane_at, acted_world, acted_seen}
+use Rattle.nqs_net.proofs.world.World.act.Goals as goal
+
+pub returns-then-len-place-clause-world : goal.returns-then-len-place-clause-world
+returns-then-len-place-clause-world c = λ network stands. let world = c.args.self.now in
+    subst (λ o. IsWorld world (done_by o c.args.deed.now c.args.host network).world)
+    (sym (no_host world.slots.items world.tears.items network.hosts c.args.host.0 stands.hosts (omega (arith, world.slots.ok.0)))) stands
+
+pub returns-then-len-place-clause-seen : goal.returns-then-len-place-clause-seen
+returns-then-len-place-clause-seen c = λ network stands. let world = c.args.self.now in
+    subst (λ o. c.args.seen.now.items ≡ c.args.seen.now.items ++ (done_by o c.args.deed.now c.args.host network).seen)
+    (sym (no_host world.slots.items world.tears.items network.hosts c.args.host.0 stands.hosts (omega (arith, world.slots.ok.0)))) (sym (append-nil c.args.seen.now.items))
+
+pub index-tear-requires : goal.index-tear-requires
+index-tear-requires c = let world = c.args.self.now in
+    omega (arith, world.slots.ok.0, world.tears.ok.0, tears_as_long world.slots.items world.tears.items c.requires.ready.network.hosts c.requires.ready.stands.hosts)
+
+pub do_at-requires : goal.do_at-requires
+do_at-requires c = let world = c.args.self.now in record {
+  sane = sane_at world c.args.deed.now c.args.host.0 c.remove-slot.result c.index-tear.result.now c.requires.ready (omega (arith, world.slots.ok.0)) c.remove-slot.ensures.value c.index-tear.ensures;
+}
+
+pub returns-clause-world : goal.returns-clause-world
+returns-clause-world c = λ network stands. let world = c.args.self.now in
+    acted_world world c.args.host c.args.deed.now c.remove-slot.result c.in_ok-slot.slot c.index-tear.result.now c.do_at.new.packets.items c.args.seen.now.items c.do_at.new.seen.items (omega (arith, world.slots.ok.0))
+    c.remove-slot.ensures.value c.index-tear.ensures c.in_ok-slot.ensures network stands _ refl refl refl refl (c.in_ok-insert.ensures.items ∙ ap (λ l. insert l c.args.host.0 c.in_ok-slot.slot) c.remove-slot.ensures.items)
+
+pub returns-clause-seen : goal.returns-clause-seen
+returns-clause-seen c = λ network stands. let world = c.args.self.now in
+    acted_seen world c.args.host c.args.deed.now c.remove-slot.result c.in_ok-slot.slot c.index-tear.result.now c.do_at.new.packets.items c.args.seen.now.items c.do_at.new.seen.items (omega (arith, world.slots.ok.0))
+    c.remove-slot.ensures.value c.index-tear.ensures c.in_ok-slot.ensures network stands
