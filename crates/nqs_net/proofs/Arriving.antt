@@ -20,19 +20,19 @@ module _ {A : Type 0} where
   module _ (t : A → Bool) where
     -- the last that passes, where none behind it does
     pub last_at : (l : List A) (n : ℕ) (m : A) → n < length l → m ≡ get_or l n m → t m ≡ true → filter t (drop (suc n) l) ≡ [] → last_of (filter t l) ≡ Some m
-    last_at [] n m within here yes none = absurd (omega (arith, within))
-    last_at (x ∷ xs) zero m within here yes none =
-        ap (λ b. last_of (cond b (x ∷ filter t xs) (filter t xs))) (ap t (sym here) ∙ yes) ∙ ap (λ l. last_of (x ∷ l)) none ∙ ap Some (sym here)
-    last_at (x ∷ xs) (suc n) m within here yes none = by (t x) (last_at xs n m (omega (arith, within)) here yes none)
+    last_at [] n m within here holds none = absurd (omega (arith, within))
+    last_at (x ∷ xs) zero m within here holds none =
+        ap (λ b. last_of (cond b (x ∷ filter t xs) (filter t xs))) (ap t (sym here) ∙ holds) ∙ ap (λ l. last_of (x ∷ l)) none ∙ ap Some (sym here)
+    last_at (x ∷ xs) (suc n) m within here holds none = by (t x) (last_at xs n m (omega (arith, within)) here holds none)
       where
         by : (b : Bool) → last_of (filter t xs) ≡ Some m → last_of (cond b (x ∷ filter t xs) (filter t xs)) ≡ Some m
         by true e = last_more x m (filter t xs) e
         by false e = e
 
     pub none_from : (l : List A) (n : ℕ) (m : A) → n < length l → m ≡ get_or l n m → t m ≡ false → filter t (drop (suc n) l) ≡ [] → filter t (drop n l) ≡ []
-    none_from [] n m within here no none = absurd (omega (arith, within))
-    none_from (x ∷ xs) zero m within here no none = ap (λ b. cond b (x ∷ filter t xs) (filter t xs)) (ap t (sym here) ∙ no) ∙ none
-    none_from (x ∷ xs) (suc n) m within here no none = none_from xs n m (omega (arith, within)) here no none
+    none_from [] n m within here fails none = absurd (omega (arith, within))
+    none_from (x ∷ xs) zero m within here fails none = ap (λ b. cond b (x ∷ filter t xs) (filter t xs)) (ap t (sym here) ∙ fails) ∙ none
+    none_from (x ∷ xs) (suc n) m within here fails none = none_from xs n m (omega (arith, within)) here fails none
 
     all_at : (l : List A) (n : ℕ) (m : A) → list_all t l ≡ true → slice_get l n ≡ Some m → t m ≡ true
     all_at [] n m all e = absurd (none-some m e)
@@ -63,5 +63,5 @@ ready_for world (Some m) site network order stands sane = record { site = site; 
 
 pub latest : (a b : HostId) (w : Network) (l : List Message) (p n : ℕ) (m : Message) → l ≡ w.packets → p ≡ suc n → n < length l → m ≡ get_or l n m → is_between a b m ≡ true → filter (is_between a b) (drop p l) ≡ []
     → Some m ≡ newest_between a b w
-latest a b w l p n m same next within here yes none =
-    sym (last_at (is_between a b) l n m within here yes (ap (λ k. filter (is_between a b) (drop k l)) (sym next) ∙ none)) ∙ ap (λ k. last_of (filter (is_between a b) k)) same
+latest a b w l p n m same next within here holds none =
+    sym (last_at (is_between a b) l n m within here holds (ap (λ k. filter (is_between a b) (drop k l)) (sym next) ∙ none)) ∙ ap (λ k. last_of (filter (is_between a b) k)) same

@@ -73,11 +73,11 @@ pub sane_at : (world : World) (deed : Deed) (n : ℕ) (slot : Slot) (tear : Tear
     → slot ≡ get_or world.slots.items n slot → tear ≡ get_or world.tears.items n tear → IsSaneAt deed slot
 sane_at world deed n slot tear ready within here also =
     let at = slot_at world.slots.items world.tears.items ready.network.hosts n slot tear ready.stands.hosts within here also in
-    by slot at.stands (ready.order.hosts n at.host.state (slice_get-map (λ (x : Host). x.state) ready.network.hosts n ∙ ap (option_map (λ (x : Host). x.state)) at.there)).names
+    by slot at.host at.stands (ready.order.hosts n at.host.state (slice_get-map (λ (x : Host). x.state) ready.network.hosts n ∙ ap (option_map (λ (x : Host). x.state)) at.there)).names
   where
-    by : (s : Slot) {host : Host} → IsSlot s host → host.state.site ≡ ready.site → IsSaneAt deed s
-    by (Up up) is names = subst (λ l. IsSaneFor (length l) deed) (sym (ap (λ s. s.site) is.tells.is ∙ names)) ready.sane
-    by (Down down) is names = tt
+    by : (s : Slot) (host : Host) → IsSlot s host → host.state.site ≡ ready.site → IsSaneAt deed s
+    by (Up up) host is names = subst (λ l. IsSaneFor (length l) deed) (sym (ap (λ s. s.site) is.tells.is ∙ names)) ready.sane
+    by (Down down) host is names = tt
 
 -- a slot was taken out, and what it became put back
 module _ (world : World) (h : HostId) (deed : Deed) (old new : Slot) (tear : Tear) (packets : List Message) (before after : List Seen) (within : h.0 < length world.slots.items)

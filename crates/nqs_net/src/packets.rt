@@ -46,8 +46,9 @@ pub(crate) fn newest_between(
     let mut place = packets.len();
     while place > 0 {
         place -= 1;
-        if is_between(one, other, &packets[place]) {
-            return Ok(Some(copy(&packets[place])?));
+        let message = &packets[place];
+        if is_between(one, other, message) {
+            return Ok(Some(copy(message)?));
         }
     }
     Ok(None)
