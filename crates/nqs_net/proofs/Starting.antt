@@ -1,5 +1,5 @@
 -- Starts of a host go on until there is none, and a host that stops starts nothing.
-use Rattle.std.proofs.Common.{◌≡◌, ◌⊎◌, inl, inr, ℕ, zero, suc, ◌+◌, ◌<◌, ◌≤◌, nat_le, Bool, true, false, List, [], ◌∷◌, ◌++◌, length, map, slice_get, Option, None, Some, is_some, refl, sym, ap, subst, ◌∙◌, arith}
+use Rattle.std.proofs.Common.{◌≡◌, ◌⊎◌, inl, inr, ℕ, zero, suc, ◌+◌, ◌<◌, ◌≤◌, nat_le, Bool, true, false, ◌&&◌, true≢false, option_map, List, [], ◌∷◌, ◌++◌, length, map, slice_get, Option, None, Some, is_some, refl, sym, ap, subst, ◌∙◌, arith}
 use Rattle.std.proofs.lemmas.List.{append_assoc}
 use Rattle.std.proofs.lemmas.Simd.{map-map}
 use Rattle.nqs_types.specs.State.{State, Plain}
@@ -25,6 +25,21 @@ use Rattle.nqs_rules.proofs.Lowers.{lower, stays}
 use Rattle.nqs_laws.proofs.Sound.{get-here}
 use Rattle.nqs_node.specs.Carried.{started}
 use Rattle.nqs_net.proofs.Turning.{emits_world}
+use Rattle.nqs_types.specs.declared.extent.Extent.{Extent}
+use Rattle.nqs_types.specs.declared.message.Message.{Message}
+use Rattle.nqs_types.specs.declared.tear.Tear.{Tear}
+use Rattle.nqs_types.specs.declared.world.Seen.{Seen}
+use Rattle.nqs_disk.specs.contracts.mem_disk.MemDiskDisk.TheImpl.{ghosts}
+use Rattle.nqs_disk.specs.declared.mem_disk.MemDisk.{MemDisk}
+use Rattle.nqs_store.specs.Stores.{bytes_of}
+use Rattle.nqs_node.specs.Nodes.{content_of}
+use Rattle.nqs_node.specs.declared.node.Node.{Node}
+use Rattle.nqs_rules.specs.Stepped.{map_stepped}
+use Rattle.nqs_rules.proofs.StartPlain.{start-map}
+use Rattle.nqs_net.specs.Worlds.{IsUp, IsSlot}
+use Rattle.nqs_net.specs.Turns.{IsDownSlot, IsAt, Turns, Starts}
+use Rattle.nqs_net.specs.declared.slot.Slot.{Slot}
+use Rattle.nqs_net.specs.declared.slot.Slot.TheVariants.{Up, Down}
 
 module _ {E : Type 0} where
   -- a state in order is steady, whatever bytes are put for its scripts
@@ -150,3 +165,37 @@ module _ (h : HostId) (w : Network) (host : Host) (there : host_of h w ≡ Some 
 
 pub ran_assoc : (r : Ran) (f g : Network → Ran) → then_ran (then_ran r f) g ≡ then_ran r (λ v. then_ran (f v) g)
 ran_assoc r f g = let last = g (f r.world).world in λ j. record { world = last.world; seen = append_assoc r.seen (f r.world).seen last.seen j }
+
+-- what a node may start, its host may
+pub none_of : (now : ℕ) (node : Node MemDisk ghosts) (host : Host) → IsUp node host → is_some (start now (content_of node)) ≡ false → start now host.state ≡ None
+none_of now node host is none =
+    ap (start now) (sym is.tells.is) ∙ start-map (bytes_of node.store) now (content_of node) ∙ by (start now (content_of node)) none
+  where
+    by : (o : Option (Stepped Extent)) → is_some o ≡ false → option_map (map_stepped (bytes_of node.store)) o ≡ None
+    by None e = refl
+    by (Some x) e = absurd (true≢false e)
+
+pub steady_up : (node : Node MemDisk ghosts) (host : Host) → IsUp node host → IsSteady host.state
+steady_up node host is = subst IsSteady is.tells.is (steady_plain (bytes_of node.store) (content_of node) is.sound.order)
+
+module _ (h : HostId) (w : Network) (host : Host) (there : host_of h w ≡ Some host) (calm : IsSteady host.state) (up : host.up ≡ true) (tear : Tear) where
+  down_next : (slot : Slot) (packets : List Message) (v : Network) → IsAt h (IsSlot slot) tear packets v → IsDownSlot slot → all_starts h v ≡ unseen v
+  down_next (Up s) packets v at down = absurd down
+  down_next (Down s) packets v at down = down_all h v at.host at.faces.there at.stands.down
+
+  pub starting : (slot : Slot) (took more : Bool) (packets : List Message) (before after : List Seen) → Turns h (IsSlot slot) tear packets before after w (steps h host (started w.now host.state) w)
+      → (took ≡ false → IsDownSlot slot) → (took ≡ true → more ≡ false → start w.now host.state ≡ None) → Starts h (took && more) (IsSlot slot) tear packets before after w
+  starting slot took more packets before after turn down none = record {
+    ran = steps h host (started w.now host.state) w;
+    turn = turn;
+    goes_on = next_all h w host there calm up;
+    last = by took down none;
+  }
+    where
+      idle_next : start w.now host.state ≡ None → all_starts h (steps h host (started w.now host.state) w).world ≡ unseen (steps h host (started w.now host.state) w).world
+      idle_next e = subst (λ (o : Option (Stepped (List ℕ))). let v = (steps h host (elim o [ None ↦ quiet | Some x ↦ x ]) w).world in all_starts h v ≡ unseen v) (sym e) (none_all h w host there e)
+
+      by : (took : Bool) → (took ≡ false → IsDownSlot slot) → (took ≡ true → more ≡ false → start w.now host.state ≡ None) → (took && more) ≡ false
+          → all_starts h (steps h host (started w.now host.state) w).world ≡ unseen (steps h host (started w.now host.state) w).world
+      by false down none e = down_next slot packets (steps h host (started w.now host.state) w).world turn.at (down refl)
+      by true down none e = idle_next (none refl e)

@@ -21,11 +21,11 @@ use Rattle.nqs_rules.specs.Starts.{after_change, after_step}
 use Rattle.nqs_rules.specs.Stepped.{Stepped, shown, stored_parts}
 use Rattle.nqs_rules.specs.World.{World as Network, Host, Ran, Fate, Made, StoppedBefore, StoppedAfter, fate, host_of, put_host, emits, sent_by, seen_output, stopped, used, change_fated, makes_change, carries_out, steps, then_seen, then_ran}
 use Rattle.nqs_store.specs.Commits.{IsKept, IsCutAt}
-use Rattle.nqs_store.specs.Disks.{histories_of, failing_of}
+use Rattle.nqs_store.specs.Disks.{disk_at, histories_of, failing_of}
 use Rattle.nqs_store.specs.Images.{IsTold}
 use Rattle.nqs_store.specs.declared.disks.Disks.{Disks}
 use Rattle.nqs_node.specs.Carried.{IsMade, IsCutBy, IsBlown}
-use Rattle.nqs_node.specs.Nodes.{history_of, fails_of, content_of, Tells}
+use Rattle.nqs_node.specs.Nodes.{disk_of, history_of, fails_of, is_starved, content_of, Tells}
 use Rattle.nqs_disk.specs.contracts.mem_disk.MemDiskDisk.TheImpl.{ghosts}
 use Rattle.nqs_node.specs.declared.node.Node.{Node}
 use Rattle.nqs_store.specs.Sound.{IsSoundHost}
@@ -34,7 +34,7 @@ use Rattle.nqs_laws.proofs.PairedRuns.{put-twice}
 use Rattle.nqs_laws.proofs.Sound.{get-here}
 use Rattle.nqs_net.specs.Lists.{sent_in, seen_from}
 use Rattle.nqs_net.specs.Worlds.{fuse_of, AreInTurn, AreDisks, IsUp, IsDown, IsSlot}
-use Rattle.nqs_net.specs.Turns.{IsTorn, IsStopped, Faces, IsAt, IsSameBut, Turns}
+use Rattle.nqs_net.specs.Turns.{IsTorn, IsStopped, IsTaken, IsDownSlot, Faces, IsAt, IsSameBut, Turns}
 use Rattle.nqs_net.specs.declared.slot.Slot.{Slot}
 use Rattle.nqs_net.specs.declared.slot.Slot.TheVariants.{Up, Down}
 use Rattle.nqs_net.proofs.Fates.{CutsTo, unblown, kept_fate, cut_fate}
@@ -52,7 +52,7 @@ emits_world h (o ∷ os) w = emits_world h os (record w { packets = w.packets ++
 
 -- what is the same but for a place
 
-same_self : (h : HostId) (w : Network) → IsSameBut h w w
+pub same_self : (h : HostId) (w : Network) → IsSameBut h w w
 same_self h w = record { hosts = λ host. refl; site = refl; now = refl }
 
 pub same_after : (h : HostId) (w v u : Network) → IsSameBut h w v → IsSameBut h v u → IsSameBut h w u
@@ -72,13 +72,13 @@ module _ (h : HostId) (w : Network) where
       seen = saw;
     }
 
-    pub out_turn : (os : List Output) (first before after : List Seen) (packets : List Message) → packets ≡ w.packets ++ sent_in os → after ≡ before ++ first ++ seen_from h (length w.packets) os
+    pub out_turn : (os : List Output) (first before after : List Seen) (packets : List Message) → packets ≡ w.packets ++ sent_in os → after ≡ before ++ (first ++ seen_from h (length w.packets) os)
         → Turns h P tear packets before after w (then_seen first (emits h os (put_host h x w)))
     out_turn os first before after packets sent saw =
         subst (λ (v : Network). Turns h P tear packets before after w (record { world = v; seen = first ++ (emits h os (put_host h x w)).seen })) (sym (emits_world h os (put_host h x w))) (record {
           at = record { host = x; stands = p; faces = record { there = get-here h.0 x host w.hosts there; tear = same; packets = sent } };
           rest = record { hosts = λ y. put-twice h.0 y x w.hosts; site = refl; now = refl };
-          seen = saw ∙ append_assoc before first (seen_from h (length w.packets) os) ∙ ap (λ l. before ++ (first ++ l)) (sym (emits_seen h os (put_host h x w)));
+          seen = saw ∙ ap (λ l. before ++ (first ++ l)) (sym (emits_seen h os (put_host h x w)));
         })
 
   -- without a change
@@ -126,12 +126,12 @@ module _ (h : HostId) (w : Network) (host : Host) (tear : Tear) (packets : List 
     (fails : Which → ℕ → Bool) (old : Which → History) (disks : AreDisks host old fails) where
   -- it was kept
   pub kept_turn : (now : Which → History) (P : Host → Type 0) → IsKept fails (stored_parts c) old now → P (used (stored_parts c) (applied c host.state) host)
-      → (sent : List Message) (before after : List Seen) → sent ≡ packets ++ sent_in os → after ≡ before ++ first ++ seen_from h (length packets) os
+      → (sent : List Message) (before after : List Seen) → sent ≡ packets ++ sent_in os → after ≡ before ++ (first ++ seen_from h (length packets) os)
       → Turns h P tear sent before after w (makes_change h host c first os w)
   kept_turn now P kept p sent before after sends saw =
       subst (λ (f : Fate). Turns h P tear sent before after w (change_fated f h host c first os w)) (sym (kept_fate host fails old disks (stored_parts c) now kept))
       (out_turn h w host (used (stored_parts c) (applied c host.state) host) faces.there P p tear faces.tear os first before after sent
-      (sends ∙ ap (λ l. l ++ sent_in os) faces.packets) (saw ∙ ap (λ l. before ++ first ++ seen_from h (length l) os) faces.packets))
+      (sends ∙ ap (λ l. l ++ sent_in os) faces.packets) (saw ∙ ap (λ l. before ++ (first ++ seen_from h (length l) os)) faces.packets))
 
   -- it was cut off
   module _ (now : Which → History) (before after : List Seen) (saw : after ≡ before ++ seen.Stop h ∷ []) where
@@ -184,6 +184,30 @@ module _ (h : HostId) (w : Network) (host : Host) (tear : Tear) (packets : List 
   pub stopped_step : (now : Which → History) (slot : Slot) (which : Which) (starved : Bool) (before after : List Seen) → after ≡ before ++ seen.Stop h ∷ [] → IsStopped tear now slot → starved ≡ false
       → IsTrue starved ⊎ (IsBlown (fails which) (old which) ⊎ IsCutBy fails old now x.change host.state which)
       → Turns h (IsSlot slot) tear packets before after w (steps h host x w)
-  stopped_step now slot which starved before after saw is fed (inl no) = absurd (true≢false (sym no ∙ fed))
+  stopped_step now slot which starved before after saw is fed (inl hungry) = absurd (true≢false (sym hungry ∙ fed))
   stopped_step now slot which starved before after saw is fed (inr (inl blown)) = absurd (unblown (fuse_of which host.fuses) (old which) (fails which) (disks which).fuse blown)
   stopped_step now slot which starved before after saw is fed (inr (inr cut)) = cut_step now slot which before after saw is cut
+
+-- what a node's call did is what the step does
+module _ (h : HostId) (w : Network) (host : Host) (tear : Tear) (packets : List Message) (faces : Faces h host tear packets w) (x : Stepped (List ℕ)) (node : Node MemDisk ghosts) (out : List Output) where
+  pub took_turn : IsTaken host x node out true → IsSoundHost (content_of node) → (sent : List Message) (before after : List Seen) → sent ≡ packets ++ sent_in out → after ≡ before ++ seen_from h (length packets) out
+      → Turns h (IsUp node) tear sent before after w (steps h host x w)
+  took_turn t sound sent before after sends saw =
+      made_turn h w host tear packets faces x t.fails t.old t.disks node t.up t.ended.1 t.ended.0 sound t.same sent before after
+      (sends ∙ ap (λ l. packets ++ sent_in l) t.ended.2) (saw ∙ ap (λ l. before ++ seen_from h (length packets) l) t.ended.2)
+
+  pub broke_turn : IsTaken host x node out false → (slot : Slot) (before after : List Seen) → after ≡ before ++ seen.Stop h ∷ [] → IsStopped tear (history_of node) slot → ((which : Which) → is_starved node which ≡ false)
+      → Turns h (IsSlot slot) tear packets before after w (steps h host x w)
+  broke_turn t slot before after saw is fed =
+      let which = t.ended.0 in
+      stopped_step h w host tear packets faces x t.fails t.old t.disks (history_of node) slot which (is_starved node which) before after saw is (fed which) t.ended.1
+
+  -- the node was closed, and its disks were torn
+  pub closed_turn : IsTaken host x node out false → (disks : Disks MemDisk) → ((which : Which) → disk_at which disks ≡ disk_of which node) → (slot : Slot) (before after : List Seen) → after ≡ before ++ seen.Stop h ∷ []
+      → IsStopped tear (histories_of mem.history_of disks) slot → ((which : Which) → mem.is_starved (disk_at which disks) ≡ false) → Turns h (IsSlot slot) tear packets before after w (steps h host x w)
+  closed_turn t disks closed slot before after saw is fed =
+      broke_turn t slot before after saw (subst (λ (now : Which → History). IsStopped tear now slot) (λ j which. mem.history_of (closed which j)) is) (λ which. sym (ap mem.is_starved (closed which)) ∙ fed which)
+
+pub down_stopped : (tear : Tear) (now : Which → History) (slot : Slot) → IsStopped tear now slot → IsDownSlot slot
+down_stopped tear now (Up up) is = absurd is
+down_stopped tear now (Down down) is = tt

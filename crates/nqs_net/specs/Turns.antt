@@ -1,5 +1,13 @@
 -- What something that one host does makes of a network.
-use Rattle.std.specs.Prelude.{◌≡◌, ℕ, Bool, false, List, [], ◌++◌, Some}
+use Rattle.std.specs.Prelude.{◌≡◌, ◌⊎◌, ℕ, Bool, true, false, IsTrue, List, [], ◌++◌, map, Some}
+use Rattle.nqs_types.specs.declared.event.Output.{Output}
+use Rattle.nqs_disk.specs.contracts.mem_disk.MemDiskDisk.TheImpl.{ghosts}
+use Rattle.nqs_node.specs.Carried.{IsMade, IsCutBy, IsBlown}
+use Rattle.nqs_node.specs.Nodes.{history_of, fails_of, is_starved, Tells}
+use Rattle.nqs_node.specs.declared.node.Node.{Node}
+use Rattle.nqs_rules.specs.Starts.{after_step}
+use Rattle.nqs_rules.specs.Stepped.{Stepped, shown}
+use Rattle.nqs_net.specs.Worlds.{AreDisks}
 use Rattle.nqs_types.specs.declared.ids.HostId.{HostId}
 use Rattle.nqs_types.specs.declared.message.Message.{Message}
 use Rattle.nqs_types.specs.declared.tear.Tear.{Tear}
@@ -26,6 +34,25 @@ pub record IsTorn (tear : Tear) (now : Which → History) (left : Disks MemDisk)
 abbrev pub IsStopped : Tear → (Which → History) → Slot → Type 0
 IsStopped tear now (Up up) = ⊥
 IsStopped tear now (Down down) = IsTorn tear now down.disks
+
+-- a host that is down
+abbrev pub IsDownSlot : Slot → Type 0
+IsDownSlot (Up up) = ⊥
+IsDownSlot (Down down) = Unit {0}
+
+-- what a call of a node did for a step, by whether it was made: else a failed call of a disk stopped the node
+abbrev pub Ended : Host → Stepped (List ℕ) → (Which → ℕ → Bool) → (Which → History) → Node MemDisk ghosts → List Output → Bool → Type 0
+Ended host x fails old node out true = Tells node (after_step x host.state) × IsMade fails old (history_of node) x.change × (out ≡ map shown x.outputs)
+Ended host x fails old node out false = (which : Which) × (IsTrue (is_starved node which) ⊎ (IsBlown (fails which) (old which) ⊎ IsCutBy fails old (history_of node) x.change host.state which))
+
+-- a node was to take a step of this host
+pub record IsTaken (host : Host) (x : Stepped (List ℕ)) (node : Node MemDisk ghosts) (out : List Output) (took : Bool) : Type 0 where
+  pub up : host.up ≡ true
+  pub fails : Which → ℕ → Bool
+  pub old : Which → History
+  pub disks : AreDisks host old fails
+  pub same : (which : Which) (i : ℕ) → fails_of node which i ≡ fails which i
+  pub ended : Ended host x fails old node out took
 
 -- the host at a place, with its tear and the packets of the network
 pub record Faces (h : HostId) (host : Host) (by : Tear) (sent : List Message) (w : Network) : Type 0 where

@@ -1,9 +1,16 @@
 //! What a host does that is up: it takes an event, and starts what may start.
 
-ghost use Rattle.std.specs.Prelude.{◌≡◌, IsTrue, IfOk, length};
+ghost use Rattle.std.specs.Prelude.{◌≡◌, ◌&&◌, [], IsTrue, IfOk, List, ℕ, Bool, true, false, None, length};
 ghost use Rattle.nqs_rules.specs.Sane.{is_sane_event};
+ghost use Rattle.nqs_rules.specs.Start.{start};
+ghost use Rattle.nqs_rules.specs.Step.{step};
+ghost use Rattle.nqs_rules.specs.Stepped.{Stepped};
+ghost use Rattle.nqs_rules.specs.World.{World as Network, Host, steps, all_starts};
+ghost use Rattle.nqs_node.specs.Carried.{started};
 ghost use Rattle.nqs_node.specs.Nodes.{content_of};
 ghost use Rattle.nqs_store.specs.Sound.{IsSoundHost};
+ghost use Rattle.nqs_net.specs.Worlds.{IsUp, IsSlot};
+ghost use Rattle.nqs_net.specs.Turns.{IsTaken, IsDownSlot, Faces, IsAt, Turns, Starts};
 
 use crate::emit::emit;
 use crate::slot::{Slot, UpHost};
@@ -14,7 +21,8 @@ use nqs_types::{Event, HostId, Memory, Message, Output, Seen, Tear};
 use std::alloc::Global;
 
 // Takes an event: `false` where a failed call of a disk stopped the node.
-fn take_kept(
+#[tactic(none)]
+fn take_event(
     alloc: Global,
     node: &mut Node<MemDisk>,
     event: &Event,
@@ -23,6 +31,7 @@ fn take_kept(
     requires sound { IsSoundHost (content_of node.old) }
     requires sane { IsTrue (is_sane_event (length (content_of node.old).site) event.now) }
     ensures sound { IsSoundHost (content_of node.new) }
+    ensures taken { (host : Host) → IsUp node.old host → out.old.items ≡ [] → IfOk result (IsTaken host (step event.now host.state) node.new out.new.items) }
 {
     match node.take(alloc, event, out) {
         Ok(()) => Ok(true),
@@ -31,7 +40,53 @@ fn take_kept(
     }
 }
 
-fn take_step(
+// Makes the next start, if one may start: whether the node wasn't stopped, and whether there was one.
+#[tactic(none)]
+fn start_event(
+    alloc: Global,
+    node: &mut Node<MemDisk>,
+    now: u64,
+    out: &mut Vec<Output>,
+) -> Result<(bool, bool), Memory>
+    requires sound { IsSoundHost (content_of node.old) }
+    ensures sound { IsSoundHost (content_of node.new) }
+    ensures taken { (host : Host) → IsUp node.old host → out.old.items ≡ [] → IfOk result (λ r. IsTaken host (started now host.state) node.new out.new.items r.0) }
+    ensures last { (host : Host) → IsUp node.old host → IfOk result (λ r. r.0 ≡ true → r.1 ≡ false → start now host.state ≡ None) }
+{
+    match node.start_next(alloc, now, out) {
+        Ok(more) => Ok((true, more)),
+        Err(NodeFault::Disk(_)) => Ok((false, false)),
+        Err(_) => Err(Memory),
+    }
+}
+
+// What a step of a node shows: its outputs, or a stop.
+#[tactic(none)]
+fn carry(
+    me: HostId,
+    node: Node<MemDisk>,
+    took: bool,
+    out: Vec<Output>,
+    tear: Tear,
+    packets: &mut Vec<Message>,
+    seen: &mut Vec<Seen>,
+) -> Result<Slot, Memory>
+    requires sound { IsSoundHost (content_of node) }
+    ensures turn { (w : Network) (host : Host) (x : Stepped (List ℕ)) → Faces me host tear packets.old.items w → IsTaken host x node out.items took
+        → IfOk result (λ slot. Turns me (IsSlot slot) tear packets.new.items seen.old.items seen.new.items w (steps me host x w)) }
+    ensures down { took ≡ false → IfOk result IsDownSlot }
+{
+    if took {
+        emit(me, out, packets, seen)?;
+        return Ok(Slot::Up(UpHost { node }));
+    }
+    let slot = stop(me, node.close(), tear, seen)?;
+    Ok(slot)
+}
+
+/// A host takes an event: its step goes out, or stops the host.
+#[tactic(none)]
+pub(crate) fn take_step(
     alloc: Global,
     me: HostId,
     node: Node<MemDisk>,
@@ -42,25 +97,79 @@ fn take_step(
 ) -> Result<Slot, Memory>
     requires sound { IsSoundHost (content_of node) }
     requires sane { IsTrue (is_sane_event (length (content_of node).site) event.now) }
+    ensures { (w : Network) (host : Host) → Faces me host tear packets.old.items w → IsUp node host
+        → IfOk result (λ slot. Turns me (IsSlot slot) tear packets.new.items seen.old.items seen.new.items w (steps me host (step event.now host.state) w)) }
 {
     let mut node = node;
     let mut out = Vec::new(alloc);
-    match take_kept(alloc, &mut node, event, &mut out) {
-        Ok(true) => go_on(me, node, out, packets, seen),
-        Ok(false) => stop(me, node.close(), tear, seen),
-        Err(Memory) => Err(Memory),
+    let took = take_event(alloc, &mut node, event, &mut out)?;
+    let slot = carry(me, node, took, out, tear, packets, seen)?;
+    Ok(slot)
+}
+
+// Makes the next start of a host, if one may start: `false` where no other may follow.
+#[tactic(none)]
+fn start_step(
+    alloc: Global,
+    me: HostId,
+    node: Node<MemDisk>,
+    tear: Tear,
+    now: u64,
+    packets: &mut Vec<Message>,
+    seen: &mut Vec<Seen>,
+) -> Result<(bool, Slot), Memory>
+    requires sound { IsSoundHost (content_of node) }
+    ensures { (w : Network) (host : Host) → Faces me host tear packets.old.items w → IsUp node host → w.now ≡ now
+        → IfOk result (λ r. Starts me r.0 (IsSlot r.1) tear packets.new.items seen.old.items seen.new.items w) }
+{
+    let mut node = node;
+    let mut out = Vec::new(alloc);
+    let (took, more) = start_event(alloc, &mut node, now, &mut out)?;
+    let slot = carry(me, node, took, out, tear, packets, seen)?;
+    Ok((took && more, slot))
+}
+
+// The same of a slot. A host that is down starts nothing.
+#[tactic(none)]
+fn start_one(
+    alloc: Global,
+    me: HostId,
+    slot: Slot,
+    tear: Tear,
+    now: u64,
+    packets: &mut Vec<Message>,
+    seen: &mut Vec<Seen>,
+) -> Result<(bool, Slot), Memory>
+    ensures { (w : Network) → IsAt me (IsSlot slot) tear packets.old.items w → w.now ≡ now
+        → IfOk result (λ r. Starts me r.0 (IsSlot r.1) tear packets.new.items seen.old.items seen.new.items w) }
+{
+    match slot {
+        Slot::Down(down) => Ok((false, Slot::Down(down))),
+        Slot::Up(up) => start_step(alloc, me, up.node, tear, now, packets, seen),
     }
 }
 
-fn go_on(
+/// A host starts what may start, one after the other.
+#[tactic(none)]
+pub(crate) fn start_all(
+    alloc: Global,
     me: HostId,
-    node: Node<MemDisk>,
-    out: Vec<Output>,
+    first: Slot,
+    tear: Tear,
+    now: u64,
     packets: &mut Vec<Message>,
     seen: &mut Vec<Seen>,
 ) -> Result<Slot, Memory>
-    requires sound { IsSoundHost (content_of node) }
+    ensures { (w : Network) → IsAt me (IsSlot first) tear packets.old.items w → w.now ≡ now
+        → IfOk result (λ slot. Turns me (IsSlot slot) tear packets.new.items seen.old.items seen.new.items w (all_starts me w)) }
 {
-    emit(me, out, packets, seen)?;
-    Ok(Slot::Up(UpHost { node }))
+    let mut slot = first;
+    for _ in 0..u64::MAX {
+        let (more, next) = start_one(alloc, me, slot, tear, now, packets, seen)?;
+        if !more {
+            return Ok(next);
+        }
+        slot = next;
+    }
+    Err(Memory)
 }

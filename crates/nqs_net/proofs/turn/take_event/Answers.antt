@@ -1,0 +1,29 @@
+use Rattle.std.proofs.Common.{◌≡◌, ◌∙◌, Err, ◌++◌, map, refl, ap}
+use Rattle.nqs_rules.specs.Step.{step}
+use Rattle.nqs_rules.specs.Stepped.{shown}
+use Rattle.nqs_node.specs.Nodes.{history_of, fails_of}
+use Rattle.nqs_net.proofs.turn.take_event.Goals as goal
+
+pub returns-in-Ok-clause-taken : goal.returns-in-Ok-clause-taken
+returns-in-Ok-clause-taken c = λ host is empty. record {
+  up = is.up;
+  fails = fails_of c.args.node.now;
+  old = history_of c.args.node.now;
+  disks = is.disks;
+  same = c.in-Ok.ensures.fuse refl;
+  ended = (
+    c.in-Ok.ensures.told refl host.state is.tells,
+    c.in-Ok.ensures.made refl host.state is.tells,
+    c.in-Ok.ensures.outputs refl host.state is.tells ∙ ap (λ l. l ++ map shown (step c.args.event.now host.state).outputs) empty,
+  );
+}
+
+pub returns-in-Err-Disk-clause-taken : goal.returns-in-Err-Disk-clause-taken
+returns-in-Err-Disk-clause-taken c = λ host is empty. record {
+  up = is.up;
+  fails = fails_of c.args.node.now;
+  old = history_of c.args.node.now;
+  disks = is.disks;
+  same = c.in-Err-Disk.ensures.fuse refl;
+  ended = (c.in-Err-Disk.field-0-0, c.in-Err-Disk.ensures.cut refl host.state is.tells c.in-Err-Disk.field-0-0 (ap Err c.in-Err-Disk.field-0-is));
+}
