@@ -21,7 +21,6 @@ use nqs_types::{Event, HostId, Memory, Message, Output, Seen, Tear};
 use std::alloc::Global;
 
 // Takes an event: `false` where a failed call of a disk stopped the node.
-#[tactic(none)]
 fn take_event(
     alloc: Global,
     node: &mut Node<MemDisk>,

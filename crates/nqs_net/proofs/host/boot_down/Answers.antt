@@ -10,12 +10,12 @@ use Rattle.nqs_net.proofs.host.boot_down.Goals as goal
 pub returns-in_err-booted : goal.returns-in_err-booted
 returns-in_err-booted c = λ w host faces is now.
     let p = err_from_is_err_and c.from_residual.result c.from_residual.ensures.1 in
-    rw (p.1, p.2) tt
+    rw p.1 tt
 
 pub returns-in_err-begun : goal.returns-in_err-begun
 returns-in_err-begun c = λ w host faces is now.
     let p = err_from_is_err_and c.from_residual-in_err-begun.result c.from_residual-in_err-begun.ensures.1 in
-    rw (p.1, p.2) tt
+    rw p.1 tt
 
 pub returns : goal.returns
 returns c = λ w host faces is now.

@@ -5,7 +5,7 @@ use Rattle.nqs_net.proofs.host.crash_up.Goals as goal
 pub returns-in_err-slot : goal.returns-in_err-slot
 returns-in_err-slot c = λ w host packets faces is.
     let p = err_from_is_err_and c.from_residual.result c.from_residual.ensures.1 in
-    rw (p.1, p.2) tt
+    rw p.1 tt
 
 pub returns : goal.returns
 returns c = λ w host packets faces is.

@@ -17,17 +17,17 @@ take_step-requires-clause-sane c = c.requires.sane
 pub returns-in_err-taken : goal.returns-in_err-taken
 returns-in_err-taken c = λ w host faces is now.
     let p = err_from_is_err_and c.from_residual.result c.from_residual.ensures.1 in
-    rw (p.1, p.2) tt
+    rw p.1 tt
 
 pub returns-in_err-begun : goal.returns-in_err-begun
 returns-in_err-begun c = λ w host faces is now.
     let p = err_from_is_err_and c.from_residual-in_err-begun.result c.from_residual-in_err-begun.ensures.1 in
-    rw (p.1, p.2) tt
+    rw p.1 tt
 
 pub returns-in_err-left : goal.returns-in_err-left
 returns-in_err-left c = λ w host faces is now.
     let p = err_from_is_err_and c.from_residual-in_err-left.result c.from_residual-in_err-left.ensures.1 in
-    rw (p.1, p.2) tt
+    rw p.1 tt
 
 pub returns : goal.returns
 returns c = λ w host faces is now.

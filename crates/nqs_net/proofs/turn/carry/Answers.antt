@@ -7,12 +7,12 @@ use Rattle.nqs_net.proofs.turn.carry.Goals as goal
 pub returns-in_err-emit-clause-turn : goal.returns-in_err-emit-clause-turn
 returns-in_err-emit-clause-turn c = λ w host x faces taken.
     let p = err_from_is_err_and c.from_residual.result c.from_residual.ensures.1 in
-    rw (p.1, p.2) tt
+    rw p.1 tt
 
 pub returns-in_err-emit-clause-down : goal.returns-in_err-emit-clause-down
 returns-in_err-emit-clause-down c = λ broke.
     let p = err_from_is_err_and c.from_residual.result c.from_residual.ensures.1 in
-    rw (p.1, p.2) tt
+    rw p.1 tt
 
 pub invariant_of-result : goal.invariant_of-result
 invariant_of-result c = record { sound = c.requires.sound }
@@ -28,12 +28,12 @@ returns-then-took-clause-down c = λ broke. absurd (true≢false (sym c.if-took.
 pub returns-in_err-slot-clause-turn : goal.returns-in_err-slot-clause-turn
 returns-in_err-slot-clause-turn c = λ w host x faces taken.
     let p = err_from_is_err_and c.from_residual-in_err-slot.result c.from_residual-in_err-slot.ensures.1 in
-    rw (p.1, p.2) tt
+    rw p.1 tt
 
 pub returns-in_err-slot-clause-down : goal.returns-in_err-slot-clause-down
 returns-in_err-slot-clause-down c = λ broke.
     let p = err_from_is_err_and c.from_residual-in_err-slot.result c.from_residual-in_err-slot.ensures.1 in
-    rw (p.1, p.2) tt
+    rw p.1 tt
 
 pub returns-clause-turn : goal.returns-clause-turn
 returns-clause-turn c = λ w host x faces taken.

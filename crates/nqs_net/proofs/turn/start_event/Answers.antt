@@ -1,4 +1,4 @@
-use Rattle.std.proofs.Common.{◌≡◌, ◌∙◌, Err, ◌++◌, map, refl, sym, ap}
+use Rattle.std.proofs.Common.{◌≡◌, ◌∙◌, Err, true≢false, ◌++◌, map, refl, sym, ap}
 use Rattle.nqs_rules.specs.Stepped.{shown}
 use Rattle.nqs_node.specs.Carried.{started}
 use Rattle.nqs_node.specs.Nodes.{history_of, fails_of}
@@ -31,3 +31,18 @@ returns-in-Err-Disk-clause-taken c = λ host is empty. record {
 
 pub returns-in-Ok-clause-last : goal.returns-in-Ok-clause-last
 returns-in-Ok-clause-last c = λ host is took none. none_of c.args.now c.args.node.now host is (sym c.in-Ok.ensures.more ∙ none)
+
+pub start_next-requires : goal.start_next-requires
+start_next-requires c = c.requires
+
+pub returns-in-Ok-clause-sound : goal.returns-in-Ok-clause-sound
+returns-in-Ok-clause-sound c = c.in-Ok.ensures.sound
+
+pub returns-in-Err-Disk-clause-sound : goal.returns-in-Err-Disk-clause-sound
+returns-in-Err-Disk-clause-sound c = c.in-Err-Disk.ensures.sound
+
+pub returns-in-Err-Disk-clause-last : goal.returns-in-Err-Disk-clause-last
+returns-in-Err-Disk-clause-last c = λ host is took none. absurd (true≢false (sym took))
+
+pub returns-in-Err : goal.returns-in-Err
+returns-in-Err c = record { sound = c.in-Err.ensures.sound; taken = λ host is empty. tt; last = λ host is. tt }
