@@ -2,8 +2,4 @@ pub mod Fates
 pub mod Burns
 pub mod Turning
 pub mod Starting
-pub mod Placing
-pub mod Means
-pub mod Finishing
-pub mod Fusing
-pub mod Arriving
+pub mod Hosting

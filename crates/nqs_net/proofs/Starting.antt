@@ -1,6 +1,6 @@
 -- Starts of a host go on until there is none, and a host that stops starts nothing.
 use Rattle.std.proofs.Common.{◌≡◌, ◌⊎◌, inl, inr, ℕ, zero, suc, ◌+◌, ◌<◌, ◌≤◌, nat_le, Bool, true, false, ◌&&◌, true≢false, option_map, List, [], ◌∷◌, ◌++◌, length, map, slice_get, Option, None, Some, is_some, refl, sym, ap, subst, ◌∙◌, arith}
-use Rattle.std.proofs.lemmas.List.{append_assoc}
+use Rattle.std.proofs.lemmas.List.{append_assoc, append-nil}
 use Rattle.std.proofs.lemmas.Simd.{map-map}
 use Rattle.nqs_types.specs.State.{State, Plain}
 use Rattle.nqs_types.specs.Ids.{id_eq}
@@ -24,7 +24,7 @@ use Rattle.nqs_rules.proofs.StartIs.{IsSteady, IsStart, start_is}
 use Rattle.nqs_rules.proofs.Lowers.{lower, stays}
 use Rattle.nqs_laws.proofs.Sound.{get-here}
 use Rattle.nqs_node.specs.Carried.{started}
-use Rattle.nqs_net.proofs.Turning.{emits_world}
+use Rattle.nqs_net.proofs.Turning.{emits_world, turn_after}
 use Rattle.nqs_types.specs.declared.extent.Extent.{Extent}
 use Rattle.nqs_types.specs.declared.message.Message.{Message}
 use Rattle.nqs_types.specs.declared.tear.Tear.{Tear}
@@ -199,3 +199,18 @@ module _ (h : HostId) (w : Network) (host : Host) (there : host_of h w ≡ Some 
           → all_starts h (steps h host (started w.now host.state) w).world ≡ unseen (steps h host (started w.now host.state) w).world
       by false down none e = down_next slot packets (steps h host (started w.now host.state) w).world turn.at (down refl)
       by true down none e = idle_next (none refl e)
+
+-- what was started so far, and one more
+module _ (h : HostId) (P Q : Host → Type 0) (tear : Tear) (packets sent : List Message) (a b c : List Seen) (w : Network) (r : Ran) (turn : Turns h P tear packets a b w r) (goes : all_starts h w ≡ then_ran r (all_starts h)) (more : Bool) (s : Starts h more Q tear sent b c r.world) where
+  abbrev both : Ran
+  both = then_ran r (λ _. s.ran)
+
+  pub both_turn : Turns h Q tear sent a c w both
+  both_turn = turn_after h P Q tear tear packets sent a b c w r (λ _. s.ran) turn s.turn
+
+  pub both_goes : all_starts h w ≡ then_ran both (all_starts h)
+  both_goes = goes ∙ ap (then_seen r.seen) s.goes_on ∙ sym (ran_assoc r (λ _. s.ran) (all_starts h))
+
+  pub both_last : more ≡ false → Turns h Q tear sent a c w (all_starts h w)
+  both_last none =
+      subst (λ x. Turns h Q tear sent a c w x) (sym (both_goes ∙ ap (then_seen both.seen) (s.last none) ∙ (λ j. record { world = s.ran.world; seen = append-nil both.seen j }))) both_turn

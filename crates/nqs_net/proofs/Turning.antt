@@ -21,11 +21,11 @@ use Rattle.nqs_rules.specs.Starts.{after_change, after_step}
 use Rattle.nqs_rules.specs.Stepped.{Stepped, shown, stored_parts}
 use Rattle.nqs_rules.specs.World.{World as Network, Host, Ran, Fate, Made, StoppedBefore, StoppedAfter, fate, host_of, put_host, emits, sent_by, seen_output, stopped, used, change_fated, makes_change, carries_out, steps, then_seen, then_ran}
 use Rattle.nqs_store.specs.Commits.{IsKept, IsCutAt}
-use Rattle.nqs_store.specs.Disks.{histories_of, failing_of}
+use Rattle.nqs_store.specs.Disks.{disk_at, histories_of, failing_of}
 use Rattle.nqs_store.specs.Images.{IsTold}
 use Rattle.nqs_store.specs.declared.disks.Disks.{Disks}
 use Rattle.nqs_node.specs.Carried.{IsMade, IsCutBy, IsBlown}
-use Rattle.nqs_node.specs.Nodes.{history_of, fails_of, is_starved, content_of, Tells}
+use Rattle.nqs_node.specs.Nodes.{disk_of, history_of, fails_of, is_starved, content_of, Tells}
 use Rattle.nqs_disk.specs.contracts.mem_disk.MemDiskDisk.TheImpl.{ghosts}
 use Rattle.nqs_node.specs.declared.node.Node.{Node}
 use Rattle.nqs_store.specs.Sound.{IsSoundHost}
@@ -34,7 +34,7 @@ use Rattle.nqs_laws.proofs.PairedRuns.{put-twice}
 use Rattle.nqs_laws.proofs.Sound.{get-here}
 use Rattle.nqs_net.specs.Lists.{sent_in, seen_from}
 use Rattle.nqs_net.specs.Worlds.{fuse_of, AreInTurn, AreDisks, IsUp, IsDown, IsSlot}
-use Rattle.nqs_net.specs.Turns.{IsTorn, IsStopped, IsTaken, Faces, IsAt, IsSameBut, Turns}
+use Rattle.nqs_net.specs.Turns.{IsTorn, IsStopped, IsTaken, IsDownSlot, Faces, IsAt, IsSameBut, Turns}
 use Rattle.nqs_net.specs.declared.slot.Slot.{Slot}
 use Rattle.nqs_net.specs.declared.slot.Slot.TheVariants.{Up, Down}
 use Rattle.nqs_net.proofs.Fates.{CutsTo, unblown, kept_fate, cut_fate}
@@ -52,7 +52,7 @@ emits_world h (o ∷ os) w = emits_world h os (record w { packets = w.packets ++
 
 -- what is the same but for a place
 
-same_self : (h : HostId) (w : Network) → IsSameBut h w w
+pub same_self : (h : HostId) (w : Network) → IsSameBut h w w
 same_self h w = record { hosts = λ host. refl; site = refl; now = refl }
 
 pub same_after : (h : HostId) (w v u : Network) → IsSameBut h w v → IsSameBut h v u → IsSameBut h w u
@@ -201,3 +201,13 @@ module _ (h : HostId) (w : Network) (host : Host) (tear : Tear) (packets : List 
   broke_turn t slot before after saw is fed =
       let which = t.ended.0 in
       stopped_step h w host tear packets faces x t.fails t.old t.disks (history_of node) slot which (is_starved node which) before after saw is (fed which) t.ended.1
+
+  -- the node was closed, and its disks were torn
+  pub closed_turn : IsTaken host x node out false → (disks : Disks MemDisk) → ((which : Which) → disk_at which disks ≡ disk_of which node) → (slot : Slot) (before after : List Seen) → after ≡ before ++ seen.Stop h ∷ []
+      → IsStopped tear (histories_of mem.history_of disks) slot → ((which : Which) → mem.is_starved (disk_at which disks) ≡ false) → Turns h (IsSlot slot) tear packets before after w (steps h host x w)
+  closed_turn t disks closed slot before after saw is fed =
+      broke_turn t slot before after saw (subst (λ (now : Which → History). IsStopped tear now slot) (λ j which. mem.history_of (closed which j)) is) (λ which. sym (ap mem.is_starved (closed which)) ∙ fed which)
+
+pub down_stopped : (tear : Tear) (now : Which → History) (slot : Slot) → IsStopped tear now slot → IsDownSlot slot
+down_stopped tear now (Up up) is = absurd is
+down_stopped tear now (Down down) is = tt

@@ -1,20 +1,91 @@
-//! What comes to a host, with the starts that follow.
+//! What comes to a host, with the starts that follow: an event, a boot or a stop.
 
-ghost use Rattle.std.specs.Prelude.{◌≡◌, IsTrue, IfOk, length};
+ghost use Rattle.std.specs.Prelude.{◌≡◌, ◌∷◌, [], ℕ, IsTrue, IfOk, List, length};
+ghost use Rattle.std.specs.List.{filter_map};
+ghost use Rattle.nqs_types.specs.State.{content};
+ghost use Rattle.nqs_types.specs.declared.change.Change.TheVariants.{Boot};
+ghost use Rattle.nqs_types.specs.declared.extent.Extent.{Extent};
+ghost use Rattle.nqs_types.specs.declared.message.Message.{Message as Sent};
+ghost use Rattle.nqs_types.specs.declared.world.Seen.TheVariants as sight;
+ghost use Rattle.nqs_rules.specs.Plain.{map_state};
 ghost use Rattle.nqs_rules.specs.Sane.{is_sane_event};
-ghost use Rattle.nqs_rules.specs.World.{World as Network, Host, takes_up, boots_down, crashes_up};
+ghost use Rattle.nqs_rules.specs.World.{World as Network, Host, is_shutdown, shuts_down, halts, takes_up, crashes_up, makes_change, boot_output, boots_down};
 ghost use Rattle.nqs_node.specs.Nodes.{content_of};
 ghost use Rattle.nqs_store.specs.Sound.{IsSoundHost};
 ghost use Rattle.nqs_net.specs.Worlds.{IsUp, IsDown, IsSlot};
-ghost use Rattle.nqs_net.specs.Turns.{Faces, Turns};
+ghost use Rattle.nqs_net.specs.Turns.{Faces, IsAt, Turns};
 
-use crate::slot::{DownHost, Slot};
+use crate::emit::emit;
+use crate::slot::{DownHost, Slot, UpHost};
+use crate::stop::stop;
+use crate::turn::{start_all, take_step};
+use nqs_access::{may_command, rank};
 use nqs_disk::MemDisk;
 use nqs_node::Node;
-use nqs_types::{Event, HostId, Memory, Message, Seen, Tear};
+use nqs_store::LoadFault;
+use nqs_types::{Command, Event, HostId, HostState, Memory, Message, Seen, Tear};
 use std::alloc::Global;
 
+fn is_shutdown(command: &Command) -> bool
+    ensures { result ≡ is_shutdown command.now }
+{
+    match command {
+        Command::Shutdown => true,
+        _ => false,
+    }
+}
+
+// Whether an event is a shutdown that is answered Done.
+#[tactic(none)]
+fn shuts_down(event: &Event, state: &HostState) -> bool
+    ensures { (bytes : Extent → List ℕ) → result ≡ shuts_down event.now (map_state bytes (content state.now)) }
+{
+    match event {
+        Event::Ask { user, command, .. } => {
+            is_shutdown(command) && may_command(rank(state, user), command).is_ok()
+        }
+        _ => false,
+    }
+}
+
+/// A host that is up stops.
+#[tactic(none)]
+pub(crate) fn crash_up(
+    me: HostId,
+    node: Node<MemDisk>,
+    tear: Tear,
+    seen: &mut Vec<Seen>,
+) -> Result<Slot, Memory>
+    ensures { (w : Network) (host : Host) (packets : List Sent) → Faces me host tear packets w → IsUp node host
+        → IfOk result (λ slot. Turns me (IsSlot slot) tear packets seen.old.items seen.new.items w (crashes_up me host w)) }
+{
+    let slot = stop(me, node.close(), tear, seen)?;
+    Ok(slot)
+}
+
+// A host stops after a shutdown, if it didn't before.
+#[tactic(none)]
+fn halt(
+    me: HostId,
+    stops: bool,
+    slot: Slot,
+    tear: Tear,
+    seen: &mut Vec<Seen>,
+) -> Result<Slot, Memory>
+    ensures { (w : Network) (packets : List Sent) → IsAt me (IsSlot slot) tear packets w
+        → IfOk result (λ left. Turns me (IsSlot left) tear packets seen.old.items seen.new.items w (halts stops me w)) }
+{
+    if !stops {
+        return Ok(slot);
+    }
+    match slot {
+        Slot::Down(down) => Ok(Slot::Down(down)),
+        Slot::Up(up) => crash_up(me, up.node, tear, seen),
+    }
+}
+
 /// A host that is up takes an event, and starts what may start then. A shutdown stops it.
+#[tactic(none)]
 pub(crate) fn take_up(
     alloc: Global,
     me: HostId,
@@ -30,10 +101,43 @@ pub(crate) fn take_up(
     ensures { (w : Network) (host : Host) → Faces me host tear packets.old.items w → IsUp node host → w.now ≡ now
         → IfOk result (λ slot. Turns me (IsSlot slot) tear packets.new.items seen.old.items seen.new.items w (takes_up me host event.now w)) }
 {
-    Err(Memory)
+    let stops = shuts_down(event, node.state());
+    let taken = take_step(alloc, me, node, tear, event, packets, seen)?;
+    let begun = start_all(alloc, me, taken, tear, now, packets, seen)?;
+    let left = halt(me, stops, begun, tear, seen)?;
+    Ok(left)
+}
+
+// The boot of a host that is down: its change goes out, or stops it.
+#[tactic(none)]
+fn boot_step(
+    alloc: Global,
+    me: HostId,
+    down: DownHost,
+    tear: Tear,
+    packets: &mut Vec<Message>,
+    seen: &mut Vec<Seen>,
+) -> Result<Slot, Memory>
+    ensures { (w : Network) (host : Host) → Faces me host tear packets.old.items w → IsDown down.disks host
+        → IfOk result (λ slot. Turns me (IsSlot slot) tear packets.new.items seen.old.items seen.new.items w (makes_change me host Boot (sight.Boot me ∷ []) (filter_map boot_output host.state.rows) w)) }
+{
+    let mut out = Vec::new(alloc);
+    match Node::boot(alloc, down.disks, &mut out) {
+        Ok(node) => {
+            seen.push(Seen::Boot { host: me })?;
+            emit(me, out, packets, seen)?;
+            Ok(Slot::Up(UpHost { node }))
+        }
+        Err((LoadFault::Disk(_), disks)) => {
+            let slot = stop(me, disks, tear, seen)?;
+            Ok(slot)
+        }
+        Err(_) => Err(Memory),
+    }
 }
 
 /// A host that is down boots, and starts what may start then.
+#[tactic(none)]
 pub(crate) fn boot_down(
     alloc: Global,
     me: HostId,
@@ -46,19 +150,7 @@ pub(crate) fn boot_down(
     ensures { (w : Network) (host : Host) → Faces me host tear packets.old.items w → IsDown down.disks host → w.now ≡ now
         → IfOk result (λ slot. Turns me (IsSlot slot) tear packets.new.items seen.old.items seen.new.items w (boots_down me host w)) }
 {
-    Err(Memory)
-}
-
-/// A host that is up stops.
-pub(crate) fn crash_up(
-    me: HostId,
-    node: Node<MemDisk>,
-    tear: Tear,
-    packets: &mut Vec<Message>,
-    seen: &mut Vec<Seen>,
-) -> Result<Slot, Memory>
-    ensures { (w : Network) (host : Host) → Faces me host tear packets.old.items w → IsUp node host
-        → IfOk result (λ slot. Turns me (IsSlot slot) tear packets.new.items seen.old.items seen.new.items w (crashes_up me host w)) }
-{
-    Err(Memory)
+    let booted = boot_step(alloc, me, down, tear, packets, seen)?;
+    let begun = start_all(alloc, me, booted, tear, now, packets, seen)?;
+    Ok(begun)
 }

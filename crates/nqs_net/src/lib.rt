@@ -7,12 +7,7 @@
 
 mod deed;
 mod emit;
-mod event;
-mod fuses;
 mod host;
-mod meaning;
-mod packets;
-mod places;
 mod slot;
 mod stop;
 mod turn;

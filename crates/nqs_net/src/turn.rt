@@ -40,6 +40,7 @@ fn take_event(
 }
 
 // Makes the next start, if one may start: whether the node wasn't stopped, and whether there was one.
+#[tactic(none)]
 fn start_event(
     alloc: Global,
     node: &mut Node<MemDisk>,
@@ -59,6 +60,7 @@ fn start_event(
 }
 
 // What a step of a node shows: its outputs, or a stop.
+#[tactic(none)]
 fn carry(
     me: HostId,
     node: Node<MemDisk>,
@@ -82,6 +84,7 @@ fn carry(
 }
 
 /// A host takes an event: its step goes out, or stops the host.
+#[tactic(none)]
 pub(crate) fn take_step(
     alloc: Global,
     me: HostId,
@@ -104,6 +107,7 @@ pub(crate) fn take_step(
 }
 
 // Makes the next start of a host, if one may start: `false` where no other may follow.
+#[tactic(none)]
 fn start_step(
     alloc: Global,
     me: HostId,
@@ -125,6 +129,7 @@ fn start_step(
 }
 
 // The same of a slot. A host that is down starts nothing.
+#[tactic(none)]
 fn start_one(
     alloc: Global,
     me: HostId,
@@ -144,6 +149,7 @@ fn start_one(
 }
 
 /// A host starts what may start, one after the other.
+#[tactic(none)]
 pub(crate) fn start_all(
     alloc: Global,
     me: HostId,

@@ -5,8 +5,8 @@ use Rattle.nqs_net.proofs.emit.emit.Given as goal
 -- what goes out of the rest makes up what goes out of all
 abbrev pub invariant-loop-output : goal.invariant-loop-output
 invariant-loop-output l = record {
-  packets : l.packets.items ++ sent_in l.rest ≡ l.fn.start.packets.items ++ sent_in l.outputs.items;
-  seen : l.seen.items ++ seen_from l.me (length l.packets.items) l.rest ≡ l.fn.start.seen.items ++ seen_from l.me (length l.fn.start.packets.items) l.outputs.items;
+  packets : l.packets.items ++ sent_in l.rest ≡ l.fn.packets.items ++ sent_in l.fn.outputs.items;
+  seen : l.seen.items ++ seen_from l.me (length l.packets.items) l.rest ≡ l.fn.seen.items ++ seen_from l.me (length l.fn.packets.items) l.fn.outputs.items;
 }
 
 abbrev pub decreases-loop-output : goal.decreases-loop-output

@@ -1,4 +1,4 @@
-use Rattle.std.proofs.Common.{◌≡◌, ◌∙◌, ◌++◌, map, refl, sym, ap}
+use Rattle.std.proofs.Common.{◌≡◌, ◌∙◌, Err, true≢false, ◌++◌, map, refl, sym, ap}
 use Rattle.nqs_rules.specs.Stepped.{shown}
 use Rattle.nqs_node.specs.Carried.{started}
 use Rattle.nqs_node.specs.Nodes.{history_of, fails_of}
@@ -26,8 +26,23 @@ returns-in-Err-Disk-clause-taken c = λ host is empty. record {
   old = history_of c.args.node.now;
   disks = is.disks;
   same = c.in-Err-Disk.ensures.fuse refl;
-  ended = (c.in-Err-Disk.field-0-0, c.in-Err-Disk.ensures.cut refl host.state is.tells c.in-Err-Disk.field-0-0 refl);
+  ended = (c.in-Err-Disk.field-0-0, c.in-Err-Disk.ensures.cut refl host.state is.tells c.in-Err-Disk.field-0-0 (ap Err c.in-Err-Disk.field-0-is));
 }
 
 pub returns-in-Ok-clause-last : goal.returns-in-Ok-clause-last
 returns-in-Ok-clause-last c = λ host is took none. none_of c.args.now c.args.node.now host is (sym c.in-Ok.ensures.more ∙ none)
+
+pub start_next-requires : goal.start_next-requires
+start_next-requires c = c.requires
+
+pub returns-in-Ok-clause-sound : goal.returns-in-Ok-clause-sound
+returns-in-Ok-clause-sound c = c.in-Ok.ensures.sound
+
+pub returns-in-Err-Disk-clause-sound : goal.returns-in-Err-Disk-clause-sound
+returns-in-Err-Disk-clause-sound c = c.in-Err-Disk.ensures.sound
+
+pub returns-in-Err-Disk-clause-last : goal.returns-in-Err-Disk-clause-last
+returns-in-Err-Disk-clause-last c = λ host is took none. absurd (true≢false (sym took))
+
+pub returns-in-Err : goal.returns-in-Err
+returns-in-Err c = record { sound = c.in-Err.ensures.sound; taken = λ host is empty. tt; last = λ host is. tt }

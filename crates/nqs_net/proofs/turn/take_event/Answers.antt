@@ -1,4 +1,4 @@
-use Rattle.std.proofs.Common.{◌≡◌, ◌∙◌, ◌++◌, map, refl, ap}
+use Rattle.std.proofs.Common.{◌≡◌, ◌∙◌, Err, ◌++◌, map, refl, ap}
 use Rattle.nqs_rules.specs.Step.{step}
 use Rattle.nqs_rules.specs.Stepped.{shown}
 use Rattle.nqs_node.specs.Nodes.{history_of, fails_of}
@@ -25,5 +25,5 @@ returns-in-Err-Disk-clause-taken c = λ host is empty. record {
   old = history_of c.args.node.now;
   disks = is.disks;
   same = c.in-Err-Disk.ensures.fuse refl;
-  ended = (c.in-Err-Disk.field-0-0, c.in-Err-Disk.ensures.cut refl host.state is.tells c.in-Err-Disk.field-0-0 refl);
+  ended = (c.in-Err-Disk.field-0-0, c.in-Err-Disk.ensures.cut refl host.state is.tells c.in-Err-Disk.field-0-0 (ap Err c.in-Err-Disk.field-0-is));
 }

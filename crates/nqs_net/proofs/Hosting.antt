@@ -1,0 +1,107 @@
+-- What a stop, a boot and a shutdown of a host make of a network.
+use Rattle.std.proofs.Common.{◌≡◌, ◌⊎◌, inl, inr, ℕ, Bool, true, false, true≢false, IsTrue, List, [], ◌∷◌, ◌++◌, length, if◌then◌else◌, Option, None, Some, refl, sym, ap, subst, ◌∙◌}
+use Rattle.std.proofs.lemmas.List.{append_assoc, append-nil}
+use Rattle.std.specs.List.{filter_map}
+use Rattle.nqs_types.specs.State.{Plain}
+use Rattle.nqs_types.specs.declared.ids.HostId.{HostId}
+use Rattle.nqs_types.specs.declared.change.Change.TheVariants.{Boot}
+use Rattle.nqs_types.specs.declared.event.Event.{Event}
+use Rattle.nqs_types.specs.declared.message.Message.{Message}
+use Rattle.nqs_types.specs.declared.tear.Tear.{Tear}
+use Rattle.nqs_types.specs.declared.world.Seen.{Seen}
+use Rattle.nqs_types.specs.declared.world.Seen.TheVariants as seen
+use Rattle.nqs_types.specs.declared.world.Which.{Which}
+use Rattle.nqs_types.specs.declared.world.Which.TheVariants.{First, Spool}
+use Rattle.nqs_outside.specs.History.{Call, History, fresh, after, state, content, IsImage, IsQuiet}
+use Rattle.nqs_disk.specs.MemDisk as mem
+use Rattle.nqs_disk.specs.Torn.{torn}
+use Rattle.nqs_disk.specs.contracts.mem_disk.MemDiskDisk.TheImpl.{ghosts}
+use Rattle.nqs_disk.specs.declared.mem_disk.MemDisk.{MemDisk}
+use Rattle.nqs_rules.specs.Applied.{applied}
+use Rattle.nqs_rules.specs.Step.{step}
+use Rattle.nqs_rules.specs.Stepped.{stored_parts}
+use Rattle.nqs_rules.specs.World.{World as Network, Host, Ran, host_of, put_host, stopped, used, halted_host, halts, crashes_up, makes_change, boot_output, boots_down, steps, all_starts, shuts_down, takes_up, unseen, then_ran}
+use Rattle.nqs_store.specs.Images.{IsTold}
+use Rattle.nqs_store.specs.Disks.{disk_at, histories_of, failing_of}
+use Rattle.nqs_store.specs.declared.disks.Disks.{Disks}
+use Rattle.nqs_store.specs.Sound.{IsSoundHost}
+use Rattle.nqs_store.proofs.Nothing.{told_now}
+use Rattle.nqs_node.specs.Carried.{IsMade, IsCutBy, IsBlown}
+use Rattle.nqs_node.specs.Nodes.{disk_of, history_of, fails_of, content_of, Tells}
+use Rattle.nqs_node.specs.declared.node.Node.{Node}
+use Rattle.nqs_laws.proofs.Sound.{get-here}
+use Rattle.nqs_net.specs.Lists.{sent_in, seen_from}
+use Rattle.nqs_net.specs.Worlds.{fuse_of, AreDisks, IsUp, IsDown, IsSlot}
+use Rattle.nqs_net.specs.Turns.{IsTorn, IsStopped, Faces, IsAt, Turns}
+use Rattle.nqs_net.specs.declared.slot.Slot.{Slot}
+use Rattle.nqs_net.specs.declared.slot.Slot.TheVariants.{Up, Down}
+use Rattle.nqs_net.proofs.Fates.{unblown}
+use Rattle.nqs_net.proofs.Burns.{kept_disks}
+use Rattle.nqs_net.proofs.Turning.{put_turn, torn_down, kept_turn, cut_turn, same_self}
+
+-- what a node tells is told by what a stop leaves of its disks
+node_told : (node : Node MemDisk ghosts) (host : Host) (tear : Tear) → IsUp node host → ((which : Which) → IsImage (state (history_of node which)) (torn tear (state (history_of node which))))
+    → IsTold (torn tear (state (history_of node First))) (torn tear (state (history_of node Spool))) host.state
+node_told node host tear is images =
+    subst (IsTold (torn tear (state (history_of node First))) (torn tear (state (history_of node Spool)))) is.tells.is
+    (told_now node.store (content_of node) refl is.tells.told (λ which. torn tear (state (history_of node which))) images)
+
+module _ (h : HostId) (w : Network) (host : Host) (tear : Tear) (packets : List Message) (faces : Faces h host tear packets w) where
+  -- a host that is up stops as it is
+  pub crash_turn : (node : Node MemDisk ghosts) → IsUp node host → (disks : Disks MemDisk) → ((which : Which) → disk_at which disks ≡ disk_of which node) → (slot : Slot) (before after : List Seen) → after ≡ before ++ seen.Stop h ∷ []
+      → IsStopped tear (histories_of mem.history_of disks) slot → Turns h (IsSlot slot) tear packets before after w (crashes_up h host w)
+  crash_turn node is disks closed slot before after saw torn_now =
+      let there : IsStopped tear (history_of node) slot = subst (λ (now : Which → History). IsStopped tear now slot) (λ j which. mem.history_of (closed which j)) torn_now in
+      of slot (subst (λ t. IsStopped t (history_of node) slot) faces.tear there)
+    where
+      of : (s : Slot) → IsStopped host.tear (history_of node) s → Turns h (IsSlot s) tear packets before after w (crashes_up h host w)
+      of (Up up) torn_now = absurd torn_now
+      of (Down down) torn_now =
+          subst (λ l. Turns h (IsSlot (Down down)) tear l before after w (crashes_up h host w)) (sym faces.packets)
+          (put_turn h w host (stopped host.state host) faces.there (IsSlot (Down down)) (torn_down host.tear (history_of node) down.disks torn_now host host.state (node_told node host host.tear is torn_now.images)) tear faces.tear (seen.Stop h ∷ []) before after saw)
+
+  -- nothing is done
+  pub idle_at : (P : Host → Type 0) → P host → (before : List Seen) → Turns h P tear packets before before w (unseen w)
+  idle_at P p before = record { at = record { host = host; stands = p; faces = faces }; rest = same_self h w; seen = sym (append-nil before) }
+
+  pub up_halts : host.up ≡ true → halts true h w ≡ crashes_up h host w
+  up_halts up = ap (λ o. halted_host h o w) faces.there ∙ by host.up up
+    where
+      by : (b : Bool) → b ≡ true → (let stop = crashes_up h host w in if◌then◌else◌ b stop (unseen w) ≡ stop)
+      by true e = refl
+      by false e = absurd (true≢false (sym e))
+
+  pub down_halts : host.up ≡ false → halts true h w ≡ unseen w
+  down_halts down = ap (λ o. halted_host h o w) faces.there ∙ by host.up down
+    where
+      by : (b : Bool) → b ≡ false → if◌then◌else◌ b (crashes_up h host w) (unseen w) ≡ unseen w
+      by true e = absurd (true≢false e)
+      by false e = refl
+
+  -- the boot of a host that is down
+
+  module _ (disks : Disks MemDisk) (is : IsDown disks host) where
+    abbrev fails : Which → ℕ → Bool
+    fails = failing_of mem.fails_of disks
+
+    abbrev old : Which → History
+    old = histories_of mem.history_of disks
+
+    pub boot_turn : (node : Node MemDisk ghosts) → IsSoundHost (content_of node) → Tells node (applied Boot host.state) → IsMade fails old (history_of node) (Some Boot) → ((which : Which) (i : ℕ) → fails_of node which i ≡ fails which i)
+        → (sent : List Message) (before after : List Seen) → sent ≡ packets ++ sent_in (filter_map boot_output host.state.rows) → after ≡ before ++ (seen.Boot h ∷ seen_from h (length packets) (filter_map boot_output host.state.rows))
+        → Turns h (IsUp node) tear sent before after w (makes_change h host Boot (seen.Boot h ∷ []) (filter_map boot_output host.state.rows) w)
+    boot_turn node sound tells kept same sent before after sends saw =
+        kept_turn h w host tear packets faces (seen.Boot h ∷ []) (filter_map boot_output host.state.rows) Boot fails old is.disks (history_of node) (IsUp node) kept
+        (record { up = refl; tells = tells; sound = sound; disks = kept_disks host fails (fails_of node) old (history_of node) is.disks same (stored_parts Boot) (applied Boot host.state) kept }) sent before after sends saw
+
+    pub boot_cut : (now : Which → History) (slot : Slot) (which : Which) (starved : Bool) (before after : List Seen) → after ≡ before ++ seen.Stop h ∷ [] → IsStopped tear now slot → starved ≡ false
+        → IsTrue starved ⊎ (IsBlown (fails which) (old which) ⊎ IsCutBy fails old now (Some Boot) host.state which)
+        → Turns h (IsSlot slot) tear packets before after w (makes_change h host Boot (seen.Boot h ∷ []) (filter_map boot_output host.state.rows) w)
+    boot_cut now slot which starved before after saw torn_now fed (inl hungry) = absurd (true≢false (sym hungry ∙ fed))
+    boot_cut now slot which starved before after saw torn_now fed (inr (inl blown)) = absurd (unblown (fuse_of which host.fuses) (old which) (fails which) (is.disks which).fuse blown)
+    boot_cut now slot which starved before after saw torn_now fed (inr (inr cut)) =
+        cut_turn h w host tear packets faces (seen.Boot h ∷ []) (filter_map boot_output host.state.rows) Boot fails old is.disks now before after saw slot which torn_now cut
+
+-- where no call was made, nothing is pending
+pub uncalled_quiet : (h : History) → h.calls ≡ [] → IsQuiet h
+uncalled_quiet h none = subst (λ (l : List Call). after (fresh h.start) l ≡ fresh (after (fresh h.start) l).content) (sym none) refl

@@ -1,0 +1,21 @@
+use Rattle.std.proofs.Common.{◌∙◌, ◌&&◌, sym, ap, is_ok}
+use Rattle.nqs_types.specs.State.{content}
+use Rattle.nqs_rules.specs.Access.{rank, may_command}
+use Rattle.nqs_rules.specs.Plain.{map_state}
+use Rattle.nqs_rules.specs.World.{shuts_down}
+use Rattle.nqs_net.proofs.host.shuts_down.Goals as goal
+
+pub returns-then-is_shutdown : goal.returns-then-is_shutdown
+returns-then-is_shutdown c = λ bytes.
+    let plain = map_state bytes (content c.args.state.now) in
+    c.is_ok.ensures.value ∙ ap is_ok (c.may_command.ensures ∙ ap (λ r. may_command r _) c.rank.ensures)
+    ∙ sym (ap (λ b. b && is_ok (may_command (rank _ plain) _)) (sym c.is_shutdown.ensures ∙ c.if-is_shutdown.true)) ∙ sym (ap (λ e. shuts_down e plain) c.in-Ask.is)
+
+pub returns-else-is_shutdown : goal.returns-else-is_shutdown
+returns-else-is_shutdown c = λ bytes.
+    let plain = map_state bytes (content c.args.state.now) in
+    c.if-is_shutdown.false
+    ∙ sym (ap (λ b. b && is_ok (may_command (rank _ plain) _)) (sym c.is_shutdown.ensures ∙ c.if-is_shutdown.false)) ∙ sym (ap (λ e. shuts_down e plain) c.in-Ask.is)
+
+pub returns-in_default : goal.returns-in_default
+returns-in_default c = ?

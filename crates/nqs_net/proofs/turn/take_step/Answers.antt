@@ -1,0 +1,26 @@
+use Rattle.std.proofs.Common.{refl}
+use Rattle.std.proofs.lemmas.Result.{err_from_is_err_and}
+use Rattle.nqs_rules.specs.Step.{step}
+use Rattle.nqs_net.proofs.turn.take_step.Goals as goal
+
+pub take_event-requires-clause-sound : goal.take_event-requires-clause-sound
+take_event-requires-clause-sound c = c.requires.sound
+
+pub take_event-requires-clause-sane : goal.take_event-requires-clause-sane
+take_event-requires-clause-sane c = c.requires.sane
+
+pub returns-in_err-took : goal.returns-in_err-took
+returns-in_err-took c = λ w host faces is.
+    let p = err_from_is_err_and c.from_residual.result c.from_residual.ensures.1 in
+    rw p.1 tt
+
+pub carry-requires : goal.carry-requires
+carry-requires c = record { sound = c.in_ok-took.ensures.sound }
+
+pub returns-in_err-slot : goal.returns-in_err-slot
+returns-in_err-slot c = λ w host faces is.
+    let p = err_from_is_err_and c.from_residual-in_err-slot.result c.from_residual-in_err-slot.ensures.1 in
+    rw p.1 tt
+
+pub returns : goal.returns
+returns c = λ w host faces is. c.in_ok-slot.ensures.turn w host (step c.args.event.now host.state) faces (c.in_ok-took.ensures.taken host is c.new-out.ensures.items)
