@@ -4,3 +4,4 @@ pub mod Worlds
 pub mod Turns
 pub mod Deeds
 pub mod Least
+pub mod Left

@@ -123,7 +123,7 @@ fn do_up(
     match deed {
         Deed::Take(event) => take_up(alloc, me, node, tear, event, now, packets, seen),
         Deed::Finish => finish_up(alloc, me, node, tear, now, packets, seen),
-        Deed::Crash => crash_up(me, node, tear, packets, seen),
+        Deed::Crash => crash_up(me, node, tear, seen),
         Deed::Boot => stay(Slot::Up(UpHost { node }), Seen::Up { host: me }, seen),
     }
 }

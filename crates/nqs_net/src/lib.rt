@@ -7,7 +7,15 @@
 
 mod deed;
 mod emit;
+mod event;
+mod fuses;
 mod host;
+mod left;
+mod meaning;
+mod new;
+mod packets;
+mod places;
+mod shown;
 mod slot;
 mod stop;
 mod turn;

@@ -10,7 +10,7 @@ pub returns-in-Finish : goal.returns-in-Finish
 returns-in-Finish c = λ w host faces is now. turns_as c.finish_up.result c.args.me c.args.tear _ _ _ w _ _ (ap (λ d. done_up d c.args.me host w) (sym c.in-Finish.is)) (c.finish_up.ensures w host faces is now)
 
 pub returns-in-Crash : goal.returns-in-Crash
-returns-in-Crash c = λ w host faces is now. turns_as c.crash_up.result c.args.me c.args.tear _ _ _ w _ _ (ap (λ d. done_up d c.args.me host w) (sym c.in-Crash.is)) (c.crash_up.ensures w host faces is)
+returns-in-Crash c = λ w host faces is now. turns_as c.crash_up.result c.args.me c.args.tear _ _ _ w _ _ (ap (λ d. done_up d c.args.me host w) (sym c.in-Crash.is)) (c.crash_up.ensures w host c.args.packets.now.items faces is)
 
 pub returns-in-Boot : goal.returns-in-Boot
 returns-in-Boot c = λ w host faces is now. turns_as c.stay.result c.args.me c.args.tear _ _ _ w _ _ (ap (λ d. done_up d c.args.me host w) (sym c.in-Boot.is))
