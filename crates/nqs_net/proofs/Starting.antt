@@ -1,5 +1,5 @@
 -- Starts of a host go on until there is none, and a host that stops starts nothing.
-use Rattle.std.proofs.Common.{◌≡◌, ◌⊎◌, inl, inr, ℕ, zero, suc, ◌+◌, ◌<◌, ◌≤◌, nat_le, Bool, true, false, ◌&&◌, true≢false, option_map, List, [], ◌∷◌, ◌++◌, length, map, slice_get, Option, None, Some, is_some, refl, sym, ap, subst, ◌∙◌, arith}
+use Rattle.std.proofs.Common.{◌≡◌, ◌⊎◌, inl, inr, ℕ, zero, suc, ◌+◌, ◌<◌, ◌≤◌, nat_le, Bool, true, false, true≢false, option_map, List, [], ◌∷◌, ◌++◌, length, map, slice_get, Option, None, Some, is_some, refl, sym, ap, subst, ◌∙◌, arith}
 use Rattle.std.proofs.lemmas.List.{append_assoc, append-nil}
 use Rattle.std.proofs.lemmas.Simd.{map-map}
 use Rattle.nqs_types.specs.State.{State, Plain}
@@ -184,7 +184,7 @@ module _ (h : HostId) (w : Network) (host : Host) (there : host_of h w ≡ Some 
   down_next (Down s) packets v at down = down_all h v at.host at.faces.there at.stands.down
 
   pub starting : (slot : Slot) (took more : Bool) (packets : List Message) (before after : List Seen) → Turns h (IsSlot slot) tear packets before after w (steps h host (started w.now host.state) w)
-      → (took ≡ false → IsDownSlot slot) → (took ≡ true → more ≡ false → start w.now host.state ≡ None) → Starts h (took && more) (IsSlot slot) tear packets before after w
+      → (took ≡ false → IsDownSlot slot) → (took ≡ true → more ≡ false → start w.now host.state ≡ None) → Starts h more (IsSlot slot) tear packets before after w
   starting slot took more packets before after turn down none = record {
     ran = steps h host (started w.now host.state) w;
     turn = turn;
@@ -195,7 +195,7 @@ module _ (h : HostId) (w : Network) (host : Host) (there : host_of h w ≡ Some 
       idle_next : start w.now host.state ≡ None → all_starts h (steps h host (started w.now host.state) w).world ≡ unseen (steps h host (started w.now host.state) w).world
       idle_next e = subst (λ (o : Option (Stepped (List ℕ))). let v = (steps h host (elim o [ None ↦ quiet | Some x ↦ x ]) w).world in all_starts h v ≡ unseen v) (sym e) (none_all h w host there e)
 
-      by : (took : Bool) → (took ≡ false → IsDownSlot slot) → (took ≡ true → more ≡ false → start w.now host.state ≡ None) → (took && more) ≡ false
+      by : (took : Bool) → (took ≡ false → IsDownSlot slot) → (took ≡ true → more ≡ false → start w.now host.state ≡ None) → more ≡ false
           → all_starts h (steps h host (started w.now host.state) w).world ≡ unseen (steps h host (started w.now host.state) w).world
       by false down none e = down_next slot packets (steps h host (started w.now host.state) w).world turn.at (down refl)
       by true down none e = idle_next (none refl e)

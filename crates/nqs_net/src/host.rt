@@ -44,7 +44,12 @@ fn shuts_down(event: &Event, state: &HostState) -> bool
         Event::Ask { user, command, .. } => {
             is_shutdown(command) && may_command(rank(state, user), command).is_ok()
         }
-        _ => false,
+        Event::Arrived { .. } => false,
+        Event::Ended { .. } => false,
+        Event::Unlaunched { .. } => false,
+        Event::Written { .. } => false,
+        Event::Unwritten { .. } => false,
+        Event::Tick { .. } => false,
     }
 }
 

@@ -1,6 +1,6 @@
 //! What a host does that is up: it takes an event, and starts what may start.
 
-ghost use Rattle.std.specs.Prelude.{◌≡◌, ◌&&◌, [], IsTrue, IfOk, List, ℕ, Bool, true, false, None, length};
+ghost use Rattle.std.specs.Prelude.{◌≡◌, [], IsTrue, IfOk, List, ℕ, Bool, true, false, None, length};
 ghost use Rattle.nqs_rules.specs.Sane.{is_sane_event};
 ghost use Rattle.nqs_rules.specs.Start.{start};
 ghost use Rattle.nqs_rules.specs.Step.{step};
@@ -125,7 +125,7 @@ fn start_step(
     let mut out = Vec::new(alloc);
     let (took, more) = start_event(alloc, &mut node, now, &mut out)?;
     let slot = carry(me, node, took, out, tear, packets, seen)?;
-    Ok((took && more, slot))
+    Ok((more, slot))
 }
 
 // The same of a slot. A host that is down starts nothing.
