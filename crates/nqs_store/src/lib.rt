@@ -11,8 +11,10 @@ mod commit;
 mod disks;
 mod fault;
 mod formatting;
+mod free;
 mod live;
 mod opened;
+mod put;
 mod store;
 mod tell;
 

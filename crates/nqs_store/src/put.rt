@@ -1,0 +1,116 @@
+//! The bytes of a change, put into the spool before its record is written.
+
+ghost use Rattle.std.specs.Prelude.{◌≡◌, ◌⊎◌, ◌+◌, ◌<◌, ◌≤◌, ◌++◌, [], ◌∷◌, ℕ, List, IsTrue, OnOk, OnErr, IfOk, length, vec_capacity};
+ghost use Rattle.std.specs.List.{AllByRecursion};
+ghost use Rattle.nqs_types.specs.declared.extent.Extent.{Extent};
+ghost use Rattle.nqs_outside.specs.Causes.{Rose};
+ghost use Rattle.nqs_outside.specs.History.{Call, content, extended, moment, EachSince, StopsShort};
+ghost use Rattle.nqs_spool.specs.Extents.{Has, IsWith, Holds};
+ghost use Rattle.nqs_spool.specs.Puts.{put_calls};
+ghost use Rattle.nqs_spool.specs.Spooled.{disk_of, history_of, room_of, Tells};
+ghost use Rattle.nqs_rules.specs.World.{spool_calls};
+ghost use Rattle.nqs_store.specs.Puts.{IsShortPut};
+ghost use Rattle.nqs_store.specs.Putting.{ArePartlyPut, ArePut};
+ghost use Rattle.nqs_store.specs.Commits.{FailsFirst};
+ghost use Rattle.nqs_records.specs.Values.{IsExtent};
+ghost use Rattle.nqs_records.specs.Extents.{first_or, parts_with, with_extents};
+
+use nqs_outside::{Disk, Failed};
+use nqs_spool::Spool;
+use nqs_types::{Bytes, Change, Extent, Items, OutPart};
+use std::alloc::Global;
+
+// Puts one list of bytes, for which there is room.
+fn put_one<D: Disk>(spool: &mut Spool<D>, bytes: &[u8]) -> Result<Extent, Failed>
+    requires room { 0 < room_of spool.old }
+    requires short { IsShortPut bytes.now }
+    ensures fault { OnErr result (Rose (D.faults (disk_of spool.old)) (D.faults (disk_of spool.new))) }
+    ensures later { D.faults (disk_of spool.old) ≤ D.faults (disk_of spool.new) }
+    ensures room { room_of spool.old ≤ room_of spool.new + 1 }
+    ensures small { IfOk result IsExtent }
+    ensures made { IsTrue D.tells → IfOk result (λ extent. history_of spool.new ≡ extended (history_of spool.old) (put_calls extent.place bytes.now)) }
+    ensures broken { IsTrue D.tells → OnErr result ((place : ℕ) × (calls : List Call) × (history_of spool.new ≡ extended (history_of spool.old) calls) × StopsShort (put_calls place bytes.now) calls) }
+    ensures fuse { IsTrue D.tells → (i : ℕ) → D.fails (disk_of spool.new) i ≡ D.fails (disk_of spool.old) i }
+    ensures failing { IsTrue D.tells → OnErr result (IsTrue (D.starved (disk_of spool.new)) ⊎ (i : ℕ) × FailsFirst (D.fails (disk_of spool.old)) (moment (history_of spool.old)) (spool_calls (bytes.now ∷ [])) i) }
+    ensures kept { IsTrue D.tells → (live : List Extent) → Tells spool.old live → (x : Extent) (script : List ℕ) → Has live x
+        → Holds (content (history_of spool.old)) x script → EachSince (moment (history_of spool.old)) (history_of spool.new) (λ image. Holds image x script) }
+    ensures still { IsTrue D.tells → (live : List Extent) → Tells spool.old live → (x : Extent) (script : List ℕ) → Has live x
+        → Holds (content (history_of spool.old)) x script → Holds (content (history_of spool.new)) x script }
+    ensures tells { IfOk result (λ extent. (live more : List Extent) → Tells spool.old live → IsWith live extent more → Tells spool.new more) }
+    ensures stored { IsTrue D.tells → IfOk result (λ extent. Holds (content (history_of spool.new)) extent bytes.now) }
+{
+    match spool.put(bytes) {
+        Ok(extent) => Ok(extent),
+        Err(_) => Err(Failed),
+    }
+}
+
+/// Puts each list of bytes, at most 32,768 of them, and adds its extent. Room was made for them in the spool and in the
+/// list. After a fault the spool is to be closed.
+pub fn put_all<D: Disk>(
+    spool: &mut Spool<D>,
+    puts: &[Bytes],
+    extents: &mut Vec<Extent>,
+) -> Result<(), Failed>
+    requires room { length puts.now ≤ room_of spool.old }
+    requires list { length extents.old.items + length puts.now ≤ vec_capacity extents.old }
+    requires short { AllByRecursion IsShortPut puts.now }
+    ensures fault { OnErr result (Rose (D.faults (disk_of spool.old)) (D.faults (disk_of spool.new))) }
+    ensures later { D.faults (disk_of spool.old) ≤ D.faults (disk_of spool.new) }
+
+    // The calls that it makes: all, or the first of them, of which only the last may have failed.
+    ensures grown { IsTrue D.tells → (calls : List Call) × (history_of spool.new ≡ extended (history_of spool.old) calls) }
+    ensures broken { IsTrue D.tells → OnErr result (ArePartlyPut puts.now (history_of spool.old) (history_of spool.new)) }
+    ensures fuse { IsTrue D.tells → (i : ℕ) → D.fails (disk_of spool.new) i ≡ D.fails (disk_of spool.old) i }
+
+    // Each image of each moment holds what the live extents hold, and so does what a read gives.
+    ensures kept { IsTrue D.tells → (live : List Extent) → Tells spool.old live → (x : Extent) (script : List ℕ) → Has live x
+        → Holds (content (history_of spool.old)) x script → EachSince (moment (history_of spool.old)) (history_of spool.new) (λ image. Holds image x script) }
+    ensures still { IsTrue D.tells → (live : List Extent) → Tells spool.old live → (x : Extent) (script : List ℕ) → Has live x
+        → Holds (content (history_of spool.old)) x script → Holds (content (history_of spool.new)) x script }
+
+    // At Ok the new ones are live, and hold the bytes.
+    ensures done { OnOk result (ArePut puts.now spool.old spool.new extents.old.items extents.new.items) }
+{
+    let Some((put, later)) = puts.split_first() else {
+        return Ok(());
+    };
+    let extent = put_one(spool, put.as_slice())?;
+    extents.push(extent).unwrap();
+    put_all(spool, later, extents)
+}
+
+// The extents of the parts of a job's output.
+fn set_part_extents(parts: &mut [OutPart], extents: &[Extent])
+    ensures { parts.new ≡ parts_with parts.old extents.now }
+{
+    for (part, extent) in parts.iter_mut().zip(extents) {
+        part.bytes = *extent;
+    }
+}
+
+fn first_or(extent: Extent, extents: &[Extent]) -> Extent
+    ensures { result ≡ first_or extent extents.now }
+{
+    match extents.first() {
+        Some(first) => *first,
+        None => extent,
+    }
+}
+
+/// Sets the extents of a change, in order. It takes no memory.
+pub fn set_extents(alloc: Global, change: &mut Change, extents: &[Extent])
+    ensures { change.new ≡ with_extents change.old extents.now }
+{
+    match change {
+        Change::Submitted { script, .. } => *script = first_or(*script, extents),
+        Change::Ended { outputs, .. } => {
+            let mut parts = std::mem::replace(outputs, Items::new(alloc)).into_vec();
+            set_part_extents(parts.as_mut_slice(), extents);
+            *outputs = Items::from_vec(parts);
+        }
+        Change::Promised { script, .. } => *script = first_or(*script, extents),
+        Change::StageGot { bytes, .. } => *bytes = first_or(*bytes, extents),
+        _ => {}
+    }
+}
