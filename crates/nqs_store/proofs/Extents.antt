@@ -10,7 +10,7 @@ use Rattle.nqs_store.specs.Accounts.{Adds, Takes, IsRearranged}
 use Rattle.nqs_store.specs.Frees.{part_of}
 
 module _ (x : Extent) where
-  with_first : (live : List Extent) → IsWith live x (x ∷ live)
+  pub with_first : (live : List Extent) → IsWith live x (x ∷ live)
   with_first live = record { front = []; back = live; without = refl; within = refl }
 
   with_behind : (live more back : List Extent) → IsWith live x more → IsWith (live ++ back) x (more ++ back)

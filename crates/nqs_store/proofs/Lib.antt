@@ -6,3 +6,4 @@ pub mod Extents
 pub mod Filled
 pub mod Outputs
 pub mod Runs
+pub mod Putting

@@ -4,6 +4,7 @@ use Rattle.std.proofs.lemmas.List.{append-nil, take-append-le, drop_at}
 use Rattle.std.proofs.Math.Seq.{take-length}
 use Rattle.nqs_outside.specs.History.{Call, write, sync, failed, State, fresh, History, extended, state, content, moment, after, state_at, MayLeave, IsImage, IsQuiet, EachSince, StopsShort, answered, IsExact}
 use Rattle.nqs_outside.proofs.Histories.{goes_on}
+use Rattle.std.proofs.lemmas.Bool.{cases_lt}
 use Rattle.nqs_spool.specs.Puts.{put_calls}
 use Rattle.nqs_spool.specs.declared.fault.SpoolFault.{SpoolFault}
 use Rattle.nqs_spool.specs.declared.fault.SpoolFault.TheVariants as spool
@@ -22,15 +23,10 @@ pub same_before : (j k : History) (calls : List Call) (t : ℕ) → k ≡ extend
 same_before j k calls t is le = ap (λ l. state_at l t) is ∙ ap (after (fresh j.start)) (earlier j.calls calls t le)
 
 pub each_since_both : (h j k : History) (calls : List Call) (P : List ℕ → Type 0) → k ≡ extended j calls → EachSince (moment h) j P → EachSince (moment j) k P → EachSince (moment h) k P
-each_since_both h j k calls P is first second = λ t image from to leaves. elim (order t (moment j)) [
-      | inl early ↦ first t image from early (subst (λ s. IsImage s image) (same_before j k calls t is early) leaves)
-      | inr late ↦ second t image late to leaves
-    ]
-  where
-    order : (m n : ℕ) → (m ≤ n) ⊎ (n ≤ m)
-    order zero n = inl (omega arith)
-    order (suc m) zero = inr (omega arith)
-    order (suc m) (suc n) = elim (order m n) [ inl le ↦ inl (omega (arith, le)) | inr le ↦ inr (omega (arith, le)) ]
+each_since_both h j k calls P is first second = λ t image from to leaves. elim (cases_lt t (moment j)) [
+  | inl early ↦ first t image from (omega (arith, early)) (subst (λ s. IsImage s image) (same_before j k calls t is (omega (arith, early))) leaves)
+  | inr late ↦ second t image late to leaves
+]
 
 -- a plan goes on behind
 
@@ -49,26 +45,21 @@ stops_behind (d ∷ next ∷ done) plan calls short = (refl, stops_behind (next 
 
 -- which call was to fail
 
+both_clear : (fails : ℕ → Bool) (t n m : ℕ) → AreClear fails t n → AreClear fails (t + n) m → AreClear fails t (n + m)
+both_clear fails t n m front back i lt = elim (cases_lt i n) [
+  | inl below ↦ front i below
+  | inr above ↦ (let at : t + i ≡ (t + n) + (i - n) = omega (arith, above) in ap fails at ∙ back (i - n) (omega (arith, above, lt)))
+]
+
 pub fails_shifted : (fails : ℕ → Bool) (t n count i : ℕ) → AreClear fails t n → FailsFirst fails (t + n) count i → FailsFirst fails t (n + count) (n + i)
 fails_shifted fails t n count i clear first = record {
   within = omega (arith, first.within);
   due = ap fails (sum t n i) ∙ first.due;
-  clear = both t n i clear first.clear;
+  clear = both_clear fails t n i clear first.clear;
 }
   where
     sum : (t n i : ℕ) → t + (n + i) ≡ (t + n) + i
     sum t n i = omega arith
-
-    both : (t n m : ℕ) → AreClear fails t n → AreClear fails (t + n) m → AreClear fails t (n + m)
-    both t n m front back i lt = elim (order i n) [
-      | inl below ↦ front i below
-      | inr above ↦ (let at : t + i ≡ (t + n) + (i - n) = omega (arith, above) in ap fails at ∙ back (i - n) (omega (arith, above, lt)))
-    ]
-      where
-        order : (a b : ℕ) → (a < b) ⊎ (b ≤ a)
-        order a zero = inr (omega arith)
-        order zero (suc b) = inl (omega arith)
-        order (suc a) (suc b) = elim (order a b) [ inl lt ↦ inl (omega (arith, lt)) | inr le ↦ inr (omega (arith, le)) ]
 
 -- calls of a plan, each answered Ok
 abbrev pub AllOk : List Call → Type 0
@@ -167,3 +158,45 @@ pub is_disk : (fault : SpoolFault) → (fault ≡ spool.TooLong → ⊥) → (fa
 is_disk spool.TooLong long memory = absurd (long refl)
 is_disk spool.Disk long memory = refl
 is_disk spool.Memory long memory = absurd (memory refl)
+
+-- none of a put's calls was to fail
+pub one_clear : (fails : ℕ → Bool) (from : ℕ) (bytes : List ℕ) → (0 < length bytes → (i : ℕ) → i < 2 → fails (from + i) ≡ false) → AreClear fails from (spool_calls (bytes ∷ []))
+one_clear fails from [] due = λ i lt. absurd (omega (arith, lt))
+one_clear fails from (b ∷ bytes) due = due (omega arith)
+
+-- a put's calls, and then those of other puts
+module _ (h j : History) (fails later : ℕ → Bool) (place : ℕ) (bytes : List ℕ) (puts : List (List ℕ)) (made : j ≡ extended h (put_calls place bytes)) (same : (i : ℕ) → later i ≡ fails i)
+    (clear : AreClear fails (moment h) (spool_calls (bytes ∷ []))) where
+  moment_is : moment j ≡ moment h + spool_calls (bytes ∷ [])
+  moment_is = ap moment made ∙ length-append h.calls (put_calls place bytes) ∙ ap (λ n. moment h + n) (size_of_one place bytes)
+
+  count_is : spool_calls (bytes ∷ []) + spool_calls puts ≡ spool_calls (bytes ∷ puts)
+  count_is = ap (λ n. n + spool_calls puts) (sym (size_of_one place bytes)) ∙ size_of_put place bytes puts
+
+  same_fails : later ≡ fails
+  same_fails = λ k i. same i k
+
+  pub all_clear : AreClear later (moment j) (spool_calls puts) → AreClear fails (moment h) (spool_calls (bytes ∷ puts))
+  all_clear rest =
+      let back = subst (λ f. AreClear f (moment h + spool_calls (bytes ∷ [])) (spool_calls puts)) same_fails (subst (λ t. AreClear later t (spool_calls puts)) moment_is rest) in
+      subst (AreClear fails (moment h)) count_is (both_clear fails (moment h) (spool_calls (bytes ∷ [])) (spool_calls puts) clear back)
+
+  pub later_fails : (now : Bool) → IsTrue now ⊎ (i : ℕ) × FailsFirst later (moment j) (spool_calls puts) i → IsTrue now ⊎ (i : ℕ) × FailsFirst fails (moment h) (spool_calls (bytes ∷ puts)) i
+  later_fails now (inl starved) = inl starved
+  later_fails now (inr at) =
+      let n = spool_calls (bytes ∷ []) in
+      let rest = subst (λ f. FailsFirst f (moment h + n) (spool_calls puts) at.0) same_fails (subst (λ t. FailsFirst later t (spool_calls puts) at.0) moment_is at.1) in
+      inr (n + at.0, subst (λ count. FailsFirst fails (moment h) count (n + at.0)) count_is (fails_shifted fails (moment h) n (spool_calls puts) at.0 clear rest))
+
+-- the first put failed
+pub first_fails : (fails : ℕ → Bool) (from : ℕ) (bytes : List ℕ) (puts : List (List ℕ)) (now : Bool) → IsTrue now ⊎ (i : ℕ) × FailsFirst fails from (spool_calls (bytes ∷ [])) i → IsTrue now ⊎ (i : ℕ) × FailsFirst fails from (spool_calls (bytes ∷ puts)) i
+first_fails fails from bytes puts now (inl starved) = inl starved
+first_fails fails from bytes puts now (inr at) = inr (at.0, record {
+  within = omega (arith, at.1.within, size_of_one 0 bytes, size_of_put 0 bytes puts);
+  due = at.1.due;
+  clear = at.1.clear;
+})
+
+pub none_clear : (fails : ℕ → Bool) (from : ℕ) (puts : List (List ℕ)) → length puts ≡ 0 → AreClear fails from (spool_calls puts)
+none_clear fails from [] none = λ i lt. absurd (omega (arith, lt))
+none_clear fails from (put ∷ puts) none = absurd (omega (arith, none))

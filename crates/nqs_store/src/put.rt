@@ -11,7 +11,7 @@ ghost use Rattle.nqs_spool.specs.Spooled.{disk_of, history_of, room_of, Tells};
 ghost use Rattle.nqs_rules.specs.World.{spool_calls};
 ghost use Rattle.nqs_store.specs.Puts.{IsShortPut};
 ghost use Rattle.nqs_store.specs.Putting.{ArePartlyPut, ArePut};
-ghost use Rattle.nqs_store.specs.Commits.{FailsFirst};
+ghost use Rattle.nqs_store.specs.Commits.{AreClear, FailsFirst};
 ghost use Rattle.nqs_records.specs.Values.{IsExtent};
 ghost use Rattle.nqs_records.specs.Extents.{first_or, parts_with, with_extents};
 
@@ -31,6 +31,7 @@ fn put_one<D: Disk>(spool: &mut Spool<D>, bytes: &[u8]) -> Result<Extent, Failed
     ensures made { IsTrue D.tells → IfOk result (λ extent. history_of spool.new ≡ extended (history_of spool.old) (put_calls extent.place bytes.now)) }
     ensures broken { IsTrue D.tells → OnErr result ((place : ℕ) × (calls : List Call) × (history_of spool.new ≡ extended (history_of spool.old) calls) × StopsShort (put_calls place bytes.now) calls) }
     ensures fuse { IsTrue D.tells → (i : ℕ) → D.fails (disk_of spool.new) i ≡ D.fails (disk_of spool.old) i }
+    ensures due { IsTrue D.tells → OnOk result (AreClear (D.fails (disk_of spool.old)) (moment (history_of spool.old)) (spool_calls (bytes.now ∷ []))) }
     ensures failing { IsTrue D.tells → OnErr result (IsTrue (D.starved (disk_of spool.new)) ⊎ (i : ℕ) × FailsFirst (D.fails (disk_of spool.old)) (moment (history_of spool.old)) (spool_calls (bytes.now ∷ [])) i) }
     ensures kept { IsTrue D.tells → (live : List Extent) → Tells spool.old live → (x : Extent) (script : List ℕ) → Has live x
         → Holds (content (history_of spool.old)) x script → EachSince (moment (history_of spool.old)) (history_of spool.new) (λ image. Holds image x script) }
@@ -61,6 +62,8 @@ pub fn put_all<D: Disk>(
     // The calls that it makes: all, or the first of them, of which only the last may have failed.
     ensures grown { IsTrue D.tells → (calls : List Call) × (history_of spool.new ≡ extended (history_of spool.old) calls) }
     ensures broken { IsTrue D.tells → OnErr result (ArePartlyPut puts.now (history_of spool.old) (history_of spool.new)) }
+    ensures due { IsTrue D.tells → OnOk result (AreClear (D.fails (disk_of spool.old)) (moment (history_of spool.old)) (spool_calls puts.now)) }
+    ensures failing { IsTrue D.tells → OnErr result (IsTrue (D.starved (disk_of spool.new)) ⊎ (i : ℕ) × FailsFirst (D.fails (disk_of spool.old)) (moment (history_of spool.old)) (spool_calls puts.now) i) }
     ensures fuse { IsTrue D.tells → (i : ℕ) → D.fails (disk_of spool.new) i ≡ D.fails (disk_of spool.old) i }
 
     // Each image of each moment holds what the live extents hold, and so does what a read gives.

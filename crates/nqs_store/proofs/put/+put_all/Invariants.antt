@@ -1,5 +1,5 @@
 use Rattle.std.proofs.Common.{length}
 use Rattle.nqs_store.proofs.put.+put_all.Given as goal
 
-pub decreases-put_all : goal.decreases-put_all
+abbrev pub decreases-put_all : goal.decreases-put_all
 decreases-put_all g l = length l.puts.now
