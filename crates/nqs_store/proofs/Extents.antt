@@ -13,7 +13,7 @@ module _ (x : Extent) where
   pub with_first : (live : List Extent) → IsWith live x (x ∷ live)
   with_first live = record { front = []; back = live; without = refl; within = refl }
 
-  with_behind : (live more back : List Extent) → IsWith live x more → IsWith (live ++ back) x (more ++ back)
+  pub with_behind : (live more back : List Extent) → IsWith live x more → IsWith (live ++ back) x (more ++ back)
   with_behind live more back at = record {
     front = at.front;
     back = at.back ++ back;
@@ -21,7 +21,7 @@ module _ (x : Extent) where
     within = ap (λ (l : List Extent). l ++ back) at.within ∙ append_assoc at.front (x ∷ at.back) back;
   }
 
-  with_before : (front live more : List Extent) → IsWith live x more → IsWith (front ++ live) x (front ++ more)
+  pub with_before : (front live more : List Extent) → IsWith live x more → IsWith (front ++ live) x (front ++ more)
   with_before front live more at = record {
     front = front ++ at.front;
     back = at.back;

@@ -7,3 +7,6 @@ pub mod Filled
 pub mod Outputs
 pub mod Runs
 pub mod Putting
+pub mod Freeing
+pub mod Accounts
+pub mod HostRuns

@@ -1,20 +1,23 @@
 //! The extents that a change takes away, freed after its record was written.
 
-ghost use Rattle.std.specs.Prelude.{◌≡◌, Bool, List, map, filter, drop};
+ghost use Rattle.std.specs.Prelude.{◌≡◌, nat_lt, if◌then◌else◌, Bool, List, [], ◌∷◌, map, filter, find, drop};
 ghost use Rattle.std.specs.Option.{option_copied};
 ghost use Rattle.std.specs.Fn.{FnReturnsAt};
 ghost use Rattle.nqs_types.specs.State.{content};
 ghost use Rattle.nqs_types.specs.declared.extent.Extent.{Extent};
 ghost use Rattle.nqs_spool.specs.Spooled.{disk_of, Tells};
-ghost use Rattle.nqs_rules.specs.Find.{find_row, find_hand, find_promise};
+ghost use Rattle.nqs_types.specs.Keys.{is_stage};
+ghost use Rattle.nqs_rules.specs.Tests.{last_u64};
+ghost use Rattle.nqs_rules.specs.Find.{peer_number, find_row, find_hand, find_promise, find_peer};
 ghost use Rattle.nqs_rules.specs.Stepped.{part_bytes};
 ghost use Rattle.nqs_rules.specs.Conf.{is_queued_in};
-ghost use Rattle.nqs_store.specs.Live.{row_part, promise_part};
+ghost use Rattle.nqs_store.specs.Live.{row_part, promise_part, stage_part};
 ghost use Rattle.nqs_store.specs.Accounts.{Takes};
-ghost use Rattle.nqs_store.specs.Frees.{part_of, goes_at_boot, numbers_left, row_of_hand, doubled, gone};
+ghost use Rattle.nqs_store.specs.Frees.{part_of, goes_at_boot, stages_left, numbers_left, row_of_hand, doubled, gone};
 
 use nqs_host::may_start_again;
 use nqs_outside::Disk;
+use nqs_routing::find_peer;
 use nqs_spool::Spool;
 use nqs_types::{
     Change, ConfEdit, Edit, Extent, FileOut, HostId, HostState, Key, Keyed, Name, OutPart,
@@ -59,12 +62,19 @@ fn free_behind<D: Disk>(spool: &mut Spool<D>, parts: &[OutPart], from: u64)
     ensures tells { (live fewer : List Extent) → Tells spool.old live → Takes live (drop from (map part_bytes parts.now)) fewer → Tells spool.new fewer }
     ensures same { disk_of spool.new ≡ disk_of spool.old }
 {
-    let mut place = 0u64;
-    for part in parts {
-        if from <= place {
-            spool.free(&part.bytes);
-        }
-        place += 1;
+    let kept = from.min(parts.len() as u64) as usize;
+    let (_numbered, later) = parts.split_at(kept);
+    for part in later {
+        spool.free(&part.bytes);
+    }
+}
+
+fn stages_left(state: &HostState, to: HostId) -> u64
+    ensures { result ≡ stages_left (find_peer to (content state.now)) }
+{
+    match find_peer(state, to) {
+        Some(peer) => u64::MAX.saturating_sub(peer.stage_next),
+        None => 0,
     }
 }
 
@@ -75,10 +85,7 @@ fn numbers_left(state: &HostState, to: HostId) -> u64
     if state.me == to {
         return u64::MAX - state.file_next;
     }
-    match state.peers.as_slice().get(to.0 as usize) {
-        Some(peer) => u64::MAX - peer.stage_next,
-        None => 0,
-    }
+    stages_left(state, to)
 }
 
 fn goes_at_boot(row: &Row) -> bool
@@ -131,6 +138,50 @@ fn free_doubled<D: Disk>(spool: &mut Spool<D>, state: &HostState, key: &PeerNumb
     }
 }
 
+// The bytes of a stage for which no number of a file is left.
+fn free_unnumbered<D: Disk>(spool: &mut Spool<D>, state: &HostState, bytes: &Extent)
+    ensures tells { (live fewer : List Extent) → Tells spool.old live → Takes live (if nat_lt (content state.now).file_next last_u64 then [] else bytes.now ∷ []) fewer → Tells spool.new fewer }
+    ensures same { disk_of spool.new ≡ disk_of spool.old }
+{
+    if state.file_next < u64::MAX {
+        return;
+    }
+    spool.free(bytes);
+}
+
+fn free_stage<D: Disk>(spool: &mut Spool<D>, state: &HostState, key: &PeerNumber)
+    ensures tells { (live fewer : List Extent) → Tells spool.old live → Takes live (part_of stage_part (find (is_stage (peer_number key.now.peer key.now.number)) (content state.now).stages)) fewer → Tells spool.new fewer }
+    ensures same { disk_of spool.new ≡ disk_of spool.old }
+{
+    free_one(spool, state.stages.get(key), |stage: &Stage| stage.bytes);
+}
+
+// The rows of a queue that is purged.
+fn free_purged<D: Disk>(spool: &mut Spool<D>, state: &HostState, edit: &ConfEdit)
+    ensures tells { (live fewer : List Extent) → Tells spool.old live → Takes live (gone (Change.Edited (Edit.Conf edit.now)) (content state.now)) fewer → Tells spool.new fewer }
+    ensures same { disk_of spool.new ≡ disk_of spool.old }
+{
+    match edit {
+        ConfEdit::PurgeQueue { queue } => free_all(
+            spool,
+            &state.rows,
+            |row: &Row| is_queued_in(row, queue),
+            |row: &Row| row.script,
+        ),
+        _ => {}
+    }
+}
+
+fn free_edited<D: Disk>(spool: &mut Spool<D>, state: &HostState, edit: &Edit)
+    ensures tells { (live fewer : List Extent) → Tells spool.old live → Takes live (gone (Change.Edited edit.now) (content state.now)) fewer → Tells spool.new fewer }
+    ensures same { disk_of spool.new ≡ disk_of spool.old }
+{
+    match edit {
+        Edit::Conf(edit) => free_purged(spool, state, edit),
+        _ => {}
+    }
+}
+
 fn key(peer: HostId, number: u64) -> PeerNumber
     ensures { result ≡ record { peer = peer; number = number } }
 {
@@ -151,14 +202,7 @@ pub fn free_gone<D: Disk>(spool: &mut Spool<D>, state: &HostState, change: &Chan
         }
         Change::Unlaunched(id) => free_row(spool, state, id),
         Change::Boot => free_all(spool, &state.rows, goes_at_boot, |row: &Row| row.script),
-        Change::Edited(Edit::Conf(ConfEdit::PurgeQueue { queue })) => {
-            free_all(
-                spool,
-                &state.rows,
-                |row: &Row| is_queued_in(row, queue),
-                |row: &Row| row.script,
-            )
-        }
+        Change::Edited(edit) => free_edited(spool, state, edit),
         Change::HandCommitted { peer, number } => {
             free_row_of_hand(spool, state, &key(*peer, *number))
         }
@@ -172,15 +216,8 @@ pub fn free_gone<D: Disk>(spool: &mut Spool<D>, state: &HostState, change: &Chan
         }
         Change::Accepted { peer, number } => free_doubled(spool, state, &key(*peer, *number)),
         Change::Dropped { peer, number } => free_promise(spool, state, &key(*peer, *number)),
-        Change::StageGot { bytes, .. } => {
-            if !(state.file_next < u64::MAX) {
-                spool.free(bytes);
-            }
-        }
-        Change::StageGone { peer, number } => {
-            let stage = state.stages.get(&key(*peer, *number));
-            free_one(spool, stage, |stage: &Stage| stage.bytes)
-        }
+        Change::StageGot { bytes, .. } => free_unnumbered(spool, state, bytes),
+        Change::StageGone { peer, number } => free_stage(spool, state, &key(*peer, *number)),
         Change::FileGone { file } => {
             free_one(spool, state.files.get(file), |file: &FileOut| file.bytes)
         }

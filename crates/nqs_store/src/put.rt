@@ -1,6 +1,6 @@
 //! The bytes of a change, put into the spool before its record is written.
 
-ghost use Rattle.std.specs.Prelude.{◌≡◌, ◌⊎◌, ◌+◌, ◌<◌, ◌≤◌, ◌++◌, [], ◌∷◌, ℕ, List, IsTrue, OnOk, OnErr, IfOk, length, vec_capacity};
+ghost use Rattle.std.specs.Prelude.{◌≡◌, ◌⊎◌, ◌+◌, ◌<◌, ◌≤◌, ◌++◌, [], ◌∷◌, ℕ, List, IsTrue, OnOk, OnErr, IfOk, drop, length, vec_capacity};
 ghost use Rattle.std.specs.List.{AllByRecursion};
 ghost use Rattle.nqs_types.specs.declared.extent.Extent.{Extent};
 ghost use Rattle.nqs_outside.specs.Causes.{Rose};
@@ -83,21 +83,22 @@ pub fn put_all<D: Disk>(
     put_all(spool, later, extents)
 }
 
+// The extent at the place of the list, and this one where there is none.
+fn nth_or(extent: Extent, extents: &[Extent], place: usize) -> Extent
+    ensures { result ≡ first_or extent (drop place extents.now) }
+{
+    match extents.get(place) {
+        Some(found) => *found,
+        None => extent,
+    }
+}
+
 // The extents of the parts of a job's output.
 fn set_part_extents(parts: &mut [OutPart], extents: &[Extent])
     ensures { parts.new ≡ parts_with parts.old extents.now }
 {
-    for (part, extent) in parts.iter_mut().zip(extents) {
-        part.bytes = *extent;
-    }
-}
-
-fn first_or(extent: Extent, extents: &[Extent]) -> Extent
-    ensures { result ≡ first_or extent extents.now }
-{
-    match extents.first() {
-        Some(first) => *first,
-        None => extent,
+    for place in 0..parts.len() {
+        parts[place].bytes = nth_or(parts[place].bytes, extents, place);
     }
 }
 
@@ -106,14 +107,14 @@ pub fn set_extents(alloc: Global, change: &mut Change, extents: &[Extent])
     ensures { change.new ≡ with_extents change.old extents.now }
 {
     match change {
-        Change::Submitted { script, .. } => *script = first_or(*script, extents),
+        Change::Submitted { script, .. } => *script = nth_or(*script, extents, 0),
         Change::Ended { outputs, .. } => {
             let mut parts = std::mem::replace(outputs, Items::new(alloc)).into_vec();
             set_part_extents(parts.as_mut_slice(), extents);
             *outputs = Items::from_vec(parts);
         }
-        Change::Promised { script, .. } => *script = first_or(*script, extents),
-        Change::StageGot { bytes, .. } => *bytes = first_or(*bytes, extents),
+        Change::Promised { script, .. } => *script = nth_or(*script, extents, 0),
+        Change::StageGot { bytes, .. } => *bytes = nth_or(*bytes, extents, 0),
         _ => {}
     }
 }
