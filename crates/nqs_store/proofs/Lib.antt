@@ -10,3 +10,4 @@ pub mod Putting
 pub mod Freeing
 pub mod Accounts
 pub mod HostRuns
+pub mod Lengths

@@ -1,95 +1,32 @@
 //! Keeping a change of a host.
 
-ghost use Rattle.std.specs.Prelude.{◌≡◌, ◌⊎◌, ◌↔◌, ◌≤◌, ℕ, List, [], false, IsTrue, IsErrOf, OnOk, OnErr, IfOk, IfErr, length, vec_len, vec_capacity};
+ghost use Rattle.std.specs.Prelude.{◌≡◌, ◌⊎◌, ◌↔◌, ◌≤◌, ℕ, List, false, IsTrue, IsErrOf, OnOk, OnErr, IfErr, length};
 ghost use Rattle.std.specs.List.{AllByRecursion};
 ghost use Rattle.nqs_types.specs.State.{content};
 ghost use Rattle.nqs_types.specs.declared.extent.Extent.{Extent};
 ghost use Rattle.nqs_types.specs.declared.world.Which.{Which};
 ghost use Rattle.nqs_types.specs.declared.world.Which.TheVariants.{First, Spool};
 ghost use Rattle.nqs_outside.specs.Causes.{Rose};
-ghost use Rattle.nqs_outside.specs.History.{moment, EachSince, content as content_of};
-ghost use Rattle.nqs_spool.specs.Extents.{Has, Holds};
-ghost use Rattle.nqs_spool.specs.Spooled.{room_of, disk_of as spool_disk, history_of as spool_history, Tells as SpoolTells};
-ghost use Rattle.nqs_rules.specs.World.{spool_calls};
 ghost use Rattle.nqs_rules.specs.Stepped.{map_change, no_extent, stored_parts};
 ghost use Rattle.nqs_rules.specs.Filled.{filled};
 ghost use Rattle.nqs_rules.specs.Fits.{fits};
 ghost use Rattle.nqs_rules.specs.Applied.{applied};
-ghost use Rattle.nqs_records.specs.Changes.{MayStand, spelling};
+ghost use Rattle.nqs_records.specs.Changes.{MayStand};
 ghost use Rattle.nqs_store.specs.Told.{Host};
 ghost use Rattle.nqs_store.specs.Puts.{IsShortPut};
-ghost use Rattle.nqs_store.specs.Putting.{ArePartlyPut, ArePutFor};
 ghost use Rattle.nqs_store.specs.Images.{TellsOneOf};
 ghost use Rattle.nqs_store.specs.Hosts.{EachMoment, StopsShort};
 ghost use Rattle.nqs_store.specs.Plan.{CommitsBy};
-ghost use Rattle.nqs_store.specs.Commits.{AreClear, FailsFirst, IsKept, IsCutAt};
+ghost use Rattle.nqs_store.specs.Commits.{IsKept, IsCutAt};
 ghost use Rattle.nqs_store.specs.Faults.{IsCommitFault};
 
 use crate::fault::StoreFault;
-use crate::formatting::written;
 use crate::free::free_gone;
-use crate::put::{put_all, set_extents};
+use crate::put::{prepared, put_bytes};
 use crate::store::Store;
-use nqs_outside::{Disk, Failed};
-use nqs_records::put_extents;
-use nqs_spool::Spool;
-use nqs_types::{Bytes, Change, Extent, HostState, Which};
+use nqs_outside::Disk;
+use nqs_types::{Bytes, Change, HostState, Which};
 use std::alloc::Global;
-
-// The change's record, and memory for all that is put. It makes no call of a disk.
-fn prepared<D: Disk>(
-    alloc: Global,
-    spool: &mut Spool<D>,
-    change: &Change,
-    puts: &[Bytes],
-) -> Result<(Vec<u8>, Vec<Extent>), StoreFault>
-    requires { MayStand change.now }
-    ensures text { IfOk result (λ r. (r.0.items ≡ spelling change.now) × (vec_len r.0 ≤ 65536)) }
-    ensures extents { IfOk result (λ r. (r.1.items ≡ []) × (length puts.now ≤ vec_capacity r.1)) }
-    ensures room { OnOk result (length puts.now ≤ room_of spool.new) }
-    ensures fault { IfErr result (λ fault. fault ≡ StoreFault.Memory) }
-    ensures same { spool_disk spool.new ≡ spool_disk spool.old }
-    ensures tells { (live : List Extent) → SpoolTells spool.old live → SpoolTells spool.new live }
-{
-    let text = written(alloc, change)?;
-    spool.make_room(puts.len() as u64)?;
-    let extents = Vec::with_capacity(alloc, puts.len())?;
-    Ok((text, extents))
-}
-
-// Puts the bytes into the spool, and their extents into the change and its record. After a fault the spool is to be closed.
-fn put_bytes<D: Disk>(
-    alloc: Global,
-    spool: &mut Spool<D>,
-    change: &mut Change,
-    puts: &[Bytes],
-    extents: &mut Vec<Extent>,
-    text: &mut Vec<u8>,
-) -> Result<(), Failed>
-    requires may_stand { MayStand change.old }
-    requires as_many { length puts.now ≡ length (stored_parts change.old) }
-    requires short { AllByRecursion IsShortPut puts.now }
-    requires room { length puts.now ≤ room_of spool.old }
-    requires list { (extents.old.items ≡ []) × (length puts.now ≤ vec_capacity extents.old) }
-    requires text { text.old.items ≡ spelling change.old }
-    ensures fault { OnErr result (Rose (D.faults (spool_disk spool.old)) (D.faults (spool_disk spool.new))) }
-    ensures later { D.faults (spool_disk spool.old) ≤ D.faults (spool_disk spool.new) }
-    ensures unchanged { OnErr result (change.new ≡ change.old) }
-    ensures broken { IsTrue D.tells → OnErr result (ArePartlyPut puts.now (spool_history spool.old) (spool_history spool.new)) }
-    ensures due { IsTrue D.tells → OnOk result (AreClear (D.fails (spool_disk spool.old)) (moment (spool_history spool.old)) (spool_calls puts.now)) }
-    ensures failing { IsTrue D.tells → OnErr result (IsTrue (D.starved (spool_disk spool.new)) ⊎ (i : ℕ) × FailsFirst (D.fails (spool_disk spool.old)) (moment (spool_history spool.old)) (spool_calls puts.now) i) }
-    ensures fuse { IsTrue D.tells → (i : ℕ) → D.fails (spool_disk spool.new) i ≡ D.fails (spool_disk spool.old) i }
-    ensures kept { IsTrue D.tells → (live : List Extent) → SpoolTells spool.old live → (x : Extent) (script : List ℕ) → Has live x
-        → Holds (content_of (spool_history spool.old)) x script → EachSince (moment (spool_history spool.old)) (spool_history spool.new) (λ image. Holds image x script) }
-    ensures still { IsTrue D.tells → (live : List Extent) → SpoolTells spool.old live → (x : Extent) (script : List ℕ) → Has live x
-        → Holds (content_of (spool_history spool.old)) x script → Holds (content_of (spool_history spool.new)) x script }
-    ensures done { OnOk result (ArePutFor change.old change.new puts.now text.new.items spool.old spool.new) }
-{
-    put_all(spool, puts, extents)?;
-    set_extents(alloc, change, extents);
-    put_extents(change, text);
-    Ok(())
-}
 
 impl<D: Disk> Store<D> {
     ghost use Rattle.nqs_store.specs.Stores.{disk_of, history_of, fails_of, is_starved, is_stopped, Tells, bytes_of, plain_of};

@@ -1,6 +1,6 @@
 //! The bytes of a change, put into the spool before its record is written.
 
-ghost use Rattle.std.specs.Prelude.{◌≡◌, ◌⊎◌, ◌+◌, ◌<◌, ◌≤◌, ◌++◌, [], ◌∷◌, ℕ, List, IsTrue, OnOk, OnErr, IfOk, drop, length, vec_capacity};
+ghost use Rattle.std.specs.Prelude.{◌≡◌, ◌⊎◌, ◌+◌, ◌<◌, ◌≤◌, ◌++◌, [], ◌∷◌, ℕ, List, IsTrue, OnOk, OnErr, IfOk, IfErr, drop, length, vec_len, vec_capacity};
 ghost use Rattle.std.specs.List.{AllByRecursion};
 ghost use Rattle.nqs_types.specs.declared.extent.Extent.{Extent};
 ghost use Rattle.nqs_outside.specs.Causes.{Rose};
@@ -9,13 +9,18 @@ ghost use Rattle.nqs_spool.specs.Extents.{Has, IsWith, Holds};
 ghost use Rattle.nqs_spool.specs.Puts.{put_calls};
 ghost use Rattle.nqs_spool.specs.Spooled.{disk_of, history_of, room_of, Tells};
 ghost use Rattle.nqs_rules.specs.World.{spool_calls};
+ghost use Rattle.nqs_rules.specs.Stepped.{stored_parts};
+ghost use Rattle.nqs_records.specs.Changes.{MayStand, spelling};
 ghost use Rattle.nqs_store.specs.Puts.{IsShortPut};
-ghost use Rattle.nqs_store.specs.Putting.{ArePartlyPut, ArePut};
+ghost use Rattle.nqs_store.specs.Putting.{ArePartlyPut, ArePut, ArePutFor};
 ghost use Rattle.nqs_store.specs.Commits.{AreClear, FailsFirst};
 ghost use Rattle.nqs_records.specs.Values.{IsExtent};
 ghost use Rattle.nqs_records.specs.Extents.{first_or, parts_with, with_extents};
 
+use crate::fault::StoreFault;
+use crate::formatting::written;
 use nqs_outside::{Disk, Failed};
+use nqs_records::put_extents;
 use nqs_spool::Spool;
 use nqs_types::{Bytes, Change, Extent, Items, OutPart};
 use std::alloc::Global;
@@ -117,4 +122,59 @@ pub fn set_extents(alloc: Global, change: &mut Change, extents: &[Extent])
         Change::StageGot { bytes, .. } => *bytes = nth_or(*bytes, extents, 0),
         _ => {}
     }
+}
+
+/// The change's record, and memory for all that is put. It makes no call of a disk.
+pub fn prepared<D: Disk>(
+    alloc: Global,
+    spool: &mut Spool<D>,
+    change: &Change,
+    puts: &[Bytes],
+) -> Result<(Vec<u8>, Vec<Extent>), StoreFault>
+    requires { MayStand change.now }
+    ensures text { IfOk result (λ r. (r.0.items ≡ spelling change.now) × (vec_len r.0 ≤ 65536)) }
+    ensures extents { IfOk result (λ r. (r.1.items ≡ []) × (length puts.now ≤ vec_capacity r.1)) }
+    ensures room { OnOk result (length puts.now ≤ room_of spool.new) }
+    ensures fault { IfErr result (λ fault. fault ≡ StoreFault.Memory) }
+    ensures same { disk_of spool.new ≡ disk_of spool.old }
+    ensures tells { (live : List Extent) → Tells spool.old live → Tells spool.new live }
+{
+    let text = written(alloc, change)?;
+    spool.make_room(puts.len() as u64)?;
+    let extents = Vec::with_capacity(alloc, puts.len())?;
+    Ok((text, extents))
+}
+
+/// Puts the bytes into the spool, and their extents into the change and its record. After a fault the spool is to be closed.
+pub fn put_bytes<D: Disk>(
+    alloc: Global,
+    spool: &mut Spool<D>,
+    change: &mut Change,
+    puts: &[Bytes],
+    extents: &mut Vec<Extent>,
+    text: &mut Vec<u8>,
+) -> Result<(), Failed>
+    requires may_stand { MayStand change.old }
+    requires as_many { length puts.now ≡ length (stored_parts change.old) }
+    requires short { AllByRecursion IsShortPut puts.now }
+    requires room { length puts.now ≤ room_of spool.old }
+    requires list { (extents.old.items ≡ []) × (length puts.now ≤ vec_capacity extents.old) }
+    requires text { text.old.items ≡ spelling change.old }
+    ensures fault { OnErr result (Rose (D.faults (disk_of spool.old)) (D.faults (disk_of spool.new))) }
+    ensures later { D.faults (disk_of spool.old) ≤ D.faults (disk_of spool.new) }
+    ensures unchanged { OnErr result (change.new ≡ change.old) }
+    ensures broken { IsTrue D.tells → OnErr result (ArePartlyPut puts.now (history_of spool.old) (history_of spool.new)) }
+    ensures due { IsTrue D.tells → OnOk result (AreClear (D.fails (disk_of spool.old)) (moment (history_of spool.old)) (spool_calls puts.now)) }
+    ensures failing { IsTrue D.tells → OnErr result (IsTrue (D.starved (disk_of spool.new)) ⊎ (i : ℕ) × FailsFirst (D.fails (disk_of spool.old)) (moment (history_of spool.old)) (spool_calls puts.now) i) }
+    ensures fuse { IsTrue D.tells → (i : ℕ) → D.fails (disk_of spool.new) i ≡ D.fails (disk_of spool.old) i }
+    ensures kept { IsTrue D.tells → (live : List Extent) → Tells spool.old live → (x : Extent) (script : List ℕ) → Has live x
+        → Holds (content (history_of spool.old)) x script → EachSince (moment (history_of spool.old)) (history_of spool.new) (λ image. Holds image x script) }
+    ensures still { IsTrue D.tells → (live : List Extent) → Tells spool.old live → (x : Extent) (script : List ℕ) → Has live x
+        → Holds (content (history_of spool.old)) x script → Holds (content (history_of spool.new)) x script }
+    ensures done { OnOk result (ArePutFor change.old change.new puts.now text.new.items spool.old spool.new) }
+{
+    put_all(spool, puts, extents)?;
+    set_extents(alloc, change, extents);
+    put_extents(change, text);
+    Ok(())
 }
