@@ -11,3 +11,6 @@ pub mod Freeing
 pub mod Accounts
 pub mod HostRuns
 pub mod Lengths
+pub mod PlainSame
+pub mod Committed
+pub mod Ends

@@ -23,6 +23,7 @@ ghost use Rattle.nqs_store.specs.Faults.{IsCommitFault};
 use crate::fault::StoreFault;
 use crate::free::free_gone;
 use crate::put::{prepared, put_bytes};
+use crate::record::append_record;
 use crate::store::Store;
 use nqs_outside::Disk;
 use nqs_types::{Bytes, Change, HostState, Which};
@@ -85,7 +86,7 @@ impl<D: Disk> Store<D> {
         self.stopped = true;
         match put_bytes(alloc, &mut self.spool, change, puts, &mut extents, &mut text) {
             Err(_) => Err(StoreFault::Disk(Which::Spool)),
-            Ok(()) => match self.first.append(&text) {
+            Ok(()) => match append_record(&mut self.first, &text) {
                 Err(_) => Err(StoreFault::Disk(Which::First)),
                 Ok(()) => {
                     self.stopped = false;

@@ -15,6 +15,7 @@ mod free;
 mod live;
 mod opened;
 mod put;
+mod record;
 mod store;
 mod tell;
 

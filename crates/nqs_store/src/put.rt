@@ -18,7 +18,7 @@ ghost use Rattle.nqs_records.specs.Values.{IsExtent};
 ghost use Rattle.nqs_records.specs.Extents.{first_or, parts_with, with_extents};
 
 use crate::fault::StoreFault;
-use crate::formatting::written;
+use crate::formatting::{read_back, written};
 use nqs_outside::{Disk, Failed};
 use nqs_records::put_extents;
 use nqs_spool::Spool;
@@ -171,10 +171,12 @@ pub fn put_bytes<D: Disk>(
         → Holds (content (history_of spool.old)) x script → EachSince (moment (history_of spool.old)) (history_of spool.new) (λ image. Holds image x script) }
     ensures still { IsTrue D.tells → (live : List Extent) → Tells spool.old live → (x : Extent) (script : List ℕ) → Has live x
         → Holds (content (history_of spool.old)) x script → Holds (content (history_of spool.new)) x script }
+    ensures size { OnOk result (length text.new.items ≡ length text.old.items) }
     ensures done { OnOk result (ArePutFor change.old change.new puts.now text.new.items spool.old spool.new) }
 {
     put_all(spool, puts, extents)?;
     set_extents(alloc, change, extents);
     put_extents(change, text);
+    read_back(text, change);
     Ok(())
 }
