@@ -1,5 +1,5 @@
 -- How a commit ends, from what its calls did.
-use Rattle.std.proofs.Common.{◌≡◌, ◌⊎◌, inl, inr, ℕ, ◌+◌, ◌<◌, ◌≤◌, Bool, true, IsTrue, List, [], ◌∷◌, ◌++◌, length, Err, refl, sym, ap, subst, ◌∙◌, arith, length-append}
+use Rattle.std.proofs.Common.{◌≡◌, ◌⊎◌, inl, inr, ℕ, ◌+◌, ◌<◌, ◌≤◌, Bool, true, false, IsTrue, List, [], ◌∷◌, ◌++◌, length, Err, refl, sym, ap, subst, ◌∙◌, arith, length-append}
 use Rattle.std.proofs.Math.Seq.{take-length}
 use Rattle.std.proofs.lemmas.Bool.{cases_lt}
 use Rattle.std.specs.declared.result.Result.{Result}
@@ -30,24 +30,37 @@ use Rattle.nqs_store.proofs.HostRuns.{each_moment, EachPair}
 use Rattle.nqs_store.proofs.Committed.{Keeps, told_before, only_spool}
 use Rattle.nqs_store.proofs.Loading.{each_disk}
 
-which_of : Result (Unit {0}) StoreFault → Which
-which_of (result.Ok done) = Root
-which_of (result.Err (store.Disk which)) = which
-which_of (result.Err store.Memory) = Root
-which_of (result.Err store.Stopped) = Root
+abbrev is_spool : Which → Bool
+is_spool Root = false
+is_spool First = false
+is_spool Second = false
+is_spool Spool = true
 
--- the disk that an answer names
-pub named : (P : Which → Type 0) (k which : Which) → ◌≡◌ {A = Result (Unit {0}) StoreFault} (result.Err (store.Disk k)) (result.Err (store.Disk which)) → P k → P which
-named P k which is one = subst P (by k which is) one
-  where
-    by : (k which : Which) → ◌≡◌ {A = Result (Unit {0}) StoreFault} (result.Err (store.Disk k)) (result.Err (store.Disk which)) → k ≡ which
-    by k which is = cc
+abbrev is_first : Which → Bool
+is_first Root = false
+is_first First = true
+is_first Second = false
+is_first Spool = false
+
+same_which : (k which : Which) → ◌≡◌ {A = Result (Unit {0}) StoreFault} (result.Err (store.Disk k)) (result.Err (store.Disk which)) → k ≡ which
+same_which k which is = cc
+
+true_false : true ≡ false → ⊥
+true_false is = absurd (let no : ⊥ = cc in no)
+
+-- an answer that names the spool names no other disk
+pub spool_only : (P : Type 0) (which : Which) → is_spool which ≡ false → ◌≡◌ {A = Result (Unit {0}) StoreFault} (result.Err (store.Disk Spool)) (result.Err (store.Disk which)) → P
+spool_only P which other is = absurd (true_false (ap is_spool (same_which Spool which is) ∙ other))
+
+-- and one that names the journal's names no other
+pub first_only : (P : Type 0) (which : Which) → is_first which ≡ false → ◌≡◌ {A = Result (Unit {0}) StoreFault} (result.Err (store.Disk First)) (result.Err (store.Disk which)) → P
+first_only P which other is = absurd (true_false (ap is_first (same_which First which is) ∙ other))
 
 -- the last moment's state is the state now
 pub last_state : (h : History) → state_at h (moment h) ≡ state h
 last_state h = ap (after (fresh h.start)) (take-length h.calls)
 
-last_image : (h : History) (image : List ℕ) → IsImage (state h) image → MayLeave h (moment h) image
+pub last_image : (h : History) (image : List ℕ) → IsImage (state h) image → MayLeave h (moment h) image
 last_image h image is = subst (λ s. IsImage s image) (sym (last_state h)) is
 
 module _ {D : Type 0} {g : disk.Ghosts D} (tells_all : IsTrue g.tells) (old : Store D g) (host : Host) (is_told : Tells old host) where

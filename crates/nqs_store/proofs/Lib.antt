@@ -14,3 +14,4 @@ pub mod Lengths
 pub mod PlainSame
 pub mod Committed
 pub mod Ends
+pub mod Rooms
