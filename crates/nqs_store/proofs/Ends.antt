@@ -104,15 +104,15 @@ module _ {D : Type 0} {g : disk.Ghosts D} (tells_all : IsTrue g.tells) (old : St
         → ((first image : List ℕ) → StandsFor first (is_told.payloads ++ text ∷ []) → IsImage (state (now Spool)) image → IsTold first image later)
         → IsTrue starved ⊎ IsCutAtFirst fails puts (history_of old) now (plain_of old host) later
     cut_first fails puts later was starved gate text calls clear made short exact early at_gate told_later = elim (cut_short (fails First) was starved f (now First) (append_calls gate text) calls (refl, (refl, (refl, (refl, tt)))) made short exact) [
-          | inl is ↦ inl is
-          | inr cut ↦ inr (record {
-            at = cut.at;
-            spool = clear;
-            failed = cut.first;
-            told = λ few. told_still (λ image leaves. early (moment (now First)) image (omega (arith, size)) (omega (arith, size, cut.size, few)) (omega arith) (last_image (now First) image leaves));
-            gate = λ late. record { gate = gate; decides = decided (subst (λ u. IsAtGate u gate (λ image. StandsFor image is_told.payloads) (λ image. StandsFor image (is_told.payloads ++ text ∷ []))) (last_state (now First)) (at_gate (moment (now First)) (omega (arith, size, cut.size, late)) (omega arith))) };
-          })
-        ]
+      | inl is ↦ inl is
+      | inr cut ↦ inr (record {
+        at = cut.at;
+        spool = clear;
+        failed = cut.first;
+        told = λ few. told_still (λ image leaves. early (moment (now First)) image (omega (arith, size)) (omega (arith, size, cut.size, few)) (omega arith) (last_image (now First) image leaves));
+        gate = λ late. record { gate = gate; decides = decided (subst (λ u. IsAtGate u gate (λ image. StandsFor image is_told.payloads) (λ image. StandsFor image (is_told.payloads ++ text ∷ []))) (last_state (now First)) (at_gate (moment (now First)) (omega (arith, size, cut.size, late)) (omega arith))) };
+      })
+    ]
       where
         size : moment (now First) ≡ moment f + length calls
         size = ap moment made ∙ length-append f.calls calls

@@ -29,8 +29,15 @@ same_length (Deleted id) xs = refl
 same_length (Doomed id) xs = refl
 same_length (Started id device) xs = refl
 same_length (Ended id parts) xs =
-    omega (arith, ap length (ended_ends id (parts_with parts xs)), ap length (ended_ends id parts), ap (λ n. length (ended_front id n)) (length-parts_with parts xs), parts_so parts xs,
-    length-append (ended_front id (length (parts_with parts xs))) (flat_map part_field (parts_with parts xs)), length-append (ended_front id (length parts)) (flat_map part_field parts))
+    omega (
+      arith,
+      ap length (ended_ends id (parts_with parts xs)),
+      ap length (ended_ends id parts),
+      ap (λ n. length (ended_front id n)) (length-parts_with parts xs),
+      parts_so parts xs,
+      length-append (ended_front id (length (parts_with parts xs))) (flat_map part_field (parts_with parts xs)),
+      length-append (ended_front id (length parts)) (flat_map part_field parts),
+    )
 same_length (Unlaunched id) xs = refl
 same_length Boot xs = refl
 same_length (Edited e) xs = refl

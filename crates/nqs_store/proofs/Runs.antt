@@ -191,11 +191,14 @@ module _ (h j : History) (fails later : ℕ → Bool) (place : ℕ) (bytes : Lis
 -- the first put failed
 pub first_fails : (fails : ℕ → Bool) (from : ℕ) (bytes : List ℕ) (puts : List (List ℕ)) (now : Bool) → IsTrue now ⊎ (i : ℕ) × FailsFirst fails from (spool_calls (bytes ∷ [])) i → IsTrue now ⊎ (i : ℕ) × FailsFirst fails from (spool_calls (bytes ∷ puts)) i
 first_fails fails from bytes puts now (inl starved) = inl starved
-first_fails fails from bytes puts now (inr at) = inr (at.0, record {
-  within = omega (arith, at.1.within, size_of_one 0 bytes, size_of_put 0 bytes puts);
-  due = at.1.due;
-  clear = at.1.clear;
-})
+first_fails fails from bytes puts now (inr at) = inr (
+  at.0,
+  record {
+    within = omega (arith, at.1.within, size_of_one 0 bytes, size_of_put 0 bytes puts);
+    due = at.1.due;
+    clear = at.1.clear;
+  },
+)
 
 pub none_clear : (fails : ℕ → Bool) (from : ℕ) (puts : List (List ℕ)) → length puts ≡ 0 → AreClear fails from (spool_calls puts)
 none_clear fails from [] none = λ i lt. absurd (omega (arith, lt))

@@ -84,7 +84,14 @@ impl<D: Disk> Store<D> {
         }
         let (mut text, mut extents) = prepared(alloc, &mut self.spool, change, puts)?;
         self.stopped = true;
-        match put_bytes(alloc, &mut self.spool, change, puts, &mut extents, &mut text) {
+        match put_bytes(
+            alloc,
+            &mut self.spool,
+            change,
+            puts,
+            &mut extents,
+            &mut text,
+        ) {
             Err(_) => Err(StoreFault::Disk(Which::Spool)),
             Ok(()) => match append_record(&mut self.first, &text) {
                 Err(_) => Err(StoreFault::Disk(Which::First)),

@@ -123,8 +123,8 @@ returns-in-Err-append_record-clause-cut g c told tells First is =
     let broken = c.in-Err-append_record.ensures.broken told in
     let quiet = (put_tells told o host tells ch now puts text mid fine many done still).quiet told in
     cut_first told o host tells _ kept (grown (history_of o which.Spool) (spool.history_of mid) _ (done.are_put.made told)) (fails_of o) puts (applied (filled c.args.change.now puts) (plain_of o host)) _ _ (journal.gate_of o.first) text broken.0
-        (clear_from o.spool sp mid same room (spool_calls puts) (c.in-Ok.ensures.due told)) broken.1 broken.2 (c.in-Err-append_record.ensures.exact told) (c.in-Err-append_record.ensures.until_third told header tells.payloads tells.first) (c.in-Err-append_record.ensures.at_the_gate told header tells.payloads tells.first)
-        (λ first image stands leaves. subst (λ b. IsTold first b (applied (filled c.args.change.now puts) (plain_of o host))) (sym (quiet_image (spool.history_of mid) (moment (spool.history_of mid)) image quiet (omega arith) (omega arith) (last_image (spool.history_of mid) image leaves))) (told_after told o host tells ch now puts text mid fine many done still first stands))
+    (clear_from o.spool sp mid same room (spool_calls puts) (c.in-Ok.ensures.due told)) broken.1 broken.2 (c.in-Err-append_record.ensures.exact told) (c.in-Err-append_record.ensures.until_third told header tells.payloads tells.first) (c.in-Err-append_record.ensures.at_the_gate told header tells.payloads tells.first)
+    (λ first image stands leaves. subst (λ b. IsTold first b (applied (filled c.args.change.now puts) (plain_of o host))) (sym (quiet_image (spool.history_of mid) (moment (spool.history_of mid)) image quiet (omega arith) (omega arith) (last_image (spool.history_of mid) image leaves))) (told_after told o host tells ch now puts text mid fine many done still first stands))
 returns-in-Err-append_record-clause-cut g c told tells Second is = first_only _ Second refl is
 returns-in-Err-append_record-clause-cut g c told tells Spool is = first_only _ Spool refl is
 
