@@ -1,0 +1,4 @@
+pub mod Steps
+pub mod Submissions
+pub mod Options
+pub mod Edits
