@@ -1,11 +1,10 @@
 -- A line of qmgr asks for an edit within its limits, whatever it says.
-use Rattle.std.proofs.Common.{◌≡◌, ℕ, zero, suc, ◌+◌, Bool, true, false, cond, nat_le, List, [], ◌∷◌, refl, ap, sym, Option, Some, None, option_map, is_some, Result, Ok, Err, IfOk, codes}
+use Rattle.std.proofs.Common.{◌≡◌, ℕ, zero, suc, Bool, true, false, cond, nat_le, List, [], ◌∷◌, refl, Option, Some, None, option_map, is_some, Ok, Err, IfOk, codes}
 use Rattle.std.proofs.lemmas.Bool.{and_from}
 use Rattle.nqs_types.specs.Ids.{name_eq}
 use Rattle.nqs_types.specs.declared.ids.Named.{Named}
 use Rattle.nqs_types.specs.declared.ids.NamedDest.{NamedDest}
 use Rattle.nqs_types.specs.declared.event.Command.{Command}
-use Rattle.nqs_types.specs.declared.event.Command.TheVariants as command
 use Rattle.nqs_types.specs.declared.fault.GrammarFault.{GrammarFault}
 use Rattle.nqs_types.specs.declared.fault.GrammarFault.TheVariants as fault
 use Rattle.nqs_rules.specs.Conf.{at_most}
@@ -18,17 +17,17 @@ use Rattle.nqs_words.specs.declared.keyword.Keyword.{Keyword}
 use Rattle.nqs_words.specs.declared.keyword.Keyword.TheVariants as k
 use Rattle.nqs_qmgr.specs.declared.head.Head.{Head}
 use Rattle.nqs_qmgr.specs.declared.value.Amount.{Amount}
-use Rattle.nqs_qmgr.specs.declared.value.Amount.TheVariants.{Count, Time, Size}
+use Rattle.nqs_qmgr.specs.declared.value.Amount.TheVariants.{Count}
 use Rattle.nqs_qmgr.specs.declared.options.Settings.{Settings}
 use Rattle.nqs_qmgr.specs.Read.{Read, ◌>>=◌, or_fault}
-use Rattle.nqs_qmgr.specs.Heads.{name_at, request_at, nothing_after, last_name, head_of, head_at, bare, value_at, valued, limit_of, amount_of}
+use Rattle.nqs_qmgr.specs.Heads.{name_at, request_at, nothing_after, last_name, head_of, head_at, bare, value_at, valued, limit_of}
 use Rattle.nqs_qmgr.specs.Options.{no_settings, once, with_priority, with_run_limit, with_pipe_only, with_destination, with_option, per_word, options}
 use Rattle.nqs_qmgr.specs.Shapes.{Shape, nothing, alone, one_name, number, name_value, number_and_name, limit_and_name, two_names, dest_and_name, one_request, request_and_name, request_and_priority, name_and_forms, made_queue}
-use Rattle.nqs_qmgr.specs.Lines.{create_shape, delete_shape, enable_shape, disable_shape, set_shape, other_setting, add_shape, remove_shape, show_code, listed, show_shape, single_shape, shape_of, verbs, nouns, read_alone, read_one_name, read_value, read_value_and_name, read_one_request, read_request_and_name, last_value, read_request_and_priority, read_name_and_forms, read_made_queue, read_shape, after_verb, qmgr_line}
+use Rattle.nqs_qmgr.specs.Lines.{create_shape, delete_shape, enable_shape, disable_shape, set_shape, other_setting, add_shape, remove_shape, show_code, listed, single_shape, shape_of, verbs, nouns, read_alone, read_one_name, read_value, read_value_and_name, read_one_request, read_request_and_name, last_value, read_request_and_priority, read_name_and_forms, read_made_queue, read_shape, after_verb, qmgr_line}
 use Rattle.nqs_lines.specs.Acts.{of_line}
 use Rattle.nqs_lines.specs.Laws.{EditsAreSane}
 use Rattle.nqs_lines.proofs.Steps.{each_step, next_step}
-use Rattle.nqs_lines.proofs.Submissions.{number_is_between}
+use Rattle.nqs_lines.proofs.Options.{number_is_between}
 
 abbrev IsSane : Command → Type 0
 IsSane c = is_sane_command c ≡ true
@@ -42,9 +41,9 @@ abbrev Within : Amount → Option ℕ → Type 0
 Within Count l = at_most 10000 l ≡ true
 Within _ l = Unit {0}
 
-pub record AreSettled (s : Settings) : Type 0 where
-  pub priority : at_most 63 s.priority ≡ true
-  pub run_limit : at_most 10000 s.run_limit ≡ true
+record AreSettled (s : Settings) : Type 0 where
+  priority : at_most 63 s.priority ≡ true
+  run_limit : at_most 10000 s.run_limit ≡ true
 
 -- all that lines of a shape ask for is within the limits
 abbrev Allows : Shape → Type 0

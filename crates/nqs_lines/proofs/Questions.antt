@@ -1,7 +1,6 @@
 -- Lists and deletions ask for nothing that has a limit.
-use Rattle.std.proofs.Common.{◌≡◌, ℕ, ◌+◌, Bool, true, false, cond, List, [], ◌∷◌, refl, Result, Ok, Err, IfOk}
+use Rattle.std.proofs.Common.{◌≡◌, ℕ, ◌+◌, Bool, true, false, cond, List, [], ◌∷◌, refl, Ok, Err, IfOk}
 use Rattle.nqs_types.specs.declared.event.Command.{Command}
-use Rattle.nqs_types.specs.declared.fault.WordsFault.{WordsFault}
 use Rattle.nqs_rules.specs.Sane.{is_sane_command}
 use Rattle.nqs_words.specs.Values.{named_of}
 use Rattle.nqs_query.specs.Words.{Read, Asked, stat_of, named_or_fault, nothing_more, request_from, is_kill_option, delete_of}

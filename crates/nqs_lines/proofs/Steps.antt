@@ -1,5 +1,5 @@
 -- What holds of all that a reading gives.
-use Rattle.std.proofs.Common.{◌≡◌, Bool, true, false, cond, refl, Option, Some, None, Result, Ok, Err, IfOk}
+use Rattle.std.proofs.Common.{◌≡◌, Bool, true, false, cond, refl, Result, Ok, Err, IfOk}
 use Rattle.nqs_qsub.specs.Tokens.{◌>>=◌}
 
 -- of the second of two steps

@@ -1,140 +1,140 @@
 -- A submission is within the limits, whatever its words and its script are.
-use Rattle.std.proofs.Common.{◌≡◌, ℕ, zero, suc, ◌+◌, ◌-◌, ◌<◌, ◌≤◌, Bool, true, false, cond, ◌&&◌, ◌||◌, ◌==◌, not, nat_le, nat_lt, List, [], ◌∷◌, ◌++◌, length, take, drop, get_or, subst, slice_range, refl, ap, sym, ◌∙◌, arith, Option, Some, None, unwrap_or, is_some, Result, Ok, Err, IfOk, codes}
-use Rattle.std.proofs.lemmas.Bool.{and_parts, and_from, leb-true, le-leb, ltb-false, cond-true}
-use Rattle.std.proofs.lemmas.Bool.Decides.{nat_tests}
-use Rattle.std.proofs.lemmas.List.{length-drop, length-append, take-append-le, drop-append-le, take-append-drop}
-use Rattle.std.specs.List.{list_all}
+use Rattle.std.proofs.Common.{◌≡◌, ℕ, zero, suc, ◌+◌, Bool, true, false, cond, nat_lt, nat_le, List, [], ◌∷◌, length, take, drop, refl, Option, Some, None, unwrap_or, Result, Ok, Err, IfOk, codes}
+use Rattle.std.proofs.lemmas.Bool.{and_from, le-leb, ltb-false}
 use Rattle.std.specs.Option.{option_or}
-use Rattle.nqs_types.specs.Name.{is_letter, is_digit}
-use Rattle.nqs_types.specs.Path.{is_path}
+use Rattle.nqs_types.specs.declared.event.Command.TheVariants as command
 use Rattle.nqs_types.specs.declared.fault.WordsCause.{WordsCause}
 use Rattle.nqs_types.specs.declared.fault.WordsCause.TheVariants as cause
-use Rattle.nqs_types.specs.declared.fault.WordsFault.{WordsFault}
-use Rattle.nqs_rules.specs.Sane.{is_name_byte, is_sane_name, is_path_or_none}
-use Rattle.nqs_rules.proofs.Chains.{each, chained}
-use Rattle.nqs_rules.proofs.ListFacts.{list_all-weaker}
-use Rattle.nqs_words.specs.Values.{is_name_byte as is_word_byte, begins_as_name, is_name, name_of, number_of, are_digits}
-use Rattle.nqs_words.specs.Amounts.{time_of, size_of}
-use Rattle.nqs_words.specs.Moments.{moment_of}
-use Rattle.nqs_words.specs.declared.words.Word.{Word}
-use Rattle.nqs_text.specs.Number.{decimal}
+use Rattle.nqs_rules.specs.Sane.{is_sane_name, is_path_or_none, is_asked_job, is_short_script, is_sane_command}
+use Rattle.nqs_rules.proofs.Chains.{chained}
+use Rattle.nqs_qsub.specs.declared.token.Source.{Source}
+use Rattle.nqs_qsub.specs.declared.token.Source.TheVariants as source
 use Rattle.nqs_qsub.specs.declared.token.Place.{Place}
-use Rattle.nqs_qsub.specs.declared.token.Place.TheVariants.{InCommand, InScript}
-use Rattle.nqs_qsub.specs.declared.options.Options.{Options}
-use Rattle.nqs_qsub.specs.Tokens.{text_of}
+use Rattle.nqs_qsub.specs.declared.token.Token.{Token}
 use Rattle.nqs_qsub.specs.declared.options.Flag.{Flag}
-use Rattle.nqs_qsub.specs.declared.options.Flag.TheVariants as flag
-use Rattle.nqs_qsub.specs.Options.{no_options, marked, given, path_at, valued}
-use Rattle.nqs_qsub.specs.Qsub.{path_text}
+use Rattle.nqs_qsub.specs.declared.options.Options.{Options}
+use Rattle.nqs_qsub.specs.declared.reading.Progress.{Progress}
+use Rattle.nqs_qsub.specs.declared.script.LineKind.{LineKind}
+use Rattle.nqs_qsub.specs.declared.script.LineKind.TheVariants.{Last, Remark, Words}
+use Rattle.nqs_qsub.specs.Tokens.{Read, or_fault, fault_at, located, next_token, text_of}
+use Rattle.nqs_qsub.specs.Options.{flag_of, fresh, takes_value, valued, no_options, with_value, with_flag, one_option, per_token, read_words}
+use Rattle.nqs_qsub.specs.Script.{line_kind, line_end, next_line, line_options, go_on, script_options}
+use Rattle.nqs_qsub.specs.Qsub.{has_error, merged, both_options, qsub_options, path_text, job, submission}
+use Rattle.nqs_lines.specs.Acts.{of_words, submitted}
+use Rattle.nqs_lines.specs.Laws.{SubmissionsAreSane}
+use Rattle.nqs_lines.proofs.Steps.{each_step, next_step, unless}
+use Rattle.nqs_lines.proofs.Options.{Carries, carries_command, carries_line, AreSane, none_sane, marked_sane, valued_sane}
 
--- ---- names and numbers
+-- ---- words
 
-letter_seen : (b : ℕ) → is_letter b ≡ true → is_name_byte b ≡ true
-letter_seen b h = grind (arith, nat_tests)
+located_sane : {A : Type 0} (P : A → Type 0) (line n : ℕ) (r : Result A WordsCause) → IfOk r P → IfOk (located line n r) P
+located_sane P line n (Ok a) h = h
+located_sane P line n (Err why) h = tt
 
-byte_seen : (b : ℕ) → is_word_byte b ≡ true → is_name_byte b ≡ true
-byte_seen b h = grind (arith, nat_tests)
+abbrev Progresses : List (List ℕ) → List ℕ → Progress → Type 0
+Progresses words script p = AreSane words script p.options
 
-name_sane : (bytes : List ℕ) → is_name bytes ≡ true → is_sane_name bytes ≡ true
-unfolding is_name
-name_sane [] h = h
-name_sane (b ∷ bs) h =
-    let whole = and_parts (begins_as_name (b ∷ bs)) (nat_le (length (b ∷ bs)) 15) h in
-    let parts = and_parts (is_letter b) (list_all is_word_byte bs) whole.0 in
-    let seen = and_from (is_name_byte b) (list_all is_name_byte bs) (letter_seen b parts.0) (list_all-weaker is_word_byte is_name_byte byte_seen bs parts.1) in
-    chained (nat_le 1 (length (b ∷ bs))) (nat_le (length (b ∷ bs)) 15 ∷ list_all is_name_byte (b ∷ bs) ∷ []) (le-leb 1 (length (b ∷ bs)) (omega arith), (whole.1, (seen, tt)))
+value_sane : (s : Source) (part : List (List ℕ)) (text : List ℕ) (line n : ℕ) (token : Token) (o : Options) (f : Flag) (words : List (List ℕ)) (script : List ℕ) → Carries part text words script → AreSane words script o
+    → IfOk (with_value s part text line n token o f) (Progresses words script)
+unfolding with_value
+value_sane s part text line n token o f words script carries h =
+    each_step (Progresses words script) (or_fault (next_token s part text token.after) (fault_at line n cause.Missing)) _ (λ value is.
+    next_step (AreSane words script) (Progresses words script) (located line (n + 1) (valued o f (text_of part text value.at) value.at)) _
+    (located_sane (AreSane words script) line (n + 1) (valued o f (text_of part text value.at) value.at) (valued_sane part text words script o f value.at carries h)) (λ more sane. sane))
 
-found : {A : Type 0} (t : Bool) (a b : A) → cond t (Some a) None ≡ Some b → (t ≡ true) × (a ≡ b)
-found true a b e = (refl, cc)
-found false a b e = cc
+flag_sane : (t : Bool) (s : Source) (part : List (List ℕ)) (text : List ℕ) (line n : ℕ) (token : Token) (o : Options) (f : Flag) (words : List (List ℕ)) (script : List ℕ) → Carries part text words script → AreSane words script o
+    → IfOk (with_flag t s part text line n token o f) (Progresses words script)
+flag_sane true s part text line n token o f words script carries h = value_sane s part text line n token o f words script carries h
+flag_sane false s part text line n token o f words script carries h = marked_sane words script o f h
 
-pub name_is_sane : (bytes name : List ℕ) → name_of bytes ≡ Some name → is_sane_name name ≡ true
-unfolding name_of
-name_is_sane bytes name e = let f = found (is_name bytes) bytes name e in ap is_sane_name (sym f.1) ∙ name_sane bytes f.0
+option_sane : (s : Source) (part : List (List ℕ)) (text : List ℕ) (line n : ℕ) (token : Token) (o : Options) (words : List (List ℕ)) (script : List ℕ) → Carries part text words script → AreSane words script o
+    → IfOk (one_option s part text line n token o) (Progresses words script)
+unfolding one_option
+option_sane s part text line n token o words script carries h =
+    each_step (Progresses words script) (or_fault (flag_of (text_of part text token.at)) (fault_at line n cause.Unknown)) _ (λ f is.
+    each_step (Progresses words script) (located line n (fresh o f)) _ (λ first free. flag_sane (takes_value f) s part text line n token o f words script carries h))
 
-pub number_is_between : (low high : ℕ) (bytes : List ℕ) (n : ℕ) → number_of low high bytes ≡ Some n → (nat_le low n ≡ true) × (nat_le n high ≡ true)
-unfolding number_of
-number_is_between low high bytes n e =
-    let f = found (are_digits bytes && (nat_le low (decimal bytes) && nat_le (decimal bytes) high)) (decimal bytes) n e in
-    let parts = and_parts (nat_le low (decimal bytes)) (nat_le (decimal bytes) high) (and_parts (are_digits bytes) (nat_le low (decimal bytes) && nat_le (decimal bytes) high) f.0).1 in
-    (ap (nat_le low) (sym f.1) ∙ parts.0, ap (λ (m : ℕ). nat_le m high) (sym f.1) ∙ parts.1)
+token_sane : {A : Type 0} (P : A → Type 0) (token : Option Token) (last : Read A) (next : Token → Read A) → IfOk last P → ((t : Token) → IfOk (next t) P) → IfOk (per_token token last next) P
+token_sane P None last next l n = l
+token_sane P (Some token) last next l n = n token
 
--- ---- paths
+words_sane : (left : ℕ) (s : Source) (part : List (List ℕ)) (text : List ℕ) (line n place : ℕ) (o : Options) (words : List (List ℕ)) (script : List ℕ) → Carries part text words script → AreSane words script o
+    → IfOk (read_words left s part text line n place o) (AreSane words script)
+unfolding read_words
+words_sane zero s part text line n place o words script carries h = tt
+words_sane (suc left) s part text line n place o words script carries h =
+    token_sane (AreSane words script) (next_token s part text place) (Ok o) _ h (λ token.
+    next_step (Progresses words script) (AreSane words script) (one_option s part text line n token o) _ (option_sane s part text line n token o words script carries h) (λ p sane.
+    words_sane left s part text line p.number p.place p.options words script carries sane))
 
-pub path_right : (bytes : List ℕ) → is_path bytes ≡ true → is_path_or_none bytes ≡ true
-path_right [] h = refl
-path_right (b ∷ bs) h = h
+-- ---- the script
 
--- a path that is found in a part of the words and of the script is found in them
-abbrev pub Carries : List (List ℕ) → List ℕ → List (List ℕ) → List ℕ → Type 0
-Carries part text words script = (at : Place) → is_path (text_of part text at) ≡ true → is_path (text_of words script at) ≡ true
+abbrev Lines : List (List ℕ) → List ℕ → Options × Bool → Type 0
+Lines words script p = AreSane words script p.0
 
-front_slice : (xs ys : List ℕ) (start end : ℕ) → start ≤ end → end ≤ length xs → slice_range (xs ++ ys) start end ≡ slice_range xs start end
-front_slice xs ys start end order inside =
-    rw (drop-append-le start xs ys (omega arith)) (take-append-le (end - start) (drop start xs) ys (omega (arith, length-drop start xs)))
+line_sane : (kind : LineKind) (words : List (List ℕ)) (script : List ℕ) (line place : ℕ) (o : Options) → AreSane words script o → IfOk (line_options kind script line place o) (Lines words script)
+unfolding line_options
+line_sane Last words script line place o h = h
+line_sane Remark words script line place o h = h
+line_sane Words words script line place o h =
+    next_step (AreSane words script) (Lines words script) (read_words 12 source.Script [] (take (line_end script place) script) line 1 (place + 3) o) _
+    (words_sane 12 source.Script [] (take (line_end script place) script) line 1 (place + 3) o words script (carries_line words script (line_end script place)) h) (λ more sane. sane)
 
--- the bytes of a word of a front stand in the whole
-front_text : (part words : List (List ℕ)) (front rest : List ℕ) (word : Word) → is_path (text_of part front (InScript word)) ≡ true → is_path (text_of words (front ++ rest) (InScript word)) ≡ true
-unfolding text_of
-front_text part words front rest word = by (nat_le word.start word.end && nat_le word.end (length front)) refl
+go_on_sane : (P : Options → Type 0) (o : Options) (t : Bool) (next : Options → Read Options) → P o → IfOk (next o) P → IfOk (go_on (o, t) next) P
+go_on_sane P o true next h n = n
+go_on_sane P o false next h n = h
+
+script_sane : (left : ℕ) (words : List (List ℕ)) (script : List ℕ) (line place : ℕ) (o : Options) → AreSane words script o → IfOk (script_options left script line place o) (AreSane words script)
+unfolding script_options
+script_sane zero words script line place o h = h
+script_sane (suc left) words script line place o h =
+    next_step (Lines words script) (AreSane words script) (line_options (line_kind (drop place script)) script line place o) _ (line_sane (line_kind (drop place script)) words script line place o h) (λ step sane.
+    go_on_sane (AreSane words script) step.0 step.1 (script_options left script (line + 1) (next_line script place)) sane (script_sane left words script (line + 1) (next_line script place) step.0 sane))
+
+-- ---- both
+
+or_sane : {A : Type 0} (P : Option A → Type 0) (a b : Option A) → P a → P b → P (option_or a b)
+or_sane P (Some a) b x y = x
+or_sane P None b x y = y
+
+merged_sane : (words : List (List ℕ)) (script : List ℕ) (c s : Options) → AreSane words script c → AreSane words script s → AreSane words script (merged c s)
+merged_sane words script c s h k =
+    record {
+      name = or_sane (λ (n : Option (List ℕ)). is_sane_name (unwrap_or n (codes "STDIN")) ≡ true) c.job_name s.job_name h.name k.name;
+      priority = or_sane (λ (n : Option ℕ). nat_le (unwrap_or n 31) 63 ≡ true) c.priority s.priority h.priority k.priority;
+      out = or_sane (λ (p : Option Place). is_path_or_none (path_text words script p) ≡ true) c.out s.out h.out k.out;
+      error = by (has_error c);
+    }
   where
-    by : (t : Bool) → (nat_le word.start word.end && nat_le word.end (length front)) ≡ t → is_path (cond t (slice_range front word.start word.end) []) ≡ true → is_path (text_of words (front ++ rest) (InScript word)) ≡ true
-    by false is p = cc
-    by true is p =
-        let two = and_parts (nat_le word.start word.end) (nat_le word.end (length front)) is in
-        let order = leb-true word.start word.end two.0 in
-        let inside = leb-true word.end (length front) two.1 in
-        let stands = and_from (nat_le word.start word.end) (nat_le word.end (length (front ++ rest))) two.0 (le-leb word.end (length (front ++ rest)) (omega (arith, length-append front rest))) in
-        ap is_path (cond-true _ (slice_range (front ++ rest) word.start word.end) [] stands ∙ front_slice front rest word.start word.end order inside) ∙ p
+    by : (t : Bool) → is_path_or_none (path_text words script (cond t c.error s.error)) ≡ true
+    by true = h.error
+    by false = k.error
 
-pub carries_command : (words : List (List ℕ)) (script : List ℕ) → Carries words [] words script
-unfolding text_of
-carries_command words script (InCommand i) h = h
-carries_command words script (InScript word) h = front_text words words [] script word h
+both_sane : (words : List (List ℕ)) (script : List ℕ) → IfOk (both_options words script) (AreSane words script)
+unfolding both_options
+both_sane words script =
+    next_step (AreSane words script) (AreSane words script) (read_words 12 source.Command words [] 0 1 0 no_options) _ (words_sane 12 source.Command words [] 0 1 0 no_options words script (carries_command words script) (none_sane words script)) (λ c sane.
+    next_step (AreSane words script) (AreSane words script) (script_options (length script) script 1 0 no_options) _ (script_sane (length script) words script 1 0 no_options (none_sane words script)) (λ s more.
+    merged_sane words script c s sane more))
 
-pub carries_line : (words : List (List ℕ)) (script : List ℕ) (end : ℕ) → Carries [] (take end script) words script
-unfolding text_of
-carries_line words script end (InCommand i) h = cc
-carries_line words script end (InScript word) h =
-    subst (λ (s : List ℕ). is_path (text_of words s (InScript word)) ≡ true) (take-append-drop end script) (front_text [] words (take end script) (drop end script) word h)
+abbrev Submits : List ℕ → List (List ℕ) → List ℕ → Options → Type 0
+Submits user words script o = is_sane_command (command.Submit (submission user words script o)) ≡ true
 
--- ---- options
+options_sane : (user : List ℕ) (words : List (List ℕ)) (script : List ℕ) → IfOk (qsub_options words script) (Submits user words script)
+unfolding qsub_options
+options_sane user words script =
+    unless (Submits user words script) (nat_lt 32768 (length script)) (fault_at 0 0 cause.ScriptTooLong) (both_options words script) (λ short.
+    ok (both_options words script) (both_sane words script) (le-leb (length script) 32768 (ltb-false 32768 (length script) short)))
+  where
+    ok : (r : Read Options) → IfOk r (AreSane words script) → is_short_script script ≡ true → IfOk r (Submits user words script)
+    ok (Ok o) h short =
+        and_from (is_asked_job (job user words script o)) (is_short_script script) (chained (is_sane_name (job user words script o).name)
+        (nat_le (job user words script o).priority 63 ∷ is_path_or_none (job user words script o).out ∷ is_path_or_none (job user words script o).err ∷ []) (h.name, (h.priority, (h.out, (h.error, tt))))) short
+    ok (Err fault) h short = tt
 
--- what the options say is within the limits
-pub record AreSane (words : List (List ℕ)) (script : List ℕ) (o : Options) : Type 0 where
-  pub name : is_sane_name (unwrap_or o.job_name (codes "STDIN")) ≡ true
-  pub priority : nat_le (unwrap_or o.priority 31) 63 ≡ true
-  pub out : is_path_or_none (path_text words script o.out) ≡ true
-  pub error : is_path_or_none (path_text words script o.error) ≡ true
-
-pub none_sane : (words : List (List ℕ)) (script : List ℕ) → AreSane words script no_options
-none_sane words script = record { name = refl; priority = refl; out = refl; error = refl }
-
-pub marked_sane : (words : List (List ℕ)) (script : List ℕ) (o : Options) (f : Flag) → AreSane words script o → AreSane words script (marked o f)
-unfolding marked
-marked_sane words script o flag.Join h = record { name = h.name; priority = h.priority; out = h.out; error = h.error }
-marked_sane words script o flag.NoRerun h = record { name = h.name; priority = h.priority; out = h.out; error = h.error }
-marked_sane words script o _ h = h
-
-given_sane : {A : Type 0} (P : Options → Type 0) (found : Option A) (why : WordsCause) (set : A → Options) → ((a : A) → found ≡ Some a → P (set a)) → IfOk (given found why set) P
-given_sane P (Some a) why set h = h a refl
-given_sane P None why set h = tt
-
-path_sane : (part : List (List ℕ)) (text : List ℕ) (words : List (List ℕ)) (script : List ℕ) (at p : Place) → Carries part text words script → path_at (text_of part text at) at ≡ Some p → is_path_or_none (path_text words script (Some p)) ≡ true
-path_sane part text words script at p carries e =
-    let f = found (is_path (text_of part text at)) at p e in
-    path_right (text_of words script p) (ap (λ (q : Place). is_path (text_of words script q)) (sym f.1) ∙ carries at f.0)
-
-pub valued_sane : (part : List (List ℕ)) (text : List ℕ) (words : List (List ℕ)) (script : List ℕ) (o : Options) (f : Flag) (at : Place) → Carries part text words script → AreSane words script o
-    → IfOk (valued o f (text_of part text at) at) (AreSane words script)
-unfolding valued
-valued_sane part text words script o flag.Queue at carries h = given_sane (AreSane words script) (name_of (text_of part text at)) cause.BadName _ (λ q e. record { name = h.name; priority = h.priority; out = h.out; error = h.error })
-valued_sane part text words script o flag.Priority at carries h = given_sane (AreSane words script) (number_of 0 63 (text_of part text at)) cause.BadNumber _ (λ n e. record { name = h.name; priority = (number_is_between 0 63 _ n e).1; out = h.out; error = h.error })
-valued_sane part text words script o flag.JobName at carries h = given_sane (AreSane words script) (name_of (text_of part text at)) cause.BadName _ (λ n e. record { name = name_is_sane _ n e; priority = h.priority; out = h.out; error = h.error })
-valued_sane part text words script o flag.Earliest at carries h = given_sane (AreSane words script) (moment_of (text_of part text at)) cause.BadMoment _ (λ m e. record { name = h.name; priority = h.priority; out = h.out; error = h.error })
-valued_sane part text words script o flag.Out at carries h = given_sane (AreSane words script) (path_at (text_of part text at) at) cause.BadPath _ (λ p e. record { name = h.name; priority = h.priority; out = path_sane part text words script at p carries e; error = h.error })
-valued_sane part text words script o flag.Error at carries h = given_sane (AreSane words script) (path_at (text_of part text at) at) cause.BadPath _ (λ p e. record { name = h.name; priority = h.priority; out = h.out; error = path_sane part text words script at p carries e })
-valued_sane part text words script o flag.Cpu at carries h = given_sane (AreSane words script) (time_of (text_of part text at)) cause.BadNumber _ (λ n e. record { name = h.name; priority = h.priority; out = h.out; error = h.error })
-valued_sane part text words script o flag.Memory at carries h = given_sane (AreSane words script) (size_of (text_of part text at)) cause.BadNumber _ (λ n e. record { name = h.name; priority = h.priority; out = h.out; error = h.error })
-valued_sane part text words script o flag.Forms at carries h = given_sane (AreSane words script) (name_of (text_of part text at)) cause.BadName _ (λ f e. record { name = h.name; priority = h.priority; out = h.out; error = h.error })
-valued_sane part text words script o _ at carries h = h
+pub submissions_are_sane : SubmissionsAreSane
+submissions_are_sane user words script = by (qsub_options words script) (options_sane user words script)
+  where
+    by : (r : Read Options) → IfOk r (Submits user words script) → is_sane_command (of_words (submitted user words script r)) ≡ true
+    by (Ok o) h = h
+    by (Err fault) h = refl

@@ -1,4 +1,4 @@
-use Rattle.nqs_lines.proofs.Options.{submissions_are_sane}
+use Rattle.nqs_lines.proofs.Submissions.{submissions_are_sane}
 use Rattle.nqs_lines.proofs.laws.submissions_are_sane.Goals as goal
 
 pub returns : goal.returns
