@@ -1,0 +1,3 @@
+mod LiveReads
+mod FewHands
+mod Modest

@@ -1,8 +1,9 @@
 //! Laws of what a step or a start makes at a host in order.
 
-ghost use Rattle.std.specs.Prelude.{◌≡◌, ℕ, IsTrue, IfSome, length};
+ghost use Rattle.std.specs.Prelude.{◌≡◌, ℕ, List, IsTrue, IfSome, length};
 ghost use Rattle.std.specs.List.{AllByRecursion};
 ghost use Rattle.nqs_types.specs.State.{State, content};
+ghost use Rattle.nqs_types.specs.declared.change.Change.{Change};
 ghost use Rattle.nqs_types.specs.declared.event.Event.{Event};
 ghost use Rattle.nqs_types.specs.declared.extent.Extent.{Extent};
 ghost use Rattle.nqs_records.specs.Changes.{MayStand};
@@ -12,9 +13,10 @@ ghost use Rattle.nqs_rules.specs.InOrder.{IsInOrder};
 ghost use Rattle.nqs_rules.specs.Sane.{is_sane_change, is_sane_event};
 ghost use Rattle.nqs_rules.specs.Start.{start};
 ghost use Rattle.nqs_rules.specs.Step.{step};
-ghost use Rattle.nqs_rules.specs.Stepped.{puts_of, stored_parts};
+ghost use Rattle.nqs_rules.specs.Stepped.{map_change, puts_of, stored_parts};
 ghost use Rattle.nqs_store.specs.Puts.{IsShortPut};
 ghost use Rattle.nqs_kept.specs.Reads.{AreLive};
+ghost use Rattle.nqs_kept.specs.Offers.{takes_back_few};
 
 use nqs_types::{Change, HostState};
 
@@ -24,7 +26,15 @@ pub fn fitting_changes_may_stand(state: &HostState, change: &Change)
     requires fits { IsTrue (fits change.now (content state.now)) }
     requires sane { IsTrue (is_sane_change change.now) }
     requires extents { AllByRecursion IsExtent (stored_parts change.now) }
+    requires few { IsTrue (takes_back_few change.now) }
     ensures { MayStand change.now }
+{}
+
+/// A step or a start takes few enough offers back for its record.
+pub fn few_offers_are_taken_back()
+    ensures step { (e : Event) (s : State Extent) → IsInOrder s → IsTrue (is_sane_event (length s.site) e) → IfSome (step e s).change (λ c. IsTrue (takes_back_few c)) }
+    ensures start { (now : ℕ) (s : State Extent) → IsInOrder s → IfSome (start now s) (λ x. IfSome x.change (λ c. IsTrue (takes_back_few c))) }
+    ensures mapped { (f : List ℕ → Extent) (c : Change (List ℕ)) → takes_back_few (map_change f c) ≡ takes_back_few c }
 {}
 
 /// What is stored for a step or a start is short enough for the spool.
