@@ -1,11 +1,10 @@
 -- A host in order has at most 128 hands: at most eight to each of at most sixteen hosts.
-use Rattle.std.proofs.Common.{◌≡◌, ℕ, zero, suc, ◌+◌, ◌*◌, ◌<◌, ◌≤◌, Bool, true, false, cond, ◌||◌, ◌==◌, nat_lt, nat_le, List, [], ◌∷◌, find, filter, length, slice_get, Option, None, Some, true≢false, refl, sym, ap, ◌∙◌, arith}
+use Rattle.std.proofs.Common.{◌≡◌, ℕ, zero, suc, ◌+◌, ◌*◌, ◌<◌, ◌≤◌, Bool, true, false, cond, ◌||◌, ◌==◌, nat_lt, List, [], ◌∷◌, find, filter, length, Option, None, Some, true≢false, refl, sym, ap, ◌∙◌, arith}
 use Rattle.std.proofs.lemmas.Bool.{and_parts, leb-true, ltb-true, eqb-true, lt-ltb}
 use Rattle.std.proofs.lemmas.Bool.Decides.{nat_tests}
 use Rattle.std.specs.List.{list_all}
 use Rattle.nqs_types.specs.State.{State}
 use Rattle.nqs_types.specs.declared.ids.HostId.{HostId}
-use Rattle.nqs_types.specs.declared.request.Hand.{Hand}
 use Rattle.nqs_types.specs.declared.request.Peer.{Peer}
 use Rattle.nqs_rules.specs.Tests.{passes, same_host}
 use Rattle.nqs_rules.specs.Find.{find_peer}

@@ -1,5 +1,5 @@
 -- What a step or a start makes is modest: what it stores is short, and it takes few offers back.
-use Rattle.std.proofs.Common.{◌≡◌, ℕ, ◌+◌, ◌≤◌, Bool, true, false, not, ◌&&◌, ◌==◌, nat_le, List, [], ◌∷◌, ◌++◌, map, filter, length, slice_get, Option, None, Some, option_map, Result, Ok, Err, refl, arith, length-append, if◌then◌else◌}
+use Rattle.std.proofs.Common.{◌≡◌, ℕ, ◌+◌, ◌≤◌, Bool, true, false, nat_le, List, [], ◌∷◌, ◌++◌, map, filter, length, slice_get, Option, None, Some, option_map, Result, Ok, Err, refl, arith, length-append, if◌then◌else◌}
 use Rattle.std.proofs.lemmas.Bool.{and_parts, leb-true, le-leb}
 use Rattle.std.proofs.lemmas.List.{length-map}
 use Rattle.std.specs.List.{AllByRecursion, list_any}
@@ -41,10 +41,10 @@ use Rattle.nqs_rules.specs.Fits.{edit_causes}
 use Rattle.nqs_rules.specs.Sane.{is_of_site, is_asked_job, is_short_script, is_short_output, is_sane_carried, is_sane_command, is_sane_body, is_sane_event}
 use Rattle.nqs_rules.specs.InOrder.{IsInOrder}
 use Rattle.nqs_rules.specs.Stepped.{Stepped, map_change, part_bytes, puts_of}
-use Rattle.nqs_rules.specs.Handover.{closes, was_given, is_silent, silence, silent_hands, offer_causes, offer_by, on_offer, ready_phase, ready_with, on_ready, refused_phase, refused_with, on_refused, on_commit, done_phase, done_with, on_done, on_abort, opened_with, open_hand}
-use Rattle.nqs_rules.specs.Stage.{Part, part_to, parts_of, has_left, numbered, first_number, kept_parts, is_got, on_end, on_stage, on_staged, on_written}
+use Rattle.nqs_rules.specs.Handover.{closes, was_given, is_silent, silence, silent_hands, offer_causes, offer_by, on_offer, ready_phase, ready_with, on_ready, refused_phase, refused_with, on_refused, done_phase, done_with, on_done, opened_with, open_hand}
+use Rattle.nqs_rules.specs.Stage.{Part, part_to, parts_of, has_left, numbered, first_number, is_got, on_end, on_stage}
 use Rattle.nqs_rules.specs.Start.{launching, printing, holding, moving_by, moving, local_causes, with_row, device_at, dest_at, started, start_by, start}
-use Rattle.nqs_rules.specs.Step.{Asker, unless_refused, submit_to, on_submit, delete_row, delete_meant, on_delete, on_edit, on_stat, stat_causes, on_allowed, on_command, on_message, is_start, ended_by, unlaunched_by, ticked, step}
+use Rattle.nqs_rules.specs.Step.{Asker, unless_refused, submit_to, on_submit, delete_meant, stat_causes, on_allowed, on_message, is_start, ended_by, unlaunched_by, ticked, step}
 use Rattle.nqs_rules.proofs.Chains.{each}
 use Rattle.nqs_rules.proofs.Sublists.{filter_part, part_length}
 use Rattle.nqs_store.specs.Puts.{IsShortPut}
