@@ -99,16 +99,16 @@ carries_line words script end (InScript word) h =
 -- ---- options
 
 -- what the options say is within the limits
-pub record AreSane (words : List (List ℕ)) (script : List ℕ) (o : Options) : Type 0 where
+pub record AreWithin (words : List (List ℕ)) (script : List ℕ) (o : Options) : Type 0 where
   pub name : is_sane_name (unwrap_or o.job_name (codes "STDIN")) ≡ true
   pub priority : nat_le (unwrap_or o.priority 31) 63 ≡ true
   pub out : is_path_or_none (path_text words script o.out) ≡ true
   pub error : is_path_or_none (path_text words script o.error) ≡ true
 
-pub none_sane : (words : List (List ℕ)) (script : List ℕ) → AreSane words script no_options
+pub none_sane : (words : List (List ℕ)) (script : List ℕ) → AreWithin words script no_options
 none_sane words script = record { name = refl; priority = refl; out = refl; error = refl }
 
-pub marked_sane : (words : List (List ℕ)) (script : List ℕ) (o : Options) (f : Flag) → AreSane words script o → AreSane words script (marked o f)
+pub marked_sane : (words : List (List ℕ)) (script : List ℕ) (o : Options) (f : Flag) → AreWithin words script o → AreWithin words script (marked o f)
 unfolding marked
 marked_sane words script o flag.Join h = record { name = h.name; priority = h.priority; out = h.out; error = h.error }
 marked_sane words script o flag.NoRerun h = record { name = h.name; priority = h.priority; out = h.out; error = h.error }
@@ -123,16 +123,16 @@ path_sane part text words script at p carries e =
     let f = found (is_path (text_of part text at)) at p e in
     path_right (text_of words script p) (ap (λ (q : Place). is_path (text_of words script q)) (sym f.1) ∙ carries at f.0)
 
-pub valued_sane : (part : List (List ℕ)) (text : List ℕ) (words : List (List ℕ)) (script : List ℕ) (o : Options) (f : Flag) (at : Place) → Carries part text words script → AreSane words script o
-    → IfOk (valued o f (text_of part text at) at) (AreSane words script)
+pub valued_sane : (part : List (List ℕ)) (text : List ℕ) (words : List (List ℕ)) (script : List ℕ) (o : Options) (f : Flag) (at : Place) → Carries part text words script → AreWithin words script o
+    → IfOk (valued o f (text_of part text at) at) (AreWithin words script)
 unfolding valued
-valued_sane part text words script o flag.Queue at carries h = given_sane (AreSane words script) (name_of (text_of part text at)) cause.BadName _ (λ q e. record { name = h.name; priority = h.priority; out = h.out; error = h.error })
-valued_sane part text words script o flag.Priority at carries h = given_sane (AreSane words script) (number_of 0 63 (text_of part text at)) cause.BadNumber _ (λ n e. record { name = h.name; priority = (number_is_between 0 63 _ n e).1; out = h.out; error = h.error })
-valued_sane part text words script o flag.JobName at carries h = given_sane (AreSane words script) (name_of (text_of part text at)) cause.BadName _ (λ n e. record { name = name_is_sane _ n e; priority = h.priority; out = h.out; error = h.error })
-valued_sane part text words script o flag.Earliest at carries h = given_sane (AreSane words script) (moment_of (text_of part text at)) cause.BadMoment _ (λ m e. record { name = h.name; priority = h.priority; out = h.out; error = h.error })
-valued_sane part text words script o flag.Out at carries h = given_sane (AreSane words script) (path_at (text_of part text at) at) cause.BadPath _ (λ p e. record { name = h.name; priority = h.priority; out = path_sane part text words script at p carries e; error = h.error })
-valued_sane part text words script o flag.Error at carries h = given_sane (AreSane words script) (path_at (text_of part text at) at) cause.BadPath _ (λ p e. record { name = h.name; priority = h.priority; out = h.out; error = path_sane part text words script at p carries e })
-valued_sane part text words script o flag.Cpu at carries h = given_sane (AreSane words script) (time_of (text_of part text at)) cause.BadNumber _ (λ n e. record { name = h.name; priority = h.priority; out = h.out; error = h.error })
-valued_sane part text words script o flag.Memory at carries h = given_sane (AreSane words script) (size_of (text_of part text at)) cause.BadNumber _ (λ n e. record { name = h.name; priority = h.priority; out = h.out; error = h.error })
-valued_sane part text words script o flag.Forms at carries h = given_sane (AreSane words script) (name_of (text_of part text at)) cause.BadName _ (λ f e. record { name = h.name; priority = h.priority; out = h.out; error = h.error })
+valued_sane part text words script o flag.Queue at carries h = given_sane (AreWithin words script) (name_of (text_of part text at)) cause.BadName _ (λ q e. record { name = h.name; priority = h.priority; out = h.out; error = h.error })
+valued_sane part text words script o flag.Priority at carries h = given_sane (AreWithin words script) (number_of 0 63 (text_of part text at)) cause.BadNumber _ (λ n e. record { name = h.name; priority = (number_is_between 0 63 _ n e).1; out = h.out; error = h.error })
+valued_sane part text words script o flag.JobName at carries h = given_sane (AreWithin words script) (name_of (text_of part text at)) cause.BadName _ (λ n e. record { name = name_is_sane _ n e; priority = h.priority; out = h.out; error = h.error })
+valued_sane part text words script o flag.Earliest at carries h = given_sane (AreWithin words script) (moment_of (text_of part text at)) cause.BadMoment _ (λ m e. record { name = h.name; priority = h.priority; out = h.out; error = h.error })
+valued_sane part text words script o flag.Out at carries h = given_sane (AreWithin words script) (path_at (text_of part text at) at) cause.BadPath _ (λ p e. record { name = h.name; priority = h.priority; out = path_sane part text words script at p carries e; error = h.error })
+valued_sane part text words script o flag.Error at carries h = given_sane (AreWithin words script) (path_at (text_of part text at) at) cause.BadPath _ (λ p e. record { name = h.name; priority = h.priority; out = h.out; error = path_sane part text words script at p carries e })
+valued_sane part text words script o flag.Cpu at carries h = given_sane (AreWithin words script) (time_of (text_of part text at)) cause.BadNumber _ (λ n e. record { name = h.name; priority = h.priority; out = h.out; error = h.error })
+valued_sane part text words script o flag.Memory at carries h = given_sane (AreWithin words script) (size_of (text_of part text at)) cause.BadNumber _ (λ n e. record { name = h.name; priority = h.priority; out = h.out; error = h.error })
+valued_sane part text words script o flag.Forms at carries h = given_sane (AreWithin words script) (name_of (text_of part text at)) cause.BadName _ (λ f e. record { name = h.name; priority = h.priority; out = h.out; error = h.error })
 valued_sane part text words script o _ at carries h = h
