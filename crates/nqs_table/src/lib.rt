@@ -30,3 +30,6 @@ pub fn table_of(alloc: Global, states: &[HostState]) -> Result<Vec<TableRow>, Me
     }
     Ok(table)
 }
+
+#[cfg(test)]
+mod tests;
