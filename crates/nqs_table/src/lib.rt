@@ -16,7 +16,7 @@ use rows::rows_at;
 use std::alloc::Global;
 
 /// The rows of the table, by host and then by request: by the host of its submission and its number. The states are
-/// those of all hosts, in the order of the site, 256 at most.
+/// those of all hosts, in the order of the site; of more than 256 there is no table, only `Memory`.
 pub fn table_of(alloc: Global, states: &[HostState]) -> Result<Vec<TableRow>, Memory>
     ensures { (plains : List Plain) → StandForEach states.now plains → IfOk result (λ rows. rows.items ≡ table plains) }
 {
