@@ -50,7 +50,7 @@ pub(crate) fn first_fault(fault: JournalFault) -> LoadFault
 }
 
 // The host that the records tell.
-pub(crate) fn told_host(alloc: Global, payloads: &[Bytes]) -> Result<HostState, LoadFault>
+fn told_host(alloc: Global, payloads: &[Bytes]) -> Result<HostState, LoadFault>
     requires { length (header ++ records payloads.now) ≤ 2 ^ 40 }
     ensures ok { IfOk result (λ state. (told payloads.now ≡ Some (content state)) × IsSoundHost (content state)) }
     ensures err { IfErr result (IsHostFault payloads.now) }
@@ -63,7 +63,7 @@ pub(crate) fn told_host(alloc: Global, payloads: &[Bytes]) -> Result<HostState, 
 }
 
 // The live extents of a host, which a spool of so many bytes may have.
-pub(crate) fn sound_extents(
+fn sound_extents(
     alloc: Global,
     state: &HostState,
     size: u64,
