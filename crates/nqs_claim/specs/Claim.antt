@@ -32,19 +32,14 @@ IsOwed site events x = (is_acknowledged x (notes_of site events) ≡ true) × (n
 pub record IsKept (site : List (List ℕ)) (events : List WorldEvent) : Type 0 where
   -- the hosts' states tell one table: no request lies in two places
   pub table : IsTrue (is_table (at_last site events))
-
   -- each change that was kept took a request by one licensed step at most, and left all others where they were
   pub licensed : AreLicensed (at_first site) (notes_of site events)
-
   -- a request that was acknowledged, and neither deleted nor finished, lies there
   pub owed : (x : RequestId) → IsOwed site events x → lies x (at_last site events) ≡ true
-
   -- no launch came twice, and between two launches of a request a kept change lost it
   pub distinct : IsTrue (are_distinct same_launch (launches (notes_of site events)))
   pub apart : (x : RequestId) → AreApart x (at_first site) false (notes_of site events)
-
   -- a launch is of a request that runs then, once more than it was lost, and once alone where it isn't rerunnable
   pub started : AreStarted (at_first site) (notes_of site events)
-
   -- what was seen is what the notes say
   pub seen : sights (notes_of site events) ≡ (run_of site (map act_of events)).seen

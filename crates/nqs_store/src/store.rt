@@ -63,11 +63,7 @@ fn told_host(alloc: Global, payloads: &[Bytes]) -> Result<HostState, LoadFault>
 }
 
 // The live extents of a host, which a spool of so many bytes may have.
-fn sound_extents(
-    alloc: Global,
-    state: &HostState,
-    size: u64,
-) -> Result<Vec<Extent>, LoadFault>
+fn sound_extents(alloc: Global, state: &HostState, size: u64) -> Result<Vec<Extent>, LoadFault>
     ensures ok { IfOk result (λ extents. (extents.items ≡ live (content state.now)) × AreSound size (live (content state.now))) }
     ensures err { IfErr result (IsExtentFault size (live (content state.now))) }
 {
