@@ -7,7 +7,9 @@
 
 mod boot;
 mod fault;
+mod keep;
 mod node;
+mod reads;
 
 pub use fault::NodeFault;
 pub use node::Node;
