@@ -9,6 +9,7 @@ mod boot;
 mod fault;
 mod keep;
 mod node;
+mod perform;
 mod reads;
 
 pub use fault::NodeFault;
