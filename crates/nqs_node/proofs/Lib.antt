@@ -2,3 +2,4 @@ pub mod Shapes
 pub mod Sites
 pub mod Places
 pub mod Performing
+pub mod Planning

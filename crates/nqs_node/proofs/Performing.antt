@@ -41,9 +41,9 @@ still_broken_off old now same (Some c) = subst (λ (h : Which → History). Comm
 
 module _ {D : Type 0} {g : disk.Ghosts D} (old mid : Store D g) (same : (which : Which) → history_of mid which ≡ history_of old which) where
   pub still_one : (host : Host) → IsTrue g.tells → Tells old host → (kept : Kept) → IsOneOrOther (history_of old) (history_of mid) kept (plain_of old host)
-  still_one host yes told kept =
+  still_one host telling told kept =
       subst (λ (h : Which → History). IsOneOrOther (history_of old) h kept (plain_of old host)) (λ j which. sym (same which) j)
-      (none_told old host yes told (after_change kept (plain_of old host)))
+      (none_told old host telling told (after_change kept (plain_of old host)))
 
   pub same_plain : (host : Host) → plain_of mid host ≡ plain_of old host
   same_plain host = ap (λ (h : History). map_state (bytes_at (content h)) host) (same Spool)

@@ -5,13 +5,14 @@ use Rattle.std.specs.Option.{option_map}
 use Rattle.nqs_types.specs.declared.extent.Extent.{Extent}
 use Rattle.nqs_types.specs.declared.change.Change.{Change}
 use Rattle.nqs_types.specs.declared.event.Plan.{Plan}
-use Rattle.nqs_records.specs.Changes.{MayStand}
+use Rattle.nqs_records.specs.Values.{IsExtent}
 use Rattle.nqs_rules.specs.Filled.{filled}
 use Rattle.nqs_rules.specs.Fits.{fits}
 use Rattle.nqs_rules.specs.Sane.{is_sane_change}
 use Rattle.nqs_rules.specs.Stepped.{Stepped, puts_of, stored_parts, shown}
 use Rattle.nqs_store.specs.Puts.{IsShortPut}
 use Rattle.nqs_store.specs.Told.{Host}
+use Rattle.nqs_kept.specs.Offers.{takes_back_few}
 use Rattle.nqs_node.specs.Carried.{Kept}
 use Rattle.nqs_node.specs.Reading.{read_into, AreLiveReads}
 
@@ -19,7 +20,8 @@ use Rattle.nqs_node.specs.Reading.{read_into, AreLiveReads}
 pub record MayBeKept (host : Host) (bytes : List (List ℕ)) (change : Change Extent) : Type 0 where
   pub fit : IsTrue (fits change host)
   pub sane : IsTrue (is_sane_change change)
-  pub stands : MayStand change
+  pub few : IsTrue (takes_back_few change)
+  pub extents : AllByRecursion IsExtent (stored_parts change)
   pub as_many : length bytes ≡ length (stored_parts change)
   pub short : AllByRecursion IsShortPut bytes
 

@@ -14,6 +14,7 @@ ghost use Rattle.nqs_node.specs.Reading.{read_into, AreLiveReads};
 
 use crate::keep::keep;
 use crate::reads::read_all;
+use nqs_kept::laws::fitting_changes_may_stand;
 use nqs_outside::Disk;
 use nqs_store::{Store, StoreFault};
 use nqs_types::{Bytes, Change, HostState, Output, PlanRead};
@@ -58,7 +59,10 @@ pub(crate) fn perform<D: Disk>(
         Err(fault) => Err(fault),
         Ok(()) => match change {
             None => Ok(()),
-            Some(change) => keep(alloc, store, state, change, puts),
+            Some(change) => {
+                fitting_changes_may_stand(state, &change);
+                keep(alloc, store, state, change, puts)
+            }
         },
     }
 }
