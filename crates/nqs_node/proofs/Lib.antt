@@ -3,3 +3,4 @@ pub mod Sites
 pub mod Places
 pub mod Performing
 pub mod Planning
+pub mod Telling

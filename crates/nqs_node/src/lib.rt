@@ -6,6 +6,7 @@
 #![tactic(auto)]
 
 mod boot;
+mod carry;
 mod fault;
 mod keep;
 mod node;
