@@ -2,6 +2,8 @@
 use Rattle.std.proofs.Common.{◌≡◌, ℕ, ◌+◌, ◌<◌, ◌≤◌, ◌++◌, Bool, true, IsTrue, List, [], ◌∷◌, map, length, Option, option_map, Some, None, IfSome, refl, sym, ap, subst, ◌∙◌, append_assoc, arith, nat_le}
 use Rattle.std.specs.List.{AllByRecursion}
 use Rattle.std.proofs.lemmas.List.{length-map}
+use Rattle.std.proofs.lemmas.Option.{same_Some, none-some}
+use Rattle.nqs_types.specs.State.{Plain}
 use Rattle.nqs_types.specs.declared.extent.Extent.{Extent}
 use Rattle.nqs_types.specs.declared.change.OutPart.{OutPart}
 use Rattle.nqs_types.specs.declared.change.Change.{Change}
@@ -14,14 +16,15 @@ use Rattle.nqs_rules.specs.Edits.{change_at}
 use Rattle.nqs_rules.specs.Filled.{filled}
 use Rattle.nqs_rules.specs.Fits.{fits}
 use Rattle.nqs_rules.specs.Sane.{is_sane_change}
-use Rattle.nqs_rules.specs.Stepped.{Stepped, Pending, map_part, map_change, map_pending, map_stepped, part_bytes, stored_parts, no_extent, with_bytes, shown, puts_of, output_of, read_at, reads_from, plan_of}
+use Rattle.nqs_rules.specs.Start.{start}
+use Rattle.nqs_rules.specs.Stepped.{Stepped, Pending, quiet, map_part, map_change, map_pending, map_stepped, part_bytes, stored_parts, no_extent, with_bytes, shown, puts_of, output_of, read_at, reads_from, plan_of}
 use Rattle.nqs_rules.proofs.FilledLemmas.{filled-plan}
 use Rattle.nqs_rules.proofs.FitsPlain.{fits-change}
 use Rattle.nqs_store.specs.Puts.{IsShortPut}
 use Rattle.nqs_store.specs.Told.{Host}
 use Rattle.nqs_kept.specs.Offers.{takes_back_few}
 use Rattle.nqs_kept.specs.Reads.{IsLive, AreLive}
-use Rattle.nqs_node.specs.Carried.{Kept}
+use Rattle.nqs_node.specs.Carried.{Kept, started}
 use Rattle.nqs_node.specs.Planned.{MayBeKept, IsKeptWith, MayBeDone, Does}
 use Rattle.nqs_node.specs.Reading.{read_into, AreLiveReads}
 use Rattle.nqs_node.proofs.Shapes.{bare, sane_bare}
@@ -70,11 +73,11 @@ module _ (host : Host) where
 
   reads_live : (n : ℕ) (ps : List (Pending Extent)) → AreLive host ps → AreLiveReads host (reads_from n ps)
   reads_live n [] live = tt
-  reads_live n (p ∷ ps) live = one p.1 live.0
+  reads_live n (p ∷ ps) live = one p.1 live.0 (reads_live (n + 1) ps live.1)
     where
-      one : (o : Option Extent) → IsLive host o → AreLiveReads host (read_at n o ++ reads_from (n + 1) ps)
-      one None at = reads_live (n + 1) ps live.1
-      one (Some x) at = (at, reads_live (n + 1) ps live.1)
+      one : (o : Option Extent) → IsLive host o → AreLiveReads host (reads_from (n + 1) ps) → AreLiveReads host (read_at n o ++ reads_from (n + 1) ps)
+      one None at more = more
+      one (Some x) at more = (at, more)
 
 -- what is read goes behind the outputs that have their bytes
 
@@ -87,21 +90,24 @@ length_one [] v = refl
 length_one (x ∷ front) v = let h = length_one front v in omega (arith, h)
 
 module _ (bytes : Extent → List ℕ) where
-  said : List (Pending Extent) → List Output
+  abbrev said : List (Pending Extent) → List Output
   said ps = map shown (map (map_pending bytes) ps)
 
-  read_from : (front : List Output) (ps : List (Pending Extent)) → read_into bytes (reads_from (length front) ps) (front ++ map output_of ps) ≡ front ++ said ps
-  read_from front [] = refl
-  read_from front (p ∷ ps) = one p.1
-    where
-      on : (o : Output) → read_into bytes (reads_from (length front + 1) ps) (front ++ o ∷ map output_of ps) ≡ front ++ o ∷ said ps
-      on o =
-          (λ j. read_into bytes (reads_from (sym (length_one front o) j) ps) (sym (append_assoc front (o ∷ []) (map output_of ps)) j))
-          ∙ read_from (front ++ o ∷ []) ps ∙ append_assoc front (o ∷ []) (said ps)
+  abbrev GoesOn : List Output → List (Pending Extent) → Type 0
+  GoesOn front ps = read_into bytes (reads_from (length front) ps) (front ++ map output_of ps) ≡ front ++ said ps
 
-      one : (x : Option Extent) → read_into bytes (read_at (length front) x ++ reads_from (length front + 1) ps) (front ++ p.0 ∷ map output_of ps) ≡ front ++ shown (map_pending bytes (p.0, x)) ∷ said ps
-      one None = on p.0
-      one (Some x) = ap (read_into bytes (reads_from (length front + 1) ps)) (at_front front p.0 (map output_of ps) (with_bytes (bytes x))) ∙ on (with_bytes (bytes x) p.0)
+  read_from : (front : List Output) (ps : List (Pending Extent)) → GoesOn front ps
+  read_from front [] = refl
+  read_from front (p ∷ ps) = one p.1 (λ o. read_from (front ++ o ∷ []) ps)
+    where
+      on : (o : Output) → GoesOn (front ++ o ∷ []) ps → read_into bytes (reads_from (length front + 1) ps) (front ++ o ∷ map output_of ps) ≡ front ++ o ∷ said ps
+      on o goes =
+          (λ j. read_into bytes (reads_from (sym (length_one front o) j) ps) (sym (append_assoc front (o ∷ []) (map output_of ps)) j))
+          ∙ goes ∙ append_assoc front (o ∷ []) (said ps)
+
+      one : (x : Option Extent) → ((o : Output) → GoesOn (front ++ o ∷ []) ps) → read_into bytes (read_at (length front) x ++ reads_from (length front + 1) ps) (front ++ p.0 ∷ map output_of ps) ≡ front ++ shown (map_pending bytes (p.0, x)) ∷ said ps
+      one None goes = on p.0 (goes p.0)
+      one (Some x) goes = ap (read_into bytes (reads_from (length front + 1) ps)) (at_front front p.0 (map output_of ps) (with_bytes (bytes x))) ∙ on (with_bytes (bytes x) p.0) (goes (with_bytes (bytes x) p.0))
 
 kept_with : (done : Stepped Extent) (o : Kept) → done.change ≡ o → IsKeptWith (option_map bare o) (puts_of o) o
 kept_with done None is = record { is = refl; stored = refl }
@@ -117,3 +123,32 @@ module _ (done : Stepped Extent) (plan : Plan) (is : plan ≡ plan_of done) wher
 
   pub does : (bytes : Extent → List ℕ) → Does bytes plan (map_stepped bytes done)
   does bytes = subst (λ (p : Plan). Does bytes p (map_stepped bytes done)) (sym is) (record { kept = kept_with done done.change refl; said = read_from bytes [] done.outputs })
+
+-- starts
+
+-- the plan is that of the next start
+pub record IsNext (now : ℕ) (host : Host) (plan : Plan) : Type 0 where
+  pub done : Stepped Extent
+  pub picked : start now host ≡ Some done
+  pub is : plan ≡ plan_of done
+
+pub next_is : (now : ℕ) (host : Host) (plan : Plan) → Some plan ≡ option_map plan_of (start now host) → IsNext now host plan
+next_is now host plan = by (start now host) refl
+  where
+    by : (o : Option (Stepped Extent)) → start now host ≡ o → Some plan ≡ option_map plan_of o → IsNext now host plan
+    by None picked is = absurd (none-some plan (sym is))
+    by (Some done) picked is = record { done = done; picked = picked; is = same_Some plan (plan_of done) is }
+
+pub at_next : (P : Stepped Extent → Type 0) (now : ℕ) (host : Host) (plan : Plan) (next : IsNext now host plan) → IfSome (start now host) P → P next.done
+at_next P now host plan next all = let h : IfSome (Some next.done) P = subst (λ (o : Option (Stepped Extent)). IfSome o P) next.picked all in h
+
+-- what is started, where it is known
+pub started_is : (now : ℕ) (s : Plain) (o : Option (Stepped (List ℕ))) → start now s ≡ o → started now s ≡ (elim o [ None ↦ quiet | Some x ↦ x ])
+started_is now s o is = ap (λ (o : Option (Stepped (List ℕ))). let x : Stepped (List ℕ) = elim o [ None ↦ quiet | Some x ↦ x ] in x) is
+
+pub none_next : (now : ℕ) (host : Host) → None ≡ option_map plan_of (start now host) → start now host ≡ None
+none_next now host = by (start now host) refl
+  where
+    by : (o : Option (Stepped Extent)) → start now host ≡ o → None ≡ option_map plan_of o → start now host ≡ None
+    by None picked is = picked
+    by (Some done) picked is = absurd (none-some (plan_of done) is)

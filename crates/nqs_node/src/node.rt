@@ -19,7 +19,9 @@ use crate::fault::NodeFault;
 use nqs_kept::laws::{few_offers_are_taken_back, outputs_read_live_extents, stored_bytes_are_short};
 use nqs_outside::{Disk, Fused};
 use nqs_rules::laws::step_looks_at_no_bytes;
-use nqs_rules::order_laws::step_fits;
+use nqs_rules::order_laws::{start_fits, step_fits};
+use nqs_rules::start_laws::start_looks_at_no_bytes;
+use nqs_step::start::start;
 use nqs_step::step::step;
 use nqs_store::{Disks, LoadFault, Store};
 use nqs_types::{Event, HostState, Memory, Output, Which};
@@ -75,16 +77,14 @@ impl<D: Disk> Node<D> {
         if self.stopped {
             return Err(NodeFault::Stopped);
         }
+        step_looks_at_no_bytes();
+        step_fits();
+        few_offers_are_taken_back();
+        stored_bytes_are_short();
+        outputs_read_live_extents();
         match step(alloc, &self.state, event) {
             Err(Memory) => Err(NodeFault::Memory),
-            Ok(plan) => {
-                step_looks_at_no_bytes();
-                step_fits();
-                few_offers_are_taken_back();
-                stored_bytes_are_short();
-                outputs_read_live_extents();
-                self.carry_out(alloc, plan, out)
-            }
+            Ok(plan) => self.carry_out(alloc, plan, out),
         }
     }
 
@@ -128,7 +128,19 @@ impl<D: Disk> Node<D> {
         if self.stopped {
             return Err(NodeFault::Stopped);
         }
-        Err(NodeFault::Memory)
+        start_looks_at_no_bytes();
+        start_fits();
+        few_offers_are_taken_back();
+        stored_bytes_are_short();
+        outputs_read_live_extents();
+        match start(alloc, &self.state, now) {
+            Err(Memory) => Err(NodeFault::Memory),
+            Ok(None) => Ok(false),
+            Ok(Some(plan)) => match self.carry_out(alloc, plan, out) {
+                Err(fault) => Err(fault),
+                Ok(()) => Ok(true),
+            },
+        }
     }
 
     /// The host's state.
