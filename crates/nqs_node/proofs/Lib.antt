@@ -4,3 +4,4 @@ pub mod Places
 pub mod Performing
 pub mod Planning
 pub mod Telling
+pub mod Booting
