@@ -4,4 +4,16 @@ pub mod Telling
 pub mod Loading
 pub mod Never
 pub mod TellsNow
-pub mod Nothing
+pub mod Extents
+pub mod Filled
+pub mod Outputs
+pub mod Runs
+pub mod Putting
+pub mod Freeing
+pub mod Accounts
+pub mod HostRuns
+pub mod Lengths
+pub mod PlainSame
+pub mod Committed
+pub mod Ends
+pub mod Rooms

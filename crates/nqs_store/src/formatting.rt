@@ -37,7 +37,7 @@ pub(crate) fn written(alloc: Global, change: &Change) -> Result<Vec<u8>, StoreFa
 }
 
 // A record is read as the change that it was written of: a law, which callers call for its contract.
-fn read_back(text: &[u8], change: &Change)
+pub(crate) fn read_back(text: &[u8], change: &Change)
     ensures { MayStand change.now → text.now ≡ spelling change.now → record_of text.now ≡ Ok change.now }
 {}
 
