@@ -1,5 +1,5 @@
 -- What a boot says, and what disks tell before it.
-use Rattle.std.proofs.Common.{◌≡◌, ◌⊎◌, inl, inr, ℕ, ◌+◌, ◌++◌, IsTrue, List, [], ◌∷◌, map, take, slice_get, Option, Some, None, refl, sym, ap, subst, ◌∙◌}
+use Rattle.std.proofs.Common.{◌≡◌, inl, ℕ, ◌+◌, ◌++◌, List, [], ◌∷◌, map, take, slice_get, Option, Some, None, refl, sym, ap, subst, ◌∙◌}
 use Rattle.std.specs.List.{filter_map, cons_option}
 use Rattle.std.specs.Option.{option_to_list}
 use Rattle.std.proofs.lemmas.List.{append-nil, map-append}
@@ -54,13 +54,13 @@ no_calls h = ap (λ (l : List Call). let e : History = record { start = h.start;
 -- where nothing is pending and no call is made, each moment's images tell what a read tells
 pub quiet_one : (old : Which → History) → IsQuiet (old First) → IsQuiet (old Spool) → (s : Plain) → IsTold (content (old First)) (content (old Spool)) s → (kept : Kept) → IsOneOrOther old old kept s
 quiet_one old first spool s told kept = (
-    [],
-    λ which. no_calls (old which),
-    λ j images within leaves.
+  [],
+  λ which. no_calls (old which),
+  λ j images within leaves.
       let now = λ (which : Which). subst (λ l. IsImage (after (state (old which)) (part which l)) (images which)) (take-nil j) (leaves which) in
       inl (subst (λ bytes. IsTold bytes (images Spool) s) (only (old First) (images First) first (now First))
-        (subst (λ bytes. IsTold (content (old First)) bytes s) (only (old Spool) (images Spool) spool (now Spool)) told)),
-  )
+      (subst (λ bytes. IsTold (content (old First)) bytes s) (only (old Spool) (images Spool) spool (now Spool)) told)),
+)
 
 -- the host that was opened is the one that the disks tell
 pub loaded_is : {D : Type 0} {g : disk.Ghosts D} (store : Store D g) (host told : Host) (bytes : List ℕ) (s : Plain) → content (history_of store Spool) ≡ bytes → host ≡ told → map_state (bytes_at bytes) told ≡ s → plain_of store host ≡ s

@@ -1,5 +1,5 @@
 -- What is kept, seen from before the reads that come first.
-use Rattle.std.proofs.Common.{◌≡◌, ◌⊎◌, inl, inr, ℕ, Bool, IsTrue, List, Option, option_map, None, Some, refl, sym, ap, subst, ◌∙◌}
+use Rattle.std.proofs.Common.{◌≡◌, ℕ, Bool, IsTrue, List, Option, option_map, None, Some, sym, ap, subst, ◌∙◌}
 use Rattle.nqs_types.specs.State.{Plain}
 use Rattle.nqs_types.specs.declared.extent.Extent.{Extent}
 use Rattle.nqs_types.specs.declared.change.Change.{Change}
@@ -50,9 +50,6 @@ module _ {D : Type 0} {g : disk.Ghosts D} (old mid : Store D g) (same : (which :
 
 module _ (fails since : Which → ℕ → Bool) (old mid now : Which → History) (fuse : (which : Which) (i : ℕ) → since which i ≡ fails which i) (same : (which : Which) → mid which ≡ old which)
     (c : Change Extent) (bytes : List (List ℕ)) (kept : Kept) (with : IsKeptWith (Some c) bytes kept) where
-  all : Change (List ℕ)
-  all = filled c bytes
-
   stored : bytes ≡ stored_parts (filled c bytes)
   stored = with.stored ∙ sym (ap puts_of with.is)
 

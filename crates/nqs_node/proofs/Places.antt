@@ -1,8 +1,6 @@
 -- Lists by places, and reads from a store that hasn't changed.
-use Rattle.std.proofs.Common.{◌≡◌, ℕ, zero, suc, ◌+◌, ◌<◌, ◌≤◌, List, [], ◌∷◌, Bool, IsTrue, length, get_or, slice_set, refl, sym, ap, subst, ◌∙◌, arith}
+use Rattle.std.proofs.Common.{◌≡◌, ℕ, zero, suc, ◌<◌, ◌≤◌, List, [], ◌∷◌, Bool, length, get_or, slice_set, refl, sym, ap, subst, ◌∙◌, arith}
 use Rattle.std.specs.List.{AllByRecursion}
-use Rattle.nqs_types.specs.declared.extent.Extent.{Extent}
-use Rattle.nqs_types.specs.declared.event.PlanRead.{PlanRead}
 use Rattle.nqs_outside.specs.Causes.{Rose}
 use Rattle.nqs_outside.specs.History.{History, moment}
 use Rattle.nqs_rules.specs.Edits.{change_at}
@@ -28,6 +26,3 @@ rose_since a b c later rose = omega (arith, later, rose)
 
 pub blown_since : (f g : ℕ → Bool) (h k : History) → ((i : ℕ) → g i ≡ f i) → h ≡ k → IsBlown g h → IsBlown f k
 blown_since f g h k fuse same blown = (blown.0, subst (λ x. blown.0 < moment x) same blown.1, sym (fuse blown.0) ∙ blown.2)
-
-pub no_read : PlanRead
-no_read = record { output = 0; extent = record { place = 0; length = 0 } }

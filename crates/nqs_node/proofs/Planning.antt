@@ -1,5 +1,5 @@
 -- The plan of what is done at a host may be carried out, and does it.
-use Rattle.std.proofs.Common.{◌≡◌, ℕ, ◌+◌, ◌<◌, ◌≤◌, ◌++◌, Bool, true, IsTrue, List, [], ◌∷◌, map, length, Option, option_map, Some, None, IfSome, refl, sym, ap, subst, ◌∙◌, append_assoc, arith, nat_le}
+use Rattle.std.proofs.Common.{◌≡◌, ℕ, ◌+◌, ◌++◌, IsTrue, List, [], ◌∷◌, map, length, Option, option_map, Some, None, IfSome, refl, sym, ap, subst, ◌∙◌, append_assoc, arith}
 use Rattle.std.specs.List.{AllByRecursion}
 use Rattle.std.proofs.lemmas.List.{length-map}
 use Rattle.std.proofs.lemmas.Option.{same_Some, none-some}
@@ -7,17 +7,16 @@ use Rattle.nqs_types.specs.State.{Plain}
 use Rattle.nqs_types.specs.declared.extent.Extent.{Extent}
 use Rattle.nqs_types.specs.declared.change.OutPart.{OutPart}
 use Rattle.nqs_types.specs.declared.change.Change.{Change}
-use Rattle.nqs_types.specs.declared.change.Change.TheVariants.{Ended, Boot, HandsSilent, Submitted, Promised, StageGot}
+use Rattle.nqs_types.specs.declared.change.Change.TheVariants.{Ended, Boot, HandsSilent}
 use Rattle.nqs_types.specs.declared.event.Output.{Output}
 use Rattle.nqs_types.specs.declared.event.Plan.{Plan}
-use Rattle.nqs_types.specs.declared.event.PlanRead.{PlanRead}
 use Rattle.nqs_records.specs.Values.{IsExtent}
 use Rattle.nqs_rules.specs.Edits.{change_at}
 use Rattle.nqs_rules.specs.Filled.{filled}
 use Rattle.nqs_rules.specs.Fits.{fits}
 use Rattle.nqs_rules.specs.Sane.{is_sane_change}
 use Rattle.nqs_rules.specs.Start.{start}
-use Rattle.nqs_rules.specs.Stepped.{Stepped, Pending, quiet, map_part, map_change, map_pending, map_stepped, part_bytes, stored_parts, no_extent, with_bytes, shown, puts_of, output_of, read_at, reads_from, plan_of}
+use Rattle.nqs_rules.specs.Stepped.{Stepped, Pending, quiet, map_part, map_pending, map_stepped, part_bytes, stored_parts, no_extent, with_bytes, shown, puts_of, output_of, read_at, reads_from, plan_of}
 use Rattle.nqs_rules.proofs.FilledLemmas.{filled-plan}
 use Rattle.nqs_rules.proofs.FitsPlain.{fits-change}
 use Rattle.nqs_store.specs.Puts.{IsShortPut}
@@ -60,7 +59,7 @@ none_stand (b ∷ bs) = ((omega arith, refl), none_stand bs)
 
 module _ (host : Host) where
   change_may : (o : Kept) → IfSome o (λ c. IsTrue (fits c host) × IsTrue (is_sane_change c)) → IfSome o (λ c. IsTrue (takes_back_few c)) → AllByRecursion IsShortPut (puts_of o)
-    → IfSome (option_map bare o) (MayBeKept host (puts_of o))
+      → IfSome (option_map bare o) (MayBeKept host (puts_of o))
   change_may None fit few short = tt
   change_may (Some c) fit few short = record {
     fit = fits-change (λ _. no_extent) c host ∙ fit.0;

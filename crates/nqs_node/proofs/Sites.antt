@@ -28,7 +28,7 @@ use Rattle.nqs_rules.specs.Find.{peer_number, has_row, meant_request, find_hand,
 use Rattle.nqs_rules.specs.Edits.{drop_row}
 use Rattle.nqs_rules.specs.Rows.{change_meant, held_row, released_row, moved_row, with_priority, next_arrival}
 use Rattle.nqs_rules.specs.Fits.{fits}
-use Rattle.nqs_rules.specs.Applied.{applied, add_file, add_stage, add_stage_to, add_output, add_outputs, hand_committed, hand_refused, hand_silent, hands_silent, drop_promise, accepted, edit_applied}
+use Rattle.nqs_rules.specs.Applied.{applied, add_file, add_stage_to, add_output, add_outputs, hand_committed, hand_refused, hand_silent, hands_silent, drop_promise, accepted, edit_applied}
 
 module _ {E : Type 0} where
   either : (b : Bool) (n : List (List ℕ)) (x y : State E) → x.site ≡ n → y.site ≡ n → (if b then x else y).site ≡ n

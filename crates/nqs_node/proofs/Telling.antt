@@ -1,5 +1,5 @@
 -- What a node tells, where nothing happened to it.
-use Rattle.std.proofs.Common.{◌≡◌, ℕ, IsTrue, Bool, false, List, Option, option_map, Some, None, refl, sym, ap, subst, ◌∙◌}
+use Rattle.std.proofs.Common.{◌≡◌, ℕ, IsTrue, false, List, Option, option_map, Some, None, refl, sym, ap, subst, ◌∙◌}
 use Rattle.nqs_types.specs.State.{Plain}
 use Rattle.nqs_types.specs.declared.change.Change.{Change}
 use Rattle.nqs_types.specs.declared.extent.Extent.{Extent}

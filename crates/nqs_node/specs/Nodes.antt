@@ -6,7 +6,6 @@ use Rattle.nqs_types.specs.declared.world.Which.{Which}
 use Rattle.nqs_outside.specs.History.{History}
 use Rattle.nqs_outside.specs.declared.disk.Disk as disk
 use Rattle.nqs_store.specs.Stores as store
-use Rattle.nqs_store.specs.declared.store.Store.{Store}
 use Rattle.nqs_node.specs.declared.node.Node.{Node}
 
 module _ {D : Type 0} {g : disk.Ghosts D} where

@@ -62,7 +62,15 @@ impl<D: Disk> Node<D> {
                 // What fails from here on leaves the node stopped, but for want of memory.
                 self.stopped = true;
                 let (store, state) = (&mut self.store, &mut self.state);
-                match perform(alloc, store, state, change, puts.as_slice(), reads.as_slice(), &mut outputs) {
+                match perform(
+                    alloc,
+                    store,
+                    state,
+                    change,
+                    puts.as_slice(),
+                    reads.as_slice(),
+                    &mut outputs,
+                ) {
                     Err(StoreFault::Memory) => {
                         self.stopped = false;
                         Err(NodeFault::Memory)

@@ -16,7 +16,9 @@ ghost use Rattle.nqs_store.specs.Stores.{is_stopped as is_store_stopped};
 ghost use Rattle.nqs_node.specs.Carried.{started, IsMade, IsCutBy, IsBrokenOff, IsOneOrOther, IsBlown};
 
 use crate::fault::NodeFault;
-use nqs_kept::laws::{few_offers_are_taken_back, outputs_read_live_extents, stored_bytes_are_short};
+use nqs_kept::laws::{
+    few_offers_are_taken_back, outputs_read_live_extents, stored_bytes_are_short,
+};
 use nqs_outside::{Disk, Fused};
 use nqs_rules::laws::step_looks_at_no_bytes;
 use nqs_rules::order_laws::{start_fits, step_fits};

@@ -1,4 +1,4 @@
-use Rattle.std.proofs.Common.{◌≡◌, ◌++◌, ◌+◌, take, sym, ◌∙◌}
+use Rattle.std.proofs.Common.{◌++◌, sym, ◌∙◌}
 use Rattle.std.specs.Option.{option_to_list}
 use Rattle.nqs_rules.specs.Plain.{map_row}
 use Rattle.nqs_rules.specs.World.{boot_output}

@@ -1,4 +1,4 @@
-use Rattle.std.proofs.Common.{◌≡◌, ◌++◌, sym, ap, ◌∙◌}
+use Rattle.std.proofs.Common.{◌++◌, sym, ap, ◌∙◌}
 use Rattle.std.specs.Option.{option_to_list}
 use Rattle.std.proofs.lemmas.List.{append-nil}
 use Rattle.nqs_node.proofs.boot.say.Goals as goal

@@ -1,11 +1,10 @@
-use Rattle.std.proofs.Common.{◌≡◌, ◌⊎◌, refl, sym, ap, subst, ◌∙◌, IsTrue}
+use Rattle.std.proofs.Common.{◌⊎◌, sym, ap, subst, ◌∙◌, IsTrue}
 use Rattle.nqs_types.specs.State.{State, content}
 use Rattle.nqs_types.specs.declared.extent.Extent.{Extent}
 use Rattle.nqs_types.specs.declared.world.Which.TheVariants.{First, Spool}
 use Rattle.nqs_rules.specs.Applied.{applied}
 use Rattle.nqs_rules.specs.Filled.{filled}
 use Rattle.nqs_rules.specs.Fits.{fits}
-use Rattle.nqs_rules.specs.InOrder.{IsInOrder, IsConsistent}
 use Rattle.nqs_store.specs.Sound.{IsSoundHost}
 use Rattle.nqs_store.specs.Stores.{history_of, fails_of, is_starved, plain_of, Tells}
 use Rattle.nqs_store.specs.Commits.{IsCutAt}
@@ -32,7 +31,7 @@ pub returns-in-Err-commit-clause-cut : goal.returns-in-Err-commit-clause-cut
 returns-in-Err-commit-clause-cut g c = λ tells told which failed.
     let same = c.make_room.ensures.content in
     subst (λ (h : State Extent). IsTrue (is_starved c.commit.new.self which)
-        ⊎ IsCutAt (fails_of c.args.store.now) c.args.puts.now (history_of c.args.store.now) (history_of c.commit.new.self) (plain_of c.args.store.now h) (applied (filled c.args.change c.args.puts.now) (plain_of c.args.store.now h)) which)
+    ⊎ IsCutAt (fails_of c.args.store.now) c.args.puts.now (history_of c.args.store.now) (history_of c.commit.new.self) (plain_of c.args.store.now h) (applied (filled c.args.change c.args.puts.now) (plain_of c.args.store.now h)) which)
     same (c.in-Err-commit.ensures.cut tells (subst (Tells c.args.store.now) (sym same) told) which failed)
 
 pub apply-requires-clause-sane : goal.apply-requires-clause-sane

@@ -1,4 +1,4 @@
-use Rattle.std.proofs.Common.{◌≡◌, ◌<◌, ◌≤◌, length, slice_set, ap, ◌∙◌, arith}
+use Rattle.std.proofs.Common.{slice_set, ap, ◌∙◌, arith}
 use Rattle.nqs_rules.specs.Stepped.{with_bytes}
 use Rattle.nqs_node.proofs.Places.{set_at, none_at}
 use Rattle.nqs_node.proofs.reads.fill_at.Goals as goal

@@ -1,4 +1,4 @@
-use Rattle.std.proofs.Common.{◌≡◌, ◌+◌, ◌<◌, drop, refl, sym, ap, ◌∙◌, arith, get_or}
+use Rattle.std.proofs.Common.{◌+◌, drop, sym, ap, ◌∙◌, arith, get_or}
 use Rattle.std.proofs.lemmas.List.{at_drop_more, at_drop_all}
 use Rattle.std.proofs.lemmas.Result.{err_from_is_err_and}
 use Rattle.nqs_types.specs.declared.world.Which.TheVariants.{Spool}
@@ -7,7 +7,7 @@ use Rattle.nqs_outside.specs.History.{History, content}
 use Rattle.nqs_rules.specs.Edits.{change_at}
 use Rattle.nqs_rules.specs.Stepped.{with_bytes}
 use Rattle.nqs_store.specs.Live.{bytes_at}
-use Rattle.nqs_store.specs.Stores.{disk_of, history_of, fails_of, bytes_of}
+use Rattle.nqs_store.specs.Stores.{history_of, fails_of, bytes_of}
 use Rattle.nqs_node.specs.Reading.{read_into, IsLiveRead}
 use Rattle.nqs_node.proofs.Places.{all_at, rose_since, blown_since}
 use Rattle.nqs_node.proofs.reads.read_all.Goals as goal

@@ -9,7 +9,7 @@ use Rattle.nqs_node.proofs.reads.read_all.Given as goal
 abbrev pub invariant-loop-read : goal.invariant-loop-read
 invariant-loop-read g l = record {
   filled : IsTrue g.D.Disk.tells → (host : Host) → Tells l.fn.store host → AreLiveReads host l.reads
-    → read_into (bytes_of l.fn.store) (drop l.read-index l.reads) l.outputs.items ≡ read_into (bytes_of l.fn.store) l.reads l.fn.outputs.items;
+      → read_into (bytes_of l.fn.store) (drop l.read-index l.reads) l.outputs.items ≡ read_into (bytes_of l.fn.store) l.reads l.fn.outputs.items;
   as_many : length l.outputs.items ≡ length l.fn.outputs.items;
   same : IsTrue g.D.Disk.tells → (which : Which) → history_of l.store which ≡ history_of l.fn.store which;
   fuse : IsTrue g.D.Disk.tells → (which : Which) (i : ℕ) → fails_of l.store which i ≡ fails_of l.fn.store which i;

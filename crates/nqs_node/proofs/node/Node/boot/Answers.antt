@@ -1,4 +1,4 @@
-use Rattle.std.proofs.Common.{◌≡◌, ◌⊎◌, inl, inr, ℕ, ◌++◌, IsTrue, Err, [], Some, refl, sym, ap, subst, ◌∙◌}
+use Rattle.std.proofs.Common.{◌⊎◌, inl, inr, ◌++◌, IsTrue, Err, [], Some, refl, sym, ap, subst, ◌∙◌}
 use Rattle.std.specs.List.{filter_map}
 use Rattle.nqs_types.specs.State.{Plain, content}
 use Rattle.nqs_types.specs.declared.change.Change.TheVariants.{Boot}
@@ -47,7 +47,7 @@ pub returns-in-Err-begin-clause-broken_off : goal.returns-in-Err-begin-clause-br
 returns-in-Err-begin-clause-broken_off g c = λ yes.
     subst (λ (h : Which → History). IsBrokenOff (histories_of g.D.Disk.history c.args.disks) h (Some Boot)) (λ j which. g.D.Disk.history (sym (c.close.ensures which) j))
     (broken_since (failing_of g.D.Disk.fails c.args.disks) (fails_of c.in-Ok.store) (histories_of g.D.Disk.history c.args.disks) (history_of c.in-Ok.store) (history_of c.begin.new.store)
-      (c.in-Ok.ensures.fuse yes) (c.in-Ok.ensures.same yes) Boot [] (Some Boot) boot_kept (c.in-Err-begin.ensures.broken_off yes))
+    (c.in-Ok.ensures.fuse yes) (c.in-Ok.ensures.same yes) Boot [] (Some Boot) boot_kept (c.in-Err-begin.ensures.broken_off yes))
 
 either : {A B C X Y : Type 0} → (A → X) → (B → Y) → A ⊎ B → X ⊎ (C ⊎ Y)
 either f h (inl a) = inl (f a)
@@ -57,18 +57,18 @@ pub returns-in-Err-begin-clause-cut : goal.returns-in-Err-begin-clause-cut
 returns-in-Err-begin-clause-cut g c = λ yes s is which failed.
     either (subst (λ d. IsTrue (g.D.Disk.starved d)) (sym (c.close.ensures which)))
     (λ k. subst (λ (h : Which → History). IsCutBy (failing_of g.D.Disk.fails c.args.disks) (histories_of g.D.Disk.history c.args.disks) h (Some Boot) s which) (λ j which. g.D.Disk.history (sym (c.close.ensures which) j))
-      (cut_since (failing_of g.D.Disk.fails c.args.disks) (fails_of c.in-Ok.store) (histories_of g.D.Disk.history c.args.disks) (history_of c.in-Ok.store) (history_of c.begin.new.store)
-      (c.in-Ok.ensures.fuse yes) (c.in-Ok.ensures.same yes) Boot [] (Some Boot) boot_kept
-        (plain_of c.in-Ok.store (content c.in-Ok.state)) s (loaded_is c.in-Ok.store (content c.in-Ok.state) is.host (bytes_now (g.D.Disk.history (disk_at Spool c.args.disks))) s (ap bytes_now (c.in-Ok.ensures.same yes Spool)) (c.in-Ok.ensures.told yes is.payloads is.stands is.host is.tells) is.bytes) which k))
+    (cut_since (failing_of g.D.Disk.fails c.args.disks) (fails_of c.in-Ok.store) (histories_of g.D.Disk.history c.args.disks) (history_of c.in-Ok.store) (history_of c.begin.new.store)
+    (c.in-Ok.ensures.fuse yes) (c.in-Ok.ensures.same yes) Boot [] (Some Boot) boot_kept
+    (plain_of c.in-Ok.store (content c.in-Ok.state)) s (loaded_is c.in-Ok.store (content c.in-Ok.state) is.host (bytes_now (g.D.Disk.history (disk_at Spool c.args.disks))) s (ap bytes_now (c.in-Ok.ensures.same yes Spool)) (c.in-Ok.ensures.told yes is.payloads is.stands is.host is.tells) is.bytes) which k))
     (c.in-Err-begin.ensures.cut yes (c.in-Ok.ensures.tells yes) which (ap Err failed))
 
 pub returns-in-Err-begin-clause-any_moment : goal.returns-in-Err-begin-clause-any_moment
 returns-in-Err-begin-clause-any_moment g c = λ yes s is.
     subst (λ (h : Which → History). IsOneOrOther (histories_of g.D.Disk.history c.args.disks) h (Some Boot) s) (λ j which. g.D.Disk.history (sym (c.close.ensures which) j))
     (moments_since (failing_of g.D.Disk.fails c.args.disks) (fails_of c.in-Ok.store) (histories_of g.D.Disk.history c.args.disks) (history_of c.in-Ok.store) (history_of c.begin.new.store)
-      (c.in-Ok.ensures.fuse yes) (c.in-Ok.ensures.same yes) Boot [] (Some Boot) boot_kept
-      (plain_of c.in-Ok.store (content c.in-Ok.state)) s (loaded_is c.in-Ok.store (content c.in-Ok.state) is.host (bytes_now (g.D.Disk.history (disk_at Spool c.args.disks))) s (ap bytes_now (c.in-Ok.ensures.same yes Spool)) (c.in-Ok.ensures.told yes is.payloads is.stands is.host is.tells) is.bytes)
-      (c.begin.ensures.any_moment yes (c.in-Ok.ensures.tells yes)))
+    (c.in-Ok.ensures.fuse yes) (c.in-Ok.ensures.same yes) Boot [] (Some Boot) boot_kept
+    (plain_of c.in-Ok.store (content c.in-Ok.state)) s (loaded_is c.in-Ok.store (content c.in-Ok.state) is.host (bytes_now (g.D.Disk.history (disk_at Spool c.args.disks))) s (ap bytes_now (c.in-Ok.ensures.same yes Spool)) (c.in-Ok.ensures.told yes is.payloads is.stands is.host is.tells) is.bytes)
+    (c.begin.ensures.any_moment yes (c.in-Ok.ensures.tells yes)))
 
 pub returns-in-Ok-begin-clause-told : goal.returns-in-Ok-begin-clause-told
 returns-in-Ok-begin-clause-told g c = λ yes s is. record {
@@ -84,11 +84,11 @@ returns-in-Ok-begin-clause-outputs g c = λ yes s is.
 pub returns-in-Ok-begin-clause-made : goal.returns-in-Ok-begin-clause-made
 returns-in-Ok-begin-clause-made g c = λ yes.
     made_since (failing_of g.D.Disk.fails c.args.disks) (fails_of c.in-Ok.store) (histories_of g.D.Disk.history c.args.disks) (history_of c.in-Ok.store) (history_of c.begin.new.store)
-      (c.in-Ok.ensures.fuse yes) (c.in-Ok.ensures.same yes) Boot [] (Some Boot) boot_kept (c.in-Ok-begin.ensures.made yes)
+    (c.in-Ok.ensures.fuse yes) (c.in-Ok.ensures.same yes) Boot [] (Some Boot) boot_kept (c.in-Ok-begin.ensures.made yes)
 
 pub returns-in-Ok-begin-clause-any_moment : goal.returns-in-Ok-begin-clause-any_moment
 returns-in-Ok-begin-clause-any_moment g c = λ yes s is.
     moments_since (failing_of g.D.Disk.fails c.args.disks) (fails_of c.in-Ok.store) (histories_of g.D.Disk.history c.args.disks) (history_of c.in-Ok.store) (history_of c.begin.new.store)
-      (c.in-Ok.ensures.fuse yes) (c.in-Ok.ensures.same yes) Boot [] (Some Boot) boot_kept
-      (plain_of c.in-Ok.store (content c.in-Ok.state)) s (loaded_is c.in-Ok.store (content c.in-Ok.state) is.host (bytes_now (g.D.Disk.history (disk_at Spool c.args.disks))) s (ap bytes_now (c.in-Ok.ensures.same yes Spool)) (c.in-Ok.ensures.told yes is.payloads is.stands is.host is.tells) is.bytes)
-      (c.begin.ensures.any_moment yes (c.in-Ok.ensures.tells yes))
+    (c.in-Ok.ensures.fuse yes) (c.in-Ok.ensures.same yes) Boot [] (Some Boot) boot_kept
+    (plain_of c.in-Ok.store (content c.in-Ok.state)) s (loaded_is c.in-Ok.store (content c.in-Ok.state) is.host (bytes_now (g.D.Disk.history (disk_at Spool c.args.disks))) s (ap bytes_now (c.in-Ok.ensures.same yes Spool)) (c.in-Ok.ensures.told yes is.payloads is.stands is.host is.tells) is.bytes)
+    (c.begin.ensures.any_moment yes (c.in-Ok.ensures.tells yes))

@@ -1,8 +1,6 @@
 use Rattle.std.proofs.Common.{◌≡◌, ◌⊎◌, IsTrue, Err, refl, sym, ap, subst, ◌∙◌}
 use Rattle.nqs_types.specs.State.{Plain}
-use Rattle.nqs_types.specs.declared.world.Which.{Which}
 use Rattle.nqs_store.specs.Stores as store
-use Rattle.nqs_store.specs.declared.fault.StoreFault.{StoreFault}
 use Rattle.nqs_store.specs.declared.fault.StoreFault.TheVariants as fault
 use Rattle.nqs_node.specs.Carried.{IsOneOrOther, IsBlown, IsCutBy}
 use Rattle.nqs_node.specs.Nodes.{history_of, fails_of}
@@ -30,9 +28,9 @@ pub returns-in-Err-Disk-clause-cut : goal.returns-in-Err-Disk-clause-cut
 returns-in-Err-Disk-clause-cut g c = λ yes s told done does which failed.
     let same : c.in-Err-Disk.which ≡ which = cc in
     subst (λ (p : Plain). IsTrue (store.is_starved c.perform.new.store which) ⊎ (IsBlown (fails_of c.args.self.now which) (history_of c.args.self.now which)
-        ⊎ IsCutBy (fails_of c.args.self.now) (history_of c.args.self.now) (store.history_of c.perform.new.store) done.change p which)) told.is
+    ⊎ IsCutBy (fails_of c.args.self.now) (history_of c.args.self.now) (store.history_of c.perform.new.store) done.change p which)) told.is
     (c.in-Err-Disk.ensures.cut yes told.told done.change (kept_from c.args.plan.change c.as_slice.result.now c.args.plan.puts done.change c.as_slice.ensures does.kept) which
-      (ap Err (c.in-Err-Disk.field-0-is ∙ ap fault.Disk same)))
+    (ap Err (c.in-Err-Disk.field-0-is ∙ ap fault.Disk same)))
 
 pub returns-in-Err-Disk-clause-any_moment : goal.returns-in-Err-Disk-clause-any_moment
 returns-in-Err-Disk-clause-any_moment g c = λ yes s told done does.

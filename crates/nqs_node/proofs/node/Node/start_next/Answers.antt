@@ -1,12 +1,10 @@
-use Rattle.std.proofs.Common.{◌≡◌, ◌⊎◌, ◌++◌, IsTrue, IsErrOf, Err, IfSome, List, ℕ, Bool, Option, is_some, map, refl, sym, ap, subst, ◌∙◌}
+use Rattle.std.proofs.Common.{◌≡◌, ◌++◌, IsTrue, IsErrOf, Err, IfSome, List, ℕ, is_some, map, refl, sym, ap, subst, ◌∙◌}
 use Rattle.std.specs.List.{AllByRecursion}
 use Rattle.std.proofs.lemmas.List.{append-nil}
-use Rattle.nqs_types.specs.declared.extent.Extent.{Extent}
 use Rattle.nqs_rules.specs.Fits.{fits}
 use Rattle.nqs_rules.specs.Sane.{is_sane_change}
-use Rattle.nqs_rules.specs.Start.{start}
 use Rattle.nqs_rules.specs.Starts.{after_step}
-use Rattle.nqs_rules.specs.Stepped.{Stepped, quiet, shown, puts_of}
+use Rattle.nqs_rules.specs.Stepped.{Stepped, shown, puts_of}
 use Rattle.nqs_store.specs.Puts.{IsShortPut}
 use Rattle.nqs_kept.specs.Offers.{takes_back_few}
 use Rattle.nqs_kept.specs.Reads.{AreLive}
@@ -46,19 +44,19 @@ returns-in-Ok-None-clause-more g c = sym (ap is_some (none_next c.args.now (cont
 pub returns-in-Ok-None-clause-told : goal.returns-in-Ok-None-clause-told
 returns-in-Ok-None-clause-told g c = λ yes s told.
     let still = quiet_next c.args.self.now s told c.args.now (c.start_looks_at_no_bytes.ensures.start (bytes_of c.args.self.now) c.args.now (content_of c.args.self.now))
-        (none_next c.args.now (content_of c.args.self.now) (sym c.in-Ok-None.field-0-is ∙ c.in-Ok-None.ensures)) in
+    (none_next c.args.now (content_of c.args.self.now) (sym c.in-Ok-None.field-0-is ∙ c.in-Ok-None.ensures)) in
     subst (λ (x : Stepped (List ℕ)). Tells c.args.self.now (after_step x s)) (sym still) told
 
 pub returns-in-Ok-None-clause-outputs : goal.returns-in-Ok-None-clause-outputs
 returns-in-Ok-None-clause-outputs g c = λ yes s told.
     let still = quiet_next c.args.self.now s told c.args.now (c.start_looks_at_no_bytes.ensures.start (bytes_of c.args.self.now) c.args.now (content_of c.args.self.now))
-        (none_next c.args.now (content_of c.args.self.now) (sym c.in-Ok-None.field-0-is ∙ c.in-Ok-None.ensures)) in
+    (none_next c.args.now (content_of c.args.self.now) (sym c.in-Ok-None.field-0-is ∙ c.in-Ok-None.ensures)) in
     sym (append-nil c.args.out.now.items) ∙ ap (λ (x : Stepped (List ℕ)). c.args.out.now.items ++ map shown x.outputs) (sym still)
 
 pub returns-in-Ok-None-clause-made : goal.returns-in-Ok-None-clause-made
 returns-in-Ok-None-clause-made g c = λ yes s told.
     let still = quiet_next c.args.self.now s told c.args.now (c.start_looks_at_no_bytes.ensures.start (bytes_of c.args.self.now) c.args.now (content_of c.args.self.now))
-        (none_next c.args.now (content_of c.args.self.now) (sym c.in-Ok-None.field-0-is ∙ c.in-Ok-None.ensures)) in
+    (none_next c.args.now (content_of c.args.self.now) (sym c.in-Ok-None.field-0-is ∙ c.in-Ok-None.ensures)) in
     subst (λ (x : Stepped (List ℕ)). IsMade (fails_of c.args.self.now) (history_of c.args.self.now) (history_of c.args.self.now) x.change) (sym still) (λ which. refl)
 
 pub returns-in-Ok-None-clause-any_moment : goal.returns-in-Ok-None-clause-any_moment
@@ -73,17 +71,17 @@ returns-in-Err-carry_out-clause-memory g c = λ yes failed. c.in-Err-carry_out.e
 pub returns-in-Err-carry_out-clause-broken_off : goal.returns-in-Err-carry_out-clause-broken_off
 returns-in-Err-carry_out-clause-broken_off g c = λ yes s told.
     c.in-Err-carry_out.ensures.broken_off yes (started c.args.now s) (does_next c.args.self.now s told c.args.now (c.start_looks_at_no_bytes.ensures.start (bytes_of c.args.self.now) c.args.now (content_of c.args.self.now)) c.in-Ok-Some.plan
-      (next_is c.args.now (content_of c.args.self.now) c.in-Ok-Some.plan (sym c.in-Ok-Some.field-0-is ∙ c.in-Ok-Some.ensures)))
+    (next_is c.args.now (content_of c.args.self.now) c.in-Ok-Some.plan (sym c.in-Ok-Some.field-0-is ∙ c.in-Ok-Some.ensures)))
 
 pub returns-in-Err-carry_out-clause-cut : goal.returns-in-Err-carry_out-clause-cut
 returns-in-Err-carry_out-clause-cut g c = λ yes s told which failed.
     c.in-Err-carry_out.ensures.cut yes s told (started c.args.now s) (does_next c.args.self.now s told c.args.now (c.start_looks_at_no_bytes.ensures.start (bytes_of c.args.self.now) c.args.now (content_of c.args.self.now)) c.in-Ok-Some.plan
-      (next_is c.args.now (content_of c.args.self.now) c.in-Ok-Some.plan (sym c.in-Ok-Some.field-0-is ∙ c.in-Ok-Some.ensures))) which (same_error _ _ failed)
+    (next_is c.args.now (content_of c.args.self.now) c.in-Ok-Some.plan (sym c.in-Ok-Some.field-0-is ∙ c.in-Ok-Some.ensures))) which (same_error _ _ failed)
 
 pub returns-in-Err-carry_out-clause-any_moment : goal.returns-in-Err-carry_out-clause-any_moment
 returns-in-Err-carry_out-clause-any_moment g c = λ yes s told.
     c.in-Err-carry_out.ensures.any_moment yes s told (started c.args.now s) (does_next c.args.self.now s told c.args.now (c.start_looks_at_no_bytes.ensures.start (bytes_of c.args.self.now) c.args.now (content_of c.args.self.now)) c.in-Ok-Some.plan
-      (next_is c.args.now (content_of c.args.self.now) c.in-Ok-Some.plan (sym c.in-Ok-Some.field-0-is ∙ c.in-Ok-Some.ensures)))
+    (next_is c.args.now (content_of c.args.self.now) c.in-Ok-Some.plan (sym c.in-Ok-Some.field-0-is ∙ c.in-Ok-Some.ensures)))
 
 pub returns-in-Ok-clause-more : goal.returns-in-Ok-clause-more
 returns-in-Ok-clause-more g c = sym (ap is_some (next_is c.args.now (content_of c.args.self.now) c.in-Ok-Some.plan (sym c.in-Ok-Some.field-0-is ∙ c.in-Ok-Some.ensures)).picked)
@@ -91,19 +89,19 @@ returns-in-Ok-clause-more g c = sym (ap is_some (next_is c.args.now (content_of 
 pub returns-in-Ok-clause-told : goal.returns-in-Ok-clause-told
 returns-in-Ok-clause-told g c = λ yes s told.
     c.in-Ok.ensures.told yes s told (started c.args.now s) (does_next c.args.self.now s told c.args.now (c.start_looks_at_no_bytes.ensures.start (bytes_of c.args.self.now) c.args.now (content_of c.args.self.now)) c.in-Ok-Some.plan
-      (next_is c.args.now (content_of c.args.self.now) c.in-Ok-Some.plan (sym c.in-Ok-Some.field-0-is ∙ c.in-Ok-Some.ensures)))
+    (next_is c.args.now (content_of c.args.self.now) c.in-Ok-Some.plan (sym c.in-Ok-Some.field-0-is ∙ c.in-Ok-Some.ensures)))
 
 pub returns-in-Ok-clause-outputs : goal.returns-in-Ok-clause-outputs
 returns-in-Ok-clause-outputs g c = λ yes s told.
     c.in-Ok.ensures.outputs yes s told (started c.args.now s) (does_next c.args.self.now s told c.args.now (c.start_looks_at_no_bytes.ensures.start (bytes_of c.args.self.now) c.args.now (content_of c.args.self.now)) c.in-Ok-Some.plan
-      (next_is c.args.now (content_of c.args.self.now) c.in-Ok-Some.plan (sym c.in-Ok-Some.field-0-is ∙ c.in-Ok-Some.ensures)))
+    (next_is c.args.now (content_of c.args.self.now) c.in-Ok-Some.plan (sym c.in-Ok-Some.field-0-is ∙ c.in-Ok-Some.ensures)))
 
 pub returns-in-Ok-clause-made : goal.returns-in-Ok-clause-made
 returns-in-Ok-clause-made g c = λ yes s told.
     c.in-Ok.ensures.made yes (started c.args.now s) (does_next c.args.self.now s told c.args.now (c.start_looks_at_no_bytes.ensures.start (bytes_of c.args.self.now) c.args.now (content_of c.args.self.now)) c.in-Ok-Some.plan
-      (next_is c.args.now (content_of c.args.self.now) c.in-Ok-Some.plan (sym c.in-Ok-Some.field-0-is ∙ c.in-Ok-Some.ensures)))
+    (next_is c.args.now (content_of c.args.self.now) c.in-Ok-Some.plan (sym c.in-Ok-Some.field-0-is ∙ c.in-Ok-Some.ensures)))
 
 pub returns-in-Ok-clause-any_moment : goal.returns-in-Ok-clause-any_moment
 returns-in-Ok-clause-any_moment g c = λ yes s told.
     c.in-Ok.ensures.any_moment yes s told (started c.args.now s) (does_next c.args.self.now s told c.args.now (c.start_looks_at_no_bytes.ensures.start (bytes_of c.args.self.now) c.args.now (content_of c.args.self.now)) c.in-Ok-Some.plan
-      (next_is c.args.now (content_of c.args.self.now) c.in-Ok-Some.plan (sym c.in-Ok-Some.field-0-is ∙ c.in-Ok-Some.ensures)))
+    (next_is c.args.now (content_of c.args.self.now) c.in-Ok-Some.plan (sym c.in-Ok-Some.field-0-is ∙ c.in-Ok-Some.ensures)))

@@ -1,4 +1,4 @@
-use Rattle.std.proofs.Common.{◌≡◌, ◌⊎◌, IsTrue, refl, ap}
+use Rattle.std.proofs.Common.{refl}
 use Rattle.nqs_rules.specs.Step.{step}
 use Rattle.nqs_node.specs.Nodes.{history_of, content_of, bytes_of}
 use Rattle.nqs_node.proofs.Performing.{still_broken_off}
@@ -24,29 +24,29 @@ returns-in-Err-clause-any_moment g c = λ yes s told. one_still c.args.self.now 
 pub returns-in-Ok-clause-told : goal.returns-in-Ok-clause-told
 returns-in-Ok-clause-told g c = λ yes s told.
     c.carry_out.ensures.told yes s told (step c.args.event.now s) (done_here c.args.self.now s told (step c.args.event.now) (step c.args.event.now (content_of c.args.self.now)) c.in-Ok.plan c.in-Ok.ensures
-      (c.step_looks_at_no_bytes.ensures (bytes_of c.args.self.now) c.args.event.now (content_of c.args.self.now)))
+    (c.step_looks_at_no_bytes.ensures (bytes_of c.args.self.now) c.args.event.now (content_of c.args.self.now)))
 
 pub returns-in-Ok-clause-outputs : goal.returns-in-Ok-clause-outputs
 returns-in-Ok-clause-outputs g c = λ yes s told.
     c.carry_out.ensures.outputs yes s told (step c.args.event.now s) (done_here c.args.self.now s told (step c.args.event.now) (step c.args.event.now (content_of c.args.self.now)) c.in-Ok.plan c.in-Ok.ensures
-      (c.step_looks_at_no_bytes.ensures (bytes_of c.args.self.now) c.args.event.now (content_of c.args.self.now)))
+    (c.step_looks_at_no_bytes.ensures (bytes_of c.args.self.now) c.args.event.now (content_of c.args.self.now)))
 
 pub returns-in-Ok-clause-made : goal.returns-in-Ok-clause-made
 returns-in-Ok-clause-made g c = λ yes s told.
     c.carry_out.ensures.made yes (step c.args.event.now s) (done_here c.args.self.now s told (step c.args.event.now) (step c.args.event.now (content_of c.args.self.now)) c.in-Ok.plan c.in-Ok.ensures
-      (c.step_looks_at_no_bytes.ensures (bytes_of c.args.self.now) c.args.event.now (content_of c.args.self.now)))
+    (c.step_looks_at_no_bytes.ensures (bytes_of c.args.self.now) c.args.event.now (content_of c.args.self.now)))
 
 pub returns-in-Ok-clause-broken_off : goal.returns-in-Ok-clause-broken_off
 returns-in-Ok-clause-broken_off g c = λ yes s told.
     c.carry_out.ensures.broken_off yes (step c.args.event.now s) (done_here c.args.self.now s told (step c.args.event.now) (step c.args.event.now (content_of c.args.self.now)) c.in-Ok.plan c.in-Ok.ensures
-      (c.step_looks_at_no_bytes.ensures (bytes_of c.args.self.now) c.args.event.now (content_of c.args.self.now)))
+    (c.step_looks_at_no_bytes.ensures (bytes_of c.args.self.now) c.args.event.now (content_of c.args.self.now)))
 
 pub returns-in-Ok-clause-cut : goal.returns-in-Ok-clause-cut
 returns-in-Ok-clause-cut g c = λ yes s told which failed.
     c.carry_out.ensures.cut yes s told (step c.args.event.now s) (done_here c.args.self.now s told (step c.args.event.now) (step c.args.event.now (content_of c.args.self.now)) c.in-Ok.plan c.in-Ok.ensures
-      (c.step_looks_at_no_bytes.ensures (bytes_of c.args.self.now) c.args.event.now (content_of c.args.self.now))) which failed
+    (c.step_looks_at_no_bytes.ensures (bytes_of c.args.self.now) c.args.event.now (content_of c.args.self.now))) which failed
 
 pub returns-in-Ok-clause-any_moment : goal.returns-in-Ok-clause-any_moment
 returns-in-Ok-clause-any_moment g c = λ yes s told.
     c.carry_out.ensures.any_moment yes s told (step c.args.event.now s) (done_here c.args.self.now s told (step c.args.event.now) (step c.args.event.now (content_of c.args.self.now)) c.in-Ok.plan c.in-Ok.ensures
-      (c.step_looks_at_no_bytes.ensures (bytes_of c.args.self.now) c.args.event.now (content_of c.args.self.now)))
+    (c.step_looks_at_no_bytes.ensures (bytes_of c.args.self.now) c.args.event.now (content_of c.args.self.now)))
