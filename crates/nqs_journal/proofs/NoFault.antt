@@ -34,5 +34,5 @@ no_fault bytes payloads place is (inl leaves) =
     leaves.differs (ap (λ l. slice_get l place) text ∙ slice_get_front header (records payloads ++ is.gate ∷ is.rest) place leaves.within)
 no_fault bytes payloads place is (inr leaves) =
     let same = append_cancel_left header (records payloads ++ is.gate ∷ is.rest) (records leaves.payloads ++ leaves.rest)
-        (sym (append_assoc header (records payloads) (is.gate ∷ is.rest)) ∙ sym is.text ∙ leaves.text ∙ append_assoc header (records leaves.payloads) leaves.rest) in
+    (sym (append_assoc header (records payloads) (is.gate ∷ is.rest)) ∙ sym is.text ∙ leaves.text ∙ append_assoc header (records leaves.payloads) leaves.rest) in
     not_both payloads leaves.payloads is.gate is.rest leaves.rest is.short leaves.short is.closed same leaves.bad

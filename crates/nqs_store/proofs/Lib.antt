@@ -2,6 +2,8 @@ pub mod Lists
 pub mod Formatted
 pub mod Telling
 pub mod Loading
+pub mod Never
+pub mod TellsNow
 pub mod Extents
 pub mod Filled
 pub mod Outputs
