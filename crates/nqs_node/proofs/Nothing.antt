@@ -18,7 +18,7 @@ use Rattle.nqs_store.proofs.TellsNow.{told_now}
 extended-none : (h : History) → h ≡ extended h []
 extended-none h = ap (λ (l : List Call). let e : History = record { start = h.start; calls = l } in e) (sym (append-nil h.calls))
 
-none_runs : (old : Which → History) → Runs old old []
+pub none_runs : (old : Which → History) → Runs old old []
 none_runs old which = extended-none (old which)
 
 stops : (xs : List HostCall) (y : HostCall) (ys : List HostCall) → StopsShort (xs ++ y ∷ ys) []
