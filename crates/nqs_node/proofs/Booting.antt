@@ -2,7 +2,7 @@
 use Rattle.std.proofs.Common.{◌≡◌, inl, ℕ, ◌+◌, ◌++◌, List, [], ◌∷◌, map, take, slice_get, Option, Some, None, refl, sym, ap, subst, ◌∙◌}
 use Rattle.std.specs.List.{filter_map, cons_option}
 use Rattle.std.specs.Option.{option_to_list}
-use Rattle.std.proofs.lemmas.List.{append-nil, map-append}
+use Rattle.std.proofs.lemmas.List.{map-append}
 use Rattle.std.proofs.lemmas.List.Elements.{filter_map-append}
 use Rattle.std.proofs.Math.Seq.{take-nil}
 use Rattle.nqs_types.specs.State.{Plain}
@@ -12,7 +12,7 @@ use Rattle.nqs_types.specs.declared.event.Output.{Output}
 use Rattle.nqs_types.specs.declared.change.Change.TheVariants.{Boot}
 use Rattle.nqs_types.specs.declared.world.Which.{Which}
 use Rattle.nqs_types.specs.declared.world.Which.TheVariants.{First, Spool}
-use Rattle.nqs_outside.specs.History.{Call, State, History, state, content, after, extended, IsImage, IsQuiet}
+use Rattle.nqs_outside.specs.History.{State, History, state, content, after, IsImage, IsQuiet}
 use Rattle.nqs_outside.specs.declared.disk.Disk as disk
 use Rattle.nqs_outside.proofs.Images.{fresh_image}
 use Rattle.nqs_rules.specs.Plain.{map_row, map_state}
@@ -25,6 +25,7 @@ use Rattle.nqs_store.specs.Told.{Host}
 use Rattle.nqs_store.specs.declared.store.Store.{Store}
 use Rattle.nqs_store.proofs.Lists.{take-at}
 use Rattle.nqs_node.specs.Carried.{Kept, IsOneOrOther}
+use Rattle.nqs_node.proofs.Nothing.{none_runs}
 use Rattle.nqs_node.specs.Planned.{IsKeptWith}
 
 one_said : (o : Option Output) → cons_option o [] ≡ option_to_list o
@@ -48,14 +49,11 @@ boot_kept = record { is = refl; stored = refl }
 only : (h : History) (image : List ℕ) → IsQuiet h → IsImage (state h) image → content h ≡ image
 only h image quiet is = sym (fresh_image (content h) image (subst (λ (s : State). IsImage s image) quiet is))
 
-no_calls : (h : History) → h ≡ extended h []
-no_calls h = ap (λ (l : List Call). let e : History = record { start = h.start; calls = l } in e) (sym (append-nil h.calls))
-
 -- where nothing is pending and no call is made, each moment's images tell what a read tells
 pub quiet_one : (old : Which → History) → IsQuiet (old First) → IsQuiet (old Spool) → (s : Plain) → IsTold (content (old First)) (content (old Spool)) s → (kept : Kept) → IsOneOrOther old old kept s
 quiet_one old first spool s told kept = (
   [],
-  λ which. no_calls (old which),
+  none_runs old,
   λ j images within leaves.
       let now = λ (which : Which). subst (λ l. IsImage (after (state (old which)) (part which l)) (images which)) (take-nil j) (leaves which) in
       inl (subst (λ bytes. IsTold bytes (images Spool) s) (only (old First) (images First) first (now First))

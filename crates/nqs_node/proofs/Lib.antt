@@ -1,3 +1,4 @@
+pub mod Nothing
 pub mod Shapes
 pub mod Sites
 pub mod Places

@@ -23,7 +23,7 @@ use Rattle.nqs_store.specs.Told.{Host}
 use Rattle.nqs_store.specs.declared.store.Store.{Store}
 use Rattle.nqs_store.specs.declared.fault.StoreFault.{StoreFault}
 use Rattle.nqs_store.specs.declared.fault.StoreFault.TheVariants.{Disk}
-use Rattle.nqs_store.proofs.Nothing.{none_broken, none_told}
+use Rattle.nqs_node.proofs.Nothing.{none_broken, none_told}
 use Rattle.nqs_node.specs.Carried.{Kept, IsMade, IsCutBy, IsBrokenOff, IsOneOrOther}
 use Rattle.nqs_node.specs.Planned.{IsKeptWith}
 

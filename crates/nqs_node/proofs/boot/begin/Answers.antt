@@ -1,4 +1,4 @@
-use Rattle.nqs_store.proofs.Nothing.{none_told}
+use Rattle.nqs_node.proofs.Nothing.{none_told}
 use Rattle.nqs_node.proofs.boot.begin.Goals as goal
 
 pub returns-in-Err-clause-any_moment : goal.returns-in-Err-clause-any_moment

@@ -10,7 +10,7 @@ use Rattle.nqs_store.specs.Stores.{history_of, fails_of, is_starved, plain_of, T
 use Rattle.nqs_store.specs.Commits.{IsCutAt}
 use Rattle.nqs_store.specs.Hosts.{EachMoment}
 use Rattle.nqs_store.specs.Images.{TellsOneOf}
-use Rattle.nqs_store.proofs.Nothing.{none_broken, none_told}
+use Rattle.nqs_node.proofs.Nothing.{none_broken, none_told}
 use Rattle.nqs_node.proofs.Shapes.{same_fit, same_sane, same_room}
 use Rattle.nqs_node.proofs.Sites.{site_kept}
 use Rattle.nqs_node.proofs.keep.keep.Goals as goal
