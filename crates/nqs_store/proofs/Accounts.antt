@@ -1,7 +1,7 @@
 -- The extents of a host after a change are those from before it, with the change's own, and without what it takes away.
-use Rattle.std.proofs.Common.{◌≡◌, ◌⊎◌, inl, inr, ℕ, ◌+◌, Bool, true, false, cond, not, ◌&&◌, nat_lt, IsTrue, if◌then◌else◌, List, [], ◌∷◌, ◌++◌, map, filter, find, Option, Some, None, option_map, refl, sym, ap, subst, ◌∙◌, append_assoc}
+use Rattle.std.proofs.Common.{◌≡◌, ℕ, ◌+◌, Bool, true, false, cond, not, ◌&&◌, nat_lt, IsTrue, if◌then◌else◌, List, [], ◌∷◌, ◌++◌, map, filter, find, Option, Some, None, refl, sym, ap, subst, ◌∙◌, append_assoc}
 use Rattle.std.specs.List.{filter_map, cons_option}
-use Rattle.std.proofs.lemmas.List.{append-nil, map-append}
+use Rattle.std.proofs.lemmas.List.{map-append}
 use Rattle.nqs_types.specs.Table.{change_first, without_first}
 use Rattle.nqs_types.specs.Keys.{is_row, is_promise, is_stage, is_file}
 use Rattle.nqs_types.specs.declared.extent.Extent.{Extent}
@@ -37,7 +37,7 @@ use Rattle.nqs_rules.specs.Conf.{is_queued_in, conf_applied}
 use Rattle.nqs_rules.specs.Limits.{limits_applied}
 use Rattle.nqs_rules.specs.Devices.{devices_applied}
 use Rattle.nqs_rules.specs.Rows.{doomed_in, held_row, released_row, moved_row, with_priority, change_meant, next_arrival, rows_applied}
-use Rattle.nqs_rules.specs.Routing.{close, held_where, all_refused, with_refusal, refusal_noted, dests_for}
+use Rattle.nqs_rules.specs.Routing.{close, held_where, refusal_noted, dests_for}
 use Rattle.nqs_rules.specs.Applied.{doomed_row, started_row, may_start_again, lost_row, booted_row, routing_row, requeued_row, hand_committed, hand_refused, hand_silent, hands_silent, is_promise_of, accepted, moved_local, local_refused, held_far, access_applied, edit_applied, applied, drop_hand, drop_promise}
 use Rattle.nqs_rules.specs.Stepped.{stored_parts}
 use Rattle.nqs_store.specs.Told.{Host}
@@ -45,7 +45,7 @@ use Rattle.nqs_store.specs.Live.{row_part, promise_part, stage_part, file_part, 
 use Rattle.nqs_store.specs.Accounts.{Adds, Takes, IsRearranged}
 use Rattle.nqs_store.specs.Frees.{part_of, goes_at_boot, row_of_hand, doubled, gone}
 use Rattle.nqs_store.proofs.Extents.{with_behind, with_before, adds-behind, adds-before, adds-end, takes-behind, takes-before, takes-end, takes-append, in_order, moved, filter_takes, first_takes}
-use Rattle.nqs_store.proofs.Outputs.{AreOutput, outputs}
+use Rattle.nqs_store.proofs.Outputs.{outputs}
 
 pub record AreAccounted (before now : List Extent) (added taken : List Extent) : Type 0 where
   pub more : List Extent

@@ -1,11 +1,11 @@
 -- What images tell while a change is kept.
-use Rattle.std.proofs.Common.{◌≡◌, ◌⊎◌, inl, inr, ℕ, ◌+◌, ◌≤◌, Bool, true, false, IsTrue, if◌then◌else◌, List, [], ◌∷◌, ◌++◌, map, length, Some, None, Ok, refl, sym, ap, subst, ◌∙◌, arith}
+use Rattle.std.proofs.Common.{◌≡◌, inl, inr, ℕ, ◌+◌, ◌≤◌, Bool, true, false, IsTrue, if◌then◌else◌, List, [], ◌∷◌, ◌++◌, map, length, Some, None, refl, sym, ap, subst, ◌∙◌, arith}
 use Rattle.std.specs.List.{AllByRecursion}
 use Rattle.nqs_types.specs.State.{Plain}
 use Rattle.nqs_types.specs.declared.extent.Extent.{Extent}
 use Rattle.nqs_types.specs.declared.change.Change.{Change}
 use Rattle.nqs_types.specs.declared.change.Change.TheVariants.{Site, Submitted, Deleted, Doomed, Started, Ended, Unlaunched, Boot, Edited, HandOpened, HandCommitted, HandRefused, HandsSilent, HandDone, Promised, Accepted, Dropped, MovedLocal, RefusedLocal, HeldFar, StageGot, StageGone, FileGone}
-use Rattle.nqs_outside.specs.History.{History, content, moment, state_at, IsImage, MayLeave, EachSince}
+use Rattle.nqs_outside.specs.History.{History, content, moment, MayLeave, EachSince}
 use Rattle.nqs_outside.specs.declared.disk.Disk as disk
 use Rattle.nqs_outside.proofs.Images.{quiet_image}
 use Rattle.nqs_spool.specs.Extents.{Has, Holds, past, AreApart}
@@ -22,16 +22,14 @@ use Rattle.nqs_rules.specs.Stepped.{map_change, stored_parts, no_extent}
 use Rattle.nqs_rules.specs.Plain.{map_state}
 use Rattle.nqs_rules.proofs.PlainLemmas.{applied-map}
 use Rattle.nqs_rules.proofs.FilledLemmas.{read-planned}
-use Rattle.nqs_records.specs.Kinds.{record_of}
-use Rattle.nqs_records.specs.Extents.{with_extents}
-use Rattle.nqs_store.specs.Told.{Host, told, taken, record_taken, read_taken}
-use Rattle.nqs_store.specs.Live.{live, bytes_at, AreSound, IsWithin}
+use Rattle.nqs_store.specs.Told.{Host, told, taken, read_taken}
+use Rattle.nqs_store.specs.Live.{live, bytes_at, IsWithin}
 use Rattle.nqs_store.specs.Accounts.{Adds}
 use Rattle.nqs_store.specs.Frees.{gone}
 use Rattle.nqs_store.specs.Puts.{HoldEach}
 use Rattle.nqs_store.specs.Putting.{ArePut, ArePutFor}
 use Rattle.nqs_store.specs.Images.{IsTold, TellsOneOf}
-use Rattle.nqs_store.specs.Stores.{Tells, plain_of, bytes_of}
+use Rattle.nqs_store.specs.Stores.{Tells, plain_of}
 use Rattle.nqs_store.specs.declared.store.Store.{Store}
 use Rattle.nqs_store.proofs.Telling.{told_more}
 use Rattle.nqs_store.proofs.Accounts.{accounted, AreAccounted}

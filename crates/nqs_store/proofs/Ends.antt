@@ -1,34 +1,30 @@
 -- How a commit ends, from what its calls did.
-use Rattle.std.proofs.Common.{◌≡◌, ◌⊎◌, inl, inr, ℕ, ◌+◌, ◌<◌, ◌≤◌, Bool, true, false, IsTrue, List, [], ◌∷◌, ◌++◌, length, Err, refl, sym, ap, subst, ◌∙◌, arith, length-append}
+use Rattle.std.proofs.Common.{◌≡◌, ◌⊎◌, inl, inr, ℕ, ◌+◌, ◌≤◌, Bool, true, false, IsTrue, List, [], ◌∷◌, ◌++◌, length, Err, refl, sym, ap, subst, ◌∙◌, arith, length-append}
 use Rattle.std.proofs.Math.Seq.{take-length}
-use Rattle.std.proofs.lemmas.Bool.{cases_lt}
 use Rattle.std.specs.declared.result.Result.{Result}
 use Rattle.std.specs.declared.result.Result.TheVariants as result
 use Rattle.nqs_types.specs.State.{Plain}
 use Rattle.nqs_types.specs.declared.world.Which.{Which}
 use Rattle.nqs_types.specs.declared.world.Which.TheVariants.{Root, First, Second, Spool}
-use Rattle.nqs_outside.specs.History.{Call, State, History, fresh, content, extended, state, moment, after, state_at, IsImage, MayLeave, EachSince, StopsShort, IsExact}
+use Rattle.nqs_outside.specs.History.{Call, History, fresh, content, extended, state, moment, after, state_at, IsImage, MayLeave, EachSince, StopsShort, IsExact}
 use Rattle.nqs_outside.specs.declared.disk.Disk as disk
 use Rattle.nqs_outside.proofs.Images.{quiet_image}
-use Rattle.nqs_spool.specs.Spooled as spool
 use Rattle.nqs_spool.specs.Extents.{Holds}
-use Rattle.nqs_journal.specs.Text.{header, StandsFor, StandsAfter}
+use Rattle.nqs_journal.specs.Text.{StandsFor}
 use Rattle.nqs_journal.specs.Plan.{append_calls}
 use Rattle.nqs_journal.specs.Gate.{IsAtGate}
-use Rattle.nqs_journal.specs.Open as journal
 use Rattle.nqs_rules.specs.World.{spool_calls}
 use Rattle.nqs_store.specs.declared.fault.StoreFault.{StoreFault}
 use Rattle.nqs_store.specs.declared.fault.StoreFault.TheVariants as store
 use Rattle.nqs_store.specs.Told.{Host}
 use Rattle.nqs_store.specs.Hosts.{EachMoment}
 use Rattle.nqs_store.specs.Images.{IsTold, TellsOneOf}
-use Rattle.nqs_store.specs.Commits.{AreClear, FailsFirst, EachImage, IsCutAt, IsCutAtSpool, IsCutAtFirst, IsAtHostGate}
-use Rattle.nqs_store.specs.Stores.{Tells, plain_of, disk_of, history_of}
+use Rattle.nqs_store.specs.Commits.{AreClear, FailsFirst, EachImage, IsCutAtSpool, IsCutAtFirst}
+use Rattle.nqs_store.specs.Stores.{Tells, plain_of, history_of}
 use Rattle.nqs_store.specs.declared.store.Store.{Store}
-use Rattle.nqs_store.proofs.Runs.{none_more, cut_short, IsCutShort}
-use Rattle.nqs_store.proofs.HostRuns.{each_moment, EachPair}
+use Rattle.nqs_store.proofs.Runs.{none_more, cut_short}
+use Rattle.nqs_store.proofs.HostRuns.{each_moment}
 use Rattle.nqs_store.proofs.Committed.{Keeps, told_before, only_spool}
-use Rattle.nqs_store.proofs.Loading.{each_disk}
 
 abbrev is_spool : Which → Bool
 is_spool Root = false

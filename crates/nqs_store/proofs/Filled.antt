@@ -1,5 +1,5 @@
 -- A change whose extents were filled in.
-use Rattle.std.proofs.Common.{◌≡◌, ℕ, suc, Bool, true, List, [], ◌∷◌, map, drop, length, IsTrue, refl, sym, ap, subst, ◌∙◌, arith}
+use Rattle.std.proofs.Common.{◌≡◌, ℕ, suc, List, [], ◌∷◌, map, drop, length, IsTrue, refl, sym, ap, subst, ◌∙◌, arith}
 use Rattle.std.specs.List.{AllByRecursion}
 use Rattle.std.proofs.lemmas.List.{length-map}
 use Rattle.nqs_types.specs.State.{State}
@@ -10,7 +10,7 @@ use Rattle.nqs_types.specs.declared.change.Change.TheVariants.{Site, Submitted, 
 use Rattle.nqs_rules.specs.Fits.{fits}
 use Rattle.nqs_rules.specs.Filled.{filled, filled_parts}
 use Rattle.nqs_rules.specs.Stepped.{map_change, map_part, part_bytes, stored_parts, no_extent}
-use Rattle.nqs_records.specs.Values.{IsExtent, IsPart, IsList, is_at_most}
+use Rattle.nqs_records.specs.Values.{IsExtent, IsPart, is_at_most}
 use Rattle.nqs_records.specs.Changes.{MayStand}
 use Rattle.nqs_records.specs.Extents.{first_or, parts_with, with_extents}
 

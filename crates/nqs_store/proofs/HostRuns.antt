@@ -3,10 +3,10 @@ use Rattle.std.proofs.Common.{◌≡◌, ◌⊎◌, inl, inr, ℕ, zero, suc, �
 use Rattle.std.proofs.lemmas.List.{append-nil, length-map}
 use Rattle.nqs_types.specs.declared.world.Which.{Which}
 use Rattle.nqs_types.specs.declared.world.Which.TheVariants.{Root, First, Second, Spool}
-use Rattle.nqs_outside.specs.History.{Call, History, failed, extended, state, moment, after, state_at, IsImage, StopsShort as DiskStops}
+use Rattle.nqs_outside.specs.History.{Call, History, extended, state, moment, after, state_at, IsImage, StopsShort as DiskStops}
 use Rattle.nqs_outside.proofs.Histories.{state_at-extended}
 use Rattle.nqs_journal.specs.Plan.{append_calls}
-use Rattle.nqs_store.specs.Hosts.{HostCall, on, part, Runs, EachPrefix, EachMoment, StopsShort, failed_on}
+use Rattle.nqs_store.specs.Hosts.{HostCall, on, part, Runs, EachMoment, StopsShort}
 use Rattle.nqs_store.specs.Plan.{puts_calls, commit_calls, CommitsBy}
 use Rattle.nqs_store.specs.Putting.{ArePartlyPut}
 use Rattle.nqs_store.proofs.Runs.{none_more}

@@ -1,11 +1,10 @@
 -- Extents don't change how long a record is.
-use Rattle.std.proofs.Common.{◌≡◌, ℕ, ◌+◌, List, [], ◌∷◌, ◌++◌, drop, flat_map, length, length-append, refl, sym, ap, ◌∙◌, arith}
+use Rattle.std.proofs.Common.{◌≡◌, ℕ, List, [], ◌∷◌, ◌++◌, drop, flat_map, length, length-append, refl, sym, ap, ◌∙◌, arith}
 use Rattle.nqs_types.specs.declared.extent.Extent.{Extent}
 use Rattle.nqs_types.specs.declared.change.OutPart.{OutPart}
 use Rattle.nqs_types.specs.declared.change.Change.{Change}
 use Rattle.nqs_types.specs.declared.change.Change.TheVariants.{Site, Submitted, Deleted, Doomed, Started, Ended, Unlaunched, Boot, Edited, HandOpened, HandCommitted, HandRefused, HandsSilent, HandDone, Promised, Accepted, Dropped, MovedLocal, RefusedLocal, HeldFar, StageGot, StageGone, FileGone}
-use Rattle.nqs_records.specs.Spelling.{fields, extent_field, part_field}
-use Rattle.nqs_codec.specs.Fields.{short_field}
+use Rattle.nqs_records.specs.Spelling.{extent_field, part_field}
 use Rattle.nqs_records.specs.Changes.{spelling}
 use Rattle.nqs_records.specs.Extents.{first_or, parts_with, with_extents}
 use Rattle.nqs_records.proofs.PutBack.{length-extent, length-part, submitted_front, submitted_ends, promised_front, promised_ends, got_front, got_ends, ended_front, ended_ends, length-parts_with}

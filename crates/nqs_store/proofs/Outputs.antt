@@ -1,5 +1,5 @@
 -- The extents of a job's outputs.
-use Rattle.std.proofs.Common.{◌≡◌, ℕ, zero, suc, ◌+◌, ◌-◌, Bool, true, false, cond, nat_lt, if◌then◌else◌, List, [], ◌∷◌, ◌++◌, map, take, drop, take-append-drop, Option, None, Some, refl, sym, ap, subst, ◌∙◌, arith, append_assoc}
+use Rattle.std.proofs.Common.{◌≡◌, ℕ, zero, suc, ◌+◌, ◌-◌, Bool, true, false, cond, nat_lt, List, [], ◌∷◌, ◌++◌, map, take, drop, take-append-drop, Option, None, Some, refl, sym, ap, subst, ◌∙◌, arith, append_assoc}
 use Rattle.std.proofs.lemmas.Bool.{ltb-true, ltb-false}
 use Rattle.std.proofs.lemmas.List.{append-nil, map-append}
 use Rattle.nqs_types.specs.declared.extent.Extent.{Extent}
@@ -10,7 +10,7 @@ use Rattle.nqs_rules.specs.Tests.{same_host, last_u64}
 use Rattle.nqs_rules.specs.Find.{find_peer}
 use Rattle.nqs_rules.specs.Edits.{change_peer}
 use Rattle.nqs_rules.specs.Stepped.{part_bytes}
-use Rattle.nqs_rules.specs.Applied.{add_file, add_stage, add_stage_to, add_output, add_outputs, stage_counted}
+use Rattle.nqs_rules.specs.Applied.{add_file, add_stage, add_stage_to, add_outputs, stage_counted}
 use Rattle.nqs_rules.proofs.OutputsOrder.{get-changed}
 use Rattle.nqs_store.specs.Told.{Host}
 use Rattle.nqs_store.specs.Live.{row_part, promise_part, stage_part, file_part, output_parts}

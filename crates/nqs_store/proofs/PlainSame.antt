@@ -1,10 +1,10 @@
 -- A host whose extents hold the same bytes in two spools is the same plain state in both.
-use Rattle.std.proofs.Common.{◌≡◌, ◌⊎◌, inl, inr, ℕ, List, [], ◌∷◌, ◌++◌, map, refl, ap}
+use Rattle.std.proofs.Common.{◌≡◌, inl, inr, ℕ, List, [], ◌∷◌, ◌++◌, map, refl, ap}
 use Rattle.nqs_types.specs.declared.extent.Extent.{Extent}
 use Rattle.nqs_rules.specs.Plain.{map_row, map_promise, map_stage, map_file, map_state}
 use Rattle.nqs_spool.specs.Extents.{Has}
 use Rattle.nqs_store.specs.Told.{Host}
-use Rattle.nqs_store.specs.Live.{live, row_part, promise_part, stage_part, file_part, output_parts}
+use Rattle.nqs_store.specs.Live.{live, row_part, promise_part, stage_part, file_part}
 
 has_front : (xs ys : List Extent) (x : Extent) → Has xs x → Has (xs ++ ys) x
 has_front [] ys x has = absurd has

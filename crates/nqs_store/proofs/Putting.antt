@@ -1,6 +1,5 @@
 -- Bytes put into a spool, one list after another.
-use Rattle.std.proofs.Common.{◌≡◌, inl, inr, ℕ, zero, suc, ◌+◌, List, [], ◌∷◌, ◌++◌, map, length, IsTrue, refl, sym, ap, subst, ◌∙◌, arith, append_assoc}
-use Rattle.std.specs.List.{AllByRecursion}
+use Rattle.std.proofs.Common.{◌≡◌, inl, inr, ℕ, suc, List, [], ◌∷◌, ◌++◌, map, length, IsTrue, refl, sym, ap, subst, ◌∙◌, arith, append_assoc}
 use Rattle.std.proofs.lemmas.List.{append-nil, length-map}
 use Rattle.nqs_types.specs.declared.extent.Extent.{Extent}
 use Rattle.nqs_outside.specs.History.{Call, History, content, extended, moment, EachSince, StopsShort}
@@ -11,9 +10,8 @@ use Rattle.nqs_spool.specs.Puts.{put_calls}
 use Rattle.nqs_spool.specs.Spooled.{history_of, Tells}
 use Rattle.nqs_spool.specs.declared.spool.Spool.{Spool}
 use Rattle.nqs_records.specs.Values.{IsExtent}
-use Rattle.nqs_store.specs.Accounts.{Adds}
 use Rattle.nqs_store.specs.Plan.{puts_calls}
-use Rattle.nqs_store.specs.Puts.{place_of, HoldEach}
+use Rattle.nqs_store.specs.Puts.{place_of}
 use Rattle.nqs_store.specs.Putting.{ArePartlyPut, ArePut}
 use Rattle.nqs_store.proofs.Runs.{none_more, each_since_both, stops_before, stops_behind}
 use Rattle.nqs_store.proofs.Extents.{with_first}

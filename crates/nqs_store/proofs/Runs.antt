@@ -1,15 +1,12 @@
 -- Calls of one disk, one part after another.
-use Rattle.std.proofs.Common.{◌≡◌, ◌⊎◌, inl, inr, ℕ, zero, suc, ◌+◌, ◌-◌, ◌<◌, ◌≤◌, Bool, true, false, List, [], ◌∷◌, ◌++◌, map, take, drop, length, if◌then◌else◌, IsTrue, refl, sym, ap, subst, ◌∙◌, arith, length-append, append_assoc}
+use Rattle.std.proofs.Common.{◌≡◌, ◌⊎◌, inl, inr, ℕ, suc, ◌+◌, ◌-◌, ◌<◌, ◌≤◌, Bool, true, false, List, [], ◌∷◌, ◌++◌, take, drop, length, if◌then◌else◌, IsTrue, refl, sym, ap, subst, ◌∙◌, arith, length-append}
 use Rattle.std.proofs.lemmas.List.{append-nil, take-append-le, drop_at}
-use Rattle.std.proofs.Math.Seq.{take-length}
-use Rattle.nqs_outside.specs.History.{Call, write, sync, failed, State, fresh, History, extended, state, content, moment, after, state_at, MayLeave, IsImage, IsQuiet, EachSince, StopsShort, answered, IsExact}
-use Rattle.nqs_outside.proofs.Histories.{goes_on}
+use Rattle.nqs_outside.specs.History.{Call, write, sync, failed, fresh, History, extended, moment, after, state_at, IsImage, EachSince, StopsShort, answered, IsExact}
 use Rattle.std.proofs.lemmas.Bool.{cases_lt}
 use Rattle.nqs_spool.specs.Puts.{put_calls}
 use Rattle.nqs_spool.specs.declared.fault.SpoolFault.{SpoolFault}
 use Rattle.nqs_spool.specs.declared.fault.SpoolFault.TheVariants as spool
 use Rattle.nqs_rules.specs.World.{spool_calls}
-use Rattle.nqs_store.specs.Plan.{puts_calls}
 use Rattle.nqs_store.specs.Commits.{AreClear, FailsFirst}
 
 pub none_more : (h : History) → h ≡ extended h []

@@ -1,6 +1,5 @@
-use Rattle.std.proofs.Common.{◌≡◌, ◌+◌, ◌∙◌, ◌∷◌, Bool, true, false, List, map, filter, drop, refl, sym, ap, subst, arith}
+use Rattle.std.proofs.Common.{◌≡◌, ◌+◌, ◌∙◌, ◌∷◌, true, false, map, filter, drop, refl, sym, ap, subst, arith}
 use Rattle.std.proofs.lemmas.List.{drop_all}
-use Rattle.nqs_types.specs.declared.extent.Extent.{Extent}
 use Rattle.nqs_spool.specs.Spooled.{disk_of, Tells}
 use Rattle.nqs_store.specs.Accounts.{Takes}
 use Rattle.nqs_store.proofs.Freeing.{first_free, taken_on, left_on}

@@ -1,6 +1,5 @@
 use Rattle.std.proofs.Common.{◌≡◌, ◌+◌, ◌∙◌, ◌∷◌, List, map, drop, length, get_or, slice_get, Some, refl, sym, ap, subst, arith}
 use Rattle.std.proofs.lemmas.List.{drop_all}
-use Rattle.nqs_types.specs.declared.extent.Extent.{Extent}
 use Rattle.nqs_rules.specs.Stepped.{part_bytes}
 use Rattle.nqs_spool.specs.Spooled.{Tells}
 use Rattle.nqs_store.specs.Accounts.{Takes}

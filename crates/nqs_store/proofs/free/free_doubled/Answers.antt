@@ -1,4 +1,4 @@
-use Rattle.std.proofs.Common.{◌≡◌, ◌∙◌, ◌∷◌, [], cond, sym, ap, subst}
+use Rattle.std.proofs.Common.{◌∙◌, ◌∷◌, [], cond, sym, ap, subst}
 use Rattle.std.specs.Option.{option_copied}
 use Rattle.nqs_types.specs.State.{content}
 use Rattle.nqs_store.specs.Accounts.{Takes}

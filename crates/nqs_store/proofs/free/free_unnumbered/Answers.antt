@@ -1,9 +1,6 @@
-use Rattle.std.proofs.Common.{◌≡◌, ◌≤◌, ◌∷◌, [], cond, nat_lt, false, subst, arith}
-use Rattle.std.proofs.lemmas.Bool.Decides.{nat_tests}
-use Rattle.nqs_rules.specs.Tests.{last_u64}
+use Rattle.std.proofs.Common.{◌∷◌, [], cond, subst}
 use Rattle.nqs_store.specs.Accounts.{Takes}
 use Rattle.nqs_store.proofs.Freeing.{one_free, past_last}
-use Rattle.nqs_store.proofs.Accounts.{accounted}
 use Rattle.nqs_store.proofs.free.free_unnumbered.Goals as goal
 
 pub returns-clause-tells : goal.returns-clause-tells

@@ -1,14 +1,12 @@
-use Rattle.std.proofs.Common.{◌≡◌, ◌∷◌, [], ◌++◌, length, refl, sym, ap, subst, ◌∙◌, arith, inl, inr, List}
-use Rattle.std.proofs.Common.{◌<◌, ◌+◌, ℕ, length-append}
+use Rattle.std.proofs.Common.{◌≡◌, ◌∷◌, [], ◌++◌, length, sym, ap, subst, ◌∙◌, arith, inr}
+use Rattle.std.proofs.Common.{◌<◌, length-append}
 use Rattle.std.specs.List.{AllByRecursion}
 use Rattle.nqs_store.specs.Puts.{IsShortPut}
 use Rattle.std.specs.Bool.{if◌then◌else◌}
 use Rattle.std.specs.Result.{is_ok}
 use Rattle.std.proofs.lemmas.Result.{on_ok_weaker, on_err_weaker, err_from_is_err_and}
 use Rattle.nqs_outside.specs.History.{moment}
-use Rattle.nqs_spool.specs.Extents.{Has, IsWith}
 use Rattle.nqs_spool.specs.Spooled.{disk_of, history_of}
-use Rattle.nqs_types.specs.declared.extent.Extent.{Extent}
 use Rattle.nqs_store.proofs.Extents.{with_first}
 use Rattle.nqs_store.proofs.Putting.{none_put, first_broken, later_broken, more_put, kept_on}
 use Rattle.nqs_store.proofs.Runs.{none_clear, all_clear, later_fails, first_fails}

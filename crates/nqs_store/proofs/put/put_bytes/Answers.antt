@@ -1,4 +1,4 @@
-use Rattle.std.proofs.Common.{◌≡◌, ◌∙◌, length, refl, sym, ap, subst}
+use Rattle.std.proofs.Common.{◌∙◌, length, sym, ap, subst}
 use Rattle.nqs_records.specs.Changes.{MayStand, spelling}
 use Rattle.nqs_records.specs.Kinds.{record_of}
 use Rattle.nqs_records.specs.Extents.{with_extents}
@@ -10,8 +10,6 @@ use Rattle.std.specs.List.{AllByRecursion}
 use Rattle.std.proofs.lemmas.List.{take_at}
 use Rattle.std.proofs.Common.{drop}
 use Rattle.nqs_records.specs.Values.{IsExtent}
-use Rattle.nqs_store.proofs.HostRuns.{whole_commit}
-use Rattle.nqs_store.proofs.Committed.{Keeps}
 use Rattle.nqs_store.proofs.put.put_bytes.Goals as goal
 
 pub put_extents-requires : goal.put_extents-requires

@@ -1,4 +1,4 @@
-use Rattle.std.proofs.Common.{◌∙◌, sym, arith}
+use Rattle.std.proofs.Common.{arith}
 use Rattle.std.proofs.Common.{ap, Err}
 use Rattle.nqs_outside.specs.History.{moment}
 use Rattle.nqs_spool.specs.Spooled.{disk_of, history_of, place_for}

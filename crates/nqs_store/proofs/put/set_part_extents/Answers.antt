@@ -1,4 +1,4 @@
-use Rattle.std.proofs.Common.{◌∙◌, ◌+◌, ◌<◌, length, suc, ℕ, ◌≡◌, drop, get_or, ap, slice_get, slice_set, Some, sym, arith}
+use Rattle.std.proofs.Common.{◌∙◌, ◌+◌, ◌<◌, length, suc, ◌≡◌, drop, get_or, ap, slice_get, slice_set, Some, sym, arith}
 use Rattle.std.proofs.lemmas.Option.{same_Some}
 use Rattle.nqs_records.specs.Extents.{first_or}
 use Rattle.nqs_store.proofs.Lists.{get_at}

@@ -1,4 +1,3 @@
-use Rattle.nqs_store.proofs.Ends.{last_state}
 use Rattle.nqs_store.proofs.record.append_record.Goals as goal
 
 pub returns-in-Err-clause-at_the_gate : goal.returns-in-Err-clause-at_the_gate

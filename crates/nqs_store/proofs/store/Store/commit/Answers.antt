@@ -1,4 +1,4 @@
-use Rattle.std.proofs.Common.{◌≡◌, ◌∙◌, ◌++◌, ◌∷◌, [], refl, sym, ap, subst, map, length, inl, inr, arith}
+use Rattle.std.proofs.Common.{◌≡◌, ◌∙◌, ◌++◌, ◌∷◌, [], refl, sym, ap, subst, map, arith}
 use Rattle.std.proofs.lemmas.Result.{err_from_is_err_and}
 use Rattle.nqs_types.specs.State.{content}
 use Rattle.nqs_types.specs.declared.world.Which.TheVariants as which
@@ -16,12 +16,12 @@ use Rattle.nqs_rules.specs.World.{spool_calls}
 use Rattle.nqs_store.specs.Live.{live, bytes_at}
 use Rattle.nqs_store.specs.Puts.{place_of}
 use Rattle.nqs_store.specs.Images.{IsTold, TellsOneOf}
-use Rattle.nqs_store.specs.Stores.{plain_of, disk_of, history_of, fails_of}
+use Rattle.nqs_store.specs.Stores.{plain_of, history_of, fails_of}
 use Rattle.nqs_store.proofs.Runs.{none_more}
 use Rattle.nqs_store.proofs.Filled.{shape_kept}
-use Rattle.nqs_store.proofs.HostRuns.{DidSo, EachPair, each_moment, idle_commit, spool_commit, first_commit, whole_commit}
+use Rattle.nqs_store.proofs.HostRuns.{EachPair, each_moment, idle_commit, spool_commit, first_commit, whole_commit}
 use Rattle.nqs_store.proofs.Committed.{plain_kept, told_after, only_spool, put_tells, filled_now, plain_now, records_now, account, spool_tells, both}
-use Rattle.nqs_store.proofs.Ends.{spool_only, first_only, idle, cut_spool, cut_first, last_state, last_image}
+use Rattle.nqs_store.proofs.Ends.{spool_only, first_only, idle, cut_spool, cut_first, last_image}
 use Rattle.nqs_store.proofs.Rooms.{same_histories, grown, broken_from, clear_from, failing_from, kept_from, still_from, put_from, places_many}
 use Rattle.nqs_store.proofs.store.Store.commit.Goals as goal
 
