@@ -1,9 +1,1 @@
-pub mod Lines
-pub mod Names
-pub mod Refusals
-pub mod Prefix
-pub mod Told
-pub mod OneSchedule
-pub mod Complete
-pub mod Fronts
-pub mod Playing
+pub mod Matched
