@@ -1,7 +1,6 @@
 -- What each event of a schedule asks of the network, its words read.
-use Rattle.std.specs.Prelude.{◌≡◌, ℕ, Bool, true, List, [], ◌∷◌, codes, Ok, Err}
+use Rattle.std.specs.Prelude.{ℕ, Bool, List, [], ◌∷◌, codes, Ok, Err}
 use Rattle.std.specs.declared.result.Result.{Result}
-use Rattle.nqs_types.specs.declared.ids.HostId.{HostId}
 use Rattle.nqs_types.specs.declared.event.Command.{Command}
 use Rattle.nqs_types.specs.declared.event.Command.TheVariants as command
 use Rattle.nqs_types.specs.declared.fault.GrammarFault.{GrammarFault}
@@ -11,7 +10,7 @@ use Rattle.nqs_types.specs.declared.world.WorldEvent.TheVariants as line
 use Rattle.nqs_rules.specs.Find.{host_at}
 use Rattle.nqs_rules.specs.World.{Act, Asks, Ends, Finishes, Fails, Writes, Leaves, Delivers, Newest, Ticks, Clock, Fuse, Crashes, Boots, Shows}
 use Rattle.nqs_qmgr.specs.Lines.{qmgr_line}
-use Rattle.nqs_qsub.specs.Options.{Options}
+use Rattle.nqs_qsub.specs.declared.options.Options.{Options}
 use Rattle.nqs_qsub.specs.Qsub.{qsub_options, submission}
 use Rattle.nqs_query.specs.Words.{Asked, stat_of, delete_of}
 use Rattle.nqs_laws.specs.Sane.{is_sane_act}

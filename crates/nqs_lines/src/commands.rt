@@ -1,12 +1,39 @@
-//! Words and lines as the commands that they ask for. What can't be read is a command too, whose answer says why.
+//! Words and lines as the commands that they ask for. What can't be read is a command too, whose answer says why;
+//! a want of memory is no command.
 
-ghost use Rattle.std.specs.Prelude.{◌≡◌, IfOk};
+ghost use Rattle.std.specs.Prelude.{◌≡◌, ◌≢◌, IfOk};
+ghost use Rattle.nqs_types.specs.declared.event.Command.TheVariants as command;
+ghost use Rattle.nqs_types.specs.declared.fault.WordsCause.TheVariants as cause;
 ghost use Rattle.nqs_qmgr.specs.Lines.{qmgr_line};
 ghost use Rattle.nqs_query.specs.Words.{stat_of, delete_of};
 ghost use Rattle.nqs_lines.specs.Acts.{of_line, of_words, listed, qsub_command as qsub_asks, named_submission};
 
-use nqs_types::{Bytes, Command, Memory, Name};
+use nqs_qmgr::read_qmgr;
+use nqs_qsub::read_qsub;
+use nqs_query::{read_qdel, read_qstat};
+use nqs_types::{Bytes, Command, GrammarFault, Memory, Name, WordsCause, WordsFault};
 use std::alloc::Global;
+
+// The command of words that can't be read.
+fn unread_words(fault: WordsFault) -> Result<Command, Memory>
+    ensures asks { IfOk result (λ unread. unread ≡ command.UnreadWords fault) }
+    ensures memory { IfOk result (λ _. fault.cause ≢ cause.Memory) }
+{
+    match fault.cause {
+        WordsCause::Memory => Err(Memory),
+        _ => Ok(Command::UnreadWords(fault)),
+    }
+}
+
+// The command of a line that can't be read.
+fn unread_line(fault: GrammarFault) -> Result<Command, Memory>
+    ensures { IfOk result (λ unread. unread ≡ command.UnreadLine fault) }
+{
+    match fault {
+        GrammarFault::Memory => Err(Memory),
+        _ => Ok(Command::UnreadLine(fault)),
+    }
+}
 
 /// The words of qsub and a script.
 pub fn qsub_command(
@@ -17,33 +44,48 @@ pub fn qsub_command(
 ) -> Result<Command, Memory>
     ensures { IfOk result (λ command. command ≡ qsub_asks user.now words.now script.now) }
 {
-    Err(Memory)
+    match read_qsub(alloc, user, words, script) {
+        Ok(submission) => Ok(Command::Submit(submission)),
+        Err(fault) => unread_words(fault),
+    }
 }
 
 /// A submission with this name for the request, and an empty script.
 pub fn submit_command(alloc: Global, user: &Name, name: &Name) -> Result<Command, Memory>
     ensures { IfOk result (λ command. command ≡ named_submission user.now name.now) }
 {
-    Err(Memory)
+    let option = Bytes::from_vec(Vec::from_slice(alloc, b"-r")?);
+    let value = Bytes::from_vec(Vec::from_slice(alloc, name.as_bytes())?);
+    let words = [option, value];
+    qsub_command(alloc, user, &words, b"")
 }
 
 /// A line of qmgr.
 pub fn qmgr_command(line: &[u8]) -> Result<Command, Memory>
     ensures { IfOk result (λ command. command ≡ of_line (qmgr_line line.now)) }
 {
-    Err(Memory)
+    match read_qmgr(line) {
+        Ok(command) => Ok(command),
+        Err(fault) => unread_line(fault),
+    }
 }
 
 /// The words of qstat.
 pub fn qstat_command(alloc: Global, words: &[Bytes]) -> Result<Command, Memory>
     ensures { IfOk result (λ command. command ≡ of_words (listed (stat_of words.now))) }
 {
-    Err(Memory)
+    match read_qstat(alloc, words) {
+        Ok(command) => Ok(command),
+        Err(fault) => unread_words(fault),
+    }
 }
 
 /// The words of qdel.
 pub fn qdel_command(words: &[Bytes]) -> Result<Command, Memory>
     ensures { IfOk result (λ command. command ≡ of_words (delete_of words.now)) }
 {
-    Err(Memory)
+    match read_qdel(words) {
+        Ok(command) => Ok(command),
+        Err(fault) => unread_words(fault),
+    }
 }

