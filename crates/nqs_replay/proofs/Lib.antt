@@ -1,1 +1,3 @@
 pub mod Matched
+pub mod Runs
+pub mod Fronts

@@ -1,6 +1,9 @@
 //! Words.
 #![tactic(auto)]
 
+mod report;
+mod run;
+mod status;
 mod words;
 
 use std::process::ExitCode;
