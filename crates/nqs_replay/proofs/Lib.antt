@@ -1,3 +1,5 @@
 pub mod Matched
 pub mod Runs
 pub mod Fronts
+pub mod Playing
+pub mod Complete

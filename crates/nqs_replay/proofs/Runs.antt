@@ -2,14 +2,13 @@
 use Rattle.std.proofs.Common.{◌≡◌, Bool, true, false, ◌&&◌, List, [], ◌∷◌, ◌++◌, ℕ, map, take, drop, refl, sym, ap, subst, ◌∙◌, append_assoc, take-append-drop}
 use Rattle.std.specs.List.{list_all, flat_map}
 use Rattle.std.proofs.lemmas.List.{append-nil, map-append}
-use Rattle.std.proofs.lemmas.List.Folds.{list_all-append, list_all-map}
+use Rattle.std.proofs.lemmas.List.Folds.{list_all-append}
 use Rattle.std.proofs.lemmas.List.Concat.{flat_map-append}
 use Rattle.nqs_types.specs.declared.world.Seen.{Seen}
 use Rattle.nqs_types.specs.declared.world.WorldEvent.{WorldEvent}
 use Rattle.nqs_rules.specs.World.{Act, World as Network, Ran, new_world}
 use Rattle.nqs_rules.specs.Run.{happens, run}
 use Rattle.nqs_rules.specs.Transcript.{seen_text, transcript}
-use Rattle.nqs_laws.specs.Sane.{is_sane_act, AreSane}
 use Rattle.nqs_lines.specs.Acts.{act_of, is_sane_line}
 use Rattle.nqs_schedule.specs.Summary.{nothing_seen, counted, summary_of}
 use Rattle.nqs_schedule.specs.declared.summary.Summary.{Summary}
@@ -74,16 +73,6 @@ both false b h = absurd cc
 pub sane_before : (events : List WorldEvent) (i : ℕ) → list_all is_sane_line events ≡ true → list_all is_sane_line (take i events) ≡ true
 sane_before events i sane =
     (both (list_all is_sane_line (take i events)) (list_all is_sane_line (drop i events)) (sym (list_all-append is_sane_line (take i events) (drop i events)) ∙ ap (list_all is_sane_line) (take-append-drop i events) ∙ sane)).0
-
--- and the last one of them
-pub sane_last : (before : List WorldEvent) (event : WorldEvent) → list_all is_sane_line (before ++ event ∷ []) ≡ true → is_sane_line event ≡ true
-sane_last before event sane =
-    let last = (both (list_all is_sane_line before) (list_all is_sane_line (event ∷ [])) (sym (list_all-append is_sane_line before (event ∷ [])) ∙ sane)).1 in
-    (both (is_sane_line event) true last).0
-
--- and the acts that they ask for
-pub sane_acts : (events : List WorldEvent) → list_all is_sane_line events ≡ true → AreSane (map act_of events)
-sane_acts events sane = list_all-map is_sane_act act_of events ∙ sane
 
 -- a world that took an event, with what was seen of it
 pub goes_on : {E : Type 0} (site : List (List ℕ)) (before : List WorldEvent) (event : WorldEvent) (world : World) (old seen : List Seen) (r : Result (Unit {0}) E)

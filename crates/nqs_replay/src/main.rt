@@ -1,17 +1,58 @@
-//! Words.
+//! Runs a schedule of commands, read from standard input, on hosts in memory, and writes to standard
+//! output what is seen of each. A function of its input: the same bytes give the same transcript.
 #![tactic(auto)]
 
+mod real;
+mod replay;
 mod report;
 mod run;
 mod status;
+#[cfg(test)]
+mod tests;
 mod words;
 
+use real::{Reading, Writing};
+use replay::replay;
+use status::Status;
+use std::io::ErrorKind;
 use std::process::ExitCode;
+use std::{env, io};
+
+// What is printed where the words are in no form.
+const USAGE: &str = "usage: nqs_replay [--summary] [--generate SEED --hosts N --events M]";
+
+// The words of the command line, or the status where they can't be had.
+fn words_of(rt: &HostRuntime) -> Result<Vec<String>, Status> {
+    let mut words = Vec::new(rt.alloc());
+    let given = match env::args(rt) {
+        Ok(given) => given,
+        Err(e) if e.kind() == ErrorKind::OutOfMemory => return Err(Status::Memory),
+        Err(_) => return Err(Status::BadWords),
+    };
+    for word in given.skip(1) {
+        if words.push(word).is_err() {
+            return Err(Status::Memory);
+        }
+    }
+    Ok(words)
+}
+
+fn replay_standard_input(rt: &HostRuntime) -> Status {
+    let words = match words_of(rt) {
+        Ok(words) => words,
+        Err(status) => return status,
+    };
+    let mut source = Reading::new(rt.reader());
+    let mut sink = Writing::new(io::writer(rt));
+    let mut left = Vec::new(rt.alloc());
+    replay(rt.alloc(), &words, &mut source, &mut sink, &mut left)
+}
 
 fn main(rt: HostRuntime) -> ExitCode {
-    let words = Vec::new(rt.alloc());
-    match words::read_words(rt.alloc(), &words) {
-        Ok(_) => ExitCode::from(0),
-        Err(_) => ExitCode::from(1),
+    let status = replay_standard_input(&rt);
+    if status == Status::BadWords {
+        // Where standard error fails too, the number tells.
+        let _ = rt.eprintln(USAGE);
     }
+    ExitCode::from(status.number())
 }

@@ -16,6 +16,7 @@ ghost use Rattle.nqs_replay.specs.Writing.{GoesOn, Tells, Writes, Leaves};
 
 use nqs_disk::MemDisk;
 use nqs_laws::runs::hosts_stay_in_order;
+use nqs_lines::laws::acts_are_sane;
 use nqs_net::World;
 use nqs_outside::{Failed, Sink, write_whole};
 use nqs_schedule::{Summary, print_seen, print_summary};
@@ -65,6 +66,7 @@ fn happen(
     ensures { (site : List (List ℕ)) (before : List WorldEvent) → IsSite site → list_all is_sane_line before ≡ true → IsWorld world.old (ran site before).world
         → OnOk result (GoesOn site before event.now world.new seen.new.items) }
 {
+    acts_are_sane();
     hosts_stay_in_order();
     seen.clear();
     world.event(alloc, event, seen)
