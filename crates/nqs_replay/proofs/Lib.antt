@@ -3,3 +3,4 @@ pub mod Runs
 pub mod Fronts
 pub mod Playing
 pub mod Complete
+pub mod Asked

@@ -2,6 +2,7 @@
 //! output what is seen of each. A function of its input: the same bytes give the same transcript.
 #![tactic(auto)]
 
+mod laws;
 mod real;
 mod replay;
 mod report;

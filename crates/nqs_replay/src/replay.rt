@@ -9,7 +9,9 @@ ghost use Rattle.nqs_replay.specs.Sunk.{sunk};
 ghost use Rattle.nqs_replay.specs.Running.{Runs};
 ghost use Rattle.nqs_replay.specs.Words.{IsWithin};
 ghost use Rattle.nqs_replay.specs.Replay.{drained, Plays, EndsRead, EndsBy, Ends, IsComplete};
+ghost use Rattle.nqs_replay.specs.Headline.{HoldAlways};
 
+use crate::laws::runs_keep_the_laws;
 use crate::report::report;
 use crate::run::{RunStop, run};
 use crate::status::Status;
@@ -163,6 +165,8 @@ pub fn replay<S: Source, K: Sink>(
 ) -> Status
     ensures end { Ends (map (λ s. string_bytes s) words.now) (drained S.left S.faults schedule.old schedule.new) (sunk K.taken K.faults K.stalls out.old out.new) left.old.items left.new.items result }
     ensures complete { IsComplete (map (λ s. string_bytes s) words.now) (drained S.left S.faults schedule.old schedule.new) (sunk K.taken K.faults K.stalls out.old out.new) result }
+    ensures laws { HoldAlways (map (λ s. string_bytes s) words.now) (drained S.left S.faults schedule.old schedule.new) }
 {
+    runs_keep_the_laws();
     run_program(alloc, words, schedule, out, left)
 }
