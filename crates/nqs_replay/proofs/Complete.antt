@@ -8,7 +8,6 @@ use Rattle.nqs_replay.specs.declared.status.Status.{Status}
 use Rattle.nqs_replay.specs.declared.status.Status.TheVariants as status
 use Rattle.nqs_replay.specs.declared.words.Generation.{Generation}
 use Rattle.nqs_replay.specs.declared.words.Ask.{Ask}
-use Rattle.nqs_replay.specs.Words.{asked}
 use Rattle.nqs_replay.specs.Sunk.{Sunk, SinkFailed}
 use Rattle.nqs_replay.specs.Replay.{Left, Drained, EndsRead, EndsBy, EndsAsked, Ends, IsReadable, HasSchedule, IsComplete}
 

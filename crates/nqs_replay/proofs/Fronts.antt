@@ -1,10 +1,8 @@
 -- Fronts of a text, and counts that rose.
-use Rattle.std.proofs.Common.{◌≡◌, ◌≤◌, ◌+◌, ◌⊎◌, inl, inr, ℕ, List, [], ◌∷◌, ◌++◌, take, drop, refl, sym, ap, ◌∙◌, append_assoc, take-append-drop, arith, Option, Some, None}
-use Rattle.std.specs.Io.KnownBytes.{Appends}
+use Rattle.std.proofs.Common.{◌≡◌, ◌≤◌, ◌⊎◌, inl, inr, ℕ, List, [], ◌++◌, take, drop, sym, ap, ◌∙◌, append_assoc, take-append-drop, arith}
 use Rattle.std.proofs.lemmas.List.{append-nil}
 use Rattle.nqs_outside.specs.Causes.{Rose}
-use Rattle.nqs_outside.proofs.Known.{Appends-then}
-use Rattle.nqs_replay.specs.Sunk.{Sunk, BeginsWith, WritesFront}
+use Rattle.nqs_replay.specs.Sunk.{BeginsWith}
 
 -- a text begins with each of its fronts
 pub front_of : (whole bytes : List ℕ) (n : ℕ) → bytes ≡ whole → BeginsWith whole (take n bytes)

@@ -1,5 +1,5 @@
 -- The words that `clap` takes.
-use Rattle.std.proofs.Common.{ap, refl, sym, subst, arith, codes, ℕ, ◌≤◌, Bool, true, List, [], ◌∷◌, ◌≡◌, ◌≢◌, ◌∙◌, inl, inr, Option, Some, None, Result, Ok, Err, IfOk}
+use Rattle.std.proofs.Common.{ap, refl, sym, subst, arith, codes, ℕ, ◌≤◌, Bool, true, List, [], ◌∷◌, ◌≡◌, ◌∙◌, inl, inr, Option, Some, None, Result, Ok, Err}
 use Rattle.std.specs.Prelude.{if◌then◌else◌, nat_le, ◌&&◌}
 use Rattle.std.proofs.lemmas.Bool.Decides.{nat_tests}
 use Rattle.nqs_text.specs.Number.{decimal}

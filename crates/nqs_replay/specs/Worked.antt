@@ -1,5 +1,5 @@
 -- What some words ask for.
-use Rattle.std.specs.Prelude.{◌≡◌, ℕ, Bool, true, false, List, [], ◌∷◌, codes, Option, None, Some}
+use Rattle.std.specs.Prelude.{◌≡◌, ℕ, Bool, true, false, [], ◌∷◌, codes, Option, None, Some}
 use Rattle.nqs_replay.specs.declared.words.Ask.{Ask}
 use Rattle.nqs_replay.specs.Words.{asked}
 

@@ -31,12 +31,7 @@ fn cause_text(cause: Cause) -> &'static [u8]
     }
 }
 
-fn put_bad_line(
-    alloc: Global,
-    line: u64,
-    cause: Cause,
-    out: &mut Vec<u8>,
-) -> Result<(), Memory>
+fn put_bad_line(alloc: Global, line: u64, cause: Cause, out: &mut Vec<u8>) -> Result<(), Memory>
     ensures { OnOk result (out.new.items ≡ out.old.items ++ bad_line_text line cause) }
 {
     put_text(b"bad line ", out)?;

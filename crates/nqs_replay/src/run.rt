@@ -73,12 +73,7 @@ fn happen(
 }
 
 // The text becomes the transcript of what was seen.
-fn print_all(
-    alloc: Global,
-    site: &[Name],
-    seen: &[Seen],
-    text: &mut Vec<u8>,
-) -> Result<(), Memory>
+fn print_all(alloc: Global, site: &[Name], seen: &[Seen], text: &mut Vec<u8>) -> Result<(), Memory>
     ensures { OnOk result (text.new.items ≡ transcript site.now seen.now) }
 {
     text.clear();

@@ -1,6 +1,5 @@
-use Rattle.std.proofs.Common.{◌≡◌, List, ℕ, ap, subst, sym, ◌∙◌}
+use Rattle.std.proofs.Common.{ap, subst, sym, ◌∙◌}
 use Rattle.std.specs.List.{list_all}
-use Rattle.nqs_types.specs.declared.world.WorldEvent.{WorldEvent}
 use Rattle.nqs_laws.specs.Sane.{IsSite}
 use Rattle.nqs_lines.specs.Acts.{is_sane_line}
 use Rattle.nqs_replay.proofs.Playing.{plays, reports}

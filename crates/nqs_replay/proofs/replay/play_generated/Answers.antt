@@ -1,4 +1,4 @@
-use Rattle.std.proofs.Common.{◌≡◌, ap, subst, sym, ◌∙◌}
+use Rattle.std.proofs.Common.{ap, subst, sym, ◌∙◌}
 use Rattle.std.specs.List.{list_all}
 use Rattle.nqs_laws.specs.Sane.{IsSite}
 use Rattle.nqs_lines.specs.Acts.{is_sane_line}

@@ -21,5 +21,5 @@ loop-event-preserved c =
     record {
       world = world_there site before (take (i + 1) events) event c.happen.new.world more on.0;
       counted = c.count_all.ensures ∙ ap (λ (seen : List Seen). summary_of c.loop-event.summary seen) c.deref.ensures.value
-        ∙ counted_there site before (take (i + 1) events) event c.happen.new.world c.happen.new.seen.items c.loop-event.summary more on c.loop-event.invariant.counted;
+          ∙ counted_there site before (take (i + 1) events) event c.happen.new.world c.happen.new.seen.items c.loop-event.summary more on c.loop-event.invariant.counted;
     }

@@ -1,5 +1,5 @@
-use Rattle.std.proofs.Common.{rules, ap₂, ◌∙◌, ◌≡◌, sym}
-use Rattle.clap.specs.Words.{app_of, rule_of, with_rule}
+use Rattle.std.proofs.Common.{ap₂, ◌∙◌}
+use Rattle.clap.specs.Words.{with_rule}
 use Rattle.nqs_replay.specs.Words.{replay_app}
 use Rattle.nqs_replay.proofs.words.command.Goals as goal
 

@@ -1,6 +1,6 @@
-use Rattle.std.proofs.Common.{ap, sym, map, List, ◌≡◌, ◌∙◌, Global, String}
+use Rattle.std.proofs.Common.{ap, sym, map, List, ◌∙◌, Global, String}
 use Rattle.std.specs.Prelude.{string_bytes}
-use Rattle.clap.specs.Words.{App, Text, is_simple_and_free, fault_of, FailsBy}
+use Rattle.clap.specs.Words.{App, Text, is_simple_and_free, fault_of}
 use Rattle.nqs_replay.proofs.Matched.{replay_is_free, refused, formed}
 use Rattle.nqs_replay.proofs.words.read_words.Goals.{then-eq, else-eq}
 use Rattle.nqs_replay.proofs.words.read_words.Goals as goal
