@@ -1,5 +1,5 @@
-//! Runs a schedule of commands, read from standard input, on hosts in memory, and writes to standard
-//! output what is seen of each. A function of its input: the same bytes give the same transcript.
+//! Runs a schedule, read from standard input or generated, on hosts in memory, and writes to standard output what is
+//! seen of each event, or a summary. A function of its words and its input: the same give the same text.
 #![tactic(auto)]
 
 mod laws;
