@@ -12,7 +12,7 @@ ghost use Rattle.nqs_schedule.specs.Summary.{nothing_seen, summary_of};
 ghost use Rattle.nqs_net.specs.Worlds.{IsWorld};
 ghost use Rattle.nqs_replay.specs.Sunk.{sunk};
 ghost use Rattle.nqs_replay.specs.Running.{ran, text_of, summary_after};
-ghost use Rattle.nqs_replay.specs.Writing.{GoesOn, Tells, Writes, Leaves};
+ghost use Rattle.nqs_replay.specs.Writing.{HasRun, GoesOn, Tells, Writes, Leaves};
 
 use nqs_disk::MemDisk;
 use nqs_laws::runs::hosts_stay_in_order;
@@ -62,9 +62,9 @@ fn happen(
     event: &WorldEvent,
     seen: &mut Vec<Seen>,
 ) -> Result<(), Memory>
-    requires { IsTrue (is_sane_line event.now) }
-    ensures { (site : List (List ℕ)) (before : List WorldEvent) → IsSite site → list_all is_sane_line before ≡ true → IsWorld world.old (ran site before).world
-        → OnOk result (GoesOn site before event.now world.new seen.new.items) }
+    requires sane { IsTrue (is_sane_line event.now) }
+    requires sound { (site : List (List ℕ)) × (before : List WorldEvent) × HasRun site before world.old }
+    ensures { (site : List (List ℕ)) (before : List WorldEvent) → HasRun site before world.old → OnOk result (GoesOn site before event.now world.new seen.new.items) }
 {
     acts_are_sane();
     hosts_stay_in_order();
@@ -92,9 +92,9 @@ fn tell(
     seen: &mut Vec<Seen>,
     text: &mut Vec<u8>,
 ) -> Result<(), Memory>
-    requires { IsTrue (is_sane_line event.now) }
-    ensures { (before : List WorldEvent) → IsSite site.now → list_all is_sane_line before ≡ true → IsWorld world.old (ran site.now before).world
-        → OnOk result (Tells site.now before event.now world.new text.new.items) }
+    requires sane { IsTrue (is_sane_line event.now) }
+    requires sound { (before : List WorldEvent) × HasRun site.now before world.old }
+    ensures { (before : List WorldEvent) → HasRun site.now before world.old → OnOk result (Tells site.now before event.now world.new text.new.items) }
 {
     happen(alloc, world, event, seen)?;
     print_all(alloc, site, seen, text)?;

@@ -6,6 +6,11 @@ use Rattle.nqs_schedule.specs.Summary.{nothing_seen, summary_of}
 use Rattle.nqs_replay.proofs.Runs.{sane_before, summed_none, world_there, counted_there}
 use Rattle.nqs_replay.proofs.run.count_events.Goals as goal
 
+pub happen-requires-clause-sound : goal.happen-requires-clause-sound
+happen-requires-clause-sound c =
+    let before = take c.loop-event.event-index c.args.events.now in
+    (c.args.site.now, before, (c.requires.site, sane_before c.args.events.now c.loop-event.event-index c.requires.sane, c.loop-event.invariant.world))
+
 pub loop-event-init : goal.loop-event-init
 loop-event-init c = record { world = c.in_ok-world.ensures; counted = c.new-summary.ensures ∙ sym (summed_none nothing_seen) }
 
@@ -17,7 +22,7 @@ loop-event-preserved c =
     let event = c.event-item.result in
     let before = take i events in
     let more : take (i + 1) events ≡ before ++ event ∷ [] = take_more events i event c.loop-event-test.true ∙ ap (λ (e : WorldEvent). before ++ e ∷ []) (sym c.event-item.is) in
-    let on = c.in_ok-happen.ensures site before c.requires.site (sane_before events i c.requires.sane) c.loop-event.invariant.world in
+    let on = c.in_ok-happen.ensures site before (c.requires.site, sane_before events i c.requires.sane, c.loop-event.invariant.world) in
     record {
       world = world_there site before (take (i + 1) events) event c.happen.new.world more on.0;
       counted = c.count_all.ensures ∙ ap (λ (seen : List Seen). summary_of c.loop-event.summary seen) c.deref.ensures.value

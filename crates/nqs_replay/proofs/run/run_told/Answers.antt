@@ -10,6 +10,11 @@ use Rattle.nqs_replay.proofs.Runs.{sane_before, begins_before, told_there, world
 use Rattle.nqs_replay.proofs.Fronts.{front_within, failed_since}
 use Rattle.nqs_replay.proofs.run.run_told.Goals as goal
 
+pub tell-requires-clause-sound : goal.tell-requires-clause-sound
+tell-requires-clause-sound g c =
+    let i = c.loop-event.event-index in
+    (take i c.args.events.now, (c.requires.site, sane_before c.args.events.now i c.requires.sane, c.loop-event.invariant.world))
+
 pub returns-in_err-tell : goal.returns-in_err-tell
 returns-in_err-tell g c =
     let p = err_from_is_err_and c.from_residual-in_err-tell.result c.from_residual-in_err-tell.ensures.1 in
@@ -28,7 +33,7 @@ returns-in_err-write_whole g c =
     let old = text_of false site before in
     let piece = c.deref.result.now in
     let more : take (i + 1) events ≡ before ++ event ∷ [] = take_more events i event c.loop-event-test.true ∙ ap (λ (e : WorldEvent). before ++ e ∷ []) (sym c.event-item.is) in
-    let told = c.in_ok-tell.ensures before c.requires.site (sane_before events i c.requires.sane) c.loop-event.invariant.world in
+    let told = c.in_ok-tell.ensures before (c.requires.site, sane_before events i c.requires.sane, c.loop-event.invariant.world) in
     let there = told_there site before (take (i + 1) events) event c.tell.new.world c.tell.new.text.items piece more told c.deref.ensures.value in
     let stop = c.in_err-write_whole.ensures in
     let n = stop.err.0 in
@@ -45,7 +50,7 @@ loop-event-preserved g c =
     let before = take i events in
     let piece = c.deref.result.now in
     let more : take (i + 1) events ≡ before ++ event ∷ [] = take_more events i event c.loop-event-test.true ∙ ap (λ (e : WorldEvent). before ++ e ∷ []) (sym c.event-item.is) in
-    let told = c.in_ok-tell.ensures before c.requires.site (sane_before events i c.requires.sane) c.loop-event.invariant.world in
+    let told = c.in_ok-tell.ensures before (c.requires.site, sane_before events i c.requires.sane, c.loop-event.invariant.world) in
     let there = told_there site before (take (i + 1) events) event c.tell.new.world c.tell.new.text.items piece more told c.deref.ensures.value in
     let both = Appends-then (g.K.Sink.taken c.args.out.now) (g.K.Sink.taken c.loop-event.out) (g.K.Sink.taken c.write_whole.new.sink) (text_of false site before) piece c.loop-event.invariant.written c.in_ok-write_whole.ensures.ok in
     record {
