@@ -1,0 +1,4 @@
+pub mod Fates
+pub mod Burns
+pub mod Turning
+pub mod Starting

@@ -1,1 +1,4 @@
+pub mod Lists
+pub mod Props
 pub mod Worlds
+pub mod Turns

@@ -8,27 +8,18 @@ ghost use Rattle.nqs_laws.specs.Words.{IsInOrderAll};
 ghost use Rattle.nqs_lines.specs.Acts.{act_of, is_sane_line};
 ghost use Rattle.nqs_net.specs.Worlds.{IsWorld};
 
-use nqs_disk::MemDisk;
-use nqs_node::Node;
-use nqs_store::Disks;
-use nqs_types::{Items, Memory, Message, Name, NameList, Seen, TableRow, Tear, WorldEvent};
+use crate::slot::Slot;
+use nqs_types::{Memory, Message, Name, NameList, Seen, TableRow, Tear, WorldEvent};
 use std::alloc::Global;
-
-/// A host that runs, or the disks of one that doesn't.
-#[derive(Drop)]
-pub enum Slot {
-    Up(Node<MemDisk>),
-    Down(Disks<MemDisk>),
-}
 
 /// A network of hosts: a slot and a tear for each, in the order of the site. The packets are all that were ever sent;
 /// `now` is the moment, in seconds since 1970.
 #[derive(Drop)]
 pub struct World {
     pub site: NameList,
-    pub slots: Items<Slot>,
-    pub tears: Items<Tear>,
-    pub packets: Items<Message>,
+    pub slots: Vec<Slot>,
+    pub tears: Vec<Tear>,
+    pub packets: Vec<Message>,
     pub now: u64,
 }
 
