@@ -1,6 +1,6 @@
 //! The disks of a host that is formatted.
 
-ghost use Rattle.std.specs.Prelude.{◌≡◌, ◌⊎◌, ◌≤◌, IsTrue, IsErrOf, OnOk, IfOk, IfErr, length, vec_len, ◌++◌, ◌∷◌, [], Ok};
+ghost use Rattle.std.specs.Prelude.{◌≡◌, ◌⊎◌, ◌≤◌, ℕ, IsTrue, IsErrOf, OnOk, IfOk, IfErr, length, vec_len, ◌++◌, ◌∷◌, [], Ok};
 ghost use Rattle.nqs_outside.specs.Causes.{Rose};
 ghost use Rattle.nqs_outside.specs.History.{extended};
 ghost use Rattle.nqs_journal.specs.Text.{header, records};
@@ -54,6 +54,7 @@ pub fn format<D: Disk>(
     ensures only { IfErr result (λ fault. (fault ≡ StoreFault.Disk Which.First) ⊎ (fault ≡ StoreFault.Memory)) }
     ensures memory { IsTrue D.tells → IsErrOf result StoreFault.Memory → D.history disks.new.first ≡ D.history disks.old.first }
     ensures failed { IsErrOf result (StoreFault.Disk Which.First) → Rose (D.faults disks.old.first) (D.faults disks.new.first) }
+    ensures fuse { IsTrue D.tells → (i : ℕ) → D.fails disks.new.first i ≡ D.fails disks.old.first i }
     ensures root { disks.new.root ≡ disks.old.root }
     ensures second { disks.new.second ≡ disks.old.second }
     ensures spool { disks.new.spool ≡ disks.old.spool }
