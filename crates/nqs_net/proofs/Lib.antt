@@ -2,3 +2,4 @@ pub mod Fates
 pub mod Burns
 pub mod Turning
 pub mod Starting
+mod Leaving

@@ -6,6 +6,7 @@
 #![tactic(auto)]
 
 mod emit;
+mod left;
 mod slot;
 mod stop;
 mod turn;
