@@ -3,3 +3,4 @@ pub mod Burns
 pub mod Turning
 pub mod Starting
 mod Leaving
+mod Showing

@@ -7,6 +7,7 @@
 
 mod emit;
 mod left;
+mod shown;
 mod slot;
 mod stop;
 mod turn;

@@ -46,12 +46,4 @@ impl World {
     {
         Err(Memory)
     }
-
-    /// The rows of the network's table, by host and then by request, as the disks of the hosts tell them.
-    pub fn table(&mut self, alloc: Global) -> Result<Vec<TableRow>, Memory>
-        ensures world { (network : Network) → IsWorld self.old network → OnOk result (IsWorld self.new network) }
-        ensures rows { (network : Network) → IsWorld self.old network → IfOk result (λ rows. rows.items ≡ table (states_of network)) }
-    {
-        Err(Memory)
-    }
 }
