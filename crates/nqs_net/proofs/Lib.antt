@@ -4,3 +4,4 @@ pub mod Turning
 pub mod Starting
 mod Leaving
 mod Showing
+mod Founding

@@ -7,6 +7,7 @@
 
 mod emit;
 mod left;
+mod new;
 mod shown;
 mod slot;
 mod stop;

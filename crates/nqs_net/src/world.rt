@@ -24,15 +24,6 @@ pub struct World {
 }
 
 impl World {
-    /// Formats and boots each host, at moment 0.
-    pub fn new(alloc: Global, site: &[Name]) -> Result<World, Memory>
-        requires some { 1 ≤ length site.now }
-        requires few { length site.now ≤ 16 }
-        ensures { IfOk result (λ world. IsWorld world (new_world site.now)) }
-    {
-        Err(Memory)
-    }
-
     /// Takes an event, and adds to `seen` what is seen of it. After `Memory` the world is used no more.
     pub fn event(
         &mut self,
