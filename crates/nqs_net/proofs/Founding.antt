@@ -1,5 +1,5 @@
 -- A host that was formatted and booted on empty disks without a fuse is a new one.
-use Rattle.std.proofs.Common.{◌≡◌, ℕ, zero, suc, ◌+◌, ◌<◌, ◌≤◌, nat_le, nat_lt, Bool, false, true, List, [], ◌∷◌, ◌++◌, take, length, IsTrue, Option, None, refl, sym, ap, subst, ◌∙◌, arith}
+use Rattle.std.proofs.Common.{◌≡◌, ℕ, zero, suc, ◌+◌, ◌<◌, false, true, List, [], ◌∷◌, ◌++◌, take, length, None, refl, sym, ap, subst, ◌∙◌, arith}
 use Rattle.nqs_types.specs.declared.change.Change.TheVariants.{Boot}
 use Rattle.nqs_types.specs.declared.ids.HostId.{HostId}
 use Rattle.nqs_types.specs.declared.tear.Tear.{Tear}
@@ -15,7 +15,7 @@ use Rattle.nqs_rules.specs.Applied.{applied}
 use Rattle.nqs_rules.specs.Format.{formatted}
 use Rattle.nqs_rules.specs.World.{Host, no_fuses, no_calls, new_host, hosts_from}
 use Rattle.nqs_store.specs.Commits.{IsKept}
-use Rattle.nqs_store.specs.Disks.{disk_at, histories_of, failing_of}
+use Rattle.nqs_store.specs.Disks.{histories_of, failing_of}
 use Rattle.nqs_store.specs.Formatted.{IsFormatted}
 use Rattle.nqs_store.specs.Images.{IsTold}
 use Rattle.nqs_store.specs.Sound.{IsSoundHost}

@@ -17,7 +17,7 @@ use Rattle.nqs_store.proofs.TellsNow.{told_now}
 use Rattle.nqs_node.specs.Nodes.{disk_of, history_of, fails_of, content_of}
 use Rattle.nqs_node.specs.declared.node.Node.{Node}
 use Rattle.nqs_net.specs.Left.{IsLeft, AreLeft}
-use Rattle.nqs_net.specs.Worlds.{AreDisks, IsUp, IsDown, IsSlot, AreSlots}
+use Rattle.nqs_net.specs.Worlds.{IsUp, IsDown, IsSlot, AreSlots}
 use Rattle.nqs_net.specs.declared.slot.Slot.{Slot}
 use Rattle.nqs_net.proofs.Burns.{same_disks}
 

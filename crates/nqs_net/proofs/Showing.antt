@@ -1,17 +1,17 @@
 -- Reads of disks change nothing, and tell the states of the hosts.
-use Rattle.std.proofs.Common.{◌≡◌, ℕ, zero, suc, ◌+◌, ◌<◌, ◌≤◌, Bool, List, [], ◌∷◌, ◌++◌, map, take, length, get_or, set, Some, refl, sym, ap, subst, ◌∙◌, arith}
+use Rattle.std.proofs.Common.{◌≡◌, ℕ, zero, suc, ◌<◌, List, [], ◌∷◌, ◌++◌, map, take, length, get_or, set, Some, refl, sym, ap, subst, ◌∙◌, arith}
 use Rattle.nqs_types.specs.State.{Plain, content}
 use Rattle.nqs_types.specs.declared.state.HostState.{HostState}
 use Rattle.nqs_types.specs.declared.tear.Tear.{Tear}
 use Rattle.nqs_types.specs.declared.world.Which.{Which}
 use Rattle.nqs_types.specs.declared.world.Which.TheVariants.{First, Spool}
-use Rattle.nqs_outside.specs.History.{History, content as bytes_now}
+use Rattle.nqs_outside.specs.History.{content as bytes_now}
 use Rattle.nqs_disk.specs.MemDisk as mem
 use Rattle.nqs_disk.specs.contracts.mem_disk.MemDiskDisk.TheImpl.{ghosts}
 use Rattle.nqs_disk.specs.declared.mem_disk.MemDisk.{MemDisk}
 use Rattle.nqs_rules.specs.Plain.{map_state}
 use Rattle.nqs_rules.specs.World.{Host}
-use Rattle.nqs_store.specs.Disks.{disk_at, histories_of, failing_of}
+use Rattle.nqs_store.specs.Disks.{histories_of, failing_of}
 use Rattle.nqs_store.specs.Images.{IsTold}
 use Rattle.nqs_store.specs.Live.{bytes_at}
 use Rattle.nqs_store.specs.Told.{Host as Told, told}
@@ -22,7 +22,7 @@ use Rattle.nqs_store.specs.declared.disks.Disks.{Disks}
 use Rattle.nqs_node.specs.Nodes.{history_of, fails_of, content_of, Tells}
 use Rattle.nqs_node.specs.declared.node.Node.{Node}
 use Rattle.nqs_table.specs.Standing.{StandsFor, StandForEach}
-use Rattle.nqs_net.specs.Worlds.{AreDisks, IsUp, IsDown, IsSlot, AreSlots}
+use Rattle.nqs_net.specs.Worlds.{IsUp, IsDown, IsSlot, AreSlots}
 use Rattle.nqs_net.specs.declared.slot.Slot.{Slot}
 use Rattle.nqs_net.proofs.Burns.{same_disks}
 

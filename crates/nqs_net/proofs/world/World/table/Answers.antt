@@ -1,4 +1,4 @@
-use Rattle.std.proofs.Common.{◌≡◌, ℕ, suc, ◌+◌, ◌<◌, ◌∷◌, ◌++◌, [], map, length, take, subst, sym, ap, ◌∙◌, arith}
+use Rattle.std.proofs.Common.{◌≡◌, suc, ◌+◌, ◌∷◌, ◌++◌, [], map, take, subst, sym, arith}
 use Rattle.std.proofs.lemmas.List.{take_all}
 use Rattle.nqs_rules.specs.Run.{states_of}
 use Rattle.nqs_table.specs.Standing.{StandForEach}
