@@ -23,7 +23,7 @@ fn left_by(slot: Slot) -> Disks<MemDisk>
 }
 
 impl World {
-    /// The disks of the hosts, in the order of the site, as a stop of them all would find them.
+    /// The disks of the hosts, in the order of the site. Whatever images they may leave tell the states of the hosts.
     pub fn close(self, alloc: Global) -> Result<Vec<Disks<MemDisk>>, Memory>
         ensures { (network : Network) → IsWorld self network → IfOk result (λ disks. AreLeft disks.items network.hosts) }
     {

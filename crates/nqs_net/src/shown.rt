@@ -1,6 +1,7 @@
 //! The table of a world, as the disks of its hosts tell it.
 //!
-//! A read fails only where a fuse has fallen, and that stopped its host: so no answer but `Memory` is left.
+//! Each failed read is want of memory. A disk fails to read only after a call that was to fail, and such a call stops its
+//! host, whose disks then have no fuse.
 
 ghost use Rattle.std.specs.Prelude.{◌≡◌, IfOk, OnOk};
 ghost use Rattle.nqs_rules.specs.Net.{table};
