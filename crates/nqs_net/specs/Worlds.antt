@@ -12,9 +12,10 @@ use Rattle.nqs_store.specs.declared.disks.Disks.{Disks}
 use Rattle.nqs_store.specs.Images.{IsTold}
 use Rattle.nqs_store.specs.Sound.{IsSoundHost}
 use Rattle.nqs_node.specs.Nodes.{history_of, fails_of, content_of, Tells}
+use Rattle.nqs_disk.specs.contracts.mem_disk.MemDiskDisk.TheImpl.{ghosts}
 use Rattle.nqs_node.specs.declared.node.Node.{Node}
-use Rattle.nqs_net.specs.declared.world.Slot.{Slot}
-use Rattle.nqs_net.specs.declared.world.Slot.TheVariants.{Up, Down}
+use Rattle.nqs_net.specs.declared.slot.Slot.{Slot}
+use Rattle.nqs_net.specs.declared.slot.Slot.TheVariants.{Up, Down}
 use Rattle.nqs_net.specs.declared.world.World.{World}
 
 abbrev pub fuse_of : Which → Fuses → Option ℕ
@@ -41,31 +42,31 @@ AreInTurn (write place bytes true ∷ sync true ∷ calls) = AreInTurn calls
 AreInTurn calls = ⊥
 
 -- so many calls, and so many left until its fuse
-pub record IsDisk (fuse : Option ℕ) (calls : ℕ) (h : History) (fails : ℕ → Bool) : Type 0 where
-  pub fuse : IsFuse fuse (moment h) fails
-  pub count : moment h ≡ calls
+pub record IsDisk (left : Option ℕ) (made : ℕ) (h : History) (fails : ℕ → Bool) : Type 0 where
+  pub fuse : IsFuse left (moment h) fails
+  pub count : moment h ≡ made
   pub turn : AreInTurn h.calls
 
 abbrev pub AreDisks : Host → (Which → History) → (Which → ℕ → Bool) → Type 0
 AreDisks host histories fails = (which : Which) → IsDisk (fuse_of which host.fuses) (calls_of which host.calls) (histories which) (fails which)
 
 -- a node that is up
-pub record IsUp (node : Node MemDisk) (host : Host) : Type 0 where
+pub record IsUp (node : Node MemDisk ghosts) (host : Host) : Type 0 where
   pub up : host.up ≡ true
   pub tells : Tells node host.state
   pub sound : IsSoundHost (content_of node)
   pub disks : AreDisks host (history_of node) (fails_of node)
 
 -- The disks of a host that is down. No call was made of them.
-pub record IsDown (disks : Disks MemDisk) (host : Host) : Type 0 where
+pub record IsDown (left : Disks MemDisk) (host : Host) : Type 0 where
   pub down : host.up ≡ false
-  pub tells : IsTold (content (histories_of mem.history_of disks First)) (content (histories_of mem.history_of disks Spool)) host.state
-  pub disks : AreDisks host (histories_of mem.history_of disks) (failing_of mem.fails_of disks)
-  pub calls : (which : Which) → (histories_of mem.history_of disks which).calls ≡ []
+  pub tells : IsTold (content (histories_of mem.history_of left First)) (content (histories_of mem.history_of left Spool)) host.state
+  pub disks : AreDisks host (histories_of mem.history_of left) (failing_of mem.fails_of left)
+  pub calls : (which : Which) → (histories_of mem.history_of left which).calls ≡ []
 
 abbrev pub IsSlot : Slot → Host → Type 0
-IsSlot (Up node) host = IsUp node host
-IsSlot (Down disks) host = IsDown disks host
+IsSlot (Up up) host = IsUp up.node host
+IsSlot (Down down) host = IsDown down.disks host
 
 -- each slot and its tear stand for the host of their place
 abbrev pub AreSlots : List Slot → List Tear → List Host → Type 0
@@ -76,6 +77,6 @@ AreSlots slots tears hosts = ⊥
 -- it stands for this network
 pub record IsWorld (world : World) (network : Network) : Type 0 where
   pub site : world.site ≡ network.site
-  pub hosts : AreSlots world.slots world.tears network.hosts
-  pub packets : world.packets ≡ network.packets
+  pub hosts : AreSlots world.slots.items world.tears.items network.hosts
+  pub packets : world.packets.items ≡ network.packets
   pub now : world.now ≡ network.now

@@ -5,6 +5,14 @@
 //! `nqs_rules`, in which there is no byte of a disk.
 #![tactic(auto)]
 
+mod emit;
+mod left;
+mod new;
+mod shown;
+mod slot;
+mod stop;
+mod turn;
 mod world;
 
-pub use world::{Slot, World};
+pub use slot::{DownHost, Slot, UpHost};
+pub use world::World;

@@ -8,40 +8,22 @@ ghost use Rattle.nqs_laws.specs.Words.{IsInOrderAll};
 ghost use Rattle.nqs_lines.specs.Acts.{act_of, is_sane_line};
 ghost use Rattle.nqs_net.specs.Worlds.{IsWorld};
 
-use nqs_disk::MemDisk;
-use nqs_node::Node;
-use nqs_store::Disks;
-use nqs_types::{Items, Memory, Message, Name, NameList, Seen, TableRow, Tear, WorldEvent};
+use crate::slot::Slot;
+use nqs_types::{Memory, Message, Name, NameList, Seen, TableRow, Tear, WorldEvent};
 use std::alloc::Global;
-
-/// A host that runs, or the disks of one that doesn't.
-#[derive(Drop)]
-pub enum Slot {
-    Up(Node<MemDisk>),
-    Down(Disks<MemDisk>),
-}
 
 /// A network of hosts: a slot and a tear for each, in the order of the site. The packets are all that were ever sent;
 /// `now` is the moment, in seconds since 1970.
 #[derive(Drop)]
 pub struct World {
     pub site: NameList,
-    pub slots: Items<Slot>,
-    pub tears: Items<Tear>,
-    pub packets: Items<Message>,
+    pub slots: Vec<Slot>,
+    pub tears: Vec<Tear>,
+    pub packets: Vec<Message>,
     pub now: u64,
 }
 
 impl World {
-    /// Formats and boots each host, at moment 0.
-    pub fn new(alloc: Global, site: &[Name]) -> Result<World, Memory>
-        requires some { 1 ≤ length site.now }
-        requires few { length site.now ≤ 16 }
-        ensures { IfOk result (λ world. IsWorld world (new_world site.now)) }
-    {
-        Err(Memory)
-    }
-
     /// Takes an event, and adds to `seen` what is seen of it. After `Memory` the world is used no more.
     pub fn event(
         &mut self,
@@ -52,14 +34,6 @@ impl World {
         requires sane { IsTrue (is_sane_line event.now) }
         ensures world { (site : List (List ℕ)) (network : Network) → IsInOrderAll site network → IsWorld self.old network → OnOk result (IsWorld self.new (happens (act_of event.now) network).world) }
         ensures seen { (site : List (List ℕ)) (network : Network) → IsInOrderAll site network → IsWorld self.old network → OnOk result (seen.new.items ≡ seen.old.items ++ (happens (act_of event.now) network).seen) }
-    {
-        Err(Memory)
-    }
-
-    /// The rows of the network's table, by host and then by request, as the disks of the hosts tell them.
-    pub fn table(&mut self, alloc: Global) -> Result<Vec<TableRow>, Memory>
-        ensures world { (network : Network) → IsWorld self.old network → OnOk result (IsWorld self.new network) }
-        ensures rows { (network : Network) → IsWorld self.old network → IfOk result (λ rows. rows.items ≡ table (states_of network)) }
     {
         Err(Memory)
     }

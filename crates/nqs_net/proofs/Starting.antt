@@ -1,0 +1,152 @@
+-- Starts of a host go on until there is none, and a host that stops starts nothing.
+use Rattle.std.proofs.Common.{◌≡◌, ◌⊎◌, inl, inr, ℕ, zero, suc, ◌+◌, ◌<◌, ◌≤◌, nat_le, Bool, true, false, List, [], ◌∷◌, ◌++◌, length, map, slice_get, Option, None, Some, is_some, refl, sym, ap, subst, ◌∙◌, arith}
+use Rattle.std.proofs.lemmas.List.{append_assoc}
+use Rattle.std.proofs.lemmas.Simd.{map-map}
+use Rattle.nqs_types.specs.State.{State, Plain}
+use Rattle.nqs_types.specs.Ids.{id_eq}
+use Rattle.nqs_types.specs.declared.ids.HostId.{HostId}
+use Rattle.nqs_types.specs.declared.change.Change.{Change}
+use Rattle.nqs_types.specs.declared.event.Output.{Output}
+use Rattle.nqs_rules.specs.Applied.{applied}
+use Rattle.nqs_rules.specs.InOrder.{IsInOrder, are_distinct, is_row_right, is_queue_right}
+use Rattle.nqs_rules.specs.Measure.{starts_left}
+use Rattle.nqs_rules.specs.Plain.{map_row, map_state}
+use Rattle.nqs_rules.specs.Start.{start}
+use Rattle.nqs_rules.specs.Stepped.{Stepped, quiet, shown, stored_parts}
+use Rattle.nqs_rules.specs.World.{World as Network, Host, Ran, Fate, Made, StoppedBefore, StoppedAfter, fate, host_of, put_host, emits, stopped, used, change_fated, carries_out, steps, starts, all_starts, left_of, then_seen, then_ran, unseen}
+use Rattle.nqs_rules.proofs.ListFacts.{list_all-weaker}
+use Rattle.nqs_rules.proofs.FindKept.{all-mapped}
+use Rattle.nqs_rules.proofs.StateFacts.{keys_are}
+use Rattle.nqs_rules.proofs.RowFacts.{row_is}
+use Rattle.nqs_rules.proofs.RowChanges.{at_most_32}
+use Rattle.nqs_rules.proofs.QueuesOrder.{queue_is}
+use Rattle.nqs_rules.proofs.StartIs.{IsSteady, IsStart, start_is}
+use Rattle.nqs_rules.proofs.Lowers.{lower, stays}
+use Rattle.nqs_laws.proofs.Sound.{get-here}
+use Rattle.nqs_node.specs.Carried.{started}
+use Rattle.nqs_net.proofs.Turning.{emits_world}
+
+module _ {E : Type 0} where
+  -- a state in order is steady, whatever bytes are put for its scripts
+  pub steady_plain : (f : E → List ℕ) (s : State E) → IsInOrder s → IsSteady (map_state f s)
+  steady_plain f s h = record {
+    ids = ap (are_distinct id_eq) (map-map (λ r. r.id) (map_row f) s.rows) ∙ (keys_are s h.keys).rows;
+    names = (keys_are s h.keys).queues;
+    hops = all-mapped (is_row_right s) (λ r. nat_le r.hops 32) (map_row f) (λ r k. at_most_32 r (row_is s r k).hop) s.rows h.rows;
+    dests = list_all-weaker (is_queue_right s) (λ q. nat_le (length q.dests) 16) (λ q k. (queue_is s q k).few_dests) s.queues h.queues;
+  }
+
+-- the starts from a world on, by its host, by whether that is up, and by what starts
+
+abbrev by_start : ℕ → HostId → Network → Host → Option (Stepped (List ℕ)) → Ran
+by_start n h w host o = elim o [ None ↦ unseen w | Some s ↦ (let r = steps h host s w in then_seen r.seen (starts n h r.world)) ]
+
+abbrev by_up : ℕ → HostId → Network → Host → Bool → Ran
+by_up n h w host up = elim up [ false ↦ unseen w | true ↦ by_start n h w host (start w.now host.state) ]
+
+abbrev by_host : ℕ → HostId → Network → Option Host → Ran
+by_host n h w o = elim o [ None ↦ unseen w | Some host ↦ by_up n h w host host.up ]
+
+pub down_starts : (n : ℕ) (h : HostId) (w : Network) (host : Host) → host_of h w ≡ Some host → host.up ≡ false → starts n h w ≡ unseen w
+down_starts zero h w host there down = refl
+down_starts (suc n) h w host there down = ap (by_host n h w) there ∙ ap (by_up n h w host) down
+
+none_starts : (n : ℕ) (h : HostId) (w : Network) (host : Host) → host_of h w ≡ Some host → start w.now host.state ≡ None → starts n h w ≡ unseen w
+none_starts zero h w host there none = refl
+none_starts (suc n) h w host there none = ap (by_host n h w) there ∙ by host.up
+  where
+    by : (up : Bool) → by_up n h w host up ≡ unseen w
+    by false = refl
+    by true = ap (by_start n h w host) none
+
+-- the host after a start: it is down, or fewer starts are left
+record Lowered (h : HostId) (s : Plain) (w : Network) : Type 0 where
+  host : Host
+  there : host_of h w ≡ Some host
+  fewer : (host.up ≡ false) ⊎ (IsSteady host.state × (starts_left host.state < starts_left s))
+
+module _ (h : HostId) (w : Network) (host : Host) (there : host_of h w ≡ Some host) (calm : IsSteady host.state) where
+  fated : (f : Fate) (c : Change (List ℕ)) (os : List Output) → IsSteady (applied c host.state) → starts_left (applied c host.state) < starts_left host.state → Lowered h host.state (change_fated f h host c [] os w).world
+  fated Made c os steady less =
+      let next = used (stored_parts c) (applied c host.state) host in
+      subst (λ v. Lowered h host.state v) (sym (emits_world h os (put_host h next w))) (record { host = next; there = get-here h.0 next host w.hosts there; fewer = inr (steady, less) })
+  fated StoppedBefore c os steady less = record { host = stopped host.state host; there = get-here h.0 (stopped host.state host) host w.hosts there; fewer = inl refl }
+  fated StoppedAfter c os steady less = record { host = stopped (applied c host.state) host; there = get-here h.0 (stopped (applied c host.state) host) host w.hosts there; fewer = inl refl }
+
+  step_lowers : (x : Stepped (List ℕ)) → start w.now host.state ≡ Some x → Lowered h host.state (steps h host x w).world
+  step_lowers x e =
+      let is = start_is w.now host.state x calm e in
+      subst (λ (o : Option (Change (List ℕ))). Lowered h host.state (carries_out h host o (map shown x.outputs) w).world) (sym is.makes)
+      (fated (fate (stored_parts is.change) host) is.change (map shown x.outputs) (stays host.state calm is.row is.found is.ready is.change is.starts) (lower host.state calm is.row is.found is.ready is.change is.starts))
+
+  idle : starts_left host.state ≤ 0 → start w.now host.state ≡ None
+  idle few = by (start w.now host.state) refl
+    where
+      by : (o : Option (Stepped (List ℕ))) → start w.now host.state ≡ o → start w.now host.state ≡ None
+      by None e = e
+      by (Some x) e =
+          let is = start_is w.now host.state x calm e in
+          let less = lower host.state calm is.row is.found is.ready is.change is.starts in
+          absurd (let no : ⊥ = omega (arith, less, few) in no)
+
+-- more than there may be changes nothing
+enough : (n m : ℕ) (h : HostId) (w : Network) (host : Host) → host_of h w ≡ Some host → IsSteady host.state → starts_left host.state ≤ n → starts_left host.state ≤ m → starts n h w ≡ starts m h w
+enough zero m h w host there calm few also = sym (none_starts m h w host there (idle h w host there calm few))
+enough (suc n) zero h w host there calm few also = none_starts (suc n) h w host there (idle h w host there calm also)
+enough (suc n) (suc m) h w host there calm few also = ap (by_host n h w) there ∙ of host.up (enough n m) ∙ sym (ap (by_host m h w) there)
+  where
+    next : (v : Network) → Lowered h host.state v → ((h : HostId) (w : Network) (host : Host) → host_of h w ≡ Some host → IsSteady host.state → starts_left host.state ≤ n → starts_left host.state ≤ m → starts n h w ≡ starts m h w)
+        → starts n h v ≡ starts m h v
+    next v low rest = which low.fewer
+      where
+        which : (low.host.up ≡ false) ⊎ (IsSteady low.host.state × (starts_left low.host.state < starts_left host.state)) → starts n h v ≡ starts m h v
+        which (inl down) = down_starts n h v low.host low.there down ∙ sym (down_starts m h v low.host low.there down)
+        which (inr fewer) = rest h v low.host low.there fewer.0 (omega (arith, fewer.1, few)) (omega (arith, fewer.1, also))
+
+    by : (o : Option (Stepped (List ℕ))) → start w.now host.state ≡ o → ((h : HostId) (w : Network) (host : Host) → host_of h w ≡ Some host → IsSteady host.state → starts_left host.state ≤ n → starts_left host.state ≤ m → starts n h w ≡ starts m h w)
+        → by_start n h w host o ≡ by_start m h w host o
+    by None e rest = refl
+    by (Some x) e rest = ap (then_seen (steps h host x w).seen) (next (steps h host x w).world (step_lowers h w host there calm x e) rest)
+
+    of : (up : Bool) → ((h : HostId) (w : Network) (host : Host) → host_of h w ≡ Some host → IsSteady host.state → starts_left host.state ≤ n → starts_left host.state ≤ m → starts n h w ≡ starts m h w)
+        → by_up n h w host up ≡ by_up m h w host up
+    of false rest = refl
+    of true rest = by (start w.now host.state) refl rest
+
+module _ (h : HostId) (w : Network) (host : Host) (there : host_of h w ≡ Some host) where
+  pub down_all : host.up ≡ false → all_starts h w ≡ unseen w
+  down_all down = down_starts (left_of (host_of h w)) h w host there down
+
+  pub none_all : start w.now host.state ≡ None → all_starts h w ≡ unseen w
+  none_all none = none_starts (left_of (host_of h w)) h w host there none
+
+  module _ (calm : IsSteady host.state) (up : host.up ≡ true) where
+    some_all : (x : Stepped (List ℕ)) → start w.now host.state ≡ Some x → all_starts h w ≡ then_ran (steps h host x w) (all_starts h)
+    some_all x e =
+        let left = starts_left host.state in
+        let v : Network = (steps h host x w).world in
+        ap (λ o. starts (left_of o) h w) there
+        ∙ enough left (suc left) h w host there calm (omega arith) (omega arith)
+        ∙ ap (by_host left h w) there ∙ ap (by_up left h w host) up ∙ ap (by_start left h w host) e
+        ∙ ap (then_seen (steps h host x w).seen) (of (step_lowers h w host there calm x e))
+      where
+        of : Lowered h host.state (steps h host x w).world → starts (starts_left host.state) h (steps h host x w).world ≡ all_starts h (steps h host x w).world
+        of low = which low.fewer
+          where
+            v : Network
+            v = (steps h host x w).world
+
+            which : (low.host.up ≡ false) ⊎ (IsSteady low.host.state × (starts_left low.host.state < starts_left host.state)) → starts (starts_left host.state) h v ≡ all_starts h v
+            which (inl down) = down_starts (starts_left host.state) h v low.host low.there down ∙ sym (down_starts (left_of (host_of h v)) h v low.host low.there down)
+            which (inr fewer) = enough (starts_left host.state) (starts_left low.host.state) h v low.host low.there fewer.0 (omega (arith, fewer.1)) (omega arith) ∙ sym (ap (λ o. starts (left_of o) h v) low.there)
+
+    -- the next start, or nothing, and then the others
+    pub next_all : all_starts h w ≡ then_ran (steps h host (started w.now host.state) w) (all_starts h)
+    next_all = by (start w.now host.state) refl
+      where
+        by : (o : Option (Stepped (List ℕ))) → start w.now host.state ≡ o → all_starts h w ≡ then_ran (steps h host (elim o [ None ↦ quiet | Some x ↦ x ]) w) (all_starts h)
+        by None e = refl
+        by (Some x) e = some_all x e
+
+pub ran_assoc : (r : Ran) (f g : Network → Ran) → then_ran (then_ran r f) g ≡ then_ran r (λ v. then_ran (f v) g)
+ran_assoc r f g = let last = g (f r.world).world in λ j. record { world = last.world; seen = append_assoc r.seen (f r.world).seen last.seen j }

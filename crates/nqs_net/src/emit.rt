@@ -1,0 +1,161 @@
+//! What goes out of a host: each output is seen, and a packet gets the next number.
+
+ghost use Rattle.std.specs.Prelude.{◌≡◌, ◌+◌, ◌++◌, OnOk, List, [], ◌∷◌, length};
+ghost use Rattle.nqs_rules.specs.World.{body_kind, body_number, seen_packet, seen_output, sent_by};
+ghost use Rattle.nqs_net.specs.Lists.{of_option, sent_in, seen_from};
+
+use nqs_types::{Body, BodyKind, HostId, Memory, Message, Output, Seen};
+
+fn body_kind(body: &Body) -> BodyKind
+    ensures { result ≡ body_kind body.now }
+{
+    match body {
+        Body::Offer { .. } => BodyKind::Offer,
+        Body::Ready { .. } => BodyKind::Ready,
+        Body::Refused { .. } => BodyKind::Refused,
+        Body::Commit { .. } => BodyKind::Commit,
+        Body::Done { .. } => BodyKind::Done,
+        Body::Inquire { .. } => BodyKind::Inquire,
+        Body::Abort { .. } => BodyKind::Abort,
+        Body::Stage { .. } => BodyKind::Stage,
+        Body::Staged { .. } => BodyKind::Staged,
+        Body::Ask { .. } => BodyKind::Ask,
+        Body::Answer { .. } => BodyKind::Answer,
+        Body::Ended { .. } => BodyKind::Ended,
+        Body::EndedAck { .. } => BodyKind::EndedAck,
+    }
+}
+
+// The number of a datagram among hosts, and 0 for one of a client.
+fn body_number(body: &Body) -> u64
+    ensures { result ≡ body_number body.now }
+{
+    match body {
+        Body::Offer { number, .. } => *number,
+        Body::Ready { number } => *number,
+        Body::Refused { number, .. } => *number,
+        Body::Commit { number } => *number,
+        Body::Done { number } => *number,
+        Body::Inquire { number } => *number,
+        Body::Abort { number } => *number,
+        Body::Stage { number, .. } => *number,
+        Body::Staged { number } => *number,
+        _ => 0,
+    }
+}
+
+// What is seen of the packet of this number.
+fn seen_packet(packet: u64, message: &Message) -> Seen
+    ensures { result ≡ seen_packet packet message.now }
+{
+    Seen::Packet {
+        packet,
+        from: message.from,
+        to: message.to,
+        kind: body_kind(&message.body),
+        number: body_number(&message.body),
+    }
+}
+
+// What is seen of an output, where a packet that it sends has this number, and the packet.
+fn shown(me: HostId, packet: u64, output: Output) -> (Option<Seen>, Option<Message>)
+    ensures seen { of_option result.0 ≡ seen_output me packet output }
+    ensures sent { of_option result.1 ≡ sent_by output }
+{
+    match output {
+        Output::Reply { reply, .. } => (Some(Seen::Reply(reply)), None),
+        Output::Send(message) => {
+            let sight = seen_packet(packet, &message);
+            (Some(sight), Some(message))
+        }
+        Output::Launch { order, .. } => (
+            Some(Seen::Launch {
+                host: me,
+                id: order.id,
+                start: order.start,
+            }),
+            None,
+        ),
+        Output::Print { device, order, .. } => (
+            Some(Seen::Print {
+                host: me,
+                id: order.id,
+                start: order.start,
+                device,
+            }),
+            None,
+        ),
+        Output::Kill { id, start } => (Some(Seen::Kill { host: me, id, start }), None),
+        Output::File { file, path, bytes } => {
+            let length = bytes.len() as u64;
+            (
+                Some(Seen::Write {
+                    host: me,
+                    file,
+                    path,
+                    length,
+                }),
+                None,
+            )
+        }
+        Output::Ended { id, start, status } => (
+            Some(Seen::Ended {
+                host: me,
+                id,
+                start,
+                status,
+            }),
+            None,
+        ),
+        Output::Unlaunched { id, start } => {
+            (Some(Seen::Unlaunched { host: me, id, start }), None)
+        }
+        Output::Again(id) => (Some(Seen::Again { host: me, id }), None),
+        Output::Lost(id) => (Some(Seen::Lost { host: me, id }), None),
+        Output::Ack { .. } => (None, None),
+    }
+}
+
+// Adds what there is.
+fn push_some<T: Drop>(list: &mut Vec<T>, value: Option<T>) -> Result<(), Memory>
+    ensures { OnOk result (list.new.items ≡ list.old.items ++ of_option value) }
+{
+    match value {
+        Some(value) => {
+            list.push(value)?;
+            Ok(())
+        }
+        None => Ok(()),
+    }
+}
+
+// One output goes out.
+fn emit_one(
+    me: HostId,
+    output: Output,
+    packets: &mut Vec<Message>,
+    seen: &mut Vec<Seen>,
+) -> Result<(), Memory>
+    ensures packets { OnOk result (packets.new.items ≡ packets.old.items ++ sent_by output) }
+    ensures seen { OnOk result (seen.new.items ≡ seen.old.items ++ seen_output me (length packets.old.items + 1) output) }
+{
+    let (sight, message) = shown(me, packets.len() as u64 + 1, output);
+    push_some(seen, sight)?;
+    push_some(packets, message)
+}
+
+/// The outputs of a host go out, one after the other.
+pub(crate) fn emit(
+    me: HostId,
+    outputs: Vec<Output>,
+    packets: &mut Vec<Message>,
+    seen: &mut Vec<Seen>,
+) -> Result<(), Memory>
+    ensures packets { OnOk result (packets.new.items ≡ packets.old.items ++ sent_in outputs.items) }
+    ensures seen { OnOk result (seen.new.items ≡ seen.old.items ++ seen_from me (length packets.old.items) outputs.items) }
+{
+    for output in outputs {
+        emit_one(me, output, packets, seen)?;
+    }
+    Ok(())
+}
