@@ -2,3 +2,4 @@ pub mod Lists
 pub mod Props
 pub mod Worlds
 pub mod Turns
+pub mod Left

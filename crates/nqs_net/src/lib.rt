@@ -7,6 +7,9 @@
 
 mod emit;
 mod host;
+mod left;
+mod new;
+mod shown;
 mod slot;
 mod stop;
 mod turn;

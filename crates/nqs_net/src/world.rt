@@ -24,15 +24,6 @@ pub struct World {
 }
 
 impl World {
-    /// Formats and boots each host, at moment 0.
-    pub fn new(alloc: Global, site: &[Name]) -> Result<World, Memory>
-        requires some { 1 ≤ length site.now }
-        requires few { length site.now ≤ 16 }
-        ensures { IfOk result (λ world. IsWorld world (new_world site.now)) }
-    {
-        Err(Memory)
-    }
-
     /// Takes an event, and adds to `seen` what is seen of it. After `Memory` the world is used no more.
     pub fn event(
         &mut self,
@@ -43,14 +34,6 @@ impl World {
         requires sane { IsTrue (is_sane_line event.now) }
         ensures world { (site : List (List ℕ)) (network : Network) → IsInOrderAll site network → IsWorld self.old network → OnOk result (IsWorld self.new (happens (act_of event.now) network).world) }
         ensures seen { (site : List (List ℕ)) (network : Network) → IsInOrderAll site network → IsWorld self.old network → OnOk result (seen.new.items ≡ seen.old.items ++ (happens (act_of event.now) network).seen) }
-    {
-        Err(Memory)
-    }
-
-    /// The rows of the network's table, by host and then by request, as the disks of the hosts tell them.
-    pub fn table(&mut self, alloc: Global) -> Result<Vec<TableRow>, Memory>
-        ensures world { (network : Network) → IsWorld self.old network → OnOk result (IsWorld self.new network) }
-        ensures rows { (network : Network) → IsWorld self.old network → IfOk result (λ rows. rows.items ≡ table (states_of network)) }
     {
         Err(Memory)
     }

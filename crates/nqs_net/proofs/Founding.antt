@@ -1,0 +1,103 @@
+-- A host that was formatted and booted on empty disks without a fuse is a new one.
+use Rattle.std.proofs.Common.{◌≡◌, ℕ, zero, suc, ◌+◌, ◌<◌, false, true, List, [], ◌∷◌, ◌++◌, take, length, None, refl, sym, ap, subst, ◌∙◌, arith}
+use Rattle.nqs_types.specs.declared.change.Change.TheVariants.{Boot}
+use Rattle.nqs_types.specs.declared.ids.HostId.{HostId}
+use Rattle.nqs_types.specs.declared.tear.Tear.{Tear}
+use Rattle.nqs_types.specs.declared.tear.Tear.TheVariants.{Old}
+use Rattle.nqs_types.specs.declared.world.Which.{Which}
+use Rattle.nqs_types.specs.declared.world.Which.TheVariants.{Root, First, Second, Spool}
+use Rattle.nqs_outside.specs.History.{History, content, moment, extended}
+use Rattle.nqs_journal.specs.Plan.{begin_calls}
+use Rattle.nqs_disk.specs.MemDisk as mem
+use Rattle.nqs_disk.specs.contracts.mem_disk.MemDiskDisk.TheImpl.{ghosts}
+use Rattle.nqs_disk.specs.declared.mem_disk.MemDisk.{MemDisk}
+use Rattle.nqs_rules.specs.Applied.{applied}
+use Rattle.nqs_rules.specs.Format.{formatted}
+use Rattle.nqs_rules.specs.World.{Host, no_fuses, no_calls, new_host, hosts_from}
+use Rattle.nqs_store.specs.Commits.{IsKept}
+use Rattle.nqs_store.specs.Disks.{histories_of, failing_of}
+use Rattle.nqs_store.specs.Formatted.{IsFormatted}
+use Rattle.nqs_store.specs.Images.{IsTold}
+use Rattle.nqs_store.specs.Sound.{IsSoundHost}
+use Rattle.nqs_store.specs.declared.disks.Disks.{Disks}
+use Rattle.nqs_node.specs.Nodes.{history_of, fails_of, content_of, Tells}
+use Rattle.nqs_node.specs.declared.node.Node.{Node}
+use Rattle.nqs_net.specs.Worlds.{IsDisk, AreInTurn, AreDisks, IsUp, IsSlot, AreSlots}
+use Rattle.nqs_net.specs.declared.slot.Slot.{Slot}
+use Rattle.nqs_net.specs.declared.slot.Slot.TheVariants.{Up}
+use Rattle.nqs_net.specs.declared.slot.UpHost.{UpHost}
+use Rattle.nqs_net.proofs.Burns.{kept_disks}
+
+-- an empty disk before any call
+abbrev pub unused : History
+unused = record { start = []; calls = [] }
+
+-- a disk that is as it was made
+still : (disk : MemDisk) → mem.history_of disk ≡ unused → ((i : ℕ) → mem.fails_of disk i ≡ false) → IsDisk None 0 (mem.history_of disk) (mem.fails_of disk)
+still disk bare unfused = record { fuse = unfused; count = ap moment bare; turn = subst (λ h. AreInTurn h.calls) (sym bare) tt }
+
+module _ (me : HostId) (site : List (List ℕ)) where
+  pub formatted_told : (disks : Disks MemDisk) → IsFormatted (mem.history_of disks.first) me site
+      → IsTold (content (histories_of mem.history_of disks First)) (content (histories_of mem.history_of disks Spool)) (formatted me site)
+  formatted_told disks is = record {
+    payloads = is.payload ∷ [];
+    stands = is.opened.stands;
+    host = formatted me site;
+    tells = is.tells;
+    sound = record { apart = tt; within = tt };
+    bytes = refl;
+  }
+
+  module _ (new disks : Disks MemDisk)
+      (bare : (which : Which) → histories_of mem.history_of new which ≡ unused) (unfused : (which : Which) (i : ℕ) → failing_of mem.fails_of new which i ≡ false)
+      (root : disks.root ≡ new.root) (second : disks.second ≡ new.second) (spool : disks.spool ≡ new.spool)
+      (text : List ℕ) (made : mem.history_of disks.first ≡ extended (mem.history_of new.first) (begin_calls text)) (fuse : (i : ℕ) → mem.fails_of disks.first i ≡ mem.fails_of new.first i) where
+    abbrev host : Host
+    host = record { up = true; state = formatted me site; tear = Old; fuses = no_fuses; calls = record no_calls { first = 2 } }
+
+    two_calls : AreDisks host (histories_of mem.history_of disks) (failing_of mem.fails_of disks)
+    two_calls Root = still disks.root (ap mem.history_of root ∙ bare Root) (λ i. ap (λ d. mem.fails_of d i) root ∙ unfused Root i)
+    two_calls First =
+        let begun : mem.history_of disks.first ≡ extended unused (begin_calls text) = made ∙ ap (λ h. extended h (begin_calls text)) (bare First) in
+        record { fuse = λ i. fuse i ∙ unfused First i; count = ap moment begun; turn = subst (λ h. AreInTurn h.calls) (sym begun) tt }
+    two_calls Second = still disks.second (ap mem.history_of second ∙ bare Second) (λ i. ap (λ d. mem.fails_of d i) second ∙ unfused Second i)
+    two_calls Spool = still disks.spool (ap mem.history_of spool ∙ bare Spool) (λ i. ap (λ d. mem.fails_of d i) spool ∙ unfused Spool i)
+
+    pub booted : (node : Node MemDisk ghosts) → Tells node (applied Boot (formatted me site)) → IsSoundHost (content_of node) → IsKept (failing_of mem.fails_of disks) [] (histories_of mem.history_of disks) (history_of node)
+        → ((which : Which) (i : ℕ) → fails_of node which i ≡ failing_of mem.fails_of disks which i) → IsUp node (new_host site me.0)
+    booted node tells sound kept same = record {
+      up = refl;
+      tells = tells;
+      sound = sound;
+      disks = kept_disks host (failing_of mem.fails_of disks) (fails_of node) (histories_of mem.history_of disks) (history_of node) two_calls same [] (formatted me site) kept;
+    }
+
+-- one host more
+
+more_slots : (slots : List Slot) (tears : List Tear) (hosts : List Host) (slot : Slot) (tear : Tear) (one : Host) → AreSlots slots tears hosts → IsSlot slot one → tear ≡ one.tear
+    → AreSlots (slots ++ slot ∷ []) (tears ++ tear ∷ []) (hosts ++ one ∷ [])
+more_slots [] [] [] slot tear one are stands same = (stands, same, tt)
+more_slots [] [] (h ∷ hs) slot tear one are stands same = absurd are
+more_slots [] (t ∷ ts) hosts slot tear one are stands same = absurd are
+more_slots (s ∷ ss) [] hosts slot tear one are stands same = absurd are
+more_slots (s ∷ ss) (t ∷ ts) [] slot tear one are stands same = absurd are
+more_slots (s ∷ ss) (t ∷ ts) (h ∷ hs) slot tear one are stands same = (are.0, are.1, more_slots ss ts hs slot tear one are.2 stands same)
+
+pub more_up : (slots more : List Slot) (tears more_tears : List Tear) (hosts : List Host) (up : UpHost) (one : Host) → AreSlots slots tears hosts → more ≡ slots ++ Up up ∷ [] → more_tears ≡ tears ++ Old ∷ [] → IsUp up.node one → Old ≡ one.tear
+    → AreSlots more more_tears (hosts ++ one ∷ [])
+more_up slots more tears more_tears hosts up one are pushed pushed_tear stands same =
+    subst (λ ss. AreSlots ss more_tears (hosts ++ one ∷ [])) (sym pushed)
+    (subst (λ ts. AreSlots (slots ++ Up up ∷ []) ts (hosts ++ one ∷ [])) (sym pushed_tear) (more_slots slots tears hosts (Up up) Old one are stands same))
+
+next_host : (site : List (List ℕ)) (names : List (List ℕ)) (from i : ℕ) → i < length names → hosts_from from site (take (suc i) names) ≡ hosts_from from site (take i names) ++ new_host site (from + i) ∷ []
+next_host site [] from i lt = absurd (let no : ⊥ = omega (arith, lt) in no)
+next_host site (name ∷ names) from zero lt = ap (λ n. new_host site n ∷ []) (let e : from ≡ from + 0 = omega arith in e)
+next_host site (name ∷ names) from (suc i) lt =
+    let moved : from + 1 + i ≡ from + suc i = omega arith in
+    ap (λ hosts. new_host site from ∷ hosts) (next_host site names (from + 1) i (omega (arith, lt)) ∙ ap (λ n. hosts_from (from + 1) site (take i names) ++ new_host site n ∷ []) moved)
+
+pub host_more : (site : List (List ℕ)) (i : ℕ) → i < length site → hosts_from 0 site (take (i + 1) site) ≡ hosts_from 0 site (take i site) ++ new_host site i ∷ []
+host_more site i lt =
+    let next : i + 1 ≡ suc i = omega arith in
+    let here : 0 + i ≡ i = omega arith in
+    ap (λ n. hosts_from 0 site (take n site)) next ∙ next_host site site 0 i lt ∙ ap (λ n. hosts_from 0 site (take i site) ++ new_host site n ∷ []) here

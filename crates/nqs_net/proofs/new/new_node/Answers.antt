@@ -1,0 +1,14 @@
+use Rattle.std.proofs.Common.{refl}
+use Rattle.nqs_rules.specs.Format.{formatted}
+use Rattle.nqs_net.proofs.Founding.{formatted_told, booted}
+use Rattle.nqs_net.proofs.new.new_node.Goals as goal
+
+pub returns-in-Ok-boot : goal.returns-in-Ok-boot
+returns-in-Ok-boot c =
+    let me = c.args.me in
+    let site = c.args.site.now in
+    let disks = c.format.new.disks in
+    let is = c.in-Ok.ensures.told refl in
+    let told = c.in-Ok-boot.ensures.told refl (formatted me site) (formatted_told me site disks is) in
+    booted me site c.in_ok-disks.disks disks c.in_ok-disks.ensures.histories c.in_ok-disks.ensures.fuses c.format.ensures.root c.format.ensures.second c.format.ensures.spool
+    _ (c.in-Ok.ensures.made refl) (c.format.ensures.fuse refl) c.in-Ok-boot.node told c.in-Ok-boot.ensures.sound (c.in-Ok-boot.ensures.made refl) (c.in-Ok-boot.ensures.fuse refl)
