@@ -1,8 +1,8 @@
 -- A front that has a payload's record.
-use Rattle.std.proofs.Common.{◌≡◌, ℕ, ◌≤◌, List, [], ◌∷◌, ◌++◌, length, sym, ap, ◌∙◌, append_assoc}
+use Rattle.std.proofs.Common.{ℕ, ◌≤◌, List, [], ◌∷◌, ◌++◌, length, ap, ◌∙◌}
 use Rattle.std.proofs.lemmas.List.{append-nil}
 use Rattle.nqs_outside.specs.History.{History}
-use Rattle.nqs_journal.specs.Text.{header, records, frame}
+use Rattle.nqs_journal.specs.Text.{header, records}
 use Rattle.nqs_journal.specs.Opened.{IsOpen}
 
 -- behind a front with its record the payload is told

@@ -34,6 +34,7 @@ pub(crate) fn write_begin<D: Disk>(disk: &mut D, text: &[u8]) -> Result<(), Fail
         × StopsShort (begin_calls text.now) calls) }
     ensures open { IsTrue D.tells → OnOk result ((front : List ℕ) → text.now ≡ front ++ 0 ∷ [] → IsOpen (D.history disk.new) front (length front) []) }
     ensures length { IsTrue D.tells → OnOk result (length text.now ≤ length (content (D.history disk.new))) }
+    ensures fuse { IsTrue D.tells → (i : ℕ) → D.fails disk.new i ≡ D.fails disk.old i }
     ensures later { D.faults disk.old ≤ D.faults disk.new }
     ensures failed { OnErr result (Rose (D.faults disk.old) (D.faults disk.new)) }
 {
@@ -67,6 +68,7 @@ pub fn format_with<D: Disk>(alloc: Global, disk: &mut D, payload: &[u8]) -> Resu
     ensures formatted { IsTrue D.tells → OnOk result (IsOpen (D.history disk.new) header (length (header ++ records (payload.now ∷ []))) (payload.now ∷ [])) }
     ensures only { IfErr result (λ fault. (fault ≡ JournalFault.Disk) ⊎ (fault ≡ JournalFault.Memory)) }
     ensures disk { IsErrOf result JournalFault.Disk → Rose (D.faults disk.old) (D.faults disk.new) }
+    ensures fuse { IsTrue D.tells → (i : ℕ) → D.fails disk.new i ≡ D.fails disk.old i }
     ensures later { D.faults disk.old ≤ D.faults disk.new }
 {
     let Ok(text) = one_payload_text(alloc, payload) else {

@@ -55,6 +55,8 @@ impl<D: Disk> Journal<D> {
         ensures exact { IsTrue D.tells → length payload.now ≤ 65536 → is_stopped self.old ≡ false
             → IsExact (D.fails (disk_of self.old)) (D.starved (disk_of self.old)) (D.starved (disk_of self.new)) (history_of self.old) (history_of self.new)
             (append_calls (gate_of self.old) payload.now) }
+        // At Ok none of them was to fail.
+        ensures due { IsTrue D.tells → OnOk result ((i : ℕ) → i < 4 → D.fails (disk_of self.old) (moment (history_of self.old) + i) ≡ false) }
         ensures fuse { IsTrue D.tells → (i : ℕ) → D.fails (disk_of self.new) i ≡ D.fails (disk_of self.old) i }
 
         // Each image of each moment of the call has the payloads from before it, with the new one or without.
@@ -134,6 +136,10 @@ impl<D: Disk> Journal<D> {
         ensures same_err { IsTrue D.tells → IfErr result (λ e. D.history e.1 ≡ D.history disk) }
         ensures fault { IsTrue D.tells → IfErr result (λ e. IsLoadFault (content (D.history disk)) e.0) }
         ensures failed { IfErr result (λ e. e.0 ≡ JournalFault.Disk → Rose (D.faults disk) (D.faults e.1)) }
+        // Only after a call that was to fail.
+        ensures cause { IsTrue D.tells → IfErr result (λ e. e.0 ≡ JournalFault.Disk → (i : ℕ) × (i < moment (D.history disk)) × IsTrue (D.fails disk i)) }
+        ensures fuse { IsTrue D.tells → (i : ℕ) → MatchResult result (λ journal. D.fails (disk_of journal) i ≡ D.fails disk i) (λ e. D.fails e.1 i ≡ D.fails disk i) }
+        ensures starved { IsTrue D.tells → MatchResult result (λ journal. D.starved (disk_of journal) ≡ D.starved disk) (λ e. D.starved e.1 ≡ D.starved disk) }
         ensures later { MatchResult result (λ journal. D.faults disk ≤ D.faults (disk_of journal)) (λ e. D.faults disk ≤ D.faults e.1) }
     {
         let mut disk = disk;
@@ -206,6 +212,11 @@ impl<D: Disk> Journal<D> {
         ensures later { D.faults (disk_of self.old) ≤ D.faults (disk_of self.new) }
         ensures fault { IsTrue D.tells → IfErr result (IsLoadFault (content (history_of self.old))) }
         ensures failed { IsErrOf result JournalFault.Disk → Rose (D.faults (disk_of self.old)) (D.faults (disk_of self.new)) }
+        // Only after a call that was to fail.
+        ensures cause { IsTrue D.tells → IsErrOf result JournalFault.Disk → (i : ℕ) × (i < moment (history_of self.old)) × IsTrue (D.fails (disk_of self.old) i) }
+        ensures fuse { IsTrue D.tells → (i : ℕ) → D.fails (disk_of self.new) i ≡ D.fails (disk_of self.old) i }
+        ensures starved { IsTrue D.tells → D.starved (disk_of self.new) ≡ D.starved (disk_of self.old) }
+        ensures stays { is_stopped self.new ≡ is_stopped self.old }
     {
         read_payloads(alloc, &mut self.disk, found)
     }

@@ -1,7 +1,7 @@
 //! The writes and syncs of a journal.
-ghost use Rattle.std.specs.Prelude.{◌≡◌, ℕ, ◌+◌, ◌<◌, ◌≤◌, ◌^◌, ◌++◌, [], ◌∷◌, List, IsTrue, OnOk, OnErr, length, vec_len, vec_capacity};
+ghost use Rattle.std.specs.Prelude.{◌≡◌, ℕ, ◌+◌, ◌<◌, ◌≤◌, ◌^◌, ◌++◌, [], ◌∷◌, List, false, IsTrue, OnOk, OnErr, length, vec_len, vec_capacity};
 ghost use Rattle.nqs_outside.specs.Causes.{Rose};
-ghost use Rattle.nqs_outside.specs.History.{Call, content, extended, StopsShort, IsExact};
+ghost use Rattle.nqs_outside.specs.History.{Call, content, extended, moment, StopsShort, IsExact};
 ghost use Rattle.nqs_journal.specs.Text.{frame};
 ghost use Rattle.nqs_journal.specs.Plan.{behind_gate};
 
@@ -16,6 +16,8 @@ pub(crate) fn write_behind<D: Disk>(disk: &mut D, gate: u64, text: &[u8]) -> Res
     ensures broken { IsTrue D.tells → OnErr result ((calls : List Call) × (D.history disk.new ≡ extended (D.history disk.old) calls)
         × StopsShort (behind_gate gate text.now) calls) }
     ensures exact { IsTrue D.tells → IsExact (D.fails disk.old) (D.starved disk.old) (D.starved disk.new) (D.history disk.old) (D.history disk.new) (behind_gate gate text.now) }
+    // None of them was to fail.
+    ensures due { IsTrue D.tells → OnOk result ((i : ℕ) → i < 4 → D.fails disk.old (moment (D.history disk.old) + i) ≡ false) }
     ensures fuse { IsTrue D.tells → (i : ℕ) → D.fails disk.new i ≡ D.fails disk.old i }
     ensures later { D.faults disk.old ≤ D.faults disk.new }
     ensures failed { OnErr result (Rose (D.faults disk.old) (D.faults disk.new)) }

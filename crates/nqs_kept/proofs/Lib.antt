@@ -1,0 +1,4 @@
+mod LiveReads
+mod FewHands
+mod Modest
+mod Stands

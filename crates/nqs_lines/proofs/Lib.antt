@@ -1,0 +1,7 @@
+pub mod Steps
+pub mod Options
+pub mod Submissions
+pub mod Edits
+pub mod Questions
+pub mod Schedules
+pub mod Generated

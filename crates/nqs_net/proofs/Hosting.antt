@@ -25,7 +25,7 @@ use Rattle.nqs_store.specs.Images.{IsTold}
 use Rattle.nqs_store.specs.Disks.{disk_at, histories_of, failing_of}
 use Rattle.nqs_store.specs.declared.disks.Disks.{Disks}
 use Rattle.nqs_store.specs.Sound.{IsSoundHost}
-use Rattle.nqs_store.proofs.Nothing.{told_now}
+use Rattle.nqs_store.proofs.TellsNow.{told_now}
 use Rattle.nqs_node.specs.Carried.{IsMade, IsCutBy, IsBlown}
 use Rattle.nqs_node.specs.Nodes.{disk_of, history_of, fails_of, content_of, Tells}
 use Rattle.nqs_node.specs.declared.node.Node.{Node}

@@ -3,11 +3,6 @@ pub mod Burns
 pub mod Turning
 pub mod Starting
 pub mod Hosting
-pub mod Placing
-pub mod Means
-pub mod Finishing
-pub mod Fusing
-pub mod Arriving
-pub mod Leaving
-pub mod Showing
-pub mod Founding
+mod Leaving
+mod Showing
+mod Founding

@@ -2,6 +2,4 @@ pub mod Lists
 pub mod Props
 pub mod Worlds
 pub mod Turns
-pub mod Deeds
-pub mod Least
 pub mod Left

@@ -1,2 +1,4 @@
 pub mod Nodes
 pub mod Carried
+pub mod Reading
+pub mod Planned

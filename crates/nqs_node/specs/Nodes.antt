@@ -1,12 +1,11 @@
 -- What a node tells.
-use Rattle.std.specs.Prelude.{◌≡◌, ℕ, Bool, false}
+use Rattle.std.specs.Prelude.{◌≡◌, ℕ, Bool, List, false}
 use Rattle.nqs_types.specs.State.{State, Plain, content}
 use Rattle.nqs_types.specs.declared.extent.Extent.{Extent}
 use Rattle.nqs_types.specs.declared.world.Which.{Which}
 use Rattle.nqs_outside.specs.History.{History}
 use Rattle.nqs_outside.specs.declared.disk.Disk as disk
 use Rattle.nqs_store.specs.Stores as store
-use Rattle.nqs_store.specs.declared.store.Store.{Store}
 use Rattle.nqs_node.specs.declared.node.Node.{Node}
 
 module _ {D : Type 0} {g : disk.Ghosts D} where
@@ -28,6 +27,10 @@ module _ {D : Type 0} {g : disk.Ghosts D} where
   -- its state, with extents of the spool
   abbrev pub content_of : Node D g → State Extent
   content_of node = content node.state
+
+  -- the bytes of an extent
+  abbrev pub bytes_of : Node D g → Extent → List ℕ
+  bytes_of node = store.bytes_of node.store
 
   -- its state, with the bytes of its extents
   abbrev pub plain_of : Node D g → Plain

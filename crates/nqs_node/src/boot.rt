@@ -1,8 +1,12 @@
 //! A node is booted from the disks of its host.
+//!
+//! The boot is one change like any other: what is said of it is made first, then it is kept, and then made.
 
-ghost use Rattle.std.specs.Prelude.{◌≡◌, ◌⊎◌, ◌++◌, [], ℕ, Bool, List, IsTrue, OnOk, OnErr, IfOk, IfErr, MatchResult, false, Some};
+ghost use Rattle.std.specs.Prelude.{◌≡◌, ◌⊎◌, ◌++◌, [], ℕ, Bool, List, IsTrue, IsErrOf, OnOk, OnErr, IfOk, IfErr, MatchResult, false, Some};
 ghost use Rattle.std.specs.List.{filter_map};
-ghost use Rattle.nqs_types.specs.State.{Plain};
+ghost use Rattle.std.specs.Option.{option_to_list};
+ghost use Rattle.nqs_types.specs.State.{Plain, content};
+ghost use Rattle.nqs_types.specs.declared.extent.Extent.{Extent};
 ghost use Rattle.nqs_types.specs.declared.world.Which.{Which};
 ghost use Rattle.nqs_types.specs.declared.world.Which.TheVariants.{First, Spool};
 ghost use Rattle.nqs_types.specs.declared.change.Change.TheVariants.{Boot};
@@ -10,17 +14,105 @@ ghost use Rattle.nqs_outside.specs.Causes.{Rose};
 ghost use Rattle.nqs_outside.specs.History.{History, IsQuiet, content as bytes_now};
 ghost use Rattle.nqs_rules.specs.Applied.{applied};
 ghost use Rattle.nqs_rules.specs.World.{boot_output};
+ghost use Rattle.nqs_rules.specs.Plain.{map_row, map_state};
+ghost use Rattle.nqs_store.specs.Commits.{IsKept, IsCutAt};
+ghost use Rattle.nqs_store.specs.Hosts.{EachMoment, StopsShort};
+ghost use Rattle.nqs_store.specs.Plan.{CommitsBy};
+ghost use Rattle.nqs_store.specs.Stores.{disk_of as store_disk_of, history_of as history_of_store, fails_of as fails_of_store, is_starved, is_stopped as is_store_stopped, plain_of, Tells as TellsHost};
 ghost use Rattle.nqs_store.specs.Disks.{disk_at, histories_of, failing_of};
 ghost use Rattle.nqs_store.specs.Faults.{IsLoadFault};
-ghost use Rattle.nqs_store.specs.Images.{IsTold};
+ghost use Rattle.nqs_store.specs.Images.{IsTold, TellsOneOf};
 ghost use Rattle.nqs_store.specs.Sound.{IsSoundHost};
 ghost use Rattle.nqs_node.specs.Carried.{IsMade, IsCutBy, IsBrokenOff, IsOneOrOther, IsBlown};
 
+use crate::keep::keep;
 use crate::node::Node;
+use nqs_host::may_start_again;
 use nqs_outside::Disk;
-use nqs_store::{Disks, LoadFault};
-use nqs_types::Output;
+use nqs_store::{Disks, LoadFault, Store, StoreFault};
+use nqs_types::{Change, HostState, Memory, Output, Row, RowState};
 use std::alloc::Global;
+
+// What a boot says of a row, which is another where the request ran.
+fn said_of(row: &Row) -> Option<Output>
+    ensures { (f : Extent → List ℕ) → result ≡ boot_output (map_row f row.now) }
+{
+    if row.state != RowState::Running {
+        return None;
+    }
+    if may_start_again(row) {
+        Some(Output::Again(row.id))
+    } else {
+        Some(Output::Lost(row.id))
+    }
+}
+
+// Says it behind what is there.
+fn say(row: &Row, outputs: &mut Vec<Output>) -> Result<(), Memory>
+    ensures { (f : Extent → List ℕ) → OnOk result (outputs.new.items ≡ outputs.old.items ++ option_to_list (boot_output (map_row f row.now))) }
+{
+    match said_of(row) {
+        None => Ok(()),
+        Some(output) => {
+            outputs.push(output)?;
+            Ok(())
+        }
+    }
+}
+
+// What a boot says of all rows.
+fn outputs_of(alloc: Global, state: &HostState) -> Result<Vec<Output>, Memory>
+    ensures { (f : Extent → List ℕ) → IfOk result (λ outputs. outputs.items ≡ filter_map boot_output (map_state f (content state.now)).rows) }
+{
+    let mut outputs = Vec::new(alloc);
+    for place in 0..state.rows.len() {
+        say(state.rows.at(place), &mut outputs)?;
+    }
+    Ok(outputs)
+}
+
+// Keeps and makes the boot of a host, and says it.
+fn begin<D: Disk>(
+    alloc: Global,
+    store: &mut Store<D>,
+    state: &mut HostState,
+    out: &mut Vec<Output>,
+) -> Result<(), LoadFault>
+    requires sound { IsSoundHost (content state.old) }
+    requires running { is_store_stopped store.old ≡ false }
+    ensures sound { IsSoundHost (content state.new) }
+    ensures running { OnOk result (is_store_stopped store.new ≡ false) }
+    ensures unsaid { OnErr result (out.new.items ≡ out.old.items) }
+    ensures only { (which : Which) (place : ℕ) → IsErrOf result (LoadFault.NotNqs which place) → ⊥ }
+    ensures failed { (which : Which) → IsErrOf result (LoadFault.Disk which) → Rose (D.faults (store_disk_of which store.old)) (D.faults (store_disk_of which store.new)) }
+    ensures memory { IsTrue D.tells → IsErrOf result LoadFault.Memory → (which : Which) → history_of_store store.new which ≡ history_of_store store.old which }
+    ensures told { IsTrue D.tells → TellsHost store.old (content state.old) → OnOk result (TellsHost store.new (content state.new)) }
+    ensures plain { IsTrue D.tells → TellsHost store.old (content state.old) → OnOk result (plain_of store.new (content state.new) ≡ applied Boot (plain_of store.old (content state.old))) }
+    ensures outputs { (f : Extent → List ℕ) → OnOk result (out.new.items ≡ out.old.items ++ filter_map boot_output (map_state f (content state.old)).rows) }
+    ensures made { IsTrue D.tells → OnOk result (IsKept (fails_of_store store.old) [] (history_of_store store.old) (history_of_store store.new)) }
+    ensures broken_off { IsTrue D.tells → OnErr result (CommitsBy StopsShort [] (history_of_store store.old) (history_of_store store.new)) }
+    ensures cut { IsTrue D.tells → TellsHost store.old (content state.old) → (which : Which) → IsErrOf result (LoadFault.Disk which) → IsTrue (is_starved store.new which)
+        ⊎ IsCutAt (fails_of_store store.old) [] (history_of_store store.old) (history_of_store store.new) (plain_of store.old (content state.old)) (applied Boot (plain_of store.old (content state.old))) which }
+    ensures fuse { IsTrue D.tells → (which : Which) (i : ℕ) → fails_of_store store.new which i ≡ fails_of_store store.old which i }
+    ensures any_moment { IsTrue D.tells → TellsHost store.old (content state.old)
+        → EachMoment (history_of_store store.old) (history_of_store store.new) (λ images. TellsOneOf (plain_of store.old (content state.old)) (applied Boot (plain_of store.old (content state.old))) (images First) (images Spool)) }
+{
+    match outputs_of(alloc, state) {
+        Err(Memory) => Err(LoadFault::Memory),
+        Ok(mut outputs) => match out.reserve(outputs.len()) {
+            Err(_) => Err(LoadFault::Memory),
+            Ok(()) => match keep(alloc, store, state, Change::Boot, &[]) {
+                Err(StoreFault::Memory) => Err(LoadFault::Memory),
+                Err(StoreFault::Disk(which)) => Err(LoadFault::Disk(which)),
+                Err(StoreFault::Stopped) => unreachable!(),
+                Ok(()) => {
+                    out.append(&mut outputs).unwrap();
+                    Ok(())
+                }
+            },
+        },
+    }
+}
 
 impl<D: Disk> Node<D> {
     ghost use Rattle.nqs_node.specs.Nodes.{disk_of, history_of, fails_of, content_of, is_stopped, Tells};
@@ -59,6 +151,16 @@ impl<D: Disk> Node<D> {
 
         // At each moment, whatever images the disks may leave, they tell the state before the boot or the one after it.
     {
-        Err((LoadFault::Memory, disks))
+        match Store::load(alloc, disks) {
+            Err((fault, disks)) => Err((fault, disks)),
+            Ok((mut store, mut state)) => match begin(alloc, &mut store, &mut state, out) {
+                Err(fault) => Err((fault, store.close())),
+                Ok(()) => Ok(Node {
+                    store,
+                    state,
+                    stopped: false,
+                }),
+            },
+        }
     }
 }

@@ -6,8 +6,12 @@
 #![tactic(auto)]
 
 mod boot;
+mod carry;
 mod fault;
+mod keep;
 mod node;
+mod perform;
+mod reads;
 
 pub use fault::NodeFault;
 pub use node::Node;

@@ -16,9 +16,17 @@ ghost use Rattle.nqs_store.specs.Stores.{is_stopped as is_store_stopped};
 ghost use Rattle.nqs_node.specs.Carried.{started, IsMade, IsCutBy, IsBrokenOff, IsOneOrOther, IsBlown};
 
 use crate::fault::NodeFault;
+use nqs_kept::laws::{
+    few_offers_are_taken_back, outputs_read_live_extents, stored_bytes_are_short,
+};
 use nqs_outside::{Disk, Fused};
+use nqs_rules::laws::step_looks_at_no_bytes;
+use nqs_rules::order_laws::{start_fits, step_fits};
+use nqs_rules::start_laws::start_looks_at_no_bytes;
+use nqs_step::start::start;
+use nqs_step::step::step;
 use nqs_store::{Disks, LoadFault, Store};
-use nqs_types::{Event, HostState, Output, Which};
+use nqs_types::{Event, HostState, Memory, Output, Which};
 use std::alloc::Global;
 
 /// A host over its disks.
@@ -69,7 +77,15 @@ impl<D: Disk> Node<D> {
         if self.stopped {
             return Err(NodeFault::Stopped);
         }
-        Err(NodeFault::Memory)
+        step_looks_at_no_bytes();
+        step_fits();
+        few_offers_are_taken_back();
+        stored_bytes_are_short();
+        outputs_read_live_extents();
+        match step(alloc, &self.state, event) {
+            Err(Memory) => Err(NodeFault::Memory),
+            Ok(plan) => self.carry_out(alloc, plan, out),
+        }
     }
 
     /// Starts the next request, if one may start: `false` where none may. `Memory` leaves all as it was.
@@ -110,7 +126,19 @@ impl<D: Disk> Node<D> {
         if self.stopped {
             return Err(NodeFault::Stopped);
         }
-        Err(NodeFault::Memory)
+        start_looks_at_no_bytes();
+        start_fits();
+        few_offers_are_taken_back();
+        stored_bytes_are_short();
+        outputs_read_live_extents();
+        match start(alloc, &self.state, now) {
+            Err(Memory) => Err(NodeFault::Memory),
+            Ok(None) => Ok(false),
+            Ok(Some(plan)) => match self.carry_out(alloc, plan, out) {
+                Err(fault) => Err(fault),
+                Ok(()) => Ok(true),
+            },
+        }
     }
 
     /// The host's state.

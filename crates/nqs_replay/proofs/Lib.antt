@@ -1,9 +1,6 @@
-pub mod Lines
-pub mod Names
-pub mod Refusals
-pub mod Prefix
-pub mod Told
-pub mod OneSchedule
-pub mod Complete
+pub mod Matched
+pub mod Runs
 pub mod Fronts
 pub mod Playing
+pub mod Complete
+pub mod Asked

@@ -1,20 +1,16 @@
-//! Runs a schedule of commands, read from standard input, on hosts in memory, and writes to standard
-//! output what is seen of each. A function of its input: the same bytes give the same transcript.
+//! Runs a schedule, read from standard input or generated, on hosts in memory, and writes to standard output what is
+//! seen of each event, or a summary. A function of its words and its input: the same give the same text.
 #![tactic(auto)]
 
-mod event;
 mod laws;
-mod payload;
-mod place;
-mod reader;
 mod real;
 mod replay;
+mod report;
 mod run;
 mod status;
 #[cfg(test)]
 mod tests;
-mod text;
-mod world;
+mod words;
 
 use real::{Reading, Writing};
 use replay::replay;
@@ -23,7 +19,7 @@ use std::io::ErrorKind;
 use std::process::ExitCode;
 use std::{env, io};
 
-// What is printed where there are words on the command line.
+// What is printed where the words are in no form.
 const USAGE: &str = "usage: nqs_replay [--summary] [--generate SEED --hosts N --events M]";
 
 // The words of the command line, or the status where they can't be had.

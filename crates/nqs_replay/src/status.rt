@@ -3,12 +3,12 @@
 /// How a run of the program ends. Each status has a number, with which the program exits.
 ///
 /// They are decided in this order: words, reading, length, schedule, writing. `Memory` may come at
-/// any place. A disk is left at `Done` alone.
+/// any place. The text is the transcript of the run, or its summary; disks are left at `Done` alone.
 #[derive(Clone, Copy, Debug, PartialEq, Eq)]
 pub enum Status {
-    /// The schedule was read to its end and run, and the whole transcript was written.
+    /// The schedule was read to its end, or generated, and run, and the whole text was written.
     Done,
-    /// There are words on the command line. Nothing was read or written.
+    /// The words of the command line are in no form. Nothing was read or written.
     BadWords,
     /// The line that names the first bad line was written, and nothing else.
     BadSchedule,

@@ -62,6 +62,8 @@ impl<D: Disk> Spool<D> {
         ensures small { IfOk result (λ length_now. length_now ≤ 2 ^ 40) }
         ensures fault { IfErr result (λ fault. fault ≡ SpoolFault.Disk) }
         ensures failed { OnErr result (Rose (D.faults (disk_of self.old)) (D.faults (disk_of self.new))) }
+        // Only after a call that was to fail.
+        ensures cause { IsTrue D.tells → IsErrOf result SpoolFault.Disk → (i : ℕ) × (i < moment (history_of self.old)) × IsTrue (D.fails (disk_of self.old) i) }
         ensures later { D.faults (disk_of self.old) ≤ D.faults (disk_of self.new) }
         ensures same { IsTrue D.tells → history_of self.new ≡ history_of self.old }
         ensures fuse { IsTrue D.tells → (i : ℕ) → D.fails (disk_of self.new) i ≡ D.fails (disk_of self.old) i }
@@ -100,6 +102,8 @@ impl<D: Disk> Spool<D> {
         ensures exact { IsTrue D.tells → length bytes.now ≤ 32768 → (IsErrOf result SpoolFault.Memory → ⊥)
             → IsExact (D.fails (disk_of self.old)) (D.starved (disk_of self.old)) (D.starved (disk_of self.new)) (history_of self.old) (history_of self.new)
             (put_calls (place_for self.old bytes.now) bytes.now) }
+        // At Ok neither call was to fail.
+        ensures due { IsTrue D.tells → 0 < length bytes.now → OnOk result ((i : ℕ) → i < 2 → D.fails (disk_of self.old) (moment (history_of self.old) + i) ≡ false) }
         ensures fuse { IsTrue D.tells → (i : ℕ) → D.fails (disk_of self.new) i ≡ D.fails (disk_of self.old) i }
 
         // Each image of each moment of the call holds what the live extents hold.
@@ -144,6 +148,8 @@ impl<D: Disk> Spool<D> {
         ensures unchanged { OnErr result (out.new.items ≡ out.old.items) }
         ensures memory { IsErrOf result SpoolFault.Memory → vec_capacity out.old < length out.old.items + extent.now.length }
         ensures disk { IsErrOf result SpoolFault.Disk → Rose (D.faults (disk_of self.old)) (D.faults (disk_of self.new)) }
+        // Only after a call that was to fail.
+        ensures cause { IsTrue D.tells → IsErrOf result SpoolFault.Disk → (i : ℕ) × (i < moment (history_of self.old)) × IsTrue (D.fails (disk_of self.old) i) }
         ensures fault { IfErr result (λ fault. (fault ≡ SpoolFault.Disk) ⊎ (fault ≡ SpoolFault.Memory)) }
         ensures later { D.faults (disk_of self.old) ≤ D.faults (disk_of self.new) }
         ensures same { IsTrue D.tells → history_of self.new ≡ history_of self.old }

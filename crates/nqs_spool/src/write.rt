@@ -1,7 +1,7 @@
 //! The writes and reads of a spool.
-ghost use Rattle.std.specs.Prelude.{◌≡◌, ◌⊎◌, ℕ, ◌+◌, ◌<◌, ◌≤◌, ◌^◌, ◌++◌, [], ◌∷◌, List, IsTrue, IsErrOf, OnOk, OnErr, IfErr, length, take, drop, vec_capacity};
+ghost use Rattle.std.specs.Prelude.{◌≡◌, ◌⊎◌, ℕ, ◌+◌, ◌<◌, ◌≤◌, ◌^◌, ◌++◌, [], ◌∷◌, List, false, IsTrue, IsErrOf, OnOk, OnErr, IfErr, length, take, drop, vec_capacity};
 ghost use Rattle.nqs_outside.specs.Causes.{Rose};
-ghost use Rattle.nqs_outside.specs.History.{Call, content, extended, StopsShort, IsExact};
+ghost use Rattle.nqs_outside.specs.History.{Call, content, extended, moment, StopsShort, IsExact};
 ghost use Rattle.nqs_spool.specs.Puts.{written_through};
 
 use crate::SpoolFault;
@@ -15,6 +15,8 @@ pub(crate) fn write_through<D: Disk>(disk: &mut D, place: u64, bytes: &[u8]) -> 
     ensures broken { IsTrue D.tells → OnErr result ((calls : List Call) × (D.history disk.new ≡ extended (D.history disk.old) calls)
         × StopsShort (written_through place bytes.now) calls) }
     ensures exact { IsTrue D.tells → IsExact (D.fails disk.old) (D.starved disk.old) (D.starved disk.new) (D.history disk.old) (D.history disk.new) (written_through place bytes.now) }
+    // Neither call was to fail.
+    ensures due { IsTrue D.tells → OnOk result ((i : ℕ) → i < 2 → D.fails disk.old (moment (D.history disk.old) + i) ≡ false) }
     ensures fuse { IsTrue D.tells → (i : ℕ) → D.fails disk.new i ≡ D.fails disk.old i }
     ensures later { D.faults disk.old ≤ D.faults disk.new }
     ensures failed { OnErr result (Rose (D.faults disk.old) (D.faults disk.new)) }
@@ -35,6 +37,8 @@ pub(crate) fn append_read<D: Disk>(
     ensures memory { IsErrOf result SpoolFault.Memory → vec_capacity out.old < length out.old.items + count }
     ensures fault { IfErr result (λ e. (e ≡ SpoolFault.Disk) ⊎ (e ≡ SpoolFault.Memory)) }
     ensures failed { IsErrOf result SpoolFault.Disk → Rose (D.faults disk.old) (D.faults disk.new) }
+    // Only after a call that was to fail.
+    ensures cause { IsTrue D.tells → IsErrOf result SpoolFault.Disk → (i : ℕ) × (i < moment (D.history disk.old)) × IsTrue (D.fails disk.old i) }
     ensures later { D.faults disk.old ≤ D.faults disk.new }
     ensures same { IsTrue D.tells → D.history disk.new ≡ D.history disk.old }
     ensures fuse { IsTrue D.tells → (i : ℕ) → D.fails disk.new i ≡ D.fails disk.old i }

@@ -1,10 +1,12 @@
 -- Faults of a reading.
-use Rattle.std.proofs.Common.{◌≡◌, ℕ, List, length, Some, subst}
+use Rattle.std.proofs.Common.{◌≡◌, ℕ, List, length, Some, refl, subst}
 use Rattle.nqs_types.specs.declared.world.Which.{Which}
 use Rattle.nqs_types.specs.declared.world.Which.TheVariants.{Root, First, Second, Spool}
 use Rattle.nqs_store.specs.Told.{Host, told}
 use Rattle.nqs_store.specs.Live.{live, IsBadExtent}
-use Rattle.nqs_store.specs.Faults.{IsExtentFault, IsReadFault}
+use Rattle.nqs_journal.specs.declared.fault.JournalFault.{JournalFault}
+use Rattle.nqs_journal.specs.declared.fault.JournalFault.TheVariants as journal
+use Rattle.nqs_store.specs.Faults.{JournalIsAt, IsExtentFault, IsReadFault}
 use Rattle.nqs_store.specs.declared.fault.LoadFault.{LoadFault}
 use Rattle.nqs_store.specs.declared.fault.LoadFault.TheVariants as load
 
@@ -22,3 +24,11 @@ extent_read payloads spool size host (load.NotNqs First place) tells is bad = ab
 extent_read payloads spool size host (load.NotNqs Second place) tells is bad = absurd bad
 extent_read payloads spool size host (load.NotNqs Spool place) tells is bad = (host, tells, subst (λ n. IsBadExtent n (live host) place) is bad)
 extent_read payloads spool size host load.Memory tells is bad = tt
+
+-- only a failed call of the journal's disk is a failed call of a host's disk
+pub journal_disk : (fault : JournalFault) (seen : LoadFault) (which : Which) → JournalIsAt fault seen → seen ≡ load.Disk which → (fault ≡ journal.Disk) × (which ≡ First)
+journal_disk journal.Disk seen which at is = (refl, cc)
+journal_disk (journal.NotJournal place) seen which at is = let no : ⊥ = cc in absurd no
+journal_disk journal.TooLong seen which at is = let no : ⊥ = cc in absurd no
+journal_disk journal.Stopped seen which at is = let no : ⊥ = cc in absurd no
+journal_disk journal.Memory seen which at is = let no : ⊥ = cc in absurd no

@@ -11,5 +11,6 @@ pub mod Frees
 pub mod Puts
 pub mod Hosts
 pub mod Plan
+pub mod Putting
 pub mod Images
 pub mod Commits

@@ -21,9 +21,12 @@ ghost use Rattle.nqs_store.specs.Commits.{IsKept, IsCutAt};
 ghost use Rattle.nqs_store.specs.Faults.{IsCommitFault};
 
 use crate::fault::StoreFault;
+use crate::free::free_gone;
+use crate::put::{prepared, put_bytes};
+use crate::record::append_record;
 use crate::store::Store;
 use nqs_outside::Disk;
-use nqs_types::{Bytes, Change, HostState};
+use nqs_types::{Bytes, Change, HostState, Which};
 use std::alloc::Global;
 
 impl<D: Disk> Store<D> {
@@ -79,6 +82,25 @@ impl<D: Disk> Store<D> {
         if self.stopped {
             return Err(StoreFault::Stopped);
         }
-        Err(StoreFault::Memory)
+        let (mut text, mut extents) = prepared(alloc, &mut self.spool, change, puts)?;
+        self.stopped = true;
+        match put_bytes(
+            alloc,
+            &mut self.spool,
+            change,
+            puts,
+            &mut extents,
+            &mut text,
+        ) {
+            Err(_) => Err(StoreFault::Disk(Which::Spool)),
+            Ok(()) => match append_record(&mut self.first, &text) {
+                Err(_) => Err(StoreFault::Disk(Which::First)),
+                Ok(()) => {
+                    self.stopped = false;
+                    free_gone(&mut self.spool, state, change);
+                    Ok(())
+                }
+            },
+        }
     }
 }

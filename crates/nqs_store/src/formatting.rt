@@ -1,6 +1,6 @@
 //! The disks of a host that is formatted.
 
-ghost use Rattle.std.specs.Prelude.{◌≡◌, ◌⊎◌, ◌≤◌, IsTrue, IsErrOf, OnOk, IfOk, IfErr, length, vec_len, ◌++◌, ◌∷◌, [], Ok};
+ghost use Rattle.std.specs.Prelude.{◌≡◌, ◌⊎◌, ◌≤◌, ℕ, IsTrue, IsErrOf, OnOk, IfOk, IfErr, length, vec_len, ◌++◌, ◌∷◌, [], Ok};
 ghost use Rattle.nqs_outside.specs.Causes.{Rose};
 ghost use Rattle.nqs_outside.specs.History.{extended};
 ghost use Rattle.nqs_journal.specs.Text.{header, records};
@@ -37,7 +37,7 @@ pub(crate) fn written(alloc: Global, change: &Change) -> Result<Vec<u8>, StoreFa
 }
 
 // A record is read as the change that it was written of: a law, which callers call for its contract.
-fn read_back(text: &[u8], change: &Change)
+pub(crate) fn read_back(text: &[u8], change: &Change)
     ensures { MayStand change.now → text.now ≡ spelling change.now → record_of text.now ≡ Ok change.now }
 {}
 
@@ -54,6 +54,7 @@ pub fn format<D: Disk>(
     ensures only { IfErr result (λ fault. (fault ≡ StoreFault.Disk Which.First) ⊎ (fault ≡ StoreFault.Memory)) }
     ensures memory { IsTrue D.tells → IsErrOf result StoreFault.Memory → D.history disks.new.first ≡ D.history disks.old.first }
     ensures failed { IsErrOf result (StoreFault.Disk Which.First) → Rose (D.faults disks.old.first) (D.faults disks.new.first) }
+    ensures fuse { IsTrue D.tells → (i : ℕ) → D.fails disks.new.first i ≡ D.fails disks.old.first i }
     ensures root { disks.new.root ≡ disks.old.root }
     ensures second { disks.new.second ≡ disks.old.second }
     ensures spool { disks.new.spool ≡ disks.old.spool }

@@ -3,20 +3,26 @@
 //! A change is one record of the journal on the disk `first`; its scripts and outputs stand in extents of the disk
 //! `spool`, which the record names. The host that a journal tells (`specs/Told.antt`) begins with the record that
 //! formats it; each other record is a change that fits what those before it tell. Its extents (`specs/Live.antt`) end
-//! within the spool, and no two meet. Disks are formatted, told and opened here; nothing keeps a change yet. `root`
-//! and `second` are not used.
+//! within the spool, and no two meet. A change is kept by `commit.rt`: its bytes go to the spool
+//! (`put.rt`), then its record to the journal (`record.rt`), and then the extents that it takes away are free (`free.rt`).
+//! `root` and `second` are not used.
 #![tactic(auto)]
 
 mod commit;
 mod disks;
 mod fault;
 mod formatting;
+mod free;
+mod laws;
 mod live;
 mod opened;
+mod put;
+mod record;
 mod store;
 mod tell;
 
 pub use disks::Disks;
 pub use fault::{LoadFault, StoreFault};
 pub use formatting::format;
+pub use laws::what_is_told_is_on_the_disks;
 pub use store::{Store, read_only};

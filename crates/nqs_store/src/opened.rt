@@ -13,8 +13,9 @@ ghost use Rattle.nqs_store.specs.Sound.{IsSoundHost};
 ghost use Rattle.nqs_store.specs.Faults.{IsScriptFault};
 
 use crate::fault::{LoadFault, StoreFault};
-use crate::store::Store;
+use crate::store::{Store, first_fault, host_with};
 use nqs_outside::{Disk, Fused};
+use nqs_spool::SpoolFault;
 use nqs_types::{Extent, HostState, Which};
 use std::alloc::Global;
 
@@ -34,6 +35,7 @@ impl<D: Disk> Store<D> {
         ensures only { IfErr result IsScriptFault }
         ensures bytes { IsTrue D.tells → OnOk result ((host : Host) → Tells self.old host → Has (live host) extent.now → out.new.items ≡ out.old.items ++ bytes_of self.old extent.now) }
         ensures unchanged { OnErr result (out.new.items ≡ out.old.items) }
+        ensures memory { IsErrOf result StoreFault.Memory → vec_capacity out.old < length out.old.items + extent.now.length }
         ensures failed { IsErrOf result (StoreFault.Disk Spool) → Rose (D.faults (disk_of Spool self.old)) (D.faults (disk_of Spool self.new)) }
         // Only after a call that was to fail.
         ensures cause { IsTrue D.tells → IsErrOf result (StoreFault.Disk Spool) → (i : ℕ) × (i < moment (history_of self.old Spool)) × IsTrue (fails_of self.old Spool i) }
@@ -47,7 +49,11 @@ impl<D: Disk> Store<D> {
         if self.stopped {
             return Err(StoreFault::Stopped);
         }
-        Err(StoreFault::Memory)
+        match self.spool.get(extent, out) {
+            Ok(()) => Ok(()),
+            Err(SpoolFault::Memory) => Err(StoreFault::Memory),
+            Err(_) => Err(StoreFault::Disk(Which::Spool)),
+        }
     }
 
     /// Tells the host by what its disks hold now, and writes nothing.
@@ -56,6 +62,8 @@ impl<D: Disk> Store<D> {
         ensures sound { IfOk result (λ state. IsSoundHost (content state)) }
         ensures never { IsTrue D.tells → (host : Host) → Tells self.old host → (which : Which) (place : ℕ) → IsErrOf result (LoadFault.NotNqs which place) → ⊥ }
         ensures failed { (which : Which) → IsErrOf result (LoadFault.Disk which) → Rose (D.faults (disk_of which self.old)) (D.faults (disk_of which self.new)) }
+        // Only after a call that was to fail.
+        ensures cause { IsTrue D.tells → (which : Which) → IsErrOf result (LoadFault.Disk which) → (i : ℕ) × (i < moment (history_of self.old which)) × IsTrue (fails_of self.old which i) }
         ensures same { IsTrue D.tells → (which : Which) → history_of self.new which ≡ history_of self.old which }
         ensures fuse { IsTrue D.tells → (which : Which) (i : ℕ) → fails_of self.new which i ≡ fails_of self.old which i }
         ensures starved { IsTrue D.tells → (which : Which) → is_starved self.new which ≡ is_starved self.old which }
@@ -63,7 +71,11 @@ impl<D: Disk> Store<D> {
         ensures later { (which : Which) → D.faults (disk_of which self.old) ≤ D.faults (disk_of which self.new) }
         ensures tells { IsTrue D.tells → (host : Host) → Tells self.old host → Tells self.new host }
     {
-        Err(LoadFault::Memory)
+        let mut found = Vec::new(alloc);
+        match self.first.reread(alloc, &mut found) {
+            Err(fault) => Err(first_fault(fault)),
+            Ok(()) => host_with(alloc, &found, &mut self.spool),
+        }
     }
 }
 

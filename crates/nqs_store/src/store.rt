@@ -1,16 +1,19 @@
 //! A host's state on its disks: opened, read again, and closed.
 
-ghost use Rattle.std.specs.Prelude.{◌≡◌, ◌≤◌, ◌^◌, ◌++◌, ℕ, List, false, Some, IsTrue, IsErrOf, IfOk, IfErr, length};
-ghost use Rattle.nqs_types.specs.State.{content};
+ghost use Rattle.std.specs.Prelude.{◌≡◌, ◌<◌, ◌≤◌, ◌^◌, ◌++◌, ℕ, List, false, Some, IsTrue, IsErrOf, IfOk, IfErr, MatchResult, length};
+ghost use Rattle.nqs_types.specs.State.{Plain, content};
+ghost use Rattle.nqs_types.specs.declared.extent.Extent.{Extent};
 ghost use Rattle.nqs_types.specs.declared.world.Which.{Which};
 ghost use Rattle.nqs_outside.specs.Causes.{Rose};
-ghost use Rattle.nqs_outside.specs.History.{IsQuiet, content as bytes_now};
+ghost use Rattle.nqs_outside.specs.History.{IsQuiet, content as bytes_now, moment};
+ghost use Rattle.nqs_spool.specs.Spooled.{disk_of as spool_disk, history_of as spool_history, Tells as SpoolTells};
 ghost use Rattle.nqs_journal.specs.Open.{is_stopped as is_journal_stopped};
 ghost use Rattle.nqs_journal.specs.Text.{header, records, StandsFor};
-ghost use Rattle.nqs_store.specs.Told.{told};
+ghost use Rattle.nqs_store.specs.Told.{Host, told};
 ghost use Rattle.nqs_store.specs.Live.{live, AreSound};
 ghost use Rattle.nqs_store.specs.Sound.{IsSoundHost};
 ghost use Rattle.nqs_store.specs.Disks.{disk_at};
+ghost use Rattle.nqs_store.specs.Images.{IsTold};
 ghost use Rattle.nqs_store.specs.Faults.{JournalIsAt, IsHostFault, IsExtentFault, IsReadFault, IsLoadFault};
 
 use crate::disks::Disks;
@@ -36,7 +39,7 @@ pub struct Store<D: Disk> {
 }
 
 // What a fault of the journal is to a host's disks.
-fn first_fault(fault: JournalFault) -> LoadFault
+pub(crate) fn first_fault(fault: JournalFault) -> LoadFault
     ensures { JournalIsAt fault result }
 {
     match fault {
@@ -85,6 +88,10 @@ fn host_in<D: Disk>(
     ensures spool { (which : Which) → IsErrOf result (LoadFault.Disk which) → which ≡ Which.Spool }
     ensures same { IsTrue D.tells → D.history spool.new ≡ D.history spool.old }
     ensures later { D.faults spool.old ≤ D.faults spool.new }
+    // Only after a call that was to fail.
+    ensures cause { IsTrue D.tells → IsErrOf result (LoadFault.Disk Which.Spool) → (i : ℕ) × (i < moment (D.history spool.old)) × IsTrue (D.fails spool.old i) }
+    ensures fuse { IsTrue D.tells → (i : ℕ) → D.fails spool.new i ≡ D.fails spool.old i }
+    ensures starved { IsTrue D.tells → D.starved spool.new ≡ D.starved spool.old }
 {
     let state = told_host(alloc, payloads)?;
     let Ok(size) = spool.len() else {
@@ -94,6 +101,34 @@ fn host_in<D: Disk>(
     Ok((state, extents))
 }
 
+// The same over an open spool.
+pub(crate) fn host_with<D: Disk>(
+    alloc: Global,
+    payloads: &[Bytes],
+    spool: &mut Spool<D>,
+) -> Result<HostState, LoadFault>
+    requires { length (header ++ records payloads.now) ≤ 2 ^ 40 }
+    ensures told { IfOk result (λ state. told payloads.now ≡ Some (content state)) }
+    ensures sound { IfOk result (λ state. IsSoundHost (content state)) }
+    ensures never { IsTrue D.tells → (host : Host) → told payloads.now ≡ Some host → AreSound (length (bytes_now (spool_history spool.old))) (live host) → (which : Which) (place : ℕ) → IsErrOf result (LoadFault.NotNqs which place) → ⊥ }
+    ensures spool { (which : Which) → IsErrOf result (LoadFault.Disk which) → which ≡ Which.Spool }
+    ensures failed { IsErrOf result (LoadFault.Disk Which.Spool) → Rose (D.faults (spool_disk spool.old)) (D.faults (spool_disk spool.new)) }
+    // Only after a call that was to fail.
+    ensures cause { IsTrue D.tells → IsErrOf result (LoadFault.Disk Which.Spool) → (i : ℕ) × (i < moment (spool_history spool.old)) × IsTrue (D.fails (spool_disk spool.old) i) }
+    ensures same { IsTrue D.tells → spool_history spool.new ≡ spool_history spool.old }
+    ensures fuse { IsTrue D.tells → (i : ℕ) → D.fails (spool_disk spool.new) i ≡ D.fails (spool_disk spool.old) i }
+    ensures starved { IsTrue D.tells → D.starved (spool_disk spool.new) ≡ D.starved (spool_disk spool.old) }
+    ensures later { D.faults (spool_disk spool.old) ≤ D.faults (spool_disk spool.new) }
+    ensures tells { (live : List Extent) → SpoolTells spool.old live → SpoolTells spool.new live }
+{
+    let state = told_host(alloc, payloads)?;
+    let Ok(size) = spool.length() else {
+        return Err(LoadFault::Disk(Which::Spool));
+    };
+    sound_extents(alloc, &state, size)?;
+    Ok(state)
+}
+
 /// Tells the host of these disks, and writes nothing.
 pub fn read_only<D: Disk>(alloc: Global, disks: &mut Disks<D>) -> Result<HostState, LoadFault>
     ensures told { IsTrue D.tells → IfOk result (λ state. (payloads : List (List ℕ)) × StandsFor (bytes_now (D.history disks.old.first)) payloads × (told payloads ≡ Some (content state))
@@ -101,7 +136,17 @@ pub fn read_only<D: Disk>(alloc: Global, disks: &mut Disks<D>) -> Result<HostSta
     ensures sound { IfOk result (λ state. IsSoundHost (content state)) }
     ensures fault { IsTrue D.tells → IfErr result (IsLoadFault (bytes_now (D.history disks.old.first)) (bytes_now (D.history disks.old.spool))) }
     ensures failed { (which : Which) → IsErrOf result (LoadFault.Disk which) → Rose (D.faults (disk_at which disks.old)) (D.faults (disk_at which disks.new)) }
+    // Only after a call that was to fail.
+    ensures cause { IsTrue D.tells → (which : Which) → IsErrOf result (LoadFault.Disk which) → (i : ℕ) × (i < moment (D.history (disk_at which disks.old))) × IsTrue (D.fails (disk_at which disks.old) i) }
+
+    // The host is the one that the bytes tell, and where they tell one they are at fault nowhere.
+    ensures host { IsTrue D.tells → (payloads : List (List ℕ)) → StandsFor (bytes_now (D.history disks.old.first)) payloads → (host : Host) → told payloads ≡ Some host → IfOk result (λ state. content state ≡ host) }
+    ensures never { IsTrue D.tells → (plain : Plain) → IsTold (bytes_now (D.history disks.old.first)) (bytes_now (D.history disks.old.spool)) plain → (which : Which) (place : ℕ) → IsErrOf result (LoadFault.NotNqs which place) → ⊥ }
+
     ensures same { IsTrue D.tells → (which : Which) → D.history (disk_at which disks.new) ≡ D.history (disk_at which disks.old) }
+    ensures fuse { IsTrue D.tells → (which : Which) (i : ℕ) → D.fails (disk_at which disks.new) i ≡ D.fails (disk_at which disks.old) i }
+    ensures starved { IsTrue D.tells → (which : Which) → D.starved (disk_at which disks.new) ≡ D.starved (disk_at which disks.old) }
+    ensures later { (which : Which) → D.faults (disk_at which disks.old) ≤ D.faults (disk_at which disks.new) }
 {
     let mut found = Vec::new(alloc);
     match read_payloads(alloc, &mut disks.first, &mut found) {
@@ -114,7 +159,7 @@ pub fn read_only<D: Disk>(alloc: Global, disks: &mut Disks<D>) -> Result<HostSta
 }
 
 impl<D: Disk> Store<D> {
-    ghost use Rattle.nqs_store.specs.Stores.{disk_of, history_of, is_stopped, Tells};
+    ghost use Rattle.nqs_store.specs.Stores.{disk_of, history_of, fails_of, is_starved, is_stopped, Tells};
 
     /// Opens the disks of a host, and tells it. Nothing is pending on them. On a refusal they are handed back.
     pub fn load(
@@ -129,6 +174,16 @@ impl<D: Disk> Store<D> {
         ensures same_err { IsTrue D.tells → IfErr result (λ e. (which : Which) → D.history (disk_at which e.1) ≡ D.history (disk_at which disks)) }
         ensures fault { IsTrue D.tells → IfErr result (λ e. IsLoadFault (bytes_now (D.history disks.first)) (bytes_now (D.history disks.spool)) e.0) }
         ensures failed { IfErr result (λ e. (which : Which) → e.0 ≡ LoadFault.Disk which → Rose (D.faults (disk_at which disks)) (D.faults (disk_at which e.1))) }
+        // Only after a call that was to fail.
+        ensures cause { IsTrue D.tells → IfErr result (λ e. (which : Which) → e.0 ≡ LoadFault.Disk which → (i : ℕ) × (i < moment (D.history (disk_at which disks))) × IsTrue (D.fails (disk_at which disks) i)) }
+
+        // The host is the one that the bytes tell, and where they tell one they are at fault nowhere.
+        ensures told { IsTrue D.tells → (payloads : List (List ℕ)) → StandsFor (bytes_now (D.history disks.first)) payloads → (host : Host) → told payloads ≡ Some host → IfOk result (λ r. content r.1 ≡ host) }
+        ensures never { IsTrue D.tells → (plain : Plain) → IsTold (bytes_now (D.history disks.first)) (bytes_now (D.history disks.spool)) plain → IfErr result (λ e. (which : Which) (place : ℕ) → e.0 ≡ LoadFault.NotNqs which place → ⊥) }
+
+        ensures fuse { IsTrue D.tells → MatchResult result (λ r. (which : Which) (i : ℕ) → fails_of r.0 which i ≡ D.fails (disk_at which disks) i) (λ e. (which : Which) (i : ℕ) → D.fails (disk_at which e.1) i ≡ D.fails (disk_at which disks) i) }
+        ensures starved { IsTrue D.tells → MatchResult result (λ r. (which : Which) → is_starved r.0 which ≡ D.starved (disk_at which disks)) (λ e. (which : Which) → D.starved (disk_at which e.1) ≡ D.starved (disk_at which disks)) }
+        ensures later { MatchResult result (λ r. (which : Which) → D.faults (disk_at which disks) ≤ D.faults (disk_of which r.0)) (λ e. (which : Which) → D.faults (disk_at which disks) ≤ D.faults (disk_at which e.1)) }
     {
         let Disks {
             root,

@@ -1,0 +1,4 @@
+pub mod Insertion
+pub mod ByRequest
+pub mod Stands
+pub mod Taken

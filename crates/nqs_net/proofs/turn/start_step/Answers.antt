@@ -27,6 +27,6 @@ returns-in_err-slot c = λ w host faces is now.
 pub returns : goal.returns
 returns c = λ w host faces is now.
     starting c.args.me w host faces.there (steady_up c.args.node host is) is.up c.args.tear _ _ _ _ c.args.seen.now.items _
-    (subst (λ n. Turns c.args.me _ c.args.tear _ c.args.seen.now.items _ w (steps c.args.me host (started n host.state) w)) (sym now) (c.in_ok-slot.ensures.turn w host (started c.args.now host.state) faces (c.in_ok-took.ensures.taken host is c.new-out.ensures.items)))
+    (subst (λ n. Turns c.args.me (IsSlot c.in_ok-slot.slot) c.args.tear c.carry.new.packets.items c.args.seen.now.items c.carry.new.seen.items w (steps c.args.me host (started n host.state) w)) (sym now) (c.in_ok-slot.ensures.turn w host (started c.args.now host.state) faces (c.in_ok-took.ensures.taken host is c.new-out.ensures.items)))
     c.in_ok-slot.ensures.down
     (λ took none. ap (λ n. start n host.state) now ∙ c.in_ok-took.ensures.last host is took none)

@@ -1,0 +1,91 @@
+-- What is kept, seen from before the reads that come first.
+use Rattle.std.proofs.Common.{◌≡◌, ℕ, Bool, IsTrue, List, Option, option_map, None, Some, sym, ap, subst, ◌∙◌}
+use Rattle.nqs_types.specs.State.{Plain}
+use Rattle.nqs_types.specs.declared.extent.Extent.{Extent}
+use Rattle.nqs_types.specs.declared.change.Change.{Change}
+use Rattle.nqs_types.specs.declared.world.Which.{Which}
+use Rattle.nqs_types.specs.declared.world.Which.TheVariants.{Root, First, Second, Spool}
+use Rattle.nqs_outside.specs.History.{History, content}
+use Rattle.nqs_outside.specs.declared.disk.Disk as disk
+use Rattle.nqs_rules.specs.Applied.{applied}
+use Rattle.nqs_rules.specs.Filled.{filled}
+use Rattle.nqs_rules.specs.Plain.{map_state}
+use Rattle.nqs_rules.specs.Starts.{after_change}
+use Rattle.nqs_rules.specs.Stepped.{puts_of, stored_parts}
+use Rattle.nqs_store.specs.Commits.{IsKept, IsCutAt}
+use Rattle.nqs_store.specs.Faults.{IsScriptFault}
+use Rattle.nqs_store.specs.Hosts.{EachMoment, StopsShort}
+use Rattle.nqs_store.specs.Images.{TellsOneOf}
+use Rattle.nqs_store.specs.Live.{bytes_at}
+use Rattle.nqs_store.specs.Plan.{CommitsBy}
+use Rattle.nqs_store.specs.Stores.{history_of, plain_of, Tells}
+use Rattle.nqs_store.specs.Told.{Host}
+use Rattle.nqs_store.specs.declared.store.Store.{Store}
+use Rattle.nqs_store.specs.declared.fault.StoreFault.{StoreFault}
+use Rattle.nqs_store.specs.declared.fault.StoreFault.TheVariants.{Disk}
+use Rattle.nqs_node.proofs.Nothing.{none_broken, none_told}
+use Rattle.nqs_node.specs.Carried.{Kept, IsMade, IsCutBy, IsBrokenOff, IsOneOrOther}
+use Rattle.nqs_node.specs.Planned.{IsKeptWith}
+
+-- only the spool is read
+pub read_failed : (P : Which → Type 0) (fault : StoreFault) (which : Which) → IsScriptFault fault → fault ≡ Disk which → (fault ≡ Disk Spool → P Spool) → P which
+read_failed P fault Root only e then = absurd (subst IsScriptFault e only)
+read_failed P fault First only e then = absurd (subst IsScriptFault e only)
+read_failed P fault Second only e then = absurd (subst IsScriptFault e only)
+read_failed P fault Spool only e then = then e
+
+-- no call was made
+pub still_broken_off : (old now : Which → History) → ((which : Which) → now which ≡ old which) → (kept : Kept) → IsBrokenOff old now kept
+still_broken_off old now same None = same
+still_broken_off old now same (Some c) = subst (λ (h : Which → History). CommitsBy StopsShort (stored_parts c) old h) (λ j which. sym (same which) j) (none_broken (stored_parts c) old)
+
+module _ {D : Type 0} {g : disk.Ghosts D} (old mid : Store D g) (same : (which : Which) → history_of mid which ≡ history_of old which) where
+  pub still_one : (host : Host) → IsTrue g.tells → Tells old host → (kept : Kept) → IsOneOrOther (history_of old) (history_of mid) kept (plain_of old host)
+  still_one host telling told kept =
+      subst (λ (h : Which → History). IsOneOrOther (history_of old) h kept (plain_of old host)) (λ j which. sym (same which) j)
+      (none_told old host telling told (after_change kept (plain_of old host)))
+
+  pub same_plain : (host : Host) → plain_of mid host ≡ plain_of old host
+  same_plain host = ap (λ (h : History). map_state (bytes_at (content h)) host) (same Spool)
+
+module _ (fails since : Which → ℕ → Bool) (old mid now : Which → History) (fuse : (which : Which) (i : ℕ) → since which i ≡ fails which i) (same : (which : Which) → mid which ≡ old which)
+    (c : Change Extent) (bytes : List (List ℕ)) (kept : Kept) (with : IsKeptWith (Some c) bytes kept) where
+  stored : bytes ≡ stored_parts (filled c bytes)
+  stored = with.stored ∙ sym (ap puts_of with.is)
+
+  pub made_since : IsKept since bytes mid now → IsMade fails old now kept
+  made_since k =
+      let a = subst (λ (ps : List (List ℕ)). IsKept since ps mid now) stored k in
+      let b = subst (λ (h : Which → History). IsKept since (stored_parts (filled c bytes)) h now) (λ j which. same which j) a in
+      let d = subst (λ (f : Which → ℕ → Bool). IsKept f (stored_parts (filled c bytes)) old now) (λ j which i. fuse which i j) b in
+      subst (λ (k : Kept). IsMade fails old now k) with.is d
+
+  pub broken_since : CommitsBy StopsShort bytes mid now → IsBrokenOff old now kept
+  broken_since k =
+      let a = subst (λ (ps : List (List ℕ)). CommitsBy StopsShort ps mid now) stored k in
+      let b = subst (λ (h : Which → History). CommitsBy StopsShort (stored_parts (filled c bytes)) h now) (λ j which. same which j) a in
+      subst (λ (k : Kept). IsBrokenOff old now k) with.is b
+
+  module _ (was before : Plain) (plain : was ≡ before) where
+    pub cut_since : (which : Which) → IsCutAt since bytes mid now was (applied (filled c bytes) was) which → IsCutBy fails old now kept before which
+    cut_since which k =
+        let a = subst (λ (ps : List (List ℕ)). IsCutAt since ps mid now was (applied (filled c bytes) was) which) stored k in
+        let b = subst (λ (h : Which → History). IsCutAt since (stored_parts (filled c bytes)) h now was (applied (filled c bytes) was) which) (λ j which. same which j) a in
+        let d = subst (λ (f : Which → ℕ → Bool). IsCutAt f (stored_parts (filled c bytes)) old now was (applied (filled c bytes) was) which) (λ j which i. fuse which i j) b in
+        let e = subst (λ (s : Plain). IsCutAt fails (stored_parts (filled c bytes)) old now s (applied (filled c bytes) s) which) plain d in
+        subst (λ (k : Kept). IsCutBy fails old now k before which) with.is e
+
+    pub moments_since : EachMoment mid now (λ images. TellsOneOf was (applied (filled c bytes) was) (images First) (images Spool)) → IsOneOrOther old now kept before
+    moments_since k =
+        let a = subst (λ (h : Which → History). EachMoment h now (λ images. TellsOneOf was (applied (filled c bytes) was) (images First) (images Spool))) (λ j which. same which j) k in
+        let b = subst (λ (s : Plain). EachMoment old now (λ images. TellsOneOf s (applied (filled c bytes) s) (images First) (images Spool))) plain a in
+        subst (λ (k : Kept). IsOneOrOther old now k before) with.is b
+
+    pub plain_since : (later : Plain) → later ≡ applied (filled c bytes) was → later ≡ after_change kept before
+    plain_since later e = e ∙ ap (applied (filled c bytes)) plain ∙ ap (λ (k : Kept). after_change k before) with.is
+
+pub none_kept : (change : Option (Change Extent)) (bytes : List (List ℕ)) (kept : Kept) → change ≡ None → IsKeptWith change bytes kept → None ≡ kept
+none_kept change bytes kept none with = (let f : Option (Change Extent) → Kept = option_map (λ c. filled c bytes) in ap f (sym none)) ∙ with.is
+
+pub some_kept : (change : Option (Change Extent)) (c : Change Extent) (bytes : List (List ℕ)) (kept : Kept) → change ≡ Some c → IsKeptWith change bytes kept → IsKeptWith (Some c) bytes kept
+some_kept change c bytes kept some with = subst (λ (o : Option (Change Extent)). IsKeptWith o bytes kept) some with

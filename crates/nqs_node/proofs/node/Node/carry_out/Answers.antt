@@ -1,0 +1,43 @@
+use Rattle.std.proofs.Common.{◌≡◌, ◌⊎◌, IsTrue, Err, refl, sym, ap, subst, ◌∙◌}
+use Rattle.nqs_types.specs.State.{Plain}
+use Rattle.nqs_store.specs.Stores as store
+use Rattle.nqs_store.specs.declared.fault.StoreFault.TheVariants as fault
+use Rattle.nqs_node.specs.Carried.{IsOneOrOther, IsBlown, IsCutBy}
+use Rattle.nqs_node.specs.Nodes.{history_of, fails_of}
+use Rattle.nqs_node.proofs.Performing.{still_broken_off}
+use Rattle.nqs_node.proofs.Telling.{kept_from, tells_still, one_still}
+use Rattle.nqs_node.proofs.node.Node.carry_out.Goals as goal
+
+pub returns-in-Err-clause-broken_off : goal.returns-in-Err-clause-broken_off
+returns-in-Err-clause-broken_off g c = λ yes done does. still_broken_off (history_of c.args.self.now) (history_of c.args.self.now) (λ which. refl) done.change
+
+pub returns-in-Err-clause-any_moment : goal.returns-in-Err-clause-any_moment
+returns-in-Err-clause-any_moment g c = λ yes s told done does. one_still c.args.self.now s told yes done.change
+
+pub returns-in-Err-Memory-clause-memory : goal.returns-in-Err-Memory-clause-memory
+returns-in-Err-Memory-clause-memory g c = λ yes memory.
+    let u = c.in-Err-Memory.ensures.unchanged yes (ap Err c.in-Err-Memory.field-0-is) in
+    (c.in-Err-Memory.ensures.err, sym c.requires.running, u.0, λ s told. tells_still c.args.self.now s told _ c.in-Err-Memory.ensures.err u.0 u.1 refl)
+
+pub returns-in-Err-Memory-clause-any_moment : goal.returns-in-Err-Memory-clause-any_moment
+returns-in-Err-Memory-clause-any_moment g c = λ yes s told done does.
+    subst (λ (p : Plain). IsOneOrOther (history_of c.args.self.now) (store.history_of c.perform.new.store) done.change p) told.is
+    (c.perform.ensures.any_moment yes told.told done.change (kept_from c.args.plan.change c.as_slice.result.now c.args.plan.puts done.change c.as_slice.ensures does.kept))
+
+pub returns-in-Err-Disk-clause-cut : goal.returns-in-Err-Disk-clause-cut
+returns-in-Err-Disk-clause-cut g c = λ yes s told done does which failed.
+    let same : c.in-Err-Disk.which ≡ which = cc in
+    subst (λ (p : Plain). IsTrue (store.is_starved c.perform.new.store which) ⊎ (IsBlown (fails_of c.args.self.now which) (history_of c.args.self.now which)
+    ⊎ IsCutBy (fails_of c.args.self.now) (history_of c.args.self.now) (store.history_of c.perform.new.store) done.change p which)) told.is
+    (c.in-Err-Disk.ensures.cut yes told.told done.change (kept_from c.args.plan.change c.as_slice.result.now c.args.plan.puts done.change c.as_slice.ensures does.kept) which
+    (ap Err (c.in-Err-Disk.field-0-is ∙ ap fault.Disk same)))
+
+pub returns-in-Err-Disk-clause-any_moment : goal.returns-in-Err-Disk-clause-any_moment
+returns-in-Err-Disk-clause-any_moment g c = λ yes s told done does.
+    subst (λ (p : Plain). IsOneOrOther (history_of c.args.self.now) (store.history_of c.perform.new.store) done.change p) told.is
+    (c.perform.ensures.any_moment yes told.told done.change (kept_from c.args.plan.change c.as_slice.result.now c.args.plan.puts done.change c.as_slice.ensures does.kept))
+
+pub returns-clause-any_moment : goal.returns-clause-any_moment
+returns-clause-any_moment g c = λ yes s told done does.
+    subst (λ (p : Plain). IsOneOrOther (history_of c.args.self.now) (store.history_of c.perform.new.store) done.change p) told.is
+    (c.perform.ensures.any_moment yes told.told done.change (kept_from c.args.plan.change c.as_slice.result.now c.args.plan.puts done.change c.as_slice.ensures does.kept))

@@ -1,0 +1,107 @@
+use Rattle.std.proofs.Common.{◌≡◌, ◌++◌, IsTrue, IsErrOf, Err, IfSome, List, ℕ, is_some, map, refl, sym, ap, subst, ◌∙◌}
+use Rattle.std.specs.List.{AllByRecursion}
+use Rattle.std.proofs.lemmas.List.{append-nil}
+use Rattle.nqs_rules.specs.Fits.{fits}
+use Rattle.nqs_rules.specs.Sane.{is_sane_change}
+use Rattle.nqs_rules.specs.Starts.{after_step}
+use Rattle.nqs_rules.specs.Stepped.{Stepped, shown, puts_of}
+use Rattle.nqs_store.specs.Puts.{IsShortPut}
+use Rattle.nqs_kept.specs.Offers.{takes_back_few}
+use Rattle.nqs_kept.specs.Reads.{AreLive}
+use Rattle.nqs_node.specs.Carried.{started, IsMade}
+use Rattle.nqs_node.specs.Nodes.{history_of, fails_of, content_of, bytes_of, Tells}
+use Rattle.nqs_node.proofs.Performing.{still_broken_off}
+use Rattle.nqs_node.proofs.Planning.{next_is, at_next, none_next, may_be_done}
+use Rattle.nqs_node.proofs.Telling.{one_still, does_next, quiet_next}
+use Rattle.nqs_node.proofs.node.Node.start_next.Goals as goal
+
+-- the same error, of another answer
+same_error : {T U E : Type 0} (d e : E) → IsErrOf {T = T} (Err d) e → IsErrOf {T = U} (Err d) e
+same_error d e is = let same : d ≡ e = cc in ap Err same
+
+pub carry_out-requires-clause-may : goal.carry_out-requires-clause-may
+carry_out-requires-clause-may g c =
+    let now = c.args.now in
+    let host = content_of c.args.self.now in
+    let order = c.requires.sound.order in
+    let plan = c.in-Ok-Some.plan in
+    let next = next_is now host plan (sym c.in-Ok-Some.field-0-is ∙ c.in-Ok-Some.ensures) in
+    may_be_done next.done plan next.is host
+    (at_next (λ x. IfSome x.change (λ c. IsTrue (fits c host) × IsTrue (is_sane_change c))) now host plan next (c.start_fits.ensures now host order))
+    (at_next (λ x. IfSome x.change (λ c. IsTrue (takes_back_few c))) now host plan next (c.few_offers_are_taken_back.ensures.start now host order))
+    (at_next (λ x. AllByRecursion IsShortPut (puts_of x.change)) now host plan next (c.stored_bytes_are_short.ensures.start now host order))
+    (at_next (λ x. AreLive host x.outputs) now host plan next (c.outputs_read_live_extents.ensures.start now host order))
+
+pub returns-in-Err-clause-broken_off : goal.returns-in-Err-clause-broken_off
+returns-in-Err-clause-broken_off g c = λ yes s told. still_broken_off (history_of c.args.self.now) (history_of c.args.self.now) (λ which. refl) (started c.args.now s).change
+
+pub returns-in-Err-clause-any_moment : goal.returns-in-Err-clause-any_moment
+returns-in-Err-clause-any_moment g c = λ yes s told. one_still c.args.self.now s told yes (started c.args.now s).change
+
+pub returns-in-Ok-None-clause-more : goal.returns-in-Ok-None-clause-more
+returns-in-Ok-None-clause-more g c = sym (ap is_some (none_next c.args.now (content_of c.args.self.now) (sym c.in-Ok-None.field-0-is ∙ c.in-Ok-None.ensures)))
+
+pub returns-in-Ok-None-clause-told : goal.returns-in-Ok-None-clause-told
+returns-in-Ok-None-clause-told g c = λ yes s told.
+    let still = quiet_next c.args.self.now s told c.args.now (c.start_looks_at_no_bytes.ensures.start (bytes_of c.args.self.now) c.args.now (content_of c.args.self.now))
+    (none_next c.args.now (content_of c.args.self.now) (sym c.in-Ok-None.field-0-is ∙ c.in-Ok-None.ensures)) in
+    subst (λ (x : Stepped (List ℕ)). Tells c.args.self.now (after_step x s)) (sym still) told
+
+pub returns-in-Ok-None-clause-outputs : goal.returns-in-Ok-None-clause-outputs
+returns-in-Ok-None-clause-outputs g c = λ yes s told.
+    let still = quiet_next c.args.self.now s told c.args.now (c.start_looks_at_no_bytes.ensures.start (bytes_of c.args.self.now) c.args.now (content_of c.args.self.now))
+    (none_next c.args.now (content_of c.args.self.now) (sym c.in-Ok-None.field-0-is ∙ c.in-Ok-None.ensures)) in
+    sym (append-nil c.args.out.now.items) ∙ ap (λ (x : Stepped (List ℕ)). c.args.out.now.items ++ map shown x.outputs) (sym still)
+
+pub returns-in-Ok-None-clause-made : goal.returns-in-Ok-None-clause-made
+returns-in-Ok-None-clause-made g c = λ yes s told.
+    let still = quiet_next c.args.self.now s told c.args.now (c.start_looks_at_no_bytes.ensures.start (bytes_of c.args.self.now) c.args.now (content_of c.args.self.now))
+    (none_next c.args.now (content_of c.args.self.now) (sym c.in-Ok-None.field-0-is ∙ c.in-Ok-None.ensures)) in
+    subst (λ (x : Stepped (List ℕ)). IsMade (fails_of c.args.self.now) (history_of c.args.self.now) (history_of c.args.self.now) x.change) (sym still) (λ which. refl)
+
+pub returns-in-Ok-None-clause-any_moment : goal.returns-in-Ok-None-clause-any_moment
+returns-in-Ok-None-clause-any_moment g c = λ yes s told. one_still c.args.self.now s told yes (started c.args.now s).change
+
+pub returns-in-Err-carry_out-clause-broken : goal.returns-in-Err-carry_out-clause-broken
+returns-in-Err-carry_out-clause-broken g c = λ which failed. c.in-Err-carry_out.ensures.broken which (same_error _ _ failed)
+
+pub returns-in-Err-carry_out-clause-memory : goal.returns-in-Err-carry_out-clause-memory
+returns-in-Err-carry_out-clause-memory g c = λ yes failed. c.in-Err-carry_out.ensures.memory yes (same_error _ _ failed)
+
+pub returns-in-Err-carry_out-clause-broken_off : goal.returns-in-Err-carry_out-clause-broken_off
+returns-in-Err-carry_out-clause-broken_off g c = λ yes s told.
+    c.in-Err-carry_out.ensures.broken_off yes (started c.args.now s) (does_next c.args.self.now s told c.args.now (c.start_looks_at_no_bytes.ensures.start (bytes_of c.args.self.now) c.args.now (content_of c.args.self.now)) c.in-Ok-Some.plan
+    (next_is c.args.now (content_of c.args.self.now) c.in-Ok-Some.plan (sym c.in-Ok-Some.field-0-is ∙ c.in-Ok-Some.ensures)))
+
+pub returns-in-Err-carry_out-clause-cut : goal.returns-in-Err-carry_out-clause-cut
+returns-in-Err-carry_out-clause-cut g c = λ yes s told which failed.
+    c.in-Err-carry_out.ensures.cut yes s told (started c.args.now s) (does_next c.args.self.now s told c.args.now (c.start_looks_at_no_bytes.ensures.start (bytes_of c.args.self.now) c.args.now (content_of c.args.self.now)) c.in-Ok-Some.plan
+    (next_is c.args.now (content_of c.args.self.now) c.in-Ok-Some.plan (sym c.in-Ok-Some.field-0-is ∙ c.in-Ok-Some.ensures))) which (same_error _ _ failed)
+
+pub returns-in-Err-carry_out-clause-any_moment : goal.returns-in-Err-carry_out-clause-any_moment
+returns-in-Err-carry_out-clause-any_moment g c = λ yes s told.
+    c.in-Err-carry_out.ensures.any_moment yes s told (started c.args.now s) (does_next c.args.self.now s told c.args.now (c.start_looks_at_no_bytes.ensures.start (bytes_of c.args.self.now) c.args.now (content_of c.args.self.now)) c.in-Ok-Some.plan
+    (next_is c.args.now (content_of c.args.self.now) c.in-Ok-Some.plan (sym c.in-Ok-Some.field-0-is ∙ c.in-Ok-Some.ensures)))
+
+pub returns-in-Ok-clause-more : goal.returns-in-Ok-clause-more
+returns-in-Ok-clause-more g c = sym (ap is_some (next_is c.args.now (content_of c.args.self.now) c.in-Ok-Some.plan (sym c.in-Ok-Some.field-0-is ∙ c.in-Ok-Some.ensures)).picked)
+
+pub returns-in-Ok-clause-told : goal.returns-in-Ok-clause-told
+returns-in-Ok-clause-told g c = λ yes s told.
+    c.in-Ok.ensures.told yes s told (started c.args.now s) (does_next c.args.self.now s told c.args.now (c.start_looks_at_no_bytes.ensures.start (bytes_of c.args.self.now) c.args.now (content_of c.args.self.now)) c.in-Ok-Some.plan
+    (next_is c.args.now (content_of c.args.self.now) c.in-Ok-Some.plan (sym c.in-Ok-Some.field-0-is ∙ c.in-Ok-Some.ensures)))
+
+pub returns-in-Ok-clause-outputs : goal.returns-in-Ok-clause-outputs
+returns-in-Ok-clause-outputs g c = λ yes s told.
+    c.in-Ok.ensures.outputs yes s told (started c.args.now s) (does_next c.args.self.now s told c.args.now (c.start_looks_at_no_bytes.ensures.start (bytes_of c.args.self.now) c.args.now (content_of c.args.self.now)) c.in-Ok-Some.plan
+    (next_is c.args.now (content_of c.args.self.now) c.in-Ok-Some.plan (sym c.in-Ok-Some.field-0-is ∙ c.in-Ok-Some.ensures)))
+
+pub returns-in-Ok-clause-made : goal.returns-in-Ok-clause-made
+returns-in-Ok-clause-made g c = λ yes s told.
+    c.in-Ok.ensures.made yes (started c.args.now s) (does_next c.args.self.now s told c.args.now (c.start_looks_at_no_bytes.ensures.start (bytes_of c.args.self.now) c.args.now (content_of c.args.self.now)) c.in-Ok-Some.plan
+    (next_is c.args.now (content_of c.args.self.now) c.in-Ok-Some.plan (sym c.in-Ok-Some.field-0-is ∙ c.in-Ok-Some.ensures)))
+
+pub returns-in-Ok-clause-any_moment : goal.returns-in-Ok-clause-any_moment
+returns-in-Ok-clause-any_moment g c = λ yes s told.
+    c.in-Ok.ensures.any_moment yes s told (started c.args.now s) (does_next c.args.self.now s told c.args.now (c.start_looks_at_no_bytes.ensures.start (bytes_of c.args.self.now) c.args.now (content_of c.args.self.now)) c.in-Ok-Some.plan
+    (next_is c.args.now (content_of c.args.self.now) c.in-Ok-Some.plan (sym c.in-Ok-Some.field-0-is ∙ c.in-Ok-Some.ensures)))

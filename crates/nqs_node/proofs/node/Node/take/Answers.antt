@@ -1,0 +1,52 @@
+use Rattle.std.proofs.Common.{refl}
+use Rattle.nqs_rules.specs.Step.{step}
+use Rattle.nqs_node.specs.Nodes.{history_of, content_of, bytes_of}
+use Rattle.nqs_node.proofs.Performing.{still_broken_off}
+use Rattle.nqs_node.proofs.Planning.{may_be_done}
+use Rattle.nqs_node.proofs.Telling.{one_still, done_here}
+use Rattle.nqs_node.proofs.node.Node.take.Goals as goal
+
+pub carry_out-requires-clause-may : goal.carry_out-requires-clause-may
+carry_out-requires-clause-may g c =
+    let e = c.args.event.now in
+    let host = content_of c.args.self.now in
+    let order = c.requires.sound.order in
+    let sane = c.requires.sane in
+    may_be_done (step e host) c.in-Ok.plan c.in-Ok.ensures host (c.step_fits.ensures e host order sane) (c.few_offers_are_taken_back.ensures.step e host order sane) (c.stored_bytes_are_short.ensures.step e host order sane)
+    (c.outputs_read_live_extents.ensures.step e host order)
+
+pub returns-in-Err-clause-broken_off : goal.returns-in-Err-clause-broken_off
+returns-in-Err-clause-broken_off g c = λ yes s told. still_broken_off (history_of c.args.self.now) (history_of c.args.self.now) (λ which. refl) (step c.args.event.now s).change
+
+pub returns-in-Err-clause-any_moment : goal.returns-in-Err-clause-any_moment
+returns-in-Err-clause-any_moment g c = λ yes s told. one_still c.args.self.now s told yes (step c.args.event.now s).change
+
+pub returns-in-Ok-clause-told : goal.returns-in-Ok-clause-told
+returns-in-Ok-clause-told g c = λ yes s told.
+    c.carry_out.ensures.told yes s told (step c.args.event.now s) (done_here c.args.self.now s told (step c.args.event.now) (step c.args.event.now (content_of c.args.self.now)) c.in-Ok.plan c.in-Ok.ensures
+    (c.step_looks_at_no_bytes.ensures (bytes_of c.args.self.now) c.args.event.now (content_of c.args.self.now)))
+
+pub returns-in-Ok-clause-outputs : goal.returns-in-Ok-clause-outputs
+returns-in-Ok-clause-outputs g c = λ yes s told.
+    c.carry_out.ensures.outputs yes s told (step c.args.event.now s) (done_here c.args.self.now s told (step c.args.event.now) (step c.args.event.now (content_of c.args.self.now)) c.in-Ok.plan c.in-Ok.ensures
+    (c.step_looks_at_no_bytes.ensures (bytes_of c.args.self.now) c.args.event.now (content_of c.args.self.now)))
+
+pub returns-in-Ok-clause-made : goal.returns-in-Ok-clause-made
+returns-in-Ok-clause-made g c = λ yes s told.
+    c.carry_out.ensures.made yes (step c.args.event.now s) (done_here c.args.self.now s told (step c.args.event.now) (step c.args.event.now (content_of c.args.self.now)) c.in-Ok.plan c.in-Ok.ensures
+    (c.step_looks_at_no_bytes.ensures (bytes_of c.args.self.now) c.args.event.now (content_of c.args.self.now)))
+
+pub returns-in-Ok-clause-broken_off : goal.returns-in-Ok-clause-broken_off
+returns-in-Ok-clause-broken_off g c = λ yes s told.
+    c.carry_out.ensures.broken_off yes (step c.args.event.now s) (done_here c.args.self.now s told (step c.args.event.now) (step c.args.event.now (content_of c.args.self.now)) c.in-Ok.plan c.in-Ok.ensures
+    (c.step_looks_at_no_bytes.ensures (bytes_of c.args.self.now) c.args.event.now (content_of c.args.self.now)))
+
+pub returns-in-Ok-clause-cut : goal.returns-in-Ok-clause-cut
+returns-in-Ok-clause-cut g c = λ yes s told which failed.
+    c.carry_out.ensures.cut yes s told (step c.args.event.now s) (done_here c.args.self.now s told (step c.args.event.now) (step c.args.event.now (content_of c.args.self.now)) c.in-Ok.plan c.in-Ok.ensures
+    (c.step_looks_at_no_bytes.ensures (bytes_of c.args.self.now) c.args.event.now (content_of c.args.self.now))) which failed
+
+pub returns-in-Ok-clause-any_moment : goal.returns-in-Ok-clause-any_moment
+returns-in-Ok-clause-any_moment g c = λ yes s told.
+    c.carry_out.ensures.any_moment yes s told (step c.args.event.now s) (done_here c.args.self.now s told (step c.args.event.now) (step c.args.event.now (content_of c.args.self.now)) c.in-Ok.plan c.in-Ok.ensures
+    (c.step_looks_at_no_bytes.ensures (bytes_of c.args.self.now) c.args.event.now (content_of c.args.self.now)))

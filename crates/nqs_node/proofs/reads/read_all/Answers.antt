@@ -1,0 +1,56 @@
+use Rattle.std.proofs.Common.{◌+◌, drop, sym, ap, ◌∙◌, arith, get_or}
+use Rattle.std.proofs.lemmas.List.{at_drop_more, at_drop_all}
+use Rattle.std.proofs.lemmas.Result.{err_from_is_err_and}
+use Rattle.nqs_types.specs.declared.world.Which.TheVariants.{Spool}
+use Rattle.nqs_types.specs.declared.event.PlanRead.{PlanRead}
+use Rattle.nqs_outside.specs.History.{History, content}
+use Rattle.nqs_rules.specs.Edits.{change_at}
+use Rattle.nqs_rules.specs.Stepped.{with_bytes}
+use Rattle.nqs_store.specs.Live.{bytes_at}
+use Rattle.nqs_store.specs.Stores.{history_of, fails_of, bytes_of}
+use Rattle.nqs_node.specs.Reading.{read_into, IsLiveRead}
+use Rattle.nqs_node.proofs.Places.{all_at, rose_since, blown_since}
+use Rattle.nqs_node.proofs.reads.read_all.Goals as goal
+
+pub returns-in_err-read_one-clause-failed : goal.returns-in_err-read_one-clause-failed
+returns-in_err-read_one-clause-failed g c =
+    let p = err_from_is_err_and c.from_residual.result c.from_residual.ensures.1 in
+    rw (p.1, p.2) (λ failed. rose_since _ _ _ (c.loop-read.invariant.later Spool) (c.in_err-read_one.ensures.failed failed))
+
+pub returns-in_err-read_one-clause-cause : goal.returns-in_err-read_one-clause-cause
+returns-in_err-read_one-clause-cause g c =
+    let p = err_from_is_err_and c.from_residual.result c.from_residual.ensures.1 in
+    let v = c.loop-read.invariant in
+    rw (p.1, p.2) (λ yes failed. blown_since (fails_of c.args.store.now Spool) (fails_of c.loop-read.store Spool) (history_of c.loop-read.store Spool) (history_of c.args.store.now Spool) (v.fuse yes Spool) (v.same yes Spool) (c.in_err-read_one.ensures.cause yes failed))
+
+pub returns-in_err-read_one-clause-tells : goal.returns-in_err-read_one-clause-tells
+returns-in_err-read_one-clause-tells g c = λ yes host told. c.read_one.ensures.tells yes host (c.loop-read.invariant.tells yes host told)
+
+pub loop-read-preserved : goal.loop-read-preserved
+loop-read-preserved g c =
+    let v = c.loop-read.invariant in
+    let i = c.loop-read.read-index in
+    let reads = c.args.reads.now in
+    let f = bytes_of c.args.store.now in
+    let none : PlanRead = record { output = 0; extent = record { place = 0; length = 0 } } in
+    let x : PlanRead = get_or reads i none in
+    let outputs = c.loop-read.outputs.items in
+    record {
+      filled = λ yes host told all.
+          let read = c.in_ok-read_one.ensures.filled yes host (v.tells yes host told) (all_at (IsLiveRead host) reads i none all c.loop-read-test.true) in
+          let bytes = ap (λ (h : History). bytes_at (content h) x.extent) (v.same yes Spool) in
+          ap (read_into f (drop (i + 1) reads)) (read ∙ ap (λ b. change_at x.output (with_bytes b) outputs) bytes)
+          ∙ sym (at_drop_more (λ rs. read_into f rs outputs) reads i none c.loop-read-test.true) ∙ v.filled yes host told all;
+      as_many = c.read_one.ensures.as_many ∙ v.as_many;
+      same = λ yes which. c.read_one.ensures.same yes which ∙ v.same yes which;
+      fuse = λ yes which n. c.read_one.ensures.fuse yes which n ∙ v.fuse yes which n;
+      starved = λ yes which. c.read_one.ensures.starved yes which ∙ v.starved yes which;
+      stays = c.read_one.ensures.stays ∙ v.stays;
+      later = λ which. omega (arith, v.later which, c.read_one.ensures.later which);
+      tells = λ yes host told. c.read_one.ensures.tells yes host (v.tells yes host told);
+    }
+
+pub returns-clause-filled : goal.returns-clause-filled
+returns-clause-filled g c = λ yes host told all.
+    let f = bytes_of c.args.store.now in
+    sym (at_drop_all (λ rs. read_into f rs c.loop-read.outputs.items) c.args.reads.now c.loop-read.read-index c.loop-read-test.false) ∙ c.loop-read.invariant.filled yes host told all

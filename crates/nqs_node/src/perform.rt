@@ -1,0 +1,68 @@
+//! What is planned is read, kept and made, all over the disks of a host.
+
+ghost use Rattle.std.specs.Prelude.{◌≡◌, ◌⊎◌, ℕ, List, Option, false, IsTrue, IsErrOf, OnOk, OnErr, IfSome, length};
+ghost use Rattle.nqs_types.specs.State.{content};
+ghost use Rattle.nqs_types.specs.declared.world.Which.{Which};
+ghost use Rattle.nqs_outside.specs.Causes.{Rose};
+ghost use Rattle.nqs_rules.specs.Starts.{after_change};
+ghost use Rattle.nqs_store.specs.Sound.{IsSoundHost};
+ghost use Rattle.nqs_store.specs.Stores.{disk_of, history_of, fails_of, is_starved, is_stopped, bytes_of, plain_of, Tells};
+ghost use Rattle.nqs_store.specs.Told.{Host};
+ghost use Rattle.nqs_node.specs.Carried.{Kept, IsMade, IsCutBy, IsBrokenOff, IsOneOrOther, IsBlown};
+ghost use Rattle.nqs_node.specs.Planned.{MayBeKept, IsKeptWith};
+ghost use Rattle.nqs_node.specs.Reading.{read_into, AreLiveReads};
+
+use crate::keep::keep;
+use crate::reads::read_all;
+use nqs_kept::laws::fitting_changes_may_stand;
+use nqs_outside::Disk;
+use nqs_store::{Store, StoreFault};
+use nqs_types::{Bytes, Change, HostState, Output, PlanRead};
+use std::alloc::Global;
+
+/// Reads the bytes of the outputs, keeps the change and makes it. What fails before the first counted call leaves all
+/// as it was but the outputs.
+pub(crate) fn perform<D: Disk>(
+    alloc: Global,
+    store: &mut Store<D>,
+    state: &mut HostState,
+    change: Option<Change>,
+    puts: &[Bytes],
+    reads: &[PlanRead],
+    outputs: &mut Vec<Output>,
+) -> Result<(), StoreFault>
+    requires sound { IsSoundHost (content state.old) }
+    requires running { is_stopped store.old ≡ false }
+    requires may { IfSome change (MayBeKept (content state.old) puts.now) }
+    requires live { AreLiveReads (content state.old) reads.now }
+    ensures sound { IsSoundHost (content state.new) }
+    ensures site { (content state.new).site ≡ (content state.old).site }
+    ensures err { OnErr result (content state.new ≡ content state.old) }
+    ensures stopped { IsErrOf result StoreFault.Stopped → ⊥ }
+    ensures running { OnOk result (is_stopped store.new ≡ false) }
+    ensures broken { (which : Which) → IsErrOf result (StoreFault.Disk which) → Rose (D.faults (disk_of which store.old)) (D.faults (disk_of which store.new)) }
+    ensures as_many { length outputs.new.items ≡ length outputs.old.items }
+    ensures memory { IsErrOf result StoreFault.Memory → is_stopped store.new ≡ false }
+    ensures unchanged { IsTrue D.tells → IsErrOf result StoreFault.Memory → ((which : Which) → history_of store.new which ≡ history_of store.old which) × ((host : Host) → Tells store.old host → Tells store.new host) }
+    ensures told { IsTrue D.tells → Tells store.old (content state.old) → OnOk result (Tells store.new (content state.new)) }
+    ensures plain { IsTrue D.tells → Tells store.old (content state.old) → (kept : Kept) → IsKeptWith change puts.now kept
+        → OnOk result (plain_of store.new (content state.new) ≡ after_change kept (plain_of store.old (content state.old))) }
+    ensures outputs { IsTrue D.tells → Tells store.old (content state.old) → OnOk result (outputs.new.items ≡ read_into (bytes_of store.old) reads.now outputs.old.items) }
+    ensures made { IsTrue D.tells → (kept : Kept) → IsKeptWith change puts.now kept → OnOk result (IsMade (fails_of store.old) (history_of store.old) (history_of store.new) kept) }
+    ensures broken_off { IsTrue D.tells → (kept : Kept) → IsKeptWith change puts.now kept → OnErr result (IsBrokenOff (history_of store.old) (history_of store.new) kept) }
+    ensures cut { IsTrue D.tells → Tells store.old (content state.old) → (kept : Kept) → IsKeptWith change puts.now kept → (which : Which) → IsErrOf result (StoreFault.Disk which) → IsTrue (is_starved store.new which)
+        ⊎ (IsBlown (fails_of store.old which) (history_of store.old which) ⊎ IsCutBy (fails_of store.old) (history_of store.old) (history_of store.new) kept (plain_of store.old (content state.old)) which) }
+    ensures fuse { IsTrue D.tells → (which : Which) (i : ℕ) → fails_of store.new which i ≡ fails_of store.old which i }
+    ensures any_moment { IsTrue D.tells → Tells store.old (content state.old) → (kept : Kept) → IsKeptWith change puts.now kept → IsOneOrOther (history_of store.old) (history_of store.new) kept (plain_of store.old (content state.old)) }
+{
+    match read_all(alloc, store, reads, outputs) {
+        Err(fault) => Err(fault),
+        Ok(()) => match change {
+            None => Ok(()),
+            Some(change) => {
+                fitting_changes_may_stand(state, &change);
+                keep(alloc, store, state, change, puts)
+            }
+        },
+    }
+}

@@ -1,0 +1,109 @@
+//! The bytes of outputs are read from the spool, before anything is kept.
+
+ghost use Rattle.std.specs.Prelude.{◌≡◌, ◌<◌, ◌≤◌, ℕ, IsTrue, IsErrOf, OnOk, IfErr, length};
+ghost use Rattle.nqs_types.specs.declared.world.Which.{Which};
+ghost use Rattle.nqs_types.specs.declared.world.Which.TheVariants.{Spool};
+ghost use Rattle.nqs_outside.specs.Causes.{Rose};
+ghost use Rattle.nqs_outside.specs.History.{moment};
+ghost use Rattle.nqs_rules.specs.Edits.{change_at};
+ghost use Rattle.nqs_rules.specs.Stepped.{sent_with, with_bytes};
+ghost use Rattle.nqs_store.specs.Faults.{IsScriptFault};
+ghost use Rattle.nqs_store.specs.Stores.{disk_of, history_of, fails_of, is_starved, is_stopped, bytes_of, Tells};
+ghost use Rattle.nqs_store.specs.Told.{Host};
+ghost use Rattle.nqs_node.specs.Carried.{IsBlown};
+ghost use Rattle.nqs_node.specs.Reading.{read_into, IsLiveRead, AreLiveReads};
+
+use nqs_outside::Disk;
+use nqs_store::{Store, StoreFault};
+use nqs_types::{Body, Bytes, Output, PlanRead};
+use std::alloc::Global;
+
+fn send_with(body: &mut Body, read: Bytes)
+    ensures { body.new ≡ sent_with read body.old }
+{
+    match body {
+        Body::Offer { script, .. } => *script = read,
+        Body::Stage { bytes, .. } => *bytes = read,
+        _ => {}
+    }
+}
+
+fn fill(output: &mut Output, read: Bytes)
+    ensures { output.new ≡ with_bytes read output.old }
+{
+    match output {
+        Output::Launch { script, .. } => *script = read,
+        Output::Print { script, .. } => *script = read,
+        Output::File { bytes, .. } => *bytes = read,
+        Output::Send(message) => send_with(&mut message.body, read),
+        _ => {}
+    }
+}
+
+// Gives the output of a place its bytes.
+fn fill_at(outputs: &mut Vec<Output>, place: usize, read: Bytes)
+    ensures filled { outputs.new.items ≡ change_at place (with_bytes read) outputs.old.items }
+    ensures as_many { length outputs.new.items ≡ length outputs.old.items }
+{
+    if place < outputs.len() {
+        let output = &mut outputs[place];
+        fill(output, read);
+    }
+}
+
+// Reads the bytes of one output.
+fn read_one<D: Disk>(
+    alloc: Global,
+    store: &mut Store<D>,
+    read: &PlanRead,
+    outputs: &mut Vec<Output>,
+) -> Result<(), StoreFault>
+    ensures stopped { IsErrOf result StoreFault.Stopped → IsTrue (is_stopped store.old) }
+    ensures only { IfErr result IsScriptFault }
+    ensures filled { IsTrue D.tells → (host : Host) → Tells store.old host → IsLiveRead host read.now
+        → OnOk result (outputs.new.items ≡ change_at read.now.output (with_bytes (bytes_of store.old read.now.extent)) outputs.old.items) }
+    ensures as_many { length outputs.new.items ≡ length outputs.old.items }
+    ensures failed { IsErrOf result (StoreFault.Disk Spool) → Rose (D.faults (disk_of Spool store.old)) (D.faults (disk_of Spool store.new)) }
+    ensures cause { IsTrue D.tells → IsErrOf result (StoreFault.Disk Spool) → IsBlown (fails_of store.old Spool) (history_of store.old Spool) }
+    ensures same { IsTrue D.tells → (which : Which) → history_of store.new which ≡ history_of store.old which }
+    ensures fuse { IsTrue D.tells → (which : Which) (i : ℕ) → fails_of store.new which i ≡ fails_of store.old which i }
+    ensures starved { IsTrue D.tells → (which : Which) → is_starved store.new which ≡ is_starved store.old which }
+    ensures stays { is_stopped store.new ≡ is_stopped store.old }
+    ensures later { (which : Which) → D.faults (disk_of which store.old) ≤ D.faults (disk_of which store.new) }
+    ensures tells { IsTrue D.tells → (host : Host) → Tells store.old host → Tells store.new host }
+{
+    let mut bytes = Vec::new(alloc);
+    match store.script(&read.extent, &mut bytes) {
+        Err(fault) => Err(fault),
+        Ok(()) => {
+            fill_at(outputs, read.output, Bytes::from_vec(bytes));
+            Ok(())
+        }
+    }
+}
+
+/// Reads the bytes of outputs, each at its place. It makes no call that is counted, and keeps nothing.
+pub(crate) fn read_all<D: Disk>(
+    alloc: Global,
+    store: &mut Store<D>,
+    reads: &[PlanRead],
+    outputs: &mut Vec<Output>,
+) -> Result<(), StoreFault>
+    ensures stopped { IsErrOf result StoreFault.Stopped → IsTrue (is_stopped store.old) }
+    ensures only { IfErr result IsScriptFault }
+    ensures filled { IsTrue D.tells → (host : Host) → Tells store.old host → AreLiveReads host reads.now → OnOk result (outputs.new.items ≡ read_into (bytes_of store.old) reads.now outputs.old.items) }
+    ensures as_many { length outputs.new.items ≡ length outputs.old.items }
+    ensures failed { IsErrOf result (StoreFault.Disk Spool) → Rose (D.faults (disk_of Spool store.old)) (D.faults (disk_of Spool store.new)) }
+    ensures cause { IsTrue D.tells → IsErrOf result (StoreFault.Disk Spool) → IsBlown (fails_of store.old Spool) (history_of store.old Spool) }
+    ensures same { IsTrue D.tells → (which : Which) → history_of store.new which ≡ history_of store.old which }
+    ensures fuse { IsTrue D.tells → (which : Which) (i : ℕ) → fails_of store.new which i ≡ fails_of store.old which i }
+    ensures starved { IsTrue D.tells → (which : Which) → is_starved store.new which ≡ is_starved store.old which }
+    ensures stays { is_stopped store.new ≡ is_stopped store.old }
+    ensures later { (which : Which) → D.faults (disk_of which store.old) ≤ D.faults (disk_of which store.new) }
+    ensures tells { IsTrue D.tells → (host : Host) → Tells store.old host → Tells store.new host }
+{
+    for read in reads {
+        read_one(alloc, store, read, outputs)?;
+    }
+    Ok(())
+}

@@ -1,0 +1,226 @@
+//! The extents that a change takes away, freed after its record was written.
+
+ghost use Rattle.std.specs.Prelude.{◌≡◌, nat_lt, if◌then◌else◌, Bool, List, [], ◌∷◌, map, filter, find, drop};
+ghost use Rattle.std.specs.Option.{option_copied};
+ghost use Rattle.std.specs.Fn.{FnReturnsAt};
+ghost use Rattle.nqs_types.specs.State.{content};
+ghost use Rattle.nqs_types.specs.declared.extent.Extent.{Extent};
+ghost use Rattle.nqs_spool.specs.Spooled.{disk_of, Tells};
+ghost use Rattle.nqs_types.specs.Keys.{is_stage};
+ghost use Rattle.nqs_rules.specs.Tests.{last_u64};
+ghost use Rattle.nqs_rules.specs.Find.{peer_number, find_row, find_hand, find_promise, find_peer};
+ghost use Rattle.nqs_rules.specs.Stepped.{part_bytes};
+ghost use Rattle.nqs_rules.specs.Conf.{is_queued_in};
+ghost use Rattle.nqs_store.specs.Live.{row_part, promise_part, stage_part};
+ghost use Rattle.nqs_store.specs.Accounts.{Takes};
+ghost use Rattle.nqs_store.specs.Frees.{part_of, goes_at_boot, stages_left, numbers_left, row_of_hand, doubled, gone};
+
+use nqs_host::may_start_again;
+use nqs_outside::Disk;
+use nqs_routing::find_peer;
+use nqs_spool::Spool;
+use nqs_types::{
+    Change, ConfEdit, Edit, Extent, FileOut, HostId, HostState, Key, Keyed, Name, OutPart,
+    PeerNumber, Promise, RequestId, Row, RowState, Stage, Table,
+};
+
+// The extent of a value, if there is one.
+fn free_one<D: Disk, V, F: Fn(&V) -> Extent>(spool: &mut Spool<D>, found: Option<&V>, part: F)
+    requires { F.IsAlwaysCallable part }
+    ensures tells { (g : V → Extent) → ((v : V) (x : Extent) → FnReturnsAt F.Fn part v x → x ≡ g v)
+        → (live fewer : List Extent) → Tells spool.old live → Takes live (part_of g (option_copied found.entry)) fewer → Tells spool.new fewer }
+    ensures same { disk_of spool.new ≡ disk_of spool.old }
+{
+    if let Some(value) = found {
+        spool.free(&part(value));
+    }
+}
+
+// The extents of the values that pass the test.
+fn free_all<D: Disk, K: Key, V: Keyed<K> + Drop, P: Fn(&V) -> bool, F: Fn(&V) -> Extent>(
+    spool: &mut Spool<D>,
+    table: &Table<K, V>,
+    goes: P,
+    part: F,
+)
+    requires goes { P.IsAlwaysCallable goes }
+    requires part { F.IsAlwaysCallable part }
+    ensures tells { (p : V → Bool) (g : V → Extent) → ((v : V) (b : Bool) → FnReturnsAt P.Fn goes v b → b ≡ p v) → ((v : V) (x : Extent) → FnReturnsAt F.Fn part v x → x ≡ g v)
+        → (live fewer : List Extent) → Tells spool.old live → Takes live (map g (filter p table.now.items)) fewer → Tells spool.new fewer }
+    ensures same { disk_of spool.new ≡ disk_of spool.old }
+{
+    for place in 0..table.len() {
+        let value = table.at(place);
+        if goes(value) {
+            spool.free(&part(value));
+        }
+    }
+}
+
+// The extents of the parts from this place on.
+fn free_behind<D: Disk>(spool: &mut Spool<D>, parts: &[OutPart], from: u64)
+    ensures tells { (live fewer : List Extent) → Tells spool.old live → Takes live (drop from (map part_bytes parts.now)) fewer → Tells spool.new fewer }
+    ensures same { disk_of spool.new ≡ disk_of spool.old }
+{
+    let kept = from.min(parts.len() as u64) as usize;
+    let (_numbered, later) = parts.split_at(kept);
+    for part in later {
+        spool.free(&part.bytes);
+    }
+}
+
+fn stages_left(state: &HostState, to: HostId) -> u64
+    ensures { result ≡ stages_left (find_peer to (content state.now)) }
+{
+    match find_peer(state, to) {
+        Some(peer) => u64::MAX.saturating_sub(peer.stage_next),
+        None => 0,
+    }
+}
+
+// How many more numbers there are for outputs to a host.
+fn numbers_left(state: &HostState, to: HostId) -> u64
+    ensures { result ≡ numbers_left to (content state.now) }
+{
+    if state.me == to {
+        return u64::MAX - state.file_next;
+    }
+    stages_left(state, to)
+}
+
+fn goes_at_boot(row: &Row) -> bool
+    ensures { result ≡ goes_at_boot row.now }
+{
+    row.state == RowState::Running && !may_start_again(row)
+}
+
+fn is_queued_in(row: &Row, queue: &Name) -> bool
+    ensures { result ≡ is_queued_in queue.now row.now }
+{
+    row.state == RowState::Queued && *queue == row.queue
+}
+
+fn free_row<D: Disk>(spool: &mut Spool<D>, state: &HostState, id: &RequestId)
+    ensures tells { (live fewer : List Extent) → Tells spool.old live → Takes live (part_of row_part (find_row id.now (content state.now))) fewer → Tells spool.new fewer }
+    ensures same { disk_of spool.new ≡ disk_of spool.old }
+{
+    free_one(spool, state.rows.get(id), |row: &Row| row.script);
+}
+
+// The row of a handover.
+fn free_row_of_hand<D: Disk>(spool: &mut Spool<D>, state: &HostState, key: &PeerNumber)
+    ensures tells { (live fewer : List Extent) → Tells spool.old live → Takes live (row_of_hand (content state.now) (find_hand key.now.peer key.now.number (content state.now))) fewer → Tells spool.new fewer }
+    ensures same { disk_of spool.new ≡ disk_of spool.old }
+{
+    if let Some(hand) = state.hands.get(key) {
+        free_row(spool, state, &hand.id);
+    }
+}
+
+fn free_promise<D: Disk>(spool: &mut Spool<D>, state: &HostState, key: &PeerNumber)
+    ensures tells { (live fewer : List Extent) → Tells spool.old live → Takes live (part_of promise_part (find_promise key.now.peer key.now.number (content state.now))) fewer → Tells spool.new fewer }
+    ensures same { disk_of spool.new ≡ disk_of spool.old }
+{
+    free_one(spool, state.promises.get(key), |promise: &Promise| {
+        promise.row.script
+    });
+}
+
+// A promise whose request is a row already.
+fn free_doubled<D: Disk>(spool: &mut Spool<D>, state: &HostState, key: &PeerNumber)
+    ensures tells { (live fewer : List Extent) → Tells spool.old live → Takes live (doubled (content state.now) (find_promise key.now.peer key.now.number (content state.now))) fewer → Tells spool.new fewer }
+    ensures same { disk_of spool.new ≡ disk_of spool.old }
+{
+    if let Some(promise) = state.promises.get(key) {
+        if state.rows.has(&promise.row.id) {
+            spool.free(&promise.row.script);
+        }
+    }
+}
+
+// The bytes of a stage for which no number of a file is left.
+fn free_unnumbered<D: Disk>(spool: &mut Spool<D>, state: &HostState, bytes: &Extent)
+    ensures tells { (live fewer : List Extent) → Tells spool.old live → Takes live (if nat_lt (content state.now).file_next last_u64 then [] else bytes.now ∷ []) fewer → Tells spool.new fewer }
+    ensures same { disk_of spool.new ≡ disk_of spool.old }
+{
+    if state.file_next < u64::MAX {
+        return;
+    }
+    spool.free(bytes);
+}
+
+fn free_stage<D: Disk>(spool: &mut Spool<D>, state: &HostState, key: &PeerNumber)
+    ensures tells { (live fewer : List Extent) → Tells spool.old live → Takes live (part_of stage_part (find (is_stage (peer_number key.now.peer key.now.number)) (content state.now).stages)) fewer → Tells spool.new fewer }
+    ensures same { disk_of spool.new ≡ disk_of spool.old }
+{
+    free_one(spool, state.stages.get(key), |stage: &Stage| stage.bytes);
+}
+
+// The rows of a queue that is purged.
+fn free_purged<D: Disk>(spool: &mut Spool<D>, state: &HostState, edit: &ConfEdit)
+    ensures tells { (live fewer : List Extent) → Tells spool.old live → Takes live (gone (Change.Edited (Edit.Conf edit.now)) (content state.now)) fewer → Tells spool.new fewer }
+    ensures same { disk_of spool.new ≡ disk_of spool.old }
+{
+    match edit {
+        ConfEdit::PurgeQueue { queue } => free_all(
+            spool,
+            &state.rows,
+            |row: &Row| is_queued_in(row, queue),
+            |row: &Row| row.script,
+        ),
+        _ => {}
+    }
+}
+
+fn free_edited<D: Disk>(spool: &mut Spool<D>, state: &HostState, edit: &Edit)
+    ensures tells { (live fewer : List Extent) → Tells spool.old live → Takes live (gone (Change.Edited edit.now) (content state.now)) fewer → Tells spool.new fewer }
+    ensures same { disk_of spool.new ≡ disk_of spool.old }
+{
+    match edit {
+        Edit::Conf(edit) => free_purged(spool, state, edit),
+        _ => {}
+    }
+}
+
+fn key(peer: HostId, number: u64) -> PeerNumber
+    ensures { result ≡ record { peer = peer; number = number } }
+{
+    PeerNumber { peer, number }
+}
+
+/// Frees what a change takes away of the extents of a host, whose state from before the change is given, and what it
+/// doesn't take up of its own. It takes no memory.
+pub fn free_gone<D: Disk>(spool: &mut Spool<D>, state: &HostState, change: &Change)
+    ensures tells { (live fewer : List Extent) → Tells spool.old live → Takes live (gone change.now (content state.now)) fewer → Tells spool.new fewer }
+    ensures same { disk_of spool.new ≡ disk_of spool.old }
+{
+    match change {
+        Change::Deleted(id) => free_row(spool, state, id),
+        Change::Ended { id, outputs } => {
+            free_row(spool, state, id);
+            free_behind(spool, outputs.as_slice(), numbers_left(state, id.host));
+        }
+        Change::Unlaunched(id) => free_row(spool, state, id),
+        Change::Boot => free_all(spool, &state.rows, goes_at_boot, |row: &Row| row.script),
+        Change::Edited(edit) => free_edited(spool, state, edit),
+        Change::HandCommitted { peer, number } => {
+            free_row_of_hand(spool, state, &key(*peer, *number))
+        }
+        Change::Promised { peer, .. } => {
+            free_all(
+                spool,
+                &state.promises,
+                |promise: &Promise| *peer == promise.peer,
+                |promise: &Promise| promise.row.script,
+            )
+        }
+        Change::Accepted { peer, number } => free_doubled(spool, state, &key(*peer, *number)),
+        Change::Dropped { peer, number } => free_promise(spool, state, &key(*peer, *number)),
+        Change::StageGot { bytes, .. } => free_unnumbered(spool, state, bytes),
+        Change::StageGone { peer, number } => free_stage(spool, state, &key(*peer, *number)),
+        Change::FileGone { file } => {
+            free_one(spool, state.files.get(file), |file: &FileOut| file.bytes)
+        }
+        _ => {}
+    }
+}
