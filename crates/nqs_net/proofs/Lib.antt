@@ -6,3 +6,8 @@ pub mod Hosting
 mod Leaving
 mod Showing
 mod Founding
+mod Placing
+mod Means
+mod Finishing
+mod Fusing
+mod Arriving

@@ -3,3 +3,5 @@ pub mod Props
 pub mod Worlds
 pub mod Turns
 pub mod Left
+pub mod Deeds
+pub mod Least

@@ -142,6 +142,7 @@ impl<D: Disk> Node<D> {
 
         // The calls that it makes: at Ok just those of one record, else a part of them, of which only the last may have failed.
         ensures made { IsTrue D.tells → IfOk result (λ node. IsMade (failing_of D.fails disks) (histories_of D.history disks) (history_of node) (Some Boot)) }
+        ensures broken_off { IsTrue D.tells → IfErr result (λ e. IsBrokenOff (histories_of D.history disks) (histories_of D.history e.1) (Some Boot)) }
 
         // Which of them fails is the disk's to say, unless it is starved.
         ensures cut { IsTrue D.tells → (s : Plain) → IsTold (bytes_now (histories_of D.history disks First)) (bytes_now (histories_of D.history disks Spool)) s
@@ -150,6 +151,8 @@ impl<D: Disk> Node<D> {
         ensures fuse { IsTrue D.tells → IfOk result (λ node. (which : Which) (i : ℕ) → fails_of node which i ≡ failing_of D.fails disks which i) }
 
         // At each moment, whatever images the disks may leave, they tell the state before the boot or the one after it.
+        ensures any_moment { IsTrue D.tells → (s : Plain) → IsTold (bytes_now (histories_of D.history disks First)) (bytes_now (histories_of D.history disks Spool)) s
+            → MatchResult result (λ node. IsOneOrOther (histories_of D.history disks) (history_of node) (Some Boot) s) (λ e. IsOneOrOther (histories_of D.history disks) (histories_of D.history e.1) (Some Boot) s) }
     {
         match Store::load(alloc, disks) {
             Err((fault, disks)) => Err((fault, disks)),

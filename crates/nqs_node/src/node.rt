@@ -65,6 +65,7 @@ impl<D: Disk> Node<D> {
 
         // The calls that it makes: at Ok just those of the change's commit, else a part of them, of which only the last may have failed.
         ensures made { IsTrue D.tells → (s : Plain) → Tells self.old s → OnOk result (IsMade (fails_of self.old) (history_of self.old) (history_of self.new) (step event.now s).change) }
+        ensures broken_off { IsTrue D.tells → (s : Plain) → Tells self.old s → OnErr result (IsBrokenOff (history_of self.old) (history_of self.new) (step event.now s).change) }
 
         // Which of them fails is the disk's to say, unless it is starved.
         ensures cut { IsTrue D.tells → (s : Plain) → Tells self.old s → (which : Which) → IsErrOf result (NodeFault.Disk which)
@@ -73,6 +74,7 @@ impl<D: Disk> Node<D> {
         ensures fuse { IsTrue D.tells → (which : Which) (i : ℕ) → fails_of self.new which i ≡ fails_of self.old which i }
 
         // At each moment, whatever images the disks may leave, they tell the state before the step or the one after it.
+        ensures any_moment { IsTrue D.tells → (s : Plain) → Tells self.old s → IsOneOrOther (history_of self.old) (history_of self.new) (step event.now s).change s }
     {
         if self.stopped {
             return Err(NodeFault::Stopped);
@@ -114,6 +116,7 @@ impl<D: Disk> Node<D> {
 
         // The calls that it makes: at Ok just those of the change's commit, else a part of them, of which only the last may have failed.
         ensures made { IsTrue D.tells → (s : Plain) → Tells self.old s → OnOk result (IsMade (fails_of self.old) (history_of self.old) (history_of self.new) (started now s).change) }
+        ensures broken_off { IsTrue D.tells → (s : Plain) → Tells self.old s → OnErr result (IsBrokenOff (history_of self.old) (history_of self.new) (started now s).change) }
 
         // Which of them fails is the disk's to say, unless it is starved.
         ensures cut { IsTrue D.tells → (s : Plain) → Tells self.old s → (which : Which) → IsErrOf result (NodeFault.Disk which)
@@ -122,6 +125,7 @@ impl<D: Disk> Node<D> {
         ensures fuse { IsTrue D.tells → (which : Which) (i : ℕ) → fails_of self.new which i ≡ fails_of self.old which i }
 
         // At each moment, whatever images the disks may leave, they tell the state before the start or the one after it.
+        ensures any_moment { IsTrue D.tells → (s : Plain) → Tells self.old s → IsOneOrOther (history_of self.old) (history_of self.new) (started now s).change s }
     {
         if self.stopped {
             return Err(NodeFault::Stopped);
@@ -173,7 +177,7 @@ impl<D: Disk> Node<D> {
         ensures fuse { IsTrue D.tells → (which : Which) (i : ℕ) → fails_of self.new which i ≡ fails_of self.old which i }
         ensures tells { IsTrue D.tells → (s : Plain) → Tells self.old s → Tells self.new s }
     {
-        Err(LoadFault::Memory)
+        self.store.reread(alloc)
     }
 }
 
