@@ -112,7 +112,14 @@ fn shown(me: HostId, packet: u64, output: Output) -> (Option<Seen>, Option<Messa
             }),
             None,
         ),
-        Output::Kill { id, start } => (Some(Seen::Kill { host: me, id, start }), None),
+        Output::Kill { id, start } => (
+            Some(Seen::Kill {
+                host: me,
+                id,
+                start,
+            }),
+            None,
+        ),
         Output::File { file, path, bytes } => (Some(file_seen(me, file, path, bytes)), None),
         Output::Ended { id, start, status } => (
             Some(Seen::Ended {
@@ -124,7 +131,14 @@ fn shown(me: HostId, packet: u64, output: Output) -> (Option<Seen>, Option<Messa
             None,
         ),
         Output::Unlaunched { id, start } => {
-            (Some(Seen::Unlaunched { host: me, id, start }), None)
+            (
+                Some(Seen::Unlaunched {
+                    host: me,
+                    id,
+                    start,
+                }),
+                None,
+            )
         }
         Output::Again(id) => (Some(Seen::Again { host: me, id }), None),
         Output::Lost(id) => (Some(Seen::Lost { host: me, id }), None),

@@ -1,26 +1,19 @@
 //! What happens in a world by an event of a schedule.
 
-ghost use Rattle.std.specs.Prelude.{◌≡◌, ◌++◌, ◌∷◌, [], ◌<◌, ◌-◌, ◌+◌, List, ℕ, IsTrue, IfOk, OnOk, None, max, nat_le, length, false};
-ghost use Rattle.nqs_types.specs.declared.world.Which.{Which};
+ghost use Rattle.std.specs.Prelude.{◌≡◌, ◌++◌, ◌∷◌, [], List, ℕ, IsTrue, OnOk, None};
 ghost use Rattle.nqs_types.specs.declared.world.Seen.TheVariants as sight;
-ghost use Rattle.nqs_outside.specs.History.{moment};
-ghost use Rattle.nqs_disk.specs.MemDisk as mem;
 ghost use Rattle.nqs_rules.specs.Net.{table};
 ghost use Rattle.nqs_rules.specs.Run.{happens, states_of};
-ghost use Rattle.nqs_rules.specs.World.{World as Network, Host, fused_host, fuses};
+ghost use Rattle.nqs_rules.specs.World.{World as Network};
 ghost use Rattle.nqs_laws.specs.Words.{IsInOrderAll};
 ghost use Rattle.nqs_lines.specs.Acts.{act_of, is_sane_line};
-ghost use Rattle.nqs_store.specs.Disks.{histories_of, failing_of};
-ghost use Rattle.nqs_net.specs.Worlds.{IsSlot, IsWorld};
+ghost use Rattle.nqs_net.specs.Worlds.{IsWorld};
 ghost use Rattle.nqs_net.specs.Deeds.{deed_of};
 
 use crate::meaning::deed;
 use crate::packets::{newest_between, packet_at};
-use crate::slot::Slot;
 use crate::world::World;
-use nqs_disk::MemDisk;
-use nqs_store::Disks;
-use nqs_types::{HostId, Items, Memory, Seen, Tear, Which, WorldEvent};
+use nqs_types::{Items, Memory, Seen, WorldEvent};
 use std::alloc::Global;
 
 impl World {
@@ -34,7 +27,7 @@ impl World {
         Ok(())
     }
 
-    // What an event does that comes to no host by itself.
+    // What an event does that isn't meant for one host: the others don't come here.
     fn other(
         &mut self,
         alloc: Global,
@@ -59,7 +52,12 @@ impl World {
                 self.now = *moment;
                 Ok(())
             }
-            WorldEvent::Fuse { host, disk, calls, tear } => {
+            WorldEvent::Fuse {
+                host,
+                disk,
+                calls,
+                tear,
+            } => {
                 self.fuse(*host, *disk, *calls, *tear);
                 Ok(())
             }

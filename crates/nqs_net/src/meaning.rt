@@ -11,12 +11,7 @@ use nqs_types::{Bytes, Command, Event, HostId, Memory, Name, RequestId, WorldEve
 use std::alloc::Global;
 
 // A host is asked by a user.
-fn ask(
-    now: u64,
-    host: HostId,
-    user: &Name,
-    command: Command,
-) -> Option<(HostId, Deed)>
+fn ask(now: u64, host: HostId, user: &Name, command: Command) -> Option<(HostId, Deed)>
     ensures { result ≡ deed_of (Asks host user.now command) now }
 {
     let event = Event::Ask {
@@ -95,7 +90,12 @@ pub(crate) fn deed(
         WorldEvent::Submit { user, name } => {
             Ok(ask(now, HostId(0), user, submit_command(alloc, user, name)?))
         }
-        WorldEvent::Qsub { host, user, script, words } => {
+        WorldEvent::Qsub {
+            host,
+            user,
+            script,
+            words,
+        } => {
             let (words, script) = (words.as_slice(), script.as_slice());
             Ok(ask(now, *host, user, qsub_command(alloc, user, words, script)?))
         }
@@ -108,9 +108,14 @@ pub(crate) fn deed(
         WorldEvent::Qdel { host, user, words } => {
             Ok(ask(now, *host, user, qdel_command(words.as_slice())?))
         }
-        WorldEvent::End { host, id, start, status, out, err } => {
-            end(alloc, now, *host, *id, *start, *status, out, err)
-        }
+        WorldEvent::End {
+            host,
+            id,
+            start,
+            status,
+            out,
+            err,
+        } => { end(alloc, now, *host, *id, *start, *status, out, err) }
         _ => Ok(plain_deed(event, now)),
     }
 }

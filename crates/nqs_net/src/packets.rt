@@ -1,6 +1,6 @@
 //! Packets of a world that arrive.
 
-ghost use Rattle.std.specs.Prelude.{◌≡◌, ◌++◌, ◌-◌, OnOk, IfOk, None, [], List, drop, filter, slice_get, length, Option, ℕ, Some, IsTrue, Bool};
+ghost use Rattle.std.specs.Prelude.{◌≡◌, ◌++◌, OnOk, IfOk};
 ghost use Rattle.nqs_rules.specs.World.{World as Network, packet_at, is_between, newest_between, delivers};
 ghost use Rattle.nqs_net.specs.Worlds.{IsWorld};
 ghost use Rattle.nqs_net.specs.Deeds.{IsReadyFor};

@@ -17,10 +17,7 @@ use nqs_types::{HostId, Memory, Seen, Tear};
 fn is_starved(disks: &Disks<MemDisk>) -> bool
     ensures { result ≡ false → (which : Which) → mem.is_starved (disk_at which disks.now) ≡ false }
 {
-    disks.root.starved()
-        || disks.first.starved()
-        || disks.second.starved()
-        || disks.spool.starved()
+    disks.root.starved() || disks.first.starved() || disks.second.starved() || disks.spool.starved()
 }
 
 // What a stop leaves of the disks of a host.
