@@ -37,3 +37,6 @@ pub mod HandoverLaws
 pub mod Closing
 pub mod HealSteps
 pub mod HealLaws
+pub mod WholeEvents
+pub mod WholeHeals
+pub mod Others

@@ -9,3 +9,4 @@ pub mod requests;
 pub mod runs;
 pub mod starts;
 pub mod tables;
+pub mod whole_heals;
