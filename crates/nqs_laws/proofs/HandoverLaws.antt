@@ -156,7 +156,7 @@ module _ (site : List (List ℕ)) (m : Moment) (sound : IsSound site m) (net : I
         by true e = or_right (is_given b n s) (is_closed_for a n t) (closed_up n (leb-true n (closed_of a t) e))
         by false e = or_left (is_given b n s) (is_closed_for a n t) (committed (offered s b) refl (leb-false n (closed_of a t) e) given)
 
-    no_hand : (n : ℕ) → IsNoOffer (offered s b) n → is_some (find_hand b n s) ≡ false
+    pub no_hand : (n : ℕ) → IsNoOffer (offered s b) n → is_some (find_hand b n s) ≡ false
     no_hand n none = of (find_hand b n s) refl
       where
         by : (y : Hand) → find_hand b n s ≡ Some y → (p : Phase) → y.phase ≡ p → ⊥

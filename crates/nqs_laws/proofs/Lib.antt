@@ -40,3 +40,6 @@ pub mod HealLaws
 pub mod WholeEvents
 pub mod WholeHeals
 pub mod Others
+pub mod Kept
+pub mod ClosedNumbers
+pub mod WentOuts

@@ -6,3 +6,6 @@ pub mod Launches
 pub mod Handovers
 pub mod Sending
 pub mod Whole
+pub mod Each
+pub mod Closed
+pub mod TakenOut

@@ -1,20 +1,15 @@
 -- Whole events of a network: what an event sends, and what three of them settle.
-use Rattle.std.specs.Prelude.{◌≡◌, ◌⊎◌, ℕ, ◌<◌, Bool, true, List, length, Option, None, Some}
+use Rattle.std.specs.Prelude.{◌≡◌, ◌⊎◌, ℕ, ◌<◌, Bool, true, length, Option, None, Some}
 use Rattle.std.specs.Option.{option_map}
 use Rattle.nqs_types.specs.State.{Plain}
 use Rattle.nqs_rules.specs.Tests.{passes}
 use Rattle.nqs_rules.specs.World.{Host, Fuses, World, Act, Asks, Ends, Finishes, Fails, Writes, Leaves, Delivers, Newest, Ticks, Clock, Fuse, Crashes, Boots, Shows, no_fuses, host_of, packet_at, newest_between}
-use Rattle.nqs_rules.specs.Run.{happens, run_of}
+use Rattle.nqs_rules.specs.Run.{happens}
 use Rattle.nqs_types.specs.declared.ids.HostId.{HostId}
 use Rattle.nqs_types.specs.declared.message.Message.{Message}
 use Rattle.nqs_types.specs.declared.message.Body.TheVariants.{Commit, Abort}
 use Rattle.nqs_laws.specs.Handovers.{IsStateOf}
-use Rattle.nqs_laws.specs.Sane.{AreSane, IsSite}
 use Rattle.nqs_laws.specs.Sending.{word}
-
--- what holds in each world that a list of events on 1 to 16 hosts reaches
-abbrev pub InEachWorld : (World → Type 0) → Type 0
-InEachWorld holds = (site : List (List ℕ)) (acts : List Act) → IsSite site → AreSane acts → holds (run_of site acts).world
 
 -- the world after an event
 abbrev pub after : Act → World → World

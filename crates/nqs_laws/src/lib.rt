@@ -2,6 +2,7 @@
 //! `specs/` has the words that the laws are said in; each law is the contract of a function.
 #![tactic(auto)]
 
+pub mod closings;
 pub mod handovers;
 pub mod heals;
 pub mod launches;

@@ -7,8 +7,9 @@ ghost use Rattle.nqs_types.specs.declared.message.Body.TheVariants.{Commit, Done
 ghost use Rattle.nqs_rules.specs.Find.{has_promise, find_hand};
 ghost use Rattle.nqs_rules.specs.World.{Act, World, Delivers, Ticks, host_of, packet_at};
 ghost use Rattle.nqs_laws.specs.Handovers.{IsStateOf, is_given};
+ghost use Rattle.nqs_laws.specs.Each.{InEachWorld};
 ghost use Rattle.nqs_laws.specs.Sending.{word};
-ghost use Rattle.nqs_laws.specs.Whole.{InEachWorld, IfUpAfter, IsSafe, after, taker, WasSentBetween, HoldsAt, IsSettledInThree, IsVerdict};
+ghost use Rattle.nqs_laws.specs.Whole.{IfUpAfter, IsSafe, after, taker, WasSentBetween, HoldsAt, IsSettledInThree, IsVerdict};
 
 /// Three events settle a promise: a tick of its host, the arrival of the inquiry that this tick sent, and the arrival of the commit or abort that this sent. Then it isn't promised any more.
 pub fn promises_are_settled()
