@@ -43,3 +43,4 @@ pub mod Others
 pub mod Kept
 pub mod ClosedNumbers
 pub mod WentOuts
+pub mod LastGiven

@@ -1,5 +1,5 @@
 -- Handovers between two hosts, as a world that a run reaches has them.
-use Rattle.std.specs.Prelude.{◌≡◌, ℕ, Bool, true, false, ◌||◌, Some, is_some, slice_get}
+use Rattle.std.specs.Prelude.{◌≡◌, ℕ, ◌+◌, Bool, true, false, ◌||◌, ◌==◌, Option, Some, is_some, slice_get}
 use Rattle.std.specs.Option.{option_map}
 use Rattle.nqs_types.specs.State.{Plain}
 use Rattle.nqs_rules.specs.Tests.{passes}
@@ -9,6 +9,7 @@ use Rattle.nqs_rules.specs.Handover.{closes, was_given, carried_of}
 use Rattle.nqs_rules.specs.World.{World, packet_at}
 use Rattle.nqs_rules.specs.Run.{states_of}
 use Rattle.nqs_types.specs.declared.ids.HostId.{HostId}
+use Rattle.nqs_types.specs.declared.request.Peer.{Peer}
 use Rattle.nqs_types.specs.declared.message.Message.{Message}
 use Rattle.nqs_types.specs.declared.message.Body.{Body}
 use Rattle.nqs_types.specs.declared.message.Body.TheVariants as body
@@ -33,6 +34,10 @@ is_closed_for from n t = closes n (find_peer from t)
 
 abbrev pub is_taken_for : HostId → ℕ → Plain → Bool
 is_taken_for from n t = has_promise from n t || is_closed_for from n t
+
+-- of the sender: the number is the last that it gave to the peer
+abbrev pub is_last_given : ℕ → Option Peer → Bool
+is_last_given n p = passes (λ peer. peer.next == n + 1) p
 
 -- What a host in state s has of its handovers to another goes with what that one, in state t, has of them.
 pub record AreInStep (from to : HostId) (s t : Plain) : Type 0 where

@@ -1,26 +1,32 @@
 //! Laws of handovers from host to host, in every world that a list of events on 1 to 16 hosts reaches, whatever stopped and whichever packets were lost, repeated or late.
-ghost use Rattle.std.specs.Prelude.{◌≡◌, ◌++◌, ◌||◌, List, ℕ, Some, true, false};
+ghost use Rattle.std.specs.Prelude.{◌≡◌, ◌++◌, ◌||◌, List, ℕ, Some, true, false, is_some};
 ghost use Rattle.nqs_types.specs.State.{Plain};
 ghost use Rattle.nqs_types.specs.declared.ids.HostId.{HostId};
 ghost use Rattle.nqs_types.specs.declared.request.Carried.{Carried};
 ghost use Rattle.nqs_types.specs.declared.request.Promise.{Promise};
 ghost use Rattle.nqs_types.specs.declared.message.Message.{Message};
 ghost use Rattle.nqs_types.specs.declared.message.Body.TheVariants.{Offer, Commit};
-ghost use Rattle.nqs_rules.specs.Find.{has_row, find_promise};
+ghost use Rattle.nqs_rules.specs.Find.{has_row, find_hand, find_peer, find_promise};
 ghost use Rattle.nqs_rules.specs.Handover.{is_given_here};
 ghost use Rattle.nqs_rules.specs.World.{Act};
 ghost use Rattle.nqs_rules.specs.Run.{run_of};
-ghost use Rattle.nqs_laws.specs.Handovers.{IsStateOf, WasSent, is_open, is_closed_for, is_taken_for, AreInStep, IsTrueOf};
+ghost use Rattle.nqs_laws.specs.Each.{InEachWorld};
+ghost use Rattle.nqs_laws.specs.Handovers.{IsStateOf, WasSent, is_open, is_closed_for, is_taken_for, is_last_given, AreInStep, IsTrueOf};
 ghost use Rattle.nqs_laws.specs.Sane.{AreSane, IsSite};
 
 /// What two hosts have of a handover goes together: an offered number isn't closed at its receiver, a committed one is promised or closed there, and a promised one isn't closed.
 pub fn handovers_are_in_step()
-    ensures { (site : List (List ℕ)) (acts : List Act) → IsSite site → AreSane acts → (from to : HostId) (s t : Plain) → IsStateOf (run_of site acts).world from s → IsStateOf (run_of site acts).world to t → AreInStep from to s t }
+    ensures { InEachWorld (λ w. (from to : HostId) (s t : Plain) → IsStateOf w from s → IsStateOf w to t → AreInStep from to s t) }
+{}
+
+/// A host has one handover to another at most: the last number that it gave is that of each.
+pub fn handovers_have_the_last_number()
+    ensures { InEachWorld (λ w. (host to : HostId) (number : ℕ) (s : Plain) → IsStateOf w host s → is_some (find_hand to number s) ≡ true → is_last_given number (find_peer to s) ≡ true) }
 {}
 
 /// What a packet said of a handover is true at every later moment.
 pub fn messages_stay_true()
-    ensures { (site : List (List ℕ)) (acts : List Act) → IsSite site → AreSane acts → (m : Message) → WasSent (run_of site acts).world m → (s t : Plain) → IsStateOf (run_of site acts).world m.from s → IsStateOf (run_of site acts).world m.to t → IsTrueOf m.body m.from m.to s t }
+    ensures { InEachWorld (λ w. (m : Message) → WasSent w m → (s t : Plain) → IsStateOf w m.from s → IsStateOf w m.to t → IsTrueOf m.body m.from m.to s t) }
 {}
 
 /// A closed number stays closed, however the run goes on.
@@ -35,10 +41,10 @@ pub fn promises_go_when_closed()
 
 /// While an offer is open, none of its packets finds its request at the receiver: it is never refused because the request exists.
 pub fn open_offers_find_no_row()
-    ensures { (site : List (List ℕ)) (acts : List Act) → IsSite site → AreSane acts → (m : Message) (number : ℕ) (queue : List ℕ) (c : Carried) (script : List ℕ) → WasSent (run_of site acts).world m → m.body ≡ Offer number queue c script → (s t : Plain) → IsStateOf (run_of site acts).world m.from s → IsStateOf (run_of site acts).world m.to t → is_open m.to number s ≡ true → (has_row c.id t || is_given_here c.id t) ≡ false }
+    ensures { InEachWorld (λ w. (m : Message) (number : ℕ) (queue : List ℕ) (c : Carried) (script : List ℕ) → WasSent w m → m.body ≡ Offer number queue c script → (s t : Plain) → IsStateOf w m.from s → IsStateOf w m.to t → is_open m.to number s ≡ true → (has_row c.id t || is_given_here c.id t) ≡ false) }
 {}
 
 /// The packet that makes a host accept a promise never finds the promised request among the rows.
 pub fn accepted_requests_find_no_row()
-    ensures { (site : List (List ℕ)) (acts : List Act) → IsSite site → AreSane acts → (m : Message) (number : ℕ) (p : Promise (List ℕ)) → WasSent (run_of site acts).world m → m.body ≡ Commit number → (s t : Plain) → IsStateOf (run_of site acts).world m.from s → IsStateOf (run_of site acts).world m.to t → find_promise m.from number t ≡ Some p → has_row p.row.id t ≡ false }
+    ensures { InEachWorld (λ w. (m : Message) (number : ℕ) (p : Promise (List ℕ)) → WasSent w m → m.body ≡ Commit number → (s t : Plain) → IsStateOf w m.from s → IsStateOf w m.to t → find_promise m.from number t ≡ Some p → has_row p.row.id t ≡ false) }
 {}
