@@ -53,7 +53,7 @@ module _ (site : List (List ℕ)) (said : Message) where
     };
   }
 
-run-append : (acts more : List Act) (w : World) → (run (acts ++ more) w).world ≡ (run more (run acts w).world).world
+pub run-append : (acts more : List Act) (w : World) → (run (acts ++ more) w).world ≡ (run more (run acts w).world).world
 run-append [] more w = refl
 run-append (a ∷ acts) more w = run-append acts more (happens a w).world
 

@@ -145,7 +145,7 @@ state_in host = host.state
 put_states : (h : HostId) (host : Host) (w : World) → states_of (put_host h host w) ≡ put_state h host.state (states_of w)
 put_states h host w = map-at state_in h.0 (λ _. host) (λ _. host.state) (λ v. refl) w.hosts
 
-state_at : (h : HostId) (host : Host) (w : World) → host_of h w ≡ Some host → slice_get (states_of w) h.0 ≡ Some host.state
+pub state_at : (h : HostId) (host : Host) (w : World) → host_of h w ≡ Some host → slice_get (states_of w) h.0 ≡ Some host.state
 state_at h host w e = slice_get-map state_in w.hosts h.0 ∙ ap (option_map state_in) e
 
 -- a host that stops as it is
@@ -158,13 +158,13 @@ emits_seen : (h : HostId) (os : List Output) (w : World) → (emits h os w).seen
 emits_seen h [] w = refl
 emits_seen h (o ∷ os) w = ap (λ l. seen_output h (length w.packets + 1) o ++ l) (emits_seen h os (record w { packets = w.packets ++ sent_by o }) ∙ ap (λ n. seen_from h n os) (length-append w.packets (sent_by o)))
 
-emits_world : (h : HostId) (os : List Output) (w : World) → (emits h os w).world ≡ record w { packets = w.packets ++ sent_in os }
+pub emits_world : (h : HostId) (os : List Output) (w : World) → (emits h os w).world ≡ record w { packets = w.packets ++ sent_in os }
 emits_world h [] w = λ j. record w { packets = sym (append-nil w.packets) j }
 emits_world h (o ∷ os) w = emits_world h os (record w { packets = w.packets ++ sent_by o }) ∙ (λ j. record w { packets = append_assoc w.packets (sent_by o) (sent_in os) j })
 
 -- packets
 
-was_first : {V : Type 0} (t : V → Bool) (vs : List V) (v : V) → last_of (filter t vs) ≡ Some v → (k : ℕ) × (slice_get vs k ≡ Some v)
+pub was_first : {V : Type 0} (t : V → Bool) (vs : List V) (v : V) → last_of (filter t vs) ≡ Some v → (k : ℕ) × (slice_get vs k ≡ Some v)
 was_first t [] v e = absurd (none-some v e)
 was_first t (x ∷ vs) v e = by (t x) e (was_first t vs v)
   where
@@ -179,11 +179,11 @@ was_first t (x ∷ vs) v e = by (t x) e (was_first t vs v)
     by true e rest = of (filter t vs) e rest
     by false e rest = next (rest e)
 
-packet_sent : (k : ℕ) (w : World) (m : Message) → packet_at k w ≡ Some m → WasSent m w.packets
+pub packet_sent : (k : ℕ) (w : World) (m : Message) → packet_at k w ≡ Some m → WasSent m w.packets
 packet_sent zero w m e = absurd (none-some m e)
 packet_sent (suc k) w m e = (k, e)
 
-abbrev world_of : Ran → World
+abbrev pub world_of : Ran → World
 world_of r = r.world
 
 module _ (P : Moment → Type 0) (f : Frames P) where

@@ -37,3 +37,6 @@ pub mod HandoverLaws
 pub mod Closing
 pub mod HealSteps
 pub mod HealLaws
+pub mod Begins
+pub mod Rests
+pub mod Resting

@@ -5,3 +5,4 @@ pub mod Licensed
 pub mod Launches
 pub mod Handovers
 pub mod Sending
+pub mod Rest
