@@ -164,7 +164,7 @@ emits_world h (o ∷ os) w = emits_world h os (record w { packets = w.packets ++
 
 -- packets
 
-was_first : {V : Type 0} (t : V → Bool) (vs : List V) (v : V) → last_of (filter t vs) ≡ Some v → (k : ℕ) × (slice_get vs k ≡ Some v)
+pub was_first : {V : Type 0} (t : V → Bool) (vs : List V) (v : V) → last_of (filter t vs) ≡ Some v → (k : ℕ) × (slice_get vs k ≡ Some v)
 was_first t [] v e = absurd (none-some v e)
 was_first t (x ∷ vs) v e = by (t x) e (was_first t vs v)
   where

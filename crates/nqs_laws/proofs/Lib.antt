@@ -44,3 +44,6 @@ pub mod Kept
 pub mod ClosedNumbers
 pub mod WentOuts
 pub mod LastGiven
+pub mod Begins
+pub mod Rests
+pub mod Resting

@@ -9,3 +9,4 @@ pub mod Whole
 pub mod Each
 pub mod Closed
 pub mod TakenOut
+pub mod Rest

@@ -7,6 +7,7 @@ pub mod handovers;
 pub mod heals;
 pub mod launches;
 pub mod requests;
+pub mod rest;
 pub mod runs;
 pub mod starts;
 pub mod tables;
