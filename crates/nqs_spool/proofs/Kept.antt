@@ -79,9 +79,9 @@ fit_is_least count end slots row some = record {
 -- bytes that are free
 
 between_parts : (place past from to : ℕ) → IsTrue (lies_between place past from to) → (from ≤ place) × (past ≤ to)
-between_parts place past from to yes = elim (le_cases from place) [
-  | inl hit ↦ (hit.1, let within : nat_le past to ≡ true = sym (then_of (nat_le past to) false hit.0) ∙ yes in grind (arith, nat_tests))
-  | inr miss ↦ absurd (true≢false (sym yes ∙ else_of (nat_le past to) false miss.0))
+between_parts place past from to lies = elim (le_cases from place) [
+  | inl hit ↦ (hit.1, let within : nat_le past to ≡ true = sym (then_of (nat_le past to) false hit.0) ∙ lies in grind (arith, nat_tests))
+  | inr miss ↦ absurd (true≢false (sym lies ∙ else_of (nat_le past to) false miss.0))
 ]
 
 between_from : (place past from to : ℕ) → from ≤ place → past ≤ to → IsTrue (lies_between place past from to)
@@ -102,9 +102,9 @@ pub free_clear : (place count limit from end : ℕ) (slots : List Slot) → IsRo
 free_clear place count limit from end [] row some free = tt
 free_clear place count limit from end (slot ∷ slots) row some free = elim (lt_cases place slot.place) [
   | inl hit ↦ let high = (between_parts place (place + count) slot.from slot.place (sym (then_of _ _ hit.0) ∙ free)).1 in (
-      omega (arith, high, some),
-      has_all (IsApart (extent_at place count)) (extents_of slots) (λ x has. omega (arith, high, some, row_from (end_of slot) end slots row.3 x has)),
-    )
+    omega (arith, high, some),
+    has_all (IsApart (extent_at place count)) (extents_of slots) (λ x has. omega (arith, high, some, row_from (end_of slot) end slots row.3 x has)),
+  )
   | inr miss ↦ let later = sym (else_of _ _ miss.0) ∙ free in
       (omega (arith, some, free_from place (place + count) limit (end_of slot) end slots row.3 later), free_clear place count limit (end_of slot) end slots row.3 some later)
 ]

@@ -3,7 +3,7 @@ use Rattle.std.proofs.Common.{◌≡◌, ◌≢◌, ◌⊎◌, inl, inr, ℕ, �
 use Rattle.std.proofs.lemmas.Bool.Decides.{nat_tests}
 use Rattle.std.specs.Prelude.{if◌then◌else◌}
 use Rattle.nqs_spool.specs.declared.slot.Slot.{Slot}
-use Rattle.nqs_spool.specs.Slots.{gap_of, end_of, widest_of, IsRow, IsSomeRow, set_from, slot_at, ended, first_fit, lies_between, is_free, inserted, begun_at, removed, begun_if_empty, left_by}
+use Rattle.nqs_spool.specs.Slots.{gap_of, end_of, widest_of, IsRow, IsSomeRow, set_from, slot_at, ended, first_fit, is_free, inserted, begun_at, removed, begun_if_empty, left_by}
 
 pub widest-append : (left : List Slot) (slot : Slot) (right : List Slot) → widest_of (left ++ slot ∷ right) ≡ max (max (widest_of left) (gap_of slot)) (widest_of right)
 widest-append [] slot right = omega arith

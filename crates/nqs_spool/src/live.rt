@@ -92,10 +92,10 @@ impl LiveExtents {
         ensures clear { IsTrue result → IsClearOf (kept self.now) extent.now }
         ensures meets { result ≡ false → IsClearOf (kept self.now) extent.now → ⊥ }
     {
-        if extent.length == 0 {
+        let past = extent.place + u64::from(extent.length);
+        if past == extent.place {
             return true;
         }
-        let past = extent.place + u64::from(extent.length);
         self.tree.is_free(extent.place, past, self.end, past)
     }
 
