@@ -8,6 +8,8 @@
 
 mod journal;
 mod spool;
+#[cfg(test)]
+mod tests;
 mod words;
 
 use journal::append_payloads;

@@ -1,9 +1,12 @@
 -- The extents of a row of slots.
-use Rattle.std.proofs.Common.{◌≡◌, inl, inr, ℕ, ◌+◌, ◌<◌, ◌≤◌, max, List, [], ◌∷◌, Some, None, refl, sym, ap, arith, subst}
+use Rattle.std.proofs.Common.{◌≡◌, inl, inr, ℕ, ◌+◌, ◌<◌, ◌≤◌, max, nat_le, true, false, List, [], ◌∷◌, Some, None, refl, sym, ap, ◌∙◌, arith, subst}
+use Rattle.std.proofs.lemmas.Bool.{true≢false}
+use Rattle.std.proofs.lemmas.Bool.Decides.{nat_tests}
+use Rattle.std.specs.Prelude.{IsTrue}
 use Rattle.std.specs.Option.{unwrap_or}
 use Rattle.nqs_types.specs.declared.extent.Extent.{Extent}
 use Rattle.nqs_spool.specs.declared.slot.Slot.{Slot}
-use Rattle.nqs_spool.specs.Slots.{gap_of, end_of, IsRow, set_from, slot_at, ended, first_fit, inserted, begun_at, removed, begun_if_empty, left_by}
+use Rattle.nqs_spool.specs.Slots.{gap_of, end_of, IsRow, set_from, slot_at, ended, first_fit, lies_between, is_free, inserted, begun_at, removed, begun_if_empty, left_by}
 use Rattle.nqs_spool.specs.Extents.{extent_at, past, IsApart, IsClearOf, AreApart, IsLeastPlace, Has, IsWith, extent_of, extents_of}
 use Rattle.nqs_spool.specs.declared.live.LiveExtents.{LiveExtents}
 use Rattle.nqs_spool.specs.Live.{kept}
@@ -72,6 +75,47 @@ fit_is_least count end slots row some = record {
   clear = fit_clear count 0 end slots row some;
   least = λ other clear. fit_least count 0 end slots row some other (omega arith) clear;
 }
+
+-- bytes that are free
+
+between_parts : (place past from to : ℕ) → IsTrue (lies_between place past from to) → (from ≤ place) × (past ≤ to)
+between_parts place past from to lies = elim (le_cases from place) [
+  | inl hit ↦ (hit.1, let within : nat_le past to ≡ true = sym (then_of (nat_le past to) false hit.0) ∙ lies in grind (arith, nat_tests))
+  | inr miss ↦ absurd (true≢false (sym lies ∙ else_of (nat_le past to) false miss.0))
+]
+
+between_from : (place past from to : ℕ) → from ≤ place → past ≤ to → IsTrue (lies_between place past from to)
+between_from place past from to low high = elim (le_cases from place) [
+  | inl hit ↦ then_of (nat_le past to) false hit.0 ∙ (let within : nat_le past to ≡ true = grind (arith, nat_tests) in within)
+  | inr miss ↦ absurd (omega (arith, low, miss.1))
+]
+
+free_from : (place past limit from end : ℕ) (slots : List Slot) → IsRow from slots end → IsTrue (is_free place past end limit slots) → from ≤ place
+free_from place past limit from end [] row free = omega (arith, row, (between_parts place past end limit free).0)
+free_from place past limit from end (slot ∷ slots) row free = elim (lt_cases place slot.place) [
+  | inl hit ↦ omega (arith, row.0, (between_parts place past slot.from slot.place (sym (then_of _ _ hit.0) ∙ free)).0)
+  | inr miss ↦ omega (arith, row.1, miss.1)
+]
+
+pub free_clear : (place count limit from end : ℕ) (slots : List Slot) → IsRow from slots end → 0 < count → IsTrue (is_free place (place + count) end limit slots)
+    → IsClearOf (extents_of slots) (extent_at place count)
+free_clear place count limit from end [] row some free = tt
+free_clear place count limit from end (slot ∷ slots) row some free = elim (lt_cases place slot.place) [
+  | inl hit ↦ let high = (between_parts place (place + count) slot.from slot.place (sym (then_of _ _ hit.0) ∙ free)).1 in (
+    omega (arith, high, some),
+    has_all (IsApart (extent_at place count)) (extents_of slots) (λ x has. omega (arith, high, some, row_from (end_of slot) end slots row.3 x has)),
+  )
+  | inr miss ↦ let later = sym (else_of _ _ miss.0) ∙ free in
+      (omega (arith, some, free_from place (place + count) limit (end_of slot) end slots row.3 later), free_clear place count limit (end_of slot) end slots row.3 some later)
+]
+
+pub clear_free : (place count from end : ℕ) (slots : List Slot) → IsRow from slots end → from ≤ place → 0 < count → IsClearOf (extents_of slots) (extent_at place count)
+    → IsTrue (is_free place (place + count) end (place + count) slots)
+clear_free place count from end [] row low some clear = between_from place (place + count) end (place + count) (omega (arith, row, low)) (omega arith)
+clear_free place count from end (slot ∷ slots) row low some clear = elim (lt_cases place slot.place) [
+  | inl hit ↦ then_of _ _ hit.0 ∙ between_from place (place + count) slot.from slot.place (omega (arith, row.0, low)) (omega (arith, hit.1, row.2, some, clear.0))
+  | inr miss ↦ else_of _ _ miss.0 ∙ clear_free place count (end_of slot) end slots row.3 (omega (arith, miss.1, row.2, some, clear.0)) some clear.1
+]
 
 -- one extent more
 

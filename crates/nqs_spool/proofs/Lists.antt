@@ -117,13 +117,17 @@ all_front P (y ∷ front) back all = (all.0, all_front P front back all.1)
 pub clear_kept : (kept live : List Extent) (x : Extent) → ((y : Extent) → Has kept y → 0 < y.length) → Covers kept live → IsClearOf live x → IsClearOf kept x
 clear_kept kept live x some so_far clear = has_all (IsApart x) kept (λ y has. all_has (IsApart x) live y clear ((so_far.same y (some y has)).1 has))
 
+-- and the other way round
+pub clear_live : (kept live : List Extent) (x : Extent) → Covers kept live → IsClearOf kept x → IsClearOf live x
+clear_live kept live x so_far clear = has_all (IsApart x) live (λ y has. elim (lt_cases 0 y.length) [
+  | inl full ↦ all_has (IsApart x) kept y clear ((so_far.same y full.1).0 has)
+  | inr empty ↦ omega (arith, empty.1)
+])
+
 -- what is the least place for those that are kept is it for the live extents
 pub least_of_live : (kept live : List Extent) (count place : ℕ) → ((y : Extent) → Has kept y → 0 < y.length) → Covers kept live → IsLeastPlace kept count place → IsLeastPlace live count place
 least_of_live kept live count place some so_far is = record {
-  clear = has_all (IsApart (extent_at place count)) live (λ y has. elim (lt_cases 0 y.length) [
-    | inl full ↦ all_has (IsApart (extent_at place count)) kept y is.clear ((so_far.same y full.1).0 has)
-    | inr empty ↦ omega (arith, empty.1)
-  ]);
+  clear = clear_live kept live (extent_at place count) so_far is.clear;
   least = λ other clear. is.least other (clear_kept kept live (extent_at other count) some so_far clear);
 }
 

@@ -3,7 +3,7 @@ use Rattle.std.proofs.Common.{◌≡◌, ◌≢◌, ◌⊎◌, inl, inr, ℕ, �
 use Rattle.std.proofs.lemmas.Bool.Decides.{nat_tests}
 use Rattle.std.specs.Prelude.{if◌then◌else◌}
 use Rattle.nqs_spool.specs.declared.slot.Slot.{Slot}
-use Rattle.nqs_spool.specs.Slots.{gap_of, end_of, widest_of, IsRow, IsSomeRow, set_from, slot_at, ended, first_fit, inserted, begun_at, removed, begun_if_empty, left_by}
+use Rattle.nqs_spool.specs.Slots.{gap_of, end_of, widest_of, IsRow, IsSomeRow, set_from, slot_at, ended, first_fit, is_free, inserted, begun_at, removed, begun_if_empty, left_by}
 
 pub widest-append : (left : List Slot) (slot : Slot) (right : List Slot) → widest_of (left ++ slot ∷ right) ≡ max (max (widest_of left) (gap_of slot)) (widest_of right)
 widest-append [] slot right = omega arith
@@ -101,6 +101,23 @@ ended-right place count from to (other ∷ left) rest row le = elim (lt_cases pl
   | inr miss ↦ else_of _ _ miss.0 ∙ ended-right place count (end_of other) to left rest row.3 le
 ]
 
+-- bytes that are free
+
+pub free-left : (place past end limit : ℕ) (left : List Slot) (slot : Slot) (right : List Slot) → place < slot.place
+    → is_free place past end limit (left ++ slot ∷ right) ≡ is_free place past slot.from slot.place left
+free-left place past end limit [] slot right before = elim (lt_cases place slot.place) [ inl hit ↦ then_of _ _ hit.0 | inr miss ↦ absurd (omega (arith, before, miss.1)) ]
+free-left place past end limit (other ∷ left) slot right before = elim (lt_cases place other.place) [
+  | inl hit ↦ then_of _ _ hit.0 ∙ sym (then_of _ _ hit.0)
+  | inr miss ↦ else_of _ _ miss.0 ∙ free-left place past end limit left slot right before ∙ sym (else_of _ _ miss.0)
+]
+
+pub free-right : (place past end limit from to : ℕ) (left rest : List Slot) → IsRow from left to → to ≤ place → is_free place past end limit (left ++ rest) ≡ is_free place past end limit rest
+free-right place past end limit from to [] rest row le = refl
+free-right place past end limit from to (other ∷ left) rest row le = elim (lt_cases place other.place) [
+  | inl hit ↦ absurd (omega (arith, hit.1, le, row.2, row_rises (end_of other) to left row.3))
+  | inr miss ↦ else_of _ _ miss.0 ∙ free-right place past end limit (end_of other) to left rest row.3 le
+]
+
 -- one extent less
 
 removed-none : (place from end : ℕ) (slots : List Slot) → IsRow from slots end → place < from → removed place slots ≡ slots
@@ -188,6 +205,14 @@ module _ (left : List Slot) (slot : Slot) (right d : List Slot) (is : left ++ sl
   pub ended-behind : (place count : ℕ) → slot.place ≤ place → ended place count d ≡ ended place count right
   ended-behind place count behind =
       sym (ap (ended place count) is) ∙ ended-right place count row.0 slot.from left (slot ∷ right) parts.0 (omega (arith, parts.1, behind))
+      ∙ elim (lt_cases place slot.place) [ inl hit ↦ absurd (omega (arith, hit.1, behind)) | inr miss ↦ else_of _ _ miss.0 ]
+
+  pub free-before : (place past end limit : ℕ) → place < slot.place → is_free place past end limit d ≡ is_free place past slot.from slot.place left
+  free-before place past end limit before = sym (ap (is_free place past end limit) is) ∙ free-left place past end limit left slot right before
+
+  pub free-behind : (place past end limit : ℕ) → slot.place ≤ place → is_free place past end limit d ≡ is_free place past end limit right
+  free-behind place past end limit behind =
+      sym (ap (is_free place past end limit) is) ∙ free-right place past end limit row.0 slot.from left (slot ∷ right) parts.0 (omega (arith, parts.1, behind))
       ∙ elim (lt_cases place slot.place) [ inl hit ↦ absurd (omega (arith, hit.1, behind)) | inr miss ↦ else_of _ _ miss.0 ]
 
   pub removed-before : (place : ℕ) → place < slot.place → removed place d ≡ removed place left ++ set_from (left_by place left) slot ∷ right

@@ -41,6 +41,25 @@ pub record IsWith (live : List Extent) (extent : Extent) (more : List Extent) : 
   pub without : live ≡ front ++ back
   pub within : more ≡ front ++ extent ∷ back
 
+-- it ends within so many bytes
+abbrev pub IsWithin : ℕ → Extent → Type 0
+IsWithin size extent = past extent ≤ size
+
+-- no two meet, and each ends within so many bytes
+pub record AreSound (size : ℕ) (extents : List Extent) : Type 0 where
+  pub apart : AreApart extents
+  pub within : AllByRecursion (IsWithin size) extents
+
+-- The first extent that runs past so many bytes, or meets an earlier one. It begins at the place.
+pub record IsBadExtent (size : ℕ) (extents : List Extent) (place : ℕ) : Type 0 where
+  pub before : List Extent
+  pub extent : Extent
+  pub later : List Extent
+  pub is : extents ≡ before ++ extent ∷ later
+  pub sound : AreSound size before
+  pub bad : (size < past extent) ⊎ (IsClearOf before extent → ⊥)
+  pub at : place ≡ extent.place
+
 -- an extent of the bytes holds these
 pub record Holds (bytes : List ℕ) (extent : Extent) (script : List ℕ) : Type 0 where
   pub within : past extent ≤ length bytes

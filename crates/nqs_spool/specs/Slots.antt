@@ -1,5 +1,5 @@
 -- Lists of slots. A slot is an extent with where the free bytes before it begin.
-use Rattle.std.specs.Prelude.{◌≡◌, ℕ, ◌+◌, ◌-◌, ◌<◌, ◌≤◌, max, nat_lt, nat_le, eqb, if◌then◌else◌, List, [], ◌∷◌, Option, Some, None}
+use Rattle.std.specs.Prelude.{◌≡◌, ℕ, Bool, false, ◌+◌, ◌-◌, ◌<◌, ◌≤◌, max, nat_lt, nat_le, eqb, if◌then◌else◌, List, [], ◌∷◌, Option, Some, None}
 use Rattle.std.proofs.Props.{props}
 use Rattle.nqs_spool.specs.declared.slot.Slot.{Slot}
 
@@ -65,6 +65,16 @@ begun_if_empty from (slot ∷ slots) = None
 abbrev pub left_by : ℕ → List Slot → Option ℕ
 left_by place [] = None
 left_by place (slot ∷ slots) = if eqb slot.place place then begun_if_empty slot.from slots else left_by place slots
+
+-- the bytes from `place` on to `past` lie between these two ends
+abbrev pub lies_between : (place past from to : ℕ) → Bool
+lies_between place past from to = if nat_le from place then nat_le past to else false
+
+-- whether these bytes are free, where those behind all extents are free up to the limit
+abbrev pub is_free : (place past end limit : ℕ) → List Slot → Bool
+is_free place past end limit [] = lies_between place past end limit
+is_free place past end limit (slot ∷ slots) =
+    if nat_lt place slot.place then lies_between place past slot.from slot.place else is_free place past end limit slots
 
 -- It is a proposition, so a type can keep it.
 pub IsRow-prop : (from : ℕ) (slots : List Slot) (end : ℕ) → IsProp (IsRow from slots end)

@@ -1,9 +1,9 @@
 //! The live extents of a disk, as a set in order of place. An empty extent isn't kept.
-ghost use Rattle.std.specs.Prelude.{◌≡◌, ◌+◌, ◌<◌, ◌≤◌, ◌^◌, max, ℕ, [], OnOk, OnErr, IfOk, List, vec_len};
+ghost use Rattle.std.specs.Prelude.{◌≡◌, ◌⊎◌, ◌+◌, ◌<◌, ◌≤◌, ◌^◌, max, nat_le, ℕ, [], false, IsTrue, OnOk, OnErr, IfOk, List, vec_len};
 ghost use Rattle.std.specs.List.{AllByRecursion};
 ghost use Rattle.nqs_types.specs.declared.extent.Extent.{Extent};
 ghost use Rattle.nqs_spool.specs.Slots.{IsRow, IsRow-prop};
-ghost use Rattle.nqs_spool.specs.Extents.{past, IsClearOf, AreApart, IsLeastPlace, Has, IsWith, Covers};
+ghost use Rattle.nqs_spool.specs.Extents.{past, IsClearOf, AreApart, IsLeastPlace, Has, IsWith, IsWithin, Covers};
 
 use crate::tree::{Room, Tree};
 use nqs_types::{Extent, Memory};
@@ -86,6 +86,36 @@ impl LiveExtents {
         self.tree.first_fit(u64::from(count), self.end)
     }
 
+    // Whether the extent meets none.
+    fn is_clear(&self, extent: &Extent) -> bool
+        requires { past extent.now < 2 ^ 64 }
+        ensures clear { IsTrue result → IsClearOf (kept self.now) extent.now }
+        ensures meets { result ≡ false → IsClearOf (kept self.now) extent.now → ⊥ }
+    {
+        let past = extent.place + u64::from(extent.length);
+        if past == extent.place {
+            return true;
+        }
+        self.tree.is_free(extent.place, past, self.end, past)
+    }
+
+    // One extent more, if it ends within so many bytes and meets none. The answer is whether it does.
+    pub fn add_sound(&mut self, extent: &Extent, size: u64) -> Result<bool, Memory>
+        ensures sound { IfOk result (λ sound. IsTrue sound → (live more : List Extent) → IsWith live extent.now more
+            → Covers (kept self.old) live → IsWithin size extent.now × IsClearOf live extent.now × Covers (kept self.new) more) }
+        ensures bad { IfOk result (λ sound. sound ≡ false → (live : List Extent) → Covers (kept self.old) live
+            → (size < past extent.now) ⊎ (IsClearOf live extent.now → ⊥)) }
+    {
+        if !is_within(extent, size) {
+            return Ok(false);
+        }
+        if !self.is_clear(extent) {
+            return Ok(false);
+        }
+        self.add(extent)?;
+        Ok(true)
+    }
+
     pub fn insert(&mut self, room: Room, extent: Extent)
         requires clear { IsClearOf (kept self.old) extent }
         requires some { 0 < extent.length }
@@ -126,6 +156,13 @@ impl LiveExtents {
         self.end = freed.from.unwrap_or(self.end);
         keep_room(&mut self.rooms, freed.room);
     }
+}
+
+// Whether the extent ends within so many bytes.
+fn is_within(extent: &Extent, size: u64) -> bool
+    ensures { result ≡ nat_le (past extent.now) size }
+{
+    extent.place <= size && u64::from(extent.length) <= size - extent.place
 }
 
 // What has no place among the spare rooms is given back.

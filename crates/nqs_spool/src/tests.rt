@@ -2,7 +2,7 @@
 ghost use Rattle.std.specs.Prelude.{◌≡◌};
 ghost use Rattle.nqs_spool.specs.Extents.{extent_at};
 
-use crate::{Spool, SpoolFault};
+use crate::{Spool, SpoolFault, bad_extent};
 use nqs_disk::MemDisk;
 use nqs_outside::Disk;
 use nqs_types::{Extent, Tear};
@@ -71,9 +71,28 @@ fn lengths(rt: HostRuntime) -> Result<(), Fail> {
     Ok(())
 }
 
+/// A tear, what it leaves of `gone` and `live` where a put of `new` over `gone` fails, in its write or in its sync, and
+/// what of `live` where a put of `more` behind it does.
+const LEFT: [(Tear, &[u8], &[u8]); 4] = [
+    (Tear::Old, b"gonelive", b"live"),
+    (Tear::New, b"newelive", b"livemore"),
+    // Each pending byte is the old one, and so is the length.
+    (Tear::Mixed(0), b"gonelive", b"live"),
+    // The pending bytes are 255, 7, the new one and the old one, which is 0 past the end.
+    (Tear::Mixed(0x1B), b"\xFF\x07welive", b"live\xFF\x07r\0"),
+];
+
+// The bytes of a short disk.
+fn whole(alloc: Global, disk: &mut MemDisk) -> Result<Vec<u8>, Fail> {
+    let mut bytes = vec![in alloc; 0u8; 16]?;
+    let count = disk.read_at(0, &mut bytes)?;
+    bytes.truncate(count);
+    Ok(bytes)
+}
+
 // A live extent, one that was freed, and a put over the freed bytes that fails at a call. What a
-// stop leaves of the live one.
-fn left_after(alloc: Global, calls: u64, tear: Tear) -> Result<Vec<u8>, Fail> {
+// stop leaves of the live one, where it leaves these bytes.
+fn left_over(alloc: Global, calls: u64, tear: Tear, left: &[u8]) -> Result<Vec<u8>, Fail> {
     let mut spool = opened(alloc)?;
     let freed = spool.put(b"gone")?;
     let live = spool.put(b"live")?;
@@ -83,6 +102,9 @@ fn left_after(alloc: Global, calls: u64, tear: Tear) -> Result<Vec<u8>, Fail> {
         return Err("answer")?;
     }
     let mut disk = spool.close().crash(tear)?;
+    if whole(alloc, &mut disk)?.as_slice() != left {
+        return Err("bytes")?;
+    }
     if disk.len()? < 8 {
         return Err("length")?;
     }
@@ -96,16 +118,56 @@ fn left_after(alloc: Global, calls: u64, tear: Tear) -> Result<Vec<u8>, Fail> {
     bytes_of(alloc, &mut spool, &live)
 }
 
+// A put behind a live extent that fails at a call, after which nothing is read. What a stop leaves.
+fn left_behind(alloc: Global, calls: u64, tear: Tear) -> Result<Vec<u8>, Fail> {
+    let mut spool = opened(alloc)?;
+    let live = spool.put(b"live")?;
+    spool.fuse(calls);
+    if spool.put(b"more") != Err(SpoolFault::Disk) {
+        return Err("answer")?;
+    }
+    let mut bytes = Vec::new(alloc);
+    if spool.get(&live, &mut bytes) != Err(SpoolFault::Disk) {
+        return Err("read")?;
+    }
+    if spool.length() != Err(SpoolFault::Disk) {
+        return Err("length")?;
+    }
+    whole(alloc, &mut spool.close().crash(tear)?)
+}
+
 #[test]
 fn stops(rt: HostRuntime) -> Result<(), Fail> {
     let alloc = rt.alloc();
-    for calls in 1..3 {
-        for tear in [Tear::Old, Tear::New, Tear::Mixed(0), Tear::Mixed(0xE4E5)] {
+    for (tear, over, behind) in LEFT {
+        for calls in 1..3 {
             assert_eq!(rt;
-                left_after(alloc, calls, tear)?.as_slice(),
+                left_over(alloc, calls, tear, over)?.as_slice(),
                 b"live".as_slice()
             );
+            assert_eq!(rt; left_behind(alloc, calls, tear)?.as_slice(), behind);
         }
+    }
+    Ok(())
+}
+
+#[test]
+fn first_bad_extent(rt: HostRuntime) -> Result<(), Fail> {
+    // The bytes of a disk, the extents on it, and the place of the first that it can't have.
+    for (size, extents, bad) in [
+        (0, [at(0, 0), at(0, 0), at(0, 0)], None),
+        (10, [at(4, 2), at(0, 4), at(6, 4)], None),
+        (9, [at(4, 2), at(0, 4), at(6, 4)], Some(6)),
+        // By one byte: before, behind, within and around.
+        (20, [at(4, 4), at(1, 4), at(4, 4)], Some(1)),
+        (20, [at(4, 4), at(0, 4), at(7, 2)], Some(7)),
+        (20, [at(4, 4), at(8, 4), at(5, 1)], Some(5)),
+        (20, [at(4, 4), at(9, 4), at(3, 10)], Some(3)),
+        // An empty one meets none, and is within the disk.
+        (8, [at(0, 8), at(3, 0), at(8, 0)], None),
+        (8, [at(0, 8), at(9, 0), at(0, 1)], Some(9)),
+    ] {
+        assert_eq!(rt; bad_extent(rt.alloc(), &extents, size)?, bad);
     }
     Ok(())
 }

@@ -1,6 +1,6 @@
 //! A balanced tree of slots, which knows the widest gap below each node.
 ghost use Rattle.std.specs.Prelude.{◌≡◌, ◌<◌, ◌+◌, ◌^◌, Some, [], ◌∷◌, ◌++◌, MatchOption};
-ghost use Rattle.nqs_spool.specs.Slots.{widest_of, first_fit, inserted, ended, begun_at, begun_if_empty, removed, left_by, IsSomeRow};
+ghost use Rattle.nqs_spool.specs.Slots.{widest_of, first_fit, lies_between, is_free, inserted, ended, begun_at, begun_if_empty, removed, left_by, IsSomeRow};
 ghost use Rattle.nqs_spool.specs.Nodes.{slots_of, IsMeasured};
 
 use crate::slot::Slot;
@@ -122,6 +122,32 @@ impl Tree {
             }
         }
     }
+
+    // Whether the bytes from the place on to `past` are free, where those behind all slots are from `end` to `limit`.
+    pub fn is_free(&self, place: u64, past: u64, end: u64, limit: u64) -> bool
+        requires { IsSomeRow self.now }
+        ensures { result ≡ is_free place past end limit self.now }
+    {
+        match &self.node {
+            Node::Leaf => lies_between(place, past, end, limit),
+            Node::Fork(left, slot, _, _, right) => {
+                if place < slot.place {
+                    return left.is_free(place, past, slot.from, slot.place);
+                }
+                right.is_free(place, past, end, limit)
+            }
+        }
+    }
+}
+
+// Whether the bytes from the place on to `past` lie between these two ends.
+fn lies_between(place: u64, past: u64, from: u64, to: u64) -> bool
+    ensures { result ≡ lies_between place past from to }
+{
+    if place < from {
+        return false;
+    }
+    past <= to
 }
 
 impl Tree {

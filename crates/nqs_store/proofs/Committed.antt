@@ -8,7 +8,7 @@ use Rattle.nqs_types.specs.declared.change.Change.TheVariants.{Site, Submitted, 
 use Rattle.nqs_outside.specs.History.{History, content, moment, MayLeave, EachSince}
 use Rattle.nqs_outside.specs.declared.disk.Disk as disk
 use Rattle.nqs_outside.proofs.Images.{quiet_image}
-use Rattle.nqs_spool.specs.Extents.{Has, Holds, past, AreApart}
+use Rattle.nqs_spool.specs.Extents.{Has, Holds, past, AreApart, IsWithin}
 use Rattle.nqs_spool.specs.Spooled as spool
 use Rattle.nqs_spool.specs.declared.spool.Spool.{Spool}
 use Rattle.nqs_spool.proofs.Lists.{has_all, all_has}
@@ -23,7 +23,7 @@ use Rattle.nqs_rules.specs.Plain.{map_state}
 use Rattle.nqs_rules.proofs.PlainLemmas.{applied-map}
 use Rattle.nqs_rules.proofs.FilledLemmas.{read-planned}
 use Rattle.nqs_store.specs.Told.{Host, told, taken, read_taken}
-use Rattle.nqs_store.specs.Live.{live, bytes_at, IsWithin}
+use Rattle.nqs_store.specs.Live.{live, bytes_at}
 use Rattle.nqs_store.specs.Accounts.{Adds}
 use Rattle.nqs_store.specs.Frees.{gone}
 use Rattle.nqs_store.specs.Puts.{HoldEach}

@@ -3,7 +3,8 @@ use Rattle.std.proofs.Common.{◌≡◌, ℕ, List, length, Some, refl, subst}
 use Rattle.nqs_types.specs.declared.world.Which.{Which}
 use Rattle.nqs_types.specs.declared.world.Which.TheVariants.{Root, First, Second, Spool}
 use Rattle.nqs_store.specs.Told.{Host, told}
-use Rattle.nqs_store.specs.Live.{live, IsBadExtent}
+use Rattle.nqs_spool.specs.Extents.{IsBadExtent}
+use Rattle.nqs_store.specs.Live.{live}
 use Rattle.nqs_journal.specs.declared.fault.JournalFault.{JournalFault}
 use Rattle.nqs_journal.specs.declared.fault.JournalFault.TheVariants as journal
 use Rattle.nqs_store.specs.Faults.{JournalIsAt, IsExtentFault, IsReadFault}

@@ -12,10 +12,10 @@ use Rattle.nqs_journal.specs.declared.fault.JournalFault.{JournalFault}
 use Rattle.nqs_journal.specs.declared.fault.JournalFault.TheVariants as journal
 use Rattle.nqs_journal.proofs.OneReading.{one_reading}
 use Rattle.nqs_journal.proofs.NoFault.{no_fault}
-use Rattle.nqs_spool.specs.Extents.{IsApart}
+use Rattle.nqs_spool.specs.Extents.{IsApart, IsWithin, AreSound, IsBadExtent}
 use Rattle.nqs_spool.proofs.Lists.{all_cut, apart_cut}
 use Rattle.nqs_store.specs.Told.{Host, record_taken, told, told_from, IsUntold}
-use Rattle.nqs_store.specs.Live.{live, IsWithin, AreSound, IsBadExtent}
+use Rattle.nqs_store.specs.Live.{live}
 use Rattle.nqs_store.specs.Images.{IsTold}
 use Rattle.nqs_store.specs.Faults.{JournalIsAt, IsHostFault, IsExtentFault, IsReadFault, IsLoadFault}
 use Rattle.nqs_store.specs.declared.fault.LoadFault.{LoadFault}

@@ -7,7 +7,8 @@ use Rattle.nqs_journal.specs.Faults as faults
 use Rattle.nqs_journal.specs.declared.fault.JournalFault.{JournalFault}
 use Rattle.nqs_journal.specs.declared.fault.JournalFault.TheVariants as journal
 use Rattle.nqs_store.specs.Told.{Host, told, IsUntold}
-use Rattle.nqs_store.specs.Live.{live, IsBadExtent}
+use Rattle.nqs_spool.specs.Extents.{IsBadExtent}
+use Rattle.nqs_store.specs.Live.{live}
 use Rattle.nqs_store.specs.declared.fault.LoadFault.{LoadFault}
 use Rattle.nqs_store.specs.declared.fault.LoadFault.TheVariants as load
 use Rattle.nqs_store.specs.declared.fault.StoreFault.{StoreFault}

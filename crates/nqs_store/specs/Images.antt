@@ -4,7 +4,8 @@ use Rattle.nqs_types.specs.State.{Plain}
 use Rattle.nqs_rules.specs.Plain.{map_state}
 use Rattle.nqs_journal.specs.Text.{StandsFor}
 use Rattle.nqs_store.specs.Told.{Host, told}
-use Rattle.nqs_store.specs.Live.{live, AreSound, bytes_at}
+use Rattle.nqs_spool.specs.Extents.{AreSound}
+use Rattle.nqs_store.specs.Live.{live, bytes_at}
 
 -- The journal's records tell a host, whose live extents are sound in the spool. With their bytes it is this plain state.
 pub record IsTold (first spool : List ℕ) (plain : Plain) : Type 0 where

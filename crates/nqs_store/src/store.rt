@@ -10,7 +10,8 @@ ghost use Rattle.nqs_spool.specs.Spooled.{disk_of as spool_disk, history_of as s
 ghost use Rattle.nqs_journal.specs.Open.{is_stopped as is_journal_stopped};
 ghost use Rattle.nqs_journal.specs.Text.{header, records, StandsFor};
 ghost use Rattle.nqs_store.specs.Told.{Host, told};
-ghost use Rattle.nqs_store.specs.Live.{live, AreSound};
+ghost use Rattle.nqs_spool.specs.Extents.{AreSound};
+ghost use Rattle.nqs_store.specs.Live.{live};
 ghost use Rattle.nqs_store.specs.Sound.{IsSoundHost};
 ghost use Rattle.nqs_store.specs.Disks.{disk_at};
 ghost use Rattle.nqs_store.specs.Images.{IsTold};
@@ -18,11 +19,11 @@ ghost use Rattle.nqs_store.specs.Faults.{JournalIsAt, IsHostFault, IsExtentFault
 
 use crate::disks::Disks;
 use crate::fault::LoadFault;
-use crate::live::{bad_extent, live_extents};
+use crate::live::live_extents;
 use crate::tell::{TellFault, tell};
 use nqs_journal::{Journal, JournalFault, read_payloads};
 use nqs_outside::Disk;
-use nqs_spool::Spool;
+use nqs_spool::{Spool, bad_extent};
 use nqs_types::{Bytes, Extent, HostState, Which};
 use std::alloc::Global;
 
@@ -68,7 +69,7 @@ fn sound_extents(alloc: Global, state: &HostState, size: u64) -> Result<Vec<Exte
     ensures err { IfErr result (IsExtentFault size (live (content state.now))) }
 {
     let extents = live_extents(alloc, state)?;
-    match bad_extent(&extents, size) {
+    match bad_extent(alloc, &extents, size)? {
         Some(place) => Err(LoadFault::NotNqs(Which::Spool, place)),
         None => Ok(extents),
     }

@@ -2,7 +2,8 @@ use Rattle.std.proofs.Common.{◌≡◌, ◌++◌, Some, refl, ap, subst, arith,
 use Rattle.std.proofs.lemmas.Result.{err_from_is_err_and}
 use Rattle.nqs_types.specs.State.{content}
 use Rattle.nqs_store.specs.Told.{told}
-use Rattle.nqs_store.specs.Live.{live, AreSound}
+use Rattle.nqs_spool.specs.Extents.{AreSound}
+use Rattle.nqs_store.specs.Live.{live}
 use Rattle.nqs_outside.specs.History.{content as bytes_now}
 use Rattle.nqs_store.proofs.Loading.{each_disk}
 use Rattle.nqs_store.proofs.Never.{journal_not, found_not, one_host}

@@ -1,6 +1,6 @@
 use Rattle.std.proofs.Common.{length, ap, arith}
 use Rattle.nqs_outside.specs.History.{History, content}
-use Rattle.nqs_spool.proofs.tests.left_after.Goals as goal
+use Rattle.nqs_spool.proofs.tests.left_over.Goals as goal
 
 pub load-requires-clause-apart : goal.load-requires-clause-apart
 load-requires-clause-apart c = rw (c.at.ensures, c.at-2.ensures) ((omega arith, tt), (tt, tt))

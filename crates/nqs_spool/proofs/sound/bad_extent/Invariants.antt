@@ -1,0 +1,13 @@
+use Rattle.std.proofs.Common.{◌≡◌, List, ◌++◌, length}
+use Rattle.std.specs.List.{AllByRecursion}
+use Rattle.nqs_types.specs.declared.extent.Extent.{Extent}
+use Rattle.nqs_spool.specs.Extents.{IsWithin, Covers}
+use Rattle.nqs_spool.specs.Live.{kept}
+use Rattle.nqs_spool.proofs.sound.bad_extent.Given as goal
+
+-- those before the rest are sound, and are in
+abbrev pub invariant-extents : goal.invariant-extents
+invariant-extents l = (front : List Extent) × (l.extents ≡ front ++ l.rest) × AllByRecursion (IsWithin l.size) front × Covers (kept l.sound) front
+
+abbrev pub decreases-extents : goal.decreases-extents
+decreases-extents l = length l.rest
