@@ -9,6 +9,7 @@ ghost use Rattle.nqs_rules.specs.Causes.{first_refusal};
 ghost use Rattle.nqs_rules.specs.Edits.{change_device};
 ghost use Rattle.nqs_rules.specs.Devices.{devices_causes, device_edited, without_device, devices_applied};
 
+use nqs_access::drop_name;
 use nqs_types::{DeviceDef, DevicesEdit, HostState, Name, QueueDef};
 
 // What an edit makes of its device.
@@ -46,7 +47,7 @@ fn create_device(state: &mut HostState, device: Name, forms: Name)
 fn drop_device(queue: &mut QueueDef, device: &Name)
     ensures { queue.new ≡ without_device device.now queue.old }
 {
-    queue.devices.keep(|name: &Name| *device != *name);
+    drop_name(&mut queue.devices, device);
 }
 
 fn delete_device(state: &mut HostState, device: &Name)

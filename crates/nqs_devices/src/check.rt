@@ -6,7 +6,8 @@ ghost use Rattle.nqs_rules.specs.Causes.{cause, first_refusal};
 ghost use Rattle.nqs_rules.specs.Find.{has_device};
 ghost use Rattle.nqs_rules.specs.Devices.{device_causes, idle_device_causes, devices_causes, is_device_queue, lists_device};
 
-use crate::free::{has_name, is_busy};
+use crate::free::is_busy;
+use nqs_access::has_name;
 use nqs_types::{DevicesEdit, HostState, Kind, Name, QueueDef, Refusal};
 
 fn check_device(state: &HostState, device: &Name) -> Result<(), Refusal>

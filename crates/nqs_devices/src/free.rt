@@ -3,17 +3,9 @@
 ghost use Rattle.std.specs.Prelude.{◌≡◌};
 ghost use Rattle.std.specs.Option.{option_copied};
 ghost use Rattle.nqs_types.specs.State.{content};
-ghost use Rattle.nqs_rules.specs.Find.{has_name};
 ghost use Rattle.nqs_rules.specs.Devices.{same_name_as, has_forms, can_serve, runs_on, is_busy, is_free_device, free_device};
 
 use nqs_types::{DeviceDef, HostState, Name, QueueDef, Row, RowState};
-
-/// Whether the name is one of these.
-pub fn has_name(names: &[Name], wanted: &Name) -> bool
-    ensures { result ≡ has_name names.now wanted.now }
-{
-    names.iter().any(|name| *wanted == *name)
-}
 
 fn same_name_as(name: &Name, other: Option<Name>) -> bool
     ensures { result ≡ same_name_as name.now other }

@@ -8,16 +8,17 @@ ghost use Rattle.nqs_rules.specs.Access.{rank, is_plain_user};
 ghost use Rattle.nqs_rules.specs.Rows.{arrivals_used, delete_row_causes, delete_causes, named_causes, idle_causes, hold_causes, release_causes, move_entry_causes, move_causes, is_pipe_named, rows_causes};
 ghost use Rattle.nqs_rows.specs.OneRow.{row_causes};
 
-use crate::entry::{check_job, has_name};
+use crate::entry::check_job;
 use crate::meant::meant_row;
+use nqs_access::rank;
 use nqs_types::{
-    Entry, Hold, HostState, Kind, Name, Named, QueueDef, Refusal, Row, RowState, RowsEdit,
+    Entry, Hold, HostState, Kind, Name, Named, QueueDef, Rank, Refusal, Row, RowState, RowsEdit,
 };
 
 fn is_plain_user(state: &HostState, user: &Name) -> bool
     ensures { result ≡ is_plain_user (rank user.now (content state.now)) }
 {
-    !has_name(state.managers.as_slice(), user) && !has_name(state.operators.as_slice(), user)
+    rank(state, user) == Rank::User
 }
 
 fn check_delete_row(
