@@ -8,6 +8,8 @@ mod apply;
 mod check;
 mod names;
 mod ranks;
+#[cfg(test)]
+mod tests;
 mod way;
 
 pub use apply::apply_access;

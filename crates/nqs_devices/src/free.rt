@@ -31,7 +31,7 @@ fn can_serve(device: &DeviceDef, forms: Option<&Name>) -> bool
     device.enabled && has_forms(device, forms)
 }
 
-/// Whether the row runs on the device.
+/// Whether the row runs on the device: a request that waits or is on its way is on none.
 pub fn runs_on(row: &Row, device: &Name) -> bool
     ensures { result ≡ runs_on device.now row.now }
 {
@@ -55,7 +55,7 @@ fn is_free_device(state: &HostState, forms: Option<&Name>, device: &Name) -> boo
 }
 
 /// The first device of the queue's list that is enabled, not busy and has the forms, where forms are asked for.
-/// It is given by its place in that list, from 0.
+/// It is given by its place in that list, from 0. A device that is listed and not there serves nobody.
 pub fn free_device(state: &HostState, queue: &QueueDef, forms: Option<&Name>) -> Option<usize>
     ensures { result ≡ free_device queue.now (option_copied forms.entry) (content state.now) }
 {

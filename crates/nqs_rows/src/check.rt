@@ -39,7 +39,9 @@ fn check_delete_row(
     Ok(())
 }
 
-/// Whether a user may delete a request: `Ok`, or why not. With `kill` a running one may be deleted too.
+/// Whether a user may delete a request: `Ok`, or the first of these that holds: `NoRequest`; `NotOwner` for one who is
+/// neither its owner, a manager nor an operator; `RequestRunning`, unless `kill` is set. One that is on its way may be
+/// deleted. `site` holds of each state in order: at most 16 hosts.
 pub fn check_delete(state: &HostState, user: &Name, id: &Named, kill: bool) -> Result<(), Refusal>
     requires site { length state.now.site ≤ 16 }
     ensures { result ≡ first_refusal (delete_causes user.now id.now kill (content state.now)) }
@@ -147,7 +149,11 @@ fn check_abort(state: &HostState, queue: &Name) -> Result<(), Refusal>
     }
 }
 
-/// Whether an edit of requests may be made: `Ok`, or why not.
+/// Whether an edit of requests may be made: `Ok`, or the first of these that holds. An abort: `NoQueue`, `WrongKind` for
+/// a pipe queue. The others: `NoRequest`, and then a hold: `RequestRouting`, `RequestRunning`, `IsHeld`; a release:
+/// `NotHeld`; a move: `NoQueue`, `RequestRouting`, `RequestRunning`, the way of its owner and of its limits into that
+/// queue as from a pipe queue, `NumbersUsed`; a new priority: `RequestRouting`, `RequestRunning`.
+/// `site` holds of each state in order: at most 16 hosts.
 pub fn check_rows(state: &HostState, edit: &RowsEdit) -> Result<(), Refusal>
     requires site { length state.now.site ≤ 16 }
     ensures { result ≡ first_refusal (rows_causes edit.now (content state.now)) }
