@@ -1,10 +1,7 @@
-//! The answers of the checks, by hand: the way into a queue, and the refusals of edits in their order.
+//! The way into a queue, by hand.
 
-use crate::{check_access, may_use};
-use nqs_types::{
-    Access, AccessEdit, Entry, HostId, HostState, Kind, Limits, ListOf, Memory, Name, NameList,
-    QueueDef, Refusal, Spare, Table,
-};
+use crate::may_use;
+use nqs_types::{Access, Entry, Kind, Limits, ListOf, Name, QueueDef, Refusal};
 use std::alloc::Global;
 use std::test::Fail;
 
@@ -26,43 +23,6 @@ fn queue(alloc: Global, name: Name, access: Access) -> QueueDef {
         dests: ListOf::new(alloc),
         devices: ListOf::new(alloc),
     }
-}
-
-// A host with these queues and managers, and nothing besides.
-fn host(alloc: Global, queues: Table<Name, QueueDef>, managers: NameList) -> HostState {
-    HostState {
-        me: HostId(0),
-        site: ListOf::new(alloc),
-        queues,
-        complexes: Table::new(alloc),
-        devices: Table::new(alloc),
-        rows: Table::new(alloc),
-        hands: Table::new(alloc),
-        promises: Table::new(alloc),
-        peers: ListOf::new(alloc),
-        stages: Table::new(alloc),
-        files: Table::new(alloc),
-        managers,
-        operators: ListOf::new(alloc),
-        default_queue: None,
-        global_limit: 64,
-        patience: 60,
-        retry_wait: 300,
-        seq: 0,
-        arrivals: 0,
-        file_next: 1,
-        spare_names: Spare::new(alloc),
-        spare_dests: Spare::new(alloc),
-        spare_refused: Spare::new(alloc),
-    }
-}
-
-fn add_queue(queues: &mut Table<Name, QueueDef>, queue: QueueDef) -> Result<(), Memory> {
-    queues.reserve(1)?;
-    if !queues.has(&queue.name) {
-        queues.push(queue);
-    }
-    Ok(())
 }
 
 #[test]
@@ -102,43 +62,6 @@ fn ways_into_a_queue(rt: HostRuntime) -> Result<(), Fail> {
         def.enabled = enabled;
         def.pipe_only = pipe_only;
         assert_eq!(rt; may_use(&def, &user, entry), answer);
-    }
-    Ok(())
-}
-
-#[test]
-fn refused_edits(rt: HostRuntime) -> Result<(), Fail> {
-    let alloc = rt.alloc();
-    let (open, short, long) = (
-        Name::read(b"open")?,
-        Name::read(b"short")?,
-        Name::read(b"long")?,
-    );
-    let (user, root) = (Name::read(b"carl")?, Name::read(b"root")?);
-    let mut queues = Table::new(alloc);
-    add_queue(&mut queues, queue(alloc, open, Access::All))?;
-    let users = ListOf::of(alloc, user)?;
-    add_queue(&mut queues, queue(alloc, short, Access::Users(users)))?;
-    let managers = ListOf::of(alloc, root)?;
-    let state = host(alloc, queues, managers);
-    let (add, remove) = (
-        |queue: Name| AccessEdit::AddUser { user, queue },
-        |queue: Name| AccessEdit::RemoveUser { user, queue },
-    );
-    for (edit, answer) in [
-        (add(long), Err(Refusal::NoQueue(long))),
-        (add(open), Err(Refusal::IsMember)),
-        (add(short), Err(Refusal::IsMember)),
-        (remove(open), Err(Refusal::NotMember)),
-        (remove(short), Ok(())),
-        (AccessEdit::RemoveManager { user }, Err(Refusal::NotMember)),
-        (
-            AccessEdit::RemoveManager { user: root },
-            Err(Refusal::KeepRoot),
-        ),
-        (AccessEdit::AddOperator { user: root }, Ok(())),
-    ] {
-        assert_eq!(rt; check_access(&state, &edit), answer);
     }
     Ok(())
 }

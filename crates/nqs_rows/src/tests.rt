@@ -158,6 +158,40 @@ fn refused_submissions(rt: HostRuntime) -> Result<(), Fail> {
     Ok(())
 }
 
+// As many requests as a host takes.
+fn full_rows(alloc: Global, queue: Name, owner: Name) -> Result<Table<RequestId, Row>, Memory> {
+    let mut rows = Table::new(alloc);
+    for seq in 1..=10_000u32 {
+        add_row(&mut rows, row(alloc, seq, queue, owner, RowState::Queued))?;
+    }
+    Ok(rows)
+}
+
+#[test]
+fn a_full_host(rt: HostRuntime) -> Result<(), Fail> {
+    let alloc = rt.alloc();
+    let (jobs, ann) = (Name::read(b"jobs")?, Name::read(b"ann")?);
+    let mut queues = Table::new(alloc);
+    add_queue(&mut queues, queue(alloc, jobs, true, false))?;
+    let rows = full_rows(alloc, jobs, ann)?;
+    let (site, operators) = (ListOf::new(alloc), ListOf::new(alloc));
+    let mut state = host(alloc, site, operators, queues, rows);
+    let submission = Submission {
+        queue: Some(jobs),
+        job: job(alloc, ann, None),
+        script: ListOf::new(alloc),
+    };
+    assert_eq!(rt; state.rows.len(), 10_000);
+    assert_eq!(rt; check_submit(&state, &submission), Err(Refusal::HostFull));
+    let id = RequestId {
+        seq: 7,
+        host: HostId(0),
+    };
+    state.rows.remove_key(&id);
+    assert_eq!(rt; check_submit(&state, &submission), Ok(()));
+    Ok(())
+}
+
 // Two requests of ann's on the first host, of which the second runs.
 fn two_requests(
     alloc: Global,
