@@ -1,5 +1,6 @@
 //! Names in lists, and queues by name: what the checks and edits of several kinds share.
-ghost use Rattle.std.specs.Prelude.{◌≡◌};
+ghost use Rattle.std.specs.Prelude.{◌≡◌, ◌<◌, length, position, IfSome};
+ghost use Rattle.nqs_types.specs.Ids.{name_eq};
 ghost use Rattle.nqs_types.specs.State.{content};
 ghost use Rattle.nqs_rules.specs.Access.{without_name};
 ghost use Rattle.nqs_rules.specs.Causes.{first_refusal};
@@ -13,6 +14,14 @@ pub fn has_name(names: &[Name], wanted: &Name) -> bool
     ensures { result ≡ has_name names.now wanted.now }
 {
     names.iter().any(|name| *wanted == *name)
+}
+
+/// The place of the name in the list, from 0: the first, if it stands there more than once.
+pub fn place_of(names: &[Name], wanted: &Name) -> Option<usize>
+    ensures place { result ≡ position (name_eq wanted.now) names.now }
+    ensures within { IfSome result (λ place. place < length names.now) }
+{
+    names.iter().position(|name| *wanted == *name)
 }
 
 /// Takes the name out of the list. The others keep their order.

@@ -147,7 +147,9 @@ fn create_pipe_queue(state: &mut HostState, created: Created, destination: &Opti
     create_queue(state, created, dests);
 }
 
-/// Makes an edit that its check lets through, after room was made for it.
+/// Makes an edit that `check_conf` lets through, after `HostState::make_room` made room for it. It takes no memory and
+/// can't fail. `within`: a priority is at most 63, a run limit at most 10,000, a wait 1 to 86,400 seconds; so they fit
+/// the numbers of a queue. `site` holds of each state in order: at most 16 hosts.
 pub fn apply_conf(state: &mut HostState, edit: ConfEdit)
     requires site { length state.old.site ≤ 16 }
     requires check { first_refusal (conf_causes edit (content state.old)) ≡ Ok tt }

@@ -1,25 +1,17 @@
 //! Hosts and destinations as they are typed, and what is meant by them.
-ghost use Rattle.std.specs.Prelude.{◌≡◌, ◌<◌, ◌≤◌, ◌∷◌, [], filter, length, position, not, IfSome};
+ghost use Rattle.std.specs.Prelude.{◌≡◌, ◌<◌, ◌≤◌, ◌∷◌, [], filter, length, not};
 ghost use Rattle.std.specs.List.{list_any};
-ghost use Rattle.nqs_types.specs.Ids.{name_eq};
 ghost use Rattle.nqs_types.specs.State.{content};
 ghost use Rattle.nqs_rules.specs.Causes.{first_refusal};
 ghost use Rattle.nqs_rules.specs.Conf.{lists_dest, no_host_cause, dest_list, created_dests};
 ghost use Rattle.nqs_rules.specs.Find.{meant_dest};
 ghost use Rattle.nqs_rules.specs.Tests.{same_dest};
 
+use nqs_access::place_of;
 use nqs_types::{
     Dest, DestList, HostId, HostState, ListOf, Name, NamedDest, QueueDef, Refusal, Spare,
 };
 use std::alloc::Global;
-
-// The place of a host in the site.
-fn place_of(site: &[Name], host: &Name) -> Option<usize>
-    ensures place { result ≡ position (name_eq host.now) site.now }
-    ensures within { IfSome result (λ place. place < length site.now) }
-{
-    site.iter().position(|name: &Name| *host == *name)
-}
 
 /// Whether the site has a host of this name: `NoHost` where it has none.
 pub(crate) fn known_host(state: &HostState, host: &Name) -> Result<(), Refusal>

@@ -3,7 +3,8 @@ use Rattle.std.proofs.Common.{◌≡◌, ◌∙◌, ℕ, Bool, true, false, not,
 use Rattle.std.specs.List.{list_any}
 use Rattle.nqs_types.specs.State.{State}
 use Rattle.nqs_types.specs.Keys.{is_queue}
-use Rattle.nqs_types.proofs.TableLemmas.{is_some-find}
+use Rattle.nqs_access.proofs.Causes.{passed}
+use Rattle.nqs_access.proofs.Found.{queue_there, queue_missing}
 use Rattle.nqs_rules.specs.Tests.{passes}
 use Rattle.nqs_rules.specs.Causes.{Cause, cause, first_refusal}
 use Rattle.nqs_rules.specs.Find.{find_queue}
@@ -11,22 +12,6 @@ use Rattle.nqs_rules.specs.Devices.{device_causes, devices_causes, is_device_que
 use Rattle.nqs_types.specs.declared.queue.QueueDef.{QueueDef}
 use Rattle.nqs_types.specs.declared.refusal.Refusal.TheVariants.{NoQueue, WrongKind, IsMember, NotMember}
 use Rattle.nqs_types.specs.declared.edit.DevicesEdit.TheVariants.{AddDevice, RemoveDevice}
-
-module _ {V : Type 0} (test : V → Bool) (vs : List V) where
-  absent : None ≡ find test vs → list_any test vs ≡ false
-  absent h = sym (is_some-find test vs) ∙ ap is_some (sym h)
-
-  present : (v : V) → Some v ≡ find test vs → list_any test vs ≡ true
-  present v h = sym (is_some-find test vs) ∙ ap is_some (sym h)
-
--- behind causes that don't hold the others decide
-pub passed : (cs ds : List Cause) → Ok tt ≡ first_refusal cs → first_refusal (cs ++ ds) ≡ first_refusal ds
-passed [] ds h = refl
-passed (c ∷ cs) ds h = by (passed cs ds) c.holds h
-  where
-    by : (Ok tt ≡ first_refusal cs → first_refusal (cs ++ ds) ≡ first_refusal ds) → (b : Bool) → Ok tt ≡ (if b then Err c.refusal else first_refusal cs) → (if b then Err c.refusal else first_refusal (cs ++ ds)) ≡ first_refusal ds
-    by _ true h = absurd (let no : ⊥ = cc in no)
-    by rest false h = rest h
 
 abbrev add_part : List ℕ → List ℕ → Bool → Option QueueDef → List Cause
 add_part d q there found =
@@ -39,17 +24,17 @@ module _ {E : Type 0} (d q : List ℕ) (s : State E) where
   pub add_found : (def : QueueDef) → Ok tt ≡ first_refusal (device_causes d s) → Some def ≡ find_queue q s
       → first_refusal (cause (not (is_device_queue def)) WrongKind ∷ cause (lists_device d def) IsMember ∷ []) ≡ first_refusal (devices_causes (AddDevice d q) s)
   add_found def ok h =
-      (λ i. first_refusal (add_part d q (sym (present (is_queue q) s.queues def h) i) (h i)))
+      (λ i. first_refusal (add_part d q (sym (queue_there q s def (sym h)) i) (h i)))
       ∙ sym (passed (device_causes d s) (add_part d q (list_any (is_queue q) s.queues) (find_queue q s)) ok)
 
   pub add_absent : Ok tt ≡ first_refusal (device_causes d s) → None ≡ find_queue q s → Err (NoQueue q) ≡ first_refusal (devices_causes (AddDevice d q) s)
   add_absent ok h =
-      (λ i. first_refusal (add_part d q (sym (absent (is_queue q) s.queues h) i) (h i)))
+      (λ i. first_refusal (add_part d q (sym (queue_missing q s (sym h)) i) (h i)))
       ∙ sym (passed (device_causes d s) (add_part d q (list_any (is_queue q) s.queues) (find_queue q s)) ok)
 
   pub remove_found : (def : QueueDef) → Some def ≡ find_queue q s
       → first_refusal (cause (not (lists_device d def)) NotMember ∷ []) ≡ first_refusal (devices_causes (RemoveDevice d q) s)
-  remove_found def h = (λ i. first_refusal (remove_part d q (sym (present (is_queue q) s.queues def h) i) (h i)))
+  remove_found def h = (λ i. first_refusal (remove_part d q (sym (queue_there q s def (sym h)) i) (h i)))
 
   pub remove_absent : None ≡ find_queue q s → Err (NoQueue q) ≡ first_refusal (devices_causes (RemoveDevice d q) s)
-  remove_absent h = (λ i. first_refusal (remove_part d q (sym (absent (is_queue q) s.queues h) i) (h i)))
+  remove_absent h = (λ i. first_refusal (remove_part d q (sym (queue_missing q s (sym h)) i) (h i)))

@@ -9,6 +9,7 @@ ghost use Rattle.nqs_rules.specs.Causes.{first_refusal};
 ghost use Rattle.nqs_rules.specs.Edits.{change_device};
 ghost use Rattle.nqs_rules.specs.Devices.{devices_causes, device_edited, without_device, devices_applied};
 
+use nqs_access::drop_name;
 use nqs_types::{DeviceDef, DevicesEdit, HostState, Name, QueueDef};
 
 // What an edit makes of its device.
@@ -46,7 +47,7 @@ fn create_device(state: &mut HostState, device: Name, forms: Name)
 fn drop_device(queue: &mut QueueDef, device: &Name)
     ensures { queue.new ≡ without_device device.now queue.old }
 {
-    queue.devices.keep(|name: &Name| *device != *name);
+    drop_name(&mut queue.devices, device);
 }
 
 fn delete_device(state: &mut HostState, device: &Name)
@@ -80,7 +81,8 @@ fn remove_device(state: &mut HostState, device: &Name, queue: &Name)
         .change(queue, |def: &mut QueueDef| drop_device(def, device));
 }
 
-/// Makes an edit of devices that isn't refused. It takes no memory: the room that it needs was made before.
+/// Makes an edit of devices that `check_devices` lets through, after `HostState::make_room` made room for it. It takes
+/// no memory and can't fail. A created device is disabled; a deleted one goes out of each queue's list too.
 pub fn apply_devices(state: &mut HostState, edit: DevicesEdit)
     requires check { IsTrue (is_ok (first_refusal (devices_causes edit (content state.old)))) }
     requires room { HasRoomForDevices edit state.old }

@@ -6,7 +6,8 @@ ghost use Rattle.nqs_rules.specs.Causes.{cause, first_refusal};
 ghost use Rattle.nqs_rules.specs.Find.{has_device};
 ghost use Rattle.nqs_rules.specs.Devices.{device_causes, idle_device_causes, devices_causes, is_device_queue, lists_device};
 
-use crate::free::{has_name, is_busy};
+use crate::free::is_busy;
+use nqs_access::has_name;
 use nqs_types::{DevicesEdit, HostState, Kind, Name, QueueDef, Refusal};
 
 fn check_device(state: &HostState, device: &Name) -> Result<(), Refusal>
@@ -82,7 +83,10 @@ fn check_remove(state: &HostState, device: &Name, queue: &Name) -> Result<(), Re
     }
 }
 
-/// Whether an edit of devices may be made: `Ok`, or why not.
+/// Whether an edit of devices may be made: `Ok`, or the first of these that holds. A device that is created:
+/// `DeviceExists`, `TooMany` at 64; one that is named: `NoDevice`; one that is deleted or gets other forms: then
+/// `DeviceBusy`. A device that is added to a queue: `NoDevice`, `NoQueue`, `WrongKind` for all but device queues,
+/// `IsMember`; one that is removed from it: `NoQueue`, `NotMember`. A busy device may be disabled, and removed.
 pub fn check_devices(state: &HostState, edit: &DevicesEdit) -> Result<(), Refusal>
     ensures { result ≡ first_refusal (devices_causes edit.now (content state.now)) }
 {

@@ -3,17 +3,9 @@
 ghost use Rattle.std.specs.Prelude.{◌≡◌};
 ghost use Rattle.std.specs.Option.{option_copied};
 ghost use Rattle.nqs_types.specs.State.{content};
-ghost use Rattle.nqs_rules.specs.Find.{has_name};
 ghost use Rattle.nqs_rules.specs.Devices.{same_name_as, has_forms, can_serve, runs_on, is_busy, is_free_device, free_device};
 
 use nqs_types::{DeviceDef, HostState, Name, QueueDef, Row, RowState};
-
-/// Whether the name is one of these.
-pub fn has_name(names: &[Name], wanted: &Name) -> bool
-    ensures { result ≡ has_name names.now wanted.now }
-{
-    names.iter().any(|name| *wanted == *name)
-}
 
 fn same_name_as(name: &Name, other: Option<Name>) -> bool
     ensures { result ≡ same_name_as name.now other }
@@ -39,7 +31,7 @@ fn can_serve(device: &DeviceDef, forms: Option<&Name>) -> bool
     device.enabled && has_forms(device, forms)
 }
 
-/// Whether the row runs on the device.
+/// Whether the row runs on the device: a request that waits or is on its way is on none.
 pub fn runs_on(row: &Row, device: &Name) -> bool
     ensures { result ≡ runs_on device.now row.now }
 {
@@ -63,7 +55,7 @@ fn is_free_device(state: &HostState, forms: Option<&Name>, device: &Name) -> boo
 }
 
 /// The first device of the queue's list that is enabled, not busy and has the forms, where forms are asked for.
-/// It is given by its place in that list, from 0.
+/// It is given by its place in that list, from 0. A device that is listed and not there serves nobody.
 pub fn free_device(state: &HostState, queue: &QueueDef, forms: Option<&Name>) -> Option<usize>
     ensures { result ≡ free_device queue.now (option_copied forms.entry) (content state.now) }
 {

@@ -1,12 +1,16 @@
 //! Devices: which one is free for a request, and the edits of devices.
 //!
-//! A device is busy while a running request is on it. `nqs_rules/specs/Devices.antt` has the rules.
+//! A device is busy while a running request is on it. `nqs_rules/specs/Devices.antt` has the rules; `docs/rules.md`
+//! says them in words. No call takes memory.
 #![tactic(auto)]
 
 mod apply;
 mod check;
 mod free;
+#[cfg(test)]
+mod tests;
 
 pub use apply::apply_devices;
 pub use check::check_devices;
-pub use free::{free_device, has_name, is_busy, runs_on};
+pub use free::{free_device, is_busy, runs_on};
+pub use nqs_access::has_name;

@@ -9,6 +9,8 @@ mod apply;
 mod check;
 mod over;
 mod size;
+#[cfg(test)]
+mod tests;
 mod time;
 
 pub use apply::apply_limits;

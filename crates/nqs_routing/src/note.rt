@@ -44,8 +44,10 @@ fn set_refused(row: &mut Row, refused: RefusedList, held: bool)
     }
 }
 
-/// Notes that a destination refused the request, with the number of the refusal. Refusals by destinations that
-/// the queue has no longer go. The system holds the request where each destination has refused.
+/// Notes that a destination refused the request, with the number of the refusal, 1 to 33, behind those before. Then
+/// refusals by destinations that the queue has no longer go, this one too. The system holds the request where each
+/// destination that is left has refused, also where none is left. A request that isn't there changes nothing.
+/// It takes no memory: `HostState::make_room` made it, for the change that this is part of.
 pub fn note_refusal(state: &mut HostState, id: RequestId, dest: Dest, cause: u8)
     requires room { refusals_of (find (is_row id) state.old.rows.items) < state.old.spare_refused }
     ensures { content state.new ≡ change_row id (λ r. refusal_noted (dests_for r (content state.old)) dest cause r) (content state.old) }

@@ -4,7 +4,8 @@ use Rattle.std.proofs.lemmas.Bool.Decides.{nat_tests}
 use Rattle.std.specs.List.{list_any}
 use Rattle.nqs_types.specs.State.{State}
 use Rattle.nqs_types.specs.Keys.{is_queue}
-use Rattle.nqs_types.proofs.TableLemmas.{is_some-find}
+pub use Rattle.nqs_access.proofs.Causes.{passed, refused}
+use Rattle.nqs_access.proofs.Found.{queue_there, queue_missing}
 use Rattle.nqs_rules.specs.Tests.{passes}
 use Rattle.nqs_rules.specs.Causes.{Cause, cause, first_refusal}
 use Rattle.nqs_rules.specs.Find.{find_queue, meant_row}
@@ -16,31 +17,6 @@ use Rattle.nqs_types.specs.declared.queue.QueueDef.{QueueDef}
 use Rattle.nqs_types.specs.declared.refusal.Refusal.{Refusal}
 use Rattle.nqs_types.specs.declared.refusal.Refusal.TheVariants.{NoQueue, NoRequest, WrongKind, HostFull, NumbersUsed}
 use Rattle.nqs_types.specs.declared.edit.RowsEdit.TheVariants.{AbortQueue, MoveRequest}
-
-module _ {V : Type 0} (test : V → Bool) (vs : List V) where
-  absent : None ≡ find test vs → list_any test vs ≡ false
-  absent h = sym (is_some-find test vs) ∙ ap is_some (sym h)
-
-  present : (v : V) → Some v ≡ find test vs → list_any test vs ≡ true
-  present v h = sym (is_some-find test vs) ∙ ap is_some (sym h)
-
--- behind causes that don't hold the others decide
-pub passed : (cs ds : List Cause) → Ok tt ≡ first_refusal cs → first_refusal (cs ++ ds) ≡ first_refusal ds
-passed [] ds h = refl
-passed (c ∷ cs) ds h = by (passed cs ds) c.holds h
-  where
-    by : (Ok tt ≡ first_refusal cs → first_refusal (cs ++ ds) ≡ first_refusal ds) → (b : Bool) → Ok tt ≡ (if b then Err c.refusal else first_refusal cs) → (if b then Err c.refusal else first_refusal (cs ++ ds)) ≡ first_refusal ds
-    by _ true h = absurd (let no : ⊥ = cc in no)
-    by rest false h = rest h
-
--- a refusal by the causes in front is that of all
-pub refused : (cs ds : List Cause) (r : Refusal) → Err r ≡ first_refusal cs → Err r ≡ first_refusal (cs ++ ds)
-refused [] ds r h = absurd (let no : ⊥ = cc in no)
-refused (c ∷ cs) ds r h = by (refused cs ds r) c.holds h
-  where
-    by : (Err r ≡ first_refusal cs → Err r ≡ first_refusal (cs ++ ds)) → (b : Bool) → Err r ≡ (if b then Err c.refusal else first_refusal cs) → Err r ≡ (if b then Err c.refusal else first_refusal (cs ++ ds))
-    by _ true h = h
-    by rest false h = rest h
 
 -- where nothing is refused the last cause doesn't hold
 last_fails : (cs : List Cause) (b : Bool) (r : Refusal) → IsTrue (is_ok (first_refusal (cs ++ cause b r ∷ []))) → b ≡ false
@@ -61,10 +37,10 @@ module _ {E : Type 0} (s : State E) where
 
   pub submit_found : (job : Job) (q : List ℕ) (d : QueueDef) → Some d ≡ find_queue q s
       → first_refusal (queue_entry_causes job d ++ host_causes) ≡ first_refusal (submit_causes_at job (Some q) s)
-  submit_found job q d h = (λ i. first_refusal (submit_part job q (sym (present (is_queue q) s.queues d h) i) (h i)))
+  submit_found job q d h = (λ i. first_refusal (submit_part job q (sym (queue_there q s d (sym h)) i) (h i)))
 
   pub submit_absent : (job : Job) (q : List ℕ) → None ≡ find_queue q s → Err (NoQueue q) ≡ first_refusal (submit_causes_at job (Some q) s)
-  submit_absent job q h = (λ i. first_refusal (submit_part job q (sym (absent (is_queue q) s.queues h) i) (h i)))
+  submit_absent job q h = (λ i. first_refusal (submit_part job q (sym (queue_missing q s (sym h)) i) (h i)))
 
   abbrev pub used_causes : List Cause
   used_causes = cause (arrivals_used s) NumbersUsed ∷ []
@@ -74,19 +50,19 @@ module _ {E : Type 0} (s : State E) where
 
   pub move_found : (id : Named) (r : Row E) (q : List ℕ) (d : QueueDef) → Some d ≡ find_queue q s
       → first_refusal (idle_causes id r ++ move_entry_causes r d ++ used_causes) ≡ first_refusal (move_causes id q s r)
-  move_found id r q d h = (λ i. first_refusal (move_part id r q (sym (present (is_queue q) s.queues d h) i) (h i)))
+  move_found id r q d h = (λ i. first_refusal (move_part id r q (sym (queue_there q s d (sym h)) i) (h i)))
 
   pub move_absent : (id : Named) (r : Row E) (q : List ℕ) → None ≡ find_queue q s → Err (NoQueue q) ≡ first_refusal (move_causes id q s r)
-  move_absent id r q h = (λ i. first_refusal (move_part id r q (sym (absent (is_queue q) s.queues h) i) (h i)))
+  move_absent id r q h = (λ i. first_refusal (move_part id r q (sym (queue_missing q s (sym h)) i) (h i)))
 
   abbrev abort_part : List ℕ → Bool → Option QueueDef → List Cause
   abort_part q there found = cause (not there) (NoQueue q) ∷ cause (passes is_pipe_named found) WrongKind ∷ []
 
   pub abort_found : (q : List ℕ) (d : QueueDef) → Some d ≡ find_queue q s → first_refusal (cause (is_pipe_named d) WrongKind ∷ []) ≡ first_refusal (rows_causes (AbortQueue q) s)
-  abort_found q d h = (λ i. first_refusal (abort_part q (sym (present (is_queue q) s.queues d h) i) (h i)))
+  abort_found q d h = (λ i. first_refusal (abort_part q (sym (queue_there q s d (sym h)) i) (h i)))
 
   pub abort_absent : (q : List ℕ) → None ≡ find_queue q s → Err (NoQueue q) ≡ first_refusal (rows_causes (AbortQueue q) s)
-  abort_absent q h = (λ i. first_refusal (abort_part q (sym (absent (is_queue q) s.queues h) i) (h i)))
+  abort_absent q h = (λ i. first_refusal (abort_part q (sym (queue_missing q s (sym h)) i) (h i)))
 
   -- a move that isn't refused has an arrival number left
   pub move_has_number : (id : Named) (q : List ℕ) → IsTrue (is_ok (first_refusal (rows_causes (MoveRequest id q) s))) → s.arrivals < 18446744073709551615

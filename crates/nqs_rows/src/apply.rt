@@ -76,7 +76,9 @@ fn abort_queue(state: &mut HostState, queue: &Name)
     });
 }
 
-/// Makes an edit of requests that isn't refused. It takes no memory.
+/// Makes an edit of requests that `check_rows` lets through. It takes no memory and can't fail. A moved request keeps
+/// its hold, and a released one may be tried by every destination again. `within`: a priority is at most 63. `site`
+/// holds of each state in order: at most 16 hosts.
 pub fn apply_rows(state: &mut HostState, edit: RowsEdit)
     requires site { length state.old.site ≤ 16 }
     requires check { IsTrue (is_ok (first_refusal (rows_causes edit (content state.old)))) }

@@ -8,16 +8,17 @@ ghost use Rattle.nqs_rules.specs.Access.{rank, is_plain_user};
 ghost use Rattle.nqs_rules.specs.Rows.{arrivals_used, delete_row_causes, delete_causes, named_causes, idle_causes, hold_causes, release_causes, move_entry_causes, move_causes, is_pipe_named, rows_causes};
 ghost use Rattle.nqs_rows.specs.OneRow.{row_causes};
 
-use crate::entry::{check_job, has_name};
+use crate::entry::check_job;
 use crate::meant::meant_row;
+use nqs_access::rank;
 use nqs_types::{
-    Entry, Hold, HostState, Kind, Name, Named, QueueDef, Refusal, Row, RowState, RowsEdit,
+    Entry, Hold, HostState, Kind, Name, Named, QueueDef, Rank, Refusal, Row, RowState, RowsEdit,
 };
 
 fn is_plain_user(state: &HostState, user: &Name) -> bool
     ensures { result ≡ is_plain_user (rank user.now (content state.now)) }
 {
-    !has_name(state.managers.as_slice(), user) && !has_name(state.operators.as_slice(), user)
+    rank(state, user) == Rank::User
 }
 
 fn check_delete_row(
@@ -38,7 +39,9 @@ fn check_delete_row(
     Ok(())
 }
 
-/// Whether a user may delete a request: `Ok`, or why not. With `kill` a running one may be deleted too.
+/// Whether a user may delete a request: `Ok`, or the first of these that holds: `NoRequest`; `NotOwner` for one who is
+/// neither its owner, a manager nor an operator; `RequestRunning`, unless `kill` is set. One that is on its way may be
+/// deleted. `site` holds of each state in order: at most 16 hosts.
 pub fn check_delete(state: &HostState, user: &Name, id: &Named, kill: bool) -> Result<(), Refusal>
     requires site { length state.now.site ≤ 16 }
     ensures { result ≡ first_refusal (delete_causes user.now id.now kill (content state.now)) }
@@ -146,7 +149,11 @@ fn check_abort(state: &HostState, queue: &Name) -> Result<(), Refusal>
     }
 }
 
-/// Whether an edit of requests may be made: `Ok`, or why not.
+/// Whether an edit of requests may be made: `Ok`, or the first of these that holds. An abort: `NoQueue`, `WrongKind` for
+/// a pipe queue. The others: `NoRequest`, and then a hold: `RequestRouting`, `RequestRunning`, `IsHeld`; a release:
+/// `NotHeld`; a move: `NoQueue`, `RequestRouting`, `RequestRunning`, the way of its owner and of its limits into that
+/// queue as from a pipe queue, `NumbersUsed`; a new priority: `RequestRouting`, `RequestRunning`.
+/// `site` holds of each state in order: at most 16 hosts.
 pub fn check_rows(state: &HostState, edit: &RowsEdit) -> Result<(), Refusal>
     requires site { length state.now.site ≤ 16 }
     ensures { result ≡ first_refusal (rows_causes edit.now (content state.now)) }

@@ -1,6 +1,7 @@
 //! Requests: whether a submission, a deletion or an edit of one is refused, and what the edits make of a state.
 //!
-//! `entry` has the way into a queue, `meant` the request that is typed. `nqs_rules/specs/Rows.antt` has the rules.
+//! `entry` has the way of a job into a queue, `meant` the request that is typed. `nqs_rules/specs/Rows.antt` has the
+//! rules; `docs/rules.md` says them in words. No call takes memory.
 #![tactic(auto)]
 
 mod apply;
@@ -8,6 +9,8 @@ mod check;
 mod entry;
 mod meant;
 mod submit;
+#[cfg(test)]
+mod tests;
 
 pub use apply::apply_rows;
 pub use check::{check_delete, check_rows};

@@ -1,27 +1,19 @@
 //! The request that is typed as `SEQ.HOST`.
 
-ghost use Rattle.std.specs.Prelude.{◌≡◌, ◌<◌, ◌≤◌, length, position, IfSome};
+ghost use Rattle.std.specs.Prelude.{◌≡◌, ◌<◌, ◌≤◌, length};
 ghost use Rattle.std.specs.Option.{option_copied};
-ghost use Rattle.nqs_types.specs.Ids.{name_eq};
 ghost use Rattle.nqs_types.specs.State.{content};
 ghost use Rattle.nqs_rules.specs.Find.{meant_request, meant_row};
 
+use nqs_access::place_of;
 use nqs_types::{HostId, HostState, Name, Named, RequestId, Row};
-
-// The place of a host in the site.
-fn host_place(site: &[Name], host: &Name) -> Option<usize>
-    ensures place { result ≡ position (name_eq host.now) site.now }
-    ensures within { IfSome result (λ place. place < length site.now) }
-{
-    site.iter().position(|name| *host == *name)
-}
 
 // The request, where its host is of the site.
 pub(crate) fn meant_request(state: &HostState, request: &Named) -> Option<RequestId>
     requires { length state.now.site ≤ 16 }
     ensures { result ≡ meant_request request.now (content state.now) }
 {
-    match host_place(state.site.as_slice(), &request.host) {
+    match place_of(state.site.as_slice(), &request.host) {
         Some(place) => Some(RequestId {
             seq: request.seq,
             host: HostId(place as u8),
@@ -30,7 +22,8 @@ pub(crate) fn meant_request(state: &HostState, request: &Named) -> Option<Reques
     }
 }
 
-/// The row of the request that is typed so, if there is one.
+/// The row of the request that is typed so, if its host is of the site and it lies here. `requires`: at most 16 hosts,
+/// as each state in order has.
 pub fn meant_row<'a>(state: &'a HostState, request: &Named) -> Option<&'a Row>
     requires { length state.now.site ≤ 16 }
     ensures { option_copied result ≡ meant_row request.now (content state.now) }

@@ -44,7 +44,9 @@ fn check_submit_to(state: &HostState, job: &Job, queue: &Name) -> Result<(), Ref
     }
 }
 
-/// Whether a submission may be made: `Ok`, or why not.
+/// Whether a submission into its queue, or else into the default one, may be made: `Ok`, or the first of these that
+/// holds: `NoDefault`; `NoQueue`; the way of its owner and of its limits into that queue; `HostFull` at 10,000 requests
+/// and promises; `NumbersUsed` where the last sequence number, 4,294,967,294, or the last arrival was given.
 pub fn check_submit(state: &HostState, submission: &Submission) -> Result<(), Refusal>
     ensures { result ≡ first_refusal (submit_causes submission.now (content state.now)) }
 {
