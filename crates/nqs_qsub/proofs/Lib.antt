@@ -1,1 +1,4 @@
 pub mod Lines
+pub mod Reads
+pub mod Words
+pub mod Said
