@@ -1,4 +1,4 @@
 pub mod Lines
-pub mod Reads
+pub mod Gives
 pub mod Words
 pub mod Said

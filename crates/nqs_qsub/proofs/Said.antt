@@ -16,7 +16,7 @@ use Rattle.nqs_qsub.specs.Qsub.{merged, both_options, qsub_options, submission, 
 use Rattle.nqs_qsub.specs.Says.{WordsGive, LineGives, GiveLines, ScriptGives, Says}
 use Rattle.nqs_qsub.specs.Faults.{WordsFail, FaultsBelow, ScriptFails, Faults}
 use Rattle.nqs_qsub.specs.Law.{ReadsWhatIsSaid, FindsTheFault, SaysOrFaults, NeverBoth, OneFault, Answers}
-use Rattle.nqs_qsub.proofs.Reads.{Reads, bound, failed, reads-bind, reads-map}
+use Rattle.nqs_qsub.proofs.Gives.{Reads, bound, failed, reads-bind, reads-map}
 use Rattle.nqs_qsub.proofs.Words.{reads-words}
 
 -- ---- lines

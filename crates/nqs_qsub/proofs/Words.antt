@@ -17,11 +17,11 @@ use Rattle.nqs_qsub.specs.Tokens.{Read, ◌>>=◌, fault_at, next_token, text_of
 use Rattle.nqs_qsub.specs.Options.{flag_of, is_given, takes_value, marked, given, path_at, valued, one_option, per_token, read_words}
 use Rattle.nqs_qsub.specs.Says.{MayStand, GivesMark, GivesValue, GivesOption, GiveOptions, WordsGive}
 use Rattle.nqs_qsub.specs.Faults.{FaultsBehind, WordsFail}
-use Rattle.nqs_qsub.proofs.Reads.{Reads, bound, failed, reads-option}
+use Rattle.nqs_qsub.proofs.Gives.{Reads, bound, failed, reads-option}
 
 -- ---- how many options aren't given
 
-missing : Bool → ℕ
+pub missing : Bool → ℕ
 missing true = 0
 missing false = 1
 

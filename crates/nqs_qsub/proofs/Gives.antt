@@ -107,18 +107,16 @@ reads-flag : (t : Bool) (source : Source) (words : List (List ℕ)) (text : List
         ⊎ ((t ≡ true) × ((value : Token) × (next_token source words text token.after ≡ Some value) × ((more : Options) × (valued o f (text_of words text value.at) value.at ≡ Ok more) × (p ≡ record { options = more; number = n + 2; place = value.after })))))
     (λ (x : WordsFault). (t ≡ true) × NoValue source words text line n token o f x)
 reads-flag true source words text line n token o f = (
-  (λ p. ((λ e. inr (refl, (r.0 p).0 e)), from p)),
-  (λ x. ((λ e. (refl, (r.1 x).0 e)), (λ h. (r.1 x).1 h.1))),
+  (λ p. ((λ e. inr (refl, ((reads-value source words text line n token o f).0 p).0 e)), from p)),
+  (λ x. ((λ e. (refl, ((reads-value source words text line n token o f).1 x).0 e)), (λ h. ((reads-value source words text line n token o f).1 x).1 h.1))),
 )
   where
-    r = reads-value source words text line n token o f
-
     from : (p : Progress)
         → ((true ≡ false) × (p ≡ record { options = marked o f; number = n + 1; place = token.after }))
         ⊎ ((true ≡ true) × ((value : Token) × (next_token source words text token.after ≡ Some value) × ((more : Options) × (valued o f (text_of words text value.at) value.at ≡ Ok more) × (p ≡ record { options = more; number = n + 2; place = value.after }))))
         → with_value source words text line n token o f ≡ Ok p
     from p (inl h) = let no = h.0 in cc
-    from p (inr h) = (r.0 p).1 h.1
+    from p (inr h) = ((reads-value source words text line n token o f).0 p).1 h.1
 reads-flag false source words text line n token o f = (
   (λ p. ((λ e. inl (refl, given made p e)), from p)),
   (λ x. ((λ e. cc), (λ h. let no = h.0 in cc))),
