@@ -1,3 +1,5 @@
 pub mod Means
 pub mod Said
 pub mod Shapes
+pub mod Fails
+pub mod Faulted

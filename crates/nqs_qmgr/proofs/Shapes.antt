@@ -1,5 +1,5 @@
 -- Each shape means what the grammar says of it.
-use Rattle.std.proofs.Common.{◌≡◌, ◌↔◌, ◌⊎◌, inl, inr, ℕ, zero, suc, ◌+◌, ◌<◌, ◌≤◌, List, [], ◌∷◌, arith, refl, ap, ◌∙◌, sym, subst, Some, None, Option, Ok, Err, Bool, true, false, is_some}
+use Rattle.std.proofs.Common.{◌≡◌, ◌↔◌, ℕ, zero, suc, ◌+◌, ◌<◌, ◌≤◌, List, [], ◌∷◌, arith, refl, ap, ◌∙◌, sym, subst, Some, None, Option, Ok, Err, Bool, true, false, is_some}
 use Rattle.nqs_types.specs.declared.ids.Named.{Named}
 use Rattle.nqs_types.specs.declared.ids.NamedDest.{NamedDest}
 use Rattle.nqs_types.specs.declared.event.Command.{Command}
@@ -20,7 +20,7 @@ use Rattle.nqs_qmgr.specs.Options.{once, with_priority, with_run_limit, with_pip
 use Rattle.nqs_qmgr.specs.Shapes.{Shape, nothing, alone, one_name, number, name_value, number_and_name, limit_and_name, two_names, dest_and_name, one_request, request_and_name, request_and_priority, name_and_forms, made_queue}
 use Rattle.nqs_qmgr.specs.Lines.{read_alone, read_one_name, read_value, read_value_and_name, last_value, read_one_request, read_request_and_name, read_request_and_priority, read_name_and_forms, read_made_queue, read_shape, shape_of, verbs, nouns, after_verb, qmgr_line}
 use Rattle.nqs_qmgr.specs.Says.{HasHead, HasNoValue, Given, Ends, NameIs, RequestIs, LastName, Alone, OneName, ValueAlone, ValueAndName, LastValue, RequestThen, NameThen, OneRequest, GivesOption, GiveOptions, Options, HasShape, AfterVerb, Says}
-use Rattle.nqs_qmgr.specs.Law.{ReadsWhatIsSaid, SaysOrFaults, NeverBoth}
+use Rattle.nqs_qmgr.specs.Law.{ReadsWhatIsSaid}
 use Rattle.nqs_qmgr.proofs.Means.{Means, bound, bind, means-bind, means-map, means-then, means-last, means-pair, means-pair-after, means-ended, means-Ok}
 use Rattle.nqs_qmgr.proofs.Said.{means-end, means-name, means-request, means-last_name, head_of-Ok, head_of-has, means-head, means-bare, means-valued}
 
@@ -98,7 +98,7 @@ unfolding once
 means-once true head r P hr b = (λ e. cc, λ h. let no = h.0 in cc)
 means-once false head r P hr b = (λ e. (refl, (hr b).0 e), λ h. (hr b).1 h.1)
 
-means-option : (line : List ℕ) (head : Head) (s : Settings) (keyword : Keyword) → Means (with_option line head s keyword) (GivesOption line head s keyword)
+pub means-option : (line : List ℕ) (head : Head) (s : Settings) (keyword : Keyword) → Means (with_option line head s keyword) (GivesOption line head s keyword)
 unfolding with_option with_priority with_run_limit with_pipe_only with_destination
 means-option line head s k.Priority =
     means-once (is_some s.priority) head (valued (number_of 0 63) fault.BadNumber line head >>= (λ n. Ok (record s { priority = Some n }))) _
@@ -114,12 +114,12 @@ means-option line head s k.Destination =
     (means-map (valued dest_of fault.BadName line head) (λ (d : NamedDest). record s { destination = Some d }) (Given dest_of line head) (means-valued dest_of fault.BadName line head))
 means-option line head s _ = λ (more : Settings). (λ e. cc, λ h. absurd h)
 
-missing : Bool → ℕ
+unfoldable pub missing : Bool → ℕ
 missing true = 0
 missing false = 1
 
 -- how many options aren't given
-abbrev left : Settings → ℕ
+abbrev pub left : Settings → ℕ
 left s = missing (is_some s.priority) + missing (is_some s.run_limit) + missing s.pipe_only + missing (is_some s.destination)
 
 given_one : (b : Bool) → b ≡ false → missing b ≡ 1
@@ -127,7 +127,7 @@ unfolding missing
 given_one true e = cc
 given_one false e = refl
 
-fewer : (line : List ℕ) (head : Head) (s : Settings) (keyword : Keyword) (more : Settings) → GivesOption line head s keyword more → left more + 1 ≡ left s
+pub fewer : (line : List ℕ) (head : Head) (s : Settings) (keyword : Keyword) (more : Settings) → GivesOption line head s keyword more → left more + 1 ≡ left s
 unfolding missing
 fewer line head s k.Priority more h = let e = ap left h.1.2 in let g = given_one (is_some s.priority) h.0 in omega arith
 fewer line head s k.RunLimit more h = let e = ap left h.1.2 in let g = given_one (is_some s.run_limit) h.0 in omega arith
@@ -212,13 +212,3 @@ pub reads_said : ReadsWhatIsSaid
 unfolding qmgr_line
 reads_said line =
     means-bind (head_at verbs line 0) (λ (verb : Head). after_verb line verb verb.keyword) (HasHead verbs line 0) (λ (verb : Head). AfterVerb line verb verb.keyword) (means-head verbs line 0) (λ (verb : Head). means-after line verb verb.keyword)
-
-pub says_or_faults : SaysOrFaults
-says_or_faults line = by (qmgr_line line) refl
-  where
-    by : (r : Read Command) → qmgr_line line ≡ r → ((command : Command) × Says line command) ⊎ ((fault : GrammarFault) × (qmgr_line line ≡ Err fault))
-    by (Ok c) is = inl (c, (reads_said line c).0 is)
-    by (Err x) is = inr (x, is)
-
-pub never_both : NeverBoth
-never_both line command fault says faults = let read = (reads_said line command).1 says in cc

@@ -4,4 +4,5 @@ pub mod Shapes
 pub mod Options
 pub mod Lines
 pub mod Says
+pub mod Faults
 pub mod Law

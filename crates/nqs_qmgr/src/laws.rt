@@ -1,11 +1,14 @@
-//! Laws on the definitions: what is read is what the grammar has.
+//! Laws on the definitions: what is read is what the grammar has, and what is answered else is the first fault.
 
-ghost use Rattle.nqs_qmgr.specs.Law.{ReadsWhatIsSaid, SaysOrFaults, NeverBoth};
+ghost use Rattle.nqs_qmgr.specs.Law.{ReadsWhatIsSaid, FindsTheFault, SaysOrFaults, NeverBoth, OneCommand, OneFault};
 
-/// A line is read as a command exactly where the grammar has it; each line says a command or has a first
-/// fault, and none has both.
+/// A line is read as a command exactly where the grammar has it, and a fault is answered exactly where the line
+/// has it first; each line says one command or has one first fault, never both.
 pub fn reads_what_is_said()
     ensures said { ReadsWhatIsSaid }
+    ensures faults { FindsTheFault }
     ensures one { SaysOrFaults }
     ensures never_both { NeverBoth }
+    ensures one_command { OneCommand }
+    ensures one_fault { OneFault }
 {}

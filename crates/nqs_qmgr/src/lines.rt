@@ -4,6 +4,7 @@ ghost use Rattle.std.specs.Prelude.{◌≡◌, length};
 ghost use Rattle.nqs_words.specs.declared.keyword.Keyword.TheVariants as k;
 ghost use Rattle.nqs_qmgr.specs.Heads.{FitsLine};
 ghost use Rattle.nqs_qmgr.specs.Lines.{create_shape, delete_shape, enable_shape, disable_shape, set_shape, other_setting, add_shape, remove_shape, show_code, show_shape, single_shape, shape_of, read_shape, after_verb, qmgr_line};
+ghost use Rattle.nqs_qmgr.specs.Law.{Answers};
 
 use crate::edits::{of_access, of_conf, of_devices, of_limits, of_rows};
 use crate::head::{Head, bare, head_at};
@@ -388,12 +389,19 @@ fn after_verb(line: &[u8], verb: Head) -> Result<Command, GrammarFault>
     line_of(line, head, verb.keyword)
 }
 
-/// What a line says, or its first fault from the left, with its place in bytes. It takes no memory and never
-/// answers that it wants any.
 #[tactic(auto, unfolding(crate::specs::Lines::qmgr_line))]
-pub fn read_qmgr(line: &[u8]) -> Result<Command, GrammarFault>
+fn read_line(line: &[u8]) -> Result<Command, GrammarFault>
     ensures { result ≡ qmgr_line line.now }
 {
     let verb = head_at(verbs(), line, 0)?;
     after_verb(line, verb)
+}
+
+/// What a line says, or its first fault from the left, with its place in bytes. It takes no memory and never
+/// answers that it wants any.
+pub fn read_qmgr(line: &[u8]) -> Result<Command, GrammarFault>
+    ensures read { result ≡ qmgr_line line.now }
+    ensures answers { Answers line.now result }
+{
+    read_line(line)
 }

@@ -1,1 +1,4 @@
 pub mod Lines
+pub mod Gives
+pub mod Words
+pub mod Said

@@ -5,6 +5,7 @@
 //! which word wins and what a submission is. docs/commands.md has it in plain words.
 #![tactic(auto)]
 
+mod laws;
 mod options;
 mod path;
 mod reading;
@@ -12,6 +13,7 @@ mod script;
 mod submission;
 mod token;
 
+pub use laws::reads_what_is_said;
 pub use options::{Flag, Options};
 pub use reading::Progress;
 pub use script::LineKind;

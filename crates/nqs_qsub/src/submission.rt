@@ -4,6 +4,7 @@
 ghost use Rattle.std.specs.Prelude.{◌≡◌, ◌≤◌, length, codes, IfOk};
 ghost use Rattle.nqs_qsub.specs.Tokens.{fault_at};
 ghost use Rattle.nqs_qsub.specs.Qsub.{has_error, merged, both_options, qsub_options, path_text, job, submission, ReadsQsub};
+ghost use Rattle.nqs_qsub.specs.Law.{Answers};
 
 use crate::options::{Options, no_options};
 use crate::reading::read_words;
@@ -146,11 +147,7 @@ fn submission(
     })
 }
 
-/// The submission of this user by these words and this script, or the first fault. A script above 32,768
-/// bytes is `ScriptTooLong` at word 0, before all else; then come the command's words, then the script's
-/// lines. Default paths of outputs are empty. Memory is taken for the paths and the script; where there is
-/// none the answer is `Memory`, at word 0.
-pub fn read_qsub(
+fn read_submission(
     alloc: Global,
     user: &Name,
     words: &[Bytes],
@@ -166,4 +163,20 @@ pub fn read_qsub(
         Ok(submission) => Ok(submission),
         Err(_) => Err(fault_at(0, 0, WordsCause::Memory)),
     }
+}
+
+/// The submission of this user by these words and this script, or the first fault. A script above 32,768
+/// bytes is `ScriptTooLong` at word 0, before all else; then come the command's words, then the script's
+/// lines. Default paths of outputs are empty. Memory is taken for the paths and the script; where there is
+/// none the answer is `Memory`, at word 0.
+pub fn read_qsub(
+    alloc: Global,
+    user: &Name,
+    words: &[Bytes],
+    script: &[u8],
+) -> Result<Submission, WordsFault>
+    ensures read { ReadsQsub user.now words.now script.now result }
+    ensures answers { Answers user.now words.now script.now result }
+{
+    read_submission(alloc, user, words, script)
 }
