@@ -6,3 +6,7 @@ pub mod Draws
 pub mod Counts
 pub mod OneReading
 pub mod Quotes
+pub mod Readings
+pub mod Leaves
+pub mod Spelling
+pub mod Verbs

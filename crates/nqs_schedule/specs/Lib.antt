@@ -9,3 +9,5 @@ pub mod Seen
 pub mod Generated
 pub mod Summary
 pub mod Laws
+pub mod Forms
+pub mod Spelled

@@ -1,5 +1,6 @@
 //! Laws of schedules.
 
+ghost use Rattle.nqs_schedule.specs.Spelled.{ReadsEvents};
 ghost use Rattle.nqs_schedule.specs.Laws.{HasOneSchedule, IsGoodOrBad, HasOneFault, QuotedReadsBack, ReadWasQuoted};
 
 /// Bytes are a schedule in one way, or have one first bad line, and never both.
@@ -14,4 +15,9 @@ pub fn one_reading()
 pub fn quoted_words()
     ensures back { QuotedReadsBack }
     ensures written { ReadWasQuoted }
+{}
+
+/// Words of a line spell an event or have a first fault, never both, and are read so.
+pub fn events_as_written()
+    ensures { ReadsEvents }
 {}

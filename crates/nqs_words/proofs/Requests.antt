@@ -92,30 +92,33 @@ of_le a b h = grind (arith, nat_tests)
 le : (a b : ℕ) → a ≤ b → nat_le a b ≡ true
 le a b h = grind (arith, nat_tests)
 
+-- a number within two bounds
+pub number-is : (low high : ℕ) (text : List ℕ) (n : ℕ) → number_of low high text ≡ Some n → AreDigits text × (n ≡ decimal text) × (low ≤ n) × (n ≤ high)
+unfolding number_of
+number-is low high text n e =
+    let d = tested-Some (are_digits text && (nat_le low (decimal text) && nat_le (decimal text) high)) (decimal text) n e in
+    let p = and_parts (are_digits text) (nat_le low (decimal text) && nat_le (decimal text) high) d.0 in
+    let q = and_parts (nat_le low (decimal text)) (nat_le (decimal text) high) p.1 in
+    (digits_of text p.0, d.1, omega (arith, d.1, of_le low (decimal text) q.0), omega (arith, d.1, of_le (decimal text) high q.1))
+
+pub is-number : (low high : ℕ) (text : List ℕ) (n : ℕ) → AreDigits text → n ≡ decimal text → low ≤ n → n ≤ high → number_of low high text ≡ Some n
+unfolding number_of
+is-number low high text n digits is above below =
+    let fits : (are_digits text && (nat_le low (decimal text) && nat_le (decimal text) high)) ≡ true =
+        and_from _ _ (are text digits) (and_from _ _ (le low (decimal text) (omega (arith, above, is))) (le (decimal text) high (omega (arith, below, is)))) in
+    rw fits (ap (λ (m : ℕ). Some m) (sym is))
+
 pub seq-is : (text : List ℕ) (seq : ℕ) → seq_of text ≡ Some seq → IsSeq text seq
-unfolding seq_of number_of
+unfolding seq_of
 seq-is text seq e = by (begins_with_zero text) refl e
   where
-    by : (t : Bool) → begins_with_zero text ≡ t → cond t None (cond (are_digits text && (nat_le 1 (decimal text) && nat_le (decimal text) 4294967294)) (Some (decimal text)) None) ≡ Some seq → IsSeq text seq
+    by : (t : Bool) → begins_with_zero text ≡ t → cond t None (number_of 1 4294967294 text) ≡ Some seq → IsSeq text seq
     by true is h = cc
-    by false is h =
-        let d = tested-Some (are_digits text && (nat_le 1 (decimal text) && nat_le (decimal text) 4294967294)) (decimal text) seq h in
-        let p = and_parts (are_digits text) (nat_le 1 (decimal text) && nat_le (decimal text) 4294967294) d.0 in
-        let q = and_parts (nat_le 1 (decimal text)) (nat_le (decimal text) 4294967294) p.1 in
-        record {
-          digits = digits_of text p.0;
-          no_zero = is;
-          number = d.1;
-          low = omega (arith, d.1, of_le 1 (decimal text) q.0);
-          high = omega (arith, d.1, of_le (decimal text) 4294967294 q.1);
-        }
+    by false is h = let d = number-is 1 4294967294 text seq h in record { digits = d.0; no_zero = is; number = d.1; low = d.2; high = d.3 }
 
 pub is-seq : (text : List ℕ) (seq : ℕ) → IsSeq text seq → seq_of text ≡ Some seq
-unfolding seq_of number_of
-is-seq text seq s =
-    let fits : (are_digits text && (nat_le 1 (decimal text) && nat_le (decimal text) 4294967294)) ≡ true =
-        and_from _ _ (are text s.digits) (and_from _ _ (le 1 (decimal text) (omega (arith, s.low, s.number))) (le (decimal text) 4294967294 (omega (arith, s.high, s.number)))) in
-    rw (s.no_zero, fits) (ap (λ (n : ℕ). Some n) (sym s.number))
+unfolding seq_of
+is-seq text seq s = rw s.no_zero (is-number 1 4294967294 text seq s.digits s.number s.low s.high)
 
 no-seq : (text : List ℕ) → ((seq : ℕ) → IsSeq text seq → ⊥) → seq_of text ≡ None
 no-seq text never = by (seq_of text) refl
