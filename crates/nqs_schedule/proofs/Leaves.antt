@@ -98,7 +98,7 @@ reads-id site word = reads-bind (or_bad_request (named_of word)) f (IsRequest wo
 
 -- ---- disks
 
-pick : {V : Type 0} (P : V → List ℕ) (c word : List ℕ) (x v : V) (o : Option V) → P x ≡ c → cond (name_eq c word) (Some x) o ≡ Some v → (o ≡ Some v → word ≡ P v) → word ≡ P v
+pub pick : {V : Type 0} (P : V → List ℕ) (c word : List ℕ) (x v : V) (o : Option V) → P x ≡ c → cond (name_eq c word) (Some x) o ≡ Some v → (o ≡ Some v → word ≡ P v) → word ≡ P v
 pick {V} P c word x v o here e others = by (name_eq c word) refl e
   where
     same : ◌≡◌ {A = Option V} (Some x) (Some v) → x ≡ v

@@ -10,3 +10,5 @@ pub mod Readings
 pub mod Leaves
 pub mod Spelling
 pub mod Verbs
+pub mod Saying
+pub mod Total

@@ -11,3 +11,4 @@ pub mod Summary
 pub mod Laws
 pub mod Forms
 pub mod Spelled
+pub mod Sayings

@@ -1,6 +1,6 @@
 -- Requests are read as they are written.
-use Rattle.std.proofs.Common.{◌≡◌, ◌≢◌, ◌⊎◌, inl, inr, ◌↔◌, ℕ, zero, suc, ◌+◌, ◌<◌, ◌≤◌, List, [], ◌∷◌, ◌++◌, length, take, drop, get_or, All, arith, refl, ap, sym, subst, ◌∙◌, append_assoc, Some, None, Option, Result, Ok, Err, Bool, true, false, cond, not, ◌&&◌, ◌==◌, nat_lt, nat_le, is_none}
-use Rattle.std.specs.List.{prefix_len, position_or_len}
+use Rattle.std.proofs.Common.{◌≡◌, ◌≢◌, ◌⊎◌, inl, inr, ℕ, zero, suc, ◌+◌, ◌<◌, ◌≤◌, List, [], ◌∷◌, ◌++◌, length, take, drop, get_or, All, arith, refl, ap, sym, subst, ◌∙◌, append_assoc, Some, None, Option, Result, Ok, Err, Bool, true, false, cond, not, ◌&&◌, ◌==◌, nat_lt, nat_le, is_none}
+use Rattle.std.specs.List.{position_or_len}
 use Rattle.std.proofs.lemmas.Bool.{and_parts, and_from, eqb-true}
 use Rattle.std.proofs.lemmas.Bool.Decides.{nat_tests}
 use Rattle.std.proofs.lemmas.List.{append-nil, length-append, take_at, drop_at}
@@ -10,7 +10,7 @@ use Rattle.nqs_text.specs.Number.{decimal, first_other, AreDigits}
 use Rattle.nqs_words.specs.Values.{is_name, name_of, are_digits, number_of, begins_with_zero, seq_of, place_of, with_host, of_parts, split_named, named_of}
 use Rattle.nqs_words.specs.declared.values.NotNamed.{NotNamed}
 use Rattle.nqs_words.specs.declared.values.NotNamed.TheVariants.{BadNumber, BadName}
-use Rattle.nqs_words.specs.Spelled.{IsSeq, IsRequest, IsAtPoint, IsFront, HasNoSeq, HasNoHost, IsRequestOrNot, ReadsRequests}
+use Rattle.nqs_words.specs.Spelled.{IsSeq, IsAtPoint, IsFront, IsRequestOrNot, ReadsRequests}
 use Rattle.nqs_words.proofs.Names.{name_passes, passing_name}
 
 abbrev IsPlain : List ℕ → Type 0
@@ -61,7 +61,7 @@ named-point front behind h =
     let text = front ++ 46 ∷ behind in
     let front_is : take (length front) text ≡ front = take_at front (46 ∷ behind) (length front) refl in
     let behind_is : drop (length front + 1) text ≡ behind =
-        ap (drop (length front + 1)) (sym (append_assoc front (46 ∷ []) behind)) ∙ drop_at (front ++ 46 ∷ []) behind (length front + 1) (length-append front (46 ∷ [])) in
+    ap (drop (length front + 1)) (sym (append_assoc front (46 ∷ []) behind)) ∙ drop_at (front ++ 46 ∷ []) behind (length front + 1) (length-append front (46 ∷ [])) in
     ap (λ (o : Option ℕ). split_named o text) (place-point front behind h)
     ∙ (ap (λ (l : List ℕ). of_parts (seq_of l) (name_of (drop (length front + 1) text))) front_is ∙ ap (λ (l : List ℕ). of_parts (seq_of front) (name_of l)) behind_is)
 
@@ -105,7 +105,7 @@ pub is-number : (low high : ℕ) (text : List ℕ) (n : ℕ) → AreDigits text 
 unfolding number_of
 is-number low high text n digits is above below =
     let fits : (are_digits text && (nat_le low (decimal text) && nat_le (decimal text) high)) ≡ true =
-        and_from _ _ (are text digits) (and_from _ _ (le low (decimal text) (omega (arith, above, is))) (le (decimal text) high (omega (arith, below, is)))) in
+    and_from _ _ (are text digits) (and_from _ _ (le low (decimal text) (omega (arith, above, is))) (le (decimal text) high (omega (arith, below, is)))) in
     rw fits (ap (λ (m : ℕ). Some m) (sym is))
 
 pub seq-is : (text : List ℕ) (seq : ℕ) → seq_of text ≡ Some seq → IsSeq text seq

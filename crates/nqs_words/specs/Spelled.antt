@@ -1,5 +1,5 @@
 -- How requests are written, apart from how they are read.
-use Rattle.std.specs.Prelude.{◌≡◌, ◌≢◌, ◌⊎◌, ◌↔◌, ◌≤◌, ℕ, true, false, List, [], ◌∷◌, ◌++◌, All, Ok, Err}
+use Rattle.std.specs.Prelude.{◌≡◌, ◌≢◌, ◌⊎◌, ◌↔◌, ◌≤◌, ℕ, false, List, [], ◌∷◌, ◌++◌, All, Ok, Err}
 use Rattle.std.specs.declared.result.Result.{Result}
 use Rattle.nqs_types.specs.Name.{IsName}
 use Rattle.nqs_types.specs.declared.ids.Named.{Named}
