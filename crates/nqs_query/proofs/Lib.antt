@@ -1,2 +1,4 @@
 pub mod Names
 pub mod Texts
+pub mod Stats
+pub mod Deletes

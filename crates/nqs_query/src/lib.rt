@@ -4,11 +4,13 @@
 //! docs/commands.md has both in plain words.
 #![tactic(auto)]
 
+mod laws;
 mod put;
 mod refusal;
 mod reply;
 mod words;
 
+pub use laws::words_as_written;
 pub use put::{put_decimal, put_host, put_id, put_line_end, put_named, put_text, put_word};
 pub use refusal::put_refusal;
 pub use reply::print_reply;

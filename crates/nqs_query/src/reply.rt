@@ -7,7 +7,8 @@ ghost use Rattle.nqs_query.specs.Replies.{reply_line};
 ghost use Rattle.nqs_types.specs.declared.event.Reply.TheVariants as reply;
 
 use crate::put::{put_decimal, put_id, put_line_end, put_text};
-use crate::refusal::{number_of, put_refusal};
+use crate::refusal::put_refusal;
+use nqs_plans::refusal_number;
 use nqs_types::{
     Bytes, GrammarFault, Memory, Name, Refusal, Reply, RequestId, WordsCause, WordsFault,
 };
@@ -126,7 +127,7 @@ fn put_refused(alloc: Global, refusal: &Refusal, out: &mut Vec<u8>) -> Result<()
     ensures { OnOk result (out.new.items ≡ out.old.items ++ reply_line [] (reply.Refused refusal.now)) }
 {
     put_text(b"Refused ", out)?;
-    put_decimal(alloc, u64::from(number_of(refusal)), out)?;
+    put_decimal(alloc, u64::from(refusal_number(refusal)), out)?;
     put_text(b": ", out)?;
     put_refusal(alloc, refusal, out)?;
     put_text(b".", out)?;

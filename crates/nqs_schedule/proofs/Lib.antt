@@ -6,3 +6,9 @@ pub mod Draws
 pub mod Counts
 pub mod OneReading
 pub mod Quotes
+pub mod Readings
+pub mod Leaves
+pub mod Spelling
+pub mod Verbs
+pub mod Saying
+pub mod Total

@@ -1,5 +1,5 @@
 -- Laws of schedules.
-use Rattle.std.specs.Prelude.{◌≡◌, ℕ, List, ◌++◌, length, Some}
+use Rattle.std.specs.Prelude.{◌≡◌, ◌⊎◌, ℕ, List, ◌++◌, length, Some}
 use Rattle.nqs_words.specs.Quoted.{quoted, quoted_text}
 use Rattle.nqs_schedule.specs.declared.cause.Cause.{Cause}
 use Rattle.nqs_schedule.specs.Schedule.{State, IsLine, IsSchedule, IsFirstBad}
@@ -11,6 +11,10 @@ HasOneSchedule = (bytes : List ℕ) (one other : State) → IsSchedule bytes one
 -- where they are a schedule no line is bad
 abbrev pub IsGoodOrBad : Type 0
 IsGoodOrBad = (bytes : List ℕ) (state : State) (number : ℕ) (why : Cause) → IsSchedule bytes state → IsFirstBad bytes number why → ⊥
+
+-- bytes are a schedule, or a line of them is the first bad one
+abbrev pub IsSaidOrBad : Type 0
+IsSaidOrBad = (bytes : List ℕ) → ((state : State) × IsSchedule bytes state) ⊎ ((number : ℕ) × (why : Cause) × IsFirstBad bytes number why)
 
 -- one line at most is the first bad one, from one cause
 abbrev pub HasOneFault : Type 0

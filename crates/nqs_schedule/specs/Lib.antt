@@ -9,3 +9,6 @@ pub mod Seen
 pub mod Generated
 pub mod Summary
 pub mod Laws
+pub mod Forms
+pub mod Spelled
+pub mod Sayings

@@ -18,7 +18,7 @@ mod words;
 
 pub use cause::Cause;
 pub use draw::generate;
-pub use laws::{one_reading, quoted_words};
+pub use laws::{one_reading, quoted_words, words_as_written};
 pub use line::{ReadError, Says};
 pub use plan::{Plan, Verb};
 pub use reader::{LineFault, Schedule, ScheduleFault, read_schedule};

@@ -4,3 +4,4 @@ pub mod Values
 pub mod Quoted
 pub mod Amounts
 pub mod Moments
+pub mod Spelled

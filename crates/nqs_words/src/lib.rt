@@ -5,6 +5,7 @@
 mod amounts;
 mod keyword;
 mod keywords;
+mod laws;
 mod moments;
 mod quoted;
 mod values;
@@ -13,6 +14,7 @@ mod words;
 pub use amounts::{size_of, time_of};
 pub use keyword::{Keyword, spelling};
 pub use keywords::{NoKeyword, keyword_of};
+pub use laws::requests_as_written;
 pub use moments::moment_of;
 pub use quoted::{QuoteFault, Step, read_quoted};
 pub use values::{NotNamed, dest_of, name_of, named_of, number_of, place_of, seq_of};
