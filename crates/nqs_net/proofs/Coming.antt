@@ -21,7 +21,7 @@ use Rattle.nqs_store.proofs.TellsNow.{told_now}
 use Rattle.nqs_node.specs.Carried.{IsOneOrOther}
 use Rattle.nqs_node.specs.Nodes.{history_of, content_of, Tells}
 use Rattle.nqs_node.specs.declared.node.Node.{Node}
-use Rattle.nqs_net.specs.Pasts.{HasCome}
+use Rattle.nqs_net.specs.Pasts.{point, HasCome}
 use Rattle.nqs_net.specs.Worlds.{IsDown}
 
 -- what a node tells is told by each image of its disks
@@ -32,7 +32,7 @@ node_tells node s tells = subst (λ t. EachImage (history_of node) (λ images. I
 pub come_more : (old : Which → History) (node : Node MemDisk ghosts) (s : Plain) (c : Change (List ℕ)) → HasCome old s → CommitsBy (λ planned run. run ≡ planned) (stored_parts c) old (history_of node)
     → IsOneOrOther old (history_of node) (Some c) s → Tells node (applied c s) → HasCome (history_of node) (applied c s)
 come_more old node s c come calls moments tells =
-    (record { histories = old; state = s } ∷ come.0, record { change = c; made = refl; calls = calls; moments = moments; told = node_tells node (applied c s) tells }, come.1)
+    (point old s ∷ come.0, record { change = c; made = refl; calls = calls; moments = moments; told = node_tells node (applied c s) tells }, come.1)
 
 -- no call was made
 pub come_still : (old now : Which → History) (s : Plain) → ((which : Which) → now which ≡ old which) → HasCome old s → HasCome now s

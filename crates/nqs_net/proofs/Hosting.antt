@@ -21,6 +21,7 @@ use Rattle.nqs_rules.specs.Applied.{applied}
 use Rattle.nqs_rules.specs.Step.{step}
 use Rattle.nqs_rules.specs.Stepped.{stored_parts}
 use Rattle.nqs_rules.specs.World.{World as Network, Host, Ran, host_of, put_host, stopped, used, halted_host, halts, crashes_up, makes_change, boot_output, boots_down, steps, all_starts, shuts_down, takes_up, unseen, then_ran}
+use Rattle.nqs_store.specs.Commits.{IsKept}
 use Rattle.nqs_store.specs.Images.{IsTold}
 use Rattle.nqs_store.specs.Disks.{disk_at, histories_of, failing_of}
 use Rattle.nqs_store.specs.declared.disks.Disks.{Disks}
@@ -93,7 +94,7 @@ module _ (h : HostId) (w : Network) (host : Host) (tear : Tear) (packets : List 
         → Turns h (IsUp node) tear sent before after w (makes_change h host Boot (seen.Boot h ∷ []) (filter_map boot_output host.state.rows) w)
     boot_turn node sound tells kept moments same sent before after sends saw =
         kept_turn h w host tear packets faces (seen.Boot h ∷ []) (filter_map boot_output host.state.rows) Boot fails old is.disks (history_of node) (IsUp node) kept
-        (record { up = refl; tells = tells; sound = sound; disks = kept_disks host fails (fails_of node) old (history_of node) is.disks same (stored_parts Boot) (applied Boot host.state) kept; past = come_more old node host.state Boot (down_come disks host is) kept.calls moments tells }) sent before after sends saw
+        (record { up = refl; tells = tells; sound = sound; disks = kept_disks host fails (fails_of node) old (history_of node) is.disks same (stored_parts Boot) (applied Boot host.state) kept; past = come_more old node host.state Boot (down_come disks host is) (let k : IsKept fails [] old (history_of node) = kept in k.calls) moments tells }) sent before after sends saw
 
     pub boot_cut : (now : Which → History) (slot : Slot) (which : Which) (starved : Bool) (before after : List Seen) → after ≡ before ++ seen.Stop h ∷ [] → IsStopped tear now slot → starved ≡ false
         → IsTrue starved ⊎ (IsBlown (fails which) (old which) ⊎ IsCutBy fails old now (Some Boot) host.state which)

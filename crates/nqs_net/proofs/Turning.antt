@@ -172,7 +172,7 @@ module _ (h : HostId) (w : Network) (host : Host) (tear : Tear) (packets : List 
           (sends ∙ ap (λ l. l ++ sent_in (map shown x.outputs)) faces.packets) (saw ∙ ap (λ l. before ++ seen_from h (length l) (map shown x.outputs)) faces.packets)
       by (Some c) each kept told =
           kept_turn h w host tear packets faces [] (map shown x.outputs) c fails old disks (history_of node) (IsUp node) kept
-          (record { up = refl; tells = told; sound = sound; disks = kept_disks host fails (fails_of node) old (history_of node) disks same (stored_parts c) (applied c host.state) kept; past = come_more old node host.state c past kept.calls each told }) sent before after sends saw
+          (record { up = refl; tells = told; sound = sound; disks = kept_disks host fails (fails_of node) old (history_of node) disks same (stored_parts c) (applied c host.state) kept; past = come_more old node host.state c past (let k : IsKept fails (stored_parts c) old (history_of node) = kept in k.calls) each told }) sent before after sends saw
 
   pub cut_step : (now : Which → History) (slot : Slot) (which : Which) (before after : List Seen) → after ≡ before ++ seen.Stop h ∷ [] → IsStopped tear now slot → IsCutBy fails old now x.change host.state which
       → Turns h (IsSlot slot) tear packets before after w (steps h host x w)

@@ -17,6 +17,9 @@ pub record Point : Type 0 where
   pub histories : Which → History
   pub state : Plain
 
+abbrev pub point : (Which → History) → Plain → Point
+point now s = record { histories = now; state = s }
+
 -- whatever images the disks may leave then tell the state
 abbrev pub IsTelling : Point → Type 0
 IsTelling now = EachImage now.histories (λ images. IsTold (images First) (images Spool) now.state)
@@ -45,4 +48,4 @@ Leads (was ∷ points) now = IsNext was now × Leads points was
 
 -- so the disks came from their first calls to what they did now, and the host to this state
 abbrev pub HasCome : (Which → History) → Plain → Type 0
-HasCome now s = (points : List Point) × Leads points (record { histories = now; state = s })
+HasCome now s = (points : List Point) × Leads points (point now s)
