@@ -74,15 +74,19 @@ module _ (me : HostId) (site : List (List ℕ)) where
     first_image is image leaves = sym (fresh_image (content (made_so First)) image (subst (λ (s : State). IsImage s image) is.opened.quiet leaves))
 
     formatted_come : IsFormatted (mem.history_of disks.first) me site → HasCome made_so (formatted me site)
-    formatted_come is = ([], record {
-      root = (two_calls Root).count;
-      first = (let two : moment (made_so First) ≡ 2 = (two_calls First).count in let few : moment (made_so First) ≤ 2 = omega (arith, two) in few);
-      second = (two_calls Second).count;
-      spool = (two_calls Spool).count;
-      told = told_here made_so (formatted me site) (first_image is) (ap (λ (h : History). h.calls) (ap mem.history_of spool ∙ bare Spool)) (formatted_told disks is);
-    })
+    formatted_come is = (
+      [],
+      record {
+        root = (two_calls Root).count;
+        first = (let two : moment (made_so First) ≡ 2 = (two_calls First).count in let few : moment (made_so First) ≤ 2 = omega (arith, two) in few);
+        second = (two_calls Second).count;
+        spool = (two_calls Spool).count;
+        told = told_here made_so (formatted me site) (first_image is) (ap (λ (h : History). h.calls) (ap mem.history_of spool ∙ bare Spool)) (formatted_told disks is);
+      },
+    )
 
-    pub booted : IsFormatted (mem.history_of disks.first) me site → (node : Node MemDisk ghosts) → Tells node (applied Boot (formatted me site)) → IsSoundHost (content_of node) → IsKept (failing_of mem.fails_of disks) [] (histories_of mem.history_of disks) (history_of node) → IsOneOrOther (histories_of mem.history_of disks) (history_of node) (Some Boot) (formatted me site)
+    pub booted : IsFormatted (mem.history_of disks.first) me site → (node : Node MemDisk ghosts) → Tells node (applied Boot (formatted me site)) → IsSoundHost (content_of node)
+        → IsKept (failing_of mem.fails_of disks) [] made_so (history_of node) → IsOneOrOther made_so (history_of node) (Some Boot) (formatted me site)
         → ((which : Which) (i : ℕ) → fails_of node which i ≡ failing_of mem.fails_of disks which i) → IsUp node (new_host site me.0)
     booted is node tells sound kept moments same = record {
       up = refl;
