@@ -170,7 +170,8 @@ fn refused_edits(rt: HostRuntime) -> Result<(), Fail> {
     let (h1, h2, h9) = (Name::read(b"h1")?, Name::read(b"h2")?, Name::read(b"h9")?);
     let state = two_queues(rt.alloc(), [h1, h2], used, road)?;
     assert!(rt; state.site.len() <= 16);
-    assert!(rt; state.rows.len() + state.promises.len() <= 10000);
+    assert!(rt; state.rows.len() <= 5_000);
+    assert!(rt; state.promises.len() <= 5_000);
     for (edit, answer) in [
         (create(long, h1), Ok(())),
         (create(used, h9), Err(Refusal::NoHost(h9))),

@@ -1,5 +1,5 @@
 -- First refusals, after causes that don't hold and by what a look-up found.
-use Rattle.std.proofs.Common.{◌≡◌, ◌∙◌, ℕ, Bool, true, false, not, List, [], ◌∷◌, ◌++◌, Option, None, Some, Ok, Err, find, is_some, if◌then◌else◌, refl, sym, ap}
+use Rattle.std.proofs.Common.{◌≡◌, ◌∙◌, ℕ, Bool, not, List, [], ◌∷◌, Option, None, Some, Ok, Err, sym}
 use Rattle.std.specs.List.{list_any}
 use Rattle.nqs_types.specs.State.{State}
 use Rattle.nqs_types.specs.Keys.{is_queue}

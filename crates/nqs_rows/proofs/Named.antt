@@ -1,5 +1,5 @@
 -- What holds of an edit of one request, for each edit.
-use Rattle.std.proofs.Common.{◌≡◌, ℕ, ◌+◌}
+use Rattle.std.proofs.Common.{◌≡◌, ◌+◌}
 use Rattle.nqs_types.specs.State.{State}
 use Rattle.nqs_rules.specs.Causes.{first_refusal}
 use Rattle.nqs_rules.specs.Find.{meant_request, meant_row}

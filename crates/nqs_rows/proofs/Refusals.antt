@@ -1,5 +1,5 @@
 -- First refusals of lists that are put together, and by what a look-up found.
-use Rattle.std.proofs.Common.{◌≡◌, ◌∙◌, ℕ, ◌+◌, ◌<◌, ◌^◌, Bool, true, false, true≢false, not, List, [], ◌∷◌, ◌++◌, Option, None, Some, Ok, Err, find, is_some, is_ok, nat_le, if◌then◌else◌, refl, sym, ap, arith, IsTrue}
+use Rattle.std.proofs.Common.{◌≡◌, ℕ, ◌+◌, ◌<◌, Bool, true, false, true≢false, not, List, [], ◌∷◌, ◌++◌, Option, None, Some, Err, is_ok, nat_le, if◌then◌else◌, refl, sym, arith, IsTrue}
 use Rattle.std.proofs.lemmas.Bool.Decides.{nat_tests}
 use Rattle.std.specs.List.{list_any}
 use Rattle.nqs_types.specs.State.{State}
@@ -15,7 +15,7 @@ use Rattle.nqs_types.specs.declared.request.Job.{Job}
 use Rattle.nqs_types.specs.declared.request.Row.{Row}
 use Rattle.nqs_types.specs.declared.queue.QueueDef.{QueueDef}
 use Rattle.nqs_types.specs.declared.refusal.Refusal.{Refusal}
-use Rattle.nqs_types.specs.declared.refusal.Refusal.TheVariants.{NoQueue, NoRequest, WrongKind, HostFull, NumbersUsed}
+use Rattle.nqs_types.specs.declared.refusal.Refusal.TheVariants.{NoQueue, WrongKind, HostFull, NumbersUsed}
 use Rattle.nqs_types.specs.declared.edit.RowsEdit.TheVariants.{AbortQueue, MoveRequest}
 
 -- where nothing is refused the last cause doesn't hold

@@ -6,7 +6,7 @@ ghost use Rattle.nqs_types.specs.State.{content};
 ghost use Rattle.nqs_rules.specs.Find.{meant_request, meant_row};
 
 use nqs_access::place_of;
-use nqs_types::{HostId, HostState, Name, Named, RequestId, Row};
+use nqs_types::{HostId, HostState, Named, RequestId, Row};
 
 // The request, where its host is of the site.
 pub(crate) fn meant_request(state: &HostState, request: &Named) -> Option<RequestId>

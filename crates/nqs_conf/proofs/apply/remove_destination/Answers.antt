@@ -1,4 +1,4 @@
-use Rattle.std.proofs.Common.{rules, ap, sym, refl, ◌≡◌, ◌∙◌, Some, None}
+use Rattle.std.proofs.Common.{rules, ap, sym, refl, ◌≡◌, ◌∙◌, Some}
 use Rattle.nqs_types.specs.State.{content}
 use Rattle.nqs_types.proofs.TableLemmas.{change_first-same}
 use Rattle.nqs_rules.specs.Conf.{without_dest}

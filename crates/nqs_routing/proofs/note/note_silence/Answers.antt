@@ -1,4 +1,4 @@
-use Rattle.std.proofs.Common.{rules, arith, ap, sym, ◌≡◌, ◌∙◌}
+use Rattle.std.proofs.Common.{ap, sym, ◌∙◌}
 use Rattle.nqs_types.specs.State.{content}
 use Rattle.nqs_types.specs.declared.request.Peer.{Peer}
 use Rattle.nqs_routing.proofs.Peers.{change_at-set, change_at-none}

@@ -1,4 +1,4 @@
-use Rattle.std.proofs.Common.{rules, ap, ◌≡◌, ◌∙◌}
+use Rattle.std.proofs.Common.{rules, ap, ◌∙◌}
 use Rattle.nqs_types.specs.State.{content}
 use Rattle.nqs_rules.specs.Rows.{change_meant}
 use Rattle.nqs_rows.specs.OneRow.{row_edited}

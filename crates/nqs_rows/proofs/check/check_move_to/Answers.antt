@@ -1,4 +1,4 @@
-use Rattle.std.proofs.Common.{◌∙◌, sym, ◌∷◌, ◌++◌, []}
+use Rattle.std.proofs.Common.{◌∙◌, sym, ◌++◌}
 use Rattle.std.proofs.lemmas.Result.{err_from_is_err_and}
 use Rattle.nqs_types.specs.State.{content}
 use Rattle.nqs_rules.specs.Rows.{idle_causes, move_entry_causes}
