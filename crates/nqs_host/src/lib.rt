@@ -10,3 +10,6 @@ mod format;
 pub use changes::{apply, may_start_again};
 pub use fitting::fits;
 pub use format::formatted;
+
+#[cfg(test)]
+mod tests;

@@ -10,3 +10,6 @@ mod words;
 
 pub use requests::stat_lines;
 pub use show::show_lines;
+
+#[cfg(test)]
+mod tests;

@@ -12,3 +12,5 @@ mod reply;
 pub mod start;
 pub mod step;
 mod submit;
+#[cfg(test)]
+mod tests;

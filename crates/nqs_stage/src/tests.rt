@@ -1,0 +1,231 @@
+//! Each call that takes memory, once, on the same host: alpha, which has a stage to beta and a file that wasn't written.
+ghost use Rattle.std.specs.Prelude.{◌≡◌, ◌∷◌, [], IfOk, length};
+ghost use Rattle.nqs_types.specs.State.{content};
+ghost use Rattle.nqs_stage.specs.Files.{HasDistinctStages};
+
+use crate::{due_stages, on_end, on_stage, on_staged};
+use nqs_types::{
+    Body, Bytes, Change, Extent, FileOut, Hold, HostId, HostState, Items, Job, Key, Keyed, Limits,
+    ListOf, Memory, Name, NameList, Output, Peer, PeerList, PeerNumber, Plan, RequestId, Row,
+    RowState, Spare, Stage, Table,
+};
+use std::alloc::Global;
+use std::rt::HostRuntime;
+
+const ALPHA: HostId = HostId(0);
+
+const BETA: HostId = HostId(1);
+
+const EXTENT: Extent = Extent {
+    place: 7,
+    length: 4,
+};
+
+const PEER: Peer = Peer {
+    next: 1,
+    closed: 0,
+    wait: 0,
+    stage_next: 3,
+    stage_got: 0,
+};
+
+fn name() -> Name {
+    match Name::read(b"plot") {
+        Ok(name) => name,
+        Err(_) => unreachable!(),
+    }
+}
+
+fn text(alloc: Global, bytes: &[u8]) -> Result<Bytes, Memory> {
+    Ok(ListOf::from_vec(Vec::from_slice(alloc, bytes)?))
+}
+
+// A running request whose outputs are one.
+fn row(alloc: Global, host: HostId, out: Bytes) -> Row {
+    let job = Job {
+        name: name(),
+        owner: name(),
+        priority: 31,
+        earliest: 0,
+        rerun: true,
+        limits: Limits {
+            cpu: None,
+            memory: None,
+        },
+        forms: None,
+        out,
+        err: ListOf::new(alloc),
+        join: true,
+    };
+    Row {
+        id: RequestId { seq: 1, host },
+        job,
+        queue: name(),
+        state: RowState::Running,
+        hold: Hold::No,
+        arrival: 1,
+        doomed: false,
+        starts: 1,
+        lost: 0,
+        hops: 0,
+        device: None,
+        refused: ListOf::new(alloc),
+        script: EXTENT,
+    }
+}
+
+fn stage(path: Bytes) -> Stage {
+    Stage {
+        peer: BETA,
+        number: 2,
+        path,
+        bytes: EXTENT,
+    }
+}
+
+fn file(path: Bytes) -> FileOut {
+    FileOut {
+        number: 5,
+        path,
+        bytes: EXTENT,
+    }
+}
+
+// The table of one value.
+fn only<K: Key, V: Keyed<K> + Drop>(alloc: Global, value: V) -> Result<Table<K, V>, Memory>
+    ensures { IfOk result (λ table. table.items ≡ value ∷ []) }
+{
+    let mut table = Table::new(alloc);
+    table.reserve(1)?;
+    table.push(value);
+    Ok(table)
+}
+
+fn state(
+    alloc: Global,
+    site: NameList,
+    peers: PeerList,
+    stages: Table<PeerNumber, Stage>,
+    files: Table<u64, FileOut>,
+) -> HostState
+    ensures site { result.site ≡ site }
+    ensures stages { result.stages ≡ stages }
+{
+    HostState {
+        me: ALPHA,
+        site,
+        queues: Table::new(alloc),
+        complexes: Table::new(alloc),
+        devices: Table::new(alloc),
+        rows: Table::new(alloc),
+        hands: Table::new(alloc),
+        promises: Table::new(alloc),
+        peers,
+        stages,
+        files,
+        managers: ListOf::new(alloc),
+        operators: ListOf::new(alloc),
+        default_queue: None,
+        global_limit: 64,
+        patience: 60,
+        retry_wait: 300,
+        seq: 8,
+        arrivals: 8,
+        file_next: 6,
+        spare_names: Spare::new(alloc),
+        spare_dests: Spare::new(alloc),
+        spare_refused: Spare::new(alloc),
+    }
+}
+
+fn alpha(alloc: Global) -> Result<HostState, Memory>
+    ensures site { IfOk result (λ state. length state.site ≡ 2) }
+    ensures stages { IfOk result (λ state. HasDistinctStages (content state)) }
+{
+    let site = ListOf::from_vec([name(), name()].to_vec(alloc)?);
+    let peers = ListOf::from_vec([PEER, PEER].to_vec(alloc)?);
+    let stages = only(alloc, stage(text(alloc, b"o.1")?))?;
+    let files = only(alloc, file(text(alloc, b"o.2")?))?;
+    Ok(state(alloc, site, peers, stages, files))
+}
+
+fn first(items: &Items<Bytes>) -> &[u8] {
+    match items.as_slice().first() {
+        Some(bytes) => bytes.as_slice(),
+        None => &[],
+    }
+}
+
+// What goes out at a place: the number of a file or a stage, and its bytes.
+fn output(plan: &Plan, place: usize) -> (&'static str, u64, &[u8]) {
+    match plan.outputs.as_slice().get(place) {
+        Some(Output::File { file, bytes, .. }) => ("file", *file, bytes.as_slice()),
+        Some(Output::Send(message)) => sent(&message.body),
+        Some(Output::Ended { status, .. }) => ("ended", u64::from(*status), &[]),
+        _ => ("another", 0, &[]),
+    }
+}
+
+fn sent(body: &Body) -> (&'static str, u64, &[u8]) {
+    match body {
+        Body::Stage { number, bytes, .. } => ("stage", *number, bytes.as_slice()),
+        Body::Staged { number } => ("staged", *number, &[]),
+        _ => ("another", 0, &[]),
+    }
+}
+
+fn change(plan: &Plan) -> &'static str {
+    match &plan.change {
+        Some(Change::Ended { .. }) => "ended",
+        Some(Change::StageGot { .. }) => "got",
+        Some(Change::StageGone { .. }) => "gone",
+        Some(_) => "another",
+        None => "nothing",
+    }
+}
+
+#[test]
+fn outputs_are_one_file(rt: HostRuntime) -> Result<(), Memory> {
+    let alloc = rt.alloc();
+    let row = row(alloc, ALPHA, text(alloc, b"o.1")?);
+    let out = text(alloc, b"done")?;
+    let err = text(alloc, b"late")?;
+    let state = alpha(alloc)?;
+    let plan = on_end(alloc, &state, &row, 4, &out, &err)?;
+    assert_eq!(rt;
+        (change(&plan), first(&plan.puts)),
+        ("ended", b"donelate".as_slice())
+    );
+    assert_eq!(rt; output(&plan, 0), ("ended", 4, b"".as_slice()));
+    assert_eq!(rt; output(&plan, 1), ("file", 6, b"donelate".as_slice()));
+    Ok(())
+}
+
+#[test]
+fn stage_becomes_a_file(rt: HostRuntime) -> Result<(), Memory> {
+    let alloc = rt.alloc();
+    let path = text(alloc, b"o.1")?;
+    let bytes = text(alloc, b"done")?;
+    let state = alpha(alloc)?;
+    let plan = on_stage(alloc, &state, BETA, 1, &path, &bytes)?;
+    assert_eq!(rt;
+        (change(&plan), first(&plan.puts)),
+        ("got", b"done".as_slice())
+    );
+    assert_eq!(rt; output(&plan, 0), ("staged", 1, b"".as_slice()));
+    assert_eq!(rt; output(&plan, 1), ("file", 6, b"done".as_slice()));
+    Ok(())
+}
+
+#[test]
+fn stage_goes_out_until_it_arrived(rt: HostRuntime) -> Result<(), Memory> {
+    let alloc = rt.alloc();
+    let state = alpha(alloc)?;
+    let plan = due_stages(alloc, &state)?;
+    assert_eq!(rt; output(&plan, 0), ("stage", 2, b"".as_slice()));
+    assert_eq!(rt; output(&plan, 1), ("file", 5, b"".as_slice()));
+    assert_eq!(rt; (plan.outputs.len(), plan.reads.len()), (2, 2));
+    let plan = on_staged(alloc, &state, BETA, 2)?;
+    assert_eq!(rt; (change(&plan), plan.outputs.len()), ("gone", 0));
+    Ok(())
+}
