@@ -25,6 +25,9 @@ use std::alloc::Global;
 // The number of a refusal for a request that exists.
 const EXISTS: u8 = 33;
 
+// Rows and promises that a host has at most.
+const MOST_HELD: usize = 10_000;
+
 // Whether the number of a handover from the peer is closed.
 pub(crate) fn is_closed(state: &HostState, peer: HostId, number: u64) -> bool
     ensures { result ≡ closes number (find_peer peer (content state.now)) }
@@ -62,7 +65,7 @@ fn is_full(state: &HostState, peer: HostId) -> bool
     let others = state
         .promises
         .count(|promise: &Promise| !is_promise_of(promise, peer));
-    others >= 10000usize.saturating_sub(state.rows.len())
+    others >= MOST_HELD.saturating_sub(state.rows.len())
 }
 
 /// Whether a job may come into the queue from a pipe queue: the first refusal of the way in and of the limits.

@@ -154,7 +154,7 @@ fn is_full(state: &HostState) -> bool
     MOST_HELD <= state.rows.len() + state.promises.len()
 }
 
-fn is_promise_of(promise: &Promise, peer: HostId) -> bool
+pub(crate) fn is_promise_of(promise: &Promise, peer: HostId) -> bool
     ensures { result ≡ is_promise_of peer promise.now }
 {
     peer == promise.peer

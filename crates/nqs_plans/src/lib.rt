@@ -2,6 +2,7 @@
 //!
 //! `plan` has the shapes of plans, `each` what is made of the values of a table, `look` look-ups,
 //! `copies` copies of what a plan holds. `nqs_rules/specs/Stepped.antt` says what a plan is of a step.
+//! A call fails for want of memory alone; a plan that it was given is lost then.
 #![tactic(auto)]
 
 mod copies;

@@ -169,7 +169,7 @@ fn ending(alloc: Global, plan: Plan, id: RequestId, parts: Vec<Part>) -> Result<
     })
 }
 
-/// The job of a row ended: its outputs become files of this host where the request was submitted here, and else
+/// The job of a row ended with this exit status and these bytes of output and error output: its outputs become files of this host where the request was submitted here, and else
 /// stages to the host where it was, the first of which goes out where no other one to that host waits.
 pub fn on_end(
     alloc: Global,

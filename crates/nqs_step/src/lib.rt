@@ -2,7 +2,7 @@
 //!
 //! `step` has the events, `command` the commands with `submit`, `delete` and `edit`, `start` the starts. Each is
 //! the rule of its name in `nqs_rules` (specs/Step.antt and specs/Start.antt). Neither changes the state: the plan
-//! that they give is made of it once its change is on the disk.
+//! that they give is made of it once its change is on the disk. They fail for want of memory alone.
 #![tactic(auto)]
 
 mod command;

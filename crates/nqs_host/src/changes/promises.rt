@@ -11,15 +11,10 @@ ghost use Rattle.nqs_rules.specs.Applied.{is_promise_of, promised, add_promised,
 
 use crate::changes::peers::change_peer;
 use crate::changes::rows::new_row;
+use crate::fitting::is_promise_of;
 use nqs_types::{
     Carried, Extent, HostId, HostState, Name, Peer, PeerNumber, Promise, Row, RowState,
 };
-
-fn is_promise_of(promise: &Promise, peer: HostId) -> bool
-    ensures { result ≡ is_promise_of peer promise.now }
-{
-    peer == promise.peer
-}
 
 // Each number of the host up to this one is closed.
 fn close(state: &mut HostState, peer: HostId, number: u64)
