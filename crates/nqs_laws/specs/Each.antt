@@ -1,5 +1,5 @@
 -- What holds in each world that a run reaches, and of each change that a host keeps in it.
-use Rattle.std.specs.Prelude.{◌≡◌, ◌⊎◌, ℕ, List, [], ◌∷◌}
+use Rattle.std.specs.Prelude.{◌≡◌, ◌⊎◌, ℕ, List, [], ◌∷◌, ◌++◌}
 use Rattle.nqs_types.specs.State.{Plain}
 use Rattle.nqs_rules.specs.Applied.{applied}
 use Rattle.nqs_rules.specs.Edits.{change_at}
@@ -13,6 +13,14 @@ use Rattle.nqs_laws.specs.Sane.{AreSane, IsSite}
 -- what holds in each world that a list of events on 1 to 16 hosts reaches
 abbrev pub InEachWorld : (World → Type 0) → Type 0
 InEachWorld holds = (site : List (List ℕ)) (acts : List Act) → IsSite site → AreSane acts → holds (run_of site acts).world
+
+-- what holds of such a world and of each that the run reaches later
+abbrev pub AsRunsGoOn : (World → World → Type 0) → Type 0
+AsRunsGoOn holds = (site : List (List ℕ)) (acts more : List Act) → IsSite site → AreSane (acts ++ more) → holds (run_of site acts).world (run_of site (acts ++ more)).world
+
+-- what holds of each history, and of the states that it begins with
+abbrev pub InEachRun : (List Plain → List Note → Type 0) → Type 0
+InEachRun holds = (site : List (List ℕ)) (acts : List Act) → IsSite site → AreSane acts → holds (states_of (new_world site)) (history acts (new_world site))
 
 -- something said of a kept change: of the states of all hosts before it, the host that keeps it, its cause, and itself
 abbrev pub OfChange : Type 1
@@ -32,4 +40,4 @@ SomeKept holds states (Kept h why c ∷ ns) = (holds states h why c) ⊎ (SomeKe
 
 -- what holds of each change that is kept in any run of 1 to 16 hosts
 abbrev pub InEachHistory : OfChange → Type 0
-InEachHistory holds = (site : List (List ℕ)) (acts : List Act) → IsSite site → AreSane acts → EachKept holds (states_of (new_world site)) (history acts (new_world site))
+InEachHistory holds = InEachRun (EachKept holds)

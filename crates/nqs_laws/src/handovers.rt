@@ -1,5 +1,5 @@
 //! Laws of handovers from host to host, in every world that a list of events on 1 to 16 hosts reaches, whatever stopped and whichever packets were lost, repeated or late.
-ghost use Rattle.std.specs.Prelude.{◌≡◌, ◌++◌, ◌||◌, List, ℕ, Some, true, false, is_some};
+ghost use Rattle.std.specs.Prelude.{◌≡◌, ◌||◌, List, ℕ, Some, true, false, is_some};
 ghost use Rattle.nqs_types.specs.State.{Plain};
 ghost use Rattle.nqs_types.specs.declared.ids.HostId.{HostId};
 ghost use Rattle.nqs_types.specs.declared.request.Carried.{Carried};
@@ -8,11 +8,8 @@ ghost use Rattle.nqs_types.specs.declared.message.Message.{Message};
 ghost use Rattle.nqs_types.specs.declared.message.Body.TheVariants.{Offer, Commit};
 ghost use Rattle.nqs_rules.specs.Find.{has_row, find_hand, find_peer, find_promise};
 ghost use Rattle.nqs_rules.specs.Handover.{is_given_here};
-ghost use Rattle.nqs_rules.specs.World.{Act};
-ghost use Rattle.nqs_rules.specs.Run.{run_of};
-ghost use Rattle.nqs_laws.specs.Each.{InEachWorld};
+ghost use Rattle.nqs_laws.specs.Each.{InEachWorld, AsRunsGoOn};
 ghost use Rattle.nqs_laws.specs.Handovers.{IsStateOf, WasSent, is_open, is_closed_for, is_taken_for, is_last_given, AreInStep, IsTrueOf};
-ghost use Rattle.nqs_laws.specs.Sane.{AreSane, IsSite};
 
 /// What two hosts have of a handover goes together: an offered number isn't closed at its receiver, a committed one is promised or closed there, and a promised one isn't closed.
 pub fn handovers_are_in_step()
@@ -31,12 +28,12 @@ pub fn messages_stay_true()
 
 /// A closed number stays closed, however the run goes on.
 pub fn closed_numbers_stay_closed()
-    ensures { (site : List (List ℕ)) (acts more : List Act) → IsSite site → AreSane (acts ++ more) → (from to : HostId) (number : ℕ) (t u : Plain) → IsStateOf (run_of site acts).world to t → IsStateOf (run_of site (acts ++ more)).world to u → is_closed_for from number t ≡ true → is_closed_for from number u ≡ true }
+    ensures { AsRunsGoOn (λ v w. (from to : HostId) (number : ℕ) (t u : Plain) → IsStateOf v to t → IsStateOf w to u → is_closed_for from number t ≡ true → is_closed_for from number u ≡ true) }
 {}
 
 /// What was promised stays promised until its number is closed, however the run goes on.
 pub fn promises_go_when_closed()
-    ensures { (site : List (List ℕ)) (acts more : List Act) → IsSite site → AreSane (acts ++ more) → (from to : HostId) (number : ℕ) (t u : Plain) → IsStateOf (run_of site acts).world to t → IsStateOf (run_of site (acts ++ more)).world to u → is_taken_for from number t ≡ true → is_taken_for from number u ≡ true }
+    ensures { AsRunsGoOn (λ v w. (from to : HostId) (number : ℕ) (t u : Plain) → IsStateOf v to t → IsStateOf w to u → is_taken_for from number t ≡ true → is_taken_for from number u ≡ true) }
 {}
 
 /// While an offer is open, none of its packets finds its request at the receiver: it is never refused because the request exists.

@@ -6,7 +6,7 @@ ghost use Rattle.nqs_rules.specs.Run.{run_of, states_of};
 ghost use Rattle.nqs_laws.specs.History.{history};
 ghost use Rattle.nqs_laws.specs.Launches.{is_acknowledged, lies, was_taken_out};
 ghost use Rattle.nqs_laws.specs.Sane.{AreSane, IsSite};
-ghost use Rattle.nqs_laws.specs.Each.{InEachHistory, SomeKept};
+ghost use Rattle.nqs_laws.specs.Each.{InEachHistory, InEachRun, SomeKept};
 ghost use Rattle.nqs_laws.specs.TakenOut.{WentOut};
 ghost use Rattle.nqs_rules.specs.Applied.{applied};
 ghost use Rattle.nqs_rules.specs.Edits.{change_at};
@@ -24,5 +24,5 @@ pub fn what_is_taken_out_stays_out()
 /// Each change that takes a request out of the network does it for one of three reasons: it is deleted, it has finished, or a boot of its host found it running and it may not start again. What was taken out went by such a change.
 pub fn requests_go_out_for_a_reason()
     ensures each { InEachHistory (λ states h why c. (x : RequestId) → lies x states ≡ true → lies x (change_at h.0 (applied c) states) ≡ false → WentOut x states h why c) }
-    ensures taken { (site : List (List ℕ)) (acts : List Act) → IsSite site → AreSane acts → (x : RequestId) → was_taken_out x (states_of (new_world site)) (history acts (new_world site)) ≡ true → SomeKept (WentOut x) (states_of (new_world site)) (history acts (new_world site)) }
+    ensures taken { InEachRun (λ first notes. (x : RequestId) → was_taken_out x first notes ≡ true → SomeKept (WentOut x) first notes) }
 {}
