@@ -3,3 +3,4 @@ pub mod Said
 pub mod Shapes
 pub mod Fails
 pub mod Faulted
+pub mod Decided

@@ -1,8 +1,12 @@
 -- What is read is what the grammar has, and the fault that is answered is the line's first one.
-use Rattle.std.specs.Prelude.{◌≡◌, ◌↔◌, ◌⊎◌, ℕ, List, Ok, Err}
+use Rattle.std.specs.Prelude.{◌≡◌, ◌↔◌, ◌⊎◌, ℕ, ◌≤◌, List, length, Some, Ok, Err, slice_range}
 use Rattle.std.specs.declared.result.Result.{Result}
 use Rattle.nqs_types.specs.declared.event.Command.{Command}
 use Rattle.nqs_types.specs.declared.fault.GrammarFault.{GrammarFault}
+use Rattle.nqs_types.specs.declared.fault.GrammarFault.TheVariants as fault
+use Rattle.nqs_words.specs.Words.{next_word}
+use Rattle.nqs_words.specs.declared.words.Word.{Word}
+use Rattle.nqs_words.specs.declared.words.Gaps.TheVariants.{SpacesAndTabs}
 use Rattle.nqs_qmgr.specs.Lines.{qmgr_line}
 use Rattle.nqs_qmgr.specs.Says.{Says}
 use Rattle.nqs_qmgr.specs.Faults.{Faults}
@@ -30,6 +34,34 @@ OneCommand = (line : List ℕ) (c d : Command) → Says line c → Says line d �
 -- none has two first faults
 abbrev pub OneFault : Type 0
 OneFault = (line : List ℕ) (f g : GrammarFault) → Faults line f → Faults line g → f ≡ g
+
+-- ---- a fault is decided by the words up to it
+
+-- the words of the one line that end up to a byte stand in the other one too, with the same bytes
+abbrev pub SharesWords : List ℕ → List ℕ → ℕ → Type 0
+SharesWords line other end =
+    ((place : ℕ) (word : Word) → next_word SpacesAndTabs line place ≡ Some word → word.end ≤ end → next_word SpacesAndTabs other place ≡ Some word)
+    × ((from to : ℕ) → to ≤ end → slice_range line from to ≡ slice_range other from to)
+
+abbrev pub place_of : GrammarFault → ℕ
+place_of (fault.UnknownWord place) = place
+place_of (fault.Ambiguous place) = place
+place_of (fault.Missing place) = place
+place_of (fault.Extra place) = place
+place_of (fault.BadName place) = place
+place_of (fault.BadNumber place) = place
+place_of fault.Memory = 0
+
+-- the fault is told at the word, within it or right behind it
+abbrev pub IsAt : GrammarFault → Word → Type 0
+IsAt f word = (word.start ≤ place_of f) × (place_of f ≤ word.end)
+
+-- a fault other than a missing word is at a word, and whatever follows that word, the line has this fault: no
+-- command begins with these words
+abbrev pub NoCommandBeginsSo : Type 0
+NoCommandBeginsSo = (line : List ℕ) (f : GrammarFault) → Faults line f
+    → (f ≡ fault.Missing (length line))
+    ⊎ ((word : Word) × IsAt f word × ((other : List ℕ) → SharesWords line other word.end → Faults other f × ((command : Command) → Says other command → ⊥)))
 
 -- the answer to a line: what it says, or its first fault
 abbrev pub Answers : List ℕ → Result Command GrammarFault → Type 0

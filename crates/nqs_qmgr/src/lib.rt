@@ -15,7 +15,7 @@ mod shape;
 mod value;
 
 pub use head::Head;
-pub use laws::reads_what_is_said;
+pub use laws::{no_command_begins_with_a_fault, reads_what_is_said};
 pub use lines::read_qmgr;
 pub use options::Settings;
 pub use value::Amount;
