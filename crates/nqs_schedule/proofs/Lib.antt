@@ -12,3 +12,4 @@ pub mod Spelling
 pub mod Verbs
 pub mod Saying
 pub mod Total
+pub mod Writings

@@ -24,7 +24,7 @@ use Rattle.nqs_schedule.specs.Events.{text_of_word, words_behind, qmgr_text, eve
 use Rattle.nqs_schedule.specs.Says.{further_host, hosts_from, some_hosts, hosts_of, is_hosts, hosts_say, event_says, verb_says, first_says, words_say}
 use Rattle.nqs_schedule.specs.Forms.{verb_text, form_of}
 use Rattle.nqs_schedule.specs.Spelled.{IsNone, HasBadQuote, Spells, Faults}
-use Rattle.nqs_schedule.specs.Sayings.{IsOfSite, IsNewHost, NoNewHost, NameHosts, NameNoHosts, HostsSay, HostsFault, FirstSays, WordsSay, NamesSite, FirstFaults, WordsFault, WordsSayOrFault, ReadsWords}
+use Rattle.nqs_schedule.specs.Sayings.{is_of_site, IsNewHost, NoNewHost, NameHosts, NameNoHosts, HostsSay, HostsFault, FirstSays, WordsSay, NamesSite, FirstFaults, WordsFault, WordsSayOrFault, ReadsWords}
 use Rattle.nqs_schedule.proofs.Readings.{Reads, given, refused, apart, reads-Ok, reads-Err, reads-bind, reads-map, reads-cause, reads-same}
 use Rattle.nqs_schedule.proofs.Leaves.{pick}
 use Rattle.nqs_schedule.proofs.Verbs.{events_are_read}

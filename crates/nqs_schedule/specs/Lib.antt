@@ -12,3 +12,4 @@ pub mod Laws
 pub mod Forms
 pub mod Spelled
 pub mod Sayings
+pub mod Written

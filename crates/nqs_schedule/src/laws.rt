@@ -2,6 +2,7 @@
 
 ghost use Rattle.nqs_schedule.specs.Spelled.{ReadsEvents};
 ghost use Rattle.nqs_schedule.specs.Sayings.{ReadsWords};
+ghost use Rattle.nqs_schedule.specs.Written.{SplitsLines};
 ghost use Rattle.nqs_schedule.specs.Laws.{HasOneSchedule, IsSaidOrBad, IsGoodOrBad, HasOneFault, QuotedReadsBack, ReadWasQuoted};
 
 /// Bytes are a schedule in one way, or have one first bad line, and never both.
@@ -19,9 +20,10 @@ pub fn quoted_words()
     ensures written { ReadWasQuoted }
 {}
 
-/// Words of a line spell an event or have a first fault, never both, and are read so: `events` for the words
-/// behind a first one that is known, `words` for all words of a line.
+/// A line holds words in one way and is split into them; they spell an event or have a first fault, never both, and
+/// are read so: `events` for the words behind a first one that is known, `words` for all words of a line.
 pub fn words_as_written()
+    ensures split { SplitsLines }
     ensures events { ReadsEvents }
     ensures words { ReadsWords }
 {}
