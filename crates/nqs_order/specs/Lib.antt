@@ -1,1 +1,3 @@
+pub mod Best
 pub mod Places
+pub mod Waiting

@@ -5,7 +5,8 @@ ghost use Rattle.std.specs.Option.{option_map};
 ghost use Rattle.nqs_types.specs.State.{content};
 ghost use Rattle.nqs_rules.specs.Order.{is_greater, is_candidate, next_queue, print_on, is_local, move_to, choice_for, pick};
 
-use crate::eligible::first_row;
+use crate::best::best_of;
+use crate::eligible::{first_row, has_eligible};
 use crate::limits::is_within_limits;
 use nqs_devices::free_device;
 use nqs_routing::destination_in;
@@ -14,7 +15,7 @@ use nqs_types::{Choice, HostState, Kind, QueueDef, Row};
 fn is_candidate(state: &HostState, queue: &QueueDef, now: u64) -> bool
     ensures { result ≡ is_candidate now (content state.now) queue.now }
 {
-    queue.started && is_within_limits(state, queue) && first_row(state, queue, now).is_some()
+    queue.started && has_eligible(state, queue, now) && is_within_limits(state, queue)
 }
 
 fn is_greater(one: &QueueDef, other: &QueueDef) -> bool
@@ -26,7 +27,8 @@ fn is_greater(one: &QueueDef, other: &QueueDef) -> bool
 fn next_queue(state: &HostState, now: u64) -> Option<(usize, &QueueDef)>
     ensures { option_map (λ p. (p.0, p.1.now)) result ≡ next_queue now (content state.now) }
 {
-    state.queues.best(
+    best_of(
+        &state.queues,
         |queue: &QueueDef| is_candidate(state, queue, now),
         |one: &QueueDef, other: &QueueDef| is_greater(one, other),
     )

@@ -1,11 +1,14 @@
 //! The first row of a queue that may start.
 
-ghost use Rattle.std.specs.Prelude.{◌≡◌, length, filter};
+ghost use Rattle.std.specs.Prelude.{◌≡◌, ◌&&◌, length, filter, nat_le, is_some};
+ghost use Rattle.std.specs.List.{list_any};
 ghost use Rattle.std.specs.Option.{option_map};
 ghost use Rattle.nqs_types.specs.State.{content};
 ghost use Rattle.nqs_rules.specs.Order.{is_active_of, below, kind_allows, is_eligible, comes_before, first_eligible};
+ghost use Rattle.nqs_order.specs.Waiting.{is_waiting};
 ghost use Rattle.nqs_order.specs.Places.{first_place};
 
+use crate::best::best_of;
 use crate::limits::is_active_in;
 use nqs_devices::free_device;
 use nqs_routing::destination_in;
@@ -42,13 +45,20 @@ fn kind_allows(state: &HostState, queue: &QueueDef, now: u64, row: &Row) -> bool
     }
 }
 
+// Whether the row is queued in the queue, isn't held and may start by its time. What tells most is looked at first.
+fn is_waiting(queue: &QueueDef, now: u64, row: &Row) -> bool
+    ensures { result ≡ is_waiting queue.now now row.now }
+{
+    row.state == RowState::Queued
+        && row.hold == Hold::No
+        && row.job.earliest <= now
+        && queue.name == row.queue
+}
+
 fn is_eligible(state: &HostState, queue: &QueueDef, now: u64, row: &Row) -> bool
     ensures { result ≡ is_eligible queue.now now (content state.now) row.now }
 {
-    queue.name == row.queue
-        && row.state == RowState::Queued
-        && row.hold == Hold::No
-        && row.job.earliest <= now
+    is_waiting(queue, now, row)
         && user_allows(state, queue, &row.job.owner)
         && kind_allows(state, queue, now, row)
 }
@@ -61,6 +71,22 @@ pub fn comes_before(one: &Row, other: &Row) -> bool
         || (one.job.priority == other.job.priority && one.arrival < other.arrival)
 }
 
+// Whether a row of a queue is eligible. It looks no further than the first one.
+fn any_eligible(state: &HostState, queue: &QueueDef, now: u64) -> bool
+    ensures { result ≡ list_any (is_eligible queue.now now (content state.now)) state.now.rows.items }
+{
+    state
+        .rows
+        .any(|row: &Row| is_eligible(state, queue, now, row))
+}
+
+// Whether a queue has a first eligible row.
+pub(crate) fn has_eligible(state: &HostState, queue: &QueueDef, now: u64) -> bool
+    ensures { result ≡ is_some (first_eligible queue.now now (content state.now)) }
+{
+    any_eligible(state, queue, now)
+}
+
 // A queue's first eligible row, with its place among the rows.
 pub(crate) fn first_row<'a>(
     state: &'a HostState,
@@ -69,7 +95,8 @@ pub(crate) fn first_row<'a>(
 ) -> Option<(usize, &'a Row)>
     ensures { option_map (λ p. (p.0, p.1.now)) result ≡ first_eligible queue.now now (content state.now) }
 {
-    state.rows.best(
+    best_of(
+        &state.rows,
         |row: &Row| is_eligible(state, queue, now, row),
         |one: &Row, other: &Row| comes_before(one, other),
     )
