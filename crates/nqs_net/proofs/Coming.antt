@@ -32,7 +32,7 @@ node_tells node s tells = subst (λ t. EachImage (history_of node) (λ images. I
 pub come_more : (old : Which → History) (node : Node MemDisk ghosts) (s : Plain) (c : Change (List ℕ)) → HasCome old s → CommitsBy (λ planned run. run ≡ planned) (stored_parts c) old (history_of node)
     → IsOneOrOther old (history_of node) (Some c) s → Tells node (applied c s) → HasCome (history_of node) (applied c s)
 come_more old node s c come calls moments tells =
-    (point old s ∷ come.0, record { change = c; made = refl; calls = calls; moments = moments; told = node_tells node (applied c s) tells }, come.1)
+    (point old s ∷ come.0, (record { change = c; made = refl; calls = calls; moments = moments; told = node_tells node (applied c s) tells }, come.1))
 
 -- no call was made
 pub come_still : (old now : Which → History) (s : Plain) → ((which : Which) → now which ≡ old which) → HasCome old s → HasCome now s
