@@ -1,5 +1,5 @@
 -- The end of a promise closes its number, and nothing else closes one that has a handover.
-use Rattle.std.proofs.Common.{◌≡◌, ℕ, ◌⊎◌, inl, inr, ◌+◌, ◌-◌, ◌<◌, ◌≤◌, Bool, true, false, nat_le, List, [], ◌∷◌, length, slice_get, Option, None, Some, is_some, true≢false, refl, sym, ap, subst, ◌∙◌, arith, if◌then◌else◌}
+use Rattle.std.proofs.Common.{◌≡◌, ℕ, ◌⊎◌, inl, inr, ◌+◌, ◌-◌, ◌<◌, ◌≤◌, Bool, true, false, nat_le, List, [], ◌∷◌, length, Option, None, Some, true≢false, refl, sym, ap, subst, ◌∙◌, arith, if◌then◌else◌}
 use Rattle.std.proofs.lemmas.Bool.{eqb-true, leb-true, leb-false}
 use Rattle.std.proofs.lemmas.Option.{same_Some}
 use Rattle.nqs_types.specs.State.{Plain}
@@ -21,7 +21,7 @@ use Rattle.nqs_laws.specs.Handovers.{is_closed_for}
 use Rattle.nqs_laws.specs.Closed.{HasState, IsClosedBy, HasNoHand, MayClose, ClosesOwn}
 use Rattle.nqs_laws.proofs.Frame.{Moment, silent, Way, change_by, why_by}
 use Rattle.nqs_laws.proofs.Sound.{IsSound, Suits, sound_frames, get-here}
-use Rattle.nqs_laws.proofs.Pair.{Offer, NoOffer, Open, Given, Pledge, NoPledge, Pledged, Pair, IsNoOffer, OfferOk, PledgeOk, Ok, Move, Stays, Offers, Withdraws, Commits, Finishes, Pledges, Accepts, Drops, moved, pair, closed_by, May}
+use Rattle.nqs_laws.proofs.Pair.{Offer, NoOffer, Open, Given, Pledge, NoPledge, Pledged, IsNoOffer, PledgeOk, Ok, Move, Stays, Offers, Withdraws, Commits, Finishes, Pledges, Accepts, Drops, moved, pair, closed_by, May}
 use Rattle.nqs_laws.proofs.Views.{offered, pledged, next_of, closed_of, pair_of, host_exact, host_same}
 use Rattle.nqs_laws.proofs.Turns.{from_move}
 use Rattle.nqs_laws.proofs.Targets.{targets, silent_target, sender_known, promise_at}

@@ -1,5 +1,5 @@
 -- A handover has the last number that its host gave to the peer.
-use Rattle.std.proofs.Common.{◌≡◌, ℕ, ◌+◌, Bool, true, false, length, Option, None, Some, is_some, true≢false, refl, sym, ap, subst, ◌∙◌, arith, List}
+use Rattle.std.proofs.Common.{◌≡◌, ℕ, ◌+◌, true, length, Option, None, Some, is_some, true≢false, refl, sym, ap, subst, ◌∙◌, arith, List}
 use Rattle.std.proofs.lemmas.Bool.{eqb-true, eq-eqb}
 use Rattle.nqs_types.specs.Keys.{is_hand}
 use Rattle.nqs_types.specs.State.{Plain}
@@ -9,7 +9,7 @@ use Rattle.nqs_types.specs.declared.request.Phase.{Phase}
 use Rattle.nqs_types.specs.declared.request.Phase.TheVariants.{Offered, Committed}
 use Rattle.nqs_rules.specs.Tests.{passes}
 use Rattle.nqs_rules.specs.Find.{peer_number, find_hand, find_peer}
-use Rattle.nqs_rules.specs.InOrder.{IsInOrder, is_hand_given, is_hand_right}
+use Rattle.nqs_rules.specs.InOrder.{is_hand_given, is_hand_right}
 use Rattle.nqs_rules.specs.World.{Act, new_world}
 use Rattle.nqs_rules.specs.Run.{run}
 use Rattle.nqs_rules.proofs.KeyFacts.{place_below}
@@ -22,7 +22,7 @@ use Rattle.nqs_laws.specs.Handovers.{IsStateOf, is_last_given}
 use Rattle.nqs_laws.proofs.Frame.{Moment, moment}
 use Rattle.nqs_laws.proofs.Sound.{IsHost, IsSound, run_sound}
 use Rattle.nqs_laws.proofs.Pair.{OfferOk}
-use Rattle.nqs_laws.proofs.Views.{IsLone, offered, peer_field, next_field, next_of, pair_of, pledged, closed_of, hand_peer}
+use Rattle.nqs_laws.proofs.Views.{IsLone, offered, peer_field, next_field, next_of, pledged, closed_of, hand_peer}
 use Rattle.nqs_laws.proofs.Targets.{KeptPeer, known_peer}
 use Rattle.nqs_laws.proofs.Paired.{At, open_offer, given_offer}
 use Rattle.nqs_laws.proofs.TabledRuns.{IsNet, run_net}

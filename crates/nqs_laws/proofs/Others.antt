@@ -1,6 +1,6 @@
 -- An event leaves the hosts that it isn't for, and a host without fuses stays up.
-use Rattle.std.proofs.Common.{◌≡◌, ℕ, ◌⊎◌, inl, inr, ◌&&◌, map, Bool, true, false, List, [], ◌∷◌, slice_get, Option, None, Some, true≢false, zero, suc, refl, sym, ap, subst, ◌∙◌, if◌then◌else◌}
-use Rattle.std.proofs.lemmas.Option.{same_Some, none-some}
+use Rattle.std.proofs.Common.{◌≡◌, ℕ, ◌⊎◌, inl, inr, ◌&&◌, map, Bool, true, false, List, [], ◌∷◌, Option, None, Some, zero, suc, refl, sym, ap, subst, ◌∙◌, if◌then◌else◌}
+use Rattle.std.proofs.lemmas.Option.{same_Some}
 use Rattle.std.specs.List.{filter_map}
 use Rattle.std.specs.Option.{option_map}
 use Rattle.nqs_types.specs.State.{Plain}
@@ -15,16 +15,14 @@ use Rattle.nqs_types.specs.declared.event.Event.TheVariants as event
 use Rattle.nqs_types.specs.declared.event.Output.{Output}
 use Rattle.nqs_types.specs.declared.world.Seen.{Seen}
 use Rattle.nqs_types.specs.declared.world.Seen.TheVariants as seen
-use Rattle.nqs_rules.specs.Edits.{change_at}
 use Rattle.nqs_rules.specs.Applied.{applied}
 use Rattle.nqs_rules.specs.Step.{step}
 use Rattle.nqs_rules.specs.Start.{start}
 use Rattle.nqs_rules.specs.Stepped.{Stepped, shown, stored_parts}
-use Rattle.nqs_rules.specs.World.{World, Host, Ran, Fate, Made, StoppedBefore, StoppedAfter, Act, Asks, Ends, Finishes, Fails, Writes, Leaves, Delivers, Newest, Ticks, Clock, Fuse, Crashes, Boots, Shows, no_fuses, fate, spool_calls, falls, falls_at_gate, burnt, keeps_gate, host_of, put_host, then_seen, seeing, unseen, stopped, used, emits, change_fated, makes_change, carries_out, steps, starts, all_starts, left_of, shuts_down, halted_host, halts, takes_up, taken_by, takes, finishes, finishes_up, delivers, arrives, packet_at, newest_between, boot_output, boots_down, boots, crashes_up, runs_now, is_less_row, fused_host, fuses}
-use Rattle.nqs_rules.specs.Run.{happens}
+use Rattle.nqs_rules.specs.World.{World, Host, Ran, Fate, Made, StoppedBefore, StoppedAfter, Act, Asks, Ends, Finishes, Fails, Writes, Leaves, Delivers, Newest, Ticks, Clock, Fuse, Crashes, Boots, Shows, no_fuses, fate, spool_calls, falls, falls_at_gate, burnt, keeps_gate, host_of, put_host, seeing, unseen, stopped, used, emits, change_fated, makes_change, carries_out, steps, starts, all_starts, left_of, shuts_down, halted_host, halts, takes_up, taken_by, takes, finishes, finishes_up, delivers, packet_at, newest_between, boot_output, boots_down, boots, crashes_up, runs_now, is_less_row, fused_host}
 use Rattle.nqs_rules.proofs.PeersOrder.{get-other}
 use Rattle.nqs_laws.specs.Whole.{after, IsSafe, taker, receiver}
-use Rattle.nqs_laws.proofs.Frame.{emits_world, world_of}
+use Rattle.nqs_laws.proofs.Frame.{emits_world}
 use Rattle.nqs_laws.proofs.Sound.{get-here}
 use Rattle.nqs_laws.proofs.Views.{host_cases}
 use Rattle.nqs_laws.proofs.WholeEvents.{begins, starts_of}

@@ -1,6 +1,5 @@
 -- Why a request goes out of the network.
-use Rattle.std.proofs.Common.{◌≡◌, ℕ, ◌⊎◌, inl, inr, Bool, true, false, not, ◌&&◌, ◌||◌, List, [], ◌∷◌, Option, None, Some, is_some, true≢false, refl, sym, ap, subst, ◌∙◌}
-use Rattle.std.proofs.lemmas.Bool.{and_parts, not-true}
+use Rattle.std.proofs.Common.{◌≡◌, ℕ, ◌⊎◌, inl, inr, Bool, true, false, not, ◌&&◌, ◌||◌, List, [], ◌∷◌, Option, None, Some, is_some, true≢false, refl, sym, ap, ◌∙◌}
 use Rattle.std.proofs.lemmas.Option.{none-some}
 use Rattle.nqs_types.specs.State.{Plain}
 use Rattle.nqs_types.specs.declared.ids.HostId.{HostId}
@@ -22,8 +21,8 @@ use Rattle.nqs_rules.specs.Applied.{applied}
 use Rattle.nqs_rules.specs.Licence.{Kind, Submit, Delete, Doom, Hold, Release, Move, Open, Back, Route, Arrive, Start, End, Again, Gone, Steps}
 use Rattle.nqs_rules.specs.Net.{Entry, entry_of}
 use Rattle.nqs_laws.specs.History.{Why, ByEvent, ByStart, ByBoot, Note, Saw, Kept, history}
-use Rattle.nqs_laws.specs.Launches.{states_after, lies, was_taken_out}
-use Rattle.nqs_laws.specs.Licensed.{LicensesEdit, LicensesMessage, LicensesCommand, LicensesEvent, Licenses, LiesWith, IsLicensed}
+use Rattle.nqs_laws.specs.Launches.{lies, was_taken_out}
+use Rattle.nqs_laws.specs.Licensed.{LicensesEdit, LicensesMessage, LicensesCommand, LicensesEvent, Licenses, IsLicensed}
 use Rattle.nqs_laws.specs.TakenOut.{WasDeleted, HasFinished, WasLost, WentOut}
 use Rattle.nqs_rules.specs.World.{Act, new_world}
 use Rattle.nqs_rules.specs.Run.{states_of}

@@ -1,6 +1,6 @@
 -- What a whole event makes of the packets and of its host, where no fuse falls within it.
-use Rattle.std.proofs.Common.{◌≡◌, ℕ, ◌⊎◌, inl, inr, ◌+◌, ◌<◌, Bool, true, false, List, [], ◌∷◌, ◌++◌, map, length, slice_get, Option, None, Some, true≢false, zero, suc, refl, sym, ap, subst, ◌∙◌, arith, if◌then◌else◌}
-use Rattle.std.proofs.lemmas.List.{append_assoc, append-nil, length-append}
+use Rattle.std.proofs.Common.{◌≡◌, ℕ, ◌+◌, Bool, true, false, List, [], ◌∷◌, ◌++◌, map, length, slice_get, Option, None, Some, true≢false, zero, suc, refl, sym, ap, subst, ◌∙◌, arith, if◌then◌else◌}
+use Rattle.std.proofs.lemmas.List.{append_assoc, append-nil}
 use Rattle.std.proofs.lemmas.Option.{same_Some, none-some, slice_get-map}
 use Rattle.std.specs.Option.{option_map}
 use Rattle.nqs_types.specs.State.{Plain}
@@ -8,7 +8,6 @@ use Rattle.nqs_types.specs.declared.ids.HostId.{HostId}
 use Rattle.nqs_types.specs.declared.message.Message.{Message}
 use Rattle.nqs_types.specs.declared.change.Change.{Change}
 use Rattle.nqs_types.specs.declared.event.Event.{Event}
-use Rattle.nqs_types.specs.declared.event.Event.TheVariants as event
 use Rattle.nqs_types.specs.declared.event.Output.{Output}
 use Rattle.nqs_rules.specs.Tests.{passes}
 use Rattle.nqs_rules.specs.Applied.{applied}
@@ -17,13 +16,12 @@ use Rattle.nqs_rules.specs.Starts.{after_change, after_step}
 use Rattle.nqs_rules.specs.Step.{step}
 use Rattle.nqs_rules.specs.Start.{start}
 use Rattle.nqs_rules.specs.Stepped.{Stepped, shown, stored_parts}
-use Rattle.nqs_rules.specs.World.{World, Host, Ran, Fate, Made, StoppedBefore, StoppedAfter, fate, host_of, put_host, then_seen, seeing, unseen, stopped, used, emits, change_fated, carries_out, steps, starts, all_starts, left_of, shuts_down, halts, takes_up, taken_by, takes, packet_at}
-use Rattle.nqs_rules.specs.Run.{states_of}
+use Rattle.nqs_rules.specs.World.{World, Host, Fate, Made, StoppedBefore, StoppedAfter, fate, host_of, put_host, then_seen, seeing, unseen, stopped, used, emits, change_fated, carries_out, steps, starts, all_starts, left_of, shuts_down, halts, takes_up, taken_by, takes, packet_at}
 use Rattle.nqs_types.specs.declared.world.Seen.TheVariants as seen
 use Rattle.nqs_laws.specs.History.{Note, ByEvent, ByStart, step_notes}
 use Rattle.nqs_laws.specs.Handovers.{IsStateOf}
 use Rattle.nqs_laws.specs.Sending.{Sends}
-use Rattle.nqs_laws.specs.Whole.{is_up, IsSentBetween, WasSentBetween}
+use Rattle.nqs_laws.specs.Whole.{is_up, WasSentBetween}
 use Rattle.nqs_laws.proofs.Frame.{moment, Comes, sent_in, world_of, state_in, emits_world, step_kept, begin_kept}
 use Rattle.nqs_laws.proofs.Sound.{IsSound, sound_frames, get-here}
 

@@ -1,10 +1,9 @@
 -- Three whole events settle a handover that is left half done.
-use Rattle.std.proofs.Common.{◌≡◌, ℕ, ◌⊎◌, inl, inr, ◌<◌, Bool, true, false, ◌||◌, List, [], ◌∷◌, ◌++◌, length, slice_get, Option, None, Some, is_some, true≢false, zero, suc, refl, sym, ap, subst, ◌∙◌, arith, if◌then◌else◌}
+use Rattle.std.proofs.Common.{◌≡◌, ℕ, ◌⊎◌, inl, inr, Bool, true, false, List, [], ◌∷◌, ◌++◌, length, Option, None, Some, is_some, true≢false, refl, sym, ap, subst, ◌∙◌, arith, if◌then◌else◌}
 use Rattle.std.proofs.lemmas.Bool.{and_parts, and_from, ltb-true, false_from_ne_true}
-use Rattle.std.proofs.lemmas.Option.{same_Some, none-some}
 use Rattle.std.proofs.lemmas.List.Folds.{list_all-append}
-use Rattle.std.specs.List.{list_all, list_any}
-use Rattle.nqs_types.specs.Keys.{is_hand, is_promise}
+use Rattle.std.specs.List.{list_all}
+use Rattle.nqs_types.specs.Keys.{is_hand}
 use Rattle.nqs_types.specs.State.{Plain}
 use Rattle.nqs_types.specs.declared.ids.HostId.{HostId}
 use Rattle.nqs_types.specs.declared.request.Hand.{Hand}

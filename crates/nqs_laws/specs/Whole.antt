@@ -3,7 +3,7 @@ use Rattle.std.specs.Prelude.{◌≡◌, ◌⊎◌, ℕ, ◌<◌, Bool, true, le
 use Rattle.std.specs.Option.{option_map}
 use Rattle.nqs_types.specs.State.{Plain}
 use Rattle.nqs_rules.specs.Tests.{passes}
-use Rattle.nqs_rules.specs.World.{Host, Fuses, World, Act, Asks, Ends, Finishes, Fails, Writes, Leaves, Delivers, Newest, Ticks, Clock, Fuse, Crashes, Boots, Shows, no_fuses, host_of, packet_at, newest_between}
+use Rattle.nqs_rules.specs.World.{Host, World, Act, Asks, Ends, Finishes, Fails, Writes, Leaves, Delivers, Newest, Ticks, Clock, Fuse, Crashes, Boots, Shows, no_fuses, host_of, packet_at, newest_between}
 use Rattle.nqs_rules.specs.Run.{happens}
 use Rattle.nqs_types.specs.declared.ids.HostId.{HostId}
 use Rattle.nqs_types.specs.declared.message.Message.{Message}

@@ -1,6 +1,6 @@
-use Rattle.std.proofs.Common.{◌≡◌, ℕ}
+use Rattle.std.proofs.Common.{ℕ}
 use Rattle.nqs_types.specs.declared.ids.HostId.{HostId}
-use Rattle.nqs_laws.specs.Closed.{HasState, IsClosedBy, MayClose, ClosesOwn}
+use Rattle.nqs_laws.specs.Closed.{IsClosedBy, MayClose, ClosesOwn}
 use Rattle.nqs_laws.proofs.Kept.{each_kept}
 use Rattle.nqs_laws.proofs.ClosedNumbers.{closes_own, closes_only, for_state}
 use Rattle.nqs_laws.proofs.closings.ends_of_promises_close_their_numbers.Goals as goal
