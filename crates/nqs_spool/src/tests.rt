@@ -1,5 +1,6 @@
 //! Puts and frees on a disk in memory, and what stops leave.
 ghost use Rattle.std.specs.Prelude.{◌≡◌};
+ghost use Rattle.nqs_disk.specs.MemDisk.{history_of};
 ghost use Rattle.nqs_spool.specs.Extents.{extent_at};
 
 use crate::{Spool, SpoolFault, bad_extent};
@@ -83,7 +84,9 @@ const LEFT: [(Tear, &[u8], &[u8]); 4] = [
 ];
 
 // The bytes of a short disk.
-fn whole(alloc: Global, disk: &mut MemDisk) -> Result<Vec<u8>, Fail> {
+fn whole(alloc: Global, disk: &mut MemDisk) -> Result<Vec<u8>, Fail>
+    ensures { history_of disk.new ≡ history_of disk.old }
+{
     let mut bytes = vec![in alloc; 0u8; 16]?;
     let count = disk.read_at(0, &mut bytes)?;
     bytes.truncate(count);
