@@ -137,6 +137,7 @@ fn device(name: Name, forms: Name, enabled: bool) -> DeviceDef {
 }
 
 // Devices named for what they are: one is disabled, one is busy, one has letter forms and the last plain ones.
+#[derive(Clone, Copy)]
 struct Names {
     off: Name,
     busy: Name,
@@ -165,7 +166,7 @@ fn four_devices(alloc: Global, names: &Names) -> Result<HostState, Memory> {
     Ok(host(alloc, queues, devices, rows))
 }
 
-fn names() -> Result<Names, Fail> {
+fn read_names() -> Result<Names, Fail> {
     Ok(Names {
         off: Name::read(b"off")?,
         busy: Name::read(b"busy")?,
@@ -178,7 +179,7 @@ fn names() -> Result<Names, Fail> {
 
 #[test]
 fn first_free_device(rt: HostRuntime) -> Result<(), Fail> {
-    let names = names()?;
+    let names = read_names()?;
     let state = four_devices(rt.alloc(), &names)?;
     let queue = state.queues.get(&names.plots).ok_or(Memory)?;
     assert_eq!(rt; free_device(&state, queue, None), Some(2));
@@ -189,7 +190,7 @@ fn first_free_device(rt: HostRuntime) -> Result<(), Fail> {
 
 #[test]
 fn refused_devices(rt: HostRuntime) -> Result<(), Fail> {
-    let names = names()?;
+    let names = read_names()?;
     let state = four_devices(rt.alloc(), &names)?;
     for (device, queue, answer) in [
         (names.jobs, names.off, Err(Refusal::NoDevice(names.jobs))),
