@@ -7,8 +7,6 @@
 mod apply;
 mod check;
 mod free;
-#[cfg(test)]
-mod tests;
 
 pub use apply::apply_devices;
 pub use check::check_devices;
