@@ -1,10 +1,9 @@
 -- A fault is decided by the words up to it: whatever follows them, the line has it.
-use Rattle.std.proofs.Common.{◌≡◌, ◌⊎◌, inl, inr, ℕ, ◌+◌, ◌-◌, ◌<◌, ◌≤◌, ◌==◌, min, List, [], ◌∷◌, length, take, drop, slice_range, Some, None, Option, option_map, unwrap_or, Ok, Err, Bool, true, false, is_some, not, refl, ap, sym, subst, ◌∙◌, arith}
+use Rattle.std.proofs.Common.{◌≡◌, ◌⊎◌, inl, inr, ℕ, ◌+◌, ◌-◌, ◌≤◌, ◌==◌, List, [], ◌∷◌, length, drop, slice_range, Some, None, Option, option_map, unwrap_or, Bool, true, false, is_some, not, refl, ap, sym, subst, ◌∙◌, arith}
 use Rattle.std.specs.List.{position}
 use Rattle.std.proofs.lemmas.List.{length-take}
 use Rattle.std.proofs.lemmas.List.Quantifiers.{position-Some}
 use Rattle.nqs_types.specs.declared.ids.Named.{Named}
-use Rattle.nqs_types.specs.declared.ids.NamedDest.{NamedDest}
 use Rattle.nqs_types.specs.declared.event.Command.{Command}
 use Rattle.nqs_types.specs.declared.fault.GrammarFault.{GrammarFault}
 use Rattle.nqs_types.specs.declared.fault.GrammarFault.TheVariants as fault
@@ -24,9 +23,9 @@ use Rattle.nqs_qmgr.specs.declared.options.Settings.{Settings}
 use Rattle.nqs_qmgr.specs.Heads.{word_text, stem_of, limit_of}
 use Rattle.nqs_qmgr.specs.Options.{no_settings}
 use Rattle.nqs_qmgr.specs.Lines.{verbs, nouns, shape_of}
-use Rattle.nqs_qmgr.specs.Shapes.{Shape, nothing, alone, one_name, number, name_value, number_and_name, limit_and_name, two_names, dest_and_name, one_request, request_and_name, request_and_priority, name_and_forms, made_queue}
+use Rattle.nqs_qmgr.specs.Shapes.{Shape, nothing}
 use Rattle.nqs_qmgr.specs.Says.{HasHead, HasNoValue, Given, NameIs, RequestIs, GivesOption, Says}
-use Rattle.nqs_qmgr.specs.Faults.{NoWord, WordTooMany, unnamed, NamesNone, NoKeywordThere, NoHead, NoName, unread_request, NoRequest, HasValue, ValueTooMany, NoValue, Value, a_number, a_limit, a_name, a_dest, Rest, the_end, a_name_then, a_request_then, a_setting, some_options, value_of, rest_of, Stands, Misstands, Misgiven, NoOption, FaultsBehind, FaultsOptions, FaultsRest, FaultsFrom, FaultsShape, FaultsNoun, FaultsVerb, Faults}
+use Rattle.nqs_qmgr.specs.Faults.{WordTooMany, unnamed, NoKeywordThere, NoHead, NoName, unread_request, NoRequest, ValueTooMany, NoValue, Value, a_number, a_limit, a_name, a_dest, Rest, the_end, a_name_then, a_request_then, a_setting, some_options, value_of, rest_of, Stands, Misstands, Misgiven, NoOption, FaultsBehind, FaultsRest, FaultsFrom, FaultsShape, FaultsNoun, FaultsVerb, Faults}
 use Rattle.nqs_qmgr.specs.Law.{SharesWords, place_of, IsAt, NoCommandBeginsSo}
 use Rattle.nqs_qmgr.proofs.Faulted.{never_both}
 
@@ -129,8 +128,15 @@ no_keyword : (ks : List Keyword) (line : List ℕ) (place : ℕ) (f : GrammarFau
 no_keyword ks line place f (word, next, (why, names, is)) =
     let ord = order line place word next in
     let fits = stem_fits line word ord.1 in
-    inr (word, omega arith, (at_start f word (ap place_of is ∙ unnamed_at why word.start) ord.1, (λ other shares.
-        (word, shares.0 place word next (omega arith), (why, ap (λ (stem : ℕ). keyword_of ks (slice_range other word.start stem)) (same_stem line other word word.end (omega arith) shares) ∙ ap (λ (text : List ℕ). keyword_of ks text) (sym (shares.1 word.start (stem_of line word) fits.1)) ∙ names, is)))))
+    inr (
+      word,
+      omega arith,
+      (
+        at_start f word (ap place_of is ∙ unnamed_at why word.start) ord.1,
+        (λ other shares.
+            (word, shares.0 place word next (omega arith), (why, ap (λ (stem : ℕ). keyword_of ks (slice_range other word.start stem)) (same_stem line other word word.end (omega arith) shares) ∙ ap (λ (text : List ℕ). keyword_of ks text) (sym (shares.1 word.start (stem_of line word) fits.1)) ∙ names, is))),
+      ),
+    )
 
 no_head : (ks : List Keyword) (line : List ℕ) (place : ℕ) (f : GrammarFault) → NoHead ks line place f → Decided (λ (other : List ℕ). NoHead ks other place f) line place f
 no_head ks line place f (inl h) = inl h.1
@@ -140,8 +146,15 @@ no_name : (line : List ℕ) (place : ℕ) (f : GrammarFault) → NoName line pla
 no_name line place f (inl h) = inl h.1
 no_name line place f (inr (word, next, (none, is))) =
     let ord = order line place word next in
-    inr (word, omega arith, (at_start f word (ap place_of is) ord.1, (λ other shares.
-        inr (word, shares.0 place word next (omega arith), (ap name_of (sym (shares.1 word.start word.end (omega arith))) ∙ none, is)))))
+    inr (
+      word,
+      omega arith,
+      (
+        at_start f word (ap place_of is) ord.1,
+        (λ other shares.
+            inr (word, shares.0 place word next (omega arith), (ap name_of (sym (shares.1 word.start word.end (omega arith))) ∙ none, is))),
+      ),
+    )
 
 unread_at : (why : NotNamed) (place : ℕ) → place_of (unread_request why place) ≡ place
 unread_at BadNumber place = refl
@@ -151,8 +164,15 @@ no_request : (line : List ℕ) (place : ℕ) (f : GrammarFault) → NoRequest li
 no_request line place f (inl h) = inl h.1
 no_request line place f (inr (word, next, (why, none, is))) =
     let ord = order line place word next in
-    inr (word, omega arith, (at_start f word (ap place_of is ∙ unread_at why word.start) ord.1, (λ other shares.
-        inr (word, shares.0 place word next (omega arith), (why, ap named_of (sym (shares.1 word.start word.end (omega arith))) ∙ none, is)))))
+    inr (
+      word,
+      omega arith,
+      (
+        at_start f word (ap place_of is ∙ unread_at why word.start) ord.1,
+        (λ other shares.
+            inr (word, shares.0 place word next (omega arith), (why, ap named_of (sym (shares.1 word.start word.end (omega arith))) ∙ none, is))),
+      ),
+    )
 
 -- the keyword's stem lies in its word
 record Lies (head : Head) : Type 0 where

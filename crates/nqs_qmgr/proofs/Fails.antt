@@ -1,5 +1,5 @@
 -- Which faults a reading has, as a relation. Readings are joined as their relations are.
-use Rattle.std.proofs.Common.{◌≡◌, ◌↔◌, ◌⊎◌, inl, inr, ℕ, ◌+◌, ◌<◌, ◌≤◌, List, [], ◌∷◌, length, slice_range, Some, None, Option, Result, Ok, Err, Bool, true, false, cond, nat_lt, refl, ap, sym, ◌∙◌, arith}
+use Rattle.std.proofs.Common.{◌≡◌, ◌↔◌, ◌⊎◌, inl, inr, ℕ, ◌+◌, ◌<◌, ◌≤◌, List, length, slice_range, Some, None, Option, Result, Ok, Err, Bool, true, false, cond, nat_lt, refl, ap, sym, ◌∙◌, arith}
 use Rattle.std.proofs.lemmas.Bool.Decides.{nat_tests}
 use Rattle.nqs_types.specs.declared.ids.Named.{Named}
 use Rattle.nqs_types.specs.declared.fault.GrammarFault.{GrammarFault}
@@ -17,8 +17,8 @@ use Rattle.nqs_words.specs.declared.values.NotNamed.TheVariants.{BadNumber, BadN
 use Rattle.nqs_qmgr.specs.declared.head.Head.{Head}
 use Rattle.nqs_qmgr.specs.Read.{Read, ◌>>=◌, or_fault}
 use Rattle.nqs_qmgr.specs.Heads.{word_text, word_at, name_at, or_not_named, request_at, nothing_more, nothing_after, stem_of, chosen, head_of, head_at, bare, value_at, valued}
-use Rattle.nqs_qmgr.specs.Says.{HasHead, HasNoValue, Ends}
-use Rattle.nqs_qmgr.specs.Faults.{NoWord, WordTooMany, unnamed, NamesNone, NoKeywordThere, NoHead, NoName, unread_request, NoRequest, HasValue, ValueTooMany, NoValue}
+use Rattle.nqs_qmgr.specs.Says.{HasNoValue}
+use Rattle.nqs_qmgr.specs.Faults.{NoWord, WordTooMany, unnamed, NamesNone, NoHead, NoName, unread_request, NoRequest, ValueTooMany, NoValue}
 use Rattle.nqs_qmgr.proofs.Means.{Means}
 use Rattle.nqs_qmgr.proofs.Said.{means-word}
 

@@ -1,5 +1,5 @@
 -- Each shape has the faults that the grammar says of it, and each line one command or one first fault.
-use Rattle.std.proofs.Common.{◌≡◌, ◌↔◌, ◌⊎◌, inl, inr, ℕ, zero, suc, ◌+◌, ◌<◌, List, [], ◌∷◌, arith, refl, ap, ◌∙◌, sym, subst, Some, None, Option, Result, Ok, Err, Bool, true, false, is_some}
+use Rattle.std.proofs.Common.{◌≡◌, ◌⊎◌, inl, inr, ℕ, zero, suc, ◌<◌, List, [], ◌∷◌, arith, refl, ap, sym, subst, Some, None, Option, Result, Ok, Err, Bool, true, false, is_some}
 use Rattle.nqs_types.specs.declared.ids.Named.{Named}
 use Rattle.nqs_types.specs.declared.ids.NamedDest.{NamedDest}
 use Rattle.nqs_types.specs.declared.event.Command.{Command}
@@ -14,14 +14,14 @@ use Rattle.nqs_words.specs.declared.keyword.Keyword.{Keyword}
 use Rattle.nqs_words.specs.declared.keyword.Keyword.TheVariants as k
 use Rattle.nqs_qmgr.specs.declared.head.Head.{Head}
 use Rattle.nqs_qmgr.specs.declared.options.Settings.{Settings}
-use Rattle.nqs_qmgr.specs.Read.{Read, ◌>>=◌, or_fault}
+use Rattle.nqs_qmgr.specs.Read.{Read, ◌>>=◌}
 use Rattle.nqs_qmgr.specs.Heads.{name_at, request_at, nothing_after, last_name, head_of, head_at, bare, valued, limit_of}
 use Rattle.nqs_qmgr.specs.Options.{once, with_priority, with_run_limit, with_pipe_only, with_destination, with_option, per_word, options, no_settings}
 use Rattle.nqs_qmgr.specs.Shapes.{Shape, nothing, alone, one_name, number, name_value, number_and_name, limit_and_name, two_names, dest_and_name, one_request, request_and_name, request_and_priority, name_and_forms, made_queue}
 use Rattle.nqs_qmgr.specs.Lines.{read_alone, read_one_name, read_value, read_value_and_name, last_value, read_one_request, read_request_and_name, read_request_and_priority, read_name_and_forms, read_made_queue, read_shape, shape_of, verbs, nouns, after_verb, qmgr_line}
-use Rattle.nqs_qmgr.specs.Says.{HasHead, HasNoValue, Given, NameIs, RequestIs, GivesOption, Says}
-use Rattle.nqs_qmgr.specs.Faults.{WordTooMany, NoKeywordThere, NamesNone, NoHead, NoName, NoRequest, ValueTooMany, NoValue, a_number, a_limit, a_name, a_dest, the_end, a_name_then, a_request_then, a_setting, some_options, Misgiven, NoOption, FaultsBehind, FaultsOptions, FaultsRest, FaultsFrom, FaultsShape, FaultsNoun, FaultsVerb, Faults}
-use Rattle.nqs_qmgr.specs.Law.{ReadsWhatIsSaid, FindsTheFault, SaysOrFaults, NeverBoth, OneCommand, OneFault, Answers}
+use Rattle.nqs_qmgr.specs.Says.{HasHead, HasNoValue, Given, NameIs, RequestIs, Says}
+use Rattle.nqs_qmgr.specs.Faults.{WordTooMany, NoHead, NoName, NoRequest, ValueTooMany, NoValue, a_number, a_name, the_end, a_name_then, a_request_then, a_setting, some_options, Misgiven, FaultsBehind, FaultsOptions, FaultsRest, FaultsFrom, FaultsShape, FaultsNoun, FaultsVerb, Faults}
+use Rattle.nqs_qmgr.specs.Law.{FindsTheFault, SaysOrFaults, NeverBoth, OneCommand, OneFault, Answers}
 use Rattle.nqs_qmgr.proofs.Said.{means-name, means-request, head_of-Ok, head_of-has, means-head, means-valued}
 use Rattle.nqs_qmgr.proofs.Shapes.{means-option, missing, left, fewer, reads_said}
 use Rattle.nqs_qmgr.proofs.Fails.{Fails, failed, fails-bind, fails-then, fails-after, fails-map, fails-end, fails-name, fails-request, fails-head_of, fails-head, fails-bare, fails-valued}

@@ -1,6 +1,5 @@
 -- What a reading means: which values it gives, as a relation. Readings are joined as their relations are.
-use Rattle.std.proofs.Common.{◌≡◌, ◌↔◌, ℕ, ◌<◌, ◌≤◌, List, Some, None, Option, Ok, Err, Bool, true, false, cond, nat_lt, refl, ap, sym, subst, ◌∙◌, arith}
-use Rattle.std.proofs.lemmas.Bool.Decides.{nat_tests}
+use Rattle.std.proofs.Common.{◌≡◌, ◌↔◌, ℕ, Some, None, Option, Ok, Err, refl, ap, sym, subst}
 use Rattle.nqs_types.specs.declared.fault.GrammarFault.{GrammarFault}
 use Rattle.nqs_qmgr.specs.Read.{Read, ◌>>=◌, or_fault}
 

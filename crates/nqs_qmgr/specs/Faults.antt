@@ -22,7 +22,7 @@ use Rattle.nqs_qmgr.specs.declared.options.Settings.{Settings}
 use Rattle.nqs_qmgr.specs.Heads.{word_text, stem_of, limit_of}
 use Rattle.nqs_qmgr.specs.Options.{no_settings}
 use Rattle.nqs_qmgr.specs.Lines.{verbs, nouns, shape_of}
-use Rattle.nqs_qmgr.specs.Shapes.{Shape, nothing, alone, one_name, number, name_value, number_and_name, limit_and_name, two_names, dest_and_name, one_request, request_and_name, request_and_priority, name_and_forms, made_queue}
+use Rattle.nqs_qmgr.specs.Shapes.{Shape, nothing, one_name, number, name_value, number_and_name, limit_and_name, two_names, dest_and_name, one_request, request_and_name, request_and_priority, name_and_forms, made_queue}
 use Rattle.nqs_qmgr.specs.Says.{HasHead, HasNoValue, Given, Ends, NameIs, RequestIs, GivesOption}
 
 -- ---- the word at the fault

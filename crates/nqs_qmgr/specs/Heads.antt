@@ -1,5 +1,5 @@
 -- Words and keywords at a place of a line, and values behind keywords.
-use Rattle.std.specs.Prelude.{◌≡◌, ℕ, ◌+◌, ◌-◌, ◌≤◌, Bool, ◌==◌, nat_lt, List, [], ◌∷◌, length, codes, Option, Some, None, option_map, if◌then◌else◌, Ok, Err, unwrap_or, slice_range}
+use Rattle.std.specs.Prelude.{ℕ, ◌+◌, ◌-◌, ◌≤◌, nat_lt, List, length, codes, Option, Some, None, option_map, if◌then◌else◌, Ok, Err, unwrap_or, slice_range}
 use Rattle.std.specs.declared.result.Result.{Result}
 use Rattle.nqs_types.specs.Ids.{name_eq}
 use Rattle.nqs_types.specs.declared.ids.Named.{Named}

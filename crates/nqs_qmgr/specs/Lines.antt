@@ -1,7 +1,6 @@
 -- Which line has which shape, and how lines are read.
-use Rattle.std.specs.Prelude.{◌≡◌, ℕ, List, [], ◌∷◌, Option, Some, None, true, false, Ok, Err}
+use Rattle.std.specs.Prelude.{ℕ, List, [], ◌∷◌, Option, Some, None, true, Ok, Err}
 use Rattle.nqs_types.specs.declared.ids.Named.{Named}
-use Rattle.nqs_types.specs.declared.ids.NamedDest.{NamedDest}
 use Rattle.nqs_types.specs.declared.fault.GrammarFault.{GrammarFault}
 use Rattle.nqs_types.specs.declared.fault.GrammarFault.TheVariants as fault
 use Rattle.nqs_types.specs.declared.event.Command.{Command}
@@ -21,7 +20,6 @@ use Rattle.nqs_words.specs.Values.{name_of, number_of, dest_of}
 use Rattle.nqs_words.specs.declared.keyword.Keyword.{Keyword}
 use Rattle.nqs_words.specs.declared.keyword.Keyword.TheVariants as k
 use Rattle.nqs_qmgr.specs.declared.head.Head.{Head}
-use Rattle.nqs_qmgr.specs.declared.value.Amount.{Amount}
 use Rattle.nqs_qmgr.specs.declared.value.Amount.TheVariants.{Count, Time, Size}
 use Rattle.nqs_qmgr.specs.declared.options.Settings.{Settings}
 use Rattle.nqs_qmgr.specs.Read.{Read, ◌>>=◌}

@@ -1,5 +1,5 @@
 -- What stands in brackets behind a queue that is made.
-use Rattle.std.specs.Prelude.{◌≡◌, ℕ, zero, suc, Bool, true, false, List, [], ◌∷◌, Option, Some, None, is_some, if◌then◌else◌, Ok, Err}
+use Rattle.std.specs.Prelude.{ℕ, zero, suc, Bool, true, false, List, Option, Some, None, is_some, if◌then◌else◌, Ok, Err}
 use Rattle.nqs_types.specs.declared.fault.GrammarFault.TheVariants as fault
 use Rattle.nqs_words.specs.Words.{next_word}
 use Rattle.nqs_words.specs.Values.{number_of, dest_of}

@@ -1,5 +1,5 @@
 -- Reading a line from the left: the first step that fails gives the answer.
-use Rattle.std.specs.Prelude.{ℕ, Bool, Option, Some, None, if◌then◌else◌, Ok, Err}
+use Rattle.std.specs.Prelude.{Option, Some, None, Ok, Err}
 use Rattle.std.specs.declared.result.Result.{Result}
 use Rattle.nqs_types.specs.declared.fault.GrammarFault.{GrammarFault}
 

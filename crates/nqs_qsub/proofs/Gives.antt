@@ -95,7 +95,7 @@ reads-value source words text line n token o f =
     (λ (value : Token). next_token source words text token.after ≡ Some value) (λ (x : WordsFault). (next_token source words text token.after ≡ None) × (x ≡ fault_at line n cause.Missing)) _ _
     (reads-or_fault (next_token source words text token.after) (fault_at line n cause.Missing))
     (λ (value : Token). reads-map (located line (n + 1) (valued o f (text_of words text value.at) value.at)) (made value) (λ (more : Options). valued o f (text_of words text value.at) value.at ≡ Ok more)
-        (λ (x : WordsFault). (why : WordsCause) × (valued o f (text_of words text value.at) value.at ≡ Err why) × (x ≡ fault_at line (n + 1) why)) (reads-located line (n + 1) (valued o f (text_of words text value.at) value.at)))
+    (λ (x : WordsFault). (why : WordsCause) × (valued o f (text_of words text value.at) value.at ≡ Err why) × (x ≡ fault_at line (n + 1) why)) (reads-located line (n + 1) (valued o f (text_of words text value.at) value.at)))
   where
     made : Token → Options → Progress
     made value more = record { options = more; number = n + 2; place = value.after }
@@ -104,7 +104,7 @@ reads-value source words text line n token o f =
 reads-flag : (t : Bool) (source : Source) (words : List (List ℕ)) (text : List ℕ) (line n : ℕ) (token : Token) (o : Options) (f : Flag)
     → Reads (with_flag t source words text line n token o f)
     (λ (p : Progress). ((t ≡ false) × (p ≡ record { options = marked o f; number = n + 1; place = token.after }))
-        ⊎ ((t ≡ true) × ((value : Token) × (next_token source words text token.after ≡ Some value) × ((more : Options) × (valued o f (text_of words text value.at) value.at ≡ Ok more) × (p ≡ record { options = more; number = n + 2; place = value.after })))))
+    ⊎ ((t ≡ true) × ((value : Token) × (next_token source words text token.after ≡ Some value) × ((more : Options) × (valued o f (text_of words text value.at) value.at ≡ Ok more) × (p ≡ record { options = more; number = n + 2; place = value.after })))))
     (λ (x : WordsFault). (t ≡ true) × NoValue source words text line n token o f x)
 reads-flag true source words text line n token o f = (
   (λ p. ((λ e. inr (refl, ((reads-value source words text line n token o f).0 p).0 e)), from p)),
@@ -183,5 +183,5 @@ reads-option source words text line n token o =
     (λ (f : Flag) (p : Progress). MayStand o f × (GivesMark n token o f p ⊎ GivesValue source words text n token o f p)) (Misgiven source words text line n token o)
     (reads-or_fault (flag_of (text_of words text token.at)) (fault_at line n cause.Unknown))
     (λ (f : Flag). reads-fresh (is_given o f) (is_both o f) line n (with_flag (takes_value f) source words text line n token o f)
-        (λ (p : Progress). GivesMark n token o f p ⊎ GivesValue source words text n token o f p) (λ (x : WordsFault). (takes_value f ≡ true) × NoValue source words text line n token o f x)
-        (reads-flag (takes_value f) source words text line n token o f))
+    (λ (p : Progress). GivesMark n token o f p ⊎ GivesValue source words text n token o f p) (λ (x : WordsFault). (takes_value f ≡ true) × NoValue source words text line n token o f x)
+    (reads-flag (takes_value f) source words text line n token o f))

@@ -1,5 +1,5 @@
 -- Lines of a script one behind another, and submissions whole.
-use Rattle.std.proofs.Common.{◌≡◌, ◌⊎◌, inl, inr, ℕ, zero, suc, ◌+◌, ◌<◌, ◌≤◌, List, [], ◌∷◌, length, take, drop, Some, None, Option, Ok, Err, Result, Bool, true, false, cond, nat_lt, refl, ap, sym, ◌∙◌, arith}
+use Rattle.std.proofs.Common.{◌≡◌, ◌⊎◌, inl, inr, ℕ, zero, suc, ◌+◌, ◌<◌, ◌≤◌, List, [], ◌∷◌, length, take, drop, Ok, Err, Result, Bool, true, false, cond, nat_lt, refl, ap, sym, ◌∙◌, arith}
 use Rattle.std.proofs.lemmas.Bool.Decides.{nat_tests}
 use Rattle.std.proofs.lemmas.List.{drop_all}
 use Rattle.nqs_types.specs.declared.fault.WordsFault.{WordsFault}
@@ -12,7 +12,7 @@ use Rattle.nqs_qsub.specs.declared.script.LineKind.TheVariants.{Last, Remark, Wo
 use Rattle.nqs_qsub.specs.Tokens.{Read, ◌>>=◌, fault_at}
 use Rattle.nqs_qsub.specs.Options.{read_words, no_options}
 use Rattle.nqs_qsub.specs.Script.{line_kind, line_end, next_line, line_options, go_on, script_options}
-use Rattle.nqs_qsub.specs.Qsub.{merged, both_options, qsub_options, submission, ReadsQsub}
+use Rattle.nqs_qsub.specs.Qsub.{merged, both_options, qsub_options, ReadsQsub}
 use Rattle.nqs_qsub.specs.Says.{WordsGive, LineGives, GiveLines, ScriptGives, Says}
 use Rattle.nqs_qsub.specs.Faults.{WordsFail, FaultsBelow, ScriptFails, Faults}
 use Rattle.nqs_qsub.specs.Law.{ReadsWhatIsSaid, FindsTheFault, SaysOrFaults, NeverBoth, OneFault, Answers}

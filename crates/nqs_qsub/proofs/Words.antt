@@ -1,5 +1,5 @@
 -- Options one behind another: at most eleven, as each may stand once.
-use Rattle.std.proofs.Common.{◌≡◌, ◌⊎◌, inl, inr, ℕ, zero, suc, ◌+◌, ◌<◌, ◌≤◌, List, [], ◌∷◌, Some, None, Option, Ok, Err, Result, Bool, true, false, is_some, refl, ap, sym, ◌∙◌, arith}
+use Rattle.std.proofs.Common.{◌≡◌, ◌⊎◌, inl, inr, ℕ, zero, suc, ◌+◌, ◌<◌, ◌≤◌, List, [], ◌∷◌, Some, None, Option, Ok, Err, Bool, true, false, is_some, refl, ap, sym, ◌∙◌, arith}
 use Rattle.nqs_types.specs.declared.fault.WordsFault.{WordsFault}
 use Rattle.nqs_types.specs.declared.fault.WordsCause.{WordsCause}
 use Rattle.nqs_types.specs.declared.fault.WordsCause.TheVariants as cause
@@ -13,9 +13,9 @@ use Rattle.nqs_qsub.specs.declared.options.Flag.{Flag}
 use Rattle.nqs_qsub.specs.declared.options.Flag.TheVariants as flag
 use Rattle.nqs_qsub.specs.declared.options.Options.{Options}
 use Rattle.nqs_qsub.specs.declared.reading.Progress.{Progress}
-use Rattle.nqs_qsub.specs.Tokens.{Read, ◌>>=◌, fault_at, next_token, text_of}
-use Rattle.nqs_qsub.specs.Options.{flag_of, is_given, takes_value, marked, given, path_at, valued, one_option, per_token, read_words}
-use Rattle.nqs_qsub.specs.Says.{MayStand, GivesMark, GivesValue, GivesOption, GiveOptions, WordsGive}
+use Rattle.nqs_qsub.specs.Tokens.{Read, ◌>>=◌, next_token, text_of}
+use Rattle.nqs_qsub.specs.Options.{is_given, takes_value, marked, given, path_at, valued, one_option, per_token, read_words}
+use Rattle.nqs_qsub.specs.Says.{GivesMark, GivesValue, GivesOption, GiveOptions, WordsGive}
 use Rattle.nqs_qsub.specs.Faults.{FaultsBehind, WordsFail}
 use Rattle.nqs_qsub.proofs.Gives.{Reads, bound, failed, reads-option}
 

@@ -2,7 +2,9 @@
 //! with `#@$`. `read_qsub` gives the submission, or the first fault.
 //!
 //! specs/Options.antt says what each option says, specs/Script.antt which lines hold options, specs/Qsub.antt
-//! which word wins and what a submission is. docs/commands.md has it in plain words.
+//! which word wins and what a submission is. specs/Says.antt has the grammar and specs/Faults.antt the first fault,
+//! both apart from the reading, and specs/Law.antt that what is read is just that. docs/commands.md has it in
+//! plain words.
 #![tactic(auto)]
 
 mod laws;
