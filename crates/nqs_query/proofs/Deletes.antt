@@ -1,7 +1,7 @@
 -- Words of qdel are read as they are written.
-use Rattle.std.proofs.Common.{◌≡◌, ◌≢◌, ◌⊎◌, inl, inr, ◌↔◌, ℕ, ◌+◌, List, [], ◌∷◌, ◌++◌, length, arith, refl, ap, sym, subst, ◌∙◌, Result, Ok, Err, Bool, true, false, cond}
+use Rattle.std.proofs.Common.{◌≡◌, ◌≢◌, inl, inr, ℕ, ◌+◌, List, [], ◌∷◌, ◌++◌, length, refl, ap, sym, subst, ◌∙◌, Result, Ok, Err, Bool, true, false, cond}
 use Rattle.std.specs.Prelude.{codes}
-use Rattle.nqs_types.specs.Ids.{name_eq, name_exact}
+use Rattle.nqs_types.specs.Ids.{name_exact}
 use Rattle.nqs_types.specs.declared.ids.Named.{Named}
 use Rattle.nqs_types.specs.declared.event.Command.{Command}
 use Rattle.nqs_types.specs.declared.event.Command.TheVariants as command
@@ -12,10 +12,10 @@ use Rattle.nqs_text.specs.Number.{first_other}
 use Rattle.nqs_words.specs.Values.{place_of, number_of, seq_of, named_of}
 use Rattle.nqs_words.specs.declared.values.NotNamed.{NotNamed}
 use Rattle.nqs_words.specs.declared.values.NotNamed.TheVariants.{BadNumber, BadName}
-use Rattle.nqs_words.specs.Spelled.{IsRequest, HasNoSeq, HasNoHost, IsRequestOrNot}
+use Rattle.nqs_words.specs.Spelled.{IsRequest, IsRequestOrNot}
 use Rattle.nqs_words.proofs.Requests.{requests_are_read}
 use Rattle.nqs_query.specs.Words.{Read, ◌>>=◌, fault_at, named_or_fault, nothing_more, request_from, is_kill_option, delete_of}
-use Rattle.nqs_query.specs.Spelled.{kill_words, SaysDelete, HasWord, IsNoRequest, FaultsDelete, SaysDeleteOrFaults, ReadsDeletes}
+use Rattle.nqs_query.specs.Spelled.{kill_words, IsNoRequest, SaysDeleteOrFaults, ReadsDeletes}
 
 is_option : (word : List ℕ) → is_kill_option word ≡ true → word ≡ codes "-k"
 is_option word h = sym (name_exact (codes "-k") word h)

@@ -1,5 +1,5 @@
 -- Words of qstat are read as they are written.
-use Rattle.std.proofs.Common.{◌≡◌, ◌≢◌, ◌⊎◌, inl, inr, ◌↔◌, ℕ, suc, ◌+◌, List, [], ◌∷◌, ◌++◌, length, drop, arith, refl, ap, sym, subst, ◌∙◌, Some, None, Option, Result, Ok, Err, Bool, true, false, cond}
+use Rattle.std.proofs.Common.{◌≡◌, ◌≢◌, ◌⊎◌, inl, inr, ℕ, ◌+◌, List, [], ◌∷◌, ◌++◌, length, arith, refl, ap, sym, subst, ◌∙◌, Some, None, Option, Result, Ok, Err, Bool, true, false, cond}
 use Rattle.std.specs.Prelude.{codes}
 use Rattle.nqs_types.specs.Ids.{name_eq, name_exact}
 use Rattle.nqs_types.specs.Name.{IsName}
@@ -8,8 +8,8 @@ use Rattle.nqs_types.specs.declared.fault.WordsCause.TheVariants as cause
 use Rattle.nqs_words.specs.Values.{is_name, name_of}
 use Rattle.nqs_words.proofs.Names.{name_passes}
 use Rattle.nqs_words.proofs.Requests.{name-is, is-name, no-name}
-use Rattle.nqs_query.specs.Words.{Read, Asked, ◌>>=◌, fault_at, with_name, names_of, or_bad_name, queues_from, is_user_option, user_or_fault, user_word, of_user, of_all, stat_of}
-use Rattle.nqs_query.specs.Spelled.{user_words, stat_words, AreNames, MayBeName, HasNames, SaysStat, IsBadQueue, FaultsStat, SaysStatOrFaults, ReadsStats}
+use Rattle.nqs_query.specs.Words.{Read, Asked, ◌>>=◌, fault_at, with_name, names_of, or_bad_name, is_user_option, of_user, of_all, stat_of}
+use Rattle.nqs_query.specs.Spelled.{user_words, stat_words, AreNames, MayBeName, SaysStatOrFaults, ReadsStats}
 
 -- ---- names
 
@@ -95,26 +95,36 @@ all-read : (words : List (List ℕ)) → ((word : List ℕ) (more : List (List �
 all-read words other (Ok names) h = (sym h.1, (tt, subst AreNames (sym h.1) h.0))
 all-read words other (Err place) h =
     let asked : Asked = record { user = None; queues = h.front } in
-    inr (inr (asked, h.word, record {
-      more = h.more;
-      written = h.written;
-      before = (tt, h.before);
-      bad = h.bad;
-      no_option = λ e. other h.word h.more (h.written ∙ ap (λ (l : List (List ℕ)). l ++ h.word ∷ h.more) e);
-    }, fault_same (1 + place) (length h.front + 1) (omega (arith, h.at))))
+    inr (inr (
+      asked,
+      h.word,
+      record {
+        more = h.more;
+        written = h.written;
+        before = (tt, h.before);
+        bad = h.bad;
+        no_option = λ e. other h.word h.more (h.written ∙ ap (λ (l : List (List ℕ)). l ++ h.word ∷ h.more) e);
+      },
+      fault_same (1 + place) (length h.front + 1) (omega (arith, h.at)),
+    ))
 
 user-read : (user : List ℕ) (more : List (List ℕ)) → IsName user → (r : Result (List (List ℕ)) ℕ) → NamesOrStops more r
     → SaysStatOrFaults (codes "-u" ∷ user ∷ more) (or_bad_name 3 r >>= (λ queues. Ok (record { user = Some user; queues = queues })))
 user-read user more is (Ok names) h = (ap (λ (l : List (List ℕ)). codes "-u" ∷ user ∷ l) (sym h.1), (is, subst AreNames (sym h.1) h.0))
 user-read user more is (Err place) h =
     let asked : Asked = record { user = Some user; queues = h.front } in
-    inr (inr (asked, h.word, record {
-      more = h.more;
-      written = ap (λ (l : List (List ℕ)). codes "-u" ∷ user ∷ l) h.written;
-      before = (is, h.before);
-      bad = h.bad;
-      no_option = λ e. cc;
-    }, fault_same (3 + place) (length (stat_words asked) + 1) (omega (arith, h.at))))
+    inr (inr (
+      asked,
+      h.word,
+      record {
+        more = h.more;
+        written = ap (λ (l : List (List ℕ)). codes "-u" ∷ user ∷ l) h.written;
+        before = (is, h.before);
+        bad = h.bad;
+        no_option = λ e. cc;
+      },
+      fault_same (3 + place) (length (stat_words asked) + 1) (omega (arith, h.at)),
+    ))
 
 option-read : (words : List (List ℕ)) → SaysStatOrFaults (codes "-u" ∷ words) (of_user (codes "-u" ∷ words))
 option-read [] = inl (refl, refl)

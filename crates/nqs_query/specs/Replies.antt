@@ -1,5 +1,5 @@
 -- Replies of one line.
-use Rattle.std.specs.Prelude.{ℕ, List, [], ◌∷◌}
+use Rattle.std.specs.Prelude.{List, [], ◌∷◌}
 use Rattle.nqs_types.specs.declared.event.Reply.{Reply}
 use Rattle.nqs_types.specs.declared.event.Reply.TheVariants as reply
 use Rattle.nqs_rules.specs.Text.{Text}

@@ -189,9 +189,9 @@ reads-mixed : (digits : List ℕ) → Reads (tear_of (codes "mixed:" ++ digits))
 reads-mixed digits =
     let word = codes "mixed:" ++ digits in
     subst (λ (m : Read Tear). Reads m (IsTear word) (NoTear word)) (sym (tear-mixed digits))
-        (reads-same (number_tear digits) (λ t. (n : ℕ) × IsNumber 0 last_number digits n × (t ≡ tear.Mixed n)) (IsTear word) (NoNumber 0 last_number digits) (NoTear word)
-        (reads-map (or_cause (number_of 0 last_number digits) cause.BadNumber) (λ (n : ℕ). tear.Mixed n) (IsNumber 0 last_number digits) (NoNumber 0 last_number digits) (reads-number 0 last_number digits))
-        (λ t. ((λ h. subst (IsTear word) (sym h.2) (digits, refl, h.1)), mixed-tear digits t)) (λ why. ((λ h. inl (digits, refl, h)), no-mixed-tear digits why)))
+    (reads-same (number_tear digits) (λ t. (n : ℕ) × IsNumber 0 last_number digits n × (t ≡ tear.Mixed n)) (IsTear word) (NoNumber 0 last_number digits) (NoTear word)
+    (reads-map (or_cause (number_of 0 last_number digits) cause.BadNumber) (λ (n : ℕ). tear.Mixed n) (IsNumber 0 last_number digits) (NoNumber 0 last_number digits) (reads-number 0 last_number digits))
+    (λ t. ((λ h. subst (IsTear word) (sym h.2) (digits, refl, h.1)), mixed-tear digits t)) (λ why. ((λ h. inl (digits, refl, h)), no-mixed-tear digits why)))
 
 -- none of the three
 abbrev IsOther : List ℕ → Type 0
@@ -231,8 +231,8 @@ other-why word why h (inr m) = m.3
 reads-other : (word : List ℕ) → IsOther word → Reads (tear_of word) (IsTear word) (NoTear word)
 reads-other word h =
     subst (λ (m : Read Tear). Reads m (IsTear word) (NoTear word)) (sym (other-tear word h))
-        (reads-same {A = Tear} (Err cause.UnknownWord) (λ t. ⊥) (IsTear word) (λ why. why ≡ cause.UnknownWord) (NoTear word) (reads-Err {A = Tear} cause.UnknownWord)
-        (λ t. ((λ x. absurd x), (λ e. other-is word t h e))) (λ why. ((λ e. inr (h.0, h.1, h.2, e)), other-why word why h)))
+    (reads-same {A = Tear} (Err cause.UnknownWord) (λ t. ⊥) (IsTear word) (λ why. why ≡ cause.UnknownWord) (NoTear word) (reads-Err {A = Tear} cause.UnknownWord)
+    (λ t. ((λ x. absurd x), (λ e. other-is word t h e))) (λ why. ((λ e. inr (h.0, h.1, h.2, e)), other-why word why h)))
 
 -- which of the four a word is
 pub reads-tear : (word : List ℕ) → Reads (tear_of word) (IsTear word) (NoTear word)

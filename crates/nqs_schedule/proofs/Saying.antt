@@ -172,11 +172,11 @@ unfolding hosts_from all_named
 reads-hosts [] bad site = reads-named bad site
 reads-hosts (word ∷ words) bad site =
     reads-same (further_host site (name_of word.text) >>= f) (λ all. (n : List ℕ) × IsHere site word.text n × ((bad ≡ false) × NameHosts (site ++ n ∷ []) (texts words) all)) (λ all. (bad ≡ false) × (IsNewHost site word.text × NameHosts (site ++ word.text ∷ []) (texts words) all))
-        (λ why. NoNewHost site word.text why ⊎ ((n : List ℕ) × IsHere site word.text n × NameNoHosts bad (site ++ n ∷ []) (texts words) why)) (NameNoHosts bad site (texts (word ∷ words)))
-        (reads-bind (further_host site (name_of word.text)) f (IsHere site word.text) (NoNewHost site word.text) (λ n all. (bad ≡ false) × NameHosts (site ++ n ∷ []) (texts words) all) (λ n why. NameNoHosts bad (site ++ n ∷ []) (texts words) why)
-            (reads-new site word.text) (λ n. reads-hosts words bad (site ++ n ∷ [])))
-        (λ all. ((λ h. (h.2.0, (h.1.0, subst (λ (n : List ℕ). NameHosts (site ++ n ∷ []) (texts words) all) h.1.1 h.2.1))), (λ h. (word.text, (h.1.0, refl), (h.0, h.1.1)))))
-        (λ why. (there why, back why))
+    (λ why. NoNewHost site word.text why ⊎ ((n : List ℕ) × IsHere site word.text n × NameNoHosts bad (site ++ n ∷ []) (texts words) why)) (NameNoHosts bad site (texts (word ∷ words)))
+    (reads-bind (further_host site (name_of word.text)) f (IsHere site word.text) (NoNewHost site word.text) (λ n all. (bad ≡ false) × NameHosts (site ++ n ∷ []) (texts words) all) (λ n why. NameNoHosts bad (site ++ n ∷ []) (texts words) why)
+    (reads-new site word.text) (λ n. reads-hosts words bad (site ++ n ∷ [])))
+    (λ all. ((λ h. (h.2.0, (h.1.0, subst (λ (n : List ℕ). NameHosts (site ++ n ∷ []) (texts words) all) h.1.1 h.2.1))), (λ h. (word.text, (h.1.0, refl), (h.0, h.1.1)))))
+    (λ why. (there why, back why))
   where
     f : List ℕ → Read (List (List ℕ))
     f name = hosts_from (site ++ name ∷ []) words bad
@@ -315,11 +315,11 @@ reads-first site is_open line word words bad v = by (is_hosts v && is_open) refl
         let p = and_parts (is_hosts v) is_open is in
         let names : NamesSite is_open v = (hosts-verb v p.0, p.1) in
         reads-same (hosts_say ws) (λ says. (all : List (List ℕ)) × HostsSay bad (texts words) all × (says ≡ Hosts all)) (IsFirst site is_open word words bad line v) (HostsFault bad (texts words)) (FirstFaults site is_open bad v (texts words))
-            (reads-site word words bad) (hosts names) (site_faults names)
+        (reads-site word words bad) (hosts names) (site_faults names)
     by false is =
         let never = closed is in
         reads-same (event_says site line ws v) (SaysEvent (Spells site (qmgr_text line ws) bad (form_of v) (texts words))) (IsFirst site is_open word words bad line v) (Faults site bad (form_of v) (texts words)) (FirstFaults site is_open bad v (texts words))
-            (reads-event site line ws v) (events never) (event_faults never)
+        (reads-event site line ws v) (events never) (event_faults never)
 
 nothing_said : Bool → Read Says
 nothing_said bad = cond bad (Err cause.BadQuote) (Ok Nothing)
@@ -337,7 +337,7 @@ unfolding words_say nothing_said
 reads-words site is_open line [] bad = reads-none bad
 reads-words site is_open line (word ∷ words) bad =
     reads-bind (or_cause (verb_of word.text) cause.UnknownWord) (λ v. verb_says site is_open line (behind word words bad) v) (IsVerb word.text) (IsNone (IsVerb word.text) cause.UnknownWord)
-        (λ v says. IsFirst site is_open word words bad line v says) (λ v why. FirstFaults site is_open bad v (texts words) why) (reads-verb word.text) (reads-first site is_open line word words bad)
+    (λ v says. IsFirst site is_open word words bad line v says) (λ v why. FirstFaults site is_open bad v (texts words) why) (reads-verb word.text) (reads-first site is_open line word words bad)
 
 pub words_are_read : ReadsWords
 words_are_read site is_open line ws (Ok says) = (reads-words site is_open line ws.words ws.bad).0 says

@@ -109,11 +109,11 @@ reads-short word bad = by (nat_lt 16384 (length word.text)) refl
     by true is =
         let long = less_test 16384 (length word.text) is in
         reads-same {A = Unit {0}} (Err cause.OutputTooLong) (λ u. ⊥) (λ u. IsShort word.text) (λ why. why ≡ cause.OutputTooLong) (IsTooLong word.text) (reads-Err {A = Unit {0}} cause.OutputTooLong)
-            (λ u. ((λ x. absurd x), (λ short. absurd (long_short long short)))) (λ why. ((λ e. (long, e)), (λ h. h.1)))
+        (λ u. ((λ x. absurd x), (λ short. absurd (long_short long short)))) (λ why. ((λ e. (long, e)), (λ h. h.1)))
     by false is =
         let short = no_less 16384 (length word.text) is in
         reads-same {A = Unit {0}} (Ok tt) (λ u. u ≡ tt) (λ u. IsShort word.text) (λ why. ⊥) (IsTooLong word.text) (reads-Ok {A = Unit {0}} tt)
-            (λ u. ((λ e. short), (λ h. refl))) (λ why. ((λ x. absurd x), (λ h. absurd (long_short h.0 short))))
+        (λ u. ((λ e. short), (λ h. refl))) (λ why. ((λ x. absurd x), (λ h. absurd (long_short h.0 short))))
 
 -- a good end, tested twice
 reads-end : (e : WorldEvent) (bad : Bool) → Reads {A = WorldEvent} (good_test bad >>= (λ u. over_test (false || bad) >>= (λ v. Ok e))) (λ d. (bad ≡ false) × (d ≡ e)) (HasBadQuote bad)
@@ -155,13 +155,13 @@ reads-outputs f ws i = by (at ws.words i) (at ws.words (suc i))
     by (inr h) (inl k) =
         let last = past ws.words (suc i) k in
         from (Some h.0) None None (h.0.text ∷ []) h.1 k.0 last.0 (h.2 ∙ ap (λ (l : List (List ℕ)). h.0.text ∷ l) k.1)
-            (reads-after (short_enough (Some h.0) ws.bad) _ (IsShort h.0.text) (IsTooLong h.0.text) (λ d. (ws.bad ≡ false) × (d ≡ f h.0.text [])) (HasBadQuote ws.bad) (reads-short h.0 ws.bad) (reads-end (f h.0.text []) ws.bad))
+        (reads-after (short_enough (Some h.0) ws.bad) _ (IsShort h.0.text) (IsTooLong h.0.text) (λ d. (ws.bad ≡ false) × (d ≡ f h.0.text [])) (HasBadQuote ws.bad) (reads-short h.0 ws.bad) (reads-end (f h.0.text []) ws.bad))
     by (inr h) (inr k) =
         let more = words_behind ws (suc (suc i)) in
         from (Some h.0) (Some k.0) (slice_get ws.words (suc (suc i))) (h.0.text ∷ k.0.text ∷ more) h.1 k.1 refl (h.2 ∙ ap (λ (l : List (List ℕ)). h.0.text ∷ l) k.2)
-            (reads-after (short_enough (Some h.0) ws.bad) _ (IsShort h.0.text) (IsTooLong h.0.text) (λ d. IsShort k.0.text × (IsOver ws.bad more × (d ≡ f h.0.text k.0.text))) (λ why. IsTooLong k.0.text why ⊎ (IsShort k.0.text × IsNotOver ws.bad more why)) (reads-short h.0 ws.bad)
-            (reads-after (short_enough (Some k.0) ws.bad) _ (IsShort k.0.text) (IsTooLong k.0.text) (λ d. IsOver ws.bad more × (d ≡ f h.0.text k.0.text)) (IsNotOver ws.bad more) (reads-short k.0 ws.bad)
-            (reads-then (nothing_at ws (suc (suc i))) (f h.0.text k.0.text) (IsOver ws.bad more) (IsNotOver ws.bad more) (reads-nothing ws (suc (suc i))))))
+        (reads-after (short_enough (Some h.0) ws.bad) _ (IsShort h.0.text) (IsTooLong h.0.text) (λ d. IsShort k.0.text × (IsOver ws.bad more × (d ≡ f h.0.text k.0.text))) (λ why. IsTooLong k.0.text why ⊎ (IsShort k.0.text × IsNotOver ws.bad more why)) (reads-short h.0 ws.bad)
+        (reads-after (short_enough (Some k.0) ws.bad) _ (IsShort k.0.text) (IsTooLong k.0.text) (λ d. IsOver ws.bad more × (d ≡ f h.0.text k.0.text)) (IsNotOver ws.bad more) (reads-short k.0 ws.bad)
+        (reads-then (nothing_at ws (suc (suc i))) (f h.0.text k.0.text) (IsOver ws.bad more) (IsNotOver ws.bad more) (reads-nothing ws (suc (suc i))))))
 
 -- ---- a whole form
 
@@ -199,25 +199,25 @@ reads-form site line ws (never why) i = reads-Err {A = WorldEvent} why
 reads-form site line ws (done e) i = reads-then (nothing_at ws i) e (IsOver ws.bad (words_behind ws i)) (IsNotOver ws.bad (words_behind ws i)) (reads-nothing ws i)
 reads-form site line ws (host f) i =
     rw (host-word site ws i) (slot ws i (λ word. or_cause (name_of word) cause.BadName >>= host_of site) (IsHost site) (NoHost site) (λ h. read_form site line ws (f h) (suc i))
-        (λ h more e. Spells site (qmgr_text line ws) ws.bad (f h) more e) (λ h more why. Faults site ws.bad (f h) more why) (reads-host site) (λ h. reads-form site line ws (f h) (suc i)))
+    (λ h more e. Spells site (qmgr_text line ws) ws.bad (f h) more e) (λ h more why. Faults site ws.bad (f h) more why) (reads-host site) (λ h. reads-form site line ws (f h) (suc i)))
 reads-form site line ws (name f) i =
     slot ws i (λ word. or_cause (name_of word) cause.BadName) IsNameWord NoName (λ n. read_form site line ws (f n) (suc i))
-        (λ n more e. Spells site (qmgr_text line ws) ws.bad (f n) more e) (λ n more why. Faults site ws.bad (f n) more why) reads-name (λ n. reads-form site line ws (f n) (suc i))
+    (λ n more e. Spells site (qmgr_text line ws) ws.bad (f n) more e) (λ n more why. Faults site ws.bad (f n) more why) reads-name (λ n. reads-form site line ws (f n) (suc i))
 reads-form site line ws (request f) i =
     slot ws i (λ word. or_bad_request (named_of word) >>= (λ id. host_of site id.host >>= (λ h. Ok (record { seq = id.seq; host = h })))) (IsId site) (NoId site) (λ id. read_form site line ws (f id) (suc i))
-        (λ id more e. Spells site (qmgr_text line ws) ws.bad (f id) more e) (λ id more why. Faults site ws.bad (f id) more why) (reads-id site) (λ id. reads-form site line ws (f id) (suc i))
+    (λ id more e. Spells site (qmgr_text line ws) ws.bad (f id) more e) (λ id more why. Faults site ws.bad (f id) more why) (reads-id site) (λ id. reads-form site line ws (f id) (suc i))
 reads-form site line ws (number low high f) i =
     slot ws i (λ word. or_cause (number_of low high word) cause.BadNumber) (IsNumber low high) (NoNumber low high) (λ n. read_form site line ws (f n) (suc i))
-        (λ n more e. Spells site (qmgr_text line ws) ws.bad (f n) more e) (λ n more why. Faults site ws.bad (f n) more why) (reads-number low high) (λ n. reads-form site line ws (f n) (suc i))
+    (λ n more e. Spells site (qmgr_text line ws) ws.bad (f n) more e) (λ n more why. Faults site ws.bad (f n) more why) (reads-number low high) (λ n. reads-form site line ws (f n) (suc i))
 reads-form site line ws (disk f) i =
     slot ws i (λ word. or_cause (disk_of word) cause.UnknownWord) IsDisk NoDisk (λ d. read_form site line ws (f d) (suc i))
-        (λ d more e. Spells site (qmgr_text line ws) ws.bad (f d) more e) (λ d more why. Faults site ws.bad (f d) more why) reads-disk (λ d. reads-form site line ws (f d) (suc i))
+    (λ d more e. Spells site (qmgr_text line ws) ws.bad (f d) more e) (λ d more why. Faults site ws.bad (f d) more why) reads-disk (λ d. reads-form site line ws (f d) (suc i))
 reads-form site line ws (tear f) i =
     slot ws i tear_of IsTear NoTear (λ t. read_form site line ws (f t) (suc i))
-        (λ t more e. Spells site (qmgr_text line ws) ws.bad (f t) more e) (λ t more why. Faults site ws.bad (f t) more why) reads-tear (λ t. reads-form site line ws (f t) (suc i))
+    (λ t more e. Spells site (qmgr_text line ws) ws.bad (f t) more e) (λ t more why. Faults site ws.bad (f t) more why) reads-tear (λ t. reads-form site line ws (f t) (suc i))
 reads-form site line ws (text f) i =
     rw (handed (text_at ws i)) (slot ws i (λ word. Ok word) IsText NoText (λ t. read_form site line ws (f t) (suc i))
-        (λ t more e. Spells site (qmgr_text line ws) ws.bad (f t) more e) (λ t more why. Faults site ws.bad (f t) more why) (λ word. reads-Ok word) (λ t. reads-form site line ws (f t) (suc i)))
+    (λ t more e. Spells site (qmgr_text line ws) ws.bad (f t) more e) (λ t more why. Faults site ws.bad (f t) more why) (λ word. reads-Ok word) (λ t. reads-form site line ws (f t) (suc i)))
 reads-form site line ws (words f) i = reads-then (good_test ws.bad) (f (words_behind ws i)) (ws.bad ≡ false) (HasBadQuote ws.bad) (reads-good ws.bad)
 reads-form site line ws (outputs f) i = reads-outputs f ws i
 reads-form site line ws (rest f) i = reads-Ok (f (qmgr_text line ws))

@@ -148,7 +148,7 @@ unfolding quoted_word
 quoted-word line start word rest is over =
     let there = behind line start (quoted_text word ++ rest) is in
     let size : length line - length rest ≡ start + length (34 ∷ quoted_text word) =
-        omega (arith, length-drop start line, ap length is, length-append (34 ∷ quoted_text word) rest) in
+    omega (arith, length-drop start line, ap length is, length-append (34 ∷ quoted_text word) rest) in
     rw (there, reads_back word rest, over-is rest over) (λ j. Found (record { text = word; end = size j }))
 
 quote_first : (word rest : List ℕ) → begins_with_quote ((34 ∷ quoted_text word) ++ rest) ≡ true
@@ -291,14 +291,18 @@ one_space b bs e (inr (inr h)) = inr (inr (h.0, h.1, record { gap = b ∷ h.2.ga
 plain_first : (b : ℕ) (bs : List ℕ) → (b == 32) ≡ false → (b == 34) ≡ false → Begins (b ∷ bs)
 plain_first b bs s q =
     let t = to_space bs in
-    inr (inr (b ∷ t.0, t.1, record {
-      gap = [];
-      text = b ∷ t.0;
-      written = ap (λ (l : List ℕ). b ∷ l) t.2;
-      spaces = no_spaces;
-      writes = inl ((not_quote b q, more_word b t.0 (not_space b s) t.3), refl);
-      over = t.4;
-    }))
+    inr (inr (
+      b ∷ t.0,
+      t.1,
+      record {
+        gap = [];
+        text = b ∷ t.0;
+        written = ap (λ (l : List ℕ). b ∷ l) t.2;
+        spaces = no_spaces;
+        writes = inl ((not_quote b q, more_word b t.0 (not_space b s) t.3), refl);
+        over = t.4;
+      },
+    ))
 
 begins : (line : List ℕ) → IsLine line → Begins line
 begins [] is = inl no_spaces

@@ -1,4 +1,4 @@
-use Rattle.std.proofs.Common.{◌≡◌, ◌++◌, length, take}
+use Rattle.std.proofs.Common.{◌≡◌, ◌++◌, take}
 use Rattle.nqs_rules.specs.Transcript.{lines}
 use Rattle.nqs_query.proofs.reply.put_lines.Given as goal
 

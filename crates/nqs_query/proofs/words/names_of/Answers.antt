@@ -1,4 +1,4 @@
-use Rattle.std.proofs.Common.{◌≡◌, ◌+◌, ◌++◌, ◌∷◌, [], sym, ap, ◌∙◌, arith, rules}
+use Rattle.std.proofs.Common.{◌≡◌, ◌++◌, ◌∷◌, [], sym, ap, ◌∙◌, rules}
 use Rattle.nqs_words.specs.Values.{name_of}
 use Rattle.nqs_query.proofs.Names.{names_bad, names_more, names_end}
 use Rattle.nqs_query.proofs.words.names_of.Goals as goal

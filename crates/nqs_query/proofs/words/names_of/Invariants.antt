@@ -1,4 +1,4 @@
-use Rattle.std.proofs.Common.{◌≡◌, drop, length}
+use Rattle.std.proofs.Common.{◌≡◌, drop}
 use Rattle.nqs_query.specs.Words.{names_of}
 use Rattle.nqs_query.proofs.Names.{joined}
 use Rattle.nqs_query.proofs.words.names_of.Given as goal

@@ -1,5 +1,5 @@
-use Rattle.std.proofs.Common.{◌≡◌, List, ℕ, Ok, Some, None, refl, drop}
-use Rattle.nqs_query.specs.Words.{Read, Asked, ◌>>=◌, user_word, queues_from, of_all, of_user}
+use Rattle.std.proofs.Common.{◌≡◌, List, ℕ, Ok, None, refl}
+use Rattle.nqs_query.specs.Words.{queues_from, of_all}
 use Rattle.nqs_query.proofs.words.of_all.Goals as goal
 
 asked : (words queues : List (List ℕ)) → queues_from 1 words ≡ Ok queues → of_all words ≡ Ok (record { user = None; queues = queues })

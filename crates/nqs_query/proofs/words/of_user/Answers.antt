@@ -1,5 +1,5 @@
-use Rattle.std.proofs.Common.{◌≡◌, List, ℕ, Ok, Some, None, refl, sym, drop}
-use Rattle.nqs_query.specs.Words.{Read, Asked, ◌>>=◌, user_word, queues_from, of_all, of_user}
+use Rattle.std.proofs.Common.{◌≡◌, List, ℕ, Ok, Some, refl, sym, drop}
+use Rattle.nqs_query.specs.Words.{user_word, queues_from, of_user}
 use Rattle.nqs_query.proofs.words.of_user.Goals as goal
 
 asked : (words queues : List (List ℕ)) (user : List ℕ) → user_word words ≡ Ok user → queues_from 3 (drop 2 words) ≡ Ok queues → of_user words ≡ Ok (record { user = Some user; queues = queues })
