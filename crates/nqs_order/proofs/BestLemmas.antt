@@ -1,5 +1,5 @@
 -- Searches for the best: what a value changes, and when there is one.
-use Rattle.std.proofs.Common.{◌≡◌, ℕ, ◌+◌, ◌-◌, ◌<◌, ◌||◌, Bool, true, false, List, [], ◌∷◌, drop, Option, None, Some, is_some, slice_get, sym, refl, ap, ◌∙◌, arith, if◌then◌else◌}
+use Rattle.std.proofs.Common.{true≢false, ◌≡◌, ℕ, ◌+◌, ◌-◌, ◌<◌, ◌||◌, Bool, true, false, List, [], ◌∷◌, drop, Option, None, Some, is_some, slice_get, sym, refl, ap, ◌∙◌, arith, if◌then◌else◌}
 use Rattle.std.specs.List.{list_any}
 use Rattle.nqs_types.specs.Table.{better, best_from}
 use Rattle.nqs_types.proofs.TableLemmas.{drop-at}
@@ -54,3 +54,13 @@ module _ {V : Type 0} (test : V → Bool) (beats : V → V → Bool) where
           → (b || list_any test vs) ≡ is_some (if b then better beats (n, v) (best_from test beats (n + 1) vs) else best_from test beats (n + 1) vs)
       by true rest = sym (is_some-better (n, v) (best_from test beats (n + 1) vs))
       by false rest = rest
+
+module _ {V : Type 0} (test weaker : V → Bool) (implied : (v : V) → weaker v ≡ false → test v ≡ false) where
+  -- where none passes a weaker test, none passes the test
+  pub none-passes : (vs : List V) → list_any weaker vs ≡ false → list_any test vs ≡ false
+  none-passes [] none = refl
+  none-passes (v ∷ vs) none = by (weaker v) refl (none-passes vs) none
+    where
+      by : (b : Bool) → weaker v ≡ b → (list_any weaker vs ≡ false → list_any test vs ≡ false) → (b || list_any weaker vs) ≡ false → (test v || list_any test vs) ≡ false
+      by true is rest some = absurd (true≢false some)
+      by false is rest some = ap (λ (b : Bool). b || list_any test vs) (implied v is) ∙ rest some

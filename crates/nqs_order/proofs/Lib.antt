@@ -1,1 +1,2 @@
 pub mod BestLemmas
+pub mod Candidates

@@ -6,16 +6,23 @@ ghost use Rattle.nqs_types.specs.State.{content};
 ghost use Rattle.nqs_rules.specs.Order.{is_greater, is_candidate, next_queue, print_on, is_local, move_to, choice_for, pick};
 
 use crate::best::best_of;
-use crate::eligible::{first_row, has_eligible};
+use crate::eligible::{any_waiting, first_row, has_eligible};
 use crate::limits::is_within_limits;
 use nqs_devices::free_device;
 use nqs_routing::destination_in;
 use nqs_types::{Choice, HostState, Kind, QueueDef, Row};
 
+// A queue where no row waits, or at its limits, is told by one look at the rows: the costly tests of rows come last.
 fn is_candidate(state: &HostState, queue: &QueueDef, now: u64) -> bool
     ensures { result ≡ is_candidate now (content state.now) queue.now }
 {
-    queue.started && has_eligible(state, queue, now) && is_within_limits(state, queue)
+    if !queue.started {
+        return false;
+    }
+    if !any_waiting(state, queue, now) {
+        return false;
+    }
+    is_within_limits(state, queue) && has_eligible(state, queue, now)
 }
 
 fn is_greater(one: &QueueDef, other: &QueueDef) -> bool

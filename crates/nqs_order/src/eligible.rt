@@ -71,6 +71,13 @@ pub fn comes_before(one: &Row, other: &Row) -> bool
         || (one.job.priority == other.job.priority && one.arrival < other.arrival)
 }
 
+// Whether a row of a queue is waiting. It looks no further than the first one.
+pub(crate) fn any_waiting(state: &HostState, queue: &QueueDef, now: u64) -> bool
+    ensures { result ≡ list_any (is_waiting queue.now now) state.now.rows.items }
+{
+    state.rows.any(|row: &Row| is_waiting(queue, now, row))
+}
+
 // Whether a row of a queue is eligible. It looks no further than the first one.
 fn any_eligible(state: &HostState, queue: &QueueDef, now: u64) -> bool
     ensures { result ≡ list_any (is_eligible queue.now now (content state.now)) state.now.rows.items }

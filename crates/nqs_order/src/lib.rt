@@ -13,3 +13,6 @@ pub use choice::pick;
 pub use eligible::{comes_before, first_eligible};
 pub use limits::within_limits;
 pub use nqs_types::Choice;
+
+#[cfg(test)]
+mod tests;

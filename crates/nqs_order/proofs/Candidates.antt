@@ -1,0 +1,23 @@
+-- A queue where no row waits isn't a candidate.
+use Rattle.std.proofs.Common.{◌≡◌, ℕ, Bool, true, false, ◌&&◌, length, filter, is_some, refl, sym, ap, ◌∙◌}
+use Rattle.std.specs.List.{list_any}
+use Rattle.nqs_types.specs.State.{State}
+use Rattle.nqs_types.specs.declared.request.Row.{Row}
+use Rattle.nqs_types.specs.declared.queue.QueueDef.{QueueDef}
+use Rattle.nqs_rules.specs.Order.{is_active_of, below, kind_allows, is_eligible, comes_before, first_eligible, is_within_limits, is_candidate}
+use Rattle.nqs_order.specs.Waiting.{is_waiting}
+use Rattle.nqs_order.proofs.BestLemmas.{is_some-best, none-passes}
+
+module _ {E : Type 0} (d : QueueDef) (now : ℕ) (s : State E) where
+  eligible_waits : (r : Row E) → is_waiting d now r ≡ false → is_eligible d now s r ≡ false
+  eligible_waits r none = ap (λ (b : Bool). b && below (length (filter (is_active_of d.name r.job.owner) s.rows)) d.user_limit && kind_allows d.kind d now s r) none
+
+  none_eligible : list_any (is_waiting d now) s.rows ≡ false → is_some (first_eligible d now s) ≡ false
+  none_eligible none = sym (is_some-best (is_eligible d now s) comes_before s.rows 0) ∙ none-passes (is_eligible d now s) (is_waiting d now) eligible_waits s.rows none
+
+  and-false : (b : Bool) → (b && false) ≡ false
+  and-false true = refl
+  and-false false = refl
+
+  pub no_candidate : list_any (is_waiting d now) s.rows ≡ false → false ≡ is_candidate now s d
+  no_candidate none = sym (ap (λ (b : Bool). d.started && is_within_limits d s && b) (none_eligible none) ∙ and-false (d.started && is_within_limits d s))
