@@ -7,8 +7,6 @@
 
 mod dests;
 mod note;
-#[cfg(test)]
-mod tests;
 
 pub use dests::{destination, destination_in, find_peer};
 pub use note::{note_refusal, note_silence};
