@@ -8,8 +8,6 @@
 
 mod journal;
 mod spool;
-#[cfg(test)]
-mod tests;
 mod words;
 
 use journal::append_payloads;
