@@ -1,0 +1,12 @@
+-- The bytes of a journal, by hand.
+use Rattle.std.specs.Prelude.{ℕ, List, [], ◌∷◌, ◌++◌}
+
+-- kind 1; the host at place 0; one name, of five bytes: alpha
+abbrev pub alpha_record : List ℕ
+alpha_record = 0x01 ∷ 0x00 ∷ 0x01 ∷ 0x05 ∷ 0x61 ∷ 0x6c ∷ 0x70 ∷ 0x68 ∷ 0x61 ∷ []
+
+-- NQS-JOURNAL-v1 and two line feeds; the gate; the length 9, and the record; a closed gate
+abbrev pub alpha_journal : ℕ → List ℕ
+alpha_journal gate =
+    0x4e ∷ 0x51 ∷ 0x53 ∷ 0x2d ∷ 0x4a ∷ 0x4f ∷ 0x55 ∷ 0x52 ∷ 0x4e ∷ 0x41 ∷ 0x4c ∷ 0x2d ∷ 0x76 ∷ 0x31 ∷ 0x0a ∷ 0x0a
+    ∷ gate ∷ 0x00 ∷ 0x00 ∷ 0x00 ∷ 0x09 ∷ alpha_record ++ 0x00 ∷ []
