@@ -1,6 +1,5 @@
 pub mod Fates
 pub mod Burns
-pub mod Coming
 pub mod Turning
 pub mod Starting
 pub mod Hosting

@@ -1,6 +1,5 @@
 pub mod Lists
 pub mod Props
-pub mod Pasts
 pub mod Worlds
 pub mod Turns
 pub mod Left

@@ -35,7 +35,6 @@ fn take_event(
     match node.take(alloc, event, out) {
         Ok(()) => Ok(true),
         Err(NodeFault::Disk(_)) => Ok(false),
-        // A node of a world isn't stopped, as one that is gets closed at once.
         Err(_) => Err(Memory),
     }
 }
@@ -56,7 +55,6 @@ fn start_event(
     match node.start_next(alloc, now, out) {
         Ok(more) => Ok((true, more)),
         Err(NodeFault::Disk(_)) => Ok((false, false)),
-        // A node of a world isn't stopped, as one that is gets closed at once.
         Err(_) => Err(Memory),
     }
 }
