@@ -1,12 +1,13 @@
 -- A host that was formatted and booted on empty disks without a fuse is a new one.
-use Rattle.std.proofs.Common.{◌≡◌, ℕ, zero, suc, ◌+◌, ◌<◌, false, true, List, [], ◌∷◌, ◌++◌, take, length, None, refl, sym, ap, subst, ◌∙◌, arith}
+use Rattle.std.proofs.Common.{◌≡◌, ℕ, zero, suc, ◌+◌, ◌<◌, ◌≤◌, false, true, List, [], ◌∷◌, ◌++◌, take, length, None, Some, refl, sym, ap, subst, ◌∙◌, arith}
 use Rattle.nqs_types.specs.declared.change.Change.TheVariants.{Boot}
 use Rattle.nqs_types.specs.declared.ids.HostId.{HostId}
 use Rattle.nqs_types.specs.declared.tear.Tear.{Tear}
 use Rattle.nqs_types.specs.declared.tear.Tear.TheVariants.{Old}
 use Rattle.nqs_types.specs.declared.world.Which.{Which}
 use Rattle.nqs_types.specs.declared.world.Which.TheVariants.{Root, First, Second, Spool}
-use Rattle.nqs_outside.specs.History.{History, content, moment, extended}
+use Rattle.nqs_outside.specs.History.{History, State, content, state, moment, extended, IsImage}
+use Rattle.nqs_outside.proofs.Images.{fresh_image}
 use Rattle.nqs_journal.specs.Plan.{begin_calls}
 use Rattle.nqs_disk.specs.MemDisk as mem
 use Rattle.nqs_disk.specs.contracts.mem_disk.MemDiskDisk.TheImpl.{ghosts}
@@ -15,6 +16,7 @@ use Rattle.nqs_rules.specs.Applied.{applied}
 use Rattle.nqs_rules.specs.Format.{formatted}
 use Rattle.nqs_rules.specs.World.{Host, no_fuses, no_calls, new_host, hosts_from}
 use Rattle.nqs_store.specs.Commits.{IsKept}
+use Rattle.nqs_node.specs.Carried.{IsOneOrOther}
 use Rattle.nqs_store.specs.Disks.{histories_of, failing_of}
 use Rattle.nqs_store.specs.Formatted.{IsFormatted}
 use Rattle.nqs_store.specs.Images.{IsTold}
@@ -27,6 +29,8 @@ use Rattle.nqs_net.specs.declared.slot.Slot.{Slot}
 use Rattle.nqs_net.specs.declared.slot.Slot.TheVariants.{Up}
 use Rattle.nqs_net.specs.declared.slot.UpHost.{UpHost}
 use Rattle.nqs_net.proofs.Burns.{kept_disks}
+use Rattle.nqs_net.proofs.Coming.{told_here, come_more}
+use Rattle.nqs_net.specs.Pasts.{HasCome}
 
 -- an empty disk before any call
 abbrev pub unused : History
@@ -63,13 +67,33 @@ module _ (me : HostId) (site : List (List ℕ)) where
     two_calls Second = still disks.second (ap mem.history_of second ∙ bare Second) (λ i. ap (λ d. mem.fails_of d i) second ∙ unfused Second i)
     two_calls Spool = still disks.spool (ap mem.history_of spool ∙ bare Spool) (λ i. ap (λ d. mem.fails_of d i) spool ∙ unfused Spool i)
 
-    pub booted : (node : Node MemDisk ghosts) → Tells node (applied Boot (formatted me site)) → IsSoundHost (content_of node) → IsKept (failing_of mem.fails_of disks) [] (histories_of mem.history_of disks) (history_of node)
+    abbrev made_so : Which → History
+    made_so = histories_of mem.history_of disks
+
+    first_image : IsFormatted (mem.history_of disks.first) me site → (image : List ℕ) → IsImage (state (made_so First)) image → content (made_so First) ≡ image
+    first_image is image leaves = sym (fresh_image (content (made_so First)) image (subst (λ (s : State). IsImage s image) is.opened.quiet leaves))
+
+    formatted_come : IsFormatted (mem.history_of disks.first) me site → HasCome made_so (formatted me site)
+    formatted_come is = (
+      [],
+      record {
+        root = (two_calls Root).count;
+        first = (let two : moment (made_so First) ≡ 2 = (two_calls First).count in let few : moment (made_so First) ≤ 2 = omega (arith, two) in few);
+        second = (two_calls Second).count;
+        spool = (two_calls Spool).count;
+        told = told_here made_so (formatted me site) (first_image is) (ap (λ (h : History). h.calls) (ap mem.history_of spool ∙ bare Spool)) (formatted_told disks is);
+      },
+    )
+
+    pub booted : IsFormatted (mem.history_of disks.first) me site → (node : Node MemDisk ghosts) → Tells node (applied Boot (formatted me site)) → IsSoundHost (content_of node)
+        → IsKept (failing_of mem.fails_of disks) [] made_so (history_of node) → IsOneOrOther made_so (history_of node) (Some Boot) (formatted me site)
         → ((which : Which) (i : ℕ) → fails_of node which i ≡ failing_of mem.fails_of disks which i) → IsUp node (new_host site me.0)
-    booted node tells sound kept same = record {
+    booted is node tells sound kept moments same = record {
       up = refl;
       tells = tells;
       sound = sound;
       disks = kept_disks host (failing_of mem.fails_of disks) (fails_of node) (histories_of mem.history_of disks) (history_of node) two_calls same [] (formatted me site) kept;
+      past = come_more made_so node (formatted me site) Boot (formatted_come is) kept.calls moments tells;
     }
 
 -- one host more

@@ -21,12 +21,13 @@ use Rattle.nqs_rules.specs.Applied.{applied}
 use Rattle.nqs_rules.specs.Step.{step}
 use Rattle.nqs_rules.specs.Stepped.{stored_parts}
 use Rattle.nqs_rules.specs.World.{World as Network, Host, Ran, host_of, put_host, stopped, used, halted_host, halts, crashes_up, makes_change, boot_output, boots_down, steps, all_starts, shuts_down, takes_up, unseen, then_ran}
+use Rattle.nqs_store.specs.Commits.{IsKept}
 use Rattle.nqs_store.specs.Images.{IsTold}
 use Rattle.nqs_store.specs.Disks.{disk_at, histories_of, failing_of}
 use Rattle.nqs_store.specs.declared.disks.Disks.{Disks}
 use Rattle.nqs_store.specs.Sound.{IsSoundHost}
 use Rattle.nqs_store.proofs.TellsNow.{told_now}
-use Rattle.nqs_node.specs.Carried.{IsMade, IsCutBy, IsBlown}
+use Rattle.nqs_node.specs.Carried.{IsMade, IsCutBy, IsBlown, IsOneOrOther}
 use Rattle.nqs_node.specs.Nodes.{disk_of, history_of, fails_of, content_of, Tells}
 use Rattle.nqs_node.specs.declared.node.Node.{Node}
 use Rattle.nqs_laws.proofs.Sound.{get-here}
@@ -37,6 +38,7 @@ use Rattle.nqs_net.specs.declared.slot.Slot.{Slot}
 use Rattle.nqs_net.specs.declared.slot.Slot.TheVariants.{Up, Down}
 use Rattle.nqs_net.proofs.Fates.{unblown}
 use Rattle.nqs_net.proofs.Burns.{kept_disks}
+use Rattle.nqs_net.proofs.Coming.{come_more, down_come}
 use Rattle.nqs_net.proofs.Turning.{put_turn, torn_down, kept_turn, cut_turn, same_self}
 
 -- what a node tells is told by what a stop leaves of its disks
@@ -87,12 +89,12 @@ module _ (h : HostId) (w : Network) (host : Host) (tear : Tear) (packets : List 
     abbrev old : Which → History
     old = histories_of mem.history_of disks
 
-    pub boot_turn : (node : Node MemDisk ghosts) → IsSoundHost (content_of node) → Tells node (applied Boot host.state) → IsMade fails old (history_of node) (Some Boot) → ((which : Which) (i : ℕ) → fails_of node which i ≡ fails which i)
+    pub boot_turn : (node : Node MemDisk ghosts) → IsSoundHost (content_of node) → Tells node (applied Boot host.state) → IsMade fails old (history_of node) (Some Boot) → IsOneOrOther old (history_of node) (Some Boot) host.state → ((which : Which) (i : ℕ) → fails_of node which i ≡ fails which i)
         → (sent : List Message) (before after : List Seen) → sent ≡ packets ++ sent_in (filter_map boot_output host.state.rows) → after ≡ before ++ (seen.Boot h ∷ seen_from h (length packets) (filter_map boot_output host.state.rows))
         → Turns h (IsUp node) tear sent before after w (makes_change h host Boot (seen.Boot h ∷ []) (filter_map boot_output host.state.rows) w)
-    boot_turn node sound tells kept same sent before after sends saw =
+    boot_turn node sound tells kept moments same sent before after sends saw =
         kept_turn h w host tear packets faces (seen.Boot h ∷ []) (filter_map boot_output host.state.rows) Boot fails old is.disks (history_of node) (IsUp node) kept
-        (record { up = refl; tells = tells; sound = sound; disks = kept_disks host fails (fails_of node) old (history_of node) is.disks same (stored_parts Boot) (applied Boot host.state) kept }) sent before after sends saw
+        (record { up = refl; tells = tells; sound = sound; disks = kept_disks host fails (fails_of node) old (history_of node) is.disks same (stored_parts Boot) (applied Boot host.state) kept; past = come_more old node host.state Boot (down_come disks host is) (let k : IsKept fails [] old (history_of node) = kept in k.calls) moments tells }) sent before after sends saw
 
     pub boot_cut : (now : Which → History) (slot : Slot) (which : Which) (starved : Bool) (before after : List Seen) → after ≡ before ++ seen.Stop h ∷ [] → IsStopped tear now slot → starved ≡ false
         → IsTrue starved ⊎ (IsBlown (fails which) (old which) ⊎ IsCutBy fails old now (Some Boot) host.state which)

@@ -3,8 +3,6 @@ use Rattle.std.proofs.Common.{◌≡◌, ℕ, List, [], ◌∷◌, ◌++◌, ref
 use Rattle.nqs_types.specs.declared.world.Which.{Which}
 use Rattle.nqs_types.specs.declared.world.Which.TheVariants.{First, Spool}
 use Rattle.nqs_types.specs.declared.tear.Tear.{Tear}
-use Rattle.nqs_outside.specs.History.{History, content, state, fresh, after, IsImage}
-use Rattle.nqs_outside.proofs.Images.{fresh_image}
 use Rattle.nqs_disk.specs.MemDisk as mem
 use Rattle.nqs_disk.specs.contracts.mem_disk.MemDiskDisk.TheImpl.{ghosts}
 use Rattle.nqs_disk.specs.declared.mem_disk.MemDisk.{MemDisk}
@@ -13,40 +11,26 @@ use Rattle.nqs_store.specs.Commits.{EachImage}
 use Rattle.nqs_store.specs.Disks.{disk_at, histories_of, failing_of}
 use Rattle.nqs_store.specs.Images.{IsTold}
 use Rattle.nqs_store.specs.declared.disks.Disks.{Disks}
-use Rattle.nqs_store.proofs.TellsNow.{told_now}
-use Rattle.nqs_node.specs.Nodes.{disk_of, history_of, fails_of, content_of}
+use Rattle.nqs_node.specs.Nodes.{disk_of, history_of, fails_of}
 use Rattle.nqs_node.specs.declared.node.Node.{Node}
 use Rattle.nqs_net.specs.Left.{IsLeft, AreLeft}
+use Rattle.nqs_net.specs.Pasts.{HasCome}
 use Rattle.nqs_net.specs.Worlds.{IsUp, IsDown, IsSlot, AreSlots}
 use Rattle.nqs_net.specs.declared.slot.Slot.{Slot}
 use Rattle.nqs_net.proofs.Burns.{same_disks}
+use Rattle.nqs_net.proofs.Coming.{node_tells, down_tells, down_come}
 
 pub up_left : (node : Node MemDisk ghosts) (left : Disks MemDisk) (host : Host) → ((which : Which) → disk_at which left ≡ disk_of which node) → IsUp node host → IsLeft left host
 up_left node left host same up =
     let histories : histories_of mem.history_of left ≡ history_of node = λ j which. mem.history_of (same which j) in
-    let told : EachImage (history_of node) (λ images. IsTold (images First) (images Spool) host.state) =
-    subst (λ s. EachImage (history_of node) (λ images. IsTold (images First) (images Spool) s)) up.tells.is (told_now node.store (content_of node) refl up.tells.told) in
     record {
-      told = subst (λ h. EachImage h (λ images. IsTold (images First) (images Spool) host.state)) (sym histories) told;
+      told = subst (λ h. EachImage h (λ images. IsTold (images First) (images Spool) host.state)) (sym histories) (node_tells node host.state up.tells);
       disks = same_disks host (fails_of node) (failing_of mem.fails_of left) (history_of node) (histories_of mem.history_of left) up.disks (λ which i. ap (λ disk. mem.fails_of disk i) (same which)) (λ which. ap mem.history_of (same which));
+      past = subst (λ h. HasCome h host.state) (sym histories) up.past;
     }
-
--- where no call was made the only image is what a read gives
-bare_image : (h : History) (image : List ℕ) → h.calls ≡ [] → IsImage (state h) image → content h ≡ image
-bare_image h image none is =
-    let bare : state h ≡ fresh h.start = ap (after (fresh h.start)) none in
-    ap (λ s. s.content) bare ∙ sym (fresh_image h.start image (subst (λ s. IsImage s image) bare is))
 
 pub down_left : (left : Disks MemDisk) (host : Host) → IsDown left host → IsLeft left host
-down_left left host down =
-    let histories = histories_of mem.history_of left in
-    record {
-      told = λ images leaves.
-          let first = bare_image (histories First) (images First) (down.calls First) (leaves First) in
-          let spool = bare_image (histories Spool) (images Spool) (down.calls Spool) (leaves Spool) in
-          subst (λ f. IsTold f (images Spool) host.state) first (subst (λ s. IsTold (content (histories First)) s host.state) spool down.tells);
-      disks = down.disks;
-    }
+down_left left host down = record { told = down_tells left host down; disks = down.disks; past = down_come left host down }
 
 -- what the host of a slot leaves
 abbrev pub Leaves : Slot → Disks MemDisk → Type 0

@@ -1,5 +1,6 @@
 pub mod Fates
 pub mod Burns
+pub mod Coming
 pub mod Turning
 pub mod Starting
 pub mod Hosting

@@ -25,6 +25,7 @@ use Rattle.nqs_table.specs.Standing.{StandsFor, StandForEach}
 use Rattle.nqs_net.specs.Worlds.{IsUp, IsDown, IsSlot, AreSlots}
 use Rattle.nqs_net.specs.declared.slot.Slot.{Slot}
 use Rattle.nqs_net.proofs.Burns.{same_disks}
+use Rattle.nqs_net.proofs.Coming.{come_still}
 
 pub same_up : (old now : Node MemDisk ghosts) (host : Host) → ((which : Which) → history_of now which ≡ history_of old which) → ((which : Which) (i : ℕ) → fails_of now which i ≡ fails_of old which i)
     → content_of now ≡ content_of old → ((s : Plain) → Tells old s → Tells now s) → IsUp old host → IsUp now host
@@ -33,6 +34,7 @@ same_up old now host same fuse state tells up = record {
   tells = tells host.state up.tells;
   sound = subst IsSoundHost (sym state) up.sound;
   disks = same_disks host (fails_of old) (fails_of now) (history_of old) (history_of now) up.disks fuse same;
+  past = come_still (history_of old) (history_of now) host.state same up.past;
 }
 
 pub up_stands : (node : Node MemDisk ghosts) (state : HostState) (host : Host) → content state ≡ content_of node → IsUp node host → StandsFor state host.state

@@ -24,7 +24,7 @@ use Rattle.nqs_store.specs.Commits.{IsKept, IsCutAt}
 use Rattle.nqs_store.specs.Disks.{disk_at, histories_of, failing_of}
 use Rattle.nqs_store.specs.Images.{IsTold}
 use Rattle.nqs_store.specs.declared.disks.Disks.{Disks}
-use Rattle.nqs_node.specs.Carried.{IsMade, IsCutBy, IsBlown}
+use Rattle.nqs_node.specs.Carried.{IsMade, IsCutBy, IsBlown, IsOneOrOther}
 use Rattle.nqs_node.specs.Nodes.{disk_of, history_of, fails_of, is_starved, content_of, Tells}
 use Rattle.nqs_disk.specs.contracts.mem_disk.MemDiskDisk.TheImpl.{ghosts}
 use Rattle.nqs_node.specs.declared.node.Node.{Node}
@@ -33,12 +33,14 @@ use Rattle.nqs_laws.proofs.Frame.{put-same}
 use Rattle.nqs_laws.proofs.PairedRuns.{put-twice}
 use Rattle.nqs_laws.proofs.Sound.{get-here}
 use Rattle.nqs_net.specs.Lists.{sent_in, seen_from}
+use Rattle.nqs_net.specs.Pasts.{HasCome}
 use Rattle.nqs_net.specs.Worlds.{fuse_of, AreInTurn, AreDisks, IsUp, IsDown, IsSlot}
 use Rattle.nqs_net.specs.Turns.{IsTorn, IsStopped, IsTaken, IsDownSlot, Faces, IsAt, IsSameBut, Turns}
 use Rattle.nqs_net.specs.declared.slot.Slot.{Slot}
 use Rattle.nqs_net.specs.declared.slot.Slot.TheVariants.{Up, Down}
 use Rattle.nqs_net.proofs.Fates.{CutsTo, unblown, kept_fate, cut_fate}
 use Rattle.nqs_net.proofs.Burns.{kept_disks, same_disks}
+use Rattle.nqs_net.proofs.Coming.{come_more, come_still}
 
 -- outputs
 
@@ -158,19 +160,19 @@ module _ (h : HostId) (w : Network) (host : Host) (tear : Tear) (packets : List 
 
 module _ (h : HostId) (w : Network) (host : Host) (tear : Tear) (packets : List Message) (faces : Faces h host tear packets w) (x : Stepped (List ℕ))
     (fails : Which → ℕ → Bool) (old : Which → History) (disks : AreDisks host old fails) where
-  pub made_turn : (node : Node MemDisk ghosts) → host.up ≡ true → IsMade fails old (history_of node) x.change → Tells node (after_step x host.state) → IsSoundHost (content_of node)
+  pub made_turn : (node : Node MemDisk ghosts) → host.up ≡ true → HasCome old host.state → IsOneOrOther old (history_of node) x.change host.state → IsMade fails old (history_of node) x.change → Tells node (after_step x host.state) → IsSoundHost (content_of node)
       → ((which : Which) (i : ℕ) → fails_of node which i ≡ fails which i)
       → (sent : List Message) (before after : List Seen) → sent ≡ packets ++ sent_in (map shown x.outputs) → after ≡ before ++ seen_from h (length packets) (map shown x.outputs)
       → Turns h (IsUp node) tear sent before after w (steps h host x w)
-  made_turn node up made tells sound same sent before after sends saw = by x.change made tells
+  made_turn node up past moments made tells sound same sent before after sends saw = by x.change moments made tells
     where
-      by : (o : Option (Change (List ℕ))) → IsMade fails old (history_of node) o → Tells node (after_change o host.state) → Turns h (IsUp node) tear sent before after w (carries_out h host o (map shown x.outputs) w)
-      by None idle told =
-          idle_turn h w host faces.there (IsUp node) (record { up = up; tells = told; sound = sound; disks = same_disks host fails (fails_of node) old (history_of node) disks same idle }) tear faces.tear (map shown x.outputs) before after sent
+      by : (o : Option (Change (List ℕ))) → IsOneOrOther old (history_of node) o host.state → IsMade fails old (history_of node) o → Tells node (after_change o host.state) → Turns h (IsUp node) tear sent before after w (carries_out h host o (map shown x.outputs) w)
+      by None each idle told =
+          idle_turn h w host faces.there (IsUp node) (record { up = up; tells = told; sound = sound; disks = same_disks host fails (fails_of node) old (history_of node) disks same idle; past = come_still old (history_of node) host.state idle past }) tear faces.tear (map shown x.outputs) before after sent
           (sends ∙ ap (λ l. l ++ sent_in (map shown x.outputs)) faces.packets) (saw ∙ ap (λ l. before ++ seen_from h (length l) (map shown x.outputs)) faces.packets)
-      by (Some c) kept told =
+      by (Some c) each kept told =
           kept_turn h w host tear packets faces [] (map shown x.outputs) c fails old disks (history_of node) (IsUp node) kept
-          (record { up = refl; tells = told; sound = sound; disks = kept_disks host fails (fails_of node) old (history_of node) disks same (stored_parts c) (applied c host.state) kept }) sent before after sends saw
+          (record { up = refl; tells = told; sound = sound; disks = kept_disks host fails (fails_of node) old (history_of node) disks same (stored_parts c) (applied c host.state) kept; past = come_more old node host.state c past (let k : IsKept fails (stored_parts c) old (history_of node) = kept in k.calls) each told }) sent before after sends saw
 
   pub cut_step : (now : Which → History) (slot : Slot) (which : Which) (before after : List Seen) → after ≡ before ++ seen.Stop h ∷ [] → IsStopped tear now slot → IsCutBy fails old now x.change host.state which
       → Turns h (IsSlot slot) tear packets before after w (steps h host x w)
@@ -193,7 +195,7 @@ module _ (h : HostId) (w : Network) (host : Host) (tear : Tear) (packets : List 
   pub took_turn : IsTaken host x node out true → IsSoundHost (content_of node) → (sent : List Message) (before after : List Seen) → sent ≡ packets ++ sent_in out → after ≡ before ++ seen_from h (length packets) out
       → Turns h (IsUp node) tear sent before after w (steps h host x w)
   took_turn t sound sent before after sends saw =
-      made_turn h w host tear packets faces x t.fails t.old t.disks node t.up t.ended.1 t.ended.0 sound t.same sent before after
+      made_turn h w host tear packets faces x t.fails t.old t.disks node t.up t.past t.moments t.ended.1 t.ended.0 sound t.same sent before after
       (sends ∙ ap (λ l. packets ++ sent_in l) t.ended.2) (saw ∙ ap (λ l. before ++ seen_from h (length packets) l) t.ended.2)
 
   pub broke_turn : IsTaken host x node out false → (slot : Slot) (before after : List Seen) → after ≡ before ++ seen.Stop h ∷ [] → IsStopped tear (history_of node) slot → ((which : Which) → is_starved node which ≡ false)

@@ -1,5 +1,6 @@
 pub mod Lists
 pub mod Props
+pub mod Pasts
 pub mod Worlds
 pub mod Turns
 pub mod Left

@@ -2,11 +2,12 @@
 use Rattle.std.specs.Prelude.{◌≡◌, ◌⊎◌, ℕ, Bool, true, false, IsTrue, List, [], ◌++◌, map, Some}
 use Rattle.nqs_types.specs.declared.event.Output.{Output}
 use Rattle.nqs_disk.specs.contracts.mem_disk.MemDiskDisk.TheImpl.{ghosts}
-use Rattle.nqs_node.specs.Carried.{IsMade, IsCutBy, IsBlown}
+use Rattle.nqs_node.specs.Carried.{IsMade, IsCutBy, IsBlown, IsOneOrOther}
 use Rattle.nqs_node.specs.Nodes.{history_of, fails_of, is_starved, Tells}
 use Rattle.nqs_node.specs.declared.node.Node.{Node}
 use Rattle.nqs_rules.specs.Starts.{after_step}
 use Rattle.nqs_rules.specs.Stepped.{Stepped, shown}
+use Rattle.nqs_net.specs.Pasts.{HasCome}
 use Rattle.nqs_net.specs.Worlds.{AreDisks}
 use Rattle.nqs_types.specs.declared.ids.HostId.{HostId}
 use Rattle.nqs_types.specs.declared.message.Message.{Message}
@@ -45,12 +46,15 @@ abbrev pub Ended : Host → Stepped (List ℕ) → (Which → ℕ → Bool) → 
 Ended host x fails old node out true = Tells node (after_step x host.state) × IsMade fails old (history_of node) x.change × (out ≡ map shown x.outputs)
 Ended host x fails old node out false = (which : Which) × (IsTrue (is_starved node which) ⊎ (IsBlown (fails which) (old which) ⊎ IsCutBy fails old (history_of node) x.change host.state which))
 
--- a node was to take a step of this host
+-- A node was to take a step of this host. Until its last call, whatever images the disks may leave tell the state before
+-- the step or the one after it.
 pub record IsTaken (host : Host) (x : Stepped (List ℕ)) (node : Node MemDisk ghosts) (out : List Output) (took : Bool) : Type 0 where
   pub up : host.up ≡ true
   pub fails : Which → ℕ → Bool
   pub old : Which → History
   pub disks : AreDisks host old fails
+  pub past : HasCome old host.state
+  pub moments : IsOneOrOther old (history_of node) x.change host.state
   pub same : (which : Which) (i : ℕ) → fails_of node which i ≡ fails which i
   pub ended : Ended host x fails old node out took
 

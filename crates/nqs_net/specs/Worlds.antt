@@ -14,6 +14,7 @@ use Rattle.nqs_store.specs.Sound.{IsSoundHost}
 use Rattle.nqs_node.specs.Nodes.{history_of, fails_of, content_of, Tells}
 use Rattle.nqs_disk.specs.contracts.mem_disk.MemDiskDisk.TheImpl.{ghosts}
 use Rattle.nqs_node.specs.declared.node.Node.{Node}
+use Rattle.nqs_net.specs.Pasts.{HasCome}
 use Rattle.nqs_net.specs.declared.slot.Slot.{Slot}
 use Rattle.nqs_net.specs.declared.slot.Slot.TheVariants.{Up, Down}
 use Rattle.nqs_net.specs.declared.world.World.{World}
@@ -50,12 +51,14 @@ pub record IsDisk (left : Option ℕ) (made : ℕ) (h : History) (fails : ℕ �
 abbrev pub AreDisks : Host → (Which → History) → (Which → ℕ → Bool) → Type 0
 AreDisks host histories fails = (which : Which) → IsDisk (fuse_of which host.fuses) (calls_of which host.calls) (histories which) (fails which)
 
--- a node that is up
+-- A node that is up. At each moment since its disks were new or torn, whatever images they may leave then tell the state
+-- before the change that is being kept or the one after it.
 pub record IsUp (node : Node MemDisk ghosts) (host : Host) : Type 0 where
   pub up : host.up ≡ true
   pub tells : Tells node host.state
   pub sound : IsSoundHost (content_of node)
   pub disks : AreDisks host (history_of node) (fails_of node)
+  pub past : HasCome (history_of node) host.state
 
 -- The disks of a host that is down. No call was made of them.
 pub record IsDown (left : Disks MemDisk) (host : Host) : Type 0 where

@@ -67,6 +67,10 @@ impl World {
     }
 
     /// Takes an event, and adds to `seen` what is seen of it. After `Memory` the world is used no more.
+    ///
+    /// A world that stands for a network has the past of each host that is up: at each moment since its disks were new
+    /// or torn, those of this event among them, whatever images the disks may leave then tell the host's state before
+    /// the change that is being kept or the one after it.
     pub fn event(
         &mut self,
         alloc: Global,

@@ -137,6 +137,7 @@ fn boot_step(
             let slot = stop(me, disks, tear, seen)?;
             Ok(slot)
         }
+        // The disks of a host are never those of something else.
         Err(_) => Err(Memory),
     }
 }

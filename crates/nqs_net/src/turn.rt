@@ -35,6 +35,7 @@ fn take_event(
     match node.take(alloc, event, out) {
         Ok(()) => Ok(true),
         Err(NodeFault::Disk(_)) => Ok(false),
+        // A node of a world isn't stopped, as one that is gets closed at once.
         Err(_) => Err(Memory),
     }
 }
@@ -55,6 +56,7 @@ fn start_event(
     match node.start_next(alloc, now, out) {
         Ok(more) => Ok((true, more)),
         Err(NodeFault::Disk(_)) => Ok((false, false)),
+        // A node of a world isn't stopped, as one that is gets closed at once.
         Err(_) => Err(Memory),
     }
 }

@@ -156,6 +156,9 @@ fn run_program<S: Source, K: Sink>(
 
 /// Does all that the program does, but for making the real source and sink. The words are without the program's
 /// name. At `Done` the disks of each host are added to `left`, in the order of the site; else it stays as it was.
+///
+/// Whatever images these disks may leave tell the last states of the hosts. Their calls are those that kept each change
+/// since the host was new or last stopped, and at each moment of them the images told the state before or after it.
 pub fn replay<S: Source, K: Sink>(
     alloc: Global,
     words: &[String],

@@ -1,6 +1,7 @@
 use Rattle.std.proofs.Common.{refl, sym, subst}
 use Rattle.nqs_node.specs.Nodes.{history_of, fails_of, content_of}
 use Rattle.nqs_store.specs.Sound.{IsSoundHost}
+use Rattle.nqs_net.proofs.Coming.{come_still}
 use Rattle.nqs_net.proofs.Fusing.{fused_disks, none_failed}
 use Rattle.nqs_net.proofs.fuses.fuse_up.Goals as goal
 
@@ -11,4 +12,5 @@ returns c = λ host tear is. let old = c.args.up.now.node in let new = c.fuse.ne
   sound = subst IsSoundHost (sym c.fuse.ensures.state) is.sound;
   disks = fused_disks host c.args.calls tear (history_of old) (history_of new) (fails_of old) (fails_of new) is.disks c.fuse.ensures.same c.args.which
       (c.fuse.ensures.set refl (none_failed host (history_of old) (fails_of old) is.disks c.args.which)) c.fuse.ensures.others;
+  past = come_still (history_of old) (history_of new) host.state c.fuse.ensures.same is.past;
 }

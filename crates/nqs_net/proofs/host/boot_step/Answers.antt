@@ -32,7 +32,7 @@ returns-in-Ok c = λ w host faces is.
     let packets = c.args.packets.now.items in
     let before = c.args.seen.now.items in
     let out = c.in-Ok.ensures.outputs refl host.state is.tells ∙ ap (λ l. l ++ outs) c.new-out.ensures.items in
-    boot_turn c.args.me w host c.args.tear packets faces c.args.down.disks is c.in-Ok.node c.in-Ok.ensures.sound (c.in-Ok.ensures.told refl host.state is.tells) (c.in-Ok.ensures.made refl) (c.in-Ok.ensures.fuse refl)
+    boot_turn c.args.me w host c.args.tear packets faces c.args.down.disks is c.in-Ok.node c.in-Ok.ensures.sound (c.in-Ok.ensures.told refl host.state is.tells) (c.in-Ok.ensures.made refl) (c.in-Ok.ensures.any_moment refl host.state is.tells) (c.in-Ok.ensures.fuse refl)
     _ before _ (c.in_ok-emit-in-Ok.ensures.packets ∙ ap (λ l. packets ++ sent_in l) out)
     (c.in_ok-emit-in-Ok.ensures.seen ∙ ap (λ l. l ++ seen_from c.args.me (length packets) c.boot.new.out.items) c.in_ok-push-in-Ok.ensures.items ∙ append_assoc before (seen.Boot c.args.me ∷ []) (seen_from c.args.me (length packets) c.boot.new.out.items) ∙ ap (λ l. before ++ (seen.Boot c.args.me ∷ seen_from c.args.me (length packets) l)) out)
 

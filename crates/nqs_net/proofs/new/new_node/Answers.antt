@@ -11,4 +11,4 @@ returns-in-Ok-boot c =
     let is = c.in-Ok.ensures.told refl in
     let told = c.in-Ok-boot.ensures.told refl (formatted me site) (formatted_told me site disks is) in
     booted me site c.in_ok-disks.disks disks c.in_ok-disks.ensures.histories c.in_ok-disks.ensures.fuses c.format.ensures.root c.format.ensures.second c.format.ensures.spool
-    _ (c.in-Ok.ensures.made refl) (c.format.ensures.fuse refl) c.in-Ok-boot.node told c.in-Ok-boot.ensures.sound (c.in-Ok-boot.ensures.made refl) (c.in-Ok-boot.ensures.fuse refl)
+    _ (c.in-Ok.ensures.made refl) (c.format.ensures.fuse refl) is c.in-Ok-boot.node told c.in-Ok-boot.ensures.sound (c.in-Ok-boot.ensures.made refl) (c.in-Ok-boot.ensures.any_moment refl (formatted me site) (formatted_told me site disks is)) (c.in-Ok-boot.ensures.fuse refl)

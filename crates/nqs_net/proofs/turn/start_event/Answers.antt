@@ -11,6 +11,8 @@ returns-in-Ok-clause-taken c = λ host is empty. record {
   fails = fails_of c.args.node.now;
   old = history_of c.args.node.now;
   disks = is.disks;
+  past = is.past;
+  moments = c.in-Ok.ensures.any_moment refl host.state is.tells;
   same = c.in-Ok.ensures.fuse refl;
   ended = (
     c.in-Ok.ensures.told refl host.state is.tells,
@@ -25,6 +27,8 @@ returns-in-Err-Disk-clause-taken c = λ host is empty. record {
   fails = fails_of c.args.node.now;
   old = history_of c.args.node.now;
   disks = is.disks;
+  past = is.past;
+  moments = c.in-Err-Disk.ensures.any_moment refl host.state is.tells;
   same = c.in-Err-Disk.ensures.fuse refl;
   ended = (c.in-Err-Disk.field-0-0, c.in-Err-Disk.ensures.cut refl host.state is.tells c.in-Err-Disk.field-0-0 (ap Err c.in-Err-Disk.field-0-is));
 }
