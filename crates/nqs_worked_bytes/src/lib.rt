@@ -4,23 +4,20 @@
 //! proved by computing it.
 #![tactic(auto)]
 
-ghost use Rattle.std.specs.Prelude.{◌≡◌, codes, [], ◌∷◌, ◌++◌, Some};
+ghost use Rattle.std.specs.Prelude.{◌≡◌, codes, [], ◌∷◌, ◌++◌};
 ghost use Rattle.nqs_types.specs.declared.change.Change.TheVariants.{Site};
 ghost use Rattle.nqs_types.specs.declared.world.Which.TheVariants.{First};
 ghost use Rattle.nqs_rules.specs.Find.{host_at};
-ghost use Rattle.nqs_rules.specs.Format.{formatted};
 ghost use Rattle.nqs_journal.specs.Text.{header, records, StandsFor};
 ghost use Rattle.nqs_records.specs.Changes.{spelling};
-ghost use Rattle.nqs_store.specs.Told.{told};
 ghost use Rattle.nqs_store.specs.Faults.{IsLoadFault};
 ghost use Rattle.nqs_store.specs.declared.fault.LoadFault.TheVariants.{NotNqs};
 ghost use Rattle.nqs_worked_bytes.specs.Alpha.{alpha_record, alpha_journal};
 
-/// What a format of host alpha leaves, in a site of alpha alone: 31 bytes, which stand for one record, and tell the formatted host.
+/// What a format of host alpha leaves, in a site of alpha alone: 31 bytes, which stand for one record.
 pub fn formatted_host()
     ensures bytes { header ++ records (spelling (Site (host_at 0) (codes "alpha" ∷ [])) ∷ []) ++ 0 ∷ [] ≡ alpha_journal 1 }
     ensures stands { StandsFor (alpha_journal 1) (alpha_record ∷ []) }
-    ensures tells { told (alpha_record ∷ []) ≡ Some (formatted (host_at 0) (codes "alpha" ∷ [])) }
 {}
 
 /// With 7 in place of its gate the record doesn't count. The bytes are a journal without records, which is no host's from the gate's place on.
