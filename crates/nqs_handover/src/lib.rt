@@ -19,6 +19,3 @@ pub use open::{dest_at, offer_row, open_hand};
 pub use receiver::{on_abort, on_commit};
 pub use source::{on_done, on_inquire, on_ready, on_refused};
 pub use tick::on_tick;
-
-#[cfg(test)]
-mod tests;
