@@ -1,9 +1,9 @@
-//! Each call that takes memory, once, on the same host: alpha, which has a stage to beta and a file that wasn't written.
+//! The end of a job with two outputs for one file, on a host that has a stage to another host and a file that wasn't written.
 ghost use Rattle.std.specs.Prelude.{◌≡◌, ◌∷◌, [], IfOk, length};
 ghost use Rattle.nqs_types.specs.State.{content};
 ghost use Rattle.nqs_stage.specs.Files.{HasDistinctStages};
 
-use crate::{due_stages, on_end, on_stage, on_staged};
+use crate::on_end;
 use nqs_types::{
     Body, Bytes, Change, Extent, FileOut, Hold, HostId, HostState, Items, Job, Key, Keyed, Limits,
     ListOf, Memory, Name, NameList, Output, Peer, PeerList, PeerNumber, Plan, RequestId, Row,
@@ -198,34 +198,5 @@ fn outputs_are_one_file(rt: HostRuntime) -> Result<(), Memory> {
     );
     assert_eq!(rt; output(&plan, 0), ("ended", 4, b"".as_slice()));
     assert_eq!(rt; output(&plan, 1), ("file", 6, b"donelate".as_slice()));
-    Ok(())
-}
-
-#[test]
-fn stage_becomes_a_file(rt: HostRuntime) -> Result<(), Memory> {
-    let alloc = rt.alloc();
-    let path = text(alloc, b"o.1")?;
-    let bytes = text(alloc, b"done")?;
-    let state = alpha(alloc)?;
-    let plan = on_stage(alloc, &state, BETA, 1, &path, &bytes)?;
-    assert_eq!(rt;
-        (change(&plan), first(&plan.puts)),
-        ("got", b"done".as_slice())
-    );
-    assert_eq!(rt; output(&plan, 0), ("staged", 1, b"".as_slice()));
-    assert_eq!(rt; output(&plan, 1), ("file", 6, b"done".as_slice()));
-    Ok(())
-}
-
-#[test]
-fn stage_goes_out_until_it_arrived(rt: HostRuntime) -> Result<(), Memory> {
-    let alloc = rt.alloc();
-    let state = alpha(alloc)?;
-    let plan = due_stages(alloc, &state)?;
-    assert_eq!(rt; output(&plan, 0), ("stage", 2, b"".as_slice()));
-    assert_eq!(rt; output(&plan, 1), ("file", 5, b"".as_slice()));
-    assert_eq!(rt; (plan.outputs.len(), plan.reads.len()), (2, 2));
-    let plan = on_staged(alloc, &state, BETA, 2)?;
-    assert_eq!(rt; (change(&plan), plan.outputs.len()), ("gone", 0));
     Ok(())
 }
