@@ -141,19 +141,24 @@ fn job(alloc: Global) -> Result<Job, NameFault> {
     })
 }
 
-#[test]
-fn room_is_made(rt: HostRuntime) -> Result<(), Fail> {
-    let alloc = rt.alloc();
-    let mut state = empty_state(alloc);
-    let change = Change::Submitted {
+fn submission(alloc: Global) -> Result<Change, NameFault> {
+    Ok(Change::Submitted {
         queue: name(b"batch")?,
         job: job(alloc)?,
         script: crate::Extent {
             place: 0,
             length: 0,
         },
-    };
-    state.make_room(&change)?;
+    })
+}
+
+#[test]
+fn room_is_made(rt: HostRuntime) -> Result<(), Fail> {
+    let alloc = rt.alloc();
+    let change = submission(alloc)?;
+    let mut state = empty_state(alloc);
+    let made = state.make_room(&change);
+    assert_eq!(rt; made, Ok(()));
     assert_eq!(rt; state.rows.len(), 0);
     Ok(())
 }
