@@ -1,8 +1,9 @@
 //! Words and lines as the commands that they ask for. What can't be read is a command too, whose answer says why;
 //! a want of memory is no command.
 
-ghost use Rattle.std.specs.Prelude.{◌≡◌, ◌≢◌, IfOk};
+ghost use Rattle.std.specs.Prelude.{◌≡◌, ◌≢◌, IfOk, IfErr};
 ghost use Rattle.nqs_types.specs.declared.event.Command.TheVariants as command;
+ghost use Rattle.nqs_types.specs.declared.fault.GrammarFault.TheVariants as grammar;
 ghost use Rattle.nqs_types.specs.declared.fault.WordsCause.TheVariants as cause;
 ghost use Rattle.nqs_qmgr.specs.Lines.{qmgr_line};
 ghost use Rattle.nqs_query.specs.Words.{stat_of, delete_of};
@@ -18,6 +19,7 @@ use std::alloc::Global;
 fn unread_words(fault: WordsFault) -> Result<Command, Memory>
     ensures asks { IfOk result (λ unread. unread ≡ command.UnreadWords fault) }
     ensures memory { IfOk result (λ _. fault.cause ≢ cause.Memory) }
+    ensures given_up { IfErr result (λ _. fault.cause ≡ cause.Memory) }
 {
     match fault.cause {
         WordsCause::Memory => Err(Memory),
@@ -27,7 +29,8 @@ fn unread_words(fault: WordsFault) -> Result<Command, Memory>
 
 // The command of a line that can't be read.
 fn unread_line(fault: GrammarFault) -> Result<Command, Memory>
-    ensures { IfOk result (λ unread. unread ≡ command.UnreadLine fault) }
+    ensures asks { IfOk result (λ unread. unread ≡ command.UnreadLine fault) }
+    ensures given_up { IfErr result (λ _. fault ≡ grammar.Memory) }
 {
     match fault {
         GrammarFault::Memory => Err(Memory),

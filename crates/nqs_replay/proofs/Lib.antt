@@ -4,3 +4,4 @@ pub mod Fronts
 pub mod Playing
 pub mod Complete
 pub mod Asked
+pub mod Rests

@@ -1,16 +1,19 @@
 -- What holds of the run that was asked for, after each of its events.
-use Rattle.std.specs.Prelude.{◌≡◌, ℕ, true, false, not, IsTrue, List, map, take, Option, None, Some}
-use Rattle.std.specs.List.{list_all}
+use Rattle.std.specs.Prelude.{◌≡◌, ℕ, true, false, not, IsTrue, List, [], ◌∷◌, ◌++◌, map, take, Option, None, Some}
+use Rattle.std.specs.List.{list_all, list_any}
+use Rattle.nqs_types.specs.declared.ids.HostId.{HostId}
 use Rattle.nqs_types.specs.declared.ids.RequestId.{RequestId}
 use Rattle.nqs_types.specs.declared.world.WorldEvent.{WorldEvent}
 use Rattle.nqs_types.specs.State.{Plain}
 use Rattle.nqs_rules.specs.InOrder.{are_distinct}
 use Rattle.nqs_rules.specs.Net.{is_table, entries}
-use Rattle.nqs_rules.specs.World.{Act, new_world}
+use Rattle.nqs_rules.specs.Picked.{may_start}
+use Rattle.nqs_rules.specs.World.{Act, Host, new_world, host_of}
 use Rattle.nqs_rules.specs.Run.{run_of, states_of}
 use Rattle.nqs_laws.specs.History.{Note, history, sights}
 use Rattle.nqs_laws.specs.Words.{is_counted, is_never_lost, boots_tell}
 use Rattle.nqs_laws.specs.Licensed.{AreLicensed}
+use Rattle.nqs_laws.specs.Rest.{host_for}
 use Rattle.nqs_laws.specs.Launches.{launches, same_launch, is_acknowledged, lies, was_taken_out, AreApart, AreStarted}
 use Rattle.nqs_lines.specs.Acts.{act_of}
 use Rattle.nqs_schedule.specs.Schedule.{State, IsSchedule}
@@ -34,7 +37,16 @@ last_states site acts = states_of (run_of site acts).world
 abbrev pub AcknowledgedStay : List (List ℕ) → List Act → Type 0
 AcknowledgedStay site acts = (x : RequestId) → is_acknowledged x (notes_of site acts) ≡ true → lies x (last_states site acts) ≡ not (was_taken_out x (first_states site) (notes_of site acts))
 
--- the laws of a network: no request lies in two places, and each change was licensed; what is acknowledged stays; no launch comes twice, and one request's launches are parted by a loss, which boots alone tell
+-- No started queue of the host within its limits has a request that may start now.
+abbrev pub StartsNothing : ℕ → Host → Type 0
+StartsNothing now host = list_any (may_start now host.state) host.state.queues ≡ false
+
+-- the host that took the last event, or booted by it, has nothing left to start, if it is up
+abbrev pub LastTakerRests : List (List ℕ) → List Act → Type 0
+LastTakerRests site acts = (before : List Act) (last : Act) → acts ≡ before ++ last ∷ [] → (h : HostId) → host_for last (run_of site before).world ≡ Some h
+    → (host : Host) → host_of h (run_of site acts).world ≡ Some host → host.up ≡ true → StartsNothing (run_of site acts).world.now host
+
+-- the laws of a network: no request lies in two places, and each change was licensed; what is acknowledged stays; no launch comes twice, and one request's launches are parted by a loss, which boots alone tell; what may start has started
 pub record KeepsTheLaws (site : List (List ℕ)) (acts : List Act) : Type 0 where
   pub seen : sights (notes_of site acts) ≡ (run_of site acts).seen
   pub place : IsTrue (is_table (last_states site acts))
@@ -46,6 +58,7 @@ pub record KeepsTheLaws (site : List (List ℕ)) (acts : List Act) : Type 0 wher
   pub counted : IsTrue (list_all is_counted (entries (last_states site acts)))
   pub lost : IsTrue (list_all is_never_lost (entries (last_states site acts)))
   pub boots : IsTrue (boots_tell None (run_of site acts).seen)
+  pub rests : LastTakerRests site acts
 
 -- the schedule that the source gave
 abbrev pub IsRead : Drained → List (List ℕ) → List WorldEvent → Type 0

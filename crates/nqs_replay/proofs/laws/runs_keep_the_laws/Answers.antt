@@ -2,6 +2,7 @@ use Rattle.std.proofs.Common.{map, take}
 use Rattle.nqs_rules.specs.World.{new_world}
 use Rattle.nqs_lines.specs.Acts.{act_of}
 use Rattle.nqs_replay.proofs.Asked.{sane_asked, site_asked}
+use Rattle.nqs_replay.proofs.Rests.{last_taker_rests}
 use Rattle.nqs_replay.proofs.Runs.{sane_before}
 use Rattle.nqs_replay.proofs.laws.runs_keep_the_laws.Goals as goal
 
@@ -22,4 +23,5 @@ returns c = λ words source site events asks n.
       counted = c.starts_are_counted.ensures.hosts site acts right sane;
       lost = c.only_rerunnable_requests_start_again.ensures.hosts site acts right sane;
       boots = c.boots_tell_what_ran.ensures site acts right sane;
+      rests = last_taker_rests site acts right sane c.nothing_is_left_to_start.ensures;
     }
