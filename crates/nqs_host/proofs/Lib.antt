@@ -3,3 +3,5 @@ pub mod Places
 pub mod Losses
 pub mod Refused
 pub mod PromiseFits
+pub mod Running
+pub mod Booted

@@ -22,6 +22,11 @@ module _ {E : Type 0} (s : State E) where
       let k = ltb-true r.lost 65535 (row_is s r right).lost in
       omega (arith, k)
 
+  pub lost_found : IsInOrder s → (id : RequestId) (r : Row E) → find (is_row id) s.rows ≡ Some r → r.lost + 1 < 2 ^ 16
+  lost_found h id r found =
+      let k = ltb-true r.lost 65535 (row_is s r (list_all-found (is_row_right s) (is_row id) s.rows r h.rows found)).lost in
+      omega (arith, k)
+
   -- so is a start more of a row that is ready
   pub starts_below : IsInOrder s → (id : RequestId) (r : Row E) → row_passes is_ready id s ≡ true → find (is_row id) s.rows ≡ Some r → r.starts + 1 < 2 ^ 16
   starts_below h id r ready found =

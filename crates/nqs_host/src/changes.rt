@@ -15,7 +15,7 @@ mod peers;
 mod promises;
 mod rows;
 
-pub use boot::may_start_again;
+pub use boot::{boot_running, may_start_again};
 use nqs_access::apply_access;
 use nqs_conf::apply_conf;
 use nqs_devices::apply_devices;

@@ -35,7 +35,7 @@ fn is_ready(row: &Row) -> bool
     row.state == RowState::Queued && row.hold == Hold::No
 }
 
-fn row_runs(state: &HostState, id: &RequestId) -> bool
+pub(crate) fn row_runs(state: &HostState, id: &RequestId) -> bool
     ensures { result ≡ row_passes runs id.now (content state.now) }
 {
     match state.rows.get(id) {

@@ -9,7 +9,7 @@ mod changes;
 mod fitting;
 mod format;
 
-pub use changes::{apply, may_start_again};
+pub use changes::{apply, boot_running, may_start_again};
 pub use fitting::fits;
 pub use format::formatted;
 

@@ -1,7 +1,17 @@
 //! The host that the records of a journal tell: each is a change, and fits what those before it tell.
+//!
+//! Only a start makes a request run, and a boot leaves none running. So those that started since the last boot are kept
+//! beside the host, and a boot looks at these alone: a journal is told in the time of its records, however many of them
+//! are boots.
 
-ghost use Rattle.std.specs.Prelude.{◌≡◌, ◌≤◌, ◌^◌, ◌++◌, length, IfOk, IfErr, OnOk, Ok, Err, Some, None};
+ghost use Rattle.std.specs.Prelude.{◌≡◌, ◌≤◌, ◌^◌, ◌++◌, [], length, IfOk, IfErr, OnOk, Ok, Err, Some, None, IsTrue};
 ghost use Rattle.nqs_types.specs.State.{content};
+ghost use Rattle.nqs_types.specs.Room.{HasRoom};
+ghost use Rattle.nqs_rules.specs.InOrder.{IsInOrder};
+ghost use Rattle.nqs_rules.specs.Sane.{is_sane_change};
+ghost use Rattle.nqs_rules.specs.Fits.{fits};
+ghost use Rattle.nqs_rules.specs.Applied.{applied};
+ghost use Rattle.nqs_host.specs.Running.{runs_only, may_run};
 ghost use Rattle.nqs_journal.specs.Text.{header, records};
 ghost use Rattle.nqs_records.specs.Kinds.{record_of};
 ghost use Rattle.nqs_records.specs.Changes.{MayStand};
@@ -10,9 +20,9 @@ ghost use Rattle.nqs_store.specs.Told.{record_taken, told};
 ghost use Rattle.nqs_store.specs.Sound.{IsSoundHost};
 ghost use Rattle.nqs_store.specs.TellFaults.{IsRefused, IsTellFault};
 
-use nqs_host::{apply, fits, formatted};
+use nqs_host::{apply, boot_running, fits, formatted};
 use nqs_records::{RecordFault, read_change};
-use nqs_types::{Bytes, Change, HostState, Memory};
+use nqs_types::{Bytes, Change, HostState, Memory, RequestId};
 use std::alloc::Global;
 
 /// Bytes of a journal's header.
@@ -52,7 +62,7 @@ fn change_of(alloc: Global, place: u64, payload: &[u8]) -> Result<Change, TellFa
 
 // The host that is formatted by the first record.
 fn first_host(alloc: Global, payload: &[u8]) -> Result<HostState, TellFault>
-    ensures ok { IfOk result (λ state. (record_taken payload.now None ≡ Some (content state)) × IsSoundHost (content state)) }
+    ensures ok { IfOk result (λ state. (record_taken payload.now None ≡ Some (content state)) × IsSoundHost (content state) × IsTrue (runs_only [] (content state))) }
     ensures err { IfErr result (IsRefused 16 (record_taken payload.now None ≡ None)) }
 {
     match change_of(alloc, HEADER, payload)? {
@@ -61,16 +71,51 @@ fn first_host(alloc: Global, payload: &[u8]) -> Result<HostState, TellFault>
     }
 }
 
+// Makes a change that fits, and keeps which requests may run after it. For want of memory it isn't made.
+fn make_change(
+    state: &mut HostState,
+    running: &mut Vec<RequestId>,
+    change: Change,
+) -> Result<(), Memory>
+    requires order { IsInOrder (content state.old) }
+    requires only { IsTrue (runs_only running.old.items (content state.old)) }
+    requires sane { IsTrue (is_sane_change change) }
+    requires fits { IsTrue (fits change (content state.old)) }
+    requires room { HasRoom change state.old }
+    ensures made { OnOk result (content state.new ≡ applied change (content state.old)) }
+    ensures running { OnOk result (running.new.items ≡ may_run change running.old.items) }
+{
+    match change {
+        Change::Boot => {
+            boot_running(state, running.as_slice());
+            running.clear();
+            Ok(())
+        }
+        Change::Started { id, .. } => {
+            running.push(id)?;
+            apply(state, change);
+            Ok(())
+        }
+        _ => {
+            apply(state, change);
+            Ok(())
+        }
+    }
+}
+
 // A later record's change is made, where it fits.
 fn take_record(
     alloc: Global,
     state: &mut HostState,
+    running: &mut Vec<RequestId>,
     place: u64,
     payload: &[u8],
 ) -> Result<(), TellFault>
     requires sound { IsSoundHost (content state.old) }
-    ensures sound { IsSoundHost (content state.new) }
+    requires only { IsTrue (runs_only running.old.items (content state.old)) }
     ensures ok { OnOk result (record_taken payload.now (Some (content state.old)) ≡ Some (content state.new)) }
+    ensures sound { OnOk result (IsSoundHost (content state.new)) }
+    ensures only { OnOk result (IsTrue (runs_only running.new.items (content state.new))) }
     ensures err { IfErr result (IsRefused place (record_taken payload.now (Some (content state.old)) ≡ None)) }
 {
     let change = change_of(alloc, place, payload)?;
@@ -78,7 +123,7 @@ fn take_record(
         return Err(TellFault::Untold(place));
     }
     state.make_room(&change)?;
-    apply(state, change);
+    make_change(state, running, change)?;
     Ok(())
 }
 
@@ -92,9 +137,10 @@ pub fn tell(alloc: Global, payloads: &[Bytes]) -> Result<HostState, TellFault>
         return Err(TellFault::Untold(HEADER));
     };
     let mut state = first_host(alloc, first.as_slice())?;
+    let mut running: Vec<RequestId> = Vec::new(alloc);
     let mut place = HEADER + FRAME + first.len() as u64;
     for payload in later {
-        take_record(alloc, &mut state, place, payload.as_slice())?;
+        take_record(alloc, &mut state, &mut running, place, payload.as_slice())?;
         place += FRAME + payload.len() as u64;
     }
     Ok(state)

@@ -1,4 +1,5 @@
-use Rattle.std.proofs.Common.{◌∙◌, ap, sym, subst, Ok, Some, None}
+use Rattle.std.proofs.Common.{◌≡◌, ◌∙◌, true, [], refl, ap, sym, subst, Ok, Some, None}
+use Rattle.nqs_host.specs.Running.{runs_only}
 use Rattle.nqs_store.specs.Told.{read_taken}
 use Rattle.nqs_store.specs.Sound.{IsSoundHost}
 use Rattle.nqs_records.specs.Changes.{MayStand}
@@ -12,4 +13,5 @@ returns-in-Site-clause-ok c =
     let now = c.in_ok-formatted-in-Site.ensures in (
       ap (λ r. read_taken r None) (read.0 ∙ ap Ok is) ∙ ap Some (sym now),
       subst IsSoundHost (sym now) (formatted_sound c.in-Site.me c.in-Site.site (subst MayStand is read.1)),
+      subst (λ s. runs_only [] s ≡ true) (sym now) refl,
     )

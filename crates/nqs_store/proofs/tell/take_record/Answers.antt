@@ -5,19 +5,28 @@ use Rattle.nqs_rules.specs.Fits.{fits}
 use Rattle.nqs_rules.proofs.ChangesOrder.{applied_order}
 use Rattle.nqs_rules.proofs.ChangesConsistent.{applied_consistent}
 use Rattle.nqs_records.proofs.SaneLaws.{what_may_stand_is_sane}
+use Rattle.nqs_host.specs.Running.{runs_only}
+use Rattle.nqs_host.proofs.Running.{what_may_run}
 use Rattle.nqs_store.specs.Sound.{IsSoundHost}
 use Rattle.nqs_store.proofs.tell.take_record.Goals as goal
 
-pub apply-requires-clause-sane : goal.apply-requires-clause-sane
-apply-requires-clause-sane c = what_may_stand_is_sane c.in_ok-change.change c.in_ok-change.ensures.ok.1
+pub make_change-requires-clause-sane : goal.make_change-requires-clause-sane
+make_change-requires-clause-sane c = what_may_stand_is_sane c.in_ok-change.change c.in_ok-change.ensures.ok.1
 
 pub returns-clause-sound : goal.returns-clause-sound
 returns-clause-sound c =
     let s = content c.args.state.now in
     let change = c.in_ok-change.change in
     let fit : fits change s ≡ true = sym c.fits.ensures ∙ c.if-not-fits.false in
-    let now = c.apply.ensures ∙ ap (applied change) c.make_room.ensures.content in
+    let now = c.in_ok-make_change.ensures.made ∙ ap (applied change) c.make_room.ensures.content in
     subst IsSoundHost (sym now) (record {
       order = applied_order change s c.requires.sound.order (what_may_stand_is_sane change c.in_ok-change.ensures.ok.1) fit;
       consistent = applied_consistent s c.requires.sound.order c.requires.sound.consistent change fit;
     })
+
+pub returns-clause-only : goal.returns-clause-only
+returns-clause-only c =
+    let s = content c.args.state.now in
+    let change = c.in_ok-change.change in
+    let now = c.in_ok-make_change.ensures.made ∙ ap (applied change) c.make_room.ensures.content in
+    (λ j. runs_only (c.in_ok-make_change.ensures.running j) (now j)) ∙ what_may_run change c.args.running.now.items s c.requires.only

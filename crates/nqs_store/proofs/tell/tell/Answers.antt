@@ -3,6 +3,7 @@ use Rattle.std.proofs.lemmas.Result.{err_from_is_err_and}
 use Rattle.nqs_types.specs.State.{content}
 use Rattle.nqs_journal.specs.Text.{header, records}
 use Rattle.nqs_journal.proofs.Readings.{gate_more}
+use Rattle.nqs_host.specs.Running.{runs_only}
 use Rattle.nqs_store.specs.Told.{record_taken, told}
 use Rattle.nqs_store.proofs.Lists.{take-at, get_at}
 use Rattle.nqs_store.proofs.Telling.{told_one, told_more, next_within, parted, refused_untold, bad_first, bad_later}
@@ -23,6 +24,7 @@ loop-payload-init c =
       told_one first (content c.in_ok-state.state) (ap (λ q. record_taken q None) (sym c.as_slice.ensures) ∙ is.0),
       is.1,
       omega (arith, c.len.ensures, gate_more first [] 16 refl),
+      ap (λ l. runs_only l (content c.in_ok-state.state)) c.new-running.ensures.items ∙ is.2,
     )
 
 pub returns-in_err-take_record-clause-err : goal.returns-in_err-take_record-clause-err
@@ -61,4 +63,5 @@ loop-payload-preserved c =
       ap (λ l. told (v.0 ∷ l)) more ∙ told_more None (v.0 ∷ take i later) host payload v.2 ∙ ap (λ q. record_taken q (Some host)) (sym c.as_slice-in-loop-payload.ensures) ∙ c.in_ok-take_record.ensures.ok,
       c.in_ok-take_record.ensures.sound,
       omega (arith, c.len-in-loop-payload.ensures, v.4, gate_more payload (v.0 ∷ take i later) c.loop-payload.place v.4, ap (λ l. length (header ++ records (v.0 ∷ l))) more),
+      c.in_ok-take_record.ensures.only,
     )
