@@ -5,4 +5,5 @@ pub mod Places
 pub mod Performing
 pub mod Planning
 pub mod Telling
+pub mod Resting
 pub mod Booting

@@ -1,4 +1,5 @@
 pub mod Nodes
 pub mod Carried
+pub mod Idle
 pub mod Reading
 pub mod Planned

@@ -162,6 +162,7 @@ impl<D: Disk> Node<D> {
                     store,
                     state,
                     stopped: false,
+                    idle: None,
                 }),
             },
         }

@@ -61,11 +61,12 @@ impl<D: Disk> Node<D> {
             Ok(()) => {
                 // What fails from here on leaves the node stopped, but for want of memory.
                 self.stopped = true;
-                let (store, state) = (&mut self.store, &mut self.state);
+                let (store, state, idle) = (&mut self.store, &mut self.state, &mut self.idle);
                 match perform(
                     alloc,
                     store,
                     state,
+                    idle,
                     change,
                     puts.as_slice(),
                     reads.as_slice(),

@@ -1,6 +1,7 @@
 //! A node: a host's state, and the store that keeps it.
 
 ghost use Rattle.std.specs.Prelude.{◌≡◌, ◌≢◌, ◌⊎◌, ◌↔◌, ◌<◌, ◌≤◌, ◌+◌, ◌-◌, ◌++◌, ℕ, Bool, List, IsTrue, IsErrOf, OnOk, OnErr, IfOk, IfErr, false, length, map, max, nat_le, is_some};
+ghost use Rattle.std.specs.Option.{option_map};
 ghost use Rattle.nqs_types.specs.State.{Plain, content};
 ghost use Rattle.nqs_types.specs.declared.world.Which.{Which};
 ghost use Rattle.nqs_outside.specs.Causes.{Rose};
@@ -9,11 +10,12 @@ ghost use Rattle.nqs_rules.specs.Sane.{is_sane_event};
 ghost use Rattle.nqs_rules.specs.Start.{start};
 ghost use Rattle.nqs_rules.specs.Starts.{after_step};
 ghost use Rattle.nqs_rules.specs.Step.{step};
-ghost use Rattle.nqs_rules.specs.Stepped.{shown};
+ghost use Rattle.nqs_rules.specs.Stepped.{plan_of, shown};
 ghost use Rattle.nqs_store.specs.Disks.{disk_at};
 ghost use Rattle.nqs_store.specs.Sound.{IsSoundHost};
 ghost use Rattle.nqs_store.specs.Stores.{is_stopped as is_store_stopped};
 ghost use Rattle.nqs_node.specs.Carried.{started, IsMade, IsCutBy, IsBrokenOff, IsOneOrOther, IsBlown};
+ghost use Rattle.nqs_node.specs.Idle.{is_idle};
 
 use crate::fault::NodeFault;
 use nqs_kept::laws::{
@@ -26,7 +28,7 @@ use nqs_rules::start_laws::start_looks_at_no_bytes;
 use nqs_step::start::start;
 use nqs_step::step::step;
 use nqs_store::{Disks, LoadFault, Store};
-use nqs_types::{Event, HostState, Memory, Output, Which};
+use nqs_types::{Event, HostState, Memory, Output, Plan, Which};
 use std::alloc::Global;
 
 /// A host over its disks.
@@ -35,7 +37,10 @@ pub struct Node<D: Disk> {
     pub(crate) store: Store<D>,
     pub(crate) state: HostState,
     pub(crate) stopped: bool,
+    // The moment, in seconds since 1970, at which a look found nothing to start, if no change was made since.
+    pub(crate) idle: Option<u64>,
     ghost running: { stopped ≡ false → is_store_stopped store ≡ false },
+    ghost rests: { IsTrue (is_idle idle (content state)) },
 }
 
 impl<D: Disk> Node<D> {
@@ -90,7 +95,19 @@ impl<D: Disk> Node<D> {
         }
     }
 
-    /// Starts the next request, if one may start: `false` where none may. `Memory` leaves all as it was.
+    // The plan of what is started next. It goes over the rows only where it isn't known that nothing may start.
+    fn look(&self, alloc: Global, now: u64) -> Result<Option<Plan>, Memory>
+        requires { IsSoundHost (content_of self.now) }
+        ensures { IfOk result (λ plan. plan ≡ option_map plan_of (start now (content_of self.now))) }
+    {
+        if self.idle == Some(now) {
+            return Ok(None);
+        }
+        start(alloc, &self.state, now)
+    }
+
+    /// Starts the next request, if one may start: `false` where none may. `Memory` leaves all as it was. Where the last
+    /// such call at this moment found none, and no change was made since, it doesn't look again.
     pub fn start_next(
         &mut self,
         alloc: Global,
@@ -135,9 +152,12 @@ impl<D: Disk> Node<D> {
         few_offers_are_taken_back();
         stored_bytes_are_short();
         outputs_read_live_extents();
-        match start(alloc, &self.state, now) {
+        match self.look(alloc, now) {
             Err(Memory) => Err(NodeFault::Memory),
-            Ok(None) => Ok(false),
+            Ok(None) => {
+                self.idle = Some(now);
+                Ok(false)
+            }
             Ok(Some(plan)) => match self.carry_out(alloc, plan, out) {
                 Err(fault) => Err(fault),
                 Ok(()) => Ok(true),

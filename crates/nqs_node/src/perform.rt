@@ -9,6 +9,7 @@ ghost use Rattle.nqs_store.specs.Sound.{IsSoundHost};
 ghost use Rattle.nqs_store.specs.Stores.{disk_of, history_of, fails_of, is_starved, is_stopped, bytes_of, plain_of, Tells};
 ghost use Rattle.nqs_store.specs.Told.{Host};
 ghost use Rattle.nqs_node.specs.Carried.{Kept, IsMade, IsCutBy, IsBrokenOff, IsOneOrOther, IsBlown};
+ghost use Rattle.nqs_node.specs.Idle.{is_idle};
 ghost use Rattle.nqs_node.specs.Planned.{MayBeKept, IsKeptWith};
 ghost use Rattle.nqs_node.specs.Reading.{read_into, AreLiveReads};
 
@@ -26,6 +27,7 @@ pub(crate) fn perform<D: Disk>(
     alloc: Global,
     store: &mut Store<D>,
     state: &mut HostState,
+    idle: &mut Option<u64>,
     change: Option<Change>,
     puts: &[Bytes],
     reads: &[PlanRead],
@@ -35,7 +37,9 @@ pub(crate) fn perform<D: Disk>(
     requires running { is_stopped store.old ≡ false }
     requires may { IfSome change (MayBeKept (content state.old) puts.now) }
     requires live { AreLiveReads (content state.old) reads.now }
+    requires rests { IsTrue (is_idle idle.old (content state.old)) }
     ensures sound { IsSoundHost (content state.new) }
+    ensures rests { IsTrue (is_idle idle.new (content state.new)) }
     ensures site { (content state.new).site ≡ (content state.old).site }
     ensures err { OnErr result (content state.new ≡ content state.old) }
     ensures stopped { IsErrOf result StoreFault.Stopped → ⊥ }
@@ -60,6 +64,8 @@ pub(crate) fn perform<D: Disk>(
         Ok(()) => match change {
             None => Ok(()),
             Some(change) => {
+                // It may let something start.
+                *idle = None;
                 fitting_changes_may_stand(state, &change);
                 keep(alloc, store, state, change, puts)
             }

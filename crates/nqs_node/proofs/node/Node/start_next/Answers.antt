@@ -12,7 +12,8 @@ use Rattle.nqs_node.specs.Carried.{started, IsMade}
 use Rattle.nqs_node.specs.Nodes.{history_of, fails_of, content_of, bytes_of, Tells}
 use Rattle.nqs_node.proofs.Performing.{still_broken_off}
 use Rattle.nqs_node.proofs.Planning.{next_is, at_next, none_next, may_be_done}
-use Rattle.nqs_node.proofs.Telling.{one_still, does_next, quiet_next}
+use Rattle.nqs_node.proofs.Resting.{none_found}
+use Rattle.nqs_node.proofs.Telling.{tells_still, one_still, does_next, quiet_next}
 use Rattle.nqs_node.proofs.node.Node.start_next.Goals as goal
 
 -- the same error, of another answer
@@ -38,6 +39,10 @@ returns-in-Err-clause-broken_off g c = λ yes s told. still_broken_off (history_
 pub returns-in-Err-clause-any_moment : goal.returns-in-Err-clause-any_moment
 returns-in-Err-clause-any_moment g c = λ yes s told. one_still c.args.self.now s told yes (started c.args.now s).change
 
+pub invariant_of-self : goal.invariant_of-self
+invariant_of-self g c =
+    record { running = c.args.self.now.running; rests = none_found c.args.now (content_of c.args.self.now) (none_next c.args.now (content_of c.args.self.now) (sym c.in-Ok-None.field-0-is ∙ c.in-Ok-None.ensures)) }
+
 pub returns-in-Ok-None-clause-more : goal.returns-in-Ok-None-clause-more
 returns-in-Ok-None-clause-more g c = sym (ap is_some (none_next c.args.now (content_of c.args.self.now) (sym c.in-Ok-None.field-0-is ∙ c.in-Ok-None.ensures)))
 
@@ -45,7 +50,7 @@ pub returns-in-Ok-None-clause-told : goal.returns-in-Ok-None-clause-told
 returns-in-Ok-None-clause-told g c = λ yes s told.
     let still = quiet_next c.args.self.now s told c.args.now (c.start_looks_at_no_bytes.ensures.start (bytes_of c.args.self.now) c.args.now (content_of c.args.self.now))
     (none_next c.args.now (content_of c.args.self.now) (sym c.in-Ok-None.field-0-is ∙ c.in-Ok-None.ensures)) in
-    subst (λ (x : Stepped (List ℕ)). Tells c.args.self.now (after_step x s)) (sym still) told
+    tells_still c.args.self.now (after_step (started c.args.now s) s) (subst (λ (x : Stepped (List ℕ)). Tells c.args.self.now (after_step x s)) (sym still) told) _ refl (λ which. refl) (λ host tells. tells) told.running
 
 pub returns-in-Ok-None-clause-outputs : goal.returns-in-Ok-None-clause-outputs
 returns-in-Ok-None-clause-outputs g c = λ yes s told.
