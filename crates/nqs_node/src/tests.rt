@@ -1,6 +1,6 @@
 //! A host in memory: formatted, booted, and asked for a job that it starts.
 
-ghost use Rattle.std.specs.Prelude.{IfOk, IsTrue};
+ghost use Rattle.std.specs.Prelude.{◌≡◌, IfOk, IsTrue, codes};
 ghost use Rattle.nqs_types.specs.declared.world.Which.{Which};
 ghost use Rattle.nqs_outside.specs.History.{IsQuiet};
 ghost use Rattle.nqs_disk.specs.MemDisk.{history_of as history_of_disk};
@@ -32,14 +32,18 @@ struct Shown {
 }
 
 // The queue that a host has when it is formatted, and a user of this name.
-fn batch() -> Name {
+fn batch() -> Name
+    ensures { result ≡ codes "batch" }
+{
     match Name::read(b"batch") {
         Ok(name) => name,
         Err(_) => unreachable!(),
     }
 }
 
-fn root() -> Name {
+fn root() -> Name
+    ensures { result ≡ codes "root" }
+{
     match Name::read(b"root") {
         Ok(name) => name,
         Err(_) => unreachable!(),
@@ -105,12 +109,7 @@ fn ask(alloc: Global, node: &mut Node<MemDisk>, command: Command, out: &mut Vec<
 }
 
 // A job is submitted while its queue isn't started, and is started with the queue. The disks are let go, not the node.
-fn play(
-    alloc: Global,
-    node: Node<MemDisk>,
-    submit: Command,
-    out: &mut Vec<Output>,
-) -> Option<Shown>
+fn play(alloc: Global, node: Node<MemDisk>, submit: Command, out: &mut Vec<Output>) -> Option<Shown>
     requires sound { IsSoundHost (content_of node) }
     requires sane { IsTrue (is_sane_command submit) }
 {
