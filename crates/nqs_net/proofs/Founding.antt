@@ -107,7 +107,7 @@ more_slots (s ∷ ss) [] hosts slot tear one are stands same = absurd are
 more_slots (s ∷ ss) (t ∷ ts) [] slot tear one are stands same = absurd are
 more_slots (s ∷ ss) (t ∷ ts) (h ∷ hs) slot tear one are stands same = (are.0, are.1, more_slots ss ts hs slot tear one are.2 stands same)
 
-pub more_up : (slots more : List Slot) (tears more_tears : List Tear) (hosts : List Host) (up : UpHost) (one : Host) → AreSlots slots tears hosts → more ≡ slots ++ Up up ∷ [] → more_tears ≡ tears ++ Old ∷ [] → IsUp up.node one → Old ≡ one.tear
+pub more_up : (slots more : List Slot) (tears more_tears : List Tear) (hosts : List Host) (up : UpHost) (one : Host) → AreSlots slots tears hosts → more ≡ slots ++ Up up ∷ [] → more_tears ≡ tears ++ Old ∷ [] → IsUp up.node.value one → Old ≡ one.tear
     → AreSlots more more_tears (hosts ++ one ∷ [])
 more_up slots more tears more_tears hosts up one are pushed pushed_tear stands same =
     subst (λ ss. AreSlots ss more_tears (hosts ++ one ∷ [])) (sym pushed)

@@ -60,7 +60,7 @@ module _ (h : HostId) (w : Network) (host : Host) (tear : Tear) (packets : List 
       of (Up up) torn_now = absurd torn_now
       of (Down down) torn_now =
           subst (λ l. Turns h (IsSlot (Down down)) tear l before after w (crashes_up h host w)) (sym faces.packets)
-          (put_turn h w host (stopped host.state host) faces.there (IsSlot (Down down)) (torn_down host.tear (history_of node) down.disks torn_now host host.state (node_told node host host.tear is torn_now.images)) tear faces.tear (seen.Stop h ∷ []) before after saw)
+          (put_turn h w host (stopped host.state host) faces.there (IsSlot (Down down)) (torn_down host.tear (history_of node) down.disks.value torn_now host host.state (node_told node host host.tear is torn_now.images)) tear faces.tear (seen.Stop h ∷ []) before after saw)
 
   -- nothing is done
   pub idle_at : (P : Host → Type 0) → P host → (before : List Seen) → Turns h P tear packets before before w (unseen w)
@@ -89,12 +89,12 @@ module _ (h : HostId) (w : Network) (host : Host) (tear : Tear) (packets : List 
     abbrev old : Which → History
     old = histories_of mem.history_of disks
 
-    pub boot_turn : (node : Node MemDisk ghosts) → IsSoundHost (content_of node) → Tells node (applied Boot host.state) → IsMade fails old (history_of node) (Some Boot) → IsOneOrOther old (history_of node) (Some Boot) host.state → ((which : Which) (i : ℕ) → fails_of node which i ≡ fails which i)
+    pub boot_turn : (node boxed : Node MemDisk ghosts) → boxed ≡ node → IsSoundHost (content_of node) → Tells node (applied Boot host.state) → IsMade fails old (history_of node) (Some Boot) → IsOneOrOther old (history_of node) (Some Boot) host.state → ((which : Which) (i : ℕ) → fails_of node which i ≡ fails which i)
         → (sent : List Message) (before after : List Seen) → sent ≡ packets ++ sent_in (filter_map boot_output host.state.rows) → after ≡ before ++ (seen.Boot h ∷ seen_from h (length packets) (filter_map boot_output host.state.rows))
-        → Turns h (IsUp node) tear sent before after w (makes_change h host Boot (seen.Boot h ∷ []) (filter_map boot_output host.state.rows) w)
-    boot_turn node sound tells kept moments same sent before after sends saw =
-        kept_turn h w host tear packets faces (seen.Boot h ∷ []) (filter_map boot_output host.state.rows) Boot fails old is.disks (history_of node) (IsUp node) kept
-        (record { up = refl; tells = tells; sound = sound; disks = kept_disks host fails (fails_of node) old (history_of node) is.disks same (stored_parts Boot) (applied Boot host.state) kept; past = come_more old node host.state Boot (down_come disks host is) (let k : IsKept fails [] old (history_of node) = kept in k.calls) moments tells }) sent before after sends saw
+        → Turns h (IsUp boxed) tear sent before after w (makes_change h host Boot (seen.Boot h ∷ []) (filter_map boot_output host.state.rows) w)
+    boot_turn node boxed same_node sound tells kept moments same sent before after sends saw =
+        kept_turn h w host tear packets faces (seen.Boot h ∷ []) (filter_map boot_output host.state.rows) Boot fails old is.disks (history_of node) (IsUp boxed) kept
+        (subst (λ n. IsUp n (used (stored_parts Boot) (applied Boot host.state) host)) (sym same_node) (record { up = refl; tells = tells; sound = sound; disks = kept_disks host fails (fails_of node) old (history_of node) is.disks same (stored_parts Boot) (applied Boot host.state) kept; past = come_more old node host.state Boot (down_come disks host is) (let k : IsKept fails [] old (history_of node) = kept in k.calls) moments tells })) sent before after sends saw
 
     pub boot_cut : (now : Which → History) (slot : Slot) (which : Which) (starved : Bool) (before after : List Seen) → after ≡ before ++ seen.Stop h ∷ [] → IsStopped tear now slot → starved ≡ false
         → IsTrue starved ⊎ (IsBlown (fails which) (old which) ⊎ IsCutBy fails old now (Some Boot) host.state which)

@@ -144,8 +144,8 @@ module _ (h : HostId) (w : Network) (host : Host) (tear : Tear) (packets : List 
         → Turns h (IsSlot slot) tear packets before after w (change_fated f h host c first os w)
     by_fate (Up up) is f cuts = absurd is
     by_fate (Down down) is Made cuts = absurd (cuts down refl)
-    by_fate (Down down) is StoppedBefore cuts = stop_turn (Down down) (stopped host.state host) (torn_down host.tear now down.disks is host host.state (cuts down refl)) refl
-    by_fate (Down down) is StoppedAfter cuts = stop_turn (Down down) (stopped (applied c host.state) host) (torn_down host.tear now down.disks is host (applied c host.state) (cuts down refl)) refl
+    by_fate (Down down) is StoppedBefore cuts = stop_turn (Down down) (stopped host.state host) (torn_down host.tear now down.disks.value is host host.state (cuts down refl)) refl
+    by_fate (Down down) is StoppedAfter cuts = stop_turn (Down down) (stopped (applied c host.state) host) (torn_down host.tear now down.disks.value is host (applied c host.state) (cuts down refl)) refl
 
     images_of : (slot : Slot) → IsStopped host.tear now slot → (which : Which) → IsImage (state (now which)) (torn host.tear (state (now which)))
     images_of (Up up) is = absurd is

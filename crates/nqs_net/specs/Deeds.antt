@@ -45,7 +45,7 @@ IsSaneFor hosts _ = Unit {0}
 
 -- the same at a host, if it is up
 abbrev pub IsSaneAt : Deed → Slot → Type 0
-IsSaneAt deed (Up up) = IsSaneFor (length (content_of up.node).site) deed
+IsSaneAt deed (Up up) = IsSaneFor (length (content_of up.node.value).site) deed
 IsSaneAt deed (Down down) = Unit {0}
 
 -- the world stands for a network in order, and it is within its limits there

@@ -34,7 +34,7 @@ pub record IsTorn (tear : Tear) (now : Which → History) (left : Disks MemDisk)
 -- a host that was stopped
 abbrev pub IsStopped : Tear → (Which → History) → Slot → Type 0
 IsStopped tear now (Up up) = ⊥
-IsStopped tear now (Down down) = IsTorn tear now down.disks
+IsStopped tear now (Down down) = IsTorn tear now down.disks.value
 
 -- a host that is down
 abbrev pub IsDownSlot : Slot → Type 0

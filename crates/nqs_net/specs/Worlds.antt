@@ -68,8 +68,8 @@ pub record IsDown (left : Disks MemDisk) (host : Host) : Type 0 where
   pub calls : (which : Which) → (histories_of mem.history_of left which).calls ≡ []
 
 abbrev pub IsSlot : Slot → Host → Type 0
-IsSlot (Up up) host = IsUp up.node host
-IsSlot (Down down) host = IsDown down.disks host
+IsSlot (Up up) host = IsUp up.node.value host
+IsSlot (Down down) host = IsDown down.disks.value host
 
 -- each slot and its tear stand for the host of their place
 abbrev pub AreSlots : List Slot → List Tear → List Host → Type 0

@@ -86,14 +86,14 @@ fn ended(alloc: Global, now: u64, id: RequestId, start: u16) -> Event
 fn finish_up(
     alloc: Global,
     me: HostId,
-    node: Node<MemDisk>,
+    node: Box<Node<MemDisk>>,
     tear: Tear,
     now: u64,
     packets: &mut Vec<Message>,
     seen: &mut Vec<Seen>,
 ) -> Result<Slot, Memory>
-    requires sound { IsSoundHost (content_of node) }
-    ensures { (w : Network) (host : Host) → Faces me host tear packets.old.items w → IsUp node host → w.now ≡ now
+    requires sound { IsSoundHost (content_of node.value) }
+    ensures { (w : Network) (host : Host) → Faces me host tear packets.old.items w → IsUp node.value host → w.now ≡ now
         → IfOk result (λ slot. Turns me (IsSlot slot) tear packets.new.items seen.old.items seen.new.items w (finishes_up me host w)) }
 {
     match least_running(node.state()) {
@@ -108,22 +108,22 @@ fn finish_up(
 fn do_up(
     alloc: Global,
     me: HostId,
-    node: Node<MemDisk>,
+    node: Box<Node<MemDisk>>,
     tear: Tear,
     deed: &Deed,
     now: u64,
     packets: &mut Vec<Message>,
     seen: &mut Vec<Seen>,
 ) -> Result<Slot, Memory>
-    requires sound { IsSoundHost (content_of node) }
-    requires sane { IsSaneFor (length (content_of node).site) deed.now }
-    ensures { (w : Network) (host : Host) → Faces me host tear packets.old.items w → IsUp node host → w.now ≡ now
+    requires sound { IsSoundHost (content_of node.value) }
+    requires sane { IsSaneFor (length (content_of node.value).site) deed.now }
+    ensures { (w : Network) (host : Host) → Faces me host tear packets.old.items w → IsUp node.value host → w.now ≡ now
         → IfOk result (λ slot. Turns me (IsSlot slot) tear packets.new.items seen.old.items seen.new.items w (done_up deed.now me host w)) }
 {
     match deed {
         Deed::Take(event) => take_up(alloc, me, node, tear, event, now, packets, seen),
         Deed::Finish => finish_up(alloc, me, node, tear, now, packets, seen),
-        Deed::Crash => crash_up(me, node, tear, seen),
+        Deed::Crash => crash_up(alloc, me, node, tear, seen),
         Deed::Boot => stay(Slot::Up(UpHost { node }), Seen::Up { host: me }, seen),
     }
 }
@@ -138,7 +138,7 @@ fn do_down(
     packets: &mut Vec<Message>,
     seen: &mut Vec<Seen>,
 ) -> Result<Slot, Memory>
-    ensures { (w : Network) (host : Host) → Faces me host tear packets.old.items w → IsDown down.disks host → w.now ≡ now
+    ensures { (w : Network) (host : Host) → Faces me host tear packets.old.items w → IsDown down.disks.value host → w.now ≡ now
         → IfOk result (λ slot. Turns me (IsSlot slot) tear packets.new.items seen.old.items seen.new.items w (done_down deed.now me host w)) }
 {
     match deed {

@@ -32,15 +32,15 @@ fn fuse_disks(disks: &mut Disks<MemDisk>, which: Which, calls: u64)
 }
 
 fn fuse_up(up: &mut UpHost, which: Which, calls: u64)
-    ensures { (host : Host) (tear : Torn) → IsUp up.old.node host → IsUp up.new.node (fused_host which calls tear host) }
+    ensures { (host : Host) (tear : Torn) → IsUp up.old.node.value host → IsUp up.new.node.value (fused_host which calls tear host) }
 {
     up.node.fuse(which, calls);
 }
 
 fn fuse_down(down: &mut DownHost, which: Which, calls: u64)
-    ensures { (host : Host) (tear : Torn) → IsDown down.old.disks host → IsDown down.new.disks (fused_host which calls tear host) }
+    ensures { (host : Host) (tear : Torn) → IsDown down.old.disks.value host → IsDown down.new.disks.value (fused_host which calls tear host) }
 {
-    fuse_disks(&mut down.disks, which, calls);
+    fuse_disks(&mut *down.disks, which, calls);
 }
 
 fn fuse_slot(slot: &mut Slot, which: Which, calls: u64)

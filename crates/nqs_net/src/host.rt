@@ -56,21 +56,24 @@ fn shuts_down(event: &Event, state: &HostState) -> bool
 /// A host that is up stops.
 #[tactic(none)]
 pub(crate) fn crash_up(
+    alloc: Global,
     me: HostId,
-    node: Node<MemDisk>,
+    node: Box<Node<MemDisk>>,
     tear: Tear,
     seen: &mut Vec<Seen>,
 ) -> Result<Slot, Memory>
-    ensures { (w : Network) (host : Host) (packets : List Sent) → Faces me host tear packets w → IsUp node host
+    ensures { (w : Network) (host : Host) (packets : List Sent) → Faces me host tear packets w → IsUp node.value host
         → IfOk result (λ slot. Turns me (IsSlot slot) tear packets seen.old.items seen.new.items w (crashes_up me host w)) }
 {
-    let slot = stop(me, node.close(), tear, seen)?;
+    let disks = Box::into_inner(node).close();
+    let slot = stop(alloc, me, disks, tear, seen)?;
     Ok(slot)
 }
 
 // A host stops after a shutdown, if it didn't before.
 #[tactic(none)]
 fn halt(
+    alloc: Global,
     me: HostId,
     stops: bool,
     slot: Slot,
@@ -85,7 +88,7 @@ fn halt(
     }
     match slot {
         Slot::Down(down) => Ok(Slot::Down(down)),
-        Slot::Up(up) => crash_up(me, up.node, tear, seen),
+        Slot::Up(up) => crash_up(alloc, me, up.node, tear, seen),
     }
 }
 
@@ -94,22 +97,22 @@ fn halt(
 pub(crate) fn take_up(
     alloc: Global,
     me: HostId,
-    node: Node<MemDisk>,
+    node: Box<Node<MemDisk>>,
     tear: Tear,
     event: &Event,
     now: u64,
     packets: &mut Vec<Message>,
     seen: &mut Vec<Seen>,
 ) -> Result<Slot, Memory>
-    requires sound { IsSoundHost (content_of node) }
-    requires sane { IsTrue (is_sane_event (length (content_of node).site) event.now) }
-    ensures { (w : Network) (host : Host) → Faces me host tear packets.old.items w → IsUp node host → w.now ≡ now
+    requires sound { IsSoundHost (content_of node.value) }
+    requires sane { IsTrue (is_sane_event (length (content_of node.value).site) event.now) }
+    ensures { (w : Network) (host : Host) → Faces me host tear packets.old.items w → IsUp node.value host → w.now ≡ now
         → IfOk result (λ slot. Turns me (IsSlot slot) tear packets.new.items seen.old.items seen.new.items w (takes_up me host event.now w)) }
 {
     let stops = shuts_down(event, node.state());
     let taken = take_step(alloc, me, node, tear, event, packets, seen)?;
     let begun = start_all(alloc, me, taken, tear, now, packets, seen)?;
-    let left = halt(me, stops, begun, tear, seen)?;
+    let left = halt(alloc, me, stops, begun, tear, seen)?;
     Ok(left)
 }
 
@@ -123,18 +126,19 @@ fn boot_step(
     packets: &mut Vec<Message>,
     seen: &mut Vec<Seen>,
 ) -> Result<Slot, Memory>
-    ensures { (w : Network) (host : Host) → Faces me host tear packets.old.items w → IsDown down.disks host
+    ensures { (w : Network) (host : Host) → Faces me host tear packets.old.items w → IsDown down.disks.value host
         → IfOk result (λ slot. Turns me (IsSlot slot) tear packets.new.items seen.old.items seen.new.items w (makes_change me host Boot (sight.Boot me ∷ []) (filter_map boot_output host.state.rows) w)) }
 {
     let mut out = Vec::new(alloc);
-    match Node::boot(alloc, down.disks, &mut out) {
+    match Node::boot(alloc, Box::into_inner(down.disks), &mut out) {
         Ok(node) => {
             seen.push(Seen::Boot { host: me })?;
             emit(me, out, packets, seen)?;
+            let node = Box::new(alloc, node)?;
             Ok(Slot::Up(UpHost { node }))
         }
         Err((LoadFault::Disk(_), disks)) => {
-            let slot = stop(me, disks, tear, seen)?;
+            let slot = stop(alloc, me, disks, tear, seen)?;
             Ok(slot)
         }
         // The disks of a host are never those of something else.
@@ -153,7 +157,7 @@ pub(crate) fn boot_down(
     packets: &mut Vec<Message>,
     seen: &mut Vec<Seen>,
 ) -> Result<Slot, Memory>
-    ensures { (w : Network) (host : Host) → Faces me host tear packets.old.items w → IsDown down.disks host → w.now ≡ now
+    ensures { (w : Network) (host : Host) → Faces me host tear packets.old.items w → IsDown down.disks.value host → w.now ≡ now
         → IfOk result (λ slot. Turns me (IsSlot slot) tear packets.new.items seen.old.items seen.new.items w (boots_down me host w)) }
 {
     let booted = boot_step(alloc, me, down, tear, packets, seen)?;

@@ -17,8 +17,8 @@ fn left_by(slot: Slot) -> Disks<MemDisk>
     ensures { (host : Host) → IsSlot slot host → IsLeft result host }
 {
     match slot {
-        Slot::Up(up) => up.node.close(),
-        Slot::Down(down) => down.disks,
+        Slot::Up(up) => Box::into_inner(up.node).close(),
+        Slot::Down(down) => Box::into_inner(down.disks),
     }
 }
 

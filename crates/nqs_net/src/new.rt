@@ -40,11 +40,11 @@ fn names_stand(site: &[Name])
 }
 
 // A host of a site, formatted and booted. Its disks have no fuse, so only want of memory stops it.
-fn new_node(alloc: Global, me: HostId, site: &[Name]) -> Result<Node<MemDisk>, Memory>
+fn new_node(alloc: Global, me: HostId, site: &[Name]) -> Result<Box<Node<MemDisk>>, Memory>
     requires within { me.0 < length site.now }
     requires few { length site.now ≤ 16 }
     requires names { AllByRecursion IsName site.now }
-    ensures { IfOk result (λ node. IsUp node (new_host site.now me.0)) }
+    ensures { IfOk result (λ node. IsUp node.value (new_host site.now me.0)) }
 {
     let mut disks = new_disks(alloc)?;
     let Ok(()) = format(alloc, &mut disks, me, site) else {
@@ -52,7 +52,7 @@ fn new_node(alloc: Global, me: HostId, site: &[Name]) -> Result<Node<MemDisk>, M
     };
     let mut out = Vec::new(alloc);
     match Node::boot(alloc, disks, &mut out) {
-        Ok(node) => Ok(node),
+        Ok(node) => Ok(Box::new(alloc, node)?),
         Err(_) => Err(Memory),
     }
 }

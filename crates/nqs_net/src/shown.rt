@@ -18,8 +18,8 @@ use nqs_types::{HostState, Memory, TableRow};
 use std::alloc::Global;
 
 fn read_up(alloc: Global, up: &mut UpHost) -> Result<HostState, Memory>
-    ensures same { (host : Host) → IsUp up.old.node host → IsUp up.new.node host }
-    ensures state { (host : Host) → IsUp up.old.node host → IfOk result (λ state. StandsFor state host.state) }
+    ensures same { (host : Host) → IsUp up.old.node.value host → IsUp up.new.node.value host }
+    ensures state { (host : Host) → IsUp up.old.node.value host → IfOk result (λ state. StandsFor state host.state) }
 {
     match up.node.reread(alloc) {
         Ok(state) => Ok(state),
@@ -28,10 +28,10 @@ fn read_up(alloc: Global, up: &mut UpHost) -> Result<HostState, Memory>
 }
 
 fn read_down(alloc: Global, down: &mut DownHost) -> Result<HostState, Memory>
-    ensures same { (host : Host) → IsDown down.old.disks host → IsDown down.new.disks host }
-    ensures state { (host : Host) → IsDown down.old.disks host → IfOk result (λ state. StandsFor state host.state) }
+    ensures same { (host : Host) → IsDown down.old.disks.value host → IsDown down.new.disks.value host }
+    ensures state { (host : Host) → IsDown down.old.disks.value host → IfOk result (λ state. StandsFor state host.state) }
 {
-    match read_only(alloc, &mut down.disks) {
+    match read_only(alloc, &mut *down.disks) {
         Ok(state) => Ok(state),
         Err(_) => Err(Memory),
     }

@@ -12,18 +12,18 @@ use nqs_disk::MemDisk;
 use nqs_node::Node;
 use nqs_store::Disks;
 
-/// A node whose host is in order.
+/// A node whose host is in order. In a box, so that a move of the host is one of an address.
 #[derive(Drop)]
 pub struct UpHost {
-    pub node: Node<MemDisk>,
-    ghost sound: { IsSoundHost (content_of node) } by { IsSoundHost-prop (content_of node) },
+    pub node: Box<Node<MemDisk>>,
+    ghost sound: { IsSoundHost (content_of node.value) } by { IsSoundHost-prop (content_of node.value) },
 }
 
 /// The disks of a host that is down. No call was made of them since it stopped.
 #[derive(Drop)]
 pub struct DownHost {
-    pub disks: Disks<MemDisk>,
-    ghost rests: { (which : Which) → (histories_of mem.history_of disks which).calls ≡ [] },
+    pub disks: Box<Disks<MemDisk>>,
+    ghost rests: { (which : Which) → (histories_of mem.history_of disks.value which).calls ≡ [] },
 }
 
 /// A host that runs, or the disks of one that doesn't.

@@ -12,6 +12,7 @@ use crate::slot::{DownHost, Slot};
 use nqs_disk::MemDisk;
 use nqs_store::Disks;
 use nqs_types::{HostId, Memory, Seen, Tear};
+use std::alloc::Global;
 
 // Whether a failed call of one of the disks wasn't made.
 fn is_starved(disks: &Disks<MemDisk>) -> bool
@@ -35,6 +36,7 @@ fn torn(disks: Disks<MemDisk>, tear: Tear) -> Result<Disks<MemDisk>, Memory>
 /// Stops a host, which is all that is seen. Where a call of its disks wasn't made for want of memory the answer is
 /// `Memory`, as the host couldn't go on, and didn't stop by a fuse.
 pub(crate) fn stop(
+    alloc: Global,
     me: HostId,
     disks: Disks<MemDisk>,
     tear: Tear,
@@ -48,6 +50,7 @@ pub(crate) fn stop(
         return Err(Memory);
     }
     let disks = torn(disks, tear)?;
+    let disks = Box::new(alloc, disks)?;
     seen.push(Seen::Stop { host: me })?;
     Ok(Slot::Down(DownHost { disks }))
 }

@@ -21,6 +21,7 @@ use nqs_types::{Event, HostId, Memory, Message, Output, Seen, Tear};
 use std::alloc::Global;
 
 // Takes an event: `false` where a failed call of a disk stopped the node.
+#[tactic(none)]
 fn take_event(
     alloc: Global,
     node: &mut Node<MemDisk>,
@@ -64,16 +65,17 @@ fn start_event(
 // What a step of a node shows: its outputs, or a stop.
 #[tactic(none)]
 fn carry(
+    alloc: Global,
     me: HostId,
-    node: Node<MemDisk>,
+    node: Box<Node<MemDisk>>,
     took: bool,
     out: Vec<Output>,
     tear: Tear,
     packets: &mut Vec<Message>,
     seen: &mut Vec<Seen>,
 ) -> Result<Slot, Memory>
-    requires sound { IsSoundHost (content_of node) }
-    ensures turn { (w : Network) (host : Host) (x : Stepped (List ℕ)) → Faces me host tear packets.old.items w → IsTaken host x node out.items took
+    requires sound { IsSoundHost (content_of node.value) }
+    ensures turn { (w : Network) (host : Host) (x : Stepped (List ℕ)) → Faces me host tear packets.old.items w → IsTaken host x node.value out.items took
         → IfOk result (λ slot. Turns me (IsSlot slot) tear packets.new.items seen.old.items seen.new.items w (steps me host x w)) }
     ensures down { took ≡ false → IfOk result IsDownSlot }
 {
@@ -81,7 +83,8 @@ fn carry(
         emit(me, out, packets, seen)?;
         return Ok(Slot::Up(UpHost { node }));
     }
-    let slot = stop(me, node.close(), tear, seen)?;
+    let disks = Box::into_inner(node).close();
+    let slot = stop(alloc, me, disks, tear, seen)?;
     Ok(slot)
 }
 
@@ -90,21 +93,21 @@ fn carry(
 pub(crate) fn take_step(
     alloc: Global,
     me: HostId,
-    node: Node<MemDisk>,
+    node: Box<Node<MemDisk>>,
     tear: Tear,
     event: &Event,
     packets: &mut Vec<Message>,
     seen: &mut Vec<Seen>,
 ) -> Result<Slot, Memory>
-    requires sound { IsSoundHost (content_of node) }
-    requires sane { IsTrue (is_sane_event (length (content_of node).site) event.now) }
-    ensures { (w : Network) (host : Host) → Faces me host tear packets.old.items w → IsUp node host
+    requires sound { IsSoundHost (content_of node.value) }
+    requires sane { IsTrue (is_sane_event (length (content_of node.value).site) event.now) }
+    ensures { (w : Network) (host : Host) → Faces me host tear packets.old.items w → IsUp node.value host
         → IfOk result (λ slot. Turns me (IsSlot slot) tear packets.new.items seen.old.items seen.new.items w (steps me host (step event.now host.state) w)) }
 {
     let mut node = node;
     let mut out = Vec::new(alloc);
-    let took = take_event(alloc, &mut node, event, &mut out)?;
-    let slot = carry(me, node, took, out, tear, packets, seen)?;
+    let took = take_event(alloc, &mut *node, event, &mut out)?;
+    let slot = carry(alloc, me, node, took, out, tear, packets, seen)?;
     Ok(slot)
 }
 
@@ -113,20 +116,20 @@ pub(crate) fn take_step(
 fn start_step(
     alloc: Global,
     me: HostId,
-    node: Node<MemDisk>,
+    node: Box<Node<MemDisk>>,
     tear: Tear,
     now: u64,
     packets: &mut Vec<Message>,
     seen: &mut Vec<Seen>,
 ) -> Result<(bool, Slot), Memory>
-    requires sound { IsSoundHost (content_of node) }
-    ensures { (w : Network) (host : Host) → Faces me host tear packets.old.items w → IsUp node host → w.now ≡ now
+    requires sound { IsSoundHost (content_of node.value) }
+    ensures { (w : Network) (host : Host) → Faces me host tear packets.old.items w → IsUp node.value host → w.now ≡ now
         → IfOk result (λ r. Starts me r.0 (IsSlot r.1) tear packets.new.items seen.old.items seen.new.items w) }
 {
     let mut node = node;
     let mut out = Vec::new(alloc);
-    let (took, more) = start_event(alloc, &mut node, now, &mut out)?;
-    let slot = carry(me, node, took, out, tear, packets, seen)?;
+    let (took, more) = start_event(alloc, &mut *node, now, &mut out)?;
+    let slot = carry(alloc, me, node, took, out, tear, packets, seen)?;
     Ok((more, slot))
 }
 

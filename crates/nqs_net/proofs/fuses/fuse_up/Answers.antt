@@ -1,12 +1,16 @@
-use Rattle.std.proofs.Common.{refl, sym, subst}
+use Rattle.std.proofs.Common.{◌∙◌, refl, sym, ap, subst}
 use Rattle.nqs_node.specs.Nodes.{history_of, fails_of, content_of}
 use Rattle.nqs_store.specs.Sound.{IsSoundHost}
+use Rattle.nqs_net.specs.Worlds.{IsUp}
 use Rattle.nqs_net.proofs.Coming.{come_still}
 use Rattle.nqs_net.proofs.Fusing.{fused_disks, none_failed}
 use Rattle.nqs_net.proofs.fuses.fuse_up.Goals as goal
 
+pub invariant_of-up : goal.invariant_of-up
+invariant_of-up c = record { sound = subst IsSoundHost (sym (c.fuse.ensures.state ∙ ap content_of c.deref_mut.ensures.value)) c.args.up.now.sound }
+
 pub returns : goal.returns
-returns c = λ host tear is. let old = c.args.up.now.node in let new = c.fuse.new.self in record {
+returns c = λ host tear up. let is = subst (λ n. IsUp n host) (sym c.deref_mut.ensures.value) up in let old = c.deref_mut.result.now in let new = c.fuse.new.self in record {
   up = is.up;
   tells = c.fuse.ensures.tells host.state is.tells;
   sound = subst IsSoundHost (sym c.fuse.ensures.state) is.sound;

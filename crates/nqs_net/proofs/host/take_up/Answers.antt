@@ -4,6 +4,7 @@ use Rattle.nqs_rules.specs.Plain.{map_state}
 use Rattle.nqs_rules.specs.Step.{step}
 use Rattle.nqs_rules.specs.World.{steps, all_starts, halts, shuts_down, then_ran}
 use Rattle.nqs_store.specs.Stores.{bytes_of}
+use Rattle.nqs_node.specs.Nodes.{content_of}
 use Rattle.nqs_net.specs.Worlds.{IsSlot}
 use Rattle.nqs_net.specs.Turns.{Turns}
 use Rattle.nqs_net.proofs.Turning.{turn_after}
@@ -40,5 +41,5 @@ returns c = λ w host faces is now.
     let two = c.in_ok-begun.ensures stepped.world one.at (one.rest.now ∙ now) in
     let both = turn_after me _ _ c.args.tear c.args.tear _ _ _ _ _ w stepped (all_starts me) one two in
     let three = c.in_ok-left.ensures begun.world _ both.at in
-    let stops = c.shuts_down-stops.ensures (bytes_of c.args.node.store) ∙ ap (λ s. shuts_down event (map_state (bytes_of c.args.node.store) s)) c.state.ensures ∙ ap (shuts_down event) is.tells.is in
+    let stops = c.shuts_down-stops.ensures (bytes_of c.args.node.value.store) ∙ ap (λ s. shuts_down event (map_state (bytes_of c.args.node.value.store) s)) (c.state.ensures ∙ ap content_of c.deref.ensures) ∙ ap (shuts_down event) is.tells.is in
     turn_after me _ _ c.args.tear c.args.tear _ _ _ _ _ w begun (halts (shuts_down event host.state) me) both (subst (λ b. Turns me (IsSlot c.in_ok-left.left) c.args.tear c.start_all.new.packets.items c.start_all.new.seen.items c.halt.new.seen.items begun.world (halts b me begun.world)) stops three)

@@ -31,3 +31,15 @@ returns-in-Err-Disk-clause-taken c = λ host is empty. record {
   same = c.in-Err-Disk.ensures.fuse refl;
   ended = (c.in-Err-Disk.field-0-0, c.in-Err-Disk.ensures.cut refl host.state is.tells c.in-Err-Disk.field-0-0 (ap Err c.in-Err-Disk.field-0-is));
 }
+
+pub take-requires : goal.take-requires
+take-requires c = c.requires
+
+pub returns-in-Ok-clause-sound : goal.returns-in-Ok-clause-sound
+returns-in-Ok-clause-sound c = c.in-Ok.ensures.sound
+
+pub returns-in-Err-Disk-clause-sound : goal.returns-in-Err-Disk-clause-sound
+returns-in-Err-Disk-clause-sound c = c.in-Err-Disk.ensures.sound
+
+pub returns-in-Err : goal.returns-in-Err
+returns-in-Err c = record { sound = c.in-Err.ensures.sound; taken = λ host is empty. tt }

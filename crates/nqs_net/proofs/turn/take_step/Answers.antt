@@ -1,13 +1,17 @@
-use Rattle.std.proofs.Common.{refl}
+use Rattle.std.proofs.Common.{IsTrue, length, refl, sym, subst}
 use Rattle.std.proofs.lemmas.Result.{err_from_is_err_and}
+use Rattle.nqs_rules.specs.Sane.{is_sane_event}
 use Rattle.nqs_rules.specs.Step.{step}
+use Rattle.nqs_node.specs.Nodes.{content_of}
+use Rattle.nqs_store.specs.Sound.{IsSoundHost}
+use Rattle.nqs_net.specs.Worlds.{IsUp}
 use Rattle.nqs_net.proofs.turn.take_step.Goals as goal
 
 pub take_event-requires-clause-sound : goal.take_event-requires-clause-sound
-take_event-requires-clause-sound c = c.requires.sound
+take_event-requires-clause-sound c = subst (λ n. IsSoundHost (content_of n)) (sym c.deref_mut.ensures.value) c.requires.sound
 
 pub take_event-requires-clause-sane : goal.take_event-requires-clause-sane
-take_event-requires-clause-sane c = c.requires.sane
+take_event-requires-clause-sane c = subst (λ n. IsTrue (is_sane_event (length (content_of n).site) c.args.event.now)) (sym c.deref_mut.ensures.value) c.requires.sane
 
 pub returns-in_err-took : goal.returns-in_err-took
 returns-in_err-took c = λ w host faces is.
@@ -23,4 +27,6 @@ returns-in_err-slot c = λ w host faces is.
     rw p.1 tt
 
 pub returns : goal.returns
-returns c = λ w host faces is. c.in_ok-slot.ensures.turn w host (step c.args.event.now host.state) faces (c.in_ok-took.ensures.taken host is c.new-out.ensures.items)
+returns c = λ w host faces is.
+    let up = subst (λ n. IsUp n host) (sym c.deref_mut.ensures.value) is in
+    c.in_ok-slot.ensures.turn w host (step c.args.event.now host.state) faces (c.in_ok-took.ensures.taken host up c.new-out.ensures.items)
