@@ -1,5 +1,5 @@
 -- After a change that was made the fuses have burnt, and the counts have grown.
-use Rattle.std.proofs.Common.{◌≡◌, ℕ, ◌+◌, ◌-◌, ◌<◌, ◌≤◌, nat_le, Bool, true, false, List, [], ◌∷◌, ◌++◌, length, map, Option, None, Some, refl, sym, ap, subst, ◌∙◌, arith}
+use Rattle.std.proofs.Common.{◌≡◌, ℕ, ◌+◌, ◌-◌, ◌<◌, nat_le, Bool, true, false, List, [], ◌∷◌, ◌++◌, length, Option, None, Some, refl, sym, ap, subst, ◌∙◌, arith}
 use Rattle.std.proofs.lemmas.Bool.Decides.{nat_tests}
 use Rattle.std.proofs.lemmas.List.{length-append, append-nil}
 use Rattle.nqs_types.specs.State.{Plain}
@@ -7,11 +7,10 @@ use Rattle.nqs_types.specs.declared.world.Which.{Which}
 use Rattle.nqs_types.specs.declared.world.Which.TheVariants.{Root, First, Second, Spool}
 use Rattle.nqs_outside.specs.History.{Call, write, sync, History, moment, extended}
 use Rattle.nqs_journal.specs.Plan.{append_calls}
-use Rattle.nqs_spool.specs.Puts.{put_calls}
 use Rattle.nqs_rules.specs.World.{Host, falls, burnt, spool_calls, used}
-use Rattle.nqs_store.specs.Hosts.{HostCall, on, part, Runs}
+use Rattle.nqs_store.specs.Hosts.{HostCall, on, part}
 use Rattle.nqs_store.specs.Plan.{puts_calls, commit_calls}
-use Rattle.nqs_store.specs.Commits.{AreClear, IsKept}
+use Rattle.nqs_store.specs.Commits.{IsKept}
 use Rattle.nqs_net.specs.Worlds.{fuse_of, calls_of, IsFuse, AreInTurn, IsDisk, AreDisks}
 use Rattle.nqs_net.proofs.Fates.{spool_clear, first_clear}
 

@@ -1,9 +1,8 @@
 -- How a change of a host ends, by its fuses: what its disks did says the same as the rules.
-use Rattle.std.proofs.Common.{◌≡◌, ◌⊎◌, inl, inr, ℕ, zero, suc, ◌+◌, ◌-◌, ◌<◌, ◌≤◌, nat_le, Bool, true, false, ◌&&◌, List, [], ◌∷◌, ◌++◌, length, Option, None, Some, IsTrue, true≢false, refl, sym, ap, subst, ◌∙◌, arith}
+use Rattle.std.proofs.Common.{◌≡◌, ℕ, ◌+◌, ◌-◌, ◌<◌, ◌≤◌, nat_le, Bool, true, false, ◌&&◌, List, Option, None, Some, true≢false, refl, sym, ap, subst, ◌∙◌, arith}
 use Rattle.std.specs.Prelude.{if◌then◌else◌, MatchBool}
 use Rattle.std.proofs.lemmas.Bool.Decides.{nat_tests}
 use Rattle.nqs_types.specs.State.{Plain}
-use Rattle.nqs_types.specs.declared.tear.Tear.{Tear}
 use Rattle.nqs_types.specs.declared.world.Which.{Which}
 use Rattle.nqs_types.specs.declared.world.Which.TheVariants.{Root, First, Second, Spool}
 use Rattle.nqs_outside.specs.History.{History, state, moment, IsImage}
@@ -11,9 +10,9 @@ use Rattle.nqs_disk.specs.Torn.{torn}
 use Rattle.nqs_rules.specs.World.{Host, Fate, Made, StoppedBefore, StoppedAfter, falls, falls_at_gate, keeps_gate, spool_calls, fate}
 use Rattle.nqs_tears.proofs.TornGates.{torn_means}
 use Rattle.nqs_store.specs.Images.{IsTold}
-use Rattle.nqs_store.specs.Commits.{AreClear, FailsFirst, EachImage, IsKept, IsAtHostGate, IsCutAtSpool, IsCutAtFirst, IsCutAt}
+use Rattle.nqs_store.specs.Commits.{AreClear, FailsFirst, IsKept, IsCutAtSpool, IsCutAtFirst, IsCutAt}
 use Rattle.nqs_node.specs.Carried.{IsBlown}
-use Rattle.nqs_net.specs.Worlds.{IsFuse, IsDisk, AreDisks}
+use Rattle.nqs_net.specs.Worlds.{IsFuse, AreDisks}
 
 -- one fuse
 

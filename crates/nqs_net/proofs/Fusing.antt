@@ -1,5 +1,5 @@
 -- A disk is given a fuse.
-use Rattle.std.proofs.Common.{◌≡◌, ◌≢◌, ℕ, zero, suc, ◌+◌, ◌-◌, ◌<◌, ◌≤◌, nat_le, max, Bool, true, false, List, [], ◌∷◌, length, get_or, slice_set, Option, None, Some, refl, sym, ap, subst, ◌∙◌, arith}
+use Rattle.std.proofs.Common.{◌≡◌, ◌≢◌, ℕ, zero, suc, ◌+◌, ◌-◌, ◌<◌, ◌≤◌, nat_le, max, Bool, false, List, [], ◌∷◌, length, get_or, slice_set, Option, None, Some, refl, sym, ap, subst, ◌∙◌, arith}
 use Rattle.std.proofs.lemmas.Bool.Decides.{nat_tests}
 use Rattle.nqs_types.specs.declared.tear.Tear.{Tear}
 use Rattle.nqs_types.specs.declared.world.Which.{Which}

@@ -1,26 +1,23 @@
 -- What a stop, a boot and a shutdown of a host make of a network.
-use Rattle.std.proofs.Common.{◌≡◌, ◌⊎◌, inl, inr, ℕ, Bool, true, false, true≢false, IsTrue, List, [], ◌∷◌, ◌++◌, length, if◌then◌else◌, Option, None, Some, refl, sym, ap, subst, ◌∙◌}
-use Rattle.std.proofs.lemmas.List.{append_assoc, append-nil}
+use Rattle.std.proofs.Common.{◌≡◌, ◌⊎◌, inl, inr, ℕ, Bool, true, false, true≢false, IsTrue, List, [], ◌∷◌, ◌++◌, length, if◌then◌else◌, Some, refl, sym, ap, subst, ◌∙◌}
+use Rattle.std.proofs.lemmas.List.{append-nil}
 use Rattle.std.specs.List.{filter_map}
-use Rattle.nqs_types.specs.State.{Plain}
 use Rattle.nqs_types.specs.declared.ids.HostId.{HostId}
 use Rattle.nqs_types.specs.declared.change.Change.TheVariants.{Boot}
-use Rattle.nqs_types.specs.declared.event.Event.{Event}
 use Rattle.nqs_types.specs.declared.message.Message.{Message}
 use Rattle.nqs_types.specs.declared.tear.Tear.{Tear}
 use Rattle.nqs_types.specs.declared.world.Seen.{Seen}
 use Rattle.nqs_types.specs.declared.world.Seen.TheVariants as seen
 use Rattle.nqs_types.specs.declared.world.Which.{Which}
 use Rattle.nqs_types.specs.declared.world.Which.TheVariants.{First, Spool}
-use Rattle.nqs_outside.specs.History.{Call, History, fresh, after, state, content, IsImage, IsQuiet}
+use Rattle.nqs_outside.specs.History.{Call, History, fresh, after, state, IsImage, IsQuiet}
 use Rattle.nqs_disk.specs.MemDisk as mem
 use Rattle.nqs_disk.specs.Torn.{torn}
 use Rattle.nqs_disk.specs.contracts.mem_disk.MemDiskDisk.TheImpl.{ghosts}
 use Rattle.nqs_disk.specs.declared.mem_disk.MemDisk.{MemDisk}
 use Rattle.nqs_rules.specs.Applied.{applied}
-use Rattle.nqs_rules.specs.Step.{step}
 use Rattle.nqs_rules.specs.Stepped.{stored_parts}
-use Rattle.nqs_rules.specs.World.{World as Network, Host, Ran, host_of, put_host, stopped, used, halted_host, halts, crashes_up, makes_change, boot_output, boots_down, steps, all_starts, shuts_down, takes_up, unseen, then_ran}
+use Rattle.nqs_rules.specs.World.{World as Network, Host, stopped, used, halted_host, halts, crashes_up, makes_change, boot_output, unseen}
 use Rattle.nqs_store.specs.Commits.{IsKept}
 use Rattle.nqs_store.specs.Images.{IsTold}
 use Rattle.nqs_store.specs.Disks.{disk_at, histories_of, failing_of}
@@ -30,10 +27,9 @@ use Rattle.nqs_store.proofs.TellsNow.{told_now}
 use Rattle.nqs_node.specs.Carried.{IsMade, IsCutBy, IsBlown, IsOneOrOther}
 use Rattle.nqs_node.specs.Nodes.{disk_of, history_of, fails_of, content_of, Tells}
 use Rattle.nqs_node.specs.declared.node.Node.{Node}
-use Rattle.nqs_laws.proofs.Sound.{get-here}
 use Rattle.nqs_net.specs.Lists.{sent_in, seen_from}
-use Rattle.nqs_net.specs.Worlds.{fuse_of, AreDisks, IsUp, IsDown, IsSlot}
-use Rattle.nqs_net.specs.Turns.{IsTorn, IsStopped, Faces, IsAt, Turns}
+use Rattle.nqs_net.specs.Worlds.{fuse_of, IsUp, IsDown, IsSlot}
+use Rattle.nqs_net.specs.Turns.{IsStopped, Faces, Turns}
 use Rattle.nqs_net.specs.declared.slot.Slot.{Slot}
 use Rattle.nqs_net.specs.declared.slot.Slot.TheVariants.{Up, Down}
 use Rattle.nqs_net.proofs.Fates.{unblown}

@@ -1,6 +1,5 @@
 -- What comes to one host is what happens.
-use Rattle.std.proofs.Common.{◌≡◌, ℕ, Bool, true, IsTrue, List, length, Option, None, Some, refl, sym, ap, subst, ◌∙◌}
-use Rattle.std.proofs.lemmas.Option.{same_Some, none-some}
+use Rattle.std.proofs.Common.{◌≡◌, ℕ, true, List, length, Option, None, Some, refl, sym, ap, subst, ◌∙◌}
 use Rattle.nqs_types.specs.declared.event.Event.{Event}
 use Rattle.nqs_types.specs.declared.event.Event.TheVariants as event
 use Rattle.nqs_types.specs.declared.ids.HostId.{HostId}
@@ -8,7 +7,7 @@ use Rattle.nqs_rules.specs.Run.{happens}
 use Rattle.nqs_rules.specs.World.{Act, Asks, Ends, Finishes, Fails, Writes, Leaves, Delivers, Newest, Ticks, Clock, Fuse, Crashes, Boots, Shows, Host, World as Network, host_of, takes, taken_by, takes_up, finishes_up, crashes_up, boots}
 use Rattle.nqs_laws.specs.Sane.{is_sane_act}
 use Rattle.nqs_laws.specs.Words.{IsInOrderAll}
-use Rattle.nqs_net.specs.Deeds.{done, done_by, deed_of, plain_deed, IsSaneFor, IsReady}
+use Rattle.nqs_net.specs.Deeds.{done, done_by, deed_of, IsSaneFor, IsReady}
 use Rattle.nqs_net.specs.Worlds.{IsWorld}
 use Rattle.nqs_net.specs.declared.world.World.{World}
 use Rattle.nqs_net.specs.declared.deed.Deed.{Deed}

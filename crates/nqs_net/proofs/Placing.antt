@@ -1,5 +1,5 @@
 -- One slot of a world is changed, and with it the host at its place.
-use Rattle.std.proofs.Common.{◌≡◌, ℕ, zero, suc, ◌<◌, ◌≤◌, IsTrue, List, [], ◌∷◌, ◌++◌, length, map, get_or, slice_get, Option, None, Some, refl, sym, ap, subst, ◌∙◌, arith}
+use Rattle.std.proofs.Common.{◌≡◌, ℕ, zero, suc, ◌<◌, ◌≤◌, List, [], ◌∷◌, ◌++◌, length, get_or, slice_get, None, Some, refl, sym, ap, subst, ◌∙◌, arith}
 use Rattle.std.specs.List.{insert, remove}
 use Rattle.std.proofs.lemmas.Option.{slice_get-map}
 use Rattle.std.specs.Option.{option_map}
@@ -8,9 +8,9 @@ use Rattle.nqs_types.specs.declared.message.Message.{Message}
 use Rattle.nqs_types.specs.declared.tear.Tear.{Tear}
 use Rattle.nqs_types.specs.declared.world.Seen.{Seen}
 use Rattle.nqs_rules.specs.Edits.{change_at}
-use Rattle.nqs_rules.specs.World.{Host, World as Network, Ran, host_of}
+use Rattle.nqs_rules.specs.World.{Host, World as Network}
 use Rattle.nqs_laws.proofs.Frame.{put-same}
-use Rattle.nqs_net.specs.Worlds.{IsSlot, IsUp, AreSlots, IsWorld}
+use Rattle.nqs_net.specs.Worlds.{IsSlot, AreSlots, IsWorld}
 use Rattle.nqs_net.specs.Turns.{Faces, IsAt, IsSameBut, Turns}
 use Rattle.nqs_net.specs.Deeds.{done, done_by, done_at, IsSaneFor, IsSaneAt, IsReady}
 use Rattle.nqs_net.specs.declared.deed.Deed.{Deed}

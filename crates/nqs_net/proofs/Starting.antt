@@ -1,5 +1,5 @@
 -- Starts of a host go on until there is none, and a host that stops starts nothing.
-use Rattle.std.proofs.Common.{◌≡◌, ◌⊎◌, inl, inr, ℕ, zero, suc, ◌+◌, ◌<◌, ◌≤◌, nat_le, Bool, true, false, true≢false, option_map, List, [], ◌∷◌, ◌++◌, length, map, slice_get, Option, None, Some, is_some, refl, sym, ap, subst, ◌∙◌, arith}
+use Rattle.std.proofs.Common.{◌≡◌, ◌⊎◌, inl, inr, ℕ, zero, suc, ◌<◌, ◌≤◌, nat_le, Bool, true, false, true≢false, option_map, List, [], length, map, Option, None, Some, is_some, refl, sym, ap, subst, ◌∙◌, arith}
 use Rattle.std.proofs.lemmas.List.{append_assoc, append-nil}
 use Rattle.std.proofs.lemmas.Simd.{map-map}
 use Rattle.nqs_types.specs.State.{State, Plain}
@@ -13,14 +13,14 @@ use Rattle.nqs_rules.specs.Measure.{starts_left}
 use Rattle.nqs_rules.specs.Plain.{map_row, map_state}
 use Rattle.nqs_rules.specs.Start.{start}
 use Rattle.nqs_rules.specs.Stepped.{Stepped, quiet, shown, stored_parts}
-use Rattle.nqs_rules.specs.World.{World as Network, Host, Ran, Fate, Made, StoppedBefore, StoppedAfter, fate, host_of, put_host, emits, stopped, used, change_fated, carries_out, steps, starts, all_starts, left_of, then_seen, then_ran, unseen}
+use Rattle.nqs_rules.specs.World.{World as Network, Host, Ran, Fate, Made, StoppedBefore, StoppedAfter, fate, host_of, put_host, stopped, used, change_fated, carries_out, steps, starts, all_starts, left_of, then_seen, then_ran, unseen}
 use Rattle.nqs_rules.proofs.ListFacts.{list_all-weaker}
 use Rattle.nqs_rules.proofs.FindKept.{all-mapped}
 use Rattle.nqs_rules.proofs.StateFacts.{keys_are}
 use Rattle.nqs_rules.proofs.RowFacts.{row_is}
 use Rattle.nqs_rules.proofs.RowChanges.{at_most_32}
 use Rattle.nqs_rules.proofs.QueuesOrder.{queue_is}
-use Rattle.nqs_rules.proofs.StartIs.{IsSteady, IsStart, start_is}
+use Rattle.nqs_rules.proofs.StartIs.{IsSteady, start_is}
 use Rattle.nqs_rules.proofs.Lowers.{lower, stays}
 use Rattle.nqs_laws.proofs.Sound.{get-here}
 use Rattle.nqs_node.specs.Carried.{started}

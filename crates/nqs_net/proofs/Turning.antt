@@ -1,5 +1,5 @@
 -- What a step of a host makes of a network.
-use Rattle.std.proofs.Common.{◌≡◌, ◌⊎◌, inl, inr, IsTrue, true≢false, ℕ, ◌+◌, zero, suc, Bool, true, false, List, [], ◌∷◌, ◌++◌, length, map, slice_get, Option, None, Some, refl, sym, ap, subst, ◌∙◌}
+use Rattle.std.proofs.Common.{◌≡◌, ◌⊎◌, inl, inr, IsTrue, true≢false, ℕ, ◌+◌, Bool, true, false, List, [], ◌∷◌, ◌++◌, length, map, Option, None, Some, refl, sym, ap, subst, ◌∙◌}
 use Rattle.std.proofs.lemmas.List.{append_assoc, append-nil, length-append}
 use Rattle.nqs_types.specs.State.{Plain}
 use Rattle.nqs_types.specs.declared.ids.HostId.{HostId}
@@ -16,7 +16,6 @@ use Rattle.nqs_disk.specs.MemDisk as mem
 use Rattle.nqs_disk.specs.Torn.{torn}
 use Rattle.nqs_disk.specs.declared.mem_disk.MemDisk.{MemDisk}
 use Rattle.nqs_rules.specs.Applied.{applied}
-use Rattle.nqs_rules.specs.Edits.{change_at}
 use Rattle.nqs_rules.specs.Starts.{after_change, after_step}
 use Rattle.nqs_rules.specs.Stepped.{Stepped, shown, stored_parts}
 use Rattle.nqs_rules.specs.World.{World as Network, Host, Ran, Fate, Made, StoppedBefore, StoppedAfter, fate, host_of, put_host, emits, sent_by, seen_output, stopped, used, change_fated, makes_change, carries_out, steps, then_seen, then_ran}
@@ -29,13 +28,12 @@ use Rattle.nqs_node.specs.Nodes.{disk_of, history_of, fails_of, is_starved, cont
 use Rattle.nqs_disk.specs.contracts.mem_disk.MemDiskDisk.TheImpl.{ghosts}
 use Rattle.nqs_node.specs.declared.node.Node.{Node}
 use Rattle.nqs_store.specs.Sound.{IsSoundHost}
-use Rattle.nqs_laws.proofs.Frame.{put-same}
 use Rattle.nqs_laws.proofs.PairedRuns.{put-twice}
 use Rattle.nqs_laws.proofs.Sound.{get-here}
 use Rattle.nqs_net.specs.Lists.{sent_in, seen_from}
 use Rattle.nqs_net.specs.Pasts.{HasCome}
 use Rattle.nqs_net.specs.Worlds.{fuse_of, AreInTurn, AreDisks, IsUp, IsDown, IsSlot}
-use Rattle.nqs_net.specs.Turns.{IsTorn, IsStopped, IsTaken, IsDownSlot, Faces, IsAt, IsSameBut, Turns}
+use Rattle.nqs_net.specs.Turns.{IsTorn, IsStopped, IsTaken, IsDownSlot, Faces, IsSameBut, Turns}
 use Rattle.nqs_net.specs.declared.slot.Slot.{Slot}
 use Rattle.nqs_net.specs.declared.slot.Slot.TheVariants.{Up, Down}
 use Rattle.nqs_net.proofs.Fates.{CutsTo, unblown, kept_fate, cut_fate}

@@ -1,5 +1,5 @@
 -- The running request that an end without a number is meant for.
-use Rattle.std.specs.Prelude.{ℕ, Bool, List, Option, None, Some}
+use Rattle.std.specs.Prelude.{ℕ, List, Option}
 use Rattle.std.specs.Option.{option_map}
 use Rattle.nqs_types.specs.Table.{best_from}
 use Rattle.nqs_types.specs.declared.ids.RequestId.{RequestId}

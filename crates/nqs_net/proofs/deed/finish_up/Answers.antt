@@ -1,4 +1,4 @@
-use Rattle.std.proofs.Common.{◌≡◌, ◌∙◌, [], sym, ap}
+use Rattle.std.proofs.Common.{◌∙◌, [], sym, ap}
 use Rattle.nqs_types.specs.declared.event.Event.TheVariants as event
 use Rattle.nqs_rules.specs.World.{takes_up}
 use Rattle.nqs_node.specs.Nodes.{content_of}

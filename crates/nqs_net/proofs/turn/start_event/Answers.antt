@@ -1,4 +1,4 @@
-use Rattle.std.proofs.Common.{◌≡◌, ◌∙◌, Err, true≢false, ◌++◌, map, refl, sym, ap}
+use Rattle.std.proofs.Common.{◌∙◌, Err, true≢false, ◌++◌, map, refl, sym, ap}
 use Rattle.nqs_rules.specs.Stepped.{shown}
 use Rattle.nqs_node.specs.Carried.{started}
 use Rattle.nqs_node.specs.Nodes.{history_of, fails_of}

@@ -1,4 +1,4 @@
-use Rattle.std.proofs.Common.{◌≡◌, ◌∙◌, Err, ◌++◌, map, refl, ap}
+use Rattle.std.proofs.Common.{◌∙◌, Err, ◌++◌, map, refl, ap}
 use Rattle.nqs_rules.specs.Step.{step}
 use Rattle.nqs_rules.specs.Stepped.{shown}
 use Rattle.nqs_node.specs.Nodes.{history_of, fails_of}

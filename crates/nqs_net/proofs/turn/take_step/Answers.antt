@@ -1,4 +1,4 @@
-use Rattle.std.proofs.Common.{IsTrue, length, refl, sym, subst}
+use Rattle.std.proofs.Common.{IsTrue, length, sym, subst}
 use Rattle.std.proofs.lemmas.Result.{err_from_is_err_and}
 use Rattle.nqs_rules.specs.Sane.{is_sane_event}
 use Rattle.nqs_rules.specs.Step.{step}
