@@ -41,10 +41,14 @@ AcknowledgedStay site acts = (x : RequestId) → is_acknowledged x (notes_of sit
 abbrev pub StartsNothing : ℕ → Host → Type 0
 StartsNothing now host = list_any (may_start now host.state) host.state.queues ≡ false
 
--- the host that took the last event, or booted by it, has nothing left to start, if it is up
-abbrev pub LastTakerRests : List (List ℕ) → List Act → Type 0
-LastTakerRests site acts = (before : List Act) (last : Act) → acts ≡ before ++ last ∷ [] → (h : HostId) → host_for last (run_of site before).world ≡ Some h
+-- the host that took this event in the world after those before, or booted by it, has nothing left to start after all of these, if it is up
+abbrev pub RestsAfter : List (List ℕ) → List Act → Act → List Act → Type 0
+RestsAfter site before last acts = (h : HostId) → host_for last (run_of site before).world ≡ Some h
     → (host : Host) → host_of h (run_of site acts).world ≡ Some host → host.up ≡ true → StartsNothing (run_of site acts).world.now host
+
+-- so does the host of the last event
+abbrev pub LastTakerRests : List (List ℕ) → List Act → Type 0
+LastTakerRests site acts = (before : List Act) (last : Act) → acts ≡ before ++ last ∷ [] → RestsAfter site before last acts
 
 -- the laws of a network: no request lies in two places, and each change was licensed; what is acknowledged stays; no launch comes twice, and one request's launches are parted by a loss, which boots alone tell; what may start has started
 pub record KeepsTheLaws (site : List (List ℕ)) (acts : List Act) : Type 0 where
