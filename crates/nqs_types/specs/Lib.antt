@@ -2,6 +2,7 @@ pub mod Name
 pub mod NameRead
 pub mod Path
 pub mod Ids
+pub mod Held
 pub mod Table
 pub mod State
 pub mod Keys

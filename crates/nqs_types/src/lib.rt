@@ -7,6 +7,7 @@ mod edit;
 mod event;
 mod extent;
 mod fault;
+mod held;
 mod ids;
 mod items;
 mod list;

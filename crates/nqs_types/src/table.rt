@@ -1,4 +1,5 @@
 //! A map in order of creation, each value under its own key. A removal keeps the order of the others.
+//! The values lie in rooms of their own, so a removal moves the addresses and keys of the later ones, and no value.
 ghost use Rattle.std.specs.Prelude.{◌≡◌, ℕ, ◌+◌, ◌-◌, ◌≤◌, ◌<◌, [], ◌∷◌, ◌++◌, length, map, position, find, Some, None, OnOk, OnErr, IsOk, IfSome, Bool, Option, Contains, filter, if◌then◌else◌, slice_get, slice_set, remove, true, false};
 ghost use Rattle.std.specs.Option.{option_copied, option_map};
 ghost use Rattle.nqs_types.specs.Table.{has_key, change_first, without_first, better, best_from};
@@ -6,6 +7,7 @@ ghost use Rattle.std.specs.List.{filter_map, list_all, list_any};
 ghost use Rattle.std.specs.Fn.{FnOnceReturnsAtMut, FnReturnsAt, FnReturnsAtPair};
 ghost use Rattle.std.specs.Map.Calls.{CalledAtPair};
 
+use crate::held::{Held, Room, take_rooms};
 use indexmap::IndexMap;
 use std::alloc::{AllocError, Global};
 use std::hash::Hash;
@@ -32,16 +34,18 @@ pub trait Keyed<K: Key> {
 /// Values in order of creation, each found by its key.
 #[derive(Drop)]
 pub struct Table<K: Key, V: Keyed<K> + Drop> {
-    map: IndexMap<K, V>,
+    map: IndexMap<K, Held<V>>,
+    rooms: Vec<Room<V>>,
 }
 
 impl<K: Key, V: Keyed<K> + Drop> Model for Table<K, V> {
+    ghost use Rattle.std.specs.Prelude.{length, min};
     ghost use Rattle.nqs_types.specs.Table.{Roomy, IsKeyed};
     ghost use Rattle.indexmap.specs.IndexMap.{values, spare, IsUnique};
 
     ghost Value = { Roomy V };
 
-    ghost view = { λ t. record { items = values t.map; spare = spare t.map } };
+    ghost view = { λ t. record { items = values t.map; spare = min (spare t.map) (length t.rooms.items) } };
 
     ghost invariant = { λ t. IsKeyed V.key_of t.map.entries × IsUnique K.eq t.map };
 }
@@ -52,6 +56,7 @@ impl<K: Key, V: Keyed<K> + Drop> Table<K, V> {
     {
         Table {
             map: IndexMap::new(alloc),
+            rooms: Vec::new(alloc),
         }
     }
 
@@ -71,7 +76,8 @@ impl<K: Key, V: Keyed<K> + Drop> Table<K, V> {
         ensures ok { OnOk result (additional ≤ self.new.spare) }
         ensures room { self.old.spare ≤ self.new.spare }
     {
-        self.map.reserve(additional)
+        self.map.reserve(additional)?;
+        take_rooms(self.allocator(), &mut self.rooms, additional)
     }
 
     /// The place of the value with this key.
@@ -87,14 +93,17 @@ impl<K: Key, V: Keyed<K> + Drop> Table<K, V> {
         requires { place < length self.now.items }
         ensures { slice_get self.now.items place ≡ Some result.now }
     {
-        self.map.get_index(place).unwrap().1
+        self.map.get_index(place).unwrap().1.get()
     }
 
     /// The value with this key.
     pub fn get(&self, key: &K) -> Option<&V>
         ensures { option_copied result ≡ find (has_key K.eq V.key_of key.now) self.now.items }
     {
-        self.map.get(key)
+        match self.map.get(key) {
+            Some(held) => Some(held.get()),
+            None => None,
+        }
     }
 
     /// Adds a value under a new key.
@@ -105,7 +114,8 @@ impl<K: Key, V: Keyed<K> + Drop> Table<K, V> {
         ensures room { self.old.spare ≤ self.new.spare + 1 }
     {
         let key = value.key();
-        let _none = self.map.insert(key, value).unwrap();
+        let room = self.rooms.pop().unwrap();
+        let _none = self.map.insert(key, Held::fill(room, value)).unwrap();
     }
 
     /// Exchanges the value at a place for another of the same key.
@@ -116,7 +126,7 @@ impl<K: Key, V: Keyed<K> + Drop> Table<K, V> {
         ensures items { self.new.items ≡ slice_set self.old.items place value.old }
         ensures room { self.old.spare ≤ self.new.spare }
     {
-        std::mem::swap(&mut self.map[place], value);
+        self.map[place].exchange(value);
     }
 
     /// Removes the value at a place. The later ones move down.
@@ -126,7 +136,7 @@ impl<K: Key, V: Keyed<K> + Drop> Table<K, V> {
         ensures items { self.new.items ≡ remove self.old.items place }
         ensures room { self.old.spare ≤ self.new.spare }
     {
-        self.map.shift_remove_index(place).unwrap().1
+        self.map.shift_remove_index(place).unwrap().1.into_inner()
     }
 
     /// Changes the value with this key, if there is one, and not its key.
@@ -137,10 +147,7 @@ impl<K: Key, V: Keyed<K> + Drop> Table<K, V> {
         ensures room { self.old.spare ≤ self.new.spare }
     {
         match self.map.get_index_of(key) {
-            Some(place) => {
-                let value = &mut self.map[place];
-                f(value);
-            }
+            Some(place) => self.map[place].change(f),
             None => {}
         }
     }
@@ -162,7 +169,13 @@ impl<K: Key, V: Keyed<K> + Drop> Table<K, V> {
         ensures filtered { (p : V → Bool) → ((k : K) (v w : V) (b : Bool) (t : F) → CalledAtPair F.FnMut f k v b w t → (b ≡ p v) × (w ≡ v) × (t ≡ f)) → self.new.items ≡ filter p self.old.items }
         ensures room { self.old.spare ≤ self.new.spare }
     {
-        self.map.retain(f);
+        let mut f = f;
+        self.map.retain(
+            move |key: &K, held: &mut Held<V>| -> bool
+                requires { (s : F) (x y : _) → F.pre s x y }
+                ensures { CalledAtPair F.FnMut f.entry key.now held.old result held.new f.exit }
+            { held.ask(key, &mut f) },
+        );
     }
 
     /// Whether a value has this key.
