@@ -6,8 +6,8 @@ use crate::reply::Asker;
 use crate::start::launch;
 use crate::submit::submit_to;
 use nqs_types::{
-    Bytes, Change, Extent, Hold, HostId, HostState, Items, Job, LaunchOrder, Limits, ListOf,
-    Memory, Name, Output, Plan, Reply, RequestId, Row, RowState, Spare, Submission, Table,
+    Bytes, Change, Extent, Hold, HostId, HostState, Job, LaunchOrder, Limits, ListOf, Memory, Name,
+    Output, Plan, Reply, RequestId, Row, RowState, Spare, Submission, Table,
 };
 use std::alloc::Global;
 use std::rt::HostRuntime;
@@ -110,80 +110,140 @@ fn submission(alloc: Global, script: Bytes) -> Submission {
     }
 }
 
-// The paths of the job that a plan submits.
-fn paths(plan: &Plan) -> (&[u8], &[u8]) {
+// Whether a plan submits its job under the paths of number 12.
+fn has_paths(plan: &Plan) -> bool {
     match &plan.change {
-        Some(Change::Submitted { job, .. }) => (job.out.as_slice(), job.err.as_slice()),
-        _ => (&[], &[]),
+        Some(Change::Submitted { job, .. }) => {
+            job.out.as_slice() == b"plot.o12".as_slice()
+                && job.err.as_slice() == b"plot.e12".as_slice()
+        }
+        _ => false,
     }
 }
 
-fn first(items: &Items<Bytes>) -> &[u8] {
-    match items.as_slice().first() {
-        Some(bytes) => bytes.as_slice(),
-        None => &[],
+// Whether the first bytes that a plan stores are the script.
+fn stores_script(plan: &Plan) -> bool {
+    match plan.puts.as_slice().first() {
+        Some(bytes) => bytes.as_slice() == b"w".as_slice(),
+        None => false,
     }
+}
+
+fn replies(plan: &Plan) -> bool {
+    matches!(
+        plan.outputs.as_slice().first(),
+        Some(Output::Reply {
+            port: 1,
+            token: 7,
+            reply: Reply::Submitted { .. }
+        })
+    )
+}
+
+fn submitted(plan: &Plan) -> [bool; 3] {
+    [has_paths(plan), stores_script(plan), replies(plan)]
+}
+
+// What is seen of the plan of a submission, which takes number 12.
+fn plan_submission(alloc: Global, state: &HostState, submission: &Submission) -> Option<[bool; 3]>
+    requires { state.now.seq ≡ 11 }
+{
+    let plan = submit_to(alloc, state, ASKER, submission, plot());
+    plan.as_ref().ok().map(submitted)
+}
+
+fn submit(alloc: Global, submission: &Submission) -> Option<[bool; 3]> {
+    let state = host(alloc);
+    plan_submission(alloc, &state, submission)
+}
+
+// What is seen of a submission with this script.
+fn submit_script(alloc: Global, script: Bytes) -> Option<[bool; 3]> {
+    let submission = submission(alloc, script);
+    submit(alloc, &submission)
 }
 
 #[test]
 fn request_gets_a_number_and_paths(rt: HostRuntime) -> Result<(), Memory> {
     let alloc = rt.alloc();
     let script = ListOf::of(alloc, b'w')?;
-    let state = host(alloc);
-    let plan = submit_to(alloc, &state, ASKER, &submission(alloc, script), plot())?;
-    assert_eq!(rt;
-        paths(&plan),
-        (b"plot.o12".as_slice(), b"plot.e12".as_slice())
-    );
-    assert_eq!(rt; first(&plan.puts), b"w".as_slice());
-    let replied = plan.outputs.as_slice().first();
-    assert!(rt;
-        matches!(
-            replied,
-            Some(Output::Reply {
-                port: 1,
-                token: 7,
-                reply: Reply::Submitted { .. }
-            })
-        )
-    );
+    assert_eq!(rt; submit_script(alloc, script), Some([true; 3]));
     Ok(())
+}
+
+fn dooms(plan: &Plan) -> bool {
+    matches!(plan.change, Some(Change::Doomed(REQUEST)))
+}
+
+// Whether the second output of a plan ends the job's second start.
+fn kills(plan: &Plan) -> bool {
+    matches!(
+        plan.outputs.as_slice().get(1),
+        Some(Output::Kill {
+            id: REQUEST,
+            start: 2
+        })
+    )
+}
+
+fn deletes(plan: &Plan) -> bool {
+    matches!(plan.change, Some(Change::Deleted(REQUEST)))
+}
+
+// What is seen of a plan that deletes: whether it dooms, kills and deletes, and how many outputs it has.
+fn deleted(plan: &Plan) -> (bool, bool, bool, usize) {
+    (dooms(plan), kills(plan), deletes(plan), plan.outputs.len())
+}
+
+fn plan_deletion(alloc: Global, row: &Row) -> Option<(bool, bool, bool, usize)> {
+    let plan = delete_row(alloc, ASKER, row);
+    plan.as_ref().ok().map(deleted)
+}
+
+fn delete(alloc: Global, state: RowState) -> Option<(bool, bool, bool, usize)> {
+    let row = row(alloc, state);
+    plan_deletion(alloc, &row)
 }
 
 #[test]
-fn running_job_is_killed(rt: HostRuntime) -> Result<(), Memory> {
+fn running_job_is_killed(rt: HostRuntime) {
     let alloc = rt.alloc();
-    let plan = delete_row(alloc, ASKER, &row(alloc, RowState::Running))?;
-    assert!(rt; matches!(plan.change, Some(Change::Doomed(REQUEST))));
-    let killed = plan.outputs.as_slice().get(1);
-    assert!(rt;
-        matches!(
-            killed,
-            Some(Output::Kill {
-                id: REQUEST,
-                start: 2
-            })
-        )
-    );
-    let plan = delete_row(alloc, ASKER, &row(alloc, RowState::Queued))?;
-    assert!(rt; matches!(plan.change, Some(Change::Deleted(REQUEST))));
-    assert_eq!(rt; plan.outputs.len(), 1);
-    Ok(())
+    let running = delete(alloc, RowState::Running);
+    assert_eq!(rt; running, Some((true, true, false, 2)));
+    let queued = delete(alloc, RowState::Queued);
+    assert_eq!(rt; queued, Some((false, false, true, 1)));
 }
 
-// What is launched first.
-fn launched(plan: &Plan) -> Option<LaunchOrder> {
+// What is launched first, and how many outputs wait for bytes of the spool.
+fn launched(plan: &Plan) -> (Option<LaunchOrder>, usize) {
     match plan.outputs.as_slice().first() {
-        Some(Output::Launch { order, .. }) => Some(*order),
-        _ => None,
+        Some(Output::Launch { order, .. }) => (Some(*order), plan.reads.len()),
+        _ => (None, plan.reads.len()),
     }
 }
 
-#[test]
-fn job_is_launched(rt: HostRuntime) -> Result<(), Memory> {
-    let alloc = rt.alloc();
+fn plan_launch(alloc: Global, state: &HostState, row: &Row) -> Option<(Option<LaunchOrder>, usize)>
+    requires { row.now.starts ≡ 2 }
+{
+    let plan = launch(alloc, state, row);
+    plan.as_ref().ok().map(launched)
+}
+
+// What is seen of the launch of a row by a host without queues.
+fn launch_row(alloc: Global, row: &Row) -> Option<(Option<LaunchOrder>, usize)>
+    requires { row.now.starts ≡ 2 }
+{
     let state = host(alloc);
-    let plan = launch(alloc, &state, &row(alloc, RowState::Queued))?;
+    plan_launch(alloc, &state, row)
+}
+
+fn launch_queued(alloc: Global) -> Option<(Option<LaunchOrder>, usize)> {
+    let row = row(alloc, RowState::Queued);
+    launch_row(alloc, &row)
+}
+
+#[test]
+fn job_is_launched(rt: HostRuntime) {
     let order = LaunchOrder {
         id: REQUEST,
         start: 3,
@@ -192,7 +252,5 @@ fn job_is_launched(rt: HostRuntime) -> Result<(), Memory> {
         queue: plot(),
         limits: NO_LIMITS,
     };
-    assert_eq!(rt; launched(&plan), Some(order));
-    assert_eq!(rt; plan.reads.len(), 1);
-    Ok(())
+    assert_eq!(rt; launch_queued(rt.alloc()), Some((Some(order), 1)));
 }
