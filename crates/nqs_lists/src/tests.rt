@@ -4,7 +4,7 @@ ghost use Rattle.std.specs.Prelude.{◌≡◌, ◌∷◌, [], IfOk};
 use crate::{show_lines, stat_lines};
 use nqs_types::{
     Access, Bytes, ComplexDef, DeviceDef, Extent, Hold, HostId, HostState, Items, Job, Key, Keyed,
-    Kind, Limits, ListOf, Memory, Name, NameList, QueueDef, RequestId, Row, RowState, Spare, Table,
+    Kind, Limits, ListOf, Memory, Name, QueueDef, RequestId, Row, RowState, Spare, Table,
 };
 use std::alloc::Global;
 use std::rt::HostRuntime;
@@ -94,28 +94,20 @@ fn only<K: Key, V: Keyed<K> + Drop>(alloc: Global, value: V) -> Result<Table<K, 
     Ok(table)
 }
 
-fn state(
-    alloc: Global,
-    site: NameList,
-    queues: Table<Name, QueueDef>,
-    complexes: Table<Name, ComplexDef>,
-    devices: Table<Name, DeviceDef>,
-    rows: Table<RequestId, Row>,
-    managers: NameList,
-) -> HostState {
+fn empty_host(alloc: Global) -> HostState {
     HostState {
         me: HostId(0),
-        site,
-        queues,
-        complexes,
-        devices,
-        rows,
+        site: ListOf::new(alloc),
+        queues: Table::new(alloc),
+        complexes: Table::new(alloc),
+        devices: Table::new(alloc),
+        rows: Table::new(alloc),
         hands: Table::new(alloc),
         promises: Table::new(alloc),
         peers: ListOf::new(alloc),
         stages: Table::new(alloc),
         files: Table::new(alloc),
-        managers,
+        managers: ListOf::new(alloc),
         operators: ListOf::new(alloc),
         default_queue: None,
         global_limit: 64,
@@ -130,29 +122,46 @@ fn state(
     }
 }
 
-fn host(alloc: Global) -> Result<HostState, Memory> {
-    let site = ListOf::of(alloc, ann())?;
-    let managers = ListOf::of(alloc, ann())?;
-    let members = ListOf::of(alloc, batch())?;
-    let queues = only(alloc, queue(alloc))?;
-    let complexes = only(
-        alloc,
-        ComplexDef {
-            name: ann(),
-            limit: 3,
-            queues: members,
-        },
-    )?;
-    let devices = only(
-        alloc,
-        DeviceDef {
-            name: ann(),
-            forms: batch(),
-            enabled: true,
-        },
-    )?;
-    let rows = only(alloc, row(alloc))?;
-    Ok(state(alloc, site, queues, complexes, devices, rows, managers))
+fn complex(alloc: Global) -> Result<ComplexDef, Memory> {
+    let queues = ListOf::of(alloc, batch())?;
+    Ok(ComplexDef {
+        name: ann(),
+        limit: 3,
+        queues,
+    })
+}
+
+fn device() -> DeviceDef {
+    DeviceDef {
+        name: ann(),
+        forms: batch(),
+        enabled: true,
+    }
+}
+
+fn fill_names(alloc: Global, state: &mut HostState) -> Result<(), Memory> {
+    state.site = ListOf::of(alloc, ann())?;
+    state.managers = ListOf::of(alloc, ann())?;
+    Ok(())
+}
+
+fn fill_queues(alloc: Global, state: &mut HostState) -> Result<(), Memory> {
+    state.queues = only(alloc, queue(alloc))?;
+    state.complexes = only(alloc, complex(alloc)?)?;
+    Ok(())
+}
+
+fn fill_rows(alloc: Global, state: &mut HostState) -> Result<(), Memory> {
+    state.devices = only(alloc, device())?;
+    state.rows = only(alloc, row(alloc))?;
+    Ok(())
+}
+
+// One of each thing.
+fn fill(alloc: Global, state: &mut HostState) -> Result<(), Memory> {
+    fill_names(alloc, state)?;
+    fill_queues(alloc, state)?;
+    fill_rows(alloc, state)
 }
 
 fn line(lines: &Items<Bytes>, place: usize) -> &[u8] {
@@ -162,24 +171,30 @@ fn line(lines: &Items<Bytes>, place: usize) -> &[u8] {
     }
 }
 
-#[test]
-fn requests_are_listed_and_counted(rt: HostRuntime) -> Result<(), Memory> {
-    let alloc = rt.alloc();
-    let state = host(alloc)?;
-    let lines = stat_lines(alloc, &state, &Some(ann()), &[batch()])?;
-    assert_eq!(rt;
-        line(&lines, 0),
-        b"12.ann batch ann batch HELD 40".as_slice()
-    );
-    assert_eq!(rt; line(&lines, 1), b"1 requests.".as_slice());
-    assert_eq!(rt; lines.len(), 2);
-    Ok(())
+// Whether the lines are those of the one request and of the count.
+fn listed(lines: &Items<Bytes>) -> (bool, bool, usize) {
+    (
+        line(lines, 0) == b"12.ann batch ann batch HELD 40".as_slice(),
+        line(lines, 1) == b"1 requests.".as_slice(),
+        lines.len(),
+    )
 }
 
-#[test]
-fn each_list_is_shown(rt: HostRuntime) -> Result<(), Memory> {
-    let alloc = rt.alloc();
-    let state = host(alloc)?;
+fn list(alloc: Global, state: &HostState) -> Option<(bool, bool, usize)> {
+    let lines = stat_lines(alloc, state, &Some(ann()), &[batch()]);
+    lines.as_ref().ok().map(listed)
+}
+
+// Whether a list of qmgr has this line.
+fn shows(alloc: Global, state: &HostState, code: u8, place: usize, text: &[u8]) -> bool {
+    match show_lines(alloc, state, code) {
+        Ok(lines) => line(&lines, place) == text,
+        Err(_) => false,
+    }
+}
+
+// The first list, and its line, that is shown otherwise.
+fn wrong_line(alloc: Global, state: &HostState) -> Option<(u8, usize)> {
     for (code, place, text) in [
         (48u8, 0usize, b"batch batch enabled stopped 31 2".as_slice()),
         (49, 0, b"ann batch enabled free"),
@@ -190,8 +205,30 @@ fn each_list_is_shown(rt: HostRuntime) -> Result<(), Memory> {
         (52, 2, b"retry_wait 300"),
         (52, 3, b"default_queue none"),
     ] {
-        let lines = show_lines(alloc, &state, code)?;
-        assert_eq!(rt; line(&lines, place), text, "line {place} of list {code}");
+        if !shows(alloc, state, code, place, text) {
+            return Some((code, place));
+        }
     }
+    None
+}
+
+// What is seen of the requests, and of the lists of qmgr.
+type Seen = (Option<(bool, bool, usize)>, Option<(u8, usize)>);
+
+fn see(alloc: Global, state: &mut HostState) -> Result<Seen, Memory> {
+    fill(alloc, state)?;
+    Ok((list(alloc, state), wrong_line(alloc, state)))
+}
+
+fn seen(alloc: Global) -> Result<Seen, Memory> {
+    let mut state = empty_host(alloc);
+    see(alloc, &mut state)
+}
+
+#[test]
+fn requests_are_counted_and_each_list_is_shown(rt: HostRuntime) -> Result<(), Memory> {
+    let (requests, wrong) = seen(rt.alloc())?;
+    assert_eq!(rt; requests, Some((true, true, 2)));
+    assert_eq!(rt; wrong, None);
     Ok(())
 }
