@@ -5,7 +5,6 @@ use nqs_types::{
 };
 use std::alloc::Global;
 use std::rt::HostRuntime;
-use std::test::Fail;
 
 fn name(bytes: &[u8]) -> Name {
     match Name::read(bytes) {
@@ -74,129 +73,161 @@ fn question(answer: Result<Command, WordsFault>) -> Option<(Option<Name>, usize)
     }
 }
 
-#[test]
-fn reads_words_of_qstat(rt: HostRuntime) -> Result<(), Memory> {
-    let alloc = rt.alloc();
-    let words = words(alloc, b"-u ann batch night")?;
-    let asked = question(read_qstat(alloc, words.as_slice()));
-    assert!(rt; asked == Some((Some(name(b"ann")), 2)));
-    Ok(())
-}
-
-#[test]
-fn finds_faults_of_qstat(rt: HostRuntime) {
-    let alloc = rt.alloc();
-    assert!(rt; stat_fault(alloc, b"").is_none());
-    assert!(rt; stat_fault(alloc, b"-u") == Some((WordsCause::Missing, 1)));
-    assert!(rt; stat_fault(alloc, b"-u 9") == Some((WordsCause::BadName, 2)));
-    assert!(rt; stat_fault(alloc, b"batch -u ann") == Some((WordsCause::BadName, 2)));
-    assert!(rt; stat_fault(alloc, b"-u ann batch -x") == Some((WordsCause::BadName, 4)));
-}
-
-#[test]
-fn reads_words_of_qdel(rt: HostRuntime) -> Result<(), Memory> {
-    let words = words(rt.alloc(), b"-k 12.alpha")?;
-    let id = Named {
-        seq: 12,
-        host: name(b"alpha"),
-    };
-    assert!(rt; deletion(read_qdel(words.as_slice())) == Some((id, true)));
-    Ok(())
-}
-
-#[test]
-fn finds_faults_of_qdel(rt: HostRuntime) {
-    let alloc = rt.alloc();
-    assert!(rt; delete_fault(alloc, b"") == Some((WordsCause::Missing, 1)));
-    assert!(rt; delete_fault(alloc, b"-k") == Some((WordsCause::Missing, 2)));
-    assert!(rt; delete_fault(alloc, b"07.alpha") == Some((WordsCause::BadNumber, 1)));
-    assert!(rt; delete_fault(alloc, b"7") == Some((WordsCause::BadName, 1)));
-    assert!(rt; delete_fault(alloc, b"-x 1.alpha") == Some((WordsCause::BadNumber, 1)));
-    assert!(rt; delete_fault(alloc, b"1.alpha 2.alpha") == Some((WordsCause::Unknown, 2)));
-}
-
-fn prints(alloc: Global, reply: &Reply, text: &[u8]) -> bool {
-    let site = [name(b"alpha")];
-    let mut out = Vec::new(alloc);
-    match print_reply(alloc, reply, site.as_slice(), &mut out) {
-        Ok(()) => out.as_slice() == text,
-        Err(_) => false,
+fn asked(alloc: Global, text: &[u8]) -> Option<(Option<Name>, usize)> {
+    match words(alloc, text) {
+        Ok(words) => question(read_qstat(alloc, words.as_slice())),
+        Err(_) => None,
     }
 }
 
 #[test]
-fn prints_replies(rt: HostRuntime) -> Result<(), Fail> {
-    let alloc = rt.alloc();
-    let id = RequestId {
-        seq: 12,
-        host: HostId(0),
-    };
-    let submitted = Reply::Submitted {
-        id,
-        queue: name(b"batch"),
-    };
-    assert!(rt;
-        prints(
-            alloc,
-            &submitted,
-            b"Request 12.alpha submitted to queue: batch.\n"
-        )
-    );
-    assert!(rt;
-        prints(
-            alloc,
-            &Reply::Deleted(id),
-            b"Request 12.alpha has been deleted.\n"
-        )
-    );
-    assert!(rt;
-        prints(
-            alloc,
-            &Reply::Signalled(id),
-            b"Request 12.alpha has been signalled.\n"
-        )
-    );
-    assert!(rt; prints(alloc, &Reply::Done, b"Done.\n"));
-    let lines = Items::of(
-        alloc,
-        Bytes::from_vec(Vec::from_slice(alloc, b"0 requests.")?),
-    )?;
-    assert!(rt; prints(alloc, &Reply::Lines(lines), b"0 requests.\n"));
-    Ok(())
+fn reads_words_of_qstat(rt: HostRuntime) {
+    let found = asked(rt.alloc(), b"-u ann batch night");
+    assert_eq!(rt; found, Some((Some(name(b"ann")), 2)));
+}
+
+/// Words of `qstat`, and their fault.
+const STAT_WORDS: [(&[u8], Option<(WordsCause, u32)>); 5] = [
+    (b"", None),
+    (b"-u", Some((WordsCause::Missing, 1))),
+    (b"-u 9", Some((WordsCause::BadName, 2))),
+    (b"batch -u ann", Some((WordsCause::BadName, 2))),
+    (b"-u ann batch -x", Some((WordsCause::BadName, 4))),
+];
+
+#[test]
+fn finds_faults_of_qstat(rt: HostRuntime) {
+    for (text, found) in STAT_WORDS {
+        assert_eq!(rt; stat_fault(rt.alloc(), text), found);
+    }
+}
+
+fn deletes(alloc: Global, text: &[u8]) -> Option<(Named, bool)> {
+    match words(alloc, text) {
+        Ok(words) => deletion(read_qdel(words.as_slice())),
+        Err(_) => None,
+    }
 }
 
 #[test]
-fn prints_refusals_and_faults(rt: HostRuntime) {
+fn reads_words_of_qdel(rt: HostRuntime) {
+    let id = Named {
+        seq: 12,
+        host: name(b"alpha"),
+    };
+    assert_eq!(rt; deletes(rt.alloc(), b"-k 12.alpha"), Some((id, true)));
+}
+
+/// Words of `qdel`, and their fault.
+const DELETE_WORDS: [(&[u8], WordsCause, u32); 6] = [
+    (b"", WordsCause::Missing, 1),
+    (b"-k", WordsCause::Missing, 2),
+    (b"07.alpha", WordsCause::BadNumber, 1),
+    (b"7", WordsCause::BadName, 1),
+    (b"-x 1.alpha", WordsCause::BadNumber, 1),
+    (b"1.alpha 2.alpha", WordsCause::Unknown, 2),
+];
+
+#[test]
+fn finds_faults_of_qdel(rt: HostRuntime) {
+    for (text, cause, word) in DELETE_WORDS {
+        assert_eq!(rt; delete_fault(rt.alloc(), text), Some((cause, word)));
+    }
+}
+
+fn prints(alloc: Global, reply: Reply, text: &[u8]) -> bool {
+    let site = [name(b"alpha")];
+    let mut out = Vec::new(alloc);
+    let done = print_reply(alloc, &reply, site.as_slice(), &mut out).is_ok();
+    done && out.as_slice() == text
+}
+
+fn prints_lines(alloc: Global, line: &[u8], text: &[u8]) -> Result<bool, Memory> {
+    let bytes = Bytes::from_vec(Vec::from_slice(alloc, line)?);
+    let lines = Items::of(alloc, bytes)?;
+    Ok(prints(alloc, Reply::Lines(lines), text))
+}
+
+const ID: RequestId = RequestId {
+    seq: 12,
+    host: HostId(0),
+};
+
+fn submitted() -> Reply {
+    Reply::Submitted {
+        id: ID,
+        queue: name(b"batch"),
+    }
+}
+
+#[test]
+fn prints_replies(rt: HostRuntime) {
     let alloc = rt.alloc();
-    let queue = Reply::Refused(Refusal::NoQueue(name(b"nope")));
-    assert!(rt; prints(alloc, &queue, b"Refused 3: no queue nope.\n"));
-    let operator = Reply::Refused(Refusal::NotOperator);
-    assert!(rt; prints(alloc, &operator, b"Refused 2: not an operator.\n"));
-    let request = Reply::Refused(Refusal::NoRequest(Named {
+    let queued = b"Request 12.alpha submitted to queue: batch.\n";
+    let deleted = b"Request 12.alpha has been deleted.\n";
+    let signalled = b"Request 12.alpha has been signalled.\n";
+    let printed = [
+        prints(alloc, submitted(), queued),
+        prints(alloc, Reply::Deleted(ID), deleted),
+        prints(alloc, Reply::Signalled(ID), signalled),
+        prints(alloc, Reply::Done, b"Done.\n"),
+    ];
+    assert_eq!(rt; printed, [true; 4]);
+    let lines = prints_lines(alloc, b"0 requests.", b"0 requests.\n").ok();
+    assert_eq!(rt; lines, Some(true));
+}
+
+fn prints_refusal(alloc: Global, refusal: Refusal, text: &[u8]) -> bool {
+    prints(alloc, Reply::Refused(refusal), text)
+}
+
+#[test]
+fn prints_refusals(rt: HostRuntime) {
+    let alloc = rt.alloc();
+    let queue = Refusal::NoQueue(name(b"nope"));
+    let request = Refusal::NoRequest(Named {
         seq: 9,
         host: name(b"alpha"),
-    }));
-    assert!(rt; prints(alloc, &request, b"Refused 6: no request 9.alpha.\n"));
-    let used = Reply::Refused(Refusal::QueueInUse(name(b"q"), 3));
-    assert!(rt; prints(alloc, &used, b"Refused 26: queue q holds 3 requests.\n"));
+    });
+    let used = Refusal::QueueInUse(name(b"q"), 3);
+    let printed = [
+        prints_refusal(alloc, queue, b"Refused 3: no queue nope.\n"),
+        prints_refusal(
+            alloc,
+            Refusal::NotOperator,
+            b"Refused 2: not an operator.\n",
+        ),
+        prints_refusal(alloc, request, b"Refused 6: no request 9.alpha.\n"),
+        prints_refusal(alloc, used, b"Refused 26: queue q holds 3 requests.\n"),
+    ];
+    assert_eq!(rt; printed, [true; 4]);
+}
+
+const BAD_WORD: WordsFault = WordsFault {
+    cause: WordsCause::BadNumber,
+    line: 0,
+    word: 2,
+};
+
+const BAD_SCRIPT: WordsFault = WordsFault {
+    cause: WordsCause::Both,
+    line: 3,
+    word: 4,
+};
+
+#[test]
+fn prints_faults(rt: HostRuntime) {
+    let alloc = rt.alloc();
     let line = Reply::UnreadLine(GrammarFault::Ambiguous(0));
-    assert!(rt; prints(alloc, &line, b"Bad line at 0: ambiguous\n"));
-    let word = Reply::UnreadWords(WordsFault {
-        cause: WordsCause::BadNumber,
-        line: 0,
-        word: 2,
-    });
-    assert!(rt; prints(alloc, &word, b"Bad word 2: bad number\n"));
-    let script = Reply::UnreadWords(WordsFault {
-        cause: WordsCause::Both,
-        line: 3,
-        word: 4,
-    });
-    assert!(rt;
+    let script = b"Bad word 4 in script line 3: both -e and -eo\n";
+    let printed = [
+        prints(alloc, line, b"Bad line at 0: ambiguous\n"),
         prints(
             alloc,
-            &script,
-            b"Bad word 4 in script line 3: both -e and -eo\n"
-        )
-    );
+            Reply::UnreadWords(BAD_WORD),
+            b"Bad word 2: bad number\n",
+        ),
+        prints(alloc, Reply::UnreadWords(BAD_SCRIPT), script),
+    ];
+    assert_eq!(rt; printed, [true; 3]);
 }
