@@ -1,7 +1,4 @@
 //! The end of a job with two outputs for one file, on a host that has a stage to another host and a file that wasn't written.
-ghost use Rattle.std.specs.Prelude.{◌≡◌, ◌∷◌, [], IfOk, length};
-ghost use Rattle.nqs_types.specs.State.{content};
-ghost use Rattle.nqs_stage.specs.Files.{HasDistinctStages};
 
 use crate::on_end;
 use nqs_types::{
@@ -92,9 +89,7 @@ fn file(path: Bytes) -> FileOut {
 }
 
 // The table of one value.
-fn only<K: Key, V: Keyed<K> + Drop>(alloc: Global, value: V) -> Result<Table<K, V>, Memory>
-    ensures { IfOk result (λ table. table.items ≡ value ∷ []) }
-{
+fn only<K: Key, V: Keyed<K> + Drop>(alloc: Global, value: V) -> Result<Table<K, V>, Memory> {
     let mut table = Table::new(alloc);
     table.reserve(1)?;
     table.push(value);
@@ -107,10 +102,7 @@ fn state(
     peers: PeerList,
     stages: Table<PeerNumber, Stage>,
     files: Table<u64, FileOut>,
-) -> HostState
-    ensures site { result.site ≡ site }
-    ensures stages { result.stages ≡ stages }
-{
+) -> HostState {
     HostState {
         me: ALPHA,
         site,
@@ -138,10 +130,7 @@ fn state(
     }
 }
 
-fn alpha(alloc: Global) -> Result<HostState, Memory>
-    ensures site { IfOk result (λ state. length state.site ≡ 2) }
-    ensures stages { IfOk result (λ state. HasDistinctStages (content state)) }
-{
+fn alpha(alloc: Global) -> Result<HostState, Memory> {
     let site = ListOf::from_vec([name(), name()].to_vec(alloc)?);
     let peers = ListOf::from_vec([PEER, PEER].to_vec(alloc)?);
     let stages = only(alloc, stage(text(alloc, b"o.1")?))?;
@@ -149,28 +138,38 @@ fn alpha(alloc: Global) -> Result<HostState, Memory>
     Ok(state(alloc, site, peers, stages, files))
 }
 
-fn first(items: &Items<Bytes>) -> &[u8] {
+// What went out: its kind, the number of a file or a stage or the exit status, and its bytes.
+type Sent = (&'static str, u64, Option<Name>);
+
+// The change, the first bytes that are stored, and what goes out first and second.
+type Answers = (&'static str, Option<Name>, Sent, Sent);
+
+// Bytes that are a name, as those of this test are.
+fn word(bytes: &Bytes) -> Option<Name> {
+    Name::read(bytes.as_slice()).ok()
+}
+
+fn first(items: &Items<Bytes>) -> Option<Name> {
     match items.as_slice().first() {
-        Some(bytes) => bytes.as_slice(),
-        None => &[],
+        Some(bytes) => word(bytes),
+        None => None,
     }
 }
 
-// What goes out at a place: the number of a file or a stage, and its bytes.
-fn output(plan: &Plan, place: usize) -> (&'static str, u64, &[u8]) {
-    match plan.outputs.as_slice().get(place) {
-        Some(Output::File { file, bytes, .. }) => ("file", *file, bytes.as_slice()),
-        Some(Output::Send(message)) => sent(&message.body),
-        Some(Output::Ended { status, .. }) => ("ended", u64::from(*status), &[]),
-        _ => ("another", 0, &[]),
-    }
-}
-
-fn sent(body: &Body) -> (&'static str, u64, &[u8]) {
+fn sent(body: &Body) -> Sent {
     match body {
-        Body::Stage { number, bytes, .. } => ("stage", *number, bytes.as_slice()),
-        Body::Staged { number } => ("staged", *number, &[]),
-        _ => ("another", 0, &[]),
+        Body::Stage { number, bytes, .. } => ("stage", *number, word(bytes)),
+        Body::Staged { number } => ("staged", *number, None),
+        _ => ("another", 0, None),
+    }
+}
+
+fn output(plan: &Plan, place: usize) -> Sent {
+    match plan.outputs.as_slice().get(place) {
+        Some(Output::File { file, bytes, .. }) => ("file", *file, word(bytes)),
+        Some(Output::Send(message)) => sent(&message.body),
+        Some(Output::Ended { status, .. }) => ("ended", u64::from(*status), None),
+        _ => ("another", 0, None),
     }
 }
 
@@ -184,19 +183,47 @@ fn change(plan: &Plan) -> &'static str {
     }
 }
 
+fn answers(plan: &Plan) -> Answers {
+    (
+        change(plan),
+        first(&plan.puts),
+        output(plan, 0),
+        output(plan, 1),
+    )
+}
+
+// What the end of a job with exit status 4 answers.
+fn ended(alloc: Global, state: &HostState, row: &Row, out: &Bytes, err: &Bytes) -> Option<Answers> {
+    match on_end(alloc, state, row, 4, out, err) {
+        Ok(plan) => Some(answers(&plan)),
+        Err(_) => None,
+    }
+}
+
+// The same, after which all of it is let go.
+fn ended_once(
+    alloc: Global,
+    state: HostState,
+    row: Row,
+    out: Bytes,
+    err: Bytes,
+) -> Option<Answers> {
+    ended(alloc, &state, &row, &out, &err)
+}
+
 #[test]
 fn outputs_are_one_file(rt: HostRuntime) -> Result<(), Memory> {
     let alloc = rt.alloc();
-    let row = row(alloc, ALPHA, text(alloc, b"o.1")?);
+    let path = text(alloc, b"o.1")?;
     let out = text(alloc, b"done")?;
     let err = text(alloc, b"late")?;
     let state = alpha(alloc)?;
-    let plan = on_end(alloc, &state, &row, 4, &out, &err)?;
+    let answers = ended_once(alloc, state, row(alloc, ALPHA, path), out, err);
+    let both = Name::read(b"donelate").ok();
+    assert_eq!(rt; both.is_some(), true);
     assert_eq!(rt;
-        (change(&plan), first(&plan.puts)),
-        ("ended", b"donelate".as_slice())
+        answers,
+        Some(("ended", both, ("ended", 4, None), ("file", 6, both)))
     );
-    assert_eq!(rt; output(&plan, 0), ("ended", 4, b"".as_slice()));
-    assert_eq!(rt; output(&plan, 1), ("file", 6, b"donelate".as_slice()));
     Ok(())
 }
