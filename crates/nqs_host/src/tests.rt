@@ -1,55 +1,76 @@
 //! A host as it is formatted.
 
 use crate::formatted;
-use nqs_types::{HostId, HostState, ListOf, Memory, Name};
-use std::rt::HostRuntime;
+use nqs_types::{HostId, HostState, ListOf, Name, NameList};
+use std::alloc::Global;
+use std::test::Fail;
 
-fn alpha() -> Name {
-    match Name::read(b"alpha") {
-        Ok(name) => name,
-        Err(_) => unreachable!(),
-    }
-}
+// A queue: its name, whether it is enabled and started, its priority and its limit.
+type Queue = (Option<Name>, bool, bool, u8, u16);
 
-// The one queue: its name, whether it is enabled and started, its priority and its limit.
-fn queue_of(state: &HostState) -> (&[u8], bool, bool, u8, u16) {
+// What is compared of a state: the one queue, how many queues, requests, peers and operators there are, the first manager, the
+// parameters, and the host's own number with the counters.
+type Answers = (
+    Queue,
+    [usize; 4],
+    Option<Name>,
+    (u16, u64, u64),
+    (HostId, u32, u64),
+);
+
+fn queue_of(state: &HostState) -> Queue {
     match state.queues.get_at(0) {
         Some(queue) => (
-            queue.name.as_bytes(),
+            Some(queue.name),
             queue.enabled,
             queue.started,
             queue.priority,
             queue.run_limit,
         ),
-        None => (&[], false, false, 0, 0),
+        None => (None, false, false, 0, 0),
     }
 }
 
-fn manager_of(state: &HostState) -> &[u8] {
-    match state.managers.as_slice().first() {
-        Some(manager) => manager.as_bytes(),
-        None => &[],
+fn lengths(state: &HostState) -> [usize; 4] {
+    [
+        state.queues.len(),
+        state.rows.len(),
+        state.peers.len(),
+        state.operators.len(),
+    ]
+}
+
+fn answers(state: &HostState) -> Answers {
+    (
+        queue_of(state),
+        lengths(state),
+        state.managers.as_slice().first().copied(),
+        (state.global_limit, state.patience, state.retry_wait),
+        (state.me, state.seq, state.file_next),
+    )
+}
+
+// The third host of a site, as it is formatted.
+fn third(alloc: Global, site: NameList) -> Option<Answers> {
+    match formatted(alloc, HostId(2), site) {
+        Ok(state) => Some(answers(&state)),
+        Err(_) => None,
     }
 }
 
 #[test]
-fn host_is_formatted(rt: HostRuntime) -> Result<(), Memory> {
+fn host_is_formatted(rt: HostRuntime) -> Result<(), Fail> {
     let alloc = rt.alloc();
-    let site = ListOf::from_vec([alpha(), alpha(), alpha()].to_vec(alloc)?);
-    let state = formatted(alloc, HostId(2), site)?;
-    assert_eq!(rt; queue_of(&state), (b"batch".as_slice(), true, false, 31, 1));
-    assert_eq!(rt;
-        (state.queues.len(), state.rows.len(), state.peers.len()),
-        (1, 0, 3)
+    let alpha = Name::read(b"alpha")?;
+    let (batch, root) = (Name::read(b"batch")?, Name::read(b"root")?);
+    let site = ListOf::from_vec([alpha, alpha, alpha].to_vec(alloc)?);
+    let wanted = (
+        (Some(batch), true, false, 31, 1),
+        [1, 0, 3, 0],
+        Some(root),
+        (64, 60, 300),
+        (HostId(2), 0, 1),
     );
-    assert_eq!(rt;
-        (manager_of(&state), state.operators.len()),
-        (b"root".as_slice(), 0)
-    );
-    assert_eq!(rt;
-        (state.global_limit, state.patience, state.retry_wait),
-        (64, 60, 300)
-    );
-    assert_eq!(rt; (state.me, state.seq, state.file_next), (HostId(2), 0, 1));
+    assert_eq!(rt; third(alloc, site), Some(wanted));
     Ok(())
 }
