@@ -8,8 +8,6 @@ mod apply;
 mod check;
 mod names;
 mod ranks;
-#[cfg(test)]
-mod tests;
 mod way;
 
 pub use apply::apply_access;

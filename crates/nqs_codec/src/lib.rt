@@ -17,6 +17,3 @@ pub use put::{
 };
 pub use take::{take_bytes, take_u8, take_u16, take_u32, take_u64};
 pub use tested::{take_bool, take_name, take_opt_tag, take_path};
-
-#[cfg(test)]
-mod tests;

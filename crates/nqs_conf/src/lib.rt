@@ -8,8 +8,6 @@ mod apply;
 mod check;
 mod create;
 mod dest;
-#[cfg(test)]
-mod tests;
 
 pub use apply::apply_conf;
 pub use check::check_conf;

@@ -12,6 +12,3 @@ mod format;
 pub use changes::{apply, boot_running, may_start_again};
 pub use fitting::fits;
 pub use format::formatted;
-
-#[cfg(test)]
-mod tests;

@@ -9,8 +9,6 @@ mod apply;
 mod check;
 mod over;
 mod size;
-#[cfg(test)]
-mod tests;
 mod time;
 
 pub use apply::apply_limits;

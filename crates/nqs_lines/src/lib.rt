@@ -8,6 +8,3 @@ mod commands;
 pub mod laws;
 
 pub use commands::{qdel_command, qmgr_command, qstat_command, qsub_command, submit_command};
-
-#[cfg(test)]
-mod tests;

@@ -11,6 +11,3 @@ mod words;
 
 pub use requests::stat_lines;
 pub use show::show_lines;
-
-#[cfg(test)]
-mod tests;

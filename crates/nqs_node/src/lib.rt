@@ -12,8 +12,6 @@ mod keep;
 mod node;
 mod perform;
 mod reads;
-#[cfg(test)]
-mod tests;
 
 pub use fault::NodeFault;
 pub use node::Node;

@@ -13,6 +13,3 @@ pub use choice::pick;
 pub use eligible::{comes_before, first_eligible};
 pub use limits::within_limits;
 pub use nqs_types::Choice;
-
-#[cfg(test)]
-mod tests;

@@ -20,6 +20,3 @@ pub use laws::{no_command_begins_with_a_fault, reads_what_is_said};
 pub use lines::read_qmgr;
 pub use options::Settings;
 pub use value::Amount;
-
-#[cfg(test)]
-mod tests;

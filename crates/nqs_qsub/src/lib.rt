@@ -21,6 +21,3 @@ pub use reading::Progress;
 pub use script::LineKind;
 pub use submission::read_qsub;
 pub use token::{Place, Source, Token};
-
-#[cfg(test)]
-mod tests;

@@ -15,6 +15,3 @@ pub use put::{put_decimal, put_host, put_id, put_line_end, put_named, put_text, 
 pub use refusal::put_refusal;
 pub use reply::print_reply;
 pub use words::{NotNames, read_qdel, read_qstat};
-
-#[cfg(test)]
-mod tests;

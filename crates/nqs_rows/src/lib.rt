@@ -9,8 +9,6 @@ mod check;
 mod entry;
 mod meant;
 mod submit;
-#[cfg(test)]
-mod tests;
 
 pub use apply::apply_rows;
 pub use check::{check_delete, check_rows};

@@ -28,6 +28,3 @@ pub use reader::{LineFault, Schedule, ScheduleFault, read_schedule};
 pub use seen::print_seen;
 pub use summary::{Summary, print_summary, summarize, summary_of};
 pub use words::{LineWord, LineWords, Next};
-
-#[cfg(test)]
-mod tests;

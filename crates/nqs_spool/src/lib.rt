@@ -10,8 +10,6 @@ mod live;
 mod slot;
 mod sound;
 mod spool;
-#[cfg(test)]
-mod tests;
 mod tree;
 mod write;
 

@@ -15,6 +15,3 @@ pub use due::{add_due_stages, due_stages};
 pub use end::on_end;
 pub use file::on_file;
 pub use stage::{on_stage, on_staged};
-
-#[cfg(test)]
-mod tests;

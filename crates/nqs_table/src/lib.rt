@@ -30,6 +30,3 @@ pub fn table_of(alloc: Global, states: &[HostState]) -> Result<Vec<TableRow>, Me
     }
     Ok(table)
 }
-
-#[cfg(test)]
-mod tests;

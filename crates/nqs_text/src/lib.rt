@@ -8,6 +8,3 @@ mod number;
 pub use laws::{printed_reads_back, read_prints_back};
 pub use moment::{MomentFault, PrintFault, print_moment, read_moment};
 pub use number::{NumberFault, decimal, read_u64};
-
-#[cfg(test)]
-mod tests;

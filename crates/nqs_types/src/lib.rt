@@ -48,6 +48,3 @@ pub use table::{Key, Keyed, Table};
 pub use table_row::{NetState, TableRow};
 pub use tear::Tear;
 pub use world::{Seen, Which, WorldEvent};
-
-#[cfg(test)]
-mod tests;

@@ -19,6 +19,3 @@ pub use moments::moment_of;
 pub use quoted::{QuoteFault, Step, read_quoted};
 pub use values::{NotNamed, dest_of, name_of, named_of, number_of, place_of, seq_of};
 pub use words::{Gaps, Word, end_of, is_gap, next_word};
-
-#[cfg(test)]
-mod tests;

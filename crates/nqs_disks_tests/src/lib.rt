@@ -1,0 +1,12 @@
+//! Tests of the crates of what lies on disks, and of a host over its disks: each module has those of one crate. They stand apart from the crates, so that
+//! a crate isn't proved once more for its tests.
+#![tactic(auto)]
+
+#[cfg(test)]
+mod codec;
+#[cfg(test)]
+mod journal;
+#[cfg(test)]
+mod node;
+#[cfg(test)]
+mod spool;

@@ -1,0 +1,60 @@
+use nqs_text::*;
+use std::alloc::Global;
+use std::rt::HostRuntime;
+use std::test::Fail;
+
+#[test]
+fn reads_numbers(rt: HostRuntime) {
+    for (bytes, answer) in [
+        (b"0".as_slice(), Ok(0)),
+        (b"0042", Ok(42)),
+        (b"18446744073709551615", Ok(u64::MAX)),
+        (b"18446744073709551616", Err(NumberFault::TooLarge)),
+        (b"99999999999999999999999", Err(NumberFault::TooLarge)),
+        (b"99999999999999999999999x", Err(NumberFault::BadByte(23))),
+        (b"", Err(NumberFault::Empty)),
+        (b"+1", Err(NumberFault::BadByte(0))),
+    ] {
+        assert_eq!(rt; read_u64(bytes), answer);
+    }
+}
+
+#[test]
+fn reads_moments(rt: HostRuntime) {
+    for (bytes, answer) in [
+        (b"1970-01-01T00:00:00".as_slice(), Ok(0)),
+        (b"1970-01-02T00:00:00", Ok(86_400)),
+        (b"2000-01-01T00:00:00", Ok(946_684_800)),
+        (b"9999-12-31T00:00:00", Ok(253_402_214_400)),
+        (b"9999-12-31T23:59:59", Ok(253_402_300_799)),
+        (b"2001-02-29T00:00:00", Err(MomentFault::Range)),
+        (b"1969-12-31T23:59:59", Err(MomentFault::Range)),
+        (b"2000-01-01T24:00:00", Err(MomentFault::Range)),
+        (b"2001-02", Err(MomentFault::Form(7))),
+        (b"2001-02-03 00:00:00", Err(MomentFault::Form(10))),
+        (b"2001-02-03T00:00:00Z", Err(MomentFault::Form(19))),
+        (b"", Err(MomentFault::Form(0))),
+    ] {
+        assert_eq!(rt; read_moment(bytes), answer);
+    }
+}
+
+fn printed(alloc: Global, moment: u64) -> Result<Vec<u8>, PrintFault> {
+    let mut out = Vec::new(alloc);
+    print_moment(alloc, moment, &mut out)?;
+    Ok(out)
+}
+
+#[test]
+fn prints_moments(rt: HostRuntime) -> Result<(), Fail> {
+    let alloc = rt.alloc();
+    for (moment, text) in [
+        (86_400, b"1970-01-02T00:00:00".as_slice()),
+        (951_827_696, b"2000-02-29T12:34:56"),
+        (253_402_214_400, b"9999-12-31T00:00:00"),
+    ] {
+        assert_eq!(rt; printed(alloc, moment)?.as_slice(), text);
+    }
+    assert!(rt; matches!(printed(alloc, 253_402_214_401), Err(PrintFault::Range)));
+    Ok(())
+}
