@@ -5,7 +5,7 @@ use crate::ids::{Named, NamedDest};
 use crate::name::Name;
 
 /// Edits of queues and of the host's parameters.
-#[derive(Clone, Copy, Debug, PartialEq, Eq)]
+#[derive(Clone, Copy)]
 pub enum ConfEdit {
     CreateBatchQueue {
         queue: Name,
@@ -73,7 +73,7 @@ pub enum ConfEdit {
 }
 
 /// Edits of limits and complexes.
-#[derive(Clone, Copy, Debug, PartialEq, Eq)]
+#[derive(Clone, Copy)]
 pub enum LimitsEdit {
     SetUserLimit { limit: Option<u64>, queue: Name },
     SetCpuLimit { limit: Option<u64>, queue: Name },
@@ -87,7 +87,7 @@ pub enum LimitsEdit {
 }
 
 /// Edits of who may do what.
-#[derive(Clone, Copy, Debug, PartialEq, Eq)]
+#[derive(Clone, Copy)]
 pub enum AccessEdit {
     SetUnrestrictedAccess { queue: Name },
     SetNoAccess { queue: Name },
@@ -100,7 +100,7 @@ pub enum AccessEdit {
 }
 
 /// Edits of devices.
-#[derive(Clone, Copy, Debug, PartialEq, Eq)]
+#[derive(Clone, Copy)]
 pub enum DevicesEdit {
     CreateDevice { device: Name, forms: Name },
     DeleteDevice { device: Name },
@@ -112,7 +112,7 @@ pub enum DevicesEdit {
 }
 
 /// Edits of requests.
-#[derive(Clone, Copy, Debug, PartialEq, Eq)]
+#[derive(Clone, Copy)]
 pub enum RowsEdit {
     AbortQueue { queue: Name },
     HoldRequest { request: Named },
@@ -121,7 +121,7 @@ pub enum RowsEdit {
     ModifyRequest { request: Named, priority: u64 },
 }
 
-#[derive(Clone, Copy, Debug, PartialEq, Eq)]
+#[derive(Clone, Copy)]
 pub enum Edit {
     Conf(ConfEdit),
     Limits(LimitsEdit),

@@ -1,10 +1,13 @@
-//! Datagrams.
+//! Datagrams. A datagram is copied variant by variant, one function for each that holds memory of its own.
+ghost use Rattle.std.specs.Prelude.{◌≡◌, IfOk};
+ghost use Rattle.nqs_types.specs.declared.message.Body.TheVariants.{Offer, Stage, Ask, Answer, Ended};
 
 use crate::ids::{HostId, RequestId};
 use crate::items::Items;
 use crate::list::Bytes;
 use crate::name::Name;
 use crate::request::Carried;
+use std::alloc::AllocError;
 
 /// A command of a client.
 #[derive(Clone, Copy, Debug, PartialEq, Eq)]
@@ -17,7 +20,7 @@ pub enum Tool {
 }
 
 /// What a datagram says, one variant a kind, from 1 to 13 in this order.
-#[derive(Clone, Drop)]
+#[derive(Drop)]
 pub enum Body {
     Offer {
         number: u64,
@@ -79,11 +82,155 @@ pub enum Body {
     },
 }
 
-#[derive(Clone, Drop)]
+#[derive(Drop)]
 pub struct Message {
     pub from: HostId,
     pub to: HostId,
     pub body: Body,
+}
+
+fn clone_offer(
+    number: u64,
+    queue: Name,
+    carried: &Carried,
+    script: &Bytes,
+) -> Result<Body, AllocError>
+    ensures { IfOk result (λ body. body ≡ Offer number queue carried.now script.now) }
+{
+    let carried = carried.clone()?;
+    let script = script.clone()?;
+    Ok(Body::Offer {
+        number,
+        queue,
+        carried,
+        script,
+    })
+}
+
+fn clone_stage(number: u64, path: &Bytes, bytes: &Bytes) -> Result<Body, AllocError>
+    ensures { IfOk result (λ body. body ≡ Stage number path.now bytes.now) }
+{
+    let path = path.clone()?;
+    let bytes = bytes.clone()?;
+    Ok(Body::Stage {
+        number,
+        path,
+        bytes,
+    })
+}
+
+fn clone_ask(
+    port: u16,
+    token: u64,
+    user: Name,
+    tool: Tool,
+    words: &Items<Bytes>,
+    script: &Bytes,
+) -> Result<Body, AllocError>
+    ensures { IfOk result (λ body. body ≡ Ask port token user tool words.now script.now) }
+{
+    let words = words.clone()?;
+    let script = script.clone()?;
+    Ok(Body::Ask {
+        port,
+        token,
+        user,
+        tool,
+        words,
+        script,
+    })
+}
+
+fn clone_answer(token: u64, ok: bool, text: &Bytes) -> Result<Body, AllocError>
+    ensures { IfOk result (λ body. body ≡ Answer token ok text.now) }
+{
+    let text = text.clone()?;
+    Ok(Body::Answer { token, ok, text })
+}
+
+fn clone_ended(
+    port: u16,
+    id: RequestId,
+    start: u16,
+    status: u8,
+    out: &Bytes,
+    err: &Bytes,
+) -> Result<Body, AllocError>
+    ensures { IfOk result (λ body. body ≡ Ended port id start status out.now err.now) }
+{
+    let out = out.clone()?;
+    let err = err.clone()?;
+    Ok(Body::Ended {
+        port,
+        id,
+        start,
+        status,
+        out,
+        err,
+    })
+}
+
+impl Clone for Body {
+    ghost is_clone = { λ a b. b ≡ a };
+
+    fn clone(&self) -> Result<Self, AllocError> {
+        match self {
+            Body::Offer {
+                number,
+                queue,
+                carried,
+                script,
+            } => clone_offer(*number, *queue, carried, script),
+            Body::Ready { number } => Ok(Body::Ready { number: *number }),
+            Body::Refused { number, cause } => Ok(Body::Refused {
+                number: *number,
+                cause: *cause,
+            }),
+            Body::Commit { number } => Ok(Body::Commit { number: *number }),
+            Body::Done { number } => Ok(Body::Done { number: *number }),
+            Body::Inquire { number } => Ok(Body::Inquire { number: *number }),
+            Body::Abort { number } => Ok(Body::Abort { number: *number }),
+            Body::Stage {
+                number,
+                path,
+                bytes,
+            } => clone_stage(*number, path, bytes),
+            Body::Staged { number } => Ok(Body::Staged { number: *number }),
+            Body::Ask {
+                port,
+                token,
+                user,
+                tool,
+                words,
+                script,
+            } => { clone_ask(*port, *token, *user, *tool, words, script) }
+            Body::Answer { token, ok, text } => clone_answer(*token, *ok, text),
+            Body::Ended {
+                port,
+                id,
+                start,
+                status,
+                out,
+                err,
+            } => clone_ended(*port, *id, *start, *status, out, err),
+            Body::EndedAck { id, start } => Ok(Body::EndedAck {
+                id: *id,
+                start: *start,
+            }),
+        }
+    }
+}
+
+impl Clone for Message {
+    ghost is_clone = { λ a b. b ≡ a };
+
+    fn clone(&self) -> Result<Self, AllocError> {
+        Ok(Message {
+            from: self.from,
+            to: self.to,
+            body: self.body.clone()?,
+        })
+    }
 }
 
 /// The kind of a datagram, by its number from 1 on.

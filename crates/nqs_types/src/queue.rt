@@ -17,13 +17,13 @@ pub enum Kind {
 }
 
 /// Who may use a queue: everybody, or the users of a list.
-#[derive(Clone, Drop)]
+#[derive(Drop)]
 pub enum Access {
     All,
     Users(NameList),
 }
 
-#[derive(Clone, Drop)]
+#[derive(Drop)]
 pub struct QueueDef {
     pub name: Name,
     pub kind: Kind,
@@ -49,7 +49,7 @@ pub struct QueueDef {
 }
 
 /// A set of batch queues with a run limit over all of them.
-#[derive(Clone, Drop)]
+#[derive(Drop)]
 pub struct ComplexDef {
     pub name: Name,
     pub limit: u16,

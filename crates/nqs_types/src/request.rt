@@ -1,9 +1,11 @@
 //! Requests: what a job is, and where a request stands in its host.
+ghost use Rattle.std.specs.Prelude.{◌≡◌};
 
 use crate::extent::Extent;
 use crate::ids::{Dest, HostId, RequestId};
 use crate::list::{Bytes, ListOf};
 use crate::name::Name;
+use std::alloc::AllocError;
 
 /// What a request or a queue limits: seconds of processor time, and bytes of memory.
 #[derive(Clone, Copy, Debug, PartialEq, Eq)]
@@ -39,7 +41,7 @@ pub enum RowState {
 }
 
 /// What is asked for by a submission, beside the script.
-#[derive(Clone, Drop)]
+#[derive(Drop)]
 pub struct Job {
     pub name: Name,
     pub owner: Name,
@@ -60,8 +62,29 @@ pub struct Job {
     pub join: bool,
 }
 
+impl Clone for Job {
+    ghost is_clone = { λ a b. b ≡ a };
+
+    fn clone(&self) -> Result<Self, AllocError> {
+        let out = self.out.clone()?;
+        let err = self.err.clone()?;
+        Ok(Job {
+            name: self.name,
+            owner: self.owner,
+            priority: self.priority,
+            earliest: self.earliest,
+            rerun: self.rerun,
+            limits: self.limits,
+            forms: self.forms,
+            out,
+            err,
+            join: self.join,
+        })
+    }
+}
+
 /// A request in its host. `E` stands for the script: its extent of the spool, or the bytes.
-#[derive(Clone, Drop)]
+#[derive(Drop)]
 pub struct Row<E: Copy + Drop = Extent> {
     pub id: RequestId,
     pub job: Job,
@@ -85,7 +108,7 @@ pub struct Row<E: Copy + Drop = Extent> {
 }
 
 /// What of a request goes to another host, beside its script.
-#[derive(Clone, Drop)]
+#[derive(Drop)]
 pub struct Carried {
     pub id: RequestId,
     pub job: Job,
@@ -94,8 +117,23 @@ pub struct Carried {
     pub hops: u8,
 }
 
+impl Clone for Carried {
+    ghost is_clone = { λ a b. b ≡ a };
+
+    fn clone(&self) -> Result<Self, AllocError> {
+        let job = self.job.clone()?;
+        Ok(Carried {
+            id: self.id,
+            job,
+            starts: self.starts,
+            lost: self.lost,
+            hops: self.hops,
+        })
+    }
+}
+
 /// A request that another host has offered and that this one has said it will take.
-#[derive(Clone, Drop)]
+#[derive(Drop)]
 pub struct Promise<E: Copy + Drop = Extent> {
     pub peer: HostId,
     pub number: u64,
