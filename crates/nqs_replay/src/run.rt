@@ -25,7 +25,7 @@ use nqs_types::{Memory, Name, Seen, WorldEvent};
 use std::alloc::Global;
 
 /// Why a run was not brought to its end.
-#[derive(Clone, Copy, Debug, PartialEq, Eq)]
+#[derive(Clone, Copy)]
 pub enum RunStop {
     /// The sink failed, or took nothing of a piece.
     Sink,

@@ -4,7 +4,7 @@
 ///
 /// They are decided in this order: words, reading, length, schedule, writing. `Memory` may come at
 /// any place. The text is the transcript of the run, or its summary; disks are left at `Done` alone.
-#[derive(Clone, Copy, Debug, PartialEq, Eq)]
+#[derive(Clone, Copy, PartialEq, Eq)]
 pub enum Status {
     /// The schedule was read to its end, or generated, and run, and the whole text was written.
     Done,

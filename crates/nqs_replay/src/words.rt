@@ -12,7 +12,7 @@ use nqs_words::number_of;
 use std::alloc::{AllocError, Global};
 
 /// The schedule that is to be generated.
-#[derive(Clone, Copy, Debug, PartialEq, Eq)]
+#[derive(Clone, Copy)]
 pub struct Generation {
     pub seed: u64,
     /// 1 to 16.
@@ -22,7 +22,7 @@ pub struct Generation {
 }
 
 /// What the words ask for.
-#[derive(Clone, Copy, Debug, PartialEq, Eq)]
+#[derive(Clone, Copy)]
 pub struct Ask {
     /// The summary in place of the transcript.
     pub summary: bool,
@@ -31,7 +31,7 @@ pub struct Ask {
 }
 
 /// Why the words ask for nothing.
-#[derive(Clone, Copy, Debug, PartialEq, Eq)]
+#[derive(Clone, Copy)]
 pub enum WordsStop {
     BadWords,
     Memory,
