@@ -6,7 +6,7 @@ ghost use Rattle.nqs_records.specs.declared.fault.RecordFault.TheVariants as fau
 use std::alloc::{AllocError, AllocFailed};
 
 /// The first thing that is wrong with bytes that are no record. Places are counted from 0.
-#[derive(Clone, Copy, Debug, PartialEq, Eq)]
+#[derive(Clone, Copy, Debug)]
 pub enum RecordFault {
     /// The bytes end before the record does. The place is that of their end.
     Short(u64),

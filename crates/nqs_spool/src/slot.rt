@@ -3,7 +3,7 @@ ghost use Rattle.std.specs.Prelude.{◌≡◌};
 ghost use Rattle.nqs_spool.specs.Slots.{gap_of, set_from};
 
 /// A live extent that isn't empty, and where the free bytes before it begin.
-#[derive(Clone, Copy, Debug, PartialEq, Eq)]
+#[derive(Clone, Copy)]
 pub(crate) struct Slot {
     pub from: u64,
     pub place: u64,

@@ -7,7 +7,7 @@ use std::alloc::AllocError;
 use thiserror::Error;
 
 /// Why disks are no host's.
-#[derive(Clone, Copy, Debug, PartialEq, Eq, Error)]
+#[derive(Clone, Copy, Debug, Error)]
 pub enum LoadFault {
     /// A call of this disk failed.
     #[error("a disk failed")]
@@ -22,7 +22,7 @@ pub enum LoadFault {
 }
 
 /// Why a call of an open store failed.
-#[derive(Clone, Copy, Debug, PartialEq, Eq, Error)]
+#[derive(Clone, Copy, Debug, Error)]
 pub enum StoreFault {
     /// A call of this disk failed. After a commit that is answered so the store is to be closed.
     #[error("a disk failed")]

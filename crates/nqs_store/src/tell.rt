@@ -31,7 +31,7 @@ const HEADER: u64 = 16;
 const FRAME: u64 = 5;
 
 /// Why records tell no host.
-#[derive(Clone, Copy, Debug, PartialEq, Eq)]
+#[derive(Clone, Copy)]
 pub enum TellFault {
     /// There is none, or the gate of the first that isn't taken stands at this place.
     Untold(u64),
