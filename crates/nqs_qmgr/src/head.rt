@@ -14,7 +14,7 @@ use nqs_words::{
 };
 
 /// A word with its keyword, and the place where its stem ends: that of its first `=`, or the word's end.
-#[derive(Clone, Copy, Debug, PartialEq, Eq)]
+#[derive(Clone, Copy)]
 pub struct Head {
     pub keyword: Keyword,
     pub word: Word,

@@ -9,7 +9,7 @@ use nqs_types::{GrammarFault, NamedDest};
 use nqs_words::{Gaps, Keyword, next_word};
 
 /// The options of a queue that is made.
-#[derive(Clone, Copy, Debug, PartialEq, Eq)]
+#[derive(Clone, Copy)]
 pub struct Settings {
     pub priority: Option<u64>,
     pub run_limit: Option<u64>,

@@ -6,7 +6,7 @@ ghost use Rattle.nqs_qmgr.specs.Heads.{amount_of, limit_of};
 use nqs_words::{number_of, size_of, time_of};
 
 /// What a limit counts.
-#[derive(Clone, Copy, Debug, PartialEq, Eq)]
+#[derive(Clone, Copy)]
 pub enum Amount {
     /// Requests, from 0 to 10,000.
     Count,

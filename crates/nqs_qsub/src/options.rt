@@ -13,7 +13,7 @@ use nqs_types::{Name, WordsCause};
 use nqs_words::{moment_of, name_of, number_of, size_of, time_of};
 
 /// An option of qsub.
-#[derive(Clone, Copy, Debug, PartialEq, Eq)]
+#[derive(Clone, Copy)]
 pub enum Flag {
     Queue,
     Priority,
@@ -29,7 +29,7 @@ pub enum Flag {
 }
 
 /// The options that were given. A path is named by its place among the words.
-#[derive(Clone, Copy, Debug, PartialEq, Eq)]
+#[derive(Clone, Copy)]
 pub struct Options {
     pub queue: Option<Name>,
     pub priority: Option<u8>,

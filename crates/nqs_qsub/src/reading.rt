@@ -9,7 +9,7 @@ use crate::token::{Source, Token, fault_at, next_token, text_of};
 use nqs_types::{Bytes, WordsCause, WordsFault};
 
 /// What was read up to a place.
-#[derive(Clone, Copy, Debug, PartialEq, Eq)]
+#[derive(Clone, Copy)]
 pub struct Progress {
     pub options: Options,
     /// The number of the word that comes next.

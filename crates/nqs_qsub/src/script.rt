@@ -13,7 +13,7 @@ use nqs_types::WordsFault;
 use nqs_words::place_of;
 
 /// What a line of a script is to the reader of options.
-#[derive(Clone, Copy, Debug, PartialEq, Eq)]
+#[derive(Clone, Copy)]
 pub enum LineKind {
     /// No option stands in it or behind it.
     Last,

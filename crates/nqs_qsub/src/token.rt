@@ -10,7 +10,7 @@ use nqs_types::{Bytes, WordsCause, WordsFault};
 use nqs_words::{Gaps, Word, next_word};
 
 /// Where words come from.
-#[derive(Clone, Copy, Debug, PartialEq, Eq)]
+#[derive(Clone, Copy)]
 pub enum Source {
     /// The command's own words.
     Command,
@@ -19,7 +19,7 @@ pub enum Source {
 }
 
 /// Where a word stands.
-#[derive(Clone, Copy, Debug, PartialEq, Eq)]
+#[derive(Clone, Copy)]
 pub enum Place {
     /// Its place among the command's words, from 0.
     InCommand(usize),
@@ -28,7 +28,7 @@ pub enum Place {
 }
 
 /// A word, and the place from which the next one is sought.
-#[derive(Clone, Copy, Debug, PartialEq, Eq)]
+#[derive(Clone, Copy)]
 pub struct Token {
     pub at: Place,
     pub after: usize,

@@ -13,7 +13,7 @@ use nqs_words::{NotNamed, name_of, named_of};
 use std::alloc::{AllocFailed, Global};
 
 /// Why words are no list of names.
-#[derive(Clone, Copy, Debug, PartialEq, Eq)]
+#[derive(Clone, Copy)]
 pub enum NotNames {
     /// The place, from 0, of the first word that is no name.
     Bad(usize),

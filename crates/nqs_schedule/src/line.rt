@@ -24,7 +24,7 @@ pub enum Says {
 }
 
 /// Why nothing was read.
-#[derive(Clone, Copy, Debug, PartialEq, Eq)]
+#[derive(Clone, Copy)]
 pub enum ReadError {
     Bad(Cause),
     Memory,

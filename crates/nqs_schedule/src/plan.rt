@@ -13,7 +13,7 @@ use crate::words::LineWords;
 use nqs_types::{HostId, Name, RequestId, WorldEvent};
 
 /// The first word of a line.
-#[derive(Clone, Copy, Debug, PartialEq, Eq)]
+#[derive(Clone, Copy)]
 pub enum Verb {
     Hosts,
     Submit,

@@ -12,7 +12,7 @@ use nqs_types::{Items, Name, NameList, WorldEvent};
 use std::alloc::{AllocError, AllocFailed, Global};
 
 /// The first bad line.
-#[derive(Clone, Copy, Debug, PartialEq, Eq)]
+#[derive(Clone, Copy)]
 pub struct LineFault {
     /// Its number, from 1 on; empty lines and remarks count.
     pub line: u64,
@@ -20,7 +20,7 @@ pub struct LineFault {
 }
 
 /// Why there is no schedule.
-#[derive(Clone, Copy, Debug, PartialEq, Eq)]
+#[derive(Clone, Copy)]
 pub enum ScheduleFault {
     Bad(LineFault),
     Memory,

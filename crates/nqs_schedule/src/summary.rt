@@ -9,7 +9,7 @@ use nqs_types::{Memory, Reply, Seen};
 use std::alloc::Global;
 
 /// How many things of each kind were seen. A count stays at 18,446,744,073,709,551,615.
-#[derive(Clone, Copy, Debug, PartialEq, Eq)]
+#[derive(Clone, Copy)]
 pub struct Summary {
     /// Submissions that were taken.
     pub submitted: u64,

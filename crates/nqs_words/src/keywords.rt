@@ -7,7 +7,7 @@ ghost use Rattle.nqs_words.specs.Keywords.{lower, begins, shortens, is_whole, sh
 use crate::keyword::{Keyword, spelling};
 
 /// Why a word names no keyword.
-#[derive(Clone, Copy, Debug, PartialEq, Eq)]
+#[derive(Clone, Copy, PartialEq, Eq)]
 pub enum NoKeyword {
     /// It fits none.
     Unknown,

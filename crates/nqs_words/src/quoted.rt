@@ -8,7 +8,7 @@ ghost use Rattle.nqs_words.specs.declared.quoted.QuoteFault.TheVariants.{Memory}
 use std::alloc::{AllocFailed, Global};
 
 /// What stands first within quotes.
-#[derive(Clone, Copy, Debug, PartialEq, Eq)]
+#[derive(Clone, Copy)]
 pub enum Step {
     End,
     Bad,
@@ -17,7 +17,7 @@ pub enum Step {
 }
 
 /// Why there is no quoted word.
-#[derive(Clone, Copy, Debug, PartialEq, Eq)]
+#[derive(Clone, Copy, PartialEq, Eq)]
 pub enum QuoteFault {
     /// It doesn't end, or has another escape.
     BadQuote,

@@ -7,7 +7,7 @@ use nqs_text::read_u64;
 use nqs_types::{Name, Named, NamedDest};
 
 /// Why a word is no request.
-#[derive(Clone, Copy, Debug, PartialEq, Eq)]
+#[derive(Clone, Copy, PartialEq, Eq)]
 pub enum NotNamed {
     /// What stands before its first point is no sequence number.
     BadNumber,

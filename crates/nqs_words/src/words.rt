@@ -6,14 +6,14 @@ ghost use Rattle.std.specs.List.{position};
 ghost use Rattle.nqs_words.specs.Words.{next_word, is_gap, end_of, Fits};
 
 /// A word's place in its line, and the place after it.
-#[derive(Clone, Copy, Debug, PartialEq, Eq)]
+#[derive(Clone, Copy, PartialEq, Eq)]
 pub struct Word {
     pub start: usize,
     pub end: usize,
 }
 
 /// Which bytes part words.
-#[derive(Clone, Copy, Debug, PartialEq, Eq)]
+#[derive(Clone, Copy)]
 pub enum Gaps {
     Spaces,
     SpacesAndTabs,
