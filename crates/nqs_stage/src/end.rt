@@ -1,10 +1,13 @@
 //! A job ends.
-ghost use Rattle.std.specs.Prelude.{◌≡◌, ◌+◌, ◌≤◌, ◌∷◌, ◌++◌, [], length, IfOk, OnOk};
+ghost use Rattle.std.specs.Prelude.{◌≡◌, ◌+◌, ◌≤◌, ◌∷◌, ◌++◌, [], length, map, IfOk, OnOk};
 ghost use Rattle.nqs_types.specs.State.{content};
 ghost use Rattle.nqs_rules.specs.Find.{find_peer};
 ghost use Rattle.nqs_rules.specs.Tests.{last_u64};
 ghost use Rattle.nqs_rules.specs.Stage.{goes_here, stage_counter, first_number, kept_parts, file_written, files_written, has_stage_to, stage_sent, stage_due, parts_sent, on_end};
-ghost use Rattle.nqs_rules.specs.Stepped.{map_part, no_extent, part_bytes, plan_of};
+ghost use Rattle.nqs_rules.specs.Stepped.{map_part, no_extent, part_bytes, plan_of, ready, says};
+ghost use Rattle.nqs_types.specs.declared.event.Output.TheVariants as event;
+ghost use Rattle.nqs_types.specs.declared.extent.Extent.{Extent};
+ghost use Rattle.nqs_types.specs.declared.message.Body.TheVariants as body;
 ghost use Rattle.nqs_plans.specs.More.{with_more};
 ghost use Rattle.nqs_stage.specs.Files.{ending};
 
@@ -59,13 +62,21 @@ fn kept_parts(
     Ok(parts)
 }
 
+// A file of this host with this number.
+fn file_of(file: u64, part: &Part) -> Result<Output, Memory>
+    ensures { IfOk result (λ output. ready {E = Extent} output ≡ file_written file part.now) }
+{
+    let path = copy_bytes(&part.path)?;
+    let bytes = copy_bytes(&part.bytes)?;
+    Ok(Output::File { file, path, bytes })
+}
+
 // The plan, and a file of this host with this number.
 fn add_file(plan: Plan, file: u64, part: &Part) -> Result<Plan, Memory>
     ensures { IfOk result (λ more. more ≡ with_more plan (file_written file part.now ∷ [])) }
 {
-    let path = copy_bytes(&part.path)?;
-    let bytes = copy_bytes(&part.bytes)?;
-    add(plan, Output::File { file, path, bytes })
+    let output = file_of(file, part)?;
+    add(plan, output)
 }
 
 // The plan, and the files of this host, numbered from this number on.
@@ -84,6 +95,19 @@ fn add_files(plan: Plan, first: u64, parts: &[Part]) -> Result<Plan, Memory>
     Ok(plan)
 }
 
+// An output as a stage of this number.
+fn stage_of(number: u64, part: &Part) -> Result<Body, Memory>
+    ensures { IfOk result (λ stage. stage ≡ body.Stage number part.now.path part.now.bytes) }
+{
+    let path = copy_bytes(&part.path)?;
+    let bytes = copy_bytes(&part.bytes)?;
+    Ok(Body::Stage {
+        number,
+        path,
+        bytes,
+    })
+}
+
 // The plan, and the first output as a stage.
 fn add_stage(
     state: &HostState,
@@ -97,13 +121,7 @@ fn add_stage(
     let Some(part) = parts.first() else {
         return Ok(plan);
     };
-    let path = copy_bytes(&part.path)?;
-    let bytes = copy_bytes(&part.bytes)?;
-    let stage = Body::Stage {
-        number,
-        path,
-        bytes,
-    };
+    let stage = stage_of(number, part)?;
     add(plan, message(state, peer, stage))
 }
 
@@ -151,9 +169,10 @@ fn split_part(
     Ok(())
 }
 
-// The plan's outputs, and the change that the job ended with these parts.
-fn ending(alloc: Global, plan: Plan, id: RequestId, parts: Vec<Part>) -> Result<Plan, Memory>
-    ensures { IfOk result (λ ended. ended ≡ ending id parts.items plan) }
+// The outputs of the change that a job ended with these parts, and the bytes to be stored.
+fn split_parts(alloc: Global, parts: Vec<Part>) -> Result<(Items<OutPart>, Items<Bytes>), Memory>
+    ensures outputs { IfOk result (λ split. split.0 ≡ map (map_part (λ _. no_extent)) parts.items) }
+    ensures puts { IfOk result (λ split. split.1 ≡ map part_bytes parts.items) }
 {
     let mut outputs = Items::new(alloc);
     let mut puts = Items::new(alloc);
@@ -161,12 +180,40 @@ fn ending(alloc: Global, plan: Plan, id: RequestId, parts: Vec<Part>) -> Result<
     while let Some(part) = rest.take_first() {
         split_part(&mut outputs, &mut puts, part)?;
     }
+    Ok((outputs, puts))
+}
+
+// The plan's outputs, and the change that the job ended with these parts.
+fn ending(alloc: Global, plan: Plan, id: RequestId, parts: Vec<Part>) -> Result<Plan, Memory>
+    ensures { IfOk result (λ ended. ended ≡ ending id parts.items plan) }
+{
+    let (outputs, puts) = split_parts(alloc, parts)?;
     Ok(Plan {
         change: Some(Change::Ended { id, outputs }),
         puts,
         outputs: plan.outputs,
         reads: plan.reads,
     })
+}
+
+// That the job ended goes out, and what goes out with its outputs.
+fn ended_plan(
+    alloc: Global,
+    state: &HostState,
+    row: &Row,
+    status: u8,
+    parts: &[Part],
+) -> Result<Plan, Memory>
+    requires { first_number (content state.now) row.now.id + length parts.now ≤ last_u64 }
+    ensures { IfOk result (λ plan. plan ≡ plan_of (says (ready (event.Ended row.now.id row.now.starts status) ∷ parts_sent (content state.now) row.now.id parts.now))) }
+{
+    let ended = Output::Ended {
+        id: row.id,
+        start: row.starts,
+        status,
+    };
+    let plan = add(quiet(alloc), ended)?;
+    add_sent(state, plan, row.id, parts)
 }
 
 /// The job of a row ended with this exit status and these bytes of output and error output: its outputs become files of this host where the request was submitted here, and else
@@ -182,12 +229,6 @@ pub fn on_end(
     ensures { IfOk result (λ plan. plan ≡ plan_of (on_end status row.now out.now err.now (content state.now))) }
 {
     let parts = kept_parts(alloc, state, row, out, err)?;
-    let ended = Output::Ended {
-        id: row.id,
-        start: row.starts,
-        status,
-    };
-    let plan = add(quiet(alloc), ended)?;
-    let plan = add_sent(state, plan, row.id, parts.as_slice())?;
+    let plan = ended_plan(alloc, state, row, status, parts.as_slice())?;
     ending(alloc, plan, row.id, parts)
 }

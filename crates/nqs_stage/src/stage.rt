@@ -6,6 +6,7 @@ ghost use Rattle.nqs_rules.specs.Tests.{passes};
 ghost use Rattle.nqs_rules.specs.Stage.{is_got, stage_taken, on_stage, send_staged, on_staged};
 ghost use Rattle.nqs_rules.specs.Stepped.{plan_of, makes};
 ghost use Rattle.nqs_types.specs.declared.change.Change.TheVariants.{StageGot};
+ghost use Rattle.nqs_types.specs.declared.event.Output.TheVariants.{File};
 ghost use Rattle.nqs_stage.specs.Files.{HasDistinctStages};
 
 use crate::due::add_next;
@@ -46,6 +47,19 @@ fn take_stage(
     add(plan, message(state, peer, Body::Staged { number }))
 }
 
+// A file of this host, under its next number.
+fn file_of(state: &HostState, path: &Bytes, bytes: &Bytes) -> Result<Output, Memory>
+    ensures { IfOk result (λ output. output ≡ File state.now.file_next path.now bytes.now) }
+{
+    let path = copy_bytes(path)?;
+    let bytes = copy_bytes(bytes)?;
+    Ok(Output::File {
+        file: state.file_next,
+        path,
+        bytes,
+    })
+}
+
 fn stage_taken(
     alloc: Global,
     state: &HostState,
@@ -60,11 +74,7 @@ fn stage_taken(
         return take_stage(alloc, state, peer, number, path, ListOf::new(alloc));
     }
     let plan = take_stage(alloc, state, peer, number, path, copy_bytes(bytes)?)?;
-    let file = Output::File {
-        file: state.file_next,
-        path: copy_bytes(path)?,
-        bytes: copy_bytes(bytes)?,
-    };
+    let file = file_of(state, path, bytes)?;
     add(plan, file)
 }
 

@@ -1,6 +1,6 @@
 use Rattle.std.proofs.Common.{◌≡◌, ◌++◌, map, length}
 use Rattle.nqs_rules.specs.Stepped.{map_part, part_bytes, no_extent}
-use Rattle.nqs_stage.proofs.end.ending.Given as goal
+use Rattle.nqs_stage.proofs.end.split_parts.Given as goal
 
 abbrev pub invariant-loop-part : goal.invariant-loop-part
 invariant-loop-part l = record {
