@@ -21,6 +21,8 @@ mod rows;
 #[cfg(test)]
 mod stage;
 #[cfg(test)]
+mod step;
+#[cfg(test)]
 mod table;
 #[cfg(test)]
 mod types;

@@ -16,7 +16,7 @@ use nqs_types::{
 use std::alloc::Global;
 
 // A running request is told to end, and another one goes.
-pub(crate) fn delete_row(alloc: Global, asker: Asker, row: &Row) -> Result<Plan, Memory>
+fn delete_row(alloc: Global, asker: Asker, row: &Row) -> Result<Plan, Memory>
     ensures { IfOk result (λ plan. plan ≡ plan_of (delete_row (asked asker) row.now)) }
 {
     let id = row.id;

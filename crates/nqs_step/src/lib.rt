@@ -12,5 +12,3 @@ mod reply;
 pub mod start;
 pub mod step;
 mod submit;
-#[cfg(test)]
-mod tests;

@@ -48,7 +48,7 @@ fn order_of(state: &HostState, row: &Row) -> LaunchOrder
 }
 
 // The row's job is launched.
-pub(crate) fn launch(alloc: Global, state: &HostState, row: &Row) -> Result<Plan, Memory>
+fn launch(alloc: Global, state: &HostState, row: &Row) -> Result<Plan, Memory>
     requires { row.now.starts + 1 < 2 ^ 16 }
     ensures { IfOk result (λ plan. plan ≡ plan_of (launching row.now (content state.now))) }
 {

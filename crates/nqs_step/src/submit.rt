@@ -46,7 +46,7 @@ fn completed(alloc: Global, seq: u32, job: &Job) -> Result<Job, Memory>
     })
 }
 
-pub(crate) fn submit_to(
+fn submit_to(
     alloc: Global,
     state: &HostState,
     asker: Asker,
