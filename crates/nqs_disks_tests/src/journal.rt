@@ -64,31 +64,69 @@ fn has(found: &[Bytes], payloads: &[&[u8]]) -> bool {
             .all(|(a, b): (&Bytes, &&[u8])| a.as_slice() == *b)
 }
 
+// Whether the counted ones of the two payloads are found.
+fn leaves(alloc: Global, call: u64, tear: Tear, count: usize) -> Result<bool, Fail> {
+    let found = left_after(alloc, call, tear)?;
+    Ok(match [FIRST, SECOND].get(..count) {
+        Some(payloads) => has(&found, payloads),
+        None => false,
+    })
+}
+
 #[test]
 fn stops(rt: HostRuntime) -> Result<(), Fail> {
     let alloc = rt.alloc();
     for (tear, counts) in LEFT {
         for call in 0..4 {
-            let found = left_after(alloc, call as u64 + 1, tear)?;
-            assert!(rt; has(&found, &[FIRST, SECOND][..counts[call]]));
+            let leaves = leaves(alloc, call as u64 + 1, tear, counts[call])?;
+            assert!(rt; leaves);
         }
     }
     Ok(())
 }
 
-#[test]
-fn appends_after_a_stop(rt: HostRuntime) -> Result<(), Fail> {
-    let alloc = rt.alloc();
-    let mut journal = with_first(alloc)?;
+// The answers of two appends where the third call of the first one fails.
+fn stopped(journal: &mut Journal<MemDisk>) -> [Result<(), JournalFault>; 2] {
     journal.fuse(3);
-    assert_eq!(rt; journal.append(SECOND), Err(JournalFault::Disk));
-    assert_eq!(rt; journal.append(SECOND), Err(JournalFault::Stopped));
-    let (mut journal, found) = load(alloc, journal.close().crash(Tear::Old)?)?;
-    assert!(rt; has(&found, &[FIRST]));
-    journal.append(b"third")?;
+    [journal.append(SECOND), journal.append(SECOND)]
+}
+
+// Whether these are the payloads once one more is appended.
+fn holds_with(
+    alloc: Global,
+    journal: &mut Journal<MemDisk>,
+    more: &[u8],
+    payloads: &[&[u8]],
+) -> Result<bool, Fail> {
+    journal.append(more)?;
     let mut found = Vec::new(alloc);
     journal.reread(alloc, &mut found)?;
-    assert!(rt; has(&found, &[FIRST, b"third"]));
+    Ok(has(&found, payloads))
+}
+
+// Whether the first payload is found after a stop, and whether a third one then counts.
+fn goes_on(alloc: Global, disk: MemDisk) -> Result<[bool; 2], Fail>
+    requires { IsQuiet (history_of disk) }
+{
+    let (mut journal, found) = load(alloc, disk)?;
+    let first = has(&found, &[FIRST]);
+    let third = holds_with(alloc, &mut journal, b"third", &[FIRST, b"third"])?;
+    Ok([first, third])
+}
+
+// The answers of the appends before the stop, and what counts after it.
+fn after_a_stop(alloc: Global) -> Result<([Result<(), JournalFault>; 2], [bool; 2]), Fail> {
+    let mut journal = with_first(alloc)?;
+    let answers = stopped(&mut journal);
+    let disk = journal.close().crash(Tear::Old)?;
+    Ok((answers, goes_on(alloc, disk)?))
+}
+
+#[test]
+fn appends_after_a_stop(rt: HostRuntime) -> Result<(), Fail> {
+    let (answers, found) = after_a_stop(rt.alloc())?;
+    let wanted = [Err(JournalFault::Disk), Err(JournalFault::Stopped)];
+    assert_eq!(rt; (answers, found), (wanted, [true, true]));
     Ok(())
 }
 
@@ -137,40 +175,63 @@ fn stops_within_a_format(rt: HostRuntime) -> Result<(), Fail> {
 /// The journal of host alpha in the site of alpha alone, byte by byte: header, gate, length, the record of the site, gate.
 const ALPHA: [u8; 31] = *b"NQS-JOURNAL-v1\n\n\x01\0\0\0\x09\x01\0\x01\x05alpha\0";
 
-// The payloads of these bytes, and whether a further reading is refused once a call of the disk has failed.
-fn payloads_of(alloc: Global, bytes: &[u8]) -> Result<(Vec<Bytes>, bool), Fail> {
+fn disk_of(alloc: Global, bytes: &[u8]) -> Result<MemDisk, Fail> {
     let mut disk = MemDisk::new(alloc)?;
     disk.write_at(0, bytes)?;
+    Ok(disk)
+}
+
+// Whether these are the payloads that a disk has.
+fn reads(alloc: Global, disk: &mut MemDisk, payloads: &[&[u8]]) -> Result<bool, Fail> {
     let mut found = Vec::new(alloc);
-    read_payloads(alloc, &mut disk, &mut found)?;
+    read_payloads(alloc, disk, &mut found)?;
+    Ok(has(&found, payloads))
+}
+
+// Whether a reading is refused, and finds nothing, once a call of the disk has failed.
+fn refuses_when_failed(alloc: Global, disk: &mut MemDisk) -> bool {
     disk.fuse(1);
     let synced = disk.sync();
-    let mut more = Vec::new(alloc);
-    let refused = read_payloads(alloc, &mut disk, &mut more) == Err(JournalFault::Disk);
-    Ok((found, synced == Err(Failed) && refused && more.is_empty()))
+    let mut found = Vec::new(alloc);
+    let refused = read_payloads(alloc, disk, &mut found) == Err(JournalFault::Disk);
+    synced == Err(Failed) && refused && found.is_empty()
+}
+
+// Whether bytes have these payloads, and whether a further reading is refused once a call of the disk has failed.
+fn payloads_are(alloc: Global, bytes: &[u8], payloads: &[&[u8]]) -> Result<[bool; 2], Fail> {
+    let mut disk = disk_of(alloc, bytes)?;
+    let found = reads(alloc, &mut disk, payloads)?;
+    Ok([found, refuses_when_failed(alloc, &mut disk)])
 }
 
 #[test]
 fn reads_by_the_gate(rt: HostRuntime) -> Result<(), Fail> {
     let alloc = rt.alloc();
-    let (found, refused) = payloads_of(alloc, &ALPHA)?;
-    assert!(rt; has(&found, &[&ALPHA[21..30]]) && refused);
     let mut open = ALPHA;
     open[16] = 7;
-    let (found, _) = payloads_of(alloc, &open)?;
-    assert!(rt; found.is_empty());
+    let closed = payloads_are(alloc, &ALPHA, &[&ALPHA[21..30]])?;
+    let [none, _] = payloads_are(alloc, &open, &[])?;
+    assert_eq!(rt; (closed, none), ([true, true], true));
     Ok(())
+}
+
+// The answer to a payload that is too long, and whether one that is shorter by a byte counts.
+fn takes(
+    alloc: Global,
+    longer: &[u8],
+    longest: &[u8],
+) -> Result<(Result<(), JournalFault>, bool), Fail> {
+    let mut journal = with_first(alloc)?;
+    let answer = journal.append(longer);
+    let holds = holds_with(alloc, &mut journal, longest, &[FIRST, longest])?;
+    Ok((answer, holds))
 }
 
 #[test]
 fn takes_no_longer_payload(rt: HostRuntime) -> Result<(), Fail> {
     let alloc = rt.alloc();
-    let mut journal = with_first(alloc)?;
     let bytes = vec![in alloc; 0u8; 65_537]?;
-    assert_eq!(rt; journal.append(&bytes), Err(JournalFault::TooLong));
-    journal.append(&bytes[1..])?;
-    let mut found = Vec::new(alloc);
-    journal.reread(alloc, &mut found)?;
-    assert!(rt; has(&found, &[FIRST, &bytes[1..]]));
+    let taken = takes(alloc, &bytes, &bytes[1..])?;
+    assert_eq!(rt; taken, (Err(JournalFault::TooLong), true));
     Ok(())
 }

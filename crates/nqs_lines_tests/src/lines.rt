@@ -14,6 +14,14 @@ fn word(alloc: Global, text: &[u8]) -> Result<Bytes, Memory> {
     Ok(Bytes::from_vec(Vec::from_slice(alloc, text)?))
 }
 
+fn words(alloc: Global, texts: &[&[u8]]) -> Result<Vec<Bytes>, Memory> {
+    let mut words = Vec::new(alloc);
+    for text in texts {
+        words.push(word(alloc, text)?)?;
+    }
+    Ok(words)
+}
+
 fn is_submission(command: &Command) -> bool {
     match command {
         Command::Submit(sub) => sub.job.name == name(),
@@ -29,15 +37,38 @@ fn is_unread(command: &Command) -> bool {
     }
 }
 
+fn submits(command: Result<Command, Memory>) -> Option<bool> {
+    command.as_ref().ok().map(is_submission)
+}
+
+fn unread(command: Result<Command, Memory>) -> Option<bool> {
+    command.as_ref().ok().map(is_unread)
+}
+
+// Whether the two submissions are read, and which of the other commands are not.
+type Answers = ([Option<bool>; 2], [Option<bool>; 4]);
+
+fn answers(alloc: Global, words: &[Bytes]) -> Answers {
+    let submitted = [
+        submits(qsub_command(alloc, &name(), words, b"date")),
+        submits(submit_command(alloc, &name(), &name())),
+    ];
+    let others = [
+        unread(qmgr_command(b"shutdown")),
+        unread(qstat_command(alloc, &[])),
+        unread(qmgr_command(b"frob")),
+        unread(qdel_command(words)),
+    ];
+    (submitted, others)
+}
+
+fn answered(alloc: Global) -> Result<Answers, Memory> {
+    let words = words(alloc, &[b"-r", b"ann"])?;
+    Ok(answers(alloc, words.as_slice()))
+}
+
 #[test]
-fn asks_for_what_is_said(rt: HostRuntime) -> Result<(), Memory> {
-    let alloc = rt.alloc();
-    let words = [word(alloc, b"-r")?, word(alloc, b"ann")?];
-    assert!(rt; is_submission(&qsub_command(alloc, &name(), words.as_slice(), b"date")?));
-    assert!(rt; is_submission(&submit_command(alloc, &name(), &name())?));
-    assert!(rt; !is_unread(&qmgr_command(b"shutdown")?));
-    assert!(rt; !is_unread(&qstat_command(alloc, &[])?));
-    assert!(rt; is_unread(&qmgr_command(b"frob")?));
-    assert!(rt; is_unread(&qdel_command(words.as_slice())?));
-    Ok(())
+fn asks_for_what_is_said(rt: HostRuntime) {
+    let others = [Some(false), Some(false), Some(true), Some(true)];
+    assert_eq!(rt; answered(rt.alloc()), Ok(([Some(true); 2], others)));
 }

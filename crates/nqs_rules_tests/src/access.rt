@@ -1,40 +1,53 @@
 //! The way into a queue, by hand.
 
 use nqs_access::may_use;
-use nqs_types::{Access, Entry, Kind, Limits, ListOf, Name, QueueDef, Refusal};
+use nqs_builders::queue;
+use nqs_types::{Access, Entry, ListOf, Memory, Name, QueueDef, Refusal};
 use std::alloc::Global;
 use std::test::Fail;
 
-fn queue(alloc: Global, name: Name, access: Access) -> QueueDef {
-    QueueDef {
-        name,
-        kind: Kind::Batch,
-        enabled: true,
-        started: false,
-        pipe_only: false,
-        priority: 31,
-        run_limit: 1,
-        user_limit: None,
-        limits: Limits {
-            cpu: None,
-            memory: None,
-        },
-        access,
-        dests: ListOf::new(alloc),
-        devices: ListOf::new(alloc),
+// Whether the queue is enabled and whether only pipe queues lead to it, a user with the way that is taken, and the answer.
+type Case = (bool, bool, Name, Entry, Result<(), Refusal>);
+
+fn answer(def: &mut QueueDef, case: &Case) -> Result<(), Refusal> {
+    let (enabled, pipe_only, user, entry, _) = *case;
+    def.enabled = enabled;
+    def.pipe_only = pipe_only;
+    may_use(def, &user, entry)
+}
+
+// The first case that is answered otherwise: its place, and the answer.
+fn wrong_way(def: &mut QueueDef, cases: &[Case]) -> Option<(usize, Result<(), Refusal>)> {
+    for (place, case) in cases.iter().enumerate() {
+        let answer = answer(def, case);
+        if answer != case.4 {
+            return Some((place, answer));
+        }
     }
+    None
+}
+
+// The same, of a queue for one user.
+fn wrong_way_into(
+    alloc: Global,
+    name: Name,
+    user: Name,
+    cases: &[Case],
+) -> Result<Option<(usize, Result<(), Refusal>)>, Memory> {
+    let users = ListOf::of(alloc, user)?;
+    let mut def = queue(alloc, name);
+    def.access = Access::Users(users);
+    Ok(wrong_way(&mut def, cases))
 }
 
 #[test]
 fn ways_into_a_queue(rt: HostRuntime) -> Result<(), Fail> {
-    let alloc = rt.alloc();
     let (short, carl, root) = (
         Name::read(b"short")?,
         Name::read(b"carl")?,
         Name::read(b"root")?,
     );
-    let mut def = queue(alloc, short, Access::Users(ListOf::of(alloc, carl)?));
-    for (enabled, pipe_only, user, entry, answer) in [
+    let cases = [
         (true, false, carl, Entry::Direct, Ok(())),
         (true, true, carl, Entry::FromPipe, Ok(())),
         (
@@ -58,10 +71,8 @@ fn ways_into_a_queue(rt: HostRuntime) -> Result<(), Fail> {
             Entry::Direct,
             Err(Refusal::Disabled(short)),
         ),
-    ] {
-        def.enabled = enabled;
-        def.pipe_only = pipe_only;
-        assert_eq!(rt; may_use(&def, &user, entry), answer);
-    }
+    ];
+    let wrong = wrong_way_into(rt.alloc(), short, carl, &cases)?;
+    assert_eq!(rt; wrong, None);
     Ok(())
 }

@@ -1,143 +1,44 @@
 //! The refusals of edits of queues in their order, by hand.
 
+use nqs_builders::{add, host, queue, row};
 use nqs_conf::check_conf;
 use nqs_types::{
-    Access, ConfEdit, Dest, DestList, Extent, Hold, HostId, HostState, Job, Kind, Limits, ListOf,
-    Memory, Name, NameList, NamedDest, QueueDef, Refusal, RequestId, Row, RowState, Spare, Table,
+    ConfEdit, Dest, HostId, HostState, Kind, ListOf, Memory, Name, NamedDest, QueueDef, Refusal,
 };
 use std::alloc::Global;
 use std::test::Fail;
 
-fn queue(alloc: Global, name: Name, kind: Kind, dests: DestList) -> QueueDef {
-    QueueDef {
-        name,
-        kind,
-        enabled: true,
-        started: true,
-        pipe_only: false,
-        priority: 31,
-        run_limit: 1,
-        user_limit: None,
-        limits: Limits {
-            cpu: None,
-            memory: None,
-        },
-        access: Access::All,
-        dests,
-        devices: ListOf::new(alloc),
-    }
-}
-
-fn job(alloc: Global, name: Name) -> Job {
-    Job {
-        name,
-        owner: name,
-        priority: 31,
-        earliest: 0,
-        rerun: true,
-        limits: Limits {
-            cpu: None,
-            memory: None,
-        },
-        forms: None,
-        out: ListOf::new(alloc),
-        err: ListOf::new(alloc),
-        join: false,
-    }
-}
-
-// A request in this queue.
-fn row(alloc: Global, queue: Name) -> Row {
-    Row {
-        id: RequestId {
-            seq: 1,
+fn lead(alloc: Global, road: &mut QueueDef, to: Name) -> Result<(), Memory> {
+    road.kind = Kind::Pipe;
+    road.dests = ListOf::of(
+        alloc,
+        Dest {
+            queue: to,
             host: HostId(0),
         },
-        job: job(alloc, queue),
-        queue,
-        state: RowState::Queued,
-        hold: Hold::No,
-        arrival: 1,
-        doomed: false,
-        starts: 0,
-        lost: 0,
-        hops: 0,
-        device: None,
-        refused: ListOf::new(alloc),
-        script: Extent {
-            place: 0,
-            length: 0,
-        },
-    }
-}
-
-fn host(
-    alloc: Global,
-    site: NameList,
-    queues: Table<Name, QueueDef>,
-    rows: Table<RequestId, Row>,
-) -> HostState {
-    HostState {
-        me: HostId(0),
-        site,
-        queues,
-        complexes: Table::new(alloc),
-        devices: Table::new(alloc),
-        rows,
-        hands: Table::new(alloc),
-        promises: Table::new(alloc),
-        peers: ListOf::new(alloc),
-        stages: Table::new(alloc),
-        files: Table::new(alloc),
-        managers: ListOf::new(alloc),
-        operators: ListOf::new(alloc),
-        default_queue: None,
-        global_limit: 64,
-        patience: 60,
-        retry_wait: 300,
-        seq: 0,
-        arrivals: 0,
-        file_next: 1,
-        spare_names: Spare::new(alloc),
-        spare_dests: Spare::new(alloc),
-        spare_refused: Spare::new(alloc),
-    }
-}
-
-fn add_queue(queues: &mut Table<Name, QueueDef>, queue: QueueDef) -> Result<(), Memory> {
-    queues.reserve(1)?;
-    if !queues.has(&queue.name) {
-        queues.push(queue);
-    }
+    )?;
     Ok(())
 }
 
-fn add_row(rows: &mut Table<RequestId, Row>, row: Row) -> Result<(), Memory> {
-    rows.reserve(1)?;
-    if !rows.has(&row.id) {
-        rows.push(row);
-    }
-    Ok(())
+// A pipe queue that leads to a queue of the first host.
+fn pipe(alloc: Global, name: Name, to: Name) -> Result<QueueDef, Memory> {
+    let mut road = queue(alloc, name);
+    lead(alloc, &mut road, to)?;
+    Ok(road)
 }
 
 // On the first of these two hosts a queue with a request, and a pipe queue that leads to it.
-fn two_queues(alloc: Global, site: [Name; 2], used: Name, road: Name) -> Result<HostState, Memory> {
-    let (mut queues, mut rows) = (Table::new(alloc), Table::new(alloc));
-    add_queue(
-        &mut queues,
-        queue(alloc, used, Kind::Batch, ListOf::new(alloc)),
-    )?;
-    let dests = ListOf::of(
-        alloc,
-        Dest {
-            queue: used,
-            host: HostId(0),
-        },
-    )?;
-    add_queue(&mut queues, queue(alloc, road, Kind::Pipe, dests))?;
-    add_row(&mut rows, row(alloc, used))?;
-    let site = ListOf::from_vec(site.to_vec(alloc)?);
-    Ok(host(alloc, site, queues, rows))
+fn fill(
+    alloc: Global,
+    state: &mut HostState,
+    site: [Name; 2],
+    queues: [Name; 2],
+) -> Result<(), Memory> {
+    let [used, road] = queues;
+    state.site = ListOf::from_vec(site.to_vec(alloc)?);
+    add(&mut state.queues, queue(alloc, used))?;
+    add(&mut state.queues, pipe(alloc, road, used)?)?;
+    add(&mut state.rows, row(alloc, 1, used, used))
 }
 
 fn create(queue: Name, host: Name) -> ConfEdit {
@@ -150,7 +51,7 @@ fn create(queue: Name, host: Name) -> ConfEdit {
     }
 }
 
-fn add(to: Name, host: Name, queue: Name) -> ConfEdit {
+fn add_to(to: Name, host: Name, queue: Name) -> ConfEdit {
     let destination = NamedDest { queue: to, host };
     ConfEdit::AddDestination { destination, queue }
 }
@@ -158,6 +59,49 @@ fn add(to: Name, host: Name, queue: Name) -> ConfEdit {
 fn remove(to: Name, host: Name, queue: Name) -> ConfEdit {
     let destination = NamedDest { queue: to, host };
     ConfEdit::RemoveDestination { destination, queue }
+}
+
+fn delete(queue: Name) -> ConfEdit {
+    ConfEdit::DeleteQueue { queue }
+}
+
+// An edit and its answer.
+type Case = (ConfEdit, Result<(), Refusal>);
+
+// The answer of a host that is no larger than the call wants it.
+fn answer(state: &HostState, edit: &ConfEdit) -> Option<Result<(), Refusal>> {
+    if state.site.len() > 16 {
+        return None;
+    }
+    if state.rows.len() > 5_000 {
+        return None;
+    }
+    if state.promises.len() > 5_000 {
+        return None;
+    }
+    Some(check_conf(state, edit))
+}
+
+// The first case that is answered otherwise.
+fn wrong_edit(state: &HostState, cases: &[Case]) -> Option<usize> {
+    for (place, (edit, wanted)) in cases.iter().enumerate() {
+        if answer(state, edit) != Some(*wanted) {
+            return Some(place);
+        }
+    }
+    None
+}
+
+// The same, of the host with these two queues.
+fn wrong_at(
+    alloc: Global,
+    state: &mut HostState,
+    site: [Name; 2],
+    queues: [Name; 2],
+    cases: &[Case],
+) -> Result<Option<usize>, Memory> {
+    fill(alloc, state, site, queues)?;
+    Ok(wrong_edit(state, cases))
 }
 
 #[test]
@@ -168,29 +112,25 @@ fn refused_edits(rt: HostRuntime) -> Result<(), Fail> {
         Name::read(b"long")?,
     );
     let (h1, h2, h9) = (Name::read(b"h1")?, Name::read(b"h2")?, Name::read(b"h9")?);
-    let state = two_queues(rt.alloc(), [h1, h2], used, road)?;
-    assert!(rt; state.site.len() <= 16);
-    assert!(rt; state.rows.len() <= 5_000);
-    assert!(rt; state.promises.len() <= 5_000);
-    for (edit, answer) in [
+    let cases = [
         (create(long, h1), Ok(())),
         (create(used, h9), Err(Refusal::NoHost(h9))),
         (create(used, h1), Err(Refusal::QueueExists(used))),
-        (
-            ConfEdit::DeleteQueue { queue: used },
-            Err(Refusal::QueueInUse(used, 1)),
-        ),
-        (ConfEdit::DeleteQueue { queue: road }, Ok(())),
-        (add(used, h9, long), Err(Refusal::NoQueue(long))),
-        (add(used, h9, used), Err(Refusal::NoHost(h9))),
-        (add(used, h2, used), Err(Refusal::WrongKind)),
-        (add(used, h1, road), Err(Refusal::DestExists)),
-        (add(used, h2, road), Ok(())),
+        (delete(used), Err(Refusal::QueueInUse(used, 1))),
+        (delete(road), Ok(())),
+        (add_to(used, h9, long), Err(Refusal::NoQueue(long))),
+        (add_to(used, h9, used), Err(Refusal::NoHost(h9))),
+        (add_to(used, h2, used), Err(Refusal::WrongKind)),
+        (add_to(used, h1, road), Err(Refusal::DestExists)),
+        (add_to(used, h2, road), Ok(())),
         (remove(used, h9, used), Err(Refusal::WrongKind)),
         (remove(used, h2, road), Err(Refusal::NoDest)),
         (remove(used, h1, road), Ok(())),
-    ] {
-        assert_eq!(rt; check_conf(&state, &edit), answer);
-    }
+    ];
+    let alloc = rt.alloc();
+    let mut state = host(alloc);
+    let wrong = wrong_at(alloc, &mut state, [h1, h2], [used, road], &cases);
+    drop(state);
+    assert_eq!(rt; wrong, Ok(None));
     Ok(())
 }

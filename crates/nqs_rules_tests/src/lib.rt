@@ -1,5 +1,5 @@
-//! Tests of the crates of the types and of the rules in code: each module has those of one crate. They stand apart from the crates, so that
-//! a crate isn't proved once more for its tests.
+//! Tests of the crates of the types and of the rules in code that say what is refused and what comes next: each module has those of one
+//! crate. They stand apart from the crates, so that a crate isn't proved once more for its tests.
 #![tactic(auto)]
 
 #[cfg(test)]
@@ -7,22 +7,10 @@ mod access;
 #[cfg(test)]
 mod conf;
 #[cfg(test)]
-mod host;
-#[cfg(test)]
 mod limits;
-#[cfg(test)]
-mod lists;
 #[cfg(test)]
 mod order;
 #[cfg(test)]
-mod plans;
-#[cfg(test)]
 mod rows;
-#[cfg(test)]
-mod stage;
-#[cfg(test)]
-mod step;
-#[cfg(test)]
-mod table;
 #[cfg(test)]
 mod types;

@@ -1,17 +1,10 @@
 //! Which request starts next: by priority and arrival, and beside one that is held and one that is on its way.
 
+use nqs_builders::{add, host, queue, row};
 use nqs_order::{first_eligible, pick, within_limits};
-use nqs_types::{
-    Access, Choice, Extent, Hold, HostId, HostState, Job, Kind, Limits, ListOf, Memory, Name,
-    QueueDef, RequestId, Row, RowState, Spare, Table,
-};
+use nqs_types::{Choice, Hold, HostState, Memory, Name, QueueDef, RequestId, Row, RowState, Table};
 use std::alloc::Global;
-use std::test::Fail;
-
-const NONE: Limits = Limits {
-    cpu: None,
-    memory: None,
-};
+use std::rt::HostRuntime;
 
 fn low() -> Name {
     match Name::read(b"low") {
@@ -27,143 +20,87 @@ fn jobs() -> Name {
     }
 }
 
-// A batch queue that is started, with a run limit of 1.
-fn queue(alloc: Global, name: Name, priority: u8) -> QueueDef {
-    QueueDef {
-        name,
-        kind: Kind::Batch,
-        enabled: true,
-        started: true,
-        pipe_only: false,
-        priority,
-        run_limit: 1,
-        user_limit: None,
-        limits: NONE,
-        access: Access::All,
-        dests: ListOf::new(alloc),
-        devices: ListOf::new(alloc),
-    }
+fn ranked_queue(alloc: Global, name: Name, priority: u8) -> QueueDef {
+    let mut def = queue(alloc, name);
+    def.priority = priority;
+    def
 }
 
-fn job(alloc: Global, priority: u8) -> Job {
-    Job {
-        name: low(),
-        owner: low(),
-        priority,
-        earliest: 100,
-        rerun: true,
-        limits: NONE,
-        forms: None,
-        out: ListOf::new(alloc),
-        err: ListOf::new(alloc),
-        join: false,
-    }
+// A request whose number is its arrival, for the second 100.
+fn ranked(alloc: Global, queue: Name, priority: u8, arrival: u32) -> Row {
+    let mut row = row(alloc, arrival, queue, low());
+    row.job.priority = priority;
+    row.job.earliest = 100;
+    row.arrival = u64::from(arrival);
+    row
 }
 
-// A queued request, whose number is its arrival.
-fn row(alloc: Global, queue: Name, priority: u8, arrival: u32) -> Row {
-    Row {
-        id: RequestId {
-            seq: arrival,
-            host: HostId(0),
-        },
-        job: job(alloc, priority),
-        queue,
-        state: RowState::Queued,
-        hold: Hold::No,
-        arrival: u64::from(arrival),
-        doomed: false,
-        starts: 0,
-        lost: 0,
-        hops: 0,
-        device: None,
-        refused: ListOf::new(alloc),
-        script: Extent {
-            place: 0,
-            length: 0,
-        },
-    }
+fn held(mut row: Row) -> Row {
+    row.hold = Hold::User;
+    row
 }
 
-fn add_queue(queues: &mut Table<Name, QueueDef>, queue: QueueDef) -> Result<(), Memory> {
-    queues.reserve(1)?;
-    if !queues.has(&queue.name) {
-        queues.push(queue);
-    }
-    Ok(())
+fn routing(mut row: Row) -> Row {
+    row.state = RowState::Routing;
+    row
 }
 
-fn add_row(rows: &mut Table<RequestId, Row>, row: Row) -> Result<(), Memory> {
-    rows.reserve(1)?;
-    if !rows.has(&row.id) {
-        rows.push(row);
-    }
-    Ok(())
+// The queue `low`, and the queue `jobs` of greater priority.
+fn fill_queues(alloc: Global, queues: &mut Table<Name, QueueDef>) -> Result<(), Memory> {
+    add(queues, ranked_queue(alloc, low(), 10))?;
+    add(queues, ranked_queue(alloc, jobs(), 20))
 }
 
-// A host with the queue `low`, the queue `jobs` of greater priority, and these requests.
-fn host(alloc: Global, rows: Table<RequestId, Row>) -> Result<HostState, Memory> {
-    let mut queues = Table::new(alloc);
-    add_queue(&mut queues, queue(alloc, low(), 10))?;
-    add_queue(&mut queues, queue(alloc, jobs(), 20))?;
-    Ok(HostState {
-        me: HostId(0),
-        site: ListOf::new(alloc),
-        queues,
-        complexes: Table::new(alloc),
-        devices: Table::new(alloc),
-        rows,
-        hands: Table::new(alloc),
-        promises: Table::new(alloc),
-        peers: ListOf::new(alloc),
-        stages: Table::new(alloc),
-        files: Table::new(alloc),
-        managers: ListOf::new(alloc),
-        operators: ListOf::new(alloc),
-        default_queue: None,
-        global_limit: 64,
-        patience: 60,
-        retry_wait: 300,
-        seq: 0,
-        arrivals: 0,
-        file_next: 1,
-        spare_names: Spare::new(alloc),
-        spare_dests: Spare::new(alloc),
-        spare_refused: Spare::new(alloc),
-    })
+fn four_ranked(alloc: Global, rows: &mut Table<RequestId, Row>) -> Result<(), Memory> {
+    add(rows, ranked(alloc, low(), 63, 1))?;
+    add(rows, ranked(alloc, jobs(), 5, 2))?;
+    add(rows, ranked(alloc, jobs(), 7, 4))?;
+    add(rows, ranked(alloc, jobs(), 7, 3))
+}
+
+// The first is held, and the second is on its way.
+fn two_stuck(alloc: Global, rows: &mut Table<RequestId, Row>) -> Result<(), Memory> {
+    add(rows, held(ranked(alloc, low(), 63, 1)))?;
+    add(rows, routing(ranked(alloc, jobs(), 63, 2)))?;
+    add(rows, ranked(alloc, jobs(), 63, 3))?;
+    add(rows, ranked(alloc, low(), 1, 4))
+}
+
+// The choices of a second before any request may start and of that second, and the first of each of two queues.
+type Answers = ([Option<Choice>; 2], [Option<usize>; 2]);
+
+fn of_four(alloc: Global, state: &mut HostState) -> Result<Answers, Memory> {
+    fill_queues(alloc, &mut state.queues)?;
+    four_ranked(alloc, &mut state.rows)?;
+    Ok((
+        [pick(state, 99), pick(state, 100)],
+        [first_eligible(state, 0, 100), first_eligible(state, 2, 100)],
+    ))
 }
 
 #[test]
-fn by_priority_and_arrival(rt: HostRuntime) -> Result<(), Fail> {
+fn by_priority_and_arrival(rt: HostRuntime) {
     let alloc = rt.alloc();
-    let mut rows = Table::new(alloc);
-    add_row(&mut rows, row(alloc, low(), 63, 1))?;
-    add_row(&mut rows, row(alloc, jobs(), 5, 2))?;
-    add_row(&mut rows, row(alloc, jobs(), 7, 4))?;
-    add_row(&mut rows, row(alloc, jobs(), 7, 3))?;
-    let state = host(alloc, rows)?;
-    assert_eq!(rt; pick(&state, 99), None);
-    assert_eq!(rt; pick(&state, 100), Some(Choice::Launch(3)));
-    assert_eq!(rt; first_eligible(&state, 0, 100), Some(0));
-    assert_eq!(rt; first_eligible(&state, 2, 100), None);
-    Ok(())
+    let mut state = host(alloc);
+    let answers = of_four(alloc, &mut state);
+    drop(state);
+    let wanted = ([None, Some(Choice::Launch(3))], [Some(0), None]);
+    assert_eq!(rt; answers, Ok(wanted));
+}
+
+// Whether each queue is within its limits, and the choice.
+fn of_stuck(alloc: Global, state: &mut HostState) -> Result<([bool; 2], Option<Choice>), Memory> {
+    fill_queues(alloc, &mut state.queues)?;
+    two_stuck(alloc, &mut state.rows)?;
+    let within = [within_limits(state, 0), within_limits(state, 1)];
+    Ok((within, pick(state, 100)))
 }
 
 #[test]
-fn beside_a_held_and_a_routing_row(rt: HostRuntime) -> Result<(), Fail> {
+fn beside_a_held_and_a_routing_row(rt: HostRuntime) {
     let alloc = rt.alloc();
-    let mut held = row(alloc, low(), 63, 1);
-    held.hold = Hold::User;
-    let mut routing = row(alloc, jobs(), 63, 2);
-    routing.state = RowState::Routing;
-    let mut rows = Table::new(alloc);
-    add_row(&mut rows, held)?;
-    add_row(&mut rows, routing)?;
-    add_row(&mut rows, row(alloc, jobs(), 63, 3))?;
-    add_row(&mut rows, row(alloc, low(), 1, 4))?;
-    let state = host(alloc, rows)?;
-    assert!(rt; within_limits(&state, 0));
-    assert!(rt; !within_limits(&state, 1));
-    assert_eq!(rt; pick(&state, 100), Some(Choice::Launch(3)));
-    Ok(())
+    let mut state = host(alloc);
+    let answers = of_stuck(alloc, &mut state);
+    drop(state);
+    assert_eq!(rt; answers, Ok(([true, false], Some(Choice::Launch(3)))));
 }

@@ -1,8 +1,8 @@
 //! The containers and the room of a host's state, each call once.
 
+use nqs_builders::{NOTHING, add, host, job};
 use nqs_types::{
-    Change, DeviceDef, HostId, HostState, Items, Job, Limits, ListOf, Memory, Name, NameFault,
-    Spare, Table,
+    Change, DeviceDef, HostState, Items, ListOf, Memory, Name, NameFault, Spare, Table,
 };
 use std::alloc::Global;
 use std::test::Fail;
@@ -45,120 +45,118 @@ fn names(rt: HostRuntime) {
     }
 }
 
-// A table of three devices.
-fn three_devices(alloc: Global) -> Result<Table<Name, DeviceDef>, Fail> {
-    let mut table: Table<Name, DeviceDef> = Table::new(alloc);
+fn fill(devices: &mut Table<Name, DeviceDef>) -> Result<(), Fail> {
     for bytes in [b"d1".as_slice(), b"d2", b"d3"] {
-        let def = device(bytes, false)?;
-        table.reserve(1)?;
-        if !table.has(&def.name) {
-            table.push(def);
-        }
+        add(devices, device(bytes, false)?)?;
     }
-    Ok(table)
+    Ok(())
+}
+
+// The names of three devices, of which the first is removed.
+fn without_first(alloc: Global, devices: &mut Table<Name, DeviceDef>) -> Result<Vec<u8>, Fail> {
+    fill(devices)?;
+    devices.remove_key(&name(b"d1")?);
+    Ok(names_of(alloc, devices)?)
+}
+
+fn kept_names(alloc: Global) -> Result<Vec<u8>, Fail> {
+    let mut devices = Table::new(alloc);
+    without_first(alloc, &mut devices)
 }
 
 #[test]
 fn removal_keeps_the_order(rt: HostRuntime) -> Result<(), Fail> {
     let alloc = rt.alloc();
-    let mut table = three_devices(alloc)?;
-    table.remove_key(&name(b"d1")?);
-    assert_eq!(rt; names_of(alloc, &table)?.as_slice(), b"d2 d3 ".as_slice());
+    let kept = kept_names(alloc)?;
+    assert_eq!(rt; kept.as_slice(), b"d2 d3 ".as_slice());
     Ok(())
 }
 
-#[test]
-fn lists(rt: HostRuntime) -> Result<(), Fail> {
-    let alloc = rt.alloc();
-    let mut spare: Spare<u8> = Spare::new(alloc);
+// Puts 3 behind two items, in memory that was kept.
+fn grow(spare: &mut Spare<u8>, list: &mut ListOf<u8>) -> Result<(), Memory> {
     spare.reserve(2)?;
-    let mut list = ListOf::from_vec([1, 2].to_vec(alloc)?);
     if list.len() == 2 {
-        list = spare.grown(list.as_slice(), 3);
+        *list = spare.grown(list.as_slice(), 3);
     }
-    assert_eq!(rt; list.as_slice(), [1, 2, 3].as_slice());
+    Ok(())
+}
+
+// Takes each 2 out, and puts 9 in the second place.
+fn thin(list: &mut ListOf<u8>) {
     list.keep(|item| *item != 2);
     if list.len() > 1 {
         list.replace(1, 9);
     }
-    assert_eq!(rt; list.clone()?.as_slice(), [1, 9].as_slice());
-    Ok(())
+}
+
+fn is_copied(list: &ListOf<u8>, wanted: &[u8]) -> Result<bool, Memory> {
+    let copy = list.clone()?;
+    Ok(copy.as_slice() == wanted)
+}
+
+// Whether a list is as it should be once it is grown, and a copy of it once it is thinned.
+fn changed(spare: &mut Spare<u8>, list: &mut ListOf<u8>) -> Result<[bool; 2], Memory> {
+    grow(spare, list)?;
+    let grown = list.as_slice() == [1, 2, 3].as_slice();
+    thin(list);
+    Ok([grown, is_copied(list, [1, 9].as_slice())?])
+}
+
+fn changed_list(alloc: Global) -> Result<[bool; 2], Memory> {
+    let mut list = ListOf::from_vec([1, 2].to_vec(alloc)?);
+    let mut spare = Spare::new(alloc);
+    changed(&mut spare, &mut list)
 }
 
 #[test]
-fn lists_of_lists(rt: HostRuntime) -> Result<(), Fail> {
-    let alloc = rt.alloc();
-    let mut items = Items::of(alloc, ListOf::of(alloc, 5)?)?;
-    items.push(ListOf::new(alloc))?;
-    assert_eq!(rt; items.clone()?.len(), 2);
-    assert_eq!(rt; items.take_first().map(|first| first.len()), Some(1));
-    Ok(())
+fn lists(rt: HostRuntime) {
+    let changed = changed_list(rt.alloc());
+    assert_eq!(rt; changed, Ok([true, true]));
 }
 
-fn empty_state(alloc: Global) -> HostState {
-    HostState {
-        me: HostId(0),
-        site: ListOf::new(alloc),
-        queues: Table::new(alloc),
-        complexes: Table::new(alloc),
-        devices: Table::new(alloc),
-        rows: Table::new(alloc),
-        hands: Table::new(alloc),
-        promises: Table::new(alloc),
-        peers: ListOf::new(alloc),
-        stages: Table::new(alloc),
-        files: Table::new(alloc),
-        managers: ListOf::new(alloc),
-        operators: ListOf::new(alloc),
-        default_queue: None,
-        global_limit: 64,
-        patience: 60,
-        retry_wait: 300,
-        seq: 0,
-        arrivals: 0,
-        file_next: 1,
-        spare_names: Spare::new(alloc),
-        spare_dests: Spare::new(alloc),
-        spare_refused: Spare::new(alloc),
+// How many lists a copy has, and how long the first is.
+fn counted(alloc: Global, items: &mut Items<ListOf<u8>>) -> Result<(usize, Option<usize>), Memory> {
+    items.push(ListOf::new(alloc))?;
+    let copies = items.clone()?.len();
+    Ok((copies, items.take_first().map(|first| first.len())))
+}
+
+fn list_of_lists(alloc: Global) -> Result<(usize, Option<usize>), Memory> {
+    let mut items = Items::of(alloc, ListOf::of(alloc, 5)?)?;
+    counted(alloc, &mut items)
+}
+
+#[test]
+fn lists_of_lists(rt: HostRuntime) {
+    let counts = list_of_lists(rt.alloc());
+    assert_eq!(rt; counts, Ok((2, Some(1))));
+}
+
+fn submission(alloc: Global, queue: Name, owner: Name) -> Change {
+    Change::Submitted {
+        queue,
+        job: job(alloc, owner),
+        script: NOTHING,
     }
 }
 
-fn job(alloc: Global) -> Result<Job, NameFault> {
-    Ok(Job {
-        name: name(b"STDIN")?,
-        owner: name(b"ann")?,
-        priority: 31,
-        earliest: 0,
-        rerun: true,
-        limits: Limits {
-            cpu: None,
-            memory: None,
-        },
-        forms: None,
-        out: ListOf::new(alloc),
-        err: ListOf::new(alloc),
-        join: false,
-    })
+// Whether there is room for a change, and how many requests the host has then.
+fn room(state: &mut HostState, change: &Change) -> (Result<(), Memory>, usize) {
+    (state.make_room(change), state.rows.len())
 }
 
-fn submission(alloc: Global) -> Result<Change, NameFault> {
-    Ok(Change::Submitted {
-        queue: name(b"batch")?,
-        job: job(alloc)?,
-        script: nqs_types::Extent {
-            place: 0,
-            length: 0,
-        },
-    })
+fn room_for(alloc: Global, change: Change) -> (Result<(), Memory>, usize) {
+    let mut state = host(alloc);
+    let made = room(&mut state, &change);
+    drop(state);
+    made
 }
 
 #[test]
 fn room_is_made(rt: HostRuntime) -> Result<(), Fail> {
     let alloc = rt.alloc();
-    let change = submission(alloc)?;
-    let mut state = empty_state(alloc);
-    let made = state.make_room(&change);
-    assert_eq!(rt; made, Ok(()));
-    assert_eq!(rt; state.rows.len(), 0);
+    let (batch, ann) = (name(b"batch")?, name(b"ann")?);
+    let made = room_for(alloc, submission(alloc, batch, ann));
+    assert_eq!(rt; made, (Ok(()), 0));
     Ok(())
 }

@@ -6,8 +6,8 @@ use Rattle.nqs_types.specs.State.{State}
 use Rattle.nqs_types.specs.declared.extent.Extent.{Extent}
 use Rattle.nqs_rules.specs.Format.{new_peer}
 use Rattle.nqs_rules.specs.InOrder.{IsInOrder}
-use Rattle.nqs_rules_tests.specs.PlotHost.{plot_host, plot_queue, plot_row, plot_job}
-use Rattle.nqs_rules_tests.proofs.step.launch_there.Goals as goal
+use Rattle.nqs_plans_tests.specs.PlotHost.{plot_host, plot_queue, plot_row, plot_job}
+use Rattle.nqs_plans_tests.proofs.step.launch_there.Goals as goal
 
 order : IsInOrder (plot_host 12 (plot_row (plot_job (codes "o") (codes "e")) Queued 2 ∷ []))
 unfolding digits has_parent

@@ -1,18 +1,12 @@
 //! The lines as people see them, of a host with one of each thing.
-ghost use Rattle.std.specs.Prelude.{◌≡◌, ◌∷◌, [], IfOk};
 
+use nqs_builders::{add, host, queue, row};
 use nqs_lists::{show_lines, stat_lines};
 use nqs_types::{
-    Access, Bytes, ComplexDef, DeviceDef, Extent, Hold, HostId, HostState, Items, Job, Key, Keyed,
-    Kind, Limits, ListOf, Memory, Name, QueueDef, RequestId, Row, RowState, Spare, Table,
+    Bytes, ComplexDef, DeviceDef, Hold, HostState, Items, ListOf, Memory, Name, QueueDef, Row,
 };
 use std::alloc::Global;
 use std::rt::HostRuntime;
-
-const NO_LIMITS: Limits = Limits {
-    cpu: None,
-    memory: None,
-};
 
 fn batch() -> Name {
     match Name::read(b"batch") {
@@ -28,98 +22,19 @@ fn ann() -> Name {
     }
 }
 
-fn job(alloc: Global) -> Job {
-    Job {
-        name: batch(),
-        owner: ann(),
-        priority: 40,
-        earliest: 0,
-        rerun: true,
-        limits: NO_LIMITS,
-        forms: None,
-        out: ListOf::new(alloc),
-        err: ListOf::new(alloc),
-        join: false,
-    }
+fn held_row(alloc: Global) -> Row {
+    let mut row = row(alloc, 12, batch(), ann());
+    row.job.name = batch();
+    row.job.priority = 40;
+    row.hold = Hold::User;
+    row
 }
 
-fn row(alloc: Global) -> Row {
-    Row {
-        id: RequestId {
-            seq: 12,
-            host: HostId(0),
-        },
-        job: job(alloc),
-        queue: batch(),
-        state: RowState::Queued,
-        hold: Hold::User,
-        arrival: 1,
-        doomed: false,
-        starts: 0,
-        lost: 0,
-        hops: 0,
-        device: None,
-        refused: ListOf::new(alloc),
-        script: Extent {
-            place: 0,
-            length: 3,
-        },
-    }
-}
-
-fn queue(alloc: Global) -> QueueDef {
-    QueueDef {
-        name: batch(),
-        kind: Kind::Batch,
-        enabled: true,
-        started: false,
-        pipe_only: false,
-        priority: 31,
-        run_limit: 2,
-        user_limit: None,
-        limits: NO_LIMITS,
-        access: Access::All,
-        dests: ListOf::new(alloc),
-        devices: ListOf::new(alloc),
-    }
-}
-
-// The table of one value.
-fn only<K: Key, V: Keyed<K> + Drop>(alloc: Global, value: V) -> Result<Table<K, V>, Memory>
-    ensures { IfOk result (λ table. table.items ≡ value ∷ []) }
-{
-    let mut table = Table::new(alloc);
-    table.reserve(1)?;
-    table.push(value);
-    Ok(table)
-}
-
-fn empty_host(alloc: Global) -> HostState {
-    HostState {
-        me: HostId(0),
-        site: ListOf::new(alloc),
-        queues: Table::new(alloc),
-        complexes: Table::new(alloc),
-        devices: Table::new(alloc),
-        rows: Table::new(alloc),
-        hands: Table::new(alloc),
-        promises: Table::new(alloc),
-        peers: ListOf::new(alloc),
-        stages: Table::new(alloc),
-        files: Table::new(alloc),
-        managers: ListOf::new(alloc),
-        operators: ListOf::new(alloc),
-        default_queue: None,
-        global_limit: 64,
-        patience: 60,
-        retry_wait: 300,
-        seq: 12,
-        arrivals: 12,
-        file_next: 1,
-        spare_names: Spare::new(alloc),
-        spare_dests: Spare::new(alloc),
-        spare_refused: Spare::new(alloc),
-    }
+fn stopped_queue(alloc: Global) -> QueueDef {
+    let mut def = queue(alloc, batch());
+    def.started = false;
+    def.run_limit = 2;
+    def
 }
 
 fn complex(alloc: Global) -> Result<ComplexDef, Memory> {
@@ -146,15 +61,13 @@ fn fill_names(alloc: Global, state: &mut HostState) -> Result<(), Memory> {
 }
 
 fn fill_queues(alloc: Global, state: &mut HostState) -> Result<(), Memory> {
-    state.queues = only(alloc, queue(alloc))?;
-    state.complexes = only(alloc, complex(alloc)?)?;
-    Ok(())
+    add(&mut state.queues, stopped_queue(alloc))?;
+    add(&mut state.complexes, complex(alloc)?)
 }
 
 fn fill_rows(alloc: Global, state: &mut HostState) -> Result<(), Memory> {
-    state.devices = only(alloc, device())?;
-    state.rows = only(alloc, row(alloc))?;
-    Ok(())
+    add(&mut state.devices, device())?;
+    add(&mut state.rows, held_row(alloc))
 }
 
 // One of each thing.
@@ -221,14 +134,14 @@ fn see(alloc: Global, state: &mut HostState) -> Result<Seen, Memory> {
 }
 
 fn seen(alloc: Global) -> Result<Seen, Memory> {
-    let mut state = empty_host(alloc);
-    see(alloc, &mut state)
+    let mut state = host(alloc);
+    let seen = see(alloc, &mut state);
+    drop(state);
+    seen
 }
 
 #[test]
-fn requests_are_counted_and_each_list_is_shown(rt: HostRuntime) -> Result<(), Memory> {
-    let (requests, wrong) = seen(rt.alloc())?;
-    assert_eq!(rt; requests, Some((true, true, 2)));
-    assert_eq!(rt; wrong, None);
-    Ok(())
+fn requests_are_counted_and_each_list_is_shown(rt: HostRuntime) {
+    let seen = seen(rt.alloc());
+    assert_eq!(rt; seen, Ok((Some((true, true, 2)), None)));
 }

@@ -4,7 +4,7 @@ ghost use Rattle.std.specs.Prelude.{◌≡◌, ◌∷◌, [], codes, IfOk, OnOk}
 ghost use Rattle.nqs_types.specs.State.{content};
 ghost use Rattle.nqs_rules.specs.Format.{new_peer};
 ghost use Rattle.nqs_rules.specs.InOrder.{IsInOrder};
-ghost use Rattle.nqs_rules_tests.specs.PlotHost.{plot_queue, plot_job, plot_row, plot_host, blank_host};
+ghost use Rattle.nqs_plans_tests.specs.PlotHost.{plot_queue, plot_job, plot_row, plot_host, blank_host};
 
 use nqs_step::start::start;
 use nqs_step::step::step;
@@ -145,8 +145,6 @@ fn host(alloc: Global, seq: u32) -> HostState
     }
 }
 
-fn let_go(_state: HostState) {}
-
 // The site and its queue.
 fn fill(alloc: Global, state: &mut HostState) -> Result<(), Memory>
     requires { state.old.queues.items ≡ [] }
@@ -258,7 +256,7 @@ fn submit_there(
 fn submit(alloc: Global, event: &Event) -> Result<Option<[bool; 3]>, Memory> {
     let mut state = host(alloc, 11);
     let seen = submit_there(alloc, &mut state, event);
-    let_go(state);
+    drop(state);
     seen
 }
 
@@ -334,14 +332,14 @@ fn delete_there(
 fn delete_running(alloc: Global) -> Result<Option<Deletion>, Memory> {
     let mut state = host(alloc, 12);
     let seen = delete_there(alloc, &mut state, RowState::Running, 1);
-    let_go(state);
+    drop(state);
     seen
 }
 
 fn delete_queued(alloc: Global) -> Result<Option<Deletion>, Memory> {
     let mut state = host(alloc, 12);
     let seen = delete_there(alloc, &mut state, RowState::Queued, 2);
-    let_go(state);
+    drop(state);
     seen
 }
 
@@ -381,7 +379,7 @@ fn launch_there(alloc: Global, state: &mut HostState) -> Result<Option<Launched>
 fn launch_queued(alloc: Global) -> Result<Option<Launched>, Memory> {
     let mut state = host(alloc, 12);
     let seen = launch_there(alloc, &mut state);
-    let_go(state);
+    drop(state);
     seen
 }
 
