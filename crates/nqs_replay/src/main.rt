@@ -2,19 +2,12 @@
 //! seen of each event, or a summary. A function of its words and its input: the same give the same text.
 #![tactic(auto)]
 
-mod laws;
 mod real;
-mod replay;
-mod report;
-mod run;
-mod status;
 #[cfg(test)]
 mod tests;
-mod words;
 
+use nqs_runs::{Status, replay};
 use real::{Reading, Writing};
-use replay::replay;
-use status::Status;
 use std::io::ErrorKind;
 use std::process::ExitCode;
 use std::{env, io};

@@ -1,0 +1,86 @@
+-- What holds of the run that was asked for, after each of its events.
+use Rattle.std.specs.Prelude.{◌≡◌, ℕ, true, false, not, IsTrue, List, [], ◌∷◌, ◌++◌, map, take, Option, None, Some}
+use Rattle.std.specs.List.{list_all, list_any}
+use Rattle.nqs_types.specs.declared.ids.HostId.{HostId}
+use Rattle.nqs_types.specs.declared.ids.RequestId.{RequestId}
+use Rattle.nqs_types.specs.declared.world.WorldEvent.{WorldEvent}
+use Rattle.nqs_types.specs.State.{Plain}
+use Rattle.nqs_rules.specs.InOrder.{are_distinct}
+use Rattle.nqs_rules.specs.Net.{is_table, entries}
+use Rattle.nqs_rules.specs.Picked.{may_start}
+use Rattle.nqs_rules.specs.World.{Act, Host, new_world, host_of}
+use Rattle.nqs_rules.specs.Run.{run_of, states_of}
+use Rattle.nqs_laws.specs.History.{Note, history, sights}
+use Rattle.nqs_laws.specs.Words.{is_counted, is_never_lost, boots_tell}
+use Rattle.nqs_laws.specs.Licensed.{AreLicensed}
+use Rattle.nqs_laws.specs.Rest.{host_for}
+use Rattle.nqs_laws.specs.Launches.{launches, same_launch, is_acknowledged, lies, was_taken_out, AreApart, AreStarted}
+use Rattle.nqs_lines.specs.Acts.{act_of}
+use Rattle.nqs_schedule.specs.Schedule.{State, IsSchedule}
+use Rattle.nqs_schedule.specs.Generated.{generated, generated_site}
+use Rattle.nqs_runs.specs.declared.words.Generation.{Generation}
+use Rattle.nqs_runs.specs.declared.words.Ask.{Ask}
+use Rattle.nqs_runs.specs.Words.{asked}
+use Rattle.nqs_runs.specs.Replay.{Drained, Reads}
+
+-- what happened, and the states of the hosts then and at first
+abbrev pub notes_of : List (List ℕ) → List Act → List Note
+notes_of site acts = history acts (new_world site)
+
+abbrev pub first_states : List (List ℕ) → List Plain
+first_states site = states_of (new_world site)
+
+abbrev pub last_states : List (List ℕ) → List Act → List Plain
+last_states site acts = states_of (run_of site acts).world
+
+-- an acknowledged request lies in the network until it is deleted or has finished, and not longer
+abbrev pub AcknowledgedStay : List (List ℕ) → List Act → Type 0
+AcknowledgedStay site acts = (x : RequestId) → is_acknowledged x (notes_of site acts) ≡ true → lies x (last_states site acts) ≡ not (was_taken_out x (first_states site) (notes_of site acts))
+
+-- No started queue of the host within its limits has a request that may start now.
+abbrev pub StartsNothing : ℕ → Host → Type 0
+StartsNothing now host = list_any (may_start now host.state) host.state.queues ≡ false
+
+-- the host that took this event in the world after those before, or booted by it, has nothing left to start after all of these, if it is up
+abbrev pub RestsAfter : List (List ℕ) → List Act → Act → List Act → Type 0
+RestsAfter site before last acts = (h : HostId) → host_for last (run_of site before).world ≡ Some h
+    → (host : Host) → host_of h (run_of site acts).world ≡ Some host → host.up ≡ true → StartsNothing (run_of site acts).world.now host
+
+-- so does the host of the last event
+abbrev pub LastTakerRests : List (List ℕ) → List Act → Type 0
+LastTakerRests site acts = (before : List Act) (last : Act) → acts ≡ before ++ last ∷ [] → RestsAfter site before last acts
+
+-- the laws of a network: no request lies in two places, and each change was licensed; what is acknowledged stays; no launch comes twice, and one request's launches are parted by a loss, which boots alone tell; what may start has started
+pub record KeepsTheLaws (site : List (List ℕ)) (acts : List Act) : Type 0 where
+  pub seen : sights (notes_of site acts) ≡ (run_of site acts).seen
+  pub place : IsTrue (is_table (last_states site acts))
+  pub licensed : AreLicensed (first_states site) (notes_of site acts)
+  pub stay : AcknowledgedStay site acts
+  pub once : IsTrue (are_distinct same_launch (launches (notes_of site acts)))
+  pub apart : (x : RequestId) → AreApart x (first_states site) false (notes_of site acts)
+  pub numbered : AreStarted (first_states site) (notes_of site acts)
+  pub counted : IsTrue (list_all is_counted (entries (last_states site acts)))
+  pub lost : IsTrue (list_all is_never_lost (entries (last_states site acts)))
+  pub boots : IsTrue (boots_tell None (run_of site acts).seen)
+  pub rests : LastTakerRests site acts
+
+-- the schedule that the source gave
+abbrev pub IsRead : Drained → List (List ℕ) → List WorldEvent → Type 0
+IsRead source site events = (input : List ℕ) × (state : State) × Reads source input × IsSchedule input state × (site ≡ state.site) × (events ≡ state.events)
+
+-- or that a seed gives
+abbrev pub IsAskedBy : Option Generation → Drained → List (List ℕ) → List WorldEvent → Type 0
+IsAskedBy None source site events = IsRead source site events
+IsAskedBy (Some g) source site events = (site ≡ generated_site g.hosts) × (events ≡ generated g.seed g.hosts g.events)
+
+-- the site and the events that are asked for
+abbrev pub IsAsked : List (List ℕ) → Drained → List (List ℕ) → List WorldEvent → Type 0
+IsAsked words source site events = (ask : Ask) × (asked words ≡ Some ask) × IsAskedBy ask.generation source site events
+
+-- after so many events of them the laws hold
+abbrev pub HoldAlways : List (List ℕ) → Drained → Type 0
+HoldAlways words source = (site : List (List ℕ)) (events : List WorldEvent) → IsAsked words source site events → (n : ℕ) → KeepsTheLaws site (map act_of (take n events))
+
+-- whatever the words and the source are
+abbrev pub RunsKeepTheLaws : Type 0
+RunsKeepTheLaws = (words : List (List ℕ)) (source : Drained) → HoldAlways words source

@@ -1,0 +1,48 @@
+-- What a run has written, by the way it ended.
+use Rattle.std.specs.Prelude.{◌≡◌, ℕ, true, List, [], ◌∷◌, ◌++◌, Ok, Err}
+use Rattle.std.specs.declared.result.Result.{Result}
+use Rattle.std.specs.Global.{Vec}
+use Rattle.std.specs.List.{list_all}
+use Rattle.std.specs.Io.KnownBytes.{Appends}
+use Rattle.nqs_types.specs.declared.world.Seen.{Seen}
+use Rattle.nqs_types.specs.declared.world.WorldEvent.{WorldEvent}
+use Rattle.nqs_disk.specs.declared.mem_disk.MemDisk.{MemDisk}
+use Rattle.nqs_rules.specs.World.{World as Network}
+use Rattle.nqs_rules.specs.Transcript.{transcript}
+use Rattle.nqs_laws.specs.Sane.{IsSite}
+use Rattle.nqs_lines.specs.Acts.{is_sane_line}
+use Rattle.nqs_store.specs.declared.disks.Disks.{Disks}
+use Rattle.nqs_net.specs.Left.{AreLeft}
+use Rattle.nqs_net.specs.Worlds.{IsWorld}
+use Rattle.nqs_net.specs.declared.world.World.{World}
+use Rattle.nqs_runs.specs.declared.run.RunStop.{RunStop}
+use Rattle.nqs_runs.specs.declared.run.RunStop.TheVariants as stop
+use Rattle.nqs_runs.specs.Sunk.{Sunk, SinkFailed, WritesFront}
+use Rattle.nqs_runs.specs.Running.{ran}
+
+-- the world stands for the network after these events, which are within their limits, on a site of 1 to 16 hosts
+abbrev pub HasRun : List (List ℕ) → List WorldEvent → World → Type 0
+HasRun site before world = IsSite site × (list_all is_sane_line before ≡ true) × IsWorld world (ran site before).world
+
+-- the world after one event more, and what was seen of it
+abbrev pub GoesOn : List (List ℕ) → List WorldEvent → WorldEvent → World → List Seen → Type 0
+GoesOn site before event world seen =
+    IsWorld world (ran site (before ++ event ∷ [])).world × ((ran site (before ++ event ∷ [])).seen ≡ (ran site before).seen ++ seen)
+
+-- the same, and what it adds to the transcript
+abbrev pub Tells : List (List ℕ) → List WorldEvent → WorldEvent → World → List ℕ → Type 0
+Tells site before event world text =
+    IsWorld world (ran site (before ++ event ∷ [])).world
+    × (transcript site (ran site (before ++ event ∷ [])).seen ≡ transcript site (ran site before).seen ++ text)
+
+-- the whole text was written, and the world stands for the network; or a front of the text was written
+abbrev pub Writes : List ℕ → Network → Sunk → Result World RunStop → Type 0
+Writes text network sink (Ok world) = Appends sink.old sink.new text × IsWorld world network
+Writes text network sink (Err stop.Sink) = SinkFailed sink × WritesFront sink text
+Writes text network sink (Err stop.Memory) = WritesFront sink text
+
+-- the same of the disks that are left
+abbrev pub Leaves : List ℕ → Network → Sunk → Result (Vec (Disks MemDisk)) RunStop → Type 0
+Leaves text network sink (Ok disks) = Appends sink.old sink.new text × AreLeft disks.items network.hosts
+Leaves text network sink (Err stop.Sink) = SinkFailed sink × WritesFront sink text
+Leaves text network sink (Err stop.Memory) = WritesFront sink text

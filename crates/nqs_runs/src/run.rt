@@ -1,0 +1,232 @@
+//! Runs the events of a site on a new world. The transcript is written event by event, each before the next one
+//! happens, through one buffer that is cleared, so memory doesn't grow with it. A summary is counted as things are
+//! seen, and written at last.
+
+ghost use Rattle.std.specs.Prelude.{◌≡◌, ◌++◌, List, ℕ, true, false, IsTrue, IfOk, OnOk};
+ghost use Rattle.std.specs.List.{list_all};
+ghost use Rattle.nqs_rules.specs.Transcript.{transcript};
+ghost use Rattle.nqs_laws.specs.Sane.{IsSite};
+ghost use Rattle.nqs_lines.specs.Acts.{is_sane_line};
+ghost use Rattle.nqs_types.specs.declared.world.WorldEvent.{WorldEvent};
+ghost use Rattle.nqs_schedule.specs.Summary.{nothing_seen, summary_of};
+ghost use Rattle.nqs_net.specs.Worlds.{IsWorld};
+ghost use Rattle.nqs_runs.specs.Sunk.{sunk};
+ghost use Rattle.nqs_runs.specs.Running.{ran, text_of, summary_after};
+ghost use Rattle.nqs_runs.specs.Writing.{HasRun, GoesOn, Tells, Writes, Leaves};
+
+use nqs_disk::MemDisk;
+use nqs_laws::runs::hosts_stay_in_order;
+use nqs_lines::laws::acts_are_sane;
+use nqs_net::World;
+use nqs_outside::{Failed, Sink, write_whole};
+use nqs_schedule::{Summary, print_seen, print_summary};
+use nqs_store::Disks;
+use nqs_types::{Memory, Name, Seen, WorldEvent};
+use std::alloc::Global;
+
+/// Why a run was not brought to its end.
+#[derive(Clone, Copy)]
+pub enum RunStop {
+    /// The sink failed, or took nothing of a piece.
+    Sink,
+    /// Memory ran out.
+    Memory,
+}
+
+impl From<Failed> for RunStop {
+    ghost use Rattle.std.specs.Prelude.{◌≡◌};
+    ghost use Rattle.nqs_runs.specs.declared.run.RunStop.TheVariants.{Sink};
+
+    ghost from_gives = { λ _ e. e ≡ Sink };
+
+    fn from(_: Failed) -> RunStop {
+        RunStop::Sink
+    }
+}
+
+impl From<Memory> for RunStop {
+    ghost use Rattle.std.specs.Prelude.{◌≡◌};
+    ghost use Rattle.nqs_runs.specs.declared.run.RunStop.TheVariants.{Memory};
+
+    ghost from_gives = { λ _ e. e ≡ Memory };
+
+    fn from(_: Memory) -> RunStop {
+        RunStop::Memory
+    }
+}
+
+// Takes an event. `seen` becomes what is seen of it.
+fn happen(
+    alloc: Global,
+    world: &mut World,
+    event: &WorldEvent,
+    seen: &mut Vec<Seen>,
+) -> Result<(), Memory>
+    requires sane { IsTrue (is_sane_line event.now) }
+    requires sound { (site : List (List ℕ)) × (before : List WorldEvent) × HasRun site before world.old }
+    ensures { (site : List (List ℕ)) (before : List WorldEvent) → HasRun site before world.old → OnOk result (GoesOn site before event.now world.new seen.new.items) }
+{
+    acts_are_sane();
+    hosts_stay_in_order();
+    seen.clear();
+    world.event(alloc, event, seen)
+}
+
+// The text becomes the transcript of what was seen.
+fn print_all(alloc: Global, site: &[Name], seen: &[Seen], text: &mut Vec<u8>) -> Result<(), Memory>
+    ensures { OnOk result (text.new.items ≡ transcript site.now seen.now) }
+{
+    text.clear();
+    for one in seen {
+        print_seen(alloc, one, site, text)?;
+    }
+    Ok(())
+}
+
+// Takes an event. The text becomes what it adds to the transcript.
+fn tell(
+    alloc: Global,
+    site: &[Name],
+    world: &mut World,
+    event: &WorldEvent,
+    seen: &mut Vec<Seen>,
+    text: &mut Vec<u8>,
+) -> Result<(), Memory>
+    requires sane { IsTrue (is_sane_line event.now) }
+    requires sound { (before : List WorldEvent) × HasRun site.now before world.old }
+    ensures { (before : List WorldEvent) → HasRun site.now before world.old → OnOk result (Tells site.now before event.now world.new text.new.items) }
+{
+    happen(alloc, world, event, seen)?;
+    print_all(alloc, site, seen, text)?;
+    Ok(())
+}
+
+// Runs the events and writes their transcript.
+fn run_told<K: Sink>(
+    alloc: Global,
+    site: &[Name],
+    events: &[WorldEvent],
+    out: &mut K,
+) -> Result<World, RunStop>
+    requires site { IsSite site.now }
+    requires sane { list_all is_sane_line events.now ≡ true }
+    ensures { Writes (text_of false site.now events.now) (ran site.now events.now).world (sunk K.taken K.faults K.stalls out.old out.new) result }
+{
+    let mut world = World::new(alloc, site)?;
+    let mut seen = Vec::new(alloc);
+    let mut text = Vec::new(alloc);
+    for event in events {
+        tell(alloc, site, &mut world, event, &mut seen, &mut text)?;
+        write_whole(out, &text)?;
+    }
+    Ok(world)
+}
+
+// Counts what was seen.
+fn count_all(summary: &mut Summary, seen: &[Seen])
+    ensures { summary.new ≡ summary_of summary.old seen.now }
+{
+    for i in 0..seen.len() {
+        summary.count(&seen[i]);
+    }
+}
+
+// Runs the events and counts what is seen of them.
+fn count_events(
+    alloc: Global,
+    site: &[Name],
+    events: &[WorldEvent],
+) -> Result<(World, Summary), Memory>
+    requires site { IsSite site.now }
+    requires sane { list_all is_sane_line events.now ≡ true }
+    ensures { IfOk result (λ end. IsWorld end.0 (ran site.now events.now).world × (end.1 ≡ summary_of nothing_seen (ran site.now events.now).seen)) }
+{
+    let mut world = World::new(alloc, site)?;
+    let mut seen = Vec::new(alloc);
+    let mut summary = Summary::new();
+    for event in events {
+        happen(alloc, &mut world, event, &mut seen)?;
+        count_all(&mut summary, &seen);
+    }
+    Ok((world, summary))
+}
+
+// Runs the events. The text is their summary.
+fn summarize(
+    alloc: Global,
+    site: &[Name],
+    events: &[WorldEvent],
+) -> Result<(World, Vec<u8>), Memory>
+    requires site { IsSite site.now }
+    requires sane { list_all is_sane_line events.now ≡ true }
+    ensures { IfOk result (λ end. IsWorld end.0 (ran site.now events.now).world × (end.1.items ≡ text_of true site.now events.now)) }
+{
+    let (mut world, summary) = count_events(alloc, site, events)?;
+    let rows = world.table(alloc)?;
+    let mut text = Vec::new(alloc);
+    print_summary(
+        alloc,
+        &summary,
+        events.len() as u64,
+        rows.len() as u64,
+        &mut text,
+    )?;
+    Ok((world, text))
+}
+
+// Runs the events and writes their summary.
+fn run_summed<K: Sink>(
+    alloc: Global,
+    site: &[Name],
+    events: &[WorldEvent],
+    out: &mut K,
+) -> Result<World, RunStop>
+    requires site { IsSite site.now }
+    requires sane { list_all is_sane_line events.now ≡ true }
+    ensures { Writes (text_of true site.now events.now) (ran site.now events.now).world (sunk K.taken K.faults K.stalls out.old out.new) result }
+{
+    let (world, text) = summarize(alloc, site, events)?;
+    write_whole(out, &text)?;
+    Ok(world)
+}
+
+fn run_world<K: Sink>(
+    alloc: Global,
+    summary: bool,
+    site: &[Name],
+    events: &[WorldEvent],
+    out: &mut K,
+) -> Result<World, RunStop>
+    requires site { IsSite site.now }
+    requires sane { list_all is_sane_line events.now ≡ true }
+    ensures { Writes (text_of summary site.now events.now) (ran site.now events.now).world (sunk K.taken K.faults K.stalls out.old out.new) result }
+{
+    if summary {
+        run_summed(alloc, site, events, out)
+    } else {
+        run_told(alloc, site, events, out)
+    }
+}
+
+/// Runs the events of a site on a new world, and writes their transcript, or their summary. The disks are those of
+/// the hosts as the run leaves them. After an `Err` a front of the text is written, which after `Memory` may be the
+/// whole of it.
+pub fn run<K: Sink>(
+    alloc: Global,
+    summary: bool,
+    site: &[Name],
+    events: &[WorldEvent],
+    out: &mut K,
+) -> Result<Vec<Disks<MemDisk>>, RunStop>
+    requires site { IsSite site.now }
+    requires sane { list_all is_sane_line events.now ≡ true }
+    ensures { Leaves (text_of summary site.now events.now) (ran site.now events.now).world (sunk K.taken K.faults K.stalls out.old out.new) result }
+{
+    match run_world(alloc, summary, site, events, out) {
+        Ok(world) => match world.close(alloc) {
+            Ok(disks) => Ok(disks),
+            Err(Memory) => Err(RunStop::Memory),
+        },
+        Err(stop) => Err(stop),
+    }
+}
