@@ -188,26 +188,52 @@ fn reads_lines(rt: HostRuntime) {
     }
 }
 
+// Whether it creates this batch queue, for pipe queues alone, of priority 5 and for 3 requests at a time.
+fn creates(edit: Option<Edit>, name: Name) -> bool {
+    match edit {
+        Some(
+            Edit::Conf(
+                ConfEdit::CreateBatchQueue {
+                    queue,
+                    priority: Some(5),
+                    run_limit: Some(3),
+                    pipe_only: true,
+                },
+            ),
+        ) => queue == name,
+        _ => false,
+    }
+}
+
+// Whether it sets this queue's limit of processor time to 5400 seconds.
+fn sets_cpu(edit: Option<Edit>, name: Name) -> bool {
+    match edit {
+        Some(
+            Edit::Limits(
+                LimitsEdit::SetCpuLimit {
+                    limit: Some(5400),
+                    queue,
+                },
+            ),
+        ) => queue == name,
+        _ => false,
+    }
+}
+
+// Whether it takes this queue's limit of memory away.
+fn frees_memory(edit: Option<Edit>, name: Name) -> bool {
+    match edit {
+        Some(Edit::Limits(LimitsEdit::SetMemoryLimit { limit: None, queue })) => queue == name,
+        _ => false,
+    }
+}
+
 // Whether lines are read with their values.
 fn values(q: Name) -> [bool; 3] {
-    let made = ConfEdit::CreateBatchQueue {
-        queue: q,
-        priority: Some(5),
-        run_limit: Some(3),
-        pipe_only: true,
-    };
-    let time = LimitsEdit::SetCpuLimit {
-        limit: Some(5400),
-        queue: q,
-    };
-    let none = LimitsEdit::SetMemoryLimit {
-        limit: None,
-        queue: q,
-    };
     [
-        edit(b"Cr\tbatch q PIP prio=5 run=3") == Some(Edit::Conf(made)),
-        edit(b"set cpu=1:30:00 q") == Some(Edit::Limits(time)),
-        edit(b"set mem=none q") == Some(Edit::Limits(none)),
+        creates(edit(b"Cr\tbatch q PIP prio=5 run=3"), q),
+        sets_cpu(edit(b"set cpu=1:30:00 q"), q),
+        frees_memory(edit(b"set mem=none q"), q),
     ]
 }
 

@@ -6,7 +6,8 @@ mod real;
 #[cfg(test)]
 mod tests;
 
-use nqs_runs::{Status, replay};
+use nqs_runs::replay::replay;
+use nqs_runs::status::Status;
 use real::{Reading, Writing};
 use std::io::ErrorKind;
 use std::process::ExitCode;

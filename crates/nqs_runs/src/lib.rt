@@ -3,11 +3,8 @@
 #![tactic(auto)]
 
 pub mod laws;
-mod replay;
+pub mod replay;
 mod report;
 mod run;
-mod status;
+pub mod status;
 mod words;
-
-pub use replay::replay;
-pub use status::Status;
