@@ -189,41 +189,54 @@ fn reads_lines(rt: HostRuntime) {
 }
 
 // Whether it creates this batch queue, for pipe queues alone, of priority 5 and for 3 requests at a time.
-fn creates(edit: Option<Edit>, name: Name) -> bool {
+fn creates(edit: &ConfEdit, name: &Name) -> bool {
     match edit {
-        Some(
-            Edit::Conf(
-                ConfEdit::CreateBatchQueue {
-                    queue,
-                    priority: Some(5),
-                    run_limit: Some(3),
-                    pipe_only: true,
-                },
-            ),
-        ) => queue == name,
+        ConfEdit::CreateBatchQueue {
+            queue,
+            priority: Some(5),
+            run_limit: Some(3),
+            pipe_only: true,
+        } => queue == name,
         _ => false,
     }
 }
 
 // Whether it sets this queue's limit of processor time to 5400 seconds.
-fn sets_cpu(edit: Option<Edit>, name: Name) -> bool {
+fn sets_cpu(edit: &LimitsEdit, name: &Name) -> bool {
     match edit {
-        Some(
-            Edit::Limits(
-                LimitsEdit::SetCpuLimit {
-                    limit: Some(5400),
-                    queue,
-                },
-            ),
-        ) => queue == name,
+        LimitsEdit::SetCpuLimit {
+            limit: Some(5400),
+            queue,
+        } => queue == name,
         _ => false,
     }
 }
 
 // Whether it takes this queue's limit of memory away.
-fn frees_memory(edit: Option<Edit>, name: Name) -> bool {
+fn frees_memory(edit: &LimitsEdit, name: &Name) -> bool {
     match edit {
-        Some(Edit::Limits(LimitsEdit::SetMemoryLimit { limit: None, queue })) => queue == name,
+        LimitsEdit::SetMemoryLimit { limit: None, queue } => queue == name,
+        _ => false,
+    }
+}
+
+fn creates_by(line: &[u8], name: &Name) -> bool {
+    match edit(line) {
+        Some(Edit::Conf(edit)) => creates(&edit, name),
+        _ => false,
+    }
+}
+
+fn sets_cpu_by(line: &[u8], name: &Name) -> bool {
+    match edit(line) {
+        Some(Edit::Limits(edit)) => sets_cpu(&edit, name),
+        _ => false,
+    }
+}
+
+fn frees_memory_by(line: &[u8], name: &Name) -> bool {
+    match edit(line) {
+        Some(Edit::Limits(edit)) => frees_memory(&edit, name),
         _ => false,
     }
 }
@@ -231,9 +244,9 @@ fn frees_memory(edit: Option<Edit>, name: Name) -> bool {
 // Whether lines are read with their values.
 fn values(q: Name) -> [bool; 3] {
     [
-        creates(edit(b"Cr\tbatch q PIP prio=5 run=3"), q),
-        sets_cpu(edit(b"set cpu=1:30:00 q"), q),
-        frees_memory(edit(b"set mem=none q"), q),
+        creates_by(b"Cr\tbatch q PIP prio=5 run=3", &q),
+        sets_cpu_by(b"set cpu=1:30:00 q", &q),
+        frees_memory_by(b"set mem=none q", &q),
     ]
 }
 
