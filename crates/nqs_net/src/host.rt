@@ -132,9 +132,9 @@ fn boot_step(
     let mut out = Vec::new(alloc);
     match Node::boot(alloc, Box::into_inner(down.disks), &mut out) {
         Ok(node) => {
+            let node = Box::new(alloc, node)?;
             seen.push(Seen::Boot { host: me })?;
             emit(me, out, packets, seen)?;
-            let node = Box::new(alloc, node)?;
             Ok(Slot::Up(UpHost { node }))
         }
         Err((LoadFault::Disk(_), disks)) => {

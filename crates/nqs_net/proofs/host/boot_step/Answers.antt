@@ -18,7 +18,7 @@ boot-requires c = record { quiet = λ yes which. uncalled_quiet _ (subst (λ d. 
 
 pub returns-in_err-push-in-Ok : goal.returns-in_err-push-in-Ok
 returns-in_err-push-in-Ok c = λ w host faces is.
-    let p = err_from_is_err_and c.from_residual.result c.from_residual.ensures.1 in
+    let p = err_from_is_err_and c.from_residual-in_err-push-in-Ok.result c.from_residual-in_err-push-in-Ok.ensures.1 in
     rw p.1 tt
 
 pub returns-in_err-emit-in-Ok : goal.returns-in_err-emit-in-Ok
@@ -42,7 +42,7 @@ returns-in-Ok c = λ w host faces is.
 
 pub returns-in_err-node-in-Ok : goal.returns-in_err-node-in-Ok
 returns-in_err-node-in-Ok c = λ w host faces is.
-    let p = err_from_is_err_and c.from_residual-in_err-node-in-Ok.result c.from_residual-in_err-node-in-Ok.ensures.1 in
+    let p = err_from_is_err_and c.from_residual.result c.from_residual.ensures.1 in
     rw p.1 tt
 
 pub returns-in_err-slot-in-Err-Disk-default : goal.returns-in_err-slot-in-Err-Disk-default
