@@ -49,16 +49,11 @@ impl<D: Disk> Node<D> {
         ensures fuse { IsTrue D.tells → (which : Which) (i : ℕ) → fails_of self.new which i ≡ fails_of self.old which i }
         ensures any_moment { IsTrue D.tells → (s : Plain) → Tells self.old s → (done : Stepped (List ℕ)) → Does (bytes_of self.old) plan done → IsOneOrOther (history_of self.old) (history_of self.new) done.change s }
     {
-        let Plan {
-            change,
-            puts,
-            outputs,
-            reads,
-        } = plan;
-        let mut outputs = outputs.into_vec();
-        match out.reserve(outputs.len()) {
+        match out.reserve(plan.outputs.len()) {
             Err(_) => Err(NodeFault::Memory),
             Ok(()) => {
+                let (change, puts, outputs, reads) = plan.into_parts();
+                let mut outputs = outputs.into_vec();
                 // What fails from here on leaves the node stopped, but for want of memory.
                 self.stopped = true;
                 let (store, state, idle) = (&mut self.store, &mut self.state, &mut self.idle);

@@ -48,45 +48,29 @@ pub fn change_alone(alloc: Global, change: Change) -> Plan
 pub fn change_storing(alloc: Global, change: Change, bytes: Bytes) -> Result<Plan, Memory>
     ensures { IfOk result (λ plan. plan ≡ change_alone change (bytes ∷ [])) }
 {
-    Ok(Plan {
-        change: Some(change),
-        puts: Items::of(alloc, bytes)?,
-        outputs: Items::new(alloc),
-        reads: ListOf::new(alloc),
-    })
+    let mut plan = change_alone(alloc, change);
+    plan.puts.push(bytes)?;
+    Ok(plan)
 }
 
 /// The plan, and an output behind its others.
-pub fn add(plan: Plan, output: Output) -> Result<Plan, Memory>
+pub fn add(mut plan: Plan, output: Output) -> Result<Plan, Memory>
     ensures { IfOk result (λ more. more ≡ with_more plan (ready output ∷ [])) }
 {
-    let mut outputs = plan.outputs;
-    outputs.push(output)?;
-    Ok(Plan {
-        change: plan.change,
-        puts: plan.puts,
-        outputs,
-        reads: plan.reads,
-    })
+    plan.outputs.push(output)?;
+    Ok(plan)
 }
 
 /// The plan, and an output behind its others whose bytes are those of an extent of the spool.
-pub fn add_kept(plan: Plan, output: Output, extent: Extent) -> Result<Plan, Memory>
+pub fn add_kept(mut plan: Plan, output: Output, extent: Extent) -> Result<Plan, Memory>
     ensures { IfOk result (λ more. more ≡ with_more plan ((output, Some extent) ∷ [])) }
 {
-    let mut outputs = plan.outputs;
-    let mut reads = plan.reads.into_vec();
-    reads.push(PlanRead {
-        output: outputs.len(),
+    plan.reads.push(PlanRead {
+        output: plan.outputs.len(),
         extent,
     })?;
-    outputs.push(output)?;
-    Ok(Plan {
-        change: plan.change,
-        puts: plan.puts,
-        outputs,
-        reads: ListOf::from_vec(reads),
-    })
+    plan.outputs.push(output)?;
+    Ok(plan)
 }
 
 /// One output and no change.

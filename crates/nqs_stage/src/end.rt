@@ -188,11 +188,12 @@ fn ending(alloc: Global, plan: Plan, id: RequestId, parts: Vec<Part>) -> Result<
     ensures { IfOk result (λ ended. ended ≡ ending id parts.items plan) }
 {
     let (outputs, puts) = split_parts(alloc, parts)?;
+    let (_, _, said, reads) = plan.into_parts();
     Ok(Plan {
         change: Some(Change::Ended { id, outputs }),
         puts,
-        outputs: plan.outputs,
-        reads: plan.reads,
+        outputs: said,
+        reads,
     })
 }
 

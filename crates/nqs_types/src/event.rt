@@ -1,5 +1,7 @@
 //! What comes to a host, and what it does then.
 
+ghost use Rattle.std.specs.Prelude.{◌≡◌};
+
 use crate::change::Change;
 use crate::edit::Edit;
 use crate::extent::Extent;
@@ -162,10 +164,43 @@ pub struct PlanRead {
 
 /// What one step is to do: at most one change, whose extents aren't chosen yet, the lists of bytes to be
 /// stored for them in order, what goes out, and the outputs whose bytes are still to be read from the spool.
-#[derive(Drop)]
 pub struct Plan {
     pub change: Option<Change>,
     pub puts: Items<Bytes>,
     pub outputs: Items<Output>,
     pub reads: ListOf<PlanRead>,
+}
+
+// Written out, so that a plan is let go by a call, and not change by change in each function that owns one.
+impl Drop for Plan {
+    fn drop(self) {
+        let Plan {
+            change: _,
+            puts: _,
+            outputs: _,
+            reads: _,
+        } = self;
+    }
+}
+
+impl Plan {
+    /// Takes the plan apart: the change, the bytes to be stored, what goes out, and what is to be read.
+    pub fn into_parts(
+        self,
+    ) -> (
+        Option<Change>,
+        Items<Bytes>,
+        Items<Output>,
+        ListOf<PlanRead>,
+    )
+        ensures { result ≡ (self.change, self.puts, self.outputs, self.reads) }
+    {
+        let Plan {
+            change,
+            puts,
+            outputs,
+            reads,
+        } = self;
+        (change, puts, outputs, reads)
+    }
 }

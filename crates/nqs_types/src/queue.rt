@@ -23,7 +23,6 @@ pub enum Access {
     Users(NameList),
 }
 
-#[derive(Drop)]
 pub struct QueueDef {
     pub name: Name,
     pub kind: Kind,
@@ -46,6 +45,26 @@ pub struct QueueDef {
     pub dests: DestList,
     /// Of a device queue, in the order in which they are tried.
     pub devices: NameList,
+}
+
+// Written out, so that a queue is let go by a call, and not field by field in each function that owns one.
+impl Drop for QueueDef {
+    fn drop(self) {
+        let QueueDef {
+            name: _,
+            kind: _,
+            enabled: _,
+            started: _,
+            pipe_only: _,
+            priority: _,
+            run_limit: _,
+            user_limit: _,
+            limits: _,
+            access: _,
+            dests: _,
+            devices: _,
+        } = self;
+    }
 }
 
 /// A set of batch queues with a run limit over all of them.

@@ -2,9 +2,10 @@
 
 use crate::ids::Named;
 use crate::name::Name;
+use std::fmt;
 
 /// A refusal, one variant a number, from 1 to 33 in this order.
-#[derive(Clone, Copy, Debug, PartialEq, Eq)]
+#[derive(Clone, Copy, PartialEq, Eq)]
 pub enum Refusal {
     NotManager,
     NotOperator,
@@ -40,4 +41,52 @@ pub enum Refusal {
     HostFull,
     NumbersUsed,
     RequestExists(Named),
+}
+
+impl Refusal {
+    // The name of the variant.
+    fn name(&self) -> &'static str {
+        match self {
+            Refusal::NotManager => "NotManager",
+            Refusal::NotOperator => "NotOperator",
+            Refusal::NoQueue(_) => "NoQueue",
+            Refusal::NoComplex(_) => "NoComplex",
+            Refusal::NoDevice(_) => "NoDevice",
+            Refusal::NoRequest(_) => "NoRequest",
+            Refusal::NoHost(_) => "NoHost",
+            Refusal::NoDefault => "NoDefault",
+            Refusal::QueueExists(_) => "QueueExists",
+            Refusal::ComplexExists(_) => "ComplexExists",
+            Refusal::DeviceExists(_) => "DeviceExists",
+            Refusal::WrongKind => "WrongKind",
+            Refusal::DestExists => "DestExists",
+            Refusal::NoDest => "NoDest",
+            Refusal::NotMember => "NotMember",
+            Refusal::IsMember => "IsMember",
+            Refusal::KeepRoot => "KeepRoot",
+            Refusal::NotOwner => "NotOwner",
+            Refusal::Disabled(_) => "Disabled",
+            Refusal::PipeOnly(_) => "PipeOnly",
+            Refusal::NoAccess(_) => "NoAccess",
+            Refusal::RequestRouting(_) => "RequestRouting",
+            Refusal::RequestRunning(_) => "RequestRunning",
+            Refusal::NotHeld(_) => "NotHeld",
+            Refusal::IsHeld(_) => "IsHeld",
+            Refusal::QueueInUse(_, _) => "QueueInUse",
+            Refusal::DeviceBusy(_) => "DeviceBusy",
+            Refusal::OverCpu(_) => "OverCpu",
+            Refusal::OverMemory(_) => "OverMemory",
+            Refusal::TooMany => "TooMany",
+            Refusal::HostFull => "HostFull",
+            Refusal::NumbersUsed => "NumbersUsed",
+            Refusal::RequestExists(_) => "RequestExists",
+        }
+    }
+}
+
+// By hand: the variant's name, with no call in an arm, and so with no way out there.
+impl fmt::Debug for Refusal {
+    fn fmt<W: fmt::Write>(&self, f: &mut fmt::Formatter<W>) -> fmt::Result {
+        f.write_str(self.name())
+    }
 }

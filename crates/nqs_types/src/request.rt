@@ -41,7 +41,6 @@ pub enum RowState {
 }
 
 /// What is asked for by a submission, beside the script.
-#[derive(Drop)]
 pub struct Job {
     pub name: Name,
     pub owner: Name,
@@ -60,6 +59,24 @@ pub struct Job {
     pub err: Bytes,
     /// Whether the error output goes into the output.
     pub join: bool,
+}
+
+// Written out, so that a job is let go by a call, and not field by field in each function that owns one.
+impl Drop for Job {
+    fn drop(self) {
+        let Job {
+            name: _,
+            owner: _,
+            priority: _,
+            earliest: _,
+            rerun: _,
+            limits: _,
+            forms: _,
+            out: _,
+            err: _,
+            join: _,
+        } = self;
+    }
 }
 
 impl Clone for Job {
@@ -84,7 +101,6 @@ impl Clone for Job {
 }
 
 /// A request in its host. `E` stands for the script: its extent of the spool, or the bytes.
-#[derive(Drop)]
 pub struct Row<E: Copy + Drop = Extent> {
     pub id: RequestId,
     pub job: Job,
@@ -105,6 +121,27 @@ pub struct Row<E: Copy + Drop = Extent> {
     pub device: Option<Name>,
     pub refused: RefusedList,
     pub script: E,
+}
+
+// Written out, so that a request is let go by a call, and not field by field in each function that owns one.
+impl<E: Copy + Drop> Drop for Row<E> {
+    fn drop(self) {
+        let Row {
+            id: _,
+            job: _,
+            queue: _,
+            state: _,
+            hold: _,
+            arrival: _,
+            doomed: _,
+            starts: _,
+            lost: _,
+            hops: _,
+            device: _,
+            refused: _,
+            script: _,
+        } = self;
+    }
 }
 
 /// What of a request goes to another host, beside its script.

@@ -12,7 +12,6 @@ use crate::table::{Key, Keyed, Table};
 pub type PeerList = ListOf<Peer>;
 
 /// All that a host holds. Contracts see its `content`, and beside it the room that it has.
-#[derive(Drop)]
 pub struct HostState {
     pub me: HostId,
     pub site: NameList,
@@ -46,6 +45,37 @@ pub struct HostState {
     pub spare_dests: Spare<Dest>,
     /// Memory for the growth of a request's list of refusals.
     pub spare_refused: Spare<Refused>,
+}
+
+// Written out, so that a host's state is let go by a call: a derived drop is a part of each function that owns one, field by field.
+impl Drop for HostState {
+    fn drop(self) {
+        let HostState {
+            me: _,
+            site: _,
+            queues: _,
+            complexes: _,
+            devices: _,
+            rows: _,
+            hands: _,
+            promises: _,
+            peers: _,
+            stages: _,
+            files: _,
+            managers: _,
+            operators: _,
+            default_queue: _,
+            global_limit: _,
+            patience: _,
+            retry_wait: _,
+            seq: _,
+            arrivals: _,
+            file_next: _,
+            spare_names: _,
+            spare_dests: _,
+            spare_refused: _,
+        } = self;
+    }
 }
 
 impl Key for Name {

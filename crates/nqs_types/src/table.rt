@@ -32,10 +32,16 @@ pub trait Keyed<K: Key> {
 }
 
 /// Values in order of creation, each found by its key.
-#[derive(Drop)]
 pub struct Table<K: Key, V: Keyed<K> + Drop> {
     map: IndexMap<K, Held<V>>,
     rooms: Vec<Room<V>>,
+}
+
+// Written out, so that a table is let go by one call.
+impl<K: Key, V: Keyed<K> + Drop> Drop for Table<K, V> {
+    fn drop(self) {
+        let Table { map: _, rooms: _ } = self;
+    }
 }
 
 impl<K: Key, V: Keyed<K> + Drop> Model for Table<K, V> {

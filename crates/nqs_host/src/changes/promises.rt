@@ -51,15 +51,13 @@ pub fn promised(
 }
 
 // A promise's row becomes a row, unless its request is one already.
-fn add_promised(state: &mut HostState, row: Row)
+fn add_promised(state: &mut HostState, mut row: Row)
     requires room { 0 < state.old.rows.spare }
     ensures { content state.new ≡ add_promised row (content state.old) }
 {
     if !state.rows.has(&row.id) {
-        state.rows.push(Row {
-            state: RowState::Queued,
-            ..row
-        });
+        row.state = RowState::Queued;
+        state.rows.push(row);
     }
 }
 
