@@ -1,3 +1,4 @@
+use nqs_moments::*;
 use nqs_text::*;
 use std::alloc::Global;
 use std::rt::HostRuntime;

@@ -17,8 +17,9 @@ use Rattle.nqs_node.specs.declared.node.Node.{Node}
 use Rattle.nqs_node.proofs.Performing.{still_one, same_plain}
 use Rattle.nqs_node.proofs.Planning.{IsNext, started_is, does}
 
-pub kept_from : (change : Option (Change Extent)) (a b : List (List ℕ)) (kept : Kept) → a ≡ b → IsKeptWith change b kept → IsKeptWith change a kept
-kept_from change a b kept e with = subst (λ (bytes : List (List ℕ)). IsKeptWith change bytes kept) (sym e) with
+pub kept_from : (one other : Option (Change Extent)) (a b : List (List ℕ)) (kept : Kept) → one ≡ other → a ≡ b → IsKeptWith other b kept → IsKeptWith one a kept
+kept_from one other a b kept same e with =
+    subst (λ (change : Option (Change Extent)). IsKeptWith change a kept) (sym same) (subst (λ (bytes : List (List ℕ)). IsKeptWith other bytes kept) (sym e) with)
 
 module _ {D : Type 0} {g : disk.Ghosts D} (old : Node D g) (s : Plain) (told : Tells old s) where
   pub tells_still : (now : Node D g) → content_of now ≡ content_of old → ((which : Which) → history_of now which ≡ history_of old which)

@@ -58,8 +58,7 @@ pub fn put_id(alloc: Global, site: &[Name], id: RequestId, out: &mut Vec<u8>) ->
 {
     put_decimal(alloc, u64::from(id.seq), out)?;
     out.push(b'.')?;
-    put_host(site, id.host, out)?;
-    Ok(())
+    put_host(site, id.host, out)
 }
 
 /// Appends a request as it was typed.

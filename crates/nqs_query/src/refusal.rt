@@ -15,8 +15,7 @@ fn put_about(before: &[u8], name: &Name, after: &[u8], out: &mut Vec<u8>) -> Res
 {
     put_text(before, out)?;
     put_text(name.as_bytes(), out)?;
-    put_text(after, out)?;
-    Ok(())
+    put_text(after, out)
 }
 
 // A text and a name.
@@ -24,8 +23,7 @@ fn put_of(before: &[u8], name: &Name, out: &mut Vec<u8>) -> Result<(), Memory>
     ensures { OnOk result (out.new.items ≡ out.old.items ++ (before.now ++ name.now)) }
 {
     put_text(before, out)?;
-    put_text(name.as_bytes(), out)?;
-    Ok(())
+    put_text(name.as_bytes(), out)
 }
 
 // A request between two texts.
@@ -40,16 +38,14 @@ fn put_request(
 {
     put_text(before, out)?;
     put_named(alloc, id, out)?;
-    put_text(after, out)?;
-    Ok(())
+    put_text(after, out)
 }
 
 fn put_no_request(alloc: Global, id: &Named, out: &mut Vec<u8>) -> Result<(), Memory>
     ensures { OnOk result (out.new.items ≡ out.old.items ++ refusal_text (NoRequest id.now)) }
 {
     put_text(b"no request ", out)?;
-    put_named(alloc, id, out)?;
-    Ok(())
+    put_named(alloc, id, out)
 }
 
 fn put_in_use(alloc: Global, queue: &Name, count: u64, out: &mut Vec<u8>) -> Result<(), Memory>
@@ -57,8 +53,7 @@ fn put_in_use(alloc: Global, queue: &Name, count: u64, out: &mut Vec<u8>) -> Res
 {
     put_about(b"queue ", queue, b" holds ", out)?;
     put_decimal(alloc, count, out)?;
-    put_text(b" requests", out)?;
-    Ok(())
+    put_text(b" requests", out)
 }
 
 /// Appends the text of a refusal, without its number.

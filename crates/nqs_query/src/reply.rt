@@ -63,8 +63,7 @@ fn put_in_script(alloc: Global, line: u32, out: &mut Vec<u8>) -> Result<(), Memo
         return put_text(b"", out);
     }
     put_text(b" in script line ", out)?;
-    put_decimal(alloc, u64::from(line), out)?;
-    Ok(())
+    put_decimal(alloc, u64::from(line), out)
 }
 
 // `Bad word W: CAUSE` or `Bad word W in script line L: CAUSE`
@@ -75,8 +74,7 @@ fn put_words_fault(alloc: Global, fault: WordsFault, out: &mut Vec<u8>) -> Resul
     put_decimal(alloc, u64::from(fault.word), out)?;
     put_in_script(alloc, fault.line, out)?;
     put_text(b": ", out)?;
-    put_text(words_text(fault.cause), out)?;
-    Ok(())
+    put_text(words_text(fault.cause), out)
 }
 
 // `Request ID submitted to queue: QUEUE.`
@@ -93,8 +91,7 @@ fn put_submitted(
     put_id(alloc, site, id, out)?;
     put_text(b" submitted to queue: ", out)?;
     put_text(queue.as_bytes(), out)?;
-    put_text(b".", out)?;
-    Ok(())
+    put_text(b".", out)
 }
 
 // `Request ID has been deleted.`
@@ -103,8 +100,7 @@ fn put_deleted(alloc: Global, site: &[Name], id: RequestId, out: &mut Vec<u8>) -
 {
     put_text(b"Request ", out)?;
     put_id(alloc, site, id, out)?;
-    put_text(b" has been deleted.", out)?;
-    Ok(())
+    put_text(b" has been deleted.", out)
 }
 
 // `Request ID has been signalled.`
@@ -118,8 +114,7 @@ fn put_signalled(
 {
     put_text(b"Request ", out)?;
     put_id(alloc, site, id, out)?;
-    put_text(b" has been signalled.", out)?;
-    Ok(())
+    put_text(b" has been signalled.", out)
 }
 
 // `Refused N: TEXT.`
@@ -130,8 +125,7 @@ fn put_refused(alloc: Global, refusal: &Refusal, out: &mut Vec<u8>) -> Result<()
     put_decimal(alloc, u64::from(refusal_number(refusal)), out)?;
     put_text(b": ", out)?;
     put_refusal(alloc, refusal, out)?;
-    put_text(b".", out)?;
-    Ok(())
+    put_text(b".", out)
 }
 
 fn put_lines(texts: &[Bytes], out: &mut Vec<u8>) -> Result<(), Memory>
@@ -179,6 +173,5 @@ pub fn print_reply(
         return put_lines(texts.as_slice(), out);
     }
     put_one_line(alloc, reply, site, out)?;
-    put_line_end(out)?;
-    Ok(())
+    put_line_end(out)
 }

@@ -19,8 +19,7 @@ pub(crate) fn put_with_id(kind: u8, id: RequestId, out: &mut Vec<u8>) -> Result<
     ensures { Adds out.old.items (fields (u8_field kind ∷ id_field id ∷ [])) result out.new.items }
 {
     put_u8(kind, out)?;
-    put_id(id, out)?;
-    Ok(())
+    put_id(id, out)
 }
 
 #[tactic(auto, using(crate::proofs::Joined::joined))]
@@ -34,8 +33,7 @@ pub(crate) fn put_with_hand(
 {
     put_u8(kind, out)?;
     put_u8(peer.0, out)?;
-    put_u64(number, out)?;
-    Ok(())
+    put_u64(number, out)
 }
 
 #[tactic(auto, using(crate::proofs::Joined::joined))]
@@ -45,8 +43,7 @@ pub(crate) fn put_site(me: HostId, site: &[Name], out: &mut Vec<u8>) -> Result<(
 {
     put_u8(1, out)?;
     put_u8(me.0, out)?;
-    put_names(site, out)?;
-    Ok(())
+    put_names(site, out)
 }
 
 #[tactic(auto, using(crate::proofs::Joined::joined))]
@@ -62,8 +59,7 @@ pub(crate) fn put_submitted(
     put_u8(2, out)?;
     put_name(queue, out)?;
     put_job(job, out)?;
-    put_extent(script, out)?;
-    Ok(())
+    put_extent(script, out)
 }
 
 #[tactic(auto, using(crate::proofs::Joined::joined))]
@@ -76,8 +72,7 @@ pub(crate) fn put_started(
 {
     put_u8(5, out)?;
     put_id(id, out)?;
-    put_opt_name(device, out)?;
-    Ok(())
+    put_opt_name(device, out)
 }
 
 #[tactic(auto, using(crate::proofs::Joined::joined))]
@@ -88,8 +83,7 @@ pub(crate) fn put_ended(id: RequestId, outputs: &[OutPart], out: &mut Vec<u8>) -
 {
     put_u8(6, out)?;
     put_id(id, out)?;
-    put_parts(outputs, out)?;
-    Ok(())
+    put_parts(outputs, out)
 }
 
 #[tactic(auto, using(crate::proofs::Joined::joined))]
@@ -108,8 +102,7 @@ pub(crate) fn put_hand_opened(
     put_u64(number, out)?;
     put_id(id, out)?;
     put_name(queue, out)?;
-    put_u64(since, out)?;
-    Ok(())
+    put_u64(since, out)
 }
 
 #[tactic(auto, using(crate::proofs::Joined::joined))]
@@ -124,8 +117,7 @@ pub(crate) fn put_hand_refused(
     put_u8(12, out)?;
     put_u8(peer.0, out)?;
     put_u64(number, out)?;
-    put_u8(cause, out)?;
-    Ok(())
+    put_u8(cause, out)
 }
 
 #[tactic(auto, using(crate::proofs::Joined::joined))]
@@ -139,8 +131,7 @@ pub(crate) fn put_hands_silent(
 {
     put_u8(13, out)?;
     put_u64(until, out)?;
-    put_hands(hands, out)?;
-    Ok(())
+    put_hands(hands, out)
 }
 
 #[tactic(auto, using(crate::proofs::Joined::joined))]
@@ -160,8 +151,7 @@ pub(crate) fn put_promised(
     put_u64(number, out)?;
     put_name(queue, out)?;
     put_carried(carried, out)?;
-    put_extent(script, out)?;
-    Ok(())
+    put_extent(script, out)
 }
 
 #[tactic(auto, using(crate::proofs::Joined::joined))]
@@ -170,8 +160,7 @@ pub(crate) fn put_moved_local(id: RequestId, queue: &Name, out: &mut Vec<u8>) ->
 {
     put_u8(18, out)?;
     put_id(id, out)?;
-    put_name(queue, out)?;
-    Ok(())
+    put_name(queue, out)
 }
 
 #[tactic(auto, using(crate::proofs::Joined::joined))]
@@ -186,8 +175,7 @@ pub(crate) fn put_refused_local(
     put_u8(19, out)?;
     put_id(id, out)?;
     put_name(queue, out)?;
-    put_u8(cause, out)?;
-    Ok(())
+    put_u8(cause, out)
 }
 
 #[tactic(auto, using(crate::proofs::Joined::joined))]
@@ -205,6 +193,5 @@ pub(crate) fn put_stage_got(
     put_u8(peer.0, out)?;
     put_u64(number, out)?;
     put_path(path, out)?;
-    put_extent(bytes, out)?;
-    Ok(())
+    put_extent(bytes, out)
 }

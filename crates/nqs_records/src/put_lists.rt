@@ -51,8 +51,7 @@ pub(crate) fn put_names(items: &[Name], out: &mut Vec<u8>) -> Result<(), Memory>
     ensures { Adds out.old.items (list_field short_field items.now) result out.new.items }
 {
     put_u8(items.len() as u8, out)?;
-    put_each_name(items, out)?;
-    Ok(())
+    put_each_name(items, out)
 }
 
 #[tactic(auto, using(crate::proofs::Joined::joined), unfolding(crate::specs::Spelling::list_field))]
@@ -62,8 +61,7 @@ pub(crate) fn put_parts(items: &[OutPart], out: &mut Vec<u8>) -> Result<(), Memo
     ensures { Adds out.old.items (list_field part_field items.now) result out.new.items }
 {
     put_u8(items.len() as u8, out)?;
-    put_each_part(items, out)?;
-    Ok(())
+    put_each_part(items, out)
 }
 
 #[tactic(auto, using(crate::proofs::Joined::joined), unfolding(crate::specs::Spelling::list_field))]
@@ -72,6 +70,5 @@ pub(crate) fn put_hands(items: &[PeerNumber], out: &mut Vec<u8>) -> Result<(), M
     ensures { Adds out.old.items (list_field hand_field items.now) result out.new.items }
 {
     put_u8(items.len() as u8, out)?;
-    put_each_hand(items, out)?;
-    Ok(())
+    put_each_hand(items, out)
 }

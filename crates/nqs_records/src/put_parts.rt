@@ -18,8 +18,7 @@ pub(crate) fn put_opt_u64(value: &Option<u64>, out: &mut Vec<u8>) -> Result<(), 
         return Ok(());
     };
     put_bool(true, out)?;
-    put_u64(*value, out)?;
-    Ok(())
+    put_u64(*value, out)
 }
 
 #[tactic(auto, using(crate::proofs::Joined::joined))]
@@ -31,8 +30,7 @@ pub(crate) fn put_opt_name(value: &Option<Name>, out: &mut Vec<u8>) -> Result<()
         return Ok(());
     };
     put_bool(true, out)?;
-    put_name(value, out)?;
-    Ok(())
+    put_name(value, out)
 }
 
 #[tactic(auto, using(crate::proofs::Joined::joined), unfolding(crate::specs::Spelling::id_field))]
@@ -40,8 +38,7 @@ pub(crate) fn put_id(id: RequestId, out: &mut Vec<u8>) -> Result<(), Memory>
     ensures { Adds out.old.items (id_field id) result out.new.items }
 {
     put_u32(id.seq, out)?;
-    put_u8(id.host.0, out)?;
-    Ok(())
+    put_u8(id.host.0, out)
 }
 
 #[tactic(auto, using(crate::proofs::Joined::joined), unfolding(crate::specs::Spelling::extent_field))]
@@ -49,8 +46,7 @@ pub(crate) fn put_extent(extent: Extent, out: &mut Vec<u8>) -> Result<(), Memory
     ensures { Adds out.old.items (extent_field extent) result out.new.items }
 {
     put_u64(extent.place, out)?;
-    put_u32(extent.length, out)?;
-    Ok(())
+    put_u32(extent.length, out)
 }
 
 #[tactic(auto, using(crate::proofs::Joined::joined), unfolding(crate::specs::Spelling::hand_field))]
@@ -58,8 +54,7 @@ pub(crate) fn put_hand(hand: PeerNumber, out: &mut Vec<u8>) -> Result<(), Memory
     ensures { Adds out.old.items (hand_field hand) result out.new.items }
 {
     put_u8(hand.peer.0, out)?;
-    put_u64(hand.number, out)?;
-    Ok(())
+    put_u64(hand.number, out)
 }
 
 #[tactic(auto, using(crate::proofs::Joined::joined), unfolding(crate::specs::Spelling::part_field))]
@@ -68,8 +63,7 @@ pub(crate) fn put_part(part: &OutPart, out: &mut Vec<u8>) -> Result<(), Memory>
     ensures { Adds out.old.items (part_field part.now) result out.new.items }
 {
     put_path(part.path.as_slice(), out)?;
-    put_extent(part.bytes, out)?;
-    Ok(())
+    put_extent(part.bytes, out)
 }
 
 #[tactic(auto, using(crate::proofs::Joined::joined))]
@@ -80,8 +74,7 @@ fn put_job_head(job: &Job, out: &mut Vec<u8>) -> Result<(), Memory>
     put_name(&job.owner, out)?;
     put_u8(job.priority, out)?;
     put_u64(job.earliest, out)?;
-    put_bool(job.rerun, out)?;
-    Ok(())
+    put_bool(job.rerun, out)
 }
 
 #[tactic(auto, using(crate::proofs::Joined::joined))]
@@ -94,8 +87,7 @@ fn put_job_tail(job: &Job, out: &mut Vec<u8>) -> Result<(), Memory>
     put_opt_name(&job.forms, out)?;
     put_path(job.out.as_slice(), out)?;
     put_path(job.err.as_slice(), out)?;
-    put_bool(job.join, out)?;
-    Ok(())
+    put_bool(job.join, out)
 }
 
 #[tactic(auto, using(crate::proofs::Joined::joined), unfolding(crate::specs::Spelling::job_field))]
@@ -104,8 +96,7 @@ pub(crate) fn put_job(job: &Job, out: &mut Vec<u8>) -> Result<(), Memory>
     ensures { Adds out.old.items (job_field job.now) result out.new.items }
 {
     put_job_head(job, out)?;
-    put_job_tail(job, out)?;
-    Ok(())
+    put_job_tail(job, out)
 }
 
 #[tactic(auto, using(crate::proofs::Joined::joined), unfolding(crate::specs::Spelling::carried_field))]
@@ -117,6 +108,5 @@ pub(crate) fn put_carried(carried: &Carried, out: &mut Vec<u8>) -> Result<(), Me
     put_job(&carried.job, out)?;
     put_u16(carried.starts, out)?;
     put_u16(carried.lost, out)?;
-    put_u8(carried.hops, out)?;
-    Ok(())
+    put_u8(carried.hops, out)
 }

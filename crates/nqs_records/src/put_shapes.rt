@@ -15,8 +15,7 @@ fn put_dest(dest: NamedDest, out: &mut Vec<u8>) -> Result<(), Memory>
     ensures { Adds out.old.items (dest_field dest) result out.new.items }
 {
     put_name(&dest.queue, out)?;
-    put_name(&dest.host, out)?;
-    Ok(())
+    put_name(&dest.host, out)
 }
 
 #[tactic(auto, using(crate::proofs::Joined::joined), unfolding(crate::specs::EditSpelling::named_field))]
@@ -24,8 +23,7 @@ fn put_named(named: Named, out: &mut Vec<u8>) -> Result<(), Memory>
     ensures { Adds out.old.items (named_field named) result out.new.items }
 {
     put_u32(named.seq, out)?;
-    put_name(&named.host, out)?;
-    Ok(())
+    put_name(&named.host, out)
 }
 
 #[tactic(auto, using(crate::proofs::Joined::joined))]
@@ -37,16 +35,14 @@ fn put_opt_dest(value: Option<NamedDest>, out: &mut Vec<u8>) -> Result<(), Memor
         return Ok(());
     };
     put_bool(true, out)?;
-    put_dest(value, out)?;
-    Ok(())
+    put_dest(value, out)
 }
 
 #[tactic(auto, using(crate::proofs::Joined::joined))]
 pub(crate) fn put_code(code: u8, out: &mut Vec<u8>) -> Result<(), Memory>
     ensures { Adds out.old.items (fields (u8_field code ∷ [])) result out.new.items }
 {
-    put_u8(code, out)?;
-    Ok(())
+    put_u8(code, out)
 }
 
 #[tactic(auto, using(crate::proofs::Joined::joined))]
@@ -54,8 +50,7 @@ pub(crate) fn put_with_name(code: u8, name: Name, out: &mut Vec<u8>) -> Result<(
     ensures { Adds out.old.items (fields (u8_field code ∷ short_field name ∷ [])) result out.new.items }
 {
     put_u8(code, out)?;
-    put_name(&name, out)?;
-    Ok(())
+    put_name(&name, out)
 }
 
 #[tactic(auto, using(crate::proofs::Joined::joined))]
@@ -69,8 +64,7 @@ pub(crate) fn put_with_names(
 {
     put_u8(code, out)?;
     put_name(&first, out)?;
-    put_name(&second, out)?;
-    Ok(())
+    put_name(&second, out)
 }
 
 #[tactic(auto, using(crate::proofs::Joined::joined))]
@@ -78,8 +72,7 @@ pub(crate) fn put_with_number(code: u8, number: u64, out: &mut Vec<u8>) -> Resul
     ensures { Adds out.old.items (fields (u8_field code ∷ u64_field number ∷ [])) result out.new.items }
 {
     put_u8(code, out)?;
-    put_u64(number, out)?;
-    Ok(())
+    put_u64(number, out)
 }
 
 #[tactic(auto, using(crate::proofs::Joined::joined))]
@@ -93,8 +86,7 @@ pub(crate) fn put_with_number_and_name(
 {
     put_u8(code, out)?;
     put_u64(number, out)?;
-    put_name(&name, out)?;
-    Ok(())
+    put_name(&name, out)
 }
 
 #[tactic(auto, using(crate::proofs::Joined::joined))]
@@ -108,8 +100,7 @@ pub(crate) fn put_with_limit(
 {
     put_u8(code, out)?;
     put_opt_u64(&limit, out)?;
-    put_name(&queue, out)?;
-    Ok(())
+    put_name(&queue, out)
 }
 
 #[tactic(auto, using(crate::proofs::Joined::joined))]
@@ -123,8 +114,7 @@ pub(crate) fn put_with_dest(
 {
     put_u8(code, out)?;
     put_dest(dest, out)?;
-    put_name(&queue, out)?;
-    Ok(())
+    put_name(&queue, out)
 }
 
 #[tactic(auto, using(crate::proofs::Joined::joined))]
@@ -132,8 +122,7 @@ pub(crate) fn put_with_request(code: u8, request: Named, out: &mut Vec<u8>) -> R
     ensures { Adds out.old.items (fields (u8_field code ∷ named_field request ∷ [])) result out.new.items }
 {
     put_u8(code, out)?;
-    put_named(request, out)?;
-    Ok(())
+    put_named(request, out)
 }
 
 #[tactic(auto, using(crate::proofs::Joined::joined))]
@@ -147,8 +136,7 @@ pub(crate) fn put_with_request_and_name(
 {
     put_u8(code, out)?;
     put_named(request, out)?;
-    put_name(&queue, out)?;
-    Ok(())
+    put_name(&queue, out)
 }
 
 #[tactic(auto, using(crate::proofs::Joined::joined))]
@@ -162,8 +150,7 @@ pub(crate) fn put_with_request_and_number(
 {
     put_u8(code, out)?;
     put_named(request, out)?;
-    put_u64(number, out)?;
-    Ok(())
+    put_u64(number, out)
 }
 
 #[tactic(auto, using(crate::proofs::Joined::joined))]
@@ -181,8 +168,7 @@ pub(crate) fn put_created(
     put_name(&queue, out)?;
     put_opt_u64(&priority, out)?;
     put_opt_u64(&run_limit, out)?;
-    put_bool(pipe_only, out)?;
-    Ok(())
+    put_bool(pipe_only, out)
 }
 
 #[tactic(auto, using(crate::proofs::Joined::joined))]
@@ -201,6 +187,5 @@ pub(crate) fn put_pipe_created(
     put_opt_u64(&priority, out)?;
     put_opt_u64(&run_limit, out)?;
     put_bool(pipe_only, out)?;
-    put_opt_dest(destination, out)?;
-    Ok(())
+    put_opt_dest(destination, out)
 }

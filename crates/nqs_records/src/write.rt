@@ -23,8 +23,7 @@ fn put_edited(edit: Edit, out: &mut Vec<u8>) -> Result<(), Memory>
     ensures { Adds out.old.items (fields (u8_field 9 ∷ edit_field edit ∷ [])) result out.new.items }
 {
     put_u8(9, out)?;
-    put_edit(edit, out)?;
-    Ok(())
+    put_edit(edit, out)
 }
 
 #[tactic(auto, using(crate::proofs::Joined::joined))]
@@ -32,16 +31,14 @@ fn put_file_gone(file: u64, out: &mut Vec<u8>) -> Result<(), Memory>
     ensures { Adds out.old.items (fields (u8_field 23 ∷ u64_field file ∷ [])) result out.new.items }
 {
     put_u8(23, out)?;
-    put_u64(file, out)?;
-    Ok(())
+    put_u64(file, out)
 }
 
 #[tactic(auto, using(crate::proofs::Joined::joined))]
 fn put_boot(out: &mut Vec<u8>) -> Result<(), Memory>
     ensures { Adds out.old.items (fields (u8_field 8 ∷ [])) result out.new.items }
 {
-    put_u8(8, out)?;
-    Ok(())
+    put_u8(8, out)
 }
 
 // The longer half of the kinds are handed to functions of their own.

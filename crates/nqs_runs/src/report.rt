@@ -38,8 +38,7 @@ fn put_bad_line(alloc: Global, line: u64, cause: Cause, out: &mut Vec<u8>) -> Re
     put_decimal(alloc, line, out)?;
     put_text(b": ", out)?;
     put_text(cause_text(cause), out)?;
-    put_text(b"\n", out)?;
-    Ok(())
+    put_text(b"\n", out)
 }
 
 /// Writes the line that names the first bad line.

@@ -50,8 +50,7 @@ fn put_host_name(alloc: Global, place: u8, out: &mut Vec<u8>) -> Result<(), Memo
     ensures { OnOk result (out.new.items ≡ out.old.items ++ host_name place) }
 {
     put_text(b"h", out)?;
-    put_decimal(alloc, u64::from(place), out)?;
-    Ok(())
+    put_decimal(alloc, u64::from(place), out)
 }
 
 fn link_line(alloc: Global, place: u8) -> Result<Bytes, Memory>

@@ -15,24 +15,21 @@ fn put_host_word(site: &[Name], host: HostId, out: &mut Vec<u8>) -> Result<(), M
     ensures { OnOk result (out.new.items ≡ out.old.items ++ (codes " " ++ host_text site.now host)) }
 {
     put_text(b" ", out)?;
-    put_host(site, host, out)?;
-    Ok(())
+    put_host(site, host, out)
 }
 
 fn put_id_word(alloc: Global, site: &[Name], id: RequestId, out: &mut Vec<u8>) -> Result<(), Memory>
     ensures { OnOk result (out.new.items ≡ out.old.items ++ (codes " " ++ id_text site.now id)) }
 {
     put_text(b" ", out)?;
-    put_id(alloc, site, id, out)?;
-    Ok(())
+    put_id(alloc, site, id, out)
 }
 
 fn put_number_word(alloc: Global, number: u64, out: &mut Vec<u8>) -> Result<(), Memory>
     ensures { OnOk result (out.new.items ≡ out.old.items ++ (codes " " ++ decimal number)) }
 {
     put_text(b" ", out)?;
-    put_decimal(alloc, number, out)?;
-    Ok(())
+    put_decimal(alloc, number, out)
 }
 
 // `WORD HOST`
@@ -40,8 +37,7 @@ fn put_about_host(site: &[Name], word: &[u8], host: HostId, out: &mut Vec<u8>) -
     ensures { OnOk result (out.new.items ≡ out.old.items ++ words (word.now ∷ host_text site.now host ∷ [])) }
 {
     put_text(word, out)?;
-    put_host_word(site, host, out)?;
-    Ok(())
+    put_host_word(site, host, out)
 }
 
 // `WORD HOST ID`
@@ -56,8 +52,7 @@ fn put_about_request(
     ensures { OnOk result (out.new.items ≡ out.old.items ++ words (word.now ∷ host_text site.now host ∷ id_text site.now id ∷ [])) }
 {
     put_about_host(site, word, host, out)?;
-    put_id_word(alloc, site, id, out)?;
-    Ok(())
+    put_id_word(alloc, site, id, out)
 }
 
 // `WORD HOST ID START`
@@ -73,8 +68,7 @@ fn put_start(
     ensures { OnOk result (out.new.items ≡ out.old.items ++ words (start_words site.now word.now host id start)) }
 {
     put_about_request(alloc, site, word, host, id, out)?;
-    put_number_word(alloc, u64::from(start), out)?;
-    Ok(())
+    put_number_word(alloc, u64::from(start), out)
 }
 
 // `print HOST ID START DEVICE`
@@ -90,8 +84,7 @@ fn put_print(
     ensures { OnOk result (out.new.items ≡ out.old.items ++ seen_line site.now (seen.Print host id start device.now)) }
 {
     put_start(alloc, site, b"print", host, id, start, out)?;
-    put_word(device.as_bytes(), out)?;
-    Ok(())
+    put_word(device.as_bytes(), out)
 }
 
 // `ended HOST ID START STATUS`
@@ -107,8 +100,7 @@ fn put_ended(
     ensures { OnOk result (out.new.items ≡ out.old.items ++ seen_line site.now (seen.Ended host id start status)) }
 {
     put_start(alloc, site, b"ended", host, id, start, out)?;
-    put_number_word(alloc, u64::from(status), out)?;
-    Ok(())
+    put_number_word(alloc, u64::from(status), out)
 }
 
 // `write HOST FILE PATH LENGTH`
@@ -126,8 +118,7 @@ fn put_write(
     put_about_host(site, b"write", host, out)?;
     put_number_word(alloc, file, out)?;
     put_word(path, out)?;
-    put_number_word(alloc, length, out)?;
-    Ok(())
+    put_number_word(alloc, length, out)
 }
 
 fn kind_name(kind: BodyKind) -> &'static [u8]
@@ -168,8 +159,7 @@ fn put_packet(
     put_host_word(site, from, out)?;
     put_host_word(site, to, out)?;
     put_word(kind_name(kind), out)?;
-    put_number_word(alloc, number, out)?;
-    Ok(())
+    put_number_word(alloc, number, out)
 }
 
 // `no packet K` or `no packet`
@@ -180,8 +170,7 @@ fn put_no_packet(alloc: Global, packet: Option<u64>, out: &mut Vec<u8>) -> Resul
         return put_text(b"no packet", out);
     };
     put_text(b"no packet", out)?;
-    put_number_word(alloc, number, out)?;
-    Ok(())
+    put_number_word(alloc, number, out)
 }
 
 fn net_text(state: NetState) -> &'static [u8]
@@ -204,8 +193,7 @@ fn put_place(alloc: Global, site: &[Name], row: &TableRow, out: &mut Vec<u8>) ->
     put_word(row.queue.as_bytes(), out)?;
     put_id_word(alloc, site, row.id, out)?;
     put_word(net_text(row.state), out)?;
-    put_word(row.owner.as_bytes(), out)?;
-    Ok(())
+    put_word(row.owner.as_bytes(), out)
 }
 
 // A row of the table.
@@ -230,8 +218,7 @@ fn put_row_line(
     ensures { OnOk result (out.new.items ≡ out.old.items ++ row_line site.now row.now) }
 {
     put_row(alloc, site, row, out)?;
-    put_line_end(out)?;
-    Ok(())
+    put_line_end(out)
 }
 
 // The table: how many rows there are, and a line for each.

@@ -131,8 +131,7 @@ fn put_count(alloc: Global, word: &[u8], number: u64, out: &mut Vec<u8>) -> Resu
     put_text(word, out)?;
     put_text(b" ", out)?;
     put_decimal(alloc, number, out)?;
-    put_line_end(out)?;
-    Ok(())
+    put_line_end(out)
 }
 
 /// Appends the summary: the number of events, the counts, and the number of requests in the last table, each

@@ -6,12 +6,13 @@ ghost use Rattle.std.specs.Fn.{FnReturnsAt};
 ghost use Rattle.nqs_types.specs.State.{content};
 ghost use Rattle.nqs_types.specs.declared.extent.Extent.{Extent};
 ghost use Rattle.nqs_spool.specs.Spooled.{disk_of, Tells};
-ghost use Rattle.nqs_types.specs.Keys.{is_stage};
+ghost use Rattle.nqs_types.specs.Keys.{is_stage, is_file};
 ghost use Rattle.nqs_rules.specs.Tests.{last_u64};
 ghost use Rattle.nqs_rules.specs.Find.{peer_number, find_row, find_hand, find_promise, find_peer};
 ghost use Rattle.nqs_rules.specs.Stepped.{part_bytes};
+ghost use Rattle.nqs_rules.specs.Applied.{is_promise_of};
 ghost use Rattle.nqs_rules.specs.Conf.{is_queued_in};
-ghost use Rattle.nqs_store.specs.Live.{row_part, promise_part, stage_part};
+ghost use Rattle.nqs_store.specs.Live.{row_part, promise_part, stage_part, file_part};
 ghost use Rattle.nqs_store.specs.Accounts.{Takes};
 ghost use Rattle.nqs_store.specs.Frees.{part_of, goes_at_boot, stages_left, numbers_left, row_of_hand, doubled, gone};
 
@@ -188,6 +189,34 @@ fn key(peer: HostId, number: u64) -> PeerNumber
     PeerNumber { peer, number }
 }
 
+// The rows that go at a boot.
+fn free_at_boot<D: Disk>(spool: &mut Spool<D>, state: &HostState)
+    ensures tells { (live fewer : List Extent) → Tells spool.old live → Takes live (map row_part (filter goes_at_boot (content state.now).rows)) fewer → Tells spool.new fewer }
+    ensures same { disk_of spool.new ≡ disk_of spool.old }
+{
+    free_all(spool, &state.rows, goes_at_boot, |row: &Row| row.script);
+}
+
+// The promises to a host.
+fn free_promises_of<D: Disk>(spool: &mut Spool<D>, state: &HostState, peer: HostId)
+    ensures tells { (live fewer : List Extent) → Tells spool.old live → Takes live (map promise_part (filter (is_promise_of peer) (content state.now).promises)) fewer → Tells spool.new fewer }
+    ensures same { disk_of spool.new ≡ disk_of spool.old }
+{
+    free_all(
+        spool,
+        &state.promises,
+        |promise: &Promise| peer == promise.peer,
+        |promise: &Promise| promise.row.script,
+    );
+}
+
+fn free_file<D: Disk>(spool: &mut Spool<D>, state: &HostState, file: u64)
+    ensures tells { (live fewer : List Extent) → Tells spool.old live → Takes live (part_of file_part (find (is_file file) (content state.now).files)) fewer → Tells spool.new fewer }
+    ensures same { disk_of spool.new ≡ disk_of spool.old }
+{
+    free_one(spool, state.files.get(&file), |file: &FileOut| file.bytes);
+}
+
 /// Frees what a change takes away of the extents of a host, whose state from before the change is given, and what it
 /// doesn't take up of its own. It takes no memory.
 pub fn free_gone<D: Disk>(spool: &mut Spool<D>, state: &HostState, change: &Change)
@@ -201,26 +230,17 @@ pub fn free_gone<D: Disk>(spool: &mut Spool<D>, state: &HostState, change: &Chan
             free_behind(spool, outputs.as_slice(), numbers_left(state, id.host));
         }
         Change::Unlaunched(id) => free_row(spool, state, id),
-        Change::Boot => free_all(spool, &state.rows, goes_at_boot, |row: &Row| row.script),
+        Change::Boot => free_at_boot(spool, state),
         Change::Edited(edit) => free_edited(spool, state, edit),
         Change::HandCommitted { peer, number } => {
             free_row_of_hand(spool, state, &key(*peer, *number))
         }
-        Change::Promised { peer, .. } => {
-            free_all(
-                spool,
-                &state.promises,
-                |promise: &Promise| *peer == promise.peer,
-                |promise: &Promise| promise.row.script,
-            )
-        }
+        Change::Promised { peer, .. } => free_promises_of(spool, state, *peer),
         Change::Accepted { peer, number } => free_doubled(spool, state, &key(*peer, *number)),
         Change::Dropped { peer, number } => free_promise(spool, state, &key(*peer, *number)),
         Change::StageGot { bytes, .. } => free_unnumbered(spool, state, bytes),
         Change::StageGone { peer, number } => free_stage(spool, state, &key(*peer, *number)),
-        Change::FileGone { file } => {
-            free_one(spool, state.files.get(file), |file: &FileOut| file.bytes)
-        }
+        Change::FileGone { file } => free_file(spool, state, *file),
         _ => {}
     }
 }

@@ -1,4 +1,1 @@
 pub mod Number
-pub mod Moment
-pub mod Parts
-pub mod Laws

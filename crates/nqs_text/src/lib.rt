@@ -1,10 +1,6 @@
-//! Numbers and moments as texts.
+//! Plain numbers as texts.
 #![tactic(auto)]
 
-mod laws;
-mod moment;
 mod number;
 
-pub use laws::{printed_reads_back, read_prints_back};
-pub use moment::{MomentFault, PrintFault, print_moment, read_moment};
 pub use number::{NumberFault, decimal, read_u64};

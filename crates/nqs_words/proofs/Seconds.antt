@@ -5,11 +5,11 @@ use Rattle.std.proofs.lemmas.Bool.{and_parts, and_from}
 use Rattle.std.proofs.lemmas.Bool.Decides.{nat_tests}
 use Rattle.jiff_core.specs.Calendar.{IsDate, days_in_month, days_from_civil}
 use Rattle.jiff_core.proofs.SignedLemmas.{signed_arith}
-use Rattle.nqs_text.specs.Moment.{IsSecond, ReadsMoment}
-use Rattle.nqs_text.specs.Parts.{part}
-use Rattle.nqs_text.specs.declared.moment.MomentFault.{MomentFault}
-use Rattle.nqs_text.specs.declared.moment.MomentFault.TheVariants.{Form, Range}
-use Rattle.nqs_text.proofs.Moments.{moment_formed, moment_named, named_moment}
+use Rattle.nqs_moments.specs.Moment.{IsSecond, ReadsMoment}
+use Rattle.nqs_moments.specs.Parts.{part}
+use Rattle.nqs_moments.specs.declared.moment.MomentFault.{MomentFault}
+use Rattle.nqs_moments.specs.declared.moment.MomentFault.TheVariants.{Form, Range}
+use Rattle.nqs_moments.proofs.Moments.{moment_formed, moment_named, named_moment}
 use Rattle.nqs_words.specs.Moments.{is_date, is_time, seconds_to, natural, second_of, moment_of}
 
 le : (a b : ℕ) → a ≤ b → nat_le a b ≡ true

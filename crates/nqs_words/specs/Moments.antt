@@ -1,8 +1,8 @@
 -- Moments as a number or none.
 use Rattle.std.specs.Prelude.{ℕ, ◌+◌, ◌*◌, ◌&&◌, nat_le, nat_lt, Bool, List, Option, Some, None, is_none, if◌then◌else◌, ℤ, pos, negsuc, ◌+ℤ◌, ◌*ℤ◌}
 use Rattle.jiff_core.specs.Calendar.{days_in_month, days_from_civil}
-use Rattle.nqs_text.specs.Moment.{moment_misfit}
-use Rattle.nqs_text.specs.Parts.{part}
+use Rattle.nqs_moments.specs.Moment.{moment_misfit}
+use Rattle.nqs_moments.specs.Parts.{part}
 
 -- does the calendar have the date, up to the year 9999?
 abbrev pub is_date : ℕ → ℕ → ℕ → Bool

@@ -3,7 +3,7 @@
 ghost use Rattle.std.specs.Prelude.{◌≡◌};
 ghost use Rattle.nqs_words.specs.Moments.{moment_of};
 
-use nqs_text::read_moment;
+use nqs_moments::read_moment;
 
 /// The moment that the bytes write as `YYYY-MM-DDTHH:MM:SS`, in seconds since 1970.
 pub fn moment_of(bytes: &[u8]) -> Option<u64>

@@ -22,22 +22,26 @@ returns-in-Err-Memory-clause-memory g c = λ yes memory.
 pub returns-in-Err-Memory-clause-any_moment : goal.returns-in-Err-Memory-clause-any_moment
 returns-in-Err-Memory-clause-any_moment g c = λ yes s told done does.
     subst (λ (p : Plain). IsOneOrOther (history_of c.args.self.now) (store.history_of c.perform.new.store) done.change p) told.is
-    (c.perform.ensures.any_moment yes told.told done.change (kept_from c.args.plan.change c.as_slice.result.now c.args.plan.puts done.change c.as_slice.ensures does.kept))
+    (c.perform.ensures.any_moment yes told.told done.change (kept_from c.into_parts-change.result.0 c.args.plan.change c.as_slice.result.now c.args.plan.puts done.change
+    (ap (λ parts. parts.0) c.into_parts-change.ensures) (c.as_slice.ensures ∙ ap (λ parts. parts.1) c.into_parts-change.ensures) does.kept))
 
 pub returns-in-Err-Disk-clause-cut : goal.returns-in-Err-Disk-clause-cut
 returns-in-Err-Disk-clause-cut g c = λ yes s told done does which failed.
     let same : c.in-Err-Disk.which ≡ which = cc in
     subst (λ (p : Plain). IsTrue (store.is_starved c.perform.new.store which) ⊎ (IsBlown (fails_of c.args.self.now which) (history_of c.args.self.now which)
     ⊎ IsCutBy (fails_of c.args.self.now) (history_of c.args.self.now) (store.history_of c.perform.new.store) done.change p which)) told.is
-    (c.in-Err-Disk.ensures.cut yes told.told done.change (kept_from c.args.plan.change c.as_slice.result.now c.args.plan.puts done.change c.as_slice.ensures does.kept) which
+    (c.in-Err-Disk.ensures.cut yes told.told done.change (kept_from c.into_parts-change.result.0 c.args.plan.change c.as_slice.result.now c.args.plan.puts done.change
+    (ap (λ parts. parts.0) c.into_parts-change.ensures) (c.as_slice.ensures ∙ ap (λ parts. parts.1) c.into_parts-change.ensures) does.kept) which
     (ap Err (c.in-Err-Disk.field-0-is ∙ ap fault.Disk same)))
 
 pub returns-in-Err-Disk-clause-any_moment : goal.returns-in-Err-Disk-clause-any_moment
 returns-in-Err-Disk-clause-any_moment g c = λ yes s told done does.
     subst (λ (p : Plain). IsOneOrOther (history_of c.args.self.now) (store.history_of c.perform.new.store) done.change p) told.is
-    (c.perform.ensures.any_moment yes told.told done.change (kept_from c.args.plan.change c.as_slice.result.now c.args.plan.puts done.change c.as_slice.ensures does.kept))
+    (c.perform.ensures.any_moment yes told.told done.change (kept_from c.into_parts-change.result.0 c.args.plan.change c.as_slice.result.now c.args.plan.puts done.change
+    (ap (λ parts. parts.0) c.into_parts-change.ensures) (c.as_slice.ensures ∙ ap (λ parts. parts.1) c.into_parts-change.ensures) does.kept))
 
 pub returns-clause-any_moment : goal.returns-clause-any_moment
 returns-clause-any_moment g c = λ yes s told done does.
     subst (λ (p : Plain). IsOneOrOther (history_of c.args.self.now) (store.history_of c.perform.new.store) done.change p) told.is
-    (c.perform.ensures.any_moment yes told.told done.change (kept_from c.args.plan.change c.as_slice.result.now c.args.plan.puts done.change c.as_slice.ensures does.kept))
+    (c.perform.ensures.any_moment yes told.told done.change (kept_from c.into_parts-change.result.0 c.args.plan.change c.as_slice.result.now c.args.plan.puts done.change
+    (ap (λ parts. parts.0) c.into_parts-change.ensures) (c.as_slice.ensures ∙ ap (λ parts. parts.1) c.into_parts-change.ensures) does.kept))

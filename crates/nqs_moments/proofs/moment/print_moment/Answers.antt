@@ -1,0 +1,24 @@
+use Rattle.std.proofs.Common.{arith, ◌∙◌, ◌/◌, ◌%◌}
+use Rattle.jiff_core.proofs.SignedLemmas.{signed_arith}
+use Rattle.nqs_moments.specs.Moment.{IsMoment}
+use Rattle.nqs_moments.proofs.Moments.{year_is, second_is}
+use Rattle.nqs_moments.proofs.moment.print_moment.Goals as goal
+
+pub returns-in-Ok : goal.returns-in-Ok
+returns-in-Ok c =
+    let date = c.date_of-date.result in
+    let known = c.date_of-date.ensures in
+    let moment = c.args.moment in
+    let year = year_is date.year c.from.result (omega (arith, signed_arith, known.year)) known.year.1 (c.from.ensures ∙ c.unsigned_abs.ensures.value) in
+    let text = rw (c.from-2.ensures, c.from-3.ensures) at c.text_of-text.ensures in
+    let is : IsMoment c.text_of-text.result moment = record {
+      year = c.from.result;
+      month = date.month;
+      day = date.day;
+      hour = moment % 86400 / 3600;
+      minute = moment % 86400 / 60 % 60;
+      second = moment % 86400 % 60;
+      text = text;
+      is_second = second_is date c.from.result moment year known.day;
+    } in
+    (c.if-moment-gt253402214400.false, c.text_of-text.result, is, c.in-Ok.ensures.items)

@@ -1,0 +1,8 @@
+//! Moments as texts.
+#![tactic(auto)]
+
+mod laws;
+mod moment;
+
+pub use laws::{printed_reads_back, read_prints_back};
+pub use moment::{MomentFault, PrintFault, print_moment, read_moment};
