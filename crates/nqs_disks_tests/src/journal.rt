@@ -76,9 +76,9 @@ fn leaves(alloc: Global, call: u64, tear: Tear, count: usize) -> Result<bool, Fa
 #[test]
 fn stops(rt: HostRuntime) -> Result<(), Fail> {
     let alloc = rt.alloc();
-    for (tear, counts) in LEFT {
+    for (tear, counts) in &LEFT {
         for call in 0..4 {
-            let leaves = leaves(alloc, call as u64 + 1, tear, counts[call])?;
+            let leaves = leaves(alloc, call as u64 + 1, *tear, counts[call])?;
             assert!(rt; leaves);
         }
     }
@@ -163,9 +163,9 @@ fn formatted_after(alloc: Global, call: u64, tear: Tear) -> Result<Option<u64>, 
 
 #[test]
 fn stops_within_a_format(rt: HostRuntime) -> Result<(), Fail> {
-    for (tear, left) in FORMATTED {
+    for (tear, left) in &FORMATTED {
         for call in 0..2 {
-            let found = formatted_after(rt.alloc(), call as u64 + 1, tear)?;
+            let found = formatted_after(rt.alloc(), call as u64 + 1, *tear)?;
             assert_eq!(rt; found, left[call]);
         }
     }

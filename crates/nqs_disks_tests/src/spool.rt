@@ -218,11 +218,11 @@ fn stops(rt: HostRuntime) {
     let alloc = rt.alloc();
     let puts = [Ok(at(0, 4)), Ok(at(4, 4)), Err(SpoolFault::Disk)];
     let disk = Some(SpoolFault::Disk);
-    for (tear, over, behind) in LEFT {
+    for (tear, over, behind) in &LEFT {
         for calls in 1..3 {
-            let found = left_over(alloc, calls, tear, over);
+            let found = left_over(alloc, calls, *tear, *over);
             assert_eq!(rt; found, Some((puts, Ok(at(0, 4)), true)));
-            let found = left_behind(alloc, calls, tear, behind);
+            let found = left_behind(alloc, calls, *tear, *behind);
             assert_eq!(rt; found, Some(([None, disk, disk, disk], true)));
         }
     }
@@ -245,12 +245,12 @@ const EXTENTS: [(u64, [(u64, u32); 3], Option<u64>); 9] = [
 
 #[test]
 fn first_bad_extent(rt: HostRuntime) {
-    for (size, [first, second, third], bad) in EXTENTS {
+    for (size, [first, second, third], bad) in &EXTENTS {
         let extents = [
             at(first.0, first.1),
             at(second.0, second.1),
             at(third.0, third.1),
         ];
-        assert_eq!(rt; bad_extent(rt.alloc(), &extents, size).ok(), Some(bad));
+        assert_eq!(rt; bad_extent(rt.alloc(), &extents, *size).ok(), Some(*bad));
     }
 }

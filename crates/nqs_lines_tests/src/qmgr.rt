@@ -183,8 +183,8 @@ const LINES: [(&[u8], u8); 53] = [
 
 #[test]
 fn reads_lines(rt: HostRuntime) {
-    for (line, number) in LINES {
-        assert_eq!(rt; code(line), number);
+    for (line, number) in &LINES {
+        assert_eq!(rt; code(line), *number);
     }
 }
 
@@ -288,7 +288,7 @@ const BAD: [(&[u8], GrammarFault); 24] = [
 
 #[test]
 fn finds_faults(rt: HostRuntime) {
-    for (line, found) in BAD {
-        assert_eq!(rt; fault(line), Some(found));
+    for (line, found) in &BAD {
+        assert_eq!(rt; fault(line), Some(*found));
     }
 }

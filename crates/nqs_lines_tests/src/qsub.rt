@@ -129,8 +129,8 @@ const BAD_WORDS: [(&[u8], WordsCause, u32); 8] = [
 
 #[test]
 fn finds_faults_of_the_command(rt: HostRuntime) {
-    for (text, cause, word) in BAD_WORDS {
-        assert_eq!(rt; fault(rt.alloc(), text, b""), Some((cause, 0, word)));
+    for (text, cause, word) in &BAD_WORDS {
+        assert_eq!(rt; fault(rt.alloc(), text, b""), Some((*cause, 0, *word)));
     }
 }
 
@@ -148,8 +148,8 @@ const SCRIPTS: [(&[u8], Option<(WordsCause, u32, u32)>); 5] = [
 
 #[test]
 fn finds_faults_of_the_script(rt: HostRuntime) {
-    for (script, found) in SCRIPTS {
-        assert_eq!(rt; fault(rt.alloc(), b"-p 5", script), found);
+    for (script, found) in &SCRIPTS {
+        assert_eq!(rt; fault(rt.alloc(), b"-p 5", script), *found);
     }
 }
 

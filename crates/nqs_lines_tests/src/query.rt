@@ -97,8 +97,8 @@ const STAT_WORDS: [(&[u8], Option<(WordsCause, u32)>); 5] = [
 
 #[test]
 fn finds_faults_of_qstat(rt: HostRuntime) {
-    for (text, found) in STAT_WORDS {
-        assert_eq!(rt; stat_fault(rt.alloc(), text), found);
+    for (text, found) in &STAT_WORDS {
+        assert_eq!(rt; stat_fault(rt.alloc(), text), *found);
     }
 }
 
@@ -130,8 +130,8 @@ const DELETE_WORDS: [(&[u8], WordsCause, u32); 6] = [
 
 #[test]
 fn finds_faults_of_qdel(rt: HostRuntime) {
-    for (text, cause, word) in DELETE_WORDS {
-        assert_eq!(rt; delete_fault(rt.alloc(), text), Some((cause, word)));
+    for (text, cause, word) in &DELETE_WORDS {
+        assert_eq!(rt; delete_fault(rt.alloc(), text), Some((*cause, *word)));
     }
 }
 

@@ -43,8 +43,8 @@ const READ: [(&[u8], (usize, usize)); 10] = [
 
 #[test]
 fn reads_lines(rt: HostRuntime) {
-    for (text, sizes) in READ {
-        assert_eq!(rt; counts(rt.alloc(), text), Some(sizes));
+    for (text, sizes) in &READ {
+        assert_eq!(rt; counts(rt.alloc(), text), Some(*sizes));
     }
 }
 
@@ -76,8 +76,8 @@ const BAD: [(&[u8], u64, Cause); 18] = [
 
 #[test]
 fn finds_the_first_bad_line(rt: HostRuntime) {
-    for (text, line, cause) in BAD {
-        assert_eq!(rt; fault(rt.alloc(), text), Some((line, cause)));
+    for (text, line, cause) in &BAD {
+        assert_eq!(rt; fault(rt.alloc(), text), Some((*line, *cause)));
     }
 }
 

@@ -6,7 +6,7 @@ use std::test::Fail;
 
 #[test]
 fn reads_numbers(rt: HostRuntime) {
-    for (bytes, answer) in [
+    for (bytes, answer) in &[
         (b"0".as_slice(), Ok(0)),
         (b"0042", Ok(42)),
         (b"18446744073709551615", Ok(u64::MAX)),
@@ -16,13 +16,13 @@ fn reads_numbers(rt: HostRuntime) {
         (b"", Err(NumberFault::Empty)),
         (b"+1", Err(NumberFault::BadByte(0))),
     ] {
-        assert_eq!(rt; read_u64(bytes), answer);
+        assert_eq!(rt; read_u64(bytes), *answer);
     }
 }
 
 #[test]
 fn reads_moments(rt: HostRuntime) {
-    for (bytes, answer) in [
+    for (bytes, answer) in &[
         (b"1970-01-01T00:00:00".as_slice(), Ok(0)),
         (b"1970-01-02T00:00:00", Ok(86_400)),
         (b"2000-01-01T00:00:00", Ok(946_684_800)),
@@ -36,7 +36,7 @@ fn reads_moments(rt: HostRuntime) {
         (b"2001-02-03T00:00:00Z", Err(MomentFault::Form(19))),
         (b"", Err(MomentFault::Form(0))),
     ] {
-        assert_eq!(rt; read_moment(bytes), answer);
+        assert_eq!(rt; read_moment(bytes), *answer);
     }
 }
 
@@ -49,12 +49,12 @@ fn printed(alloc: Global, moment: u64) -> Result<Vec<u8>, PrintFault> {
 #[test]
 fn prints_moments(rt: HostRuntime) -> Result<(), Fail> {
     let alloc = rt.alloc();
-    for (moment, text) in [
+    for (moment, text) in &[
         (86_400, b"1970-01-02T00:00:00".as_slice()),
         (951_827_696, b"2000-02-29T12:34:56"),
         (253_402_214_400, b"9999-12-31T00:00:00"),
     ] {
-        assert_eq!(rt; printed(alloc, moment)?.as_slice(), text);
+        assert_eq!(rt; printed(alloc, *moment)?.as_slice(), *text);
     }
     assert!(rt; matches!(printed(alloc, 253_402_214_401), Err(PrintFault::Range)));
     Ok(())
