@@ -1,9 +1,9 @@
 use Rattle.std.proofs.Common.{◌≡◌, ◌∙◌, ℕ, List, true, false, Some, None, is_some, sym, ap}
-use Rattle.nqs_types.specs.State.{State}
-use Rattle.nqs_types.specs.Keys.{is_queue, is_complex}
+use Rattle.nqs_state.specs.State.{State}
+use Rattle.nqs_state.specs.Keys.{is_queue, is_complex}
 use Rattle.nqs_types.specs.declared.queue.QueueDef.{QueueDef}
 use Rattle.nqs_types.specs.declared.queue.ComplexDef.{ComplexDef}
-use Rattle.nqs_types.proofs.TableLemmas.{is_some-find}
+use Rattle.nqs_keyed.proofs.TableLemmas.{is_some-find}
 use Rattle.nqs_rules.specs.Find.{find_queue, has_queue, find_complex, has_complex}
 
 -- what is found is there, and what isn't found is not

@@ -1,7 +1,7 @@
 //! What an edit of users makes of a host's state.
 ghost use Rattle.std.specs.Prelude.{◌≡◌, ◌<◌, ◌∷◌, ◌++◌, [], length, Some};
-ghost use Rattle.nqs_types.specs.Room.{HasRoomForAccess};
-ghost use Rattle.nqs_types.specs.State.{content};
+ghost use Rattle.nqs_state.specs.Room.{HasRoomForAccess};
+ghost use Rattle.nqs_state.specs.State.{content};
 ghost use Rattle.nqs_types.specs.declared.edit.AccessEdit.{AccessEdit};
 ghost use Rattle.nqs_types.specs.declared.queue.QueueDef.{QueueDef};
 ghost use Rattle.nqs_rules.specs.Access.{without_user};
@@ -10,7 +10,9 @@ ghost use Rattle.nqs_rules.specs.Edits.{change_queue};
 ghost use Rattle.nqs_rules.specs.Find.{find_queue};
 
 use crate::names::drop_name;
-use nqs_types::{Access, AccessEdit, HostState, ListOf, Name, NameList, QueueDef, Spare};
+use nqs_state::HostState;
+use nqs_types::{Access, AccessEdit, QueueDef};
+use nqs_values::{ListOf, Name, NameList, Spare};
 
 // The queue has another access: what any edit does that gives it that access.
 fn set_access(state: &mut HostState, queue: &Name, access: Access)

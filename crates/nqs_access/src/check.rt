@@ -1,6 +1,6 @@
 //! Why an edit of users is refused.
 ghost use Rattle.std.specs.Prelude.{◌≡◌, ◌∷◌, [], ◌&&◌, not};
-ghost use Rattle.nqs_types.specs.State.{content};
+ghost use Rattle.nqs_state.specs.State.{content};
 ghost use Rattle.nqs_types.specs.declared.edit.AccessEdit.{AccessEdit};
 ghost use Rattle.nqs_types.specs.declared.refusal.Refusal.TheVariants as refusal;
 ghost use Rattle.nqs_rules.specs.Access.{access_causes, add_name_causes, lists_user, may_remove, has_full_list, is_full, lists_all, is_root};
@@ -9,7 +9,9 @@ ghost use Rattle.nqs_rules.specs.Find.{has_name};
 
 use crate::names::{has_name, known_queue};
 use crate::way::admits;
-use nqs_types::{Access, AccessEdit, HostState, Name, QueueDef, Refusal};
+use nqs_state::HostState;
+use nqs_types::{Access, AccessEdit, QueueDef, Refusal};
+use nqs_values::Name;
 
 fn is_full(access: &Access) -> bool
     ensures { result ≡ is_full access.now }

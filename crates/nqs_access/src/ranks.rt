@@ -1,11 +1,13 @@
 //! Ranks of users, and which commands each rank may give.
 ghost use Rattle.std.specs.Prelude.{◌≡◌};
-ghost use Rattle.nqs_types.specs.State.{content};
+ghost use Rattle.nqs_state.specs.State.{content};
 ghost use Rattle.nqs_rules.specs.Access.{rank, is_conf_of_operators, is_device_edit_of_operators, is_of_operators, rank_causes, may_command};
 ghost use Rattle.nqs_rules.specs.Causes.{first_refusal};
 
 use crate::names::has_name;
-use nqs_types::{Command, ConfEdit, DevicesEdit, Edit, HostState, Name, Rank, Refusal};
+use nqs_state::HostState;
+use nqs_types::{Command, ConfEdit, DevicesEdit, Edit, Rank, Refusal};
+use nqs_values::Name;
 
 /// The rank of a user at this host. A manager who is an operator too is a manager.
 pub fn rank(state: &HostState, user: &Name) -> Rank

@@ -4,7 +4,7 @@ ghost use Rattle.nqs_disk.specs.MemDisk.{history_of};
 
 use nqs_disk::MemDisk;
 use nqs_journal::{Journal, format};
-use nqs_types::Memory;
+use nqs_values::Memory;
 use std::alloc::Global;
 
 const PAYLOAD: [u8; 100] = [7; 100];

@@ -11,7 +11,7 @@ mod spool;
 mod words;
 
 use journal::append_payloads;
-use nqs_types::Memory;
+use nqs_values::Memory;
 use spool::put_and_free;
 use std::env;
 use std::process::ExitCode;

@@ -3,7 +3,7 @@ ghost use Rattle.std.specs.Prelude.{◌≤◌};
 
 use nqs_disk::MemDisk;
 use nqs_spool::Spool;
-use nqs_types::{Extent, Memory};
+use nqs_values::{Extent, Memory};
 use std::alloc::Global;
 
 /// The longest list of bytes that is put.

@@ -2,10 +2,10 @@
 //! them. A test sets the fields that it is about; a host is filled through a reference, and let go by `drop`.
 #![tactic(auto)]
 
-use nqs_types::{
-    Access, Bytes, Extent, Hold, HostId, HostState, Job, Key, Keyed, Kind, Limits, ListOf, Memory,
-    Name, QueueDef, RequestId, Row, RowState, Spare, Table,
-};
+use nqs_keyed::Table;
+use nqs_state::HostState;
+use nqs_types::{Access, Hold, HostId, Job, Kind, Limits, QueueDef, RequestId, Row, RowState};
+use nqs_values::{Bytes, Extent, Key, Keyed, ListOf, Memory, Name, Spare};
 use std::alloc::Global;
 
 /// No limit of processor time and none of memory.

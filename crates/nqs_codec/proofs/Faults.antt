@@ -1,8 +1,8 @@
 -- At one place of a list there is one fault.
 use Rattle.std.proofs.Common.{◌≡◌, ℕ, ◌+◌, ◌<◌, ◌≤◌, ◌⊎◌, inl, inr, Bool, true, false, IsTrue, List, [], ◌∷◌, length, drop, refl, sym, ap, ◌∙◌, subst, arith, length-append, Err, slice_index, nat_lt}
 use Rattle.std.proofs.lemmas.Bool.Decides.{nat_tests}
-use Rattle.nqs_types.specs.Name.{IsFirstBad, allowed_at}
-use Rattle.nqs_types.specs.Path.{IsFirstBadOfPath, path_allowed_at, PathAllowedBelow}
+use Rattle.nqs_values.specs.Name.{IsFirstBad, allowed_at}
+use Rattle.nqs_values.specs.Path.{IsFirstBadOfPath, path_allowed_at, PathAllowedBelow}
 use Rattle.nqs_codec.specs.Fields.{short_field}
 use Rattle.nqs_codec.specs.Takes.{TakesBool, TakesName, TakesPath, IsOther, IsCutShort, IsBadLength, IsShortFault, IsShortAt, HasBadByte, HasParentAt}
 use Rattle.nqs_codec.specs.declared.fault.FieldFault.{FieldFault}

@@ -5,12 +5,12 @@
 //! not all there the answer is `Short`, before any of them is looked at. No call takes memory.
 
 ghost use Rattle.std.specs.Prelude.{◌≡◌, ◌≤◌, length, IfOk, IfErr, IfSome, IfNone};
-ghost use Rattle.nqs_types.specs.Path.{is_visible, path_allowed_at, PathAllowedBelow, IsFirstBadOfPath, has_parent};
+ghost use Rattle.nqs_values.specs.Path.{is_visible, path_allowed_at, PathAllowedBelow, IsFirstBadOfPath, has_parent};
 ghost use Rattle.nqs_codec.specs.Takes.{TakesBool, TakesName, TakesPath, IsShortAt, IsShortFault};
 
 use crate::fault::FieldFault;
 use crate::take::{part_at, take_u8};
-use nqs_types::{Extent, Name, NameFault};
+use nqs_values::{Extent, Name, NameFault};
 
 /// The yes or no at the place.
 pub fn take_bool(bytes: &[u8], place: u64) -> Result<(bool, u64), FieldFault>

@@ -1,6 +1,6 @@
 use Rattle.std.proofs.Common.{length, ◌≤◌, arith}
 use Rattle.std.proofs.lemmas.Bool.Decides.{nat_tests}
-use Rattle.nqs_types.specs.State.{State}
+use Rattle.nqs_state.specs.State.{State}
 use Rattle.nqs_rules.specs.Find.{held_count}
 use Rattle.nqs_rules.specs.InOrder.{IsInOrder}
 

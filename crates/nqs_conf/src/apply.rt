@@ -1,7 +1,7 @@
 //! What an edit of queues or parameters makes of a host's state.
 ghost use Rattle.std.specs.Prelude.{◌≡◌, ◌<◌, ◌≤◌, ◌&&◌, [], false, length, IsTrue, Ok};
-ghost use Rattle.nqs_types.specs.Room.{HasRoomForConf};
-ghost use Rattle.nqs_types.specs.State.{content};
+ghost use Rattle.nqs_state.specs.Room.{HasRoomForConf};
+ghost use Rattle.nqs_state.specs.State.{content};
 ghost use Rattle.nqs_types.specs.declared.edit.ConfEdit.{ConfEdit};
 ghost use Rattle.nqs_rules.specs.Causes.{first_refusal};
 ghost use Rattle.nqs_rules.specs.Conf.{add_queue, at_most, conf_applied, conf_causes, conf_edited, created_dests, default_without, is_conf_within, is_queued_in, without_member};
@@ -13,9 +13,9 @@ ghost use Rattle.nqs_rules.specs.Tests.{is_queued};
 use crate::create::{Created, create_queue};
 use crate::dest::{created_dest, dest_list, drop_dest, meant_dest};
 use nqs_access::drop_name;
-use nqs_types::{
-    ComplexDef, ConfEdit, HostState, Kind, ListOf, Name, NamedDest, QueueDef, Row, RowState,
-};
+use nqs_state::HostState;
+use nqs_types::{ComplexDef, ConfEdit, Kind, NamedDest, QueueDef, Row, RowState};
+use nqs_values::{ListOf, Name};
 
 fn drop_member(complex: &mut ComplexDef, queue: &Name)
     ensures { complex.new ≡ without_member queue.now complex.old }

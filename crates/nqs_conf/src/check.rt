@@ -1,6 +1,6 @@
 //! Why an edit of queues or parameters is refused.
 ghost use Rattle.std.specs.Prelude.{◌≡◌, ◌≤◌, ◌∷◌, [], length, not};
-ghost use Rattle.nqs_types.specs.State.{content};
+ghost use Rattle.nqs_state.specs.State.{content};
 ghost use Rattle.nqs_types.specs.declared.edit.ConfEdit.{ConfEdit};
 ghost use Rattle.nqs_types.specs.declared.refusal.Refusal.TheVariants as refusal;
 ghost use Rattle.nqs_rules.specs.Causes.{cause, first_refusal};
@@ -9,7 +9,9 @@ ghost use Rattle.nqs_rules.specs.Find.{held_count, meant_dest};
 
 use crate::dest::{known_host, lists_dest, meant_dest};
 use nqs_access::known_queue;
-use nqs_types::{ConfEdit, HostState, Kind, Name, NamedDest, Promise, QueueDef, Refusal, Row};
+use nqs_state::HostState;
+use nqs_types::{ConfEdit, Kind, NamedDest, Promise, QueueDef, Refusal, Row};
+use nqs_values::Name;
 
 fn check_create(state: &HostState, queue: &Name) -> Result<(), Refusal>
     ensures { result ≡ first_refusal (create_causes queue.now (content state.now)) }

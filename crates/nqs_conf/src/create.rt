@@ -1,11 +1,13 @@
 //! Created queues.
 ghost use Rattle.std.specs.Prelude.{◌≡◌, ◌<◌, IsTrue, unwrap_or, false};
-ghost use Rattle.nqs_types.specs.State.{content};
+ghost use Rattle.nqs_state.specs.State.{content};
 ghost use Rattle.nqs_rules.specs.Conf.{add_queue, at_most};
 ghost use Rattle.nqs_rules.specs.Find.{has_queue};
 ghost use Rattle.nqs_rules.specs.Format.{new_queue, no_limits};
 
-use nqs_types::{Access, DestList, HostState, Kind, Limits, ListOf, Name, QueueDef};
+use nqs_state::HostState;
+use nqs_types::{Access, DestList, Kind, Limits, QueueDef};
+use nqs_values::{ListOf, Name};
 
 /// What of a created queue is typed.
 #[derive(Clone, Copy)]

@@ -1,16 +1,16 @@
 //! Hosts and destinations as they are typed, and what is meant by them.
 ghost use Rattle.std.specs.Prelude.{◌≡◌, ◌<◌, ◌≤◌, ◌∷◌, [], filter, length, not};
 ghost use Rattle.std.specs.List.{list_any};
-ghost use Rattle.nqs_types.specs.State.{content};
+ghost use Rattle.nqs_state.specs.State.{content};
 ghost use Rattle.nqs_rules.specs.Causes.{first_refusal};
 ghost use Rattle.nqs_rules.specs.Conf.{lists_dest, no_host_cause, dest_list, created_dests};
 ghost use Rattle.nqs_rules.specs.Find.{meant_dest};
 ghost use Rattle.nqs_rules.specs.Tests.{same_dest};
 
 use nqs_access::place_of;
-use nqs_types::{
-    Dest, DestList, HostId, HostState, ListOf, Name, NamedDest, QueueDef, Refusal, Spare,
-};
+use nqs_state::HostState;
+use nqs_types::{Dest, DestList, HostId, NamedDest, QueueDef, Refusal};
+use nqs_values::{ListOf, Name, Spare};
 use std::alloc::Global;
 
 /// Whether the site has a host of this name: `NoHost` where it has none.

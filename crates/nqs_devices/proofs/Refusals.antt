@@ -1,8 +1,8 @@
 -- First refusals, after causes that don't hold and by what a look-up found.
 use Rattle.std.proofs.Common.{◌≡◌, ◌∙◌, ℕ, Bool, not, List, [], ◌∷◌, Option, None, Some, Ok, Err, sym}
 use Rattle.std.specs.List.{list_any}
-use Rattle.nqs_types.specs.State.{State}
-use Rattle.nqs_types.specs.Keys.{is_queue}
+use Rattle.nqs_state.specs.State.{State}
+use Rattle.nqs_state.specs.Keys.{is_queue}
 use Rattle.nqs_access.proofs.Causes.{passed}
 use Rattle.nqs_access.proofs.Found.{queue_there, queue_missing}
 use Rattle.nqs_rules.specs.Tests.{passes}

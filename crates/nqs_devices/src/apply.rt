@@ -2,15 +2,17 @@
 
 ghost use Rattle.std.specs.Prelude.{◌≡◌, ◌<◌, false, find, is_ok, IsTrue};
 ghost use Rattle.std.specs.List.{list_any};
-ghost use Rattle.nqs_types.specs.State.{content};
-ghost use Rattle.nqs_types.specs.Keys.{is_device, is_queue};
-ghost use Rattle.nqs_types.specs.Room.{devices_of, HasRoomForDevices};
+ghost use Rattle.nqs_state.specs.State.{content};
+ghost use Rattle.nqs_state.specs.Keys.{is_device, is_queue};
+ghost use Rattle.nqs_state.specs.Room.{devices_of, HasRoomForDevices};
 ghost use Rattle.nqs_rules.specs.Causes.{first_refusal};
 ghost use Rattle.nqs_rules.specs.Edits.{change_device};
 ghost use Rattle.nqs_rules.specs.Devices.{devices_causes, device_edited, without_device, devices_applied};
 
 use nqs_access::drop_name;
-use nqs_types::{DeviceDef, DevicesEdit, HostState, Name, QueueDef};
+use nqs_state::HostState;
+use nqs_types::{DeviceDef, DevicesEdit, QueueDef};
+use nqs_values::Name;
 
 // What an edit makes of its device.
 fn edit_device(def: &mut DeviceDef, edit: &DevicesEdit)

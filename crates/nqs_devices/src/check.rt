@@ -1,14 +1,16 @@
 //! Whether an edit of devices is refused.
 
 ghost use Rattle.std.specs.Prelude.{◌≡◌, ◌∷◌, [], not, nat_le, length};
-ghost use Rattle.nqs_types.specs.State.{content};
+ghost use Rattle.nqs_state.specs.State.{content};
 ghost use Rattle.nqs_rules.specs.Causes.{cause, first_refusal};
 ghost use Rattle.nqs_rules.specs.Find.{has_device};
 ghost use Rattle.nqs_rules.specs.Devices.{device_causes, idle_device_causes, devices_causes, is_device_queue, lists_device};
 
 use crate::free::is_busy;
 use nqs_access::has_name;
-use nqs_types::{DevicesEdit, HostState, Kind, Name, QueueDef, Refusal};
+use nqs_state::HostState;
+use nqs_types::{DevicesEdit, Kind, QueueDef, Refusal};
+use nqs_values::Name;
 
 fn check_device(state: &HostState, device: &Name) -> Result<(), Refusal>
     ensures { result ≡ first_refusal (device_causes device.now (content state.now)) }

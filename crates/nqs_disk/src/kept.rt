@@ -5,7 +5,7 @@ ghost use Rattle.nqs_disk.specs.Calls.{calls_of};
 
 use crate::DiskCall;
 use crate::calls::{MOST, overwrite};
-use nqs_types::{Bytes, Memory};
+use nqs_values::{Bytes, Memory};
 use std::alloc::Global;
 
 // Makes a write and keeps it. Without room for either nothing changes.

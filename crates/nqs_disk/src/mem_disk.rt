@@ -9,7 +9,7 @@ use crate::kept::{keep_sync, keep_write};
 use crate::torn::torn_bytes;
 use crate::{DiskCall, Fuse};
 use nqs_outside::{Disk, Failed, Fused};
-use nqs_types::{Memory, Tear};
+use nqs_values::{Memory, Tear};
 use std::alloc::Global;
 
 #[derive(Drop)]

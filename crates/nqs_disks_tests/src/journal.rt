@@ -5,7 +5,7 @@ ghost use Rattle.nqs_disk.specs.MemDisk.{history_of};
 use nqs_disk::MemDisk;
 use nqs_journal::{Journal, JournalFault, format, read_payloads};
 use nqs_outside::{Disk, Failed, Fused};
-use nqs_types::{Bytes, Tear};
+use nqs_values::{Bytes, Tear};
 use std::alloc::Global;
 use std::test::Fail;
 

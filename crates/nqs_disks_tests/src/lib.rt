@@ -9,4 +9,6 @@ mod journal;
 #[cfg(test)]
 mod node;
 #[cfg(test)]
+mod records;
+#[cfg(test)]
 mod spool;

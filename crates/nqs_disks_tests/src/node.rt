@@ -12,9 +12,8 @@ ghost use Rattle.nqs_node.specs.Nodes.{content_of};
 use nqs_disk::MemDisk;
 use nqs_node::Node;
 use nqs_store::{Disks, StoreFault, format};
-use nqs_types::{
-    Bytes, Command, ConfEdit, Edit, Event, HostId, Job, Limits, Memory, Name, Output, Submission,
-};
+use nqs_types::{Command, ConfEdit, Edit, Event, HostId, Job, Limits, Output, Submission};
+use nqs_values::{Bytes, Memory, Name};
 use std::alloc::Global;
 use std::rt::HostRuntime;
 

@@ -7,7 +7,7 @@ ghost use Rattle.nqs_spool.specs.Extents.{extent_at};
 use nqs_disk::MemDisk;
 use nqs_outside::Disk;
 use nqs_spool::{Spool, SpoolFault, bad_extent};
-use nqs_types::{Extent, Tear};
+use nqs_values::{Extent, Tear};
 use std::alloc::Global;
 use std::test::Fail;
 

@@ -1,6 +1,6 @@
 -- Why an offer is refused, part by part.
 use Rattle.std.specs.Prelude.{ℕ, not, List, [], ◌∷◌, ◌++◌, Result, Ok, Err}
-use Rattle.nqs_types.specs.State.{State}
+use Rattle.nqs_state.specs.State.{State}
 use Rattle.nqs_rules.specs.Causes.{Cause, cause, refusal_number}
 use Rattle.nqs_rules.specs.Find.{has_queue, find_queue}
 use Rattle.nqs_rules.specs.Fits.{offer_full}

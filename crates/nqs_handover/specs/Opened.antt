@@ -1,7 +1,7 @@
 -- A handover opened for a row that is named by its place, and what keeps the numbers of rows small.
 use Rattle.std.specs.Prelude.{ℕ, Bool, nat_lt, Option, None, Some}
 use Rattle.std.specs.List.{list_all}
-use Rattle.nqs_types.specs.State.{State}
+use Rattle.nqs_state.specs.State.{State}
 use Rattle.nqs_rules.specs.Stepped.{Stepped, quiet}
 use Rattle.nqs_rules.specs.Start.{started}
 use Rattle.nqs_types.specs.declared.request.Row.{Row}

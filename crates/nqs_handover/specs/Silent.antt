@@ -1,6 +1,6 @@
 -- The handovers whose offers are silent, one by one.
 use Rattle.std.specs.Prelude.{ℕ, if◌then◌else◌, List, [], ◌∷◌}
-use Rattle.nqs_types.specs.State.{State}
+use Rattle.nqs_state.specs.State.{State}
 use Rattle.nqs_types.specs.Ids.{hand_key}
 use Rattle.nqs_rules.specs.Handover.{is_silent}
 use Rattle.nqs_types.specs.declared.ids.PeerNumber.{PeerNumber}

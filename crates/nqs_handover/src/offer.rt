@@ -1,6 +1,6 @@
 //! An offer comes.
 ghost use Rattle.std.specs.Prelude.{◌≡◌, ◌∷◌, ◌++◌, [], ◌||◌, IfOk};
-ghost use Rattle.nqs_types.specs.State.{content};
+ghost use Rattle.nqs_state.specs.State.{content};
 ghost use Rattle.nqs_rules.specs.Causes.{first_refusal};
 ghost use Rattle.nqs_rules.specs.Find.{has_row, has_promise, find_peer};
 ghost use Rattle.nqs_rules.specs.Fits.{offer_full};
@@ -16,10 +16,12 @@ use nqs_plans::{
     add, change_storing, copy_bytes, copy_carried, find_peer, message, no_extent, refusal_number,
     says,
 };
+use nqs_state::HostState;
 use nqs_types::{
-    Body, Bytes, Carried, Change, Entry, HostId, HostState, Job, Memory, Name, PeerNumber, Plan,
-    Promise, QueueDef, Refusal, RequestId,
+    Body, Carried, Change, Entry, HostId, Job, PeerNumber, Plan, Promise, QueueDef, Refusal,
+    RequestId,
 };
+use nqs_values::{Bytes, Memory, Name};
 use std::alloc::Global;
 
 // The number of a refusal for a request that exists.

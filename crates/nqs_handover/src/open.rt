@@ -1,7 +1,7 @@
 //! A handover is opened.
 ghost use Rattle.std.specs.Prelude.{◌≡◌, ◌∷◌, [], ◌<◌, IfOk, IsTrue};
 ghost use Rattle.std.specs.Option.{option_copied};
-ghost use Rattle.nqs_types.specs.State.{content};
+ghost use Rattle.nqs_state.specs.State.{content};
 ghost use Rattle.nqs_rules.specs.Handover.{carried_of, offer, open_hand};
 ghost use Rattle.nqs_rules.specs.Start.{dest_at};
 ghost use Rattle.nqs_rules.specs.Stepped.{plan_of};
@@ -10,9 +10,9 @@ ghost use Rattle.nqs_plans.specs.More.{change_alone, with_more};
 ghost use Rattle.nqs_handover.specs.Opened.{may_count_hops, open_hand_at};
 
 use nqs_plans::{add_kept, change_alone, copy_job, find_peer, message, quiet};
-use nqs_types::{
-    Body, Carried, Change, Dest, HostId, HostState, ListOf, Memory, Name, Peer, Plan, Row,
-};
+use nqs_state::HostState;
+use nqs_types::{Body, Carried, Change, Dest, HostId, Peer, Plan, Row};
+use nqs_values::{ListOf, Memory, Name};
 use std::alloc::Global;
 
 fn carried_of(row: &Row) -> Result<Carried, Memory>

@@ -1,12 +1,14 @@
 //! Datagrams to the receiver of a handover, but for offers.
 ghost use Rattle.std.specs.Prelude.{◌≡◌, IfOk, Ok};
-ghost use Rattle.nqs_types.specs.State.{content};
+ghost use Rattle.nqs_state.specs.State.{content};
 ghost use Rattle.nqs_rules.specs.Handover.{on_commit, on_abort};
 ghost use Rattle.nqs_rules.specs.Stepped.{plan_of};
 
 use crate::offer::{has_promise, is_closed};
 use nqs_plans::{add, change_alone, message, quiet, says};
-use nqs_types::{Body, Change, HostId, HostState, Memory, Plan};
+use nqs_state::HostState;
+use nqs_types::{Body, Change, HostId, Plan};
+use nqs_values::Memory;
 use std::alloc::Global;
 
 /// COMMIT: the promised request is this host's, and DONE goes out; again where the number is closed already.

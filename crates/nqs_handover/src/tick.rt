@@ -1,7 +1,7 @@
 //! What a tick says again, and which offers it takes back.
 ghost use Rattle.std.specs.Prelude.{◌≡◌, ◌∷◌, ◌++◌, [], IfOk, IsTrue};
 ghost use Rattle.nqs_rules.specs.Find.{find_row};
-ghost use Rattle.nqs_types.specs.State.{content};
+ghost use Rattle.nqs_state.specs.State.{content};
 ghost use Rattle.nqs_rules.specs.Handover.{later, is_silent, silent_hands, repeat_offer, repeat_phase, repeat_hand, send_inquire, silence, on_tick};
 ghost use Rattle.nqs_rules.specs.Stepped.{plan_of};
 ghost use Rattle.nqs_plans.specs.More.{with_more};
@@ -10,9 +10,9 @@ ghost use Rattle.nqs_handover.specs.Silent.{silent_key};
 
 use crate::open::add_offer;
 use nqs_plans::{add, change_alone, fold_each, message, quiet};
-use nqs_types::{
-    Body, Change, Hand, HostState, Items, Keyed, ListOf, Memory, PeerNumber, Phase, Plan, Promise,
-};
+use nqs_state::HostState;
+use nqs_types::{Body, Change, Hand, PeerNumber, Phase, Plan, Promise};
+use nqs_values::{Items, Keyed, ListOf, Memory};
 use std::alloc::Global;
 
 // The moment so many seconds later, or the last one.

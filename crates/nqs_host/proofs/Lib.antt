@@ -1,7 +1,1 @@
-pub mod Fresh
-pub mod Places
-pub mod Losses
-pub mod Refused
 pub mod PromiseFits
-pub mod Running
-pub mod Booted

@@ -1,7 +1,7 @@
 -- What a promise that fits has.
 use Rattle.std.proofs.Common.{◌≡◌, ℕ, ◌<◌, true, not, nat_le, List, [], ◌∷◌, Option, None, Some, sym, true≢false, arith}
 use Rattle.std.proofs.lemmas.Bool.{leb-false}
-use Rattle.nqs_types.specs.State.{State}
+use Rattle.nqs_state.specs.State.{State}
 use Rattle.nqs_types.specs.declared.ids.HostId.{HostId}
 use Rattle.nqs_types.specs.declared.request.Carried.{Carried}
 use Rattle.nqs_types.specs.declared.request.Peer.{Peer}

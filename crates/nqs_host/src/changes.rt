@@ -1,28 +1,22 @@
 //! What each change makes of a host's state. No change takes memory: the room was made before.
 
 ghost use Rattle.std.specs.Prelude.{◌≡◌, IsTrue};
-ghost use Rattle.nqs_types.specs.State.{content};
-ghost use Rattle.nqs_types.specs.Room.{HasRoom, HasRoomForEdit};
+ghost use Rattle.nqs_state.specs.State.{content};
+ghost use Rattle.nqs_state.specs.Room.{HasRoom, HasRoomForEdit};
 ghost use Rattle.nqs_rules.specs.InOrder.{IsInOrder};
 ghost use Rattle.nqs_rules.specs.Sane.{is_sane_change, is_sane_edit};
 ghost use Rattle.nqs_rules.specs.Fits.{fits, edit_fits};
 ghost use Rattle.nqs_rules.specs.Applied.{edit_applied, applied};
 
-mod boot;
-mod hands;
-mod outputs;
-mod peers;
-mod promises;
-mod rows;
-
-pub use boot::{boot_running, may_start_again};
 use nqs_access::apply_access;
+use nqs_changes::{boot, hands, outputs, promises, rows};
 use nqs_conf::apply_conf;
 use nqs_devices::apply_devices;
 use nqs_limits::apply_limits;
 use nqs_routing::note_refusal;
 use nqs_rows::apply_rows;
-use nqs_types::{Change, Dest, Edit, Hand, HostId, HostState, PeerNumber, Phase};
+use nqs_state::HostState;
+use nqs_types::{Change, Dest, Edit, Hand, HostId, PeerNumber, Phase};
 
 fn key(peer: HostId, number: u64) -> PeerNumber
     ensures { result ≡ record { peer = peer; number = number } }

@@ -2,9 +2,9 @@
 
 ghost use Rattle.std.specs.Prelude.{◌≡◌, ◌≤◌, ◌&&◌, not, nat_lt, length, is_ok};
 ghost use Rattle.std.specs.List.{list_any};
-ghost use Rattle.nqs_types.specs.State.{content};
+ghost use Rattle.nqs_state.specs.State.{content};
 ghost use Rattle.nqs_rules.specs.Find.{has_queue};
-ghost use Rattle.nqs_rules.specs.Fits.{is_offered_hand, is_committed_hand, is_next, is_open_number, is_new_stage, runs, is_idle, may_hop, row_passes, hand_passes, are_offered, device_fits, edit_fits, is_unknown, offer_full, fits};
+ghost use Rattle.nqs_rules.specs.Fits.{is_offered_hand, is_committed_hand, is_next, is_open_number, is_new_stage, is_idle, may_hop, row_passes, hand_passes, are_offered, device_fits, edit_fits, is_unknown, offer_full, fits};
 ghost use Rattle.nqs_rules.specs.Tests.{passes, is_ready, last_seq};
 ghost use Rattle.nqs_rules.specs.Find.{find_peer, held_count, has_promise};
 ghost use Rattle.nqs_rules.specs.Routing.{is_hand_to};
@@ -13,14 +13,17 @@ ghost use Rattle.nqs_rules.specs.Fits.{is_site_host};
 ghost use Rattle.nqs_rules.specs.Applied.{is_promise_of};
 
 use nqs_access::check_access;
+use nqs_changes::promises::is_promise_of;
+use nqs_changes::rows::row_runs;
 use nqs_conf::check_conf;
 use nqs_devices::{check_devices, is_busy};
 use nqs_limits::check_limits;
 use nqs_rows::check_rows;
+use nqs_state::HostState;
 use nqs_types::{
-    Change, Edit, Hand, Hold, HostId, HostState, Name, PeerNumber, Phase, Promise, RequestId, Row,
-    RowState,
+    Change, Edit, Hand, Hold, HostId, PeerNumber, Phase, Promise, RequestId, Row, RowState,
 };
+use nqs_values::Name;
 
 /// Rows and promises that a host has at most.
 const MOST_HELD: usize = 10_000;
@@ -33,15 +36,6 @@ fn is_ready(row: &Row) -> bool
     ensures { result ≡ is_ready row.now }
 {
     row.state == RowState::Queued && row.hold == Hold::No
-}
-
-pub(crate) fn row_runs(state: &HostState, id: &RequestId) -> bool
-    ensures { result ≡ row_passes runs id.now (content state.now) }
-{
-    match state.rows.get(id) {
-        Some(row) => row.state == RowState::Running,
-        None => false,
-    }
 }
 
 fn row_is_idle(state: &HostState, id: &RequestId) -> bool
@@ -152,12 +146,6 @@ fn is_full(state: &HostState) -> bool
     ensures { result ≡ is_host_full (content state.now) }
 {
     MOST_HELD <= state.rows.len() + state.promises.len()
-}
-
-pub(crate) fn is_promise_of(promise: &Promise, peer: HostId) -> bool
-    ensures { result ≡ is_promise_of peer promise.now }
-{
-    peer == promise.peer
 }
 
 // Whether the host would have too many with one more of this peer, in place of an older promise to it.

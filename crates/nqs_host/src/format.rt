@@ -1,13 +1,13 @@
 //! A host as it is formatted. `nqs_rules/specs/Format.antt` has the rule.
 
 ghost use Rattle.std.specs.Prelude.{◌≡◌, ◌∷◌, [], codes, IfOk, map};
-ghost use Rattle.nqs_types.specs.State.{content};
+ghost use Rattle.nqs_state.specs.State.{content};
 ghost use Rattle.nqs_rules.specs.Format.{no_limits, new_peer, first_queue, formatted};
 
-use nqs_types::{
-    Access, HostId, HostState, Kind, Limits, ListOf, Memory, Name, NameList, Peer, PeerList,
-    QueueDef, Spare, Table,
-};
+use nqs_keyed::Table;
+use nqs_state::{HostState, PeerList};
+use nqs_types::{Access, HostId, Kind, Limits, Peer, QueueDef};
+use nqs_values::{ListOf, Memory, Name, NameList, Spare};
 use std::alloc::Global;
 
 /// Requests that may run at once.

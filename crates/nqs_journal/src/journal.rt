@@ -13,7 +13,7 @@ use crate::begin::{snapshot_text, write_begin};
 use crate::load::{read_journal, read_payloads};
 use crate::write::{fill, write_behind};
 use nqs_outside::{Disk, Failed, Fused};
-use nqs_types::Bytes;
+use nqs_values::Bytes;
 use std::alloc::Global;
 
 pub(crate) const LONGEST: usize = 65_536;

@@ -8,7 +8,7 @@ ghost use Rattle.nqs_journal.specs.Faults.{IsLoadFault};
 use crate::JournalFault;
 use crate::read::{Reading, read_text};
 use nqs_outside::{Disk, Failed};
-use nqs_types::Bytes;
+use nqs_values::Bytes;
 use std::alloc::Global;
 
 impl From<Failed> for JournalFault {

@@ -5,7 +5,7 @@ ghost use Rattle.nqs_journal.specs.Faults.{IsReadFault};
 
 use crate::JournalFault;
 use crate::journal::LONGEST;
-use nqs_types::Bytes;
+use nqs_values::Bytes;
 use std::alloc::Global;
 
 pub(crate) const HEADER: [u8; 16] = *b"NQS-JOURNAL-v1\n\n";

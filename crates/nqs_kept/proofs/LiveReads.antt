@@ -1,8 +1,8 @@
 -- What goes out reads live extents: a step hands stored parts on and makes none, so it does the same where each part carries the proof that it lives.
 use Rattle.std.proofs.Common.{◌≡◌, inl, inr, ℕ, List, [], ◌∷◌, ◌++◌, map, Option, None, Some, option_map, refl, sym, ap, subst, ◌∙◌}
 use Rattle.std.specs.Option.{IfSome}
-use Rattle.nqs_types.specs.State.{State}
-use Rattle.nqs_types.specs.declared.extent.Extent.{Extent}
+use Rattle.nqs_state.specs.State.{State}
+use Rattle.nqs_values.specs.declared.extent.Extent.{Extent}
 use Rattle.nqs_types.specs.declared.event.Event.{Event}
 use Rattle.nqs_types.specs.declared.request.Row.{Row}
 use Rattle.nqs_types.specs.declared.request.Promise.{Promise}

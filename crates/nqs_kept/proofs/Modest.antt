@@ -4,9 +4,9 @@ use Rattle.std.proofs.lemmas.Bool.{and_parts, leb-true, le-leb}
 use Rattle.std.proofs.lemmas.List.{length-map}
 use Rattle.std.specs.List.{AllByRecursion, list_any}
 use Rattle.std.specs.Option.{IfSome, option_and_then}
-use Rattle.nqs_types.specs.State.{State}
-use Rattle.nqs_types.specs.Path.{is_path}
-use Rattle.nqs_types.specs.Keys.{is_file}
+use Rattle.nqs_state.specs.State.{State}
+use Rattle.nqs_values.specs.Path.{is_path}
+use Rattle.nqs_state.specs.Keys.{is_file}
 use Rattle.nqs_types.specs.declared.ids.HostId.{HostId}
 use Rattle.nqs_types.specs.declared.ids.Dest.{Dest}
 use Rattle.nqs_types.specs.declared.ids.RequestId.{RequestId}

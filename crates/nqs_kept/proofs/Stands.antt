@@ -3,11 +3,11 @@ use Rattle.std.proofs.Common.{◌≡◌, ℕ, zero, suc, ◌<◌, Bool, true, no
 use Rattle.std.proofs.lemmas.Bool.{and_parts, and_from, leb-true, le-leb, ltb-true, lt-ltb, not-true}
 use Rattle.std.specs.List.{list_all, AllByRecursion}
 use Rattle.nqs_types.specs.Ids.{id_exact, peer_number_eq, peer_number_exact, hand_key, promise_key, stage_key}
-use Rattle.nqs_types.specs.Keys.{is_row, is_promise, is_stage}
-use Rattle.nqs_types.specs.Table.{has_key}
-use Rattle.nqs_types.specs.Path.{is_visible, PathAllowedBelow, has_parent, begins_with_slash, IsPath, is_path}
-use Rattle.nqs_types.specs.State.{State}
-use Rattle.nqs_types.specs.declared.extent.Extent.{Extent}
+use Rattle.nqs_state.specs.Keys.{is_row, is_promise, is_stage}
+use Rattle.nqs_keyed.specs.Table.{has_key}
+use Rattle.nqs_values.specs.Path.{is_visible, PathAllowedBelow, has_parent, begins_with_slash, IsPath, is_path}
+use Rattle.nqs_state.specs.State.{State}
+use Rattle.nqs_values.specs.declared.extent.Extent.{Extent}
 use Rattle.nqs_types.specs.declared.ids.HostId.{HostId}
 use Rattle.nqs_types.specs.declared.ids.Named.{Named}
 use Rattle.nqs_types.specs.declared.ids.PeerNumber.{PeerNumber}

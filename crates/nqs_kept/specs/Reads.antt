@@ -1,7 +1,7 @@
 -- What the outputs of a step read.
 use Rattle.std.specs.Prelude.{List, Option, None, Some}
 use Rattle.std.specs.List.{AllByRecursion}
-use Rattle.nqs_types.specs.declared.extent.Extent.{Extent}
+use Rattle.nqs_values.specs.declared.extent.Extent.{Extent}
 use Rattle.nqs_rules.specs.Stepped.{Pending}
 use Rattle.nqs_spool.specs.Extents.{Has}
 use Rattle.nqs_store.specs.Told.{Host}

@@ -1,7 +1,7 @@
 //! Edits that fit a host in order, and are within their limits, may stand in a record.
 
 ghost use Rattle.std.specs.Prelude.{IsTrue};
-ghost use Rattle.nqs_types.specs.State.{content};
+ghost use Rattle.nqs_state.specs.State.{content};
 ghost use Rattle.nqs_types.specs.declared.edit.Edit.TheVariants.{Rows};
 ghost use Rattle.nqs_rules.specs.Conf.{is_conf_within};
 ghost use Rattle.nqs_rules.specs.Limits.{is_limits_within};
@@ -12,7 +12,8 @@ ghost use Rattle.nqs_rules.specs.InOrder.{IsInOrder};
 ghost use Rattle.nqs_records.specs.EditValues.{IsConfEdit, IsLimitsEdit, IsAccessEdit, IsDevicesEdit, IsRowsEdit, IsEdit};
 
 use crate::values::{dest_stands, maybe_dest_stands, maybe_number_stands, name_stands};
-use nqs_types::{AccessEdit, ConfEdit, DevicesEdit, Edit, HostState, LimitsEdit, RowsEdit};
+use nqs_state::HostState;
+use nqs_types::{AccessEdit, ConfEdit, DevicesEdit, Edit, LimitsEdit, RowsEdit};
 
 fn conf_edit_stands(edit: &ConfEdit)
     requires { IsTrue (is_conf_within edit.now) }

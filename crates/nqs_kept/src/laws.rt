@@ -2,10 +2,10 @@
 
 ghost use Rattle.std.specs.Prelude.{◌≡◌, ℕ, List, IsTrue, IfSome, length};
 ghost use Rattle.std.specs.List.{AllByRecursion};
-ghost use Rattle.nqs_types.specs.State.{State, content};
+ghost use Rattle.nqs_state.specs.State.{State, content};
 ghost use Rattle.nqs_types.specs.declared.change.Change.{Change};
 ghost use Rattle.nqs_types.specs.declared.event.Event.{Event};
-ghost use Rattle.nqs_types.specs.declared.extent.Extent.{Extent};
+ghost use Rattle.nqs_values.specs.declared.extent.Extent.{Extent};
 ghost use Rattle.nqs_records.specs.Changes.{MayStand};
 ghost use Rattle.nqs_records.specs.Values.{IsExtent};
 ghost use Rattle.nqs_rules.specs.Fits.{fits};
@@ -23,7 +23,8 @@ use crate::values::{
     byte_stands, carried_stands, hands_stand, job_stands, maybe_name_stands, name_stands,
     number_stands,
 };
-use nqs_types::{Change, HostState};
+use nqs_state::HostState;
+use nqs_types::Change;
 
 /// A change that fits a host in order, and is within its limits, may stand in a record. It reads the change's values, whose
 /// types say that names are names and that numbers fit, and does nothing else.

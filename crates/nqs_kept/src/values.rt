@@ -2,13 +2,14 @@
 
 ghost use Rattle.std.specs.Prelude.{IsTrue};
 ghost use Rattle.std.specs.List.{AllByRecursion};
-ghost use Rattle.nqs_types.specs.Name.{IsName};
+ghost use Rattle.nqs_values.specs.Name.{IsName};
 ghost use Rattle.nqs_rules.specs.Sane.{is_sane_job, is_sane_carried};
 ghost use Rattle.nqs_records.specs.Values.{IsU8, IsU64, IsOpt, IsHost, IsJob, IsCarried};
 ghost use Rattle.nqs_records.specs.EditValues.{IsDest};
 ghost use Rattle.nqs_kept.specs.Offers.{HasNumber};
 
-use nqs_types::{Carried, Job, Name, NamedDest, PeerNumber};
+use nqs_types::{Carried, Job, NamedDest, PeerNumber};
+use nqs_values::Name;
 
 pub(crate) fn name_stands(name: &Name)
     ensures { IsName name.now }

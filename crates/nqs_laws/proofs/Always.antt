@@ -1,7 +1,7 @@
 -- What holds of every moment of a run, in the words of the laws.
 use Rattle.std.proofs.Common.{ℕ, nat_le, List, [], ◌∷◌, length}
 use Rattle.std.specs.List.{list_all}
-use Rattle.nqs_types.specs.State.{Plain}
+use Rattle.nqs_state.specs.State.{Plain}
 use Rattle.nqs_rules.specs.World.{Act}
 use Rattle.nqs_rules.specs.Run.{run_of}
 use Rattle.nqs_rules.proofs.Chains.{chained}

@@ -5,8 +5,8 @@ use Rattle.std.proofs.lemmas.Option.{same_Some, none-some}
 use Rattle.std.specs.Option.{option_map}
 use Rattle.std.specs.List.{list_any, list_all}
 use Rattle.nqs_types.specs.Ids.{id_eq, peer_number_eq, peer_number_exact, hand_key}
-use Rattle.nqs_types.specs.State.{Plain}
-use Rattle.nqs_types.specs.Keys.{is_hand, is_promise}
+use Rattle.nqs_state.specs.State.{Plain}
+use Rattle.nqs_state.specs.Keys.{is_hand, is_promise}
 use Rattle.nqs_types.specs.declared.ids.HostId.{HostId}
 use Rattle.nqs_types.specs.declared.ids.Named.{Named}
 use Rattle.nqs_types.specs.declared.ids.PeerNumber.{PeerNumber}

@@ -5,8 +5,8 @@ use Rattle.std.proofs.lemmas.List.{append_assoc, append-nil, length-append}
 use Rattle.std.proofs.lemmas.Option.{same_Some, none-some, slice_get-map}
 use Rattle.std.specs.Option.{option_map}
 use Rattle.std.specs.List.{filter_map, flat_map, list_all}
-use Rattle.nqs_types.specs.State.{Plain}
-use Rattle.nqs_types.specs.Table.{best_from}
+use Rattle.nqs_state.specs.State.{Plain}
+use Rattle.nqs_keyed.specs.Table.{best_from}
 use Rattle.nqs_rules.specs.Edits.{change_at}
 use Rattle.nqs_rules.specs.Applied.{applied}
 use Rattle.nqs_rules.specs.Sane.{is_sane_event}

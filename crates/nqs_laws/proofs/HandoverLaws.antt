@@ -4,8 +4,8 @@ use Rattle.std.proofs.lemmas.Bool.{and_parts, or_left, or_right, or_from, eqb-tr
 use Rattle.std.proofs.lemmas.Option.{none-some}
 use Rattle.std.specs.Option.{option_map}
 use Rattle.nqs_types.specs.Ids.{id_eq}
-use Rattle.nqs_types.specs.Keys.{is_row, is_hand, is_promise}
-use Rattle.nqs_types.specs.State.{Plain}
+use Rattle.nqs_state.specs.Keys.{is_row, is_hand, is_promise}
+use Rattle.nqs_state.specs.State.{Plain}
 use Rattle.nqs_types.specs.declared.ids.HostId.{HostId}
 use Rattle.nqs_types.specs.declared.request.Carried.{Carried}
 use Rattle.nqs_types.specs.declared.request.Hand.{Hand}

@@ -1,7 +1,7 @@
 -- In every world that a run reaches, a half done handover comes to its end event by event.
 use Rattle.std.proofs.Common.{◌≡◌, ℕ, ◌⊎◌, Bool, true, false, ◌||◌, List, is_some, true≢false, refl, sym, subst, ◌∙◌}
 use Rattle.std.proofs.lemmas.Bool.{or_right, false_from_ne_true}
-use Rattle.nqs_types.specs.State.{Plain}
+use Rattle.nqs_state.specs.State.{Plain}
 use Rattle.nqs_types.specs.declared.ids.HostId.{HostId}
 use Rattle.nqs_types.specs.declared.message.Message.{Message}
 use Rattle.nqs_types.specs.declared.message.Body.{Body}

@@ -3,9 +3,9 @@ use Rattle.std.proofs.Common.{◌≡◌, ℕ, ◌⊎◌, inl, inr, Bool, true, f
 use Rattle.std.proofs.lemmas.Option.{same_Some, none-some}
 use Rattle.std.specs.List.{flat_map, list_any}
 use Rattle.nqs_types.specs.Ids.{peer_number_eq, peer_number_exact, hand_key, promise_key}
-use Rattle.nqs_types.specs.Keys.{is_hand, is_promise}
-use Rattle.nqs_types.specs.Table.{without_first}
-use Rattle.nqs_types.specs.State.{Plain}
+use Rattle.nqs_state.specs.Keys.{is_hand, is_promise}
+use Rattle.nqs_keyed.specs.Table.{without_first}
+use Rattle.nqs_state.specs.State.{Plain}
 use Rattle.nqs_types.specs.declared.ids.HostId.{HostId}
 use Rattle.nqs_types.specs.declared.ids.PeerNumber.{PeerNumber}
 use Rattle.nqs_types.specs.declared.request.Hand.{Hand}

@@ -1,8 +1,8 @@
 -- A handover has the last number that its host gave to the peer.
 use Rattle.std.proofs.Common.{◌≡◌, ℕ, ◌+◌, true, length, Option, None, Some, is_some, true≢false, refl, sym, ap, subst, ◌∙◌, arith, List}
 use Rattle.std.proofs.lemmas.Bool.{eqb-true, eq-eqb}
-use Rattle.nqs_types.specs.Keys.{is_hand}
-use Rattle.nqs_types.specs.State.{Plain}
+use Rattle.nqs_state.specs.Keys.{is_hand}
+use Rattle.nqs_state.specs.State.{Plain}
 use Rattle.nqs_types.specs.declared.ids.HostId.{HostId}
 use Rattle.nqs_types.specs.declared.request.Hand.{Hand}
 use Rattle.nqs_types.specs.declared.request.Phase.{Phase}

@@ -5,7 +5,7 @@ use Rattle.std.proofs.lemmas.Option.{same_Some, none-some}
 use Rattle.std.proofs.lemmas.List.{append-nil}
 use Rattle.std.specs.List.{list_any, cons_option, AllByRecursion}
 use Rattle.nqs_types.specs.Ids.{id_eq, id_exact}
-use Rattle.nqs_types.specs.State.{Plain}
+use Rattle.nqs_state.specs.State.{Plain}
 use Rattle.nqs_types.specs.declared.ids.HostId.{HostId}
 use Rattle.nqs_types.specs.declared.change.Change.{Change}
 use Rattle.nqs_types.specs.declared.world.Seen.{Seen}

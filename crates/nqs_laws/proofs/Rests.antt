@@ -1,7 +1,7 @@
 -- After an event that a host took, or its boot, nothing is left to start, unless it was stopped.
 use Rattle.std.proofs.Common.{◌≡◌, ℕ, ◌<◌, ◌≤◌, Bool, true, false, List, [], map, Option, None, Some, true≢false, zero, suc, refl, sym, ap, subst, ◌∙◌, arith, if◌then◌else◌}
 use Rattle.std.proofs.lemmas.Option.{same_Some, none-some}
-use Rattle.nqs_types.specs.State.{Plain}
+use Rattle.nqs_state.specs.State.{Plain}
 use Rattle.nqs_rules.specs.Applied.{applied}
 use Rattle.nqs_rules.specs.InOrder.{IsInOrder}
 use Rattle.nqs_rules.specs.Measure.{starts_left}

@@ -5,10 +5,11 @@ use Rattle.std.proofs.lemmas.Bool.Decides.{nat_tests}
 use Rattle.std.proofs.lemmas.Option.{same_Some}
 use Rattle.std.specs.Option.{option_map}
 use Rattle.std.specs.List.{list_any, list_all}
-use Rattle.nqs_types.specs.Ids.{name_eq, id_eq, id_exact, peer_number_eq, peer_number_exact, hand_key}
-use Rattle.nqs_types.specs.State.{Plain}
-use Rattle.nqs_types.specs.Table.{without_first}
-use Rattle.nqs_types.specs.Keys.{is_row, is_hand}
+use Rattle.nqs_values.specs.Same.{name_eq}
+use Rattle.nqs_types.specs.Ids.{id_eq, id_exact, peer_number_eq, peer_number_exact, hand_key}
+use Rattle.nqs_state.specs.State.{Plain}
+use Rattle.nqs_keyed.specs.Table.{without_first}
+use Rattle.nqs_state.specs.Keys.{is_row, is_hand}
 use Rattle.nqs_types.specs.declared.ids.HostId.{HostId}
 use Rattle.nqs_types.specs.declared.ids.Dest.{Dest}
 use Rattle.nqs_types.specs.declared.ids.PeerNumber.{PeerNumber}

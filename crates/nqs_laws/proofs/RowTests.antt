@@ -2,10 +2,10 @@
 use Rattle.std.proofs.Common.{◌≡◌, ℕ, ◌+◌, Bool, true, false, not, ◌&&◌, List, [], ◌∷◌, ◌++◌, filter, Option, None, Some, true≢false, refl, sym, subst, if◌then◌else◌}
 use Rattle.std.specs.Option.{IfSome}
 use Rattle.std.specs.List.{list_all}
-use Rattle.nqs_types.specs.Ids.{name_eq}
-use Rattle.nqs_types.specs.State.{Plain}
-use Rattle.nqs_types.specs.Table.{change_first}
-use Rattle.nqs_types.specs.Keys.{is_row, is_promise}
+use Rattle.nqs_values.specs.Same.{name_eq}
+use Rattle.nqs_state.specs.State.{Plain}
+use Rattle.nqs_keyed.specs.Table.{change_first}
+use Rattle.nqs_state.specs.Keys.{is_row, is_promise}
 use Rattle.nqs_types.specs.declared.ids.PeerNumber.{PeerNumber}
 use Rattle.nqs_types.specs.declared.ids.RequestId.{RequestId}
 use Rattle.nqs_types.specs.declared.ids.Dest.{Dest}

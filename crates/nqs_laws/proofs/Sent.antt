@@ -6,10 +6,10 @@ use Rattle.std.proofs.lemmas.List.{length-append}
 use Rattle.std.proofs.lemmas.List.Folds.{list_all-append}
 use Rattle.std.specs.Option.{IfSome, option_map, option_and_then}
 use Rattle.std.specs.List.{list_any, list_all, flat_map}
-use Rattle.nqs_types.specs.State.{Plain}
-use Rattle.nqs_types.specs.Table.{best_from, better, without_first}
-use Rattle.nqs_types.specs.Keys.{is_row, is_stage, is_file}
-use Rattle.nqs_types.specs.Path.{is_path}
+use Rattle.nqs_state.specs.State.{Plain}
+use Rattle.nqs_keyed.specs.Table.{best_from, better, without_first}
+use Rattle.nqs_state.specs.Keys.{is_row, is_stage, is_file}
+use Rattle.nqs_values.specs.Path.{is_path}
 use Rattle.nqs_types.specs.declared.ids.HostId.{HostId}
 use Rattle.nqs_types.specs.declared.ids.RequestId.{RequestId}
 use Rattle.nqs_types.specs.declared.ids.Dest.{Dest}

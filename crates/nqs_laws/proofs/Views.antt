@@ -4,9 +4,9 @@ use Rattle.std.proofs.lemmas.Bool.{and_parts, eqb-true, eq-eqb, not-true, false_
 use Rattle.std.proofs.lemmas.Option.{same_Some, none-some}
 use Rattle.std.specs.List.{list_any}
 use Rattle.nqs_types.specs.Ids.{peer_number_exact, hand_key, promise_key}
-use Rattle.nqs_types.specs.State.{Plain}
-use Rattle.nqs_types.specs.Table.{has_key}
-use Rattle.nqs_types.specs.Keys.{is_hand, is_promise}
+use Rattle.nqs_state.specs.State.{Plain}
+use Rattle.nqs_keyed.specs.Table.{has_key}
+use Rattle.nqs_state.specs.Keys.{is_hand, is_promise}
 use Rattle.nqs_types.specs.declared.ids.HostId.{HostId}
 use Rattle.nqs_types.specs.declared.ids.PeerNumber.{PeerNumber}
 use Rattle.nqs_types.specs.declared.request.Carried.{Carried}

@@ -2,7 +2,7 @@
 use Rattle.std.proofs.Common.{◌≡◌, ℕ, ◌+◌, ◌≤◌, ◌⊎◌, inl, inr, Bool, true, false, not, ◌&&◌, ◌||◌, List, [], ◌∷◌, ◌++◌, None, Some, refl, sym, ap, subst, ◌∙◌, arith}
 use Rattle.std.proofs.lemmas.List.Elements.{filter_map-append}
 use Rattle.std.proofs.lemmas.List.Folds.{list_any-append}
-use Rattle.nqs_types.specs.State.{Plain}
+use Rattle.nqs_state.specs.State.{Plain}
 use Rattle.nqs_rules.specs.Net.{Entry}
 use Rattle.nqs_rules.specs.Licence.{Kind, Submit, Delete, Doom, Hold, Release, Move, Open, Back, Route, Arrive, Start, End, Again, Gone, Steps, IsWaiting}
 use Rattle.nqs_rules.specs.Applied.{next_id}

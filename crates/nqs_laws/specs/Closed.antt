@@ -1,6 +1,6 @@
 -- How the numbers of handovers are closed. A number is closed at a receiver where `is_closed_for` says so.
 use Rattle.std.specs.Prelude.{◌≡◌, ◌<◌, ℕ, true, false, List, Some, is_some, slice_get}
-use Rattle.nqs_types.specs.State.{Plain}
+use Rattle.nqs_state.specs.State.{Plain}
 use Rattle.nqs_rules.specs.Applied.{applied}
 use Rattle.nqs_rules.specs.Find.{find_hand}
 use Rattle.nqs_types.specs.declared.ids.HostId.{HostId}

@@ -1,6 +1,6 @@
 -- What holds in each world that a run reaches, and of each change that a host keeps in it.
 use Rattle.std.specs.Prelude.{◌⊎◌, ℕ, List, [], ◌∷◌, ◌++◌}
-use Rattle.nqs_types.specs.State.{Plain}
+use Rattle.nqs_state.specs.State.{Plain}
 use Rattle.nqs_rules.specs.Applied.{applied}
 use Rattle.nqs_rules.specs.Edits.{change_at}
 use Rattle.nqs_rules.specs.World.{World, Act, new_world}

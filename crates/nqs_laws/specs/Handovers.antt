@@ -1,7 +1,7 @@
 -- Handovers between two hosts, as a world that a run reaches has them.
 use Rattle.std.specs.Prelude.{◌≡◌, ℕ, ◌+◌, Bool, true, false, ◌||◌, ◌==◌, Option, Some, is_some, slice_get}
 use Rattle.std.specs.Option.{option_map}
-use Rattle.nqs_types.specs.State.{Plain}
+use Rattle.nqs_state.specs.State.{Plain}
 use Rattle.nqs_rules.specs.Tests.{passes}
 use Rattle.nqs_rules.specs.Find.{find_row, find_hand, has_promise, find_peer}
 use Rattle.nqs_rules.specs.Fits.{is_offered_hand, is_committed_hand}

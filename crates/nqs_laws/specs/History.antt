@@ -1,7 +1,7 @@
 -- What happened in a run: what was seen, and the changes that were kept, in their order.
 use Rattle.std.specs.Prelude.{ℕ, zero, suc, true, false, if◌then◌else◌, List, [], ◌∷◌, ◌++◌, map, Option, None, Some}
 use Rattle.std.specs.List.{filter_map}
-use Rattle.nqs_types.specs.Table.{best_from}
+use Rattle.nqs_keyed.specs.Table.{best_from}
 use Rattle.nqs_rules.specs.Stepped.{Stepped, stored_parts}
 use Rattle.nqs_rules.specs.Step.{step}
 use Rattle.nqs_rules.specs.Start.{start}

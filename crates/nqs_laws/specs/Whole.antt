@@ -1,7 +1,7 @@
 -- Whole events of a network: what an event sends, and what three of them settle.
 use Rattle.std.specs.Prelude.{◌≡◌, ◌⊎◌, ℕ, ◌<◌, Bool, true, length, Option, None, Some}
 use Rattle.std.specs.Option.{option_map}
-use Rattle.nqs_types.specs.State.{Plain}
+use Rattle.nqs_state.specs.State.{Plain}
 use Rattle.nqs_rules.specs.Tests.{passes}
 use Rattle.nqs_rules.specs.World.{Host, World, Act, Asks, Ends, Finishes, Fails, Writes, Leaves, Delivers, Newest, Ticks, Clock, Fuse, Crashes, Boots, Shows, no_fuses, host_of, packet_at, newest_between}
 use Rattle.nqs_rules.specs.Run.{happens}

@@ -1,6 +1,6 @@
 //! Laws of how numbers of handovers are closed, for each change that a host keeps in any run of 1 to 16 hosts, with stops at any call.
 ghost use Rattle.std.specs.Prelude.{◌≡◌, ℕ, true};
-ghost use Rattle.nqs_types.specs.State.{Plain};
+ghost use Rattle.nqs_state.specs.State.{Plain};
 ghost use Rattle.nqs_types.specs.declared.ids.HostId.{HostId};
 ghost use Rattle.nqs_rules.specs.Applied.{applied};
 ghost use Rattle.nqs_laws.specs.Handovers.{is_closed_for};

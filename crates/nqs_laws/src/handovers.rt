@@ -1,6 +1,6 @@
 //! Laws of handovers from host to host, in every world that a list of events on 1 to 16 hosts reaches, whatever stopped and whichever packets were lost, repeated or late.
 ghost use Rattle.std.specs.Prelude.{◌≡◌, ◌||◌, List, ℕ, Some, true, false, is_some};
-ghost use Rattle.nqs_types.specs.State.{Plain};
+ghost use Rattle.nqs_state.specs.State.{Plain};
 ghost use Rattle.nqs_types.specs.declared.ids.HostId.{HostId};
 ghost use Rattle.nqs_types.specs.declared.request.Carried.{Carried};
 ghost use Rattle.nqs_types.specs.declared.request.Promise.{Promise};

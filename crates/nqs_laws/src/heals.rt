@@ -1,6 +1,6 @@
 //! Laws of how a handover that is left half done comes to its end, event by event: a tick asks or commits, its receiver answers, and the answer ends it. They hold in every world that a list of events reaches; nothing is promised of packets that are lost.
 ghost use Rattle.std.specs.Prelude.{◌≡◌, ◌⊎◌, ℕ, true, false, is_some};
-ghost use Rattle.nqs_types.specs.State.{Plain};
+ghost use Rattle.nqs_state.specs.State.{Plain};
 ghost use Rattle.nqs_types.specs.declared.ids.HostId.{HostId};
 ghost use Rattle.nqs_types.specs.declared.message.Message.{Message};
 ghost use Rattle.nqs_types.specs.declared.message.Body.TheVariants.{Commit, Done, Inquire, Abort};

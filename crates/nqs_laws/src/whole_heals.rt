@@ -1,6 +1,6 @@
 //! Laws of how three whole events settle a handover that is left half done: a tick, the arrival of what it asks, and the arrival of the answer, each with the starts behind it. No fuse falls within them; nothing is promised of packets that are lost.
 ghost use Rattle.std.specs.Prelude.{◌≡◌, ◌⊎◌, ℕ, Some, None, true, false, is_some};
-ghost use Rattle.nqs_types.specs.State.{Plain};
+ghost use Rattle.nqs_state.specs.State.{Plain};
 ghost use Rattle.nqs_types.specs.declared.ids.HostId.{HostId};
 ghost use Rattle.nqs_types.specs.declared.message.Message.{Message};
 ghost use Rattle.nqs_types.specs.declared.message.Body.TheVariants.{Commit, Done, Inquire, Abort};

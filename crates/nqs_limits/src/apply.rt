@@ -1,7 +1,7 @@
 //! What an edit of limits or complexes makes of a host's state.
 ghost use Rattle.std.specs.Prelude.{◌≡◌, ◌<◌, false, IsTrue, Ok};
-ghost use Rattle.nqs_types.specs.Room.{HasRoomForLimits};
-ghost use Rattle.nqs_types.specs.State.{content};
+ghost use Rattle.nqs_state.specs.Room.{HasRoomForLimits};
+ghost use Rattle.nqs_state.specs.State.{content};
 ghost use Rattle.nqs_types.specs.declared.edit.LimitsEdit.{LimitsEdit};
 ghost use Rattle.nqs_rules.specs.Causes.{first_refusal};
 ghost use Rattle.nqs_rules.specs.Conf.{at_most};
@@ -10,7 +10,9 @@ ghost use Rattle.nqs_rules.specs.Find.{has_complex};
 ghost use Rattle.nqs_rules.specs.Limits.{is_limits_within, limits_applied, limits_causes, limits_edited, new_complex};
 
 use nqs_access::drop_name;
-use nqs_types::{ComplexDef, HostState, LimitsEdit, ListOf, Name, QueueDef};
+use nqs_state::HostState;
+use nqs_types::{ComplexDef, LimitsEdit, QueueDef};
+use nqs_values::{ListOf, Name};
 
 fn user_limit_of(typed: Option<u64>) -> Option<u16>
     requires { IsTrue (at_most 10000 typed) }

@@ -1,13 +1,15 @@
 //! Why an edit of limits or complexes is refused.
 ghost use Rattle.std.specs.Prelude.{◌≡◌, ◌∷◌, [], not};
-ghost use Rattle.nqs_types.specs.State.{content};
+ghost use Rattle.nqs_state.specs.State.{content};
 ghost use Rattle.nqs_types.specs.declared.edit.LimitsEdit.{LimitsEdit};
 ghost use Rattle.nqs_types.specs.declared.refusal.Refusal.TheVariants as refusal;
 ghost use Rattle.nqs_rules.specs.Causes.{cause, first_refusal};
 ghost use Rattle.nqs_rules.specs.Limits.{complex_causes, is_batch_queue, limits_causes, lists_queue};
 
 use nqs_access::{has_name, known_queue};
-use nqs_types::{ComplexDef, HostState, Kind, LimitsEdit, Name, QueueDef, Refusal};
+use nqs_state::HostState;
+use nqs_types::{ComplexDef, Kind, LimitsEdit, QueueDef, Refusal};
+use nqs_values::Name;
 
 fn known_complex(state: &HostState, complex: &Name) -> Result<(), Refusal>
     ensures { result ≡ first_refusal (complex_causes complex.now (content state.now)) }

@@ -1,7 +1,7 @@
 -- A line of qmgr asks for an edit within its limits, whatever it says.
 use Rattle.std.proofs.Common.{◌≡◌, ℕ, zero, suc, Bool, true, false, cond, nat_le, List, [], ◌∷◌, refl, Option, Some, None, option_map, is_some, Ok, Err, IfOk, codes}
 use Rattle.std.proofs.lemmas.Bool.{and_from}
-use Rattle.nqs_types.specs.Ids.{name_eq}
+use Rattle.nqs_values.specs.Same.{name_eq}
 use Rattle.nqs_types.specs.declared.ids.Named.{Named}
 use Rattle.nqs_types.specs.declared.ids.NamedDest.{NamedDest}
 use Rattle.nqs_types.specs.declared.event.Command.{Command}

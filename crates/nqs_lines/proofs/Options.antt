@@ -4,8 +4,8 @@ use Rattle.std.proofs.lemmas.Bool.{and_parts, and_from, leb-true, le-leb, cond-t
 use Rattle.std.proofs.lemmas.Bool.Decides.{nat_tests}
 use Rattle.std.proofs.lemmas.List.{length-drop, length-append, take-append-le, drop-append-le, take-append-drop}
 use Rattle.std.specs.List.{list_all}
-use Rattle.nqs_types.specs.Name.{is_letter}
-use Rattle.nqs_types.specs.Path.{is_path}
+use Rattle.nqs_values.specs.Name.{is_letter}
+use Rattle.nqs_values.specs.Path.{is_path}
 use Rattle.nqs_types.specs.declared.fault.WordsCause.{WordsCause}
 use Rattle.nqs_types.specs.declared.fault.WordsCause.TheVariants as cause
 use Rattle.nqs_rules.specs.Sane.{is_name_byte, is_sane_name, is_path_or_none}

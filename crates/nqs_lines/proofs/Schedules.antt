@@ -4,7 +4,7 @@ use Rattle.std.proofs.lemmas.Bool.{and_from, le-leb, ltb-false, leb-false}
 use Rattle.std.proofs.lemmas.List.{length-append}
 use Rattle.std.proofs.lemmas.List.Folds.{list_all-map}
 use Rattle.std.specs.List.{list_all, position}
-use Rattle.nqs_types.specs.Ids.{name_eq}
+use Rattle.nqs_values.specs.Same.{name_eq}
 use Rattle.nqs_types.specs.declared.world.WorldEvent.{WorldEvent}
 use Rattle.nqs_types.specs.declared.world.WorldEvent.TheVariants as event
 use Rattle.nqs_rules.specs.Sane.{is_short_output}

@@ -12,7 +12,8 @@ ghost use Rattle.nqs_lines.specs.Acts.{of_line, of_words, listed, qsub_command a
 use nqs_qmgr::read_qmgr;
 use nqs_qsub::read_qsub;
 use nqs_query::{read_qdel, read_qstat};
-use nqs_types::{Bytes, Command, GrammarFault, Memory, Name, WordsCause, WordsFault};
+use nqs_types::{Command, GrammarFault, WordsCause, WordsFault};
+use nqs_values::{Bytes, Memory, Name};
 use std::alloc::Global;
 
 // The command of words that can't be read.

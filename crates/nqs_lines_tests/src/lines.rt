@@ -1,5 +1,6 @@
 use nqs_lines::{qdel_command, qmgr_command, qstat_command, qsub_command, submit_command};
-use nqs_types::{Bytes, Command, Memory, Name};
+use nqs_types::Command;
+use nqs_values::{Bytes, Memory, Name};
 use std::alloc::Global;
 use std::rt::HostRuntime;
 

@@ -1,7 +1,8 @@
 use nqs_qmgr::read_qmgr;
 use nqs_types::{
-    AccessEdit, Command, ConfEdit, DevicesEdit, Edit, GrammarFault, LimitsEdit, Name, RowsEdit,
+    AccessEdit, Command, ConfEdit, DevicesEdit, Edit, GrammarFault, LimitsEdit, RowsEdit,
 };
+use nqs_values::Name;
 use std::rt::HostRuntime;
 
 fn conf_code(edit: ConfEdit) -> u8 {

@@ -1,5 +1,6 @@
 use nqs_qsub::read_qsub;
-use nqs_types::{Bytes, Memory, Name, Submission, WordsCause, WordsFault};
+use nqs_types::{Submission, WordsCause, WordsFault};
+use nqs_values::{Bytes, Memory, Name};
 use std::alloc::Global;
 use std::rt::HostRuntime;
 use std::test::Fail;

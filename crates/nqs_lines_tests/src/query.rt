@@ -1,8 +1,8 @@
 use nqs_query::{print_reply, read_qdel, read_qstat};
 use nqs_types::{
-    Bytes, Command, GrammarFault, HostId, Items, Memory, Name, Named, Refusal, Reply, RequestId,
-    WordsCause, WordsFault,
+    Command, GrammarFault, HostId, Named, Refusal, Reply, RequestId, WordsCause, WordsFault,
 };
+use nqs_values::{Bytes, Items, Memory, Name};
 use std::alloc::Global;
 use std::rt::HostRuntime;
 

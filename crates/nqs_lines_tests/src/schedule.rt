@@ -1,9 +1,8 @@
 use nqs_schedule::{
     Cause, LineFault, Schedule, ScheduleFault, generate, print_seen, read_schedule, summarize,
 };
-use nqs_types::{
-    BodyKind, Bytes, HostId, Items, Memory, Name, NetState, RequestId, Seen, TableRow,
-};
+use nqs_types::{BodyKind, HostId, NetState, RequestId, Seen, TableRow};
+use nqs_values::{Bytes, Items, Memory, Name};
 use std::alloc::Global;
 use std::rt::HostRuntime;
 

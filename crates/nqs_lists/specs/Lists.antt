@@ -1,6 +1,6 @@
 -- Words of a line, and the lines of one queue.
 use Rattle.std.specs.Prelude.{◌++◌, if◌then◌else◌, List, [], map, codes, Option}
-use Rattle.nqs_types.specs.State.{State}
+use Rattle.nqs_state.specs.State.{State}
 use Rattle.nqs_rules.specs.Text.{Text, listed_rows, is_asked, row_line}
 use Rattle.nqs_types.specs.declared.queue.QueueDef.{QueueDef}
 

@@ -1,7 +1,7 @@
 //! The lines of the lists of qmgr.
 ghost use Rattle.std.specs.Prelude.{◌≡◌, ◌++◌, ◌∷◌, [], map, find, codes, IfOk, OnOk};
 ghost use Rattle.std.specs.Fmt.{decimal};
-ghost use Rattle.nqs_types.specs.State.{content};
+ghost use Rattle.nqs_state.specs.State.{content};
 ghost use Rattle.nqs_rules.specs.Devices.{runs_on};
 ghost use Rattle.nqs_rules.specs.Step.{show_lines};
 ghost use Rattle.nqs_rules.specs.Text.{kind_text, queue_line, device_line, complex_line, manager_line, operator_line, user_text, default_text, parameter_lines};
@@ -10,9 +10,9 @@ ghost use Rattle.nqs_lists.specs.Lists.{spaced};
 use crate::words::{copy_text, decimal, either, id_text, joined, six_words, with_names, with_word};
 use nqs_devices::runs_on;
 use nqs_plans::fold_each;
-use nqs_types::{
-    Bytes, ComplexDef, DeviceDef, HostState, Items, Kind, Memory, Name, QueueDef, Row,
-};
+use nqs_state::HostState;
+use nqs_types::{ComplexDef, DeviceDef, Kind, QueueDef, Row};
+use nqs_values::{Bytes, Items, Memory, Name};
 use std::alloc::Global;
 
 fn kind_text(kind: Kind) -> &'static [u8]

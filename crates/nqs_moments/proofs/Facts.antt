@@ -1,5 +1,5 @@
-use Rattle.std.proofs.Common.{◌≡◌, ℕ, suc, ◌+◌, ◌-◌, ◌*◌, ◌<◌, ◌≤◌, List, [], ◌∷◌, length, arith, refl, ap, Some, None, Option, cond, Bool, true, false, drop, drop-cons, get_or, ◌/◌, ◌%◌, ◌==◌}
-use Rattle.nqs_types.specs.Name.{is_digit}
+use Rattle.std.proofs.Common.{◌≡◌, ℕ, suc, ◌+◌, ◌-◌, ◌*◌, ◌<◌, ◌≤◌, List, [], ◌∷◌, length, arith, refl, ap, Some, None, Option, cond, Bool, true, false, ◌/◌, ◌%◌, ◌==◌}
+use Rattle.nqs_values.specs.Name.{is_digit}
 use Rattle.std.specs.Prelude.{ℤ, pos, neg_ℤ, unsigned_abs, ◌+ℤ◌, ◌-ℤ◌, ◌*ℤ◌, ◌<ℤ◌, ◌≤ℤ◌}
 use Rattle.std.proofs.Common.{zero, add-zero, subst, negsuc, ◌⊎◌, inl, inr}
 use Rattle.jiff_core.specs.Calendar.{days_of_years, days_of_months, day_count, days_from_civil}
@@ -8,10 +8,9 @@ use Rattle.jiff_core.specs.declared.civil.date.Date.{Date}
 use Rattle.jiff_core.proofs.IsoWeekLemmas.{epoch_day-year}
 use Rattle.jiff_core.proofs.SignedLemmas.{signed_arith}
 use Rattle.std.proofs.Common.{nat_lt}
-use Rattle.std.proofs.lemmas.List.{drop_all}
 use Rattle.std.proofs.lemmas.Int.{ints}
 use Rattle.std.proofs.lemmas.Bool.Decides.{nat_tests}
-use Rattle.nqs_text.specs.Number.{decimal, decimal_from}
+use Rattle.nqs_text.specs.Number.{decimal}
 use Rattle.nqs_moments.specs.Moment.{misfit, suits, moment_form}
 
 pub no_second : (days : ℤ) (seconds moment : ℕ) → days <ℤ pos 0 → seconds < 86400 → pos moment ≡ (days *ℤ pos 86400) +ℤ pos seconds → ⊥

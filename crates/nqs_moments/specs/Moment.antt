@@ -2,7 +2,7 @@
 use Rattle.std.specs.Prelude.{◌≡◌, ℕ, ◌+◌, ◌*◌, ◌/◌, ◌%◌, ◌<◌, ◌≤◌, Bool, ◌==◌, List, [], ◌∷◌, ◌++◌, codes, Option, Some, None, if◌then◌else◌, pos, ◌+ℤ◌, ◌*ℤ◌, Ok, Err}
 use Rattle.std.specs.declared.result.Result.{Result}
 use Rattle.jiff_core.specs.Calendar.{IsDate, days_from_civil}
-use Rattle.nqs_types.specs.Name.{is_digit}
+use Rattle.nqs_values.specs.Name.{is_digit}
 use Rattle.nqs_moments.specs.declared.moment.MomentFault.{MomentFault}
 use Rattle.nqs_moments.specs.declared.moment.MomentFault.TheVariants.{Form, Range}
 use Rattle.nqs_moments.specs.declared.moment.PrintFault.{PrintFault}

@@ -2,8 +2,8 @@
 use Rattle.std.proofs.Common.{◌≡◌, ℕ, zero, suc, ◌+◌, ◌<◌, ◌≤◌, false, true, List, [], ◌∷◌, ◌++◌, take, length, None, Some, refl, sym, ap, subst, ◌∙◌, arith}
 use Rattle.nqs_types.specs.declared.change.Change.TheVariants.{Boot}
 use Rattle.nqs_types.specs.declared.ids.HostId.{HostId}
-use Rattle.nqs_types.specs.declared.tear.Tear.{Tear}
-use Rattle.nqs_types.specs.declared.tear.Tear.TheVariants.{Old}
+use Rattle.nqs_values.specs.declared.tear.Tear.{Tear}
+use Rattle.nqs_values.specs.declared.tear.Tear.TheVariants.{Old}
 use Rattle.nqs_types.specs.declared.world.Which.{Which}
 use Rattle.nqs_types.specs.declared.world.Which.TheVariants.{Root, First, Second, Spool}
 use Rattle.nqs_outside.specs.History.{History, State, content, state, moment, extended, IsImage}

@@ -1,8 +1,8 @@
 -- Reads of disks change nothing, and tell the states of the hosts.
 use Rattle.std.proofs.Common.{◌≡◌, ℕ, zero, suc, ◌<◌, List, [], ◌∷◌, ◌++◌, map, take, length, get_or, set, Some, refl, sym, ap, subst, ◌∙◌, arith}
-use Rattle.nqs_types.specs.State.{Plain, content}
-use Rattle.nqs_types.specs.declared.state.HostState.{HostState}
-use Rattle.nqs_types.specs.declared.tear.Tear.{Tear}
+use Rattle.nqs_state.specs.State.{Plain, content}
+use Rattle.nqs_state.specs.declared.state.HostState.{HostState}
+use Rattle.nqs_values.specs.declared.tear.Tear.{Tear}
 use Rattle.nqs_types.specs.declared.world.Which.{Which}
 use Rattle.nqs_types.specs.declared.world.Which.TheVariants.{First, Spool}
 use Rattle.nqs_outside.specs.History.{content as bytes_now}

@@ -1,7 +1,7 @@
 //! What comes to one host, whether it is up or down.
 
 ghost use Rattle.std.specs.Prelude.{◌≡◌, ◌++◌, ◌∷◌, [], IfOk, OnOk, length};
-ghost use Rattle.nqs_types.specs.State.{content};
+ghost use Rattle.nqs_state.specs.State.{content};
 ghost use Rattle.nqs_types.specs.declared.event.Event.TheVariants as event;
 ghost use Rattle.nqs_rules.specs.Tests.{is_running};
 ghost use Rattle.nqs_rules.specs.World.{World as Network, Host, is_less_id, finishes_up};
@@ -16,9 +16,9 @@ use crate::host::{boot_down, crash_up, take_up};
 use crate::slot::{DownHost, Slot, UpHost};
 use nqs_disk::MemDisk;
 use nqs_node::Node;
-use nqs_types::{
-    Bytes, Event, HostId, HostState, Memory, Message, RequestId, Row, RowState, Seen, Tear,
-};
+use nqs_state::HostState;
+use nqs_types::{Event, HostId, Message, RequestId, Row, RowState, Seen};
+use nqs_values::{Bytes, Memory, Tear};
 use std::alloc::Global;
 
 /// What comes to one host.

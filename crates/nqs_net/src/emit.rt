@@ -5,7 +5,8 @@ ghost use Rattle.nqs_types.specs.declared.world.Seen.TheVariants as sight;
 ghost use Rattle.nqs_rules.specs.World.{body_kind, body_number, seen_packet, seen_output, sent_by};
 ghost use Rattle.nqs_net.specs.Lists.{of_option, sent_in, seen_from};
 
-use nqs_types::{Body, BodyKind, Bytes, HostId, Items, Memory, Message, Output, Seen};
+use nqs_types::{Body, BodyKind, HostId, Message, Output, Seen};
+use nqs_values::{Bytes, Items, Memory};
 
 fn body_kind(body: &Body) -> BodyKind
     ensures { result ≡ body_kind body.now }

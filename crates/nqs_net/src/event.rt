@@ -13,7 +13,8 @@ ghost use Rattle.nqs_net.specs.Deeds.{deed_of};
 use crate::meaning::deed;
 use crate::packets::{newest_between, packet_at};
 use crate::world::World;
-use nqs_types::{Items, Memory, Seen, WorldEvent};
+use nqs_types::{Seen, WorldEvent};
+use nqs_values::{Items, Memory};
 use std::alloc::Global;
 
 impl World {

@@ -2,9 +2,9 @@
 
 ghost use Rattle.std.specs.Prelude.{◌≡◌, ◌∷◌, [], ℕ, IsTrue, IfOk, List, length};
 ghost use Rattle.std.specs.List.{filter_map};
-ghost use Rattle.nqs_types.specs.State.{content};
+ghost use Rattle.nqs_state.specs.State.{content};
 ghost use Rattle.nqs_types.specs.declared.change.Change.TheVariants.{Boot};
-ghost use Rattle.nqs_types.specs.declared.extent.Extent.{Extent};
+ghost use Rattle.nqs_values.specs.declared.extent.Extent.{Extent};
 ghost use Rattle.nqs_types.specs.declared.message.Message.{Message as Sent};
 ghost use Rattle.nqs_types.specs.declared.world.Seen.TheVariants as sight;
 ghost use Rattle.nqs_rules.specs.Plain.{map_state};
@@ -22,8 +22,10 @@ use crate::turn::{start_all, take_step};
 use nqs_access::{may_command, rank};
 use nqs_disk::MemDisk;
 use nqs_node::Node;
+use nqs_state::HostState;
 use nqs_store::LoadFault;
-use nqs_types::{Command, Event, HostId, HostState, Memory, Message, Seen, Tear};
+use nqs_types::{Command, Event, HostId, Message, Seen};
+use nqs_values::{Memory, Tear};
 use std::alloc::Global;
 
 fn is_shutdown(command: &Command) -> bool

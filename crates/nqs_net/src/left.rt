@@ -9,7 +9,7 @@ use crate::slot::Slot;
 use crate::world::World;
 use nqs_disk::MemDisk;
 use nqs_store::Disks;
-use nqs_types::Memory;
+use nqs_values::Memory;
 use std::alloc::Global;
 
 // The disks of a host.

@@ -7,7 +7,8 @@ ghost use Rattle.nqs_net.specs.Deeds.{deed_of, plain_deed};
 
 use crate::deed::Deed;
 use nqs_lines::{qdel_command, qmgr_command, qstat_command, qsub_command, submit_command};
-use nqs_types::{Bytes, Command, Event, HostId, Memory, Name, RequestId, WorldEvent};
+use nqs_types::{Command, Event, HostId, RequestId, WorldEvent};
+use nqs_values::{Bytes, Memory, Name};
 use std::alloc::Global;
 
 // A host is asked by a user.

@@ -2,7 +2,7 @@
 
 ghost use Rattle.std.specs.Prelude.{◌≡◌, ◌≤◌, ◌<◌, ℕ, [], false, IfOk, length};
 ghost use Rattle.std.specs.List.{AllByRecursion};
-ghost use Rattle.nqs_types.specs.Name.{IsName};
+ghost use Rattle.nqs_values.specs.Name.{IsName};
 ghost use Rattle.nqs_types.specs.declared.world.Which.{Which};
 ghost use Rattle.nqs_disk.specs.MemDisk as mem;
 ghost use Rattle.nqs_rules.specs.World.{new_host, new_world};
@@ -14,7 +14,8 @@ use crate::world::World;
 use nqs_disk::MemDisk;
 use nqs_node::Node;
 use nqs_store::{Disks, format};
-use nqs_types::{HostId, ListOf, Memory, Name, Tear};
+use nqs_types::HostId;
+use nqs_values::{ListOf, Memory, Name, Tear};
 use std::alloc::Global;
 
 // Four empty disks.

@@ -7,7 +7,8 @@ ghost use Rattle.nqs_net.specs.Deeds.{IsReadyFor};
 
 use crate::deed::Deed;
 use crate::world::World;
-use nqs_types::{Event, HostId, Memory, Message, Seen};
+use nqs_types::{Event, HostId, Message, Seen};
+use nqs_values::Memory;
 use std::alloc::Global;
 
 fn copy(message: &Message) -> Result<Message, Memory>

@@ -7,7 +7,8 @@ ghost use Rattle.nqs_net.specs.Deeds.{done, IsReady};
 
 use crate::deed::{Deed, do_at};
 use crate::world::World;
-use nqs_types::{HostId, Memory, Seen};
+use nqs_types::{HostId, Seen};
+use nqs_values::Memory;
 use std::alloc::Global;
 
 impl World {

@@ -12,9 +12,11 @@ ghost use Rattle.nqs_net.specs.Worlds.{IsUp, IsDown, IsSlot, IsWorld};
 
 use crate::slot::{DownHost, Slot, UpHost};
 use crate::world::World;
+use nqs_state::HostState;
 use nqs_store::read_only;
 use nqs_table::table_of;
-use nqs_types::{HostState, Memory, TableRow};
+use nqs_types::TableRow;
+use nqs_values::Memory;
 use std::alloc::Global;
 
 fn read_up(alloc: Global, up: &mut UpHost) -> Result<HostState, Memory>

@@ -11,7 +11,8 @@ ghost use Rattle.nqs_net.specs.Turns.{IsTorn, IsStopped};
 use crate::slot::{DownHost, Slot};
 use nqs_disk::MemDisk;
 use nqs_store::Disks;
-use nqs_types::{HostId, Memory, Seen, Tear};
+use nqs_types::{HostId, Seen};
+use nqs_values::{Memory, Tear};
 use std::alloc::Global;
 
 // Whether a failed call of one of the disks wasn't made.

@@ -17,7 +17,8 @@ use crate::slot::{Slot, UpHost};
 use crate::stop::stop;
 use nqs_disk::MemDisk;
 use nqs_node::{Node, NodeFault};
-use nqs_types::{Event, HostId, Memory, Message, Output, Seen, Tear};
+use nqs_types::{Event, HostId, Message, Output, Seen};
+use nqs_values::{Memory, Tear};
 use std::alloc::Global;
 
 // Takes an event: `false` where a failed call of a disk stopped the node.

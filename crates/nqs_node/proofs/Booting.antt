@@ -5,8 +5,8 @@ use Rattle.std.specs.Option.{option_to_list}
 use Rattle.std.proofs.lemmas.List.{map-append}
 use Rattle.std.proofs.lemmas.List.Elements.{filter_map-append}
 use Rattle.std.proofs.Math.Seq.{take-nil}
-use Rattle.nqs_types.specs.State.{Plain}
-use Rattle.nqs_types.specs.declared.extent.Extent.{Extent}
+use Rattle.nqs_state.specs.State.{Plain}
+use Rattle.nqs_values.specs.declared.extent.Extent.{Extent}
 use Rattle.nqs_types.specs.declared.request.Row.{Row}
 use Rattle.nqs_types.specs.declared.event.Output.{Output}
 use Rattle.nqs_types.specs.declared.change.Change.TheVariants.{Boot}

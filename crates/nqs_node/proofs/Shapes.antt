@@ -2,10 +2,10 @@
 use Rattle.std.proofs.Common.{◌≡◌, ◌≤◌, List, [], ◌∷◌, ◌&&◌, nat_le, map, length, refl, sym, ap, subst, ◌∙◌}
 use Rattle.std.specs.List.{list_all}
 use Rattle.std.proofs.lemmas.List.{length-map}
-use Rattle.nqs_types.specs.Room.{HasRoom}
-use Rattle.nqs_types.specs.State.{State}
-use Rattle.nqs_types.specs.declared.extent.Extent.{Extent}
-use Rattle.nqs_types.specs.declared.state.HostState.{HostState}
+use Rattle.nqs_state.specs.Room.{HasRoom}
+use Rattle.nqs_state.specs.State.{State}
+use Rattle.nqs_values.specs.declared.extent.Extent.{Extent}
+use Rattle.nqs_state.specs.declared.state.HostState.{HostState}
 use Rattle.nqs_types.specs.declared.change.OutPart.{OutPart}
 use Rattle.nqs_types.specs.declared.change.Change.{Change}
 use Rattle.nqs_types.specs.declared.change.Change.TheVariants.{Ended, Boot}

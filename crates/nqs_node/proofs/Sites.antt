@@ -1,6 +1,6 @@
 -- No change that fits moves a host to another site.
 use Rattle.std.proofs.Common.{◌≡◌, ℕ, List, [], ◌∷◌, Bool, true, false, Option, None, Some, nat_lt, if◌then◌else◌, ◌+◌, refl, sym, ◌∙◌, true≢false}
-use Rattle.nqs_types.specs.State.{State}
+use Rattle.nqs_state.specs.State.{State}
 use Rattle.nqs_types.specs.declared.ids.HostId.{HostId}
 use Rattle.nqs_types.specs.declared.ids.RequestId.{RequestId}
 use Rattle.nqs_types.specs.declared.ids.PeerNumber.{PeerNumber}

@@ -5,8 +5,8 @@
 ghost use Rattle.std.specs.Prelude.{◌≡◌, ◌⊎◌, ◌++◌, [], ℕ, Bool, List, IsTrue, IsErrOf, OnOk, OnErr, IfOk, IfErr, MatchResult, false, Some};
 ghost use Rattle.std.specs.List.{filter_map};
 ghost use Rattle.std.specs.Option.{option_to_list};
-ghost use Rattle.nqs_types.specs.State.{Plain, content};
-ghost use Rattle.nqs_types.specs.declared.extent.Extent.{Extent};
+ghost use Rattle.nqs_state.specs.State.{Plain, content};
+ghost use Rattle.nqs_values.specs.declared.extent.Extent.{Extent};
 ghost use Rattle.nqs_types.specs.declared.world.Which.{Which};
 ghost use Rattle.nqs_types.specs.declared.world.Which.TheVariants.{First, Spool};
 ghost use Rattle.nqs_types.specs.declared.change.Change.TheVariants.{Boot};
@@ -27,10 +27,12 @@ ghost use Rattle.nqs_node.specs.Carried.{IsMade, IsCutBy, IsBrokenOff, IsOneOrOt
 
 use crate::keep::keep;
 use crate::node::Node;
-use nqs_host::may_start_again;
+use nqs_changes::boot::may_start_again;
 use nqs_outside::Disk;
+use nqs_state::HostState;
 use nqs_store::{Disks, LoadFault, Store, StoreFault};
-use nqs_types::{Change, HostState, Memory, Output, Row, RowState};
+use nqs_types::{Change, Output, Row, RowState};
+use nqs_values::Memory;
 use std::alloc::Global;
 
 // What a boot says of a row, which is another where the request ran.

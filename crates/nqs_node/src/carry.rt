@@ -1,7 +1,7 @@
 //! A node carries out a plan.
 
 ghost use Rattle.std.specs.Prelude.{◌≡◌, ◌⊎◌, ◌++◌, ℕ, List, false, map, IsTrue, IsErrOf, OnOk, OnErr};
-ghost use Rattle.nqs_types.specs.State.{Plain};
+ghost use Rattle.nqs_state.specs.State.{Plain};
 ghost use Rattle.nqs_types.specs.declared.world.Which.{Which};
 ghost use Rattle.nqs_outside.specs.Causes.{Rose};
 ghost use Rattle.nqs_rules.specs.Starts.{after_step};

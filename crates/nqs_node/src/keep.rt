@@ -2,7 +2,7 @@
 
 ghost use Rattle.std.specs.Prelude.{◌≡◌, ◌⊎◌, ◌≤◌, ℕ, List, false, IsTrue, IsErrOf, OnOk, OnErr, IfErr, length};
 ghost use Rattle.std.specs.List.{AllByRecursion};
-ghost use Rattle.nqs_types.specs.State.{content};
+ghost use Rattle.nqs_state.specs.State.{content};
 ghost use Rattle.nqs_types.specs.declared.world.Which.{Which};
 ghost use Rattle.nqs_types.specs.declared.world.Which.TheVariants.{First, Spool};
 ghost use Rattle.nqs_outside.specs.Causes.{Rose};
@@ -25,8 +25,10 @@ ghost use Rattle.nqs_store.specs.Told.{Host};
 use nqs_host::apply;
 use nqs_outside::Disk;
 use nqs_rules::order_laws::{consistent_is_kept, order_is_kept};
+use nqs_state::HostState;
 use nqs_store::{Store, StoreFault};
-use nqs_types::{Bytes, Change, HostState, Memory};
+use nqs_types::Change;
+use nqs_values::{Bytes, Memory};
 use std::alloc::Global;
 
 /// Keeps a change of the host, and makes it. `Memory` comes before the first call of a disk; an `Err` makes no change.

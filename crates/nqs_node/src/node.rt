@@ -2,7 +2,7 @@
 
 ghost use Rattle.std.specs.Prelude.{◌≡◌, ◌≢◌, ◌⊎◌, ◌↔◌, ◌<◌, ◌≤◌, ◌+◌, ◌-◌, ◌++◌, ℕ, Bool, List, IsTrue, IsErrOf, OnOk, OnErr, IfOk, IfErr, false, length, map, max, nat_le, is_some};
 ghost use Rattle.std.specs.Option.{option_map};
-ghost use Rattle.nqs_types.specs.State.{Plain, content};
+ghost use Rattle.nqs_state.specs.State.{Plain, content};
 ghost use Rattle.nqs_types.specs.declared.world.Which.{Which};
 ghost use Rattle.nqs_outside.specs.Causes.{Rose};
 ghost use Rattle.nqs_outside.specs.History.{moment};
@@ -25,10 +25,12 @@ use nqs_outside::{Disk, Fused};
 use nqs_rules::laws::step_looks_at_no_bytes;
 use nqs_rules::order_laws::{start_fits, step_fits};
 use nqs_rules::start_laws::start_looks_at_no_bytes;
+use nqs_state::HostState;
 use nqs_step::start::start;
 use nqs_step::step::step;
 use nqs_store::{Disks, LoadFault, Store};
-use nqs_types::{Event, HostState, Memory, Output, Plan, Which};
+use nqs_types::{Event, Output, Plan, Which};
+use nqs_values::Memory;
 use std::alloc::Global;
 
 /// A host over its disks.

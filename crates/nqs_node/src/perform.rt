@@ -1,7 +1,7 @@
 //! What is planned is read, kept and made, all over the disks of a host.
 
 ghost use Rattle.std.specs.Prelude.{◌≡◌, ◌⊎◌, ℕ, List, Option, false, IsTrue, IsErrOf, OnOk, OnErr, IfSome, length};
-ghost use Rattle.nqs_types.specs.State.{content};
+ghost use Rattle.nqs_state.specs.State.{content};
 ghost use Rattle.nqs_types.specs.declared.world.Which.{Which};
 ghost use Rattle.nqs_outside.specs.Causes.{Rose};
 ghost use Rattle.nqs_rules.specs.Starts.{after_change};
@@ -17,8 +17,10 @@ use crate::keep::keep;
 use crate::reads::read_all;
 use nqs_kept::laws::fitting_changes_may_stand;
 use nqs_outside::Disk;
+use nqs_state::HostState;
 use nqs_store::{Store, StoreFault};
-use nqs_types::{Bytes, Change, HostState, Output, PlanRead};
+use nqs_types::{Change, Output, PlanRead};
+use nqs_values::Bytes;
 use std::alloc::Global;
 
 /// Reads the bytes of the outputs, keeps the change and makes it. What fails before the first counted call leaves all

@@ -15,7 +15,8 @@ ghost use Rattle.nqs_node.specs.Reading.{read_into, IsLiveRead, AreLiveReads};
 
 use nqs_outside::Disk;
 use nqs_store::{Store, StoreFault};
-use nqs_types::{Body, Bytes, Output, PlanRead};
+use nqs_types::{Body, Output, PlanRead};
+use nqs_values::Bytes;
 use std::alloc::Global;
 
 fn send_with(body: &mut Body, read: Bytes)

@@ -1,8 +1,8 @@
 -- Searches for the best: what a value changes, and when there is one.
 use Rattle.std.proofs.Common.{true≢false, ◌≡◌, ℕ, ◌+◌, ◌-◌, ◌<◌, ◌||◌, Bool, true, false, List, [], ◌∷◌, drop, Option, None, Some, is_some, slice_get, sym, refl, ap, ◌∙◌, arith, if◌then◌else◌}
 use Rattle.std.specs.List.{list_any}
-use Rattle.nqs_types.specs.Table.{better, best_from}
-use Rattle.nqs_types.proofs.TableLemmas.{drop-at}
+use Rattle.nqs_keyed.specs.Table.{better, best_from}
+use Rattle.nqs_keyed.proofs.TableLemmas.{drop-at}
 use Rattle.nqs_order.specs.Best.{is_beaten, with_value}
 
 module _ {V : Type 0} (test : V → Bool) (beats : V → V → Bool) where

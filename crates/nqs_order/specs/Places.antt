@@ -1,7 +1,7 @@
 -- The scheduler's rules, with queues and rows by their places.
 use Rattle.std.specs.Prelude.{ℕ, Bool, Option, slice_get}
 use Rattle.std.specs.Option.{option_map, option_and_then}
-use Rattle.nqs_types.specs.State.{State}
+use Rattle.nqs_state.specs.State.{State}
 use Rattle.nqs_rules.specs.Tests.{passes}
 use Rattle.nqs_rules.specs.Order.{is_within_limits, first_eligible}
 

@@ -3,10 +3,11 @@
 ghost use Rattle.std.specs.Prelude.{◌≡◌, Bool, Option, Some};
 ghost use Rattle.std.specs.Option.{option_map};
 ghost use Rattle.std.specs.Fn.{FnReturnsAt, FnReturnsAtPair};
-ghost use Rattle.nqs_types.specs.Table.{best_from};
+ghost use Rattle.nqs_keyed.specs.Table.{best_from};
 ghost use Rattle.nqs_order.specs.Best.{is_beaten, with_value};
 
-use nqs_types::{Key, Keyed, Table};
+use nqs_keyed::Table;
+use nqs_values::{Key, Keyed};
 
 // Whether the best so far beats the value.
 fn is_beaten<V, B: Fn(&V, &V) -> bool>(value: &V, best: Option<(usize, &V)>, beats: &B) -> bool

@@ -2,7 +2,7 @@
 
 ghost use Rattle.std.specs.Prelude.{◌≡◌};
 ghost use Rattle.std.specs.Option.{option_map};
-ghost use Rattle.nqs_types.specs.State.{content};
+ghost use Rattle.nqs_state.specs.State.{content};
 ghost use Rattle.nqs_rules.specs.Order.{is_greater, is_candidate, next_queue, print_on, is_local, move_to, choice_for, pick};
 
 use crate::best::best_of;
@@ -10,7 +10,8 @@ use crate::eligible::{any_waiting, first_row, has_eligible};
 use crate::limits::is_within_limits;
 use nqs_devices::free_device;
 use nqs_routing::destination_in;
-use nqs_types::{Choice, HostState, Kind, QueueDef, Row};
+use nqs_state::HostState;
+use nqs_types::{Choice, Kind, QueueDef, Row};
 
 // A queue where no row waits, or at its limits, is told by one look at the rows: the costly tests of rows come last.
 fn is_candidate(state: &HostState, queue: &QueueDef, now: u64) -> bool

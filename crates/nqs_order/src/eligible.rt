@@ -3,7 +3,7 @@
 ghost use Rattle.std.specs.Prelude.{◌≡◌, ◌&&◌, length, filter, nat_le, is_some};
 ghost use Rattle.std.specs.List.{list_any};
 ghost use Rattle.std.specs.Option.{option_map};
-ghost use Rattle.nqs_types.specs.State.{content};
+ghost use Rattle.nqs_state.specs.State.{content};
 ghost use Rattle.nqs_rules.specs.Order.{is_active_of, below, kind_allows, is_eligible, comes_before, first_eligible};
 ghost use Rattle.nqs_order.specs.Waiting.{is_waiting};
 ghost use Rattle.nqs_order.specs.Places.{first_place};
@@ -12,7 +12,9 @@ use crate::best::best_of;
 use crate::limits::is_active_in;
 use nqs_devices::free_device;
 use nqs_routing::destination_in;
-use nqs_types::{Hold, HostState, Kind, Name, QueueDef, Row, RowState};
+use nqs_state::HostState;
+use nqs_types::{Hold, Kind, QueueDef, Row, RowState};
+use nqs_values::Name;
 
 fn is_active_of(row: &Row, queue: &Name, owner: &Name) -> bool
     ensures { result ≡ is_active_of queue.now owner.now row.now }

@@ -2,14 +2,16 @@
 
 ghost use Rattle.std.specs.Prelude.{◌≡◌};
 ghost use Rattle.std.specs.Option.{option_copied};
-ghost use Rattle.nqs_types.specs.State.{content};
+ghost use Rattle.nqs_state.specs.State.{content};
 ghost use Rattle.nqs_rules.specs.Tests.{passes};
 ghost use Rattle.nqs_rules.specs.Limits.{is_batch_queue};
 ghost use Rattle.nqs_rules.specs.Order.{is_active_in, runs_in, runs_in_batch, complex_allows, batch_allows, is_within_limits};
 ghost use Rattle.nqs_order.specs.Places.{is_place_within};
 
 use nqs_devices::has_name;
-use nqs_types::{ComplexDef, HostState, Kind, Name, QueueDef, Row, RowState};
+use nqs_state::HostState;
+use nqs_types::{ComplexDef, Kind, QueueDef, Row, RowState};
+use nqs_values::Name;
 
 // Whether the row is of the queue, and runs or is on its way.
 pub(crate) fn is_active_in(row: &Row, queue: &Name) -> bool

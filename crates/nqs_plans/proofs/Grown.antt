@@ -1,12 +1,11 @@
 -- How plans grow.
-use Rattle.std.proofs.Common.{◌≡◌, ◌∙◌, ℕ, ◌+◌, List, [], ◌∷◌, ◌++◌, map, length, append_assoc, append-nil, length-append, arith, refl, sym, ap}
+use Rattle.std.proofs.Common.{◌≡◌, ◌∙◌, ℕ, ◌+◌, List, [], ◌∷◌, ◌++◌, map, length, append_assoc, append-nil, length-append, arith, sym, ap}
 use Rattle.std.specs.Prelude.{flat_map, fold}
 use Rattle.std.proofs.lemmas.List.{map-append, length-map}
 use Rattle.nqs_rules.specs.Stepped.{Stepped, Pending, output_of, read_at, reads_from, plan_of}
 use Rattle.nqs_plans.specs.More.{also, with_more}
-use Rattle.nqs_types.specs.declared.extent.Extent.{Extent}
+use Rattle.nqs_values.specs.declared.extent.Extent.{Extent}
 use Rattle.nqs_types.specs.declared.event.Plan.{Plan}
-use Rattle.nqs_types.specs.declared.event.PlanRead.{PlanRead}
 
 pub reads-append : (n : ℕ) (ps qs : List (Pending Extent)) → reads_from n (ps ++ qs) ≡ reads_from n ps ++ reads_from (n + length ps) qs
 reads-append n [] qs = ap (λ m. reads_from m qs) (omega arith)

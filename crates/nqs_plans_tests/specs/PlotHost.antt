@@ -1,7 +1,7 @@
 -- The host that the tests of steps ask: it, its queue and its users are named `plot`.
 use Rattle.std.specs.Prelude.{ℕ, true, false, List, [], ◌∷◌, codes, None, Some}
-use Rattle.nqs_types.specs.State.{State}
-use Rattle.nqs_types.specs.declared.extent.Extent.{Extent}
+use Rattle.nqs_state.specs.State.{State}
+use Rattle.nqs_values.specs.declared.extent.Extent.{Extent}
 use Rattle.nqs_types.specs.declared.queue.QueueDef.{QueueDef}
 use Rattle.nqs_types.specs.declared.request.Hold.TheVariants.{No}
 use Rattle.nqs_types.specs.declared.request.Job.{Job}

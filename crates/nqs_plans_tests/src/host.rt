@@ -1,7 +1,9 @@
 //! A host as it is formatted.
 
 use nqs_host::formatted;
-use nqs_types::{HostId, HostState, ListOf, Name, NameList};
+use nqs_state::HostState;
+use nqs_types::HostId;
+use nqs_values::{ListOf, Name, NameList};
 use std::alloc::Global;
 use std::test::Fail;
 

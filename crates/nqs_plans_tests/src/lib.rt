@@ -1,7 +1,9 @@
-//! Tests of the crates of plans, lists, steps and tables: each module has those of one crate. They stand apart from the crates, so that a crate
+//! Tests of the crates of plans, handovers, lists, steps and tables: each module has those of one crate. They stand apart from the crates, so that a crate
 //! isn't proved once more for its tests.
 #![tactic(auto)]
 
+#[cfg(test)]
+mod handover;
 #[cfg(test)]
 mod host;
 #[cfg(test)]

@@ -2,9 +2,9 @@
 
 use nqs_builders::{add, host, queue, row};
 use nqs_lists::{show_lines, stat_lines};
-use nqs_types::{
-    Bytes, ComplexDef, DeviceDef, Hold, HostState, Items, ListOf, Memory, Name, QueueDef, Row,
-};
+use nqs_state::HostState;
+use nqs_types::{ComplexDef, DeviceDef, Hold, QueueDef, Row};
+use nqs_values::{Bytes, Items, ListOf, Memory, Name};
 use std::alloc::Global;
 use std::rt::HostRuntime;
 
@@ -106,20 +106,23 @@ fn shows(alloc: Global, state: &HostState, code: u8, place: usize, text: &[u8]) 
     }
 }
 
+// The number of a list of qmgr, the place of a line, and the line.
+const LINES: [(u8, usize, &[u8]); 8] = [
+    (48, 0, b"batch batch enabled stopped 31 2"),
+    (49, 0, b"ann batch enabled free"),
+    (50, 0, b"ann 3 batch"),
+    (51, 0, b"ann manager"),
+    (52, 0, b"global_limit 64"),
+    (52, 1, b"patience 60"),
+    (52, 2, b"retry_wait 300"),
+    (52, 3, b"default_queue none"),
+];
+
 // The first list, and its line, that is shown otherwise.
 fn wrong_line(alloc: Global, state: &HostState) -> Option<(u8, usize)> {
-    for (code, place, text) in [
-        (48u8, 0usize, b"batch batch enabled stopped 31 2".as_slice()),
-        (49, 0, b"ann batch enabled free"),
-        (50, 0, b"ann 3 batch"),
-        (51, 0, b"ann manager"),
-        (52, 0, b"global_limit 64"),
-        (52, 1, b"patience 60"),
-        (52, 2, b"retry_wait 300"),
-        (52, 3, b"default_queue none"),
-    ] {
-        if !shows(alloc, state, code, place, text) {
-            return Some((code, place));
+    for (code, place, text) in &LINES {
+        if !shows(alloc, state, *code, *place, text) {
+            return Some((*code, *place));
         }
     }
     None

@@ -1,13 +1,12 @@
 //! Each call that takes memory, once.
 
 use nqs_builders::{add, job, text};
+use nqs_keyed::Table;
 use nqs_plans::{
     add_kept, change_storing, copy_bytes, copy_carried, copy_job, fold_each, no_extent, says,
 };
-use nqs_types::{
-    Bytes, Carried, Change, DeviceDef, Extent, HostId, Items, Job, ListOf, Memory, Name, Output,
-    Plan, PlanRead, RequestId, Table,
-};
+use nqs_types::{Carried, Change, DeviceDef, HostId, Job, Output, Plan, PlanRead, RequestId};
+use nqs_values::{Bytes, Extent, Items, ListOf, Memory, Name};
 use std::alloc::Global;
 use std::rt::HostRuntime;
 

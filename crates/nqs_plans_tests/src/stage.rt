@@ -2,10 +2,9 @@
 
 use nqs_builders::{add, host, row, text};
 use nqs_stage::on_end;
-use nqs_types::{
-    Body, Bytes, Change, Extent, FileOut, HostId, HostState, Items, ListOf, Memory, Name, Output,
-    Peer, Plan, Row, RowState, Stage,
-};
+use nqs_state::HostState;
+use nqs_types::{Body, Change, FileOut, HostId, Output, Peer, Plan, Row, RowState, Stage};
+use nqs_values::{Bytes, Extent, Items, ListOf, Memory, Name};
 use std::alloc::Global;
 use std::rt::HostRuntime;
 

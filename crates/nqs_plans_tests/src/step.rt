@@ -1,18 +1,20 @@
 //! A host at events: a submission, deletions of a running request and of one that waits, and the launch of a job.
 
 ghost use Rattle.std.specs.Prelude.{◌≡◌, ◌∷◌, [], codes, IfOk, OnOk};
-ghost use Rattle.nqs_types.specs.State.{content};
+ghost use Rattle.nqs_state.specs.State.{content};
 ghost use Rattle.nqs_rules.specs.Format.{new_peer};
 ghost use Rattle.nqs_rules.specs.InOrder.{IsInOrder};
 ghost use Rattle.nqs_plans_tests.specs.PlotHost.{plot_queue, plot_job, plot_row, plot_host, blank_host};
 
+use nqs_keyed::Table;
+use nqs_state::HostState;
 use nqs_step::start::start;
 use nqs_step::step::step;
 use nqs_types::{
-    Access, Bytes, Change, Command, Event, Extent, Hold, HostId, HostState, Job, Kind, LaunchOrder,
-    Limits, ListOf, Memory, Name, Named, Output, Peer, Plan, QueueDef, Reply, RequestId, Row,
-    RowState, Spare, Submission, Table,
+    Access, Change, Command, Event, Hold, HostId, Job, Kind, LaunchOrder, Limits, Named, Output,
+    Peer, Plan, QueueDef, Reply, RequestId, Row, RowState, Submission,
 };
+use nqs_values::{Bytes, Extent, ListOf, Memory, Name, Spare};
 use std::alloc::Global;
 use std::rt::HostRuntime;
 

@@ -1,11 +1,10 @@
 //! A handover of two hosts in the table: where its request lies, and the order of the rows.
 
 use nqs_builders::{add, host, row};
+use nqs_state::HostState;
 use nqs_table::table_of;
-use nqs_types::{
-    Hand, Hold, HostId, HostState, Memory, Name, NetState, Phase, Promise, RequestId, Row,
-    RowState, TableRow,
-};
+use nqs_types::{Hand, Hold, HostId, NetState, Phase, Promise, RequestId, Row, RowState, TableRow};
+use nqs_values::{Memory, Name};
 use std::alloc::Global;
 use std::rt::HostRuntime;
 

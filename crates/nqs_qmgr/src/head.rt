@@ -7,7 +7,8 @@ ghost use Rattle.nqs_types.specs.declared.fault.GrammarFault.TheVariants as faul
 ghost use Rattle.nqs_qmgr.specs.Heads.{word_at, name_at, request_at, nothing_after, last_name, stem_of, head_of, head_at, bare, value_at, valued, limit_of, FitsLine};
 
 use crate::value::{Amount, limit_of};
-use nqs_types::{GrammarFault, Name, Named, NamedDest};
+use nqs_types::{GrammarFault, Named, NamedDest};
+use nqs_values::Name;
 use nqs_words::{
     Gaps, Keyword, NoKeyword, NotNamed, Word, dest_of, keyword_of, name_of, named_of, next_word,
     number_of, place_of,

@@ -13,7 +13,8 @@ use crate::head::{
 };
 use crate::options::{Settings, no_settings, options};
 use crate::value::Amount;
-use nqs_types::{GrammarFault, Name, Named, NamedDest};
+use nqs_types::{GrammarFault, Named, NamedDest};
+use nqs_values::Name;
 use nqs_words::Keyword;
 
 /// `KEYWORD`

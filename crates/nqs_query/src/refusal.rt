@@ -6,7 +6,8 @@ ghost use Rattle.nqs_rules.specs.Transcript.{refusal_text};
 ghost use Rattle.nqs_types.specs.declared.refusal.Refusal.TheVariants.{NoRequest, QueueInUse};
 
 use crate::put::{put_decimal, put_named, put_text};
-use nqs_types::{Memory, Name, Named, Refusal};
+use nqs_types::{Named, Refusal};
+use nqs_values::{Memory, Name};
 use std::alloc::Global;
 
 // A name between two texts.

@@ -9,9 +9,8 @@ ghost use Rattle.nqs_types.specs.declared.event.Reply.TheVariants as reply;
 use crate::put::{put_decimal, put_id, put_line_end, put_text};
 use crate::refusal::put_refusal;
 use nqs_plans::refusal_number;
-use nqs_types::{
-    Bytes, GrammarFault, Memory, Name, Refusal, Reply, RequestId, WordsCause, WordsFault,
-};
+use nqs_types::{GrammarFault, Refusal, Reply, RequestId, WordsCause, WordsFault};
+use nqs_values::{Bytes, Memory, Name};
 use std::alloc::Global;
 
 // `Bad line at PLACE: CAUSE`

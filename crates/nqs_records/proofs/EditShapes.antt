@@ -1,14 +1,11 @@
 -- The laws of the arguments of edits.
-use Rattle.std.proofs.Common.{◌≡◌, ℕ, ◌+◌, ◌<◌, ◌^◌, true, nat_le, IsTrue, List, [], ◌∷◌, ◌++◌, drop, refl, ap, arith, Ok}
+use Rattle.std.proofs.Common.{◌≡◌, ℕ, ◌+◌, ◌<◌, ◌^◌, true, nat_le, IsTrue, List, [], ◌++◌, drop, refl, ap, arith, Ok}
 use Rattle.std.specs.Prelude.{⊤}
 use Rattle.std.proofs.lemmas.Bool.Decides.{nat_tests}
-use Rattle.nqs_types.specs.Name.{IsName}
-use Rattle.nqs_types.specs.declared.ids.Named.{Named}
-use Rattle.nqs_types.specs.declared.ids.NamedDest.{NamedDest}
+use Rattle.nqs_values.specs.Name.{IsName}
 use Rattle.nqs_rules.specs.Conf.{is_wait}
 use Rattle.nqs_codec.specs.Fields.{u64_field, short_field, bool_field}
-use Rattle.nqs_codec.specs.Takes.{Stands}
-use Rattle.nqs_records.specs.Reading.{both, mapped}
+use Rattle.nqs_records.specs.Reading.{both}
 use Rattle.nqs_records.specs.Fields.{bool_at, opt_at, name_at}
 use Rattle.nqs_records.specs.Spelling.{opt_field}
 use Rattle.nqs_records.specs.Values.{is_at_most, IsU64, IsAny, IsOpt}

@@ -1,5 +1,5 @@
 -- Reading a list from its front.
-use Rattle.std.proofs.Common.{◌≡◌, ℕ, zero, suc, List, [], ◌∷◌, ◌++◌, refl, sym, ap, ◌∙◌, append_assoc, append-nil, Result, Ok, Err}
+use Rattle.std.proofs.Common.{◌≡◌, ℕ, suc, List, [], ◌∷◌, ◌++◌, refl, sym, ap, ◌∙◌, append_assoc, append-nil, Ok, Err}
 use Rattle.nqs_records.specs.Reading.{Read, Reading, ◌>>=◌, repeated}
 use Rattle.nqs_records.specs.declared.fault.RecordFault.{RecordFault}
 

@@ -1,10 +1,10 @@
 -- What it is to be read: what is found stands there, and what stands there is found.
-use Rattle.std.proofs.Common.{◌≡◌, ℕ, ◌+◌, ◌<◌, List, ◌++◌, length, drop, get_or, ap, sym, ◌∙◌, subst, Result, Ok, Err, refl}
+use Rattle.std.proofs.Common.{◌≡◌, ℕ, ◌+◌, List, ◌++◌, length, drop, ap, subst, Result, Ok, Err, refl}
 use Rattle.nqs_codec.specs.Takes.{Stands}
 use Rattle.nqs_codec.specs.Laws.{IsReadBack}
 use Rattle.nqs_codec.specs.declared.fault.Short.{Short}
 use Rattle.nqs_codec.specs.declared.fault.FieldFault.{FieldFault}
-use Rattle.nqs_records.specs.Reading.{Read, Reading, ◌>>=◌}
+use Rattle.nqs_records.specs.Reading.{Reading, ◌>>=◌}
 use Rattle.nqs_records.specs.Fields.{or_short, or_fault}
 use Rattle.nqs_records.specs.Changes.{AreBytes}
 

@@ -1,7 +1,5 @@
 -- Each kind of record is read as it is spelled: one line a kind.
 use Rattle.std.proofs.Common.{◌≡◌, ℕ, ◌+◌, ◌^◌, List, [], ◌++◌, length, drop, refl, Ok}
-use Rattle.nqs_types.specs.declared.extent.Extent.{Extent}
-use Rattle.nqs_types.specs.declared.change.Change.{Change}
 use Rattle.nqs_types.specs.declared.change.Change.TheVariants.{Site, Submitted, Deleted, Doomed, Started, Ended, Unlaunched, Boot, Edited, HandOpened, HandCommitted, HandRefused, HandsSilent, HandDone, Promised, Accepted, Dropped, MovedLocal, RefusedLocal, HeldFar, StageGot, StageGone, FileGone}
 use Rattle.nqs_codec.specs.Fields.{u8_field, u64_field}
 use Rattle.nqs_records.specs.Reading.{both}

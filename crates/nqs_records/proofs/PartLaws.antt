@@ -1,18 +1,11 @@
 -- The laws of what records are made of.
-use Rattle.std.proofs.Common.{◌≡◌, ℕ, ◌<◌, ◌^◌, ◌==◌, IsTrue, List, [], ◌++◌, refl, ◌∙◌, sym, arith}
-use Rattle.std.proofs.lemmas.Bool.{eqb-true}
+use Rattle.std.proofs.Common.{ℕ, ◌<◌, ◌^◌, ◌==◌, IsTrue, refl, arith}
 use Rattle.std.proofs.lemmas.Bool.Decides.{nat_tests}
-use Rattle.nqs_types.specs.Name.{IsName}
+use Rattle.nqs_values.specs.Name.{IsName}
 use Rattle.nqs_types.specs.declared.ids.HostId.{HostId}
-use Rattle.nqs_types.specs.declared.ids.RequestId.{RequestId}
-use Rattle.nqs_types.specs.declared.ids.PeerNumber.{PeerNumber}
-use Rattle.nqs_types.specs.declared.extent.Extent.{Extent}
-use Rattle.nqs_types.specs.declared.request.Job.{Job}
-use Rattle.nqs_types.specs.declared.request.Carried.{Carried}
-use Rattle.nqs_types.specs.declared.change.OutPart.{OutPart}
-use Rattle.nqs_codec.specs.Fields.{u8_field, u16_field, u32_field, u64_field, short_field}
+use Rattle.nqs_codec.specs.Fields.{u8_field, u32_field, short_field}
 use Rattle.nqs_records.specs.Reading.{within, counted}
-use Rattle.nqs_records.specs.Fields.{u8_at, u16_at, u32_at, name_at}
+use Rattle.nqs_records.specs.Fields.{u8_at, name_at}
 use Rattle.nqs_records.specs.Parts.{host_at, seq_at, id_at, extent_at, job_of, job_at, carried_at, part_at, hand_at}
 use Rattle.nqs_records.specs.Spelling.{list_field, id_field, extent_field, job_field, carried_field, part_field, hand_field}
 use Rattle.nqs_records.specs.Values.{is_host, is_seq, is_at_most, is_site_count, IsU8, IsList, IsHost, IsId, IsExtent, IsJob, IsCarried, IsPart, IsHand}

@@ -3,13 +3,12 @@ use Rattle.std.proofs.Common.{◌≡◌, ℕ, zero, suc, ◌<◌, ◌≤◌, Boo
 use Rattle.std.specs.List.{list_all, AllByRecursion}
 use Rattle.std.proofs.lemmas.Bool.{and_parts, and_from}
 use Rattle.std.proofs.lemmas.Bool.Decides.{nat_tests}
-use Rattle.nqs_types.specs.Path.{IsPath, is_path, is_visible, has_parent}
-use Rattle.nqs_types.specs.declared.extent.Extent.{Extent}
+use Rattle.nqs_values.specs.Path.{IsPath, is_path, is_visible, has_parent}
+use Rattle.nqs_values.specs.declared.extent.Extent.{Extent}
 use Rattle.nqs_types.specs.declared.ids.HostId.{HostId}
 use Rattle.nqs_types.specs.declared.request.Job.{Job}
 use Rattle.nqs_types.specs.declared.request.Carried.{Carried}
 use Rattle.nqs_types.specs.declared.change.OutPart.{OutPart}
-use Rattle.nqs_types.specs.declared.change.Change.{Change}
 use Rattle.nqs_types.specs.declared.change.Change.TheVariants.{Site, Submitted, Deleted, Doomed, Started, Ended, Unlaunched, Boot, Edited, HandOpened, HandCommitted, HandRefused, HandsSilent, HandDone, Promised, Accepted, Dropped, MovedLocal, RefusedLocal, HeldFar, StageGot, StageGone, FileGone}
 use Rattle.nqs_types.specs.declared.edit.Edit.{Edit}
 use Rattle.nqs_types.specs.declared.edit.Edit.TheVariants.{Conf, Limits as LimitsOf, Access as AccessOf, Devices as DevicesOf, Rows as RowsOf}
@@ -22,10 +21,10 @@ use Rattle.nqs_types.specs.declared.edit.RowsEdit.TheVariants.{AbortQueue, HoldR
 use Rattle.nqs_rules.specs.Conf.{at_most, is_conf_within}
 use Rattle.nqs_rules.specs.Limits.{is_limits_within}
 use Rattle.nqs_rules.specs.Rows.{is_rows_within}
-use Rattle.nqs_rules.specs.Sane.{is_sane_edit, is_sane_job, is_sane_carried, has_path, is_sane_change}
+use Rattle.nqs_rules.specs.Sane.{is_sane_edit, is_sane_job, is_sane_carried, has_path}
 use Rattle.nqs_records.specs.Values.{is_site_count, is_at_most, IsOpt, IsJob, IsCarried, IsPart}
 use Rattle.nqs_records.specs.EditValues.{IsAtMost, IsEdit, IsConfEdit, IsLimitsEdit, IsRowsEdit}
-use Rattle.nqs_records.specs.Changes.{MayStand, WhatMayStandIsSane}
+use Rattle.nqs_records.specs.Changes.{WhatMayStandIsSane}
 
 seen : (bs : List ℕ) → ((i : ℕ) → i < length bs → IsTrue (is_visible (slice_index bs i))) → list_all is_visible bs ≡ true
 seen [] all = refl

@@ -1,9 +1,9 @@
 -- The one spelling of each change, and the changes that may stand in a record.
-use Rattle.std.specs.Prelude.{◌≡◌, ◌↔◌, ℕ, true, ◌<◌, List, [], ◌∷◌, ◌++◌, length, get_or, IsTrue, Ok}
-use Rattle.nqs_types.specs.Name.{IsName}
-use Rattle.nqs_types.specs.Path.{IsPath}
+use Rattle.std.specs.Prelude.{◌≡◌, ◌↔◌, ℕ, true, ◌<◌, List, [], ◌∷◌, get_or, IsTrue, Ok}
+use Rattle.nqs_values.specs.Name.{IsName}
+use Rattle.nqs_values.specs.Path.{IsPath}
 use Rattle.nqs_codec.specs.Fields.{u8_field, u64_field, short_field}
-use Rattle.nqs_types.specs.declared.extent.Extent.{Extent}
+use Rattle.nqs_values.specs.declared.extent.Extent.{Extent}
 use Rattle.nqs_types.specs.declared.change.Change.{Change}
 use Rattle.nqs_types.specs.declared.change.Change.TheVariants.{Site, Submitted, Deleted, Doomed, Started, Ended, Unlaunched, Boot, Edited, HandOpened, HandCommitted, HandRefused, HandsSilent, HandDone, Promised, Accepted, Dropped, MovedLocal, RefusedLocal, HeldFar, StageGot, StageGone, FileGone}
 use Rattle.nqs_records.specs.Spelling.{fields, opt_field, list_field, id_field, extent_field, job_field, carried_field, part_field, hand_field}

@@ -1,5 +1,5 @@
 -- The one spelling of each edit: its code, and its arguments.
-use Rattle.std.specs.Prelude.{ℕ, List, [], ◌∷◌, ◌++◌}
+use Rattle.std.specs.Prelude.{ℕ, List, [], ◌∷◌}
 use Rattle.nqs_codec.specs.Fields.{u8_field, u32_field, u64_field, short_field, bool_field}
 use Rattle.nqs_types.specs.declared.ids.Named.{Named}
 use Rattle.nqs_types.specs.declared.ids.NamedDest.{NamedDest}

@@ -1,6 +1,6 @@
 -- The edits that may stand in a record.
 use Rattle.std.specs.Prelude.{ℕ, IsTrue}
-use Rattle.nqs_types.specs.Name.{IsName}
+use Rattle.nqs_values.specs.Name.{IsName}
 use Rattle.nqs_types.specs.declared.ids.Named.{Named}
 use Rattle.nqs_types.specs.declared.ids.NamedDest.{NamedDest}
 use Rattle.nqs_rules.specs.Conf.{is_wait}

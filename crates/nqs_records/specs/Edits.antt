@@ -1,19 +1,14 @@
 -- Readings of edits.
-use Rattle.std.specs.Prelude.{ℕ, Bool, List, [], ◌∷◌, Option, Ok}
+use Rattle.std.specs.Prelude.{ℕ, List, [], ◌∷◌, Option, Ok}
 use Rattle.nqs_types.specs.declared.ids.Named.{Named}
 use Rattle.nqs_types.specs.declared.ids.NamedDest.{NamedDest}
 use Rattle.nqs_rules.specs.Conf.{is_wait}
 use Rattle.nqs_types.specs.declared.edit.Edit.{Edit}
 use Rattle.nqs_types.specs.declared.edit.Edit.TheVariants.{Conf, Limits as LimitsOf, Access as AccessOf, Devices as DevicesOf, Rows as RowsOf}
-use Rattle.nqs_types.specs.declared.edit.ConfEdit.{ConfEdit}
 use Rattle.nqs_types.specs.declared.edit.ConfEdit.TheVariants.{CreateBatchQueue, CreateDeviceQueue, CreatePipeQueue, DeleteQueue, EnableQueue, DisableQueue, StartQueue, StopQueue, PurgeQueue, SetPriority, SetRunLimit, AddDestination, RemoveDestination, SetDefaultQueue, SetNoDefaultQueue, SetPatience, SetRetryWait}
-use Rattle.nqs_types.specs.declared.edit.LimitsEdit.{LimitsEdit}
 use Rattle.nqs_types.specs.declared.edit.LimitsEdit.TheVariants.{SetUserLimit, SetCpuLimit, SetMemoryLimit, CreateComplex, DeleteComplex, AddQueue, RemoveQueue, SetComplexLimit, SetGlobalLimit}
-use Rattle.nqs_types.specs.declared.edit.AccessEdit.{AccessEdit}
 use Rattle.nqs_types.specs.declared.edit.AccessEdit.TheVariants.{SetUnrestrictedAccess, SetNoAccess, AddUser, RemoveUser, AddManager, RemoveManager, AddOperator, RemoveOperator}
-use Rattle.nqs_types.specs.declared.edit.DevicesEdit.{DevicesEdit}
 use Rattle.nqs_types.specs.declared.edit.DevicesEdit.TheVariants.{CreateDevice, DeleteDevice, EnableDevice, DisableDevice, SetForms, AddDevice, RemoveDevice}
-use Rattle.nqs_types.specs.declared.edit.RowsEdit.{RowsEdit}
 use Rattle.nqs_types.specs.declared.edit.RowsEdit.TheVariants.{AbortQueue, HoldRequest, ReleaseRequest, MoveRequest, ModifyRequest}
 use Rattle.nqs_records.specs.Reading.{Reading, ◌>>=◌, mapped, both, within, numbered, bad_at}
 use Rattle.nqs_records.specs.Fields.{u8_at, u64_at, bool_at, opt_at, name_at}

@@ -1,6 +1,6 @@
 -- Readings of the kinds of record, and of a whole record.
-use Rattle.std.specs.Prelude.{ℕ, zero, suc, Bool, nat_lt, List, [], ◌∷◌, length, if◌then◌else◌, Ok, Err}
-use Rattle.nqs_types.specs.declared.extent.Extent.{Extent}
+use Rattle.std.specs.Prelude.{ℕ, nat_lt, List, [], ◌∷◌, length, if◌then◌else◌, Ok, Err}
+use Rattle.nqs_values.specs.declared.extent.Extent.{Extent}
 use Rattle.nqs_types.specs.declared.change.Change.{Change}
 use Rattle.nqs_types.specs.declared.change.Change.TheVariants.{Site, Submitted, Deleted, Doomed, Started, Ended, Unlaunched, Boot, Edited, HandOpened, HandCommitted, HandRefused, HandsSilent, HandDone, Promised, Accepted, Dropped, MovedLocal, RefusedLocal, HeldFar, StageGot, StageGone, FileGone}
 use Rattle.nqs_records.specs.Edits.{edit_at}
@@ -8,7 +8,6 @@ use Rattle.nqs_records.specs.Reading.{Read, Reading, ◌>>=◌, mapped, both, wi
 use Rattle.nqs_records.specs.Fields.{u8_at, u64_at, name_at, path_at, opt_at}
 use Rattle.nqs_records.specs.Values.{is_site_count, is_at_most}
 use Rattle.nqs_records.specs.Parts.{host_at, id_at, extent_at, job_at, carried_at, part_at, hand_at}
-use Rattle.nqs_records.specs.declared.fault.RecordFault.{RecordFault}
 use Rattle.nqs_records.specs.declared.fault.RecordFault.TheVariants.{Kind, Trailing}
 
 -- a change of a host

@@ -3,11 +3,11 @@ use Rattle.std.specs.Prelude.{ℕ, Bool, ◌==◌, List, Option}
 use Rattle.nqs_types.specs.declared.ids.HostId.{HostId}
 use Rattle.nqs_types.specs.declared.ids.RequestId.{RequestId}
 use Rattle.nqs_types.specs.declared.ids.PeerNumber.{PeerNumber}
-use Rattle.nqs_types.specs.declared.extent.Extent.{Extent}
+use Rattle.nqs_values.specs.declared.extent.Extent.{Extent}
 use Rattle.nqs_types.specs.declared.request.Job.{Job}
 use Rattle.nqs_types.specs.declared.request.Carried.{Carried}
 use Rattle.nqs_types.specs.declared.change.OutPart.{OutPart}
-use Rattle.nqs_records.specs.Reading.{Reading, mapped, both, within, counted}
+use Rattle.nqs_records.specs.Reading.{Reading, mapped, both, within}
 use Rattle.nqs_records.specs.Fields.{u8_at, u16_at, u32_at, u64_at, bool_at, opt_at, name_at, path_at}
 use Rattle.nqs_records.specs.Values.{is_host, is_seq, is_at_most}
 

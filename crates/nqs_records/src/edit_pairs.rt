@@ -7,7 +7,8 @@ use crate::edit_parts::{read_at_most, read_dest, read_named, read_opt_at_most};
 use crate::fault::RecordFault;
 use crate::field::read_name;
 use crate::part::read_opt_u64;
-use nqs_types::{Name, Named, NamedDest};
+use nqs_types::{Named, NamedDest};
+use nqs_values::Name;
 
 #[tactic(auto, unfolding(crate::specs::Edits::names_at))]
 pub(crate) fn read_names(bytes: &[u8], place: u64) -> Result<((Name, Name), u64), RecordFault>

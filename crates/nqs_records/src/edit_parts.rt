@@ -7,7 +7,8 @@ ghost use Rattle.nqs_records.specs.Edits.{at_most_at, wait_at, dest_at, named_at
 use crate::fault::RecordFault;
 use crate::field::{read_bool, read_name, read_u64};
 use crate::part::read_seq;
-use nqs_types::{ConfEdit, Edit, Name, Named, NamedDest};
+use nqs_types::{ConfEdit, Edit, Named, NamedDest};
+use nqs_values::Name;
 
 // A new queue, as it is asked for.
 #[derive(Clone, Copy)]

@@ -7,7 +7,8 @@ ghost use Rattle.nqs_records.specs.Spelling.{fields, opt_field, id_field, extent
 ghost use Rattle.nqs_records.specs.Values.{IsJob, IsCarried, IsPart};
 
 use nqs_codec::{put_bool, put_name, put_path, put_u8, put_u16, put_u32, put_u64};
-use nqs_types::{Carried, Extent, Job, Memory, Name, OutPart, PeerNumber, RequestId};
+use nqs_types::{Carried, Job, OutPart, PeerNumber, RequestId};
+use nqs_values::{Extent, Memory, Name};
 
 #[tactic(auto, using(crate::proofs::Joined::joined))]
 pub(crate) fn put_opt_u64(value: &Option<u64>, out: &mut Vec<u8>) -> Result<(), Memory>

@@ -8,7 +8,8 @@ ghost use Rattle.nqs_records.specs.EditSpelling.{dest_field, named_field};
 
 use crate::put_parts::put_opt_u64;
 use nqs_codec::{put_bool, put_name, put_u8, put_u32, put_u64};
-use nqs_types::{Memory, Name, Named, NamedDest};
+use nqs_types::{Named, NamedDest};
+use nqs_values::{Memory, Name};
 
 #[tactic(auto, using(crate::proofs::Joined::joined), unfolding(crate::specs::EditSpelling::dest_field))]
 fn put_dest(dest: NamedDest, out: &mut Vec<u8>) -> Result<(), Memory>

@@ -15,7 +15,8 @@ use crate::put_kinds::{
     put_with_id,
 };
 use nqs_codec::{put_u8, put_u64};
-use nqs_types::{Change, Edit, Memory};
+use nqs_types::{Change, Edit};
+use nqs_values::Memory;
 use std::alloc::Global;
 
 #[tactic(auto, using(crate::proofs::Joined::joined))]

@@ -1,7 +1,7 @@
 -- The destination that is tried for a row.
 use Rattle.std.specs.Prelude.{ℕ, Option}
 use Rattle.std.specs.Option.{option_and_then}
-use Rattle.nqs_types.specs.State.{State}
+use Rattle.nqs_state.specs.State.{State}
 use Rattle.nqs_rules.specs.Find.{find_queue}
 use Rattle.nqs_rules.specs.Routing.{destination}
 use Rattle.nqs_types.specs.declared.request.Row.{Row}

@@ -2,12 +2,13 @@
 
 ghost use Rattle.std.specs.Prelude.{◌≡◌};
 ghost use Rattle.std.specs.Option.{option_copied};
-ghost use Rattle.nqs_types.specs.State.{content};
+ghost use Rattle.nqs_state.specs.State.{content};
 ghost use Rattle.nqs_rules.specs.Find.{find_peer};
 ghost use Rattle.nqs_rules.specs.Routing.{is_hand_to, refuses, was_refused, is_reachable, may_try, destination};
 ghost use Rattle.nqs_routing.specs.Destination.{destination_of};
 
-use nqs_types::{Dest, Hand, HostId, HostState, Peer, QueueDef, Refused, Row};
+use nqs_state::HostState;
+use nqs_types::{Dest, Hand, HostId, Peer, QueueDef, Refused, Row};
 
 fn refuses(refused: &Refused, dest: &Dest) -> bool
     ensures { result ≡ refuses dest.now refused.now }

@@ -1,17 +1,17 @@
 //! What a refusal or a silence leaves.
 
 ghost use Rattle.std.specs.Prelude.{◌≡◌, ◌<◌, find};
-ghost use Rattle.nqs_types.specs.State.{content};
-ghost use Rattle.nqs_types.specs.Keys.{is_row, is_queue};
-ghost use Rattle.nqs_types.specs.Room.{refusals_of};
+ghost use Rattle.nqs_state.specs.State.{content};
+ghost use Rattle.nqs_state.specs.Keys.{is_row, is_queue};
+ghost use Rattle.nqs_state.specs.Room.{refusals_of};
 ghost use Rattle.nqs_rules.specs.Edits.{change_row, change_peer};
 ghost use Rattle.nqs_rules.specs.Routing.{dests_of, dests_for, is_present, with_refusal, all_refused, held_where, refusal_noted};
 
 use crate::dests::{find_peer, was_refused};
-use nqs_types::{
-    Dest, Hold, HostId, HostState, Name, Peer, QueueDef, Refused, RefusedList, RequestId, Row,
-    Table,
-};
+use nqs_keyed::Table;
+use nqs_state::HostState;
+use nqs_types::{Dest, Hold, HostId, Peer, QueueDef, Refused, RefusedList, RequestId, Row};
+use nqs_values::Name;
 
 // The destinations of a queue.
 fn dests_of<'a>(queues: &'a Table<Name, QueueDef>, queue: &Name) -> &'a [Dest]

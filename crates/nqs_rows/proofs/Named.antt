@@ -1,6 +1,6 @@
 -- What holds of an edit of one request, for each edit.
 use Rattle.std.proofs.Common.{◌≡◌, ◌+◌}
-use Rattle.nqs_types.specs.State.{State}
+use Rattle.nqs_state.specs.State.{State}
 use Rattle.nqs_rules.specs.Causes.{first_refusal}
 use Rattle.nqs_rules.specs.Find.{meant_request, meant_row}
 use Rattle.nqs_rules.specs.Rows.{named_causes, rows_causes, change_meant, rows_applied, next_arrival}

@@ -2,8 +2,8 @@
 use Rattle.std.proofs.Common.{◌≡◌, ℕ, ◌+◌, ◌<◌, Bool, true, false, true≢false, not, List, [], ◌∷◌, ◌++◌, Option, None, Some, Err, is_ok, nat_le, if◌then◌else◌, refl, sym, arith, IsTrue}
 use Rattle.std.proofs.lemmas.Bool.Decides.{nat_tests}
 use Rattle.std.specs.List.{list_any}
-use Rattle.nqs_types.specs.State.{State}
-use Rattle.nqs_types.specs.Keys.{is_queue}
+use Rattle.nqs_state.specs.State.{State}
+use Rattle.nqs_state.specs.Keys.{is_queue}
 pub use Rattle.nqs_access.proofs.Causes.{passed, refused}
 use Rattle.nqs_access.proofs.Found.{queue_there, queue_missing}
 use Rattle.nqs_rules.specs.Tests.{passes}

@@ -1,6 +1,6 @@
 -- The edits of one request, as tests and changes of its row.
 use Rattle.std.specs.Prelude.{ℕ, ◌+◌, List, [], ◌++◌}
-use Rattle.nqs_types.specs.State.{State}
+use Rattle.nqs_state.specs.State.{State}
 use Rattle.nqs_rules.specs.Causes.{Cause}
 use Rattle.nqs_rules.specs.Access.{entry_causes}
 use Rattle.nqs_rules.specs.Limits.{over_causes}

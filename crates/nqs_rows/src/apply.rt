@@ -1,14 +1,16 @@
 //! What an edit of requests makes of a state.
 
 ghost use Rattle.std.specs.Prelude.{◌≡◌, ◌+◌, ◌<◌, ◌≤◌, ◌^◌, length, is_ok, IsTrue};
-ghost use Rattle.nqs_types.specs.State.{content};
+ghost use Rattle.nqs_state.specs.State.{content};
 ghost use Rattle.nqs_rules.specs.Causes.{first_refusal};
 ghost use Rattle.nqs_rules.specs.Find.{meant_request};
 ghost use Rattle.nqs_rules.specs.Rows.{doomed_in, change_meant, rows_causes, rows_applied, is_rows_within};
 ghost use Rattle.nqs_rows.specs.OneRow.{row_edited};
 
 use crate::meant::meant_request;
-use nqs_types::{Hold, HostState, ListOf, Name, Named, RequestId, Row, RowState, RowsEdit};
+use nqs_state::HostState;
+use nqs_types::{Hold, Named, RequestId, Row, RowState, RowsEdit};
+use nqs_values::{ListOf, Name};
 use std::alloc::Global;
 
 // What an edit makes of its request's row.

@@ -1,7 +1,7 @@
 //! Whether a deletion or an edit of requests is refused.
 
 ghost use Rattle.std.specs.Prelude.{◌≡◌, ◌≤◌, ◌∷◌, ◌++◌, [], length};
-ghost use Rattle.nqs_types.specs.State.{content};
+ghost use Rattle.nqs_state.specs.State.{content};
 ghost use Rattle.nqs_rules.specs.Causes.{cause, first_refusal};
 ghost use Rattle.nqs_rules.specs.Find.{meant_row};
 ghost use Rattle.nqs_rules.specs.Access.{rank, is_plain_user};
@@ -11,9 +11,9 @@ ghost use Rattle.nqs_rows.specs.OneRow.{row_causes};
 use crate::entry::check_job;
 use crate::meant::meant_row;
 use nqs_access::rank;
-use nqs_types::{
-    Entry, Hold, HostState, Kind, Name, Named, QueueDef, Rank, Refusal, Row, RowState, RowsEdit,
-};
+use nqs_state::HostState;
+use nqs_types::{Entry, Hold, Kind, Named, QueueDef, Rank, Refusal, Row, RowState, RowsEdit};
+use nqs_values::Name;
 
 fn is_plain_user(state: &HostState, user: &Name) -> bool
     ensures { result ≡ is_plain_user (rank user.now (content state.now)) }

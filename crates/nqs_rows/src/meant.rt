@@ -2,11 +2,12 @@
 
 ghost use Rattle.std.specs.Prelude.{◌≡◌, ◌<◌, ◌≤◌, length};
 ghost use Rattle.std.specs.Option.{option_copied};
-ghost use Rattle.nqs_types.specs.State.{content};
+ghost use Rattle.nqs_state.specs.State.{content};
 ghost use Rattle.nqs_rules.specs.Find.{meant_request, meant_row};
 
 use nqs_access::place_of;
-use nqs_types::{HostId, HostState, Named, RequestId, Row};
+use nqs_state::HostState;
+use nqs_types::{HostId, Named, RequestId, Row};
 
 // The request, where its host is of the site.
 pub(crate) fn meant_request(state: &HostState, request: &Named) -> Option<RequestId>

@@ -1,12 +1,14 @@
 //! Whether a submission is refused.
 
 ghost use Rattle.std.specs.Prelude.{◌≡◌, ◌∷◌, ◌++◌, [], Some};
-ghost use Rattle.nqs_types.specs.State.{content};
+ghost use Rattle.nqs_state.specs.State.{content};
 ghost use Rattle.nqs_rules.specs.Causes.{cause, first_refusal};
 ghost use Rattle.nqs_rules.specs.Rows.{is_host_full, numbers_used, queue_entry_causes, submit_causes_at, submit_causes};
 
 use crate::entry::check_job;
-use nqs_types::{Entry, HostState, Job, Name, QueueDef, Refusal, Submission};
+use nqs_state::HostState;
+use nqs_types::{Entry, Job, QueueDef, Refusal, Submission};
+use nqs_values::Name;
 
 fn is_host_full(state: &HostState) -> bool
     ensures { result ≡ is_host_full (content state.now) }

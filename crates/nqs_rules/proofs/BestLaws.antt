@@ -3,7 +3,7 @@ use Rattle.std.proofs.Common.{◌≡◌, ℕ, ◌+◌, ◌<◌, Bool, true, fals
 use Rattle.std.proofs.lemmas.Option.{same_Some, none-some}
 use Rattle.std.specs.List.{list_any}
 use Rattle.std.specs.Option.{IfSome}
-use Rattle.nqs_types.specs.Table.{better, best_from}
+use Rattle.nqs_keyed.specs.Table.{better, best_from}
 
 module _ {V : Type 0} (test : V → Bool) (beats : V → V → Bool) where
   -- what holds of each value that passes, with its place

@@ -3,8 +3,8 @@ use Rattle.std.proofs.Common.{◌≡◌, ◌+◌, true, false, not, [], ◌∷�
 use Rattle.std.proofs.lemmas.Bool.{and_parts, or_left, or_right}
 use Rattle.std.proofs.lemmas.Option.{same_Some}
 use Rattle.std.specs.List.{list_any}
-use Rattle.nqs_types.specs.State.{State}
-use Rattle.nqs_types.specs.Keys.{is_row}
+use Rattle.nqs_state.specs.State.{State}
+use Rattle.nqs_state.specs.Keys.{is_row}
 use Rattle.nqs_types.specs.declared.ids.RequestId.{RequestId}
 use Rattle.nqs_types.specs.declared.request.Row.{Row}
 use Rattle.nqs_types.specs.declared.request.Hand.{Hand}

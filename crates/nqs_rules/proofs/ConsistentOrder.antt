@@ -5,10 +5,11 @@ use Rattle.std.proofs.lemmas.List.Folds.{list_any-append}
 use Rattle.std.proofs.lemmas.Option.{same_Some}
 use Rattle.std.specs.List.{list_any, list_all, filter_map}
 use Rattle.std.specs.Option.{IfSome}
-use Rattle.nqs_types.specs.State.{State}
-use Rattle.nqs_types.specs.Ids.{name_eq, id_eq, id_exact}
-use Rattle.nqs_types.specs.Table.{without_first}
-use Rattle.nqs_types.specs.Keys.{is_row, is_hand, is_promise}
+use Rattle.nqs_state.specs.State.{State}
+use Rattle.nqs_values.specs.Same.{name_eq}
+use Rattle.nqs_types.specs.Ids.{id_eq, id_exact}
+use Rattle.nqs_keyed.specs.Table.{without_first}
+use Rattle.nqs_state.specs.Keys.{is_row, is_hand, is_promise}
 use Rattle.nqs_types.specs.declared.ids.HostId.{HostId}
 use Rattle.nqs_types.specs.declared.ids.RequestId.{RequestId}
 use Rattle.nqs_types.specs.declared.ids.Dest.{Dest}

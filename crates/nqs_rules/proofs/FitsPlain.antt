@@ -1,7 +1,7 @@
 -- Whether a change fits a state looks neither at the stored parts of the one nor of the other.
 use Rattle.std.proofs.Common.{◌≡◌, ℕ, not, ◌&&◌, ◌||◌, nat_lt, nat_le, List, [], ◌∷◌, Option, None, Some, is_ok, refl, ap}
 use Rattle.std.specs.List.{list_any}
-use Rattle.nqs_types.specs.State.{State}
+use Rattle.nqs_state.specs.State.{State}
 use Rattle.nqs_types.specs.declared.change.Change.{Change}
 use Rattle.nqs_types.specs.declared.change.Change.TheVariants.{Submitted, Deleted, Doomed, Started, Ended, Unlaunched, Boot, Edited, HandOpened, Promised, Accepted, Dropped, MovedLocal, RefusedLocal, HeldFar, StageGone, FileGone}
 use Rattle.nqs_types.specs.declared.edit.Edit.{Edit}

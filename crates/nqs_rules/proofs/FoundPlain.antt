@@ -2,8 +2,8 @@
 use Rattle.std.proofs.Common.{◌≡◌, ℕ, ◌+◌, Bool, not, List, filter, length, Option, None, Some, option_map, refl, ap, ◌∙◌}
 use Rattle.std.proofs.lemmas.List.{length-map}
 use Rattle.std.specs.List.{list_any}
-use Rattle.nqs_types.specs.State.{State}
-use Rattle.nqs_types.specs.Keys.{is_row, is_promise, is_stage, is_file}
+use Rattle.nqs_state.specs.State.{State}
+use Rattle.nqs_state.specs.Keys.{is_row, is_promise, is_stage, is_file}
 use Rattle.nqs_types.specs.declared.ids.HostId.{HostId}
 use Rattle.nqs_types.specs.declared.ids.RequestId.{RequestId}
 use Rattle.nqs_types.specs.declared.ids.Named.{Named}

@@ -2,7 +2,7 @@
 use Rattle.std.proofs.Common.{◌≡◌, ℕ, ◌+◌, Bool, true, false, cond, ◌||◌, List, [], ◌∷◌, map, filter, find, length, flat_map, ◌++◌, Option, None, Some, option_map, refl, sym, ap, ◌∙◌, if◌then◌else◌}
 use Rattle.std.proofs.lemmas.List.{length-map, map-append}
 use Rattle.std.specs.List.{filter_map, cons_option, list_any}
-use Rattle.nqs_types.specs.Table.{change_first, without_first, better, best_from}
+use Rattle.nqs_keyed.specs.Table.{change_first, without_first, better, best_from}
 
 -- what is done behind a test may be done in each of its branches
 pub if-map : {V W : Type 0} (m : V → W) (b : Bool) (x y : V) → (if b then m x else m y) ≡ m (if b then x else y)

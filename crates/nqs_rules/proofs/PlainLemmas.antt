@@ -1,9 +1,9 @@
 -- A change of a state is, on the parts that stand for its stored ones, the same change.
 use Rattle.std.proofs.Common.{◌≡◌, ℕ, ◌+◌, Bool, true, false, not, ◌&&◌, filter, List, [], ◌∷◌, ◌++◌, map, Option, None, Some, option_map, refl, sym, ap, ◌∙◌, if◌then◌else◌, nat_lt}
 use Rattle.std.proofs.lemmas.List.{map-append}
-use Rattle.nqs_types.specs.State.{State}
-use Rattle.nqs_types.specs.Ids.{name_eq}
-use Rattle.nqs_types.specs.Keys.{is_row, is_promise, is_stage, is_file}
+use Rattle.nqs_state.specs.State.{State}
+use Rattle.nqs_values.specs.Same.{name_eq}
+use Rattle.nqs_state.specs.Keys.{is_row, is_promise, is_stage, is_file}
 use Rattle.nqs_types.specs.declared.ids.HostId.{HostId}
 use Rattle.nqs_types.specs.declared.ids.RequestId.{RequestId}
 use Rattle.nqs_types.specs.declared.ids.PeerNumber.{PeerNumber}

@@ -4,9 +4,9 @@ use Rattle.std.proofs.lemmas.Bool.{and_parts, and_from, eqb-true, eq-eqb}
 use Rattle.std.proofs.lemmas.Bool.Decides.{nat_tests}
 use Rattle.std.specs.List.{list_all}
 use Rattle.std.specs.Option.{IfSome}
-use Rattle.nqs_types.specs.State.{State}
-use Rattle.nqs_types.specs.Path.{is_path}
-use Rattle.nqs_types.specs.Ids.{name_eq}
+use Rattle.nqs_state.specs.State.{State}
+use Rattle.nqs_values.specs.Path.{is_path}
+use Rattle.nqs_values.specs.Same.{name_eq}
 use Rattle.nqs_types.specs.declared.ids.Dest.{Dest}
 use Rattle.nqs_types.specs.declared.request.Carried.{Carried}
 use Rattle.nqs_types.specs.declared.request.Row.{Row}

@@ -2,8 +2,9 @@
 use Rattle.std.proofs.Common.{◌≡◌, ℕ, ◌≤◌, Bool, true, not, ◌&&◌, ◌||◌, ◌==◌, nat_lt, nat_le, List, [], ◌∷◌, length, Option, None, Some, refl, sym, subst, ◌∙◌, arith}
 use Rattle.std.proofs.lemmas.Bool.{and_from, leb-true, le-leb}
 use Rattle.std.specs.List.{list_all}
-use Rattle.nqs_types.specs.State.{State}
-use Rattle.nqs_types.specs.Ids.{name_eq, id_eq, peer_number_eq}
+use Rattle.nqs_state.specs.State.{State}
+use Rattle.nqs_values.specs.Same.{name_eq}
+use Rattle.nqs_types.specs.Ids.{id_eq, peer_number_eq}
 use Rattle.std.proofs.lemmas.Cmp.{nat_eq_equiv, nat_list_eq_equiv}
 use Rattle.nqs_types.specs.declared.ids.PeerNumber.{PeerNumber}
 use Rattle.nqs_types.specs.declared.ids.RequestId.{RequestId}

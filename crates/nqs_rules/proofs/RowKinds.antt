@@ -6,10 +6,11 @@ use Rattle.std.proofs.lemmas.List.{length-map}
 use Rattle.std.proofs.lemmas.List.Folds.{list_any-append}
 use Rattle.std.specs.List.{list_any, list_all, filter_map}
 use Rattle.std.specs.Option.{IfSome}
-use Rattle.nqs_types.specs.State.{State}
-use Rattle.nqs_types.specs.Ids.{name_eq, id_eq, id_exact, number_exact}
-use Rattle.nqs_types.specs.Table.{change_first}
-use Rattle.nqs_types.specs.Keys.{is_row}
+use Rattle.nqs_state.specs.State.{State}
+use Rattle.nqs_values.specs.Same.{name_eq, number_exact}
+use Rattle.nqs_types.specs.Ids.{id_eq, id_exact}
+use Rattle.nqs_keyed.specs.Table.{change_first}
+use Rattle.nqs_state.specs.Keys.{is_row}
 use Rattle.nqs_types.specs.declared.ids.RequestId.{RequestId}
 use Rattle.nqs_types.specs.declared.request.Row.{Row}
 use Rattle.nqs_rules.specs.Tests.{passes, is_running, is_routing, is_queued, is_ready, is_unheld, same_host, last_u64, last_seq}

@@ -2,7 +2,7 @@
 use Rattle.std.proofs.Common.{◌≡◌, ℕ, Bool, true, false, ◌&&◌, ◌==◌, List, [], ◌∷◌, ◌++◌, map, filter, find, length, codes, Option, None, Some, option_map, refl, sym, ap, ◌∙◌, if◌then◌else◌}
 use Rattle.std.specs.Fmt.{decimal}
 use Rattle.std.proofs.lemmas.List.{length-map}
-use Rattle.nqs_types.specs.State.{State}
+use Rattle.nqs_state.specs.State.{State}
 use Rattle.nqs_types.specs.declared.request.Row.{Row}
 use Rattle.nqs_types.specs.declared.queue.QueueDef.{QueueDef}
 use Rattle.nqs_types.specs.declared.queue.DeviceDef.{DeviceDef}

@@ -1,6 +1,6 @@
 -- Starts go on until there is none.
 use Rattle.std.proofs.Common.{◌≡◌, ℕ, ◌<◌, ◌≤◌, true, nat_le, List, [], ◌∷◌, length, Option, None, Some, is_some, zero, suc, refl, sym, ap, subst, ◌∙◌, arith}
-use Rattle.nqs_types.specs.State.{Plain}
+use Rattle.nqs_state.specs.State.{Plain}
 use Rattle.nqs_types.specs.declared.change.Change.{Change}
 use Rattle.nqs_rules.specs.Applied.{applied}
 use Rattle.nqs_rules.specs.Start.{start}

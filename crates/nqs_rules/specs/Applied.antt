@@ -2,9 +2,9 @@
 use Rattle.std.specs.Prelude.{ℕ, ◌+◌, ◌-◌, Bool, true, false, not, ◌&&◌, nat_lt, if◌then◌else◌, List, [], ◌∷◌, ◌++◌, filter, Option, None, Some}
 use Rattle.std.specs.List.{filter_map}
 use Rattle.nqs_types.specs.Ids.{id_eq}
-use Rattle.nqs_types.specs.State.{State}
-use Rattle.nqs_types.specs.Table.{change_first, without_first}
-use Rattle.nqs_types.specs.Keys.{is_hand, is_promise, is_stage, is_file}
+use Rattle.nqs_state.specs.State.{State}
+use Rattle.nqs_keyed.specs.Table.{change_first, without_first}
+use Rattle.nqs_state.specs.Keys.{is_hand, is_promise, is_stage, is_file}
 use Rattle.nqs_rules.specs.Tests.{is_running, is_offered, same_host, last_u64}
 use Rattle.nqs_rules.specs.Format.{formatted}
 use Rattle.nqs_rules.specs.Find.{peer_number, has_row, find_hand, find_promise, find_peer}

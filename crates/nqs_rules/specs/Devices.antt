@@ -1,10 +1,10 @@
 -- Devices, the forms that they have, and their edits.
 use Rattle.std.specs.Prelude.{ℕ, Bool, true, false, not, ◌&&◌, nat_le, List, [], ◌∷◌, ◌++◌, map, length, position, Option, None, Some}
 use Rattle.std.specs.List.{list_any}
-use Rattle.nqs_types.specs.Ids.{name_eq}
-use Rattle.nqs_types.specs.State.{State}
-use Rattle.nqs_types.specs.Table.{without_first}
-use Rattle.nqs_types.specs.Keys.{is_device}
+use Rattle.nqs_values.specs.Same.{name_eq}
+use Rattle.nqs_state.specs.State.{State}
+use Rattle.nqs_keyed.specs.Table.{without_first}
+use Rattle.nqs_state.specs.Keys.{is_device}
 use Rattle.nqs_rules.specs.Tests.{passes, is_running, is_device_kind}
 use Rattle.nqs_rules.specs.Causes.{Cause, cause}
 use Rattle.nqs_rules.specs.Find.{has_name, has_queue, find_queue, has_device, find_device}

@@ -1,8 +1,8 @@
 -- When a change may be made of a state.
 use Rattle.std.specs.Prelude.{ℕ, ◌+◌, Bool, true, false, not, ◌&&◌, ◌||◌, ◌==◌, nat_lt, nat_le, List, filter, length, Option, None, Some, is_ok}
 use Rattle.std.specs.List.{list_any, list_all}
-use Rattle.nqs_types.specs.State.{State}
-use Rattle.nqs_types.specs.Keys.{is_file}
+use Rattle.nqs_state.specs.State.{State}
+use Rattle.nqs_state.specs.Keys.{is_file}
 use Rattle.nqs_rules.specs.Tests.{passes, is_running, is_ready, is_offered, is_committed, same_host, last_u64, last_seq}
 use Rattle.nqs_rules.specs.Causes.{Cause, first_refusal}
 use Rattle.nqs_rules.specs.Find.{has_queue, has_device, has_row, find_row, find_hand, has_promise, has_stage, find_peer}

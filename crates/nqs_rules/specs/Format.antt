@@ -1,6 +1,6 @@
 -- What a formatted host has.
 use Rattle.std.specs.Prelude.{ℕ, Bool, true, false, List, [], ◌∷◌, map, codes, Option, None, Some, unwrap_or}
-use Rattle.nqs_types.specs.State.{State}
+use Rattle.nqs_state.specs.State.{State}
 use Rattle.nqs_types.specs.declared.ids.HostId.{HostId}
 use Rattle.nqs_types.specs.declared.ids.Dest.{Dest}
 use Rattle.nqs_types.specs.declared.request.Limits.{Limits}

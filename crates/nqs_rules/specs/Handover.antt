@@ -1,6 +1,6 @@
 -- The rules of the handover, one definition a row of the table of steps.
 use Rattle.std.specs.Prelude.{ℕ, ◌+◌, Bool, not, ◌&&◌, ◌||◌, nat_lt, nat_le, min, if◌then◌else◌, List, [], ◌∷◌, ◌++◌, map, filter, flat_map, Option, None, Some, Result, Ok, Err, slice_get, unwrap_or}
-use Rattle.nqs_types.specs.State.{State}
+use Rattle.nqs_state.specs.State.{State}
 use Rattle.nqs_types.specs.declared.ids.Named.{Named}
 use Rattle.nqs_rules.specs.Tests.{passes, is_offered, same_host, last_u64}
 use Rattle.nqs_rules.specs.Causes.{Cause, cause, first_refusal, refusal_number}

@@ -1,8 +1,8 @@
 -- Resource limits, complexes, and the edits of both.
 use Rattle.std.specs.Prelude.{ℕ, Bool, true, false, not, nat_lt, nat_le, List, [], ◌∷◌, ◌++◌, length, Option, Some, Result}
-use Rattle.nqs_types.specs.State.{State}
-use Rattle.nqs_types.specs.Table.{without_first}
-use Rattle.nqs_types.specs.Keys.{is_complex}
+use Rattle.nqs_state.specs.State.{State}
+use Rattle.nqs_keyed.specs.Table.{without_first}
+use Rattle.nqs_state.specs.Keys.{is_complex}
 use Rattle.nqs_rules.specs.Tests.{passes, is_batch}
 use Rattle.nqs_rules.specs.Causes.{Cause, cause, first_refusal}
 use Rattle.nqs_rules.specs.Find.{has_name, has_queue, find_queue, has_complex, find_complex}

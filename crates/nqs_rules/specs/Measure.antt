@@ -1,6 +1,6 @@
 -- How many starts there may still be: each start lowers this number.
 use Rattle.std.specs.Prelude.{ℕ, ◌+◌, ◌-◌, ◌*◌, not, if◌then◌else◌, List, filter, length, sum, map}
-use Rattle.nqs_types.specs.State.{State}
+use Rattle.nqs_state.specs.State.{State}
 use Rattle.nqs_rules.specs.Tests.{is_ready}
 use Rattle.nqs_rules.specs.Routing.{was_refused, dests_for}
 use Rattle.nqs_types.specs.declared.ids.Dest.{Dest}

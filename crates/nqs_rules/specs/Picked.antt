@@ -1,7 +1,7 @@
 -- What it means that a row, a queue or a choice comes next.
 use Rattle.std.specs.Prelude.{◌≡◌, ℕ, ◌<◌, Bool, true, false, ◌&&◌, List, slice_get, Some}
 use Rattle.std.specs.List.{list_any}
-use Rattle.nqs_types.specs.State.{Plain}
+use Rattle.nqs_state.specs.State.{Plain}
 use Rattle.nqs_rules.specs.Order.{is_greater, is_within_limits, is_eligible, comes_before, choice_for}
 use Rattle.nqs_types.specs.declared.request.Row.{Row}
 use Rattle.nqs_types.specs.declared.queue.QueueDef.{QueueDef}

@@ -1,6 +1,6 @@
 -- A state with each stored part replaced: a plain state, where f gives the bytes of an extent.
 use Rattle.std.specs.Prelude.{map}
-use Rattle.nqs_types.specs.State.{State}
+use Rattle.nqs_state.specs.State.{State}
 use Rattle.nqs_types.specs.declared.request.Row.{Row}
 use Rattle.nqs_types.specs.declared.request.Promise.{Promise}
 use Rattle.nqs_types.specs.declared.request.Stage.{Stage}

@@ -1,7 +1,7 @@
 -- Destinations of pipe queues: which one is tried, and what a refusal or a silence leaves.
 use Rattle.std.specs.Prelude.{ℕ, Bool, true, false, not, ◌&&◌, ◌||◌, nat_lt, nat_le, List, [], ◌∷◌, ◌++◌, filter, position, Option, None, Some}
 use Rattle.std.specs.List.{list_any, list_all}
-use Rattle.nqs_types.specs.State.{State}
+use Rattle.nqs_state.specs.State.{State}
 use Rattle.nqs_rules.specs.Tests.{passes, same_host, same_dest, last_u64}
 use Rattle.nqs_rules.specs.Find.{find_queue, find_peer}
 use Rattle.nqs_types.specs.declared.ids.HostId.{HostId}

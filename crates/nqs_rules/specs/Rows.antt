@@ -1,7 +1,7 @@
 -- Requests: submissions, deletions and the edits of single requests.
 use Rattle.std.specs.Prelude.{ℕ, ◌+◌, Bool, true, not, ◌&&◌, ◌||◌, nat_le, if◌then◌else◌, List, [], ◌∷◌, ◌++◌, map, Option, None, Some}
-use Rattle.nqs_types.specs.Ids.{name_eq}
-use Rattle.nqs_types.specs.State.{State}
+use Rattle.nqs_values.specs.Same.{name_eq}
+use Rattle.nqs_state.specs.State.{State}
 use Rattle.nqs_rules.specs.Tests.{passes, is_running, is_routing, is_unheld, is_pipe, last_u64, last_seq}
 use Rattle.nqs_rules.specs.Causes.{Cause, cause}
 use Rattle.nqs_rules.specs.Find.{has_queue, find_queue, meant_request, meant_row, held_count}

@@ -1,7 +1,7 @@
 -- What a host starts.
 use Rattle.std.specs.Prelude.{ℕ, ◌+◌, not, List, [], ◌∷◌, ◌++◌, slice_get, Option, None, Some, Result, Ok, Err}
 use Rattle.std.specs.Option.{option_map, option_and_then}
-use Rattle.nqs_types.specs.State.{State}
+use Rattle.nqs_state.specs.State.{State}
 use Rattle.nqs_rules.specs.Causes.{Cause, cause, first_refusal, refusal_number}
 use Rattle.nqs_rules.specs.Find.{has_queue, find_queue}
 use Rattle.nqs_rules.specs.Rows.{causes_of, move_entry_causes, arrivals_used}

@@ -1,6 +1,6 @@
 -- Tests on small values.
 use Rattle.std.specs.Prelude.{ℕ, Bool, true, false, ◌&&◌, ◌==◌, Option, Some, None}
-use Rattle.nqs_types.specs.Ids.{name_eq}
+use Rattle.nqs_values.specs.Same.{name_eq}
 use Rattle.nqs_types.specs.declared.ids.HostId.{HostId}
 use Rattle.nqs_types.specs.declared.ids.Dest.{Dest}
 use Rattle.nqs_types.specs.declared.request.RowState.{RowState}

@@ -1,8 +1,8 @@
 -- The texts of states, and the lines of lists.
 use Rattle.std.specs.Prelude.{ℕ, Bool, true, false, ◌&&◌, if◌then◌else◌, List, [], ◌∷◌, ◌++◌, map, filter, find, flat_map, length, codes, Option, None, Some}
 use Rattle.std.specs.Fmt.{decimal}
-use Rattle.nqs_types.specs.Ids.{name_eq}
-use Rattle.nqs_types.specs.State.{State}
+use Rattle.nqs_values.specs.Same.{name_eq}
+use Rattle.nqs_state.specs.State.{State}
 use Rattle.nqs_rules.specs.Tests.{is_unheld}
 use Rattle.nqs_rules.specs.Find.{has_name}
 use Rattle.nqs_rules.specs.Conf.{row_in}

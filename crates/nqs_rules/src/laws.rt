@@ -1,7 +1,7 @@
 //! Laws of changes and steps: a host that keeps extents of its spool does what one that keeps the bytes themselves does.
 ghost use Rattle.std.specs.Prelude.{◌≡◌, ℕ, List, map, Some};
-ghost use Rattle.nqs_types.specs.State.{State};
-ghost use Rattle.nqs_types.specs.declared.extent.Extent.{Extent};
+ghost use Rattle.nqs_state.specs.State.{State};
+ghost use Rattle.nqs_values.specs.declared.extent.Extent.{Extent};
 ghost use Rattle.nqs_types.specs.declared.change.Change.{Change};
 ghost use Rattle.nqs_types.specs.declared.event.Event.{Event};
 ghost use Rattle.nqs_rules.specs.Applied.{applied};

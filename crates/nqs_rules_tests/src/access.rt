@@ -2,7 +2,8 @@
 
 use nqs_access::may_use;
 use nqs_builders::queue;
-use nqs_types::{Access, Entry, ListOf, Memory, Name, QueueDef, Refusal};
+use nqs_types::{Access, Entry, QueueDef, Refusal};
+use nqs_values::{ListOf, Memory, Name};
 use std::alloc::Global;
 use std::test::Fail;
 

@@ -2,9 +2,9 @@
 
 use nqs_builders::{add, host, queue, row};
 use nqs_conf::check_conf;
-use nqs_types::{
-    ConfEdit, Dest, HostId, HostState, Kind, ListOf, Memory, Name, NamedDest, QueueDef, Refusal,
-};
+use nqs_state::HostState;
+use nqs_types::{ConfEdit, Dest, HostId, Kind, NamedDest, QueueDef, Refusal};
+use nqs_values::{ListOf, Memory, Name};
 use std::alloc::Global;
 use std::test::Fail;
 

@@ -1,8 +1,11 @@
 //! Which request starts next: by priority and arrival, and beside one that is held and one that is on its way.
 
 use nqs_builders::{add, host, queue, row};
+use nqs_keyed::Table;
 use nqs_order::{first_eligible, pick, within_limits};
-use nqs_types::{Choice, Hold, HostState, Memory, Name, QueueDef, RequestId, Row, RowState, Table};
+use nqs_state::HostState;
+use nqs_types::{Choice, Hold, QueueDef, RequestId, Row, RowState};
+use nqs_values::{Memory, Name};
 use std::alloc::Global;
 use std::rt::HostRuntime;
 

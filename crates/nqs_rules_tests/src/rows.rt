@@ -1,11 +1,11 @@
 //! The refusals of submissions and deletions in their order, by hand.
 
 use nqs_builders::{add, host, job, queue, row};
+use nqs_keyed::Table;
 use nqs_rows::{check_delete, check_submit};
-use nqs_types::{
-    HostId, HostState, ListOf, Memory, Name, Named, QueueDef, Refusal, RequestId, Row, RowState,
-    Submission, Table,
-};
+use nqs_state::HostState;
+use nqs_types::{HostId, Named, QueueDef, Refusal, RequestId, Row, RowState, Submission};
+use nqs_values::{ListOf, Memory, Name};
 use std::alloc::Global;
 use std::test::Fail;
 

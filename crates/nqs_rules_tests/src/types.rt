@@ -1,9 +1,10 @@
 //! The containers and the room of a host's state, each call once.
 
 use nqs_builders::{NOTHING, add, host, job};
-use nqs_types::{
-    Change, DeviceDef, HostState, Items, ListOf, Memory, Name, NameFault, Spare, Table,
-};
+use nqs_keyed::Table;
+use nqs_state::HostState;
+use nqs_types::{Change, DeviceDef};
+use nqs_values::{Items, ListOf, Memory, Name, NameFault, Spare};
 use std::alloc::Global;
 use std::test::Fail;
 
@@ -30,18 +31,20 @@ fn names_of(alloc: Global, table: &Table<Name, DeviceDef>) -> Result<Vec<u8>, Me
     Ok(text)
 }
 
+// Bytes, and why they are no name, if they are none.
+const NAMES: [(&[u8], Option<NameFault>); 6] = [
+    (b"a", None),
+    (b"abcdefghij-1_45", None),
+    (b"", Some(NameFault::Empty)),
+    (b"abcdefghijklmnop", Some(NameFault::Long)),
+    (b"9x", Some(NameFault::BadByte(0))),
+    (b"x.y", Some(NameFault::BadByte(1))),
+];
+
 #[test]
 fn names(rt: HostRuntime) {
-    let rows = [
-        (b"a".as_slice(), None),
-        (b"abcdefghij-1_45", None),
-        (b"", Some(NameFault::Empty)),
-        (b"abcdefghijklmnop", Some(NameFault::Long)),
-        (b"9x", Some(NameFault::BadByte(0))),
-        (b"x.y", Some(NameFault::BadByte(1))),
-    ];
-    for (bytes, fault) in rows {
-        assert_eq!(rt; Name::read(bytes).err(), fault);
+    for (bytes, fault) in &NAMES {
+        assert_eq!(rt; Name::read(bytes).err(), *fault);
     }
 }
 

@@ -1,5 +1,5 @@
 -- What the last event leaves to start.
-use Rattle.std.proofs.Common.{◌≡◌, true, false, ℕ, List, [], ◌∷◌, ◌++◌, Some, sym, subst}
+use Rattle.std.proofs.Common.{ℕ, List, [], ◌∷◌, ◌++◌, sym, subst}
 use Rattle.nqs_rules.specs.World.{Act}
 use Rattle.nqs_laws.specs.Sane.{AreSane, IsSite}
 use Rattle.nqs_runs.specs.Headline.{RestsAfter, LastTakerRests}

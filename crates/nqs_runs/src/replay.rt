@@ -21,7 +21,8 @@ use nqs_lines::laws::{generated_schedules_are_sane, schedules_are_sane, sites_ar
 use nqs_outside::{ReadStop, Sink, Source, read_whole};
 use nqs_schedule::{ScheduleFault, generate, read_schedule};
 use nqs_store::Disks;
-use nqs_types::{Name, WorldEvent};
+use nqs_types::WorldEvent;
+use nqs_values::Name;
 use std::alloc::Global;
 
 // The greatest length of a schedule.

@@ -8,7 +8,7 @@ use crate::status::Status;
 use nqs_outside::{Sink, write_whole};
 use nqs_query::{put_decimal, put_text};
 use nqs_schedule::{Cause, LineFault};
-use nqs_types::Memory;
+use nqs_values::Memory;
 use std::alloc::Global;
 
 fn cause_text(cause: Cause) -> &'static [u8]

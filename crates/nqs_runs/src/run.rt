@@ -21,7 +21,8 @@ use nqs_net::World;
 use nqs_outside::{Failed, Sink, write_whole};
 use nqs_schedule::{Summary, print_seen, print_summary};
 use nqs_store::Disks;
-use nqs_types::{Memory, Name, Seen, WorldEvent};
+use nqs_types::{Seen, WorldEvent};
+use nqs_values::{Memory, Name};
 use std::alloc::Global;
 
 /// Why a run was not brought to its end.

@@ -1,17 +1,16 @@
 -- One line more at the end of the lines so far.
-use Rattle.std.proofs.Common.{◌≡◌, ◌≢◌, ◌≤◌, inl, inr, arith, ℕ, ◌+◌, ◌<◌, List, [], ◌∷◌, ◌++◌, length, take, drop, get_or, All, Ok, Err, refl, sym, subst, ap, ◌∙◌, append_assoc, take-append-drop}
+use Rattle.std.proofs.Common.{◌≡◌, inl, ℕ, ◌+◌, ◌<◌, List, [], ◌∷◌, ◌++◌, length, take, drop, get_or, Ok, Err, refl, sym, ap, ◌∙◌, append_assoc, take-append-drop}
 use Rattle.std.specs.List.{flat_map}
-use Rattle.std.proofs.lemmas.List.{drop_more, flat_map_more, append-nil, length-append}
+use Rattle.std.proofs.lemmas.List.{drop_more, flat_map_more}
 use Rattle.std.specs.Prelude.{codes, true}
 use Rattle.nqs_types.specs.declared.world.WorldEvent.{WorldEvent}
-use Rattle.nqs_schedule.specs.declared.cause.Cause.{Cause}
 use Rattle.nqs_schedule.specs.declared.cause.Cause.TheVariants as cause
 use Rattle.nqs_schedule.specs.declared.line.Says.{Says}
 use Rattle.nqs_schedule.specs.declared.reader.ScheduleFault.{ScheduleFault}
 use Rattle.nqs_schedule.specs.declared.reader.ScheduleFault.TheVariants.{Bad, Memory}
 use Rattle.nqs_schedule.specs.Words.{Read, ◌>>=◌}
 use Rattle.nqs_schedule.specs.Says.{line_says}
-use Rattle.nqs_schedule.specs.Schedule.{State, start, after, lines_say, ended, IsLine, AreLines, Front, BadLine, BeginsBad, IsFirstBad, ReadsSchedule}
+use Rattle.nqs_schedule.specs.Schedule.{State, start, after, lines_say, ended, IsLine, AreLines, Front, ReadsSchedule}
 use Rattle.nqs_schedule.specs.Taking.{TakesLine}
 
 -- the lines and one more

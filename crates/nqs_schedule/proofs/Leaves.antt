@@ -1,14 +1,14 @@
 -- What one word is read as.
-use Rattle.std.proofs.Common.{◌≡◌, ◌≢◌, ◌⊎◌, inl, inr, ◌↔◌, ℕ, ◌+◌, ◌<◌, ◌≤◌, List, [], ◌∷◌, ◌++◌, length, take, drop, get_or, refl, ap, sym, subst, ◌∙◌, Some, None, Option, Result, Ok, Err, Bool, true, false, cond, arith, nat_lt, take-append-drop}
+use Rattle.std.proofs.Common.{◌≡◌, ◌≢◌, ◌⊎◌, inl, inr, ℕ, ◌+◌, ◌<◌, List, ◌++◌, take, drop, get_or, refl, ap, sym, subst, ◌∙◌, Some, None, Option, Result, Ok, Err, Bool, true, false, cond, arith, nat_lt, take-append-drop}
 use Rattle.std.specs.Prelude.{codes}
 use Rattle.std.specs.List.{position}
 use Rattle.std.proofs.lemmas.Bool.Decides.{nat_tests}
-use Rattle.nqs_types.specs.Ids.{name_eq, name_exact}
+use Rattle.nqs_values.specs.Same.{name_eq, name_exact}
 use Rattle.nqs_types.specs.declared.ids.HostId.{HostId}
 use Rattle.nqs_types.specs.declared.ids.RequestId.{RequestId}
 use Rattle.nqs_types.specs.declared.ids.Named.{Named}
-use Rattle.nqs_types.specs.declared.tear.Tear.{Tear}
-use Rattle.nqs_types.specs.declared.tear.Tear.TheVariants as tear
+use Rattle.nqs_values.specs.declared.tear.Tear.{Tear}
+use Rattle.nqs_values.specs.declared.tear.Tear.TheVariants as tear
 use Rattle.nqs_types.specs.declared.world.Which.{Which}
 use Rattle.nqs_types.specs.declared.world.Which.TheVariants as which
 use Rattle.nqs_words.specs.Values.{name_of, named_of, number_of}
@@ -17,10 +17,10 @@ use Rattle.nqs_words.specs.Spelled.{IsRequest}
 use Rattle.nqs_words.proofs.Requests.{name-is, is-name, number-is, is-number, requests_are_read}
 use Rattle.nqs_schedule.specs.declared.cause.Cause.{Cause}
 use Rattle.nqs_schedule.specs.declared.cause.Cause.TheVariants as cause
-use Rattle.nqs_schedule.specs.Words.{Read, ◌>>=◌, or_cause, as_host, host_of, or_bad_request, disk_of, mixed_of, as_mixed, tear_of}
+use Rattle.nqs_schedule.specs.Words.{Read, ◌>>=◌, or_cause, as_host, host_of, or_bad_request, disk_of, mixed_of, tear_of}
 use Rattle.nqs_schedule.specs.Forms.{last_number}
-use Rattle.nqs_schedule.specs.Spelled.{IsNone, IsNameWord, NoName, IsNumber, NoNumber, IsPlace, NoPlace, IsHost, NoHost, IsId, NoId, disk_text, IsDisk, NoDisk, IsMixed, IsTear, NoTear, IsText, NoText}
-use Rattle.nqs_schedule.proofs.Readings.{Reads, bound, failed, given, refused, apart, reads-Ok, reads-Err, reads-bind, reads-map, reads-one, reads-cause, reads-same}
+use Rattle.nqs_schedule.specs.Spelled.{IsNone, IsNameWord, NoName, IsNumber, NoNumber, IsPlace, NoPlace, IsHost, NoHost, IsId, NoId, disk_text, IsDisk, NoDisk, IsMixed, IsTear, NoTear}
+use Rattle.nqs_schedule.proofs.Readings.{Reads, given, refused, apart, reads-Ok, reads-Err, reads-bind, reads-map, reads-one, reads-cause, reads-same}
 
 pub reads-name : (word : List ℕ) → Reads (or_cause (name_of word) cause.BadName) (IsNameWord word) (NoName word)
 reads-name word = reads-cause (name_of word) (IsNameWord word) cause.BadName

@@ -1,5 +1,5 @@
 -- Bytes are read in one way.
-use Rattle.std.proofs.Common.{◌≡◌, ◌≢◌, ℕ, suc, ◌+◌, List, [], ◌∷◌, ◌++◌, length, get_or, All, Ok, Err, refl, sym, subst, ap, ◌∙◌, ◌⊎◌, inl, inr, append_assoc, arith}
+use Rattle.std.proofs.Common.{◌≡◌, ℕ, suc, ◌+◌, List, [], ◌∷◌, ◌++◌, length, get_or, Ok, Err, refl, sym, subst, ap, ◌∙◌, ◌⊎◌, inl, inr, append_assoc, arith}
 use Rattle.std.specs.List.{flat_map}
 use Rattle.std.proofs.lemmas.List.{length-append, get_or_at}
 use Rattle.nqs_schedule.specs.declared.cause.Cause.{Cause}
@@ -7,7 +7,7 @@ use Rattle.nqs_schedule.specs.declared.cause.Cause.TheVariants as cause
 use Rattle.nqs_schedule.specs.declared.line.Says.{Says}
 use Rattle.nqs_schedule.specs.Words.{Read, ◌>>=◌}
 use Rattle.nqs_schedule.specs.Says.{line_says}
-use Rattle.nqs_schedule.specs.Schedule.{State, start, after, lines_say, ended, IsLine, AreLines, Front, BadLine, Unended, BeginsBad, IsSchedule, IsFirstBad}
+use Rattle.nqs_schedule.specs.Schedule.{State, start, after, lines_say, ended, IsLine, AreLines, Front, BeginsBad, IsSchedule, IsFirstBad}
 
 -- the first line feed parts a list in one way
 parts_once : (l m x y : List ℕ) → IsLine l → IsLine m → l ++ 10 ∷ x ≡ m ++ 10 ∷ y → (l ≡ m) × (x ≡ y)

@@ -1,5 +1,5 @@
 -- Readings by their answers: what they give, and what they refuse.
-use Rattle.std.proofs.Common.{◌≡◌, ◌⊎◌, inl, inr, ◌↔◌, ℕ, refl, ap, sym, subst, ◌∙◌, Some, None, Option, Ok, Err}
+use Rattle.std.proofs.Common.{◌≡◌, ◌⊎◌, inl, inr, ◌↔◌, refl, ap, sym, ◌∙◌, Some, None, Option, Ok, Err}
 use Rattle.nqs_schedule.specs.declared.cause.Cause.{Cause}
 use Rattle.nqs_schedule.specs.Words.{Read, ◌>>=◌, or_cause}
 use Rattle.nqs_schedule.specs.Spelled.{IsNone}

@@ -1,14 +1,12 @@
 -- Words of a line are read as what they say.
-use Rattle.std.proofs.Common.{◌≡◌, ◌≢◌, ◌⊎◌, inl, inr, ◌↔◌, ℕ, ◌<◌, ◌≤◌, List, [], ◌∷◌, ◌++◌, length, map, drop, refl, ap, sym, subst, ◌∙◌, Some, None, Option, Ok, Err, Bool, true, false, cond, ◌&&◌, is_some, arith, nat_le}
+use Rattle.std.proofs.Common.{◌≡◌, ◌⊎◌, inl, inr, ◌↔◌, ℕ, ◌<◌, ◌≤◌, List, [], ◌∷◌, ◌++◌, length, map, refl, ap, sym, subst, ◌∙◌, Some, None, Option, Ok, Err, Bool, true, false, cond, ◌&&◌, arith, nat_le}
 use Rattle.std.specs.Prelude.{codes}
-use Rattle.std.specs.List.{position}
 use Rattle.std.proofs.lemmas.Bool.{and_parts, and_from}
 use Rattle.std.proofs.lemmas.Bool.Decides.{nat_tests}
-use Rattle.nqs_types.specs.Ids.{name_eq}
-use Rattle.nqs_types.specs.Name.{IsName}
+use Rattle.nqs_values.specs.Name.{IsName}
 use Rattle.nqs_types.specs.declared.world.WorldEvent.{WorldEvent}
 use Rattle.nqs_words.specs.Values.{name_of}
-use Rattle.nqs_words.proofs.Requests.{name-is, is-name, no-name}
+use Rattle.nqs_words.proofs.Requests.{name-is, is-name}
 use Rattle.nqs_schedule.specs.declared.cause.Cause.{Cause}
 use Rattle.nqs_schedule.specs.declared.cause.Cause.TheVariants as cause
 use Rattle.nqs_schedule.specs.declared.words.LineWord.{LineWord}
@@ -21,11 +19,11 @@ use Rattle.nqs_schedule.specs.Words.{Read, ◌>>=◌, or_cause, no_word}
 use Rattle.nqs_schedule.specs.declared.plan.Plan.{Plan}
 use Rattle.nqs_schedule.specs.Plans.{verb_of, plan_of}
 use Rattle.nqs_schedule.specs.Events.{text_of_word, words_behind, qmgr_text, event_of}
-use Rattle.nqs_schedule.specs.Says.{further_host, hosts_from, some_hosts, hosts_of, is_hosts, hosts_say, event_says, verb_says, first_says, words_say}
+use Rattle.nqs_schedule.specs.Says.{further_host, hosts_from, some_hosts, hosts_of, is_hosts, hosts_say, event_says, verb_says, words_say}
 use Rattle.nqs_schedule.specs.Forms.{verb_text, form_of}
 use Rattle.nqs_schedule.specs.Spelled.{IsNone, HasBadQuote, Spells, Faults}
-use Rattle.nqs_schedule.specs.Sayings.{is_of_site, IsNewHost, NoNewHost, NameHosts, NameNoHosts, HostsSay, HostsFault, FirstSays, WordsSay, NamesSite, FirstFaults, WordsFault, WordsSayOrFault, ReadsWords}
-use Rattle.nqs_schedule.proofs.Readings.{Reads, given, refused, apart, reads-Ok, reads-Err, reads-bind, reads-map, reads-cause, reads-same}
+use Rattle.nqs_schedule.specs.Sayings.{is_of_site, IsNewHost, NoNewHost, NameHosts, NameNoHosts, HostsSay, HostsFault, FirstSays, WordsSay, NamesSite, FirstFaults, WordsFault, ReadsWords}
+use Rattle.nqs_schedule.proofs.Readings.{Reads, given, apart, reads-Ok, reads-Err, reads-bind, reads-map, reads-cause, reads-same}
 use Rattle.nqs_schedule.proofs.Leaves.{pick}
 use Rattle.nqs_schedule.proofs.Verbs.{events_are_read}
 

@@ -1,5 +1,5 @@
 -- Hosts named one after another, and events.
-use Rattle.std.proofs.Common.{◌≡◌, ℕ, suc, ◌+◌, ◌<◌, ◌≤◌, List, [], ◌∷◌, ◌++◌, length, drop, get_or, refl, ap, sym, ◌∙◌, Some, None, Ok, Err, Bool, true, false, arith}
+use Rattle.std.proofs.Common.{◌≡◌, ℕ, ◌+◌, ◌<◌, ◌≤◌, List, [], ◌∷◌, ◌++◌, length, drop, get_or, refl, ap, sym, ◌∙◌, Ok, Err, Bool, true, false}
 use Rattle.std.proofs.lemmas.List.{drop_all, drop_more}
 use Rattle.nqs_words.specs.Values.{name_of}
 use Rattle.nqs_schedule.specs.declared.cause.Cause.{Cause}

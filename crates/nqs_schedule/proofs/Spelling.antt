@@ -1,8 +1,7 @@
 -- Words of a form are read as what they spell.
-use Rattle.std.proofs.Common.{◌≡◌, ◌⊎◌, inl, inr, ◌↔◌, ℕ, zero, suc, ◌<◌, ◌≤◌, List, [], ◌∷◌, length, map, drop, refl, ap, sym, subst, ◌∙◌, Some, None, Option, Ok, Err, Bool, true, false, cond, ◌||◌, is_some, arith, nat_lt}
+use Rattle.std.proofs.Common.{◌≡◌, ◌⊎◌, inl, inr, ℕ, zero, suc, ◌<◌, ◌≤◌, List, [], ◌∷◌, length, map, drop, refl, ap, sym, subst, ◌∙◌, Some, None, Option, Ok, Err, Bool, true, false, cond, ◌||◌, is_some, arith, nat_lt}
 use Rattle.std.specs.Prelude.{slice_get}
 use Rattle.std.proofs.lemmas.Bool.Decides.{nat_tests}
-use Rattle.nqs_types.specs.declared.ids.HostId.{HostId}
 use Rattle.nqs_types.specs.declared.world.WorldEvent.{WorldEvent}
 use Rattle.nqs_words.specs.Values.{name_of, named_of, number_of}
 use Rattle.nqs_schedule.specs.declared.cause.Cause.{Cause}
@@ -13,7 +12,7 @@ use Rattle.nqs_schedule.specs.Words.{Read, ◌>>=◌, or_cause, no_word, text_or
 use Rattle.nqs_schedule.specs.Events.{text_of_word, text_in, bytes_at, words_behind, qmgr_text}
 use Rattle.nqs_schedule.specs.Forms.{Form, never, done, host, name, request, number, disk, tear, text, words, outputs, rest}
 use Rattle.nqs_schedule.specs.Spelled.{IsNameWord, NoName, IsNumber, NoNumber, IsHost, NoHost, IsId, NoId, IsDisk, NoDisk, IsTear, NoTear, IsText, NoText, IsShort, IsTooLong, FirstIs, FirstFault, IsOver, IsNotOver, HasBadQuote, AreOutputs, AreNoOutputs, Spells, Faults}
-use Rattle.nqs_schedule.proofs.Readings.{Reads, given, refused, apart, reads-Ok, reads-Err, reads-bind, reads-then, reads-after, reads-same}
+use Rattle.nqs_schedule.proofs.Readings.{Reads, reads-Ok, reads-Err, reads-bind, reads-then, reads-after, reads-same}
 use Rattle.nqs_schedule.proofs.Leaves.{reads-name, reads-number, reads-host, reads-id, reads-disk, reads-tear}
 
 -- ---- the words from a place on

@@ -1,5 +1,5 @@
 -- Words split one after another.
-use Rattle.std.proofs.Common.{◌≡◌, ℕ, zero, suc, ◌+◌, ◌-◌, ◌<◌, ◌≤◌, List, [], ◌∷◌, ◌++◌, length, take, drop, map, get_or, refl, ap, sym, ◌∙◌, append_assoc, Some, None, Option, Bool, true, false, arith, rules}
+use Rattle.std.proofs.Common.{◌≡◌, ℕ, suc, ◌+◌, ◌-◌, ◌<◌, ◌≤◌, List, [], ◌∷◌, ◌++◌, length, take, drop, map, get_or, refl, ap, sym, ◌∙◌, append_assoc, Some, None, Bool, true, false, arith}
 use Rattle.std.proofs.lemmas.List.{append-nil, length-drop}
 use Rattle.std.proofs.Math.Seq.{drop-drop}
 use Rattle.nqs_words.specs.Quoted.{quoted}
@@ -9,7 +9,7 @@ use Rattle.nqs_schedule.specs.declared.words.Next.{Next}
 use Rattle.nqs_schedule.specs.declared.words.Next.TheVariants.{End, BadQuote, Found}
 use Rattle.std.proofs.lemmas.List.{take_more, map-append}
 use Rattle.nqs_schedule.specs.Events.{text_of_word}
-use Rattle.nqs_schedule.specs.Lines.{is_over, by_quoted, quoted_word, next_of, by_next, words_from}
+use Rattle.nqs_schedule.specs.Lines.{is_over, quoted_word, next_of, by_next, words_from}
 
 -- words that were split off, and the others
 abbrev pub joined : List LineWord → LineWords → LineWords

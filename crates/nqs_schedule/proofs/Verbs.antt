@@ -1,7 +1,6 @@
 -- The line of a verb is read by the verb's form.
-use Rattle.std.proofs.Common.{◌≡◌, ◌⊎◌, inl, inr, ◌↔◌, ℕ, suc, List, refl, ap, sym, subst, ◌∙◌, Some, None, Option, Ok, Err}
+use Rattle.std.proofs.Common.{◌≡◌, ℕ, List, refl, ap, sym, ◌∙◌, Some, None, Option, Ok, Err}
 use Rattle.std.specs.Prelude.{slice_get}
-use Rattle.nqs_types.specs.declared.ids.HostId.{HostId}
 use Rattle.nqs_types.specs.declared.world.WorldEvent.{WorldEvent}
 use Rattle.nqs_types.specs.declared.world.WorldEvent.TheVariants as event
 use Rattle.nqs_schedule.specs.declared.cause.Cause.{Cause}
@@ -14,13 +13,13 @@ use Rattle.nqs_schedule.specs.declared.plan.Plan.{Plan}
 use Rattle.nqs_schedule.specs.declared.plan.Plan.TheVariants as plan
 use Rattle.nqs_schedule.specs.declared.line.Says.{Says}
 use Rattle.nqs_schedule.specs.declared.line.Says.TheVariants.{Event}
-use Rattle.nqs_schedule.specs.Words.{Read, ◌>>=◌, no_word, text_or, text_at, text_there, name_at, number_at, host_at, request_at, disk_at, tear_at, output_at, nothing_at, all_good}
+use Rattle.nqs_schedule.specs.Words.{Read, ◌>>=◌, text_or, text_at, text_there, name_at, number_at, host_at, request_at, disk_at, tear_at, output_at, nothing_at, all_good}
 use Rattle.nqs_schedule.specs.Plans.{submit_plan, qsub_plan, qmgr_plan, qstat_plan, qdel_plan, end_plan, one_host, fail_plan, host_and_file, deliver_plan, newest_plan, clock_plan, fuse_plan, show_plan, plan_of}
-use Rattle.nqs_schedule.specs.Events.{text_in, bytes_at, words_behind, qmgr_text, event_of}
+use Rattle.nqs_schedule.specs.Events.{text_in, bytes_at, event_of}
 use Rattle.nqs_schedule.specs.Says.{event_says}
-use Rattle.nqs_schedule.specs.Forms.{Form, never, done, host, name, request, number, disk, tear, text, words, outputs, rest, form_of}
-use Rattle.nqs_schedule.specs.Spelled.{SpellsOrFaults, as_event, ReadsEvents}
-use Rattle.nqs_schedule.proofs.Readings.{Reads, given, refused, apart}
+use Rattle.nqs_schedule.specs.Forms.{words, form_of}
+use Rattle.nqs_schedule.specs.Spelled.{as_event, ReadsEvents}
+use Rattle.nqs_schedule.proofs.Readings.{refused, apart}
 use Rattle.nqs_schedule.proofs.Spelling.{outputs_at, read_form, reads-form}
 
 -- one step of two readings at once

@@ -1,20 +1,16 @@
 -- Lines are split into the words that are written in them.
-use Rattle.std.proofs.Common.{◌≡◌, ◌≢◌, ◌⊎◌, inl, inr, ◌↔◌, ℕ, zero, suc, ◌+◌, ◌-◌, ◌<◌, ◌≤◌, List, [], ◌∷◌, ◌++◌, length, take, drop, get_or, map, All, refl, ap, sym, subst, ◌∙◌, append_assoc, Some, None, Option, Bool, true, false, cond, not, ◌==◌, arith, nat_lt, unwrap_or, slice_range}
-use Rattle.std.specs.List.{prefix_len, position_or_len, position}
+use Rattle.std.proofs.Common.{◌≡◌, ◌≢◌, ◌⊎◌, inl, inr, ℕ, zero, suc, ◌+◌, ◌-◌, ◌<◌, ◌≤◌, List, [], ◌∷◌, ◌++◌, length, take, drop, map, All, refl, ap, sym, subst, ◌∙◌, Some, None, Bool, true, false, cond, not, ◌==◌, arith, nat_lt, slice_range}
+use Rattle.std.specs.List.{position_or_len}
 use Rattle.std.proofs.lemmas.Bool.{eqb-true}
 use Rattle.std.proofs.lemmas.Bool.Decides.{nat_tests}
-use Rattle.std.proofs.lemmas.List.{append-nil, length-append, length-drop, take_at, drop_at, take_all}
+use Rattle.std.proofs.lemmas.List.{append-nil, length-append, length-drop, take_at, drop_at}
 use Rattle.std.proofs.Math.Seq.{drop-drop}
 use Rattle.nqs_words.specs.Quoted.{Quoted, quoted, quoted_text}
 use Rattle.nqs_words.specs.Words.{is_gap, end_of, next_word}
-use Rattle.nqs_words.specs.declared.words.Word.{Word}
 use Rattle.nqs_words.specs.declared.words.Gaps.TheVariants.{Spaces}
-use Rattle.nqs_schedule.specs.declared.words.LineWord.{LineWord}
-use Rattle.nqs_schedule.specs.declared.words.LineWords.{LineWords}
-use Rattle.nqs_schedule.specs.declared.words.Next.{Next}
 use Rattle.nqs_schedule.specs.declared.words.Next.TheVariants.{End, BadQuote, Found}
-use Rattle.nqs_schedule.specs.Events.{text_of_word, words_behind}
-use Rattle.nqs_schedule.specs.Lines.{is_over, begins_with_quote, by_quoted, quoted_word, word_there, or_end, next_of, by_next, words_from, line_words}
+use Rattle.nqs_schedule.specs.Events.{text_of_word}
+use Rattle.nqs_schedule.specs.Lines.{is_over, begins_with_quote, by_quoted, quoted_word, word_there, next_of, words_from}
 use Rattle.nqs_schedule.specs.Schedule.{IsLine}
 use Rattle.nqs_schedule.specs.Written.{AreSpaces, BeginsPlain, IsPlain, Writes, EndsWord, BeginsWith, BeginsBadly, Holds, SplitsLines}
 use Rattle.nqs_schedule.proofs.Quotes.{reads_back, was_quoted}

@@ -1,5 +1,5 @@
 -- The event of a line, with the bytes of its long words.
-use Rattle.std.specs.Prelude.{◌≡◌, ℕ, ◌==◌, List, [], ◌∷◌, map, drop, Option, Some, None, if◌then◌else◌, slice_get, slice_range, length, unwrap_or, ◌+◌}
+use Rattle.std.specs.Prelude.{ℕ, ◌==◌, List, [], ◌∷◌, map, drop, Option, Some, None, if◌then◌else◌, slice_get}
 use Rattle.nqs_types.specs.declared.world.WorldEvent.{WorldEvent}
 use Rattle.nqs_types.specs.declared.world.WorldEvent.TheVariants as event
 use Rattle.nqs_schedule.specs.declared.words.LineWord.{LineWord}

@@ -1,10 +1,9 @@
 -- A line's words, parted by spaces; a quoted word stands for its bytes.
-use Rattle.std.specs.Prelude.{◌≡◌, ℕ, zero, suc, ◌+◌, ◌-◌, ◌≤◌, Bool, true, false, ◌==◌, List, [], ◌∷◌, length, drop, slice_range, Option, Some, None, if◌then◌else◌}
+use Rattle.std.specs.Prelude.{ℕ, zero, suc, ◌+◌, ◌-◌, ◌≤◌, Bool, true, false, ◌==◌, List, [], ◌∷◌, length, drop, slice_range, Option, Some, None, if◌then◌else◌}
 use Rattle.nqs_words.specs.Words.{next_word}
 use Rattle.nqs_words.specs.Quoted.{Quoted, quoted}
 use Rattle.nqs_words.specs.declared.words.Word.{Word}
 use Rattle.nqs_words.specs.declared.words.Gaps.TheVariants.{Spaces}
-use Rattle.nqs_schedule.specs.declared.words.LineWord.{LineWord}
 use Rattle.nqs_schedule.specs.declared.words.LineWords.{LineWords}
 use Rattle.nqs_schedule.specs.declared.words.Next.{Next}
 use Rattle.nqs_schedule.specs.declared.words.Next.TheVariants.{End, BadQuote, Found}

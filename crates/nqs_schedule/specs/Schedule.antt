@@ -7,9 +7,7 @@ use Rattle.nqs_schedule.specs.declared.cause.Cause.{Cause}
 use Rattle.nqs_schedule.specs.declared.cause.Cause.TheVariants as cause
 use Rattle.nqs_schedule.specs.declared.line.Says.{Says}
 use Rattle.nqs_schedule.specs.declared.line.Says.TheVariants.{Nothing, Hosts, Event}
-use Rattle.nqs_schedule.specs.declared.line.ReadError.{ReadError}
 use Rattle.nqs_schedule.specs.declared.line.ReadError.TheVariants as error
-use Rattle.nqs_schedule.specs.declared.reader.LineFault.{LineFault}
 use Rattle.nqs_schedule.specs.declared.reader.ScheduleFault.{ScheduleFault}
 use Rattle.nqs_schedule.specs.declared.reader.ScheduleFault.TheVariants.{Bad, Memory}
 use Rattle.nqs_schedule.specs.declared.reader.Schedule.{Schedule}

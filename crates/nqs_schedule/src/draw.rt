@@ -7,7 +7,8 @@ ghost use Rattle.nqs_schedule.specs.Generated.{host_name, root_line, qsub, link_
 
 use crate::reader::Schedule;
 use nqs_query::{put_decimal, put_text};
-use nqs_types::{Bytes, HostId, Items, Memory, Name, NameList, WorldEvent};
+use nqs_types::{HostId, WorldEvent};
+use nqs_values::{Bytes, Items, Memory, Name, NameList};
 use nqs_words::name_of;
 use rand_core::SeedableRng;
 use rand_core::utils::NextWord;

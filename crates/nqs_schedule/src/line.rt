@@ -10,7 +10,8 @@ use crate::event::event_of;
 use crate::plan::{Verb, plan_of, verb_of};
 use crate::values::{is_host, text_there};
 use crate::words::{LineWords, line_words};
-use nqs_types::{Name, NameList, WorldEvent};
+use nqs_types::WorldEvent;
+use nqs_values::{Name, NameList};
 use nqs_words::name_of;
 use std::alloc::{AllocFailed, Global};
 

@@ -8,7 +8,8 @@ ghost use Rattle.nqs_schedule.specs.Schedule.{ReadsSchedule};
 
 use crate::cause::Cause;
 use crate::line::{ReadError, Says, line_says};
-use nqs_types::{Items, Name, NameList, WorldEvent};
+use nqs_types::WorldEvent;
+use nqs_values::{Items, Name, NameList};
 use std::alloc::{AllocError, AllocFailed, Global};
 
 /// The first bad line.

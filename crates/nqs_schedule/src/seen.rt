@@ -8,7 +8,8 @@ ghost use Rattle.nqs_rules.specs.Transcript.{host_text, kind_name, no_packet, st
 ghost use Rattle.nqs_schedule.specs.Seen.{row_line, seen_line};
 
 use nqs_query::{print_reply, put_decimal, put_host, put_id, put_line_end, put_text, put_word};
-use nqs_types::{BodyKind, HostId, Memory, Name, NetState, RequestId, Seen, TableRow};
+use nqs_types::{BodyKind, HostId, NetState, RequestId, Seen, TableRow};
+use nqs_values::{Memory, Name};
 use std::alloc::Global;
 
 fn put_host_word(site: &[Name], host: HostId, out: &mut Vec<u8>) -> Result<(), Memory>

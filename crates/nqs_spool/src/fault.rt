@@ -2,7 +2,7 @@
 ghost use Rattle.std.specs.Prelude.{◌≡◌};
 
 use nqs_outside::Failed;
-use nqs_types::Memory;
+use nqs_values::Memory;
 use std::alloc::AllocError;
 use thiserror::Error;
 

@@ -1,12 +1,12 @@
 //! The live extents of a disk, as a set in order of place. An empty extent isn't kept.
 ghost use Rattle.std.specs.Prelude.{◌≡◌, ◌⊎◌, ◌+◌, ◌<◌, ◌≤◌, ◌^◌, max, nat_le, ℕ, [], false, IsTrue, OnOk, OnErr, IfOk, List, vec_len};
 ghost use Rattle.std.specs.List.{AllByRecursion};
-ghost use Rattle.nqs_types.specs.declared.extent.Extent.{Extent};
+ghost use Rattle.nqs_values.specs.declared.extent.Extent.{Extent};
 ghost use Rattle.nqs_spool.specs.Slots.{IsRow, IsRow-prop};
 ghost use Rattle.nqs_spool.specs.Extents.{past, IsClearOf, AreApart, IsLeastPlace, Has, IsWith, IsWithin, Covers};
 
 use crate::tree::{Room, Tree};
-use nqs_types::{Extent, Memory};
+use nqs_values::{Extent, Memory};
 use std::alloc::Global;
 
 /// Each slot of the tree begins its free bytes where the one before ends; `end` is behind the last.

@@ -3,7 +3,7 @@ ghost use Rattle.std.specs.Prelude.{IfOk, IfSome, IfNone};
 ghost use Rattle.nqs_spool.specs.Extents.{AreSound, IsBadExtent};
 
 use crate::live::LiveExtents;
-use nqs_types::{Extent, Memory};
+use nqs_values::{Extent, Memory};
 use std::alloc::Global;
 
 /// The place of the first extent that runs past so many bytes, or meets an earlier one. Each costs logarithmic time.

@@ -1,7 +1,7 @@
 //! Byte ranges of one disk.
 ghost use Rattle.std.specs.Prelude.{◌≡◌, ◌⊎◌, ◌↔◌, ◌-◌, ◌+◌, ◌<◌, ◌≤◌, ◌^◌, ◌++◌, [], ◌∷◌, max, nat_le, false, List, ℕ, IsTrue, IsErrOf, OnOk, OnErr, IfOk, IfErr, MatchResult, length, vec_capacity};
 ghost use Rattle.std.specs.List.{AllByRecursion};
-ghost use Rattle.nqs_types.specs.declared.extent.Extent.{Extent};
+ghost use Rattle.nqs_values.specs.declared.extent.Extent.{Extent};
 ghost use Rattle.nqs_outside.specs.Causes.{Rose};
 ghost use Rattle.nqs_outside.specs.History.{Call, content, IsQuiet, extended, moment, EachSince, StopsShort, IsExact};
 ghost use Rattle.nqs_spool.specs.Puts.{put_calls};
@@ -12,7 +12,7 @@ use crate::SpoolFault;
 use crate::live::LiveExtents;
 use crate::write::{append_read, write_through};
 use nqs_outside::{Disk, Failed, Fused};
-use nqs_types::{Extent, Memory};
+use nqs_values::{Extent, Memory};
 use std::alloc::Global;
 
 const LONGEST: usize = 32_768;

@@ -2,10 +2,10 @@
 use Rattle.std.proofs.Common.{◌≡◌, ◌∙◌, ℕ, ◌+◌, Bool, true, false, true≢false, not, ◌&&◌, ◌||◌, List, [], ◌∷◌, map, Option, None, Some, if◌then◌else◌, refl, sym, ap, subst}
 use Rattle.std.specs.Option.{option_map}
 use Rattle.std.specs.List.{list_any}
-use Rattle.nqs_types.specs.State.{State}
+use Rattle.nqs_state.specs.State.{State}
 use Rattle.nqs_types.specs.Ids.{peer_number_eq, stage_key, peer_number_exact}
-use Rattle.nqs_types.specs.Keys.{is_stage}
-use Rattle.nqs_types.specs.Table.{better, best_from, without_first, has_key}
+use Rattle.nqs_state.specs.Keys.{is_stage}
+use Rattle.nqs_keyed.specs.Table.{better, best_from, without_first, has_key}
 use Rattle.nqs_types.specs.declared.ids.PeerNumber.{PeerNumber}
 use Rattle.nqs_types.specs.declared.request.Stage.{Stage}
 use Rattle.nqs_rules.specs.InOrder.{are_distinct}

@@ -1,5 +1,5 @@
 -- Outputs and the numbers that are left for them.
-use Rattle.std.proofs.Common.{◌≡◌, ◌∙◌, ℕ, ◌+◌, ◌-◌, zero, suc, Bool, true, false, nat_lt, List, [], ◌∷◌, ◌++◌, take, if◌then◌else◌, refl, sym, ap, arith}
+use Rattle.std.proofs.Common.{◌≡◌, ◌∙◌, ℕ, ◌+◌, ◌-◌, zero, suc, Bool, true, false, nat_lt, List, [], ◌∷◌, take, if◌then◌else◌, refl, sym, ap, arith}
 use Rattle.std.proofs.lemmas.Bool.Decides.{nat_tests}
 use Rattle.nqs_rules.specs.Tests.{last_u64}
 use Rattle.nqs_rules.specs.Stage.{Part, numbered}

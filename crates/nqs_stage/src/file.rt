@@ -1,11 +1,13 @@
 //! A file of this host was written, or not.
 ghost use Rattle.std.specs.Prelude.{◌≡◌, Ok};
-ghost use Rattle.nqs_types.specs.State.{content};
+ghost use Rattle.nqs_state.specs.State.{content};
 ghost use Rattle.nqs_rules.specs.Stepped.{plan_of};
 ghost use Rattle.nqs_stage.specs.Files.{on_file};
 
 use nqs_plans::{change_alone, quiet};
-use nqs_types::{Change, HostState, Memory, Plan};
+use nqs_state::HostState;
+use nqs_types::{Change, Plan};
+use nqs_values::Memory;
 use std::alloc::Global;
 
 /// A file that was written goes. One that wasn't stays, and is asked for again at the next tick. It takes no memory.

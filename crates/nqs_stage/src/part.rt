@@ -4,7 +4,8 @@ ghost use Rattle.nqs_rules.specs.Tests.{last_u64};
 ghost use Rattle.nqs_rules.specs.Stage.{part_to, parts_of, numbered};
 
 use nqs_plans::copy_bytes;
-use nqs_types::{Bytes, Job, ListOf, Memory};
+use nqs_types::Job;
+use nqs_values::{Bytes, ListOf, Memory};
 use std::alloc::Global;
 use std::marker::Model;
 

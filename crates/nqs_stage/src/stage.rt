@@ -1,6 +1,6 @@
 //! Stages that come, and stages that arrived.
 ghost use Rattle.std.specs.Prelude.{◌≡◌, ◌∷◌, [], IfOk};
-ghost use Rattle.nqs_types.specs.State.{content};
+ghost use Rattle.nqs_state.specs.State.{content};
 ghost use Rattle.nqs_rules.specs.Find.{find_peer};
 ghost use Rattle.nqs_rules.specs.Tests.{passes};
 ghost use Rattle.nqs_rules.specs.Stage.{is_got, stage_taken, on_stage, send_staged, on_staged};
@@ -13,7 +13,9 @@ use crate::due::add_next;
 use nqs_plans::{
     add, change_alone, change_storing, copy_bytes, find_peer, message, no_extent, quiet, says,
 };
-use nqs_types::{Body, Bytes, Change, HostId, HostState, ListOf, Memory, Output, PeerNumber, Plan};
+use nqs_state::HostState;
+use nqs_types::{Body, Change, HostId, Output, PeerNumber, Plan};
+use nqs_values::{Bytes, ListOf, Memory};
 use std::alloc::Global;
 
 // Whether the stage of this number was taken from the peer before.

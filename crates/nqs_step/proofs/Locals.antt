@@ -1,6 +1,6 @@
 -- Refusals by a queue of this host, by what a look-up found.
 use Rattle.std.proofs.Common.{◌≡◌, ℕ, Bool, not, List, ◌∷◌, ◌++◌, Option, None, Some, Err, sym}
-use Rattle.nqs_types.specs.State.{State}
+use Rattle.nqs_state.specs.State.{State}
 use Rattle.nqs_access.proofs.Found.{queue_there, queue_missing}
 use Rattle.nqs_rules.specs.Causes.{Cause, cause, first_refusal}
 use Rattle.nqs_rules.specs.Find.{find_queue}

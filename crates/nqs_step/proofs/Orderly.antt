@@ -2,7 +2,7 @@
 use Rattle.std.proofs.Common.{◌≡◌, ℕ, ◌+◌, ◌<◌, ◌≤◌, ◌^◌, Bool, true, false, nat_lt, nat_le, ◌==◌, ◌&&◌, length, true≢false, Some, slice_get, if◌then◌else◌, refl, sym, ap, arith, IsTrue}
 use Rattle.std.proofs.lemmas.Bool.{eqb-true}
 use Rattle.std.proofs.lemmas.Bool.Decides.{nat_tests}
-use Rattle.nqs_types.specs.State.{State}
+use Rattle.nqs_state.specs.State.{State}
 use Rattle.nqs_types.specs.declared.request.Row.{Row}
 use Rattle.nqs_rules.specs.Tests.{is_ready, is_running, last_seq}
 use Rattle.nqs_rules.specs.Find.{held_count}

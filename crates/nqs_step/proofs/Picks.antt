@@ -1,8 +1,8 @@
 -- The row that is picked, and what is started of it.
-use Rattle.std.proofs.Common.{◌≡◌, ◌∙◌, ℕ, List, [], true, Option, None, Some, slice_get, option_map, refl, sym, ap, subst}
+use Rattle.std.proofs.Common.{◌≡◌, ◌∙◌, ℕ, List, [], true, None, Some, slice_get, option_map, refl, sym, ap, subst}
 use Rattle.std.proofs.lemmas.Option.{same_Some, slice_get-map}
 use Rattle.std.specs.Option.{IfSome, option_and_then}
-use Rattle.nqs_types.specs.State.{State}
+use Rattle.nqs_state.specs.State.{State}
 use Rattle.nqs_types.specs.declared.request.Row.{Row}
 use Rattle.nqs_types.specs.declared.rule.Choice.{Choice}
 use Rattle.nqs_types.specs.declared.rule.Choice.TheVariants.{Launch, Print, TooFar, Local, Hand}
@@ -11,7 +11,6 @@ use Rattle.nqs_rules.specs.Tests.{is_ready}
 use Rattle.nqs_rules.specs.Order.{pick}
 use Rattle.nqs_rules.specs.Picked.{IsPicked, row_place}
 use Rattle.nqs_rules.specs.Start.{started, start_by, start}
-use Rattle.nqs_rules.specs.Stepped.{Stepped}
 use Rattle.nqs_rules.proofs.PickLaws.{eligible_parts, picked_is}
 use Rattle.nqs_rules.proofs.StartPlain.{pick-map}
 use Rattle.nqs_step.specs.Started.{started_row}

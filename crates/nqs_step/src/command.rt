@@ -1,6 +1,6 @@
 //! A command comes.
 ghost use Rattle.std.specs.Prelude.{◌≡◌, IfOk};
-ghost use Rattle.nqs_types.specs.State.{content};
+ghost use Rattle.nqs_state.specs.State.{content};
 ghost use Rattle.nqs_rules.specs.Causes.{first_refusal};
 ghost use Rattle.nqs_rules.specs.InOrder.{IsInOrder};
 ghost use Rattle.nqs_rules.specs.Step.{answer_to, stat_causes, on_stat, show_lines, ticked, then_reply, on_allowed, on_command};
@@ -17,7 +17,9 @@ use nqs_handover::on_tick;
 use nqs_lists::{show_lines, stat_lines};
 use nqs_plans::add;
 use nqs_stage::add_due_stages;
-use nqs_types::{Command, HostState, Memory, Name, Plan, Refusal, Reply};
+use nqs_state::HostState;
+use nqs_types::{Command, Plan, Refusal, Reply};
+use nqs_values::{Memory, Name};
 use std::alloc::Global;
 
 // The first of the queues that isn't there, as a refusal.

@@ -1,7 +1,7 @@
 //! A request is deleted.
 ghost use Rattle.std.specs.Prelude.{◌≡◌, ◌≤◌, length, IfOk};
 ghost use Rattle.std.specs.Option.{option_copied};
-ghost use Rattle.nqs_types.specs.State.{content};
+ghost use Rattle.nqs_state.specs.State.{content};
 ghost use Rattle.nqs_rules.specs.Find.{meant_row};
 ghost use Rattle.nqs_rules.specs.Step.{delete_row, on_delete};
 ghost use Rattle.nqs_rules.specs.Stepped.{plan_of};
@@ -10,9 +10,9 @@ ghost use Rattle.nqs_step.specs.Asked.{asked};
 use crate::reply::{Asker, refuse, reply_to};
 use nqs_plans::{add, change_alone};
 use nqs_rows::{check_delete, meant_row};
-use nqs_types::{
-    Change, HostState, Memory, Name, Named, Output, Plan, Refusal, Reply, Row, RowState,
-};
+use nqs_state::HostState;
+use nqs_types::{Change, Named, Output, Plan, Refusal, Reply, Row, RowState};
+use nqs_values::{Memory, Name};
 use std::alloc::Global;
 
 // A running request is told to end, and another one goes.

@@ -1,6 +1,6 @@
 //! An edit of qmgr.
 ghost use Rattle.std.specs.Prelude.{◌≡◌, ◌≤◌, length, IfOk};
-ghost use Rattle.nqs_types.specs.State.{content};
+ghost use Rattle.nqs_state.specs.State.{content};
 ghost use Rattle.nqs_rules.specs.Causes.{first_refusal};
 ghost use Rattle.nqs_rules.specs.Find.{held_count};
 ghost use Rattle.nqs_rules.specs.Fits.{edit_causes};
@@ -17,9 +17,9 @@ use nqs_devices::check_devices;
 use nqs_limits::check_limits;
 use nqs_plans::{add, change_alone, fold_each};
 use nqs_rows::check_rows;
-use nqs_types::{
-    Change, Edit, HostState, Memory, Name, Output, Plan, Refusal, Reply, Row, RowState, RowsEdit,
-};
+use nqs_state::HostState;
+use nqs_types::{Change, Edit, Output, Plan, Refusal, Reply, Row, RowState, RowsEdit};
+use nqs_values::{Memory, Name};
 use std::alloc::Global;
 
 // Whether the edit may be made, or why not.

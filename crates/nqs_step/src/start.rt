@@ -1,7 +1,7 @@
 //! What a host starts.
 ghost use Rattle.std.specs.Prelude.{◌≡◌, ◌+◌, ◌<◌, ◌^◌, ◌++◌, IfOk};
 ghost use Rattle.std.specs.Option.{option_map, option_copied};
-ghost use Rattle.nqs_types.specs.State.{content};
+ghost use Rattle.nqs_state.specs.State.{content};
 ghost use Rattle.nqs_rules.specs.Causes.{first_refusal};
 ghost use Rattle.nqs_rules.specs.InOrder.{IsInOrder};
 ghost use Rattle.nqs_rules.specs.Handover.{open_hand};
@@ -14,10 +14,9 @@ ghost use Rattle.nqs_step.specs.Started.{used_causes, started_row};
 use nqs_handover::{check_way, dest_at, offer_row};
 use nqs_order::pick;
 use nqs_plans::{add_kept, change_alone, refusal_number};
-use nqs_types::{
-    Change, Choice, Dest, HostState, LaunchOrder, Limits, ListOf, Memory, Name, Output, Plan,
-    QueueDef, Refusal, Row,
-};
+use nqs_state::HostState;
+use nqs_types::{Change, Choice, Dest, LaunchOrder, Limits, Output, Plan, QueueDef, Refusal, Row};
+use nqs_values::{ListOf, Memory, Name};
 use std::alloc::Global;
 
 // The request's limits, and where it states none the queue's.

@@ -1,6 +1,6 @@
 //! What a host does at an event.
 ghost use Rattle.std.specs.Prelude.{◌≡◌, Some, IfOk};
-ghost use Rattle.nqs_types.specs.State.{content};
+ghost use Rattle.nqs_state.specs.State.{content};
 ghost use Rattle.nqs_rules.specs.Find.{find_row};
 ghost use Rattle.nqs_rules.specs.InOrder.{IsInOrder};
 ghost use Rattle.nqs_rules.specs.Step.{is_start, ended_by, then_ack, acknowledged, unlaunched_by, on_message, step};
@@ -12,9 +12,9 @@ use crate::reply::Asker;
 use nqs_handover::{on_abort, on_commit, on_done, on_inquire, on_offer, on_ready, on_refused};
 use nqs_plans::{add, change_alone, quiet};
 use nqs_stage::{on_end, on_file, on_stage, on_staged};
-use nqs_types::{
-    Body, Bytes, Change, Event, HostId, HostState, Memory, Output, Plan, RequestId, Row, RowState,
-};
+use nqs_state::HostState;
+use nqs_types::{Body, Change, Event, HostId, Output, Plan, RequestId, Row, RowState};
+use nqs_values::{Bytes, Memory};
 use std::alloc::Global;
 
 // A datagram of another host. One of a client changes nothing here.

@@ -1,6 +1,6 @@
 //! A request is submitted.
 ghost use Rattle.std.specs.Prelude.{◌≡◌, ◌+◌, ◌<◌, ◌^◌, IfOk, Some};
-ghost use Rattle.nqs_types.specs.State.{content};
+ghost use Rattle.nqs_state.specs.State.{content};
 ghost use Rattle.nqs_rules.specs.Step.{path_or, completed, submit_to, on_submit};
 ghost use Rattle.nqs_rules.specs.Stepped.{plan_of};
 ghost use Rattle.nqs_step.specs.Asked.{asked};
@@ -8,10 +8,9 @@ ghost use Rattle.nqs_step.specs.Asked.{asked};
 use crate::reply::{Asker, refuse, reply_to};
 use nqs_plans::{add, change_storing, copy_bytes, no_extent};
 use nqs_rows::check_submit;
-use nqs_types::{
-    Bytes, Change, HostState, Job, ListOf, Memory, Name, Plan, Refusal, Reply, RequestId,
-    Submission,
-};
+use nqs_state::HostState;
+use nqs_types::{Change, Job, Plan, Refusal, Reply, RequestId, Submission};
+use nqs_values::{Bytes, ListOf, Memory, Name};
 use std::alloc::Global;
 
 // The path, or the default one where it is empty: NAME.oSEQ or NAME.eSEQ.

@@ -1,7 +1,7 @@
 -- Bytes put into a spool, one list after another.
 use Rattle.std.proofs.Common.{◌≡◌, inl, inr, ℕ, suc, List, [], ◌∷◌, ◌++◌, map, length, IsTrue, refl, sym, ap, subst, ◌∙◌, arith, append_assoc}
 use Rattle.std.proofs.lemmas.List.{append-nil, length-map}
-use Rattle.nqs_types.specs.declared.extent.Extent.{Extent}
+use Rattle.nqs_values.specs.declared.extent.Extent.{Extent}
 use Rattle.nqs_outside.specs.History.{Call, History, content, extended, moment, EachSince, StopsShort}
 use Rattle.nqs_outside.specs.declared.disk.Disk as disk
 use Rattle.nqs_outside.proofs.Histories.{goes_on}

@@ -1,7 +1,7 @@
 -- What records tell, one after the other.
 use Rattle.std.proofs.Common.{◌≡◌, inl, inr, ℕ, ◌+◌, ◌≤◌, List, [], ◌∷◌, ◌++◌, take, drop, take-append-drop, length, length-append, slice_get, Option, Some, None, is_some, refl, sym, ap, subst, ◌∙◌, arith, append_assoc}
 use Rattle.std.proofs.lemmas.Option.{none-some}
-use Rattle.nqs_types.proofs.TableLemmas.{drop-at}
+use Rattle.nqs_keyed.proofs.TableLemmas.{drop-at}
 use Rattle.nqs_journal.specs.Text.{header, records, frame}
 use Rattle.nqs_journal.proofs.Readings.{gate_more}
 use Rattle.nqs_store.specs.Told.{Host, record_taken, told, told_from, IsUntold}

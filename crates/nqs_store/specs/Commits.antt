@@ -1,6 +1,6 @@
 -- What a commit leaves of a host's disks: the calls that it made, and where a stop cut it off.
 use Rattle.std.specs.Prelude.{◌≡◌, ℕ, ◌+◌, ◌<◌, ◌≤◌, true, false, Bool, List}
-use Rattle.nqs_types.specs.State.{Plain}
+use Rattle.nqs_state.specs.State.{Plain}
 use Rattle.nqs_types.specs.declared.world.Which.{Which}
 use Rattle.nqs_types.specs.declared.world.Which.TheVariants.{Root, First, Second, Spool}
 use Rattle.nqs_outside.specs.History.{History, state, moment, IsImage}

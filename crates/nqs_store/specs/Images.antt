@@ -1,6 +1,6 @@
 -- What images of a host's journal and spool tell.
 use Rattle.std.specs.Prelude.{◌≡◌, ◌⊎◌, ℕ, List, length, Some}
-use Rattle.nqs_types.specs.State.{Plain}
+use Rattle.nqs_state.specs.State.{Plain}
 use Rattle.nqs_rules.specs.Plain.{map_state}
 use Rattle.nqs_journal.specs.Text.{StandsFor}
 use Rattle.nqs_store.specs.Told.{Host, told}

@@ -2,8 +2,8 @@
 
 ghost use Rattle.std.specs.Prelude.{◌≡◌, ◌⊎◌, ◌↔◌, ◌≤◌, ℕ, List, false, IsTrue, IsErrOf, OnOk, OnErr, IfErr, length};
 ghost use Rattle.std.specs.List.{AllByRecursion};
-ghost use Rattle.nqs_types.specs.State.{content};
-ghost use Rattle.nqs_types.specs.declared.extent.Extent.{Extent};
+ghost use Rattle.nqs_state.specs.State.{content};
+ghost use Rattle.nqs_values.specs.declared.extent.Extent.{Extent};
 ghost use Rattle.nqs_types.specs.declared.world.Which.{Which};
 ghost use Rattle.nqs_types.specs.declared.world.Which.TheVariants.{First, Spool};
 ghost use Rattle.nqs_outside.specs.Causes.{Rose};
@@ -26,7 +26,9 @@ use crate::put::{prepared, put_bytes};
 use crate::record::append_record;
 use crate::store::Store;
 use nqs_outside::Disk;
-use nqs_types::{Bytes, Change, HostState, Which};
+use nqs_state::HostState;
+use nqs_types::{Change, Which};
+use nqs_values::Bytes;
 use std::alloc::Global;
 
 impl<D: Disk> Store<D> {

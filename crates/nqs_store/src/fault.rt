@@ -2,7 +2,8 @@
 
 ghost use Rattle.std.specs.Prelude.{◌≡◌};
 
-use nqs_types::{Memory, Which};
+use nqs_types::Which;
+use nqs_values::Memory;
 use std::alloc::AllocError;
 use thiserror::Error;
 

@@ -15,7 +15,8 @@ use crate::fault::StoreFault;
 use nqs_journal::{JournalFault, format_with};
 use nqs_outside::Disk;
 use nqs_records::write_change;
-use nqs_types::{Change, HostId, ListOf, Name, Which};
+use nqs_types::{Change, HostId, Which};
+use nqs_values::{ListOf, Name};
 use std::alloc::Global;
 
 /// Bytes of a record's payload at most.

@@ -2,11 +2,14 @@
 
 ghost use Rattle.std.specs.Prelude.{◌≡◌, ◌++◌, map, OnOk, IfOk};
 ghost use Rattle.std.specs.Fn.{FnReturnsAt};
-ghost use Rattle.nqs_types.specs.State.{content};
-ghost use Rattle.nqs_types.specs.declared.extent.Extent.{Extent};
+ghost use Rattle.nqs_state.specs.State.{content};
+ghost use Rattle.nqs_values.specs.declared.extent.Extent.{Extent};
 ghost use Rattle.nqs_store.specs.Live.{live};
 
-use nqs_types::{Extent, FileOut, HostState, Key, Keyed, Memory, Promise, Row, Stage, Table};
+use nqs_keyed::Table;
+use nqs_state::HostState;
+use nqs_types::{FileOut, Promise, Row, Stage};
+use nqs_values::{Extent, Key, Keyed, Memory};
 use std::alloc::Global;
 
 // The extents of a table, behind those that are there.

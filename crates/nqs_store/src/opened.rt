@@ -1,7 +1,7 @@
 //! Calls of an open store that keep nothing.
 
 ghost use Rattle.std.specs.Prelude.{◌≡◌, ◌≢◌, ◌⊎◌, ◌↔◌, ◌<◌, ◌≤◌, ◌+◌, ◌-◌, ◌++◌, ℕ, List, IsTrue, IsErrOf, OnOk, OnErr, IfOk, IfErr, false, length, max, nat_le, vec_capacity};
-ghost use Rattle.nqs_types.specs.State.{content};
+ghost use Rattle.nqs_state.specs.State.{content};
 ghost use Rattle.nqs_types.specs.declared.world.Which.{Which};
 ghost use Rattle.nqs_types.specs.declared.world.Which.TheVariants.{Spool};
 ghost use Rattle.nqs_outside.specs.Causes.{Rose};
@@ -16,7 +16,9 @@ use crate::fault::{LoadFault, StoreFault};
 use crate::store::{Store, first_fault, host_with};
 use nqs_outside::{Disk, Fused};
 use nqs_spool::SpoolFault;
-use nqs_types::{Extent, HostState, Which};
+use nqs_state::HostState;
+use nqs_types::Which;
+use nqs_values::Extent;
 use std::alloc::Global;
 
 impl<D: Disk> Store<D> {

@@ -2,7 +2,7 @@
 
 ghost use Rattle.std.specs.Prelude.{◌≡◌, ◌⊎◌, ◌+◌, ◌<◌, ◌≤◌, ◌++◌, [], ◌∷◌, ℕ, List, IsTrue, OnOk, OnErr, IfOk, IfErr, drop, length, vec_len, vec_capacity};
 ghost use Rattle.std.specs.List.{AllByRecursion};
-ghost use Rattle.nqs_types.specs.declared.extent.Extent.{Extent};
+ghost use Rattle.nqs_values.specs.declared.extent.Extent.{Extent};
 ghost use Rattle.nqs_outside.specs.Causes.{Rose};
 ghost use Rattle.nqs_outside.specs.History.{Call, content, extended, moment, EachSince, StopsShort};
 ghost use Rattle.nqs_spool.specs.Extents.{Has, IsWith, Holds};
@@ -22,7 +22,8 @@ use crate::formatting::{read_back, written};
 use nqs_outside::{Disk, Failed};
 use nqs_records::put_extents;
 use nqs_spool::Spool;
-use nqs_types::{Bytes, Change, Extent, Items, OutPart};
+use nqs_types::{Change, OutPart};
+use nqs_values::{Bytes, Extent, Items};
 use std::alloc::Global;
 
 // Puts one list of bytes, for which there is room.

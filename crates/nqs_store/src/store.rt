@@ -1,8 +1,8 @@
 //! A host's state on its disks: opened, read again, and closed.
 
 ghost use Rattle.std.specs.Prelude.{◌≡◌, ◌<◌, ◌≤◌, ◌^◌, ◌++◌, ℕ, List, false, Some, IsTrue, IsErrOf, IfOk, IfErr, MatchResult, length};
-ghost use Rattle.nqs_types.specs.State.{Plain, content};
-ghost use Rattle.nqs_types.specs.declared.extent.Extent.{Extent};
+ghost use Rattle.nqs_state.specs.State.{Plain, content};
+ghost use Rattle.nqs_values.specs.declared.extent.Extent.{Extent};
 ghost use Rattle.nqs_types.specs.declared.world.Which.{Which};
 ghost use Rattle.nqs_outside.specs.Causes.{Rose};
 ghost use Rattle.nqs_outside.specs.History.{IsQuiet, content as bytes_now, moment};
@@ -24,7 +24,9 @@ use crate::tell::{TellFault, tell};
 use nqs_journal::{Journal, JournalFault, read_payloads};
 use nqs_outside::Disk;
 use nqs_spool::{Spool, bad_extent};
-use nqs_types::{Bytes, Extent, HostState, Which};
+use nqs_state::HostState;
+use nqs_types::Which;
+use nqs_values::{Bytes, Extent};
 use std::alloc::Global;
 
 /// The durable state of a host: each change is one record of the journal, and the scripts and outputs that it names

@@ -5,13 +5,13 @@
 //! are boots.
 
 ghost use Rattle.std.specs.Prelude.{◌≡◌, ◌≤◌, ◌^◌, ◌++◌, [], length, IfOk, IfErr, OnOk, Ok, Err, Some, None, IsTrue};
-ghost use Rattle.nqs_types.specs.State.{content};
-ghost use Rattle.nqs_types.specs.Room.{HasRoom};
+ghost use Rattle.nqs_state.specs.State.{content};
+ghost use Rattle.nqs_state.specs.Room.{HasRoom};
 ghost use Rattle.nqs_rules.specs.InOrder.{IsInOrder};
 ghost use Rattle.nqs_rules.specs.Sane.{is_sane_change};
 ghost use Rattle.nqs_rules.specs.Fits.{fits};
 ghost use Rattle.nqs_rules.specs.Applied.{applied};
-ghost use Rattle.nqs_host.specs.Running.{runs_only, may_run};
+ghost use Rattle.nqs_changes.specs.Running.{runs_only, may_run};
 ghost use Rattle.nqs_journal.specs.Text.{header, records};
 ghost use Rattle.nqs_records.specs.Kinds.{record_of};
 ghost use Rattle.nqs_records.specs.Changes.{MayStand};
@@ -20,9 +20,12 @@ ghost use Rattle.nqs_store.specs.Told.{record_taken, told};
 ghost use Rattle.nqs_store.specs.Sound.{IsSoundHost};
 ghost use Rattle.nqs_store.specs.TellFaults.{IsRefused, IsTellFault};
 
-use nqs_host::{apply, boot_running, fits, formatted};
+use nqs_changes::boot::boot_running;
+use nqs_host::{apply, fits, formatted};
 use nqs_records::{RecordFault, read_change};
-use nqs_types::{Bytes, Change, HostState, Memory, RequestId};
+use nqs_state::HostState;
+use nqs_types::{Change, RequestId};
+use nqs_values::{Bytes, Memory};
 use std::alloc::Global;
 
 /// Bytes of a journal's header.

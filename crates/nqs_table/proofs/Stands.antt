@@ -1,9 +1,9 @@
 -- The table doesn't tell what a script says.
 use Rattle.std.proofs.Common.{◌≡◌, ℕ, zero, suc, ◌+◌, Bool, true, false, cond, filter, List, [], ◌∷◌, ◌++◌, map, slice_get, refl, sym, ap, ◌∙◌}
-use Rattle.nqs_types.specs.State.{Plain, content}
-use Rattle.nqs_types.specs.declared.extent.Extent.{Extent}
+use Rattle.nqs_state.specs.State.{Plain, content}
+use Rattle.nqs_values.specs.declared.extent.Extent.{Extent}
 use Rattle.nqs_types.specs.declared.ids.HostId.{HostId}
-use Rattle.nqs_types.specs.declared.state.HostState.{HostState}
+use Rattle.nqs_state.specs.declared.state.HostState.{HostState}
 use Rattle.nqs_rules.specs.Plain.{map_row, map_promise, map_state}
 use Rattle.nqs_rules.specs.Tests.{passes}
 use Rattle.nqs_rules.specs.Find.{host_at}

@@ -1,11 +1,11 @@
 -- What of the states is in the table: not the bytes of a spool.
 use Rattle.std.specs.Prelude.{ℕ, List, []}
-use Rattle.nqs_types.specs.State.{Plain, content}
-use Rattle.nqs_types.specs.declared.extent.Extent.{Extent}
+use Rattle.nqs_state.specs.State.{Plain, content}
+use Rattle.nqs_values.specs.declared.extent.Extent.{Extent}
 use Rattle.nqs_types.specs.declared.ids.HostId.{HostId}
 use Rattle.nqs_types.specs.declared.request.Row.{Row}
 use Rattle.nqs_types.specs.declared.request.Promise.{Promise}
-use Rattle.nqs_types.specs.declared.state.HostState.{HostState}
+use Rattle.nqs_state.specs.declared.state.HostState.{HostState}
 use Rattle.nqs_types.specs.declared.table_row.TableRow.{TableRow}
 use Rattle.nqs_rules.specs.Net.{row_entry, promise_entry, table_row}
 use Rattle.nqs_rules.specs.Plain.{map_state}

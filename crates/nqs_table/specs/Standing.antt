@@ -1,8 +1,8 @@
 -- States of hosts that stand for plain ones.
 use Rattle.std.specs.Prelude.{◌≡◌, ℕ, List, [], ◌∷◌}
-use Rattle.nqs_types.specs.State.{Plain, content}
-use Rattle.nqs_types.specs.declared.extent.Extent.{Extent}
-use Rattle.nqs_types.specs.declared.state.HostState.{HostState}
+use Rattle.nqs_state.specs.State.{Plain, content}
+use Rattle.nqs_values.specs.declared.extent.Extent.{Extent}
+use Rattle.nqs_state.specs.declared.state.HostState.{HostState}
 use Rattle.nqs_rules.specs.Plain.{map_state}
 
 -- with some bytes for its extents it is this plain state

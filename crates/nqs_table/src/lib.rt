@@ -7,11 +7,13 @@
 mod rows;
 
 ghost use Rattle.std.specs.Prelude.{◌≡◌, List, IfOk};
-ghost use Rattle.nqs_types.specs.State.{Plain};
+ghost use Rattle.nqs_state.specs.State.{Plain};
 ghost use Rattle.nqs_rules.specs.Net.{table};
 ghost use Rattle.nqs_table.specs.Standing.{StandForEach};
 
-use nqs_types::{HostId, HostState, Memory, TableRow};
+use nqs_state::HostState;
+use nqs_types::{HostId, TableRow};
+use nqs_values::Memory;
 use rows::rows_at;
 use std::alloc::Global;
 

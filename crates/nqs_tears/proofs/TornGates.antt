@@ -5,8 +5,8 @@ use Rattle.std.proofs.lemmas.List.{get_or-take}
 use Rattle.std.proofs.lemmas.Bool.Decides.{nat_tests}
 use Rattle.nqs_outside.specs.History.{State, covers, IsImage}
 use Rattle.nqs_journal.specs.Gate.{IsAtGate}
-use Rattle.nqs_types.specs.declared.tear.Tear.{Tear}
-use Rattle.nqs_types.specs.declared.tear.Tear.TheVariants.{Old, New, Mixed}
+use Rattle.nqs_values.specs.declared.tear.Tear.{Tear}
+use Rattle.nqs_values.specs.declared.tear.Tear.TheVariants.{Old, New, Mixed}
 use Rattle.nqs_rules.specs.World.{keeps_gate}
 use Rattle.nqs_disk.specs.Torn.{pick, bits, is_free, mixed_from, mixed, torn}
 use Rattle.nqs_tears.specs.Gates.{Anything}

@@ -1,6 +1,6 @@
 -- What a tear leaves of a gate.
 use Rattle.std.specs.Prelude.{◌≡◌, ◌≢◌, ℕ, List, MatchBool, slice_index}
-use Rattle.nqs_types.specs.declared.tear.Tear.{Tear}
+use Rattle.nqs_values.specs.declared.tear.Tear.{Tear}
 use Rattle.nqs_rules.specs.World.{keeps_gate}
 use Rattle.nqs_outside.specs.History.{State}
 use Rattle.nqs_journal.specs.Gate.{IsAtGate}

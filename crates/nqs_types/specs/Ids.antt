@@ -1,17 +1,12 @@
 -- When two keys are one, and what is named by which key.
-use Rattle.std.specs.Prelude.{ℕ, Bool, true, false, ◌&&◌, ◌==◌, ◌≡◌, List, nat_eq}
+use Rattle.std.specs.Prelude.{Bool, true, false, ◌&&◌, ◌==◌, ◌≡◌}
 use Rattle.std.proofs.Common.{sym, true≢false}
 use Rattle.std.proofs.lemmas.Bool.{eqb-true}
-use Rattle.std.specs.Cmp.Lexicographic.{pointwise, same_text}
 use Rattle.nqs_types.specs.declared.ids.RequestId.{RequestId}
 use Rattle.nqs_types.specs.declared.ids.PeerNumber.{PeerNumber}
 use Rattle.nqs_types.specs.declared.request.Hand.{Hand}
 use Rattle.nqs_types.specs.declared.request.Promise.{Promise}
 use Rattle.nqs_types.specs.declared.request.Stage.{Stage}
-
--- the same bytes
-abbrev pub name_eq : List ℕ → List ℕ → Bool
-name_eq a b = pointwise nat_eq a b
 
 -- one request
 abbrev pub id_eq : RequestId → RequestId → Bool
@@ -30,9 +25,6 @@ promise_key p = record { peer = p.peer; number = p.number }
 abbrev pub stage_key : {E : Type 0} → Stage E → PeerNumber
 stage_key s = record { peer = s.peer; number = s.number }
 
-pub name_exact : (a b : List ℕ) → name_eq a b ≡ true → a ≡ b
-name_exact a b h = same_text a b (sym h)
-
 both : (x y : Bool) → (x && y) ≡ true → (x ≡ true) × (y ≡ true)
 both true y h = (λ _. true, h)
 both false y h = absurd (true≢false (sym h))
@@ -46,6 +38,3 @@ pub peer_number_exact : (a b : PeerNumber) → peer_number_eq a b ≡ true → a
 peer_number_exact a b h =
     let p = both (a.peer.0 == b.peer.0) (a.number == b.number) h in
     (λ j. record { peer = record { 0 = eqb-true a.peer.0 b.peer.0 p.0 j }; number = eqb-true a.number b.number p.1 j })
-
-pub number_exact : (a b : ℕ) → (a == b) ≡ true → a ≡ b
-number_exact a b h = eqb-true a b h

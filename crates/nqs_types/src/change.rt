@@ -1,12 +1,9 @@
 //! The changes of a host's state, one variant a kind of journal record.
 
 use crate::edit::Edit;
-use crate::extent::Extent;
 use crate::ids::{HostId, PeerNumber, RequestId};
-use crate::items::Items;
-use crate::list::{Bytes, ListOf};
-use crate::name::{Name, NameList};
 use crate::request::{Carried, Job};
+use nqs_values::{Bytes, Extent, Items, ListOf, Name, NameList};
 
 /// One output of a job: the path that it goes to, and its bytes.
 #[derive(Drop)]

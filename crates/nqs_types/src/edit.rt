@@ -2,7 +2,7 @@
 //! `docs/rules.md` has who may make each of them and what it does.
 
 use crate::ids::{Named, NamedDest};
-use crate::name::Name;
+use nqs_values::Name;
 
 /// Edits of queues and of the host's parameters.
 #[derive(Clone, Copy)]

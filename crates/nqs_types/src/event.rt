@@ -4,15 +4,12 @@ ghost use Rattle.std.specs.Prelude.{◌≡◌};
 
 use crate::change::Change;
 use crate::edit::Edit;
-use crate::extent::Extent;
 use crate::fault::{GrammarFault, WordsFault};
 use crate::ids::{Named, RequestId};
-use crate::items::Items;
-use crate::list::{Bytes, ListOf};
 use crate::message::Message;
-use crate::name::{Name, NameList};
 use crate::refusal::Refusal;
 use crate::request::{Job, Limits};
+use nqs_values::{Bytes, Extent, Items, ListOf, Name, NameList};
 
 /// A request to be made. Without a queue it goes to the host's default queue.
 #[derive(Drop)]

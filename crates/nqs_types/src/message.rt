@@ -3,10 +3,8 @@ ghost use Rattle.std.specs.Prelude.{◌≡◌, IfOk};
 ghost use Rattle.nqs_types.specs.declared.message.Body.TheVariants.{Offer, Stage, Ask, Answer, Ended};
 
 use crate::ids::{HostId, RequestId};
-use crate::items::Items;
-use crate::list::Bytes;
-use crate::name::Name;
 use crate::request::Carried;
+use nqs_values::{Bytes, Items, Name};
 use std::alloc::AllocError;
 
 /// A command of a client.

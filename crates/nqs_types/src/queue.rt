@@ -1,9 +1,8 @@
 //! Queues, complexes and devices of a host.
 
 use crate::ids::Dest;
-use crate::list::ListOf;
-use crate::name::{Name, NameList};
 use crate::request::Limits;
+use nqs_values::{ListOf, Name, NameList};
 
 /// The destinations of a pipe queue, in the order in which they are tried.
 pub type DestList = ListOf<Dest>;

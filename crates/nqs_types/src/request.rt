@@ -1,10 +1,8 @@
 //! Requests: what a job is, and where a request stands in its host.
 ghost use Rattle.std.specs.Prelude.{◌≡◌};
 
-use crate::extent::Extent;
 use crate::ids::{Dest, HostId, RequestId};
-use crate::list::{Bytes, ListOf};
-use crate::name::Name;
+use nqs_values::{Bytes, Extent, ListOf, Name};
 use std::alloc::AllocError;
 
 /// What a request or a queue limits: seconds of processor time, and bytes of memory.

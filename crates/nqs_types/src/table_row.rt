@@ -1,7 +1,7 @@
 //! The rows of the network table, which `show` prints.
 
 use crate::ids::{HostId, RequestId};
-use crate::name::Name;
+use nqs_values::Name;
 
 /// The state of a request in the network table.
 #[derive(Clone, Copy, Debug, PartialEq, Eq)]

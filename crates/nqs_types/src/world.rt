@@ -2,12 +2,9 @@
 
 use crate::event::Reply;
 use crate::ids::{HostId, RequestId};
-use crate::items::Items;
-use crate::list::Bytes;
 use crate::message::BodyKind;
-use crate::name::Name;
 use crate::table_row::TableRow;
-use crate::tear::Tear;
+use nqs_values::{Bytes, Items, Name, Tear};
 
 /// A disk of a host.
 #[derive(Clone, Copy, Debug, PartialEq, Eq)]

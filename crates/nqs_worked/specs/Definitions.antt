@@ -1,7 +1,7 @@
 -- States, changes and texts on which single definitions are computed.
 use Rattle.std.specs.Prelude.{ℕ, ◌-◌, Bool, false, List, [], ◌∷◌, map, replicate, codes, Option, None, Some, Result}
 use Rattle.std.specs.List.{list_all}
-use Rattle.nqs_types.specs.State.{Plain}
+use Rattle.nqs_state.specs.State.{Plain}
 use Rattle.nqs_rules.specs.Tests.{same_host}
 use Rattle.nqs_types.specs.Ids.{id_eq}
 use Rattle.nqs_rules.specs.Format.{formatted, first_queue, new_queue, new_peer}
@@ -18,7 +18,7 @@ use Rattle.nqs_types.specs.declared.ids.Dest.{Dest}
 use Rattle.nqs_types.specs.declared.request.Row.{Row}
 use Rattle.nqs_types.specs.declared.request.Carried.{Carried}
 use Rattle.nqs_types.specs.declared.request.Peer.{Peer}
-use Rattle.nqs_types.specs.declared.extent.Extent.{Extent}
+use Rattle.nqs_values.specs.declared.extent.Extent.{Extent}
 use Rattle.nqs_types.specs.declared.event.Submission.{Submission}
 use Rattle.nqs_types.specs.declared.event.Output.TheVariants as out
 use Rattle.nqs_types.specs.declared.event.Output.{Output}

@@ -9,7 +9,7 @@ ghost use Rattle.nqs_types.specs.declared.edit.DevicesEdit.TheVariants.{CreateDe
 ghost use Rattle.nqs_types.specs.declared.edit.RowsEdit.TheVariants.{HoldRequest, ReleaseRequest, MoveRequest, ModifyRequest};
 ghost use Rattle.nqs_types.specs.declared.queue.Access.TheVariants.{Users};
 ghost use Rattle.nqs_types.specs.declared.rule.Entry.TheVariants.{Direct, FromPipe};
-ghost use Rattle.nqs_types.specs.declared.tear.Tear.TheVariants.{Old, New, Mixed};
+ghost use Rattle.nqs_values.specs.declared.tear.Tear.TheVariants.{Old, New, Mixed};
 ghost use Rattle.nqs_types.specs.declared.refusal.Refusal.TheVariants.{Disabled, PipeOnly, NoAccess, OverCpu, OverMemory, TooMany, NumbersUsed, RequestExists, HostFull};
 ghost use Rattle.nqs_types.specs.declared.request.RowState.TheVariants.{Queued, Running};
 ghost use Rattle.nqs_types.specs.declared.request.Hold.TheVariants.{User, System};
@@ -27,7 +27,7 @@ ghost use Rattle.nqs_rules.specs.Tests.{last_u64, last_seq};
 ghost use Rattle.nqs_rules.specs.Format.{first_queue, new_peer};
 ghost use Rattle.nqs_rules.specs.Causes.{first_refusal};
 ghost use Rattle.nqs_rules.specs.Find.{peer_number};
-ghost use Rattle.nqs_types.specs.Path.{is_path};
+ghost use Rattle.nqs_values.specs.Path.{is_path};
 ghost use Rattle.nqs_rules.specs.Access.{may_use};
 ghost use Rattle.nqs_rules.specs.Conf.{is_conf_within};
 ghost use Rattle.nqs_rules.specs.Limits.{over_limits, is_limits_within};

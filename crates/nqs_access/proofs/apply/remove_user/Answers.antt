@@ -1,5 +1,5 @@
 use Rattle.std.proofs.Common.{rules, ap}
-use Rattle.nqs_types.specs.State.{content}
+use Rattle.nqs_state.specs.State.{content}
 use Rattle.nqs_types.specs.declared.edit.AccessEdit.TheVariants.{RemoveUser}
 use Rattle.nqs_rules.specs.Access.{access_edited}
 use Rattle.nqs_access.proofs.apply.remove_user.Goals as goal

@@ -1,5 +1,5 @@
 use Rattle.std.proofs.Common.{rules, ap}
-use Rattle.nqs_types.specs.State.{content}
+use Rattle.nqs_state.specs.State.{content}
 use Rattle.nqs_rules.specs.Conf.{conf_edited}
 use Rattle.nqs_conf.proofs.apply.edit_queue.Goals as goal
 

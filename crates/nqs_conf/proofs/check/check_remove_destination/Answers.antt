@@ -1,5 +1,5 @@
 use Rattle.std.proofs.Common.{sym, refl}
-use Rattle.nqs_types.specs.State.{content}
+use Rattle.nqs_state.specs.State.{content}
 use Rattle.nqs_access.proofs.Found.{queue_there, queue_missing}
 use Rattle.nqs_conf.proofs.check.check_remove_destination.Goals as goal
 

@@ -1,5 +1,5 @@
 use Rattle.std.proofs.Common.{◌∙◌}
-use Rattle.nqs_types.specs.State.{content}
+use Rattle.nqs_state.specs.State.{content}
 use Rattle.nqs_devices.proofs.Refusals.{remove_found, remove_absent}
 use Rattle.nqs_devices.proofs.check.check_remove.Goals as goal
 

@@ -1,4 +1,4 @@
-use Rattle.std.proofs.Common.{length, arith}
+use Rattle.std.proofs.Common.{arith}
 use Rattle.nqs_disks_tests.proofs.spool.reopened.Goals as goal
 
 pub load-requires-clause-apart : goal.load-requires-clause-apart

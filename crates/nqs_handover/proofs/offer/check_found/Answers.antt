@@ -1,6 +1,6 @@
 use Rattle.std.proofs.Common.{◌∙◌, sym}
 use Rattle.std.proofs.lemmas.Result.{err_from_is_err_and}
-use Rattle.nqs_types.specs.State.{content}
+use Rattle.nqs_state.specs.State.{content}
 use Rattle.nqs_rows.proofs.Refusals.{passed, refused}
 use Rattle.nqs_handover.specs.Offers.{way_causes, host_causes}
 use Rattle.nqs_handover.proofs.offer.check_found.Goals as goal

@@ -1,5 +1,5 @@
 use Rattle.std.proofs.Common.{◌∙◌}
-use Rattle.nqs_types.specs.State.{content}
+use Rattle.nqs_state.specs.State.{content}
 use Rattle.nqs_handover.proofs.Refusals.{into_found, into_absent}
 use Rattle.nqs_handover.proofs.offer.check_into.Goals as goal
 

@@ -1,5 +1,5 @@
 use Rattle.std.proofs.Common.{◌≡◌, ◌∙◌, IfOk, sym, subst}
-use Rattle.nqs_types.specs.State.{content}
+use Rattle.nqs_state.specs.State.{content}
 use Rattle.nqs_rules.specs.Stepped.{plan_of}
 use Rattle.nqs_handover.proofs.Refusals.{offer_taken, offer_refused}
 use Rattle.nqs_handover.proofs.offer.on_offer.Goals as goal

@@ -1,5 +1,5 @@
 use Rattle.std.proofs.Common.{sym}
-use Rattle.nqs_types.specs.State.{content}
+use Rattle.nqs_state.specs.State.{content}
 use Rattle.nqs_handover.proofs.Hops.{hops_at}
 use Rattle.nqs_handover.proofs.open.open_hand.Goals as goal
 

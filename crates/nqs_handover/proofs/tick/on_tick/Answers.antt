@@ -1,5 +1,5 @@
 use Rattle.std.proofs.Common.{rules, subst, IfOk, ◌≡◌, ◌∷◌, []}
-use Rattle.nqs_types.specs.State.{content}
+use Rattle.nqs_state.specs.State.{content}
 use Rattle.nqs_rules.specs.Handover.{repeat_hand, send_inquire}
 use Rattle.nqs_plans.specs.More.{with_more}
 use Rattle.nqs_handover.proofs.Ticks.{tick_is}

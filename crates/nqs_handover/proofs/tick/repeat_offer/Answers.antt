@@ -1,5 +1,5 @@
 use Rattle.std.proofs.Common.{sym}
-use Rattle.nqs_types.specs.State.{content}
+use Rattle.nqs_state.specs.State.{content}
 use Rattle.nqs_handover.proofs.Hops.{hops_found}
 use Rattle.nqs_handover.proofs.tick.repeat_offer.Goals as goal
 

@@ -1,5 +1,5 @@
 use Rattle.std.proofs.Common.{◌∙◌, ◌++◌, rules, fold, ap}
-use Rattle.nqs_types.specs.State.{content}
+use Rattle.nqs_state.specs.State.{content}
 use Rattle.nqs_handover.specs.Silent.{silent_key}
 use Rattle.nqs_handover.proofs.Ticks.{folded-silent}
 use Rattle.nqs_handover.proofs.tick.silent_hands.Goals as goal

@@ -1,5 +1,5 @@
 use Rattle.std.proofs.Common.{sym, subst, IsTrue, ◌<◌}
-use Rattle.nqs_types.specs.State.{content}
+use Rattle.nqs_state.specs.State.{content}
 use Rattle.nqs_rules.specs.Fits.{fits}
 use Rattle.nqs_host.proofs.PromiseFits.{promise_number, promise_arrival}
 use Rattle.nqs_host.proofs.changes.apply.Goals as goal

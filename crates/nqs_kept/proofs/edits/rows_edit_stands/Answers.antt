@@ -1,4 +1,4 @@
-use Rattle.nqs_types.specs.State.{content}
+use Rattle.nqs_state.specs.State.{content}
 use Rattle.nqs_rules.specs.Rows.{hold_causes, release_causes, move_causes, idle_causes}
 use Rattle.nqs_kept.proofs.Stands.{named_seq}
 use Rattle.nqs_kept.proofs.edits.rows_edit_stands.Goals as goal

@@ -1,7 +1,7 @@
 use Rattle.std.proofs.Common.{nat_le, not, length, [], ◌∷◌}
 use Rattle.std.proofs.lemmas.Bool.{and_parts}
 use Rattle.std.specs.List.{list_any, list_all}
-use Rattle.nqs_types.specs.State.{content}
+use Rattle.nqs_state.specs.State.{content}
 use Rattle.nqs_rules.specs.Tests.{is_ready, passes}
 use Rattle.nqs_rules.specs.Find.{has_queue, has_promise, find_peer}
 use Rattle.nqs_rules.specs.Rows.{arrivals_used}

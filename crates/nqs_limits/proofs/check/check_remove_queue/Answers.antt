@@ -1,5 +1,5 @@
 use Rattle.std.proofs.Common.{sym, refl}
-use Rattle.nqs_types.specs.State.{content}
+use Rattle.nqs_state.specs.State.{content}
 use Rattle.nqs_access.proofs.Found.{complex_there, complex_missing}
 use Rattle.nqs_limits.proofs.check.check_remove_queue.Goals as goal
 

@@ -1,5 +1,5 @@
 use Rattle.std.proofs.Common.{◌≡◌, ◌++◌, ◌∷◌, [], rules, IfOk, subst}
-use Rattle.nqs_types.specs.State.{content}
+use Rattle.nqs_state.specs.State.{content}
 use Rattle.nqs_rules.specs.Text.{device_line}
 use Rattle.nqs_lists.proofs.Seen.{lines-mapped}
 use Rattle.nqs_lists.proofs.show.device_lines.Goals as goal

@@ -1,6 +1,6 @@
 use Rattle.std.proofs.Common.{◌≡◌, ◌∙◌, false, rules, IfOk, ap, subst}
 use Rattle.std.specs.Option.{option_map}
-use Rattle.nqs_types.specs.State.{content}
+use Rattle.nqs_state.specs.State.{content}
 use Rattle.nqs_rules.specs.Devices.{runs_on}
 use Rattle.nqs_rules.specs.Text.{user_text}
 use Rattle.nqs_lists.proofs.Seen.{first-best}

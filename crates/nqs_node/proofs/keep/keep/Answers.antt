@@ -1,6 +1,6 @@
 use Rattle.std.proofs.Common.{◌⊎◌, sym, ap, subst, ◌∙◌, IsTrue}
-use Rattle.nqs_types.specs.State.{State, content}
-use Rattle.nqs_types.specs.declared.extent.Extent.{Extent}
+use Rattle.nqs_state.specs.State.{State, content}
+use Rattle.nqs_values.specs.declared.extent.Extent.{Extent}
 use Rattle.nqs_types.specs.declared.world.Which.TheVariants.{First, Spool}
 use Rattle.nqs_rules.specs.Applied.{applied}
 use Rattle.nqs_rules.specs.Filled.{filled}

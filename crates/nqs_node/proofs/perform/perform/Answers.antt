@@ -1,6 +1,6 @@
 use Rattle.std.proofs.Common.{◌⊎◌, inl, inr, ap, ◌∙◌}
 use Rattle.std.proofs.lemmas.Result.{on_ok_weaker, on_err_weaker}
-use Rattle.nqs_types.specs.State.{content}
+use Rattle.nqs_state.specs.State.{content}
 use Rattle.nqs_rules.specs.Starts.{after_change}
 use Rattle.nqs_store.specs.Stores.{history_of, fails_of, plain_of}
 use Rattle.nqs_node.specs.Carried.{Kept}

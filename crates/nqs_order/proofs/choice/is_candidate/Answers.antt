@@ -1,5 +1,5 @@
 use Rattle.std.proofs.Common.{◌∙◌, sym}
-use Rattle.nqs_types.specs.State.{content}
+use Rattle.nqs_state.specs.State.{content}
 use Rattle.nqs_order.proofs.Candidates.{no_candidate}
 use Rattle.nqs_order.proofs.choice.is_candidate.Goals as goal
 

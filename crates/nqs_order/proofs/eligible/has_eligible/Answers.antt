@@ -1,6 +1,6 @@
 use Rattle.std.proofs.Common.{◌∙◌}
 use Rattle.nqs_rules.specs.Order.{is_eligible, comes_before}
-use Rattle.nqs_types.specs.State.{content}
+use Rattle.nqs_state.specs.State.{content}
 use Rattle.nqs_order.proofs.BestLemmas.{is_some-best}
 use Rattle.nqs_order.proofs.eligible.has_eligible.Goals as goal
 

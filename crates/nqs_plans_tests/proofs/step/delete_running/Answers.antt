@@ -1,6 +1,6 @@
 use Rattle.std.proofs.Common.{refl}
 use Rattle.std.specs.Fmt.{digits}
-use Rattle.nqs_types.specs.Path.{has_parent}
+use Rattle.nqs_values.specs.Path.{has_parent}
 use Rattle.nqs_plans_tests.proofs.step.delete_running.Goals as goal
 
 pub delete_there-seen-requires-clause-order : goal.delete_there-seen-requires-clause-order

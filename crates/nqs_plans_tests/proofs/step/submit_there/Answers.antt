@@ -1,7 +1,7 @@
 use Rattle.std.proofs.Common.{◌∙◌, ◌∷◌, [], codes, refl, sym, ap, subst}
 use Rattle.std.specs.Fmt.{digits}
-use Rattle.nqs_types.specs.State.{State}
-use Rattle.nqs_types.specs.declared.extent.Extent.{Extent}
+use Rattle.nqs_state.specs.State.{State}
+use Rattle.nqs_values.specs.declared.extent.Extent.{Extent}
 use Rattle.nqs_rules.specs.Format.{new_peer}
 use Rattle.nqs_rules.specs.InOrder.{IsInOrder}
 use Rattle.nqs_plans_tests.specs.PlotHost.{plot_host, plot_queue}

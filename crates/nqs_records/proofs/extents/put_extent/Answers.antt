@@ -1,4 +1,4 @@
-use Rattle.std.proofs.Common.{◌≡◌, ℕ, List, ◌++◌, ◌-◌, ◌∙◌, length, length-append, ap, arith}
+use Rattle.std.proofs.Common.{ℕ, List, ◌++◌, ◌-◌, ◌∙◌, length, length-append, ap, arith}
 use borrow.Rule.Slice.PartMut.{put_mid}
 use Rattle.nqs_records.specs.Spelling.{extent_field}
 use Rattle.nqs_records.proofs.PutBack.{put_back, length-extent}

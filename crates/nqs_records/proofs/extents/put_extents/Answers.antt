@@ -1,5 +1,5 @@
-use Rattle.std.proofs.Common.{◌≡◌, ℕ, List, [], ◌++◌, ◌≤◌, flat_map, ◌∙◌, length, length-append, refl, sym, ap, subst, arith}
-use Rattle.nqs_types.specs.declared.change.Change.TheVariants.{Submitted, Ended, Promised, StageGot}
+use Rattle.std.proofs.Common.{◌≡◌, ℕ, List, [], ◌++◌, ◌≤◌, flat_map, ◌∙◌, length, length-append, refl, sym, ap, arith}
+use Rattle.nqs_types.specs.declared.change.Change.TheVariants.{Submitted, Promised, StageGot}
 use Rattle.nqs_records.specs.Spelling.{extent_field, part_field}
 use Rattle.nqs_records.specs.Changes.{spelling}
 use Rattle.nqs_records.specs.Extents.{first_or, parts_with, with_extents}
@@ -7,7 +7,7 @@ use Rattle.nqs_records.proofs.PutBack.{length-extent, submitted_front, submitted
 use Rattle.nqs_records.proofs.extents.put_extents.Goals as goal
 
 -- a list with an extent at its end has twelve bytes
-twelve : (n : ℕ) (bytes front : List ℕ) (e : Rattle.nqs_types.specs.declared.extent.Extent.Extent) → n ≡ length bytes → bytes ≡ front ++ extent_field e ++ [] → 12 ≤ n
+twelve : (n : ℕ) (bytes front : List ℕ) (e : Rattle.nqs_values.specs.declared.extent.Extent.Extent) → n ≡ length bytes → bytes ≡ front ++ extent_field e ++ [] → 12 ≤ n
 twelve n bytes front e size is = omega (arith, size, ap length is, length-append (front ++ extent_field e) [], length-append front (extent_field e), length-extent e)
 
 pub put_extent-requires : goal.put_extent-requires

@@ -1,6 +1,5 @@
-use Rattle.std.proofs.Common.{Ok, Err, ap, ◌∙◌}
+use Rattle.std.proofs.Common.{Ok, Err}
 use Rattle.nqs_records.proofs.Named.{name_same}
-use Rattle.nqs_records.specs.declared.fault.RecordFault.{RecordFault}
 use Rattle.nqs_records.proofs.field.read_name.Goals as goal
 
 pub returns-in-Ok : goal.returns-in-Ok

@@ -1,7 +1,6 @@
 use Rattle.std.proofs.Common.{◌≡◌}
 use Rattle.nqs_records.specs.Reading.{repeated}
-use Rattle.nqs_records.specs.Fields.{name_at}
-use Rattle.nqs_records.specs.Parts.{part_at, hand_at}
+use Rattle.nqs_records.specs.Parts.{part_at}
 use Rattle.nqs_records.proofs.Fronts.{after}
 use Rattle.nqs_records.proofs.lists.repeat_parts.Given as goal
 

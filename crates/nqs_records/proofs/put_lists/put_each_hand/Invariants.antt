@@ -1,8 +1,6 @@
 use Rattle.std.proofs.Common.{◌≡◌, ◌++◌, length}
 use Rattle.std.specs.Prelude.{flat_map}
-use Rattle.std.specs.List.{AllByRecursion}
 use Rattle.nqs_records.specs.Spelling.{hand_field}
-use Rattle.nqs_records.specs.Values.{IsPart}
 use Rattle.nqs_records.proofs.put_lists.put_each_hand.Given as goal
 
 -- what is there and the rest are the whole

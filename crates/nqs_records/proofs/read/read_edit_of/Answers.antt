@@ -1,4 +1,4 @@
-use Rattle.std.proofs.Common.{ℕ, ap, sym, arith}
+use Rattle.std.proofs.Common.{ap, sym, arith}
 use Rattle.nqs_types.specs.declared.edit.Edit.{Edit}
 use Rattle.nqs_records.specs.Reading.{Reading, bad_at}
 use Rattle.nqs_records.specs.Edits.{edits}

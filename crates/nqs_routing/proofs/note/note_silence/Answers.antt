@@ -1,5 +1,5 @@
 use Rattle.std.proofs.Common.{ap, sym, ◌∙◌}
-use Rattle.nqs_types.specs.State.{content}
+use Rattle.nqs_state.specs.State.{content}
 use Rattle.nqs_types.specs.declared.request.Peer.{Peer}
 use Rattle.nqs_routing.proofs.Peers.{change_at-set, change_at-none}
 use Rattle.nqs_routing.proofs.note.note_silence.Goals as goal

@@ -1,5 +1,5 @@
 use Rattle.std.proofs.Common.{rules, ap, ◌∙◌}
-use Rattle.nqs_types.specs.State.{content}
+use Rattle.nqs_state.specs.State.{content}
 use Rattle.nqs_rules.specs.Rows.{change_meant}
 use Rattle.nqs_rows.specs.OneRow.{row_edited}
 use Rattle.nqs_rows.proofs.apply.edit_request.Goals as goal

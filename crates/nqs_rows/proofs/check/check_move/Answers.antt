@@ -1,5 +1,5 @@
 use Rattle.std.proofs.Common.{◌∙◌}
-use Rattle.nqs_types.specs.State.{content}
+use Rattle.nqs_state.specs.State.{content}
 use Rattle.nqs_rows.proofs.Refusals.{move_found, move_absent}
 use Rattle.nqs_rows.proofs.check.check_move.Goals as goal
 

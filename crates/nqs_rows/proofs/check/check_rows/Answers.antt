@@ -1,5 +1,5 @@
 use Rattle.std.proofs.Common.{◌∙◌, sym, subst, refl}
-use Rattle.nqs_types.specs.State.{content}
+use Rattle.nqs_state.specs.State.{content}
 use Rattle.nqs_rows.proofs.Named.{IsByRow}
 use Rattle.nqs_rows.proofs.check.check_rows.Goals as goal
 

@@ -1,5 +1,5 @@
 use Rattle.std.proofs.lemmas.Result.{err_from_is_err_and}
-use Rattle.nqs_types.specs.State.{content}
+use Rattle.nqs_state.specs.State.{content}
 use Rattle.nqs_rules.specs.Rows.{queue_entry_causes}
 use Rattle.nqs_rows.proofs.Refusals.{refused, host_causes}
 use Rattle.nqs_rows.proofs.submit.check_into.Goals as goal

@@ -1,5 +1,5 @@
 use Rattle.std.proofs.Common.{◌∙◌}
-use Rattle.nqs_types.specs.State.{content}
+use Rattle.nqs_state.specs.State.{content}
 use Rattle.nqs_rows.proofs.Refusals.{submit_found, submit_absent}
 use Rattle.nqs_rows.proofs.submit.check_submit_to.Goals as goal
 

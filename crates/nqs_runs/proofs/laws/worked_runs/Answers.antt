@@ -22,7 +22,7 @@ use Rattle.nqs_schedule.specs.Says.{hosts_from, hosts_of, verb_says, words_say, 
 use Rattle.nqs_schedule.specs.Schedule.{lines_say}
 use Rattle.nqs_schedule.specs.Summary.{summary_of, count_line}
 use Rattle.nqs_schedule.specs.Words.{text_at, text_there, name_at as schedule_name_at, number_at, host_of, host_at, request_at as schedule_request_at, disk_of, disk_at, mixed_of, tear_of, tear_at, output_at, nothing_at, all_good}
-use Rattle.nqs_types.specs.Path.{has_parent}
+use Rattle.nqs_values.specs.Path.{has_parent}
 use Rattle.nqs_runs.proofs.laws.worked_runs.Goals as goal
 
 pub returns : goal.returns

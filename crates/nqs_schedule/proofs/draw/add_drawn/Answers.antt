@@ -1,6 +1,4 @@
-use Rattle.std.proofs.Common.{◌≡◌, ◌++◌, ◌+◌, ◌-◌, List, ap, sym, ◌∙◌}
-use Rattle.rand_pcg.specs.Lcg.{Lcg}
-use Rattle.nqs_types.specs.declared.world.WorldEvent.{WorldEvent}
+use Rattle.std.proofs.Common.{◌++◌, ◌+◌, ◌-◌}
 use Rattle.nqs_schedule.specs.Generated.{drawn_from, generator_of}
 use Rattle.nqs_schedule.proofs.Draws.{drawn_more, drawn_end}
 use Rattle.nqs_schedule.proofs.draw.add_drawn.Goals as goal

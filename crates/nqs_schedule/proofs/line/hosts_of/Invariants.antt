@@ -1,4 +1,4 @@
-use Rattle.std.proofs.Common.{◌≡◌, [], drop}
+use Rattle.std.proofs.Common.{◌≡◌, drop}
 use Rattle.nqs_schedule.specs.Says.{hosts_from, hosts_of}
 use Rattle.nqs_schedule.proofs.line.hosts_of.Given as goal
 

@@ -1,4 +1,4 @@
-use Rattle.std.proofs.Common.{◌≡◌, ◌++◌, ◌∷◌, [], ℕ, List, ap, sym, ◌∙◌, append_assoc}
+use Rattle.std.proofs.Common.{◌++◌, ◌∷◌, [], ℕ, List, ap, sym, ◌∙◌, append_assoc}
 use Rattle.nqs_schedule.specs.Seen.{seen_line}
 use Rattle.nqs_schedule.proofs.Tables.{one_line}
 use Rattle.nqs_schedule.proofs.seen.print_seen.Goals as goal

@@ -1,4 +1,3 @@
-use Rattle.std.proofs.Common.{◌≡◌}
 use Rattle.nqs_schedule.proofs.Tables.{table_put}
 use Rattle.nqs_schedule.proofs.seen.put_table.Goals as goal
 

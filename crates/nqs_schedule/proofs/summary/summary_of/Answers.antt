@@ -1,5 +1,4 @@
-use Rattle.std.proofs.Common.{◌≡◌, ◌∙◌, ap, sym}
-use Rattle.nqs_schedule.specs.Summary.{nothing_seen, counted, summary_of}
+use Rattle.nqs_schedule.specs.Summary.{nothing_seen, summary_of}
 use Rattle.nqs_schedule.proofs.Counts.{count_more, count_end}
 use Rattle.nqs_schedule.proofs.summary.summary_of.Goals as goal
 

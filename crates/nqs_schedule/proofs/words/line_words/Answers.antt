@@ -1,4 +1,4 @@
-use Rattle.std.proofs.Common.{◌≡◌, ◌++◌, ◌∷◌, [], ◌-◌, ◌+◌, length, sym, ap, ◌∙◌, List}
+use Rattle.std.proofs.Common.{◌-◌, ◌+◌, length, ap, ◌∙◌, List}
 use Rattle.nqs_schedule.specs.declared.words.LineWord.{LineWord}
 use Rattle.nqs_schedule.specs.Lines.{words_from}
 use Rattle.nqs_schedule.proofs.Splits.{joined, words_end, words_bad, words_more, words_done}

@@ -1,5 +1,5 @@
-use Rattle.std.proofs.Common.{◌≡◌, ◌≤◌, ◌+◌, ℕ, List, length, drop, sym, ap, ◌∙◌, arith}
-use Rattle.std.proofs.lemmas.List.{take_rest, length-drop}
+use Rattle.std.proofs.Common.{◌+◌, ℕ, List, sym, ap, ◌∙◌}
+use Rattle.std.proofs.lemmas.List.{take_rest}
 use Rattle.nqs_schedule.specs.declared.words.Next.TheVariants.{Found}
 use Rattle.nqs_schedule.specs.Lines.{is_over}
 use Rattle.nqs_schedule.proofs.Splits.{over, not_over, no_end}

@@ -1,6 +1,6 @@
 use Rattle.std.proofs.Common.{◌≡◌, List, ◌++◌, length}
 use Rattle.std.specs.List.{AllByRecursion}
-use Rattle.nqs_types.specs.declared.extent.Extent.{Extent}
+use Rattle.nqs_values.specs.declared.extent.Extent.{Extent}
 use Rattle.nqs_spool.specs.Extents.{IsWithin, Covers}
 use Rattle.nqs_spool.specs.Live.{kept}
 use Rattle.nqs_spool.proofs.sound.bad_extent.Given as goal

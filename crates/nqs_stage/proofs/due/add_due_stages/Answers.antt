@@ -1,5 +1,5 @@
 use Rattle.std.proofs.Common.{◌≡◌, ◌∷◌, [], rules, IfOk, subst}
-use Rattle.nqs_types.specs.State.{content}
+use Rattle.nqs_state.specs.State.{content}
 use Rattle.nqs_rules.specs.Stage.{file_again}
 use Rattle.nqs_plans.specs.More.{with_more}
 use Rattle.nqs_stage.proofs.Ticked.{due_is}

@@ -1,6 +1,6 @@
 use Rattle.std.proofs.Common.{◌≡◌, ◌∙◌, ◌&&◌, not, rules, IfOk, sym, ap, subst}
-use Rattle.nqs_types.specs.State.{content}
-use Rattle.nqs_types.specs.Keys.{is_stage}
+use Rattle.nqs_state.specs.State.{content}
+use Rattle.nqs_state.specs.Keys.{is_stage}
 use Rattle.nqs_rules.specs.Stage.{is_stage_to, is_earlier_stage, send_stage}
 use Rattle.nqs_plans.specs.More.{with_more}
 use Rattle.nqs_plans.proofs.Grown.{more-none}

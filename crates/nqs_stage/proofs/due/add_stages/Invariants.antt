@@ -1,5 +1,5 @@
 use Rattle.std.proofs.Common.{◌≡◌, drop}
-use Rattle.nqs_types.specs.State.{content}
+use Rattle.nqs_state.specs.State.{content}
 use Rattle.nqs_rules.specs.Stage.{stages_from}
 use Rattle.nqs_plans.specs.More.{with_more}
 use Rattle.nqs_stage.proofs.due.add_stages.Given as goal

@@ -1,5 +1,5 @@
 use Rattle.std.proofs.Common.{◌≡◌, ◌∙◌, [], IfOk, ap, subst}
-use Rattle.nqs_types.specs.State.{content}
+use Rattle.nqs_state.specs.State.{content}
 use Rattle.nqs_rules.specs.Stage.{due_outputs}
 use Rattle.nqs_rules.specs.Stepped.{says}
 use Rattle.nqs_plans.specs.More.{with_more}

@@ -1,5 +1,5 @@
 use Rattle.std.proofs.Common.{◌≡◌, ◌∙◌, ◌∷◌, [], IfOk, subst}
-use Rattle.nqs_types.specs.State.{content}
+use Rattle.nqs_state.specs.State.{content}
 use Rattle.nqs_types.specs.declared.event.Reply.TheVariants.{Done}
 use Rattle.nqs_rules.specs.Step.{reply_to, ticked}
 use Rattle.nqs_plans.specs.More.{with_more}

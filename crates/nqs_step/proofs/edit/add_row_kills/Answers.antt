@@ -1,5 +1,5 @@
 use Rattle.std.proofs.Common.{◌≡◌, ◌∙◌, rules, IfOk, sym, ap, subst}
-use Rattle.nqs_types.specs.State.{content}
+use Rattle.nqs_state.specs.State.{content}
 use Rattle.nqs_types.specs.declared.edit.Edit.TheVariants.{Rows}
 use Rattle.nqs_rules.specs.Step.{kills_of}
 use Rattle.nqs_plans.specs.More.{with_more}

@@ -1,5 +1,5 @@
 use Rattle.std.proofs.Common.{◌∙◌}
-use Rattle.nqs_types.specs.State.{content}
+use Rattle.nqs_state.specs.State.{content}
 use Rattle.nqs_step.proofs.Locals.{local_found, local_absent}
 use Rattle.nqs_step.proofs.start.check_local.Goals as goal
 

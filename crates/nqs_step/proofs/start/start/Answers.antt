@@ -1,5 +1,5 @@
 use Rattle.std.proofs.Common.{◌≡◌, ◌∙◌, Some, slice_get, sym, ap}
-use Rattle.nqs_types.specs.State.{content}
+use Rattle.nqs_state.specs.State.{content}
 use Rattle.nqs_rules.specs.Picked.{row_place}
 use Rattle.nqs_step.proofs.Orderly.{hop_left, start_left}
 use Rattle.nqs_step.proofs.Picks.{picked_ready}

@@ -1,5 +1,5 @@
 use Rattle.std.proofs.Common.{◌≡◌, ◌∙◌, IfOk, sym, ap, subst}
-use Rattle.nqs_types.specs.State.{content}
+use Rattle.nqs_state.specs.State.{content}
 use Rattle.nqs_rules.specs.Find.{find_row}
 use Rattle.nqs_rules.specs.Step.{acknowledged, ended_by, step}
 use Rattle.nqs_rules.specs.Stepped.{plan_of}

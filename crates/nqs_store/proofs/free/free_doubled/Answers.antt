@@ -1,6 +1,6 @@
 use Rattle.std.proofs.Common.{◌∙◌, ◌∷◌, [], cond, sym, ap, subst}
 use Rattle.std.specs.Option.{option_copied}
-use Rattle.nqs_types.specs.State.{content}
+use Rattle.nqs_state.specs.State.{content}
 use Rattle.nqs_store.specs.Accounts.{Takes}
 use Rattle.nqs_store.specs.Frees.{doubled}
 use Rattle.nqs_store.proofs.Freeing.{one_free}

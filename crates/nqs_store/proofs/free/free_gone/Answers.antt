@@ -1,5 +1,5 @@
 use Rattle.std.proofs.Common.{map, drop, sym, subst}
-use Rattle.nqs_types.specs.State.{content}
+use Rattle.nqs_state.specs.State.{content}
 use Rattle.nqs_rules.specs.Stepped.{part_bytes}
 use Rattle.nqs_store.specs.Accounts.{Takes}
 use Rattle.nqs_store.specs.Frees.{gone}

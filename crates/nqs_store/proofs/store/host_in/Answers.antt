@@ -1,5 +1,5 @@
 use Rattle.std.proofs.lemmas.Result.{err_from_is_err_and}
-use Rattle.nqs_types.specs.State.{content}
+use Rattle.nqs_state.specs.State.{content}
 use Rattle.nqs_outside.specs.History.{content as bytes_now}
 use Rattle.nqs_store.proofs.Loading.{extent_read}
 use Rattle.nqs_store.proofs.store.host_in.Goals as goal

@@ -1,7 +1,7 @@
 use Rattle.std.proofs.Common.{sym, subst, ◌∙◌}
 use Rattle.std.proofs.lemmas.Option.{same_Some}
 use Rattle.std.proofs.lemmas.Result.{err_from_is_err_and}
-use Rattle.nqs_types.specs.State.{content}
+use Rattle.nqs_state.specs.State.{content}
 use Rattle.nqs_spool.specs.Extents.{AreSound}
 use Rattle.nqs_store.specs.Live.{live}
 use Rattle.nqs_store.proofs.Never.{host_not, extents_not}

@@ -1,5 +1,5 @@
 use Rattle.std.proofs.Common.{◌≡◌, ◌∙◌, true, [], refl, ap, sym, subst, Ok, Some, None}
-use Rattle.nqs_host.specs.Running.{runs_only}
+use Rattle.nqs_changes.specs.Running.{runs_only}
 use Rattle.nqs_store.specs.Told.{read_taken}
 use Rattle.nqs_store.specs.Sound.{IsSoundHost}
 use Rattle.nqs_records.specs.Changes.{MayStand}

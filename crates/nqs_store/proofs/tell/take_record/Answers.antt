@@ -1,12 +1,12 @@
 use Rattle.std.proofs.Common.{◌∙◌, ap, sym, subst, true, ◌≡◌}
-use Rattle.nqs_types.specs.State.{content}
+use Rattle.nqs_state.specs.State.{content}
 use Rattle.nqs_rules.specs.Applied.{applied}
 use Rattle.nqs_rules.specs.Fits.{fits}
 use Rattle.nqs_rules.proofs.ChangesOrder.{applied_order}
 use Rattle.nqs_rules.proofs.ChangesConsistent.{applied_consistent}
 use Rattle.nqs_records.proofs.SaneLaws.{what_may_stand_is_sane}
-use Rattle.nqs_host.specs.Running.{runs_only}
-use Rattle.nqs_host.proofs.Running.{what_may_run}
+use Rattle.nqs_changes.specs.Running.{runs_only}
+use Rattle.nqs_changes.proofs.Running.{what_may_run}
 use Rattle.nqs_store.specs.Sound.{IsSoundHost}
 use Rattle.nqs_store.proofs.tell.take_record.Goals as goal
 

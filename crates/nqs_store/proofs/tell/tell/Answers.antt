@@ -1,9 +1,9 @@
 use Rattle.std.proofs.Common.{◌≡◌, ◌+◌, ◌∙◌, ◌++◌, ◌∷◌, [], take, drop, length, slice_get, refl, sym, ap, arith, Some, None, ◌^◌}
 use Rattle.std.proofs.lemmas.Result.{err_from_is_err_and}
-use Rattle.nqs_types.specs.State.{content}
+use Rattle.nqs_state.specs.State.{content}
 use Rattle.nqs_journal.specs.Text.{header, records}
 use Rattle.nqs_journal.proofs.Readings.{gate_more}
-use Rattle.nqs_host.specs.Running.{runs_only}
+use Rattle.nqs_changes.specs.Running.{runs_only}
 use Rattle.nqs_store.specs.Told.{record_taken, told}
 use Rattle.nqs_store.proofs.Lists.{take-at, get_at}
 use Rattle.nqs_store.proofs.Telling.{told_one, told_more, next_within, parted, refused_untold, bad_first, bad_later}

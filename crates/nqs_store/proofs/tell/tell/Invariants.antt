@@ -1,7 +1,7 @@
 use Rattle.std.proofs.Common.{◌≡◌, ℕ, List, take, ◌∷◌, ◌++◌, length, Some, IsTrue}
-use Rattle.nqs_types.specs.State.{content}
+use Rattle.nqs_state.specs.State.{content}
 use Rattle.nqs_journal.specs.Text.{header, records}
-use Rattle.nqs_host.specs.Running.{runs_only}
+use Rattle.nqs_changes.specs.Running.{runs_only}
 use Rattle.nqs_store.specs.Told.{told}
 use Rattle.nqs_store.specs.Sound.{IsSoundHost}
 use Rattle.nqs_store.proofs.tell.tell.Given as goal

@@ -1,5 +1,5 @@
 use Rattle.std.proofs.Common.{List, map, take}
-use Rattle.nqs_types.specs.declared.tear.Tear.{Tear}
+use Rattle.nqs_values.specs.declared.tear.Tear.{Tear}
 use Rattle.nqs_rules.specs.World.{Host}
 use Rattle.nqs_table.specs.Standing.{StandForEach}
 use Rattle.nqs_net.specs.Worlds.{AreSlots}

@@ -1,6 +1,6 @@
 use Rattle.std.proofs.Common.{◌⊎◌, inl, inr, ◌++◌, IsTrue, Err, [], Some, refl, sym, ap, subst, ◌∙◌}
 use Rattle.std.specs.List.{filter_map}
-use Rattle.nqs_types.specs.State.{Plain, content}
+use Rattle.nqs_state.specs.State.{Plain, content}
 use Rattle.nqs_types.specs.declared.change.Change.TheVariants.{Boot}
 use Rattle.nqs_types.specs.declared.world.Which.{Which}
 use Rattle.nqs_types.specs.declared.world.Which.TheVariants.{First, Spool}

@@ -1,5 +1,5 @@
 use Rattle.std.proofs.Common.{◌≡◌, ◌⊎◌, IsTrue, Err, refl, sym, ap, subst, ◌∙◌}
-use Rattle.nqs_types.specs.State.{Plain}
+use Rattle.nqs_state.specs.State.{Plain}
 use Rattle.nqs_store.specs.Stores as store
 use Rattle.nqs_store.specs.declared.fault.StoreFault.TheVariants as fault
 use Rattle.nqs_node.specs.Carried.{IsOneOrOther, IsBlown, IsCutBy}

@@ -1,6 +1,6 @@
 use Rattle.std.proofs.Common.{◌≡◌, ◌++◌, ◌<◌, ◌≤◌, ◌^◌, length, Some, refl, sym, ap, subst, arith, ◌∙◌}
 use Rattle.std.specs.List.{AllByRecursion}
-use Rattle.nqs_types.specs.State.{content}
+use Rattle.nqs_state.specs.State.{content}
 use Rattle.nqs_outside.specs.History.{content as bytes_now}
 use Rattle.nqs_journal.specs.Text.{StandsFor}
 use Rattle.nqs_spool.specs.Spooled as spool

@@ -1,0 +1,6 @@
+pub mod Fresh
+pub mod Places
+pub mod Losses
+pub mod Refused
+pub mod Running
+pub mod Booted

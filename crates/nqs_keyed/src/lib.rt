@@ -1,0 +1,7 @@
+//! Values in order of creation, each found by its key.
+#![tactic(auto)]
+
+mod held;
+mod table;
+
+pub use table::Table;
