@@ -4,3 +4,4 @@ pub mod Planned
 pub mod Coherence
 pub mod Exact
 pub mod Known
+pub mod Told

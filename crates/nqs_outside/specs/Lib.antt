@@ -1,3 +1,5 @@
 pub mod Causes
 pub mod History
 pub mod Memory
+pub mod Told
+pub mod Asked
