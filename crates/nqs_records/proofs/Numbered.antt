@@ -28,7 +28,7 @@ abbrev pub AllFind : {A : Type 0} → (A → Type 0) → (A → List ℕ) → �
 AllFind {A} IsValue spelling k [] = ⊤
 AllFind {A} IsValue spelling k (r ∷ rs) = Finds IsValue spelling k r × AllFind IsValue spelling (suc k) rs
 
-same_pair : {A : Type 0} (a b : A) (m n : ℕ) → ◌≡◌ {A = Read (A × ℕ)} (Ok (a, m)) (Ok (b, n)) → (a ≡ b) × (m ≡ n)
+pub same_pair : {A : Type 0} (a b : A) (m n : ℕ) → ◌≡◌ {A = Read (A × ℕ)} (Ok (a, m)) (Ok (b, n)) → (a ≡ b) × (m ≡ n)
 same_pair a b m n e = let p = same_Ok (a, m) (b, n) e in (ap (λ v. v.0) p, ap (λ v. v.1) p)
 
 pub finds : {A T : Type 0} {IsT : T → Type 0} {f : T → List ℕ} {r : Reading T} {IsValue : A → Type 0} {spelling : A → List ℕ} (k : ℕ) (make : T → A)
@@ -54,7 +54,7 @@ nth_finds IsValue spelling (r ∷ rs) k zero n other is never all bytes place va
     subst (λ (m : ℕ). IsOfKind IsValue spelling m bytes place value next) (same_number k n is) (all.0 bytes place value next fits e)
 nth_finds IsValue spelling (r ∷ rs) k (suc i) n other is never all bytes place value next fits e = nth_finds IsValue spelling rs (suc k) i n other (omega (arith, is)) never all.1 bytes place value next fits e
 
-numbered_finds : {A : Type 0} (IsValue : A → Type 0) (spelling : A → List ℕ) (rs : List (Reading A)) (n : ℕ) (other : Reading A)
+pub numbered_finds : {A : Type 0} (IsValue : A → Type 0) (spelling : A → List ℕ) (rs : List (Reading A)) (n : ℕ) (other : Reading A)
     → ((bytes : List ℕ) (place : ℕ) (v : A × ℕ) → other bytes place ≡ Ok v → ⊥) → AllFind IsValue spelling 1 rs → Finds IsValue spelling n (numbered rs n other)
 numbered_finds IsValue spelling rs zero other never all bytes place value next fits e = absurd (never bytes place (value, next) e)
 numbered_finds IsValue spelling rs (suc i) other never all bytes place value next fits e = nth_finds IsValue spelling rs 1 i (suc i) other (omega arith) never all bytes place value next fits e

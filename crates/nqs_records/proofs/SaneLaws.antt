@@ -30,14 +30,14 @@ seen : (bs : List ℕ) → ((i : ℕ) → i < length bs → IsTrue (is_visible (
 seen [] all = refl
 seen (b ∷ bs) all = and_from (is_visible b) (list_all is_visible bs) (all 0 (omega arith)) (seen bs (λ i less. all (suc i) (omega (arith, less))))
 
-test : (n m : ℕ) → n ≤ m → nat_le n m ≡ true
+pub test : (n m : ℕ) → n ≤ m → nat_le n m ≡ true
 test n m few = grind (arith, nat_tests)
 
 is_not : (t : Bool) → t ≡ false → not t ≡ true
 is_not true is = cc
 is_not false is = refl
 
-path_sane : (p : List ℕ) → IsPath p → is_path p ≡ true
+pub path_sane : (p : List ℕ) → IsPath p → is_path p ≡ true
 path_sane [] path = absurd (omega (arith, path.some))
 path_sane (b ∷ bs) path =
     let first = and_parts (is_visible b) (not (b == 47)) (path.allowed 0 path.some) in
@@ -54,7 +54,7 @@ job_sane j is = and_from _ _ (and_from _ _ is.2 (path_sane j.out is.8)) (path_sa
 starts_sane : (n : ℕ) → IsTrue (is_at_most 65534 n) → nat_lt n 65535 ≡ true
 starts_sane n is = grind (arith, nat_tests)
 
-carried_sane : (c : Carried) → IsCarried c → is_sane_carried c ≡ true
+pub carried_sane : (c : Carried) → IsCarried c → is_sane_carried c ≡ true
 carried_sane c is = and_from _ _ (and_from _ _ (and_from _ _ (and_from _ _ is.0.0 (job_sane c.job is.1)) (starts_sane c.starts is.2)) is.3) is.4
 
 site_sane : (me : HostId) (n : ℕ) → IsTrue (is_site_count me n) → (nat_lt me.0 n && nat_le n 16) ≡ true

@@ -11,7 +11,7 @@ use Rattle.nqs_records.proofs.Numbers.{not_below}
 use Rattle.nqs_records.proofs.Chains.{bind}
 use Rattle.nqs_records.proofs.KindLaws.{change_found, change_taken}
 
-nothing_left : (n : ℕ) (l : List ℕ) → length l ≤ n → drop n l ≡ []
+pub nothing_left : (n : ℕ) (l : List ℕ) → length l ≤ n → drop n l ≡ []
 nothing_left zero [] few = refl
 nothing_left zero (b ∷ bs) few = absurd (omega (arith, few))
 nothing_left (suc n) [] few = refl
@@ -21,7 +21,7 @@ whole : (t : Bool) (x : RecordFault) (a b : HostChange) → cond t (Err x) (Ok a
 whole true x a b e = cc
 whole false x a b e = (refl, cc)
 
-none_behind : (n m : ℕ) → n ≡ m → nat_lt n m ≡ false
+pub none_behind : (n m : ℕ) → n ≡ m → nat_lt n m ≡ false
 none_behind n m is = grind (arith, nat_tests)
 
 is_spelled : (bytes : List ℕ) (c : HostChange) → AreBytes bytes → record_of bytes ≡ Ok c → (bytes ≡ spelling c) × MayStand c

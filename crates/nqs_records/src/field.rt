@@ -16,7 +16,8 @@ pub(crate) fn as_fault(fault: FieldFault) -> RecordFault
     }
 }
 
-pub(crate) fn read_u8(bytes: &[u8], place: u64) -> Result<(u8, u64), RecordFault>
+/// The number of one byte at the place.
+pub fn read_u8(bytes: &[u8], place: u64) -> Result<(u8, u64), RecordFault>
     ensures { result ≡ u8_at bytes.now place }
 {
     match take_u8(bytes, place) {
@@ -25,7 +26,8 @@ pub(crate) fn read_u8(bytes: &[u8], place: u64) -> Result<(u8, u64), RecordFault
     }
 }
 
-pub(crate) fn read_u16(bytes: &[u8], place: u64) -> Result<(u16, u64), RecordFault>
+/// The number of two bytes at the place.
+pub fn read_u16(bytes: &[u8], place: u64) -> Result<(u16, u64), RecordFault>
     ensures { result ≡ u16_at bytes.now place }
 {
     match take_u16(bytes, place) {
@@ -34,7 +36,8 @@ pub(crate) fn read_u16(bytes: &[u8], place: u64) -> Result<(u16, u64), RecordFau
     }
 }
 
-pub(crate) fn read_u32(bytes: &[u8], place: u64) -> Result<(u32, u64), RecordFault>
+/// The number of four bytes at the place.
+pub fn read_u32(bytes: &[u8], place: u64) -> Result<(u32, u64), RecordFault>
     ensures { result ≡ u32_at bytes.now place }
 {
     match take_u32(bytes, place) {
@@ -43,7 +46,8 @@ pub(crate) fn read_u32(bytes: &[u8], place: u64) -> Result<(u32, u64), RecordFau
     }
 }
 
-pub(crate) fn read_u64(bytes: &[u8], place: u64) -> Result<(u64, u64), RecordFault>
+/// The number of eight bytes at the place.
+pub fn read_u64(bytes: &[u8], place: u64) -> Result<(u64, u64), RecordFault>
     ensures { result ≡ u64_at bytes.now place }
 {
     match take_u64(bytes, place) {
@@ -52,7 +56,8 @@ pub(crate) fn read_u64(bytes: &[u8], place: u64) -> Result<(u64, u64), RecordFau
     }
 }
 
-pub(crate) fn read_bool(bytes: &[u8], place: u64) -> Result<(bool, u64), RecordFault>
+/// The yes or no at the place.
+pub fn read_bool(bytes: &[u8], place: u64) -> Result<(bool, u64), RecordFault>
     ensures { result ≡ bool_at bytes.now place }
 {
     match take_bool(bytes, place) {
@@ -61,7 +66,8 @@ pub(crate) fn read_bool(bytes: &[u8], place: u64) -> Result<(bool, u64), RecordF
     }
 }
 
-pub(crate) fn read_name(bytes: &[u8], place: u64) -> Result<(Name, u64), RecordFault>
+/// The name at the place.
+pub fn read_name(bytes: &[u8], place: u64) -> Result<(Name, u64), RecordFault>
     ensures { result ≡ name_at bytes.now place }
 {
     match take_name(bytes, place) {

@@ -75,8 +75,9 @@ fn read_lost(bytes: &[u8], place: u64, starts: u16) -> Result<(u16, u64), Record
     }
 }
 
+/// The request on its way that stands at the place.
 #[tactic(auto, unfolding(crate::specs::Parts::carried_at))]
-pub(crate) fn read_carried(
+pub fn read_carried(
     alloc: Global,
     bytes: &[u8],
     place: u64,

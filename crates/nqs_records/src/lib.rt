@@ -8,6 +8,8 @@
 //!
 //! Fields are read in order, and the first fault is the answer. A value that is not all there is `Short`; one that
 //! is there and is past its limits (`specs/Values.antt`, `specs/EditValues.antt`) is `BadField` at its first byte.
+//!
+//! The fields that datagrams share with records are read and put by the same calls.
 #![tactic(auto)]
 
 mod edit_kinds;
@@ -33,5 +35,9 @@ mod write;
 
 pub use extents::put_extents;
 pub use fault::RecordFault;
+pub use field::{read_bool, read_name, read_u8, read_u16, read_u32, read_u64};
+pub use job::read_carried;
+pub use part::{read_host, read_id, read_path};
+pub use put_parts::{put_carried, put_id};
 pub use read::{read_change, reads_the_spelling, what_may_stand_is_sane};
 pub use write::write_change;

@@ -37,8 +37,9 @@ pub(crate) fn read_opt_name(bytes: &[u8], place: u64) -> Result<(Option<Name>, u
     Ok((Some(name), end))
 }
 
+/// The host at the place.
 #[tactic(auto, unfolding(crate::specs::Parts::host_at))]
-pub(crate) fn read_host(bytes: &[u8], place: u64) -> Result<(HostId, u64), RecordFault>
+pub fn read_host(bytes: &[u8], place: u64) -> Result<(HostId, u64), RecordFault>
     ensures { result ≡ host_at bytes.now place }
 {
     let (host, next) = read_u8(bytes, place)?;
@@ -49,8 +50,9 @@ pub(crate) fn read_host(bytes: &[u8], place: u64) -> Result<(HostId, u64), Recor
     }
 }
 
+/// The name of a request at the place.
 #[tactic(auto, unfolding(crate::specs::Parts::id_at))]
-pub(crate) fn read_id(bytes: &[u8], place: u64) -> Result<(RequestId, u64), RecordFault>
+pub fn read_id(bytes: &[u8], place: u64) -> Result<(RequestId, u64), RecordFault>
     ensures { result ≡ id_at bytes.now place }
 {
     let (seq, next) = read_seq(bytes, place)?;
@@ -108,7 +110,8 @@ fn slice_of(bytes: &[u8], extent: Extent) -> &[u8]
     &bytes[start..start + extent.length as usize]
 }
 
-pub(crate) fn read_path(
+/// The path at the place.
+pub fn read_path(
     alloc: Global,
     bytes: &[u8],
     place: u64,

@@ -34,8 +34,9 @@ pub(crate) fn put_opt_name(value: &Option<Name>, out: &mut Vec<u8>) -> Result<()
     put_name(value, out)
 }
 
+/// Puts the name of a request.
 #[tactic(auto, using(crate::proofs::Joined::joined), unfolding(crate::specs::Spelling::id_field))]
-pub(crate) fn put_id(id: RequestId, out: &mut Vec<u8>) -> Result<(), Memory>
+pub fn put_id(id: RequestId, out: &mut Vec<u8>) -> Result<(), Memory>
     ensures { Adds out.old.items (id_field id) result out.new.items }
 {
     put_u32(id.seq, out)?;
@@ -100,8 +101,9 @@ pub(crate) fn put_job(job: &Job, out: &mut Vec<u8>) -> Result<(), Memory>
     put_job_tail(job, out)
 }
 
+/// Puts a request on its way.
 #[tactic(auto, using(crate::proofs::Joined::joined), unfolding(crate::specs::Spelling::carried_field))]
-pub(crate) fn put_carried(carried: &Carried, out: &mut Vec<u8>) -> Result<(), Memory>
+pub fn put_carried(carried: &Carried, out: &mut Vec<u8>) -> Result<(), Memory>
     requires { IsCarried carried.now }
     ensures { Adds out.old.items (carried_field carried.now) result out.new.items }
 {
