@@ -1,7 +1,7 @@
 //! Records by hand from their format: each is read, written again as it was, and faults are at their places.
 
 use nqs_records::{RecordFault, read_change, write_change};
-use nqs_types::{Change, Job};
+use nqs_types::{Change, ConfEdit, Edit, Job};
 use nqs_values::Extent;
 use std::alloc::Global;
 use std::rt::HostRuntime;
@@ -20,7 +20,7 @@ const RECORDS: [&[u8]; 14] = [
     b"\x06\x00\x00\x00\x02\x01\x01\x01o\x00\x00\x00\x00\x00\x00\x00\x00\x00\x00\x00\x05",
     b"\x08",
     b"\x09\x04\x01b",
-    b"\x09\x03\x01p\x01\x00\x00\x00\x00\x00\x00\x00\x3f\x00\x01\x01\x01q\x01h",
+    b"\x09\x03\x01p\x01\x00\x00\x00\x00\x00\x00\x00\x3f\x00\x01\x00\x00\x00\x00\x00\x00\x00\x01\x01\x01q\x01h",
     b"\x09\x28",
     b"\x09\x2e\x00\x00\x00\x07\x05alpha\x00\x00\x00\x00\x00\x00\x00\x05",
     b"\x0a\x02\x00\x00\x00\x00\x00\x00\x00\x01\x00\x00\x00\x03\x00\x01q\x00\x00\x00\x00\x00\x00\x01\x00",
@@ -185,6 +185,86 @@ const PAST_LIMITS: [(&[u8], u8, u64); 8] = [
 #[test]
 fn finds_values_past_their_limits(rt: HostRuntime) {
     for (bytes, kind, place) in &PAST_LIMITS {
+        assert_eq!(rt; fault(rt.alloc(), bytes), Some((*kind, *place)));
+    }
+}
+
+// The records of new queues, and whether these are for pipe queues alone.
+const CREATED: [(&[u8], bool); 6] = [
+    (b"\x09\x01\x01b\x00\x00\x00", false),
+    (
+        b"\x09\x01\x01b\x00\x00\x01\x00\x00\x00\x00\x00\x00\x00\x01",
+        true,
+    ),
+    (
+        b"\x09\x02\x01d\x00\x01\x00\x00\x00\x00\x00\x00\x00\x02\x00",
+        false,
+    ),
+    (
+        b"\x09\x02\x01d\x00\x00\x01\x00\x00\x00\x00\x00\x00\x00\x01",
+        true,
+    ),
+    (b"\x09\x03\x01p\x00\x00\x00\x00", false),
+    (
+        b"\x09\x03\x01p\x00\x00\x01\x00\x00\x00\x00\x00\x00\x00\x01\x01\x01q\x01h",
+        true,
+    ),
+];
+
+fn is_pipe_only(edit: &ConfEdit) -> Option<bool> {
+    match edit {
+        ConfEdit::CreateBatchQueue { pipe_only, .. } => Some(*pipe_only),
+        ConfEdit::CreateDeviceQueue { pipe_only, .. } => Some(*pipe_only),
+        ConfEdit::CreatePipeQueue { pipe_only, .. } => Some(*pipe_only),
+        _ => None,
+    }
+}
+
+fn reads_pipe_only(alloc: Global, bytes: &[u8]) -> Option<bool> {
+    match &read_change(alloc, bytes) {
+        Ok(Change::Edited(Edit::Conf(edit))) => is_pipe_only(edit),
+        _ => None,
+    }
+}
+
+#[test]
+fn reads_new_queues(rt: HostRuntime) {
+    for (bytes, pipe_only) in &CREATED {
+        assert_eq!(rt; reads_pipe_only(rt.alloc(), bytes), Some(*pipe_only));
+        assert!(rt; is_written_again(rt.alloc(), bytes));
+    }
+}
+
+// Flags that are neither left out nor the number 1.
+const NO_FLAGS: [(&[u8], u8, u64); 7] = [
+    (b"\x09\x01\x01b\x00\x00\x02", FIELD, 6),
+    (b"\x09\x01\x01b\x00\x00\x01", SHORT, 7),
+    (
+        b"\x09\x01\x01b\x00\x00\x01\x00\x00\x00\x00\x00\x00\x00",
+        SHORT,
+        14,
+    ),
+    (
+        b"\x09\x01\x01b\x00\x00\x01\x00\x00\x00\x00\x00\x00\x00\x00",
+        FIELD,
+        7,
+    ),
+    (
+        b"\x09\x02\x01d\x00\x00\x01\x00\x00\x00\x00\x00\x00\x00\x02",
+        FIELD,
+        7,
+    ),
+    (
+        b"\x09\x03\x01p\x00\x00\x01\x01\x00\x00\x00\x00\x00\x00\x01\x00",
+        FIELD,
+        7,
+    ),
+    (b"\x09\x01\x01b\x00\x00\x00\x00", TRAILING, 7),
+];
+
+#[test]
+fn finds_what_is_no_flag(rt: HostRuntime) {
+    for (bytes, kind, place) in &NO_FLAGS {
         assert_eq!(rt; fault(rt.alloc(), bytes), Some((*kind, *place)));
     }
 }

@@ -48,20 +48,26 @@ both_read {A} {B} {IsA} {IsB} {fa} {fb} {ra} {rb} one other = record {
       bind (ra bytes place) _ _ _ here (bind (rb value.0 bytes (place + length front)) _ _ _ there (ap (λ (n : ℕ). Ok (value, n)) (longer place front back)));
 }
 
-pub mapped_read : {A B : Type 0} {IsA : A → Type 0} {fa : A → List ℕ} {ra : Reading A} (IsB : B → Type 0) (fb : B → List ℕ) (make : A → B) (part : B → A)
-    → ((b : B) → make (part b) ≡ b) → ((a : A) → IsA a → IsB (make a)) → ((b : B) → IsB b → IsA (part b)) → ((a : A) → fb (make a) ≡ fa a)
+-- as mapped_read, where what is made is spelled alike only of values that may stand
+pub mapped_where : {A B : Type 0} {IsA : A → Type 0} {fa : A → List ℕ} {ra : Reading A} (IsB : B → Type 0) (fb : B → List ℕ) (make : A → B) (part : B → A)
+    → ((b : B) → make (part b) ≡ b) → ((a : A) → IsA a → IsB (make a)) → ((b : B) → IsB b → IsA (part b)) → ((a : A) → IsA a → fb (make a) ≡ fa a)
     → IsRead IsA fa ra → IsRead IsB fb (mapped make ra)
-mapped_read {A} {B} {IsA} {fa} {ra} IsB fb make part again to from spelled one = record {
+mapped_where {A} {B} {IsA} {fa} {ra} IsB fb make part again to from spelled one = record {
   found = λ bytes place value next fits e.
       let a = bound (ra bytes place) (λ a. Ok (make a.0, a.1)) (value, next) e in
       let here = one.found bytes place a.0.0 a.0.1 fits a.1 in
       subst (Found IsB fb bytes place) (same_Ok (make a.0.0, a.0.1) (value, next) a.2)
-      (to a.0.0 here.0, subst (λ (l : List ℕ). Stands bytes place l a.0.1) (sym (spelled a.0.0)) here.1);
+      (to a.0.0 here.0, subst (λ (l : List ℕ). Stands bytes place l a.0.1) (sym (spelled a.0.0 here.0)) here.1);
   taken = λ bytes rest place value fits is_value is.
-      let same : fb value ≡ fa (part value) = ap fb (sym (again value)) ∙ spelled (part value) in
+      let same : fb value ≡ fa (part value) = ap fb (sym (again value)) ∙ spelled (part value) (from value is_value) in
       let here = one.taken bytes rest place (part value) fits (from value is_value) (is ∙ ap (λ (l : List ℕ). l ++ rest) same) in
       bind (ra bytes place) _ _ _ here (λ j. Ok (again value j, place + length (sym same j)));
 }
+
+pub mapped_read : {A B : Type 0} {IsA : A → Type 0} {fa : A → List ℕ} {ra : Reading A} (IsB : B → Type 0) (fb : B → List ℕ) (make : A → B) (part : B → A)
+    → ((b : B) → make (part b) ≡ b) → ((a : A) → IsA a → IsB (make a)) → ((b : B) → IsB b → IsA (part b)) → ((a : A) → fb (make a) ≡ fa a)
+    → IsRead IsA fa ra → IsRead IsB fb (mapped make ra)
+mapped_read IsB fb make part again to from spelled one = mapped_where IsB fb make part again to from (λ a is. spelled a) one
 
 tested : {A : Type 0} (t : Bool) (x : RecordFault) (a b : A) → cond t (Ok a) (Err x) ≡ Ok b → (t ≡ true) × (a ≡ b)
 tested true x a b e = (refl, cc)

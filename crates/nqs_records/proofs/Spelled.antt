@@ -1,7 +1,7 @@
 -- Bytes are read as a change exactly where they are its spelling.
 use Rattle.std.proofs.Common.{◌≡◌, ◌≢◌, ℕ, zero, suc, ◌+◌, ◌≤◌, Bool, true, false, cond, nat_lt, List, [], ◌∷◌, ◌++◌, length, drop, refl, sym, ap, ◌∙◌, subst, arith, append-nil, Ok, Err, IfOk, IfErr}
 use Rattle.std.proofs.lemmas.Bool.Decides.{nat_tests}
-use Rattle.nqs_records.specs.Reading.{Read, ◌>>=◌, is_memory, Answers}
+use Rattle.nqs_records.specs.Reading.{Read, is_memory, Answers}
 use Rattle.nqs_records.specs.Kinds.{HostChange, change_at, record_of}
 use Rattle.nqs_records.specs.Changes.{AreBytes, MayStand, spelling, ReadsTheSpelling, IsSpelledBy, SpellsNone}
 use Rattle.nqs_records.specs.declared.fault.RecordFault.{RecordFault}

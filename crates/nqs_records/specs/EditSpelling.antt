@@ -1,6 +1,6 @@
 -- The one spelling of each edit: its code, and its arguments.
-use Rattle.std.specs.Prelude.{ℕ, List, [], ◌∷◌}
-use Rattle.nqs_codec.specs.Fields.{u8_field, u32_field, u64_field, short_field, bool_field}
+use Rattle.std.specs.Prelude.{ℕ, Bool, true, false, List, [], ◌∷◌, Option, Some, None}
+use Rattle.nqs_codec.specs.Fields.{u8_field, u32_field, u64_field, short_field}
 use Rattle.nqs_types.specs.declared.ids.Named.{Named}
 use Rattle.nqs_types.specs.declared.ids.NamedDest.{NamedDest}
 use Rattle.nqs_types.specs.declared.edit.Edit.{Edit}
@@ -17,6 +17,15 @@ use Rattle.nqs_types.specs.declared.edit.RowsEdit.{RowsEdit}
 use Rattle.nqs_types.specs.declared.edit.RowsEdit.TheVariants.{AbortQueue, HoldRequest, ReleaseRequest, MoveRequest, ModifyRequest}
 use Rattle.nqs_records.specs.Spelling.{fields, opt_field}
 
+-- 1 where it is so, else nothing
+abbrev pub one_if : Bool → Option ℕ
+one_if true = Some 1
+one_if false = None
+
+-- a flag: the number 1, which may be left out
+unfoldable pub flag_field : Bool → List ℕ
+flag_field is_set = opt_field u64_field (one_if is_set)
+
 unfoldable pub dest_field : NamedDest → List ℕ
 dest_field d = fields (short_field d.queue ∷ short_field d.host ∷ [])
 
@@ -24,9 +33,9 @@ unfoldable pub named_field : Named → List ℕ
 named_field n = fields (u32_field n.seq ∷ short_field n.host ∷ [])
 
 unfoldable pub conf_field : ConfEdit → List ℕ
-conf_field (CreateBatchQueue queue priority run_limit pipe_only) = fields (u8_field 1 ∷ short_field queue ∷ opt_field u64_field priority ∷ opt_field u64_field run_limit ∷ bool_field pipe_only ∷ [])
-conf_field (CreateDeviceQueue queue priority run_limit pipe_only) = fields (u8_field 2 ∷ short_field queue ∷ opt_field u64_field priority ∷ opt_field u64_field run_limit ∷ bool_field pipe_only ∷ [])
-conf_field (CreatePipeQueue queue priority run_limit pipe_only destination) = fields (u8_field 3 ∷ short_field queue ∷ opt_field u64_field priority ∷ opt_field u64_field run_limit ∷ bool_field pipe_only ∷ opt_field dest_field destination ∷ [])
+conf_field (CreateBatchQueue queue priority run_limit pipe_only) = fields (u8_field 1 ∷ short_field queue ∷ opt_field u64_field priority ∷ opt_field u64_field run_limit ∷ flag_field pipe_only ∷ [])
+conf_field (CreateDeviceQueue queue priority run_limit pipe_only) = fields (u8_field 2 ∷ short_field queue ∷ opt_field u64_field priority ∷ opt_field u64_field run_limit ∷ flag_field pipe_only ∷ [])
+conf_field (CreatePipeQueue queue priority run_limit pipe_only destination) = fields (u8_field 3 ∷ short_field queue ∷ opt_field u64_field priority ∷ opt_field u64_field run_limit ∷ flag_field pipe_only ∷ opt_field dest_field destination ∷ [])
 conf_field (DeleteQueue queue) = fields (u8_field 4 ∷ short_field queue ∷ [])
 conf_field (EnableQueue queue) = fields (u8_field 5 ∷ short_field queue ∷ [])
 conf_field (DisableQueue queue) = fields (u8_field 6 ∷ short_field queue ∷ [])

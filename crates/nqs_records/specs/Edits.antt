@@ -1,5 +1,5 @@
 -- Readings of edits.
-use Rattle.std.specs.Prelude.{ℕ, List, [], ◌∷◌, Option, Ok}
+use Rattle.std.specs.Prelude.{ℕ, Bool, ◌==◌, is_some, List, [], ◌∷◌, Option, Ok}
 use Rattle.nqs_types.specs.declared.ids.Named.{Named}
 use Rattle.nqs_types.specs.declared.ids.NamedDest.{NamedDest}
 use Rattle.nqs_rules.specs.Conf.{is_wait}
@@ -11,7 +11,7 @@ use Rattle.nqs_types.specs.declared.edit.AccessEdit.TheVariants.{SetUnrestricted
 use Rattle.nqs_types.specs.declared.edit.DevicesEdit.TheVariants.{CreateDevice, DeleteDevice, EnableDevice, DisableDevice, SetForms, AddDevice, RemoveDevice}
 use Rattle.nqs_types.specs.declared.edit.RowsEdit.TheVariants.{AbortQueue, HoldRequest, ReleaseRequest, MoveRequest, ModifyRequest}
 use Rattle.nqs_records.specs.Reading.{Reading, ◌>>=◌, mapped, both, within, numbered, bad_at}
-use Rattle.nqs_records.specs.Fields.{u8_at, u64_at, bool_at, opt_at, name_at}
+use Rattle.nqs_records.specs.Fields.{u8_at, u64_at, opt_at, name_at}
 use Rattle.nqs_records.specs.Values.{is_at_most}
 use Rattle.nqs_records.specs.Parts.{seq_at}
 use Rattle.nqs_records.specs.declared.edit_parts.Created.{Created}
@@ -25,6 +25,10 @@ at_most_at limit = within (is_at_most limit) u64_at
 unfoldable pub wait_at : Reading ℕ
 wait_at = within is_wait u64_at
 
+-- a flag: whether the number 1 is there, where no other may stand
+unfoldable pub flag_at : Reading Bool
+flag_at = mapped (λ n. is_some n) (opt_at (within (λ n. n == 1) u64_at))
+
 unfoldable pub names_at : Reading (List ℕ × List ℕ)
 names_at = both name_at (λ _. name_at)
 
@@ -37,12 +41,12 @@ named_at = mapped (λ v. record { seq = v.0; host = v.1 }) (both seq_at (λ _. n
 unfoldable pub created_at : Reading Created
 created_at =
     mapped (λ v. record { queue = v.0; priority = v.1.0; run_limit = v.1.1.0; pipe_only = v.1.1.1 })
-    (both name_at λ _. both (opt_at (at_most_at 63)) λ _. both (opt_at (at_most_at 10000)) λ _. bool_at)
+    (both name_at λ _. both (opt_at (at_most_at 63)) λ _. both (opt_at (at_most_at 10000)) λ _. flag_at)
 
 unfoldable pub pipe_created_at : Reading Edit
 pipe_created_at =
     mapped (λ v. Conf (CreatePipeQueue v.0 v.1.0 v.1.1.0 v.1.1.1.0 v.1.1.1.1))
-    (both name_at λ _. both (opt_at (at_most_at 63)) λ _. both (opt_at (at_most_at 10000)) λ _. both bool_at λ _. opt_at dest_at)
+    (both name_at λ _. both (opt_at (at_most_at 63)) λ _. both (opt_at (at_most_at 10000)) λ _. both flag_at λ _. opt_at dest_at)
 
 unfoldable pub number_and_name_at : ℕ → Reading (ℕ × List ℕ)
 number_and_name_at limit = both (at_most_at limit) (λ _. name_at)

@@ -2,7 +2,7 @@
 
 ghost use Rattle.std.specs.Prelude.{◌≡◌};
 ghost use Rattle.nqs_records.specs.Fields.{opt_at};
-ghost use Rattle.nqs_records.specs.Edits.{at_most_at, wait_at, dest_at, named_at, created_at, pipe_created_at};
+ghost use Rattle.nqs_records.specs.Edits.{at_most_at, wait_at, flag_at, dest_at, named_at, created_at, pipe_created_at};
 
 use crate::fault::RecordFault;
 use crate::field::{read_bool, read_name, read_u64};
@@ -59,6 +59,23 @@ pub(crate) fn read_wait(bytes: &[u8], place: u64) -> Result<(u64, u64), RecordFa
     }
 }
 
+// A flag: whether the number 1 is there. Any other number is at fault.
+#[tactic(auto, unfolding(crate::specs::Edits::flag_at, crate::specs::Fields::opt_at))]
+fn read_flag(bytes: &[u8], place: u64) -> Result<(bool, u64), RecordFault>
+    ensures { result ≡ flag_at bytes.now place }
+{
+    let (is_set, next) = read_bool(bytes, place)?;
+    if !is_set {
+        return Ok((false, next));
+    }
+    let (number, end) = read_u64(bytes, next)?;
+    if number == 1 {
+        Ok((true, end))
+    } else {
+        Err(RecordFault::BadField(next))
+    }
+}
+
 #[tactic(auto, unfolding(crate::specs::Edits::dest_at, crate::specs::Edits::names_at))]
 pub(crate) fn read_dest(bytes: &[u8], place: u64) -> Result<(NamedDest, u64), RecordFault>
     ensures { result ≡ dest_at bytes.now place }
@@ -96,7 +113,7 @@ pub(crate) fn read_created(bytes: &[u8], place: u64) -> Result<(Created, u64), R
     let (queue, place) = read_name(bytes, place)?;
     let (priority, place) = read_opt_at_most(bytes, place, 63)?;
     let (run_limit, place) = read_opt_at_most(bytes, place, 10_000)?;
-    let (pipe_only, place) = read_bool(bytes, place)?;
+    let (pipe_only, place) = read_flag(bytes, place)?;
     let created = Created {
         queue,
         priority,
@@ -113,7 +130,7 @@ pub(crate) fn read_pipe_created(bytes: &[u8], place: u64) -> Result<(Edit, u64),
     let (queue, place) = read_name(bytes, place)?;
     let (priority, place) = read_opt_at_most(bytes, place, 63)?;
     let (run_limit, place) = read_opt_at_most(bytes, place, 10_000)?;
-    let (pipe_only, place) = read_bool(bytes, place)?;
+    let (pipe_only, place) = read_flag(bytes, place)?;
     let (destination, place) = read_opt_dest(bytes, place)?;
     let edit = ConfEdit::CreatePipeQueue {
         queue,

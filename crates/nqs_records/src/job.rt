@@ -77,11 +77,7 @@ fn read_lost(bytes: &[u8], place: u64, starts: u16) -> Result<(u16, u64), Record
 
 /// The request on its way that stands at the place.
 #[tactic(auto, unfolding(crate::specs::Parts::carried_at))]
-pub fn read_carried(
-    alloc: Global,
-    bytes: &[u8],
-    place: u64,
-) -> Result<(Carried, u64), RecordFault>
+pub fn read_carried(alloc: Global, bytes: &[u8], place: u64) -> Result<(Carried, u64), RecordFault>
     ensures { Answers (carried_at bytes.now place) result }
 {
     let (id, place) = read_id(bytes, place)?;

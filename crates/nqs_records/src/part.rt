@@ -111,11 +111,7 @@ fn slice_of(bytes: &[u8], extent: Extent) -> &[u8]
 }
 
 /// The path at the place.
-pub fn read_path(
-    alloc: Global,
-    bytes: &[u8],
-    place: u64,
-) -> Result<(Bytes, u64), RecordFault>
+pub fn read_path(alloc: Global, bytes: &[u8], place: u64) -> Result<(Bytes, u64), RecordFault>
     ensures { Answers (path_at bytes.now place) result }
 {
     match take_path(bytes, place) {

@@ -1,15 +1,24 @@
 //! Edits, put at the end of a list: a code and the arguments. After `Memory` a part of it may stand there.
 
 ghost use Rattle.std.specs.Prelude.{◌≡◌, ◌∷◌, []};
-ghost use Rattle.nqs_codec.specs.Fields.{u8_field, u64_field, short_field, bool_field};
+ghost use Rattle.nqs_codec.specs.Fields.{u8_field, u64_field, short_field};
 ghost use Rattle.nqs_records.specs.Adds.{Adds};
 ghost use Rattle.nqs_records.specs.Spelling.{fields, opt_field};
-ghost use Rattle.nqs_records.specs.EditSpelling.{dest_field, named_field};
+ghost use Rattle.nqs_records.specs.EditSpelling.{flag_field, dest_field, named_field};
 
 use crate::put_parts::put_opt_u64;
 use nqs_codec::{put_bool, put_name, put_u8, put_u32, put_u64};
 use nqs_types::{Named, NamedDest};
 use nqs_values::{Memory, Name};
+
+// A flag: the number 1, or nothing.
+#[tactic(auto, unfolding(crate::specs::EditSpelling::flag_field))]
+fn put_flag(is_set: bool, out: &mut Vec<u8>) -> Result<(), Memory>
+    ensures { Adds out.old.items (flag_field is_set) result out.new.items }
+{
+    let number = if is_set { Some(1) } else { None };
+    put_opt_u64(&number, out)
+}
 
 #[tactic(auto, using(crate::proofs::Joined::joined), unfolding(crate::specs::EditSpelling::dest_field))]
 fn put_dest(dest: NamedDest, out: &mut Vec<u8>) -> Result<(), Memory>
@@ -163,13 +172,13 @@ pub(crate) fn put_created(
     pipe_only: bool,
     out: &mut Vec<u8>,
 ) -> Result<(), Memory>
-    ensures { Adds out.old.items (fields (u8_field code ∷ short_field queue ∷ opt_field u64_field priority ∷ opt_field u64_field run_limit ∷ bool_field pipe_only ∷ [])) result out.new.items }
+    ensures { Adds out.old.items (fields (u8_field code ∷ short_field queue ∷ opt_field u64_field priority ∷ opt_field u64_field run_limit ∷ flag_field pipe_only ∷ [])) result out.new.items }
 {
     put_u8(code, out)?;
     put_name(&queue, out)?;
     put_opt_u64(&priority, out)?;
     put_opt_u64(&run_limit, out)?;
-    put_bool(pipe_only, out)
+    put_flag(pipe_only, out)
 }
 
 #[tactic(auto, using(crate::proofs::Joined::joined))]
@@ -181,12 +190,12 @@ pub(crate) fn put_pipe_created(
     destination: Option<NamedDest>,
     out: &mut Vec<u8>,
 ) -> Result<(), Memory>
-    ensures { Adds out.old.items (fields (u8_field 3 ∷ short_field queue ∷ opt_field u64_field priority ∷ opt_field u64_field run_limit ∷ bool_field pipe_only ∷ opt_field dest_field destination ∷ [])) result out.new.items }
+    ensures { Adds out.old.items (fields (u8_field 3 ∷ short_field queue ∷ opt_field u64_field priority ∷ opt_field u64_field run_limit ∷ flag_field pipe_only ∷ opt_field dest_field destination ∷ [])) result out.new.items }
 {
     put_u8(3, out)?;
     put_name(&queue, out)?;
     put_opt_u64(&priority, out)?;
     put_opt_u64(&run_limit, out)?;
-    put_bool(pipe_only, out)?;
+    put_flag(pipe_only, out)?;
     put_opt_dest(destination, out)
 }

@@ -1,4 +1,4 @@
-use Rattle.std.proofs.Common.{true, false, ℕ, List, Ok, ap, ◌∙◌, true≢false}
+use Rattle.std.proofs.Common.{ℕ, List, Ok, ap, ◌∙◌, true≢false}
 use Rattle.std.proofs.lemmas.Result.{err_from_is_err_and}
 use Rattle.nqs_records.proofs.Named.{path_taken, path_refused}
 use Rattle.nqs_records.proofs.part.read_path.Goals as goal
