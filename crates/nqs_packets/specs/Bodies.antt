@@ -1,0 +1,67 @@
+-- Readings of what each kind of datagram says.
+use Rattle.std.specs.Prelude.{ℕ, List, [], ◌∷◌, Err}
+use Rattle.nqs_types.specs.declared.message.Body.{Body}
+use Rattle.nqs_types.specs.declared.message.Body.TheVariants.{Offer, Ready, Refused, Commit, Done, Inquire, Abort, Stage, Staged, Ask, Answer, Ended, EndedAck}
+use Rattle.nqs_records.specs.declared.fault.RecordFault.TheVariants.{Kind}
+use Rattle.nqs_records.specs.Values.{is_at_most}
+use Rattle.nqs_records.specs.Reading.{Reading, mapped, both}
+use Rattle.nqs_records.specs.Fields.{u8_at, u16_at, u64_at, bool_at, name_at, path_at}
+use Rattle.nqs_records.specs.Parts.{id_at, carried_at}
+use Rattle.nqs_packets.specs.Parts.{is_any, number_at, cause_at, bytes_at, tool_at, words_at}
+
+unfoldable pub offer_at : Reading Body
+offer_at =
+    mapped (λ v. Offer v.0 v.1.0 v.1.1.0 v.1.1.1)
+    (both number_at λ _. both name_at λ _. both carried_at λ _. bytes_at (is_at_most 32768))
+
+unfoldable pub ready_at : Reading Body
+ready_at = mapped (λ n. Ready n) number_at
+
+unfoldable pub refused_at : Reading Body
+refused_at = mapped (λ v. Refused v.0 v.1) (both number_at λ _. cause_at)
+
+unfoldable pub commit_at : Reading Body
+commit_at = mapped (λ n. Commit n) number_at
+
+unfoldable pub done_at : Reading Body
+done_at = mapped (λ n. Done n) number_at
+
+unfoldable pub inquire_at : Reading Body
+inquire_at = mapped (λ n. Inquire n) number_at
+
+unfoldable pub abort_at : Reading Body
+abort_at = mapped (λ n. Abort n) number_at
+
+unfoldable pub stage_at : Reading Body
+stage_at =
+    mapped (λ v. Stage v.0 v.1.0 v.1.1)
+    (both number_at λ _. both path_at λ _. bytes_at (is_at_most 32768))
+
+unfoldable pub staged_at : Reading Body
+staged_at = mapped (λ n. Staged n) number_at
+
+-- how many words there may be depends on the command
+unfoldable pub ask_at : Reading Body
+ask_at =
+    mapped (λ v. Ask v.0 v.1.0 v.1.1.0 v.1.1.1.0 v.1.1.1.1.0 v.1.1.1.1.1)
+    (both u16_at λ _. both u64_at λ _. both name_at λ _. both tool_at λ tool. both (words_at tool) λ _. bytes_at (is_at_most 32768))
+
+unfoldable pub answer_at : Reading Body
+answer_at = mapped (λ v. Answer v.0 v.1.0 v.1.1) (both u64_at λ _. both bool_at λ _. bytes_at is_any)
+
+unfoldable pub ended_at : Reading Body
+ended_at =
+    mapped (λ v. Ended v.0 v.1.0 v.1.1.0 v.1.1.1.0 v.1.1.1.1.0 v.1.1.1.1.1)
+    (both u16_at λ _. both id_at λ _. both u16_at λ _. both u8_at λ _. both (bytes_at (is_at_most 16384)) λ _. bytes_at (is_at_most 16384))
+
+unfoldable pub ended_ack_at : Reading Body
+ended_ack_at = mapped (λ v. EndedAck v.0 v.1) (both id_at λ _. u16_at)
+
+-- the kinds, in the order of their numbers
+unfoldable pub bodies : List (Reading Body)
+bodies =
+    offer_at ∷ ready_at ∷ refused_at ∷ commit_at ∷ done_at ∷ inquire_at ∷ abort_at ∷ stage_at ∷ staged_at
+    ∷ ask_at ∷ answer_at ∷ ended_at ∷ ended_ack_at ∷ []
+
+abbrev pub no_body : Reading Body
+no_body bytes place = Err (Kind 1)

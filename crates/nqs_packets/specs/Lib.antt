@@ -1,0 +1,6 @@
+pub mod Parts
+pub mod Bodies
+pub mod Spelling
+pub mod Values
+pub mod Reading
+pub mod Messages

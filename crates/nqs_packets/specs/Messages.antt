@@ -1,0 +1,46 @@
+-- Bytes and the messages that they spell.
+use Rattle.std.specs.Prelude.{◌≡◌, ◌↔◌, ℕ, Bool, true, ◌&&◌, List, Ok}
+use Rattle.nqs_types.specs.declared.message.Body.{Body}
+use Rattle.nqs_types.specs.declared.message.Body.TheVariants.{Offer, Ask, Ended}
+use Rattle.nqs_types.specs.declared.message.Message.{Message}
+use Rattle.nqs_rules.specs.Sane.{is_of_site, is_short_script, is_short_output, is_sane_message}
+use Rattle.nqs_records.specs.Changes.{AreBytes}
+use Rattle.nqs_packets.specs.Spelling.{spelling}
+use Rattle.nqs_packets.specs.Values.{MaySend}
+use Rattle.nqs_packets.specs.Reading.{message_of}
+
+-- the message of these bytes
+abbrev pub IsSpelledBy : List ℕ → Message → Type 0
+IsSpelledBy bytes message = (bytes ≡ spelling message) × MaySend message
+
+-- no message has these bytes as its spelling
+abbrev pub SpellsNone : List ℕ → Type 0
+SpellsNone bytes = (message : Message) → MaySend message → bytes ≡ spelling message → ⊥
+
+-- What is read is what was spelled: bytes are read as a message exactly where they are its spelling and it may be sent.
+abbrev pub ReadsTheSpelling : Type 0
+ReadsTheSpelling = (bytes : List ℕ) (message : Message) → AreBytes bytes → message_of bytes ≡ Ok message ↔ (bytes ≡ spelling message) × MaySend message
+
+-- the sender, and the host of an offered request, are of a site of so many hosts
+abbrev pub offers_of_site : ℕ → Body → Bool
+offers_of_site hosts (Offer number queue carried script) = is_of_site hosts carried.id.host
+offers_of_site hosts _ = true
+
+abbrev pub comes_from_site : ℕ → Message → Bool
+comes_from_site hosts message = is_of_site hosts message.from && offers_of_site hosts message.body
+
+-- a message that is read is sane for the rules where its hosts are of the site
+abbrev pub WhatIsReadIsSane : Type 0
+WhatIsReadIsSane =
+    (bytes : List ℕ) (message : Message) (hosts : ℕ) → AreBytes bytes → message_of bytes ≡ Ok message
+    → comes_from_site hosts message ≡ true → is_sane_message hosts message ≡ true
+
+-- scripts and outputs are as short as the rules want them
+abbrev pub is_short_body : Body → Bool
+is_short_body (Ask port token user tool words script) = is_short_script script
+is_short_body (Ended port id start status out err) = is_short_output out && is_short_output err
+is_short_body _ = true
+
+-- a message that is read has them so
+abbrev pub WhatIsReadIsShort : Type 0
+WhatIsReadIsShort = (bytes : List ℕ) (message : Message) → AreBytes bytes → message_of bytes ≡ Ok message → is_short_body message.body ≡ true

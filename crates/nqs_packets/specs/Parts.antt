@@ -1,0 +1,60 @@
+-- Readings of what datagrams have beside the fields of records.
+use Rattle.std.specs.Prelude.{ℕ, ◌+◌, Bool, true, ◌&&◌, ◌==◌, nat_le, nat_lt, List, [], ◌∷◌, length, take, drop, if◌then◌else◌, Ok, Err}
+use Rattle.nqs_types.specs.declared.message.Tool.{Tool}
+use Rattle.nqs_types.specs.declared.message.Tool.TheVariants.{Qsub, Qstat, Qdel, Qmgr, Tick}
+use Rattle.nqs_rules.specs.Sane.{is_offer_refusal}
+use Rattle.nqs_records.specs.declared.fault.RecordFault.TheVariants.{Short}
+use Rattle.nqs_records.specs.Reading.{◌>>=◌, Reading, mapped, both, within, counted, numbered}
+use Rattle.nqs_records.specs.Fields.{u8_at, u16_at, u32_at, u64_at}
+
+-- numbers of handovers and stages
+abbrev pub is_number : ℕ → Bool
+is_number n = nat_le 1 n
+
+unfoldable pub number_at : Reading ℕ
+number_at = within is_number u64_at
+
+-- the number of a refusal of an offer
+unfoldable pub cause_at : Reading ℕ
+cause_at = within is_offer_refusal u8_at
+
+-- ---- bytes
+
+-- so many bytes
+unfoldable pub run_at : ℕ → Reading (List ℕ)
+run_at count bytes place =
+    if nat_lt (length (drop place bytes)) count then Err (Short (length bytes))
+    else Ok (take count (drop place bytes), place + count)
+
+-- bytes behind their length, which passes a test
+unfoldable pub bytes_at : (ℕ → Bool) → Reading (List ℕ)
+bytes_at is_length = mapped (λ v. v.1) (both (within is_length u32_at) λ count. run_at count)
+
+-- any length that four bytes hold
+abbrev pub is_any : ℕ → Bool
+is_any n = true
+
+-- ---- commands of clients
+
+abbrev pub tools : List Tool
+tools = Qsub ∷ Qstat ∷ Qdel ∷ Qmgr ∷ Tick ∷ []
+
+abbrev pub is_tool : ℕ → Bool
+is_tool n = nat_le 1 n && nat_le n 5
+
+abbrev pub tool_of : ℕ → Tool
+tool_of n = numbered tools n Tick
+
+unfoldable pub tool_at : Reading Tool
+tool_at = mapped tool_of (within is_tool u8_at)
+
+-- how many words a command may have: qmgr one, the line, and tick none
+abbrev pub is_word_count : Tool → ℕ → Bool
+is_word_count Qsub n = true
+is_word_count Qstat n = true
+is_word_count Qdel n = true
+is_word_count Qmgr n = n == 1
+is_word_count Tick n = n == 0
+
+unfoldable pub words_at : Tool → Reading (List (List ℕ))
+words_at tool = counted (within (is_word_count tool) u16_at) (bytes_at is_any)
