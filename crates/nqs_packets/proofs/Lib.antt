@@ -1,1 +1,5 @@
 pub mod Joined
+pub mod PartLaws
+pub mod BodyLaws
+pub mod MessageLaws
+pub mod Spelled

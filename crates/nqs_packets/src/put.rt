@@ -1,6 +1,6 @@
 //! Kinds of datagram, put at the end of a list: the fields alone. After `Memory` a part of them may stand there.
 
-ghost use Rattle.std.specs.Prelude.{◌∷◌, [], ◌<◌, ◌^◌, length, flat_map};
+ghost use Rattle.std.specs.Prelude.{◌≡◌, ◌∷◌, [], ◌<◌, ◌^◌, length, flat_map};
 ghost use Rattle.std.specs.List.{AllByRecursion};
 ghost use Rattle.nqs_values.specs.Path.{IsPath};
 ghost use Rattle.nqs_codec.specs.Fields.{u8_field, u16_field, u64_field, bytes_field, short_field, bool_field};
