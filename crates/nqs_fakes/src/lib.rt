@@ -18,3 +18,6 @@ pub use outlet::{FileWritten, MemOutlet};
 pub use printer::{MemPrinter, Printed};
 pub use runner::{JobRun, MemRunner};
 pub use wire::{Item, MemWire, Sent};
+
+#[cfg(test)]
+mod tests;

@@ -1,0 +1,148 @@
+//! Each fake once: none is starved, and the calls fail that are to fail.
+
+use crate::{Item, ListClock, MemLauncher, MemOutlet, MemPrinter, MemRunner, MemWire};
+use nqs_outside::{Address, Clock, Launcher, Outlet, Printer, Received, RunEnd, Runner, Wire};
+use nqs_types::{HostId, LaunchOrder, Limits, RequestId};
+use nqs_values::{Bytes, Items, ListOf, Memory, Name};
+use std::alloc::Global;
+use std::rt::HostRuntime;
+use std::test::Fail;
+
+fn bytes(alloc: Global, bytes: &[u8]) -> Result<Bytes, Memory> {
+    Ok(Bytes::from_vec(Vec::from_slice(alloc, bytes)?))
+}
+
+fn wire(alloc: Global) -> Result<MemWire, Memory> {
+    let mut script = Items::new(alloc);
+    script.push(Item::Datagram(bytes(alloc, b"abcd")?))?;
+    script.push(Item::Quiet)?;
+    let receives = Vec::from_slice(alloc, &[2])?;
+    let sends = Vec::from_slice(alloc, &[1])?;
+    Ok(MemWire::new(alloc, script, receives, sends))
+}
+
+#[test]
+fn receives_what_the_script_has(rt: HostRuntime) -> Result<(), Fail> {
+    let mut wire = wire(rt.alloc())?;
+    let mut buf = [0u8; 3];
+    let first = wire.receive(&mut buf) == Ok(Received::Datagram(3)) && buf == *b"abc";
+    let second = wire.receive(&mut buf).is_err() && wire.script().len() == 1;
+    let third = wire.receive(&mut buf) == Ok(Received::Quiet);
+    let fourth = wire.receive(&mut buf) == Ok(Received::Quiet);
+    let kept = wire.received().len() == 3 && !wire.is_starved();
+    drop(wire);
+    assert_eq!(rt; [first, second, third, fourth, kept], [true; 5]);
+    Ok(())
+}
+
+fn has_sent(wire: &MemWire) -> bool {
+    match wire.sent() {
+        [first, second] => {
+            first.to == Address::Client(9)
+                && first.bytes.as_slice() == b"a".as_slice()
+                && second.to == Address::Host(HostId(1))
+                && second.bytes.len() == 0
+        }
+        _ => false,
+    }
+}
+
+#[test]
+fn keeps_what_was_to_be_sent(rt: HostRuntime) -> Result<(), Fail> {
+    let mut wire = wire(rt.alloc())?;
+    let first = wire.send(Address::Client(9), b"a").is_err();
+    let second = wire.send(Address::Host(HostId(1)), b"").is_ok();
+    let kept = has_sent(&wire) && !wire.is_starved();
+    drop(wire);
+    assert_eq!(rt; [first, second, kept], [true; 3]);
+    Ok(())
+}
+
+const ID: RequestId = RequestId {
+    seq: 7,
+    host: HostId(0),
+};
+
+fn order(name: Name) -> LaunchOrder {
+    LaunchOrder {
+        id: ID,
+        start: 1,
+        name,
+        owner: name,
+        queue: name,
+        limits: Limits {
+            cpu: None,
+            memory: None,
+        },
+    }
+}
+
+#[test]
+fn keeps_jobs_prints_and_files(rt: HostRuntime) -> Result<(), Fail> {
+    let alloc = rt.alloc();
+    let Ok(name) = Name::read(b"laser") else {
+        return Ok(());
+    };
+    let mut launcher = MemLauncher::new(alloc, Vec::from_slice(alloc, &[2])?);
+    let mut printer = MemPrinter::new(alloc, Vec::from_slice(alloc, &[1])?);
+    let mut outlet = MemOutlet::new(alloc, Vec::new(alloc));
+    let launcher_is_right = launcher.launch(&order(name), b"date").is_ok()
+        && launcher.kill(ID, 1).is_err()
+        && launcher.kept().len() == 2
+        && !launcher.is_starved();
+    let printer_is_right = printer.print(&name, &order(name), b"text").is_err()
+        && printer.print(&name, &order(name), b"text").is_ok()
+        && printer.kept().len() == 2
+        && !printer.is_starved();
+    let outlet_is_right = outlet.write_file(b"a/b", b"text").is_ok()
+        && outlet.kept().len() == 1
+        && !outlet.is_starved();
+    drop(launcher);
+    drop(printer);
+    drop(outlet);
+    assert_eq!(rt; [launcher_is_right, printer_is_right, outlet_is_right], [true; 3]);
+    Ok(())
+}
+
+fn status_of(runner: &mut MemRunner) -> Option<u8> {
+    match runner.run(ID, 1) {
+        Ok(end) => Some(end.status),
+        Err(_) => None,
+    }
+}
+
+#[test]
+fn answers_its_ends(rt: HostRuntime) -> Result<(), Fail> {
+    let alloc = rt.alloc();
+    let end = RunEnd {
+        status: 3,
+        out: bytes(alloc, b"42")?,
+        err: Bytes::new(alloc),
+    };
+    let ends = Items::of(alloc, end)?;
+    let mut runner = MemRunner::new(alloc, ends, Vec::from_slice(alloc, &[1])?);
+    let statuses = [
+        status_of(&mut runner),
+        status_of(&mut runner),
+        status_of(&mut runner),
+    ];
+    let kept = runner.kept().len() == 3 && !runner.is_starved();
+    drop(runner);
+    assert_eq!(rt; (statuses, kept), ([None, Some(3), None], true));
+    Ok(())
+}
+
+#[test]
+fn gives_its_moments(rt: HostRuntime) -> Result<(), Fail> {
+    let alloc = rt.alloc();
+    let moments = ListOf::from_vec(Vec::from_slice(alloc, &[5, 4])?);
+    if moments.len() == 0 {
+        return Ok(());
+    }
+    let mut clock = ListClock::new(alloc, moments);
+    let given = [clock.now(), clock.now(), clock.now()];
+    let kept = clock.given().len() == 3 && !clock.is_starved();
+    drop(clock);
+    assert_eq!(rt; (given, kept), ([5, 4, 4], true));
+    Ok(())
+}
