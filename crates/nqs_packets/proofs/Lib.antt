@@ -3,3 +3,4 @@ pub mod PartLaws
 pub mod BodyLaws
 pub mod MessageLaws
 pub mod Spelled
+pub mod SaneLaws

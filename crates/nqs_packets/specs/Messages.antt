@@ -1,12 +1,15 @@
 -- Bytes and the messages that they spell.
 use Rattle.std.specs.Prelude.{◌≡◌, ◌↔◌, ℕ, Bool, true, ◌&&◌, List, Ok}
+use Rattle.nqs_values.specs.Name.{IsName}
+use Rattle.nqs_types.specs.declared.request.Job.{Job}
 use Rattle.nqs_types.specs.declared.message.Body.{Body}
-use Rattle.nqs_types.specs.declared.message.Body.TheVariants.{Offer, Ask, Ended}
+use Rattle.nqs_types.specs.declared.message.Body.TheVariants.{Offer, Ready, Refused, Commit, Done, Inquire, Abort, Stage, Staged, Ask, Answer, Ended, EndedAck}
 use Rattle.nqs_types.specs.declared.message.Message.{Message}
 use Rattle.nqs_rules.specs.Sane.{is_of_site, is_short_script, is_short_output, is_sane_message}
 use Rattle.nqs_records.specs.Changes.{AreBytes}
 use Rattle.nqs_packets.specs.Spelling.{spelling}
-use Rattle.nqs_packets.specs.Values.{MaySend}
+use Rattle.nqs_records.specs.Values.{IsU8, IsU64, IsOpt, IsHost}
+use Rattle.nqs_packets.specs.Values.{IsNumber, MaySend}
 use Rattle.nqs_packets.specs.Reading.{message_of}
 
 -- the message of these bytes
@@ -44,3 +47,27 @@ is_short_body _ = true
 -- a message that is read has them so
 abbrev pub WhatIsReadIsShort : Type 0
 WhatIsReadIsShort = (bytes : List ℕ) (message : Message) → AreBytes bytes → message_of bytes ≡ Ok message → is_short_body message.body ≡ true
+
+-- a job's names and numbers, as the code's types have them
+abbrev pub IsTypedJob : Job → Type 0
+IsTypedJob j = IsName j.name × IsName j.owner × IsU64 j.earliest × IsOpt IsU64 j.limits.cpu × IsOpt IsU64 j.limits.memory × IsOpt IsName j.forms
+
+-- what a host says to a host: its number is from 1 on, its names and numbers are as the code's types have them
+abbrev pub IsSaid : Body → Type 0
+IsSaid (Offer number queue carried script) = IsNumber number × IsName queue × IsTypedJob carried.job
+IsSaid (Ready number) = IsNumber number
+IsSaid (Refused number cause) = IsNumber number × IsU8 cause
+IsSaid (Commit number) = IsNumber number
+IsSaid (Done number) = IsNumber number
+IsSaid (Inquire number) = IsNumber number
+IsSaid (Abort number) = IsNumber number
+IsSaid (Stage number path bytes) = IsNumber number
+IsSaid (Staged number) = IsNumber number
+IsSaid (Ask port token user tool words script) = ⊥
+IsSaid (Answer token ok text) = ⊥
+IsSaid (Ended port id start status out err) = ⊥
+IsSaid (EndedAck id start) = ⊥
+
+-- what a host says may be sent where the rules call it sane
+abbrev pub WhatIsSaneMaySend : Type 0
+WhatIsSaneMaySend = (message : Message) → IsSaid message.body → IsHost message.to → is_sane_message 16 message ≡ true → MaySend message

@@ -7,7 +7,7 @@ use nqs_records::RecordFault;
 use nqs_values::Memory;
 
 /// The first thing that is wrong with bytes that are no datagram. Places are counted from 0.
-#[derive(Clone, Copy, Debug)]
+#[derive(Clone, Copy, Debug, PartialEq, Eq)]
 pub enum PacketFault {
     /// The bytes end before the datagram does. The place is that of their end.
     Short(u64),

@@ -1,0 +1,133 @@
+-- What is read is sane for the rules, and what is sane may be sent.
+use Rattle.std.proofs.Common.{◌≡◌, ℕ, zero, suc, ◌+◌, ◌<◌, ◌≤◌, ◌^◌, Bool, true, false, not, ◌&&◌, ◌==◌, nat_le, nat_lt, IsTrue, List, [], ◌∷◌, length, slice_index, refl, arith}
+use Rattle.std.specs.List.{list_all}
+use Rattle.std.proofs.lemmas.Bool.{and_parts, and_from}
+use Rattle.std.proofs.lemmas.Bool.Decides.{nat_tests}
+use Rattle.nqs_values.specs.Path.{IsPath, is_path, is_visible, has_parent, begins_with_slash, PathAllowedBelow}
+use Rattle.nqs_types.specs.declared.request.Job.{Job}
+use Rattle.nqs_types.specs.declared.request.Carried.{Carried}
+use Rattle.nqs_types.specs.declared.message.Body.{Body}
+use Rattle.nqs_types.specs.declared.message.Body.TheVariants.{Offer, Ready, Refused, Commit, Done, Inquire, Abort, Stage, Staged, Ask, Answer, Ended, EndedAck}
+use Rattle.nqs_types.specs.declared.message.Message.{Message}
+use Rattle.nqs_rules.specs.Sane.{is_of_site, is_offer_refusal, is_sane_id, is_sane_job, is_sane_carried, is_short_script, is_short_output, is_sane_body}
+use Rattle.nqs_records.specs.Values.{is_at_most, is_host, IsJob, IsCarried, IsHost}
+use Rattle.nqs_records.proofs.SaneLaws.{path_sane, carried_sane}
+use Rattle.nqs_packets.specs.Values.{IsShort, IsBody}
+use Rattle.nqs_packets.specs.Messages.{offers_of_site, WhatIsReadIsSane, is_short_body, WhatIsReadIsShort, IsTypedJob, IsSaid, WhatIsSaneMaySend}
+use Rattle.nqs_packets.proofs.Spelled.{is_spelled}
+
+body_sane : (hosts : ℕ) (b : Body) → IsBody b → offers_of_site hosts b ≡ true → is_sane_body hosts b ≡ true
+body_sane hosts (Offer n q c s) ok of_site = and_from _ _ (and_from _ _ (and_from _ _ ok.0.0 (carried_sane c ok.2)) of_site) ok.3.0
+body_sane hosts (Ready n) ok of_site = refl
+body_sane hosts (Refused n cause) ok of_site = and_from _ _ ok.0.0 ok.1.0
+body_sane hosts (Commit n) ok of_site = refl
+body_sane hosts (Done n) ok of_site = refl
+body_sane hosts (Inquire n) ok of_site = refl
+body_sane hosts (Abort n) ok of_site = refl
+body_sane hosts (Stage n path output) ok of_site = and_from _ _ (and_from _ _ ok.0.0 (path_sane path ok.1)) ok.2.0
+body_sane hosts (Staged n) ok of_site = refl
+body_sane hosts (Ask port token user tool words script) ok of_site = refl
+body_sane hosts (Answer token good text) ok of_site = refl
+body_sane hosts (Ended port id start status output error) ok of_site = refl
+body_sane hosts (EndedAck id start) ok of_site = refl
+
+pub what_is_read_is_sane : WhatIsReadIsSane
+what_is_read_is_sane bytes m hosts fits is of_site =
+    let p = and_parts (is_of_site hosts m.from) (offers_of_site hosts m.body) of_site in
+    and_from _ _ p.0 (body_sane hosts m.body (is_spelled bytes m fits is).1.2 p.1)
+
+body_short : (b : Body) → IsBody b → is_short_body b ≡ true
+body_short (Offer n q c s) ok = refl
+body_short (Ready n) ok = refl
+body_short (Refused n cause) ok = refl
+body_short (Commit n) ok = refl
+body_short (Done n) ok = refl
+body_short (Inquire n) ok = refl
+body_short (Abort n) ok = refl
+body_short (Stage n path output) ok = refl
+body_short (Staged n) ok = refl
+body_short (Ask port token user tool words script) ok = ok.4.0
+body_short (Answer token good text) ok = refl
+body_short (Ended port id start status output error) ok = and_from _ _ ok.4.0 ok.5.0
+body_short (EndedAck id start) ok = refl
+
+pub what_is_read_is_short : WhatIsReadIsShort
+what_is_read_is_short bytes m fits is = body_short m.body (is_spelled bytes m fits is).1.2
+
+-- ---- the other way
+
+all_seen : (bs : List ℕ) → list_all is_visible bs ≡ true → (i : ℕ) → i < length bs → IsTrue (is_visible (slice_index bs i))
+all_seen [] all i less = absurd (omega (arith, less))
+all_seen (b ∷ bs) all zero less = (and_parts (is_visible b) (list_all is_visible bs) all).0
+all_seen (b ∷ bs) all (suc i) less = all_seen bs (and_parts (is_visible b) (list_all is_visible bs) all).1 i (omega (arith, less))
+
+allowed : (p : List ℕ) → list_all is_visible p ≡ true → not (begins_with_slash p) ≡ true → PathAllowedBelow p (length p)
+allowed [] all first i less = absurd (omega (arith, less))
+allowed (b ∷ bs) all first zero less = and_from _ _ (all_seen (b ∷ bs) all 0 less) first
+allowed (b ∷ bs) all first (suc i) less = all_seen (b ∷ bs) all (suc i) less
+
+is_none : (t : Bool) → not t ≡ true → t ≡ false
+is_none true is = cc
+is_none false is = refl
+
+at_least : (m n : ℕ) → nat_le m n ≡ true → m ≤ n
+at_least m n is = grind (arith, nat_tests)
+
+path_is : (p : List ℕ) → is_path p ≡ true → IsPath p
+path_is p is =
+    let a = and_parts (nat_le 1 (length p) && nat_le (length p) 255 && list_all is_visible p && not (begins_with_slash p)) (not (has_parent p)) is in
+    let b = and_parts (nat_le 1 (length p) && nat_le (length p) 255 && list_all is_visible p) (not (begins_with_slash p)) a.0 in
+    let c = and_parts (nat_le 1 (length p) && nat_le (length p) 255) (list_all is_visible p) b.0 in
+    let d = and_parts (nat_le 1 (length p)) (nat_le (length p) 255) c.0 in
+    record {
+      some = at_least 1 (length p) d.0;
+      few = at_least (length p) 255 d.1;
+      allowed = allowed p c.1 b.1;
+      below = is_none (has_parent p) a.1;
+    }
+
+short_is : (limit : ℕ) (l : List ℕ) → limit < 2 ^ 32 → nat_le (length l) limit ≡ true → IsShort limit l
+short_is limit l small is = let few = at_least (length l) limit is in (is, omega (arith, few, small))
+
+job_is : (j : Job) → IsTypedJob j → is_sane_job j ≡ true → IsJob j
+job_is j typed sane =
+    let a = and_parts (nat_le j.priority 63 && is_path j.out) (is_path j.err) sane in
+    let b = and_parts (nat_le j.priority 63) (is_path j.out) a.0 in
+    (typed.0, typed.1, b.0, typed.2, tt, typed.3, typed.4, typed.5, path_is j.out b.1, path_is j.err a.1, tt)
+
+starts_are : (n : ℕ) → nat_lt n 65535 ≡ true → IsTrue (is_at_most 65534 n)
+starts_are n is = grind (arith, nat_tests)
+
+carried_is : (c : Carried) → IsTypedJob c.job → IsHost c.id.host → is_sane_carried c ≡ true → IsCarried c
+carried_is c typed host sane =
+    let a = and_parts (is_sane_id c.id && is_sane_job c.job && nat_lt c.starts 65535 && c.lost == c.starts) (nat_le c.hops 32) sane in
+    let b = and_parts (is_sane_id c.id && is_sane_job c.job && nat_lt c.starts 65535) (c.lost == c.starts) a.0 in
+    let d = and_parts (is_sane_id c.id && is_sane_job c.job) (nat_lt c.starts 65535) b.0 in
+    let e = and_parts (is_sane_id c.id) (is_sane_job c.job) d.0 in
+    ((e.0, host), job_is c.job typed e.1, starts_are c.starts d.1, b.1, a.1)
+
+body_is : (b : Body) → IsSaid b → is_sane_body 16 b ≡ true → IsBody b
+body_is (Offer n q c s) said sane =
+    let x = and_parts (nat_le 1 n && is_sane_carried c && is_of_site 16 c.id.host) (is_short_script s) sane in
+    let y = and_parts (nat_le 1 n && is_sane_carried c) (is_of_site 16 c.id.host) x.0 in
+    let z = and_parts (nat_le 1 n) (is_sane_carried c) y.0 in
+    (said.0, said.1, carried_is c said.2 y.1 z.1, short_is 32768 s (omega arith) x.1)
+body_is (Ready n) said sane = said
+body_is (Refused n cause) said sane = (said.0, ((and_parts (nat_le 1 n) (is_offer_refusal cause) sane).1, said.1))
+body_is (Commit n) said sane = said
+body_is (Done n) said sane = said
+body_is (Inquire n) said sane = said
+body_is (Abort n) said sane = said
+body_is (Stage n path output) said sane =
+    let x = and_parts (nat_le 1 n && is_path path) (is_short_script output) sane in
+    (said, path_is path (and_parts (nat_le 1 n) (is_path path) x.0).1, short_is 32768 output (omega arith) x.1)
+body_is (Staged n) said sane = said
+body_is (Ask port token user tool words script) said sane = absurd said
+body_is (Answer token good text) said sane = absurd said
+body_is (Ended port id start status output error) said sane = absurd said
+body_is (EndedAck id start) said sane = absurd said
+
+pub what_is_sane_may_be_sent : WhatIsSaneMaySend
+what_is_sane_may_be_sent m said to sane =
+    let p = and_parts (is_of_site 16 m.from) (is_sane_body 16 m.body) sane in
+    (p.0, to, body_is m.body said p.1)

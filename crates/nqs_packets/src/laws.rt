@@ -1,0 +1,23 @@
+//! Laws for callers, which call a function for its contract; it does nothing.
+
+ghost use Rattle.nqs_packets.specs.Messages.{ReadsTheSpelling, WhatIsReadIsSane, WhatIsReadIsShort, WhatIsSaneMaySend};
+
+/// Bytes are read as a message exactly where they are its spelling and it may be sent.
+pub fn reads_the_spelling()
+    ensures { ReadsTheSpelling }
+{}
+
+/// A message that is read is one that the rules call sane, where its hosts are of the site.
+pub fn what_is_read_is_sane()
+    ensures { WhatIsReadIsSane }
+{}
+
+/// The scripts and outputs of a message that is read are as short as the rules want them.
+pub fn what_is_read_is_short()
+    ensures { WhatIsReadIsShort }
+{}
+
+/// A message that the rules call sane may be sent, where its numbers and names are those of the code's types.
+pub fn what_is_sane_may_be_sent()
+    ensures { WhatIsSaneMaySend }
+{}
