@@ -1,7 +1,5 @@
 -- A message behind the version is read as it is spelled.
-use Rattle.std.proofs.Common.{◌≡◌, ℕ, ◌+◌, ◌<◌, ◌^◌, Bool, true, cond, List, [], ◌∷◌, ◌++◌, length, drop, refl, sym, ap, ◌∙◌, subst, arith, length-append, append_assoc, append-nil, Ok, Err}
-use Rattle.std.proofs.lemmas.Bool.Decides.{nat_tests}
-use Rattle.nqs_types.specs.declared.ids.HostId.{HostId}
+use Rattle.std.proofs.Common.{◌≡◌, ℕ, ◌+◌, ◌<◌, ◌^◌, true, cond, List, [], ◌∷◌, ◌++◌, length, drop, refl, sym, ap, ◌∙◌, subst, arith, length-append, append_assoc, append-nil, Ok, Err}
 use Rattle.nqs_types.specs.declared.message.Body.{Body}
 use Rattle.nqs_types.specs.declared.message.Body.TheVariants.{Offer, Ready, Refused, Commit, Done, Inquire, Abort, Stage, Staged, Ask, Answer, Ended, EndedAck}
 use Rattle.nqs_types.specs.declared.message.Message.{Message}
@@ -9,15 +7,13 @@ use Rattle.nqs_codec.specs.Fields.{u8_field}
 use Rattle.nqs_codec.specs.Takes.{Stands}
 use Rattle.nqs_codec.proofs.Places.{rest_is}
 use Rattle.nqs_codec.proofs.Lengths.{two_stand}
-use Rattle.nqs_records.specs.declared.fault.RecordFault.{RecordFault}
 use Rattle.nqs_records.specs.declared.fault.RecordFault.TheVariants.{Kind}
-use Rattle.nqs_records.specs.Reading.{Read, Reading, ◌>>=◌, numbered}
+use Rattle.nqs_records.specs.Reading.{numbered}
 use Rattle.nqs_records.specs.Fields.{u8_at}
 use Rattle.nqs_records.specs.Parts.{host_at}
 use Rattle.nqs_records.specs.Spelling.{fields}
-use Rattle.nqs_records.specs.Values.{IsHost}
 use Rattle.nqs_records.specs.Changes.{AreBytes}
-use Rattle.nqs_records.proofs.IsRead.{IsRead, bound}
+use Rattle.nqs_records.proofs.IsRead.{bound}
 use Rattle.nqs_records.proofs.Numbers.{u8_read}
 use Rattle.nqs_records.proofs.Numbered.{numbered_finds}
 use Rattle.nqs_records.proofs.Chains.{Found, bind, same_Ok}

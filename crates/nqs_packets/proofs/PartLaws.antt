@@ -1,12 +1,12 @@
 -- The laws of what datagrams have beside the fields of records.
-use Rattle.std.proofs.Common.{◌≡◌, ℕ, zero, suc, ◌+◌, ◌<◌, ◌≤◌, ◌^◌, Bool, true, false, cond, ◌&&◌, nat_lt, nat_le, IsTrue, List, [], ◌∷◌, ◌++◌, length, take, drop, refl, sym, ap, ◌∙◌, subst, arith, length-append, take_at, length-take-le, Ok, Err}
+use Rattle.std.proofs.Common.{◌≡◌, ℕ, zero, suc, ◌+◌, ◌<◌, ◌≤◌, ◌^◌, Bool, true, false, cond, nat_lt, nat_le, IsTrue, List, ◌++◌, length, take, drop, refl, sym, ap, ◌∙◌, subst, arith, length-append, take_at, length-take-le, Ok, Err}
 use Rattle.std.specs.Prelude.{⊤}
 use Rattle.std.proofs.lemmas.Bool.{and_parts}
 use Rattle.std.proofs.lemmas.Bool.Decides.{nat_tests}
 use Rattle.nqs_types.specs.declared.message.Tool.{Tool}
 use Rattle.nqs_types.specs.declared.message.Tool.TheVariants.{Qsub, Qstat, Qdel, Qmgr, Tick}
 use Rattle.nqs_rules.specs.Sane.{is_offer_refusal}
-use Rattle.nqs_codec.specs.Fields.{u8_field, u16_field, u32_field, u64_field, bytes_field}
+use Rattle.nqs_codec.specs.Fields.{u8_field, u32_field, u64_field, bytes_field}
 use Rattle.nqs_codec.specs.Takes.{Stands, IsLong}
 use Rattle.nqs_codec.proofs.Places.{part_stands}
 use Rattle.nqs_records.specs.declared.fault.RecordFault.{RecordFault}
@@ -15,7 +15,6 @@ use Rattle.nqs_records.specs.Reading.{Reading, Read, mapped, within}
 use Rattle.nqs_records.specs.Values.{is_at_most}
 use Rattle.nqs_records.proofs.IsRead.{IsRead, bound}
 use Rattle.nqs_records.proofs.Numbers.{not_below, u8_read, u16_read, u32_read, u64_read}
-use Rattle.nqs_records.proofs.Numbered.{same_pair}
 use Rattle.nqs_records.proofs.Chains.{Found, bind, same_Ok, both_read, within_read, counted_read}
 use Rattle.nqs_packets.specs.Parts.{is_number, number_at, cause_at, run_at, bytes_at, is_any, is_tool, tool_of, tool_at, is_word_count, words_at}
 use Rattle.nqs_packets.specs.Spelling.{tool_number, words_field}

@@ -1,5 +1,5 @@
 -- What is read is sane for the rules, and what is sane may be sent.
-use Rattle.std.proofs.Common.{◌≡◌, ℕ, zero, suc, ◌+◌, ◌<◌, ◌≤◌, ◌^◌, Bool, true, false, not, ◌&&◌, ◌==◌, nat_le, nat_lt, IsTrue, List, [], ◌∷◌, length, slice_index, refl, arith}
+use Rattle.std.proofs.Common.{◌≡◌, ℕ, zero, suc, ◌<◌, ◌≤◌, ◌^◌, Bool, true, false, not, ◌&&◌, ◌==◌, nat_le, nat_lt, IsTrue, List, [], ◌∷◌, length, slice_index, refl, arith}
 use Rattle.std.specs.List.{list_all}
 use Rattle.std.proofs.lemmas.Bool.{and_parts, and_from}
 use Rattle.std.proofs.lemmas.Bool.Decides.{nat_tests}
@@ -8,9 +8,8 @@ use Rattle.nqs_types.specs.declared.request.Job.{Job}
 use Rattle.nqs_types.specs.declared.request.Carried.{Carried}
 use Rattle.nqs_types.specs.declared.message.Body.{Body}
 use Rattle.nqs_types.specs.declared.message.Body.TheVariants.{Offer, Ready, Refused, Commit, Done, Inquire, Abort, Stage, Staged, Ask, Answer, Ended, EndedAck}
-use Rattle.nqs_types.specs.declared.message.Message.{Message}
-use Rattle.nqs_rules.specs.Sane.{is_of_site, is_offer_refusal, is_sane_id, is_sane_job, is_sane_carried, is_short_script, is_short_output, is_sane_body}
-use Rattle.nqs_records.specs.Values.{is_at_most, is_host, IsJob, IsCarried, IsHost}
+use Rattle.nqs_rules.specs.Sane.{is_of_site, is_offer_refusal, is_sane_id, is_sane_job, is_sane_carried, is_short_script, is_sane_body}
+use Rattle.nqs_records.specs.Values.{is_at_most, IsJob, IsCarried, IsHost}
 use Rattle.nqs_records.proofs.SaneLaws.{path_sane, carried_sane}
 use Rattle.nqs_packets.specs.Values.{IsShort, IsBody}
 use Rattle.nqs_packets.specs.Messages.{offers_of_site, WhatIsReadIsSane, is_short_body, WhatIsReadIsShort, IsTypedJob, IsSaid, WhatIsSaneMaySend}

@@ -1,5 +1,5 @@
 -- Readings of what each kind of datagram says.
-use Rattle.std.specs.Prelude.{ℕ, List, [], ◌∷◌, Err}
+use Rattle.std.specs.Prelude.{List, [], ◌∷◌, Err}
 use Rattle.nqs_types.specs.declared.message.Body.{Body}
 use Rattle.nqs_types.specs.declared.message.Body.TheVariants.{Offer, Ready, Refused, Commit, Done, Inquire, Abort, Stage, Staged, Ask, Answer, Ended, EndedAck}
 use Rattle.nqs_records.specs.declared.fault.RecordFault.TheVariants.{Kind}

@@ -4,7 +4,7 @@ use Rattle.nqs_types.specs.declared.message.Tool.{Tool}
 use Rattle.nqs_types.specs.declared.message.Tool.TheVariants.{Qsub, Qstat, Qdel, Qmgr, Tick}
 use Rattle.nqs_rules.specs.Sane.{is_offer_refusal}
 use Rattle.nqs_records.specs.declared.fault.RecordFault.TheVariants.{Short}
-use Rattle.nqs_records.specs.Reading.{◌>>=◌, Reading, mapped, both, within, counted, numbered}
+use Rattle.nqs_records.specs.Reading.{Reading, mapped, both, within, counted, numbered}
 use Rattle.nqs_records.specs.Fields.{u8_at, u16_at, u32_at, u64_at}
 
 -- numbers of handovers and stages

@@ -1,5 +1,5 @@
 -- The messages that may be sent.
-use Rattle.std.specs.Prelude.{ℕ, Bool, List, length, IsTrue}
+use Rattle.std.specs.Prelude.{ℕ, List, length, IsTrue}
 use Rattle.nqs_values.specs.Name.{IsName}
 use Rattle.nqs_values.specs.Path.{IsPath}
 use Rattle.nqs_types.specs.declared.message.Body.{Body}

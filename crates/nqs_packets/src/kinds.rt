@@ -6,13 +6,18 @@ ghost use Rattle.nqs_packets.specs.Bodies.{offer_at, ready_at, refused_at, commi
 
 use crate::part::{read_bytes, read_cause, read_number, read_short_bytes, read_tool, read_words};
 use nqs_records::{
-    RecordFault, read_bool, read_carried, read_id, read_name, read_path, read_u8, read_u16, read_u64,
+    RecordFault, read_bool, read_carried, read_id, read_name, read_path, read_u8, read_u16,
+    read_u64,
 };
 use nqs_types::Body;
 use std::alloc::Global;
 
 #[tactic(auto, unfolding(crate::specs::Bodies::offer_at))]
-pub(crate) fn read_offer(alloc: Global, bytes: &[u8], place: u64) -> Result<(Body, u64), RecordFault>
+pub(crate) fn read_offer(
+    alloc: Global,
+    bytes: &[u8],
+    place: u64,
+) -> Result<(Body, u64), RecordFault>
     ensures { Answers (offer_at bytes.now place) result }
 {
     let (number, place) = read_number(bytes, place)?;
@@ -78,7 +83,11 @@ pub(crate) fn read_abort(bytes: &[u8], place: u64) -> Result<(Body, u64), Record
 }
 
 #[tactic(auto, unfolding(crate::specs::Bodies::stage_at))]
-pub(crate) fn read_stage(alloc: Global, bytes: &[u8], place: u64) -> Result<(Body, u64), RecordFault>
+pub(crate) fn read_stage(
+    alloc: Global,
+    bytes: &[u8],
+    place: u64,
+) -> Result<(Body, u64), RecordFault>
     ensures { Answers (stage_at bytes.now place) result }
 {
     let (number, place) = read_number(bytes, place)?;
@@ -136,7 +145,11 @@ pub(crate) fn read_answer(
 }
 
 #[tactic(auto, unfolding(crate::specs::Bodies::ended_at))]
-pub(crate) fn read_ended(alloc: Global, bytes: &[u8], place: u64) -> Result<(Body, u64), RecordFault>
+pub(crate) fn read_ended(
+    alloc: Global,
+    bytes: &[u8],
+    place: u64,
+) -> Result<(Body, u64), RecordFault>
     ensures { Answers (ended_at bytes.now place) result }
 {
     let (port, place) = read_u16(bytes, place)?;

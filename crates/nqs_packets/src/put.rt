@@ -122,12 +122,7 @@ pub(crate) fn put_ask(
 }
 
 #[tactic(auto, using(crate::proofs::Joined::joined))]
-pub(crate) fn put_answer(
-    token: u64,
-    ok: bool,
-    text: &[u8],
-    out: &mut Vec<u8>,
-) -> Result<(), Memory>
+pub(crate) fn put_answer(token: u64, ok: bool, text: &[u8], out: &mut Vec<u8>) -> Result<(), Memory>
     requires { IsLong text.now }
     ensures { Adds out.old.items (fields (u64_field token ∷ bool_field ok ∷ bytes_field text.now ∷ [])) result out.new.items }
 {

@@ -16,12 +16,7 @@ use nqs_types::{Body, Message};
 use std::alloc::Global;
 
 #[tactic(auto, unfolding(crate::specs::Bodies::bodies))]
-fn read_body(
-    alloc: Global,
-    kind: u8,
-    bytes: &[u8],
-    place: u64,
-) -> Result<(Body, u64), RecordFault>
+fn read_body(alloc: Global, kind: u8, bytes: &[u8], place: u64) -> Result<(Body, u64), RecordFault>
     ensures { Answers (numbered bodies kind no_body bytes.now place) result }
 {
     match kind {

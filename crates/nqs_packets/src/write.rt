@@ -84,7 +84,15 @@ fn put_body(body: &Body, out: &mut Vec<u8>) -> Result<(), Memory>
             status,
             out: output,
             err,
-        } => put_ended(*port, *id, *start, *status, output.as_slice(), err.as_slice(), out),
+        } => put_ended(
+            *port,
+            *id,
+            *start,
+            *status,
+            output.as_slice(),
+            err.as_slice(),
+            out,
+        ),
         Body::EndedAck { id, start } => put_ended_ack(*id, *start, out),
     }
 }
