@@ -1,0 +1,37 @@
+//! The system's clock.
+
+ghost use Rattle.std.specs.Prelude.{None};
+
+use nqs_outside::Clock;
+use std::rt::HostRuntime;
+use std::time::{SystemTime, UNIX_EPOCH};
+
+/// The system's clock. Where it can't be read, or stands before 1970, the last moment that it gave stands for it, at first 0.
+#[derive(Drop)]
+pub struct SystemClock {
+    rt: HostRuntime,
+    last: u64,
+}
+
+impl SystemClock {
+    pub fn new(rt: HostRuntime) -> SystemClock {
+        SystemClock { rt, last: 0 }
+    }
+}
+
+fn seconds(rt: &HostRuntime) -> Option<u64> {
+    let now = SystemTime::now(rt).ok()?;
+    let since = now.duration_since(UNIX_EPOCH).ok()?;
+    Some(since.as_secs())
+}
+
+impl Clock for SystemClock {
+    ghost given = { λ _. None };
+
+    fn now(&mut self) -> u64 {
+        if let Some(seconds) = seconds(&self.rt) {
+            self.last = seconds;
+        }
+        self.last
+    }
+}

@@ -1,0 +1,150 @@
+//! Files as disks.
+
+ghost use Rattle.std.specs.Prelude.{◌≡◌, ◌≤◌, ◌+◌, ◌^◌, IfOk, OnOk, length, false, []};
+ghost use Rattle.nqs_outside.specs.History.{fresh};
+
+use crate::counted::counted;
+use crate::folder::sync_folder;
+use nqs_outside::{Disk, Failed};
+use std::fs::{File, OpenOptions};
+use std::io;
+use std::io::ErrorKind;
+use std::os::unix::fs::{FileExt, OpenOptionsExt};
+use std::rt::HostRuntime;
+
+/// No disk is longer: 2^40 bytes.
+const LONGEST: u64 = 1 << 40;
+
+/// A file as a disk. Trusted: that the file's bytes are those that were written, and that a sync which answered Ok left them
+/// on the device.
+#[derive(Drop)]
+pub struct FileDisk {
+    file: File,
+    faults: u64,
+}
+
+impl FileDisk {
+    /// Opens the file of this name in a folder. Where it isn't there it is made, for its owner alone, and the folder synced.
+    /// The file is synced, so nothing is pending on the disk. A file longer than 2^40 bytes is refused.
+    pub fn open(rt: &HostRuntime, folder: &str, name: &str) -> io::Result<FileDisk>
+        ensures { IfOk result (λ disk. disk.faults ≡ 0) }
+    {
+        let path = format!(in rt.alloc(); "{folder}/{name}")?;
+        let file = open_or_make(rt, folder, &path)?;
+        file.sync_all()?;
+        let disk = FileDisk { file, faults: 0 };
+        disk.length()?;
+        Ok(disk)
+    }
+
+    // How long it is.
+    fn length(&self) -> io::Result<u64>
+        ensures { IfOk result (λ n. n ≤ 2 ^ 40) }
+    {
+        within_longest(self.file.metadata()?.len())
+    }
+
+    // Reads until the buffer is full or the file at its end.
+    fn fill(&self, place: u64, buf: &mut [u8]) -> io::Result<usize>
+        ensures within { IfOk result (λ n. n ≤ length buf.old) }
+        ensures same_length { length buf.new ≡ length buf.old }
+    {
+        let mut filled = 0;
+        // Each read but the last brings a byte at least.
+        for _ in 0..=buf.len() {
+            let Some(here) = place.checked_add(filled as u64) else {
+                return Err(io::Error::from(ErrorKind::InvalidInput));
+            };
+            let count = self.file.read_at(&mut buf[filled..], here)?;
+            if count == 0 {
+                break;
+            }
+            filled += count;
+        }
+        Ok(filled)
+    }
+
+    fn put(&self, place: u64, bytes: &[u8]) -> io::Result<()>
+        ensures { OnOk result (place + length bytes.now ≤ 2 ^ 40) }
+    {
+        let Some(end) = place.checked_add(bytes.len() as u64) else {
+            return Err(io::Error::from(ErrorKind::FileTooLarge));
+        };
+        within_longest(end)?;
+        self.file.write_all_at(bytes, place)
+    }
+}
+
+fn within_longest(length: u64) -> io::Result<u64>
+    ensures { IfOk result (λ n. (n ≡ length) × (length ≤ 2 ^ 40)) }
+{
+    if length > LONGEST {
+        return Err(io::Error::from(ErrorKind::FileTooLarge));
+    }
+    Ok(length)
+}
+
+fn open_or_make(rt: &HostRuntime, folder: &str, path: &str) -> io::Result<File> {
+    let mut options = OpenOptions::new();
+    options.read(true).write(true);
+    match options.open(rt, path) {
+        Ok(file) => Ok(file),
+        Err(e) if e.kind() == ErrorKind::NotFound => {
+            let file = options.create_new(true).mode(0o600).open(rt, path)?;
+            sync_folder(rt, folder)?;
+            Ok(file)
+        }
+        Err(e) => Err(e),
+    }
+}
+
+impl Disk for FileDisk {
+    ghost tells = { false };
+
+    ghost history = { λ _. record { start = []; calls = [] } };
+
+    ghost fails = { λ _ _. false };
+
+    ghost starved = { λ _. false };
+
+    ghost faults = { λ disk. disk.faults };
+
+    fn len(&mut self) -> Result<u64, Failed> {
+        let made = self.length();
+        counted(made, &mut self.faults)
+    }
+
+    fn read_at(&mut self, place: u64, buf: &mut [u8]) -> Result<usize, Failed> {
+        let made = self.fill(place, buf);
+        counted(made, &mut self.faults)
+    }
+
+    fn write_at(&mut self, place: u64, bytes: &[u8]) -> Result<(), Failed> {
+        let made = self.put(place, bytes);
+        counted(made, &mut self.faults)
+    }
+
+    fn sync(&mut self) -> Result<(), Failed> {
+        let made = self.file.sync_data();
+        counted(made, &mut self.faults)
+    }
+}
+
+/// The four disks of a host.
+#[derive(Drop)]
+pub struct HostDisks {
+    pub root: FileDisk,
+    pub first: FileDisk,
+    pub second: FileDisk,
+    pub spool: FileDisk,
+}
+
+/// Opens the disks in the folder of a host, by `FileDisk::open`: the files `root`, `first`, `second` and `spool`.
+pub fn open_disks(rt: &HostRuntime, folder: &str) -> io::Result<HostDisks> {
+    Ok(HostDisks {
+        root: FileDisk::open(rt, folder, "root")?,
+        first: FileDisk::open(rt, folder, "first")?,
+        second: FileDisk::open(rt, folder, "second")?,
+        spool: FileDisk::open(rt, folder, "spool")?,
+    })
+}

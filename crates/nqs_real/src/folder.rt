@@ -1,0 +1,87 @@
+//! Folders: that of a host, and the lock of its daemon.
+
+use crate::site::SiteHost;
+use nqs_types::{HostId, RequestId};
+use nqs_values::Name;
+use std::fs::{DirBuilder, File, OpenOptions};
+use std::io;
+use std::io::ErrorKind;
+use std::os::unix::fs::{DirBuilderExt, OpenOptionsExt};
+use std::rt::HostRuntime;
+
+/// Makes what stands in the folder outlast a stop: that a file is there, and under which name.
+pub fn sync_folder(rt: &HostRuntime, folder: &str) -> io::Result<()> {
+    File::open(rt, folder)?.sync_all()
+}
+
+/// Makes a folder for its owner alone, where it isn't there. Did it?
+pub fn make_private(rt: &HostRuntime, path: &str) -> io::Result<bool> {
+    let mut builder = DirBuilder::new();
+    builder.mode(0o700);
+    match builder.create(rt, path) {
+        Ok(()) => Ok(true),
+        Err(e) if e.kind() == ErrorKind::AlreadyExists => Ok(false),
+        Err(e) => Err(e),
+    }
+}
+
+/// The path of a folder in another. Where it isn't there it is made, and the other is synced.
+pub fn make_folder(rt: &HostRuntime, parent: &str, name: &str) -> io::Result<String> {
+    let path = format!(in rt.alloc(); "{parent}/{name}")?;
+    if make_private(rt, &path)? {
+        sync_folder(rt, parent)?;
+    }
+    Ok(path)
+}
+
+/// A name as text: its bytes are letters, digits, `_` and `-`.
+pub fn name_text(name: &Name) -> io::Result<&str> {
+    match str::from_utf8(name.as_bytes()) {
+        Ok(text) => Ok(text),
+        Err(_) => Err(io::Error::from(ErrorKind::InvalidData)),
+    }
+}
+
+/// The name of a host of the site. Another host is an `Err`.
+pub fn host_text(site: &[SiteHost], host: HostId) -> io::Result<&str> {
+    match site.get(host.0 as usize) {
+        Some(host) => name_text(&host.name),
+        None => Err(io::Error::from(ErrorKind::InvalidInput)),
+    }
+}
+
+/// A request as users write it: `SEQ.HOST`.
+pub fn request_text(rt: &HostRuntime, site: &[SiteHost], id: RequestId) -> io::Result<String> {
+    let host = host_text(site, id.host)?;
+    Ok(format!(in rt.alloc(); "{}.{host}", id.seq)?)
+}
+
+/// The folder `DIR/HOST` of a host of the site, which is made where it isn't there. All that a host keeps stands below it.
+pub fn make_host_folder(
+    rt: &HostRuntime,
+    dir: &str,
+    site: &[SiteHost],
+    host: HostId,
+) -> io::Result<String> {
+    make_folder(rt, dir, host_text(site, host)?)
+}
+
+/// The lock of a host's folder. The system gives it back when the value is dropped, or the process ends.
+#[derive(Drop)]
+pub struct HostLock {
+    _file: File,
+}
+
+impl HostLock {
+    /// Locks the file `lock` in the folder of a host. Where another process has the lock it fails at once, with `WouldBlock`.
+    pub fn take(rt: &HostRuntime, folder: &str) -> io::Result<HostLock> {
+        let path = format!(in rt.alloc(); "{folder}/lock")?;
+        let file = OpenOptions::new()
+            .write(true)
+            .create(true)
+            .mode(0o600)
+            .open(rt, &path)?;
+        file.try_lock()?;
+        Ok(HostLock { _file: file })
+    }
+}

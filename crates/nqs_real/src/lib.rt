@@ -1,0 +1,32 @@
+//! The real outside of a host: files, a socket, child processes, the system's clock, standard streams. Each adapter counts its
+//! failed calls and tells nothing; what the system then does with a call is trusted. `docs/real.md` has the files below a folder,
+//! what a job finds around it, and what may outlive it.
+#![tactic(auto)]
+
+mod clock;
+mod counted;
+mod disk;
+mod folder;
+mod launcher;
+mod order;
+mod outlet;
+mod printer;
+mod put;
+mod runner;
+mod session;
+mod site;
+mod streams;
+#[cfg(test)]
+mod tests;
+mod wire;
+
+pub use clock::SystemClock;
+pub use disk::{FileDisk, HostDisks, open_disks};
+pub use folder::{HostLock, make_host_folder};
+pub use launcher::{ShepherdLauncher, own_program};
+pub use outlet::FileOutlet;
+pub use printer::FilePrinter;
+pub use runner::ShellRunner;
+pub use site::{SiteFault, SiteHost, names_of, read_site};
+pub use streams::{Reading, Writing, fill_streams};
+pub use wire::UdpWire;

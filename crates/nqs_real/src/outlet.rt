@@ -1,0 +1,42 @@
+//! Files of jobs' outputs.
+
+ghost use Rattle.std.specs.Prelude.{None};
+
+use crate::counted::counted;
+use crate::folder::make_folder;
+use crate::put::put_file;
+use nqs_outside::{Failed, Outlet};
+use std::io;
+use std::rt::HostRuntime;
+
+/// The files below the folder `output` of a host's folder, each at its path. A path that leads out of it is a failed call.
+/// Trusted: that no job puts a link there that leads elsewhere.
+#[derive(Drop)]
+pub struct FileOutlet {
+    rt: HostRuntime,
+    folder: String,
+    faults: u64,
+}
+
+impl FileOutlet {
+    /// The outlet in the folder of a host. Where the folder `output` isn't there it is made.
+    pub fn open(rt: HostRuntime, folder: &str) -> io::Result<FileOutlet> {
+        let folder = make_folder(&rt, folder, "output")?;
+        Ok(FileOutlet {
+            rt,
+            folder,
+            faults: 0,
+        })
+    }
+}
+
+impl Outlet for FileOutlet {
+    ghost filings = { λ _. None };
+
+    ghost faults = { λ outlet. outlet.faults };
+
+    fn write_file(&mut self, path: &[u8], bytes: &[u8]) -> Result<(), Failed> {
+        let made = put_file(&self.rt, &self.folder, path, bytes);
+        counted(made, &mut self.faults)
+    }
+}

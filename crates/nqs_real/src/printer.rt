@@ -1,0 +1,54 @@
+//! Files in place of devices.
+
+ghost use Rattle.std.specs.Prelude.{None};
+
+use crate::counted::counted;
+use crate::folder::{make_folder, name_text, request_text};
+use crate::put::put_file;
+use crate::site::SiteHost;
+use nqs_outside::{Failed, Printer};
+use nqs_types::LaunchOrder;
+use nqs_values::Name;
+use std::io;
+use std::rt::HostRuntime;
+
+/// A folder for each device, below the folder `printed` of a host's folder: what is printed is the file `DEVICE/SEQ.HOST.START`.
+#[derive(Drop)]
+pub struct FilePrinter {
+    rt: HostRuntime,
+    folder: String,
+    site: Vec<SiteHost>,
+    faults: u64,
+}
+
+impl FilePrinter {
+    /// The printer in the folder of a host. Where the folder `printed` isn't there it is made.
+    pub fn open(rt: HostRuntime, folder: &str, site: &[SiteHost]) -> io::Result<FilePrinter> {
+        let folder = make_folder(&rt, folder, "printed")?;
+        let site = site.to_vec(rt.alloc())?;
+        Ok(FilePrinter {
+            rt,
+            folder,
+            site,
+            faults: 0,
+        })
+    }
+
+    fn put(&self, device: &Name, order: &LaunchOrder, bytes: &[u8]) -> io::Result<()> {
+        let device = name_text(device)?;
+        let request = request_text(&self.rt, &self.site, order.id)?;
+        let path = format!(in self.rt.alloc(); "{device}/{request}.{}", order.start)?;
+        put_file(&self.rt, &self.folder, path.as_bytes(), bytes)
+    }
+}
+
+impl Printer for FilePrinter {
+    ghost prints = { λ _. None };
+
+    ghost faults = { λ printer. printer.faults };
+
+    fn print(&mut self, device: &Name, order: &LaunchOrder, bytes: &[u8]) -> Result<(), Failed> {
+        let made = self.put(device, order, bytes);
+        counted(made, &mut self.faults)
+    }
+}

@@ -1,0 +1,77 @@
+//! Files that are whole or not there: written beside their place, synced, and then put there.
+
+use crate::folder::{make_private, sync_folder};
+use std::fs::{OpenOptions, rename};
+use std::io;
+use std::io::{ErrorKind, Write};
+use std::os::unix::fs::OpenOptionsExt;
+use std::rt::HostRuntime;
+
+/// The longest path, in bytes.
+const LONGEST: usize = 255;
+
+/// Does the path name a file below the folder that it starts from: 1 to 255 bytes that are seen, no `/` in front, and no part `..`?
+pub fn is_below(path: &str) -> bool {
+    let fits = !path.is_empty() && path.len() <= LONGEST;
+    let is_seen = path.bytes().all(|byte| byte.is_ascii_graphic());
+    let climbs = path.split('/').any(|part| part == "..");
+    fits && is_seen && !climbs && !path.starts_with('/')
+}
+
+fn path_text(path: &[u8]) -> io::Result<&str> {
+    match str::from_utf8(path) {
+        Ok(text) if is_below(text) => Ok(text),
+        _ => Err(io::Error::from(ErrorKind::InvalidInput)),
+    }
+}
+
+fn write_new(rt: &HostRuntime, path: &str, bytes: &[u8]) -> io::Result<()> {
+    let mut file = OpenOptions::new()
+        .write(true)
+        .create(true)
+        .truncate(true)
+        .mode(0o600)
+        .open(rt, path)?;
+    file.write_all(bytes)?;
+    file.sync_all()
+}
+
+// Where a `/` stands at this place of the path, makes the folder before it.
+fn make_at(rt: &HostRuntime, folder: &str, path: &str, place: usize) -> io::Result<()> {
+    let Some(front) = folder_at(path, place) else {
+        return Ok(());
+    };
+    make_private(rt, &format!(in rt.alloc(); "{folder}/{front}")?)?;
+    Ok(())
+}
+
+fn sync_at(rt: &HostRuntime, folder: &str, path: &str, place: usize) -> io::Result<()> {
+    match folder_at(path, place) {
+        Some(front) => sync_folder(rt, &format!(in rt.alloc(); "{folder}/{front}")?),
+        None => Ok(()),
+    }
+}
+
+fn folder_at(path: &str, place: usize) -> Option<&str> {
+    match path.split_at_checked(place) {
+        Some((front, rest)) if rest.starts_with('/') => Some(front),
+        _ => None,
+    }
+}
+
+/// Puts a file at a path below the folder, in place of one that was there; folders on its way are made. At Ok it outlasts a stop,
+/// and at an `Err` either file may be there, whole. The bytes are first written to the file `FOLDER.new`.
+pub fn put_file(rt: &HostRuntime, folder: &str, path: &[u8], bytes: &[u8]) -> io::Result<()> {
+    let path = path_text(path)?;
+    let new = format!(in rt.alloc(); "{folder}.new")?;
+    let place = format!(in rt.alloc(); "{folder}/{path}")?;
+    write_new(rt, &new, bytes)?;
+    for end in 0..path.len() {
+        make_at(rt, folder, path, end)?;
+    }
+    rename(rt, &new, &place)?;
+    for end in 0..path.len() {
+        sync_at(rt, folder, path, end)?;
+    }
+    sync_folder(rt, folder)
+}

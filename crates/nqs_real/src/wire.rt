@@ -1,0 +1,155 @@
+//! A UDP socket as a wire.
+
+ghost use Rattle.std.specs.Prelude.{◌≡◌, None, IfOk, length};
+ghost use Rattle.nqs_outside.specs.Asked.{IsWithin};
+
+use crate::counted::counted;
+use crate::site::SiteHost;
+use nqs_outside::{Address, Failed, Received, Wire};
+use nqs_types::HostId;
+use std::io;
+use std::io::ErrorKind;
+use std::net::{Ipv4Addr, SocketAddr, SocketAddrV4, UdpSocket};
+use std::rt::HostRuntime;
+use std::time::{Duration, Instant};
+
+/// A second, in milliseconds: the longest wait.
+const SECOND: u64 = 1000;
+
+/// A UDP socket as a wire. A receive waits at most until the wire's wait is over, which begins at the first receive and anew at
+/// the first one after each `Quiet`. So under any traffic a `Quiet` comes once a wait, and after it the next receive looks at the
+/// socket. Who sent a datagram is not known.
+#[derive(Drop)]
+pub struct UdpWire {
+    rt: HostRuntime,
+    socket: UdpSocket,
+    site: Vec<SiteHost>,
+    wait: Duration,
+    began: Option<Instant>,
+    receive_faults: u64,
+    send_faults: u64,
+}
+
+fn at(address: Ipv4Addr, port: u16) -> SocketAddr {
+    SocketAddr::V4(SocketAddrV4::new(address, port))
+}
+
+fn no_such_host() -> io::Error {
+    io::Error::from(ErrorKind::InvalidInput)
+}
+
+impl UdpWire {
+    /// The wire of a host's daemon, at the address and port of the site. The wait is in milliseconds, from 1 to 1,000.
+    pub fn of_daemon(
+        rt: HostRuntime,
+        site: &[SiteHost],
+        host: HostId,
+        wait: u64,
+    ) -> io::Result<UdpWire> {
+        match site.get(host.0 as usize) {
+            Some(own) => UdpWire::bind(rt, at(own.address, own.port), site, wait),
+            None => Err(no_such_host()),
+        }
+    }
+
+    /// The wire of a client or a shepherd, at a free port of the machine's loopback address, which is given too.
+    pub fn of_client(rt: HostRuntime, site: &[SiteHost], wait: u64) -> io::Result<(UdpWire, u16)> {
+        let wire = UdpWire::bind(rt, at(Ipv4Addr::LOCALHOST, 0), site, wait)?;
+        let port = wire.socket.local_addr()?.port();
+        Ok((wire, port))
+    }
+
+    fn bind(rt: HostRuntime, own: SocketAddr, site: &[SiteHost], wait: u64) -> io::Result<UdpWire> {
+        let socket = UdpSocket::bind(&rt, own)?;
+        let site = site.to_vec(rt.alloc())?;
+        Ok(UdpWire {
+            rt,
+            socket,
+            site,
+            wait: Duration::from_millis(wait.clamp(1, SECOND)),
+            began: None,
+            receive_faults: 0,
+            send_faults: 0,
+        })
+    }
+
+    // Where an address is. Clients and shepherds are at the machine's loopback address.
+    fn place_of(&self, to: Address) -> io::Result<SocketAddr> {
+        match to {
+            Address::Client(port) => Ok(at(Ipv4Addr::LOCALHOST, port)),
+            Address::Host(host) => match self.site.get(host.0 as usize) {
+                Some(host) => Ok(at(host.address, host.port)),
+                None => Err(no_such_host()),
+            },
+        }
+    }
+
+    fn put(&self, to: Address, bytes: &[u8]) -> io::Result<usize> {
+        let place = self.place_of(to)?;
+        self.socket.send_to(bytes, place)
+    }
+
+    // What is left of the wait; none where it is over.
+    fn left(&mut self) -> io::Result<Option<Duration>>
+        ensures receive_faults { self.new.receive_faults ≡ self.old.receive_faults }
+        ensures send_faults { self.new.send_faults ≡ self.old.send_faults }
+    {
+        let now = Instant::now(&self.rt)?;
+        let began = match self.began {
+            Some(began) => began,
+            None => {
+                self.began = Some(now);
+                now
+            }
+        };
+        let left = self.wait.checked_sub(now.saturating_duration_since(began));
+        Ok(left.filter(|left| *left >= Duration::from_millis(1)))
+    }
+
+    fn take(&mut self, buf: &mut [u8]) -> io::Result<Received>
+        ensures within { IfOk result (λ r. IsWithin r (length buf.new)) }
+        ensures same_length { length buf.new ≡ length buf.old }
+        ensures receive_faults { self.new.receive_faults ≡ self.old.receive_faults }
+        ensures send_faults { self.new.send_faults ≡ self.old.send_faults }
+    {
+        if let Some(left) = self.left()? {
+            self.socket.set_read_timeout(Some(left))?;
+            match self.socket.recv_from(buf) {
+                Ok((count, _)) => return Ok(Received::Datagram(count)),
+                Err(e) if is_quiet(e.kind()) => {}
+                Err(e) => return Err(e),
+            }
+        }
+        self.began = None;
+        Ok(Received::Quiet)
+    }
+}
+
+// A signal, or word that nobody took an earlier datagram, is no fault.
+fn is_quiet(kind: ErrorKind) -> bool {
+    matches!(
+        kind,
+        ErrorKind::WouldBlock | ErrorKind::Interrupted | ErrorKind::ConnectionRefused
+    )
+}
+
+impl Wire for UdpWire {
+    ghost received = { λ _. None };
+
+    ghost sent = { λ _. None };
+
+    ghost receive_faults = { λ wire. wire.receive_faults };
+
+    ghost send_faults = { λ wire. wire.send_faults };
+
+    fn receive(&mut self, buf: &mut [u8]) -> Result<Received, Failed> {
+        let made = self.take(buf);
+        counted(made, &mut self.receive_faults)
+    }
+
+    fn send(&mut self, to: Address, bytes: &[u8]) -> Result<(), Failed> {
+        let made = self.put(to, bytes);
+        counted(made, &mut self.send_faults)?;
+        Ok(())
+    }
+}
