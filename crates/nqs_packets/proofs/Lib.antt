@@ -4,3 +4,6 @@ pub mod BodyLaws
 pub mod MessageLaws
 pub mod Spelled
 pub mod SaneLaws
+pub mod Fields
+pub mod Bodies
+pub mod FirstFaults

@@ -4,3 +4,4 @@ pub mod Spelling
 pub mod Values
 pub mod Reading
 pub mod Messages
+pub mod Faults

@@ -1,5 +1,6 @@
 //! Laws for callers, which call a function for its contract; it does nothing.
 
+ghost use Rattle.nqs_packets.specs.Faults.{FirstFaults};
 ghost use Rattle.nqs_packets.specs.Messages.{ReadsTheSpelling, WhatIsReadIsSane, WhatIsReadIsShort, WhatIsSaneMaySend};
 
 /// Bytes are read as a message exactly where they are its spelling and it may be sent.
@@ -20,4 +21,9 @@ pub fn what_is_read_is_short()
 /// A message that the rules call sane may be sent, where its numbers and names are those of the code's types.
 pub fn what_is_sane_may_be_sent()
     ensures { WhatIsSaneMaySend }
+{}
+
+/// Which bytes have which first fault, apart from how they are read.
+pub fn first_faults()
+    ensures { FirstFaults }
 {}
