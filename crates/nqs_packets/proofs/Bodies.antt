@@ -1,10 +1,9 @@
 -- The fields of a kind are refused as fields.
-use Rattle.std.proofs.Common.{◌≡◌, ℕ, zero, suc, ◌+◌, ◌<◌, ◌≤◌, Bool, true, false, cond, ◌&&◌, nat_lt, nat_le, List, [], ◌∷◌, length, drop, take, refl, arith, Ok, Err}
+use Rattle.std.proofs.Common.{◌≡◌, ℕ, zero, suc, ◌+◌, ◌<◌, Bool, true, false, cond, nat_lt, nat_le, List, length, drop, take, refl, arith, Ok, Err}
 use Rattle.std.proofs.lemmas.Bool.{and_parts}
 use Rattle.std.proofs.lemmas.Bool.Decides.{nat_tests}
-use Rattle.nqs_types.specs.declared.message.Body.{Body}
 use Rattle.nqs_records.specs.declared.fault.RecordFault.TheVariants.{Short}
-use Rattle.nqs_records.specs.Reading.{Reading, numbered}
+use Rattle.nqs_records.specs.Reading.{numbered}
 use Rattle.nqs_packets.specs.Parts.{number_at, cause_at, run_at, bytes_at, tool_at, words_at, is_any}
 use Rattle.nqs_packets.specs.Bodies.{bodies, no_body, offer_at, ready_at, refused_at, commit_at, done_at, inquire_at, abort_at, stage_at, staged_at, ask_at, answer_at, ended_at, ended_ack_at}
 use Rattle.nqs_packets.specs.Reading.{is_kind}

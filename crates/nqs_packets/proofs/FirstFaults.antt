@@ -1,32 +1,27 @@
 -- Each fault beside that of a field comes exactly where bytes are so.
-use Rattle.std.proofs.Common.{◌≡◌, ◌≢◌, ℕ, zero, suc, ◌+◌, ◌<◌, ◌≤◌, Bool, true, false, cond, ◌==◌, nat_lt, List, [], ◌∷◌, ◌++◌, length, drop, refl, sym, ap, ◌∙◌, subst, arith, length-append, ne_eqb, Ok, Err}
+use Rattle.std.proofs.Common.{◌≡◌, ◌≢◌, ℕ, ◌+◌, ◌<◌, Bool, true, false, cond, ◌==◌, nat_lt, List, [], ◌∷◌, ◌++◌, length, drop, refl, sym, ap, ◌∙◌, subst, arith, length-append, ne_eqb, Ok, Err}
 use Rattle.std.specs.Prelude.{⊤}
 use Rattle.std.specs.declared.result.Result.{Result}
 use Rattle.std.proofs.lemmas.Bool.{eqb-true}
 use Rattle.std.proofs.lemmas.List.{length-drop}
 use Rattle.std.proofs.lemmas.Bool.Decides.{nat_tests}
 use Rattle.nqs_types.specs.declared.message.Message.{Message}
-use Rattle.nqs_types.specs.declared.ids.HostId.{HostId}
 use Rattle.nqs_codec.specs.Fields.{u8_field}
-use Rattle.nqs_codec.proofs.Places.{rest_is}
-use Rattle.nqs_records.specs.declared.fault.RecordFault.{RecordFault}
 use Rattle.nqs_records.specs.declared.fault.RecordFault.TheVariants as record_fault
 use Rattle.nqs_records.specs.Reading.{◌>>=◌, Read, numbered}
-use Rattle.nqs_records.specs.Fields.{u8_at, number_at, or_short}
+use Rattle.nqs_records.specs.Fields.{u8_at, number_at}
 use Rattle.nqs_records.specs.Parts.{host_at}
 use Rattle.nqs_records.specs.Changes.{AreBytes}
-use Rattle.nqs_records.proofs.IsRead.{bound}
 use Rattle.nqs_records.proofs.Numbers.{below, u8_read}
-use Rattle.nqs_records.proofs.Chains.{bind}
 use Rattle.nqs_packets.specs.declared.fault.PacketFault.{PacketFault}
 use Rattle.nqs_packets.specs.declared.fault.PacketFault.TheVariants as fault
 use Rattle.nqs_packets.specs.Bodies.{bodies, no_body}
 use Rattle.nqs_packets.specs.Spelling.{spelling}
 use Rattle.nqs_packets.specs.Values.{MaySend}
-use Rattle.nqs_packets.specs.Reading.{as_packet_fault, or_packet_fault, is_kind, kind_at, message_at, rest_of, message_of}
-use Rattle.nqs_packets.specs.Faults.{HasOtherVersion, HasOtherKind, IsFollowed, HasFirstFaults, FirstFaults}
+use Rattle.nqs_packets.specs.Reading.{or_packet_fault, is_kind, kind_at, message_at, rest_of, message_of}
+use Rattle.nqs_packets.specs.Faults.{HasOtherVersion, HasOtherKind, IsFollowed, FirstFaults}
 use Rattle.nqs_packets.proofs.MessageLaws.{behind, message_found, message_taken}
-use Rattle.nqs_packets.proofs.Fields.{IsField, IsOfField, then, u8_fields, host_fields}
+use Rattle.nqs_packets.proofs.Fields.{IsField, then, host_fields}
 use Rattle.nqs_packets.proofs.Bodies.{body_fields}
 
 step : {E A B : Type 0} (r : Result A E) (f : A → Result B E) (a : A) → r ≡ Ok a → (r >>= f) ≡ f a

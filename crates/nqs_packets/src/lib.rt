@@ -18,7 +18,8 @@ mod write;
 
 pub use fault::PacketFault;
 pub use laws::{
-    first_faults, reads_the_spelling, what_is_read_is_sane, what_is_read_is_short, what_is_sane_may_be_sent,
+    first_faults, reads_the_spelling, what_is_read_is_sane, what_is_read_is_short,
+    what_is_sane_may_be_sent,
 };
 pub use read::read_message;
 pub use write::write_message;
