@@ -5,6 +5,7 @@ ghost use Rattle.std.specs.Prelude.{◌≡◌, None};
 use crate::counted::counted;
 use crate::folder::{host_text, make_folder, make_private, request_text};
 use crate::order::order_text;
+use crate::program::start_quietly;
 use crate::site::SiteHost;
 use nqs_outside::{Failed, Launcher};
 use nqs_types::{HostId, LaunchOrder, RequestId};
@@ -12,7 +13,7 @@ use std::alloc::AllocError;
 use std::fs::OpenOptions;
 use std::io::{ErrorKind, Write};
 use std::os::unix::fs::OpenOptionsExt;
-use std::process::{Child, Command, Stdio};
+use std::process::Child;
 use std::rt::HostRuntime;
 use std::{env, fs, io};
 
@@ -110,18 +111,20 @@ impl ShepherdLauncher {
     }
 
     fn spawn(&self, id: RequestId, start: u16) -> io::Result<Child> {
-        let alloc = self.rt.alloc();
-        let mut command = Command::new(alloc, "setpriv")?;
-        command.arg("--pdeathsig")?.arg("KILL")?;
-        command.arg(&self.program)?.arg("shepherd")?.arg(&self.dir)?;
-        command.arg(host_text(&self.site, self.host)?)?;
-        command.arg(request_text(&self.rt, &self.site, id)?)?;
-        command.arg(format!(in alloc; "{start}")?)?;
-        command
-            .stdin(Stdio::null())
-            .stdout(Stdio::null())
-            .stderr(Stdio::null())
-            .spawn(&self.rt)
+        let host = host_text(&self.site, self.host)?;
+        let request = request_text(&self.rt, &self.site, id)?;
+        let start = format!(in self.rt.alloc(); "{start}")?;
+        let words = [
+            "--pdeathsig",
+            "KILL",
+            self.program.as_str(),
+            "shepherd",
+            self.dir.as_str(),
+            host,
+            request.as_str(),
+            start.as_str(),
+        ];
+        start_quietly(&self.rt, "setpriv", &words)
     }
 
     fn begin(&mut self, order: &LaunchOrder, script: &[u8]) -> io::Result<()>

@@ -11,9 +11,9 @@ mod launcher;
 mod order;
 mod outlet;
 mod printer;
+mod program;
 mod put;
 mod runner;
-mod session;
 mod site;
 mod streams;
 #[cfg(test)]

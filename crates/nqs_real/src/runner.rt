@@ -6,7 +6,7 @@ use crate::counted::counted;
 use crate::folder::{host_text, make_folder, request_text};
 use crate::launcher::job_name;
 use crate::order::{JobOrder, read_order};
-use crate::session::end_session;
+use crate::program::{add_words, end_session};
 use crate::site::SiteHost;
 use nqs_outside::{Failed, RunEnd, Runner};
 use nqs_types::{HostId, RequestId};
@@ -54,19 +54,27 @@ fn status_number(status: ExitStatus) -> u8 {
     }
 }
 
-fn make_output(rt: &HostRuntime, path: &str) -> io::Result<Stdio> {
+fn make_output(rt: &HostRuntime, place: &str, name: &str) -> io::Result<Stdio> {
+    let path = format!(in rt.alloc(); "{place}/{name}")?;
     let file = OpenOptions::new()
         .write(true)
         .create_new(true)
         .mode(0o600)
-        .open(rt, path)?;
+        .open(rt, &path)?;
     Ok(Stdio::from(file))
 }
 
-fn read_output(rt: &HostRuntime, path: &str) -> io::Result<Bytes> {
+fn read_output(rt: &HostRuntime, place: &str, name: &str) -> io::Result<Bytes> {
+    let path = format!(in rt.alloc(); "{place}/{name}")?;
     let mut bytes = Vec::new(rt.alloc());
-    File::open(rt, path)?.take(KEPT).read_to_end(&mut bytes)?;
+    File::open(rt, &path)?.take(KEPT).read_to_end(&mut bytes)?;
     Ok(Bytes::from_vec(bytes))
+}
+
+fn add_limit(rt: &HostRuntime, command: &mut Command, key: &str, limit: u64) -> io::Result<()> {
+    let word = format!(in rt.alloc(); "--{key}={limit}:{limit}")?;
+    command.arg(&word)?;
+    Ok(())
 }
 
 // The words that have the limits of a job hold for its processes.
@@ -76,10 +84,10 @@ fn add_limits(rt: &HostRuntime, command: &mut Command, order: &JobOrder) -> io::
     }
     command.arg("prlimit")?;
     if let Some(seconds) = order.cpu {
-        command.arg(format!(in rt.alloc(); "--cpu={seconds}:{seconds}")?)?;
+        add_limit(rt, command, "cpu", seconds)?;
     }
     if let Some(bytes) = order.memory {
-        command.arg(format!(in rt.alloc(); "--as={bytes}:{bytes}")?)?;
+        add_limit(rt, command, "as", bytes)?;
     }
     command.arg("--")?;
     Ok(())
@@ -104,15 +112,13 @@ impl ShellRunner {
         })
     }
 
-    fn command(&self, name: &str, order: &JobOrder) -> io::Result<Command> {
-        let alloc = self.rt.alloc();
-        let mut command = Command::new(alloc, "setpriv")?;
-        command.arg("--pdeathsig")?.arg("KILL")?.arg("setsid")?;
-        add_limits(&self.rt, &mut command, order)?;
-        command.arg("/bin/sh")?.arg("-c")?.arg(SHELL)?;
-        command.arg(format!(in alloc; "../jobs/{name}/script")?)?;
+    fn add_words(&self, command: &mut Command, name: &str, order: &JobOrder) -> io::Result<()> {
+        let script = format!(in self.rt.alloc(); "../jobs/{name}/script")?;
+        add_words(command, &["--pdeathsig", "KILL", "setsid"])?;
+        add_limits(&self.rt, command, order)?;
+        add_words(command, &["/bin/sh", "-c", SHELL, script.as_str()])?;
         command.current_dir(&self.work)?;
-        Ok(command)
+        Ok(())
     }
 
     fn set_names(
@@ -130,14 +136,9 @@ impl ShellRunner {
         Ok(())
     }
 
-    fn begin(&self, place: &str, name: &str, id: RequestId, start: u16) -> io::Result<Child> {
-        let alloc = self.rt.alloc();
-        let text = fs::read_to_string(&self.rt, &format!(in alloc; "{place}/order")?)?;
-        let order = read_order(&text)?;
-        let mut command = self.command(name, &order)?;
-        self.set_names(&mut command, id, start, &order)?;
-        let out = make_output(&self.rt, &format!(in alloc; "{place}/out")?)?;
-        let err = make_output(&self.rt, &format!(in alloc; "{place}/err")?)?;
+    fn spawn(&self, command: &mut Command, place: &str) -> io::Result<Child> {
+        let out = make_output(&self.rt, place, "out")?;
+        let err = make_output(&self.rt, place, "err")?;
         command
             .stdin(Stdio::null())
             .stdout(out)
@@ -145,14 +146,25 @@ impl ShellRunner {
             .spawn(&self.rt)
     }
 
+    fn begin(&self, place: &str, name: &str, id: RequestId, start: u16) -> io::Result<Child> {
+        let path = format!(in self.rt.alloc(); "{place}/order")?;
+        let text = fs::read_to_string(&self.rt, &path)?;
+        let order = read_order(&text)?;
+        let mut command = Command::new(self.rt.alloc(), "setpriv")?;
+        self.add_words(&mut command, name, &order)?;
+        self.set_names(&mut command, id, start, &order)?;
+        self.spawn(&mut command, place)
+    }
+
     // How the job ended. One that outlives the last look is an `Err`.
-    fn watch(&self, child: &mut Child, kill: &str) -> io::Result<ExitStatus> {
+    fn watch(&self, child: &mut Child, place: &str) -> io::Result<ExitStatus> {
+        let kill = format!(in self.rt.alloc(); "{place}/kill")?;
         let mut wait = FIRST_WAIT;
         for _ in 0..u32::MAX {
             if let Some(status) = child.try_wait()? {
                 return Ok(status);
             }
-            if fs::exists(&self.rt, kill)? {
+            if fs::exists(&self.rt, &kill)? {
                 let _ = end_session(&self.rt, child.id());
                 let _ = child.kill();
             }
@@ -163,18 +175,21 @@ impl ShellRunner {
     }
 
     // Whatever comes, nothing of the job's session is left.
-    fn run_in(&self, place: &str, name: &str, id: RequestId, start: u16) -> io::Result<RunEnd> {
-        let alloc = self.rt.alloc();
-        let mut child = self.begin(place, name, id, start)?;
-        let ended = self.watch(&mut child, &format!(in alloc; "{place}/kill")?);
+    fn finish(&self, child: &mut Child, place: &str) -> io::Result<ExitStatus> {
+        let ended = self.watch(child, place);
         let _ = end_session(&self.rt, child.id());
         let _ = child.kill();
         let _ = child.wait();
-        Ok(RunEnd {
-            status: status_number(ended?),
-            out: read_output(&self.rt, &format!(in alloc; "{place}/out")?)?,
-            err: read_output(&self.rt, &format!(in alloc; "{place}/err")?)?,
-        })
+        ended
+    }
+
+    fn run_in(&self, place: &str, name: &str, id: RequestId, start: u16) -> io::Result<RunEnd> {
+        let mut child = self.begin(place, name, id, start)?;
+        let status = status_number(self.finish(&mut child, place)?);
+        drop(child);
+        let out = read_output(&self.rt, place, "out")?;
+        let err = read_output(&self.rt, place, "err")?;
+        Ok(RunEnd { status, out, err })
     }
 
     fn job(&self, id: RequestId, start: u16) -> io::Result<RunEnd> {

@@ -23,6 +23,96 @@ fn fresh_folder(rt: &HostRuntime, name: &str) -> io::Result<String> {
     Ok(dir)
 }
 
+fn has_text(rt: &HostRuntime, folder: &str, path: &str, text: &str) -> io::Result<bool> {
+    let path = format!(in rt.alloc(); "{folder}/{path}")?;
+    Ok(fs::read_to_string(rt, &path)?.as_str() == text)
+}
+
+// A site of the host alpha, at a port that was free just now.
+fn site_of_alpha(rt: &HostRuntime) -> Result<Vec<SiteHost>, Fail> {
+    let port = UdpWire::of_client(*rt, &[], 1)?.1;
+    let text = format!(in rt.alloc(); "alpha 127.0.0.1 {port}\n")?;
+    Ok(read_site(rt.alloc(), text.as_bytes())?)
+}
+
+// Site files, and how many hosts they have.
+const SITES: [(&[u8], Option<usize>); 15] = [
+    (b"alpha 127.0.0.1 7001\n", Some(1)),
+    (b"alpha 10.0.0.1 1\nbeta-2 255.255.255.255 65535\n", Some(2)),
+    (b"", None),
+    (b"\n", None),
+    (b"alpha 127.0.0.1 7001", None),
+    (b"alpha 127.0.0.1 7001\n\n", None),
+    (b"alpha 127.0.0.1\n", None),
+    (b"alpha 127.0.0.1 7001 x\n", None),
+    (b"alpha  127.0.0.1 7001\n", None),
+    (b"alpha 127.0.0 7001\n", None),
+    (b"alpha localhost 7001\n", None),
+    (b"alpha 127.0.0.1 0\n", None),
+    (b"alpha 127.0.0.1 65536\n", None),
+    (b"1alpha 127.0.0.1 7001\n", None),
+    (b"a 127.0.0.1 1\na 127.0.0.1 2\n", None),
+];
+
+fn hosts_of(rt: &HostRuntime, text: &[u8]) -> Option<usize> {
+    match read_site(rt.alloc(), text) {
+        Ok(site) => Some(site.len()),
+        Err(SiteFault::Form) => None,
+        Err(SiteFault::Memory(_)) => Some(0),
+    }
+}
+
+#[test]
+fn sites(rt: HostRuntime) {
+    for row in &SITES {
+        assert_eq!(rt; hosts_of(&rt, row.0), row.1);
+    }
+}
+
+fn write_disk(rt: &HostRuntime, folder: &str) -> io::Result<[bool; 4]> {
+    let mut disks = open_disks(rt, folder)?;
+    Ok([
+        disks.first.write_at(0, b"0123456789").is_ok(),
+        disks.first.write_at(8, b"ab").is_ok(),
+        disks.first.sync().is_ok(),
+        disks.first.write_at((1 << 40) - 1, b"ab").is_err(),
+    ])
+}
+
+fn read_disk(rt: &HostRuntime, folder: &str) -> io::Result<[bool; 4]> {
+    let mut disk = FileDisk::open(rt, folder, "first")?;
+    let mut buf = [0u8; 6];
+    let count = disk.read_at(6, &mut buf);
+    Ok([
+        count == Ok(4),
+        buf == *b"67ab\0\0",
+        disk.read_at(u64::MAX, &mut buf).is_err(),
+        disk.len() == Ok(10),
+    ])
+}
+
+// A lock that is taken can't be taken, and one that was given back can.
+fn locks(rt: &HostRuntime, folder: &str) -> io::Result<[bool; 2]> {
+    let first = HostLock::take(rt, folder)?;
+    let is_refused = HostLock::take(rt, folder).is_err();
+    drop(first);
+    Ok([is_refused, HostLock::take(rt, folder).is_ok()])
+}
+
+#[test]
+fn a_disk_keeps_its_bytes(rt: HostRuntime) -> Result<(), Fail> {
+    let folder = fresh_folder(&rt, "disk")?;
+    let written = write_disk(&rt, &folder);
+    let read = read_disk(&rt, &folder);
+    let locked = locks(&rt, &folder);
+    fs::remove_dir_all(&rt, &folder)?;
+    drop(folder);
+    assert_eq!(rt; written?, [true; 4]);
+    assert_eq!(rt; read?, [true; 4]);
+    assert_eq!(rt; locked?, [true; 2]);
+    Ok(())
+}
+
 fn order_of(seq: u32, cpu: Option<u64>, memory: Option<u64>) -> Result<LaunchOrder, Fail> {
     Ok(LaunchOrder {
         id: RequestId { seq, host: HOST },
@@ -34,185 +124,194 @@ fn order_of(seq: u32, cpu: Option<u64>, memory: Option<u64>) -> Result<LaunchOrd
     })
 }
 
-// A site of the host alpha, at a port that was free just now.
-fn site_of_alpha(rt: &HostRuntime) -> Result<Vec<SiteHost>, Fail> {
-    let (_, port) = UdpWire::of_client(*rt, &[], 1)?;
-    let text = format!(in rt.alloc(); "alpha 127.0.0.1 {port}\n")?;
-    Ok(read_site(rt.alloc(), text.as_bytes())?)
+fn put_outputs(rt: &HostRuntime, folder: &str) -> io::Result<[bool; 6]> {
+    let mut outlet = FileOutlet::open(*rt, folder)?;
+    Ok([
+        outlet.write_file(b"a/b/c", b"an older text").is_ok(),
+        outlet.write_file(b"a/b/c", b"42\n").is_ok(),
+        outlet.write_file(b"STDIN.o1", b"").is_ok(),
+        outlet.write_file(b"a/../b", b"").is_err(),
+        outlet.write_file(b"/a", b"").is_err(),
+        outlet.write_file(b"a/", b"").is_err(),
+    ])
 }
 
-#[test]
-fn sites(rt: HostRuntime) -> Result<(), Fail> {
-    let good: [(&[u8], usize); 2] = [
-        (b"alpha 127.0.0.1 7001\n", 1),
-        (b"alpha 10.0.0.1 1\nbeta-2 255.255.255.255 65535\n", 2),
-    ];
-    for (text, count) in &good {
-        assert_eq!(rt; read_site(rt.alloc(), *text)?.len(), *count);
-    }
-    let bad: [&[u8]; 13] = [
-        b"",
-        b"\n",
-        b"alpha 127.0.0.1 7001",
-        b"alpha 127.0.0.1 7001\n\n",
-        b"alpha 127.0.0.1\n",
-        b"alpha 127.0.0.1 7001 x\n",
-        b"alpha  127.0.0.1 7001\n",
-        b"alpha 127.0.0 7001\n",
-        b"alpha localhost 7001\n",
-        b"alpha 127.0.0.1 0\n",
-        b"alpha 127.0.0.1 65536\n",
-        b"1alpha 127.0.0.1 7001\n",
-        b"a 127.0.0.1 1\na 127.0.0.1 2\n",
-    ];
-    for text in &bad {
-        let fault = read_site(rt.alloc(), *text).err();
-        assert_eq!(rt; fault, Some(SiteFault::Form));
-    }
-    Ok(())
-}
-
-#[test]
-fn a_disk_keeps_its_bytes(rt: HostRuntime) -> Result<(), Fail> {
-    let dir = fresh_folder(&rt, "disk")?;
-    let site = site_of_alpha(&rt)?;
-    let folder = make_host_folder(&rt, &dir, &site, HOST)?;
-    let lock = HostLock::take(&rt, &folder)?;
-    assert!(rt; HostLock::take(&rt, &folder).is_err());
-    let mut disks = open_disks(&rt, &folder)?;
-    assert_eq!(rt; disks.first.len(), Ok(0));
-    assert_eq!(rt; disks.first.write_at(0, b"0123456789"), Ok(()));
-    assert_eq!(rt; disks.first.write_at(8, b"ab"), Ok(()));
-    assert_eq!(rt; disks.first.sync(), Ok(()));
-    assert_eq!(rt; disks.first.write_at((1 << 40) - 1, b"ab"), Err(Failed));
-    let mut again = FileDisk::open(&rt, &folder, "first")?;
-    let mut buf = [0u8; 6];
-    assert_eq!(rt; again.read_at(6, &mut buf), Ok(4));
-    assert_eq!(rt; buf.as_slice(), b"67ab\0\0".as_slice());
-    assert_eq!(rt; again.read_at(u64::MAX, &mut buf), Err(Failed));
-    assert_eq!(rt; again.len(), Ok(10));
-    drop(lock);
-    drop(HostLock::take(&rt, &folder)?);
-    fs::remove_dir_all(&rt, &dir)?;
-    Ok(())
+fn print_page(rt: &HostRuntime, folder: &str) -> Result<bool, Fail> {
+    let order = order_of(2, None, None)?;
+    let device = Name::read(b"laser")?;
+    let site = site_of_alpha(rt)?;
+    let mut printer = FilePrinter::open(*rt, folder, &site)?;
+    Ok(printer.print(&device, &order, b"page").is_ok())
 }
 
 #[test]
 fn files_come_whole(rt: HostRuntime) -> Result<(), Fail> {
-    let alloc = rt.alloc();
-    let dir = fresh_folder(&rt, "files")?;
-    let site = site_of_alpha(&rt)?;
-    let folder = make_host_folder(&rt, &dir, &site, HOST)?;
-    let mut outlet = FileOutlet::open(rt, &folder)?;
-    for (path, made) in [
-        ("STDIN.o1", true),
-        ("a/b/c", true),
-        ("a/../b", false),
-        ("/a", false),
-        ("a/", false),
-    ] {
-        assert_eq!(rt;
-            outlet.write_file(path.as_bytes(), b"old").is_ok(),
-            made,
-            "{path}"
-        );
-    }
-    assert_eq!(rt; outlet.write_file(b"a/b/c", b"42\n"), Ok(()));
-    let path = format!(in alloc; "{folder}/output/a/b/c")?;
-    assert_eq!(rt; fs::read_to_string(&rt, &path)?.as_str(), "42\n");
-    let mut printer = FilePrinter::open(rt, &folder, &site)?;
-    let device = Name::read(b"laser")?;
-    assert_eq!(rt;
-        printer.print(&device, &order_of(2, None, None)?, b"page"),
-        Ok(())
-    );
-    let path = format!(in alloc; "{folder}/printed/laser/2.alpha.1")?;
-    assert_eq!(rt; fs::read_to_string(&rt, &path)?.as_str(), "page");
+    let folder = fresh_folder(&rt, "files")?;
+    let put = put_outputs(&rt, &folder);
+    let is_printed = print_page(&rt, &folder)?;
+    let has_output = has_text(&rt, &folder, "output/a/b/c", "42\n");
+    let has_page = has_text(&rt, &folder, "printed/laser/2.alpha.1", "page");
+    fs::remove_dir_all(&rt, &folder)?;
+    drop(folder);
+    assert_eq!(rt; put?, [true; 6]);
+    assert_eq!(rt; [is_printed, has_output?, has_page?], [true; 3]);
     assert!(rt; SystemClock::new(rt).now() > 1_700_000_000);
-    fs::remove_dir_all(&rt, &dir)?;
     Ok(())
+}
+
+fn ask(client: &mut UdpWire, port: u16, daemon: &mut UdpWire) -> [bool; 8] {
+    let mut buf = [0u8; 4];
+    [
+        client.send(Address::Host(HOST), b"ask") == Ok(()),
+        client.send(Address::Host(HostId(1)), b"ask") == Err(Failed),
+        daemon.receive(&mut buf) == Ok(Received::Datagram(3)),
+        buf == *b"ask\0",
+        daemon.send(Address::Client(port), b"answers") == Ok(()),
+        client.receive(&mut buf) == Ok(Received::Datagram(4)),
+        buf == *b"answ",
+        client.receive(&mut buf) == Ok(Received::Quiet),
+    ]
+}
+
+// Also where there is always something to receive.
+fn gets_quiet(wire: &mut UdpWire) -> bool {
+    let mut buf = [0u8; 4];
+    for _ in 0..1_000_000 {
+        let _ = wire.send(Address::Host(HOST), b"to itself");
+        if wire.receive(&mut buf) == Ok(Received::Quiet) {
+            return true;
+        }
+    }
+    false
+}
+
+fn talk(rt: &HostRuntime) -> Result<([bool; 8], bool), Fail> {
+    let site = site_of_alpha(rt)?;
+    let mut daemon = UdpWire::of_daemon(*rt, &site, HOST, 200)?;
+    let (mut client, port) = UdpWire::of_client(*rt, &site, 200)?;
+    Ok((ask(&mut client, port, &mut daemon), gets_quiet(&mut daemon)))
 }
 
 #[test]
 fn datagrams_come_and_go(rt: HostRuntime) -> Result<(), Fail> {
-    let site = site_of_alpha(&rt)?;
-    let mut daemon = UdpWire::of_daemon(rt, &site, HOST, 200)?;
-    let (mut client, port) = UdpWire::of_client(rt, &site, 200)?;
-    let mut buf = [0u8; 4];
-    assert_eq!(rt; client.send(Address::Host(HOST), b"ask"), Ok(()));
-    assert_eq!(rt; client.send(Address::Host(HostId(1)), b"ask"), Err(Failed));
-    assert_eq!(rt; daemon.receive(&mut buf), Ok(Received::Datagram(3)));
-    assert_eq!(rt; buf.as_slice(), b"ask\0".as_slice());
-    assert_eq!(rt; daemon.send(Address::Client(port), b"answers"), Ok(()));
-    assert_eq!(rt; client.receive(&mut buf), Ok(Received::Datagram(4)));
-    assert_eq!(rt; client.receive(&mut buf), Ok(Received::Quiet));
-    // Under traffic a quiet comes too.
-    let mut quiets = 0;
-    for _ in 0..1_000_000 {
-        let _ = daemon.send(Address::Host(HOST), b"to itself");
-        if daemon.receive(&mut buf) == Ok(Received::Quiet) {
-            quiets = 1;
-            break;
-        }
-    }
-    assert_eq!(rt; quiets, 1);
+    assert_eq!(rt; talk(&rt)?, ([true; 8], true));
     Ok(())
 }
 
-// How a job ends whose script this is; it may be told to end before it begins.
-fn end_of(
+// A script, whether it is to be killed, how it ends, and what it writes.
+struct Script {
+    text: &'static [u8],
+    kills: bool,
+    status: u8,
+    out: &'static [u8],
+}
+
+const SCRIPTS: [Script; 7] = [
+    Script {
+        text: b"echo 42; echo $NQS_REQUEST $NQS_START $NQS_HOST $NQS_QUEUE $NQS_USER; exit 3",
+        kills: false,
+        status: 3,
+        out: b"42\n1.alpha 1 alpha batch ann\n",
+    },
+    Script {
+        text: b"sleep 60",
+        kills: true,
+        status: 137,
+        out: b"",
+    },
+    // It is killed while it sleeps.
+    Script {
+        text: b"touch ../jobs/$NQS_REQUEST.$NQS_START/kill; sleep 60",
+        kills: false,
+        status: 137,
+        out: b"",
+    },
+    Script {
+        text: b"umask; kill -9 $$",
+        kills: false,
+        status: 137,
+        out: b"0077\n",
+    },
+    // Its processor time is a second.
+    Script {
+        text: b"ulimit -v; while :; do :; done",
+        kills: false,
+        status: 137,
+        out: b"976562\n",
+    },
+    // It leaves a process in a group of its own, which ignores what it can.
+    Script {
+        text: b"set -m; (trap '' TERM HUP; exec sleep 60) & echo $! > left; exit 0",
+        kills: false,
+        status: 0,
+        out: b"",
+    },
+    Script {
+        text: b"cat /proc/$(cat left)/cmdline; exit 4",
+        kills: false,
+        status: 4,
+        out: b"",
+    },
+];
+
+fn launch_job(
     rt: &HostRuntime,
     dir: &str,
     site: &[SiteHost],
     order: &LaunchOrder,
-    script: &[u8],
-    kills: bool,
-) -> Result<RunEnd, Fail> {
-    let folder = make_host_folder(rt, dir, site, HOST)?;
+    script: &Script,
+) -> io::Result<bool> {
     let mut launcher = ShepherdLauncher::open(*rt, "/bin/true", dir, site, HOST)?;
-    launcher.launch(order, script)?;
-    if kills {
-        launcher.kill(order.id, order.start)?;
+    let is_launched = launcher.launch(order, script.text).is_ok();
+    // The second start is not there, which is no fault.
+    let start = if script.kills { 1 } else { 2 };
+    Ok(is_launched && launcher.kill(order.id, start).is_ok())
+}
+
+fn run_job(
+    rt: &HostRuntime,
+    folder: &str,
+    site: &[SiteHost],
+    order: &LaunchOrder,
+) -> io::Result<Result<RunEnd, Failed>> {
+    let mut runner = ShellRunner::open(*rt, folder, site, HOST)?;
+    Ok(runner.run(order.id, order.start))
+}
+
+fn ends_so(end: Result<RunEnd, Failed>, script: &Script) -> bool {
+    match end {
+        Ok(end) => end.status == script.status && end.out.as_slice() == script.out,
+        Err(_) => false,
     }
-    let mut runner = ShellRunner::open(*rt, &folder, site, HOST)?;
-    Ok(runner.run(order.id, order.start)?)
+}
+
+// How many scripts end as they are to, before the first that doesn't.
+fn run_scripts(rt: &HostRuntime, dir: &str, folder: &str, site: &[SiteHost]) -> Result<u32, Fail> {
+    let mut seq = 0;
+    for script in &SCRIPTS {
+        let order = order_of(seq + 1, Some(1), Some(1_000_000_000))?;
+        let is_launched = launch_job(rt, dir, site, &order, script)?;
+        let end = run_job(rt, folder, site, &order)?;
+        if !ends_so(end, script) || !is_launched {
+            return Ok(seq);
+        }
+        seq += 1;
+    }
+    Ok(seq)
+}
+
+fn run_in_folder(rt: &HostRuntime, dir: &str) -> Result<u32, Fail> {
+    let site = site_of_alpha(rt)?;
+    let folder = make_host_folder(rt, dir, &site, HOST)?;
+    run_scripts(rt, dir, &folder, &site)
 }
 
 #[test]
 fn jobs_end(rt: HostRuntime) -> Result<(), Fail> {
     let dir = fresh_folder(&rt, "jobs")?;
-    let site = site_of_alpha(&rt)?;
-    // The script, whether it is killed, its status, and its output.
-    let rows: [(&[u8], bool, u8, &[u8]); 5] = [
-        (
-            b"echo 42; echo $NQS_REQUEST $NQS_START $NQS_HOST $NQS_QUEUE $NQS_USER; exit 3",
-            false,
-            3,
-            b"42\n1.alpha 1 alpha batch ann\n",
-        ),
-        (b"sleep 60", true, 137, b""),
-        (b"umask; kill -9 $$", false, 137, b"0077\n"),
-        (
-            b"(trap '' TERM; exec sleep 60) & echo $! > left; exit 0",
-            false,
-            0,
-            b"",
-        ),
-        (
-            b"ps -p $(cat left) > /dev/null && echo alive; cat /proc/$(cat left)/cmdline 2> /dev/null; exit 4",
-            false,
-            4,
-            b"",
-        ),
-    ];
-    let mut seq = 0;
-    for (script, kills, status, out) in &rows {
-        seq += 1;
-        let order = order_of(seq, Some(9), Some(1_000_000_000))?;
-        let end = end_of(&rt, &dir, &site, &order, *script, *kills)?;
-        assert_eq!(rt; end.status, *status, "job {seq}");
-        assert_eq!(rt; end.out.as_slice(), *out, "job {seq}");
-    }
+    let ended = run_in_folder(&rt, &dir)?;
     fs::remove_dir_all(&rt, &dir)?;
+    drop(dir);
+    assert_eq!(rt; ended, 7);
     Ok(())
 }
