@@ -287,17 +287,18 @@ fn ends_so(end: Result<RunEnd, Failed>, script: &Script) -> bool {
 
 // How many scripts end as they are to, before the first that doesn't.
 fn run_scripts(rt: &HostRuntime, dir: &str, folder: &str, site: &[SiteHost]) -> Result<u32, Fail> {
-    let mut seq = 0;
+    let mut ended = 0u32;
     for script in &SCRIPTS {
-        let order = order_of(seq + 1, Some(1), Some(1_000_000_000))?;
+        let seq = ended.saturating_add(1);
+        let order = order_of(seq, Some(1), Some(1_000_000_000))?;
         let is_launched = launch_job(rt, dir, site, &order, script)?;
         let end = run_job(rt, folder, site, &order)?;
         if !ends_so(end, script) || !is_launched {
-            return Ok(seq);
+            return Ok(ended);
         }
-        seq += 1;
+        ended = seq;
     }
-    Ok(seq)
+    Ok(ended)
 }
 
 fn run_in_folder(rt: &HostRuntime, dir: &str) -> Result<u32, Fail> {
