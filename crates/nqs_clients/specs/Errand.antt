@@ -1,0 +1,71 @@
+-- What the words of a client ask for.
+use Rattle.std.specs.Prelude.{◌≡◌, ℕ, ◌+◌, Bool, nat_le, List, [], ◌∷◌, ◌++◌, codes, length, if◌then◌else◌, IfOk, Ok, Err}
+use Rattle.std.specs.List.{position, sum_by, flat_map}
+use Rattle.std.specs.Option.{option_map}
+use Rattle.std.specs.declared.option.Option.{Option}
+use Rattle.std.specs.declared.option.Option.TheVariants.{None, Some}
+use Rattle.std.specs.declared.result.Result.{Result}
+use Rattle.nqs_values.specs.Same.{name_eq}
+use Rattle.nqs_values.specs.Name.{IsName}
+use Rattle.nqs_types.specs.declared.ids.HostId.{HostId}
+use Rattle.nqs_types.specs.declared.message.Tool.{Tool}
+use Rattle.nqs_types.specs.declared.message.Tool.TheVariants.{Qsub, Qstat, Qdel, Qmgr, Tick}
+use Rattle.nqs_rules.specs.Find.{host_at}
+use Rattle.nqs_words.specs.Values.{name_of}
+use Rattle.nqs_records.specs.Values.{IsHost}
+use Rattle.nqs_packets.specs.Values.{AreWords}
+use Rattle.nqs_clients.specs.declared.errand.Errand.{Errand}
+use Rattle.nqs_clients.specs.declared.errand.WordsStop.{WordsStop}
+use Rattle.nqs_clients.specs.declared.errand.WordsStop.TheVariants.{BadWords, Memory}
+
+abbrev pub tool_of : List ℕ → Option Tool
+tool_of word =
+    if name_eq word (codes "qsub") then Some Qsub else
+    if name_eq word (codes "qstat") then Some Qstat else
+    if name_eq word (codes "qdel") then Some Qdel else
+    if name_eq word (codes "qmgr") then Some Qmgr else
+    if name_eq word (codes "tick") then Some Tick else None
+
+-- the words in a row, with a space between each two
+abbrev pub joined : List (List ℕ) → List ℕ
+joined [] = []
+joined (word ∷ words) = word ++ flat_map (λ w. 32 ∷ w) words
+
+-- the tool's own words as they are sent: those of qmgr are one line, and tick has none
+abbrev pub words_of : Tool → List (List ℕ) → Option (List (List ℕ))
+words_of Qsub own = Some own
+words_of Qstat own = Some own
+words_of Qdel own = Some own
+words_of Qmgr own = Some (joined own ∷ [])
+words_of Tick [] = Some []
+words_of Tick (word ∷ own) = None
+
+-- each word counted with 4 bytes more, the words have at most 4,000 bytes
+abbrev pub are_short : List (List ℕ) → Bool
+are_short own = nat_le (sum_by (λ w. length w + 4) own) 4000
+
+abbrev pub errand : HostId → List ℕ → Tool → List (List ℕ) → Errand
+errand host user tool words = record { host = host; user = user; tool = tool; words = words }
+
+-- an errand is made of its parts, where they are all there
+abbrev pub made_of : Option Tool → Option ℕ → Option (List ℕ) → List (List ℕ) → Option Errand
+made_of (Some tool) (Some place) (Some user) own = option_map (errand (host_at place) user tool) (words_of tool own)
+made_of _ _ _ own = None
+
+-- the host of the site that has this name
+abbrev pub place_of : List (List ℕ) → List ℕ → Option ℕ
+place_of site host = position (λ name. name_eq name host) site
+
+-- The words are the tool, the host, the user, and the tool's own words.
+unfoldable pub errand_of : List (List ℕ) → List (List ℕ) → Option Errand
+errand_of site (tool ∷ host ∷ user ∷ own) = if are_short own then made_of (tool_of tool) (place_of site host) (name_of user) own else None
+errand_of site _ = None
+
+abbrev pub ReadsErrand : List (List ℕ) → List (List ℕ) → Result Errand WordsStop → Type 0
+ReadsErrand site words (Ok e) = errand_of site words ≡ Some e
+ReadsErrand site words (Err BadWords) = errand_of site words ≡ None
+ReadsErrand site words (Err (Memory memory)) = Unit {0}
+
+-- the errand's values may be sent
+abbrev pub MayAsk : Errand → Type 0
+MayAsk e = IsHost e.host × IsName e.user × AreWords e.tool e.words

@@ -1,0 +1,68 @@
+-- What the client sends to the host, and what comes of it.
+use Rattle.std.specs.Prelude.{◌≡◌, ℕ, ◌≤◌, ◌⊎◌, Bool, false, ◌==◌, List, [], ◌∷◌, ◌++◌, length, if◌then◌else◌, Ok, Err}
+use Rattle.std.specs.List.{list_any}
+use Rattle.std.specs.Option.{is_some}
+use Rattle.std.specs.declared.option.Option.{Option}
+use Rattle.std.specs.declared.option.Option.TheVariants.{None, Some}
+use Rattle.std.specs.declared.result.Result.{Result}
+use Rattle.nqs_types.specs.declared.ids.HostId.{HostId}
+use Rattle.nqs_types.specs.declared.message.Body.{Body}
+use Rattle.nqs_types.specs.declared.message.Body.TheVariants as body
+use Rattle.nqs_types.specs.declared.message.Message.{Message}
+use Rattle.nqs_outside.specs.Asked.{Arrival}
+use Rattle.nqs_outside.specs.Causes.{Rose}
+use Rattle.nqs_outside.specs.Told.{Extends}
+use Rattle.nqs_clients.specs.Datagrams.{message_in, datagram}
+use Rattle.nqs_clients.specs.Sides.{Wired, IsSilent}
+use Rattle.nqs_clients.specs.declared.answer.Answer.{Answer}
+use Rattle.nqs_clients.specs.declared.datagram.WaitStop.{WaitStop}
+use Rattle.nqs_clients.specs.declared.datagram.WaitStop.TheVariants.{Fault, Memory}
+use Rattle.nqs_clients.specs.declared.errand.Errand.{Errand}
+
+abbrev pub token : ℕ
+token = 5
+
+-- what the host is asked
+abbrev pub ask_of : ℕ → Errand → List ℕ → Body
+ask_of port e script = body.Ask port token e.user e.tool e.words script
+
+-- the answer with the token
+abbrev pub answer_body : Body → Option Answer
+answer_body (body.Answer number ok text) = if number == token then Some (record { ok = ok; text = text }) else None
+answer_body _ = None
+
+-- the answer of the host with the token, if the message is it
+abbrev pub answer_of : HostId → Option Message → Option Answer
+answer_of host None = None
+answer_of host (Some message) = if message.from.0 == host.0 then answer_body message.body else None
+
+abbrev pub answer_in : HostId → Arrival → Option Answer
+answer_in host arrival = answer_of host (message_in arrival)
+
+-- does the arrival bring the answer?
+abbrev pub answers : HostId → Arrival → Bool
+answers host arrival = is_some (answer_in host arrival)
+
+-- the ask was sent
+abbrev pub Asks : ℕ → Errand → List ℕ → Wired → Type 0
+Asks port e script wire = Extends wire.sent wire.sent_now (datagram e.host (ask_of port e script) ∷ [])
+
+-- At most ten receives were made, up to the first that brought the answer.
+abbrev pub Awaits : HostId → List Arrival → Result (Option Answer) WaitStop → Type 0
+Awaits host arrivals (Ok (Some answer)) = (before : List Arrival) × (last : Arrival) × (arrivals ≡ before ++ last ∷ []) × (length arrivals ≤ 10) × (list_any (answers host) before ≡ false) × (answer_in host last ≡ Some answer)
+Awaits host arrivals (Ok None) = (length arrivals ≡ 10) × (list_any (answers host) arrivals ≡ false)
+Awaits host arrivals (Err Fault) = (length arrivals ≤ 9) × (list_any (answers host) arrivals ≡ false)
+Awaits host arrivals (Err (Memory memory)) = length arrivals ≤ 10
+
+abbrev pub Hears : HostId → Option (List Arrival) → Option (List Arrival) → Result (Option Answer) WaitStop → Type 0
+Hears host was now result = (arrivals : List Arrival) × Extends was now arrivals × Awaits host arrivals result
+
+-- the send failed, and nothing was received; or a receive failed
+abbrev pub WireFailed : Wired → Type 0
+WireFailed wire = (Rose wire.send_faults wire.send_faults_now × Extends wire.received wire.received_now []) ⊎ Rose wire.receive_faults wire.receive_faults_now
+
+-- the ask was sent, and this is what came of it; or there was no memory for the ask
+abbrev pub Exchanges : ℕ → Errand → List ℕ → Wired → Result (Option Answer) WaitStop → Type 0
+Exchanges port e script wire (Ok answer) = Asks port e script wire × Hears e.host wire.received wire.received_now (Ok answer)
+Exchanges port e script wire (Err Fault) = Asks port e script wire × Hears e.host wire.received wire.received_now (Err Fault) × WireFailed wire
+Exchanges port e script wire (Err (Memory memory)) = IsSilent wire ⊎ (Asks port e script wire × Hears e.host wire.received wire.received_now (Err (Memory memory)))

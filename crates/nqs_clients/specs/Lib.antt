@@ -1,0 +1,7 @@
+pub mod Numbers
+pub mod Datagrams
+pub mod Shepherd
+pub mod Errand
+pub mod Sides
+pub mod Exchange
+pub mod Client

@@ -1,0 +1,10 @@
+//! The answer of a host to a client.
+
+use nqs_values::Bytes;
+
+/// The answer of a host: whether it did what it was asked, and its text.
+#[derive(Drop)]
+pub struct Answer {
+    pub ok: bool,
+    pub text: Bytes,
+}

@@ -1,0 +1,184 @@
+//! The words of a client: the tool, the host, the user, and the tool's own words.
+
+ghost use Rattle.std.specs.Prelude.{◌≡◌, ◌+◌, ◌∷◌, ◌++◌, [], true, OnOk, ◌≤◌, ◌<◌, nat_le, length, map, string_bytes, IfOk, IfSome};
+ghost use Rattle.std.specs.List.{sum_by, flat_map};
+ghost use Rattle.nqs_clients.specs.Errand.{tool_of, joined, words_of, are_short, made_of, place_of, errand_of, ReadsErrand, MayAsk};
+
+use nqs_types::{HostId, Tool};
+use nqs_values::{Bytes, Items, Memory, Name};
+use nqs_words::name_of;
+use std::alloc::Global;
+
+/// What the words ask for: which host is asked, for whom, and the tool's words as they are sent.
+#[derive(Drop)]
+pub struct Errand {
+    pub host: HostId,
+    pub user: Name,
+    pub tool: Tool,
+    pub words: Items<Bytes>,
+}
+
+/// Why the words ask for nothing.
+#[derive(Clone, Copy, Debug, PartialEq, Eq)]
+pub enum WordsStop {
+    BadWords,
+    Memory(Memory),
+}
+
+// The greatest length of the tool's own words together, where each counts 4 bytes more.
+const LONGEST_WORDS: usize = 4_000;
+
+fn copies(alloc: Global, words: &[String]) -> Result<Items<Bytes>, Memory>
+    ensures { IfOk result (λ own. own ≡ map (λ s. string_bytes s) words.now) }
+{
+    let mut copies = Items::new(alloc);
+    for word in words {
+        let bytes = Vec::from_slice(alloc, word.as_bytes())?;
+        copies.push(Bytes::from_vec(bytes))?;
+    }
+    Ok(copies)
+}
+
+// Do the words have room, each with 4 bytes more?
+fn have_room(words: &[Bytes], room: usize) -> bool
+    ensures { result ≡ nat_le (sum_by (λ w. length w + 4) words.now) room }
+{
+    let Some((word, more)) = words.split_first() else {
+        return true;
+    };
+    let Some(left) = room.checked_sub(word.len()) else {
+        return false;
+    };
+    let Some(left) = left.checked_sub(4) else {
+        return false;
+    };
+    have_room(more, left)
+}
+
+// Puts the words behind the line, each behind a space.
+fn put_spaced(words: &[Bytes], line: &mut Vec<u8>) -> Result<(), Memory>
+    ensures { OnOk result (line.new.items ≡ line.old.items ++ flat_map (λ w. 32 ∷ w) words.now) }
+{
+    for word in words {
+        line.push(b' ')?;
+        line.extend_from_slice(word.as_slice())?;
+    }
+    Ok(())
+}
+
+fn joined(alloc: Global, words: &[Bytes]) -> Result<Vec<u8>, Memory>
+    ensures { IfOk result (λ line. line.items ≡ joined words.now) }
+{
+    let mut line = Vec::new(alloc);
+    let Some((first, more)) = words.split_first() else {
+        return Ok(line);
+    };
+    line.extend_from_slice(first.as_slice())?;
+    put_spaced(more, &mut line)?;
+    Ok(line)
+}
+
+fn one_line(alloc: Global, own: &[Bytes]) -> Result<Items<Bytes>, Memory>
+    ensures { IfOk result (λ words. words ≡ joined own.now ∷ []) }
+{
+    let line = Bytes::from_vec(joined(alloc, own)?);
+    Ok(Items::of(alloc, line)?)
+}
+
+// The tool's own words as they are sent.
+fn words_of(alloc: Global, tool: Tool, own: Items<Bytes>) -> Result<Option<Items<Bytes>>, Memory>
+    ensures { IfOk result (λ words. words ≡ words_of tool own) }
+{
+    match tool {
+        Tool::Qsub | Tool::Qstat | Tool::Qdel => Ok(Some(own)),
+        Tool::Qmgr => Ok(Some(one_line(alloc, own.as_slice())?)),
+        Tool::Tick => {
+            if own.as_slice().is_empty() {
+                return Ok(Some(own));
+            }
+            Ok(None)
+        }
+    }
+}
+
+fn tool_of(word: &[u8]) -> Option<Tool>
+    ensures { result ≡ tool_of word.now }
+{
+    if word == b"qsub".as_slice() {
+        return Some(Tool::Qsub);
+    }
+    if word == b"qstat".as_slice() {
+        return Some(Tool::Qstat);
+    }
+    if word == b"qdel".as_slice() {
+        return Some(Tool::Qdel);
+    }
+    if word == b"qmgr".as_slice() {
+        return Some(Tool::Qmgr);
+    }
+    if word == b"tick".as_slice() {
+        return Some(Tool::Tick);
+    }
+    None
+}
+
+fn place_of(site: &[Name], host: &[u8]) -> Option<usize>
+    ensures place { result ≡ place_of site.now host.now }
+    ensures bound { IfSome result (λ place. place < length site.now) }
+{
+    site.iter().position(|name| name.as_bytes() == host)
+}
+
+// The errand of these parts, where they are all there.
+fn made_of(
+    alloc: Global,
+    tool: Option<Tool>,
+    place: Option<usize>,
+    user: Option<Name>,
+    own: Items<Bytes>,
+) -> Result<Option<Errand>, Memory>
+    requires bound { IfSome place (λ p. p < 16) }
+    requires short { are_short own ≡ true }
+    ensures errand { IfOk result (λ errand. errand ≡ made_of tool place user own) }
+    ensures may { IfOk result (λ errand. IfSome errand (λ e. MayAsk e)) }
+{
+    let (Some(tool), Some(place), Some(user)) = (tool, place, user) else {
+        return Ok(None);
+    };
+    match words_of(alloc, tool, own)? {
+        Some(words) => Ok(Some(Errand {
+            host: HostId(place as u8),
+            user,
+            tool,
+            words,
+        })),
+        None => Ok(None),
+    }
+}
+
+/// What the words ask for.
+#[tactic(auto, unfolding(crate::specs::Errand::errand_of))]
+pub fn read_words(alloc: Global, site: &[Name], words: &[String]) -> Result<Errand, WordsStop>
+    requires { length site.now ≤ 16 }
+    ensures errand { ReadsErrand site.now (map (λ s. string_bytes s) words.now) result }
+    ensures may { IfOk result (λ errand. MayAsk errand) }
+{
+    let [tool, host, user, own @ ..] = words else {
+        return Err(WordsStop::BadWords);
+    };
+    let own = match copies(alloc, own) {
+        Ok(own) => own,
+        Err(memory) => return Err(WordsStop::Memory(memory)),
+    };
+    if !have_room(own.as_slice(), LONGEST_WORDS) {
+        return Err(WordsStop::BadWords);
+    }
+    let tool = tool_of(tool.as_bytes());
+    let place = place_of(site, host.as_bytes());
+    let user = name_of(user.as_bytes());
+    match made_of(alloc, tool, place, user, own) {
+        Ok(Some(errand)) => Ok(errand),
+        Ok(None) => Err(WordsStop::BadWords),
+        Err(memory) => Err(WordsStop::Memory(memory)),
+    }
+}

@@ -1,0 +1,127 @@
+//! The client asks a host, and waits for the answer.
+
+ghost use Rattle.std.specs.Prelude.{◌≡◌, ◌≤◌, length, [], IfOk};
+ghost use Rattle.nqs_outside.specs.Told.{Extends};
+ghost use Rattle.nqs_packets.specs.Spelling.{spelling};
+ghost use Rattle.nqs_clients.specs.Datagrams.{at_home, Receives, StopsFor};
+ghost use Rattle.nqs_clients.specs.Errand.{MayAsk};
+ghost use Rattle.nqs_clients.specs.Exchange.{ask_of, answer_of, answer_in, Hears, Exchanges};
+ghost use Rattle.nqs_clients.specs.Sides.{wired};
+
+use crate::answer::Answer;
+use crate::datagram::{WaitStop, receive_message, spelled};
+use crate::errand::Errand;
+use nqs_outside::{Address, Wire};
+use nqs_types::{Body, HostId, Message};
+use nqs_values::{Bytes, Memory};
+use std::alloc::Global;
+
+// The token of the one ask.
+const TOKEN: u64 = 5;
+
+// The bytes of what the host is asked.
+fn spelled_ask(alloc: Global, port: u16, errand: Errand, script: Vec<u8>) -> Result<Vec<u8>, Memory>
+    requires may { MayAsk errand }
+    requires short { length script.items ≤ 32768 }
+    ensures { IfOk result (λ bytes. bytes.items ≡ spelling (at_home errand.host (ask_of port errand script.items))) }
+{
+    let Errand {
+        host,
+        user,
+        tool,
+        words,
+    } = errand;
+    let message = Message {
+        from: host,
+        to: host,
+        body: Body::Ask {
+            port,
+            token: TOKEN,
+            user,
+            tool,
+            words,
+            script: Bytes::from_vec(script),
+        },
+    };
+    spelled(alloc, &message)
+}
+
+// The answer of the host, if the message is it.
+fn answer_of(host: HostId, message: Option<Message>) -> Option<Answer>
+    ensures { result ≡ answer_of host message }
+{
+    let Some(Message { from, to: _, body }) = message else {
+        return None;
+    };
+    if from != host {
+        return None;
+    }
+    match body {
+        Body::Answer { token, ok, text } => {
+            if token == TOKEN {
+                return Some(Answer { ok, text });
+            }
+            None
+        }
+        _ => None,
+    }
+}
+
+// Makes one receive, which may bring the answer.
+fn hear<W: Wire>(alloc: Global, host: HostId, wire: &mut W) -> Result<Option<Answer>, WaitStop>
+    ensures received { Receives (answer_in host) (W.received wire.old) (W.received wire.new) result }
+    ensures sent { Extends (W.sent wire.old) (W.sent wire.new) [] }
+    ensures cause { StopsFor (W.receive_faults wire.old) (W.receive_faults wire.new) result }
+    ensures send_faults { W.send_faults wire.old ≤ W.send_faults wire.new }
+{
+    match receive_message(alloc, wire) {
+        Ok(message) => Ok(answer_of(host, message)),
+        Err(stop) => Err(stop),
+    }
+}
+
+// Makes receives until the answer comes, at most ten.
+fn await_answer<W: Wire>(
+    alloc: Global,
+    host: HostId,
+    wire: &mut W,
+) -> Result<Option<Answer>, WaitStop>
+    ensures heard { Hears host (W.received wire.old) (W.received wire.new) result }
+    ensures sent { Extends (W.sent wire.old) (W.sent wire.new) [] }
+    ensures cause { StopsFor (W.receive_faults wire.old) (W.receive_faults wire.new) result }
+{
+    for _turn in 0..10u32 {
+        match hear(alloc, host, wire) {
+            Ok(heard) => {
+                if heard.is_some() {
+                    return Ok(heard);
+                }
+            }
+            Err(stop) => return Err(stop),
+        }
+    }
+    Ok(None)
+}
+
+/// Asks the host, and waits for its answer.
+pub fn exchange<W: Wire>(
+    alloc: Global,
+    port: u16,
+    errand: Errand,
+    script: Vec<u8>,
+    wire: &mut W,
+) -> Result<Option<Answer>, WaitStop>
+    requires may { MayAsk errand }
+    requires short { length script.items ≤ 32768 }
+    ensures { Exchanges port errand script.items (wired W.received W.sent W.receive_faults W.send_faults wire.old wire.new) result }
+{
+    let host = errand.host;
+    let asked = match spelled_ask(alloc, port, errand, script) {
+        Ok(asked) => asked,
+        Err(memory) => return Err(WaitStop::Memory(memory)),
+    };
+    if wire.send(Address::Host(host), &asked).is_err() {
+        return Err(WaitStop::Fault);
+    }
+    await_answer(alloc, host, wire)
+}

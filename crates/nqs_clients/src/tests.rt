@@ -1,0 +1,206 @@
+//! A client and a shepherd over a wire in memory, with datagrams as `docs/formats.md` has them.
+
+use crate::{NqsStatus, ShepherdEnd, client, shepherd};
+use nqs_fakes::{Item, MemRunner, MemWire};
+use nqs_outside::{Address, ListSource, MemSink, RunEnd};
+use nqs_types::{HostId, RequestId};
+use nqs_values::{Bytes, Items, Memory, Name};
+use std::alloc::Global;
+use std::rt::HostRuntime;
+use std::test::Fail;
+
+// An ASK of qstat, from port 9, with the token 5, for ann.
+const ASK: [u8; 25] = [
+    1, 10, 0, 0, 0, 9, 0, 0, 0, 0, 0, 0, 0, 5, 3, b'a', b'n', b'n', 2, 0, 0, 0, 0, 0, 0,
+];
+
+// An ANSWER with the token 5, another with the token 6, and one that refuses.
+const ANSWER: [u8; 20] = [
+    1, 11, 0, 0, 0, 0, 0, 0, 0, 0, 0, 5, 1, 0, 0, 0, 3, b'o', b'k', 10,
+];
+
+const OTHER_ANSWER: [u8; 20] = [
+    1, 11, 0, 0, 0, 0, 0, 0, 0, 0, 0, 6, 1, 0, 0, 0, 3, b'n', b'o', 10,
+];
+
+const REFUSAL: [u8; 20] = [
+    1, 11, 0, 0, 0, 0, 0, 0, 0, 0, 0, 5, 0, 0, 0, 0, 3, b'n', b'o', 10,
+];
+
+// An ENDEDACK of the first start of the request 7 of this host, and one of its second.
+const ACK: [u8; 11] = [1, 13, 0, 0, 0, 0, 0, 7, 0, 0, 1];
+
+const OTHER_ACK: [u8; 11] = [1, 13, 0, 0, 0, 0, 0, 7, 0, 0, 2];
+
+// The ENDED of the first, with status 3, the output `42` and no error output.
+const ENDED: [u8; 24] = [
+    1, 12, 0, 0, 0, 9, 0, 0, 0, 7, 0, 0, 1, 3, 0, 0, 0, 2, b'4', b'2', 0, 0, 0, 0,
+];
+
+fn wire(alloc: Global, datagrams: &[&[u8]]) -> Result<MemWire, Memory> {
+    let mut script = Items::new(alloc);
+    for datagram in datagrams {
+        let bytes = Vec::from_slice(alloc, datagram)?;
+        script.push(Item::Datagram(Bytes::from_vec(bytes)))?;
+    }
+    Ok(MemWire::new(alloc, script, Vec::new(alloc), Vec::new(alloc)))
+}
+
+fn words(alloc: Global, words: &[&str]) -> Result<Vec<String>, Memory> {
+    let mut list = Vec::new(alloc);
+    for word in words {
+        list.push(word.to_string(alloc)?)?;
+    }
+    Ok(list)
+}
+
+fn is_sent(wire: &MemWire, count: usize, bytes: &[u8]) -> bool {
+    wire.sent().len() == count
+        && wire.sent().iter().all(|sent| sent.to == Address::Host(HostId(0))
+            && sent.bytes.as_slice() == bytes)
+}
+
+// Whether the client ends so, and writes this.
+fn ends(
+    alloc: Global,
+    line: &[&str],
+    input: &[u8],
+    wire: &mut MemWire,
+    end: (NqsStatus, &[u8]),
+) -> Result<bool, Memory> {
+    let words = words(alloc, line)?;
+    let mut out = MemSink::new(alloc, 100, Vec::new(alloc));
+    let mut input = ListSource::new(input);
+    let Ok(alpha) = Name::read(b"alpha") else {
+        return Ok(false);
+    };
+    let status = client(alloc, &[alpha], &words, 9, wire, &mut input, &mut out);
+    Ok(status == end.0 && out.taken() == end.1)
+}
+
+#[test]
+fn writes_the_answer(rt: HostRuntime) -> Result<(), Fail> {
+    let alloc = rt.alloc();
+    let mut wire = wire(
+        alloc,
+        &[&[], &OTHER_ANSWER, &ACK, &[1, 11], &ANSWER, &REFUSAL],
+    )?;
+    let line = ["qstat", "alpha", "ann"];
+    let ended = ends(alloc, &line, &[], &mut wire, (NqsStatus::Done, b"ok\n"))?;
+    let asked = is_sent(&wire, 1, &ASK) && wire.received().len() == 5;
+    drop(wire);
+    assert_eq!(rt; [ended, asked], [true; 2]);
+    Ok(())
+}
+
+#[test]
+fn writes_a_refusal(rt: HostRuntime) -> Result<(), Fail> {
+    let alloc = rt.alloc();
+    let mut wire = wire(alloc, &[&REFUSAL])?;
+    let line = ["qdel", "alpha", "ann", "7.alpha"];
+    let ended = ends(alloc, &line, &[], &mut wire, (NqsStatus::Refused, b"no\n"))?;
+    drop(wire);
+    assert_eq!(rt; ended, true);
+    Ok(())
+}
+
+#[test]
+fn waits_ten_times(rt: HostRuntime) -> Result<(), Fail> {
+    let alloc = rt.alloc();
+    let mut wire = wire(alloc, &[])?;
+    let line = ["qstat", "alpha", "ann"];
+    let ended = ends(alloc, &line, &[], &mut wire, (NqsStatus::NoAnswer, b""))?;
+    let asked = is_sent(&wire, 1, &ASK) && wire.received().len() == 10;
+    drop(wire);
+    assert_eq!(rt; [ended, asked], [true; 2]);
+    Ok(())
+}
+
+#[test]
+fn refuses_a_long_script(rt: HostRuntime) -> Result<(), Fail> {
+    let alloc = rt.alloc();
+    let mut full = wire(alloc, &[&ANSWER])?;
+    let mut long = wire(alloc, &[&ANSWER])?;
+    let line = ["qsub", "alpha", "ann"];
+    let script = [35u8; 32_769];
+    let text = b"Bad word 0: script too long\n";
+    let taken = ends(
+        alloc,
+        &line,
+        &script[..32_768],
+        &mut full,
+        (NqsStatus::Done, b"ok\n"),
+    )?;
+    let refused = ends(alloc, &line, &script, &mut long, (NqsStatus::Refused, text))?;
+    let counts = [full.sent().len(), long.sent().len(), long.received().len()];
+    drop(full);
+    drop(long);
+    assert_eq!(rt; (taken, refused, counts), (true, true, [1, 0, 0]));
+    Ok(())
+}
+
+#[test]
+fn refuses_bad_words(rt: HostRuntime) -> Result<(), Fail> {
+    let alloc = rt.alloc();
+    let mut wire = wire(alloc, &[])?;
+    let bad = (NqsStatus::BadWords, b"".as_slice());
+    let ended = [
+        ends(alloc, &["qstat", "alpha"], &[], &mut wire, bad)?,
+        ends(alloc, &["qcat", "alpha", "ann"], &[], &mut wire, bad)?,
+        ends(alloc, &["qstat", "beta", "ann"], &[], &mut wire, bad)?,
+        ends(alloc, &["qstat", "alpha", "9"], &[], &mut wire, bad)?,
+        ends(alloc, &["tick", "alpha", "ann", "now"], &[], &mut wire, bad)?,
+    ];
+    let silent = wire.sent().len() == 0 && wire.received().len() == 0;
+    drop(wire);
+    assert_eq!(rt; (ended, silent), ([true; 5], true));
+    Ok(())
+}
+
+const JOB: RequestId = RequestId {
+    seq: 7,
+    host: HostId(0),
+};
+
+fn runner(alloc: Global) -> Result<MemRunner, Memory> {
+    let out = Bytes::from_vec(Vec::from_slice(alloc, b"42")?);
+    let end = RunEnd {
+        status: 3,
+        out,
+        err: Bytes::new(alloc),
+    };
+    Ok(MemRunner::new(alloc, Items::of(alloc, end)?, Vec::new(alloc)))
+}
+
+fn tell(alloc: Global, runner: &mut MemRunner, wire: &mut MemWire) -> Option<ShepherdEnd> {
+    let Ok(alpha) = Name::read(b"alpha") else {
+        return None;
+    };
+    Some(shepherd(alloc, &[alpha], HostId(0), JOB, 1, 9, runner, wire))
+}
+
+#[test]
+fn tells_the_end(rt: HostRuntime) -> Result<(), Fail> {
+    let alloc = rt.alloc();
+    let mut wire = wire(alloc, &[&OTHER_ACK, &ACK])?;
+    let mut runner = runner(alloc)?;
+    let ended = tell(alloc, &mut runner, &mut wire) == Some(ShepherdEnd::Told);
+    let told = is_sent(&wire, 2, &ENDED) && runner.kept().len() == 1;
+    drop(wire);
+    drop(runner);
+    assert_eq!(rt; [ended, told], [true; 2]);
+    Ok(())
+}
+
+#[test]
+fn tells_ten_times(rt: HostRuntime) -> Result<(), Fail> {
+    let alloc = rt.alloc();
+    let mut wire = wire(alloc, &[])?;
+    let mut runner = runner(alloc)?;
+    let ended = tell(alloc, &mut runner, &mut wire) == Some(ShepherdEnd::NoAnswer);
+    let told = is_sent(&wire, 10, &ENDED);
+    drop(wire);
+    drop(runner);
+    assert_eq!(rt; [ended, told], [true; 2]);
+    Ok(())
+}
