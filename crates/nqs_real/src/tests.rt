@@ -2,7 +2,8 @@
 
 use crate::{
     FileDisk, FileOutlet, FilePrinter, HostLock, ShellRunner, ShepherdLauncher, SiteFault,
-    SiteHost, SystemClock, UdpWire, make_host_folder, open_disks, read_site,
+    SiteHost, SystemClock, UdpWire, fill_streams, make_host_folder, names_of, open_disks,
+    own_program, read_site,
 };
 use nqs_outside::{
     Address, Clock, Disk, Failed, Launcher, Outlet, Printer, Received, RunEnd, Runner, Wire,
@@ -56,7 +57,7 @@ const SITES: [(&[u8], Option<usize>); 15] = [
 
 fn hosts_of(rt: &HostRuntime, text: &[u8]) -> Option<usize> {
     match read_site(rt.alloc(), text) {
-        Ok(site) => Some(site.len()),
+        Ok(site) => names_of(rt.alloc(), &site).ok().map(|names| names.len()),
         Err(SiteFault::Form) => None,
         Err(SiteFault::Memory(_)) => Some(0),
     }
@@ -155,6 +156,13 @@ fn files_come_whole(rt: HostRuntime) -> Result<(), Fail> {
     drop(folder);
     assert_eq!(rt; put?, [true; 6]);
     assert_eq!(rt; [is_printed, has_output?, has_page?], [true; 3]);
+    Ok(())
+}
+
+#[test]
+fn the_process_is_there(rt: HostRuntime) -> Result<(), Fail> {
+    fill_streams(&rt)?;
+    assert!(rt; own_program(&rt)?.starts_with('/'));
     assert!(rt; SystemClock::new(rt).now() > 1_700_000_000);
     Ok(())
 }
