@@ -1,13 +1,17 @@
 -- How the client ends, by its status: what was read, sent, received and written.
-use Rattle.std.specs.Prelude.{◌≡◌, ℕ, ◌⊎◌, Bool, true, false, List, [], ◌∷◌, ◌++◌, codes, Ok, Err}
+use Rattle.std.specs.Prelude.{◌≡◌, ℕ, ◌⊎◌, Bool, true, false, List, [], Ok, Err}
 use Rattle.std.specs.Global.{Vec}
 use Rattle.std.specs.declared.option.Option.TheVariants.{None, Some}
 use Rattle.std.specs.declared.result.Result.{Result}
 use Rattle.nqs_outside.specs.declared.whole.ReadStop.{ReadStop}
 use Rattle.nqs_outside.specs.declared.whole.ReadStop.TheVariants.{Fault, TooLong, Memory}
 use Rattle.nqs_outside.specs.Causes.{Rose}
+use Rattle.nqs_types.specs.declared.event.Reply.TheVariants.{UnreadWords}
+use Rattle.nqs_types.specs.declared.fault.WordsFault.{WordsFault}
+use Rattle.nqs_types.specs.declared.fault.WordsCause.TheVariants.{ScriptTooLong}
 use Rattle.nqs_types.specs.declared.message.Tool.{Tool}
 use Rattle.nqs_types.specs.declared.message.Tool.TheVariants.{Qsub, Qstat, Qdel, Qmgr, Tick}
+use Rattle.nqs_rules.specs.Transcript.{reply_text}
 use Rattle.nqs_clients.specs.Errand.{errand_of}
 use Rattle.nqs_clients.specs.Exchange.{Exchanges}
 use Rattle.nqs_clients.specs.Sides.{Wired, IsSilent, Fed, IsUnread, ReadsScript, ReadsTooMuch, Sunk, IsUnwritten, Writes, FailsWriting}
@@ -17,9 +21,13 @@ use Rattle.nqs_clients.specs.declared.errand.Errand.{Errand}
 use Rattle.nqs_clients.specs.declared.status.NqsStatus.{NqsStatus}
 use Rattle.nqs_clients.specs.declared.status.NqsStatus.TheVariants as status
 
--- the line that refuses a script
+-- what is wrong with a script that is too long
+abbrev pub too_long : WordsFault
+too_long = record { cause = ScriptTooLong; line = 0; word = 0 }
+
+-- the text with which a host would refuse it
 abbrev pub too_long_text : List ℕ
-too_long_text = codes "Bad word 0: script too long" ++ 10 ∷ []
+too_long_text = reply_text [] (UnreadWords too_long)
 
 -- the source is read for qsub alone
 abbrev pub HasScript : Tool → Fed → List ℕ → Type 0

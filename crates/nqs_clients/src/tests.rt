@@ -93,6 +93,20 @@ fn writes_the_answer(rt: HostRuntime) -> Result<(), Fail> {
     Ok(())
 }
 
+// A send that fails ends the wait before it begins.
+#[test]
+fn fails_with_its_send(rt: HostRuntime) -> Result<(), Fail> {
+    let alloc = rt.alloc();
+    let sends = Vec::from_slice(alloc, &[1])?;
+    let mut wire = MemWire::new(alloc, Items::new(alloc), Vec::new(alloc), sends);
+    let line = ["tick", "alpha", "ann"];
+    let ended = ends(alloc, &line, &[], &mut wire, (NqsStatus::WireFault, b""))?;
+    let silent = wire.sent().len() == 1 && wire.received().len() == 0;
+    drop(wire);
+    assert_eq!(rt; [ended, silent], [true; 2]);
+    Ok(())
+}
+
 #[test]
 fn writes_a_refusal(rt: HostRuntime) -> Result<(), Fail> {
     let alloc = rt.alloc();
