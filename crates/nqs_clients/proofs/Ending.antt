@@ -1,5 +1,5 @@
 -- How a client ends by parts.
-use Rattle.std.proofs.Common.{◌≡◌, ℕ, false, List, inl}
+use Rattle.std.proofs.Common.{ℕ, false, inl}
 use Rattle.nqs_clients.specs.Client.{EndsWriting, EndsFor, IsTooLong, too_long_text}
 use Rattle.nqs_clients.specs.Sides.{Wired, Fed, Sunk}
 use Rattle.nqs_clients.specs.declared.errand.Errand.{Errand}

@@ -10,7 +10,7 @@ use Rattle.nqs_types.specs.declared.event.Reply.TheVariants.{UnreadWords}
 use Rattle.nqs_types.specs.declared.fault.WordsFault.{WordsFault}
 use Rattle.nqs_types.specs.declared.fault.WordsCause.TheVariants.{ScriptTooLong}
 use Rattle.nqs_types.specs.declared.message.Tool.{Tool}
-use Rattle.nqs_types.specs.declared.message.Tool.TheVariants.{Qsub, Qstat, Qdel, Qmgr, Tick}
+use Rattle.nqs_types.specs.declared.message.Tool.TheVariants.{Qsub}
 use Rattle.nqs_rules.specs.Transcript.{reply_text}
 use Rattle.nqs_clients.specs.Errand.{errand_of}
 use Rattle.nqs_clients.specs.Exchange.{Exchanges}

@@ -1,5 +1,5 @@
 -- What the words of a client ask for.
-use Rattle.std.specs.Prelude.{◌≡◌, ℕ, ◌+◌, Bool, nat_le, List, [], ◌∷◌, ◌++◌, codes, length, if◌then◌else◌, IfOk, Ok, Err}
+use Rattle.std.specs.Prelude.{◌≡◌, ℕ, ◌+◌, Bool, nat_le, List, [], ◌∷◌, ◌++◌, codes, length, if◌then◌else◌, Ok, Err}
 use Rattle.std.specs.List.{position, sum_by, flat_map}
 use Rattle.std.specs.Option.{option_map}
 use Rattle.std.specs.declared.option.Option.{Option}
