@@ -100,7 +100,10 @@ fn keeps_jobs_prints_and_files(rt: HostRuntime) -> Result<(), Fail> {
     drop(launcher);
     drop(printer);
     drop(outlet);
-    assert_eq!(rt; [launcher_is_right, printer_is_right, outlet_is_right], [true; 3]);
+    assert_eq!(rt;
+        [launcher_is_right, printer_is_right, outlet_is_right],
+        [true; 3]
+    );
     Ok(())
 }
 
