@@ -1,0 +1,4 @@
+pub mod Counts
+pub mod Over
+pub mod Lowered
+pub mod Plans
