@@ -7,3 +7,4 @@ pub mod Planning
 pub mod Telling
 pub mod Resting
 pub mod Booting
+pub mod Bare

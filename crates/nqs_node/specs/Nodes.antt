@@ -6,6 +6,7 @@ use Rattle.nqs_types.specs.declared.world.Which.{Which}
 use Rattle.nqs_outside.specs.History.{History}
 use Rattle.nqs_outside.specs.declared.disk.Disk as disk
 use Rattle.nqs_store.specs.Stores as store
+use Rattle.nqs_back.specs.Bare.{emptied}
 use Rattle.nqs_node.specs.declared.node.Node.{Node}
 
 module _ {D : Type 0} {g : disk.Ghosts D} where
@@ -35,6 +36,10 @@ module _ {D : Type 0} {g : disk.Ghosts D} where
   -- its state, with the bytes of its extents
   abbrev pub plain_of : Node D g → Plain
   plain_of node = store.plain_of node.store (content_of node)
+
+  -- its state without the bytes of its extents, which every disk leaves as the rules say
+  abbrev pub bare : Node D g → Plain
+  bare node = emptied (content_of node)
 
   -- an earlier call was answered `Disk`
   abbrev pub is_stopped : Node D g → Bool

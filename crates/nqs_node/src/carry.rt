@@ -1,12 +1,14 @@
 //! A node carries out a plan.
 
-ghost use Rattle.std.specs.Prelude.{◌≡◌, ◌⊎◌, ◌++◌, ℕ, List, false, map, IsTrue, IsErrOf, OnOk, OnErr};
+ghost use Rattle.std.specs.Prelude.{◌≡◌, ◌⊎◌, ◌≤◌, ◌++◌, ℕ, List, false, map, IsTrue, IsErrOf, OnOk, OnErr};
+ghost use Rattle.std.specs.Option.{option_map};
 ghost use Rattle.nqs_state.specs.State.{Plain};
 ghost use Rattle.nqs_types.specs.declared.world.Which.{Which};
 ghost use Rattle.nqs_outside.specs.Causes.{Rose};
-ghost use Rattle.nqs_rules.specs.Starts.{after_step};
+ghost use Rattle.nqs_rules.specs.Starts.{after_change, after_step};
 ghost use Rattle.nqs_rules.specs.Stepped.{Stepped, shown};
 ghost use Rattle.nqs_store.specs.Sound.{IsSoundHost};
+ghost use Rattle.nqs_back.specs.Bare.{emptied, blank, without_bytes};
 ghost use Rattle.nqs_node.specs.Carried.{IsMade, IsCutBy, IsBrokenOff, IsOneOrOther, IsBlown};
 ghost use Rattle.nqs_node.specs.Planned.{MayBeDone, Does};
 
@@ -37,6 +39,10 @@ impl<D: Disk> Node<D> {
         ensures running { OnOk result (is_stopped self.new ≡ false) }
         ensures broken { (which : Which) → IsErrOf result (NodeFault.Disk which) → IsTrue (is_stopped self.new) × Rose (D.faults (disk_of which self.old)) (D.faults (disk_of which self.new)) }
         ensures unsaid { OnErr result (out.new.items ≡ out.old.items) }
+        ensures later { (which : Which) → D.faults (disk_of which self.old) ≤ D.faults (disk_of which self.new) }
+        ensures unmade { OnErr result (content_of self.new ≡ content_of self.old) }
+        ensures bare { OnOk result (emptied (content_of self.new) ≡ after_change (option_map blank plan.change) (emptied (content_of self.old))) }
+        ensures alike { OnOk result (map without_bytes out.new.items ≡ map without_bytes out.old.items ++ map without_bytes plan.outputs) }
         ensures memory { IsTrue D.tells → IsErrOf result NodeFault.Memory → (content_of self.new ≡ content_of self.old) × (is_stopped self.new ≡ is_stopped self.old)
             × ((which : Which) → history_of self.new which ≡ history_of self.old which) × ((s : Plain) → Tells self.old s → Tells self.new s) }
         ensures told { IsTrue D.tells → (s : Plain) → Tells self.old s → (done : Stepped (List ℕ)) → Does (bytes_of self.old) plan done → OnOk result (Tells self.new (after_step done s)) }

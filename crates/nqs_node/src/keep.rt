@@ -21,6 +21,7 @@ ghost use Rattle.nqs_store.specs.Puts.{IsShortPut};
 ghost use Rattle.nqs_store.specs.Sound.{IsSoundHost};
 ghost use Rattle.nqs_store.specs.Stores.{disk_of, history_of, fails_of, is_starved, is_stopped, plain_of, Tells};
 ghost use Rattle.nqs_store.specs.Told.{Host};
+ghost use Rattle.nqs_back.specs.Bare.{emptied, blank};
 
 use nqs_host::apply;
 use nqs_outside::Disk;
@@ -48,6 +49,7 @@ pub(crate) fn keep<D: Disk>(
     ensures sound { IsSoundHost (content state.new) }
     ensures site { (content state.new).site ≡ (content state.old).site }
     ensures err { OnErr result (content state.new ≡ content state.old) }
+    ensures bare { OnOk result (emptied (content state.new) ≡ applied (blank change) (emptied (content state.old))) }
     ensures stopped { IsErrOf result StoreFault.Stopped → IsTrue (is_stopped store.old) }
     ensures running { OnOk result (is_stopped store.new ≡ false) }
     ensures broken { (which : Which) → IsErrOf result (StoreFault.Disk which) → IsTrue (is_stopped store.new) × Rose (D.faults (disk_of which store.old)) (D.faults (disk_of which store.new)) }

@@ -6,6 +6,7 @@ ghost use Rattle.nqs_state.specs.State.{Plain, content};
 ghost use Rattle.nqs_types.specs.declared.world.Which.{Which};
 ghost use Rattle.nqs_outside.specs.Causes.{Rose};
 ghost use Rattle.nqs_outside.specs.History.{moment};
+ghost use Rattle.nqs_rules.specs.Measure.{starts_left};
 ghost use Rattle.nqs_rules.specs.Sane.{is_sane_event};
 ghost use Rattle.nqs_rules.specs.Start.{start};
 ghost use Rattle.nqs_rules.specs.Starts.{after_step};
@@ -14,6 +15,8 @@ ghost use Rattle.nqs_rules.specs.Stepped.{plan_of, shown};
 ghost use Rattle.nqs_store.specs.Disks.{disk_at};
 ghost use Rattle.nqs_store.specs.Sound.{IsSoundHost};
 ghost use Rattle.nqs_store.specs.Stores.{is_stopped as is_store_stopped};
+ghost use Rattle.nqs_back.specs.Back.{comebacks, comes_back};
+ghost use Rattle.nqs_back.specs.Bare.{emptied, without_bytes};
 ghost use Rattle.nqs_node.specs.Carried.{started, IsMade, IsCutBy, IsBrokenOff, IsOneOrOther, IsBlown};
 ghost use Rattle.nqs_node.specs.Idle.{is_idle};
 
@@ -46,7 +49,7 @@ pub struct Node<D: Disk> {
 }
 
 impl<D: Disk> Node<D> {
-    ghost use Rattle.nqs_node.specs.Nodes.{disk_of, history_of, fails_of, is_starved, content_of, is_stopped, Tells};
+    ghost use Rattle.nqs_node.specs.Nodes.{disk_of, history_of, fails_of, is_starved, content_of, bare, is_stopped, Tells};
 
     /// Takes an event: keeps its change, makes it, and adds to `out` what goes out. `Memory` leaves all as it was.
     pub fn take(
@@ -63,8 +66,19 @@ impl<D: Disk> Node<D> {
         ensures running { OnOk result (is_stopped self.new ≡ false) }
         ensures broken { (which : Which) → IsErrOf result (NodeFault.Disk which) → IsTrue (is_stopped self.new) × Rose (D.faults (disk_of which self.old)) (D.faults (disk_of which self.new)) }
         ensures unsaid { OnErr result (out.new.items ≡ out.old.items) }
+        // No disk's count of faults falls.
+        ensures later { (which : Which) → D.faults (disk_of which self.old) ≤ D.faults (disk_of which self.new) }
         ensures memory { IsTrue D.tells → IsErrOf result NodeFault.Memory → (content_of self.new ≡ content_of self.old) × (is_stopped self.new ≡ is_stopped self.old)
             × ((which : Which) → history_of self.new which ≡ history_of self.old which) × ((s : Plain) → Tells self.old s → Tells self.new s) }
+        ensures unmade { OnErr result (content_of self.new ≡ content_of self.old) }
+
+        // Over whatever disks: at Ok its state is that after the step, and what goes out is the step's, but for the bytes that are kept.
+        ensures bare { OnOk result (bare self.new ≡ emptied (after_step (step event.now (bare self.old)) (bare self.old))) }
+        ensures alike { OnOk result (map without_bytes out.new.items ≡ map without_bytes out.old.items ++ map without_bytes (map shown (step event.now (bare self.old)).outputs)) }
+
+        // After an event that came back no more may start than before, and nothing goes out of which another comes back.
+        ensures no_more { IsTrue (comes_back event.now) → OnOk result (starts_left (content_of self.new) ≤ starts_left (content_of self.old)) }
+        ensures none_back { IsTrue (comes_back event.now) → OnOk result (comebacks out.new.items ≡ comebacks out.old.items) }
 
         // At Ok its state is that after the step, and its disks tell it; what goes out is the step's.
         ensures told { IsTrue D.tells → (s : Plain) → Tells self.old s → OnOk result (Tells self.new (after_step (step event.now s) s)) }
@@ -123,11 +137,25 @@ impl<D: Disk> Node<D> {
         ensures running { OnOk result (is_stopped self.new ≡ false) }
         ensures broken { (which : Which) → IsErrOf result (NodeFault.Disk which) → IsTrue (is_stopped self.new) × Rose (D.faults (disk_of which self.old)) (D.faults (disk_of which self.new)) }
         ensures unsaid { OnErr result (out.new.items ≡ out.old.items) }
+        // No disk's count of faults falls.
+        ensures later { (which : Which) → D.faults (disk_of which self.old) ≤ D.faults (disk_of which self.new) }
         ensures memory { IsTrue D.tells → IsErrOf result NodeFault.Memory → (content_of self.new ≡ content_of self.old) × (is_stopped self.new ≡ is_stopped self.old)
             × ((which : Which) → history_of self.new which ≡ history_of self.old which) × ((s : Plain) → Tells self.old s → Tells self.new s) }
+        ensures unmade { OnErr result (content_of self.new ≡ content_of self.old) }
 
         // It is false exactly where none may start.
         ensures more { IfOk result (λ more. more ≡ is_some (start now (content_of self.old))) }
+
+        // Where none may start, nothing happens.
+        ensures idle { IfOk result (λ more. more ≡ false → (content_of self.new ≡ content_of self.old) × (out.new.items ≡ out.old.items)) }
+
+        // Over whatever disks: at Ok its state is that after the start, and what goes out is the start's, but for the bytes that are kept.
+        ensures bare { OnOk result (bare self.new ≡ emptied (after_step (started now (bare self.old)) (bare self.old))) }
+        ensures alike { OnOk result (map without_bytes out.new.items ≡ map without_bytes out.old.items ++ map without_bytes (map shown (started now (bare self.old)).outputs)) }
+
+        // Each start lowers how many there may still be, and of each at most one event comes back.
+        ensures fewer { IfOk result (λ more. IsTrue more → starts_left (content_of self.new) < starts_left (content_of self.old)) }
+        ensures one_back { OnOk result (comebacks out.new.items ≤ comebacks out.old.items + 1) }
 
         // At Ok its state is that after the start, and its disks tell it; what goes out is the start's.
         ensures told { IsTrue D.tells → (s : Plain) → Tells self.old s → OnOk result (Tells self.new (after_step (started now s) s)) }

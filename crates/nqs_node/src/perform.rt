@@ -1,6 +1,7 @@
 //! What is planned is read, kept and made, all over the disks of a host.
 
-ghost use Rattle.std.specs.Prelude.{◌≡◌, ◌⊎◌, ℕ, List, Option, false, IsTrue, IsErrOf, OnOk, OnErr, IfSome, length};
+ghost use Rattle.std.specs.Prelude.{◌≡◌, ◌⊎◌, ◌≤◌, ℕ, List, Option, false, IsTrue, IsErrOf, OnOk, OnErr, IfSome, length, map};
+ghost use Rattle.std.specs.Option.{option_map};
 ghost use Rattle.nqs_state.specs.State.{content};
 ghost use Rattle.nqs_types.specs.declared.world.Which.{Which};
 ghost use Rattle.nqs_outside.specs.Causes.{Rose};
@@ -8,6 +9,7 @@ ghost use Rattle.nqs_rules.specs.Starts.{after_change};
 ghost use Rattle.nqs_store.specs.Sound.{IsSoundHost};
 ghost use Rattle.nqs_store.specs.Stores.{disk_of, history_of, fails_of, is_starved, is_stopped, bytes_of, plain_of, Tells};
 ghost use Rattle.nqs_store.specs.Told.{Host};
+ghost use Rattle.nqs_back.specs.Bare.{emptied, blank, without_bytes};
 ghost use Rattle.nqs_node.specs.Carried.{Kept, IsMade, IsCutBy, IsBrokenOff, IsOneOrOther, IsBlown};
 ghost use Rattle.nqs_node.specs.Idle.{is_idle};
 ghost use Rattle.nqs_node.specs.Planned.{MayBeKept, IsKeptWith};
@@ -48,6 +50,9 @@ pub(crate) fn perform<D: Disk>(
     ensures running { OnOk result (is_stopped store.new ≡ false) }
     ensures broken { (which : Which) → IsErrOf result (StoreFault.Disk which) → Rose (D.faults (disk_of which store.old)) (D.faults (disk_of which store.new)) }
     ensures as_many { length outputs.new.items ≡ length outputs.old.items }
+    ensures later { (which : Which) → D.faults (disk_of which store.old) ≤ D.faults (disk_of which store.new) }
+    ensures bare { OnOk result (emptied (content state.new) ≡ after_change (option_map blank change) (emptied (content state.old))) }
+    ensures alike { map without_bytes outputs.new.items ≡ map without_bytes outputs.old.items }
     ensures memory { IsErrOf result StoreFault.Memory → is_stopped store.new ≡ false }
     ensures unchanged { IsTrue D.tells → IsErrOf result StoreFault.Memory → ((which : Which) → history_of store.new which ≡ history_of store.old which) × ((host : Host) → Tells store.old host → Tells store.new host) }
     ensures told { IsTrue D.tells → Tells store.old (content state.old) → OnOk result (Tells store.new (content state.new)) }

@@ -1,6 +1,6 @@
 //! The bytes of outputs are read from the spool, before anything is kept.
 
-ghost use Rattle.std.specs.Prelude.{◌≡◌, ◌<◌, ◌≤◌, ℕ, IsTrue, IsErrOf, OnOk, IfErr, length};
+ghost use Rattle.std.specs.Prelude.{◌≡◌, ◌<◌, ◌≤◌, ℕ, IsTrue, IsErrOf, OnOk, IfErr, length, map};
 ghost use Rattle.nqs_types.specs.declared.world.Which.{Which};
 ghost use Rattle.nqs_types.specs.declared.world.Which.TheVariants.{Spool};
 ghost use Rattle.nqs_outside.specs.Causes.{Rose};
@@ -10,6 +10,7 @@ ghost use Rattle.nqs_rules.specs.Stepped.{sent_with, with_bytes};
 ghost use Rattle.nqs_store.specs.Faults.{IsScriptFault};
 ghost use Rattle.nqs_store.specs.Stores.{disk_of, history_of, fails_of, is_starved, is_stopped, bytes_of, Tells};
 ghost use Rattle.nqs_store.specs.Told.{Host};
+ghost use Rattle.nqs_back.specs.Bare.{without_bytes};
 ghost use Rattle.nqs_node.specs.Carried.{IsBlown};
 ghost use Rattle.nqs_node.specs.Reading.{read_into, IsLiveRead, AreLiveReads};
 
@@ -64,6 +65,7 @@ fn read_one<D: Disk>(
     ensures filled { IsTrue D.tells → (host : Host) → Tells store.old host → IsLiveRead host read.now
         → OnOk result (outputs.new.items ≡ change_at read.now.output (with_bytes (bytes_of store.old read.now.extent)) outputs.old.items) }
     ensures as_many { length outputs.new.items ≡ length outputs.old.items }
+    ensures alike { map without_bytes outputs.new.items ≡ map without_bytes outputs.old.items }
     ensures failed { IsErrOf result (StoreFault.Disk Spool) → Rose (D.faults (disk_of Spool store.old)) (D.faults (disk_of Spool store.new)) }
     ensures cause { IsTrue D.tells → IsErrOf result (StoreFault.Disk Spool) → IsBlown (fails_of store.old Spool) (history_of store.old Spool) }
     ensures same { IsTrue D.tells → (which : Which) → history_of store.new which ≡ history_of store.old which }
@@ -94,6 +96,7 @@ pub(crate) fn read_all<D: Disk>(
     ensures only { IfErr result IsScriptFault }
     ensures filled { IsTrue D.tells → (host : Host) → Tells store.old host → AreLiveReads host reads.now → OnOk result (outputs.new.items ≡ read_into (bytes_of store.old) reads.now outputs.old.items) }
     ensures as_many { length outputs.new.items ≡ length outputs.old.items }
+    ensures alike { map without_bytes outputs.new.items ≡ map without_bytes outputs.old.items }
     ensures failed { IsErrOf result (StoreFault.Disk Spool) → Rose (D.faults (disk_of Spool store.old)) (D.faults (disk_of Spool store.new)) }
     ensures cause { IsTrue D.tells → IsErrOf result (StoreFault.Disk Spool) → IsBlown (fails_of store.old Spool) (history_of store.old Spool) }
     ensures same { IsTrue D.tells → (which : Which) → history_of store.new which ≡ history_of store.old which }

@@ -17,6 +17,7 @@ mod token;
 
 pub use laws::reads_what_is_said;
 pub use options::{Flag, Options};
+pub use path::is_path;
 pub use reading::Progress;
 pub use script::LineKind;
 pub use submission::read_qsub;

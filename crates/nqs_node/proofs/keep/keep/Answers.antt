@@ -13,6 +13,7 @@ use Rattle.nqs_store.specs.Images.{TellsOneOf}
 use Rattle.nqs_node.proofs.Nothing.{none_broken, none_told}
 use Rattle.nqs_node.proofs.Shapes.{same_fit, same_sane, same_room}
 use Rattle.nqs_node.proofs.Sites.{site_kept}
+use Rattle.nqs_back.proofs.Plans.{bare_made}
 use Rattle.nqs_node.proofs.keep.keep.Goals as goal
 
 pub returns-in-Err-clause-broken_off : goal.returns-in-Err-clause-broken_off
@@ -65,3 +66,6 @@ returns-in-Ok-commit-clause-any_moment g c = λ tells told.
     let same = c.make_room.ensures.content in
     subst (λ (h : State Extent). EachMoment (history_of c.args.store.now) (history_of c.commit.new.self) (λ images. TellsOneOf (plain_of c.args.store.now h) (applied (filled c.args.change c.args.puts.now) (plain_of c.args.store.now h)) (images First) (images Spool)))
     same (c.commit.ensures.any_moment tells (subst (Tells c.args.store.now) (sym same) told))
+
+pub returns-in-Ok-commit-clause-bare : goal.returns-in-Ok-commit-clause-bare
+returns-in-Ok-commit-clause-bare g c = bare_made c.args.change c.commit.new.change (content c.args.state.now) (content c.make_room.new.self) (content c.apply.new.state) c.commit.ensures.shape c.apply.ensures c.make_room.ensures.content

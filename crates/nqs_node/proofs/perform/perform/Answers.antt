@@ -1,8 +1,11 @@
-use Rattle.std.proofs.Common.{◌⊎◌, inl, inr, ap, ◌∙◌}
+use Rattle.std.proofs.Common.{◌⊎◌, inl, inr, Option, option_map, sym, ap, ◌∙◌}
 use Rattle.std.proofs.lemmas.Result.{on_ok_weaker, on_err_weaker}
 use Rattle.nqs_state.specs.State.{content}
+use Rattle.nqs_types.specs.declared.change.Change.{Change}
+use Rattle.nqs_values.specs.declared.extent.Extent.{Extent}
 use Rattle.nqs_rules.specs.Starts.{after_change}
 use Rattle.nqs_store.specs.Stores.{history_of, fails_of, plain_of}
+use Rattle.nqs_back.specs.Bare.{emptied, blank}
 use Rattle.nqs_node.specs.Carried.{Kept}
 use Rattle.nqs_node.proofs.Performing.{still_broken_off, still_one, same_plain, none_kept, some_kept, made_since, broken_since, cut_since, moments_since, plain_since}
 use Rattle.nqs_node.proofs.perform.perform.Goals as goal
@@ -55,3 +58,10 @@ returns-in-Some-clause-any_moment g c = λ yes told kept with.
     moments_since (fails_of c.args.store.now) (fails_of c.read_all.new.store) (history_of c.args.store.now) (history_of c.read_all.new.store) (history_of c.keep.new.store) (c.read_all.ensures.fuse yes) (c.read_all.ensures.same yes) c.in-Some.change c.args.puts.now kept
     (some_kept c.args.change c.in-Some.change c.args.puts.now kept c.in-Some.is with)
     (plain_of c.read_all.new.store (content c.args.state.now)) (plain_of c.args.store.now (content c.args.state.now)) (same_plain c.args.store.now c.read_all.new.store (c.read_all.ensures.same yes) (content c.args.state.now)) (c.keep.ensures.any_moment yes (c.read_all.ensures.tells yes (content c.args.state.now) told))
+
+pub returns-in-None-clause-bare : goal.returns-in-None-clause-bare
+returns-in-None-clause-bare g c = ap (λ (o : Option (Change Extent)). after_change (option_map blank o) (emptied (content c.args.state.now))) (sym c.in-None.is)
+
+pub returns-in-Some-clause-bare : goal.returns-in-Some-clause-bare
+returns-in-Some-clause-bare g c =
+    on_ok_weaker c.keep.result (λ made. made ∙ ap (λ (o : Option (Change Extent)). after_change (option_map blank o) (emptied (content c.args.state.now))) (sym c.in-Some.is)) c.keep.ensures.bare

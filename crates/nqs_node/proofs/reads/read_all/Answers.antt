@@ -42,6 +42,7 @@ loop-read-preserved g c =
           ap (read_into f (drop (i + 1) reads)) (read ∙ ap (λ b. change_at x.output (with_bytes b) outputs) bytes)
           ∙ sym (at_drop_more (λ rs. read_into f rs outputs) reads i none c.loop-read-test.true) ∙ v.filled yes host told all;
       as_many = c.read_one.ensures.as_many ∙ v.as_many;
+      alike = c.read_one.ensures.alike ∙ v.alike;
       same = λ yes which. c.read_one.ensures.same yes which ∙ v.same yes which;
       fuse = λ yes which n. c.read_one.ensures.fuse yes which n ∙ v.fuse yes which n;
       starved = λ yes which. c.read_one.ensures.starved yes which ∙ v.starved yes which;

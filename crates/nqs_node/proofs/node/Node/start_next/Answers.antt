@@ -1,15 +1,18 @@
-use Rattle.std.proofs.Common.{◌≡◌, ◌++◌, IsTrue, IsErrOf, Err, IfSome, List, ℕ, is_some, map, refl, sym, ap, subst, ◌∙◌}
+use Rattle.std.proofs.Common.{◌≡◌, ◌++◌, IsTrue, IsErrOf, Err, IfSome, List, [], ℕ, is_some, map, refl, sym, ap, subst, ◌∙◌}
 use Rattle.std.specs.List.{AllByRecursion}
 use Rattle.std.proofs.lemmas.List.{append-nil}
 use Rattle.nqs_rules.specs.Fits.{fits}
 use Rattle.nqs_rules.specs.Sane.{is_sane_change}
 use Rattle.nqs_rules.specs.Starts.{after_step}
-use Rattle.nqs_rules.specs.Stepped.{Stepped, shown, puts_of}
+use Rattle.nqs_rules.specs.Stepped.{Stepped, map_stepped, shown, puts_of}
 use Rattle.nqs_store.specs.Puts.{IsShortPut}
 use Rattle.nqs_kept.specs.Offers.{takes_back_few}
 use Rattle.nqs_kept.specs.Reads.{AreLive}
 use Rattle.nqs_node.specs.Carried.{started, IsMade}
 use Rattle.nqs_node.specs.Nodes.{history_of, fails_of, content_of, bytes_of, Tells}
+use Rattle.nqs_back.specs.Bare.{emptied}
+use Rattle.nqs_back.proofs.Plans.{bare_step, alike_step, fewer_left, one_back}
+use Rattle.nqs_node.proofs.Bare.{picked_bare, started_bare, bare_none, alike_none}
 use Rattle.nqs_node.proofs.Performing.{still_broken_off}
 use Rattle.nqs_node.proofs.Planning.{next_is, at_next, none_next, may_be_done}
 use Rattle.nqs_node.proofs.Resting.{none_found}
@@ -110,3 +113,31 @@ pub returns-in-Ok-clause-any_moment : goal.returns-in-Ok-clause-any_moment
 returns-in-Ok-clause-any_moment g c = λ yes s told.
     c.in-Ok.ensures.any_moment yes s told (started c.args.now s) (does_next c.args.self.now s told c.args.now (c.start_looks_at_no_bytes.ensures.start (bytes_of c.args.self.now) c.args.now (content_of c.args.self.now)) c.in-Ok-Some.plan
     (next_is c.args.now (content_of c.args.self.now) c.in-Ok-Some.plan (sym c.in-Ok-Some.field-0-is ∙ c.in-Ok-Some.ensures)))
+
+pub returns-in-Ok-None-clause-bare : goal.returns-in-Ok-None-clause-bare
+returns-in-Ok-None-clause-bare g c = bare_none c.args.now (content_of c.args.self.now) (c.start_looks_at_no_bytes.ensures.start (λ _. []) c.args.now (content_of c.args.self.now)) (none_next c.args.now (content_of c.args.self.now) (sym c.in-Ok-None.field-0-is ∙ c.in-Ok-None.ensures))
+
+pub returns-in-Ok-None-clause-alike : goal.returns-in-Ok-None-clause-alike
+returns-in-Ok-None-clause-alike g c = alike_none c.args.now (content_of c.args.self.now) (c.start_looks_at_no_bytes.ensures.start (λ _. []) c.args.now (content_of c.args.self.now)) (none_next c.args.now (content_of c.args.self.now) (sym c.in-Ok-None.field-0-is ∙ c.in-Ok-None.ensures)) c.args.out.now.items
+
+pub returns-in-Ok-clause-bare : goal.returns-in-Ok-clause-bare
+returns-in-Ok-clause-bare g c =
+    let next = next_is c.args.now (content_of c.args.self.now) c.in-Ok-Some.plan (sym c.in-Ok-Some.field-0-is ∙ c.in-Ok-Some.ensures) in
+    bare_step (content_of c.args.self.now) (content_of c.carry_out.new.self) (started c.args.now) next.done c.in-Ok-Some.plan next.is (started_bare c.args.now (content_of c.args.self.now) (c.start_looks_at_no_bytes.ensures.start (λ _. []) c.args.now (content_of c.args.self.now)) next.done next.picked) c.in-Ok.ensures.bare
+
+pub returns-in-Ok-clause-alike : goal.returns-in-Ok-clause-alike
+returns-in-Ok-clause-alike g c =
+    let next = next_is c.args.now (content_of c.args.self.now) c.in-Ok-Some.plan (sym c.in-Ok-Some.field-0-is ∙ c.in-Ok-Some.ensures) in
+    alike_step (content_of c.args.self.now) (started c.args.now) next.done c.in-Ok-Some.plan next.is (started_bare c.args.now (content_of c.args.self.now) (c.start_looks_at_no_bytes.ensures.start (λ _. []) c.args.now (content_of c.args.self.now)) next.done next.picked) c.args.out.now.items c.carry_out.new.out.items c.in-Ok.ensures.alike
+
+pub returns-in-Ok-clause-fewer : goal.returns-in-Ok-clause-fewer
+returns-in-Ok-clause-fewer g c = λ more.
+    let next = next_is c.args.now (content_of c.args.self.now) c.in-Ok-Some.plan (sym c.in-Ok-Some.field-0-is ∙ c.in-Ok-Some.ensures) in
+    fewer_left (content_of c.args.self.now) (content_of c.carry_out.new.self) c.args.now (map_stepped (λ _. []) next.done) c.requires.sound.order (picked_bare c.args.now (content_of c.args.self.now) (c.start_looks_at_no_bytes.ensures.start (λ _. []) c.args.now (content_of c.args.self.now)) next.done next.picked)
+    (bare_step (content_of c.args.self.now) (content_of c.carry_out.new.self) (λ _. map_stepped (λ _. []) next.done) next.done c.in-Ok-Some.plan next.is refl c.in-Ok.ensures.bare)
+
+pub returns-in-Ok-clause-one_back : goal.returns-in-Ok-clause-one_back
+returns-in-Ok-clause-one_back g c =
+    let next = next_is c.args.now (content_of c.args.self.now) c.in-Ok-Some.plan (sym c.in-Ok-Some.field-0-is ∙ c.in-Ok-Some.ensures) in
+    one_back (content_of c.args.self.now) (content_of c.carry_out.new.self) c.args.now (map_stepped (λ _. []) next.done) (picked_bare c.args.now (content_of c.args.self.now) (c.start_looks_at_no_bytes.ensures.start (λ _. []) c.args.now (content_of c.args.self.now)) next.done next.picked) c.args.out.now.items c.carry_out.new.out.items
+    (alike_step (content_of c.args.self.now) (λ _. map_stepped (λ _. []) next.done) next.done c.in-Ok-Some.plan next.is refl c.args.out.now.items c.carry_out.new.out.items c.in-Ok.ensures.alike)

@@ -1,6 +1,11 @@
-use Rattle.std.proofs.Common.{refl}
+use Rattle.std.proofs.Common.{◌≡◌, ◌++◌, List, ℕ, map, [], sym, ap, subst, ◌∙◌, refl}
+use Rattle.std.proofs.lemmas.Result.{on_ok_weaker}
+use Rattle.nqs_rules.specs.Starts.{after_step}
+use Rattle.nqs_rules.specs.Stepped.{Stepped, shown}
 use Rattle.nqs_rules.specs.Step.{step}
 use Rattle.nqs_node.specs.Nodes.{history_of, content_of, bytes_of}
+use Rattle.nqs_back.specs.Bare.{emptied, without_bytes}
+use Rattle.nqs_back.proofs.Plans.{bare_step, alike_step, no_more_left, none_back}
 use Rattle.nqs_node.proofs.Performing.{still_broken_off}
 use Rattle.nqs_node.proofs.Planning.{may_be_done}
 use Rattle.nqs_node.proofs.Telling.{one_still, done_here}
@@ -50,3 +55,23 @@ pub returns-in-Ok-clause-any_moment : goal.returns-in-Ok-clause-any_moment
 returns-in-Ok-clause-any_moment g c = λ yes s told.
     c.carry_out.ensures.any_moment yes s told (step c.args.event.now s) (done_here c.args.self.now s told (step c.args.event.now) (step c.args.event.now (content_of c.args.self.now)) c.in-Ok.plan c.in-Ok.ensures
     (c.step_looks_at_no_bytes.ensures (bytes_of c.args.self.now) c.args.event.now (content_of c.args.self.now)))
+
+pub returns-in-Ok-clause-bare : goal.returns-in-Ok-clause-bare
+returns-in-Ok-clause-bare g c =
+    on_ok_weaker c.carry_out.result (bare_step (content_of c.args.self.now) (content_of c.carry_out.new.self) (step c.args.event.now) (step c.args.event.now (content_of c.args.self.now)) c.in-Ok.plan c.in-Ok.ensures
+    (c.step_looks_at_no_bytes.ensures (λ _. []) c.args.event.now (content_of c.args.self.now))) c.carry_out.ensures.bare
+
+pub returns-in-Ok-clause-alike : goal.returns-in-Ok-clause-alike
+returns-in-Ok-clause-alike g c =
+    on_ok_weaker c.carry_out.result (alike_step (content_of c.args.self.now) (step c.args.event.now) (step c.args.event.now (content_of c.args.self.now)) c.in-Ok.plan c.in-Ok.ensures
+    (c.step_looks_at_no_bytes.ensures (λ _. []) c.args.event.now (content_of c.args.self.now)) c.args.out.now.items c.carry_out.new.out.items) c.carry_out.ensures.alike
+
+pub returns-in-Ok-clause-no_more : goal.returns-in-Ok-clause-no_more
+returns-in-Ok-clause-no_more g c = λ back.
+    on_ok_weaker c.carry_out.result (λ made. no_more_left (content_of c.args.self.now) (content_of c.carry_out.new.self) c.args.event.now back (bare_step (content_of c.args.self.now) (content_of c.carry_out.new.self) (step c.args.event.now) (step c.args.event.now (content_of c.args.self.now)) c.in-Ok.plan c.in-Ok.ensures
+    (c.step_looks_at_no_bytes.ensures (λ _. []) c.args.event.now (content_of c.args.self.now)) made)) c.carry_out.ensures.bare
+
+pub returns-in-Ok-clause-none_back : goal.returns-in-Ok-clause-none_back
+returns-in-Ok-clause-none_back g c = λ back.
+    on_ok_weaker c.carry_out.result (λ said. none_back (content_of c.args.self.now) (content_of c.carry_out.new.self) c.args.event.now back c.args.out.now.items c.carry_out.new.out.items (alike_step (content_of c.args.self.now) (step c.args.event.now) (step c.args.event.now (content_of c.args.self.now)) c.in-Ok.plan c.in-Ok.ensures
+    (c.step_looks_at_no_bytes.ensures (λ _. []) c.args.event.now (content_of c.args.self.now)) c.args.out.now.items c.carry_out.new.out.items said)) c.carry_out.ensures.alike

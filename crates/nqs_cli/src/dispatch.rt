@@ -1,0 +1,132 @@
+//! All that the program does.
+
+ghost use Rattle.std.specs.Prelude.{◌≡◌, ◌≤◌, ◌<◌, true, length, IfSome};
+ghost use Rattle.nqs_rules.specs.Sane.{is_of_site, is_sane_id};
+
+use crate::asking::{ask, tend};
+use crate::daemon::daemon;
+use crate::form::{Form, read_form};
+use crate::format::format;
+use crate::machine::Machine;
+use crate::parts::status_of_end;
+use nqs_access::place_of;
+use nqs_clients::NqsStatus;
+use nqs_outside::{Sink, Source};
+use nqs_types::{HostId, Named, RequestId};
+use nqs_values::Name;
+use std::alloc::Global;
+
+/// The last number that a request may have.
+const LAST_NUMBER: u32 = 4_294_967_294;
+
+// A host of the site.
+fn host_of(site: &[Name], name: &Name) -> Option<HostId>
+    requires { length site.now ≤ 16 }
+    ensures within { IfSome result (λ host. host.0 < length site.now) }
+    ensures there { IfSome result (λ host. is_of_site (length site.now) host ≡ true) }
+{
+    match place_of(site, name) {
+        Some(place) => Some(HostId(place as u8)),
+        None => None,
+    }
+}
+
+// The host that a word names.
+fn host_named(site: &[Name], word: &str) -> Option<HostId>
+    requires { length site.now ≤ 16 }
+    ensures within { IfSome result (λ host. host.0 < length site.now) }
+    ensures there { IfSome result (λ host. is_of_site (length site.now) host ≡ true) }
+{
+    match Name::read(word.as_bytes()) {
+        Ok(name) => host_of(site, &name),
+        Err(_) => None,
+    }
+}
+
+// A request of a host of the site.
+fn request_named(site: &[Name], named: &Named) -> Option<RequestId>
+    requires { length site.now ≤ 16 }
+    ensures sane { IfSome result (λ id. is_sane_id id ≡ true) }
+    ensures there { IfSome result (λ id. is_of_site (length site.now) id.host ≡ true) }
+{
+    if named.seq == 0 {
+        return None;
+    }
+    if named.seq > LAST_NUMBER {
+        return None;
+    }
+    match host_of(site, &named.host) {
+        Some(host) => Some(RequestId {
+            seq: named.seq,
+            host,
+        }),
+        None => None,
+    }
+}
+
+fn tend_named<M: Machine>(
+    alloc: Global,
+    machine: &mut M,
+    dir: &str,
+    site: &[Name],
+    host: HostId,
+    named: &Named,
+    start: u16,
+) -> NqsStatus
+    requires few { length site.now ≤ 16 }
+    requires there { is_of_site (length site.now) host ≡ true }
+{
+    match request_named(site, named) {
+        None => NqsStatus::BadWords,
+        Some(id) => tend(alloc, machine, dir, site, host, id, start),
+    }
+}
+
+// Does what a form asks for, at a host of the site.
+fn run_at<M: Machine, S: Source, K: Sink>(
+    alloc: Global,
+    form: Form,
+    words: &[String],
+    dir: &str,
+    site: &[Name],
+    host: HostId,
+    machine: &mut M,
+    input: &mut S,
+    out: &mut K,
+) -> NqsStatus
+    requires few { length site.now ≤ 16 }
+    requires within { host.0 < length site.now }
+    requires there { is_of_site (length site.now) host ≡ true }
+{
+    match form {
+        Form::Format => format(alloc, machine, dir, host, site),
+        Form::Daemon(turns) => daemon(alloc, machine, dir, host, turns),
+        Form::Client => ask(alloc, machine, dir, site, words, input, out),
+        Form::Shepherd(id, start) => tend_named(alloc, machine, dir, site, host, &id, start),
+    }
+}
+
+/// Does all that the program `nqs` does. The words are without the program's name.
+pub fn run<M: Machine, S: Source, K: Sink>(
+    alloc: Global,
+    words: &[String],
+    machine: &mut M,
+    input: &mut S,
+    out: &mut K,
+) -> NqsStatus {
+    let Some(form) = read_form(words) else {
+        return NqsStatus::BadWords;
+    };
+    let (Some(dir), Some(name)) = (words.get(1), words.get(2)) else {
+        return NqsStatus::BadWords;
+    };
+    let site = match machine.site(dir) {
+        Ok(site) => site,
+        Err(end) => return status_of_end(end),
+    };
+    let site = site.as_slice();
+    match host_named(site, name) {
+        None => NqsStatus::BadWords,
+        Some(host) => run_at(alloc, form, words, dir, site, host, machine, input, out),
+    }
+}

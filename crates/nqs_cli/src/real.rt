@@ -1,0 +1,234 @@
+//! The machine that the program runs on: files, a socket and child programs, made by `nqs_real`.
+//!
+//! It does nothing but read the site's file, make the adapters and take them back. It is trusted to hand out the parts
+//! of the folder and the host that it is asked for.
+
+ghost use Rattle.std.specs.Prelude.{◌≡◌, ◌≤◌, [], ◌∷◌, None, length, IfOk, IsErrOf};
+ghost use Rattle.nqs_outside.specs.Told.{Extends};
+ghost use Rattle.nqs_store.specs.Disks.{histories_of};
+ghost use Rattle.nqs_outside.specs.Causes.{Rose};
+
+use crate::machine::{Machine, MachineEnd};
+use nqs_real::{
+    FileDisk, FileOutlet, FilePrinter, HostLock, ShellRunner, ShepherdLauncher, SiteFault,
+    SiteHost, SystemClock, UdpWire, make_host_folder, names_of, open_disks, own_program, read_site,
+};
+use nqs_store::Disks;
+use nqs_types::HostId;
+use nqs_values::NameList;
+use std::fs::File;
+use std::io;
+use std::io::{ErrorKind, Read};
+use std::rt::HostRuntime;
+
+/// How long a receive waits, in milliseconds: a daemon, a client and a shepherd alike.
+const WAIT: u64 = 1000;
+
+/// The longest site file that is read, in bytes.
+const LONGEST_SITE: u64 = 4096;
+
+/// The real machine. While it lends a host's disks it holds the host's lock.
+#[derive(Drop)]
+pub struct RealMachine {
+    rt: HostRuntime,
+    lock: Option<HostLock>,
+    faults: u64,
+}
+
+fn site_at(rt: &HostRuntime, dir: &str) -> io::Result<Vec<SiteHost>>
+    ensures { IfOk result (λ site. (1 ≤ length site.items) × (length site.items ≤ 16)) }
+{
+    let mut bytes = Vec::new(rt.alloc());
+    let path = format!(in rt.alloc(); "{dir}/site")?;
+    File::open(rt, path)?
+        .take(LONGEST_SITE)
+        .read_to_end(&mut bytes)?;
+    match read_site(rt.alloc(), &bytes) {
+        Ok(site) => Ok(site),
+        Err(SiteFault::Form) => Err(io::Error::from(ErrorKind::InvalidData)),
+        Err(SiteFault::Memory(_)) => Err(io::Error::from(ErrorKind::OutOfMemory)),
+    }
+}
+
+impl RealMachine {
+    /// A machine that has lent nothing.
+    pub fn new(rt: HostRuntime) -> RealMachine {
+        RealMachine {
+            rt,
+            lock: None,
+            faults: 0,
+        }
+    }
+
+    // Counts a fault. Want of memory is one here too.
+    fn fault(&mut self) -> MachineEnd
+        ensures rose { Rose self.old.faults self.new.faults }
+        ensures later { self.old.faults ≤ self.new.faults }
+    {
+        self.faults = self.faults.saturating_add(1);
+        MachineEnd::Failed
+    }
+
+    // The answer of a call, with a fault counted.
+    fn answer<T: Drop>(&mut self, made: io::Result<T>) -> Result<T, MachineEnd>
+        ensures later { self.old.faults ≤ self.new.faults }
+        ensures failed { IsErrOf result MachineEnd.Failed → Rose self.old.faults self.new.faults }
+    {
+        match made {
+            Ok(part) => Ok(part),
+            Err(_) => Err(self.fault()),
+        }
+    }
+
+    fn names(&self, dir: &str) -> io::Result<NameList>
+        ensures { IfOk result (λ names. (1 ≤ length names) × (length names ≤ 16)) }
+    {
+        let site = site_at(&self.rt, dir)?;
+        Ok(names_of(self.rt.alloc(), &site)?)
+    }
+
+    // The folder of a host, which is locked from now on.
+    fn locked_folder(&mut self, dir: &str, host: HostId) -> io::Result<String>
+        ensures { self.new.faults ≡ self.old.faults }
+    {
+        let site = site_at(&self.rt, dir)?;
+        let folder = make_host_folder(&self.rt, dir, &site, host)?;
+        self.lock = Some(HostLock::take(&self.rt, &folder)?);
+        Ok(folder)
+    }
+
+    fn locked_disks(&mut self, dir: &str, host: HostId) -> io::Result<Disks<FileDisk>>
+        ensures { self.new.faults ≡ self.old.faults }
+    {
+        let folder = self.locked_folder(dir, host)?;
+        let disks = open_disks(&self.rt, &folder)?;
+        Ok(Disks {
+            root: disks.root,
+            first: disks.first,
+            second: disks.second,
+            spool: disks.spool,
+        })
+    }
+
+    fn wire_of(&self, dir: &str, host: Option<HostId>) -> io::Result<(UdpWire, u16)> {
+        let site = site_at(&self.rt, dir)?;
+        match host {
+            None => UdpWire::of_client(self.rt, &site, WAIT),
+            Some(host) => {
+                let wire = UdpWire::of_daemon(self.rt, &site, host, WAIT)?;
+                Ok((wire, 0))
+            }
+        }
+    }
+
+    fn launcher_of(&self, dir: &str, host: HostId) -> io::Result<ShepherdLauncher> {
+        let site = site_at(&self.rt, dir)?;
+        let program = own_program(&self.rt)?;
+        ShepherdLauncher::open(self.rt, &program, dir, &site, host)
+    }
+
+    fn printer_of(&self, dir: &str, host: HostId) -> io::Result<FilePrinter> {
+        let site = site_at(&self.rt, dir)?;
+        let folder = make_host_folder(&self.rt, dir, &site, host)?;
+        FilePrinter::open(self.rt, &folder, &site)
+    }
+
+    fn outlet_of(&self, dir: &str, host: HostId) -> io::Result<FileOutlet> {
+        let site = site_at(&self.rt, dir)?;
+        let folder = make_host_folder(&self.rt, dir, &site, host)?;
+        FileOutlet::open(self.rt, &folder)
+    }
+
+    fn runner_of(&self, dir: &str, host: HostId) -> io::Result<ShellRunner> {
+        let site = site_at(&self.rt, dir)?;
+        let folder = make_host_folder(&self.rt, dir, &site, host)?;
+        ShellRunner::open(self.rt, &folder, &site, host)
+    }
+}
+
+impl Machine for RealMachine {
+    ghost use Rattle.nqs_cli.specs.Parts.{Part, disks};
+
+    type D = FileDisk;
+
+    type W = UdpWire;
+
+    type L = ShepherdLauncher;
+
+    type P = FilePrinter;
+
+    type O = FileOutlet;
+
+    type C = SystemClock;
+
+    type R = ShellRunner;
+
+    ghost lent = { λ _. None };
+
+    ghost back = { λ _. None };
+
+    ghost faults = { λ machine. machine.faults };
+
+    fn site(&mut self, dir: &str) -> Result<NameList, MachineEnd> {
+        match self.names(dir) {
+            Ok(names) => Ok(names),
+            Err(_) => Err(self.fault()),
+        }
+    }
+
+    fn disks(&mut self, dir: &str, host: HostId) -> Result<Disks<FileDisk>, MachineEnd> {
+        let made = self.locked_disks(dir, host);
+        self.answer(made)
+    }
+
+    fn wire(&mut self, dir: &str, host: Option<HostId>) -> Result<(UdpWire, u16), MachineEnd> {
+        let made = self.wire_of(dir, host);
+        self.answer(made)
+    }
+
+    fn launcher(&mut self, dir: &str, host: HostId) -> Result<ShepherdLauncher, MachineEnd> {
+        let made = self.launcher_of(dir, host);
+        self.answer(made)
+    }
+
+    fn printer(&mut self, dir: &str, host: HostId) -> Result<FilePrinter, MachineEnd> {
+        let made = self.printer_of(dir, host);
+        self.answer(made)
+    }
+
+    fn outlet(&mut self, dir: &str, host: HostId) -> Result<FileOutlet, MachineEnd> {
+        let made = self.outlet_of(dir, host);
+        self.answer(made)
+    }
+
+    fn runner(&mut self, dir: &str, host: HostId) -> Result<ShellRunner, MachineEnd> {
+        let made = self.runner_of(dir, host);
+        self.answer(made)
+    }
+
+    fn clock(&mut self) -> SystemClock {
+        SystemClock::new(self.rt)
+    }
+
+    fn disks_back(&mut self, host: HostId, part: Disks<FileDisk>)
+        ensures back { Extends {A = Part} None None (disks host (histories_of (λ _. record { start = []; calls = [] }) part) ∷ []) }
+        ensures lent { Extends {A = Part} None None [] }
+        ensures later { self.old.faults ≤ self.new.faults }
+    {
+        let _ = host;
+        drop(part);
+        self.lock = None;
+    }
+
+    fn wire_back(&mut self, _part: UdpWire) {}
+
+    fn launcher_back(&mut self, _part: ShepherdLauncher) {}
+
+    fn printer_back(&mut self, _part: FilePrinter) {}
+
+    fn outlet_back(&mut self, _part: FileOutlet) {}
+
+    fn runner_back(&mut self, _part: ShellRunner) {}
+
+    fn clock_back(&mut self, _part: SystemClock) {}
+}
