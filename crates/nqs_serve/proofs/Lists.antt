@@ -1,0 +1,63 @@
+-- Laws of outcomes.
+use Rattle.std.proofs.Common.{◌≡◌, ℕ, ◌+◌, ◌<◌, ◌≤◌, List, [], ◌∷◌, ◌++◌, map, filter, take, length, length-append, get_or, refl, sym, ap, ◌∙◌, append_assoc, Bool, true, false, Option, None, Some, arith}
+use Rattle.std.specs.List.{flat_map}
+use Rattle.std.specs.Option.{option_to_list}
+use Rattle.std.proofs.lemmas.List.{append-nil, get_or-map, take_more}
+use Rattle.std.proofs.Math.Seq.{take-length}
+use Rattle.std.proofs.lemmas.List.Elements.{filter-append}
+use Rattle.std.proofs.lemmas.Grind.{flat_map-append}
+use Rattle.nqs_types.specs.declared.event.Output.{Output}
+use Rattle.nqs_types.specs.declared.event.Output.TheVariants as out
+use Rattle.nqs_outside.specs.Told.{Extends}
+use Rattle.nqs_outside.proofs.Told.{extends_then, extends_same}
+use Rattle.nqs_back.specs.Back.{brings_back, comebacks}
+use Rattle.nqs_serve.specs.Runs.{Outcome, outcome, comeback_of}
+
+-- one outcome more, in a list of what outcomes ask
+pub one_more : {A : Type 0} (f : Outcome → List A) (os : List Outcome) (o : Outcome) → flat_map f os ++ f o ≡ flat_map f (os ++ o ∷ [])
+one_more f os o = ap (λ l. flat_map f os ++ l) (sym (append-nil (f o))) ∙ sym (flat_map-append f os (o ∷ []))
+
+-- and in a told list
+pub told_more : {A : Type 0} (f : Outcome → List A) (os : List Outcome) (o : Outcome) (was mid now : Option (List A)) → Extends was mid (flat_map f os) → Extends mid now (f o) → Extends was now (flat_map f (os ++ o ∷ []))
+told_more f os o was mid now first second = extends_same was now (flat_map f os ++ f o) (flat_map f (os ++ o ∷ [])) (one_more f os o) (extends_then was mid now (flat_map f os) (f o) first second)
+
+pub comebacks_append : (xs ys : List Output) → comebacks (xs ++ ys) ≡ comebacks xs + comebacks ys
+comebacks_append xs ys = ap (λ (l : List Output). length l) (filter-append brings_back xs ys) ∙ length-append (filter brings_back xs) (filter brings_back ys)
+
+-- of one output at most one event comes back, and only where it may
+pub few_back : (output : Output) (ok : Bool) → length (option_to_list (comeback_of output ok)) ≤ comebacks (output ∷ [])
+few_back (out.Launch order script) true = omega arith
+few_back (out.Launch order script) false = omega arith
+few_back (out.Print device order script) ok = omega arith
+few_back (out.File file path bytes) ok = omega arith
+few_back (out.Reply port token r) ok = omega arith
+few_back (out.Send m) ok = omega arith
+few_back (out.Kill id n) ok = omega arith
+few_back (out.Ended id n status) ok = omega arith
+few_back (out.Unlaunched id n) ok = omega arith
+few_back (out.Again id) ok = omega arith
+few_back (out.Lost id) ok = omega arith
+few_back (out.Ack port id n) ok = omega arith
+
+pub one_at_most : (output : Output) → comebacks (output ∷ []) ≤ 1
+one_at_most (out.Launch order script) = omega arith
+one_at_most (out.Print device order script) = omega arith
+one_at_most (out.File file path bytes) = omega arith
+one_at_most (out.Reply port token r) = omega arith
+one_at_most (out.Send m) = omega arith
+one_at_most (out.Kill id n) = omega arith
+one_at_most (out.Ended id n status) = omega arith
+one_at_most (out.Unlaunched id n) = omega arith
+one_at_most (out.Again id) = omega arith
+one_at_most (out.Lost id) = omega arith
+one_at_most (out.Ack port id n) = omega arith
+
+-- the value at a place of a mapped list
+pub at_mapped : {A B : Type 0} (f : A → B) (xs : List A) (ys : List B) (i : ℕ) (x : A) (y : B) → ys ≡ map f xs → i < length xs → x ≡ get_or xs i x → y ≡ get_or ys i y → y ≡ f x
+at_mapped f xs ys i x y same less is_x is_y = is_y ∙ ap (λ l. get_or l i y) same ∙ get_or-map f xs i x y less ∙ ap f (sym is_x)
+
+pub taken_more : {A : Type 0} (xs : List A) (i : ℕ) (x : A) → i < length xs → x ≡ get_or xs i x → take (i + 1) xs ≡ take i xs ++ x ∷ []
+taken_more xs i x less is = take_more xs i x less ∙ ap (λ v. take i xs ++ v ∷ []) (sym is)
+
+pub taken_all : {A : Type 0} (xs : List A) (i : ℕ) → length xs ≤ i → i ≤ length xs → take i xs ≡ xs
+taken_all xs i from to = let same : i ≡ length xs = omega (arith, from, to) in ap (λ n. take n xs) same ∙ take-length xs

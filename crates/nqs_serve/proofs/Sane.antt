@@ -1,0 +1,97 @@
+-- The events that a daemon takes are sane.
+use Rattle.std.proofs.Common.{◌≡◌, ℕ, List, [], length, refl, Bool, true, ◌&&◌, IsTrue, Option, None, Some, IfSome}
+use Rattle.std.proofs.lemmas.Bool.{and_parts, and_from}
+use Rattle.nqs_types.specs.declared.message.Tool.{Tool}
+use Rattle.nqs_types.specs.declared.message.Tool.TheVariants.{Qsub, Qstat, Qdel, Qmgr, Tick}
+use Rattle.nqs_types.specs.declared.message.Message.{Message}
+use Rattle.nqs_types.specs.declared.message.Body.{Body}
+use Rattle.nqs_types.specs.declared.message.Body.TheVariants.{Offer, Ready, Refused, Commit, Done, Inquire, Abort, Stage, Staged, Ask, Answer, Ended, EndedAck}
+use Rattle.nqs_types.specs.declared.event.Event.{Event}
+use Rattle.nqs_types.specs.declared.event.Event.TheVariants as event
+use Rattle.nqs_rules.specs.Tests.{same_host}
+use Rattle.nqs_rules.specs.Sane.{is_of_site, is_sane_body, is_sane_message, is_sane_command, is_sane_event}
+use Rattle.nqs_records.proofs.SaneLaws.{path_sane, carried_sane}
+use Rattle.nqs_packets.specs.Values.{IsBody, MaySend}
+use Rattle.nqs_lines.specs.Laws.{SubmissionsAreSane, EditsAreSane, ListsAreSane, DeletionsAreSane}
+use Rattle.nqs_back.specs.Back.{comes_back}
+use Rattle.nqs_serve.specs.Events.{Here, line_in, command_of, are_of_site, is_for, event_by, event_of, at_moment}
+use Rattle.nqs_serve.specs.Runs.{event_back}
+use Rattle.nqs_serve.specs.declared.comeback.Comeback.{Comeback}
+use Rattle.nqs_serve.specs.declared.comeback.Comeback.TheVariants as comeback
+
+-- the moment is no matter
+pub sane_at : (hosts m : ℕ) (e : Event) → is_sane_event hosts (at_moment m e) ≡ is_sane_event hosts e
+sane_at hosts m (event.Ask now port token user c) = refl
+sane_at hosts m (event.Arrived now message) = refl
+sane_at hosts m (event.Ended now port id start status output error) = refl
+sane_at hosts m (event.Unlaunched now id start) = refl
+sane_at hosts m (event.Written now file) = refl
+sane_at hosts m (event.Unwritten now file) = refl
+sane_at hosts m (event.Tick now) = refl
+
+pub comes_at : (m : ℕ) (e : Event) → comes_back (at_moment m e) ≡ comes_back e
+comes_at m (event.Ask now port token user c) = refl
+comes_at m (event.Arrived now message) = refl
+comes_at m (event.Ended now port id start status output error) = refl
+comes_at m (event.Unlaunched now id start) = refl
+comes_at m (event.Written now file) = refl
+comes_at m (event.Unwritten now file) = refl
+comes_at m (event.Tick now) = refl
+
+pub sane_back : (hosts : ℕ) (x : Comeback) → is_sane_event hosts (event_back x) ≡ true
+sane_back hosts (comeback.Unlaunched id start) = refl
+sane_back hosts (comeback.Printed id start) = refl
+sane_back hosts (comeback.Written file) = refl
+sane_back hosts (comeback.Unwritten file) = refl
+
+pub is_back : (x : Comeback) → comes_back (event_back x) ≡ true
+is_back (comeback.Unlaunched id start) = refl
+is_back (comeback.Printed id start) = refl
+is_back (comeback.Written file) = refl
+is_back (comeback.Unwritten file) = refl
+
+sane_body : (hosts : ℕ) (b : Body) → IsBody b → are_of_site hosts b ≡ true → is_sane_body hosts b ≡ true
+sane_body hosts (Offer n q c s) ok of_site = and_from _ _ (and_from _ _ (and_from _ _ ok.0.0 (carried_sane c ok.2)) of_site) ok.3.0
+sane_body hosts (Ready n) ok of_site = refl
+sane_body hosts (Refused n cause) ok of_site = and_from _ _ ok.0.0 ok.1.0
+sane_body hosts (Commit n) ok of_site = refl
+sane_body hosts (Done n) ok of_site = refl
+sane_body hosts (Inquire n) ok of_site = refl
+sane_body hosts (Abort n) ok of_site = refl
+sane_body hosts (Stage n path output) ok of_site = and_from _ _ (and_from _ _ ok.0.0 (path_sane path ok.1)) ok.2.0
+sane_body hosts (Staged n) ok of_site = refl
+sane_body hosts (Ask port token user tool words script) ok of_site = refl
+sane_body hosts (Answer token good text) ok of_site = refl
+sane_body hosts (Ended port id start status output error) ok of_site = refl
+sane_body hosts (EndedAck id start) ok of_site = refl
+
+module _ (submissions : SubmissionsAreSane) (edits : EditsAreSane) (lists : ListsAreSane) (deletions : DeletionsAreSane) where
+  sane_command : (user : List ℕ) (tool : Tool) (words : List (List ℕ)) (script : List ℕ) → IsTrue (is_sane_command (command_of user tool words script))
+  sane_command user Qsub words script = submissions user words script
+  sane_command user Qstat words script = lists words
+  sane_command user Qdel words script = deletions words
+  sane_command user Qmgr words script = edits (line_in words)
+  sane_command user Tick words script = refl
+
+  sane_by : (hosts : ℕ) (m : Message) (b : Body) → IsBody b → (is_sane_message hosts m ≡ true) → IfSome (event_by m b) (λ e. IsTrue (is_sane_event hosts e))
+  sane_by hosts m (Ask port token user tool words script) ok sane = sane_command user tool words script
+  sane_by hosts m (Ended port id start status output error) ok sane = and_from _ _ ok.4.0 ok.5.0
+  sane_by hosts m (Answer token good text) ok sane = tt
+  sane_by hosts m (EndedAck id start) ok sane = tt
+  sane_by hosts m (Offer n q c s) ok sane = sane
+  sane_by hosts m (Ready n) ok sane = sane
+  sane_by hosts m (Refused n cause) ok sane = sane
+  sane_by hosts m (Commit n) ok sane = sane
+  sane_by hosts m (Done n) ok sane = sane
+  sane_by hosts m (Inquire n) ok sane = sane
+  sane_by hosts m (Abort n) ok sane = sane
+  sane_by hosts m (Stage n path output) ok sane = sane
+  sane_by hosts m (Staged n) ok sane = sane
+
+  -- what is read, and is for this host, is sane
+  pub sane_event : (here : Here) (m : Message) → MaySend m → is_for here m ≡ true → IfSome (event_of m) (λ e. IsTrue (is_sane_event (length here.site) e))
+  sane_event here m may is =
+      let hosts = length here.site in
+      let outer = and_parts (same_host here.me m.to && is_of_site hosts m.from) (are_of_site hosts m.body) is in
+      let inner = and_parts (same_host here.me m.to) (is_of_site hosts m.from) outer.0 in
+      sane_by hosts m m.body may.2 (and_from _ _ inner.1 (sane_body hosts m.body may.2 outer.1))

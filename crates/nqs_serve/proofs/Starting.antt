@@ -1,0 +1,127 @@
+-- Starts go on until there is none, whatever bytes are put for scripts.
+use Rattle.std.proofs.Common.{◌≡◌, ℕ, ◌<◌, ◌≤◌, true, nat_le, List, [], ◌∷◌, ◌++◌, length, map, Option, None, Some, is_some, zero, suc, refl, sym, ap, subst, ◌∙◌, arith, false, append_assoc}
+use Rattle.std.proofs.lemmas.Simd.{map-map}
+use Rattle.std.proofs.lemmas.List.{append-nil}
+use Rattle.std.proofs.lemmas.Grind.{flat_map-append}
+use Rattle.std.specs.List.{flat_map}
+use Rattle.nqs_state.specs.State.{State, Plain}
+use Rattle.nqs_types.specs.Ids.{id_eq}
+use Rattle.nqs_types.specs.declared.event.Output.{Output}
+use Rattle.nqs_rules.specs.Plain.{map_row, map_state}
+use Rattle.nqs_rules.specs.Start.{start}
+use Rattle.nqs_rules.specs.Stepped.{Stepped, quiet}
+use Rattle.nqs_rules.specs.Measure.{starts_left}
+use Rattle.nqs_rules.specs.InOrder.{IsInOrder, are_distinct, is_row_right, is_queue_right}
+use Rattle.nqs_rules.specs.Starts.{after_change, after_step, starts_at_most, starts, after_starts}
+use Rattle.nqs_rules.proofs.ListFacts.{list_all-weaker}
+use Rattle.nqs_rules.proofs.FindKept.{all-mapped}
+use Rattle.nqs_rules.proofs.StateFacts.{keys_are}
+use Rattle.nqs_rules.proofs.RowFacts.{row_is}
+use Rattle.nqs_rules.proofs.RowChanges.{at_most_32}
+use Rattle.nqs_rules.proofs.QueuesOrder.{queue_is}
+use Rattle.nqs_rules.proofs.StartIs.{IsSteady, IsStart, start_is}
+use Rattle.nqs_rules.proofs.Lowers.{lower, stays}
+use Rattle.nqs_node.specs.Carried.{started}
+use Rattle.nqs_serve.specs.Steps.{said}
+
+module _ {E : Type 0} where
+  -- a state in order is steady, whatever bytes are put for its scripts
+  pub steady_plain : (f : E → List ℕ) (s : State E) → IsInOrder s → IsSteady (map_state f s)
+  steady_plain f s h = record {
+    ids = ap (are_distinct id_eq) (map-map (λ r. r.id) (map_row f) s.rows) ∙ (keys_are s h.keys).rows;
+    names = (keys_are s h.keys).queues;
+    hops = all-mapped (is_row_right s) (λ r. nat_le r.hops 32) (map_row f) (λ r k. at_most_32 r (row_is s r k).hop) s.rows h.rows;
+    dests = list_all-weaker (is_queue_right s) (λ q. nat_le (length q.dests) 16) (λ q k. (queue_is s q k).few_dests) s.queues h.queues;
+  }
+
+module _ (now : ℕ) (s : Plain) (x : Stepped (List ℕ)) (is : IsStart s x) (calm : IsSteady s) where
+  lowered : starts_left (after_step x s) < starts_left s
+  lowered = subst (λ o. starts_left (after_change o s) < starts_left s) (sym is.makes) (lower s calm is.row is.found is.ready is.change is.starts)
+
+  stayed : IsSteady (after_step x s)
+  stayed = subst (λ o. IsSteady (after_change o s)) (sym is.makes) (stays s calm is.row is.found is.ready is.change is.starts)
+
+module _ (now : ℕ) where
+  -- the starts from a state on, by what starts there
+  abbrev Going : ℕ → Plain → Option (Stepped (List ℕ)) → List (Stepped (List ℕ))
+  Going n s o = elim o as (λ _. List (Stepped (List ℕ))) [ None ↦ [] | Some x ↦ x ∷ starts_at_most n now (after_step x s) ]
+
+  none_starts : (n : ℕ) (s : Plain) → start now s ≡ None → starts_at_most n now s ≡ []
+  none_starts zero s e = refl
+  none_starts (suc n) s e = ap (Going n s) e
+
+  idle : (s : Plain) → IsSteady s → starts_left s ≤ 0 → start now s ≡ None
+  idle s calm few = by (start now s) refl
+    where
+      by : (o : Option (Stepped (List ℕ))) → start now s ≡ o → start now s ≡ None
+      by None e = e
+      by (Some x) e = absurd (let less : starts_left (after_step x s) < starts_left s = lowered now s x (start_is now s x calm e) calm in omega arith)
+
+  enough : (n m : ℕ) (s : Plain) → IsSteady s → starts_left s ≤ n → starts_left s ≤ m → starts_at_most n now s ≡ starts_at_most m now s
+  enough zero m s calm few also = sym (none_starts m s (idle s calm few))
+  enough (suc n) zero s calm few also = none_starts (suc n) s (idle s calm also)
+  enough (suc n) (suc m) s calm few also = by (start now s) refl (enough n m)
+    where
+      by : (o : Option (Stepped (List ℕ))) → start now s ≡ o → ((t : Plain) → IsSteady t → starts_left t ≤ n → starts_left t ≤ m → starts_at_most n now t ≡ starts_at_most m now t) → Going n s o ≡ Going m s o
+      by None e rest = refl
+      by (Some x) e rest =
+          let is : IsStart s x = start_is now s x calm e in
+          let less : starts_left (after_step x s) < starts_left s = lowered now s x is calm in
+          ap (λ l. x ∷ l) (rest (after_step x s) (stayed now s x is calm) (omega arith) (omega arith))
+
+  starts_some : (s : Plain) (x : Stepped (List ℕ)) → IsSteady s → start now s ≡ Some x → starts now s ≡ x ∷ starts now (after_step x s)
+  starts_some s x calm e =
+      let is : IsStart s x = start_is now s x calm e in
+      let less : starts_left (after_step x s) < starts_left s = lowered now s x is calm in
+      enough (starts_left s) (suc (starts_left s)) s calm (omega arith) (omega arith)
+      ∙ ap (Going (starts_left s) s) e
+      ∙ ap (λ l. x ∷ l) (enough (starts_left s) (starts_left (after_step x s)) (after_step x s) (stayed now s x is calm) (omega arith) (omega arith))
+
+  -- where none starts, there are no starts
+  pub starts_none : (s : Plain) → is_some (start now s) ≡ false → starts now s ≡ []
+  starts_none s e = by (start now s) refl e
+    where
+      by : (o : Option (Stepped (List ℕ))) → start now s ≡ o → is_some o ≡ false → starts now s ≡ []
+      by None is none = none_starts (starts_left s) s is
+      by (Some x) is none = absurd (let stop : ⊥ = cc in stop)
+
+  -- where one starts, it is the first
+  pub starts_next : (s : Plain) → IsSteady s → is_some (start now s) ≡ true → starts now s ≡ started now s ∷ starts now (after_step (started now s) s)
+  starts_next s calm some = by (start now s) refl some
+    where
+      by : (o : Option (Stepped (List ℕ))) → start now s ≡ o → is_some o ≡ true
+          → starts now s ≡ (elim o [ None ↦ quiet | Some x ↦ x ]) ∷ starts now (after_step (elim o [ None ↦ quiet | Some x ↦ x ]) s)
+      by None is some = absurd (let stop : ⊥ = cc in stop)
+      by (Some x) is some = starts_some s x calm is
+
+-- one start more, behind others
+pub after_more : (xs : List (Stepped (List ℕ))) (x : Stepped (List ℕ)) (s : Plain) → after_starts (xs ++ x ∷ []) s ≡ after_step x (after_starts xs s)
+after_more [] x s = refl
+after_more (y ∷ xs) x s = after_more xs x (after_step y s)
+
+pub said_more : (out : List Output) (xs : List (Stepped (List ℕ))) (x : Stepped (List ℕ)) → (out ++ flat_map said xs) ++ said x ≡ out ++ flat_map said (xs ++ x ∷ [])
+said_more out xs x =
+    append_assoc out (flat_map said xs) (said x)
+    ∙ ap (λ (l : List Output). out ++ l) (ap (λ (l : List Output). flat_map said xs ++ l) (sym (append-nil (said x))) ∙ sym (flat_map-append said xs (x ∷ [])))
+
+-- the next start, behind those before it
+pub one_start : (now : ℕ) (s : Plain) (xs : List (Stepped (List ℕ))) → IsSteady (after_starts xs s) → starts now s ≡ xs ++ starts now (after_starts xs s) → is_some (start now (after_starts xs s)) ≡ true
+    → starts now s ≡ (xs ++ started now (after_starts xs s) ∷ []) ++ starts now (after_starts (xs ++ started now (after_starts xs s) ∷ []) s)
+one_start now s xs calm so_far some =
+    let u = after_starts xs s in
+    let x = started now u in
+    so_far
+    ∙ ap (λ (l : List (Stepped (List ℕ))). xs ++ l) (starts_next now u calm some)
+    ∙ sym (append_assoc xs (x ∷ []) (starts now (after_step x u)))
+    ∙ ap (λ v. (xs ++ x ∷ []) ++ starts now v) (sym (after_more xs x s))
+
+-- there was no other
+pub last_start : (now : ℕ) (s : Plain) (xs : List (Stepped (List ℕ))) → starts now s ≡ xs ++ starts now (after_starts xs s) → is_some (start now (after_starts xs s)) ≡ false → starts now s ≡ xs
+last_start now s xs so_far none = so_far ∙ ap (λ (l : List (Stepped (List ℕ))). xs ++ l) (starts_none now (after_starts xs s) none) ∙ append-nil xs
+
+pub none_started : (now : ℕ) (s : Plain) → is_some (start now s) ≡ false → started now s ≡ quiet
+none_started now s none = by (start now s) none
+  where
+    by : (o : Option (Stepped (List ℕ))) → is_some o ≡ false → (elim o [ None ↦ quiet {E = List ℕ} | Some x ↦ x ]) ≡ quiet {E = List ℕ}
+    by None e = refl
+    by (Some x) e = absurd (let stop : ⊥ = cc in stop)

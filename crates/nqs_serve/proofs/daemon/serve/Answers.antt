@@ -1,0 +1,22 @@
+use Rattle.std.proofs.Common.{◌≡◌, refl, ap, sym, [], inl, arith}
+use Rattle.nqs_types.specs.declared.ids.HostId.{HostId}
+use Rattle.nqs_node.specs.Nodes.{content_of}
+use Rattle.nqs_serve.specs.Events.{Here}
+use Rattle.nqs_serve.specs.Runs.{idle}
+use Rattle.nqs_serve.specs.Nodes.{here_of}
+use Rattle.nqs_serve.proofs.Acts.{ran_none}
+use Rattle.nqs_serve.proofs.daemon.serve.Goals as goal
+
+pub returns-in_default-clause-run : goal.returns-in_default-clause-run
+returns-in_default-clause-run g c = λ tells s told. (
+  [],
+  idle s,
+  [],
+  ran_none (here_of c.args.node.now) (idle s) _,
+  ((s, told, inl (refl, refl)), record { before = []; last = []; are = refl; none = refl; at_most_one = omega arith; few = omega arith }),
+)
+
+pub returns-clause-run : goal.returns-clause-run
+returns-clause-run g c = λ tells s told.
+    let at : HostId → Here = λ me. record { me = me; site = (content_of c.args.node.now).site } in
+    c.turns_in.ensures.run s (here_of c.args.node.now) (tells, told) (ap at (sym (ap (λ h. h.me) c.state.ensures)))

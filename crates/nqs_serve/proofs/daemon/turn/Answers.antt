@@ -1,0 +1,120 @@
+use Rattle.std.proofs.Common.{◌≡◌, ℕ, refl, ap, sym, subst, ◌∙◌, ◌++◌, [], ◌∷◌, List, length, arith, inl, inr, Some, None, Err, IsTrue, IfSome, false}
+use Rattle.std.specs.Option.{option_to_list}
+use Rattle.nqs_rules.specs.Plain.{map_state}
+use Rattle.nqs_rules.specs.Sane.{is_sane_event}
+use Rattle.nqs_rules.specs.World.{shuts_down}
+use Rattle.nqs_node.specs.Nodes.{content_of, bytes_of}
+use Rattle.nqs_serve.specs.Events.{Here, event_in, stops_by}
+use Rattle.nqs_serve.specs.Steps.{after_event}
+use Rattle.nqs_serve.specs.Runs.{received, took, turn, idle}
+use Rattle.nqs_serve.specs.Ends.{Ends, Receives, stops, end_of}
+use Rattle.nqs_serve.proofs.Acts.{ran_received, ran_cut, ran_then, received_grew, missed_grew, ran_turn, turn_stops}
+use Rattle.nqs_serve.proofs.Ending.{one_receive, cut_ends, disk_cut}
+use Rattle.nqs_serve.proofs.Faults.{rose_behind, same_fault}
+use Rattle.nqs_serve.proofs.daemon.turn.Goals as goal
+
+pub returns-in-Ok-None-clause-ok : goal.returns-in-Ok-None-clause-ok
+returns-in-Ok-None-clause-ok g c = λ s here knows same.
+    let came = c.in-Ok-None.ensures.came in
+    let at : List (List ℕ) → Here = λ names. record { me = c.args.me; site = names } in
+    let is_here : at c.as_slice-site.result.now ≡ here = ap at (c.as_slice-site.ensures ∙ ap (λ h. h.site) c.state.ensures) ∙ sym same in
+    let none : None ≡ event_in here came.0 = sym c.in-Ok-None.field-0-is ∙ came.1 ∙ ap (λ h. event_in h came.0) is_here in (
+      received came.0 ∷ [],
+      s,
+      knows,
+      ap (λ o. stops_by o s ∷ []) (sym none),
+      ran_received here s came.0 None _ _ none (received_grew here came.0 _ _ _ _ _ _ _ _ came.2 c.receive.ensures.sent),
+    )
+
+pub returns-in-Err-Wire-clause-err : goal.returns-in-Err-Wire-clause-err
+returns-in-Err-Wire-clause-err g c = λ s here knows same.
+    let lost = c.in-Err-Wire.ensures.lost (ap Err c.in-Err-Wire.field-0-is) in
+    ([], idle s, [], ran_cut here (idle s) [] _ _ (missed_grew here _ _ _ _ _ _ _ _ lost.0 c.receive.ensures.sent), (refl, refl, knows.1, refl, omega arith))
+
+pub returns-in-Err-Memory-clause-err : goal.returns-in-Err-Memory-clause-err
+returns-in-Err-Memory-clause-err g c = λ s here knows same.
+    let came = c.in-Err-Memory.ensures.cut (ap Err c.in-Err-Memory.field-0-is) in (
+      received came.0 ∷ [],
+      turn s (option_to_list (event_in here came.0)),
+      [],
+      ran_received here s came.0 (event_in here came.0) _ _ refl (received_grew here came.0 _ _ _ _ _ _ _ _ came.1 c.receive.ensures.sent),
+      ((s, knows.1, inl (refl, refl)), one_receive (stops_by (event_in here came.0) s)),
+    )
+
+pub take_event-taken-requires-clause-sane : goal.take_event-taken-requires-clause-sane
+take_event-taken-requires-clause-sane g c =
+    let some : IsTrue (is_sane_event (length c.as_slice-site.result.now) c.in-Ok-Some.event) =
+    subst (λ o. IfSome o (λ e. IsTrue (is_sane_event (length c.as_slice-site.result.now) e))) c.in-Ok-Some.field-0-is c.in-Ok-Some.ensures.sane in
+    subst (λ (names : List (List ℕ)). IsTrue (is_sane_event (length names) c.in-Ok-Some.event)) (c.as_slice-site.ensures ∙ ap (λ h. h.site) c.state.ensures) some
+
+pub returns-in-Err-clause-err : goal.returns-in-Err-clause-err
+returns-in-Err-clause-err g c = λ s here knows same.
+    let e = c.in-Ok-Some.event in
+    let came = c.in-Ok-Some.ensures.came in
+    let at : List (List ℕ) → Here = λ names. record { me = c.args.me; site = names } in
+    let is_here : at c.as_slice-site.result.now ≡ here = ap at (c.as_slice-site.ensures ∙ ap (λ h. h.site) c.state.ensures) ∙ sym same in
+    let some : Some e ≡ event_in here came.0 = sym c.in-Ok-Some.field-0-is ∙ came.1 ∙ ap (λ h. event_in h came.0) is_here in
+    let cut = c.in-Err.ensures.cut s here knows same in
+    let bs = stops_by (event_in here came.0) s ∷ [] in (
+      received came.0 ∷ [],
+      turn s (e ∷ []),
+      cut.0 ∷ [],
+      ran_then here (received came.0 ∷ []) [] (idle s) (turn s (e ∷ [])) _ (cut.0 ∷ []) _ _ _
+          (ran_received here s came.0 (Some e) _ _ some (received_grew here came.0 _ _ _ _ _ _ _ _ came.2 c.receive.ensures.sent)) (ran_cut here (turn s (e ∷ [])) (cut.0 ∷ []) _ _ cut.2),
+      subst (λ f. Ends (end_of f) 1 bs (turn s (e ∷ [])) (cut.0 ∷ []) c.take_event-taken.new.node) (sym c.fault_of.ensures)
+          (cut_ends c.in-Err.cut bs (turn s (e ∷ [])) (cut.0 ∷ []) c.take_event-taken.new.node (inr (e, [], cut.0, refl, refl))
+          (λ memory. let known = cut.1 (ap Err memory) in (known.0, known.1.1, inr (e, [], cut.0, refl, refl, known.2))) (one_receive (stops_by (event_in here came.0) s))),
+    )
+
+pub returns-in-Err-take_back-clause-err : goal.returns-in-Err-take_back-clause-err
+returns-in-Err-take_back-clause-err g c = λ s here knows same.
+    let e = c.in-Ok-Some.event in
+    let came = c.in-Ok-Some.ensures.came in
+    let at : List (List ℕ) → Here = λ names. record { me = c.args.me; site = names } in
+    let is_here : at c.as_slice-site.result.now ≡ here = ap at (c.as_slice-site.ensures ∙ ap (λ h. h.site) c.state.ensures) ∙ sym same in
+    let some : Some e ≡ event_in here came.0 = sym c.in-Ok-Some.field-0-is ∙ came.1 ∙ ap (λ h. event_in h came.0) is_here in
+    let ok = c.in_default.ensures.ok s here knows same in
+    let cut = c.in-Err-take_back.ensures.cut (after_event ok.0 e s) here ok.3 (same ∙ ap at (sym c.in_default.ensures.site)) in
+    let acts = received came.0 ∷ took ok.0 ok.1 ∷ cut.0 in
+    let one = turn_stops here s came.0 ok.0 ok.1 cut.0 cut.3 in
+    let bs = stops here (idle s) acts in (
+      acts,
+      cut.1,
+      cut.2,
+      ran_turn here came.0 ok.0 ok.1 cut.0 s e c.clear.new.self.items _ cut.1 cut.2 _ _ _ _ some c.clear.ensures.items ok.2 ok.4
+          (received_grew here came.0 _ _ _ _ _ _ _ _ came.2 c.receive.ensures.sent) ok.5 cut.6,
+      subst (λ f. Ends (end_of f) 1 bs cut.1 cut.2 c.take_back.new.node) (sym c.fault_of-in-Err-take_back.ensures)
+          (cut_ends c.in-Err-take_back.cut bs cut.1 cut.2 c.take_back.new.node cut.4
+          (λ memory. let known = cut.5 (ap Err memory) in (known.0, known.1.1, known.2)) (subst (λ l. Receives 1 l) (sym one) (one_receive (stops_by (event_in here came.0) s)))),
+    )
+
+pub returns-in-Err-take_back-clause-disk_fault : goal.returns-in-Err-take_back-clause-disk_fault
+returns-in-Err-take_back-clause-disk_fault g c = λ failed.
+    let is_disk = disk_cut c.in-Err-take_back.cut (sym c.fault_of-in-Err-take_back.ensures ∙ same_fault _ _ failed) in
+    let broke = c.in-Err-take_back.ensures.broken (ap Err is_disk) in
+    (broke.0, (broke.1.0, rose_behind _ _ _ (c.in_default.ensures.later broke.1.0) broke.1.1))
+
+pub returns-in-Err-take_back-clause-later : goal.returns-in-Err-take_back-clause-later
+returns-in-Err-take_back-clause-later g c = λ which. omega (arith, c.in_default.ensures.later which, c.in-Err-take_back.ensures.later which)
+
+pub returns-clause-later : goal.returns-clause-later
+returns-clause-later g c = λ which. omega (arith, c.in_default.ensures.later which, c.in_default-take_back.ensures.later which)
+
+pub returns-clause-ok : goal.returns-clause-ok
+returns-clause-ok g c = λ s here knows same.
+    let e = c.in-Ok-Some.event in
+    let came = c.in-Ok-Some.ensures.came in
+    let at : List (List ℕ) → Here = λ names. record { me = c.args.me; site = names } in
+    let is_here : at c.as_slice-site.result.now ≡ here = ap at (c.as_slice-site.ensures ∙ ap (λ h. h.site) c.state.ensures) ∙ sym same in
+    let some : Some e ≡ event_in here came.0 = sym c.in-Ok-Some.field-0-is ∙ came.1 ∙ ap (λ h. event_in h came.0) is_here in
+    let ok = c.in_default.ensures.ok s here knows same in
+    let rest = c.in_default-take_back.ensures.ok (after_event ok.0 e s) here ok.3 (same ∙ ap at (sym c.in_default.ensures.site)) in
+    let bytes = bytes_of c.args.node.now in
+    let stop : c.shuts_down-stop.result ≡ shuts_down e s = c.shuts_down-stop.ensures bytes ∙ ap (λ h. shuts_down e (map_state bytes h)) c.state-2.ensures ∙ ap (shuts_down e) knows.1.is in (
+      received came.0 ∷ took ok.0 ok.1 ∷ rest.0,
+      rest.1,
+      rest.3,
+      turn_stops here s came.0 ok.0 ok.1 rest.0 rest.2 ∙ ap (λ o. stops_by o s ∷ []) (sym some) ∙ ap (λ b. b ∷ []) (sym stop),
+      ran_turn here came.0 ok.0 ok.1 rest.0 s e c.clear.new.self.items _ (idle rest.1) [] _ _ _ _ some c.clear.ensures.items ok.2 ok.4
+          (received_grew here came.0 _ _ _ _ _ _ _ _ came.2 c.receive.ensures.sent) ok.5 rest.4,
+    )

@@ -1,0 +1,86 @@
+use Rattle.std.proofs.Common.{◌≡◌, ℕ, refl, ap, sym, subst, ◌∙◌, ◌++◌, [], ◌∷◌, List, length, length-append, arith, Err, Bool, true, false}
+use Rattle.nqs_serve.specs.Events.{Here}
+use Rattle.nqs_serve.specs.Runs.{idle}
+use Rattle.nqs_serve.specs.Ends.{Ends, NoneStops, stops, end_of}
+use Rattle.nqs_serve.proofs.Acts.{ran_none, ran_then, stops_then}
+use Rattle.nqs_serve.proofs.Ending.{none_both, ends_then, wire_end, disk_end}
+use Rattle.nqs_serve.proofs.Faults.{rose_behind}
+use Rattle.nqs_serve.proofs.daemon.turns_in.Goals as goal
+
+pub loop-left-init : goal.loop-left-init
+loop-left-init g c = record {
+  sound = c.requires.sound;
+  site = refl;
+  running = c.requires.running;
+  later = λ which. omega arith;
+  wire = omega arith;
+  ran = λ s here knows same. ([], s, refl, omega arith, knows, ran_none here _ _);
+}
+
+pub returns-in-Ok-true-clause-run : goal.returns-in-Ok-true-clause-run
+returns-in-Ok-true-clause-run g c = λ s here knows same.
+    let before = c.loop-left.invariant.ran s here knows same in
+    let at : List (List ℕ) → Here = λ names. record { me = c.args.me; site = names } in
+    let ok = c.in-Ok-true.ensures.ok before.1 here before.4 (same ∙ ap at (sym c.loop-left.invariant.site)) in
+    let xs = stops here (idle s) before.0 in
+    let all : stops here (idle s) (before.0 ++ ok.0) ≡ xs ++ true ∷ [] =
+    stops_then here before.0 ok.0 (idle s) (idle before.1) before.5.leads ∙ ap (λ (l : List Bool). xs ++ l) (ok.3 ∙ ap (λ b. b ∷ []) c.in-Ok-true.field-0-test) in (
+      before.0 ++ ok.0,
+      idle ok.1,
+      [],
+      ran_then here before.0 ok.0 (idle s) (idle before.1) (idle ok.1) [] _ _ _ before.5 ok.4,
+      (refl, refl, ok.2.1, (xs, all, before.2, omega (arith, ap (λ (l : List Bool). length l) all, length-append xs (true ∷ []), before.3, c.loop-left-test.true))),
+    )
+
+pub returns-in-Err-clause-run : goal.returns-in-Err-clause-run
+returns-in-Err-clause-run g c = λ s here knows same.
+    let before = c.loop-left.invariant.ran s here knows same in
+    let at : List (List ℕ) → Here = λ names. record { me = c.args.me; site = names } in
+    let err = c.in-Err.ensures.err before.1 here before.4 (same ∙ ap at (sym c.loop-left.invariant.site)) in
+    let xs = stops here (idle s) before.0 in
+    let all = stops_then here before.0 err.0 (idle s) (idle before.1) before.5.leads in
+    let ends = ends_then c.in-Err.fault c.args.turns xs (stops here (idle before.1) err.0) err.1 err.2 c.turn.new.node before.2 (omega (arith, before.3, c.loop-left-test.true)) err.4 in (
+      before.0 ++ err.0,
+      err.1,
+      err.2,
+      ran_then here before.0 err.0 (idle s) (idle before.1) err.1 err.2 _ _ _ before.5 err.3,
+      subst (λ e. Ends e c.args.turns (stops here (idle s) (before.0 ++ err.0)) err.1 err.2 c.turn.new.node) (sym c.end_of.ensures)
+          (subst (λ (l : List Bool). Ends (end_of c.in-Err.fault) c.args.turns l err.1 err.2 c.turn.new.node) (sym all) ends),
+    )
+
+pub returns-in-Err-clause-wire_fault : goal.returns-in-Err-clause-wire_fault
+returns-in-Err-clause-wire_fault g c = λ is.
+    rose_behind _ _ _ c.loop-left.invariant.wire (c.in-Err.ensures.wire_fault (ap Err (wire_end c.in-Err.fault (sym c.end_of.ensures ∙ is))))
+
+pub returns-in-Err-clause-disk_fault : goal.returns-in-Err-clause-disk_fault
+returns-in-Err-clause-disk_fault g c = λ is.
+    let broke = c.in-Err.ensures.disk_fault (ap Err (disk_end c.in-Err.fault (sym c.end_of.ensures ∙ is))) in
+    (broke.0, (broke.1.0, rose_behind _ _ _ (c.loop-left.invariant.later broke.1.0) broke.1.1))
+
+pub loop-left-preserved : goal.loop-left-preserved
+loop-left-preserved g c = record {
+  sound = c.in-Ok-false.ensures.sound;
+  site = c.in-Ok-false.ensures.site ∙ c.loop-left.invariant.site;
+  running = c.in-Ok-false.ensures.running;
+  later = λ which. omega (arith, c.loop-left.invariant.later which, c.in-Ok-false.ensures.later which);
+  wire = omega (arith, c.loop-left.invariant.wire, c.in-Ok-false.ensures.wire);
+  ran = λ s here knows same.
+      let before = c.loop-left.invariant.ran s here knows same in
+      let at : List (List ℕ) → Here = λ names. record { me = c.args.me; site = names } in
+      let ok = c.in-Ok-false.ensures.ok before.1 here before.4 (same ∙ ap at (sym c.loop-left.invariant.site)) in
+      let xs = stops here (idle s) before.0 in
+      let all : stops here (idle s) (before.0 ++ ok.0) ≡ xs ++ false ∷ [] =
+      stops_then here before.0 ok.0 (idle s) (idle before.1) before.5.leads ∙ ap (λ (l : List Bool). xs ++ l) (ok.3 ∙ ap (λ b. b ∷ []) c.in-Ok-false.field-0-test) in (
+        before.0 ++ ok.0,
+        ok.1,
+        subst (λ (l : List Bool). NoneStops l) (sym all) (none_both xs (false ∷ []) before.2 refl),
+        omega (arith, ap (λ (l : List Bool). length l) all, length-append xs (false ∷ []), before.3, c.loop-left-test.true),
+        ok.2,
+        ran_then here before.0 ok.0 (idle s) (idle before.1) (idle ok.1) [] _ _ _ before.5 ok.4,
+      );
+}
+
+pub returns-clause-run : goal.returns-clause-run
+returns-clause-run g c = λ s here knows same.
+    let before = c.loop-left.invariant.ran s here knows same in
+    (before.0, idle before.1, [], before.5, (refl, refl, before.4.1, before.2, omega (arith, before.3, c.loop-left-test.false)))

@@ -1,0 +1,28 @@
+use Rattle.std.proofs.Common.{◌≡◌, ◌≤◌, ◌+◌, [], List, map, length, false}
+use Rattle.nqs_state.specs.State.{Plain}
+use Rattle.nqs_types.specs.declared.world.Which.{Which}
+use Rattle.nqs_rules.specs.Measure.{starts_left}
+use Rattle.nqs_node.specs.Nodes.{content_of, disk_of, is_stopped}
+use Rattle.nqs_store.specs.Sound.{IsSoundHost}
+use Rattle.nqs_serve.specs.Events.{Here}
+use Rattle.nqs_serve.specs.Nodes.{Knows}
+use Rattle.nqs_serve.specs.Runs.{Act, idle, telling, Ran}
+use Rattle.nqs_serve.specs.Ends.{NoneStops, stops}
+use Rattle.nqs_serve.proofs.daemon.turns_in.Given as goal
+
+abbrev pub invariant-loop-left : goal.invariant-loop-left
+invariant-loop-left g l = record {
+  sound : IsSoundHost (content_of l.node);
+  site : (content_of l.node).site ≡ (content_of l.fn.node).site;
+  running : is_stopped l.node ≡ false;
+  later : (which : Which) → g.D.Disk.faults (disk_of which l.fn.node) ≤ g.D.Disk.faults (disk_of which l.node);
+  wire : g.W.Wire.receive_faults l.fn.wire ≤ g.W.Wire.receive_faults l.wire;
+  ran : (s : Plain) (here : Here) → Knows l.fn.node s → here ≡ record { me = l.me; site = (content_of l.fn.node).site } → (acts : List Act) × (u : Plain) × NoneStops (stops here (idle s) acts)
+      × (length (stops here (idle s) acts) + l.left ≡ l.turns) × Knows l.node u
+      × Ran here acts (idle s) (idle u) []
+      (telling (g.W.Wire.received l.fn.wire) (g.W.Wire.sent l.fn.wire) (g.L.Launcher.asked l.fn.launcher) (g.P.Printer.prints l.fn.printer) (g.O.Outlet.filings l.fn.outlet) (g.C.Clock.given l.fn.clock))
+      (telling (g.W.Wire.received l.wire) (g.W.Wire.sent l.wire) (g.L.Launcher.asked l.launcher) (g.P.Printer.prints l.printer) (g.O.Outlet.filings l.outlet) (g.C.Clock.given l.clock));
+}
+
+abbrev pub decreases-loop-left : goal.decreases-loop-left
+decreases-loop-left g l = l.left

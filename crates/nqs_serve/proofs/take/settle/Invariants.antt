@@ -1,0 +1,26 @@
+use Rattle.std.proofs.Common.{◌≡◌, ◌≤◌, ◌+◌, ◌++◌, ℕ, List, false}
+use Rattle.std.specs.List.{flat_map}
+use Rattle.nqs_state.specs.State.{Plain}
+use Rattle.nqs_types.specs.declared.world.Which.{Which}
+use Rattle.nqs_rules.specs.Measure.{starts_left}
+use Rattle.nqs_rules.specs.Starts.{starts, after_starts}
+use Rattle.nqs_rules.specs.Stepped.{Stepped}
+use Rattle.nqs_back.specs.Back.{comebacks}
+use Rattle.nqs_node.specs.Nodes.{content_of, disk_of, is_stopped}
+use Rattle.nqs_store.specs.Sound.{IsSoundHost}
+use Rattle.nqs_serve.specs.Nodes.{Knows}
+use Rattle.nqs_serve.specs.Steps.{said}
+use Rattle.nqs_serve.proofs.take.settle.Given as goal
+
+abbrev pub invariant-loop-cut : goal.invariant-loop-cut
+invariant-loop-cut g l = record {
+  sound : IsSoundHost (content_of l.node);
+  site : (content_of l.node).site ≡ (content_of l.fn.node).site;
+  running : is_stopped l.node ≡ false;
+  told : (s : Plain) → Knows l.fn.node s → (xs : List (Stepped (List ℕ))) × (starts l.now s ≡ xs ++ starts l.now (after_starts xs s)) × Knows l.node (after_starts xs s) × (l.out.items ≡ l.fn.out.items ++ flat_map said xs);
+  fewer : starts_left (content_of l.node) + comebacks l.out.items ≤ starts_left (content_of l.fn.node) + comebacks l.fn.out.items;
+  later : (which : Which) → g.D.Disk.faults (disk_of which l.fn.node) ≤ g.D.Disk.faults (disk_of which l.node);
+}
+
+abbrev pub decreases-loop-cut : goal.decreases-loop-cut
+decreases-loop-cut g l = starts_left (content_of l.node)

@@ -1,0 +1,90 @@
+use Rattle.std.proofs.Common.{◌≡◌, ℕ, refl, ap, sym, ◌∙◌, ◌++◌, [], ◌∷◌, List, length, map, arith, inl, inr}
+use Rattle.nqs_rules.specs.Measure.{starts_left}
+use Rattle.nqs_rules.specs.Sane.{is_sane_event}
+use Rattle.nqs_back.specs.Back.{comes_back}
+use Rattle.nqs_node.specs.Nodes.{content_of}
+use Rattle.nqs_serve.specs.Events.{Here}
+use Rattle.nqs_serve.specs.Steps.{after_event}
+use Rattle.nqs_serve.specs.Runs.{Act, took, turn, event_back, Ran}
+use Rattle.nqs_serve.specs.declared.comeback.Comeback.{Comeback}
+use Rattle.nqs_serve.proofs.Acts.{arrivals_append, ran_none, ran_empty, took_back, cut_back}
+use Rattle.nqs_serve.proofs.Faults.{rose_behind}
+use Rattle.nqs_serve.proofs.Sane.{sane_back, is_back}
+use Rattle.nqs_serve.proofs.take.take_back.Goals as goal
+
+pub loop-alloc-init : goal.loop-alloc-init
+loop-alloc-init g c = record {
+  sound = c.requires.sound;
+  site = refl;
+  running = c.requires.running;
+  later = λ which. omega arith;
+  wire = omega arith;
+  ran = λ s here knows same. ([], s, refl, knows, ran_none here _ _);
+}
+
+pub take_event-taken-requires-clause-sane : goal.take_event-taken-requires-clause-sane
+take_event-taken-requires-clause-sane g c =
+    let hosts = length (content_of c.loop-alloc.node).site in
+    ap (is_sane_event hosts) c.event_back-event.ensures ∙ sane_back hosts c.first.result
+
+pub returns-in-Err-clause-later : goal.returns-in-Err-clause-later
+returns-in-Err-clause-later g c = λ which. omega (arith, c.loop-alloc.invariant.later which, c.take_event-taken.ensures.later which)
+
+pub returns-in-Err-clause-cut : goal.returns-in-Err-clause-cut
+returns-in-Err-clause-cut g c = λ s here knows same.
+    let x = c.first.result in
+    let e = c.event_back-event.result in
+    let rest = c.first.new.back.items in
+    let split : c.loop-alloc.back.items ≡ x ∷ rest = c.first.ensures in
+    let before = c.loop-alloc.invariant.ran s here knows same in
+    let at : List (List ℕ) → Here = λ names. record { me = c.args.me; site = names } in
+    let cut = c.in-Err.ensures.cut before.1 here before.3 (same ∙ ap at (sym c.loop-alloc.invariant.site)) in (
+      before.0 ++ [],
+      turn before.1 (e ∷ map event_back rest),
+      cut.0 ∷ [],
+      arrivals_append before.0 [] ∙ ap (λ l. l ++ []) before.2,
+      inr (e, map event_back rest, cut.0, refl, refl),
+      λ failed. let known = cut.1 failed in (known.0, known.1, inr (e, map event_back rest, cut.0, refl, refl, known.2)),
+      cut_back here before.0 _ before.1 e x c.loop-alloc.back.items rest cut.0 _ _ _ split c.event_back-event.ensures before.4 cut.2,
+    )
+
+pub returns-in-Err-clause-broken : goal.returns-in-Err-clause-broken
+returns-in-Err-clause-broken g c = λ failed.
+    let broke = c.in-Err.ensures.broken failed in
+    (broke.0, (broke.1.0, rose_behind _ _ _ (c.loop-alloc.invariant.later broke.1.0) broke.1.1))
+
+pub loop-alloc-smaller : goal.loop-alloc-smaller
+loop-alloc-smaller g c =
+    let split : c.loop-alloc.back.items ≡ c.first.result ∷ c.first.new.back.items = c.first.ensures in
+    let less = c.in_default.ensures.fewer (ap comes_back c.event_back-event.ensures ∙ is_back c.first.result) in
+    omega (arith, less, ap (λ (l : List Comeback). length l) split)
+
+pub loop-alloc-preserved : goal.loop-alloc-preserved
+loop-alloc-preserved g c =
+    let x = c.first.result in
+    let e = c.event_back-event.result in
+    let rest = c.first.new.back.items in
+    let split : c.loop-alloc.back.items ≡ x ∷ rest = c.first.ensures in
+    record {
+      sound = c.in_default.ensures.sound;
+      site = c.in_default.ensures.site ∙ c.loop-alloc.invariant.site;
+      running = c.in_default.ensures.running;
+      later = λ which. omega (arith, c.loop-alloc.invariant.later which, c.in_default.ensures.later which);
+      wire = omega (arith, c.loop-alloc.invariant.wire, c.in_default.ensures.wire);
+      ran = λ s here knows same.
+          let before = c.loop-alloc.invariant.ran s here knows same in
+          let at : List (List ℕ) → Here = λ names. record { me = c.args.me; site = names } in
+          let ok = c.in_default.ensures.ok before.1 here before.3 (same ∙ ap at (sym c.loop-alloc.invariant.site)) in (
+            before.0 ++ took ok.0 ok.1 ∷ [],
+            after_event ok.0 e before.1,
+            arrivals_append before.0 (took ok.0 ok.1 ∷ []) ∙ ap (λ l. l ++ []) before.2,
+            ok.3,
+            took_back here before.0 _ before.1 e x c.loop-alloc.back.items rest _ ok.0 ok.1 _ _ _ split c.event_back-event.ensures ok.2 ok.4 before.4 ok.5,
+          );
+    }
+
+pub returns-clause-ok : goal.returns-clause-ok
+returns-clause-ok g c = λ s here knows same.
+    let empty = c.waits.ensures.none c.loop-alloc-test.false in
+    let before = c.loop-alloc.invariant.ran s here knows same in
+    (before.0, before.1, before.2, before.3, ran_empty here before.0 _ before.1 c.loop-alloc.back.items _ _ empty before.4)

@@ -1,0 +1,27 @@
+use Rattle.std.proofs.Common.{◌≡◌, ◌≤◌, ◌+◌, [], List, map, length, false}
+use Rattle.nqs_state.specs.State.{Plain}
+use Rattle.nqs_types.specs.declared.world.Which.{Which}
+use Rattle.nqs_rules.specs.Measure.{starts_left}
+use Rattle.nqs_node.specs.Nodes.{content_of, disk_of, is_stopped}
+use Rattle.nqs_store.specs.Sound.{IsSoundHost}
+use Rattle.nqs_serve.specs.Events.{Here}
+use Rattle.nqs_serve.specs.Nodes.{Knows}
+use Rattle.nqs_serve.specs.Runs.{Act, arrivals, turn, event_back, telling, Ran}
+use Rattle.nqs_serve.proofs.take.take_back.Given as goal
+
+abbrev pub invariant-loop-alloc : goal.invariant-loop-alloc
+invariant-loop-alloc g l = record {
+  sound : IsSoundHost (content_of l.node);
+  site : (content_of l.node).site ≡ (content_of l.fn.node).site;
+  running : is_stopped l.node ≡ false;
+  later : (which : Which) → g.D.Disk.faults (disk_of which l.fn.node) ≤ g.D.Disk.faults (disk_of which l.node);
+  wire : g.W.Wire.receive_faults l.fn.wire ≤ g.W.Wire.receive_faults l.wire;
+  ran : (s : Plain) (here : Here) → Knows l.fn.node s → here ≡ record { me = l.me; site = (content_of l.fn.node).site } → (acts : List Act) × (u : Plain) × (arrivals acts ≡ []) × Knows l.node u
+      × Ran here acts (turn s (map event_back l.fn.back.items)) (turn u (map event_back l.back.items)) []
+      (telling (g.W.Wire.received l.fn.wire) (g.W.Wire.sent l.fn.wire) (g.L.Launcher.asked l.fn.launcher) (g.P.Printer.prints l.fn.printer) (g.O.Outlet.filings l.fn.outlet) (g.C.Clock.given l.fn.clock))
+      (telling (g.W.Wire.received l.wire) (g.W.Wire.sent l.wire) (g.L.Launcher.asked l.launcher) (g.P.Printer.prints l.printer) (g.O.Outlet.filings l.outlet) (g.C.Clock.given l.clock));
+}
+
+-- each event that came back is one less, and each start that may bring one back lowers how many there may still be
+abbrev pub decreases-loop-alloc : goal.decreases-loop-alloc
+decreases-loop-alloc g l = starts_left (content_of l.node) + length l.back.items

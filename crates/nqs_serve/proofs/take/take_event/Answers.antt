@@ -1,0 +1,73 @@
+use Rattle.std.proofs.Common.{◌≡◌, ℕ, refl, ap, sym, ◌∙◌, ◌++◌, [], ◌∷◌, List, length, map, arith, inl, inr}
+use Rattle.std.proofs.lemmas.List.{append-nil}
+use Rattle.nqs_types.specs.declared.event.Event.{Event}
+use Rattle.nqs_types.specs.declared.event.Output.{Output}
+use Rattle.nqs_rules.specs.Sane.{is_sane_event}
+use Rattle.nqs_rules.specs.Starts.{starts}
+use Rattle.nqs_back.specs.Back.{comebacks, comes_back}
+use Rattle.nqs_node.specs.Nodes.{content_of}
+use Rattle.nqs_serve.specs.Events.{Here}
+use Rattle.nqs_serve.specs.Letters.{letter_of}
+use Rattle.nqs_serve.specs.Steps.{stepped, after_event, outputs}
+use Rattle.nqs_serve.specs.Runs.{brought_back}
+use Rattle.nqs_serve.specs.declared.comeback.Comeback.{Comeback}
+use Rattle.nqs_serve.proofs.Acts.{clock_grew, took_grew}
+use Rattle.nqs_serve.proofs.Sane.{sane_at, comes_at}
+use Rattle.nqs_serve.proofs.take.take_event.Goals as goal
+
+pub take_whole-requires-clause-sane : goal.take_whole-requires-clause-sane
+take_whole-requires-clause-sane g c =
+    let hosts = length (content_of c.args.node.now).site in
+    ap (is_sane_event hosts) c.set_moment.ensures ∙ sane_at hosts c.now-now.result c.args.event.now ∙ c.requires.sane
+
+pub returns-in-Err-clause-cut : goal.returns-in-Err-clause-cut
+returns-in-Err-clause-cut g c = λ s here knows same. (
+  c.now-now.result,
+  λ failed. c.in-Err.ensures.memory s c.args.event.now knows c.set_moment.ensures failed,
+  clock_grew here _ _ _ _ _ _ _ c.now-now.result c.now-now.ensures,
+)
+
+pub returns-in-Err-clause-broken : goal.returns-in-Err-clause-broken
+returns-in-Err-clause-broken g c = λ failed. c.in-Err.ensures.broken failed
+
+pub returns-then-is_err-clause-cut : goal.returns-then-is_err-clause-cut
+returns-then-is_err-clause-cut g c = λ s here knows same.
+    let now = c.now-now.result in
+    let told = c.in_default.ensures.told s c.args.event.now knows c.set_moment.ensures in (
+      now,
+      λ failed. (after_event now c.args.event.now s, told.0, inr (starts now (stepped now c.args.event.now s), [], sym (append-nil (starts now (stepped now c.args.event.now s))), refl)),
+      clock_grew here _ _ _ _ _ _ _ now c.now-now.ensures,
+    )
+
+pub returns-in_default-letters_of-clause-cut : goal.returns-in_default-letters_of-clause-cut
+returns-in_default-letters_of-clause-cut g c = λ s here knows same.
+    let now = c.now-now.result in
+    let told = c.in_default.ensures.told s c.args.event.now knows c.set_moment.ensures in (
+      now,
+      λ failed. (after_event now c.args.event.now s, told.0, inr (starts now (stepped now c.args.event.now s), [], sym (append-nil (starts now (stepped now c.args.event.now s))), refl)),
+      clock_grew here _ _ _ _ _ _ _ now c.now-now.ensures,
+    )
+
+pub returns-clause-ok : goal.returns-clause-ok
+returns-clause-ok g c = λ s here knows same.
+    let now = c.now-now.result in
+    let e = c.args.event.now in
+    let told = c.in_default.ensures.told s e knows c.set_moment.ensures in
+    let site : c.as_slice.result.now ≡ (content_of c.args.node.now).site = c.as_slice.ensures ∙ ap (λ h. h.site) c.state.ensures ∙ c.in_default.ensures.site in
+    let at : List (List ℕ) → Here = λ x. record { me = c.args.me; site = x } in
+    let is_here : at c.as_slice.result.now ≡ here = ap at site ∙ sym same in
+    let spelled : c.deref-3.result.now ≡ map (letter_of here) c.deref-2.result.now =
+    c.deref-3.ensures.value ∙ c.in-Ok.ensures ∙ ap (λ h. map (letter_of h) c.deref.result.now) is_here ∙ ap (map (letter_of here)) (c.deref.ensures.value ∙ sym c.deref-2.ensures.value) in
+    let carried = c.carry.ensures.carried here spelled in (
+      now,
+      carried.0,
+      carried.2 ∙ ap (λ (l : List Comeback). l ++ brought_back carried.0) c.reserve.ensures.items,
+      told.0,
+      carried.1 ∙ c.deref-2.ensures.value ∙ told.1 ∙ ap (λ (l : List Output). l ++ outputs now e s) c.clear.ensures.items,
+      took_grew here now carried.0 _ _ c.carry.ensures.received carried.3 carried.4 carried.5 carried.6 c.now-now.ensures,
+    )
+
+pub returns-clause-fewer : goal.returns-clause-fewer
+returns-clause-fewer g c = λ back.
+    let first = c.in_default.ensures.fewer (ap comes_back c.set_moment.ensures ∙ comes_at c.now-now.result c.args.event.now ∙ back) in
+    omega (arith, first, c.carry.ensures.few, ap comebacks c.clear.ensures.items, ap comebacks c.deref-2.ensures.value, ap (λ (l : List Comeback). length l) c.reserve.ensures.items)

@@ -1,0 +1,75 @@
+-- How a run of the daemon ends.
+use Rattle.std.specs.Prelude.{◌≡◌, ◌⊎◌, ℕ, ◌<◌, ◌≤◌, Bool, true, false, List, [], ◌∷◌, ◌++◌, length}
+use Rattle.std.specs.List.{list_any}
+use Rattle.nqs_state.specs.State.{Plain}
+use Rattle.nqs_types.specs.declared.event.Event.{Event}
+use Rattle.nqs_rules.specs.Starts.{starts, after_starts}
+use Rattle.nqs_rules.specs.Stepped.{Stepped}
+use Rattle.nqs_outside.specs.declared.disk.Disk as disk
+use Rattle.nqs_node.specs.declared.node.Node.{Node}
+use Rattle.nqs_node.specs.Nodes.{Tells}
+use Rattle.nqs_serve.specs.Events.{Here, event_in, stops_by}
+use Rattle.nqs_serve.specs.Steps.{stepped}
+use Rattle.nqs_serve.specs.Runs.{Act, received, took, Turn, next}
+use Rattle.nqs_serve.specs.declared.cut.Cut.{Cut}
+use Rattle.nqs_serve.specs.declared.cut.Cut.TheVariants as cut
+use Rattle.nqs_serve.specs.declared.daemon.Fault.{Fault}
+use Rattle.nqs_serve.specs.declared.daemon.Fault.TheVariants as fault
+use Rattle.nqs_values.specs.declared.memory.Memory as memory
+use Rattle.nqs_serve.specs.declared.daemon.ServeEnd.{ServeEnd}
+use Rattle.nqs_serve.specs.declared.daemon.ServeEnd.TheVariants.{Shutdown, TurnsUsed, WireFault, DiskFault, Memory}
+
+abbrev pub stop_of : Here → Turn → Act → List Bool
+stop_of here t (received arrival) = stops_by (event_in here arrival) t.state ∷ []
+stop_of here t (took m outcomes) = []
+
+-- for each receive, whether it brought a shutdown that is answered Done
+abbrev pub stops : Here → Turn → List Act → List Bool
+stops here t [] = []
+stops here t (act ∷ acts) = stop_of here t act ++ stops here (next here t act) acts
+
+abbrev pub is_stop : Bool → Bool
+is_stop b = b
+
+abbrev pub NoneStops : List Bool → Type 0
+NoneStops bs = list_any is_stop bs ≡ false
+
+-- the state is as before the event, or after it and some of its starts
+abbrev pub IsWithin : ℕ → Event → Plain → Plain → Type 0
+IsWithin m e before s = (s ≡ before) ⊎ ((xs ys : List (Stepped (List ℕ))) × (starts m (stepped m e before) ≡ xs ++ ys) × (s ≡ after_starts xs (stepped m e before)))
+
+-- The clock was read for the next event, if for any. Of that event nothing went out.
+abbrev pub IsCut : Turn → List ℕ → Type 0
+IsCut t more = (more ≡ []) ⊎ ((e : Event) × (es : List Event) × (m : ℕ) × (t.waits ≡ e ∷ es) × (more ≡ m ∷ []))
+
+-- the node tells the state before the next event, or one on the way to that after it
+abbrev pub IsCutAt : Turn → List ℕ → Plain → Type 0
+IsCutAt t more s = ((more ≡ []) × (s ≡ t.state)) ⊎ ((e : Event) × (es : List Event) × (m : ℕ) × (t.waits ≡ e ∷ es) × (more ≡ m ∷ []) × IsWithin m e t.state s)
+
+-- no receive follows one that stops, and there are at most so many
+pub record Receives (turns : ℕ) (bs : List Bool) : Type 0 where
+  pub before : List Bool
+  pub last : List Bool
+  pub are : bs ≡ before ++ last
+  pub none : NoneStops before
+  pub at_most_one : length last ≤ 1
+  pub few : length bs ≤ turns
+
+module _ {D : Type 0} {g : disk.Ghosts D} where
+  abbrev pub Ends : ServeEnd → ℕ → List Bool → Turn → List ℕ → Node D g → Type 0
+  -- the last receive brought such a shutdown, and none before it did
+  Ends Shutdown turns bs t more node = (t.waits ≡ []) × (more ≡ []) × Tells node t.state × ((before : List Bool) × (bs ≡ before ++ true ∷ []) × NoneStops before × (length bs ≤ turns))
+  Ends TurnsUsed turns bs t more node = (t.waits ≡ []) × (more ≡ []) × Tells node t.state × NoneStops bs × (length bs ≡ turns)
+  -- the receive that failed is one more
+  Ends WireFault turns bs t more node = (t.waits ≡ []) × (more ≡ []) × Tells node t.state × NoneStops bs × (length bs < turns)
+  Ends DiskFault turns bs t more node = IsCut t more × Receives turns bs
+  Ends (Memory _) turns bs t more node = ((s : Plain) × Tells node s × IsCutAt t more s) × Receives turns bs
+
+abbrev pub fault_of : Cut → Fault
+fault_of cut.Disk = fault.Disk
+fault_of cut.Memory = fault.Memory
+
+abbrev pub end_of : Fault → ServeEnd
+end_of fault.Wire = WireFault
+end_of fault.Disk = DiskFault
+end_of fault.Memory = Memory (record {})

@@ -1,0 +1,59 @@
+-- What is sent: the datagram of an output, if it has one.
+use Rattle.std.specs.Prelude.{ℕ, ◌==◌, nat_le, Bool, true, false, if◌then◌else◌, List, [], ◌∷◌, ◌++◌, length, take, codes, map}
+use Rattle.std.specs.declared.option.Option.{Option}
+use Rattle.std.specs.declared.option.Option.TheVariants.{None, Some}
+use Rattle.nqs_types.specs.declared.message.Message.{Message}
+use Rattle.nqs_types.specs.declared.message.Body.{Body}
+use Rattle.nqs_types.specs.declared.message.Body.TheVariants as body
+use Rattle.nqs_types.specs.declared.event.Reply.{Reply}
+use Rattle.nqs_types.specs.declared.event.Reply.TheVariants as reply
+use Rattle.nqs_types.specs.declared.event.Output.{Output}
+use Rattle.nqs_types.specs.declared.event.Output.TheVariants as out
+use Rattle.nqs_rules.specs.Transcript.{reply_text}
+use Rattle.nqs_outside.specs.Asked.{Packet, packet}
+use Rattle.nqs_outside.specs.declared.wire.Address.{Address}
+use Rattle.nqs_outside.specs.declared.wire.Address.TheVariants.{Host, Client}
+use Rattle.nqs_packets.specs.Spelling.{spelling}
+use Rattle.nqs_serve.specs.Events.{Here}
+use Rattle.nqs_serve.specs.declared.letter.Letter.{Letter}
+
+-- a byte before whole lines, or before none
+abbrev pub with_lines : ℕ → List ℕ → List ℕ
+with_lines b [] = if b == 10 then b ∷ [] else []
+with_lines b (c ∷ cs) = b ∷ c ∷ cs
+
+-- its whole lines: up to its last line feed
+abbrev pub whole_lines : List ℕ → List ℕ
+whole_lines [] = []
+whole_lines (b ∷ bs) = with_lines b (whole_lines bs)
+
+-- a text above 48,000 bytes is cut behind its last whole line within them, and says so
+abbrev pub cut_text : List ℕ → List ℕ
+cut_text text = if nat_le (length text) 48000 then text else whole_lines (take 48000 text) ++ codes "(cut)" ++ 10 ∷ []
+
+-- what was asked for is refused, or could not be read
+abbrev pub is_answered : Reply → Bool
+is_answered (reply.Refused _) = false
+is_answered (reply.UnreadLine _) = false
+is_answered (reply.UnreadWords _) = false
+is_answered _ = true
+
+abbrev pub letter : Address → List ℕ → Letter
+letter to bytes = record { to = to; bytes = bytes }
+
+abbrev pub posted : Address → Message → Letter
+posted to m = letter to (spelling m)
+
+abbrev pub from_me : Here → Body → Message
+from_me here b = record { from = here.me; to = here.me; body = b }
+
+-- a client and a shepherd are at a port of this host
+abbrev pub letter_of : Here → Output → Option Letter
+letter_of here (out.Reply port token r) = Some (posted (Client port) (from_me here (body.Answer token (is_answered r) (cut_text (reply_text here.site r)))))
+letter_of here (out.Send m) = Some (posted (Host m.to) m)
+letter_of here (out.Ack port id start) = Some (posted (Client port) (from_me here (body.EndedAck id start)))
+letter_of here _ = None
+
+abbrev pub packets_in : Option Letter → List Packet
+packets_in None = []
+packets_in (Some l) = packet l.to l.bytes ∷ []

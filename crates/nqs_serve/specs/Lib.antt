@@ -1,0 +1,6 @@
+pub mod Events
+pub mod Letters
+pub mod Steps
+pub mod Runs
+pub mod Ends
+pub mod Nodes

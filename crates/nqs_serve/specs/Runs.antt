@@ -1,0 +1,198 @@
+-- A run of the daemon: what came, and each event that was taken, with what the outside answered to what went out.
+use Rattle.std.specs.Prelude.{◌≡◌, ℕ, Bool, if◌then◌else◌, List, [], ◌∷◌, ◌++◌, map}
+use Rattle.std.specs.List.{flat_map}
+use Rattle.std.specs.Option.{option_to_list}
+use Rattle.std.specs.declared.option.Option.{Option}
+use Rattle.std.specs.declared.option.Option.TheVariants.{None, Some}
+use Rattle.nqs_state.specs.State.{Plain}
+use Rattle.nqs_types.specs.declared.event.Event.{Event}
+use Rattle.nqs_types.specs.declared.event.Event.TheVariants as event
+use Rattle.nqs_types.specs.declared.event.Output.{Output}
+use Rattle.nqs_types.specs.declared.event.Output.TheVariants as out
+use Rattle.nqs_outside.specs.Told.{Extends}
+use Rattle.nqs_outside.specs.Asked.{Arrival, Packet, Asked, launched, killed, Print, printed, Filing, filed}
+use Rattle.nqs_serve.specs.Events.{Here, event_in}
+use Rattle.nqs_serve.specs.Letters.{letter_of, packets_in}
+use Rattle.nqs_serve.specs.Steps.{after_event, outputs}
+use Rattle.nqs_serve.specs.declared.comeback.Comeback.{Comeback}
+use Rattle.nqs_serve.specs.declared.comeback.Comeback.TheVariants.{Unlaunched, Printed, Written, Unwritten}
+
+-- an output that was carried out, and the answer of the outside, where it asks for one
+pub record Outcome : Type 0 where
+  pub output : Output
+  pub ok : Bool
+
+abbrev pub outcome : Output → Bool → Outcome
+outcome output ok = record { output = output; ok = ok }
+
+pub data Act : Type 0 where
+  -- a receive
+  received : (arrival : Arrival) → Act
+  -- the next event that waits was taken at this moment, and what went out was carried out
+  took : (moment : ℕ) (outcomes : List Outcome) → Act
+
+-- the daemon, and the events that wait within a turn
+pub record Turn : Type 0 where
+  pub state : Plain
+  pub waits : List Event
+
+abbrev pub turn : Plain → List Event → Turn
+turn s waits = record { state = s; waits = waits }
+
+-- a daemon for which no event waits
+abbrev pub idle : Plain → Turn
+idle s = turn s []
+
+-- what an outcome asked of the outside
+
+abbrev pub packets_by : Here → Output → List Packet
+packets_by here output = packets_in (letter_of here output)
+
+abbrev pub asked_by : Output → Bool → List Asked
+asked_by (out.Launch order script) ok = launched order script ok ∷ []
+asked_by (out.Kill id start) ok = killed id start ok ∷ []
+asked_by _ ok = []
+
+abbrev pub prints_by : Output → Bool → List Print
+prints_by (out.Print device order script) ok = printed device order script ok ∷ []
+prints_by _ ok = []
+
+abbrev pub filings_by : Output → Bool → List Filing
+filings_by (out.File file path bytes) ok = filed path bytes ok ∷ []
+filings_by _ ok = []
+
+-- what comes back of it: a launch or a print that failed, a print that succeeded, a file that was written or was not
+abbrev pub comeback_of : Output → Bool → Option Comeback
+comeback_of (out.Launch order _) ok = if ok then None else Some (Unlaunched order.id order.start)
+comeback_of (out.Print _ order _) ok = Some (if ok then Printed order.id order.start else Unlaunched order.id order.start)
+comeback_of (out.File file _ _) ok = Some (if ok then Written file else Unwritten file)
+comeback_of _ ok = None
+
+abbrev pub event_back : Comeback → Event
+event_back (Unlaunched id start) = event.Unlaunched 0 id start
+event_back (Printed id start) = event.Ended 0 0 id start 0 [] []
+event_back (Written file) = event.Written 0 file
+event_back (Unwritten file) = event.Unwritten 0 file
+
+-- the same of a list of outcomes, in order
+
+abbrev pub outputs_in : List Outcome → List Output
+outputs_in outcomes = map (λ (o : Outcome). o.output) outcomes
+
+abbrev pub packets : Here → List Outcome → List Packet
+packets here outcomes = flat_map (λ (o : Outcome). packets_by here o.output) outcomes
+
+abbrev pub asked : List Outcome → List Asked
+asked outcomes = flat_map (λ (o : Outcome). asked_by o.output o.ok) outcomes
+
+abbrev pub prints : List Outcome → List Print
+prints outcomes = flat_map (λ (o : Outcome). prints_by o.output o.ok) outcomes
+
+abbrev pub filings : List Outcome → List Filing
+filings outcomes = flat_map (λ (o : Outcome). filings_by o.output o.ok) outcomes
+
+abbrev pub brought_back : List Outcome → List Comeback
+brought_back outcomes = flat_map (λ (o : Outcome). option_to_list (comeback_of o.output o.ok)) outcomes
+
+-- they wait in the order of the outputs that they come of
+abbrev pub come_back : List Outcome → List Event
+come_back outcomes = map event_back (brought_back outcomes)
+
+-- acts, one after the other
+
+abbrev pub take_next : ℕ → List Outcome → List Event → Plain → Turn
+take_next m outcomes [] s = idle s
+take_next m outcomes (e ∷ es) s = turn (after_event m e s) (es ++ come_back outcomes)
+
+abbrev pub next : Here → Turn → Act → Turn
+next here t (received arrival) = turn t.state (t.waits ++ option_to_list (event_in here arrival))
+next here t (took m outcomes) = take_next m outcomes t.waits t.state
+
+-- an event waits, and what is carried out is what goes out of it
+abbrev pub IsTaken : ℕ → List Outcome → List Event → Plain → Type 0
+IsTaken m outcomes [] s = ⊥
+IsTaken m outcomes (e ∷ es) s = outputs_in outcomes ≡ outputs m e s
+
+-- a receive comes only when nothing waits
+abbrev pub Allows : Turn → Act → Type 0
+Allows t (received arrival) = t.waits ≡ []
+Allows t (took m outcomes) = IsTaken m outcomes t.waits t.state
+
+module _ (here : Here) where
+  abbrev pub after : Turn → List Act → Turn
+  after t [] = t
+  after t (act ∷ acts) = after (next here t act) acts
+
+  abbrev pub IsRun : Turn → List Act → Type 0
+  IsRun t [] = Unit {0}
+  IsRun t (act ∷ acts) = Allows t act × IsRun (next here t act) acts
+
+-- the parts of acts, in order
+
+abbrev pub arrivals_of : Act → List Arrival
+arrivals_of (received arrival) = arrival ∷ []
+arrivals_of (took m outcomes) = []
+
+abbrev pub moments_of : Act → List ℕ
+moments_of (received arrival) = []
+moments_of (took m outcomes) = m ∷ []
+
+abbrev pub outcomes_of : Act → List Outcome
+outcomes_of (received arrival) = []
+outcomes_of (took m outcomes) = outcomes
+
+abbrev pub arrivals : List Act → List Arrival
+arrivals acts = flat_map arrivals_of acts
+
+abbrev pub moments : List Act → List ℕ
+moments acts = flat_map moments_of acts
+
+abbrev pub outcomes : List Act → List Outcome
+outcomes acts = flat_map outcomes_of acts
+
+-- what the outside tells of what it was asked, where it tells it
+pub record Telling : Type 0 where
+  pub received : Option (List Arrival)
+  pub sent : Option (List Packet)
+  pub asked : Option (List Asked)
+  pub prints : Option (List Print)
+  pub filings : Option (List Filing)
+  pub given : Option (List ℕ)
+
+abbrev pub telling : Option (List Arrival) → Option (List Packet) → Option (List Asked) → Option (List Print) → Option (List Filing) → Option (List ℕ) → Telling
+telling r s a p f c = record { received = r; sent = s; asked = a; prints = p; filings = f; given = c }
+
+-- What the outside tells grew by just what these acts ask of it. The clock may have given moments more.
+pub record Grew (here : Here) (acts : List Act) (more : List ℕ) (was now : Telling) : Type 0 where
+  pub received : Extends was.received now.received (arrivals acts)
+  pub sent : Extends was.sent now.sent (packets here (outcomes acts))
+  pub asked : Extends was.asked now.asked (asked (outcomes acts))
+  pub prints : Extends was.prints now.prints (prints (outcomes acts))
+  pub filings : Extends was.filings now.filings (filings (outcomes acts))
+  pub given : Extends was.given now.given (moments acts ++ more)
+
+-- The acts lead from one turn to another, and are just what the outside saw.
+pub record Ran (here : Here) (acts : List Act) (start finish : Turn) (more : List ℕ) (was now : Telling) : Type 0 where
+  pub run : IsRun here start acts
+  pub leads : after here start acts ≡ finish
+  pub grew : Grew here acts more was now
+
+-- the events in what was received
+abbrev pub events : Here → List Act → List Event
+events here acts = flat_map (λ arrival. option_to_list (event_in here arrival)) (arrivals acts)
+
+-- one event after the other, each with its starts
+abbrev pub folded : Plain → List Event → List ℕ → Plain
+folded s es [] = s
+folded s [] (m ∷ ms) = s
+folded s (e ∷ es) (m ∷ ms) = folded (after_event m e s) es ms
+
+abbrev pub folded_outputs : Plain → List Event → List ℕ → List Output
+folded_outputs s es [] = []
+folded_outputs s [] (m ∷ ms) = []
+folded_outputs s (e ∷ es) (m ∷ ms) = outputs m e s ++ folded_outputs (after_event m e s) es ms
+
+-- where nothing came back, a run that leaves nothing waiting is the fold of the step and its starts over the events in what was received
+abbrev pub RunsAreFolds : Type 0
+RunsAreFolds = (here : Here) (s : Plain) (acts : List Act) → IsRun here (idle s) acts → brought_back (outcomes acts) ≡ [] → (after here (idle s) acts).waits ≡ []
+    → ((after here (idle s) acts).state ≡ folded s (events here acts) (moments acts)) × (outputs_in (outcomes acts) ≡ folded_outputs s (events here acts) (moments acts))

@@ -1,0 +1,215 @@
+//! The daemon's loop.
+
+ghost use Rattle.std.specs.Prelude.{◌≡◌, ◌⊎◌, ◌≤◌, ◌<◌, ◌+◌, ◌∷◌, ◌++◌, [], false, ℕ, Bool, List, IsTrue, OnOk, OnErr, IfOk, IfErr, IsErrOf, length};
+ghost use Rattle.nqs_state.specs.State.{Plain};
+ghost use Rattle.nqs_types.specs.declared.world.Which.{Which};
+ghost use Rattle.nqs_outside.specs.Causes.{Rose};
+ghost use Rattle.nqs_node.specs.Nodes.{content_of, disk_of, is_stopped, Tells};
+ghost use Rattle.nqs_store.specs.Sound.{IsSoundHost};
+ghost use Rattle.nqs_serve.specs.Events.{Here};
+ghost use Rattle.nqs_serve.specs.Runs.{Act, Turn, idle, telling, Ran};
+ghost use Rattle.nqs_serve.specs.Nodes.{Knows, here_of};
+ghost use Rattle.nqs_serve.specs.Ends.{Ends, stops, fault_of, end_of};
+
+use crate::comeback::Comeback;
+use crate::cut::Cut;
+use crate::event::shuts_down;
+use crate::receive::{Missed, receive};
+use crate::take::{take_back, take_event};
+use nqs_node::Node;
+use nqs_outside::{Clock, Disk, Launcher, Outlet, Printer, Wire};
+use nqs_types::{HostId, Output};
+use nqs_values::Memory;
+use std::alloc::Global;
+
+/// Why the daemon ended.
+#[derive(Clone, Copy, Debug, PartialEq, Eq)]
+pub enum ServeEnd {
+    /// The last receive brought a shutdown, which was answered Done.
+    Shutdown,
+    /// There were so many receives, none of which brought such a shutdown.
+    TurnsUsed,
+    /// A receive failed.
+    WireFault,
+    /// A call of a disk failed. The node is stopped: it is to be closed.
+    DiskFault,
+    Memory(Memory),
+}
+
+/// Why a turn was cut off.
+#[derive(Clone, Copy, Debug, PartialEq, Eq)]
+pub(crate) enum Fault {
+    /// A call of the wire failed.
+    Wire,
+    /// A call of a disk failed.
+    Disk,
+    Memory,
+}
+
+fn fault_of(cut: Cut) -> Fault
+    ensures { result ≡ fault_of cut }
+{
+    match cut {
+        Cut::Disk => Fault::Disk,
+        Cut::Memory => Fault::Memory,
+    }
+}
+
+fn end_of(fault: Fault) -> ServeEnd
+    ensures { result ≡ end_of fault }
+{
+    match fault {
+        Fault::Wire => ServeEnd::WireFault,
+        Fault::Disk => ServeEnd::DiskFault,
+        Fault::Memory => ServeEnd::Memory(Memory),
+    }
+}
+
+// What turns work in.
+#[derive(Drop)]
+struct Room {
+    buf: Vec<u8>,
+    out: Vec<Output>,
+    back: Vec<Comeback>,
+}
+
+// One turn: a receive, the event that it brought, and those that come back of it. True: a shutdown was answered Done.
+fn turn<D: Disk, W: Wire, L: Launcher, P: Printer, O: Outlet, C: Clock>(
+    alloc: Global,
+    me: HostId,
+    node: &mut Node<D>,
+    wire: &mut W,
+    launcher: &mut L,
+    printer: &mut P,
+    outlet: &mut O,
+    clock: &mut C,
+    room: &mut Room,
+) -> Result<bool, Fault>
+    requires sound { IsSoundHost (content_of node.old) }
+    requires running { is_stopped node.old ≡ false }
+    ensures sound { IsSoundHost (content_of node.new) }
+    ensures site { (content_of node.new).site ≡ (content_of node.old).site }
+    ensures running { OnOk result (is_stopped node.new ≡ false) }
+    ensures ok { (s : Plain) (here : Here) → Knows node.old s → here ≡ record { me = me; site = (content_of node.old).site } → IfOk result (λ stop. (acts : List Act) × (u : Plain) × Knows node.new u × (stops here (idle s) acts ≡ stop ∷ [])
+        × Ran here acts (idle s) (idle u) []
+        (telling (W.received wire.old) (W.sent wire.old) (L.asked launcher.old) (P.prints printer.old) (O.filings outlet.old) (C.given clock.old))
+        (telling (W.received wire.new) (W.sent wire.new) (L.asked launcher.new) (P.prints printer.new) (O.filings outlet.new) (C.given clock.new))) }
+    ensures err { (s : Plain) (here : Here) → Knows node.old s → here ≡ record { me = me; site = (content_of node.old).site } → IfErr result (λ fault. (acts : List Act) × (t : Turn) × (more : List ℕ)
+        × Ran here acts (idle s) t more
+        (telling (W.received wire.old) (W.sent wire.old) (L.asked launcher.old) (P.prints printer.old) (O.filings outlet.old) (C.given clock.old))
+        (telling (W.received wire.new) (W.sent wire.new) (L.asked launcher.new) (P.prints printer.new) (O.filings outlet.new) (C.given clock.new))
+        × Ends (end_of fault) 1 (stops here (idle s) acts) t more node.new) }
+    ensures wire_fault { IsErrOf result Fault.Wire → Rose (W.receive_faults wire.old) (W.receive_faults wire.new) }
+    ensures disk_fault { IsErrOf result Fault.Disk → IsTrue (is_stopped node.new) × ((which : Which) × Rose (D.faults (disk_of which node.old)) (D.faults (disk_of which node.new))) }
+    ensures later { (which : Which) → D.faults (disk_of which node.old) ≤ D.faults (disk_of which node.new) }
+    ensures wire { W.receive_faults wire.old ≤ W.receive_faults wire.new }
+{
+    let site = node.state().site.as_slice();
+    let mut event = match receive(alloc, me, site, wire, &mut room.buf) {
+        Ok(Some(event)) => event,
+        Ok(None) => return Ok(false),
+        Err(Missed::Wire) => return Err(Fault::Wire),
+        Err(Missed::Memory) => return Err(Fault::Memory),
+    };
+    let stop = shuts_down(&event, node.state());
+    room.back.clear();
+    let out = &mut room.out;
+    let back = &mut room.back;
+    let taken = take_event(
+        alloc, me, node, wire, launcher, printer, outlet, clock, &mut event, out, back,
+    );
+    drop(event);
+    if let Err(cut) = taken {
+        return Err(fault_of(cut));
+    }
+    if let Err(cut) = take_back(
+        alloc, me, node, wire, launcher, printer, outlet, clock, out, back,
+    ) {
+        return Err(fault_of(cut));
+    }
+    Ok(stop)
+}
+
+// Turns until one stops, or there is none left.
+fn turns_in<D: Disk, W: Wire, L: Launcher, P: Printer, O: Outlet, C: Clock>(
+    alloc: Global,
+    me: HostId,
+    node: &mut Node<D>,
+    wire: &mut W,
+    launcher: &mut L,
+    printer: &mut P,
+    outlet: &mut O,
+    clock: &mut C,
+    room: &mut Room,
+    turns: u64,
+) -> ServeEnd
+    requires sound { IsSoundHost (content_of node.old) }
+    requires running { is_stopped node.old ≡ false }
+    ensures sound { IsSoundHost (content_of node.new) }
+    ensures site { (content_of node.new).site ≡ (content_of node.old).site }
+    ensures run { (s : Plain) (here : Here) → Knows node.old s → here ≡ record { me = me; site = (content_of node.old).site } → (acts : List Act) × (t : Turn) × (more : List ℕ)
+        × Ran here acts (idle s) t more
+        (telling (W.received wire.old) (W.sent wire.old) (L.asked launcher.old) (P.prints printer.old) (O.filings outlet.old) (C.given clock.old))
+        (telling (W.received wire.new) (W.sent wire.new) (L.asked launcher.new) (P.prints printer.new) (O.filings outlet.new) (C.given clock.new))
+        × Ends result turns (stops here (idle s) acts) t more node.new }
+    ensures wire_fault { result ≡ ServeEnd.WireFault → Rose (W.receive_faults wire.old) (W.receive_faults wire.new) }
+    ensures disk_fault { result ≡ ServeEnd.DiskFault → IsTrue (is_stopped node.new) × ((which : Which) × Rose (D.faults (disk_of which node.old)) (D.faults (disk_of which node.new))) }
+{
+    let mut left = turns;
+    while left > 0 {
+        match turn(
+            alloc, me, node, wire, launcher, printer, outlet, clock, room,
+        ) {
+            Ok(true) => return ServeEnd::Shutdown,
+            Ok(false) => {}
+            Err(fault) => return end_of(fault),
+        }
+        left -= 1;
+    }
+    ServeEnd::TurnsUsed
+}
+
+/// The longest datagram, and one byte more: what fills the room was cut.
+const ROOM: usize = 49_153;
+
+/// Serves a host: takes what comes, turn by turn, at most so many. A turn is a receive, the event that it brought with
+/// the starts after it, and the events that come back of what went out.
+///
+/// The node's state is that after the run over what was received, and what the outside was asked for is just what goes
+/// out of that run, in order; where an event was cut off by a fault, nothing of it went out. After `DiskFault` the node
+/// is stopped.
+pub fn serve<D: Disk, W: Wire, L: Launcher, P: Printer, O: Outlet, C: Clock>(
+    alloc: Global,
+    node: &mut Node<D>,
+    wire: &mut W,
+    launcher: &mut L,
+    printer: &mut P,
+    outlet: &mut O,
+    clock: &mut C,
+    turns: u64,
+) -> ServeEnd
+    requires sound { IsSoundHost (content_of node.old) }
+    requires running { is_stopped node.old ≡ false }
+    ensures sound { IsSoundHost (content_of node.new) }
+    ensures site { (content_of node.new).site ≡ (content_of node.old).site }
+    ensures run { IsTrue D.tells → (s : Plain) → Tells node.old s → (acts : List Act) × (t : Turn) × (more : List ℕ)
+        × Ran (here_of node.old) acts (idle s) t more
+        (telling (W.received wire.old) (W.sent wire.old) (L.asked launcher.old) (P.prints printer.old) (O.filings outlet.old) (C.given clock.old))
+        (telling (W.received wire.new) (W.sent wire.new) (L.asked launcher.new) (P.prints printer.new) (O.filings outlet.new) (C.given clock.new))
+        × Ends result turns (stops (here_of node.old) (idle s) acts) t more node.new }
+    ensures wire_fault { result ≡ ServeEnd.WireFault → Rose (W.receive_faults wire.old) (W.receive_faults wire.new) }
+    ensures disk_fault { result ≡ ServeEnd.DiskFault → IsTrue (is_stopped node.new) × ((which : Which) × Rose (D.faults (disk_of which node.old)) (D.faults (disk_of which node.new))) }
+{
+    let Ok(buf) = vec![in alloc; 0u8; ROOM] else {
+        return ServeEnd::Memory(Memory);
+    };
+    let mut room = Room {
+        buf,
+        out: Vec::new(alloc),
+        back: Vec::new(alloc),
+    };
+    let me = node.state().me;
+    turns_in(
+        alloc, me, node, wire, launcher, printer, outlet, clock, &mut room, turns,
+    )
+}

@@ -1,0 +1,196 @@
+//! The event that a datagram is.
+
+ghost use Rattle.std.specs.Prelude.{◌≡◌, ℕ, List, IfOk, IfSome, IsTrue, length};
+ghost use Rattle.nqs_state.specs.State.{content};
+ghost use Rattle.nqs_values.specs.declared.extent.Extent.{Extent};
+ghost use Rattle.nqs_rules.specs.Plain.{map_state};
+ghost use Rattle.nqs_rules.specs.Sane.{is_sane_event};
+ghost use Rattle.nqs_rules.specs.World.{is_shutdown, shuts_down};
+ghost use Rattle.nqs_outside.specs.Asked.{came};
+ghost use Rattle.nqs_serve.specs.Events.{Here, line_in, command_of, are_of_site, is_for, event_by, event_of, event_in, at_moment};
+
+use nqs_access::{may_command, rank};
+use nqs_lines::laws::{edits_are_sane, lists_and_deletions_are_sane, submissions_are_sane};
+use nqs_lines::{qdel_command, qmgr_command, qstat_command, qsub_command};
+use nqs_packets::{PacketFault, read_message};
+use nqs_state::HostState;
+use nqs_types::{Body, Command, Event, HostId, Message, Tool};
+use nqs_values::{Bytes, Memory, Name};
+use std::alloc::Global;
+
+/// The longest datagram.
+const LONGEST: usize = 49_152;
+
+// The line of qmgr, which is its one word.
+fn line_in(words: &[Bytes]) -> &[u8]
+    ensures { result.now ≡ line_in words.now }
+{
+    match words.split_first() {
+        Some((line, _)) => line.as_slice(),
+        None => b"",
+    }
+}
+
+// What is asked for by a tool's words.
+fn command_of(
+    alloc: Global,
+    user: &Name,
+    tool: Tool,
+    words: &[Bytes],
+    script: &[u8],
+) -> Result<Command, Memory>
+    ensures { IfOk result (λ command. command ≡ command_of user.now tool words.now script.now) }
+{
+    match tool {
+        Tool::Qsub => qsub_command(alloc, user, words, script),
+        Tool::Qstat => qstat_command(alloc, words),
+        Tool::Qdel => qdel_command(words),
+        Tool::Qmgr => qmgr_command(line_in(words)),
+        Tool::Tick => Ok(Command::Tick),
+    }
+}
+
+// The hosts of its requests are of the site.
+fn are_of_site(hosts: usize, body: &Body) -> bool
+    ensures { result ≡ are_of_site hosts body.now }
+{
+    match body {
+        Body::Offer { carried, .. } => usize::from(carried.id.host.0) < hosts,
+        Body::Ended { id, .. } => usize::from(id.host.0) < hosts,
+        Body::EndedAck { id, .. } => usize::from(id.host.0) < hosts,
+        _ => true,
+    }
+}
+
+// It is for this host, and speaks of hosts of the site.
+fn is_for(me: HostId, site: &[Name], message: &Message) -> bool
+    ensures { result ≡ is_for (record { me = me; site = site.now }) message.now }
+{
+    if me.0 != message.to.0 {
+        return false;
+    }
+    if usize::from(message.from.0) >= site.len() {
+        return false;
+    }
+    are_of_site(site.len(), &message.body)
+}
+
+// The event of a message.
+fn event_of(alloc: Global, message: Message) -> Result<Option<Event>, Memory>
+    ensures { IfOk result (λ event. event ≡ event_of message) }
+{
+    let Message { from, to, body } = message;
+    match body {
+        Body::Ask {
+            port,
+            token,
+            user,
+            tool,
+            words,
+            script,
+        } => {
+            let words = words.as_slice();
+            let command = command_of(alloc, &user, tool, words, script.as_slice())?;
+            Ok(Some(Event::Ask {
+                now: 0,
+                port,
+                token,
+                user,
+                command,
+            }))
+        }
+        Body::Ended {
+            port,
+            id,
+            start,
+            status,
+            out,
+            err,
+        } => Ok(Some(Event::Ended {
+            now: 0,
+            port,
+            id,
+            start,
+            status,
+            out,
+            err,
+        })),
+        Body::Answer { .. } => Ok(None),
+        Body::EndedAck { .. } => Ok(None),
+        body => Ok(Some(Event::Arrived {
+            now: 0,
+            message: Message { from, to, body },
+        })),
+    }
+}
+
+/// The event that a datagram is, if it is one.
+pub(crate) fn event_in(
+    alloc: Global,
+    me: HostId,
+    site: &[Name],
+    bytes: &[u8],
+) -> Result<Option<Event>, Memory>
+    ensures event { IfOk result (λ event. event ≡ event_in (record { me = me; site = site.now }) (came bytes.now)) }
+    ensures sane { IfOk result (λ event. IfSome event (λ e. IsTrue (is_sane_event (length site.now) e))) }
+{
+    if bytes.len() > LONGEST {
+        return Ok(None);
+    }
+    submissions_are_sane();
+    edits_are_sane();
+    lists_and_deletions_are_sane();
+    match read_message(alloc, bytes) {
+        Err(PacketFault::Memory(_)) => Err(Memory),
+        Err(_) => Ok(None),
+        Ok(message) => {
+            if is_for(me, site, &message) {
+                event_of(alloc, message)
+            } else {
+                Ok(None)
+            }
+        }
+    }
+}
+
+/// Sets the moment of an event.
+pub(crate) fn set_moment(event: &mut Event, moment: u64)
+    ensures { event.new ≡ at_moment moment event.old }
+{
+    match event {
+        Event::Ask { now, .. } => *now = moment,
+        Event::Arrived { now, .. } => *now = moment,
+        Event::Ended { now, .. } => *now = moment,
+        Event::Unlaunched { now, .. } => *now = moment,
+        Event::Written { now, .. } => *now = moment,
+        Event::Unwritten { now, .. } => *now = moment,
+        Event::Tick { now } => *now = moment,
+    }
+}
+
+fn is_shutdown(command: &Command) -> bool
+    ensures { result ≡ is_shutdown command.now }
+{
+    match command {
+        Command::Shutdown => true,
+        _ => false,
+    }
+}
+
+/// Whether an event is a shutdown that is answered Done.
+#[tactic(none)]
+pub(crate) fn shuts_down(event: &Event, state: &HostState) -> bool
+    ensures { (bytes : Extent → List ℕ) → result ≡ shuts_down event.now (map_state bytes (content state.now)) }
+{
+    match event {
+        Event::Ask { user, command, .. } => {
+            is_shutdown(command) && may_command(rank(state, user), command).is_ok()
+        }
+        Event::Arrived { .. } => false,
+        Event::Ended { .. } => false,
+        Event::Unlaunched { .. } => false,
+        Event::Written { .. } => false,
+        Event::Unwritten { .. } => false,
+        Event::Tick { .. } => false,
+    }
+}

@@ -1,0 +1,143 @@
+//! What is sent: the datagrams of outputs are spelled before anything goes out.
+
+ghost use Rattle.std.specs.Prelude.{◌≡◌, ◌++◌, IfOk, OnOk, map, length};
+ghost use Rattle.nqs_serve.specs.Events.{Here};
+ghost use Rattle.nqs_serve.specs.Letters.{is_answered, cut_text, posted, letter_of};
+ghost use Rattle.nqs_types.specs.declared.event.Output.TheVariants as out;
+ghost use Rattle.nqs_types.specs.declared.message.Body.TheVariants as body;
+ghost use Rattle.nqs_rules.specs.Transcript.{reply_text};
+
+use crate::limits::may_send;
+use crate::text::cut_text;
+use nqs_outside::Address;
+use nqs_packets::write_message;
+use nqs_query::print_reply;
+use nqs_types::{Body, HostId, Message, Output, Reply, RequestId};
+use nqs_values::{Bytes, Memory, Name};
+use std::alloc::Global;
+
+/// A datagram, and where it goes.
+#[derive(Drop)]
+pub(crate) struct Letter {
+    pub(crate) to: Address,
+    pub(crate) bytes: Bytes,
+}
+
+// The datagram of a message.
+fn post(alloc: Global, to: Address, message: &Message) -> Result<Option<Letter>, Memory>
+    ensures { IfOk result (λ l. l ≡ Some (posted to message.now)) }
+{
+    // What a host says may be sent. Else nothing is.
+    if !may_send(message) {
+        return Err(Memory);
+    }
+    let mut bytes = Vec::new(alloc);
+    write_message(alloc, message, &mut bytes)?;
+    let bytes = Bytes::from_vec(bytes);
+    Ok(Some(Letter { to, bytes }))
+}
+
+// Whether what was asked for is done.
+fn is_answered(reply: &Reply) -> bool
+    ensures { result ≡ is_answered reply.now }
+{
+    match reply {
+        Reply::Refused(_) => false,
+        Reply::UnreadLine(_) => false,
+        Reply::UnreadWords(_) => false,
+        _ => true,
+    }
+}
+
+// The text of a reply, as it fits a datagram.
+fn text_of(alloc: Global, site: &[Name], reply: &Reply) -> Result<Bytes, Memory>
+    ensures { IfOk result (λ text. text ≡ cut_text (reply_text site.now reply.now)) }
+{
+    let mut text = Vec::new(alloc);
+    print_reply(alloc, reply, site, &mut text)?;
+    cut_text(&mut text)?;
+    Ok(Bytes::from_vec(text))
+}
+
+// The answer to a client.
+fn answer(
+    alloc: Global,
+    me: HostId,
+    site: &[Name],
+    port: u16,
+    token: u64,
+    reply: &Reply,
+) -> Result<Option<Letter>, Memory>
+    ensures { IfOk result (λ l. l ≡ letter_of (record { me = me; site = site.now }) (out.Reply port token reply.now)) }
+{
+    let text = text_of(alloc, site, reply)?;
+    let body = Body::Answer {
+        token,
+        ok: is_answered(reply),
+        text,
+    };
+    let message = Message {
+        from: me,
+        to: me,
+        body,
+    };
+    post(alloc, Address::Client(port), &message)
+}
+
+// The acknowledgement to a shepherd.
+fn acknowledgement(
+    alloc: Global,
+    me: HostId,
+    port: u16,
+    id: RequestId,
+    start: u16,
+) -> Result<Option<Letter>, Memory>
+    ensures { IfOk result (λ l. l ≡ Some (posted (Address.Client port) (record { from = me; to = me; body = body.EndedAck id start }))) }
+{
+    let message = Message {
+        from: me,
+        to: me,
+        body: Body::EndedAck { id, start },
+    };
+    post(alloc, Address::Client(port), &message)
+}
+
+// The datagram of an output, if it has one.
+fn letter_of(
+    alloc: Global,
+    me: HostId,
+    site: &[Name],
+    output: &Output,
+) -> Result<Option<Letter>, Memory>
+    ensures { IfOk result (λ l. l ≡ letter_of (record { me = me; site = site.now }) output.now) }
+{
+    match output {
+        Output::Reply { port, token, reply } => answer(alloc, me, site, *port, *token, reply),
+        Output::Send(message) => post(alloc, Address::Host(message.to), message),
+        Output::Ack { port, id, start } => acknowledgement(alloc, me, *port, *id, *start),
+        Output::Launch { .. } => Ok(None),
+        Output::Print { .. } => Ok(None),
+        Output::Kill { .. } => Ok(None),
+        Output::File { .. } => Ok(None),
+        Output::Ended { .. } => Ok(None),
+        Output::Unlaunched { .. } => Ok(None),
+        Output::Again(_) => Ok(None),
+        Output::Lost(_) => Ok(None),
+    }
+}
+
+/// The datagrams of all outputs, one place for each.
+pub(crate) fn letters_of(
+    alloc: Global,
+    me: HostId,
+    site: &[Name],
+    outputs: &[Output],
+) -> Result<Vec<Option<Letter>>, Memory>
+    ensures { IfOk result (λ letters. letters.items ≡ map (letter_of (record { me = me; site = site.now })) outputs.now) }
+{
+    let mut letters = Vec::new(alloc);
+    for output in outputs {
+        letters.push(letter_of(alloc, me, site, output)?)?;
+    }
+    Ok(letters)
+}

@@ -1,0 +1,50 @@
+//! A receive, and the event that it brought.
+
+ghost use Rattle.std.specs.Prelude.{◌≡◌, ◌≤◌, ◌∷◌, [], IfOk, IsErrOf, IfSome, IsTrue, length};
+ghost use Rattle.nqs_outside.specs.Causes.{Rose};
+ghost use Rattle.nqs_outside.specs.Told.{Extends};
+ghost use Rattle.nqs_outside.specs.Asked.{Arrival};
+ghost use Rattle.nqs_rules.specs.Sane.{is_sane_event};
+ghost use Rattle.nqs_serve.specs.Events.{Here, event_in};
+
+use crate::event::event_in;
+use nqs_outside::{Received, Wire};
+use nqs_types::{Event, HostId};
+use nqs_values::Name;
+use std::alloc::Global;
+
+/// Why a receive brought nothing.
+#[derive(Clone, Copy, Debug, PartialEq, Eq)]
+pub(crate) enum Missed {
+    /// A call of the wire failed.
+    Wire,
+    Memory,
+}
+
+/// The event that a receive brought, if it brought one.
+pub(crate) fn receive<W: Wire>(
+    alloc: Global,
+    me: HostId,
+    site: &[Name],
+    wire: &mut W,
+    buf: &mut [u8],
+) -> Result<Option<Event>, Missed>
+    ensures came { IfOk result (λ event. (arrival : Arrival) × (event ≡ event_in (record { me = me; site = site.now }) arrival)
+        × Extends (W.received wire.old) (W.received wire.new) (arrival ∷ [])) }
+    ensures sane { IfOk result (λ event. IfSome event (λ e. IsTrue (is_sane_event (length site.now) e))) }
+    ensures cut { IsErrOf result Missed.Memory → (arrival : Arrival) × Extends (W.received wire.old) (W.received wire.new) (arrival ∷ []) }
+    ensures lost { IsErrOf result Missed.Wire → Extends (W.received wire.old) (W.received wire.new) [] × Rose (W.receive_faults wire.old) (W.receive_faults wire.new) }
+    ensures sent { Extends (W.sent wire.old) (W.sent wire.new) [] }
+    ensures later { W.receive_faults wire.old ≤ W.receive_faults wire.new }
+{
+    let Ok(received) = wire.receive(buf) else {
+        return Err(Missed::Wire);
+    };
+    match received {
+        Received::Quiet => Ok(Some(Event::Tick { now: 0 })),
+        Received::Datagram(count) => match event_in(alloc, me, site, &buf[..count]) {
+            Ok(event) => Ok(event),
+            Err(_) => Err(Missed::Memory),
+        },
+    }
+}

@@ -1,0 +1,256 @@
+//! A node takes an event and starts what may start, and then what goes out is carried out.
+
+ghost use Rattle.std.specs.Prelude.{◌≡◌, ◌≤◌, ◌<◌, ◌+◌, ◌∷◌, ◌++◌, [], false, ℕ, List, IsTrue, OnOk, OnErr, IfOk, IsErrOf, length, map, is_some};
+ghost use Rattle.std.specs.List.{flat_map};
+ghost use Rattle.nqs_state.specs.State.{Plain};
+ghost use Rattle.nqs_types.specs.declared.event.Event.{Event as Happening};
+ghost use Rattle.nqs_types.specs.declared.world.Which.{Which};
+ghost use Rattle.nqs_rules.specs.Measure.{starts_left};
+ghost use Rattle.nqs_rules.specs.Sane.{is_sane_event};
+ghost use Rattle.nqs_rules.specs.Start.{start};
+ghost use Rattle.nqs_rules.specs.Starts.{starts, after_starts, after_step};
+ghost use Rattle.nqs_rules.specs.Step.{step};
+ghost use Rattle.nqs_rules.specs.Stepped.{Stepped};
+ghost use Rattle.nqs_outside.specs.Causes.{Rose};
+ghost use Rattle.nqs_back.specs.Back.{comebacks, comes_back};
+ghost use Rattle.nqs_node.specs.Carried.{started};
+ghost use Rattle.nqs_node.specs.Nodes.{content_of, disk_of, is_stopped};
+ghost use Rattle.nqs_store.specs.Sound.{IsSoundHost};
+ghost use Rattle.nqs_serve.specs.Events.{Here, at_moment};
+ghost use Rattle.nqs_serve.specs.Steps.{said, stepped, after_event, outputs};
+ghost use Rattle.nqs_serve.specs.Runs.{Act, took, Outcome, Turn, turn, idle, outputs_in, brought_back, event_back, arrivals, telling, Grew, Ran};
+ghost use Rattle.nqs_serve.specs.Nodes.{Knows};
+ghost use Rattle.nqs_serve.specs.Ends.{IsWithin, IsCut, IsCutAt};
+
+use crate::carry::carry;
+use crate::comeback::{Comeback, event_back};
+use crate::cut::Cut;
+use crate::event::set_moment;
+use crate::letter::letters_of;
+use nqs_node::{Node, NodeFault};
+use nqs_outside::{Clock, Disk, Launcher, Outlet, Printer, Wire};
+use nqs_types::{Event, HostId, Output};
+use nqs_values::Memory;
+use std::alloc::Global;
+
+// Takes an event.
+fn take<D: Disk>(
+    alloc: Global,
+    node: &mut Node<D>,
+    event: &Event,
+    out: &mut Vec<Output>,
+) -> Result<(), Cut>
+    requires sound { IsSoundHost (content_of node.old) }
+    requires running { is_stopped node.old ≡ false }
+    requires sane { IsTrue (is_sane_event (length (content_of node.old).site) event.now) }
+    ensures sound { IsSoundHost (content_of node.new) }
+    ensures site { (content_of node.new).site ≡ (content_of node.old).site }
+    ensures running { OnOk result (is_stopped node.new ≡ false) }
+    ensures told { (s : Plain) → Knows node.old s → OnOk result (Knows node.new (after_step (step event.now s) s) × (out.new.items ≡ out.old.items ++ said (step event.now s))) }
+    ensures memory { (s : Plain) → Knows node.old s → IsErrOf result Cut.Memory → Knows node.new s }
+    ensures no_more { IsTrue (comes_back event.now) → OnOk result (starts_left (content_of node.new) ≤ starts_left (content_of node.old)) }
+    ensures none_back { IsTrue (comes_back event.now) → OnOk result (comebacks out.new.items ≡ comebacks out.old.items) }
+    ensures later { (which : Which) → D.faults (disk_of which node.old) ≤ D.faults (disk_of which node.new) }
+    ensures broken { IsErrOf result Cut.Disk → IsTrue (is_stopped node.new) × ((which : Which) × Rose (D.faults (disk_of which node.old)) (D.faults (disk_of which node.new))) }
+{
+    match node.take(alloc, event, out) {
+        Ok(()) => Ok(()),
+        Err(NodeFault::Memory) => Err(Cut::Memory),
+        Err(NodeFault::Disk(_)) => Err(Cut::Disk),
+        Err(NodeFault::Stopped) => unreachable!(),
+    }
+}
+
+// Starts the next request, if one may start.
+fn start<D: Disk>(
+    alloc: Global,
+    node: &mut Node<D>,
+    now: u64,
+    out: &mut Vec<Output>,
+) -> Result<bool, Cut>
+    requires sound { IsSoundHost (content_of node.old) }
+    requires running { is_stopped node.old ≡ false }
+    ensures sound { IsSoundHost (content_of node.new) }
+    ensures site { (content_of node.new).site ≡ (content_of node.old).site }
+    ensures running { OnOk result (is_stopped node.new ≡ false) }
+    ensures more { (s : Plain) → Knows node.old s → IfOk result (λ more. more ≡ is_some (start now s)) }
+    ensures told { (s : Plain) → Knows node.old s → OnOk result (Knows node.new (after_step (started now s) s) × (out.new.items ≡ out.old.items ++ said (started now s))) }
+    ensures memory { (s : Plain) → Knows node.old s → IsErrOf result Cut.Memory → Knows node.new s }
+    ensures idle { IfOk result (λ more. more ≡ false → (content_of node.new ≡ content_of node.old) × (out.new.items ≡ out.old.items)) }
+    ensures fewer { IfOk result (λ more. IsTrue more → starts_left (content_of node.new) < starts_left (content_of node.old)) }
+    ensures one_back { OnOk result (comebacks out.new.items ≤ comebacks out.old.items + 1) }
+    ensures later { (which : Which) → D.faults (disk_of which node.old) ≤ D.faults (disk_of which node.new) }
+    ensures broken { IsErrOf result Cut.Disk → IsTrue (is_stopped node.new) × ((which : Which) × Rose (D.faults (disk_of which node.old)) (D.faults (disk_of which node.new))) }
+{
+    match node.start_next(alloc, now, out) {
+        Ok(more) => Ok(more),
+        Err(NodeFault::Memory) => Err(Cut::Memory),
+        Err(NodeFault::Disk(_)) => Err(Cut::Disk),
+        Err(NodeFault::Stopped) => unreachable!(),
+    }
+}
+
+// Starts what may start.
+fn settle<D: Disk>(
+    alloc: Global,
+    node: &mut Node<D>,
+    now: u64,
+    out: &mut Vec<Output>,
+) -> Result<(), Cut>
+    requires sound { IsSoundHost (content_of node.old) }
+    requires running { is_stopped node.old ≡ false }
+    ensures sound { IsSoundHost (content_of node.new) }
+    ensures site { (content_of node.new).site ≡ (content_of node.old).site }
+    ensures running { OnOk result (is_stopped node.new ≡ false) }
+    ensures told { (s : Plain) → Knows node.old s → OnOk result (Knows node.new (after_starts (starts now s) s) × (out.new.items ≡ out.old.items ++ flat_map said (starts now s))) }
+    ensures memory { (s : Plain) → Knows node.old s → IsErrOf result Cut.Memory → (xs ys : List (Stepped (List ℕ))) × (starts now s ≡ xs ++ ys) × Knows node.new (after_starts xs s) }
+    ensures fewer { OnOk result (starts_left (content_of node.new) + comebacks out.new.items ≤ starts_left (content_of node.old) + comebacks out.old.items) }
+    ensures later { (which : Which) → D.faults (disk_of which node.old) ≤ D.faults (disk_of which node.new) }
+    ensures broken { IsErrOf result Cut.Disk → IsTrue (is_stopped node.new) × ((which : Which) × Rose (D.faults (disk_of which node.old)) (D.faults (disk_of which node.new))) }
+{
+    loop {
+        match start(alloc, node, now, out) {
+            Ok(true) => {}
+            Ok(false) => return Ok(()),
+            Err(cut) => return Err(cut),
+        }
+    }
+}
+
+// Takes an event and starts what may start after it. Nothing goes out yet.
+fn take_whole<D: Disk>(
+    alloc: Global,
+    node: &mut Node<D>,
+    event: &Event,
+    now: u64,
+    out: &mut Vec<Output>,
+) -> Result<(), Cut>
+    requires sound { IsSoundHost (content_of node.old) }
+    requires running { is_stopped node.old ≡ false }
+    requires sane { IsTrue (is_sane_event (length (content_of node.old).site) event.now) }
+    ensures sound { IsSoundHost (content_of node.new) }
+    ensures site { (content_of node.new).site ≡ (content_of node.old).site }
+    ensures running { OnOk result (is_stopped node.new ≡ false) }
+    ensures told { (s : Plain) (e : Happening) → Knows node.old s → event.now ≡ at_moment now e
+        → OnOk result (Knows node.new (after_event now e s) × (out.new.items ≡ out.old.items ++ outputs now e s)) }
+    ensures memory { (s : Plain) (e : Happening) → Knows node.old s → event.now ≡ at_moment now e → IsErrOf result Cut.Memory → (u : Plain) × Knows node.new u × IsWithin now e s u }
+    ensures fewer { IsTrue (comes_back event.now) → OnOk result (starts_left (content_of node.new) + comebacks out.new.items ≤ starts_left (content_of node.old) + comebacks out.old.items) }
+    ensures later { (which : Which) → D.faults (disk_of which node.old) ≤ D.faults (disk_of which node.new) }
+    ensures broken { IsErrOf result Cut.Disk → IsTrue (is_stopped node.new) × ((which : Which) × Rose (D.faults (disk_of which node.old)) (D.faults (disk_of which node.new))) }
+{
+    match take(alloc, node, event, out) {
+        Ok(()) => settle(alloc, node, now, out),
+        Err(cut) => Err(cut),
+    }
+}
+
+/// Takes an event, and carries out what goes out of it and of the starts after it. What comes back of that waits behind
+/// what is in `back`. Before all is kept and spelled nothing goes out.
+pub(crate) fn take_event<D: Disk, W: Wire, L: Launcher, P: Printer, O: Outlet, C: Clock>(
+    alloc: Global,
+    me: HostId,
+    node: &mut Node<D>,
+    wire: &mut W,
+    launcher: &mut L,
+    printer: &mut P,
+    outlet: &mut O,
+    clock: &mut C,
+    event: &mut Event,
+    out: &mut Vec<Output>,
+    back: &mut Vec<Comeback>,
+) -> Result<(), Cut>
+    requires sound { IsSoundHost (content_of node.old) }
+    requires running { is_stopped node.old ≡ false }
+    requires sane { IsTrue (is_sane_event (length (content_of node.old).site) event.old) }
+    ensures sound { IsSoundHost (content_of node.new) }
+    ensures site { (content_of node.new).site ≡ (content_of node.old).site }
+    ensures running { OnOk result (is_stopped node.new ≡ false) }
+    ensures ok { (s : Plain) (here : Here) → Knows node.old s → here ≡ record { me = me; site = (content_of node.old).site } → OnOk result ((m : ℕ) × (outcomes : List Outcome) × (back.new.items ≡ back.old.items ++ brought_back outcomes)
+        × Knows node.new (after_event m event.old s) × (outputs_in outcomes ≡ outputs m event.old s)
+        × Grew here (took m outcomes ∷ []) []
+        (telling (W.received wire.old) (W.sent wire.old) (L.asked launcher.old) (P.prints printer.old) (O.filings outlet.old) (C.given clock.old))
+        (telling (W.received wire.new) (W.sent wire.new) (L.asked launcher.new) (P.prints printer.new) (O.filings outlet.new) (C.given clock.new))) }
+    ensures cut { (s : Plain) (here : Here) → Knows node.old s → here ≡ record { me = me; site = (content_of node.old).site } → OnErr result ((m : ℕ) × (IsErrOf result Cut.Memory → (u : Plain) × Knows node.new u × IsWithin m event.old s u)
+        × Grew here [] (m ∷ [])
+        (telling (W.received wire.old) (W.sent wire.old) (L.asked launcher.old) (P.prints printer.old) (O.filings outlet.old) (C.given clock.old))
+        (telling (W.received wire.new) (W.sent wire.new) (L.asked launcher.new) (P.prints printer.new) (O.filings outlet.new) (C.given clock.new))) }
+    ensures fewer { IsTrue (comes_back event.old) → OnOk result (starts_left (content_of node.new) + length back.new.items ≤ starts_left (content_of node.old) + length back.old.items) }
+    ensures later { (which : Which) → D.faults (disk_of which node.old) ≤ D.faults (disk_of which node.new) }
+    ensures broken { IsErrOf result Cut.Disk → IsTrue (is_stopped node.new) × ((which : Which) × Rose (D.faults (disk_of which node.old)) (D.faults (disk_of which node.new))) }
+    ensures wire { W.receive_faults wire.old ≤ W.receive_faults wire.new }
+{
+    out.clear();
+    let now = clock.now();
+    set_moment(event, now);
+    if let Err(cut) = take_whole(alloc, node, event, now, out) {
+        return Err(cut);
+    }
+    if back.reserve(out.len()).is_err() {
+        return Err(Cut::Memory);
+    }
+    let Ok(letters) = letters_of(alloc, me, node.state().site.as_slice(), out) else {
+        return Err(Cut::Memory);
+    };
+    carry(wire, launcher, printer, outlet, out, &letters, back);
+    Ok(())
+}
+
+// Whether something waits.
+fn waits(back: &Vec<Comeback>) -> bool
+    ensures some { IsTrue result → 0 < length back.now.items }
+    ensures none { result ≡ false → back.now.items ≡ [] }
+{
+    !back.is_empty()
+}
+
+// Takes the first of what waits.
+fn first(back: &mut Vec<Comeback>) -> Comeback
+    requires { 0 < length back.old.items }
+    ensures { back.old.items ≡ result ∷ back.new.items }
+{
+    back.remove(0)
+}
+
+/// Takes what waits, one after the other, until nothing does.
+pub(crate) fn take_back<D: Disk, W: Wire, L: Launcher, P: Printer, O: Outlet, C: Clock>(
+    alloc: Global,
+    me: HostId,
+    node: &mut Node<D>,
+    wire: &mut W,
+    launcher: &mut L,
+    printer: &mut P,
+    outlet: &mut O,
+    clock: &mut C,
+    out: &mut Vec<Output>,
+    back: &mut Vec<Comeback>,
+) -> Result<(), Cut>
+    requires sound { IsSoundHost (content_of node.old) }
+    requires running { is_stopped node.old ≡ false }
+    ensures sound { IsSoundHost (content_of node.new) }
+    ensures site { (content_of node.new).site ≡ (content_of node.old).site }
+    ensures running { OnOk result (is_stopped node.new ≡ false) }
+    ensures ok { (s : Plain) (here : Here) → Knows node.old s → here ≡ record { me = me; site = (content_of node.old).site } → OnOk result ((acts : List Act) × (u : Plain) × (arrivals acts ≡ []) × Knows node.new u
+        × Ran here acts (turn s (map event_back back.old.items)) (idle u) []
+        (telling (W.received wire.old) (W.sent wire.old) (L.asked launcher.old) (P.prints printer.old) (O.filings outlet.old) (C.given clock.old))
+        (telling (W.received wire.new) (W.sent wire.new) (L.asked launcher.new) (P.prints printer.new) (O.filings outlet.new) (C.given clock.new))) }
+    ensures cut { (s : Plain) (here : Here) → Knows node.old s → here ≡ record { me = me; site = (content_of node.old).site } → OnErr result ((acts : List Act) × (t : Turn) × (more : List ℕ) × (arrivals acts ≡ []) × IsCut t more
+        × (IsErrOf result Cut.Memory → (u : Plain) × Knows node.new u × IsCutAt t more u)
+        × Ran here acts (turn s (map event_back back.old.items)) t more
+        (telling (W.received wire.old) (W.sent wire.old) (L.asked launcher.old) (P.prints printer.old) (O.filings outlet.old) (C.given clock.old))
+        (telling (W.received wire.new) (W.sent wire.new) (L.asked launcher.new) (P.prints printer.new) (O.filings outlet.new) (C.given clock.new))) }
+    ensures later { (which : Which) → D.faults (disk_of which node.old) ≤ D.faults (disk_of which node.new) }
+    ensures broken { IsErrOf result Cut.Disk → IsTrue (is_stopped node.new) × ((which : Which) × Rose (D.faults (disk_of which node.old)) (D.faults (disk_of which node.new))) }
+    ensures wire { W.receive_faults wire.old ≤ W.receive_faults wire.new }
+{
+    while waits(back) {
+        let mut event = event_back(alloc, first(back));
+        let taken = take_event(
+            alloc, me, node, wire, launcher, printer, outlet, clock, &mut event, out, back,
+        );
+        drop(event);
+        if let Err(cut) = taken {
+            return Err(cut);
+        }
+    }
+    Ok(())
+}
