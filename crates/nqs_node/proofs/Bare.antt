@@ -1,5 +1,5 @@
 -- Starts without the stored bytes.
-use Rattle.std.proofs.Common.{◌≡◌, ℕ, List, [], ◌++◌, map, Option, option_map, None, Some, sym, ap, ◌∙◌}
+use Rattle.std.proofs.Common.{◌≡◌, ℕ, List, [], ◌++◌, map, option_map, None, Some, sym, ap, ◌∙◌}
 use Rattle.std.proofs.lemmas.List.{append-nil}
 use Rattle.nqs_types.specs.declared.event.Output.{Output}
 use Rattle.nqs_values.specs.declared.extent.Extent.{Extent}
@@ -12,7 +12,7 @@ use Rattle.nqs_back.proofs.Plans.{emptied_twice}
 use Rattle.nqs_node.specs.Carried.{started}
 use Rattle.nqs_node.proofs.Planning.{started_is}
 
--- a start that is picked
+-- a start, seen from its plan
 
 module _ (now : ℕ) (old : Host) (alike : start now (emptied old) ≡ option_map (map_stepped (λ _. [])) (start now old)) where
   -- it starts without the bytes too

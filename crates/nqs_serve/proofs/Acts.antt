@@ -13,7 +13,7 @@ use Rattle.nqs_outside.specs.Told.{Extends}
 use Rattle.nqs_outside.proofs.Told.{extends_none, extends_then, extends_same}
 use Rattle.nqs_serve.specs.Events.{Here, event_in, stops_by}
 use Rattle.nqs_serve.specs.Steps.{after_event, outputs}
-use Rattle.nqs_serve.specs.Runs.{Act, received, took, Turn, turn, idle, Outcome, outputs_in, brought_back, event_back, come_back, next, Allows, after, IsRun, arrivals_of, moments_of, outcomes_of, arrivals, moments, outcomes, packets, packets_by, asked, asked_by, prints, prints_by, filings, filings_by, Telling, telling, Grew, Ran}
+use Rattle.nqs_serve.specs.Runs.{Act, received, took, Turn, turn, idle, Outcome, outputs_in, brought_back, event_back, come_back, next, after, IsRun, arrivals_of, moments_of, outcomes_of, arrivals, moments, outcomes, packets, packets_by, asked, asked_by, prints, prints_by, filings, filings_by, Telling, telling, Grew, Ran}
 use Rattle.nqs_serve.specs.Ends.{stop_of, stops}
 use Rattle.nqs_serve.specs.declared.comeback.Comeback.{Comeback}
 

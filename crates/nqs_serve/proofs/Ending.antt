@@ -1,5 +1,5 @@
 -- Which receives stopped, and how a run ends after another.
-use Rattle.std.proofs.Common.{◌≡◌, ℕ, ◌<◌, ◌≤◌, List, [], ◌∷◌, ◌++◌, refl, ap, sym, ◌∙◌, Bool, false, true, length, length-append, append_assoc, arith}
+use Rattle.std.proofs.Common.{◌≡◌, ℕ, ◌<◌, List, [], ◌∷◌, ◌++◌, refl, ap, sym, ◌∙◌, Bool, false, true, length, length-append, append_assoc, arith}
 use Rattle.nqs_outside.specs.declared.disk.Disk as disk
 use Rattle.nqs_state.specs.State.{Plain}
 use Rattle.nqs_node.specs.declared.node.Node.{Node}

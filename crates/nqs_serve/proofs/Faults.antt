@@ -1,5 +1,5 @@
 -- Faults of one call in a longer one.
-use Rattle.std.proofs.Common.{◌≡◌, ℕ, ◌+◌, ◌-◌, ◌^◌, ◌≤◌, min, Ok, Err, IsErrOf, OnOk, IfOk, ap, arith}
+use Rattle.std.proofs.Common.{◌≡◌, ℕ, ◌≤◌, Ok, Err, IsErrOf, OnOk, IfOk, ap, arith}
 use Rattle.std.specs.declared.result.Result.{Result}
 use Rattle.nqs_outside.specs.Causes.{Rose}
 

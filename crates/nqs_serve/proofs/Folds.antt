@@ -1,16 +1,15 @@
 -- A run in which nothing came back is a fold.
-use Rattle.std.proofs.Common.{◌≡◌, ℕ, List, [], ◌∷◌, ◌++◌, map, refl, ap, sym, ◌∙◌, append_assoc}
+use Rattle.std.proofs.Common.{◌≡◌, List, [], ◌∷◌, ◌++◌, map, refl, ap, sym, ◌∙◌, append_assoc}
 use Rattle.std.proofs.lemmas.List.{append-nil, map-append}
 use Rattle.std.proofs.lemmas.Grind.{flat_map-append}
 use Rattle.std.specs.Option.{option_to_list}
 use Rattle.nqs_state.specs.State.{Plain}
 use Rattle.nqs_types.specs.declared.event.Event.{Event}
 use Rattle.nqs_types.specs.declared.event.Output.{Output}
-use Rattle.nqs_outside.specs.Asked.{Arrival}
 use Rattle.nqs_serve.specs.Events.{Here, event_in}
 use Rattle.nqs_serve.specs.Steps.{after_event, outputs}
 use Rattle.nqs_serve.specs.declared.comeback.Comeback.{Comeback}
-use Rattle.nqs_serve.specs.Runs.{Act, received, took, Turn, turn, Outcome, after, IsRun, moments, outcomes, events, outputs_in, brought_back, comeback_of, event_back, come_back, folded, folded_outputs, RunsAreFolds}
+use Rattle.nqs_serve.specs.Runs.{Act, received, took, turn, Outcome, after, IsRun, moments, outcomes, events, outputs_in, brought_back, comeback_of, event_back, come_back, folded, folded_outputs, RunsAreFolds}
 
 front_nil : {A : Type 0} (xs ys : List A) → (xs ++ ys) ≡ [] → xs ≡ []
 front_nil [] ys e = refl

@@ -1,5 +1,5 @@
 -- Laws of outcomes.
-use Rattle.std.proofs.Common.{◌≡◌, ℕ, ◌+◌, ◌<◌, ◌≤◌, List, [], ◌∷◌, ◌++◌, map, filter, take, length, length-append, get_or, refl, sym, ap, ◌∙◌, append_assoc, Bool, true, false, Option, None, Some, arith}
+use Rattle.std.proofs.Common.{◌≡◌, ℕ, ◌+◌, ◌<◌, ◌≤◌, List, [], ◌∷◌, ◌++◌, map, filter, take, length, length-append, get_or, sym, ap, ◌∙◌, Bool, true, false, Option, arith}
 use Rattle.std.specs.List.{flat_map}
 use Rattle.std.specs.Option.{option_to_list}
 use Rattle.std.proofs.lemmas.List.{append-nil, get_or-map, take_more}
@@ -11,7 +11,7 @@ use Rattle.nqs_types.specs.declared.event.Output.TheVariants as out
 use Rattle.nqs_outside.specs.Told.{Extends}
 use Rattle.nqs_outside.proofs.Told.{extends_then, extends_same}
 use Rattle.nqs_back.specs.Back.{brings_back, comebacks}
-use Rattle.nqs_serve.specs.Runs.{Outcome, outcome, comeback_of}
+use Rattle.nqs_serve.specs.Runs.{Outcome, comeback_of}
 
 -- one outcome more, in a list of what outcomes ask
 pub one_more : {A : Type 0} (f : Outcome → List A) (os : List Outcome) (o : Outcome) → flat_map f os ++ f o ≡ flat_map f (os ++ o ∷ [])

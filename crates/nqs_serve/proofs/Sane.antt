@@ -1,5 +1,5 @@
 -- The events that a daemon takes are sane.
-use Rattle.std.proofs.Common.{◌≡◌, ℕ, List, [], length, refl, Bool, true, ◌&&◌, IsTrue, Option, None, Some, IfSome}
+use Rattle.std.proofs.Common.{◌≡◌, ℕ, List, length, refl, true, ◌&&◌, IsTrue, IfSome}
 use Rattle.std.proofs.lemmas.Bool.{and_parts, and_from}
 use Rattle.nqs_types.specs.declared.message.Tool.{Tool}
 use Rattle.nqs_types.specs.declared.message.Tool.TheVariants.{Qsub, Qstat, Qdel, Qmgr, Tick}

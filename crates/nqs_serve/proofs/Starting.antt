@@ -1,5 +1,5 @@
 -- Starts go on until there is none, whatever bytes are put for scripts.
-use Rattle.std.proofs.Common.{◌≡◌, ℕ, ◌<◌, ◌≤◌, true, nat_le, List, [], ◌∷◌, ◌++◌, length, map, Option, None, Some, is_some, zero, suc, refl, sym, ap, subst, ◌∙◌, arith, false, append_assoc}
+use Rattle.std.proofs.Common.{◌≡◌, ℕ, ◌<◌, ◌≤◌, true, nat_le, List, [], ◌∷◌, ◌++◌, length, Option, None, Some, is_some, zero, suc, refl, sym, ap, subst, ◌∙◌, arith, false, append_assoc}
 use Rattle.std.proofs.lemmas.Simd.{map-map}
 use Rattle.std.proofs.lemmas.List.{append-nil}
 use Rattle.std.proofs.lemmas.Grind.{flat_map-append}

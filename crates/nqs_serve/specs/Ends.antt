@@ -15,7 +15,6 @@ use Rattle.nqs_serve.specs.declared.cut.Cut.{Cut}
 use Rattle.nqs_serve.specs.declared.cut.Cut.TheVariants as cut
 use Rattle.nqs_serve.specs.declared.daemon.Fault.{Fault}
 use Rattle.nqs_serve.specs.declared.daemon.Fault.TheVariants as fault
-use Rattle.nqs_values.specs.declared.memory.Memory as memory
 use Rattle.nqs_serve.specs.declared.daemon.ServeEnd.{ServeEnd}
 use Rattle.nqs_serve.specs.declared.daemon.ServeEnd.TheVariants.{Shutdown, TurnsUsed, WireFault, DiskFault, Memory}
 

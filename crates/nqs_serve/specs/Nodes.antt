@@ -1,5 +1,5 @@
 -- A node whose disks tell a state.
-use Rattle.std.specs.Prelude.{ℕ, IsTrue}
+use Rattle.std.specs.Prelude.{IsTrue}
 use Rattle.nqs_state.specs.State.{Plain}
 use Rattle.nqs_outside.specs.declared.disk.Disk as disk
 use Rattle.nqs_node.specs.declared.node.Node.{Node}

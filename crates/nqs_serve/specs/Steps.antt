@@ -1,5 +1,5 @@
 -- What an event and the starts after it do.
-use Rattle.std.specs.Prelude.{ℕ, List, [], ◌∷◌, ◌++◌, map}
+use Rattle.std.specs.Prelude.{ℕ, List, ◌++◌, map}
 use Rattle.std.specs.List.{flat_map}
 use Rattle.nqs_state.specs.State.{Plain}
 use Rattle.nqs_types.specs.declared.event.Event.{Event}

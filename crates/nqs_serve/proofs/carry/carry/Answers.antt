@@ -1,4 +1,4 @@
-use Rattle.std.proofs.Common.{◌≡◌, ◌+◌, refl, ap, sym, ◌∙◌, ◌++◌, [], ◌∷◌, List, length, take, map, arith, append_assoc}
+use Rattle.std.proofs.Common.{◌≡◌, ◌+◌, refl, ap, sym, ◌∙◌, ◌++◌, [], ◌∷◌, List, take, arith, append_assoc}
 use Rattle.std.specs.Option.{option_to_list}
 use Rattle.std.proofs.lemmas.List.{append-nil, map-append}
 use Rattle.nqs_outside.proofs.Told.{extends_none, extends_then, extends_same}

@@ -1,9 +1,9 @@
-use Rattle.std.proofs.Common.{◌≡◌, ℕ, refl, ap, sym, subst, ◌∙◌, ◌++◌, [], ◌∷◌, List, length, arith, inl, inr, Some, None, Err, IsTrue, IfSome, false}
+use Rattle.std.proofs.Common.{◌≡◌, ℕ, refl, ap, sym, subst, ◌∙◌, [], ◌∷◌, List, length, arith, inl, inr, Some, None, Err, IsTrue, IfSome}
 use Rattle.std.specs.Option.{option_to_list}
 use Rattle.nqs_rules.specs.Plain.{map_state}
 use Rattle.nqs_rules.specs.Sane.{is_sane_event}
 use Rattle.nqs_rules.specs.World.{shuts_down}
-use Rattle.nqs_node.specs.Nodes.{content_of, bytes_of}
+use Rattle.nqs_node.specs.Nodes.{bytes_of}
 use Rattle.nqs_serve.specs.Events.{Here, event_in, stops_by}
 use Rattle.nqs_serve.specs.Steps.{after_event}
 use Rattle.nqs_serve.specs.Runs.{received, took, turn, idle}

@@ -1,7 +1,6 @@
-use Rattle.std.proofs.Common.{◌≡◌, ◌≤◌, ◌+◌, [], List, map, length, false}
+use Rattle.std.proofs.Common.{◌≡◌, ◌≤◌, ◌+◌, [], List, length, false}
 use Rattle.nqs_state.specs.State.{Plain}
 use Rattle.nqs_types.specs.declared.world.Which.{Which}
-use Rattle.nqs_rules.specs.Measure.{starts_left}
 use Rattle.nqs_node.specs.Nodes.{content_of, disk_of, is_stopped}
 use Rattle.nqs_store.specs.Sound.{IsSoundHost}
 use Rattle.nqs_serve.specs.Events.{Here}

@@ -1,5 +1,4 @@
 use Rattle.std.proofs.Common.{◌≡◌, map, take}
-use Rattle.nqs_serve.specs.Events.{Here}
 use Rattle.nqs_serve.specs.Letters.{letter_of}
 use Rattle.nqs_serve.proofs.letter.letters_of.Given as goal
 

@@ -1,11 +1,10 @@
-use Rattle.std.proofs.Common.{◌≡◌, ℕ, refl, ap, sym, ◌∙◌, ◌++◌, [], ◌∷◌, List, length, map, arith, inl, inr}
-use Rattle.nqs_rules.specs.Measure.{starts_left}
+use Rattle.std.proofs.Common.{◌≡◌, ℕ, refl, ap, sym, ◌∙◌, ◌++◌, [], ◌∷◌, List, length, map, arith, inr}
 use Rattle.nqs_rules.specs.Sane.{is_sane_event}
 use Rattle.nqs_back.specs.Back.{comes_back}
 use Rattle.nqs_node.specs.Nodes.{content_of}
 use Rattle.nqs_serve.specs.Events.{Here}
 use Rattle.nqs_serve.specs.Steps.{after_event}
-use Rattle.nqs_serve.specs.Runs.{Act, took, turn, event_back, Ran}
+use Rattle.nqs_serve.specs.Runs.{took, turn, event_back}
 use Rattle.nqs_serve.specs.declared.comeback.Comeback.{Comeback}
 use Rattle.nqs_serve.proofs.Acts.{arrivals_append, ran_none, ran_empty, took_back, cut_back}
 use Rattle.nqs_serve.proofs.Faults.{rose_behind}

@@ -6,7 +6,7 @@ use Rattle.nqs_rules.specs.Step.{step}
 use Rattle.nqs_serve.specs.Nodes.{Knows}
 use Rattle.nqs_serve.specs.Steps.{said, stepped}
 use Rattle.nqs_serve.specs.Events.{at_moment}
-use Rattle.nqs_serve.proofs.Faults.{same_error, rose_behind, on_ok}
+use Rattle.nqs_serve.proofs.Faults.{rose_behind, on_ok}
 use Rattle.nqs_serve.proofs.take.take_whole.Goals as goal
 
 pub returns-in-Ok-clause-told : goal.returns-in-Ok-clause-told

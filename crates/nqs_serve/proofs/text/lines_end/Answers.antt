@@ -1,6 +1,4 @@
-use Rattle.std.proofs.Common.{◌≡◌, ◌+◌, ◌-◌, ◌++◌, ◌∷◌, [], ap, sym, ◌∙◌, take, get_or, arith, List, ℕ}
-use Rattle.std.proofs.lemmas.List.{take_more}
-use Rattle.nqs_serve.specs.Letters.{whole_lines}
+use Rattle.std.proofs.Common.{sym, ◌∙◌, arith}
 use Rattle.nqs_serve.proofs.Lines.{ends_here, goes_on_here}
 use Rattle.nqs_serve.proofs.text.lines_end.Goals as goal
 

@@ -10,7 +10,6 @@ use Rattle.nqs_kept.specs.Offers.{takes_back_few}
 use Rattle.nqs_kept.specs.Reads.{AreLive}
 use Rattle.nqs_node.specs.Carried.{started, IsMade}
 use Rattle.nqs_node.specs.Nodes.{history_of, fails_of, content_of, bytes_of, Tells}
-use Rattle.nqs_back.specs.Bare.{emptied}
 use Rattle.nqs_back.proofs.Plans.{bare_step, alike_step, fewer_left, one_back}
 use Rattle.nqs_node.proofs.Bare.{picked_bare, started_bare, bare_none, alike_none}
 use Rattle.nqs_node.proofs.Performing.{still_broken_off}

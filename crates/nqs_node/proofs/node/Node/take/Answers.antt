@@ -1,10 +1,7 @@
-use Rattle.std.proofs.Common.{◌≡◌, ◌++◌, List, ℕ, map, [], sym, ap, subst, ◌∙◌, refl}
+use Rattle.std.proofs.Common.{[], refl}
 use Rattle.std.proofs.lemmas.Result.{on_ok_weaker}
-use Rattle.nqs_rules.specs.Starts.{after_step}
-use Rattle.nqs_rules.specs.Stepped.{Stepped, shown}
 use Rattle.nqs_rules.specs.Step.{step}
 use Rattle.nqs_node.specs.Nodes.{history_of, content_of, bytes_of}
-use Rattle.nqs_back.specs.Bare.{emptied, without_bytes}
 use Rattle.nqs_back.proofs.Plans.{bare_step, alike_step, no_more_left, none_back}
 use Rattle.nqs_node.proofs.Performing.{still_broken_off}
 use Rattle.nqs_node.proofs.Planning.{may_be_done}
