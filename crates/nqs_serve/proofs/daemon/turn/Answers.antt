@@ -88,6 +88,10 @@ returns-in-Err-take_back-clause-err g c = λ s here knows same.
           (λ memory. let known = cut.5 (ap Err memory) in (known.0, known.1.1, known.2)) (subst (λ l. Receives 1 l) (sym one) (one_receive (stops_by (event_in here came.0) s)))),
     )
 
+pub returns-in-Err-clause-disk_fault : goal.returns-in-Err-clause-disk_fault
+returns-in-Err-clause-disk_fault g c = λ failed.
+    c.in-Err.ensures.broken (ap Err (disk_cut c.in-Err.cut (sym c.fault_of.ensures ∙ same_fault _ _ failed)))
+
 pub returns-in-Err-take_back-clause-disk_fault : goal.returns-in-Err-take_back-clause-disk_fault
 returns-in-Err-take_back-clause-disk_fault g c = λ failed.
     let is_disk = disk_cut c.in-Err-take_back.cut (sym c.fault_of-in-Err-take_back.ensures ∙ same_fault _ _ failed) in

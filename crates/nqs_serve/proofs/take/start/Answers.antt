@@ -1,6 +1,17 @@
-use Rattle.std.proofs.Common.{sym, ◌∙◌}
+use Rattle.std.proofs.Common.{Err, ap, sym, ◌∙◌}
 use Rattle.nqs_serve.proofs.Known.{start_known}
 use Rattle.nqs_serve.proofs.take.start.Goals as goal
 
 pub returns-in-Ok-clause-more : goal.returns-in-Ok-clause-more
 returns-in-Ok-clause-more g c = λ s knows. c.in-Ok.ensures.more ∙ sym (start_known c.args.now c.args.node.now s knows)
+
+pub returns-in-Ok-clause-told : goal.returns-in-Ok-clause-told
+returns-in-Ok-clause-told g c = λ s knows. ((knows.0, c.in-Ok.ensures.told knows.0 s knows.1), c.in-Ok.ensures.outputs knows.0 s knows.1)
+
+pub returns-in-Err-Memory-clause-memory : goal.returns-in-Err-Memory-clause-memory
+returns-in-Err-Memory-clause-memory g c = λ s knows failed. (knows.0, (c.in-Err-Memory.ensures.memory knows.0 (ap Err c.in-Err-Memory.field-0-is)).3 s knows.1)
+
+pub returns-in-Err-Disk-clause-broken : goal.returns-in-Err-Disk-clause-broken
+returns-in-Err-Disk-clause-broken g c = λ failed.
+    let broken = c.in-Err-Disk.ensures.broken c.in-Err-Disk.field-0-0 (ap Err c.in-Err-Disk.field-0-is) in
+    (broken.0, (c.in-Err-Disk.field-0-0, broken.1))

@@ -1,0 +1,10 @@
+use Rattle.std.proofs.Common.{Err, ap}
+use Rattle.nqs_serve.proofs.take.take.Goals as goal
+
+pub returns-in-Err-Memory-clause-memory : goal.returns-in-Err-Memory-clause-memory
+returns-in-Err-Memory-clause-memory g c = λ s knows failed. (knows.0, (c.in-Err-Memory.ensures.memory knows.0 (ap Err c.in-Err-Memory.field-0-is)).3 s knows.1)
+
+pub returns-in-Err-Disk-clause-broken : goal.returns-in-Err-Disk-clause-broken
+returns-in-Err-Disk-clause-broken g c = λ failed.
+    let broken = c.in-Err-Disk.ensures.broken c.in-Err-Disk.field-0-0 (ap Err c.in-Err-Disk.field-0-is) in
+    (broken.0, (c.in-Err-Disk.field-0-0, broken.1))
