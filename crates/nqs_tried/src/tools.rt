@@ -70,7 +70,8 @@ pub fn start_daemon(rt: &HostRuntime, dir: &str, host: &str) -> io::Result<Child
 /// Asks `qstat` until the host has no request: whether that came within 10,000 times.
 pub fn waits_for_none(rt: &HostRuntime, dir: &str, host: &str) -> io::Result<bool> {
     for _ in 0..10_000 {
-        if run(rt, &["qstat", dir, host, "root"])?.text == "0 requests.\n" {
+        let told = run(rt, &["qstat", dir, host, "root"])?;
+        if told.text.as_str() == "0 requests.\n" {
             return Ok(true);
         }
         thread::sleep(rt, Duration::from_millis(5));
