@@ -11,7 +11,8 @@ fn show(rt: &HostRuntime, words: &[&str]) -> io::Result<()> {
     let told = run(rt, words)?;
     print!(rt; "{}", told.text)?;
     if told.number != 0 {
-        println!(rt; "{} ends with {}", words[0], told.number)?;
+        let tool = words.first().copied().unwrap_or("");
+        println!(rt; "{tool} ends with {}", told.number)?;
     }
     Ok(())
 }
