@@ -4,10 +4,10 @@ use crate::site::SiteHost;
 use nqs_types::{HostId, RequestId};
 use nqs_values::Name;
 use std::fs::{DirBuilder, File, OpenOptions};
-use std::io;
 use std::io::ErrorKind;
 use std::os::unix::fs::{DirBuilderExt, OpenOptionsExt};
 use std::rt::HostRuntime;
+use std::{fs, io};
 
 /// Makes what stands in the folder outlast a stop: that a file is there, and under which name.
 pub fn sync_folder(rt: &HostRuntime, folder: &str) -> io::Result<()> {
@@ -64,6 +64,13 @@ pub fn make_host_folder(
     host: HostId,
 ) -> io::Result<String> {
     make_folder(rt, dir, host_text(site, host)?)
+}
+
+/// The folder `jobs` of a host, below this folder, as a path from the root without links. The host's folder is there; the folder
+/// `jobs` need not be.
+pub fn jobs_path(rt: &HostRuntime, folder: &str) -> io::Result<String> {
+    let folder = fs::canonicalize(rt, folder)?;
+    Ok(format!(in rt.alloc(); "{}/jobs", folder.as_str())?)
 }
 
 /// The lock of a host's folder. The system gives it back when the value is dropped, or the process ends.

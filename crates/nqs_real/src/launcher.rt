@@ -3,9 +3,10 @@
 ghost use Rattle.std.specs.Prelude.{◌≡◌, None};
 
 use crate::counted::counted;
-use crate::folder::{host_text, make_folder, make_private, request_text};
+use crate::folder::{host_text, jobs_path, make_folder, make_private, request_text};
+use crate::leftovers::{end_job, end_jobs, put_mark};
 use crate::order::order_text;
-use crate::program::start_quietly;
+use crate::program::{add_words, start_quietly};
 use crate::site::SiteHost;
 use nqs_outside::{Failed, Launcher};
 use nqs_types::{HostId, LaunchOrder, RequestId};
@@ -13,13 +14,21 @@ use std::alloc::AllocError;
 use std::fs::OpenOptions;
 use std::io::{ErrorKind, Write};
 use std::os::unix::fs::OpenOptionsExt;
-use std::process::Child;
+use std::process::{Child, Command};
 use std::rt::HostRuntime;
 use std::{env, fs, io};
 
+// The shepherd of a job, and the job's folder.
+#[derive(Drop)]
+struct Shepherd {
+    child: Child,
+    place: String,
+}
+
 /// Starts `PROGRAM shepherd DIR HOST SEQ.HOST START` for each job, under `setpriv`, which has the system kill the shepherd as soon
-/// as the daemon ends. Where there is no `setpriv` each launch fails. Trusted: that the program is still the one that runs, and
-/// that a shepherd which was started runs its job.
+/// as the daemon ends. Where there is no `setpriv` each launch fails. What is left of the jobs of an earlier daemon is ended before
+/// anything is launched; what is left of a job whose shepherd was killed, at the next launch or kill. Trusted: that the program is
+/// still the one that runs, and that a shepherd which was started runs its job.
 #[derive(Drop)]
 pub struct ShepherdLauncher {
     rt: HostRuntime,
@@ -28,7 +37,7 @@ pub struct ShepherdLauncher {
     host: HostId,
     site: Vec<SiteHost>,
     jobs: String,
-    children: Vec<Child>,
+    shepherds: Vec<Shepherd>,
     faults: u64,
 }
 
@@ -57,15 +66,31 @@ fn write_private(rt: &HostRuntime, path: &str, bytes: &[u8]) -> io::Result<()> {
     file.write_all(bytes)
 }
 
-// The folder of the jobs of a host, without what an earlier daemon left there.
-fn make_jobs(rt: &HostRuntime, dir: &str, host: &str) -> io::Result<String> {
-    let folder = format!(in rt.alloc(); "{dir}/{host}")?;
-    let _ = fs::remove_dir_all(rt, &format!(in rt.alloc(); "{folder}/jobs")?);
-    make_folder(rt, &folder, "jobs")
+// The folder of the jobs of a host, without what an earlier daemon left: processes of its jobs, and their files.
+fn make_jobs(rt: &HostRuntime, folder: &str) -> io::Result<String> {
+    let jobs = jobs_path(rt, folder)?;
+    end_jobs(rt, &jobs)?;
+    let _ = fs::remove_dir_all(rt, &jobs);
+    make_folder(rt, folder, "jobs")?;
+    Ok(jobs)
+}
+
+// Does the shepherd still run? Where it has ended and its job's folder is there yet, it was cut off: what is left of its job is
+// ended too.
+fn still_runs(rt: &HostRuntime, shepherd: &mut Shepherd) -> bool {
+    if matches!(shepherd.child.try_wait(), Ok(None)) {
+        return true;
+    }
+    if fs::exists(rt, &shepherd.place).unwrap_or(true) {
+        let _ = end_job(rt, &shepherd.place);
+    }
+    false
 }
 
 impl ShepherdLauncher {
-    /// The launcher of a host's daemon. Jobs have folders in the folder `jobs` of the host's folder, which is made anew.
+    /// The launcher of a host's daemon, to be opened while the daemon has the host's lock. What is left of the host's jobs is ended.
+    /// Where that can't be done in about a second and a half, it fails with `TimedOut`: else a job could run twice. Jobs have folders
+    /// in the folder `jobs` of the host's folder, which is made anew.
     pub fn open(
         rt: HostRuntime,
         program: &str,
@@ -74,14 +99,15 @@ impl ShepherdLauncher {
         host: HostId,
     ) -> io::Result<ShepherdLauncher> {
         let alloc = rt.alloc();
-        let jobs = make_jobs(&rt, dir, host_text(site, host)?)?;
+        let folder = format!(in alloc; "{dir}/{}", host_text(site, host)?)?;
+        let jobs = make_jobs(&rt, &folder)?;
         Ok(ShepherdLauncher {
             program: String::from_str(alloc, program)?,
             dir: String::from_str(alloc, dir)?,
             host,
             site: site.to_vec(alloc)?,
             jobs,
-            children: Vec::new(alloc),
+            shepherds: Vec::new(alloc),
             rt,
             faults: 0,
         })
@@ -91,16 +117,21 @@ impl ShepherdLauncher {
     fn sweep(&mut self)
         ensures { self.new.faults ≡ self.old.faults }
     {
-        self.children
-            .retain_mut(|child| !matches!(child.try_wait(), Ok(Some(_)) | Err(_)));
+        let rt = self.rt;
+        self.shepherds
+            .retain_mut(|shepherd| still_runs(&rt, shepherd));
+    }
+
+    // The folder of a job.
+    fn place_of(&self, id: RequestId, start: u16) -> io::Result<String> {
+        let name = job_name(&self.rt, &self.site, id, start)?;
+        Ok(format!(in self.rt.alloc(); "{}/{name}", self.jobs)?)
     }
 
     // Writes what the shepherd reads.
-    fn write_job(&self, order: &LaunchOrder, script: &[u8]) -> io::Result<()> {
+    fn write_job(&self, place: &str, order: &LaunchOrder, script: &[u8]) -> io::Result<()> {
         let alloc = self.rt.alloc();
-        let name = job_name(&self.rt, &self.site, order.id, order.start)?;
-        let place = format!(in alloc; "{}/{name}", self.jobs)?;
-        make_private(&self.rt, &place)?;
+        make_private(&self.rt, place)?;
         write_private(&self.rt, &format!(in alloc; "{place}/script")?, script)?;
         let text = order_text(&self.rt, order)?;
         write_private(
@@ -110,10 +141,11 @@ impl ShepherdLauncher {
         )
     }
 
-    fn spawn(&self, id: RequestId, start: u16) -> io::Result<Child> {
+    fn spawn(&self, place: &str, id: RequestId, start: u16) -> io::Result<Child> {
         let host = host_text(&self.site, self.host)?;
         let request = request_text(&self.rt, &self.site, id)?;
         let start = format!(in self.rt.alloc(); "{start}")?;
+        let mut command = Command::new(self.rt.alloc(), "setpriv")?;
         let words = [
             "--pdeathsig",
             "KILL",
@@ -124,25 +156,29 @@ impl ShepherdLauncher {
             request.as_str(),
             start.as_str(),
         ];
-        start_quietly(&self.rt, "setpriv", &words)
+        add_words(&mut command, &words)?;
+        put_mark(&mut command, place)?;
+        start_quietly(&self.rt, &mut command)
     }
 
     fn begin(&mut self, order: &LaunchOrder, script: &[u8]) -> io::Result<()>
         ensures { self.new.faults ≡ self.old.faults }
     {
         self.sweep();
-        self.children.reserve(1)?;
-        self.write_job(order, script)?;
-        let child = self.spawn(order.id, order.start)?;
-        self.children.push(child).map_err(AllocError::from)?;
+        self.shepherds.reserve(1)?;
+        let place = self.place_of(order.id, order.start)?;
+        self.write_job(&place, order, script)?;
+        let child = self.spawn(&place, order.id, order.start)?;
+        self.shepherds
+            .push(Shepherd { child, place })
+            .map_err(AllocError::from)?;
         Ok(())
     }
 
     // The file that the runner looks for. Where the job's folder is gone, the job has ended.
     fn write_kill(&self, id: RequestId, start: u16) -> io::Result<()> {
-        let alloc = self.rt.alloc();
-        let name = job_name(&self.rt, &self.site, id, start)?;
-        let path = format!(in alloc; "{}/{name}/kill", self.jobs)?;
+        let place = self.place_of(id, start)?;
+        let path = format!(in self.rt.alloc(); "{place}/kill")?;
         match write_private(&self.rt, &path, b"") {
             Err(e) if !matches!(e.kind(), ErrorKind::NotFound | ErrorKind::AlreadyExists) => Err(e),
             _ => Ok(()),

@@ -8,6 +8,9 @@ mod counted;
 mod disk;
 mod folder;
 mod launcher;
+#[cfg(test)]
+mod leftover_tests;
+mod leftovers;
 mod order;
 mod outlet;
 mod printer;

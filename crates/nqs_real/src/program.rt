@@ -13,10 +13,8 @@ pub fn add_words(command: &mut Command, words: &[&str]) -> Result<(), AllocError
     Ok(())
 }
 
-/// Starts a program with these words, whose three streams are `/dev/null`.
-pub fn start_quietly(rt: &HostRuntime, program: &str, words: &[&str]) -> io::Result<Child> {
-    let mut command = Command::new(rt.alloc(), program)?;
-    add_words(&mut command, words)?;
+/// Starts a program whose three streams are `/dev/null`.
+pub fn start_quietly(rt: &HostRuntime, command: &mut Command) -> io::Result<Child> {
     command
         .stdin(Stdio::null())
         .stdout(Stdio::null())
@@ -24,13 +22,28 @@ pub fn start_quietly(rt: &HostRuntime, program: &str, words: &[&str]) -> io::Res
         .spawn(rt)
 }
 
+// Runs a program with these words, whose three streams are `/dev/null`, to its end. How it ended is not looked at.
 fn run_quietly(rt: &HostRuntime, program: &str, words: &[&str]) -> io::Result<()> {
-    start_quietly(rt, program, words)?.wait()?;
+    let mut command = Command::new(rt.alloc(), program)?;
+    add_words(&mut command, words)?;
+    start_quietly(rt, &mut command)?.wait()?;
+    Ok(())
+}
+
+/// Sends SIGKILL to the processes with these numbers. One that has ended is passed over.
+pub fn end_processes(rt: &HostRuntime, numbers: &[String]) -> io::Result<()> {
+    let mut command = Command::new(rt.alloc(), "kill")?;
+    add_words(&mut command, &["-KILL", "--"])?;
+    for number in numbers {
+        command.arg(number.as_str())?;
+    }
+    start_quietly(rt, &mut command)?.wait()?;
     Ok(())
 }
 
 /// Ends each process of the session that this process leads, whatever signals it ignores. `kill` ends the leader's group at once,
-/// `pkill` then what has a group of its own. A process that began a session of its own is not found.
+/// `pkill` then what has a group of its own. A process that began a session of its own is not found:
+/// `crate::leftovers` finds it.
 pub fn end_session(rt: &HostRuntime, leader: u32) -> io::Result<()> {
     let group = format!(in rt.alloc(); "-{leader}")?;
     let ended = run_quietly(rt, "kill", &["-KILL", "--", group.as_str()]);

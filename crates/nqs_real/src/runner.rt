@@ -3,8 +3,9 @@
 ghost use Rattle.std.specs.Prelude.{None};
 
 use crate::counted::counted;
-use crate::folder::{host_text, make_folder, request_text};
+use crate::folder::{host_text, jobs_path, make_folder, request_text};
 use crate::launcher::job_name;
+use crate::leftovers::{end_job, put_mark};
 use crate::order::{JobOrder, read_order};
 use crate::program::{add_words, end_session};
 use crate::site::SiteHost;
@@ -33,7 +34,7 @@ const LAST_WAIT: u64 = 20;
 const SHELL: &str = "umask 077; . \"$0\"";
 
 /// Runs the script of a job by `/bin/sh`, in a session of its own, looks every 1 to 20 milliseconds whether it has ended or is to
-/// be killed, and then ends what is left of the session and removes the job's files. Trusted: the programs `setpriv`, `setsid`,
+/// be killed, and then ends what is left of the job and removes its files. Trusted: the programs `setpriv`, `setsid`,
 /// `prlimit`, `sh`, `kill` and `pkill`, and that no job changes the files of the folder `jobs`.
 #[derive(Drop)]
 pub struct ShellRunner {
@@ -104,7 +105,7 @@ impl ShellRunner {
     ) -> io::Result<ShellRunner> {
         Ok(ShellRunner {
             rt,
-            jobs: format!(in rt.alloc(); "{folder}/jobs")?,
+            jobs: jobs_path(&rt, folder)?,
             work: make_folder(&rt, folder, "work")?,
             host,
             site: site.to_vec(rt.alloc())?,
@@ -153,6 +154,7 @@ impl ShellRunner {
         let mut command = Command::new(self.rt.alloc(), "setpriv")?;
         self.add_words(&mut command, name, &order)?;
         self.set_names(&mut command, id, start, &order)?;
+        put_mark(&mut command, place)?;
         self.spawn(&mut command, place)
     }
 
@@ -174,12 +176,13 @@ impl ShellRunner {
         Err(io::Error::from(ErrorKind::TimedOut))
     }
 
-    // Whatever comes, nothing of the job's session is left.
+    // Whatever comes, nothing of the job is left, in its session or in another.
     fn finish(&self, child: &mut Child, place: &str) -> io::Result<ExitStatus> {
         let ended = self.watch(child, place);
         let _ = end_session(&self.rt, child.id());
         let _ = child.kill();
         let _ = child.wait();
+        let _ = end_job(&self.rt, place);
         ended
     }
 

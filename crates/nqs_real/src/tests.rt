@@ -14,10 +14,10 @@ use std::rt::HostRuntime;
 use std::test::Fail;
 use std::{fs, io, process};
 
-const HOST: HostId = HostId(0);
+pub const HOST: HostId = HostId(0);
 
 // A folder that is this test's alone, below the one where it runs.
-fn fresh_folder(rt: &HostRuntime, name: &str) -> io::Result<String> {
+pub fn fresh_folder(rt: &HostRuntime, name: &str) -> io::Result<String> {
     let dir = format!(in rt.alloc(); "real-{name}-{}", process::id(rt.process()))?;
     let _ = fs::remove_dir_all(rt, &dir);
     fs::create_dir(rt, &dir)?;
@@ -30,7 +30,7 @@ fn has_text(rt: &HostRuntime, folder: &str, path: &str, text: &str) -> io::Resul
 }
 
 // A site of the host alpha, at a port that was free just now.
-fn site_of_alpha(rt: &HostRuntime) -> Result<Vec<SiteHost>, Fail> {
+pub fn site_of_alpha(rt: &HostRuntime) -> Result<Vec<SiteHost>, Fail> {
     let port = UdpWire::of_client(*rt, &[], 1)?.1;
     let text = format!(in rt.alloc(); "alpha 127.0.0.1 {port}\n")?;
     Ok(read_site(rt.alloc(), text.as_bytes())?)
@@ -214,7 +214,7 @@ struct Script {
     out: &'static [u8],
 }
 
-const SCRIPTS: [Script; 7] = [
+const SCRIPTS: [Script; 9] = [
     Script {
         text: b"echo 42; echo $NQS_REQUEST $NQS_START $NQS_HOST $NQS_QUEUE $NQS_USER; exit 3",
         kills: false,
@@ -256,6 +256,19 @@ const SCRIPTS: [Script; 7] = [
     },
     Script {
         text: b"cat /proc/$(cat left)/cmdline; exit 4",
+        kills: false,
+        status: 4,
+        out: b"",
+    },
+    // It leaves a process in a session of its own.
+    Script {
+        text: b"setsid sh -c 'echo $$ > other; exec sleep 60' & while [ ! -s other ]; do sleep 0.01; done",
+        kills: false,
+        status: 0,
+        out: b"",
+    },
+    Script {
+        text: b"cat /proc/$(cat other)/cmdline; exit 4",
         kills: false,
         status: 4,
         out: b"",
@@ -321,6 +334,6 @@ fn jobs_end(rt: HostRuntime) -> Result<(), Fail> {
     let ended = run_in_folder(&rt, &dir)?;
     fs::remove_dir_all(&rt, &dir)?;
     drop(dir);
-    assert_eq!(rt; ended, 7);
+    assert_eq!(rt; ended, 9);
     Ok(())
 }

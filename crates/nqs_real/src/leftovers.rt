@@ -1,0 +1,142 @@
+//! What is left of jobs: processes that live on after their job's shell, its shepherd or its daemon has ended.
+//!
+//! The shepherd of a job and all that it starts have the variable `NQS_JOB` in the environment that they were started with: the
+//! job's folder, as a path from the root without links. So a look through the files `/proc/NUMBER/environ` finds each of them,
+//! whatever its parent, group or session. Trusted: that the system shows its processes there and starts none with another
+//! environment than it was given. Not found are a process that took the variable out of its environment or wrote over it, what
+//! such a process started, and a process of a user whose files there can't be read.
+
+ghost use Rattle.std.specs.Prelude.{◌≡◌};
+ghost use Rattle.nqs_real.specs.Marks.{is_mark, is_marked};
+
+use crate::program::end_processes;
+use nqs_text::read_u64;
+use std::alloc::AllocError;
+use std::io::ErrorKind;
+use std::process::Command;
+use std::rt::HostRuntime;
+use std::time::Duration;
+use std::{fs, io, process, thread};
+
+/// The variable that each process of a job has.
+const JOB: &str = "NQS_JOB";
+
+/// How many looks there are at most.
+const LOOKS: u32 = 20;
+
+/// The wait after the first look, in milliseconds; each is twice the one before.
+const FIRST_WAIT: u64 = 1;
+
+/// The longest wait between two looks, in milliseconds.
+const LAST_WAIT: u64 = 100;
+
+/// What the system answers of a process that has ended: ESRCH.
+const NO_PROCESS: i32 = 3;
+
+/// An entry of an environment by which processes are known.
+#[derive(Drop)]
+pub enum Mark {
+    /// The entry is this one.
+    Is(String),
+    /// The entry begins so.
+    Begins(String),
+}
+
+fn is_mark(entry: &[u8], mark: &Mark) -> bool
+    ensures { result ≡ is_mark mark.now entry.now }
+{
+    match mark {
+        Mark::Is(text) => entry == text.as_bytes(),
+        Mark::Begins(text) => entry.starts_with(text.as_bytes()),
+    }
+}
+
+/// Is the mark an entry of this environment, whose entries are parted by NULs?
+pub fn is_marked(environ: &[u8], mark: &Mark) -> bool
+    ensures { result ≡ is_marked mark.now environ.now }
+{
+    environ
+        .split(|byte| *byte == 0)
+        .any(|entry| is_mark(entry, mark))
+}
+
+// The number of a process, where the name of a file of `/proc` is one.
+fn process_number(name: &str) -> Option<u32> {
+    let number = read_u64(name.as_bytes()).ok()?;
+    u32::try_from(number).ok()
+}
+
+// A process that has ended, or that is another user's.
+fn is_passed_over(e: &io::Error) -> bool {
+    matches!(e.kind(), ErrorKind::NotFound | ErrorKind::PermissionDenied)
+        || e.raw_os_error() == Some(NO_PROCESS)
+}
+
+// The environment that a process was started with; an empty one of a process that is passed over.
+fn environ_of(rt: &HostRuntime, number: u32) -> io::Result<Vec<u8>> {
+    match fs::read(rt, &format!(in rt.alloc(); "/proc/{number}/environ")?) {
+        Err(e) if is_passed_over(&e) => Ok(Vec::new(rt.alloc())),
+        read => read,
+    }
+}
+
+// The numbers of the processes with this mark, but for this process.
+fn look(rt: &HostRuntime, mark: &Mark) -> io::Result<Vec<String>> {
+    let own = process::id(rt.process());
+    let mut found = Vec::new(rt.alloc());
+    for entry in fs::read_dir(rt, "/proc")? {
+        let entry = entry?;
+        let Some(number) = process_number(entry.file_name()) else {
+            continue;
+        };
+        if number != own && is_marked(&environ_of(rt, number)?, mark) {
+            found.push(format!(in rt.alloc(); "{number}")?)?;
+        }
+    }
+    Ok(found)
+}
+
+// Sends SIGKILL to each process that a look finds. Did it find none?
+fn end_found(rt: &HostRuntime, mark: &Mark) -> io::Result<bool> {
+    let found = look(rt, mark)?;
+    if found.is_empty() {
+        return Ok(true);
+    }
+    end_processes(rt, &found)?;
+    Ok(false)
+}
+
+// Ends each process with this mark, but for this process, by SIGKILL: it looks until two looks in a row find none, since a look
+// misses a process that is just between two programs, and one whose parent the look ended. Where there are some left after
+// twenty looks, in about a second and a half, it fails with `TimedOut`.
+fn end_marked(rt: &HostRuntime, mark: &Mark) -> io::Result<()> {
+    let mut was_calm = false;
+    let mut wait = FIRST_WAIT;
+    for _ in 0..LOOKS {
+        let is_calm = end_found(rt, mark)?;
+        if is_calm && was_calm {
+            return Ok(());
+        }
+        was_calm = is_calm;
+        thread::sleep(rt, Duration::from_millis(wait));
+        wait = LAST_WAIT.min(wait.saturating_mul(2));
+    }
+    Err(io::Error::from(ErrorKind::TimedOut))
+}
+
+/// Has what a command starts be known as a process of the job with this folder.
+pub fn put_mark(command: &mut Command, place: &str) -> Result<(), AllocError> {
+    command.env(JOB, place)?;
+    Ok(())
+}
+
+/// Ends what is left of the job with this folder, but for this process. It fails as `end_jobs` does.
+pub fn end_job(rt: &HostRuntime, place: &str) -> io::Result<()> {
+    end_marked(rt, &Mark::Is(format!(in rt.alloc(); "{JOB}={place}")?))
+}
+
+/// Ends what is left of each job whose folder is in this one, but for this process. Where there is some left after twenty looks,
+/// in about a second and a half, it fails with `TimedOut`.
+pub fn end_jobs(rt: &HostRuntime, jobs: &str) -> io::Result<()> {
+    end_marked(rt, &Mark::Begins(format!(in rt.alloc(); "{JOB}={jobs}/")?))
+}
