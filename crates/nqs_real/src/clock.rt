@@ -1,6 +1,6 @@
 //! The system's clock.
 
-ghost use Rattle.std.specs.Prelude.{None};
+ghost use Rattle.std.specs.Prelude.{◌≡◌, None};
 
 use nqs_outside::Clock;
 use std::rt::HostRuntime;
@@ -14,7 +14,10 @@ pub struct SystemClock {
 }
 
 impl SystemClock {
-    pub fn new(rt: HostRuntime) -> SystemClock {
+    /// The clock, which has given no moment yet.
+    pub fn new(rt: HostRuntime) -> SystemClock
+        ensures { result.last ≡ 0 }
+    {
         SystemClock { rt, last: 0 }
     }
 }

@@ -140,7 +140,9 @@ pub struct HostDisks {
 }
 
 /// Opens the disks in the folder of a host, by `FileDisk::open`: the files `root`, `first`, `second` and `spool`.
-pub fn open_disks(rt: &HostRuntime, folder: &str) -> io::Result<HostDisks> {
+pub fn open_disks(rt: &HostRuntime, folder: &str) -> io::Result<HostDisks>
+    ensures { IfOk result (λ disks. (disks.root.faults ≡ 0) × (disks.first.faults ≡ 0) × (disks.second.faults ≡ 0) × (disks.spool.faults ≡ 0)) }
+{
     Ok(HostDisks {
         root: FileDisk::open(rt, folder, "root")?,
         first: FileDisk::open(rt, folder, "first")?,

@@ -1,5 +1,8 @@
 //! Folders: that of a host, and the lock of its daemon.
 
+ghost use Rattle.std.specs.Prelude.{◌≡◌, IfOk, string_bytes};
+ghost use Rattle.nqs_real.specs.Names.{name_at, request_text};
+
 use crate::site::SiteHost;
 use nqs_types::{HostId, RequestId};
 use nqs_values::Name;
@@ -35,7 +38,9 @@ pub fn make_folder(rt: &HostRuntime, parent: &str, name: &str) -> io::Result<Str
 }
 
 /// A name as text: its bytes are letters, digits, `_` and `-`.
-pub fn name_text(name: &Name) -> io::Result<&str> {
+pub fn name_text(name: &Name) -> io::Result<&str>
+    ensures { IfOk result (λ text. text.now ≡ name.now) }
+{
     match str::from_utf8(name.as_bytes()) {
         Ok(text) => Ok(text),
         Err(_) => Err(io::Error::from(ErrorKind::InvalidData)),
@@ -43,7 +48,9 @@ pub fn name_text(name: &Name) -> io::Result<&str> {
 }
 
 /// The name of a host of the site. Another host is an `Err`.
-pub fn host_text(site: &[SiteHost], host: HostId) -> io::Result<&str> {
+pub fn host_text(site: &[SiteHost], host: HostId) -> io::Result<&str>
+    ensures { IfOk result (λ text. text.now ≡ name_at host.0 site.now) }
+{
     match site.get(host.0 as usize) {
         Some(host) => name_text(&host.name),
         None => Err(io::Error::from(ErrorKind::InvalidInput)),
@@ -51,7 +58,9 @@ pub fn host_text(site: &[SiteHost], host: HostId) -> io::Result<&str> {
 }
 
 /// A request as users write it: `SEQ.HOST`.
-pub fn request_text(rt: &HostRuntime, site: &[SiteHost], id: RequestId) -> io::Result<String> {
+pub fn request_text(rt: &HostRuntime, site: &[SiteHost], id: RequestId) -> io::Result<String>
+    ensures { IfOk result (λ text. string_bytes text ≡ request_text id site.now) }
+{
     let host = host_text(site, id.host)?;
     Ok(format!(in rt.alloc(); "{}.{host}", id.seq)?)
 }

@@ -1,6 +1,7 @@
 //! The launcher: a process of this very program for each job, its shepherd, which runs the job and tells the daemon its end.
 
-ghost use Rattle.std.specs.Prelude.{◌≡◌, None};
+ghost use Rattle.std.specs.Prelude.{◌≡◌, ◌++◌, None, IfOk, codes, string_bytes};
+ghost use Rattle.nqs_real.specs.Names.{job_text};
 
 use crate::counted::counted;
 use crate::folder::{host_text, jobs_path, make_folder, make_private, request_text};
@@ -52,7 +53,9 @@ pub fn job_name(
     site: &[SiteHost],
     id: RequestId,
     start: u16,
-) -> io::Result<String> {
+) -> io::Result<String>
+    ensures { IfOk result (λ name. string_bytes name ≡ job_text id start site.now) }
+{
     let request = request_text(rt, site, id)?;
     Ok(format!(in rt.alloc(); "{request}.{start}")?)
 }
@@ -97,7 +100,9 @@ impl ShepherdLauncher {
         dir: &str,
         site: &[SiteHost],
         host: HostId,
-    ) -> io::Result<ShepherdLauncher> {
+    ) -> io::Result<ShepherdLauncher>
+        ensures { IfOk result (λ launcher. launcher.faults ≡ 0) }
+    {
         let alloc = rt.alloc();
         let folder = format!(in alloc; "{dir}/{}", host_text(site, host)?)?;
         let jobs = make_jobs(&rt, &folder)?;
@@ -123,7 +128,9 @@ impl ShepherdLauncher {
     }
 
     // The folder of a job.
-    fn place_of(&self, id: RequestId, start: u16) -> io::Result<String> {
+    fn place_of(&self, id: RequestId, start: u16) -> io::Result<String>
+        ensures { IfOk result (λ place. string_bytes place ≡ string_bytes self.now.jobs ++ codes "/" ++ job_text id start self.now.site.items) }
+    {
         let name = job_name(&self.rt, &self.site, id, start)?;
         Ok(format!(in self.rt.alloc(); "{}/{name}", self.jobs)?)
     }

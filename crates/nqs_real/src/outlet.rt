@@ -1,6 +1,6 @@
 //! Files of jobs' outputs.
 
-ghost use Rattle.std.specs.Prelude.{None};
+ghost use Rattle.std.specs.Prelude.{◌≡◌, None, IfOk};
 
 use crate::counted::counted;
 use crate::folder::make_folder;
@@ -20,7 +20,9 @@ pub struct FileOutlet {
 
 impl FileOutlet {
     /// The outlet in the folder of a host. Where the folder `output` isn't there it is made.
-    pub fn open(rt: HostRuntime, folder: &str) -> io::Result<FileOutlet> {
+    pub fn open(rt: HostRuntime, folder: &str) -> io::Result<FileOutlet>
+        ensures { IfOk result (λ outlet. outlet.faults ≡ 0) }
+    {
         let folder = make_folder(&rt, folder, "output")?;
         Ok(FileOutlet {
             rt,

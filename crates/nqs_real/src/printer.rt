@@ -1,6 +1,6 @@
 //! Files in place of devices.
 
-ghost use Rattle.std.specs.Prelude.{None};
+ghost use Rattle.std.specs.Prelude.{◌≡◌, None, IfOk};
 
 use crate::counted::counted;
 use crate::folder::{make_folder, name_text, request_text};
@@ -23,7 +23,9 @@ pub struct FilePrinter {
 
 impl FilePrinter {
     /// The printer in the folder of a host. Where the folder `printed` isn't there it is made.
-    pub fn open(rt: HostRuntime, folder: &str, site: &[SiteHost]) -> io::Result<FilePrinter> {
+    pub fn open(rt: HostRuntime, folder: &str, site: &[SiteHost]) -> io::Result<FilePrinter>
+        ensures { IfOk result (λ printer. printer.faults ≡ 0) }
+    {
         let folder = make_folder(&rt, folder, "printed")?;
         let site = site.to_vec(rt.alloc())?;
         Ok(FilePrinter {

