@@ -128,6 +128,9 @@ fn order_of(seq: u32, cpu: Option<u64>, memory: Option<u64>) -> Result<LaunchOrd
 
 fn put_outputs(rt: &HostRuntime, folder: &str) -> io::Result<[bool; 6]> {
     let mut outlet = FileOutlet::open(*rt, folder)?;
+    // What a stop left of a file that was being written.
+    let new = format!(in rt.alloc(); "{folder}/output.new")?;
+    fs::write(rt, &new, b"the front of a longer text".as_slice())?;
     Ok([
         outlet.write_file(b"a/b/c", b"an older text").is_ok(),
         outlet.write_file(b"a/b/c", b"42\n").is_ok(),
