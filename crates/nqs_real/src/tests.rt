@@ -126,12 +126,13 @@ fn order_of(seq: u32, cpu: Option<u64>, memory: Option<u64>) -> Result<LaunchOrd
     })
 }
 
-fn put_outputs(rt: &HostRuntime, folder: &str) -> io::Result<[bool; 6]> {
+fn put_outputs(rt: &HostRuntime, folder: &str) -> io::Result<[bool; 7]> {
     let mut outlet = FileOutlet::open(*rt, folder)?;
     // What a stop left of a file that was being written.
     let new = format!(in rt.alloc(); "{folder}/output.new")?;
     fs::write(rt, &new, b"the front of a longer text".as_slice())?;
     Ok([
+        outlet.write_file(b"short", b"42\n").is_ok(),
         outlet.write_file(b"a/b/c", b"an older text").is_ok(),
         outlet.write_file(b"a/b/c", b"42\n").is_ok(),
         outlet.write_file(b"STDIN.o1", b"").is_ok(),
@@ -155,11 +156,12 @@ fn files_come_whole(rt: HostRuntime) -> Result<(), Fail> {
     let put = put_outputs(&rt, &folder);
     let is_printed = print_page(&rt, &folder)?;
     let has_output = has_text(&rt, &folder, "output/a/b/c", "42\n");
+    let is_short = has_text(&rt, &folder, "output/short", "42\n");
     let has_page = has_text(&rt, &folder, "printed/laser/2.alpha.1", "page");
     fs::remove_dir_all(&rt, &folder)?;
     drop(folder);
-    assert_eq!(rt; put?, [true; 6]);
-    assert_eq!(rt; [is_printed, has_output?, has_page?], [true; 3]);
+    assert_eq!(rt; put?, [true; 7]);
+    assert_eq!(rt; [is_printed, has_output?, is_short?, has_page?], [true; 4]);
     Ok(())
 }
 
@@ -323,18 +325,11 @@ const SCRIPTS: [Script; 9] = [
     },
 ];
 
-fn launch_job(
-    rt: &HostRuntime,
-    dir: &str,
-    site: &[SiteHost],
-    order: &LaunchOrder,
-    script: &Script,
-) -> io::Result<bool> {
-    let mut launcher = ShepherdLauncher::open(*rt, "/bin/true", dir, site, HOST)?;
+fn launch_job(launcher: &mut ShepherdLauncher, order: &LaunchOrder, script: &Script) -> bool {
     let is_launched = launcher.launch(order, script.text).is_ok();
     // The second start is not there, which is no fault.
     let start = if script.kills { 1 } else { 2 };
-    Ok(is_launched && launcher.kill(order.id, start).is_ok())
+    is_launched && launcher.kill(order.id, start).is_ok()
 }
 
 fn run_job(
@@ -356,11 +351,12 @@ fn ends_so(end: Result<RunEnd, Failed>, script: &Script) -> bool {
 
 // How many scripts end as they are to, before the first that doesn't.
 fn run_scripts(rt: &HostRuntime, dir: &str, folder: &str, site: &[SiteHost]) -> Result<u32, Fail> {
+    let mut launcher = ShepherdLauncher::open(*rt, "/bin/true", dir, site, HOST)?;
     let mut ended = 0u32;
     for script in &SCRIPTS {
         let seq = ended.saturating_add(1);
         let order = order_of(seq, Some(1), Some(1_000_000_000))?;
-        let is_launched = launch_job(rt, dir, site, &order, script)?;
+        let is_launched = launch_job(&mut launcher, &order, script);
         let end = run_job(rt, folder, site, &order)?;
         if !ends_so(end, script) || !is_launched {
             return Ok(ended);
