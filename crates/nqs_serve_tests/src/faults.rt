@@ -1,10 +1,15 @@
 //! Calls that fail: what the daemon does then, and what went out before.
 
-use crate::day::{Day, day_of};
-use crate::host::booted;
-use crate::outside::{
+ghost use Rattle.std.specs.Prelude.{◌≡◌};
+ghost use Rattle.nqs_node.specs.Nodes.{content_of, is_stopped};
+
+use nqs_days::day::{Day, day_of};
+use nqs_days::host::booted;
+use nqs_days::outside::{
     Failing, NONE, Outside, files_of, jobs_of, outside_of, prints_of, serve_all, texts_of,
 };
+use nqs_disk::MemDisk;
+use nqs_node::Node;
 use nqs_serve::ServeEnd;
 use nqs_types::Which;
 use nqs_values::{Bytes, Memory};
@@ -187,7 +192,7 @@ fn shows(
         Some(texts) => texts.as_slice() == row.replies,
         None => false,
     };
-    let jobs = jobs_of(alloc, outside.launcher.kept())?;
+    let jobs = jobs_of(alloc, "alpha", outside.launcher.kept())?;
     let (prints, _) = prints_of(alloc, outside.printer.kept())?;
     let (files, _) = files_of(alloc, outside.outlet.kept())?;
     Ok([
@@ -197,6 +202,16 @@ fn shows(
         files.as_slice() == row.files,
         outside.wire.script().len() == row.left,
     ])
+}
+
+fn set_fuse(node: &mut Node<MemDisk>, fuse: Option<(Which, u64)>)
+    ensures state { content_of node.new ≡ content_of node.old }
+    ensures stopped { is_stopped node.new ≡ is_stopped node.old }
+{
+    match fuse {
+        Some((which, calls)) => node.fuse(which, calls),
+        None => {}
+    }
 }
 
 // Whether the daemon ends so, with its node stopped just where a disk failed, and what is to be seen is seen.
@@ -210,9 +225,7 @@ fn is_seen(alloc: Global, row: &Row) -> Result<([bool; 2], [bool; 5]), Memory> {
     let turns = script.len() as u64;
     let mut outside = outside_of(alloc, script, moments, &row.failing)?;
     let mut node = booted(alloc)?;
-    if let Some((which, calls)) = row.fuse {
-        node.fuse(which, calls);
-    }
+    set_fuse(&mut node, row.fuse);
     let end = serve_all(alloc, &mut node, &mut outside, turns);
     let stops = end == ServeEnd::DiskFault;
     let ends = [end == row.end, node.is_stopped() == stops];
@@ -275,7 +288,10 @@ fn goes_on(alloc: Global) -> Result<[bool; 5], Memory> {
     let mut outside = outside_of(alloc, script, moments, &RECEIVE.failing)?;
     let mut node = booted(alloc)?;
     let first = serve_all(alloc, &mut node, &mut outside, 3);
-    if first != ServeEnd::WireFault || node.is_stopped() {
+    if first != ServeEnd::WireFault {
+        return Err(Memory);
+    }
+    if node.is_stopped() {
         return Err(Memory);
     }
     let second = serve_all(alloc, &mut node, &mut outside, 2);

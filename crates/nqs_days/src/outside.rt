@@ -89,8 +89,8 @@ pub fn serve_all(
     )
 }
 
-// Adds the text of an answer that begins so, unless it is an acknowledgement. An answer's flag tells refusals and faults.
-fn add_text(
+/// Adds the text of an answer that begins so, unless it is an acknowledgement. An answer's flag tells refusals and faults.
+pub fn add_text(
     alloc: Global,
     datagram: &[u8],
     front: &[u8],
@@ -129,16 +129,16 @@ pub fn texts_of(alloc: Global, sent: &[Sent], fronts: &[Bytes]) -> Result<Option
     Ok(if right { Some(texts) } else { None })
 }
 
-/// The lines of launches and kills, failed ones too.
-pub fn jobs_of(alloc: Global, calls: &[LauncherCall]) -> Result<Vec<u8>, Memory> {
+/// The lines of launches and kills on a host, failed ones too. The requests are of the host alpha.
+pub fn jobs_of(alloc: Global, host: &str, calls: &[LauncherCall]) -> Result<Vec<u8>, Memory> {
     let mut text = Vec::new(alloc);
     for call in calls {
         let line = match call {
             LauncherCall::Launch { order, .. } => {
-                format!(in alloc; "launch alpha {}.alpha {}\n", order.id.seq, order.start)?
+                format!(in alloc; "launch {host} {}.alpha {}\n", order.id.seq, order.start)?
             }
             LauncherCall::Kill { id, start, .. } => {
-                format!(in alloc; "kill alpha {}.alpha {}\n", id.seq, start)?
+                format!(in alloc; "kill {host} {}.alpha {}\n", id.seq, start)?
             }
         };
         text.extend_from_slice(line.as_bytes())?;

@@ -1,23 +1,20 @@
 //! The daemon does what the schedule of the same events says: a day of one host, run as a schedule and served.
 
-use crate::day::{Day, day_of};
-use crate::host::booted;
-use crate::outside::{
+use crate::transcript::{Told, replayed};
+use nqs_days::day::{Day, day_of};
+use nqs_days::host::{alpha, booted};
+use nqs_days::outside::{
     Failing, NONE, Outside, files_of, jobs_of, outside_of, prints_of, scripts_of, serve_all,
     texts_of,
 };
-use crate::transcript::{Told, told_by};
 use nqs_disk::MemDisk;
 use nqs_fakes::Sent;
 use nqs_node::Node;
-use nqs_outside::{ListSource, MemSink};
-use nqs_runs::replay::replay;
-use nqs_runs::status::Status;
 use nqs_schedule::print_seen;
 use nqs_serve::ServeEnd;
 use nqs_table::table_of;
 use nqs_types::Seen;
-use nqs_values::{Bytes, Items, Memory, Name};
+use nqs_values::{Bytes, Items, Memory};
 use std::alloc::Global;
 use std::rt::HostRuntime;
 use std::test::Fail;
@@ -141,17 +138,6 @@ alpha batch 7.alpha RUNNING ann starts 1 lost 0
 alpha batch 8.alpha HELD ann starts 0 lost 0
 ";
 
-// What a schedule says.
-fn replayed(alloc: Global, schedule: &[u8]) -> Result<Told, Memory> {
-    let mut source = ListSource::new(schedule);
-    let mut sink = MemSink::new(alloc, 100, Vec::new(alloc));
-    let mut left = Vec::new(alloc);
-    if replay(alloc, &[], &mut source, &mut sink, &mut left) != Status::Done {
-        return Err(Memory);
-    }
-    told_by(alloc, sink.taken())
-}
-
 // Serves the outside for so many turns. The table is that of the state that the disks tell then.
 fn served(
     alloc: Global,
@@ -165,13 +151,6 @@ fn served(
     Ok(end)
 }
 
-fn alpha() -> Result<Name, Memory> {
-    match Name::read(b"alpha") {
-        Ok(alpha) => Ok(alpha),
-        Err(_) => Err(Memory),
-    }
-}
-
 fn put_table(alloc: Global, node: &mut Node<MemDisk>, table: &mut Vec<u8>) -> Result<(), Memory> {
     let Ok(state) = node.reread(alloc) else {
         return Err(Memory);
@@ -179,12 +158,12 @@ fn put_table(alloc: Global, node: &mut Node<MemDisk>, table: &mut Vec<u8>) -> Re
     let mut states = Vec::new(alloc);
     states.push(state)?;
     let rows = Items::from_vec(table_of(alloc, &states)?);
-    print_seen(alloc, &Seen::Table(rows), &[alpha()?], table)
+    print_seen(alloc, &Seen::Table(rows), &[alpha()], table)
 }
 
 // Whether the daemon asks for what the transcript has, and for what is above.
 fn asks_the_same(alloc: Global, outside: &Outside, told: &Told) -> Result<[bool; 3], Memory> {
-    let jobs = jobs_of(alloc, outside.launcher.kept())?;
+    let jobs = jobs_of(alloc, "alpha", outside.launcher.kept())?;
     let scripts = scripts_of(alloc, outside.launcher.kept())?;
     let (prints, printed) = prints_of(alloc, outside.printer.kept())?;
     let (files, outputs) = files_of(alloc, outside.outlet.kept())?;
