@@ -1,10 +1,10 @@
-//! Tests of `nqs_serve`: a host of a site of one, booted from disks in memory, serves an outside in memory. The datagrams
-//! are literal bytes, as `docs/formats.md` has them.
+//! Tests of `nqs_serve` and `nqs_clients`: a host of a site of one, booted from disks in memory, serves an outside in
+//! memory, also one whose calls fail, and shepherds and clients speak over such a wire.
 #![tactic(auto)]
 
 #[cfg(test)]
-mod datagrams;
+mod faults;
 #[cfg(test)]
-mod host;
+mod shepherds;
 #[cfg(test)]
 mod turns;
