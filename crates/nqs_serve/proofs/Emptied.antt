@@ -1,10 +1,7 @@
 -- A host in order stays so without its stored bytes.
-use Rattle.std.proofs.Common.{◌≡◌, ℕ, ◌++◌, Bool, true, not, ◌||◌, nat_le, List, map, refl, sym, ap, ◌∙◌, Option, None, Some}
-use Rattle.std.specs.List.{list_all}
-use Rattle.std.proofs.lemmas.Bool.{and_parts, and_from}
+use Rattle.std.proofs.Common.{◌≡◌, ℕ, ◌++◌, true, not, ◌||◌, nat_le, List, refl, ap, ◌∙◌, Option, None, Some}
 use Rattle.std.proofs.lemmas.Simd.{map-map}
 use Rattle.nqs_rules.proofs.ListFacts.{list_all-weaker}
-use Rattle.nqs_values.specs.Same.{name_eq}
 use Rattle.nqs_types.specs.Ids.{id_eq, peer_number_eq, promise_key, stage_key}
 use Rattle.nqs_types.specs.declared.request.Row.{Row}
 use Rattle.nqs_types.specs.declared.request.Promise.{Promise}

@@ -1,5 +1,5 @@
 -- What a host in order says goes to hosts of its site, under numbers from 1 on.
-use Rattle.std.proofs.Common.{◌≡◌, ℕ, ◌+◌, ◌<◌, Bool, true, false, ◌&&◌, ◌||◌, ◌==◌, nat_lt, nat_le, List, [], ◌∷◌, ◌++◌, map, filter, length, Option, None, Some, Result, Ok, Err, true≢false, refl, sym, ap, subst, ◌∙◌, arith, if◌then◌else◌}
+use Rattle.std.proofs.Common.{◌≡◌, ℕ, ◌+◌, Bool, true, false, ◌&&◌, ◌||◌, ◌==◌, nat_lt, nat_le, List, [], ◌∷◌, ◌++◌, map, filter, length, Option, None, Some, Result, Ok, Err, true≢false, refl, sym, subst, ◌∙◌, arith, if◌then◌else◌}
 use Rattle.std.proofs.lemmas.Bool.{and_parts, and_from, lt-ltb, eqb-true}
 use Rattle.std.proofs.lemmas.List.Folds.{list_all-append}
 use Rattle.std.specs.List.{list_any, list_all, flat_map}
@@ -11,7 +11,6 @@ use Rattle.nqs_types.specs.declared.ids.HostId.{HostId}
 use Rattle.nqs_types.specs.declared.ids.RequestId.{RequestId}
 use Rattle.nqs_types.specs.declared.ids.Dest.{Dest}
 use Rattle.nqs_types.specs.declared.ids.Named.{Named}
-use Rattle.nqs_types.specs.declared.request.Row.{Row}
 use Rattle.nqs_types.specs.declared.request.Hand.{Hand}
 use Rattle.nqs_types.specs.declared.request.Peer.{Peer}
 use Rattle.nqs_types.specs.declared.request.Promise.{Promise}
@@ -23,7 +22,7 @@ use Rattle.nqs_types.specs.declared.refusal.Refusal.{Refusal}
 use Rattle.nqs_types.specs.declared.edit.Edit.{Edit}
 use Rattle.nqs_types.specs.declared.edit.Edit.TheVariants.{Rows as RowsOf}
 use Rattle.nqs_types.specs.declared.edit.RowsEdit.TheVariants.{AbortQueue}
-use Rattle.nqs_types.specs.declared.change.Change.TheVariants.{Deleted, Doomed, Edited, Unlaunched, Accepted, Dropped, Promised, StageGot, StageGone, FileGone}
+use Rattle.nqs_types.specs.declared.change.Change.TheVariants.{Deleted, Doomed, Edited, Unlaunched, Accepted, Dropped, StageGot, StageGone, FileGone}
 use Rattle.nqs_types.specs.declared.message.Body.{Body}
 use Rattle.nqs_types.specs.declared.message.Body.TheVariants as body
 use Rattle.nqs_types.specs.declared.event.Command.{Command}
@@ -41,9 +40,9 @@ use Rattle.nqs_rules.specs.Rows.{queue_meant, submit_causes, delete_causes}
 use Rattle.nqs_rules.specs.Fits.{edit_causes}
 use Rattle.nqs_rules.specs.Sane.{is_of_site}
 use Rattle.nqs_rules.specs.Stepped.{Stepped, Pending, quiet, says, makes, message, ready, shown}
-use Rattle.nqs_rules.specs.Handover.{closes, was_given, offer, send_commit, send_abort, send_ready, send_done, send_refused, send_inquire, opened_with, open_hand, offer_causes, offer_by, on_offer, ready_phase, ready_with, on_ready, refused_phase, refused_with, on_refused, on_commit, done_phase, done_with, on_done, on_abort, is_silent, repeat_offer, repeat_phase, repeat_hand, repeated_hands, inquiries}
+use Rattle.nqs_rules.specs.Handover.{closes, was_given, send_abort, send_ready, send_done, send_inquire, opened_with, offer_causes, offer_by, on_offer, ready_phase, ready_with, on_ready, refused_phase, refused_with, on_refused, on_commit, done_phase, done_with, on_done, on_abort, is_silent, repeat_offer, repeat_phase, repeat_hand, repeated_hands, inquiries}
 use Rattle.nqs_rules.specs.Stage.{Part, goes_here, kept_parts, has_left, stage_counter, files_written, is_stage_to, has_stage_to, stage_sent, parts_sent, on_end, is_got, send_staged, on_stage, is_earlier_stage, send_stage, due_of, on_staged, on_written, file_again, stages_from, due_outputs}
-use Rattle.nqs_rules.specs.Start.{launching, printing, moving_by, moving, holding, local_causes, start}
+use Rattle.nqs_rules.specs.Start.{moving_by, local_causes, start}
 use Rattle.nqs_rules.specs.Step.{Asker, reply_to, answer_to, unless_refused, submit_to, kill, delete_meant, runs_in_queue, kills_of, stat_causes, ticked, on_allowed, on_message, is_start, ended_by, acknowledged, unlaunched_by, step}
 use Rattle.nqs_rules.specs.Text.{stat_lines}
 use Rattle.nqs_rules.specs.InOrder.{IsInOrder, is_row_right, is_hand_right, is_hand_given, is_promise_right, is_stage_right, is_stage_given, is_peer_right}
