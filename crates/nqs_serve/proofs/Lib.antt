@@ -5,6 +5,8 @@ mod Faults
 mod Sane
 pub mod Acts
 pub mod Folds
-mod Paths
+mod Emptied
+mod Right
+mod Sendable
 mod Ending
 mod Known

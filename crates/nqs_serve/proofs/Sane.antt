@@ -1,5 +1,5 @@
--- The events that a daemon takes are sane.
-use Rattle.std.proofs.Common.{◌≡◌, ℕ, List, length, refl, true, ◌&&◌, IsTrue, IfSome}
+-- The events that a daemon takes are sane, and right.
+use Rattle.std.proofs.Common.{◌≡◌, ℕ, List, length, refl, sym, ◌∙◌, Bool, true, false, ◌&&◌, ◌||◌, ◌==◌, IsTrue, IfSome}
 use Rattle.std.proofs.lemmas.Bool.{and_parts, and_from}
 use Rattle.nqs_types.specs.declared.message.Tool.{Tool}
 use Rattle.nqs_types.specs.declared.message.Tool.TheVariants.{Qsub, Qstat, Qdel, Qmgr, Tick}
@@ -16,6 +16,7 @@ use Rattle.nqs_lines.specs.Laws.{SubmissionsAreSane, EditsAreSane, ListsAreSane,
 use Rattle.nqs_back.specs.Back.{comes_back}
 use Rattle.nqs_serve.specs.Events.{Here, line_in, command_of, are_of_site, is_for, event_by, event_of, at_moment}
 use Rattle.nqs_serve.specs.Runs.{event_back}
+use Rattle.nqs_serve.specs.Sends.{has_number, is_right_id, is_right_event}
 use Rattle.nqs_serve.specs.declared.comeback.Comeback.{Comeback}
 use Rattle.nqs_serve.specs.declared.comeback.Comeback.TheVariants as comeback
 
@@ -44,6 +45,21 @@ sane_back hosts (comeback.Printed id start) = refl
 sane_back hosts (comeback.Written file) = refl
 sane_back hosts (comeback.Unwritten file) = refl
 
+pub right_at : (hosts m : ℕ) (e : Event) → is_right_event hosts (at_moment m e) ≡ is_right_event hosts e
+right_at hosts m (event.Ask now port token user c) = refl
+right_at hosts m (event.Arrived now message) = refl
+right_at hosts m (event.Ended now port id start status output error) = refl
+right_at hosts m (event.Unlaunched now id start) = refl
+right_at hosts m (event.Written now file) = refl
+right_at hosts m (event.Unwritten now file) = refl
+right_at hosts m (event.Tick now) = refl
+
+pub right_back : (hosts : ℕ) (x : Comeback) → is_right_event hosts (event_back x) ≡ true
+right_back hosts (comeback.Unlaunched id start) = refl
+right_back hosts (comeback.Printed id start) = refl
+right_back hosts (comeback.Written file) = refl
+right_back hosts (comeback.Unwritten file) = refl
+
 pub is_back : (x : Comeback) → comes_back (event_back x) ≡ true
 is_back (comeback.Unlaunched id start) = refl
 is_back (comeback.Printed id start) = refl
@@ -64,6 +80,32 @@ sane_body hosts (Ask port token user tool words script) ok of_site = refl
 sane_body hosts (Answer token good text) ok of_site = refl
 sane_body hosts (Ended port id start status output error) ok of_site = refl
 sane_body hosts (EndedAck id start) ok of_site = refl
+
+or_true : (a b : Bool) → b ≡ true → (a || b) ≡ true
+or_true true b k = refl
+or_true false b k = k
+
+right_by : (hosts : ℕ) (m : Message) (b : Body) → IsBody b → has_number b ≡ has_number m.body → is_of_site hosts m.from ≡ true → are_of_site hosts b ≡ true → IfSome (event_by m b) (λ e. IsTrue (is_right_event hosts e))
+right_by hosts m (Offer n q c s) ok same from of_site = and_from _ _ from (sym same ∙ ok.0.0)
+right_by hosts m (Ready n) ok same from of_site = and_from _ _ from (sym same ∙ ok.0)
+right_by hosts m (Refused n cause) ok same from of_site = and_from _ _ from (sym same ∙ ok.0.0)
+right_by hosts m (Commit n) ok same from of_site = and_from _ _ from (sym same ∙ ok.0)
+right_by hosts m (Done n) ok same from of_site = and_from _ _ from (sym same ∙ ok.0)
+right_by hosts m (Inquire n) ok same from of_site = and_from _ _ from (sym same ∙ ok.0)
+right_by hosts m (Abort n) ok same from of_site = and_from _ _ from (sym same ∙ ok.0)
+right_by hosts m (Stage n path output) ok same from of_site = and_from _ _ from (sym same ∙ ok.0.0)
+right_by hosts m (Staged n) ok same from of_site = and_from _ _ from (sym same ∙ ok.0)
+right_by hosts m (Ask port token user tool words script) ok same from of_site = refl
+right_by hosts m (Ended port id start status output error) ok same from of_site = or_true (port == 0) (is_right_id hosts id) (and_from _ _ of_site ok.1.0)
+right_by hosts m (Answer token good text) ok same from of_site = tt
+right_by hosts m (EndedAck id start) ok same from of_site = tt
+
+-- what is read, and is for this host, is right
+pub right_event : (here : Here) (m : Message) → MaySend m → is_for here m ≡ true → IfSome (event_of m) (λ e. IsTrue (is_right_event (length here.site) e))
+right_event here m may is =
+    let hosts = length here.site in
+    let outer = and_parts (same_host here.me m.to && is_of_site hosts m.from) (are_of_site hosts m.body) is in
+    right_by hosts m m.body may.2 refl (and_parts (same_host here.me m.to) (is_of_site hosts m.from) outer.0).1 outer.1
 
 module _ (submissions : SubmissionsAreSane) (edits : EditsAreSane) (lists : ListsAreSane) (deletions : DeletionsAreSane) where
   sane_command : (user : List ℕ) (tool : Tool) (words : List (List ℕ)) (script : List ℕ) → IsTrue (is_sane_command (command_of user tool words script))

@@ -18,6 +18,7 @@ use Rattle.nqs_serve.specs.declared.daemon.Fault.TheVariants as fault
 use Rattle.nqs_serve.specs.declared.daemon.ServeEnd.{ServeEnd}
 use Rattle.nqs_serve.specs.declared.daemon.ServeEnd.TheVariants.{Shutdown, TurnsUsed, WireFault, DiskFault, Memory}
 
+-- of an act only a receive may bring a shutdown
 abbrev pub stop_of : Here → Turn → Act → List Bool
 stop_of here t (received arrival) = stops_by (event_in here arrival) t.state ∷ []
 stop_of here t (took m outcomes) = []
@@ -27,9 +28,11 @@ abbrev pub stops : Here → Turn → List Act → List Bool
 stops here t [] = []
 stops here t (act ∷ acts) = stop_of here t act ++ stops here (next here t act) acts
 
+-- a shutdown was brought, and is answered Done
 abbrev pub is_stop : Bool → Bool
 is_stop b = b
 
+-- no receive brought one
 abbrev pub NoneStops : List Bool → Type 0
 NoneStops bs = list_any is_stop bs ≡ false
 
@@ -55,6 +58,7 @@ pub record Receives (turns : ℕ) (bs : List Bool) : Type 0 where
   pub few : length bs ≤ turns
 
 module _ {D : Type 0} {g : disk.Ghosts D} where
+  -- how all stands where the daemon ends so: the turn, the moments that were read for nothing, and the node
   abbrev pub Ends : ServeEnd → ℕ → List Bool → Turn → List ℕ → Node D g → Type 0
   -- the last receive brought such a shutdown, and none before it did
   Ends Shutdown turns bs t more node = (t.waits ≡ []) × (more ≡ []) × Tells node t.state × ((before : List Bool) × (bs ≡ before ++ true ∷ []) × NoneStops before × (length bs ≤ turns))
@@ -64,10 +68,12 @@ module _ {D : Type 0} {g : disk.Ghosts D} where
   Ends DiskFault turns bs t more node = IsCut t more × Receives turns bs
   Ends (Memory _) turns bs t more node = ((s : Plain) × Tells node s × IsCutAt t more s) × Receives turns bs
 
+-- what cut an event off cuts its turn off
 abbrev pub fault_of : Cut → Fault
 fault_of cut.Disk = fault.Disk
 fault_of cut.Memory = fault.Memory
 
+-- a turn that was cut off is the last
 abbrev pub end_of : Fault → ServeEnd
 end_of fault.Wire = WireFault
 end_of fault.Disk = DiskFault

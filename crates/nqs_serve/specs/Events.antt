@@ -65,9 +65,11 @@ event_by m (body.Answer _ _ _) = None
 event_by m (body.EndedAck _ _) = None
 event_by m _ = Some (event.Arrived 0 m)
 
+-- the event of a message, if it is one
 abbrev pub event_of : Message → Option Event
 event_of m = event_by m m.body
 
+-- the event of what was read, if it could be and is for this host
 abbrev pub event_said : Here → Result Message PacketFault → Option Event
 event_said here (Ok m) = if is_for here m then event_of m else None
 event_said here (Err fault) = None

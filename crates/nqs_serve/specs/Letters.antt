@@ -38,12 +38,15 @@ is_answered (reply.UnreadLine _) = false
 is_answered (reply.UnreadWords _) = false
 is_answered _ = true
 
+-- a datagram, and where it goes
 abbrev pub letter : Address → List ℕ → Letter
 letter to bytes = record { to = to; bytes = bytes }
 
+-- the datagram that spells a message
 abbrev pub posted : Address → Message → Letter
 posted to m = letter to (spelling m)
 
+-- what this host says to those at its ports
 abbrev pub from_me : Here → Body → Message
 from_me here b = record { from = here.me; to = here.me; body = b }
 
@@ -54,6 +57,7 @@ letter_of here (out.Send m) = Some (posted (Host m.to) m)
 letter_of here (out.Ack port id start) = Some (posted (Client port) (from_me here (body.EndedAck id start)))
 letter_of here _ = None
 
+-- a datagram is one packet
 abbrev pub packets_in : Option Letter → List Packet
 packets_in None = []
 packets_in (Some l) = packet l.to l.bytes ∷ []

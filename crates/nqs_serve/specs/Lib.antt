@@ -1,5 +1,6 @@
 pub mod Events
 pub mod Letters
+pub mod Sends
 pub mod Steps
 pub mod Runs
 pub mod Ends

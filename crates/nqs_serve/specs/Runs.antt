@@ -22,9 +22,11 @@ pub record Outcome : Type 0 where
   pub output : Output
   pub ok : Bool
 
+-- an output, and the answer to it
 abbrev pub outcome : Output → Bool → Outcome
 outcome output ok = record { output = output; ok = ok }
 
+-- the least thing that a daemon does
 pub data Act : Type 0 where
   -- a receive
   received : (arrival : Arrival) → Act
@@ -36,6 +38,7 @@ pub record Turn : Type 0 where
   pub state : Plain
   pub waits : List Event
 
+-- a daemon in this state, for which these events wait
 abbrev pub turn : Plain → List Event → Turn
 turn s waits = record { state = s; waits = waits }
 
@@ -45,18 +48,22 @@ idle s = turn s []
 
 -- what an outcome asked of the outside
 
+-- the datagram of it
 abbrev pub packets_by : Here → Output → List Packet
 packets_by here output = packets_in (letter_of here output)
 
+-- a launch or a kill
 abbrev pub asked_by : Output → Bool → List Asked
 asked_by (out.Launch order script) ok = launched order script ok ∷ []
 asked_by (out.Kill id start) ok = killed id start ok ∷ []
 asked_by _ ok = []
 
+-- a print
 abbrev pub prints_by : Output → Bool → List Print
 prints_by (out.Print device order script) ok = printed device order script ok ∷ []
 prints_by _ ok = []
 
+-- a file that is written
 abbrev pub filings_by : Output → Bool → List Filing
 filings_by (out.File file path bytes) ok = filed path bytes ok ∷ []
 filings_by _ ok = []
@@ -68,6 +75,7 @@ comeback_of (out.Print _ order _) ok = Some (if ok then Printed order.id order.s
 comeback_of (out.File file _ _) ok = Some (if ok then Written file else Unwritten file)
 comeback_of _ ok = None
 
+-- the event that tells the host of it
 abbrev pub event_back : Comeback → Event
 event_back (Unlaunched id start) = event.Unlaunched 0 id start
 event_back (Printed id start) = event.Ended 0 0 id start 0 [] []
@@ -76,21 +84,27 @@ event_back (Unwritten file) = event.Unwritten 0 file
 
 -- the same of a list of outcomes, in order
 
+-- what went out
 abbrev pub outputs_in : List Outcome → List Output
 outputs_in outcomes = map (λ (o : Outcome). o.output) outcomes
 
+-- the datagrams
 abbrev pub packets : Here → List Outcome → List Packet
 packets here outcomes = flat_map (λ (o : Outcome). packets_by here o.output) outcomes
 
+-- launches and kills
 abbrev pub asked : List Outcome → List Asked
 asked outcomes = flat_map (λ (o : Outcome). asked_by o.output o.ok) outcomes
 
+-- prints
 abbrev pub prints : List Outcome → List Print
 prints outcomes = flat_map (λ (o : Outcome). prints_by o.output o.ok) outcomes
 
+-- files that are written
 abbrev pub filings : List Outcome → List Filing
 filings outcomes = flat_map (λ (o : Outcome). filings_by o.output o.ok) outcomes
 
+-- what comes back
 abbrev pub brought_back : List Outcome → List Comeback
 brought_back outcomes = flat_map (λ (o : Outcome). option_to_list (comeback_of o.output o.ok)) outcomes
 
@@ -100,10 +114,12 @@ come_back outcomes = map event_back (brought_back outcomes)
 
 -- acts, one after the other
 
+-- the first event that waits is taken with its starts, and what comes back waits behind the others
 abbrev pub take_next : ℕ → List Outcome → List Event → Plain → Turn
 take_next m outcomes [] s = idle s
 take_next m outcomes (e ∷ es) s = turn (after_event m e s) (es ++ come_back outcomes)
 
+-- the turn after an act
 abbrev pub next : Here → Turn → Act → Turn
 next here t (received arrival) = turn t.state (t.waits ++ option_to_list (event_in here arrival))
 next here t (took m outcomes) = take_next m outcomes t.waits t.state
@@ -119,34 +135,42 @@ Allows t (received arrival) = t.waits ≡ []
 Allows t (took m outcomes) = IsTaken m outcomes t.waits t.state
 
 module _ (here : Here) where
+  -- the turn after acts
   abbrev pub after : Turn → List Act → Turn
   after t [] = t
   after t (act ∷ acts) = after (next here t act) acts
 
+  -- each act is allowed where it comes
   abbrev pub IsRun : Turn → List Act → Type 0
   IsRun t [] = Unit {0}
   IsRun t (act ∷ acts) = Allows t act × IsRun (next here t act) acts
 
 -- the parts of acts, in order
 
+-- what it received
 abbrev pub arrivals_of : Act → List Arrival
 arrivals_of (received arrival) = arrival ∷ []
 arrivals_of (took m outcomes) = []
 
+-- the moment that it took an event at
 abbrev pub moments_of : Act → List ℕ
 moments_of (received arrival) = []
 moments_of (took m outcomes) = m ∷ []
 
+-- what it carried out
 abbrev pub outcomes_of : Act → List Outcome
 outcomes_of (received arrival) = []
 outcomes_of (took m outcomes) = outcomes
 
+-- all that was received
 abbrev pub arrivals : List Act → List Arrival
 arrivals acts = flat_map arrivals_of acts
 
+-- the moments at which events were taken
 abbrev pub moments : List Act → List ℕ
 moments acts = flat_map moments_of acts
 
+-- all that was carried out
 abbrev pub outcomes : List Act → List Outcome
 outcomes acts = flat_map outcomes_of acts
 
@@ -159,6 +183,7 @@ pub record Telling : Type 0 where
   pub filings : Option (List Filing)
   pub given : Option (List ℕ)
 
+-- what the wire tells of receives and sends, then what the launcher, the printer, the outlet and the clock tell
 abbrev pub telling : Option (List Arrival) → Option (List Packet) → Option (List Asked) → Option (List Print) → Option (List Filing) → Option (List ℕ) → Telling
 telling r s a p f c = record { received = r; sent = s; asked = a; prints = p; filings = f; given = c }
 
@@ -187,6 +212,7 @@ folded s es [] = s
 folded s [] (m ∷ ms) = s
 folded s (e ∷ es) (m ∷ ms) = folded (after_event m e s) es ms
 
+-- what goes out of that, in order
 abbrev pub folded_outputs : Plain → List Event → List ℕ → List Output
 folded_outputs s es [] = []
 folded_outputs s [] (m ∷ ms) = []

@@ -5,6 +5,7 @@ ghost use Rattle.nqs_state.specs.State.{Plain};
 ghost use Rattle.nqs_types.specs.declared.world.Which.{Which};
 ghost use Rattle.nqs_outside.specs.Causes.{Rose};
 ghost use Rattle.nqs_node.specs.Nodes.{content_of, disk_of, is_stopped, Tells};
+ghost use Rattle.nqs_records.specs.Values.{IsHost};
 ghost use Rattle.nqs_store.specs.Sound.{IsSoundHost};
 ghost use Rattle.nqs_serve.specs.Events.{Here};
 ghost use Rattle.nqs_serve.specs.Runs.{Act, Turn, idle, telling, Ran};
@@ -87,6 +88,7 @@ fn turn<D: Disk, W: Wire, L: Launcher, P: Printer, O: Outlet, C: Clock>(
 ) -> Result<bool, Fault>
     requires sound { IsSoundHost (content_of node.old) }
     requires running { is_stopped node.old ≡ false }
+    requires host { IsHost me }
     ensures sound { IsSoundHost (content_of node.new) }
     ensures site { (content_of node.new).site ≡ (content_of node.old).site }
     ensures running { OnOk result (is_stopped node.new ≡ false) }
@@ -145,6 +147,7 @@ fn turns_in<D: Disk, W: Wire, L: Launcher, P: Printer, O: Outlet, C: Clock>(
 ) -> ServeEnd
     requires sound { IsSoundHost (content_of node.old) }
     requires running { is_stopped node.old ≡ false }
+    requires host { IsHost me }
     ensures sound { IsSoundHost (content_of node.new) }
     ensures site { (content_of node.new).site ≡ (content_of node.old).site }
     ensures run { (s : Plain) (here : Here) → Knows node.old s → here ≡ record { me = me; site = (content_of node.old).site } → (acts : List Act) × (t : Turn) × (more : List ℕ)

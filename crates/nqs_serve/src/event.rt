@@ -8,6 +8,7 @@ ghost use Rattle.nqs_rules.specs.Sane.{is_sane_event};
 ghost use Rattle.nqs_rules.specs.World.{is_shutdown, shuts_down};
 ghost use Rattle.nqs_outside.specs.Asked.{came};
 ghost use Rattle.nqs_serve.specs.Events.{Here, line_in, command_of, are_of_site, is_for, event_by, event_of, event_in, at_moment};
+ghost use Rattle.nqs_serve.specs.Sends.{is_right_event};
 
 use nqs_access::{may_command, rank};
 use nqs_lines::laws::{edits_are_sane, lists_and_deletions_are_sane, submissions_are_sane};
@@ -133,6 +134,7 @@ pub(crate) fn event_in(
 ) -> Result<Option<Event>, Memory>
     ensures event { IfOk result (λ event. event ≡ event_in (record { me = me; site = site.now }) (came bytes.now)) }
     ensures sane { IfOk result (λ event. IfSome event (λ e. IsTrue (is_sane_event (length site.now) e))) }
+    ensures right { IfOk result (λ event. IfSome event (λ e. IsTrue (is_right_event (length site.now) e))) }
 {
     if bytes.len() > LONGEST {
         return Ok(None);

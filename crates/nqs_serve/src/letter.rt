@@ -1,13 +1,17 @@
 //! What is sent: the datagrams of outputs are spelled before anything goes out.
 
-ghost use Rattle.std.specs.Prelude.{◌≡◌, ◌++◌, IfOk, OnOk, map, length};
+ghost use Rattle.std.specs.Prelude.{◌≡◌, ◌++◌, IfOk, OnOk, IsTrue, map, length};
+ghost use Rattle.nqs_codec.specs.Takes.{IsLong};
+ghost use Rattle.nqs_records.specs.Values.{IsHost};
+ghost use Rattle.nqs_packets.specs.Values.{MaySend};
+ghost use Rattle.nqs_serve.specs.Sends.{is_right_id, is_right_message, is_right_output, AreRight};
 ghost use Rattle.nqs_serve.specs.Events.{Here};
 ghost use Rattle.nqs_serve.specs.Letters.{is_answered, cut_text, posted, letter_of};
 ghost use Rattle.nqs_types.specs.declared.event.Output.TheVariants as out;
 ghost use Rattle.nqs_types.specs.declared.message.Body.TheVariants as body;
 ghost use Rattle.nqs_rules.specs.Transcript.{reply_text};
 
-use crate::limits::may_send;
+use crate::said::{is_short, may_be_sent};
 use crate::text::cut_text;
 use nqs_outside::Address;
 use nqs_packets::write_message;
@@ -25,16 +29,27 @@ pub(crate) struct Letter {
 
 // The datagram of a message.
 fn post(alloc: Global, to: Address, message: &Message) -> Result<Option<Letter>, Memory>
+    requires { MaySend message.now }
     ensures { IfOk result (λ l. l ≡ Some (posted to message.now)) }
 {
-    // What a host says may be sent. Else nothing is.
-    if !may_send(message) {
-        return Err(Memory);
-    }
     let mut bytes = Vec::new(alloc);
     write_message(alloc, message, &mut bytes)?;
     let bytes = Bytes::from_vec(bytes);
     Ok(Some(Letter { to, bytes }))
+}
+
+// What a host says to a host.
+fn word(alloc: Global, message: &Message) -> Result<Option<Letter>, Memory>
+    requires { IsTrue (is_right_message 16 message.now) }
+    ensures { IfOk result (λ l. l ≡ Some (posted (Address.Host message.now.to) message.now)) }
+{
+    // No clause of a node says how long the script or output is that it read back. Where it is longer than what may be
+    // kept, the disk gave something else, and nothing goes out.
+    if !is_short(&message.body) {
+        return Err(Memory);
+    }
+    may_be_sent(message);
+    post(alloc, Address::Host(message.to), message)
 }
 
 // Whether what was asked for is done.
@@ -51,7 +66,8 @@ fn is_answered(reply: &Reply) -> bool
 
 // The text of a reply, as it fits a datagram.
 fn text_of(alloc: Global, site: &[Name], reply: &Reply) -> Result<Bytes, Memory>
-    ensures { IfOk result (λ text. text ≡ cut_text (reply_text site.now reply.now)) }
+    ensures text { IfOk result (λ text. text ≡ cut_text (reply_text site.now reply.now)) }
+    ensures short { IfOk result (λ text. IsLong text) }
 {
     let mut text = Vec::new(alloc);
     print_reply(alloc, reply, site, &mut text)?;
@@ -68,6 +84,7 @@ fn answer(
     token: u64,
     reply: &Reply,
 ) -> Result<Option<Letter>, Memory>
+    requires { IsHost me }
     ensures { IfOk result (λ l. l ≡ letter_of (record { me = me; site = site.now }) (out.Reply port token reply.now)) }
 {
     let text = text_of(alloc, site, reply)?;
@@ -92,6 +109,8 @@ fn acknowledgement(
     id: RequestId,
     start: u16,
 ) -> Result<Option<Letter>, Memory>
+    requires host { IsHost me }
+    requires id { IsTrue (is_right_id 16 id) }
     ensures { IfOk result (λ l. l ≡ Some (posted (Address.Client port) (record { from = me; to = me; body = body.EndedAck id start }))) }
 {
     let message = Message {
@@ -109,11 +128,13 @@ fn letter_of(
     site: &[Name],
     output: &Output,
 ) -> Result<Option<Letter>, Memory>
+    requires host { IsHost me }
+    requires right { IsTrue (is_right_output 16 output.now) }
     ensures { IfOk result (λ l. l ≡ letter_of (record { me = me; site = site.now }) output.now) }
 {
     match output {
         Output::Reply { port, token, reply } => answer(alloc, me, site, *port, *token, reply),
-        Output::Send(message) => post(alloc, Address::Host(message.to), message),
+        Output::Send(message) => word(alloc, message),
         Output::Ack { port, id, start } => acknowledgement(alloc, me, *port, *id, *start),
         Output::Launch { .. } => Ok(None),
         Output::Print { .. } => Ok(None),
@@ -133,6 +154,8 @@ pub(crate) fn letters_of(
     site: &[Name],
     outputs: &[Output],
 ) -> Result<Vec<Option<Letter>>, Memory>
+    requires host { IsHost me }
+    requires right { AreRight 16 outputs.now }
     ensures { IfOk result (λ letters. letters.items ≡ map (letter_of (record { me = me; site = site.now })) outputs.now) }
 {
     let mut letters = Vec::new(alloc);

@@ -12,8 +12,8 @@ mod daemon;
 mod event;
 pub mod laws;
 mod letter;
-mod limits;
 mod receive;
+mod said;
 mod take;
 mod text;
 

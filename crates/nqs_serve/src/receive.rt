@@ -6,6 +6,7 @@ ghost use Rattle.nqs_outside.specs.Told.{Extends};
 ghost use Rattle.nqs_outside.specs.Asked.{Arrival};
 ghost use Rattle.nqs_rules.specs.Sane.{is_sane_event};
 ghost use Rattle.nqs_serve.specs.Events.{Here, event_in};
+ghost use Rattle.nqs_serve.specs.Sends.{is_right_event};
 
 use crate::event::event_in;
 use nqs_outside::{Received, Wire};
@@ -32,6 +33,7 @@ pub(crate) fn receive<W: Wire>(
     ensures came { IfOk result (λ event. (arrival : Arrival) × (event ≡ event_in (record { me = me; site = site.now }) arrival)
         × Extends (W.received wire.old) (W.received wire.new) (arrival ∷ [])) }
     ensures sane { IfOk result (λ event. IfSome event (λ e. IsTrue (is_sane_event (length site.now) e))) }
+    ensures right { IfOk result (λ event. IfSome event (λ e. IsTrue (is_right_event (length site.now) e))) }
     ensures cut { IsErrOf result Missed.Memory → (arrival : Arrival) × Extends (W.received wire.old) (W.received wire.new) (arrival ∷ []) }
     ensures lost { IsErrOf result Missed.Wire → Extends (W.received wire.old) (W.received wire.new) [] × Rose (W.receive_faults wire.old) (W.receive_faults wire.new) }
     ensures sent { Extends (W.sent wire.old) (W.sent wire.new) [] }

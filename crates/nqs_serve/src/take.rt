@@ -15,11 +15,13 @@ ghost use Rattle.nqs_outside.specs.Causes.{Rose};
 ghost use Rattle.nqs_back.specs.Back.{comebacks, comes_back};
 ghost use Rattle.nqs_node.specs.Carried.{started};
 ghost use Rattle.nqs_node.specs.Nodes.{content_of, disk_of, is_stopped};
+ghost use Rattle.nqs_records.specs.Values.{IsHost};
 ghost use Rattle.nqs_store.specs.Sound.{IsSoundHost};
 ghost use Rattle.nqs_serve.specs.Events.{Here, at_moment};
 ghost use Rattle.nqs_serve.specs.Steps.{said, stepped, after_event, outputs};
 ghost use Rattle.nqs_serve.specs.Runs.{Act, took, Outcome, Turn, turn, idle, outputs_in, brought_back, event_back, arrivals, telling, Grew, Ran};
 ghost use Rattle.nqs_serve.specs.Nodes.{Knows};
+ghost use Rattle.nqs_serve.specs.Sends.{is_right_event, AreRight};
 ghost use Rattle.nqs_serve.specs.Ends.{IsWithin, IsCut, IsCutAt};
 
 use crate::carry::carry;
@@ -43,9 +45,12 @@ fn take<D: Disk>(
     requires sound { IsSoundHost (content_of node.old) }
     requires running { is_stopped node.old ≡ false }
     requires sane { IsTrue (is_sane_event (length (content_of node.old).site) event.now) }
+    requires right { IsTrue (is_right_event (length (content_of node.old).site) event.now) }
+    requires said { AreRight 16 out.old.items }
     ensures sound { IsSoundHost (content_of node.new) }
     ensures site { (content_of node.new).site ≡ (content_of node.old).site }
     ensures running { OnOk result (is_stopped node.new ≡ false) }
+    ensures right { OnOk result (AreRight 16 out.new.items) }
     ensures told { (s : Plain) → Knows node.old s → OnOk result (Knows node.new (after_step (step event.now s) s) × (out.new.items ≡ out.old.items ++ said (step event.now s))) }
     ensures memory { (s : Plain) → Knows node.old s → IsErrOf result Cut.Memory → Knows node.new s }
     ensures no_more { IsTrue (comes_back event.now) → OnOk result (starts_left (content_of node.new) ≤ starts_left (content_of node.old)) }
@@ -70,9 +75,11 @@ fn start<D: Disk>(
 ) -> Result<bool, Cut>
     requires sound { IsSoundHost (content_of node.old) }
     requires running { is_stopped node.old ≡ false }
+    requires said { AreRight 16 out.old.items }
     ensures sound { IsSoundHost (content_of node.new) }
     ensures site { (content_of node.new).site ≡ (content_of node.old).site }
     ensures running { OnOk result (is_stopped node.new ≡ false) }
+    ensures right { OnOk result (AreRight 16 out.new.items) }
     ensures more { (s : Plain) → Knows node.old s → IfOk result (λ more. more ≡ is_some (start now s)) }
     ensures told { (s : Plain) → Knows node.old s → OnOk result (Knows node.new (after_step (started now s) s) × (out.new.items ≡ out.old.items ++ said (started now s))) }
     ensures memory { (s : Plain) → Knows node.old s → IsErrOf result Cut.Memory → Knows node.new s }
@@ -99,9 +106,11 @@ fn settle<D: Disk>(
 ) -> Result<(), Cut>
     requires sound { IsSoundHost (content_of node.old) }
     requires running { is_stopped node.old ≡ false }
+    requires said { AreRight 16 out.old.items }
     ensures sound { IsSoundHost (content_of node.new) }
     ensures site { (content_of node.new).site ≡ (content_of node.old).site }
     ensures running { OnOk result (is_stopped node.new ≡ false) }
+    ensures right { OnOk result (AreRight 16 out.new.items) }
     ensures told { (s : Plain) → Knows node.old s → OnOk result (Knows node.new (after_starts (starts now s) s) × (out.new.items ≡ out.old.items ++ flat_map said (starts now s))) }
     ensures memory { (s : Plain) → Knows node.old s → IsErrOf result Cut.Memory → (xs ys : List (Stepped (List ℕ))) × (starts now s ≡ xs ++ ys) × Knows node.new (after_starts xs s) }
     ensures fewer { OnOk result (starts_left (content_of node.new) + comebacks out.new.items ≤ starts_left (content_of node.old) + comebacks out.old.items) }
@@ -128,9 +137,12 @@ fn take_whole<D: Disk>(
     requires sound { IsSoundHost (content_of node.old) }
     requires running { is_stopped node.old ≡ false }
     requires sane { IsTrue (is_sane_event (length (content_of node.old).site) event.now) }
+    requires right { IsTrue (is_right_event (length (content_of node.old).site) event.now) }
+    requires said { AreRight 16 out.old.items }
     ensures sound { IsSoundHost (content_of node.new) }
     ensures site { (content_of node.new).site ≡ (content_of node.old).site }
     ensures running { OnOk result (is_stopped node.new ≡ false) }
+    ensures right { OnOk result (AreRight 16 out.new.items) }
     ensures told { (s : Plain) (e : Happening) → Knows node.old s → event.now ≡ at_moment now e
         → OnOk result (Knows node.new (after_event now e s) × (out.new.items ≡ out.old.items ++ outputs now e s)) }
     ensures memory { (s : Plain) (e : Happening) → Knows node.old s → event.now ≡ at_moment now e → IsErrOf result Cut.Memory → (u : Plain) × Knows node.new u × IsWithin now e s u }
@@ -161,7 +173,9 @@ pub(crate) fn take_event<D: Disk, W: Wire, L: Launcher, P: Printer, O: Outlet, C
 ) -> Result<(), Cut>
     requires sound { IsSoundHost (content_of node.old) }
     requires running { is_stopped node.old ≡ false }
+    requires host { IsHost me }
     requires sane { IsTrue (is_sane_event (length (content_of node.old).site) event.old) }
+    requires right { IsTrue (is_right_event (length (content_of node.old).site) event.old) }
     ensures sound { IsSoundHost (content_of node.new) }
     ensures site { (content_of node.new).site ≡ (content_of node.old).site }
     ensures running { OnOk result (is_stopped node.new ≡ false) }
@@ -226,6 +240,7 @@ pub(crate) fn take_back<D: Disk, W: Wire, L: Launcher, P: Printer, O: Outlet, C:
 ) -> Result<(), Cut>
     requires sound { IsSoundHost (content_of node.old) }
     requires running { is_stopped node.old ≡ false }
+    requires host { IsHost me }
     ensures sound { IsSoundHost (content_of node.new) }
     ensures site { (content_of node.new).site ≡ (content_of node.old).site }
     ensures running { OnOk result (is_stopped node.new ≡ false) }

@@ -22,7 +22,8 @@ fn lines_end(text: &[u8]) -> usize
 
 /// Cuts a text above 48,000 bytes behind its last whole line within them, and says so.
 pub(crate) fn cut_text(text: &mut Vec<u8>) -> Result<(), Memory>
-    ensures { OnOk result (text.new.items ≡ cut_text text.old.items) }
+    ensures text { OnOk result (text.new.items ≡ cut_text text.old.items) }
+    ensures short { OnOk result (length text.new.items ≤ 48_006) }
 {
     if text.len() <= LONGEST {
         return Ok(());

@@ -1,10 +1,13 @@
-use Rattle.std.proofs.Common.{refl, ap, sym, [], inl, arith}
+use Rattle.std.proofs.Common.{refl, ap, sym, subst, [], inl, arith}
 use Rattle.nqs_types.specs.declared.ids.HostId.{HostId}
 use Rattle.nqs_node.specs.Nodes.{content_of}
 use Rattle.nqs_serve.specs.Events.{Here}
 use Rattle.nqs_serve.specs.Runs.{idle}
 use Rattle.nqs_serve.specs.Nodes.{here_of}
 use Rattle.nqs_serve.proofs.Acts.{ran_none}
+use Rattle.nqs_serve.proofs.Sendable.{me_is_host}
+use Rattle.nqs_records.specs.Values.{IsHost}
+use Rattle.nqs_store.specs.Told.{Host}
 use Rattle.nqs_serve.proofs.daemon.serve.Goals as goal
 
 pub returns-in_default-clause-run : goal.returns-in_default-clause-run
@@ -20,3 +23,6 @@ pub returns-clause-run : goal.returns-clause-run
 returns-clause-run g c = λ tells s told.
     let at : HostId → Here = λ me. record { me = me; site = (content_of c.args.node.now).site } in
     c.turns_in.ensures.run s (here_of c.args.node.now) (tells, told) (ap at (sym (ap (λ h. h.me) c.state.ensures)))
+
+pub turns_in-requires-clause-host : goal.turns_in-requires-clause-host
+turns_in-requires-clause-host g c = subst (λ (h : Host). IsHost h.me) (sym c.state.ensures) (me_is_host (content_of c.args.node.now) c.requires.sound.order)

@@ -11,6 +11,7 @@ use Rattle.nqs_serve.specs.Ends.{Ends, Receives, stops, end_of}
 use Rattle.nqs_serve.proofs.Acts.{ran_received, ran_cut, ran_then, received_grew, missed_grew, ran_turn, turn_stops}
 use Rattle.nqs_serve.proofs.Ending.{one_receive, cut_ends, disk_cut}
 use Rattle.nqs_serve.proofs.Faults.{rose_behind, same_fault}
+use Rattle.nqs_serve.specs.Sends.{is_right_event}
 use Rattle.nqs_serve.proofs.daemon.turn.Goals as goal
 
 pub returns-in-Ok-None-clause-ok : goal.returns-in-Ok-None-clause-ok
@@ -46,6 +47,12 @@ take_event-taken-requires-clause-sane g c =
     let some : IsTrue (is_sane_event (length c.as_slice-site.result.now) c.in-Ok-Some.event) =
     subst (λ o. IfSome o (λ e. IsTrue (is_sane_event (length c.as_slice-site.result.now) e))) c.in-Ok-Some.field-0-is c.in-Ok-Some.ensures.sane in
     subst (λ (names : List (List ℕ)). IsTrue (is_sane_event (length names) c.in-Ok-Some.event)) (c.as_slice-site.ensures ∙ ap (λ h. h.site) c.state.ensures) some
+
+pub take_event-taken-requires-clause-right : goal.take_event-taken-requires-clause-right
+take_event-taken-requires-clause-right g c =
+    let some : IsTrue (is_right_event (length c.as_slice-site.result.now) c.in-Ok-Some.event) =
+    subst (λ o. IfSome o (λ e. IsTrue (is_right_event (length c.as_slice-site.result.now) e))) c.in-Ok-Some.field-0-is c.in-Ok-Some.ensures.right in
+    subst (λ (names : List (List ℕ)). IsTrue (is_right_event (length names) c.in-Ok-Some.event)) (c.as_slice-site.ensures ∙ ap (λ h. h.site) c.state.ensures) some
 
 pub returns-in-Err-clause-err : goal.returns-in-Err-clause-err
 returns-in-Err-clause-err g c = λ s here knows same.

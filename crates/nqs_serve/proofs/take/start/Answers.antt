@@ -1,5 +1,7 @@
 use Rattle.std.proofs.Common.{Err, ap, sym, ◌∙◌}
 use Rattle.nqs_serve.proofs.Known.{start_known}
+use Rattle.nqs_node.specs.Nodes.{content_of}
+use Rattle.nqs_serve.proofs.Sendable.{alike_right, start_right}
 use Rattle.nqs_serve.proofs.take.start.Goals as goal
 
 pub returns-in-Ok-clause-more : goal.returns-in-Ok-clause-more
@@ -15,3 +17,6 @@ pub returns-in-Err-Disk-clause-broken : goal.returns-in-Err-Disk-clause-broken
 returns-in-Err-Disk-clause-broken g c = λ failed.
     let broken = c.in-Err-Disk.ensures.broken c.in-Err-Disk.field-0-0 (ap Err c.in-Err-Disk.field-0-is) in
     (broken.0, (c.in-Err-Disk.field-0-0, broken.1))
+
+pub returns-in-Ok-clause-right : goal.returns-in-Ok-clause-right
+returns-in-Ok-clause-right g c = alike_right 16 _ _ _ c.in-Ok.ensures.alike c.requires.said (start_right (content_of c.args.node.now) c.requires.sound.order c.args.now)

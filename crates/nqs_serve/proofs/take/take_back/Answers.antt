@@ -8,7 +8,8 @@ use Rattle.nqs_serve.specs.Runs.{took, turn, event_back}
 use Rattle.nqs_serve.specs.declared.comeback.Comeback.{Comeback}
 use Rattle.nqs_serve.proofs.Acts.{arrivals_append, ran_none, ran_empty, took_back, cut_back}
 use Rattle.nqs_serve.proofs.Faults.{rose_behind}
-use Rattle.nqs_serve.proofs.Sane.{sane_back, is_back}
+use Rattle.nqs_serve.proofs.Sane.{sane_back, right_back, is_back}
+use Rattle.nqs_serve.specs.Sends.{is_right_event}
 use Rattle.nqs_serve.proofs.take.take_back.Goals as goal
 
 pub loop-alloc-init : goal.loop-alloc-init
@@ -25,6 +26,11 @@ pub take_event-taken-requires-clause-sane : goal.take_event-taken-requires-claus
 take_event-taken-requires-clause-sane g c =
     let hosts = length (content_of c.loop-alloc.node).site in
     ap (is_sane_event hosts) c.event_back-event.ensures ∙ sane_back hosts c.first.result
+
+pub take_event-taken-requires-clause-right : goal.take_event-taken-requires-clause-right
+take_event-taken-requires-clause-right g c =
+    let hosts = length (content_of c.loop-alloc.node).site in
+    ap (is_right_event hosts) c.event_back-event.ensures ∙ right_back hosts c.first.result
 
 pub returns-in-Err-clause-later : goal.returns-in-Err-clause-later
 returns-in-Err-clause-later g c = λ which. omega (arith, c.loop-alloc.invariant.later which, c.take_event-taken.ensures.later which)

@@ -11,7 +11,9 @@ use Rattle.nqs_serve.specs.Steps.{stepped, after_event, outputs}
 use Rattle.nqs_serve.specs.Runs.{brought_back}
 use Rattle.nqs_serve.specs.declared.comeback.Comeback.{Comeback}
 use Rattle.nqs_serve.proofs.Acts.{clock_grew, took_grew}
-use Rattle.nqs_serve.proofs.Sane.{sane_at, comes_at}
+use Rattle.nqs_serve.proofs.Sane.{sane_at, right_at, comes_at}
+use Rattle.std.specs.List.{list_all}
+use Rattle.nqs_serve.specs.Sends.{is_right_output, is_right_event}
 use Rattle.nqs_serve.proofs.take.take_event.Goals as goal
 
 pub take_whole-requires-clause-sane : goal.take_whole-requires-clause-sane
@@ -70,3 +72,14 @@ pub returns-clause-fewer : goal.returns-clause-fewer
 returns-clause-fewer g c = λ back.
     let first = c.in_default.ensures.fewer (ap comes_back c.set_moment.ensures ∙ comes_at c.now-now.result c.args.event.now ∙ back) in
     omega (arith, first, c.carry.ensures.few, ap comebacks c.clear.ensures.items, ap comebacks c.deref-2.ensures.value, ap (λ (l : List Comeback). length l) c.reserve.ensures.items)
+
+pub take_whole-requires-clause-right : goal.take_whole-requires-clause-right
+take_whole-requires-clause-right g c =
+    let hosts = length (content_of c.args.node.now).site in
+    ap (is_right_event hosts) c.set_moment.ensures ∙ right_at hosts c.now-now.result c.args.event.now ∙ c.requires.right
+
+pub take_whole-requires-clause-said : goal.take_whole-requires-clause-said
+take_whole-requires-clause-said g c = ap (list_all (is_right_output 16)) c.clear.ensures.items
+
+pub letters_of-requires-clause-right : goal.letters_of-requires-clause-right
+letters_of-requires-clause-right g c = ap (list_all (is_right_output 16)) c.deref.ensures.value ∙ c.in_default.ensures.right

@@ -1,0 +1,188 @@
+-- What goes out of a node is right, whatever bytes its disks give.
+use Rattle.std.proofs.Common.{◌≡◌, ℕ, ◌≤◌, Bool, true, ◌&&◌, nat_le, List, [], ◌∷◌, ◌++◌, map, length, Option, None, Some, refl, sym, ap, subst, ◌∙◌, arith}
+use Rattle.std.specs.List.{list_all}
+use Rattle.std.specs.Option.{IfSome}
+use Rattle.std.proofs.lemmas.Bool.{and_parts, and_from, ltb-true, lt-ltb, leb-true}
+use Rattle.std.proofs.lemmas.List.Folds.{list_all-append}
+use Rattle.nqs_values.specs.declared.extent.Extent.{Extent}
+use Rattle.nqs_types.specs.declared.ids.HostId.{HostId}
+use Rattle.nqs_types.specs.declared.message.Message.{Message}
+use Rattle.nqs_types.specs.declared.message.Body.{Body}
+use Rattle.nqs_types.specs.declared.message.Body.TheVariants.{Offer, Refused, Stage}
+use Rattle.nqs_types.specs.declared.change.Change.{Change}
+use Rattle.nqs_types.specs.declared.request.Carried.{Carried}
+use Rattle.nqs_types.specs.declared.event.Event.{Event}
+use Rattle.nqs_types.specs.declared.event.Output.{Output}
+use Rattle.nqs_types.specs.declared.event.Output.TheVariants as out
+use Rattle.nqs_state.specs.State.{State, Plain}
+use Rattle.nqs_rules.specs.Fits.{fits}
+use Rattle.nqs_rules.specs.InOrder.{IsInOrder}
+use Rattle.nqs_rules.specs.Plain.{map_row, map_promise, map_stage, map_file}
+use Rattle.nqs_rules.specs.Sane.{is_of_site, is_short_script, is_sane_id, is_sane_carried, is_sane_body, is_sane_message, is_sane_event, is_sane_change}
+use Rattle.nqs_rules.specs.Start.{start}
+use Rattle.nqs_rules.specs.Step.{step}
+use Rattle.nqs_rules.specs.Stepped.{Stepped, quiet, shown, sent_with}
+use Rattle.nqs_rules.specs.World.{sent_by}
+use Rattle.nqs_rules.proofs.FindKept.{all-mapped}
+use Rattle.nqs_rules.proofs.ListFacts.{list_all-weaker}
+use Rattle.nqs_rules.proofs.StartFits.{start_fits}
+use Rattle.nqs_rules.proofs.StateFacts.{sites_are}
+use Rattle.nqs_rules.proofs.StepFits.{Fitting}
+use Rattle.nqs_records.specs.Values.{IsHost}
+use Rattle.nqs_laws.specs.Words.{body_passes}
+use Rattle.nqs_laws.proofs.Frame.{sent_in}
+use Rattle.nqs_laws.proofs.RowTests.{AllPass}
+use Rattle.nqs_laws.proofs.Sides.{AreShort}
+use Rattle.nqs_laws.proofs.Sent.{all-true, is_fine_message, all_sent, step_fine, start_sends}
+use Rattle.nqs_back.specs.Bare.{emptied, without_bytes}
+use Rattle.nqs_node.specs.Carried.{started}
+use Rattle.nqs_serve.specs.Sends.{has_number, carries_short, bare, is_right_message, is_right_output, AreRight, is_right_event}
+use Rattle.nqs_serve.proofs.Emptied.{order_stays}
+use Rattle.nqs_serve.proofs.Right.{is_told, step_told, start_told}
+
+-- any request may be carried
+abbrev any : Carried → Bool
+any c = true
+
+module _ (hosts : ℕ) where
+  body_bare : (b : Body) → sent_with [] (sent_with [] b) ≡ sent_with [] b
+  body_bare (Offer n queue c script) = refl
+  body_bare (Stage n path bytes) = refl
+  body_bare b = refl
+
+  number_bare : (b : Body) → has_number (sent_with [] b) ≡ has_number b
+  number_bare (Offer n queue c script) = refl
+  number_bare (Stage n path bytes) = refl
+  number_bare b = refl
+
+  message_bare : (m : Message) → is_right_message hosts (bare m) ≡ is_right_message hosts m
+  message_bare m = λ j. is_of_site hosts m.to && number_bare m.body j && is_sane_message hosts (record { from = m.from; to = m.to; body = body_bare m.body j })
+
+  output_bare : (o : Output) → is_right_output hosts (without_bytes o) ≡ is_right_output hosts o
+  output_bare (out.Send m) = message_bare m
+  output_bare (out.Launch order script) = refl
+  output_bare (out.Print device order script) = refl
+  output_bare (out.File file path bytes) = refl
+  output_bare o = refl
+
+  all_bare : (os : List Output) → list_all (is_right_output hosts) (map without_bytes os) ≡ list_all (is_right_output hosts) os
+  all_bare [] = refl
+  all_bare (o ∷ os) = λ j. output_bare o j && all_bare os j
+
+  -- what went out is told but for its bytes
+  pub alike_right : (was now went : List Output) → map without_bytes now ≡ map without_bytes was ++ map without_bytes went → AreRight hosts was → AreRight hosts went → AreRight hosts now
+  alike_right was now went alike a b =
+      sym (all_bare now) ∙ ap (list_all (is_right_output hosts)) alike ∙ list_all-append (is_right_output hosts) (map without_bytes was) (map without_bytes went)
+      ∙ and_from (list_all (is_right_output hosts) (map without_bytes was)) (list_all (is_right_output hosts) (map without_bytes went)) (all_bare was ∙ a) (all_bare went ∙ b)
+
+  sane_bare : (b : Body) → is_sane_body hosts b ≡ true → is_sane_body hosts (sent_with [] b) ≡ true
+  sane_bare (Offer n queue c script) k = and_from _ true (and_parts _ (is_short_script script) k).0 refl
+  sane_bare (Stage n path bytes) k = and_from _ true (and_parts _ (is_short_script bytes) k).0 refl
+  sane_bare b k = k
+
+  right : (o : Output) → is_told hosts o ≡ true → list_all (is_fine_message hosts any) (sent_by o) ≡ true → is_right_output hosts o ≡ true
+  right (out.Send m) told sane =
+      let k = and_parts (is_sane_message hosts m) (body_passes any m.body) (and_parts (is_fine_message hosts any m) true sane).0 in
+      let q = and_parts (is_of_site hosts m.from) (is_sane_body hosts m.body) k.0 in
+      and_from (is_of_site hosts m.to && has_number m.body) (is_sane_message hosts (bare m)) told (and_from (is_of_site hosts m.from) (is_sane_body hosts (sent_with [] m.body)) q.0 (sane_bare m.body q.1))
+  right (out.Ack port id n) told sane = told
+  right o told sane = refl
+
+  rights : (os : List Output) → list_all (is_told hosts) os ≡ true → list_all (is_fine_message hosts any) (sent_in os) ≡ true → AreRight hosts os
+  rights [] told sane = refl
+  rights (o ∷ os) told sane =
+      let t = and_parts (is_told hosts o) (list_all (is_told hosts) os) told in
+      let k = and_parts (list_all (is_fine_message hosts any) (sent_by o)) (list_all (is_fine_message hosts any) (sent_in os)) (sym (list_all-append (is_fine_message hosts any) (sent_by o) (sent_in os)) ∙ sane) in
+      and_from (is_right_output hosts o) (list_all (is_right_output hosts) os) (right o t.0 k.0) (rights os t.1 k.1)
+
+-- a site has few hosts
+module _ (hosts : ℕ) (few : hosts ≤ 16) where
+  host_wider : (h : HostId) → is_of_site hosts h ≡ true → is_of_site 16 h ≡ true
+  host_wider h k = lt-ltb h.0 16 (omega (arith, few, ltb-true h.0 hosts k))
+
+  body_wider : (b : Body) → is_sane_body hosts b ≡ true → is_sane_body 16 b ≡ true
+  body_wider (Offer n queue c script) k =
+      let a = and_parts _ (is_short_script script) k in
+      let d = and_parts (nat_le 1 n && is_sane_carried c) (is_of_site hosts c.id.host) a.0 in
+      and_from _ _ (and_from _ _ d.0 (host_wider c.id.host d.1)) a.1
+  body_wider (Refused n refusal) k = k
+  body_wider (Stage n path bytes) k = k
+  body_wider b k = refl
+
+  output_wider : (o : Output) → is_right_output hosts o ≡ true → is_right_output 16 o ≡ true
+  output_wider (out.Send m) k =
+      let a = and_parts (is_of_site hosts m.to && has_number m.body) (is_sane_message hosts (bare m)) k in
+      let to = and_parts (is_of_site hosts m.to) (has_number m.body) a.0 in
+      let sane = and_parts (is_of_site hosts m.from) (is_sane_body hosts (sent_with [] m.body)) a.1 in
+      and_from _ _ (and_from _ _ (host_wider m.to to.0) to.1) (and_from _ _ (host_wider m.from sane.0) (body_wider (sent_with [] m.body) sane.1))
+  output_wider (out.Ack port id n) k = let a = and_parts (is_of_site hosts id.host) (is_sane_id id) k in and_from _ _ (host_wider id.host a.0) a.1
+  output_wider o k = refl
+
+  wider : (os : List Output) → AreRight hosts os → AreRight 16 os
+  wider os k = list_all-weaker (is_right_output hosts) (is_right_output 16) output_wider os k
+
+-- a node's state without its bytes
+
+module _ (host : State Extent) (order : IsInOrder host) where
+  abbrev hosts : ℕ
+  hosts = length host.site
+
+  abbrev s : Plain
+  s = emptied host
+
+  few : hosts ≤ 16
+  few = leb-true hosts 16 (sites_are host order.site).few
+
+  -- a message of this host comes from a host
+  pub me_is_host : IsHost host.me
+  me_is_host = host_wider hosts few host.me (sites_are host order.site).me
+
+  stays : IsInOrder s
+  stays = order_stays (λ _. []) host order
+
+  scripts : AllPass (λ r. is_short_script r.script) s
+  scripts = record {
+    rows = all-mapped (λ r. true) (λ r. is_short_script r.script) (map_row (λ _. [])) (λ r k. refl) host.rows (all-true host.rows);
+    promises = all-mapped (λ p. true) (λ p. is_short_script p.row.script) (map_promise (λ _. [])) (λ p k. refl) host.promises (all-true host.promises);
+  }
+
+  short : AreShort s
+  short = record {
+    stages = all-mapped (λ t. true) (λ t. nat_le (length t.bytes) 32768) (map_stage (λ _. [])) (λ t k. refl) host.stages (all-true host.stages);
+    files = all-mapped (λ f. true) (λ f. nat_le (length f.bytes) 32768) (map_file (λ _. [])) (λ f k. refl) host.files (all-true host.files);
+  }
+
+  -- what goes out of an event
+  pub step_right : (e : Event) → is_sane_event hosts e ≡ true → is_right_event hosts e ≡ true → AreRight 16 (map shown (step e s).outputs)
+  step_right e sane right =
+      wider hosts few (map shown (step e s).outputs) (rights hosts (map shown (step e s).outputs) (step_told s stays e right)
+      (all_sent s stays any (λ id. true) (map shown (step e s).outputs) (step_fine s stays any (λ id. true) scripts short (all-true s.rows) e sane (λ queue job script submits. refl))))
+
+  -- and of a start
+  pub start_right : (now : ℕ) → AreRight 16 (map shown (started now s).outputs)
+  start_right now = wider hosts few (map shown (started now s).outputs) (by (start now s) refl)
+    where
+      fit : (x : Stepped (List ℕ)) → start now s ≡ Some x → (c : Change (List ℕ)) → x.change ≡ Some c → fits c s ≡ true
+      fit x e c is = (subst (λ o. IfSome o (λ d. (fits d s ≡ true) × (is_sane_change d ≡ true))) is (subst (λ o. IfSome o (λ (y : Stepped (List ℕ)). Fitting s y.change)) e (start_fits now s stays))).0
+
+      by : (o : Option (Stepped (List ℕ))) → start now s ≡ o → (let x : Stepped (List ℕ) = elim o [ None ↦ quiet | Some y ↦ y ] in AreRight hosts (map shown x.outputs))
+      by None e = refl
+      by (Some x) e = rights hosts (map shown x.outputs) (start_told s stays now x e) (start_sends s stays any (λ id. true) scripts short (all-true s.rows) now x e (fit x e))
+
+-- a right message may be sent where it carries nothing too long
+
+with_what_it_carries : (n : ℕ) (b : Body) → is_sane_body n (sent_with [] b) ≡ true → carries_short b ≡ true → is_sane_body n b ≡ true
+with_what_it_carries _ (Offer n queue c script) k is_short = and_from _ _ (and_parts _ true k).0 is_short
+with_what_it_carries _ (Stage n path bytes) k is_short = and_from _ _ (and_parts _ true k).0 is_short
+with_what_it_carries _ b k is_short = k
+
+pub sane_message : (m : Message) → is_right_message 16 m ≡ true → carries_short m.body ≡ true → is_sane_message 16 m ≡ true
+sane_message m k is_short =
+    let sane = and_parts (is_of_site 16 m.from) (is_sane_body 16 (sent_with [] m.body)) (and_parts (is_of_site 16 m.to && has_number m.body) (is_sane_message 16 (bare m)) k).1 in
+    and_from _ _ sane.0 (with_what_it_carries 16 m.body sane.1 is_short)
+
+pub goes_to_host : (m : Message) → is_right_message 16 m ≡ true → IsHost m.to
+goes_to_host m k = (and_parts (is_of_site 16 m.to) (has_number m.body) (and_parts (is_of_site 16 m.to && has_number m.body) (is_sane_message 16 (bare m)) k).0).0
+
+pub has_its_number : (m : Message) → is_right_message 16 m ≡ true → has_number m.body ≡ true
+has_its_number m k = (and_parts (is_of_site 16 m.to) (has_number m.body) (and_parts (is_of_site 16 m.to && has_number m.body) (is_sane_message 16 (bare m)) k).0).1

@@ -1,0 +1,60 @@
+-- What a host of a site of so many may send, apart from how long the script or output is that it carries.
+use Rattle.std.specs.Prelude.{◌≡◌, ℕ, Bool, true, false, ◌&&◌, ◌||◌, ◌==◌, nat_le, List, []}
+use Rattle.std.specs.List.{list_all}
+use Rattle.nqs_types.specs.declared.ids.RequestId.{RequestId}
+use Rattle.nqs_types.specs.declared.message.Message.{Message}
+use Rattle.nqs_types.specs.declared.message.Body.{Body}
+use Rattle.nqs_types.specs.declared.message.Body.TheVariants.{Offer, Ready, Refused, Commit, Done, Inquire, Abort, Stage, Staged}
+use Rattle.nqs_types.specs.declared.event.Event.{Event}
+use Rattle.nqs_types.specs.declared.event.Event.TheVariants as event
+use Rattle.nqs_types.specs.declared.event.Output.{Output}
+use Rattle.nqs_types.specs.declared.event.Output.TheVariants as out
+use Rattle.nqs_rules.specs.Sane.{is_of_site, is_sane_id, is_short_script, is_sane_message}
+use Rattle.nqs_rules.specs.Stepped.{sent_with}
+
+-- what a host says to a host, under a number from 1 on
+abbrev pub has_number : Body → Bool
+has_number (Offer n _ _ _) = nat_le 1 n
+has_number (Ready n) = nat_le 1 n
+has_number (Refused n _) = nat_le 1 n
+has_number (Commit n) = nat_le 1 n
+has_number (Done n) = nat_le 1 n
+has_number (Inquire n) = nat_le 1 n
+has_number (Abort n) = nat_le 1 n
+has_number (Stage n _ _) = nat_le 1 n
+has_number (Staged n) = nat_le 1 n
+has_number _ = false
+
+-- the script or output that a message carries is short enough
+abbrev pub carries_short : Body → Bool
+carries_short (Offer _ _ _ script) = is_short_script script
+carries_short (Stage _ _ bytes) = is_short_script bytes
+carries_short _ = true
+
+-- a request of a host of the site
+abbrev pub is_right_id : ℕ → RequestId → Bool
+is_right_id hosts id = is_of_site hosts id.host && is_sane_id id
+
+-- a message without the script or output that it carries
+abbrev pub bare : Message → Message
+bare m = record { from = m.from; to = m.to; body = sent_with [] m.body }
+
+-- to a host of the site, and sane without the script or output
+abbrev pub is_right_message : ℕ → Message → Bool
+is_right_message hosts m = is_of_site hosts m.to && has_number m.body && is_sane_message hosts (bare m)
+
+-- what is sent is a right message, and what is acknowledged is a request of the site
+abbrev pub is_right_output : ℕ → Output → Bool
+is_right_output hosts (out.Send m) = is_right_message hosts m
+is_right_output hosts (out.Ack _ id _) = is_right_id hosts id
+is_right_output hosts _ = true
+
+-- all of these outputs are right
+abbrev pub AreRight : ℕ → List Output → Type 0
+AreRight hosts outputs = list_all (is_right_output hosts) outputs ≡ true
+
+-- a message comes from a host of the site under a number, and who waits for an answer names a request of the site
+abbrev pub is_right_event : ℕ → Event → Bool
+is_right_event hosts (event.Arrived _ m) = is_of_site hosts m.from && has_number m.body
+is_right_event hosts (event.Ended _ port id _ _ _ _) = port == 0 || is_right_id hosts id
+is_right_event hosts _ = true

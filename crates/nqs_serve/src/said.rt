@@ -1,0 +1,116 @@
+//! What a host says may be sent, where the script or output that it carries is short enough.
+//!
+//! The names and numbers of a message are those of its types. The functions that tell it only read them: a caller cites
+//! one by calling it.
+
+ghost use Rattle.std.specs.Prelude.{◌≡◌, IsTrue, nat_le};
+ghost use Rattle.nqs_values.specs.Name.{IsName};
+ghost use Rattle.nqs_records.specs.Values.{IsU8, IsU64, IsOpt};
+ghost use Rattle.nqs_packets.specs.Messages.{IsTypedJob, IsSaid};
+ghost use Rattle.nqs_packets.specs.Values.{IsNumber, MaySend};
+ghost use Rattle.nqs_serve.specs.Sends.{has_number, carries_short, is_right_message};
+
+use nqs_packets::what_is_sane_may_be_sent;
+use nqs_types::{Body, Job, Message};
+use nqs_values::Name;
+
+/// The longest script or output that a message carries.
+const CARRIED: usize = 32_768;
+
+/// Whether the script or output that a message carries is short enough.
+pub(crate) fn is_short(body: &Body) -> bool
+    ensures { result ≡ carries_short body.now }
+{
+    match body {
+        Body::Offer { script, .. } => script.len() <= CARRIED,
+        Body::Stage { bytes, .. } => bytes.len() <= CARRIED,
+        _ => true,
+    }
+}
+
+fn number_is_typed(number: u64)
+    requires { IsTrue (nat_le 1 number) }
+    ensures { IsNumber number }
+{}
+
+fn cause_is_typed(cause: u8)
+    ensures { IsU8 cause }
+{}
+
+fn name_is_typed(name: &Name)
+    ensures { IsName name.now }
+{
+    let _bytes = name.as_bytes();
+}
+
+fn forms_are_typed(forms: &Option<Name>)
+    ensures { IsOpt IsName forms.now }
+{
+    match forms {
+        None => {}
+        Some(name) => name_is_typed(name),
+    }
+}
+
+fn limit_is_typed(limit: Option<u64>)
+    ensures { IsOpt IsU64 limit }
+{
+    match limit {
+        None => {}
+        Some(_) => {}
+    }
+}
+
+fn job_is_typed(job: &Job)
+    ensures { IsTypedJob job.now }
+{
+    let _earliest = job.earliest;
+    name_is_typed(&job.name);
+    name_is_typed(&job.owner);
+    limit_is_typed(job.limits.cpu);
+    limit_is_typed(job.limits.memory);
+    forms_are_typed(&job.forms);
+}
+
+fn body_is_typed(body: &Body)
+    requires { IsTrue (has_number body.now) }
+    ensures { IsSaid body.now }
+{
+    match body {
+        Body::Offer {
+            number,
+            queue,
+            carried,
+            ..
+        } => {
+            number_is_typed(*number);
+            name_is_typed(queue);
+            job_is_typed(&carried.job);
+        }
+        Body::Ready { number } => number_is_typed(*number),
+        Body::Refused { number, cause } => {
+            number_is_typed(*number);
+            cause_is_typed(*cause);
+        }
+        Body::Commit { number } => number_is_typed(*number),
+        Body::Done { number } => number_is_typed(*number),
+        Body::Inquire { number } => number_is_typed(*number),
+        Body::Abort { number } => number_is_typed(*number),
+        Body::Stage { number, .. } => number_is_typed(*number),
+        Body::Staged { number } => number_is_typed(*number),
+        Body::Ask { .. } => unreachable!(),
+        Body::Answer { .. } => unreachable!(),
+        Body::Ended { .. } => unreachable!(),
+        Body::EndedAck { .. } => unreachable!(),
+    }
+}
+
+/// A message of a host that carries nothing too long may be sent.
+pub(crate) fn may_be_sent(message: &Message)
+    requires right { IsTrue (is_right_message 16 message.now) }
+    requires short { IsTrue (carries_short message.now.body) }
+    ensures { MaySend message.now }
+{
+    what_is_sane_may_be_sent();
+    body_is_typed(&message.body);
+}
