@@ -1,2 +1,6 @@
 pub mod Forms
 pub mod Parts
+pub mod Formats
+pub mod Daemons
+pub mod Runs
+pub mod Ends

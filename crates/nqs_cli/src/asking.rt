@@ -1,7 +1,14 @@
 //! The parts of `nqs` that talk to a daemon: its clients, and the shepherd of a job.
 
-ghost use Rattle.std.specs.Prelude.{◌≡◌, ◌≤◌, true, length};
+ghost use Rattle.std.specs.Prelude.{◌≡◌, ◌⊎◌, ◌≤◌, ◌∷◌, [], ℕ, None, Option, List, true, IfOk, length, map, string_bytes};
 ghost use Rattle.nqs_rules.specs.Sane.{is_of_site, is_sane_id};
+ghost use Rattle.nqs_outside.specs.Asked.{Job};
+ghost use Rattle.nqs_outside.specs.Told.{Extends};
+ghost use Rattle.nqs_outside.specs.Causes.{Rose};
+ghost use Rattle.nqs_clients.specs.Shepherd.{Shepherds};
+ghost use Rattle.nqs_clients.specs.Sides.{fed, sunk};
+ghost use Rattle.nqs_cli.specs.Parts.{WireTold, wire_of, wire_back};
+ghost use Rattle.nqs_cli.specs.Runs.{Parts as Lists, Place, IsWanting, IsUntouched, DoesClient, DoesShepherd, shepherd_parts, status_of_shepherd, without_dir, no_parts, BreaksOff};
 
 use crate::machine::Machine;
 use crate::parts::status_of_end;
@@ -12,27 +19,34 @@ use nqs_values::{Memory, Name};
 use std::alloc::Global;
 
 // The words without the folder.
-fn without_dir(alloc: Global, words: &[String]) -> Result<Vec<String>, Memory> {
-    let mut rest = Vec::new(alloc);
-    for (place, word) in words.iter().enumerate() {
-        if place != 1 {
-            rest.push(word.clone()?)?;
-        }
+fn without_dir(alloc: Global, words: &[String]) -> Result<Vec<String>, Memory>
+    ensures { IfOk result (λ rest. map (λ s. string_bytes s) rest.items ≡ without_dir (map (λ s. string_bytes s) words.now)) }
+{
+    let mut rest = words.to_vec(alloc)?;
+    if rest.len() > 1 {
+        let _ = rest.remove(1);
     }
     Ok(rest)
 }
 
 /// Asks a daemon, and writes its answer.
-pub fn ask<M: Machine, S: Source, K: Sink>(
+pub(crate) fn ask<M: Machine, S: Source, K: Sink>(
     alloc: Global,
     machine: &mut M,
     dir: &str,
     site: &[Name],
+    me: HostId,
     words: &[String],
     input: &mut S,
     out: &mut K,
 ) -> NqsStatus
-    requires { length site.now ≤ 16 }
+    requires few { length site.now ≤ 16 }
+    ensures parts { (parts : Lists) × Extends (M.lent machine.old) (M.lent machine.new) parts.lent × Extends (M.back machine.old) (M.back machine.new) parts.back
+        × (DoesClient (record { dir = dir.now; names = site.now; me = me }) (map (λ s. string_bytes s) words.now)
+        (fed S.left S.faults input.old input.new) (sunk K.taken K.faults K.stalls out.old out.new) parts result
+        ⊎ (IsWanting (M.faults machine.old) (M.faults machine.new) result × (parts ≡ no_parts)
+        × IsUntouched (fed S.left S.faults input.old input.new) (sunk K.taken K.faults K.stalls out.old out.new))) }
+    ensures later { M.faults machine.old ≤ M.faults machine.new }
 {
     let words = match without_dir(alloc, words) {
         Ok(words) => words,
@@ -48,7 +62,9 @@ pub fn ask<M: Machine, S: Source, K: Sink>(
     }
 }
 
-fn status_of_shepherd(end: ShepherdEnd) -> NqsStatus {
+fn status_of_shepherd(end: ShepherdEnd) -> NqsStatus
+    ensures { result ≡ status_of_shepherd end }
+{
     match end {
         ShepherdEnd::Told => NqsStatus::Done,
         ShepherdEnd::NoAnswer => NqsStatus::NoAnswer,
@@ -71,6 +87,13 @@ fn with_runner<M: Machine>(
     requires host { is_of_site (length site.now) host ≡ true }
     requires id { is_sane_id id ≡ true }
     requires origin { is_of_site (length site.now) id.host ≡ true }
+    ensures parts { ((port : ℕ) × (was now : WireTold) × (end : ShepherdEnd) × Extends (M.lent machine.old) (M.lent machine.new) (wire_of dir.now None port was ∷ [])
+        × Extends (M.back machine.old) (M.back machine.new) (wire_back now ∷ []) × (result ≡ status_of_shepherd end)
+        × Shepherds host port id start (M.R.runs runner.old) (M.R.runs runner.new) was.received now.received was.sent now.sent end
+        × (end ≡ ShepherdEnd.WireFault → Rose was.receive_faults now.receive_faults))
+        ⊎ (IsWanting (M.faults machine.old) (M.faults machine.new) result × (M.R.runs runner.new ≡ M.R.runs runner.old)
+        × Extends (M.lent machine.old) (M.lent machine.new) [] × Extends (M.back machine.old) (M.back machine.new) []) }
+    ensures later { M.faults machine.old ≤ M.faults machine.new }
 {
     match machine.wire(dir, None) {
         Err(end) => status_of_end(end),
@@ -83,7 +106,7 @@ fn with_runner<M: Machine>(
 }
 
 /// Runs the job of a start, and tells the daemon its end.
-pub fn tend<M: Machine>(
+pub(crate) fn tend<M: Machine>(
     alloc: Global,
     machine: &mut M,
     dir: &str,
@@ -96,6 +119,11 @@ pub fn tend<M: Machine>(
     requires host { is_of_site (length site.now) host ≡ true }
     requires id { is_sane_id id ≡ true }
     requires origin { is_of_site (length site.now) id.host ≡ true }
+    ensures parts { (parts : Lists) × Extends (M.lent machine.old) (M.lent machine.new) parts.lent × Extends (M.back machine.old) (M.back machine.new) parts.back
+        × (DoesShepherd (record { dir = dir.now; names = site.now; me = host }) id start parts result
+        ⊎ (IsWanting (M.faults machine.old) (M.faults machine.new) result
+        × ((port : ℕ) × (runs : Option (List Job)) × (told : WireTold) × BreaksOff (shepherd_parts (record { dir = dir.now; names = site.now; me = host }) port runs told) parts))) }
+    ensures later { M.faults machine.old ≤ M.faults machine.new }
 {
     match machine.runner(dir, host) {
         Err(end) => status_of_end(end),

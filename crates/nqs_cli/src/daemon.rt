@@ -1,19 +1,28 @@
 //! `nqs daemon`: a host is booted from its disks, and serves.
 
-ghost use Rattle.std.specs.Prelude.{◌≤◌, IsTrue};
+ghost use Rattle.std.specs.Prelude.{◌≡◌, ◌⊎◌, ◌≤◌, ◌<◌, ◌∷◌, [], ℕ, List, Some, true, IsTrue, IfOk, length};
+ghost use Rattle.nqs_values.specs.declared.extent.Extent.{Extent};
+ghost use Rattle.nqs_state.specs.State.{content};
+ghost use Rattle.nqs_rules.specs.Plain.{map_state};
 ghost use Rattle.nqs_types.specs.declared.world.Which.{Which};
+ghost use Rattle.nqs_outside.specs.Causes.{Rose};
 ghost use Rattle.nqs_outside.specs.History.{IsQuiet};
+ghost use Rattle.nqs_outside.specs.Told.{Extends};
 ghost use Rattle.nqs_store.specs.Disks.{histories_of};
+ghost use Rattle.nqs_cli.specs.Parts.{disks_told, wire_told};
+ghost use Rattle.nqs_cli.specs.Daemons.{Outside, outside, Daemons, is_here, daemon_parts};
+ghost use Rattle.nqs_cli.specs.Runs.{Parts as Lists, Place, IsWanting, DoesDaemon, BreaksOff};
 
+use crate::lending::{Parts, give_back, lend};
 use crate::machine::Machine;
-use crate::parts::status_of_end;
 use nqs_clients::NqsStatus;
 use nqs_node::Node;
 use nqs_outside::{Clock, Disk, Launcher, Outlet, Printer, Wire};
 use nqs_serve::{ServeEnd, serve};
+use nqs_state::HostState;
 use nqs_store::{Disks, LoadFault};
 use nqs_types::HostId;
-use nqs_values::Memory;
+use nqs_values::{Memory, Name};
 use std::alloc::Global;
 
 fn status_of_fault(fault: LoadFault) -> NqsStatus {
@@ -34,9 +43,18 @@ fn status_of_serve(end: ServeEnd) -> NqsStatus {
     }
 }
 
-// Boots the host and serves; the disks come back.
+// Whether it is this host of this site.
+fn is_here(me: HostId, names: &[Name], state: &HostState) -> bool
+    ensures { (bytes : Extent → List ℕ) → result ≡ is_here me names.now (map_state bytes (content state.now)) }
+{
+    me.0 == state.me.0 && state.site.as_slice() == names
+}
+
+// Boots the host and serves; the disks come back. Disks of another host are refused behind the boot, in which nothing runs.
 fn boot_and_serve<D: Disk + Drop, W: Wire, L: Launcher, P: Printer, O: Outlet, C: Clock>(
     alloc: Global,
+    me: HostId,
+    names: &[Name],
     disks: Disks<D>,
     wire: &mut W,
     launcher: &mut L,
@@ -46,11 +64,20 @@ fn boot_and_serve<D: Disk + Drop, W: Wire, L: Launcher, P: Printer, O: Outlet, C
     turns: u64,
 ) -> (NqsStatus, Disks<D>)
     requires quiet { IsTrue D.tells → (which : Which) → IsQuiet (histories_of D.history disks which) }
+    ensures { Daemons D.tells me names.now turns
+        (outside (disks_told D.history D.faults disks) (wire_told W.received W.sent W.receive_faults W.send_faults wire.old)
+        (L.asked launcher.old) (P.prints printer.old) (O.filings outlet.old) (C.given clock.old))
+        (outside (disks_told D.history D.faults result.1) (wire_told W.received W.sent W.receive_faults W.send_faults wire.new)
+        (L.asked launcher.new) (P.prints printer.new) (O.filings outlet.new) (C.given clock.new))
+        result.0 }
 {
     let mut said = Vec::new(alloc);
     match Node::boot(alloc, disks, &mut said) {
         Err((fault, disks)) => (status_of_fault(fault), disks),
         Ok(mut node) => {
+            if !is_here(me, names, node.state()) {
+                return (NqsStatus::NotNqs, node.close());
+            }
             let end = serve(
                 alloc, &mut node, wire, launcher, printer, outlet, clock, turns,
             );
@@ -59,147 +86,72 @@ fn boot_and_serve<D: Disk + Drop, W: Wire, L: Launcher, P: Printer, O: Outlet, C
     }
 }
 
-// The parts are asked for one after the other, each in a function that hands it back.
-
-fn with_clock<M: Machine>(
+// Serves with the parts that were handed over.
+fn serve_with<M: Machine>(
     alloc: Global,
-    machine: &mut M,
-    disks: Disks<M::D>,
-    wire: &mut M::W,
-    launcher: &mut M::L,
-    printer: &mut M::P,
-    outlet: &mut M::O,
+    me: HostId,
+    names: &[Name],
+    parts: Parts<M>,
     turns: u64,
-) -> (NqsStatus, Disks<M::D>)
-    requires quiet { IsTrue M.D.tells → (which : Which) → IsQuiet (histories_of M.D.history disks which) }
-    ensures later { M.faults machine.old ≤ M.faults machine.new }
+) -> (NqsStatus, Parts<M>)
+    requires quiet { IsTrue M.D.tells → (which : Which) → IsQuiet (histories_of M.D.history parts.disks which) }
+    ensures { Daemons M.D.tells me names.now turns
+        (outside (disks_told M.D.history M.D.faults parts.disks) (wire_told M.W.received M.W.sent M.W.receive_faults M.W.send_faults parts.wire)
+        (M.L.asked parts.launcher) (M.P.prints parts.printer) (M.O.filings parts.outlet) (M.C.given parts.clock))
+        (outside (disks_told M.D.history M.D.faults result.1.disks) (wire_told M.W.received M.W.sent M.W.receive_faults M.W.send_faults result.1.wire)
+        (M.L.asked result.1.launcher) (M.P.prints result.1.printer) (M.O.filings result.1.outlet) (M.C.given result.1.clock))
+        result.0 }
 {
-    let mut clock = machine.clock();
-    let left = boot_and_serve(
-        alloc, disks, wire, launcher, printer, outlet, &mut clock, turns,
+    let Parts {
+        disks,
+        mut wire,
+        mut launcher,
+        mut printer,
+        mut outlet,
+        mut clock,
+    } = parts;
+    let (status, disks) = boot_and_serve(
+        alloc,
+        me,
+        names,
+        disks,
+        &mut wire,
+        &mut launcher,
+        &mut printer,
+        &mut outlet,
+        &mut clock,
+        turns,
     );
-    machine.clock_back(clock);
-    left
-}
-
-fn with_outlet<M: Machine>(
-    alloc: Global,
-    machine: &mut M,
-    dir: &str,
-    me: HostId,
-    disks: Disks<M::D>,
-    wire: &mut M::W,
-    launcher: &mut M::L,
-    printer: &mut M::P,
-    turns: u64,
-) -> (NqsStatus, Disks<M::D>)
-    requires quiet { IsTrue M.D.tells → (which : Which) → IsQuiet (histories_of M.D.history disks which) }
-{
-    match machine.outlet(dir, me) {
-        Err(end) => (status_of_end(end), disks),
-        Ok(mut outlet) => {
-            let left = with_clock(
-                alloc,
-                machine,
-                disks,
-                wire,
-                launcher,
-                printer,
-                &mut outlet,
-                turns,
-            );
-            machine.outlet_back(outlet);
-            left
-        }
-    }
-}
-
-fn with_printer<M: Machine>(
-    alloc: Global,
-    machine: &mut M,
-    dir: &str,
-    me: HostId,
-    disks: Disks<M::D>,
-    wire: &mut M::W,
-    launcher: &mut M::L,
-    turns: u64,
-) -> (NqsStatus, Disks<M::D>)
-    requires quiet { IsTrue M.D.tells → (which : Which) → IsQuiet (histories_of M.D.history disks which) }
-{
-    match machine.printer(dir, me) {
-        Err(end) => (status_of_end(end), disks),
-        Ok(mut printer) => {
-            let left = with_outlet(
-                alloc,
-                machine,
-                dir,
-                me,
-                disks,
-                wire,
-                launcher,
-                &mut printer,
-                turns,
-            );
-            machine.printer_back(printer);
-            left
-        }
-    }
-}
-
-fn with_launcher<M: Machine>(
-    alloc: Global,
-    machine: &mut M,
-    dir: &str,
-    me: HostId,
-    disks: Disks<M::D>,
-    wire: &mut M::W,
-    turns: u64,
-) -> (NqsStatus, Disks<M::D>)
-    requires quiet { IsTrue M.D.tells → (which : Which) → IsQuiet (histories_of M.D.history disks which) }
-{
-    match machine.launcher(dir, me) {
-        Err(end) => (status_of_end(end), disks),
-        Ok(mut launcher) => {
-            let left = with_printer(alloc, machine, dir, me, disks, wire, &mut launcher, turns);
-            machine.launcher_back(launcher);
-            left
-        }
-    }
-}
-
-fn with_wire<M: Machine>(
-    alloc: Global,
-    machine: &mut M,
-    dir: &str,
-    me: HostId,
-    disks: Disks<M::D>,
-    turns: u64,
-) -> (NqsStatus, Disks<M::D>)
-    requires quiet { IsTrue M.D.tells → (which : Which) → IsQuiet (histories_of M.D.history disks which) }
-{
-    match machine.wire(dir, Some(me)) {
-        Err(end) => (status_of_end(end), disks),
-        Ok((mut wire, _)) => {
-            let left = with_launcher(alloc, machine, dir, me, disks, &mut wire, turns);
-            machine.wire_back(wire);
-            left
-        }
-    }
+    let parts = Parts {
+        disks,
+        wire,
+        launcher,
+        printer,
+        outlet,
+        clock,
+    };
+    (status, parts)
 }
 
 /// Serves a host for so many turns.
-pub fn daemon<M: Machine>(
+pub(crate) fn daemon<M: Machine>(
     alloc: Global,
     machine: &mut M,
     dir: &str,
+    names: &[Name],
     me: HostId,
     turns: u64,
-) -> NqsStatus {
-    match machine.disks(dir, me) {
-        Err(end) => status_of_end(end),
-        Ok(disks) => {
-            let (status, disks) = with_wire(alloc, machine, dir, me, disks, turns);
-            machine.disks_back(me, disks);
+) -> NqsStatus
+    ensures parts { (parts : Lists) × Extends (M.lent machine.old) (M.lent machine.new) parts.lent × Extends (M.back machine.old) (M.back machine.new) parts.back
+        × (DoesDaemon M.D.tells (record { dir = dir.now; names = names.now; me = me }) turns parts result
+        ⊎ (IsWanting (M.faults machine.old) (M.faults machine.new) result × ((port : ℕ) × (told : Outside) × BreaksOff (daemon_parts dir.now me port told) parts))) }
+    ensures later { M.faults machine.old ≤ M.faults machine.new }
+{
+    match lend(machine, dir, me) {
+        Err(status) => status,
+        Ok(parts) => {
+            let (status, parts) = serve_with(alloc, me, names, parts, turns);
+            give_back(machine, me, parts);
             status
         }
     }

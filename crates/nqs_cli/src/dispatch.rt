@@ -1,7 +1,11 @@
 //! All that the program does.
 
-ghost use Rattle.std.specs.Prelude.{◌≡◌, ◌≤◌, ◌<◌, true, length, IfSome};
+ghost use Rattle.std.specs.Prelude.{◌≡◌, ◌⊎◌, ◌≤◌, ◌<◌, ℕ, List, Some, true, length, map, string_bytes, IfSome};
 ghost use Rattle.nqs_rules.specs.Sane.{is_of_site, is_sane_id};
+ghost use Rattle.nqs_outside.specs.Told.{Extends};
+ghost use Rattle.nqs_clients.specs.Sides.{fed, sunk};
+ghost use Rattle.nqs_cli.specs.Parts.{Lent};
+ghost use Rattle.nqs_cli.specs.Runs.{Parts as Lists, Place, IsWanting, Tends, Asks, BreaksOff, DoesOrWants, Runs, host_of, host_named, request_named, shepherd_parts};
 
 use crate::asking::{ask, tend};
 use crate::daemon::daemon;
@@ -22,6 +26,7 @@ const LAST_NUMBER: u32 = 4_294_967_294;
 // A host of the site.
 fn host_of(site: &[Name], name: &Name) -> Option<HostId>
     requires { length site.now ≤ 16 }
+    ensures host { result ≡ host_of site.now (Some name.now) }
     ensures within { IfSome result (λ host. host.0 < length site.now) }
     ensures there { IfSome result (λ host. is_of_site (length site.now) host ≡ true) }
 {
@@ -34,6 +39,7 @@ fn host_of(site: &[Name], name: &Name) -> Option<HostId>
 // The host that a word names.
 fn host_named(site: &[Name], word: &str) -> Option<HostId>
     requires { length site.now ≤ 16 }
+    ensures host { result ≡ host_named site.now word.now }
     ensures within { IfSome result (λ host. host.0 < length site.now) }
     ensures there { IfSome result (λ host. is_of_site (length site.now) host ≡ true) }
 {
@@ -46,13 +52,11 @@ fn host_named(site: &[Name], word: &str) -> Option<HostId>
 // A request of a host of the site.
 fn request_named(site: &[Name], named: &Named) -> Option<RequestId>
     requires { length site.now ≤ 16 }
+    ensures request { result ≡ request_named site.now named.now }
     ensures sane { IfSome result (λ id. is_sane_id id ≡ true) }
     ensures there { IfSome result (λ id. is_of_site (length site.now) id.host ≡ true) }
 {
-    if named.seq == 0 {
-        return None;
-    }
-    if named.seq > LAST_NUMBER {
+    if named.seq < 1 || named.seq > LAST_NUMBER {
         return None;
     }
     match host_of(site, &named.host) {
@@ -75,6 +79,11 @@ fn tend_named<M: Machine>(
 ) -> NqsStatus
     requires few { length site.now ≤ 16 }
     requires there { is_of_site (length site.now) host ≡ true }
+    ensures parts { (parts : Lists) × Extends (M.lent machine.old) (M.lent machine.new) parts.lent × Extends (M.back machine.old) (M.back machine.new) parts.back
+        × (Tends (record { dir = dir.now; names = site.now; me = host }) (request_named site.now named.now) start parts result
+        ⊎ (IsWanting (M.faults machine.old) (M.faults machine.new) result
+        × ((all : List Lent) × Asks (record { dir = dir.now; names = site.now; me = host }) (Form.Shepherd named.now start) all × BreaksOff all parts))) }
+    ensures later { M.faults machine.old ≤ M.faults machine.new }
 {
     match request_named(site, named) {
         None => NqsStatus::BadWords,
@@ -97,23 +106,33 @@ fn run_at<M: Machine, S: Source, K: Sink>(
     requires few { length site.now ≤ 16 }
     requires within { host.0 < length site.now }
     requires there { is_of_site (length site.now) host ≡ true }
+    ensures parts { (parts : Lists) × Extends (M.lent machine.old) (M.lent machine.new) parts.lent × Extends (M.back machine.old) (M.back machine.new) parts.back
+        × DoesOrWants M.D.tells (record { dir = dir.now; names = site.now; me = host }) form (map (λ s. string_bytes s) words.now)
+        (fed S.left S.faults input.old input.new) (sunk K.taken K.faults K.stalls out.old out.new) (M.faults machine.old) (M.faults machine.new) parts result }
+    ensures later { M.faults machine.old ≤ M.faults machine.new }
 {
     match form {
         Form::Format => format(alloc, machine, dir, host, site),
-        Form::Daemon(turns) => daemon(alloc, machine, dir, host, turns),
-        Form::Client => ask(alloc, machine, dir, site, words, input, out),
+        Form::Daemon(turns) => daemon(alloc, machine, dir, site, host, turns),
+        Form::Client => ask(alloc, machine, dir, site, host, words, input, out),
         Form::Shepherd(id, start) => tend_named(alloc, machine, dir, site, host, &id, start),
     }
 }
 
-/// Does all that the program `nqs` does. The words are without the program's name.
+/// Does all that the program `nqs` does. The words are without the program's name: what is to be done, the site's folder, a
+/// host of the site, and what the form asks for behind them. Every part that the machine handed over goes back to it.
 pub fn run<M: Machine, S: Source, K: Sink>(
     alloc: Global,
     words: &[String],
     machine: &mut M,
     input: &mut S,
     out: &mut K,
-) -> NqsStatus {
+) -> NqsStatus
+    ensures parts { (parts : Lists) × Extends (M.lent machine.old) (M.lent machine.new) parts.lent × Extends (M.back machine.old) (M.back machine.new) parts.back
+        × Runs M.D.tells (map (λ s. string_bytes s) words.now)
+        (fed S.left S.faults input.old input.new) (sunk K.taken K.faults K.stalls out.old out.new) (M.faults machine.old) (M.faults machine.new) parts result }
+    ensures later { M.faults machine.old ≤ M.faults machine.new }
+{
     let Some(form) = read_form(words) else {
         return NqsStatus::BadWords;
     };

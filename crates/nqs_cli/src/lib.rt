@@ -10,6 +10,7 @@ mod dispatch;
 mod entry;
 mod form;
 mod format;
+mod lending;
 mod machine;
 mod parts;
 mod real;

@@ -24,7 +24,8 @@ pub enum MachineEnd {
 
 /// The machine. `dir` is the folder of a site; every part that was handed out is to be handed back.
 pub trait Machine {
-    ghost use Rattle.nqs_cli.specs.Parts.{Part, disks, wire, launcher, printer, outlet, runner, clock};
+    ghost use Rattle.nqs_cli.specs.Parts.{Lent, Back, disks_told, wire_told, names_of, disks_of, wire_of, launcher_of, printer_of, outlet_of, runner_of, the_clock};
+    ghost use Rattle.nqs_cli.specs.Parts.{disks_back, wire_back, launcher_back, printer_back, outlet_back, runner_back, clock_back};
 
     type D: Disk + Drop;
 
@@ -40,11 +41,11 @@ pub trait Machine {
 
     type R: Runner + Drop;
 
-    /// What the parts told as they were handed out, where it tells it. A real machine doesn't.
-    ghost lent: { Self → Option (List Part) };
+    /// What was handed out, with what it told then, where the machine tells it. A real one doesn't.
+    ghost lent: { Self → Option (List Lent) };
 
-    /// What they told as they came back.
-    ghost back: { Self → Option (List Part) };
+    /// What came back, with what it told then.
+    ghost back: { Self → Option (List Back) };
 
     /// How often a call has failed.
     ghost faults: { Self → ℕ };
@@ -53,7 +54,8 @@ pub trait Machine {
     fn site(&mut self, dir: &str) -> Result<NameList, MachineEnd>
         ensures some { IfOk result (λ site. 1 ≤ length site) }
         ensures few { IfOk result (λ site. length site ≤ 16) }
-        ensures lent { Extends (lent self.old) (lent self.new) [] }
+        ensures lent { IfOk result (λ site. Extends (lent self.old) (lent self.new) (names_of dir.now site ∷ [])) }
+        ensures none { OnErr result (Extends (lent self.old) (lent self.new) []) }
         ensures back { Extends (back self.old) (back self.new) [] }
         ensures later { faults self.old ≤ faults self.new }
         ensures failed { IsErrOf result MachineEnd.Failed → Rose (faults self.old) (faults self.new) };
@@ -61,7 +63,7 @@ pub trait Machine {
     /// The disks of a host, on which nothing is pending. No other program has them until they are handed back.
     fn disks(&mut self, dir: &str, host: HostId) -> Result<Disks<Self::D>, MachineEnd>
         ensures quiet { IsTrue Self.D.tells → IfOk result (λ part. (which : Which) → IsQuiet (histories_of Self.D.history part which)) }
-        ensures lent { IfOk result (λ part. Extends (lent self.old) (lent self.new) (disks host (histories_of Self.D.history part) ∷ [])) }
+        ensures lent { IfOk result (λ part. Extends (lent self.old) (lent self.new) (disks_of dir.now host (disks_told Self.D.history Self.D.faults part) ∷ [])) }
         ensures none { OnErr result (Extends (lent self.old) (lent self.new) []) }
         ensures back { Extends (back self.old) (back self.new) [] }
         ensures later { faults self.old ≤ faults self.new }
@@ -69,7 +71,7 @@ pub trait Machine {
 
     /// The wire of a host's daemon, or one of a client or shepherd, and its port.
     fn wire(&mut self, dir: &str, host: Option<HostId>) -> Result<(Self::W, u16), MachineEnd>
-        ensures lent { IfOk result (λ part. Extends (lent self.old) (lent self.new) (wire (Self.W.received part.0) (Self.W.sent part.0) ∷ [])) }
+        ensures lent { IfOk result (λ part. Extends (lent self.old) (lent self.new) (wire_of dir.now host part.1 (wire_told Self.W.received Self.W.sent Self.W.receive_faults Self.W.send_faults part.0) ∷ [])) }
         ensures none { OnErr result (Extends (lent self.old) (lent self.new) []) }
         ensures back { Extends (back self.old) (back self.new) [] }
         ensures later { faults self.old ≤ faults self.new }
@@ -77,7 +79,7 @@ pub trait Machine {
 
     /// What starts the jobs of a host.
     fn launcher(&mut self, dir: &str, host: HostId) -> Result<Self::L, MachineEnd>
-        ensures lent { IfOk result (λ part. Extends (lent self.old) (lent self.new) (launcher (Self.L.asked part) ∷ [])) }
+        ensures lent { IfOk result (λ part. Extends (lent self.old) (lent self.new) (launcher_of dir.now host (Self.L.asked part) ∷ [])) }
         ensures none { OnErr result (Extends (lent self.old) (lent self.new) []) }
         ensures back { Extends (back self.old) (back self.new) [] }
         ensures later { faults self.old ≤ faults self.new }
@@ -85,7 +87,7 @@ pub trait Machine {
 
     /// What feeds the devices of a host.
     fn printer(&mut self, dir: &str, host: HostId) -> Result<Self::P, MachineEnd>
-        ensures lent { IfOk result (λ part. Extends (lent self.old) (lent self.new) (printer (Self.P.prints part) ∷ [])) }
+        ensures lent { IfOk result (λ part. Extends (lent self.old) (lent self.new) (printer_of dir.now host (Self.P.prints part) ∷ [])) }
         ensures none { OnErr result (Extends (lent self.old) (lent self.new) []) }
         ensures back { Extends (back self.old) (back self.new) [] }
         ensures later { faults self.old ≤ faults self.new }
@@ -93,7 +95,7 @@ pub trait Machine {
 
     /// Where the outputs of a host's requests go.
     fn outlet(&mut self, dir: &str, host: HostId) -> Result<Self::O, MachineEnd>
-        ensures lent { IfOk result (λ part. Extends (lent self.old) (lent self.new) (outlet (Self.O.filings part) ∷ [])) }
+        ensures lent { IfOk result (λ part. Extends (lent self.old) (lent self.new) (outlet_of dir.now host (Self.O.filings part) ∷ [])) }
         ensures none { OnErr result (Extends (lent self.old) (lent self.new) []) }
         ensures back { Extends (back self.old) (back self.new) [] }
         ensures later { faults self.old ≤ faults self.new }
@@ -101,7 +103,7 @@ pub trait Machine {
 
     /// What runs a job of a host to its end.
     fn runner(&mut self, dir: &str, host: HostId) -> Result<Self::R, MachineEnd>
-        ensures lent { IfOk result (λ part. Extends (lent self.old) (lent self.new) (runner (Self.R.runs part) ∷ [])) }
+        ensures lent { IfOk result (λ part. Extends (lent self.old) (lent self.new) (runner_of dir.now host (Self.R.runs part) ∷ [])) }
         ensures none { OnErr result (Extends (lent self.old) (lent self.new) []) }
         ensures back { Extends (back self.old) (back self.new) [] }
         ensures later { faults self.old ≤ faults self.new }
@@ -109,49 +111,49 @@ pub trait Machine {
 
     /// The time.
     fn clock(&mut self) -> Self::C
-        ensures lent { Extends (lent self.old) (lent self.new) (clock (Self.C.given result) ∷ []) }
+        ensures lent { Extends (lent self.old) (lent self.new) (the_clock (Self.C.given result) ∷ []) }
         ensures back { Extends (back self.old) (back self.new) [] }
         ensures later { faults self.old ≤ faults self.new };
 
     /// Takes the disks of a host back.
     fn disks_back(&mut self, host: HostId, part: Disks<Self::D>)
-        ensures back { Extends (back self.old) (back self.new) (disks host (histories_of Self.D.history part) ∷ []) }
+        ensures back { Extends (back self.old) (back self.new) (disks_back host (disks_told Self.D.history Self.D.faults part) ∷ []) }
         ensures lent { Extends (lent self.old) (lent self.new) [] }
         ensures later { faults self.old ≤ faults self.new };
 
     /// Takes a wire back.
     fn wire_back(&mut self, part: Self::W)
-        ensures back { Extends (back self.old) (back self.new) (wire (Self.W.received part) (Self.W.sent part) ∷ []) }
+        ensures back { Extends (back self.old) (back self.new) (wire_back (wire_told Self.W.received Self.W.sent Self.W.receive_faults Self.W.send_faults part) ∷ []) }
         ensures lent { Extends (lent self.old) (lent self.new) [] }
         ensures later { faults self.old ≤ faults self.new };
 
     /// Takes a launcher back.
     fn launcher_back(&mut self, part: Self::L)
-        ensures back { Extends (back self.old) (back self.new) (launcher (Self.L.asked part) ∷ []) }
+        ensures back { Extends (back self.old) (back self.new) (launcher_back (Self.L.asked part) ∷ []) }
         ensures lent { Extends (lent self.old) (lent self.new) [] }
         ensures later { faults self.old ≤ faults self.new };
 
     /// Takes a printer back.
     fn printer_back(&mut self, part: Self::P)
-        ensures back { Extends (back self.old) (back self.new) (printer (Self.P.prints part) ∷ []) }
+        ensures back { Extends (back self.old) (back self.new) (printer_back (Self.P.prints part) ∷ []) }
         ensures lent { Extends (lent self.old) (lent self.new) [] }
         ensures later { faults self.old ≤ faults self.new };
 
     /// Takes an outlet back.
     fn outlet_back(&mut self, part: Self::O)
-        ensures back { Extends (back self.old) (back self.new) (outlet (Self.O.filings part) ∷ []) }
+        ensures back { Extends (back self.old) (back self.new) (outlet_back (Self.O.filings part) ∷ []) }
         ensures lent { Extends (lent self.old) (lent self.new) [] }
         ensures later { faults self.old ≤ faults self.new };
 
     /// Takes a runner back.
     fn runner_back(&mut self, part: Self::R)
-        ensures back { Extends (back self.old) (back self.new) (runner (Self.R.runs part) ∷ []) }
+        ensures back { Extends (back self.old) (back self.new) (runner_back (Self.R.runs part) ∷ []) }
         ensures lent { Extends (lent self.old) (lent self.new) [] }
         ensures later { faults self.old ≤ faults self.new };
 
     /// Takes a clock back.
     fn clock_back(&mut self, part: Self::C)
-        ensures back { Extends (back self.old) (back self.new) (clock (Self.C.given part) ∷ []) }
+        ensures back { Extends (back self.old) (back self.new) (clock_back (Self.C.given part) ∷ []) }
         ensures lent { Extends (lent self.old) (lent self.new) [] }
         ensures later { faults self.old ≤ faults self.new };
 }

@@ -5,7 +5,6 @@
 
 ghost use Rattle.std.specs.Prelude.{◌≡◌, ◌≤◌, [], ◌∷◌, None, length, IfOk, IsErrOf};
 ghost use Rattle.nqs_outside.specs.Told.{Extends};
-ghost use Rattle.nqs_store.specs.Disks.{histories_of};
 ghost use Rattle.nqs_outside.specs.Causes.{Rose};
 
 use crate::machine::{Machine, MachineEnd};
@@ -147,7 +146,7 @@ impl RealMachine {
 }
 
 impl Machine for RealMachine {
-    ghost use Rattle.nqs_cli.specs.Parts.{Part, disks};
+    ghost use Rattle.nqs_cli.specs.Parts.{Lent, Back, disks_told, disks_back};
 
     type D = FileDisk;
 
@@ -211,8 +210,8 @@ impl Machine for RealMachine {
     }
 
     fn disks_back(&mut self, host: HostId, part: Disks<FileDisk>)
-        ensures back { Extends {A = Part} None None (disks host (histories_of (λ _. record { start = []; calls = [] }) part) ∷ []) }
-        ensures lent { Extends {A = Part} None None [] }
+        ensures back { Extends {A = Back} None None (disks_back host (disks_told (λ _. record { start = []; calls = [] }) (λ d. d.faults) part) ∷ []) }
+        ensures lent { Extends {A = Lent} None None [] }
         ensures later { self.old.faults ≤ self.new.faults }
     {
         let _ = host;

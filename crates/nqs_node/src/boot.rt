@@ -2,7 +2,7 @@
 //!
 //! The boot is one change like any other: what is said of it is made first, then it is kept, and then made.
 
-ghost use Rattle.std.specs.Prelude.{◌≡◌, ◌⊎◌, ◌++◌, [], ℕ, Bool, List, IsTrue, IsErrOf, OnOk, OnErr, IfOk, IfErr, MatchResult, false, Some};
+ghost use Rattle.std.specs.Prelude.{◌≡◌, ◌⊎◌, ◌≤◌, ◌++◌, [], ℕ, Bool, List, IsTrue, IsErrOf, OnOk, OnErr, IfOk, IfErr, MatchResult, false, Some};
 ghost use Rattle.std.specs.List.{filter_map};
 ghost use Rattle.std.specs.Option.{option_to_list};
 ghost use Rattle.nqs_state.specs.State.{Plain, content};
@@ -96,6 +96,7 @@ fn begin<D: Disk>(
     ensures cut { IsTrue D.tells → TellsHost store.old (content state.old) → (which : Which) → IsErrOf result (LoadFault.Disk which) → IsTrue (is_starved store.new which)
         ⊎ IsCutAt (fails_of_store store.old) [] (history_of_store store.old) (history_of_store store.new) (plain_of store.old (content state.old)) (applied Boot (plain_of store.old (content state.old))) which }
     ensures fuse { IsTrue D.tells → (which : Which) (i : ℕ) → fails_of_store store.new which i ≡ fails_of_store store.old which i }
+    ensures later { (which : Which) → D.faults (store_disk_of which store.old) ≤ D.faults (store_disk_of which store.new) }
     ensures any_moment { IsTrue D.tells → TellsHost store.old (content state.old)
         → EachMoment (history_of_store store.old) (history_of_store store.new) (λ images. TellsOneOf (plain_of store.old (content state.old)) (applied Boot (plain_of store.old (content state.old))) (images First) (images Spool)) }
 {
@@ -135,7 +136,8 @@ impl<D: Disk> Node<D> {
         ensures fault { IsTrue D.tells → IfErr result (λ e. (which : Which) (place : ℕ) → e.0 ≡ LoadFault.NotNqs which place → IsLoadFault (bytes_now (histories_of D.history disks First)) (bytes_now (histories_of D.history disks Spool)) e.0) }
         ensures memory { IsTrue D.tells → IfErr result (λ e. e.0 ≡ LoadFault.Memory → (which : Which) → histories_of D.history e.1 which ≡ histories_of D.history disks which) }
 
-        // Disks that tell a host are booted, and tell the state after the boot.
+        // Disks that tell a host are booted, and tell the state after the boot. Others are not booted.
+        ensures one { IsTrue D.tells → IfOk result (λ node. (s : Plain) × IsTold (bytes_now (histories_of D.history disks First)) (bytes_now (histories_of D.history disks Spool)) s × Tells node (applied Boot s)) }
         ensures never { IsTrue D.tells → (s : Plain) → IsTold (bytes_now (histories_of D.history disks First)) (bytes_now (histories_of D.history disks Spool)) s
             → IfErr result (λ e. (which : Which) (place : ℕ) → e.0 ≡ LoadFault.NotNqs which place → ⊥) }
         ensures told { IsTrue D.tells → (s : Plain) → IsTold (bytes_now (histories_of D.history disks First)) (bytes_now (histories_of D.history disks Spool)) s → IfOk result (λ node. Tells node (applied Boot s)) }
@@ -151,6 +153,7 @@ impl<D: Disk> Node<D> {
             → IfErr result (λ e. (which : Which) → e.0 ≡ LoadFault.Disk which → IsTrue (D.starved (disk_at which e.1))
             ⊎ (IsBlown (failing_of D.fails disks which) (histories_of D.history disks which) ⊎ IsCutBy (failing_of D.fails disks) (histories_of D.history disks) (histories_of D.history e.1) (Some Boot) s which)) }
         ensures fuse { IsTrue D.tells → IfOk result (λ node. (which : Which) (i : ℕ) → fails_of node which i ≡ failing_of D.fails disks which i) }
+        ensures later { MatchResult result (λ node. (which : Which) → D.faults (disk_at which disks) ≤ D.faults (disk_of which node)) (λ e. (which : Which) → D.faults (disk_at which disks) ≤ D.faults (disk_at which e.1)) }
 
         // At each moment, whatever images the disks may leave, they tell the state before the boot or the one after it.
         ensures any_moment { IsTrue D.tells → (s : Plain) → IsTold (bytes_now (histories_of D.history disks First)) (bytes_now (histories_of D.history disks Spool)) s

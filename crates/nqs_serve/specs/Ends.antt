@@ -57,16 +57,20 @@ pub record Receives (turns : ℕ) (bs : List Bool) : Type 0 where
   pub at_most_one : length last ≤ 1
   pub few : length bs ≤ turns
 
+-- how a run ends, where a predicate says which state is told at its end
+abbrev pub EndsWith : (Plain → Type 0) → ServeEnd → ℕ → List Bool → Turn → List ℕ → Type 0
+-- the last receive brought such a shutdown, and none before it did
+EndsWith Told Shutdown turns bs t more = (t.waits ≡ []) × (more ≡ []) × Told t.state × ((before : List Bool) × (bs ≡ before ++ true ∷ []) × NoneStops before × (length bs ≤ turns))
+EndsWith Told TurnsUsed turns bs t more = (t.waits ≡ []) × (more ≡ []) × Told t.state × NoneStops bs × (length bs ≡ turns)
+-- the receive that failed is one more
+EndsWith Told WireFault turns bs t more = (t.waits ≡ []) × (more ≡ []) × Told t.state × NoneStops bs × (length bs < turns)
+EndsWith Told DiskFault turns bs t more = IsCut t more × Receives turns bs
+EndsWith Told (Memory _) turns bs t more = ((s : Plain) × Told s × IsCutAt t more s) × Receives turns bs
+
 module _ {D : Type 0} {g : disk.Ghosts D} where
-  -- how all stands where the daemon ends so: the turn, the moments that were read for nothing, and the node
+  -- the same, where the state is told by the disks of a node
   abbrev pub Ends : ServeEnd → ℕ → List Bool → Turn → List ℕ → Node D g → Type 0
-  -- the last receive brought such a shutdown, and none before it did
-  Ends Shutdown turns bs t more node = (t.waits ≡ []) × (more ≡ []) × Tells node t.state × ((before : List Bool) × (bs ≡ before ++ true ∷ []) × NoneStops before × (length bs ≤ turns))
-  Ends TurnsUsed turns bs t more node = (t.waits ≡ []) × (more ≡ []) × Tells node t.state × NoneStops bs × (length bs ≡ turns)
-  -- the receive that failed is one more
-  Ends WireFault turns bs t more node = (t.waits ≡ []) × (more ≡ []) × Tells node t.state × NoneStops bs × (length bs < turns)
-  Ends DiskFault turns bs t more node = IsCut t more × Receives turns bs
-  Ends (Memory _) turns bs t more node = ((s : Plain) × Tells node s × IsCutAt t more s) × Receives turns bs
+  Ends end turns bs t more node = EndsWith (Tells node) end turns bs t more
 
 -- what cut an event off cuts its turn off
 abbrev pub fault_of : Cut → Fault

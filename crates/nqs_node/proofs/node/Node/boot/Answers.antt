@@ -1,4 +1,5 @@
-use Rattle.std.proofs.Common.{◌⊎◌, inl, inr, ◌++◌, IsTrue, Err, [], Some, refl, sym, ap, subst, ◌∙◌}
+use Rattle.std.proofs.Common.{◌≤◌, ◌⊎◌, inl, inr, ◌++◌, IsTrue, Err, [], Some, refl, sym, ap, subst, ◌∙◌}
+use Rattle.std.proofs.Math.Nat.{le_trans}
 use Rattle.std.specs.List.{filter_map}
 use Rattle.nqs_state.specs.State.{Plain, content}
 use Rattle.nqs_types.specs.declared.change.Change.TheVariants.{Boot}
@@ -8,7 +9,9 @@ use Rattle.nqs_outside.specs.Causes.{Rose}
 use Rattle.nqs_outside.specs.History.{History, content as bytes_now}
 use Rattle.nqs_rules.specs.Applied.{applied}
 use Rattle.nqs_rules.specs.World.{boot_output}
+use Rattle.nqs_store.proofs.TellsNow.{told_by_reads}
 use Rattle.nqs_store.specs.Disks.{disk_at, histories_of, failing_of}
+use Rattle.nqs_store.specs.Images.{IsTold}
 use Rattle.nqs_store.specs.Stores.{history_of, fails_of, bytes_of, plain_of}
 use Rattle.nqs_node.specs.Carried.{IsBrokenOff, IsCutBy, IsOneOrOther}
 use Rattle.nqs_node.proofs.Places.{rose_since}
@@ -69,6 +72,27 @@ returns-in-Err-begin-clause-any_moment g c = λ yes s is.
     (c.in-Ok.ensures.fuse yes) (c.in-Ok.ensures.same yes) Boot [] (Some Boot) boot_kept
     (plain_of c.in-Ok.store (content c.in-Ok.state)) s (loaded_is c.in-Ok.store (content c.in-Ok.state) is.host (bytes_now (g.D.Disk.history (disk_at Spool c.args.disks))) s (ap bytes_now (c.in-Ok.ensures.same yes Spool)) (c.in-Ok.ensures.told yes is.payloads is.stands is.host is.tells) is.bytes)
     (c.begin.ensures.any_moment yes (c.in-Ok.ensures.tells yes)))
+
+pub returns-in-Err-begin-clause-later : goal.returns-in-Err-begin-clause-later
+returns-in-Err-begin-clause-later g c = λ which.
+    subst (λ d. g.D.Disk.faults (disk_at which c.args.disks) ≤ g.D.Disk.faults d) (sym (c.close.ensures which))
+    (le_trans (c.in-Ok.ensures.later which) (c.begin.ensures.later which))
+
+pub returns-in-Ok-begin-clause-later : goal.returns-in-Ok-begin-clause-later
+returns-in-Ok-begin-clause-later g c = λ which. le_trans (c.in-Ok.ensures.later which) (c.begin.ensures.later which)
+
+pub returns-in-Ok-begin-clause-one : goal.returns-in-Ok-begin-clause-one
+returns-in-Ok-begin-clause-one g c = λ yes.
+    let store = c.in-Ok.store in
+    let host = content c.in-Ok.state in
+    (plain_of store host,
+      subst (λ (h : Which → History). IsTold (bytes_now (h First)) (bytes_now (h Spool)) (plain_of store host)) (λ j which. c.in-Ok.ensures.same yes which j)
+      (told_by_reads store host yes (c.in-Ok.ensures.tells yes)),
+      record {
+        is = c.in-Ok-begin.ensures.plain yes (c.in-Ok.ensures.tells yes);
+        told = c.in-Ok-begin.ensures.told yes (c.in-Ok.ensures.tells yes);
+        running = refl;
+      })
 
 pub returns-in-Ok-begin-clause-told : goal.returns-in-Ok-begin-clause-told
 returns-in-Ok-begin-clause-told g c = λ yes s is. record {

@@ -1,0 +1,103 @@
+-- What `nqs daemon` does with the parts of a host: it boots the host, and serves.
+use Rattle.std.specs.Prelude.{◌≡◌, ◌⊎◌, ℕ, ◌&&◌, Bool, true, false, IsTrue, List, [], ◌∷◌}
+use Rattle.std.specs.declared.option.Option.{Option}
+use Rattle.std.specs.declared.option.Option.TheVariants.{None, Some}
+use Rattle.std.specs.Cmp.Lexicographic.{pointwise}
+use Rattle.nqs_values.specs.Same.{name_eq}
+use Rattle.nqs_state.specs.State.{Plain}
+use Rattle.nqs_types.specs.declared.change.Change.TheVariants.{Boot}
+use Rattle.nqs_types.specs.declared.ids.HostId.{HostId}
+use Rattle.nqs_types.specs.declared.world.Which.{Which}
+use Rattle.nqs_types.specs.declared.world.Which.TheVariants.{First, Spool}
+use Rattle.nqs_rules.specs.Applied.{applied}
+use Rattle.nqs_rules.specs.Tests.{same_host}
+use Rattle.nqs_outside.specs.Asked.{Asked, Print, Filing}
+use Rattle.nqs_outside.specs.Causes.{Rose}
+use Rattle.nqs_outside.specs.History.{History, content}
+use Rattle.nqs_store.specs.Faults.{IsLoadFault}
+use Rattle.nqs_store.specs.Commits.{EachImage}
+use Rattle.nqs_store.specs.Images.{IsTold}
+use Rattle.nqs_store.specs.declared.fault.LoadFault.TheVariants.{NotNqs}
+use Rattle.nqs_node.specs.Carried.{IsBrokenOff, IsOneOrOther}
+use Rattle.nqs_serve.specs.Ends.{EndsWith, stops}
+use Rattle.nqs_serve.specs.Events.{Here}
+use Rattle.nqs_serve.specs.Runs.{Act, Turn, idle, Telling, telling, Ran}
+use Rattle.nqs_serve.specs.declared.daemon.ServeEnd.{ServeEnd}
+use Rattle.nqs_serve.specs.declared.daemon.ServeEnd.TheVariants as end
+use Rattle.nqs_clients.specs.declared.status.NqsStatus.{NqsStatus}
+use Rattle.nqs_clients.specs.declared.status.NqsStatus.TheVariants.{Done, NotNqs as BadDisks, WireFault, DiskFault, TurnsUsed, Memory}
+use Rattle.nqs_cli.specs.Formats.{AreSame}
+use Rattle.nqs_cli.specs.Parts.{DisksTold, WireTold, Lent, disks_of, wire_of, launcher_of, printer_of, outlet_of, the_clock}
+
+-- what the parts of a daemon tell
+pub record Outside : Type 0 where
+  pub disks : DisksTold
+  pub wire : WireTold
+  pub asked : Option (List Asked)
+  pub prints : Option (List Print)
+  pub filings : Option (List Filing)
+  pub given : Option (List ℕ)
+
+abbrev pub outside : DisksTold → WireTold → Option (List Asked) → Option (List Print) → Option (List Filing) → Option (List ℕ) → Outside
+outside d w a p f c = record { disks = d; wire = w; asked = a; prints = p; filings = f; given = c }
+
+-- the same without the disks
+abbrev pub telling_of : Outside → Telling
+telling_of o = telling o.wire.received o.wire.sent o.asked o.prints o.filings o.given
+
+-- the parts that a daemon asks for, in order
+abbrev pub daemon_parts : List ℕ → HostId → ℕ → Outside → List Lent
+daemon_parts dir me port o =
+    disks_of dir me o.disks ∷ wire_of dir (Some me) port o.wire ∷ launcher_of dir me o.asked ∷ printer_of dir me o.prints ∷ outlet_of dir me o.filings ∷ the_clock o.given ∷ []
+
+-- the host that the disks tell, by what a read gives
+abbrev pub IsThere : DisksTold → Plain → Type 0
+IsThere d s = IsTold (content (d.histories First)) (content (d.histories Spool)) s
+
+-- whatever a stop may leave now tells this host
+abbrev pub Leaves : DisksTold → Plain → Type 0
+Leaves d s = EachImage d.histories (λ images. IsTold (images First) (images Spool) s)
+
+-- only the disks have been used
+abbrev pub IsUnasked : Outside → Outside → Type 0
+IsUnasked was now = (now.wire ≡ was.wire) × (telling_of now ≡ telling_of was)
+
+abbrev pub HasDiskFault : Outside → Outside → Type 0
+HasDiskFault was now = (which : Which) × Rose (was.disks.faults which) (now.disks.faults which)
+
+-- where a host is
+abbrev pub here_of : Plain → Here
+here_of s = record { me = s.me; site = s.site }
+
+-- it is this host of this site
+abbrev pub is_here : HostId → List (List ℕ) → Plain → Bool
+is_here me names s = same_host me s.me && pointwise name_eq s.site names
+
+-- The disks told this host of this site. It was booted, and served until so an end: a run of the daemon from the state after the boot.
+abbrev pub HasServed : Bool → HostId → List (List ℕ) → ℕ → Outside → Outside → ServeEnd → Type 0
+HasServed tells me names turns was now end = IsTrue tells → (s : Plain) × IsThere was.disks s × (is_here me names s ≡ true)
+    × ((acts : List Act) × (t : Turn) × (more : List ℕ) × Ran (here_of s) acts (idle (applied Boot s)) t more (telling_of was) (telling_of now)
+    × EndsWith (Leaves now.disks) end turns (stops (here_of s) (idle (applied Boot s)) acts) t more)
+
+-- The disks tell no host, or another, which was booted: it runs nothing, and what ran there starts again or is lost.
+abbrev pub IsNotOurs : HostId → List (List ℕ) → DisksTold → DisksTold → Type 0
+IsNotOurs me names was now =
+    ((which : Which) × (place : ℕ) × IsLoadFault (content (was.histories First)) (content (was.histories Spool)) (NotNqs which place))
+    ⊎ ((s : Plain) × IsThere was s × (is_here me names s ≡ false) × Leaves now (applied Boot s))
+
+-- The boot failed: at each moment a stop would have left the host before it or after it.
+abbrev pub HasFailed : DisksTold → DisksTold → Type 0
+HasFailed was now = IsBrokenOff was.histories now.histories (Some Boot) × ((s : Plain) → IsThere was s → IsOneOrOther was.histories now.histories (Some Boot) s)
+
+-- by its status, where the disks tell
+abbrev pub Daemons : Bool → HostId → List (List ℕ) → ℕ → Outside → Outside → NqsStatus → Type 0
+Daemons tells me names turns was now Done = HasServed tells me names turns was now end.Shutdown
+Daemons tells me names turns was now TurnsUsed = HasServed tells me names turns was now end.TurnsUsed
+Daemons tells me names turns was now WireFault =
+    HasServed tells me names turns was now end.WireFault × Rose was.wire.receive_faults now.wire.receive_faults
+Daemons tells me names turns was now DiskFault = HasDiskFault was now
+    × (HasServed tells me names turns was now end.DiskFault ⊎ (IsUnasked was now × (IsTrue tells → HasFailed was.disks now.disks)))
+Daemons tells me names turns was now (Memory memory) = HasServed tells me names turns was now (end.Memory memory)
+    ⊎ (IsUnasked was now × (IsTrue tells → AreSame was.disks.histories now.disks.histories))
+Daemons tells me names turns was now BadDisks = IsUnasked was now × (IsTrue tells → IsNotOurs me names was.disks now.disks)
+Daemons tells me names turns was now _ = ⊥

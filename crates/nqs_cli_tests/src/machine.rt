@@ -1,0 +1,278 @@
+//! A machine in memory. Its site is `alpha` alone, whose disks stay from one run to the next; the other parts are new each time.
+
+ghost use Rattle.std.specs.Prelude.{◌≡◌, ◌≤◌, ◌<◌, [], false, IfOk, IsErrOf, None, length};
+ghost use Rattle.nqs_types.specs.declared.world.Which.{Which};
+ghost use Rattle.nqs_outside.specs.Causes.{Rose};
+ghost use Rattle.nqs_outside.specs.History.{IsQuiet};
+ghost use Rattle.nqs_disk.specs.MemDisk.{history_of};
+ghost use Rattle.nqs_store.specs.Disks.{disk_at};
+
+use nqs_cli::{Machine, MachineEnd};
+use nqs_disk::MemDisk;
+use nqs_fakes::{Item, MemLauncher, MemOutlet, MemPrinter, MemRunner, MemWire};
+use nqs_outside::{Clock, RunEnd};
+use nqs_store::Disks;
+use nqs_types::HostId;
+use nqs_values::{Bytes, Items, Memory, Name, NameList, Tear};
+use std::alloc::Global;
+
+/// How many parts were handed out and came back.
+#[derive(Clone, Copy, Debug, PartialEq, Eq)]
+pub struct Count {
+    pub lent: u64,
+    pub back: u64,
+}
+
+/// The machine. It tells nothing, as a real one.
+#[derive(Drop)]
+pub struct MemMachine {
+    alloc: Global,
+    disks: Option<Disks<MemDisk>>,
+    arrivals: Items<Item>,
+    count: Count,
+    failing: u64,
+    asked: u64,
+    faults: u64,
+    /// The wire that came back last.
+    pub wire: Option<MemWire>,
+}
+
+// Disks without bytes.
+fn empty_disks(alloc: Global) -> Result<Disks<MemDisk>, Memory> {
+    let root = MemDisk::new(alloc)?;
+    let first = MemDisk::new(alloc)?;
+    let second = MemDisk::new(alloc)?;
+    let spool = MemDisk::new(alloc)?;
+    Ok(Disks {
+        root,
+        first,
+        second,
+        spool,
+    })
+}
+
+// The disks with the bytes that they have, on which nothing is pending.
+fn settled(disks: Disks<MemDisk>) -> Result<Disks<MemDisk>, Memory>
+    ensures { IfOk result (λ disks. (which : Which) → IsQuiet (history_of (disk_at which disks))) }
+{
+    let Disks {
+        root,
+        first,
+        second,
+        spool,
+    } = disks;
+    let root = root.crash(Tear::New)?;
+    let first = first.crash(Tear::New)?;
+    let second = second.crash(Tear::New)?;
+    let spool = spool.crash(Tear::New)?;
+    Ok(Disks {
+        root,
+        first,
+        second,
+        spool,
+    })
+}
+
+impl MemMachine {
+    /// A machine whose host has empty disks, and to whose wires these datagrams come. The call with this number fails, from 1
+    /// on: reading the site is the first.
+    pub fn new(alloc: Global, datagrams: &[&[u8]], failing: u64) -> Result<MemMachine, Memory> {
+        let mut arrivals = Items::new(alloc);
+        for datagram in datagrams {
+            let bytes = Vec::from_slice(alloc, datagram)?;
+            arrivals.push(Item::Datagram(Bytes::from_vec(bytes)))?;
+        }
+        Ok(MemMachine {
+            alloc,
+            disks: Some(empty_disks(alloc)?),
+            arrivals,
+            count: Count { lent: 0, back: 0 },
+            failing,
+            asked: 0,
+            faults: 0,
+            wire: None,
+        })
+    }
+
+    /// How many parts were handed out and came back.
+    pub fn count(&self) -> Count {
+        self.count
+    }
+
+    // One call more: does it fail?
+    fn ask(&mut self) -> Result<(), MachineEnd>
+        ensures later { self.old.faults ≤ self.new.faults }
+        ensures failed { IsErrOf result MachineEnd.Failed → Rose self.old.faults self.new.faults }
+    {
+        self.asked = self.asked.saturating_add(1);
+        if self.asked == self.failing {
+            self.faults = self.faults.saturating_add(1);
+            return Err(MachineEnd::Failed);
+        }
+        Ok(())
+    }
+
+    fn lend(&mut self)
+        ensures { self.new.faults ≡ self.old.faults }
+    {
+        self.count.lent = self.count.lent.saturating_add(1);
+    }
+
+    fn take_back(&mut self)
+        ensures { self.new.faults ≡ self.old.faults }
+    {
+        self.count.back = self.count.back.saturating_add(1);
+    }
+}
+
+// The names of the site.
+fn names(alloc: Global) -> Result<NameList, MachineEnd>
+    ensures { IfOk result (λ names. length names ≡ 1) }
+{
+    let Ok(alpha) = Name::read(b"alpha") else {
+        return Err(MachineEnd::Memory(Memory));
+    };
+    let mut names = NameList::new(alloc);
+    match names.push(alpha) {
+        Ok(()) => Ok(names),
+        Err(refused) => Err(MachineEnd::Memory(refused.into())),
+    }
+}
+
+/// A clock that stands still. It tells nothing.
+#[derive(Drop)]
+pub struct StoppedClock;
+
+impl Clock for StoppedClock {
+    ghost given = { λ _. None };
+
+    fn now(&mut self) -> u64 {
+        7
+    }
+}
+
+impl Machine for MemMachine {
+    ghost use Rattle.nqs_cli.specs.Parts.{Lent, Back, disks_told, disks_back};
+    ghost use Rattle.nqs_outside.specs.Told.{Extends};
+    ghost use Rattle.nqs_disk.specs.MemDisk.{faults_of};
+
+    type D = MemDisk;
+
+    type W = MemWire;
+
+    type L = MemLauncher;
+
+    type P = MemPrinter;
+
+    type O = MemOutlet;
+
+    type C = StoppedClock;
+
+    type R = MemRunner;
+
+    ghost lent = { λ _. None };
+
+    ghost back = { λ _. None };
+
+    ghost faults = { λ machine. machine.faults };
+
+    fn site(&mut self, _dir: &str) -> Result<NameList, MachineEnd> {
+        self.ask()?;
+        names(self.alloc)
+    }
+
+    fn disks(&mut self, _dir: &str, _host: HostId) -> Result<Disks<MemDisk>, MachineEnd> {
+        self.ask()?;
+        let Some(disks) = self.disks.take() else {
+            return Err(MachineEnd::Memory(Memory));
+        };
+        let disks = match settled(disks) {
+            Ok(disks) => disks,
+            Err(memory) => return Err(MachineEnd::Memory(memory)),
+        };
+        self.lend();
+        Ok(disks)
+    }
+
+    fn wire(&mut self, _dir: &str, _host: Option<HostId>) -> Result<(MemWire, u16), MachineEnd> {
+        self.ask()?;
+        self.lend();
+        let arrivals = std::mem::replace(&mut self.arrivals, Items::new(self.alloc));
+        let wire = MemWire::new(self.alloc, arrivals, Vec::new(self.alloc), Vec::new(self.alloc));
+        Ok((wire, 9))
+    }
+
+    fn launcher(&mut self, _dir: &str, _host: HostId) -> Result<MemLauncher, MachineEnd> {
+        self.ask()?;
+        self.lend();
+        Ok(MemLauncher::new(self.alloc, Vec::new(self.alloc)))
+    }
+
+    fn printer(&mut self, _dir: &str, _host: HostId) -> Result<MemPrinter, MachineEnd> {
+        self.ask()?;
+        self.lend();
+        Ok(MemPrinter::new(self.alloc, Vec::new(self.alloc)))
+    }
+
+    fn outlet(&mut self, _dir: &str, _host: HostId) -> Result<MemOutlet, MachineEnd> {
+        self.ask()?;
+        self.lend();
+        Ok(MemOutlet::new(self.alloc, Vec::new(self.alloc)))
+    }
+
+    // It answers one end: the status 0 with no output.
+    fn runner(&mut self, _dir: &str, _host: HostId) -> Result<MemRunner, MachineEnd> {
+        self.ask()?;
+        let mut ends = Items::new(self.alloc);
+        let end = RunEnd {
+            status: 0,
+            out: Bytes::from_vec(Vec::new(self.alloc)),
+            err: Bytes::from_vec(Vec::new(self.alloc)),
+        };
+        if ends.push(end).is_err() {
+            return Err(MachineEnd::Memory(Memory));
+        }
+        self.lend();
+        Ok(MemRunner::new(self.alloc, ends, Vec::new(self.alloc)))
+    }
+
+    fn clock(&mut self) -> StoppedClock {
+        self.lend();
+        StoppedClock
+    }
+
+    fn disks_back(&mut self, host: HostId, part: Disks<MemDisk>)
+        ensures back { Extends {A = Back} None None (disks_back host (disks_told history_of faults_of part) ∷ []) }
+        ensures lent { Extends {A = Lent} None None [] }
+        ensures later { self.old.faults ≤ self.new.faults }
+    {
+        let _ = host;
+        self.disks = Some(part);
+        self.take_back();
+    }
+
+    fn wire_back(&mut self, part: MemWire) {
+        self.wire = Some(part);
+        self.take_back();
+    }
+
+    fn launcher_back(&mut self, _part: MemLauncher) {
+        self.take_back();
+    }
+
+    fn printer_back(&mut self, _part: MemPrinter) {
+        self.take_back();
+    }
+
+    fn outlet_back(&mut self, _part: MemOutlet) {
+        self.take_back();
+    }
+
+    fn runner_back(&mut self, _part: MemRunner) {
+        self.take_back();
+    }
+
+    fn clock_back(&mut self, _part: StoppedClock) {
+        self.take_back();
+    }
+}
