@@ -4,7 +4,7 @@ use Rattle.std.specs.declared.option.Option.TheVariants.{None}
 use Rattle.nqs_cli.specs.Parts.{DisksTold, WireTold}
 use Rattle.nqs_cli.specs.Daemons.{Outside, outside}
 
-no_disks : DisksTold
+pub no_disks : DisksTold
 no_disks = record { histories = λ which. record { start = []; calls = [] }; faults = λ which. 0 }
 
 pub no_wire : WireTold

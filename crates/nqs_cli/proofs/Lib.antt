@@ -1,1 +1,3 @@
 pub mod Lent
+pub mod Wanting
+pub mod Serving

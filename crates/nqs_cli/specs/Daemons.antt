@@ -1,7 +1,7 @@
 -- What `nqs daemon` does with the parts of a host: it boots the host, and serves.
 use Rattle.std.specs.Prelude.{◌≡◌, ◌⊎◌, ℕ, ◌&&◌, Bool, true, false, IsTrue, List, [], ◌∷◌}
 use Rattle.std.specs.declared.option.Option.{Option}
-use Rattle.std.specs.declared.option.Option.TheVariants.{None, Some}
+use Rattle.std.specs.declared.option.Option.TheVariants.{Some}
 use Rattle.std.specs.Cmp.Lexicographic.{pointwise}
 use Rattle.nqs_values.specs.Same.{name_eq}
 use Rattle.nqs_state.specs.State.{Plain}
@@ -13,7 +13,7 @@ use Rattle.nqs_rules.specs.Applied.{applied}
 use Rattle.nqs_rules.specs.Tests.{same_host}
 use Rattle.nqs_outside.specs.Asked.{Asked, Print, Filing}
 use Rattle.nqs_outside.specs.Causes.{Rose}
-use Rattle.nqs_outside.specs.History.{History, content}
+use Rattle.nqs_outside.specs.History.{content}
 use Rattle.nqs_store.specs.Faults.{IsLoadFault}
 use Rattle.nqs_store.specs.Commits.{EachImage}
 use Rattle.nqs_store.specs.Images.{IsTold}

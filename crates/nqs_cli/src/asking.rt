@@ -1,6 +1,6 @@
 //! The parts of `nqs` that talk to a daemon: its clients, and the shepherd of a job.
 
-ghost use Rattle.std.specs.Prelude.{◌≡◌, ◌⊎◌, ◌≤◌, ◌∷◌, [], ℕ, None, Option, List, true, IfOk, length, map, string_bytes};
+ghost use Rattle.std.specs.Prelude.{◌≡◌, ◌⊎◌, ◌≤◌, ◌∷◌, [], ℕ, None, Option, List, ◌++◌, true, IfOk, OnOk, length, map, string_bytes};
 ghost use Rattle.nqs_rules.specs.Sane.{is_of_site, is_sane_id};
 ghost use Rattle.nqs_outside.specs.Asked.{Job};
 ghost use Rattle.nqs_outside.specs.Told.{Extends};
@@ -8,7 +8,7 @@ ghost use Rattle.nqs_outside.specs.Causes.{Rose};
 ghost use Rattle.nqs_clients.specs.Shepherd.{Shepherds};
 ghost use Rattle.nqs_clients.specs.Sides.{fed, sunk};
 ghost use Rattle.nqs_cli.specs.Parts.{WireTold, wire_of, wire_back};
-ghost use Rattle.nqs_cli.specs.Runs.{Parts as Lists, Place, IsWanting, IsUntouched, DoesClient, DoesShepherd, shepherd_parts, status_of_shepherd, without_dir, no_parts, BreaksOff};
+ghost use Rattle.nqs_cli.specs.Runs.{Parts as Lists, IsWanting, IsUntouched, DoesClient, DoesShepherd, shepherd_parts, status_of_shepherd, without_dir, no_parts, BreaksOff};
 
 use crate::machine::Machine;
 use crate::parts::status_of_end;
@@ -18,14 +18,29 @@ use nqs_types::{HostId, RequestId};
 use nqs_values::{Memory, Name};
 use std::alloc::Global;
 
+// Adds copies of words.
+fn push_words(list: &mut Vec<String>, words: &[String]) -> Result<(), Memory>
+    ensures { OnOk result (map (λ s. string_bytes s) list.new.items ≡ map (λ s. string_bytes s) list.old.items ++ map (λ s. string_bytes s) words.now) }
+{
+    for word in words {
+        list.push(word.clone()?)?;
+    }
+    Ok(())
+}
+
 // The words without the folder.
 fn without_dir(alloc: Global, words: &[String]) -> Result<Vec<String>, Memory>
     ensures { IfOk result (λ rest. map (λ s. string_bytes s) rest.items ≡ without_dir (map (λ s. string_bytes s) words.now)) }
 {
-    let mut rest = words.to_vec(alloc)?;
-    if rest.len() > 1 {
-        let _ = rest.remove(1);
-    }
+    let mut rest = Vec::new(alloc);
+    let Some((tool, more)) = words.split_first() else {
+        return Ok(rest);
+    };
+    rest.push(tool.clone()?)?;
+    let Some((_, more)) = more.split_first() else {
+        return Ok(rest);
+    };
+    push_words(&mut rest, more)?;
     Ok(rest)
 }
 

@@ -1,17 +1,17 @@
 //! `nqs daemon`: a host is booted from its disks, and serves.
 
-ghost use Rattle.std.specs.Prelude.{◌≡◌, ◌⊎◌, ◌≤◌, ◌<◌, ◌∷◌, [], ℕ, List, Some, true, IsTrue, IfOk, length};
+ghost use Rattle.std.specs.Prelude.{◌≡◌, ◌⊎◌, ◌≤◌, ◌<◌, ℕ, List, IsTrue};
 ghost use Rattle.nqs_values.specs.declared.extent.Extent.{Extent};
 ghost use Rattle.nqs_state.specs.State.{content};
 ghost use Rattle.nqs_rules.specs.Plain.{map_state};
 ghost use Rattle.nqs_types.specs.declared.world.Which.{Which};
-ghost use Rattle.nqs_outside.specs.Causes.{Rose};
 ghost use Rattle.nqs_outside.specs.History.{IsQuiet};
 ghost use Rattle.nqs_outside.specs.Told.{Extends};
 ghost use Rattle.nqs_store.specs.Disks.{histories_of};
 ghost use Rattle.nqs_cli.specs.Parts.{disks_told, wire_told};
 ghost use Rattle.nqs_cli.specs.Daemons.{Outside, outside, Daemons, is_here, daemon_parts};
-ghost use Rattle.nqs_cli.specs.Runs.{Parts as Lists, Place, IsWanting, DoesDaemon, BreaksOff};
+ghost use Rattle.nqs_cli.specs.Ends.{status_of_fault, status_of_serve};
+ghost use Rattle.nqs_cli.specs.Runs.{Parts as Lists, IsWanting, DoesDaemon, BreaksOff};
 
 use crate::lending::{Parts, give_back, lend};
 use crate::machine::Machine;
@@ -25,7 +25,9 @@ use nqs_types::HostId;
 use nqs_values::{Memory, Name};
 use std::alloc::Global;
 
-fn status_of_fault(fault: LoadFault) -> NqsStatus {
+fn status_of_fault(fault: LoadFault) -> NqsStatus
+    ensures { result ≡ status_of_fault fault }
+{
     match fault {
         LoadFault::Disk(_) => NqsStatus::DiskFault,
         LoadFault::NotNqs(_, _) => NqsStatus::NotNqs,
@@ -33,7 +35,9 @@ fn status_of_fault(fault: LoadFault) -> NqsStatus {
     }
 }
 
-fn status_of_serve(end: ServeEnd) -> NqsStatus {
+fn status_of_serve(end: ServeEnd) -> NqsStatus
+    ensures { result ≡ status_of_serve end }
+{
     match end {
         ServeEnd::Shutdown => NqsStatus::Done,
         ServeEnd::TurnsUsed => NqsStatus::TurnsUsed,

@@ -1,11 +1,11 @@
 //! All that the program does.
 
-ghost use Rattle.std.specs.Prelude.{◌≡◌, ◌⊎◌, ◌≤◌, ◌<◌, ℕ, List, Some, true, length, map, string_bytes, IfSome};
+ghost use Rattle.std.specs.Prelude.{◌≡◌, ◌⊎◌, ◌≤◌, ◌<◌, List, Some, true, length, map, string_bytes, IfSome};
 ghost use Rattle.nqs_rules.specs.Sane.{is_of_site, is_sane_id};
 ghost use Rattle.nqs_outside.specs.Told.{Extends};
 ghost use Rattle.nqs_clients.specs.Sides.{fed, sunk};
 ghost use Rattle.nqs_cli.specs.Parts.{Lent};
-ghost use Rattle.nqs_cli.specs.Runs.{Parts as Lists, Place, IsWanting, Tends, Asks, BreaksOff, DoesOrWants, Runs, host_of, host_named, request_named, shepherd_parts};
+ghost use Rattle.nqs_cli.specs.Runs.{Parts as Lists, IsWanting, Tends, Asks, BreaksOff, DoesOrWants, Runs, RunsAt, RunsForm, RunsWords, host_of, host_named, request_named};
 
 use crate::asking::{ask, tend};
 use crate::daemon::daemon;
@@ -18,6 +18,7 @@ use nqs_clients::NqsStatus;
 use nqs_outside::{Sink, Source};
 use nqs_types::{HostId, Named, RequestId};
 use nqs_values::Name;
+use nqs_words::name_of;
 use std::alloc::Global;
 
 /// The last number that a request may have.
@@ -43,9 +44,9 @@ fn host_named(site: &[Name], word: &str) -> Option<HostId>
     ensures within { IfSome result (λ host. host.0 < length site.now) }
     ensures there { IfSome result (λ host. is_of_site (length site.now) host ≡ true) }
 {
-    match Name::read(word.as_bytes()) {
-        Ok(name) => host_of(site, &name),
-        Err(_) => None,
+    match name_of(word.as_bytes()) {
+        Some(name) => host_of(site, &name),
+        None => None,
     }
 }
 
@@ -119,6 +120,80 @@ fn run_at<M: Machine, S: Source, K: Sink>(
     }
 }
 
+// Does what a form asks for at the host of the site that a word names.
+fn run_named<M: Machine, S: Source, K: Sink>(
+    alloc: Global,
+    form: Form,
+    words: &[String],
+    dir: &str,
+    site: &[Name],
+    name: &str,
+    machine: &mut M,
+    input: &mut S,
+    out: &mut K,
+) -> NqsStatus
+    requires { length site.now ≤ 16 }
+    ensures parts { (parts : Lists) × Extends (M.lent machine.old) (M.lent machine.new) parts.lent × Extends (M.back machine.old) (M.back machine.new) parts.back
+        × RunsAt M.D.tells dir.now site.now (host_named site.now name.now) form (map (λ s. string_bytes s) words.now)
+        (fed S.left S.faults input.old input.new) (sunk K.taken K.faults K.stalls out.old out.new) (M.faults machine.old) (M.faults machine.new) parts result }
+    ensures later { M.faults machine.old ≤ M.faults machine.new }
+{
+    match host_named(site, name) {
+        None => NqsStatus::BadWords,
+        Some(host) => run_at(alloc, form, words, dir, site, host, machine, input, out),
+    }
+}
+
+// Reads the site, and does what a form asks for.
+fn run_in<M: Machine, S: Source, K: Sink>(
+    alloc: Global,
+    form: Form,
+    words: &[String],
+    dir: &str,
+    name: &str,
+    machine: &mut M,
+    input: &mut S,
+    out: &mut K,
+) -> NqsStatus
+    ensures parts { (parts : Lists) × Extends (M.lent machine.old) (M.lent machine.new) parts.lent × Extends (M.back machine.old) (M.back machine.new) parts.back
+        × RunsForm M.D.tells dir.now name.now form (map (λ s. string_bytes s) words.now)
+        (fed S.left S.faults input.old input.new) (sunk K.taken K.faults K.stalls out.old out.new) (M.faults machine.old) (M.faults machine.new) parts result }
+    ensures later { M.faults machine.old ≤ M.faults machine.new }
+{
+    let site = match machine.site(dir) {
+        Ok(site) => site,
+        Err(end) => return status_of_end(end),
+    };
+    let names = site.as_slice();
+    run_named(alloc, form, words, dir, names, name, machine, input, out)
+}
+
+// Does what a form asks for, at the host of the site that the second and the third word name.
+fn run_form<M: Machine, S: Source, K: Sink>(
+    alloc: Global,
+    form: Form,
+    words: &[String],
+    machine: &mut M,
+    input: &mut S,
+    out: &mut K,
+) -> NqsStatus
+    ensures parts { (parts : Lists) × Extends (M.lent machine.old) (M.lent machine.new) parts.lent × Extends (M.back machine.old) (M.back machine.new) parts.back
+        × RunsWords M.D.tells (Some form) (map (λ s. string_bytes s) words.now)
+        (fed S.left S.faults input.old input.new) (sunk K.taken K.faults K.stalls out.old out.new) (M.faults machine.old) (M.faults machine.new) parts result }
+    ensures later { M.faults machine.old ≤ M.faults machine.new }
+{
+    let Some((_, more)) = words.split_first() else {
+        return NqsStatus::BadWords;
+    };
+    let Some((dir, more)) = more.split_first() else {
+        return NqsStatus::BadWords;
+    };
+    let Some((name, _)) = more.split_first() else {
+        return NqsStatus::BadWords;
+    };
+    run_in(alloc, form, words, dir, name, machine, input, out)
+}
+
 /// Does all that the program `nqs` does. The words are without the program's name: what is to be done, the site's folder, a
 /// host of the site, and what the form asks for behind them. Every part that the machine handed over goes back to it.
 pub fn run<M: Machine, S: Source, K: Sink>(
@@ -133,19 +208,8 @@ pub fn run<M: Machine, S: Source, K: Sink>(
         (fed S.left S.faults input.old input.new) (sunk K.taken K.faults K.stalls out.old out.new) (M.faults machine.old) (M.faults machine.new) parts result }
     ensures later { M.faults machine.old ≤ M.faults machine.new }
 {
-    let Some(form) = read_form(words) else {
-        return NqsStatus::BadWords;
-    };
-    let (Some(dir), Some(name)) = (words.get(1), words.get(2)) else {
-        return NqsStatus::BadWords;
-    };
-    let site = match machine.site(dir) {
-        Ok(site) => site,
-        Err(end) => return status_of_end(end),
-    };
-    let site = site.as_slice();
-    match host_named(site, name) {
+    match read_form(words) {
         None => NqsStatus::BadWords,
-        Some(host) => run_at(alloc, form, words, dir, site, host, machine, input, out),
+        Some(form) => run_form(alloc, form, words, machine, input, out),
     }
 }

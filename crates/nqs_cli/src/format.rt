@@ -78,8 +78,9 @@ fn format_empty<D: Disk>(
     names_stand(site);
     match nqs_store::format(alloc, disks, me, site) {
         Ok(()) => NqsStatus::Done,
+        Err(StoreFault::Disk(_)) => NqsStatus::DiskFault,
         Err(StoreFault::Memory) => NqsStatus::Memory(Memory),
-        Err(_) => NqsStatus::DiskFault,
+        Err(StoreFault::Stopped) => unreachable!(),
     }
 }
 

@@ -1,0 +1,62 @@
+-- How the daemon ends, by how the boot and the serving did.
+use Rattle.std.proofs.Common.{◌≡◌, inl, inr, ℕ, Bool, IsTrue, List, refl, sym, subst}
+use Rattle.nqs_state.specs.State.{Plain}
+use Rattle.nqs_types.specs.declared.ids.HostId.{HostId}
+use Rattle.nqs_types.specs.declared.world.Which.{Which}
+use Rattle.nqs_types.specs.declared.world.Which.TheVariants.{First, Spool}
+use Rattle.nqs_outside.specs.Causes.{Rose}
+use Rattle.nqs_outside.specs.History.{History, content}
+use Rattle.nqs_outside.specs.declared.disk.Disk as disk
+use Rattle.nqs_store.proofs.TellsNow.{told_now}
+use Rattle.nqs_store.specs.Commits.{EachImage}
+use Rattle.nqs_store.specs.Faults.{IsLoadFault}
+use Rattle.nqs_store.specs.Images.{IsTold}
+use Rattle.nqs_store.specs.declared.fault.LoadFault.{LoadFault}
+use Rattle.nqs_store.specs.declared.fault.LoadFault.TheVariants as load
+use Rattle.nqs_node.specs.Nodes.{content_of, history_of, Tells}
+use Rattle.nqs_node.specs.declared.node.Node.{Node}
+use Rattle.nqs_serve.specs.Ends.{EndsWith}
+use Rattle.nqs_serve.specs.Runs.{Turn}
+use Rattle.nqs_serve.specs.declared.daemon.ServeEnd.{ServeEnd}
+use Rattle.nqs_serve.specs.declared.daemon.ServeEnd.TheVariants as end
+use Rattle.nqs_clients.specs.declared.status.NqsStatus.{NqsStatus}
+use Rattle.nqs_cli.specs.Daemons.{Outside, IsUnasked, HasFailed, HasServed, HasDiskFault, Daemons}
+use Rattle.nqs_cli.specs.Ends.{status_of_fault, status_of_serve}
+use Rattle.nqs_cli.specs.Formats.{AreSame}
+
+-- whatever a stop may leave of the disks of a node tells what the node tells
+pub leaves : {D : Type 0} {g : disk.Ghosts D} (node : Node D g) (s : Plain) (k : Which → History) → IsTrue g.tells → Tells node s
+    → ((which : Which) → k which ≡ history_of node which) → EachImage k (λ images. IsTold (images First) (images Spool) s)
+leaves node s k telling tells same =
+    subst (λ (h : Which → History). EachImage h (λ images. IsTold (images First) (images Spool) s)) (λ j which. sym (same which) j)
+    (subst (λ (t : Plain). EachImage (history_of node) (λ images. IsTold (images First) (images Spool) t)) tells.is (told_now node.store (content_of node) telling tells.told))
+
+-- a run ends so where more than the state is told
+pub ends_as : (P Q : Plain → Type 0) → ((s : Plain) → P s → Q s) → (so : ServeEnd) (turns : ℕ) (bs : List Bool) (t : Turn) (more : List ℕ) → EndsWith P so turns bs t more → EndsWith Q so turns bs t more
+ends_as P Q f end.Shutdown turns bs t more e = (e.0, e.1, f t.state e.2, e.3)
+ends_as P Q f end.TurnsUsed turns bs t more e = (e.0, e.1, f t.state e.2, e.3, e.4)
+ends_as P Q f end.WireFault turns bs t more e = (e.0, e.1, f t.state e.2, e.3, e.4)
+ends_as P Q f end.DiskFault turns bs t more e = e
+ends_as P Q f (end.Memory memory) turns bs t more e = ((e.0.0, f e.0.0 e.0.1, e.0.2), e.1)
+
+module _ (tells : Bool) (me : HostId) (names : List (List ℕ)) (turns : ℕ) (was now : Outside) where
+  -- the host could not be booted
+  pub not_booted : (fault : LoadFault) (status : NqsStatus) → status ≡ status_of_fault fault → IsUnasked was now
+      → ((which : Which) → fault ≡ load.Disk which → Rose (was.disks.faults which) (now.disks.faults which))
+      → (IsTrue tells → HasFailed was.disks now.disks)
+      → (IsTrue tells → (which : Which) (place : ℕ) → fault ≡ load.NotNqs which place → IsLoadFault (content (was.disks.histories First)) (content (was.disks.histories Spool)) fault)
+      → (IsTrue tells → fault ≡ load.Memory → AreSame was.disks.histories now.disks.histories)
+      → Daemons tells me names turns was now status
+  not_booted (load.Disk which) status is unasked failed broken bad same = subst (Daemons tells me names turns was now) (sym is) ((which, failed which refl), inr (unasked, broken))
+  not_booted (load.NotNqs which place) status is unasked failed broken bad same = subst (Daemons tells me names turns was now) (sym is) (unasked, λ yes. inl (which, place, bad yes which place refl))
+  not_booted load.Memory status is unasked failed broken bad same = subst (Daemons tells me names turns was now) (sym is) (inr (unasked, λ yes. same yes refl))
+
+  -- it was, and served
+  pub has_served : (so : ServeEnd) (status : NqsStatus) → status ≡ status_of_serve so → HasServed tells me names turns was now so
+      → (so ≡ end.WireFault → Rose was.wire.receive_faults now.wire.receive_faults) → (so ≡ end.DiskFault → HasDiskFault was now)
+      → Daemons tells me names turns was now status
+  has_served end.Shutdown status is served wire disk = subst (Daemons tells me names turns was now) (sym is) served
+  has_served end.TurnsUsed status is served wire disk = subst (Daemons tells me names turns was now) (sym is) served
+  has_served end.WireFault status is served wire disk = subst (Daemons tells me names turns was now) (sym is) (served, wire refl)
+  has_served end.DiskFault status is served wire disk = subst (Daemons tells me names turns was now) (sym is) (disk refl, inl served)
+  has_served (end.Memory memory) status is served wire disk = subst (Daemons tells me names turns was now) (sym is) (inl served)

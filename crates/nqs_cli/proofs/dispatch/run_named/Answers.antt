@@ -1,0 +1,20 @@
+use Rattle.std.proofs.Common.{Option, refl, subst, map, string_bytes}
+use Rattle.nqs_types.specs.declared.ids.HostId.{HostId}
+use Rattle.nqs_outside.proofs.Told.{extends_none}
+use Rattle.nqs_clients.specs.Sides.{fed, sunk}
+use Rattle.nqs_clients.specs.declared.status.NqsStatus.TheVariants.{BadWords}
+use Rattle.nqs_cli.specs.Runs.{RunsAt, no_parts}
+use Rattle.nqs_cli.proofs.dispatch.run_named.Goals as goal
+
+pub returns-in-None-clause-parts : goal.returns-in-None-clause-parts
+returns-in-None-clause-parts g c = (
+  no_parts,
+  extends_none _,
+  extends_none _,
+  subst (λ (h : Option HostId). RunsAt g.M.D.Disk.tells c.args.dir.now c.args.site.now h c.args.form (map (λ s. string_bytes s) c.args.words.now) (fed g.S.Source.left g.S.Source.faults c.args.input.now c.args.input.now) (sunk g.K.Sink.taken g.K.Sink.faults g.K.Sink.stalls c.args.out.now c.args.out.now) (g.M.Machine.faults c.args.machine.now) (g.M.Machine.faults c.args.machine.now) no_parts BadWords) c.in-None.ensures.host (refl, refl, ((refl, refl), (refl, refl, refl))),
+)
+
+pub returns-in-Some-clause-parts : goal.returns-in-Some-clause-parts
+returns-in-Some-clause-parts g c =
+    let did = c.run_at.ensures.parts in
+    (did.0, did.1, did.2, subst (λ (h : Option HostId). RunsAt g.M.D.Disk.tells c.args.dir.now c.args.site.now h c.args.form (map (λ s. string_bytes s) c.args.words.now) (fed g.S.Source.left g.S.Source.faults c.args.input.now c.run_at.new.input) (sunk g.K.Sink.taken g.K.Sink.faults g.K.Sink.stalls c.args.out.now c.run_at.new.out) (g.M.Machine.faults c.args.machine.now) (g.M.Machine.faults c.run_at.new.machine) did.0 c.run_at.result) c.in-Some.ensures.host did.3)
