@@ -78,7 +78,10 @@ fn serves(rt: HostRuntime) -> Result<(), Fail> {
         None => false,
     };
     drop(machine);
-    assert_eq!(rt; [none, formatted, served], [end(3, 0, 6), end(0, 0, 7), end(10, 0, 13)]);
+    assert_eq!(rt;
+        [none, formatted, served],
+        [end(3, 0, 6), end(0, 0, 7), end(10, 0, 13)]
+    );
     assert!(rt; unreceived);
     Ok(())
 }
@@ -148,6 +151,9 @@ fn gives_back_what_it_has(rt: HostRuntime) -> Result<(), Fail> {
         wants(alloc, "shepherd D alpha 7.alpha 1", 2)?,
         wants(alloc, "shepherd D alpha 7.alpha 1", 3)?,
     ];
-    assert_eq!(rt; others, [end(11, 0, 0), end(11, 0, 0), end(11, 0, 0), end(11, 0, 1)]);
+    assert_eq!(rt;
+        others,
+        [end(11, 0, 0), end(11, 0, 0), end(11, 0, 0), end(11, 0, 1)]
+    );
     Ok(())
 }

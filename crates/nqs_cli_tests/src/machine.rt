@@ -198,7 +198,12 @@ impl Machine for MemMachine {
         self.ask()?;
         self.lend();
         let arrivals = std::mem::replace(&mut self.arrivals, Items::new(self.alloc));
-        let wire = MemWire::new(self.alloc, arrivals, Vec::new(self.alloc), Vec::new(self.alloc));
+        let wire = MemWire::new(
+            self.alloc,
+            arrivals,
+            Vec::new(self.alloc),
+            Vec::new(self.alloc),
+        );
         Ok((wire, 9))
     }
 

@@ -84,15 +84,16 @@ returns-in-Ok-begin-clause-later g c = λ which. le_trans (c.in-Ok.ensures.later
 pub returns-in-Ok-begin-clause-one : goal.returns-in-Ok-begin-clause-one
 returns-in-Ok-begin-clause-one g c = λ yes.
     let store = c.in-Ok.store in
-    let host = content c.in-Ok.state in
-    (plain_of store host,
+    let host = content c.in-Ok.state in (
+      plain_of store host,
       subst (λ (h : Which → History). IsTold (bytes_now (h First)) (bytes_now (h Spool)) (plain_of store host)) (λ j which. c.in-Ok.ensures.same yes which j)
-      (told_by_reads store host yes (c.in-Ok.ensures.tells yes)),
+          (told_by_reads store host yes (c.in-Ok.ensures.tells yes)),
       record {
         is = c.in-Ok-begin.ensures.plain yes (c.in-Ok.ensures.tells yes);
         told = c.in-Ok-begin.ensures.told yes (c.in-Ok.ensures.tells yes);
         running = refl;
-      })
+      },
+    )
 
 pub returns-in-Ok-begin-clause-told : goal.returns-in-Ok-begin-clause-told
 returns-in-Ok-begin-clause-told g c = λ yes s is. record {
