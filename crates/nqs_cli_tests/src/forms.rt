@@ -24,7 +24,7 @@ struct End {
     count: Count,
 }
 
-fn end(status: u8, written: usize, lent: u64) -> End {
+fn ended(status: u8, written: usize, lent: u64) -> End {
     End {
         status,
         written,
@@ -61,7 +61,7 @@ fn formats(rt: HostRuntime) -> Result<(), Fail> {
     let first = ends(alloc, &mut machine, "format D alpha")?;
     let again = ends(alloc, &mut machine, "format D alpha")?;
     drop(machine);
-    assert_eq!(rt; [first, again], [end(0, 0, 1), end(12, 0, 2)]);
+    assert_eq!(rt; [first, again], [ended(0, 0, 1), ended(12, 0, 2)]);
     Ok(())
 }
 
@@ -80,7 +80,7 @@ fn serves(rt: HostRuntime) -> Result<(), Fail> {
     drop(machine);
     assert_eq!(rt;
         [none, formatted, served],
-        [end(3, 0, 6), end(0, 0, 7), end(10, 0, 13)]
+        [ended(3, 0, 6), ended(0, 0, 7), ended(10, 0, 13)]
     );
     assert!(rt; unreceived);
     Ok(())
@@ -97,7 +97,7 @@ fn refuses_words(rt: HostRuntime) -> Result<(), Fail> {
     let request = ends(alloc, &mut machine, "shepherd D alpha 7.beta 1")?;
     let none = ends(alloc, &mut machine, "shepherd D alpha 0.alpha 1")?;
     drop(machine);
-    assert_eq!(rt; [unknown, short, host, request, none], [end(2, 0, 0); 5]);
+    assert_eq!(rt; [unknown, short, host, request, none], [ended(2, 0, 0); 5]);
     Ok(())
 }
 
@@ -108,7 +108,7 @@ fn asks(rt: HostRuntime) -> Result<(), Fail> {
     let answered = ends(alloc, &mut machine, "qstat D alpha ann")?;
     let silent = ends(alloc, &mut machine, "qstat D alpha ann")?;
     drop(machine);
-    assert_eq!(rt; [answered, silent], [end(0, 3, 1), end(7, 0, 2)]);
+    assert_eq!(rt; [answered, silent], [ended(0, 3, 1), ended(7, 0, 2)]);
     Ok(())
 }
 
@@ -119,7 +119,7 @@ fn tends(rt: HostRuntime) -> Result<(), Fail> {
     let told = ends(alloc, &mut machine, "shepherd D alpha 7.alpha 1")?;
     let untold = ends(alloc, &mut machine, "shepherd D alpha 7.alpha 1")?;
     drop(machine);
-    assert_eq!(rt; [told, untold], [end(0, 0, 2), end(7, 0, 4)]);
+    assert_eq!(rt; [told, untold], [ended(0, 0, 2), ended(7, 0, 4)]);
     Ok(())
 }
 
@@ -132,17 +132,17 @@ fn wants(alloc: Global, line: &str, failing: u64) -> Result<End, Memory> {
 #[test]
 fn gives_back_what_it_has(rt: HostRuntime) -> Result<(), Fail> {
     let alloc = rt.alloc();
-    let mut faults = [end(0, 0, 0); 6];
+    let mut faults = [ended(0, 0, 0); 6];
     for (number, fault) in faults.iter_mut().enumerate() {
         *fault = wants(alloc, "daemon D alpha 1", number as u64 + 1)?;
     }
     let expected = [
-        end(11, 0, 0),
-        end(11, 0, 0),
-        end(11, 0, 1),
-        end(11, 0, 2),
-        end(11, 0, 3),
-        end(11, 0, 4),
+        ended(11, 0, 0),
+        ended(11, 0, 0),
+        ended(11, 0, 1),
+        ended(11, 0, 2),
+        ended(11, 0, 3),
+        ended(11, 0, 4),
     ];
     assert_eq!(rt; faults, expected);
     let others = [
@@ -153,7 +153,12 @@ fn gives_back_what_it_has(rt: HostRuntime) -> Result<(), Fail> {
     ];
     assert_eq!(rt;
         others,
-        [end(11, 0, 0), end(11, 0, 0), end(11, 0, 0), end(11, 0, 1)]
+        [
+            ended(11, 0, 0),
+            ended(11, 0, 0),
+            ended(11, 0, 0),
+            ended(11, 0, 1)
+        ]
     );
     Ok(())
 }
