@@ -1,10 +1,10 @@
-//! Tests of `nqs_serve` and `nqs_clients`: a host of a site of one, booted from disks in memory, serves an outside in
-//! memory, also one whose calls fail, and shepherds and clients speak over such a wire.
+//! Tests of `nqs_serve`: a host of a site of one, booted from disks in memory, serves an outside in memory. The datagrams
+//! are literal bytes, as `docs/formats.md` has them.
 #![tactic(auto)]
 
 #[cfg(test)]
-mod faults;
+mod datagrams;
 #[cfg(test)]
-mod shepherds;
+mod host;
 #[cfg(test)]
 mod turns;

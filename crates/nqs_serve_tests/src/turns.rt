@@ -1,7 +1,7 @@
 //! Turns of the daemon: what it sends, launches and files, and how it ends.
 
-use nqs_days::datagrams::{ENDED, ENDED_ACK, LIST, SUBMIT, answer, manage};
-use nqs_days::host::booted;
+use crate::datagrams::{ENDED, ENDED_ACK, LIST, SUBMIT, answer, manage};
+use crate::host::booted;
 use nqs_fakes::{
     FileWritten, Item, LauncherCall, ListClock, MemLauncher, MemOutlet, MemPrinter, MemWire,
 };

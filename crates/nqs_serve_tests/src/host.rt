@@ -1,6 +1,6 @@
-//! Hosts, formatted and booted: `alpha` of a site of one, and each of the two of a site.
+//! The host `alpha` of a site of one, formatted and booted.
 
-ghost use Rattle.std.specs.Prelude.{◌≡◌, ◌<◌, [], false, IfOk};
+ghost use Rattle.std.specs.Prelude.{◌≡◌, [], false, IfOk};
 ghost use Rattle.nqs_types.specs.declared.world.Which.{Which};
 ghost use Rattle.nqs_outside.specs.History.{IsQuiet};
 ghost use Rattle.nqs_disk.specs.MemDisk.{history_of as history_of_disk};
@@ -30,17 +30,8 @@ fn empty_disks(alloc: Global) -> Result<Disks<MemDisk>, Memory>
     })
 }
 
-/// The name of the first host.
-pub fn alpha() -> Name {
+fn alpha() -> Name {
     match Name::read(b"alpha") {
-        Ok(name) => name,
-        Err(_) => unreachable!(),
-    }
-}
-
-/// The name of the second host.
-pub fn beta() -> Name {
-    match Name::read(b"beta") {
         Ok(name) => name,
         Err(_) => unreachable!(),
     }
@@ -56,43 +47,15 @@ fn formatted(alloc: Global) -> Result<Disks<MemDisk>, Memory>
     }
 }
 
-fn boot(alloc: Global, disks: Disks<MemDisk>) -> Result<Node<MemDisk>, Memory>
-    requires { (which : Which) → IsQuiet (history_of_disk (disk_at which disks)) }
-    ensures sound { IfOk result (λ node. IsSoundHost (content_of node)) }
-    ensures running { IfOk result (λ node. is_stopped node ≡ false) }
-{
-    let mut said = Vec::new(alloc);
-    match Node::boot(alloc, disks, &mut said) {
-        Ok(node) => Ok(node),
-        Err(_) => Err(Memory),
-    }
-}
-
-/// The host of a site of one, after its boot.
+/// The host after its boot.
 pub fn booted(alloc: Global) -> Result<Node<MemDisk>, Memory>
     ensures sound { IfOk result (λ node. IsSoundHost (content_of node)) }
     ensures running { IfOk result (λ node. is_stopped node ≡ false) }
 {
     let disks = formatted(alloc)?;
-    boot(alloc, disks)
-}
-
-fn formatted_of_two(alloc: Global, me: HostId) -> Result<Disks<MemDisk>, Memory>
-    requires { me.0 < 2 }
-    ensures { IfOk result (λ disks. (which : Which) → IsQuiet (history_of_disk (disk_at which disks))) }
-{
-    let mut disks = empty_disks(alloc)?;
-    match format(alloc, &mut disks, me, &[alpha(), beta()]) {
-        Ok(()) => Ok(disks),
+    let mut said = Vec::new(alloc);
+    match Node::boot(alloc, disks, &mut said) {
+        Ok(node) => Ok(node),
         Err(_) => Err(Memory),
     }
-}
-
-/// A host of a site of two, after its boot.
-pub fn booted_of_two(alloc: Global, me: HostId) -> Result<Node<MemDisk>, Memory>
-    requires { me.0 < 2 }
-    ensures sound { IfOk result (λ node. IsSoundHost (content_of node)) }
-{
-    let disks = formatted_of_two(alloc, me)?;
-    boot(alloc, disks)
 }
