@@ -1,9 +1,11 @@
 -- How the daemon ends, by how the boot and the serving did.
-use Rattle.std.proofs.Common.{◌≡◌, inl, inr, ℕ, Bool, IsTrue, List, refl, sym, subst}
+use Rattle.std.proofs.Common.{◌≡◌, inl, inr, ℕ, Bool, IsTrue, List, [], Some, refl, sym, subst}
 use Rattle.nqs_state.specs.State.{Plain}
+use Rattle.nqs_types.specs.declared.change.Change.TheVariants.{Boot}
 use Rattle.nqs_types.specs.declared.ids.HostId.{HostId}
 use Rattle.nqs_types.specs.declared.world.Which.{Which}
 use Rattle.nqs_types.specs.declared.world.Which.TheVariants.{First, Spool}
+use Rattle.nqs_rules.specs.Applied.{applied}
 use Rattle.nqs_outside.specs.Causes.{Rose}
 use Rattle.nqs_outside.specs.History.{History, content}
 use Rattle.nqs_outside.specs.declared.disk.Disk as disk
@@ -13,14 +15,17 @@ use Rattle.nqs_store.specs.Faults.{IsLoadFault}
 use Rattle.nqs_store.specs.Images.{IsTold}
 use Rattle.nqs_store.specs.declared.fault.LoadFault.{LoadFault}
 use Rattle.nqs_store.specs.declared.fault.LoadFault.TheVariants as load
+use Rattle.nqs_node.specs.Carried.{IsOneOrOther}
 use Rattle.nqs_node.specs.Nodes.{content_of, history_of, Tells}
 use Rattle.nqs_node.specs.declared.node.Node.{Node}
 use Rattle.nqs_serve.specs.Ends.{EndsWith}
-use Rattle.nqs_serve.specs.Runs.{Turn}
+use Rattle.nqs_serve.specs.Moments.{TellsThroughout, IsPassed}
+use Rattle.nqs_serve.specs.Runs.{Act, Turn, idle}
+use Rattle.nqs_serve.proofs.Moments.{through_change, through_then, through_as}
 use Rattle.nqs_serve.specs.declared.daemon.ServeEnd.{ServeEnd}
 use Rattle.nqs_serve.specs.declared.daemon.ServeEnd.TheVariants as end
 use Rattle.nqs_clients.specs.declared.status.NqsStatus.{NqsStatus}
-use Rattle.nqs_cli.specs.Daemons.{Outside, IsUnasked, HasFailed, HasServed, HasDiskFault, Daemons}
+use Rattle.nqs_cli.specs.Daemons.{Outside, IsUnasked, HasFailed, IsPassedSince, HasServed, HasDiskFault, Daemons, here_of}
 use Rattle.nqs_cli.specs.Ends.{status_of_fault, status_of_serve}
 use Rattle.nqs_cli.specs.Formats.{AreSame}
 
@@ -38,6 +43,19 @@ ends_as P Q f end.TurnsUsed turns bs t more e = (e.0, e.1, f t.state e.2, e.3, e
 ends_as P Q f end.WireFault turns bs t more e = (e.0, e.1, f t.state e.2, e.3, e.4)
 ends_as P Q f end.DiskFault turns bs t more e = e
 ends_as P Q f (end.Memory memory) turns bs t more e = ((e.0.0, f e.0.0 e.0.1, e.0.2), e.1)
+
+-- at each moment of the boot and of the run after it
+pub since_boot : (old mid new now : Which → History) (s : Plain) (acts : List Act) (more : List ℕ) → ((which : Which) → now which ≡ new which)
+    → IsOneOrOther old mid (Some Boot) s → TellsThroughout mid new (IsPassed (here_of s) (idle (applied Boot s)) acts more) → TellsThroughout old now (IsPassedSince s acts more)
+since_boot old mid new now s acts more same boot run =
+    let P = IsPassedSince s acts more in
+    let all = through_then old mid new P (through_change old mid (Some Boot) s P boot (inl refl) (inr ([], acts, refl, inl refl)))
+    (through_as mid new (IsPassed (here_of s) (idle (applied Boot s)) acts more) P (λ u at. inr at) run) in
+    subst (λ (h : Which → History). TellsThroughout old h P) (λ j which. sym (same which) j) all
+
+-- the boot alone
+pub boot_alone : (old mid now : Which → History) (s : Plain) → ((which : Which) → now which ≡ mid which) → IsOneOrOther old mid (Some Boot) s → IsOneOrOther old now (Some Boot) s
+boot_alone old mid now s same boot = subst (λ (h : Which → History). IsOneOrOther old h (Some Boot) s) (λ j which. sym (same which) j) boot
 
 module _ (tells : Bool) (me : HostId) (names : List (List ℕ)) (turns : ℕ) (was now : Outside) where
   -- the host could not be booted

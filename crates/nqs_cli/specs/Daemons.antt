@@ -21,6 +21,7 @@ use Rattle.nqs_store.specs.declared.fault.LoadFault.TheVariants.{NotNqs}
 use Rattle.nqs_node.specs.Carried.{IsBrokenOff, IsOneOrOther}
 use Rattle.nqs_serve.specs.Ends.{EndsWith, stops}
 use Rattle.nqs_serve.specs.Events.{Here}
+use Rattle.nqs_serve.specs.Moments.{TellsThroughout, IsPassed}
 use Rattle.nqs_serve.specs.Runs.{Act, Turn, idle, Telling, telling, Ran}
 use Rattle.nqs_serve.specs.declared.daemon.ServeEnd.{ServeEnd}
 use Rattle.nqs_serve.specs.declared.daemon.ServeEnd.TheVariants as end
@@ -38,6 +39,7 @@ pub record Outside : Type 0 where
   pub filings : Option (List Filing)
   pub given : Option (List ℕ)
 
+-- the same, from what each part tells
 abbrev pub outside : DisksTold → WireTold → Option (List Asked) → Option (List Print) → Option (List Filing) → Option (List ℕ) → Outside
 outside d w a p f c = record { disks = d; wire = w; asked = a; prints = p; filings = f; given = c }
 
@@ -62,6 +64,7 @@ Leaves d s = EachImage d.histories (λ images. IsTold (images First) (images Spo
 abbrev pub IsUnasked : Outside → Outside → Type 0
 IsUnasked was now = (now.wire ≡ was.wire) × (telling_of now ≡ telling_of was)
 
+-- a call of one of the disks failed
 abbrev pub HasDiskFault : Outside → Outside → Type 0
 HasDiskFault was now = (which : Which) × Rose (was.disks.faults which) (now.disks.faults which)
 
@@ -73,17 +76,22 @@ here_of s = record { me = s.me; site = s.site }
 abbrev pub is_here : HostId → List (List ℕ) → Plain → Bool
 is_here me names s = same_host me s.me && pointwise name_eq s.site names
 
+-- a state that the disks pass: the one before the boot, or one that the run from the boot on passes
+abbrev pub IsPassedSince : Plain → List Act → List ℕ → Plain → Type 0
+IsPassedSince s acts more u = (u ≡ s) ⊎ IsPassed (here_of s) (idle (applied Boot s)) acts more u
+
 -- The disks told this host of this site. It was booted, and served until so an end: a run of the daemon from the state after the boot.
 abbrev pub HasServed : Bool → HostId → List (List ℕ) → ℕ → Outside → Outside → ServeEnd → Type 0
 HasServed tells me names turns was now end = IsTrue tells → (s : Plain) × IsThere was.disks s × (is_here me names s ≡ true)
     × ((acts : List Act) × (t : Turn) × (more : List ℕ) × Ran (here_of s) acts (idle (applied Boot s)) t more (telling_of was) (telling_of now)
-    × EndsWith (Leaves now.disks) end turns (stops (here_of s) (idle (applied Boot s)) acts) t more)
+    × EndsWith (Leaves now.disks) end turns (stops (here_of s) (idle (applied Boot s)) acts) t more
+    × TellsThroughout was.disks.histories now.disks.histories (IsPassedSince s acts more))
 
 -- The disks tell no host, or another, which was booted: it runs nothing, and what ran there starts again or is lost.
 abbrev pub IsNotOurs : HostId → List (List ℕ) → DisksTold → DisksTold → Type 0
 IsNotOurs me names was now =
     ((which : Which) × (place : ℕ) × IsLoadFault (content (was.histories First)) (content (was.histories Spool)) (NotNqs which place))
-    ⊎ ((s : Plain) × IsThere was s × (is_here me names s ≡ false) × Leaves now (applied Boot s))
+    ⊎ ((s : Plain) × IsThere was s × (is_here me names s ≡ false) × Leaves now (applied Boot s) × IsOneOrOther was.histories now.histories (Some Boot) s)
 
 -- The boot failed: at each moment a stop would have left the host before it or after it.
 abbrev pub HasFailed : DisksTold → DisksTold → Type 0

@@ -9,6 +9,7 @@ use Rattle.nqs_types.specs.declared.ids.Named.{Named}
 use Rattle.nqs_cli.specs.declared.form.Form.{Form}
 use Rattle.nqs_cli.specs.declared.form.Form.TheVariants.{Format, Daemon, Client, Shepherd}
 
+-- the words after the program's name
 abbrev pub Words : Type 0
 Words = List (List ℕ)
 
@@ -23,6 +24,7 @@ daemon_of [] = None
 daemon_of (turns ∷ []) = option_map Daemon (number_of 0 18446744073709551615 turns)
 daemon_of (turns ∷ word ∷ more) = None
 
+-- the form of a shepherd, where both its words can be read
 abbrev pub job_of : Result Named NotNamed → Option ℕ → Option Form
 job_of (Ok id) (Some start) = Some (Shepherd id start)
 job_of _ _ = None
@@ -39,6 +41,7 @@ abbrev pub client_of : Words → Option Form
 client_of [] = None
 client_of (user ∷ more) = Some Client
 
+-- the form of a client, where no word stands behind USER
 abbrev pub client_without : Words → Option Form
 client_without [] = Some Client
 client_without (word ∷ more) = None
@@ -48,6 +51,7 @@ abbrev pub tick_of : Words → Option Form
 tick_of [] = None
 tick_of (user ∷ more) = client_without more
 
+-- the word is the name of a client
 abbrev pub is_tool : List ℕ → Bool
 is_tool word = bytes_eq word (codes "qsub") || (bytes_eq word (codes "qstat") || (bytes_eq word (codes "qdel") || bytes_eq word (codes "qmgr")))
 

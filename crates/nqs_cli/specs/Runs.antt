@@ -31,6 +31,7 @@ pub record Parts : Type 0 where
   pub lent : List Lent
   pub back : List Back
 
+-- nothing was handed over
 abbrev pub no_parts : Parts
 no_parts = record { lent = []; back = [] }
 
@@ -58,6 +59,7 @@ pub record Place : Type 0 where
   pub names : List (List ℕ)
   pub me : HostId
 
+-- a request by its number and its host
 abbrev pub request : ℕ → HostId → RequestId
 request seq host = record { seq = seq; host = host }
 
@@ -66,6 +68,7 @@ abbrev pub request_named : List (List ℕ) → Named → Option RequestId
 request_named names named =
     if nat_le 1 named.seq && nat_le named.seq 4294967294 then option_map (λ place. request named.seq (host_at place)) (place_of names named.host) else None
 
+-- the host of that name, where a name was read
 abbrev pub host_of : List (List ℕ) → Option (List ℕ) → Option HostId
 host_of names None = None
 host_of names (Some name) = option_map host_at (place_of names name)
@@ -80,6 +83,7 @@ without_dir [] = []
 without_dir (tool ∷ []) = tool ∷ []
 without_dir (tool ∷ dir ∷ more) = tool ∷ more
 
+-- what a wire told before a client and after it
 abbrev pub wired_of : WireTold → WireTold → Wired
 wired_of was now =
     record {
@@ -113,6 +117,7 @@ DoesClient at words source sink parts status = (port : ℕ) × (was now : WireTo
     × (parts ≡ lent_and_back (wire_of at.dir None port was ∷ []) (wire_of at.dir None port now ∷ []))
     × client.Ends at.names (without_dir words) port source (wired_of was now) sink status
 
+-- where a shepherd is through
 abbrev pub status_of_shepherd : ShepherdEnd → NqsStatus
 status_of_shepherd shepherd.Told = Done
 status_of_shepherd shepherd.NoAnswer = NoAnswer
@@ -130,6 +135,7 @@ DoesShepherd at id start parts status = (port : ℕ) × (runs runs_now : Option 
     × Shepherds at.me port id start runs runs_now was.received now.received was.sent now.sent end
     × (end ≡ shepherd.WireFault → Rose was.receive_faults now.receive_faults)
 
+-- a shepherd did so, where the request that was named may be one of the site
 abbrev pub Tends : Place → Option RequestId → ℕ → Parts → NqsStatus → Type 0
 Tends at None start parts status = (parts ≡ no_parts) × (status ≡ BadWords)
 Tends at (Some id) start parts status = DoesShepherd at id start parts status
@@ -157,6 +163,7 @@ DoesOrWants tells at form words source sink faults faults_now parts status = Doe
 abbrev pub IsNoHost : Fed → Sunk → Parts → NqsStatus → Type 0
 IsNoHost source sink parts status = (parts ≡ no_parts) × (status ≡ BadWords) × IsUntouched source sink
 
+-- what the form asks for, where the word for the host names one of the site
 abbrev pub RunsAt : Bool → List ℕ → List (List ℕ) → Option HostId → Form → Words → Fed → Sunk → ℕ → ℕ → Parts → NqsStatus → Type 0
 RunsAt tells dir names None form words source sink faults faults_now parts status = IsNoHost source sink parts status
 RunsAt tells dir names (Some me) form words source sink faults faults_now parts status =
@@ -172,6 +179,7 @@ RunsForm tells dir host form words source sink faults faults_now parts status =
     (IsWanting faults faults_now status × IsUntouched source sink × (parts ≡ no_parts))
     ⊎ ((names : List (List ℕ)) × (some : Parts) × (parts ≡ behind_site dir names some) × RunsAt tells dir names (host_named names host) form words source sink faults faults_now some status)
 
+-- the same, where the words have a form
 abbrev pub RunsWords : Bool → Option Form → Words → Fed → Sunk → ℕ → ℕ → Parts → NqsStatus → Type 0
 RunsWords tells (Some form) (tool ∷ dir ∷ host ∷ more) source sink faults faults_now parts status =
     RunsForm tells dir host form (tool ∷ dir ∷ host ∷ more) source sink faults faults_now parts status

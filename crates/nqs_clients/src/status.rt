@@ -11,7 +11,7 @@ pub enum NqsStatus {
     Refused,
     /// The words are in no form. Nothing was read, sent or written.
     BadWords,
-    /// A disk isn't one of a host.
+    /// A disk isn't one of a host, or is another host's.
     NotNqs,
     /// The source failed. Nothing was sent or written.
     ReadFault,

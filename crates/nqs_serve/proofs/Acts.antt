@@ -44,7 +44,7 @@ arrivals_append xs ys = flat_map-append arrivals_of xs ys
 of_outcomes : {A : Type 0} (f : Outcome → List A) (xs ys : List Act) → flat_map f (outcomes xs) ++ flat_map f (outcomes ys) ≡ flat_map f (outcomes (xs ++ ys))
 of_outcomes f xs ys = sym (ap (flat_map f) (flat_map-append outcomes_of xs ys) ∙ flat_map-append f (outcomes xs) (outcomes ys))
 
-of_moments : (xs ys : List Act) (more : List ℕ) → (moments xs ++ []) ++ (moments ys ++ more) ≡ moments (xs ++ ys) ++ more
+pub of_moments : (xs ys : List Act) (more : List ℕ) → (moments xs ++ []) ++ (moments ys ++ more) ≡ moments (xs ++ ys) ++ more
 of_moments xs ys more =
     append_assoc (moments xs) [] (moments ys ++ more)
     ∙ sym (append_assoc (moments xs) (moments ys) more)

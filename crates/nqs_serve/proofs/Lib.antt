@@ -10,3 +10,4 @@ mod Right
 mod Sendable
 mod Ending
 mod Known
+pub mod Moments

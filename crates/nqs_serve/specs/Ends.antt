@@ -36,9 +36,13 @@ is_stop b = b
 abbrev pub NoneStops : List Bool → Type 0
 NoneStops bs = list_any is_stop bs ≡ false
 
+-- some of the starts of that moment were made, and others were to come
+abbrev pub IsBetween : ℕ → Plain → Plain → Type 0
+IsBetween m before s = (xs ys : List (Stepped (List ℕ))) × (starts m before ≡ xs ++ ys) × (s ≡ after_starts xs before)
+
 -- the state is as before the event, or after it and some of its starts
 abbrev pub IsWithin : ℕ → Event → Plain → Plain → Type 0
-IsWithin m e before s = (s ≡ before) ⊎ ((xs ys : List (Stepped (List ℕ))) × (starts m (stepped m e before) ≡ xs ++ ys) × (s ≡ after_starts xs (stepped m e before)))
+IsWithin m e before s = (s ≡ before) ⊎ IsBetween m (stepped m e before) s
 
 -- The clock was read for the next event, if for any. Of that event nothing went out.
 abbrev pub IsCut : Turn → List ℕ → Type 0

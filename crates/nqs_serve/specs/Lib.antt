@@ -4,4 +4,5 @@ pub mod Sends
 pub mod Steps
 pub mod Runs
 pub mod Ends
+pub mod Moments
 pub mod Nodes

@@ -13,8 +13,8 @@ ghost use Rattle.nqs_rules.specs.Step.{step};
 ghost use Rattle.nqs_rules.specs.Stepped.{Stepped};
 ghost use Rattle.nqs_outside.specs.Causes.{Rose};
 ghost use Rattle.nqs_back.specs.Back.{comebacks, comes_back};
-ghost use Rattle.nqs_node.specs.Carried.{started};
-ghost use Rattle.nqs_node.specs.Nodes.{content_of, disk_of, is_stopped};
+ghost use Rattle.nqs_node.specs.Carried.{started, IsOneOrOther};
+ghost use Rattle.nqs_node.specs.Nodes.{content_of, disk_of, history_of, is_stopped};
 ghost use Rattle.nqs_records.specs.Values.{IsHost};
 ghost use Rattle.nqs_store.specs.Sound.{IsSoundHost};
 ghost use Rattle.nqs_serve.specs.Events.{Here, at_moment};
@@ -22,7 +22,8 @@ ghost use Rattle.nqs_serve.specs.Steps.{said, stepped, after_event, outputs};
 ghost use Rattle.nqs_serve.specs.Runs.{Act, took, Outcome, Turn, turn, idle, outputs_in, brought_back, event_back, arrivals, telling, Grew, Ran};
 ghost use Rattle.nqs_serve.specs.Nodes.{Knows};
 ghost use Rattle.nqs_serve.specs.Sends.{is_right_event, AreRight};
-ghost use Rattle.nqs_serve.specs.Ends.{IsWithin, IsCut, IsCutAt};
+ghost use Rattle.nqs_serve.specs.Ends.{IsBetween, IsWithin, IsCut, IsCutAt};
+ghost use Rattle.nqs_serve.specs.Moments.{TellsThroughout, IsPassed};
 
 use crate::carry::carry;
 use crate::comeback::{Comeback, event_back};
@@ -53,6 +54,7 @@ fn take<D: Disk>(
     ensures right { OnOk result (AreRight 16 out.new.items) }
     ensures told { (s : Plain) → Knows node.old s → OnOk result (Knows node.new (after_step (step event.now s) s) × (out.new.items ≡ out.old.items ++ said (step event.now s))) }
     ensures memory { (s : Plain) → Knows node.old s → IsErrOf result Cut.Memory → Knows node.new s }
+    ensures moments { (s : Plain) → Knows node.old s → IsOneOrOther (history_of node.old) (history_of node.new) (step event.now s).change s }
     ensures no_more { IsTrue (comes_back event.now) → OnOk result (starts_left (content_of node.new) ≤ starts_left (content_of node.old)) }
     ensures none_back { IsTrue (comes_back event.now) → OnOk result (comebacks out.new.items ≡ comebacks out.old.items) }
     ensures later { (which : Which) → D.faults (disk_of which node.old) ≤ D.faults (disk_of which node.new) }
@@ -83,6 +85,7 @@ fn start<D: Disk>(
     ensures more { (s : Plain) → Knows node.old s → IfOk result (λ more. more ≡ is_some (start now s)) }
     ensures told { (s : Plain) → Knows node.old s → OnOk result (Knows node.new (after_step (started now s) s) × (out.new.items ≡ out.old.items ++ said (started now s))) }
     ensures memory { (s : Plain) → Knows node.old s → IsErrOf result Cut.Memory → Knows node.new s }
+    ensures moments { (s : Plain) → Knows node.old s → IsOneOrOther (history_of node.old) (history_of node.new) (started now s).change s }
     ensures idle { IfOk result (λ more. more ≡ false → (content_of node.new ≡ content_of node.old) × (out.new.items ≡ out.old.items)) }
     ensures fewer { IfOk result (λ more. IsTrue more → starts_left (content_of node.new) < starts_left (content_of node.old)) }
     ensures one_back { OnOk result (comebacks out.new.items ≤ comebacks out.old.items + 1) }
@@ -113,6 +116,7 @@ fn settle<D: Disk>(
     ensures right { OnOk result (AreRight 16 out.new.items) }
     ensures told { (s : Plain) → Knows node.old s → OnOk result (Knows node.new (after_starts (starts now s) s) × (out.new.items ≡ out.old.items ++ flat_map said (starts now s))) }
     ensures memory { (s : Plain) → Knows node.old s → IsErrOf result Cut.Memory → (xs ys : List (Stepped (List ℕ))) × (starts now s ≡ xs ++ ys) × Knows node.new (after_starts xs s) }
+    ensures moments { (s : Plain) → Knows node.old s → TellsThroughout (history_of node.old) (history_of node.new) (IsBetween now s) }
     ensures fewer { OnOk result (starts_left (content_of node.new) + comebacks out.new.items ≤ starts_left (content_of node.old) + comebacks out.old.items) }
     ensures later { (which : Which) → D.faults (disk_of which node.old) ≤ D.faults (disk_of which node.new) }
     ensures broken { IsErrOf result Cut.Disk → IsTrue (is_stopped node.new) × ((which : Which) × Rose (D.faults (disk_of which node.old)) (D.faults (disk_of which node.new))) }
@@ -146,6 +150,7 @@ fn take_whole<D: Disk>(
     ensures told { (s : Plain) (e : Happening) → Knows node.old s → event.now ≡ at_moment now e
         → OnOk result (Knows node.new (after_event now e s) × (out.new.items ≡ out.old.items ++ outputs now e s)) }
     ensures memory { (s : Plain) (e : Happening) → Knows node.old s → event.now ≡ at_moment now e → IsErrOf result Cut.Memory → (u : Plain) × Knows node.new u × IsWithin now e s u }
+    ensures moments { (s : Plain) (e : Happening) → Knows node.old s → event.now ≡ at_moment now e → TellsThroughout (history_of node.old) (history_of node.new) (IsWithin now e s) }
     ensures fewer { IsTrue (comes_back event.now) → OnOk result (starts_left (content_of node.new) + comebacks out.new.items ≤ starts_left (content_of node.old) + comebacks out.old.items) }
     ensures later { (which : Which) → D.faults (disk_of which node.old) ≤ D.faults (disk_of which node.new) }
     ensures broken { IsErrOf result Cut.Disk → IsTrue (is_stopped node.new) × ((which : Which) × Rose (D.faults (disk_of which node.old)) (D.faults (disk_of which node.new))) }
@@ -183,11 +188,13 @@ pub(crate) fn take_event<D: Disk, W: Wire, L: Launcher, P: Printer, O: Outlet, C
         × Knows node.new (after_event m event.old s) × (outputs_in outcomes ≡ outputs m event.old s)
         × Grew here (took m outcomes ∷ []) []
         (telling (W.received wire.old) (W.sent wire.old) (L.asked launcher.old) (P.prints printer.old) (O.filings outlet.old) (C.given clock.old))
-        (telling (W.received wire.new) (W.sent wire.new) (L.asked launcher.new) (P.prints printer.new) (O.filings outlet.new) (C.given clock.new))) }
+        (telling (W.received wire.new) (W.sent wire.new) (L.asked launcher.new) (P.prints printer.new) (O.filings outlet.new) (C.given clock.new))
+        × TellsThroughout (history_of node.old) (history_of node.new) (IsWithin m event.old s)) }
     ensures cut { (s : Plain) (here : Here) → Knows node.old s → here ≡ record { me = me; site = (content_of node.old).site } → OnErr result ((m : ℕ) × (IsErrOf result Cut.Memory → (u : Plain) × Knows node.new u × IsWithin m event.old s u)
         × Grew here [] (m ∷ [])
         (telling (W.received wire.old) (W.sent wire.old) (L.asked launcher.old) (P.prints printer.old) (O.filings outlet.old) (C.given clock.old))
-        (telling (W.received wire.new) (W.sent wire.new) (L.asked launcher.new) (P.prints printer.new) (O.filings outlet.new) (C.given clock.new))) }
+        (telling (W.received wire.new) (W.sent wire.new) (L.asked launcher.new) (P.prints printer.new) (O.filings outlet.new) (C.given clock.new))
+        × TellsThroughout (history_of node.old) (history_of node.new) (IsWithin m event.old s)) }
     ensures fewer { IsTrue (comes_back event.old) → OnOk result (starts_left (content_of node.new) + length back.new.items ≤ starts_left (content_of node.old) + length back.old.items) }
     ensures later { (which : Which) → D.faults (disk_of which node.old) ≤ D.faults (disk_of which node.new) }
     ensures broken { IsErrOf result Cut.Disk → IsTrue (is_stopped node.new) × ((which : Which) × Rose (D.faults (disk_of which node.old)) (D.faults (disk_of which node.new))) }
@@ -247,12 +254,14 @@ pub(crate) fn take_back<D: Disk, W: Wire, L: Launcher, P: Printer, O: Outlet, C:
     ensures ok { (s : Plain) (here : Here) → Knows node.old s → here ≡ record { me = me; site = (content_of node.old).site } → OnOk result ((acts : List Act) × (u : Plain) × (arrivals acts ≡ []) × Knows node.new u
         × Ran here acts (turn s (map event_back back.old.items)) (idle u) []
         (telling (W.received wire.old) (W.sent wire.old) (L.asked launcher.old) (P.prints printer.old) (O.filings outlet.old) (C.given clock.old))
-        (telling (W.received wire.new) (W.sent wire.new) (L.asked launcher.new) (P.prints printer.new) (O.filings outlet.new) (C.given clock.new))) }
+        (telling (W.received wire.new) (W.sent wire.new) (L.asked launcher.new) (P.prints printer.new) (O.filings outlet.new) (C.given clock.new))
+        × TellsThroughout (history_of node.old) (history_of node.new) (IsPassed here (turn s (map event_back back.old.items)) acts [])) }
     ensures cut { (s : Plain) (here : Here) → Knows node.old s → here ≡ record { me = me; site = (content_of node.old).site } → OnErr result ((acts : List Act) × (t : Turn) × (more : List ℕ) × (arrivals acts ≡ []) × IsCut t more
         × (IsErrOf result Cut.Memory → (u : Plain) × Knows node.new u × IsCutAt t more u)
         × Ran here acts (turn s (map event_back back.old.items)) t more
         (telling (W.received wire.old) (W.sent wire.old) (L.asked launcher.old) (P.prints printer.old) (O.filings outlet.old) (C.given clock.old))
-        (telling (W.received wire.new) (W.sent wire.new) (L.asked launcher.new) (P.prints printer.new) (O.filings outlet.new) (C.given clock.new))) }
+        (telling (W.received wire.new) (W.sent wire.new) (L.asked launcher.new) (P.prints printer.new) (O.filings outlet.new) (C.given clock.new))
+        × TellsThroughout (history_of node.old) (history_of node.new) (IsPassed here (turn s (map event_back back.old.items)) acts more)) }
     ensures later { (which : Which) → D.faults (disk_of which node.old) ≤ D.faults (disk_of which node.new) }
     ensures broken { IsErrOf result Cut.Disk → IsTrue (is_stopped node.new) × ((which : Which) × Rose (D.faults (disk_of which node.old)) (D.faults (disk_of which node.new))) }
     ensures wire { W.receive_faults wire.old ≤ W.receive_faults wire.new }

@@ -4,14 +4,15 @@ use Rattle.nqs_rules.specs.Applied.{applied}
 use Rattle.nqs_rules.specs.Plain.{map_state}
 use Rattle.nqs_outside.specs.Causes.{Rose}
 use Rattle.nqs_store.specs.Disks.{disk_at, histories_of}
-use Rattle.nqs_node.specs.Nodes.{bytes_of, Tells}
+use Rattle.nqs_node.specs.Nodes.{bytes_of, history_of, Tells}
 use Rattle.nqs_node.proofs.Places.{rose_since}
 use Rattle.nqs_serve.specs.Ends.{EndsWith, stops}
 use Rattle.nqs_serve.specs.Events.{Here}
+use Rattle.nqs_serve.specs.Moments.{TellsThroughout, IsPassed}
 use Rattle.nqs_serve.specs.Runs.{idle, Ran}
 use Rattle.nqs_cli.specs.Parts.{disks_told, wire_told}
 use Rattle.nqs_cli.specs.Daemons.{Outside, outside, is_here, telling_of, here_of, Leaves}
-use Rattle.nqs_cli.proofs.Serving.{leaves, ends_as, not_booted, has_served}
+use Rattle.nqs_cli.proofs.Serving.{leaves, ends_as, since_boot, boot_alone, not_booted, has_served}
 use Rattle.nqs_cli.proofs.daemon.boot_and_serve.Goals as goal
 
 pub returns-in-Err : goal.returns-in-Err
@@ -35,6 +36,7 @@ returns-then-not-is_here g c = (
         one.1,
         sym same ∙ c.if-not-is_here.true,
         leaves c.in-Ok.node (applied Boot one.0) (histories_of g.D.Disk.history c.close.result) yes one.2 (λ which. ap g.D.Disk.history (c.close.ensures which)),
+        boot_alone _ (history_of c.in-Ok.node) (histories_of g.D.Disk.history c.close.result) one.0 (λ which. ap g.D.Disk.history (c.close.ensures which)) (c.in-Ok.ensures.any_moment yes one.0 one.1),
       ),
 )
 
@@ -54,7 +56,8 @@ returns g c =
     let run = c.serve-end.ensures.run yes u one.2 in
     let here = ap here_of one.2.is in
     let moved = subst (λ (h : Here). Ran h run.0 (idle u) run.1 run.2 (telling_of was) (telling_of now) × EndsWith (Tells c.serve-end.new.node) c.serve-end.result c.args.turns (stops h (idle u) run.0) run.1 run.2)
-    here (run.3, run.4) in (
+    here (run.3, run.4) in
+    let passes = subst (λ (h : Here). TellsThroughout (history_of c.in-Ok.node) (history_of c.serve-end.new.node) (IsPassed h (idle u) run.0 run.2)) here run.5 in (
       s,
       one.1,
       sym same ∙ c.if-not-is_here.false,
@@ -66,6 +69,8 @@ returns g c =
         ends_as (Tells c.serve-end.new.node) (Leaves now.disks)
             (λ t told. leaves c.serve-end.new.node t (histories_of g.D.Disk.history c.close-in-Ok.result) yes told (λ which. ap g.D.Disk.history (c.close-in-Ok.ensures which)))
             c.serve-end.result c.args.turns (stops (here_of s) (idle u) run.0) run.1 run.2 moved.1,
+        since_boot _ (history_of c.in-Ok.node) (history_of c.serve-end.new.node) (histories_of g.D.Disk.history c.close-in-Ok.result) s run.0 run.2 (λ which. ap g.D.Disk.history (c.close-in-Ok.ensures which))
+            (c.in-Ok.ensures.any_moment yes s one.1) passes,
       ),
     ))
     c.serve-end.ensures.wire_fault

@@ -3,8 +3,10 @@ use Rattle.nqs_types.specs.declared.ids.HostId.{HostId}
 use Rattle.nqs_node.specs.Nodes.{content_of}
 use Rattle.nqs_serve.specs.Events.{Here}
 use Rattle.nqs_serve.specs.Runs.{idle}
+use Rattle.nqs_serve.specs.Moments.{IsPassed}
 use Rattle.nqs_serve.specs.Nodes.{here_of}
 use Rattle.nqs_serve.proofs.Acts.{ran_none}
+use Rattle.nqs_serve.proofs.Moments.{through_none}
 use Rattle.nqs_serve.proofs.Sendable.{me_is_host}
 use Rattle.nqs_records.specs.Values.{IsHost}
 use Rattle.nqs_store.specs.Told.{Host}
@@ -17,6 +19,7 @@ returns-in_default-clause-run g c = λ tells s told. (
   [],
   ran_none (here_of c.args.node.now) (idle s) _,
   ((s, told, inl (refl, refl)), record { before = []; last = []; are = refl; none = refl; at_most_one = omega arith; few = omega arith }),
+  through_none c.args.node.now s (IsPassed (here_of c.args.node.now) (idle s) [] []) (tells, told) ([], [], refl, inl refl),
 )
 
 pub returns-clause-run : goal.returns-clause-run

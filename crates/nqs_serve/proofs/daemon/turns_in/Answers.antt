@@ -1,10 +1,12 @@
-use Rattle.std.proofs.Common.{◌≡◌, ℕ, refl, ap, sym, subst, ◌∙◌, ◌++◌, [], ◌∷◌, List, length, length-append, arith, Err, Bool, true, false}
+use Rattle.std.proofs.Common.{◌≡◌, ℕ, refl, ap, sym, subst, ◌∙◌, ◌++◌, [], ◌∷◌, List, length, length-append, arith, Err, Bool, true, false, inl}
 use Rattle.nqs_serve.specs.Events.{Here}
 use Rattle.nqs_serve.specs.Runs.{idle}
 use Rattle.nqs_serve.specs.Ends.{Ends, NoneStops, stops, end_of}
+use Rattle.nqs_serve.specs.Moments.{IsPassed}
 use Rattle.nqs_serve.proofs.Acts.{ran_none, ran_then, stops_then}
 use Rattle.nqs_serve.proofs.Ending.{none_both, ends_then, wire_end, disk_end}
 use Rattle.nqs_serve.proofs.Faults.{rose_behind}
+use Rattle.nqs_serve.proofs.Moments.{through_none, through_run}
 use Rattle.nqs_serve.proofs.daemon.turns_in.Goals as goal
 
 pub loop-left-init : goal.loop-left-init
@@ -14,7 +16,8 @@ loop-left-init g c = record {
   running = c.requires.running;
   later = λ which. omega arith;
   wire = omega arith;
-  ran = λ s here knows same. ([], s, refl, omega arith, knows, ran_none here _ _);
+  ran = λ s here knows same.
+      ([], s, refl, omega arith, knows, ran_none here _ _, through_none c.args.node.now s (IsPassed here (idle s) [] []) knows ([], [], refl, inl refl));
 }
 
 pub returns-in-Ok-true-clause-run : goal.returns-in-Ok-true-clause-run
@@ -30,6 +33,7 @@ returns-in-Ok-true-clause-run g c = λ s here knows same.
       [],
       ran_then here before.0 ok.0 (idle s) (idle before.1) (idle ok.1) [] _ _ _ before.5 ok.4,
       (refl, refl, ok.2.1, (xs, all, before.2, omega (arith, ap (λ (l : List Bool). length l) all, length-append xs (true ∷ []), before.3, c.loop-left-test.true))),
+      through_run here _ _ _ (idle s) (idle before.1) before.0 ok.0 [] before.5.leads before.6 ok.5,
     )
 
 pub returns-in-Err-clause-run : goal.returns-in-Err-clause-run
@@ -46,6 +50,7 @@ returns-in-Err-clause-run g c = λ s here knows same.
       ran_then here before.0 err.0 (idle s) (idle before.1) err.1 err.2 _ _ _ before.5 err.3,
       subst (λ e. Ends e c.args.turns (stops here (idle s) (before.0 ++ err.0)) err.1 err.2 c.turn.new.node) (sym c.end_of.ensures)
           (subst (λ (l : List Bool). Ends (end_of c.in-Err.fault) c.args.turns l err.1 err.2 c.turn.new.node) (sym all) ends),
+      through_run here _ _ _ (idle s) (idle before.1) before.0 err.0 err.2 before.5.leads before.6 err.5,
     )
 
 pub returns-in-Err-clause-wire_fault : goal.returns-in-Err-clause-wire_fault
@@ -77,10 +82,11 @@ loop-left-preserved g c = record {
         omega (arith, ap (λ (l : List Bool). length l) all, length-append xs (false ∷ []), before.3, c.loop-left-test.true),
         ok.2,
         ran_then here before.0 ok.0 (idle s) (idle before.1) (idle ok.1) [] _ _ _ before.5 ok.4,
+        through_run here _ _ _ (idle s) (idle before.1) before.0 ok.0 [] before.5.leads before.6 ok.5,
       );
 }
 
 pub returns-clause-run : goal.returns-clause-run
 returns-clause-run g c = λ s here knows same.
     let before = c.loop-left.invariant.ran s here knows same in
-    (before.0, idle before.1, [], before.5, (refl, refl, before.4.1, before.2, omega (arith, before.3, c.loop-left-test.false)))
+    (before.0, idle before.1, [], before.5, (refl, refl, before.4.1, before.2, omega (arith, before.3, c.loop-left-test.false)), before.6)

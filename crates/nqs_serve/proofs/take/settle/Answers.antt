@@ -8,10 +8,12 @@ use Rattle.nqs_rules.specs.Starts.{starts, after_starts, after_step}
 use Rattle.nqs_rules.specs.Stepped.{Stepped}
 use Rattle.nqs_back.specs.Back.{comebacks}
 use Rattle.nqs_node.specs.Carried.{started}
+use Rattle.nqs_serve.specs.Ends.{IsBetween}
 use Rattle.nqs_serve.specs.Nodes.{Knows}
 use Rattle.nqs_serve.specs.Steps.{said}
 use Rattle.nqs_serve.proofs.Faults.{same_error, rose_behind}
 use Rattle.nqs_serve.proofs.Known.{steady_known}
+use Rattle.nqs_serve.proofs.Moments.{through_none, through_change, through_then, between_next}
 use Rattle.nqs_serve.proofs.Starting.{one_start, last_start, none_started, after_more, said_more}
 use Rattle.nqs_serve.proofs.take.settle.Goals as goal
 
@@ -22,6 +24,7 @@ loop-cut-init g c = record {
   running = c.requires.running;
   right = c.requires.said;
   told = λ s knows. ([], refl, knows, sym (append-nil c.args.out.now.items));
+  moments = λ s knows. through_none c.args.node.now s (IsBetween c.args.now s) knows ([], starts c.args.now s, refl, refl);
   fewer = omega arith;
   later = λ which. omega arith;
 }
@@ -46,6 +49,12 @@ loop-cut-preserved g c =
             subst (λ v. Knows c.start.new.node v) (sym (after_more before.0 x s)) after.0,
             after.1 ∙ ap (λ (l : List Output). l ++ said x) before.3 ∙ said_more c.args.out.now.items before.0 x,
           );
+      moments = λ s knows.
+          let before = c.loop-cut.invariant.told s knows in
+          let u = after_starts before.0 s in
+          through_then _ _ _ (IsBetween now s) (c.loop-cut.invariant.moments s knows)
+          (through_change _ _ (started now u).change u (IsBetween now s) (did.moments u before.2) (before.0, starts now u, before.1, refl)
+          (between_next now s before.0 (steady_known c.loop-cut.node u before.2 c.loop-cut.invariant.sound) before.1));
       fewer = omega (arith, c.loop-cut.invariant.fewer, did.fewer c.in-Ok-true.field-0-test, did.one_back);
       later = λ which. omega (arith, c.loop-cut.invariant.later which, did.later which);
     }
@@ -64,6 +73,24 @@ returns-in-Ok-false-clause-told g c = λ s knows.
       after.1 ∙ ap (λ (x : Stepped (List ℕ)). c.loop-cut.out.items ++ said x) still ∙ append-nil c.loop-cut.out.items ∙ before.3
           ∙ ap (λ (xs : List (Stepped (List ℕ))). c.args.out.now.items ++ flat_map said xs) (sym all),
     )
+
+pub returns-in-Ok-false-clause-moments : goal.returns-in-Ok-false-clause-moments
+returns-in-Ok-false-clause-moments g c = λ s knows.
+    let now = c.args.now in
+    let before = c.loop-cut.invariant.told s knows in
+    let u = after_starts before.0 s in
+    through_then _ _ _ (IsBetween now s) (c.loop-cut.invariant.moments s knows)
+    (through_change _ _ (started now u).change u (IsBetween now s) (c.in-Ok-false.ensures.moments u before.2) (before.0, starts now u, before.1, refl)
+    (between_next now s before.0 (steady_known c.loop-cut.node u before.2 c.loop-cut.invariant.sound) before.1))
+
+pub returns-in-Err-clause-moments : goal.returns-in-Err-clause-moments
+returns-in-Err-clause-moments g c = λ s knows.
+    let now = c.args.now in
+    let before = c.loop-cut.invariant.told s knows in
+    let u = after_starts before.0 s in
+    through_then _ _ _ (IsBetween now s) (c.loop-cut.invariant.moments s knows)
+    (through_change _ _ (started now u).change u (IsBetween now s) (c.in-Err.ensures.moments u before.2) (before.0, starts now u, before.1, refl)
+    (between_next now s before.0 (steady_known c.loop-cut.node u before.2 c.loop-cut.invariant.sound) before.1))
 
 pub returns-in-Ok-false-clause-fewer : goal.returns-in-Ok-false-clause-fewer
 returns-in-Ok-false-clause-fewer g c =

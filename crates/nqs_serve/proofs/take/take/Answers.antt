@@ -3,6 +3,15 @@ use Rattle.nqs_node.specs.Nodes.{content_of}
 use Rattle.nqs_serve.proofs.Sendable.{alike_right, step_right}
 use Rattle.nqs_serve.proofs.take.take.Goals as goal
 
+pub returns-in-Ok-clause-moments : goal.returns-in-Ok-clause-moments
+returns-in-Ok-clause-moments g c = λ s knows. c.in-Ok.ensures.any_moment knows.0 s knows.1
+
+pub returns-in-Err-Memory-clause-moments : goal.returns-in-Err-Memory-clause-moments
+returns-in-Err-Memory-clause-moments g c = λ s knows. c.in-Err-Memory.ensures.any_moment knows.0 s knows.1
+
+pub returns-in-Err-Disk-clause-moments : goal.returns-in-Err-Disk-clause-moments
+returns-in-Err-Disk-clause-moments g c = λ s knows. c.in-Err-Disk.ensures.any_moment knows.0 s knows.1
+
 pub returns-in-Err-Memory-clause-memory : goal.returns-in-Err-Memory-clause-memory
 returns-in-Err-Memory-clause-memory g c = λ s knows failed. (knows.0, (c.in-Err-Memory.ensures.memory knows.0 (ap Err c.in-Err-Memory.field-0-is)).3 s knows.1)
 

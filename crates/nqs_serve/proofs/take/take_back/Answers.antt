@@ -1,13 +1,15 @@
-use Rattle.std.proofs.Common.{◌≡◌, ℕ, refl, ap, sym, ◌∙◌, ◌++◌, [], ◌∷◌, List, length, map, arith, inr}
+use Rattle.std.proofs.Common.{◌≡◌, ℕ, refl, ap, sym, ◌∙◌, ◌++◌, [], ◌∷◌, List, length, map, arith, inl, inr}
 use Rattle.nqs_rules.specs.Sane.{is_sane_event}
 use Rattle.nqs_back.specs.Back.{comes_back}
 use Rattle.nqs_node.specs.Nodes.{content_of}
 use Rattle.nqs_serve.specs.Events.{Here}
 use Rattle.nqs_serve.specs.Steps.{after_event}
+use Rattle.nqs_serve.specs.Moments.{IsPassed}
 use Rattle.nqs_serve.specs.Runs.{took, turn, event_back}
 use Rattle.nqs_serve.specs.declared.comeback.Comeback.{Comeback}
 use Rattle.nqs_serve.proofs.Acts.{arrivals_append, ran_none, ran_empty, took_back, cut_back}
 use Rattle.nqs_serve.proofs.Faults.{rose_behind}
+use Rattle.nqs_serve.proofs.Moments.{through_none, through_took_back, through_cut_back}
 use Rattle.nqs_serve.proofs.Sane.{sane_back, right_back, is_back}
 use Rattle.nqs_serve.specs.Sends.{is_right_event}
 use Rattle.nqs_serve.proofs.take.take_back.Goals as goal
@@ -19,7 +21,9 @@ loop-alloc-init g c = record {
   running = c.requires.running;
   later = λ which. omega arith;
   wire = omega arith;
-  ran = λ s here knows same. ([], s, refl, knows, ran_none here _ _);
+  ran = λ s here knows same.
+      let start = turn s (map event_back c.args.back.now.items) in
+      ([], s, refl, knows, ran_none here _ _, through_none c.args.node.now s (IsPassed here start [] []) knows ([], [], refl, inl refl));
 }
 
 pub take_event-taken-requires-clause-sane : goal.take_event-taken-requires-clause-sane
@@ -51,6 +55,7 @@ returns-in-Err-clause-cut g c = λ s here knows same.
       inr (e, map event_back rest, cut.0, refl, refl),
       λ failed. let known = cut.1 failed in (known.0, known.1, inr (e, map event_back rest, cut.0, refl, refl, known.2)),
       cut_back here before.0 _ before.1 e x c.loop-alloc.back.items rest cut.0 _ _ _ split c.event_back-event.ensures before.4 cut.2,
+      through_cut_back here _ _ _ _ before.0 before.1 e x c.loop-alloc.back.items rest cut.0 split c.event_back-event.ensures before.4.leads before.5 cut.3,
     )
 
 pub returns-in-Err-clause-broken : goal.returns-in-Err-clause-broken
@@ -85,6 +90,7 @@ loop-alloc-preserved g c =
             arrivals_append before.0 (took ok.0 ok.1 ∷ []) ∙ ap (λ l. l ++ []) before.2,
             ok.3,
             took_back here before.0 _ before.1 e x c.loop-alloc.back.items rest _ ok.0 ok.1 _ _ _ split c.event_back-event.ensures ok.2 ok.4 before.4 ok.5,
+            through_took_back here _ _ _ _ before.0 before.1 e x c.loop-alloc.back.items rest ok.0 ok.1 split c.event_back-event.ensures before.4.leads before.5 ok.6,
           );
     }
 
@@ -92,4 +98,4 @@ pub returns-clause-ok : goal.returns-clause-ok
 returns-clause-ok g c = λ s here knows same.
     let empty = c.waits.ensures.none c.loop-alloc-test.false in
     let before = c.loop-alloc.invariant.ran s here knows same in
-    (before.0, before.1, before.2, before.3, ran_empty here before.0 _ before.1 c.loop-alloc.back.items _ _ empty before.4)
+    (before.0, before.1, before.2, before.3, ran_empty here before.0 _ before.1 c.loop-alloc.back.items _ _ empty before.4, before.5)

@@ -26,6 +26,7 @@ returns-in-Err-clause-cut g c = λ s here knows same. (
   c.now-now.result,
   λ failed. c.in-Err.ensures.memory s c.args.event.now knows c.set_moment.ensures failed,
   clock_grew here _ _ _ _ _ _ _ c.now-now.result c.now-now.ensures,
+  c.in-Err.ensures.moments s c.args.event.now knows c.set_moment.ensures,
 )
 
 pub returns-in-Err-clause-broken : goal.returns-in-Err-clause-broken
@@ -38,6 +39,7 @@ returns-then-is_err-clause-cut g c = λ s here knows same.
       now,
       λ failed. (after_event now c.args.event.now s, told.0, inr (starts now (stepped now c.args.event.now s), [], sym (append-nil (starts now (stepped now c.args.event.now s))), refl)),
       clock_grew here _ _ _ _ _ _ _ now c.now-now.ensures,
+      c.in_default.ensures.moments s c.args.event.now knows c.set_moment.ensures,
     )
 
 pub returns-in_default-letters_of-clause-cut : goal.returns-in_default-letters_of-clause-cut
@@ -47,6 +49,7 @@ returns-in_default-letters_of-clause-cut g c = λ s here knows same.
       now,
       λ failed. (after_event now c.args.event.now s, told.0, inr (starts now (stepped now c.args.event.now s), [], sym (append-nil (starts now (stepped now c.args.event.now s))), refl)),
       clock_grew here _ _ _ _ _ _ _ now c.now-now.ensures,
+      c.in_default.ensures.moments s c.args.event.now knows c.set_moment.ensures,
     )
 
 pub returns-clause-ok : goal.returns-clause-ok
@@ -66,6 +69,7 @@ returns-clause-ok g c = λ s here knows same.
       told.0,
       carried.1 ∙ c.deref-2.ensures.value ∙ told.1 ∙ ap (λ (l : List Output). l ++ outputs now e s) c.clear.ensures.items,
       took_grew here now carried.0 _ _ c.carry.ensures.received carried.3 carried.4 carried.5 carried.6 c.now-now.ensures,
+      c.in_default.ensures.moments s e knows c.set_moment.ensures,
     )
 
 pub returns-clause-fewer : goal.returns-clause-fewer
