@@ -1,0 +1,12 @@
+use Rattle.std.proofs.Common.{refl}
+use Rattle.std.specs.Fmt.{digits}
+use Rattle.nqs_values.specs.Path.{has_parent}
+use Rattle.nqs_worked_tables.proofs.bounds.changes_have_bounds.Goals as goal
+
+pub returns-clause-kept : goal.returns-clause-kept
+unfolding digits has_parent
+returns-clause-kept c = refl
+
+pub returns-clause-lost : goal.returns-clause-lost
+unfolding digits has_parent
+returns-clause-lost c = refl

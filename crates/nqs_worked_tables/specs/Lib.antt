@@ -1,0 +1,11 @@
+pub mod Commands
+pub mod Refusals
+pub mod Bounds
+pub mod OrderBounds
+pub mod Fitting
+pub mod Made
+pub mod Steps
+pub mod Choices
+pub mod Worlds
+pub mod Texts
+pub mod TwoQueues

@@ -1,0 +1,49 @@
+//! Values at their bounds, and one beyond: edits, jobs, requests on their way, changes, commands, datagrams and events.
+ghost use Rattle.std.specs.Prelude.{◌≡◌, [], ◌∷◌, ◌++◌, map, replicate, true, false};
+ghost use Rattle.nqs_worked.specs.ScheduleWords.{host, request};
+ghost use Rattle.nqs_rules.specs.Conf.{is_conf_within};
+ghost use Rattle.nqs_rules.specs.Limits.{is_limits_within};
+ghost use Rattle.nqs_rules.specs.Rows.{is_rows_within};
+ghost use Rattle.nqs_rules.specs.Sane.{is_sane_edit, is_sane_job, is_sane_id, is_sane_carried, is_sane_change, is_name_byte, is_sane_name, is_asked_job, is_sane_command, is_offer_refusal, is_of_site, is_sane_body, is_sane_event};
+ghost use Rattle.nqs_worked_tables.specs.Bounds.{bytes, bounded_queue_edits, bounded_parameters, free_queue_edits, bounded_limits, free_limits, row_edits, edits_of_each_class, kept_jobs, asked_jobs, carried_ones, kept_changes, lost_changes, kept_commands, lost_commands, kept_bodies, lost_bodies, kept_events, lost_events};
+
+/// The numbers of edits: priorities to 63, limits of what runs to 10,000, waits from 1 to 86,400 seconds.
+pub fn edits_have_bounds()
+    ensures queues { map is_conf_within bounded_queue_edits ≡ true ∷ false ∷ false ∷ true ∷ false ∷ false ∷ true ∷ false ∷ false ∷ true ∷ true ∷ true ∷ [] }
+    ensures parameters { map is_conf_within bounded_parameters ≡ true ∷ false ∷ true ∷ false ∷ false ∷ true ∷ true ∷ false ∷ false ∷ true ∷ true ∷ false ∷ [] }
+    ensures no_number { map is_conf_within free_queue_edits ≡ replicate 10 true }
+    ensures limits { map is_limits_within bounded_limits ≡ true ∷ true ∷ false ∷ true ∷ false ∷ true ∷ false ∷ [] }
+    ensures no_limit { map is_limits_within free_limits ≡ replicate 7 true }
+    ensures rows { map is_rows_within row_edits ≡ true ∷ false ∷ true ∷ true ∷ true ∷ true ∷ [] }
+    ensures classes { map is_sane_edit edits_of_each_class ≡ true ∷ false ∷ true ∷ false ∷ true ∷ true ∷ true ∷ false ∷ [] }
+{}
+
+/// Names of 1 to 15 bytes that are seen but no `/`, priorities to 63, paths below the folder; a job that is asked for may leave its paths out.
+pub fn jobs_have_bounds()
+    ensures kept { map is_sane_job kept_jobs ≡ true ∷ true ∷ false ∷ false ∷ false ∷ false ∷ false ∷ [] }
+    ensures asked { map is_asked_job asked_jobs ≡ replicate 6 true ++ replicate 6 false }
+    ensures name_bytes { map is_name_byte (32 ∷ 33 ∷ 46 ∷ 47 ∷ 48 ∷ 126 ∷ 127 ∷ []) ≡ false ∷ true ∷ true ∷ false ∷ true ∷ true ∷ false ∷ [] }
+    ensures names { map (λ n. is_sane_name (bytes n)) (0 ∷ 1 ∷ 15 ∷ 16 ∷ []) ≡ false ∷ true ∷ true ∷ false ∷ [] }
+    ensures numbers { map (λ n. is_sane_id (request n 9)) (0 ∷ 1 ∷ 4294967294 ∷ 4294967295 ∷ []) ≡ false ∷ true ∷ true ∷ false ∷ [] }
+    ensures carried { map is_sane_carried carried_ones ≡ replicate 4 true ++ replicate 7 false }
+{}
+
+/// The values of each kind of change.
+pub fn changes_have_bounds()
+    ensures kept { map is_sane_change kept_changes ≡ replicate 25 true }
+    ensures lost { map is_sane_change lost_changes ≡ replicate 11 false }
+{}
+
+/// Scripts to 32,768 bytes, outputs of an end to 16,384 each, numbers from 1 on, senders and requests of hosts of the site.
+pub fn events_have_bounds()
+    ensures commands { map is_sane_command kept_commands ≡ replicate 9 true }
+    ensures no_commands { map is_sane_command lost_commands ≡ replicate 3 false }
+    ensures refusals { map is_offer_refusal (3 ∷ 19 ∷ 21 ∷ 28 ∷ 29 ∷ 31 ∷ 32 ∷ 33 ∷ []) ≡ replicate 8 true }
+    ensures other_refusals { map is_offer_refusal (0 ∷ 1 ∷ 2 ∷ 4 ∷ 5 ∷ 6 ∷ 7 ∷ 8 ∷ 9 ∷ 10 ∷ 11 ∷ 12 ∷ 13 ∷ 14 ∷ 15 ∷ 16 ∷ 17 ∷ 18 ∷ 20 ∷ 22 ∷ 23 ∷ 24 ∷ 25 ∷ 26
+        ∷ 27 ∷ 30 ∷ 34 ∷ []) ≡ replicate 27 false }
+    ensures places { map (λ n. is_of_site 2 (host n)) (0 ∷ 1 ∷ 2 ∷ []) ≡ true ∷ true ∷ false ∷ [] }
+    ensures bodies { map (is_sane_body 2) kept_bodies ≡ replicate 13 true }
+    ensures no_bodies { map (is_sane_body 2) lost_bodies ≡ replicate 9 false }
+    ensures events { map (is_sane_event 2) kept_events ≡ replicate 7 true }
+    ensures no_events { map (is_sane_event 2) lost_events ≡ replicate 5 false }
+{}
