@@ -12,3 +12,10 @@ pub mod Spelled
 pub mod Joined
 pub mod SaneLaws
 pub mod PutBack
+pub mod Steady
+pub mod SteadyFields
+pub mod SteadyNames
+pub mod SteadyParts
+pub mod SteadyEdits
+pub mod SteadyKinds
+pub mod FirstFaults

@@ -10,3 +10,4 @@ pub mod Edits
 pub mod Kinds
 pub mod Extents
 pub mod Changes
+pub mod Faults

@@ -40,5 +40,5 @@ pub use field::{read_bool, read_name, read_u8, read_u16, read_u32, read_u64};
 pub use job::read_carried;
 pub use part::{read_host, read_id, read_path};
 pub use put_parts::{put_carried, put_id};
-pub use read::{read_change, reads_the_spelling, what_may_stand_is_sane};
+pub use read::{first_faults, read_change, reads_the_spelling, what_may_stand_is_sane};
 pub use write::write_change;

@@ -5,6 +5,7 @@ ghost use Rattle.nqs_records.specs.Reading.{Answers, numbered, bad_at};
 ghost use Rattle.nqs_records.specs.Kinds.{kinds, no_kind, edited_at, record_of};
 ghost use Rattle.nqs_records.specs.Edits.{edits, edit_at};
 ghost use Rattle.nqs_records.specs.Changes.{ReadsTheSpelling, IsSpelledBy, SpellsNone, WhatMayStandIsSane};
+ghost use Rattle.nqs_records.specs.Faults.{FirstFaults};
 ghost use Rattle.nqs_records.specs.declared.fault.RecordFault.TheVariants.{Memory};
 
 use crate::edit_kinds::{read_complex_edit, read_creation, read_number_edit, read_queue_edit};
@@ -123,6 +124,12 @@ pub fn read_change(alloc: Global, bytes: &[u8]) -> Result<Change, RecordFault>
 /// a law, which callers call for its contract.
 pub fn reads_the_spelling()
     ensures { ReadsTheSpelling }
+{}
+
+/// Which bytes have which first fault, apart from how they are read. A fault other than that they are short is one whatever
+/// follows them, so that with no bytes behind them are they a change; and a change that is cut off is short: a law.
+pub fn first_faults()
+    ensures { FirstFaults }
 {}
 
 /// A change that may stand in a record is one that the rules call sane: a law, which callers call for its contract.
