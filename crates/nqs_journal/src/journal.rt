@@ -1,8 +1,8 @@
 //! An open journal: payloads are appended by four calls of its disk, the gate's byte last.
 ghost use Rattle.std.specs.Prelude.{◌≡◌, ◌-◌, max, nat_le, IfOk, IfErr, ◌⊎◌, ◌↔◌, ◌+◌, ◌<◌, ◌≤◌, ◌^◌, ◌++◌, [], ◌∷◌, List, ℕ, IsTrue, IsErrOf, OnOk, OnErr, MatchResult, true, false, length, vec_capacity};
 ghost use Rattle.nqs_outside.specs.Causes.{Rose};
-ghost use Rattle.nqs_outside.specs.History.{Call, content, IsQuiet, extended, moment, state_at, MayLeave, EachSince, StopsShort, IsExact};
-ghost use Rattle.nqs_journal.specs.Text.{header, records, snapshot_front, StandsAfter};
+ghost use Rattle.nqs_outside.specs.History.{Call, content, IsQuiet, extended, moment, state_at, MayLeave, EachSince, StopsShort, IsExact, IsWhole};
+ghost use Rattle.nqs_journal.specs.Text.{header, records, snapshot_front, StandsAfter, StandsFor};
 ghost use Rattle.nqs_journal.specs.Plan.{append_calls, format_calls, begin_calls};
 ghost use Rattle.nqs_journal.specs.Faults.{IsAppendFault, IsLoadFault, MatchBegin};
 ghost use Rattle.nqs_journal.specs.Opened.{IsOpen};
@@ -118,7 +118,7 @@ pub fn format<D: Disk>(disk: &mut D) -> Result<(), JournalFault>
 }
 
 impl<D: Disk> Journal<D> {
-    ghost use Rattle.nqs_journal.specs.Open.{disk_of, is_stopped, history_of, Tells};
+    ghost use Rattle.nqs_journal.specs.Open.{disk_of, gate_of, is_stopped, history_of, Tells};
 
     /// Opens a journal and adds its payloads to those found. On a refusal these are as before.
     pub fn load(
@@ -136,7 +136,8 @@ impl<D: Disk> Journal<D> {
         ensures same_err { IsTrue D.tells → IfErr result (λ e. D.history e.1 ≡ D.history disk) }
         ensures fault { IsTrue D.tells → IfErr result (λ e. IsLoadFault (content (D.history disk)) e.0) }
         ensures failed { IfErr result (λ e. e.0 ≡ JournalFault.Disk → Rose (D.faults disk) (D.faults e.1)) }
-        // Only after a call that was to fail.
+        // Ok only where no call that was made was to fail, and `Disk` only after one that was.
+        ensures whole { IsTrue D.tells → OnOk result (IsWhole (D.fails disk) (moment (D.history disk))) }
         ensures cause { IsTrue D.tells → IfErr result (λ e. e.0 ≡ JournalFault.Disk → (i : ℕ) × (i < moment (D.history disk)) × IsTrue (D.fails disk i)) }
         ensures fuse { IsTrue D.tells → (i : ℕ) → MatchResult result (λ journal. D.fails (disk_of journal) i ≡ D.fails disk i) (λ e. D.fails e.1 i ≡ D.fails disk i) }
         ensures starved { IsTrue D.tells → MatchResult result (λ journal. D.starved (disk_of journal) ≡ D.starved disk) (λ e. D.starved e.1 ≡ D.starved disk) }
@@ -201,8 +202,11 @@ impl<D: Disk> Journal<D> {
         disk
     }
 
-    /// Adds the payloads that a read finds now.
+    /// Adds the payloads that a read of the disk finds now, whatever the journal told before. It writes nothing, and
+    /// the journal stays as it is. `NotJournal` tells the first byte at fault; an `Err` adds nothing.
     pub fn reread(&mut self, alloc: Global, found: &mut Vec<Bytes>) -> Result<(), JournalFault>
+        ensures stands { IsTrue D.tells → OnOk result ((payloads : List (List ℕ)) × StandsFor (content (history_of self.old)) payloads
+            × (found.new.items ≡ found.old.items ++ payloads)) }
         ensures found { IsTrue D.tells → OnOk result ((payloads : List (List ℕ)) → Tells self.old header payloads
             → found.new.items ≡ found.old.items ++ payloads) }
         ensures small { OnOk result ((payloads : List (List ℕ)) × (found.new.items ≡ found.old.items ++ payloads) × (length (header ++ records payloads) ≤ 2 ^ 40)) }
@@ -212,11 +216,12 @@ impl<D: Disk> Journal<D> {
         ensures later { D.faults (disk_of self.old) ≤ D.faults (disk_of self.new) }
         ensures fault { IsTrue D.tells → IfErr result (IsLoadFault (content (history_of self.old))) }
         ensures failed { IsErrOf result JournalFault.Disk → Rose (D.faults (disk_of self.old)) (D.faults (disk_of self.new)) }
-        // Only after a call that was to fail.
+        // Ok only where no call that was made was to fail, and `Disk` only after one that was.
+        ensures whole { IsTrue D.tells → OnOk result (IsWhole (D.fails (disk_of self.old)) (moment (history_of self.old))) }
         ensures cause { IsTrue D.tells → IsErrOf result JournalFault.Disk → (i : ℕ) × (i < moment (history_of self.old)) × IsTrue (D.fails (disk_of self.old) i) }
         ensures fuse { IsTrue D.tells → (i : ℕ) → D.fails (disk_of self.new) i ≡ D.fails (disk_of self.old) i }
         ensures starved { IsTrue D.tells → D.starved (disk_of self.new) ≡ D.starved (disk_of self.old) }
-        ensures stays { is_stopped self.new ≡ is_stopped self.old }
+        ensures stays { (gate_of self.new ≡ gate_of self.old) × (is_stopped self.new ≡ is_stopped self.old) }
     {
         read_payloads(alloc, &mut self.disk, found)
     }
@@ -225,11 +230,15 @@ impl<D: Disk> Journal<D> {
 impl<D: Fused> Journal<D> {
     ghost use Rattle.nqs_journal.specs.Open.{disk_of, gate_of, is_stopped, history_of};
 
-    /// Sets the disk to fail.
+    /// Makes the calls-th write or sync from here of the disk fail, and each later call. Where one that was to fail was
+    /// made already, nothing changes.
     pub fn fuse(&mut self, calls: u64)
         ensures same { D.history (disk_of self.new) ≡ D.history (disk_of self.old) }
         ensures set { IsTrue D.tells → ((i : ℕ) → i < moment (history_of self.old) → D.fails (disk_of self.old) i ≡ false)
             → (i : ℕ) → D.fails (disk_of self.new) i ≡ nat_le (moment (history_of self.old) + (max calls 1 - 1)) i }
+        ensures stays { IsTrue D.tells → (i : ℕ) → i < moment (history_of self.old) → IsTrue (D.fails (disk_of self.old) i)
+            → (j : ℕ) → D.fails (disk_of self.new) j ≡ D.fails (disk_of self.old) j }
+        ensures onward { IsTrue D.tells → (i : ℕ) → IsTrue (D.fails (disk_of self.new) i) → (j : ℕ) → i ≤ j → IsTrue (D.fails (disk_of self.new) j) }
         ensures starved { D.starved (disk_of self.new) ≡ D.starved (disk_of self.old) }
         ensures gate { gate_of self.new ≡ gate_of self.old }
         ensures stopped { is_stopped self.new ≡ is_stopped self.old }

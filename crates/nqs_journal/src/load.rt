@@ -1,7 +1,7 @@
 //! The payloads that the bytes of a disk stand for.
 ghost use Rattle.std.specs.Prelude.{[], ◌≡◌, ◌+◌, ◌<◌, ◌≤◌, ◌^◌, ◌++◌, ℕ, List, IsTrue, IsErrOf, OnOk, OnErr, IfOk, IfErr, length, vec_len, MatchResult};
 ghost use Rattle.nqs_outside.specs.Causes.{Rose};
-ghost use Rattle.nqs_outside.specs.History.{content, moment};
+ghost use Rattle.nqs_outside.specs.History.{content, moment, IsWhole};
 ghost use Rattle.nqs_journal.specs.Text.{header, records, StandsFor};
 ghost use Rattle.nqs_journal.specs.Faults.{IsLoadFault};
 
@@ -29,7 +29,8 @@ fn read_disk<D: Disk>(alloc: Global, disk: &mut D) -> Result<Vec<u8>, JournalFau
     ensures later { D.faults disk.old ≤ D.faults disk.new }
     ensures fault { IfErr result (λ e. (bytes : List ℕ) → IsLoadFault bytes e) }
     ensures failed { IsErrOf result JournalFault.Disk → Rose (D.faults disk.old) (D.faults disk.new) }
-    // Only after a call that was to fail.
+    // Ok only where no call that was made was to fail, and `Disk` only after one that was.
+    ensures whole { IsTrue D.tells → OnOk result (IsWhole (D.fails disk.old) (moment (D.history disk.old))) }
     ensures cause { IsTrue D.tells → IsErrOf result JournalFault.Disk → (i : ℕ) × (i < moment (D.history disk.old)) × IsTrue (D.fails disk.old i) }
     ensures fuse { IsTrue D.tells → (i : ℕ) → D.fails disk.new i ≡ D.fails disk.old i }
     ensures starved { IsTrue D.tells → D.starved disk.new ≡ D.starved disk.old }
@@ -50,7 +51,8 @@ pub(crate) fn read_journal<D: Disk>(alloc: Global, disk: &mut D) -> Result<Readi
     ensures later { D.faults disk.old ≤ D.faults disk.new }
     ensures fault { IsTrue D.tells → IfErr result (IsLoadFault (content (D.history disk.old))) }
     ensures failed { IsErrOf result JournalFault.Disk → Rose (D.faults disk.old) (D.faults disk.new) }
-    // Only after a call that was to fail.
+    // Ok only where no call that was made was to fail, and `Disk` only after one that was.
+    ensures whole { IsTrue D.tells → OnOk result (IsWhole (D.fails disk.old) (moment (D.history disk.old))) }
     ensures cause { IsTrue D.tells → IsErrOf result JournalFault.Disk → (i : ℕ) × (i < moment (D.history disk.old)) × IsTrue (D.fails disk.old i) }
     ensures fuse { IsTrue D.tells → (i : ℕ) → D.fails disk.new i ≡ D.fails disk.old i }
     ensures starved { IsTrue D.tells → D.starved disk.new ≡ D.starved disk.old }
@@ -73,7 +75,8 @@ pub fn read_payloads<D: Disk>(
     ensures later { D.faults disk.old ≤ D.faults disk.new }
     ensures fault { IsTrue D.tells → IfErr result (IsLoadFault (content (D.history disk.old))) }
     ensures failed { IsErrOf result JournalFault.Disk → Rose (D.faults disk.old) (D.faults disk.new) }
-    // Only after a call that was to fail.
+    // Ok only where no call that was made was to fail, and `Disk` only after one that was.
+    ensures whole { IsTrue D.tells → OnOk result (IsWhole (D.fails disk.old) (moment (D.history disk.old))) }
     ensures cause { IsTrue D.tells → IsErrOf result JournalFault.Disk → (i : ℕ) × (i < moment (D.history disk.old)) × IsTrue (D.fails disk.old i) }
     ensures fuse { IsTrue D.tells → (i : ℕ) → D.fails disk.new i ≡ D.fails disk.old i }
     ensures starved { IsTrue D.tells → D.starved disk.new ≡ D.starved disk.old }

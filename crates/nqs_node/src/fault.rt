@@ -16,7 +16,7 @@ pub enum NodeFault {
     /// A call of this disk failed. The node is stopped: it is to be closed.
     #[error("a disk failed")]
     Disk(Which),
-    /// An earlier call was answered `Disk`.
+    /// An earlier call was answered `Disk`. It leaves all as it was.
     #[error("the node is stopped")]
     Stopped,
 }

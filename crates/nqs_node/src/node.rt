@@ -51,7 +51,8 @@ pub struct Node<D: Disk> {
 impl<D: Disk> Node<D> {
     ghost use Rattle.nqs_node.specs.Nodes.{disk_of, history_of, fails_of, is_starved, content_of, bare, is_stopped, Tells};
 
-    /// Takes an event: keeps its change, makes it, and adds to `out` what goes out. `Memory` leaves all as it was.
+    /// Takes an event: keeps its change, makes it, and adds to `out` what goes out. `Memory` and
+    /// `Stopped` leave all as it was.
     pub fn take(
         &mut self,
         alloc: Global,
@@ -63,6 +64,7 @@ impl<D: Disk> Node<D> {
         ensures sound { IsSoundHost (content_of self.new) }
         ensures site { (content_of self.new).site ≡ (content_of self.old).site }
         ensures stopped { IsErrOf result NodeFault.Stopped ↔ IsTrue (is_stopped self.old) }
+        ensures refused { IsErrOf result NodeFault.Stopped → (self.new ≡ self.old) × (out.new ≡ out.old) }
         ensures running { OnOk result (is_stopped self.new ≡ false) }
         ensures broken { (which : Which) → IsErrOf result (NodeFault.Disk which) → IsTrue (is_stopped self.new) × Rose (D.faults (disk_of which self.old)) (D.faults (disk_of which self.new)) }
         ensures unsaid { OnErr result (out.new.items ≡ out.old.items) }
@@ -122,8 +124,8 @@ impl<D: Disk> Node<D> {
         start(alloc, &self.state, now)
     }
 
-    /// Starts the next request, if one may start: `false` where none may. `Memory` leaves all as it was. Where the last
-    /// such call at this moment found none, and no change was made since, it doesn't look again.
+    /// Starts the next request, if one may start: `false` where none may. `Memory` and `Stopped` leave all as it was.
+    /// Where the last such call at this moment found none, and no change was made since, it doesn't look again.
     pub fn start_next(
         &mut self,
         alloc: Global,
@@ -134,6 +136,7 @@ impl<D: Disk> Node<D> {
         ensures sound { IsSoundHost (content_of self.new) }
         ensures site { (content_of self.new).site ≡ (content_of self.old).site }
         ensures stopped { IsErrOf result NodeFault.Stopped ↔ IsTrue (is_stopped self.old) }
+        ensures refused { IsErrOf result NodeFault.Stopped → (self.new ≡ self.old) × (out.new ≡ out.old) }
         ensures running { OnOk result (is_stopped self.new ≡ false) }
         ensures broken { (which : Which) → IsErrOf result (NodeFault.Disk which) → IsTrue (is_stopped self.new) × Rose (D.faults (disk_of which self.old)) (D.faults (disk_of which self.new)) }
         ensures unsaid { OnErr result (out.new.items ≡ out.old.items) }

@@ -1,7 +1,7 @@
 // A disk as the crates above see it.
 ghost use Rattle.std.specs.Prelude.{◌≡◌, ◌⊎◌, ◌+◌, ◌-◌, ◌<◌, ◌≤◌, ◌^◌, ◌++◌, [], ◌∷◌, ℕ, Bool, true, false, IsTrue, min, max, nat_le, length, take, drop, IfOk, OnOk, OnErr};
 ghost use Rattle.nqs_outside.specs.Causes.{Rose};
-ghost use Rattle.nqs_outside.specs.History.{History, Call, write, sync, content, extended, moment, IsBroken};
+ghost use Rattle.nqs_outside.specs.History.{History, Call, write, sync, content, extended, moment, IsBroken, IsWhole};
 
 use crate::source::Failed;
 
@@ -27,7 +27,8 @@ pub trait Disk {
         ensures same { IsTrue tells → history self.new ≡ history self.old }
         ensures fuse { IsTrue tells → (i : ℕ) → fails self.new i ≡ fails self.old i }
         ensures starved { IsTrue tells → starved self.new ≡ starved self.old }
-        // Only after a call that was to fail.
+        // Ok only where no call that was made was to fail, and an error only after one that was.
+        ensures whole { IsTrue tells → OnOk result (IsWhole (fails self.old) (moment (history self.old))) }
         ensures cause { IsTrue tells → OnErr result ((i : ℕ) × (i < moment (history self.old)) × IsTrue (fails self.old i)) }
         ensures later { faults self.old ≤ faults self.new }
         ensures failed { OnErr result (Rose (faults self.old) (faults self.new)) };
@@ -40,7 +41,8 @@ pub trait Disk {
         ensures same { IsTrue tells → history self.new ≡ history self.old }
         ensures fuse { IsTrue tells → (i : ℕ) → fails self.new i ≡ fails self.old i }
         ensures starved { IsTrue tells → starved self.new ≡ starved self.old }
-        // Only after a call that was to fail.
+        // Ok only where no call that was made was to fail, and an error only after one that was.
+        ensures whole { IsTrue tells → OnOk result (IsWhole (fails self.old) (moment (history self.old))) }
         ensures cause { IsTrue tells → OnErr result ((i : ℕ) × (i < moment (history self.old)) × IsTrue (fails self.old i)) }
         ensures later { faults self.old ≤ faults self.new }
         ensures failed { OnErr result (Rose (faults self.old) (faults self.new)) };
@@ -51,6 +53,7 @@ pub trait Disk {
         ensures small { OnOk result (place + length bytes.now ≤ 2 ^ 40) }
         ensures made { IsTrue tells → OnOk result (history self.new ≡ extended (history self.old) (write place bytes.now true ∷ [])) }
         ensures due { IsTrue tells → OnOk result (fails self.old (moment (history self.old)) ≡ false) }
+        ensures whole { IsTrue tells → OnOk result (IsWhole (fails self.old) (moment (history self.old))) }
         // A refused growth isn't in the list.
         ensures broken { IsTrue tells → OnErr result (IsBroken (history self.old) (history self.new) (write place bytes.now false)
             (fails self.old (moment (history self.old))) (starved self.old) (starved self.new)) }
@@ -63,6 +66,7 @@ pub trait Disk {
     fn sync(&mut self) -> Result<(), Failed>
         ensures made { IsTrue tells → OnOk result (history self.new ≡ extended (history self.old) (sync true ∷ [])) }
         ensures due { IsTrue tells → OnOk result (fails self.old (moment (history self.old)) ≡ false) }
+        ensures whole { IsTrue tells → OnOk result (IsWhole (fails self.old) (moment (history self.old))) }
         ensures broken { IsTrue tells → OnErr result (IsBroken (history self.old) (history self.new) (sync false)
             (fails self.old (moment (history self.old))) (starved self.old) (starved self.new)) }
         ensures fuse { IsTrue tells → (i : ℕ) → fails self.new i ≡ fails self.old i }
@@ -73,12 +77,17 @@ pub trait Disk {
 
 /// A disk that can be set to fail.
 pub trait Fused: Disk {
-    /// Makes the calls-th write or sync from here fail, and each later call.
+    /// Makes the calls-th write or sync from here fail, and each later call. Where one that was to fail
+    /// was made already, nothing changes.
     fn fuse(&mut self, calls: u64)
         ensures same { Self.history self.new ≡ Self.history self.old }
         ensures starved { Self.starved self.new ≡ Self.starved self.old }
         ensures faults { Self.faults self.new ≡ Self.faults self.old }
         // If none was to fail before.
         ensures set { IsTrue Self.tells → ((i : ℕ) → i < moment (Self.history self.old) → Self.fails self.old i ≡ false)
-            → (i : ℕ) → Self.fails self.new i ≡ nat_le (moment (Self.history self.old) + (max calls 1 - 1)) i };
+            → (i : ℕ) → Self.fails self.new i ≡ nat_le (moment (Self.history self.old) + (max calls 1 - 1)) i }
+        ensures stays { IsTrue Self.tells → (i : ℕ) → i < moment (Self.history self.old) → IsTrue (Self.fails self.old i)
+            → (j : ℕ) → Self.fails self.new j ≡ Self.fails self.old j }
+        // Each call behind one that is to fail is to fail.
+        ensures onward { IsTrue Self.tells → (i : ℕ) → IsTrue (Self.fails self.new i) → (j : ℕ) → i ≤ j → IsTrue (Self.fails self.new j) };
 }

@@ -17,7 +17,7 @@ mod wire;
 pub use clock::Clock;
 pub use disk::{Disk, Fused};
 pub use launcher::Launcher;
-pub use memory::{ListSource, MemSink, MemSource};
+pub use memory::{ListSource, MemSink, MemSource, SinkCall};
 pub use outlet::Outlet;
 pub use printer::Printer;
 pub use runner::{RunEnd, Runner};

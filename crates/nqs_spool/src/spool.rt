@@ -185,11 +185,15 @@ impl<D: Disk> Spool<D> {
 impl<D: Fused> Spool<D> {
     ghost use Rattle.nqs_spool.specs.Spooled.{disk_of, history_of, room_of, Tells};
 
-    /// Makes the disk's calls-th write or sync from here fail, and each later call.
+    /// Makes the disk's calls-th write or sync from here fail, and each later call. Where one that was to fail was made
+    /// already, nothing changes.
     pub fn fuse(&mut self, calls: u64)
         ensures same { D.history (disk_of self.new) ≡ D.history (disk_of self.old) }
         ensures set { IsTrue D.tells → ((i : ℕ) → i < moment (history_of self.old) → D.fails (disk_of self.old) i ≡ false)
             → (i : ℕ) → D.fails (disk_of self.new) i ≡ nat_le (moment (history_of self.old) + (max calls 1 - 1)) i }
+        ensures stays { IsTrue D.tells → (i : ℕ) → i < moment (history_of self.old) → IsTrue (D.fails (disk_of self.old) i)
+            → (j : ℕ) → D.fails (disk_of self.new) j ≡ D.fails (disk_of self.old) j }
+        ensures onward { IsTrue D.tells → (i : ℕ) → IsTrue (D.fails (disk_of self.new) i) → (j : ℕ) → i ≤ j → IsTrue (D.fails (disk_of self.new) j) }
         ensures starved { D.starved (disk_of self.new) ≡ D.starved (disk_of self.old) }
         ensures faults { D.faults (disk_of self.new) ≡ D.faults (disk_of self.old) }
         ensures tells { (live : List Extent) → Tells self.old live → Tells self.new live }

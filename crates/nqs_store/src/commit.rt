@@ -36,7 +36,8 @@ impl<D: Disk> Store<D> {
 
     /// Keeps a change of the host, whose told state is given: puts the bytes in order into the spool, sets the change's
     /// extents, and appends the record. It is all on the disks before the answer. Then the extents that the change takes
-    /// away are free. `Memory` comes before the first call of a disk and leaves all as it was; after `Disk` the store is stopped.
+    /// away are free. `Memory` comes before the first call of a disk and leaves all as it was; after `Disk` the store is
+    /// stopped. `Stopped` changes nothing.
     pub fn commit(
         &mut self,
         alloc: Global,
@@ -50,6 +51,7 @@ impl<D: Disk> Store<D> {
         requires short { AllByRecursion IsShortPut puts.now }
 
         ensures stopped { IsErrOf result StoreFault.Stopped ↔ IsTrue (is_stopped self.old) }
+        ensures refused { IsErrOf result StoreFault.Stopped → (self.new ≡ self.old) × (change.new ≡ change.old) }
         ensures running { OnOk result (is_stopped self.new ≡ false) }
         ensures broken { (which : Which) → IsErrOf result (StoreFault.Disk which) → IsTrue (is_stopped self.new) × Rose (D.faults (disk_of which self.old)) (D.faults (disk_of which self.new)) }
         ensures only_disks { IfErr result IsCommitFault }

@@ -31,7 +31,7 @@ pub enum StoreFault {
     /// It leaves all as it was.
     #[error("out of memory")]
     Memory,
-    /// An earlier commit was answered `Disk`.
+    /// An earlier commit was answered `Disk`. It leaves all as it was.
     #[error("the store is stopped")]
     Stopped,
 }

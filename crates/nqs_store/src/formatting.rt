@@ -1,8 +1,8 @@
 //! The disks of a host that is formatted.
 
-ghost use Rattle.std.specs.Prelude.{◌≡◌, ◌⊎◌, ◌≤◌, ℕ, IsTrue, IsErrOf, OnOk, IfOk, IfErr, length, vec_len, ◌++◌, ◌∷◌, [], Ok};
+ghost use Rattle.std.specs.Prelude.{◌≡◌, ◌⊎◌, ◌≤◌, ℕ, List, IsTrue, IsErrOf, OnOk, IfOk, IfErr, length, vec_len, ◌++◌, ◌∷◌, [], Ok};
 ghost use Rattle.nqs_outside.specs.Causes.{Rose};
-ghost use Rattle.nqs_outside.specs.History.{extended};
+ghost use Rattle.nqs_outside.specs.History.{Call, extended, StopsShort};
 ghost use Rattle.nqs_journal.specs.Text.{header, records};
 ghost use Rattle.nqs_journal.specs.Plan.{begin_calls};
 ghost use Rattle.nqs_records.specs.Changes.{MayStand, spelling};
@@ -42,7 +42,8 @@ pub(crate) fn read_back(text: &[u8], change: &Change)
     ensures { MayStand change.now → text.now ≡ spelling change.now → record_of text.now ≡ Ok change.now }
 {}
 
-/// Makes empty disks those of a host of this site. `Memory` comes before the first call of a disk.
+/// Makes empty disks those of a host of this site. `Memory` comes before the first call of a disk, and `Disk` says that a
+/// call of `first` failed: the calls before it were made. The other disks are left alone.
 pub fn format<D: Disk>(
     alloc: Global,
     disks: &mut Disks<D>,
@@ -53,6 +54,9 @@ pub fn format<D: Disk>(
     ensures told { IsTrue D.tells → OnOk result (IsFormatted (D.history disks.new.first) me site.now) }
     ensures made { IsTrue D.tells → OnOk result (D.history disks.new.first ≡ extended (D.history disks.old.first) (begin_calls (header ++ records (spelling (Change.Site me site.now) ∷ []) ++ 0 ∷ []))) }
     ensures only { IfErr result (λ fault. (fault ≡ StoreFault.Disk Which.First) ⊎ (fault ≡ StoreFault.Memory)) }
+    // At `Disk` just the first of these calls were made, of which only the last may have failed.
+    ensures broken { IsTrue D.tells → IsErrOf result (StoreFault.Disk Which.First) → (calls : List Call) × (D.history disks.new.first ≡ extended (D.history disks.old.first) calls)
+        × StopsShort (begin_calls (header ++ records (spelling (Change.Site me site.now) ∷ []) ++ 0 ∷ [])) calls }
     ensures memory { IsTrue D.tells → IsErrOf result StoreFault.Memory → D.history disks.new.first ≡ D.history disks.old.first }
     ensures failed { IsErrOf result (StoreFault.Disk Which.First) → Rose (D.faults disks.old.first) (D.faults disks.new.first) }
     ensures fuse { IsTrue D.tells → (i : ℕ) → D.fails disks.new.first i ≡ D.fails disks.old.first i }

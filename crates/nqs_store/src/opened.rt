@@ -1,16 +1,17 @@
 //! Calls of an open store that keep nothing.
 
-ghost use Rattle.std.specs.Prelude.{◌≡◌, ◌≢◌, ◌⊎◌, ◌↔◌, ◌<◌, ◌≤◌, ◌+◌, ◌-◌, ◌++◌, ℕ, List, IsTrue, IsErrOf, OnOk, OnErr, IfOk, IfErr, false, length, max, nat_le, vec_capacity};
+ghost use Rattle.std.specs.Prelude.{◌≡◌, ◌≢◌, ◌⊎◌, ◌↔◌, ◌<◌, ◌≤◌, ◌+◌, ◌-◌, ◌++◌, ℕ, List, IsTrue, IsErrOf, OnOk, OnErr, IfOk, IfErr, Some, false, length, max, nat_le, vec_capacity};
 ghost use Rattle.nqs_state.specs.State.{content};
 ghost use Rattle.nqs_types.specs.declared.world.Which.{Which};
-ghost use Rattle.nqs_types.specs.declared.world.Which.TheVariants.{Spool};
+ghost use Rattle.nqs_types.specs.declared.world.Which.TheVariants.{First, Spool};
 ghost use Rattle.nqs_outside.specs.Causes.{Rose};
-ghost use Rattle.nqs_outside.specs.History.{moment};
-ghost use Rattle.nqs_spool.specs.Extents.{Has};
-ghost use Rattle.nqs_store.specs.Told.{Host};
+ghost use Rattle.nqs_outside.specs.History.{content as bytes_now, moment};
+ghost use Rattle.nqs_journal.specs.Text.{StandsFor};
+ghost use Rattle.nqs_spool.specs.Extents.{Has, AreSound};
+ghost use Rattle.nqs_store.specs.Told.{Host, told};
 ghost use Rattle.nqs_store.specs.Live.{live};
 ghost use Rattle.nqs_store.specs.Sound.{IsSoundHost};
-ghost use Rattle.nqs_store.specs.Faults.{IsScriptFault};
+ghost use Rattle.nqs_store.specs.Faults.{IsScriptFault, IsLoadFault};
 
 use crate::fault::{LoadFault, StoreFault};
 use crate::store::{Store, first_fault, host_with};
@@ -58,8 +59,12 @@ impl<D: Disk> Store<D> {
         }
     }
 
-    /// Tells the host by what its disks hold now, and writes nothing.
+    /// Tells the host by what its disks hold now, whatever the store told before. It writes nothing, and the store stays
+    /// as it is. `NotNqs` has the disk and the place of the first test that fails, as in `load`.
     pub fn reread(&mut self, alloc: Global) -> Result<HostState, LoadFault>
+        ensures found { IsTrue D.tells → IfOk result (λ state. (payloads : List (List ℕ)) × StandsFor (bytes_now (history_of self.old First)) payloads × (told payloads ≡ Some (content state))
+            × AreSound (length (bytes_now (history_of self.old Spool))) (live (content state))) }
+        ensures fault { IsTrue D.tells → IfErr result (IsLoadFault (bytes_now (history_of self.old First)) (bytes_now (history_of self.old Spool))) }
         ensures told { IsTrue D.tells → (host : Host) → Tells self.old host → IfOk result (λ state. content state ≡ host) }
         ensures sound { IfOk result (λ state. IsSoundHost (content state)) }
         ensures never { IsTrue D.tells → (host : Host) → Tells self.old host → (which : Which) (place : ℕ) → IsErrOf result (LoadFault.NotNqs which place) → ⊥ }
@@ -84,11 +89,15 @@ impl<D: Disk> Store<D> {
 impl<D: Fused> Store<D> {
     ghost use Rattle.nqs_store.specs.Stores.{disk_of, history_of, fails_of, is_starved, is_stopped, Tells};
 
-    /// Makes the calls-th write or sync from here of the disk fail, and each later call of it. It changes nothing else.
+    /// Makes the calls-th write or sync from here of the disk fail, and each later call of it. It changes nothing else, and
+    /// nothing where a call of that disk that was to fail was made already.
     pub fn fuse(&mut self, which: Which, calls: u64)
         ensures same { (disk : Which) → history_of self.new disk ≡ history_of self.old disk }
         ensures set { IsTrue D.tells → ((i : ℕ) → i < moment (history_of self.old which) → fails_of self.old which i ≡ false)
             → (i : ℕ) → fails_of self.new which i ≡ nat_le (moment (history_of self.old which) + (max calls 1 - 1)) i }
+        ensures stays { IsTrue D.tells → (i : ℕ) → i < moment (history_of self.old which) → IsTrue (fails_of self.old which i)
+            → (j : ℕ) → fails_of self.new which j ≡ fails_of self.old which j }
+        ensures onward { IsTrue D.tells → (i : ℕ) → IsTrue (fails_of self.new which i) → (j : ℕ) → i ≤ j → IsTrue (fails_of self.new which j) }
         ensures others { (disk : Which) → disk ≢ which → (i : ℕ) → fails_of self.new disk i ≡ fails_of self.old disk i }
         ensures starved { (disk : Which) → is_starved self.new disk ≡ is_starved self.old disk }
         ensures faults { (disk : Which) → D.faults (disk_of disk self.new) ≡ D.faults (disk_of disk self.old) }

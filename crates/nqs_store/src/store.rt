@@ -112,6 +112,8 @@ pub(crate) fn host_with<D: Disk>(
 ) -> Result<HostState, LoadFault>
     requires { length (header ++ records payloads.now) ≤ 2 ^ 40 }
     ensures told { IfOk result (λ state. told payloads.now ≡ Some (content state)) }
+    ensures extents { IsTrue D.tells → IfOk result (λ state. AreSound (length (bytes_now (spool_history spool.old))) (live (content state))) }
+    ensures fault { IsTrue D.tells → IfErr result (IsReadFault payloads.now (bytes_now (spool_history spool.old))) }
     ensures sound { IfOk result (λ state. IsSoundHost (content state)) }
     ensures never { IsTrue D.tells → (host : Host) → told payloads.now ≡ Some host → AreSound (length (bytes_now (spool_history spool.old))) (live host) → (which : Which) (place : ℕ) → IsErrOf result (LoadFault.NotNqs which place) → ⊥ }
     ensures spool { (which : Which) → IsErrOf result (LoadFault.Disk which) → which ≡ Which.Spool }
