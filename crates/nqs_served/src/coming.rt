@@ -1,0 +1,117 @@
+//! What an event of a schedule is to a daemon.
+//!
+//! What is asked for and the ends of jobs come as datagrams, and a tick as a receive that brings nothing. Other events
+//! come back of what went out: `finish`, which is the end of a print, `fail`, `written` and `unwritten`.
+
+use nqs_types::{HostId, RequestId, WorldEvent};
+use nqs_values::{Bytes, Name};
+
+/// The words of an ask.
+#[derive(Clone, Copy)]
+pub enum Words<'a> {
+    /// A line of qmgr, which is its one word.
+    Line(&'a Bytes),
+    List(&'a [Bytes]),
+}
+
+/// What a user asks a host for, by the number of a tool.
+#[derive(Clone, Copy)]
+pub struct Ask<'a> {
+    pub host: HostId,
+    pub user: &'a Name,
+    pub tool: u8,
+    pub words: Words<'a>,
+    pub script: &'a [u8],
+}
+
+/// What a shepherd tells its host of the end of a job.
+#[derive(Clone, Copy)]
+pub struct Ended<'a> {
+    pub host: HostId,
+    pub id: RequestId,
+    pub start: u16,
+    pub status: u8,
+    pub out: &'a [u8],
+    pub err: &'a [u8],
+}
+
+/// What an event is to the daemon of its host.
+#[derive(Clone, Copy)]
+pub enum Coming<'a> {
+    Ask(Ask<'a>),
+    Ended(Ended<'a>),
+    /// A receive brings nothing.
+    Quiet(HostId),
+    /// The datagram of this number comes that a host sent to another.
+    Packet(u64),
+    /// It comes back of what went out.
+    Back,
+    /// It is this moment.
+    Moment(u64),
+    /// It is none.
+    Nothing,
+}
+
+fn asked<'a>(
+    host: HostId,
+    user: &'a Name,
+    tool: u8,
+    words: Words<'a>,
+    script: &'a [u8],
+) -> Coming<'a> {
+    Coming::Ask(Ask {
+        host,
+        user,
+        tool,
+        words,
+        script,
+    })
+}
+
+/// What an event is.
+pub fn coming_of(event: &WorldEvent) -> Coming<'_> {
+    match event {
+        WorldEvent::Qsub {
+            host,
+            user,
+            script,
+            words,
+        } => asked(
+            *host,
+            user,
+            1,
+            Words::List(words.as_slice()),
+            script.as_slice(),
+        ),
+        WorldEvent::Qstat { host, user, words } => {
+            asked(*host, user, 2, Words::List(words.as_slice()), b"")
+        }
+        WorldEvent::Qdel { host, user, words } => {
+            asked(*host, user, 3, Words::List(words.as_slice()), b"")
+        }
+        WorldEvent::Qmgr { host, user, text } => asked(*host, user, 4, Words::Line(text), b""),
+        WorldEvent::End {
+            host,
+            id,
+            start,
+            status,
+            out,
+            err,
+        } => Coming::Ended(Ended {
+            host: *host,
+            id: *id,
+            start: *start,
+            status: *status,
+            out: out.as_slice(),
+            err: err.as_slice(),
+        }),
+        WorldEvent::Tick { host } => Coming::Quiet(*host),
+        WorldEvent::Deliver { packet } => Coming::Packet(*packet),
+        WorldEvent::Finish { .. } => Coming::Back,
+        WorldEvent::Fail { .. } => Coming::Back,
+        WorldEvent::Written { .. } => Coming::Back,
+        WorldEvent::Unwritten { .. } => Coming::Back,
+        WorldEvent::Clock { moment } => Coming::Moment(*moment),
+        _ => Coming::Nothing,
+    }
+}

@@ -1,0 +1,210 @@
+//! The days of one host that are served.
+
+use crate::day::{Day, put_compared, put_day};
+use crate::outside::{Failing, NONE};
+use nqs_types::Which;
+use nqs_values::Memory;
+use std::alloc::Global;
+
+// The print is the least request, so `finish` is its end. The fourth call of the launcher fails, and the third file.
+const WHOLE: Day = Day {
+    title: "a day, beside its schedule",
+    failing: Failing {
+        launches: &[4],
+        files: &[3],
+        ..NONE
+    },
+    fuse: None,
+    schedule: b"clock 1000
+qmgr alpha root add operator=olga
+qmgr alpha root set run_limit=2 batch
+qmgr alpha olga start queue batch
+qmgr alpha ann stop queue batch
+qmgr alpha root create device laser forms=plain
+qmgr alpha root create device_queue paper
+qmgr alpha root add device=laser paper
+qmgr alpha olga enable device laser
+qmgr alpha olga enable queue paper
+qsub alpha bob \"a report\" -q paper -r report -f plain
+qsub alpha ann \"./simulate\\n\" -r sim -p 40
+qsub alpha bob \"#@$ -r sort -eo\\n./sort\\n\"
+qsub alpha cy \"./pay\\n\" -r pay -nr
+qsub alpha cy \"./pay\\n\" -p 64
+qstat alpha ann
+qmgr alpha olga start queue paper
+finish alpha
+clock 1010
+end alpha 2.alpha 1 0 \"42\\n\" \"warn\\n\"
+written alpha 1
+written alpha 2
+end alpha 3.alpha 1 1 \"\" \"no data\\n\"
+unwritten alpha 3
+tick alpha
+written alpha 3
+qsub alpha dora \"./late\\n\" -r late -a 1970-01-01T00:30:00
+qsub alpha dora \"./broken\\n\" -r broken
+fail alpha 6.alpha 1
+qdel alpha ann 4.alpha
+qdel alpha cy 4.alpha
+qdel alpha cy -k 4.alpha
+end alpha 4.alpha 1 137
+clock 1800
+tick alpha
+end alpha 5.alpha 2 0
+qsub alpha ann \"./next\\n\" -r next -p 50
+qsub alpha ann \"./more\\n\" -r more -p 60
+qmgr alpha olga hold request 8.alpha
+qmgr alpha ann show queues
+qmgr alpha ann show devices
+qmgr alpha ann show managers
+qstat alpha ann -u ann
+show
+",
+    rounds: &[34],
+};
+
+// Three receives: a change, a change with a script and one more of its start, and none.
+const JOB: Day = Day {
+    title: "a job",
+    failing: NONE,
+    fuse: None,
+    schedule: b"qmgr alpha root start queue batch
+qsub alpha ann \"date\\n\"
+qstat alpha ann
+",
+    rounds: &[3],
+};
+
+const RECEIVE: Day = Day {
+    title: "the second receive fails",
+    failing: Failing {
+        receives: &[2],
+        ..NONE
+    },
+    rounds: &[3, 2],
+    ..JOB
+};
+
+// A failed send is a loss.
+const SEND: Day = Day {
+    title: "each send fails",
+    failing: Failing {
+        sends: &[1, 2, 3],
+        ..NONE
+    },
+    ..JOB
+};
+
+const LAUNCH: Day = Day {
+    title: "the launch fails",
+    failing: Failing {
+        launches: &[1],
+        ..NONE
+    },
+    ..JOB
+};
+
+// Two requests for one device. The first print fails, and the device is free for the second, which succeeds.
+const PRINT: Day = Day {
+    title: "the first print fails",
+    failing: Failing {
+        prints: &[1],
+        ..NONE
+    },
+    fuse: None,
+    schedule: b"qmgr alpha root create device laser forms=plain
+qmgr alpha root create device_queue paper
+qmgr alpha root add device=laser paper
+qmgr alpha root enable device laser
+qmgr alpha root enable queue paper
+qmgr alpha root start queue paper
+qsub alpha ann \"a\" -q paper
+qsub alpha ann \"b\" -q paper
+qstat alpha ann
+qmgr alpha ann show devices
+",
+    rounds: &[10],
+};
+
+// A file that isn't written is asked for again by the next tick, and by no later one.
+const FILE: Day = Day {
+    title: "the first file fails",
+    failing: Failing {
+        files: &[1],
+        ..NONE
+    },
+    fuse: None,
+    schedule: b"qmgr alpha root start queue batch
+qsub alpha ann \"date\\n\"
+end alpha 1.alpha 1 0 \"hi\\n\"
+tick alpha
+tick alpha
+qstat alpha ann
+",
+    rounds: &[6],
+};
+
+// Nothing is received after a shutdown.
+const SHUTDOWN: Day = Day {
+    title: "a shutdown",
+    failing: NONE,
+    fuse: None,
+    schedule: b"tick alpha
+qmgr alpha root shutdown
+qstat alpha ann
+",
+    rounds: &[9],
+};
+
+const DAYS: [Day; 7] = [JOB, RECEIVE, SEND, LAUNCH, PRINT, FILE, SHUTDOWN];
+
+// What a failed launch brings back is one change more, when the submission is answered.
+const LATE: Day = Day {
+    title: "the launch fails, and the disk first at its call",
+    fuse: Some((Which::First, 13)),
+    ..LAUNCH
+};
+
+fn put_fused(
+    alloc: Global,
+    title: &'static str,
+    which: Which,
+    call: u64,
+    out: &mut Vec<u8>,
+) -> Result<(), Memory> {
+    let day = Day {
+        title,
+        fuse: Some((which, call)),
+        ..JOB
+    };
+    put_day(alloc, &day, out)
+}
+
+/// Prints what is seen of each day. A change makes four calls of the disk first: those of the edit are 1 to 4, of the
+/// submission 5 to 8, of the start 9 to 12. The script makes two of the spool.
+pub fn put_days(alloc: Global, out: &mut Vec<u8>) -> Result<(), Memory> {
+    put_compared(alloc, &WHOLE, out)?;
+    for day in &DAYS {
+        put_day(alloc, day, out)?;
+    }
+    put_day(alloc, &LATE, out)?;
+    for call in 4..14u64 {
+        put_fused(
+            alloc,
+            "the disk first fails at its call",
+            Which::First,
+            call,
+            out,
+        )?;
+    }
+    for call in 1..4u64 {
+        put_fused(
+            alloc,
+            "the spool fails at its call",
+            Which::Spool,
+            call,
+            out,
+        )?;
+    }
+    Ok(())
+}

@@ -1,0 +1,178 @@
+//! Hosts that are formatted and booted, and served: `alpha` of a site of one, and each of the two of a site.
+
+ghost use Rattle.std.specs.Prelude.{◌≡◌, ◌<◌, [], false, IfOk};
+ghost use Rattle.nqs_types.specs.declared.world.Which.{Which};
+ghost use Rattle.nqs_outside.specs.History.{IsQuiet};
+ghost use Rattle.nqs_disk.specs.MemDisk.{history_of as history_of_disk};
+ghost use Rattle.nqs_store.specs.Disks.{disk_at};
+ghost use Rattle.nqs_store.specs.Sound.{IsSoundHost};
+ghost use Rattle.nqs_node.specs.Nodes.{content_of, is_stopped};
+ghost use Rattle.nqs_net.specs.Props.{IsSoundHost-prop};
+
+use crate::outside::Outside;
+use nqs_disk::MemDisk;
+use nqs_node::Node;
+use nqs_schedule::print_seen;
+use nqs_serve::{ServeEnd, serve};
+use nqs_state::HostState;
+use nqs_store::{Disks, format};
+use nqs_table::table_of;
+use nqs_types::{HostId, Seen, Which};
+use nqs_values::{Items, Memory, Name};
+use std::alloc::Global;
+
+fn empty_disks(alloc: Global) -> Result<Disks<MemDisk>, Memory>
+    ensures { IfOk result (λ disks. (which : Which) → history_of_disk (disk_at which disks) ≡ record { start = []; calls = [] }) }
+{
+    let root = MemDisk::new(alloc)?;
+    let first = MemDisk::new(alloc)?;
+    let second = MemDisk::new(alloc)?;
+    let spool = MemDisk::new(alloc)?;
+    Ok(Disks {
+        root,
+        first,
+        second,
+        spool,
+    })
+}
+
+/// The name of the first host.
+pub fn alpha() -> Name {
+    match Name::read(b"alpha") {
+        Ok(name) => name,
+        Err(_) => unreachable!(),
+    }
+}
+
+/// The name of the second host.
+pub fn beta() -> Name {
+    match Name::read(b"beta") {
+        Ok(name) => name,
+        Err(_) => unreachable!(),
+    }
+}
+
+fn formatted(alloc: Global) -> Result<Disks<MemDisk>, Memory>
+    ensures { IfOk result (λ disks. (which : Which) → IsQuiet (history_of_disk (disk_at which disks))) }
+{
+    let mut disks = empty_disks(alloc)?;
+    match format(alloc, &mut disks, HostId(0), &[alpha()]) {
+        Ok(()) => Ok(disks),
+        Err(_) => Err(Memory),
+    }
+}
+
+fn formatted_of_two(alloc: Global, me: HostId) -> Result<Disks<MemDisk>, Memory>
+    requires { me.0 < 2 }
+    ensures { IfOk result (λ disks. (which : Which) → IsQuiet (history_of_disk (disk_at which disks))) }
+{
+    let mut disks = empty_disks(alloc)?;
+    match format(alloc, &mut disks, me, &[alpha(), beta()]) {
+        Ok(()) => Ok(disks),
+        Err(_) => Err(Memory),
+    }
+}
+
+fn boot(alloc: Global, disks: Disks<MemDisk>) -> Result<Node<MemDisk>, Memory>
+    requires { (which : Which) → IsQuiet (history_of_disk (disk_at which disks)) }
+    ensures { IfOk result (λ node. IsSoundHost (content_of node)) }
+{
+    let mut said = Vec::new(alloc);
+    match Node::boot(alloc, disks, &mut said) {
+        Ok(node) => Ok(node),
+        Err(_) => Err(Memory),
+    }
+}
+
+fn serve_node(
+    alloc: Global,
+    node: &mut Node<MemDisk>,
+    outside: &mut Outside,
+    turns: u64,
+) -> ServeEnd
+    requires sound { IsSoundHost (content_of node.old) }
+    requires running { is_stopped node.old ≡ false }
+    ensures { IsSoundHost (content_of node.new) }
+{
+    serve(
+        alloc,
+        node,
+        &mut outside.wire,
+        &mut outside.launcher,
+        &mut outside.printer,
+        &mut outside.outlet,
+        &mut outside.clock,
+        turns,
+    )
+}
+
+/// A host that is served.
+pub struct Host {
+    node: Box<Node<MemDisk>>,
+    ghost sound: { IsSoundHost (content_of node.value) } by { IsSoundHost-prop (content_of node.value) },
+}
+
+// Written out, so that a host is let go by one call.
+impl Drop for Host {
+    fn drop(self) {
+        let Host { node: _ } = self;
+    }
+}
+
+impl Host {
+    fn of_disks(alloc: Global, disks: Disks<MemDisk>) -> Result<Host, Memory>
+        requires { (which : Which) → IsQuiet (history_of_disk (disk_at which disks)) }
+    {
+        let node = Box::new(alloc, boot(alloc, disks)?)?;
+        Ok(Host { node })
+    }
+
+    /// The host of a site of one, after its boot.
+    pub fn alone(alloc: Global) -> Result<Host, Memory> {
+        let disks = formatted(alloc)?;
+        Host::of_disks(alloc, disks)
+    }
+
+    /// A host of a site of two, after its boot.
+    pub fn of_two(alloc: Global, me: HostId) -> Result<Host, Memory>
+        requires { me.0 < 2 }
+    {
+        let disks = formatted_of_two(alloc, me)?;
+        Host::of_disks(alloc, disks)
+    }
+
+    /// The call of this number of a disk fails, and each later one.
+    pub fn fuse(&mut self, fuse: Option<(Which, u64)>) {
+        match fuse {
+            Some((which, calls)) => self.node.fuse(which, calls),
+            None => {}
+        }
+    }
+
+    /// Whether a disk failed.
+    pub fn is_stopped(&self) -> bool {
+        self.node.is_stopped()
+    }
+
+    /// Serves the outside for so many turns.
+    pub fn serve(&mut self, alloc: Global, outside: &mut Outside, turns: u64) -> ServeEnd {
+        if self.node.is_stopped() {
+            return ServeEnd::DiskFault;
+        }
+        serve_node(alloc, &mut self.node, outside, turns)
+    }
+
+    /// The state that its disks tell.
+    pub fn state(&mut self, alloc: Global) -> Result<HostState, Memory> {
+        match self.node.reread(alloc) {
+            Ok(state) => Ok(state),
+            Err(_) => Err(Memory),
+        }
+    }
+}
+
+/// Adds the table of these states.
+pub fn put_table(alloc: Global, states: &[HostState], out: &mut Vec<u8>) -> Result<(), Memory> {
+    let rows = Items::from_vec(table_of(alloc, states)?);
+    print_seen(alloc, &Seen::Table(rows), &[alpha(), beta()], out)
+}

@@ -1,0 +1,47 @@
+//! Serves days over an outside in memory, beside what their schedules say, and prints what was seen: `stdout` has what is
+//! to be seen, by hand. A host of a site of one serves a day, days on which a call of its outside or of a disk fails, and
+//! literal datagrams; two hosts hand a request over and stage its output back; shepherds and a client speak over a wire.
+#![tactic(auto)]
+
+mod coming;
+mod datagrams;
+mod day;
+mod days;
+mod host;
+mod literal;
+mod network;
+mod outside;
+mod parts;
+mod shepherds;
+mod text;
+mod told;
+mod transcript;
+
+use days::put_days;
+use literal::put_literal;
+use network::put_network;
+use nqs_values::Memory;
+use shepherds::{put_client, put_shepherds};
+use std::alloc::Global;
+use std::io;
+use std::io::Write;
+use std::process::ExitCode;
+
+fn put_all(alloc: Global, out: &mut Vec<u8>) -> Result<(), Memory> {
+    put_days(alloc, out)?;
+    put_network(alloc, out)?;
+    put_literal(alloc, out)?;
+    put_shepherds(alloc, out)?;
+    put_client(alloc, out)
+}
+
+fn main(rt: HostRuntime) -> ExitCode {
+    let mut out = Vec::new(rt.alloc());
+    let seen = put_all(rt.alloc(), &mut out);
+    let written = io::writer(&rt).write_all(&out);
+    if seen.is_ok() && written.is_ok() {
+        ExitCode::SUCCESS
+    } else {
+        ExitCode::FAILURE
+    }
+}

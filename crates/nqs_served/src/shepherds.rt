@@ -1,0 +1,187 @@
+//! A shepherd and a client over a wire whose calls fail, or that brings what is not for them.
+
+use crate::host::{alpha, beta};
+use crate::outside::{Failing, NONE, outside_of};
+use crate::text::{put, put_sent, put_text};
+use nqs_clients::{NqsStatus, ShepherdEnd, client, shepherd};
+use nqs_fakes::{MemRunner, MemWire};
+use nqs_outside::{ListSource, MemSink, RunEnd};
+use nqs_types::{HostId, RequestId};
+use nqs_values::{Bytes, Items, Memory};
+use std::alloc::Global;
+
+// The acknowledgement of the first start of the request 7 of host 1, and that of a request 7 of host 0.
+const ACK: &[u8] = &[1, 13, 0, 0, 0, 0, 0, 7, 1, 0, 1];
+
+const OTHER_ACK: &[u8] = &[1, 13, 0, 0, 0, 0, 0, 7, 0, 0, 1];
+
+// What comes where nothing does.
+const QUIET: &[u8] = &[];
+
+// Calls of the wire and of the runner that fail, and what comes.
+struct Row {
+    title: &'static str,
+    failing: Failing,
+    runs: &'static [u64],
+    comes: &'static [&'static [u8]],
+}
+
+const ROWS: [Row; 6] = [
+    Row {
+        title: "a failed send is made up for by the next one",
+        failing: Failing {
+            sends: &[1],
+            ..NONE
+        },
+        runs: &[],
+        comes: &[QUIET, ACK],
+    },
+    Row {
+        title: "the next one goes out before the next receive, which fails",
+        failing: Failing {
+            receives: &[2],
+            sends: &[1],
+            ..NONE
+        },
+        runs: &[],
+        comes: &[QUIET, ACK],
+    },
+    Row {
+        title: "each send fails",
+        failing: Failing {
+            sends: &[1, 2, 3, 4, 5, 6, 7, 8, 9, 10],
+            ..NONE
+        },
+        runs: &[],
+        comes: &[QUIET],
+    },
+    Row {
+        title: "the acknowledgement comes with the last of ten receives",
+        failing: NONE,
+        runs: &[],
+        comes: &[
+            OTHER_ACK, QUIET, QUIET, QUIET, QUIET, QUIET, QUIET, QUIET, QUIET, ACK,
+        ],
+    },
+    Row {
+        title: "it comes with the one behind it",
+        failing: NONE,
+        runs: &[],
+        comes: &[
+            OTHER_ACK, QUIET, QUIET, QUIET, QUIET, QUIET, QUIET, QUIET, QUIET, QUIET, ACK,
+        ],
+    },
+    Row {
+        title: "the job isn't run",
+        failing: NONE,
+        runs: &[1],
+        comes: &[ACK],
+    },
+];
+
+// A job ends with status 3 and the output `42`.
+fn ends(alloc: Global) -> Result<Items<RunEnd>, Memory> {
+    let out = Vec::from_slice(alloc, b"42")?;
+    let end = RunEnd {
+        status: 3,
+        out: Bytes::from_vec(out),
+        err: Bytes::new(alloc),
+    };
+    Ok(Items::of(alloc, end)?)
+}
+
+fn runner(alloc: Global, failing: &[u64]) -> Result<MemRunner, Memory> {
+    let ends = ends(alloc)?;
+    let failing = Vec::from_slice(alloc, failing)?;
+    Ok(MemRunner::new(alloc, ends, failing))
+}
+
+const JOB: RequestId = RequestId {
+    seq: 7,
+    host: HostId(1),
+};
+
+fn words_of(end: ShepherdEnd) -> &'static str {
+    match end {
+        ShepherdEnd::Told => "told",
+        ShepherdEnd::NoAnswer => "no answer",
+        ShepherdEnd::WireFault => "wire fault",
+        ShepherdEnd::Memory(_) => "memory",
+    }
+}
+
+// What went over a wire.
+fn put_wire(alloc: Global, wire: &MemWire, out: &mut Vec<u8>) -> Result<(), Memory> {
+    let received = wire.received().len();
+    put_text(format!(in alloc; "received {received}\n"), out)?;
+    put_sent(alloc, wire.sent(), out)
+}
+
+// The shepherd of the first start of a job of host 1, whose request is of host 0.
+fn tend(alloc: Global, row: &Row, wire: &mut MemWire, out: &mut Vec<u8>) -> Result<(), Memory> {
+    let mut runner = runner(alloc, row.runs)?;
+    let site = [alpha(), beta()];
+    let end = words_of(shepherd(alloc, &site, HostId(0), JOB, 1, 9, &mut runner, wire));
+    let jobs = runner.kept().len();
+    drop(runner);
+    put_text(format!(in alloc; "{end}, jobs {jobs}\n"), out)
+}
+
+fn put_row(alloc: Global, row: &Row, out: &mut Vec<u8>) -> Result<(), Memory> {
+    put_text(format!(in alloc; "\n== a shepherd: {}\n", row.title), out)?;
+    let mut outside = outside_of(alloc, &row.failing, row.comes)?;
+    tend(alloc, row, &mut outside.wire, out)?;
+    put_wire(alloc, &outside.wire, out)
+}
+
+/// Prints what is seen of shepherds.
+pub fn put_shepherds(alloc: Global, out: &mut Vec<u8>) -> Result<(), Memory> {
+    for row in &ROWS {
+        put_row(alloc, row, out)?;
+    }
+    Ok(())
+}
+
+// The answer of host 0, one of host 1 with another token, and that of host 1.
+const ANSWERS: [&[u8]; 3] = [
+    &[
+        1, 11, 0, 0, 0, 0, 0, 0, 0, 0, 0, 5, 1, 0, 0, 0, 3, b'n', b'o', 10,
+    ],
+    &[
+        1, 11, 1, 1, 0, 0, 0, 0, 0, 0, 0, 4, 1, 0, 0, 0, 3, b'n', b'o', 10,
+    ],
+    &[
+        1, 11, 1, 1, 0, 0, 0, 0, 0, 0, 0, 5, 1, 0, 0, 0, 3, b'o', b'k', 10,
+    ],
+];
+
+fn words(alloc: Global) -> Result<Vec<String>, Memory> {
+    let mut words = Vec::new(alloc);
+    for word in &["qstat", "beta", "ann"] {
+        words.push(word.to_string(alloc)?)?;
+    }
+    Ok(words)
+}
+
+// A client that asks host 1, and what it writes.
+fn ask(alloc: Global, wire: &mut MemWire, sink: &mut MemSink) -> Result<NqsStatus, Memory> {
+    let words = words(alloc)?;
+    let mut input = ListSource::new(b"");
+    let site = [alpha(), beta()];
+    Ok(client(alloc, &site, &words, 9, wire, &mut input, sink))
+}
+
+fn put_asked(alloc: Global, wire: &mut MemWire, out: &mut Vec<u8>) -> Result<(), Memory> {
+    let mut sink = MemSink::new(alloc, 100, Vec::new(alloc));
+    let status = ask(alloc, wire, &mut sink)?.number();
+    put_text(format!(in alloc; "status {status}\n"), out)?;
+    put(sink.taken(), out)
+}
+
+/// Prints what is seen of a client that gets three answers, of which the last is its own.
+pub fn put_client(alloc: Global, out: &mut Vec<u8>) -> Result<(), Memory> {
+    put(b"\n== a client\n", out)?;
+    let mut outside = outside_of(alloc, &NONE, &ANSWERS)?;
+    put_asked(alloc, &mut outside.wire, out)?;
+    put_wire(alloc, &outside.wire, out)
+}
