@@ -80,7 +80,7 @@ is_acknowledged x ns = list_any (acknowledges x) ns
 abbrev pub lies : RequestId → List Plain → Bool
 lies x states = is_some (entry_of x states)
 
--- A request was deleted or has finished: a kept change took it from the table.
+-- A request was deleted, has ended or was lost by a boot: a kept change took it from the table.
 abbrev pub was_taken_out : RequestId → List Plain → List Note → Bool
 was_taken_out x states [] = false
 was_taken_out x states (n ∷ ns) = (lies x states && not (lies x (states_after states n))) || was_taken_out x (states_after states n) ns

@@ -11,12 +11,13 @@ ghost use Rattle.nqs_laws.specs.TakenOut.{WentOut};
 ghost use Rattle.nqs_rules.specs.Applied.{applied};
 ghost use Rattle.nqs_rules.specs.Edits.{change_at};
 
-/// An acknowledged request lies in the network until it is deleted or has finished, and not longer. It lies in one queue of one host, as no request lies in two places.
+/// An acknowledged request lies in the network until it is deleted, ends, or is lost by a boot that found it running, and
+/// not longer. It lies in one queue of one host, as no request lies in two places.
 pub fn acknowledged_requests_stay()
     ensures { (site : List (List ℕ)) (acts : List Act) → IsSite site → AreSane acts → (x : RequestId) → is_acknowledged x (history acts (new_world site)) ≡ true → lies x (states_of (run_of site acts).world) ≡ not (was_taken_out x (states_of (new_world site)) (history acts (new_world site))) }
 {}
 
-/// A request that was deleted or has finished never comes back, however the run goes on.
+/// A request that was deleted, has ended or was lost never comes back, however the run goes on.
 pub fn what_is_taken_out_stays_out()
     ensures { (site : List (List ℕ)) (acts more : List Act) → IsSite site → AreSane (acts ++ more) → (x : RequestId) → was_taken_out x (states_of (new_world site)) (history acts (new_world site)) ≡ true → lies x (states_of (run_of site (acts ++ more)).world) ≡ false }
 {}

@@ -33,7 +33,7 @@ first_states site = states_of (new_world site)
 abbrev pub last_states : List (List ℕ) → List Act → List Plain
 last_states site acts = states_of (run_of site acts).world
 
--- an acknowledged request lies in the network until it is deleted or has finished, and not longer
+-- an acknowledged request lies in the network until it is deleted, ends or is lost by a boot, and not longer
 abbrev pub AcknowledgedStay : List (List ℕ) → List Act → Type 0
 AcknowledgedStay site acts = (x : RequestId) → is_acknowledged x (notes_of site acts) ≡ true → lies x (last_states site acts) ≡ not (was_taken_out x (first_states site) (notes_of site acts))
 
