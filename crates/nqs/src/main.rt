@@ -1,5 +1,5 @@
-//! The program `nqs`: the daemon of a host, its clients, and the shepherds of its jobs. `docs/running.md` tells how to
-//! run a site.
+//! The program `nqs`: the daemon of a host, its clients, and the shepherds of its jobs.
+//! `docs/running.md` tells how to run a site.
 //!
 //! `format DIR HOST`, `daemon DIR HOST TURNS`, `qsub|qstat|qdel|qmgr DIR HOST USER [WORD]..`, `tick DIR HOST USER`,
 //! `shepherd DIR HOST ID START`.

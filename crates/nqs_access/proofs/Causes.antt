@@ -8,7 +8,8 @@ pub passed : (cs ds : List Cause) → Ok tt ≡ first_refusal cs → first_refus
 passed [] ds h = refl
 passed (c ∷ cs) ds h = by (passed cs ds) c.holds h
   where
-    by : (Ok tt ≡ first_refusal cs → first_refusal (cs ++ ds) ≡ first_refusal ds) → (b : Bool) → Ok tt ≡ (if b then Err c.refusal else first_refusal cs) → (if b then Err c.refusal else first_refusal (cs ++ ds)) ≡ first_refusal ds
+    by : (Ok tt ≡ first_refusal cs → first_refusal (cs ++ ds) ≡ first_refusal ds) → (b : Bool) → Ok tt ≡ (if b then Err c.refusal else first_refusal cs)
+        → (if b then Err c.refusal else first_refusal (cs ++ ds)) ≡ first_refusal ds
     by _ true h = absurd (let no : ⊥ = cc in no)
     by rest false h = rest h
 
@@ -17,6 +18,7 @@ pub refused : (cs ds : List Cause) (r : Refusal) → Err r ≡ first_refusal cs 
 refused [] ds r h = absurd (let no : ⊥ = cc in no)
 refused (c ∷ cs) ds r h = by (refused cs ds r) c.holds h
   where
-    by : (Err r ≡ first_refusal cs → Err r ≡ first_refusal (cs ++ ds)) → (b : Bool) → Err r ≡ (if b then Err c.refusal else first_refusal cs) → Err r ≡ (if b then Err c.refusal else first_refusal (cs ++ ds))
+    by : (Err r ≡ first_refusal cs → Err r ≡ first_refusal (cs ++ ds)) → (b : Bool) → Err r ≡ (if b then Err c.refusal else first_refusal cs)
+        → Err r ≡ (if b then Err c.refusal else first_refusal (cs ++ ds))
     by _ true h = h
     by rest false h = rest h

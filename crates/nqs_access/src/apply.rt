@@ -67,8 +67,9 @@ fn add_name(spare: &mut Spare<Name>, names: &mut NameList, name: Name)
     *names = spare.grown(names.as_slice(), name);
 }
 
-/// Makes the edit, after `HostState::make_room` made room for it. It takes no memory and can't fail. It is made as the
-/// rules say also where its check refuses it: the caller asks `check_access` first.
+/// Makes the edit, after `HostState::make_room` made room for it. It takes no memory and can't
+/// fail. It is made as the rules say also where its check refuses it: the caller asks
+/// `check_access` first.
 pub fn apply_access(state: &mut HostState, edit: AccessEdit)
     requires room { HasRoomForAccess edit state.old }
     ensures { content state.new ≡ access_applied edit (content state.old) }

@@ -115,10 +115,11 @@ fn check_remove_manager(state: &HostState, user: &Name) -> Result<(), Refusal>
     Ok(())
 }
 
-/// Whether the edit may be made: `Ok`, or the first of these that holds. Of a queue's list: `NoQueue`; a user who is
-/// added: `IsMember` (each is one of a queue that is open to all), `TooMany` where the list has 256 names; one who is
-/// removed: `NotMember`, also where the queue is open to all. Of managers and operators: the same without `NoQueue`,
-/// and `KeepRoot`, since root stays a manager. Who gives the edit isn't looked at: `may_command` is.
+/// Whether the edit may be made: `Ok`, or the first of these that holds. Of a queue's list:
+/// `NoQueue`; a user who is added: `IsMember` (each is one of a queue that is open to all),
+/// `TooMany` where the list has 256 names; one who is removed: `NotMember`, also where the queue is
+/// open to all. Of managers and operators: the same without `NoQueue`, and `KeepRoot`, since root
+/// stays a manager. Who gives the edit isn't looked at: `may_command` is.
 pub fn check_access(state: &HostState, edit: &AccessEdit) -> Result<(), Refusal>
     ensures { result ≡ first_refusal (access_causes edit.now (content state.now)) }
 {

@@ -1,7 +1,7 @@
 //! Who may do what: the ranks of users, the way into a queue, and the edits of lists of users.
 //!
-//! Each call is the rule of its name in `nqs_rules` (specs/Access.antt); `docs/rules.md` says them in words.
-//! No call takes memory.
+//! Each call is the rule of its name in `nqs_rules` (specs/Access.antt); `docs/rules.md` says them
+//! in words. No call takes memory.
 #![tactic(auto)]
 
 mod apply;

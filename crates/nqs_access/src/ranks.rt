@@ -81,7 +81,8 @@ fn check_rank(of_operators: bool, rank: Rank) -> Result<(), Refusal>
     }
 }
 
-/// Whether a user of this rank may give the command: `NotOperator` or `NotManager` where it takes a higher rank.
+/// Whether a user of this rank may give the command: `NotOperator` or `NotManager` where it takes a
+/// higher rank.
 pub fn may_command(rank: Rank, command: &Command) -> Result<(), Refusal>
     ensures { result ≡ may_command rank command.now }
 {

@@ -32,8 +32,8 @@ fn is_shut(queue: &QueueDef, entry: Entry) -> bool
     queue.pipe_only && is_direct(entry)
 }
 
-/// Whether a user's request may come into the queue: `Disabled`, `PipeOnly` or `NoAccess`, the first that holds.
-/// Nobody is let in by rank.
+/// Whether a user's request may come into the queue: `Disabled`, `PipeOnly` or `NoAccess`, the
+/// first that holds. Nobody is let in by rank.
 pub fn may_use(queue: &QueueDef, user: &Name, entry: Entry) -> Result<(), Refusal>
     ensures { result ≡ may_use queue.now user.now entry }
 {

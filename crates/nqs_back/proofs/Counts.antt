@@ -1,5 +1,6 @@
 -- How many events come back: at most one of a start, and as many of outputs without their bytes.
-use Rattle.std.proofs.Common.{◌≡◌, ℕ, ◌≤◌, suc, Bool, true, false, cond, List, [], ◌∷◌, map, filter, length, slice_get, Option, None, Some, option_map, Result, Ok, Err, refl, ap, ◌∙◌, arith}
+use Rattle.std.proofs.Common.{◌≡◌, ℕ, ◌≤◌, suc, Bool, true, false, cond, List, [], ◌∷◌, map, filter, length, slice_get, Option, None, Some, option_map, Result}
+use Rattle.std.proofs.Common.{Ok, Err, refl, ap, ◌∙◌, arith}
 use Rattle.std.specs.Option.{IfSome, option_and_then}
 use Rattle.nqs_state.specs.State.{Plain}
 use Rattle.nqs_types.specs.declared.ids.Dest.{Dest}
@@ -52,10 +53,13 @@ module _ (s : Plain) where
 
   started_few : (c : Choice) (now : ℕ) → IfSome (started c now s) FewBack
   started_few (Launch row) now = row_few row (λ r. Some (launching r s)) (λ r. omega arith)
-  started_few (Print row device) now = row_few row (λ r. option_map (λ d. printing d r s) (device_at device r s)) (λ r. one_few (λ d. printing d r s) (λ d. omega arith) (device_at device r s))
+  started_few (Print row device) now = row_few row (λ r. option_map (λ d. printing d r s) (device_at device r s))
+      (λ r. one_few (λ d. printing d r s) (λ d. omega arith) (device_at device r s))
   started_few (TooFar row) now = row_few row (λ r. Some (holding r)) (λ r. omega arith)
-  started_few (Local row dest) now = row_few row (λ r. option_map (λ d. moving d s r) (dest_at dest r s)) (λ r. one_few (λ d. moving d s r) (moving_few r) (dest_at dest r s))
-  started_few (HandTo row dest) now = row_few row (λ r. option_map (λ d. open_hand d now s r) (dest_at dest r s)) (λ r. one_few (λ d. open_hand d now s r) (hand_few now r) (dest_at dest r s))
+  started_few (Local row dest) now = row_few row (λ r. option_map (λ d. moving d s r) (dest_at dest r s))
+      (λ r. one_few (λ d. moving d s r) (moving_few r) (dest_at dest r s))
+  started_few (HandTo row dest) now = row_few row (λ r. option_map (λ d. open_hand d now s r) (dest_at dest r s))
+      (λ r. one_few (λ d. open_hand d now s r) (hand_few now r) (dest_at dest r s))
 
   pub start_few : (now : ℕ) → IfSome (start now s) FewBack
   start_few now = by (pick now s)

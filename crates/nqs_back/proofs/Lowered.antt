@@ -30,17 +30,20 @@ module _ {E : Type 0} (s : State E) where
   steady order = record {
     ids = ap (are_distinct id_eq) (map-map (λ r. r.id) (map_row (λ _. [])) s.rows) ∙ (keys_are s order.keys).rows;
     names = (keys_are s order.keys).queues;
-    hops = all-map (map_row (λ _. [])) (λ r. nat_le r.hops 32) s.rows ∙ list_all-weaker (is_row_right s) (λ r. nat_le r.hops 32) (λ r h. at_most_32 r (row_is s r h).hop) s.rows order.rows;
+    hops = all-map (map_row (λ _. [])) (λ r. nat_le r.hops 32) s.rows ∙ list_all-weaker (is_row_right s) (λ r. nat_le r.hops 32)
+        (λ r h. at_most_32 r (row_is s r h).hop) s.rows order.rows;
     dests = list_all-weaker (is_queue_right s) (λ q. nat_le (length q.dests) 16) (λ q h. (queue_is s q h).few_dests) s.queues order.queues;
   }
 
   pub bare_left : starts_left (emptied s) ≡ starts_left s
   bare_left = starts_left-map (λ _. []) s
 
-  pub bare_lowers : (now : ℕ) (x : Stepped (List ℕ)) → IsInOrder s → start now (emptied s) ≡ Some x → starts_left (emptied (after_step x (emptied s))) < starts_left s
+  pub bare_lowers : (now : ℕ) (x : Stepped (List ℕ)) → IsInOrder s → start now (emptied s) ≡ Some x
+      → starts_left (emptied (after_step x (emptied s))) < starts_left s
   bare_lowers now x order e =
       let t = emptied s in
       let calm = steady order in
       let is = start_is now t x calm e in
-      let less : starts_left (after_step x t) < starts_left t = subst (λ o. starts_left (after_change o t) < starts_left t) (sym is.makes) (lower t calm is.row is.found is.ready is.change is.starts) in
+      let less : starts_left (after_step x t) < starts_left t = subst (λ o. starts_left (after_change o t) < starts_left t) (sym is.makes)
+      (lower t calm is.row is.found is.ready is.change is.starts) in
       subst (λ n. starts_left (emptied (after_step x t)) < n) bare_left (subst (λ n. n < starts_left t) (sym (starts_left-map (λ _. []) (after_step x t))) less)

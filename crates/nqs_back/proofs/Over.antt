@@ -1,5 +1,6 @@
 -- An event that came back brings nothing back, and leaves no more to start.
-use Rattle.std.proofs.Common.{◌≡◌, ℕ, ◌+◌, ◌≤◌, Bool, true, false, ◌&&◌, ◌==◌, if◌then◌else◌, List, [], ◌∷◌, ◌++◌, map, sum, Option, None, Some, true≢false, refl, sym, ap, subst, ◌∙◌, arith}
+use Rattle.std.proofs.Common.{◌≡◌, ℕ, ◌+◌, ◌≤◌, Bool, true, false, ◌&&◌, ◌==◌, if◌then◌else◌, List, [], ◌∷◌, ◌++◌, map, sum, Option, None, Some, true≢false}
+use Rattle.std.proofs.Common.{refl, sym, ap, subst, ◌∙◌, arith}
 use Rattle.std.specs.List.{list_any}
 use Rattle.std.proofs.lemmas.Bool.{and_parts}
 use Rattle.std.proofs.lemmas.List.{append-nil}
@@ -38,7 +39,8 @@ dropped : (id : RequestId) (s : Plain) → starts_left (drop_row id s) ≤ start
 dropped id s = sum_dropped (is_row id) (starts_of s) s.rows
 
 -- the outputs of a job that came back are empty
-at_none : (P : List ℕ → List ℕ → Type 0) (b : Bool) (output error : List ℕ) → (b && has_none output && has_none error) ≡ true → (b ≡ true → P [] []) → P output error
+at_none : (P : List ℕ → List ℕ → Type 0) (b : Bool) (output error : List ℕ) → (b && has_none output && has_none error) ≡ true → (b ≡ true → P [] [])
+    → P output error
 at_none P b [] [] h p = p (and_parts b true (and_parts (b && true) true h).0).0
 at_none P b (x ∷ xs) error h p = absurd (true≢false (sym (and_parts b false (and_parts (b && false) (has_none error) h).0).1))
 at_none P b [] (x ∷ xs) h p = absurd (true≢false (sym (and_parts (b && true) false h).1))
@@ -51,8 +53,10 @@ no_parts s r = ap (numbered (first_number s r.id) 0) (by r.job.join)
     by false = refl
 
 -- what a job that left nothing makes
-left_nothing : (status : ℕ) (r : Row (List ℕ)) (s : Plain) → on_end status r [] [] s ≡ makes (Ended r.id []) (ready (out.Ended r.id r.starts status) ∷ parts_sent s r.id [])
-left_nothing status r s = ap (λ (parts : List Part). let x : Stepped (List ℕ) = makes (Ended r.id parts) (ready (out.Ended r.id r.starts status) ∷ parts_sent s r.id parts) in x) (no_parts s r)
+left_nothing : (status : ℕ) (r : Row (List ℕ)) (s : Plain) → on_end status r [] [] s
+    ≡ makes (Ended r.id []) (ready (out.Ended r.id r.starts status) ∷ parts_sent s r.id [])
+left_nothing status r s = ap (λ (parts : List Part). let x : Stepped (List ℕ) =
+    makes (Ended r.id parts) (ready (out.Ended r.id r.starts status) ∷ parts_sent s r.id parts) in x) (no_parts s r)
 
 none_sent : (s : Plain) (id : RequestId) → parts_sent s id [] ≡ []
 none_sent s id = by (goes_here s id) (has_stage_to id.host s)
@@ -100,7 +104,8 @@ module _ (s : Plain) where
   -- nobody waits for an answer
   no_answer : (port : ℕ) (id : RequestId) (start : ℕ) → (port == 0) ≡ true → (x : Stepped (List ℕ)) → IsOver x → IsOver (then_ack port id start x)
   no_answer port id start free x over = record {
-    none = ap (λ b. comebacks (map shown (x.outputs ++ (if b then [] else ready (out.Ack port id start) ∷ [])))) free ∙ ap (λ l. comebacks (map shown l)) (append-nil x.outputs) ∙ over.none;
+    none = ap (λ b. comebacks (map shown (x.outputs ++ (if b then [] else ready (out.Ack port id start) ∷ [])))) free
+        ∙ ap (λ l. comebacks (map shown l)) (append-nil x.outputs) ∙ over.none;
     fewer = over.fewer;
   }
 

@@ -1,9 +1,10 @@
 //! Puts and frees of a spool.
 ghost use Rattle.std.specs.Prelude.{◌≤◌};
 
+use crate::stopped::Stopped;
 use nqs_disk::MemDisk;
 use nqs_spool::Spool;
-use nqs_values::{Extent, Memory};
+use nqs_values::Extent;
 use std::alloc::Global;
 
 /// The longest list of bytes that is put.
@@ -18,18 +19,18 @@ fn length_of(turn: u64) -> usize
     (turn % LONGEST * 7_919 % LONGEST + 1) as usize
 }
 
-fn put(spool: &mut Spool<MemDisk>, turn: u64) -> Result<Extent, Memory> {
+fn put(spool: &mut Spool<MemDisk>, turn: u64) -> Result<Extent, Stopped> {
     match spool.put(&BYTES[..length_of(turn)]) {
         Ok(extent) => Ok(extent),
-        Err(_) => Err(Memory),
+        Err(_) => Err(Stopped),
     }
 }
 
 // A spool with so many live extents, and these.
-fn filled(alloc: Global, live: u64) -> Result<(Spool<MemDisk>, Vec<Extent>), Memory> {
-    let disk = MemDisk::new(alloc)?;
+fn filled(alloc: Global, live: u64) -> Result<(Spool<MemDisk>, Vec<Extent>), Stopped> {
+    let disk = MemDisk::new(alloc);
     let Ok(mut spool) = Spool::load(alloc, disk, &[]) else {
-        return Err(Memory);
+        return Err(Stopped);
     };
     spool.make_room(live)?;
     let mut extents = Vec::new(alloc);
@@ -41,7 +42,7 @@ fn filled(alloc: Global, live: u64) -> Result<(Spool<MemDisk>, Vec<Extent>), Mem
 }
 
 /// Keeps so many extents live, and so often frees the one that was put first and puts another.
-pub fn put_and_free(alloc: Global, count: u64, live: u64) -> Result<(), Memory> {
+pub fn put_and_free(alloc: Global, count: u64, live: u64) -> Result<(), Stopped> {
     let (mut spool, mut extents) = filled(alloc, live)?;
     for turn in 0..count {
         let Some(oldest) = extents.get_mut((turn % live.max(1)) as usize) else {

@@ -1,5 +1,6 @@
-//! Plain values for the tests of the crates of the types and of the rules: a job, a queue, a request and a host with nothing special about
-//! them. A test sets the fields that it is about; a host is filled through a reference, and let go by `drop`.
+//! Plain values for the tests of the crates of the types and of the rules: a job, a queue, a
+//! request and a host with nothing special about them. A test sets the fields that it is about; a
+//! host is filled through a reference, and let go by `drop`.
 #![tactic(auto)]
 
 use nqs_keyed::Table;
@@ -36,7 +37,8 @@ pub fn job(alloc: Global, owner: Name) -> Job {
     }
 }
 
-/// A batch queue that everybody may use, enabled and started, of priority 31, for one request at a time.
+/// A batch queue that everybody may use, enabled and started, of priority 31, for one request at a
+/// time.
 pub fn queue(alloc: Global, name: Name) -> QueueDef {
     QueueDef {
         name,
@@ -76,7 +78,8 @@ pub fn row(alloc: Global, seq: u32, queue: Name, owner: Name) -> Row {
     }
 }
 
-/// The first host of a site, with the parameters that a host has at first and nothing else, not even its site.
+/// The first host of a site, with the parameters that a host has at first and nothing else, not
+/// even its site.
 pub fn host(alloc: Global) -> HostState {
     HostState {
         me: HostId(0),

@@ -33,7 +33,8 @@ module _ {E : Type 0} (s : State E) where
       let p : IsRow s r = row_is s r (list_all-found (is_row_right s) (is_row id) s.rows r h.rows found) in
       let queued = ready_queued r (ap (passes is_ready) (sym found) ∙ ready) in
       let k = ltb-true r.lost 65535 p.lost in
-      let as_often : r.starts ≡ r.lost = eqb-true r.starts r.lost (and_parts (r.starts == r.lost) (has_no_device r) (waits r (ap is_running queued) p.count)).0 in
+      let as_often : r.starts ≡ r.lost = eqb-true r.starts r.lost (and_parts (r.starts == r.lost) (has_no_device r)
+      (waits r (ap is_running queued) p.count)).0 in
       omega (arith, k, as_often)
 
   -- and a hop more of one that may hop

@@ -1,5 +1,6 @@
 -- The first of a list that passes a test, by its place.
-use Rattle.std.proofs.Common.{◌≡◌, ℕ, suc, ◌+◌, ◌<◌, Bool, true, false, cond, not, nat_lt, List, [], ◌∷◌, length, find, position, remove, slice_get, None, Some, refl, sym, ap, subst, ◌∙◌, arith}
+use Rattle.std.proofs.Common.{◌≡◌, ℕ, suc, ◌+◌, ◌<◌, Bool, true, false, cond, not, nat_lt, List, [], ◌∷◌, length, find, position, remove, slice_get, None, Some}
+use Rattle.std.proofs.Common.{refl, sym, ap, subst, ◌∙◌, arith}
 use Rattle.std.specs.List.{position_or_len}
 use Rattle.std.proofs.lemmas.Bool.Decides.{nat_tests}
 use Rattle.std.proofs.lemmas.Option.{same_Some, none-some}
@@ -34,7 +35,8 @@ module _ {V : Type 0} (t : V → Bool) where
   nowhere [] none = refl
   nowhere (x ∷ vs) none = by (t x) refl (nowhere vs) none
     where
-      by : (b : Bool) → t x ≡ b → ((position_or_len t vs < length vs → ⊥) → find t vs ≡ None) → (cond (not b) (1 + position_or_len t vs) 0 < length (x ∷ vs) → ⊥) → find t (x ∷ vs) ≡ None
+      by : (b : Bool) → t x ≡ b → ((position_or_len t vs < length vs → ⊥) → find t vs ≡ None)
+          → (cond (not b) (1 + position_or_len t vs) 0 < length (x ∷ vs) → ⊥) → find t (x ∷ vs) ≡ None
       by true e rest none = absurd (none (omega arith))
       by false e rest none = ap (λ b. cond b (Some x) (find t vs)) e ∙ rest (λ lt. none (omega (arith, lt)))
 

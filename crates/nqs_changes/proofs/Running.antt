@@ -28,7 +28,8 @@ use Rattle.nqs_types.specs.declared.edit.RowsEdit.TheVariants.{AbortQueue, HoldR
 use Rattle.nqs_types.specs.declared.edit.Edit.{Edit}
 use Rattle.nqs_types.specs.declared.edit.Edit.TheVariants.{Conf, Limits as LimitsOf, Access as AccessOf, Devices as DevicesOf, Rows as RowsOf}
 use Rattle.nqs_types.specs.declared.change.Change.{Change}
-use Rattle.nqs_types.specs.declared.change.Change.TheVariants.{Site, Submitted, Deleted, Doomed, Started, Ended, Unlaunched, Boot, Edited, HandOpened, HandCommitted, HandRefused, HandsSilent, Accepted, MovedLocal, RefusedLocal, HeldFar, StageGot}
+use Rattle.nqs_types.specs.declared.change.Change.TheVariants.{Site, Submitted, Deleted, Doomed, Started, Ended, Unlaunched, Boot, Edited, HandOpened}
+use Rattle.nqs_types.specs.declared.change.Change.TheVariants.{HandCommitted, HandRefused, HandsSilent, Accepted, MovedLocal, RefusedLocal, HeldFar, StageGot}
 use Rattle.nqs_rules.specs.Tests.{is_running}
 use Rattle.nqs_rules.specs.Find.{peer_number, has_row, find_hand, find_promise, meant_request}
 use Rattle.nqs_rules.specs.Edits.{change_peer, drop_row}
@@ -37,7 +38,9 @@ use Rattle.nqs_rules.specs.Limits.{limits_applied}
 use Rattle.nqs_rules.specs.Devices.{devices_applied}
 use Rattle.nqs_rules.specs.Rows.{rows_applied, change_meant, doomed_in, held_row, released_row, moved_row, with_priority, next_arrival}
 use Rattle.nqs_rules.specs.Routing.{dests_for, refusal_noted}
-use Rattle.nqs_rules.specs.Applied.{applied, edit_applied, access_applied, doomed_row, started_row, routing_row, requeued_row, held_far, moved_local, local_refused, lost_row, booted_row, may_start_again, hand_committed, hand_refused, hand_silent, hands_silent, drop_promise, accepted}
+use Rattle.nqs_rules.specs.Applied.{applied, edit_applied, access_applied, doomed_row, started_row, routing_row, requeued_row, held_far, moved_local}
+use Rattle.nqs_rules.specs.Applied.{local_refused, lost_row, booted_row, may_start_again, hand_committed, hand_refused, hand_silent, hands_silent, drop_promise}
+use Rattle.nqs_rules.specs.Applied.{accepted}
 use Rattle.nqs_rules.proofs.Chains.{imply}
 use Rattle.nqs_rules.proofs.Sublists.{without_part, filter_part, part_all}
 use Rattle.nqs_rules.proofs.ListFacts.{found_passes, list_all-found, list_all-weaker, list_all-changed}
@@ -55,7 +58,8 @@ module _ {E : Type 0} where
     dropped id rows h = part_all (runs_in ids) (without_part (is_row id) rows) h
 
     -- a row changes, which runs afterwards only if it may
-    changed : (id : RequestId) (f : Row E → Row E) → ((r : Row E) → runs_in ids r ≡ true → runs_in ids (f r) ≡ true) → (rows : List (Row E)) → list_all (runs_in ids) rows ≡ true → list_all (runs_in ids) (change_first (is_row id) f rows) ≡ true
+    changed : (id : RequestId) (f : Row E → Row E) → ((r : Row E) → runs_in ids r ≡ true → runs_in ids (f r) ≡ true) → (rows : List (Row E))
+        → list_all (runs_in ids) rows ≡ true → list_all (runs_in ids) (change_first (is_row id) f rows) ≡ true
     changed id f keeps rows h = list_all-changed (runs_in ids) (is_row id) f rows h (λ r e. keeps r (list_all-found (runs_in ids) (is_row id) rows r h e))
 
     noted : (dests : List Dest) (dest : Dest) (refusal : ℕ) (r : Row E) → runs_in ids (refusal_noted dests dest refusal r) ≡ runs_in ids r
@@ -79,7 +83,8 @@ module _ {E : Type 0} where
     devices_runs (DeleteDevice d) s h = h
     devices_runs e s h = h
 
-    meant_runs : (o : Option RequestId) (f : Row E → Row E) → ((r : Row E) → runs_in ids r ≡ true → runs_in ids (f r) ≡ true) → (s : State E) → runs_only ids s ≡ true → runs_only ids (change_meant o f s) ≡ true
+    meant_runs : (o : Option RequestId) (f : Row E → Row E) → ((r : Row E) → runs_in ids r ≡ true → runs_in ids (f r) ≡ true) → (s : State E)
+        → runs_only ids s ≡ true → runs_only ids (change_meant o f s) ≡ true
     meant_runs None f keeps s h = h
     meant_runs (Some id) f keeps s h = changed id f keeps s.rows h
 
@@ -119,7 +124,8 @@ module _ {E : Type 0} where
 
     silents_run : (until : ℕ) (ks : List PeerNumber) (s : State E) → runs_only ids s ≡ true → runs_only ids (hands_silent until ks s) ≡ true
     silents_run until [] s h = h
-    silents_run until (k ∷ ks) s h = silents_run until ks (hand_silent until k (find_hand k.peer k.number s) s) (silent_runs until k (find_hand k.peer k.number s) s h)
+    silents_run until (k ∷ ks) s h = silents_run until ks (hand_silent until k (find_hand k.peer k.number s) s)
+        (silent_runs until k (find_hand k.peer k.number s) s h)
 
     accepted_runs : (k : PeerNumber) (o : Option (Promise E)) (s : State E) → runs_only ids s ≡ true → runs_only ids (accepted k o s) ≡ true
     accepted_runs k None s h = h
@@ -139,16 +145,19 @@ module _ {E : Type 0} where
         list_any-append (id_eq r.id) ids (id ∷ [])
         ∙ or_right (list_any (id_eq r.id) ids) (id_eq r.id id || false) (or_left (id_eq r.id id) false (ap (id_eq r.id) (id_exact id r.id same) ∙ same_id r.id))
 
-    started_runs : (id : RequestId) (device : Option (List ℕ)) (rows : List (Row E)) → list_all (runs_in ids) rows ≡ true → list_all (runs_in (ids ++ id ∷ [])) (change_first (is_row id) (started_row device) rows) ≡ true
+    started_runs : (id : RequestId) (device : Option (List ℕ)) (rows : List (Row E)) → list_all (runs_in ids) rows ≡ true
+        → list_all (runs_in (ids ++ id ∷ [])) (change_first (is_row id) (started_row device) rows) ≡ true
     started_runs id device rows h =
         list_all-changed (runs_in (ids ++ id ∷ [])) (is_row id) (started_row device) rows
-        (list_all-weaker (runs_in ids) (runs_in (ids ++ id ∷ [])) (λ r. imply (is_running r.state) (list_any (id_eq r.id) ids) (list_any (id_eq r.id) (ids ++ id ∷ [])) (any-before (id_eq r.id) ids (id ∷ []))) rows h)
+        (list_all-weaker (runs_in ids) (runs_in (ids ++ id ∷ [])) (λ r. imply (is_running r.state) (list_any (id_eq r.id) ids)
+        (list_any (id_eq r.id) (ids ++ id ∷ [])) (any-before (id_eq r.id) ids (id ∷ []))) rows h)
         (λ r e. started_in id device r (found_passes (is_row id) rows r e))
 
     booted_runs : (rows : List (Row E)) → list_all (runs_in ids) rows ≡ true → list_all (runs_in []) (filter_map booted_row rows) ≡ true
     booted_runs rows h = all-filter_map (runs_in ids) (runs_in []) booted_row (λ r k. by r (is_running r.state) refl (may_start_again r)) rows h
       where
-        by : (r : Row E) (b : Bool) → is_running r.state ≡ b → (c : Bool) → IfSome (if b then (if c then Some (lost_row r) else None) else Some r) (λ q. runs_in [] q ≡ true)
+        by : (r : Row E) (b : Bool) → is_running r.state ≡ b → (c : Bool)
+            → IfSome (if b then (if c then Some (lost_row r) else None) else Some r) (λ q. runs_in [] q ≡ true)
         by r true e true = refl
         by r true e false = tt
         by r false e c = or_left (not (is_running r.state)) false (ap not e)
@@ -170,8 +179,10 @@ module _ {E : Type 0} where
   what_may_run (HandsSilent until ks) ids s h = silents_run ids until ks s h
   what_may_run (Accepted peer number) ids s h = accepted_runs ids (peer_number peer number) (find_promise peer number s) s h
   what_may_run (MovedLocal id queue) ids s h = changed ids id (moved_local queue (s.arrivals + 1)) (λ r k. k) s.rows h
-  what_may_run (RefusedLocal id queue refusal) ids s h = changed ids id (local_refused queue refusal s) (λ r k. noted ids (dests_for r s) (record { queue = queue; host = s.me }) refusal r ∙ k) s.rows h
+  what_may_run (RefusedLocal id queue refusal) ids s h = changed ids id (local_refused queue refusal s)
+      (λ r k. noted ids (dests_for r s) (record { queue = queue; host = s.me }) refusal r ∙ k) s.rows h
   what_may_run (HeldFar id) ids s h = changed ids id held_far (λ r k. k) s.rows h
   what_may_run (StageGot peer number path bytes) ids s h =
-      file_keeps (runs_only ids) (λ u fs n. refl) (λ u ts ps. refl) (record { path = path; bytes = bytes }) (change_peer peer (λ p. record p { stage_got = number }) s) ∙ h
+      file_keeps (runs_only ids) (λ u fs n. refl) (λ u ts ps. refl) (record { path = path; bytes = bytes })
+      (change_peer peer (λ p. record p { stage_got = number }) s) ∙ h
   what_may_run c ids s h = h

@@ -45,7 +45,8 @@ fn boot_row(row: &mut Row) -> bool
     true
 }
 
-/// The host starts again after a stop: the running requests are queued again where they may, and else go.
+/// The host starts again after a stop: the running requests are queued again where they may, and
+/// else go.
 pub fn booted(state: &mut HostState)
     requires order { IsInOrder (content state.old) }
     ensures { content state.new ≡ record (content state.old) { rows = filter_map booted_row state.old.rows.items } }
@@ -79,7 +80,8 @@ fn boot_request(state: &mut HostState, id: &RequestId)
     }
 }
 
-/// The same as `apply` makes of `Change::Boot`, where no other requests run than these. It looks at these alone.
+/// The same as `apply` makes of `Change::Boot`, where no other requests run than these. It looks at
+/// these alone.
 pub fn boot_running(state: &mut HostState, running: &[RequestId])
     requires order { IsInOrder (content state.old) }
     requires only { IsTrue (runs_only running.now (content state.old)) }

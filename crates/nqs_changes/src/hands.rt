@@ -81,7 +81,8 @@ fn silent(state: &mut HostState, key: &PeerNumber, until: u64)
     }
 }
 
-/// No answers came to these handovers. Their hosts are waited for until that moment, in seconds since 1970.
+/// No answers came to these handovers. Their hosts are waited for until that moment, in seconds
+/// since 1970.
 pub fn all_silent(state: &mut HostState, keys: &[PeerNumber], until: u64)
     ensures { content state.new ≡ hands_silent until keys.now (content state.old) }
 {

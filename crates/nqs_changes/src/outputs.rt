@@ -94,7 +94,8 @@ fn add_outputs(state: &mut HostState, id: RequestId, mut parts: Items<OutPart>)
     }
 }
 
-/// A running request's job has ended: the request goes, and its outputs go to the host where it was submitted.
+/// A running request's job has ended: the request goes, and its outputs go to the host where it was
+/// submitted.
 pub fn ended(state: &mut HostState, id: RequestId, outputs: Items<OutPart>)
     requires files { length outputs ≤ state.old.files.spare }
     requires stages { length outputs ≤ state.old.stages.spare }

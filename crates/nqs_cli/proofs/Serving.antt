@@ -1,5 +1,6 @@
 -- How the daemon ends, by how the boot and the serving did.
 use Rattle.std.proofs.Common.{◌≡◌, inl, inr, ℕ, Bool, IsTrue, List, [], Some, refl, sym, subst}
+use Rattle.nqs_values.specs.Want.{want}
 use Rattle.nqs_state.specs.State.{Plain}
 use Rattle.nqs_types.specs.declared.change.Change.TheVariants.{Boot}
 use Rattle.nqs_types.specs.declared.ids.HostId.{HostId}
@@ -34,10 +35,12 @@ pub leaves : {D : Type 0} {g : disk.Ghosts D} (node : Node D g) (s : Plain) (k :
     → ((which : Which) → k which ≡ history_of node which) → EachImage k (λ images. IsTold (images First) (images Spool) s)
 leaves node s k telling tells same =
     subst (λ (h : Which → History). EachImage h (λ images. IsTold (images First) (images Spool) s)) (λ j which. sym (same which) j)
-    (subst (λ (t : Plain). EachImage (history_of node) (λ images. IsTold (images First) (images Spool) t)) tells.is (told_now node.store (content_of node) telling tells.told))
+    (subst (λ (t : Plain). EachImage (history_of node) (λ images. IsTold (images First) (images Spool) t)) tells.is
+    (told_now node.store (content_of node) telling tells.told))
 
 -- a run ends so where more than the state is told
-pub ends_as : (P Q : Plain → Type 0) → ((s : Plain) → P s → Q s) → (so : ServeEnd) (turns : ℕ) (bs : List Bool) (t : Turn) (more : List ℕ) → EndsWith P so turns bs t more → EndsWith Q so turns bs t more
+pub ends_as : (P Q : Plain → Type 0) → ((s : Plain) → P s → Q s) → (so : ServeEnd) (turns : ℕ) (bs : List Bool) (t : Turn) (more : List ℕ)
+    → EndsWith P so turns bs t more → EndsWith Q so turns bs t more
 ends_as P Q f end.Shutdown turns bs t more e = (e.0, e.1, f t.state e.2, e.3)
 ends_as P Q f end.TurnsUsed turns bs t more e = (e.0, e.1, f t.state e.2, e.3, e.4)
 ends_as P Q f end.WireFault turns bs t more e = (e.0, e.1, f t.state e.2, e.3, e.4)
@@ -46,7 +49,8 @@ ends_as P Q f (end.Memory memory) turns bs t more e = ((e.0.0, f e.0.0 e.0.1, e.
 
 -- at each moment of the boot and of the run after it
 pub since_boot : (old mid new now : Which → History) (s : Plain) (acts : List Act) (more : List ℕ) → ((which : Which) → now which ≡ new which)
-    → IsOneOrOther old mid (Some Boot) s → TellsThroughout mid new (IsPassed (here_of s) (idle (applied Boot s)) acts more) → TellsThroughout old now (IsPassedSince s acts more)
+    → IsOneOrOther old mid (Some Boot) s → TellsThroughout mid new (IsPassed (here_of s) (idle (applied Boot s)) acts more)
+    → TellsThroughout old now (IsPassedSince s acts more)
 since_boot old mid new now s acts more same boot run =
     let P = IsPassedSince s acts more in
     let all = through_then old mid new P (through_change old mid (Some Boot) s P boot (inl refl) (inr ([], acts, refl, inl refl)))
@@ -54,7 +58,8 @@ since_boot old mid new now s acts more same boot run =
     subst (λ (h : Which → History). TellsThroughout old h P) (λ j which. sym (same which) j) all
 
 -- the boot alone
-pub boot_alone : (old mid now : Which → History) (s : Plain) → ((which : Which) → now which ≡ mid which) → IsOneOrOther old mid (Some Boot) s → IsOneOrOther old now (Some Boot) s
+pub boot_alone : (old mid now : Which → History) (s : Plain) → ((which : Which) → now which ≡ mid which) → IsOneOrOther old mid (Some Boot) s
+    → IsOneOrOther old now (Some Boot) s
 boot_alone old mid now s same boot = subst (λ (h : Which → History). IsOneOrOther old h (Some Boot) s) (λ j which. sym (same which) j) boot
 
 module _ (tells : Bool) (me : HostId) (names : List (List ℕ)) (turns : ℕ) (was now : Outside) where
@@ -62,12 +67,16 @@ module _ (tells : Bool) (me : HostId) (names : List (List ℕ)) (turns : ℕ) (w
   pub not_booted : (fault : LoadFault) (status : NqsStatus) → status ≡ status_of_fault fault → IsUnasked was now
       → ((which : Which) → fault ≡ load.Disk which → Rose (was.disks.faults which) (now.disks.faults which))
       → (IsTrue tells → HasFailed was.disks now.disks)
-      → (IsTrue tells → (which : Which) (place : ℕ) → fault ≡ load.NotNqs which place → IsLoadFault (content (was.disks.histories First)) (content (was.disks.histories Spool)) fault)
-      → (IsTrue tells → fault ≡ load.Memory → AreSame was.disks.histories now.disks.histories)
+      → (IsTrue tells → (which : Which) (place : ℕ) → fault ≡ load.NotNqs which place
+      → IsLoadFault (content (was.disks.histories First)) (content (was.disks.histories Spool)) fault)
+      → (IsTrue tells → fault ≡ load.Memory want → AreSame was.disks.histories now.disks.histories)
       → Daemons tells me names turns was now status
-  not_booted (load.Disk which) status is unasked failed broken bad same = subst (Daemons tells me names turns was now) (sym is) ((which, failed which refl), inr (unasked, broken))
-  not_booted (load.NotNqs which place) status is unasked failed broken bad same = subst (Daemons tells me names turns was now) (sym is) (unasked, λ yes. inl (which, place, bad yes which place refl))
-  not_booted load.Memory status is unasked failed broken bad same = subst (Daemons tells me names turns was now) (sym is) (inr (unasked, λ yes. same yes refl))
+  not_booted (load.Disk which) status is unasked failed broken bad same =
+      subst (Daemons tells me names turns was now) (sym is) ((which, failed which refl), inr (unasked, broken))
+  not_booted (load.NotNqs which place) status is unasked failed broken bad same =
+      subst (Daemons tells me names turns was now) (sym is) (unasked, λ yes. inl (which, place, bad yes which place refl))
+  not_booted (load.Memory memory) status is unasked failed broken bad same =
+      subst (Daemons tells me names turns was now) (sym is) (inr (unasked, λ yes. same yes refl))
 
   -- it was, and served
   pub has_served : (so : ServeEnd) (status : NqsStatus) → status ≡ status_of_serve so → HasServed tells me names turns was now so

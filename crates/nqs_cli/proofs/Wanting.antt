@@ -4,7 +4,8 @@ use Rattle.nqs_types.specs.declared.ids.HostId.{HostId}
 use Rattle.nqs_outside.specs.Causes.{Rose}
 use Rattle.nqs_clients.specs.Sides.{Fed, Sunk}
 use Rattle.nqs_clients.specs.declared.status.NqsStatus.{NqsStatus}
-use Rattle.nqs_clients.specs.declared.status.NqsStatus.TheVariants.{Done, Refused, BadWords, NotNqs, ReadFault, WriteFault, Memory, NoAnswer, WireFault, DiskFault, TurnsUsed, MachineFault, Exists}
+use Rattle.nqs_clients.specs.declared.status.NqsStatus.TheVariants.{Done, Refused, BadWords, NotNqs, ReadFault, WriteFault, Memory, NoAnswer, WireFault}
+use Rattle.nqs_clients.specs.declared.status.NqsStatus.TheVariants.{DiskFault, TurnsUsed, MachineFault, Exists}
 use Rattle.nqs_cli.specs.Ends.{status_of_end}
 use Rattle.nqs_cli.specs.Forms.{Words}
 use Rattle.nqs_cli.specs.Runs.{Parts, IsWanting, RunsAt}
@@ -13,7 +14,8 @@ use Rattle.nqs_cli.specs.declared.machine.MachineEnd.{MachineEnd}
 use Rattle.nqs_cli.specs.declared.machine.MachineEnd.TheVariants as machine
 
 -- the machine says why
-pub wanting : (before now : ℕ) (end : MachineEnd) (status : NqsStatus) → status ≡ status_of_end end → (end ≡ machine.Failed → Rose before now) → IsWanting before now status
+pub wanting : (before now : ℕ) (end : MachineEnd) (status : NqsStatus) → status ≡ status_of_end end → (end ≡ machine.Failed → Rose before now)
+    → IsWanting before now status
 wanting before now machine.Failed status is rose = subst (IsWanting before now) (sym is) (rose refl)
 wanting before now (machine.Memory memory) status is rose = subst (IsWanting before now) (sym is) (record {})
 
@@ -37,8 +39,10 @@ wanting_within a b c d TurnsUsed first last w = absurd w
 wanting_within a b c d Exists first last w = absurd w
 
 -- so it is with all that is done for a host
-pub runs_within : (tells : Bool) (dir : List ℕ) (names : List (List ℕ)) (host : Option HostId) (form : Form) (words : Words) (source : Fed) (sink : Sunk) (a b c : ℕ) (parts : Parts) (status : NqsStatus)
+pub runs_within : (tells : Bool) (dir : List ℕ) (names : List (List ℕ)) (host : Option HostId) (form : Form) (words : Words) (source : Fed) (sink : Sunk)
+    (a b c : ℕ) (parts : Parts) (status : NqsStatus)
     → a ≤ b → RunsAt tells dir names host form words source sink b c parts status → RunsAt tells dir names host form words source sink a c parts status
 runs_within tells dir names None form words source sink a b c parts status later did = did
 runs_within tells dir names (Some me) form words source sink a b c parts status later (inl did) = inl did
-runs_within tells dir names (Some me) form words source sink a b c parts status later (inr wants) = inr (wanting_within a b c c status later (omega arith) wants.0, wants.1, wants.2)
+runs_within tells dir names (Some me) form words source sink a b c parts status later (inr wants) =
+    inr (wanting_within a b c c status later (omega arith) wants.0, wants.1, wants.2)

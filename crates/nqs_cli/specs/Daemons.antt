@@ -50,7 +50,8 @@ telling_of o = telling o.wire.received o.wire.sent o.asked o.prints o.filings o.
 -- the parts that a daemon asks for, in order
 abbrev pub daemon_parts : List ℕ → HostId → ℕ → Outside → List Lent
 daemon_parts dir me port o =
-    disks_of dir me o.disks ∷ wire_of dir (Some me) port o.wire ∷ launcher_of dir me o.asked ∷ printer_of dir me o.prints ∷ outlet_of dir me o.filings ∷ the_clock o.given ∷ []
+    disks_of dir me o.disks ∷ wire_of dir (Some me) port o.wire ∷ launcher_of dir me o.asked ∷ printer_of dir me o.prints ∷ outlet_of dir me
+    o.filings ∷ the_clock o.given ∷ []
 
 -- the host that the disks tell, by what a read gives
 abbrev pub IsThere : DisksTold → Plain → Type 0

@@ -17,7 +17,7 @@ status_of_end (machine.Memory memory) = Memory memory
 abbrev pub status_of_fault : LoadFault → NqsStatus
 status_of_fault (load.Disk which) = DiskFault
 status_of_fault (load.NotNqs which place) = NotNqs
-status_of_fault load.Memory = Memory (record {})
+status_of_fault (load.Memory memory) = Memory memory
 
 -- where a host has served
 abbrev pub status_of_serve : ServeEnd → NqsStatus

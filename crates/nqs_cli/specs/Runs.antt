@@ -177,7 +177,8 @@ behind_site dir names parts = record { lent = names_of dir names ∷ parts.lent;
 abbrev pub RunsForm : Bool → List ℕ → List ℕ → Form → Words → Fed → Sunk → ℕ → ℕ → Parts → NqsStatus → Type 0
 RunsForm tells dir host form words source sink faults faults_now parts status =
     (IsWanting faults faults_now status × IsUntouched source sink × (parts ≡ no_parts))
-    ⊎ ((names : List (List ℕ)) × (some : Parts) × (parts ≡ behind_site dir names some) × RunsAt tells dir names (host_named names host) form words source sink faults faults_now some status)
+    ⊎ ((names : List (List ℕ)) × (some : Parts) × (parts ≡ behind_site dir names some)
+    × RunsAt tells dir names (host_named names host) form words source sink faults faults_now some status)
 
 -- the same, where the words have a form
 abbrev pub RunsWords : Bool → Option Form → Words → Fed → Sunk → ℕ → ℕ → Parts → NqsStatus → Type 0

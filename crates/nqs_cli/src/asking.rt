@@ -8,7 +8,8 @@ ghost use Rattle.nqs_outside.specs.Causes.{Rose};
 ghost use Rattle.nqs_clients.specs.Shepherd.{Shepherds};
 ghost use Rattle.nqs_clients.specs.Sides.{fed, sunk};
 ghost use Rattle.nqs_cli.specs.Parts.{WireTold, wire_of, wire_back};
-ghost use Rattle.nqs_cli.specs.Runs.{Parts as Lists, IsWanting, IsUntouched, DoesClient, DoesShepherd, shepherd_parts, status_of_shepherd, without_dir, no_parts, BreaksOff};
+ghost use Rattle.nqs_cli.specs.Runs.{Parts as Lists, IsWanting, IsUntouched, DoesClient, DoesShepherd, shepherd_parts, status_of_shepherd, without_dir};
+ghost use Rattle.nqs_cli.specs.Runs.{no_parts, BreaksOff};
 
 use crate::machine::Machine;
 use crate::parts::status_of_end;
@@ -56,7 +57,8 @@ pub(crate) fn ask<M: Machine, S: Source, K: Sink>(
     out: &mut K,
 ) -> NqsStatus
     requires few { length site.now ≤ 16 }
-    ensures parts { (parts : Lists) × Extends (M.lent machine.old) (M.lent machine.new) parts.lent × Extends (M.back machine.old) (M.back machine.new) parts.back
+    ensures parts { (parts : Lists) × Extends (M.lent machine.old) (M.lent machine.new) parts.lent
+        × Extends (M.back machine.old) (M.back machine.new) parts.back
         × (DoesClient (record { dir = dir.now; names = site.now; me = me }) (map (λ s. string_bytes s) words.now)
         (fed S.left S.faults input.old input.new) (sunk K.taken K.faults K.stalls out.old out.new) parts result
         ⊎ (IsWanting (M.faults machine.old) (M.faults machine.new) result × (parts ≡ no_parts)
@@ -102,7 +104,8 @@ fn with_runner<M: Machine>(
     requires host { is_of_site (length site.now) host ≡ true }
     requires id { is_sane_id id ≡ true }
     requires origin { is_of_site (length site.now) id.host ≡ true }
-    ensures parts { ((port : ℕ) × (was now : WireTold) × (end : ShepherdEnd) × Extends (M.lent machine.old) (M.lent machine.new) (wire_of dir.now None port was ∷ [])
+    ensures parts { ((port : ℕ) × (was now : WireTold) × (end : ShepherdEnd)
+        × Extends (M.lent machine.old) (M.lent machine.new) (wire_of dir.now None port was ∷ [])
         × Extends (M.back machine.old) (M.back machine.new) (wire_back now ∷ []) × (result ≡ status_of_shepherd end)
         × Shepherds host port id start (M.R.runs runner.old) (M.R.runs runner.new) was.received now.received was.sent now.sent end
         × (end ≡ ShepherdEnd.WireFault → Rose was.receive_faults now.receive_faults))
@@ -134,10 +137,12 @@ pub(crate) fn tend<M: Machine>(
     requires host { is_of_site (length site.now) host ≡ true }
     requires id { is_sane_id id ≡ true }
     requires origin { is_of_site (length site.now) id.host ≡ true }
-    ensures parts { (parts : Lists) × Extends (M.lent machine.old) (M.lent machine.new) parts.lent × Extends (M.back machine.old) (M.back machine.new) parts.back
+    ensures parts { (parts : Lists) × Extends (M.lent machine.old) (M.lent machine.new) parts.lent
+        × Extends (M.back machine.old) (M.back machine.new) parts.back
         × (DoesShepherd (record { dir = dir.now; names = site.now; me = host }) id start parts result
         ⊎ (IsWanting (M.faults machine.old) (M.faults machine.new) result
-        × ((port : ℕ) × (runs : Option (List Job)) × (told : WireTold) × BreaksOff (shepherd_parts (record { dir = dir.now; names = site.now; me = host }) port runs told) parts))) }
+        × ((port : ℕ) × (runs : Option (List Job)) × (told : WireTold) × BreaksOff
+        (shepherd_parts (record { dir = dir.now; names = site.now; me = host }) port runs told) parts))) }
     ensures later { M.faults machine.old ≤ M.faults machine.new }
 {
     match machine.runner(dir, host) {

@@ -22,7 +22,7 @@ use nqs_serve::{ServeEnd, serve};
 use nqs_state::HostState;
 use nqs_store::{Disks, LoadFault};
 use nqs_types::HostId;
-use nqs_values::{Memory, Name};
+use nqs_values::Name;
 use std::alloc::Global;
 
 fn status_of_fault(fault: LoadFault) -> NqsStatus
@@ -31,7 +31,7 @@ fn status_of_fault(fault: LoadFault) -> NqsStatus
     match fault {
         LoadFault::Disk(_) => NqsStatus::DiskFault,
         LoadFault::NotNqs(_, _) => NqsStatus::NotNqs,
-        LoadFault::Memory => NqsStatus::Memory(Memory),
+        LoadFault::Memory(memory) => NqsStatus::Memory(memory),
     }
 }
 
@@ -54,7 +54,8 @@ fn is_here(me: HostId, names: &[Name], state: &HostState) -> bool
     me.0 == state.me.0 && state.site.as_slice() == names
 }
 
-// Boots the host and serves; the disks come back. Disks of another host are refused behind the boot, in which nothing runs.
+// Boots the host and serves; the disks come back. Disks of another host are refused behind the
+// boot, in which nothing runs.
 fn boot_and_serve<D: Disk + Drop, W: Wire, L: Launcher, P: Printer, O: Outlet, C: Clock>(
     alloc: Global,
     me: HostId,
@@ -146,9 +147,11 @@ pub(crate) fn daemon<M: Machine>(
     me: HostId,
     turns: u64,
 ) -> NqsStatus
-    ensures parts { (parts : Lists) × Extends (M.lent machine.old) (M.lent machine.new) parts.lent × Extends (M.back machine.old) (M.back machine.new) parts.back
+    ensures parts { (parts : Lists) × Extends (M.lent machine.old) (M.lent machine.new) parts.lent
+        × Extends (M.back machine.old) (M.back machine.new) parts.back
         × (DoesDaemon M.D.tells (record { dir = dir.now; names = names.now; me = me }) turns parts result
-        ⊎ (IsWanting (M.faults machine.old) (M.faults machine.new) result × ((port : ℕ) × (told : Outside) × BreaksOff (daemon_parts dir.now me port told) parts))) }
+        ⊎ (IsWanting (M.faults machine.old) (M.faults machine.new) result
+        × ((port : ℕ) × (told : Outside) × BreaksOff (daemon_parts dir.now me port told) parts))) }
     ensures later { M.faults machine.old ≤ M.faults machine.new }
 {
     match lend(machine, dir, me) {

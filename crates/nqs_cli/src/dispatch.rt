@@ -5,7 +5,8 @@ ghost use Rattle.nqs_rules.specs.Sane.{is_of_site, is_sane_id};
 ghost use Rattle.nqs_outside.specs.Told.{Extends};
 ghost use Rattle.nqs_clients.specs.Sides.{fed, sunk};
 ghost use Rattle.nqs_cli.specs.Parts.{Lent};
-ghost use Rattle.nqs_cli.specs.Runs.{Parts as Lists, IsWanting, Tends, Asks, BreaksOff, DoesOrWants, Runs, RunsAt, RunsForm, RunsWords, host_of, host_named, request_named};
+ghost use Rattle.nqs_cli.specs.Runs.{Parts as Lists, IsWanting, Tends, Asks, BreaksOff, DoesOrWants, Runs, RunsAt, RunsForm, RunsWords, host_of, host_named};
+ghost use Rattle.nqs_cli.specs.Runs.{request_named};
 
 use crate::asking::{ask, tend};
 use crate::daemon::daemon;
@@ -80,7 +81,8 @@ fn tend_named<M: Machine>(
 ) -> NqsStatus
     requires few { length site.now ≤ 16 }
     requires there { is_of_site (length site.now) host ≡ true }
-    ensures parts { (parts : Lists) × Extends (M.lent machine.old) (M.lent machine.new) parts.lent × Extends (M.back machine.old) (M.back machine.new) parts.back
+    ensures parts { (parts : Lists) × Extends (M.lent machine.old) (M.lent machine.new) parts.lent
+        × Extends (M.back machine.old) (M.back machine.new) parts.back
         × (Tends (record { dir = dir.now; names = site.now; me = host }) (request_named site.now named.now) start parts result
         ⊎ (IsWanting (M.faults machine.old) (M.faults machine.new) result
         × ((all : List Lent) × Asks (record { dir = dir.now; names = site.now; me = host }) (Form.Shepherd named.now start) all × BreaksOff all parts))) }
@@ -107,7 +109,8 @@ fn run_at<M: Machine, S: Source, K: Sink>(
     requires few { length site.now ≤ 16 }
     requires within { host.0 < length site.now }
     requires there { is_of_site (length site.now) host ≡ true }
-    ensures parts { (parts : Lists) × Extends (M.lent machine.old) (M.lent machine.new) parts.lent × Extends (M.back machine.old) (M.back machine.new) parts.back
+    ensures parts { (parts : Lists) × Extends (M.lent machine.old) (M.lent machine.new) parts.lent
+        × Extends (M.back machine.old) (M.back machine.new) parts.back
         × DoesOrWants M.D.tells (record { dir = dir.now; names = site.now; me = host }) form (map (λ s. string_bytes s) words.now)
         (fed S.left S.faults input.old input.new) (sunk K.taken K.faults K.stalls out.old out.new) (M.faults machine.old) (M.faults machine.new) parts result }
     ensures later { M.faults machine.old ≤ M.faults machine.new }
@@ -133,7 +136,8 @@ fn run_named<M: Machine, S: Source, K: Sink>(
     out: &mut K,
 ) -> NqsStatus
     requires { length site.now ≤ 16 }
-    ensures parts { (parts : Lists) × Extends (M.lent machine.old) (M.lent machine.new) parts.lent × Extends (M.back machine.old) (M.back machine.new) parts.back
+    ensures parts { (parts : Lists) × Extends (M.lent machine.old) (M.lent machine.new) parts.lent
+        × Extends (M.back machine.old) (M.back machine.new) parts.back
         × RunsAt M.D.tells dir.now site.now (host_named site.now name.now) form (map (λ s. string_bytes s) words.now)
         (fed S.left S.faults input.old input.new) (sunk K.taken K.faults K.stalls out.old out.new) (M.faults machine.old) (M.faults machine.new) parts result }
     ensures later { M.faults machine.old ≤ M.faults machine.new }
@@ -155,7 +159,8 @@ fn run_in<M: Machine, S: Source, K: Sink>(
     input: &mut S,
     out: &mut K,
 ) -> NqsStatus
-    ensures parts { (parts : Lists) × Extends (M.lent machine.old) (M.lent machine.new) parts.lent × Extends (M.back machine.old) (M.back machine.new) parts.back
+    ensures parts { (parts : Lists) × Extends (M.lent machine.old) (M.lent machine.new) parts.lent
+        × Extends (M.back machine.old) (M.back machine.new) parts.back
         × RunsForm M.D.tells dir.now name.now form (map (λ s. string_bytes s) words.now)
         (fed S.left S.faults input.old input.new) (sunk K.taken K.faults K.stalls out.old out.new) (M.faults machine.old) (M.faults machine.new) parts result }
     ensures later { M.faults machine.old ≤ M.faults machine.new }
@@ -177,7 +182,8 @@ fn run_form<M: Machine, S: Source, K: Sink>(
     input: &mut S,
     out: &mut K,
 ) -> NqsStatus
-    ensures parts { (parts : Lists) × Extends (M.lent machine.old) (M.lent machine.new) parts.lent × Extends (M.back machine.old) (M.back machine.new) parts.back
+    ensures parts { (parts : Lists) × Extends (M.lent machine.old) (M.lent machine.new) parts.lent
+        × Extends (M.back machine.old) (M.back machine.new) parts.back
         × RunsWords M.D.tells (Some form) (map (λ s. string_bytes s) words.now)
         (fed S.left S.faults input.old input.new) (sunk K.taken K.faults K.stalls out.old out.new) (M.faults machine.old) (M.faults machine.new) parts result }
     ensures later { M.faults machine.old ≤ M.faults machine.new }
@@ -194,8 +200,9 @@ fn run_form<M: Machine, S: Source, K: Sink>(
     run_in(alloc, form, words, dir, name, machine, input, out)
 }
 
-/// Does all that the program `nqs` does. The words are without the program's name: what is to be done, the site's folder, a
-/// host of the site, and what the form asks for behind them. Every part that the machine handed over goes back to it.
+/// Does all that the program `nqs` does. The words are without the program's name: what is to be
+/// done, the site's folder, a host of the site, and what the form asks for behind them. Every part
+/// that the machine handed over goes back to it.
 pub fn run<M: Machine, S: Source, K: Sink>(
     alloc: Global,
     words: &[String],
@@ -203,7 +210,8 @@ pub fn run<M: Machine, S: Source, K: Sink>(
     input: &mut S,
     out: &mut K,
 ) -> NqsStatus
-    ensures parts { (parts : Lists) × Extends (M.lent machine.old) (M.lent machine.new) parts.lent × Extends (M.back machine.old) (M.back machine.new) parts.back
+    ensures parts { (parts : Lists) × Extends (M.lent machine.old) (M.lent machine.new) parts.lent
+        × Extends (M.back machine.old) (M.back machine.new) parts.back
         × Runs M.D.tells (map (λ s. string_bytes s) words.now)
         (fed S.left S.faults input.old input.new) (sunk K.taken K.faults K.stalls out.old out.new) (M.faults machine.old) (M.faults machine.new) parts result }
     ensures later { M.faults machine.old ≤ M.faults machine.new }

@@ -5,22 +5,28 @@ use crate::real::RealMachine;
 use nqs_clients::NqsStatus;
 use nqs_real::{Reading, Writing, fill_streams};
 use nqs_values::Memory;
-use std::io::ErrorKind;
 use std::process::ExitCode;
 use std::rt::HostRuntime;
 use std::{env, io};
+
+// Words that can't be had are in no form, but where memory was wanting.
+fn status_of_error(e: &io::Error) -> NqsStatus {
+    match Memory::of_error(e) {
+        Some(memory) => NqsStatus::Memory(memory),
+        None => NqsStatus::BadWords,
+    }
+}
 
 // The words of the command line, or the status where they can't be had.
 fn words_of(rt: &HostRuntime) -> Result<Vec<String>, NqsStatus> {
     let mut words = Vec::new(rt.alloc());
     let given = match env::args(rt) {
         Ok(given) => given,
-        Err(e) if e.kind() == ErrorKind::OutOfMemory => return Err(NqsStatus::Memory(Memory)),
-        Err(_) => return Err(NqsStatus::BadWords),
+        Err(e) => return Err(status_of_error(&e)),
     };
     for word in given.skip(1) {
-        if words.push(word).is_err() {
-            return Err(NqsStatus::Memory(Memory));
+        if let Err(refused) = words.push(word) {
+            return Err(NqsStatus::Memory(refused.into()));
         }
     }
     Ok(words)
@@ -40,8 +46,8 @@ fn status_of(rt: &HostRuntime) -> NqsStatus {
     run(rt.alloc(), &words, &mut machine, &mut input, &mut output)
 }
 
-/// Does what the words of the command line ask for, over the real machine and the standard streams. The code is the
-/// status's number.
+/// Does what the words of the command line ask for, over the real machine and the standard streams.
+/// The code is the status's number.
 pub fn program(rt: &HostRuntime) -> ExitCode {
     ExitCode::from(status_of(rt).number())
 }

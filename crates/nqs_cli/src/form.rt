@@ -1,5 +1,5 @@
-//! The words of the program: what is to be done, behind it the folder of the site and one of its hosts, and what it is
-//! to be done with. specs/Forms.antt says what they ask for.
+//! The words of the program: what is to be done, behind it the folder of the site and one of its
+//! hosts, and what it is to be done with. specs/Forms.antt says what they ask for.
 
 ghost use Rattle.std.specs.Prelude.{◌≡◌, map, string_bytes};
 ghost use Rattle.nqs_words.specs.Values.{number_of, named_of};

@@ -18,7 +18,7 @@ use nqs_clients::NqsStatus;
 use nqs_outside::Disk;
 use nqs_store::{Disks, StoreFault};
 use nqs_types::HostId;
-use nqs_values::{Memory, Name};
+use nqs_values::Name;
 use std::alloc::Global;
 
 // Whether a disk has a byte.
@@ -79,7 +79,7 @@ fn format_empty<D: Disk>(
     match nqs_store::format(alloc, disks, me, site) {
         Ok(()) => NqsStatus::Done,
         Err(StoreFault::Disk(_)) => NqsStatus::DiskFault,
-        Err(StoreFault::Memory) => NqsStatus::Memory(Memory),
+        Err(StoreFault::Memory(memory)) => NqsStatus::Memory(memory),
         Err(StoreFault::Stopped) => unreachable!(),
     }
 }
@@ -94,7 +94,8 @@ pub(crate) fn format<M: Machine>(
 ) -> NqsStatus
     requires within { me.0 < length site.now }
     requires few { length site.now ≤ 16 }
-    ensures parts { (parts : Lists) × Extends (M.lent machine.old) (M.lent machine.new) parts.lent × Extends (M.back machine.old) (M.back machine.new) parts.back
+    ensures parts { (parts : Lists) × Extends (M.lent machine.old) (M.lent machine.new) parts.lent
+        × Extends (M.back machine.old) (M.back machine.new) parts.back
         × (DoesFormat M.D.tells (record { dir = dir.now; names = site.now; me = me }) parts result
         ⊎ (IsWanting (M.faults machine.old) (M.faults machine.new) result × (parts ≡ no_parts))) }
     ensures later { M.faults machine.old ≤ M.faults machine.new }

@@ -1,5 +1,5 @@
-//! The parts of a daemon: asked for one after the other, and handed back in the other order. Where one can't be had, those
-//! before it go back as they are.
+//! The parts of a daemon: asked for one after the other, and handed back in the other order. Where
+//! one can't be had, those before it go back as they are.
 
 ghost use Rattle.std.specs.Prelude.{◌≤◌, ◌<◌, ◌∷◌, [], ℕ, Some, IsTrue, IfOk, IfErr};
 ghost use Rattle.nqs_types.specs.declared.world.Which.{Which};

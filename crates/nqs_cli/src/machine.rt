@@ -1,4 +1,5 @@
-//! The machine that a program runs on: it hands out the outside part by part, and takes the parts back.
+//! The machine that a program runs on: it hands out the outside part by part, and takes the parts
+//! back.
 
 ghost use Rattle.std.specs.Prelude.{◌≡◌, ◌≤◌, ◌^◌, [], ◌∷◌, List, ℕ, Bool, IsTrue, IfOk, OnErr, IsErrOf, length};
 ghost use Rattle.std.specs.declared.option.Option.{Option};
@@ -24,7 +25,8 @@ pub enum MachineEnd {
 
 /// The machine. `dir` is the folder of a site; every part that was handed out is to be handed back.
 pub trait Machine {
-    ghost use Rattle.nqs_cli.specs.Parts.{Lent, Back, disks_told, wire_told, names_of, disks_of, wire_of, launcher_of, printer_of, outlet_of, runner_of, the_clock};
+    ghost use Rattle.nqs_cli.specs.Parts.{Lent, Back, disks_told, wire_told, names_of, disks_of, wire_of, launcher_of, printer_of, outlet_of, runner_of};
+    ghost use Rattle.nqs_cli.specs.Parts.{the_clock};
     ghost use Rattle.nqs_cli.specs.Parts.{disks_back, wire_back, launcher_back, printer_back, outlet_back, runner_back, clock_back};
 
     type D: Disk + Drop;
@@ -60,10 +62,12 @@ pub trait Machine {
         ensures later { faults self.old ≤ faults self.new }
         ensures failed { IsErrOf result MachineEnd.Failed → Rose (faults self.old) (faults self.new) };
 
-    /// The disks of a host, on which nothing is pending. No other program has them until they are handed back.
+    /// The disks of a host, on which nothing is pending. No other program has them until they are
+    /// handed back.
     fn disks(&mut self, dir: &str, host: HostId) -> Result<Disks<Self::D>, MachineEnd>
         ensures quiet { IsTrue Self.D.tells → IfOk result (λ part. (which : Which) → IsQuiet (histories_of Self.D.history part which)) }
-        ensures lent { IfOk result (λ part. Extends (lent self.old) (lent self.new) (disks_of dir.now host (disks_told Self.D.history Self.D.faults part) ∷ [])) }
+        ensures lent { IfOk result (λ part. Extends (lent self.old) (lent self.new)
+            (disks_of dir.now host (disks_told Self.D.history Self.D.faults part) ∷ [])) }
         ensures none { OnErr result (Extends (lent self.old) (lent self.new) []) }
         ensures back { Extends (back self.old) (back self.new) [] }
         ensures later { faults self.old ≤ faults self.new }
@@ -71,7 +75,8 @@ pub trait Machine {
 
     /// The wire of a host's daemon, or one of a client or shepherd, and its port.
     fn wire(&mut self, dir: &str, host: Option<HostId>) -> Result<(Self::W, u16), MachineEnd>
-        ensures lent { IfOk result (λ part. Extends (lent self.old) (lent self.new) (wire_of dir.now host part.1 (wire_told Self.W.received Self.W.sent Self.W.receive_faults Self.W.send_faults part.0) ∷ [])) }
+        ensures lent { IfOk result (λ part. Extends (lent self.old) (lent self.new)
+            (wire_of dir.now host part.1 (wire_told Self.W.received Self.W.sent Self.W.receive_faults Self.W.send_faults part.0) ∷ [])) }
         ensures none { OnErr result (Extends (lent self.old) (lent self.new) []) }
         ensures back { Extends (back self.old) (back self.new) [] }
         ensures later { faults self.old ≤ faults self.new }
@@ -123,7 +128,8 @@ pub trait Machine {
 
     /// Takes a wire back.
     fn wire_back(&mut self, part: Self::W)
-        ensures back { Extends (back self.old) (back self.new) (wire_back (wire_told Self.W.received Self.W.sent Self.W.receive_faults Self.W.send_faults part) ∷ []) }
+        ensures back { Extends (back self.old) (back self.new) (wire_back
+            (wire_told Self.W.received Self.W.sent Self.W.receive_faults Self.W.send_faults part) ∷ []) }
         ensures lent { Extends (lent self.old) (lent self.new) [] }
         ensures later { faults self.old ≤ faults self.new };
 

@@ -1,7 +1,7 @@
 //! The machine that the program runs on: files, a socket and child programs, made by `nqs_real`.
 //!
-//! It does nothing but read the site's file, make the adapters and take them back. It is trusted to hand out the parts
-//! of the folder and the host that it is asked for.
+//! It does nothing but read the site's file, make the adapters and take them back. It is trusted to
+//! hand out the parts of the folder and the host that it is asked for.
 
 ghost use Rattle.std.specs.Prelude.{◌≡◌, ◌≤◌, [], ◌∷◌, None, length, IfOk, IsErrOf};
 ghost use Rattle.nqs_outside.specs.Told.{Extends};
@@ -14,10 +14,11 @@ use nqs_real::{
 };
 use nqs_store::Disks;
 use nqs_types::HostId;
-use nqs_values::NameList;
+use nqs_values::{Memory, NameList};
+use std::alloc::AllocError;
 use std::fs::File;
 use std::io;
-use std::io::{ErrorKind, Read};
+use std::io::Read;
 use std::rt::HostRuntime;
 
 /// How long a receive waits, in milliseconds: a daemon, a client and a shepherd alike.
@@ -34,7 +35,30 @@ pub struct RealMachine {
     faults: u64,
 }
 
-fn site_at(rt: &HostRuntime, dir: &str) -> io::Result<Vec<SiteHost>>
+// Why a part can't be made.
+#[derive(Drop)]
+enum PartFault {
+    // A call of the system failed, or the site's file is none.
+    Call,
+    Memory(Memory),
+}
+
+impl From<io::Error> for PartFault {
+    fn from(e: io::Error) -> PartFault {
+        match Memory::of_error(&e) {
+            Some(memory) => PartFault::Memory(memory),
+            None => PartFault::Call,
+        }
+    }
+}
+
+impl From<AllocError> for PartFault {
+    fn from(refused: AllocError) -> PartFault {
+        PartFault::Memory(refused.into())
+    }
+}
+
+fn site_at(rt: &HostRuntime, dir: &str) -> Result<Vec<SiteHost>, PartFault>
     ensures { IfOk result (λ site. (1 ≤ length site.items) × (length site.items ≤ 16)) }
 {
     let mut bytes = Vec::new(rt.alloc());
@@ -44,8 +68,8 @@ fn site_at(rt: &HostRuntime, dir: &str) -> io::Result<Vec<SiteHost>>
         .read_to_end(&mut bytes)?;
     match read_site(rt.alloc(), &bytes) {
         Ok(site) => Ok(site),
-        Err(SiteFault::Form) => Err(io::Error::from(ErrorKind::InvalidData)),
-        Err(SiteFault::Memory(_)) => Err(io::Error::from(ErrorKind::OutOfMemory)),
+        Err(SiteFault::Form) => Err(PartFault::Call),
+        Err(SiteFault::Memory(memory)) => Err(PartFault::Memory(memory)),
     }
 }
 
@@ -59,27 +83,32 @@ impl RealMachine {
         }
     }
 
-    // Counts a fault. Want of memory is one here too.
-    fn fault(&mut self) -> MachineEnd
-        ensures rose { Rose self.old.faults self.new.faults }
+    // The end of a call. A fault is counted, want of memory is none.
+    fn fault(&mut self, fault: PartFault) -> MachineEnd
+        ensures rose { result ≡ MachineEnd.Failed → Rose self.old.faults self.new.faults }
         ensures later { self.old.faults ≤ self.new.faults }
     {
-        self.faults = self.faults.saturating_add(1);
-        MachineEnd::Failed
+        match fault {
+            PartFault::Call => {
+                self.faults = self.faults.saturating_add(1);
+                MachineEnd::Failed
+            }
+            PartFault::Memory(memory) => MachineEnd::Memory(memory),
+        }
     }
 
     // The answer of a call, with a fault counted.
-    fn answer<T: Drop>(&mut self, made: io::Result<T>) -> Result<T, MachineEnd>
+    fn answer<T: Drop>(&mut self, made: Result<T, PartFault>) -> Result<T, MachineEnd>
         ensures later { self.old.faults ≤ self.new.faults }
         ensures failed { IsErrOf result MachineEnd.Failed → Rose self.old.faults self.new.faults }
     {
         match made {
             Ok(part) => Ok(part),
-            Err(_) => Err(self.fault()),
+            Err(fault) => Err(self.fault(fault)),
         }
     }
 
-    fn names(&self, dir: &str) -> io::Result<NameList>
+    fn names(&self, dir: &str) -> Result<NameList, PartFault>
         ensures { IfOk result (λ names. (1 ≤ length names) × (length names ≤ 16)) }
     {
         let site = site_at(&self.rt, dir)?;
@@ -87,7 +116,7 @@ impl RealMachine {
     }
 
     // The folder of a host, which is locked from now on.
-    fn locked_folder(&mut self, dir: &str, host: HostId) -> io::Result<String>
+    fn locked_folder(&mut self, dir: &str, host: HostId) -> Result<String, PartFault>
         ensures { self.new.faults ≡ self.old.faults }
     {
         let site = site_at(&self.rt, dir)?;
@@ -96,7 +125,7 @@ impl RealMachine {
         Ok(folder)
     }
 
-    fn locked_disks(&mut self, dir: &str, host: HostId) -> io::Result<Disks<FileDisk>>
+    fn locked_disks(&mut self, dir: &str, host: HostId) -> Result<Disks<FileDisk>, PartFault>
         ensures { self.new.faults ≡ self.old.faults }
     {
         let folder = self.locked_folder(dir, host)?;
@@ -109,10 +138,10 @@ impl RealMachine {
         })
     }
 
-    fn wire_of(&self, dir: &str, host: Option<HostId>) -> io::Result<(UdpWire, u16)> {
+    fn wire_of(&self, dir: &str, host: Option<HostId>) -> Result<(UdpWire, u16), PartFault> {
         let site = site_at(&self.rt, dir)?;
         match host {
-            None => UdpWire::of_client(self.rt, &site, WAIT),
+            None => Ok(UdpWire::of_client(self.rt, &site, WAIT)?),
             Some(host) => {
                 let wire = UdpWire::of_daemon(self.rt, &site, host, WAIT)?;
                 Ok((wire, 0))
@@ -120,28 +149,28 @@ impl RealMachine {
         }
     }
 
-    fn launcher_of(&self, dir: &str, host: HostId) -> io::Result<ShepherdLauncher> {
+    fn launcher_of(&self, dir: &str, host: HostId) -> Result<ShepherdLauncher, PartFault> {
         let site = site_at(&self.rt, dir)?;
         let program = own_program(&self.rt)?;
-        ShepherdLauncher::open(self.rt, &program, dir, &site, host)
+        Ok(ShepherdLauncher::open(self.rt, &program, dir, &site, host)?)
     }
 
-    fn printer_of(&self, dir: &str, host: HostId) -> io::Result<FilePrinter> {
+    fn printer_of(&self, dir: &str, host: HostId) -> Result<FilePrinter, PartFault> {
         let site = site_at(&self.rt, dir)?;
         let folder = make_host_folder(&self.rt, dir, &site, host)?;
-        FilePrinter::open(self.rt, &folder, &site)
+        Ok(FilePrinter::open(self.rt, &folder, &site)?)
     }
 
-    fn outlet_of(&self, dir: &str, host: HostId) -> io::Result<FileOutlet> {
+    fn outlet_of(&self, dir: &str, host: HostId) -> Result<FileOutlet, PartFault> {
         let site = site_at(&self.rt, dir)?;
         let folder = make_host_folder(&self.rt, dir, &site, host)?;
-        FileOutlet::open(self.rt, &folder)
+        Ok(FileOutlet::open(self.rt, &folder)?)
     }
 
-    fn runner_of(&self, dir: &str, host: HostId) -> io::Result<ShellRunner> {
+    fn runner_of(&self, dir: &str, host: HostId) -> Result<ShellRunner, PartFault> {
         let site = site_at(&self.rt, dir)?;
         let folder = make_host_folder(&self.rt, dir, &site, host)?;
-        ShellRunner::open(self.rt, &folder, &site, host)
+        Ok(ShellRunner::open(self.rt, &folder, &site, host)?)
     }
 }
 
@@ -171,7 +200,7 @@ impl Machine for RealMachine {
     fn site(&mut self, dir: &str) -> Result<NameList, MachineEnd> {
         match self.names(dir) {
             Ok(names) => Ok(names),
-            Err(_) => Err(self.fault()),
+            Err(fault) => Err(self.fault(fault)),
         }
     }
 

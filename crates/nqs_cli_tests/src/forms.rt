@@ -9,7 +9,8 @@ use std::alloc::Global;
 use std::rt::HostRuntime;
 use std::test::Fail;
 
-// An ANSWER with the token 5 and the text `ok`, and an ENDEDACK of the first start of the request 7.
+// An ANSWER with the token 5 and the text `ok`, and an ENDEDACK of the first start of the request
+// 7.
 const ANSWER: [u8; 20] = [
     1, 11, 0, 0, 0, 0, 0, 0, 0, 0, 0, 5, 1, 0, 0, 0, 3, b'o', b'k', 10,
 ];

@@ -1,6 +1,7 @@
-//! A machine in memory. Its site is `alpha` alone, whose disks stay from one run to the next; the other parts are new each time.
+//! A machine in memory. Its site is `alpha` alone, whose disks stay from one run to the next; the
+//! other parts are new each time.
 
-ghost use Rattle.std.specs.Prelude.{◌≡◌, ◌≤◌, ◌<◌, ◌∷◌, [], false, IfOk, IsErrOf, None, length};
+ghost use Rattle.std.specs.Prelude.{◌≡◌, ◌≤◌, ◌<◌, ◌∷◌, [], false, IfOk, OnOk, IsErrOf, None, length};
 ghost use Rattle.nqs_types.specs.declared.world.Which.{Which};
 ghost use Rattle.nqs_outside.specs.Causes.{Rose};
 ghost use Rattle.nqs_outside.specs.History.{IsQuiet};
@@ -8,7 +9,7 @@ ghost use Rattle.nqs_disk.specs.MemDisk.{history_of};
 ghost use Rattle.nqs_store.specs.Disks.{disk_at};
 
 use nqs_cli::{Machine, MachineEnd};
-use nqs_disk::MemDisk;
+use nqs_disk::{Lack, MemDisk};
 use nqs_fakes::{Item, MemLauncher, MemOutlet, MemPrinter, MemRunner, MemWire};
 use nqs_outside::{Clock, RunEnd};
 use nqs_store::Disks;
@@ -38,21 +39,17 @@ pub struct MemMachine {
 }
 
 // Disks without bytes.
-fn empty_disks(alloc: Global) -> Result<Disks<MemDisk>, Memory> {
-    let root = MemDisk::new(alloc)?;
-    let first = MemDisk::new(alloc)?;
-    let second = MemDisk::new(alloc)?;
-    let spool = MemDisk::new(alloc)?;
-    Ok(Disks {
-        root,
-        first,
-        second,
-        spool,
-    })
+fn empty_disks(alloc: Global) -> Disks<MemDisk> {
+    Disks {
+        root: MemDisk::new(alloc),
+        first: MemDisk::new(alloc),
+        second: MemDisk::new(alloc),
+        spool: MemDisk::new(alloc),
+    }
 }
 
 // The disks with the bytes that they have, on which nothing is pending.
-fn settled(disks: Disks<MemDisk>) -> Result<Disks<MemDisk>, Memory>
+fn settled(disks: Disks<MemDisk>) -> Result<Disks<MemDisk>, Lack>
     ensures { IfOk result (λ disks. (which : Which) → IsQuiet (history_of (disk_at which disks))) }
 {
     let Disks {
@@ -74,8 +71,8 @@ fn settled(disks: Disks<MemDisk>) -> Result<Disks<MemDisk>, Memory>
 }
 
 impl MemMachine {
-    /// A machine whose host has empty disks, and to whose wires these datagrams come. The call with this number fails, from 1
-    /// on: reading the site is the first.
+    /// A machine whose host has empty disks, and to whose wires these datagrams come. The call with
+    /// this number fails, from 1 on: reading the site is the first.
     pub fn new(alloc: Global, datagrams: &[&[u8]], failing: u64) -> Result<MemMachine, Memory> {
         let mut arrivals = Items::new(alloc);
         for datagram in datagrams {
@@ -84,7 +81,7 @@ impl MemMachine {
         }
         Ok(MemMachine {
             alloc,
-            disks: Some(empty_disks(alloc)?),
+            disks: Some(empty_disks(alloc)),
             arrivals,
             count: Count { lent: 0, back: 0 },
             failing,
@@ -99,15 +96,24 @@ impl MemMachine {
         self.count
     }
 
+    // Counts a fault.
+    fn fail(&mut self) -> MachineEnd
+        ensures later { self.old.faults ≤ self.new.faults }
+        ensures rose { Rose self.old.faults self.new.faults }
+    {
+        self.faults = self.faults.saturating_add(1);
+        MachineEnd::Failed
+    }
+
     // One call more: does it fail?
     fn ask(&mut self) -> Result<(), MachineEnd>
+        ensures same { OnOk result (self.new.faults ≡ self.old.faults) }
         ensures later { self.old.faults ≤ self.new.faults }
         ensures failed { IsErrOf result MachineEnd.Failed → Rose self.old.faults self.new.faults }
     {
         self.asked = self.asked.saturating_add(1);
         if self.asked == self.failing {
-            self.faults = self.faults.saturating_add(1);
-            return Err(MachineEnd::Failed);
+            return Err(self.fail());
         }
         Ok(())
     }
@@ -125,16 +131,20 @@ impl MemMachine {
     }
 }
 
+fn alpha() -> Name {
+    match Name::read(b"alpha") {
+        Ok(name) => name,
+        Err(_) => unreachable!(),
+    }
+}
+
 // The names of the site.
 fn names(alloc: Global) -> Result<NameList, MachineEnd>
     ensures one { IfOk result (λ names. length names ≡ 1) }
     ensures only { IsErrOf result MachineEnd.Failed → ⊥ }
 {
-    let Ok(alpha) = Name::read(b"alpha") else {
-        return Err(MachineEnd::Memory(Memory));
-    };
     let mut names = NameList::new(alloc);
-    match names.push(alpha) {
+    match names.push(alpha()) {
         Ok(()) => Ok(names),
         Err(refused) => Err(MachineEnd::Memory(refused.into())),
     }
@@ -185,11 +195,12 @@ impl Machine for MemMachine {
     fn disks(&mut self, _dir: &str, _host: HostId) -> Result<Disks<MemDisk>, MachineEnd> {
         self.ask()?;
         let Some(disks) = self.disks.take() else {
-            return Err(MachineEnd::Memory(Memory));
+            return Err(self.fail());
         };
         let disks = match settled(disks) {
             Ok(disks) => disks,
-            Err(memory) => return Err(MachineEnd::Memory(memory)),
+            Err(Lack::Memory(memory)) => return Err(MachineEnd::Memory(memory)),
+            Err(Lack::Full(_)) => return Err(self.fail()),
         };
         self.lend();
         Ok(disks)
@@ -235,8 +246,8 @@ impl Machine for MemMachine {
             out: Bytes::from_vec(Vec::new(self.alloc)),
             err: Bytes::from_vec(Vec::new(self.alloc)),
         };
-        if ends.push(end).is_err() {
-            return Err(MachineEnd::Memory(Memory));
+        if let Err(refused) = ends.push(end) {
+            return Err(MachineEnd::Memory(refused.into()));
         }
         self.lend();
         Ok(MemRunner::new(self.alloc, ends, Vec::new(self.alloc)))

@@ -6,7 +6,8 @@ use Rattle.nqs_clients.specs.declared.errand.Errand.{Errand}
 use Rattle.nqs_clients.specs.declared.status.NqsStatus.{NqsStatus}
 use Rattle.nqs_clients.specs.declared.status.NqsStatus.TheVariants as status
 
-pub refused : (port : ℕ) (e : Errand) (source : Fed) (wire : Wired) (sink : Sunk) (result : NqsStatus) → IsTooLong e source wire → EndsWriting false too_long_text sink result → EndsFor port e source wire sink result
+pub refused : (port : ℕ) (e : Errand) (source : Fed) (wire : Wired) (sink : Sunk) (result : NqsStatus) → IsTooLong e source wire
+    → EndsWriting false too_long_text sink result → EndsFor port e source wire sink result
 refused port e source wire sink status.Done long writes = absurd (let same = writes.0 in let impossible : ⊥ = cc in impossible)
 refused port e source wire sink status.Refused long writes = inl (long, writes)
 refused port e source wire sink status.WriteFault long writes = inl (long, writes)

@@ -15,12 +15,14 @@ use Rattle.nqs_clients.specs.Shepherd.{ended, acknowledges, Waits, Shepherds}
 use Rattle.nqs_clients.specs.declared.shepherding.ShepherdEnd.{ShepherdEnd}
 use Rattle.nqs_clients.specs.declared.shepherding.ShepherdEnd.TheVariants.{Memory}
 
-module _ (host : HostId) (port : ℕ) (id : RequestId) (start : ℕ) (end : Option RunEnd) (runs runs' : Option (List Job)) (ran_once : Extends runs runs' (ran id start end ∷ [])) where
+module _ (host : HostId) (port : ℕ) (id : RequestId) (start : ℕ) (end : Option RunEnd) (runs runs' : Option (List Job))
+    (ran_once : Extends runs runs' (ran id start end ∷ [])) where
   pub shepherds : (r r' : Option (List Arrival)) (s s' : Option (List Packet)) (told : List ℕ) (result : ShepherdEnd)
       → told ≡ spelling (at_home host (ended port id start end)) → Waits (acknowledges host id start) (packet (Host host) told) r r' s s' result
       → Shepherds host port id start runs runs' r r' s s' result
   shepherds r r' s s' told result spelled waits =
       (end, ran_once, subst (λ t. Waits (acknowledges host id start) (packet (Host host) t) r r' s s' result) spelled waits)
 
-  pub shepherds_unsent : (r : Option (List Arrival)) (s : Option (List Packet)) (memory : wanting.Memory) → Shepherds host port id start runs runs' r r s s (Memory memory)
+  pub shepherds_unsent : (r : Option (List Arrival)) (s : Option (List Packet)) (memory : wanting.Memory)
+      → Shepherds host port id start runs runs' r r s s (Memory memory)
   shepherds_unsent r s memory = (end, ran_once, ([], extends_none r, extends_none s, lit≤ tt))

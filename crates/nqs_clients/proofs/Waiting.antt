@@ -1,5 +1,6 @@
 -- Waits, one receive after another.
-use Rattle.std.proofs.Common.{◌≡◌, ℕ, ◌+◌, ◌≤◌, Bool, true, false, List, [], ◌∷◌, ◌++◌, length, ◌<◌, replicate, Ok, Err, refl, sym, ◌∙◌, ap, length-append, arith}
+use Rattle.std.proofs.Common.{◌≡◌, ℕ, ◌+◌, ◌≤◌, Bool, true, false, List, [], ◌∷◌, ◌++◌, length, ◌<◌, replicate, Ok, Err, refl, sym, ◌∙◌, ap, length-append}
+use Rattle.std.proofs.Common.{arith}
 use Rattle.std.specs.List.{list_any}
 use Rattle.std.specs.declared.option.Option.{Option}
 use Rattle.std.specs.declared.result.Result.{Result}
@@ -15,7 +16,8 @@ use Rattle.nqs_clients.specs.declared.datagram.WaitStop.{WaitStop}
 use Rattle.nqs_clients.specs.declared.datagram.WaitStop.TheVariants as stop
 use Rattle.nqs_clients.specs.declared.shepherding.ShepherdEnd.TheVariants.{Told, NoAnswer, WireFault}
 
-pub none_more : (test : Arrival → Bool) (arrivals : List Arrival) (a : Arrival) → list_any test arrivals ≡ false → test a ≡ false → list_any test (arrivals ++ a ∷ []) ≡ false
+pub none_more : (test : Arrival → Bool) (arrivals : List Arrival) (a : Arrival) → list_any test arrivals ≡ false → test a ≡ false
+    → list_any test (arrivals ++ a ∷ []) ≡ false
 none_more test arrivals a none other = rw (list_any-append test arrivals (a ∷ []), none, other) refl
 
 pub length_more : {A : Type 0} (xs : List A) (x : A) (n : ℕ) → length xs ≡ n → length (xs ++ x ∷ []) ≡ n + 1
@@ -24,7 +26,8 @@ length_more xs x n same = rw (length-append xs (x ∷ []), same) refl
 one_more : {A : Type 0} (n : ℕ) (x : A) → replicate n x ++ x ∷ [] ≡ replicate (n + 1) x
 one_more n x = replicate-append-replicate n 1 x
 
-pub sent_more : (s s' s'' : Option (List Packet)) (n : ℕ) (told : Packet) → Extends s s' (replicate n told) → Extends s' s'' (told ∷ []) → Extends s s'' (replicate (n + 1) told)
+pub sent_more : (s s' s'' : Option (List Packet)) (n : ℕ) (told : Packet) → Extends s s' (replicate n told) → Extends s' s'' (told ∷ [])
+    → Extends s s'' (replicate (n + 1) told)
 sent_more s s' s'' n told first then = extends_same s s'' _ _ (one_more n told) (extends_then s s' s'' (replicate n told) (told ∷ []) first then)
 
 -- so many receives brought no acknowledgement, and the datagram was sent before each
@@ -56,7 +59,8 @@ waits_told test told r r' r'' s s' s'' n b few so_far (a, came, is) is_it then =
     )
 
 pub waits_stopped : (test : Arrival → Bool) (told : Packet) (r r' r'' : Option (List Arrival)) (s s' s'' : Option (List Packet)) (n : ℕ) (why : WaitStop)
-    → n < 10 → IsWaiting test told r r' s s' n → Receives {A = Bool} test r' r'' (Err why) → Extends s' s'' (told ∷ []) → Waits test told r r'' s s'' (stopped why)
+    → n < 10 → IsWaiting test told r r' s s' n → Receives {A = Bool} test r' r'' (Err why) → Extends s' s'' (told ∷ [])
+    → Waits test told r r'' s s'' (stopped why)
 waits_stopped test told r r' r'' s s' s'' n stop.Fault few so_far came then = (
   so_far.0,
   extends_same r r'' _ _ (append-nil so_far.0) (extends_then r r' r'' so_far.0 [] so_far.1 came),

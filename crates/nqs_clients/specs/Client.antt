@@ -39,7 +39,7 @@ abbrev pub TakesScript : Tool → Fed → Result (Vec ℕ) ReadStop → Type 0
 TakesScript tool source (Ok script) = HasScript tool source script.items
 TakesScript tool source (Err Fault) = (tool ≡ Qsub) × Rose source.faults source.faults_now
 TakesScript tool source (Err TooLong) = (tool ≡ Qsub) × ReadsTooMuch source
-TakesScript tool source (Err Memory) = Unit {0}
+TakesScript tool source (Err (Memory memory)) = Unit {0}
 
 -- An answer was written whole, and it ends as the answer says; or a front of it was.
 abbrev pub EndsWriting : Bool → List ℕ → Sunk → NqsStatus → Type 0
@@ -50,7 +50,8 @@ EndsWriting ok text sink _ = ⊥
 
 -- the answer came, and it ends with it
 abbrev pub EndsAnswered : ℕ → Errand → List ℕ → Wired → Sunk → NqsStatus → Type 0
-EndsAnswered port e script wire sink result = (answer : Answer) × Exchanges port e script wire (Ok (Some answer)) × EndsWriting answer.ok answer.text sink result
+EndsAnswered port e script wire sink result = (answer : Answer) × Exchanges port e script wire (Ok (Some answer))
+    × EndsWriting answer.ok answer.text sink result
 
 -- how the client ends that has its script
 abbrev pub EndsAsking : ℕ → Errand → List ℕ → Wired → Sunk → NqsStatus → Type 0

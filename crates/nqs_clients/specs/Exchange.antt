@@ -49,7 +49,8 @@ Asks port e script wire = Extends wire.sent wire.sent_now (datagram e.host (ask_
 
 -- At most ten receives were made, up to the first that brought the answer.
 abbrev pub Awaits : HostId → List Arrival → Result (Option Answer) WaitStop → Type 0
-Awaits host arrivals (Ok (Some answer)) = (before : List Arrival) × (last : Arrival) × (arrivals ≡ before ++ last ∷ []) × (length arrivals ≤ 10) × (list_any (answers host) before ≡ false) × (answer_in host last ≡ Some answer)
+Awaits host arrivals (Ok (Some answer)) = (before : List Arrival) × (last : Arrival) × (arrivals ≡ before ++ last ∷ []) × (length arrivals ≤ 10)
+    × (list_any (answers host) before ≡ false) × (answer_in host last ≡ Some answer)
 Awaits host arrivals (Ok None) = (length arrivals ≡ 10) × (list_any (answers host) arrivals ≡ false)
 Awaits host arrivals (Err Fault) = (length arrivals ≤ 9) × (list_any (answers host) arrivals ≡ false)
 Awaits host arrivals (Err (Memory memory)) = length arrivals ≤ 10
@@ -65,4 +66,5 @@ WireFailed wire = (Rose wire.send_faults wire.send_faults_now × Extends wire.re
 abbrev pub Exchanges : ℕ → Errand → List ℕ → Wired → Result (Option Answer) WaitStop → Type 0
 Exchanges port e script wire (Ok answer) = Asks port e script wire × Hears e.host wire.received wire.received_now (Ok answer)
 Exchanges port e script wire (Err Fault) = Asks port e script wire × Hears e.host wire.received wire.received_now (Err Fault) × WireFailed wire
-Exchanges port e script wire (Err (Memory memory)) = IsSilent wire ⊎ (Asks port e script wire × Hears e.host wire.received wire.received_now (Err (Memory memory)))
+Exchanges port e script wire (Err (Memory memory)) = IsSilent wire ⊎ (Asks port e script wire
+    × Hears e.host wire.received wire.received_now (Err (Memory memory)))

@@ -1,7 +1,8 @@
 -- The numbers with which the program exits.
 use Rattle.std.specs.Prelude.{ℕ}
 use Rattle.nqs_clients.specs.declared.status.NqsStatus.{NqsStatus}
-use Rattle.nqs_clients.specs.declared.status.NqsStatus.TheVariants.{Done, Refused, BadWords, NotNqs, ReadFault, WriteFault, Memory, NoAnswer, WireFault, DiskFault, TurnsUsed, MachineFault, Exists}
+use Rattle.nqs_clients.specs.declared.status.NqsStatus.TheVariants.{Done, Refused, BadWords, NotNqs, ReadFault, WriteFault, Memory, NoAnswer, WireFault}
+use Rattle.nqs_clients.specs.declared.status.NqsStatus.TheVariants.{DiskFault, TurnsUsed, MachineFault, Exists}
 
 abbrev pub number_of : NqsStatus → ℕ
 number_of Done = 0

@@ -47,18 +47,21 @@ receives arrivals _ = length arrivals
 
 -- The wait ended so, by what came: with the first acknowledgement, or after ten receives that brought none.
 abbrev pub EndsBy : (Arrival → Bool) → List Arrival → ShepherdEnd → Type 0
-EndsBy test arrivals Told = (before : List Arrival) × (last : Arrival) × (arrivals ≡ before ++ last ∷ []) × (length arrivals ≤ 10) × (list_any test before ≡ false) × (test last ≡ true)
+EndsBy test arrivals Told = (before : List Arrival) × (last : Arrival) × (arrivals ≡ before ++ last ∷ []) × (length arrivals ≤ 10)
+    × (list_any test before ≡ false) × (test last ≡ true)
 EndsBy test arrivals NoAnswer = (length arrivals ≡ 10) × (list_any test arrivals ≡ false)
 EndsBy test arrivals WireFault = (length arrivals ≤ 9) × (list_any test arrivals ≡ false)
 EndsBy test arrivals (Memory memory) = length arrivals ≤ 10
 
 -- These came, the datagram was sent once before each receive, and the wait ended so.
-abbrev pub Waits : (Arrival → Bool) → Packet → Option (List Arrival) → Option (List Arrival) → Option (List Packet) → Option (List Packet) → ShepherdEnd → Type 0
+abbrev pub Waits : (Arrival → Bool) → Packet → Option (List Arrival) → Option (List Arrival) → Option (List Packet) → Option (List Packet) → ShepherdEnd
+    → Type 0
 Waits test told received received' sent sent' end =
     (arrivals : List Arrival) × Extends received received' arrivals × Extends sent sent' (replicate (receives arrivals end) told) × EndsBy test arrivals end
 
 -- The job was run once, and what was told is its end.
-abbrev pub Shepherds : HostId → ℕ → RequestId → ℕ → Option (List Job) → Option (List Job) → Option (List Arrival) → Option (List Arrival) → Option (List Packet) → Option (List Packet) → ShepherdEnd → Type 0
+abbrev pub Shepherds : HostId → ℕ → RequestId → ℕ → Option (List Job) → Option (List Job) → Option (List Arrival) → Option (List Arrival)
+    → Option (List Packet) → Option (List Packet) → ShepherdEnd → Type 0
 Shepherds host port id start runs runs' received received' sent sent' result =
     (end : Option RunEnd) × Extends runs runs' (ran id start end ∷ [])
     × Waits (acknowledges host id start) (datagram host (ended port id start end)) received received' sent sent' result

@@ -31,7 +31,8 @@ wired received sent receive_faults send_faults old new =
 
 -- nothing was received or sent
 abbrev pub IsSilent : Wired → Type 0
-IsSilent wire = (wire.received_now ≡ wire.received) × (wire.sent_now ≡ wire.sent) × (wire.receive_faults_now ≡ wire.receive_faults) × (wire.send_faults_now ≡ wire.send_faults)
+IsSilent wire = (wire.received_now ≡ wire.received) × (wire.sent_now ≡ wire.sent) × (wire.receive_faults_now ≡ wire.receive_faults)
+    × (wire.send_faults_now ≡ wire.send_faults)
 
 -- what a source has left, and its count of faults
 pub record Fed : Type 0 where

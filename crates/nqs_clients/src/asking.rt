@@ -11,7 +11,7 @@ use crate::exchange::exchange;
 use crate::status::NqsStatus;
 use nqs_outside::{ReadStop, Sink, Source, Wire, read_whole, write_whole};
 use nqs_types::Tool;
-use nqs_values::{Memory, Name};
+use nqs_values::Name;
 use std::alloc::Global;
 
 // The line that refuses a longer script.
@@ -54,7 +54,8 @@ fn ask<W: Wire, K: Sink>(
 ) -> NqsStatus
     requires may { MayAsk errand }
     requires short { length script.items ≤ 32768 }
-    ensures { EndsAsking port errand script.items (wired W.received W.sent W.receive_faults W.send_faults wire.old wire.new) (sunk K.taken K.faults K.stalls out.old out.new) result }
+    ensures { EndsAsking port errand script.items (wired W.received W.sent W.receive_faults W.send_faults wire.old wire.new)
+        (sunk K.taken K.faults K.stalls out.old out.new) result }
 {
     match exchange(alloc, port, errand, script, wire) {
         Ok(Some(answer)) => write_answer(answer.ok, answer.text.as_slice(), out),
@@ -74,18 +75,20 @@ fn run_errand<W: Wire, S: Source, K: Sink>(
     out: &mut K,
 ) -> NqsStatus
     requires { MayAsk errand }
-    ensures { EndsFor port errand (fed S.left S.faults input.old input.new) (wired W.received W.sent W.receive_faults W.send_faults wire.old wire.new) (sunk K.taken K.faults K.stalls out.old out.new) result }
+    ensures { EndsFor port errand (fed S.left S.faults input.old input.new) (wired W.received W.sent W.receive_faults W.send_faults wire.old wire.new)
+        (sunk K.taken K.faults K.stalls out.old out.new) result }
 {
     match take_script(alloc, errand.tool, input) {
         Ok(script) => ask(alloc, port, errand, script, wire, out),
         Err(ReadStop::Fault) => NqsStatus::ReadFault,
         Err(ReadStop::TooLong) => write_answer(false, TOO_LONG, out),
-        Err(ReadStop::Memory) => NqsStatus::Memory(Memory),
+        Err(ReadStop::Memory(memory)) => NqsStatus::Memory(memory),
     }
 }
 
-/// Does all that a client does. The words are the tool, the host, the user, and the tool's own words. It sends one ask
-/// to the host, whose answer comes to this port, and writes the answer's text. The script of a submission is the input.
+/// Does all that a client does. The words are the tool, the host, the user, and the tool's own
+/// words. It sends one ask to the host, whose answer comes to this port, and writes the answer's
+/// text. The script of a submission is the input.
 pub fn client<W: Wire, S: Source, K: Sink>(
     alloc: Global,
     site: &[Name],
@@ -96,7 +99,8 @@ pub fn client<W: Wire, S: Source, K: Sink>(
     out: &mut K,
 ) -> NqsStatus
     requires { length site.now ≤ 16 }
-    ensures { Ends site.now (map (λ s. string_bytes s) words.now) port (fed S.left S.faults input.old input.new) (wired W.received W.sent W.receive_faults W.send_faults wire.old wire.new) (sunk K.taken K.faults K.stalls out.old out.new) result }
+    ensures { Ends site.now (map (λ s. string_bytes s) words.now) port (fed S.left S.faults input.old input.new)
+        (wired W.received W.sent W.receive_faults W.send_faults wire.old wire.new) (sunk K.taken K.faults K.stalls out.old out.new) result }
 {
     match read_words(alloc, site, words) {
         Ok(errand) => run_errand(alloc, port, errand, wire, input, out),

@@ -18,7 +18,7 @@ use std::alloc::Global;
 const ROOM: usize = 49_153;
 
 /// Why a wait ended before its time.
-#[derive(Clone, Copy, Debug, PartialEq, Eq)]
+#[derive(Debug, PartialEq, Eq, Drop)]
 pub enum WaitStop {
     Fault,
     Memory(Memory),

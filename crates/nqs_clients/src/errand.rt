@@ -19,7 +19,7 @@ pub struct Errand {
 }
 
 /// Why the words ask for nothing.
-#[derive(Clone, Copy, Debug, PartialEq, Eq)]
+#[derive(Debug, PartialEq, Eq, Drop)]
 pub enum WordsStop {
     BadWords,
     Memory(Memory),

@@ -1,5 +1,6 @@
-//! What talks to a daemon: the shepherd of a job, which tells its end, and the client of the commands, which asks and
-//! writes the answer. Both speak for the host that they stand on, to that host.
+//! What talks to a daemon: the shepherd of a job, which tells its end, and the client of the
+//! commands, which asks and writes the answer. Both speak for the host that they stand on, to that
+//! host.
 #![tactic(auto)]
 
 mod answer;

@@ -1,4 +1,5 @@
-//! The shepherd of a job: it runs the job and tells its host the end, until the host says that it knows.
+//! The shepherd of a job: it runs the job and tells its host the end, until the host says that it
+//! knows.
 
 ghost use Rattle.std.specs.Prelude.{◌≡◌, ◌≤◌, ◌∷◌, [], take, length, true, IfOk};
 ghost use Rattle.nqs_outside.specs.Asked.{packet, end_of};
@@ -26,7 +27,7 @@ const LONGEST_OUTPUT: usize = 16_384;
 const NOT_RUN: u8 = 127;
 
 /// How a shepherd ends.
-#[derive(Clone, Copy, Debug, PartialEq, Eq)]
+#[derive(Debug, PartialEq, Eq, Drop)]
 pub enum ShepherdEnd {
     /// The last receive, one of at most ten, brought the acknowledgement.
     Told,
@@ -155,7 +156,8 @@ fn tell<W: Wire>(
     told: &[u8],
     wire: &mut W,
 ) -> ShepherdEnd
-    ensures waits { Waits (acknowledges host id start) (packet (Host host) told.now) (W.received wire.old) (W.received wire.new) (W.sent wire.old) (W.sent wire.new) result }
+    ensures waits { Waits (acknowledges host id start) (packet (Host host) told.now) (W.received wire.old) (W.received wire.new) (W.sent wire.old)
+        (W.sent wire.new) result }
     ensures fault { result ≡ WireFault → Rose (W.receive_faults wire.old) (W.receive_faults wire.new) }
     ensures later { W.receive_faults wire.old ≤ W.receive_faults wire.new }
 {
@@ -172,8 +174,8 @@ fn tell<W: Wire>(
     ShepherdEnd::NoAnswer
 }
 
-/// Runs the job once, and sends its end to its host before each of at most ten receives, until the host acknowledges
-/// it. The answers of the host come to this port.
+/// Runs the job once, and sends its end to its host before each of at most ten receives, until the
+/// host acknowledges it. The answers of the host come to this port.
 pub fn shepherd<R: Runner, W: Wire>(
     alloc: Global,
     site: &[Name],
@@ -188,7 +190,8 @@ pub fn shepherd<R: Runner, W: Wire>(
     requires host { is_of_site (length site.now) host ≡ true }
     requires id { is_sane_id id ≡ true }
     requires origin { is_of_site (length site.now) id.host ≡ true }
-    ensures shepherds { Shepherds host port id start (R.runs runner.old) (R.runs runner.new) (W.received wire.old) (W.received wire.new) (W.sent wire.old) (W.sent wire.new) result }
+    ensures shepherds { Shepherds host port id start (R.runs runner.old) (R.runs runner.new) (W.received wire.old) (W.received wire.new) (W.sent wire.old)
+        (W.sent wire.new) result }
     ensures fault { result ≡ WireFault → Rose (W.receive_faults wire.old) (W.receive_faults wire.new) }
     ensures later { W.receive_faults wire.old ≤ W.receive_faults wire.new }
 {

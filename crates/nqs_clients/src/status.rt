@@ -3,7 +3,7 @@
 use nqs_values::Memory;
 
 /// How a run of the program ends. Each status has a number, with which the program exits.
-#[derive(Clone, Copy, Debug, PartialEq, Eq)]
+#[derive(Debug, PartialEq, Eq, Drop)]
 pub enum NqsStatus {
     /// It did what it was asked, and wrote the whole text of the answer where there is one.
     Done,

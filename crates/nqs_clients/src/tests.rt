@@ -153,17 +153,21 @@ fn refuses_a_long_script(rt: HostRuntime) -> Result<(), Fail> {
     Ok(())
 }
 
+// Whether the words are in no form, and nothing is written.
+fn is_bad(alloc: Global, line: &[&str], wire: &mut MemWire) -> Result<bool, Memory> {
+    ends(alloc, line, &[], wire, (NqsStatus::BadWords, b""))
+}
+
 #[test]
 fn refuses_bad_words(rt: HostRuntime) -> Result<(), Fail> {
     let alloc = rt.alloc();
     let mut wire = wire(alloc, &[])?;
-    let bad = (NqsStatus::BadWords, b"".as_slice());
     let ended = [
-        ends(alloc, &["qstat", "alpha"], &[], &mut wire, bad)?,
-        ends(alloc, &["qcat", "alpha", "ann"], &[], &mut wire, bad)?,
-        ends(alloc, &["qstat", "beta", "ann"], &[], &mut wire, bad)?,
-        ends(alloc, &["qstat", "alpha", "9"], &[], &mut wire, bad)?,
-        ends(alloc, &["tick", "alpha", "ann", "now"], &[], &mut wire, bad)?,
+        is_bad(alloc, &["qstat", "alpha"], &mut wire)?,
+        is_bad(alloc, &["qcat", "alpha", "ann"], &mut wire)?,
+        is_bad(alloc, &["qstat", "beta", "ann"], &mut wire)?,
+        is_bad(alloc, &["qstat", "alpha", "9"], &mut wire)?,
+        is_bad(alloc, &["tick", "alpha", "ann", "now"], &mut wire)?,
     ];
     let silent = wire.sent().len() == 0 && wire.received().len() == 0;
     drop(wire);

@@ -1,5 +1,6 @@
 -- At one place of a list there is one fault.
-use Rattle.std.proofs.Common.{◌≡◌, ℕ, ◌+◌, ◌<◌, ◌≤◌, ◌⊎◌, inl, inr, Bool, true, false, IsTrue, List, [], ◌∷◌, length, drop, refl, sym, ap, ◌∙◌, subst, arith, length-append, Err, slice_index, nat_lt}
+use Rattle.std.proofs.Common.{◌≡◌, ℕ, ◌+◌, ◌<◌, ◌≤◌, ◌⊎◌, inl, inr, Bool, true, false, IsTrue, List, [], ◌∷◌, length, drop, refl, sym, ap, ◌∙◌, subst, arith}
+use Rattle.std.proofs.Common.{length-append, Err, slice_index, nat_lt}
 use Rattle.std.proofs.lemmas.Bool.Decides.{nat_tests}
 use Rattle.nqs_values.specs.Name.{IsFirstBad, allowed_at}
 use Rattle.nqs_values.specs.Path.{IsFirstBadOfPath, path_allowed_at, PathAllowedBelow}
@@ -42,8 +43,10 @@ bad_or_there : (most : ℕ) (bytes : List ℕ) (place : ℕ) (value : List ℕ) 
 unfolding short_field
 bad_or_there most bytes place value bad there = bad_length most (length value) there.some there.few (subst (IsBadLength most) there.stands.text bad)
 
-same_there : (most : ℕ) (bytes : List ℕ) (place : ℕ) (value other : List ℕ) → IsShortAt most bytes place value → IsShortAt most bytes place other → value ≡ other
-same_there most bytes place value other there here = (one_short value other (drop (place + 1 + length value) bytes) (drop (place + 1 + length other) bytes) (sym there.stands.text ∙ here.stands.text)).0
+same_there : (most : ℕ) (bytes : List ℕ) (place : ℕ) (value other : List ℕ) → IsShortAt most bytes place value → IsShortAt most bytes place other
+    → value ≡ other
+same_there most bytes place value other there here = (one_short value other (drop (place + 1 + length value) bytes) (drop (place + 1 + length other) bytes)
+    (sym there.stands.text ∙ here.stands.text)).0
 
 short_fault : (most : ℕ) (bytes : List ℕ) (place : ℕ) (e f : FieldFault) → IsShortFault most bytes place e → IsShortFault most bytes place f → e ≡ f
 short_fault most bytes place (Short e) (Short f) a b = same_end e f (length bytes) a.0 b.0
@@ -55,7 +58,8 @@ refuted : (test : Bool) → IsTrue test → test ≡ false → ⊥
 refuted true is not = let never : ⊥ = cc in never
 refuted false is not = let never : ⊥ = cc in never
 
-first_same : (allowed : ℕ → ℕ → Bool) (value : List ℕ) (i j : ℕ) → ((k : ℕ) → k < i → IsTrue (allowed k (slice_index value k))) → ((k : ℕ) → k < j → IsTrue (allowed k (slice_index value k))) → allowed i (slice_index value i) ≡ false → allowed j (slice_index value j) ≡ false → i ≡ j
+first_same : (allowed : ℕ → ℕ → Bool) (value : List ℕ) (i j : ℕ) → ((k : ℕ) → k < i → IsTrue (allowed k (slice_index value k)))
+    → ((k : ℕ) → k < j → IsTrue (allowed k (slice_index value k))) → allowed i (slice_index value i) ≡ false → allowed j (slice_index value j) ≡ false → i ≡ j
 first_same allowed value i j before_i before_j bad_i bad_j = by (nat_lt i j) (nat_lt j i) refl refl
   where
     by : (less more : Bool) → nat_lt i j ≡ less → nat_lt j i ≡ more → i ≡ j
@@ -63,7 +67,8 @@ first_same allowed value i j before_i before_j bad_i bad_j = by (nat_lt i j) (na
     by false true is was = absurd (refuted (allowed j (slice_index value j)) (before_i j (grind (arith, nat_tests))) bad_j)
     by false false is was = grind (arith, nat_tests)
 
-bad_byte_same : (IsFirst : List ℕ → ℕ → Type 0) → ((value : List ℕ) (i j : ℕ) → IsFirst value i → IsFirst value j → i ≡ j) → (most : ℕ) (bytes : List ℕ) (place e f : ℕ) → HasBadByte IsFirst most bytes place e → HasBadByte IsFirst most bytes place f → Bad e ≡ Bad f
+bad_byte_same : (IsFirst : List ℕ → ℕ → Type 0) → ((value : List ℕ) (i j : ℕ) → IsFirst value i → IsFirst value j → i ≡ j)
+    → (most : ℕ) (bytes : List ℕ) (place e f : ℕ) → HasBadByte IsFirst most bytes place e → HasBadByte IsFirst most bytes place f → Bad e ≡ Bad f
 bad_byte_same IsFirst one most bytes place e f a b =
     let same = same_there most bytes place b.value a.value b.is_there a.is_there in
     let offset = one a.value a.offset b.offset a.first (subst (λ (l : List ℕ). IsFirst l b.offset) same b.first) in
@@ -93,13 +98,15 @@ byte_or_parent bytes place e f a b =
     refuted (path_allowed_at a.offset (slice_index a.value a.offset)) (allowed a.offset a.first.inside) a.first.bad
 
 -- a path whose length and bytes are there has a byte that is not allowed, or a component `..`
-there_fault : (bytes : List ℕ) (place e f : ℕ) → HasBadByte IsFirstBadOfPath 255 bytes place e ⊎ HasParentAt bytes place e → HasBadByte IsFirstBadOfPath 255 bytes place f ⊎ HasParentAt bytes place f → Bad e ≡ Bad f
+there_fault : (bytes : List ℕ) (place e f : ℕ) → HasBadByte IsFirstBadOfPath 255 bytes place e ⊎ HasParentAt bytes place e
+    → HasBadByte IsFirstBadOfPath 255 bytes place f ⊎ HasParentAt bytes place f → Bad e ≡ Bad f
 there_fault bytes place e f (inl a) (inl b) = bad_byte_same IsFirstBadOfPath path_first 255 bytes place e f a b
 there_fault bytes place e f (inl a) (inr b) = absurd (byte_or_parent bytes place e f a b)
 there_fault bytes place e f (inr a) (inl b) = absurd (byte_or_parent bytes place f e b a)
 there_fault bytes place e f (inr a) (inr b) = same_place e f place a.is_place b.is_place
 
-value_there : (bytes : List ℕ) (place e : ℕ) → HasBadByte IsFirstBadOfPath 255 bytes place e ⊎ HasParentAt bytes place e → (value : List ℕ) × IsShortAt 255 bytes place value
+value_there : (bytes : List ℕ) (place e : ℕ) → HasBadByte IsFirstBadOfPath 255 bytes place e ⊎ HasParentAt bytes place e
+    → (value : List ℕ) × IsShortAt 255 bytes place value
 value_there bytes place e (inl a) = (a.value, a.is_there)
 value_there bytes place e (inr a) = (a.value, a.is_there)
 

@@ -13,11 +13,13 @@ use Rattle.nqs_codec.proofs.Faults.{bool_fault, name_fault}
 use Rattle.nqs_codec.proofs.Refusals.{refused_bool, refused_name}
 
 module _ {A E : Type 0} (IsValue : A → Type 0) (field : A → List ℕ) (Takes : List ℕ → ℕ → Result (A × ℕ) E → Type 0)
-    (stands : (bytes : List ℕ) (place : ℕ) (value : A) (next : ℕ) → Takes bytes place (Ok (value, next)) → IsValue value × Stands bytes place (field value) next)
+    (stands : (bytes : List ℕ) (place : ℕ) (value : A) (next : ℕ) → Takes bytes place (Ok (value, next))
+    → IsValue value × Stands bytes place (field value) next)
     (refused : (bytes : List ℕ) (place : ℕ) (fault : E) → Takes bytes place (Err fault) → StandsNone IsValue field bytes place)
     (one : IsOne IsValue field)
     (one_fault : (bytes : List ℕ) (place : ℕ) (e f : E) → Takes bytes place (Err e) → Takes bytes place (Err f) → e ≡ f) where
-  taken : (bytes rest : List ℕ) (place : ℕ) (value : A) (answer : Result (A × ℕ) E) → IsValue value → drop place bytes ≡ field value ++ rest → Takes bytes place answer → answer ≡ Ok (value, place + length (field value))
+  taken : (bytes rest : List ℕ) (place : ℕ) (value : A) (answer : Result (A × ℕ) E) → IsValue value → drop place bytes ≡ field value ++ rest
+      → Takes bytes place answer → answer ≡ Ok (value, place + length (field value))
   taken bytes rest place value (Ok (v, next)) is_value is takes =
       let there = stands bytes place v next takes in
       let same = (one v value (drop next bytes) rest there.0 is_value (sym there.1.text ∙ is)).0 in
@@ -28,7 +30,8 @@ module _ {A E : Type 0} (IsValue : A → Type 0) (field : A → List ℕ) (Takes
   one_answer : HasOneAnswer Takes
   one_answer bytes place (Ok (value, next)) other takes again =
       let there = stands bytes place value next takes in
-      taken bytes (drop next bytes) place value (Ok (value, next)) there.0 there.1.text takes ∙ sym (taken bytes (drop next bytes) place value other there.0 there.1.text again)
+      taken bytes (drop next bytes) place value (Ok (value, next)) there.0 there.1.text takes
+      ∙ sym (taken bytes (drop next bytes) place value other there.0 there.1.text again)
   one_answer bytes place (Err e) (Ok (value, next)) takes again =
       let there = stands bytes place value next again in
       absurd (refused bytes place e takes value (drop next bytes) there.0 there.1.text)
@@ -38,7 +41,8 @@ module _ {A E : Type 0} (IsValue : A → Type 0) (field : A → List ℕ) (Takes
   read_back = record {
     taken = taken;
     left = λ bytes rest place value is. rest_is bytes place (field value) rest is;
-    put_taken = λ front rest value answer is_value takes. taken (front ++ (field value ++ rest)) rest (length front) value answer is_value (drop_at front (field value ++ rest) (length front) refl) takes;
+    put_taken = λ front rest value answer is_value takes. taken (front ++ (field value ++ rest)) rest (length front) value answer is_value
+        (drop_at front (field value ++ rest) (length front) refl) takes;
     refused = refused;
     one = one;
     one_answer = one_answer;
@@ -49,7 +53,8 @@ pub same_short : (end : ℕ) (e f : Short) → e.0 ≡ end → f.0 ≡ end → e
 same_short end e f is was = let same = is ∙ sym was in λ j. record { 0 = same j }
 
 number_back : (limit : ℕ) (field : ℕ → List ℕ) → IsOne (λ n. n < limit) field → IsReadBack (λ n. n < limit) field (TakesNumber limit field)
-number_back limit field one = read_back (λ n. n < limit) field (TakesNumber limit field) (λ bytes place value next takes. takes) (λ bytes place fault takes. takes.1) one (λ bytes place e f is was. same_short (length bytes) e f is.0 was.0)
+number_back limit field one = read_back (λ n. n < limit) field (TakesNumber limit field) (λ bytes place value next takes. takes)
+    (λ bytes place fault takes. takes.1) one (λ bytes place e f is was. same_short (length bytes) e f is.0 was.0)
 
 pub u8_back : IsReadBack (λ n. n < 2 ^ 8) u8_field (TakesNumber (2 ^ 8) u8_field)
 u8_back = number_back (2 ^ 8) u8_field (λ m n x y small few. one_u8 m n x y)

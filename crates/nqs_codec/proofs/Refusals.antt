@@ -1,5 +1,6 @@
 -- Where a take refuses, no field stands.
-use Rattle.std.proofs.Common.{◌≡◌, ℕ, ◌+◌, ◌<◌, ◌≤◌, ◌⊎◌, inl, inr, Bool, true, false, IsTrue, List, [], ◌++◌, length, drop, sym, ap, ◌∙◌, subst, arith, length-append, Err}
+use Rattle.std.proofs.Common.{◌≡◌, ℕ, ◌+◌, ◌<◌, ◌≤◌, ◌⊎◌, inl, inr, Bool, true, false, IsTrue, List, [], ◌++◌, length, drop, sym, ap, ◌∙◌, subst, arith}
+use Rattle.std.proofs.Common.{length-append, Err}
 use Rattle.std.specs.Prelude.{⊤}
 use Rattle.nqs_values.specs.Name.{IsName, IsFirstBad}
 use Rattle.nqs_values.specs.Path.{IsPath, IsFirstBadOfPath, has_parent}
@@ -25,7 +26,8 @@ refused_bool bytes place (Bad at) takes = λ value rest _ is. no_other value res
 
 -- ---- names and paths
 
-module _ (IsValue : List ℕ → Type 0) (most : ℕ) (some : (value : List ℕ) → IsValue value → 0 < length value) (few : (value : List ℕ) → IsValue value → length value ≤ most) where
+module _ (IsValue : List ℕ → Type 0) (most : ℕ) (some : (value : List ℕ) → IsValue value → 0 < length value)
+    (few : (value : List ℕ) → IsValue value → length value ≤ most) where
   refused_short : (bytes : List ℕ) (place : ℕ) (fault : FieldFault) → IsShortFault most bytes place fault → StandsNone IsValue short_field bytes place
   unfolding short_field
   refused_short bytes place (Short end) takes = λ value rest is_value is.
@@ -37,7 +39,8 @@ module _ (IsValue : List ℕ → Type 0) (most : ℕ) (some : (value : List ℕ)
       by value least most' (inl none) = omega (arith, least, none)
       by value least most' (inr long) = omega (arith, most', long)
 
-  refused_byte : (IsFirst : List ℕ → ℕ → Type 0) → ((value : List ℕ) (offset : ℕ) → IsValue value → IsFirst value offset → ⊥) → (bytes : List ℕ) (place at : ℕ) → HasBadByte IsFirst most bytes place at → StandsNone IsValue short_field bytes place
+  refused_byte : (IsFirst : List ℕ → ℕ → Type 0) → ((value : List ℕ) (offset : ℕ) → IsValue value → IsFirst value offset → ⊥) → (bytes : List ℕ) (place at : ℕ)
+      → HasBadByte IsFirst most bytes place at → StandsNone IsValue short_field bytes place
   refused_byte IsFirst never bytes place at found = λ value rest is_value is.
       let same = (one_short found.value value (drop (place + 1 + length found.value) bytes) rest (sym found.is_there.stands.text ∙ is)).0 in
       never value found.offset is_value (subst (λ (l : List ℕ). IsFirst l found.offset) same found.first)
@@ -66,5 +69,6 @@ refused_name bytes place (Bad at) (inr found) = refused_byte IsName 15 (λ v nam
 pub refused_path : (bytes : List ℕ) (place : ℕ) (fault : FieldFault) → TakesPath bytes place (Err fault) → StandsNone IsPath short_field bytes place
 refused_path bytes place (Short end) takes = refused_short IsPath 255 (λ v path. path.some) (λ v path. path.few) bytes place (Short end) takes
 refused_path bytes place (Bad at) (inl fault) = refused_short IsPath 255 (λ v path. path.some) (λ v path. path.few) bytes place (Bad at) fault
-refused_path bytes place (Bad at) (inr (inl found)) = refused_byte IsPath 255 (λ v path. path.some) (λ v path. path.few) IsFirstBadOfPath no_bad_of_path bytes place at found
+refused_path bytes place (Bad at) (inr (inl found)) = refused_byte IsPath 255 (λ v path. path.some)
+    (λ v path. path.few) IsFirstBadOfPath no_bad_of_path bytes place at found
 refused_path bytes place (Bad at) (inr (inr found)) = no_parent bytes place at found

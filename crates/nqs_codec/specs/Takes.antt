@@ -104,4 +104,5 @@ abbrev pub TakesPath : List ℕ → ℕ → Result (Extent × ℕ) FieldFault �
 TakesPath bytes place (Ok (extent, next)) =
     IsPath (extent_bytes bytes extent) × Stands bytes place (short_field (extent_bytes bytes extent)) next × IsExtentAt bytes (place + 1) extent
 TakesPath bytes place (Err (fault.Short end)) = IsShortFault 255 bytes place (fault.Short end)
-TakesPath bytes place (Err (fault.Bad at)) = IsShortFault 255 bytes place (fault.Bad at) ⊎ (HasBadByte IsFirstBadOfPath 255 bytes place at ⊎ HasParentAt bytes place at)
+TakesPath bytes place (Err (fault.Bad at)) = IsShortFault 255 bytes place (fault.Bad at)
+    ⊎ (HasBadByte IsFirstBadOfPath 255 bytes place at ⊎ HasParentAt bytes place at)

@@ -1,7 +1,7 @@
 //! Fields that are put at the end of a list.
 //!
-//! Numbers go with their highest byte first, bytes behind a length of four bytes, names and paths behind one
-//! of a byte. `Memory` leaves the list as it was.
+//! Numbers go with their highest byte first, bytes behind a length of four bytes, names and paths
+//! behind one of a byte. `Memory` leaves the list as it was.
 
 ghost use Rattle.std.specs.Prelude.{◌≡◌, ◌+◌, ◌<◌, ◌≤◌, ◌^◌, length, OnErr, vec_len, vec_capacity};
 ghost use Rattle.nqs_codec.specs.Fields.{u8_field, u16_field, u32_field, u64_field, bytes_field, short_field, bool_field};

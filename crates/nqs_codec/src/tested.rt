@@ -1,8 +1,9 @@
 //! Fields whose bytes are tested: yes and no, names and paths.
 //!
-//! A field is read from its front, and its first fault is answered. A byte of length, or a yes or no, that is not
-//! there is `Short`; one that is not allowed is `Bad` at its place. Where a length is allowed and its bytes are
-//! not all there the answer is `Short`, before any of them is looked at. No call takes memory.
+//! A field is read from its front, and its first fault is answered. A byte of length, or a yes or
+//! no, that is not there is `Short`; one that is not allowed is `Bad` at its place. Where a length
+//! is allowed and its bytes are not all there the answer is `Short`, before any of them is looked
+//! at. No call takes memory.
 
 ghost use Rattle.std.specs.Prelude.{◌≡◌, ◌≤◌, length, IfOk, IfErr, IfSome, IfNone};
 ghost use Rattle.nqs_values.specs.Path.{is_visible, path_allowed_at, PathAllowedBelow, IsFirstBadOfPath, has_parent};
@@ -96,7 +97,8 @@ fn has_parent(path: &[u8]) -> bool
     path.split(|b| *b == b'/').any(|c| c == b"..".as_slice())
 }
 
-/// Where the path lies that stands at the place. A component `..` is `Bad` at the place of the length.
+/// Where the path lies that stands at the place. A component `..` is `Bad` at the place of the
+/// length.
 pub fn take_path(bytes: &[u8], place: u64) -> Result<(Extent, u64), FieldFault>
     ensures { TakesPath bytes.now place result }
 {

@@ -4,7 +4,8 @@ ghost use Rattle.nqs_state.specs.Room.{HasRoomForConf};
 ghost use Rattle.nqs_state.specs.State.{content};
 ghost use Rattle.nqs_types.specs.declared.edit.ConfEdit.{ConfEdit};
 ghost use Rattle.nqs_rules.specs.Causes.{first_refusal};
-ghost use Rattle.nqs_rules.specs.Conf.{add_queue, at_most, conf_applied, conf_causes, conf_edited, created_dests, default_without, is_conf_within, is_queued_in, without_member};
+ghost use Rattle.nqs_rules.specs.Conf.{add_queue, at_most, conf_applied, conf_causes, conf_edited, created_dests, default_without, is_conf_within};
+ghost use Rattle.nqs_rules.specs.Conf.{is_queued_in, without_member};
 ghost use Rattle.nqs_rules.specs.Edits.{change_queue};
 ghost use Rattle.nqs_rules.specs.Find.{has_queue};
 ghost use Rattle.nqs_rules.specs.Format.{new_queue};
@@ -139,7 +140,8 @@ fn create_pipe_queue(state: &mut HostState, created: Created, destination: &Opti
     requires absent { has_queue created.name (content state.old) ≡ false }
     requires priority { IsTrue (at_most 63 created.priority) }
     requires run_limit { IsTrue (at_most 10000 created.run_limit) }
-    ensures { content state.new ≡ add_queue (new_queue created.name created.kind created.priority created.run_limit created.pipe_only (created_dests destination.now (content state.old))) (content state.old) }
+    ensures { content state.new ≡ add_queue (new_queue created.name created.kind created.priority created.run_limit created.pipe_only
+        (created_dests destination.now (content state.old))) (content state.old) }
 {
     let alloc = state.queues.allocator();
     let dest = created_dest(state, destination);
@@ -147,9 +149,10 @@ fn create_pipe_queue(state: &mut HostState, created: Created, destination: &Opti
     create_queue(state, created, dests);
 }
 
-/// Makes an edit that `check_conf` lets through, after `HostState::make_room` made room for it. It takes no memory and
-/// can't fail. `within`: a priority is at most 63, a run limit at most 10,000, a wait 1 to 86,400 seconds; so they fit
-/// the numbers of a queue. `site` holds of each state in order: at most 16 hosts.
+/// Makes an edit that `check_conf` lets through, after `HostState::make_room` made room for it. It
+/// takes no memory and can't fail. `within`: a priority is at most 63, a run limit at most 10,000,
+/// a wait 1 to 86,400 seconds; so they fit the numbers of a queue. `site` holds of each state in
+/// order: at most 16 hosts.
 pub fn apply_conf(state: &mut HostState, edit: ConfEdit)
     requires site { length state.old.site ≤ 16 }
     requires check { first_refusal (conf_causes edit (content state.old)) ≡ Ok tt }

@@ -4,7 +4,8 @@ ghost use Rattle.nqs_state.specs.State.{content};
 ghost use Rattle.nqs_types.specs.declared.edit.ConfEdit.{ConfEdit};
 ghost use Rattle.nqs_types.specs.declared.refusal.Refusal.TheVariants as refusal;
 ghost use Rattle.nqs_rules.specs.Causes.{cause, first_refusal};
-ghost use Rattle.nqs_rules.specs.Conf.{conf_causes, create_causes, create_pipe_causes, has_full_dests, is_pipe_queue, lists_dest, no_host_cause, promise_in, row_in};
+ghost use Rattle.nqs_rules.specs.Conf.{conf_causes, create_causes, create_pipe_causes, has_full_dests, is_pipe_queue, lists_dest, no_host_cause, promise_in};
+ghost use Rattle.nqs_rules.specs.Conf.{row_in};
 ghost use Rattle.nqs_rules.specs.Find.{held_count, meant_dest};
 
 use crate::dest::{known_host, lists_dest, meant_dest};
@@ -141,9 +142,11 @@ fn check_remove_destination(
     }
 }
 
-/// Whether the edit may be made: `Ok`, or the first of these that holds. A creation: `NoHost` of its destination,
+/// Whether the edit may be made: `Ok`, or the first of these that holds. A creation: `NoHost` of
+/// its destination,
 /// `QueueExists`, `TooMany` at 256 queues. A deletion: `NoQueue`, `QueueInUse` with the number of its requests and
-/// promises. A destination that is added: `NoQueue`, `NoHost`, `WrongKind` for all but pipe queues, `DestExists`,
+/// promises. A destination that is added: `NoQueue`, `NoHost`, `WrongKind` for all but pipe queues,
+/// `DestExists`,
 /// `TooMany` at 16; one that is removed: `NoQueue`, `WrongKind`, `NoDest`, also for an unknown host. The other edits of
 /// a queue: `NoQueue`. Those of parameters are never refused.
 ///

@@ -39,13 +39,15 @@ fn run_limit_of(typed: Option<u64>) -> u16
     }
 }
 
-/// Puts a new queue behind the others: disabled and stopped, with what is typed and else the defaults.
+/// Puts a new queue behind the others: disabled and stopped, with what is typed and else the
+/// defaults.
 pub(crate) fn create_queue(state: &mut HostState, created: Created, dests: DestList)
     requires room { 0 < state.old.queues.spare }
     requires absent { has_queue created.name (content state.old) ≡ false }
     requires priority { IsTrue (at_most 63 created.priority) }
     requires run_limit { IsTrue (at_most 10000 created.run_limit) }
-    ensures { content state.new ≡ add_queue (new_queue created.name created.kind created.priority created.run_limit created.pipe_only dests) (content state.old) }
+    ensures { content state.new ≡ add_queue (new_queue created.name created.kind created.priority created.run_limit created.pipe_only dests)
+        (content state.old) }
 {
     let alloc = state.queues.allocator();
     let def = QueueDef {

@@ -22,7 +22,8 @@ remove_part d q there found = cause (not there) (NoQueue q) ∷ cause (not (pass
 
 module _ {E : Type 0} (d q : List ℕ) (s : State E) where
   pub add_found : (def : QueueDef) → Ok tt ≡ first_refusal (device_causes d s) → Some def ≡ find_queue q s
-      → first_refusal (cause (not (is_device_queue def)) WrongKind ∷ cause (lists_device d def) IsMember ∷ []) ≡ first_refusal (devices_causes (AddDevice d q) s)
+      → first_refusal (cause (not (is_device_queue def)) WrongKind ∷ cause (lists_device d def) IsMember ∷ [])
+      ≡ first_refusal (devices_causes (AddDevice d q) s)
   add_found def ok h =
       (λ i. first_refusal (add_part d q (sym (queue_there q s def (sym h)) i) (h i)))
       ∙ sym (passed (device_causes d s) (add_part d q (list_any (is_queue q) s.queues) (find_queue q s)) ok)

@@ -83,8 +83,9 @@ fn remove_device(state: &mut HostState, device: &Name, queue: &Name)
         .change(queue, |def: &mut QueueDef| drop_device(def, device));
 }
 
-/// Makes an edit of devices that `check_devices` lets through, after `HostState::make_room` made room for it. It takes
-/// no memory and can't fail. A created device is disabled; a deleted one goes out of each queue's list too.
+/// Makes an edit of devices that `check_devices` lets through, after `HostState::make_room` made
+/// room for it. It takes no memory and can't fail. A created device is disabled; a deleted one goes
+/// out of each queue's list too.
 pub fn apply_devices(state: &mut HostState, edit: DevicesEdit)
     requires check { IsTrue (is_ok (first_refusal (devices_causes edit (content state.old)))) }
     requires room { HasRoomForDevices edit state.old }

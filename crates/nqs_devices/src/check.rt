@@ -32,7 +32,8 @@ fn check_idle(state: &HostState, device: &Name) -> Result<(), Refusal>
 }
 
 fn check_create(state: &HostState, device: &Name) -> Result<(), Refusal>
-    ensures { result ≡ first_refusal (cause (has_device device.now (content state.now)) (Refusal.DeviceExists device.now) ∷ cause (nat_le 64 (length state.now.devices.items)) Refusal.TooMany ∷ []) }
+    ensures { result ≡ first_refusal (cause (has_device device.now (content state.now)) (Refusal.DeviceExists device.now)
+        ∷ cause (nat_le 64 (length state.now.devices.items)) Refusal.TooMany ∷ []) }
 {
     if state.devices.has(device) {
         return Err(Refusal::DeviceExists(*device));
@@ -45,7 +46,8 @@ fn check_create(state: &HostState, device: &Name) -> Result<(), Refusal>
 
 // Whether the queue takes one more device.
 fn check_kind(queue: &QueueDef, device: &Name) -> Result<(), Refusal>
-    ensures { result ≡ first_refusal (cause (not (is_device_queue queue.now)) Refusal.WrongKind ∷ cause (lists_device device.now queue.now) Refusal.IsMember ∷ []) }
+    ensures { result ≡ first_refusal (cause (not (is_device_queue queue.now)) Refusal.WrongKind ∷ cause (lists_device device.now queue.now) Refusal.IsMember
+        ∷ []) }
 {
     if queue.kind != Kind::Device {
         return Err(Refusal::WrongKind);
@@ -85,7 +87,8 @@ fn check_remove(state: &HostState, device: &Name, queue: &Name) -> Result<(), Re
     }
 }
 
-/// Whether an edit of devices may be made: `Ok`, or the first of these that holds. A device that is created:
+/// Whether an edit of devices may be made: `Ok`, or the first of these that holds. A device that is
+/// created:
 /// `DeviceExists`, `TooMany` at 64; one that is named: `NoDevice`; one that is deleted or gets other forms: then
 /// `DeviceBusy`. A device that is added to a queue: `NoDevice`, `NoQueue`, `WrongKind` for all but device queues,
 /// `IsMember`; one that is removed from it: `NoQueue`, `NotMember`. A busy device may be disabled, and removed.

@@ -56,8 +56,9 @@ fn is_free_device(state: &HostState, forms: Option<&Name>, device: &Name) -> boo
     }
 }
 
-/// The first device of the queue's list that is enabled, not busy and has the forms, where forms are asked for.
-/// It is given by its place in that list, from 0. A device that is listed and not there serves nobody.
+/// The first device of the queue's list that is enabled, not busy and has the forms, where forms
+/// are asked for. It is given by its place in that list, from 0. A device that is listed and not
+/// there serves nobody.
 pub fn free_device(state: &HostState, queue: &QueueDef, forms: Option<&Name>) -> Option<usize>
     ensures { result ≡ free_device queue.now (option_copied forms.entry) (content state.now) }
 {

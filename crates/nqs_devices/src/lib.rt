@@ -1,7 +1,7 @@
 //! Devices: which one is free for a request, and the edits of devices.
 //!
-//! A device is busy while a running request is on it. `nqs_rules/specs/Devices.antt` has the rules; `docs/rules.md`
-//! says them in words. No call takes memory.
+//! A device is busy while a running request is on it. `nqs_rules/specs/Devices.antt` has the rules;
+//! `docs/rules.md` says them in words. No call takes memory.
 #![tactic(auto)]
 
 mod apply;

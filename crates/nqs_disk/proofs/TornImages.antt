@@ -32,7 +32,9 @@ mixed_image n s coherent =
       no_longer = omega (arith, size, between.1);
       same = λ i lt free.
           get_or-take m whole i 0 (omega (arith, lt, between.0))
-          ∙ kept_byte (is_free s) n s.synced s.content 0 0 i (omega (arith, lt, coherent.longer)) (not_past (covers s.ranges (0 + i)) (nat_le (length s.synced) (0 + i)) (ap (covers s.ranges) (let e : 0 + i ≡ i = omega arith in e) ∙ free) (below_end (length s.synced) (0 + i) (omega (arith, lt))))
+          ∙ kept_byte (is_free s) n s.synced s.content 0 0 i (omega (arith, lt, coherent.longer))
+          (not_past (covers s.ranges (0 + i)) (nat_le (length s.synced) (0 + i)) (ap (covers s.ranges) (let e : 0 + i ≡ i = omega arith in e) ∙ free)
+          (below_end (length s.synced) (0 + i) (omega (arith, lt))))
           ∙ ap (λ (k : ℕ). get_or s.synced k 0) (let e : 0 + i ≡ i = omega arith in e);
     }
 

@@ -4,10 +4,12 @@ use Rattle.nqs_outside.specs.History.{Call, write, sync}
 use Rattle.nqs_disk.specs.declared.calls.DiskCall.{DiskCall}
 use Rattle.nqs_disk.specs.declared.calls.DiskCall.TheVariants.{Write, Sync}
 
+-- what was done in a call that is kept
 abbrev pub call_of : DiskCall → Call
 call_of (Write place bytes done) = write place bytes done
 call_of (Sync done) = sync done
 
+-- the same of each
 abbrev pub calls_of : List DiskCall → List Call
 calls_of calls = map call_of calls
 

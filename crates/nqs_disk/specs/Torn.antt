@@ -26,9 +26,11 @@ mixed_from free n synced place i (new ∷ content) =
     (if free place then pick (bits n i) (slice_index synced place) new else slice_index synced place)
     ∷ mixed_from free n synced (place + 1) (if free place then i + 1 else i) content
 
+-- what is left where a stop mixes old bytes with new ones
 abbrev pub mixed : ℕ → State → List ℕ
 mixed n s = take (if n % 2 == 1 then length s.content else length s.synced) (mixed_from (is_free s) n s.synced 0 0 s.content)
 
+-- what is left, by the tear
 abbrev pub torn : Tear → State → List ℕ
 torn Old s = s.synced
 torn New s = s.content

@@ -1,14 +1,17 @@
 //! Calls that are made and kept.
-ghost use Rattle.std.specs.Prelude.{◌≡◌, ℕ, List, IsTrue, ◌+◌, ◌^◌, ◌≤◌, ◌++◌, [], ◌∷◌, length, vec_len, OnOk, OnErr};
+ghost use Rattle.std.specs.Prelude.{◌≡◌, ℕ, List, IsTrue, ◌↔◌, ◌+◌, ◌^◌, ◌<◌, ◌≤◌, ◌++◌, [], ◌∷◌, length, vec_len, OnOk, OnErr, IsErrOf};
 ghost use Rattle.nqs_outside.specs.History.{written, write, sync, after, fresh, is_sound, State};
 ghost use Rattle.nqs_disk.specs.Calls.{calls_of};
+ghost use Rattle.nqs_disk.specs.Lack.{full};
 
-use crate::DiskCall;
 use crate::calls::{MOST, overwrite};
-use nqs_values::{Bytes, Memory};
+use crate::lack::past_the_end;
+use crate::{DiskCall, Lack};
+use nqs_values::Bytes;
 use std::alloc::Global;
 
-// Makes a write and keeps it. Without room for either nothing changes.
+// Makes a write and keeps it. A write past the greatest length, or one for which there is no
+// memory, changes nothing.
 pub(crate) fn keep_write(
     alloc: Global,
     content: &mut Vec<u8>,
@@ -16,9 +19,10 @@ pub(crate) fn keep_write(
     place: u64,
     bytes: &[u8],
     done: bool,
-) -> Result<(), Memory>
+) -> Result<(), Lack>
     requires { place ≤ vec_len content.old }
     ensures small { OnOk result (place + length bytes.now ≤ 2 ^ 40) }
+    ensures full { IsErrOf result (Lack.Full full) ↔ (2 ^ 40 < place + length bytes.now) }
     ensures calls { OnOk result (calls_of calls.new.items ≡ calls_of calls.old.items ++ write place bytes.now done ∷ []) }
     ensures same_calls { OnErr result (calls.new.items ≡ calls.old.items) }
 
@@ -30,7 +34,7 @@ pub(crate) fn keep_write(
     ensures length { length content.old.items ≤ 2 ^ 40 → length content.new.items ≤ 2 ^ 40 }
 {
     if place > MOST || bytes.len() as u64 > MOST - place {
-        return Err(Memory);
+        return Err(Lack::Full(past_the_end(place, bytes)));
     }
     let copy = bytes.to_vec(alloc)?;
     calls.reserve(1)?;
@@ -44,7 +48,7 @@ pub(crate) fn keep_write(
 }
 
 // Keeps a sync.
-pub(crate) fn keep_sync(calls: &mut Vec<DiskCall>, done: bool) -> Result<(), Memory>
+pub(crate) fn keep_sync(calls: &mut Vec<DiskCall>, done: bool) -> Result<(), Lack>
     ensures calls { OnOk result (calls_of calls.new.items ≡ calls_of calls.old.items ++ sync done ∷ []) }
     ensures same_calls { OnErr result (calls.new.items ≡ calls.old.items) }
     ensures replayed { (s : State) → (after s (calls_of calls.new.items)).content ≡ (after s (calls_of calls.old.items)).content }

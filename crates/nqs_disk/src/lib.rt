@@ -5,9 +5,11 @@
 mod calls;
 mod fuse;
 mod kept;
+mod lack;
 mod mem_disk;
 mod torn;
 
 pub use calls::DiskCall;
 pub use fuse::Fuse;
+pub use lack::{Full, Lack};
 pub use mem_disk::MemDisk;

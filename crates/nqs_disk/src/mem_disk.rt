@@ -1,15 +1,18 @@
-// A disk in memory. It keeps its calls, so each image of each moment is a function of what it stores.
-ghost use Rattle.std.specs.Prelude.{◌≡◌, ◌≤◌, ◌<◌, ◌+◌, ◌-◌, ◌^◌, ℕ, true, false, IsTrue, IfOk, OnOk, OnErr, MatchResult, ◌||◌, is_err, Some, None, [], length, max, vec_len};
+// A disk in memory. It keeps its calls, so each image of each moment is a function of what it
+// stores.
+ghost use Rattle.std.specs.Prelude.{◌≡◌, ◌≤◌, ◌<◌, ◌+◌, ◌-◌, ◌^◌, ℕ, true, false, IsTrue, IfOk, OnOk, OnErr, IfSome, MatchResult, ◌||◌, is_err, is_some, Some};
+ghost use Rattle.std.specs.Prelude.{None, [], length, max, vec_len};
 ghost use Rattle.nqs_outside.specs.Causes.{Rose};
 ghost use Rattle.nqs_outside.specs.History.{after, fresh, is_sound, state, content, IsImage};
 ghost use Rattle.nqs_disk.specs.Calls.{calls_of};
+ghost use Rattle.nqs_disk.specs.Lack.{newest};
 
 use crate::fuse::{is_blown, is_done};
 use crate::kept::{keep_sync, keep_write};
 use crate::torn::torn_bytes;
-use crate::{DiskCall, Fuse};
+use crate::{DiskCall, Fuse, Lack};
 use nqs_outside::{Disk, Failed, Fused};
-use nqs_values::{Memory, Tear};
+use nqs_values::Tear;
 use std::alloc::Global;
 
 #[derive(Drop)]
@@ -20,41 +23,43 @@ pub struct MemDisk {
     calls: Vec<DiskCall>,
     fuse: Option<Fuse>,
     faults: u64,
-    starved: bool,
+    lack: Option<Lack>,
     ghost replayed: { (after (fresh start.items) (calls_of calls.items)).content ≡ content.items },
     ghost sound: { IsTrue (is_sound start.items (calls_of calls.items)) },
     ghost small: { length content.items ≤ 2 ^ 40 },
 }
 
 impl MemDisk {
-    ghost use Rattle.nqs_disk.specs.MemDisk.{history_of, faults_of, is_starved, fuse_of};
+    ghost use Rattle.nqs_disk.specs.MemDisk.{history_of, faults_of, lack_of, is_starved, fuse_of};
     ghost use Rattle.nqs_disk.specs.Torn.{torn};
 
     /// An empty disk without a fuse.
-    pub fn new(alloc: Global) -> Result<MemDisk, Memory>
-        ensures history { IfOk result (λ disk. history_of disk ≡ record { start = []; calls = [] }) }
-        ensures faults { IfOk result (λ disk. faults_of disk ≡ 0) }
-        ensures starved { IfOk result (λ disk. is_starved disk ≡ false) }
-        ensures fuse { IfOk result (λ disk. fuse_of disk ≡ None) }
+    pub fn new(alloc: Global) -> MemDisk
+        ensures history { history_of result ≡ record { start = []; calls = [] } }
+        ensures faults { faults_of result ≡ 0 }
+        ensures starved { is_starved result ≡ false }
+        ensures fuse { fuse_of result ≡ None }
     {
-        Ok(MemDisk {
+        MemDisk {
             alloc,
             start: Vec::new(alloc),
             content: Vec::new(alloc),
             calls: Vec::new(alloc),
             fuse: None,
             faults: 0,
-            starved: false,
-        })
+            lack: None,
+        }
     }
 
-    /// What a stop leaves.
-    pub fn crash(self, tear: Tear) -> Result<MemDisk, Memory>
+    /// What a stop leaves. A disk that lacked something for a call gives that back.
+    pub fn crash(self, tear: Tear) -> Result<MemDisk, Lack>
         ensures history { IfOk result (λ disk. history_of disk ≡ record { start = torn tear (state (history_of self)); calls = [] }) }
         ensures image { IfOk result (λ disk. IsImage (state (history_of self)) (content (history_of disk))) }
         ensures faults { IfOk result (λ disk. faults_of disk ≡ 0) }
         ensures starved { IfOk result (λ disk. is_starved disk ≡ false) }
         ensures fuse { IfOk result (λ disk. fuse_of disk ≡ None) }
+        ensures fed { IfOk result (λ _. is_starved self ≡ false) }
+        ensures lack { IfSome (lack_of self) (λ lack. result ≡ Err lack) }
     {
         let MemDisk {
             alloc,
@@ -63,8 +68,11 @@ impl MemDisk {
             calls,
             fuse: _,
             faults: _,
-            starved: _,
+            lack,
         } = self;
+        if let Some(lack) = lack {
+            return Err(lack);
+        }
         let content = torn_bytes(alloc, &start, content, &calls, tear)?;
         Ok(MemDisk {
             alloc,
@@ -73,7 +81,7 @@ impl MemDisk {
             calls: Vec::new(alloc),
             fuse: None,
             faults: 0,
-            starved: false,
+            lack: None,
         })
     }
 
@@ -81,27 +89,47 @@ impl MemDisk {
     pub fn starved(&self) -> bool
         ensures { result ≡ is_starved self.now }
     {
-        self.starved
+        self.lack.is_some()
+    }
+
+    /// What the newest call lacked that was not kept, if one was not. The disk is let go.
+    pub fn lack(self) -> Option<Lack>
+        ensures some { is_some result ≡ is_starved self }
+        ensures lack { result ≡ lack_of self }
+    {
+        let MemDisk {
+            alloc: _,
+            start: _,
+            content: _,
+            calls: _,
+            fuse: _,
+            faults: _,
+            lack,
+        } = self;
+        lack
     }
 }
 
-// The answer to a call, by whether it was kept and whether the fuse let it be done.
+// The answer to a call, by whether it was kept and whether the fuse let it be done. What it lacked
+// stays with the disk.
 fn answer(
-    kept: Result<(), Memory>,
+    kept: Result<(), Lack>,
     done: bool,
     faults: &mut u64,
-    starved: &mut bool,
+    lack: &mut Option<Lack>,
 ) -> Result<(), Failed>
     ensures ok { OnOk result ((kept ≡ Ok tt) × (done ≡ true)) }
     ensures err { OnErr result (MatchResult kept (λ _. done ≡ false) (λ _. Unit {0})) }
     ensures later { faults.old ≤ faults.new }
     ensures failed { OnErr result (Rose faults.old faults.new) }
-    ensures starved { starved.new ≡ (starved.old || is_err kept) }
+    ensures lack { lack.new ≡ newest kept lack.old }
+    ensures starved { is_some lack.new ≡ (is_some lack.old || is_err kept) }
 {
-    if kept.is_err() {
-        *starved = true;
+    let is_kept = kept.is_ok();
+    if let Err(newest) = kept {
+        *lack = Some(newest);
     }
-    if kept.is_err() || !done {
+    if !is_kept || !done {
         *faults = faults.saturating_add(1);
         return Err(Failed);
     }
@@ -109,7 +137,7 @@ fn answer(
 }
 
 impl Disk for MemDisk {
-    ghost use Rattle.nqs_disk.specs.MemDisk.{history_of, fails_of};
+    ghost use Rattle.nqs_disk.specs.MemDisk.{history_of, fails_of, is_starved};
 
     ghost tells = { true };
 
@@ -117,7 +145,7 @@ impl Disk for MemDisk {
 
     ghost fails = { fails_of };
 
-    ghost starved = { λ disk. disk.starved };
+    ghost starved = { is_starved };
 
     ghost faults = { λ disk. disk.faults };
 
@@ -153,13 +181,13 @@ impl Disk for MemDisk {
             bytes,
             done,
         );
-        answer(kept, done, &mut self.faults, &mut self.starved)
+        answer(kept, done, &mut self.faults, &mut self.lack)
     }
 
     fn sync(&mut self) -> Result<(), Failed> {
         let done = is_done(self.fuse, self.calls.len());
         let kept = keep_sync(&mut self.calls, done);
-        answer(kept, done, &mut self.faults, &mut self.starved)
+        answer(kept, done, &mut self.faults, &mut self.lack)
     }
 }
 

@@ -1,5 +1,6 @@
 //! What a stop leaves of the bytes of a disk, by its tear.
-ghost use Rattle.std.specs.Prelude.{◌≡◌, ◌+◌, ◌^◌, ◌≤◌, ◌<◌, ◌||◌, ℕ, List, Bool, true, IsTrue, length, take, drop, nat_le, vec_len, IfOk, slice_index, if◌then◌else◌, ◌%◌, ◌==◌};
+ghost use Rattle.std.specs.Prelude.{◌≡◌, ◌+◌, ◌^◌, ◌≤◌, ◌<◌, ◌||◌, ℕ, List, Bool, true, IsTrue, length, take, drop, nat_le, vec_len, IfOk, slice_index};
+ghost use Rattle.std.specs.Prelude.{if◌then◌else◌, ◌%◌, ◌==◌};
 ghost use Rattle.nqs_outside.specs.History.{State, after, fresh, made, is_sound, covers};
 ghost use Rattle.nqs_disk.specs.Calls.{call_of, calls_of, is_synced, has_no_sync, touches};
 ghost use Rattle.nqs_disk.specs.Torn.{torn, mixed_from, bits, pick};
@@ -117,7 +118,8 @@ fn mix(
     pending: &[DiskCall],
     n: u64,
 ) -> Result<Vec<u8>, Memory>
-    ensures { IfOk result (λ bytes. bytes.items ≡ mixed_from (λ place. touches (calls_of pending.now) place || nat_le (length synced.now) place) n synced.now 0 0 content.now) }
+    ensures { IfOk result (λ bytes. bytes.items
+        ≡ mixed_from (λ place. touches (calls_of pending.now) place || nat_le (length synced.now) place) n synced.now 0 0 content.now) }
 {
     let mut bytes = Vec::new(alloc);
     let mut i = 0;

@@ -1,4 +1,5 @@
-//! What a load finds after a stop within each call of a format or an append, with each tear, and in bytes by hand.
+//! What a load finds after a stop within each call of a format or an append, with each tear, and in
+//! bytes by hand.
 ghost use Rattle.nqs_outside.specs.History.{IsQuiet};
 ghost use Rattle.nqs_disk.specs.MemDisk.{history_of};
 
@@ -13,7 +14,8 @@ const FIRST: &[u8] = b"first";
 
 const SECOND: &[u8] = b"second";
 
-/// A tear, and the payloads that are found after a stop in each call of an append of the second one.
+/// A tear, and the payloads that are found after a stop in each call of an append of the second
+/// one.
 const LEFT: [(Tear, [usize; 4]); 4] = [
     (Tear::Old, [1, 1, 1, 1]),
     (Tear::New, [1, 1, 2, 2]),
@@ -35,7 +37,7 @@ fn load(alloc: Global, disk: MemDisk) -> Result<(Journal<MemDisk>, Vec<Bytes>), 
 
 // A journal of the first payload.
 fn with_first(alloc: Global) -> Result<Journal<MemDisk>, Fail> {
-    let mut disk = MemDisk::new(alloc)?;
+    let mut disk = MemDisk::new(alloc);
     let Ok(()) = format(&mut disk) else {
         return Err("format")?;
     };
@@ -130,8 +132,8 @@ fn appends_after_a_stop(rt: HostRuntime) -> Result<(), Fail> {
     Ok(())
 }
 
-/// A tear, and what a load finds after a stop in each of the two calls of a format: a journal without payloads, or
-/// bytes that are none from a place on.
+/// A tear, and what a load finds after a stop in each of the two calls of a format: a journal
+/// without payloads, or bytes that are none from a place on.
 const FORMATTED: [(Tear, [Option<u64>; 2]); 6] = [
     // Nothing was synced, so the disk is empty.
     (Tear::Old, [Some(0), Some(0)]),
@@ -148,7 +150,7 @@ const FORMATTED: [(Tear, [Option<u64>; 2]); 6] = [
 
 // What a load finds after a stop in that call of a format.
 fn formatted_after(alloc: Global, call: u64, tear: Tear) -> Result<Option<u64>, Fail> {
-    let mut disk = MemDisk::new(alloc)?;
+    let mut disk = MemDisk::new(alloc);
     disk.fuse(call);
     if format(&mut disk) != Err(JournalFault::Disk) {
         return Err("answer")?;
@@ -172,11 +174,12 @@ fn stops_within_a_format(rt: HostRuntime) -> Result<(), Fail> {
     Ok(())
 }
 
-/// The journal of host alpha in the site of alpha alone, byte by byte: header, gate, length, the record of the site, gate.
+/// The journal of host alpha in the site of alpha alone, byte by byte: header, gate, length, the
+/// record of the site, gate.
 const ALPHA: [u8; 31] = *b"NQS-JOURNAL-v1\n\n\x01\0\0\0\x09\x01\0\x01\x05alpha\0";
 
 fn disk_of(alloc: Global, bytes: &[u8]) -> Result<MemDisk, Fail> {
-    let mut disk = MemDisk::new(alloc)?;
+    let mut disk = MemDisk::new(alloc);
     disk.write_at(0, bytes)?;
     Ok(disk)
 }
@@ -197,7 +200,8 @@ fn refuses_when_failed(alloc: Global, disk: &mut MemDisk) -> bool {
     synced == Err(Failed) && refused && found.is_empty()
 }
 
-// Whether bytes have these payloads, and whether a further reading is refused once a call of the disk has failed.
+// Whether bytes have these payloads, and whether a further reading is refused once a call of the
+// disk has failed.
 fn payloads_are(alloc: Global, bytes: &[u8], payloads: &[&[u8]]) -> Result<[bool; 2], Fail> {
     let mut disk = disk_of(alloc, bytes)?;
     let found = reads(alloc, &mut disk, payloads)?;

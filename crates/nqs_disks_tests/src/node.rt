@@ -19,8 +19,8 @@ use std::rt::HostRuntime;
 
 const SCRIPT: &[u8] = b"echo done\n";
 
-// Whether the submission and the start of its queue are taken, whether each of the three looks started something,
-// how many requests there are then, and whether the node is stopped.
+// Whether the submission and the start of its queue are taken, whether each of the three looks
+// started something, how many requests there are then, and whether the node is stopped.
 type Seen = ([bool; 2], [Option<bool>; 3], usize, bool);
 
 // The queue that a host has when it is formatted, and a user of this name.
@@ -42,26 +42,22 @@ fn root() -> Name
     }
 }
 
-fn empty_disks(alloc: Global) -> Result<Disks<MemDisk>, Memory>
-    ensures { IfOk result (λ disks. (which : Which) → history_of_disk (disk_at which disks) ≡ record { start = []; calls = [] }) }
+fn empty_disks(alloc: Global) -> Disks<MemDisk>
+    ensures { (which : Which) → history_of_disk (disk_at which result) ≡ record { start = []; calls = [] } }
 {
-    let root = MemDisk::new(alloc)?;
-    let first = MemDisk::new(alloc)?;
-    let second = MemDisk::new(alloc)?;
-    let spool = MemDisk::new(alloc)?;
-    Ok(Disks {
-        root,
-        first,
-        second,
-        spool,
-    })
+    Disks {
+        root: MemDisk::new(alloc),
+        first: MemDisk::new(alloc),
+        second: MemDisk::new(alloc),
+        spool: MemDisk::new(alloc),
+    }
 }
 
 // The disks of the one host of a site.
 fn formatted(alloc: Global) -> Result<Disks<MemDisk>, StoreFault>
     ensures { IfOk result (λ disks. (which : Which) → IsQuiet (history_of_disk (disk_at which disks))) }
 {
-    let mut disks = empty_disks(alloc)?;
+    let mut disks = empty_disks(alloc);
     match format(alloc, &mut disks, HostId(0), &[batch()]) {
         Ok(()) => Ok(disks),
         Err(fault) => Err(fault),

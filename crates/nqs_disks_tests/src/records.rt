@@ -1,4 +1,5 @@
-//! Records by hand from their format: each is read, written again as it was, and faults are at their places.
+//! Records by hand from their format: each is read, written again as it was, and faults are at
+//! their places.
 
 use nqs_records::{RecordFault, read_change, write_change};
 use nqs_types::{Change, ConfEdit, Edit, Job};
@@ -115,7 +116,7 @@ fn kind(fault: &RecordFault) -> (u8, u64) {
         RecordFault::Kind(place) => (KIND, *place),
         RecordFault::BadField(place) => (FIELD, *place),
         RecordFault::Trailing(place) => (TRAILING, *place),
-        RecordFault::Memory => (u8::MAX, 0),
+        RecordFault::Memory(_) => (u8::MAX, 0),
     }
 }
 

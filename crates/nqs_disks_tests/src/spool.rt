@@ -14,7 +14,7 @@ use std::test::Fail;
 type Put = Result<Extent, SpoolFault>;
 
 fn opened(alloc: Global) -> Option<Spool<MemDisk>> {
-    let disk = MemDisk::new(alloc).ok()?;
+    let disk = MemDisk::new(alloc);
     Spool::load(alloc, disk, &[]).ok()
 }
 
@@ -99,8 +99,8 @@ fn lengths(rt: HostRuntime) -> Result<(), Fail> {
     Ok(())
 }
 
-/// A tear, what it leaves of `gone` and `live` where a put of `new` over `gone` fails, in its write or in its sync, and
-/// what of `live` where a put of `more` behind it does.
+/// A tear, what it leaves of `gone` and `live` where a put of `new` over `gone` fails, in its write
+/// or in its sync, and what of `live` where a put of `more` behind it does.
 const LEFT: [(Tear, &[u8], &[u8]); 4] = [
     (Tear::Old, b"gonelive", b"live"),
     (Tear::New, b"newelive", b"livemore"),
@@ -131,17 +131,23 @@ fn has_eight_bytes(disk: &mut MemDisk) -> bool
     }
 }
 
+// A stop didn't leave what is looked for.
+#[derive(Drop)]
+struct Otherwise;
+
 // What a stop leaves, where it leaves these bytes.
-fn crashed(disk: MemDisk, tear: Tear, left: &[u8]) -> Result<MemDisk, SpoolFault>
+fn crashed(disk: MemDisk, tear: Tear, left: &[u8]) -> Result<MemDisk, Otherwise>
     ensures quiet { IfOk result (λ disk. IsQuiet (history_of disk)) }
     ensures long { IfOk result (λ disk. 8 ≤ length (content (history_of disk))) }
 {
-    let mut disk = disk.crash(tear)?;
+    let Ok(mut disk) = disk.crash(tear) else {
+        return Err(Otherwise);
+    };
     if !is_left(&mut disk, left) {
-        return Err(SpoolFault::Disk);
+        return Err(Otherwise);
     }
     if !has_eight_bytes(&mut disk) {
-        return Err(SpoolFault::Disk);
+        return Err(Otherwise);
     }
     Ok(disk)
 }
@@ -151,11 +157,11 @@ fn reopened(
     stopped: MemDisk,
     tear: Tear,
     left: &[u8],
-) -> Result<Spool<MemDisk>, SpoolFault> {
+) -> Result<Spool<MemDisk>, Otherwise> {
     let disk = crashed(stopped, tear, left)?;
     match Spool::load(alloc, disk, &[at(0, 0), at(4, 4)]) {
         Ok(spool) => Ok(spool),
-        Err(_) => Err(SpoolFault::Memory),
+        Err(_) => Err(Otherwise),
     }
 }
 
@@ -213,22 +219,36 @@ fn left_behind(
     Some((faults, leaves(spool.close(), tear, left)))
 }
 
+// What is seen of a put that fails over freed bytes.
+fn over_wanted() -> ([Put; 3], Put, bool) {
+    let puts = [Ok(at(0, 4)), Ok(at(4, 4)), Err(SpoolFault::Disk)];
+    (puts, Ok(at(0, 4)), true)
+}
+
+fn disk_failed() -> Option<SpoolFault> {
+    Some(SpoolFault::Disk)
+}
+
+// What is seen of a put that fails behind a live extent.
+fn behind_wanted() -> ([Option<SpoolFault>; 4], bool) {
+    ([None, disk_failed(), disk_failed(), disk_failed()], true)
+}
+
 #[test]
 fn stops(rt: HostRuntime) {
     let alloc = rt.alloc();
-    let puts = [Ok(at(0, 4)), Ok(at(4, 4)), Err(SpoolFault::Disk)];
-    let disk = Some(SpoolFault::Disk);
     for (tear, over, behind) in &LEFT {
         for calls in 1..3 {
             let found = left_over(alloc, calls, *tear, *over);
-            assert_eq!(rt; found, Some((puts, Ok(at(0, 4)), true)));
+            assert_eq!(rt; found, Some(over_wanted()));
             let found = left_behind(alloc, calls, *tear, *behind);
-            assert_eq!(rt; found, Some(([None, disk, disk, disk], true)));
+            assert_eq!(rt; found, Some(behind_wanted()));
         }
     }
 }
 
-/// The bytes of a disk, the places and lengths of extents on it, and the place of the first that it can't have.
+/// The bytes of a disk, the places and lengths of extents on it, and the place of the first that it
+/// can't have.
 const EXTENTS: [(u64, [(u64, u32); 3], Option<u64>); 9] = [
     (0, [(0, 0), (0, 0), (0, 0)], None),
     (10, [(4, 2), (0, 4), (6, 4)], None),

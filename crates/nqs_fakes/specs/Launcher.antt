@@ -7,6 +7,7 @@ use Rattle.nqs_fakes.specs.declared.launcher.LauncherCall.{LauncherCall}
 use Rattle.nqs_fakes.specs.declared.launcher.LauncherCall.TheVariants.{Launch, Kill}
 use Rattle.nqs_fakes.specs.declared.launcher.MemLauncher.{MemLauncher}
 
+-- what was asked in a call that is kept
 abbrev pub ask_of : LauncherCall → Asked
 ask_of (Launch order script ok) = launched order script ok
 ask_of (Kill id start ok) = killed id start ok

@@ -6,6 +6,7 @@ use Rattle.nqs_fakes.specs.Told.{told_of}
 use Rattle.nqs_fakes.specs.declared.outlet.FileWritten.{FileWritten}
 use Rattle.nqs_fakes.specs.declared.outlet.MemOutlet.{MemOutlet}
 
+-- the file that was to be written in a call that is kept
 abbrev pub filing_of : FileWritten → Filing
 filing_of f = filed f.path f.bytes f.ok
 

@@ -6,6 +6,7 @@ use Rattle.nqs_fakes.specs.Told.{told_of}
 use Rattle.nqs_fakes.specs.declared.printer.Printed.{Printed}
 use Rattle.nqs_fakes.specs.declared.printer.MemPrinter.{MemPrinter}
 
+-- what was to be printed in a call that is kept
 abbrev pub print_of : Printed → Print
 print_of p = printed p.device p.order p.bytes p.ok
 

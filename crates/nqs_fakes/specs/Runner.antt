@@ -9,6 +9,7 @@ use Rattle.nqs_fakes.specs.Told.{told_of}
 use Rattle.nqs_fakes.specs.declared.runner.JobRun.{JobRun}
 use Rattle.nqs_fakes.specs.declared.runner.MemRunner.{MemRunner}
 
+-- the job that was to be run in a call that is kept
 abbrev pub job_of : JobRun → Job
 job_of j = ran j.id j.start j.end
 
@@ -16,6 +17,7 @@ job_of j = ran j.id j.start j.end
 abbrev pub runs_of : MemRunner → Option (List Job)
 runs_of r = told_of r.starved job_of r.kept
 
+-- no end is left
 abbrev pub is_none : List RunEnd → Bool
 is_none [] = true
 is_none (end ∷ ends) = false

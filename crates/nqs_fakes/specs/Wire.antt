@@ -8,10 +8,12 @@ use Rattle.nqs_fakes.specs.declared.wire.Item.TheVariants.{Datagram, Quiet}
 use Rattle.nqs_fakes.specs.declared.wire.Sent.{Sent}
 use Rattle.nqs_fakes.specs.declared.wire.MemWire.{MemWire}
 
+-- what an item brings
 abbrev pub arrival_of : Item → Arrival
 arrival_of (Datagram bytes) = came bytes
 arrival_of Quiet = quiet
 
+-- the datagram of a call that is kept
 abbrev pub packet_of : Sent → Packet
 packet_of s = packet s.to s.bytes
 
@@ -30,9 +32,10 @@ abbrev pub rest_of : List Item → List Item
 rest_of [] = []
 rest_of (item ∷ items) = items
 
--- what it received, and what it was asked to send, unless memory ran out
+-- what it received, unless memory ran out
 abbrev pub received_of : MemWire → Option (List Arrival)
 received_of w = told_of w.starved arrival_of w.received
 
+-- what it was asked to send, unless memory ran out
 abbrev pub sent_of : MemWire → Option (List Packet)
 sent_of w = told_of w.starved packet_of w.sent

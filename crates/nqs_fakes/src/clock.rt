@@ -42,7 +42,8 @@ impl ListClock {
         self.given.as_slice()
     }
 
-    /// Whether memory for what it keeps was refused. Where it wasn't, the clock tells all that it gave.
+    /// Whether memory for what it keeps was refused. Where it wasn't, the clock tells all that it
+    /// gave.
     pub fn is_starved(&self) -> bool
         ensures starved { result ≡ self.now.starved }
         ensures given { result ≡ false → given_of self.now ≡ Some self.now.given }

@@ -5,7 +5,8 @@ ghost use Rattle.nqs_outside.specs.Memory.{next};
 
 use nqs_outside::Failed;
 
-/// The numbers of the calls that are to fail, from 1 on, how many calls there were, and how many failed.
+/// The numbers of the calls that are to fail, from 1 on, how many calls there were, and how many
+/// failed.
 #[derive(Drop)]
 pub struct Failures {
     numbers: Vec<u64>,

@@ -62,7 +62,8 @@ impl MemLauncher {
         self.kept.as_slice()
     }
 
-    /// Whether memory for what it keeps was refused. Where it wasn't, the launcher tells all that it keeps.
+    /// Whether memory for what it keeps was refused. Where it wasn't, the launcher tells all that
+    /// it keeps.
     pub fn is_starved(&self) -> bool
         ensures starved { result ≡ self.now.starved }
         ensures asked { result ≡ false → asked_of self.now ≡ Some (map ask_of self.now.kept) }

@@ -1,5 +1,6 @@
-//! The outside in memory. Each fake keeps what it was asked with its answers, and tells it; the calls that are to
-//! fail are given by their numbers. One that was refused memory for what it keeps is starved, and tells nothing more.
+//! The outside in memory. Each fake keeps what it was asked with its answers, and tells it; the
+//! calls that are to fail are given by their numbers. One that was refused memory for what it keeps
+//! is starved, and tells nothing more.
 #![tactic(auto)]
 
 mod clock;

@@ -28,7 +28,8 @@ fn file_of(alloc: Global, path: &[u8], bytes: &[u8], ok: bool) -> Result<FileWri
     Ok(FileWritten { path, bytes, ok })
 }
 
-/// An outlet that keeps the files that it was to write, those that are written in place of others too.
+/// An outlet that keeps the files that it was to write, those that are written in place of others
+/// too.
 #[derive(Drop)]
 pub struct MemOutlet {
     alloc: Global,
@@ -62,7 +63,8 @@ impl MemOutlet {
         self.kept.as_slice()
     }
 
-    /// Whether memory for what it keeps was refused. Where it wasn't, the outlet tells all that it keeps.
+    /// Whether memory for what it keeps was refused. Where it wasn't, the outlet tells all that it
+    /// keeps.
     pub fn is_starved(&self) -> bool
         ensures starved { result ≡ self.now.starved }
         ensures filings { result ≡ false → filings_of self.now ≡ Some (map filing_of self.now.kept) }

@@ -56,7 +56,8 @@ impl MemPrinter {
         self.kept.as_slice()
     }
 
-    /// Whether memory for what it keeps was refused. Where it wasn't, the printer tells all that it keeps.
+    /// Whether memory for what it keeps was refused. Where it wasn't, the printer tells all that it
+    /// keeps.
     pub fn is_starved(&self) -> bool
         ensures starved { result ≡ self.now.starved }
         ensures prints { result ≡ false → prints_of self.now ≡ Some (map print_of self.now.kept) }

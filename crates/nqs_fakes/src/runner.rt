@@ -56,7 +56,8 @@ fn kept_end(answer: &Result<RunEnd, Failed>) -> Result<Option<RunEnd>, AllocErro
 impl MemRunner {
     ghost use Rattle.nqs_fakes.specs.Runner.{runs_of};
 
-    /// A runner with these ends, whose calls of these numbers fail, from 1 on. A call that fails leaves the ends.
+    /// A runner with these ends, whose calls of these numbers fail, from 1 on. A call that fails
+    /// leaves the ends.
     pub fn new(alloc: Global, ends: Items<RunEnd>, failing: Vec<u64>) -> MemRunner
         ensures runs { runs_of result ≡ Some [] }
         ensures ends { result.ends ≡ ends }
@@ -86,7 +87,8 @@ impl MemRunner {
         self.kept.as_slice()
     }
 
-    /// Whether memory for what it keeps was refused. Where it wasn't, the runner tells all that it keeps.
+    /// Whether memory for what it keeps was refused. Where it wasn't, the runner tells all that it
+    /// keeps.
     pub fn is_starved(&self) -> bool
         ensures starved { result ≡ self.now.starved }
         ensures runs { result ≡ false → runs_of self.now ≡ Some (map job_of self.now.kept) }

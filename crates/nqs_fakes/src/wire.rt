@@ -81,7 +81,8 @@ fn take_item(script: &mut Items<Item>) -> Item
 impl MemWire {
     ghost use Rattle.nqs_fakes.specs.Wire.{received_of, sent_of};
 
-    /// A wire to which these items come. The receives and the sends of these numbers fail, from 1 on.
+    /// A wire to which these items come. The receives and the sends of these numbers fail, from 1
+    /// on.
     pub fn new(
         alloc: Global,
         script: Items<Item>,
@@ -128,7 +129,8 @@ impl MemWire {
         self.sent.as_slice()
     }
 
-    /// Whether memory for what it keeps was refused. Where it wasn't, the wire tells all that it keeps.
+    /// Whether memory for what it keeps was refused. Where it wasn't, the wire tells all that it
+    /// keeps.
     pub fn is_starved(&self) -> bool
         ensures starved { result ≡ self.now.starved }
         ensures received { result ≡ false → received_of self.now ≡ Some (map arrival_of self.now.received) }

@@ -22,14 +22,16 @@ module _ {E : Type 0} (s : State E) (peer : HostId) (queue : List ℕ) (c : Carr
   abbrev into_part : Bool → Option QueueDef → List Cause
   into_part there found = cause (not there) (NoQueue queue) ∷ causes_of (offer_entry_causes c) found ++ host_causes peer s
 
-  pub into_found : (d : QueueDef) → Some d ≡ find_queue queue s → first_refusal (way_causes d c.job ++ host_causes peer s) ≡ first_refusal (into_causes peer queue c s)
+  pub into_found : (d : QueueDef) → Some d ≡ find_queue queue s → first_refusal (way_causes d c.job ++ host_causes peer s)
+      ≡ first_refusal (into_causes peer queue c s)
   into_found d h = (λ i. first_refusal (into_part (sym (queue_there queue s d (sym h)) i) (h i)))
 
   pub into_absent : None ≡ find_queue queue s → Err (NoQueue queue) ≡ first_refusal (into_causes peer queue c s)
   into_absent h = (λ i. first_refusal (into_part (sym (queue_missing queue s (sym h)) i) (h i)))
 
   module _ (n : ℕ) (script : List ℕ) where
-    taken : (r : Result (Unit {0}) Refusal) → Ok tt ≡ by_number r → offer_by r peer n queue c script s ≡ makes (Promised peer n queue c script) (send_ready s peer n ∷ [])
+    taken : (r : Result (Unit {0}) Refusal) → Ok tt ≡ by_number r → offer_by r peer n queue c script s
+        ≡ makes (Promised peer n queue c script) (send_ready s peer n ∷ [])
     taken (Ok _) h = refl
     taken (Err x) h = absurd (let no : ⊥ = cc in no)
 
@@ -45,6 +47,7 @@ module _ {E : Type 0} (s : State E) (peer : HostId) (queue : List ℕ) (c : Carr
         → OfferIs (makes (Promised peer n queue c script) (send_ready s peer n ∷ []))
     offer_taken unclosed new h = third _ _ _ _ _ unclosed new ∙ taken (first_refusal (offer_causes peer queue c s)) h
 
-    pub offer_refused : (k : ℕ) → closes n (find_peer peer s) ≡ false → has_promise peer n s ≡ false → Err k ≡ by_number (first_refusal (offer_causes peer queue c s))
+    pub offer_refused : (k : ℕ) → closes n (find_peer peer s) ≡ false → has_promise peer n s ≡ false
+        → Err k ≡ by_number (first_refusal (offer_causes peer queue c s))
         → OfferIs (says (send_refused s peer n k ∷ []))
     offer_refused k unclosed new h = third _ _ _ _ _ unclosed new ∙ refused (first_refusal (offer_causes peer queue c s)) k h

@@ -42,7 +42,8 @@ module _ (now : ℕ) (s : State Extent) where
   abbrev with_promise : Plan → Promise Extent → Plan
   with_promise q p = with_more q (send_inquire s p ∷ [])
 
-  pub tick_is : (first second : Plan) → first ≡ plan_of silenced → second ≡ fold with_hand first s.hands → fold with_promise second s.promises ≡ plan_of (on_tick now s)
+  pub tick_is : (first second : Plan) → first ≡ plan_of silenced → second ≡ fold with_hand first s.hands
+      → fold with_promise second s.promises ≡ plan_of (on_tick now s)
   tick_is first second h k =
       folded-more (λ p. send_inquire s p ∷ []) second s.promises
       ∙ (λ j. with_more (hands j) (flat_map_single (send_inquire s) s.promises j))

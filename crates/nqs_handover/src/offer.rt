@@ -4,7 +4,7 @@ ghost use Rattle.nqs_state.specs.State.{content};
 ghost use Rattle.nqs_rules.specs.Causes.{first_refusal};
 ghost use Rattle.nqs_rules.specs.Find.{has_row, has_promise, find_peer};
 ghost use Rattle.nqs_rules.specs.Fits.{offer_full};
-ghost use Rattle.nqs_rules.specs.Handover.{closes, is_given_here, offer_causes, on_offer, send_ready};
+ghost use Rattle.nqs_rules.specs.Handover.{closes, is_not_given_here, offer_causes, on_offer, send_ready};
 ghost use Rattle.nqs_types.specs.declared.change.Change.TheVariants.{Promised};
 ghost use Rattle.nqs_rules.specs.Stepped.{plan_of, makes};
 ghost use Rattle.nqs_rules.specs.Applied.{is_promise_of};
@@ -48,8 +48,8 @@ pub(crate) fn has_promise(state: &HostState, peer: HostId, number: u64) -> bool
 }
 
 // Whether the request is of this host, with a number that it didn't give yet.
-fn is_given_here(state: &HostState, id: RequestId) -> bool
-    ensures { result ≡ is_given_here id (content state.now) }
+fn is_not_given_here(state: &HostState, id: RequestId) -> bool
+    ensures { result ≡ is_not_given_here id (content state.now) }
 {
     state.me == id.host && state.seq < id.seq
 }
@@ -60,7 +60,8 @@ fn is_promise_of(promise: &Promise, peer: HostId) -> bool
     peer == promise.peer
 }
 
-// Whether the host has no room for one more request. A promise that the offer replaces isn't counted.
+// Whether the host has no room for one more request. A promise that the offer replaces isn't
+// counted.
 fn is_full(state: &HostState, peer: HostId) -> bool
     ensures { result ≡ offer_full peer (content state.now) }
 {
@@ -70,7 +71,8 @@ fn is_full(state: &HostState, peer: HostId) -> bool
     others >= MOST_HELD.saturating_sub(state.rows.len())
 }
 
-/// Whether a job may come into the queue from a pipe queue: the first refusal of the way in and of the limits.
+/// Whether a job may come into the queue from a pipe queue: the first refusal of the way in and of
+/// the limits.
 pub fn check_way(queue: &QueueDef, job: &Job) -> Result<(), Refusal>
     ensures { result ≡ first_refusal (way_causes queue.now job.now) }
 {
@@ -112,9 +114,9 @@ fn check_into(
 }
 
 fn is_known(state: &HostState, id: RequestId) -> bool
-    ensures { result ≡ (has_row id (content state.now) || is_given_here id (content state.now)) }
+    ensures { result ≡ (has_row id (content state.now) || is_not_given_here id (content state.now)) }
 {
-    state.rows.has(&id) || is_given_here(state, id)
+    state.rows.has(&id) || is_not_given_here(state, id)
 }
 
 // Whether the offer is taken, or the number of its refusal.
@@ -140,7 +142,8 @@ fn promise(
     carried: &Carried,
     script: &Bytes,
 ) -> Result<Plan, Memory>
-    ensures { IfOk result (λ plan. plan ≡ plan_of (makes (Promised peer number queue.now carried.now script.now) (send_ready (content state.now) peer number ∷ []))) }
+    ensures { IfOk result (λ plan. plan ≡ plan_of (makes (Promised peer number queue.now carried.now script.now)
+        (send_ready (content state.now) peer number ∷ []))) }
 {
     let promised = Change::Promised {
         peer,
@@ -153,8 +156,8 @@ fn promise(
     add(plan, message(state, peer, Body::Ready { number }))
 }
 
-/// OFFER: the request is promised and READY goes out, or REFUSED with the number of the first refusal. DONE goes
-/// out where the number is closed, and READY where it is promised already.
+/// OFFER: the request is promised and READY goes out, or REFUSED with the number of the first
+/// refusal. DONE goes out where the number is closed, and READY where it is promised already.
 pub fn on_offer(
     alloc: Global,
     state: &HostState,

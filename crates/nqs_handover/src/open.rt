@@ -60,7 +60,8 @@ fn offer_under(
     now: u64,
 ) -> Result<Plan, Memory>
     requires { row.now.hops < 255 }
-    ensures { IfOk result (λ plan. plan ≡ with_more (change_alone (HandOpened dest.now.host number row.now.id dest.now.queue now) []) (offer state.now.me dest.now.host number dest.now.queue row.now ∷ [])) }
+    ensures { IfOk result (λ plan. plan ≡ with_more (change_alone (HandOpened dest.now.host number row.now.id dest.now.queue now) [])
+        (offer state.now.me dest.now.host number dest.now.queue row.now ∷ [])) }
 {
     let opened = Change::HandOpened {
         peer: dest.host,
@@ -73,8 +74,9 @@ fn offer_under(
     add_offer(alloc, state, plan, dest.host, number, dest.queue, row)
 }
 
-/// Offers the row to a destination on another host, under the next number for that host. `now` is the moment, in
-/// seconds since 1970. Nothing happens where the destination's host isn't of the site.
+/// Offers the row to a destination on another host, under the next number for that host. `now` is
+/// the moment, in seconds since 1970. Nothing happens where the destination's host isn't of the
+/// site.
 pub fn offer_row(
     alloc: Global,
     state: &HostState,
@@ -101,7 +103,8 @@ pub fn dest_at<'a>(state: &'a HostState, row: &Row, place: usize) -> Option<&'a 
     }
 }
 
-/// Offers a row, by its place among the host's rows, to the destination at a place of its queue's list, as
+/// Offers a row, by its place among the host's rows, to the destination at a place of its queue's
+/// list, as
 /// `offer_row` does. Nothing happens where there is no such row or destination.
 pub fn open_hand(
     alloc: Global,

@@ -11,7 +11,8 @@ use nqs_types::{Body, Change, HostId, Plan};
 use nqs_values::Memory;
 use std::alloc::Global;
 
-/// COMMIT: the promised request is this host's, and DONE goes out; again where the number is closed already.
+/// COMMIT: the promised request is this host's, and DONE goes out; again where the number is closed
+/// already.
 pub fn on_commit(
     alloc: Global,
     state: &HostState,

@@ -65,8 +65,8 @@ fn ready_without(
     says(alloc, message(state, peer, Body::Abort { number }))
 }
 
-/// READY: the handover is committed, and COMMIT goes out; again where it was committed already. Where there is no
-/// such handover ABORT goes out, and nothing where its number wasn't given yet.
+/// READY: the handover is committed, and COMMIT goes out; again where it was committed already.
+/// Where there is no such handover ABORT goes out, and nothing where its number wasn't given yet.
 pub fn on_ready(alloc: Global, state: &HostState, peer: HostId, number: u64) -> Result<Plan, Memory>
     ensures { IfOk result (λ plan. plan ≡ plan_of (on_ready peer number (content state.now))) }
 {

@@ -117,8 +117,8 @@ fn inquire(state: &HostState, plan: Plan, promise: &Promise) -> Result<Plan, Mem
     add(plan, message(state, promise.peer, Body::Inquire { number }))
 }
 
-/// A tick at a moment, in seconds since 1970: silent offers are taken back, the other offers and the commits go out
-/// again, and each promise is asked for.
+/// A tick at a moment, in seconds since 1970: silent offers are taken back, the other offers and
+/// the commits go out again, and each promise is asked for.
 pub fn on_tick(alloc: Global, state: &HostState, now: u64) -> Result<Plan, Memory>
     requires { IsTrue (may_count_hops (content state.now)) }
     ensures { IfOk result (λ plan. plan ≡ plan_of (on_tick now (content state.now))) }

@@ -13,9 +13,12 @@ use Rattle.nqs_rules.specs.Fits.{fits, is_open_number, is_site_host, is_unknown,
 use Rattle.nqs_rules.proofs.Chains.{Each, each}
 use Rattle.nqs_rules.proofs.ListFacts.{not_true}
 
-module _ {E : Type 0} (s : State E) (peer : HostId) (number : ℕ) (queue : List ℕ) (c : Carried) (script : E) (fit : fits (Promised peer number queue c script) s ≡ true) where
-  parts : Each (has_queue queue s ∷ passes (is_open_number number) (find_peer peer s) ∷ not (has_promise peer number s) ∷ is_site_host c.id.host s ∷ is_unknown c.id s ∷ not (offer_full peer s) ∷ not (arrivals_used s) ∷ [])
-  parts = each (has_queue queue s) (passes (is_open_number number) (find_peer peer s) ∷ not (has_promise peer number s) ∷ is_site_host c.id.host s ∷ is_unknown c.id s ∷ not (offer_full peer s) ∷ not (arrivals_used s) ∷ []) fit
+module _ {E : Type 0} (s : State E) (peer : HostId) (number : ℕ) (queue : List ℕ) (c : Carried) (script : E)
+    (fit : fits (Promised peer number queue c script) s ≡ true) where
+  parts : Each (has_queue queue s ∷ passes (is_open_number number) (find_peer peer s) ∷ not (has_promise peer number s) ∷ is_site_host c.id.host s
+      ∷ is_unknown c.id s ∷ not (offer_full peer s) ∷ not (arrivals_used s) ∷ [])
+  parts = each (has_queue queue s) (passes (is_open_number number) (find_peer peer s) ∷ not (has_promise peer number s) ∷ is_site_host c.id.host s
+      ∷ is_unknown c.id s ∷ not (offer_full peer s) ∷ not (arrivals_used s) ∷ []) fit
 
   -- a number that isn't closed isn't 0
   open_number : (o : Option Peer) → passes (is_open_number number) o ≡ true → 0 < number

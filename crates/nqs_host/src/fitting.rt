@@ -4,7 +4,8 @@ ghost use Rattle.std.specs.Prelude.{◌≡◌, ◌≤◌, ◌&&◌, not, nat_lt,
 ghost use Rattle.std.specs.List.{list_any};
 ghost use Rattle.nqs_state.specs.State.{content};
 ghost use Rattle.nqs_rules.specs.Find.{has_queue};
-ghost use Rattle.nqs_rules.specs.Fits.{is_offered_hand, is_committed_hand, is_next, is_open_number, is_new_stage, is_idle, may_hop, row_passes, hand_passes, are_offered, device_fits, edit_fits, is_unknown, offer_full, fits};
+ghost use Rattle.nqs_rules.specs.Fits.{is_offered_hand, is_committed_hand, is_next, is_open_number, is_new_stage, is_idle, may_hop, row_passes, hand_passes};
+ghost use Rattle.nqs_rules.specs.Fits.{are_offered, device_fits, edit_fits, is_unknown, offer_full, fits};
 ghost use Rattle.nqs_rules.specs.Tests.{passes, is_ready, last_seq};
 ghost use Rattle.nqs_rules.specs.Find.{find_peer, held_count, has_promise};
 ghost use Rattle.nqs_rules.specs.Routing.{is_hand_to};
@@ -148,7 +149,8 @@ fn is_full(state: &HostState) -> bool
     MOST_HELD <= state.rows.len() + state.promises.len()
 }
 
-// Whether the host would have too many with one more of this peer, in place of an older promise to it.
+// Whether the host would have too many with one more of this peer, in place of an older promise to
+// it.
 fn offer_full(state: &HostState, peer: HostId) -> bool
     requires { held_count (content state.now) ≤ 10000 }
     ensures { result ≡ offer_full peer (content state.now) }
@@ -161,7 +163,8 @@ fn offer_full(state: &HostState, peer: HostId) -> bool
 
 fn submission_fits(state: &HostState, queue: &Name) -> bool
     requires { held_count (content state.now) ≤ 10000 }
-    ensures { result ≡ (has_queue queue.now (content state.now) && not (is_host_full (content state.now)) && nat_lt state.now.seq last_seq && not (arrivals_used (content state.now))) }
+    ensures { result ≡ (has_queue queue.now (content state.now) && not (is_host_full (content state.now)) && nat_lt state.now.seq last_seq
+        && not (arrivals_used (content state.now))) }
 {
     state.queues.has(queue) && !is_full(state) && state.seq < LAST_SEQ && !arrivals_used(state)
 }
@@ -176,12 +179,14 @@ fn device_fits(state: &HostState, device: &Option<Name>) -> bool
 }
 
 fn opening_fits(state: &HostState, peer: HostId, number: u64, id: &RequestId) -> bool
-    ensures { result ≡ (row_passes may_hop id.now (content state.now) && passes (is_next number) (find_peer peer (content state.now)) && not (list_any (is_hand_to peer) state.now.hands.items)) }
+    ensures { result ≡ (row_passes may_hop id.now (content state.now) && passes (is_next number) (find_peer peer (content state.now))
+        && not (list_any (is_hand_to peer) state.now.hands.items)) }
 {
     row_may_hop(state, id) && is_next(state, peer, number) && !has_hand_to(state, peer)
 }
 
-// Whether the request isn't known here: it is no row, and of this host only if its number was given.
+// Whether the request isn't known here: it is no row, and of this host only if its number was
+// given.
 fn is_unknown(state: &HostState, id: &RequestId) -> bool
     ensures { result ≡ is_unknown id.now (content state.now) }
 {
@@ -190,8 +195,10 @@ fn is_unknown(state: &HostState, id: &RequestId) -> bool
 
 fn promise_fits(state: &HostState, peer: HostId, number: u64, queue: &Name, id: &RequestId) -> bool
     requires { held_count (content state.now) ≤ 10000 }
-    ensures { result ≡ (has_queue queue.now (content state.now) && passes (is_open_number number) (find_peer peer (content state.now)) && not (has_promise peer number (content state.now))
-        && is_site_host id.now.host (content state.now) && is_unknown id.now (content state.now) && not (offer_full peer (content state.now)) && not (arrivals_used (content state.now))) }
+    ensures { result ≡ (has_queue queue.now (content state.now) && passes (is_open_number number) (find_peer peer (content state.now))
+        && not (has_promise peer number (content state.now))
+        && is_site_host id.now.host (content state.now) && is_unknown id.now (content state.now) && not (offer_full peer (content state.now))
+        && not (arrivals_used (content state.now))) }
 {
     state.queues.has(queue)
         && is_open_number(state, peer, number)

@@ -6,7 +6,8 @@ use Rattle.nqs_journal.specs.Text.{header, records}
 use Rattle.nqs_journal.specs.Opened.{IsOpen}
 
 -- behind a front with its record the payload is told
-pub one_told : (h : History) (payload : List ℕ) → length payload ≤ 65536 → IsOpen h (header ++ records (payload ∷ [])) (length (header ++ records (payload ∷ []))) []
+pub one_told : (h : History) (payload : List ℕ) → length payload ≤ 65536 → IsOpen h (header ++ records (payload ∷ []))
+    (length (header ++ records (payload ∷ []))) []
     → IsOpen h header (length (header ++ records (payload ∷ []))) (payload ∷ [])
 one_told h payload short opened = record {
   stands = record {

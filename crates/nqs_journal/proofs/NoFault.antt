@@ -15,7 +15,8 @@ slice_get_front (x ∷ xs) ys (suc i) lt = slice_get_front xs ys i (omega (arith
 abbrev IsBadEnd : List ℕ → Type 0
 IsBadEnd rest = (rest ≡ []) ⊎ ((more : List ℕ) × (rest ≡ 1 ∷ more) × IsNoFrame more)
 
-not_both : (ps qs : List (List ℕ)) (gate : ℕ) (x rest : List ℕ) → AllByRecursion IsShort ps → AllByRecursion IsShort qs → gate ≢ 1 → records ps ++ gate ∷ x ≡ records qs ++ rest → IsBadEnd rest → ⊥
+not_both : (ps qs : List (List ℕ)) (gate : ℕ) (x rest : List ℕ) → AllByRecursion IsShort ps → AllByRecursion IsShort qs → gate ≢ 1
+    → records ps ++ gate ∷ x ≡ records qs ++ rest → IsBadEnd rest → ⊥
 not_both [] [] gate x rest short_p short_q shut same (inl none) = let no : ⊥ = cc in no
 not_both [] [] gate x rest short_p short_q shut same (inr wide) = let e : gate ≡ 1 = cc (same, wide.1) in shut e
 not_both [] (q ∷ qs) gate x rest short_p short_q shut same bad = let e : gate ≡ 1 = cc in shut e
@@ -25,7 +26,8 @@ not_both (p ∷ ps) [] gate x rest short_p short_q shut same (inr wide) =
     wide.2 p (records ps ++ gate ∷ x) short_p.0 (behind ∙ append_assoc (frame p) (records ps) (gate ∷ x))
 not_both (p ∷ ps) (q ∷ qs) gate x rest short_p short_q shut same bad =
     let behind : frame p ++ records ps ++ gate ∷ x ≡ frame q ++ records qs ++ rest = cc in
-    let both = frame_cancel p q (records ps ++ gate ∷ x) (records qs ++ rest) short_p.0 short_q.0 (sym (append_assoc (frame p) (records ps) (gate ∷ x)) ∙ behind ∙ append_assoc (frame q) (records qs) rest) in
+    let both = frame_cancel p q (records ps ++ gate ∷ x) (records qs ++ rest) short_p.0 short_q.0
+    (sym (append_assoc (frame p) (records ps) (gate ∷ x)) ∙ behind ∙ append_assoc (frame q) (records qs) rest) in
     not_both ps qs gate x rest short_p.1 short_q.1 shut both.1 bad
 
 pub no_fault : (bytes : List ℕ) (payloads : List (List ℕ)) (place : ℕ) → StandsFor bytes payloads → IsFaultAt bytes place → ⊥
@@ -34,5 +36,6 @@ no_fault bytes payloads place is (inl leaves) =
     leaves.differs (ap (λ l. slice_get l place) text ∙ slice_get_front header (records payloads ++ is.gate ∷ is.rest) place leaves.within)
 no_fault bytes payloads place is (inr leaves) =
     let same = append_cancel_left header (records payloads ++ is.gate ∷ is.rest) (records leaves.payloads ++ leaves.rest)
-    (sym (append_assoc header (records payloads) (is.gate ∷ is.rest)) ∙ sym is.text ∙ leaves.text ∙ append_assoc header (records leaves.payloads) leaves.rest) in
+    (sym (append_assoc header (records payloads) (is.gate ∷ is.rest)) ∙ sym is.text ∙ leaves.text
+    ∙ append_assoc header (records leaves.payloads) leaves.rest) in
     not_both payloads leaves.payloads is.gate is.rest leaves.rest is.short leaves.short is.closed same leaves.bad

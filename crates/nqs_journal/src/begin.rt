@@ -3,7 +3,8 @@ ghost use Rattle.std.specs.Prelude.{◌≡◌, ◌⊎◌, ◌+◌, ◌<◌, ◌�
 ghost use Rattle.nqs_outside.specs.Causes.{Rose};
 ghost use Rattle.nqs_outside.specs.History.{Call, content, extended, StopsShort};
 ghost use Rattle.nqs_journal.specs.Text.{header, records, frame, snapshot_front};
-ghost use Rattle.nqs_journal.specs.Plan.{begin_calls};
+ghost use Rattle.nqs_journal.specs.Plan.{begin_calls, front_calls};
+ghost use Rattle.nqs_values.specs.Want.{want};
 ghost use Rattle.nqs_journal.specs.Opened.{IsOpen};
 ghost use Rattle.nqs_journal.specs.Faults.{MatchBegin};
 
@@ -32,11 +33,14 @@ pub(crate) fn write_begin<D: Disk>(disk: &mut D, text: &[u8]) -> Result<(), Fail
     ensures made { IsTrue D.tells → OnOk result (D.history disk.new ≡ extended (D.history disk.old) (begin_calls text.now)) }
     ensures broken { IsTrue D.tells → OnErr result ((calls : List Call) × (D.history disk.new ≡ extended (D.history disk.old) calls)
         × StopsShort (begin_calls text.now) calls) }
-    ensures open { IsTrue D.tells → OnOk result ((front : List ℕ) → text.now ≡ front ++ 0 ∷ [] → IsOpen (D.history disk.new) front (length front) []) }
+    ensures open { IsTrue D.tells → OnOk result (
+        (front : List ℕ) → text.now ≡ front ++ 0 ∷ [] → IsOpen (D.history disk.new) front (length front) []) }
     ensures length { IsTrue D.tells → OnOk result (length text.now ≤ length (content (D.history disk.new))) }
     ensures fuse { IsTrue D.tells → (i : ℕ) → D.fails disk.new i ≡ D.fails disk.old i }
     ensures later { D.faults disk.old ≤ D.faults disk.new }
     ensures failed { OnErr result (Rose (D.faults disk.old) (D.faults disk.new)) }
+    // Only where the disk is starved, or a call was to fail.
+    ensures cause { IsTrue D.tells → OnErr result (IsTrue (D.starved disk.new) ⊎ (i : ℕ) × IsTrue (D.fails disk.old i)) }
 {
     disk.write_at(0, text)?;
     disk.sync()?;
@@ -60,19 +64,25 @@ fn one_payload_text(alloc: Global, payload: &[u8]) -> Result<Vec<u8>, AllocError
     Ok(text)
 }
 
-/// Makes a disk the journal of one payload, of at most 65,536 bytes, whatever stood there. `Memory` comes before the first call.
+/// Makes a disk the journal of one payload, of at most 65,536 bytes, whatever stood there. `Memory`
+/// comes before the first call.
 pub fn format_with<D: Disk>(alloc: Global, disk: &mut D, payload: &[u8]) -> Result<(), JournalFault>
     requires { length payload.now ≤ 65536 }
-    ensures made { IsTrue D.tells → OnOk result (D.history disk.new ≡ extended (D.history disk.old) (begin_calls (header ++ records (payload.now ∷ []) ++ 0 ∷ []))) }
-    ensures broken { IsTrue D.tells → IfErr result (λ fault. MatchBegin fault (D.history disk.old) (D.history disk.new) (begin_calls (header ++ records (payload.now ∷ []) ++ 0 ∷ []))) }
-    ensures formatted { IsTrue D.tells → OnOk result (IsOpen (D.history disk.new) header (length (header ++ records (payload.now ∷ []))) (payload.now ∷ [])) }
-    ensures only { IfErr result (λ fault. (fault ≡ JournalFault.Disk) ⊎ (fault ≡ JournalFault.Memory)) }
+    ensures made { IsTrue D.tells → OnOk result (D.history disk.new ≡ extended (D.history disk.old) (front_calls (header ++ records (payload.now ∷ [])))) }
+    ensures broken { IsTrue D.tells → IfErr result (λ fault. MatchBegin fault (D.history disk.old) (D.history disk.new)
+        (front_calls (header ++ records (payload.now ∷ [])))) }
+    ensures formatted { IsTrue D.tells → OnOk result (
+        IsOpen (D.history disk.new) header (length (header ++ records (payload.now ∷ []))) (payload.now ∷ [])) }
+    ensures only { IfErr result (λ fault. (fault ≡ JournalFault.Disk) ⊎ (fault ≡ JournalFault.Memory want)) }
     ensures disk { IsErrOf result JournalFault.Disk → Rose (D.faults disk.old) (D.faults disk.new) }
+    // Only where the disk is starved, or a call was to fail.
+    ensures cause { IsTrue D.tells → IsErrOf result JournalFault.Disk → IsTrue (D.starved disk.new) ⊎ (i : ℕ) × IsTrue (D.fails disk.old i) }
     ensures fuse { IsTrue D.tells → (i : ℕ) → D.fails disk.new i ≡ D.fails disk.old i }
     ensures later { D.faults disk.old ≤ D.faults disk.new }
 {
-    let Ok(text) = one_payload_text(alloc, payload) else {
-        return Err(JournalFault::Memory);
+    let text = match one_payload_text(alloc, payload) {
+        Ok(text) => text,
+        Err(refused) => return Err(refused.into()),
     };
     match write_begin(disk, &text) {
         Ok(()) => Ok(()),

@@ -1,12 +1,14 @@
 //! Why a call of a journal failed.
 ghost use Rattle.std.specs.Prelude.{◌≡◌};
 ghost use Rattle.nqs_journal.specs.declared.fault.JournalFault.TheVariants.{Memory};
+ghost use Rattle.nqs_values.specs.Want.{want};
 
+use nqs_values::Memory;
 use std::alloc::{AllocError, AllocFailed};
 use thiserror::Error;
 
 /// Why a call of the journal failed.
-#[derive(Clone, Copy, Debug, PartialEq, Eq, Error)]
+#[derive(Debug, PartialEq, Eq, Error, Drop)]
 pub enum JournalFault {
     /// A call of the disk failed.
     #[error("the disk failed")]
@@ -21,21 +23,21 @@ pub enum JournalFault {
     #[error("the journal is stopped")]
     Stopped,
     #[error("out of memory")]
-    Memory,
+    Memory(Memory),
 }
 
 impl From<AllocError> for JournalFault {
-    ghost from_gives = { λ _ e. e ≡ Memory };
+    ghost from_gives = { λ _ e. e ≡ Memory want };
 
-    fn from(_: AllocError) -> Self {
-        JournalFault::Memory
+    fn from(refused: AllocError) -> Self {
+        JournalFault::Memory(refused.into())
     }
 }
 
 impl<T: Drop> From<AllocFailed<T>> for JournalFault {
-    ghost from_gives = { λ _ e. e ≡ Memory };
+    ghost from_gives = { λ _ e. e ≡ Memory want };
 
-    fn from(_: AllocFailed<T>) -> Self {
-        JournalFault::Memory
+    fn from(refused: AllocFailed<T>) -> Self {
+        JournalFault::Memory(refused.into())
     }
 }

@@ -1,10 +1,11 @@
 //! An open journal: payloads are appended by four calls of its disk, the gate's byte last.
-ghost use Rattle.std.specs.Prelude.{◌≡◌, ◌-◌, max, nat_le, IfOk, IfErr, ◌⊎◌, ◌↔◌, ◌+◌, ◌<◌, ◌≤◌, ◌^◌, ◌++◌, [], ◌∷◌, List, ℕ, IsTrue, IsErrOf, OnOk, OnErr, MatchResult, true, false, length, vec_capacity};
+ghost use Rattle.std.specs.Prelude.{◌≡◌, ◌-◌, max, nat_le, IfOk, IfErr, ◌⊎◌, ◌↔◌, ◌+◌, ◌<◌, ◌≤◌, ◌^◌, ◌++◌, [], ◌∷◌, List, ℕ, IsTrue, IsErrOf, OnOk, OnErr};
+ghost use Rattle.std.specs.Prelude.{MatchResult, true, false, length, vec_capacity};
 ghost use Rattle.nqs_outside.specs.Causes.{Rose};
 ghost use Rattle.nqs_outside.specs.History.{Call, content, IsQuiet, extended, moment, state_at, MayLeave, EachSince, StopsShort, IsExact, IsWhole};
 ghost use Rattle.nqs_journal.specs.Text.{header, records, snapshot_front, StandsAfter, StandsFor};
-ghost use Rattle.nqs_journal.specs.Plan.{append_calls, format_calls, begin_calls};
-ghost use Rattle.nqs_journal.specs.Faults.{IsAppendFault, IsLoadFault, MatchBegin};
+ghost use Rattle.nqs_journal.specs.Plan.{append_calls, format_calls, front_calls};
+ghost use Rattle.nqs_journal.specs.Faults.{IsAppendFault, IsLoadFault, IsReadingFault, MatchBegin};
 ghost use Rattle.nqs_journal.specs.Opened.{IsOpen};
 ghost use Rattle.nqs_journal.specs.Gate.{IsAtGate};
 
@@ -46,7 +47,8 @@ impl<D: Disk> Journal<D> {
         ensures running { OnOk result (is_stopped self.new ≡ false) }
         ensures later { D.faults (disk_of self.old) ≤ D.faults (disk_of self.new) }
 
-        // The calls that it makes: all four, or the first of them, of which only the last may have failed.
+        // The calls that it makes: all four, or the first of them, of which only the last may have
+        // failed.
         ensures made { IsTrue D.tells → OnOk result (history_of self.new ≡ extended (history_of self.old) (append_calls (gate_of self.old) payload.now)) }
         ensures broken { IsTrue D.tells → OnErr result ((calls : List Call) × (history_of self.new ≡ extended (history_of self.old) calls)
             × StopsShort (append_calls (gate_of self.old) payload.now) calls) }
@@ -59,22 +61,27 @@ impl<D: Disk> Journal<D> {
         ensures due { IsTrue D.tells → OnOk result ((i : ℕ) → i < 4 → D.fails (disk_of self.old) (moment (history_of self.old) + i) ≡ false) }
         ensures fuse { IsTrue D.tells → (i : ℕ) → D.fails (disk_of self.new) i ≡ D.fails (disk_of self.old) i }
 
-        // Each image of each moment of the call has the payloads from before it, with the new one or without.
+        // Each image of each moment of the call has the payloads from before it, with the new one
+        // or without.
         ensures any_moment { IsTrue D.tells → (front : List ℕ) (payloads : List (List ℕ)) → Tells self.old front payloads
             → EachSince (moment (history_of self.old)) (history_of self.new) (BeforeOrAfter front payloads payload.now) }
 
         // At Ok it is there.
-        ensures acknowledged { IsTrue D.tells → OnOk result ((front : List ℕ) (payloads : List (List ℕ)) → Tells self.old front payloads → Tells self.new front (payloads ++ payload.now ∷ [])) }
+        ensures acknowledged { IsTrue D.tells → OnOk result ((front : List ℕ) (payloads : List (List ℕ))
+            → Tells self.old front payloads → Tells self.new front (payloads ++ payload.now ∷ [])) }
 
         // Before the third call it isn't.
         ensures until_third { IsTrue D.tells → (front : List ℕ) (payloads : List (List ℕ)) → Tells self.old front payloads
-            → (t : ℕ) (image : List ℕ) → moment (history_of self.old) ≤ t → t ≤ moment (history_of self.old) + 2 → t ≤ moment (history_of self.new)
+            → (t : ℕ) (image : List ℕ) → moment (history_of self.old) ≤ t
+            → t ≤ moment (history_of self.old) + 2 → t ≤ moment (history_of self.new)
             → MayLeave (history_of self.new) t image → StandsAfter front image payloads }
 
         // From the third on, until the fourth is answered Ok, the gate's byte decides.
         ensures at_the_gate { IsTrue D.tells → (front : List ℕ) (payloads : List (List ℕ)) → Tells self.old front payloads
-            → (t : ℕ) → moment (history_of self.old) + 3 ≤ t → t ≤ moment (history_of self.new) → OnOk result (t ≡ moment (history_of self.old) + 3)
-            → IsAtGate (state_at (history_of self.new) t) (gate_of self.old) (λ image. StandsAfter front image payloads) (λ image. StandsAfter front image (payloads ++ payload.now ∷ [])) }
+            → (t : ℕ) → moment (history_of self.old) + 3 ≤ t → t ≤ moment (history_of self.new)
+            → OnOk result (t ≡ moment (history_of self.old) + 3)
+            → IsAtGate (state_at (history_of self.new) t) (gate_of self.old) (λ image. StandsAfter front image payloads)
+            (λ image. StandsAfter front image (payloads ++ payload.now ∷ [])) }
 
         ensures refused { (result ≡ Err JournalFault.TooLong) ⊎ (result ≡ Err JournalFault.Stopped) → self.new ≡ self.old }
     {
@@ -129,30 +136,36 @@ impl<D: Disk> Journal<D> {
         requires { IsTrue D.tells → IsQuiet (D.history disk) }
         ensures tells { IsTrue D.tells → IfOk result (λ journal. (payloads : List (List ℕ)) × Tells journal header payloads
             × (found.new.items ≡ found.old.items ++ payloads)) }
-        ensures small { OnOk result ((payloads : List (List ℕ)) × (found.new.items ≡ found.old.items ++ payloads) × (length (header ++ records payloads) ≤ 2 ^ 40)) }
+        ensures small { OnOk result ((payloads : List (List ℕ)) × (found.new.items ≡ found.old.items ++ payloads)
+            × (length (header ++ records payloads) ≤ 2 ^ 40)) }
         ensures same { IsTrue D.tells → IfOk result (λ journal. history_of journal ≡ D.history disk) }
         ensures running { IfOk result (λ journal. is_stopped journal ≡ false) }
         ensures unchanged { OnErr result (found.new.items ≡ found.old.items) }
         ensures same_err { IsTrue D.tells → IfErr result (λ e. D.history e.1 ≡ D.history disk) }
         ensures fault { IsTrue D.tells → IfErr result (λ e. IsLoadFault (content (D.history disk)) e.0) }
+        ensures only { IfErr result (λ e. IsReadingFault e.0) }
         ensures failed { IfErr result (λ e. e.0 ≡ JournalFault.Disk → Rose (D.faults disk) (D.faults e.1)) }
         // Ok only where no call that was made was to fail, and `Disk` only after one that was.
         ensures whole { IsTrue D.tells → OnOk result (IsWhole (D.fails disk) (moment (D.history disk))) }
-        ensures cause { IsTrue D.tells → IfErr result (λ e. e.0 ≡ JournalFault.Disk → (i : ℕ) × (i < moment (D.history disk)) × IsTrue (D.fails disk i)) }
-        ensures fuse { IsTrue D.tells → (i : ℕ) → MatchResult result (λ journal. D.fails (disk_of journal) i ≡ D.fails disk i) (λ e. D.fails e.1 i ≡ D.fails disk i) }
-        ensures starved { IsTrue D.tells → MatchResult result (λ journal. D.starved (disk_of journal) ≡ D.starved disk) (λ e. D.starved e.1 ≡ D.starved disk) }
+        ensures cause { IsTrue D.tells → IfErr result (λ e. e.0 ≡ JournalFault.Disk
+            → (i : ℕ) × (i < moment (D.history disk)) × IsTrue (D.fails disk i)) }
+        ensures fuse { IsTrue D.tells → (i : ℕ) → MatchResult result (λ journal. D.fails (disk_of journal) i ≡ D.fails disk i)
+            (λ e. D.fails e.1 i ≡ D.fails disk i) }
+        ensures starved { IsTrue D.tells → MatchResult result (λ journal. D.starved (disk_of journal) ≡ D.starved disk)
+            (λ e. D.starved e.1 ≡ D.starved disk) }
         ensures later { MatchResult result (λ journal. D.faults disk ≤ D.faults (disk_of journal)) (λ e. D.faults disk ≤ D.faults e.1) }
     {
         let mut disk = disk;
-        let Ok(buffer) = Vec::with_capacity(alloc, ROOM) else {
-            return Err((JournalFault::Memory, disk));
+        let buffer = match Vec::with_capacity(alloc, ROOM) {
+            Ok(buffer) => buffer,
+            Err(refused) => return Err((refused.into(), disk)),
         };
         let mut reading = match read_journal(alloc, &mut disk) {
             Ok(reading) => reading,
             Err(fault) => return Err((fault, disk)),
         };
-        if found.append(&mut reading.payloads).is_err() {
-            return Err((JournalFault::Memory, disk));
+        if let Err(refused) = found.append(&mut reading.payloads) {
+            return Err((refused.into(), disk));
         }
         Ok(Journal {
             disk,
@@ -166,17 +179,19 @@ impl<D: Disk> Journal<D> {
     pub fn begin(alloc: Global, disk: D, snapshot: &[u8]) -> Result<Journal<D>, (JournalFault, D)>
         requires { length snapshot.now < 2 ^ 40 }
         ensures tells { IsTrue D.tells → IfOk result (λ journal. Tells journal (snapshot_front snapshot.now) []) }
-        ensures made { IsTrue D.tells → IfOk result (λ journal. history_of journal ≡ extended (D.history disk) (begin_calls (snapshot_front snapshot.now ++ 0 ∷ []))) }
-        ensures broken { IsTrue D.tells → IfErr result (λ e. MatchBegin e.0 (D.history disk) (D.history e.1) (begin_calls (snapshot_front snapshot.now ++ 0 ∷ []))) }
+        ensures made { IsTrue D.tells → IfOk result (λ journal. history_of journal ≡ extended (D.history disk) (front_calls (snapshot_front snapshot.now))) }
+        ensures broken { IsTrue D.tells → IfErr result (λ e. MatchBegin e.0 (D.history disk) (D.history e.1) (front_calls (snapshot_front snapshot.now))) }
         ensures failed { IfErr result (λ e. e.0 ≡ JournalFault.Disk → Rose (D.faults disk) (D.faults e.1)) }
         ensures running { IfOk result (λ journal. is_stopped journal ≡ false) }
     {
         let mut disk = disk;
-        let Ok(buffer) = Vec::with_capacity(alloc, ROOM) else {
-            return Err((JournalFault::Memory, disk));
+        let buffer = match Vec::with_capacity(alloc, ROOM) {
+            Ok(buffer) => buffer,
+            Err(refused) => return Err((refused.into(), disk)),
         };
-        let Ok(text) = snapshot_text(alloc, snapshot) else {
-            return Err((JournalFault::Memory, disk));
+        let text = match snapshot_text(alloc, snapshot) {
+            Ok(text) => text,
+            Err(refused) => return Err((refused.into(), disk)),
         };
         match write_begin(&mut disk, &text) {
             Ok(()) => Ok(Journal {
@@ -202,23 +217,27 @@ impl<D: Disk> Journal<D> {
         disk
     }
 
-    /// Adds the payloads that a read of the disk finds now, whatever the journal told before. It writes nothing, and
-    /// the journal stays as it is. `NotJournal` tells the first byte at fault; an `Err` adds nothing.
+    /// Adds the payloads that a read of the disk finds now, whatever the journal told before. It
+    /// writes nothing, and the journal stays as it is. `NotJournal` tells the first byte at fault;
+    /// an `Err` adds nothing.
     pub fn reread(&mut self, alloc: Global, found: &mut Vec<Bytes>) -> Result<(), JournalFault>
         ensures stands { IsTrue D.tells → OnOk result ((payloads : List (List ℕ)) × StandsFor (content (history_of self.old)) payloads
             × (found.new.items ≡ found.old.items ++ payloads)) }
         ensures found { IsTrue D.tells → OnOk result ((payloads : List (List ℕ)) → Tells self.old header payloads
             → found.new.items ≡ found.old.items ++ payloads) }
-        ensures small { OnOk result ((payloads : List (List ℕ)) × (found.new.items ≡ found.old.items ++ payloads) × (length (header ++ records payloads) ≤ 2 ^ 40)) }
+        ensures small { OnOk result ((payloads : List (List ℕ)) × (found.new.items ≡ found.old.items ++ payloads)
+            × (length (header ++ records payloads) ≤ 2 ^ 40)) }
         ensures unchanged { OnErr result (found.new.items ≡ found.old.items) }
         ensures same { IsTrue D.tells → history_of self.new ≡ history_of self.old }
         ensures tells { IsTrue D.tells → (front : List ℕ) (payloads : List (List ℕ)) → Tells self.old front payloads → Tells self.new front payloads }
         ensures later { D.faults (disk_of self.old) ≤ D.faults (disk_of self.new) }
         ensures fault { IsTrue D.tells → IfErr result (IsLoadFault (content (history_of self.old))) }
+        ensures only { IfErr result IsReadingFault }
         ensures failed { IsErrOf result JournalFault.Disk → Rose (D.faults (disk_of self.old)) (D.faults (disk_of self.new)) }
         // Ok only where no call that was made was to fail, and `Disk` only after one that was.
         ensures whole { IsTrue D.tells → OnOk result (IsWhole (D.fails (disk_of self.old)) (moment (history_of self.old))) }
-        ensures cause { IsTrue D.tells → IsErrOf result JournalFault.Disk → (i : ℕ) × (i < moment (history_of self.old)) × IsTrue (D.fails (disk_of self.old) i) }
+        ensures cause { IsTrue D.tells → IsErrOf result JournalFault.Disk
+            → (i : ℕ) × (i < moment (history_of self.old)) × IsTrue (D.fails (disk_of self.old) i) }
         ensures fuse { IsTrue D.tells → (i : ℕ) → D.fails (disk_of self.new) i ≡ D.fails (disk_of self.old) i }
         ensures starved { IsTrue D.tells → D.starved (disk_of self.new) ≡ D.starved (disk_of self.old) }
         ensures stays { (gate_of self.new ≡ gate_of self.old) × (is_stopped self.new ≡ is_stopped self.old) }
@@ -230,15 +249,16 @@ impl<D: Disk> Journal<D> {
 impl<D: Fused> Journal<D> {
     ghost use Rattle.nqs_journal.specs.Open.{disk_of, gate_of, is_stopped, history_of};
 
-    /// Makes the calls-th write or sync from here of the disk fail, and each later call. Where one that was to fail was
-    /// made already, nothing changes.
+    /// Makes the calls-th write or sync from here of the disk fail, and each later call. Where one
+    /// that was to fail was made already, nothing changes.
     pub fn fuse(&mut self, calls: u64)
         ensures same { D.history (disk_of self.new) ≡ D.history (disk_of self.old) }
         ensures set { IsTrue D.tells → ((i : ℕ) → i < moment (history_of self.old) → D.fails (disk_of self.old) i ≡ false)
             → (i : ℕ) → D.fails (disk_of self.new) i ≡ nat_le (moment (history_of self.old) + (max calls 1 - 1)) i }
         ensures stays { IsTrue D.tells → (i : ℕ) → i < moment (history_of self.old) → IsTrue (D.fails (disk_of self.old) i)
             → (j : ℕ) → D.fails (disk_of self.new) j ≡ D.fails (disk_of self.old) j }
-        ensures onward { IsTrue D.tells → (i : ℕ) → IsTrue (D.fails (disk_of self.new) i) → (j : ℕ) → i ≤ j → IsTrue (D.fails (disk_of self.new) j) }
+        ensures onward { IsTrue D.tells → (i : ℕ) → IsTrue (D.fails (disk_of self.new) i)
+            → (j : ℕ) → i ≤ j → IsTrue (D.fails (disk_of self.new) j) }
         ensures starved { D.starved (disk_of self.new) ≡ D.starved (disk_of self.old) }
         ensures gate { gate_of self.new ≡ gate_of self.old }
         ensures stopped { is_stopped self.new ≡ is_stopped self.old }

@@ -3,7 +3,7 @@ ghost use Rattle.std.specs.Prelude.{[], ◌≡◌, ◌+◌, ◌<◌, ◌≤◌, 
 ghost use Rattle.nqs_outside.specs.Causes.{Rose};
 ghost use Rattle.nqs_outside.specs.History.{content, moment, IsWhole};
 ghost use Rattle.nqs_journal.specs.Text.{header, records, StandsFor};
-ghost use Rattle.nqs_journal.specs.Faults.{IsLoadFault};
+ghost use Rattle.nqs_journal.specs.Faults.{IsLoadFault, IsReadingFault};
 
 use crate::JournalFault;
 use crate::read::{Reading, read_text};
@@ -50,6 +50,7 @@ pub(crate) fn read_journal<D: Disk>(alloc: Global, disk: &mut D) -> Result<Readi
     ensures same { IsTrue D.tells → D.history disk.new ≡ D.history disk.old }
     ensures later { D.faults disk.old ≤ D.faults disk.new }
     ensures fault { IsTrue D.tells → IfErr result (IsLoadFault (content (D.history disk.old))) }
+    ensures only { IfErr result IsReadingFault }
     ensures failed { IsErrOf result JournalFault.Disk → Rose (D.faults disk.old) (D.faults disk.new) }
     // Ok only where no call that was made was to fail, and `Disk` only after one that was.
     ensures whole { IsTrue D.tells → OnOk result (IsWhole (D.fails disk.old) (moment (D.history disk.old))) }
@@ -69,11 +70,13 @@ pub fn read_payloads<D: Disk>(
 ) -> Result<(), JournalFault>
     ensures found { IsTrue D.tells → OnOk result ((payloads : List (List ℕ)) × StandsFor (content (D.history disk.old)) payloads
         × (found.new.items ≡ found.old.items ++ payloads)) }
-    ensures small { OnOk result ((payloads : List (List ℕ)) × (found.new.items ≡ found.old.items ++ payloads) × (length (header ++ records payloads) ≤ 2 ^ 40)) }
+    ensures small { OnOk result ((payloads : List (List ℕ)) × (found.new.items ≡ found.old.items ++ payloads)
+        × (length (header ++ records payloads) ≤ 2 ^ 40)) }
     ensures unchanged { OnErr result (found.new.items ≡ found.old.items) }
     ensures same { IsTrue D.tells → D.history disk.new ≡ D.history disk.old }
     ensures later { D.faults disk.old ≤ D.faults disk.new }
     ensures fault { IsTrue D.tells → IfErr result (IsLoadFault (content (D.history disk.old))) }
+    ensures only { IfErr result IsReadingFault }
     ensures failed { IsErrOf result JournalFault.Disk → Rose (D.faults disk.old) (D.faults disk.new) }
     // Ok only where no call that was made was to fail, and `Disk` only after one that was.
     ensures whole { IsTrue D.tells → OnOk result (IsWhole (D.fails disk.old) (moment (D.history disk.old))) }

@@ -1,5 +1,6 @@
 //! What the bytes of a journal stand for.
-ghost use Rattle.std.specs.Prelude.{◌≡◌, ◌⊎◌, ◌+◌, ◌<◌, ◌≤◌, ◌++◌, ℕ, List, length, take, drop, slice_get, ◌≢◌, IfSome, IfNone, IfOk, IfErr, OnErr, MatchOption};
+ghost use Rattle.std.specs.Prelude.{◌≡◌, ◌⊎◌, ◌+◌, ◌<◌, ◌≤◌, ◌++◌, ℕ, List, length, take, drop, slice_get, ◌≢◌, IfSome, IfNone, IfOk, IfErr, OnErr};
+ghost use Rattle.std.specs.Prelude.{MatchOption};
 ghost use Rattle.nqs_journal.specs.Text.{header, frame, records, IsNoFrame, LeavesHeader, IsFaultAt, StandsFor};
 ghost use Rattle.nqs_journal.specs.Faults.{IsReadFault};
 

@@ -15,7 +15,8 @@ pub(crate) fn write_behind<D: Disk>(disk: &mut D, gate: u64, text: &[u8]) -> Res
     ensures made { IsTrue D.tells → OnOk result (D.history disk.new ≡ extended (D.history disk.old) (behind_gate gate text.now)) }
     ensures broken { IsTrue D.tells → OnErr result ((calls : List Call) × (D.history disk.new ≡ extended (D.history disk.old) calls)
         × StopsShort (behind_gate gate text.now) calls) }
-    ensures exact { IsTrue D.tells → IsExact (D.fails disk.old) (D.starved disk.old) (D.starved disk.new) (D.history disk.old) (D.history disk.new) (behind_gate gate text.now) }
+    ensures exact { IsTrue D.tells → IsExact (D.fails disk.old) (D.starved disk.old) (D.starved disk.new)
+        (D.history disk.old) (D.history disk.new) (behind_gate gate text.now) }
     // None of them was to fail.
     ensures due { IsTrue D.tells → OnOk result ((i : ℕ) → i < 4 → D.fails disk.old (moment (D.history disk.old) + i) ≡ false) }
     ensures fuse { IsTrue D.tells → (i : ℕ) → D.fails disk.new i ≡ D.fails disk.old i }

@@ -37,7 +37,8 @@ module _ (host : Host) where
   abbrev extent_of : Living → Extent
   extent_of l = l.extent
 
-  module _ {A B : Type 0} (part : A → Extent) (lift : (a : A) → Has (live host) (part a) → B) (back : B → A) (same : (a : A) (h : Has (live host) (part a)) → back (lift a h) ≡ a) where
+  module _ {A B : Type 0} (part : A → Extent) (lift : (a : A) → Has (live host) (part a) → B) (back : B → A)
+      (same : (a : A) (h : Has (live host) (part a)) → back (lift a h) ≡ a) where
     -- each part that lives carries that
     abbrev lifted : (parts : List A) → ((x : Extent) → Has (map part parts) x → Has (live host) x) → List B
     lifted [] inside = []
@@ -51,10 +52,12 @@ module _ (host : Host) where
   in_rows x h = has_left (map row_part host.rows) (map promise_part host.promises ++ output_parts host) x h
 
   in_promises : (x : Extent) → Has (map promise_part host.promises) x → Has (live host) x
-  in_promises x h = has_right (map row_part host.rows) (map promise_part host.promises ++ output_parts host) x (has_left (map promise_part host.promises) (output_parts host) x h)
+  in_promises x h = has_right (map row_part host.rows) (map promise_part host.promises ++ output_parts host) x
+      (has_left (map promise_part host.promises) (output_parts host) x h)
 
   in_outputs : (x : Extent) → Has (output_parts host) x → Has (live host) x
-  in_outputs x h = has_right (map row_part host.rows) (map promise_part host.promises ++ output_parts host) x (has_right (map promise_part host.promises) (output_parts host) x h)
+  in_outputs x h = has_right (map row_part host.rows) (map promise_part host.promises ++ output_parts host) x
+      (has_right (map promise_part host.promises) (output_parts host) x h)
 
   in_stages : (x : Extent) → Has (map stage_part host.stages) x → Has (live host) x
   in_stages x h = in_outputs x (has_left (map stage_part host.stages) (map file_part host.files) x h)
@@ -124,7 +127,8 @@ module _ (host : Host) where
 
   -- a start's outputs
   pub start_reads : (now : ℕ) → IfSome (start now host) (λ x. AreLive host x.outputs)
-  start_reads now = subst (λ o. IfSome o (λ x. AreLive host x.outputs)) (sym (start-map extent_of now living) ∙ ap (start now) living_is) (by (start now living))
+  start_reads now = subst (λ o. IfSome o (λ x. AreLive host x.outputs)) (sym (start-map extent_of now living) ∙ ap (start now) living_is)
+      (by (start now living))
     where
       by : (o : Option (Stepped Living)) → IfSome (option_map (map_stepped extent_of) o) (λ x. AreLive host x.outputs)
       by None = tt

@@ -1,5 +1,6 @@
 -- What a step or a start makes is modest: what it stores is short, and it takes few offers back.
-use Rattle.std.proofs.Common.{◌≡◌, ℕ, ◌+◌, ◌≤◌, Bool, true, false, nat_le, List, [], ◌∷◌, ◌++◌, map, filter, length, slice_get, Option, None, Some, option_map, Result, Ok, Err, refl, arith, length-append, if◌then◌else◌}
+use Rattle.std.proofs.Common.{◌≡◌, ℕ, ◌+◌, ◌≤◌, Bool, true, false, nat_le, List, [], ◌∷◌, ◌++◌, map, filter, length, slice_get, Option, None, Some, option_map}
+use Rattle.std.proofs.Common.{Result, Ok, Err, refl, arith, length-append, if◌then◌else◌}
 use Rattle.std.proofs.lemmas.Bool.{and_parts, leb-true, le-leb}
 use Rattle.std.proofs.lemmas.List.{length-map}
 use Rattle.std.specs.List.{AllByRecursion, list_any}
@@ -23,7 +24,9 @@ use Rattle.nqs_types.specs.declared.refusal.Refusal.{Refusal}
 use Rattle.nqs_types.specs.declared.rule.Choice.{Choice}
 use Rattle.nqs_types.specs.declared.rule.Choice.TheVariants.{Launch, Print, TooFar, Local, Hand as HandTo}
 use Rattle.nqs_types.specs.declared.change.Change.{Change}
-use Rattle.nqs_types.specs.declared.change.Change.TheVariants.{Site, Submitted, Deleted, Doomed, Started, Ended, Unlaunched, Boot, Edited, HandOpened, HandCommitted, HandRefused, HandsSilent, HandDone, Promised, Accepted, Dropped, MovedLocal, RefusedLocal, HeldFar, StageGot, StageGone, FileGone}
+use Rattle.nqs_types.specs.declared.change.Change.TheVariants.{Site, Submitted, Deleted, Doomed, Started, Ended, Unlaunched, Boot, Edited, HandOpened}
+use Rattle.nqs_types.specs.declared.change.Change.TheVariants.{HandCommitted, HandRefused, HandsSilent, HandDone, Promised, Accepted, Dropped, MovedLocal}
+use Rattle.nqs_types.specs.declared.change.Change.TheVariants.{RefusedLocal, HeldFar, StageGot, StageGone, FileGone}
 use Rattle.nqs_types.specs.declared.message.Body.{Body}
 use Rattle.nqs_types.specs.declared.message.Body.TheVariants as body
 use Rattle.nqs_types.specs.declared.event.Command.{Command}
@@ -41,10 +44,12 @@ use Rattle.nqs_rules.specs.Fits.{edit_causes}
 use Rattle.nqs_rules.specs.Sane.{is_of_site, is_asked_job, is_short_script, is_short_output, is_sane_carried, is_sane_command, is_sane_body, is_sane_event}
 use Rattle.nqs_rules.specs.InOrder.{IsInOrder}
 use Rattle.nqs_rules.specs.Stepped.{Stepped, map_change, part_bytes, puts_of}
-use Rattle.nqs_rules.specs.Handover.{closes, was_given, is_silent, silence, silent_hands, offer_causes, offer_by, on_offer, ready_phase, ready_with, on_ready, refused_phase, refused_with, on_refused, done_phase, done_with, on_done, opened_with, open_hand}
+use Rattle.nqs_rules.specs.Handover.{closes, was_given, is_silent, silence, silent_hands, offer_causes, offer_by, on_offer, ready_phase, ready_with, on_ready}
+use Rattle.nqs_rules.specs.Handover.{refused_phase, refused_with, on_refused, done_phase, done_with, on_done, opened_with, open_hand}
 use Rattle.nqs_rules.specs.Stage.{Part, part_to, parts_of, has_left, numbered, first_number, is_got, on_end, on_stage}
 use Rattle.nqs_rules.specs.Start.{launching, printing, holding, moving_by, moving, local_causes, with_row, device_at, dest_at, started, start_by, start}
-use Rattle.nqs_rules.specs.Step.{Asker, unless_refused, submit_to, on_submit, delete_meant, stat_causes, on_allowed, on_message, is_start, ended_by, unlaunched_by, ticked, step}
+use Rattle.nqs_rules.specs.Step.{Asker, unless_refused, submit_to, on_submit, delete_meant, stat_causes, on_allowed, on_message, is_start, ended_by}
+use Rattle.nqs_rules.specs.Step.{unlaunched_by, ticked, step}
 use Rattle.nqs_rules.proofs.Chains.{each}
 use Rattle.nqs_rules.proofs.Sublists.{filter_part, part_length}
 use Rattle.nqs_store.specs.Puts.{IsShortPut}
@@ -79,7 +84,8 @@ parts_short j output error one other = by j.join
   where
     by : (b : Bool) → AreShort (if b then part_to j.out (output ++ error) else part_to j.out output ++ part_to j.err error)
     by true = part_short j.out (output ++ error) (let both = length-append output error in omega (arith, both, one, other))
-    by false = all_short (part_to j.out output) (part_to j.err error) (part_short j.out output (omega (arith, one))) (part_short j.err error (omega (arith, other)))
+    by false = all_short (part_to j.out output) (part_to j.err error) (part_short j.out output (omega (arith, one)))
+        (part_short j.err error (omega (arith, other)))
 
 module _ {E : Type 0} where
   -- one of two
@@ -93,7 +99,8 @@ module _ {E : Type 0} where
 
 module _ {E : Type 0} (s : State E) (h : IsInOrder s) where
   submit_modest : (a : Asker) (sub : Submission) → is_short_script sub.script ≡ true → Modest (on_submit a sub s).change
-  submit_modest a sub short = unless a (first_refusal (submit_causes sub s)) (submit_to a sub s (queue_meant sub.queue s.default_queue)) (to (queue_meant sub.queue s.default_queue))
+  submit_modest a sub short = unless a (first_refusal (submit_causes sub s)) (submit_to a sub s (queue_meant sub.queue s.default_queue))
+      (to (queue_meant sub.queue s.default_queue))
     where
       to : (o : Option (List ℕ)) → Modest (submit_to a sub s o).change
       to None = (tt, tt)
@@ -118,14 +125,17 @@ module _ {E : Type 0} (s : State E) (h : IsInOrder s) where
   allowed_modest now a user (command.Submit sub) sane = submit_modest a sub (and_parts (is_asked_job sub.job) (is_short_script sub.script) sane).1
   allowed_modest now a user (command.Edit e) sane = unless a (first_refusal (edit_causes e s)) _ (tt, refl)
   allowed_modest now a user (command.Stat owner queues) sane = unless a (first_refusal (stat_causes queues s)) _ (tt, tt)
-  allowed_modest now a user (command.Delete id forced) sane = unless a (first_refusal (delete_causes user id forced s)) (delete_meant a id (meant_row id s)) (delete_modest a id (meant_row id s))
+  allowed_modest now a user (command.Delete id forced) sane = unless a (first_refusal (delete_causes user id forced s)) (delete_meant a id (meant_row id s))
+      (delete_modest a id (meant_row id s))
   allowed_modest now a user command.Tick sane = tick_modest now
   allowed_modest now a user c sane = (tt, tt)
 
   -- messages
 
-  offer_modest : (peer : HostId) (n : ℕ) (queue : List ℕ) (c : Carried) (script : List ℕ) → length script ≤ 32768 → Modest (on_offer peer n queue c script s).change
-  offer_modest peer n queue c script short = choice (closes n (find_peer peer s)) _ _ (tt, tt) (choice (has_promise peer n s) _ _ (tt, tt) (by (first_refusal (offer_causes peer queue c s))))
+  offer_modest : (peer : HostId) (n : ℕ) (queue : List ℕ) (c : Carried) (script : List ℕ) → length script ≤ 32768
+      → Modest (on_offer peer n queue c script s).change
+  offer_modest peer n queue c script short = choice (closes n (find_peer peer s)) _ _ (tt, tt)
+      (choice (has_promise peer n s) _ _ (tt, tt) (by (first_refusal (offer_causes peer queue c s))))
     where
       by : (o : Result (Unit {0}) Refusal) → Modest (offer_by o peer n queue c script s).change
       by (Err e) = (tt, tt)
@@ -165,7 +175,8 @@ module _ {E : Type 0} (s : State E) (h : IsInOrder s) where
       of (Some x) = by x.phase
 
   stage_modest : (peer : HostId) (n : ℕ) (path bytes : List ℕ) → length bytes ≤ 32768 → Modest (on_stage peer n path bytes s).change
-  stage_modest peer n path bytes short = choice (passes (is_got n) (find_peer peer s)) _ _ (tt, tt) (choice (has_left s.file_next 0) _ _ ((short, tt), refl) ((omega arith, tt), refl))
+  stage_modest peer n path bytes short = choice (passes (is_got n) (find_peer peer s)) _ _ (tt, tt)
+      (choice (has_left s.file_next 0) _ _ ((short, tt), refl) ((omega arith, tt), refl))
 
   message_modest : (peer : HostId) (b : Body) → is_sane_body (length s.site) b ≡ true → Modest (on_message peer b s).change
   message_modest peer (body.Offer n queue c script) sane =
@@ -177,16 +188,22 @@ module _ {E : Type 0} (s : State E) (h : IsInOrder s) where
   message_modest peer (body.Done n) sane = done_modest peer n
   message_modest peer (body.Inquire n) sane = ready_modest peer n
   message_modest peer (body.Abort n) sane = choice {E = E} (has_promise peer n s) _ _ (tt, refl) (tt, tt)
-  message_modest peer (body.Stage n path bytes) sane = stage_modest peer n path bytes (leb-true (length bytes) 32768 (each (nat_le 1 n) (is_path path ∷ is_short_script bytes ∷ []) sane).1.1.0)
+  message_modest peer (body.Stage n path bytes) sane = stage_modest peer n path bytes
+      (leb-true (length bytes) 32768 (each (nat_le 1 n) (is_path path ∷ is_short_script bytes ∷ []) sane).1.1.0)
   message_modest peer (body.Staged n) sane = choice (has_stage peer n s) _ _ (tt, refl) (tt, tt)
   message_modest peer b sane = (tt, tt)
 
   -- ends of jobs
 
-  ended_modest : (o : Option (Row E)) (start status : ℕ) (output error : List ℕ) → length output ≤ 16384 → length error ≤ 16384 → Modest (ended_by o start status output error s).change
+  ended_modest : (o : Option (Row E)) (start status : ℕ) (output error : List ℕ) → length output ≤ 16384 → length error ≤ 16384
+      → Modest (ended_by o start status output error s).change
   ended_modest None start status output error one other = (tt, tt)
   ended_modest (Some r) start status output error one other =
-      choice (is_start start r) (on_end status r output error s) _ (numbered_short (first_number s r.id) 0 (parts_of r.job output error) (parts_short r.job output error one other), refl) (tt, tt)
+      choice (is_start start r) (on_end status r output error s) _ (
+        numbered_short (first_number s r.id) 0 (parts_of r.job output error)
+            (parts_short r.job output error one other),
+        refl,
+      ) (tt, tt)
 
   unlaunched_modest : (o : Option (Row E)) (id : RequestId) (start : ℕ) → Modest (unlaunched_by o id start).change
   unlaunched_modest None id start = (tt, tt)
@@ -196,7 +213,8 @@ module _ {E : Type 0} (s : State E) (h : IsInOrder s) where
   step_modest (event.Ask now port token user c) sane =
       let a : Asker = record { port = port; token = token } in
       unless a (may_command (rank user s) c) (on_allowed now a user c s) (allowed_modest now a user c sane)
-  step_modest (event.Arrived now m) sane = message_modest m.from m.body (and_parts (is_of_site (length s.site) m.from) (is_sane_body (length s.site) m.body) sane).1
+  step_modest (event.Arrived now m) sane = message_modest m.from m.body (and_parts (is_of_site (length s.site) m.from)
+      (is_sane_body (length s.site) m.body) sane).1
   step_modest (event.Ended now port id start status output error) sane =
       let k = and_parts (is_short_output output) (is_short_output error) sane in
       ended_modest (find_row id s) start status output error (leb-true (length output) 16384 k.0) (leb-true (length error) 16384 k.1)
@@ -238,10 +256,13 @@ module _ {E : Type 0} (s : State E) where
 
   started_modest : (c : Choice) (now : ℕ) → IsModest (started c now s)
   started_modest (Launch row) now = row_modest row (λ r. Some (launching r s)) (λ r. (tt, refl))
-  started_modest (Print row device) now = row_modest row (λ r. option_map (λ d. printing d r s) (device_at device r s)) (λ r. one_modest (λ d. printing d r s) (λ d. (tt, refl)) (device_at device r s))
+  started_modest (Print row device) now = row_modest row (λ r. option_map (λ d. printing d r s) (device_at device r s))
+      (λ r. one_modest (λ d. printing d r s) (λ d. (tt, refl)) (device_at device r s))
   started_modest (TooFar row) now = row_modest row (λ r. Some (holding r)) (λ r. (tt, refl))
-  started_modest (Local row dest) now = row_modest row (λ r. option_map (λ d. moving d s r) (dest_at dest r s)) (λ r. one_modest (λ d. moving d s r) (moving_modest r) (dest_at dest r s))
-  started_modest (HandTo row dest) now = row_modest row (λ r. option_map (λ d. open_hand d now s r) (dest_at dest r s)) (λ r. one_modest (λ d. open_hand d now s r) (hand_modest now r) (dest_at dest r s))
+  started_modest (Local row dest) now = row_modest row (λ r. option_map (λ d. moving d s r) (dest_at dest r s))
+      (λ r. one_modest (λ d. moving d s r) (moving_modest r) (dest_at dest r s))
+  started_modest (HandTo row dest) now = row_modest row (λ r. option_map (λ d. open_hand d now s r) (dest_at dest r s))
+      (λ r. one_modest (λ d. open_hand d now s r) (hand_modest now r) (dest_at dest r s))
 
   pub start_modest : (now : ℕ) → IsModest (start now s)
   start_modest now = by (pick now s)
@@ -251,7 +272,8 @@ module _ {E : Type 0} (s : State E) where
       by (Some c) = started_modest c now
 
 -- what a modest start is made of
-pub both_of : {E : Type 0} (o : Option (Stepped E)) → IfSome o (λ x. Modest x.change) → IfSome o (λ x. AllByRecursion IsShortPut (puts_of x.change)) × IfSome o (λ x. IfSome x.change (λ c. takes_back_few c ≡ true))
+pub both_of : {E : Type 0} (o : Option (Stepped E)) → IfSome o (λ x. Modest x.change)
+    → IfSome o (λ x. AllByRecursion IsShortPut (puts_of x.change)) × IfSome o (λ x. IfSome x.change (λ c. takes_back_few c ≡ true))
 both_of None h = (tt, tt)
 both_of (Some x) h = h
 

@@ -1,5 +1,6 @@
 -- What of a change that fits a host in order stands in a record since it is found there: hosts and requests. And paths.
-use Rattle.std.proofs.Common.{◌≡◌, ℕ, zero, suc, ◌<◌, Bool, true, not, ◌==◌, nat_le, nat_lt, IsTrue, List, [], ◌∷◌, map, find, length, slice_index, Option, None, Some, is_ok, true≢false, refl, sym, subst, arith}
+use Rattle.std.proofs.Common.{◌≡◌, ℕ, zero, suc, ◌<◌, Bool, true, not, ◌==◌, nat_le, nat_lt, IsTrue, List, [], ◌∷◌, map, find, length, slice_index, Option}
+use Rattle.std.proofs.Common.{None, Some, is_ok, true≢false, refl, sym, subst, arith}
 use Rattle.std.proofs.lemmas.Bool.{and_parts, and_from, leb-true, le-leb, ltb-true, lt-ltb, not-true}
 use Rattle.std.specs.List.{list_all, AllByRecursion}
 use Rattle.nqs_types.specs.Ids.{id_exact, peer_number_eq, peer_number_exact, hand_key, promise_key, stage_key}
@@ -57,11 +58,19 @@ allowed_below (b ∷ bs) all first (suc i) less = seen_at (b ∷ bs) all (suc i)
 pub path_stands : (p : List ℕ) → is_path p ≡ true → IsPath p
 path_stands p h =
     let k = each (nat_le 1 (length p)) (nat_le (length p) 255 ∷ list_all is_visible p ∷ not (begins_with_slash p) ∷ not (has_parent p) ∷ []) h in
-    record { some = leb-true 1 (length p) k.0; few = leb-true (length p) 255 k.1.0; allowed = allowed_below p k.1.1.0 k.1.1.1.0; below = not-true (has_parent p) k.1.1.1.1.0 }
+    record {
+      some = leb-true 1 (length p) k.0;
+      few = leb-true (length p) 255 k.1.0;
+      allowed = allowed_below p k.1.1.0 k.1.1.1.0;
+      below =
+          not-true (has_parent p) k.1.1.1.1.0;
+    }
 
-pub parts_stand : (parts : List (OutPart Extent)) → list_all has_path parts ≡ true → AllByRecursion IsExtent (map part_bytes parts) → AllByRecursion IsPart parts
+pub parts_stand : (parts : List (OutPart Extent)) → list_all has_path parts ≡ true → AllByRecursion IsExtent (map part_bytes parts)
+    → AllByRecursion IsPart parts
 parts_stand [] paths extents = tt
-parts_stand (p ∷ ps) paths extents = let k = and_parts (is_path p.path) (list_all has_path ps) paths in ((path_stands p.path k.0, extents.0), parts_stand ps k.1 extents.1)
+parts_stand (p ∷ ps) paths extents = let k = and_parts (is_path p.path) (list_all has_path ps) paths in
+    ((path_stands p.path k.0, extents.0), parts_stand ps k.1 extents.1)
 
 module _ {E : Type 0} (s : State E) (h : IsInOrder s) where
   -- hosts
@@ -76,7 +85,8 @@ module _ {E : Type 0} (s : State E) (h : IsInOrder s) where
   peer_host test peer known = lt-ltb peer.0 16 (known_below s h test peer known)
 
   -- the host of what is found by a host's number
-  keyed_host : {V : Type 0} (key : V → PeerNumber) (right : V → Bool) → ((v : V) → right v ≡ true → IsHost (key v).peer) → (vs : List V) → list_all right vs ≡ true → (k : PeerNumber) (test : V → Bool) → passes test (find (has_key peer_number_eq key k) vs) ≡ true → IsHost k.peer
+  keyed_host : {V : Type 0} (key : V → PeerNumber) (right : V → Bool) → ((v : V) → right v ≡ true → IsHost (key v).peer) → (vs : List V)
+      → list_all right vs ≡ true → (k : PeerNumber) (test : V → Bool) → passes test (find (has_key peer_number_eq key k) vs) ≡ true → IsHost k.peer
   keyed_host key right known vs all k test found = by (find (has_key peer_number_eq key k) vs) refl found
     where
       by : (o : Option _) → find (has_key peer_number_eq key k) vs ≡ o → passes test o ≡ true → IsHost k.peer
@@ -86,16 +96,19 @@ module _ {E : Type 0} (s : State E) (h : IsInOrder s) where
           subst (λ n. IsHost n.peer) (sym same) (known v (list_all-found right (has_key peer_number_eq key k) vs v all e))
 
   pub hand_host : (test : Hand → Bool) (peer : HostId) (number : ℕ) → hand_passes test peer number s ≡ true → IsHost peer
-  hand_host test peer number = keyed_host hand_key (is_hand_right s) (λ x k. peer_host (is_hand_given x.number) x.peer (hand_is s x k).given) s.hands h.hands (peer_number peer number) test
+  hand_host test peer number = keyed_host hand_key (is_hand_right s) (λ x k. peer_host (is_hand_given x.number) x.peer (hand_is s x k).given) s.hands h.hands
+      (peer_number peer number) test
 
   pub promise_host : (peer : HostId) (number : ℕ) → has_promise peer number s ≡ true → IsHost peer
   promise_host peer number there =
-      keyed_host promise_key (is_promise_right s) (λ p k. peer_host (is_promise_open p.number) p.peer (promise_is s p k).opens) s.promises h.promises (peer_number peer number) (λ _. true)
+      keyed_host promise_key (is_promise_right s) (λ p k. peer_host (is_promise_open p.number) p.peer (promise_is s p k).opens) s.promises h.promises
+      (peer_number peer number) (λ _. true)
       (found_any (is_promise (peer_number peer number)) s.promises there)
 
   pub stage_host : (peer : HostId) (number : ℕ) → has_stage peer number s ≡ true → IsHost peer
   stage_host peer number there =
-      keyed_host stage_key (is_stage_right s) (λ t k. peer_host (is_stage_given t.number) t.peer (and_parts (is_path t.path) (passes (is_stage_given t.number) (find_peer t.peer s)) k).1) s.stages h.stages (peer_number peer number) (λ _. true)
+      keyed_host stage_key (is_stage_right s) (λ t k. peer_host (is_stage_given t.number) t.peer
+      (and_parts (is_path t.path) (passes (is_stage_given t.number) (find_peer t.peer s)) k).1) s.stages h.stages (peer_number peer number) (λ _. true)
       (found_any (is_stage (peer_number peer number)) s.stages there)
 
   pub hands_are : (ks : List PeerNumber) → are_offered ks s ≡ true → AllByRecursion HasNumber ks → AllByRecursion IsHand ks

@@ -26,8 +26,9 @@ use crate::values::{
 use nqs_state::HostState;
 use nqs_types::Change;
 
-/// A change that fits a host in order, and is within its limits, may stand in a record. It reads the change's values, whose
-/// types say that names are names and that numbers fit, and does nothing else.
+/// A change that fits a host in order, and is within its limits, may stand in a record. It reads
+/// the change's values, whose types say that names are names and that numbers fit, and does nothing
+/// else.
 pub fn fitting_changes_may_stand(state: &HostState, change: &Change)
     requires order { IsInOrder (content state.now) }
     requires fits { IsTrue (fits change.now (content state.now)) }
@@ -95,14 +96,16 @@ pub fn fitting_changes_may_stand(state: &HostState, change: &Change)
 
 /// A step or a start takes few enough offers back for its record.
 pub fn few_offers_are_taken_back()
-    ensures step { (e : Event) (s : State Extent) → IsInOrder s → IsTrue (is_sane_event (length s.site) e) → IfSome (step e s).change (λ c. IsTrue (takes_back_few c)) }
+    ensures step { (e : Event) (s : State Extent) → IsInOrder s → IsTrue (is_sane_event (length s.site) e)
+        → IfSome (step e s).change (λ c. IsTrue (takes_back_few c)) }
     ensures start { (now : ℕ) (s : State Extent) → IsInOrder s → IfSome (start now s) (λ x. IfSome x.change (λ c. IsTrue (takes_back_few c))) }
     ensures mapped { (f : List ℕ → Extent) (c : Change (List ℕ)) → takes_back_few (map_change f c) ≡ takes_back_few c }
 {}
 
 /// What is stored for a step or a start is short enough for the spool.
 pub fn stored_bytes_are_short()
-    ensures step { (e : Event) (s : State Extent) → IsInOrder s → IsTrue (is_sane_event (length s.site) e) → AllByRecursion IsShortPut (puts_of (step e s).change) }
+    ensures step { (e : Event) (s : State Extent) → IsInOrder s → IsTrue (is_sane_event (length s.site) e)
+        → AllByRecursion IsShortPut (puts_of (step e s).change) }
     ensures start { (now : ℕ) (s : State Extent) → IsInOrder s → IfSome (start now s) (λ x. AllByRecursion IsShortPut (puts_of x.change)) }
 {}
 

@@ -1,4 +1,5 @@
-//! What steps make can be kept, and what they say can be read: laws of steps and starts for the store.
+//! What steps make can be kept, and what they say can be read: laws of steps and starts for the
+//! store.
 #![tactic(auto)]
 
 mod edits;

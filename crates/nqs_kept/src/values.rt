@@ -1,4 +1,5 @@
-//! What its type says of each value of a change: names are names, and numbers fit. It reads the values and does nothing else.
+//! What its type says of each value of a change: names are names, and numbers fit. It reads the
+//! values and does nothing else.
 
 ghost use Rattle.std.specs.Prelude.{IsTrue};
 ghost use Rattle.std.specs.List.{AllByRecursion};

@@ -1,4 +1,6 @@
-use Rattle.std.proofs.Common.{◌≡◌, ℕ, ◌+◌, Bool, true, false, cond, not, filter, Contains, List, [], ◌∷◌, ◌++◌, map, length, position, find, Option, None, Some, nat_lt, slice_get, slice_set, remove, take, drop, refl, sym, ap, subst, ◌∙◌, zero, suc, is_some, if◌then◌else◌, true≢false, ◌||◌, ◌&&◌, Bor, arith}
+use Rattle.std.proofs.Common.{◌≡◌, ℕ, ◌+◌, Bool, true, false, cond, not, filter, Contains, List, [], ◌∷◌, ◌++◌, map, length, position, find, Option, None, Some}
+use Rattle.std.proofs.Common.{nat_lt, slice_get, slice_set, remove, take, drop, refl, sym, ap, subst, ◌∙◌, zero, suc, is_some, if◌then◌else◌, true≢false, ◌||◌}
+use Rattle.std.proofs.Common.{◌&&◌, Bor, arith}
 use Rattle.std.proofs.lemmas.Option.{same_Some, none-some}
 use Rattle.indexmap.specs.IndexMap.{shift_remove_entry}
 use Rattle.indexmap.proofs.MapLemmas.{Found-position}
@@ -75,7 +77,8 @@ module _ {V : Type 0} (test : V → Bool) (g : V → V) where
   change_at [] v h = refl
   change_at (x ∷ xs) v h = by (change_at xs v) (test x) h
     where
-      by : (slice_get xs (position_or_len test xs) ≡ Some v → slice_set xs (position_or_len test xs) (g v) ≡ change_first test g xs) → (b : Bool) → slice_get (x ∷ xs) (cond (not b) (1 + position_or_len test xs) 0) ≡ Some v
+      by : (slice_get xs (position_or_len test xs) ≡ Some v → slice_set xs (position_or_len test xs) (g v) ≡ change_first test g xs) → (b : Bool)
+          → slice_get (x ∷ xs) (cond (not b) (1 + position_or_len test xs) 0) ≡ Some v
           → slice_set (x ∷ xs) (cond (not b) (1 + position_or_len test xs) 0) (g v) ≡ (if b then g x ∷ xs else x ∷ change_first test g xs)
       by _ true h = ap (λ y. g y ∷ xs) (sym (same_Some x v h))
       by rest false h =
@@ -88,13 +91,15 @@ module _ {V : Type 0} (test : V → Bool) (g : V → V) where
   change_first-none [] h = refl
   change_first-none (x ∷ xs) h = by (change_first-none xs) (test x) h
     where
-      by : (find test xs ≡ None → change_first test g xs ≡ xs) → (b : Bool) → cond b (Some x) (find test xs) ≡ None → (if b then g x ∷ xs else x ∷ change_first test g xs) ≡ x ∷ xs
+      by : (find test xs ≡ None → change_first test g xs ≡ xs) → (b : Bool) → cond b (Some x) (find test xs) ≡ None
+          → (if b then g x ∷ xs else x ∷ change_first test g xs) ≡ x ∷ xs
       by _ true h = cc
       by rest false h = ap (λ l. x ∷ l) (rest h)
 
 module _ {K V : Type 0} (eq : K → K → Bool) (key : V → K) (k : K) (g : V → V) where
   -- a write at the place of the key is a change of the first value of that key
-  pub values-changed : (es : List (K × V)) (i : ℕ) (v w : V) → IsKeyed key es → position (eq k) (keys_of es) ≡ Some i → slice_get (values_of es) i ≡ Some v → w ≡ g v
+  pub values-changed : (es : List (K × V)) (i : ℕ) (v w : V) → IsKeyed key es → position (eq k) (keys_of es) ≡ Some i → slice_get (values_of es) i ≡ Some v
+      → w ≡ g v
       → values_of (set_value_at es i w) ≡ change_first (has_key eq key k) g (values_of es)
   values-changed es i v w keyed at there is =
       let at' : position_or_len (has_key eq key k) (values_of es) ≡ i =
@@ -111,7 +116,8 @@ module _ {K V : Type 0} (eq : K → K → Bool) (key : V → K) (k : K) where
       let rest : IsKeyed key es = cc in
       by (eq k e.0) (eq k (key e.1)) (ap (eq k) head) (values-removed es rest)
     where
-      by : (b c : Bool) → b ≡ c → values_of (shift_remove_entry (eq k) es) ≡ without_first (has_key eq key k) (values_of es) → values_of (cond b es (e ∷ shift_remove_entry (eq k) es)) ≡ (if c then values_of es else e.1 ∷ without_first (has_key eq key k) (values_of es))
+      by : (b c : Bool) → b ≡ c → values_of (shift_remove_entry (eq k) es) ≡ without_first (has_key eq key k) (values_of es)
+          → values_of (cond b es (e ∷ shift_remove_entry (eq k) es)) ≡ (if c then values_of es else e.1 ∷ without_first (has_key eq key k) (values_of es))
       by true true same rest = refl
       by true false same rest = absurd (true≢false same)
       by false true same rest = absurd (true≢false (sym same))
@@ -153,7 +159,8 @@ module _ {K V F : Type 0} (key : V → K) (T : F → K → V → Bool → V → 
       by true head tail is = subst (IsKeyed key) (sym is) (λ j. head j ∷ tail j)
       by false head tail is = subst (IsKeyed key) (sym is) tail
 
-  pub values-retained : (h : V → Option V) (f f0 : F) → f0 ≡ f → (es kept : List (K × V)) → ((k : K) (v w : V) (b : Bool) (t : F) → Contains (values_of es) v → T f k v b w t → (h v ≡ (if b then Some w else None)) × (t ≡ f))
+  pub values-retained : (h : V → Option V) (f f0 : F) → f0 ≡ f → (es kept : List (K × V))
+      → ((k : K) (v w : V) (b : Bool) (t : F) → Contains (values_of es) v → T f k v b w t → (h v ≡ (if b then Some w else None)) × (t ≡ f))
       → RetainsPairs T f0 es kept → values_of kept ≡ filter_map h (values_of es)
   values-retained h f f0 same_f [] kept says r = ap values_of r
   values-retained h f f0 same_f (e ∷ es) kept says (b, w, f', rest, call, later, is) =
@@ -230,8 +237,10 @@ counted_one n now rest all one step before is m m_is = omega arith
 pub counted_none : (n now rest all one : ℕ) → now ≡ one + rest → n + now ≡ all → one ≡ 0 → (m : ℕ) → m ≡ n → m + rest ≡ all
 counted_none n now rest all one step before is m m_is = omega arith
 
-pub list_all-drop : {V : Type 0} (p : V → Bool) (vs : List V) (i : ℕ) (v : V) → slice_get vs i ≡ Some v → list_all p (drop i vs) ≡ (p v && list_all p (drop (i + 1) vs))
+pub list_all-drop : {V : Type 0} (p : V → Bool) (vs : List V) (i : ℕ) (v : V) → slice_get vs i ≡ Some v
+    → list_all p (drop i vs) ≡ (p v && list_all p (drop (i + 1) vs))
 list_all-drop p vs i v h = ap (list_all p) (drop-at vs i v h)
 
-pub list_any-drop : {V : Type 0} (p : V → Bool) (vs : List V) (i : ℕ) (v : V) → slice_get vs i ≡ Some v → list_any p (drop i vs) ≡ (p v || list_any p (drop (i + 1) vs))
+pub list_any-drop : {V : Type 0} (p : V → Bool) (vs : List V) (i : ℕ) (v : V) → slice_get vs i ≡ Some v
+    → list_any p (drop i vs) ≡ (p v || list_any p (drop (i + 1) vs))
 list_any-drop p vs i v h = ap (list_any p) (drop-at vs i v h)

@@ -1,4 +1,5 @@
-//! A value on the heap, in room that was taken before the value came. A move of it is one of an address.
+//! A value on the heap, in room that was taken before the value came. A move of it is one of an
+//! address.
 ghost use Rattle.std.specs.Prelude.{◌≡◌, Option, Some, is_some, true, OnOk, IfOk, length, ◌≤◌};
 ghost use Rattle.std.specs.Fn.{FnOnceReturnsAtMut};
 ghost use Rattle.std.specs.Map.Calls.{CalledAtPair};

@@ -1,6 +1,8 @@
-//! A map in order of creation, each value under its own key. A removal keeps the order of the others.
-//! The values lie in rooms of their own, so a removal moves the addresses and keys of the later ones, and no value.
-ghost use Rattle.std.specs.Prelude.{◌≡◌, ℕ, ◌+◌, ◌-◌, ◌≤◌, ◌<◌, [], ◌∷◌, ◌++◌, length, map, position, find, Some, None, OnOk, OnErr, IsOk, IfSome, Bool, Option, Contains, filter, if◌then◌else◌, slice_get, slice_set, remove, true, false};
+//! A map in order of creation, each value under its own key. A removal keeps the order of the
+//! others. The values lie in rooms of their own, so a removal moves the addresses and keys of the
+//! later ones, and no value.
+ghost use Rattle.std.specs.Prelude.{◌≡◌, ℕ, ◌+◌, ◌-◌, ◌≤◌, ◌<◌, [], ◌∷◌, ◌++◌, length, map, position, find, Some, None, OnOk, OnErr, IsOk, IfSome, Bool};
+ghost use Rattle.std.specs.Prelude.{Option, Contains, filter, if◌then◌else◌, slice_get, slice_set, remove, true, false};
 ghost use Rattle.std.specs.Option.{option_copied, option_map};
 ghost use Rattle.nqs_keyed.specs.Table.{has_key, change_first, without_first, better, best_from};
 ghost use Rattle.std.specs.List.{filter_map, list_all, list_any};
@@ -131,7 +133,8 @@ impl<K: Key, V: Keyed<K> + Drop> Table<K, V> {
     pub fn change<F: FnOnce(&mut V)>(&mut self, key: &K, f: F)
         requires may { F.IsAlwaysCallable f }
         requires keeps { (v w : V) → FnOnceReturnsAtMut F.FnOnce f v tt w → V.key_of w ≡ V.key_of v }
-        ensures changed { (g : V → V) → ((v w : V) → find (has_key K.eq V.key_of key.now) self.old.items ≡ Some v → FnOnceReturnsAtMut F.FnOnce f v tt w → w ≡ g v) → self.new.items ≡ change_first (has_key K.eq V.key_of key.now) g self.old.items }
+        ensures changed { (g : V → V) → ((v w : V) → find (has_key K.eq V.key_of key.now) self.old.items ≡ Some v → FnOnceReturnsAtMut F.FnOnce f v tt w
+            → w ≡ g v) → self.new.items ≡ change_first (has_key K.eq V.key_of key.now) g self.old.items }
         ensures room { self.old.spare ≤ self.new.spare }
     {
         match self.map.get_index_of(key) {
@@ -148,13 +151,17 @@ impl<K: Key, V: Keyed<K> + Drop> Table<K, V> {
         let _gone = self.map.shift_remove(key);
     }
 
-    /// Goes over the values in order: each is changed, and kept where the answer is true. No key changes.
+    /// Goes over the values in order: each is changed, and kept where the answer is true. No key
+    /// changes.
     pub fn revise<F: FnMut(&K, &mut V) -> bool>(&mut self, f: F)
         requires may { (s : _) (x y : _) → F.pre s x y }
         requires keeps { (s t : F) (k : K) (v w : V) (b : Bool) → CalledAtPair F.FnMut s k v b w t → V.key_of w ≡ V.key_of v }
-        ensures revised { (h : V → Option V) → ((k : K) (v w : V) (b : Bool) (t : F) → Contains self.old.items v → CalledAtPair F.FnMut f k v b w t → (h v ≡ (if b then Some w else None)) × (t ≡ f)) → self.new.items ≡ filter_map h self.old.items }
-        ensures mapped { (g : V → V) → ((k : K) (v w : V) (b : Bool) (t : F) → CalledAtPair F.FnMut f k v b w t → (b ≡ true) × (w ≡ g v) × (t ≡ f)) → self.new.items ≡ map g self.old.items }
-        ensures filtered { (p : V → Bool) → ((k : K) (v w : V) (b : Bool) (t : F) → CalledAtPair F.FnMut f k v b w t → (b ≡ p v) × (w ≡ v) × (t ≡ f)) → self.new.items ≡ filter p self.old.items }
+        ensures revised { (h : V → Option V) → ((k : K) (v w : V) (b : Bool) (t : F) → Contains self.old.items v → CalledAtPair F.FnMut f k v b w t
+            → (h v ≡ (if b then Some w else None)) × (t ≡ f)) → self.new.items ≡ filter_map h self.old.items }
+        ensures mapped { (g : V → V) → ((k : K) (v w : V) (b : Bool) (t : F) → CalledAtPair F.FnMut f k v b w t → (b ≡ true) × (w ≡ g v) × (t ≡ f))
+            → self.new.items ≡ map g self.old.items }
+        ensures filtered { (p : V → Bool) → ((k : K) (v w : V) (b : Bool) (t : F) → CalledAtPair F.FnMut f k v b w t → (b ≡ p v) × (w ≡ v) × (t ≡ f))
+            → self.new.items ≡ filter p self.old.items }
         ensures room { self.old.spare ≤ self.new.spare }
     {
         let mut f = f;
@@ -225,7 +232,8 @@ impl<K: Key, V: Keyed<K> + Drop> Table<K, V> {
         }
     }
 
-    /// The best of the values that pass, with its place: none that passes beats it, and of several such it is the first.
+    /// The best of the values that pass, with its place: none that passes beats it, and of several
+    /// such it is the first.
     pub fn best<P: Fn(&V) -> bool, B: Fn(&V, &V) -> bool>(
         &self,
         passes: P,

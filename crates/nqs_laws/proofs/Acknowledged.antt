@@ -1,5 +1,6 @@
 -- An acknowledged request lies somewhere until it is taken out, and what was taken out never comes back.
-use Rattle.std.proofs.Common.{◌≡◌, ℕ, ◌+◌, Bool, true, false, not, ◌&&◌, ◌||◌, List, [], ◌∷◌, ◌++◌, map, length, slice_get, Option, None, Some, is_some, Result, Ok, Err, true≢false, refl, sym, ap, subst, ◌∙◌, arith, if◌then◌else◌}
+use Rattle.std.proofs.Common.{◌≡◌, ℕ, ◌+◌, Bool, true, false, not, ◌&&◌, ◌||◌, List, [], ◌∷◌, ◌++◌, map, length, slice_get, Option, None, Some, is_some, Result}
+use Rattle.std.proofs.Common.{Ok, Err, true≢false, refl, sym, ap, subst, ◌∙◌, arith, if◌then◌else◌}
 use Rattle.std.proofs.lemmas.Bool.{and_parts, and_from, or_left, not-true}
 use Rattle.std.proofs.lemmas.Option.{same_Some, none-some}
 use Rattle.std.proofs.lemmas.List.{append_assoc}
@@ -22,7 +23,7 @@ use Rattle.nqs_types.specs.declared.world.Seen.TheVariants as seen
 use Rattle.nqs_rules.specs.Tests.{is_running}
 use Rattle.nqs_rules.specs.Causes.{first_refusal}
 use Rattle.nqs_rules.specs.Edits.{change_at}
-use Rattle.nqs_rules.specs.Find.{find_row, find_peer}
+use Rattle.nqs_rules.specs.Find.{find_peer}
 use Rattle.nqs_rules.specs.Handover.{opened_with}
 use Rattle.nqs_rules.specs.Applied.{applied, next_id, may_start_again}
 use Rattle.nqs_rules.specs.Net.{Entry, entry_of}
@@ -37,13 +38,12 @@ use Rattle.nqs_laws.specs.History.{Note, Saw, Kept, saws, notes, history}
 use Rattle.nqs_laws.specs.Sane.{AreSane, IsSite}
 use Rattle.nqs_laws.specs.Words.{replayed}
 use Rattle.nqs_laws.specs.Launches.{is_acknowledged, lies, was_taken_out}
-use Rattle.nqs_laws.proofs.Frame.{Moment, put_state, put-same, silent, Way, Taken, Begun, Booted, change_by, why_by, seen_from, kept_of, IsIdle}
+use Rattle.nqs_laws.proofs.Frame.{Moment, put_state, put-same, Way, Taken, Begun, Booted, change_by, why_by, seen_from, kept_of, IsIdle}
 use Rattle.nqs_laws.proofs.Told.{at-value}
 use Rattle.nqs_laws.proofs.RowTests.{PlainRow}
 use Rattle.nqs_laws.proofs.Sent.{is_fine_output, all-true, Begins, Launches, Prints, Holds, Moves, Opens, begins, step_fine}
-use Rattle.nqs_laws.proofs.Sound.{IsSound, Keeps, Suits, sound_frames, event_sane, all_sane, get-here, runs_keep}
-use Rattle.nqs_laws.proofs.After.{Request, submitted_row, row_after}
-use Rattle.nqs_laws.proofs.Found.{first_of_two}
+use Rattle.nqs_laws.proofs.Sound.{IsSound, Keeps, Suits, event_sane, all_sane, get-here, runs_keep}
+use Rattle.nqs_laws.proofs.After.{Request}
 use Rattle.nqs_laws.proofs.Paired.{At}
 use Rattle.nqs_laws.proofs.TabledRuns.{new_net}
 use Rattle.nqs_laws.proofs.Advance.{seq_after}
@@ -52,7 +52,8 @@ use Rattle.nqs_laws.proofs.LicensedRuns.{IsHistory, history_keeps}
 use Rattle.nqs_laws.proofs.Walks.{acknowledged-append, taken-append}
 use Rattle.nqs_laws.proofs.Launched.{seen_by, seen_of_start}
 use Rattle.nqs_laws.proofs.LaunchRuns.{IsGiven, given_kept, never_new, came_from}
-use Rattle.nqs_laws.proofs.LaunchLaws.{entry_here, lies_given}
+use Rattle.nqs_laws.proofs.LaunchLaws.{lies_given}
+use Rattle.nqs_laws.proofs.Numbered.{new_lies}
 
 -- which step acknowledges
 
@@ -72,7 +73,8 @@ submission_is (Some (Submitted queue job script)) k = record { queue = queue; jo
 submission_is (Some c) k = absurd (true≢false (sym k))
 
 module _ (x : Request) (hosts : ℕ) (test : Carried → Bool) (may : RequestId → Bool) (h : HostId) where
-  acknowledged_in : (n : ℕ) (os : List Output) → list_all (is_fine_output hosts test may) os ≡ true → is_acknowledged x (saws (seen_from h n os)) ≡ true → may x ≡ true
+  acknowledged_in : (n : ℕ) (os : List Output) → list_all (is_fine_output hosts test may) os ≡ true → is_acknowledged x (saws (seen_from h n os)) ≡ true
+      → may x ≡ true
   acknowledged_in n [] fine k = absurd (true≢false (sym k))
   acknowledged_in n (o ∷ os) fine k =
       let p = and_parts (is_fine_output hosts test may o) (list_all (is_fine_output hosts test may) os) fine in
@@ -82,7 +84,8 @@ module _ (x : Request) (hosts : ℕ) (test : Carried → Bool) (may : RequestId 
       by id m rest f true e k = ap may (id_exact x id e) ∙ m
       by id m rest f false e k = f k
 
-      of : (o : Output) → is_fine_output hosts test may o ≡ true → (is_acknowledged x (saws (seen_from h (n + length (sent_by o)) os)) ≡ true → may x ≡ true) → is_acknowledged x (saws (seen_from h n (o ∷ os))) ≡ true → may x ≡ true
+      of : (o : Output) → is_fine_output hosts test may o ≡ true → (is_acknowledged x (saws (seen_from h (n + length (sent_by o)) os)) ≡ true → may x ≡ true)
+          → is_acknowledged x (saws (seen_from h n (o ∷ os))) ≡ true → may x ≡ true
       of (out.Reply port token (reply.Submitted id queue)) fine rest k = by id fine (is_acknowledged x (saws (seen_from h (n + 0) os))) rest (id_eq x id) refl k
       of o fine rest k = rest k
 
@@ -91,7 +94,8 @@ boot_says x h n [] = refl
 boot_says x h n (r ∷ rows) = by (is_running r.state) (may_start_again r) (λ k. boot_says x h k rows)
   where
     by : (b c : Bool) → ((k : ℕ) → is_acknowledged x (saws (seen_from h k (filter_map boot_output rows))) ≡ false)
-        → is_acknowledged x (saws (seen_from h n (cons_option (if b then Some (if c then out.Again r.id else out.Lost r.id) else None) (filter_map boot_output rows)))) ≡ false
+        → is_acknowledged x (saws (seen_from h n (cons_option (if b then Some (if c then out.Again r.id else out.Lost r.id) else None)
+        (filter_map boot_output rows)))) ≡ false
     by true true told = told (n + 0)
     by true false told = told (n + 0)
     by false c told = told n
@@ -100,12 +104,14 @@ start_says : (x : Request) (h : HostId) (s : Plain) (n now : ℕ) (y : Stepped (
 start_says x h s n now y (Launches r found is) = subst (λ (y : Stepped (List ℕ)). is_acknowledged x (saws (seen_of_start h n y)) ≡ false) is refl
 start_says x h s n now y (Prints r device found is) = subst (λ (y : Stepped (List ℕ)). is_acknowledged x (saws (seen_of_start h n y)) ≡ false) is refl
 start_says x h s n now y (Holds r found is) = subst (λ (y : Stepped (List ℕ)). is_acknowledged x (saws (seen_of_start h n y)) ≡ false) is refl
-start_says x h s n now y (Moves r dest found is) = subst (λ (y : Stepped (List ℕ)). is_acknowledged x (saws (seen_of_start h n y)) ≡ false) is (by (first_refusal (local_causes dest.queue s r)))
+start_says x h s n now y (Moves r dest found is) = subst (λ (y : Stepped (List ℕ)). is_acknowledged x (saws (seen_of_start h n y)) ≡ false) is
+    (by (first_refusal (local_causes dest.queue s r)))
   where
     by : (o : Result (Unit {0}) Refusal) → is_acknowledged x (saws (seen_of_start h n (moving_by o dest.queue r))) ≡ false
     by (Ok u) = refl
     by (Err refusal) = refl
-start_says x h s n now y (Opens r dest found is) = subst (λ (y : Stepped (List ℕ)). is_acknowledged x (saws (seen_of_start h n y)) ≡ false) is (by (find_peer dest.host s))
+start_says x h s n now y (Opens r dest found is) = subst (λ (y : Stepped (List ℕ)). is_acknowledged x (saws (seen_of_start h n y)) ≡ false) is
+    (by (find_peer dest.host s))
   where
     by : (o : Option Peer) → is_acknowledged x (saws (seen_of_start h n (opened_with o dest now s r))) ≡ false
     by None = refl
@@ -116,16 +122,20 @@ idle_says x (seen.Reply r) idle = absurd idle
 idle_says x y idle = refl
 
 -- an acknowledged request is the one that is just submitted
-way_says : (site : List (List ℕ)) (m : Moment) (k : IsSound site m) (h : HostId) (s : Plain) (there : slice_get m.states h.0 ≡ Some s) (x : Request) (n : ℕ) (way : Way m.packets h s)
+way_says : (site : List (List ℕ)) (m : Moment) (k : IsSound site m) (h : HostId) (s : Plain) (there : slice_get m.states h.0 ≡ Some s) (x : Request) (n : ℕ)
+    (way : Way m.packets h s)
     → is_acknowledged x (saws (seen_by h n way)) ≡ true → Submits (change_by way) × (x ≡ next_id s)
 way_says site m k h s there x n (Taken e comes) said =
     let host = k.hosts h.0 s there in
     let may : RequestId → Bool = λ id. id_eq id (next_id s) && is_submission (step e s).change in
-    let fine = step_fine s host.order (λ c. true) may host.scripts host.outputs (all-true s.rows) e (event_sane m.packets h (length s.site) e (all_sane site m k h s there) comes)
+    let fine = step_fine s host.order (λ c. true) may host.scripts host.outputs (all-true s.rows) e
+    (event_sane m.packets h (length s.site) e (all_sane site m k h s there) comes)
     (λ queue job script is. and_from (id_eq (next_id s) (next_id s)) (is_submission (step e s).change) (same_id (next_id s)) (ap is_submission is)) in
-    let p = and_parts (id_eq x (next_id s)) (is_submission (step e s).change) (acknowledged_in x (length s.site) (λ c. true) may h n (map shown (step e s).outputs) fine said) in
+    let p = and_parts (id_eq x (next_id s)) (is_submission (step e s).change)
+    (acknowledged_in x (length s.site) (λ c. true) may h n (map shown (step e s).outputs) fine said) in
     (submission_is (step e s).change p.1, id_exact x (next_id s) p.0)
-way_says site m k h s there x n (Begun now y begun) said = absurd (true≢false (sym said ∙ start_says x h s n now y (begins s (k.hosts h.0 s there).order now y begun)))
+way_says site m k h s there x n (Begun now y begun) said = absurd (true≢false
+    (sym said ∙ start_says x h s n now y (begins s (k.hosts h.0 s there).order now y begun)))
 way_says site m k h s there x n Booted said = absurd (true≢false (sym said ∙ boot_says x h n s.rows))
 
 -- what was taken out is gone, and its number stays given
@@ -157,12 +167,14 @@ or_false false = refl
 
 module _ (first states : List Plain) (ns : List Note) (k : HasTaken first states ns) where
   same_taken : (x : Request) (xs : List Seen) → was_taken_out x first (ns ++ saws xs) ≡ was_taken_out x first ns
-  same_taken x xs = taken-append x ns (saws xs) first ∙ (ap (λ b. was_taken_out x first ns || b) (sights_take x (replayed ns first) xs) ∙ or_false (was_taken_out x first ns))
+  same_taken x xs = taken-append x ns (saws xs) first ∙ (ap (λ b. was_taken_out x first ns || b) (sights_take x (replayed ns first) xs)
+      ∙ or_false (was_taken_out x first ns))
 
   sights_more : (xs : List Seen) → ((x : Request) → is_acknowledged x (saws xs) ≡ true → IsSaid x first states ns) → HasTaken first states (ns ++ saws xs)
   sights_more xs tells = record {
     gone = λ x t. k.gone x (sym (same_taken x xs) ∙ t);
-    said = λ x t. (let p = by x (is_acknowledged x ns) refl (sym (acknowledged-append x ns (saws xs)) ∙ t) in record { given = p.given; stays = p.stays ∙ ap not (sym (same_taken x xs)) });
+    said = λ x t. (let p = by x (is_acknowledged x ns) refl (sym (acknowledged-append x ns (saws xs)) ∙ t) in
+        record { given = p.given; stays = p.stays ∙ ap not (sym (same_taken x xs)) });
   }
     where
       by : (x : Request) (b : Bool) → is_acknowledged x ns ≡ b → (b || is_acknowledged x (saws xs)) ≡ true → IsSaid x first states ns
@@ -171,7 +183,8 @@ module _ (first states : List Plain) (ns : List Note) (k : HasTaken first states
 
 -- changes
 
-module _ (site : List (List ℕ)) (first : List Plain) (m : Moment) (sound : IsSound site m) (history : IsHistory first m) (k : HasTaken first m.states m.notes) (h : HostId) (s : Plain) (there : At m.states h s) (way : Way m.packets h s) where
+module _ (site : List (List ℕ)) (first : List Plain) (m : Moment) (sound : IsSound site m) (history : IsHistory first m) (k : HasTaken first m.states m.notes)
+    (h : HostId) (s : Plain) (there : At m.states h s) (way : Way m.packets h s) where
   module _ (c : Change (List ℕ)) (is : change_by way ≡ Some c) (suits : Suits s c) where
     abbrev states : List Plain
     states = put_state h (applied c s) m.states
@@ -213,12 +226,17 @@ module _ (site : List (List ℕ)) (first : List Plain) (m : Moment) (sound : IsS
     kept_gone x t = by (was_taken_out x first m.notes) refl t
       where
         by : (b : Bool) → was_taken_out x first m.notes ≡ b → (b || (lies x m.states && not (lies x states))) ≡ true → IsGone x states
-        by true e t = let gone = k.gone x e in record { given = given_kept site first m sound history h s there way c is suits x gone.given; away = not_back x gone }
+        by true e t = let gone = k.gone x e in record {
+          given = given_kept site first m sound history h s there way c is suits x gone.given;
+          away =
+              not_back x gone;
+        }
         by false e t =
             let p = and_parts (lies x m.states) (not (lies x states)) t in
             record { given = given_kept site first m sound history h s there way c is suits x (was_there x p.0); away = not-true (lies x states) p.1 }
 
-    kept_said : (x : Request) → IsSaid x first m.states m.notes → lies x states ≡ not (was_taken_out x first m.notes || (lies x m.states && not (lies x states)))
+    kept_said : (x : Request) → IsSaid x first m.states m.notes → lies x states
+        ≡ not (was_taken_out x first m.notes || (lies x m.states && not (lies x states)))
     kept_said x said = by (was_taken_out x first m.notes) refl said.stays
       where
         stays_or_goes : (b : Bool) → b ≡ not (not b)
@@ -239,7 +257,8 @@ module _ (site : List (List ℕ)) (first : List Plain) (m : Moment) (sound : IsS
     }
 
   -- a submission that was just kept
-  module _ (queue : List ℕ) (job : Job) (script : List ℕ) (is : change_by way ≡ Some (Submitted queue job script)) (suits : Suits s (Submitted queue job script)) where
+  module _ (queue : List ℕ) (job : Job) (script : List ℕ) (is : change_by way ≡ Some (Submitted queue job script))
+      (suits : Suits s (Submitted queue job script)) where
     abbrev submission : Change (List ℕ)
     submission = Submitted queue job script
 
@@ -249,20 +268,11 @@ module _ (site : List (List ℕ)) (first : List Plain) (m : Moment) (sound : IsS
     then_there : At then_states h (applied submission s)
     then_there = get-here h.0 (applied submission s) s m.states there
 
-    one_found : (o : Option PlainRow) → (r : PlainRow) × (first_of_two o (if id_eq (next_id s) (next_id s) then Some (submitted_row queue job script s) else None) ≡ Some r)
-    one_found None = (submitted_row queue job script s, ap (λ (b : Bool). if b then Some (submitted_row queue job script s) else None) (same_id (next_id s)))
-    one_found (Some r) = (r, refl)
-
     me_is : s.me ≡ h
     me_is = λ j. ((sound.hosts h.0 s there).head j).0
 
     lies_now : lies (next_id s) then_states ≡ true
-    lies_now =
-        let r = one_found (find_row (next_id s) s) in
-        let found = row_after (next_id s) submission s (sound.hosts h.0 s there).order suits.fit ∙ r.1 in
-        let then_sound = (sound_frames site).kept m h s there way submission is sound in
-        let then_net = ((history_keeps site first).kept m sound h s there way submission is suits history).net in
-        ap is_some (entry_here site (silent m h s (why_by way) submission) then_sound then_net h (applied submission s) then_there (next_id s) r.0 found)
+    lies_now = new_lies site first m sound history h s there way submission is suits refl
 
     given_now : IsGiven (next_id s) then_states
     given_now u at =
@@ -287,14 +297,16 @@ module _ (site : List (List ℕ)) (first : List Plain) (m : Moment) (sound : IsS
     said_now : (x : Request) → x ≡ next_id s → IsSaid x first then_states (m.notes ++ Kept h (why_by way) submission ∷ [])
     said_now x e = subst (λ y. IsSaid y first then_states (m.notes ++ Kept h (why_by way) submission ∷ [])) (sym e) (record {
       given = given_now;
-      stays = lies_now ∙ ap not (sym (taken_is submission is suits (next_id s) ∙ (λ j. untaken j || (lies (next_id s) m.states && not (lies_now j))) ∙ still (lies (next_id s) m.states)));
+      stays = lies_now ∙ ap not (sym (taken_is submission is suits (next_id s) ∙ (λ j. untaken j || (lies (next_id s) m.states && not (lies_now j)))
+          ∙ still (lies (next_id s) m.states)));
     })
 
   made_more : (n : ℕ) → ((c : Change (List ℕ)) → change_by way ≡ Some c → Suits s c) → (o : Option (Change (List ℕ))) → change_by way ≡ o
       → HasTaken first (put_state h (after_change o s) m.states) (m.notes ++ (kept_of h (why_by way) o ++ saws (seen_by h n way)))
   made_more n suits None is =
       subst (λ states. HasTaken first states (m.notes ++ saws (seen_by h n way))) (sym (put-same h.0 s m.states there))
-      (sights_more first m.states m.notes k (seen_by h n way) (λ x said. (let q = (way_says site m sound h s there x n way said).0 in absurd (none-some _ (sym is ∙ q.is)))))
+      (sights_more first m.states m.notes k (seen_by h n way) (λ x said. (let q = (way_says site m sound h s there x n way said).0 in
+      absurd (none-some _ (sym is ∙ q.is)))))
   made_more n suits (Some c) is =
       subst (HasTaken first (put_state h (applied c s) m.states)) (append_assoc m.notes (Kept h (why_by way) c ∷ []) (saws (seen_by h n way)))
       (sights_more first (put_state h (applied c s) m.states) (m.notes ++ Kept h (why_by way) c ∷ []) (taken_more c is (suits c is)) (seen_by h n way)
@@ -323,7 +335,8 @@ taking_keeps site first = record {
   };
 }
 
-pub run_takes : (site : List (List ℕ)) → IsSite site → (acts : List Act) → AreSane acts → HasTaken (states_of (new_world site)) (states_of (run acts (new_world site)).world) (history acts (new_world site))
+pub run_takes : (site : List (List ℕ)) → IsSite site → (acts : List Act) → AreSane acts
+    → HasTaken (states_of (new_world site)) (states_of (run acts (new_world site)).world) (history acts (new_world site))
 run_takes site few acts sane =
     let first = states_of (new_world site) in
     (runs_keep site (IsTaking first) (taking_keeps site first) few.1 (record {
@@ -335,9 +348,12 @@ run_takes site few acts sane =
 
 history-append : (a b : List Act) (w : World) → history (a ++ b) w ≡ history a w ++ history b (run a w).world
 history-append [] b w = refl
-history-append (x ∷ a) b w = ap (λ l. notes x w ++ l) (history-append a b (happens x w).world) ∙ sym (append_assoc (notes x w) (history a (happens x w).world) (history b (run a (happens x w).world).world))
+history-append (x ∷ a) b w = ap (λ l. notes x w ++ l) (history-append a b (happens x w).world)
+    ∙ sym (append_assoc (notes x w) (history a (happens x w).world) (history b (run a (happens x w).world).world))
 
-pub stays_out : (site : List (List ℕ)) → IsSite site → (acts more : List Act) → AreSane (acts ++ more) → (x : RequestId) → was_taken_out x (states_of (new_world site)) (history acts (new_world site)) ≡ true → lies x (states_of (run (acts ++ more) (new_world site)).world) ≡ false
+pub stays_out : (site : List (List ℕ)) → IsSite site → (acts more : List Act) → AreSane (acts ++ more) → (x : RequestId)
+    → was_taken_out x (states_of (new_world site)) (history acts (new_world site)) ≡ true
+    → lies x (states_of (run (acts ++ more) (new_world site)).world) ≡ false
 stays_out site few acts more sane x out =
     let first = states_of (new_world site) in
     let w = new_world site in

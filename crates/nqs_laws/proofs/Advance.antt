@@ -1,5 +1,6 @@
 -- The table that the hosts tell, after each change.
-use Rattle.std.proofs.Common.{◌≡◌, ℕ, ◌+◌, ◌<◌, ◌≤◌, ◌⊎◌, inl, inr, Bool, true, false, ◌==◌, nat_le, List, [], ◌∷◌, ◌++◌, find, slice_get, Option, None, Some, true≢false, refl, sym, ap, subst, ◌∙◌, arith, if◌then◌else◌}
+use Rattle.std.proofs.Common.{◌≡◌, ℕ, ◌+◌, ◌<◌, ◌≤◌, ◌⊎◌, inl, inr, Bool, true, false, ◌==◌, nat_le, List, [], ◌∷◌, ◌++◌, find, slice_get, Option, None, Some}
+use Rattle.std.proofs.Common.{true≢false, refl, sym, ap, subst, ◌∙◌, arith, if◌then◌else◌}
 use Rattle.std.proofs.lemmas.Bool.{and_parts, leb-true}
 use Rattle.std.proofs.lemmas.Option.{same_Some}
 use Rattle.std.specs.List.{list_all}
@@ -21,7 +22,8 @@ use Rattle.nqs_types.specs.declared.edit.RowsEdit.TheVariants.{AbortQueue, HoldR
 use Rattle.nqs_types.specs.declared.edit.Edit.{Edit}
 use Rattle.nqs_types.specs.declared.edit.Edit.TheVariants.{Conf, Limits as LimitsOf, Access as AccessOf, Devices as DevicesOf, Rows as RowsOf}
 use Rattle.nqs_types.specs.declared.change.Change.{Change}
-use Rattle.nqs_types.specs.declared.change.Change.TheVariants.{Site, Submitted, Deleted, Ended, Edited, HandOpened, HandCommitted, HandRefused, HandsSilent, HandDone, Promised, Accepted, Dropped, StageGot}
+use Rattle.nqs_types.specs.declared.change.Change.TheVariants.{Site, Submitted, Deleted, Ended, Edited, HandOpened, HandCommitted, HandRefused, HandsSilent}
+use Rattle.nqs_types.specs.declared.change.Change.TheVariants.{HandDone, Promised, Accepted, Dropped, StageGot}
 use Rattle.nqs_types.specs.declared.message.Message.{Message}
 use Rattle.nqs_rules.specs.Tests.{same_host}
 use Rattle.nqs_rules.specs.Find.{peer_number, has_row, find_row, find_hand, find_promise, meant_request}
@@ -30,7 +32,8 @@ use Rattle.nqs_rules.specs.Limits.{limits_applied}
 use Rattle.nqs_rules.specs.Devices.{devices_applied}
 use Rattle.nqs_rules.specs.Rows.{change_meant, next_arrival, held_row, released_row, moved_row, with_priority}
 use Rattle.nqs_rules.specs.Edits.{drop_row, change_peer}
-use Rattle.nqs_rules.specs.Applied.{applied, edit_applied, access_applied, next_id, requeued_row, hand_committed, hand_refused, hand_silent, hands_silent, drop_promise, accepted}
+use Rattle.nqs_rules.specs.Applied.{applied, edit_applied, access_applied, next_id, requeued_row, hand_committed, hand_refused, hand_silent, hands_silent}
+use Rattle.nqs_rules.specs.Applied.{drop_promise, accepted}
 use Rattle.nqs_rules.specs.Fits.{fits}
 use Rattle.nqs_rules.specs.InOrder.{IsInOrder, IsConsistent, is_row_right}
 use Rattle.nqs_rules.proofs.Chains.{implied}
@@ -41,6 +44,7 @@ use Rattle.nqs_rules.proofs.PeersOrder.{get-other}
 use Rattle.nqs_rules.proofs.HandoversOrder.{not_committed, still_offered, silent_one}
 use Rattle.nqs_rules.proofs.ConsistentOrder.{silent_calm_one}
 use Rattle.nqs_rules.proofs.OutputsKept.{file_keeps, outputs_keep}
+use Rattle.nqs_laws.specs.Loads.{sent_load}
 use Rattle.nqs_laws.proofs.Frame.{put_state, put-same}
 use Rattle.nqs_laws.proofs.Sound.{get-here}
 use Rattle.nqs_laws.proofs.RowTests.{PlainRow}
@@ -121,10 +125,12 @@ seq_after (Accepted peer number) s fit = of (find_promise peer number s)
     of None = refl
     of (Some p) = by (has_row p.row.id s)
       where
-        by : (z : Bool) → (if z then drop_promise (peer_number peer number) s else record (drop_promise (peer_number peer number) s) { rows = s.rows ++ requeued_row p.row ∷ [] }).seq ≡ s.seq
+        by : (z : Bool) → (if z then drop_promise (peer_number peer number) s else
+            record (drop_promise (peer_number peer number) s) { rows = s.rows ++ requeued_row p.row ∷ [] }).seq ≡ s.seq
         by true = refl
         by false = refl
-seq_after (StageGot peer number path bytes) s fit = file_keeps (λ u. u.seq) (λ u fs n. refl) (λ u ts ps. refl) (record { path = path; bytes = bytes }) (change_peer peer (λ p. record p { stage_got = number }) s)
+seq_after (StageGot peer number path bytes) s fit = file_keeps (λ u. u.seq) (λ u fs n. refl) (λ u ts ps. refl) (record { path = path; bytes = bytes })
+    (change_peer peer (λ p. record p { stage_got = number }) s)
 seq_after c s fit = refl
 
 pub seq_grows : (c : Change (List ℕ)) (s : Plain) → fits c s ≡ true → s.seq ≤ (applied c s).seq
@@ -191,7 +197,7 @@ held_to (Deleted id) s b k = of (find _ s.hands)
     of (Some y) = by _
 held_to (HandOpened peer number id queue since) s b k = by (same_host b peer) (find_row id s)
   where
-    by : (z : Bool) (o : Option PlainRow) → IsHeldMove (if z then offers_by o else Stays)
+    by : (z : Bool) (o : Option PlainRow) → IsHeldMove (if z then offers_by queue o else Stays)
     by true None = tt
     by true (Some r) = tt
     by false o = tt
@@ -211,7 +217,7 @@ held_to c s b k = tt
 held_from : (c : Change (List ℕ)) (a : HostId) → IsInHost c → IsHeldMove (from_move c a)
 held_from (Promised peer number queue c script) a k = by (same_host a peer)
   where
-    by : (z : Bool) → IsHeldMove (if z then Pledges number c else Stays)
+    by : (z : Bool) → IsHeldMove (if z then Pledges number (sent_load queue c script) else Stays)
     by true = tt
     by false = tt
 held_from (Accepted peer number) a k = absurd k
@@ -222,9 +228,11 @@ held_from (Dropped peer number) a k = by (same_host a peer)
     by false = tt
 held_from c a k = tt
 
-module _ (states : List Plain) (packets : List Message) (paired : IsPaired states packets) (h : HostId) (s : Plain) (there : At states h s) (me : s.me ≡ h) (o : IsInOrder s) (calm : IsConsistent s) (table : Table) (told : IsTabled states table) where
+module _ (states : List Plain) (packets : List Message) (paired : IsPaired states packets) (h : HostId) (s : Plain) (there : At states h s) (me : s.me ≡ h)
+    (o : IsInOrder s) (calm : IsConsistent s) (table : Table) (told : IsTabled states table) where
   -- no row of a number that wasn't given
-  fresh_row : (s' : Plain) → IsInOrder s' → s'.me ≡ s.me → ((x : Request) → find_row x s ≡ None → (find_row x s' ≡ None) ⊎ (x ≡ next_id s)) → (x : Request) (u' : Plain) → At (put_state h s' states) x.host u' → u'.seq < x.seq → find_row x s' ≡ None
+  fresh_row : (s' : Plain) → IsInOrder s' → s'.me ≡ s.me → ((x : Request) → find_row x s ≡ None → (find_row x s' ≡ None) ⊎ (x ≡ next_id s))
+      → (x : Request) (u' : Plain) → At (put_state h s' states) x.host u' → u'.seq < x.seq → find_row x s' ≡ None
   fresh_row s' o' me' new x u' at below = by (same_host x.host h) refl
     where
       none : (y : Option PlainRow) → find_row x s' ≡ y → x.host ≡ h → s'.seq < x.seq → y ≡ None
@@ -232,7 +240,8 @@ module _ (states : List Plain) (packets : List Message) (paired : IsPaired state
       none (Some r) e here few =
           let id : x ≡ r.id = id_of x s'.rows r e in
           let given = (row_is s' r (list_all-found (is_row_right s') (is_row x) s'.rows r o'.rows e)).given in
-          let mine : same_host s'.me r.id.host ≡ true = ap (same_host s'.me) (sym (me' ∙ (me ∙ (sym here ∙ ap (λ (i : Request). i.host) id)))) ∙ host_same s'.me in
+          let mine : same_host s'.me r.id.host ≡ true = ap (same_host s'.me) (sym (me' ∙ (me ∙ (sym here ∙ ap (λ (i : Request). i.host) id))))
+          ∙ host_same s'.me in
           let low : r.id.seq ≤ s'.seq = leb-true r.id.seq s'.seq (implied (same_host s'.me r.id.host) (nat_le r.id.seq s'.seq) given mine) in
           let number : x.seq ≡ r.id.seq = ap (λ (i : Request). i.seq) id in
           absurd (omega (arith, low, few, number))
@@ -240,11 +249,13 @@ module _ (states : List Plain) (packets : List Message) (paired : IsPaired state
       by : (c : Bool) → same_host x.host h ≡ c → find_row x s' ≡ None
       by true e =
           let here : x.host ≡ h = host_exact x.host h e in
-          let same : s' ≡ u' = same_Some s' u' (sym (get-here h.0 s' s states there) ∙ (ap (λ (i : HostId). slice_get (put_state h s' states) i.0) (sym here) ∙ at)) in
+          let same : s' ≡ u' = same_Some s' u' (sym (get-here h.0 s' s states there)
+          ∙ (ap (λ (i : HostId). slice_get (put_state h s' states) i.0) (sym here) ∙ at)) in
           let n : s'.seq ≡ u'.seq = ap (λ (v : Plain). v.seq) same in
           none (find_row x s') refl here (omega (arith, n, below))
       by false e =
-          let before : At states x.host u' = sym (get-other h.0 x.host.0 (λ _. s') states (λ same. true≢false (sym (ap (λ n. n == h.0) (sym same) ∙ host_same h) ∙ e))) ∙ at in
+          let before : At states x.host u' = sym (get-other h.0 x.host.0 (λ _. s') states
+          (λ same. true≢false (sym (ap (λ n. n == h.0) (sym same) ∙ host_same h) ∙ e))) ∙ at in
           let nowhere = told.given x u' before below in
           of (new x (told.rows h s there x ∙ ap (row_in h) nowhere))
         where
@@ -253,20 +264,30 @@ module _ (states : List Plain) (packets : List Message) (paired : IsPaired state
           of (inr k) = absurd (true≢false (sym (ap (λ i. same_host i h) (ap (λ (i : Request). i.host) k ∙ me) ∙ host_same h) ∙ e))
 
   -- a row appears only where its request was nowhere
-  row_grows : (s' : Plain) → ((x : Request) → find_row x s ≡ None → (find_row x s' ≡ None) ⊎ (x ≡ next_id s)) → (x : Request) → find_row x s ≡ None → (table x ≡ Nowhere → ⊥) → find_row x s' ≡ None
+  row_grows : (s' : Plain) → ((x : Request) → find_row x s ≡ None → (find_row x s' ≡ None) ⊎ (x ≡ next_id s)) → (x : Request) → find_row x s ≡ None
+      → (table x ≡ Nowhere → ⊥) → find_row x s' ≡ None
   row_grows s' new x none some = of (new x none)
     where
       of : (find_row x s' ≡ None) ⊎ (x ≡ next_id s) → find_row x s' ≡ None
       of (inl k) = k
-      of (inr k) = absurd (some (told.given x s (ap (λ (i : HostId). slice_get states i.0) (ap (λ (i : Request). i.host) k ∙ me) ∙ there) (let n : x.seq ≡ s.seq + 1 = ap (λ (i : Request). i.seq) k in omega (arith, n))))
+      of (inr k) = absurd (some (told.given x s (ap (λ (i : HostId). slice_get states i.0) (ap (λ (i : Request). i.host) k ∙ me) ∙ there)
+          (let n : x.seq ≡ s.seq + 1 = ap (λ (i : Request). i.seq) k in omega (arith, n))))
 
   -- a change in a host
-  pub host_tabled : (c : Change (List ℕ)) → fits c s ≡ true → IsOne c → IsInHost c → IsInOrder (applied c s) → (applied c s).me ≡ s.me → GuardsOf states h s c → IsTabled (put_state h (applied c s) states) (row_table h (applied c s) table)
+  pub host_tabled : (c : Change (List ℕ)) → fits c s ≡ true → IsOne c → IsInHost c → IsInOrder (applied c s) → (applied c s).me ≡ s.me → GuardsOf states h s c
+      → IsTabled (put_state h (applied c s) states) (row_table h (applied c s) table)
   host_tabled c fit one inside o' me' guards =
       let lone = paired.lone h s there in
-      let turn : Turn s (applied c s) (to_move c s) (from_move c) = record { sources = sources s o calm lone c fit one; targets = targets s o c fit one; lone = lone_kept s lone c fit one; side = one_side c s } in
+      let turn : Turn s (applied c s) (to_move c s) (from_move c) = record {
+        sources = sources s o calm lone c fit one;
+        targets = targets s o c fit one;
+        lone =
+            lone_kept s lone c fit one;
+        side = one_side c s;
+      } in
       let new : (x : Request) → find_row x s ≡ None → (find_row x (applied c s) ≡ None) ⊎ (x ≡ next_id s) = λ x none. new_row x none in
-      rows_tabled states packets paired h s (applied c s) there (to_move c s) (from_move c) turn guards table told (seq_grows c s fit) (λ b. held_to c s b inside) (λ a. held_from c a inside) (row_grows (applied c s) new) (fresh_row (applied c s) o' me' new)
+      rows_tabled states packets paired h s (applied c s) there (to_move c s) (from_move c) turn guards table told (seq_grows c s fit)
+      (λ b. held_to c s b inside) (λ a. held_from c a inside) (row_grows (applied c s) new) (fresh_row (applied c s) o' me' new)
     where
       new_row : (x : Request) → find_row x s ≡ None → (find_row x (applied c s) ≡ None) ⊎ (x ≡ next_id s)
       new_row x none = by (grows c s x)
@@ -276,16 +297,21 @@ module _ (states : List Plain) (packets : List Message) (paired : IsPaired state
           by (inr k) = inr (host_new c s x inside k)
 
 -- silent offers that are taken back one after the other
-pub silent_tabled : (until : ℕ) (ks : List PeerNumber) (states : List Plain) (packets : List Message) (h : HostId) (s : Plain) → At states h s → s.me ≡ h → IsInOrder s → IsConsistent s → list_all (λ k. not_committed (find_hand k.peer k.number s)) ks ≡ true → IsPaired states packets
+pub silent_tabled : (until : ℕ) (ks : List PeerNumber) (states : List Plain) (packets : List Message) (h : HostId) (s : Plain) → At states h s → s.me ≡ h
+    → IsInOrder s → IsConsistent s → list_all (λ k. not_committed (find_hand k.peer k.number s)) ks ≡ true → IsPaired states packets
     → (table : Table) → IsTabled states table → IsTabled (put_state h (hands_silent until ks s) states) (row_table h (hands_silent until ks s) table)
 silent_tabled until [] states packets h s there me o calm fit k table told =
-    same_table (put_state h s states) table (row_table h s table) (λ x. sym (ap (λ y. updated h y (table x)) (told.rows h s there x) ∙ updated_same h (table x))) (subst (λ l. IsTabled l table) (sym (put-same h.0 s states there)) told)
+    same_table (put_state h s states) table (row_table h s table) (λ x. sym
+    (ap (λ y. updated h y (table x)) (told.rows h s there x) ∙ updated_same h (table x)))
+    (subst (λ l. IsTabled l table) (sym (put-same h.0 s states there)) told)
 silent_tabled until (n ∷ ks) states packets h s there me o calm fit k table told =
     let p = and_parts (not_committed (find_hand n.peer n.number s)) (list_all (λ l. not_committed (find_hand l.peer l.number s)) ks) fit in
     of (find_hand n.peer n.number s) refl p.0 p.1 (silent_tabled until ks)
   where
     of : (x : Option Hand) → find_hand n.peer n.number s ≡ x → not_committed x ≡ true → list_all (λ l. not_committed (find_hand l.peer l.number s)) ks ≡ true
-        → ((states : List Plain) (packets : List Message) (h : HostId) (s : Plain) → At states h s → s.me ≡ h → IsInOrder s → IsConsistent s → list_all (λ k. not_committed (find_hand k.peer k.number s)) ks ≡ true → IsPaired states packets → (table : Table) → IsTabled states table → IsTabled (put_state h (hands_silent until ks s) states) (row_table h (hands_silent until ks s) table))
+        → ((states : List Plain) (packets : List Message) (h : HostId) (s : Plain) → At states h s → s.me ≡ h → IsInOrder s → IsConsistent s
+        → list_all (λ k. not_committed (find_hand k.peer k.number s)) ks ≡ true → IsPaired states packets → (table : Table) → IsTabled states table
+        → IsTabled (put_state h (hands_silent until ks s) states) (row_table h (hands_silent until ks s) table))
         → IsTabled (put_state h (hands_silent until ks (hand_silent until n x s)) states) (row_table h (hands_silent until ks (hand_silent until n x s)) table)
     of None e opens rest again = again states packets h s there me o calm rest k table told
     of (Some y) e opens rest again =
@@ -294,14 +320,24 @@ silent_tabled until (n ∷ ks) states packets h s there me o calm fit k table to
         let z : Plain = hands_silent until ks u in
         let to : HostId → Move = λ b. if same_host b n.peer then Withdraws else Stays in
         let from : HostId → Move = λ a. Stays in
-        let turn : Turn s u to from = record { sources = silent_source s o calm lone until n y e opens; targets = silent_target s until n y; lone = fewer s lone (is_hand n); side = inl (λ a. refl) } in
+        let turn : Turn s u to from = record {
+          sources = silent_source s o calm lone until n y e opens;
+          targets = silent_target s until n y;
+          lone =
+              fewer s lone (is_hand n);
+          side = inl (λ a. refl);
+        } in
         let guards = silent_guards until states packets h s there o k n y e opens in
-        let new : (x : Request) → find_row x s ≡ None → (find_row x u ≡ None) ⊎ (x ≡ next_id s) = λ x none. inl (silent_found x until n (Some y) s (keys_are s o.keys).rows ∙ gone x none) in
+        let new : (x : Request) → find_row x s ≡ None → (find_row x u ≡ None)
+        ⊎ (x ≡ next_id s) = λ x none. inl (silent_found x until n (Some y) s (keys_are s o.keys).rows ∙ gone x none) in
         let o' = silent_one s o n y e opens until in
-        let first = rows_tabled states packets k h s u there to from turn guards table told (omega arith) (λ b. held (same_host b n.peer)) (λ a. tt) (row_grows states packets k h s there me o calm table told u new) (fresh_row states packets k h s there me o calm table told u o' refl new) in
+        let first = rows_tabled states packets k h s u there to from turn guards table told (omega arith) (λ b. held (same_host b n.peer)) (λ a. tt)
+        (row_grows states packets k h s there me o calm table told u new) (fresh_row states packets k h s there me o calm table told u o' refl new) in
         let rest_told = again (put_state h u states) packets h u (get-here h.0 u s states there) me o' (silent_calm_one s o calm n y e opens until)
-        (list_all-weaker (λ l. not_committed (find_hand l.peer l.number s)) (λ l. not_committed (find (is_hand l) (without_first (is_hand n) s.hands))) (λ l. still_offered s o n l) ks rest) (turn_paired states packets h s u there to from turn guards k) (row_table h u table) first in
-        same_table (put_state h z states) (row_table h z (row_table h u table)) (row_table h z table) (λ x. updated_twice h (find_row x u) (find_row x z) (table x))
+        (list_all-weaker (λ l. not_committed (find_hand l.peer l.number s)) (λ l. not_committed (find (is_hand l) (without_first (is_hand n) s.hands)))
+        (λ l. still_offered s o n l) ks rest) (turn_paired states packets h s u there to from turn guards k) (row_table h u table) first in
+        same_table (put_state h z states) (row_table h z (row_table h u table)) (row_table h z table)
+        (λ x. updated_twice h (find_row x u) (find_row x z) (table x))
         (subst (λ l. IsTabled l (row_table h z (row_table h u table))) (put-twice h.0 z u states) rest_told)
       where
         held : (c : Bool) → IsHeldMove (if c then Withdraws else Stays)

@@ -1,5 +1,6 @@
 -- The row of a request after a change, from the row before it.
-use Rattle.std.proofs.Common.{◌≡◌, ℕ, ◌+◌, Bool, true, false, cond, not, ◌&&◌, ◌||◌, List, [], ◌∷◌, ◌++◌, map, find, Option, None, Some, true≢false, refl, sym, ap, ◌∙◌, if◌then◌else◌}
+use Rattle.std.proofs.Common.{◌≡◌, ℕ, ◌+◌, Bool, true, false, cond, not, ◌&&◌, ◌||◌, List, [], ◌∷◌, ◌++◌, map, find, Option, None, Some, true≢false, refl, sym}
+use Rattle.std.proofs.Common.{ap, ◌∙◌, if◌then◌else◌}
 use Rattle.std.proofs.lemmas.Option.{none-some}
 use Rattle.std.specs.List.{list_any}
 use Rattle.std.specs.Option.{option_map, option_and_then, IfSome}
@@ -26,7 +27,9 @@ use Rattle.nqs_types.specs.declared.edit.RowsEdit.TheVariants.{AbortQueue, HoldR
 use Rattle.nqs_types.specs.declared.edit.Edit.{Edit}
 use Rattle.nqs_types.specs.declared.edit.Edit.TheVariants.{Conf, Limits as LimitsOf, Access as AccessOf, Devices as DevicesOf, Rows as RowsOf}
 use Rattle.nqs_types.specs.declared.change.Change.{Change}
-use Rattle.nqs_types.specs.declared.change.Change.TheVariants.{Site, Submitted, Deleted, Doomed, Started, Ended, Unlaunched, Boot, Edited, HandOpened, HandCommitted, HandRefused, HandsSilent, HandDone, Promised, Accepted, Dropped, MovedLocal, RefusedLocal, HeldFar, StageGot, StageGone, FileGone}
+use Rattle.nqs_types.specs.declared.change.Change.TheVariants.{Site, Submitted, Deleted, Doomed, Started, Ended, Unlaunched, Boot, Edited, HandOpened}
+use Rattle.nqs_types.specs.declared.change.Change.TheVariants.{HandCommitted, HandRefused, HandsSilent, HandDone, Promised, Accepted, Dropped, MovedLocal}
+use Rattle.nqs_types.specs.declared.change.Change.TheVariants.{RefusedLocal, HeldFar, StageGot, StageGone, FileGone}
 use Rattle.nqs_rules.specs.Tests.{is_running}
 use Rattle.nqs_rules.specs.Find.{peer_number, has_row, find_row, find_hand, find_promise, meant_request}
 use Rattle.nqs_rules.specs.Edits.{drop_row, change_peer}
@@ -35,7 +38,9 @@ use Rattle.nqs_rules.specs.Limits.{limits_applied}
 use Rattle.nqs_rules.specs.Devices.{devices_applied}
 use Rattle.nqs_rules.specs.Rows.{rows_applied, change_meant, next_arrival, doomed_in, held_row, released_row, moved_row, with_priority}
 use Rattle.nqs_rules.specs.Routing.{refusal_noted, dests_for}
-use Rattle.nqs_rules.specs.Applied.{applied, edit_applied, access_applied, new_row, first_carried, next_id, may_start_again, lost_row, booted_row, doomed_row, started_row, routing_row, requeued_row, moved_local, local_refused, held_far, hand_committed, hand_refused, hand_silent, hands_silent, drop_promise, accepted}
+use Rattle.nqs_rules.specs.Applied.{applied, edit_applied, access_applied, new_row, first_carried, next_id, may_start_again, lost_row, booted_row, doomed_row}
+use Rattle.nqs_rules.specs.Applied.{started_row, routing_row, requeued_row, moved_local, local_refused, held_far, hand_committed, hand_refused, hand_silent}
+use Rattle.nqs_rules.specs.Applied.{hands_silent, drop_promise, accepted}
 use Rattle.nqs_rules.specs.Fits.{fits}
 use Rattle.nqs_rules.specs.InOrder.{IsInOrder, are_distinct}
 use Rattle.nqs_rules.proofs.ListFacts.{found_passes}
@@ -44,7 +49,8 @@ use Rattle.nqs_rules.proofs.RowChanges.{noted_kept}
 use Rattle.nqs_rules.proofs.StateFacts.{keys_are}
 use Rattle.nqs_rules.proofs.OutputsKept.{file_keeps, outputs_keep}
 use Rattle.nqs_laws.proofs.RowTests.{PlainRow}
-use Rattle.nqs_laws.proofs.Found.{only, first_of_two, without-none, change-none, find-added, find-without, find-changed, find-mapped, find-filtered, find-filter_mapped}
+use Rattle.nqs_laws.proofs.Found.{only, first_of_two, without-none, change-none, find-added, find-without, find-changed, find-mapped, find-filtered}
+use Rattle.nqs_laws.proofs.Found.{find-filter_mapped}
 
 abbrev pub Request : Type 0
 Request = RequestId
@@ -95,7 +101,8 @@ silent_after (Some y) x o = changed_at y.id requeued_row x o
 
 abbrev pub silents_after : ℕ → List PeerNumber → Plain → Request → Option PlainRow → Option PlainRow
 silents_after until [] s x o = o
-silents_after until (k ∷ ks) s x o = silents_after until ks (hand_silent until k (find_hand k.peer k.number s) s) x (silent_after (find_hand k.peer k.number s) x o)
+silents_after until (k ∷ ks) s x o = silents_after until ks (hand_silent until k (find_hand k.peer k.number s) s) x
+    (silent_after (find_hand k.peer k.number s) x o)
 
 abbrev pub accepted_after : Option (Promise (List ℕ)) → Request → Option PlainRow → Option PlainRow
 accepted_after None x o = o
@@ -138,16 +145,20 @@ without_found id x rows d = of (find (is_row id) rows) refl
 
     of : (o : Option PlainRow) → find (is_row id) rows ≡ o → find (is_row x) (without_first (is_row id) rows) ≡ without_at id x (find (is_row x) rows)
     of None e = ap (find (is_row x)) (without-none (is_row id) rows e) ∙ none e (id_eq x id) refl
-    of (Some r) e = find-without id_eq (λ (r : PlainRow). r.id) id_exact same_id (is_row id) r x rows e d ∙ ap (λ i. if id_eq x i then None else find (is_row x) rows) (sym (id_of id rows r e))
+    of (Some r) e = find-without id_eq (λ (r : PlainRow). r.id) id_exact same_id (is_row id) r x rows e d
+        ∙ ap (λ i. if id_eq x i then None else find (is_row x) rows) (sym (id_of id rows r e))
 
-changed_found : (id : Request) (f : PlainRow → PlainRow) → ((r : PlainRow) → (f r).id ≡ r.id) → (x : Request) (rows : List PlainRow) → IsIn rows → find (is_row x) (change_first (is_row id) f rows) ≡ changed_at id f x (find (is_row x) rows)
+changed_found : (id : Request) (f : PlainRow → PlainRow) → ((r : PlainRow) → (f r).id ≡ r.id) → (x : Request) (rows : List PlainRow) → IsIn rows
+    → find (is_row x) (change_first (is_row id) f rows) ≡ changed_at id f x (find (is_row x) rows)
 changed_found id f keeps x rows d = of (find (is_row id) rows) refl
   where
-    none : find (is_row id) rows ≡ None → (b : Bool) → id_eq x id ≡ b → find (is_row x) rows ≡ (if b then option_map f (find (is_row x) rows) else find (is_row x) rows)
+    none : find (is_row id) rows ≡ None → (b : Bool) → id_eq x id ≡ b → find (is_row x) rows
+        ≡ (if b then option_map f (find (is_row x) rows) else find (is_row x) rows)
     none e true same = let z : find (is_row x) rows ≡ None = ap (λ i. find (is_row i) rows) (id_exact x id same) ∙ e in z ∙ sym (ap (option_map f) z)
     none e false same = refl
 
-    some : (r : PlainRow) → find (is_row id) rows ≡ Some r → (b : Bool) → id_eq x id ≡ b → (if b then Some (f r) else find (is_row x) rows) ≡ (if b then option_map f (find (is_row x) rows) else find (is_row x) rows)
+    some : (r : PlainRow) → find (is_row id) rows ≡ Some r → (b : Bool) → id_eq x id ≡ b
+        → (if b then Some (f r) else find (is_row x) rows) ≡ (if b then option_map f (find (is_row x) rows) else find (is_row x) rows)
     some r e true same = sym (ap (option_map f) (ap (λ i. find (is_row i) rows) (id_exact x id same) ∙ e))
     some r e false same = refl
 
@@ -157,7 +168,8 @@ changed_found id f keeps x rows d = of (find (is_row id) rows) refl
         find-changed id_eq (λ (r : PlainRow). r.id) id_exact same_id f keeps (is_row id) r x rows e d
         ∙ (ap (λ i. if id_eq x i then Some (f r) else find (is_row x) rows) (sym (id_of id rows r e)) ∙ some r e (id_eq x id) refl)
 
-added_found : (r : PlainRow) (x : Request) (rows : List PlainRow) → find (is_row x) (rows ++ r ∷ []) ≡ first_of_two (find (is_row x) rows) (if id_eq x r.id then Some r else None)
+added_found : (r : PlainRow) (x : Request) (rows : List PlainRow) → find (is_row x) (rows ++ r ∷ [])
+    ≡ first_of_two (find (is_row x) rows) (if id_eq x r.id then Some r else None)
 added_found r x rows = find-added (is_row x) rows r
 
 pub noted_id : (dests : List _) (dest : _) (refusal : ℕ) (r : PlainRow) → (refusal_noted dests dest refusal r).id ≡ r.id
@@ -196,7 +208,8 @@ module _ (x : Request) where
   devices_found (DeleteDevice d) s = refl
   devices_found e s = refl
 
-  meant_found : (o : Option Request) (f : PlainRow → PlainRow) → ((r : PlainRow) → (f r).id ≡ r.id) → (s : Plain) → IsIn s.rows → find_row x (change_meant o f s) ≡ meant_after o f x (find_row x s)
+  meant_found : (o : Option Request) (f : PlainRow → PlainRow) → ((r : PlainRow) → (f r).id ≡ r.id) → (s : Plain) → IsIn s.rows
+      → find_row x (change_meant o f s) ≡ meant_after o f x (find_row x s)
   meant_found None f keeps s d = refl
   meant_found (Some id) f keeps s d = changed_found id f keeps x s.rows d
 
@@ -218,11 +231,14 @@ module _ (x : Request) where
   committed_found n None s d = refl
   committed_found n (Some y) s d = without_found y.id x s.rows d
 
-  refused_found : (n : PeerNumber) (refusal : ℕ) (o : Option Hand) (s : Plain) → IsIn s.rows → find_row x (hand_refused n refusal o s) ≡ refused_after o refusal s x (find_row x s)
+  refused_found : (n : PeerNumber) (refusal : ℕ) (o : Option Hand) (s : Plain) → IsIn s.rows
+      → find_row x (hand_refused n refusal o s) ≡ refused_after o refusal s x (find_row x s)
   refused_found n refusal None s d = refl
-  refused_found n refusal (Some y) s d = changed_found y.id (back_row y refusal s) (λ r. noted_id (dests_for r s) (record { queue = y.queue; host = y.peer }) refusal (requeued_row r)) x s.rows d
+  refused_found n refusal (Some y) s d = changed_found y.id (back_row y refusal s)
+      (λ r. noted_id (dests_for r s) (record { queue = y.queue; host = y.peer }) refusal (requeued_row r)) x s.rows d
 
-  pub silent_found : (until : ℕ) (n : PeerNumber) (o : Option Hand) (s : Plain) → IsIn s.rows → find_row x (hand_silent until n o s) ≡ silent_after o x (find_row x s)
+  pub silent_found : (until : ℕ) (n : PeerNumber) (o : Option Hand) (s : Plain) → IsIn s.rows
+      → find_row x (hand_silent until n o s) ≡ silent_after o x (find_row x s)
   silent_found until n None s d = refl
   silent_found until n (Some y) s d = changed_found y.id requeued_row (λ r. refl) x s.rows d
 
@@ -235,11 +251,13 @@ module _ (x : Request) where
       kept (r ∷ rows) = by (id_eq y.id r.id) (kept rows)
         where
           by : (b : Bool) → map (λ (q : PlainRow). q.id) (change_first (is_row y.id) requeued_row rows) ≡ map (λ (q : PlainRow). q.id) rows
-              → map (λ (q : PlainRow). q.id) (if b then requeued_row r ∷ rows else r ∷ change_first (is_row y.id) requeued_row rows) ≡ r.id ∷ map (λ (q : PlainRow). q.id) rows
+              → map (λ (q : PlainRow). q.id) (if b then requeued_row r ∷ rows else r ∷ change_first (is_row y.id) requeued_row rows)
+              ≡ r.id ∷ map (λ (q : PlainRow). q.id) rows
           by true rest = refl
           by false rest = ap (λ l. r.id ∷ l) rest
 
-  silents_found : (until : ℕ) (ks : List PeerNumber) (s : Plain) → IsIn s.rows → find_row x (hands_silent until ks s) ≡ silents_after until ks s x (find_row x s)
+  silents_found : (until : ℕ) (ks : List PeerNumber) (s : Plain) → IsIn s.rows
+      → find_row x (hands_silent until ks s) ≡ silents_after until ks s x (find_row x s)
   silents_found until [] s d = refl
   silents_found until (k ∷ ks) s d =
       let o = find_hand k.peer k.number s in
@@ -250,7 +268,8 @@ module _ (x : Request) where
   accepted_found n None s = refl
   accepted_found n (Some p) s = by (has_row p.row.id s) refl
     where
-      there : has_row p.row.id s ≡ true → (b : Bool) → id_eq x p.row.id ≡ b → find (is_row x) s.rows ≡ first_of_two (find (is_row x) s.rows) (if b then Some (requeued_row p.row) else None)
+      there : has_row p.row.id s ≡ true → (b : Bool) → id_eq x p.row.id ≡ b
+          → find (is_row x) s.rows ≡ first_of_two (find (is_row x) s.rows) (if b then Some (requeued_row p.row) else None)
       there has true same = some (find (is_row x) s.rows) refl
         where
           none : find (is_row x) s.rows ≡ None → ⊥
@@ -260,7 +279,8 @@ module _ (x : Request) where
               missing [] h e = true≢false (sym h)
               missing (r ∷ rows) h e = by (id_eq x r.id) h e (missing rows)
                 where
-                  by : (b : Bool) → (b || list_any (is_row x) rows) ≡ true → cond b (Some r) (find (is_row x) rows) ≡ None → (list_any (is_row x) rows ≡ true → find (is_row x) rows ≡ None → ⊥) → ⊥
+                  by : (b : Bool) → (b || list_any (is_row x) rows) ≡ true → cond b (Some r) (find (is_row x) rows) ≡ None
+                      → (list_any (is_row x) rows ≡ true → find (is_row x) rows ≡ None → ⊥) → ⊥
                   by true h e rest = none-some r (sym e)
                   by false h e rest = rest h e
 
@@ -273,7 +293,8 @@ module _ (x : Request) where
           some None = refl
           some (Some r) = refl
 
-      by : (b : Bool) → has_row p.row.id s ≡ b → find (is_row x) (if b then drop_promise n s else record (drop_promise n s) { rows = s.rows ++ requeued_row p.row ∷ [] }).rows ≡ accepted_after (Some p) x (find_row x s)
+      by : (b : Bool) → has_row p.row.id s ≡ b → find (is_row x) (if b then drop_promise n s else
+          record (drop_promise n s) { rows = s.rows ++ requeued_row p.row ∷ [] }).rows ≡ accepted_after (Some p) x (find_row x s)
       by true e = there e (id_eq x p.row.id) refl
       by false e = added_found (requeued_row p.row) x s.rows
 
@@ -290,7 +311,8 @@ module _ (x : Request) where
       of (Deleted id) fit = without_found id x s.rows d
       of (Doomed id) fit = changed_found id doomed_row (λ r. refl) x s.rows d
       of (Started id device) fit = changed_found id (started_row device) (λ r. refl) x s.rows d
-      of (Ended id parts) fit = ap (λ rows. find (is_row x) rows) (outputs_keep (λ u. u.rows) (λ u fs n. refl) (λ u ts ps. refl) id parts (drop_row id s)) ∙ without_found id x s.rows d
+      of (Ended id parts) fit = ap (λ rows. find (is_row x) rows) (outputs_keep (λ u. u.rows) (λ u fs n. refl) (λ u ts ps. refl) id parts (drop_row id s))
+          ∙ without_found id x s.rows d
       of (Unlaunched id) fit = without_found id x s.rows d
       of Boot fit = find-filter_mapped id_eq (λ (r : PlainRow). r.id) id_exact same_id booted_row booted_id x s.rows d
       of (Edited e) fit = edit_found e s d
@@ -303,8 +325,11 @@ module _ (x : Request) where
       of (Accepted peer number) fit = accepted_found (peer_number peer number) (find_promise peer number s) s
       of (Dropped peer number) fit = refl
       of (MovedLocal id queue) fit = changed_found id (moved_local queue (s.arrivals + 1)) (λ r. refl) x s.rows d
-      of (RefusedLocal id queue refusal) fit = changed_found id (local_refused queue refusal s) (λ r. noted_id (dests_for r s) (record { queue = queue; host = s.me }) refusal r) x s.rows d
+      of (RefusedLocal id queue refusal) fit = changed_found id (local_refused queue refusal s)
+          (λ r. noted_id (dests_for r s) (record { queue = queue; host = s.me }) refusal r) x s.rows d
       of (HeldFar id) fit = changed_found id held_far (λ r. refl) x s.rows d
-      of (StageGot peer number path bytes) fit = ap (λ rows. find (is_row x) rows) (file_keeps (λ u. u.rows) (λ u fs n. refl) (λ u ts ps. refl) (record { path = path; bytes = bytes }) (change_peer peer (λ p. record p { stage_got = number }) s))
+      of (StageGot peer number path bytes) fit = ap (λ rows. find (is_row x) rows)
+          (file_keeps (λ u. u.rows) (λ u fs n. refl) (λ u ts ps. refl) (record { path = path; bytes = bytes })
+          (change_peer peer (λ p. record p { stage_got = number }) s))
       of (StageGone peer number) fit = refl
       of (FileGone file) fit = refl

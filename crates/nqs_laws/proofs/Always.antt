@@ -16,7 +16,8 @@ host_right site place s h = record {
   order = record {
     order = h.order;
     parts = chained (list_all (λ r. nat_le (length r.script) 32768) s.rows)
-        (list_all (λ p. nat_le (length p.row.script) 32768) s.promises ∷ list_all (λ t. nat_le (length t.bytes) 32768) s.stages ∷ list_all (λ f. nat_le (length f.bytes) 32768) s.files ∷ [])
+        (list_all (λ p. nat_le (length p.row.script) 32768) s.promises ∷ list_all (λ t. nat_le (length t.bytes) 32768) s.stages
+        ∷ list_all (λ f. nat_le (length f.bytes) 32768) s.files ∷ [])
         (h.scripts.rows, (h.scripts.promises, (h.outputs.stages, (h.outputs.files, tt))));
   };
   consistent = h.calm;

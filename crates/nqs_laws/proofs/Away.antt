@@ -1,5 +1,6 @@
 -- No host has a handover to itself.
-use Rattle.std.proofs.Common.{◌≡◌, ℕ, Bool, true, false, not, ◌==◌, if◌then◌else◌, List, [], ◌∷◌, ◌++◌, slice_get, Option, None, Some, Result, Ok, Err, true≢false, refl, sym, ap, subst, ◌∙◌}
+use Rattle.std.proofs.Common.{◌≡◌, ℕ, Bool, true, false, not, ◌==◌, if◌then◌else◌, List, [], slice_get, Option, None, Some, Result, Ok, Err, true≢false, refl}
+use Rattle.std.proofs.Common.{sym, ap, subst, ◌∙◌}
 use Rattle.std.proofs.lemmas.Bool.{not_from_false}
 use Rattle.std.proofs.lemmas.Option.{same_Some, none-some}
 use Rattle.std.proofs.lemmas.Cmp.{nat_list_eq_equiv}
@@ -7,13 +8,10 @@ use Rattle.std.specs.Option.{option_map, option_and_then, IfSome}
 use Rattle.std.specs.List.{list_all}
 use Rattle.nqs_values.specs.Same.{name_eq, name_exact}
 use Rattle.nqs_state.specs.State.{Plain}
-use Rattle.nqs_state.specs.Keys.{is_hand}
 use Rattle.nqs_types.specs.declared.ids.HostId.{HostId}
 use Rattle.nqs_types.specs.declared.ids.Dest.{Dest}
-use Rattle.nqs_types.specs.declared.ids.PeerNumber.{PeerNumber}
 use Rattle.nqs_types.specs.declared.request.Hand.{Hand}
 use Rattle.nqs_types.specs.declared.request.Peer.{Peer}
-use Rattle.nqs_types.specs.declared.request.Promise.{Promise}
 use Rattle.nqs_types.specs.declared.refusal.Refusal.{Refusal}
 use Rattle.nqs_types.specs.declared.queue.Kind.{Kind}
 use Rattle.nqs_types.specs.declared.queue.Kind.TheVariants.{Batch, Device, Pipe}
@@ -21,7 +19,7 @@ use Rattle.nqs_types.specs.declared.queue.QueueDef.{QueueDef}
 use Rattle.nqs_types.specs.declared.rule.Choice.{Choice}
 use Rattle.nqs_types.specs.declared.rule.Choice.TheVariants as choice
 use Rattle.nqs_types.specs.declared.change.Change.{Change}
-use Rattle.nqs_types.specs.declared.change.Change.TheVariants.{Site, Submitted, Deleted, Doomed, Started, Ended, Boot, Edited, HandOpened, HandCommitted, HandRefused, HandsSilent, HandDone, Promised, Accepted, Dropped, MovedLocal, HeldFar, StageGot}
+use Rattle.nqs_types.specs.declared.change.Change.TheVariants.{Submitted, Deleted, Doomed, Started, Boot, HandOpened, MovedLocal, HeldFar}
 use Rattle.nqs_types.specs.declared.event.Command.{Command}
 use Rattle.nqs_types.specs.declared.event.Command.TheVariants as command
 use Rattle.nqs_types.specs.declared.event.Event.{Event}
@@ -30,7 +28,7 @@ use Rattle.nqs_types.specs.declared.message.Body.{Body}
 use Rattle.nqs_types.specs.declared.message.Body.TheVariants as body
 use Rattle.nqs_rules.specs.Tests.{passes, is_running, same_host}
 use Rattle.nqs_rules.specs.Causes.{first_refusal}
-use Rattle.nqs_rules.specs.Find.{peer_number, has_row, find_queue, find_hand, find_promise, find_peer}
+use Rattle.nqs_rules.specs.Find.{find_queue, find_peer}
 use Rattle.nqs_rules.specs.Devices.{free_device}
 use Rattle.nqs_rules.specs.Routing.{destination}
 use Rattle.nqs_rules.specs.Order.{is_local, print_on, move_to, choice_for, pick}
@@ -40,12 +38,10 @@ use Rattle.nqs_rules.specs.Start.{launching, printing, holding, moving_by, movin
 use Rattle.nqs_rules.specs.Starts.{after_change}
 use Rattle.nqs_rules.specs.Stepped.{Stepped}
 use Rattle.nqs_rules.specs.Step.{step}
-use Rattle.nqs_rules.specs.Applied.{applied, is_offered_for, committed, hand_committed, hand_refused, hand_silent, hands_silent, drop_promise, requeued_row, accepted}
+use Rattle.nqs_rules.specs.Applied.{applied}
 use Rattle.nqs_rules.specs.Fits.{fits}
 use Rattle.nqs_rules.specs.World.{new_world}
-use Rattle.nqs_rules.proofs.ListFacts.{list_all-changed, list_all-found, found_again}
-use Rattle.nqs_rules.proofs.KeyFacts.{all-added}
-use Rattle.nqs_rules.proofs.Sublists.{part_all, without_part, filter_part}
+use Rattle.nqs_rules.proofs.ListFacts.{found_again}
 use Rattle.nqs_rules.proofs.StartIs.{IsSteady}
 use Rattle.nqs_rules.proofs.PickLaws.{eligible_parts, picked_is}
 use Rattle.nqs_rules.proofs.Until.{steady}
@@ -55,13 +51,14 @@ use Rattle.nqs_laws.proofs.Makes.{Answers, Obeys, Follows, step_makes}
 use Rattle.nqs_laws.proofs.RowTests.{PlainRow}
 use Rattle.nqs_laws.proofs.Sound.{IsSound, Keeps, Suits, some-if, get-here}
 use Rattle.nqs_laws.proofs.Views.{host_exact, host_same}
-use Rattle.nqs_laws.proofs.Turns.{Ties, quiet_ties}
+use Rattle.nqs_laws.proofs.Hands.{Opens, hands_kept}
 use Rattle.nqs_laws.proofs.Paired.{At}
 use Rattle.nqs_laws.proofs.TabledRuns.{new_state}
 
 -- an offer is opened to another host
 
-local_of : (k : Kind) (d : QueueDef) (now : ℕ) (s : Plain) (at : ℕ) (r : PlainRow) (place dest : ℕ) → choice_for k d now s at r ≡ Some (choice.Hand place dest) → (is_local dest d s ≡ false) × (place ≡ at)
+local_of : (k : Kind) (d : QueueDef) (now : ℕ) (s : Plain) (at : ℕ) (r : PlainRow) (place dest : ℕ) → choice_for k d now s at r ≡ Some (choice.Hand place dest)
+    → (is_local dest d s ≡ false) × (place ≡ at)
 local_of Batch d now s at r place dest e = absurd (let f : choice.Launch at ≡ choice.Hand place dest = same_Some _ _ e in let no : ⊥ = cc in no)
 local_of Device d now s at r place dest e = of (free_device d r.job.forms s) e
   where
@@ -70,23 +67,28 @@ local_of Device d now s at r place dest e = of (free_device d r.job.forms s) e
     of (Some n) e = absurd (let f : choice.Print at n ≡ choice.Hand place dest = same_Some _ _ e in let no : ⊥ = cc in no)
 local_of Pipe d now s at r place dest e = by (r.hops == 32) (destination d now s r) e
   where
-    local : (n : ℕ) (b : Bool) → is_local n d s ≡ b → (if b then Some (choice.Local at n) else Some (choice.Hand at n)) ≡ Some (choice.Hand place dest) → (is_local dest d s ≡ false) × (place ≡ at)
+    local : (n : ℕ) (b : Bool) → is_local n d s ≡ b → (if b then Some (choice.Local at n) else Some (choice.Hand at n)) ≡ Some (choice.Hand place dest)
+        → (is_local dest d s ≡ false) × (place ≡ at)
     local n true f e = absurd (let g : choice.Local at n ≡ choice.Hand place dest = same_Some _ _ e in let no : ⊥ = cc in no)
-    local n false f e = (let g : choice.Hand at n ≡ choice.Hand place dest = same_Some _ _ e in let a : at ≡ place = cc in let b : n ≡ dest = cc in (ap (λ i. is_local i d s) (sym b) ∙ f, sym a))
+    local n false f e = (let g : choice.Hand at n ≡ choice.Hand place dest = same_Some _ _ e in let a : at ≡ place = cc in let b : n ≡ dest = cc in
+        (ap (λ i. is_local i d s) (sym b) ∙ f, sym a))
 
-    by : (b : Bool) (o : Option ℕ) → (if b then Some (choice.TooFar at) else move_to at d s o) ≡ Some (choice.Hand place dest) → (is_local dest d s ≡ false) × (place ≡ at)
+    by : (b : Bool) (o : Option ℕ) → (if b then Some (choice.TooFar at) else move_to at d s o) ≡ Some (choice.Hand place dest)
+        → (is_local dest d s ≡ false) × (place ≡ at)
     by true o e = absurd (let f : choice.TooFar at ≡ choice.Hand place dest = same_Some _ _ e in let no : ⊥ = cc in no)
     by false None e = absurd (none-some _ e)
     by false (Some n) e = local n (is_local n d s) refl e
 
-module _ (now : ℕ) (s : Plain) (st : IsSteady s) (x : Stepped (List ℕ)) (peer : HostId) (number : ℕ) (id : _) (queue : List ℕ) (since : ℕ) (opens : x.change ≡ Some (HandOpened peer number id queue since)) where
+module _ (now : ℕ) (s : Plain) (st : IsSteady s) (x : Stepped (List ℕ)) (peer : HostId) (number : ℕ) (id : _) (queue : List ℕ) (since : ℕ)
+    (opens : x.change ≡ Some (HandOpened peer number id queue since)) where
   abbrev Away : Type 0
   Away = same_host s.me peer ≡ false
 
   other_change : (y : Stepped (List ℕ)) (c : Change (List ℕ)) → y.change ≡ Some c → y ≡ x → c ≡ HandOpened peer number id queue since
   other_change y c made is = same_Some c (HandOpened peer number id queue since) (sym made ∙ (ap (λ (z : Stepped (List ℕ)). z.change) is ∙ opens))
 
-  row_done : (place : ℕ) (f : PlainRow → Option (Stepped (List ℕ))) → ((r : PlainRow) → slice_get s.rows place ≡ Some r → f r ≡ Some x → Away) → with_row place s f ≡ Some x → Away
+  row_done : (place : ℕ) (f : PlainRow → Option (Stepped (List ℕ))) → ((r : PlainRow) → slice_get s.rows place ≡ Some r → f r ≡ Some x → Away)
+      → with_row place s f ≡ Some x → Away
   row_done place f k e = at (slice_get s.rows place) refl e
     where
       at : (o : Option PlainRow) → slice_get s.rows place ≡ o → option_and_then f o ≡ Some x → Away
@@ -103,15 +105,21 @@ module _ (now : ℕ) (s : Plain) (st : IsSteady s) (x : Stepped (List ℕ)) (pee
 
   opened_away : (r : PlainRow) (dest : Dest) → same_host s.me dest.host ≡ false → (p : Option Peer) → opened_with p dest now s r ≡ x → Away
   opened_away r dest far None is = absurd (none-some _ (ap (λ (z : Stepped (List ℕ)). z.change) is ∙ opens))
-  opened_away r dest far (Some p) is = (let f = other_change (opened_with (Some p) dest now s r) (HandOpened dest.host p.next r.id dest.queue now) refl is in let g : dest.host ≡ peer = cc in ap (same_host s.me) (sym g) ∙ far)
+  opened_away r dest far (Some p) is = (let f = other_change (opened_with (Some p) dest now s r) (HandOpened dest.host p.next r.id dest.queue now) refl is in
+      let g : dest.host ≡ peer = cc in ap (same_host s.me) (sym g) ∙ far)
 
   picked_away : (c : Choice) → IsPicked now s c → started c now s ≡ Some x → Away
-  picked_away (choice.Launch place) p e = row_done place (λ r. Some (launching r s)) (λ r at e. absurd (let f = other_change (launching r s) (Started r.id None) refl (same_Some _ x e) in let no : ⊥ = cc in no)) e
+  picked_away (choice.Launch place) p e = row_done place (λ r. Some (launching r s))
+      (λ r at e. absurd (let f = other_change (launching r s) (Started r.id None) refl (same_Some _ x e) in let no : ⊥ = cc in no)) e
   picked_away (choice.Print place device) p e =
-      row_done place (λ r. option_map (λ d. printing d r s) (device_at device r s)) (λ r at e. let k = mapped (λ d. printing d r s) (device_at device r s) e in absurd (let f = other_change (printing k.0 r s) (Started r.id (Some k.0)) refl k.2 in let no : ⊥ = cc in no)) e
-  picked_away (choice.TooFar place) p e = row_done place (λ r. Some (holding r)) (λ r at e. absurd (let f = other_change (holding r) (HeldFar r.id) refl (same_Some _ x e) in let no : ⊥ = cc in no)) e
+      row_done place (λ r. option_map (λ d. printing d r s) (device_at device r s))
+      (λ r at e. let k = mapped (λ d. printing d r s) (device_at device r s) e in
+      absurd (let f = other_change (printing k.0 r s) (Started r.id (Some k.0)) refl k.2 in let no : ⊥ = cc in no)) e
+  picked_away (choice.TooFar place) p e = row_done place (λ r. Some (holding r))
+      (λ r at e. absurd (let f = other_change (holding r) (HeldFar r.id) refl (same_Some _ x e) in let no : ⊥ = cc in no)) e
   picked_away (choice.Local place dest) p e =
-      row_done place (λ r. option_map (λ d. moving d s r) (dest_at dest r s)) (λ r at e. let k = mapped (λ d. moving d s r) (dest_at dest r s) e in moved_away (first_refusal (local_causes k.0.queue s r)) k.0.queue r k.2) e
+      row_done place (λ r. option_map (λ d. moving d s r) (dest_at dest r s))
+      (λ r at e. let k = mapped (λ d. moving d s r) (dest_at dest r s) e in moved_away (first_refusal (local_causes k.0.queue s r)) k.0.queue r k.2) e
   picked_away (choice.Hand place dest) p e =
       row_done place (λ r. option_map (λ d. open_hand d now s r) (dest_at dest r s)) (λ r at e.
       let k = mapped (λ d. open_hand d now s r) (dest_at dest r s) e in
@@ -119,7 +127,8 @@ module _ (now : ℕ) (s : Plain) (st : IsSteady s) (x : Stepped (List ℕ)) (pee
       let known : find_queue p.row.queue s ≡ Some p.queue =
       subst (λ n. find_queue n s ≡ Some p.queue) (name_exact p.queue.name p.row.queue (eligible_parts p.queue now s p.row p.first.eligible).0)
       (found_again name_eq (λ (q : QueueDef). q.name) name_exact nat_list_eq_equiv.refl s.queues p.queue_place p.queue st.names p.next.at) in
-      let there : slice_get p.queue.dests dest ≡ Some k.0 = ap (option_and_then (λ (d : QueueDef). slice_get d.dests dest)) (sym known) ∙ ((λ j. option_and_then (λ (d : QueueDef). slice_get d.dests dest) (find_queue (sym same j).queue s)) ∙ k.1) in
+      let there : slice_get p.queue.dests dest ≡ Some k.0 = ap (option_and_then (λ (d : QueueDef). slice_get d.dests dest)) (sym known)
+      ∙ ((λ j. option_and_then (λ (d : QueueDef). slice_get d.dests dest) (find_queue (sym same j).queue s)) ∙ k.1) in
       let local = (local_of p.queue.kind p.queue now s place p.row place dest p.way).0 in
       opened_away r k.0 (sym (ap (passes (λ (d : Dest). same_host s.me d.host)) there) ∙ local) (find_peer k.0.host s) k.2) e
 
@@ -142,45 +151,12 @@ module _ (a : HostId) where
   OpensAway (HandOpened peer number id queue since) = same_host a peer ≡ false
   OpensAway c = Unit {0}
 
-  silents_away : (until : ℕ) (ks : List PeerNumber) (s : Plain) → list_all is_away s.hands ≡ true → list_all is_away (hands_silent until ks s).hands ≡ true
-  silents_away until [] s k = k
-  silents_away until (n ∷ ks) s k = silents_away until ks (hand_silent until n (find_hand n.peer n.number s) s) (of (find_hand n.peer n.number s))
-    where
-      of : (o : Option Hand) → list_all is_away (hand_silent until n o s).hands ≡ true
-      of None = k
-      of (Some y) = part_all is_away (without_part (is_hand n) s.hands) k
+  pub opens_passing : (c : Change (List ℕ)) → OpensAway c → Opens is_away c
+  opens_passing (HandOpened peer number id queue since) opens = not_from_false (same_host a peer) opens
+  opens_passing c opens = tt
 
   away_kept : (c : Change (List ℕ)) (s : Plain) → fits c s ≡ true → OpensAway c → list_all is_away s.hands ≡ true → list_all is_away (applied c s).hands ≡ true
-  away_kept (Site me site) s fit opens k = absurd (true≢false (sym fit))
-  away_kept (Deleted id) s fit opens k = part_all is_away (filter_part (λ y. not (is_offered_for id y)) s.hands) k
-  away_kept (HandOpened peer number id queue since) s fit opens k = all-added is_away s.hands _ k (not_from_false (same_host a peer) opens)
-  away_kept (HandCommitted peer number) s fit opens k = of (find_hand peer number s)
-    where
-      of : (o : Option Hand) → list_all is_away (hand_committed (peer_number peer number) o s).hands ≡ true
-      of None = k
-      of (Some y) = list_all-changed is_away (is_hand (peer_number peer number)) committed s.hands k (λ z found. list_all-found is_away (is_hand (peer_number peer number)) s.hands z k found)
-  away_kept (HandRefused peer number refusal) s fit opens k = of (find_hand peer number s)
-    where
-      of : (o : Option Hand) → list_all is_away (hand_refused (peer_number peer number) refusal o s).hands ≡ true
-      of None = k
-      of (Some y) = part_all is_away (without_part (is_hand (peer_number peer number)) s.hands) k
-  away_kept (HandsSilent until ks) s fit opens k = silents_away until ks s k
-  away_kept (HandDone peer number) s fit opens k = part_all is_away (without_part (is_hand (peer_number peer number)) s.hands) k
-  away_kept (Promised peer number queue c script) s fit opens k = k
-  away_kept (Accepted peer number) s fit opens k = of (find_promise peer number s)
-    where
-      of : (o : Option (Promise (List ℕ))) → list_all is_away (accepted (peer_number peer number) o s).hands ≡ true
-      of None = k
-      of (Some p) = by (has_row p.row.id s)
-        where
-          by : (z : Bool) → list_all is_away (if z then drop_promise (peer_number peer number) s else record (drop_promise (peer_number peer number) s) { rows = s.rows ++ requeued_row p.row ∷ [] }).hands ≡ true
-          by true = k
-          by false = k
-  away_kept (Dropped peer number) s fit opens k = k
-  away_kept (Edited e) s fit opens k = subst (λ (l : Ties). list_all is_away l.0 ≡ true) (sym (quiet_ties (Edited e) s fit tt).0) k
-  away_kept (Ended id parts) s fit opens k = subst (λ (l : Ties). list_all is_away l.0 ≡ true) (sym (quiet_ties (Ended id parts) s fit tt).0) k
-  away_kept (StageGot peer number path bytes) s fit opens k = subst (λ (l : Ties). list_all is_away l.0 ≡ true) (sym (quiet_ties (StageGot peer number path bytes) s fit tt).0) k
-  away_kept c s fit opens k = k
+  away_kept c s fit opens k = hands_kept is_away (λ y. refl) c s fit (opens_passing c opens) k
 
 -- which changes open offers
 
@@ -234,26 +210,38 @@ module _ (site : List (List ℕ)) (m : Moment) (sound : IsSound site m) (h : Hos
       by c is = tt
   way_away Booted c is = subst (OpensAway h) (same_Some Boot c is) tt
 
-  put_away : IsAway m → (u : Plain) → list_all (is_away h) u.hands ≡ true → (a : HostId) (v : Plain) → At (put_state h u m.states) a v → list_all (is_away a) v.hands ≡ true
+  put_away : IsAway m → (u : Plain) → list_all (is_away h) u.hands ≡ true → (a : HostId) (v : Plain) → At (put_state h u m.states) a v
+      → list_all (is_away a) v.hands ≡ true
   put_away k u new a v at = by (same_host a h) refl
     where
       by : (c : Bool) → same_host a h ≡ c → list_all (is_away a) v.hands ≡ true
       by true e =
           let here : a ≡ h = host_exact a h e in
-          let same : u ≡ v = same_Some u v (sym (get-here h.0 u s m.states there) ∙ (ap (λ (i : HostId). slice_get (put_state h u m.states) i.0) (sym here) ∙ at)) in
+          let same : u ≡ v = same_Some u v (sym (get-here h.0 u s m.states there)
+          ∙ (ap (λ (i : HostId). slice_get (put_state h u m.states) i.0) (sym here) ∙ at)) in
           subst (λ w. list_all (is_away a) w.hands ≡ true) same (subst (λ i. list_all (is_away i) u.hands ≡ true) (sym here) new)
       by false e = k.hands a v (sym (get-other h.0 a.0 (λ _. u) m.states (λ same. true≢false (sym (ap (λ n. n == h.0) (sym same) ∙ host_same h) ∙ e))) ∙ at)
 
-  after_away : IsAway m → (o : Option (Change (List ℕ))) → ((c : Change (List ℕ)) → o ≡ Some c → Suits s c × OpensAway h c) → list_all (is_away h) (after_change o s).hands ≡ true
+  after_away : IsAway m → (o : Option (Change (List ℕ))) → ((c : Change (List ℕ)) → o ≡ Some c → Suits s c × OpensAway h c)
+      → list_all (is_away h) (after_change o s).hands ≡ true
   after_away k None suits = k.hands h s there
   after_away k (Some c) suits = let p = suits c refl in away_kept h c s p.0.fit p.1 (k.hands h s there)
 
 pub away_keeps : (site : List (List ℕ)) → Keeps site IsAway
 away_keeps site = record {
   idle = λ m x sound idle k. record { hands = k.hands };
-  kept = λ m sound h s there way c is suits k. record { hands = put_away site m sound h s there k (applied c s) (away_kept h c s suits.fit (way_away site m sound h s there way c is) (k.hands h s there)) };
-  made = λ m sound h s there way suits k. record { hands = put_away site m sound h s there k (after_change (change_by way) s) (after_away site m sound h s there k (change_by way) (λ c is. (suits c is, way_away site m sound h s there way c is))) };
+  kept = λ m sound h s there way c is suits k. record {
+    hands = put_away site m sound h s there k (applied c s)
+        (away_kept h c s suits.fit (way_away site m sound h s there way c is) (k.hands h s there));
+  };
+  made = λ m sound h s there way suits k. record {
+    hands = put_away site m sound h s there k (after_change (change_by way) s)
+        (after_away site m sound h s there k (change_by way) (λ c is. (suits c is, way_away site m sound h s there way c is)));
+  };
 }
 
 pub new_away : (site : List (List ℕ)) → IsAway (moment (new_world site) [])
-new_away site = record { hands = λ a s at. (let k = new_state site 0 site a.0 s at in subst (λ (u : Plain). list_all (is_away a) u.hands ≡ true) (sym k.1) refl) }
+new_away site = record {
+  hands = λ a s at. (let k = new_state site 0 site a.0 s at in
+      subst (λ (u : Plain). list_all (is_away a) u.hands ≡ true) (sym k.1) refl);
+}

@@ -1,5 +1,6 @@
 -- Where something is picked, something is started.
-use Rattle.std.proofs.Common.{◌≡◌, ℕ, Bool, true, false, ◌==◌, slice_get, List, Option, None, Some, is_some, option_map, true≢false, refl, sym, ap, subst, ◌∙◌, if◌then◌else◌}
+use Rattle.std.proofs.Common.{◌≡◌, ℕ, Bool, true, false, ◌==◌, slice_get, List, Option, None, Some, is_some, option_map, true≢false, refl, sym, ap, subst, ◌∙◌}
+use Rattle.std.proofs.Common.{if◌then◌else◌}
 use Rattle.std.proofs.lemmas.Cmp.{nat_list_eq_equiv}
 use Rattle.std.proofs.lemmas.Option.{same_Some, none-some}
 use Rattle.std.specs.List.{list_any}
@@ -76,17 +77,21 @@ module _ (now : ℕ) (s : Plain) (steady : IsSteady s) (c : Choice) (p : IsPicke
   of_row f e = ap (λ o. is_some (option_and_then f o)) p.first.at ∙ e
 
   at_device : (device : ℕ) → is_some (slice_get d.devices device) ≡ true → is_some (option_map (λ n. printing n r s) (device_at device r s)) ≡ true
-  at_device device e = mapped (λ n. printing n r s) (device_at device r s) ∙ ap (λ o. is_some (option_and_then (λ q. slice_get q.devices device) o)) queue_found ∙ e
+  at_device device e = mapped (λ n. printing n r s) (device_at device r s) ∙ ap (λ o. is_some (option_and_then (λ q. slice_get q.devices device) o)) queue_found
+      ∙ e
 
   at_dest : (f : _ → Stepped (List ℕ)) (dest : ℕ) → is_some (slice_get d.dests dest) ≡ true → is_some (option_map f (dest_at dest r s)) ≡ true
   at_dest f dest e = mapped f (dest_at dest r s) ∙ ap (λ o. is_some (option_and_then (λ q. slice_get q.dests dest) o)) queue_found ∙ e
 
 begins : (now : ℕ) (s : Plain) → IsSteady s → (c : Choice) → IsPicked now s c → is_some (started c now s) ≡ true
 begins now s steady (Launch row) p = of_row now s steady (Launch row) p (λ q. Some (launching q s)) refl
-begins now s steady (Print row device) p = of_row now s steady (Print row device) p (λ q. option_map (λ n. printing n q s) (device_at device q s)) (at_device now s steady (Print row device) p device (is_listed now s steady (Print row device) p))
+begins now s steady (Print row device) p = of_row now s steady (Print row device) p (λ q. option_map (λ n. printing n q s) (device_at device q s))
+    (at_device now s steady (Print row device) p device (is_listed now s steady (Print row device) p))
 begins now s steady (TooFar row) p = of_row now s steady (TooFar row) p (λ q. Some (holding q)) refl
-begins now s steady (Local row dest) p = of_row now s steady (Local row dest) p (λ q. option_map (λ n. moving n s q) (dest_at dest q s)) (at_dest now s steady (Local row dest) p (λ n. moving n s p.row) dest (is_listed now s steady (Local row dest) p))
-begins now s steady (Hand row dest) p = of_row now s steady (Hand row dest) p (λ q. option_map (λ n. open_hand n now s q) (dest_at dest q s)) (at_dest now s steady (Hand row dest) p (λ n. open_hand n now s p.row) dest (is_listed now s steady (Hand row dest) p))
+begins now s steady (Local row dest) p = of_row now s steady (Local row dest) p (λ q. option_map (λ n. moving n s q) (dest_at dest q s))
+    (at_dest now s steady (Local row dest) p (λ n. moving n s p.row) dest (is_listed now s steady (Local row dest) p))
+begins now s steady (Hand row dest) p = of_row now s steady (Hand row dest) p (λ q. option_map (λ n. open_hand n now s q) (dest_at dest q s))
+    (at_dest now s steady (Hand row dest) p (λ n. open_hand n now s p.row) dest (is_listed now s steady (Hand row dest) p))
 
 -- where nothing starts, no queue may start a row
 pub none_may_start : (now : ℕ) (s : Plain) → IsSteady s → start now s ≡ None → list_any (may_start now s) s.queues ≡ false

@@ -1,5 +1,6 @@
 -- What a message would say stays true, however the run goes on: a closed number stays closed, and a taken one taken.
-use Rattle.std.proofs.Common.{◌≡◌, ℕ, true, List, [], ◌∷◌, ◌++◌, ◌||◌, Bool, false, length, slice_get, Option, None, Some, zero, suc, true≢false, refl, sym, ap, subst, ◌∙◌, arith}
+use Rattle.std.proofs.Common.{◌≡◌, ℕ, true, List, [], ◌∷◌, ◌++◌, ◌||◌, Bool, false, length, slice_get, Option, None, Some, zero, suc, true≢false, refl, sym, ap}
+use Rattle.std.proofs.Common.{subst, ◌∙◌, arith}
 use Rattle.std.proofs.lemmas.Bool.{and_parts, or_right, eqb-true}
 use Rattle.std.proofs.lemmas.Option.{same_Some, none-some}
 use Rattle.std.proofs.lemmas.List.Folds.{list_all-append}
@@ -36,7 +37,8 @@ pub record IsClosing (said : Message) (m : Moment) : Type 0 where
   pub closed : IsPaired m.states (said ∷ [])
 
 module _ (site : List (List ℕ)) (said : Message) where
-  closing_after : (m : Moment) → IsSound site m → (h : HostId) (s : Plain) → At m.states h s → (way : Way m.packets h s) (o : Option (Change (List ℕ))) → change_by way ≡ o → ((c : Change (List ℕ)) → o ≡ Some c → Suits s c) → IsClosing said m → IsPaired (put_state h (after_change o s) m.states) (said ∷ [])
+  closing_after : (m : Moment) → IsSound site m → (h : HostId) (s : Plain) → At m.states h s → (way : Way m.packets h s) (o : Option (Change (List ℕ)))
+      → change_by way ≡ o → ((c : Change (List ℕ)) → o ≡ Some c → Suits s c) → IsClosing said m → IsPaired (put_state h (after_change o s) m.states) (said ∷ [])
   closing_after m sound h s there way None is suits k = subst (λ l. IsPaired l (said ∷ [])) (sym (put-same h.0 s m.states there)) k.closed
   closing_after m sound h s there way (Some c) is suits k = change_words site m sound k.paired h s there (said ∷ []) k.closed way c is (suits c refl)
 
@@ -85,8 +87,14 @@ module _ (site : List (List ℕ)) (few : IsSite site) (acts more : List Act) (sa
 
   pub stays_true : (said : Message) → IsTrueWord start.states said → IsTrueWord end.states said
   stays_true said holds =
-      let told : IsPaired start.states (said ∷ []) = record { lone = start_net.paired.lone; pairs = start_net.paired.pairs; words = λ x sent. of sent.0 x sent.1 } in
-      let kept = goes_on site (IsClosing said) (closing_keeps site said) start_world start.notes start_sound (record { paired = start_net.paired; closed = told }) more parts_sane.1 in
+      let told : IsPaired start.states (said ∷ []) = record {
+        lone = start_net.paired.lone;
+        pairs = start_net.paired.pairs;
+        words =
+            λ x sent. of sent.0 x sent.1;
+      } in
+      let kept = goes_on site (IsClosing said) (closing_keeps site said) start_world start.notes start_sound
+      (record { paired = start_net.paired; closed = told }) more parts_sane.1 in
       subst (λ v. IsTrueWord (states_of v) said) (sym (run-append acts more (new_world site))) (kept.closed.words said (0, refl))
     where
       of : (k : ℕ) (x : Message) → slice_get (said ∷ []) k ≡ Some x → IsTrueWord start.states x

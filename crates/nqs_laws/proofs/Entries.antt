@@ -1,5 +1,6 @@
 -- The entries of the network table are those of the table that the hosts tell.
-use Rattle.std.proofs.Common.{◌≡◌, ℕ, ◌+◌, ◌<◌, ◌⊎◌, inl, inr, Bool, true, false, cond, not, ◌||◌, ◌==◌, List, [], ◌∷◌, ◌++◌, map, filter, find, slice_get, Option, None, Some, true≢false, zero, suc, refl, sym, ap, subst, ◌∙◌, arith, if◌then◌else◌}
+use Rattle.std.proofs.Common.{◌≡◌, ℕ, ◌+◌, ◌<◌, ◌⊎◌, inl, inr, Bool, true, false, cond, not, ◌||◌, ◌==◌, List, [], ◌∷◌, ◌++◌, map, filter, find, slice_get}
+use Rattle.std.proofs.Common.{Option, None, Some, true≢false, zero, suc, refl, sym, ap, subst, ◌∙◌, arith, if◌then◌else◌}
 use Rattle.std.proofs.lemmas.Bool.{and_parts, and_from, or_parts, or_left, or_right, eqb-true, eq-eqb, not_from_false, not-true, false_from_ne_true}
 use Rattle.std.proofs.lemmas.Option.{same_Some, none-some}
 use Rattle.std.proofs.lemmas.List.{map-append}
@@ -17,7 +18,8 @@ use Rattle.nqs_rules.specs.Tests.{passes, is_committed, same_host}
 use Rattle.nqs_rules.specs.Find.{find_row, find_hand, host_at}
 use Rattle.nqs_rules.specs.Fits.{is_committed_hand}
 use Rattle.nqs_rules.specs.InOrder.{IsInOrder, are_distinct}
-use Rattle.nqs_rules.specs.Net.{Entry, entry_in, row_entry, promise_entry, is_committed_at, is_arriving, arriving, entries_at, entries_from, entries, is_table, entry_of}
+use Rattle.nqs_rules.specs.Net.{Entry, entry_in, row_entry, promise_entry, is_committed_at, is_arriving, arriving, entries_at, entries_from, entries, is_table}
+use Rattle.nqs_rules.specs.Net.{entry_of}
 use Rattle.nqs_rules.proofs.ListFacts.{found_passes, found_again}
 use Rattle.nqs_rules.proofs.RowFacts.{same_id}
 use Rattle.nqs_rules.proofs.StateFacts.{keys_are}
@@ -27,7 +29,8 @@ use Rattle.nqs_laws.proofs.After.{Request}
 use Rattle.nqs_laws.proofs.Pair.{Offer, NoOffer, Open, Given}
 use Rattle.nqs_laws.proofs.Views.{Pledging, offered, promise_of, IsLone, host_exact, host_same}
 use Rattle.nqs_laws.proofs.Paired.{At, given_offer, committed_hand}
-use Rattle.nqs_laws.proofs.Tabled.{Place, Nowhere, Sits, Arrives, Table, IsTabled, IsPlaced, row_in, claim_in, claim, sits_here, arrives_here, row_of_sits, claim_of_arrives}
+use Rattle.nqs_laws.proofs.Tabled.{Place, Nowhere, Sits, Arrives, Table, IsTabled, IsPlaced, row_in, claim_in, claim, sits_here, arrives_here, row_of_sits}
+use Rattle.nqs_laws.proofs.Tabled.{claim_of_arrives}
 
 -- the entry of a place
 abbrev pub entry_at : Place → Option Entry
@@ -53,7 +56,8 @@ every_both : {V : Type 0} (P : V → Type 0) (a b : List V) → AllByRecursion P
 every_both P [] b p q = q
 every_both P (x ∷ a) b p q = (p.0, every_both P a b p.1 q)
 
-every_kept : {V : Type 0} (P : V → Type 0) (keep : V → Bool) (vs : List V) → ((i : ℕ) (v : V) → slice_get vs i ≡ Some v → keep v ≡ true → P v) → AllByRecursion P (filter keep vs)
+every_kept : {V : Type 0} (P : V → Type 0) (keep : V → Bool) (vs : List V) → ((i : ℕ) (v : V) → slice_get vs i ≡ Some v → keep v ≡ true → P v)
+    → AllByRecursion P (filter keep vs)
 every_kept P keep [] f = tt
 every_kept P keep (v ∷ vs) f = by (keep v) refl (every_kept P keep vs (λ i w at. f (suc i) w at))
   where
@@ -62,7 +66,8 @@ every_kept P keep (v ∷ vs) f = by (keep v) refl (every_kept P keep vs (λ i w 
     by false e rest = rest
 
 -- keys of two lists
-module _ (states : List Plain) (table : Table) (told : IsTabled states table) (orders : (a : HostId) (s : Plain) → At states a s → IsInOrder s) (lones : (a : HostId) (s : Plain) → At states a s → IsLone s.hands) where
+module _ (states : List Plain) (table : Table) (told : IsTabled states table) (orders : (a : HostId) (s : Plain) → At states a s → IsInOrder s)
+    (lones : (a : HostId) (s : Plain) → At states a s → IsLone s.hands) where
   -- an entry is that of its request's place
   abbrev pub IsEntry : Entry → Type 0
   IsEntry e = entry_at (table e.id) ≡ Some e
@@ -80,14 +85,16 @@ module _ (states : List Plain) (table : Table) (told : IsTabled states table) (o
         promised : promise_of p.peer s ≡ Some p
         promised = found_again same_host (λ (q : Pledging). q.peer) host_exact host_same s.promises i p (orders h s at).promisers there
 
-        by : (u : Plain) → At states p.peer u → (x : Option Hand) → find_hand h p.number u ≡ x → passes is_committed_hand x ≡ true → table p.row.id ≡ Arrives p.peer h p.row
+        by : (u : Plain) → At states p.peer u → (x : Option Hand) → find_hand h p.number u ≡ x → passes is_committed_hand x ≡ true
+            → table p.row.id ≡ Arrives p.peer h p.row
         by u uat None e k = absurd (true≢false (sym k))
         by u uat (Some y) e k =
             let given = given_offer u (lones p.peer u uat) h p.number (record { hand = y; found = e; is = phase y.phase refl k }) in
             arrives_here p.peer h (table p.row.id) p.row
             (sym (told.claims p.peer h u s uat at p.row.id)
             ∙ ((λ j. claim (given j) (promised j) p.row.id)
-            ∙ (ap (λ z. if z then (if id_eq p.row.id p.row.id then Some p.row else None) else None) (eq-eqb p.number p.number refl) ∙ ap (λ z. if z then Some p.row else None) (same_id p.row.id))))
+            ∙ (ap (λ z. if z then (if id_eq p.row.id p.row.id then Some p.row else None) else None) (eq-eqb p.number p.number refl)
+            ∙ ap (λ z. if z then Some p.row else None) (same_id p.row.id))))
           where
             phase : (q : Phase) → y.phase ≡ q → is_committed q ≡ true → y.phase ≡ Committed
             phase Committed f g = f
@@ -102,7 +109,8 @@ module _ (states : List Plain) (table : Table) (told : IsTabled states table) (o
     IsOf e = IsEntry e × (host_of_place (table e.id) ≡ h.0)
 
     rows_of : AllByRecursion IsOf (map (row_entry h) s.rows)
-    rows_of = every_map IsOf (row_entry h) s.rows (every (λ r. IsOf (row_entry h r)) s.rows (λ i r there. (ap entry_at (row_sits i r there), ap host_of_place (row_sits i r there))))
+    rows_of = every_map IsOf (row_entry h) s.rows (every (λ r. IsOf (row_entry h r)) s.rows
+        (λ i r there. (ap entry_at (row_sits i r there), ap host_of_place (row_sits i r there))))
 
     abbrev ComesHere : Pledging → Type 0
     ComesHere p = table p.row.id ≡ Arrives p.peer h p.row
@@ -129,14 +137,17 @@ module _ (states : List Plain) (table : Table) (told : IsTabled states table) (o
     row_ids [] = refl
     row_ids (r ∷ rows) = ap (λ l. r.id ∷ l) (row_ids rows)
 
-    arriving_distinct : (ps : List Pledging) → AllByRecursion ComesHere ps → are_distinct same_host (map (λ (p : Pledging). p.peer) ps) ≡ true → are_distinct id_eq (ids_of (map (promise_entry h) ps)) ≡ true
+    arriving_distinct : (ps : List Pledging) → AllByRecursion ComesHere ps → are_distinct same_host (map (λ (p : Pledging). p.peer) ps) ≡ true
+        → are_distinct id_eq (ids_of (map (promise_entry h) ps)) ≡ true
     arriving_distinct [] all d = refl
     arriving_distinct (p ∷ ps) all d =
-        let k = and_parts (not (list_any (same_host p.peer) (map (λ (q : Pledging). q.peer) ps))) (are_distinct same_host (map (λ (q : Pledging). q.peer) ps)) d in
+        let k = and_parts (not (list_any (same_host p.peer) (map (λ (q : Pledging). q.peer) ps)))
+        (are_distinct same_host (map (λ (q : Pledging). q.peer) ps)) d in
         and_from (not (list_any (id_eq p.row.id) (ids_of (map (promise_entry h) ps)))) (are_distinct id_eq (ids_of (map (promise_entry h) ps)))
         (not_from_false _ (none ps all.1 (not-true (list_any (same_host p.peer) (map (λ (q : Pledging). q.peer) ps)) k.0))) (arriving_distinct ps all.1 k.1)
       where
-        none : (qs : List Pledging) → AllByRecursion ComesHere qs → list_any (same_host p.peer) (map (λ (q : Pledging). q.peer) qs) ≡ false → list_any (id_eq p.row.id) (ids_of (map (promise_entry h) qs)) ≡ false
+        none : (qs : List Pledging) → AllByRecursion ComesHere qs → list_any (same_host p.peer) (map (λ (q : Pledging). q.peer) qs) ≡ false
+            → list_any (id_eq p.row.id) (ids_of (map (promise_entry h) qs)) ≡ false
         none [] comes far = refl
         none (q ∷ qs) comes far =
             let f = or_parts (same_host p.peer q.peer) (list_any (same_host p.peer) (map (λ (z : Pledging). z.peer) qs)) far in
@@ -146,7 +157,8 @@ module _ (states : List Plain) (table : Table) (told : IsTabled states table) (o
             true≢false (sym (ap (same_host p.peer) (sym peers) ∙ host_same p.peer) ∙ f.0)) in
             (λ j. other j || none qs comes.1 f.1 j)
 
-    apart : (r : PlainRow) (i : ℕ) → slice_get s.rows i ≡ Some r → (ps : List Pledging) → AllByRecursion ComesHere ps → list_any (id_eq r.id) (ids_of (map (promise_entry h) ps)) ≡ false
+    apart : (r : PlainRow) (i : ℕ) → slice_get s.rows i ≡ Some r → (ps : List Pledging) → AllByRecursion ComesHere ps
+        → list_any (id_eq r.id) (ids_of (map (promise_entry h) ps)) ≡ false
     apart r i there [] all = refl
     apart r i there (p ∷ ps) all =
         let other : id_eq r.id p.row.id ≡ false = false_from_ne_true (id_eq r.id p.row.id) (λ same.
@@ -155,7 +167,8 @@ module _ (states : List Plain) (table : Table) (told : IsTabled states table) (o
         (λ j. other j || apart r i there ps all.1 j)
 
   -- two lists of keys without a common one
-  distinct_both : (xs ys : List Request) → are_distinct id_eq xs ≡ true → are_distinct id_eq ys ≡ true → AllByRecursion (λ x. list_any (id_eq x) ys ≡ false) xs → are_distinct id_eq (xs ++ ys) ≡ true
+  distinct_both : (xs ys : List Request) → are_distinct id_eq xs ≡ true → are_distinct id_eq ys ≡ true → AllByRecursion (λ x. list_any (id_eq x) ys ≡ false) xs
+      → are_distinct id_eq (xs ++ ys) ≡ true
   distinct_both [] ys a b far = b
   distinct_both (x ∷ xs) ys a b far =
       let k = and_parts (not (list_any (id_eq x) xs)) (are_distinct id_eq xs) a in
@@ -167,17 +180,21 @@ module _ (states : List Plain) (table : Table) (told : IsTabled states table) (o
       let rows = map (row_entry h) s.rows in
       let promises = map (promise_entry h) (arriving states h s) in
       ap (are_distinct id_eq) (map-append (λ (e : Entry). e.id) rows promises)
-      ∙ distinct_both (map (λ (e : Entry). e.id) rows) (map (λ (e : Entry). e.id) promises) (ap (are_distinct id_eq) (row_ids h s at s.rows) ∙ (keys_are s (orders h s at).keys).rows)
+      ∙ distinct_both (map (λ (e : Entry). e.id) rows) (map (λ (e : Entry). e.id) promises)
+      (ap (are_distinct id_eq) (row_ids h s at s.rows) ∙ (keys_are s (orders h s at).keys).rows)
       (arriving_distinct h s at (arriving states h s) (arriving_here h s at) (fewer_peers s.promises (orders h s at).promisers))
       (every_map (λ x. list_any (id_eq x) (map (λ (e : Entry). e.id) promises) ≡ false) (λ (e : Entry). e.id) rows
       (every_map (λ (e : Entry). list_any (id_eq e.id) (map (λ (e : Entry). e.id) promises) ≡ false) (row_entry h) s.rows
-      (every (λ r. list_any (id_eq r.id) (map (λ (e : Entry). e.id) promises) ≡ false) s.rows (λ i r there. apart h s at r i there (arriving states h s) (arriving_here h s at)))))
+      (every (λ r. list_any (id_eq r.id) (map (λ (e : Entry). e.id) promises) ≡ false) s.rows
+      (λ i r there. apart h s at r i there (arriving states h s) (arriving_here h s at)))))
     where
-      fewer_peers : (ps : List Pledging) → are_distinct same_host (map (λ (p : Pledging). p.peer) ps) ≡ true → are_distinct same_host (map (λ (p : Pledging). p.peer) (filter (is_arriving states h) ps)) ≡ true
+      fewer_peers : (ps : List Pledging) → are_distinct same_host (map (λ (p : Pledging). p.peer) ps) ≡ true
+          → are_distinct same_host (map (λ (p : Pledging). p.peer) (filter (is_arriving states h) ps)) ≡ true
       fewer_peers ps d = part_distinct same_host (map_part (λ (p : Pledging). p.peer) (filter_part (is_arriving states h) ps)) d
 
   -- requests of other hosts
-  far_off : (x : Request) (n : ℕ) → host_of_place (table x) ≡ n → (es : List Entry) → AllByRecursion (λ (e : Entry). n < host_of_place (table e.id)) es → list_any (id_eq x) (map (λ (e : Entry). e.id) es) ≡ false
+  far_off : (x : Request) (n : ℕ) → host_of_place (table x) ≡ n → (es : List Entry) → AllByRecursion (λ (e : Entry). n < host_of_place (table e.id)) es
+      → list_any (id_eq x) (map (λ (e : Entry). e.id) es) ≡ false
   far_off x n here [] all = refl
   far_off x n here (e ∷ es) all =
       let other : id_eq x e.id ≡ false = false_from_ne_true (id_eq x e.id) (λ same.
@@ -191,22 +208,28 @@ module _ (states : List Plain) (table : Table) (told : IsTabled states table) (o
     pub behind : (n : ℕ) → n < place → AllByRecursion (λ (e : Entry). n < host_of_place (table e.id)) es
     pub distinct : are_distinct id_eq (map (λ (e : Entry). e.id) es) ≡ true
 
-  listed : (place : ℕ) (rest : List Plain) → ((n : ℕ) (s : Plain) → slice_get rest n ≡ Some s → slice_get states (place + n) ≡ Some s) → Listed place (entries_from place states rest)
+  listed : (place : ℕ) (rest : List Plain) → ((n : ℕ) (s : Plain) → slice_get rest n ≡ Some s → slice_get states (place + n) ≡ Some s)
+      → Listed place (entries_from place states rest)
   listed place [] all = record { right = tt; behind = λ n below. tt; distinct = refl }
   listed place (s ∷ rest) all =
       let h : HostId = host_at place in
       let at : At states h s = (let z : place + 0 ≡ place = omega arith in ap (slice_get states) (sym z) ∙ all 0 s refl) in
-      let later = listed (place + 1) rest (λ n t there. (let z : place + suc n ≡ (place + 1) + n = omega arith in ap (slice_get states) (sym z) ∙ all (suc n) t there)) in
+      let later = listed (place + 1) rest (λ n t there. (let z : place + suc n ≡ (place + 1) + n = omega arith in
+      ap (slice_get states) (sym z) ∙ all (suc n) t there)) in
       let own = host_entries h s at in
       let es = entries_at states h s in
       let fs = entries_from (place + 1) states rest in
       record {
         right = every_both IsEntry es fs (weaker (λ (e : Entry). IsEntry e × (host_of_place (table e.id) ≡ place)) IsEntry (λ e k. k.0) es own) later.right;
-        behind = λ n below. every_both (λ (e : Entry). n < host_of_place (table e.id)) es fs (weaker (λ (e : Entry). IsEntry e × (host_of_place (table e.id) ≡ place)) (λ (e : Entry). n < host_of_place (table e.id)) (λ e k. (let f = k.1 in omega (arith, f, below))) es own) (later.behind n (omega arith));
+        behind = λ n below. every_both (λ (e : Entry). n < host_of_place (table e.id)) es fs
+            (weaker (λ (e : Entry). IsEntry e × (host_of_place (table e.id) ≡ place)) (λ (e : Entry). n < host_of_place (table e.id))
+            (λ e k. (let f = k.1 in omega (arith, f, below))) es own) (later.behind n (omega arith));
         distinct = ap (are_distinct id_eq) (map-append (λ (e : Entry). e.id) es fs)
             ∙ distinct_both (map (λ (e : Entry). e.id) es) (map (λ (e : Entry). e.id) fs) (host_distinct h s at) later.distinct
             (every_map (λ x. list_any (id_eq x) (map (λ (e : Entry). e.id) fs) ≡ false) (λ (e : Entry). e.id) es
-            (weaker (λ (e : Entry). IsEntry e × (host_of_place (table e.id) ≡ place)) (λ (e : Entry). list_any (id_eq e.id) (map (λ (e : Entry). e.id) fs) ≡ false) (λ e k. far_off e.id place k.1 fs (later.behind place (omega arith))) es own));
+            (weaker (λ (e : Entry). IsEntry e × (host_of_place (table e.id) ≡ place))
+            (λ (e : Entry). list_any (id_eq e.id) (map (λ (e : Entry). e.id) fs) ≡ false)
+            (λ e k. far_off e.id place k.1 fs (later.behind place (omega arith))) es own));
       }
     where
       weaker : {V : Type 0} (P Q : V → Type 0) → ((v : V) → P v → Q v) → (vs : List V) → AllByRecursion P vs → AllByRecursion Q vs
@@ -226,15 +249,19 @@ module _ (states : List Plain) (table : Table) (told : IsTabled states table) (o
   in_list x [] k = absurd (true≢false (sym k))
   in_list x (e ∷ es) k = by (id_eq x e.id) k (in_list x es)
     where
-      by : (b : Bool) → (b || list_any (λ (e : Entry). id_eq x e.id) es) ≡ true → (list_any (λ (e : Entry). id_eq x e.id) es ≡ true → (e : Entry) × (find (λ (e : Entry). id_eq x e.id) es ≡ Some e)) → (f : Entry) × (cond b (Some e) (find (λ (e : Entry). id_eq x e.id) es) ≡ Some f)
+      by : (b : Bool) → (b || list_any (λ (e : Entry). id_eq x e.id) es) ≡ true
+          → (list_any (λ (e : Entry). id_eq x e.id) es ≡ true → (e : Entry) × (find (λ (e : Entry). id_eq x e.id) es ≡ Some e))
+          → (f : Entry) × (cond b (Some e) (find (λ (e : Entry). id_eq x e.id) es) ≡ Some f)
       by true k rest = (e, refl)
       by false k rest = rest k
 
-  found_right : (x : Request) (es : List Entry) → AllByRecursion IsEntry es → (e : Entry) → find (λ (e : Entry). id_eq x e.id) es ≡ Some e → entry_at (table x) ≡ Some e
+  found_right : (x : Request) (es : List Entry) → AllByRecursion IsEntry es → (e : Entry) → find (λ (e : Entry). id_eq x e.id) es ≡ Some e
+      → entry_at (table x) ≡ Some e
   found_right x [] all e k = absurd (none-some e k)
   found_right x (f ∷ es) all e k = by (id_eq x f.id) refl k (found_right x es all.1 e)
     where
-      by : (b : Bool) → id_eq x f.id ≡ b → cond b (Some f) (find (λ (e : Entry). id_eq x e.id) es) ≡ Some e → (find (λ (e : Entry). id_eq x e.id) es ≡ Some e → entry_at (table x) ≡ Some e) → entry_at (table x) ≡ Some e
+      by : (b : Bool) → id_eq x f.id ≡ b → cond b (Some f) (find (λ (e : Entry). id_eq x e.id) es) ≡ Some e
+          → (find (λ (e : Entry). id_eq x e.id) es ≡ Some e → entry_at (table x) ≡ Some e) → entry_at (table x) ≡ Some e
       by true same k rest = ap (λ i. entry_at (table i)) (id_exact x f.id same) ∙ (all.0 ∙ k)
       by false same k rest = rest k
 
@@ -242,21 +269,26 @@ module _ (states : List Plain) (table : Table) (told : IsTabled states table) (o
   any_both t a b (inl k) = list_any-append t a b ∙ or_left (list_any t a) (list_any t b) k
   any_both t a b (inr k) = list_any-append t a b ∙ or_right (list_any t a) (list_any t b) k
 
-  somewhere : (t : Entry → Bool) (place : ℕ) (rest : List Plain) (n : ℕ) (s : Plain) → slice_get rest n ≡ Some s → list_any t (entries_at states (host_at (place + n)) s) ≡ true → list_any t (entries_from place states rest) ≡ true
+  somewhere : (t : Entry → Bool) (place : ℕ) (rest : List Plain) (n : ℕ) (s : Plain) → slice_get rest n ≡ Some s
+      → list_any t (entries_at states (host_at (place + n)) s) ≡ true → list_any t (entries_from place states rest) ≡ true
   somewhere t place [] n s at k = absurd (none-some s at)
   somewhere t place (u ∷ rest) zero s at k =
       let z : place + 0 ≡ place = omega arith in
       let same : u ≡ s = same_Some u s at in
-      any_both t (entries_at states (host_at place) u) (entries_from (place + 1) states rest) (inl ((λ j. list_any t (entries_at states (host_at (sym z j)) (same j))) ∙ k))
+      any_both t (entries_at states (host_at place) u) (entries_from (place + 1) states rest)
+      (inl ((λ j. list_any t (entries_at states (host_at (sym z j)) (same j))) ∙ k))
   somewhere t place (u ∷ rest) (suc n) s at k =
       let z : (place + 1) + n ≡ place + suc n = omega arith in
-      any_both t (entries_at states (host_at place) u) (entries_from (place + 1) states rest) (inr (somewhere t (place + 1) rest n s at ((λ j. list_any t (entries_at states (host_at (z j)) s)) ∙ k)))
+      any_both t (entries_at states (host_at place) u) (entries_from (place + 1) states rest)
+      (inr (somewhere t (place + 1) rest n s at ((λ j. list_any t (entries_at states (host_at (z j)) s)) ∙ k)))
 
-  any_mapped : {V : Type 0} (t : Entry → Bool) (g : V → Entry) (u : V → Bool) (vs : List V) (v : V) → find u vs ≡ Some v → t (g v) ≡ true → list_any t (map g vs) ≡ true
+  any_mapped : {V : Type 0} (t : Entry → Bool) (g : V → Entry) (u : V → Bool) (vs : List V) (v : V) → find u vs ≡ Some v → t (g v) ≡ true
+      → list_any t (map g vs) ≡ true
   any_mapped t g u [] v e k = absurd (none-some v e)
   any_mapped t g u (x ∷ vs) v e k = by (u x) e (any_mapped t g u vs v)
     where
-      by : (b : Bool) → cond b (Some x) (find u vs) ≡ Some v → (find u vs ≡ Some v → t (g v) ≡ true → list_any t (map g vs) ≡ true) → (t (g x) || list_any t (map g vs)) ≡ true
+      by : (b : Bool) → cond b (Some x) (find u vs) ≡ Some v → (find u vs ≡ Some v → t (g v) ≡ true → list_any t (map g vs) ≡ true)
+          → (t (g x) || list_any t (map g vs)) ≡ true
       by true e rest = or_left (t (g x)) (list_any t (map g vs)) (ap (λ y. t (g y)) (same_Some x v e) ∙ k)
       by false e rest = or_right (t (g x)) (list_any t (map g vs)) (rest e k)
 
@@ -264,7 +296,8 @@ module _ (states : List Plain) (table : Table) (told : IsTabled states table) (o
   find_in_filter u keep [] p e k = absurd (none-some p e)
   find_in_filter u keep (q ∷ ps) p e k = by (keep q) refl (u q) refl e (find_in_filter u keep ps p)
     where
-      by : (a : Bool) → keep q ≡ a → (b : Bool) → u q ≡ b → cond b (Some q) (find u ps) ≡ Some p → (find u ps ≡ Some p → keep p ≡ true → find u (filter keep ps) ≡ Some p) → find u (cond a (q ∷ filter keep ps) (filter keep ps)) ≡ Some p
+      by : (a : Bool) → keep q ≡ a → (b : Bool) → u q ≡ b → cond b (Some q) (find u ps) ≡ Some p
+          → (find u ps ≡ Some p → keep p ≡ true → find u (filter keep ps) ≡ Some p) → find u (cond a (q ∷ filter keep ps) (filter keep ps)) ≡ Some p
       by true f true g e rest = ap (λ b. cond b (Some q) (find u (filter keep ps))) g ∙ e
       by true f false g e rest = ap (λ b. cond b (Some q) (find u (filter keep ps))) g ∙ rest e k
       by false f true g e rest = absurd (true≢false (sym k ∙ (ap keep (sym (same_Some q p e)) ∙ f)))
@@ -293,24 +326,29 @@ module _ (states : List Plain) (table : Table) (told : IsTabled states table) (o
       at_hosts : (s : Plain) × (t : Plain) × At states a s × At states b t → list_any (λ (e : Entry). id_eq x e.id) (entries states) ≡ true
       at_hosts (s, t, sat, tat) = by (offered s b) refl (promise_of a t) refl (told.claims a b s t sat tat x ∙ (ap (claim_in a b) e ∙ claim_of_arrives a b r))
         where
-          by : (o : Offer) → offered s b ≡ o → (q : Option Pledging) → promise_of a t ≡ q → claim o q x ≡ Some r → list_any (λ (e : Entry). id_eq x e.id) (entries states) ≡ true
+          by : (o : Offer) → offered s b ≡ o → (q : Option Pledging) → promise_of a t ≡ q → claim o q x ≡ Some r
+              → list_any (λ (e : Entry). id_eq x e.id) (entries states) ≡ true
           by NoOffer f q g k = absurd (none-some r k)
           by (Open n load) f q g k = absurd (none-some r k)
-          by (Given n) f None g k = absurd (none-some r k)
-          by (Given n) f (Some p) g k = numbered (p.number == n) refl k
+          by (Given n id queue) f None g k = absurd (none-some r k)
+          by (Given n id queue) f (Some p) g k = numbered (p.number == n) refl k
             where
-              named : p.number ≡ n → (c : Bool) → id_eq x p.row.id ≡ c → (if c then Some p.row else None) ≡ Some r → list_any (λ (e : Entry). id_eq x e.id) (entries states) ≡ true
+              named : p.number ≡ n → (c : Bool) → id_eq x p.row.id ≡ c → (if c then Some p.row else None) ≡ Some r
+                  → list_any (λ (e : Entry). id_eq x e.id) (entries states) ≡ true
               named number true is k =
                   let peer : a ≡ p.peer = host_exact a p.peer (found_passes (λ (q : Pledging). same_host a q.peer) t.promises p g) in
-                  let comes : is_arriving states b p ≡ true = (λ j. passes (is_committed_at b (number j)) (slice_get states (sym peer j).0)) ∙ (ap (passes (is_committed_at b n)) sat ∙ committed_hand s (orders a s sat) b n f) in
+                  let comes : is_arriving states b p ≡ true = (λ j. passes (is_committed_at b (number j)) (slice_get states (sym peer j).0))
+                  ∙ (ap (passes (is_committed_at b n)) sat ∙ committed_hand s (orders a s sat) b n id queue f) in
                   let z : 0 + b.0 ≡ b.0 = omega arith in
                   somewhere (λ (e : Entry). id_eq x e.id) 0 states b.0 t tat
                   ((λ j. list_any (λ (e : Entry). id_eq x e.id) (entries_at states (host_at (z j)) t))
                   ∙ any_both (λ (e : Entry). id_eq x e.id) (map (row_entry b) t.rows) (map (promise_entry b) (arriving states b t))
-                  (inr (any_mapped (λ (e : Entry). id_eq x e.id) (promise_entry b) (λ (q : Pledging). same_host a q.peer) (arriving states b t) p (find_in_filter (λ (q : Pledging). same_host a q.peer) (is_arriving states b) t.promises p g comes) is)))
+                  (inr (any_mapped (λ (e : Entry). id_eq x e.id) (promise_entry b) (λ (q : Pledging). same_host a q.peer) (arriving states b t) p
+                  (find_in_filter (λ (q : Pledging). same_host a q.peer) (is_arriving states b) t.promises p g comes) is)))
               named number false is k = absurd (none-some r k)
 
-              numbered : (c : Bool) → (p.number == n) ≡ c → (if c then (if id_eq x p.row.id then Some p.row else None) else None) ≡ Some r → list_any (λ (e : Entry). id_eq x e.id) (entries states) ≡ true
+              numbered : (c : Bool) → (p.number == n) ≡ c → (if c then (if id_eq x p.row.id then Some p.row else None) else None) ≡ Some r
+                  → list_any (λ (e : Entry). id_eq x e.id) (entries states) ≡ true
               numbered true is k = named (eqb-true p.number n is) (id_eq x p.row.id) refl k
               numbered false is k = absurd (none-some r k)
 
@@ -320,8 +358,10 @@ module _ (states : List Plain) (table : Table) (told : IsTabled states table) (o
     where
       nowhere : entry_of x states ≡ None → (t : Place) → table x ≡ t → None ≡ entry_at t
       nowhere none Nowhere e = refl
-      nowhere none (Sits h r) e = absurd (let k = in_list x (entries states) (listed_there x (Sits h r) e (λ f. let no : ⊥ = cc in no)) in none-some k.0 (sym none ∙ k.1))
-      nowhere none (Arrives a b r) e = absurd (let k = in_list x (entries states) (listed_there x (Arrives a b r) e (λ f. let no : ⊥ = cc in no)) in none-some k.0 (sym none ∙ k.1))
+      nowhere none (Sits h r) e = absurd (let k = in_list x (entries states) (listed_there x (Sits h r) e (λ f. let no : ⊥ = cc in no)) in
+          none-some k.0 (sym none ∙ k.1))
+      nowhere none (Arrives a b r) e = absurd (let k = in_list x (entries states) (listed_there x (Arrives a b r) e (λ f. let no : ⊥ = cc in no)) in
+          none-some k.0 (sym none ∙ k.1))
 
       of : (y : Option Entry) → entry_of x states ≡ y → y ≡ entry_at (table x)
       of None e = nowhere e (table x) refl

@@ -1,5 +1,6 @@
 -- What each step of a world keeps, a whole run keeps, whatever stops.
-use Rattle.std.proofs.Common.{◌≡◌, ℕ, ◌+◌, Bool, true, false, cond, List, [], ◌∷◌, ◌++◌, map, filter, length, slice_get, Option, None, Some, zero, suc, refl, sym, ap, subst, ◌∙◌, if◌then◌else◌}
+use Rattle.std.proofs.Common.{◌≡◌, ℕ, ◌+◌, Bool, true, false, cond, List, [], ◌∷◌, ◌++◌, map, filter, length, slice_get, Option, None, Some, zero, suc, refl}
+use Rattle.std.proofs.Common.{sym, ap, subst, ◌∙◌, if◌then◌else◌}
 use Rattle.std.proofs.lemmas.Bool.{and_parts}
 use Rattle.std.proofs.lemmas.List.{append_assoc, append-nil, length-append}
 use Rattle.std.proofs.lemmas.Option.{same_Some, none-some, slice_get-map}
@@ -14,9 +15,15 @@ use Rattle.nqs_rules.specs.Starts.{after_change}
 use Rattle.nqs_rules.specs.Step.{step}
 use Rattle.nqs_rules.specs.Start.{start}
 use Rattle.nqs_rules.specs.Stepped.{Stepped, shown, stored_parts}
-use Rattle.nqs_rules.specs.World.{World, Host, Ran, Fate, Made, StoppedBefore, StoppedAfter, Act, Asks, Ends, Finishes, Fails, Writes, Leaves, Delivers, Newest, Ticks, Clock, Fuse, Crashes, Boots, Shows, fate, host_of, put_host, then_seen, seeing, unseen, stopped, used, seen_output, sent_by, emits, change_fated, makes_change, steps, starts, all_starts, left_of, shuts_down, halted_host, halts, takes_up, taken_by, takes, finishes, finishes_up, delivers, packet_at, last_of, is_between, newest_between, boot_output, boots_down, boots, crashes_up, runs_now, is_less_row, fused_host, fuses}
+use Rattle.nqs_rules.specs.World.{World, Host, Ran, Fate, Made, StoppedBefore, StoppedAfter, Act, Asks, Ends, Finishes, Fails, Writes, Leaves, Delivers, Newest}
+use Rattle.nqs_rules.specs.World.{Ticks, Clock, Fuse, Crashes, Boots, Shows, fate, host_of, put_host, then_seen, seeing, unseen, stopped, used, seen_output}
+use Rattle.nqs_rules.specs.World.{sent_by, emits, change_fated, makes_change, steps, starts, all_starts, left_of, shuts_down, halted_host, halts, takes_up}
+use Rattle.nqs_rules.specs.World.{taken_by, takes, finishes, finishes_up, delivers, packet_at, last_of, is_between, newest_between, boot_output, boots_down}
+use Rattle.nqs_rules.specs.World.{boots, crashes_up, runs_now, is_less_row, fused_host, fuses}
 use Rattle.nqs_rules.specs.Run.{states_of, happens, run}
-use Rattle.nqs_laws.specs.History.{Why, ByEvent, ByStart, ByBoot, Note, Saw, Kept, saws, kept_by, change_notes, plan_notes, step_notes, start_notes, all_start_notes, event_notes, taken_notes, take_notes, finish_notes, finish_up_notes, deliver_notes, boot_down_notes, boot_notes, notes, history}
+use Rattle.nqs_laws.specs.History.{Why, ByEvent, ByStart, ByBoot, Note, Saw, Kept, saws, kept_by, change_notes, plan_notes, step_notes, start_notes}
+use Rattle.nqs_laws.specs.History.{all_start_notes, event_notes, taken_notes, take_notes, finish_notes, finish_up_notes, deliver_notes, boot_down_notes}
+use Rattle.nqs_laws.specs.History.{boot_notes, notes, history}
 use Rattle.nqs_laws.specs.Sane.{is_sane_act, AreSane}
 use Rattle.nqs_types.specs.declared.ids.HostId.{HostId}
 use Rattle.nqs_types.specs.declared.request.Row.{Row}
@@ -119,8 +126,27 @@ whole m h s way = record {
 -- what each step keeps
 pub record Frames (P : Moment → Type 0) : Type 0 where
   pub idle : (m : Moment) (x : Seen) → IsIdle x → P m → P (noted m (Saw x ∷ []))
-  pub kept : (m : Moment) (h : HostId) (s : Plain) → slice_get m.states h.0 ≡ Some s → (way : Way m.packets h s) (c : Change (List ℕ)) → change_by way ≡ Some c → P m → P (silent m h s (why_by way) c)
+  pub kept : (m : Moment) (h : HostId) (s : Plain) → slice_get m.states h.0 ≡ Some s → (way : Way m.packets h s) (c : Change (List ℕ)) → change_by way ≡ Some c
+      → P m → P (silent m h s (why_by way) c)
   pub made : (m : Moment) (h : HostId) (s : Plain) → slice_get m.states h.0 ≡ Some s → (way : Way m.packets h s) → P m → P (whole m h s way)
+
+-- a change is kept, and the host stops right behind it
+abbrev pub cut : Moment → HostId → Plain → Why → Change (List ℕ) → Moment
+cut m h s why c = noted (silent m h s why c) (Saw (seen.Stop h) ∷ [])
+
+-- what each step keeps, where a kept change goes with the stop behind it
+pub record Steps (P : Moment → Type 0) : Type 0 where
+  pub idle : (m : Moment) (x : Seen) → IsIdle x → P m → P (noted m (Saw x ∷ []))
+  pub stopped : (m : Moment) (h : HostId) (s : Plain) → slice_get m.states h.0 ≡ Some s → (way : Way m.packets h s) (c : Change (List ℕ))
+      → change_by way ≡ Some c → P m → P (cut m h s (why_by way) c)
+  pub made : (m : Moment) (h : HostId) (s : Plain) → slice_get m.states h.0 ≡ Some s → (way : Way m.packets h s) → P m → P (whole m h s way)
+
+pub steps_of : (P : Moment → Type 0) → Frames P → Steps P
+steps_of P f = record {
+  idle = f.idle;
+  stopped = λ m h s there way c e p. f.idle (silent m h s (why_by way) c) (seen.Stop h) tt (f.kept m h s there way c e p);
+  made = f.made;
+}
 
 -- lists of hosts
 
@@ -129,7 +155,8 @@ put-same n v [] e = refl
 put-same zero v (x ∷ vs) e = ap (λ y. y ∷ vs) (sym (same_Some x v e))
 put-same (suc n) v (x ∷ vs) e = ap (λ l. x ∷ l) (put-same n v vs e)
 
-pub map-at : {V W : Type 0} (m : V → W) (n : ℕ) (f : V → V) (g : W → W) → ((v : V) → m (f v) ≡ g (m v)) → (vs : List V) → map m (change_at n f vs) ≡ change_at n g (map m vs)
+pub map-at : {V W : Type 0} (m : V → W) (n : ℕ) (f : V → V) (g : W → W) → ((v : V) → m (f v) ≡ g (m v)) → (vs : List V)
+    → map m (change_at n f vs) ≡ change_at n g (map m vs)
 map-at m n f g same [] = refl
 map-at m zero f g same (v ∷ vs) = ap (λ y. y ∷ map m vs) (same v)
 map-at m (suc n) f g same (v ∷ vs) = ap (λ l. m v ∷ l) (map-at m n f g same vs)
@@ -156,11 +183,13 @@ stop_states h host w e = put_states h (stopped host.state host) w ∙ put-same h
 
 emits_seen : (h : HostId) (os : List Output) (w : World) → (emits h os w).seen ≡ seen_from h (length w.packets) os
 emits_seen h [] w = refl
-emits_seen h (o ∷ os) w = ap (λ l. seen_output h (length w.packets + 1) o ++ l) (emits_seen h os (record w { packets = w.packets ++ sent_by o }) ∙ ap (λ n. seen_from h n os) (length-append w.packets (sent_by o)))
+emits_seen h (o ∷ os) w = ap (λ l. seen_output h (length w.packets + 1) o ++ l)
+    (emits_seen h os (record w { packets = w.packets ++ sent_by o }) ∙ ap (λ n. seen_from h n os) (length-append w.packets (sent_by o)))
 
 pub emits_world : (h : HostId) (os : List Output) (w : World) → (emits h os w).world ≡ record w { packets = w.packets ++ sent_in os }
 emits_world h [] w = λ j. record w { packets = sym (append-nil w.packets) j }
-emits_world h (o ∷ os) w = emits_world h os (record w { packets = w.packets ++ sent_by o }) ∙ (λ j. record w { packets = append_assoc w.packets (sent_by o) (sent_in os) j })
+emits_world h (o ∷ os) w = emits_world h os (record w { packets = w.packets ++ sent_by o })
+    ∙ (λ j. record w { packets = append_assoc w.packets (sent_by o) (sent_in os) j })
 
 -- packets
 
@@ -175,7 +204,8 @@ was_first t (x ∷ vs) v e = by (t x) e (was_first t vs v)
     of [] e rest = (0, e)
     of (y ∷ ys) e rest = next (rest e)
 
-    by : (b : Bool) → last_of (cond b (x ∷ filter t vs) (filter t vs)) ≡ Some v → (last_of (filter t vs) ≡ Some v → (k : ℕ) × (slice_get vs k ≡ Some v)) → (k : ℕ) × (slice_get (x ∷ vs) k ≡ Some v)
+    by : (b : Bool) → last_of (cond b (x ∷ filter t vs) (filter t vs)) ≡ Some v → (last_of (filter t vs) ≡ Some v → (k : ℕ) × (slice_get vs k ≡ Some v))
+        → (k : ℕ) × (slice_get (x ∷ vs) k ≡ Some v)
     by true e rest = of (filter t vs) e rest
     by false e rest = next (rest e)
 
@@ -186,7 +216,7 @@ packet_sent (suc k) w m e = (k, e)
 abbrev pub world_of : Ran → World
 world_of r = r.world
 
-module _ (P : Moment → Type 0) (f : Frames P) where
+module _ (P : Moment → Type 0) (f : Steps P) where
   -- what is known after something, and of what happened in it
   abbrev pub After : World → List Note → Type 0
   After w ns = P (moment w ns)
@@ -220,15 +250,26 @@ module _ (P : Moment → Type 0) (f : Frames P) where
         let world = emits_world h (outputs_by way) v in
         let sights = emits_seen h (outputs_by way) v in
         subst P
-        ((λ j. record { states = states j; packets = w.packets ++ sent_in (outputs_by way); notes = ns ++ (kept_of h (why_by way) (e j) ++ saws (first_by way ++ sym sights j)) })
+        ((λ j. record {
+          states = states j;
+          packets = w.packets ++ sent_in (outputs_by way);
+          notes =
+              ns ++ (kept_of h (why_by way) (e j) ++ saws (first_by way ++ sym sights j));
+        })
         ∙ (λ j. moment (sym world j) (ns ++ (Kept h (why_by way) c ∷ saws (first_by way ++ (emits h (outputs_by way) v).seen)))))
         done
     fated StoppedBefore c e =
-        subst (λ l. P (record { states = l; packets = w.packets; notes = ns ++ Saw (seen.Stop h) ∷ [] })) (sym (stop_states h host w there)) (f.idle (moment w ns) (seen.Stop h) tt p)
+        subst (λ l. P (record { states = l; packets = w.packets; notes = ns ++ Saw (seen.Stop h) ∷ [] })) (sym (stop_states h host w there))
+        (f.idle (moment w ns) (seen.Stop h) tt p)
     fated StoppedAfter c e =
         let v : World = put_host h (stopped (applied c host.state) host) w in
-        let kept = f.idle (silent (moment w ns) h host.state (why_by way) c) (seen.Stop h) tt (f.kept (moment w ns) h host.state at way c e p) in
-        subst P (λ j. record { states = sym (put_states h (stopped (applied c host.state) host) w) j; packets = w.packets; notes = append_assoc ns (Kept h (why_by way) c ∷ []) (Saw (seen.Stop h) ∷ []) j }) kept
+        subst P (λ j. record {
+          states = sym (put_states h (stopped (applied c host.state) host) w) j;
+          packets = w.packets;
+          notes =
+              append_assoc ns (Kept h (why_by way) c ∷ []) (Saw (seen.Stop h) ∷ []) j;
+        })
+        (f.stopped (moment w ns) h host.state at way c e p)
 
     pub does_kept : (o : Option (Change (List ℕ))) → change_by way ≡ o
         → (let r = does h host o (first_by way) (outputs_by way) w in After r.world (ns ++ (plan_notes h host (why_by way) o ++ saws r.seen)))
@@ -239,7 +280,12 @@ module _ (P : Moment → Type 0) (f : Frames P) where
         let world = emits_world h (outputs_by way) w in
         let sights = emits_seen h (outputs_by way) w in
         subst P
-        ((λ j. record { states = states j; packets = w.packets ++ sent_in (outputs_by way); notes = ns ++ (kept_of h (why_by way) (e j) ++ saws (first_by way ++ sym sights j)) })
+        ((λ j. record {
+          states = states j;
+          packets = w.packets ++ sent_in (outputs_by way);
+          notes =
+              ns ++ (kept_of h (why_by way) (e j) ++ saws (first_by way ++ sym sights j));
+        })
         ∙ (λ j. moment (sym world j) (ns ++ saws (first_by way ++ (emits h (outputs_by way) w).seen))))
         done
 
@@ -250,11 +296,13 @@ module _ (P : Moment → Type 0) (f : Frames P) where
   step_kept w ns h host there e comes p = by (step e host.state).change refl
     where
       by : (o : Option (Change (List ℕ))) → (step e host.state).change ≡ o
-          → (let s : Stepped (List ℕ) = record { change = o; outputs = (step e host.state).outputs } in After (steps h host s w).world (ns ++ step_notes h host (ByEvent e) s w))
+          → (let s : Stepped (List ℕ) = record { change = o; outputs = (step e host.state).outputs } in
+          After (steps h host s w).world (ns ++ step_notes h host (ByEvent e) s w))
       by None k = does_kept w ns h host there (Taken e comes) p None k
       by (Some c) k = does_kept w ns h host there (Taken e comes) p (Some c) k
 
-  pub begin_kept : (w : World) (ns : List Note) (h : HostId) (host : Host) → host_of h w ≡ Some host → (x : Stepped (List ℕ)) → start w.now host.state ≡ Some x → After w ns
+  pub begin_kept : (w : World) (ns : List Note) (h : HostId) (host : Host) → host_of h w ≡ Some host → (x : Stepped (List ℕ)) → start w.now host.state ≡ Some x
+      → After w ns
       → After (steps h host x w).world (ns ++ step_notes h host ByStart x w)
   begin_kept w ns h host there x e p = by x.change refl
     where
@@ -289,7 +337,8 @@ module _ (P : Moment → Type 0) (f : Frames P) where
       by host there true None e rest = nothing w ns p
       by host there true (Some s) e rest =
           let v : World = (steps h host s w).world in
-          parts (starts n h v).world ns (step_notes h host ByStart s w) (start_notes n h v) (rest v (ns ++ step_notes h host ByStart s w) (begin_kept w ns h host there s e p))
+          parts (starts n h v).world ns (step_notes h host ByStart s w) (start_notes n h v)
+          (rest v (ns ++ step_notes h host ByStart s w) (begin_kept w ns h host there s e p))
 
       of : (o : Option Host) → host_of h w ≡ o → ((v : World) (ms : List Note) → After v ms → After (starts n h v).world (ms ++ start_notes n h v))
           → After (world_of (elim o [
@@ -326,7 +375,8 @@ module _ (P : Moment → Type 0) (f : Frames P) where
     where
       by : (host : Host) → host_of h w ≡ Some host → (up : Bool)
           → (let r = if up then seeing (seen.Stop h) (put_host h (stopped host.state host) w) else unseen w in After r.world (ns ++ saws r.seen))
-      by host there true = subst (λ l. P (record { states = l; packets = w.packets; notes = ns ++ Saw (seen.Stop h) ∷ [] })) (sym (stop_states h host w there)) (f.idle (moment w ns) (seen.Stop h) tt p)
+      by host there true = subst (λ l. P (record { states = l; packets = w.packets; notes = ns ++ Saw (seen.Stop h) ∷ [] })) (sym (stop_states h host w there))
+          (f.idle (moment w ns) (seen.Stop h) tt p)
       by host there false = nothing w ns p
 
       of : (o : Option Host) → host_of h w ≡ o → After (halted_host h o w).world (ns ++ saws (halted_host h o w).seen)
@@ -348,10 +398,12 @@ module _ (P : Moment → Type 0) (f : Frames P) where
 
   -- a host that is down takes nothing
   taken_kept : (w : World) (ns : List Note) (h : HostId) (g : Host → World → Ran) (k : Host → World → List Note) → After w ns
-      → ((host : Host) → host_of h w ≡ Some host → After (g host w).world (ns ++ k host w)) → After (taken_by (host_of h w) h g w).world (ns ++ taken_notes (host_of h w) h k w)
+      → ((host : Host) → host_of h w ≡ Some host → After (g host w).world (ns ++ k host w))
+      → After (taken_by (host_of h w) h g w).world (ns ++ taken_notes (host_of h w) h k w)
   taken_kept w ns h g k p done = of (host_of h w) refl
     where
-      by : (host : Host) → host_of h w ≡ Some host → (up : Bool) → After (if up then g host w else seeing (seen.Down h) w).world (ns ++ (if up then k host w else Saw (seen.Down h) ∷ []))
+      by : (host : Host) → host_of h w ≡ Some host → (up : Bool) → After (if up then g host w else seeing (seen.Down h) w).world
+          (ns ++ (if up then k host w else Saw (seen.Down h) ∷ []))
       by host there true = done host there
       by host there false = f.idle (moment w ns) (seen.Down h) tt p
 
@@ -360,13 +412,16 @@ module _ (P : Moment → Type 0) (f : Frames P) where
       of (Some host) e = by host e host.up
 
   takes_kept : (w : World) (ns : List Note) (h : HostId) (e : Event) → Comes w.packets h e → After w ns → After (takes h e w).world (ns ++ take_notes h e w)
-  takes_kept w ns h e comes p = taken_kept w ns h (λ host. takes_up h host e) (λ host. event_notes h host e) p (λ host there. event_kept w ns h host there e comes p)
+  takes_kept w ns h e comes p = taken_kept w ns h (λ host. takes_up h host e) (λ host. event_notes h host e) p
+      (λ host there. event_kept w ns h host there e comes p)
 
-  finishes_kept : (w : World) (ns : List Note) (h : HostId) (host : Host) → host_of h w ≡ Some host → After w ns → (o : Option (ℕ × Row (List ℕ))) → After (finishes h host o w).world (ns ++ finish_notes h host o w)
+  finishes_kept : (w : World) (ns : List Note) (h : HostId) (host : Host) → host_of h w ≡ Some host → After w ns → (o : Option (ℕ × Row (List ℕ)))
+      → After (finishes h host o w).world (ns ++ finish_notes h host o w)
   finishes_kept w ns h host there p None = f.idle (moment w ns) (seen.Idle h) tt p
   finishes_kept w ns h host there p (Some q) = event_kept w ns h host there (event.Ended w.now 0 q.1.id q.1.starts 0 [] []) refl p
 
-  delivers_kept : (w : World) (ns : List Note) (k : Option ℕ) (o : Option Message) → ((m : Message) → o ≡ Some m → WasSent m w.packets) → After w ns → After (delivers k o w).world (ns ++ deliver_notes k o w)
+  delivers_kept : (w : World) (ns : List Note) (k : Option ℕ) (o : Option Message) → ((m : Message) → o ≡ Some m → WasSent m w.packets) → After w ns
+      → After (delivers k o w).world (ns ++ deliver_notes k o w)
   delivers_kept w ns k None sent p = f.idle (moment w ns) (seen.NoPacket k) tt p
   delivers_kept w ns k (Some m) sent p = takes_kept w ns m.to (event.Arrived w.now m) (refl, sent m refl) p
 
@@ -377,9 +432,11 @@ module _ (P : Moment → Type 0) (f : Frames P) where
       down host there =
           let r = makes_change h host Boot (seen.Boot h ∷ []) (filter_map boot_output host.state.rows) w in
           let a = change_notes h host ByBoot Boot ++ saws r.seen in
-          parts (all_starts h r.world).world ns a (all_start_notes h r.world) (all_starts_kept h r.world (ns ++ a) (does_kept w ns h host there Booted p (Some Boot) refl))
+          parts (all_starts h r.world).world ns a (all_start_notes h r.world)
+          (all_starts_kept h r.world (ns ++ a) (does_kept w ns h host there Booted p (Some Boot) refl))
 
-      by : (host : Host) → host_of h w ≡ Some host → (up : Bool) → After (if up then seeing (seen.Up h) w else boots_down h host w).world (ns ++ (if up then Saw (seen.Up h) ∷ [] else boot_down_notes h host w))
+      by : (host : Host) → host_of h w ≡ Some host → (up : Bool) → After (if up then seeing (seen.Up h) w else boots_down h host w).world
+          (ns ++ (if up then Saw (seen.Up h) ∷ [] else boot_down_notes h host w))
       by host there true = f.idle (moment w ns) (seen.Up h) tt p
       by host there false = down host there
 
@@ -390,8 +447,10 @@ module _ (P : Moment → Type 0) (f : Frames P) where
   crash_kept : (w : World) (ns : List Note) (h : HostId) → After w ns → (let r = taken_by (host_of h w) h (crashes_up h) w in After r.world (ns ++ saws r.seen))
   crash_kept w ns h p = of (host_of h w) refl
     where
-      by : (host : Host) → host_of h w ≡ Some host → (up : Bool) → (let r = if up then crashes_up h host w else seeing (seen.Down h) w in After r.world (ns ++ saws r.seen))
-      by host there true = subst (λ l. P (record { states = l; packets = w.packets; notes = ns ++ Saw (seen.Stop h) ∷ [] })) (sym (stop_states h host w there)) (f.idle (moment w ns) (seen.Stop h) tt p)
+      by : (host : Host) → host_of h w ≡ Some host → (up : Bool) → (let r = if up then crashes_up h host w else seeing (seen.Down h) w in
+          After r.world (ns ++ saws r.seen))
+      by host there true = subst (λ l. P (record { states = l; packets = w.packets; notes = ns ++ Saw (seen.Stop h) ∷ [] })) (sym (stop_states h host w there))
+          (f.idle (moment w ns) (seen.Stop h) tt p)
       by host there false = f.idle (moment w ns) (seen.Down h) tt p
 
       of : (o : Option Host) → host_of h w ≡ o → (let r = taken_by o h (crashes_up h) w in After r.world (ns ++ saws r.seen))
@@ -401,7 +460,8 @@ module _ (P : Moment → Type 0) (f : Frames P) where
   happens_kept : (a : Act) (w : World) (ns : List Note) → is_sane_act a ≡ true → After w ns → After (happens a w).world (ns ++ notes a w)
   happens_kept (Asks h user c) w ns sane p = takes_kept w ns h (event.Ask w.now 0 0 user c) sane p
   happens_kept (Ends h id start status output error) w ns sane p = takes_kept w ns h (event.Ended w.now 0 id start status output error) sane p
-  happens_kept (Finishes h) w ns sane p = taken_kept w ns h (finishes_up h) (finish_up_notes h) p (λ host there. finishes_kept w ns h host there p (best_from runs_now is_less_row 0 host.state.rows))
+  happens_kept (Finishes h) w ns sane p = taken_kept w ns h (finishes_up h) (finish_up_notes h) p
+      (λ host there. finishes_kept w ns h host there p (best_from runs_now is_less_row 0 host.state.rows))
   happens_kept (Fails h id start) w ns sane p = takes_kept w ns h (event.Unlaunched w.now id start) refl p
   happens_kept (Writes h file) w ns sane p = takes_kept w ns h (event.Written w.now file) refl p
   happens_kept (Leaves h file) w ns sane p = takes_kept w ns h (event.Unwritten w.now file) refl p
@@ -410,7 +470,8 @@ module _ (P : Moment → Type 0) (f : Frames P) where
   happens_kept (Ticks h) w ns sane p = takes_kept w ns h (event.Tick w.now) refl p
   happens_kept (Clock n) w ns sane p = nothing (record w { now = n }) ns p
   happens_kept (Fuse h disk calls tear) w ns sane p =
-      nothing (fuses h disk calls tear w) ns (subst (λ l. P (record { states = l; packets = w.packets; notes = ns })) (sym (map-at state_in h.0 (fused_host disk calls tear) (λ s. s) (λ v. refl) w.hosts ∙ at-id h.0 (states_of w))) p)
+      nothing (fuses h disk calls tear w) ns (subst (λ l. P (record { states = l; packets = w.packets; notes = ns }))
+      (sym (map-at state_in h.0 (fused_host disk calls tear) (λ s. s) (λ v. refl) w.hosts ∙ at-id h.0 (states_of w))) p)
   happens_kept (Crashes h) w ns sane p = crash_kept w ns h p
   happens_kept (Boots h) w ns sane p = boots_kept w ns h p
   happens_kept Shows w ns sane p = f.idle (moment w ns) _ tt p

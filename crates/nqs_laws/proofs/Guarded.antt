@@ -1,5 +1,6 @@
 -- Each change comes only where its moves may come.
-use Rattle.std.proofs.Common.{◌≡◌, ℕ, ◌+◌, ◌<◌, Bool, true, false, not, List, [], ◌∷◌, find, slice_get, Option, None, Some, true≢false, refl, sym, ap, subst, ◌∙◌, if◌then◌else◌}
+use Rattle.std.proofs.Common.{◌≡◌, ℕ, ◌+◌, ◌<◌, Bool, true, false, not, List, [], ◌∷◌, find, slice_get, Option, None, Some, true≢false, refl, sym, ap, subst}
+use Rattle.std.proofs.Common.{◌∙◌, if◌then◌else◌}
 use Rattle.std.proofs.lemmas.Bool.{and_parts, leb-false, not-true}
 use Rattle.std.proofs.lemmas.Option.{same_Some}
 use Rattle.std.specs.List.{list_any}
@@ -10,7 +11,9 @@ use Rattle.nqs_types.specs.declared.request.Peer.{Peer}
 use Rattle.nqs_types.specs.declared.request.Phase.{Phase}
 use Rattle.nqs_types.specs.declared.request.Phase.TheVariants.{Offered, Committed}
 use Rattle.nqs_types.specs.declared.change.Change.{Change}
-use Rattle.nqs_types.specs.declared.change.Change.TheVariants.{Submitted, Deleted, Doomed, Started, Ended, Unlaunched, Boot, Edited, HandOpened, HandCommitted, HandRefused, HandsSilent, HandDone, Promised, Accepted, Dropped, MovedLocal, RefusedLocal, HeldFar, StageGot, StageGone, FileGone}
+use Rattle.nqs_types.specs.declared.change.Change.TheVariants.{Submitted, Deleted, Doomed, Started, Ended, Unlaunched, Boot, Edited, HandOpened, HandCommitted}
+use Rattle.nqs_types.specs.declared.change.Change.TheVariants.{HandRefused, HandsSilent, HandDone, Promised, Accepted, Dropped, MovedLocal, RefusedLocal}
+use Rattle.nqs_types.specs.declared.change.Change.TheVariants.{HeldFar, StageGot, StageGone, FileGone}
 use Rattle.nqs_types.specs.declared.message.Message.{Message}
 use Rattle.nqs_types.specs.declared.message.Body.{Body}
 use Rattle.nqs_types.specs.declared.message.Body.TheVariants as body
@@ -22,7 +25,6 @@ use Rattle.nqs_rules.specs.Tests.{passes, is_offered, is_running, same_host}
 use Rattle.nqs_rules.specs.Find.{has_queue, has_promise, find_row, find_peer}
 use Rattle.nqs_rules.specs.Rows.{arrivals_used}
 use Rattle.nqs_rules.specs.Routing.{is_hand_to, is_closed}
-use Rattle.nqs_rules.specs.Handover.{carried_of}
 use Rattle.nqs_rules.specs.Applied.{is_offered_for}
 use Rattle.nqs_rules.specs.Fits.{fits, row_passes, may_hop, is_next, is_open_number, is_site_host, is_unknown, offer_full}
 use Rattle.nqs_rules.specs.Step.{completed}
@@ -33,9 +35,11 @@ use Rattle.nqs_rules.proofs.StartIs.{StartsRow, start_is}
 use Rattle.nqs_rules.proofs.Until.{steady}
 use Rattle.nqs_laws.proofs.Frame.{WasSent, Comes, Way, Taken, Begun, Booted, change_by}
 use Rattle.nqs_laws.proofs.Sound.{some-if}
+use Rattle.nqs_laws.specs.Loads.{offered_load, sent_load}
 use Rattle.nqs_laws.proofs.RowTests.{PlainRow}
 use Rattle.nqs_laws.proofs.Makes.{HasHand, Answers, Obeys, Follows, step_makes}
-use Rattle.nqs_laws.proofs.Pair.{NoOffer, Open, IsTaken, Move, Stays, Withdraws, Commits, Finishes, Pledges, Accepts, Drops, May, MayOffer, MayWithdraw, MayCommit, MayFinish, MayAccept, MayDrop}
+use Rattle.nqs_laws.proofs.Pair.{NoOffer, Open, IsTaken, Move, Stays, Withdraws, Commits, Finishes, Pledges, Accepts, Drops, May, MayOffer, MayWithdraw}
+use Rattle.nqs_laws.proofs.Pair.{MayCommit, MayFinish, MayAccept, MayDrop}
 use Rattle.nqs_laws.proofs.Views.{phase_seen, offer_seen, offered, pledged, closed_of, pair_of, IsLone, host_exact, routing_of, peer_field, closed_field}
 use Rattle.nqs_laws.proofs.Turns.{to_move, from_move, deleted_move, offers_by, IsQuiet}
 use Rattle.nqs_laws.proofs.Paired.{At, HoldsFor, IsPaired, IsOne, GuardsOf, open_offer, given_offer, pledge_at, no_pledge}
@@ -65,11 +69,13 @@ module _ (states : List Plain) (packets : List Message) (k : IsPaired states pac
           let r = routing_of s o (is_hand_to b) y e opens in
           subst MayWithdraw (sym (ap (λ x. offer_seen x s) e ∙ phase y.phase refl opens r.0 r.1)) tt
         where
-          phase : (p : Phase) → y.phase ≡ p → is_offered p ≡ true → (r : PlainRow) → find_row y.id s ≡ Some r → phase_seen p y (find_row y.id s) ≡ Open y.number (carried_of r)
+          phase : (p : Phase) → y.phase ≡ p → is_offered p ≡ true → (r : PlainRow) → find_row y.id s ≡ Some r
+              → phase_seen p y (find_row y.id s) ≡ Open y.number (offered_load y.queue r)
           phase Offered f g r row = ap (phase_seen Offered y) row
           phase Committed f g r row = absurd (true≢false (sym g))
 
-      if_may : (b : HostId) (t : Plain) (y : Hand) → find (is_hand_to b) s.hands ≡ Some y → (c : Bool) → is_offered_for id y ≡ c → May (pair_of h s b t) (if c then Withdraws else Stays)
+      if_may : (b : HostId) (t : Plain) (y : Hand) → find (is_hand_to b) s.hands ≡ Some y → (c : Bool) → is_offered_for id y ≡ c
+          → May (pair_of h s b t) (if c then Withdraws else Stays)
       if_may b t y e true is = by b y e (and_parts (is_offered y.phase) _ is).0
       if_may b t y e false is = tt
 
@@ -77,59 +83,69 @@ module _ (states : List Plain) (packets : List Message) (k : IsPaired states pac
       of b t None e = tt
       of b t (Some y) e = if_may b t y e (is_offered_for id y) refl
 
-  opened_guards : (peer : HostId) (number : ℕ) (id : _) (queue : List ℕ) (since : ℕ) → fits {F = List ℕ} (HandOpened peer number id queue since) s ≡ true → GuardsOf states h s (HandOpened peer number id queue since)
+  opened_guards : (peer : HostId) (number : ℕ) (id : _) (queue : List ℕ) (since : ℕ) → fits {F = List ℕ} (HandOpened peer number id queue since) s ≡ true
+      → GuardsOf states h s (HandOpened peer number id queue since)
   opened_guards peer number id queue since fit = record { to_peers = λ b t at. by b t (same_host b peer) refl (find_row id s); from_peers = λ a u at. tt }
     where
       may : not (list_any (is_hand_to peer) s.hands) ≡ true
-      may = (each (row_passes (may_hop {E = List ℕ}) id s) (passes (is_next number) (find_peer peer s) ∷ not (list_any (is_hand_to peer) s.hands) ∷ []) fit).1.1.0
+      may = (each (row_passes (may_hop {E = List ℕ}) id s) (passes (is_next number) (find_peer peer s) ∷ not (list_any (is_hand_to peer) s.hands)
+          ∷ []) fit).1.1.0
 
       none : offered s peer ≡ NoOffer
       none = ap (λ x. offer_seen x s) (none_found (is_hand_to peer) s.hands (not-true (list_any (is_hand_to peer) s.hands) may))
 
-      by : (b : HostId) (t : Plain) (c : Bool) → same_host b peer ≡ c → (r : Option PlainRow) → May (pair_of h s b t) (if c then offers_by r else Stays)
+      by : (b : HostId) (t : Plain) (c : Bool) → same_host b peer ≡ c → (r : Option PlainRow) → May (pair_of h s b t) (if c then offers_by queue r else Stays)
       by b t true e None = tt
       by b t true e (Some r) = subst MayOffer (sym (ap (offered s) (host_exact b peer e) ∙ none)) tt
       by b t false e r = tt
 
   -- moves to a peer alone
-  to_guards : (peer : HostId) (m : Move) (c : Change (List ℕ)) → ((b : HostId) → to_move c s b ≡ (if same_host b peer then m else Stays)) → ((a : HostId) → from_move c a ≡ Stays) → ((t : Plain) → At states peer t → May (pair_of h s peer t) m) → GuardsOf states h s c
+  to_guards : (peer : HostId) (m : Move) (c : Change (List ℕ)) → ((b : HostId) → to_move c s b ≡ (if same_host b peer then m else Stays))
+      → ((a : HostId) → from_move c a ≡ Stays) → ((t : Plain) → At states peer t → May (pair_of h s peer t) m) → GuardsOf states h s c
   to_guards peer m c to from may = record {
     to_peers = λ b t at. subst (May (pair_of h s b t)) (sym (to b)) (by b t at (same_host b peer) refl);
     from_peers = λ a u at. subst (May (pair_of a u h s)) (sym (from a)) tt;
   }
     where
       by : (b : HostId) (t : Plain) → At states b t → (d : Bool) → same_host b peer ≡ d → May (pair_of h s b t) (if d then m else Stays)
-      by b t at true e = let here : b ≡ peer = host_exact b peer e in subst (λ i. May (pair_of h s i t) m) (sym here) (may t (ap (λ (i : HostId). slice_get states i.0) (sym here) ∙ at))
+      by b t at true e = let here : b ≡ peer = host_exact b peer e in subst (λ i. May (pair_of h s i t) m) (sym here)
+          (may t (ap (λ (i : HostId). slice_get states i.0) (sym here) ∙ at))
       by b t at false e = tt
 
-  from_guards : (peer : HostId) (m : Move) (c : Change (List ℕ)) → ((a : HostId) → from_move c a ≡ (if same_host a peer then m else Stays)) → ((b : HostId) → to_move c s b ≡ Stays) → ((u : Plain) → At states peer u → May (pair_of peer u h s) m) → GuardsOf states h s c
+  from_guards : (peer : HostId) (m : Move) (c : Change (List ℕ)) → ((a : HostId) → from_move c a ≡ (if same_host a peer then m else Stays))
+      → ((b : HostId) → to_move c s b ≡ Stays) → ((u : Plain) → At states peer u → May (pair_of peer u h s) m) → GuardsOf states h s c
   from_guards peer m c from to may = record {
     to_peers = λ b t at. subst (May (pair_of h s b t)) (sym (to b)) tt;
     from_peers = λ a u at. subst (May (pair_of a u h s)) (sym (from a)) (by a u at (same_host a peer) refl);
   }
     where
       by : (a : HostId) (u : Plain) → At states a u → (d : Bool) → same_host a peer ≡ d → May (pair_of a u h s) (if d then m else Stays)
-      by a u at true e = let here : a ≡ peer = host_exact a peer e in subst (λ i. May (pair_of i u h s) m) (sym here) (may u (ap (λ (i : HostId). slice_get states i.0) (sym here) ∙ at))
+      by a u at true e = let here : a ≡ peer = host_exact a peer e in subst (λ i. May (pair_of i u h s) m) (sym here)
+          (may u (ap (λ (i : HostId). slice_get states i.0) (sym here) ∙ at))
       by a u at false e = tt
 
   -- what was known of the message that came
   module _ (x : Message) (sent : WasSent x packets) (to : x.to ≡ h) where
     known : (u : Plain) → At states x.from u → HoldsFor (pair_of x.from u h s) (pair_of h s x.from u) x.body
-    known u at = subst (λ i. HoldsFor (pair_of x.from u i s) (pair_of i s x.from u) x.body) to (k.words x sent u s at (ap (λ (i : HostId). slice_get states i.0) to ∙ there))
+    known u at = subst (λ i. HoldsFor (pair_of x.from u i s) (pair_of i s x.from u) x.body) to
+        (k.words x sent u s at (ap (λ (i : HostId). slice_get states i.0) to ∙ there))
 
     known_of : (b : Body) → x.body ≡ b → (u : Plain) → At states x.from u → HoldsFor (pair_of x.from u h s) (pair_of h s x.from u) b
     known_of b e u at = subst (HoldsFor (pair_of x.from u h s) (pair_of h s x.from u)) e (known u at)
 
-    ready_guards : (n : ℕ) → ((u : Plain) → At states x.from u → IsTaken (pledged u h) (closed_of h u) n) → HasHand Offered x.from n s → GuardsOf states h s (HandCommitted x.from n)
-    ready_guards n taken hand = to_guards x.from Commits (HandCommitted x.from n) (λ b. refl) (λ a. refl) (λ t at. let e = open_offer s o lone x.from n hand in subst (λ y. MayCommit y (pledged t h) (closed_of h t)) (sym e.1) (taken t at))
+    ready_guards : (n : ℕ) → ((u : Plain) → At states x.from u → IsTaken (pledged u h) (closed_of h u) n) → HasHand Offered x.from n s
+        → GuardsOf states h s (HandCommitted x.from n)
+    ready_guards n taken hand = to_guards x.from Commits (HandCommitted x.from n) (λ b. refl) (λ a. refl)
+        (λ t at. let e = open_offer s o lone x.from n hand in subst (λ y. MayCommit y (pledged t h) (closed_of h t)) (sym e.1) (taken t at))
 
     answer_guards : (b : Body) → x.body ≡ b → (c : Change (List ℕ)) → Answers b x.from s c → fits c s ≡ true → GuardsOf states h s c
     answer_guards (body.Offer n queue c script) e ch a fit = subst (GuardsOf states h s) (sym a.0)
-        (from_guards x.from (Pledges n c) (Promised x.from n queue c script) (λ z. refl) (λ b. refl) (λ u at.
+        (from_guards x.from (Pledges n (sent_load queue c script)) (Promised x.from n queue c script) (λ z. refl) (λ b. refl) (λ u at.
         let w = known_of (body.Offer n queue c script) e u at in (opened (find_peer x.from s) may, w.0, no_pledge s x.from n a.2, w.1)))
       where
         may : passes (is_open_number n) (find_peer x.from s) ≡ true
-        may = (each (has_queue queue s) (passes (is_open_number n) (find_peer x.from s) ∷ not (has_promise x.from n s) ∷ is_site_host c.id.host s ∷ is_unknown c.id s ∷ not (offer_full x.from s) ∷ not (arrivals_used s) ∷ []) (subst (λ y. fits y s ≡ true) a.0 fit)).1.0
+        may = (each (has_queue queue s) (passes (is_open_number n) (find_peer x.from s) ∷ not (has_promise x.from n s) ∷ is_site_host c.id.host s
+            ∷ is_unknown c.id s ∷ not (offer_full x.from s) ∷ not (arrivals_used s) ∷ []) (subst (λ y. fits y s ≡ true) a.0 fit)).1.0
 
         opened : (p : Option Peer) → passes (is_open_number n) p ≡ true → peer_field closed_field 0 p < n
         opened None k = absurd (true≢false (sym k))
@@ -137,12 +153,15 @@ module _ (states : List Plain) (packets : List Message) (k : IsPaired states pac
     answer_guards (body.Ready n) e ch a fit = subst (GuardsOf states h s) (sym a.0) (ready_guards n (λ u at. (known_of (body.Ready n) e u at).1) a.1)
     answer_guards (body.Inquire n) e ch a fit = subst (GuardsOf states h s) (sym a.0) (ready_guards n (λ u at. (known_of (body.Inquire n) e u at).1) a.1)
     answer_guards (body.Refused n refusal) e ch a fit = subst (GuardsOf states h s) (sym a.0)
-        (to_guards x.from Withdraws (HandRefused x.from n refusal) (λ b. refl) (λ z. refl) (λ t at. let f = open_offer s o lone x.from n a.1 in subst MayWithdraw (sym f.1) tt))
+        (to_guards x.from Withdraws (HandRefused x.from n refusal) (λ b. refl) (λ z. refl)
+        (λ t at. let f = open_offer s o lone x.from n a.1 in subst MayWithdraw (sym f.1) tt))
     answer_guards (body.Commit n) e ch a fit = subst (GuardsOf states h s) (sym a.0)
         (from_guards x.from Accepts (Accepted x.from n) (λ z. refl) (λ b. refl) (λ u at.
-        let w = known_of (body.Commit n) e u at in let f = pledge_at s o x.from n a.1 in subst (λ y. MayAccept y (offered u h) (closed_of x.from s)) (sym f.1) w.1))
+        let w = known_of (body.Commit n) e u at in let f = pledge_at s o x.from n a.1 in
+        subst (λ y. MayAccept y (offered u h) (closed_of x.from s)) (sym f.1) w.1))
     answer_guards (body.Done n) e ch a fit = subst (GuardsOf states h s) (sym a.0)
-        (to_guards x.from Finishes (HandDone x.from n) (λ b. refl) (λ z. refl) (λ t at. let w = known_of (body.Done n) e t at in subst (λ y. MayFinish y (closed_of h t)) (sym (given_offer s lone x.from n a.1)) w.1))
+        (to_guards x.from Finishes (HandDone x.from n) (λ b. refl) (λ z. refl)
+        (λ t at. let w = known_of (body.Done n) e t at in subst (λ y. MayFinish y (closed_of h t)) (sym (given_offer s lone x.from n a.1)) w.1))
     answer_guards (body.Abort n) e ch a fit = subst (GuardsOf states h s) (sym a.0)
         (from_guards x.from Drops (Dropped x.from n) (λ z. refl) (λ b. refl) (λ u at.
         let w = known_of (body.Abort n) e u at in let f = pledge_at s o x.from n a.1 in subst (λ y. MayDrop y (offered u h)) (sym f.1) w.1))
@@ -151,7 +170,8 @@ module _ (states : List Plain) (packets : List Message) (k : IsPaired states pac
     answer_guards b e ch a fit = absurd a
 
   obey_guards : (now : ℕ) (c : Command) (ch : Change (List ℕ)) → Obeys now c s ch → IsOne ch → GuardsOf states h s ch
-  obey_guards now (command.Submit sub) ch f one = subst (GuardsOf states h s) (sym f.1) (quiet_guards (Submitted f.0 (completed (s.seq + 1) sub.job) sub.script) tt)
+  obey_guards now (command.Submit sub) ch f one = subst (GuardsOf states h s) (sym f.1)
+      (quiet_guards (Submitted f.0 (completed (s.seq + 1) sub.job) sub.script) tt)
   obey_guards now (command.Edit e) ch f one = subst (GuardsOf states h s) (sym f) (quiet_guards (Edited e) tt)
   obey_guards now (command.Delete id forced) ch f one = subst (GuardsOf states h s) (sym f.is) (by (is_running f.row.state))
     where
@@ -164,7 +184,8 @@ module _ (states : List Plain) (packets : List Message) (k : IsPaired states pac
   follow_guards : (e : Event) → Comes packets h e → (c : Change (List ℕ)) → Follows e s c → fits c s ≡ true → IsOne c → GuardsOf states h s c
   follow_guards (event.Ask now port token user cmd) comes c f fit one = obey_guards now cmd c f one
   follow_guards (event.Arrived now x) comes c f fit one = answer_guards x comes.1 comes.0 x.body refl c f fit
-  follow_guards (event.Ended now port id start status output error) comes c f fit one = subst (GuardsOf states h s) (sym f.4) (quiet_guards (Ended f.1.id f.0) tt)
+  follow_guards (event.Ended now port id start status output error) comes c f fit one =
+      subst (GuardsOf states h s) (sym f.4) (quiet_guards (Ended f.1.id f.0) tt)
   follow_guards (event.Unlaunched now id start) comes c f fit one = subst (GuardsOf states h s) (sym f.3) (quiet_guards (Unlaunched id) tt)
   follow_guards (event.Written now file) comes c f fit one = subst (GuardsOf states h s) (sym f) (quiet_guards (FileGone file) tt)
   follow_guards (event.Unwritten now file) comes c f fit one = absurd f

@@ -1,8 +1,10 @@
 -- Handovers in every world that a run reaches.
-use Rattle.std.proofs.Common.{◌≡◌, ℕ, ◌+◌, ◌<◌, ◌≤◌, Bool, true, false, ◌||◌, ◌==◌, nat_le, nat_lt, List, [], ◌∷◌, length, slice_get, Option, None, Some, is_some, zero, suc, true≢false, refl, sym, ap, subst, ◌∙◌, arith, if◌then◌else◌}
-use Rattle.std.proofs.lemmas.Bool.{and_parts, or_left, or_right, or_from, eqb-true, eq-eqb, leb-true, leb-false, ltb-true, le-leb, lt-ltb, not-true, false_from_ne_true}
-use Rattle.std.proofs.lemmas.Option.{none-some}
-use Rattle.std.specs.Option.{option_map}
+use Rattle.std.proofs.Common.{◌≡◌, ℕ, ◌+◌, ◌<◌, ◌≤◌, Bool, true, false, ◌||◌, ◌==◌, nat_le, nat_lt, List, [], ◌∷◌, length, slice_get, Option, None, Some}
+use Rattle.std.proofs.Common.{is_some, zero, suc, true≢false, refl, sym, ap, subst, ◌∙◌, arith, if◌then◌else◌}
+use Rattle.std.proofs.lemmas.Bool.{and_parts, or_left, or_right, or_from, eqb-true, eq-eqb, leb-true, leb-false, ltb-true, le-leb, lt-ltb, not-true}
+use Rattle.std.proofs.lemmas.Bool.{false_from_ne_true}
+use Rattle.std.proofs.lemmas.Option.{none-some, same_Some}
+use Rattle.std.specs.Option.{option_map, option_and_then}
 use Rattle.nqs_types.specs.Ids.{id_eq}
 use Rattle.nqs_state.specs.Keys.{is_row, is_hand, is_promise}
 use Rattle.nqs_state.specs.State.{Plain}
@@ -19,7 +21,7 @@ use Rattle.nqs_rules.specs.Tests.{passes, is_offered, is_committed, same_host}
 use Rattle.nqs_rules.specs.Find.{peer_number, has_row, find_row, find_hand, find_promise, has_promise, find_peer}
 use Rattle.nqs_rules.specs.Fits.{is_offered_hand, is_committed_hand}
 use Rattle.nqs_rules.specs.InOrder.{IsInOrder}
-use Rattle.nqs_rules.specs.Handover.{closes, was_given, carried_of, is_given_here}
+use Rattle.nqs_rules.specs.Handover.{closes, was_given, is_not_given_here}
 use Rattle.nqs_rules.specs.World.{World, Act, new_world}
 use Rattle.nqs_rules.specs.Run.{run, states_of}
 use Rattle.nqs_rules.proofs.KeyFacts.{place_below, found_any, any_found}
@@ -28,14 +30,19 @@ use Rattle.nqs_rules.proofs.ListFacts.{list_all-found}
 use Rattle.nqs_rules.proofs.StateFacts.{sites_are}
 use Rattle.nqs_laws.specs.History.{history}
 use Rattle.nqs_laws.specs.Sane.{AreSane, IsSite}
-use Rattle.nqs_laws.specs.Handovers.{IsStateOf, WasSent as WasSentIn, is_open, is_given, is_closed_for, is_taken_for, AreInStep, IsTrueOf}
+use Rattle.nqs_laws.specs.Handovers.{IsStateOf, WasSent as WasSentIn, is_open, is_committed_to, is_closed_for, is_taken_for, AreInStep, IsTrueOf}
+use Rattle.nqs_laws.specs.Loads.{Load, offered_load, kept_load, sent_load, load_of, promised_load, errand, handed_errand, promised_errand}
+use Rattle.nqs_laws.specs.Between.{is_next_open, HasGivenNumber}
 use Rattle.nqs_laws.proofs.Frame.{Moment, moment, WasSent as Sent}
 use Rattle.nqs_laws.proofs.RowTests.{PlainRow}
 use Rattle.nqs_laws.proofs.Sound.{IsSound, run_sound}
 use Rattle.nqs_laws.proofs.Makes.{HasHand}
 use Rattle.nqs_laws.proofs.After.{id_of}
-use Rattle.nqs_laws.proofs.Pair.{Offer, NoOffer, Open, Given, Pledge, NoPledge, Pledged, IsTaken, IsNoPledge, IsNoOffer, IsGiven, IsOf, OfferOk, PledgeOk, Ok}
-use Rattle.nqs_laws.proofs.Views.{Pledging, offered, promise_of, pledged, peer_field, next_field, closed_field, next_of, closed_of, pair_of, host_exact, host_same, hand_peer, promise_to_peer, promise_number}
+use Rattle.nqs_laws.proofs.Pair.{Offer, NoOffer, Open, Given, Pledge, NoPledge, Pledged, IsTaken, IsNoPledge, IsNoOffer, IsGiven, IsOf, IsPromisedAs, Agrees}
+use Rattle.nqs_laws.proofs.Pair.{OfferOk, PledgeOk, Ok}
+use Rattle.nqs_laws.proofs.Views.{Pledging, offered, promise_of, pledge_seen, pledged, peer_field, next_field, closed_field, next_of, closed_of, pair_of}
+use Rattle.nqs_laws.proofs.Views.{host_exact, host_same, hand_peer, promise_to_peer, promise_number}
+use Rattle.nqs_laws.proofs.Targets.{promise_at}
 use Rattle.nqs_laws.proofs.Paired.{At, HoldsFor, open_row, open_offer, given_offer, committed_hand, pledge_at, no_pledge}
 use Rattle.nqs_laws.proofs.Tabled.{Nowhere, Sits, Arrives, row_in, claim, sits_here, arrives_here}
 use Rattle.nqs_laws.proofs.TabledRuns.{IsNet}
@@ -49,7 +56,8 @@ value_at (v ∷ vs) zero below = (v, refl)
 value_at (v ∷ vs) (suc n) below = value_at vs n (omega arith)
 
 -- a handover that is found
-hand_is : (phase : Phase) (test : Hand → Bool) → ((y : Hand) → test y ≡ true → y.phase ≡ phase) → (to : HostId) (n : ℕ) (s : Plain) → passes test (find_hand to n s) ≡ true → HasHand phase to n s
+hand_is : (phase : Phase) (test : Hand → Bool) → ((y : Hand) → test y ≡ true → y.phase ≡ phase) → (to : HostId) (n : ℕ) (s : Plain)
+    → passes test (find_hand to n s) ≡ true → HasHand phase to n s
 hand_is phase test exact to n s k = of (find_hand to n s) refl k
   where
     of : (o : Option Hand) → find_hand to n s ≡ o → passes test o ≡ true → HasHand phase to n s
@@ -67,7 +75,7 @@ phase_committed Committed k = refl
 pub open_hand : (to : HostId) (n : ℕ) (s : Plain) → is_open to n s ≡ true → HasHand Offered to n s
 open_hand = hand_is Offered is_offered_hand (λ y k. phase_offered y.phase k)
 
-pub given_hand : (to : HostId) (n : ℕ) (s : Plain) → is_given to n s ≡ true → HasHand Committed to n s
+pub given_hand : (to : HostId) (n : ℕ) (s : Plain) → is_committed_to to n s ≡ true → HasHand Committed to n s
 given_hand = hand_is Committed is_committed_hand (λ y k. phase_committed y.phase k)
 
 module _ (site : List (List ℕ)) (m : Moment) (sound : IsSound site m) (net : IsNet m) where
@@ -127,60 +135,115 @@ module _ (site : List (List ℕ)) (m : Moment) (sound : IsSound site m) (net : I
         by true e = refl
         by false e = closed_up n (closed_now (pledged t a) (no_pledge t a n e) taken)
 
+    promised_next : (n : ℕ) → has_promise a n t ≡ true → (n ≡ closed_of a t + 1) × (n < next_of b s)
+    promised_next n k = let p = pledge_at t order_t a n k in subst (λ q. PledgeOk q (next_of b s) (closed_of a t)) p.1 ok.pledge
+
+    pub next_open : (n : ℕ) → has_promise a n t ≡ true → is_next_open n (find_peer a t) ≡ true
+    next_open n k =
+        let p = peer_is a b s t sat tat in
+        let q = promised_next n k in
+        ap (is_next_open n) p.1 ∙ eq-eqb n (p.0.closed + 1) (q.0 ∙ ap (λ o. peer_field closed_field 0 o + 1) p.1)
+
     pub in_step : AreInStep a b s t
     in_step = record {
-      offered = λ n k. (let e = open_offer s order_s (net.paired.lone a s sat) b n (open_hand b n s k) in let o = subst (λ o. OfferOk o (next_of b s) (pledged t a) (closed_of a t)) e.1 ok.offer in still_open n o.1);
-      given = λ n k. (let e = given_offer s (net.paired.lone a s sat) b n (given_hand b n s k) in let o = subst (λ o. OfferOk o (next_of b s) (pledged t a) (closed_of a t)) e ok.offer in taken_up n o.1);
+      offered = λ n k. (let e = open_offer s order_s (net.paired.lone a s sat) b n (open_hand b n s k) in
+          let o = subst (λ o. OfferOk o (next_of b s) (pledged t a) (closed_of a t)) e.1 ok.offer in still_open n o.1);
+      given = λ n k. (let e = given_offer s (net.paired.lone a s sat) b n (given_hand b n s k) in
+          let o = subst (λ o. OfferOk o (next_of b s) (pledged t a) (closed_of a t)) e ok.offer in taken_up n o.1);
       promised = λ n k. (let p = promised_next n k in still_open n (let q = p.0 in omega (arith, q)));
       numbered = λ n k. numbered n (has_promise a n t) refl k;
     }
       where
-        promised_next : (n : ℕ) → has_promise a n t ≡ true → (n ≡ closed_of a t + 1) × (n < next_of b s)
-        promised_next n k = let p = pledge_at t order_t a n k in subst (λ q. PledgeOk q (next_of b s) (closed_of a t)) p.1 ok.pledge
-
         numbered : (n : ℕ) (c : Bool) → has_promise a n t ≡ c → (c || is_closed_for a n t) ≡ true → was_given n (find_peer b s) ≡ true
         numbered n true e k = given_up n (promised_next n e).1
         numbered n false e k = given_up n (let below = closed_down n k in let less = ok.below in omega (arith, below, less))
 
     -- messages
 
-    given_or_closed : (n : ℕ) → IsGiven (offered s b) (closed_of a t) n → (is_given b n s || is_closed_for a n t) ≡ true
+    given_or_closed : (n : ℕ) → IsGiven (offered s b) (closed_of a t) n → (is_committed_to b n s || is_closed_for a n t) ≡ true
     given_or_closed n given = by (nat_le n (closed_of a t)) refl
       where
-        committed : (o : Offer) → offered s b ≡ o → closed_of a t < n → IsGiven o (closed_of a t) n → is_given b n s ≡ true
+        committed : (o : Offer) → offered s b ≡ o → closed_of a t < n → IsGiven o (closed_of a t) n → is_committed_to b n s ≡ true
         committed NoOffer e above g = absurd (omega (arith, above, g))
         committed (Open k load) e above g = absurd (omega (arith, above, g))
-        committed (Given k) e above g = committed_hand s order_s b n (e ∙ ap Given (g above))
+        committed (Given k id queue) e above g = committed_hand s order_s b n id queue (e ∙ ap (λ i. Given i id queue) (g above))
 
-        by : (c : Bool) → nat_le n (closed_of a t) ≡ c → (is_given b n s || is_closed_for a n t) ≡ true
-        by true e = or_right (is_given b n s) (is_closed_for a n t) (closed_up n (leb-true n (closed_of a t) e))
-        by false e = or_left (is_given b n s) (is_closed_for a n t) (committed (offered s b) refl (leb-false n (closed_of a t) e) given)
+        by : (c : Bool) → nat_le n (closed_of a t) ≡ c → (is_committed_to b n s || is_closed_for a n t) ≡ true
+        by true e = or_right (is_committed_to b n s) (is_closed_for a n t) (closed_up n (leb-true n (closed_of a t) e))
+        by false e = or_left (is_committed_to b n s) (is_closed_for a n t) (committed (offered s b) refl (leb-false n (closed_of a t) e) given)
 
     pub no_hand : (n : ℕ) → IsNoOffer (offered s b) n → is_some (find_hand b n s) ≡ false
     no_hand n none = of (find_hand b n s) refl
       where
         by : (y : Hand) → find_hand b n s ≡ Some y → (p : Phase) → y.phase ≡ p → ⊥
-        by y e Offered is = let o = open_offer s order_s (net.paired.lone a s sat) b n (record { hand = y; found = e; is = is }) in subst (λ o. IsNoOffer o n) o.1 none refl
-        by y e Committed is = let o = given_offer s (net.paired.lone a s sat) b n (record { hand = y; found = e; is = is }) in subst (λ o. IsNoOffer o n) o none refl
+        by y e Offered is = let o = open_offer s order_s (net.paired.lone a s sat) b n (record { hand = y; found = e; is = is }) in
+            subst (λ o. IsNoOffer o n) o.1 none refl
+        by y e Committed is = let o = given_offer s (net.paired.lone a s sat) b n (record { hand = y; found = e; is = is }) in
+            subst (λ o. IsNoOffer o n) o none refl
 
         of : (o : Option Hand) → find_hand b n s ≡ o → is_some o ≡ false
         of None e = refl
         of (Some y) e = absurd (by y e y.phase refl)
 
-    offers_row : (n : ℕ) (c : Carried) → IsOf (offered s b) n c → is_open b n s ≡ true → option_map carried_of (find_row c.id s) ≡ Some c
-    offers_row n c is k =
+    -- the row of an open handover, and what it carries
+    pub open_load : (n : ℕ) → is_open b n s ≡ true → (hand : HasHand Offered b n s) × (r : PlainRow) × (find_row hand.hand.id s ≡ Some r)
+        × (offered s b ≡ Open n (offered_load hand.hand.queue r)) × (load_of b n s ≡ Some (offered_load hand.hand.queue r))
+    open_load n k =
         let hand = open_hand b n s k in
-        let r = open_row s order_s (net.paired.lone a s sat) b n hand in
-        let same : c ≡ carried_of r.0 = subst (λ o. IsOf o n c) r.2 is refl in
-        let key : c.id ≡ hand.hand.id = ap (λ (x : Carried). x.id) same ∙ sym (id_of hand.hand.id s.rows r.0 r.1) in
-        ap (option_map carried_of) (ap (λ x. find_row x s) key ∙ r.1) ∙ ap Some (sym same)
+        let r = open_row s order_s (net.paired.lone a s sat) b n hand in (
+          hand,
+          r.0,
+          r.1,
+          r.2,
+          ap (option_and_then (λ (h : Hand). option_map (offered_load h.queue) (find_row h.id s))) hand.found
+              ∙ ap (option_map (offered_load hand.hand.queue)) r.1,
+        )
+
+    pub offers_load : (n : ℕ) (load : Load) → IsOf (offered s b) n load → is_open b n s ≡ true → load_of b n s ≡ Some load
+    offers_load n load is k =
+        let o = open_load n k in
+        let same : load ≡ offered_load o.0.hand.queue o.1 = subst (λ o. IsOf o n load) o.3 is refl in
+        o.4 ∙ ap Some (sym same)
+
+    -- a promise, and what is seen of it
+    pledge_found : (n : ℕ) → has_promise a n t ≡ true → (p : Pledging) × (find_promise a n t ≡ Some p) × (pledged t a ≡ Pledged n (kept_load p.row))
+    pledge_found n promised =
+        let p = promise_at t a n promised in (
+          p.0,
+          p.1,
+          ap pledge_seen (promise_to_peer t order_t (peer_number a n) p.0 p.1)
+              ∙ ap (λ i. Pledged i (kept_load p.0.row)) (sym (promise_number t order_t (peer_number a n) p.0 p.1)),
+        )
+
+    -- an open handover, and the promise of its number
+    pub promise_agrees : (n : ℕ) → is_open b n s ≡ true → has_promise a n t ≡ true → promised_load a n t ≡ load_of b n s
+    promise_agrees n opens promised =
+        let o = open_load n opens in
+        let p = pledge_found n promised in
+        let agrees : Agrees (pledged t a) n (offered_load o.0.hand.queue o.1) =
+        (subst (λ x. OfferOk x (next_of b s) (pledged t a) (closed_of a t)) o.3 ok.offer).2 in
+        let same : kept_load p.0.row ≡ offered_load o.0.hand.queue o.1 = subst (λ x. Agrees x n (offered_load o.0.hand.queue o.1)) p.2 agrees refl in
+        ap (option_map (λ (p : Pledging). kept_load p.row)) p.1 ∙ (ap Some same ∙ sym o.4)
+
+    -- a committed handover, and the promise of its number
+    pub promise_named : (n : ℕ) → is_committed_to b n s ≡ true → has_promise a n t ≡ true → promised_errand a n t ≡ handed_errand b n s
+    promise_named n given promised =
+        let hand = given_hand b n s given in
+        let p = pledge_found n promised in
+        let e = given_offer s (net.paired.lone a s sat) b n hand in
+        let named : IsPromisedAs (pledged t a) n hand.hand.id hand.hand.queue =
+        (subst (λ x. OfferOk x (next_of b s) (pledged t a) (closed_of a t)) e ok.offer).2 in
+        let same : (p.0.row.id ≡ hand.hand.id) × (p.0.row.queue ≡ hand.hand.queue) =
+        subst (λ x. IsPromisedAs x n hand.hand.id hand.hand.queue) p.2 named refl in
+        ap (option_map (λ (p : Pledging). errand p.row.id p.row.queue)) p.1
+        ∙ ((λ j. Some (errand (same.0 j) (same.1 j))) ∙ sym (ap (option_map (λ (h : Hand). errand h.id h.queue)) hand.found))
 
   -- what was ever said is true
   pub words_are_true : (x : Message) → Sent x m.packets → (s t : Plain) → At m.states x.from s → At m.states x.to t → IsTrueOf x.body x.from x.to s t
   words_are_true x sent s t sat tat = of x.body (net.paired.words x sent s t sat tat)
     where
       of : (b : Body) → HoldsFor (pair_of x.from s x.to t) (pair_of x.to t x.from s) b → IsTrueOf b x.from x.to s t
-      of (body.Offer n queue c script) h = offers_row x.from x.to s t sat tat n c h.1
+      of (body.Offer n queue c script) h = offers_load x.from x.to s t sat tat n (sent_load queue c script) h.1
       of (body.Ready n) h = taken_up x.to x.from t s tat sat n h.1
       of (body.Refused n refusal) h = given_up x.to x.from t s tat sat n h.0
       of (body.Commit n) h = given_or_closed x.from x.to s t sat tat n h.1
@@ -189,17 +252,34 @@ module _ (site : List (List ℕ)) (m : Moment) (sound : IsSound site m) (net : I
       of (body.Abort n) h = no_hand x.from x.to s t sat tat n h.1
       of b h = tt
 
+  -- the number of what was ever said was given
+  pub words_are_numbered : (x : Message) → Sent x m.packets → (s t : Plain) → At m.states x.from s → At m.states x.to t → HasGivenNumber x.body x.from x.to s t
+  words_are_numbered x sent s t sat tat = of x.body (net.paired.words x sent s t sat tat)
+    where
+      of : (b : Body) → HoldsFor (pair_of x.from s x.to t) (pair_of x.to t x.from s) b → HasGivenNumber b x.from x.to s t
+      of (body.Offer n queue c script) h = given_up x.from x.to s t sat tat n h.0
+      of (body.Ready n) h = given_up x.to x.from t s tat sat n h.0
+      of (body.Refused n refusal) h = given_up x.to x.from t s tat sat n h.0
+      of (body.Commit n) h = given_up x.from x.to s t sat tat n h.0
+      of (body.Done n) h = given_up x.to x.from t s tat sat n h.0
+      of (body.Inquire n) h = given_up x.to x.from t s tat sat n h.0
+      of (body.Abort n) h = given_up x.from x.to s t sat tat n h.0
+      of b h = tt
+
   module _ (away : IsAway m) where
     -- an open offer finds its request at its receiver neither as a row nor as one that is still to come
-    pub offer_is_new : (a b : HostId) (s t : Plain) → At m.states a s → At m.states b t → (n : ℕ) (c : Carried) → is_open b n s ≡ true → option_map carried_of (find_row c.id s) ≡ Some c → (has_row c.id t || is_given_here c.id t) ≡ false
-    offer_is_new a b s t sat tat n c is carried = or_from (has_row c.id t) (is_given_here c.id t) (false_from_ne_true (has_row c.id t) no_row) (false_from_ne_true (is_given_here c.id t) no_number)
+    pub offer_is_new : (a b : HostId) (s t : Plain) → At m.states a s → At m.states b t → (n : ℕ) (c : Carried) (queue script : List ℕ) → is_open b n s ≡ true
+        → load_of b n s ≡ Some (sent_load queue c script) → (has_row c.id t || is_not_given_here c.id t) ≡ false
+    offer_is_new a b s t sat tat n c queue script is carried = or_from (has_row c.id t) (is_not_given_here c.id t) (false_from_ne_true (has_row c.id t) no_row)
+        (false_from_ne_true (is_not_given_here c.id t) no_number)
       where
         row : (r : PlainRow) × (find_row c.id s ≡ Some r)
-        row = of (find_row c.id s) refl carried
-          where
-            of : (o : Option PlainRow) → find_row c.id s ≡ o → option_map carried_of o ≡ Some c → (r : PlainRow) × (find_row c.id s ≡ Some r)
-            of None e k = absurd (none-some c k)
-            of (Some r) e k = (r, e)
+        row =
+            let o = open_load a b s t sat tat n is in
+            let same : offered_load o.0.hand.queue o.1 ≡ sent_load queue c script =
+            same_Some (offered_load o.0.hand.queue o.1) (sent_load queue c script) (sym o.4 ∙ carried) in
+            let key : c.id ≡ o.0.hand.id = ap (λ (l : Load). l.carried.id) (sym same) ∙ sym (id_of o.0.hand.id s.rows o.1 o.2) in
+            (o.1, ap (λ i. find_row i s) key ∙ o.2)
 
         here : net.table c.id ≡ Sits a row.0
         here = sits_here a (net.table c.id) row.0 (sym (net.told.rows a s sat c.id) ∙ row.1)
@@ -223,7 +303,7 @@ module _ (site : List (List ℕ)) (m : Moment) (sound : IsSound site m) (net : I
                 host_of : Sits a row.0 ≡ Sits b q → a ≡ b
                 host_of e = cc
 
-        no_number : is_given_here c.id t ≡ true → ⊥
+        no_number : is_not_given_here c.id t ≡ true → ⊥
         no_number k =
             let p = and_parts (same_host t.me c.id.host) (nat_lt t.seq c.id.seq) k in
             let me : t.me ≡ b = λ j. ((sound.hosts b.0 t tat).head j).0 in
@@ -233,24 +313,28 @@ module _ (site : List (List ℕ)) (m : Moment) (sound : IsSound site m) (net : I
             let wrong : ⊥ = cc in wrong
 
   -- a promise whose commit was sent finds no row of its request
-  pub commit_finds_none : (a b : HostId) (s t : Plain) → At m.states a s → At m.states b t → (n : ℕ) (p : Pledging) → find_promise a n t ≡ Some p → (is_given b n s || is_closed_for a n t) ≡ true → has_row p.row.id t ≡ false
-  commit_finds_none a b s t sat tat n p found sent = false_from_ne_true (has_row p.row.id t) (λ k. of (find_row p.row.id t) refl (found_any (is_row p.row.id) t.rows k))
+  pub commit_finds_none : (a b : HostId) (s t : Plain) → At m.states a s → At m.states b t → (n : ℕ) (p : Pledging) → find_promise a n t ≡ Some p
+      → (is_committed_to b n s || is_closed_for a n t) ≡ true → has_row p.row.id t ≡ false
+  commit_finds_none a b s t sat tat n p found sent = false_from_ne_true (has_row p.row.id t)
+      (λ k. of (find_row p.row.id t) refl (found_any (is_row p.row.id) t.rows k))
     where
       promised : has_promise a n t ≡ true
       promised = any_found (is_promise (peer_number a n)) t.promises p found
 
-      committed : (c : Bool) → is_given b n s ≡ c → (c || is_closed_for a n t) ≡ true → is_given b n s ≡ true
+      committed : (c : Bool) → is_committed_to b n s ≡ c → (c || is_closed_for a n t) ≡ true → is_committed_to b n s ≡ true
       committed true e k = e
       committed false e k = absurd (true≢false (sym k ∙ (in_step a b s t sat tat).promised n promised))
 
       arrives : net.table p.row.id ≡ Arrives a b p.row
       arrives =
           let order = (sound.hosts b.0 t tat).order in
-          let given : offered s b ≡ Given n = given_offer s (net.paired.lone a s sat) b n (given_hand b n s (committed (is_given b n s) refl sent)) in
+          let hand = given_hand b n s (committed (is_committed_to b n s) refl sent) in
+          let given : offered s b ≡ Given n hand.hand.id hand.hand.queue = given_offer s (net.paired.lone a s sat) b n hand in
           let here : promise_of a t ≡ Some p = promise_to_peer t order (peer_number a n) p found in
           let number : (p.number == n) ≡ true = eq-eqb p.number n (sym (promise_number t order (peer_number a n) p found)) in
           let claims : claim (offered s b) (promise_of a t) p.row.id ≡ Some p.row =
-          (λ j. claim (given j) (here j) p.row.id) ∙ (ap (λ (c : Bool). if c then (if id_eq p.row.id p.row.id then Some p.row else None) else None) number ∙ ap (λ (c : Bool). if c then Some p.row else None) (same_id p.row.id)) in
+          (λ j. claim (given j) (here j) p.row.id) ∙ (ap (λ (c : Bool). if c then (if id_eq p.row.id p.row.id then Some p.row else None) else None) number
+          ∙ ap (λ (c : Bool). if c then Some p.row else None) (same_id p.row.id)) in
           arrives_here a b (net.table p.row.id) p.row (sym (net.told.claims a b s t sat tat p.row.id) ∙ claims)
 
       of : (o : Option PlainRow) → find_row p.row.id t ≡ o → passes (λ _. true) o ≡ true → ⊥
@@ -259,7 +343,7 @@ module _ (site : List (List ℕ)) (m : Moment) (sound : IsSound site m) (net : I
 
 -- worlds that a run reaches
 
-was_sent : (w : World) (m : Message) → WasSentIn w m → Sent m w.packets
+pub was_sent : (w : World) (m : Message) → WasSentIn w m → Sent m w.packets
 was_sent w m (zero, e) = absurd (none-some m e)
 was_sent w m (suc k, e) = (k, e)
 
@@ -282,10 +366,30 @@ module _ (site : List (List ℕ)) (few : IsSite site) (acts : List Act) (sane : 
   pub all_true : (m : Message) → WasSentIn world m → (s t : Plain) → IsStateOf world m.from s → IsStateOf world m.to t → IsTrueOf m.body m.from m.to s t
   all_true m sent s t sat tat = words_are_true site end sound_end history_end.net m (was_sent world m sent) s t sat tat
 
-  pub open_offers : (m : Message) (n : ℕ) (queue : List ℕ) (c : Carried) (script : List ℕ) → WasSentIn world m → m.body ≡ body.Offer n queue c script → (s t : Plain) → IsStateOf world m.from s → IsStateOf world m.to t → is_open m.to n s ≡ true → (has_row c.id t || is_given_here c.id t) ≡ false
-  open_offers m n queue c script sent is s t sat tat opens =
-      offer_is_new site end sound_end history_end.net history_end.away m.from m.to s t sat tat n c opens (subst (λ b. IsTrueOf b m.from m.to s t) is (all_true m sent s t sat tat) opens)
+  pub all_numbered : (m : Message) → WasSentIn world m → (s t : Plain) → IsStateOf world m.from s → IsStateOf world m.to t
+      → HasGivenNumber m.body m.from m.to s t
+  all_numbered m sent s t sat tat = words_are_numbered site end sound_end history_end.net m (was_sent world m sent) s t sat tat
 
-  pub accepted_rows : (m : Message) (n : ℕ) (p : Pledging) → WasSentIn world m → m.body ≡ body.Commit n → (s t : Plain) → IsStateOf world m.from s → IsStateOf world m.to t → find_promise m.from n t ≡ Some p → has_row p.row.id t ≡ false
+  pub all_next : (a b : HostId) (s t : Plain) → IsStateOf world a s → IsStateOf world b t → (n : ℕ) → has_promise a n t ≡ true
+      → is_next_open n (find_peer a t) ≡ true
+  all_next a b s t sat tat = next_open site end sound_end history_end.net a b s t sat tat
+
+  pub all_agree : (a b : HostId) (s t : Plain) → IsStateOf world a s → IsStateOf world b t → (n : ℕ) → is_open b n s ≡ true → has_promise a n t ≡ true
+      → promised_load a n t ≡ load_of b n s
+  all_agree a b s t sat tat = promise_agrees site end sound_end history_end.net a b s t sat tat
+
+  pub all_named : (a b : HostId) (s t : Plain) → IsStateOf world a s → IsStateOf world b t → (n : ℕ) → is_committed_to b n s ≡ true → has_promise a n t ≡ true
+      → promised_errand a n t ≡ handed_errand b n s
+  all_named a b s t sat tat = promise_named site end sound_end history_end.net a b s t sat tat
+
+  pub open_offers : (m : Message) (n : ℕ) (queue : List ℕ) (c : Carried) (script : List ℕ) → WasSentIn world m → m.body ≡ body.Offer n queue c script
+      → (s t : Plain) → IsStateOf world m.from s → IsStateOf world m.to t → is_open m.to n s ≡ true → (has_row c.id t || is_not_given_here c.id t) ≡ false
+  open_offers m n queue c script sent is s t sat tat opens =
+      offer_is_new site end sound_end history_end.net history_end.away m.from m.to s t sat tat n c queue script opens
+      (subst (λ b. IsTrueOf b m.from m.to s t) is (all_true m sent s t sat tat) opens)
+
+  pub accepted_rows : (m : Message) (n : ℕ) (p : Pledging) → WasSentIn world m → m.body ≡ body.Commit n → (s t : Plain) → IsStateOf world m.from s
+      → IsStateOf world m.to t → find_promise m.from n t ≡ Some p → has_row p.row.id t ≡ false
   accepted_rows m n p sent is s t sat tat found =
-      commit_finds_none site end sound_end history_end.net m.from m.to s t sat tat n p found (subst (λ b. IsTrueOf b m.from m.to s t) is (all_true m sent s t sat tat))
+      commit_finds_none site end sound_end history_end.net m.from m.to s t sat tat n p found
+      (subst (λ b. IsTrueOf b m.from m.to s t) is (all_true m sent s t sat tat))

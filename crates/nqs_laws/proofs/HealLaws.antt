@@ -13,7 +13,7 @@ use Rattle.nqs_rules.specs.Step.{step, on_message}
 use Rattle.nqs_rules.specs.World.{World, Act, new_world}
 use Rattle.nqs_rules.specs.Run.{run}
 use Rattle.nqs_laws.specs.Sane.{AreSane, IsSite}
-use Rattle.nqs_laws.specs.Handovers.{IsStateOf, WasSent, is_open, is_given, is_closed_for, is_taken_for, IsTrueOf}
+use Rattle.nqs_laws.specs.Handovers.{IsStateOf, WasSent, is_open, is_committed_to, is_closed_for, is_taken_for, IsTrueOf}
 use Rattle.nqs_laws.specs.Sending.{word, Sends}
 use Rattle.nqs_laws.proofs.Sound.{IsHost, run_sound}
 use Rattle.nqs_laws.proofs.HandoverLaws.{given_hand, all_in_step, all_true}
@@ -29,39 +29,53 @@ module _ (site : List (List ℕ)) (few : IsSite site) (acts : List Act) (sane : 
   me_at_end : (h : HostId) (s : Plain) → IsStateOf world h s → s.me ≡ h
   me_at_end h s at = λ j. ((host_at_end h s at).head j).0
 
-  pub asks : (h from : HostId) (s : Plain) → IsStateOf world h s → (now n : ℕ) → has_promise from n s ≡ true → Sends (step (event.Tick now) s) (word h from (body.Inquire n))
+  pub asks : (h from : HostId) (s : Plain) → IsStateOf world h s → (now n : ℕ) → has_promise from n s ≡ true
+      → Sends (step (event.Tick now) s) (word h from (body.Inquire n))
   asks h from s at now n k = tick_asks h s (me_at_end h s at) now from n k
 
-  pub commits : (h to : HostId) (s : Plain) → IsStateOf world h s → (now n : ℕ) → is_given to n s ≡ true → Sends (step (event.Tick now) s) (word h to (body.Commit n))
+  pub commits : (h to : HostId) (s : Plain) → IsStateOf world h s → (now n : ℕ) → is_committed_to to n s ≡ true
+      → Sends (step (event.Tick now) s) (word h to (body.Commit n))
   commits h to s at now n k = tick_commits h s (me_at_end h s at) now to n (given_hand to n s k)
 
   -- a message that came, by its body
-  module _ (m : Message) (b : Body) (is : m.body ≡ b) (s t : Plain) (sat : IsStateOf world m.from s) (tat : IsStateOf world m.to t) (sent : WasSent world m) where
+  module _ (m : Message) (b : Body) (is : m.body ≡ b) (s t : Plain) (sat : IsStateOf world m.from s) (tat : IsStateOf world m.to t)
+      (sent : WasSent world m) where
     true_of : IsTrueOf b m.from m.to s t
     true_of = subst (λ x. IsTrueOf x m.from m.to s t) is (all_true site few acts sane m sent s t sat tat)
 
-  pub inquiry : (m : Message) (n : ℕ) → WasSent world m → m.body ≡ body.Inquire n → (s t : Plain) → IsStateOf world m.from s → IsStateOf world m.to t → (now : ℕ) → (Sends (step (event.Arrived now m) t) (word m.to m.from (body.Commit n))) ⊎ (Sends (step (event.Arrived now m) t) (word m.to m.from (body.Abort n)))
+  pub inquiry : (m : Message) (n : ℕ) → WasSent world m → m.body ≡ body.Inquire n → (s t : Plain) → IsStateOf world m.from s → IsStateOf world m.to t
+      → (now : ℕ) → (Sends (step (event.Arrived now m) t) (word m.to m.from (body.Commit n)))
+      ⊎ (Sends (step (event.Arrived now m) t) (word m.to m.from (body.Abort n)))
   inquiry m n sent is s t sat tat now =
       let given = (all_in_step site few acts sane m.to m.from t s tat sat).numbered n (true_of m (body.Inquire n) is s t sat tat sent) in
-      subst (λ b. (Sends (on_message m.from b t) (word m.to m.from (body.Commit n))) ⊎ (Sends (on_message m.from b t) (word m.to m.from (body.Abort n)))) (sym is) (inquiry_answered m.to t (me_at_end m.to t tat) m.from n given)
+      subst (λ b. (Sends (on_message m.from b t) (word m.to m.from (body.Commit n))) ⊎ (Sends (on_message m.from b t) (word m.to m.from (body.Abort n))))
+      (sym is) (inquiry_answered m.to t (me_at_end m.to t tat) m.from n given)
 
-  pub commit : (m : Message) (n : ℕ) → WasSent world m → m.body ≡ body.Commit n → (s t : Plain) → IsStateOf world m.from s → IsStateOf world m.to t → (now : ℕ) → Sends (step (event.Arrived now m) t) (word m.to m.from (body.Done n))
+  pub commit : (m : Message) (n : ℕ) → WasSent world m → m.body ≡ body.Commit n → (s t : Plain) → IsStateOf world m.from s → IsStateOf world m.to t → (now : ℕ)
+      → Sends (step (event.Arrived now m) t) (word m.to m.from (body.Done n))
   commit m n sent is s t sat tat now =
       subst (λ b. Sends (on_message m.from b t) (word m.to m.from (body.Done n))) (sym is)
-      (commit_answered m.to t (me_at_end m.to t tat) m.from n (by (is_given m.to n s) refl (true_of m (body.Commit n) is s t sat tat sent)))
+      (commit_answered m.to t (me_at_end m.to t tat) m.from n (by (is_committed_to m.to n s) refl (true_of m (body.Commit n) is s t sat tat sent)))
     where
-      by : (c : Bool) → is_given m.to n s ≡ c → (c || is_closed_for m.from n t) ≡ true → is_taken_for m.from n t ≡ true
+      by : (c : Bool) → is_committed_to m.to n s ≡ c → (c || is_closed_for m.from n t) ≡ true → is_taken_for m.from n t ≡ true
       by true e k = (all_in_step site few acts sane m.from m.to s t sat tat).given n e
       by false e k = or_right (has_promise m.from n t) (is_closed_for m.from n t) k
 
-  pub commit_leaves : (m : Message) (n : ℕ) → m.body ≡ body.Commit n → (t : Plain) → IsStateOf world m.to t → (now : ℕ) → has_promise m.from n (after_step (step (event.Arrived now m) t) t) ≡ false
-  commit_leaves m n is t tat now = subst (λ b. has_promise m.from n (after_step (on_message m.from b t) t) ≡ false) (sym is) (commit_ends t (host_at_end m.to t tat).order m.from n)
+  pub commit_leaves : (m : Message) (n : ℕ) → m.body ≡ body.Commit n → (t : Plain) → IsStateOf world m.to t → (now : ℕ)
+      → has_promise m.from n (after_step (step (event.Arrived now m) t) t) ≡ false
+  commit_leaves m n is t tat now = subst (λ b. has_promise m.from n (after_step (on_message m.from b t) t) ≡ false) (sym is)
+      (commit_ends t (host_at_end m.to t tat).order m.from n)
 
-  pub abort_leaves : (m : Message) (n : ℕ) → m.body ≡ body.Abort n → (t : Plain) → IsStateOf world m.to t → (now : ℕ) → has_promise m.from n (after_step (step (event.Arrived now m) t) t) ≡ false
-  abort_leaves m n is t tat now = subst (λ b. has_promise m.from n (after_step (on_message m.from b t) t) ≡ false) (sym is) (abort_ends t (host_at_end m.to t tat).order m.from n)
+  pub abort_leaves : (m : Message) (n : ℕ) → m.body ≡ body.Abort n → (t : Plain) → IsStateOf world m.to t → (now : ℕ)
+      → has_promise m.from n (after_step (step (event.Arrived now m) t) t) ≡ false
+  abort_leaves m n is t tat now = subst (λ b. has_promise m.from n (after_step (on_message m.from b t) t) ≡ false) (sym is)
+      (abort_ends t (host_at_end m.to t tat).order m.from n)
 
-  pub done_leaves : (m : Message) (n : ℕ) → WasSent world m → m.body ≡ body.Done n → (s t : Plain) → IsStateOf world m.from s → IsStateOf world m.to t → (now : ℕ) → is_some (find_hand m.from n (after_step (step (event.Arrived now m) t) t)) ≡ false
+  pub done_leaves : (m : Message) (n : ℕ) → WasSent world m → m.body ≡ body.Done n → (s t : Plain) → IsStateOf world m.from s → IsStateOf world m.to t
+      → (now : ℕ) → is_some (find_hand m.from n (after_step (step (event.Arrived now m) t) t)) ≡ false
   done_leaves m n sent is s t sat tat now =
       let closed = true_of m (body.Done n) is s t sat tat sent in
-      let shut = false_from_ne_true (is_open m.from n t) (λ k. true≢false (sym closed ∙ (all_in_step site few acts sane m.to m.from t s tat sat).offered n k)) in
-      subst (λ b. is_some (find_hand m.from n (after_step (on_message m.from b t) t)) ≡ false) (sym is) (done_ends t (host_at_end m.to t tat).order m.from n shut)
+      let shut = false_from_ne_true (is_open m.from n t) (λ k. true≢false
+      (sym closed ∙ (all_in_step site few acts sane m.to m.from t s tat sat).offered n k)) in
+      subst (λ b. is_some (find_hand m.from n (after_step (on_message m.from b t) t)) ≡ false) (sym is)
+      (done_ends t (host_at_end m.to t tat).order m.from n shut)

@@ -1,5 +1,6 @@
 -- A handover that is left half done is ended by a tick and two messages.
-use Rattle.std.proofs.Common.{◌≡◌, ℕ, ◌⊎◌, inl, inr, Bool, true, false, ◌&&◌, ◌||◌, nat_le, List, [], ◌∷◌, ◌++◌, map, find, cond, slice_get, Option, None, Some, is_some, zero, suc, true≢false, refl, sym, ap, subst, if◌then◌else◌}
+use Rattle.std.proofs.Common.{◌≡◌, ℕ, ◌⊎◌, inl, inr, Bool, true, false, ◌&&◌, ◌||◌, nat_le, List, [], ◌∷◌, ◌++◌, map, find, cond, slice_get, Option, None, Some}
+use Rattle.std.proofs.Common.{is_some, zero, suc, true≢false, refl, sym, ap, subst, if◌then◌else◌}
 use Rattle.std.proofs.lemmas.Option.{same_Some, none-some}
 use Rattle.std.specs.List.{flat_map, list_any}
 use Rattle.nqs_types.specs.Ids.{peer_number_eq, peer_number_exact, hand_key, promise_key}
@@ -19,7 +20,8 @@ use Rattle.nqs_types.specs.declared.change.Change.TheVariants.{Accepted, Dropped
 use Rattle.nqs_rules.specs.Tests.{passes, is_offered}
 use Rattle.nqs_rules.specs.Find.{peer_number, has_row, find_hand, has_promise, find_peer}
 use Rattle.nqs_rules.specs.Applied.{accepted, drop_promise, requeued_row}
-use Rattle.nqs_rules.specs.Handover.{closes, was_given, send_commit, send_abort, send_done, send_inquire, later, repeat_phase, repeat_hand, repeated_hands, inquiries, ready_phase, ready_with, on_ready, on_commit, on_abort, done_phase, done_with, on_done}
+use Rattle.nqs_rules.specs.Handover.{closes, was_given, send_commit, send_abort, send_done, send_inquire, later, repeat_phase, repeat_hand, repeated_hands}
+use Rattle.nqs_rules.specs.Handover.{inquiries, ready_phase, ready_with, on_ready, on_commit, on_abort, done_phase, done_with, on_done}
 use Rattle.nqs_rules.specs.Stage.{due_outputs}
 use Rattle.nqs_rules.specs.Starts.{after_step}
 use Rattle.nqs_rules.specs.Step.{step}
@@ -78,35 +80,42 @@ module _ (h : HostId) (s : Plain) (me : s.me ≡ h) where
   pub tick_asks : (now : ℕ) (from : HostId) (n : ℕ) → has_promise from n s ≡ true → Sends (step (event.Tick now) s) (word h from (body.Inquire n))
   tick_asks now from n k =
       let p = promise_at s from n k in
-      let key : peer_number from n ≡ promise_key p.0 = peer_number_exact (peer_number from n) (promise_key p.0) (found_passes (is_promise (peer_number from n)) s.promises p.0 p.1) in
+      let key : peer_number from n ≡ promise_key p.0 = peer_number_exact (peer_number from n) (promise_key p.0)
+      (found_passes (is_promise (peer_number from n)) s.promises p.0 p.1) in
       let q : Pending (List ℕ) = send_inquire s p.0 in
       sends_in (step (event.Tick now) s).outputs q (word h from (body.Inquire n))
-      (in_first q (repeated_hands now s ++ inquiries s) (due_outputs s) (in_second q (repeated_hands now s) (inquiries s) (in_map (send_inquire s) p.0 s.promises (found_in (is_promise (peer_number from n)) s.promises p.0 p.1))))
+      (in_first q (repeated_hands now s ++ inquiries s) (due_outputs s) (in_second q (repeated_hands now s) (inquiries s)
+      (in_map (send_inquire s) p.0 s.promises (found_in (is_promise (peer_number from n)) s.promises p.0 p.1))))
       (λ j. out.Send (record { from = me j; to = (sym key j).peer; body = body.Inquire (sym key j).number }))
 
   pub tick_commits : (now : ℕ) (to : HostId) (n : ℕ) → HasHand Committed to n s → Sends (step (event.Tick now) s) (word h to (body.Commit n))
   tick_commits now to n k =
       let y = k.hand in
-      let key : peer_number to n ≡ hand_key y = peer_number_exact (peer_number to n) (hand_key y) (found_passes (is_hand (peer_number to n)) s.hands y k.found) in
+      let key : peer_number to n ≡ hand_key y = peer_number_exact (peer_number to n) (hand_key y)
+      (found_passes (is_hand (peer_number to n)) s.hands y k.found) in
       let q : Pending (List ℕ) = send_commit s y.peer y.number in
       sends_in (step (event.Tick now) s).outputs q (word h to (body.Commit n))
-      (in_first q (repeated_hands now s ++ inquiries s) (due_outputs s) (in_first q (repeated_hands now s) (inquiries s) (in_flat (repeat_hand now s) q y s.hands (found_in (is_hand (peer_number to n)) s.hands y k.found) (repeats y k.is))))
+      (in_first q (repeated_hands now s ++ inquiries s) (due_outputs s) (in_first q (repeated_hands now s) (inquiries s)
+      (in_flat (repeat_hand now s) q y s.hands (found_in (is_hand (peer_number to n)) s.hands y k.found) (repeats y k.is))))
       (λ j. out.Send (record { from = me j; to = (sym key j).peer; body = body.Commit (sym key j).number }))
     where
       repeats : (y : Hand) → y.phase ≡ Committed → In {V = Pending (List ℕ)} (send_commit s y.peer y.number) (repeat_hand now s y)
       repeats y is =
-          subst (λ p. In {V = Pending (List ℕ)} (send_commit s y.peer y.number) (if is_offered p && nat_le (later y.since s.patience) now then [] else repeat_phase p s y)) (sym is) (zero, refl)
+          subst (λ p. In {V = Pending (List ℕ)} (send_commit s y.peer y.number)
+          (if is_offered p && nat_le (later y.since s.patience) now then [] else repeat_phase p s y)) (sym is) (zero, refl)
 
   -- answers
 
-  pub inquiry_answered : (from : HostId) (n : ℕ) → was_given n (find_peer from s) ≡ true → (Sends (on_ready from n s) (word h from (body.Commit n))) ⊎ (Sends (on_ready from n s) (word h from (body.Abort n)))
+  pub inquiry_answered : (from : HostId) (n : ℕ) → was_given n (find_peer from s) ≡ true
+      → (Sends (on_ready from n s) (word h from (body.Commit n))) ⊎ (Sends (on_ready from n s) (word h from (body.Abort n)))
   inquiry_answered from n given = of (find_hand from n s)
     where
       by : (p : Phase) → (Sends (ready_phase p from n s) (word h from (body.Commit n))) ⊎ (Sends (ready_phase p from n s) (word h from (body.Abort n)))
       by Offered = inl (zero, λ j. Some (word (me j) from (body.Commit n)))
       by Committed = inl (zero, λ j. Some (word (me j) from (body.Commit n)))
 
-      missing : (b : Bool) → b ≡ true → (Sends (if b then says (send_abort s from n ∷ []) else quiet) (word h from (body.Commit n))) ⊎ (Sends (if b then says (send_abort s from n ∷ []) else quiet) (word h from (body.Abort n)))
+      missing : (b : Bool) → b ≡ true → (Sends (if b then says (send_abort s from n ∷ []) else quiet) (word h from (body.Commit n)))
+          ⊎ (Sends (if b then says (send_abort s from n ∷ []) else quiet) (word h from (body.Abort n)))
       missing true k = inr (zero, λ j. Some (word (me j) from (body.Abort n)))
       missing false k = absurd (true≢false (sym k))
 
@@ -117,7 +126,8 @@ module _ (h : HostId) (s : Plain) (me : s.me ≡ h) where
   pub commit_answered : (from : HostId) (n : ℕ) → is_taken_for from n s ≡ true → Sends (on_commit from n s) (word h from (body.Done n))
   commit_answered from n taken = by (has_promise from n s) (closes n (find_peer from s)) taken
     where
-      by : (a b : Bool) → (a || b) ≡ true → Sends (if a then makes (Accepted from n) (send_done s from n ∷ []) else (if b then says (send_done s from n ∷ []) else quiet)) (word h from (body.Done n))
+      by : (a b : Bool) → (a || b) ≡ true → Sends (if a then makes (Accepted from n) (send_done s from n ∷ []) else
+          (if b then says (send_done s from n ∷ []) else quiet)) (word h from (body.Done n))
       by true b k = (zero, λ j. Some (word (me j) from (body.Done n)))
       by false true k = (zero, λ j. Some (word (me j) from (body.Done n)))
       by false false k = absurd (true≢false (sym k))
@@ -134,12 +144,15 @@ module _ (s : Plain) (o : IsInOrder s) where
       k : PeerNumber
       k = peer_number from n
 
-      accepts : (p : Pledging) (z : Bool) → list_any (is_promise k) (if z then drop_promise k s else record (drop_promise k s) { rows = s.rows ++ requeued_row p.row ∷ [] }).promises ≡ false
+      accepts : (p : Pledging) (z : Bool) → list_any (is_promise k) (if z then drop_promise k s else
+          record (drop_promise k s) { rows = s.rows ++ requeued_row p.row ∷ [] }).promises ≡ false
       accepts p true = gone_promise k
       accepts p false = gone_promise k
 
-      by : (a : Bool) → has_promise from n s ≡ a → (b : Bool) → has_promise from n (after_step (if a then makes (Accepted from n) (send_done s from n ∷ []) else (if b then says (send_done s from n ∷ []) else quiet)) s) ≡ false
-      by true e b = let p = promise_at s from n e in subst (λ x. list_any (is_promise k) (accepted k x s).promises ≡ false) (sym p.1) (accepts p.0 (has_row p.0.row.id s))
+      by : (a : Bool) → has_promise from n s ≡ a → (b : Bool) → has_promise from n
+          (after_step (if a then makes (Accepted from n) (send_done s from n ∷ []) else (if b then says (send_done s from n ∷ []) else quiet)) s) ≡ false
+      by true e b = let p = promise_at s from n e in subst (λ x. list_any (is_promise k) (accepted k x s).promises ≡ false) (sym p.1)
+          (accepts p.0 (has_row p.0.row.id s))
       by false e true = e
       by false e false = e
 
@@ -156,10 +169,13 @@ module _ (s : Plain) (o : IsInOrder s) where
       k : PeerNumber
       k = peer_number from n
 
-      by : (y : Hand) → find_hand from n s ≡ Some y → (p : Phase) → y.phase ≡ p → is_offered p ≡ false → is_some (find_hand from n (after_step (done_phase p from n) s)) ≡ false
+      by : (y : Hand) → find_hand from n s ≡ Some y → (p : Phase) → y.phase ≡ p → is_offered p ≡ false
+          → is_some (find_hand from n (after_step (done_phase p from n) s)) ≡ false
       by y e Offered is closed = absurd (true≢false closed)
-      by y e Committed is closed = ap is_some (none_found (is_hand k) (without_first (is_hand k) s.hands) (gone_without peer_number_eq hand_key peer_number_exact same_peer_number k s.hands (keys_are s o.keys).hands))
+      by y e Committed is closed = ap is_some (none_found (is_hand k) (without_first (is_hand k) s.hands)
+          (gone_without peer_number_eq hand_key peer_number_exact same_peer_number k s.hands (keys_are s o.keys).hands))
 
-      of : (x : Option Hand) → find_hand from n s ≡ x → passes (λ y. is_offered y.phase) x ≡ false → is_some (find_hand from n (after_step (done_with x from n) s)) ≡ false
+      of : (x : Option Hand) → find_hand from n s ≡ x → passes (λ y. is_offered y.phase) x ≡ false
+          → is_some (find_hand from n (after_step (done_with x from n) s)) ≡ false
       of None e closed = ap is_some e
       of (Some y) e closed = by y e y.phase refl closed

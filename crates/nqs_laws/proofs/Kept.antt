@@ -22,7 +22,8 @@ use Rattle.nqs_laws.proofs.LicensedRuns.{IsHistory, history_keeps}
 -- what is to be known of a change at a moment
 abbrev pub OfMoments : List (List ℕ) → List Plain → OfChange → Type 0
 OfMoments site first P =
-    (m : Moment) → IsSound site m → IsHistory first m → (h : HostId) (s : Plain) → At m.states h s → (way : Way m.packets h s) (c : Change (List ℕ)) → change_by way ≡ Some c → Suits s c → P m.states h (why_by way) c
+    (m : Moment) → IsSound site m → IsHistory first m → (h : HostId) (s : Plain) → At m.states h s → (way : Way m.packets h s) (c : Change (List ℕ))
+    → change_by way ≡ Some c → Suits s c → P m.states h (why_by way) c
 
 module _ (P : OfChange) where
   each-append : (a b : List Note) (states : List Plain) → EachKept P states a → EachKept P (replayed a states) b → EachKept P states (a ++ b)
@@ -42,7 +43,9 @@ module _ (P : OfChange) where
     more_each : (m : Moment) (ns : List Note) → IsEach first m → EachKept P m.states ns → EachKept P first (m.notes ++ ns)
     more_each m ns k l = each-append m.notes ns first k.each (subst (λ states. EachKept P states ns) (sym k.history.leads) l)
 
-    made_each : (m : Moment) → IsSound site m → IsHistory first m → (h : HostId) (s : Plain) → At m.states h s → (way : Way m.packets h s) → ((c : Change (List ℕ)) → change_by way ≡ Some c → Suits s c) → (xs : List Seen) (o : Option (Change (List ℕ))) → change_by way ≡ o → EachKept P m.states (kept_of h (why_by way) o ++ saws xs)
+    made_each : (m : Moment) → IsSound site m → IsHistory first m → (h : HostId) (s : Plain) → At m.states h s → (way : Way m.packets h s)
+        → ((c : Change (List ℕ)) → change_by way ≡ Some c → Suits s c) → (xs : List Seen) (o : Option (Change (List ℕ))) → change_by way ≡ o
+        → EachKept P m.states (kept_of h (why_by way) o ++ saws xs)
     made_each m sound k h s there way suits xs None is = each_seen xs m.states
     made_each m sound k h s there way suits xs (Some c) is = (of m sound k h s there way c is (suits c is), each_seen xs (change_at h.0 (applied c) m.states))
 
@@ -60,7 +63,9 @@ module _ (P : OfChange) where
     }
 
 -- in each history
-pub each_kept : (P : OfChange) (site : List (List ℕ)) → IsSite site → (acts : List Act) → AreSane acts → OfMoments site (states_of (new_world site)) P → EachKept P (states_of (new_world site)) (history acts (new_world site))
+pub each_kept : (P : OfChange) (site : List (List ℕ)) → IsSite site → (acts : List Act) → AreSane acts → OfMoments site (states_of (new_world site)) P
+    → EachKept P (states_of (new_world site)) (history acts (new_world site))
 each_kept P site few acts sane of =
     let first = states_of (new_world site) in
-    (runs_keep site (IsEach P first) (each_keeps P site first of) few.1 (record { history = record { net = new_net site; away = new_away site; leads = refl; licensed = tt }; each = tt }) acts sane).each
+    (runs_keep site (IsEach P first) (each_keeps P site first of) few.1 (record
+    { history = record { net = new_net site; away = new_away site; leads = refl; licensed = tt }; each = tt }) acts sane).each

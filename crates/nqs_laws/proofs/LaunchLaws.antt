@@ -1,5 +1,6 @@
 -- The laws of launches over a whole run.
-use Rattle.std.proofs.Common.{◌≡◌, ℕ, ◌+◌, ◌<◌, ◌≤◌, Bool, true, false, ◌||◌, ◌==◌, nat_le, List, [], ◌∷◌, ◌++◌, length, Option, None, Some, true≢false, refl, sym, ap, subst, ◌∙◌, arith, if◌then◌else◌}
+use Rattle.std.proofs.Common.{◌≡◌, ℕ, ◌+◌, ◌<◌, ◌≤◌, Bool, true, false, ◌||◌, ◌==◌, nat_le, List, [], ◌∷◌, ◌++◌, length, Option, None, Some, true≢false, refl}
+use Rattle.std.proofs.Common.{sym, ap, subst, ◌∙◌, arith, if◌then◌else◌}
 use Rattle.std.proofs.lemmas.Bool.{and_parts, eqb-true, leb-true, leb-false}
 use Rattle.std.proofs.lemmas.Option.{none-some}
 use Rattle.std.proofs.lemmas.List.{append_assoc}
@@ -26,7 +27,7 @@ use Rattle.nqs_rules.proofs.RowChanges.{ready_queued}
 use Rattle.nqs_laws.specs.History.{Note, Saw, Kept, saws, history}
 use Rattle.nqs_laws.specs.Sane.{AreSane, IsSite}
 use Rattle.nqs_laws.specs.Words.{replayed}
-use Rattle.nqs_laws.specs.Launches.{Launch, launched, launches, IsStarted}
+use Rattle.nqs_laws.specs.Launches.{Launch, launched, launches, IsStarted, IsStartedIn}
 use Rattle.nqs_laws.proofs.Frame.{Moment, put_state, put-same, silent, Way, change_by, why_by, kept_of}
 use Rattle.nqs_laws.proofs.Sound.{IsSound, Keeps, Suits, sound_frames, get-here, runs_keep}
 use Rattle.nqs_laws.proofs.RowTests.{PlainRow}
@@ -46,9 +47,11 @@ use Rattle.std.proofs.lemmas.List.{append-nil}
 
 -- where requests lie
 
-pub entry_here : (site : List (List ℕ)) (m : Moment) → IsSound site m → IsNet m → (h : HostId) (s : Plain) → At m.states h s → (x : Request) (r : PlainRow) → find_row x s ≡ Some r → entry_of x m.states ≡ Some (row_entry h r)
+pub entry_here : (site : List (List ℕ)) (m : Moment) → IsSound site m → IsNet m → (h : HostId) (s : Plain) → At m.states h s → (x : Request) (r : PlainRow)
+    → find_row x s ≡ Some r → entry_of x m.states ≡ Some (row_entry h r)
 entry_here site m sound net h s there x r found =
-    entry_is m.states net.table net.told (λ b u at. (sound.hosts b.0 u at).order) net.paired.lone x ∙ ap entry_at (sits_here h (net.table x) r (sym (net.told.rows h s there x) ∙ found))
+    entry_is m.states net.table net.told (λ b u at. (sound.hosts b.0 u at).order) net.paired.lone x
+    ∙ ap entry_at (sits_here h (net.table x) r (sym (net.told.rows h s there x) ∙ found))
 
 -- a request that lies somewhere has a number that was given
 pub lies_given : (site : List (List ℕ)) (m : Moment) → IsSound site m → IsNet m → (x : Request) (e : Entry) → entry_of x m.states ≡ Some e → IsGiven x m.states
@@ -58,16 +61,20 @@ lies_given site m sound net x e lies s at = by (nat_le x.seq s.seq) refl
     by true k = leb-true x.seq s.seq k
     by false k =
         let more : s.seq < x.seq = leb-false x.seq s.seq k in
-        absurd (none-some e (sym (entry_is m.states net.table net.told (λ b u at. (sound.hosts b.0 u at).order) net.paired.lone x ∙ ap entry_at (net.told.given x s at more)) ∙ lies))
+        absurd (none-some e (sym (entry_is m.states net.table net.told (λ b u at. (sound.hosts b.0 u at).order) net.paired.lone x
+        ∙ ap entry_at (net.told.given x s at more)) ∙ lies))
 
 pub record IsLaunching (first : List Plain) (m : Moment) : Type 0 where
   pub history : IsHistory first m
   pub never : IsNever m
   pub has : HasLaunches first m.states m.notes
 
-module _ (site : List (List ℕ)) (first : List Plain) (m : Moment) (sound : IsSound site m) (k : IsLaunching first m) (h : HostId) (s : Plain) (there : At m.states h s) (way : Way m.packets h s) where
+module _ (site : List (List ℕ)) (first : List Plain) (m : Moment) (sound : IsSound site m) (k : IsLaunching first m) (h : HostId) (s : Plain)
+    (there : At m.states h s) (way : Way m.packets h s) where
   -- one launch
-  module _ (r : PlainRow) (device : Option (List ℕ)) (y : Seen) (found : find_row r.id s ≡ Some r) (is : change_by way ≡ Some (Started r.id device)) (suits : Suits s (Started r.id device)) (tells : launched (Saw y) ≡ Some (r.id, r.starts + 1)) where
+  module _ (r : PlainRow) (device : Option (List ℕ)) (y : Seen) (found : find_row r.id s ≡ Some r) (is : change_by way ≡ Some (Started r.id device))
+      (suits : Suits s (Started r.id device)) (tells : launched (Saw y) ≡ Some (r.id, r.starts + 1))
+      (told : (states : List Plain) → IsStarted states h (r.id, r.starts + 1) → IsStartedIn states (Saw y)) where
     abbrev c : Change (List ℕ)
     c = Started r.id device
 
@@ -97,22 +104,27 @@ module _ (site : List (List ℕ)) (first : List Plain) (m : Moment) (sound : IsS
 
     then_found : find_row r.id (applied c s) ≡ Some (started_row device r)
     then_found =
-        row_after r.id c s (sound.hosts h.0 s there).order suits.fit ∙ (ap (λ o. changed_at r.id (started_row device) r.id o) found ∙ ap (λ (b : Bool). if b then Some (started_row device r) else Some r) (same_id r.id))
+        row_after r.id c s (sound.hosts h.0 s there).order suits.fit ∙ (ap (λ o. changed_at r.id (started_row device) r.id o) found
+        ∙ ap (λ (b : Bool). if b then Some (started_row device r) else Some r) (same_id r.id))
 
     lies : entry_of r.id states ≡ Some (row_entry h (started_row device r))
     lies = entry_here site (silent m h s (why_by way) c) then_sound then_net h (applied c s) then_there r.id (started_row device r) then_found
 
-    begun : IsStarted states l
+    begun : IsStarted states h l
     begun =
         let order = (then_sound.hosts h.0 (applied c s) then_there).order in
-        let lost : r.starts + 1 ≡ r.lost + 1 = eqb-true (r.starts + 1) (r.lost + 1) (row_is (applied c s) (started_row device r) (list_all-found (is_row_right (applied c s)) (is_row r.id) (applied c s).rows (started_row device r) order.rows then_found)).count in
+        let lost : r.starts + 1 ≡ r.lost + 1 = eqb-true (r.starts + 1) (r.lost + 1)
+        (row_is (applied c s) (started_row device r) (list_all-found (is_row_right (applied c s)) (is_row r.id) (applied c s).rows
+        (started_row device r) order.rows then_found)).count in
         record {
           entry = row_entry h (started_row device r);
           lies = lies;
+          here = refl;
           runs = refl;
           starts = refl;
           lost = lost;
-          once = λ plain. (let none = eqb-true r.lost 0 (ap (λ (b : Bool). b || r.lost == 0) (sym plain) ∙ list_all-found is_never (is_row r.id) s.rows r (k.never.rows h.0 s there).rows found) in omega (arith, lost, none));
+          once = λ plain. (let none = eqb-true r.lost 0 (ap (λ (b : Bool). b || r.lost == 0) (sym plain)
+              ∙ list_all-found is_never (is_row r.id) s.rows r (k.never.rows h.0 s there).rows found) in omega (arith, lost, none));
         }
 
     calm : pending_at r.id first false m.notes ≡ false
@@ -133,24 +145,33 @@ module _ (site : List (List ℕ)) (first : List Plain) (m : Moment) (sound : IsS
         let kept = kept_more site first m sound k.history h s there way c is suits k.has in
         let same : launches m.notes ≡ launches (m.notes ++ note ∷ []) = sym (launches-append m.notes (note ∷ []) ∙ append-nil (launches m.notes)) in
         subst (HasLaunches first states) (append_assoc m.notes (note ∷ []) (Saw y ∷ []))
-        (launch_more first states (m.notes ++ note ∷ []) kept y l tells begun (lies_given site (silent m h s (why_by way) c) then_sound then_net r.id (row_entry h (started_row device r)) lies)
-        (subst (AllByRecursion _) same (all_past (IsPast m.states) _ (λ q p e. (let less = p.before (row_entry h r) ((λ j. entry_of (e j) m.states) ∙ before) in omega (arith, less))) (launches m.notes) k.has.past)) still_calm)
+        (launch_more first states (m.notes ++ note ∷ []) kept y l tells h begun (told states begun)
+        (lies_given site (silent m h s (why_by way) c) then_sound then_net r.id (row_entry h (started_row device r)) lies)
+        (subst (AllByRecursion _) same (all_past (IsPast m.states) _ (λ q p e.
+        (let less = p.before (row_entry h r) ((λ j. entry_of (e j) m.states) ∙ before) in omega (arith, less))) (launches m.notes) k.has.past)) still_calm)
 
   made_more : ((c : Change (List ℕ)) → change_by way ≡ Some c → Suits s c) → Launching h s (length m.packets) way
-      → HasLaunches first (put_state h (after_change (change_by way) s) m.states) (m.notes ++ (kept_of h (why_by way) (change_by way) ++ saws (seen_by h (length m.packets) way)))
-  made_more suits (One r device y found is sees tells) =
-      subst (λ o. HasLaunches first (put_state h (after_change o s) m.states) (m.notes ++ (kept_of h (why_by way) o ++ saws (seen_by h (length m.packets) way)))) (sym is)
-      (subst (λ xs. HasLaunches first (put_state h (applied (Started r.id device) s) m.states) (m.notes ++ (Kept h (why_by way) (Started r.id device) ∷ saws xs))) (sym sees) (one_more r device y found is (suits (Started r.id device) is) tells))
+      → HasLaunches first (put_state h (after_change (change_by way) s) m.states)
+      (m.notes ++ (kept_of h (why_by way) (change_by way) ++ saws (seen_by h (length m.packets) way)))
+  made_more suits (One r device y found is sees tells told) =
+      subst (λ o. HasLaunches first (put_state h (after_change o s) m.states)
+      (m.notes ++ (kept_of h (why_by way) o ++ saws (seen_by h (length m.packets) way)))) (sym is)
+      (subst (λ xs. HasLaunches first (put_state h (applied (Started r.id device) s) m.states)
+      (m.notes ++ (Kept h (why_by way) (Started r.id device) ∷ saws xs))) (sym sees)
+      (one_more r device y found is (suits (Started r.id device) is) tells told))
   made_more suits (Nothing none) = of (change_by way) refl
     where
       xs : List Seen
       xs = seen_by h (length m.packets) way
 
-      of : (o : Option (Change (List ℕ))) → change_by way ≡ o → HasLaunches first (put_state h (after_change o s) m.states) (m.notes ++ (kept_of h (why_by way) o ++ saws xs))
-      of None is = subst (λ states. HasLaunches first states (m.notes ++ saws xs)) (sym (put-same h.0 s m.states there)) (quiet_more first m.states m.notes k.has xs none)
+      of : (o : Option (Change (List ℕ))) → change_by way ≡ o → HasLaunches first (put_state h (after_change o s) m.states)
+          (m.notes ++ (kept_of h (why_by way) o ++ saws xs))
+      of None is = subst (λ states. HasLaunches first states (m.notes ++ saws xs)) (sym (put-same h.0 s m.states there))
+          (quiet_more first m.states m.notes k.has xs none)
       of (Some c) is =
           subst (HasLaunches first (put_state h (applied c s) m.states)) (append_assoc m.notes (Kept h (why_by way) c ∷ []) (saws xs))
-          (quiet_more first (put_state h (applied c s) m.states) (m.notes ++ Kept h (why_by way) c ∷ []) (kept_more site first m sound k.history h s there way c is (suits c is) k.has) xs none)
+          (quiet_more first (put_state h (applied c s) m.states) (m.notes ++ Kept h (why_by way) c ∷ [])
+          (kept_more site first m sound k.history h s there way c is (suits c is) k.has) xs none)
 
 launch_keeps : (site : List (List ℕ)) (first : List Plain) → Keeps site (IsLaunching first)
 launch_keeps site first = record {
@@ -171,7 +192,8 @@ launch_keeps site first = record {
   };
 }
 
-pub run_launches : (site : List (List ℕ)) → IsSite site → (acts : List Act) → AreSane acts → HasLaunches (states_of (new_world site)) (states_of (run acts (new_world site)).world) (history acts (new_world site))
+pub run_launches : (site : List (List ℕ)) → IsSite site → (acts : List Act) → AreSane acts
+    → HasLaunches (states_of (new_world site)) (states_of (run acts (new_world site)).world) (history acts (new_world site))
 run_launches site few acts sane =
     let first = states_of (new_world site) in
     (runs_keep site (IsLaunching first) (launch_keeps site first) few.1 (record {

@@ -1,5 +1,6 @@
 -- In a run no launch comes twice, and between two launches of a request it is lost.
-use Rattle.std.proofs.Common.{◌≡◌, ℕ, ◌+◌, ◌<◌, ◌≤◌, ◌⊎◌, inl, inr, Bool, true, false, not, ◌&&◌, ◌||◌, ◌==◌, List, [], ◌∷◌, ◌++◌, slice_get, Option, None, Some, true≢false, refl, sym, ap, subst, ◌∙◌, arith}
+use Rattle.std.proofs.Common.{◌≡◌, ℕ, ◌+◌, ◌<◌, ◌≤◌, ◌⊎◌, inl, inr, Bool, true, false, not, ◌&&◌, ◌||◌, ◌==◌, List, [], ◌∷◌, ◌++◌, slice_get, Option, None}
+use Rattle.std.proofs.Common.{Some, true≢false, refl, sym, ap, subst, ◌∙◌, arith}
 use Rattle.std.proofs.lemmas.Bool.{and_parts, and_from, eqb-true, eq-eqb, or_from, false_from_ne_true, not-true}
 use Rattle.std.proofs.lemmas.Option.{same_Some, none-some}
 use Rattle.std.proofs.lemmas.List.{append-nil}
@@ -9,6 +10,7 @@ use Rattle.nqs_state.specs.State.{Plain}
 use Rattle.nqs_types.specs.declared.ids.HostId.{HostId}
 use Rattle.nqs_types.specs.declared.change.Change.{Change}
 use Rattle.nqs_types.specs.declared.world.Seen.{Seen}
+use Rattle.nqs_types.specs.declared.world.Seen.TheVariants as seen
 use Rattle.nqs_types.specs.declared.table_row.NetState.TheVariants as net
 use Rattle.nqs_rules.specs.Edits.{change_at}
 use Rattle.nqs_rules.specs.Applied.{applied, next_id}
@@ -21,7 +23,7 @@ use Rattle.nqs_rules.proofs.RowFacts.{same_id}
 use Rattle.nqs_laws.specs.History.{Note, Saw, Kept, saws}
 use Rattle.nqs_laws.specs.Words.{replayed}
 use Rattle.nqs_laws.specs.Licensed.{Licenses, IsLicensed}
-use Rattle.nqs_laws.specs.Launches.{Launch, launched, launches, same_launch, is_again, is_launch_of, AreApart, IsStarted, IsStartedIn, AreStarted}
+use Rattle.nqs_laws.specs.Launches.{Launch, launched, launches, same_launch, was_lost_again, is_launch_of, AreApart, IsStarted, IsStartedIn, AreStarted}
 use Rattle.nqs_laws.proofs.Frame.{Moment, put_state, Way, change_by, why_by}
 use Rattle.nqs_laws.proofs.Told.{replayed-append, nothing_kept, at-value}
 use Rattle.nqs_laws.proofs.Sound.{IsSound, Suits, get-here}
@@ -80,7 +82,8 @@ new_launch : (l : Launch) (ls : List Launch) → AllByRecursion (IsFresh l) ls �
 new_launch l [] all = refl
 new_launch l (k ∷ ls) all =
     or_from (same_launch l k) (list_any (same_launch l) ls)
-    (false_from_ne_true (same_launch l k) (λ e. (let same = launch_exact l k e in let less = all.0 (λ j. (sym same j).0) in let start : l.1 ≡ k.1 = (λ j. (same j).1) in absurd (omega (arith, less, start)))))
+    (false_from_ne_true (same_launch l k) (λ e. (let same = launch_exact l k e in let less = all.0 (λ j. (sym same j).0) in
+    let start : l.1 ≡ k.1 = (λ j. (same j).1) in absurd (omega (arith, less, start)))))
     (new_launch l ls all.1)
 
 -- what is seen without a launch
@@ -101,11 +104,17 @@ quiet_apart x states p (y ∷ xs) e =
     let q = none_launched (launched (Saw y)) (launches (saws xs)) e in
     (λ k. absurd (true≢false (sym k ∙ ap (is_launch_of x) q.0)), quiet_apart x states (is_launch_of x (launched (Saw y)) || p) xs q.1)
 
+-- where nothing is launched, nothing is asked
+unlaunched : (states : List Plain) (y : Seen) → launched (Saw y) ≡ None → IsStartedIn states (Saw y)
+unlaunched states (seen.Launch h id start) e = absurd (none-some (id, start) (sym e))
+unlaunched states (seen.Print h id start device) e = absurd (none-some (id, start) (sym e))
+unlaunched states y e = tt
+
 quiet_started : (states : List Plain) (xs : List Seen) → launches (saws xs) ≡ [] → AreStarted states (saws xs)
 quiet_started states [] e = tt
 quiet_started states (y ∷ xs) e =
     let q = none_launched (launched (Saw y)) (launches (saws xs)) e in
-    (subst (IsStartedIn states) (sym q.0) tt, quiet_started states xs q.1)
+    (unlaunched states y q.0, quiet_started states xs q.1)
 
 module _ (first states : List Plain) (ns : List Note) (k : HasLaunches first states ns) where
   pub quiet_more : (xs : List Seen) → launches (saws xs) ≡ [] → HasLaunches first states (ns ++ saws xs)
@@ -116,26 +125,32 @@ module _ (first states : List Plain) (ns : List Note) (k : HasLaunches first sta
         distinct = ap (are_distinct same_launch) same ∙ k.distinct;
         past = subst (AllByRecursion (IsPast states)) (sym same) k.past;
         apart = λ x. apart-append x ns (saws xs) first false (k.apart x) (quiet_apart x (replayed ns first) (pending_at x first false ns) xs none);
-        pending = λ x p. k.pending x (sym (pending-append x ns (saws xs) first false ∙ quiet_pending x (replayed ns first) (pending_at x first false ns) xs none) ∙ p);
+        pending = λ x p. k.pending x (sym (pending-append x ns (saws xs) first false
+            ∙ quiet_pending x (replayed ns first) (pending_at x first false ns) xs none) ∙ p);
         started = started-append ns (saws xs) first k.started (quiet_started (replayed ns first) xs none);
       }
 
   -- one launch more
-  pub launch_more : (y : Seen) (l : Launch) → launched (Saw y) ≡ Some l → IsStarted states l → IsGiven l.0 states → AllByRecursion (IsFresh l) (launches ns) → pending_at l.0 first false ns ≡ false → HasLaunches first states (ns ++ Saw y ∷ [])
-  launch_more y l is begun given fresh calm =
+  pub launch_more : (y : Seen) (l : Launch) → launched (Saw y) ≡ Some l → (h : HostId) (begun : IsStarted states h l) → IsStartedIn states (Saw y)
+      → IsGiven l.0 states → AllByRecursion (IsFresh l) (launches ns) → pending_at l.0 first false ns ≡ false → HasLaunches first states (ns ++ Saw y ∷ [])
+  launch_more y l is h begun told given fresh calm =
       let one : launches (Saw y ∷ []) ≡ l ∷ [] = ap (λ o. cons_option o []) is in
       let same : launches (ns ++ Saw y ∷ []) ≡ launches ns ++ l ∷ [] = launches-append ns (Saw y ∷ []) ∙ ap (λ ls. launches ns ++ ls) one in
       let entry : (e : Entry) → entry_of l.0 states ≡ Some e → begun.entry ≡ e = λ e f. same_Some begun.entry e (sym begun.lies ∙ f) in
       record {
         leads = replayed-append ns (Saw y ∷ []) first ∙ k.leads;
-        distinct = ap (are_distinct same_launch) same ∙ distinct-added same_launch launch_exact launch_same (launches ns) l (new_launch l (launches ns) fresh) k.distinct;
+        distinct = ap (are_distinct same_launch) same ∙ distinct-added same_launch launch_exact launch_same (launches ns) l
+            (new_launch l (launches ns) fresh) k.distinct;
         past = subst (AllByRecursion (IsPast states)) (sym same) (past_added (IsPast states) (launches ns) l k.past (record {
           given = given;
-          before = λ e f. (let a : begun.entry.starts ≡ e.starts = ap (λ (e : Entry). e.starts) (entry e f) in let b : begun.entry.starts ≡ l.1 = begun.starts in omega (arith, a, b));
+          before = λ e f. (let a : begun.entry.starts ≡ e.starts = ap (λ (e : Entry). e.starts) (entry e f) in
+              let b : begun.entry.starts ≡ l.1 = begun.starts in omega (arith, a, b));
         }));
-        apart = λ x. apart-append x ns (Saw y ∷ []) first false (k.apart x) (λ t. (let id : x ≡ l.0 = id_exact x l.0 (sym (ap (is_launch_of x) is) ∙ t) in ap (λ z. pending_at z first false ns) id ∙ calm), tt);
-        pending = λ x p. by x (id_eq x l.0) refl (sym (pending-append x ns (Saw y ∷ []) first false ∙ ap (λ o. is_launch_of x o || pending_at x first false ns) is) ∙ p);
-        started = started-append ns (Saw y ∷ []) first k.started (subst (λ o. IsStartedIn (replayed ns first) o) (sym is) (subst (λ s. IsStarted s l) (sym k.leads) begun), tt);
+        apart = λ x. apart-append x ns (Saw y ∷ []) first false (k.apart x)
+            (λ t. (let id : x ≡ l.0 = id_exact x l.0 (sym (ap (is_launch_of x) is) ∙ t) in ap (λ z. pending_at z first false ns) id ∙ calm), tt);
+        pending = λ x p. by x (id_eq x l.0) refl (sym (pending-append x ns (Saw y ∷ []) first false
+            ∙ ap (λ o. is_launch_of x o || pending_at x first false ns) is) ∙ p);
+        started = started-append ns (Saw y ∷ []) first k.started (subst (λ s. IsStartedIn s (Saw y)) (sym k.leads) told, tt);
       }
     where
       by : (x : Request) (b : Bool) → id_eq x l.0 ≡ b → (b || pending_at x first false ns) ≡ true → IsPending x states
@@ -146,7 +161,8 @@ module _ (first states : List Plain) (ns : List Note) (k : HasLaunches first sta
       by x false e p = k.pending x p
 
 -- a change, and what it says of requests whose numbers were given
-module _ (site : List (List ℕ)) (first : List Plain) (m : Moment) (sound : IsSound site m) (k : IsHistory first m) (h : HostId) (s : Plain) (there : At m.states h s) (way : Way m.packets h s) (c : Change (List ℕ)) (is : change_by way ≡ Some c) (suits : Suits s c) where
+module _ (site : List (List ℕ)) (first : List Plain) (m : Moment) (sound : IsSound site m) (k : IsHistory first m) (h : HostId) (s : Plain)
+    (there : At m.states h s) (way : Way m.packets h s) (c : Change (List ℕ)) (is : change_by way ≡ Some c) (suits : Suits s c) where
   abbrev pub later : List Plain
   later = put_state h (applied c s) m.states
 
@@ -154,7 +170,8 @@ module _ (site : List (List ℕ)) (first : List Plain) (m : Moment) (sound : IsS
   later_is = sym (at-value h.0 (applied c) s m.states there)
 
   pub step_is : (x : Request) → IsLicensed (why_by way) s x (entry_of x m.states) (entry_of x later)
-  step_is x = subst (λ l. IsLicensed (why_by way) s x (entry_of x m.states) (entry_of x l)) (sym later_is) ((change_licensed site m sound k.net k.away h s there way c is suits []).1 s there x)
+  step_is x = subst (λ l. IsLicensed (why_by way) s x (entry_of x m.states) (entry_of x l)) (sym later_is)
+      ((change_licensed site m sound k.net k.away h s there way c is suits []).1 s there x)
 
   pub given_kept : (x : Request) → IsGiven x m.states → IsGiven x later
   given_kept x given u at = by (h.0 == x.host.0) refl
@@ -188,7 +205,8 @@ module _ (site : List (List ℕ)) (first : List Plain) (m : Moment) (sound : IsS
     where
       from : (o p : Option Entry) → IsLicensed (why_by way) s x o p → p ≡ Some b → Before o b
       from None p (inl e) f = absurd (none-some b (sym e ∙ f))
-      from None p (inr q) f = absurd (never_new x given (submit_new s x (why_by way) (subst (λ kind. Licenses (why_by way) s x kind) (comes_new q.0 b (subst (Steps q.0 None) f q.2)) q.1)))
+      from None p (inr q) f = absurd (never_new x given (submit_new s x (why_by way)
+          (subst (λ kind. Licenses (why_by way) s x kind) (comes_new q.0 b (subst (Steps q.0 None) f q.2)) q.1)))
       from (Some a) p (inl e) f = (a, refl, inl (same_Some b a (sym f ∙ e)))
       from (Some a) p (inr q) f = (a, refl, inr (q.0, subst (Steps q.0 (Some a)) f q.2))
 
@@ -199,10 +217,15 @@ module _ (site : List (List ℕ)) (first : List Plain) (m : Moment) (sound : IsS
       grown b a less (inl e) = let f : b.starts ≡ a.starts = ap (λ (e : Entry). e.starts) e in omega (arith, less, f)
       grown b a less (inr q) = let f : a.starts ≤ b.starts = starts_grow q.0 a b q.1 in omega (arith, less, f)
 
-  pending_kept : (x : Request) → IsPending x m.states → is_again (entry_of x m.states) (entry_of x later) ≡ false → IsPending x later
-  pending_kept x p calm = record { given = given_kept x p.given; runs = λ b f. (let q = came_from x p.given b f in runs_on b q.0 (p.runs q.0 q.1) (sym (λ j. is_again (q.1 j) (f j)) ∙ calm) q.2) }
+  pending_kept : (x : Request) → IsPending x m.states → was_lost_again (entry_of x m.states) (entry_of x later) ≡ false → IsPending x later
+  pending_kept x p calm = record {
+    given = given_kept x p.given;
+    runs = λ b f.
+        (let q = came_from x p.given b f in runs_on b q.0 (p.runs q.0 q.1) (sym (λ j. was_lost_again (q.1 j) (f j)) ∙ calm) q.2);
+  }
     where
-      runs_on : (b a : Entry) → a.state ≡ net.Running → (b.lost == a.lost + 1) ≡ false → ((b ≡ a) ⊎ ((kind : Kind) × Steps kind (Some a) (Some b))) → b.state ≡ net.Running
+      runs_on : (b a : Entry) → a.state ≡ net.Running → (b.lost == a.lost + 1) ≡ false → ((b ≡ a) ⊎ ((kind : Kind) × Steps kind (Some a) (Some b)))
+          → b.state ≡ net.Running
       runs_on b a runs calm (inl e) = ap (λ (e : Entry). e.state) e ∙ runs
       runs_on b a runs calm (inr q) = or (runs_or_lost q.0 a b q.1 runs)
         where
@@ -221,10 +244,13 @@ module _ (site : List (List ℕ)) (first : List Plain) (m : Moment) (sound : IsS
         distinct = ap (are_distinct same_launch) same ∙ p.distinct;
         past = subst (AllByRecursion (IsPast later)) (sym same) (all_past (IsPast m.states) (IsPast later) past_kept (launches m.notes) p.past);
         apart = λ x. apart-append x m.notes (note ∷ []) first false (p.apart x) ((λ t. absurd (true≢false (sym t))), tt);
-        pending = λ x q. by x (pending_at x first false m.notes) refl (sym (pending-append x m.notes (note ∷ []) first false ∙ (λ j. pending_at x first false m.notes && not (is_again (entry_of x (p.leads j)) (entry_of x (after j))))) ∙ q);
+        pending = λ x q. by x (pending_at x first false m.notes) refl (sym
+            (pending-append x m.notes (note ∷ []) first false ∙ (λ j. pending_at x first false m.notes
+            && not (was_lost_again (entry_of x (p.leads j)) (entry_of x (after j))))) ∙ q);
         started = started-append m.notes (note ∷ []) first p.started (tt, tt);
       }
     where
-      by : (x : Request) (b : Bool) → pending_at x first false m.notes ≡ b → (b && not (is_again (entry_of x m.states) (entry_of x later))) ≡ true → IsPending x later
-      by x true e q = pending_kept x (p.pending x e) (not-true (is_again (entry_of x m.states) (entry_of x later)) q)
+      by : (x : Request) (b : Bool) → pending_at x first false m.notes ≡ b → (b && not (was_lost_again (entry_of x m.states) (entry_of x later))) ≡ true
+          → IsPending x later
+      by x true e q = pending_kept x (p.pending x e) (not-true (was_lost_again (entry_of x m.states) (entry_of x later)) q)
       by x false e q = absurd (true≢false (sym q))

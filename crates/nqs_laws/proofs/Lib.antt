@@ -6,6 +6,7 @@ pub mod Sent
 pub mod Sound
 pub mod Always
 pub mod Makes
+pub mod NewRows
 pub mod StartLaws
 pub mod Found
 pub mod Pair
@@ -25,6 +26,7 @@ pub mod TabledRuns
 pub mod Entries
 pub mod NetLaws
 pub mod RowSteps
+pub mod Hands
 pub mod Away
 pub mod EntrySteps
 pub mod LicensedRuns
@@ -44,6 +46,13 @@ pub mod Kept
 pub mod ClosedNumbers
 pub mod WentOuts
 pub mod LastGiven
+pub mod Numbered
+pub mod Scripted
+pub mod NoOthers
+pub mod Silence
+pub mod AtOnce
+pub mod TooFar
+pub mod HeldBy
 pub mod Begins
 pub mod Rests
 pub mod Resting

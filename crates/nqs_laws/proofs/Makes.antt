@@ -16,7 +16,8 @@ use Rattle.nqs_types.specs.declared.request.Phase.TheVariants.{Offered, Committe
 use Rattle.nqs_types.specs.declared.refusal.Refusal.{Refusal}
 use Rattle.nqs_types.specs.declared.change.OutPart.{OutPart}
 use Rattle.nqs_types.specs.declared.change.Change.{Change}
-use Rattle.nqs_types.specs.declared.change.Change.TheVariants.{Submitted, Deleted, Doomed, Ended, Unlaunched, Edited, HandCommitted, HandRefused, HandsSilent, HandDone, Promised, Accepted, Dropped, StageGot, StageGone, FileGone}
+use Rattle.nqs_types.specs.declared.change.Change.TheVariants.{Submitted, Deleted, Doomed, Ended, Unlaunched, Edited, HandCommitted, HandRefused, HandsSilent}
+use Rattle.nqs_types.specs.declared.change.Change.TheVariants.{HandDone, Promised, Accepted, Dropped, StageGot, StageGone, FileGone}
 use Rattle.nqs_types.specs.declared.message.Body.{Body}
 use Rattle.nqs_types.specs.declared.message.Body.TheVariants as body
 use Rattle.nqs_types.specs.declared.event.Submission.{Submission}
@@ -33,9 +34,11 @@ use Rattle.nqs_rules.specs.Access.{rank, may_command}
 use Rattle.nqs_rules.specs.Rows.{queue_meant, submit_causes, delete_causes}
 use Rattle.nqs_rules.specs.Fits.{edit_causes}
 use Rattle.nqs_rules.specs.Stepped.{Stepped, quiet, says, makes, ready}
-use Rattle.nqs_rules.specs.Handover.{closes, was_given, send_abort, send_done, send_ready, offer_causes, offer_by, on_offer, ready_phase, ready_with, on_ready, refused_phase, refused_with, on_refused, on_commit, done_phase, done_with, on_done, on_abort, silent_hands, silence}
+use Rattle.nqs_rules.specs.Handover.{closes, was_given, send_abort, send_done, send_ready, offer_causes, offer_by, on_offer, ready_phase, ready_with, on_ready}
+use Rattle.nqs_rules.specs.Handover.{refused_phase, refused_with, on_refused, on_commit, done_phase, done_with, on_done, on_abort, silent_hands, silence}
 use Rattle.nqs_rules.specs.Stage.{has_left, is_got, send_staged, on_end, due_of}
-use Rattle.nqs_rules.specs.Step.{Asker, completed, reply_to, answer_to, unless_refused, submit_to, kill, delete_meant, kills_of, stat_causes, on_allowed, on_message, is_start, ended_by, unlaunched_by, step}
+use Rattle.nqs_rules.specs.Step.{Asker, completed, reply_to, answer_to, unless_refused, submit_to, kill, delete_meant, kills_of, stat_causes, on_allowed}
+use Rattle.nqs_rules.specs.Step.{on_message, is_start, ended_by, unlaunched_by, step}
 use Rattle.nqs_rules.specs.Text.{stat_lines}
 
 -- an open offer of this number
@@ -75,7 +78,8 @@ Obeys now c s ch = ⊥
 abbrev pub Follows : Event → Plain → Change (List ℕ) → Type 0
 Follows (event.Ask now port token user c) s ch = Obeys now c s ch
 Follows (event.Arrived now m) s ch = Answers m.body m.from s ch
-Follows (event.Ended now port id start status output error) s ch = (parts : List (OutPart (List ℕ))) × (row : Row (List ℕ)) × (find_row id s ≡ Some row) × (is_start start row ≡ true) × (ch ≡ Ended row.id parts)
+Follows (event.Ended now port id start status output error) s ch = (parts : List (OutPart (List ℕ))) × (row : Row (List ℕ)) × (find_row id s ≡ Some row)
+    × (is_start start row ≡ true) × (ch ≡ Ended row.id parts)
 Follows (event.Unlaunched now id start) s ch = (row : Row (List ℕ)) × (find_row id s ≡ Some row) × (is_start start row ≡ true) × (ch ≡ Unlaunched id)
 Follows (event.Written now file) s ch = ch ≡ FileGone file
 Follows (event.Unwritten now file) s ch = ⊥
@@ -86,7 +90,8 @@ module _ (s : Plain) where
   silenced now wait [] = tt
   silenced now wait (k ∷ ks) = (_, refl)
 
-  unless_makes : (P : Change (List ℕ) → Type 0) (a : Asker) (o : Result (Unit {0}) Refusal) (done : Stepped (List ℕ)) → IfSome done.change P → IfSome (unless_refused a o done).change P
+  unless_makes : (P : Change (List ℕ) → Type 0) (a : Asker) (o : Result (Unit {0}) Refusal) (done : Stepped (List ℕ)) → IfSome done.change P
+      → IfSome (unless_refused a o done).change P
   unless_makes P a (Err r) done k = tt
   unless_makes P a (Ok u) done k = k
 
@@ -98,15 +103,20 @@ module _ (s : Plain) where
   delete_makes a id None e = tt
   delete_makes a id (Some r) e = by (is_running r.state) refl
     where
-      by : (b : Bool) → is_running r.state ≡ b → IfSome (if b then makes (Doomed r.id) (reply_to a (reply.Signalled r.id) ∷ kill r ∷ []) else makes (Deleted r.id) (reply_to a (reply.Deleted r.id) ∷ [])).change (IsDeleted id s)
+      by : (b : Bool) → is_running r.state ≡ b → IfSome (if b then makes (Doomed r.id) (reply_to a (reply.Signalled r.id) ∷ kill r ∷ []) else
+          makes (Deleted r.id) (reply_to a (reply.Deleted r.id) ∷ [])).change (IsDeleted id s)
       by true k = record { row = r; found = e; is = ap (λ (b : Bool). if b then Doomed r.id else Deleted r.id) (sym k) }
       by false k = record { row = r; found = e; is = ap (λ (b : Bool). if b then Doomed r.id else Deleted r.id) (sym k) }
 
   command_makes : (now : ℕ) (a : Asker) (user : List ℕ) (c : Command) → IfSome (on_allowed now a user c s).change (Obeys now c s)
-  command_makes now a user (command.Submit sub) = unless_makes (Obeys now (command.Submit sub) s) a (first_refusal (submit_causes sub s)) (submit_to a sub s (queue_meant sub.queue s.default_queue)) (submit_makes now a sub (queue_meant sub.queue s.default_queue))
-  command_makes now a user (command.Edit e) = unless_makes (Obeys now (command.Edit e) s) a (first_refusal (edit_causes e s)) (makes (Edited e) (reply_to a reply.Done ∷ kills_of e s)) refl
-  command_makes now a user (command.Stat owner queues) = unless_makes (Obeys now (command.Stat owner queues) s) a (first_refusal (stat_causes queues s)) (answer_to a (reply.Lines (stat_lines owner queues s))) tt
-  command_makes now a user (command.Delete id forced) = unless_makes (IsDeleted id s) a (first_refusal (delete_causes user id forced s)) (delete_meant a id (meant_row id s)) (delete_makes a id (meant_row id s) refl)
+  command_makes now a user (command.Submit sub) = unless_makes (Obeys now (command.Submit sub) s) a (first_refusal (submit_causes sub s))
+      (submit_to a sub s (queue_meant sub.queue s.default_queue)) (submit_makes now a sub (queue_meant sub.queue s.default_queue))
+  command_makes now a user (command.Edit e) = unless_makes (Obeys now (command.Edit e) s) a (first_refusal (edit_causes e s))
+      (makes (Edited e) (reply_to a reply.Done ∷ kills_of e s)) refl
+  command_makes now a user (command.Stat owner queues) = unless_makes (Obeys now (command.Stat owner queues) s) a (first_refusal (stat_causes queues s))
+      (answer_to a (reply.Lines (stat_lines owner queues s))) tt
+  command_makes now a user (command.Delete id forced) = unless_makes (IsDeleted id s) a (first_refusal (delete_causes user id forced s))
+      (delete_meant a id (meant_row id s)) (delete_makes a id (meant_row id s) refl)
   command_makes now a user (command.Show code) = tt
   command_makes now a user command.Shutdown = tt
   command_makes now a user command.Tick = silenced now s.retry_wait (silent_hands now s)
@@ -114,15 +124,18 @@ module _ (s : Plain) where
   command_makes now a user (command.UnreadWords fault) = tt
 
   module _ (peer : HostId) where
-    offer_makes : (n : ℕ) (queue : List ℕ) (c : Carried) (script : List ℕ) → IfSome (on_offer peer n queue c script s).change (Answers (body.Offer n queue c script) peer s)
+    offer_makes : (n : ℕ) (queue : List ℕ) (c : Carried) (script : List ℕ)
+        → IfSome (on_offer peer n queue c script s).change (Answers (body.Offer n queue c script) peer s)
     offer_makes n queue c script = by (closes n (find_peer peer s)) refl (has_promise peer n s) refl
       where
-        made : closes n (find_peer peer s) ≡ false → has_promise peer n s ≡ false → (o : Result (Unit {0}) Refusal) → IfSome (offer_by o peer n queue c script s).change (Answers (body.Offer n queue c script) peer s)
+        made : closes n (find_peer peer s) ≡ false → has_promise peer n s ≡ false → (o : Result (Unit {0}) Refusal)
+            → IfSome (offer_by o peer n queue c script s).change (Answers (body.Offer n queue c script) peer s)
         made opens new (Err r) = tt
         made opens new (Ok u) = (refl, opens, new)
 
         by : (a : Bool) → closes n (find_peer peer s) ≡ a → (b : Bool) → has_promise peer n s ≡ b
-            → IfSome (if a then says (send_done s peer n ∷ []) else (if b then says (send_ready s peer n ∷ []) else offer_by (first_refusal (offer_causes peer queue c s)) peer n queue c script s)).change (Answers (body.Offer n queue c script) peer s)
+            → IfSome (if a then says (send_done s peer n ∷ []) else (if b then says (send_ready s peer n ∷ []) else
+            offer_by (first_refusal (offer_causes peer queue c s)) peer n queue c script s)).change (Answers (body.Offer n queue c script) peer s)
         by true opens b new = tt
         by false opens true new = tt
         by false opens false new = made opens new (first_refusal (offer_causes peer queue c s))
@@ -130,11 +143,13 @@ module _ (s : Plain) where
     ready_makes : (n : ℕ) → IfSome (on_ready peer n s).change (λ ch. (ch ≡ HandCommitted peer n) × HasHand Offered peer n s)
     ready_makes n = of (find_hand peer n s) refl
       where
-        missing : (b : Bool) → IfSome (if b then says (send_abort s peer n ∷ []) else quiet).change (λ ch. (ch ≡ HandCommitted peer n) × HasHand Offered peer n s)
+        missing : (b : Bool) → IfSome (if b then says (send_abort s peer n ∷ []) else quiet).change
+            (λ ch. (ch ≡ HandCommitted peer n) × HasHand Offered peer n s)
         missing true = tt
         missing false = tt
 
-        by : (x : Hand) → find_hand peer n s ≡ Some x → (p : Phase) → x.phase ≡ p → IfSome (ready_phase p peer n s).change (λ ch. (ch ≡ HandCommitted peer n) × HasHand Offered peer n s)
+        by : (x : Hand) → find_hand peer n s ≡ Some x → (p : Phase) → x.phase ≡ p
+            → IfSome (ready_phase p peer n s).change (λ ch. (ch ≡ HandCommitted peer n) × HasHand Offered peer n s)
         by x found Offered is = (refl, record { hand = x; found = found; is = is })
         by x found Committed is = tt
 
@@ -145,29 +160,34 @@ module _ (s : Plain) where
     refused_makes : (n refusal : ℕ) → IfSome (on_refused peer n refusal s).change (λ ch. (ch ≡ HandRefused peer n refusal) × HasHand Offered peer n s)
     refused_makes n refusal = of (find_hand peer n s) refl
       where
-        by : (x : Hand) → find_hand peer n s ≡ Some x → (p : Phase) → x.phase ≡ p → IfSome (refused_phase {E = List ℕ} p peer n refusal).change (λ ch. (ch ≡ HandRefused peer n refusal) × HasHand Offered peer n s)
+        by : (x : Hand) → find_hand peer n s ≡ Some x → (p : Phase) → x.phase ≡ p
+            → IfSome (refused_phase {E = List ℕ} p peer n refusal).change (λ ch. (ch ≡ HandRefused peer n refusal) × HasHand Offered peer n s)
         by x found Offered is = (refl, record { hand = x; found = found; is = is })
         by x found Committed is = tt
 
-        of : (o : Option Hand) → find_hand peer n s ≡ o → IfSome (refused_with {E = List ℕ} o peer n refusal).change (λ ch. (ch ≡ HandRefused peer n refusal) × HasHand Offered peer n s)
+        of : (o : Option Hand) → find_hand peer n s ≡ o → IfSome (refused_with {E = List ℕ} o peer n refusal).change
+            (λ ch. (ch ≡ HandRefused peer n refusal) × HasHand Offered peer n s)
         of None found = tt
         of (Some x) found = by x found x.phase refl
 
     done_makes : (n : ℕ) → IfSome (on_done peer n s).change (λ ch. (ch ≡ HandDone peer n) × HasHand Committed peer n s)
     done_makes n = of (find_hand peer n s) refl
       where
-        by : (x : Hand) → find_hand peer n s ≡ Some x → (p : Phase) → x.phase ≡ p → IfSome (done_phase {E = List ℕ} p peer n).change (λ ch. (ch ≡ HandDone peer n) × HasHand Committed peer n s)
+        by : (x : Hand) → find_hand peer n s ≡ Some x → (p : Phase) → x.phase ≡ p
+            → IfSome (done_phase {E = List ℕ} p peer n).change (λ ch. (ch ≡ HandDone peer n) × HasHand Committed peer n s)
         by x found Offered is = tt
         by x found Committed is = (refl, record { hand = x; found = found; is = is })
 
-        of : (o : Option Hand) → find_hand peer n s ≡ o → IfSome (done_with {E = List ℕ} o peer n).change (λ ch. (ch ≡ HandDone peer n) × HasHand Committed peer n s)
+        of : (o : Option Hand) → find_hand peer n s ≡ o → IfSome (done_with {E = List ℕ} o peer n).change
+            (λ ch. (ch ≡ HandDone peer n) × HasHand Committed peer n s)
         of None found = tt
         of (Some x) found = by x found x.phase refl
 
     commit_makes : (n : ℕ) → IfSome (on_commit peer n s).change (λ ch. (ch ≡ Accepted peer n) × (has_promise peer n s ≡ true))
     commit_makes n = by (has_promise peer n s) refl (closes n (find_peer peer s))
       where
-        by : (a : Bool) → has_promise peer n s ≡ a → (b : Bool) → IfSome (if a then makes (Accepted peer n) (send_done s peer n ∷ []) else (if b then says (send_done s peer n ∷ []) else quiet)).change (λ ch. (ch ≡ Accepted peer n) × (has_promise peer n s ≡ true))
+        by : (a : Bool) → has_promise peer n s ≡ a → (b : Bool) → IfSome (if a then makes (Accepted peer n) (send_done s peer n ∷ []) else
+            (if b then says (send_done s peer n ∷ []) else quiet)).change (λ ch. (ch ≡ Accepted peer n) × (has_promise peer n s ≡ true))
         by true is b = (refl, is)
         by false is true = tt
         by false is false = tt
@@ -175,17 +195,21 @@ module _ (s : Plain) where
     abort_makes : (n : ℕ) → IfSome (on_abort peer n s).change (λ ch. (ch ≡ Dropped peer n) × (has_promise peer n s ≡ true))
     abort_makes n = by (has_promise peer n s) refl
       where
-        by : (a : Bool) → has_promise peer n s ≡ a → IfSome (if a then makes {E = List ℕ} (Dropped peer n) [] else quiet).change (λ ch. (ch ≡ Dropped peer n) × (has_promise peer n s ≡ true))
+        by : (a : Bool) → has_promise peer n s ≡ a → IfSome (if a then makes {E = List ℕ} (Dropped peer n) [] else quiet).change
+            (λ ch. (ch ≡ Dropped peer n) × (has_promise peer n s ≡ true))
         by true is = (refl, is)
         by false is = tt
 
     stage_makes : (n : ℕ) (path bytes : List ℕ) (a b : Bool)
-        → IfSome (if a then says (send_staged s peer n ∷ []) else (if b then makes (StageGot peer n path bytes) (send_staged s peer n ∷ ready (out.File s.file_next path bytes) ∷ []) else makes (StageGot peer n path []) (send_staged s peer n ∷ []))).change (λ ch. (kept : List ℕ) × (ch ≡ StageGot peer n path kept))
+        → IfSome (if a then says (send_staged s peer n ∷ []) else (if b then
+        makes (StageGot peer n path bytes) (send_staged s peer n ∷ ready (out.File s.file_next path bytes) ∷ []) else
+        makes (StageGot peer n path []) (send_staged s peer n ∷ []))).change (λ ch. (kept : List ℕ) × (ch ≡ StageGot peer n path kept))
     stage_makes n path bytes true b = tt
     stage_makes n path bytes false true = (bytes, refl)
     stage_makes n path bytes false false = ([], refl)
 
-    staged_makes : (n : ℕ) (a : Bool) → IfSome (if a then makes (StageGone peer n) (due_of s peer (without_first (is_stage (peer_number peer n)) s.stages)) else quiet).change (λ ch. ch ≡ StageGone peer n)
+    staged_makes : (n : ℕ) (a : Bool) → IfSome (if a then makes (StageGone peer n) (due_of s peer (without_first (is_stage (peer_number peer n)) s.stages)) else
+        quiet).change (λ ch. ch ≡ StageGone peer n)
     staged_makes n true = refl
     staged_makes n false = tt
 
@@ -203,20 +227,25 @@ module _ (s : Plain) where
 
   -- which change an event makes
   pub step_makes : (e : Event) → IfSome (step e s).change (Follows e s)
-  step_makes (event.Ask now port token user c) = unless_makes (Obeys now c s) (record { port = port; token = token }) (may_command (rank user s) c) (on_allowed now (record { port = port; token = token }) user c s) (command_makes now (record { port = port; token = token }) user c)
+  step_makes (event.Ask now port token user c) = unless_makes (Obeys now c s) (record { port = port; token = token }) (may_command (rank user s) c)
+      (on_allowed now (record { port = port; token = token }) user c s) (command_makes now (record { port = port; token = token }) user c)
   step_makes (event.Arrived now m) = message_makes m.from m.body
   step_makes (event.Ended now port id start status output error) = of (find_row id s) refl
     where
-      by : (r : Row (List ℕ)) → find_row id s ≡ Some r → (b : Bool) → is_start start r ≡ b → IfSome (if b then on_end status r output error s else quiet).change (Follows (event.Ended now port id start status output error) s)
+      by : (r : Row (List ℕ)) → find_row id s ≡ Some r → (b : Bool) → is_start start r ≡ b
+          → IfSome (if b then on_end status r output error s else quiet).change (Follows (event.Ended now port id start status output error) s)
       by r found true is = (_, r, found, is, refl)
       by r found false is = tt
 
-      of : (o : Option (Row (List ℕ))) → find_row id s ≡ o → IfSome (ended_by o start status output error s).change (Follows (event.Ended now port id start status output error) s)
+      of : (o : Option (Row (List ℕ))) → find_row id s ≡ o → IfSome (ended_by o start status output error s).change
+          (Follows (event.Ended now port id start status output error) s)
       of None found = tt
       of (Some r) found = by r found (is_start start r) refl
   step_makes (event.Unlaunched now id start) = of (find_row id s) refl
     where
-      by : (r : Row (List ℕ)) → find_row id s ≡ Some r → (b : Bool) → is_start start r ≡ b → IfSome (if b then makes {E = List ℕ} (Unlaunched id) (ready (out.Unlaunched id start) ∷ []) else quiet).change (Follows (event.Unlaunched now id start) s)
+      by : (r : Row (List ℕ)) → find_row id s ≡ Some r → (b : Bool) → is_start start r ≡ b
+          → IfSome (if b then makes {E = List ℕ} (Unlaunched id) (ready (out.Unlaunched id start) ∷ []) else quiet).change
+          (Follows (event.Unlaunched now id start) s)
       by r found true is = (r, found, is, refl)
       by r found false is = tt
 

@@ -1,5 +1,6 @@
 -- An event leaves the hosts that it isn't for, and a host without fuses stays up.
-use Rattle.std.proofs.Common.{◌≡◌, ℕ, ◌⊎◌, inl, inr, ◌&&◌, map, Bool, true, false, List, [], ◌∷◌, Option, None, Some, zero, suc, refl, sym, ap, subst, ◌∙◌, if◌then◌else◌}
+use Rattle.std.proofs.Common.{◌≡◌, ℕ, ◌⊎◌, inl, inr, ◌&&◌, map, Bool, true, false, List, [], ◌∷◌, Option, None, Some, zero, suc, refl, sym, ap, subst, ◌∙◌}
+use Rattle.std.proofs.Common.{if◌then◌else◌}
 use Rattle.std.proofs.lemmas.Option.{same_Some}
 use Rattle.std.specs.List.{filter_map}
 use Rattle.std.specs.Option.{option_map}
@@ -19,7 +20,11 @@ use Rattle.nqs_rules.specs.Applied.{applied}
 use Rattle.nqs_rules.specs.Step.{step}
 use Rattle.nqs_rules.specs.Start.{start}
 use Rattle.nqs_rules.specs.Stepped.{Stepped, shown, stored_parts}
-use Rattle.nqs_rules.specs.World.{World, Host, Ran, Fate, Made, StoppedBefore, StoppedAfter, Act, Asks, Ends, Finishes, Fails, Writes, Leaves, Delivers, Newest, Ticks, Clock, Fuse, Crashes, Boots, Shows, no_fuses, fate, spool_calls, falls, falls_at_gate, burnt, keeps_gate, host_of, put_host, seeing, unseen, stopped, used, emits, change_fated, makes_change, carries_out, steps, starts, all_starts, left_of, shuts_down, halted_host, halts, takes_up, taken_by, takes, finishes, finishes_up, delivers, packet_at, newest_between, boot_output, boots_down, boots, crashes_up, runs_now, is_less_row, fused_host}
+use Rattle.nqs_rules.specs.World.{World, Host, Ran, Fate, Made, StoppedBefore, StoppedAfter, Act, Asks, Ends, Finishes, Fails, Writes, Leaves, Delivers, Newest}
+use Rattle.nqs_rules.specs.World.{Ticks, Clock, Fuse, Crashes, Boots, Shows, no_fuses, fate, spool_calls, falls, falls_at_gate, burnt, keeps_gate, host_of}
+use Rattle.nqs_rules.specs.World.{put_host, seeing, unseen, stopped, used, emits, change_fated, makes_change, carries_out, steps, starts, all_starts, left_of}
+use Rattle.nqs_rules.specs.World.{shuts_down, halted_host, halts, takes_up, taken_by, takes, finishes, finishes_up, delivers, packet_at, newest_between}
+use Rattle.nqs_rules.specs.World.{boot_output, boots_down, boots, crashes_up, runs_now, is_less_row, fused_host}
 use Rattle.nqs_rules.proofs.PeersOrder.{get-other}
 use Rattle.nqs_laws.specs.Whole.{after, IsSafe, taker, receiver}
 use Rattle.nqs_laws.proofs.Frame.{emits_world}
@@ -40,8 +45,10 @@ module _ (g h : HostId) (apart : g ≡ h → ⊥) where
   emits_other : (os : List Output) (w : World) → host_of h (emits g os w).world ≡ host_of h w
   emits_other os w = ap (host_of h) (emits_world g os w)
 
-  fated_other : (f : Fate) (host : Host) (c : Change (List ℕ)) (first : List Seen) (os : List Output) (w : World) → host_of h (change_fated f g host c first os w).world ≡ host_of h w
-  fated_other Made host c first os w = emits_other os (put_host g (used (stored_parts c) (applied c host.state) host) w) ∙ put_other (used (stored_parts c) (applied c host.state) host) w
+  fated_other : (f : Fate) (host : Host) (c : Change (List ℕ)) (first : List Seen) (os : List Output) (w : World)
+      → host_of h (change_fated f g host c first os w).world ≡ host_of h w
+  fated_other Made host c first os w = emits_other os (put_host g (used (stored_parts c) (applied c host.state) host) w)
+      ∙ put_other (used (stored_parts c) (applied c host.state) host) w
   fated_other StoppedBefore host c first os w = put_other (stopped host.state host) w
   fated_other StoppedAfter host c first os w = put_other (stopped (applied c host.state) host) w
 
@@ -56,7 +63,8 @@ module _ (g h : HostId) (apart : g ≡ h → ⊥) where
   starts_other zero w = refl
   starts_other (suc n) w = of (host_of g w) (starts_other n)
     where
-      by : (host : Host) (up : Bool) (o : Option (Stepped (List ℕ))) → ((v : World) → host_of h (starts n g v).world ≡ host_of h v) → host_of h (begins n g host up o w) ≡ host_of h w
+      by : (host : Host) (up : Bool) (o : Option (Stepped (List ℕ))) → ((v : World) → host_of h (starts n g v).world ≡ host_of h v)
+          → host_of h (begins n g host up o w) ≡ host_of h w
       by host false o rest = refl
       by host true None rest = refl
       by host true (Some x) rest = rest (steps g host x w).world ∙ steps_other host x w
@@ -85,7 +93,8 @@ module _ (g h : HostId) (apart : g ≡ h → ⊥) where
       let v : World = (steps g host (step e host.state) w).world in
       halts_other (shuts_down e host.state) (all_starts g v).world ∙ (all_starts_other v ∙ steps_other host (step e host.state) w)
 
-  taken_other : (f : Host → World → Ran) → ((host : Host) (w : World) → host_of h (f host w).world ≡ host_of h w) → (o : Option Host) (w : World) → host_of h (taken_by o g f w).world ≡ host_of h w
+  taken_other : (f : Host → World → Ran) → ((host : Host) (w : World) → host_of h (f host w).world ≡ host_of h w) → (o : Option Host) (w : World)
+      → host_of h (taken_by o g f w).world ≡ host_of h w
   taken_other f keeps None w = refl
   taken_other f keeps (Some host) w = by host.up
     where
@@ -120,7 +129,8 @@ module _ (g h : HostId) (apart : g ≡ h → ⊥) where
 other_than : (g h : HostId) → (Some g ≡ Some h → ⊥) → g ≡ h → ⊥
 other_than g h k e = k (ap Some e)
 
-delivers_other : (k : Option ℕ) (o : Option Message) (w : World) (h : HostId) → (option_map receiver o ≡ Some h → ⊥) → host_of h (delivers k o w).world ≡ host_of h w
+delivers_other : (k : Option ℕ) (o : Option Message) (w : World) (h : HostId) → (option_map receiver o ≡ Some h → ⊥)
+    → host_of h (delivers k o w).world ≡ host_of h w
 delivers_other k None w h apart = refl
 delivers_other k (Some m) w h apart = takes_other m.to h (other_than m.to h apart) (event.Arrived w.now m) w
 
@@ -151,7 +161,8 @@ module _ (h : HostId) where
 
   -- no fuse falls
   made : (puts : List (List ℕ)) (host : Host) → host.fuses ≡ no_fuses → fate puts host ≡ Made
-  made puts host none = ap (λ f. if falls f.spool (spool_calls puts) then StoppedBefore else (if falls f.first 4 then (if falls_at_gate f.first && keeps_gate host.tear then StoppedAfter else StoppedBefore) else Made)) none
+  made puts host none = ap (λ f. if falls f.spool (spool_calls puts) then StoppedBefore else
+      (if falls f.first 4 then (if falls_at_gate f.first && keeps_gate host.tear then StoppedAfter else StoppedBefore) else Made)) none
 
   -- and none comes
   still_none : (puts : List (List ℕ)) (s : Plain) (host : Host) → host.fuses ≡ no_fuses → (used puts s host).fuses ≡ no_fuses
@@ -165,13 +176,15 @@ module _ (h : HostId) where
       of (Some c) =
           let new : Host = used (stored_parts c) (applied c k.host.state) k.host in
           subst (λ f. IsSafe h (change_fated f h k.host c [] (map shown x.outputs) w).world) (sym (made (stored_parts c) k.host k.fuses))
-          (safe_emits (map shown x.outputs) (put_host h new w) (safe_put new k.host w k.there refl (still_none (stored_parts c) (applied c k.host.state) k.host k.fuses)))
+          (safe_emits (map shown x.outputs) (put_host h new w) (safe_put new k.host w k.there refl
+          (still_none (stored_parts c) (applied c k.host.state) k.host k.fuses)))
 
   starts_safe : (n : ℕ) (w : World) → IsSafe h w → IsSafe h (starts n h w).world
   starts_safe zero w k = k
   starts_safe (suc n) w k = of (host_of h w) refl (starts_safe n)
     where
-      by : (host : Host) → host_of h w ≡ Some host → (up : Bool) (o : Option (Stepped (List ℕ))) → ((v : World) → IsSafe h v → IsSafe h (starts n h v).world) → IsSafe h (begins n h host up o w)
+      by : (host : Host) → host_of h w ≡ Some host → (up : Bool) (o : Option (Stepped (List ℕ))) → ((v : World) → IsSafe h v → IsSafe h (starts n h v).world)
+          → IsSafe h (begins n h host up o w)
       by host there false o rest = k
       by host there true None rest = k
       by host there true (Some x) rest =
@@ -186,7 +199,8 @@ module _ (h : HostId) where
   takes_safe e open_still w k =
       subst (λ o. IsSafe h (taken_by o h (λ host. takes_up h host e) w).world) (sym k.there)
       (subst (λ b. IsSafe h (if b then takes_up h k.host e w else seeing (seen.Down h) w).world) (sym k.up)
-      (subst (λ b. IsSafe h (halts b h (all_starts h v).world).world) (sym (open_still k.host.state)) (starts_safe (left_of (host_of h v)) v (steps_safe (step e k.host.state) w k))))
+      (subst (λ b. IsSafe h (halts b h (all_starts h v).world).world) (sym (open_still k.host.state))
+      (starts_safe (left_of (host_of h v)) v (steps_safe (step e k.host.state) w k))))
     where
       v : World
       v = (steps h k.host (step e k.host.state) w).world

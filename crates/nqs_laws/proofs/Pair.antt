@@ -1,15 +1,16 @@
 -- An ordered pair of hosts: the source's offer and its counter, the receiver's promise and its closed number.
-use Rattle.std.proofs.Common.{◌≡◌, ℕ, ◌+◌, ◌-◌, ◌<◌, ◌≤◌, arith}
-use Rattle.nqs_types.specs.declared.request.Carried.{Carried}
+use Rattle.std.proofs.Common.{◌≡◌, ℕ, ◌+◌, ◌-◌, ◌<◌, ◌≤◌, List, arith}
+use Rattle.nqs_types.specs.declared.ids.RequestId.{RequestId}
+use Rattle.nqs_laws.specs.Loads.{Load}
 
 pub data Offer : Type 0 where
   NoOffer : Offer
-  Open : (number : ℕ) → (load : Carried) → Offer
-  Given : (number : ℕ) → Offer
+  Open : (number : ℕ) → (load : Load) → Offer
+  Given : (number : ℕ) → (id : RequestId) → (queue : List ℕ) → Offer
 
 pub data Pledge : Type 0 where
   NoPledge : Pledge
-  Pledged : (number : ℕ) → (load : Carried) → Pledge
+  Pledged : (number : ℕ) → (load : Load) → Pledge
 
 pub record Pair : Type 0 where
   pub offer : Offer
@@ -19,7 +20,7 @@ pub record Pair : Type 0 where
 
 -- a message of the pair
 pub data Word : Type 0 where
-  OfferOf : (number : ℕ) → (load : Carried) → Word
+  OfferOf : (number : ℕ) → (load : Load) → Word
   ReadyFor : (number : ℕ) → Word
   RefusedOf : (number : ℕ) → Word
   CommitOf : (number : ℕ) → Word
@@ -36,31 +37,36 @@ IsNoPledge NoPledge n = Unit {0}
 IsNoPledge (Pledged m load) n = m ≡ n → ⊥
 
 -- where the number is promised, it is this request
-abbrev pub Agrees : Pledge → ℕ → Carried → Type 0
+abbrev pub Agrees : Pledge → ℕ → Load → Type 0
 Agrees NoPledge n load = Unit {0}
 Agrees (Pledged m other) n load = m ≡ n → other ≡ load
+
+-- where the number is promised, it is this request, for this queue
+abbrev pub IsPromisedAs : Pledge → ℕ → RequestId → List ℕ → Type 0
+IsPromisedAs NoPledge n id queue = Unit {0}
+IsPromisedAs (Pledged m load) n id queue = m ≡ n → (load.carried.id ≡ id) × (load.queue ≡ queue)
 
 -- the number is committed or closed
 abbrev pub IsGiven : Offer → ℕ → ℕ → Type 0
 IsGiven NoOffer closed n = n ≤ closed
 IsGiven (Open m load) closed n = n ≤ closed
-IsGiven (Given m) closed n = closed < n → m ≡ n
+IsGiven (Given m id queue) closed n = closed < n → m ≡ n
 
 abbrev pub IsNoOffer : Offer → ℕ → Type 0
 IsNoOffer NoOffer n = Unit {0}
 IsNoOffer (Open m load) n = m ≡ n → ⊥
-IsNoOffer (Given m) n = m ≡ n → ⊥
+IsNoOffer (Given m id queue) n = m ≡ n → ⊥
 
 -- where the number is offered, it is this request
-abbrev pub IsOf : Offer → ℕ → Carried → Type 0
+abbrev pub IsOf : Offer → ℕ → Load → Type 0
 IsOf NoOffer n load = Unit {0}
 IsOf (Open m other) n load = m ≡ n → load ≡ other
-IsOf (Given m) n load = Unit {0}
+IsOf (Given m id queue) n load = Unit {0}
 
 abbrev pub OfferOk : Offer → ℕ → Pledge → ℕ → Type 0
 OfferOk NoOffer next q closed = Unit {0}
 OfferOk (Open n load) next q closed = (n + 1 ≡ next) × (closed < n) × Agrees q n load
-OfferOk (Given n) next q closed = (n + 1 ≡ next) × IsTaken q closed n
+OfferOk (Given n id queue) next q closed = (n + 1 ≡ next) × IsTaken q closed n × IsPromisedAs q n id queue
 
 abbrev pub PledgeOk : Pledge → ℕ → ℕ → Type 0
 PledgeOk NoPledge next closed = Unit {0}
@@ -84,18 +90,18 @@ Holds p (AbortOf n) = (n < p.next) × IsNoOffer p.offer n
 -- the changes of a pair
 pub data Move : Type 0 where
   Stays : Move
-  Offers : (load : Carried) → Move
+  Offers : (load : Load) → Move
   Withdraws : Move
   Commits : Move
   Finishes : Move
-  Pledges : (number : ℕ) → (load : Carried) → Move
+  Pledges : (number : ℕ) → (load : Load) → Move
   Accepts : Move
   Drops : Move
 
 abbrev pub given : Offer → Offer
 given NoOffer = NoOffer
-given (Open n load) = Given n
-given (Given n) = Given n
+given (Open n load) = Given n load.carried.id load.queue
+given (Given n id queue) = Given n id queue
 
 abbrev pub closed_by : Pledge → ℕ → ℕ
 closed_by NoPledge closed = closed
@@ -116,22 +122,22 @@ moved p Drops = record { offer = p.offer; next = p.next; pledge = NoPledge; clos
 abbrev pub MayCommit : Offer → Pledge → ℕ → Type 0
 MayCommit NoOffer q closed = ⊥
 MayCommit (Open n load) q closed = IsTaken q closed n
-MayCommit (Given n) q closed = ⊥
+MayCommit (Given n id queue) q closed = ⊥
 
 abbrev pub MayFinish : Offer → ℕ → Type 0
 MayFinish NoOffer closed = ⊥
 MayFinish (Open n load) closed = ⊥
-MayFinish (Given n) closed = n ≤ closed
+MayFinish (Given n id queue) closed = n ≤ closed
 
 abbrev pub MayWithdraw : Offer → Type 0
 MayWithdraw NoOffer = ⊥
 MayWithdraw (Open n load) = Unit {0}
-MayWithdraw (Given n) = ⊥
+MayWithdraw (Given n id queue) = ⊥
 
 abbrev pub MayOffer : Offer → Type 0
 MayOffer NoOffer = Unit {0}
 MayOffer (Open n load) = ⊥
-MayOffer (Given n) = ⊥
+MayOffer (Given n id queue) = ⊥
 
 abbrev pub MayAccept : Pledge → Offer → ℕ → Type 0
 MayAccept NoPledge offer closed = ⊥
@@ -165,5 +171,6 @@ moved-ok p m ok may = by p.offer p.pledge p.next p.closed ok may
 pub moved-holds : (p : Pair) (m : Move) (w : Word) → Ok p → May p m → Holds p w → Holds (moved p m) w
 moved-holds p m w ok may holds = by p.offer p.pledge p.next p.closed ok may holds
   where
-    by : (h : Offer) (q : Pledge) (next closed : ℕ) → Ok (pair h q next closed) → May (pair h q next closed) m → Holds (pair h q next closed) w → Holds (moved (pair h q next closed) m) w
+    by : (h : Offer) (q : Pledge) (next closed : ℕ) → Ok (pair h q next closed) → May (pair h q next closed) m → Holds (pair h q next closed) w
+        → Holds (moved (pair h q next closed) m) w
     by h q next closed ok may holds = grind arith

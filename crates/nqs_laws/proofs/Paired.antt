@@ -1,5 +1,6 @@
 -- What holds of each pair of hosts and of each message, after each change.
-use Rattle.std.proofs.Common.{◌≡◌, ℕ, ◌⊎◌, inl, inr, Bool, true, false, ◌||◌, ◌==◌, List, [], ◌∷◌, ◌++◌, find, slice_get, Option, None, Some, true≢false, zero, suc, refl, sym, ap, subst, ◌∙◌, if◌then◌else◌}
+use Rattle.std.proofs.Common.{◌≡◌, ℕ, ◌⊎◌, inl, inr, Bool, true, false, ◌||◌, ◌==◌, List, [], ◌∷◌, ◌++◌, find, slice_get, Option, None, Some, true≢false, zero}
+use Rattle.std.proofs.Common.{suc, refl, sym, ap, subst, ◌∙◌, if◌then◌else◌}
 use Rattle.std.proofs.lemmas.Bool.{and_from, eq-eqb}
 use Rattle.std.proofs.lemmas.Option.{same_Some, none-some}
 use Rattle.std.specs.List.{list_any, AllByRecursion}
@@ -8,7 +9,7 @@ use Rattle.nqs_state.specs.State.{Plain}
 use Rattle.nqs_state.specs.Keys.{is_hand, is_promise}
 use Rattle.nqs_types.specs.declared.ids.HostId.{HostId}
 use Rattle.nqs_types.specs.declared.ids.PeerNumber.{PeerNumber}
-use Rattle.nqs_types.specs.declared.request.Carried.{Carried}
+use Rattle.nqs_types.specs.declared.ids.RequestId.{RequestId as Request}
 use Rattle.nqs_types.specs.declared.request.Hand.{Hand}
 use Rattle.nqs_types.specs.declared.request.Phase.{Phase}
 use Rattle.nqs_types.specs.declared.request.Phase.TheVariants.{Offered, Committed}
@@ -20,7 +21,6 @@ use Rattle.nqs_types.specs.declared.message.Body.TheVariants as body
 use Rattle.nqs_rules.specs.Tests.{passes, is_offered, is_committed, same_host}
 use Rattle.nqs_rules.specs.Find.{peer_number, has_promise, find_row, find_hand}
 use Rattle.nqs_rules.specs.Routing.{is_hand_to}
-use Rattle.nqs_rules.specs.Handover.{carried_of}
 use Rattle.nqs_rules.specs.Fits.{is_committed_hand}
 use Rattle.nqs_rules.specs.InOrder.{IsInOrder}
 use Rattle.nqs_rules.proofs.ListFacts.{found_passes}
@@ -29,16 +29,20 @@ use Rattle.nqs_rules.proofs.PeersOrder.{get-other}
 use Rattle.nqs_rules.proofs.RowFacts.{same_peer_number}
 use Rattle.nqs_laws.proofs.Frame.{put_state, WasSent}
 use Rattle.nqs_laws.proofs.Sound.{get-here}
+use Rattle.nqs_laws.specs.Loads.{Load, offered_load, kept_load, sent_load}
 use Rattle.nqs_laws.proofs.RowTests.{PlainRow}
 use Rattle.nqs_laws.proofs.Makes.{HasHand}
-use Rattle.nqs_laws.proofs.Pair.{Open, Given, NoPledge, Pledged, Pair, OfferOf, ReadyFor, RefusedOf, CommitOf, DoneOf, AbortOf, IsNoPledge, Ok, Holds, Move, Stays, moved, May, moved-ok, moved-holds, pair}
-use Rattle.nqs_laws.proofs.Views.{Pledging, carried_in, phase_seen, offer_seen, offered, pledge_seen, promise_of, pledged, next_of, pair_of, IsLone, Source, Target, source_pair, target_pair, host_exact, host_same, found_by_key, hand_to_peer, hand_number, promise_to_peer, promise_number, routing_of}
+use Rattle.nqs_laws.proofs.Pair.{Open, Given, NoPledge, Pledged, Pair, OfferOf, ReadyFor, RefusedOf, CommitOf, DoneOf, AbortOf, IsNoPledge, Ok, Holds, Move}
+use Rattle.nqs_laws.proofs.Pair.{Stays, moved, May, moved-ok, moved-holds, pair}
+use Rattle.nqs_laws.proofs.Views.{Pledging, phase_seen, offer_seen, offered, pledge_seen, promise_of, pledged, next_of, pair_of, IsLone, Source, Target}
+use Rattle.nqs_laws.proofs.Views.{source_pair, target_pair, host_exact, host_same, found_by_key, hand_to_peer, hand_number, promise_to_peer, promise_number}
+use Rattle.nqs_laws.proofs.Views.{routing_of}
 use Rattle.nqs_laws.proofs.Turns.{to_move, from_move, stays_source, stays_target}
 use Rattle.nqs_laws.proofs.Targets.{promise_at}
 
 -- what holds of a message, by the pairs of its hosts: from its sender, and to it
 abbrev pub HoldsFor : Pair → Pair → Body → Type 0
-HoldsFor out back (body.Offer n queue c script) = Holds out (OfferOf n c)
+HoldsFor out back (body.Offer n queue c script) = Holds out (OfferOf n (sent_load queue c script))
 HoldsFor out back (body.Ready n) = Holds back (ReadyFor n)
 HoldsFor out back (body.Refused n refusal) = Holds back (RefusedOf n)
 HoldsFor out back (body.Commit n) = Holds out (CommitOf n)
@@ -71,8 +75,9 @@ pub record Guards (states : List Plain) (h : HostId) (s : Plain) (to from : Host
   pub to_peers : (b : HostId) (t : Plain) → At states b t → May (pair_of h s b t) (to b)
   pub from_peers : (a : HostId) (u : Plain) → At states a u → May (pair_of a u h s) (from a)
 
-holds_moved : (out back : Pair) (m n : Move) (b : Body) → Ok out → Ok back → May out m → May back n → HoldsFor out back b → HoldsFor (moved out m) (moved back n) b
-holds_moved out back m n (body.Offer k queue c script) o p a z h = moved-holds out m (OfferOf k c) o a h
+holds_moved : (out back : Pair) (m n : Move) (b : Body) → Ok out → Ok back → May out m → May back n → HoldsFor out back b
+    → HoldsFor (moved out m) (moved back n) b
+holds_moved out back m n (body.Offer k queue c script) o p a z h = moved-holds out m (OfferOf k (sent_load queue c script)) o a h
 holds_moved out back m n (body.Ready k) o p a z h = moved-holds back n (ReadyFor k) p z h
 holds_moved out back m n (body.Refused k refusal) o p a z h = moved-holds back n (RefusedOf k) p z h
 holds_moved out back m n (body.Commit k) o p a z h = moved-holds out m (CommitOf k) o a h
@@ -81,7 +86,8 @@ holds_moved out back m n (body.Inquire k) o p a z h = moved-holds back n (ReadyF
 holds_moved out back m n (body.Abort k) o p a z h = moved-holds out m (AbortOf k) o a h
 holds_moved out back m n b o p a z h = tt
 
-module _ (states : List Plain) (packets : List Message) (h : HostId) (s s' : Plain) (there : At states h s) (to from : HostId → Move) (turn : Turn s s' to from) where
+module _ (states : List Plain) (packets : List Message) (h : HostId) (s s' : Plain) (there : At states h s) (to from : HostId → Move)
+    (turn : Turn s s' to from) where
   abbrev here_or : HostId → Move → Move
   here_or a m = if same_host a h then m else Stays
 
@@ -99,7 +105,8 @@ module _ (states : List Plain) (packets : List Message) (h : HostId) (s s' : Pla
       by : (c : Bool) → same_host a h ≡ c → Was a u'
       by true e =
           let here : a ≡ h = host_exact a h e in
-          let same : s' ≡ u' = same_Some s' u' (sym (get-here h.0 s' s states there) ∙ (ap (λ (i : HostId). slice_get (put_state h s' states) i.0) (sym here) ∙ at)) in
+          let same : s' ≡ u' = same_Some s' u' (sym (get-here h.0 s' s states there)
+          ∙ (ap (λ (i : HostId). slice_get (put_state h s' states) i.0) (sym here) ∙ at)) in
           record {
             state = s;
             at = ap (λ (i : HostId). slice_get states i.0) here ∙ there;
@@ -126,7 +133,8 @@ module _ (states : List Plain) (packets : List Message) (h : HostId) (s s' : Pla
     moved_pair a b u' v' x y = by turn.side
       where
         both : pair_of a u' b v' ≡ moved (moved (pair_of a x.state b y.state) (here_or b (from a))) (here_or a (to b))
-        both = source_pair a x.state u' b v' (here_or a (to b)) (x.source b) ∙ ap (λ p. moved p (here_or a (to b))) (target_pair a x.state b y.state v' (here_or b (from a)) (y.target a))
+        both = source_pair a x.state u' b v' (here_or a (to b)) (x.source b)
+            ∙ ap (λ p. moved p (here_or a (to b))) (target_pair a x.state b y.state v' (here_or b (from a)) (y.target a))
 
         still : (c : Bool) (m : Move) → m ≡ Stays → (if c then m else Stays) ≡ Stays
         still true m e = e
@@ -136,14 +144,16 @@ module _ (states : List Plain) (packets : List Message) (h : HostId) (s s' : Pla
         source_may true e =
             let here : a ≡ h = host_exact a h e in
             let same : x.state ≡ s = same_Some x.state s (sym x.at ∙ (ap (λ (i : HostId). slice_get states i.0) here ∙ there)) in
-            subst (λ i. May (pair_of i x.state b y.state) (to b)) (sym here) (subst (λ v. May (pair_of h v b y.state) (to b)) (sym same) (guards.to_peers b y.state y.at))
+            subst (λ i. May (pair_of i x.state b y.state) (to b)) (sym here)
+            (subst (λ v. May (pair_of h v b y.state) (to b)) (sym same) (guards.to_peers b y.state y.at))
         source_may false e = tt
 
         target_may : (c : Bool) → same_host b h ≡ c → May (pair_of a x.state b y.state) (if c then from a else Stays)
         target_may true e =
             let here : b ≡ h = host_exact b h e in
             let same : y.state ≡ s = same_Some y.state s (sym y.at ∙ (ap (λ (i : HostId). slice_get states i.0) here ∙ there)) in
-            subst (λ i. May (pair_of a x.state i y.state) (from a)) (sym here) (subst (λ v. May (pair_of a x.state h v) (from a)) (sym same) (guards.from_peers a x.state x.at))
+            subst (λ i. May (pair_of a x.state i y.state) (from a)) (sym here)
+            (subst (λ v. May (pair_of a x.state h v) (from a)) (sym same) (guards.from_peers a x.state x.at))
         target_may false e = tt
 
         by : ((a : HostId) → from a ≡ Stays) ⊎ ((b : HostId) → to b ≡ Stays) → Moved (pair_of a u' b v') (pair_of a x.state b y.state)
@@ -175,21 +185,24 @@ module _ (states : List Plain) (packets : List Message) (h : HostId) (s s' : Pla
         source_may true e =
             let here : a ≡ h = host_exact a h e in
             let same : x.state ≡ s = same_Some x.state s (sym x.at ∙ (ap (λ (i : HostId). slice_get states i.0) here ∙ there)) in
-            subst (λ i. May (pair_of i x.state b y.state) (to b)) (sym here) (subst (λ v. May (pair_of h v b y.state) (to b)) (sym same) (guards.to_peers b y.state y.at))
+            subst (λ i. May (pair_of i x.state b y.state) (to b)) (sym here)
+            (subst (λ v. May (pair_of h v b y.state) (to b)) (sym same) (guards.to_peers b y.state y.at))
         source_may false e = tt
 
         target_may : (c : Bool) → same_host b h ≡ c → May (pair_of a x.state b y.state) (if c then from a else Stays)
         target_may true e =
             let here : b ≡ h = host_exact b h e in
             let same : y.state ≡ s = same_Some y.state s (sym y.at ∙ (ap (λ (i : HostId). slice_get states i.0) here ∙ there)) in
-            subst (λ i. May (pair_of a x.state i y.state) (from a)) (sym here) (subst (λ v. May (pair_of a x.state h v) (from a)) (sym same) (guards.from_peers a x.state x.at))
+            subst (λ i. May (pair_of a x.state i y.state) (from a)) (sym here)
+            (subst (λ v. May (pair_of a x.state h v) (from a)) (sym same) (guards.from_peers a x.state x.at))
         target_may false e = tt
 
         by : ((a : HostId) → from a ≡ Stays) ⊎ ((b : HostId) → to b ≡ Stays) → PairTurn a b u' v' x y
         by (inl e) = inl (here_or a (to b), x.source b, (y.target a).stays (still (same_host b h) (from a) (e a)), source_may (same_host a h) refl, refl)
         by (inr e) = inr (
           here_or b (from a),
-          subst (λ m. offered u' b ≡ (moved (pair (offered x.state b) NoPledge (next_of b x.state) 0) m).offer) (still (same_host a h) (to b) (e b)) (x.source b).offer,
+          subst (λ m. offered u' b ≡ (moved (pair (offered x.state b) NoPledge (next_of b x.state) 0) m).offer) (still (same_host a h) (to b) (e b))
+              (x.source b).offer,
           y.target a,
           target_may (same_host b h) refl,
           refl,
@@ -210,17 +223,20 @@ module _ (states : List Plain) (packets : List Message) (h : HostId) (s s' : Pla
           subst (λ p. HoldsFor p (pair_of w.to v' w.from u') w.body) (sym m.is)
           (subst (λ p. HoldsFor (moved (pair_of w.from x.state w.to y.state) m.move) p w.body) (sym n.is)
           (holds_moved (pair_of w.from x.state w.to y.state) (pair_of w.to y.state w.from x.state) m.move n.move w.body
-          (k.pairs w.from w.to x.state y.state x.at y.at) (k.pairs w.to w.from y.state x.state y.at x.at) m.may n.may (k.words w sent x.state y.state x.at y.at))));
+          (k.pairs w.from w.to x.state y.state x.at y.at) (k.pairs w.to w.from y.state x.state y.at x.at) m.may n.may
+          (k.words w sent x.state y.state x.at y.at))));
     }
 
 -- more messages
 
-sent_before : {V : Type 0} (xs ys : List V) (k : ℕ) (v : V) → slice_get (xs ++ ys) k ≡ Some v → ((i : ℕ) × (slice_get xs i ≡ Some v)) ⊎ ((i : ℕ) × (slice_get ys i ≡ Some v))
+sent_before : {V : Type 0} (xs ys : List V) (k : ℕ) (v : V) → slice_get (xs ++ ys) k ≡ Some v
+    → ((i : ℕ) × (slice_get xs i ≡ Some v)) ⊎ ((i : ℕ) × (slice_get ys i ≡ Some v))
 sent_before [] ys k v e = inr (k, e)
 sent_before (x ∷ xs) ys zero v e = inl (0, e)
 sent_before (x ∷ xs) ys (suc k) v e = by (sent_before xs ys k v e)
   where
-    by : ((i : ℕ) × (slice_get xs i ≡ Some v)) ⊎ ((i : ℕ) × (slice_get ys i ≡ Some v)) → ((i : ℕ) × (slice_get (x ∷ xs) i ≡ Some v)) ⊎ ((i : ℕ) × (slice_get ys i ≡ Some v))
+    by : ((i : ℕ) × (slice_get xs i ≡ Some v)) ⊎ ((i : ℕ) × (slice_get ys i ≡ Some v))
+        → ((i : ℕ) × (slice_get (x ∷ xs) i ≡ Some v)) ⊎ ((i : ℕ) × (slice_get ys i ≡ Some v))
     by (inl (i, f)) = inl (suc i, f)
     by (inr f) = inr f
 
@@ -229,7 +245,8 @@ all_at P [] k v all e = absurd (none-some v e)
 all_at P (x ∷ vs) zero v all e = subst P (same_Some x v e) all.0
 all_at P (x ∷ vs) (suc k) v all e = all_at P vs k v all.1 e
 
-pub more_words : (states : List Plain) (packets sent : List Message) → IsPaired states packets → AllByRecursion (IsTrueWord states) sent → IsPaired states (packets ++ sent)
+pub more_words : (states : List Plain) (packets sent : List Message) → IsPaired states packets → AllByRecursion (IsTrueWord states) sent
+    → IsPaired states (packets ++ sent)
 more_words states packets sent k all = record {
   lone = k.lone;
   pairs = k.pairs;
@@ -249,47 +266,58 @@ abbrev pub GuardsOf : List Plain → HostId → Plain → Change (List ℕ) → 
 GuardsOf states h s c = Guards states h s (to_move c s) (from_move c)
 
 -- an offer under a number, seen from outside
-pub open_row : (s : Plain) → IsInOrder s → IsLone s.hands → (peer : HostId) (n : ℕ) → (k : HasHand Offered peer n s) → (r : PlainRow) × (find_row k.hand.id s ≡ Some r) × (offered s peer ≡ Open n (carried_of r))
+pub open_row : (s : Plain) → IsInOrder s → IsLone s.hands → (peer : HostId) (n : ℕ) → (k : HasHand Offered peer n s)
+    → (r : PlainRow) × (find_row k.hand.id s ≡ Some r) × (offered s peer ≡ Open n (offered_load k.hand.queue r))
 open_row s o lone peer n k =
     let r = routing_of s o (is_hand (peer_number peer n)) k.hand k.found (ap is_offered k.is) in (
       r.0,
       r.1,
       ap (λ x. offer_seen x s) (hand_to_peer s lone (peer_number peer n) k.hand k.found)
-          ∙ (ap (λ p. phase_seen p k.hand (find_row k.hand.id s)) k.is ∙ (ap (phase_seen Offered k.hand) r.1 ∙ ap (λ i. Open i (carried_of r.0)) (sym (hand_number s lone (peer_number peer n) k.hand k.found)))),
+          ∙ (ap (λ p. phase_seen p k.hand (find_row k.hand.id s)) k.is ∙ (ap (phase_seen Offered k.hand) r.1
+          ∙ ap (λ i. Open i (offered_load k.hand.queue r.0)) (sym (hand_number s lone (peer_number peer n) k.hand k.found)))),
     )
 
-pub open_offer : (s : Plain) → IsInOrder s → IsLone s.hands → (peer : HostId) (n : ℕ) → HasHand Offered peer n s → (load : Carried) × (offered s peer ≡ Open n load)
-open_offer s o lone peer n k = let r = open_row s o lone peer n k in (carried_of r.0, r.2)
+pub open_offer : (s : Plain) → IsInOrder s → IsLone s.hands → (peer : HostId) (n : ℕ) → HasHand Offered peer n s
+    → (load : Load) × (offered s peer ≡ Open n load)
+open_offer s o lone peer n k = let r = open_row s o lone peer n k in (offered_load k.hand.queue r.0, r.2)
 
-pub given_offer : (s : Plain) → IsLone s.hands → (peer : HostId) (n : ℕ) → HasHand Committed peer n s → offered s peer ≡ Given n
+pub given_offer : (s : Plain) → IsLone s.hands → (peer : HostId) (n : ℕ) → (k : HasHand Committed peer n s) → offered s peer ≡ Given n k.hand.id k.hand.queue
 given_offer s lone peer n k =
     ap (λ x. offer_seen x s) (hand_to_peer s lone (peer_number peer n) k.hand k.found)
-    ∙ (ap (λ p. phase_seen p k.hand (find_row k.hand.id s)) k.is ∙ ap Given (sym (hand_number s lone (peer_number peer n) k.hand k.found)))
+    ∙ (ap (λ p. phase_seen p k.hand (find_row k.hand.id s)) k.is ∙ ap (λ i. Given i k.hand.id k.hand.queue)
+    (sym (hand_number s lone (peer_number peer n) k.hand k.found)))
 
-pub committed_hand : (s : Plain) → IsInOrder s → (b : HostId) (n : ℕ) → offered s b ≡ Given n → passes is_committed_hand (find_hand b n s) ≡ true
-committed_hand s o b n given = of (find (is_hand_to b) s.hands) refl given
+pub committed_hand : (s : Plain) → IsInOrder s → (b : HostId) (n : ℕ) (id : Request) (queue : List ℕ) → offered s b ≡ Given n id queue
+    → passes is_committed_hand (find_hand b n s) ≡ true
+committed_hand s o b n id queue given = of (find (is_hand_to b) s.hands) refl given
   where
-    phase : (y : Hand) → find (is_hand_to b) s.hands ≡ Some y → (p : Phase) → y.phase ≡ p → phase_seen p y (find_row y.id s) ≡ Given n → passes is_committed_hand (find_hand b n s) ≡ true
+    phase : (y : Hand) → find (is_hand_to b) s.hands ≡ Some y → (p : Phase) → y.phase ≡ p → phase_seen p y (find_row y.id s) ≡ Given n id queue
+        → passes is_committed_hand (find_hand b n s) ≡ true
     phase y f Offered is g = offers (find_row y.id s) g
       where
-        offers : (o : Option PlainRow) → phase_seen Offered y o ≡ Given n → passes is_committed_hand (find_hand b n s) ≡ true
+        offers : (o : Option PlainRow) → phase_seen Offered y o ≡ Given n id queue → passes is_committed_hand (find_hand b n s) ≡ true
         offers None g = absurd (let no : ⊥ = cc in no)
         offers (Some q) g = absurd (let no : ⊥ = cc in no)
     phase y f Committed is g =
         let number : y.number ≡ n = cc in
         let peer : b ≡ y.peer = host_exact b y.peer (found_passes (is_hand_to b) s.hands y f) in
-        let again : find (is_hand (hand_key y)) s.hands ≡ Some y = found_by_key peer_number_eq hand_key peer_number_exact same_peer_number (is_hand_to b) s.hands y f (keys_are s o.keys).hands in
+        let again : find (is_hand (hand_key y)) s.hands ≡ Some y = found_by_key peer_number_eq hand_key peer_number_exact same_peer_number
+        (is_hand_to b) s.hands y f (keys_are s o.keys).hands in
         let key : hand_key y ≡ peer_number b n = λ j. record { peer = sym peer j; number = number j } in
         ap (passes is_committed_hand) (ap (λ k. find (is_hand k) s.hands) (sym key) ∙ again) ∙ ap is_committed is
 
-    of : (y : Option Hand) → find (is_hand_to b) s.hands ≡ y → offer_seen y s ≡ Given n → passes is_committed_hand (find_hand b n s) ≡ true
+    of : (y : Option Hand) → find (is_hand_to b) s.hands ≡ y → offer_seen y s ≡ Given n id queue → passes is_committed_hand (find_hand b n s) ≡ true
     of None f g = absurd (let no : ⊥ = cc in no)
     of (Some y) f g = phase y f y.phase refl g
 
-pub pledge_at : (s : Plain) → IsInOrder s → (peer : HostId) (n : ℕ) → has_promise peer n s ≡ true → (p : Pledging) × (pledged s peer ≡ Pledged n (carried_in p.row))
+pub pledge_at : (s : Plain) → IsInOrder s → (peer : HostId) (n : ℕ) → has_promise peer n s ≡ true
+    → (p : Pledging) × (pledged s peer ≡ Pledged n (kept_load p.row))
 pledge_at s o peer n fit =
-    let p = promise_at s peer n fit in
-    (p.0, ap pledge_seen (promise_to_peer s o (peer_number peer n) p.0 p.1) ∙ ap (λ i. Pledged i (carried_in p.0.row)) (sym (promise_number s o (peer_number peer n) p.0 p.1)))
+    let p = promise_at s peer n fit in (
+      p.0,
+      ap pledge_seen (promise_to_peer s o (peer_number peer n) p.0 p.1)
+          ∙ ap (λ i. Pledged i (kept_load p.0.row)) (sym (promise_number s o (peer_number peer n) p.0 p.1)),
+    )
 
 pub no_pledge : (s : Plain) (peer : HostId) (n : ℕ) → has_promise peer n s ≡ false → IsNoPledge (pledged s peer) n
 no_pledge s peer n new = of (promise_of peer s) refl
@@ -298,7 +326,8 @@ no_pledge s peer n new = of (promise_of peer s) refl
     of None e = tt
     of (Some p) e = λ same. true≢false (sym (present s.promises e same) ∙ new)
       where
-        present : (ps : List Pledging) → find (λ (q : Pledging). same_host peer q.peer) ps ≡ Some p → p.number ≡ n → list_any (is_promise (peer_number peer n)) ps ≡ true
+        present : (ps : List Pledging) → find (λ (q : Pledging). same_host peer q.peer) ps ≡ Some p → p.number ≡ n
+            → list_any (is_promise (peer_number peer n)) ps ≡ true
         present [] f same = absurd (none-some p f)
         present (q ∷ ps) f same = by (same_host peer q.peer) refl f (present ps)
           where
@@ -310,8 +339,10 @@ no_pledge s peer n new = of (promise_of peer s) refl
             right true c k = refl
             right false c k = k
 
-            by : (b : Bool) → same_host peer q.peer ≡ b → (if◌then◌else◌ {A = Option Pledging} b (Some q) (find (λ (z : Pledging). same_host peer z.peer) ps)) ≡ Some p
+            by : (b : Bool) → same_host peer q.peer ≡ b → (if◌then◌else◌ {A = Option Pledging} b (Some q) (find (λ (z : Pledging). same_host peer z.peer) ps))
+                ≡ Some p
                 → (find (λ (z : Pledging). same_host peer z.peer) ps ≡ Some p → p.number ≡ n → list_any (is_promise (peer_number peer n)) ps ≡ true)
                 → (peer_number_eq (peer_number peer n) (record { peer = q.peer; number = q.number }) || list_any (is_promise (peer_number peer n)) ps) ≡ true
-            by true e f rest = either _ _ (and_from (peer.0 == q.peer.0) (n == q.number) e (eq-eqb n q.number (sym same ∙ ap (λ (z : Pledging). z.number) (sym (same_Some q p f)))))
+            by true e f rest = either _ _ (and_from (peer.0 == q.peer.0) (n == q.number) e
+                (eq-eqb n q.number (sym same ∙ ap (λ (z : Pledging). z.number) (sym (same_Some q p f)))))
             by false e f rest = right _ _ (rest f same)

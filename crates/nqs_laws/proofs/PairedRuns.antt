@@ -1,5 +1,6 @@
 -- What holds of each pair of hosts and of each message holds at every moment of a run.
-use Rattle.std.proofs.Common.{◌≡◌, ℕ, ◌<◌, ◌⊎◌, inl, inr, Bool, true, false, if◌then◌else◌, List, [], ◌∷◌, ◌++◌, map, find, slice_get, Option, None, Some, true≢false, zero, suc, refl, sym, ap, subst, ◌∙◌}
+use Rattle.std.proofs.Common.{◌≡◌, ℕ, ◌<◌, ◌⊎◌, inl, inr, Bool, true, false, if◌then◌else◌, List, [], ◌∷◌, ◌++◌, map, find, slice_get, Option, None, Some}
+use Rattle.std.proofs.Common.{true≢false, zero, suc, refl, sym, ap, subst, ◌∙◌}
 use Rattle.std.proofs.lemmas.Bool.{and_parts}
 use Rattle.std.specs.List.{list_all, AllByRecursion, filter_map, cons_option}
 use Rattle.nqs_state.specs.State.{Plain}
@@ -7,6 +8,7 @@ use Rattle.nqs_keyed.specs.Table.{without_first}
 use Rattle.nqs_state.specs.Keys.{is_hand}
 use Rattle.nqs_types.specs.declared.ids.HostId.{HostId}
 use Rattle.nqs_types.specs.declared.ids.PeerNumber.{PeerNumber}
+use Rattle.nqs_types.specs.declared.ids.RequestId.{RequestId}
 use Rattle.nqs_types.specs.declared.request.Hand.{Hand}
 use Rattle.nqs_types.specs.declared.request.Carried.{Carried}
 use Rattle.nqs_types.specs.declared.request.Phase.{Phase}
@@ -14,6 +16,7 @@ use Rattle.nqs_types.specs.declared.request.Phase.TheVariants.{Offered, Committe
 use Rattle.nqs_types.specs.declared.change.Change.{Change}
 use Rattle.nqs_types.specs.declared.change.Change.TheVariants.{Edited, HandsSilent, Promised, Accepted, Dropped}
 use Rattle.nqs_types.specs.declared.message.Message.{Message}
+use Rattle.nqs_types.specs.declared.message.Body.{Body}
 use Rattle.nqs_types.specs.declared.message.Body.TheVariants as body
 use Rattle.nqs_types.specs.declared.event.Event.TheVariants as event
 use Rattle.nqs_types.specs.declared.event.Output.{Output}
@@ -22,6 +25,7 @@ use Rattle.nqs_rules.specs.Tests.{is_offered, is_running, same_host}
 use Rattle.nqs_rules.specs.Find.{find_row, find_hand}
 use Rattle.nqs_rules.specs.Edits.{change_at}
 use Rattle.nqs_rules.specs.Handover.{carried_of}
+use Rattle.nqs_rules.specs.Routing.{is_hand_to}
 use Rattle.nqs_rules.specs.Applied.{applied, hand_silent, hands_silent, may_start_again}
 use Rattle.nqs_rules.specs.Fits.{fits}
 use Rattle.nqs_rules.specs.Starts.{after_change}
@@ -34,10 +38,11 @@ use Rattle.nqs_rules.proofs.HandoversOrder.{not_committed, offer_or_none, still_
 use Rattle.nqs_rules.proofs.ConsistentOrder.{silent_calm_one}
 use Rattle.nqs_laws.proofs.Frame.{Moment, put_state, put-same, WasSent, Comes, Way, Taken, Begun, Booted, change_by, outputs_by, sent_in}
 use Rattle.nqs_laws.proofs.Sound.{IsHost, IsSound, Keeps, Suits, get-here}
+use Rattle.nqs_laws.specs.Loads.{Load, offered_load, sent_load}
 use Rattle.nqs_laws.proofs.RowTests.{PlainRow}
 use Rattle.nqs_laws.proofs.Sent.{begins}
 use Rattle.nqs_laws.proofs.Pair.{Open, Move, Stays, Withdraws, May, MayWithdraw}
-use Rattle.nqs_laws.proofs.Views.{phase_seen, offer_seen, offered, pair_of, next_of, host_exact, hand_to_peer, routing_of}
+use Rattle.nqs_laws.proofs.Views.{IsLone, phase_seen, offer_seen, offered, pair_of, next_of, host_exact, hand_to_peer, routing_of}
 use Rattle.nqs_laws.proofs.Turns.{to_move, from_move, sources, silent_source}
 use Rattle.nqs_laws.proofs.Targets.{targets, silent_target, fewer, lone_kept}
 use Rattle.nqs_laws.proofs.Paired.{At, HoldsFor, IsTrueWord, IsPaired, Turn, Guards, IsOne, turn_paired, more_words}
@@ -66,11 +71,13 @@ put-twice zero u v (x ∷ vs) = refl
 put-twice (suc n) u v (x ∷ vs) = ap (λ l. x ∷ l) (put-twice n u v vs)
 
 -- a silent offer may be taken back
-pub silent_guards : (until : ℕ) (states : List Plain) (packets : List Message) (h : HostId) (s : Plain) (there : At states h s) (o : IsInOrder s) (k : IsPaired states packets) (n : PeerNumber) (y : Hand) → find_hand n.peer n.number s ≡ Some y → is_offered y.phase ≡ true
+pub silent_guards : (until : ℕ) (states : List Plain) (packets : List Message) (h : HostId) (s : Plain) (there : At states h s) (o : IsInOrder s)
+    (k : IsPaired states packets) (n : PeerNumber) (y : Hand) → find_hand n.peer n.number s ≡ Some y → is_offered y.phase ≡ true
     → Guards states h s (λ b. if same_host b n.peer then Withdraws else Stays) (λ a. Stays)
 silent_guards until states packets h s there o k n y e opens = record { to_peers = λ b t at. may b t (same_host b n.peer) refl; from_peers = λ a v at. tt }
   where
-    phase : (p : Phase) → y.phase ≡ p → is_offered p ≡ true → (r : PlainRow) → find_row y.id s ≡ Some r → phase_seen p y (find_row y.id s) ≡ Open y.number (carried_of r)
+    phase : (p : Phase) → y.phase ≡ p → is_offered p ≡ true → (r : PlainRow) → find_row y.id s ≡ Some r
+        → phase_seen p y (find_row y.id s) ≡ Open y.number (offered_load y.queue r)
     phase Offered g z r row = ap (phase_seen Offered y) row
     phase Committed g z r row = absurd (true≢false (sym z))
 
@@ -82,7 +89,8 @@ silent_guards until states packets h s there o k n y e opens = record { to_peers
     may b t false f = tt
 
 -- silent offers are taken back one after the other
-silent_paired : (until : ℕ) (ks : List PeerNumber) (states : List Plain) (packets : List Message) (h : HostId) (s : Plain) → At states h s → IsInOrder s → IsConsistent s → list_all (λ k. not_committed (find_hand k.peer k.number s)) ks ≡ true → IsPaired states packets
+silent_paired : (until : ℕ) (ks : List PeerNumber) (states : List Plain) (packets : List Message) (h : HostId) (s : Plain) → At states h s → IsInOrder s
+    → IsConsistent s → list_all (λ k. not_committed (find_hand k.peer k.number s)) ks ≡ true → IsPaired states packets
     → IsPaired (put_state h (hands_silent until ks s) states) packets
 silent_paired until [] states packets h s there o calm fit k = subst (λ l. IsPaired l packets) (sym (put-same h.0 s states there)) k
 silent_paired until (n ∷ ks) states packets h s there o calm fit k =
@@ -90,7 +98,9 @@ silent_paired until (n ∷ ks) states packets h s there o calm fit k =
     of (find_hand n.peer n.number s) refl p.0 p.1 (silent_paired until ks)
   where
     of : (x : Option Hand) → find_hand n.peer n.number s ≡ x → not_committed x ≡ true → list_all (λ l. not_committed (find_hand l.peer l.number s)) ks ≡ true
-        → ((states : List Plain) (packets : List Message) (h : HostId) (s : Plain) → At states h s → IsInOrder s → IsConsistent s → list_all (λ k. not_committed (find_hand k.peer k.number s)) ks ≡ true → IsPaired states packets → IsPaired (put_state h (hands_silent until ks s) states) packets)
+        → ((states : List Plain) (packets : List Message) (h : HostId) (s : Plain) → At states h s → IsInOrder s → IsConsistent s
+        → list_all (λ k. not_committed (find_hand k.peer k.number s)) ks ≡ true → IsPaired states packets
+        → IsPaired (put_state h (hands_silent until ks s) states) packets)
         → IsPaired (put_state h (hands_silent until ks (hand_silent until n x s)) states) packets
     of None e opens rest again = again states packets h s there o calm rest k
     of (Some y) e opens rest again =
@@ -98,18 +108,71 @@ silent_paired until (n ∷ ks) states packets h s there o calm fit k =
         let u : Plain = hand_silent until n (Some y) s in
         let to : HostId → Move = λ b. if same_host b n.peer then Withdraws else Stays in
         let from : HostId → Move = λ a. Stays in
-        let turn : Turn s u to from = record { sources = silent_source s o calm lone until n y e opens; targets = silent_target s until n y; lone = fewer s lone (is_hand n); side = inl (λ a. refl) } in
+        let turn : Turn s u to from = record {
+          sources = silent_source s o calm lone until n y e opens;
+          targets = silent_target s until n y;
+          lone =
+              fewer s lone (is_hand n);
+          side = inl (λ a. refl);
+        } in
         let guards : Guards states h s to from = silent_guards until states packets h s there o k n y e opens in
         subst (λ l. IsPaired l packets) (put-twice h.0 (hands_silent until ks u) u states)
-        (again (put_state h u states) packets h u (get-here h.0 u s states there) (silent_one s o n y e opens until) (silent_calm_one s o calm n y e opens until)
-        (list_all-weaker (λ l. not_committed (find_hand l.peer l.number s)) (λ l. not_committed (find (is_hand l) (without_first (is_hand n) s.hands))) (λ l. still_offered s o n l) ks rest) (turn_paired states packets h s u there to from turn guards k))
+        (again (put_state h u states) packets h u (get-here h.0 u s states there) (silent_one s o n y e opens until)
+        (silent_calm_one s o calm n y e opens until)
+        (list_all-weaker (λ l. not_committed (find_hand l.peer l.number s)) (λ l. not_committed (find (is_hand l) (without_first (is_hand n) s.hands)))
+        (λ l. still_offered s o n l) ks rest) (turn_paired states packets h s u there to from turn guards k))
+
+-- an offer carries a row of its host
+abbrev pub IsOfRow : Plain → Body → Type 0
+IsOfRow t (body.Offer n queue c script) = (id : RequestId) × (r : PlainRow) × (find_row id t ≡ Some r) × (c ≡ carried_of r) × (script ≡ r.script)
+IsOfRow t b = Unit {0}
+
+row_offered : (t : Plain) (b : HostId) (n : ℕ) (load : Load) → offered t b ≡ Open n load
+    → (id : RequestId) × (r : PlainRow) × (find_row id t ≡ Some r) × (load.carried ≡ carried_of r) × (load.script ≡ r.script)
+row_offered t b n load e = of (find (is_hand_to b) t.hands) e
+  where
+    by : (y : Hand) (p : Phase) (o : Option PlainRow) → find_row y.id t ≡ o → phase_seen p y o ≡ Open n load
+        → (id : RequestId) × (r : PlainRow) × (find_row id t ≡ Some r) × (load.carried ≡ carried_of r) × (load.script ≡ r.script)
+    by y Offered None f g = absurd (let no : ⊥ = cc in no)
+    by y Offered (Some r) f g = let same : offered_load y.queue r ≡ load = cc in
+        (y.id, r, f, ap (λ (l : Load). l.carried) (sym same), ap (λ (l : Load). l.script) (sym same))
+    by y Committed o f g = absurd (let no : ⊥ = cc in no)
+
+    of : (x : Option Hand) → offer_seen x t ≡ Open n load → (id : RequestId) × (r : PlainRow) × (find_row id t ≡ Some r) × (load.carried ≡ carried_of r)
+        × (load.script ≡ r.script)
+    of None e = absurd (let no : ⊥ = cc in no)
+    of (Some y) e = by y y.phase (find_row y.id t) refl e
+
+module _ (states : List Plain) (h : HostId) (s : Plain) (o : IsInOrder s) (calm : IsConsistent s) (lone : IsLone s.hands) (t : Plain) where
+  body_of : (b : HostId) (d : Body) → Local states h t b d → IsOfRow t d
+  body_of b (body.Offer n queue c script) l = row_offered t b n (sent_load queue c script) l
+  body_of b d l = tt
+
+  rows_offered : (os : List Output) → AllByRecursion (LocalOut states h s o calm lone t) os → AllByRecursion (λ (x : Message). IsOfRow t x.body) (sent_in os)
+  rows_offered [] all = tt
+  rows_offered (p ∷ os) all = by p all.0 (rows_offered os all.1)
+    where
+      by : (p : Output) → LocalOut states h s o calm lone t p → AllByRecursion (λ (x : Message). IsOfRow t x.body) (sent_in os)
+          → AllByRecursion (λ (x : Message). IsOfRow t x.body) (sent_by p ++ sent_in os)
+      by (out.Send x) local rest = (body_of x.to x.body local.1, rest)
+      by (out.Reply port token reply) local rest = rest
+      by (out.Launch order bytes) local rest = rest
+      by (out.Print device order bytes) local rest = rest
+      by (out.Kill id n) local rest = rest
+      by (out.File file path bytes) local rest = rest
+      by (out.Ended id n status) local rest = rest
+      by (out.Unlaunched id n) local rest = rest
+      by (out.Again id) local rest = rest
+      by (out.Lost id) local rest = rest
+      by (out.Ack port id n) local rest = rest
 
 module _ (site : List (List ℕ)) (m : Moment) (sound : IsSound site m) (k : IsPaired m.states m.packets) (h : HostId) (s : Plain) (there : At m.states h s) where
   host : IsHost site h.0 s
   host = sound.hosts h.0 s there
 
   -- a change keeps what holds of pairs, and of messages
-  pub change_words : (others : List Message) → IsPaired m.states others → (way : Way m.packets h s) (c : Change (List ℕ)) → change_by way ≡ Some c → Suits s c → IsPaired (put_state h (applied c s) m.states) others
+  pub change_words : (others : List Message) → IsPaired m.states others → (way : Way m.packets h s) (c : Change (List ℕ)) → change_by way ≡ Some c → Suits s c
+      → IsPaired (put_state h (applied c s) m.states) others
   change_words others l way c is suits = of (silent_or_one c)
     where
       of : IsOne c ⊎ ((until : ℕ) × (ks : List PeerNumber) × (c ≡ HandsSilent until ks)) → IsPaired (put_state h (applied c s) m.states) others
@@ -117,15 +180,23 @@ module _ (site : List (List ℕ)) (m : Moment) (sound : IsSound site m) (k : IsP
           let g = sound.hosts h.0 s there in
           let lone = k.lone h s there in
           turn_paired m.states others h s (applied c s) there (to_move c s) (from_move c)
-          (record { sources = sources s g.order g.calm lone c suits.fit one; targets = targets s g.order c suits.fit one; lone = lone_kept s lone c suits.fit one; side = one_side c s })
+          (record {
+            sources = sources s g.order g.calm lone c suits.fit one;
+            targets = targets s g.order c suits.fit one;
+            lone =
+                lone_kept s lone c suits.fit one;
+            side = one_side c s;
+          })
           (way_guards m.states m.packets k h s there g.order way c is suits.fit one) l
       of (inr (until, ks, e)) =
           let g = sound.hosts h.0 s there in
           let fit : fits {F = List ℕ} (HandsSilent until ks) s ≡ true = ap (λ y. fits y s) (sym e) ∙ suits.fit in
           subst (λ y. IsPaired (put_state h (applied y s) m.states) others) (sym e)
-          (silent_paired until ks m.states others h s there g.order g.calm (list_all-weaker _ (λ l. not_committed (find_hand l.peer l.number s)) (λ l. offer_or_none (find_hand l.peer l.number s)) ks fit) l)
+          (silent_paired until ks m.states others h s there g.order g.calm
+          (list_all-weaker _ (λ l. not_committed (find_hand l.peer l.number s)) (λ l. offer_or_none (find_hand l.peer l.number s)) ks fit) l)
 
-  pub change_paired : (way : Way m.packets h s) (c : Change (List ℕ)) → change_by way ≡ Some c → Suits s c → IsPaired (put_state h (applied c s) m.states) m.packets
+  pub change_paired : (way : Way m.packets h s) (c : Change (List ℕ)) → change_by way ≡ Some c → Suits s c
+      → IsPaired (put_state h (applied c s) m.states) m.packets
   change_paired way c is suits = change_words m.packets k way c is suits
 
   abbrev after : Way m.packets h s → Plain
@@ -149,14 +220,18 @@ module _ (site : List (List ℕ)) (m : Moment) (sound : IsSound site m) (k : IsP
   here_after way = get-here h.0 (after way) s m.states there
 
   -- what is sent is true
-  sent_true : (way : Way m.packets h s) → IsPaired (states_after way) m.packets → (os : List Output) → AllByRecursion (LocalOut (states_after way) h s host.order host.calm (k.lone h s there) (after way)) os → AllByRecursion (IsTrueWord (states_after way)) (sent_in os)
+  sent_true : (way : Way m.packets h s) → IsPaired (states_after way) m.packets → (os : List Output)
+      → AllByRecursion (LocalOut (states_after way) h s host.order host.calm (k.lone h s there) (after way)) os
+      → AllByRecursion (IsTrueWord (states_after way)) (sent_in os)
   sent_true way paired [] all = tt
   sent_true way paired (o ∷ os) all = by o all.0 (sent_true way paired os all.1)
     where
-      by : (o : Output) → LocalOut (states_after way) h s host.order host.calm (k.lone h s there) (after way) o → AllByRecursion (IsTrueWord (states_after way)) (sent_in os) → AllByRecursion (IsTrueWord (states_after way)) (sent_by o ++ sent_in os)
+      by : (o : Output) → LocalOut (states_after way) h s host.order host.calm (k.lone h s there) (after way) o
+          → AllByRecursion (IsTrueWord (states_after way)) (sent_in os) → AllByRecursion (IsTrueWord (states_after way)) (sent_by o ++ sent_in os)
       by (out.Send x) local rest =
           let from : x.from ≡ h = local.0 ∙ (λ j. ((sound.hosts h.0 s there).head j).0) in (
-            local_true (states_after way) paired.pairs x (after way) (ap (λ (i : HostId). slice_get (states_after way) i.0) from ∙ get-here h.0 (after way) s m.states there)
+            local_true (states_after way) paired.pairs x (after way) (ap (λ (i : HostId). slice_get (states_after way) i.0) from
+                ∙ get-here h.0 (after way) s m.states there)
                 (subst (λ i. Local (states_after way) i (after way) x.to x.body) (sym from) local.1),
             rest,
           )
@@ -175,16 +250,19 @@ module _ (site : List (List ℕ)) (m : Moment) (sound : IsSound site m) (k : IsP
   shown_all t [] P all = tt
   shown_all t (p ∷ ps) P all = (all.0, shown_all t ps P all.1)
 
-  boots_say : (P : Output → Type 0) → ((r : PlainRow) → P (out.Again r.id)) → ((r : PlainRow) → P (out.Lost r.id)) → (rows : List PlainRow) → AllByRecursion P (filter_map boot_output rows)
+  boots_say : (P : Output → Type 0) → ((r : PlainRow) → P (out.Again r.id)) → ((r : PlainRow) → P (out.Lost r.id)) → (rows : List PlainRow)
+      → AllByRecursion P (filter_map boot_output rows)
   boots_say P again lost [] = tt
   boots_say P again lost (r ∷ rows) = by (is_running r.state) (may_start_again r) (boots_say P again lost rows)
     where
-      by : (b c : Bool) → AllByRecursion P (filter_map boot_output rows) → AllByRecursion P (cons_option (if b then Some (if c then out.Again r.id else out.Lost r.id) else None) (filter_map boot_output rows))
+      by : (b c : Bool) → AllByRecursion P (filter_map boot_output rows) → AllByRecursion P
+          (cons_option (if b then Some (if c then out.Again r.id else out.Lost r.id) else None) (filter_map boot_output rows))
       by true true rest = (again r, rest)
       by true false rest = (lost r, rest)
       by false c rest = rest
 
-  said : (way : Way m.packets h s) → ((c : Change (List ℕ)) → change_by way ≡ Some c → Suits s c) → IsPaired (states_after way) m.packets → AllByRecursion (LocalOut (states_after way) h s host.order host.calm (k.lone h s there) (after way)) (outputs_by way)
+  said : (way : Way m.packets h s) → ((c : Change (List ℕ)) → change_by way ≡ Some c → Suits s c) → IsPaired (states_after way) m.packets
+      → AllByRecursion (LocalOut (states_after way) h s host.order host.calm (k.lone h s there) (after way)) (outputs_by way)
   said (Taken e comes) suits paired =
       shown_all s (step e s).outputs (LocalOut (states_after (Taken e comes)) h s host.order host.calm (k.lone h s there) (after (Taken e comes)))
       (step_spoken (states_after (Taken e comes)) h s host.order host.calm (k.lone h s there) e
@@ -192,21 +270,33 @@ module _ (site : List (List ℕ)) (m : Moment) (sound : IsSound site m) (k : IsP
       (below now x n queue c script is offers v vat))
       (λ c is. (suits c is).fit))
     where
-      below : (now : ℕ) (x : Message) (n : ℕ) (queue : List ℕ) (c : Carried) (script : List ℕ) → e ≡ event.Arrived now x → x.body ≡ body.Offer n queue c script → (v : Plain) → At (put_state h (after_change (step e s).change s) m.states) x.from v → n < next_of h v
+      below : (now : ℕ) (x : Message) (n : ℕ) (queue : List ℕ) (c : Carried) (script : List ℕ) → e ≡ event.Arrived now x → x.body ≡ body.Offer n queue c script
+          → (v : Plain) → At (put_state h (after_change (step e s).change s) m.states) x.from v → n < next_of h v
       below now x n queue c script is offers v vat =
           let came : (x.to ≡ h) × WasSent x m.packets = subst (Comes m.packets h) is comes in
-          let at : At (put_state h (after_change (step e s).change s) m.states) x.to (after_change (step e s).change s) = ap (λ (i : HostId). slice_get (put_state h (after_change (step e s).change s) m.states) i.0) came.0 ∙ get-here h.0 (after_change (step e s).change s) s m.states there in
+          let at : At (put_state h (after_change (step e s).change s) m.states) x.to (after_change (step e s).change s) =
+          ap (λ (i : HostId). slice_get (put_state h (after_change (step e s).change s) m.states) i.0) came.0
+          ∙ get-here h.0 (after_change (step e s).change s) s m.states there in
           let word = paired.words x came.1 v (after_change (step e s).change s) vat at in
-          let holds : HoldsFor (pair_of x.from v x.to (after_change (step e s).change s)) (pair_of x.to (after_change (step e s).change s) x.from v) (body.Offer n queue c script) =
+          let holds : HoldsFor (pair_of x.from v x.to (after_change (step e s).change s)) (pair_of x.to (after_change (step e s).change s) x.from v)
+          (body.Offer n queue c script) =
           subst (HoldsFor (pair_of x.from v x.to (after_change (step e s).change s)) (pair_of x.to (after_change (step e s).change s) x.from v)) offers word in
           subst (λ i. n < next_of i v) came.0 holds.0
   said (Begun now x begun) suits paired =
       shown_all s x.outputs (LocalOut (states_after (Begun now x begun)) h s host.order host.calm (k.lone h s there) (after (Begun now x begun)))
-      (begun_spoken (states_after (Begun now x begun)) h s host.order host.calm (k.lone h s there) now x (begins s host.order now x begun) (λ c is. (suits c is).fit))
+      (begun_spoken (states_after (Begun now x begun)) h s host.order host.calm (k.lone h s there) now x (begins s host.order now x begun)
+      (λ c is. (suits c is).fit))
   said Booted suits paired = boots_say (LocalOut (states_after Booted) h s host.order host.calm (k.lone h s there) (after Booted)) (λ r. tt) (λ r. tt) s.rows
 
+  -- each offer that is sent carries a row
+  pub sent_offers : (way : Way m.packets h s) → ((c : Change (List ℕ)) → change_by way ≡ Some c → Suits s c)
+      → AllByRecursion (λ (x : Message). IsOfRow (after_change (change_by way) s) x.body) (sent_in (outputs_by way))
+  sent_offers way suits = rows_offered (states_after way) h s host.order host.calm (k.lone h s there) (after way) (outputs_by way)
+      (said way suits (after_paired way suits))
+
   -- all that is done
-  pub made_paired : (way : Way m.packets h s) → ((c : Change (List ℕ)) → change_by way ≡ Some c → Suits s c) → IsPaired (states_after way) (m.packets ++ sent_in (outputs_by way))
+  pub made_paired : (way : Way m.packets h s) → ((c : Change (List ℕ)) → change_by way ≡ Some c → Suits s c)
+      → IsPaired (states_after way) (m.packets ++ sent_in (outputs_by way))
   made_paired way suits =
       let paired = after_paired way suits in
       more_words (states_after way) m.packets (sent_in (outputs_by way)) paired (sent_true way paired (outputs_by way) (said way suits paired))

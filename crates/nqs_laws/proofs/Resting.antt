@@ -1,5 +1,6 @@
 -- After each event that a host took, or its boot, no queue has anything left to start.
-use Rattle.std.proofs.Common.{◌≡◌, ℕ, Bool, true, false, not, List, [], ◌∷◌, ◌++◌, slice_get, Option, None, Some, is_some, true≢false, refl, sym, ap, subst, ◌∙◌, if◌then◌else◌}
+use Rattle.std.proofs.Common.{◌≡◌, ℕ, Bool, true, false, not, List, [], ◌∷◌, ◌++◌, slice_get, Option, None, Some, is_some, true≢false, refl, sym, ap, subst}
+use Rattle.std.proofs.Common.{◌∙◌, if◌then◌else◌}
 use Rattle.std.proofs.lemmas.Bool.{and_parts}
 use Rattle.std.proofs.lemmas.List.Folds.{list_all-append}
 use Rattle.std.proofs.lemmas.Option.{same_Some, none-some}
@@ -10,7 +11,9 @@ use Rattle.nqs_rules.specs.Picked.{may_start}
 use Rattle.nqs_rules.specs.Start.{start}
 use Rattle.nqs_rules.specs.Starts.{after_change}
 use Rattle.nqs_rules.specs.Tests.{passes}
-use Rattle.nqs_rules.specs.World.{World, Host, Ran, Act, Asks, Ends, Finishes, Fails, Writes, Leaves, Delivers, Newest, Ticks, Clock, Fuse, Crashes, Boots, Shows, host_of, seeing, takes_up, taken_by, takes, finishes, finishes_up, delivers, packet_at, is_between, newest_between, boot_output, boots_down, boots, runs_now, is_less_row, new_world}
+use Rattle.nqs_rules.specs.World.{World, Host, Ran, Act, Asks, Ends, Finishes, Fails, Writes, Leaves, Delivers, Newest, Ticks, Clock, Fuse, Crashes, Boots}
+use Rattle.nqs_rules.specs.World.{Shows, host_of, seeing, takes_up, taken_by, takes, finishes, finishes_up, delivers, packet_at, is_between, newest_between}
+use Rattle.nqs_rules.specs.World.{boot_output, boots_down, boots, runs_now, is_less_row, new_world}
 use Rattle.nqs_rules.specs.Run.{states_of, happens, run_of}
 use Rattle.nqs_rules.proofs.BestLaws.{best_is_some}
 use Rattle.nqs_rules.proofs.ChangesOrder.{applied_order}
@@ -57,7 +60,8 @@ module _ (site : List (List ℕ)) (w : World) (ns : List Note) (k : IsSound site
   up_rests : (h : HostId) (host : Host) → host_of h w ≡ Some host → (e : Event) → Comes w.packets h e → RestsNow h (takes_up h host e w).world
   up_rests h host there e comes = event_rests h host e w there (after h host there (Taken e comes))
 
-  taken_rests : (h : HostId) (f : Host → World → Ran) → ((host : Host) → host_of h w ≡ Some host → RestsNow h (f host w).world) → RestsNow h (taken_by (host_of h w) h f w).world
+  taken_rests : (h : HostId) (f : Host → World → Ran) → ((host : Host) → host_of h w ≡ Some host → RestsNow h (f host w).world)
+      → RestsNow h (taken_by (host_of h w) h f w).world
   taken_rests h f rests = of (host_of h w) refl
     where
       by : (host : Host) → host_of h w ≡ Some host → (up : Bool) → host.up ≡ up → RestsNow h (if up then f host w else seeing (seen.Down h) w).world
@@ -82,13 +86,17 @@ module _ (site : List (List ℕ)) (w : World) (ns : List Note) (k : IsSound site
   finish_rests : (h : HostId) → passes runs_something (host_of h w) ≡ true → RestsNow h (taken_by (host_of h w) h (finishes_up h) w).world
   finish_rests h runs = taken_rests h (finishes_up h) (λ host there. of host there (best_from runs_now is_less_row 0 host.state.rows) refl)
     where
-      of : (host : Host) → host_of h w ≡ Some host → (o : Option (ℕ × Row (List ℕ))) → best_from runs_now is_less_row 0 host.state.rows ≡ o → RestsNow h (finishes h host o w).world
-      of host there None e = absurd (true≢false (sym runs ∙ ap (passes runs_something) there ∙ sym (best_is_some runs_now is_less_row 0 host.state.rows) ∙ ap is_some e))
+      of : (host : Host) → host_of h w ≡ Some host → (o : Option (ℕ × Row (List ℕ))) → best_from runs_now is_less_row 0 host.state.rows ≡ o
+          → RestsNow h (finishes h host o w).world
+      of host there None e = absurd (true≢false (sym runs ∙ ap (passes runs_something) there ∙ sym (best_is_some runs_now is_less_row 0 host.state.rows)
+          ∙ ap is_some e))
       of host there (Some q) e = up_rests h host there (event.Ended w.now 0 q.1.id q.1.starts 0 [] []) refl
 
-  arrival_rests : (number : Option ℕ) (o : Option Message) (h : HostId) → ((m : Message) → o ≡ Some m → (place : ℕ) × (slice_get w.packets place ≡ Some m)) → receiver o ≡ Some h → RestsNow h (delivers number o w).world
+  arrival_rests : (number : Option ℕ) (o : Option Message) (h : HostId) → ((m : Message) → o ≡ Some m → (place : ℕ) × (slice_get w.packets place ≡ Some m))
+      → receiver o ≡ Some h → RestsNow h (delivers number o w).world
   arrival_rests number None h sent is = absurd (none-some h is)
-  arrival_rests number (Some m) h sent is = subst (λ g. RestsNow g (takes m.to (event.Arrived w.now m) w).world) (same_Some m.to h is) (takes_rests m.to (event.Arrived w.now m) (refl, sent m refl))
+  arrival_rests number (Some m) h sent is = subst (λ g. RestsNow g (takes m.to (event.Arrived w.now m) w).world) (same_Some m.to h is)
+      (takes_rests m.to (event.Arrived w.now m) (refl, sent m refl))
 
   boot_rests : (h : HostId) → passes (λ host. not host.up) (host_of h w) ≡ true → RestsNow h (boots h (host_of h w) w).world
   boot_rests h down = of (host_of h w) refl down
@@ -107,7 +115,8 @@ module _ (site : List (List ℕ)) (w : World) (ns : List Note) (k : IsSound site
   happens_rests : (a : Act) → is_sane_act a ≡ true → (h : HostId) → host_for a w ≡ Some h → RestsNow h (happens a w).world
   happens_rests (Asks g user c) sane h is = event_rests_at (event.Ask w.now 0 0 user c) g h is sane
   happens_rests (Ends g id start status output error) sane h is = event_rests_at (event.Ended w.now 0 id start status output error) g h is sane
-  happens_rests (Finishes g) sane h is = let p = passed runs_something g h is in subst (λ i. RestsNow i (taken_by (host_of g w) g (finishes_up g) w).world) p.0 (finish_rests g p.1)
+  happens_rests (Finishes g) sane h is = let p = passed runs_something g h is in
+      subst (λ i. RestsNow i (taken_by (host_of g w) g (finishes_up g) w).world) p.0 (finish_rests g p.1)
   happens_rests (Fails g id start) sane h is = event_rests_at (event.Unlaunched w.now id start) g h is refl
   happens_rests (Writes g file) sane h is = event_rests_at (event.Written w.now file) g h is refl
   happens_rests (Leaves g file) sane h is = event_rests_at (event.Unwritten w.now file) g h is refl
@@ -117,11 +126,14 @@ module _ (site : List (List ℕ)) (w : World) (ns : List Note) (k : IsSound site
   happens_rests (Clock n) sane h is = absurd (none-some h is)
   happens_rests (Fuse g disk calls tear) sane h is = absurd (none-some h is)
   happens_rests (Crashes g) sane h is = absurd (none-some h is)
-  happens_rests (Boots g) sane h is = let p = passed (λ host. not host.up) g h is in subst (λ i. RestsNow i (boots g (host_of g w) w).world) p.0 (boot_rests g p.1)
+  happens_rests (Boots g) sane h is = let p = passed (λ host. not host.up) g h is in
+      subst (λ i. RestsNow i (boots g (host_of g w) w).world) p.0 (boot_rests g p.1)
   happens_rests Shows sane h is = absurd (none-some h is)
 
-pub rests : (site : List (List ℕ)) → IsSite site → (acts : List Act) (a : Act) → AreSane (acts ++ a ∷ []) → (h : HostId) → host_for a (run_of site acts).world ≡ Some h
-    → (host : Host) → host_of h (run_of site (acts ++ a ∷ [])).world ≡ Some host → host.up ≡ true → list_any (may_start (run_of site (acts ++ a ∷ [])).world.now host.state) host.state.queues ≡ false
+pub rests : (site : List (List ℕ)) → IsSite site → (acts : List Act) (a : Act) → AreSane (acts ++ a ∷ []) → (h : HostId)
+    → host_for a (run_of site acts).world ≡ Some h
+    → (host : Host) → host_of h (run_of site (acts ++ a ∷ [])).world ≡ Some host → host.up ≡ true
+    → list_any (may_start (run_of site (acts ++ a ∷ [])).world.now host.state) host.state.queues ≡ false
 rests site few acts a sane h is host at up =
     let w : World = (run_of site acts).world in
     let each = and_parts (list_all is_sane_act acts) (list_all is_sane_act (a ∷ [])) (sym (list_all-append is_sane_act acts (a ∷ [])) ∙ sane) in

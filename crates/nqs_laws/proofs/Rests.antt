@@ -1,5 +1,6 @@
 -- After an event that a host took, or its boot, nothing is left to start, unless it was stopped.
-use Rattle.std.proofs.Common.{◌≡◌, ℕ, ◌<◌, ◌≤◌, Bool, true, false, List, [], map, Option, None, Some, true≢false, zero, suc, refl, sym, ap, subst, ◌∙◌, arith, if◌then◌else◌}
+use Rattle.std.proofs.Common.{◌≡◌, ℕ, ◌<◌, ◌≤◌, Bool, true, false, List, [], map, Option, None, Some, true≢false, zero, suc, refl, sym, ap, subst, ◌∙◌, arith}
+use Rattle.std.proofs.Common.{if◌then◌else◌}
 use Rattle.std.proofs.lemmas.Option.{same_Some, none-some}
 use Rattle.nqs_state.specs.State.{Plain}
 use Rattle.nqs_rules.specs.Applied.{applied}
@@ -9,7 +10,8 @@ use Rattle.nqs_rules.specs.Starts.{after_change}
 use Rattle.nqs_rules.specs.Step.{step}
 use Rattle.nqs_rules.specs.Start.{start}
 use Rattle.nqs_rules.specs.Stepped.{Stepped, shown, stored_parts}
-use Rattle.nqs_rules.specs.World.{World, Host, Fate, Made, StoppedBefore, StoppedAfter, fate, host_of, put_host, then_seen, seeing, unseen, stopped, used, emits, change_fated, makes_change, carries_out, steps, starts, all_starts, left_of, shuts_down, halted_host, halts, takes_up}
+use Rattle.nqs_rules.specs.World.{World, Host, Fate, Made, StoppedBefore, StoppedAfter, fate, host_of, put_host, then_seen, seeing, unseen, stopped, used}
+use Rattle.nqs_rules.specs.World.{emits, change_fated, makes_change, carries_out, steps, starts, all_starts, left_of, shuts_down, halted_host, halts, takes_up}
 use Rattle.nqs_rules.proofs.ChangesOrder.{applied_order}
 use Rattle.nqs_rules.proofs.StartIs.{start_is}
 use Rattle.nqs_rules.proofs.Until.{steady, start_lowers}
@@ -38,7 +40,8 @@ module _ (h : HostId) (host : Host) (w : World) (there : host_of h w ≡ Some ho
   emitted : (os : List Output) (v : World) → Holds h P v → Holds h P (emits h os v).world
   emitted os v k g at up = k g (sym (ap (host_of h) (emits_world h os v)) ∙ at) up
 
-  fated : (f : Fate) (c : Change (List ℕ)) (first : List Seen) (os : List Output) → P (applied c host.state) → Holds h P (change_fated f h host c first os w).world
+  fated : (f : Fate) (c : Change (List ℕ)) (first : List Seen) (os : List Output) → P (applied c host.state)
+      → Holds h P (change_fated f h host c first os w).world
   fated Made c first os p =
       let u : Host = used (stored_parts c) (applied c host.state) host in
       emitted os (put_host h u w) (λ g at up. subst (λ g. P g.state) (same_Some u g (sym (get-here h.0 u host w.hosts there) ∙ at)) p)
@@ -49,7 +52,8 @@ module _ (h : HostId) (host : Host) (w : World) (there : host_of h w ≡ Some ho
   carried None os p = emitted os w (λ g at up. subst (λ g. P g.state) (same_Some host g (sym there ∙ at)) p)
   carried (Some c) os p = fated (fate (stored_parts c) host) c [] os p
 
-fated_now : (f : Fate) (h : HostId) (host : Host) (c : Change (List ℕ)) (first : List Seen) (os : List Output) (w : World) → (change_fated f h host c first os w).world.now ≡ w.now
+fated_now : (f : Fate) (h : HostId) (host : Host) (c : Change (List ℕ)) (first : List Seen) (os : List Output) (w : World)
+    → (change_fated f h host c first os w).world.now ≡ w.now
 fated_now Made h host c first os w = ap (λ v. v.now) (emits_world h os (put_host h (used (stored_parts c) (applied c host.state) host) w))
 fated_now StoppedBefore h host c first os w = refl
 fated_now StoppedAfter h host c first os w = refl
@@ -61,11 +65,13 @@ carried_now h host (Some c) os w = fated_now (fate (stored_parts c) host) h host
 -- starts
 
 -- the state after a start is in order, and fewer starts are left
-begun : (now : ℕ) (s : Plain) → IsInOrder s → (x : Stepped (List ℕ)) → start now s ≡ Some x → IsInOrder (after_change x.change s) × (starts_left (after_change x.change s) < starts_left s)
+begun : (now : ℕ) (s : Plain) → IsInOrder s → (x : Stepped (List ℕ)) → start now s ≡ Some x
+    → IsInOrder (after_change x.change s) × (starts_left (after_change x.change s) < starts_left s)
 begun now s order x e =
     let is = start_is now s x (steady s order) e in
     let c : Change (List ℕ) = is.change in
-    subst (λ o. IsInOrder (after_change o s) × (starts_left (after_change o s) < starts_left s)) (sym is.makes) (applied_order c s order is.may.1 is.may.0, start_lowers now s x c order e is.makes)
+    subst (λ o. IsInOrder (after_change o s) × (starts_left (after_change o s) < starts_left s)) (sym is.makes)
+    (applied_order c s order is.may.1 is.may.0, start_lowers now s x c order e is.makes)
 
 idle : (now : ℕ) (s : Plain) → IsInOrder s → starts_left s ≤ 0 → start now s ≡ None
 idle now s order few = by (start now s) refl
@@ -111,7 +117,8 @@ starts_rest : (n : ℕ) (h : HostId) (w : World) → Few h n w → Rests h w.now
 starts_rest zero h w few = λ g at up. (let k = few g at up in (k.0, idle w.now g.state k.0 k.1))
 starts_rest (suc n) h w few = of (host_of h w) refl (starts_rest n h)
   where
-    by : (host : Host) → host_of h w ≡ Some host → (up : Bool) → host.up ≡ up → (o : Option (Stepped (List ℕ))) → start w.now host.state ≡ o → ((v : World) → Few h n v → Rests h v.now (starts n h v).world)
+    by : (host : Host) → host_of h w ≡ Some host → (up : Bool) → host.up ≡ up → (o : Option (Stepped (List ℕ))) → start w.now host.state ≡ o
+        → ((v : World) → Few h n v → Rests h v.now (starts n h v).world)
         → Rests h w.now (world_of (elim up [
           | false ↦ unseen w
           | true ↦ elim o [
@@ -144,7 +151,8 @@ starts_rest (suc n) h w few = of (host_of h w) refl (starts_rest n h)
     of (Some host) e rest = by host e host.up refl (start w.now host.state) refl rest
 
 pub all_starts_rest : (h : HostId) (w : World) → Holds h IsInOrder w → Rests h w.now (all_starts h w).world
-all_starts_rest h w order = starts_rest (left_of (host_of h w)) h w (λ g at up. (order g at up, subst (λ o. starts_left g.state ≤ left_of o) (sym at) (omega arith)))
+all_starts_rest h w order = starts_rest (left_of (host_of h w)) h w (λ g at up.
+    (order g at up, subst (λ o. starts_left g.state ≤ left_of o) (sym at) (omega arith)))
 
 pub all_starts_now : (h : HostId) (w : World) → (all_starts h w).world.now ≡ w.now
 all_starts_now h w = starts_now (left_of (host_of h w)) h w
@@ -155,7 +163,8 @@ halts_rest : (b : Bool) (h : HostId) (now : ℕ) (w : World) → Rests h now w �
 halts_rest false h now w k = k
 halts_rest true h now w k = of (host_of h w) refl
   where
-    by : (host : Host) → host_of h w ≡ Some host → (up : Bool) → Rests h now (if up then seeing (seen.Stop h) (put_host h (stopped host.state host) w) else unseen w).world
+    by : (host : Host) → host_of h w ≡ Some host → (up : Bool) → Rests h now
+        (if up then seeing (seen.Stop h) (put_host h (stopped host.state host) w) else unseen w).world
     by host there true = λ g at up. down h host w there (λ s. IsInOrder s × (start now s ≡ None)) g (stopped host.state host) refl at up
     by host there false = k
 
@@ -181,7 +190,8 @@ halts_now true h w = of (host_of h w)
 abbrev pub RestsNow : HostId → World → Type 0
 RestsNow h w = Rests h w.now w
 
-pub event_rests : (h : HostId) (host : Host) (e : Event) (w : World) → host_of h w ≡ Some host → IsInOrder (after_change (step e host.state).change host.state) → RestsNow h (takes_up h host e w).world
+pub event_rests : (h : HostId) (host : Host) (e : Event) (w : World) → host_of h w ≡ Some host → IsInOrder (after_change (step e host.state).change host.state)
+    → RestsNow h (takes_up h host e w).world
 event_rests h host e w there order =
     let s = step e host.state in
     let v : World = (steps h host s w).world in
@@ -190,8 +200,10 @@ event_rests h host e w there order =
     subst (λ now. Rests h now (halts b h u).world) (sym (all_starts_now h v) ∙ sym (halts_now b h u))
     (halts_rest b h v.now u (all_starts_rest h v (carried h host w there IsInOrder s.change (map shown s.outputs) order)))
 
-pub change_rests : (h : HostId) (host : Host) (c : Change (List ℕ)) (first : List Seen) (os : List Output) (w : World) → host_of h w ≡ Some host → IsInOrder (applied c host.state)
+pub change_rests : (h : HostId) (host : Host) (c : Change (List ℕ)) (first : List Seen) (os : List Output) (w : World) → host_of h w ≡ Some host
+    → IsInOrder (applied c host.state)
     → RestsNow h (all_starts h (makes_change h host c first os w).world).world
 change_rests h host c first os w there order =
     let v : World = (makes_change h host c first os w).world in
-    subst (λ now. Rests h now (all_starts h v).world) (sym (all_starts_now h v)) (all_starts_rest h v (fated h host w there IsInOrder (fate (stored_parts c) host) c first os order))
+    subst (λ now. Rests h now (all_starts h v).world) (sym (all_starts_now h v))
+    (all_starts_rest h v (fated h host w there IsInOrder (fate (stored_parts c) host) c first os order))

@@ -1,5 +1,6 @@
 -- Every message that a host sends is within its limits, and so is what it stores.
-use Rattle.std.proofs.Common.{◌≡◌, ℕ, ◌+◌, ◌<◌, Bool, true, false, not, ◌&&◌, ◌||◌, ◌==◌, nat_lt, nat_le, List, [], ◌∷◌, ◌++◌, map, filter, length, slice_get, Option, None, Some, Result, Ok, Err, true≢false, refl, sym, ap, subst, ◌∙◌, arith, if◌then◌else◌}
+use Rattle.std.proofs.Common.{◌≡◌, ℕ, ◌+◌, ◌<◌, Bool, true, false, not, ◌&&◌, ◌||◌, ◌==◌, nat_lt, nat_le, List, [], ◌∷◌, ◌++◌, map, filter, length, slice_get}
+use Rattle.std.proofs.Common.{Option, None, Some, Result, Ok, Err, true≢false, refl, sym, ap, subst, ◌∙◌, arith, if◌then◌else◌}
 use Rattle.std.proofs.lemmas.Bool.{and_parts, and_from, leb-true, le-leb, ltb-true, lt-ltb, eqb-true, eq-eqb}
 use Rattle.std.proofs.lemmas.Option.{same_Some, none-some}
 use Rattle.std.proofs.lemmas.List.{length-append}
@@ -30,7 +31,8 @@ use Rattle.nqs_types.specs.declared.edit.Edit.{Edit}
 use Rattle.nqs_types.specs.declared.edit.Edit.TheVariants.{Rows as RowsOf}
 use Rattle.nqs_types.specs.declared.edit.RowsEdit.TheVariants.{AbortQueue}
 use Rattle.nqs_types.specs.declared.change.Change.{Change}
-use Rattle.nqs_types.specs.declared.change.Change.TheVariants.{Submitted, Deleted, Doomed, Edited, Unlaunched, HandOpened, Accepted, Dropped, StageGot, StageGone, FileGone}
+use Rattle.nqs_types.specs.declared.change.Change.TheVariants.{Submitted, Deleted, Doomed, Edited, Unlaunched, HandOpened, Accepted, Dropped, StageGot}
+use Rattle.nqs_types.specs.declared.change.Change.TheVariants.{StageGone, FileGone}
 use Rattle.nqs_types.specs.declared.message.Message.{Message}
 use Rattle.nqs_types.specs.declared.message.Body.{Body}
 use Rattle.nqs_types.specs.declared.message.Body.TheVariants as body
@@ -48,14 +50,21 @@ use Rattle.nqs_rules.specs.Access.{rank, may_command}
 use Rattle.nqs_rules.specs.Rows.{queue_meant, submit_causes, delete_causes}
 use Rattle.nqs_rules.specs.Fits.{fits, row_passes, may_hop, is_next, edit_causes, is_site_host}
 use Rattle.nqs_rules.specs.Routing.{is_hand_to}
-use Rattle.nqs_rules.specs.Sane.{is_of_site, is_short_script, is_short_output, is_sane_carried, is_sane_id, is_sane_job, is_offer_refusal, is_sane_command, is_sane_body, is_sane_message, is_sane_event}
+use Rattle.nqs_rules.specs.Sane.{is_of_site, is_short_script, is_short_output, is_sane_carried, is_sane_id, is_sane_job, is_offer_refusal, is_sane_command}
+use Rattle.nqs_rules.specs.Sane.{is_sane_body, is_sane_message, is_sane_event}
 use Rattle.nqs_rules.specs.Stepped.{Stepped, Pending, quiet, says, makes, message, ready, shown, part_bytes, stored_parts}
-use Rattle.nqs_rules.specs.Handover.{closes, was_given, carried_of, offer, send_commit, send_abort, send_ready, send_done, send_refused, send_inquire, opened_with, open_hand, offer_causes, offer_by, on_offer, ready_phase, ready_with, on_ready, refused_phase, refused_with, on_refused, on_commit, done_phase, done_with, on_done, on_abort, is_silent, silent_hands, repeat_offer, repeat_phase, repeat_hand, repeated_hands, inquiries, silence}
-use Rattle.nqs_rules.specs.Stage.{Part, part_to, parts_of, has_left, numbered, stage_counter, goes_here, first_number, kept_parts, files_written, is_stage_to, has_stage_to, stage_sent, parts_sent, on_end, is_got, send_staged, on_stage, is_earlier_stage, send_stage, due_of, on_staged, on_written, file_again, stages_from, due_outputs}
+use Rattle.nqs_rules.specs.Handover.{closes, was_given, carried_of, offer, send_commit, send_abort, send_ready, send_done, send_refused, send_inquire}
+use Rattle.nqs_rules.specs.Handover.{opened_with, open_hand, offer_causes, offer_by, on_offer, ready_phase, ready_with, on_ready, refused_phase, refused_with}
+use Rattle.nqs_rules.specs.Handover.{on_refused, on_commit, done_phase, done_with, on_done, on_abort, is_silent, silent_hands, repeat_offer, repeat_phase}
+use Rattle.nqs_rules.specs.Handover.{repeat_hand, repeated_hands, inquiries, silence}
+use Rattle.nqs_rules.specs.Stage.{Part, part_to, parts_of, has_left, numbered, stage_counter, goes_here, first_number, kept_parts, files_written, is_stage_to}
+use Rattle.nqs_rules.specs.Stage.{has_stage_to, stage_sent, parts_sent, on_end, is_got, send_staged, on_stage, is_earlier_stage, send_stage, due_of, on_staged}
+use Rattle.nqs_rules.specs.Stage.{on_written, file_again, stages_from, due_outputs}
 use Rattle.nqs_rules.specs.Start.{launching, printing, moving_by, moving, holding, local_causes, with_row, device_at, dest_at, started, start_by, start}
 use Rattle.nqs_rules.specs.Order.{pick}
 use Rattle.nqs_rules.specs.Applied.{next_id}
-use Rattle.nqs_rules.specs.Step.{completed, Asker, reply_to, answer_to, unless_refused, submit_to, kill, delete_meant, runs_in_queue, kills_of, stat_causes, ticked, on_allowed, on_message, is_start, ended_by, acknowledged, unlaunched_by, step}
+use Rattle.nqs_rules.specs.Step.{completed, Asker, reply_to, answer_to, unless_refused, submit_to, kill, delete_meant, runs_in_queue, kills_of, stat_causes}
+use Rattle.nqs_rules.specs.Step.{ticked, on_allowed, on_message, is_start, ended_by, acknowledged, unlaunched_by, step}
 use Rattle.nqs_rules.specs.Text.{stat_lines}
 use Rattle.nqs_rules.specs.World.{sent_by}
 use Rattle.nqs_rules.specs.InOrder.{IsInOrder, is_row_right, is_hand_right, is_hand_given, is_stage_right, is_stage_given, is_peer_right, is_routing_row}
@@ -76,18 +85,22 @@ use Rattle.nqs_laws.proofs.Sides.{AreShort}
 
 -- small facts
 
-all-flat : {V W : Type 0} (p : V → Bool) (q : W → Bool) (g : V → List W) → ((v : V) → p v ≡ true → list_all q (g v) ≡ true) → (vs : List V) → list_all p vs ≡ true → list_all q (flat_map g vs) ≡ true
+all-flat : {V W : Type 0} (p : V → Bool) (q : W → Bool) (g : V → List W) → ((v : V) → p v ≡ true → list_all q (g v) ≡ true) → (vs : List V)
+    → list_all p vs ≡ true → list_all q (flat_map g vs) ≡ true
 all-flat p q g f [] h = refl
-all-flat p q g f (v ∷ vs) h = let k = and_parts (p v) (list_all p vs) h in list_all-append q (g v) (flat_map g vs) ∙ and_from (list_all q (g v)) (list_all q (flat_map g vs)) (f v k.0) (all-flat p q g f vs k.1)
+all-flat p q g f (v ∷ vs) h = let k = and_parts (p v) (list_all p vs) h in
+    list_all-append q (g v) (flat_map g vs) ∙ and_from (list_all q (g v)) (list_all q (flat_map g vs)) (f v k.0) (all-flat p q g f vs k.1)
 
 pub all-true : {V : Type 0} (vs : List V) → list_all (λ v. true) vs ≡ true
 all-true [] = refl
 all-true (v ∷ vs) = all-true vs
 
 -- the best of a list passes what all pass
-best_passes : {V : Type 0} (p test : V → Bool) (beats : V → V → Bool) (n : ℕ) (vs : List V) → list_all p vs ≡ true → IfSome (best_from test beats n vs) (λ q. p q.1 ≡ true)
+best_passes : {V : Type 0} (p test : V → Bool) (beats : V → V → Bool) (n : ℕ) (vs : List V) → list_all p vs ≡ true
+    → IfSome (best_from test beats n vs) (λ q. p q.1 ≡ true)
 best_passes p test beats n [] h = tt
-best_passes {V} p test beats n (v ∷ vs) h = let k = and_parts (p v) (list_all p vs) h in by (test v) k.0 (best_from test beats (n + 1) vs) (best_passes p test beats (n + 1) vs k.1)
+best_passes {V} p test beats n (v ∷ vs) h = let k = and_parts (p v) (list_all p vs) h in
+    by (test v) k.0 (best_from test beats (n + 1) vs) (best_passes p test beats (n + 1) vs k.1)
   where
     of : (b : Bool) (y : ℕ × V) → p v ≡ true → p y.1 ≡ true → IfSome (if b then Some y else Some (n, v)) (λ q. p q.1 ≡ true)
     of true y a c = c
@@ -99,11 +112,14 @@ best_passes {V} p test beats n (v ∷ vs) h = let k = and_parts (p v) (list_all 
     by false a o c = c
 
 -- the refusal that is answered is one of a list
-refusal_of : (p : Refusal → Bool) (cs : List Cause) (r : Refusal) → list_all (λ (c : Cause). p c.refusal || not c.holds) cs ≡ true → first_refusal cs ≡ Err r → p r ≡ true
+refusal_of : (p : Refusal → Bool) (cs : List Cause) (r : Refusal) → list_all (λ (c : Cause). p c.refusal || not c.holds) cs ≡ true → first_refusal cs ≡ Err r
+    → p r ≡ true
 refusal_of p [] r h e = absurd (let no : ⊥ = cc in no)
-refusal_of p (c ∷ cs) r h e = let k = and_parts (p c.refusal || not c.holds) (list_all (λ (c : Cause). p c.refusal || not c.holds) cs) h in by c.holds k.0 e (refusal_of p cs r k.1)
+refusal_of p (c ∷ cs) r h e = let k = and_parts (p c.refusal || not c.holds) (list_all (λ (c : Cause). p c.refusal || not c.holds) cs) h in
+    by c.holds k.0 e (refusal_of p cs r k.1)
   where
-    by : (b : Bool) → (p c.refusal || not b) ≡ true → (if b then Err c.refusal else first_refusal cs) ≡ Err r → (first_refusal cs ≡ Err r → p r ≡ true) → p r ≡ true
+    by : (b : Bool) → (p c.refusal || not b) ≡ true → (if b then Err c.refusal else first_refusal cs) ≡ Err r → (first_refusal cs ≡ Err r → p r ≡ true)
+        → p r ≡ true
     by true k e rest = let same : c.refusal ≡ r = cc in ap p (sym same) ∙ plain (p c.refusal) k
       where
         plain : (b : Bool) → (b || false) ≡ true → b ≡ true
@@ -124,7 +140,8 @@ is_fine_output hosts test may (out.Again id) = false
 is_fine_output hosts test may (out.Lost id) = false
 is_fine_output hosts test may o = true
 
-fine_sent : (hosts : ℕ) (test : Carried → Bool) (may : RequestId → Bool) (o : Output) → is_fine_output hosts test may o ≡ true → list_all (is_fine_message hosts test) (sent_by o) ≡ true
+fine_sent : (hosts : ℕ) (test : Carried → Bool) (may : RequestId → Bool) (o : Output) → is_fine_output hosts test may o ≡ true
+    → list_all (is_fine_message hosts test) (sent_by o) ≡ true
 fine_sent hosts test may (out.Send m) k = and_from (is_fine_message hosts test m) true k refl
 fine_sent hosts test may o k = refl
 
@@ -154,7 +171,8 @@ module _ (s : Plain) (h : IsInOrder s) where
   pub begins : (now : ℕ) (x : Stepped (List ℕ)) → start now s ≡ Some x → Begins now s x
   begins now x e = of (pick now s) e
     where
-      row : (place : ℕ) (f : PlainRow → Option (Stepped (List ℕ))) → ((r : PlainRow) → find_row r.id s ≡ Some r → f r ≡ Some x → Begins now s x) → with_row place s f ≡ Some x → Begins now s x
+      row : (place : ℕ) (f : PlainRow → Option (Stepped (List ℕ))) → ((r : PlainRow) → find_row r.id s ≡ Some r → f r ≡ Some x → Begins now s x)
+          → with_row place s f ≡ Some x → Begins now s x
       row place f k e = at (slice_get s.rows place) refl e
         where
           at : (o : Option PlainRow) → slice_get s.rows place ≡ o → option_and_then f o ≡ Some x → Begins now s x
@@ -167,28 +185,36 @@ module _ (s : Plain) (h : IsInOrder s) where
 
       by : (c : Choice) → started c now s ≡ Some x → Begins now s x
       by (Launch place) e = row place (λ r. Some (launching r s)) (λ r found e. Launches r found (same_Some (launching r s) x e)) e
-      by (Print place device) e = row place (λ r. option_map (λ d. printing d r s) (device_at device r s)) (λ r found e. let k = mapped (λ d. printing d r s) (device_at device r s) e in Prints r k.0 found k.1) e
+      by (Print place device) e = row place (λ r. option_map (λ d. printing d r s) (device_at device r s))
+          (λ r found e. let k = mapped (λ d. printing d r s) (device_at device r s) e in Prints r k.0 found k.1) e
       by (TooFar place) e = row place (λ r. Some (holding r)) (λ r found e. Holds r found (same_Some (holding r) x e)) e
-      by (Local place dest) e = row place (λ r. option_map (λ d. moving d s r) (dest_at dest r s)) (λ r found e. let k = mapped (λ d. moving d s r) (dest_at dest r s) e in Moves r k.0 found k.1) e
-      by (HandTo place dest) e = row place (λ r. option_map (λ d. open_hand d now s r) (dest_at dest r s)) (λ r found e. let k = mapped (λ d. open_hand d now s r) (dest_at dest r s) e in Opens r k.0 found k.1) e
+      by (Local place dest) e = row place (λ r. option_map (λ d. moving d s r) (dest_at dest r s))
+          (λ r found e. let k = mapped (λ d. moving d s r) (dest_at dest r s) e in Moves r k.0 found k.1) e
+      by (HandTo place dest) e = row place (λ r. option_map (λ d. open_hand d now s r) (dest_at dest r s))
+          (λ r found e. let k = mapped (λ d. open_hand d now s r) (dest_at dest r s) e in Opens r k.0 found k.1) e
 
       of : (o : Option Choice) → start_by o now s ≡ Some x → Begins now s x
       of None e = absurd (none-some x e)
       of (Some c) e = by c e
 
   module _ (test : Carried → Bool) where
-    pub all_sent : (may : RequestId → Bool) (os : List Output) → list_all (is_fine_output hosts test may) os ≡ true → list_all (is_fine_message hosts test) (sent_in os) ≡ true
+    pub all_sent : (may : RequestId → Bool) (os : List Output) → list_all (is_fine_output hosts test may) os ≡ true
+        → list_all (is_fine_message hosts test) (sent_in os) ≡ true
     all_sent may [] k = refl
     all_sent may (o ∷ os) k =
         let q = and_parts (is_fine_output hosts test may o) (list_all (is_fine_output hosts test may) os) k in
         list_all-append (is_fine_message hosts test) (sent_by o) (sent_in os)
-        ∙ and_from (list_all (is_fine_message hosts test) (sent_by o)) (list_all (is_fine_message hosts test) (sent_in os)) (fine_sent hosts test may o q.0) (all_sent may os q.1)
+        ∙ and_from (list_all (is_fine_message hosts test) (sent_by o)) (list_all (is_fine_message hosts test) (sent_in os)) (fine_sent hosts test may o q.0)
+        (all_sent may os q.1)
 
     -- a message that offers nothing
-    sane_alone : (peer : HostId) (b : Body) → is_sane_body hosts b ≡ true → body_passes test b ≡ true → is_fine_message hosts test (record { from = s.me; to = peer; body = b }) ≡ true
-    sane_alone peer b k f = and_from (is_sane_message hosts (record { from = s.me; to = peer; body = b })) (body_passes test b) (and_from (is_of_site hosts s.me) (is_sane_body hosts b) (sites_are s h.site).me k) f
+    sane_alone : (peer : HostId) (b : Body) → is_sane_body hosts b ≡ true → body_passes test b ≡ true
+        → is_fine_message hosts test (record { from = s.me; to = peer; body = b }) ≡ true
+    sane_alone peer b k f = and_from (is_sane_message hosts (record { from = s.me; to = peer; body = b })) (body_passes test b)
+        (and_from (is_of_site hosts s.me) (is_sane_body hosts b) (sites_are s h.site).me k) f
 
-  module _ (test : Carried → Bool) (may : RequestId → Bool) (scripts : AllPass (λ r. is_short_script r.script) s) (outputs : AreShort s) (carries : list_all (λ (r : PlainRow). test (carried_of r)) s.rows ≡ true) where
+  module _ (test : Carried → Bool) (may : RequestId → Bool) (scripts : AllPass (λ r. is_short_script r.script) s) (outputs : AreShort s)
+      (carries : list_all (λ (r : PlainRow). test (carried_of r)) s.rows ≡ true) where
     abbrev pub is_fine : Pending (List ℕ) → Bool
     is_fine p = is_fine_output hosts test may (shown p)
 
@@ -206,26 +232,43 @@ module _ (s : Plain) (h : IsInOrder s) where
 
     -- offers
 
-    carried_fine : (r : PlainRow) → is_row_right s r ≡ true → is_running r.state ≡ false → nat_lt r.hops 32 ≡ true → (is_sane_carried (carried_of r) ≡ true) × (is_of_site hosts r.id.host ≡ true)
+    carried_fine : (r : PlainRow) → is_row_right s r ≡ true → is_running r.state ≡ false → nat_lt r.hops 32 ≡ true
+        → (is_sane_carried (carried_of r) ≡ true) × (is_of_site hosts r.id.host ≡ true)
     carried_fine r right idle hops =
         let k = row_is s r right in
         let id = and_parts (is_site_host r.id.host s) (is_sane_id r.id) k.id in
         let same : r.starts ≡ r.lost = eqb-true r.starts r.lost (and_parts (r.starts == r.lost) _ (waits r idle k.count)).0 in
         let few : r.lost < 65535 = ltb-true r.lost 65535 k.lost in
         let low : r.hops < 32 = ltb-true r.hops 32 hops in (
-          chained (is_sane_id r.id) (is_sane_job r.job ∷ nat_lt r.starts 65535 ∷ (r.lost == r.starts) ∷ nat_le (r.hops + 1) 32 ∷ [])
-              (id.1, (k.job, (lt-ltb r.starts 65535 (omega (arith, same, few)), (eq-eqb r.lost r.starts (sym same), (le-leb (r.hops + 1) 32 (omega (arith, low)), tt))))),
+          chained (is_sane_id r.id) (is_sane_job r.job ∷ nat_lt r.starts 65535 ∷ (r.lost == r.starts) ∷ nat_le (r.hops + 1) 32 ∷ []) (
+            id.1,
+            (
+              k.job,
+              (
+                lt-ltb r.starts 65535 (omega (arith, same, few)),
+                (eq-eqb r.lost r.starts (sym same), (le-leb (r.hops + 1) 32 (omega (arith, low)), tt)),
+              ),
+            ),
+          ),
           id.0,
         )
 
-    offers_fine : (peer : HostId) (n : ℕ) (queue : List ℕ) (r : PlainRow) → nat_le 1 n ≡ true → is_row_right s r ≡ true → is_running r.state ≡ false → nat_lt r.hops 32 ≡ true → is_short_script r.script ≡ true → test (carried_of r) ≡ true → is_fine (offer s.me peer n queue r) ≡ true
+    offers_fine : (peer : HostId) (n : ℕ) (queue : List ℕ) (r : PlainRow) → nat_le 1 n ≡ true → is_row_right s r ≡ true → is_running r.state ≡ false
+        → nat_lt r.hops 32 ≡ true → is_short_script r.script ≡ true → test (carried_of r) ≡ true → is_fine (offer s.me peer n queue r) ≡ true
     offers_fine peer n queue r some right idle hops short fine =
         let c = carried_fine r right idle hops in
         let b : Body = body.Offer n queue (carried_of r) r.script in
-        sane_alone test peer b (chained (nat_le 1 n) (is_sane_carried (carried_of r) ∷ is_of_site hosts r.id.host ∷ is_short_script r.script ∷ []) (some, (c.0, (c.1, (short, tt))))) fine
+        sane_alone test peer b (chained (nat_le 1 n) (is_sane_carried (carried_of r) ∷ is_of_site hosts r.id.host ∷ is_short_script r.script ∷ [])
+        (some, (c.0, (c.1, (short, tt))))) fine
 
-    row_right_at : (id : RequestId) (r : PlainRow) → find_row id s ≡ Some r → (is_row_right s r ≡ true) × (is_short_script r.script ≡ true) × (test (carried_of r) ≡ true)
-    row_right_at id r found = (list_all-found (is_row_right s) (is_row id) s.rows r h.rows found, list_all-found (λ (q : PlainRow). is_short_script q.script) (is_row id) s.rows r scripts.rows found, list_all-found (λ (q : PlainRow). test (carried_of q)) (is_row id) s.rows r carries found)
+    row_right_at : (id : RequestId) (r : PlainRow) → find_row id s ≡ Some r
+        → (is_row_right s r ≡ true) × (is_short_script r.script ≡ true) × (test (carried_of r) ≡ true)
+    row_right_at id r found = (
+      list_all-found (is_row_right s) (is_row id) s.rows r h.rows found,
+      list_all-found (λ (q : PlainRow). is_short_script q.script)
+          (is_row id) s.rows r scripts.rows found,
+      list_all-found (λ (q : PlainRow). test (carried_of q)) (is_row id) s.rows r carries found,
+    )
 
     -- stages
 
@@ -235,14 +278,16 @@ module _ (s : Plain) (h : IsInOrder s) where
     stages_fine : list_all is_stage_fine s.stages ≡ true
     stages_fine = all-both (is_stage_right s) (λ t. nat_le (length t.bytes) 32768) is_stage_fine (λ t a b.
         let k = and_parts (is_path t.path) (passes (is_stage_given t.number) (find_peer t.peer s)) a in
-        and_from (nat_le 1 t.number && is_path t.path) (nat_le (length t.bytes) 32768) (and_from (nat_le 1 t.number) (is_path t.path) (some t.number (find_peer t.peer s) k.1) k.0) b) s.stages h.stages outputs.stages
+        and_from (nat_le 1 t.number && is_path t.path) (nat_le (length t.bytes) 32768)
+        (and_from (nat_le 1 t.number) (is_path t.path) (some t.number (find_peer t.peer s) k.1) k.0) b) s.stages h.stages outputs.stages
       where
         some : (n : ℕ) (o : Option Peer) → passes (is_stage_given n) o ≡ true → nat_le 1 n ≡ true
         some n None k = absurd (true≢false (sym k))
         some n (Some p) k = (and_parts (nat_le 1 n) (nat_lt n p.stage_next) k).0
 
     due_fine : (peer : HostId) (stages : List (Stage (List ℕ))) → list_all is_stage_fine stages ≡ true → AreFine (due_of s peer stages)
-    due_fine peer stages k = of (best_from (is_stage_to peer) is_earlier_stage 0 stages) (best_passes is_stage_fine (is_stage_to peer) is_earlier_stage 0 stages k)
+    due_fine peer stages k = of (best_from (is_stage_to peer) is_earlier_stage 0 stages)
+        (best_passes is_stage_fine (is_stage_to peer) is_earlier_stage 0 stages k)
       where
         of : (o : Option (ℕ × Stage (List ℕ))) → IfSome o (λ q. is_stage_fine q.1 ≡ true) → AreFine (send_stage s o)
         of None k = refl
@@ -252,11 +297,13 @@ module _ (s : Plain) (h : IsInOrder s) where
             (sane_alone test q.1.peer b k refl)
 
     due_outputs_fine : AreFine (due_outputs s)
-    due_outputs_fine = joined (stages_from 0 s s.site) (map file_again s.files) (all_stages 0 s.site) (all-mapped (λ f. true) is_fine file_again (λ f k. refl) s.files (all-true s.files))
+    due_outputs_fine = joined (stages_from 0 s s.site) (map file_again s.files) (all_stages 0 s.site)
+        (all-mapped (λ f. true) is_fine file_again (λ f k. refl) s.files (all-true s.files))
       where
         all_stages : (place : ℕ) (site : List (List ℕ)) → AreFine (stages_from place s site)
         all_stages place [] = refl
-        all_stages place (name ∷ site) = joined (due_of s (host_at place) s.stages) (stages_from (place + 1) s site) (due_fine (host_at place) s.stages stages_fine) (all_stages (place + 1) site)
+        all_stages place (name ∷ site) = joined (due_of s (host_at place) s.stages) (stages_from (place + 1) s site)
+            (due_fine (host_at place) s.stages stages_fine) (all_stages (place + 1) site)
 
     -- a tick
 
@@ -272,10 +319,12 @@ module _ (s : Plain) (h : IsInOrder s) where
         again (Some r) found routes =
             let k = row_right_at x.id r found in
             one (offer s.me x.peer x.number x.queue r)
-            (offers_fine x.peer x.number x.queue r (some (find_peer x.peer s) (hand_is s x right).given) k.0 (ap is_running (routing_is r.state routes)) (few_hops r routes (row_is s r k.0).hop) k.1 k.2)
+            (offers_fine x.peer x.number x.queue r (some (find_peer x.peer s) (hand_is s x right).given) k.0 (ap is_running (routing_is r.state routes))
+            (few_hops r routes (row_is s r k.0).hop) k.1 k.2)
 
         of : (p : Phase) → x.phase ≡ p → AreFine (repeat_phase p s x)
-        of Offered e = again (find_row x.id s) refl (implied (is_offered x.phase) (passes is_routing_row (find_row x.id s)) (hand_is s x right).stands (ap is_offered e))
+        of Offered e = again (find_row x.id s) refl (implied (is_offered x.phase) (passes is_routing_row (find_row x.id s)) (hand_is s x right).stands
+            (ap is_offered e))
         of Committed e = one (send_commit s x.peer x.number) (sends x.peer (body.Commit x.number) refl refl)
 
         by : (b : Bool) → AreFine (if b then [] else repeat_phase x.phase s x)
@@ -286,29 +335,35 @@ module _ (s : Plain) (h : IsInOrder s) where
     tick_fine now =
         joined (repeated_hands now s ++ inquiries s) (due_outputs s)
         (joined (repeated_hands now s) (inquiries s) (all-flat (is_hand_right s) is_fine (repeat_hand now s) (hand_fine now) s.hands h.hands)
-        (all-mapped (λ p. true) is_fine (send_inquire s) (λ p k. sends p.peer (body.Inquire p.number) refl refl) s.promises (all-true s.promises))) due_outputs_fine
+        (all-mapped (λ p. true) is_fine (send_inquire s) (λ p k. sends p.peer (body.Inquire p.number) refl refl) s.promises (all-true s.promises)))
+        due_outputs_fine
 
     -- messages
 
-    refusal_fine : (peer : HostId) (queue : List ℕ) (c : Carried) (r : Refusal) → first_refusal (offer_causes peer queue c s) ≡ Err r → is_offer_refusal (refusal_number r) ≡ true
+    refusal_fine : (peer : HostId) (queue : List ℕ) (c : Carried) (r : Refusal) → first_refusal (offer_causes peer queue c s) ≡ Err r
+        → is_offer_refusal (refusal_number r) ≡ true
     refusal_fine peer queue c r e = refusal_of (λ x. is_offer_refusal (refusal_number x)) (offer_causes peer queue c s) r (of (find_queue queue s) refl) e
       where
         direct : (b : Bool) → not (b && false) ≡ true
         direct true = refl
         direct false = refl
 
-        of : (o : Option QueueDef) → find_queue queue s ≡ o → list_all (λ (x : Cause). is_offer_refusal (refusal_number x.refusal) || not x.holds) (offer_causes peer queue c s) ≡ true
+        of : (o : Option QueueDef) → find_queue queue s ≡ o → list_all (λ (x : Cause). is_offer_refusal (refusal_number x.refusal) || not x.holds)
+            (offer_causes peer queue c s) ≡ true
         of None e = rw e refl
         of (Some d) e = rw e (and_from (not (d.pipe_only && false)) true (direct d.pipe_only) refl)
 
-    offer_outputs : (peer : HostId) (n : ℕ) (queue : List ℕ) (c : Carried) (script : List ℕ) → nat_le 1 n ≡ true → AreFine (on_offer peer n queue c script s).outputs
+    offer_outputs : (peer : HostId) (n : ℕ) (queue : List ℕ) (c : Carried) (script : List ℕ) → nat_le 1 n ≡ true
+        → AreFine (on_offer peer n queue c script s).outputs
     offer_outputs peer n queue c script some = by (closes n (find_peer peer s)) (has_promise peer n s)
       where
         made : (o : Result (Unit {0}) Refusal) → first_refusal (offer_causes peer queue c s) ≡ o → AreFine (offer_by o peer n queue c script s).outputs
-        made (Err r) e = one (send_refused s peer n (refusal_number r)) (sends peer (body.Refused n (refusal_number r)) (and_from (nat_le 1 n) (is_offer_refusal (refusal_number r)) some (refusal_fine peer queue c r e)) refl)
+        made (Err r) e = one (send_refused s peer n (refusal_number r)) (sends peer (body.Refused n (refusal_number r))
+            (and_from (nat_le 1 n) (is_offer_refusal (refusal_number r)) some (refusal_fine peer queue c r e)) refl)
         made (Ok u) e = one (send_ready s peer n) (sends peer (body.Ready n) refl refl)
 
-        by : (a b : Bool) → AreFine (if a then says (send_done s peer n ∷ []) else (if b then says (send_ready s peer n ∷ []) else offer_by (first_refusal (offer_causes peer queue c s)) peer n queue c script s)).outputs
+        by : (a b : Bool) → AreFine (if a then says (send_done s peer n ∷ []) else
+            (if b then says (send_ready s peer n ∷ []) else offer_by (first_refusal (offer_causes peer queue c s)) peer n queue c script s)).outputs
         by true b = one (send_done s peer n) (sends peer (body.Done n) refl refl)
         by false true = one (send_ready s peer n) (sends peer (body.Ready n) refl refl)
         by false false = made (first_refusal (offer_causes peer queue c s)) refl
@@ -353,7 +408,8 @@ module _ (s : Plain) (h : IsInOrder s) where
     commit_outputs : (peer : HostId) (n : ℕ) → AreFine (on_commit peer n s).outputs
     commit_outputs peer n = by (has_promise peer n s) (closes n (find_peer peer s))
       where
-        by : (a b : Bool) → AreFine (if a then makes (Accepted peer n) (send_done s peer n ∷ []) else (if b then says (send_done s peer n ∷ []) else quiet)).outputs
+        by : (a b : Bool) → AreFine (if a then makes (Accepted peer n) (send_done s peer n ∷ []) else
+            (if b then says (send_done s peer n ∷ []) else quiet)).outputs
         by true b = one (send_done s peer n) (sends peer (body.Done n) refl refl)
         by false true = one (send_done s peer n) (sends peer (body.Done n) refl refl)
         by false false = refl
@@ -369,7 +425,9 @@ module _ (s : Plain) (h : IsInOrder s) where
     stage_outputs peer n path bytes = by (passes (is_got n) (find_peer peer s)) (has_left s.file_next 0)
       where
         by : (a b : Bool)
-            → AreFine (if a then says (send_staged s peer n ∷ []) else (if b then makes (StageGot peer n path bytes) (send_staged s peer n ∷ ready (out.File s.file_next path bytes) ∷ []) else makes (StageGot peer n path []) (send_staged s peer n ∷ []))).outputs
+            → AreFine (if a then says (send_staged s peer n ∷ []) else (if b then
+            makes (StageGot peer n path bytes) (send_staged s peer n ∷ ready (out.File s.file_next path bytes) ∷ []) else
+            makes (StageGot peer n path []) (send_staged s peer n ∷ []))).outputs
         by true b = one (send_staged s peer n) (sends peer (body.Staged n) refl refl)
         by false true = and_from (is_fine (send_staged s peer n)) true (sends peer (body.Staged n) refl refl) refl
         by false false = one (send_staged s peer n) (sends peer (body.Staged n) refl refl)
@@ -380,12 +438,14 @@ module _ (s : Plain) (h : IsInOrder s) where
         left : list_all is_stage_fine (without_first (is_stage (peer_number peer n)) s.stages) ≡ true
         left = part_all is_stage_fine (without_part (is_stage (peer_number peer n)) s.stages) stages_fine
 
-        by : (a : Bool) → AreFine (if a then makes (StageGone peer n) (due_of s peer (without_first (is_stage (peer_number peer n)) s.stages)) else quiet).outputs
+        by : (a : Bool) → AreFine (if a then makes (StageGone peer n) (due_of s peer (without_first (is_stage (peer_number peer n)) s.stages)) else
+            quiet).outputs
         by true = due_fine peer (without_first (is_stage (peer_number peer n)) s.stages) left
         by false = refl
 
     message_outputs : (peer : HostId) (b : Body) → is_sane_body hosts b ≡ true → AreFine (on_message peer b s).outputs
-    message_outputs peer (body.Offer n queue c script) k = offer_outputs peer n queue c script (each (nat_le 1 n) (is_sane_carried c ∷ is_of_site hosts c.id.host ∷ is_short_script script ∷ []) k).0
+    message_outputs peer (body.Offer n queue c script) k = offer_outputs peer n queue c script
+        (each (nat_le 1 n) (is_sane_carried c ∷ is_of_site hosts c.id.host ∷ is_short_script script ∷ []) k).0
     message_outputs peer (body.Ready n) k = ready_outputs peer n
     message_outputs peer (body.Refused n refusal) k = refused_outputs peer n refusal
     message_outputs peer (body.Commit n) k = commit_outputs peer n
@@ -417,7 +477,8 @@ module _ (s : Plain) (h : IsInOrder s) where
     submit_outputs a None sub submits = refl
     submit_outputs a (Some q) sub submits = and_from (may (next_id s)) true (submits q (completed (s.seq + 1) sub.job) sub.script refl) refl
 
-    unless_submits : (a : Asker) (o : Result (Unit {0}) Refusal) (done : Stepped (List ℕ)) → MaySubmit (unless_refused a o done).change → (MaySubmit done.change → AreFine done.outputs) → AreFine (unless_refused a o done).outputs
+    unless_submits : (a : Asker) (o : Result (Unit {0}) Refusal) (done : Stepped (List ℕ)) → MaySubmit (unless_refused a o done).change
+        → (MaySubmit done.change → AreFine done.outputs) → AreFine (unless_refused a o done).outputs
     unless_submits a (Err r) done submits k = refl
     unless_submits a (Ok u) done submits k = k submits
 
@@ -425,15 +486,21 @@ module _ (s : Plain) (h : IsInOrder s) where
     delete_outputs a id None = refl
     delete_outputs a id (Some r) = by (is_running r.state)
       where
-        by : (b : Bool) → AreFine (if b then makes (Doomed r.id) (reply_to a (reply.Signalled r.id) ∷ kill r ∷ []) else makes (Deleted r.id) (reply_to a (reply.Deleted r.id) ∷ [])).outputs
+        by : (b : Bool) → AreFine (if b then makes (Doomed r.id) (reply_to a (reply.Signalled r.id) ∷ kill r ∷ []) else
+            makes (Deleted r.id) (reply_to a (reply.Deleted r.id) ∷ [])).outputs
         by true = refl
         by false = refl
 
-    command_outputs : (now : ℕ) (a : Asker) (user : List ℕ) (c : Command) → MaySubmit (on_allowed now a user c s).change → AreFine (on_allowed now a user c s).outputs
-    command_outputs now a user (command.Submit sub) submits = unless_submits a (first_refusal (submit_causes sub s)) (submit_to a sub s (queue_meant sub.queue s.default_queue)) submits (submit_outputs a (queue_meant sub.queue s.default_queue) sub)
-    command_outputs now a user (command.Edit e) submits = unless_fine a (first_refusal (edit_causes e s)) (makes (Edited e) (reply_to a reply.Done ∷ kills_of e s)) (edit_outputs e)
-    command_outputs now a user (command.Stat owner queues) submits = unless_fine a (first_refusal (stat_causes queues s)) (answer_to a (reply.Lines (stat_lines owner queues s))) refl
-    command_outputs now a user (command.Delete id forced) submits = unless_fine a (first_refusal (delete_causes user id forced s)) (delete_meant a id (meant_row id s)) (delete_outputs a id (meant_row id s))
+    command_outputs : (now : ℕ) (a : Asker) (user : List ℕ) (c : Command) → MaySubmit (on_allowed now a user c s).change
+        → AreFine (on_allowed now a user c s).outputs
+    command_outputs now a user (command.Submit sub) submits = unless_submits a (first_refusal (submit_causes sub s))
+        (submit_to a sub s (queue_meant sub.queue s.default_queue)) submits (submit_outputs a (queue_meant sub.queue s.default_queue) sub)
+    command_outputs now a user (command.Edit e) submits = unless_fine a (first_refusal (edit_causes e s))
+        (makes (Edited e) (reply_to a reply.Done ∷ kills_of e s)) (edit_outputs e)
+    command_outputs now a user (command.Stat owner queues) submits = unless_fine a (first_refusal (stat_causes queues s))
+        (answer_to a (reply.Lines (stat_lines owner queues s))) refl
+    command_outputs now a user (command.Delete id forced) submits = unless_fine a (first_refusal (delete_causes user id forced s))
+        (delete_meant a id (meant_row id s)) (delete_outputs a id (meant_row id s))
     command_outputs now a user (command.Show code) submits = refl
     command_outputs now a user command.Shutdown submits = refl
     command_outputs now a user command.Tick submits = joined (ticked now s).outputs (reply_to a reply.Done ∷ []) (tick_fine now) refl
@@ -449,34 +516,44 @@ module _ (s : Plain) (h : IsInOrder s) where
     short_enough bytes k = le-leb (length bytes) 32768 (let few = leb-true (length bytes) 16384 k in omega (arith, few))
 
     both_short : (a b : List ℕ) → is_short_output a ≡ true → is_short_output b ≡ true → is_short_script (a ++ b) ≡ true
-    both_short a b k l = le-leb (length (a ++ b)) 32768 (let few = leb-true (length a) 16384 k in let more = leb-true (length b) 16384 l in omega (arith, length-append a b, few, more))
+    both_short a b k l = le-leb (length (a ++ b)) 32768 (let few = leb-true (length a) 16384 k in let more = leb-true (length b) 16384 l in
+        omega (arith, length-append a b, few, more))
 
     part_fine : (path bytes : List ℕ) → is_path path ≡ true → is_short_script bytes ≡ true → list_all is_part_fine (part_to path bytes) ≡ true
     part_fine path [] k l = refl
-    part_fine path (b ∷ bytes) k l = and_from (is_path path && is_short_script (b ∷ bytes)) true (and_from (is_path path) (is_short_script (b ∷ bytes)) k l) refl
+    part_fine path (b ∷ bytes) k l = and_from (is_path path && is_short_script (b ∷ bytes)) true
+        (and_from (is_path path) (is_short_script (b ∷ bytes)) k l) refl
 
-    parts_fine : (j : Job) (output error : List ℕ) → is_sane_job j ≡ true → is_short_output output ≡ true → is_short_output error ≡ true → list_all is_part_fine (parts_of j output error) ≡ true
+    parts_fine : (j : Job) (output error : List ℕ) → is_sane_job j ≡ true → is_short_output output ≡ true → is_short_output error ≡ true
+        → list_all is_part_fine (parts_of j output error) ≡ true
     parts_fine j output error k a b = by j.join (each (nat_le j.priority 63) (is_path j.out ∷ is_path j.err ∷ []) k)
       where
-        by : (c : Bool) → (nat_le j.priority 63 ≡ true) × ((is_path j.out ≡ true) × ((is_path j.err ≡ true) × Unit {0})) → list_all is_part_fine (if c then part_to j.out (output ++ error) else part_to j.out output ++ part_to j.err error) ≡ true
+        by : (c : Bool) → (nat_le j.priority 63 ≡ true) × ((is_path j.out ≡ true) × ((is_path j.err ≡ true) × Unit {0}))
+            → list_all is_part_fine (if c then part_to j.out (output ++ error) else part_to j.out output ++ part_to j.err error) ≡ true
         by true p = part_fine j.out (output ++ error) p.1.0 (both_short output error a b)
         by false p =
             list_all-append is_part_fine (part_to j.out output) (part_to j.err error)
-            ∙ and_from (list_all is_part_fine (part_to j.out output)) (list_all is_part_fine (part_to j.err error)) (part_fine j.out output p.1.0 (short_enough output a)) (part_fine j.err error p.1.1.0 (short_enough error b))
+            ∙ and_from (list_all is_part_fine (part_to j.out output)) (list_all is_part_fine (part_to j.err error))
+            (part_fine j.out output p.1.0 (short_enough output a)) (part_fine j.err error p.1.1.0 (short_enough error b))
 
     numbered_fine : (counter n : ℕ) (parts : List Part) → list_all is_part_fine parts ≡ true → list_all is_part_fine (numbered counter n parts) ≡ true
     numbered_fine counter n [] k = refl
-    numbered_fine counter n (part ∷ parts) k = let p = and_parts (is_part_fine part) (list_all is_part_fine parts) k in by (has_left counter n) p.0 (numbered_fine counter (n + 1) parts p.1)
+    numbered_fine counter n (part ∷ parts) k = let p = and_parts (is_part_fine part) (list_all is_part_fine parts) k in
+        by (has_left counter n) p.0 (numbered_fine counter (n + 1) parts p.1)
       where
-        by : (b : Bool) → is_part_fine part ≡ true → list_all is_part_fine (numbered counter (n + 1) parts) ≡ true → list_all is_part_fine (if b then part ∷ numbered counter (n + 1) parts else []) ≡ true
+        by : (b : Bool) → is_part_fine part ≡ true → list_all is_part_fine (numbered counter (n + 1) parts) ≡ true
+            → list_all is_part_fine (if b then part ∷ numbered counter (n + 1) parts else []) ≡ true
         by true a rest = and_from (is_part_fine part) (list_all is_part_fine (numbered counter (n + 1) parts)) a rest
         by false a rest = refl
 
-    kept_fine : (r : PlainRow) (output error : List ℕ) → is_row_right s r ≡ true → is_short_output output ≡ true → is_short_output error ≡ true → list_all is_part_fine (kept_parts s r output error) ≡ true
-    kept_fine r output error right a b = numbered_fine (first_number s r.id) 0 (parts_of r.job output error) (parts_fine r.job output error (row_is s r right).job a b)
+    kept_fine : (r : PlainRow) (output error : List ℕ) → is_row_right s r ≡ true → is_short_output output ≡ true → is_short_output error ≡ true
+        → list_all is_part_fine (kept_parts s r output error) ≡ true
+    kept_fine r output error right a b = numbered_fine (first_number s r.id) 0 (parts_of r.job output error)
+        (parts_fine r.job output error (row_is s r right).job a b)
 
     stored_fine : (parts : List Part) → list_all is_part_fine parts ≡ true → list_all is_short_script (map part_bytes parts) ≡ true
-    stored_fine parts k = all-mapped is_part_fine is_short_script part_bytes (λ part p. (and_parts (is_path part.path) (is_short_script part.bytes) p).1) parts k
+    stored_fine parts k = all-mapped is_part_fine is_short_script part_bytes
+        (λ part p. (and_parts (is_path part.path) (is_short_script part.bytes) p).1) parts k
 
     parts_outputs : (id : RequestId) (parts : List Part) → list_all is_part_fine parts ≡ true → AreFine (parts_sent s id parts)
     parts_outputs id parts k = by (goes_here s id) (has_stage_to id.host s)
@@ -495,9 +572,11 @@ module _ (s : Plain) (h : IsInOrder s) where
             let q = (and_parts (is_part_fine p) (list_all is_part_fine ps) k).0 in
             let number : ℕ = stage_counter (find_peer id.host s) in
             let b : Body = body.Stage number p.path p.bytes in
-            one (ready (message s.me id.host b)) (sends id.host b (let k = and_parts (is_path p.path) (is_short_script p.bytes) q in chained (nat_le 1 number) (is_path p.path ∷ is_short_script p.bytes ∷ []) (counter (find_peer id.host s) refl, (k.0, (k.1, tt)))) refl)
+            one (ready (message s.me id.host b)) (sends id.host b (let k = and_parts (is_path p.path) (is_short_script p.bytes) q in
+            chained (nat_le 1 number) (is_path p.path ∷ is_short_script p.bytes ∷ []) (counter (find_peer id.host s) refl, (k.0, (k.1, tt)))) refl)
 
-        by : (a b : Bool) → AreFine (if a then files_written s.file_next parts else (if b then [] else stage_sent s.me id.host (if a then s.file_next else stage_counter (find_peer id.host s)) parts))
+        by : (a b : Bool) → AreFine (if a then files_written s.file_next parts else
+            (if b then [] else stage_sent s.me id.host (if a then s.file_next else stage_counter (find_peer id.host s)) parts))
         by true b = files s.file_next parts
         by false true = refl
         by false false = sent parts k
@@ -506,11 +585,14 @@ module _ (s : Plain) (h : IsInOrder s) where
         → AreFine (ended_by (find_row id s) start status output error s).outputs × IsShortChange (ended_by (find_row id s) start status output error s).change
     ended_outputs id start status output error a b = of (find_row id s) refl
       where
-        by : (r : PlainRow) → find_row id s ≡ Some r → (c : Bool) → (let d : Stepped (List ℕ) = if c then on_end status r output error s else quiet in AreFine d.outputs × IsShortChange d.change)
-        by r found true = let k = kept_fine r output error (row_right_at id r found).0 a b in (parts_outputs r.id (kept_parts s r output error) k, stored_fine (kept_parts s r output error) k)
+        by : (r : PlainRow) → find_row id s ≡ Some r → (c : Bool) → (let d : Stepped (List ℕ) = if c then on_end status r output error s else quiet in
+            AreFine d.outputs × IsShortChange d.change)
+        by r found true = let k = kept_fine r output error (row_right_at id r found).0 a b in
+            (parts_outputs r.id (kept_parts s r output error) k, stored_fine (kept_parts s r output error) k)
         by r found false = (refl, tt)
 
-        of : (o : Option PlainRow) → find_row id s ≡ o → AreFine (ended_by o start status output error s).outputs × IsShortChange (ended_by o start status output error s).change
+        of : (o : Option PlainRow) → find_row id s ≡ o → AreFine (ended_by o start status output error s).outputs
+            × IsShortChange (ended_by o start status output error s).change
         of None found = (refl, tt)
         of (Some r) found = by r found (is_start start r)
 
@@ -537,21 +619,25 @@ module _ (s : Plain) (h : IsInOrder s) where
         by false = refl
 
     -- what an event makes a host send is within its limits
-    pub step_fine : (e : Event) → is_sane_event hosts e ≡ true → MaySubmit (step e s).change → list_all (is_fine_output hosts test may) (map shown (step e s).outputs) ≡ true
+    pub step_fine : (e : Event) → is_sane_event hosts e ≡ true → MaySubmit (step e s).change
+        → list_all (is_fine_output hosts test may) (map shown (step e s).outputs) ≡ true
     step_fine e k submits = all-mapped is_fine (is_fine_output hosts test may) shown (λ p q. q) (step e s).outputs (fine e k submits)
       where
         fine : (e : Event) → is_sane_event hosts e ≡ true → MaySubmit (step e s).change → AreFine (step e s).outputs
-        fine (event.Ask now port token user c) k submits = unless_submits (record { port = port; token = token }) (may_command (rank user s) c) (on_allowed now (record { port = port; token = token }) user c s) submits (command_outputs now (record { port = port; token = token }) user c)
+        fine (event.Ask now port token user c) k submits = unless_submits (record { port = port; token = token }) (may_command (rank user s) c)
+            (on_allowed now (record { port = port; token = token }) user c s) submits (command_outputs now (record { port = port; token = token }) user c)
         fine (event.Arrived now m) k submits = message_outputs m.from m.body (and_parts (is_of_site hosts m.from) (is_sane_body hosts m.body) k).1
         fine (event.Ended now port id start status output error) k submits =
             let p = and_parts (is_short_output output) (is_short_output error) k in
-            joined (ended_by (find_row id s) start status output error s).outputs (acknowledged port id start) (ended_outputs id start status output error p.0 p.1).0 (acks_fine port id start)
+            joined (ended_by (find_row id s) start status output error s).outputs (acknowledged port id start)
+            (ended_outputs id start status output error p.0 p.1).0 (acks_fine port id start)
         fine (event.Unlaunched now id start) k submits = unlaunched_outputs (find_row id s) id start
         fine (event.Written now file) k submits = written_outputs file
         fine (event.Unwritten now file) k submits = refl
         fine (event.Tick now) k submits = tick_fine now
 
-    pub start_sends : (now : ℕ) (x : Stepped (List ℕ)) → start now s ≡ Some x → ((c : Change (List ℕ)) → x.change ≡ Some c → fits c s ≡ true) → list_all (is_fine_message hosts test) (sent_in (map shown x.outputs)) ≡ true
+    pub start_sends : (now : ℕ) (x : Stepped (List ℕ)) → start now s ≡ Some x → ((c : Change (List ℕ)) → x.change ≡ Some c → fits c s ≡ true)
+        → list_all (is_fine_message hosts test) (sent_in (map shown x.outputs)) ≡ true
     start_sends now x e fit = of (begins now x e)
       where
         IsSent : Stepped (List ℕ) → Type 0
@@ -561,13 +647,19 @@ module _ (s : Plain) (h : IsInOrder s) where
         moved (Ok u) queue r = refl
         moved (Err refusal) queue r = refl
 
-        opened : (r : PlainRow) (dest : Dest) → find_row r.id s ≡ Some r → (o : Option Peer) → find_peer dest.host s ≡ o → opened_with o dest now s r ≡ x → IsSent (opened_with o dest now s r)
+        opened : (r : PlainRow) (dest : Dest) → find_row r.id s ≡ Some r → (o : Option Peer) → find_peer dest.host s ≡ o → opened_with o dest now s r ≡ x
+            → IsSent (opened_with o dest now s r)
         opened r dest found None known e = refl
         opened r dest found (Some p) known e =
             let fitting = fit (HandOpened dest.host p.next r.id dest.queue now) (sym (ap (λ (y : Stepped (List ℕ)). y.change) e)) in
-            let hop : may_hop r ≡ true = ap (passes may_hop) (sym found) ∙ (each (row_passes (may_hop {E = List ℕ}) r.id s) (passes (is_next p.next) (find_peer dest.host s) ∷ not (list_any (is_hand_to dest.host) s.hands) ∷ []) fitting).0 in
+            let hop : may_hop r ≡ true = ap (passes may_hop) (sym found) ∙
+            (each (row_passes (may_hop {E = List ℕ}) r.id s) (passes (is_next p.next) (find_peer dest.host s)
+            ∷ not (list_any (is_hand_to dest.host) s.hands) ∷ []) fitting).0 in
             let k = row_right_at r.id r found in
-            fine_sent hosts test may (shown (offer s.me dest.host p.next dest.queue r)) (offers_fine dest.host p.next dest.queue r (and_parts (nat_le 1 p.next) (nat_le 1 p.stage_next) (all_get is_peer_right s.peers dest.host.0 p h.peers known)).0 k.0 (ap is_running (ready_queued r (and_parts (is_ready r) (nat_lt r.hops 32) hop).0)) (and_parts (is_ready r) (nat_lt r.hops 32) hop).1 k.1 k.2)
+            fine_sent hosts test may (shown (offer s.me dest.host p.next dest.queue r))
+            (offers_fine dest.host p.next dest.queue r (and_parts (nat_le 1 p.next) (nat_le 1 p.stage_next)
+            (all_get is_peer_right s.peers dest.host.0 p h.peers known)).0 k.0
+            (ap is_running (ready_queued r (and_parts (is_ready r) (nat_lt r.hops 32) hop).0)) (and_parts (is_ready r) (nat_lt r.hops 32) hop).1 k.1 k.2)
 
         of : Begins now s x → IsSent x
         of (Launches r found is) = subst IsSent is refl
@@ -578,12 +670,14 @@ module _ (s : Plain) (h : IsInOrder s) where
 
     -- what an event makes a host store is short
     pub step_stores : (e : Event) → is_sane_event hosts e ≡ true → IsShortChange (step e s).change
-    step_stores (event.Ask now port token user c) k = unless_short (record { port = port; token = token }) (may_command (rank user s) c) (on_allowed now (record { port = port; token = token }) user c s) (allowed c k)
+    step_stores (event.Ask now port token user c) k = unless_short (record { port = port; token = token }) (may_command (rank user s) c)
+        (on_allowed now (record { port = port; token = token }) user c s) (allowed c k)
       where
         a : Asker
         a = record { port = port; token = token }
 
-        unless_short : (a : Asker) (o : Result (Unit {0}) Refusal) (done : Stepped (List ℕ)) → IsShortChange done.change → IsShortChange (unless_refused a o done).change
+        unless_short : (a : Asker) (o : Result (Unit {0}) Refusal) (done : Stepped (List ℕ)) → IsShortChange done.change
+            → IsShortChange (unless_refused a o done).change
         unless_short a (Err r) done k = tt
         unless_short a (Ok u) done k = k
 
@@ -595,7 +689,8 @@ module _ (s : Plain) (h : IsInOrder s) where
         deleted id None = tt
         deleted id (Some r) = by (is_running r.state)
           where
-            by : (b : Bool) → IsShortChange (if b then makes (Doomed r.id) (reply_to a (reply.Signalled r.id) ∷ kill r ∷ []) else makes (Deleted r.id) (reply_to a (reply.Deleted r.id) ∷ [])).change
+            by : (b : Bool) → IsShortChange (if b then makes (Doomed r.id) (reply_to a (reply.Signalled r.id) ∷ kill r ∷ []) else
+                makes (Deleted r.id) (reply_to a (reply.Deleted r.id) ∷ [])).change
             by true = refl
             by false = refl
 
@@ -604,10 +699,12 @@ module _ (s : Plain) (h : IsInOrder s) where
         silenced (k ∷ ks) = refl
 
         allowed : (c : Command) → is_sane_command c ≡ true → IsShortChange (on_allowed now a user c s).change
-        allowed (command.Submit sub) k = unless_short a (first_refusal (submit_causes sub s)) (submit_to a sub s (queue_meant sub.queue s.default_queue)) (submitted (queue_meant sub.queue s.default_queue) sub k)
+        allowed (command.Submit sub) k = unless_short a (first_refusal (submit_causes sub s)) (submit_to a sub s (queue_meant sub.queue s.default_queue))
+            (submitted (queue_meant sub.queue s.default_queue) sub k)
         allowed (command.Edit e) k = unless_short a (first_refusal (edit_causes e s)) (makes (Edited e) (reply_to a reply.Done ∷ kills_of e s)) refl
         allowed (command.Stat owner queues) k = unless_short a (first_refusal (stat_causes queues s)) (answer_to a (reply.Lines (stat_lines owner queues s))) tt
-        allowed (command.Delete id forced) k = unless_short a (first_refusal (delete_causes user id forced s)) (delete_meant a id (meant_row id s)) (deleted id (meant_row id s))
+        allowed (command.Delete id forced) k = unless_short a (first_refusal (delete_causes user id forced s)) (delete_meant a id (meant_row id s))
+            (deleted id (meant_row id s))
         allowed (command.Show code) k = tt
         allowed command.Shutdown k = tt
         allowed command.Tick k = silenced (silent_hands now s)
@@ -616,7 +713,8 @@ module _ (s : Plain) (h : IsInOrder s) where
     step_stores (event.Arrived now m) k = of m.body (and_parts (is_of_site hosts m.from) (is_sane_body hosts m.body) k).1
       where
         offered : (a b : Bool) (o : Result (Unit {0}) Refusal) (n : ℕ) (queue : List ℕ) (c : Carried) (script : List ℕ) → is_short_script script ≡ true
-            → IsShortChange (if a then says (send_done s m.from n ∷ []) else (if b then says (send_ready s m.from n ∷ []) else offer_by o m.from n queue c script s)).change
+            → IsShortChange (if a then says (send_done s m.from n ∷ []) else
+            (if b then says (send_ready s m.from n ∷ []) else offer_by o m.from n queue c script s)).change
         offered true b o n queue c script k = tt
         offered false true o n queue c script k = tt
         offered false false (Err r) n queue c script k = tt
@@ -650,7 +748,8 @@ module _ (s : Plain) (h : IsInOrder s) where
             by Offered = tt
             by Committed = refl
 
-        committed : (a b : Bool) (n : ℕ) → IsShortChange (if a then makes (Accepted m.from n) (send_done s m.from n ∷ []) else (if b then says (send_done s m.from n ∷ []) else quiet)).change
+        committed : (a b : Bool) (n : ℕ) → IsShortChange (if a then makes (Accepted m.from n) (send_done s m.from n ∷ []) else
+            (if b then says (send_done s m.from n ∷ []) else quiet)).change
         committed true b n = refl
         committed false true n = tt
         committed false false n = tt
@@ -660,28 +759,34 @@ module _ (s : Plain) (h : IsInOrder s) where
         aborted false n = tt
 
         staged : (a b : Bool) (n : ℕ) (path bytes : List ℕ) → is_short_script bytes ≡ true
-            → IsShortChange (if a then says (send_staged s m.from n ∷ []) else (if b then makes (StageGot m.from n path bytes) (send_staged s m.from n ∷ ready (out.File s.file_next path bytes) ∷ []) else makes (StageGot m.from n path []) (send_staged s m.from n ∷ []))).change
+            → IsShortChange (if a then says (send_staged s m.from n ∷ []) else
+            (if b then makes (StageGot m.from n path bytes) (send_staged s m.from n ∷ ready (out.File s.file_next path bytes) ∷ []) else
+            makes (StageGot m.from n path []) (send_staged s m.from n ∷ []))).change
         staged true b n path bytes k = tt
         staged false true n path bytes k = and_from (is_short_script bytes) true k refl
         staged false false n path bytes k = refl
 
-        gone : (a : Bool) (n : ℕ) → IsShortChange (if a then makes (StageGone m.from n) (due_of s m.from (without_first (is_stage (peer_number m.from n)) s.stages)) else quiet).change
+        gone : (a : Bool) (n : ℕ) → IsShortChange (if a then makes (StageGone m.from n)
+            (due_of s m.from (without_first (is_stage (peer_number m.from n)) s.stages)) else quiet).change
         gone true n = refl
         gone false n = tt
 
         of : (b : Body) → is_sane_body hosts b ≡ true → IsShortChange (on_message m.from b s).change
         of (body.Offer n queue c script) k =
-            offered (closes n (find_peer m.from s)) (has_promise m.from n s) (first_refusal (offer_causes m.from queue c s)) n queue c script (each (nat_le 1 n) (is_sane_carried c ∷ is_of_site hosts c.id.host ∷ is_short_script script ∷ []) k).1.1.1.0
+            offered (closes n (find_peer m.from s)) (has_promise m.from n s) (first_refusal (offer_causes m.from queue c s)) n queue c script
+            (each (nat_le 1 n) (is_sane_carried c ∷ is_of_site hosts c.id.host ∷ is_short_script script ∷ []) k).1.1.1.0
         of (body.Ready n) k = readied (find_hand m.from n s) n
         of (body.Refused n refusal) k = refused (find_hand m.from n s) n refusal
         of (body.Commit n) k = committed (has_promise m.from n s) (closes n (find_peer m.from s)) n
         of (body.Done n) k = finished (find_hand m.from n s) n
         of (body.Inquire n) k = readied (find_hand m.from n s) n
         of (body.Abort n) k = aborted (has_promise m.from n s) n
-        of (body.Stage n path bytes) k = staged (passes (is_got n) (find_peer m.from s)) (has_left s.file_next 0) n path bytes (each (nat_le 1 n) (is_path path ∷ is_short_script bytes ∷ []) k).1.1.0
+        of (body.Stage n path bytes) k = staged (passes (is_got n) (find_peer m.from s)) (has_left s.file_next 0) n path bytes
+            (each (nat_le 1 n) (is_path path ∷ is_short_script bytes ∷ []) k).1.1.0
         of (body.Staged n) k = gone (has_stage m.from n s) n
         of b k = tt
-    step_stores (event.Ended now port id start status output error) k = let p = and_parts (is_short_output output) (is_short_output error) k in (ended_outputs id start status output error p.0 p.1).1
+    step_stores (event.Ended now port id start status output error) k = let p = and_parts (is_short_output output) (is_short_output error) k in
+        (ended_outputs id start status output error p.0 p.1).1
     step_stores (event.Unlaunched now id start) k = of (find_row id s)
       where
         by : (b : Bool) → IsShortChange (if b then makes {E = List ℕ} (Unlaunched id) (ready (out.Unlaunched id start) ∷ []) else quiet).change

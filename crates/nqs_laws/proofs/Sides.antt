@@ -1,5 +1,6 @@
 -- What a change leaves as it is: the host's place and site, and outputs but by changes of outputs.
-use Rattle.std.proofs.Common.{◌≡◌, ℕ, ◌+◌, Bool, true, false, nat_le, nat_lt, List, [], ◌∷◌, ◌++◌, map, length, Option, None, Some, true≢false, refl, sym, subst, ◌∙◌, if◌then◌else◌}
+use Rattle.std.proofs.Common.{◌≡◌, ℕ, ◌+◌, Bool, true, false, nat_le, nat_lt, List, [], ◌∷◌, ◌++◌, map, length, Option, None, Some, true≢false, refl, sym}
+use Rattle.std.proofs.Common.{subst, ◌∙◌, if◌then◌else◌}
 use Rattle.std.proofs.lemmas.Bool.{and_parts}
 use Rattle.std.specs.List.{list_all}
 use Rattle.nqs_state.specs.State.{Plain}
@@ -27,7 +28,8 @@ use Rattle.nqs_types.specs.declared.edit.Edit.{Edit}
 use Rattle.nqs_types.specs.declared.edit.Edit.TheVariants.{Conf, Limits as LimitsOf, Access as AccessOf, Devices as DevicesOf, Rows as RowsOf}
 use Rattle.nqs_types.specs.declared.change.OutPart.{OutPart}
 use Rattle.nqs_types.specs.declared.change.Change.{Change}
-use Rattle.nqs_types.specs.declared.change.Change.TheVariants.{Site, Ended, Edited, HandCommitted, HandRefused, HandsSilent, Accepted, StageGot, StageGone, FileGone}
+use Rattle.nqs_types.specs.declared.change.Change.TheVariants.{Site, Ended, Edited, HandCommitted, HandRefused, HandsSilent, Accepted, StageGot, StageGone}
+use Rattle.nqs_types.specs.declared.change.Change.TheVariants.{FileGone}
 use Rattle.nqs_rules.specs.Tests.{same_host, last_u64}
 use Rattle.nqs_rules.specs.Find.{peer_number, has_row, find_hand, find_promise, find_peer, meant_request}
 use Rattle.nqs_rules.specs.Edits.{drop_row, change_peer}
@@ -37,7 +39,8 @@ use Rattle.nqs_rules.specs.Devices.{devices_applied}
 use Rattle.nqs_rules.specs.Rows.{rows_applied, change_meant, next_arrival, held_row, released_row, moved_row, with_priority}
 use Rattle.nqs_rules.specs.Sane.{is_short_script}
 use Rattle.nqs_rules.specs.Stepped.{stored_parts, part_bytes}
-use Rattle.nqs_rules.specs.Applied.{applied, edit_applied, access_applied, stage_counted, add_file, add_stage_to, add_output, add_outputs, hand_committed, hand_refused, hand_silent, hands_silent, drop_promise, add_promised, accepted, requeued_row}
+use Rattle.nqs_rules.specs.Applied.{applied, edit_applied, access_applied, stage_counted, add_file, add_stage_to, add_output, add_outputs, hand_committed}
+use Rattle.nqs_rules.specs.Applied.{hand_refused, hand_silent, hands_silent, drop_promise, add_promised, accepted, requeued_row}
 use Rattle.nqs_rules.specs.Fits.{fits}
 use Rattle.nqs_rules.proofs.KeyFacts.{all-added}
 use Rattle.nqs_rules.proofs.Sublists.{part_all, without_part}
@@ -138,7 +141,8 @@ head_of s u e = λ j. ((e j).0, (e j).1)
 
 pub head_kept : (c : Change (List ℕ)) (s : Plain) → fits c s ≡ true → head (applied c s) ≡ head s
 head_kept (Ended id parts) s fit = outputs_keep head (λ u fs n. refl) (λ u ts ps. refl) id parts (drop_row id s)
-head_kept (StageGot peer number path bytes) s fit = file_keeps head (λ u fs n. refl) (λ u ts ps. refl) (record { path = path; bytes = bytes }) (change_peer peer (λ p. record p { stage_got = number }) s)
+head_kept (StageGot peer number path bytes) s fit = file_keeps head (λ u fs n. refl) (λ u ts ps. refl) (record { path = path; bytes = bytes })
+    (change_peer peer (λ p. record p { stage_got = number }) s)
 head_kept (StageGone peer number) s fit = refl
 head_kept (FileGone file) s fit = refl
 head_kept c s fit = head_of s (applied c s) (sides_kept c s fit tt)
@@ -152,15 +156,21 @@ pub record AreShort (s : Plain) : Type 0 where
 file_short : (part : OutPart (List ℕ)) (s : Plain) → is_short_script part.bytes ≡ true → AreShort s → AreShort (add_file part s)
 file_short part s short h = by (nat_lt s.file_next last_u64)
   where
-    by : (b : Bool) → AreShort (if b then record s { files = s.files ++ record { number = s.file_next; path = part.path; bytes = part.bytes } ∷ []; file_next = s.file_next + 1 } else s)
+    by : (b : Bool) → AreShort (if b then record s {
+      files = s.files ++ record { number = s.file_next; path = part.path; bytes = part.bytes } ∷ [];
+      file_next =
+          s.file_next + 1;
+    } else s)
     by true = record { stages = h.stages; files = all-added (λ (f : FileOut (List ℕ)). nat_le (length f.bytes) 32768) s.files _ h.files short }
     by false = h
 
-stage_short : (host : HostId) (part : OutPart (List ℕ)) (s : Plain) (o : Option Peer) → is_short_script part.bytes ≡ true → AreShort s → AreShort (add_stage_to host part o s)
+stage_short : (host : HostId) (part : OutPart (List ℕ)) (s : Plain) (o : Option Peer) → is_short_script part.bytes ≡ true → AreShort s
+    → AreShort (add_stage_to host part o s)
 stage_short host part s None short h = h
 stage_short host part s (Some p) short h = by (nat_lt p.stage_next last_u64)
   where
-    by : (b : Bool) → AreShort (if b then record (change_peer host stage_counted s) { stages = s.stages ++ record { peer = host; number = p.stage_next; path = part.path; bytes = part.bytes } ∷ [] } else s)
+    by : (b : Bool) → AreShort (if b then record (change_peer host stage_counted s)
+        { stages = s.stages ++ record { peer = host; number = p.stage_next; path = part.path; bytes = part.bytes } ∷ [] } else s)
     by true = record { stages = all-added (λ (t : Stage (List ℕ)). nat_le (length t.bytes) 32768) s.stages _ h.stages short; files = h.files }
     by false = h
 
@@ -171,9 +181,11 @@ output_short id part s short h = by (same_host s.me id.host)
     by true = file_short part s short h
     by false = stage_short id.host part s (find_peer id.host s) short h
 
-outputs_short : (id : RequestId) (parts : List (OutPart (List ℕ))) (s : Plain) → list_all is_short_script (map part_bytes parts) ≡ true → AreShort s → AreShort (add_outputs id parts s)
+outputs_short : (id : RequestId) (parts : List (OutPart (List ℕ))) (s : Plain) → list_all is_short_script (map part_bytes parts) ≡ true → AreShort s
+    → AreShort (add_outputs id parts s)
 outputs_short id [] s short h = h
-outputs_short id (part ∷ parts) s short h = let p = and_parts (is_short_script part.bytes) (list_all is_short_script (map part_bytes parts)) short in outputs_short id parts (add_output id part s) p.1 (output_short id part s p.0 h)
+outputs_short id (part ∷ parts) s short h = let p = and_parts (is_short_script part.bytes) (list_all is_short_script (map part_bytes parts)) short in
+    outputs_short id parts (add_output id part s) p.1 (output_short id part s p.0 h)
 
 same_short : (s u : Plain) → sides u ≡ sides s → AreShort s → AreShort u
 same_short s u e h = record {
@@ -184,7 +196,16 @@ same_short s u e h = record {
 pub short_kept : (c : Change (List ℕ)) (s : Plain) → fits c s ≡ true → list_all is_short_script (stored_parts c) ≡ true → AreShort s → AreShort (applied c s)
 short_kept (Ended id parts) s fit short h = outputs_short id parts (drop_row id s) short (record { stages = h.stages; files = h.files })
 short_kept (StageGot peer number path bytes) s fit short h =
-    file_short (record { path = path; bytes = bytes }) (change_peer peer (λ p. record p { stage_got = number }) s) (and_parts (is_short_script bytes) true short).0 (record { stages = h.stages; files = h.files })
-short_kept (StageGone peer number) s fit short h = record { stages = part_all (λ (t : Stage (List ℕ)). nat_le (length t.bytes) 32768) (without_part (is_stage (peer_number peer number)) s.stages) h.stages; files = h.files }
-short_kept (FileGone file) s fit short h = record { stages = h.stages; files = part_all (λ (f : FileOut (List ℕ)). nat_le (length f.bytes) 32768) (without_part (is_file file) s.files) h.files }
+    file_short (record { path = path; bytes = bytes }) (change_peer peer (λ p. record p { stage_got = number }) s)
+    (and_parts (is_short_script bytes) true short).0 (record { stages = h.stages; files = h.files })
+short_kept (StageGone peer number) s fit short h = record {
+  stages = part_all (λ (t : Stage (List ℕ)). nat_le (length t.bytes) 32768)
+      (without_part (is_stage (peer_number peer number)) s.stages) h.stages;
+  files = h.files;
+}
+short_kept (FileGone file) s fit short h = record {
+  stages = h.stages;
+  files =
+      part_all (λ (f : FileOut (List ℕ)). nat_le (length f.bytes) 32768) (without_part (is_file file) s.files) h.files;
+}
 short_kept c s fit short h = same_short s (applied c s) (sides_kept c s fit tt) h

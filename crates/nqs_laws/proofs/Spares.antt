@@ -1,5 +1,6 @@
 -- A change makes no row appear but a submitted or an accepted one, and spares a row that is on its way.
-use Rattle.std.proofs.Common.{◌≡◌, ℕ, ◌+◌, ◌⊎◌, inl, inr, Bool, true, false, not, ◌&&◌, ◌||◌, nat_lt, List, [], ◌∷◌, Option, None, Some, true≢false, refl, sym, ap, ◌∙◌, if◌then◌else◌}
+use Rattle.std.proofs.Common.{◌≡◌, ℕ, ◌+◌, ◌⊎◌, inl, inr, Bool, true, false, not, ◌&&◌, ◌||◌, nat_lt, List, [], ◌∷◌, Option, None, Some, true≢false, refl, sym}
+use Rattle.std.proofs.Common.{ap, ◌∙◌, if◌then◌else◌}
 use Rattle.std.proofs.lemmas.Bool.{and_parts, false_from_ne_true}
 use Rattle.std.proofs.lemmas.Option.{same_Some}
 use Rattle.std.specs.List.{list_any}
@@ -19,12 +20,16 @@ use Rattle.nqs_types.specs.declared.edit.RowsEdit.TheVariants.{AbortQueue, HoldR
 use Rattle.nqs_types.specs.declared.edit.Edit.{Edit}
 use Rattle.nqs_types.specs.declared.edit.Edit.TheVariants.{Conf, Limits as LimitsOf, Access as AccessOf, Devices as DevicesOf, Rows as RowsOf}
 use Rattle.nqs_types.specs.declared.change.Change.{Change}
-use Rattle.nqs_types.specs.declared.change.Change.TheVariants.{Site, Submitted, Deleted, Doomed, Started, Ended, Unlaunched, Boot, Edited, HandOpened, HandCommitted, HandRefused, HandsSilent, HandDone, Promised, Accepted, Dropped, MovedLocal, RefusedLocal, HeldFar, StageGot, StageGone, FileGone}
+use Rattle.nqs_types.specs.declared.change.Change.TheVariants.{Site, Submitted, Deleted, Doomed, Started, Ended, Unlaunched, Boot, Edited, HandOpened}
+use Rattle.nqs_types.specs.declared.change.Change.TheVariants.{HandCommitted, HandRefused, HandsSilent, HandDone, Promised, Accepted, Dropped, MovedLocal}
+use Rattle.nqs_types.specs.declared.change.Change.TheVariants.{RefusedLocal, HeldFar, StageGot, StageGone, FileGone}
 use Rattle.nqs_rules.specs.Tests.{passes, is_ready, is_routing, is_running, is_queued, is_unheld}
 use Rattle.nqs_rules.specs.Find.{has_queue, find_row, find_hand, find_promise, find_peer, meant_request, meant_row, row_of}
 use Rattle.nqs_rules.specs.Causes.{Cause}
-use Rattle.nqs_rules.specs.Rows.{named_causes, idle_causes, hold_causes, release_causes, move_causes, arrivals_used, held_row, released_row, moved_row, with_priority}
-use Rattle.nqs_rules.specs.Applied.{next_id, may_start_again, lost_row, doomed_row, started_row, routing_row, requeued_row, moved_local, local_refused, held_far, hand_silent}
+use Rattle.nqs_rules.specs.Rows.{named_causes, idle_causes, hold_causes, release_causes, move_causes, arrivals_used, held_row, released_row, moved_row}
+use Rattle.nqs_rules.specs.Rows.{with_priority}
+use Rattle.nqs_rules.specs.Applied.{next_id, may_start_again, lost_row, doomed_row, started_row, routing_row, requeued_row, moved_local, local_refused}
+use Rattle.nqs_rules.specs.Applied.{held_far, hand_silent}
 use Rattle.nqs_rules.specs.Fits.{fits, edit_fits, row_passes, runs, may_hop, is_next, device_fits}
 use Rattle.nqs_rules.specs.Routing.{is_hand_to}
 use Rattle.nqs_rules.specs.InOrder.{IsInOrder, IsConsistent, is_hold_right}
@@ -35,7 +40,8 @@ use Rattle.nqs_rules.proofs.RowChanges.{routing_is, running_is, ready_queued}
 use Rattle.nqs_rules.proofs.RowKinds.{found_row}
 use Rattle.nqs_rules.proofs.EditOrder.{may_move}
 use Rattle.nqs_laws.proofs.RowTests.{PlainRow}
-use Rattle.nqs_laws.proofs.After.{Request, without_at, changed_at, meant_after, edit_after, committed_after, back_row, refused_after, silent_after, silents_after, accepted_after, submitted_row, after}
+use Rattle.nqs_laws.proofs.After.{Request, without_at, changed_at, meant_after, edit_after, committed_after, back_row, refused_after, silent_after}
+use Rattle.nqs_laws.proofs.After.{silents_after, accepted_after, submitted_row, after}
 
 -- the request that a change brings in
 abbrev pub IsNew : Change (List ℕ) → Plain → Request → Type 0
@@ -77,9 +83,11 @@ silents_none : (until : ℕ) (ks : List PeerNumber) (s : Plain) (x : Request) �
 silents_none until [] s x = refl
 silents_none until (k ∷ ks) s x = of (find_hand k.peer k.number s) (silents_none until ks)
   where
-    of : (o : Option Hand) → ((t : Plain) (y : Request) → silents_after until ks t y None ≡ None) → silents_after until ks (hand_silent until k o s) x (silent_after o x None) ≡ None
+    of : (o : Option Hand) → ((t : Plain) (y : Request) → silents_after until ks t y None ≡ None)
+        → silents_after until ks (hand_silent until k o s) x (silent_after o x None) ≡ None
     of None rest = rest s x
-    of (Some y) rest = ap (silents_after until ks (hand_silent until k (Some y) s) x) (changed_none y.id requeued_row x) ∙ rest (hand_silent until k (Some y) s) x
+    of (Some y) rest = ap (silents_after until ks (hand_silent until k (Some y) s) x) (changed_none y.id requeued_row x)
+        ∙ rest (hand_silent until k (Some y) s) x
 
 -- no other row appears
 pub grows : (c : Change (List ℕ)) (s : Plain) (x : Request) → (after c s x None ≡ None) ⊎ IsNew c s x
@@ -109,11 +117,13 @@ grows (HandRefused peer number refusal) s x = inl (of (find_hand peer number s))
 grows (HandsSilent until ks) s x = inl (silents_none until ks s x)
 grows (Accepted peer number) s x = of (find_promise peer number s) refl
   where
-    of : (o : Option (Promise (List ℕ))) → find_promise peer number s ≡ o → (accepted_after o x None ≡ None) ⊎ ((p : Promise (List ℕ)) × (find_promise peer number s ≡ Some p) × (x ≡ p.row.id))
+    of : (o : Option (Promise (List ℕ))) → find_promise peer number s ≡ o
+        → (accepted_after o x None ≡ None) ⊎ ((p : Promise (List ℕ)) × (find_promise peer number s ≡ Some p) × (x ≡ p.row.id))
     of None e = inl refl
     of (Some p) e = by (id_eq x p.row.id) refl
       where
-        by : (b : Bool) → id_eq x p.row.id ≡ b → ((if b then Some (requeued_row p.row) else None) ≡ None) ⊎ ((q : Promise (List ℕ)) × (find_promise peer number s ≡ Some q) × (x ≡ q.row.id))
+        by : (b : Bool) → id_eq x p.row.id ≡ b → ((if b then Some (requeued_row p.row) else None) ≡ None)
+            ⊎ ((q : Promise (List ℕ)) × (find_promise peer number s ≡ Some q) × (x ≡ q.row.id))
         by true f = inr (p, e, id_exact x p.row.id f)
         by false f = inl refl
 grows (MovedLocal id queue) s x = inl (changed_none id (moved_local queue (s.arrivals + 1)) x)
@@ -154,14 +164,16 @@ named s id causes fit = of (meant_request id s) refl fit
     of None meant fit = absurd (true≢false (sym fit))
     of (Some rid) meant fit = at rid meant (find_row rid s) refl fit
 
-module _ (s : Plain) (h : IsInOrder s) (calm : IsConsistent s) (x : Request) (r : PlainRow) (found : find_row x s ≡ Some r) (routes : is_routing r.state ≡ true) where
+module _ (s : Plain) (h : IsInOrder s) (calm : IsConsistent s) (x : Request) (r : PlainRow) (found : find_row x s ≡ Some r)
+    (routes : is_routing r.state ≡ true) where
   -- a request whose row isn't on its way is another one
   pub differs : (id : Request) (q : PlainRow) → find_row id s ≡ Some q → is_routing q.state ≡ false → id_eq x id ≡ false
   differs id q there idle = false_from_ne_true (id_eq x id) (λ e.
       let same : r ≡ q = same_Some r q (sym found ∙ (ap (λ i. find_row i s) (id_exact x id e) ∙ there)) in
       true≢false (sym routes ∙ (ap (λ (y : PlainRow). is_routing y.state) same ∙ idle)))
 
-  passes_other : (test : PlainRow → Bool) (id : Request) → ((q : PlainRow) → test q ≡ true → is_routing q.state ≡ false) → row_passes test id s ≡ true → id_eq x id ≡ false
+  passes_other : (test : PlainRow → Bool) (id : Request) → ((q : PlainRow) → test q ≡ true → is_routing q.state ≡ false) → row_passes test id s ≡ true
+      → id_eq x id ≡ false
   passes_other test id idle fit = let q = found_row test id s fit in differs id q.0 q.1 (idle q.0 q.2)
 
   changed_other : (id : Request) (f : PlainRow → PlainRow) → id_eq x id ≡ false → changed_at id f x (Some r) ≡ Some r
@@ -176,7 +188,9 @@ module _ (s : Plain) (h : IsInOrder s) (calm : IsConsistent s) (x : Request) (r 
   ready_idle : (q : PlainRow) → is_ready q ≡ true → is_routing q.state ≡ false
   ready_idle q k = ap is_routing (ready_queued q k)
 
-  meant_other : (id : Named) (causes : PlainRow → List Cause) (f : PlainRow → PlainRow) → ((q : PlainRow) (rid : Request) → find_row rid s ≡ Some q → Allows (causes q) → is_routing q.state ≡ false) → Allows (named_causes id causes (meant_row id s)) → meant_after (meant_request id s) f x (Some r) ≡ Some r
+  meant_other : (id : Named) (causes : PlainRow → List Cause) (f : PlainRow → PlainRow)
+      → ((q : PlainRow) (rid : Request) → find_row rid s ≡ Some q → Allows (causes q) → is_routing q.state ≡ false)
+      → Allows (named_causes id causes (meant_row id s)) → meant_after (meant_request id s) f x (Some r) ≡ Some r
   meant_other id causes f idle fit =
       let k = named s id causes fit in
       ap (λ o. meant_after o f x (Some r)) k.meant ∙ changed_other k.request f (differs k.request k.row k.found (idle k.row k.request k.found k.allows))
@@ -195,11 +209,15 @@ module _ (s : Plain) (h : IsInOrder s) (calm : IsConsistent s) (x : Request) (r 
   edit_spares (LimitsOf e) fit = refl
   edit_spares (AccessOf e) fit = refl
   edit_spares (DevicesOf e) fit = refl
-  edit_spares (RowsOf (AbortQueue q)) fit = ap (λ b. Some (if b && name_eq q r.queue then record r { doomed = true } else r)) (ap is_running (routing_is r.state routes))
+  edit_spares (RowsOf (AbortQueue q)) fit = ap (λ b. Some (if b && name_eq q r.queue then record r { doomed = true } else r))
+      (ap is_running (routing_is r.state routes))
   edit_spares (RowsOf (HoldRequest id)) fit = meant_other id (hold_causes id) held_row (λ q rid there allows. (none_holds (hold_causes id q) allows).0) fit
-  edit_spares (RowsOf (ReleaseRequest id)) fit = meant_other id (release_causes id) released_row (λ q rid there allows. held_idle q rid there (none_holds (release_causes id q) allows).0) fit
-  edit_spares (RowsOf (MoveRequest id q)) fit = meant_other id (move_causes id q s) (moved_row q (s.arrivals + 1)) (λ y rid there allows. ap is_routing (may_move s id q y allows).1) fit
-  edit_spares (RowsOf (ModifyRequest id n)) fit = meant_other id (idle_causes id) (with_priority n) (λ q rid there allows. (none_holds (idle_causes id q) allows).0) fit
+  edit_spares (RowsOf (ReleaseRequest id)) fit = meant_other id (release_causes id) released_row
+      (λ q rid there allows. held_idle q rid there (none_holds (release_causes id q) allows).0) fit
+  edit_spares (RowsOf (MoveRequest id q)) fit = meant_other id (move_causes id q s) (moved_row q (s.arrivals + 1))
+      (λ y rid there allows. ap is_routing (may_move s id q y allows).1) fit
+  edit_spares (RowsOf (ModifyRequest id n)) fit = meant_other id (idle_causes id) (with_priority n)
+      (λ q rid there allows. (none_holds (idle_causes id q) allows).0) fit
 
   -- a row on its way stays
   pub spares : (c : Change (List ℕ)) → fits c s ≡ true → IsPlain c → after c s x (Some r) ≡ Some r
@@ -207,13 +225,15 @@ module _ (s : Plain) (h : IsInOrder s) (calm : IsConsistent s) (x : Request) (r 
   spares (Submitted queue job script) fit plain = refl
   spares (Deleted id) fit plain = absurd plain
   spares (Doomed id) fit plain = changed_other id doomed_row (passes_other runs id runs_idle fit)
-  spares (Started id device) fit plain = changed_other id (started_row device) (passes_other is_ready id ready_idle (and_parts (row_passes is_ready id s) (device_fits device s) fit).0)
+  spares (Started id device) fit plain = changed_other id (started_row device)
+      (passes_other is_ready id ready_idle (and_parts (row_passes is_ready id s) (device_fits device s) fit).0)
   spares (Ended id parts) fit plain = without_other id (passes_other runs id runs_idle fit)
   spares (Unlaunched id) fit plain = without_other id (passes_other runs id runs_idle fit)
   spares Boot fit plain = ap (λ b. if b then (if may_start_again r then Some (lost_row r) else None) else Some r) (ap is_running (routing_is r.state routes))
   spares (Edited e) fit plain = edit_spares e fit
   spares (HandOpened peer number id queue since) fit plain =
-      changed_other id routing_row (passes_other may_hop id (λ q k. ready_idle q (and_parts (is_ready q) (nat_lt q.hops 32) k).0) (each (row_passes (may_hop {E = List ℕ}) id s) (passes (is_next number) (find_peer peer s) ∷ not (list_any (is_hand_to peer) s.hands) ∷ []) fit).0)
+      changed_other id routing_row (passes_other may_hop id (λ q k. ready_idle q (and_parts (is_ready q) (nat_lt q.hops 32) k).0)
+      (each (row_passes (may_hop {E = List ℕ}) id s) (passes (is_next number) (find_peer peer s) ∷ not (list_any (is_hand_to peer) s.hands) ∷ []) fit).0)
   spares (HandCommitted peer number) fit plain = absurd plain
   spares (HandRefused peer number refusal) fit plain = absurd plain
   spares (HandsSilent until ks) fit plain = absurd plain
@@ -226,7 +246,8 @@ module _ (s : Plain) (h : IsInOrder s) (calm : IsConsistent s) (x : Request) (r 
       of (Some p) = refl
   spares (Dropped peer number) fit plain = refl
   spares (MovedLocal id queue) fit plain =
-      changed_other id (moved_local queue (s.arrivals + 1)) (passes_other may_hop id (λ q k. ready_idle q (and_parts (is_ready q) (nat_lt q.hops 32) k).0) (each (row_passes (may_hop {E = List ℕ}) id s) (has_queue queue s ∷ not (arrivals_used s) ∷ []) fit).0)
+      changed_other id (moved_local queue (s.arrivals + 1)) (passes_other may_hop id (λ q k. ready_idle q (and_parts (is_ready q) (nat_lt q.hops 32) k).0)
+      (each (row_passes (may_hop {E = List ℕ}) id s) (has_queue queue s ∷ not (arrivals_used s) ∷ []) fit).0)
   spares (RefusedLocal id queue refusal) fit plain = changed_other id (local_refused queue refusal s) (passes_other is_ready id ready_idle fit)
   spares (HeldFar id) fit plain = changed_other id held_far (passes_other is_ready id ready_idle fit)
   spares (StageGot peer number path bytes) fit plain = refl

@@ -1,5 +1,6 @@
 -- Where each request lies: a table that the hosts tell, and what a change makes of it.
-use Rattle.std.proofs.Common.{◌≡◌, ℕ, ◌<◌, ◌≤◌, inl, inr, Bool, true, false, ◌&&◌, ◌==◌, List, slice_get, Option, None, Some, true≢false, refl, sym, ap, subst, ◌∙◌, arith, if◌then◌else◌}
+use Rattle.std.proofs.Common.{◌≡◌, ℕ, ◌<◌, ◌≤◌, inl, inr, Bool, true, false, ◌&&◌, ◌==◌, List, slice_get, Option, None, Some, true≢false, refl, sym, ap, subst}
+use Rattle.std.proofs.Common.{◌∙◌, arith, if◌then◌else◌}
 use Rattle.std.proofs.lemmas.Bool.{eqb-true, false_from_ne_true}
 use Rattle.std.proofs.lemmas.Option.{same_Some, none-some}
 use Rattle.nqs_types.specs.Ids.{id_eq}
@@ -9,12 +10,14 @@ use Rattle.nqs_types.specs.declared.message.Message.{Message}
 use Rattle.nqs_rules.specs.Tests.{same_host}
 use Rattle.nqs_rules.specs.Find.{find_row}
 use Rattle.nqs_rules.proofs.PeersOrder.{get-other}
+use Rattle.nqs_laws.specs.Loads.{kept_load}
 use Rattle.nqs_laws.proofs.Frame.{put_state}
 use Rattle.nqs_laws.proofs.Sound.{get-here}
 use Rattle.nqs_laws.proofs.RowTests.{PlainRow}
 use Rattle.nqs_laws.proofs.After.{Request}
-use Rattle.nqs_laws.proofs.Pair.{Offer, NoOffer, Open, Given, NoPledge, Pledged, pair, Ok, Move, Stays, Offers, Withdraws, Commits, Finishes, Pledges, Accepts, Drops, moved, May}
-use Rattle.nqs_laws.proofs.Views.{Pledging, carried_in, offered, pledge_seen, promise_of, next_of, closed_of, IsSource, IsTarget, host_exact, host_same, host_other}
+use Rattle.nqs_laws.proofs.Pair.{Offer, NoOffer, Open, Given, NoPledge, Pledged, pair, Ok, Move, Stays, Offers, Withdraws, Commits, Finishes, Pledges, Accepts}
+use Rattle.nqs_laws.proofs.Pair.{Drops, moved, May}
+use Rattle.nqs_laws.proofs.Views.{Pledging, offered, pledge_seen, promise_of, next_of, closed_of, IsSource, IsTarget, host_exact, host_same, host_other}
 use Rattle.nqs_laws.proofs.Paired.{At, IsPaired, Turn, Guards, Was, was, PairTurn, pair_turn}
 
 -- where a request is: as a row of a host, or as a promise of a host to another that has committed it
@@ -37,8 +40,8 @@ claim_in a b (Arrives c d r) = if same_host a c && same_host b d then Some r els
 abbrev pub claim : Offer → Option Pledging → Request → Option PlainRow
 claim NoOffer p x = None
 claim (Open n load) p x = None
-claim (Given n) None x = None
-claim (Given n) (Some p) x = if p.number == n then (if id_eq x p.row.id then Some p.row else None) else None
+claim (Given n id queue) None x = None
+claim (Given n id queue) (Some p) x = if p.number == n then (if id_eq x p.row.id then Some p.row else None) else None
 
 abbrev pub IsPlaced : List Plain → Place → Type 0
 IsPlaced states Nowhere = Unit {0}
@@ -57,15 +60,18 @@ pub record IsTabled (states : List Plain) (table : Table) : Type 0 where
 
 -- claims by moves
 
-no_number : (n k : ℕ) (p : Pledging) (x : Request) → (p.number ≡ k → ⊥) → claim (Given k) (Some p) x ≡ None
-no_number n k p x other = ap (λ b. if b then (if id_eq x p.row.id then Some p.row else None) else None) (false_from_ne_true (p.number == k) (λ e. other (eqb-true p.number k e)))
+no_number : (n k : ℕ) (p : Pledging) (x : Request) → (p.number ≡ k → ⊥) → (if p.number == k then (if id_eq x p.row.id then Some p.row else None) else None)
+    ≡ None
+no_number n k p x other = ap (λ b. if b then (if id_eq x p.row.id then Some p.row else None) else None)
+    (false_from_ne_true (p.number == k) (λ e. other (eqb-true p.number k e)))
 
 abbrev pub IsHeldMove : Move → Type 0
 IsHeldMove Commits = ⊥
 IsHeldMove Accepts = ⊥
 IsHeldMove m = Unit {0}
 
-source_claim : (o o' : Offer) (q : Option Pledging) (next closed : ℕ) (m : Move) → IsSource m → IsHeldMove m → Ok (pair o (pledge_seen q) next closed) → May (pair o (pledge_seen q) next closed) m
+source_claim : (o o' : Offer) (q : Option Pledging) (next closed : ℕ) (m : Move) → IsSource m → IsHeldMove m → Ok (pair o (pledge_seen q) next closed)
+    → May (pair o (pledge_seen q) next closed) m
     → o' ≡ (moved (pair o NoPledge next 0) m).offer → (x : Request) → claim o' q x ≡ claim o q x
 source_claim o o' q next closed Stays is held ok may e x = ap (λ y. claim y q x) e
 source_claim o o' q next closed (Offers load) is held ok may e x = ap (λ y. claim y q x) e ∙ by o may
@@ -73,49 +79,52 @@ source_claim o o' q next closed (Offers load) is held ok may e x = ap (λ y. cla
     by : (o : Offer) → May (pair o (pledge_seen q) next closed) (Offers load) → None ≡ claim o q x
     by NoOffer may = refl
     by (Open n l) may = absurd may
-    by (Given n) may = absurd may
+    by (Given n id queue) may = absurd may
 source_claim o o' q next closed Withdraws is held ok may e x = ap (λ y. claim y q x) e ∙ by o may
   where
     by : (o : Offer) → May (pair o (pledge_seen q) next closed) Withdraws → None ≡ claim o q x
     by NoOffer may = refl
     by (Open n l) may = refl
-    by (Given n) may = absurd may
+    by (Given n id queue) may = absurd may
 source_claim o o' q next closed Finishes is held ok may e x = ap (λ y. claim y q x) e ∙ by o q ok may
   where
     by : (o : Offer) (q : Option Pledging) → Ok (pair o (pledge_seen q) next closed) → May (pair o (pledge_seen q) next closed) Finishes → None ≡ claim o q x
     by NoOffer q ok may = absurd may
     by (Open n l) q ok may = absurd may
-    by (Given n) None ok may = refl
-    by (Given n) (Some p) ok may = sym (no_number 0 n p x (λ e. let f = ok.pledge in absurd (omega arith)))
+    by (Given n id queue) None ok may = refl
+    by (Given n id queue) (Some p) ok may = sym (no_number 0 n p x (λ e. let f = ok.pledge in absurd (omega arith)))
 source_claim o o' q next closed Commits is held ok may e x = absurd held
 source_claim o o' q next closed (Pledges n load) is held ok may e x = absurd is
 source_claim o o' q next closed Accepts is held ok may e x = absurd is
 source_claim o o' q next closed Drops is held ok may e x = absurd is
 
-target_claim : (o : Offer) (q q' : Option Pledging) (next closed : ℕ) (m : Move) → IsTarget m → IsHeldMove m → Ok (pair o (pledge_seen q) next closed) → May (pair o (pledge_seen q) next closed) m
+target_claim : (o : Offer) (q q' : Option Pledging) (next closed : ℕ) (m : Move) → IsTarget m → IsHeldMove m → Ok (pair o (pledge_seen q) next closed)
+    → May (pair o (pledge_seen q) next closed) m
     → pledge_seen q' ≡ (moved (pair NoOffer (pledge_seen q) 0 closed) m).pledge → (m ≡ Stays → q' ≡ q) → (x : Request) → claim o q' x ≡ claim o q x
 target_claim o q q' next closed Stays is held ok may e same x = ap (λ y. claim o y x) (same refl)
 target_claim o q q' next closed (Pledges n load) is held ok may e same x = by o q q' ok may e
   where
-    numbered : (p : Pledging) → Pledged p.number (carried_in p.row) ≡ Pledged n load → p.number ≡ n
+    numbered : (p : Pledging) → Pledged p.number (kept_load p.row) ≡ Pledged n load → p.number ≡ n
     numbered p e = cc
 
-    by : (o : Offer) (q q' : Option Pledging) → Ok (pair o (pledge_seen q) next closed) → May (pair o (pledge_seen q) next closed) (Pledges n load) → pledge_seen q' ≡ Pledged n load → claim o q' x ≡ claim o q x
+    by : (o : Offer) (q q' : Option Pledging) → Ok (pair o (pledge_seen q) next closed) → May (pair o (pledge_seen q) next closed) (Pledges n load)
+        → pledge_seen q' ≡ Pledged n load → claim o q' x ≡ claim o q x
     by NoOffer q q' ok may e = refl
     by (Open k l) q q' ok may e = refl
-    by (Given k) q None ok may e = absurd (let no : ⊥ = cc in no)
-    by (Given k) None (Some p) ok may e = no_number 0 k p x (λ f. let g = numbered p e in let h = ok.offer in absurd (omega arith))
-    by (Given k) (Some old) (Some p) ok may e =
+    by (Given k id queue) q None ok may e = absurd (let no : ⊥ = cc in no)
+    by (Given k id queue) None (Some p) ok may e = no_number 0 k p x (λ f. let g = numbered p e in let h = ok.offer in absurd (omega arith))
+    by (Given k id queue) (Some old) (Some p) ok may e =
         no_number 0 k p x (λ f. may.2 (let g = numbered p e in let h = ok.offer in let i = ok.pledge in omega arith))
         ∙ sym (no_number 0 k old x (λ f. may.2 (let h = ok.offer in let i = ok.pledge in omega arith)))
 target_claim o q q' next closed Drops is held ok may e same x = by o q q' ok may e
   where
-    by : (o : Offer) (q q' : Option Pledging) → Ok (pair o (pledge_seen q) next closed) → May (pair o (pledge_seen q) next closed) Drops → pledge_seen q' ≡ NoPledge → claim o q' x ≡ claim o q x
+    by : (o : Offer) (q q' : Option Pledging) → Ok (pair o (pledge_seen q) next closed) → May (pair o (pledge_seen q) next closed) Drops
+        → pledge_seen q' ≡ NoPledge → claim o q' x ≡ claim o q x
     by NoOffer q q' ok may e = refl
     by (Open k l) q q' ok may e = refl
-    by (Given k) q (Some p) ok may e = absurd (let no : ⊥ = cc in no)
-    by (Given k) None None ok may e = refl
-    by (Given k) (Some p) None ok may e = sym (no_number 0 k p x (λ f. may (sym f)))
+    by (Given k id queue) q (Some p) ok may e = absurd (let no : ⊥ = cc in no)
+    by (Given k id queue) None None ok may e = refl
+    by (Given k id queue) (Some p) None ok may e = sym (no_number 0 k p x (λ f. may (sym f)))
 target_claim o q q' next closed Accepts is held ok may e same x = absurd held
 target_claim o q q' next closed (Offers load) is held ok may e same x = absurd is
 target_claim o q q' next closed Withdraws is held ok may e same x = absurd is
@@ -163,36 +172,46 @@ updated h o (Sits g r) = if same_host g h then placed_at h o else Sits g r
 updated h o (Arrives a b r) = Arrives a b r
 
 -- a change that moves no request from host to host
-module _ (states : List Plain) (packets : List Message) (paired : IsPaired states packets) (h : HostId) (s s' : Plain) (there : At states h s) (to from : HostId → Move) (turn : Turn s s' to from) (guards : Guards states h s to from) where
+module _ (states : List Plain) (packets : List Message) (paired : IsPaired states packets) (h : HostId) (s s' : Plain) (there : At states h s)
+    (to from : HostId → Move) (turn : Turn s s' to from) (guards : Guards states h s to from) where
   -- the claim of a pair stays, but where a hand is committed or a promise accepted
-  pub claim_stays : (a b : HostId) (u' v' : Plain) (x : Was states packets h s s' there to from turn a u') (y : Was states packets h s s' there to from turn b v') → IsHeldMove (if same_host a h then to b else Stays) → IsHeldMove (if same_host b h then from a else Stays)
+  pub claim_stays : (a b : HostId) (u' v' : Plain) (x : Was states packets h s s' there to from turn a u')
+      (y : Was states packets h s s' there to from turn b v') → IsHeldMove (if same_host a h then to b else Stays)
+      → IsHeldMove (if same_host b h then from a else Stays)
       → (r : Request) → claim (offered u' b) (promise_of a v') r ≡ claim (offered x.state b) (promise_of a y.state) r
   claim_stays a b u' v' x y held_to held_from r = by (pair_turn states packets h s s' there to from turn guards a b u' v' x y)
     where
-      by : PairTurn states packets h s s' there to from turn guards a b u' v' x y → claim (offered u' b) (promise_of a v') r ≡ claim (offered x.state b) (promise_of a y.state) r
+      by : PairTurn states packets h s s' there to from turn guards a b u' v' x y
+          → claim (offered u' b) (promise_of a v') r ≡ claim (offered x.state b) (promise_of a y.state) r
       by (inl (m, source, same, may, is)) =
           ap (λ q. claim (offered u' b) q r) same
-          ∙ source_claim (offered x.state b) (offered u' b) (promise_of a y.state) (next_of b x.state) (closed_of a y.state) m source.is (subst IsHeldMove (sym is) held_to) (paired.pairs a b x.state y.state x.at y.at) may
+          ∙ source_claim (offered x.state b) (offered u' b) (promise_of a y.state) (next_of b x.state) (closed_of a y.state) m source.is
+          (subst IsHeldMove (sym is) held_to) (paired.pairs a b x.state y.state x.at y.at) may
           (source.offer ∙ next_free m source.is) r
         where
-          next_free : (m : Move) → IsSource m → (moved (pair (offered x.state b) NoPledge (next_of b x.state) 0) m).offer ≡ (moved (pair (offered x.state b) NoPledge (next_of b x.state) 0) m).offer
+          next_free : (m : Move) → IsSource m → (moved (pair (offered x.state b) NoPledge (next_of b x.state) 0) m).offer
+              ≡ (moved (pair (offered x.state b) NoPledge (next_of b x.state) 0) m).offer
           next_free m is = refl
       by (inr (m, same, target, may, is)) =
           ap (λ o. claim o (promise_of a v') r) same
-          ∙ target_claim (offered x.state b) (promise_of a y.state) (promise_of a v') (next_of b x.state) (closed_of a y.state) m target.is (subst IsHeldMove (sym is) held_from) (paired.pairs a b x.state y.state x.at y.at) may target.pledge target.stays r
+          ∙ target_claim (offered x.state b) (promise_of a y.state) (promise_of a v') (next_of b x.state) (closed_of a y.state) m target.is
+          (subst IsHeldMove (sym is) held_from) (paired.pairs a b x.state y.state x.at y.at) may target.pledge target.stays r
 
   module _ (table : Table) (told : IsTabled states table) (seq : s.seq ≤ s'.seq) where
     -- the last number that a host has given
-    pub given_before : (x : Request) (u' : Plain) (w : Was states packets h s s' there to from turn x.host u') → At (put_state h s' states) x.host u' → u'.seq < x.seq → table x ≡ Nowhere
+    pub given_before : (x : Request) (u' : Plain) (w : Was states packets h s s' there to from turn x.host u') → At (put_state h s' states) x.host u'
+        → u'.seq < x.seq → table x ≡ Nowhere
     given_before x u' w at below = by (same_host x.host h) refl
       where
         by : (c : Bool) → same_host x.host h ≡ c → table x ≡ Nowhere
         by true e =
             let here : x.host ≡ h = host_exact x.host h e in
-            let same : s' ≡ u' = same_Some s' u' (sym (get-here h.0 s' s states there) ∙ (ap (λ (i : HostId). slice_get (put_state h s' states) i.0) (sym here) ∙ at)) in
+            let same : s' ≡ u' = same_Some s' u' (sym (get-here h.0 s' s states there)
+            ∙ (ap (λ (i : HostId). slice_get (put_state h s' states) i.0) (sym here) ∙ at)) in
             let more : s'.seq ≡ u'.seq = ap (λ (v : Plain). v.seq) same in
             told.given x s (ap (λ (i : HostId). slice_get states i.0) here ∙ there) (omega (arith, seq, below, more))
-        by false e = told.given x u' (sym (get-other h.0 x.host.0 (λ _. s') states (λ same. true≢false (sym (ap (λ n. n == h.0) (sym same) ∙ host_same h) ∙ e))) ∙ at) below
+        by false e = told.given x u' (sym (get-other h.0 x.host.0 (λ _. s') states (λ same. true≢false (sym (ap (λ n. n == h.0) (sym same) ∙ host_same h) ∙ e)))
+            ∙ at) below
 
     pub still_placed : (t : Place) → IsPlaced states t → IsPlaced (put_state h s' states) t
     still_placed Nowhere p = tt
@@ -215,10 +234,12 @@ module _ (states : List Plain) (packets : List Message) (paired : IsPaired state
 
     -- rows of other hosts
     pub row_before : (g : HostId) (u' : Plain) → At (put_state h s' states) g u' → same_host g h ≡ false → (x : Request) → find_row x u' ≡ row_in g (table x)
-    row_before g u' at e x = told.rows g u' (sym (get-other h.0 g.0 (λ _. s') states (λ same. true≢false (sym (ap (λ n. n == h.0) (sym same) ∙ host_same h) ∙ e))) ∙ at) x
+    row_before g u' at e x = told.rows g u' (sym (get-other h.0 g.0 (λ _. s') states
+        (λ same. true≢false (sym (ap (λ n. n == h.0) (sym same) ∙ host_same h) ∙ e))) ∙ at) x
 
     pub state_here : (g : HostId) (u' : Plain) → At (put_state h s' states) g u' → same_host g h ≡ true → s' ≡ u'
-    state_here g u' at e = same_Some s' u' (sym (get-here h.0 s' s states there) ∙ (ap (λ (i : HostId). slice_get (put_state h s' states) i.0) (sym (host_exact g h e)) ∙ at))
+    state_here g u' at e = same_Some s' u' (sym (get-here h.0 s' s states there)
+        ∙ (ap (λ (i : HostId). slice_get (put_state h s' states) i.0) (sym (host_exact g h e)) ∙ at))
 
     -- the table after a change of rows of one host
     module _ (held_to : (b : HostId) → IsHeldMove (to b)) (held_from : (a : HostId) → IsHeldMove (from a))
@@ -307,8 +328,10 @@ module _ (states : List Plain) (packets : List Message) (paired : IsPaired state
         placed = λ x. place_after x (table x) (told.placed x);
       }
         where
-          row : (g : HostId) (u' : Plain) → At (put_state h s' states) g u' → (x : Request) (c : Bool) → same_host g h ≡ c → find_row x u' ≡ row_in g (updated h (find_row x s') (table x))
+          row : (g : HostId) (u' : Plain) → At (put_state h s' states) g u' → (x : Request) (c : Bool) → same_host g h ≡ c
+              → find_row x u' ≡ row_in g (updated h (find_row x s') (table x))
           row g u' at x true e =
               let is : s' ≡ u' = state_here g u' at e in
-              subst (λ v. find_row x v ≡ row_in g (updated h (find_row x s') (table x))) is (subst (λ i. find_row x s' ≡ row_in i (updated h (find_row x s') (table x))) (sym (host_exact g h e)) (here x (table x) refl))
+              subst (λ v. find_row x v ≡ row_in g (updated h (find_row x s') (table x))) is
+              (subst (λ i. find_row x s' ≡ row_in i (updated h (find_row x s') (table x))) (sym (host_exact g h e)) (here x (table x) refl))
           row g u' at x false e = row_before g u' at e x ∙ elsewhere g e (find_row x s') (table x)

@@ -1,5 +1,6 @@
 -- At every moment of a run the hosts tell one table.
-use Rattle.std.proofs.Common.{◌≡◌, ℕ, ◌+◌, ◌<◌, ◌⊎◌, inl, inr, Bool, true, false, not, List, [], ◌∷◌, map, length, slice_get, Option, None, Some, true≢false, zero, suc, refl, sym, ap, subst, ◌∙◌, arith, if◌then◌else◌}
+use Rattle.std.proofs.Common.{◌≡◌, ℕ, ◌+◌, ◌<◌, ◌⊎◌, inl, inr, Bool, true, false, not, List, [], ◌∷◌, map, length, slice_get, Option, None, Some, true≢false}
+use Rattle.std.proofs.Common.{zero, suc, refl, sym, ap, subst, ◌∙◌, arith, if◌then◌else◌}
 use Rattle.std.proofs.lemmas.Bool.{and_parts, eqb-true, not-true}
 use Rattle.std.proofs.lemmas.Option.{same_Some, none-some}
 use Rattle.nqs_types.specs.Ids.{id_eq, id_exact}
@@ -29,6 +30,7 @@ use Rattle.nqs_rules.proofs.RowsOrder.{hand_is}
 use Rattle.nqs_rules.proofs.HandoversOrder.{not_committed, offer_or_none}
 use Rattle.nqs_laws.specs.History.{history}
 use Rattle.nqs_laws.specs.Sane.{AreSane, IsSite}
+use Rattle.nqs_laws.specs.Loads.{Load, kept_load}
 use Rattle.nqs_laws.proofs.Frame.{Moment, moment, put_state, put-same, Way, change_by}
 use Rattle.nqs_laws.proofs.Sides.{head_kept}
 use Rattle.nqs_laws.proofs.Sound.{IsSound, Keeps, Suits, host_kept, runs_keep}
@@ -36,7 +38,7 @@ use Rattle.nqs_laws.proofs.RowTests.{PlainRow}
 use Rattle.nqs_laws.proofs.After.{Request}
 use Rattle.nqs_laws.proofs.Makes.{HasHand}
 use Rattle.nqs_laws.proofs.Pair.{Ok}
-use Rattle.nqs_laws.proofs.Views.{Pledging, carried_in, pair_of, offered, promise_of, next_of, closed_of, peer_field, next_field, closed_field, IsLone, hand_peer}
+use Rattle.nqs_laws.proofs.Views.{Pledging, pair_of, offered, promise_of, next_of, closed_of, peer_field, next_field, closed_field, IsLone, hand_peer}
 use Rattle.nqs_laws.proofs.Turns.{offer_at}
 use Rattle.nqs_laws.proofs.Targets.{KeptPeer, known_peer, sender_known, promise_at}
 use Rattle.nqs_laws.proofs.Paired.{At, IsPaired, GuardsOf, IsOne}
@@ -50,8 +52,10 @@ use Rattle.nqs_laws.proofs.Advance.{row_table, IsInHost, host_tabled, silent_tab
 abbrev pub StepOf : Change (List ℕ) → HostId → Plain → Request → Place → Place → Type 0
 StepOf (HandCommitted peer number) h s x t t' =
     (t' ≡ t)
-    ⊎ ((y : Hand) × (r : PlainRow) × (p : Pledging) × (find_hand peer number s ≡ Some y) × (x ≡ y.id) × (t ≡ Sits h r) × (is_routing r.state ≡ true) × (t' ≡ Arrives h peer p.row) × (carried_in p.row ≡ carried_of r) × (p.row.doomed ≡ false))
-StepOf (Accepted peer number) h s x t t' = (t' ≡ t) ⊎ ((p : Pledging) × (find_promise peer number s ≡ Some p) × (x ≡ p.row.id) × (t ≡ Arrives peer h p.row) × (t' ≡ Sits h (requeued_row p.row)))
+    ⊎ ((y : Hand) × (r : PlainRow) × (p : Pledging) × (find_hand peer number s ≡ Some y) × (x ≡ y.id) × (t ≡ Sits h r) × (is_routing r.state ≡ true)
+    × (t' ≡ Arrives h peer p.row) × ((kept_load p.row).carried ≡ carried_of r) × (p.row.doomed ≡ false))
+StepOf (Accepted peer number) h s x t t' = (t' ≡ t) ⊎ ((p : Pledging) × (find_promise peer number s ≡ Some p) × (x ≡ p.row.id) × (t ≡ Arrives peer h p.row)
+    × (t' ≡ Sits h (requeued_row p.row)))
 StepOf c h s x t t' = t' ≡ updated h (find_row x (applied c s)) t
 
 -- the table after a change
@@ -60,7 +64,8 @@ pub record Advanced (states : List Plain) (h : HostId) (s : Plain) (c : Change (
   pub told : IsTabled (put_state h (applied c s) states) then_table
   pub steps : (x : Request) → StepOf c h s x (table x) (then_table x)
 
-committed_step : (table : Table) (h : HostId) (s : Plain) (peer : HostId) (number : ℕ) (y : Hand) (r : PlainRow) (p : Pledging) → find_hand peer number s ≡ Some y → is_routing r.state ≡ true → carried_in p.row ≡ carried_of r → p.row.doomed ≡ false → table y.id ≡ Sits h r
+committed_step : (table : Table) (h : HostId) (s : Plain) (peer : HostId) (number : ℕ) (y : Hand) (r : PlainRow) (p : Pledging)
+    → find_hand peer number s ≡ Some y → is_routing r.state ≡ true → (kept_load p.row).carried ≡ carried_of r → p.row.doomed ≡ false → table y.id ≡ Sits h r
     → (x : Request) → StepOf (HandCommitted peer number) h s x (table x) (put_place y.id (Arrives h peer p.row) table x)
 committed_step table h s peer number y r p found routes carried free here x = by (id_eq x y.id) refl
   where
@@ -68,7 +73,8 @@ committed_step table h s peer number y r p found routes carried free here x = by
     by true e = inr (y, r, p, found, id_exact x y.id e, ap table (id_exact x y.id e) ∙ here, routes, refl, carried, free)
     by false e = inl refl
 
-accepted_step : (table : Table) (h : HostId) (s : Plain) (peer : HostId) (number : ℕ) (p : Pledging) → find_promise peer number s ≡ Some p → table p.row.id ≡ Arrives peer h p.row
+accepted_step : (table : Table) (h : HostId) (s : Plain) (peer : HostId) (number : ℕ) (p : Pledging) → find_promise peer number s ≡ Some p
+    → table p.row.id ≡ Arrives peer h p.row
     → (x : Request) → StepOf (Accepted peer number) h s x (table x) (put_place p.row.id (Sits h (requeued_row p.row)) table x)
 accepted_step table h s peer number p found here x = by (id_eq x p.row.id) refl
   where
@@ -82,7 +88,8 @@ state_below [] n below = absurd (omega arith)
 state_below (t ∷ states) zero below = (t, refl)
 state_below (t ∷ states) (suc n) below = state_below states n (omega arith)
 
-module _ (site : List (List ℕ)) (m : Moment) (sound : IsSound site m) (paired : IsPaired m.states m.packets) (h : HostId) (s : Plain) (there : At m.states h s) where
+module _ (site : List (List ℕ)) (m : Moment) (sound : IsSound site m) (paired : IsPaired m.states m.packets) (h : HostId) (s : Plain)
+    (there : At m.states h s) where
   -- a peer that is known has a state
   pub peer_state : (peer : HostId) → KeptPeer s peer → (t : Plain) × At m.states peer t
   peer_state peer known =
@@ -95,14 +102,16 @@ module _ (site : List (List ℕ)) (m : Moment) (sound : IsSound site m) (paired 
   me_here : s.me ≡ h
   me_here = λ j. ((sound.hosts h.0 s there).head j).0
 
-  module _ (table : Table) (told : IsTabled m.states table) (way : Way m.packets h s) (c : Change (List ℕ)) (is : change_by way ≡ Some c) (suits : Suits s c) where
+  module _ (table : Table) (told : IsTabled m.states table) (way : Way m.packets h s) (c : Change (List ℕ)) (is : change_by way ≡ Some c)
+      (suits : Suits s c) where
     guards_of : IsOne c → GuardsOf m.states h s c
     guards_of one = way_guards m.states m.packets paired h s there (sound.hosts h.0 s there).order way c is suits.fit one
 
     in_host : IsOne c → IsInHost c → IsTabled (put_state h (applied c s) m.states) (row_table h (applied c s) table)
     in_host one inside =
         let host = sound.hosts h.0 s there in
-        host_tabled m.states m.packets paired h s there me_here host.order host.calm table told c suits.fit one inside (host_kept site h.0 s host c suits.fit suits.sane suits.short).order (λ j. (head_kept c s suits.fit j).0) (guards_of one)
+        host_tabled m.states m.packets paired h s there me_here host.order host.calm table told c suits.fit one inside
+        (host_kept site h.0 s host c suits.fit suits.sane suits.short).order (λ j. (head_kept c s suits.fit j).0) (guards_of one)
 
   offer_phase : (y : Hand) → is_offered_hand y ≡ true → y.phase ≡ Offered
   offer_phase y k = by y.phase refl k
@@ -112,10 +121,12 @@ module _ (site : List (List ℕ)) (m : Moment) (sound : IsSound site m) (paired 
       by Committed e k = absurd (true≢false (sym k))
 
   undoomed : (peer : HostId) (t : Plain) → At m.states peer t → (p : Pledging) → promise_of h t ≡ Some p → p.row.doomed ≡ false
-  undoomed peer t at p e = not-true p.row.doomed (and_parts (is_unheld p.row.hold) (not p.row.doomed) (list_all-found is_promise_free (λ (q : Pledging). same_host h q.peer) t.promises p (sound.hosts peer.0 t at).calm.promises e)).1
+  undoomed peer t at p e = not-true p.row.doomed (and_parts (is_unheld p.row.hold) (not p.row.doomed)
+      (list_all-found is_promise_free (λ (q : Pledging). same_host h q.peer) t.promises p (sound.hosts peer.0 t at).calm.promises e)).1
 
   module _ (table : Table) (told : IsTabled m.states table) (way : Way m.packets h s) where
-    committed : (peer : HostId) (number : ℕ) → change_by way ≡ Some (HandCommitted peer number) → Suits s (HandCommitted peer number) → (o : IsInOrder s) (calm : IsConsistent s) (hand : HasHand Offered peer number s) (t : Plain) (at : At m.states peer t)
+    committed : (peer : HostId) (number : ℕ) → change_by way ≡ Some (HandCommitted peer number) → Suits s (HandCommitted peer number)
+        → (o : IsInOrder s) (calm : IsConsistent s) (hand : HasHand Offered peer number s) (t : Plain) (at : At m.states peer t)
         → Advanced m.states h s (HandCommitted peer number) table
     committed peer number is suits o calm hand t at =
         let guards = way_guards m.states m.packets paired h s there o way (HandCommitted peer number) is suits.fit (λ until ks e. (let no : ⊥ = cc in no)) in
@@ -124,20 +135,24 @@ module _ (site : List (List ℕ)) (m : Moment) (sound : IsSound site m) (paired 
         record {
           then_table = committed_table m.states m.packets paired h s there o calm table told peer number suits.fit guards hand t at;
           told = committed_tabled m.states m.packets paired h s there o calm table told peer number suits.fit guards hand t at;
-          steps = committed_step table h s peer number hand.hand r.0 p.0 hand.found r.2 p.3 (undoomed peer t at p.0 p.1) (was_here m.states m.packets paired h s there o calm table told peer number suits.fit guards hand t at);
+          steps = committed_step table h s peer number hand.hand r.0 p.0 hand.found r.2 (ap (λ (l : Load). l.carried) p.3) (undoomed peer t at p.0 p.1)
+              (was_here m.states m.packets paired h s there o calm table told peer number suits.fit guards hand t at);
         }
 
-    accepts : (peer : HostId) (number : ℕ) → change_by way ≡ Some (Accepted peer number) → Suits s (Accepted peer number) → (o : IsInOrder s) (calm : IsConsistent s) (u : Plain) (at : At m.states peer u) → Advanced m.states h s (Accepted peer number) table
+    accepts : (peer : HostId) (number : ℕ) → change_by way ≡ Some (Accepted peer number) → Suits s (Accepted peer number)
+        → (o : IsInOrder s) (calm : IsConsistent s) (u : Plain) (at : At m.states peer u) → Advanced m.states h s (Accepted peer number) table
     accepts peer number is suits o calm u at =
         let guards = way_guards m.states m.packets paired h s there o way (Accepted peer number) is suits.fit (λ until ks e. (let no : ⊥ = cc in no)) in
         let p = pledge m.states m.packets paired h s there o calm table told peer number suits.fit guards u at in
         record {
           then_table = accepted_table m.states m.packets paired h s there o calm table told peer number suits.fit guards u at;
           told = accepted_tabled m.states m.packets paired h s there o calm table told peer number suits.fit guards u at;
-          steps = accepted_step table h s peer number p.0 p.1 (was_arriving m.states m.packets paired h s there o calm table told peer number suits.fit guards u at);
+          steps = accepted_step table h s peer number p.0 p.1 (was_arriving m.states m.packets paired h s there o calm table told peer number suits.fit guards u
+              at);
         }
 
-    plain_advance : (c : Change (List ℕ)) → ((x : Request) → StepOf c h s x (table x) (row_table h (applied c s) table x)) → IsTabled (put_state h (applied c s) m.states) (row_table h (applied c s) table) → Advanced m.states h s c table
+    plain_advance : (c : Change (List ℕ)) → ((x : Request) → StepOf c h s x (table x) (row_table h (applied c s) table x))
+        → IsTabled (put_state h (applied c s) m.states) (row_table h (applied c s) table) → Advanced m.states h s c table
     plain_advance c steps then_told = record { then_table = row_table h (applied c s) table; told = then_told; steps = steps }
 
     -- the table after a change
@@ -146,7 +161,9 @@ module _ (site : List (List ℕ)) (m : Moment) (sound : IsSound site m) (paired 
         let host = sound.hosts h.0 s there in
         let k = offer_at s host.order host.calm (paired.lone h s there) peer number is_offered_hand suits.fit in
         let hand : HasHand Offered peer number s = record { hand = k.0; found = k.1; is = offer_phase k.0 k.2 } in
-        let known = subst (KeptPeer s) (sym (hand_peer s (paired.lone h s there) (peer_number peer number) k.0 k.1)) (known_peer s k.0.peer (is_hand_given k.0.number) (hand_is s k.0 (list_all-found (is_hand_right s) (is_hand (peer_number peer number)) s.hands k.0 host.order.hands k.1)).given) in
+        let known = subst (KeptPeer s) (sym (hand_peer s (paired.lone h s there) (peer_number peer number) k.0 k.1))
+        (known_peer s k.0.peer (is_hand_given k.0.number) (hand_is s k.0
+        (list_all-found (is_hand_right s) (is_hand (peer_number peer number)) s.hands k.0 host.order.hands k.1)).given) in
         let t = peer_state peer known in
         committed peer number is suits host.order host.calm hand t.0 t.1
     advance (Accepted peer number) is suits =
@@ -157,8 +174,11 @@ module _ (site : List (List ℕ)) (m : Moment) (sound : IsSound site m) (paired 
     advance (HandsSilent until ks) is suits =
         let host = sound.hosts h.0 s there in
         plain_advance (HandsSilent until ks) (λ x. refl)
-        (silent_tabled until ks m.states m.packets h s there me_here host.order host.calm (list_all-weaker _ (λ l. not_committed (find_hand l.peer l.number s)) (λ l. offer_or_none (find_hand l.peer l.number s)) ks suits.fit) paired table told)
-    advance (Submitted queue job script) is suits = plain_advance (Submitted queue job script) (λ x. refl) (in_host table told way (Submitted queue job script) is suits (λ until ks e. (let no : ⊥ = cc in no)) tt)
+        (silent_tabled until ks m.states m.packets h s there me_here host.order host.calm
+        (list_all-weaker _ (λ l. not_committed (find_hand l.peer l.number s))
+        (λ l. offer_or_none (find_hand l.peer l.number s)) ks suits.fit) paired table told)
+    advance (Submitted queue job script) is suits = plain_advance (Submitted queue job script) (λ x. refl)
+        (in_host table told way (Submitted queue job script) is suits (λ until ks e. (let no : ⊥ = cc in no)) tt)
     advance c is suits = plain_advance c (λ x. refl) (in_host table told way c is suits (λ until ks e. (let no : ⊥ = cc in no)) tt)
 
 -- the pairs of hosts, and the table that they tell
@@ -169,7 +189,8 @@ pub record IsNet (m : Moment) : Type 0 where
 
 -- a new network
 
-pub new_state : (site : List (List ℕ)) (place : ℕ) (names : List (List ℕ)) (n : ℕ) (s : Plain) → slice_get (map (λ x. x.state) (hosts_from place site names)) n ≡ Some s → (k : ℕ) × (s ≡ formatted (host_at k) site)
+pub new_state : (site : List (List ℕ)) (place : ℕ) (names : List (List ℕ)) (n : ℕ) (s : Plain)
+    → slice_get (map (λ x. x.state) (hosts_from place site names)) n ≡ Some s → (k : ℕ) × (s ≡ formatted (host_at k) site)
 new_state site place [] n s e = absurd (none-some s e)
 new_state site place (name ∷ names) zero s e = (place, sym (same_Some _ s e))
 new_state site place (name ∷ names) (suc n) s e = new_state site (place + 1) names n s e
@@ -189,7 +210,8 @@ pub new_net : (site : List (List ℕ)) → IsNet (moment (new_world site) [])
 new_net site = record {
   paired = record {
     lone = λ a s at. (let k = new_state site 0 site a.0 s at in subst (λ (u : Plain). IsLone u.hands) (sym k.1) refl);
-    pairs = λ a b s t at bt. (let k = new_state site 0 site a.0 s at in let l = new_state site 0 site b.0 t bt in subst (λ u. Ok (pair_of a u b t)) (sym k.1) (subst (λ v. Ok (pair_of a (formatted (host_at k.0) site) b v)) (sym l.1) (new_pair site a b k.0 l.0)));
+    pairs = λ a b s t at bt. (let k = new_state site 0 site a.0 s at in let l = new_state site 0 site b.0 t bt in
+        subst (λ u. Ok (pair_of a u b t)) (sym k.1) (subst (λ v. Ok (pair_of a (formatted (host_at k.0) site) b v)) (sym l.1) (new_pair site a b k.0 l.0)));
     words = λ x sent. absurd (none-some x sent.1);
   };
   table = λ x. Nowhere;
@@ -201,10 +223,16 @@ new_net site = record {
   };
 }
 
+pub new_nowhere : (site : List (List ℕ)) (x : Request) → (new_net site).table x ≡ Nowhere
+unfolding new_net
+new_nowhere site x = refl
+
 module _ (site : List (List ℕ)) where
-  net_kept : (m : Moment) → IsSound site m → (h : HostId) (s : Plain) → At m.states h s → (way : Way m.packets h s) (o : Option (Change (List ℕ))) → change_by way ≡ o → ((c : Change (List ℕ)) → o ≡ Some c → Suits s c) → IsNet m → (t : Table) × IsTabled (put_state h (after_change o s) m.states) t
+  net_kept : (m : Moment) → IsSound site m → (h : HostId) (s : Plain) → At m.states h s → (way : Way m.packets h s) (o : Option (Change (List ℕ)))
+      → change_by way ≡ o → ((c : Change (List ℕ)) → o ≡ Some c → Suits s c) → IsNet m → (t : Table) × IsTabled (put_state h (after_change o s) m.states) t
   net_kept m sound h s there way None is suits k = (k.table, subst (λ l. IsTabled l k.table) (sym (put-same h.0 s m.states there)) k.told)
-  net_kept m sound h s there way (Some c) is suits k = let a = advance site m sound k.paired h s there k.table k.told way c is (suits c refl) in (a.then_table, a.told)
+  net_kept m sound h s there way (Some c) is suits k = let a = advance site m sound k.paired h s there k.table k.told way c is (suits c refl) in
+      (a.then_table, a.told)
 
   pub net_keeps : Keeps site IsNet
   net_keeps = record {

@@ -1,5 +1,6 @@
 -- What each change of a host makes of its promises, and that it has one hand to each host.
-use Rattle.std.proofs.Common.{◌≡◌, ℕ, ◌+◌, ◌-◌, Bool, true, false, not, ◌==◌, List, [], ◌∷◌, ◌++◌, map, filter, find, slice_get, Option, None, Some, true≢false, refl, sym, ap, subst, ◌∙◌, if◌then◌else◌}
+use Rattle.std.proofs.Common.{◌≡◌, ℕ, ◌+◌, ◌-◌, Bool, true, false, not, ◌==◌, List, [], ◌∷◌, ◌++◌, map, filter, find, slice_get, Option, None, Some, true≢false}
+use Rattle.std.proofs.Common.{refl, sym, ap, subst, ◌∙◌, if◌then◌else◌}
 use Rattle.std.proofs.lemmas.Bool.{not-true}
 use Rattle.std.specs.List.{list_any}
 use Rattle.nqs_state.specs.State.{Plain}
@@ -11,12 +12,15 @@ use Rattle.nqs_types.specs.declared.request.Carried.{Carried}
 use Rattle.nqs_types.specs.declared.request.Hand.{Hand}
 use Rattle.nqs_types.specs.declared.request.Peer.{Peer}
 use Rattle.nqs_types.specs.declared.change.Change.{Change}
-use Rattle.nqs_types.specs.declared.change.Change.TheVariants.{Site, Submitted, Deleted, Doomed, Started, Ended, Unlaunched, Boot, Edited, HandOpened, HandCommitted, HandRefused, HandsSilent, HandDone, Promised, Accepted, Dropped, MovedLocal, RefusedLocal, HeldFar, StageGot, StageGone, FileGone}
+use Rattle.nqs_types.specs.declared.change.Change.TheVariants.{Site, Submitted, Deleted, Doomed, Started, Ended, Unlaunched, Boot, Edited, HandOpened}
+use Rattle.nqs_types.specs.declared.change.Change.TheVariants.{HandCommitted, HandRefused, HandsSilent, HandDone, Promised, Accepted, Dropped, MovedLocal}
+use Rattle.nqs_types.specs.declared.change.Change.TheVariants.{RefusedLocal, HeldFar, StageGot, StageGone, FileGone}
 use Rattle.nqs_rules.specs.Tests.{passes, same_host}
 use Rattle.nqs_rules.specs.Find.{peer_number, has_queue, has_row, find_hand, find_promise, has_promise, find_peer}
 use Rattle.nqs_rules.specs.Rows.{arrivals_used}
 use Rattle.nqs_rules.specs.Routing.{is_hand_to, close}
-use Rattle.nqs_rules.specs.Applied.{applied, is_offered_for, committed, new_row, requeued_row, hand_committed, hand_refused, hand_silent, drop_promise, accepted, is_promise_of}
+use Rattle.nqs_rules.specs.Applied.{applied, is_offered_for, committed, new_row, requeued_row, hand_committed, hand_refused, hand_silent, drop_promise}
+use Rattle.nqs_rules.specs.Applied.{accepted, is_promise_of}
 use Rattle.nqs_rules.specs.Fits.{fits, row_passes, may_hop, is_next, is_open_number, is_site_host, is_unknown, offer_full}
 use Rattle.nqs_rules.specs.InOrder.{IsInOrder, is_promise_open, is_promise_right}
 use Rattle.nqs_rules.proofs.Chains.{each}
@@ -28,9 +32,11 @@ use Rattle.nqs_rules.proofs.ListMaps.{list_any-map}
 use Rattle.nqs_rules.proofs.KeyFacts.{found_any, distinct-added}
 use Rattle.nqs_rules.proofs.Sublists.{part_distinct, map_part, without_part, filter_part}
 use Rattle.nqs_rules.proofs.RowFacts.{promise_is}
+use Rattle.nqs_laws.specs.Loads.{sent_load}
 use Rattle.nqs_laws.proofs.Found.{only, first_of_two, find-added, find-without, find-filtered}
 use Rattle.nqs_laws.proofs.Pair.{NoOffer, Pledge, NoPledge, Move, Stays, Pledges, Accepts, Drops, moved, pair, closed_by}
-use Rattle.nqs_laws.proofs.Views.{Pledging, pledge_seen, promise_of, pledged, peer_field, closed_field, closed_of, IsLone, IsTarget, Target, host_exact, host_same, host_turned, promise_peer, promise_number, promise_to_peer, field_kept, field_other, field_here}
+use Rattle.nqs_laws.proofs.Views.{Pledging, pledge_seen, promise_of, pledged, peer_field, closed_field, closed_of, IsLone, IsTarget, Target, host_exact}
+use Rattle.nqs_laws.proofs.Views.{host_same, host_turned, promise_peer, promise_number, promise_to_peer, field_kept, field_other, field_here}
 use Rattle.nqs_laws.proofs.Turns.{IsQuiet, Ties, quiet_ties, from_move, stays_target}
 
 abbrev pub KeptPeer : Plain → HostId → Type 0
@@ -63,14 +69,17 @@ module _ (s : Plain) (h : IsInOrder s) where
 
   -- a promise goes, and its number is closed
   gone_target : (k : PeerNumber) (p : Pledging) → find (is_promise k) s.promises ≡ Some p → (m : Move) → IsTarget m → (m ≡ Stays → ⊥)
-      → ((q : Pledge) (n : ℕ) → (moved (pair NoOffer q 0 n) m).pledge ≡ NoPledge) → ((q : Pledge) (n : ℕ) → (moved (pair NoOffer q 0 n) m).closed ≡ closed_by q n)
-      → (t : Plain) → t.promises ≡ without_first (is_promise k) s.promises → t.peers ≡ change_at k.peer.0 (close k.number) s.peers → (a : HostId) → Target s t a (if same_host a k.peer then m else Stays)
+      → ((q : Pledge) (n : ℕ) → (moved (pair NoOffer q 0 n) m).pledge ≡ NoPledge)
+      → ((q : Pledge) (n : ℕ) → (moved (pair NoOffer q 0 n) m).closed ≡ closed_by q n)
+      → (t : Plain) → t.promises ≡ without_first (is_promise k) s.promises → t.peers ≡ change_at k.peer.0 (close k.number) s.peers → (a : HostId)
+      → Target s t a (if same_host a k.peer then m else Stays)
   gone_target k p found m is moves none closes t promises peers a = by (same_host a k.peer) refl
     where
       left : promise_of a t ≡ (if same_host a k.peer then None else promise_of a s)
       left =
           ap (find (is_promise_of a)) promises
-          ∙ (find-without same_host (λ (q : Pledging). q.peer) host_exact host_same (is_promise k) p a s.promises found h.promisers ∙ ap (λ i. if same_host a i then None else promise_of a s) (sym (promise_peer s h k p found)))
+          ∙ (find-without same_host (λ (q : Pledging). q.peer) host_exact host_same (is_promise k) p a s.promises found h.promisers
+          ∙ ap (λ i. if same_host a i then None else promise_of a s) (sym (promise_peer s h k p found)))
 
       closed_there : closed_of a t ≡ peer_field closed_field 0 (slice_get (change_at k.peer.0 (close k.number) s.peers) a.0)
       closed_there = ap (λ ps. peer_field closed_field 0 (slice_get ps a.0)) peers
@@ -91,38 +100,50 @@ module _ (s : Plain) (h : IsInOrder s) where
           }
       by false e = record {
         pledge = ap pledge_seen (left ∙ ap (λ c. if c then None else promise_of a s) e);
-        closed = closed_there ∙ field_other closed_field 0 k.peer.0 a.0 (close k.number) s.peers (λ same. true≢false (sym (ap (λ n. n == k.peer.0) (sym same) ∙ host_same k.peer) ∙ e));
+        closed = closed_there ∙ field_other closed_field 0 k.peer.0 a.0 (close k.number) s.peers
+            (λ same. true≢false (sym (ap (λ n. n == k.peer.0) (sym same) ∙ host_same k.peer) ∙ e));
         is = tt;
         stays = λ f. left ∙ ap (λ c. if c then None else promise_of a s) e;
       }
 
-  accepted_target : (peer : HostId) (number : ℕ) → fits {F = List ℕ} (Accepted peer number) s ≡ true → (a : HostId) → Target s (applied (Accepted peer number) s) a (if same_host a peer then Accepts else Stays)
+  accepted_target : (peer : HostId) (number : ℕ) → fits {F = List ℕ} (Accepted peer number) s ≡ true → (a : HostId)
+      → Target s (applied (Accepted peer number) s) a (if same_host a peer then Accepts else Stays)
   accepted_target peer number fit a =
       let p = promise_at s peer number fit in
       let k : PeerNumber = peer_number peer number in
       let made : applied (Accepted peer number) s ≡ accepted k (Some p.0) s = ap (λ o. accepted k o s) p.1 in
-      gone_target k p.0 p.1 Accepts tt (λ e. let no : ⊥ = cc in no) (λ q n. refl) (λ q n. refl) (applied (Accepted peer number) s) (ap (λ (u : Plain). u.promises) made ∙ promises k p.0 (has_row p.0.row.id s)) (ap (λ (u : Plain). u.peers) made ∙ peers k p.0 (has_row p.0.row.id s)) a
+      gone_target k p.0 p.1 Accepts tt (λ e. let no : ⊥ = cc in no) (λ q n. refl) (λ q n. refl) (applied (Accepted peer number) s)
+      (ap (λ (u : Plain). u.promises) made ∙ promises k p.0 (has_row p.0.row.id s))
+      (ap (λ (u : Plain). u.peers) made ∙ peers k p.0 (has_row p.0.row.id s)) a
     where
-      promises : (k : PeerNumber) (p : Pledging) (z : Bool) → (if z then drop_promise k s else record (drop_promise k s) { rows = s.rows ++ requeued_row p.row ∷ [] }).promises ≡ without_first (is_promise k) s.promises
+      promises : (k : PeerNumber) (p : Pledging) (z : Bool) → (if z then drop_promise k s else
+          record (drop_promise k s) { rows = s.rows ++ requeued_row p.row ∷ [] }).promises ≡ without_first (is_promise k) s.promises
       promises k p true = refl
       promises k p false = refl
 
-      peers : (k : PeerNumber) (p : Pledging) (z : Bool) → change_at k.peer.0 (close k.number) (if z then drop_promise k s else record (drop_promise k s) { rows = s.rows ++ requeued_row p.row ∷ [] }).peers ≡ change_at k.peer.0 (close k.number) s.peers
+      peers : (k : PeerNumber) (p : Pledging) (z : Bool) → change_at k.peer.0 (close k.number)
+          (if z then drop_promise k s else record (drop_promise k s) { rows = s.rows ++ requeued_row p.row ∷ [] }).peers
+          ≡ change_at k.peer.0 (close k.number) s.peers
       peers k p true = refl
       peers k p false = refl
 
-  dropped_target : (peer : HostId) (number : ℕ) → fits {F = List ℕ} (Dropped peer number) s ≡ true → (a : HostId) → Target s (applied (Dropped peer number) s) a (if same_host a peer then Drops else Stays)
-  dropped_target peer number fit a = let p = promise_at s peer number fit in gone_target (peer_number peer number) p.0 p.1 Drops tt (λ e. let no : ⊥ = cc in no) (λ q n. refl) (λ q n. refl) (applied (Dropped peer number) s) refl refl a
+  dropped_target : (peer : HostId) (number : ℕ) → fits {F = List ℕ} (Dropped peer number) s ≡ true → (a : HostId)
+      → Target s (applied (Dropped peer number) s) a (if same_host a peer then Drops else Stays)
+  dropped_target peer number fit a = let p = promise_at s peer number fit in
+      gone_target (peer_number peer number) p.0 p.1 Drops tt (λ e. let no : ⊥ = cc in no) (λ q n. refl) (λ q n. refl)
+      (applied (Dropped peer number) s) refl refl a
 
   promised_target : (peer : HostId) (number : ℕ) (queue : List ℕ) (c : Carried) (script : List ℕ) → fits (Promised peer number queue c script) s ≡ true
-      → (a : HostId) → Target s (applied (Promised peer number queue c script) s) a (if same_host a peer then Pledges number c else Stays)
+      → (a : HostId) → Target s (applied (Promised peer number queue c script) s) a
+      (if same_host a peer then Pledges number (sent_load queue c script) else Stays)
   promised_target peer number queue c script fit a = by (same_host a peer) refl
     where
       t : Plain
       t = applied (Promised peer number queue c script) s
 
       may : passes (is_open_number number) (find_peer peer s) ≡ true
-      may = (each (has_queue queue s) (passes (is_open_number number) (find_peer peer s) ∷ not (has_promise peer number s) ∷ is_site_host c.id.host s ∷ is_unknown c.id s ∷ not (offer_full peer s) ∷ not (arrivals_used s) ∷ []) fit).1.0
+      may = (each (has_queue queue s) (passes (is_open_number number) (find_peer peer s) ∷ not (has_promise peer number s) ∷ is_site_host c.id.host s
+          ∷ is_unknown c.id s ∷ not (offer_full peer s) ∷ not (arrivals_used s) ∷ []) fit).1.0
 
       new : Pledging
       new = record { peer = peer; number = number; row = new_row c queue (s.arrivals + 1) script }
@@ -131,30 +152,40 @@ module _ (s : Plain) (h : IsInOrder s) where
       left = find-filtered same_host (λ (q : Pledging). q.peer) host_exact host_same (λ p. not (is_promise_of peer p)) a s.promises h.promisers
 
       there : promise_of a (applied (Promised peer number queue c script) s)
-          ≡ first_of_two (only (λ p. not (is_promise_of peer p)) (promise_of a s)) (if same_host a peer then Some (record { peer = peer; number = number; row = new_row c queue (s.arrivals + 1) script }) else None)
+          ≡ first_of_two (only (λ p. not (is_promise_of peer p)) (promise_of a s))
+          (if same_host a peer then Some (record { peer = peer; number = number; row = new_row c queue (s.arrivals + 1) script }) else None)
       there =
-          find-added (is_promise_of a) (filter (λ p. not (is_promise_of peer p)) s.promises) (record { peer = peer; number = number; row = new_row c queue (s.arrivals + 1) script })
-          ∙ ap (λ o. first_of_two o (if same_host a peer then Some (record { peer = peer; number = number; row = new_row c queue (s.arrivals + 1) script }) else None)) left
+          find-added (is_promise_of a) (filter (λ p. not (is_promise_of peer p)) s.promises)
+          (record { peer = peer; number = number; row = new_row c queue (s.arrivals + 1) script })
+          ∙ ap (λ o. first_of_two o (if same_host a peer then Some (record { peer = peer; number = number; row = new_row c queue (s.arrivals + 1) script }) else
+          None)) left
 
-      by : (d : Bool) → same_host a peer ≡ d → Target s (applied (Promised peer number queue c script) s) a (if d then Pledges number c else Stays)
+      by : (d : Bool) → same_host a peer ≡ d → Target s (applied (Promised peer number queue c script) s) a
+          (if d then Pledges number (sent_load queue c script) else Stays)
       by true e =
           let here : a ≡ peer = host_exact a peer e in
           let known = known_peer s peer (is_open_number number) may in
           record {
-            pledge = ap pledge_seen (there ∙ (ap (λ o. first_of_two o (if same_host a peer then Some new else None)) (old (promise_of a s) refl) ∙ ap (λ z. if z then Some new else None) e));
-            closed = ap (λ i. closed_of i (applied (Promised peer number queue c script) s)) here ∙ field_here closed_field 0 peer.0 (number - 1) (close (number - 1)) s.peers known.0 known.1 (λ q. refl);
+            pledge = ap pledge_seen (there ∙ (ap (λ o. first_of_two o (if same_host a peer then Some new else None)) (old (promise_of a s) refl)
+                ∙ ap (λ z. if z then Some new else None) e));
+            closed = ap (λ i. closed_of i (applied (Promised peer number queue c script) s)) here
+                ∙ field_here closed_field 0 peer.0 (number - 1) (close (number - 1)) s.peers known.0 known.1 (λ q. refl);
             is = tt;
             stays = λ f. (let no : ⊥ = cc in absurd no);
           }
         where
           old : (o : Option Pledging) → promise_of a s ≡ o → only (λ p. not (is_promise_of peer p)) o ≡ None
           old None f = refl
-          old (Some p) f = ap (λ z. if not z then Some p else None) (ap (λ i. same_host i p.peer) (sym (host_exact a peer e)) ∙ found_passes (is_promise_of a) s.promises p f)
+          old (Some p) f = ap (λ z. if not z then Some p else None) (ap (λ i. same_host i p.peer) (sym (host_exact a peer e))
+              ∙ found_passes (is_promise_of a) s.promises p f)
       by false e = record {
-        pledge = ap pledge_seen (there ∙ (ap (λ z. first_of_two (only (λ p. not (is_promise_of peer p)) (promise_of a s)) (if z then Some new else None)) e ∙ kept (promise_of a s) refl));
-        closed = field_other closed_field 0 peer.0 a.0 (close (number - 1)) s.peers (λ same. true≢false (sym (ap (λ n. n == peer.0) (sym same) ∙ host_same peer) ∙ e));
+        pledge = ap pledge_seen (there ∙ (ap (λ z. first_of_two (only (λ p. not (is_promise_of peer p)) (promise_of a s)) (if z then Some new else None)) e
+            ∙ kept (promise_of a s) refl));
+        closed = field_other closed_field 0 peer.0 a.0 (close (number - 1)) s.peers
+            (λ same. true≢false (sym (ap (λ n. n == peer.0) (sym same) ∙ host_same peer) ∙ e));
         is = tt;
-        stays = λ f. there ∙ (ap (λ z. first_of_two (only (λ p. not (is_promise_of peer p)) (promise_of a s)) (if z then Some new else None)) e ∙ kept (promise_of a s) refl);
+        stays = λ f. there ∙ (ap (λ z. first_of_two (only (λ p. not (is_promise_of peer p)) (promise_of a s)) (if z then Some new else None)) e
+            ∙ kept (promise_of a s) refl);
       }
         where
           kept : (o : Option Pledging) → promise_of a s ≡ o → first_of_two (only (λ p. not (is_promise_of peer p)) o) None ≡ o
@@ -164,10 +195,12 @@ module _ (s : Plain) (h : IsInOrder s) where
               ap (λ z. first_of_two (if not z then Some p else None) None) (ap (same_host peer) (sym at) ∙ host_turned a peer e)
 
   -- what each change makes of the receiver's part
-  pub targets : (c : Change (List ℕ)) → fits c s ≡ true → ((until : ℕ) (ks : List PeerNumber) → c ≡ HandsSilent until ks → ⊥) → (a : HostId) → Target s (applied c s) a (from_move c a)
+  pub targets : (c : Change (List ℕ)) → fits c s ≡ true → ((until : ℕ) (ks : List PeerNumber) → c ≡ HandsSilent until ks → ⊥) → (a : HostId)
+      → Target s (applied c s) a (from_move c a)
   targets (Site me site) fit one a = absurd (true≢false (sym fit))
   targets (Deleted id) fit one a = stays_target s (applied (Deleted id) s) a refl refl
-  targets (HandOpened peer number id queue since) fit one a = stays_target s (applied (HandOpened peer number id queue since) s) a refl (field_kept closed_field 0 peer.0 a.0 (λ p. record p { next = number + 1 }) s.peers (λ p. refl))
+  targets (HandOpened peer number id queue since) fit one a = stays_target s (applied (HandOpened peer number id queue since) s) a refl
+      (field_kept closed_field 0 peer.0 a.0 (λ p. record p { next = number + 1 }) s.peers (λ p. refl))
   targets (HandCommitted peer number) fit one a = of (find_hand peer number s)
     where
       of : (o : Option Hand) → Target s (hand_committed (peer_number peer number) o s) a Stays
@@ -200,7 +233,8 @@ module _ (s : Plain) (h : IsInOrder s) where
 -- one hand to each host
 
 pub silent_target : (s : Plain) (until : ℕ) (k : PeerNumber) (y : Hand) (a : HostId) → Target s (hand_silent until k (Some y) s) a Stays
-silent_target s until k y a = stays_target s (hand_silent until k (Some y) s) a refl (field_kept closed_field 0 k.peer.0 a.0 (λ p. record p { wait = until }) s.peers (λ p. refl))
+silent_target s until k y a = stays_target s (hand_silent until k (Some y) s) a refl
+    (field_kept closed_field 0 k.peer.0 a.0 (λ p. record p { wait = until }) s.peers (λ p. refl))
 
 module _ (s : Plain) (lone : IsLone s.hands) where
   pub fewer : (u : Hand → Bool) → IsLone (without_first u s.hands)
@@ -208,7 +242,8 @@ module _ (s : Plain) (lone : IsLone s.hands) where
 
   committed_lone : (k : PeerNumber) (o : Option Hand) → IsLone (hand_committed k o s).hands
   committed_lone k None = lone
-  committed_lone k (Some y) = subst (λ l. are_distinct same_host l ≡ true) (sym (map-changed (λ (z : Hand). z.peer) (is_hand k) committed (λ z. refl) s.hands)) lone
+  committed_lone k (Some y) = subst (λ l. are_distinct same_host l ≡ true)
+      (sym (map-changed (λ (z : Hand). z.peer) (is_hand k) committed (λ z. refl) s.hands)) lone
 
   refused_lone : (k : PeerNumber) (refusal : ℕ) (o : Option Hand) → IsLone (hand_refused k refusal o s).hands
   refused_lone k refusal None = lone
@@ -226,9 +261,11 @@ module _ (s : Plain) (lone : IsLone s.hands) where
   lone_kept (Site me site) fit one = absurd (true≢false (sym fit))
   lone_kept (Deleted id) fit one = part_distinct same_host (map_part (λ (z : Hand). z.peer) (filter_part (λ y. not (is_offered_for id y)) s.hands)) lone
   lone_kept (HandOpened peer number id queue since) fit one =
-      let may = each (row_passes (may_hop {E = List ℕ}) id s) (passes (is_next number) (find_peer peer s) ∷ not (list_any (is_hand_to peer) s.hands) ∷ []) fit in
+      let may = each (row_passes (may_hop {E = List ℕ}) id s) (passes (is_next number) (find_peer peer s) ∷ not (list_any (is_hand_to peer) s.hands)
+      ∷ []) fit in
       subst (λ l. are_distinct same_host l ≡ true) (sym (map-append (λ (z : Hand). z.peer) s.hands _))
-      (distinct-added same_host host_exact host_same (map (λ (z : Hand). z.peer) s.hands) peer (list_any-map (λ (z : Hand). z.peer) (same_host peer) s.hands ∙ not-true (list_any (is_hand_to peer) s.hands) may.1.1.0) lone)
+      (distinct-added same_host host_exact host_same (map (λ (z : Hand). z.peer) s.hands) peer
+      (list_any-map (λ (z : Hand). z.peer) (same_host peer) s.hands ∙ not-true (list_any (is_hand_to peer) s.hands) may.1.1.0) lone)
   lone_kept (HandCommitted peer number) fit one = committed_lone (peer_number peer number) (find_hand peer number s)
   lone_kept (HandRefused peer number refusal) fit one = refused_lone (peer_number peer number) refusal (find_hand peer number s)
   lone_kept (HandsSilent until ks) fit one = absurd (one until ks refl)

@@ -11,12 +11,17 @@ use Rattle.nqs_rules.specs.Starts.{after_change}
 use Rattle.nqs_rules.specs.Step.{step}
 use Rattle.nqs_rules.specs.Start.{start}
 use Rattle.nqs_rules.specs.Stepped.{Stepped, stored_parts}
-use Rattle.nqs_rules.specs.World.{World, Host, Ran, Fate, Made, StoppedBefore, StoppedAfter, Act, Asks, Ends, Finishes, Fails, Writes, Leaves, Delivers, Newest, Ticks, Clock, Fuse, Crashes, Boots, Shows, fate, host_of, then_seen, seeing, unseen, makes_change, steps, starts, all_starts, left_of, shuts_down, halts, takes_up, taken_by, takes, finishes, finishes_up, delivers, packet_at, newest_between, boot_output, boots_down, boots, runs_now, is_less_row}
+use Rattle.nqs_rules.specs.World.{World, Host, Ran, Fate, Made, StoppedBefore, StoppedAfter, Act, Asks, Ends, Finishes, Fails, Writes, Leaves, Delivers, Newest}
+use Rattle.nqs_rules.specs.World.{Ticks, Clock, Fuse, Crashes, Boots, Shows, fate, host_of, then_seen, seeing, unseen, makes_change, steps, starts, all_starts}
+use Rattle.nqs_rules.specs.World.{left_of, shuts_down, halts, takes_up, taken_by, takes, finishes, finishes_up, delivers, packet_at, newest_between}
+use Rattle.nqs_rules.specs.World.{boot_output, boots_down, boots, runs_now, is_less_row}
 use Rattle.nqs_rules.specs.Run.{happens, run, states_of}
-use Rattle.nqs_laws.specs.History.{Why, ByEvent, ByStart, ByBoot, Note, Saw, Kept, saws, kept_by, change_notes, plan_notes, step_notes, start_notes, all_start_notes, event_notes, taken_notes, take_notes, finish_notes, finish_up_notes, deliver_notes, boot_down_notes, boot_notes, notes, history, sight, sights}
+use Rattle.nqs_laws.specs.History.{Why, ByEvent, ByStart, ByBoot, Note, Saw, Kept, saws, kept_by, change_notes, plan_notes, step_notes, start_notes}
+use Rattle.nqs_laws.specs.History.{all_start_notes, event_notes, taken_notes, take_notes, finish_notes, finish_up_notes, deliver_notes, boot_down_notes}
+use Rattle.nqs_laws.specs.History.{boot_notes, notes, history, sight, sights}
 use Rattle.nqs_laws.specs.Sane.{AreSane}
 use Rattle.nqs_laws.specs.Words.{replayed}
-use Rattle.nqs_laws.proofs.Frame.{Moment, put_state, change_by, why_by, kept_of, Frames, run_kept, put-same}
+use Rattle.nqs_laws.proofs.Frame.{Moment, put_state, change_by, why_by, kept_of, Frames, steps_of, run_kept, put-same}
 use Rattle.nqs_types.specs.declared.ids.HostId.{HostId}
 use Rattle.nqs_types.specs.declared.request.Row.{Row}
 use Rattle.nqs_types.specs.declared.message.Message.{Message}
@@ -47,7 +52,8 @@ plan_unseen h host why None = refl
 plan_unseen h host why (Some c) = fate_unseen (fate (stored_parts c) host) h why c
 
 step_seen : (h : HostId) (host : Host) (why : Why) (s : Stepped (List ℕ)) (w : World) → sights (step_notes h host why s w) ≡ (steps h host s w).seen
-step_seen h host why s w = joins (plan_notes h host why s.change) (saws (steps h host s w).seen) [] (steps h host s w).seen (plan_unseen h host why s.change) (all_seen (steps h host s w).seen)
+step_seen h host why s w = joins (plan_notes h host why s.change) (saws (steps h host s w).seen) [] (steps h host s w).seen (plan_unseen h host why s.change)
+    (all_seen (steps h host s w).seen)
 
 abbrev seen_of : Ran → List Seen
 seen_of r = r.seen
@@ -72,7 +78,8 @@ starts_seen (suc n) h w = of (host_of h w) (starts_seen n h)
         ])
     by host false o rest = refl
     by host true None rest = refl
-    by host true (Some s) rest = joins (step_notes h host ByStart s w) (start_notes n h (steps h host s w).world) (steps h host s w).seen (starts n h (steps h host s w).world).seen (step_seen h host ByStart s w) (rest (steps h host s w).world)
+    by host true (Some s) rest = joins (step_notes h host ByStart s w) (start_notes n h (steps h host s w).world) (steps h host s w).seen
+        (starts n h (steps h host s w).world).seen (step_seen h host ByStart s w) (rest (steps h host s w).world)
 
     of : (o : Option Host) → ((v : World) → sights (start_notes n h v) ≡ (starts n h v).seen)
         → sights (elim o [
@@ -106,9 +113,11 @@ event_seen h host e w =
     let b = all_starts h a.world in
     let c = halts (shuts_down e host.state) h b.world in
     joins (step_notes h host (ByEvent e) (step e host.state) w ++ all_start_notes h a.world) (saws c.seen) (a.seen ++ b.seen) c.seen
-    (joins (step_notes h host (ByEvent e) (step e host.state) w) (all_start_notes h a.world) a.seen b.seen (step_seen h host (ByEvent e) (step e host.state) w) (all_starts_seen h a.world)) (all_seen c.seen)
+    (joins (step_notes h host (ByEvent e) (step e host.state) w) (all_start_notes h a.world) a.seen b.seen (step_seen h host (ByEvent e) (step e host.state) w)
+    (all_starts_seen h a.world)) (all_seen c.seen)
 
-taken_seen : (o : Option Host) (h : HostId) (g : Host → World → Ran) (k : Host → World → List Note) (w : World) → ((host : Host) → sights (k host w) ≡ (g host w).seen) → sights (taken_notes o h k w) ≡ (taken_by o h g w).seen
+taken_seen : (o : Option Host) (h : HostId) (g : Host → World → Ran) (k : Host → World → List Note) (w : World)
+    → ((host : Host) → sights (k host w) ≡ (g host w).seen) → sights (taken_notes o h k w) ≡ (taken_by o h g w).seen
 taken_seen None h g k w same = refl
 taken_seen (Some host) h g k w same = by host.up
   where
@@ -134,7 +143,9 @@ boots_seen h (Some host) w = by host.up
     down : sights (boot_down_notes h host w) ≡ (boots_down h host w).seen
     down =
         let r = makes_change h host Boot (seen.Boot h ∷ []) (filter_map boot_output host.state.rows) w in
-        joins (change_notes h host ByBoot Boot ++ saws r.seen) (all_start_notes h r.world) r.seen (all_starts h r.world).seen (joins (change_notes h host ByBoot Boot) (saws r.seen) [] r.seen (fate_unseen (fate (stored_parts {E = List ℕ} Boot) host) h ByBoot Boot) (all_seen r.seen)) (all_starts_seen h r.world)
+        joins (change_notes h host ByBoot Boot ++ saws r.seen) (all_start_notes h r.world) r.seen (all_starts h r.world).seen
+        (joins (change_notes h host ByBoot Boot) (saws r.seen) [] r.seen (fate_unseen (fate (stored_parts {E = List ℕ} Boot) host) h ByBoot Boot)
+        (all_seen r.seen)) (all_starts_seen h r.world)
 
     by : (up : Bool) → sights (if up then Saw (seen.Up h) ∷ [] else boot_down_notes h host w) ≡ (if up then seeing (seen.Up h) w else boots_down h host w).seen
     by true = refl
@@ -143,7 +154,8 @@ boots_seen h (Some host) w = by host.up
 notes_seen : (a : Act) (w : World) → sights (notes a w) ≡ (happens a w).seen
 notes_seen (Asks h user c) w = takes_seen h (event.Ask w.now 0 0 user c) w
 notes_seen (Ends h id start status output error) w = takes_seen h (event.Ended w.now 0 id start status output error) w
-notes_seen (Finishes h) w = taken_seen (host_of h w) h (finishes_up h) (finish_up_notes h) w (λ host. finishes_seen h host (best_from runs_now is_less_row 0 host.state.rows) w)
+notes_seen (Finishes h) w = taken_seen (host_of h w) h (finishes_up h) (finish_up_notes h) w
+    (λ host. finishes_seen h host (best_from runs_now is_less_row 0 host.state.rows) w)
 notes_seen (Fails h id start) w = takes_seen h (event.Unlaunched w.now id start) w
 notes_seen (Writes h file) w = takes_seen h (event.Written w.now file) w
 notes_seen (Leaves h file) w = takes_seen h (event.Unwritten w.now file) w
@@ -158,7 +170,8 @@ notes_seen Shows w = refl
 
 pub history_seen : (acts : List Act) (w : World) → sights (history acts w) ≡ (run acts w).seen
 history_seen [] w = refl
-history_seen (a ∷ acts) w = joins (notes a w) (history acts (happens a w).world) (happens a w).seen (run acts (happens a w).world).seen (notes_seen a w) (history_seen acts (happens a w).world)
+history_seen (a ∷ acts) w = joins (notes a w) (history acts (happens a w).world) (happens a w).seen (run acts (happens a w).world).seen (notes_seen a w)
+    (history_seen acts (happens a w).world)
 
 -- the kept changes
 
@@ -183,11 +196,13 @@ module _ (first : List Plain) where
   more : (ns : List Note) (xs : List Seen) → replayed (ns ++ saws xs) first ≡ replayed ns first
   more ns xs = replayed-append ns (saws xs) first ∙ nothing_kept xs (replayed ns first)
 
-  kept_leads : (ns : List Note) (states : List Plain) (h : HostId) (s : Plain) → slice_get states h.0 ≡ Some s → (why : Why) (o : Option (Change (List ℕ))) (xs : List Seen) → replayed ns first ≡ states
+  kept_leads : (ns : List Note) (states : List Plain) (h : HostId) (s : Plain) → slice_get states h.0 ≡ Some s
+      → (why : Why) (o : Option (Change (List ℕ))) (xs : List Seen) → replayed ns first ≡ states
       → replayed (ns ++ (kept_of h why o ++ saws xs)) first ≡ put_state h (after_change o s) states
   kept_leads ns states h s there why None xs k = more ns xs ∙ (k ∙ sym (put-same h.0 s states there))
   kept_leads ns states h s there why (Some c) xs k =
-      replayed-append ns (Kept h why c ∷ saws xs) first ∙ (nothing_kept xs (change_at h.0 (applied c) (replayed ns first)) ∙ (ap (change_at h.0 (applied c)) k ∙ at-value h.0 (applied c) s states there))
+      replayed-append ns (Kept h why c ∷ saws xs) first ∙ (nothing_kept xs (change_at h.0 (applied c) (replayed ns first))
+      ∙ (ap (change_at h.0 (applied c)) k ∙ at-value h.0 (applied c) s states there))
 
   pub leads_frames : Frames Leads
   leads_frames = record {
@@ -197,4 +212,4 @@ module _ (first : List Plain) where
   }
 
 pub history_leads : (acts : List Act) (w : World) → AreSane acts → replayed (history acts w) (states_of w) ≡ states_of (run acts w).world
-history_leads acts w sane = run_kept (Leads (states_of w)) (leads_frames (states_of w)) acts w [] sane refl
+history_leads acts w sane = run_kept (Leads (states_of w)) (steps_of (Leads (states_of w)) (leads_frames (states_of w))) acts w [] sane refl

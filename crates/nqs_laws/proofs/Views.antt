@@ -1,5 +1,6 @@
 -- What two hosts have of one another, and what a change of one of them makes of it.
-use Rattle.std.proofs.Common.{◌≡◌, ℕ, ◌⊎◌, inl, inr, Bool, true, false, cond, not, ◌||◌, List, [], ◌∷◌, map, find, slice_get, Option, None, Some, true≢false, zero, suc, refl, sym, ap, ◌∙◌}
+use Rattle.std.proofs.Common.{◌≡◌, ℕ, ◌⊎◌, inl, inr, Bool, true, false, cond, not, ◌||◌, List, [], ◌∷◌, map, find, slice_get, Option, None, Some, true≢false}
+use Rattle.std.proofs.Common.{zero, suc, refl, sym, ap, ◌∙◌}
 use Rattle.std.proofs.lemmas.Bool.{and_parts, eqb-true, eq-eqb, not-true, false_from_ne_true}
 use Rattle.std.proofs.lemmas.Option.{same_Some, none-some}
 use Rattle.std.specs.List.{list_any}
@@ -9,7 +10,6 @@ use Rattle.nqs_keyed.specs.Table.{has_key}
 use Rattle.nqs_state.specs.Keys.{is_hand, is_promise}
 use Rattle.nqs_types.specs.declared.ids.HostId.{HostId}
 use Rattle.nqs_types.specs.declared.ids.PeerNumber.{PeerNumber}
-use Rattle.nqs_types.specs.declared.request.Carried.{Carried}
 use Rattle.nqs_types.specs.declared.request.Hand.{Hand}
 use Rattle.nqs_types.specs.declared.request.Promise.{Promise}
 use Rattle.nqs_types.specs.declared.request.Peer.{Peer}
@@ -19,26 +19,23 @@ use Rattle.nqs_rules.specs.Tests.{passes, is_routing, is_offered, same_host}
 use Rattle.nqs_rules.specs.Find.{find_row, find_peer}
 use Rattle.nqs_rules.specs.Edits.{change_at}
 use Rattle.nqs_rules.specs.Routing.{is_hand_to}
-use Rattle.nqs_rules.specs.Handover.{carried_of}
 use Rattle.nqs_rules.specs.Applied.{is_promise_of}
 use Rattle.nqs_rules.specs.InOrder.{IsInOrder, are_distinct, is_routing_row, is_hand_right}
 use Rattle.nqs_rules.proofs.Chains.{implied}
 use Rattle.nqs_rules.proofs.ListFacts.{found_passes, list_all-found}
 use Rattle.nqs_rules.proofs.RowsOrder.{hand_is}
+use Rattle.nqs_laws.specs.Loads.{offered_load, kept_load}
 use Rattle.nqs_laws.proofs.RowTests.{PlainRow}
-use Rattle.nqs_laws.proofs.Pair.{Offer, NoOffer, Open, Given, Pledge, NoPledge, Pledged, Pair, Move, Stays, Offers, Withdraws, Commits, Finishes, Pledges, Accepts, Drops, moved, pair}
+use Rattle.nqs_laws.proofs.Pair.{Offer, NoOffer, Open, Given, Pledge, NoPledge, Pledged, Pair, Move, Stays, Offers, Withdraws, Commits, Finishes, Pledges}
+use Rattle.nqs_laws.proofs.Pair.{Accepts, Drops, moved, pair}
 
 abbrev pub Pledging : Type 0
 Pledging = Promise (List ℕ)
 
--- what a promised row carries
-abbrev pub carried_in : PlainRow → Carried
-carried_in r = record { id = r.id; job = r.job; starts = r.starts; lost = r.lost; hops = r.hops }
-
 abbrev pub phase_seen : Phase → Hand → Option PlainRow → Offer
 phase_seen Offered y None = NoOffer
-phase_seen Offered y (Some r) = Open y.number (carried_of r)
-phase_seen Committed y o = Given y.number
+phase_seen Offered y (Some r) = Open y.number (offered_load y.queue r)
+phase_seen Committed y o = Given y.number y.id y.queue
 
 abbrev pub offer_seen : Option Hand → Plain → Offer
 offer_seen None s = NoOffer
@@ -50,7 +47,7 @@ offered s b = offer_seen (find (is_hand_to b) s.hands) s
 
 abbrev pub pledge_seen : Option Pledging → Pledge
 pledge_seen None = NoPledge
-pledge_seen (Some p) = Pledged p.number (carried_in p.row)
+pledge_seen (Some p) = Pledged p.number (kept_load p.row)
 
 abbrev pub promise_of : HostId → Plain → Option Pledging
 promise_of a t = find (is_promise_of a) t.promises
@@ -164,8 +161,10 @@ module _ {K V : Type 0} (eq : K → K → Bool) (key : V → K) (exact : (a b : 
   key_in u [] v e = absurd (none-some v e)
   key_in u (x ∷ vs) v e = by (u x) e (key_in u vs v)
     where
-      by : (b : Bool) → cond b (Some x) (find u vs) ≡ Some v → (find u vs ≡ Some v → list_any (eq (key v)) (map key vs) ≡ true) → (eq (key v) (key x) || list_any (eq (key v)) (map key vs)) ≡ true
-      by true e rest = ap (λ y. eq (key y) (key x) || list_any (eq (key y)) (map key vs)) (sym (same_Some x v e)) ∙ ap (λ b. b || list_any (eq (key x)) (map key vs)) (same (key x))
+      by : (b : Bool) → cond b (Some x) (find u vs) ≡ Some v → (find u vs ≡ Some v → list_any (eq (key v)) (map key vs) ≡ true)
+          → (eq (key v) (key x) || list_any (eq (key v)) (map key vs)) ≡ true
+      by true e rest = ap (λ y. eq (key y) (key x) || list_any (eq (key y)) (map key vs)) (sym (same_Some x v e))
+          ∙ ap (λ b. b || list_any (eq (key x)) (map key vs)) (same (key x))
       by false e rest = right (eq (key v) (key x)) (rest e)
         where
           right : (b : Bool) {c : Bool} → c ≡ true → (b || c) ≡ true
@@ -174,13 +173,18 @@ module _ {K V : Type 0} (eq : K → K → Bool) (key : V → K) (exact : (a b : 
 
   pub found_by_key : (u : V → Bool) (vs : List V) (v : V) → find u vs ≡ Some v → are_distinct eq (map key vs) ≡ true → find (has_key eq key (key v)) vs ≡ Some v
   found_by_key u [] v e d = absurd (none-some v e)
-  found_by_key u (x ∷ vs) v e d = by (u x) e (eq (key v) (key x)) refl (and_parts (not (list_any (eq (key x)) (map key vs))) (are_distinct eq (map key vs)) d) (found_by_key u vs v)
+  found_by_key u (x ∷ vs) v e d = by (u x) e (eq (key v) (key x)) refl (and_parts (not (list_any (eq (key x)) (map key vs))) (are_distinct eq (map key vs)) d)
+      (found_by_key u vs v)
     where
-      by : (a : Bool) → cond a (Some x) (find u vs) ≡ Some v → (b : Bool) → eq (key v) (key x) ≡ b → (not (list_any (eq (key x)) (map key vs)) ≡ true) × (are_distinct eq (map key vs) ≡ true)
-          → (find u vs ≡ Some v → are_distinct eq (map key vs) ≡ true → find (has_key eq key (key v)) vs ≡ Some v) → cond (eq (key v) (key x)) (Some x) (find (has_key eq key (key v)) vs) ≡ Some v
-      by true e b f p rest = ap (λ y. cond (eq (key y) (key x)) (Some x) (find (has_key eq key (key y)) vs)) (sym (same_Some x v e)) ∙ (ap (λ c. cond c (Some x) (find (has_key eq key (key x)) vs)) (same (key x)) ∙ e)
+      by : (a : Bool) → cond a (Some x) (find u vs) ≡ Some v → (b : Bool) → eq (key v) (key x) ≡ b
+          → (not (list_any (eq (key x)) (map key vs)) ≡ true) × (are_distinct eq (map key vs) ≡ true)
+          → (find u vs ≡ Some v → are_distinct eq (map key vs) ≡ true → find (has_key eq key (key v)) vs ≡ Some v)
+          → cond (eq (key v) (key x)) (Some x) (find (has_key eq key (key v)) vs) ≡ Some v
+      by true e b f p rest = ap (λ y. cond (eq (key y) (key x)) (Some x) (find (has_key eq key (key y)) vs)) (sym (same_Some x v e))
+          ∙ (ap (λ c. cond c (Some x) (find (has_key eq key (key x)) vs)) (same (key x)) ∙ e)
       by false e true f p rest =
-          absurd (true≢false (sym (ap (λ k. list_any (eq k) (map key vs)) (sym (exact (key v) (key x) f)) ∙ key_in u vs v e) ∙ not-true (list_any (eq (key x)) (map key vs)) p.0))
+          absurd (true≢false (sym (ap (λ k. list_any (eq k) (map key vs)) (sym (exact (key v) (key x) f)) ∙ key_in u vs v e)
+          ∙ not-true (list_any (eq (key x)) (map key vs)) p.0))
       by false e false f p rest = ap (λ c. cond c (Some x) (find (has_key eq key (key v)) vs)) f ∙ rest e p.1
 
 -- a hand under its number is the one to its peer
@@ -192,7 +196,8 @@ module _ (s : Plain) (lone : IsLone s.hands) (k : PeerNumber) (y : Hand) (found 
   hand_number = ap (λ (i : PeerNumber). i.number) (peer_number_exact k (hand_key y) (found_passes (is_hand k) s.hands y found))
 
   pub hand_to_peer : find (is_hand_to k.peer) s.hands ≡ Some y
-  hand_to_peer = ap (λ i. find (is_hand_to i) s.hands) hand_peer ∙ found_by_key same_host (λ (z : Hand). z.peer) host_exact host_same (is_hand k) s.hands y found lone
+  hand_to_peer = ap (λ i. find (is_hand_to i) s.hands) hand_peer ∙ found_by_key same_host (λ (z : Hand). z.peer) host_exact host_same
+      (is_hand k) s.hands y found lone
 
 -- and a promise
 module _ (t : Plain) (h : IsInOrder t) (k : PeerNumber) (p : Pledging) (found : find (is_promise k) t.promises ≡ Some p) where
@@ -203,19 +208,24 @@ module _ (t : Plain) (h : IsInOrder t) (k : PeerNumber) (p : Pledging) (found : 
   promise_number = ap (λ (i : PeerNumber). i.number) (peer_number_exact k (promise_key p) (found_passes (is_promise k) t.promises p found))
 
   pub promise_to_peer : promise_of k.peer t ≡ Some p
-  promise_to_peer = ap (λ i. promise_of i t) promise_peer ∙ found_by_key same_host (λ (q : Pledging). q.peer) host_exact host_same (is_promise k) t.promises p found h.promisers
+  promise_to_peer = ap (λ i. promise_of i t) promise_peer ∙ found_by_key same_host (λ (q : Pledging). q.peer) host_exact host_same
+      (is_promise k) t.promises p found h.promisers
 
 -- the row of an offer
-pub routing_of : (s : Plain) → IsInOrder s → (u : Hand → Bool) (y : Hand) → find u s.hands ≡ Some y → is_offered y.phase ≡ true → (r : PlainRow) × (find_row y.id s ≡ Some r) × (is_routing r.state ≡ true)
-routing_of s h u y found opens = of (find_row y.id s) refl (implied (is_offered y.phase) (passes is_routing_row (find_row y.id s)) (hand_is s y (list_all-found (is_hand_right s) u s.hands y h.hands found)).stands opens)
+pub routing_of : (s : Plain) → IsInOrder s → (u : Hand → Bool) (y : Hand) → find u s.hands ≡ Some y → is_offered y.phase ≡ true
+    → (r : PlainRow) × (find_row y.id s ≡ Some r) × (is_routing r.state ≡ true)
+routing_of s h u y found opens = of (find_row y.id s) refl (implied (is_offered y.phase) (passes is_routing_row (find_row y.id s))
+    (hand_is s y (list_all-found (is_hand_right s) u s.hands y h.hands found)).stands opens)
   where
-    of : (o : Option PlainRow) → find_row y.id s ≡ o → passes is_routing_row o ≡ true → (r : PlainRow) × (find_row y.id s ≡ Some r) × (is_routing r.state ≡ true)
+    of : (o : Option PlainRow) → find_row y.id s ≡ o → passes is_routing_row o ≡ true
+        → (r : PlainRow) × (find_row y.id s ≡ Some r) × (is_routing r.state ≡ true)
     of None e k = absurd (true≢false (sym k))
     of (Some r) e k = (r, e, k)
 
 -- offers stand where hands stay and rows on their way too
 pub offer_stands : (s s' : Plain) → IsInOrder s → (u : Hand → Bool) (o : Option Hand) → find u s.hands ≡ o
-    → ((y : Hand) (r : PlainRow) → o ≡ Some y → find_row y.id s ≡ Some r → is_routing r.state ≡ true → find_row y.id s' ≡ Some r) → offer_seen o s' ≡ offer_seen o s
+    → ((y : Hand) (r : PlainRow) → o ≡ Some y → find_row y.id s ≡ Some r → is_routing r.state ≡ true → find_row y.id s' ≡ Some r)
+    → offer_seen o s' ≡ offer_seen o s
 offer_stands s s' h u None e stay = refl
 offer_stands s s' h u (Some y) e stay = by y.phase refl
   where
@@ -224,21 +234,24 @@ offer_stands s s' h u (Some y) e stay = by y.phase refl
     by Committed is = refl
 
 -- numbers of peers
-pub field_kept : (g : Peer → ℕ) (d n k : ℕ) (f : Peer → Peer) (ps : List Peer) → ((p : Peer) → g (f p) ≡ g p) → peer_field g d (slice_get (change_at n f ps) k) ≡ peer_field g d (slice_get ps k)
+pub field_kept : (g : Peer → ℕ) (d n k : ℕ) (f : Peer → Peer) (ps : List Peer) → ((p : Peer) → g (f p) ≡ g p)
+    → peer_field g d (slice_get (change_at n f ps) k) ≡ peer_field g d (slice_get ps k)
 field_kept g d n k f [] same = refl
 field_kept g d zero zero f (p ∷ ps) same = same p
 field_kept g d zero (suc k) f (p ∷ ps) same = refl
 field_kept g d (suc n) zero f (p ∷ ps) same = refl
 field_kept g d (suc n) (suc k) f (p ∷ ps) same = field_kept g d n k f ps same
 
-pub field_other : (g : Peer → ℕ) (d n k : ℕ) (f : Peer → Peer) (ps : List Peer) → (n ≡ k → ⊥) → peer_field g d (slice_get (change_at n f ps) k) ≡ peer_field g d (slice_get ps k)
+pub field_other : (g : Peer → ℕ) (d n k : ℕ) (f : Peer → Peer) (ps : List Peer) → (n ≡ k → ⊥)
+    → peer_field g d (slice_get (change_at n f ps) k) ≡ peer_field g d (slice_get ps k)
 field_other g d n k f [] other = refl
 field_other g d zero zero f (p ∷ ps) other = absurd (other refl)
 field_other g d zero (suc k) f (p ∷ ps) other = refl
 field_other g d (suc n) zero f (p ∷ ps) other = refl
 field_other g d (suc n) (suc k) f (p ∷ ps) other = field_other g d n k f ps (λ e. other (ap suc e))
 
-pub field_here : (g : Peer → ℕ) (d n v : ℕ) (f : Peer → Peer) (ps : List Peer) (p : Peer) → slice_get ps n ≡ Some p → ((q : Peer) → g (f q) ≡ v) → peer_field g d (slice_get (change_at n f ps) n) ≡ v
+pub field_here : (g : Peer → ℕ) (d n v : ℕ) (f : Peer → Peer) (ps : List Peer) (p : Peer) → slice_get ps n ≡ Some p → ((q : Peer) → g (f q) ≡ v)
+    → peer_field g d (slice_get (change_at n f ps) n) ≡ v
 field_here g d n v f [] p e is = absurd (none-some p e)
 field_here g d zero v f (q ∷ ps) p e is = is q
 field_here g d (suc n) v f (q ∷ ps) p e is = field_here g d n v f ps p e is

@@ -1,5 +1,6 @@
 -- Walks along a history: of launches, losses and what is taken out.
-use Rattle.std.proofs.Common.{◌≡◌, ℕ, ◌+◌, ◌≤◌, ◌⊎◌, inl, inr, Bool, true, false, not, ◌&&◌, ◌||◌, List, [], ◌∷◌, ◌++◌, None, Some, refl, sym, ap, subst, ◌∙◌, arith}
+use Rattle.std.proofs.Common.{◌≡◌, ℕ, ◌+◌, ◌≤◌, ◌⊎◌, inl, inr, Bool, true, false, not, ◌&&◌, ◌||◌, List, [], ◌∷◌, ◌++◌, None, Some, refl, sym, ap, subst, ◌∙◌}
+use Rattle.std.proofs.Common.{arith}
 use Rattle.std.proofs.lemmas.List.Elements.{filter_map-append}
 use Rattle.std.proofs.lemmas.List.Folds.{list_any-append}
 use Rattle.nqs_state.specs.State.{Plain}
@@ -37,13 +38,20 @@ abbrev pub pending_at : Request → List Plain → Bool → List Note → Bool
 pending_at x states p [] = p
 pending_at x states p (n ∷ ns) = pending_at x (states_after states n) (pending_after x states p n) ns
 
-pub pending-append : (x : Request) (a b : List Note) (states : List Plain) (p : Bool) → pending_at x states p (a ++ b) ≡ pending_at x (replayed a states) (pending_at x states p a) b
+pub pending-append : (x : Request) (a b : List Note) (states : List Plain) (p : Bool)
+    → pending_at x states p (a ++ b) ≡ pending_at x (replayed a states) (pending_at x states p a) b
 pending-append x [] b states p = refl
-pending-append x (n ∷ a) b states p = pending-append x a b (states_after states n) (pending_after x states p n) ∙ ap (λ l. pending_at x l (pending_at x (states_after states n) (pending_after x states p n) a) b) (sym (replay_walk n a states))
+pending-append x (n ∷ a) b states p = pending-append x a b (states_after states n) (pending_after x states p n)
+    ∙ ap (λ l. pending_at x l (pending_at x (states_after states n) (pending_after x states p n) a) b) (sym (replay_walk n a states))
 
-pub apart-append : (x : Request) (a b : List Note) (states : List Plain) (p : Bool) → AreApart x states p a → AreApart x (replayed a states) (pending_at x states p a) b → AreApart x states p (a ++ b)
+pub apart-append : (x : Request) (a b : List Note) (states : List Plain) (p : Bool) → AreApart x states p a
+    → AreApart x (replayed a states) (pending_at x states p a) b → AreApart x states p (a ++ b)
 apart-append x [] b states p k l = l
-apart-append x (n ∷ a) b states p k l = (k.0, apart-append x a b (states_after states n) (pending_after x states p n) k.1 (subst (λ q. AreApart x q (pending_at x (states_after states n) (pending_after x states p n) a) b) (replay_walk n a states) l))
+apart-append x (n ∷ a) b states p k l = (
+  k.0,
+  apart-append x a b (states_after states n) (pending_after x states p n) k.1
+      (subst (λ q. AreApart x q (pending_at x (states_after states n) (pending_after x states p n) a) b) (replay_walk n a states) l),
+)
 
 pub started-append : (a b : List Note) (states : List Plain) → AreStarted states a → AreStarted (replayed a states) b → AreStarted states (a ++ b)
 started-append [] b states k l = l
@@ -59,11 +67,13 @@ or_assoc : (a b c : Bool) → ((a || b) || c) ≡ (a || (b || c))
 or_assoc true b c = refl
 or_assoc false b c = refl
 
-pub taken-append : (x : Request) (a b : List Note) (states : List Plain) → was_taken_out x states (a ++ b) ≡ (was_taken_out x states a || was_taken_out x (replayed a states) b)
+pub taken-append : (x : Request) (a b : List Note) (states : List Plain) → was_taken_out x states (a ++ b)
+    ≡ (was_taken_out x states a || was_taken_out x (replayed a states) b)
 taken-append x [] b states = refl
 taken-append x (n ∷ a) b states =
     let here = lies x states && not (lies x (states_after states n)) in
-    ap (λ c. here || c) (taken-append x a b (states_after states n) ∙ ap (λ l. was_taken_out x (states_after states n) a || was_taken_out x l b) (sym (replay_walk n a states)))
+    ap (λ c. here || c) (taken-append x a b (states_after states n) ∙ ap (λ l. was_taken_out x (states_after states n) a || was_taken_out x l b)
+    (sym (replay_walk n a states)))
     ∙ sym (or_assoc here (was_taken_out x (states_after states n) a) (was_taken_out x (replayed (n ∷ a) states) b))
 
 -- what a step makes of an entry
@@ -135,7 +145,7 @@ module _ (s : Plain) (x : Request) where
   rows_new (AbortQueue q) l = l
   rows_new e l = l
 
-  edit_new : (e : Edit) → LicensesEdit e s x Submit → ⊥
+  pub edit_new : (e : Edit) → LicensesEdit e s x Submit → ⊥
   edit_new (Conf e) l = conf_new e l
   edit_new (RowsOf e) l = rows_new e l
   edit_new e l = l

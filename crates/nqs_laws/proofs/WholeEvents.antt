@@ -1,5 +1,6 @@
 -- What a whole event makes of the packets and of its host, where no fuse falls within it.
-use Rattle.std.proofs.Common.{◌≡◌, ℕ, ◌+◌, Bool, true, false, List, [], ◌∷◌, ◌++◌, map, length, slice_get, Option, None, Some, true≢false, zero, suc, refl, sym, ap, subst, ◌∙◌, arith, if◌then◌else◌}
+use Rattle.std.proofs.Common.{◌≡◌, ℕ, ◌+◌, Bool, true, false, List, [], ◌∷◌, ◌++◌, map, length, slice_get, Option, None, Some, true≢false, zero, suc, refl, sym}
+use Rattle.std.proofs.Common.{ap, subst, ◌∙◌, arith, if◌then◌else◌}
 use Rattle.std.proofs.lemmas.List.{append_assoc, append-nil}
 use Rattle.std.proofs.lemmas.Option.{same_Some, none-some, slice_get-map}
 use Rattle.std.specs.Option.{option_map}
@@ -16,13 +17,14 @@ use Rattle.nqs_rules.specs.Starts.{after_change, after_step}
 use Rattle.nqs_rules.specs.Step.{step}
 use Rattle.nqs_rules.specs.Start.{start}
 use Rattle.nqs_rules.specs.Stepped.{Stepped, shown, stored_parts}
-use Rattle.nqs_rules.specs.World.{World, Host, Fate, Made, StoppedBefore, StoppedAfter, fate, host_of, put_host, then_seen, seeing, unseen, stopped, used, emits, change_fated, carries_out, steps, starts, all_starts, left_of, shuts_down, halts, takes_up, taken_by, takes, packet_at}
+use Rattle.nqs_rules.specs.World.{World, Host, Fate, Made, StoppedBefore, StoppedAfter, fate, host_of, put_host, then_seen, seeing, unseen, stopped, used}
+use Rattle.nqs_rules.specs.World.{emits, change_fated, carries_out, steps, starts, all_starts, left_of, shuts_down, halts, takes_up, taken_by, takes, packet_at}
 use Rattle.nqs_types.specs.declared.world.Seen.TheVariants as seen
 use Rattle.nqs_laws.specs.History.{Note, ByEvent, ByStart, step_notes}
 use Rattle.nqs_laws.specs.Handovers.{IsStateOf}
 use Rattle.nqs_laws.specs.Sending.{Sends}
 use Rattle.nqs_laws.specs.Whole.{is_up, WasSentBetween}
-use Rattle.nqs_laws.proofs.Frame.{moment, Comes, sent_in, world_of, state_in, emits_world, step_kept, begin_kept}
+use Rattle.nqs_laws.proofs.Frame.{moment, Comes, sent_in, world_of, state_in, emits_world, steps_of, step_kept, begin_kept}
 use Rattle.nqs_laws.proofs.Sound.{IsSound, sound_frames, get-here}
 
 -- the state of a host
@@ -62,16 +64,30 @@ module _ (h : HostId) (w : World) (host : Host) (there : host_of h w ≡ Some ho
       os : List Output
       os = map shown x.outputs
 
-      fated : (f : Fate) (c : Change (List ℕ)) → is_up h (change_fated f h host c [] os w).world ≡ true → Did w (change_fated f h host c [] os w).world h host.state (record { change = Some c; outputs = x.outputs })
+      fated : (f : Fate) (c : Change (List ℕ)) → is_up h (change_fated f h host c [] os w).world ≡ true
+          → Did w (change_fated f h host c [] os w).world h host.state (record { change = Some c; outputs = x.outputs })
       fated Made c up =
           let new : Host = used (stored_parts c) (applied c host.state) host in
           let v : World = put_host h new w in
-          record { packets = ap (λ (u : World). u.packets) (emits_world h os v); host = new; there = ap (host_of h) (emits_world h os v) ∙ put_there new; is = refl }
+          record {
+            packets = ap (λ (u : World). u.packets) (emits_world h os v);
+            host = new;
+            there = ap (host_of h) (emits_world h os v)
+                ∙ put_there new;
+            is = refl;
+          }
       fated StoppedBefore c up = absurd (down host.state up)
       fated StoppedAfter c up = absurd (down (applied c host.state) up)
 
-      of : (o : Option (Change (List ℕ))) → is_up h (carries_out h host o os w).world ≡ true → Did w (carries_out h host o os w).world h host.state (record { change = o; outputs = x.outputs })
-      of None up = record { packets = ap (λ (u : World). u.packets) (emits_world h os w); host = host; there = ap (host_of h) (emits_world h os w) ∙ there; is = refl }
+      of : (o : Option (Change (List ℕ))) → is_up h (carries_out h host o os w).world ≡ true
+          → Did w (carries_out h host o os w).world h host.state (record { change = o; outputs = x.outputs })
+      of None up = record {
+        packets = ap (λ (u : World). u.packets) (emits_world h os w);
+        host = host;
+        there = ap (host_of h) (emits_world h os w)
+            ∙ there;
+        is = refl;
+      }
       of (Some c) up = fated (fate (stored_parts c) host) c up
 
   -- whatever falls, packets stay, and the state is that before or that after
@@ -90,7 +106,8 @@ module _ (h : HostId) (w : World) (host : Host) (there : host_of h w ≡ Some ho
       of None = (sent_in os, ap (λ (u : World). u.packets) (emits_world h os w))
       of (Some c) = fated (fate (stored_parts c) host) c
 
-  pub steps_state : (x : Stepped (List ℕ)) (P : Plain → Type 0) → P host.state → P (after_step x host.state) → (s : Plain) → IsStateOf (steps h host x w).world h s → P s
+  pub steps_state : (x : Stepped (List ℕ)) (P : Plain → Type 0) → P host.state → P (after_step x host.state) → (s : Plain)
+      → IsStateOf (steps h host x w).world h s → P s
   steps_state x P before behind s at = of x.change behind at
     where
       os : List Output
@@ -105,7 +122,8 @@ module _ (h : HostId) (w : World) (host : Host) (there : host_of h w ≡ Some ho
           let v : World = put_host h new w in
           at_host (emits h os v).world new (ap (host_of h) (emits_world h os v) ∙ put_there new) p at
       fated StoppedBefore c p at = at_host (put_host h (stopped host.state host) w) (stopped host.state host) (put_there (stopped host.state host)) before at
-      fated StoppedAfter c p at = at_host (put_host h (stopped (applied c host.state) host) w) (stopped (applied c host.state) host) (put_there (stopped (applied c host.state) host)) p at
+      fated StoppedAfter c p at = at_host (put_host h (stopped (applied c host.state) host) w) (stopped (applied c host.state) host)
+          (put_there (stopped (applied c host.state) host)) p at
 
       of : (o : Option (Change (List ℕ))) → P (after_change o host.state) → IsStateOf (carries_out h host o os w).world h s → P s
       of None p at = at_host (emits h os w).world host (ap (host_of h) (emits_world h os w) ∙ there) p at
@@ -156,17 +174,21 @@ up_before n h w up = by (is_up h w) refl
     by false e = absurd (true≢false (sym up ∙ (ap (is_up h) (starts_down n h w e) ∙ e)))
 
 -- what each start keeps, all starts keep
-module _ (site : List (List ℕ)) (h : HostId) (R : World → Type 0) (keeps : (w : World) (ns : List Note) → IsSound site (moment w ns) → (host : Host) → host_of h w ≡ Some host → (x : Stepped (List ℕ)) → start w.now host.state ≡ Some x → R w → R (steps h host x w).world) where
+module _ (site : List (List ℕ)) (h : HostId) (R : World → Type 0) (keeps : (w : World) (ns : List Note) → IsSound site (moment w ns) → (host : Host)
+    → host_of h w ≡ Some host → (x : Stepped (List ℕ)) → start w.now host.state ≡ Some x → R w → R (steps h host x w).world) where
   pub starts_keep : (n : ℕ) (w : World) (ns : List Note) → IsSound site (moment w ns) → R w → R (starts n h w).world
   starts_keep zero w ns sound r = r
   starts_keep (suc n) w ns sound r = of (host_of h w) refl (starts_keep n)
     where
-      by : (host : Host) → host_of h w ≡ Some host → (up : Bool) (o : Option (Stepped (List ℕ))) → start w.now host.state ≡ o → ((v : World) (ms : List Note) → IsSound site (moment v ms) → R v → R (starts n h v).world) → R (begins n h host up o w)
+      by : (host : Host) → host_of h w ≡ Some host → (up : Bool) (o : Option (Stepped (List ℕ))) → start w.now host.state ≡ o
+          → ((v : World) (ms : List Note) → IsSound site (moment v ms) → R v → R (starts n h v).world) → R (begins n h host up o w)
       by host there false o e rest = r
       by host there true None e rest = r
-      by host there true (Some x) e rest = rest (steps h host x w).world (ns ++ step_notes h host ByStart x w) (begin_kept (IsSound site) (sound_frames site) w ns h host there x e sound) (keeps w ns sound host there x e r)
+      by host there true (Some x) e rest = rest (steps h host x w).world (ns ++ step_notes h host ByStart x w)
+          (begin_kept (IsSound site) (steps_of (IsSound site) (sound_frames site)) w ns h host there x e sound) (keeps w ns sound host there x e r)
 
-      of : (o : Option Host) → host_of h w ≡ o → ((v : World) (ms : List Note) → IsSound site (moment v ms) → R v → R (starts n h v).world) → R (starts_of n h o w)
+      of : (o : Option Host) → host_of h w ≡ o → ((v : World) (ms : List Note) → IsSound site (moment v ms) → R v → R (starts n h v).world)
+          → R (starts_of n h o w)
       of None e rest = r
       of (Some host) e rest = by host e host.up (start w.now host.state) refl rest
 
@@ -182,7 +204,8 @@ pub record Took (site : List (List ℕ)) (w v : World) (h : HostId) (e : Event) 
   pub sound : IsSound site (moment stepped notes)
   pub then_started : v ≡ (all_starts h stepped).world
 
-pub took : (site : List (List ℕ)) (w : World) (ns : List Note) → IsSound site (moment w ns) → (h : HostId) (e : Event) → Comes w.packets h e → ((s : Plain) → shuts_down e s ≡ false) → is_up h (takes h e w).world ≡ true → Took site w (takes h e w).world h e
+pub took : (site : List (List ℕ)) (w : World) (ns : List Note) → IsSound site (moment w ns) → (h : HostId) (e : Event) → Comes w.packets h e
+    → ((s : Plain) → shuts_down e s ≡ false) → is_up h (takes h e w).world ≡ true → Took site w (takes h e w).world h e
 took site w ns sound h e comes open_still up = of (host_of h w) refl up
   where
     ended : (host : Host) → (b : Bool) → b ≡ false → (v : World) → (halts b h v).world ≡ v
@@ -193,22 +216,25 @@ took site w ns sound h e comes open_still up = of (host_of h w) refl up
     taken host there up =
         let x : Stepped (List ℕ) = step e host.state in
         let v : World = (steps h host x w).world in
-        let after : (takes_up h host e w).world ≡ (all_starts h v).world = ended host (shuts_down e host.state) (open_still host.state) (all_starts h v).world in
+        let after : (takes_up h host e w).world ≡ (all_starts h v).world =
+        ended host (shuts_down e host.state) (open_still host.state) (all_starts h v).world in
         record {
           host = host;
           there = there;
           stepped = v;
           did = steps_did h w host there x (up_before (left_of (host_of h v)) h v (sym (ap (is_up h) after) ∙ up));
           notes = ns ++ step_notes h host (ByEvent e) x w;
-          sound = step_kept (IsSound site) (sound_frames site) w ns h host there e comes sound;
+          sound = step_kept (IsSound site) (steps_of (IsSound site) (sound_frames site)) w ns h host there e comes sound;
           then_started = after;
         }
 
-    by : (host : Host) → host_of h w ≡ Some host → (b : Bool) → host.up ≡ b → is_up h (if b then takes_up h host e w else seeing (seen.Down h) w).world ≡ true → Took site w (if b then takes_up h host e w else seeing (seen.Down h) w).world h e
+    by : (host : Host) → host_of h w ≡ Some host → (b : Bool) → host.up ≡ b → is_up h (if b then takes_up h host e w else seeing (seen.Down h) w).world ≡ true
+        → Took site w (if b then takes_up h host e w else seeing (seen.Down h) w).world h e
     by host there true k up = taken host there up
     by host there false k up = absurd (true≢false (sym up ∙ (ap (passes (λ (x : Host). x.up)) there ∙ k)))
 
-    of : (o : Option Host) → host_of h w ≡ o → is_up h (taken_by o h (λ host. takes_up h host e) w).world ≡ true → Took site w (taken_by o h (λ host. takes_up h host e) w).world h e
+    of : (o : Option Host) → host_of h w ≡ o → is_up h (taken_by o h (λ host. takes_up h host e) w).world ≡ true
+        → Took site w (taken_by o h (λ host. takes_up h host e) w).world h e
     of None k up = absurd (true≢false (sym up ∙ ap (passes (λ (x : Host). x.up)) k))
     of (Some host) k up = by host k host.up refl up
 
@@ -217,14 +243,16 @@ module _ (site : List (List ℕ)) (w v : World) (h : HostId) (e : Event) (k : To
   took_more : More k.stepped v
   took_more =
       subst (More k.stepped) (sym k.then_started)
-      (starts_keep site h (More k.stepped) (λ u ns sound host there x begun more. more_more k.stepped u (steps h host x u).world more (steps_more h u host there x))
+      (starts_keep site h (More k.stepped) (λ u ns sound host there x begun more. more_more k.stepped u (steps h host x u).world more
+      (steps_more h u host there x))
       (left_of (host_of h k.stepped)) k.stepped k.notes k.sound (more_none k.stepped))
 
   pub packets_stay : (n : ℕ) (m : Message) → packet_at n w ≡ Some m → packet_at n v ≡ Some m
   packets_stay zero m e = e
   packets_stay (suc n) m e =
       ap (λ l. slice_get l n) (took_more.1 ∙ ap (λ l. l ++ took_more.0) k.did.packets)
-      ∙ get_first (w.packets ++ sent_in (map shown (step _ k.host.state).outputs)) took_more.0 n m (get_first w.packets (sent_in (map shown (step _ k.host.state).outputs)) n m e)
+      ∙ get_first (w.packets ++ sent_in (map shown (step _ k.host.state).outputs)) took_more.0 n m
+      (get_first w.packets (sent_in (map shown (step _ k.host.state).outputs)) n m e)
     where
       get_first : {V : Type 0} (a b : List V) (n : ℕ) (m : V) → slice_get a n ≡ Some m → slice_get (a ++ b) n ≡ Some m
       get_first [] b n m e = absurd (none-some m e)
@@ -235,11 +263,13 @@ module _ (site : List (List ℕ)) (w v : World) (h : HostId) (e : Event) (k : To
   pub sent_now : (m : Message) → Sends (step e k.host.state) m → WasSentBetween w v m
   sent_now m sends =
       let os = sent_in (map shown (step e k.host.state).outputs) in
-      let all : v.packets ≡ w.packets ++ (os ++ took_more.0) = took_more.1 ∙ (ap (λ l. l ++ took_more.0) k.did.packets ∙ append_assoc w.packets os took_more.0) in (
+      let all : v.packets ≡ w.packets ++ (os ++ took_more.0) = took_more.1
+      ∙ (ap (λ l. l ++ took_more.0) k.did.packets ∙ append_assoc w.packets os took_more.0) in (
         suc (length w.packets + sends.0),
         record {
           fresh = omega arith;
-          there = ap (λ l. slice_get l (length w.packets + sends.0)) all ∙ (get_second w.packets (os ++ took_more.0) sends.0 (length w.packets + sends.0) refl ∙ get_in os took_more.0 sends.0 m sends.1);
+          there = ap (λ l. slice_get l (length w.packets + sends.0)) all ∙
+              (get_second w.packets (os ++ took_more.0) sends.0 (length w.packets + sends.0) refl ∙ get_in os took_more.0 sends.0 m sends.1);
         },
       )
     where
@@ -254,13 +284,15 @@ module _ (site : List (List ℕ)) (w v : World) (h : HostId) (e : Event) (k : To
       get_in (x ∷ a) b (suc n) m e = get_in a b n m e
 
   -- what its step leaves, and each start keeps, is so afterwards
-  pub holds_after : (P : Plain → Type 0) → ((s : Plain) → IsInOrder s → (now : ℕ) (x : Stepped (List ℕ)) → start now s ≡ Some x → P s → P (after_step x s)) → P (after_step (step e k.host.state) k.host.state) → (s : Plain) → IsStateOf v h s → P s
+  pub holds_after : (P : Plain → Type 0) → ((s : Plain) → IsInOrder s → (now : ℕ) (x : Stepped (List ℕ)) → start now s ≡ Some x → P s → P (after_step x s))
+      → P (after_step (step e k.host.state) k.host.state) → (s : Plain) → IsStateOf v h s → P s
   holds_after P keeps first s at =
       starts_keep site h (λ u. (t : Plain) → IsStateOf u h t → P t) (λ u ns sound host there x begun all. begin u ns sound host there x begun all)
       (left_of (host_of h k.stepped)) k.stepped k.notes k.sound (λ t is. subst P (sym (state_of_host h k.stepped k.did.host t k.did.there is ∙ k.did.is)) first)
       s (subst (λ u. IsStateOf u h s) k.then_started at)
     where
-      begin : (u : World) (ns : List Note) → IsSound site (moment u ns) → (host : Host) → host_of h u ≡ Some host → (x : Stepped (List ℕ)) → start u.now host.state ≡ Some x → ((t : Plain) → IsStateOf u h t → P t) → (t : Plain) → IsStateOf (steps h host x u).world h t → P t
+      begin : (u : World) (ns : List Note) → IsSound site (moment u ns) → (host : Host) → host_of h u ≡ Some host → (x : Stepped (List ℕ))
+          → start u.now host.state ≡ Some x → ((t : Plain) → IsStateOf u h t → P t) → (t : Plain) → IsStateOf (steps h host x u).world h t → P t
       begin u ns sound host there x begun all =
           let at : IsStateOf u h host.state = slice_get-map state_in u.hosts h.0 ∙ ap (option_map state_in) there in
           let now : P host.state = all host.state at in

@@ -16,7 +16,8 @@ InEachWorld holds = (site : List (List ℕ)) (acts : List Act) → IsSite site �
 
 -- what holds of such a world and of each that the run reaches later
 abbrev pub AsRunsGoOn : (World → World → Type 0) → Type 0
-AsRunsGoOn holds = (site : List (List ℕ)) (acts more : List Act) → IsSite site → AreSane (acts ++ more) → holds (run_of site acts).world (run_of site (acts ++ more)).world
+AsRunsGoOn holds = (site : List (List ℕ)) (acts more : List Act) → IsSite site → AreSane (acts ++ more)
+    → holds (run_of site acts).world (run_of site (acts ++ more)).world
 
 -- what holds of each history, and of the states that it begins with
 abbrev pub InEachRun : (List Plain → List Note → Type 0) → Type 0

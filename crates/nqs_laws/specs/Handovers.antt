@@ -1,13 +1,13 @@
 -- Handovers between two hosts, as a world that a run reaches has them.
 use Rattle.std.specs.Prelude.{◌≡◌, ℕ, ◌+◌, Bool, true, false, ◌||◌, ◌==◌, Option, Some, is_some, slice_get}
-use Rattle.std.specs.Option.{option_map}
 use Rattle.nqs_state.specs.State.{Plain}
 use Rattle.nqs_rules.specs.Tests.{passes}
-use Rattle.nqs_rules.specs.Find.{find_row, find_hand, has_promise, find_peer}
+use Rattle.nqs_rules.specs.Find.{find_hand, has_promise, find_peer}
 use Rattle.nqs_rules.specs.Fits.{is_offered_hand, is_committed_hand}
-use Rattle.nqs_rules.specs.Handover.{closes, was_given, carried_of}
+use Rattle.nqs_rules.specs.Handover.{closes, was_given}
 use Rattle.nqs_rules.specs.World.{World, packet_at}
 use Rattle.nqs_rules.specs.Run.{states_of}
+use Rattle.nqs_laws.specs.Loads.{load_of, sent_load}
 use Rattle.nqs_types.specs.declared.ids.HostId.{HostId}
 use Rattle.nqs_types.specs.declared.request.Peer.{Peer}
 use Rattle.nqs_types.specs.declared.message.Message.{Message}
@@ -25,8 +25,8 @@ WasSent w m = (k : ℕ) × (packet_at k w ≡ Some m)
 abbrev pub is_open : HostId → ℕ → Plain → Bool
 is_open to n s = passes is_offered_hand (find_hand to n s)
 
-abbrev pub is_given : HostId → ℕ → Plain → Bool
-is_given to n s = passes is_committed_hand (find_hand to n s)
+abbrev pub is_committed_to : HostId → ℕ → Plain → Bool
+is_committed_to to n s = passes is_committed_hand (find_hand to n s)
 
 -- of the receiver: the number of this sender is closed, or it is promised or closed
 abbrev pub is_closed_for : HostId → ℕ → Plain → Bool
@@ -42,16 +42,16 @@ is_last_given n p = passes (λ peer. peer.next == n + 1) p
 -- What a host in state s has of its handovers to another goes with what that one, in state t, has of them.
 pub record AreInStep (from to : HostId) (s t : Plain) : Type 0 where
   pub offered : (n : ℕ) → is_open to n s ≡ true → is_closed_for from n t ≡ false
-  pub given : (n : ℕ) → is_given to n s ≡ true → is_taken_for from n t ≡ true
+  pub given : (n : ℕ) → is_committed_to to n s ≡ true → is_taken_for from n t ≡ true
   pub promised : (n : ℕ) → has_promise from n t ≡ true → is_closed_for from n t ≡ false
   pub numbered : (n : ℕ) → is_taken_for from n t ≡ true → was_given n (find_peer to s) ≡ true
 
 -- What a message said once, of its sender in state s and its receiver in state t, is true at every later moment.
 abbrev pub IsTrueOf : Body → HostId → HostId → Plain → Plain → Type 0
-IsTrueOf (body.Offer n queue c script) from to s t = is_open to n s ≡ true → option_map carried_of (find_row c.id s) ≡ Some c
+IsTrueOf (body.Offer n queue c script) from to s t = is_open to n s ≡ true → load_of to n s ≡ Some (sent_load queue c script)
 IsTrueOf (body.Ready n) from to s t = is_taken_for to n s ≡ true
 IsTrueOf (body.Refused n refusal) from to s t = was_given n (find_peer from t) ≡ true
-IsTrueOf (body.Commit n) from to s t = (is_given to n s || is_closed_for from n t) ≡ true
+IsTrueOf (body.Commit n) from to s t = (is_committed_to to n s || is_closed_for from n t) ≡ true
 IsTrueOf (body.Done n) from to s t = is_closed_for to n s ≡ true
 IsTrueOf (body.Inquire n) from to s t = is_taken_for to n s ≡ true
 IsTrueOf (body.Abort n) from to s t = is_some (find_hand to n s) ≡ false

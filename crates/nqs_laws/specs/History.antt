@@ -5,7 +5,9 @@ use Rattle.nqs_keyed.specs.Table.{best_from}
 use Rattle.nqs_rules.specs.Stepped.{Stepped, stored_parts}
 use Rattle.nqs_rules.specs.Step.{step}
 use Rattle.nqs_rules.specs.Start.{start}
-use Rattle.nqs_rules.specs.World.{World, Host, Fate, Made, StoppedBefore, StoppedAfter, Act, Asks, Ends, Finishes, Fails, Writes, Leaves, Delivers, Newest, Ticks, Boots, fate, host_of, makes_change, steps, all_starts, halts, left_of, shuts_down, runs_now, is_less_row, packet_at, newest_between, boot_output}
+use Rattle.nqs_rules.specs.World.{World, Host, Fate, Made, StoppedBefore, StoppedAfter, Act, Asks, Ends, Finishes, Fails, Writes, Leaves, Delivers, Newest}
+use Rattle.nqs_rules.specs.World.{Ticks, Boots, fate, host_of, makes_change, steps, all_starts, halts, left_of, shuts_down, runs_now, is_less_row, packet_at}
+use Rattle.nqs_rules.specs.World.{newest_between, boot_output}
 use Rattle.nqs_rules.specs.Run.{happens}
 use Rattle.nqs_types.specs.declared.ids.HostId.{HostId}
 use Rattle.nqs_types.specs.declared.request.Row.{Row}

@@ -3,10 +3,17 @@ pub mod Sane
 pub mod Words
 pub mod Licensed
 pub mod Launches
+pub mod Loads
 pub mod Handovers
 pub mod Sending
 pub mod Whole
 pub mod Each
+pub mod Between
+pub mod Numbers
+pub mod CutOff
+pub mod Scripts
 pub mod Closed
+pub mod AtOnce
+pub mod HeldBy
 pub mod TakenOut
 pub mod Rest

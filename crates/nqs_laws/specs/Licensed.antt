@@ -5,7 +5,7 @@ use Rattle.nqs_types.specs.Ids.{id_eq}
 use Rattle.nqs_state.specs.State.{Plain}
 use Rattle.nqs_rules.specs.Tests.{passes}
 use Rattle.nqs_rules.specs.Find.{find_row, find_hand, find_promise, meant_request}
-use Rattle.nqs_rules.specs.Conf.{row_in}
+use Rattle.nqs_rules.specs.Conf.{row_in, is_queued_in}
 use Rattle.nqs_rules.specs.Applied.{applied, next_id}
 use Rattle.nqs_rules.specs.Handover.{is_silent}
 use Rattle.nqs_rules.specs.Step.{is_start}
@@ -26,9 +26,9 @@ use Rattle.nqs_types.specs.declared.event.Event.{Event}
 use Rattle.nqs_types.specs.declared.event.Event.TheVariants as event
 use Rattle.nqs_laws.specs.History.{Why, ByEvent, ByStart, ByBoot, Note, Saw, Kept}
 
--- a purge deletes what its queue holds, an abort dooms what runs there, and other edits are of the named request
+-- a purge deletes what is queued in its queue, held or not, and nothing on its way; an abort dooms what runs there; and other edits are of the named request
 abbrev pub LicensesEdit : Edit → Plain → RequestId → Kind → Type 0
-LicensesEdit (Conf (PurgeQueue q)) s x Delete = passes (row_in q) (find_row x s) ≡ true
+LicensesEdit (Conf (PurgeQueue q)) s x Delete = passes (is_queued_in q) (find_row x s) ≡ true
 LicensesEdit (RowsOf (AbortQueue q)) s x Doom = passes (row_in q) (find_row x s) ≡ true
 LicensesEdit (RowsOf (HoldRequest id)) s x Hold = meant_request id s ≡ Some x
 LicensesEdit (RowsOf (ReleaseRequest id)) s x Release = meant_request id s ≡ Some x
@@ -109,4 +109,5 @@ AreLicensed states [] = Unit {0}
 AreLicensed states (Saw x ∷ ns) = AreLicensed states ns
 AreLicensed states (Kept h why c ∷ ns) =
     let later = change_at h.0 (applied c) states in
-    (is_table later ≡ true) × ((s : Plain) → slice_get states h.0 ≡ Some s → (x : RequestId) → IsLicensed why s x (entry_of x states) (entry_of x later)) × AreLicensed later ns
+    (is_table later ≡ true) × ((s : Plain) → slice_get states h.0 ≡ Some s → (x : RequestId) → IsLicensed why s x (entry_of x states) (entry_of x later))
+    × AreLicensed later ns

@@ -3,7 +3,8 @@ use Rattle.std.specs.Prelude.{Bool, not, if◌then◌else◌, Option, None, Some
 use Rattle.std.specs.Option.{option_map}
 use Rattle.std.specs.List.{list_any}
 use Rattle.nqs_rules.specs.Tests.{passes}
-use Rattle.nqs_rules.specs.World.{World, Host, Act, Asks, Ends, Finishes, Fails, Writes, Leaves, Delivers, Newest, Ticks, Boots, host_of, packet_at, newest_between, runs_now}
+use Rattle.nqs_rules.specs.World.{World, Host, Act, Asks, Ends, Finishes, Fails, Writes, Leaves, Delivers, Newest, Ticks, Boots, host_of, packet_at}
+use Rattle.nqs_rules.specs.World.{newest_between, runs_now}
 use Rattle.nqs_types.specs.declared.ids.HostId.{HostId}
 use Rattle.nqs_types.specs.declared.message.Message.{Message}
 
@@ -17,7 +18,8 @@ if_host test h w = if passes test (host_of h w) then Some h else None
 abbrev pub runs_something : Host → Bool
 runs_something host = list_any runs_now host.state.rows
 
--- The host that an event is for, if it is one behind which come starts: one that a host takes, or a boot of a host that is down. No host takes a finish where nothing runs.
+-- The host that an event is for, if it is one behind which come starts: one that a host takes, or a boot of a host that is
+-- down. No host takes a finish where nothing runs.
 abbrev pub host_for : Act → World → Option HostId
 host_for (Asks h user c) w = Some h
 host_for (Ends h id start status output error) w = Some h

@@ -3,7 +3,8 @@ use Rattle.std.specs.Prelude.{◌≡◌, ◌⊎◌, ℕ, ◌<◌, Bool, true, le
 use Rattle.std.specs.Option.{option_map}
 use Rattle.nqs_state.specs.State.{Plain}
 use Rattle.nqs_rules.specs.Tests.{passes}
-use Rattle.nqs_rules.specs.World.{Host, World, Act, Asks, Ends, Finishes, Fails, Writes, Leaves, Delivers, Newest, Ticks, Clock, Fuse, Crashes, Boots, Shows, no_fuses, host_of, packet_at, newest_between}
+use Rattle.nqs_rules.specs.World.{Host, World, Act, Asks, Ends, Finishes, Fails, Writes, Leaves, Delivers, Newest, Ticks, Clock, Fuse, Crashes, Boots, Shows}
+use Rattle.nqs_rules.specs.World.{no_fuses, host_of, packet_at, newest_between}
 use Rattle.nqs_rules.specs.Run.{happens}
 use Rattle.nqs_types.specs.declared.ids.HostId.{HostId}
 use Rattle.nqs_types.specs.declared.message.Message.{Message}
@@ -68,7 +69,8 @@ pub record SendsThen (earlier later : World) (kind : Message → Type 0) (holds 
   pub sends : (number : ℕ) × (m : Message) × IsSentBetween earlier later number m × kind m
   pub each : (number : ℕ) (m : Message) → IsSentBetween earlier later number m → kind m → holds number
 
--- A matter of a host with another, which three events settle: a tick, by which the host asks; the arrival of what was asked, which is answered; and the arrival of the answer. Each event leaves its host up, so that no fuse falls within it.
+-- A matter of a host with another, which three events settle: a tick, by which the host asks; the arrival of what was asked,
+-- which is answered; and the arrival of the answer. Each event leaves its host up, so that no fuse falls within it.
 module _ (host other : HostId) (asked answered : Message → Type 0) (settled : Plain → Type 0) where
   abbrev pub IsSettledBy : World → ℕ → Type 0
   IsSettledBy w answer = IfUpAfter (Delivers answer) host w (λ v. HoldsAt v host settled)

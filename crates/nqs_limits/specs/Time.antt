@@ -27,7 +27,8 @@ later_faults (Some colon) place bytes = option_or (later_fault place (take colon
 -- the same of one to three parts
 abbrev pub time_faults : Option ℕ → List ℕ → Option ℕ
 time_faults None bytes = part_fault 0 bytes
-time_faults (Some colon) bytes = option_or (part_fault 0 (take colon bytes)) (later_faults (first_colon (drop (colon + 1) bytes)) (colon + 1) (drop (colon + 1) bytes))
+time_faults (Some colon) bytes = option_or (part_fault 0 (take colon bytes))
+    (later_faults (first_colon (drop (colon + 1) bytes)) (colon + 1) (drop (colon + 1) bytes))
 
 -- the first place where the bytes are no time
 abbrev pub time_fault : List ℕ → Option ℕ

@@ -87,9 +87,10 @@ fn set_complex_limit(state: &mut HostState, limit: u16, complex: &Name)
         .change(complex, |members: &mut ComplexDef| members.limit = limit);
 }
 
-/// Makes an edit that `check_limits` lets through, after `HostState::make_room` made room for it. It takes no memory and
-/// can't fail. `within`: the limit of a user, of a complex and the global one are at most 10,000 requests; those of a
-/// processor, in seconds, and of memory, in bytes, are any.
+/// Makes an edit that `check_limits` lets through, after `HostState::make_room` made room for it.
+/// It takes no memory and can't fail. `within`: the limit of a user, of a complex and the global
+/// one are at most 10,000 requests; those of a processor, in seconds, and of memory, in bytes, are
+/// any.
 pub fn apply_limits(state: &mut HostState, edit: LimitsEdit)
     requires check { first_refusal (limits_causes edit (content state.old)) ≡ Ok tt }
     requires within { IsTrue (is_limits_within edit) }

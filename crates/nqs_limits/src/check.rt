@@ -50,7 +50,8 @@ fn lists_queue(complex: &ComplexDef, queue: &Name) -> bool
 
 // Why the queue isn't added to the complex.
 fn check_new_member(complex: &ComplexDef, def: &QueueDef, queue: &Name) -> Result<(), Refusal>
-    ensures { result ≡ first_refusal (cause (not (is_batch_queue def.now)) refusal.WrongKind ∷ cause (lists_queue queue.now complex.now) refusal.IsMember ∷ []) }
+    ensures { result ≡ first_refusal (cause (not (is_batch_queue def.now)) refusal.WrongKind ∷ cause (lists_queue queue.now complex.now) refusal.IsMember
+        ∷ []) }
 {
     if !is_batch_queue(def) {
         return Err(Refusal::WrongKind);
@@ -92,8 +93,9 @@ fn check_remove_queue(state: &HostState, queue: &Name, complex: &Name) -> Result
     }
 }
 
-/// Whether the edit may be made: `Ok`, or the first of these that holds. A limit of a queue: `NoQueue`. A complex that is
-/// created: `ComplexExists`, `TooMany` at 64; one that is named: `NoComplex`. A queue that is added to it: then
+/// Whether the edit may be made: `Ok`, or the first of these that holds. A limit of a queue:
+/// `NoQueue`. A complex that is created: `ComplexExists`, `TooMany` at 64; one that is named:
+/// `NoComplex`. A queue that is added to it: then
 /// `NoQueue`, `WrongKind` for all but batch queues, `IsMember`; one that is removed: `NotMember`. The global limit is
 /// never refused.
 pub fn check_limits(state: &HostState, edit: &LimitsEdit) -> Result<(), Refusal>

@@ -1,8 +1,8 @@
 //! Resource limits, complexes and the edits of both; times and sizes as they are typed.
 //!
-//! Each check and edit is the rule of its name in `nqs_rules` (specs/Limits.antt); `docs/rules.md` says
-//! them in words. The texts of times and sizes are in specs/Time.antt and specs/Size.antt. No call takes
-//! memory.
+//! Each check and edit is the rule of its name in `nqs_rules` (specs/Limits.antt); `docs/rules.md`
+//! says them in words. The texts of times and sizes are in specs/Time.antt and specs/Size.antt. No
+//! call takes memory.
 #![tactic(auto)]
 
 mod apply;

@@ -1,4 +1,5 @@
-//! Sizes as they are typed: digits and one of the units `b`, `kb`, `mb` and `gb`, which are powers of 1,024.
+//! Sizes as they are typed: digits and one of the units `b`, `kb`, `mb` and `gb`, which are powers
+//! of 1,024.
 ghost use Rattle.std.specs.Prelude.{◌≡◌, ◌<◌, ◌≤◌, length, IfSome};
 ghost use Rattle.nqs_limits.specs.Size.{digits_end, unit, size_unit, ReadsSize};
 
@@ -50,9 +51,9 @@ fn size_unit(bytes: &[u8], end: usize) -> Option<u64>
     unit(&bytes[end..])
 }
 
-/// The bytes that the text writes. `Empty`: there are no bytes. `BadByte`: the place, from 0, where the digits
-/// end, and there is no digit before it or no unit behind it. `TooLarge`: it is a size of more than
-/// 18,446,744,073,709,551,615 bytes.
+/// The bytes that the text writes. `Empty`: there are no bytes. `BadByte`: the place, from 0, where
+/// the digits end, and there is no digit before it or no unit behind it. `TooLarge`: it is a size
+/// of more than 18,446,744,073,709,551,615 bytes.
 pub fn read_size(bytes: &[u8]) -> Result<u64, NumberFault>
     ensures { ReadsSize bytes.now result }
 {

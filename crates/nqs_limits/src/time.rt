@@ -1,7 +1,7 @@
 //! Times as they are typed: `S`, `M:S` or `H:M:S`.
 //!
-//! Each part is one or more digits, with leading zeros or without. The first may be any number, a later one
-//! is below 60. A fourth part is no part: the colon before it is a wrong byte.
+//! Each part is one or more digits, with leading zeros or without. The first may be any number, a
+//! later one is below 60. A fourth part is no part: the colon before it is a wrong byte.
 ghost use Rattle.std.specs.Prelude.{◌≡◌, ◌+◌, ◌*◌, ◌^◌, ◌<◌, ◌≤◌, length, nat_le, IfSome, MatchOption};
 ghost use Rattle.nqs_text.specs.Number.{decimal};
 ghost use Rattle.nqs_limits.specs.Time.{first_colon, part_fault, later_fault, later_faults, time_fault, later_seconds, seconds, ReadsTime};
@@ -83,7 +83,8 @@ fn sixties(before: u64, part: &[u8]) -> Option<u64>
 }
 
 fn later_seconds(before: u64, bytes: &[u8]) -> Option<u64>
-    ensures { MatchOption result (2 ^ 64 ≤ later_seconds (first_colon bytes.now) before bytes.now) (λ n. n ≡ later_seconds (first_colon bytes.now) before bytes.now) }
+    ensures { MatchOption result (2 ^ 64 ≤ later_seconds (first_colon bytes.now) before bytes.now)
+        (λ n. n ≡ later_seconds (first_colon bytes.now) before bytes.now) }
 {
     match first_colon(bytes) {
         None => sixties(before, bytes),
@@ -106,9 +107,10 @@ fn seconds(bytes: &[u8]) -> Option<u64>
     }
 }
 
-/// The seconds that the bytes write. `Empty`: there are no bytes. `BadByte`: the first place, from 0, where
-/// they are no time: of a byte that isn't a digit, of a part that is 60 or more and not the first, or where
-/// a part is missing. `TooLarge`: they are a time of more than 18,446,744,073,709,551,615 seconds.
+/// The seconds that the bytes write. `Empty`: there are no bytes. `BadByte`: the first place, from
+/// 0, where they are no time: of a byte that isn't a digit, of a part that is 60 or more and not
+/// the first, or where a part is missing. `TooLarge`: they are a time of more than
+/// 18,446,744,073,709,551,615 seconds.
 pub fn read_time(bytes: &[u8]) -> Result<u64, NumberFault>
     ensures { ReadsTime bytes.now result }
 {

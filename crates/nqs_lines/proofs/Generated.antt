@@ -1,12 +1,14 @@
 -- Each event of a schedule that a seed gives is within the limits, and its site is right.
-use Rattle.std.proofs.Common.{◌≡◌, ℕ, zero, suc, ◌+◌, ◌*◌, ◌%◌, ◌/◌, Bool, true, false, cond, ◌==◌, nat_lt, List, [], ◌∷◌, ◌++◌, length, codes, refl, ◌∙◌, arith}
+use Rattle.std.proofs.Common.{◌≡◌, ℕ, zero, suc, ◌+◌, ◌*◌, ◌%◌, ◌/◌, Bool, true, false, cond, ◌==◌, nat_lt, List, [], ◌∷◌, ◌++◌, length, codes, refl, ◌∙◌}
+use Rattle.std.proofs.Common.{arith}
 use Rattle.std.proofs.lemmas.Bool.{and_from}
 use Rattle.std.proofs.lemmas.List.{length-append}
 use Rattle.std.proofs.lemmas.List.Folds.{list_all-append}
 use Rattle.std.specs.List.{list_all}
 use Rattle.nqs_types.specs.declared.world.WorldEvent.{WorldEvent}
 use Rattle.nqs_types.specs.declared.world.WorldEvent.TheVariants as event
-use Rattle.nqs_schedule.specs.Generated.{host, host_name, root_line, link_line, set_up, for_hosts, piped, submitted_once, drawn, drawn_from, generator_of, booted, generated, generated_site}
+use Rattle.nqs_schedule.specs.Generated.{host, host_name, root_line, link_line, set_up, for_hosts, piped, submitted_once, drawn, drawn_from, generator_of}
+use Rattle.nqs_schedule.specs.Generated.{booted, generated, generated_site}
 use Rattle.nqs_lines.specs.Acts.{is_sane_line}
 use Rattle.nqs_lines.specs.Laws.{GeneratedSchedulesAreSane, GeneratedSitesAreRight}
 use Rattle.nqs_lines.proofs.Schedules.{HasShortOutputs, event_sane}
@@ -25,7 +27,10 @@ one_more : {e : WorldEvent} {events : List WorldEvent} → Short e → Sane even
 one_more {e} {events} short h = record { all = and_from (is_sane_line e) (list_all is_sane_line events) (event_sane e short.outputs) h.all }
 
 joined : {one other : List WorldEvent} → Sane one → Sane other → Sane (one ++ other)
-joined {one} {other} h k = record { all = list_all-append is_sane_line one other ∙ and_from (list_all is_sane_line one) (list_all is_sane_line other) h.all k.all }
+joined {one} {other} h k = record {
+  all = list_all-append is_sane_line one other
+      ∙ and_from (list_all is_sane_line one) (list_all is_sane_line other) h.all k.all;
+}
 
 hosts_sane : (f : ℕ → List WorldEvent) (n : ℕ) → ((i : ℕ) → Sane (f i)) → Sane (for_hosts f n)
 unfolding for_hosts
@@ -37,7 +42,8 @@ line_short i text = record { outputs = tt }
 
 set_up_sane : (hosts i : ℕ) → Sane (set_up hosts i)
 set_up_sane hosts i =
-    one_more (line_short i (link_line ((i + 1) % hosts))) (one_more (line_short i (codes "enable queue link")) (one_more (line_short i (codes "start queue link")) (one_more (line_short i (codes "start queue batch")) none)))
+    one_more (line_short i (link_line ((i + 1) % hosts))) (one_more (line_short i (codes "enable queue link"))
+    (one_more (line_short i (codes "start queue link")) (one_more (line_short i (codes "start queue batch")) none)))
 
 either : {one other : WorldEvent} (t : Bool) → Short one → Short other → Short (cond t one other)
 either true h k = h
@@ -75,7 +81,8 @@ pub generated_schedules_are_sane : GeneratedSchedulesAreSane
 unfolding generated
 generated_schedules_are_sane seed hosts events =
     let shown : Sane (event.Show ∷ []) = one_more (record { outputs = tt }) none in
-    (joined (joined (joined (hosts_sane (set_up hosts) hosts (set_up_sane hosts)) (drawn_sane hosts 1 (generator_of seed) events)) (hosts_sane booted hosts booted_sane)) shown).all
+    (joined (joined (joined (hosts_sane (set_up hosts) hosts (set_up_sane hosts)) (drawn_sane hosts 1 (generator_of seed) events))
+    (hosts_sane booted hosts booted_sane)) shown).all
 
 length_site : (n : ℕ) → length (generated_site n) ≡ n
 unfolding generated_site

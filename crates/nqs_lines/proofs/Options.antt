@@ -1,5 +1,6 @@
 -- What an option of a submission says is within the limits.
-use Rattle.std.proofs.Common.{◌≡◌, ℕ, ◌-◌, ◌≤◌, Bool, true, false, cond, ◌&&◌, nat_le, List, [], ◌∷◌, ◌++◌, length, take, drop, subst, slice_range, refl, ap, sym, ◌∙◌, arith, Option, Some, None, unwrap_or, IfOk, codes}
+use Rattle.std.proofs.Common.{◌≡◌, ℕ, ◌-◌, ◌≤◌, Bool, true, false, cond, ◌&&◌, nat_le, List, [], ◌∷◌, ◌++◌, length, take, drop, subst, slice_range, refl, ap}
+use Rattle.std.proofs.Common.{sym, ◌∙◌, arith, Option, Some, None, unwrap_or, IfOk, codes}
 use Rattle.std.proofs.lemmas.Bool.{and_parts, and_from, leb-true, le-leb, cond-true}
 use Rattle.std.proofs.lemmas.Bool.Decides.{nat_tests}
 use Rattle.std.proofs.lemmas.List.{length-drop, length-append, take-append-le, drop-append-le, take-append-drop}
@@ -40,7 +41,8 @@ name_sane (b ∷ bs) h =
     let whole = and_parts (begins_as_name (b ∷ bs)) (nat_le (length (b ∷ bs)) 15) h in
     let parts = and_parts (is_letter b) (list_all is_word_byte bs) whole.0 in
     let seen = and_from (is_name_byte b) (list_all is_name_byte bs) (letter_seen b parts.0) (list_all-weaker is_word_byte is_name_byte byte_seen bs parts.1) in
-    chained (nat_le 1 (length (b ∷ bs))) (nat_le (length (b ∷ bs)) 15 ∷ list_all is_name_byte (b ∷ bs) ∷ []) (le-leb 1 (length (b ∷ bs)) (omega arith), (whole.1, (seen, tt)))
+    chained (nat_le 1 (length (b ∷ bs))) (nat_le (length (b ∷ bs)) 15 ∷ list_all is_name_byte (b ∷ bs) ∷ [])
+    (le-leb 1 (length (b ∷ bs)) (omega arith), (whole.1, (seen, tt)))
 
 found : {A : Type 0} (t : Bool) (a b : A) → cond t (Some a) None ≡ Some b → (t ≡ true) × (a ≡ b)
 found true a b e = (refl, cc)
@@ -54,7 +56,8 @@ pub number_is_between : (low high : ℕ) (bytes : List ℕ) (n : ℕ) → number
 unfolding number_of
 number_is_between low high bytes n e =
     let f = found (are_digits bytes && (nat_le low (decimal bytes) && nat_le (decimal bytes) high)) (decimal bytes) n e in
-    let parts = and_parts (nat_le low (decimal bytes)) (nat_le (decimal bytes) high) (and_parts (are_digits bytes) (nat_le low (decimal bytes) && nat_le (decimal bytes) high) f.0).1 in
+    let parts = and_parts (nat_le low (decimal bytes)) (nat_le (decimal bytes) high)
+    (and_parts (are_digits bytes) (nat_le low (decimal bytes) && nat_le (decimal bytes) high) f.0).1 in
     (ap (nat_le low) (sym f.1) ∙ parts.0, ap (λ (m : ℕ). nat_le m high) (sym f.1) ∙ parts.1)
 
 -- ---- paths
@@ -72,17 +75,20 @@ front_slice xs ys start end order inside =
     rw (drop-append-le start xs ys (omega arith)) (take-append-le (end - start) (drop start xs) ys (omega (arith, length-drop start xs)))
 
 -- the bytes of a word of a front stand in the whole
-front_text : (part words : List (List ℕ)) (front rest : List ℕ) (word : Word) → is_path (text_of part front (InScript word)) ≡ true → is_path (text_of words (front ++ rest) (InScript word)) ≡ true
+front_text : (part words : List (List ℕ)) (front rest : List ℕ) (word : Word) → is_path (text_of part front (InScript word)) ≡ true
+    → is_path (text_of words (front ++ rest) (InScript word)) ≡ true
 unfolding text_of
 front_text part words front rest word = by (nat_le word.start word.end && nat_le word.end (length front)) refl
   where
-    by : (t : Bool) → (nat_le word.start word.end && nat_le word.end (length front)) ≡ t → is_path (cond t (slice_range front word.start word.end) []) ≡ true → is_path (text_of words (front ++ rest) (InScript word)) ≡ true
+    by : (t : Bool) → (nat_le word.start word.end && nat_le word.end (length front)) ≡ t → is_path (cond t (slice_range front word.start word.end) []) ≡ true
+        → is_path (text_of words (front ++ rest) (InScript word)) ≡ true
     by false is p = cc
     by true is p =
         let two = and_parts (nat_le word.start word.end) (nat_le word.end (length front)) is in
         let order = leb-true word.start word.end two.0 in
         let inside = leb-true word.end (length front) two.1 in
-        let stands = and_from (nat_le word.start word.end) (nat_le word.end (length (front ++ rest))) two.0 (le-leb word.end (length (front ++ rest)) (omega (arith, length-append front rest))) in
+        let stands = and_from (nat_le word.start word.end) (nat_le word.end (length (front ++ rest))) two.0
+        (le-leb word.end (length (front ++ rest)) (omega (arith, length-append front rest))) in
         ap is_path (cond-true _ (slice_range (front ++ rest) word.start word.end) [] stands ∙ front_slice front rest word.start word.end order inside) ∙ p
 
 pub carries_command : (words : List (List ℕ)) (script : List ℕ) → Carries words [] words script
@@ -94,7 +100,8 @@ pub carries_line : (words : List (List ℕ)) (script : List ℕ) (end : ℕ) →
 unfolding text_of
 carries_line words script end (InCommand i) h = cc
 carries_line words script end (InScript word) h =
-    subst (λ (s : List ℕ). is_path (text_of words s (InScript word)) ≡ true) (take-append-drop end script) (front_text [] words (take end script) (drop end script) word h)
+    subst (λ (s : List ℕ). is_path (text_of words s (InScript word)) ≡ true) (take-append-drop end script)
+    (front_text [] words (take end script) (drop end script) word h)
 
 -- ---- options
 
@@ -114,25 +121,37 @@ marked_sane words script o flag.Join h = record { name = h.name; priority = h.pr
 marked_sane words script o flag.NoRerun h = record { name = h.name; priority = h.priority; out = h.out; error = h.error }
 marked_sane words script o _ h = h
 
-given_sane : {A : Type 0} (P : Options → Type 0) (found : Option A) (why : WordsCause) (set : A → Options) → ((a : A) → found ≡ Some a → P (set a)) → IfOk (given found why set) P
+given_sane : {A : Type 0} (P : Options → Type 0) (found : Option A) (why : WordsCause) (set : A → Options) → ((a : A) → found ≡ Some a → P (set a))
+    → IfOk (given found why set) P
 given_sane P (Some a) why set h = h a refl
 given_sane P None why set h = tt
 
-path_sane : (part : List (List ℕ)) (text : List ℕ) (words : List (List ℕ)) (script : List ℕ) (at p : Place) → Carries part text words script → path_at (text_of part text at) at ≡ Some p → is_path_or_none (path_text words script (Some p)) ≡ true
+path_sane : (part : List (List ℕ)) (text : List ℕ) (words : List (List ℕ)) (script : List ℕ) (at p : Place) → Carries part text words script
+    → path_at (text_of part text at) at ≡ Some p → is_path_or_none (path_text words script (Some p)) ≡ true
 path_sane part text words script at p carries e =
     let f = found (is_path (text_of part text at)) at p e in
     path_right (text_of words script p) (ap (λ (q : Place). is_path (text_of words script q)) (sym f.1) ∙ carries at f.0)
 
-pub valued_sane : (part : List (List ℕ)) (text : List ℕ) (words : List (List ℕ)) (script : List ℕ) (o : Options) (f : Flag) (at : Place) → Carries part text words script → AreWithin words script o
+pub valued_sane : (part : List (List ℕ)) (text : List ℕ) (words : List (List ℕ)) (script : List ℕ) (o : Options) (f : Flag) (at : Place)
+    → Carries part text words script → AreWithin words script o
     → IfOk (valued o f (text_of part text at) at) (AreWithin words script)
 unfolding valued
-valued_sane part text words script o flag.Queue at carries h = given_sane (AreWithin words script) (name_of (text_of part text at)) cause.BadName _ (λ q e. record { name = h.name; priority = h.priority; out = h.out; error = h.error })
-valued_sane part text words script o flag.Priority at carries h = given_sane (AreWithin words script) (number_of 0 63 (text_of part text at)) cause.BadNumber _ (λ n e. record { name = h.name; priority = (number_is_between 0 63 _ n e).1; out = h.out; error = h.error })
-valued_sane part text words script o flag.JobName at carries h = given_sane (AreWithin words script) (name_of (text_of part text at)) cause.BadName _ (λ n e. record { name = name_is_sane _ n e; priority = h.priority; out = h.out; error = h.error })
-valued_sane part text words script o flag.Earliest at carries h = given_sane (AreWithin words script) (moment_of (text_of part text at)) cause.BadMoment _ (λ m e. record { name = h.name; priority = h.priority; out = h.out; error = h.error })
-valued_sane part text words script o flag.Out at carries h = given_sane (AreWithin words script) (path_at (text_of part text at) at) cause.BadPath _ (λ p e. record { name = h.name; priority = h.priority; out = path_sane part text words script at p carries e; error = h.error })
-valued_sane part text words script o flag.Error at carries h = given_sane (AreWithin words script) (path_at (text_of part text at) at) cause.BadPath _ (λ p e. record { name = h.name; priority = h.priority; out = h.out; error = path_sane part text words script at p carries e })
-valued_sane part text words script o flag.Cpu at carries h = given_sane (AreWithin words script) (time_of (text_of part text at)) cause.BadNumber _ (λ n e. record { name = h.name; priority = h.priority; out = h.out; error = h.error })
-valued_sane part text words script o flag.Memory at carries h = given_sane (AreWithin words script) (size_of (text_of part text at)) cause.BadNumber _ (λ n e. record { name = h.name; priority = h.priority; out = h.out; error = h.error })
-valued_sane part text words script o flag.Forms at carries h = given_sane (AreWithin words script) (name_of (text_of part text at)) cause.BadName _ (λ f e. record { name = h.name; priority = h.priority; out = h.out; error = h.error })
+valued_sane part text words script o flag.Queue at carries h = given_sane (AreWithin words script) (name_of (text_of part text at)) cause.BadName _
+    (λ q e. record { name = h.name; priority = h.priority; out = h.out; error = h.error })
+valued_sane part text words script o flag.Priority at carries h = given_sane (AreWithin words script) (number_of 0 63 (text_of part text at)) cause.BadNumber _
+    (λ n e. record { name = h.name; priority = (number_is_between 0 63 _ n e).1; out = h.out; error = h.error })
+valued_sane part text words script o flag.JobName at carries h = given_sane (AreWithin words script) (name_of (text_of part text at)) cause.BadName _
+    (λ n e. record { name = name_is_sane _ n e; priority = h.priority; out = h.out; error = h.error })
+valued_sane part text words script o flag.Earliest at carries h = given_sane (AreWithin words script) (moment_of (text_of part text at)) cause.BadMoment _
+    (λ m e. record { name = h.name; priority = h.priority; out = h.out; error = h.error })
+valued_sane part text words script o flag.Out at carries h = given_sane (AreWithin words script) (path_at (text_of part text at) at) cause.BadPath _
+    (λ p e. record { name = h.name; priority = h.priority; out = path_sane part text words script at p carries e; error = h.error })
+valued_sane part text words script o flag.Error at carries h = given_sane (AreWithin words script) (path_at (text_of part text at) at) cause.BadPath _
+    (λ p e. record { name = h.name; priority = h.priority; out = h.out; error = path_sane part text words script at p carries e })
+valued_sane part text words script o flag.Cpu at carries h = given_sane (AreWithin words script) (time_of (text_of part text at)) cause.BadNumber _
+    (λ n e. record { name = h.name; priority = h.priority; out = h.out; error = h.error })
+valued_sane part text words script o flag.Memory at carries h = given_sane (AreWithin words script) (size_of (text_of part text at)) cause.BadNumber _
+    (λ n e. record { name = h.name; priority = h.priority; out = h.out; error = h.error })
+valued_sane part text words script o flag.Forms at carries h = given_sane (AreWithin words script) (name_of (text_of part text at)) cause.BadName _
+    (λ f e. record { name = h.name; priority = h.priority; out = h.out; error = h.error })
 valued_sane part text words script o _ at carries h = h

@@ -20,7 +20,8 @@ lists_are_sane words = by (stat_of words)
 
 request_sane : (number : ℕ) (kill : Bool) (words : List (List ℕ)) → IfOk (request_from number kill words) IsSane
 request_sane number kill [] = tt
-request_sane number kill (word ∷ words) = each_step IsSane (named_or_fault number (named_of word)) _ (λ id is. each_step IsSane (nothing_more (number + 1) words) _ (λ done no. refl))
+request_sane number kill (word ∷ words) = each_step IsSane (named_or_fault number (named_of word)) _
+    (λ id is. each_step IsSane (nothing_more (number + 1) words) _ (λ done no. refl))
 
 delete_sane : (words : List (List ℕ)) → IfOk (delete_of words) IsSane
 unfolding delete_of

@@ -1,5 +1,6 @@
 -- Each event of a schedule is within the limits, and its site has 1 to 16 hosts.
-use Rattle.std.proofs.Common.{◌≡◌, ℕ, ◌+◌, ◌<◌, ◌≤◌, Bool, true, false, cond, ◌&&◌, nat_le, nat_lt, List, [], ◌∷◌, ◌++◌, length, drop, slice_get, refl, subst, ◌∙◌, arith, Option, Some, None, is_some, Ok, Err, IfOk}
+use Rattle.std.proofs.Common.{◌≡◌, ℕ, ◌+◌, ◌<◌, ◌≤◌, Bool, true, false, cond, ◌&&◌, nat_le, nat_lt, List, [], ◌∷◌, ◌++◌, length, drop, slice_get, refl, subst}
+use Rattle.std.proofs.Common.{◌∙◌, arith, Option, Some, None, is_some, Ok, Err, IfOk}
 use Rattle.std.proofs.lemmas.Bool.{and_from, le-leb, ltb-false, leb-false}
 use Rattle.std.proofs.lemmas.List.{length-append}
 use Rattle.std.proofs.lemmas.List.Folds.{list_all-map}
@@ -20,10 +21,13 @@ use Rattle.nqs_schedule.specs.declared.plan.Plan.{Plan}
 use Rattle.nqs_schedule.specs.declared.line.Says.{Says}
 use Rattle.nqs_schedule.specs.declared.line.Says.TheVariants.{Nothing, Hosts, Event}
 use Rattle.nqs_schedule.specs.Lines.{line_words}
-use Rattle.nqs_schedule.specs.Words.{Read, or_cause, text_there, name_at, number_at, host_at, request_at, disk_at, tear_at, short_enough, output_at, nothing_at, all_good}
-use Rattle.nqs_schedule.specs.Plans.{verb_of, submit_plan, qsub_plan, qmgr_plan, qstat_plan, qdel_plan, end_plan, one_host, fail_plan, host_and_file, deliver_plan, newest_plan, clock_plan, fuse_plan, show_plan, plan_of}
+use Rattle.nqs_schedule.specs.Words.{Read, or_cause, text_there, name_at, number_at, host_at, request_at, disk_at, tear_at, short_enough, output_at, nothing_at}
+use Rattle.nqs_schedule.specs.Words.{all_good}
+use Rattle.nqs_schedule.specs.Plans.{verb_of, submit_plan, qsub_plan, qmgr_plan, qstat_plan, qdel_plan, end_plan, one_host, fail_plan, host_and_file}
+use Rattle.nqs_schedule.specs.Plans.{deliver_plan, newest_plan, clock_plan, fuse_plan, show_plan, plan_of}
 use Rattle.nqs_schedule.specs.Events.{text_in, event_of}
-use Rattle.nqs_schedule.specs.Says.{further_host, hosts_from, some_hosts, hosts_of, is_remark, is_hosts, hosts_say, event_says, verb_says, first_says, words_say, line_says}
+use Rattle.nqs_schedule.specs.Says.{further_host, hosts_from, some_hosts, hosts_of, is_remark, is_hosts, hosts_say, event_says, verb_says, first_says}
+use Rattle.nqs_schedule.specs.Says.{words_say, line_says}
 use Rattle.nqs_schedule.specs.Schedule.{State, start, after, lines_say}
 use Rattle.nqs_lines.specs.Acts.{act_of, is_sane_line}
 use Rattle.nqs_lines.specs.Laws.{SchedulesAreSane, SitesAreRight, ActsAreSane}
@@ -53,7 +57,8 @@ event_sane _ h = refl
 short : (word : Option LineWord) (bad : Bool) (done : Unit {0}) → short_enough word bad ≡ Ok done → is_short_output (text_in word) ≡ true
 short (Some word) bad done e = by (nat_lt 16384 (length word.text)) refl e
   where
-    by : (t : Bool) → nat_lt 16384 (length word.text) ≡ t → ◌≡◌ {A = Read (Unit {0})} (cond t (Err cause.OutputTooLong) (Ok tt)) (Ok done) → is_short_output word.text ≡ true
+    by : (t : Bool) → nat_lt 16384 (length word.text) ≡ t → ◌≡◌ {A = Read (Unit {0})} (cond t (Err cause.OutputTooLong) (Ok tt)) (Ok done)
+        → is_short_output word.text ≡ true
     by true is h = cc
     by false is h = le-leb (length word.text) 16384 (ltb-false 16384 (length word.text) is)
 short None bad done e = refl
@@ -77,21 +82,33 @@ end_fits site line ws =
 plan_fits : (site : List (List ℕ)) (line : List ℕ) (ws : LineWords) (v : Verb) → IfOk (plan_of site ws v) (Fits line ws)
 unfolding plan_of submit_plan qsub_plan qmgr_plan qstat_plan qdel_plan fail_plan deliver_plan newest_plan clock_plan fuse_plan show_plan
 plan_fits site line ws verb.Hosts = tt
-plan_fits site line ws verb.Submit = each_step (Fits line ws) (name_at ws 1) _ (λ user a. each_step (Fits line ws) (name_at ws 2) _ (λ name b. each_step (Fits line ws) (nothing_at ws 3) _ (λ done c. tt)))
-plan_fits site line ws verb.Qsub = each_step (Fits line ws) (host_at site ws 1) _ (λ host a. each_step (Fits line ws) (name_at ws 2) _ (λ user b. each_step (Fits line ws) (text_there ws 3) _ (λ script c. each_step (Fits line ws) (all_good ws) _ (λ done d. tt))))
+plan_fits site line ws verb.Submit = each_step (Fits line ws) (name_at ws 1) _
+    (λ user a. each_step (Fits line ws) (name_at ws 2) _ (λ name b. each_step (Fits line ws) (nothing_at ws 3) _ (λ done c. tt)))
+plan_fits site line ws verb.Qsub = each_step (Fits line ws) (host_at site ws 1) _
+    (λ host a. each_step (Fits line ws) (name_at ws 2) _ (λ user b. each_step (Fits line ws) (text_there ws 3) _
+    (λ script c. each_step (Fits line ws) (all_good ws) _ (λ done d. tt))))
 plan_fits site line ws verb.Qmgr = each_step (Fits line ws) (host_at site ws 1) _ (λ host a. each_step (Fits line ws) (name_at ws 2) _ (λ user b. tt))
-plan_fits site line ws verb.Qstat = each_step (Fits line ws) (host_at site ws 1) _ (λ host a. each_step (Fits line ws) (name_at ws 2) _ (λ user b. each_step (Fits line ws) (all_good ws) _ (λ done c. tt)))
-plan_fits site line ws verb.Qdel = each_step (Fits line ws) (host_at site ws 1) _ (λ host a. each_step (Fits line ws) (name_at ws 2) _ (λ user b. each_step (Fits line ws) (all_good ws) _ (λ done c. tt)))
+plan_fits site line ws verb.Qstat = each_step (Fits line ws) (host_at site ws 1) _
+    (λ host a. each_step (Fits line ws) (name_at ws 2) _ (λ user b. each_step (Fits line ws) (all_good ws) _ (λ done c. tt)))
+plan_fits site line ws verb.Qdel = each_step (Fits line ws) (host_at site ws 1) _
+    (λ host a. each_step (Fits line ws) (name_at ws 2) _ (λ user b. each_step (Fits line ws) (all_good ws) _ (λ done c. tt)))
 plan_fits site line ws verb.End = end_fits site line ws
 plan_fits site line ws verb.Finish = each_step (Fits line ws) (one_host site ws) _ (λ host a. tt)
-plan_fits site line ws verb.Fail = each_step (Fits line ws) (host_at site ws 1) _ (λ host a. each_step (Fits line ws) (request_at site ws 2) _ (λ id b. each_step (Fits line ws) (number_at 0 65535 ws 3) _ (λ n c. each_step (Fits line ws) (nothing_at ws 4) _ (λ done d. tt))))
+plan_fits site line ws verb.Fail = each_step (Fits line ws) (host_at site ws 1) _
+    (λ host a. each_step (Fits line ws) (request_at site ws 2) _ (λ id b. each_step (Fits line ws) (number_at 0 65535 ws 3) _
+    (λ n c. each_step (Fits line ws) (nothing_at ws 4) _ (λ done d. tt))))
 plan_fits site line ws verb.Written = each_step (Fits line ws) (host_and_file site ws) _ (λ p a. tt)
 plan_fits site line ws verb.Unwritten = each_step (Fits line ws) (host_and_file site ws) _ (λ p a. tt)
-plan_fits site line ws verb.Deliver = each_step (Fits line ws) (number_at 1 18446744073709551615 ws 1) _ (λ packet a. each_step (Fits line ws) (nothing_at ws 2) _ (λ done b. tt))
-plan_fits site line ws verb.Newest = each_step (Fits line ws) (host_at site ws 1) _ (λ one a. each_step (Fits line ws) (host_at site ws 2) _ (λ other b. each_step (Fits line ws) (nothing_at ws 3) _ (λ done c. tt)))
+plan_fits site line ws verb.Deliver = each_step (Fits line ws) (number_at 1 18446744073709551615 ws 1) _
+    (λ packet a. each_step (Fits line ws) (nothing_at ws 2) _ (λ done b. tt))
+plan_fits site line ws verb.Newest = each_step (Fits line ws) (host_at site ws 1) _
+    (λ one a. each_step (Fits line ws) (host_at site ws 2) _ (λ other b. each_step (Fits line ws) (nothing_at ws 3) _ (λ done c. tt)))
 plan_fits site line ws verb.Tick = each_step (Fits line ws) (one_host site ws) _ (λ host a. tt)
-plan_fits site line ws verb.Clock = each_step (Fits line ws) (number_at 0 18446744073709551615 ws 1) _ (λ moment a. each_step (Fits line ws) (nothing_at ws 2) _ (λ done b. tt))
-plan_fits site line ws verb.Fuse = each_step (Fits line ws) (host_at site ws 1) _ (λ host a. each_step (Fits line ws) (disk_at ws 2) _ (λ disk b. each_step (Fits line ws) (number_at 0 18446744073709551615 ws 3) _ (λ calls c. each_step (Fits line ws) (tear_at ws 4) _ (λ tear d. each_step (Fits line ws) (nothing_at ws 5) _ (λ done e. tt)))))
+plan_fits site line ws verb.Clock = each_step (Fits line ws) (number_at 0 18446744073709551615 ws 1) _
+    (λ moment a. each_step (Fits line ws) (nothing_at ws 2) _ (λ done b. tt))
+plan_fits site line ws verb.Fuse = each_step (Fits line ws) (host_at site ws 1) _
+    (λ host a. each_step (Fits line ws) (disk_at ws 2) _ (λ disk b. each_step (Fits line ws) (number_at 0 18446744073709551615 ws 3) _
+    (λ calls c. each_step (Fits line ws) (tear_at ws 4) _ (λ tear d. each_step (Fits line ws) (nothing_at ws 5) _ (λ done e. tt)))))
 plan_fits site line ws verb.Crash = each_step (Fits line ws) (one_host site ws) _ (λ host a. tt)
 plan_fits site line ws verb.Boot = each_step (Fits line ws) (one_host site ws) _ (λ host a. tt)
 plan_fits site line ws verb.Show = each_step (Fits line ws) (nothing_at ws 1) _ (λ done a. tt)
@@ -107,7 +124,8 @@ further site (Some name) =
     Room : List ℕ → Type 0
     Room n = length site < 16
 
-hosts_right : (site : List (List ℕ)) (words : List LineWord) (bad : Bool) → 1 ≤ length site + length words → length site ≤ 16 → IfOk (hosts_from site words bad) IsSite
+hosts_right : (site : List (List ℕ)) (words : List LineWord) (bad : Bool) → 1 ≤ length site + length words → length site ≤ 16
+    → IfOk (hosts_from site words bad) IsSite
 unfolding hosts_from
 hosts_right site [] bad some few = unless IsSite bad cause.BadQuote (Ok site) (λ good. (omega arith, few))
 hosts_right site (word ∷ words) bad some few =
@@ -138,9 +156,11 @@ verb_right site is_open line ws v = by (is_hosts v && is_open)
     by true = next_step IsSite SaysRight (hosts_of ws) _ (site_right ws) (λ hosts right. right)
     by false = next_step (Fits line ws) SaysRight (plan_of site ws v) _ (plan_fits site line ws v) (λ plan fits. event_sane (event_of line ws plan) fits)
 
-first_right : (site : List (List ℕ)) (is_open : Bool) (line : List ℕ) (ws : LineWords) (word : Option LineWord) → IfOk (first_says site is_open line ws word) SaysRight
+first_right : (site : List (List ℕ)) (is_open : Bool) (line : List ℕ) (ws : LineWords) (word : Option LineWord)
+    → IfOk (first_says site is_open line ws word) SaysRight
 first_right site is_open line ws None = unless SaysRight ws.bad cause.BadQuote (Ok Nothing) (λ good. tt)
-first_right site is_open line ws (Some word) = each_step SaysRight (or_cause (verb_of word.text) cause.UnknownWord) _ (λ v is. verb_right site is_open line ws v)
+first_right site is_open line ws (Some word) = each_step SaysRight (or_cause (verb_of word.text) cause.UnknownWord) _
+    (λ v is. verb_right site is_open line ws v)
 
 line_right : (site : List (List ℕ)) (is_open : Bool) (line : List ℕ) → IfOk (line_says site is_open line) SaysRight
 unfolding line_says words_say
@@ -164,7 +184,8 @@ after_right s (Event e) h right = record { events = all-added is_sane_line s.eve
 lines_right : (lines : List (List ℕ)) (s : State) → IsRight s → IfOk (lines_say s lines) IsRight
 unfolding lines_say
 lines_right [] s h = h
-lines_right (line ∷ lines) s h = next_step SaysRight IsRight (line_says s.site s.is_open line) _ (line_right s.site s.is_open line) (λ says right. lines_right lines (after s says) (after_right s says h right))
+lines_right (line ∷ lines) s h = next_step SaysRight IsRight (line_says s.site s.is_open line) _ (line_right s.site s.is_open line)
+    (λ says right. lines_right lines (after s says) (after_right s says h right))
 
 said : (lines : List (List ℕ)) (state : State) → lines_say start lines ≡ Ok state → IsRight state
 said lines state say =

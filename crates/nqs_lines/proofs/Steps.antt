@@ -8,7 +8,8 @@ each_step P (Ok a) f h = h a refl
 each_step P (Err e) f h = tt
 
 -- of the second, where something holds of what the first gives
-pub next_step : {A B E : Type 0} (P : A → Type 0) (Q : B → Type 0) (r : Result A E) (f : A → Result B E) → IfOk r P → ((a : A) → P a → IfOk (f a) Q) → IfOk (r >>= f) Q
+pub next_step : {A B E : Type 0} (P : A → Type 0) (Q : B → Type 0) (r : Result A E) (f : A → Result B E) → IfOk r P → ((a : A) → P a → IfOk (f a) Q)
+    → IfOk (r >>= f) Q
 next_step P Q (Ok a) f p h = h a p
 next_step P Q (Err e) f p h = tt
 

@@ -1,10 +1,8 @@
-//! Words and lines as the commands that they ask for. What can't be read is a command too, whose answer says why;
-//! a want of memory is no command.
+//! Words and lines as the commands that they ask for. What can't be read is a command too, whose
+//! answer says why; a want of memory is no command. Lines of qmgr and words of qdel are read
+//! without any.
 
-ghost use Rattle.std.specs.Prelude.{◌≡◌, ◌≢◌, IfOk, IfErr};
-ghost use Rattle.nqs_types.specs.declared.event.Command.TheVariants as command;
-ghost use Rattle.nqs_types.specs.declared.fault.GrammarFault.TheVariants as grammar;
-ghost use Rattle.nqs_types.specs.declared.fault.WordsCause.TheVariants as cause;
+ghost use Rattle.std.specs.Prelude.{◌≡◌, IfOk};
 ghost use Rattle.nqs_qmgr.specs.Lines.{qmgr_line};
 ghost use Rattle.nqs_query.specs.Words.{stat_of, delete_of};
 ghost use Rattle.nqs_lines.specs.Acts.{of_line, of_words, listed, qsub_command as qsub_asks, named_submission};
@@ -12,32 +10,9 @@ ghost use Rattle.nqs_lines.specs.Acts.{of_line, of_words, listed, qsub_command a
 use nqs_qmgr::read_qmgr;
 use nqs_qsub::read_qsub;
 use nqs_query::{read_qdel, read_qstat};
-use nqs_types::{Command, GrammarFault, WordsCause, WordsFault};
+use nqs_types::Command;
 use nqs_values::{Bytes, Memory, Name};
 use std::alloc::Global;
-
-// The command of words that can't be read.
-fn unread_words(fault: WordsFault) -> Result<Command, Memory>
-    ensures asks { IfOk result (λ unread. unread ≡ command.UnreadWords fault) }
-    ensures memory { IfOk result (λ _. fault.cause ≢ cause.Memory) }
-    ensures given_up { IfErr result (λ _. fault.cause ≡ cause.Memory) }
-{
-    match fault.cause {
-        WordsCause::Memory => Err(Memory),
-        _ => Ok(Command::UnreadWords(fault)),
-    }
-}
-
-// The command of a line that can't be read.
-fn unread_line(fault: GrammarFault) -> Result<Command, Memory>
-    ensures asks { IfOk result (λ unread. unread ≡ command.UnreadLine fault) }
-    ensures given_up { IfErr result (λ _. fault ≡ grammar.Memory) }
-{
-    match fault {
-        GrammarFault::Memory => Err(Memory),
-        _ => Ok(Command::UnreadLine(fault)),
-    }
-}
 
 /// The words of qsub and a script.
 pub fn qsub_command(
@@ -48,9 +23,9 @@ pub fn qsub_command(
 ) -> Result<Command, Memory>
     ensures { IfOk result (λ command. command ≡ qsub_asks user.now words.now script.now) }
 {
-    match read_qsub(alloc, user, words, script) {
+    match read_qsub(alloc, user, words, script)? {
         Ok(submission) => Ok(Command::Submit(submission)),
-        Err(fault) => unread_words(fault),
+        Err(fault) => Ok(Command::UnreadWords(fault)),
     }
 }
 
@@ -65,12 +40,12 @@ pub fn submit_command(alloc: Global, user: &Name, name: &Name) -> Result<Command
 }
 
 /// A line of qmgr.
-pub fn qmgr_command(line: &[u8]) -> Result<Command, Memory>
-    ensures { IfOk result (λ command. command ≡ of_line (qmgr_line line.now)) }
+pub fn qmgr_command(line: &[u8]) -> Command
+    ensures { result ≡ of_line (qmgr_line line.now) }
 {
     match read_qmgr(line) {
-        Ok(command) => Ok(command),
-        Err(fault) => unread_line(fault),
+        Ok(command) => command,
+        Err(fault) => Command::UnreadLine(fault),
     }
 }
 
@@ -78,18 +53,18 @@ pub fn qmgr_command(line: &[u8]) -> Result<Command, Memory>
 pub fn qstat_command(alloc: Global, words: &[Bytes]) -> Result<Command, Memory>
     ensures { IfOk result (λ command. command ≡ of_words (listed (stat_of words.now))) }
 {
-    match read_qstat(alloc, words) {
+    match read_qstat(alloc, words)? {
         Ok(command) => Ok(command),
-        Err(fault) => unread_words(fault),
+        Err(fault) => Ok(Command::UnreadWords(fault)),
     }
 }
 
 /// The words of qdel.
-pub fn qdel_command(words: &[Bytes]) -> Result<Command, Memory>
-    ensures { IfOk result (λ command. command ≡ of_words (delete_of words.now)) }
+pub fn qdel_command(words: &[Bytes]) -> Command
+    ensures { result ≡ of_words (delete_of words.now) }
 {
     match read_qdel(words) {
-        Ok(command) => Ok(command),
-        Err(fault) => unread_words(fault),
+        Ok(command) => command,
+        Err(fault) => Command::UnreadWords(fault),
     }
 }

@@ -1,10 +1,12 @@
-//! Laws of lines: whatever is read is within the limits that the rules of a host ask for, so that each event of a
-//! schedule may be taken, and the laws of networks hold of each run of one. A caller cites a law by calling it.
+//! Laws of lines: whatever is read is within the limits that the rules of a host ask for, so that
+//! each event of a schedule may be taken, and the laws of networks hold of each run of one. A
+//! caller cites a law by calling it.
 
-ghost use Rattle.nqs_lines.specs.Laws.{SubmissionsAreSane, EditsAreSane, ListsAreSane, DeletionsAreSane, SchedulesAreSane, GeneratedSchedulesAreSane, ActsAreSane, SitesAreRight, GeneratedSitesAreRight};
+ghost use Rattle.nqs_lines.specs.Laws.{SubmissionsAreSane, EditsAreSane, ListsAreSane, DeletionsAreSane, SchedulesAreSane, GeneratedSchedulesAreSane};
+ghost use Rattle.nqs_lines.specs.Laws.{ActsAreSane, SitesAreRight, GeneratedSitesAreRight};
 
-/// Whatever the words of a submission and its script are, the job that they ask for has a name, a priority of at
-/// most 63 and paths or none, and the script is short enough.
+/// Whatever the words of a submission and its script are, the job that they ask for has a name, a
+/// priority of at most 63 and paths or none, and the script is short enough.
 pub fn submissions_are_sane()
     ensures { SubmissionsAreSane }
 {}
@@ -35,7 +37,8 @@ pub fn acts_are_sane()
     ensures { ActsAreSane }
 {}
 
-/// A schedule that is read has a site of 1 to 16 hosts, and so has one that a seed gives for so many.
+/// A schedule that is read has a site of 1 to 16 hosts, and so has one that a seed gives for so
+/// many.
 pub fn sites_are_right()
     ensures read { SitesAreRight }
     ensures generated { GeneratedSitesAreRight }

@@ -1,5 +1,5 @@
-//! Tests of the crates of the lines that people type and of schedules: each module has those of one crate. They stand apart from the crates, so that
-//! a crate isn't proved once more for its tests.
+//! Tests of the crates of the lines that people type and of schedules: each module has those of one
+//! crate. They stand apart from the crates, so that a crate isn't proved once more for its tests.
 #![tactic(auto)]
 
 #[cfg(test)]

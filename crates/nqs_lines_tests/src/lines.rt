@@ -46,21 +46,22 @@ fn unread(command: Result<Command, Memory>) -> Option<bool> {
     command.as_ref().ok().map(is_unread)
 }
 
-// Whether the two submissions are read, and which of the other commands are not.
-type Answers = ([Option<bool>; 2], [Option<bool>; 4]);
+// Whether the two submissions are read, and which of the other commands are not: those that take
+// memory, and those that take none.
+type Answers = ([Option<bool>; 2], Option<bool>, [bool; 3]);
 
 fn answers(alloc: Global, words: &[Bytes]) -> Answers {
     let submitted = [
         submits(qsub_command(alloc, &name(), words, b"date")),
         submits(submit_command(alloc, &name(), &name())),
     ];
+    let listed = unread(qstat_command(alloc, &[]));
     let others = [
-        unread(qmgr_command(b"shutdown")),
-        unread(qstat_command(alloc, &[])),
-        unread(qmgr_command(b"frob")),
-        unread(qdel_command(words)),
+        is_unread(&qmgr_command(b"shutdown")),
+        is_unread(&qmgr_command(b"frob")),
+        is_unread(&qdel_command(words)),
     ];
-    (submitted, others)
+    (submitted, listed, others)
 }
 
 fn answered(alloc: Global) -> Result<Answers, Memory> {
@@ -70,6 +71,6 @@ fn answered(alloc: Global) -> Result<Answers, Memory> {
 
 #[test]
 fn asks_for_what_is_said(rt: HostRuntime) {
-    let others = [Some(false), Some(false), Some(true), Some(true)];
-    assert_eq!(rt; answered(rt.alloc()), Ok(([Some(true); 2], others)));
+    let wanted = ([Some(true); 2], Some(false), [false, true, true]);
+    assert_eq!(rt; answered(rt.alloc()), Ok(wanted));
 }

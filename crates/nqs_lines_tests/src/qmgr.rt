@@ -189,7 +189,8 @@ fn reads_lines(rt: HostRuntime) {
     }
 }
 
-// Whether it creates this batch queue, for pipe queues alone, of priority 5 and for 3 requests at a time.
+// Whether it creates this batch queue, for pipe queues alone, of priority 5 and for 3 requests at a
+// time.
 fn creates(edit: &ConfEdit, name: &Name) -> bool {
     match edit {
         ConfEdit::CreateBatchQueue {

@@ -21,21 +21,22 @@ fn words(alloc: Global, text: &[u8]) -> Result<Vec<Bytes>, Memory> {
     Ok(words)
 }
 
-fn read(alloc: Global, text: &[u8], script: &[u8]) -> Result<Submission, WordsFault> {
-    match words(alloc, text) {
-        Ok(words) => read_qsub(alloc, &user(), words.as_slice(), script),
-        Err(_) => Err(WordsFault {
-            cause: WordsCause::Memory,
-            line: 9,
-            word: 9,
-        }),
-    }
+fn read(
+    alloc: Global,
+    text: &[u8],
+    script: &[u8],
+) -> Result<Result<Submission, WordsFault>, Memory> {
+    let words = words(alloc, text)?;
+    read_qsub(alloc, &user(), words.as_slice(), script)
 }
 
-fn fault(alloc: Global, text: &[u8], script: &[u8]) -> Option<(WordsCause, u32, u32)> {
-    match read(alloc, text, script) {
-        Ok(_) => None,
-        Err(fault) => Some((fault.cause, fault.line, fault.word)),
+// A fault of words or a script, its line and its word.
+type Found = Option<(WordsCause, u32, u32)>;
+
+fn fault(alloc: Global, text: &[u8], script: &[u8]) -> Result<Found, Memory> {
+    match read(alloc, text, script)? {
+        Ok(_) => Ok(None),
+        Err(fault) => Ok(Some((fault.cause, fault.line, fault.word))),
     }
 }
 
@@ -53,7 +54,8 @@ fn has_defaults(made: &Submission) -> [bool; 7] {
 
 fn defaults(alloc: Global) -> Option<[bool; 7]> {
     match read_qsub(alloc, &user(), &[], b"date") {
-        Ok(made) => Some(has_defaults(&made)),
+        Ok(Ok(made)) => Some(has_defaults(&made)),
+        Ok(Err(_)) => None,
         Err(_) => None,
     }
 }
@@ -76,7 +78,8 @@ fn has_values(made: &Submission) -> [bool; 6] {
 
 fn values(alloc: Global, text: &[u8]) -> Option<[bool; 6]> {
     match read(alloc, text, b"") {
-        Ok(made) => Some(has_values(&made)),
+        Ok(Ok(made)) => Some(has_values(&made)),
+        Ok(Err(_)) => None,
         Err(_) => None,
     }
 }
@@ -105,7 +108,8 @@ fn has_both(made: &Submission) -> [bool; 4] {
 
 fn both(alloc: Global, text: &[u8], script: &[u8]) -> Option<[bool; 4]> {
     match read(alloc, text, script) {
-        Ok(made) => Some(has_both(&made)),
+        Ok(Ok(made)) => Some(has_both(&made)),
+        Ok(Err(_)) => None,
         Err(_) => None,
     }
 }
@@ -131,12 +135,12 @@ const BAD_WORDS: [(&[u8], WordsCause, u32); 8] = [
 #[test]
 fn finds_faults_of_the_command(rt: HostRuntime) {
     for (text, cause, word) in &BAD_WORDS {
-        assert_eq!(rt; fault(rt.alloc(), text, b""), Some((*cause, 0, *word)));
+        assert_eq!(rt; fault(rt.alloc(), text, b""), Ok(Some((*cause, 0, *word))));
     }
 }
 
 /// A script behind a command, and its fault, with the line and the word.
-const SCRIPTS: [(&[u8], Option<(WordsCause, u32, u32)>); 5] = [
+const SCRIPTS: [(&[u8], Found); 5] = [
     (b"#@$ -p 64", Some((WordsCause::BadNumber, 1, 2))),
     (
         b"#\n#@$ -q a\n#@$\t-nr -q b\n",
@@ -150,7 +154,7 @@ const SCRIPTS: [(&[u8], Option<(WordsCause, u32, u32)>); 5] = [
 #[test]
 fn finds_faults_of_the_script(rt: HostRuntime) {
     for (script, found) in &SCRIPTS {
-        assert_eq!(rt; fault(rt.alloc(), b"-p 5", script), *found);
+        assert_eq!(rt; fault(rt.alloc(), b"-p 5", script), Ok(*found));
     }
 }
 
@@ -161,6 +165,7 @@ fn refuses_a_script_that_is_too_long(rt: HostRuntime) -> Result<(), Fail> {
         fault(rt.alloc(), b"-nr", &longer[..32_768]),
         fault(rt.alloc(), b"-x", &longer),
     ];
-    assert_eq!(rt; found, [None, Some((WordsCause::ScriptTooLong, 0, 0))]);
+    let too_long = Some((WordsCause::ScriptTooLong, 0, 0));
+    assert_eq!(rt; found, [Ok(None), Ok(too_long)]);
     Ok(())
 }

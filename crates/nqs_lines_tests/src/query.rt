@@ -28,6 +28,7 @@ fn words(alloc: Global, text: &[u8]) -> Result<Vec<Bytes>, Memory> {
     Ok(words)
 }
 
+// The fault of words and the number of its word, where they have one.
 fn fault(answer: Result<Command, WordsFault>) -> Option<(WordsCause, u32)> {
     match answer {
         Ok(_) => None,
@@ -35,18 +36,15 @@ fn fault(answer: Result<Command, WordsFault>) -> Option<(WordsCause, u32)> {
     }
 }
 
-fn stat_fault(alloc: Global, text: &[u8]) -> Option<(WordsCause, u32)> {
-    match words(alloc, text) {
-        Ok(words) => fault(read_qstat(alloc, words.as_slice())),
-        Err(_) => Some((WordsCause::Memory, 9)),
-    }
+fn stat_fault(alloc: Global, text: &[u8]) -> Result<Option<(WordsCause, u32)>, Memory> {
+    let words = words(alloc, text)?;
+    let answer = read_qstat(alloc, words.as_slice())?;
+    Ok(fault(answer))
 }
 
-fn delete_fault(alloc: Global, text: &[u8]) -> Option<(WordsCause, u32)> {
-    match words(alloc, text) {
-        Ok(words) => fault(read_qdel(words.as_slice())),
-        Err(_) => Some((WordsCause::Memory, 9)),
-    }
+fn delete_fault(alloc: Global, text: &[u8]) -> Result<Option<(WordsCause, u32)>, Memory> {
+    let words = words(alloc, text)?;
+    Ok(fault(read_qdel(words.as_slice())))
 }
 
 fn deleted(command: &Command) -> Option<(Named, bool)> {
@@ -73,17 +71,16 @@ fn question(answer: Result<Command, WordsFault>) -> Option<(Option<Name>, usize)
     }
 }
 
-fn asked(alloc: Global, text: &[u8]) -> Option<(Option<Name>, usize)> {
-    match words(alloc, text) {
-        Ok(words) => question(read_qstat(alloc, words.as_slice())),
-        Err(_) => None,
-    }
+fn asked(alloc: Global, text: &[u8]) -> Result<Option<(Option<Name>, usize)>, Memory> {
+    let words = words(alloc, text)?;
+    let answer = read_qstat(alloc, words.as_slice())?;
+    Ok(question(answer))
 }
 
 #[test]
 fn reads_words_of_qstat(rt: HostRuntime) {
     let found = asked(rt.alloc(), b"-u ann batch night");
-    assert_eq!(rt; found, Some((Some(name(b"ann")), 2)));
+    assert_eq!(rt; found, Ok(Some((Some(name(b"ann")), 2))));
 }
 
 /// Words of `qstat`, and their fault.
@@ -98,7 +95,7 @@ const STAT_WORDS: [(&[u8], Option<(WordsCause, u32)>); 5] = [
 #[test]
 fn finds_faults_of_qstat(rt: HostRuntime) {
     for (text, found) in &STAT_WORDS {
-        assert_eq!(rt; stat_fault(rt.alloc(), text), *found);
+        assert_eq!(rt; stat_fault(rt.alloc(), text), Ok(*found));
     }
 }
 
@@ -131,7 +128,7 @@ const DELETE_WORDS: [(&[u8], WordsCause, u32); 6] = [
 #[test]
 fn finds_faults_of_qdel(rt: HostRuntime) {
     for (text, cause, word) in &DELETE_WORDS {
-        assert_eq!(rt; delete_fault(rt.alloc(), text), Some((*cause, *word)));
+        assert_eq!(rt; delete_fault(rt.alloc(), text), Ok(Some((*cause, *word))));
     }
 }
 

@@ -6,11 +6,12 @@ use nqs_values::{Bytes, Items, Memory, Name};
 use std::alloc::Global;
 use std::rt::HostRuntime;
 
-fn fault(alloc: Global, text: &[u8]) -> Option<(u64, Cause)> {
+// The first bad line of a schedule and its cause, where it has one.
+fn fault(alloc: Global, text: &[u8]) -> Result<Option<(u64, Cause)>, Memory> {
     match read_schedule(alloc, text) {
-        Ok(_) => None,
-        Err(ScheduleFault::Bad(LineFault { line, cause })) => Some((line, cause)),
-        Err(ScheduleFault::Memory) => Some((0, Cause::Unended)),
+        Ok(_) => Ok(None),
+        Err(ScheduleFault::Bad(LineFault { line, cause })) => Ok(Some((line, cause))),
+        Err(ScheduleFault::Memory(memory)) => Err(memory),
     }
 }
 
@@ -76,7 +77,7 @@ const BAD: [(&[u8], u64, Cause); 18] = [
 #[test]
 fn finds_the_first_bad_line(rt: HostRuntime) {
     for (text, line, cause) in &BAD {
-        assert_eq!(rt; fault(rt.alloc(), text), Some((*line, *cause)));
+        assert_eq!(rt; fault(rt.alloc(), text), Ok(Some((*line, *cause))));
     }
 }
 

@@ -1,5 +1,6 @@
 -- Lists of rows and of words.
-use Rattle.std.proofs.Common.{◌≡◌, ◌∙◌, ℕ, ◌+◌, ◌-◌, ◌<◌, ◌≤◌, suc, Bool, true, false, not, cond, nat_lt, List, [], ◌∷◌, ◌++◌, map, filter, drop, length, slice_get, find, position, codes, append_assoc, append-nil, Option, None, Some, if◌then◌else◌, refl, sym, ap, arith}
+use Rattle.std.proofs.Common.{◌≡◌, ◌∙◌, ℕ, ◌+◌, ◌-◌, ◌<◌, ◌≤◌, suc, Bool, true, false, not, cond, nat_lt, List, [], ◌∷◌, ◌++◌, map, filter, drop, length}
+use Rattle.std.proofs.Common.{slice_get, find, position, codes, append_assoc, append-nil, Option, None, Some, if◌then◌else◌, refl, sym, ap, arith}
 use Rattle.std.specs.Prelude.{fold, flat_map, insert}
 use Rattle.std.specs.List.{position_or_len}
 use Rattle.std.specs.Option.{option_map}
@@ -25,7 +26,8 @@ module _ {V : Type 0} (test : V → Bool) where
       front (Some y) = refl
 
       by : (b : Bool) → option_map (λ p. p.1) (best_from test (λ _ _. false) (n + 1) vs) ≡ find test vs
-          → option_map (λ p. p.1) (if b then better (λ _ _. false) (n, v) (best_from test (λ _ _. false) (n + 1) vs) else best_from test (λ _ _. false) (n + 1) vs) ≡ cond b (Some v) (find test vs)
+          → option_map (λ p. p.1) (if b then better (λ _ _. false) (n, v) (best_from test (λ _ _. false) (n + 1) vs) else
+          best_from test (λ _ _. false) (n + 1) vs) ≡ cond b (Some v) (find test vs)
       by true rest = front (best_from test (λ _ _. false) (n + 1) vs)
       by false rest = rest
 
@@ -98,7 +100,8 @@ module _ {V : Type 0} (p : V → Bool) (xs : List V) where
           behind : (m n : ℕ) → nat_lt m n ≡ false → m ≤ n → n ≡ m
           behind m n e within = grind (arith, nat_tests)
 
-module _ {E : Type 0} (p : Row E → Bool) (first : Row E → Row E → Bool) (rows : List (Row E)) (place : ℕ) (v : Row E) (some : 0 < place) (at : slice_get rows (place - 1) ≡ Some v) where
+module _ {E : Type 0} (p : Row E → Bool) (first : Row E → Row E → Bool) (rows : List (Row E)) (place : ℕ) (v : Row E) (some : 0 < place)
+    (at : slice_get rows (place - 1) ≡ Some v) where
   one_more : drop (place - 1) rows ≡ v ∷ drop place rows
   one_more = (let e : (place - 1) + 1 ≡ place = omega arith in drop-at rows (place - 1) v at ∙ ap (λ n. v ∷ drop n rows) e)
 

@@ -196,8 +196,8 @@ fn parameter_lines(alloc: Global, state: &HostState) -> Result<Items<Bytes>, Mem
     Ok(lines)
 }
 
-/// The lines of a list of qmgr, by the code of its line: 48 queues, 49 devices, 50 complexes, 51 managers and
-/// operators, 52 parameters. There are none for another code.
+/// The lines of a list of qmgr, by the code of its line: 48 queues, 49 devices, 50 complexes, 51
+/// managers and operators, 52 parameters. There are none for another code.
 pub fn show_lines(alloc: Global, state: &HostState, code: u8) -> Result<Items<Bytes>, Memory>
     ensures { IfOk result (λ lines. lines ≡ show_lines code (content state.now)) }
 {

@@ -1,4 +1,5 @@
-use Rattle.std.proofs.Common.{◌≡◌, ℕ, suc, ◌+◌, ◌-◌, ◌*◌, ◌<◌, ◌≤◌, List, [], ◌∷◌, length, arith, refl, ap, Some, None, Option, cond, Bool, true, false, ◌/◌, ◌%◌, ◌==◌}
+use Rattle.std.proofs.Common.{◌≡◌, ℕ, suc, ◌+◌, ◌-◌, ◌*◌, ◌<◌, ◌≤◌, List, [], ◌∷◌, length, arith, refl, ap, Some, None, Option, cond, Bool, true, false, ◌/◌}
+use Rattle.std.proofs.Common.{◌%◌, ◌==◌}
 use Rattle.nqs_values.specs.Name.{is_digit}
 use Rattle.std.specs.Prelude.{ℤ, pos, neg_ℤ, unsigned_abs, ◌+ℤ◌, ◌-ℤ◌, ◌*ℤ◌, ◌<ℤ◌, ◌≤ℤ◌}
 use Rattle.std.proofs.Common.{zero, add-zero, subst, negsuc, ◌⊎◌, inl, inr}
@@ -44,9 +45,25 @@ unfolding misfit
 fit_mark place t ts bs h e = rw (h, e) refl
 
 pub text-formed : (a b c d e f g h i j k l m n : ℕ) → misfit moment_form 0
-    ((48 + a % 10) ∷ (48 + b % 10) ∷ (48 + c % 10) ∷ (48 + d % 10) ∷ 45 ∷ (48 + e % 10) ∷ (48 + f % 10) ∷ 45 ∷ (48 + g % 10) ∷ (48 + h % 10) ∷ 84 ∷ (48 + i % 10) ∷ (48 + j % 10) ∷ 58 ∷ (48 + k % 10) ∷ (48 + l % 10) ∷ 58 ∷ (48 + m % 10) ∷ (48 + n % 10) ∷ []) ≡ None
+    ((48 + a % 10) ∷ (48 + b % 10) ∷ (48 + c % 10) ∷ (48 + d % 10) ∷ 45 ∷ (48 + e % 10) ∷ (48 + f % 10) ∷ 45 ∷ (48 + g % 10) ∷ (48 + h % 10) ∷ 84
+    ∷ (48 + i % 10) ∷ (48 + j % 10) ∷ 58 ∷ (48 + k % 10) ∷ (48 + l % 10) ∷ 58 ∷ (48 + m % 10) ∷ (48 + n % 10) ∷ []) ≡ None
 unfolding misfit
-text-formed a b c d e f g h i j k l m n = rw (digit_is a, digit_is b, digit_is c, digit_is d, digit_is e, digit_is f, digit_is g, digit_is h, digit_is i, digit_is j, digit_is k, digit_is l, digit_is m, digit_is n) refl
+text-formed a b c d e f g h i j k l m n = rw (
+  digit_is a,
+  digit_is b,
+  digit_is c,
+  digit_is d,
+  digit_is e,
+  digit_is f,
+  digit_is g,
+  digit_is h,
+  digit_is i,
+  digit_is j,
+  digit_is k,
+  digit_is l,
+  digit_is m,
+  digit_is n,
+) refl
 
 pub two-digits : (n : ℕ) → n ≤ 99 → decimal ((48 + n / 10 % 10) ∷ (48 + n % 10) ∷ []) ≡ n
 unfolding decimal

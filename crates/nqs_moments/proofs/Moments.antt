@@ -44,7 +44,8 @@ day_bound year month day date =
     let most = days_in_month_bounds (pos year) month in
     (omega (arith, signed_arith, date), omega (arith, signed_arith, date), omega (arith, signed_arith, date, most))
 
-text_named : (year month day hour minute second moment : ℕ) → IsSecond year month day hour minute second moment → IsNamed (moment_text year month day hour minute second) moment
+text_named : (year month day hour minute second moment : ℕ) → IsSecond year month day hour minute second moment
+    → IsNamed (moment_text year month day hour minute second) moment
 text_named year month day hour minute second moment is =
     let bound = day_bound year month day is.date in
     let years = year_part year month day hour minute second bound.0 in
@@ -56,7 +57,8 @@ text_named year month day hour minute second moment is =
     rw (years, months, days, hours, minutes, seconds) is
 
 pub moment_named : (bytes : List ℕ) (moment : ℕ) → IsMoment bytes moment → IsNamed bytes moment
-moment_named bytes moment is = subst (λ (l : List ℕ). IsNamed l moment) (sym is.text) (text_named is.year is.month is.day is.hour is.minute is.second moment is.is_second)
+moment_named bytes moment is = subst (λ (l : List ℕ). IsNamed l moment) (sym is.text)
+    (text_named is.year is.month is.day is.hour is.minute is.second moment is.is_second)
 
 -- ---- the second of a date and what is left of its day
 
@@ -71,7 +73,8 @@ date_is d = (
   (omega (arith, signed_arith, d.day_in), omega (arith, signed_arith, d.day_in)),
 )
 
-pub second_is : (d : Date) (year moment : ℕ) → pos year ≡ d.year → epoch_day d ≡ pos (moment / 86400) → IsSecond year d.month d.day (moment % 86400 / 3600) (moment % 86400 / 60 % 60) (moment % 86400 % 60) moment
+pub second_is : (d : Date) (year moment : ℕ) → pos year ≡ d.year → epoch_day d ≡ pos (moment / 86400)
+    → IsSecond year d.month d.day (moment % 86400 / 3600) (moment % 86400 / 60 % 60) (moment % 86400 % 60) moment
 second_is d year moment is_year is_day =
     let days : days_from_civil (pos year) d.month d.day ≡ pos (moment / 86400) = ap (λ (y : ℤ). days_from_civil y d.month d.day) is_year ∙ is_day in
     record {
@@ -110,7 +113,9 @@ unfolding calendar_date
 one_text text other moment is was =
     let a = is.is_second in
     let b = was.is_second in
-    let parts = day_split (days_from_civil (pos is.year) is.month is.day) (days_from_civil (pos was.year) was.month was.day) (is.hour * 3600 + is.minute * 60 + is.second) (was.hour * 3600 + was.minute * 60 + was.second) moment (omega (arith, a)) (omega (arith, b)) a.counted b.counted in
+    let parts = day_split (days_from_civil (pos is.year) is.month is.day) (days_from_civil (pos was.year) was.month was.day)
+    (is.hour * 3600 + is.minute * 60 + is.second) (was.hour * 3600 + was.minute * 60 + was.second) moment (omega (arith, a))
+    (omega (arith, b)) a.counted b.counted in
     let time = time_split is.hour was.hour is.minute was.minute is.second was.second a.minutes b.minutes a.seconds b.seconds parts.1 in
     let date = epoch_day_injective (calendar_date is.year is.month is.day a.date) (calendar_date was.year was.month was.day b.date) parts.0 in
     let years : is.year ≡ was.year = cc in

@@ -1,5 +1,6 @@
 -- Moments: seconds since the first of 1970 in UTC, and their text `YYYY-MM-DDTHH:MM:SS`.
-use Rattle.std.specs.Prelude.{◌≡◌, ℕ, ◌+◌, ◌*◌, ◌/◌, ◌%◌, ◌<◌, ◌≤◌, Bool, ◌==◌, List, [], ◌∷◌, ◌++◌, codes, Option, Some, None, if◌then◌else◌, pos, ◌+ℤ◌, ◌*ℤ◌, Ok, Err}
+use Rattle.std.specs.Prelude.{◌≡◌, ℕ, ◌+◌, ◌*◌, ◌/◌, ◌%◌, ◌<◌, ◌≤◌, Bool, ◌==◌, List, [], ◌∷◌, ◌++◌, codes, Option, Some, None, if◌then◌else◌, pos, ◌+ℤ◌, ◌*ℤ◌}
+use Rattle.std.specs.Prelude.{Ok, Err}
 use Rattle.std.specs.declared.result.Result.{Result}
 use Rattle.jiff_core.specs.Calendar.{IsDate, days_from_civil}
 use Rattle.nqs_values.specs.Name.{is_digit}
@@ -71,4 +72,4 @@ last_moment = 253402214400
 abbrev pub PrintsMoment : List ℕ → ℕ → Result (Unit {0}) PrintFault → List ℕ → Type 0
 PrintsMoment old moment (Ok done) new = (moment ≤ last_moment) × (text : List ℕ) × IsMoment text moment × (new ≡ old ++ text)
 PrintsMoment old moment (Err print.Range) new = (last_moment < moment) × (new ≡ old)
-PrintsMoment old moment (Err print.Memory) new = (moment ≤ last_moment) × (new ≡ old)
+PrintsMoment old moment (Err (print.Memory memory)) new = (moment ≤ last_moment) × (new ≡ old)

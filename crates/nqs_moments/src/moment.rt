@@ -11,13 +11,14 @@ ghost use Rattle.nqs_moments.specs.Parts.{part, IsNamed};
 use jiff::civil::Date;
 use jiff_core::civil;
 use nqs_text::decimal;
+use nqs_values::Memory;
 use std::alloc::Global;
 
 /// Why bytes are no moment.
 #[derive(Clone, Copy, Debug, PartialEq, Eq)]
 pub enum MomentFault {
-    /// The first place, from 0, where the bytes leave the form: their length where they are too short, 19
-    /// where they are too long.
+    /// The first place, from 0, where the bytes leave the form: their length where they are too
+    /// short, 19 where they are too long.
     Form(u64),
     /// There is no such date and time from 1970 on.
     Range,
@@ -111,12 +112,12 @@ pub fn read_moment(bytes: &[u8]) -> Result<u64, MomentFault>
 }
 
 /// Why a moment was not printed. Nothing was appended.
-#[derive(Clone, Copy, Debug, PartialEq, Eq)]
+#[derive(Debug, PartialEq, Eq, Drop)]
 pub enum PrintFault {
     /// The moment is past 253,402,214,400, the first second of 9999-12-31.
     Range,
     /// An allocation was refused.
-    Memory,
+    Memory(Memory),
 }
 
 fn digit(number: u64) -> u8
@@ -184,6 +185,6 @@ pub fn print_moment(_: Global, moment: u64, out: &mut Vec<u8>) -> Result<(), Pri
     );
     match out.extend_from_slice(&text) {
         Ok(_) => Ok(()),
-        Err(_) => Err(PrintFault::Memory),
+        Err(refused) => Err(PrintFault::Memory(refused.into())),
     }
 }

@@ -1,5 +1,6 @@
 -- Packets that arrive: the newest of two hosts, and why each is within its limits.
-use Rattle.std.proofs.Common.{◌≡◌, ℕ, zero, suc, ◌<◌, Bool, true, false, cond, List, [], ◌∷◌, length, drop, filter, get_or, slice_get, Option, None, Some, refl, sym, ap, subst, ◌∙◌, arith}
+use Rattle.std.proofs.Common.{◌≡◌, ℕ, zero, suc, ◌<◌, Bool, true, false, cond, List, [], ◌∷◌, length, drop, filter, get_or, slice_get, Option, None, Some, refl}
+use Rattle.std.proofs.Common.{sym, ap, subst, ◌∙◌, arith}
 use Rattle.std.proofs.lemmas.Bool.{and_parts}
 use Rattle.std.proofs.lemmas.Option.{same_Some, none-some}
 use Rattle.std.specs.List.{list_all}
@@ -61,7 +62,9 @@ pub ready_for : (world : World) (o : Option Message) (site : List (List ℕ)) (n
 ready_for world None site network order stands sane = tt
 ready_for world (Some m) site network order stands sane = record { site = site; network = network; order = order; stands = stands; sane = sane m refl }
 
-pub latest : (a b : HostId) (w : Network) (l : List Message) (p n : ℕ) (m : Message) → l ≡ w.packets → p ≡ suc n → n < length l → m ≡ get_or l n m → is_between a b m ≡ true → filter (is_between a b) (drop p l) ≡ []
+pub latest : (a b : HostId) (w : Network) (l : List Message) (p n : ℕ) (m : Message) → l ≡ w.packets → p ≡ suc n → n < length l → m ≡ get_or l n m
+    → is_between a b m ≡ true → filter (is_between a b) (drop p l) ≡ []
     → Some m ≡ newest_between a b w
 latest a b w l p n m same next within here holds none =
-    sym (last_at (is_between a b) l n m within here holds (ap (λ k. filter (is_between a b) (drop k l)) (sym next) ∙ none)) ∙ ap (λ k. last_of (filter (is_between a b) k)) same
+    sym (last_at (is_between a b) l n m within here holds (ap (λ k. filter (is_between a b) (drop k l)) (sym next) ∙ none))
+    ∙ ap (λ k. last_of (filter (is_between a b) k)) same

@@ -1,5 +1,6 @@
 -- After a change that was made the fuses have burnt, and the counts have grown.
-use Rattle.std.proofs.Common.{◌≡◌, ℕ, ◌+◌, ◌-◌, ◌<◌, nat_le, Bool, true, false, List, [], ◌∷◌, ◌++◌, length, Option, None, Some, refl, sym, ap, subst, ◌∙◌, arith}
+use Rattle.std.proofs.Common.{◌≡◌, ℕ, ◌+◌, ◌-◌, ◌<◌, nat_le, Bool, true, false, List, [], ◌∷◌, ◌++◌, length, Option, None, Some, refl, sym, ap, subst, ◌∙◌}
+use Rattle.std.proofs.Common.{arith}
 use Rattle.std.proofs.lemmas.Bool.Decides.{nat_tests}
 use Rattle.std.proofs.lemmas.List.{length-append, append-nil}
 use Rattle.nqs_state.specs.State.{Plain}
@@ -80,26 +81,34 @@ module _ (places : List ℕ) (puts : List (List ℕ)) (gate : ℕ) (payload : Li
   all_calls = commit_calls places puts gate payload
 
   spool_part : part Spool all_calls ≡ puts_calls places puts
-  spool_part = part_more Spool (on Spool (puts_calls places puts)) (on First (append_calls gate payload)) ∙ ap (λ l. l ++ []) (spool_on (puts_calls places puts)) ∙ append-nil (puts_calls places puts)
+  spool_part = part_more Spool (on Spool (puts_calls places puts)) (on First (append_calls gate payload))
+      ∙ ap (λ l. l ++ []) (spool_on (puts_calls places puts)) ∙ append-nil (puts_calls places puts)
 
-  first_part : part First all_calls ≡ append_calls gate payload
-  first_part = part_more First (on Spool (puts_calls places puts)) (on First (append_calls gate payload)) ∙ ap (λ l. l ++ append_calls gate payload) (first_on (puts_calls places puts))
+  pub first_part : part First all_calls ≡ append_calls gate payload
+  first_part = part_more First (on Spool (puts_calls places puts)) (on First (append_calls gate payload))
+      ∙ ap (λ l. l ++ append_calls gate payload) (first_on (puts_calls places puts))
 
   root_part : part Root all_calls ≡ []
   root_part = part_more Root (on Spool (puts_calls places puts)) (on First (append_calls gate payload)) ∙ ap (λ l. l ++ []) (root_on (puts_calls places puts))
 
   second_part : part Second all_calls ≡ []
-  second_part = part_more Second (on Spool (puts_calls places puts)) (on First (append_calls gate payload)) ∙ ap (λ l. l ++ []) (second_on (puts_calls places puts))
+  second_part = part_more Second (on Spool (puts_calls places puts)) (on First (append_calls gate payload))
+      ∙ ap (λ l. l ++ []) (second_on (puts_calls places puts))
 
 -- a disk after so many calls that weren't to fail
 
-burnt_fuse : (fuse : Option ℕ) (made n later : ℕ) (fails now : ℕ → Bool) → ((i : ℕ) → now i ≡ fails i) → IsFuse fuse made fails → falls fuse n ≡ false → later ≡ made + n → IsFuse (burnt n fuse) later now
+burnt_fuse : (fuse : Option ℕ) (made n later : ℕ) (fails now : ℕ → Bool) → ((i : ℕ) → now i ≡ fails i) → IsFuse fuse made fails → falls fuse n ≡ false
+    → later ≡ made + n → IsFuse (burnt n fuse) later now
 burnt_fuse None made n later fails now same is none at = λ i. same i ∙ is i
 burnt_fuse (Some left) made n later fails now same is none at =
-    let more : n < left = grind (arith, nat_tests, none) in
-    (omega (arith, more), λ i. same i ∙ is.1 i ∙ (let e : nat_le (made + (left - 1)) i ≡ nat_le (later + (left - n - 1)) i = ap (λ k. nat_le k i) (omega (arith, more, at)) in e))
+    let more : n < left = grind (arith, nat_tests, none) in (
+      omega (arith, more),
+      λ i. same i ∙ is.1 i ∙ (let e : nat_le (made + (left - 1)) i ≡ nat_le (later + (left - n - 1)) i =
+          ap (λ k. nat_le k i) (omega (arith, more, at)) in e),
+    )
 
-module _ (fuse : Option ℕ) (calls : ℕ) (h k : History) (fails now : ℕ → Bool) (more : List Call) (same : (i : ℕ) → now i ≡ fails i) (is : IsDisk fuse calls h fails) where
+module _ (fuse : Option ℕ) (calls : ℕ) (h k : History) (fails now : ℕ → Bool) (more : List Call) (same : (i : ℕ) → now i ≡ fails i)
+    (is : IsDisk fuse calls h fails) where
   after_calls : (n : ℕ) → k ≡ extended h more → length more ≡ n → AreInTurn more → falls fuse n ≡ false → IsDisk (burnt n fuse) (calls + n) k now
   after_calls n made count turn none =
       let grown : moment k ≡ moment h + n = ap moment made ∙ length-append h.calls more ∙ ap (λ m. length h.calls + m) count in
@@ -120,26 +129,36 @@ module _ (fuse : Option ℕ) (calls : ℕ) (h k : History) (fails now : ℕ → 
       same_fuse None old = λ i. same i ∙ old i
       same_fuse (Some left) old = (old.0, λ i. same i ∙ old.1 i)
 
-module _ (host : Host) (fails now_fails : Which → ℕ → Bool) (old now : Which → History) (disks : AreDisks host old fails) (same : (which : Which) (i : ℕ) → now_fails which i ≡ fails which i) where
+module _ (host : Host) (fails now_fails : Which → ℕ → Bool) (old now : Which → History) (disks : AreDisks host old fails)
+    (same : (which : Which) (i : ℕ) → now_fails which i ≡ fails which i) where
   pub kept_disks : (puts : List (List ℕ)) (s : Plain) → IsKept fails puts old now → AreDisks (used puts s host) now now_fails
   kept_disks puts s kept =
       let (places, gate, payload, run, as_many, is, runs) = kept.calls in
-      let each : (which : Which) → now which ≡ extended (old which) (part which (commit_calls places puts gate payload)) = λ which. runs which ∙ ap (λ l. extended (old which) (part which l)) is in
+      let each : (which : Which) → now which ≡ extended (old which) (part which (commit_calls places puts gate payload)) = λ which. runs which
+      ∙ ap (λ l. extended (old which) (part which l)) is in
       by places gate payload as_many each
     where
       none : (h : History) → extended h [] ≡ h
       none h = ap (λ (l : List Call). let e : History = record { start = h.start; calls = l } in e) (append-nil h.calls)
 
-      by : (places : List ℕ) (gate : ℕ) (payload : List ℕ) → length places ≡ length puts → ((which : Which) → now which ≡ extended (old which) (part which (commit_calls places puts gate payload))) → AreDisks (used puts s host) now now_fails
-      by places gate payload as_many each Root = after_none host.fuses.root host.calls.root (old Root) (now Root) (fails Root) (now_fails Root) [] (same Root) (disks Root) (each Root ∙ ap (extended (old Root)) (root_part places puts gate payload) ∙ none (old Root))
+      by : (places : List ℕ) (gate : ℕ) (payload : List ℕ) → length places ≡ length puts
+          → ((which : Which) → now which ≡ extended (old which) (part which (commit_calls places puts gate payload)))
+          → AreDisks (used puts s host) now now_fails
+      by places gate payload as_many each Root = after_none host.fuses.root host.calls.root (old Root) (now Root) (fails Root) (now_fails Root) [] (same Root)
+          (disks Root) (each Root ∙ ap (extended (old Root)) (root_part places puts gate payload) ∙ none (old Root))
       by places gate payload as_many each First =
-          after_calls host.fuses.first host.calls.first (old First) (now First) (fails First) (now_fails First) (append_calls gate payload) (same First) (disks First) 4
+          after_calls host.fuses.first host.calls.first (old First) (now First) (fails First) (now_fails First) (append_calls gate payload) (same First)
+          (disks First) 4
           (each First ∙ ap (extended (old First)) (first_part places puts gate payload)) refl tt (first_clear host fails old disks puts kept.first)
-      by places gate payload as_many each Second = after_none host.fuses.second host.calls.second (old Second) (now Second) (fails Second) (now_fails Second) [] (same Second) (disks Second) (each Second ∙ ap (extended (old Second)) (second_part places puts gate payload) ∙ none (old Second))
+      by places gate payload as_many each Second = after_none host.fuses.second host.calls.second (old Second) (now Second) (fails Second) (now_fails Second) []
+          (same Second) (disks Second) (each Second ∙ ap (extended (old Second)) (second_part places puts gate payload) ∙ none (old Second))
       by places gate payload as_many each Spool =
-          after_calls host.fuses.spool host.calls.spool (old Spool) (now Spool) (fails Spool) (now_fails Spool) (puts_calls places puts) (same Spool) (disks Spool) (spool_calls puts)
-          (each Spool ∙ ap (extended (old Spool)) (spool_part places puts gate payload)) (puts_count places puts as_many) (puts_turn places puts) (spool_clear host fails old disks puts kept.spool)
+          after_calls host.fuses.spool host.calls.spool (old Spool) (now Spool) (fails Spool) (now_fails Spool) (puts_calls places puts) (same Spool)
+          (disks Spool) (spool_calls puts)
+          (each Spool ∙ ap (extended (old Spool)) (spool_part places puts gate payload)) (puts_count places puts as_many) (puts_turn places puts)
+          (spool_clear host fails old disks puts kept.spool)
 
   -- where no call was made
   pub same_disks : ((which : Which) → now which ≡ old which) → AreDisks host now now_fails
-  same_disks idle which = after_none (fuse_of which host.fuses) (calls_of which host.calls) (old which) (now which) (fails which) (now_fails which) [] (same which) (disks which) (idle which)
+  same_disks idle which = after_none (fuse_of which host.fuses) (calls_of which host.calls) (old which) (now which) (fails which) (now_fails which) []
+      (same which) (disks which) (idle which)

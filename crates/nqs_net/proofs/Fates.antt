@@ -1,5 +1,6 @@
 -- How a change of a host ends, by its fuses: what its disks did says the same as the rules.
-use Rattle.std.proofs.Common.{◌≡◌, ℕ, ◌+◌, ◌-◌, ◌<◌, ◌≤◌, nat_le, Bool, true, false, ◌&&◌, List, Option, None, Some, true≢false, refl, sym, ap, subst, ◌∙◌, arith}
+use Rattle.std.proofs.Common.{◌≡◌, ℕ, ◌+◌, ◌-◌, ◌<◌, ◌≤◌, nat_le, Bool, true, false, ◌&&◌, List, Option, None, Some, true≢false, refl, sym, ap, subst, ◌∙◌}
+use Rattle.std.proofs.Common.{arith}
 use Rattle.std.specs.Prelude.{if◌then◌else◌, MatchBool}
 use Rattle.std.proofs.lemmas.Bool.Decides.{nat_tests}
 use Rattle.nqs_state.specs.State.{Plain}
@@ -85,8 +86,10 @@ module _ (host : Host) (fails : Which → ℕ → Bool) (old : Which → History
     cut_spool : IsCutAtSpool fails puts old now before after → CutsTo before after left (fate puts host)
     cut_spool cut =
         let set = first_falls host.fuses.spool (moment (old Spool)) (spool_calls puts) cut.at (fails Spool) (disks Spool).fuse cut.failed in
-        let down : falls host.fuses.spool (spool_calls puts) ≡ true = ap (λ f. falls f (spool_calls puts)) set ∙ falls_within cut.at (spool_calls puts) cut.failed.within in
-        subst (λ b. CutsTo before after left (fate_by b (falls host.fuses.first 4) (falls_at_gate host.fuses.first && keeps_gate host.tear))) (sym down) (cut.told left images)
+        let down : falls host.fuses.spool (spool_calls puts) ≡ true = ap (λ f. falls f (spool_calls puts)) set
+        ∙ falls_within cut.at (spool_calls puts) cut.failed.within in
+        subst (λ b. CutsTo before after left (fate_by b (falls host.fuses.first 4) (falls_at_gate host.fuses.first && keeps_gate host.tear))) (sym down)
+        (cut.told left images)
 
     module _ (cut : IsCutAtFirst fails puts old now before after) where
       set : host.fuses.first ≡ Some (cut.at + 1)
@@ -104,15 +107,18 @@ module _ (host : Host) (fails : Which → ℕ → Bool) (old : Which → History
           of (keeps_gate host.tear) (torn_means (state (now First)) (cut.gate late).gate _ _ (cut.gate late).decides host.tear (images First))
         where
           of : (k : Bool)
-              → MatchBool k ((spool : List ℕ) → IsImage (state (now Spool)) spool → IsTold (left First) spool after) ((spool : List ℕ) → IsImage (state (now Spool)) spool → IsTold (left First) spool before)
+              → MatchBool k ((spool : List ℕ) → IsImage (state (now Spool)) spool → IsTold (left First) spool after)
+              ((spool : List ℕ) → IsImage (state (now Spool)) spool → IsTold (left First) spool before)
               → CutsTo before after left (if k then StoppedAfter else StoppedBefore)
           of true told = told (left Spool) (images Spool)
           of false told = told (left Spool) (images Spool)
 
       cut_first : CutsTo before after left (fate puts host)
       cut_first =
-          subst (λ b. CutsTo before after left (fate_by b (falls host.fuses.first 4) (falls_at_gate host.fuses.first && keeps_gate host.tear))) (sym (spool_clear cut.spool))
-          (subst (λ b. CutsTo before after left (fate_by false b (falls_at_gate host.fuses.first && keeps_gate host.tear))) (sym down) (by_gate (falls_at_gate host.fuses.first) refl))
+          subst (λ b. CutsTo before after left (fate_by b (falls host.fuses.first 4) (falls_at_gate host.fuses.first && keeps_gate host.tear)))
+          (sym (spool_clear cut.spool))
+          (subst (λ b. CutsTo before after left (fate_by false b (falls_at_gate host.fuses.first && keeps_gate host.tear))) (sym down)
+          (by_gate (falls_at_gate host.fuses.first) refl))
 
     pub cut_fate : (which : Which) → IsCutAt fails puts old now before after which → CutsTo before after left (fate puts host)
     cut_fate Root cut = absurd cut

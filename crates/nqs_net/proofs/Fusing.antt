@@ -1,5 +1,6 @@
 -- A disk is given a fuse.
-use Rattle.std.proofs.Common.{◌≡◌, ◌≢◌, ℕ, zero, suc, ◌+◌, ◌-◌, ◌<◌, ◌≤◌, nat_le, max, Bool, false, List, [], ◌∷◌, length, get_or, slice_set, Option, None, Some, refl, sym, ap, subst, ◌∙◌, arith}
+use Rattle.std.proofs.Common.{◌≡◌, ◌≢◌, ℕ, zero, suc, ◌+◌, ◌-◌, ◌<◌, ◌≤◌, nat_le, max, Bool, false, List, [], ◌∷◌, length, get_or, slice_set, Option, None}
+use Rattle.std.proofs.Common.{Some, refl, sym, ap, subst, ◌∙◌, arith}
 use Rattle.std.proofs.lemmas.Bool.Decides.{nat_tests}
 use Rattle.nqs_values.specs.declared.tear.Tear.{Tear}
 use Rattle.nqs_types.specs.declared.world.Which.{Which}
@@ -15,7 +16,8 @@ none_blown : (fuse : Option ℕ) (made : ℕ) (fails : ℕ → Bool) → IsFuse 
 none_blown None made fails is i below = is i
 none_blown (Some left) made fails is i below = is.1 i ∙ (let e : nat_le (made + (left - 1)) i ≡ false = grind (arith, nat_tests) in e)
 
-pub none_failed : (host : Host) (h : Which → History) (fails : Which → ℕ → Bool) → AreDisks host h fails → (which : Which) (i : ℕ) → i < moment (h which) → fails which i ≡ false
+pub none_failed : (host : Host) (h : Which → History) (fails : Which → ℕ → Bool) → AreDisks host h fails → (which : Which) (i : ℕ) → i < moment (h which)
+    → fails which i ≡ false
 none_failed host h fails are which = none_blown (fuse_of which host.fuses) (moment (h which)) (fails which) (are which).fuse
 
 module _ (left : Option ℕ) (made : ℕ) (h k : History) (fails now : ℕ → Bool) (is : IsDisk left made h fails) (same : k ≡ h) where
@@ -37,14 +39,17 @@ module _ (left : Option ℕ) (made : ℕ) (h k : History) (fails now : ℕ → B
       by None f = λ i. keeps i ∙ f i
       by (Some n) f = (f.0, λ i. keeps i ∙ f.1 i ∙ ap (λ m. nat_le (m + (n - 1)) i) (ap moment (sym same)))
 
-module _ (host : Host) (calls : ℕ) (tear : Tear) (h k : Which → History) (fails now : Which → ℕ → Bool) (are : AreDisks host h fails) (same : (d : Which) → k d ≡ h d) where
-  kept : (d which : Which) → d ≢ which → ((d : Which) → d ≢ which → (i : ℕ) → now d i ≡ fails d i) → IsDisk (fuse_of d host.fuses) (calls_of d host.calls) (k d) (now d)
+module _ (host : Host) (calls : ℕ) (tear : Tear) (h k : Which → History) (fails now : Which → ℕ → Bool) (are : AreDisks host h fails)
+    (same : (d : Which) → k d ≡ h d) where
+  kept : (d which : Which) → d ≢ which → ((d : Which) → d ≢ which → (i : ℕ) → now d i ≡ fails d i)
+      → IsDisk (fuse_of d host.fuses) (calls_of d host.calls) (k d) (now d)
   kept d which other keeps = keep_disk (fuse_of d host.fuses) (calls_of d host.calls) (h d) (k d) (fails d) (now d) (are d) (same d) (keeps d other)
 
   put : (d : Which) → ((i : ℕ) → now d i ≡ nat_le (moment (h d) + (max calls 1 - 1)) i) → IsDisk (Some (max calls 1)) (calls_of d host.calls) (k d) (now d)
   put d sets = set_disk (fuse_of d host.fuses) (calls_of d host.calls) (h d) (k d) (fails d) (now d) (are d) (same d) calls sets
 
-  pub fused_disks : (which : Which) → ((i : ℕ) → now which i ≡ nat_le (moment (h which) + (max calls 1 - 1)) i) → ((d : Which) → d ≢ which → (i : ℕ) → now d i ≡ fails d i) → AreDisks (fused_host which calls tear host) k now
+  pub fused_disks : (which : Which) → ((i : ℕ) → now which i ≡ nat_le (moment (h which) + (max calls 1 - 1)) i)
+      → ((d : Which) → d ≢ which → (i : ℕ) → now d i ≡ fails d i) → AreDisks (fused_host which calls tear host) k now
   fused_disks Root sets keeps Root = put Root sets
   fused_disks Root sets keeps First = kept First Root (λ e. cc) keeps
   fused_disks Root sets keeps Second = kept Second Root (λ e. cc) keeps
@@ -63,15 +68,20 @@ module _ (host : Host) (calls : ℕ) (tear : Tear) (h k : Which → History) (fa
   fused_disks Spool sets keeps Spool = put Spool sets
 
 -- a slot and its tear are changed, as the host is
-pub set_slot : (slots : List Slot) (tears : List Tear) (hosts : List Host) (n : ℕ) (o s : Slot) (tear : Tear) (f : Host → Host) → AreSlots slots tears hosts → n < length slots
-    → o ≡ get_or slots n o → ((host : Host) → IsSlot o host → IsSlot s (f host)) → ((host : Host) → tear ≡ (f host).tear) → AreSlots (slice_set slots n s) (slice_set tears n tear) (change_at n f hosts)
+pub set_slot : (slots : List Slot) (tears : List Tear) (hosts : List Host) (n : ℕ) (o s : Slot) (tear : Tear) (f : Host → Host) → AreSlots slots tears hosts
+    → n < length slots
+    → o ≡ get_or slots n o → ((host : Host) → IsSlot o host → IsSlot s (f host)) → ((host : Host) → tear ≡ (f host).tear)
+    → AreSlots (slice_set slots n s) (slice_set tears n tear) (change_at n f hosts)
 set_slot [] tears hosts n o s tear f are within here each same = absurd (omega (arith, within))
 set_slot (x ∷ slots) [] hosts n o s tear f are within here each same = absurd are
 set_slot (x ∷ slots) (t ∷ tears) [] n o s tear f are within here each same = absurd are
-set_slot (x ∷ slots) (t ∷ tears) (host ∷ hosts) zero o s tear f are within here each same = (each host (subst (λ y. IsSlot y host) (sym here) are.0), same host, are.2)
-set_slot (x ∷ slots) (t ∷ tears) (host ∷ hosts) (suc n) o s tear f are within here each same = (are.0, are.1, set_slot slots tears hosts n o s tear f are.2 (omega (arith, within)) here each same)
+set_slot (x ∷ slots) (t ∷ tears) (host ∷ hosts) zero o s tear f are within here each same =
+    (each host (subst (λ y. IsSlot y host) (sym here) are.0), same host, are.2)
+set_slot (x ∷ slots) (t ∷ tears) (host ∷ hosts) (suc n) o s tear f are within here each same =
+    (are.0, are.1, set_slot slots tears hosts n o s tear f are.2 (omega (arith, within)) here each same)
 
-pub set_past : (slots : List Slot) (tears : List Tear) (hosts : List Host) (n : ℕ) (f : Host → Host) → AreSlots slots tears hosts → length slots ≤ n → change_at n f hosts ≡ hosts
+pub set_past : (slots : List Slot) (tears : List Tear) (hosts : List Host) (n : ℕ) (f : Host → Host) → AreSlots slots tears hosts → length slots ≤ n
+    → change_at n f hosts ≡ hosts
 set_past [] [] [] n f are past = refl
 set_past [] [] (host ∷ hosts) n f are past = absurd are
 set_past [] (t ∷ tears) hosts n f are past = absurd are

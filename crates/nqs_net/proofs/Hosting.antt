@@ -1,5 +1,6 @@
 -- What a stop, a boot and a shutdown of a host make of a network.
-use Rattle.std.proofs.Common.{◌≡◌, ◌⊎◌, inl, inr, ℕ, Bool, true, false, true≢false, IsTrue, List, [], ◌∷◌, ◌++◌, length, if◌then◌else◌, Some, refl, sym, ap, subst, ◌∙◌}
+use Rattle.std.proofs.Common.{◌≡◌, ◌⊎◌, inl, inr, ℕ, Bool, true, false, true≢false, IsTrue, List, [], ◌∷◌, ◌++◌, length, if◌then◌else◌, Some, refl, sym, ap}
+use Rattle.std.proofs.Common.{subst, ◌∙◌}
 use Rattle.std.proofs.lemmas.List.{append-nil}
 use Rattle.std.specs.List.{filter_map}
 use Rattle.nqs_types.specs.declared.ids.HostId.{HostId}
@@ -38,7 +39,8 @@ use Rattle.nqs_net.proofs.Coming.{come_more, down_come}
 use Rattle.nqs_net.proofs.Turning.{put_turn, torn_down, kept_turn, cut_turn, same_self}
 
 -- what a node tells is told by what a stop leaves of its disks
-node_told : (node : Node MemDisk ghosts) (host : Host) (tear : Tear) → IsUp node host → ((which : Which) → IsImage (state (history_of node which)) (torn tear (state (history_of node which))))
+node_told : (node : Node MemDisk ghosts) (host : Host) (tear : Tear) → IsUp node host
+    → ((which : Which) → IsImage (state (history_of node which)) (torn tear (state (history_of node which))))
     → IsTold (torn tear (state (history_of node First))) (torn tear (state (history_of node Spool))) host.state
 node_told node host tear is images =
     subst (IsTold (torn tear (state (history_of node First))) (torn tear (state (history_of node Spool)))) is.tells.is
@@ -46,17 +48,21 @@ node_told node host tear is images =
 
 module _ (h : HostId) (w : Network) (host : Host) (tear : Tear) (packets : List Message) (faces : Faces h host tear packets w) where
   -- a host that is up stops as it is
-  pub crash_turn : (node : Node MemDisk ghosts) → IsUp node host → (disks : Disks MemDisk) → ((which : Which) → disk_at which disks ≡ disk_of which node) → (slot : Slot) (before after : List Seen) → after ≡ before ++ seen.Stop h ∷ []
+  pub crash_turn : (node : Node MemDisk ghosts) → IsUp node host → (disks : Disks MemDisk) → ((which : Which) → disk_at which disks ≡ disk_of which node)
+      → (slot : Slot) (before after : List Seen) → after ≡ before ++ seen.Stop h ∷ []
       → IsStopped tear (histories_of mem.history_of disks) slot → Turns h (IsSlot slot) tear packets before after w (crashes_up h host w)
   crash_turn node is disks closed slot before after saw torn_now =
-      let there : IsStopped tear (history_of node) slot = subst (λ (now : Which → History). IsStopped tear now slot) (λ j which. mem.history_of (closed which j)) torn_now in
+      let there : IsStopped tear (history_of node) slot = subst (λ (now : Which → History). IsStopped tear now slot)
+      (λ j which. mem.history_of (closed which j)) torn_now in
       of slot (subst (λ t. IsStopped t (history_of node) slot) faces.tear there)
     where
       of : (s : Slot) → IsStopped host.tear (history_of node) s → Turns h (IsSlot s) tear packets before after w (crashes_up h host w)
       of (Up up) torn_now = absurd torn_now
       of (Down down) torn_now =
           subst (λ l. Turns h (IsSlot (Down down)) tear l before after w (crashes_up h host w)) (sym faces.packets)
-          (put_turn h w host (stopped host.state host) faces.there (IsSlot (Down down)) (torn_down host.tear (history_of node) down.disks.value torn_now host host.state (node_told node host host.tear is torn_now.images)) tear faces.tear (seen.Stop h ∷ []) before after saw)
+          (put_turn h w host (stopped host.state host) faces.there (IsSlot (Down down))
+          (torn_down host.tear (history_of node) down.disks.value torn_now host host.state
+          (node_told node host host.tear is torn_now.images)) tear faces.tear (seen.Stop h ∷ []) before after saw)
 
   -- nothing is done
   pub idle_at : (P : Host → Type 0) → P host → (before : List Seen) → Turns h P tear packets before before w (unseen w)
@@ -85,20 +91,46 @@ module _ (h : HostId) (w : Network) (host : Host) (tear : Tear) (packets : List 
     abbrev old : Which → History
     old = histories_of mem.history_of disks
 
-    pub boot_turn : (node boxed : Node MemDisk ghosts) → boxed ≡ node → IsSoundHost (content_of node) → Tells node (applied Boot host.state) → IsMade fails old (history_of node) (Some Boot) → IsOneOrOther old (history_of node) (Some Boot) host.state → ((which : Which) (i : ℕ) → fails_of node which i ≡ fails which i)
-        → (sent : List Message) (before after : List Seen) → sent ≡ packets ++ sent_in (filter_map boot_output host.state.rows) → after ≡ before ++ (seen.Boot h ∷ seen_from h (length packets) (filter_map boot_output host.state.rows))
+    pub boot_turn : (node boxed : Node MemDisk ghosts) → boxed ≡ node → IsSoundHost (content_of node) → Tells node (applied Boot host.state)
+        → IsMade fails old (history_of node) (Some Boot) → IsOneOrOther old (history_of node) (Some Boot) host.state
+        → ((which : Which) (i : ℕ) → fails_of node which i ≡ fails which i)
+        → (sent : List Message) (before after : List Seen) → sent ≡ packets ++ sent_in (filter_map boot_output host.state.rows)
+        → after ≡ before ++ (seen.Boot h ∷ seen_from h (length packets) (filter_map boot_output host.state.rows))
         → Turns h (IsUp boxed) tear sent before after w (makes_change h host Boot (seen.Boot h ∷ []) (filter_map boot_output host.state.rows) w)
     boot_turn node boxed same_node sound tells kept moments same sent before after sends saw =
-        kept_turn h w host tear packets faces (seen.Boot h ∷ []) (filter_map boot_output host.state.rows) Boot fails old is.disks (history_of node) (IsUp boxed) kept
-        (subst (λ n. IsUp n (used (stored_parts Boot) (applied Boot host.state) host)) (sym same_node) (record { up = refl; tells = tells; sound = sound; disks = kept_disks host fails (fails_of node) old (history_of node) is.disks same (stored_parts Boot) (applied Boot host.state) kept; past = come_more old node host.state Boot (down_come disks host is) (let k : IsKept fails [] old (history_of node) = kept in k.calls) moments tells })) sent before after sends saw
+        kept_turn h w host tear packets faces (seen.Boot h ∷ []) (filter_map boot_output host.state.rows) Boot fails old is.disks (history_of node)
+        (IsUp boxed) kept
+        (subst (λ n. IsUp n (used (stored_parts Boot) (applied Boot host.state) host)) (sym same_node)
+        (record {
+          up = refl;
+          tells = tells;
+          sound = sound;
+          disks = kept_disks host fails (fails_of node) old (history_of node) is.disks same
+              (stored_parts Boot) (applied Boot host.state) kept;
+          past = come_more old node host.told host.state Boot (down_come disks host is)
+              (let k : IsKept fails [] old (history_of node) = kept in k.calls) moments tells;
+        })) sent before after sends saw
 
-    pub boot_cut : (now : Which → History) (slot : Slot) (which : Which) (starved : Bool) (before after : List Seen) → after ≡ before ++ seen.Stop h ∷ [] → IsStopped tear now slot → starved ≡ false
+    -- what there is to see of it
+    pub boot_seen : (node : Node MemDisk ghosts) → IsSoundHost (content_of node) → Tells node (applied Boot host.state)
+        → IsMade fails old (history_of node) (Some Boot) → IsOneOrOther old (history_of node) (Some Boot) host.state
+        → ((which : Which) (i : ℕ) → fails_of node which i ≡ fails which i)
+        → seen.Boot h ∷ seen_from h (length packets) (filter_map boot_output host.state.rows)
+        ≡ (makes_change h host Boot (seen.Boot h ∷ []) (filter_map boot_output host.state.rows) w).seen
+    boot_seen node sound tells kept moments same =
+        let outs = filter_map boot_output host.state.rows in
+        (boot_turn node node refl sound tells kept moments same (packets ++ sent_in outs) [] (seen.Boot h ∷ seen_from h (length packets) outs) refl refl).seen
+
+    pub boot_cut : (now : Which → History) (slot : Slot) (which : Which) (starved : Bool) (before after : List Seen) → after ≡ before ++ seen.Stop h ∷ []
+        → IsStopped tear now slot → starved ≡ false
         → IsTrue starved ⊎ (IsBlown (fails which) (old which) ⊎ IsCutBy fails old now (Some Boot) host.state which)
         → Turns h (IsSlot slot) tear packets before after w (makes_change h host Boot (seen.Boot h ∷ []) (filter_map boot_output host.state.rows) w)
     boot_cut now slot which starved before after saw torn_now fed (inl hungry) = absurd (true≢false (sym hungry ∙ fed))
-    boot_cut now slot which starved before after saw torn_now fed (inr (inl blown)) = absurd (unblown (fuse_of which host.fuses) (old which) (fails which) (is.disks which).fuse blown)
+    boot_cut now slot which starved before after saw torn_now fed (inr (inl blown)) =
+        absurd (unblown (fuse_of which host.fuses) (old which) (fails which) (is.disks which).fuse blown)
     boot_cut now slot which starved before after saw torn_now fed (inr (inr cut)) =
-        cut_turn h w host tear packets faces (seen.Boot h ∷ []) (filter_map boot_output host.state.rows) Boot fails old is.disks now before after saw slot which torn_now cut
+        cut_turn h w host tear packets faces (seen.Boot h ∷ []) (filter_map boot_output host.state.rows) Boot fails old is.disks now before after saw slot which
+        torn_now cut
 
 -- where no call was made, nothing is pending
 pub uncalled_quiet : (h : History) → h.calls ≡ [] → IsQuiet h

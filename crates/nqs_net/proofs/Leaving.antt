@@ -20,13 +20,15 @@ use Rattle.nqs_net.specs.declared.slot.Slot.{Slot}
 use Rattle.nqs_net.proofs.Burns.{same_disks}
 use Rattle.nqs_net.proofs.Coming.{node_tells, down_tells, down_come}
 
-pub up_left : (node : Node MemDisk ghosts) (left : Disks MemDisk) (host : Host) → ((which : Which) → disk_at which left ≡ disk_of which node) → IsUp node host → IsLeft left host
+pub up_left : (node : Node MemDisk ghosts) (left : Disks MemDisk) (host : Host) → ((which : Which) → disk_at which left ≡ disk_of which node) → IsUp node host
+    → IsLeft left host
 up_left node left host same up =
     let histories : histories_of mem.history_of left ≡ history_of node = λ j which. mem.history_of (same which j) in
     record {
       told = subst (λ h. EachImage h (λ images. IsTold (images First) (images Spool) host.state)) (sym histories) (node_tells node host.state up.tells);
-      disks = same_disks host (fails_of node) (failing_of mem.fails_of left) (history_of node) (histories_of mem.history_of left) up.disks (λ which i. ap (λ disk. mem.fails_of disk i) (same which)) (λ which. ap mem.history_of (same which));
-      past = subst (λ h. HasCome h host.state) (sym histories) up.past;
+      disks = same_disks host (fails_of node) (failing_of mem.fails_of left) (history_of node) (histories_of mem.history_of left) up.disks
+          (λ which i. ap (λ disk. mem.fails_of disk i) (same which)) (λ which. ap mem.history_of (same which));
+      past = subst (λ h. HasCome h host.told host.state) (sym histories) up.past;
     }
 
 pub down_left : (left : Disks MemDisk) (host : Host) → IsDown left host → IsLeft left host
@@ -42,14 +44,16 @@ LeaveEach (slot ∷ slots) (disks ∷ left) = Leaves slot disks × LeaveEach slo
 LeaveEach slots left = ⊥
 
 -- one more
-pub leave_more : (slots : List Slot) (left : List (Disks MemDisk)) (slot : Slot) (disks : Disks MemDisk) → LeaveEach slots left → Leaves slot disks → LeaveEach (slots ++ slot ∷ []) (left ++ disks ∷ [])
+pub leave_more : (slots : List Slot) (left : List (Disks MemDisk)) (slot : Slot) (disks : Disks MemDisk) → LeaveEach slots left → Leaves slot disks
+    → LeaveEach (slots ++ slot ∷ []) (left ++ disks ∷ [])
 leave_more [] [] slot disks each one = (one, tt)
 leave_more [] (d ∷ ds) slot disks each one = absurd each
 leave_more (s ∷ ss) [] slot disks each one = absurd each
 leave_more (s ∷ ss) (d ∷ ds) slot disks each one = (each.0, leave_more ss ds slot disks each.1 one)
 
 -- all hosts of a world
-pub all_left : (slots : List Slot) (tears : List Tear) (hosts : List Host) (left : List (Disks MemDisk)) → LeaveEach slots left → AreSlots slots tears hosts → AreLeft left hosts
+pub all_left : (slots : List Slot) (tears : List Tear) (hosts : List Host) (left : List (Disks MemDisk)) → LeaveEach slots left → AreSlots slots tears hosts
+    → AreLeft left hosts
 all_left [] [] [] [] each are = tt
 all_left [] [] [] (d ∷ ds) each are = absurd each
 all_left [] [] (h ∷ hs) left each are = absurd are

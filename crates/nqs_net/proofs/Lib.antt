@@ -2,6 +2,8 @@ pub mod Fates
 pub mod Burns
 pub mod Coming
 pub mod Turning
+pub mod Fronts
+pub mod Following
 pub mod Starting
 pub mod Hosting
 mod Leaving
@@ -9,6 +11,7 @@ mod Showing
 mod Founding
 mod Placing
 mod Means
+mod Ordered
 mod Finishing
 mod Fusing
 mod Arriving

@@ -3,11 +3,14 @@ use Rattle.std.proofs.Common.{◌≡◌, ℕ, true, List, length, Option, None, 
 use Rattle.nqs_types.specs.declared.event.Event.{Event}
 use Rattle.nqs_types.specs.declared.event.Event.TheVariants as event
 use Rattle.nqs_types.specs.declared.ids.HostId.{HostId}
+use Rattle.nqs_types.specs.declared.message.Message.{Message}
+use Rattle.nqs_types.specs.declared.world.Seen.TheVariants as seen
 use Rattle.nqs_rules.specs.Run.{happens}
-use Rattle.nqs_rules.specs.World.{Act, Asks, Ends, Finishes, Fails, Writes, Leaves, Delivers, Newest, Ticks, Clock, Fuse, Crashes, Boots, Shows, Host, World as Network, host_of, takes, taken_by, takes_up, finishes_up, crashes_up, boots}
+use Rattle.nqs_rules.specs.World.{Act, Asks, Ends, Finishes, Fails, Writes, Leaves, Delivers, Newest, Ticks, Clock, Fuse, Crashes, Boots, Shows, Host}
+use Rattle.nqs_rules.specs.World.{World as Network, host_of, takes, taken_by, takes_up, finishes_up, crashes_up, boots, delivers, seeing}
 use Rattle.nqs_laws.specs.Sane.{is_sane_act}
 use Rattle.nqs_laws.specs.Words.{IsInOrderAll}
-use Rattle.nqs_net.specs.Deeds.{done, done_by, deed_of, IsSaneFor, IsReady}
+use Rattle.nqs_net.specs.Deeds.{done, done_by, done_down, deed_of, IsSaneFor, IsReady}
 use Rattle.nqs_net.specs.Worlds.{IsWorld}
 use Rattle.nqs_net.specs.declared.world.World.{World}
 use Rattle.nqs_net.specs.declared.deed.Deed.{Deed}
@@ -31,6 +34,18 @@ crash_done (Some host) h w = refl
 boot_done : (o : Option Host) (h : HostId) (w : Network) → boots h o w ≡ done_by o deed.Boot h w
 boot_done None h w = refl
 boot_done (Some host) h w = refl
+
+-- a host that is down does nothing but boot
+pub not_booted : (d : Deed) (h : HostId) (host : Host) (w : Network) → (d ≡ deed.Boot → ⊥) → done_down d h host w ≡ seeing (seen.Down h) w
+not_booted (deed.Take e) h host w other = refl
+not_booted deed.Finish h host w other = refl
+not_booted deed.Crash h host w other = refl
+not_booted deed.Boot h host w other = absurd (other refl)
+
+-- a packet that there is comes to its host
+pub delivered : (k : Option ℕ) (o : Option Message) (m : Message) (w : Network) (now : ℕ) → o ≡ Some m → w.now ≡ now
+    → delivers k o w ≡ done (deed.Take (event.Arrived now m)) m.to w
+delivered k o m w now is at = ap (λ o. delivers k o w) is ∙ takes_done m.to (event.Arrived w.now m) w ∙ ap (λ n. done (deed.Take (event.Arrived n m)) m.to w) at
 
 -- what comes to a host by an event is what happens then, and is within its limits where the event is
 pub record Means (a : Act) (w : Network) (p : HostId × Deed) : Type 0 where

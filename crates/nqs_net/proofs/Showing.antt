@@ -1,5 +1,7 @@
 -- Reads of disks change nothing, and tell the states of the hosts.
-use Rattle.std.proofs.Common.{◌≡◌, ℕ, zero, suc, ◌<◌, List, [], ◌∷◌, ◌++◌, map, take, length, get_or, set, Some, refl, sym, ap, subst, ◌∙◌, arith}
+use Rattle.std.proofs.Common.{◌≡◌, ℕ, zero, suc, ◌<◌, ◌≤◌, List, [], ◌∷◌, ◌++◌, map, take, length, get_or, slice_get, set, Some, refl, sym, ap, subst, ◌∙◌}
+use Rattle.std.proofs.Common.{arith}
+use Rattle.std.proofs.lemmas.Bool.{leb-true}
 use Rattle.nqs_state.specs.State.{Plain, content}
 use Rattle.nqs_state.specs.declared.state.HostState.{HostState}
 use Rattle.nqs_values.specs.declared.tear.Tear.{Tear}
@@ -10,7 +12,10 @@ use Rattle.nqs_disk.specs.MemDisk as mem
 use Rattle.nqs_disk.specs.contracts.mem_disk.MemDiskDisk.TheImpl.{ghosts}
 use Rattle.nqs_disk.specs.declared.mem_disk.MemDisk.{MemDisk}
 use Rattle.nqs_rules.specs.Plain.{map_state}
-use Rattle.nqs_rules.specs.World.{Host}
+use Rattle.nqs_rules.specs.Run.{states_of}
+use Rattle.nqs_rules.specs.World.{Host, World as Network}
+use Rattle.nqs_rules.proofs.StateFacts.{sites_are}
+use Rattle.nqs_laws.specs.Words.{IsInOrderAll}
 use Rattle.nqs_store.specs.Disks.{histories_of, failing_of}
 use Rattle.nqs_store.specs.Images.{IsTold}
 use Rattle.nqs_store.specs.Live.{bytes_at}
@@ -27,14 +32,15 @@ use Rattle.nqs_net.specs.declared.slot.Slot.{Slot}
 use Rattle.nqs_net.proofs.Burns.{same_disks}
 use Rattle.nqs_net.proofs.Coming.{come_still}
 
-pub same_up : (old now : Node MemDisk ghosts) (host : Host) → ((which : Which) → history_of now which ≡ history_of old which) → ((which : Which) (i : ℕ) → fails_of now which i ≡ fails_of old which i)
+pub same_up : (old now : Node MemDisk ghosts) (host : Host) → ((which : Which) → history_of now which ≡ history_of old which)
+    → ((which : Which) (i : ℕ) → fails_of now which i ≡ fails_of old which i)
     → content_of now ≡ content_of old → ((s : Plain) → Tells old s → Tells now s) → IsUp old host → IsUp now host
 same_up old now host same fuse state tells up = record {
   up = up.up;
   tells = tells host.state up.tells;
   sound = subst IsSoundHost (sym state) up.sound;
   disks = same_disks host (fails_of old) (fails_of now) (history_of old) (history_of now) up.disks fuse same;
-  past = come_still (history_of old) (history_of now) host.state same up.past;
+  past = come_still (history_of old) (history_of now) host.told host.state same up.past;
 }
 
 pub up_stands : (node : Node MemDisk ghosts) (state : HostState) (host : Host) → content state ≡ content_of node → IsUp node host → StandsFor state host.state
@@ -44,13 +50,17 @@ pub same_down : (old now : Disks MemDisk) (host : Host) → ((which : Which) →
     → ((which : Which) (i : ℕ) → failing_of mem.fails_of now which i ≡ failing_of mem.fails_of old which i) → IsDown old host → IsDown now host
 same_down old now host same fuse down = record {
   down = down.down;
-  tells = subst (λ h. IsTold (bytes_now (h First)) (bytes_now (h Spool)) host.state) (sym (let e : histories_of mem.history_of now ≡ histories_of mem.history_of old = λ j which. same which j in e)) down.tells;
-  disks = same_disks host (failing_of mem.fails_of old) (failing_of mem.fails_of now) (histories_of mem.history_of old) (histories_of mem.history_of now) down.disks fuse same;
+  told = down.told;
+  tells = subst (λ h. IsTold (bytes_now (h First)) (bytes_now (h Spool)) host.state)
+      (sym (let e : histories_of mem.history_of now ≡ histories_of mem.history_of old = λ j which. same which j in e)) down.tells;
+  disks = same_disks host (failing_of mem.fails_of old) (failing_of mem.fails_of now) (histories_of mem.history_of old)
+      (histories_of mem.history_of now) down.disks fuse same;
   calls = λ which. ap (λ h. h.calls) (same which) ∙ down.calls which;
 }
 
 pub down_stands : (disks : Disks MemDisk) (state : HostState) (host : Host)
-    → ((payloads : List (List ℕ)) → IsJournal (bytes_now (histories_of mem.history_of disks First)) payloads → (told_host : Told) → told payloads ≡ Some told_host → content state ≡ told_host)
+    → ((payloads : List (List ℕ)) → IsJournal (bytes_now (histories_of mem.history_of disks First)) payloads → (told_host : Told)
+    → told payloads ≡ Some told_host → content state ≡ told_host)
     → IsDown disks host → StandsFor state host.state
 down_stands disks state host read down =
     let bytes = bytes_at (bytes_now (histories_of mem.history_of disks Spool)) in
@@ -65,7 +75,8 @@ pub record IsAtPlace (slots : List Slot) (tears : List Tear) (hosts : List Host)
   pub put : (next : Slot) → IsSlot next host → AreSlots (set slots i next) tears hosts
   pub more : take (suc i) (map (λ h. h.state) hosts) ≡ take i (map (λ h. h.state) hosts) ++ host.state ∷ []
 
-pub at_place : (slots : List Slot) (tears : List Tear) (hosts : List Host) (i : ℕ) (d : Slot) → i < length slots → AreSlots slots tears hosts → IsAtPlace slots tears hosts i d
+pub at_place : (slots : List Slot) (tears : List Tear) (hosts : List Host) (i : ℕ) (d : Slot) → i < length slots → AreSlots slots tears hosts
+    → IsAtPlace slots tears hosts i d
 at_place [] tears hosts i d lt are = absurd (let no : ⊥ = omega (arith, lt) in no)
 at_place (s ∷ ss) [] hosts i d lt are = absurd are
 at_place (s ∷ ss) (t ∷ ts) [] i d lt are = absurd are
@@ -83,8 +94,26 @@ as_many (s ∷ ss) (t ∷ ts) [] are = absurd are
 as_many (s ∷ ss) (t ∷ ts) (h ∷ hs) are = ap suc (as_many ss ts hs are.2)
 
 -- one more
-pub stand_more : (states : List HostState) (plains : List Plain) (state : HostState) (plain : Plain) → StandForEach states plains → StandsFor state plain → StandForEach (states ++ state ∷ []) (plains ++ plain ∷ [])
+pub stand_more : (states : List HostState) (plains : List Plain) (state : HostState) (plain : Plain) → StandForEach states plains → StandsFor state plain
+    → StandForEach (states ++ state ∷ []) (plains ++ plain ∷ [])
 stand_more [] [] state plain each one = (one, tt)
 stand_more [] (p ∷ ps) state plain each one = absurd each
 stand_more (s ∷ ss) [] state plain each one = absurd each
 stand_more (s ∷ ss) (p ∷ ps) state plain each one = (each.0, stand_more ss ps state plain each.1 one)
+
+pub as_many_stand : (states : List HostState) (plains : List Plain) → StandForEach states plains → length states ≡ length plains
+as_many_stand [] [] each = refl
+as_many_stand [] (p ∷ ps) each = absurd each
+as_many_stand (s ∷ ss) [] each = absurd each
+as_many_stand (s ∷ ss) (p ∷ ps) each = ap suc (as_many_stand ss ps each.1)
+
+-- a network in order has 16 hosts at most
+pub few_hosts : (site : List (List ℕ)) (network : Network) → IsInOrderAll site network → length (states_of network) ≤ 16
+few_hosts site network order = by (states_of network) refl
+  where
+    by : (states : List Plain) → states_of network ≡ states → length states ≤ 16
+    by [] is = omega arith
+    by (s ∷ ss) is =
+        let right = order.hosts 0 s (ap (λ l. slice_get l 0) is) in
+        let few = sites_are s right.order.order.site in
+        omega (arith, leb-true (length s.site) 16 few.few, ap length right.names, order.count, ap length is)

@@ -1,5 +1,6 @@
 -- Starts of a host go on until there is none, and a host that stops starts nothing.
-use Rattle.std.proofs.Common.{◌≡◌, ◌⊎◌, inl, inr, ℕ, zero, suc, ◌<◌, ◌≤◌, nat_le, Bool, true, false, true≢false, option_map, List, [], length, map, Option, None, Some, is_some, refl, sym, ap, subst, ◌∙◌, arith}
+use Rattle.std.proofs.Common.{◌≡◌, ◌⊎◌, inl, inr, ℕ, zero, suc, ◌<◌, ◌≤◌, nat_le, Bool, true, false, true≢false, option_map, List, [], length, map, Option}
+use Rattle.std.proofs.Common.{None, Some, is_some, refl, sym, ap, subst, ◌∙◌, arith}
 use Rattle.std.proofs.lemmas.List.{append_assoc, append-nil}
 use Rattle.std.proofs.lemmas.Simd.{map-map}
 use Rattle.nqs_state.specs.State.{State, Plain}
@@ -13,7 +14,8 @@ use Rattle.nqs_rules.specs.Measure.{starts_left}
 use Rattle.nqs_rules.specs.Plain.{map_row, map_state}
 use Rattle.nqs_rules.specs.Start.{start}
 use Rattle.nqs_rules.specs.Stepped.{Stepped, quiet, shown, stored_parts}
-use Rattle.nqs_rules.specs.World.{World as Network, Host, Ran, Fate, Made, StoppedBefore, StoppedAfter, fate, host_of, put_host, stopped, used, change_fated, carries_out, steps, starts, all_starts, left_of, then_seen, then_ran, unseen}
+use Rattle.nqs_rules.specs.World.{World as Network, Host, Ran, Fate, Made, StoppedBefore, StoppedAfter, fate, host_of, put_host, stopped, used, change_fated}
+use Rattle.nqs_rules.specs.World.{carries_out, steps, starts, all_starts, left_of, then_seen, then_ran, unseen}
 use Rattle.nqs_rules.proofs.ListFacts.{list_all-weaker}
 use Rattle.nqs_rules.proofs.FindKept.{all-mapped}
 use Rattle.nqs_rules.proofs.StateFacts.{keys_are}
@@ -81,18 +83,31 @@ record Lowered (h : HostId) (s : Plain) (w : Network) : Type 0 where
   fewer : (host.up ≡ false) ⊎ (IsSteady host.state × (starts_left host.state < starts_left s))
 
 module _ (h : HostId) (w : Network) (host : Host) (there : host_of h w ≡ Some host) (calm : IsSteady host.state) where
-  fated : (f : Fate) (c : Change (List ℕ)) (os : List Output) → IsSteady (applied c host.state) → starts_left (applied c host.state) < starts_left host.state → Lowered h host.state (change_fated f h host c [] os w).world
+  fated : (f : Fate) (c : Change (List ℕ)) (os : List Output) → IsSteady (applied c host.state) → starts_left (applied c host.state) < starts_left host.state
+      → Lowered h host.state (change_fated f h host c [] os w).world
   fated Made c os steady less =
       let next = used (stored_parts c) (applied c host.state) host in
-      subst (λ v. Lowered h host.state v) (sym (emits_world h os (put_host h next w))) (record { host = next; there = get-here h.0 next host w.hosts there; fewer = inr (steady, less) })
-  fated StoppedBefore c os steady less = record { host = stopped host.state host; there = get-here h.0 (stopped host.state host) host w.hosts there; fewer = inl refl }
-  fated StoppedAfter c os steady less = record { host = stopped (applied c host.state) host; there = get-here h.0 (stopped (applied c host.state) host) host w.hosts there; fewer = inl refl }
+      subst (λ v. Lowered h host.state v) (sym (emits_world h os (put_host h next w)))
+      (record { host = next; there = get-here h.0 next host w.hosts there; fewer = inr (steady, less) })
+  fated StoppedBefore c os steady less = record {
+    host = stopped host.state host;
+    there = get-here h.0 (stopped host.state host) host w.hosts there;
+    fewer =
+        inl refl;
+  }
+  fated StoppedAfter c os steady less = record {
+    host = stopped (applied c host.state) host;
+    there =
+        get-here h.0 (stopped (applied c host.state) host) host w.hosts there;
+    fewer = inl refl;
+  }
 
   step_lowers : (x : Stepped (List ℕ)) → start w.now host.state ≡ Some x → Lowered h host.state (steps h host x w).world
   step_lowers x e =
       let is = start_is w.now host.state x calm e in
       subst (λ (o : Option (Change (List ℕ))). Lowered h host.state (carries_out h host o (map shown x.outputs) w).world) (sym is.makes)
-      (fated (fate (stored_parts is.change) host) is.change (map shown x.outputs) (stays host.state calm is.row is.found is.ready is.change is.starts) (lower host.state calm is.row is.found is.ready is.change is.starts))
+      (fated (fate (stored_parts is.change) host) is.change (map shown x.outputs) (stays host.state calm is.row is.found is.ready is.change is.starts)
+      (lower host.state calm is.row is.found is.ready is.change is.starts))
 
   idle : starts_left host.state ≤ 0 → start w.now host.state ≡ None
   idle few = by (start w.now host.state) refl
@@ -105,12 +120,14 @@ module _ (h : HostId) (w : Network) (host : Host) (there : host_of h w ≡ Some 
           absurd (let no : ⊥ = omega (arith, less, few) in no)
 
 -- more than there may be changes nothing
-enough : (n m : ℕ) (h : HostId) (w : Network) (host : Host) → host_of h w ≡ Some host → IsSteady host.state → starts_left host.state ≤ n → starts_left host.state ≤ m → starts n h w ≡ starts m h w
+enough : (n m : ℕ) (h : HostId) (w : Network) (host : Host) → host_of h w ≡ Some host → IsSteady host.state → starts_left host.state ≤ n
+    → starts_left host.state ≤ m → starts n h w ≡ starts m h w
 enough zero m h w host there calm few also = sym (none_starts m h w host there (idle h w host there calm few))
 enough (suc n) zero h w host there calm few also = none_starts (suc n) h w host there (idle h w host there calm also)
 enough (suc n) (suc m) h w host there calm few also = ap (by_host n h w) there ∙ of host.up (enough n m) ∙ sym (ap (by_host m h w) there)
   where
-    next : (v : Network) → Lowered h host.state v → ((h : HostId) (w : Network) (host : Host) → host_of h w ≡ Some host → IsSteady host.state → starts_left host.state ≤ n → starts_left host.state ≤ m → starts n h w ≡ starts m h w)
+    next : (v : Network) → Lowered h host.state v → ((h : HostId) (w : Network) (host : Host) → host_of h w ≡ Some host → IsSteady host.state
+        → starts_left host.state ≤ n → starts_left host.state ≤ m → starts n h w ≡ starts m h w)
         → starts n h v ≡ starts m h v
     next v low rest = which low.fewer
       where
@@ -118,12 +135,14 @@ enough (suc n) (suc m) h w host there calm few also = ap (by_host n h w) there �
         which (inl down) = down_starts n h v low.host low.there down ∙ sym (down_starts m h v low.host low.there down)
         which (inr fewer) = rest h v low.host low.there fewer.0 (omega (arith, fewer.1, few)) (omega (arith, fewer.1, also))
 
-    by : (o : Option (Stepped (List ℕ))) → start w.now host.state ≡ o → ((h : HostId) (w : Network) (host : Host) → host_of h w ≡ Some host → IsSteady host.state → starts_left host.state ≤ n → starts_left host.state ≤ m → starts n h w ≡ starts m h w)
+    by : (o : Option (Stepped (List ℕ))) → start w.now host.state ≡ o → ((h : HostId) (w : Network) (host : Host) → host_of h w ≡ Some host
+        → IsSteady host.state → starts_left host.state ≤ n → starts_left host.state ≤ m → starts n h w ≡ starts m h w)
         → by_start n h w host o ≡ by_start m h w host o
     by None e rest = refl
     by (Some x) e rest = ap (then_seen (steps h host x w).seen) (next (steps h host x w).world (step_lowers h w host there calm x e) rest)
 
-    of : (up : Bool) → ((h : HostId) (w : Network) (host : Host) → host_of h w ≡ Some host → IsSteady host.state → starts_left host.state ≤ n → starts_left host.state ≤ m → starts n h w ≡ starts m h w)
+    of : (up : Bool) → ((h : HostId) (w : Network) (host : Host) → host_of h w ≡ Some host → IsSteady host.state → starts_left host.state ≤ n
+        → starts_left host.state ≤ m → starts n h w ≡ starts m h w)
         → by_up n h w host up ≡ by_up m h w host up
     of false rest = refl
     of true rest = by (start w.now host.state) refl rest
@@ -151,15 +170,19 @@ module _ (h : HostId) (w : Network) (host : Host) (there : host_of h w ≡ Some 
             v : Network
             v = (steps h host x w).world
 
-            which : (low.host.up ≡ false) ⊎ (IsSteady low.host.state × (starts_left low.host.state < starts_left host.state)) → starts (starts_left host.state) h v ≡ all_starts h v
-            which (inl down) = down_starts (starts_left host.state) h v low.host low.there down ∙ sym (down_starts (left_of (host_of h v)) h v low.host low.there down)
-            which (inr fewer) = enough (starts_left host.state) (starts_left low.host.state) h v low.host low.there fewer.0 (omega (arith, fewer.1)) (omega arith) ∙ sym (ap (λ o. starts (left_of o) h v) low.there)
+            which : (low.host.up ≡ false) ⊎ (IsSteady low.host.state × (starts_left low.host.state < starts_left host.state))
+                → starts (starts_left host.state) h v ≡ all_starts h v
+            which (inl down) = down_starts (starts_left host.state) h v low.host low.there down
+                ∙ sym (down_starts (left_of (host_of h v)) h v low.host low.there down)
+            which (inr fewer) = enough (starts_left host.state) (starts_left low.host.state) h v low.host low.there fewer.0 (omega (arith, fewer.1))
+                (omega arith) ∙ sym (ap (λ o. starts (left_of o) h v) low.there)
 
     -- the next start, or nothing, and then the others
     pub next_all : all_starts h w ≡ then_ran (steps h host (started w.now host.state) w) (all_starts h)
     next_all = by (start w.now host.state) refl
       where
-        by : (o : Option (Stepped (List ℕ))) → start w.now host.state ≡ o → all_starts h w ≡ then_ran (steps h host (elim o [ None ↦ quiet | Some x ↦ x ]) w) (all_starts h)
+        by : (o : Option (Stepped (List ℕ))) → start w.now host.state ≡ o
+            → all_starts h w ≡ then_ran (steps h host (elim o [ None ↦ quiet | Some x ↦ x ]) w) (all_starts h)
         by None e = refl
         by (Some x) e = some_all x e
 
@@ -167,7 +190,8 @@ pub ran_assoc : (r : Ran) (f g : Network → Ran) → then_ran (then_ran r f) g 
 ran_assoc r f g = let last = g (f r.world).world in λ j. record { world = last.world; seen = append_assoc r.seen (f r.world).seen last.seen j }
 
 -- what a node may start, its host may
-pub none_of : (now : ℕ) (node : Node MemDisk ghosts) (host : Host) → IsUp node host → is_some (start now (content_of node)) ≡ false → start now host.state ≡ None
+pub none_of : (now : ℕ) (node : Node MemDisk ghosts) (host : Host) → IsUp node host → is_some (start now (content_of node)) ≡ false
+    → start now host.state ≡ None
 none_of now node host is none =
     ap (start now) (sym is.tells.is) ∙ start-map (bytes_of node.store) now (content_of node) ∙ by (start now (content_of node)) none
   where
@@ -183,8 +207,10 @@ module _ (h : HostId) (w : Network) (host : Host) (there : host_of h w ≡ Some 
   down_next (Up s) packets v at down = absurd down
   down_next (Down s) packets v at down = down_all h v at.host at.faces.there at.stands.down
 
-  pub starting : (slot : Slot) (took more : Bool) (packets : List Message) (before after : List Seen) → Turns h (IsSlot slot) tear packets before after w (steps h host (started w.now host.state) w)
-      → (took ≡ false → IsDownSlot slot) → (took ≡ true → more ≡ false → start w.now host.state ≡ None) → Starts h more (IsSlot slot) tear packets before after w
+  pub starting : (slot : Slot) (took more : Bool) (packets : List Message) (before after : List Seen)
+      → Turns h (IsSlot slot) tear packets before after w (steps h host (started w.now host.state) w)
+      → (took ≡ false → IsDownSlot slot) → (took ≡ true → more ≡ false → start w.now host.state ≡ None)
+      → Starts h more (IsSlot slot) tear packets before after w
   starting slot took more packets before after turn down none = record {
     ran = steps h host (started w.now host.state) w;
     turn = turn;
@@ -192,8 +218,10 @@ module _ (h : HostId) (w : Network) (host : Host) (there : host_of h w ≡ Some 
     last = by took down none;
   }
     where
-      idle_next : start w.now host.state ≡ None → all_starts h (steps h host (started w.now host.state) w).world ≡ unseen (steps h host (started w.now host.state) w).world
-      idle_next e = subst (λ (o : Option (Stepped (List ℕ))). let v = (steps h host (elim o [ None ↦ quiet | Some x ↦ x ]) w).world in all_starts h v ≡ unseen v) (sym e) (none_all h w host there e)
+      idle_next : start w.now host.state ≡ None → all_starts h (steps h host (started w.now host.state) w).world
+          ≡ unseen (steps h host (started w.now host.state) w).world
+      idle_next e = subst (λ (o : Option (Stepped (List ℕ))). let v = (steps h host (elim o [ None ↦ quiet | Some x ↦ x ]) w).world in
+          all_starts h v ≡ unseen v) (sym e) (none_all h w host there e)
 
       by : (took : Bool) → (took ≡ false → IsDownSlot slot) → (took ≡ true → more ≡ false → start w.now host.state ≡ None) → more ≡ false
           → all_starts h (steps h host (started w.now host.state) w).world ≡ unseen (steps h host (started w.now host.state) w).world
@@ -201,7 +229,8 @@ module _ (h : HostId) (w : Network) (host : Host) (there : host_of h w ≡ Some 
       by true down none e = idle_next (none refl e)
 
 -- what was started so far, and one more
-module _ (h : HostId) (P Q : Host → Type 0) (tear : Tear) (packets sent : List Message) (a b c : List Seen) (w : Network) (r : Ran) (turn : Turns h P tear packets a b w r) (goes : all_starts h w ≡ then_ran r (all_starts h)) (more : Bool) (s : Starts h more Q tear sent b c r.world) where
+module _ (h : HostId) (P Q : Host → Type 0) (tear : Tear) (packets sent : List Message) (a b c : List Seen) (w : Network) (r : Ran)
+    (turn : Turns h P tear packets a b w r) (goes : all_starts h w ≡ then_ran r (all_starts h)) (more : Bool) (s : Starts h more Q tear sent b c r.world) where
   abbrev both : Ran
   both = then_ran r (λ _. s.ran)
 
@@ -213,4 +242,5 @@ module _ (h : HostId) (P Q : Host → Type 0) (tear : Tear) (packets sent : List
 
   pub both_last : more ≡ false → Turns h Q tear sent a c w (all_starts h w)
   both_last none =
-      subst (λ x. Turns h Q tear sent a c w x) (sym (both_goes ∙ ap (then_seen both.seen) (s.last none) ∙ (λ j. record { world = s.ran.world; seen = append-nil both.seen j }))) both_turn
+      subst (λ x. Turns h Q tear sent a c w x) (sym (both_goes ∙ ap (then_seen both.seen) (s.last none)
+      ∙ (λ j. record { world = s.ran.world; seen = append-nil both.seen j }))) both_turn

@@ -5,7 +5,8 @@ use Rattle.nqs_types.specs.declared.ids.HostId.{HostId}
 use Rattle.nqs_types.specs.declared.message.Message.{Message}
 use Rattle.nqs_types.specs.declared.world.Seen.TheVariants as seen
 use Rattle.nqs_rules.specs.Sane.{is_sane_event}
-use Rattle.nqs_rules.specs.World.{Act, Asks, Ends, Finishes, Fails, Writes, Leaves, Ticks, Crashes, Boots, Host, Ran, World as Network, host_of, unseen, seeing, takes_up, finishes_up, crashes_up, boots_down}
+use Rattle.nqs_rules.specs.World.{Act, Asks, Ends, Finishes, Fails, Writes, Leaves, Ticks, Crashes, Boots, Host, Ran, World as Network, host_of, unseen, seeing}
+use Rattle.nqs_rules.specs.World.{takes_up, finishes_up, crashes_up, boots_down}
 use Rattle.nqs_laws.specs.Words.{IsInOrderAll}
 use Rattle.nqs_node.specs.Nodes.{content_of}
 use Rattle.nqs_net.specs.declared.deed.Deed.{Deed}
@@ -13,7 +14,7 @@ use Rattle.nqs_net.specs.declared.deed.Deed.TheVariants.{Take, Finish, Crash, Bo
 use Rattle.nqs_net.specs.declared.slot.Slot.{Slot}
 use Rattle.nqs_net.specs.declared.slot.Slot.TheVariants.{Up, Down}
 use Rattle.nqs_net.specs.declared.world.World.{World}
-use Rattle.nqs_net.specs.Worlds.{IsWorld}
+use Rattle.nqs_net.specs.Worlds.{IsDown, IsWorld}
 
 -- at a host that is up
 abbrev pub done_up : Deed → HostId → Host → Network → Ran
@@ -47,6 +48,11 @@ IsSaneFor hosts _ = Unit {0}
 abbrev pub IsSaneAt : Deed → Slot → Type 0
 IsSaneAt deed (Up up) = IsSaneFor (length (content_of up.node.value).site) deed
 IsSaneAt deed (Down down) = Unit {0}
+
+-- a host that is down may be booted: its disks tell it
+abbrev pub MayBoot : Slot → Type 0
+MayBoot (Up up) = Unit {0}
+MayBoot (Down down) = (host : Host) × IsDown down.disks.value host
 
 -- the world stands for a network in order, and it is within its limits there
 pub record IsReady (world : World) (deed : Deed) : Type 0 where

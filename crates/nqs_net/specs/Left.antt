@@ -12,11 +12,12 @@ use Rattle.nqs_net.specs.Pasts.{HasCome}
 use Rattle.nqs_net.specs.Worlds.{AreDisks}
 
 -- Whatever images a host's disks may leave tell its state. Its calls of them are as the network counts them, and are those
--- that kept one change after the other, at each moment of which the images told the state before it or the one after it.
+-- that kept one change after the other, from one state that the network says it told to the next. At each moment of them the
+-- images told the state before a change or the one after it.
 pub record IsLeft (left : Disks MemDisk) (host : Host) : Type 0 where
   pub told : EachImage (histories_of mem.history_of left) (λ images. IsTold (images First) (images Spool) host.state)
   pub disks : AreDisks host (histories_of mem.history_of left) (failing_of mem.fails_of left)
-  pub past : HasCome (histories_of mem.history_of left) host.state
+  pub past : HasCome (histories_of mem.history_of left) host.told host.state
 
 -- each host's disks, in the order of the hosts
 abbrev pub AreLeft : List (Disks MemDisk) → List Host → Type 0

@@ -3,6 +3,7 @@ pub mod Props
 pub mod Pasts
 pub mod Worlds
 pub mod Turns
+pub mod Followed
 pub mod Left
 pub mod Deeds
 pub mod Least

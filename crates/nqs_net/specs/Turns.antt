@@ -3,8 +3,9 @@ use Rattle.std.specs.Prelude.{◌≡◌, ◌⊎◌, ℕ, Bool, true, false, IsTr
 use Rattle.nqs_types.specs.declared.event.Output.{Output}
 use Rattle.nqs_disk.specs.contracts.mem_disk.MemDiskDisk.TheImpl.{ghosts}
 use Rattle.nqs_node.specs.Carried.{IsMade, IsCutBy, IsBlown, IsOneOrOther}
-use Rattle.nqs_node.specs.Nodes.{history_of, fails_of, is_starved, Tells}
+use Rattle.nqs_node.specs.Nodes.{history_of, fails_of, is_starved, content_of, Tells}
 use Rattle.nqs_node.specs.declared.node.Node.{Node}
+use Rattle.nqs_rules.specs.Measure.{starts_left}
 use Rattle.nqs_rules.specs.Starts.{after_step}
 use Rattle.nqs_rules.specs.Stepped.{Stepped, shown}
 use Rattle.nqs_net.specs.Pasts.{HasCome}
@@ -41,19 +42,24 @@ abbrev pub IsDownSlot : Slot → Type 0
 IsDownSlot (Up up) = ⊥
 IsDownSlot (Down down) = Unit {0}
 
+-- how many starts there may still be: none at a host that is down
+abbrev pub starts_in : Slot → ℕ
+starts_in (Up up) = starts_left (content_of up.node.value)
+starts_in (Down down) = 0
+
 -- what a call of a node did for a step, by whether it was made: else a failed call of a disk stopped the node
 abbrev pub Ended : Host → Stepped (List ℕ) → (Which → ℕ → Bool) → (Which → History) → Node MemDisk ghosts → List Output → Bool → Type 0
 Ended host x fails old node out true = Tells node (after_step x host.state) × IsMade fails old (history_of node) x.change × (out ≡ map shown x.outputs)
-Ended host x fails old node out false = (which : Which) × (IsTrue (is_starved node which) ⊎ (IsBlown (fails which) (old which) ⊎ IsCutBy fails old (history_of node) x.change host.state which))
+Ended host x fails old node out false = (which : Which) × (IsTrue (is_starved node which)
+    ⊎ (IsBlown (fails which) (old which) ⊎ IsCutBy fails old (history_of node) x.change host.state which))
 
--- A node was to take a step of this host. Until its last call, whatever images the disks may leave tell the state before
--- the step or the one after it.
-pub record IsTaken (host : Host) (x : Stepped (List ℕ)) (node : Node MemDisk ghosts) (out : List Output) (took : Bool) : Type 0 where
+-- A node whose disks had done this, with these calls to fail, was to take a step of this host. Until its last call, whatever
+-- images the disks may leave tell the state before the step or the one after it.
+pub record IsTaken (host : Host) (x : Stepped (List ℕ)) (fails : Which → ℕ → Bool) (old : Which → History) (node : Node MemDisk ghosts) (out : List Output)
+    (took : Bool) : Type 0 where
   pub up : host.up ≡ true
-  pub fails : Which → ℕ → Bool
-  pub old : Which → History
   pub disks : AreDisks host old fails
-  pub past : HasCome old host.state
+  pub past : HasCome old host.told host.state
   pub moments : IsOneOrOther old (history_of node) x.change host.state
   pub same : (which : Which) (i : ℕ) → fails_of node which i ≡ fails which i
   pub ended : Ended host x fails old node out took

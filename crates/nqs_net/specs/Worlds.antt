@@ -58,11 +58,12 @@ pub record IsUp (node : Node MemDisk ghosts) (host : Host) : Type 0 where
   pub tells : Tells node host.state
   pub sound : IsSoundHost (content_of node)
   pub disks : AreDisks host (history_of node) (fails_of node)
-  pub past : HasCome (history_of node) host.state
+  pub past : HasCome (history_of node) host.told host.state
 
--- The disks of a host that is down. No call was made of them.
+-- The disks of a host that is down. No call was made of them, and they told no other state.
 pub record IsDown (left : Disks MemDisk) (host : Host) : Type 0 where
   pub down : host.up ≡ false
+  pub told : host.told ≡ []
   pub tells : IsTold (content (histories_of mem.history_of left First)) (content (histories_of mem.history_of left Spool)) host.state
   pub disks : AreDisks host (histories_of mem.history_of left) (failing_of mem.fails_of left)
   pub calls : (which : Which) → (histories_of mem.history_of left which).calls ≡ []

@@ -1,24 +1,27 @@
 //! What comes to one host, whether it is up or down.
 
-ghost use Rattle.std.specs.Prelude.{◌≡◌, ◌++◌, ◌∷◌, [], IfOk, OnOk, length};
+ghost use Rattle.std.specs.Prelude.{◌≡◌, ◌++◌, ◌∷◌, [], IfOk, OnOk, OnErr, false, length};
 ghost use Rattle.nqs_state.specs.State.{content};
 ghost use Rattle.nqs_types.specs.declared.event.Event.TheVariants as event;
+ghost use Rattle.nqs_disk.specs.MemDisk as mem;
 ghost use Rattle.nqs_rules.specs.Tests.{is_running};
 ghost use Rattle.nqs_rules.specs.World.{World as Network, Host, is_less_id, finishes_up};
-ghost use Rattle.nqs_node.specs.Nodes.{content_of};
+ghost use Rattle.nqs_node.specs.Nodes.{history_of, content_of, is_stopped};
+ghost use Rattle.nqs_store.specs.Disks.{histories_of};
 ghost use Rattle.nqs_store.specs.Sound.{IsSoundHost};
+ghost use Rattle.nqs_net.specs.Followed.{disks_in, IsDone};
 ghost use Rattle.nqs_net.specs.Worlds.{IsUp, IsDown, IsSlot};
-ghost use Rattle.nqs_net.specs.Turns.{Faces, Turns};
-ghost use Rattle.nqs_net.specs.Deeds.{done_up, done_down, done_at, IsSaneFor, IsSaneAt};
+ghost use Rattle.nqs_net.specs.Turns.{Faces};
+ghost use Rattle.nqs_net.specs.Deeds.{done_up, done_down, done_at, IsSaneFor, IsSaneAt, MayBoot};
 ghost use Rattle.nqs_net.specs.Least.{least_of};
 
 use crate::host::{boot_down, crash_up, take_up};
 use crate::slot::{DownHost, Slot, UpHost};
-use nqs_disk::MemDisk;
+use nqs_disk::{Lack, MemDisk};
 use nqs_node::Node;
 use nqs_state::HostState;
 use nqs_types::{Event, HostId, Message, RequestId, Row, RowState, Seen};
-use nqs_values::{Bytes, Memory, Tear};
+use nqs_values::{Bytes, Tear};
 use std::alloc::Global;
 
 /// What comes to one host.
@@ -45,7 +48,8 @@ fn is_less(one: &Row, other: &Row) -> bool
         || (one.id.host.0 == other.id.host.0 && one.id.seq < other.id.seq)
 }
 
-// The least running request, by the host of its submission and then by its number, and how often it was started.
+// The least running request, by the host of its submission and then by its number, and how often it
+// was started.
 fn least_running(state: &HostState) -> Option<(RequestId, u16)>
     ensures { result ≡ least_of (content state.now).rows }
 {
@@ -60,9 +64,10 @@ fn least_running(state: &HostState) -> Option<(RequestId, u16)>
 }
 
 // A host stays as it is, and this is seen.
-fn stay(slot: Slot, sight: Seen, seen: &mut Vec<Seen>) -> Result<Slot, Memory>
+fn stay(slot: Slot, sight: Seen, seen: &mut Vec<Seen>) -> Result<Slot, Lack>
     ensures same { IfOk result (λ new. new ≡ slot) }
     ensures seen { OnOk result (seen.new.items ≡ seen.old.items ++ sight ∷ []) }
+    ensures unseen { OnErr result (seen.new.items ≡ seen.old.items) }
 {
     seen.push(sight)?;
     Ok(slot)
@@ -91,10 +96,11 @@ fn finish_up(
     now: u64,
     packets: &mut Vec<Message>,
     seen: &mut Vec<Seen>,
-) -> Result<Slot, Memory>
+) -> Result<Slot, Lack>
     requires sound { IsSoundHost (content_of node.value) }
+    requires running { is_stopped node.value ≡ false }
     ensures { (w : Network) (host : Host) → Faces me host tear packets.old.items w → IsUp node.value host → w.now ≡ now
-        → IfOk result (λ slot. Turns me (IsSlot slot) tear packets.new.items seen.old.items seen.new.items w (finishes_up me host w)) }
+        → IsDone me tear (history_of node.value) packets.new.items seen.old.items seen.new.items w (finishes_up me host w) result }
 {
     match least_running(node.state()) {
         Some((id, start)) => {
@@ -114,11 +120,12 @@ fn do_up(
     now: u64,
     packets: &mut Vec<Message>,
     seen: &mut Vec<Seen>,
-) -> Result<Slot, Memory>
+) -> Result<Slot, Lack>
     requires sound { IsSoundHost (content_of node.value) }
+    requires running { is_stopped node.value ≡ false }
     requires sane { IsSaneFor (length (content_of node.value).site) deed.now }
     ensures { (w : Network) (host : Host) → Faces me host tear packets.old.items w → IsUp node.value host → w.now ≡ now
-        → IfOk result (λ slot. Turns me (IsSlot slot) tear packets.new.items seen.old.items seen.new.items w (done_up deed.now me host w)) }
+        → IsDone me tear (history_of node.value) packets.new.items seen.old.items seen.new.items w (done_up deed.now me host w) result }
 {
     match deed {
         Deed::Take(event) => take_up(alloc, me, node, tear, event, now, packets, seen),
@@ -137,9 +144,11 @@ fn do_down(
     now: u64,
     packets: &mut Vec<Message>,
     seen: &mut Vec<Seen>,
-) -> Result<Slot, Memory>
+) -> Result<Slot, Lack>
+    requires { (host : Host) × IsDown down.disks.value host }
     ensures { (w : Network) (host : Host) → Faces me host tear packets.old.items w → IsDown down.disks.value host → w.now ≡ now
-        → IfOk result (λ slot. Turns me (IsSlot slot) tear packets.new.items seen.old.items seen.new.items w (done_down deed.now me host w)) }
+        → IsDone me tear (histories_of mem.history_of down.disks.value) packets.new.items seen.old.items seen.new.items w
+        (done_down deed.now me host w) result }
 {
     match deed {
         Deed::Boot => boot_down(alloc, me, down, tear, now, packets, seen),
@@ -157,10 +166,11 @@ pub(crate) fn do_at(
     now: u64,
     packets: &mut Vec<Message>,
     seen: &mut Vec<Seen>,
-) -> Result<Slot, Memory>
+) -> Result<Slot, Lack>
     requires sane { IsSaneAt deed.now slot }
+    requires boots { MayBoot slot }
     ensures { (w : Network) (host : Host) → Faces me host tear packets.old.items w → IsSlot slot host → w.now ≡ now
-        → IfOk result (λ new. Turns me (IsSlot new) tear packets.new.items seen.old.items seen.new.items w (done_at deed.now me host w)) }
+        → IsDone me tear (disks_in slot) packets.new.items seen.old.items seen.new.items w (done_at deed.now me host w) result }
 {
     match slot {
         Slot::Up(up) => do_up(alloc, me, up.node, tear, deed, now, packets, seen),

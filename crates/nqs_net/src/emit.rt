@@ -1,9 +1,9 @@
 //! What goes out of a host: each output is seen, and a packet gets the next number.
 
-ghost use Rattle.std.specs.Prelude.{◌≡◌, ◌+◌, ◌++◌, OnOk, List, [], ◌∷◌, length};
+ghost use Rattle.std.specs.Prelude.{◌≡◌, ◌+◌, ◌++◌, OnOk, OnErr, List, [], ◌∷◌, length};
 ghost use Rattle.nqs_types.specs.declared.world.Seen.TheVariants as sight;
 ghost use Rattle.nqs_rules.specs.World.{body_kind, body_number, seen_packet, seen_output, sent_by};
-ghost use Rattle.nqs_net.specs.Lists.{of_option, sent_in, seen_from};
+ghost use Rattle.nqs_net.specs.Lists.{of_option, sent_in, seen_from, GrowsByFront};
 
 use nqs_types::{Body, BodyKind, HostId, Message, Output, Seen};
 use nqs_values::{Bytes, Items, Memory};
@@ -149,7 +149,8 @@ fn shown(me: HostId, packet: u64, output: Output) -> (Option<Seen>, Option<Messa
 
 // Adds what there is.
 fn push_some<T: Drop>(list: &mut Vec<T>, value: Option<T>) -> Result<(), Memory>
-    ensures { OnOk result (list.new.items ≡ list.old.items ++ of_option value) }
+    ensures added { OnOk result (list.new.items ≡ list.old.items ++ of_option value) }
+    ensures refused { OnErr result (list.new.items ≡ list.old.items) }
 {
     match value {
         Some(value) => {
@@ -169,6 +170,7 @@ fn emit_one(
 ) -> Result<(), Memory>
     ensures packets { OnOk result (packets.new.items ≡ packets.old.items ++ sent_by output) }
     ensures seen { OnOk result (seen.new.items ≡ seen.old.items ++ seen_output me (length packets.old.items + 1) output) }
+    ensures front { OnErr result (GrowsByFront seen.old.items seen.new.items (seen_output me (length packets.old.items + 1) output)) }
 {
     let (sight, message) = shown(me, packets.len() as u64 + 1, output);
     push_some(seen, sight)?;
@@ -184,6 +186,7 @@ pub(crate) fn emit(
 ) -> Result<(), Memory>
     ensures packets { OnOk result (packets.new.items ≡ packets.old.items ++ sent_in outputs.items) }
     ensures seen { OnOk result (seen.new.items ≡ seen.old.items ++ seen_from me (length packets.old.items) outputs.items) }
+    ensures front { OnErr result (GrowsByFront seen.old.items seen.new.items (seen_from me (length packets.old.items) outputs.items)) }
 {
     let mut rest = Items::from_vec(outputs);
     while let Some(output) = rest.take_first() {

@@ -1,27 +1,35 @@
 //! What happens in a world by an event of a schedule.
 
-ghost use Rattle.std.specs.Prelude.{◌≡◌, ◌++◌, ◌∷◌, [], List, ℕ, IsTrue, OnOk, None};
+ghost use Rattle.std.specs.Prelude.{◌≡◌, ◌++◌, ◌∷◌, [], List, ℕ, IsTrue, OnOk, OnErr, None};
 ghost use Rattle.nqs_types.specs.declared.world.Seen.TheVariants as sight;
 ghost use Rattle.nqs_rules.specs.Net.{table};
 ghost use Rattle.nqs_rules.specs.Run.{happens, states_of};
 ghost use Rattle.nqs_rules.specs.World.{World as Network};
 ghost use Rattle.nqs_laws.specs.Words.{IsInOrderAll};
 ghost use Rattle.nqs_lines.specs.Acts.{act_of, is_sane_line};
+ghost use Rattle.nqs_net.specs.Lists.{GrowsByFront};
+ghost use Rattle.nqs_net.specs.Followed.{FollowEach};
 ghost use Rattle.nqs_net.specs.Worlds.{IsWorld};
 ghost use Rattle.nqs_net.specs.Deeds.{deed_of};
 
 use crate::meaning::deed;
 use crate::packets::{newest_between, packet_at};
 use crate::world::World;
+use nqs_disk::Lack;
 use nqs_types::{Seen, WorldEvent};
-use nqs_values::{Items, Memory};
+use nqs_values::Items;
 use std::alloc::Global;
 
 impl World {
     // The table is seen.
-    fn show(&mut self, alloc: Global, seen: &mut Vec<Seen>) -> Result<(), Memory>
+    fn show(&mut self, alloc: Global, seen: &mut Vec<Seen>) -> Result<(), Lack>
+        requires sound { (site : List (List ℕ)) × (network : Network) × IsInOrderAll site network × IsWorld self.old network }
         ensures world { (network : Network) → IsWorld self.old network → OnOk result (IsWorld self.new network) }
-        ensures seen { (network : Network) → IsWorld self.old network → OnOk result (seen.new.items ≡ seen.old.items ++ sight.Table (table (states_of network)) ∷ []) }
+        ensures follow { (network : Network) → IsWorld self.old network
+            → OnOk result (FollowEach self.old.tears.items self.old.slots.items self.new.slots.items) }
+        ensures seen { (network : Network) → IsWorld self.old network
+            → OnOk result (seen.new.items ≡ seen.old.items ++ sight.Table (table (states_of network)) ∷ []) }
+        ensures unseen { OnErr result (seen.new.items ≡ seen.old.items) }
     {
         let rows = self.table(alloc)?;
         seen.push(Seen::Table(Items::from_vec(rows)))?;
@@ -29,16 +37,16 @@ impl World {
     }
 
     // What an event does that isn't meant for one host: the others don't come here.
-    fn other(
-        &mut self,
-        alloc: Global,
-        event: &WorldEvent,
-        seen: &mut Vec<Seen>,
-    ) -> Result<(), Memory>
+    fn other(&mut self, alloc: Global, event: &WorldEvent, seen: &mut Vec<Seen>) -> Result<(), Lack>
         requires sound { (site : List (List ℕ)) × (network : Network) × IsInOrderAll site network × IsWorld self.old network }
         requires other { deed_of (act_of event.now) self.old.now ≡ None }
         ensures world { (network : Network) → IsWorld self.old network → OnOk result (IsWorld self.new (happens (act_of event.now) network).world) }
-        ensures seen { (network : Network) → IsWorld self.old network → OnOk result (seen.new.items ≡ seen.old.items ++ (happens (act_of event.now) network).seen) }
+        ensures follow { (network : Network) → IsWorld self.old network
+            → OnOk result (FollowEach self.old.tears.items self.old.slots.items self.new.slots.items) }
+        ensures seen { (network : Network) → IsWorld self.old network
+            → OnOk result (seen.new.items ≡ seen.old.items ++ (happens (act_of event.now) network).seen) }
+        ensures front { (network : Network) → IsWorld self.old network
+            → OnErr result (GrowsByFront seen.old.items seen.new.items (happens (act_of event.now) network).seen) }
     {
         match event {
             WorldEvent::Deliver { packet } => {
@@ -67,21 +75,34 @@ impl World {
         }
     }
 
-    /// Takes an event, and adds to `seen` what is seen of it. After `Memory` the world is used no more.
+    /// Takes an event, and adds to `seen` what is seen of it. After an `Err` the world is used no
+    /// more: it is what was lacking, memory or room on a disk. What was added until then is a front
+    /// of what is seen of the event.
     ///
-    /// A world that stands for a network has the past of each host that is up: at each moment since its disks were new
-    /// or torn, those of this event among them, whatever images the disks may leave then tell the host's state before
-    /// the change that is being kept or the one after it.
+    /// A world that stands for a network has the past of each host that is up: at each moment since
+    /// its disks were new or torn, those of this event among them, whatever images the disks may
+    /// leave then tell the host's state before the change that is being kept or the one after it.
+    ///
+    /// No call of a disk is forgotten: those of each host's disks go on by the calls of this event.
+    /// Those of a host that stopped are then what its tear leaves after the last of these calls.
     pub fn event(
         &mut self,
         alloc: Global,
         event: &WorldEvent,
         seen: &mut Vec<Seen>,
-    ) -> Result<(), Memory>
+    ) -> Result<(), Lack>
         requires sane { IsTrue (is_sane_line event.now) }
         requires sound { (site : List (List ℕ)) × (network : Network) × IsInOrderAll site network × IsWorld self.old network }
-        ensures world { (site : List (List ℕ)) (network : Network) → IsInOrderAll site network → IsWorld self.old network → OnOk result (IsWorld self.new (happens (act_of event.now) network).world) }
-        ensures seen { (site : List (List ℕ)) (network : Network) → IsInOrderAll site network → IsWorld self.old network → OnOk result (seen.new.items ≡ seen.old.items ++ (happens (act_of event.now) network).seen) }
+        ensures world { (site : List (List ℕ)) (network : Network) → IsInOrderAll site network → IsWorld self.old network
+            → OnOk result (IsWorld self.new (happens (act_of event.now) network).world) }
+        ensures sound { (site : List (List ℕ)) (network : Network) → IsInOrderAll site network → IsWorld self.old network
+            → OnOk result (IsInOrderAll site (happens (act_of event.now) network).world) }
+        ensures follow { (site : List (List ℕ)) (network : Network) → IsInOrderAll site network → IsWorld self.old network
+            → OnOk result (FollowEach self.old.tears.items self.old.slots.items self.new.slots.items) }
+        ensures seen { (site : List (List ℕ)) (network : Network) → IsInOrderAll site network → IsWorld self.old network
+            → OnOk result (seen.new.items ≡ seen.old.items ++ (happens (act_of event.now) network).seen) }
+        ensures front { (site : List (List ℕ)) (network : Network) → IsInOrderAll site network → IsWorld self.old network
+            → OnErr result (GrowsByFront seen.old.items seen.new.items (happens (act_of event.now) network).seen) }
     {
         match deed(alloc, event, self.now)? {
             Some((host, deed)) => self.act(alloc, host, &deed, seen),

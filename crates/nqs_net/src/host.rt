@@ -1,31 +1,36 @@
 //! What comes to a host, with the starts that follow: an event, a boot or a stop.
 
-ghost use Rattle.std.specs.Prelude.{◌≡◌, ◌∷◌, [], ℕ, IsTrue, IfOk, List, length};
+ghost use Rattle.std.specs.Prelude.{◌≡◌, ◌∷◌, [], ℕ, IsTrue, List, false, length};
 ghost use Rattle.std.specs.List.{filter_map};
 ghost use Rattle.nqs_state.specs.State.{content};
 ghost use Rattle.nqs_types.specs.declared.change.Change.TheVariants.{Boot};
 ghost use Rattle.nqs_values.specs.declared.extent.Extent.{Extent};
 ghost use Rattle.nqs_types.specs.declared.message.Message.{Message as Sent};
 ghost use Rattle.nqs_types.specs.declared.world.Seen.TheVariants as sight;
+ghost use Rattle.nqs_types.specs.declared.world.Which.{Which};
+ghost use Rattle.nqs_outside.specs.History.{History};
+ghost use Rattle.nqs_disk.specs.MemDisk as mem;
 ghost use Rattle.nqs_rules.specs.Plain.{map_state};
 ghost use Rattle.nqs_rules.specs.Sane.{is_sane_event};
 ghost use Rattle.nqs_rules.specs.World.{World as Network, Host, is_shutdown, shuts_down, halts, takes_up, crashes_up, makes_change, boot_output, boots_down};
-ghost use Rattle.nqs_node.specs.Nodes.{content_of};
+ghost use Rattle.nqs_node.specs.Nodes.{history_of, content_of, is_stopped};
+ghost use Rattle.nqs_store.specs.Disks.{histories_of};
 ghost use Rattle.nqs_store.specs.Sound.{IsSoundHost};
-ghost use Rattle.nqs_net.specs.Worlds.{IsUp, IsDown, IsSlot};
-ghost use Rattle.nqs_net.specs.Turns.{Faces, IsAt, Turns};
+ghost use Rattle.nqs_net.specs.Followed.{StandsAfter, IsDone};
+ghost use Rattle.nqs_net.specs.Worlds.{IsUp, IsDown};
+ghost use Rattle.nqs_net.specs.Turns.{Faces, IsAt};
 
 use crate::emit::emit;
 use crate::slot::{DownHost, Slot, UpHost};
 use crate::stop::stop;
 use crate::turn::{start_all, take_step};
 use nqs_access::{may_command, rank};
-use nqs_disk::MemDisk;
+use nqs_disk::{Lack, MemDisk};
 use nqs_node::Node;
 use nqs_state::HostState;
 use nqs_store::LoadFault;
 use nqs_types::{Command, Event, HostId, Message, Seen};
-use nqs_values::{Memory, Tear};
+use nqs_values::Tear;
 use std::alloc::Global;
 
 fn is_shutdown(command: &Command) -> bool
@@ -63,9 +68,9 @@ pub(crate) fn crash_up(
     node: Box<Node<MemDisk>>,
     tear: Tear,
     seen: &mut Vec<Seen>,
-) -> Result<Slot, Memory>
+) -> Result<Slot, Lack>
     ensures { (w : Network) (host : Host) (packets : List Sent) → Faces me host tear packets w → IsUp node.value host
-        → IfOk result (λ slot. Turns me (IsSlot slot) tear packets seen.old.items seen.new.items w (crashes_up me host w)) }
+        → IsDone me tear (history_of node.value) packets seen.old.items seen.new.items w (crashes_up me host w) result }
 {
     let disks = Box::into_inner(node).close();
     let slot = stop(alloc, me, disks, tear, seen)?;
@@ -81,9 +86,9 @@ fn halt(
     slot: Slot,
     tear: Tear,
     seen: &mut Vec<Seen>,
-) -> Result<Slot, Memory>
-    ensures { (w : Network) (packets : List Sent) → IsAt me (IsSlot slot) tear packets w
-        → IfOk result (λ left. Turns me (IsSlot left) tear packets seen.old.items seen.new.items w (halts stops me w)) }
+) -> Result<Slot, Lack>
+    ensures { (w : Network) (packets : List Sent) (old : Which → History) → IsAt me (StandsAfter tear old slot) tear packets w
+        → IsDone me tear old packets seen.old.items seen.new.items w (halts stops me w) result }
 {
     if !stops {
         return Ok(slot);
@@ -105,11 +110,12 @@ pub(crate) fn take_up(
     now: u64,
     packets: &mut Vec<Message>,
     seen: &mut Vec<Seen>,
-) -> Result<Slot, Memory>
+) -> Result<Slot, Lack>
     requires sound { IsSoundHost (content_of node.value) }
+    requires running { is_stopped node.value ≡ false }
     requires sane { IsTrue (is_sane_event (length (content_of node.value).site) event.now) }
     ensures { (w : Network) (host : Host) → Faces me host tear packets.old.items w → IsUp node.value host → w.now ≡ now
-        → IfOk result (λ slot. Turns me (IsSlot slot) tear packets.new.items seen.old.items seen.new.items w (takes_up me host event.now w)) }
+        → IsDone me tear (history_of node.value) packets.new.items seen.old.items seen.new.items w (takes_up me host event.now w) result }
 {
     let stops = shuts_down(event, node.state());
     let taken = take_step(alloc, me, node, tear, event, packets, seen)?;
@@ -127,9 +133,11 @@ fn boot_step(
     tear: Tear,
     packets: &mut Vec<Message>,
     seen: &mut Vec<Seen>,
-) -> Result<Slot, Memory>
+) -> Result<Slot, Lack>
+    requires { (host : Host) × IsDown down.disks.value host }
     ensures { (w : Network) (host : Host) → Faces me host tear packets.old.items w → IsDown down.disks.value host
-        → IfOk result (λ slot. Turns me (IsSlot slot) tear packets.new.items seen.old.items seen.new.items w (makes_change me host Boot (sight.Boot me ∷ []) (filter_map boot_output host.state.rows) w)) }
+        → IsDone me tear (histories_of mem.history_of down.disks.value) packets.new.items seen.old.items seen.new.items w
+        (makes_change me host Boot (sight.Boot me ∷ []) (filter_map boot_output host.state.rows) w) result }
 {
     let mut out = Vec::new(alloc);
     match Node::boot(alloc, Box::into_inner(down.disks), &mut out) {
@@ -143,8 +151,9 @@ fn boot_step(
             let slot = stop(alloc, me, disks, tear, seen)?;
             Ok(slot)
         }
-        // The disks of a host are never those of something else.
-        Err(_) => Err(Memory),
+        Err((LoadFault::Memory(memory), _)) => Err(Lack::Memory(memory)),
+        // The disks tell a host.
+        Err((LoadFault::NotNqs(_, _), _)) => unreachable!(),
     }
 }
 
@@ -158,9 +167,10 @@ pub(crate) fn boot_down(
     now: u64,
     packets: &mut Vec<Message>,
     seen: &mut Vec<Seen>,
-) -> Result<Slot, Memory>
+) -> Result<Slot, Lack>
+    requires { (host : Host) × IsDown down.disks.value host }
     ensures { (w : Network) (host : Host) → Faces me host tear packets.old.items w → IsDown down.disks.value host → w.now ≡ now
-        → IfOk result (λ slot. Turns me (IsSlot slot) tear packets.new.items seen.old.items seen.new.items w (boots_down me host w)) }
+        → IsDone me tear (histories_of mem.history_of down.disks.value) packets.new.items seen.old.items seen.new.items w (boots_down me host w) result }
 {
     let booted = boot_step(alloc, me, down, tear, packets, seen)?;
     let begun = start_all(alloc, me, booted, tear, now, packets, seen)?;

@@ -101,13 +101,13 @@ pub(crate) fn deed(
             Ok(ask(now, *host, user, qsub_command(alloc, user, words, script)?))
         }
         WorldEvent::Qmgr { host, user, text } => {
-            Ok(ask(now, *host, user, qmgr_command(text.as_slice())?))
+            Ok(ask(now, *host, user, qmgr_command(text.as_slice())))
         }
         WorldEvent::Qstat { host, user, words } => {
             Ok(ask(now, *host, user, qstat_command(alloc, words.as_slice())?))
         }
         WorldEvent::Qdel { host, user, words } => {
-            Ok(ask(now, *host, user, qdel_command(words.as_slice())?))
+            Ok(ask(now, *host, user, qdel_command(words.as_slice())))
         }
         WorldEvent::End {
             host,

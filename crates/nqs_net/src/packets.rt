@@ -1,12 +1,15 @@
 //! Packets of a world that arrive.
 
-ghost use Rattle.std.specs.Prelude.{◌≡◌, ◌++◌, OnOk, IfOk};
+ghost use Rattle.std.specs.Prelude.{◌≡◌, ◌++◌, OnOk, OnErr, IfOk};
 ghost use Rattle.nqs_rules.specs.World.{World as Network, packet_at, is_between, newest_between, delivers};
+ghost use Rattle.nqs_net.specs.Lists.{GrowsByFront};
+ghost use Rattle.nqs_net.specs.Followed.{FollowEach};
 ghost use Rattle.nqs_net.specs.Worlds.{IsWorld};
 ghost use Rattle.nqs_net.specs.Deeds.{IsReadyFor};
 
 use crate::deed::Deed;
 use crate::world::World;
+use nqs_disk::Lack;
 use nqs_types::{Event, HostId, Message, Seen};
 use nqs_values::Memory;
 use std::alloc::Global;
@@ -63,10 +66,15 @@ impl World {
         packet: Option<u64>,
         message: Option<Message>,
         seen: &mut Vec<Seen>,
-    ) -> Result<(), Memory>
+    ) -> Result<(), Lack>
         requires ready { IsReadyFor self.old message }
         ensures world { (network : Network) → IsWorld self.old network → OnOk result (IsWorld self.new (delivers packet message network).world) }
-        ensures seen { (network : Network) → IsWorld self.old network → OnOk result (seen.new.items ≡ seen.old.items ++ (delivers packet message network).seen) }
+        ensures follow { (network : Network) → IsWorld self.old network
+            → OnOk result (FollowEach self.old.tears.items self.old.slots.items self.new.slots.items) }
+        ensures seen { (network : Network) → IsWorld self.old network
+            → OnOk result (seen.new.items ≡ seen.old.items ++ (delivers packet message network).seen) }
+        ensures front { (network : Network) → IsWorld self.old network
+            → OnErr result (GrowsByFront seen.old.items seen.new.items (delivers packet message network).seen) }
     {
         let Some(message) = message else {
             seen.push(Seen::NoPacket(packet))?;

@@ -1,14 +1,16 @@
 //! What comes to one place of a world: its slot is taken out, changed, and put back.
 
-ghost use Rattle.std.specs.Prelude.{◌≡◌, ◌++◌, OnOk};
+ghost use Rattle.std.specs.Prelude.{◌≡◌, ◌++◌, OnOk, OnErr};
 ghost use Rattle.nqs_rules.specs.World.{World as Network};
+ghost use Rattle.nqs_net.specs.Lists.{GrowsByFront};
+ghost use Rattle.nqs_net.specs.Followed.{FollowEach};
 ghost use Rattle.nqs_net.specs.Worlds.{IsWorld};
 ghost use Rattle.nqs_net.specs.Deeds.{done, IsReady};
 
 use crate::deed::{Deed, do_at};
 use crate::world::World;
+use nqs_disk::Lack;
 use nqs_types::{HostId, Seen};
-use nqs_values::Memory;
 use std::alloc::Global;
 
 impl World {
@@ -19,10 +21,14 @@ impl World {
         host: HostId,
         deed: &Deed,
         seen: &mut Vec<Seen>,
-    ) -> Result<(), Memory>
+    ) -> Result<(), Lack>
         requires ready { IsReady self.old deed.now }
         ensures world { (network : Network) → IsWorld self.old network → OnOk result (IsWorld self.new (done deed.now host network).world) }
+        ensures follow { (network : Network) → IsWorld self.old network
+            → OnOk result (FollowEach self.old.tears.items self.old.slots.items self.new.slots.items) }
         ensures seen { (network : Network) → IsWorld self.old network → OnOk result (seen.new.items ≡ seen.old.items ++ (done deed.now host network).seen) }
+        ensures front { (network : Network) → IsWorld self.old network
+            → OnErr result (GrowsByFront seen.old.items seen.new.items (done deed.now host network).seen) }
     {
         let place = host.0 as usize;
         if self.slots.len() <= place {

@@ -1,6 +1,6 @@
 //! A host is stopped: its disks become what the tear leaves of them.
 
-ghost use Rattle.std.specs.Prelude.{◌≡◌, ◌++◌, ◌∷◌, [], ℕ, false, IfOk, OnOk, None};
+ghost use Rattle.std.specs.Prelude.{◌≡◌, ◌++◌, ◌∷◌, [], ℕ, false, IfOk, OnOk, OnErr, None};
 ghost use Rattle.nqs_types.specs.declared.world.Which.{Which};
 ghost use Rattle.nqs_types.specs.declared.world.Seen.TheVariants as sight;
 ghost use Rattle.nqs_outside.specs.History.{IsImage, state};
@@ -9,22 +9,17 @@ ghost use Rattle.nqs_store.specs.Disks.{disk_at, histories_of};
 ghost use Rattle.nqs_net.specs.Turns.{IsTorn, IsStopped};
 
 use crate::slot::{DownHost, Slot};
-use nqs_disk::MemDisk;
+use nqs_disk::{Lack, MemDisk};
 use nqs_store::Disks;
 use nqs_types::{HostId, Seen};
-use nqs_values::{Memory, Tear};
+use nqs_values::Tear;
 use std::alloc::Global;
 
-// Whether a failed call of one of the disks wasn't made.
-fn is_starved(disks: &Disks<MemDisk>) -> bool
-    ensures { result ≡ false → (which : Which) → mem.is_starved (disk_at which disks.now) ≡ false }
-{
-    disks.root.starved() || disks.first.starved() || disks.second.starved() || disks.spool.starved()
-}
-
-// What a stop leaves of the disks of a host.
-fn torn(disks: Disks<MemDisk>, tear: Tear) -> Result<Disks<MemDisk>, Memory>
-    ensures { IfOk result (λ left. IsTorn tear (histories_of mem.history_of disks) left) }
+// What a stop leaves of the disks of a host. A disk that lacked something for a call gives that
+// back.
+fn torn(disks: Disks<MemDisk>, tear: Tear) -> Result<Disks<MemDisk>, Lack>
+    ensures torn { IfOk result (λ left. IsTorn tear (histories_of mem.history_of disks) left) }
+    ensures fed { IfOk result (λ _. (which : Which) → mem.is_starved (disk_at which disks) ≡ false) }
 {
     Ok(Disks {
         root: disks.root.crash(tear)?,
@@ -34,22 +29,20 @@ fn torn(disks: Disks<MemDisk>, tear: Tear) -> Result<Disks<MemDisk>, Memory>
     })
 }
 
-/// Stops a host, which is all that is seen. Where a call of its disks wasn't made for want of memory the answer is
-/// `Memory`, as the host couldn't go on, and didn't stop by a fuse.
+/// Stops a host, which is all that is seen. Where a disk lacked something for a call the answer is
+/// that, as the host couldn't go on, and didn't stop by a fuse.
 pub(crate) fn stop(
     alloc: Global,
     me: HostId,
     disks: Disks<MemDisk>,
     tear: Tear,
     seen: &mut Vec<Seen>,
-) -> Result<Slot, Memory>
+) -> Result<Slot, Lack>
     ensures fed { IfOk result (λ _. (which : Which) → mem.is_starved (disk_at which disks) ≡ false) }
     ensures stopped { IfOk result (IsStopped tear (histories_of mem.history_of disks)) }
     ensures seen { OnOk result (seen.new.items ≡ seen.old.items ++ sight.Stop me ∷ []) }
+    ensures unseen { OnErr result (seen.new.items ≡ seen.old.items) }
 {
-    if is_starved(&disks) {
-        return Err(Memory);
-    }
     let disks = torn(disks, tear)?;
     let disks = Box::new(alloc, disks)?;
     seen.push(Seen::Stop { host: me })?;

@@ -1,21 +1,25 @@
 //! What a host does that is up: it takes an event, and starts what may start.
 
-ghost use Rattle.std.specs.Prelude.{◌≡◌, [], IsTrue, IfOk, List, ℕ, Bool, true, false, None, length};
+ghost use Rattle.std.specs.Prelude.{◌≡◌, ◌<◌, [], IsTrue, IfOk, List, ℕ, Bool, true, false, None, length};
+ghost use Rattle.nqs_types.specs.declared.world.Which.{Which};
+ghost use Rattle.nqs_outside.specs.History.{History};
+ghost use Rattle.nqs_rules.specs.Measure.{starts_left};
 ghost use Rattle.nqs_rules.specs.Sane.{is_sane_event};
 ghost use Rattle.nqs_rules.specs.Start.{start};
 ghost use Rattle.nqs_rules.specs.Step.{step};
 ghost use Rattle.nqs_rules.specs.Stepped.{Stepped};
 ghost use Rattle.nqs_rules.specs.World.{World as Network, Host, steps, all_starts};
 ghost use Rattle.nqs_node.specs.Carried.{started};
-ghost use Rattle.nqs_node.specs.Nodes.{content_of};
+ghost use Rattle.nqs_node.specs.Nodes.{history_of, fails_of, content_of, is_stopped};
 ghost use Rattle.nqs_store.specs.Sound.{IsSoundHost};
-ghost use Rattle.nqs_net.specs.Worlds.{IsUp, IsSlot};
-ghost use Rattle.nqs_net.specs.Turns.{IsTaken, IsDownSlot, Faces, IsAt, Turns, Starts};
+ghost use Rattle.nqs_net.specs.Followed.{StandsAfter, IsDone, IsStarted};
+ghost use Rattle.nqs_net.specs.Worlds.{IsUp};
+ghost use Rattle.nqs_net.specs.Turns.{IsTaken, IsDownSlot, Faces, IsAt, Turns, Starts, starts_in};
 
 use crate::emit::emit;
 use crate::slot::{Slot, UpHost};
 use crate::stop::stop;
-use nqs_disk::MemDisk;
+use nqs_disk::{Lack, MemDisk};
 use nqs_node::{Node, NodeFault};
 use nqs_types::{Event, HostId, Message, Output, Seen};
 use nqs_values::{Memory, Tear};
@@ -30,19 +34,24 @@ fn take_event(
     out: &mut Vec<Output>,
 ) -> Result<bool, Memory>
     requires sound { IsSoundHost (content_of node.old) }
+    requires running { is_stopped node.old ≡ false }
     requires sane { IsTrue (is_sane_event (length (content_of node.old).site) event.now) }
     ensures sound { IsSoundHost (content_of node.new) }
-    ensures taken { (host : Host) → IsUp node.old host → out.old.items ≡ [] → IfOk result (IsTaken host (step event.now host.state) node.new out.new.items) }
+    ensures running { IfOk result (λ took. took ≡ true → is_stopped node.new ≡ false) }
+    ensures taken { (host : Host) → IsUp node.old host → out.old.items ≡ []
+        → IfOk result (IsTaken host (step event.now host.state) (fails_of node.old) (history_of node.old) node.new out.new.items) }
 {
     match node.take(alloc, event, out) {
         Ok(()) => Ok(true),
         Err(NodeFault::Disk(_)) => Ok(false),
-        // A node of a world isn't stopped, as one that is gets closed at once.
-        Err(_) => Err(Memory),
+        Err(NodeFault::Memory(memory)) => Err(memory),
+        // It isn't stopped.
+        Err(NodeFault::Stopped) => unreachable!(),
     }
 }
 
-// Makes the next start, if one may start: whether the node wasn't stopped, and whether there was one.
+// Makes the next start, if one may start: whether the node wasn't stopped, and whether there was
+// one.
 #[tactic(none)]
 fn start_event(
     alloc: Global,
@@ -51,15 +60,21 @@ fn start_event(
     out: &mut Vec<Output>,
 ) -> Result<(bool, bool), Memory>
     requires sound { IsSoundHost (content_of node.old) }
+    requires running { is_stopped node.old ≡ false }
     ensures sound { IsSoundHost (content_of node.new) }
-    ensures taken { (host : Host) → IsUp node.old host → out.old.items ≡ [] → IfOk result (λ r. IsTaken host (started now host.state) node.new out.new.items r.0) }
+    ensures running { IfOk result (λ r. r.0 ≡ true → is_stopped node.new ≡ false) }
+    // Each start leaves fewer to start.
+    ensures fewer { IfOk result (λ r. r.1 ≡ true → (r.0 ≡ true) × (starts_left (content_of node.new) < starts_left (content_of node.old))) }
+    ensures taken { (host : Host) → IsUp node.old host → out.old.items ≡ []
+        → IfOk result (λ r. IsTaken host (started now host.state) (fails_of node.old) (history_of node.old) node.new out.new.items r.0) }
     ensures last { (host : Host) → IsUp node.old host → IfOk result (λ r. r.0 ≡ true → r.1 ≡ false → start now host.state ≡ None) }
 {
     match node.start_next(alloc, now, out) {
         Ok(more) => Ok((true, more)),
         Err(NodeFault::Disk(_)) => Ok((false, false)),
-        // A node of a world isn't stopped, as one that is gets closed at once.
-        Err(_) => Err(Memory),
+        Err(NodeFault::Memory(memory)) => Err(memory),
+        // It isn't stopped.
+        Err(NodeFault::Stopped) => unreachable!(),
     }
 }
 
@@ -74,11 +89,14 @@ fn carry(
     tear: Tear,
     packets: &mut Vec<Message>,
     seen: &mut Vec<Seen>,
-) -> Result<Slot, Memory>
+) -> Result<Slot, Lack>
     requires sound { IsSoundHost (content_of node.value) }
-    ensures turn { (w : Network) (host : Host) (x : Stepped (List ℕ)) → Faces me host tear packets.old.items w → IsTaken host x node.value out.items took
-        → IfOk result (λ slot. Turns me (IsSlot slot) tear packets.new.items seen.old.items seen.new.items w (steps me host x w)) }
+    requires running { took ≡ true → is_stopped node.value ≡ false }
+    ensures turn { (w : Network) (host : Host) (x : Stepped (List ℕ)) (fails : Which → ℕ → Bool) (old : Which → History)
+        → Faces me host tear packets.old.items w → IsTaken host x fails old node.value out.items took
+        → IsDone me tear old packets.new.items seen.old.items seen.new.items w (steps me host x w) result }
     ensures down { took ≡ false → IfOk result IsDownSlot }
+    ensures left { took ≡ true → IfOk result (λ slot. starts_in slot ≡ starts_left (content_of node.value)) }
 {
     if took {
         emit(me, out, packets, seen)?;
@@ -99,11 +117,12 @@ pub(crate) fn take_step(
     event: &Event,
     packets: &mut Vec<Message>,
     seen: &mut Vec<Seen>,
-) -> Result<Slot, Memory>
+) -> Result<Slot, Lack>
     requires sound { IsSoundHost (content_of node.value) }
+    requires running { is_stopped node.value ≡ false }
     requires sane { IsTrue (is_sane_event (length (content_of node.value).site) event.now) }
     ensures { (w : Network) (host : Host) → Faces me host tear packets.old.items w → IsUp node.value host
-        → IfOk result (λ slot. Turns me (IsSlot slot) tear packets.new.items seen.old.items seen.new.items w (steps me host (step event.now host.state) w)) }
+        → IsDone me tear (history_of node.value) packets.new.items seen.old.items seen.new.items w (steps me host (step event.now host.state) w) result }
 {
     let mut node = node;
     let mut out = Vec::new(alloc);
@@ -122,10 +141,12 @@ fn start_step(
     now: u64,
     packets: &mut Vec<Message>,
     seen: &mut Vec<Seen>,
-) -> Result<(bool, Slot), Memory>
+) -> Result<(bool, Slot), Lack>
     requires sound { IsSoundHost (content_of node.value) }
-    ensures { (w : Network) (host : Host) → Faces me host tear packets.old.items w → IsUp node.value host → w.now ≡ now
-        → IfOk result (λ r. Starts me r.0 (IsSlot r.1) tear packets.new.items seen.old.items seen.new.items w) }
+    requires running { is_stopped node.value ≡ false }
+    ensures turn { (w : Network) (host : Host) → Faces me host tear packets.old.items w → IsUp node.value host → w.now ≡ now
+        → IsStarted me tear (history_of node.value) packets.new.items seen.old.items seen.new.items w result }
+    ensures fewer { IfOk result (λ r. r.0 ≡ true → starts_in r.1 < starts_left (content_of node.value)) }
 {
     let mut node = node;
     let mut out = Vec::new(alloc);
@@ -144,9 +165,10 @@ fn start_one(
     now: u64,
     packets: &mut Vec<Message>,
     seen: &mut Vec<Seen>,
-) -> Result<(bool, Slot), Memory>
-    ensures { (w : Network) → IsAt me (IsSlot slot) tear packets.old.items w → w.now ≡ now
-        → IfOk result (λ r. Starts me r.0 (IsSlot r.1) tear packets.new.items seen.old.items seen.new.items w) }
+) -> Result<(bool, Slot), Lack>
+    ensures turn { (w : Network) (old : Which → History) → IsAt me (StandsAfter tear old slot) tear packets.old.items w → w.now ≡ now
+        → IsStarted me tear old packets.new.items seen.old.items seen.new.items w result }
+    ensures fewer { IfOk result (λ r. r.0 ≡ true → starts_in r.1 < starts_in slot) }
 {
     match slot {
         Slot::Down(down) => Ok((false, Slot::Down(down))),
@@ -154,7 +176,7 @@ fn start_one(
     }
 }
 
-/// A host starts what may start, one after the other.
+/// A host starts what may start, one after the other. Each start leaves fewer to start, so it ends.
 #[tactic(none)]
 pub(crate) fn start_all(
     alloc: Global,
@@ -164,17 +186,16 @@ pub(crate) fn start_all(
     now: u64,
     packets: &mut Vec<Message>,
     seen: &mut Vec<Seen>,
-) -> Result<Slot, Memory>
-    ensures { (w : Network) → IsAt me (IsSlot first) tear packets.old.items w → w.now ≡ now
-        → IfOk result (λ slot. Turns me (IsSlot slot) tear packets.new.items seen.old.items seen.new.items w (all_starts me w)) }
+) -> Result<Slot, Lack>
+    ensures { (w : Network) (old : Which → History) → IsAt me (StandsAfter tear old first) tear packets.old.items w → w.now ≡ now
+        → IsDone me tear old packets.new.items seen.old.items seen.new.items w (all_starts me w) result }
 {
     let mut slot = first;
-    for _ in 0..u64::MAX {
+    loop {
         let (more, next) = start_one(alloc, me, slot, tear, now, packets, seen)?;
         if !more {
             return Ok(next);
         }
         slot = next;
     }
-    Err(Memory)
 }

@@ -4,7 +4,8 @@ use crate::slot::Slot;
 use nqs_types::Message;
 use nqs_values::{NameList, Tear};
 
-/// A network of hosts: a slot and a tear for each, in the order of the site. The packets are all that were ever sent;
+/// A network of hosts: a slot and a tear for each, in the order of the site. The packets are all
+/// that were ever sent;
 /// `now` is the moment, in seconds since 1970.
 #[derive(Drop)]
 pub struct World {

@@ -29,5 +29,7 @@ module _ (now : ℕ) (old : Host) (alike : start now (emptied old) ≡ option_ma
   pub bare_none : start now old ≡ None → emptied old ≡ emptied (after_step (started now (emptied old)) (emptied old))
   bare_none none = sym (emptied_twice old) ∙ ap (λ x. emptied (after_step x (emptied old))) (sym (none_bare none))
 
-  pub alike_none : start now old ≡ None → (os : List Output) → map without_bytes os ≡ map without_bytes os ++ map without_bytes (map shown (started now (emptied old)).outputs)
-  alike_none none os = sym (append-nil (map without_bytes os)) ∙ ap (λ (x : Stepped (List ℕ)). map without_bytes os ++ map without_bytes (map shown x.outputs)) (sym (none_bare none))
+  pub alike_none : start now old ≡ None → (os : List Output) → map without_bytes os
+      ≡ map without_bytes os ++ map without_bytes (map shown (started now (emptied old)).outputs)
+  alike_none none os = sym (append-nil (map without_bytes os)) ∙ ap (λ (x : Stepped (List ℕ)). map without_bytes os ++ map without_bytes (map shown x.outputs))
+      (sym (none_bare none))

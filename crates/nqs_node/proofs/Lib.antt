@@ -8,3 +8,4 @@ pub mod Telling
 pub mod Resting
 pub mod Booting
 pub mod Bare
+pub mod Carrying

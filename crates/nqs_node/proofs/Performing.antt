@@ -12,10 +12,9 @@ use Rattle.nqs_rules.specs.Filled.{filled}
 use Rattle.nqs_rules.specs.Plain.{map_state}
 use Rattle.nqs_rules.specs.Starts.{after_change}
 use Rattle.nqs_rules.specs.Stepped.{puts_of, stored_parts}
-use Rattle.nqs_store.specs.Commits.{IsKept, IsCutAt}
+use Rattle.nqs_store.specs.Commits.{IsKept, IsCutAt, Keeping}
 use Rattle.nqs_store.specs.Faults.{IsScriptFault}
-use Rattle.nqs_store.specs.Hosts.{EachMoment, StopsShort}
-use Rattle.nqs_store.specs.Images.{TellsOneOf}
+use Rattle.nqs_store.specs.Hosts.{StopsShort}
 use Rattle.nqs_store.specs.Live.{bytes_at}
 use Rattle.nqs_store.specs.Plan.{CommitsBy}
 use Rattle.nqs_store.specs.Stores.{history_of, plain_of, Tells}
@@ -23,12 +22,14 @@ use Rattle.nqs_store.specs.Told.{Host}
 use Rattle.nqs_store.specs.declared.store.Store.{Store}
 use Rattle.nqs_store.specs.declared.fault.StoreFault.{StoreFault}
 use Rattle.nqs_store.specs.declared.fault.StoreFault.TheVariants.{Disk}
-use Rattle.nqs_node.proofs.Nothing.{none_broken, none_told}
+use Rattle.nqs_store.proofs.TellsNow.{told_now}
+use Rattle.nqs_node.proofs.Nothing.{none_broken, none_one}
 use Rattle.nqs_node.specs.Carried.{Kept, IsMade, IsCutBy, IsBrokenOff, IsOneOrOther}
 use Rattle.nqs_node.specs.Planned.{IsKeptWith}
 
 -- only the spool is read
-pub read_failed : (P : Which → Type 0) (fault : StoreFault) (which : Which) → IsScriptFault fault → fault ≡ Disk which → (fault ≡ Disk Spool → P Spool) → P which
+pub read_failed : (P : Which → Type 0) (fault : StoreFault) (which : Which) → IsScriptFault fault → fault ≡ Disk which → (fault ≡ Disk Spool → P Spool)
+    → P which
 read_failed P fault Root only e then = absurd (subst IsScriptFault e only)
 read_failed P fault First only e then = absurd (subst IsScriptFault e only)
 read_failed P fault Second only e then = absurd (subst IsScriptFault e only)
@@ -37,18 +38,18 @@ read_failed P fault Spool only e then = then e
 -- no call was made
 pub still_broken_off : (old now : Which → History) → ((which : Which) → now which ≡ old which) → (kept : Kept) → IsBrokenOff old now kept
 still_broken_off old now same None = same
-still_broken_off old now same (Some c) = subst (λ (h : Which → History). CommitsBy StopsShort (stored_parts c) old h) (λ j which. sym (same which) j) (none_broken (stored_parts c) old)
+still_broken_off old now same (Some c) = subst (λ (h : Which → History). CommitsBy StopsShort (stored_parts c) old h) (λ j which. sym (same which) j)
+    (none_broken (stored_parts c) old)
 
 module _ {D : Type 0} {g : disk.Ghosts D} (old mid : Store D g) (same : (which : Which) → history_of mid which ≡ history_of old which) where
   pub still_one : (host : Host) → IsTrue g.tells → Tells old host → (kept : Kept) → IsOneOrOther (history_of old) (history_of mid) kept (plain_of old host)
-  still_one host telling told kept =
-      subst (λ (h : Which → History). IsOneOrOther (history_of old) h kept (plain_of old host)) (λ j which. sym (same which) j)
-      (none_told old host telling told (after_change kept (plain_of old host)))
+  still_one host telling told kept = none_one (history_of old) (history_of mid) same told.first.quiet (plain_of old host) (told_now old host telling told) kept
 
   pub same_plain : (host : Host) → plain_of mid host ≡ plain_of old host
   same_plain host = ap (λ (h : History). map_state (bytes_at (content h)) host) (same Spool)
 
-module _ (fails since : Which → ℕ → Bool) (old mid now : Which → History) (fuse : (which : Which) (i : ℕ) → since which i ≡ fails which i) (same : (which : Which) → mid which ≡ old which)
+module _ (fails since : Which → ℕ → Bool) (old mid now : Which → History) (fuse : (which : Which) (i : ℕ) → since which i ≡ fails which i)
+    (same : (which : Which) → mid which ≡ old which)
     (c : Change Extent) (bytes : List (List ℕ)) (kept : Kept) (with : IsKeptWith (Some c) bytes kept) where
   stored : bytes ≡ stored_parts (filled c bytes)
   stored = with.stored ∙ sym (ap puts_of with.is)
@@ -70,16 +71,19 @@ module _ (fails since : Which → ℕ → Bool) (old mid now : Which → History
     pub cut_since : (which : Which) → IsCutAt since bytes mid now was (applied (filled c bytes) was) which → IsCutBy fails old now kept before which
     cut_since which k =
         let a = subst (λ (ps : List (List ℕ)). IsCutAt since ps mid now was (applied (filled c bytes) was) which) stored k in
-        let b = subst (λ (h : Which → History). IsCutAt since (stored_parts (filled c bytes)) h now was (applied (filled c bytes) was) which) (λ j which. same which j) a in
-        let d = subst (λ (f : Which → ℕ → Bool). IsCutAt f (stored_parts (filled c bytes)) old now was (applied (filled c bytes) was) which) (λ j which i. fuse which i j) b in
+        let b = subst (λ (h : Which → History). IsCutAt since (stored_parts (filled c bytes)) h now was (applied (filled c bytes) was) which)
+        (λ j which. same which j) a in
+        let d = subst (λ (f : Which → ℕ → Bool). IsCutAt f (stored_parts (filled c bytes)) old now was (applied (filled c bytes) was) which)
+        (λ j which i. fuse which i j) b in
         let e = subst (λ (s : Plain). IsCutAt fails (stored_parts (filled c bytes)) old now s (applied (filled c bytes) s) which) plain d in
         subst (λ (k : Kept). IsCutBy fails old now k before which) with.is e
 
-    pub moments_since : EachMoment mid now (λ images. TellsOneOf was (applied (filled c bytes) was) (images First) (images Spool)) → IsOneOrOther old now kept before
+    pub moments_since : Keeping bytes mid now was (applied (filled c bytes) was) → IsOneOrOther old now kept before
     moments_since k =
-        let a = subst (λ (h : Which → History). EachMoment h now (λ images. TellsOneOf was (applied (filled c bytes) was) (images First) (images Spool))) (λ j which. same which j) k in
-        let b = subst (λ (s : Plain). EachMoment old now (λ images. TellsOneOf s (applied (filled c bytes) s) (images First) (images Spool))) plain a in
-        subst (λ (k : Kept). IsOneOrOther old now k before) with.is b
+        let a = subst (λ (ps : List (List ℕ)). Keeping ps mid now was (applied (filled c bytes) was)) stored k in
+        let b = subst (λ (h : Which → History). Keeping (stored_parts (filled c bytes)) h now was (applied (filled c bytes) was)) (λ j which. same which j) a in
+        let d = subst (λ (s : Plain). Keeping (stored_parts (filled c bytes)) old now s (applied (filled c bytes) s)) plain b in
+        subst (λ (k : Kept). IsOneOrOther old now k before) with.is d
 
     pub plain_since : (later : Plain) → later ≡ applied (filled c bytes) was → later ≡ after_change kept before
     plain_since later e = e ∙ ap (applied (filled c bytes)) plain ∙ ap (λ (k : Kept). after_change k before) with.is
@@ -87,5 +91,6 @@ module _ (fails since : Which → ℕ → Bool) (old mid now : Which → History
 pub none_kept : (change : Option (Change Extent)) (bytes : List (List ℕ)) (kept : Kept) → change ≡ None → IsKeptWith change bytes kept → None ≡ kept
 none_kept change bytes kept none with = (let f : Option (Change Extent) → Kept = option_map (λ c. filled c bytes) in ap f (sym none)) ∙ with.is
 
-pub some_kept : (change : Option (Change Extent)) (c : Change Extent) (bytes : List (List ℕ)) (kept : Kept) → change ≡ Some c → IsKeptWith change bytes kept → IsKeptWith (Some c) bytes kept
+pub some_kept : (change : Option (Change Extent)) (c : Change Extent) (bytes : List (List ℕ)) (kept : Kept) → change ≡ Some c → IsKeptWith change bytes kept
+    → IsKeptWith (Some c) bytes kept
 some_kept change c bytes kept some with = subst (λ (o : Option (Change Extent)). IsKeptWith o bytes kept) some with

@@ -1,5 +1,6 @@
 -- The plan of what is done at a host may be carried out, and does it.
-use Rattle.std.proofs.Common.{◌≡◌, ℕ, ◌+◌, ◌++◌, IsTrue, List, [], ◌∷◌, map, length, Option, option_map, Some, None, IfSome, refl, sym, ap, subst, ◌∙◌, append_assoc, arith}
+use Rattle.std.proofs.Common.{◌≡◌, ℕ, ◌+◌, ◌++◌, IsTrue, List, [], ◌∷◌, map, length, Option, option_map, Some, None, IfSome, refl, sym, ap, subst, ◌∙◌}
+use Rattle.std.proofs.Common.{append_assoc, arith}
 use Rattle.std.specs.List.{AllByRecursion}
 use Rattle.std.proofs.lemmas.List.{length-map}
 use Rattle.std.proofs.lemmas.Option.{same_Some, none-some}
@@ -16,7 +17,8 @@ use Rattle.nqs_rules.specs.Filled.{filled}
 use Rattle.nqs_rules.specs.Fits.{fits}
 use Rattle.nqs_rules.specs.Sane.{is_sane_change}
 use Rattle.nqs_rules.specs.Start.{start}
-use Rattle.nqs_rules.specs.Stepped.{Stepped, Pending, quiet, map_part, map_pending, map_stepped, part_bytes, stored_parts, no_extent, with_bytes, shown, puts_of, output_of, read_at, reads_from, plan_of}
+use Rattle.nqs_rules.specs.Stepped.{Stepped, Pending, quiet, map_part, map_pending, map_stepped, part_bytes, stored_parts, no_extent, with_bytes, shown}
+use Rattle.nqs_rules.specs.Stepped.{puts_of, output_of, read_at, reads_from, plan_of}
 use Rattle.nqs_rules.proofs.FilledLemmas.{filled-plan}
 use Rattle.nqs_rules.proofs.FitsPlain.{fits-change}
 use Rattle.nqs_store.specs.Puts.{IsShortPut}
@@ -58,7 +60,8 @@ none_stand [] = tt
 none_stand (b ∷ bs) = ((omega arith, refl), none_stand bs)
 
 module _ (host : Host) where
-  change_may : (o : Kept) → IfSome o (λ c. IsTrue (fits c host) × IsTrue (is_sane_change c)) → IfSome o (λ c. IsTrue (takes_back_few c)) → AllByRecursion IsShortPut (puts_of o)
+  change_may : (o : Kept) → IfSome o (λ c. IsTrue (fits c host) × IsTrue (is_sane_change c)) → IfSome o (λ c. IsTrue (takes_back_few c))
+      → AllByRecursion IsShortPut (puts_of o)
       → IfSome (option_map bare o) (MayBeKept host (puts_of o))
   change_may None fit few short = tt
   change_may (Some c) fit few short = record {
@@ -99,29 +102,37 @@ module _ (bytes : Extent → List ℕ) where
   read_from front [] = refl
   read_from front (p ∷ ps) = one p.1 (λ o. read_from (front ++ o ∷ []) ps)
     where
-      on : (o : Output) → GoesOn (front ++ o ∷ []) ps → read_into bytes (reads_from (length front + 1) ps) (front ++ o ∷ map output_of ps) ≡ front ++ o ∷ said ps
+      on : (o : Output) → GoesOn (front ++ o ∷ []) ps → read_into bytes (reads_from (length front + 1) ps) (front ++ o ∷ map output_of ps)
+          ≡ front ++ o ∷ said ps
       on o goes =
           (λ j. read_into bytes (reads_from (sym (length_one front o) j) ps) (sym (append_assoc front (o ∷ []) (map output_of ps)) j))
           ∙ goes ∙ append_assoc front (o ∷ []) (said ps)
 
-      one : (x : Option Extent) → ((o : Output) → GoesOn (front ++ o ∷ []) ps) → read_into bytes (read_at (length front) x ++ reads_from (length front + 1) ps) (front ++ p.0 ∷ map output_of ps) ≡ front ++ shown (map_pending bytes (p.0, x)) ∷ said ps
+      one : (x : Option Extent) → ((o : Output) → GoesOn (front ++ o ∷ []) ps)
+          → read_into bytes (read_at (length front) x ++ reads_from (length front + 1) ps) (front ++ p.0 ∷ map output_of ps)
+          ≡ front ++ shown (map_pending bytes (p.0, x)) ∷ said ps
       one None goes = on p.0 (goes p.0)
-      one (Some x) goes = ap (read_into bytes (reads_from (length front + 1) ps)) (at_front front p.0 (map output_of ps) (with_bytes (bytes x))) ∙ on (with_bytes (bytes x) p.0) (goes (with_bytes (bytes x) p.0))
+      one (Some x) goes = ap (read_into bytes (reads_from (length front + 1) ps)) (at_front front p.0 (map output_of ps) (with_bytes (bytes x)))
+          ∙ on (with_bytes (bytes x) p.0) (goes (with_bytes (bytes x) p.0))
 
 kept_with : (done : Stepped Extent) (o : Kept) → done.change ≡ o → IsKeptWith (option_map bare o) (puts_of o) o
 kept_with done None is = record { is = refl; stored = refl }
 kept_with done (Some c) is = record {
-  is = (λ j. let o : Option (Change (List ℕ)) = Some (filled (bare c) (puts_of (sym is j))) in o) ∙ filled-plan done (bare c) (ap (Some) (bare_bare c) ∙ ap (option_map bare) (sym is)) ∙ is;
+  is = (λ j. let o : Option (Change (List ℕ)) = Some (filled (bare c) (puts_of (sym is j))) in o)
+      ∙ filled-plan done (bare c) (ap (Some) (bare_bare c) ∙ ap (option_map bare) (sym is)) ∙ is;
   stored = refl;
 }
 
 module _ (done : Stepped Extent) (plan : Plan) (is : plan ≡ plan_of done) where
-  pub may_be_done : (host : Host) → IfSome done.change (λ c. IsTrue (fits c host) × IsTrue (is_sane_change c)) → IfSome done.change (λ c. IsTrue (takes_back_few c)) → AllByRecursion IsShortPut (puts_of done.change)
+  pub may_be_done : (host : Host) → IfSome done.change (λ c. IsTrue (fits c host) × IsTrue (is_sane_change c))
+      → IfSome done.change (λ c. IsTrue (takes_back_few c)) → AllByRecursion IsShortPut (puts_of done.change)
       → AreLive host done.outputs → MayBeDone host plan
-  may_be_done host fit few short live = subst (MayBeDone host) (sym is) (record { kept = change_may host done.change fit few short; live = reads_live host 0 done.outputs live })
+  may_be_done host fit few short live = subst (MayBeDone host) (sym is) (record
+      { kept = change_may host done.change fit few short; live = reads_live host 0 done.outputs live })
 
   pub does : (bytes : Extent → List ℕ) → Does bytes plan (map_stepped bytes done)
-  does bytes = subst (λ (p : Plan). Does bytes p (map_stepped bytes done)) (sym is) (record { kept = kept_with done done.change refl; said = read_from bytes [] done.outputs })
+  does bytes = subst (λ (p : Plan). Does bytes p (map_stepped bytes done)) (sym is)
+      (record { kept = kept_with done done.change refl; said = read_from bytes [] done.outputs })
 
 -- starts
 

@@ -26,7 +26,11 @@ paths_alike [] = refl
 paths_alike (part ∷ parts) = ap (λ b. has_path part && b) (paths_alike parts)
 
 room_bare : (c : Change Extent) (h : HostState) → HasRoom c h → HasRoom (bare c) h
-room_bare (Ended id parts) h room = (subst (λ n. n ≤ h.files.spare) (sym (parts_alike parts)) room.0, subst (λ n. n ≤ h.stages.spare) (sym (parts_alike parts)) room.1)
+room_bare (Ended id parts) h room = (
+  subst (λ n. n ≤ h.files.spare) (sym (parts_alike parts)) room.0,
+  subst (λ n. n ≤ h.stages.spare)
+      (sym (parts_alike parts)) room.1,
+)
 room_bare Boot h room = room
 room_bare c h room = room
 

@@ -28,7 +28,8 @@ use Rattle.nqs_rules.specs.Find.{peer_number, has_row, meant_request, find_hand,
 use Rattle.nqs_rules.specs.Edits.{drop_row}
 use Rattle.nqs_rules.specs.Rows.{change_meant, held_row, released_row, moved_row, with_priority, next_arrival}
 use Rattle.nqs_rules.specs.Fits.{fits}
-use Rattle.nqs_rules.specs.Applied.{applied, add_file, add_stage_to, add_output, add_outputs, hand_committed, hand_refused, hand_silent, hands_silent, drop_promise, accepted, edit_applied}
+use Rattle.nqs_rules.specs.Applied.{applied, add_file, add_stage_to, add_output, add_outputs, hand_committed, hand_refused, hand_silent, hands_silent}
+use Rattle.nqs_rules.specs.Applied.{drop_promise, accepted, edit_applied}
 
 module _ {E : Type 0} where
   either : (b : Bool) (n : List (List ℕ)) (x y : State E) → x.site ≡ n → y.site ≡ n → (if b then x else y).site ≡ n
@@ -63,7 +64,8 @@ module _ {E : Type 0} where
 
   silents_site : (until : ℕ) (ks : List PeerNumber) (s : State E) → (hands_silent until ks s).site ≡ s.site
   silents_site until [] s = refl
-  silents_site until (k ∷ ks) s = silents_site until ks (hand_silent until k (find_hand k.peer k.number s) s) ∙ silent_site until k (find_hand k.peer k.number s) s
+  silents_site until (k ∷ ks) s = silents_site until ks (hand_silent until k (find_hand k.peer k.number s) s)
+      ∙ silent_site until k (find_hand k.peer k.number s) s
 
   accepted_site : (k : PeerNumber) (o : Option (Promise E)) (s : State E) → (accepted k o s).site ≡ s.site
   accepted_site k None s = refl

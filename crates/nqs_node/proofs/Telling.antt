@@ -19,7 +19,8 @@ use Rattle.nqs_node.proofs.Planning.{IsNext, started_is, does}
 
 pub kept_from : (one other : Option (Change Extent)) (a b : List (List ℕ)) (kept : Kept) → one ≡ other → a ≡ b → IsKeptWith other b kept → IsKeptWith one a kept
 kept_from one other a b kept same e with =
-    subst (λ (change : Option (Change Extent)). IsKeptWith change a kept) (sym same) (subst (λ (bytes : List (List ℕ)). IsKeptWith other bytes kept) (sym e) with)
+    subst (λ (change : Option (Change Extent)). IsKeptWith change a kept) (sym same)
+    (subst (λ (bytes : List (List ℕ)). IsKeptWith other bytes kept) (sym e) with)
 
 module _ {D : Type 0} {g : disk.Ghosts D} (old : Node D g) (s : Plain) (told : Tells old s) where
   pub tells_still : (now : Node D g) → content_of now ≡ content_of old → ((which : Which) → history_of now which ≡ history_of old which)
@@ -31,10 +32,12 @@ module _ {D : Type 0} {g : disk.Ghosts D} (old : Node D g) (s : Plain) (told : T
   }
 
   pub one_still : IsTrue g.tells → (kept : Kept) → IsOneOrOther (history_of old) (history_of old) kept s
-  one_still telling kept = subst (λ (p : Plain). IsOneOrOther (history_of old) (history_of old) kept p) told.is (still_one old.store old.store (λ which. refl) (content_of old) telling told.told kept)
+  one_still telling kept = subst (λ (p : Plain). IsOneOrOther (history_of old) (history_of old) kept p) told.is
+      (still_one old.store old.store (λ which. refl) (content_of old) telling told.told kept)
 
   -- the plan of what is done at a host does what is done at the plain state
-  pub done_here : (F : Plain → Stepped (List ℕ)) (done : Stepped Extent) (plan : Plan) → plan ≡ plan_of done → F (plain_of old) ≡ map_stepped (bytes_of old) done → Does (bytes_of old) plan (F s)
+  pub done_here : (F : Plain → Stepped (List ℕ)) (done : Stepped Extent) (plan : Plan) → plan ≡ plan_of done
+      → F (plain_of old) ≡ map_stepped (bytes_of old) done → Does (bytes_of old) plan (F s)
   done_here F done plan is law = subst (λ (x : Stepped (List ℕ)). Does (bytes_of old) plan x) (sym law ∙ ap F told.is) (does done plan is (bytes_of old))
 
   module _ (now : ℕ) (alike : start now (plain_of old) ≡ option_map (map_stepped (bytes_of old)) (start now (content_of old))) where

@@ -7,11 +7,10 @@ use Rattle.nqs_types.specs.declared.world.Which.TheVariants.{First, Spool}
 use Rattle.nqs_outside.specs.History.{History, moment}
 use Rattle.nqs_rules.specs.Applied.{applied}
 use Rattle.nqs_rules.specs.Start.{start}
-use Rattle.nqs_rules.specs.Starts.{after_change}
 use Rattle.nqs_rules.specs.Stepped.{Stepped, quiet, stored_parts}
-use Rattle.nqs_store.specs.Commits.{IsKept, IsCutAt}
-use Rattle.nqs_store.specs.Hosts.{StopsShort, EachMoment}
-use Rattle.nqs_store.specs.Images.{TellsOneOf}
+use Rattle.nqs_store.specs.Commits.{EachImage, IsKept, IsCutAt, Keeping}
+use Rattle.nqs_store.specs.Hosts.{StopsShort}
+use Rattle.nqs_store.specs.Images.{IsTold}
 use Rattle.nqs_store.specs.Plan.{CommitsBy}
 
 -- what is to be kept: a change with its bytes, or none
@@ -38,9 +37,11 @@ abbrev pub IsBrokenOff : (old now : Which → History) → Kept → Type 0
 IsBrokenOff old now None = (which : Which) → now which ≡ old which
 IsBrokenOff old now (Some c) = CommitsBy StopsShort (stored_parts c) old now
 
--- at each moment, whatever images the disks may leave, they tell the state before the change or the one after it
+-- At each moment, whatever images the disks may leave, they tell the state before the change or the one after it. Where there
+-- is no change there is no call.
 abbrev pub IsOneOrOther : (old now : Which → History) → Kept → Plain → Type 0
-IsOneOrOther old now kept before = EachMoment old now (λ images. TellsOneOf before (after_change kept before) (images First) (images Spool))
+IsOneOrOther old now None before = ((which : Which) → now which ≡ old which) × EachImage old (λ images. IsTold (images First) (images Spool) before)
+IsOneOrOther old now (Some c) before = Keeping (stored_parts c) old now before (applied c before)
 
 -- a call that was to fail has been made
 abbrev pub IsBlown : (ℕ → Bool) → History → Type 0

@@ -1,13 +1,18 @@
 -- Bytes that are read for outputs.
-use Rattle.std.specs.Prelude.{ℕ, List, [], ◌∷◌}
-use Rattle.std.specs.List.{AllByRecursion}
+use Rattle.std.specs.Prelude.{◌≡◌, ℕ, Bool, true, List, [], ◌∷◌}
+use Rattle.std.specs.List.{AllByRecursion, list_all}
 use Rattle.nqs_values.specs.declared.extent.Extent.{Extent}
 use Rattle.nqs_types.specs.declared.event.Output.{Output}
+use Rattle.nqs_types.specs.declared.event.Output.TheVariants.{Send}
+use Rattle.nqs_types.specs.declared.message.Body.{Body}
+use Rattle.nqs_types.specs.declared.message.Body.TheVariants.{Offer, Stage}
 use Rattle.nqs_types.specs.declared.event.PlanRead.{PlanRead}
 use Rattle.nqs_rules.specs.Edits.{change_at}
+use Rattle.nqs_rules.specs.Sane.{is_short_script}
 use Rattle.nqs_rules.specs.Stepped.{with_bytes}
 use Rattle.nqs_spool.specs.Extents.{Has}
 use Rattle.nqs_store.specs.Live.{live}
+use Rattle.nqs_store.specs.Sound.{is_short_extent}
 use Rattle.nqs_store.specs.Told.{Host}
 
 -- what is read at a place goes into the output of that place
@@ -21,3 +26,22 @@ IsLiveRead host read = Has (live host) read.extent
 -- the extents that are to be read are the host's
 abbrev pub AreLiveReads : Host → List PlanRead → Type 0
 AreLiveReads host reads = AllByRecursion (IsLiveRead host) reads
+
+-- no more is read than a message may carry
+abbrev pub IsShortRead : PlanRead → Type 0
+IsShortRead read = is_short_extent read.extent ≡ true
+
+-- the script or output that a message carries is short enough
+abbrev pub carries_short : Body → Bool
+carries_short (Offer _ _ _ script) = is_short_script script
+carries_short (Stage _ _ bytes) = is_short_script bytes
+carries_short _ = true
+
+-- so it is with what is sent
+abbrev pub sends_short : Output → Bool
+sends_short (Send m) = carries_short m.body
+sends_short _ = true
+
+-- all that is sent carries short scripts and outputs
+abbrev pub AreShort : List Output → Type 0
+AreShort outputs = list_all sends_short outputs ≡ true

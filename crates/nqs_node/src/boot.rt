@@ -1,11 +1,13 @@
 //! A node is booted from the disks of its host.
 //!
-//! The boot is one change like any other: what is said of it is made first, then it is kept, and then made.
+//! The boot is one change like any other: what is said of it is made first, then it is kept, and
+//! then made.
 
 ghost use Rattle.std.specs.Prelude.{◌≡◌, ◌⊎◌, ◌≤◌, ◌++◌, [], ℕ, Bool, List, IsTrue, IsErrOf, OnOk, OnErr, IfOk, IfErr, MatchResult, false, Some};
 ghost use Rattle.std.specs.List.{filter_map};
 ghost use Rattle.std.specs.Option.{option_to_list};
 ghost use Rattle.nqs_state.specs.State.{Plain, content};
+ghost use Rattle.nqs_values.specs.Want.{want};
 ghost use Rattle.nqs_values.specs.declared.extent.Extent.{Extent};
 ghost use Rattle.nqs_types.specs.declared.world.Which.{Which};
 ghost use Rattle.nqs_types.specs.declared.world.Which.TheVariants.{First, Spool};
@@ -15,13 +17,14 @@ ghost use Rattle.nqs_outside.specs.History.{History, IsQuiet, content as bytes_n
 ghost use Rattle.nqs_rules.specs.Applied.{applied};
 ghost use Rattle.nqs_rules.specs.World.{boot_output};
 ghost use Rattle.nqs_rules.specs.Plain.{map_row, map_state};
-ghost use Rattle.nqs_store.specs.Commits.{IsKept, IsCutAt};
-ghost use Rattle.nqs_store.specs.Hosts.{EachMoment, StopsShort};
+ghost use Rattle.nqs_store.specs.Commits.{IsKept, IsCutAt, Keeping};
+ghost use Rattle.nqs_store.specs.Hosts.{StopsShort};
 ghost use Rattle.nqs_store.specs.Plan.{CommitsBy};
-ghost use Rattle.nqs_store.specs.Stores.{disk_of as store_disk_of, history_of as history_of_store, fails_of as fails_of_store, is_starved, is_stopped as is_store_stopped, plain_of, Tells as TellsHost};
+ghost use Rattle.nqs_store.specs.Stores.{disk_of as store_disk_of, history_of as history_of_store, fails_of as fails_of_store, is_starved};
+ghost use Rattle.nqs_store.specs.Stores.{is_stopped as is_store_stopped, plain_of, Tells as TellsHost};
 ghost use Rattle.nqs_store.specs.Disks.{disk_at, histories_of, failing_of};
 ghost use Rattle.nqs_store.specs.Faults.{IsLoadFault};
-ghost use Rattle.nqs_store.specs.Images.{IsTold, TellsOneOf};
+ghost use Rattle.nqs_store.specs.Images.{IsTold};
 ghost use Rattle.nqs_store.specs.Sound.{IsSoundHost};
 ghost use Rattle.nqs_node.specs.Carried.{IsMade, IsCutBy, IsBrokenOff, IsOneOrOther, IsBlown};
 
@@ -86,27 +89,33 @@ fn begin<D: Disk>(
     ensures running { OnOk result (is_store_stopped store.new ≡ false) }
     ensures unsaid { OnErr result (out.new.items ≡ out.old.items) }
     ensures only { (which : Which) (place : ℕ) → IsErrOf result (LoadFault.NotNqs which place) → ⊥ }
-    ensures failed { (which : Which) → IsErrOf result (LoadFault.Disk which) → Rose (D.faults (store_disk_of which store.old)) (D.faults (store_disk_of which store.new)) }
-    ensures memory { IsTrue D.tells → IsErrOf result LoadFault.Memory → (which : Which) → history_of_store store.new which ≡ history_of_store store.old which }
+    ensures failed { (which : Which) → IsErrOf result (LoadFault.Disk which)
+        → Rose (D.faults (store_disk_of which store.old)) (D.faults (store_disk_of which store.new)) }
+    ensures memory { IsTrue D.tells → IsErrOf result (LoadFault.Memory want) → (which : Which)
+        → history_of_store store.new which ≡ history_of_store store.old which }
     ensures told { IsTrue D.tells → TellsHost store.old (content state.old) → OnOk result (TellsHost store.new (content state.new)) }
-    ensures plain { IsTrue D.tells → TellsHost store.old (content state.old) → OnOk result (plain_of store.new (content state.new) ≡ applied Boot (plain_of store.old (content state.old))) }
+    ensures plain { IsTrue D.tells → TellsHost store.old (content state.old)
+        → OnOk result (plain_of store.new (content state.new) ≡ applied Boot (plain_of store.old (content state.old))) }
     ensures outputs { (f : Extent → List ℕ) → OnOk result (out.new.items ≡ out.old.items ++ filter_map boot_output (map_state f (content state.old)).rows) }
     ensures made { IsTrue D.tells → OnOk result (IsKept (fails_of_store store.old) [] (history_of_store store.old) (history_of_store store.new)) }
     ensures broken_off { IsTrue D.tells → OnErr result (CommitsBy StopsShort [] (history_of_store store.old) (history_of_store store.new)) }
-    ensures cut { IsTrue D.tells → TellsHost store.old (content state.old) → (which : Which) → IsErrOf result (LoadFault.Disk which) → IsTrue (is_starved store.new which)
-        ⊎ IsCutAt (fails_of_store store.old) [] (history_of_store store.old) (history_of_store store.new) (plain_of store.old (content state.old)) (applied Boot (plain_of store.old (content state.old))) which }
+    ensures cut { IsTrue D.tells → TellsHost store.old (content state.old) → (which : Which) → IsErrOf result (LoadFault.Disk which)
+        → IsTrue (is_starved store.new which) ⊎ IsCutAt (fails_of_store store.old) [] (history_of_store store.old) (history_of_store store.new)
+        (plain_of store.old (content state.old)) (applied Boot (plain_of store.old (content state.old))) which }
     ensures fuse { IsTrue D.tells → (which : Which) (i : ℕ) → fails_of_store store.new which i ≡ fails_of_store store.old which i }
     ensures later { (which : Which) → D.faults (store_disk_of which store.old) ≤ D.faults (store_disk_of which store.new) }
     ensures any_moment { IsTrue D.tells → TellsHost store.old (content state.old)
-        → EachMoment (history_of_store store.old) (history_of_store store.new) (λ images. TellsOneOf (plain_of store.old (content state.old)) (applied Boot (plain_of store.old (content state.old))) (images First) (images Spool)) }
+        → Keeping [] (history_of_store store.old) (history_of_store store.new) (plain_of store.old (content state.old))
+        (applied Boot (plain_of store.old (content state.old))) }
 {
     match outputs_of(alloc, state) {
-        Err(Memory) => Err(LoadFault::Memory),
+        Err(memory) => Err(LoadFault::Memory(memory)),
         Ok(mut outputs) => match out.reserve(outputs.len()) {
-            Err(_) => Err(LoadFault::Memory),
+            Err(refused) => Err(LoadFault::Memory(refused.into())),
             Ok(()) => match keep(alloc, store, state, Change::Boot, &[]) {
-                Err(StoreFault::Memory) => Err(LoadFault::Memory),
+                Err(StoreFault::Memory(memory)) => Err(LoadFault::Memory(memory)),
                 Err(StoreFault::Disk(which)) => Err(LoadFault::Disk(which)),
+                // The store isn't stopped.
                 Err(StoreFault::Stopped) => unreachable!(),
                 Ok(()) => {
                     out.append(&mut outputs).unwrap();
@@ -120,9 +129,10 @@ fn begin<D: Disk>(
 impl<D: Disk> Node<D> {
     ghost use Rattle.nqs_node.specs.Nodes.{disk_of, history_of, fails_of, content_of, is_stopped, Tells};
 
-    /// Boots a host from its disks, on which nothing is pending: what ran there starts again or is lost, which is one
-    /// record of its journal. It adds to `out` what is said of each such request, in the order of rows. A refusal hands
-    /// the disks back; `Memory` comes before the first write.
+    /// Boots a host from its disks, on which nothing is pending: what ran there starts again or is
+    /// lost, which is one record of its journal. It adds to `out` what is said of each such
+    /// request, in the order of rows. A refusal hands the disks back; `Memory` comes before the
+    /// first write.
     pub fn boot(
         alloc: Global,
         disks: Disks<D>,
@@ -132,32 +142,49 @@ impl<D: Disk> Node<D> {
         ensures sound { IfOk result (λ node. IsSoundHost (content_of node)) }
         ensures running { IfOk result (λ node. is_stopped node ≡ false) }
         ensures unsaid { OnErr result (out.new.items ≡ out.old.items) }
-        ensures failed { IfErr result (λ e. (which : Which) → e.0 ≡ LoadFault.Disk which → Rose (D.faults (disk_at which disks)) (D.faults (disk_at which e.1))) }
-        ensures fault { IsTrue D.tells → IfErr result (λ e. (which : Which) (place : ℕ) → e.0 ≡ LoadFault.NotNqs which place → IsLoadFault (bytes_now (histories_of D.history disks First)) (bytes_now (histories_of D.history disks Spool)) e.0) }
-        ensures memory { IsTrue D.tells → IfErr result (λ e. e.0 ≡ LoadFault.Memory → (which : Which) → histories_of D.history e.1 which ≡ histories_of D.history disks which) }
+        ensures failed { IfErr result (λ e. (which : Which) → e.0 ≡ LoadFault.Disk which
+            → Rose (D.faults (disk_at which disks)) (D.faults (disk_at which e.1))) }
+        ensures fault { IsTrue D.tells → IfErr result (λ e. (which : Which) (place : ℕ) → e.0 ≡ LoadFault.NotNqs which place
+            → IsLoadFault (bytes_now (histories_of D.history disks First)) (bytes_now (histories_of D.history disks Spool)) e.0) }
+        ensures memory { IsTrue D.tells → IfErr result (λ e. e.0 ≡ LoadFault.Memory want → (which : Which)
+            → histories_of D.history e.1 which ≡ histories_of D.history disks which) }
 
-        // Disks that tell a host are booted, and tell the state after the boot. Others are not booted.
-        ensures one { IsTrue D.tells → IfOk result (λ node. (s : Plain) × IsTold (bytes_now (histories_of D.history disks First)) (bytes_now (histories_of D.history disks Spool)) s × Tells node (applied Boot s)) }
-        ensures never { IsTrue D.tells → (s : Plain) → IsTold (bytes_now (histories_of D.history disks First)) (bytes_now (histories_of D.history disks Spool)) s
+        // Disks that tell a host are booted, and tell the state after the boot. Others are not
+        // booted.
+        ensures one { IsTrue D.tells → IfOk result (λ node. (s : Plain)
+            × IsTold (bytes_now (histories_of D.history disks First)) (bytes_now (histories_of D.history disks Spool)) s × Tells node (applied Boot s)) }
+        ensures never { IsTrue D.tells → (s : Plain)
+            → IsTold (bytes_now (histories_of D.history disks First)) (bytes_now (histories_of D.history disks Spool)) s
             → IfErr result (λ e. (which : Which) (place : ℕ) → e.0 ≡ LoadFault.NotNqs which place → ⊥) }
-        ensures told { IsTrue D.tells → (s : Plain) → IsTold (bytes_now (histories_of D.history disks First)) (bytes_now (histories_of D.history disks Spool)) s → IfOk result (λ node. Tells node (applied Boot s)) }
-        ensures outputs { IsTrue D.tells → (s : Plain) → IsTold (bytes_now (histories_of D.history disks First)) (bytes_now (histories_of D.history disks Spool)) s
+        ensures told { IsTrue D.tells → (s : Plain)
+            → IsTold (bytes_now (histories_of D.history disks First)) (bytes_now (histories_of D.history disks Spool)) s
+            → IfOk result (λ node. Tells node (applied Boot s)) }
+        ensures outputs { IsTrue D.tells → (s : Plain)
+            → IsTold (bytes_now (histories_of D.history disks First)) (bytes_now (histories_of D.history disks Spool)) s
             → OnOk result (out.new.items ≡ out.old.items ++ filter_map boot_output s.rows) }
 
-        // The calls that it makes: at Ok just those of one record, else a part of them, of which only the last may have failed.
+        // The calls that it makes: at Ok just those of one record, else a part of them, of which
+        // only the last may have failed.
         ensures made { IsTrue D.tells → IfOk result (λ node. IsMade (failing_of D.fails disks) (histories_of D.history disks) (history_of node) (Some Boot)) }
         ensures broken_off { IsTrue D.tells → IfErr result (λ e. IsBrokenOff (histories_of D.history disks) (histories_of D.history e.1) (Some Boot)) }
 
         // Which of them fails is the disk's to say, unless it is starved.
         ensures cut { IsTrue D.tells → (s : Plain) → IsTold (bytes_now (histories_of D.history disks First)) (bytes_now (histories_of D.history disks Spool)) s
             → IfErr result (λ e. (which : Which) → e.0 ≡ LoadFault.Disk which → IsTrue (D.starved (disk_at which e.1))
-            ⊎ (IsBlown (failing_of D.fails disks which) (histories_of D.history disks which) ⊎ IsCutBy (failing_of D.fails disks) (histories_of D.history disks) (histories_of D.history e.1) (Some Boot) s which)) }
+            ⊎ (IsBlown (failing_of D.fails disks which) (histories_of D.history disks which)
+            ⊎ IsCutBy (failing_of D.fails disks) (histories_of D.history disks) (histories_of D.history e.1) (Some Boot) s which)) }
         ensures fuse { IsTrue D.tells → IfOk result (λ node. (which : Which) (i : ℕ) → fails_of node which i ≡ failing_of D.fails disks which i) }
-        ensures later { MatchResult result (λ node. (which : Which) → D.faults (disk_at which disks) ≤ D.faults (disk_of which node)) (λ e. (which : Which) → D.faults (disk_at which disks) ≤ D.faults (disk_at which e.1)) }
+        ensures later { MatchResult result
+            (λ node. (which : Which) → D.faults (disk_at which disks) ≤ D.faults (disk_of which node))
+            (λ e. (which : Which) → D.faults (disk_at which disks) ≤ D.faults (disk_at which e.1)) }
 
-        // At each moment, whatever images the disks may leave, they tell the state before the boot or the one after it.
-        ensures any_moment { IsTrue D.tells → (s : Plain) → IsTold (bytes_now (histories_of D.history disks First)) (bytes_now (histories_of D.history disks Spool)) s
-            → MatchResult result (λ node. IsOneOrOther (histories_of D.history disks) (history_of node) (Some Boot) s) (λ e. IsOneOrOther (histories_of D.history disks) (histories_of D.history e.1) (Some Boot) s) }
+        // At each moment, whatever images the disks may leave, they tell the state before the boot
+        // or the one after it.
+        ensures any_moment { IsTrue D.tells → (s : Plain)
+            → IsTold (bytes_now (histories_of D.history disks First)) (bytes_now (histories_of D.history disks Spool)) s
+            → MatchResult result
+            (λ node. IsOneOrOther (histories_of D.history disks) (history_of node) (Some Boot) s)
+            (λ e. IsOneOrOther (histories_of D.history disks) (histories_of D.history e.1) (Some Boot) s) }
     {
         match Store::load(alloc, disks) {
             Err((fault, disks)) => Err((fault, disks)),

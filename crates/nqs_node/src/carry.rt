@@ -1,8 +1,9 @@
 //! A node carries out a plan.
 
-ghost use Rattle.std.specs.Prelude.{◌≡◌, ◌⊎◌, ◌≤◌, ◌++◌, ℕ, List, false, map, IsTrue, IsErrOf, OnOk, OnErr};
+ghost use Rattle.std.specs.Prelude.{◌≡◌, ◌⊎◌, ◌≤◌, ◌++◌, ℕ, List, false, map, IsTrue, IsErrOf, OnOk, OnErr, []};
 ghost use Rattle.std.specs.Option.{option_map};
 ghost use Rattle.nqs_state.specs.State.{Plain};
+ghost use Rattle.nqs_values.specs.Want.{want};
 ghost use Rattle.nqs_types.specs.declared.world.Which.{Which};
 ghost use Rattle.nqs_outside.specs.Causes.{Rose};
 ghost use Rattle.nqs_rules.specs.Starts.{after_change, after_step};
@@ -11,6 +12,7 @@ ghost use Rattle.nqs_store.specs.Sound.{IsSoundHost};
 ghost use Rattle.nqs_back.specs.Bare.{emptied, blank, without_bytes};
 ghost use Rattle.nqs_node.specs.Carried.{IsMade, IsCutBy, IsBrokenOff, IsOneOrOther, IsBlown};
 ghost use Rattle.nqs_node.specs.Planned.{MayBeDone, Does};
+ghost use Rattle.nqs_node.specs.Reading.{AreShort};
 
 use crate::fault::NodeFault;
 use crate::node::Node;
@@ -37,26 +39,36 @@ impl<D: Disk> Node<D> {
         ensures site { (content_of self.new).site ≡ (content_of self.old).site }
         ensures stopped { IsErrOf result NodeFault.Stopped → ⊥ }
         ensures running { OnOk result (is_stopped self.new ≡ false) }
-        ensures broken { (which : Which) → IsErrOf result (NodeFault.Disk which) → IsTrue (is_stopped self.new) × Rose (D.faults (disk_of which self.old)) (D.faults (disk_of which self.new)) }
+        ensures broken { (which : Which) → IsErrOf result (NodeFault.Disk which) → IsTrue (is_stopped self.new)
+            × Rose (D.faults (disk_of which self.old)) (D.faults (disk_of which self.new)) }
         ensures unsaid { OnErr result (out.new.items ≡ out.old.items) }
         ensures later { (which : Which) → D.faults (disk_of which self.old) ≤ D.faults (disk_of which self.new) }
         ensures unmade { OnErr result (content_of self.new ≡ content_of self.old) }
         ensures bare { OnOk result (emptied (content_of self.new) ≡ after_change (option_map blank plan.change) (emptied (content_of self.old))) }
+        ensures short { (done : Stepped (List ℕ)) → Does (λ _. []) plan done → AreShort out.old.items → AreShort (map shown done.outputs)
+            → OnOk result (AreShort out.new.items) }
         ensures alike { OnOk result (map without_bytes out.new.items ≡ map without_bytes out.old.items ++ map without_bytes plan.outputs) }
-        ensures memory { IsTrue D.tells → IsErrOf result NodeFault.Memory → (content_of self.new ≡ content_of self.old) × (is_stopped self.new ≡ is_stopped self.old)
+        ensures memory { IsTrue D.tells → IsErrOf result (NodeFault.Memory want) → (content_of self.new ≡ content_of self.old)
+            × (is_stopped self.new ≡ is_stopped self.old)
             × ((which : Which) → history_of self.new which ≡ history_of self.old which) × ((s : Plain) → Tells self.old s → Tells self.new s) }
-        ensures told { IsTrue D.tells → (s : Plain) → Tells self.old s → (done : Stepped (List ℕ)) → Does (bytes_of self.old) plan done → OnOk result (Tells self.new (after_step done s)) }
-        ensures outputs { IsTrue D.tells → (s : Plain) → Tells self.old s → (done : Stepped (List ℕ)) → Does (bytes_of self.old) plan done → OnOk result (out.new.items ≡ out.old.items ++ map shown done.outputs) }
-        ensures made { IsTrue D.tells → (done : Stepped (List ℕ)) → Does (bytes_of self.old) plan done → OnOk result (IsMade (fails_of self.old) (history_of self.old) (history_of self.new) done.change) }
-        ensures broken_off { IsTrue D.tells → (done : Stepped (List ℕ)) → Does (bytes_of self.old) plan done → OnErr result (IsBrokenOff (history_of self.old) (history_of self.new) done.change) }
-        ensures cut { IsTrue D.tells → (s : Plain) → Tells self.old s → (done : Stepped (List ℕ)) → Does (bytes_of self.old) plan done → (which : Which) → IsErrOf result (NodeFault.Disk which)
+        ensures told { IsTrue D.tells → (s : Plain) → Tells self.old s → (done : Stepped (List ℕ)) → Does (bytes_of self.old) plan done
+            → OnOk result (Tells self.new (after_step done s)) }
+        ensures outputs { IsTrue D.tells → (s : Plain) → Tells self.old s → (done : Stepped (List ℕ)) → Does (bytes_of self.old) plan done
+            → OnOk result (out.new.items ≡ out.old.items ++ map shown done.outputs) }
+        ensures made { IsTrue D.tells → (done : Stepped (List ℕ)) → Does (bytes_of self.old) plan done
+            → OnOk result (IsMade (fails_of self.old) (history_of self.old) (history_of self.new) done.change) }
+        ensures broken_off { IsTrue D.tells → (done : Stepped (List ℕ)) → Does (bytes_of self.old) plan done
+            → OnErr result (IsBrokenOff (history_of self.old) (history_of self.new) done.change) }
+        ensures cut { IsTrue D.tells → (s : Plain) → Tells self.old s → (done : Stepped (List ℕ)) → Does (bytes_of self.old) plan done → (which : Which)
+            → IsErrOf result (NodeFault.Disk which)
             → IsTrue (is_starved self.new which) ⊎ (IsBlown (fails_of self.old which) (history_of self.old which)
             ⊎ IsCutBy (fails_of self.old) (history_of self.old) (history_of self.new) done.change s which) }
         ensures fuse { IsTrue D.tells → (which : Which) (i : ℕ) → fails_of self.new which i ≡ fails_of self.old which i }
-        ensures any_moment { IsTrue D.tells → (s : Plain) → Tells self.old s → (done : Stepped (List ℕ)) → Does (bytes_of self.old) plan done → IsOneOrOther (history_of self.old) (history_of self.new) done.change s }
+        ensures any_moment { IsTrue D.tells → (s : Plain) → Tells self.old s → (done : Stepped (List ℕ)) → Does (bytes_of self.old) plan done
+            → IsOneOrOther (history_of self.old) (history_of self.new) done.change s }
     {
         match out.reserve(plan.outputs.len()) {
-            Err(_) => Err(NodeFault::Memory),
+            Err(refused) => Err(NodeFault::Memory(refused.into())),
             Ok(()) => {
                 let (change, puts, outputs, reads) = plan.into_parts();
                 let mut outputs = outputs.into_vec();
@@ -73,12 +85,13 @@ impl<D: Disk> Node<D> {
                     reads.as_slice(),
                     &mut outputs,
                 ) {
-                    Err(StoreFault::Memory) => {
+                    Err(StoreFault::Memory(memory)) => {
                         self.stopped = false;
-                        Err(NodeFault::Memory)
+                        Err(NodeFault::Memory(memory))
                     }
                     Err(StoreFault::Disk(which)) => Err(NodeFault::Disk(which)),
-                    Err(StoreFault::Stopped) => Err(NodeFault::Stopped),
+                    // The store isn't stopped, as the node wasn't.
+                    Err(StoreFault::Stopped) => unreachable!(),
                     Ok(()) => {
                         self.stopped = false;
                         out.append(&mut outputs).unwrap();

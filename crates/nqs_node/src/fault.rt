@@ -1,6 +1,7 @@
 //! Why a call of a node failed.
 
 ghost use Rattle.std.specs.Prelude.{◌≡◌};
+ghost use Rattle.nqs_values.specs.Want.{want};
 
 use nqs_types::Which;
 use nqs_values::Memory;
@@ -8,11 +9,11 @@ use std::alloc::AllocError;
 use thiserror::Error;
 
 /// Why a call of a node failed.
-#[derive(Clone, Copy, Debug, PartialEq, Eq, Error)]
+#[derive(Debug, PartialEq, Eq, Error, Drop)]
 pub enum NodeFault {
     /// It leaves the state, the outputs and the disks as they were.
     #[error("out of memory")]
-    Memory,
+    Memory(Memory),
     /// A call of this disk failed. The node is stopped: it is to be closed.
     #[error("a disk failed")]
     Disk(Which),
@@ -24,19 +25,19 @@ pub enum NodeFault {
 impl From<Memory> for NodeFault {
     ghost use Rattle.nqs_node.specs.declared.fault.NodeFault.TheVariants as fault;
 
-    ghost from_gives = { λ _ e. e ≡ fault.Memory };
+    ghost from_gives = { λ _ e. e ≡ fault.Memory want };
 
-    fn from(_: Memory) -> NodeFault {
-        NodeFault::Memory
+    fn from(memory: Memory) -> NodeFault {
+        NodeFault::Memory(memory)
     }
 }
 
 impl From<AllocError> for NodeFault {
     ghost use Rattle.nqs_node.specs.declared.fault.NodeFault.TheVariants as fault;
 
-    ghost from_gives = { λ _ e. e ≡ fault.Memory };
+    ghost from_gives = { λ _ e. e ≡ fault.Memory want };
 
-    fn from(_: AllocError) -> NodeFault {
-        NodeFault::Memory
+    fn from(refused: AllocError) -> NodeFault {
+        NodeFault::Memory(refused.into())
     }
 }

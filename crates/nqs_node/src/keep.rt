@@ -3,8 +3,8 @@
 ghost use Rattle.std.specs.Prelude.{◌≡◌, ◌⊎◌, ◌≤◌, ℕ, List, false, IsTrue, IsErrOf, OnOk, OnErr, IfErr, length};
 ghost use Rattle.std.specs.List.{AllByRecursion};
 ghost use Rattle.nqs_state.specs.State.{content};
+ghost use Rattle.nqs_values.specs.Want.{want};
 ghost use Rattle.nqs_types.specs.declared.world.Which.{Which};
-ghost use Rattle.nqs_types.specs.declared.world.Which.TheVariants.{First, Spool};
 ghost use Rattle.nqs_outside.specs.Causes.{Rose};
 ghost use Rattle.nqs_rules.specs.Applied.{applied};
 ghost use Rattle.nqs_rules.specs.Filled.{filled};
@@ -12,10 +12,9 @@ ghost use Rattle.nqs_rules.specs.Fits.{fits};
 ghost use Rattle.nqs_rules.specs.Sane.{is_sane_change};
 ghost use Rattle.nqs_rules.specs.Stepped.{stored_parts};
 ghost use Rattle.nqs_records.specs.Changes.{MayStand};
-ghost use Rattle.nqs_store.specs.Commits.{IsKept, IsCutAt};
+ghost use Rattle.nqs_store.specs.Commits.{IsKept, IsCutAt, Keeping};
 ghost use Rattle.nqs_store.specs.Faults.{IsCommitFault};
-ghost use Rattle.nqs_store.specs.Hosts.{EachMoment, StopsShort};
-ghost use Rattle.nqs_store.specs.Images.{TellsOneOf};
+ghost use Rattle.nqs_store.specs.Hosts.{StopsShort};
 ghost use Rattle.nqs_store.specs.Plan.{CommitsBy};
 ghost use Rattle.nqs_store.specs.Puts.{IsShortPut};
 ghost use Rattle.nqs_store.specs.Sound.{IsSoundHost};
@@ -29,10 +28,11 @@ use nqs_rules::order_laws::{consistent_is_kept, order_is_kept};
 use nqs_state::HostState;
 use nqs_store::{Store, StoreFault};
 use nqs_types::Change;
-use nqs_values::{Bytes, Memory};
+use nqs_values::Bytes;
 use std::alloc::Global;
 
-/// Keeps a change of the host, and makes it. `Memory` comes before the first call of a disk; an `Err` makes no change.
+/// Keeps a change of the host, and makes it. `Memory` comes before the first call of a disk; an
+/// `Err` makes no change.
 pub(crate) fn keep<D: Disk>(
     alloc: Global,
     store: &mut Store<D>,
@@ -52,23 +52,28 @@ pub(crate) fn keep<D: Disk>(
     ensures bare { OnOk result (emptied (content state.new) ≡ applied (blank change) (emptied (content state.old))) }
     ensures stopped { IsErrOf result StoreFault.Stopped → IsTrue (is_stopped store.old) }
     ensures running { OnOk result (is_stopped store.new ≡ false) }
-    ensures broken { (which : Which) → IsErrOf result (StoreFault.Disk which) → IsTrue (is_stopped store.new) × Rose (D.faults (disk_of which store.old)) (D.faults (disk_of which store.new)) }
+    ensures broken { (which : Which) → IsErrOf result (StoreFault.Disk which) → IsTrue (is_stopped store.new)
+        × Rose (D.faults (disk_of which store.old)) (D.faults (disk_of which store.new)) }
     ensures only { IfErr result IsCommitFault }
-    ensures memory { IsErrOf result StoreFault.Memory → ((which : Which) → disk_of which store.new ≡ disk_of which store.old) × (is_stopped store.new ≡ is_stopped store.old)
+    ensures memory { IsErrOf result (StoreFault.Memory want) → ((which : Which) → disk_of which store.new ≡ disk_of which store.old)
+        × (is_stopped store.new ≡ is_stopped store.old)
         × ((host : Host) → Tells store.old host → Tells store.new host) }
     ensures later { (which : Which) → D.faults (disk_of which store.old) ≤ D.faults (disk_of which store.new) }
     ensures told { IsTrue D.tells → Tells store.old (content state.old) → OnOk result (Tells store.new (content state.new)) }
-    ensures plain { IsTrue D.tells → Tells store.old (content state.old) → OnOk result (plain_of store.new (content state.new) ≡ applied (filled change puts.now) (plain_of store.old (content state.old))) }
+    ensures plain { IsTrue D.tells → Tells store.old (content state.old)
+        → OnOk result (plain_of store.new (content state.new) ≡ applied (filled change puts.now) (plain_of store.old (content state.old))) }
     ensures made { IsTrue D.tells → OnOk result (IsKept (fails_of store.old) puts.now (history_of store.old) (history_of store.new)) }
     ensures broken_off { IsTrue D.tells → OnErr result (CommitsBy StopsShort puts.now (history_of store.old) (history_of store.new)) }
-    ensures cut { IsTrue D.tells → Tells store.old (content state.old) → (which : Which) → IsErrOf result (StoreFault.Disk which) → IsTrue (is_starved store.new which)
-        ⊎ IsCutAt (fails_of store.old) puts.now (history_of store.old) (history_of store.new) (plain_of store.old (content state.old)) (applied (filled change puts.now) (plain_of store.old (content state.old))) which }
+    ensures cut { IsTrue D.tells → Tells store.old (content state.old) → (which : Which) → IsErrOf result (StoreFault.Disk which)
+        → IsTrue (is_starved store.new which) ⊎ IsCutAt (fails_of store.old) puts.now (history_of store.old) (history_of store.new)
+        (plain_of store.old (content state.old)) (applied (filled change puts.now) (plain_of store.old (content state.old))) which }
     ensures fuse { IsTrue D.tells → (which : Which) (i : ℕ) → fails_of store.new which i ≡ fails_of store.old which i }
     ensures any_moment { IsTrue D.tells → Tells store.old (content state.old)
-        → EachMoment (history_of store.old) (history_of store.new) (λ images. TellsOneOf (plain_of store.old (content state.old)) (applied (filled change puts.now) (plain_of store.old (content state.old))) (images First) (images Spool)) }
+        → Keeping puts.now (history_of store.old) (history_of store.new) (plain_of store.old (content state.old))
+        (applied (filled change puts.now) (plain_of store.old (content state.old))) }
 {
     match state.make_room(&change) {
-        Err(Memory) => Err(StoreFault::Memory),
+        Err(memory) => Err(StoreFault::Memory(memory)),
         Ok(()) => {
             let mut change = change;
             match store.commit(alloc, state, &mut change, puts) {

@@ -1,8 +1,10 @@
 //! A node: a host's state, and the store that keeps it.
 
-ghost use Rattle.std.specs.Prelude.{◌≡◌, ◌≢◌, ◌⊎◌, ◌↔◌, ◌<◌, ◌≤◌, ◌+◌, ◌-◌, ◌++◌, ℕ, Bool, List, IsTrue, IsErrOf, OnOk, OnErr, IfOk, IfErr, false, length, map, max, nat_le, is_some};
+ghost use Rattle.std.specs.Prelude.{◌≡◌, ◌≢◌, ◌⊎◌, ◌↔◌, ◌<◌, ◌≤◌, ◌+◌, ◌-◌, ◌++◌, ℕ, Bool, List, IsTrue, IsErrOf, OnOk, OnErr, IfOk, IfErr, false, length, map};
+ghost use Rattle.std.specs.Prelude.{max, nat_le, is_some};
 ghost use Rattle.std.specs.Option.{option_map};
 ghost use Rattle.nqs_state.specs.State.{Plain, content};
+ghost use Rattle.nqs_values.specs.Want.{want};
 ghost use Rattle.nqs_types.specs.declared.world.Which.{Which};
 ghost use Rattle.nqs_outside.specs.Causes.{Rose};
 ghost use Rattle.nqs_outside.specs.History.{moment};
@@ -19,6 +21,7 @@ ghost use Rattle.nqs_back.specs.Back.{comebacks, comes_back};
 ghost use Rattle.nqs_back.specs.Bare.{emptied, without_bytes};
 ghost use Rattle.nqs_node.specs.Carried.{started, IsMade, IsCutBy, IsBrokenOff, IsOneOrOther, IsBlown};
 ghost use Rattle.nqs_node.specs.Idle.{is_idle};
+ghost use Rattle.nqs_node.specs.Reading.{AreShort};
 
 use crate::fault::NodeFault;
 use nqs_kept::laws::{
@@ -42,7 +45,8 @@ pub struct Node<D: Disk> {
     pub(crate) store: Store<D>,
     pub(crate) state: HostState,
     pub(crate) stopped: bool,
-    // The moment, in seconds since 1970, at which a look found nothing to start, if no change was made since.
+    // The moment, in seconds since 1970, at which a look found nothing to start, if no change was
+    // made since.
     pub(crate) idle: Option<u64>,
     ghost running: { stopped ≡ false → is_store_stopped store ≡ false },
     ghost rests: { IsTrue (is_idle idle (content state)) },
@@ -66,29 +70,43 @@ impl<D: Disk> Node<D> {
         ensures stopped { IsErrOf result NodeFault.Stopped ↔ IsTrue (is_stopped self.old) }
         ensures refused { IsErrOf result NodeFault.Stopped → (self.new ≡ self.old) × (out.new ≡ out.old) }
         ensures running { OnOk result (is_stopped self.new ≡ false) }
-        ensures broken { (which : Which) → IsErrOf result (NodeFault.Disk which) → IsTrue (is_stopped self.new) × Rose (D.faults (disk_of which self.old)) (D.faults (disk_of which self.new)) }
+        ensures broken { (which : Which) → IsErrOf result (NodeFault.Disk which) → IsTrue (is_stopped self.new)
+            × Rose (D.faults (disk_of which self.old)) (D.faults (disk_of which self.new)) }
         ensures unsaid { OnErr result (out.new.items ≡ out.old.items) }
         // No disk's count of faults falls.
         ensures later { (which : Which) → D.faults (disk_of which self.old) ≤ D.faults (disk_of which self.new) }
-        ensures memory { IsTrue D.tells → IsErrOf result NodeFault.Memory → (content_of self.new ≡ content_of self.old) × (is_stopped self.new ≡ is_stopped self.old)
+        ensures memory { IsTrue D.tells → IsErrOf result (NodeFault.Memory want) → (content_of self.new ≡ content_of self.old)
+            × (is_stopped self.new ≡ is_stopped self.old)
             × ((which : Which) → history_of self.new which ≡ history_of self.old which) × ((s : Plain) → Tells self.old s → Tells self.new s) }
         ensures unmade { OnErr result (content_of self.new ≡ content_of self.old) }
 
-        // Over whatever disks: at Ok its state is that after the step, and what goes out is the step's, but for the bytes that are kept.
+        // Over whatever disks: at Ok its state is that after the step, and what goes out is the
+        // step's, but for the bytes that are kept.
         ensures bare { OnOk result (bare self.new ≡ emptied (after_step (step event.now (bare self.old)) (bare self.old))) }
-        ensures alike { OnOk result (map without_bytes out.new.items ≡ map without_bytes out.old.items ++ map without_bytes (map shown (step event.now (bare self.old)).outputs)) }
+        ensures alike { OnOk result (map without_bytes out.new.items
+            ≡ map without_bytes out.old.items ++ map without_bytes (map shown (step event.now (bare self.old)).outputs)) }
 
-        // After an event that came back no more may start than before, and nothing goes out of which another comes back.
+        // Whatever the disks are, what is sent carries no more than may be sent, where what the
+        // step sends does without its bytes.
+        ensures short { AreShort out.old.items → AreShort (map shown (step event.now (bare self.old)).outputs) → OnOk result (AreShort out.new.items) }
+
+        // After an event that came back no more may start than before, and nothing goes out of
+        // which another comes back.
         ensures no_more { IsTrue (comes_back event.now) → OnOk result (starts_left (content_of self.new) ≤ starts_left (content_of self.old)) }
         ensures none_back { IsTrue (comes_back event.now) → OnOk result (comebacks out.new.items ≡ comebacks out.old.items) }
 
-        // At Ok its state is that after the step, and its disks tell it; what goes out is the step's.
+        // At Ok its state is that after the step, and its disks tell it; what goes out is the
+        // step's.
         ensures told { IsTrue D.tells → (s : Plain) → Tells self.old s → OnOk result (Tells self.new (after_step (step event.now s) s)) }
-        ensures outputs { IsTrue D.tells → (s : Plain) → Tells self.old s → OnOk result (out.new.items ≡ out.old.items ++ map shown (step event.now s).outputs) }
+        ensures outputs { IsTrue D.tells → (s : Plain) → Tells self.old s
+            → OnOk result (out.new.items ≡ out.old.items ++ map shown (step event.now s).outputs) }
 
-        // The calls that it makes: at Ok just those of the change's commit, else a part of them, of which only the last may have failed.
-        ensures made { IsTrue D.tells → (s : Plain) → Tells self.old s → OnOk result (IsMade (fails_of self.old) (history_of self.old) (history_of self.new) (step event.now s).change) }
-        ensures broken_off { IsTrue D.tells → (s : Plain) → Tells self.old s → OnErr result (IsBrokenOff (history_of self.old) (history_of self.new) (step event.now s).change) }
+        // The calls that it makes: at Ok just those of the change's commit, else a part of them, of
+        // which only the last may have failed.
+        ensures made { IsTrue D.tells → (s : Plain) → Tells self.old s
+            → OnOk result (IsMade (fails_of self.old) (history_of self.old) (history_of self.new) (step event.now s).change) }
+        ensures broken_off { IsTrue D.tells → (s : Plain) → Tells self.old s
+            → OnErr result (IsBrokenOff (history_of self.old) (history_of self.new) (step event.now s).change) }
 
         // Which of them fails is the disk's to say, unless it is starved.
         ensures cut { IsTrue D.tells → (s : Plain) → Tells self.old s → (which : Which) → IsErrOf result (NodeFault.Disk which)
@@ -96,8 +114,10 @@ impl<D: Disk> Node<D> {
             ⊎ IsCutBy (fails_of self.old) (history_of self.old) (history_of self.new) (step event.now s).change s which) }
         ensures fuse { IsTrue D.tells → (which : Which) (i : ℕ) → fails_of self.new which i ≡ fails_of self.old which i }
 
-        // At each moment, whatever images the disks may leave, they tell the state before the step or the one after it.
-        ensures any_moment { IsTrue D.tells → (s : Plain) → Tells self.old s → IsOneOrOther (history_of self.old) (history_of self.new) (step event.now s).change s }
+        // At each moment, whatever images the disks may leave, they tell the state before the step
+        // or the one after it.
+        ensures any_moment { IsTrue D.tells → (s : Plain) → Tells self.old s
+            → IsOneOrOther (history_of self.old) (history_of self.new) (step event.now s).change s }
     {
         if self.stopped {
             return Err(NodeFault::Stopped);
@@ -108,12 +128,13 @@ impl<D: Disk> Node<D> {
         stored_bytes_are_short();
         outputs_read_live_extents();
         match step(alloc, &self.state, event) {
-            Err(Memory) => Err(NodeFault::Memory),
+            Err(memory) => Err(NodeFault::Memory(memory)),
             Ok(plan) => self.carry_out(alloc, plan, out),
         }
     }
 
-    // The plan of what is started next. It goes over the rows only where it isn't known that nothing may start.
+    // The plan of what is started next. It goes over the rows only where it isn't known that
+    // nothing may start.
     fn look(&self, alloc: Global, now: u64) -> Result<Option<Plan>, Memory>
         requires { IsSoundHost (content_of self.now) }
         ensures { IfOk result (λ plan. plan ≡ option_map plan_of (start now (content_of self.now))) }
@@ -124,8 +145,9 @@ impl<D: Disk> Node<D> {
         start(alloc, &self.state, now)
     }
 
-    /// Starts the next request, if one may start: `false` where none may. `Memory` and `Stopped` leave all as it was.
-    /// Where the last such call at this moment found none, and no change was made since, it doesn't look again.
+    /// Starts the next request, if one may start: `false` where none may. `Memory` and `Stopped`
+    /// leave all as it was. Where the last such call at this moment found none, and no change was
+    /// made since, it doesn't look again.
     pub fn start_next(
         &mut self,
         alloc: Global,
@@ -138,11 +160,13 @@ impl<D: Disk> Node<D> {
         ensures stopped { IsErrOf result NodeFault.Stopped ↔ IsTrue (is_stopped self.old) }
         ensures refused { IsErrOf result NodeFault.Stopped → (self.new ≡ self.old) × (out.new ≡ out.old) }
         ensures running { OnOk result (is_stopped self.new ≡ false) }
-        ensures broken { (which : Which) → IsErrOf result (NodeFault.Disk which) → IsTrue (is_stopped self.new) × Rose (D.faults (disk_of which self.old)) (D.faults (disk_of which self.new)) }
+        ensures broken { (which : Which) → IsErrOf result (NodeFault.Disk which) → IsTrue (is_stopped self.new)
+            × Rose (D.faults (disk_of which self.old)) (D.faults (disk_of which self.new)) }
         ensures unsaid { OnErr result (out.new.items ≡ out.old.items) }
         // No disk's count of faults falls.
         ensures later { (which : Which) → D.faults (disk_of which self.old) ≤ D.faults (disk_of which self.new) }
-        ensures memory { IsTrue D.tells → IsErrOf result NodeFault.Memory → (content_of self.new ≡ content_of self.old) × (is_stopped self.new ≡ is_stopped self.old)
+        ensures memory { IsTrue D.tells → IsErrOf result (NodeFault.Memory want) → (content_of self.new ≡ content_of self.old)
+            × (is_stopped self.new ≡ is_stopped self.old)
             × ((which : Which) → history_of self.new which ≡ history_of self.old which) × ((s : Plain) → Tells self.old s → Tells self.new s) }
         ensures unmade { OnErr result (content_of self.new ≡ content_of self.old) }
 
@@ -152,21 +176,31 @@ impl<D: Disk> Node<D> {
         // Where none may start, nothing happens.
         ensures idle { IfOk result (λ more. more ≡ false → (content_of self.new ≡ content_of self.old) × (out.new.items ≡ out.old.items)) }
 
-        // Over whatever disks: at Ok its state is that after the start, and what goes out is the start's, but for the bytes that are kept.
+        // Over whatever disks: at Ok its state is that after the start, and what goes out is the
+        // start's, but for the bytes that are kept.
         ensures bare { OnOk result (bare self.new ≡ emptied (after_step (started now (bare self.old)) (bare self.old))) }
-        ensures alike { OnOk result (map without_bytes out.new.items ≡ map without_bytes out.old.items ++ map without_bytes (map shown (started now (bare self.old)).outputs)) }
+        ensures alike { OnOk result (map without_bytes out.new.items
+            ≡ map without_bytes out.old.items ++ map without_bytes (map shown (started now (bare self.old)).outputs)) }
+
+        // Whatever the disks are, what is sent carries no more than may be sent, where what the
+        // start sends does without its bytes.
+        ensures short { AreShort out.old.items → AreShort (map shown (started now (bare self.old)).outputs) → OnOk result (AreShort out.new.items) }
 
         // Each start lowers how many there may still be, and of each at most one event comes back.
         ensures fewer { IfOk result (λ more. IsTrue more → starts_left (content_of self.new) < starts_left (content_of self.old)) }
         ensures one_back { OnOk result (comebacks out.new.items ≤ comebacks out.old.items + 1) }
 
-        // At Ok its state is that after the start, and its disks tell it; what goes out is the start's.
+        // At Ok its state is that after the start, and its disks tell it; what goes out is the
+        // start's.
         ensures told { IsTrue D.tells → (s : Plain) → Tells self.old s → OnOk result (Tells self.new (after_step (started now s) s)) }
         ensures outputs { IsTrue D.tells → (s : Plain) → Tells self.old s → OnOk result (out.new.items ≡ out.old.items ++ map shown (started now s).outputs) }
 
-        // The calls that it makes: at Ok just those of the change's commit, else a part of them, of which only the last may have failed.
-        ensures made { IsTrue D.tells → (s : Plain) → Tells self.old s → OnOk result (IsMade (fails_of self.old) (history_of self.old) (history_of self.new) (started now s).change) }
-        ensures broken_off { IsTrue D.tells → (s : Plain) → Tells self.old s → OnErr result (IsBrokenOff (history_of self.old) (history_of self.new) (started now s).change) }
+        // The calls that it makes: at Ok just those of the change's commit, else a part of them, of
+        // which only the last may have failed.
+        ensures made { IsTrue D.tells → (s : Plain) → Tells self.old s
+            → OnOk result (IsMade (fails_of self.old) (history_of self.old) (history_of self.new) (started now s).change) }
+        ensures broken_off { IsTrue D.tells → (s : Plain) → Tells self.old s
+            → OnErr result (IsBrokenOff (history_of self.old) (history_of self.new) (started now s).change) }
 
         // Which of them fails is the disk's to say, unless it is starved.
         ensures cut { IsTrue D.tells → (s : Plain) → Tells self.old s → (which : Which) → IsErrOf result (NodeFault.Disk which)
@@ -174,8 +208,10 @@ impl<D: Disk> Node<D> {
             ⊎ IsCutBy (fails_of self.old) (history_of self.old) (history_of self.new) (started now s).change s which) }
         ensures fuse { IsTrue D.tells → (which : Which) (i : ℕ) → fails_of self.new which i ≡ fails_of self.old which i }
 
-        // At each moment, whatever images the disks may leave, they tell the state before the start or the one after it.
-        ensures any_moment { IsTrue D.tells → (s : Plain) → Tells self.old s → IsOneOrOther (history_of self.old) (history_of self.new) (started now s).change s }
+        // At each moment, whatever images the disks may leave, they tell the state before the start
+        // or the one after it.
+        ensures any_moment { IsTrue D.tells → (s : Plain) → Tells self.old s
+            → IsOneOrOther (history_of self.old) (history_of self.new) (started now s).change s }
     {
         if self.stopped {
             return Err(NodeFault::Stopped);
@@ -186,7 +222,7 @@ impl<D: Disk> Node<D> {
         stored_bytes_are_short();
         outputs_read_live_extents();
         match self.look(alloc, now) {
-            Err(Memory) => Err(NodeFault::Memory),
+            Err(memory) => Err(NodeFault::Memory(memory)),
             Ok(None) => {
                 self.idle = Some(now);
                 Ok(false)
@@ -223,7 +259,11 @@ impl<D: Disk> Node<D> {
     pub fn reread(&mut self, alloc: Global) -> Result<HostState, LoadFault>
         ensures told { IsTrue D.tells → (s : Plain) → Tells self.old s → IfOk result (λ state. content state ≡ content_of self.old) }
         ensures never { IsTrue D.tells → (s : Plain) → Tells self.old s → (which : Which) (place : ℕ) → IsErrOf result (LoadFault.NotNqs which place) → ⊥ }
-        ensures failed { (which : Which) → IsErrOf result (LoadFault.Disk which) → Rose (D.faults (disk_of which self.old)) (D.faults (disk_of which self.new)) }
+        ensures failed { (which : Which) → IsErrOf result (LoadFault.Disk which)
+            → Rose (D.faults (disk_of which self.old)) (D.faults (disk_of which self.new)) }
+        // Only after a call that was to fail.
+        ensures cause { IsTrue D.tells → (which : Which) → IsErrOf result (LoadFault.Disk which)
+            → IsBlown (fails_of self.old which) (history_of self.old which) }
         ensures state { content_of self.new ≡ content_of self.old }
         ensures stays { is_stopped self.new ≡ is_stopped self.old }
         ensures same { IsTrue D.tells → (which : Which) → history_of self.new which ≡ history_of self.old which }
@@ -237,7 +277,8 @@ impl<D: Disk> Node<D> {
 impl<D: Fused> Node<D> {
     ghost use Rattle.nqs_node.specs.Nodes.{disk_of, history_of, fails_of, is_starved, content_of, is_stopped, Tells};
 
-    /// Makes the calls-th write or sync from here of the disk fail, and each later call of it. It changes nothing else.
+    /// Makes the calls-th write or sync from here of the disk fail, and each later call of it. It
+    /// changes nothing else.
     pub fn fuse(&mut self, which: Which, calls: u64)
         ensures same { (disk : Which) → history_of self.new disk ≡ history_of self.old disk }
         ensures set { IsTrue D.tells → ((i : ℕ) → i < moment (history_of self.old which) → fails_of self.old which i ≡ false)

@@ -1,8 +1,9 @@
 //! What is planned is read, kept and made, all over the disks of a host.
 
-ghost use Rattle.std.specs.Prelude.{◌≡◌, ◌⊎◌, ◌≤◌, ℕ, List, Option, false, IsTrue, IsErrOf, OnOk, OnErr, IfSome, length, map};
+ghost use Rattle.std.specs.Prelude.{◌≡◌, ◌⊎◌, ◌≤◌, ℕ, List, Option, false, IsTrue, IsErrOf, OnOk, OnErr, IfSome, length, map, []};
 ghost use Rattle.std.specs.Option.{option_map};
 ghost use Rattle.nqs_state.specs.State.{content};
+ghost use Rattle.nqs_values.specs.Want.{want};
 ghost use Rattle.nqs_types.specs.declared.world.Which.{Which};
 ghost use Rattle.nqs_outside.specs.Causes.{Rose};
 ghost use Rattle.nqs_rules.specs.Starts.{after_change};
@@ -13,7 +14,7 @@ ghost use Rattle.nqs_back.specs.Bare.{emptied, blank, without_bytes};
 ghost use Rattle.nqs_node.specs.Carried.{Kept, IsMade, IsCutBy, IsBrokenOff, IsOneOrOther, IsBlown};
 ghost use Rattle.nqs_node.specs.Idle.{is_idle};
 ghost use Rattle.nqs_node.specs.Planned.{MayBeKept, IsKeptWith};
-ghost use Rattle.nqs_node.specs.Reading.{read_into, AreLiveReads};
+ghost use Rattle.nqs_node.specs.Reading.{read_into, AreLiveReads, AreShort};
 
 use crate::keep::keep;
 use crate::reads::read_all;
@@ -25,8 +26,8 @@ use nqs_types::{Change, Output, PlanRead};
 use nqs_values::Bytes;
 use std::alloc::Global;
 
-/// Reads the bytes of the outputs, keeps the change and makes it. What fails before the first counted call leaves all
-/// as it was but the outputs.
+/// Reads the bytes of the outputs, keeps the change and makes it. What fails before the first
+/// counted call leaves all as it was but the outputs.
 pub(crate) fn perform<D: Disk>(
     alloc: Global,
     store: &mut Store<D>,
@@ -49,22 +50,30 @@ pub(crate) fn perform<D: Disk>(
     ensures stopped { IsErrOf result StoreFault.Stopped → ⊥ }
     ensures running { OnOk result (is_stopped store.new ≡ false) }
     ensures broken { (which : Which) → IsErrOf result (StoreFault.Disk which) → Rose (D.faults (disk_of which store.old)) (D.faults (disk_of which store.new)) }
+    ensures short { AreShort (read_into (λ _. []) reads.now outputs.old.items) → OnOk result (AreShort outputs.new.items) }
     ensures as_many { length outputs.new.items ≡ length outputs.old.items }
     ensures later { (which : Which) → D.faults (disk_of which store.old) ≤ D.faults (disk_of which store.new) }
     ensures bare { OnOk result (emptied (content state.new) ≡ after_change (option_map blank change) (emptied (content state.old))) }
     ensures alike { map without_bytes outputs.new.items ≡ map without_bytes outputs.old.items }
-    ensures memory { IsErrOf result StoreFault.Memory → is_stopped store.new ≡ false }
-    ensures unchanged { IsTrue D.tells → IsErrOf result StoreFault.Memory → ((which : Which) → history_of store.new which ≡ history_of store.old which) × ((host : Host) → Tells store.old host → Tells store.new host) }
+    ensures memory { IsErrOf result (StoreFault.Memory want) → is_stopped store.new ≡ false }
+    ensures unchanged { IsTrue D.tells → IsErrOf result (StoreFault.Memory want) → ((which : Which) → history_of store.new which ≡ history_of store.old which)
+        × ((host : Host) → Tells store.old host → Tells store.new host) }
     ensures told { IsTrue D.tells → Tells store.old (content state.old) → OnOk result (Tells store.new (content state.new)) }
     ensures plain { IsTrue D.tells → Tells store.old (content state.old) → (kept : Kept) → IsKeptWith change puts.now kept
         → OnOk result (plain_of store.new (content state.new) ≡ after_change kept (plain_of store.old (content state.old))) }
-    ensures outputs { IsTrue D.tells → Tells store.old (content state.old) → OnOk result (outputs.new.items ≡ read_into (bytes_of store.old) reads.now outputs.old.items) }
-    ensures made { IsTrue D.tells → (kept : Kept) → IsKeptWith change puts.now kept → OnOk result (IsMade (fails_of store.old) (history_of store.old) (history_of store.new) kept) }
-    ensures broken_off { IsTrue D.tells → (kept : Kept) → IsKeptWith change puts.now kept → OnErr result (IsBrokenOff (history_of store.old) (history_of store.new) kept) }
-    ensures cut { IsTrue D.tells → Tells store.old (content state.old) → (kept : Kept) → IsKeptWith change puts.now kept → (which : Which) → IsErrOf result (StoreFault.Disk which) → IsTrue (is_starved store.new which)
-        ⊎ (IsBlown (fails_of store.old which) (history_of store.old which) ⊎ IsCutBy (fails_of store.old) (history_of store.old) (history_of store.new) kept (plain_of store.old (content state.old)) which) }
+    ensures outputs { IsTrue D.tells → Tells store.old (content state.old)
+        → OnOk result (outputs.new.items ≡ read_into (bytes_of store.old) reads.now outputs.old.items) }
+    ensures made { IsTrue D.tells → (kept : Kept) → IsKeptWith change puts.now kept
+        → OnOk result (IsMade (fails_of store.old) (history_of store.old) (history_of store.new) kept) }
+    ensures broken_off { IsTrue D.tells → (kept : Kept) → IsKeptWith change puts.now kept
+        → OnErr result (IsBrokenOff (history_of store.old) (history_of store.new) kept) }
+    ensures cut { IsTrue D.tells → Tells store.old (content state.old) → (kept : Kept) → IsKeptWith change puts.now kept → (which : Which)
+        → IsErrOf result (StoreFault.Disk which) → IsTrue (is_starved store.new which)
+        ⊎ (IsBlown (fails_of store.old which) (history_of store.old which)
+        ⊎ IsCutBy (fails_of store.old) (history_of store.old) (history_of store.new) kept (plain_of store.old (content state.old)) which) }
     ensures fuse { IsTrue D.tells → (which : Which) (i : ℕ) → fails_of store.new which i ≡ fails_of store.old which i }
-    ensures any_moment { IsTrue D.tells → Tells store.old (content state.old) → (kept : Kept) → IsKeptWith change puts.now kept → IsOneOrOther (history_of store.old) (history_of store.new) kept (plain_of store.old (content state.old)) }
+    ensures any_moment { IsTrue D.tells → Tells store.old (content state.old) → (kept : Kept) → IsKeptWith change puts.now kept
+        → IsOneOrOther (history_of store.old) (history_of store.new) kept (plain_of store.old (content state.old)) }
 {
     match read_all(alloc, store, reads, outputs) {
         Err(fault) => Err(fault),

@@ -1,6 +1,7 @@
 //! The bytes of outputs are read from the spool, before anything is kept.
 
-ghost use Rattle.std.specs.Prelude.{◌≡◌, ◌<◌, ◌≤◌, ℕ, IsTrue, IsErrOf, OnOk, IfErr, length, map};
+ghost use Rattle.std.specs.Prelude.{◌≡◌, ◌<◌, ◌≤◌, ℕ, IsTrue, IsErrOf, OnOk, IfErr, length, map, [], List};
+ghost use Rattle.std.specs.List.{AllByRecursion};
 ghost use Rattle.nqs_types.specs.declared.world.Which.{Which};
 ghost use Rattle.nqs_types.specs.declared.world.Which.TheVariants.{Spool};
 ghost use Rattle.nqs_outside.specs.Causes.{Rose};
@@ -12,7 +13,7 @@ ghost use Rattle.nqs_store.specs.Stores.{disk_of, history_of, fails_of, is_starv
 ghost use Rattle.nqs_store.specs.Told.{Host};
 ghost use Rattle.nqs_back.specs.Bare.{without_bytes};
 ghost use Rattle.nqs_node.specs.Carried.{IsBlown};
-ghost use Rattle.nqs_node.specs.Reading.{read_into, IsLiveRead, AreLiveReads};
+ghost use Rattle.nqs_node.specs.Reading.{read_into, IsLiveRead, AreLiveReads, IsShortRead, AreShort};
 
 use nqs_outside::Disk;
 use nqs_store::{Store, StoreFault};
@@ -64,6 +65,9 @@ fn read_one<D: Disk>(
     ensures only { IfErr result IsScriptFault }
     ensures filled { IsTrue D.tells → (host : Host) → Tells store.old host → IsLiveRead host read.now
         → OnOk result (outputs.new.items ≡ change_at read.now.output (with_bytes (bytes_of store.old read.now.extent)) outputs.old.items) }
+    // Whatever the disk is, no more bytes are read than the extent has.
+    ensures few { OnOk result ((bytes : List ℕ) × (length bytes ≤ read.now.extent.length)
+        × (outputs.new.items ≡ change_at read.now.output (with_bytes bytes) outputs.old.items)) }
     ensures as_many { length outputs.new.items ≡ length outputs.old.items }
     ensures alike { map without_bytes outputs.new.items ≡ map without_bytes outputs.old.items }
     ensures failed { IsErrOf result (StoreFault.Disk Spool) → Rose (D.faults (disk_of Spool store.old)) (D.faults (disk_of Spool store.new)) }
@@ -85,7 +89,8 @@ fn read_one<D: Disk>(
     }
 }
 
-/// Reads the bytes of outputs, each at its place. It makes no call that is counted, and keeps nothing.
+/// Reads the bytes of outputs, each at its place. It makes no call that is counted, and keeps
+/// nothing.
 pub(crate) fn read_all<D: Disk>(
     alloc: Global,
     store: &mut Store<D>,
@@ -94,7 +99,10 @@ pub(crate) fn read_all<D: Disk>(
 ) -> Result<(), StoreFault>
     ensures stopped { IsErrOf result StoreFault.Stopped → IsTrue (is_stopped store.old) }
     ensures only { IfErr result IsScriptFault }
-    ensures filled { IsTrue D.tells → (host : Host) → Tells store.old host → AreLiveReads host reads.now → OnOk result (outputs.new.items ≡ read_into (bytes_of store.old) reads.now outputs.old.items) }
+    ensures filled { IsTrue D.tells → (host : Host) → Tells store.old host → AreLiveReads host reads.now
+        → OnOk result (outputs.new.items ≡ read_into (bytes_of store.old) reads.now outputs.old.items) }
+    ensures short { AllByRecursion IsShortRead reads.now → AreShort (read_into (λ _. []) reads.now outputs.old.items)
+        → OnOk result (AreShort outputs.new.items) }
     ensures as_many { length outputs.new.items ≡ length outputs.old.items }
     ensures alike { map without_bytes outputs.new.items ≡ map without_bytes outputs.old.items }
     ensures failed { IsErrOf result (StoreFault.Disk Spool) → Rose (D.faults (disk_of Spool store.old)) (D.faults (disk_of Spool store.new)) }

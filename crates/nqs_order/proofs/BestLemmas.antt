@@ -1,5 +1,6 @@
 -- Searches for the best: what a value changes, and when there is one.
-use Rattle.std.proofs.Common.{true≢false, ◌≡◌, ℕ, ◌+◌, ◌-◌, ◌<◌, ◌||◌, Bool, true, false, List, [], ◌∷◌, drop, Option, None, Some, is_some, slice_get, sym, refl, ap, ◌∙◌, arith, if◌then◌else◌}
+use Rattle.std.proofs.Common.{true≢false, ◌≡◌, ℕ, ◌+◌, ◌-◌, ◌<◌, ◌||◌, Bool, true, false, List, [], ◌∷◌, drop, Option, None, Some, is_some, slice_get, sym}
+use Rattle.std.proofs.Common.{refl, ap, ◌∙◌, arith, if◌then◌else◌}
 use Rattle.std.specs.List.{list_any}
 use Rattle.nqs_keyed.specs.Table.{better, best_from}
 use Rattle.nqs_keyed.proofs.TableLemmas.{drop-at}
@@ -61,6 +62,7 @@ module _ {V : Type 0} (test weaker : V → Bool) (implied : (v : V) → weaker v
   none-passes [] none = refl
   none-passes (v ∷ vs) none = by (weaker v) refl (none-passes vs) none
     where
-      by : (b : Bool) → weaker v ≡ b → (list_any weaker vs ≡ false → list_any test vs ≡ false) → (b || list_any weaker vs) ≡ false → (test v || list_any test vs) ≡ false
+      by : (b : Bool) → weaker v ≡ b → (list_any weaker vs ≡ false → list_any test vs ≡ false) → (b || list_any weaker vs) ≡ false
+          → (test v || list_any test vs) ≡ false
       by true is rest some = absurd (true≢false some)
       by false is rest some = ap (λ (b : Bool). b || list_any test vs) (implied v is) ∙ rest some

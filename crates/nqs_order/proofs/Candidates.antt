@@ -10,10 +10,12 @@ use Rattle.nqs_order.proofs.BestLemmas.{is_some-best, none-passes}
 
 module _ {E : Type 0} (d : QueueDef) (now : ℕ) (s : State E) where
   eligible_waits : (r : Row E) → is_waiting d now r ≡ false → is_eligible d now s r ≡ false
-  eligible_waits r none = ap (λ (b : Bool). b && below (length (filter (is_active_of d.name r.job.owner) s.rows)) d.user_limit && kind_allows d.kind d now s r) none
+  eligible_waits r none = ap (λ (b : Bool). b && below (length (filter (is_active_of d.name r.job.owner) s.rows)) d.user_limit
+      && kind_allows d.kind d now s r) none
 
   none_eligible : list_any (is_waiting d now) s.rows ≡ false → is_some (first_eligible d now s) ≡ false
-  none_eligible none = sym (is_some-best (is_eligible d now s) comes_before s.rows 0) ∙ none-passes (is_eligible d now s) (is_waiting d now) eligible_waits s.rows none
+  none_eligible none = sym (is_some-best (is_eligible d now s) comes_before s.rows 0)
+      ∙ none-passes (is_eligible d now s) (is_waiting d now) eligible_waits s.rows none
 
   and-false : (b : Bool) → (b && false) ≡ false
   and-false true = refl

@@ -44,8 +44,8 @@ fn with_value<'a, V, P: Fn(&V) -> bool, B: Fn(&V, &V) -> bool>(
     best
 }
 
-/// The best of the values that pass, with its place: none that passes beats it, and of several such it is the first.
-/// A value that the best so far beats isn't tested.
+/// The best of the values that pass, with its place: none that passes beats it, and of several such
+/// it is the first. A value that the best so far beats isn't tested.
 pub(crate) fn best_of<'a, K: Key, V: Keyed<K> + Drop, P: Fn(&V) -> bool, B: Fn(&V, &V) -> bool>(
     table: &'a Table<K, V>,
     passes: P,

@@ -13,7 +13,8 @@ use nqs_routing::destination_in;
 use nqs_state::HostState;
 use nqs_types::{Choice, Kind, QueueDef, Row};
 
-// A queue where no row waits, or at its limits, is told by one look at the rows: the costly tests of rows come last.
+// A queue where no row waits, or at its limits, is told by one look at the rows: the costly tests
+// of rows come last.
 fn is_candidate(state: &HostState, queue: &QueueDef, now: u64) -> bool
     ensures { result ≡ is_candidate now (content state.now) queue.now }
 {
@@ -97,8 +98,9 @@ fn choice_for(
     }
 }
 
-/// What is started next at a moment, in seconds since 1970, if anything: the first eligible row of the queue of
-/// greatest priority, the first created among those, that is started, within its limits and has an eligible row.
+/// What is started next at a moment, in seconds since 1970, if anything: the first eligible row of
+/// the queue of greatest priority, the first created among those, that is started, within its
+/// limits and has an eligible row.
 pub fn pick(state: &HostState, now: u64) -> Option<Choice>
     ensures { result ≡ pick now (content state.now) }
 {

@@ -47,7 +47,8 @@ fn kind_allows(state: &HostState, queue: &QueueDef, now: u64, row: &Row) -> bool
     }
 }
 
-// Whether the row is queued in the queue, isn't held and may start by its time. What tells most is looked at first.
+// Whether the row is queued in the queue, isn't held and may start by its time. What tells most is
+// looked at first.
 fn is_waiting(queue: &QueueDef, now: u64, row: &Row) -> bool
     ensures { result ≡ is_waiting queue.now now row.now }
 {
@@ -65,7 +66,8 @@ fn is_eligible(state: &HostState, queue: &QueueDef, now: u64, row: &Row) -> bool
         && kind_allows(state, queue, now, row)
 }
 
-/// Whether one row starts before the other: it has the greater priority, or the same one and the earlier arrival.
+/// Whether one row starts before the other: it has the greater priority, or the same one and the
+/// earlier arrival.
 pub fn comes_before(one: &Row, other: &Row) -> bool
     ensures { result ≡ comes_before one.now other.now }
 {
@@ -111,8 +113,9 @@ pub(crate) fn first_row<'a>(
     )
 }
 
-/// The row that starts first of those that may start at a moment, in seconds since 1970: of greatest priority,
-/// and among those the earliest arrival. The queue is given and the row answered by its place in the host's list, from 0.
+/// The row that starts first of those that may start at a moment, in seconds since 1970: of
+/// greatest priority, and among those the earliest arrival. The queue is given and the row answered
+/// by its place in the host's list, from 0.
 pub fn first_eligible(state: &HostState, queue: usize, now: u64) -> Option<usize>
     ensures { result ≡ first_place queue now (content state.now) }
 {

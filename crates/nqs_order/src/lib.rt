@@ -1,7 +1,8 @@
 //! The scheduler: which request of which queue starts next.
 //!
 //! `limits` has the limits of queues and complexes, `eligible` the first row of a queue that may start, `choice`
-//! the next start of the host, `best` the search for the best of a table. `nqs_rules/specs/Order.antt` has the rules.
+//! the next start of the host, `best` the search for the best of a table.
+//! `nqs_rules/specs/Order.antt` has the rules.
 #![tactic(auto)]
 
 mod best;

@@ -62,8 +62,9 @@ pub(crate) fn is_within_limits(state: &HostState, queue: &QueueDef) -> bool
         && (queue.kind != Kind::Batch || batch_allows(state, &queue.name))
 }
 
-/// Whether the queue at this place of the host's list, from 0, may start one more request: its run limit, and
-/// for a batch queue the limits of its complexes and the global one, aren't reached. False where there is no such queue.
+/// Whether the queue at this place of the host's list, from 0, may start one more request: its run
+/// limit, and for a batch queue the limits of its complexes and the global one, aren't reached.
+/// False where there is no such queue.
 pub fn within_limits(state: &HostState, queue: usize) -> bool
     ensures { result ≡ is_place_within queue (content state.now) }
 {

@@ -1,5 +1,6 @@
 // A disk as the crates above see it.
-ghost use Rattle.std.specs.Prelude.{◌≡◌, ◌⊎◌, ◌+◌, ◌-◌, ◌<◌, ◌≤◌, ◌^◌, ◌++◌, [], ◌∷◌, ℕ, Bool, true, false, IsTrue, min, max, nat_le, length, take, drop, IfOk, OnOk, OnErr};
+ghost use Rattle.std.specs.Prelude.{◌≡◌, ◌⊎◌, ◌+◌, ◌-◌, ◌<◌, ◌≤◌, ◌^◌, ◌++◌, [], ◌∷◌, ℕ, Bool, true, false, IsTrue, min, max, nat_le, length, take, drop, IfOk};
+ghost use Rattle.std.specs.Prelude.{OnOk, OnErr};
 ghost use Rattle.nqs_outside.specs.Causes.{Rose};
 ghost use Rattle.nqs_outside.specs.History.{History, Call, write, sync, content, extended, moment, IsBroken, IsWhole};
 
@@ -77,8 +78,8 @@ pub trait Disk {
 
 /// A disk that can be set to fail.
 pub trait Fused: Disk {
-    /// Makes the calls-th write or sync from here fail, and each later call. Where one that was to fail
-    /// was made already, nothing changes.
+    /// Makes the calls-th write or sync from here fail, and each later call. Where one that was to
+    /// fail was made already, nothing changes.
     fn fuse(&mut self, calls: u64)
         ensures same { Self.history self.new ≡ Self.history self.old }
         ensures starved { Self.starved self.new ≡ Self.starved self.old }

@@ -1,5 +1,6 @@
-//! The outside as traits. Each trait has a written meaning and, but for the clock, a count of faults: a call fails
-//! only where the count rose. What a trait may tell, as lists of what it was asked, the real outside doesn't tell.
+//! The outside as traits. Each trait has a written meaning and, but for the clock, a count of
+//! faults: a call fails only where the count rose. What a trait may tell, as lists of what it was
+//! asked, the real outside doesn't tell.
 #![tactic(auto)]
 
 mod clock;

@@ -20,7 +20,8 @@ pub enum Address {
 /// What a receive brought.
 #[derive(Clone, Copy, Debug, PartialEq, Eq)]
 pub enum Received {
-    /// So many bytes at the front of the buffer. A datagram that is longer than the buffer fills it.
+    /// So many bytes at the front of the buffer. A datagram that is longer than the buffer fills
+    /// it.
     Datagram(usize),
     /// Nothing came within the wire's own wait.
     Quiet,

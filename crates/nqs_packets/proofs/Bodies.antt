@@ -5,10 +5,12 @@ use Rattle.std.proofs.lemmas.Bool.Decides.{nat_tests}
 use Rattle.nqs_records.specs.declared.fault.RecordFault.TheVariants.{Short}
 use Rattle.nqs_records.specs.Reading.{numbered}
 use Rattle.nqs_packets.specs.Parts.{number_at, cause_at, run_at, bytes_at, tool_at, words_at, is_any}
-use Rattle.nqs_packets.specs.Bodies.{bodies, no_body, offer_at, ready_at, refused_at, commit_at, done_at, inquire_at, abort_at, stage_at, staged_at, ask_at, answer_at, ended_at, ended_ack_at}
+use Rattle.nqs_packets.specs.Bodies.{bodies, no_body, offer_at, ready_at, refused_at, commit_at, done_at, inquire_at, abort_at, stage_at, staged_at, ask_at}
+use Rattle.nqs_packets.specs.Bodies.{answer_at, ended_at, ended_ack_at}
 use Rattle.nqs_packets.specs.Reading.{is_kind}
 use Rattle.nqs_types.specs.declared.message.Tool.{Tool}
-use Rattle.nqs_packets.proofs.Fields.{IsField, AreFields, mapped_fields, both_fields, within_fields, counted_fields, u8_fields, u16_fields, u32_fields, u64_fields, bool_fields, name_fields, path_fields, id_fields, carried_fields}
+use Rattle.nqs_packets.proofs.Fields.{IsField, AreFields, mapped_fields, both_fields, within_fields, counted_fields, u8_fields, u16_fields, u32_fields}
+use Rattle.nqs_packets.proofs.Fields.{u64_fields, bool_fields, name_fields, path_fields, id_fields, carried_fields}
 
 number_f : AreFields number_at
 unfolding number_at
@@ -51,12 +53,18 @@ body_fields (suc (suc (suc (suc zero)))) is = mapped_fields _ _ number_f
 body_fields (suc (suc (suc (suc (suc zero))))) is = mapped_fields _ _ number_f
 body_fields (suc (suc (suc (suc (suc (suc zero)))))) is = mapped_fields _ _ number_f
 body_fields (suc (suc (suc (suc (suc (suc (suc zero))))))) is = mapped_fields _ _ number_f
-body_fields (suc (suc (suc (suc (suc (suc (suc (suc zero)))))))) is = mapped_fields _ _ (both_fields _ _ number_f λ _. both_fields _ _ path_fields λ _. bytes_f _)
+body_fields (suc (suc (suc (suc (suc (suc (suc (suc zero)))))))) is = mapped_fields _ _
+    (both_fields _ _ number_f λ _. both_fields _ _ path_fields λ _. bytes_f _)
 body_fields (suc (suc (suc (suc (suc (suc (suc (suc (suc zero))))))))) is = mapped_fields _ _ number_f
 body_fields (suc (suc (suc (suc (suc (suc (suc (suc (suc (suc zero)))))))))) is =
-    mapped_fields _ _ (both_fields _ _ u16_fields λ _. both_fields _ _ u64_fields λ _. both_fields _ _ name_fields λ _. both_fields _ _ tool_f λ tool. both_fields _ _ (words_f tool) λ _. bytes_f _)
-body_fields (suc (suc (suc (suc (suc (suc (suc (suc (suc (suc (suc zero))))))))))) is = mapped_fields _ _ (both_fields _ _ u64_fields λ _. both_fields _ _ bool_fields λ _. bytes_f _)
+    mapped_fields _ _ (both_fields _ _ u16_fields λ _. both_fields _ _ u64_fields λ _. both_fields _ _ name_fields λ _. both_fields _ _ tool_f λ tool.
+    both_fields _ _ (words_f tool) λ _. bytes_f _)
+body_fields (suc (suc (suc (suc (suc (suc (suc (suc (suc (suc (suc zero))))))))))) is =
+    mapped_fields _ _ (both_fields _ _ u64_fields λ _. both_fields _ _ bool_fields λ _. bytes_f _)
 body_fields (suc (suc (suc (suc (suc (suc (suc (suc (suc (suc (suc (suc zero)))))))))))) is =
-    mapped_fields _ _ (both_fields _ _ u16_fields λ _. both_fields _ _ id_fields λ _. both_fields _ _ u16_fields λ _. both_fields _ _ u8_fields λ _. both_fields _ _ (bytes_f _) λ _. bytes_f _)
-body_fields (suc (suc (suc (suc (suc (suc (suc (suc (suc (suc (suc (suc (suc zero))))))))))))) is = mapped_fields _ _ (both_fields _ _ id_fields λ _. u16_fields)
-body_fields (suc (suc (suc (suc (suc (suc (suc (suc (suc (suc (suc (suc (suc (suc k)))))))))))))) is = absurd (too_many (suc (suc (suc (suc (suc (suc (suc (suc (suc (suc (suc (suc (suc (suc k)))))))))))))) is (omega arith))
+    mapped_fields _ _ (both_fields _ _ u16_fields λ _. both_fields _ _ id_fields λ _. both_fields _ _ u16_fields λ _. both_fields _ _ u8_fields λ _. both_fields
+    _ _ (bytes_f _) λ _. bytes_f _)
+body_fields (suc (suc (suc (suc (suc (suc (suc (suc (suc (suc (suc (suc (suc zero))))))))))))) is =
+    mapped_fields _ _ (both_fields _ _ id_fields λ _. u16_fields)
+body_fields (suc (suc (suc (suc (suc (suc (suc (suc (suc (suc (suc (suc (suc (suc k)))))))))))))) is =
+    absurd (too_many (suc (suc (suc (suc (suc (suc (suc (suc (suc (suc (suc (suc (suc (suc k)))))))))))))) is (omega arith))

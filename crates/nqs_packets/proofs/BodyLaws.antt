@@ -11,7 +11,8 @@ use Rattle.nqs_records.proofs.Named.{bool_read, name_read, path_read}
 use Rattle.nqs_records.proofs.Chains.{bind, both_read, last_read}
 use Rattle.nqs_records.proofs.PartLaws.{id_law, carried_law}
 use Rattle.nqs_records.proofs.Numbered.{AllFind, finds}
-use Rattle.nqs_packets.specs.Bodies.{bodies, no_body, offer_at, ready_at, refused_at, commit_at, done_at, inquire_at, abort_at, stage_at, staged_at, ask_at, answer_at, ended_at, ended_ack_at}
+use Rattle.nqs_packets.specs.Bodies.{bodies, no_body, offer_at, ready_at, refused_at, commit_at, done_at, inquire_at, abort_at, stage_at, staged_at, ask_at}
+use Rattle.nqs_packets.specs.Bodies.{answer_at, ended_at, ended_ack_at}
 use Rattle.nqs_packets.specs.Parts.{number_at}
 use Rattle.nqs_packets.specs.Spelling.{kind_of, body_field}
 use Rattle.nqs_packets.specs.Values.{IsNumber, IsBody}
@@ -27,7 +28,8 @@ one_number = last_read number_law
 pub bodies_find : AllFind IsBody tagged 1 bodies
 unfolding bodies body_field offer_at ready_at refused_at commit_at done_at inquire_at abort_at stage_at staged_at ask_at answer_at ended_at ended_ack_at
 bodies_find = (
-  finds 1 (λ v. Offer v.0 v.1.0 v.1.1.0 v.1.1.1) (λ v is. (is.0, is.1.0, is.1.1.0, is.1.1.1)) (λ v. refl) (both_read number_law λ _ _. both_read name_read λ _ _. both_read carried_law λ _ _. last_read (short_law 32768)),
+  finds 1 (λ v. Offer v.0 v.1.0 v.1.1.0 v.1.1.1) (λ v is. (is.0, is.1.0, is.1.1.0, is.1.1.1)) (λ v. refl)
+      (both_read number_law λ _ _. both_read name_read λ _ _. both_read carried_law λ _ _. last_read (short_law 32768)),
   (
     finds 2 (λ v. Ready v) (λ v is. is) (λ v. refl) one_number,
     (
@@ -41,15 +43,22 @@ bodies_find = (
             (
               finds 7 (λ v. Abort v) (λ v is. is) (λ v. refl) one_number,
               (
-                finds 8 (λ v. Stage v.0 v.1.0 v.1.1) (λ v is. (is.0, is.1.0, is.1.1)) (λ v. refl) (both_read number_law λ _ _. both_read path_read λ _ _. last_read (short_law 32768)),
+                finds 8 (λ v. Stage v.0 v.1.0 v.1.1) (λ v is. (is.0, is.1.0, is.1.1)) (λ v. refl)
+                    (both_read number_law λ _ _. both_read path_read λ _ _. last_read (short_law 32768)),
                 (
                   finds 9 (λ v. Staged v) (λ v is. is) (λ v. refl) one_number,
                   (
-                    finds 10 (λ v. Ask v.0 v.1.0 v.1.1.0 v.1.1.1.0 v.1.1.1.1.0 v.1.1.1.1.1) (λ v is. (is.0, is.1.0, is.1.1.0, is.1.1.1.1.0, is.1.1.1.1.1)) (λ v. refl) (both_read u16_read λ _ _. both_read u64_read λ _ _. both_read name_read λ _ _. both_read tool_law λ tool _. both_read (words_law tool) λ _ _. last_read (short_law 32768)),
+                    finds 10 (λ v. Ask v.0 v.1.0 v.1.1.0 v.1.1.1.0 v.1.1.1.1.0 v.1.1.1.1.1) (λ v is. (is.0, is.1.0, is.1.1.0, is.1.1.1.1.0, is.1.1.1.1.1))
+                        (λ v. refl) (both_read u16_read λ _ _. both_read u64_read λ _ _. both_read name_read λ _ _. both_read tool_law λ tool _. both_read
+                        (words_law tool) λ _ _. last_read (short_law 32768)),
                     (
-                      finds 11 (λ v. Answer v.0 v.1.0 v.1.1) (λ v is. (is.0, is.1.0, is.1.1)) (λ v. refl) (both_read u64_read λ _ _. both_read bool_read λ _ _. last_read long_law),
+                      finds 11 (λ v. Answer v.0 v.1.0 v.1.1) (λ v is. (is.0, is.1.0, is.1.1)) (λ v. refl)
+                          (both_read u64_read λ _ _. both_read bool_read λ _ _. last_read long_law),
                       (
-                        finds 12 (λ v. Ended v.0 v.1.0 v.1.1.0 v.1.1.1.0 v.1.1.1.1.0 v.1.1.1.1.1) (λ v is. (is.0, is.1.0, is.1.1.0, is.1.1.1.0, is.1.1.1.1.0, is.1.1.1.1.1)) (λ v. refl) (both_read u16_read λ _ _. both_read id_law λ _ _. both_read u16_read λ _ _. both_read u8_read λ _ _. both_read (short_law 16384) λ _ _. last_read (short_law 16384)),
+                        finds 12 (λ v. Ended v.0 v.1.0 v.1.1.0 v.1.1.1.0 v.1.1.1.1.0 v.1.1.1.1.1)
+                            (λ v is. (is.0, is.1.0, is.1.1.0, is.1.1.1.0, is.1.1.1.1.0, is.1.1.1.1.1)) (λ v. refl)
+                            (both_read u16_read λ _ _. both_read id_law λ _ _. both_read u16_read λ _ _. both_read u8_read λ _ _. both_read
+                            (short_law 16384) λ _ _. last_read (short_law 16384)),
                         (
                           finds 13 (λ v. EndedAck v.0 v.1) (λ v is. (is.0, is.1)) (λ v. refl) (both_read id_law λ _ _. last_read u16_read),
                           tt,
@@ -67,29 +76,38 @@ bodies_find = (
   ),
 )
 
-row : {T : Type 0} {IsT : T → Type 0} {f : T → List ℕ} {r : Reading T} (make : T → Body) → IsRead IsT f r → (t : T) (bytes rest : List ℕ) (place : ℕ) → AreBytes bytes → IsT t
+row : {T : Type 0} {IsT : T → Type 0} {f : T → List ℕ} {r : Reading T} (make : T → Body) → IsRead IsT f r → (t : T) (bytes rest : List ℕ) (place : ℕ)
+    → AreBytes bytes → IsT t
     → drop place bytes ≡ f t ++ rest → mapped make r bytes place ≡ Ok (make t, place + length (f t))
 row {T} {IsT} {f} {r} make one t bytes rest place fits is_t is = bind (r bytes place) _ _ _ (one.taken bytes rest place t fits is_t is) refl
 
-pub body_taken : (b : Body) (bytes rest : List ℕ) (place : ℕ) → AreBytes bytes → IsBody b → drop place bytes ≡ body_field b ++ rest → numbered bodies (kind_of b) no_body bytes place ≡ Ok (b, place + length (body_field b))
+pub body_taken : (b : Body) (bytes rest : List ℕ) (place : ℕ) → AreBytes bytes → IsBody b → drop place bytes ≡ body_field b ++ rest
+    → numbered bodies (kind_of b) no_body bytes place ≡ Ok (b, place + length (body_field b))
 unfolding bodies body_field offer_at ready_at refused_at commit_at done_at inquire_at abort_at stage_at staged_at ask_at answer_at ended_at ended_ack_at
 body_taken (Offer n q c s) bytes rest place fits ok is =
-    row (λ v. Offer v.0 v.1.0 v.1.1.0 v.1.1.1) (both_read number_law λ _ _. both_read name_read λ _ _. both_read carried_law λ _ _. last_read (short_law 32768)) (n, (q, (c, s))) bytes rest place fits (ok.0, (ok.1, (ok.2, ok.3))) is
+    row (λ v. Offer v.0 v.1.0 v.1.1.0 v.1.1.1) (both_read number_law λ _ _. both_read name_read λ _ _. both_read carried_law λ _ _. last_read (short_law 32768))
+    (n, (q, (c, s))) bytes rest place fits (ok.0, (ok.1, (ok.2, ok.3))) is
 body_taken (Ready n) bytes rest place fits ok is = row (λ v. Ready v) one_number n bytes rest place fits ok is
-body_taken (Refused n cause) bytes rest place fits ok is = row (λ v. Refused v.0 v.1) (both_read number_law λ _ _. last_read cause_law) (n, cause) bytes rest place fits (ok.0, ok.1) is
+body_taken (Refused n cause) bytes rest place fits ok is = row (λ v. Refused v.0 v.1) (both_read number_law λ _ _. last_read cause_law)
+    (n, cause) bytes rest place fits (ok.0, ok.1) is
 body_taken (Commit n) bytes rest place fits ok is = row (λ v. Commit v) one_number n bytes rest place fits ok is
 body_taken (Done n) bytes rest place fits ok is = row (λ v. Done v) one_number n bytes rest place fits ok is
 body_taken (Inquire n) bytes rest place fits ok is = row (λ v. Inquire v) one_number n bytes rest place fits ok is
 body_taken (Abort n) bytes rest place fits ok is = row (λ v. Abort v) one_number n bytes rest place fits ok is
 body_taken (Stage n path output) bytes rest place fits ok is =
-    row (λ v. Stage v.0 v.1.0 v.1.1) (both_read number_law λ _ _. both_read path_read λ _ _. last_read (short_law 32768)) (n, (path, output)) bytes rest place fits (ok.0, (ok.1, ok.2)) is
+    row (λ v. Stage v.0 v.1.0 v.1.1) (both_read number_law λ _ _. both_read path_read λ _ _. last_read (short_law 32768))
+    (n, (path, output)) bytes rest place fits (ok.0, (ok.1, ok.2)) is
 body_taken (Staged n) bytes rest place fits ok is = row (λ v. Staged v) one_number n bytes rest place fits ok is
 body_taken (Ask port token user tool words script) bytes rest place fits ok is =
-    row (λ v. Ask v.0 v.1.0 v.1.1.0 v.1.1.1.0 v.1.1.1.1.0 v.1.1.1.1.1) (both_read u16_read λ _ _. both_read u64_read λ _ _. both_read name_read λ _ _. both_read tool_law λ tool _. both_read (words_law tool) λ _ _. last_read (short_law 32768))
+    row (λ v. Ask v.0 v.1.0 v.1.1.0 v.1.1.1.0 v.1.1.1.1.0 v.1.1.1.1.1) (both_read u16_read λ _ _. both_read u64_read λ _ _. both_read name_read λ _ _. both_read
+    tool_law λ tool _. both_read (words_law tool) λ _ _. last_read (short_law 32768))
     (port, (token, (user, (tool, (words, script))))) bytes rest place fits (ok.0, (ok.1, (ok.2, (tt, (ok.3, ok.4))))) is
 body_taken (Answer token good text) bytes rest place fits ok is =
-    row (λ v. Answer v.0 v.1.0 v.1.1) (both_read u64_read λ _ _. both_read bool_read λ _ _. last_read long_law) (token, (good, text)) bytes rest place fits (ok.0, (ok.1, ok.2)) is
+    row (λ v. Answer v.0 v.1.0 v.1.1) (both_read u64_read λ _ _. both_read bool_read λ _ _. last_read long_law) (token, (good, text)) bytes rest place fits
+    (ok.0, (ok.1, ok.2)) is
 body_taken (Ended port id start status output error) bytes rest place fits ok is =
-    row (λ v. Ended v.0 v.1.0 v.1.1.0 v.1.1.1.0 v.1.1.1.1.0 v.1.1.1.1.1) (both_read u16_read λ _ _. both_read id_law λ _ _. both_read u16_read λ _ _. both_read u8_read λ _ _. both_read (short_law 16384) λ _ _. last_read (short_law 16384))
+    row (λ v. Ended v.0 v.1.0 v.1.1.0 v.1.1.1.0 v.1.1.1.1.0 v.1.1.1.1.1) (both_read u16_read λ _ _. both_read id_law λ _ _. both_read u16_read λ _ _. both_read
+    u8_read λ _ _. both_read (short_law 16384) λ _ _. last_read (short_law 16384))
     (port, (id, (start, (status, (output, error))))) bytes rest place fits (ok.0, (ok.1, (ok.2, (ok.3, (ok.4, ok.5))))) is
-body_taken (EndedAck id start) bytes rest place fits ok is = row (λ v. EndedAck v.0 v.1) (both_read id_law λ _ _. last_read u16_read) (id, start) bytes rest place fits (ok.0, ok.1) is
+body_taken (EndedAck id start) bytes rest place fits ok is = row (λ v. EndedAck v.0 v.1) (both_read id_law λ _ _. last_read u16_read)
+    (id, start) bytes rest place fits (ok.0, ok.1) is

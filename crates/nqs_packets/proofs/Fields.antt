@@ -1,5 +1,6 @@
 -- Fields are refused as fields: short at the end of the bytes, or bad.
-use Rattle.std.proofs.Common.{◌≡◌, ℕ, zero, suc, ◌+◌, Bool, true, false, cond, ◌&&◌, ◌==◌, nat_lt, nat_le, List, [], ◌∷◌, length, drop, take, Option, Some, None, refl, Result, Ok, Err}
+use Rattle.std.proofs.Common.{◌≡◌, ℕ, zero, suc, ◌+◌, Bool, true, false, cond, ◌&&◌, ◌==◌, nat_lt, nat_le, List, [], ◌∷◌, length, drop, take, Option, Some}
+use Rattle.std.proofs.Common.{None, refl, Result, Ok, Err}
 use Rattle.std.specs.Prelude.{⊤}
 use Rattle.nqs_values.specs.Name.{allowed_at}
 use Rattle.nqs_values.specs.Path.{path_allowed_at, has_parent}
@@ -8,7 +9,8 @@ use Rattle.nqs_codec.specs.declared.fault.FieldFault.TheVariants as field
 use Rattle.nqs_records.specs.declared.fault.RecordFault.{RecordFault}
 use Rattle.nqs_records.specs.declared.fault.RecordFault.TheVariants as fault
 use Rattle.nqs_records.specs.Reading.{◌>>=◌, Read, Reading, mapped, both, within, repeated, counted, if_there}
-use Rattle.nqs_records.specs.Fields.{or_short, or_fault, number_at, u8_at, u16_at, u32_at, u64_at, bool_of, bool_at, opt_at, short_of, first_bad, named, pathed, name_of, path_of, name_at, path_at}
+use Rattle.nqs_records.specs.Fields.{or_short, or_fault, number_at, u8_at, u16_at, u32_at, u64_at, bool_of, bool_at, opt_at, short_of, first_bad, named, pathed}
+use Rattle.nqs_records.specs.Fields.{name_of, path_of, name_at, path_at}
 use Rattle.nqs_records.specs.Parts.{host_at, seq_at, id_at, job_at, carried_at}
 
 -- what is wrong with a field
@@ -42,7 +44,8 @@ passes_or_bad bytes place true a = tt
 passes_or_bad bytes place false a = tt
 
 pub within_fields : {A : Type 0} (test : A → Bool) (r : Reading A) → AreFields r → AreFields (within test r)
-within_fields test r one bytes place = then bytes (r bytes place) (λ a. cond (test a.0) (Ok a) (Err (fault.BadField place))) (one bytes place) (λ a. passes_or_bad bytes place (test a.0) a)
+within_fields test r one bytes place = then bytes (r bytes place) (λ a. cond (test a.0) (Ok a) (Err (fault.BadField place))) (one bytes place)
+    (λ a. passes_or_bad bytes place (test a.0) a)
 
 repeated_fields : {A : Type 0} (n : ℕ) (r : Reading A) → AreFields r → AreFields (repeated n r)
 unfolding repeated
@@ -52,7 +55,8 @@ repeated_fields (suc n) r one bytes place =
     (λ x. then bytes (repeated n r bytes x.1) (λ xs. Ok (x.0 ∷ xs.0, xs.1)) (repeated_fields n r one bytes x.1) (λ xs. tt))
 
 pub counted_fields : {A : Type 0} (count : Reading ℕ) (r : Reading A) → AreFields count → AreFields r → AreFields (counted count r)
-counted_fields count r one other bytes place = then bytes (count bytes place) (λ n. repeated n.0 r bytes n.1) (one bytes place) (λ n. repeated_fields n.0 r other bytes n.1)
+counted_fields count r one other bytes place = then bytes (count bytes place) (λ n. repeated n.0 r bytes n.1) (one bytes place)
+    (λ n. repeated_fields n.0 r other bytes n.1)
 
 -- ---- single fields
 
@@ -84,7 +88,8 @@ pub bool_fields : AreFields bool_at
 unfolding bool_at bool_of
 bool_fields bytes place = by (drop place bytes)
   where
-    told : (zero_it one_it : Bool) → IsField {A = Bool × ℕ} bytes (or_fault (cond zero_it (Ok (false, place + 1)) (cond one_it (Ok (true, place + 1)) (Err (field.Bad place)))))
+    told : (zero_it one_it : Bool) → IsField {A = Bool × ℕ} bytes (or_fault
+        (cond zero_it (Ok (false, place + 1)) (cond one_it (Ok (true, place + 1)) (Err (field.Bad place)))))
     told true one_it = tt
     told false true = tt
     told false false = tt
@@ -107,7 +112,8 @@ short_fields most bytes place (count ∷ rest) = told (nat_le 1 count && nat_le 
     told true true = refl
     told true false = tt
 
-after_short : {A B : Type 0} (bytes : List ℕ) (r : Result A FieldFault) (f : A → Result B FieldFault) → IsShortly bytes r → ((a : A) → IsShortly bytes (f a)) → IsShortly bytes (r >>= f)
+after_short : {A B : Type 0} (bytes : List ℕ) (r : Result A FieldFault) (f : A → Result B FieldFault) → IsShortly bytes r → ((a : A) → IsShortly bytes (f a))
+    → IsShortly bytes (r >>= f)
 after_short bytes (Ok a) f one other = other a
 after_short bytes (Err e) f one other = one
 
@@ -118,7 +124,8 @@ named_fields bytes place value (Some k) = tt
 pub name_fields : AreFields name_at
 unfolding name_at name_of
 name_fields bytes place =
-    after_short bytes (short_of 15 (length bytes) place (drop place bytes)) (λ value. named place value (first_bad allowed_at value)) (short_fields 15 bytes place (drop place bytes))
+    after_short bytes (short_of 15 (length bytes) place (drop place bytes)) (λ value. named place value (first_bad allowed_at value))
+    (short_fields 15 bytes place (drop place bytes))
     (λ value. named_fields bytes place value (first_bad allowed_at value))
 
 pathed_fields : (bytes : List ℕ) (place : ℕ) (value : List ℕ) (bad : Option ℕ) → IsShortly bytes (pathed place value bad)
@@ -132,7 +139,8 @@ pathed_fields bytes place value (Some k) = tt
 pub path_fields : AreFields path_at
 unfolding path_at path_of
 path_fields bytes place =
-    after_short bytes (short_of 255 (length bytes) place (drop place bytes)) (λ value. pathed place value (first_bad path_allowed_at value)) (short_fields 255 bytes place (drop place bytes))
+    after_short bytes (short_of 255 (length bytes) place (drop place bytes)) (λ value. pathed place value (first_bad path_allowed_at value))
+    (short_fields 255 bytes place (drop place bytes))
     (λ value. pathed_fields bytes place value (first_bad path_allowed_at value))
 
 opt_fields : {A : Type 0} (r : Reading A) → AreFields r → AreFields (opt_at r)
@@ -157,7 +165,8 @@ job_fields : AreFields job_at
 unfolding job_at
 job_fields =
     mapped_fields _ _
-    (both_fields _ _ name_fields λ _. both_fields _ _ name_fields λ _. both_fields _ _ (within_fields _ _ u8_fields) λ _. both_fields _ _ u64_fields λ _. both_fields _ _ bool_fields λ _.
+    (both_fields _ _ name_fields λ _. both_fields _ _ name_fields λ _. both_fields _ _
+    (within_fields _ _ u8_fields) λ _. both_fields _ _ u64_fields λ _. both_fields _ _ bool_fields λ _.
     both_fields _ _ (opt_fields _ u64_fields) λ _. both_fields _ _ (opt_fields _ u64_fields) λ _. both_fields _ _ (opt_fields _ name_fields) λ _.
     both_fields _ _ path_fields λ _. both_fields _ _ path_fields λ _. bool_fields)
 

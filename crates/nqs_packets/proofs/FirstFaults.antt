@@ -1,5 +1,6 @@
 -- Each fault beside that of a field comes exactly where bytes are so.
-use Rattle.std.proofs.Common.{◌≡◌, ◌≢◌, ℕ, ◌+◌, ◌<◌, Bool, true, false, cond, ◌==◌, nat_lt, List, [], ◌∷◌, ◌++◌, length, drop, refl, sym, ap, ◌∙◌, subst, arith, length-append, ne_eqb, Ok, Err}
+use Rattle.std.proofs.Common.{◌≡◌, ◌≢◌, ℕ, ◌+◌, ◌<◌, Bool, true, false, cond, ◌==◌, nat_lt, List, [], ◌∷◌, ◌++◌, length, drop, refl, sym, ap, ◌∙◌, subst, arith}
+use Rattle.std.proofs.Common.{length-append, ne_eqb, Ok, Err}
 use Rattle.std.specs.Prelude.{⊤}
 use Rattle.std.specs.declared.result.Result.{Result}
 use Rattle.std.proofs.lemmas.Bool.{eqb-true}
@@ -46,7 +47,8 @@ no_bytes = refl
 
 by_version : (v : ℕ) (rest : List ℕ) → AreBytes (v ∷ rest) → message_of (v ∷ rest) ≡ cond (v == 1) (or_packet_fault (rest_of (v ∷ rest) 1)) (Err fault.Version)
 unfolding message_of
-by_version v rest fits = step (or_packet_fault (u8_at (v ∷ rest) 0)) (λ w. cond (w.0 == 1) (or_packet_fault (rest_of (v ∷ rest) w.1)) (Err fault.Version)) (v, 1) (ap or_packet_fault (u8_first v rest fits))
+by_version v rest fits = step (or_packet_fault (u8_at (v ∷ rest) 0)) (λ w. cond (w.0 == 1) (or_packet_fault (rest_of (v ∷ rest) w.1)) (Err fault.Version))
+    (v, 1) (ap or_packet_fault (u8_first v rest fits))
 
 other_version : (v : ℕ) (rest : List ℕ) → AreBytes (v ∷ rest) → (v == 1) ≡ false → message_of (v ∷ rest) ≡ Err fault.Version
 other_version v rest fits is = by_version v rest fits ∙ ap (λ (t : Bool). cond t (or_packet_fault (rest_of (v ∷ rest) 1)) (Err fault.Version)) is
@@ -79,20 +81,25 @@ other_kind k rest fits is = version_one (k ∷ rest) fits ∙ ap or_packet_fault
 -- a message behind the kind
 ends_of : List ℕ → ℕ → ℕ → Read (Message × ℕ)
 ends_of bytes kind place =
-    host_at bytes place >>= (λ from. host_at bytes from.1 >>= (λ to. numbered bodies kind no_body bytes to.1 >>= (λ body. Ok (record { from = from.0; to = to.0; body = body.0 }, body.1))))
+    host_at bytes place >>= (λ from. host_at bytes from.1 >>= (λ to. numbered bodies kind no_body bytes to.1 >>=
+    (λ body. Ok (record { from = from.0; to = to.0; body = body.0 }, body.1))))
 
 ends_fields : (bytes : List ℕ) (kind place : ℕ) → is_kind kind ≡ true → IsField bytes (ends_of bytes kind place)
 unfolding ends_of
 ends_fields bytes kind place is =
-    then bytes (host_at bytes place) (λ from. host_at bytes from.1 >>= (λ to. numbered bodies kind no_body bytes to.1 >>= (λ body. Ok (record { from = from.0; to = to.0; body = body.0 }, body.1)))) (host_fields bytes place)
-    (λ from. then bytes (host_at bytes from.1) (λ to. numbered bodies kind no_body bytes to.1 >>= (λ body. Ok (record { from = from.0; to = to.0; body = body.0 }, body.1))) (host_fields bytes from.1)
-    (λ to. then bytes (numbered bodies kind no_body bytes to.1) (λ body. Ok (record { from = from.0; to = to.0; body = body.0 }, body.1)) (body_fields kind is bytes to.1) (λ body. tt)))
+    then bytes (host_at bytes place) (λ from. host_at bytes from.1 >>= (λ to. numbered bodies kind no_body bytes to.1 >>=
+    (λ body. Ok (record { from = from.0; to = to.0; body = body.0 }, body.1)))) (host_fields bytes place)
+    (λ from. then bytes (host_at bytes from.1) (λ to. numbered bodies kind no_body bytes to.1 >>=
+    (λ body. Ok (record { from = from.0; to = to.0; body = body.0 }, body.1))) (host_fields bytes from.1)
+    (λ to. then bytes (numbered bodies kind no_body bytes to.1) (λ body. Ok (record { from = from.0; to = to.0; body = body.0 }, body.1))
+    (body_fields kind is bytes to.1) (λ body. tt)))
 
 message_fields : (k : ℕ) (rest : List ℕ) → AreBytes (1 ∷ k ∷ rest) → is_kind k ≡ true → IsField (1 ∷ k ∷ rest) (message_at (1 ∷ k ∷ rest) 1)
 unfolding message_at ends_of
 message_fields k rest fits is =
     let bytes = 1 ∷ k ∷ rest in
-    subst (IsField bytes) (sym (step (kind_at bytes 1) (λ kind. ends_of bytes kind.0 kind.1) (k, 2) (by_kind k rest fits ∙ ap (kind_or k) is))) (ends_fields bytes k 2 is)
+    subst (IsField bytes) (sym (step (kind_at bytes 1) (λ kind. ends_of bytes kind.0 kind.1) (k, 2) (by_kind k rest fits ∙ ap (kind_or k) is)))
+    (ends_fields bytes k 2 is)
 
 -- what an answer tells of the bytes
 abbrev Tells : List ℕ → Result Message PacketFault → Type 0
@@ -125,7 +132,8 @@ rest_tells : (tail : List ℕ) → AreBytes (1 ∷ tail) → IsField (1 ∷ tail
 unfolding rest_of
 rest_tells tail fits fields = by (message_at (1 ∷ tail) 1) refl fields
   where
-    told : (v : Message × ℕ) → message_at (1 ∷ tail) 1 ≡ Ok v → (t : Bool) → nat_lt v.1 (length (1 ∷ tail)) ≡ t → Tells (1 ∷ tail) (or_packet_fault (cond t (Err (record_fault.Trailing v.1)) (Ok v.0)))
+    told : (v : Message × ℕ) → message_at (1 ∷ tail) 1 ≡ Ok v → (t : Bool) → nat_lt v.1 (length (1 ∷ tail)) ≡ t
+        → Tells (1 ∷ tail) (or_packet_fault (cond t (Err (record_fault.Trailing v.1)) (Ok v.0)))
     told v e true is = followed tail v.0 v.1 fits e (below v.1 (length (1 ∷ tail)) is)
     told v e false is = tt
 
@@ -136,7 +144,7 @@ rest_tells tail fits fields = by (message_at (1 ∷ tail) 1) refl fields
     by (Err (record_fault.Kind place)) e f = absurd f
     by (Err (record_fault.BadField place)) e f = tt
     by (Err (record_fault.Trailing place)) e f = absurd f
-    by (Err record_fault.Memory) e f = absurd f
+    by (Err (record_fault.Memory memory)) e f = absurd f
 
 kind_tells : (k : ℕ) (rest : List ℕ) → AreBytes (1 ∷ k ∷ rest) → (t : Bool) → is_kind k ≡ t → Tells (1 ∷ k ∷ rest) (message_of (1 ∷ k ∷ rest))
 kind_tells k rest fits false is = subst (Tells (1 ∷ k ∷ rest)) (sym (other_kind k rest fits is)) (refl, is)
@@ -174,7 +182,8 @@ kind_is (v ∷ k ∷ rest) fits has =
 before : (n m : ℕ) → n < m → nat_lt n m ≡ true
 before n m less = grind (arith, nat_tests)
 
-trailing_of : (m : Message) (rest : List ℕ) → AreBytes (spelling m ++ rest) → MaySend m → 0 < length rest → message_of (spelling m ++ rest) ≡ Err (fault.Trailing (length (spelling m)))
+trailing_of : (m : Message) (rest : List ℕ) → AreBytes (spelling m ++ rest) → MaySend m → 0 < length rest
+    → message_of (spelling m ++ rest) ≡ Err (fault.Trailing (length (spelling m)))
 unfolding spelling rest_of u8_field
 trailing_of m rest fits may some =
     let tail = behind m ++ rest in
@@ -196,5 +205,5 @@ first_faults bytes fits = record {
   kind = (λ e. subst (Tells bytes) e (tells bytes fits), λ has. kind_is bytes fits has);
   trailing = λ place. (λ e. subst (Tells bytes) e (tells bytes fits), λ has. trailing_is bytes place fits has);
   short = λ end e. subst (Tells bytes) e (tells bytes fits);
-  memory = λ memory e. subst (Tells bytes) e (tells bytes fits);
+  memory = λ e. subst (Tells bytes) e (tells bytes fits);
 }

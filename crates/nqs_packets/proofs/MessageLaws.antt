@@ -1,5 +1,6 @@
 -- A message behind the version is read as it is spelled.
-use Rattle.std.proofs.Common.{◌≡◌, ℕ, ◌+◌, ◌<◌, ◌^◌, true, cond, List, [], ◌∷◌, ◌++◌, length, drop, refl, sym, ap, ◌∙◌, subst, arith, length-append, append_assoc, append-nil, Ok, Err}
+use Rattle.std.proofs.Common.{◌≡◌, ℕ, ◌+◌, ◌<◌, ◌^◌, true, cond, List, [], ◌∷◌, ◌++◌, length, drop, refl, sym, ap, ◌∙◌, subst, arith, length-append}
+use Rattle.std.proofs.Common.{append_assoc, append-nil, Ok, Err}
 use Rattle.nqs_types.specs.declared.message.Body.{Body}
 use Rattle.nqs_types.specs.declared.message.Body.TheVariants.{Offer, Ready, Refused, Commit, Done, Inquire, Abort, Stage, Staged, Ask, Answer, Ended, EndedAck}
 use Rattle.nqs_types.specs.declared.message.Message.{Message}
@@ -43,7 +44,8 @@ same_tag : (b : Body) (k : ℕ) (args : List ℕ) → tagged b ≡ u8_field k ++
 unfolding u8_field
 same_tag b k args e = (cc, cc)
 
-pub message_found : (bytes : List ℕ) (place : ℕ) (m : Message) (next : ℕ) → AreBytes bytes → message_at bytes place ≡ Ok (m, next) → Found MaySend behind bytes place (m, next)
+pub message_found : (bytes : List ℕ) (place : ℕ) (m : Message) (next : ℕ) → AreBytes bytes → message_at bytes place ≡ Ok (m, next)
+    → Found MaySend behind bytes place (m, next)
 unfolding message_at
 message_found bytes place m next fits e =
     let k = bound (kind_at bytes place) _ (m, next) e in
@@ -55,10 +57,12 @@ message_found bytes place m next fits e =
     let to = host_law.found bytes f.0.1 t.0.0 t.0.1 fits t.1 in
     let body = numbered_finds IsBody tagged bodies k.0.0 no_body no_such bodies_find bytes t.0.1 b.0.0 b.0.1 fits b.1 in
     let tag = same_tag b.0.0 k.0.0 body.args body.spelled in
-    let last : Stands bytes t.0.1 (body_field b.0.0 ++ []) b.0.1 = subst (λ (l : List ℕ). Stands bytes t.0.1 l b.0.1) (sym tag.1 ∙ sym (append-nil (body_field b.0.0))) body.stands in
+    let last : Stands bytes t.0.1 (body_field b.0.0 ++ []) b.0.1 = subst (λ (l : List ℕ). Stands bytes t.0.1 l b.0.1)
+    (sym tag.1 ∙ sym (append-nil (body_field b.0.0))) body.stands in
     let ends = two_stand bytes k.0.1 f.0.1 b.0.1 (u8_field f.0.0.0) _ from.1 (two_stand bytes f.0.1 t.0.1 b.0.1 (u8_field t.0.0.0) _ to.1 last) in
     let all = two_stand bytes place k.0.1 b.0.1 (u8_field (kind_of b.0.0)) _ (subst (λ (n : ℕ). Stands bytes place (u8_field n) k.0.1) (sym tag.0) kind) ends in
-    subst (Found MaySend behind bytes place) (same_Ok (record { from = f.0.0; to = t.0.0; body = b.0.0 }, b.0.1) (m, next) b.2) ((from.0, to.0, body.is_value), all)
+    subst (Found MaySend behind bytes place) (same_Ok (record { from = f.0.0; to = t.0.0; body = b.0.0 }, b.0.1) (m, next) b.2)
+    ((from.0, to.0, body.is_value), all)
 
 kind_small : (b : Body) → (kind_of b < 2 ^ 8) × (is_kind (kind_of b) ≡ true)
 kind_small (Offer n q c s) = (omega arith, refl)
@@ -75,7 +79,8 @@ kind_small (Answer token good text) = (omega arith, refl)
 kind_small (Ended port id start status output error) = (omega arith, refl)
 kind_small (EndedAck id start) = (omega arith, refl)
 
-kind_taken : (b : Body) (bytes rest : List ℕ) (place : ℕ) → AreBytes bytes → drop place bytes ≡ u8_field (kind_of b) ++ rest → kind_at bytes place ≡ Ok (kind_of b, place + length (u8_field (kind_of b)))
+kind_taken : (b : Body) (bytes rest : List ℕ) (place : ℕ) → AreBytes bytes → drop place bytes ≡ u8_field (kind_of b) ++ rest
+    → kind_at bytes place ≡ Ok (kind_of b, place + length (u8_field (kind_of b)))
 unfolding kind_at
 kind_taken b bytes rest place fits is =
     let small = kind_small b in
@@ -84,7 +89,8 @@ kind_taken b bytes rest place fits is =
 four : (place : ℕ) (a b c d : List ℕ) → place + length a + length b + length c + length d ≡ place + length (a ++ (b ++ (c ++ (d ++ []))))
 four place a b c d = omega (arith, length-append a (b ++ (c ++ (d ++ []))), length-append b (c ++ (d ++ [])), length-append c (d ++ []), length-append d [])
 
-pub message_taken : (m : Message) (bytes rest : List ℕ) (place : ℕ) → AreBytes bytes → MaySend m → drop place bytes ≡ behind m ++ rest → message_at bytes place ≡ Ok (m, place + length (behind m))
+pub message_taken : (m : Message) (bytes rest : List ℕ) (place : ℕ) → AreBytes bytes → MaySend m → drop place bytes ≡ behind m ++ rest
+    → message_at bytes place ≡ Ok (m, place + length (behind m))
 unfolding message_at
 message_taken m bytes rest place fits ok is =
     let k = u8_field (kind_of m.body) in
@@ -98,5 +104,6 @@ message_taken m bytes rest place fits ok is =
     bind (kind_at bytes place) _ _ _ (kind_taken m.body bytes _ place fits at_kind)
     (bind (host_at bytes (place + length k)) _ _ _ (host_law.taken bytes _ (place + length k) m.from fits ok.0 at_from)
     (bind (host_at bytes (place + length k + length f)) _ _ _ (host_law.taken bytes _ (place + length k + length f) m.to fits ok.1 at_to)
-    (bind (numbered bodies (kind_of m.body) no_body bytes (place + length k + length f + length t)) _ _ _ (body_taken m.body bytes rest (place + length k + length f + length t) fits ok.2 at_body)
+    (bind (numbered bodies (kind_of m.body) no_body bytes (place + length k + length f + length t)) _ _ _
+    (body_taken m.body bytes rest (place + length k + length f + length t) fits ok.2 at_body)
     (ap (λ (n : ℕ). Ok (m, n)) (four place k f t b)))))

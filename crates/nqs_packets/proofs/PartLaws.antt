@@ -1,5 +1,6 @@
 -- The laws of what datagrams have beside the fields of records.
-use Rattle.std.proofs.Common.{◌≡◌, ℕ, zero, suc, ◌+◌, ◌<◌, ◌≤◌, ◌^◌, Bool, true, false, cond, nat_lt, nat_le, IsTrue, List, ◌++◌, length, take, drop, refl, sym, ap, ◌∙◌, subst, arith, length-append, take_at, length-take-le, Ok, Err}
+use Rattle.std.proofs.Common.{◌≡◌, ℕ, zero, suc, ◌+◌, ◌<◌, ◌≤◌, ◌^◌, Bool, true, false, cond, nat_lt, nat_le, IsTrue, List, ◌++◌, length, take, drop, refl, sym}
+use Rattle.std.proofs.Common.{ap, ◌∙◌, subst, arith, length-append, take_at, length-take-le, Ok, Err}
 use Rattle.std.specs.Prelude.{⊤}
 use Rattle.std.proofs.lemmas.Bool.{and_parts}
 use Rattle.std.proofs.lemmas.Bool.Decides.{nat_tests}
@@ -25,7 +26,8 @@ passed true x a b e = (refl, cc)
 passed false x a b e = cc
 
 -- a value of its kind that passes a test
-tested_read : {A : Type 0} {IsA : A → Type 0} {f : A → List ℕ} {r : Reading A} (test : A → Bool) → IsRead IsA f r → IsRead (λ a. IsTrue (test a) × IsA a) f (within test r)
+tested_read : {A : Type 0} {IsA : A → Type 0} {f : A → List ℕ} {r : Reading A} (test : A → Bool) → IsRead IsA f r
+    → IsRead (λ a. IsTrue (test a) × IsA a) f (within test r)
 tested_read {A} {IsA} {f} {r} test one = record {
   found = λ bytes place value next fits e.
       let a = bound (r bytes place) (λ a. cond (test a.0) (Ok a) (Err (BadField place))) (value, next) e in
@@ -52,7 +54,8 @@ made_read {A} {B} {IsA} {fa} {ra} IsB fb make part again to from spelled one = r
       bind (ra bytes place) _ _ _ here (λ j. Ok (again value j, place + length (sym same j)));
 }
 
-weaker_read : {A : Type 0} {IsA IsB : A → Type 0} {f : A → List ℕ} {r : Reading A} → ((a : A) → IsA a → IsB a) → ((a : A) → IsB a → IsA a) → IsRead IsA f r → IsRead IsB f r
+weaker_read : {A : Type 0} {IsA IsB : A → Type 0} {f : A → List ℕ} {r : Reading A} → ((a : A) → IsA a → IsB a) → ((a : A) → IsB a → IsA a) → IsRead IsA f r
+    → IsRead IsB f r
 weaker_read to from one = record {
   found = λ bytes place value next fits e. let here = one.found bytes place value next fits e in (to value here.0, here.1);
   taken = λ bytes rest place value fits is_value is. one.taken bytes rest place value fits (from value is_value) is;
@@ -84,7 +87,8 @@ run_read count = record {
       let rest = drop place bytes in
       let p = unread (nat_lt (length rest) count) (Short (length bytes)) (take count rest, place + count) (value, next) e in
       let long = not_below (length rest) count p.0 in
-      subst (Found (λ (l : List ℕ). length l ≡ count) (λ l. l) bytes place) p.1 (length-take-le count rest long, part_stands bytes place count (take count rest) refl long);
+      subst (Found (λ (l : List ℕ). length l ≡ count) (λ l. l) bytes place) p.1
+      (length-take-le count rest long, part_stands bytes place count (take count rest) refl long);
   taken = λ bytes rest place value fits is_value is.
       let long : count ≤ length (drop place bytes) = omega (arith, is_value, ap length is, length-append value rest) in
       let part : take count (drop place bytes) ≡ value = ap (take count) is ∙ take_at value rest count is_value in

@@ -1,5 +1,6 @@
 -- Bytes are read as a message exactly where they are its spelling.
-use Rattle.std.proofs.Common.{◌≡◌, ℕ, ◌+◌, Bool, true, false, cond, ◌==◌, nat_lt, List, [], ◌++◌, length, drop, refl, sym, ap, ◌∙◌, subst, arith, append-nil, Ok, Err, IfOk, IfErr}
+use Rattle.std.proofs.Common.{◌≡◌, ℕ, ◌+◌, Bool, true, false, cond, ◌==◌, nat_lt, List, [], ◌++◌, length, drop, refl, sym, ap, ◌∙◌, subst, arith, append-nil}
+use Rattle.std.proofs.Common.{Ok, Err, IfOk, IfErr}
 use Rattle.std.specs.declared.result.Result.{Result}
 use Rattle.std.proofs.lemmas.Bool.{eqb-true}
 use Rattle.nqs_types.specs.declared.message.Message.{Message}
@@ -58,7 +59,8 @@ unfolding message_of rest_of spelling u8_field
 spelled_is bytes m fits is ok =
     let next = rest_is bytes 0 (u8_field 1) (behind m) is in
     let there = message_taken m bytes [] 1 fits ok (next ∙ sym (append-nil (behind m))) in
-    let rest : rest_of bytes 1 ≡ Ok m = bind (message_at bytes 1) _ _ _ there (rw (none_behind (1 + length (behind m)) (length bytes) (omega (arith, ap length is))) refl) in
+    let rest : rest_of bytes 1 ≡ Ok m = bind (message_at bytes 1) _ _ _ there
+    (rw (none_behind (1 + length (behind m)) (length bytes) (omega (arith, ap length is))) refl) in
     bind (or_packet_fault (u8_at bytes 0)) _ _ _ (ap or_packet_fault (u8_read.taken bytes (behind m) 0 1 fits (omega arith) is)) (ap or_packet_fault rest)
 
 pub reads_the_spelling : ReadsTheSpelling
@@ -66,7 +68,8 @@ reads_the_spelling bytes m fits = (λ e. is_spelled bytes m fits e, λ p. spelle
 
 -- ---- what the call answers
 
-pub if_read : (bytes : List ℕ) (answer : Result Message PacketFault) → AreBytes bytes → AnswersPacket (message_of bytes) answer → IfOk answer (IsSpelledBy bytes)
+pub if_read : (bytes : List ℕ) (answer : Result Message PacketFault) → AreBytes bytes → AnswersPacket (message_of bytes) answer
+    → IfOk answer (IsSpelledBy bytes)
 if_read bytes (Ok m) fits answers = is_spelled bytes m fits (sym (answers refl))
 if_read bytes (Err fault) fits answers = tt
 

@@ -1,7 +1,7 @@
 -- Which bytes have which first fault, apart from how they are read.
 use Rattle.std.specs.Prelude.{◌≡◌, ◌≢◌, ◌↔◌, ℕ, ◌<◌, false, List, [], ◌∷◌, ◌++◌, length, Err}
 use Rattle.nqs_types.specs.declared.message.Message.{Message}
-use Rattle.nqs_values.specs.declared.memory.Memory.{Memory}
+use Rattle.nqs_values.specs.Want.{want}
 use Rattle.nqs_records.specs.Changes.{AreBytes}
 use Rattle.nqs_packets.specs.declared.fault.PacketFault.TheVariants as fault
 use Rattle.nqs_packets.specs.Spelling.{spelling}
@@ -34,7 +34,8 @@ pub record HasFirstFaults (bytes : List ℕ) : Type 0 where
   pub kind : message_of bytes ≡ Err fault.Kind ↔ HasOtherKind bytes
   pub trailing : (place : ℕ) → message_of bytes ≡ Err (fault.Trailing place) ↔ IsFollowed bytes place
   pub short : (end : ℕ) → message_of bytes ≡ Err (fault.Short end) → end ≡ length bytes
-  pub memory : (memory : Memory) → message_of bytes ≢ Err (fault.Memory memory)
+  pub memory : message_of bytes ≢ Err (fault.Memory want)
 
+-- the first faults of all bytes
 abbrev pub FirstFaults : Type 0
 FirstFaults = (bytes : List ℕ) → AreBytes bytes → HasFirstFaults bytes

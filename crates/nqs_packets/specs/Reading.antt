@@ -17,12 +17,14 @@ as_packet_fault (record_fault.Short end) = Short end
 as_packet_fault (record_fault.Kind place) = Kind
 as_packet_fault (record_fault.BadField place) = BadField place
 as_packet_fault (record_fault.Trailing place) = Trailing place
-as_packet_fault record_fault.Memory = Memory (record {})
+as_packet_fault (record_fault.Memory memory) = Memory memory
 
+-- a value, or the fault of the datagram
 abbrev pub or_packet_fault : {A : Type 0} → Read A → Result A PacketFault
 or_packet_fault {A} (Ok a) = Ok a
 or_packet_fault {A} (Err fault) = Err (as_packet_fault fault)
 
+-- whether a byte is the number of a kind
 abbrev pub is_kind : ℕ → Bool
 is_kind n = nat_le 1 n && nat_le n 13
 
@@ -58,6 +60,7 @@ abbrev pub is_fault_of_memory : PacketFault → Bool
 is_fault_of_memory (Memory memory) = true
 is_fault_of_memory _ = false
 
+-- whether memory was wanting
 abbrev pub is_wanting : {A : Type 0} → Result A PacketFault → Bool
 is_wanting {A} (Err fault) = is_fault_of_memory fault
 is_wanting {A} (Ok a) = false

@@ -7,7 +7,7 @@ use nqs_records::RecordFault;
 use nqs_values::Memory;
 
 /// The first thing that is wrong with bytes that are no datagram. Places are counted from 0.
-#[derive(Clone, Copy, Debug, PartialEq, Eq)]
+#[derive(Debug, PartialEq, Eq, Drop)]
 pub enum PacketFault {
     /// The bytes end before the datagram does. The place is that of their end.
     Short(u64),
@@ -32,7 +32,7 @@ impl From<RecordFault> for PacketFault {
             RecordFault::Kind(_) => PacketFault::Kind,
             RecordFault::BadField(place) => PacketFault::BadField(place),
             RecordFault::Trailing(place) => PacketFault::Trailing(place),
-            RecordFault::Memory => PacketFault::Memory(Memory),
+            RecordFault::Memory(memory) => PacketFault::Memory(memory),
         }
     }
 }

@@ -2,7 +2,8 @@
 
 ghost use Rattle.std.specs.Prelude.{◌≡◌};
 ghost use Rattle.nqs_records.specs.Reading.{Answers};
-ghost use Rattle.nqs_packets.specs.Bodies.{offer_at, ready_at, refused_at, commit_at, done_at, inquire_at, abort_at, stage_at, staged_at, ask_at, answer_at, ended_at, ended_ack_at};
+ghost use Rattle.nqs_packets.specs.Bodies.{offer_at, ready_at, refused_at, commit_at, done_at, inquire_at, abort_at, stage_at, staged_at, ask_at, answer_at};
+ghost use Rattle.nqs_packets.specs.Bodies.{ended_at, ended_ack_at};
 
 use crate::part::{read_bytes, read_cause, read_number, read_short_bytes, read_tool, read_words};
 use nqs_records::{

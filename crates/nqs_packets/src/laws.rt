@@ -18,7 +18,8 @@ pub fn what_is_read_is_short()
     ensures { WhatIsReadIsShort }
 {}
 
-/// A message that the rules call sane may be sent, where its numbers and names are those of the code's types.
+/// A message that the rules call sane may be sent, where its numbers and names are those of the
+/// code's types.
 pub fn what_is_sane_may_be_sent()
     ensures { WhatIsSaneMaySend }
 {}

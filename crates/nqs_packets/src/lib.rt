@@ -1,11 +1,14 @@
-//! The datagrams between hosts, clients and shepherds: each message has exactly one spelling as bytes.
+//! The datagrams between hosts, clients and shepherds: each message has exactly one spelling as
+//! bytes.
 //!
-//! A datagram is the version 1, the kind's number, the sender, the receiver (a byte each, the hosts below 16) and the
-//! fields of the kind, and nothing else (`specs/Spelling.antt` has the fields of each kind, `specs/Values.antt` the
-//! limits of the values). The fields are those of `nqs_records`; bytes go behind a length of four bytes.
+//! A datagram is the version 1, the kind's number, the sender, the receiver (a byte each, the hosts
+//! below 16) and the fields of the kind, and nothing else (`specs/Spelling.antt` has the fields of
+//! each kind, `specs/Values.antt` the limits of the values). The fields are those of `nqs_records`;
+//! bytes go behind a length of four bytes.
 //!
-//! Fields are read in order, and the first fault is the answer. A value that is not all there is `Short`; one that is
-//! there and is past its limits is `BadField` at its first byte, and for bytes at the first byte of their length.
+//! Fields are read in order, and the first fault is the answer. A value that is not all there is
+//! `Short`; one that is there and is past its limits is `BadField` at its first byte, and for bytes
+//! at the first byte of their length.
 #![tactic(auto)]
 
 mod fault;

@@ -1,4 +1,5 @@
-//! Fields that records don't have: numbers from 1 on, causes of refusals, bytes, and the words of commands.
+//! Fields that records don't have: numbers from 1 on, causes of refusals, bytes, and the words of
+//! commands.
 
 ghost use Rattle.std.specs.Prelude.{◌≡◌, drop};
 ghost use Rattle.nqs_rules.specs.Sane.{is_offer_refusal};

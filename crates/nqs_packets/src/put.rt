@@ -1,4 +1,5 @@
-//! Kinds of datagram, put at the end of a list: the fields alone. After `Memory` a part of them may stand there.
+//! Kinds of datagram, put at the end of a list: the fields alone. After `Memory` a part of them may
+//! stand there.
 
 ghost use Rattle.std.specs.Prelude.{◌≡◌, ◌∷◌, [], ◌<◌, ◌^◌, length, flat_map};
 ghost use Rattle.std.specs.List.{AllByRecursion};
@@ -32,7 +33,8 @@ pub(crate) fn put_offer(
 ) -> Result<(), Memory>
     requires carried { IsCarried carried.now }
     requires script { IsLong script.now }
-    ensures { Adds out.old.items (fields (u64_field number ∷ short_field queue.now ∷ carried_field carried.now ∷ bytes_field script.now ∷ [])) result out.new.items }
+    ensures { Adds out.old.items (fields (u64_field number ∷ short_field queue.now ∷ carried_field carried.now ∷ bytes_field script.now ∷ [])) result
+        out.new.items }
 {
     put_u64(number, out)?;
     put_name(queue, out)?;
@@ -111,7 +113,8 @@ pub(crate) fn put_ask(
     requires all { AllByRecursion IsLong words.now }
     requires few { length words.now < 2 ^ 16 }
     requires script { IsLong script.now }
-    ensures { Adds out.old.items (fields (u16_field port ∷ u64_field token ∷ short_field user.now ∷ u8_field (tool_number tool) ∷ words_field words.now ∷ bytes_field script.now ∷ [])) result out.new.items }
+    ensures { Adds out.old.items (fields (u16_field port ∷ u64_field token ∷ short_field user.now ∷ u8_field (tool_number tool) ∷ words_field words.now
+        ∷ bytes_field script.now ∷ [])) result out.new.items }
 {
     put_u16(port, out)?;
     put_u64(token, out)?;
@@ -143,7 +146,8 @@ pub(crate) fn put_ended(
 ) -> Result<(), Memory>
     requires output { IsLong output.now }
     requires error { IsLong error.now }
-    ensures { Adds out.old.items (fields (u16_field port ∷ id_field id ∷ u16_field start ∷ u8_field status ∷ bytes_field output.now ∷ bytes_field error.now ∷ [])) result out.new.items }
+    ensures { Adds out.old.items (fields (u16_field port ∷ id_field id ∷ u16_field start ∷ u8_field status ∷ bytes_field output.now ∷ bytes_field error.now
+        ∷ [])) result out.new.items }
 {
     put_u16(port, out)?;
     put_id(id, out)?;

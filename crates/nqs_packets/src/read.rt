@@ -83,7 +83,8 @@ fn read_packet(alloc: Global, bytes: &[u8]) -> Result<Message, PacketFault>
     Ok(message)
 }
 
-/// Reads the whole list as one datagram. A fault other than `Memory` is the first from the left, as `message_of` says it.
+/// Reads the whole list as one datagram. A fault other than `Memory` is the first from the left, as
+/// `message_of` says it.
 pub fn read_message(alloc: Global, bytes: &[u8]) -> Result<Message, PacketFault>
     ensures answer { AnswersPacket (message_of bytes.now) result }
     ensures ok { IfOk result (IsSpelledBy bytes.now) }

@@ -1,4 +1,5 @@
-//! Tests of the datagrams. They stand apart from the crate, so that it isn't proved once more for its tests.
+//! Tests of the datagrams. They stand apart from the crate, so that it isn't proved once more for
+//! its tests.
 #![tactic(auto)]
 
 #[cfg(test)]

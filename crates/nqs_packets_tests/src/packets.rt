@@ -1,4 +1,5 @@
-//! Datagrams by hand from their format: each is read, written again as it was, and faults are at their places.
+//! Datagrams by hand from their format: each is read, written again as it was, and faults are at
+//! their places.
 
 use nqs_packets::{PacketFault, read_message, write_message};
 use nqs_types::{Body, Carried, HostId, Message, RequestId, Tool};
@@ -120,10 +121,7 @@ fn reads_the_fields(rt: HostRuntime) {
 }
 
 fn fault(alloc: Global, bytes: &[u8]) -> Option<PacketFault> {
-    match &read_message(alloc, bytes) {
-        Ok(_) => None,
-        Err(fault) => Some(*fault),
-    }
+    read_message(alloc, bytes).err()
 }
 
 // Bytes that are no datagram, and their first fault.
@@ -185,6 +183,6 @@ const FAULTS: [(&[u8], PacketFault); 16] = [
 #[test]
 fn faults_are_at_their_places(rt: HostRuntime) {
     for (bytes, first) in &FAULTS {
-        assert_eq!(rt; fault(rt.alloc(), bytes), Some(*first));
+        assert_eq!(rt; fault(rt.alloc(), bytes).as_ref(), Some(first));
     }
 }

@@ -25,7 +25,8 @@ more-both p ps qs =
     append_assoc p.outputs (map output_of ps) (map output_of qs) ∙ ap (λ l. p.outputs ++ l) (sym (map-append output_of ps qs)) in
     let count : length (p.outputs ++ map output_of ps) ≡ length p.outputs + length ps =
     length-append p.outputs (map output_of ps) ∙ ap (λ n. length p.outputs + n) (length-map ps output_of) in
-    let reads : (p.reads ++ reads_from (length p.outputs) ps) ++ reads_from (length (p.outputs ++ map output_of ps)) qs ≡ p.reads ++ reads_from (length p.outputs) (ps ++ qs) =
+    let reads : (p.reads ++ reads_from (length p.outputs) ps) ++ reads_from (length (p.outputs ++ map output_of ps)) qs
+    ≡ p.reads ++ reads_from (length p.outputs) (ps ++ qs) =
     append_assoc p.reads (reads_from (length p.outputs) ps) (reads_from (length (p.outputs ++ map output_of ps)) qs)
     ∙ ap (λ n. p.reads ++ (reads_from (length p.outputs) ps ++ reads_from n qs)) count
     ∙ ap (λ l. p.reads ++ l) (sym (reads-append (length p.outputs) ps qs)) in

@@ -6,8 +6,8 @@ ghost use Rattle.std.specs.Fn.{AnyResult};
 use nqs_keyed::Table;
 use nqs_values::{Key, Keyed, Memory};
 
-/// What the function makes of a start and the values of the table, in order, where each call is given what the
-/// last one made. The first want of memory ends it.
+/// What the function makes of a start and the values of the table, in order, where each call is
+/// given what the last one made. The first want of memory ends it.
 pub fn fold_each<K: Key, V: Keyed<K> + Drop, A: Drop, F: Fn(A, &V) -> Result<A, Memory>>(
     start: A,
     table: &Table<K, V>,

@@ -1,5 +1,5 @@
-//! Each call of handovers that takes memory, once, on one host: alpha, which has a committed handover to beta, an offered
-//! one, and a promise of beta's. What changes, and what is said.
+//! Each call of handovers that takes memory, once, on one host: alpha, which has a committed
+//! handover to beta, an offered one, and a promise of beta's. What changes, and what is said.
 
 ghost use Rattle.std.specs.Prelude.{◌≡◌, OnOk, IsTrue};
 ghost use Rattle.nqs_state.specs.State.{content};

@@ -10,8 +10,8 @@ use std::test::Fail;
 // A queue: its name, whether it is enabled and started, its priority and its limit.
 type Queue = (Option<Name>, bool, bool, u8, u16);
 
-// What is compared of a state: the one queue, how many queues, requests, peers and operators there are, the first manager, the
-// parameters, and the host's own number with the counters.
+// What is compared of a state: the one queue, how many queues, requests, peers and operators there
+// are, the first manager, the parameters, and the host's own number with the counters.
 type Answers = (
     Queue,
     [usize; 4],

@@ -1,4 +1,5 @@
-//! The end of a job with two outputs for one file, on a host that has a stage to another host and a file that wasn't written.
+//! The end of a job with two outputs for one file, on a host that has a stage to another host and a
+//! file that wasn't written.
 
 use nqs_builders::{add, host, row, text};
 use nqs_stage::on_end;

@@ -1,4 +1,5 @@
-//! A host at events: a submission, deletions of a running request and of one that waits, and the launch of a job.
+//! A host at events: a submission, deletions of a running request and of one that waits, and the
+//! launch of a job.
 
 ghost use Rattle.std.specs.Prelude.{◌≡◌, ◌∷◌, [], codes, IfOk, OnOk};
 ghost use Rattle.nqs_state.specs.State.{content};
@@ -177,7 +178,8 @@ fn fill_with(
 ) -> Result<(), Memory>
     requires queues { state.old.queues.items ≡ [] }
     requires rows { state.old.rows.items ≡ [] }
-    ensures { OnOk result (content state.new ≡ record (content state.old) { site = codes "plot" ∷ []; queues = plot_queue ∷ []; peers = new_peer ∷ []; rows = plot_row (plot_job (codes "o") (codes "e")) standing lost ∷ [] }) }
+    ensures { OnOk result (content state.new ≡ record (content state.old)
+        { site = codes "plot" ∷ []; queues = plot_queue ∷ []; peers = new_peer ∷ []; rows = plot_row (plot_job (codes "o") (codes "e")) standing lost ∷ [] }) }
 {
     fill(alloc, state)?;
     let row = row(alloc, standing, lost)?;
@@ -295,7 +297,8 @@ fn deletes(plan: &Plan) -> bool {
     matches!(plan.change, Some(Change::Deleted(REQUEST)))
 }
 
-// What is seen of a plan that deletes: whether it dooms, kills and deletes, and how many outputs it has.
+// What is seen of a plan that deletes: whether it dooms, kills and deletes, and how many outputs it
+// has.
 type Deletion = (bool, bool, bool, usize);
 
 fn deleted(plan: &Plan) -> Deletion {

@@ -1,5 +1,6 @@
 -- Which faults a reading has, as a relation. Readings are joined as their relations are.
-use Rattle.std.proofs.Common.{◌≡◌, ◌↔◌, ◌⊎◌, inl, inr, ℕ, ◌+◌, ◌<◌, ◌≤◌, List, length, slice_range, Some, None, Option, Result, Ok, Err, Bool, true, false, cond, nat_lt, refl, ap, sym, ◌∙◌, arith}
+use Rattle.std.proofs.Common.{◌≡◌, ◌↔◌, ◌⊎◌, inl, inr, ℕ, ◌+◌, ◌<◌, ◌≤◌, List, length, slice_range, Some, None, Option, Result, Ok, Err, Bool, true, false}
+use Rattle.std.proofs.Common.{cond, nat_lt, refl, ap, sym, ◌∙◌, arith}
 use Rattle.std.proofs.lemmas.Bool.Decides.{nat_tests}
 use Rattle.nqs_types.specs.declared.ids.Named.{Named}
 use Rattle.nqs_types.specs.declared.fault.GrammarFault.{GrammarFault}
@@ -16,7 +17,8 @@ use Rattle.nqs_words.specs.declared.values.NotNamed.{NotNamed}
 use Rattle.nqs_words.specs.declared.values.NotNamed.TheVariants.{BadNumber, BadName}
 use Rattle.nqs_qmgr.specs.declared.head.Head.{Head}
 use Rattle.nqs_qmgr.specs.Read.{Read, ◌>>=◌, or_fault}
-use Rattle.nqs_qmgr.specs.Heads.{word_text, word_at, name_at, or_not_named, request_at, nothing_more, nothing_after, stem_of, chosen, head_of, head_at, bare, value_at, valued}
+use Rattle.nqs_qmgr.specs.Heads.{word_text, word_at, name_at, or_not_named, request_at, nothing_more, nothing_after, stem_of, chosen, head_of, head_at, bare}
+use Rattle.nqs_qmgr.specs.Heads.{value_at, valued}
 use Rattle.nqs_qmgr.specs.Says.{HasNoValue}
 use Rattle.nqs_qmgr.specs.Faults.{NoWord, WordTooMany, unnamed, NamesNone, NoHead, NoName, unread_request, NoRequest, ValueTooMany, NoValue}
 use Rattle.nqs_qmgr.proofs.Means.{Means}
@@ -66,7 +68,8 @@ fails-then {A} {B} r g P F G means fails behind f = ((λ e. to (failed r g f e))
 
 -- a value with the place behind it
 pub fails-after : {A B : Type 0} (r : Read (A × ℕ)) (g : A × ℕ → Read B) (P : A × ℕ → Type 0) (F : GrammarFault → Type 0) (G : ℕ → GrammarFault → Type 0)
-    → Means r P → Fails r F → ((p : A × ℕ) → Fails (g p) (G p.1)) → Fails (r >>= g) (λ (f : GrammarFault). F f ⊎ ((after : ℕ) × ((a : A) × P (a, after)) × G after f))
+    → Means r P → Fails r F → ((p : A × ℕ) → Fails (g p) (G p.1)) → Fails (r >>= g)
+    (λ (f : GrammarFault). F f ⊎ ((after : ℕ) × ((a : A) × P (a, after)) × G after f))
 fails-after {A} {B} r g P F G means fails behind f = ((λ e. to (failed r g f e)), from)
   where
     to : (r ≡ Err f) ⊎ ((p : A × ℕ) × (r ≡ Ok p) × (g p ≡ Err f)) → F f ⊎ ((after : ℕ) × ((a : A) × P (a, after)) × G after f)
@@ -110,15 +113,19 @@ pub fails-name : (line : List ℕ) (place : ℕ) → Fails (name_at line place) 
 unfolding name_at
 fails-name line place =
     fails-bind (word_at line place) (λ (word : Word). or_fault (name_of (word_text line word)) (fault.BadName word.start) >>= (λ name. Ok (name, word.end)))
-    (λ (word : Word). next_word SpacesAndTabs line place ≡ Some word) (NoWord line place) (λ (word : Word) (f : GrammarFault). (name_of (word_text line word) ≡ None) × (f ≡ fault.BadName word.start))
+    (λ (word : Word). next_word SpacesAndTabs line place ≡ Some word) (NoWord line place)
+    (λ (word : Word) (f : GrammarFault). (name_of (word_text line word) ≡ None) × (f ≡ fault.BadName word.start))
     (means-word line place) (fails-word line place)
-    (λ (word : Word). fails-map (or_fault (name_of (word_text line word)) (fault.BadName word.start)) (λ (name : List ℕ). (name, word.end)) (λ (f : GrammarFault). (name_of (word_text line word) ≡ None) × (f ≡ fault.BadName word.start)) (fails-or_fault (name_of (word_text line word)) (fault.BadName word.start)))
+    (λ (word : Word). fails-map (or_fault (name_of (word_text line word)) (fault.BadName word.start)) (λ (name : List ℕ). (name, word.end))
+    (λ (f : GrammarFault). (name_of (word_text line word) ≡ None) × (f ≡ fault.BadName word.start))
+    (fails-or_fault (name_of (word_text line word)) (fault.BadName word.start)))
 
 unread : (place : ℕ) (why : NotNamed) → or_not_named place (Err why) ≡ Err (unread_request why place)
 unread place BadNumber = refl
 unread place BadName = refl
 
-fails-named : (place : ℕ) (r : Result Named NotNamed) → Fails (or_not_named place r) (λ (f : GrammarFault). (why : NotNamed) × (r ≡ Err why) × (f ≡ unread_request why place))
+fails-named : (place : ℕ) (r : Result Named NotNamed) → Fails (or_not_named place r)
+    (λ (f : GrammarFault). (why : NotNamed) × (r ≡ Err why) × (f ≡ unread_request why place))
 fails-named place r f = (to r, (λ h. ap (or_not_named place) h.1 ∙ unread place h.0 ∙ ap (λ (y : GrammarFault). Err y) (sym h.2)))
   where
     to : (q : Result Named NotNamed) → or_not_named place q ≡ Err f → (why : NotNamed) × (q ≡ Err why) × (f ≡ unread_request why place)
@@ -131,7 +138,8 @@ unfolding request_at
 fails-request line place =
     fails-bind (word_at line place) (λ (word : Word). or_not_named word.start (named_of (word_text line word)) >>= (λ id. Ok (id, word.end)))
     (λ (word : Word). next_word SpacesAndTabs line place ≡ Some word) (NoWord line place) F (means-word line place) (fails-word line place)
-    (λ (word : Word). fails-map (or_not_named word.start (named_of (word_text line word))) (λ (id : Named). (id, word.end)) (F word) (fails-named word.start (named_of (word_text line word))))
+    (λ (word : Word). fails-map (or_not_named word.start (named_of (word_text line word))) (λ (id : Named). (id, word.end)) (F word)
+    (fails-named word.start (named_of (word_text line word))))
   where
     F : Word → GrammarFault → Type 0
     F word f = (why : NotNamed) × (named_of (word_text line word) ≡ Err why) × (f ≡ unread_request why word.start)
@@ -142,7 +150,8 @@ refused : (place : ℕ) (why : NoKeyword) → chosen place (Err why) ≡ Err (un
 refused place Unknown = refl
 refused place Ambiguous = refl
 
-fails-chosen : (place : ℕ) (r : Result Keyword NoKeyword) → Fails (chosen place r) (λ (f : GrammarFault). (why : NoKeyword) × (r ≡ Err why) × (f ≡ unnamed why place))
+fails-chosen : (place : ℕ) (r : Result Keyword NoKeyword) → Fails (chosen place r)
+    (λ (f : GrammarFault). (why : NoKeyword) × (r ≡ Err why) × (f ≡ unnamed why place))
 fails-chosen place r f = (to r, (λ h. ap (chosen place) h.1 ∙ refused place h.0 ∙ ap (λ (y : GrammarFault). Err y) (sym h.2)))
   where
     to : (q : Result Keyword NoKeyword) → chosen place q ≡ Err f → (why : NoKeyword) × (q ≡ Err why) × (f ≡ unnamed why place)
@@ -154,7 +163,8 @@ pub fails-head_of : (ks : List Keyword) (line : List ℕ) (word : Word) → Fail
 unfolding head_of
 fails-head_of ks line word =
     let r = keyword_of ks (slice_range line word.start (stem_of line word)) in
-    fails-map (chosen word.start r) (λ (keyword : Keyword). record { keyword = keyword; word = word; stem = stem_of line word }) (NamesNone ks line word) (fails-chosen word.start r)
+    fails-map (chosen word.start r) (λ (keyword : Keyword). record { keyword = keyword; word = word; stem = stem_of line word }) (NamesNone ks line word)
+    (fails-chosen word.start r)
 
 pub fails-head : (ks : List Keyword) (line : List ℕ) (place : ℕ) → Fails (head_at ks line place) (NoHead ks line place)
 unfolding head_at
@@ -179,7 +189,8 @@ pub fails-bare : {B : Type 0} (head : Head) (g : ℕ → Read B) (G : GrammarFau
 unfolding bare
 fails-bare {B} head g G fails f = by (nat_lt head.stem head.word.end) refl
   where
-    by : (t : Bool) → nat_lt head.stem head.word.end ≡ t → ((cond t (Err (fault.Extra head.word.start)) (Ok head.word.end) >>= g) ≡ Err f) ↔ (ValueTooMany head f ⊎ (HasNoValue head × G f))
+    by : (t : Bool) → nat_lt head.stem head.word.end ≡ t → ((cond t (Err (fault.Extra head.word.start)) (Ok head.word.end) >>= g) ≡ Err f) ↔
+        (ValueTooMany head f ⊎ (HasNoValue head × G f))
     by true is = ((λ e. inl (below head.stem head.word.end is, cc)), from)
       where
         from : ValueTooMany head f ⊎ (HasNoValue head × G f) → ◌≡◌ {A = Read B} (Err (fault.Extra head.word.start)) (Err f)
@@ -191,15 +202,24 @@ fails-bare {B} head g G fails f = by (nat_lt head.stem head.word.end) refl
         from (inl h) = no_two head.stem head.word.end h.0 (not_below head.stem head.word.end is)
         from (inr h) = (fails f).1 h.1
 
-pub fails-valued : {A : Type 0} (read : List ℕ → Option A) (bad : ℕ → GrammarFault) (line : List ℕ) (head : Head) → Fails (valued read bad line head) (NoValue read bad line head)
+pub fails-valued : {A : Type 0} (read : List ℕ → Option A) (bad : ℕ → GrammarFault) (line : List ℕ) (head : Head)
+    → Fails (valued read bad line head) (NoValue read bad line head)
 unfolding valued value_at
 fails-valued {A} read bad line head f = by (nat_lt head.stem head.word.end) refl
   where
     g : ℕ → Read A
     g place = or_fault (read (slice_range line place head.word.end)) (bad place)
 
-    by : (t : Bool) → nat_lt head.stem head.word.end ≡ t → ((cond t (Ok (head.stem + 1)) (Err (fault.Missing head.word.end)) >>= g) ≡ Err f) ↔ NoValue read bad line head f
-    by true is = ((λ e. inr (below head.stem head.word.end is, (fails-or_fault (read (slice_range line (head.stem + 1) head.word.end)) (bad (head.stem + 1)) f).0 e)), from)
+    by : (t : Bool) → nat_lt head.stem head.word.end ≡ t → ((cond t (Ok (head.stem + 1)) (Err (fault.Missing head.word.end)) >>= g)
+        ≡ Err f) ↔ NoValue read bad line head f
+    by true is = (
+      (λ e. inr (
+        below head.stem head.word.end is,
+        (fails-or_fault (read (slice_range line (head.stem + 1) head.word.end))
+            (bad (head.stem + 1)) f).0 e,
+      )),
+      from,
+    )
       where
         from : NoValue read bad line head f → g (head.stem + 1) ≡ Err f
         from (inl h) = no_two head.stem head.word.end (below head.stem head.word.end is) h.0

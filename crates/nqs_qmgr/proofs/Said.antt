@@ -1,4 +1,5 @@
-use Rattle.std.proofs.Common.{◌≡◌, ℕ, ◌+◌, ◌<◌, List, length, arith, refl, ap, ◌∙◌, sym, subst, Some, None, Option, Result, Ok, Err, cond, Bool, true, false, nat_lt, slice_range}
+use Rattle.std.proofs.Common.{◌≡◌, ℕ, ◌+◌, ◌<◌, List, length, arith, refl, ap, ◌∙◌, sym, subst, Some, None, Option, Result, Ok, Err, cond, Bool, true, false}
+use Rattle.std.proofs.Common.{nat_lt, slice_range}
 use Rattle.std.proofs.lemmas.Bool.Decides.{nat_tests}
 use Rattle.nqs_types.specs.declared.ids.Named.{Named}
 use Rattle.nqs_types.specs.declared.fault.GrammarFault.{GrammarFault}
@@ -15,7 +16,8 @@ use Rattle.nqs_words.specs.declared.values.NotNamed.{NotNamed}
 use Rattle.nqs_words.specs.declared.values.NotNamed.TheVariants.{BadNumber, BadName}
 use Rattle.nqs_qmgr.specs.declared.head.Head.{Head}
 use Rattle.nqs_qmgr.specs.Read.{Read, ◌>>=◌, or_fault}
-use Rattle.nqs_qmgr.specs.Heads.{word_text, word_at, name_at, or_not_named, request_at, nothing_more, nothing_after, last_name, stem_of, chosen, head_of, head_at, bare, value_at, valued}
+use Rattle.nqs_qmgr.specs.Heads.{word_text, word_at, name_at, or_not_named, request_at, nothing_more, nothing_after, last_name, stem_of, chosen, head_of}
+use Rattle.nqs_qmgr.specs.Heads.{head_at, bare, value_at, valued}
 use Rattle.nqs_qmgr.specs.Says.{HasHead, HasNoValue, Given, Ends, NameIs, RequestIs, LastName}
 use Rattle.nqs_qmgr.proofs.Means.{Means, bound, bind, or_fault-Ok, or_fault-Some, means-last}
 
@@ -23,8 +25,11 @@ use Rattle.nqs_qmgr.proofs.Means.{Means, bound, bind, or_fault-Ok, or_fault-Some
 
 pub means-word : (line : List ℕ) (place : ℕ) → Means (word_at line place) (λ (word : Word). next_word SpacesAndTabs line place ≡ Some word)
 unfolding word_at
-means-word line place word =
-    (or_fault-Ok (next_word SpacesAndTabs line place) (fault.Missing (length line)) word, or_fault-Some (next_word SpacesAndTabs line place) (fault.Missing (length line)) word)
+means-word line place word = (
+  or_fault-Ok (next_word SpacesAndTabs line place) (fault.Missing (length line)) word,
+  or_fault-Some (next_word SpacesAndTabs line place)
+      (fault.Missing (length line)) word,
+)
 
 pub means-end : (line : List ℕ) (place : ℕ) → Means (nothing_after line place) (λ (u : Unit {0}). Ends line place)
 unfolding nothing_after
@@ -47,7 +52,8 @@ means-name line place p = (
       let same = named_pair n.0 d.0.end p n.2 in
       (d.0, (means-word line place d.0).0 d.1, named ∙ ap (λ (x : List ℕ). Some x) same.0, same.1)),
   (λ h. bind (word_at line place) f h.0 p ((means-word line place h.0).1 h.1)
-      (bind (or_fault (name_of (word_text line h.0)) (fault.BadName h.0.start)) (g h.0) p.0 p (or_fault-Some (name_of (word_text line h.0)) (fault.BadName h.0.start) p.0 h.2)
+      (bind (or_fault (name_of (word_text line h.0)) (fault.BadName h.0.start)) (g h.0) p.0 p
+      (or_fault-Some (name_of (word_text line h.0)) (fault.BadName h.0.start) p.0 h.2)
       (ap (λ (n : ℕ). Ok (p.0, n)) (sym h.3)))),
 )
   where
@@ -93,7 +99,8 @@ chosen-Ok place (Ok j) keyword e = cc
 chosen-Ok place (Err Unknown) keyword e = cc
 chosen-Ok place (Err Ambiguous) keyword e = cc
 
-pub head_of-Ok : (ks : List Keyword) (line : List ℕ) (place : ℕ) (word : Word) (head : Head) → next_word SpacesAndTabs line place ≡ Some word → head_of ks line word ≡ Ok head → HasHead ks line place head
+pub head_of-Ok : (ks : List Keyword) (line : List ℕ) (place : ℕ) (word : Word) (head : Head) → next_word SpacesAndTabs line place ≡ Some word
+    → head_of ks line word ≡ Ok head → HasHead ks line place head
 unfolding head_of
 head_of-Ok ks line place word head next e =
     let r = keyword_of ks (slice_range line word.start (stem_of line word)) in
@@ -120,7 +127,8 @@ tested : {A : Type 0} (t : Bool) (x : GrammarFault) (a b : A) → cond t (Err x)
 tested true x a b e = cc
 tested false x a b e = (refl, cc)
 
-pub means-bare : {B : Type 0} (head : Head) (f : ℕ → Read B) (Q : B → Type 0) → Means (f head.word.end) Q → Means (bare head >>= f) (λ (b : B). HasNoValue head × Q b)
+pub means-bare : {B : Type 0} (head : Head) (f : ℕ → Read B) (Q : B → Type 0) → Means (f head.word.end) Q
+    → Means (bare head >>= f) (λ (b : B). HasNoValue head × Q b)
 unfolding bare
 means-bare {B} head f Q hf b = (
   (λ e.
@@ -148,7 +156,8 @@ pub value_at-has : (head : Head) → head.stem < head.word.end → value_at head
 unfolding value_at
 value_at-has head h = let some : nat_lt head.stem head.word.end ≡ true = grind (arith, nat_tests) in rw some refl
 
-pub means-valued : {A : Type 0} (read : List ℕ → Option A) (bad : ℕ → GrammarFault) (line : List ℕ) (head : Head) → Means (valued read bad line head) (Given read line head)
+pub means-valued : {A : Type 0} (read : List ℕ → Option A) (bad : ℕ → GrammarFault) (line : List ℕ) (head : Head)
+    → Means (valued read bad line head) (Given read line head)
 unfolding valued
 means-valued {A} read bad line head a = (
   (λ e.
@@ -156,7 +165,8 @@ means-valued {A} read bad line head a = (
       let v = value_at-Ok head b.0 b.1 in
       let r = or_fault-Ok (read (slice_range line b.0 head.word.end)) (bad b.0) a b.2 in
       (v.0, ap (λ (q : ℕ). read (slice_range line q head.word.end)) v.1 ∙ r)),
-  (λ h. bind (value_at head) f (head.stem + 1) a (value_at-has head h.0) (or_fault-Some (read (slice_range line (head.stem + 1) head.word.end)) (bad (head.stem + 1)) a h.1)),
+  (λ h. bind (value_at head) f (head.stem + 1) a (value_at-has head h.0) (or_fault-Some (read (slice_range line (head.stem + 1) head.word.end))
+      (bad (head.stem + 1)) a h.1)),
 )
   where
     f : ℕ → Read A

@@ -22,7 +22,8 @@ use Rattle.nqs_qmgr.specs.declared.options.Settings.{Settings}
 use Rattle.nqs_qmgr.specs.Heads.{word_text, stem_of, limit_of}
 use Rattle.nqs_qmgr.specs.Options.{no_settings}
 use Rattle.nqs_qmgr.specs.Lines.{verbs, nouns, shape_of}
-use Rattle.nqs_qmgr.specs.Shapes.{Shape, nothing, one_name, number, name_value, number_and_name, limit_and_name, two_names, dest_and_name, one_request, request_and_name, request_and_priority, name_and_forms, made_queue}
+use Rattle.nqs_qmgr.specs.Shapes.{Shape, nothing, one_name, number, name_value, number_and_name, limit_and_name, two_names, dest_and_name, one_request}
+use Rattle.nqs_qmgr.specs.Shapes.{request_and_name, request_and_priority, name_and_forms, made_queue}
 use Rattle.nqs_qmgr.specs.Says.{HasHead, HasNoValue, Given, Ends, NameIs, RequestIs, GivesOption}
 
 -- ---- the word at the fault
@@ -41,7 +42,8 @@ unnamed Ambiguous place = fault.Ambiguous place
 
 -- the word names none of the keywords, or more than one
 abbrev pub NamesNone : List Keyword → List ℕ → Word → GrammarFault → Type 0
-NamesNone keywords line word f = (why : NoKeyword) × (keyword_of keywords (slice_range line word.start (stem_of line word)) ≡ Err why) × (f ≡ unnamed why word.start)
+NamesNone keywords line word f = (why : NoKeyword) × (keyword_of keywords (slice_range line word.start (stem_of line word)) ≡ Err why)
+    × (f ≡ unnamed why word.start)
 
 abbrev pub NoKeywordThere : List Keyword → List ℕ → ℕ → GrammarFault → Type 0
 NoKeywordThere keywords line place f = (word : Word) × (next_word SpacesAndTabs line place ≡ Some word) × NamesNone keywords line word f
@@ -52,7 +54,8 @@ NoHead keywords line place f = NoWord line place f ⊎ NoKeywordThere keywords l
 
 -- a name must stand next, and doesn't
 abbrev pub NoName : List ℕ → ℕ → GrammarFault → Type 0
-NoName line place f = NoWord line place f ⊎ ((word : Word) × (next_word SpacesAndTabs line place ≡ Some word) × ((name_of (word_text line word) ≡ None) × (f ≡ fault.BadName word.start)))
+NoName line place f = NoWord line place f ⊎ ((word : Word) × (next_word SpacesAndTabs line place ≡ Some word)
+    × ((name_of (word_text line word) ≡ None) × (f ≡ fault.BadName word.start)))
 
 abbrev pub unread_request : NotNamed → ℕ → GrammarFault
 unread_request BadNumber place = fault.BadNumber place
@@ -61,7 +64,8 @@ unread_request BadName place = fault.BadName place
 -- a request must stand next, and doesn't
 abbrev pub NoRequest : List ℕ → ℕ → GrammarFault → Type 0
 NoRequest line place f =
-    NoWord line place f ⊎ ((word : Word) × (next_word SpacesAndTabs line place ≡ Some word) × ((why : NotNamed) × (named_of (word_text line word) ≡ Err why) × (f ≡ unread_request why word.start)))
+    NoWord line place f ⊎ ((word : Word) × (next_word SpacesAndTabs line place ≡ Some word)
+    × ((why : NotNamed) × (named_of (word_text line word) ≡ Err why) × (f ≡ unread_request why word.start)))
 
 abbrev pub HasValue : Head → Type 0
 HasValue head = head.stem < head.word.end
@@ -73,7 +77,8 @@ ValueTooMany head f = HasValue head × (f ≡ fault.Extra head.word.start)
 -- the keyword takes a value, and has no `=`, or its value's text doesn't read
 abbrev pub NoValue : {A : Type 0} → (List ℕ → Option A) → (ℕ → GrammarFault) → List ℕ → Head → GrammarFault → Type 0
 NoValue read bad line head f =
-    (HasNoValue head × (f ≡ fault.Missing head.word.end)) ⊎ (HasValue head × ((read (slice_range line (head.stem + 1) head.word.end) ≡ None) × (f ≡ bad (head.stem + 1))))
+    (HasNoValue head × (f ≡ fault.Missing head.word.end)) ⊎ (HasValue head
+    × ((read (slice_range line (head.stem + 1) head.word.end) ≡ None) × (f ≡ bad (head.stem + 1))))
 
 -- ---- what each line of the table wants
 
@@ -140,15 +145,19 @@ Misstands (Some a_dest) line head f = NoValue dest_of fault.BadName line head f
 
 -- an option that was given before, or one whose value doesn't stand
 abbrev pub Misgiven : List ℕ → Head → Settings → Keyword → GrammarFault → Type 0
-Misgiven line head s k.Priority f = ((is_some s.priority ≡ true) × (f ≡ fault.Extra head.word.start)) ⊎ ((is_some s.priority ≡ false) × NoValue (number_of 0 63) fault.BadNumber line head f)
-Misgiven line head s k.RunLimit f = ((is_some s.run_limit ≡ true) × (f ≡ fault.Extra head.word.start)) ⊎ ((is_some s.run_limit ≡ false) × NoValue (number_of 0 10000) fault.BadNumber line head f)
+Misgiven line head s k.Priority f = ((is_some s.priority ≡ true) × (f ≡ fault.Extra head.word.start))
+    ⊎ ((is_some s.priority ≡ false) × NoValue (number_of 0 63) fault.BadNumber line head f)
+Misgiven line head s k.RunLimit f = ((is_some s.run_limit ≡ true) × (f ≡ fault.Extra head.word.start))
+    ⊎ ((is_some s.run_limit ≡ false) × NoValue (number_of 0 10000) fault.BadNumber line head f)
 Misgiven line head s k.PipeOnly f = ((s.pipe_only ≡ true) × (f ≡ fault.Extra head.word.start)) ⊎ ((s.pipe_only ≡ false) × ValueTooMany head f)
-Misgiven line head s k.Destination f = ((is_some s.destination ≡ true) × (f ≡ fault.Extra head.word.start)) ⊎ ((is_some s.destination ≡ false) × NoValue dest_of fault.BadName line head f)
+Misgiven line head s k.Destination f = ((is_some s.destination ≡ true) × (f ≡ fault.Extra head.word.start))
+    ⊎ ((is_some s.destination ≡ false) × NoValue dest_of fault.BadName line head f)
 Misgiven line head s _ f = f ≡ fault.UnknownWord head.word.start
 
 -- the next word is no option, or one that may not stand there
 abbrev pub NoOption : List Keyword → List ℕ → ℕ → Settings → GrammarFault → Type 0
-NoOption keywords line place s f = NoKeywordThere keywords line place f ⊎ ((head : Head) × HasHead keywords line place head × Misgiven line head s head.keyword f)
+NoOption keywords line place s f = NoKeywordThere keywords line place f ⊎
+    ((head : Head) × HasHead keywords line place head × Misgiven line head s head.keyword f)
 
 -- behind these options, one after another, comes the fault
 abbrev pub FaultsBehind : List Keyword → List ℕ → ℕ → Settings → List Head → GrammarFault → Type 0
@@ -165,9 +174,11 @@ FaultsOptions keywords line place f = (heads : List Head) × FaultsBehind keywor
 abbrev pub FaultsRest : Rest → List ℕ → ℕ → GrammarFault → Type 0
 FaultsRest the_end line place f = WordTooMany line place f
 FaultsRest (a_name_then rest) line place f = NoName line place f ⊎ ((after : ℕ) × ((q : List ℕ) × NameIs line place (q, after)) × FaultsRest rest line after f)
-FaultsRest (a_request_then rest) line place f = NoRequest line place f ⊎ ((after : ℕ) × ((r : Named) × RequestIs line place (r, after)) × FaultsRest rest line after f)
+FaultsRest (a_request_then rest) line place f = NoRequest line place f ⊎ ((after : ℕ) × ((r : Named) × RequestIs line place (r, after))
+    × FaultsRest rest line after f)
 FaultsRest (a_setting keyword value) line place f =
-    NoHead (keyword ∷ []) line place f ⊎ ((head : Head) × HasHead (keyword ∷ []) line place head × (Misstands (Some value) line head f ⊎ (Stands (Some value) line head × WordTooMany line head.word.end f)))
+    NoHead (keyword ∷ []) line place f ⊎ ((head : Head) × HasHead (keyword ∷ []) line place head
+    × (Misstands (Some value) line head f ⊎ (Stands (Some value) line head × WordTooMany line head.word.end f)))
 FaultsRest (some_options keywords) line place f = FaultsOptions keywords line place f
 
 -- a fault from a keyword on: of the keyword, or of what stands behind it
@@ -180,7 +191,8 @@ FaultsShape shape line head f = FaultsFrom (value_of shape) (rest_of shape) line
 
 -- a fault behind the verb
 abbrev pub FaultsNoun : List ℕ → ℕ → Keyword → GrammarFault → Type 0
-FaultsNoun line place verb f = NoHead (nouns verb) line place f ⊎ ((head : Head) × HasHead (nouns verb) line place head × FaultsShape (shape_of verb head.keyword) line head f)
+FaultsNoun line place verb f = NoHead (nouns verb) line place f ⊎ ((head : Head) × HasHead (nouns verb) line place head
+    × FaultsShape (shape_of verb head.keyword) line head f)
 
 abbrev pub FaultsVerb : List ℕ → Head → Keyword → GrammarFault → Type 0
 FaultsVerb line verb k.Shutdown f = FaultsFrom None the_end line verb f

@@ -50,7 +50,6 @@ place_of (fault.Missing place) = place
 place_of (fault.Extra place) = place
 place_of (fault.BadName place) = place
 place_of (fault.BadNumber place) = place
-place_of fault.Memory = 0
 
 -- the fault is told at the word, within it or right behind it
 abbrev pub IsAt : GrammarFault → Word → Type 0

@@ -25,7 +25,8 @@ use Rattle.nqs_qmgr.specs.declared.options.Settings.{Settings}
 use Rattle.nqs_qmgr.specs.Read.{Read, ◌>>=◌}
 use Rattle.nqs_qmgr.specs.Heads.{name_at, request_at, nothing_after, last_name, head_at, bare, valued, limit_of}
 use Rattle.nqs_qmgr.specs.Options.{options, no_settings}
-use Rattle.nqs_qmgr.specs.Shapes.{Shape, nothing, alone, one_name, number, name_value, number_and_name, limit_and_name, two_names, dest_and_name, one_request, request_and_name, request_and_priority, name_and_forms, made_queue}
+use Rattle.nqs_qmgr.specs.Shapes.{Shape, nothing, alone, one_name, number, name_value, number_and_name, limit_and_name, two_names, dest_and_name, one_request}
+use Rattle.nqs_qmgr.specs.Shapes.{request_and_name, request_and_priority, name_and_forms, made_queue}
 
 -- ---- commands
 
@@ -158,13 +159,15 @@ shape_of verb noun = single_shape verb
 -- ---- the keywords of each place
 
 unfoldable pub verbs : List Keyword
-verbs = k.Abort ∷ k.Add ∷ k.Create ∷ k.Delete ∷ k.Disable ∷ k.Enable ∷ k.Hold ∷ k.Modify ∷ k.Move ∷ k.Purge ∷ k.Release ∷ k.Remove ∷ k.Set ∷ k.Show ∷ k.Shutdown ∷ k.Start ∷ k.Stop ∷ []
+verbs = k.Abort ∷ k.Add ∷ k.Create ∷ k.Delete ∷ k.Disable ∷ k.Enable ∷ k.Hold ∷ k.Modify ∷ k.Move ∷ k.Purge ∷ k.Release ∷ k.Remove ∷ k.Set ∷ k.Show ∷ k.Shutdown
+    ∷ k.Start ∷ k.Stop ∷ []
 
 abbrev pub added_nouns : List Keyword
 added_nouns = k.Destination ∷ k.Queue ∷ k.Device ∷ k.User ∷ k.Manager ∷ k.Operator ∷ []
 
 abbrev pub set_nouns : List Keyword
-set_nouns = k.Priority ∷ k.RunLimit ∷ k.UserLimit ∷ k.CpuLimit ∷ k.MemoryLimit ∷ k.ComplexLimit ∷ k.GlobalLimit ∷ k.Forms ∷ k.UnrestrictedAccess ∷ k.NoAccess ∷ k.DefaultQueue ∷ k.NoDefaultQueue ∷ k.Patience ∷ k.RetryWait ∷ []
+set_nouns = k.Priority ∷ k.RunLimit ∷ k.UserLimit ∷ k.CpuLimit ∷ k.MemoryLimit ∷ k.ComplexLimit ∷ k.GlobalLimit ∷ k.Forms ∷ k.UnrestrictedAccess ∷ k.NoAccess
+    ∷ k.DefaultQueue ∷ k.NoDefaultQueue ∷ k.Patience ∷ k.RetryWait ∷ []
 
 unfoldable pub nouns : Keyword → List Keyword
 nouns k.Create = k.BatchQueue ∷ k.DeviceQueue ∷ k.PipeQueue ∷ k.Complex ∷ k.Device ∷ []

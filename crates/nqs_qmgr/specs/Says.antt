@@ -16,7 +16,8 @@ use Rattle.nqs_qmgr.specs.declared.options.Settings.{Settings}
 use Rattle.nqs_qmgr.specs.Heads.{word_text, stem_of, limit_of}
 use Rattle.nqs_qmgr.specs.Options.{no_settings}
 use Rattle.nqs_qmgr.specs.Lines.{verbs, nouns, shape_of}
-use Rattle.nqs_qmgr.specs.Shapes.{Shape, nothing, alone, one_name, number, name_value, number_and_name, limit_and_name, two_names, dest_and_name, one_request, request_and_name, request_and_priority, name_and_forms, made_queue}
+use Rattle.nqs_qmgr.specs.Shapes.{Shape, nothing, alone, one_name, number, name_value, number_and_name, limit_and_name, two_names, dest_and_name, one_request}
+use Rattle.nqs_qmgr.specs.Shapes.{request_and_name, request_and_priority, name_and_forms, made_queue}
 
 -- the next word from a place names one of the keywords
 pub record HasHead (keywords : List Keyword) (line : List ℕ) (place : ℕ) (head : Head) : Type 0 where
@@ -81,10 +82,13 @@ OneRequest line head r = HasNoValue head × ((after : ℕ) × RequestIs line hea
 
 -- an option that wasn't given before, and the settings with it
 abbrev pub GivesOption : List ℕ → Head → Settings → Keyword → Settings → Type 0
-GivesOption line head s k.Priority more = (is_some s.priority ≡ false) × ((n : ℕ) × Given (number_of 0 63) line head n × (more ≡ record s { priority = Some n }))
-GivesOption line head s k.RunLimit more = (is_some s.run_limit ≡ false) × ((n : ℕ) × Given (number_of 0 10000) line head n × (more ≡ record s { run_limit = Some n }))
+GivesOption line head s k.Priority more = (is_some s.priority ≡ false) × ((n : ℕ) × Given (number_of 0 63) line head n
+    × (more ≡ record s { priority = Some n }))
+GivesOption line head s k.RunLimit more = (is_some s.run_limit ≡ false) ×
+    ((n : ℕ) × Given (number_of 0 10000) line head n × (more ≡ record s { run_limit = Some n }))
 GivesOption line head s k.PipeOnly more = (s.pipe_only ≡ false) × (HasNoValue head × (more ≡ record s { pipe_only = true }))
-GivesOption line head s k.Destination more = (is_some s.destination ≡ false) × ((d : NamedDest) × Given dest_of line head d × (more ≡ record s { destination = Some d }))
+GivesOption line head s k.Destination more = (is_some s.destination ≡ false)
+    × ((d : NamedDest) × Given dest_of line head d × (more ≡ record s { destination = Some d }))
 GivesOption line head s _ more = ⊥
 
 -- options of these keywords, one behind another up to the line's end
@@ -116,7 +120,8 @@ HasShape (made_queue keywords f) line head c = (p : List ℕ × Settings) × Nam
 -- what the line says behind its verb
 abbrev pub AfterVerb : List ℕ → Head → Keyword → Command → Type 0
 AfterVerb line verb k.Shutdown c = Alone line verb × (c ≡ command.Shutdown)
-AfterVerb line verb keyword c = HasNoValue verb × ((head : Head) × HasHead (nouns keyword) line verb.word.end head × HasShape (shape_of keyword head.keyword) line head c)
+AfterVerb line verb keyword c = HasNoValue verb × ((head : Head) × HasHead (nouns keyword) line verb.word.end head
+    × HasShape (shape_of keyword head.keyword) line head c)
 
 -- the line says the command
 abbrev pub Says : List ℕ → Command → Type 0

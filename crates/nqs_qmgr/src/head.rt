@@ -4,7 +4,8 @@ ghost use Rattle.std.specs.Prelude.{◌≡◌, ◌≤◌, ◌<◌, length, IfOk}
 ghost use Rattle.nqs_words.specs.Words.{Fits};
 ghost use Rattle.nqs_words.specs.Values.{name_of, number_of, dest_of};
 ghost use Rattle.nqs_types.specs.declared.fault.GrammarFault.TheVariants as fault;
-ghost use Rattle.nqs_qmgr.specs.Heads.{word_at, name_at, request_at, nothing_after, last_name, stem_of, head_of, head_at, bare, value_at, valued, limit_of, FitsLine};
+ghost use Rattle.nqs_qmgr.specs.Heads.{word_at, name_at, request_at, nothing_after, last_name, stem_of, head_of, head_at, bare, value_at, valued, limit_of};
+ghost use Rattle.nqs_qmgr.specs.Heads.{FitsLine};
 
 use crate::value::{Amount, limit_of};
 use nqs_types::{GrammarFault, Named, NamedDest};
@@ -14,7 +15,8 @@ use nqs_words::{
     number_of, place_of,
 };
 
-/// A word with its keyword, and the place where its stem ends: that of its first `=`, or the word's end.
+/// A word with its keyword, and the place where its stem ends: that of its first `=`, or the word's
+/// end.
 #[derive(Clone, Copy)]
 pub struct Head {
     pub keyword: Keyword,

@@ -1,9 +1,10 @@
-//! Laws on the definitions: what is read is what the grammar has, and what is answered else is the first fault.
+//! Laws on the definitions: what is read is what the grammar has, and what is answered else is the
+//! first fault.
 
 ghost use Rattle.nqs_qmgr.specs.Law.{ReadsWhatIsSaid, FindsTheFault, SaysOrFaults, NeverBoth, OneCommand, OneFault, NoCommandBeginsSo};
 
-/// A line is read as a command exactly where the grammar has it, and a fault is answered exactly where the line
-/// has it first; each line says one command or has one first fault, never both.
+/// A line is read as a command exactly where the grammar has it, and a fault is answered exactly
+/// where the line has it first; each line says one command or has one first fault, never both.
 pub fn reads_what_is_said()
     ensures said { ReadsWhatIsSaid }
     ensures faults { FindsTheFault }
@@ -13,8 +14,8 @@ pub fn reads_what_is_said()
     ensures one_fault { OneFault }
 {}
 
-/// A fault other than a missing word is told at a word, and every line with the same words up to that one has the
-/// same fault, whatever follows: no command begins with these words.
+/// A fault other than a missing word is told at a word, and every line with the same words up to
+/// that one has the same fault, whatever follows: no command begins with these words.
 pub fn no_command_begins_with_a_fault()
     ensures { NoCommandBeginsSo }
 {}

@@ -1,9 +1,10 @@
-//! Command lines of qmgr. `read_qmgr` gives the command that a line says, or the first fault from the left.
+//! Command lines of qmgr. `read_qmgr` gives the command that a line says, or the first fault from
+//! the left.
 //!
-//! specs/Lines.antt has the table of lines, by verb and second keyword, and how lines are read; specs/Says.antt
-//! the same as a grammar, specs/Faults.antt which first fault a line has, and specs/Law.antt that what is read is
-//! just that, and that whatever follows a fault's word, the line has it. docs/commands.md has the lines in plain
-//! words. No call takes memory.
+//! specs/Lines.antt has the table of lines, by verb and second keyword, and how lines are read;
+//! specs/Says.antt the same as a grammar, specs/Faults.antt which first fault a line has, and
+//! specs/Law.antt that what is read is just that, and that whatever follows a fault's word, the
+//! line has it. docs/commands.md has the lines in plain words. No call takes memory.
 #![tactic(auto)]
 
 mod edits;

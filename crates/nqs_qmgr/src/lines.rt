@@ -3,7 +3,8 @@
 ghost use Rattle.std.specs.Prelude.{◌≡◌, length};
 ghost use Rattle.nqs_words.specs.declared.keyword.Keyword.TheVariants as k;
 ghost use Rattle.nqs_qmgr.specs.Heads.{FitsLine};
-ghost use Rattle.nqs_qmgr.specs.Lines.{create_shape, delete_shape, enable_shape, disable_shape, set_shape, other_setting, add_shape, remove_shape, show_code, show_shape, single_shape, shape_of, read_shape, after_verb, qmgr_line};
+ghost use Rattle.nqs_qmgr.specs.Lines.{create_shape, delete_shape, enable_shape, disable_shape, set_shape, other_setting, add_shape, remove_shape, show_code};
+ghost use Rattle.nqs_qmgr.specs.Lines.{show_shape, single_shape, shape_of, read_shape, after_verb, qmgr_line};
 ghost use Rattle.nqs_qmgr.specs.Law.{Answers};
 
 use crate::edits::{of_access, of_conf, of_devices, of_limits, of_rows};
@@ -397,8 +398,7 @@ fn read_line(line: &[u8]) -> Result<Command, GrammarFault>
     after_verb(line, verb)
 }
 
-/// What a line says, or its first fault from the left, with its place in bytes. It takes no memory and never
-/// answers that it wants any.
+/// What a line says, or its first fault from the left, with its place in bytes. It takes no memory.
 pub fn read_qmgr(line: &[u8]) -> Result<Command, GrammarFault>
     ensures read { result ≡ qmgr_line line.now }
     ensures answers { Answers line.now result }

@@ -101,7 +101,8 @@ fn with_option(line: &[u8], head: Head, settings: Settings) -> Result<Settings, 
     }
 }
 
-/// The options from a place up to the line's end, behind those that were read already; at most `left` words.
+/// The options from a place up to the line's end, behind those that were read already; at most
+/// `left` words.
 #[tactic(auto, unfolding(crate::specs::Options::options))]
 pub fn options(
     left: u8,

@@ -5,7 +5,8 @@ ghost use Rattle.nqs_words.specs.Values.{name_of, number_of, dest_of};
 ghost use Rattle.nqs_types.specs.declared.fault.GrammarFault.TheVariants as fault;
 ghost use Rattle.nqs_words.specs.declared.keyword.Keyword.TheVariants as k;
 ghost use Rattle.nqs_qmgr.specs.Heads.{FitsLine, limit_of};
-ghost use Rattle.nqs_qmgr.specs.Lines.{read_alone, read_one_name, read_value, read_value_and_name, last_value, read_one_request, read_request_and_name, read_request_and_priority, read_name_and_forms, read_made_queue};
+ghost use Rattle.nqs_qmgr.specs.Lines.{read_alone, read_one_name, read_value, read_value_and_name, last_value, read_one_request, read_request_and_name};
+ghost use Rattle.nqs_qmgr.specs.Lines.{read_request_and_priority, read_name_and_forms, read_made_queue};
 
 use crate::head::{
     Head, bare, dest_in, head_at, last_name, limit_in, name_at, name_in, nothing_after, number_in,

@@ -1,5 +1,6 @@
 -- Lines of a script one behind another, and submissions whole.
-use Rattle.std.proofs.Common.{◌≡◌, ◌⊎◌, inl, inr, ℕ, zero, suc, ◌+◌, ◌<◌, ◌≤◌, List, [], ◌∷◌, length, take, drop, Ok, Err, Result, Bool, true, false, cond, nat_lt, refl, ap, sym, ◌∙◌, arith}
+use Rattle.std.proofs.Common.{◌≡◌, ◌⊎◌, inl, inr, ℕ, zero, suc, ◌+◌, ◌<◌, ◌≤◌, List, [], ◌∷◌, length, take, drop, Ok, Err, Result, Bool, true, false, cond}
+use Rattle.std.proofs.Common.{nat_lt, refl, ap, sym, ◌∙◌, arith}
 use Rattle.std.proofs.lemmas.Bool.Decides.{nat_tests}
 use Rattle.std.proofs.lemmas.List.{drop_all}
 use Rattle.nqs_types.specs.declared.fault.WordsFault.{WordsFault}
@@ -48,7 +49,8 @@ further script place less = by (nat_lt (line_end script place) (length script)) 
     by false e = less
 
 -- a line of words, and what follows it
-goes : (r : Read Options) (g : Options → Read Options) → ((r >>= (λ (more : Options). Ok (more, true))) >>= (λ (step : Options × Bool). go_on step g)) ≡ (r >>= g)
+goes : (r : Read Options) (g : Options → Read Options) → ((r >>= (λ (more : Options). Ok (more, true))) >>= (λ (step : Options × Bool). go_on step g))
+    ≡ (r >>= g)
 goes (Ok a) g = refl
 goes (Err x) g = refl
 
@@ -66,7 +68,8 @@ of_words : (script : List ℕ) (line place : ℕ) (o : Options) (g : Options →
 unfolding line_options
 of_words script line place o g = goes (OfLine script line place o) g
 
-lines-Ok : (m : ℕ) (script : List ℕ) (line place : ℕ) (o all : Options) → length script ≤ m + place → script_options m script line place o ≡ Ok all → (lines : List Options) × GiveLines script place o lines all
+lines-Ok : (m : ℕ) (script : List ℕ) (line place : ℕ) (o all : Options) → length script ≤ m + place → script_options m script line place o ≡ Ok all
+    → (lines : List Options) × GiveLines script place o lines all
 unfolding script_options line_options
 lines-Ok zero script line place o all past e = ([], (at_end script place (omega arith), cc))
 lines-Ok (suc m) script line place o all past e = by (lines-Ok m script (line + 1) (next_line script place)) (line_kind (drop place script)) refl e
@@ -74,8 +77,10 @@ lines-Ok (suc m) script line place o all past e = by (lines-Ok m script (line + 
     next : Options → Read Options
     next = script_options m script (line + 1) (next_line script place)
 
-    by : ((o all : Options) → length script ≤ m + next_line script place → script_options m script (line + 1) (next_line script place) o ≡ Ok all → (lines : List Options) × GiveLines script (next_line script place) o lines all)
-        → (k : LineKind) → line_kind (drop place script) ≡ k → Line k (script_options m script (line + 1) (next_line script place)) script line place o ≡ Ok all → (lines : List Options) × GiveLines script place o lines all
+    by : ((o all : Options) → length script ≤ m + next_line script place → script_options m script (line + 1) (next_line script place) o ≡ Ok all
+        → (lines : List Options) × GiveLines script (next_line script place) o lines all)
+        → (k : LineKind) → line_kind (drop place script) ≡ k → Line k (script_options m script (line + 1) (next_line script place)) script line place o ≡ Ok all
+        → (lines : List Options) × GiveLines script place o lines all
     by others Last is h = ([], (is, cc))
     by others Remark is h =
         let less = further script place (inside script place Remark is (λ no. cc)) in
@@ -83,30 +88,37 @@ lines-Ok (suc m) script line place o all past e = by (lines-Ok m script (line + 
         (o ∷ rest.0, (inl (is, refl), rest.1))
     by others Words is h =
         let less = further script place (inside script place Words is (λ no. cc)) in
-        let b = bound (OfLine script line place o) (script_options m script (line + 1) (next_line script place)) all (sym (of_words script line place o (script_options m script (line + 1) (next_line script place))) ∙ h) in
+        let b = bound (OfLine script line place o) (script_options m script (line + 1) (next_line script place)) all
+        (sym (of_words script line place o (script_options m script (line + 1) (next_line script place))) ∙ h) in
         let rest = others b.0 all (omega arith) b.2 in
         (b.0 ∷ rest.0, (inr (is, ((reads-words Script [] (take (line_end script place) script) line (place + 3) o).0 b.0).0 b.1), rest.1))
 
-lines-Err : (m : ℕ) (script : List ℕ) (line place : ℕ) (o : Options) (x : WordsFault) → script_options m script line place o ≡ Err x → (lines : List Options) × FaultsBelow script line place o lines x
+lines-Err : (m : ℕ) (script : List ℕ) (line place : ℕ) (o : Options) (x : WordsFault) → script_options m script line place o ≡ Err x
+    → (lines : List Options) × FaultsBelow script line place o lines x
 unfolding script_options line_options
 lines-Err zero script line place o x e = cc
 lines-Err (suc m) script line place o x e = by (lines-Err m script (line + 1) (next_line script place)) (line_kind (drop place script)) refl e
   where
-    words : ((o : Options) (x : WordsFault) → script_options m script (line + 1) (next_line script place) o ≡ Err x → (lines : List Options) × FaultsBelow script (line + 1) (next_line script place) o lines x)
+    words : ((o : Options) (x : WordsFault) → script_options m script (line + 1) (next_line script place) o ≡ Err x
+        → (lines : List Options) × FaultsBelow script (line + 1) (next_line script place) o lines x)
         → line_kind (drop place script) ≡ Words
-        → (OfLine script line place o ≡ Err x) ⊎ ((more : Options) × (OfLine script line place o ≡ Ok more) × (script_options m script (line + 1) (next_line script place) more ≡ Err x))
+        → (OfLine script line place o ≡ Err x) ⊎ ((more : Options) × (OfLine script line place o ≡ Ok more)
+        × (script_options m script (line + 1) (next_line script place) more ≡ Err x))
         → (lines : List Options) × FaultsBelow script line place o lines x
     words others is (inl e) = ([], (is, ((reads-words Script [] (take (line_end script place) script) line (place + 3) o).1 x).0 e))
     words others is (inr (more, gives, e)) =
         let rest = others more x e in
         (more ∷ rest.0, (inr (is, ((reads-words Script [] (take (line_end script place) script) line (place + 3) o).0 more).0 gives), rest.1))
 
-    by : ((o : Options) (x : WordsFault) → script_options m script (line + 1) (next_line script place) o ≡ Err x → (lines : List Options) × FaultsBelow script (line + 1) (next_line script place) o lines x)
-        → (k : LineKind) → line_kind (drop place script) ≡ k → Line k (script_options m script (line + 1) (next_line script place)) script line place o ≡ Err x → (lines : List Options) × FaultsBelow script line place o lines x
+    by : ((o : Options) (x : WordsFault) → script_options m script (line + 1) (next_line script place) o ≡ Err x
+        → (lines : List Options) × FaultsBelow script (line + 1) (next_line script place) o lines x)
+        → (k : LineKind) → line_kind (drop place script) ≡ k → Line k (script_options m script (line + 1) (next_line script place)) script line place o ≡ Err x
+        → (lines : List Options) × FaultsBelow script line place o lines x
     by others Last is h = cc
     by others Remark is h = let rest = others o x h in (o ∷ rest.0, (inl (is, refl), rest.1))
     by others Words is h =
-        words others is (failed (OfLine script line place o) (script_options m script (line + 1) (next_line script place)) x (sym (of_words script line place o (script_options m script (line + 1) (next_line script place))) ∙ h))
+        words others is (failed (OfLine script line place o) (script_options m script (line + 1) (next_line script place)) x
+        (sym (of_words script line place o (script_options m script (line + 1) (next_line script place))) ∙ h))
 
 -- one line more
 first_line : (m : ℕ) (script : List ℕ) (line place : ℕ) (o more : Options) → LineGives script place o more
@@ -120,7 +132,8 @@ begins_inside : (script : List ℕ) (place : ℕ) (o more : Options) → LineGiv
 begins_inside script place o more (inl h) = inside script place Remark h.0 (λ no. cc)
 begins_inside script place o more (inr h) = inside script place Words h.0 (λ no. cc)
 
-lines-give : (m : ℕ) (script : List ℕ) (line place : ℕ) (o all : Options) (lines : List Options) → length script ≤ m + place → GiveLines script place o lines all → script_options m script line place o ≡ Ok all
+lines-give : (m : ℕ) (script : List ℕ) (line place : ℕ) (o all : Options) (lines : List Options) → length script ≤ m + place
+    → GiveLines script place o lines all → script_options m script line place o ≡ Ok all
 unfolding script_options line_options
 lines-give zero script line place o all [] past h = ap (λ (x : Options). Ok x) (sym h.1)
 lines-give zero script line place o all (more ∷ lines) past h = let no = begins_inside script place o more h.0 in absurd (omega arith)
@@ -129,7 +142,8 @@ lines-give (suc m) script line place o all (more ∷ lines) past h =
     let less = further script place (begins_inside script place o more h.0) in
     first_line m script line place o more h.0 ∙ lines-give m script (line + 1) (next_line script place) more all lines (omega arith) h.1
 
-lines-fail : (m : ℕ) (script : List ℕ) (line place : ℕ) (o : Options) (lines : List Options) (x : WordsFault) → length script ≤ m + place → FaultsBelow script line place o lines x → script_options m script line place o ≡ Err x
+lines-fail : (m : ℕ) (script : List ℕ) (line place : ℕ) (o : Options) (lines : List Options) (x : WordsFault) → length script ≤ m + place
+    → FaultsBelow script line place o lines x → script_options m script line place o ≡ Err x
 unfolding script_options line_options
 lines-fail zero script line place o [] x past h = let no = inside script place Words h.0 (λ no. cc) in absurd (omega arith)
 lines-fail zero script line place o (more ∷ lines) x past h = let no = begins_inside script place o more h.0 in absurd (omega arith)
@@ -140,22 +154,29 @@ lines-fail (suc m) script line place o (more ∷ lines) x past h =
 
 reads-script : (script : List ℕ) → Reads (script_options (length script) script 1 0 no_options) (ScriptGives script) (ScriptFails script)
 reads-script script = (
-  (λ all. (lines-Ok (length script) script 1 0 no_options all (omega arith), (λ h. lines-give (length script) script 1 0 no_options all h.0 (omega arith) h.1))),
+  (λ all. (
+    lines-Ok (length script) script 1 0 no_options all (omega arith),
+    (λ h. lines-give (length script) script 1 0 no_options all h.0 (omega arith) h.1),
+  )),
   (λ x. (lines-Err (length script) script 1 0 no_options x, (λ h. lines-fail (length script) script 1 0 no_options h.0 x (omega arith) h.1))),
 )
 
 -- ---- submissions
 
 reads-both : (words : List (List ℕ)) (script : List ℕ)
-    → Reads (both_options words script) (λ (o : Options). (command : Options) × WordsGive Command words [] 0 no_options command × ((scripted : Options) × ScriptGives script scripted × (o ≡ merged command scripted)))
-    (λ (x : WordsFault). WordsFail Command words [] 0 0 no_options x ⊎ ((command : Options) × WordsGive Command words [] 0 no_options command × ScriptFails script x))
+    → Reads (both_options words script) (λ (o : Options). (command : Options) × WordsGive Command words [] 0 no_options command
+    × ((scripted : Options) × ScriptGives script scripted × (o ≡ merged command scripted)))
+    (λ (x : WordsFault). WordsFail Command words [] 0 0 no_options x ⊎ ((command : Options) × WordsGive Command words [] 0 no_options command
+    × ScriptFails script x))
 unfolding both_options
 reads-both words script =
-    reads-bind (read_words 12 Command words [] 0 1 0 no_options) (λ (command : Options). script_options (length script) script 1 0 no_options >>= (λ scripted. Ok (merged command scripted)))
+    reads-bind (read_words 12 Command words [] 0 1 0 no_options) (λ (command : Options). script_options (length script) script 1 0 no_options >>=
+    (λ scripted. Ok (merged command scripted)))
     (WordsGive Command words [] 0 no_options) (WordsFail Command words [] 0 0 no_options)
     (λ (command o : Options). (scripted : Options) × ScriptGives script scripted × (o ≡ merged command scripted)) (λ (command : Options). ScriptFails script)
     (reads-words Command words [] 0 0 no_options)
-    (λ (command : Options). reads-map (script_options (length script) script 1 0 no_options) (merged command) (ScriptGives script) (ScriptFails script) (reads-script script))
+    (λ (command : Options). reads-map (script_options (length script) script 1 0 no_options) (merged command) (ScriptGives script) (ScriptFails script)
+    (reads-script script))
 
 no_two : {P : Type 0} (a b : ℕ) → a < b → b ≤ a → P
 no_two a b less past = absurd (omega arith)
@@ -164,7 +185,8 @@ reads : (words : List (List ℕ)) (script : List ℕ) → Reads (qsub_options wo
 unfolding qsub_options
 reads words script = by (nat_lt 32768 (length script)) refl
   where
-    by : (t : Bool) → nat_lt 32768 (length script) ≡ t → Reads (cond t (Err (fault_at 0 0 cause.ScriptTooLong)) (both_options words script)) (Says words script) (Faults words script)
+    by : (t : Bool) → nat_lt 32768 (length script) ≡ t → Reads (cond t (Err (fault_at 0 0 cause.ScriptTooLong)) (both_options words script)) (Says words script)
+        (Faults words script)
     by true e = (
       (λ o. ((λ h. cc), (λ h. no_two 32768 (length script) (is_below 32768 (length script) e) h.0))),
       (λ x. ((λ h. inl (is_below 32768 (length script) e, cc)), from x)),
@@ -210,7 +232,7 @@ one_fault words script f g faults other =
     cc
 
 -- what is read is the answer
-pub answers : (user : List ℕ) (words : List (List ℕ)) (script : List ℕ) (r : Result Submission WordsFault) → ReadsQsub user words script r → Answers user words script r
+pub answers : (user : List ℕ) (words : List (List ℕ)) (script : List ℕ) (r : Result Submission WordsFault) → ReadsQsub user words script r
+    → Answers user words script r
 answers user words script (Ok s) h = (h.0, (reads_said words script h.0).0 h.1, h.2)
-answers user words script (Err f) (inl h) = inl h
-answers user words script (Err f) (inr h) = inr ((finds_fault words script f).0 h)
+answers user words script (Err f) h = (finds_fault words script f).0 h

@@ -1,5 +1,6 @@
 -- Options one behind another: at most eleven, as each may stand once.
-use Rattle.std.proofs.Common.{◌≡◌, ◌⊎◌, inl, inr, ℕ, zero, suc, ◌+◌, ◌<◌, ◌≤◌, List, [], ◌∷◌, Some, None, Option, Ok, Err, Bool, true, false, is_some, refl, ap, sym, ◌∙◌, arith}
+use Rattle.std.proofs.Common.{◌≡◌, ◌⊎◌, inl, inr, ℕ, zero, suc, ◌+◌, ◌<◌, ◌≤◌, List, [], ◌∷◌, Some, None, Option, Ok, Err, Bool, true, false, is_some, refl, ap}
+use Rattle.std.proofs.Common.{sym, ◌∙◌, arith}
 use Rattle.nqs_types.specs.declared.fault.WordsFault.{WordsFault}
 use Rattle.nqs_types.specs.declared.fault.WordsCause.{WordsCause}
 use Rattle.nqs_types.specs.declared.fault.WordsCause.TheVariants as cause
@@ -27,7 +28,8 @@ missing false = 1
 
 abbrev pub left : Options → ℕ
 left o =
-    missing (is_some o.queue) + missing (is_some o.priority) + missing (is_some o.job_name) + missing (is_some o.earliest) + missing (is_some o.out) + missing (is_some o.error)
+    missing (is_some o.queue) + missing (is_some o.priority) + missing (is_some o.job_name) + missing (is_some o.earliest) + missing (is_some o.out)
+    + missing (is_some o.error)
     + missing o.join + missing o.no_rerun + missing (is_some o.cpu) + missing (is_some o.memory) + missing (is_some o.forms)
 
 missing_one : (b : Bool) → b ≡ false → missing b ≡ 1
@@ -65,21 +67,32 @@ marked-fewer o flag.Join t g = let m = missing_one o.join g in omega arith
 marked-fewer o flag.NoRerun t g = let m = missing_one o.no_rerun g in omega arith
 marked-fewer o _ t g = cc
 
-valued-fewer : (o : Options) (f : Flag) (text : List ℕ) (at : Place) (more : Options) → takes_value f ≡ true → is_given o f ≡ false → valued o f text at ≡ Ok more → left more + 1 ≡ left o
+valued-fewer : (o : Options) (f : Flag) (text : List ℕ) (at : Place) (more : Options) → takes_value f ≡ true → is_given o f ≡ false
+    → valued o f text at ≡ Ok more → left more + 1 ≡ left o
 unfolding missing takes_value is_given valued
-valued-fewer o flag.Queue text at more t g e = let v = given-Ok (name_of text) cause.BadName (λ (q : List ℕ). record o { queue = Some q }) more e in let l = ap left v.1 in let m = missing_one (is_some o.queue) g in omega arith
-valued-fewer o flag.Priority text at more t g e = let v = given-Ok (number_of 0 63 text) cause.BadNumber (λ (n : ℕ). record o { priority = Some n }) more e in let l = ap left v.1 in let m = missing_one (is_some o.priority) g in omega arith
-valued-fewer o flag.JobName text at more t g e = let v = given-Ok (name_of text) cause.BadName (λ (n : List ℕ). record o { job_name = Some n }) more e in let l = ap left v.1 in let m = missing_one (is_some o.job_name) g in omega arith
-valued-fewer o flag.Earliest text at more t g e = let v = given-Ok (moment_of text) cause.BadMoment (λ (n : ℕ). record o { earliest = Some n }) more e in let l = ap left v.1 in let m = missing_one (is_some o.earliest) g in omega arith
-valued-fewer o flag.Out text at more t g e = let v = given-Ok (path_at text at) cause.BadPath (λ (p : Place). record o { out = Some p }) more e in let l = ap left v.1 in let m = missing_one (is_some o.out) g in omega arith
-valued-fewer o flag.Error text at more t g e = let v = given-Ok (path_at text at) cause.BadPath (λ (p : Place). record o { error = Some p }) more e in let l = ap left v.1 in let m = missing_one (is_some o.error) g in omega arith
+valued-fewer o flag.Queue text at more t g e = let v = given-Ok (name_of text) cause.BadName (λ (q : List ℕ). record o { queue = Some q }) more e in
+    let l = ap left v.1 in let m = missing_one (is_some o.queue) g in omega arith
+valued-fewer o flag.Priority text at more t g e = let v = given-Ok (number_of 0 63 text) cause.BadNumber (λ (n : ℕ). record o { priority = Some n }) more e in
+    let l = ap left v.1 in let m = missing_one (is_some o.priority) g in omega arith
+valued-fewer o flag.JobName text at more t g e = let v = given-Ok (name_of text) cause.BadName (λ (n : List ℕ). record o { job_name = Some n }) more e in
+    let l = ap left v.1 in let m = missing_one (is_some o.job_name) g in omega arith
+valued-fewer o flag.Earliest text at more t g e = let v = given-Ok (moment_of text) cause.BadMoment (λ (n : ℕ). record o { earliest = Some n }) more e in
+    let l = ap left v.1 in let m = missing_one (is_some o.earliest) g in omega arith
+valued-fewer o flag.Out text at more t g e = let v = given-Ok (path_at text at) cause.BadPath (λ (p : Place). record o { out = Some p }) more e in
+    let l = ap left v.1 in let m = missing_one (is_some o.out) g in omega arith
+valued-fewer o flag.Error text at more t g e = let v = given-Ok (path_at text at) cause.BadPath (λ (p : Place). record o { error = Some p }) more e in
+    let l = ap left v.1 in let m = missing_one (is_some o.error) g in omega arith
 valued-fewer o flag.Join text at more t g e = cc
 valued-fewer o flag.NoRerun text at more t g e = cc
-valued-fewer o flag.Cpu text at more t g e = let v = given-Ok (time_of text) cause.BadNumber (λ (n : ℕ). record o { cpu = Some n }) more e in let l = ap left v.1 in let m = missing_one (is_some o.cpu) g in omega arith
-valued-fewer o flag.Memory text at more t g e = let v = given-Ok (size_of text) cause.BadNumber (λ (n : ℕ). record o { memory = Some n }) more e in let l = ap left v.1 in let m = missing_one (is_some o.memory) g in omega arith
-valued-fewer o flag.Forms text at more t g e = let v = given-Ok (name_of text) cause.BadName (λ (q : List ℕ). record o { forms = Some q }) more e in let l = ap left v.1 in let m = missing_one (is_some o.forms) g in omega arith
+valued-fewer o flag.Cpu text at more t g e = let v = given-Ok (time_of text) cause.BadNumber (λ (n : ℕ). record o { cpu = Some n }) more e in
+    let l = ap left v.1 in let m = missing_one (is_some o.cpu) g in omega arith
+valued-fewer o flag.Memory text at more t g e = let v = given-Ok (size_of text) cause.BadNumber (λ (n : ℕ). record o { memory = Some n }) more e in
+    let l = ap left v.1 in let m = missing_one (is_some o.memory) g in omega arith
+valued-fewer o flag.Forms text at more t g e = let v = given-Ok (name_of text) cause.BadName (λ (q : List ℕ). record o { forms = Some q }) more e in
+    let l = ap left v.1 in let m = missing_one (is_some o.forms) g in omega arith
 
-pub fewer : (source : Source) (words : List (List ℕ)) (text : List ℕ) (n place : ℕ) (o : Options) (p : Progress) → GivesOption source words text n place o p → left p.options + 1 ≡ left o
+pub fewer : (source : Source) (words : List (List ℕ)) (text : List ℕ) (n place : ℕ) (o : Options) (p : Progress) → GivesOption source words text n place o p
+    → left p.options + 1 ≡ left o
 fewer source words text n place o p (token, next, (f, is, (may, gives))) = by gives
   where
     by : GivesMark n token o f p ⊎ GivesValue source words text n token o f p → left p.options + 1 ≡ left o
@@ -92,13 +105,16 @@ fewer source words text n place o p (token, next, (f, is, (may, gives))) = by gi
 abbrev Next : ℕ → Source → List (List ℕ) → List ℕ → ℕ → Progress → Read Options
 Next left source words text line p = read_words left source words text line p.number p.place p.options
 
-pub words-Ok : (m : ℕ) (source : Source) (words : List (List ℕ)) (text : List ℕ) (line n place : ℕ) (o all : Options) → read_words m source words text line n place o ≡ Ok all → (steps : List Progress) × GiveOptions source words text n place o steps all
+pub words-Ok : (m : ℕ) (source : Source) (words : List (List ℕ)) (text : List ℕ) (line n place : ℕ) (o all : Options)
+    → read_words m source words text line n place o ≡ Ok all → (steps : List Progress) × GiveOptions source words text n place o steps all
 unfolding read_words
 words-Ok zero source words text line n place o all e = cc
 words-Ok (suc m) source words text line n place o all e = by (words-Ok m source words text line) (next_token source words text place) refl e
   where
-    by : ((n place : ℕ) (o all : Options) → read_words m source words text line n place o ≡ Ok all → (steps : List Progress) × GiveOptions source words text n place o steps all)
-        → (t : Option Token) → next_token source words text place ≡ t → per_token t (Ok o) (λ (token : Token). one_option source words text line n token o >>= Next m source words text line) ≡ Ok all
+    by : ((n place : ℕ) (o all : Options) → read_words m source words text line n place o ≡ Ok all
+        → (steps : List Progress) × GiveOptions source words text n place o steps all)
+        → (t : Option Token) → next_token source words text place ≡ t → per_token t (Ok o)
+        (λ (token : Token). one_option source words text line n token o >>= Next m source words text line) ≡ Ok all
         → (steps : List Progress) × GiveOptions source words text n place o steps all
     by others None is h = ([], (is, cc))
     by others (Some token) is h =
@@ -107,14 +123,17 @@ words-Ok (suc m) source words text line n place o all e = by (words-Ok m source 
         let rest = others b.0.number b.0.place b.0.options all b.2 in
         (b.0 ∷ rest.0, ((token, is, g), rest.1))
 
-pub words-Err : (m : ℕ) (source : Source) (words : List (List ℕ)) (text : List ℕ) (line n place : ℕ) (o : Options) (x : WordsFault) → left o < m → read_words m source words text line n place o ≡ Err x → (steps : List Progress) × FaultsBehind source words text line n place o steps x
+pub words-Err : (m : ℕ) (source : Source) (words : List (List ℕ)) (text : List ℕ) (line n place : ℕ) (o : Options) (x : WordsFault) → left o < m
+    → read_words m source words text line n place o ≡ Err x → (steps : List Progress) × FaultsBehind source words text line n place o steps x
 unfolding read_words
 words-Err zero source words text line n place o x less e = absurd (omega arith)
 words-Err (suc m) source words text line n place o x less e = by (words-Err m source words text line) (next_token source words text place) refl e
   where
-    behind : ((n place : ℕ) (o : Options) (x : WordsFault) → left o < m → read_words m source words text line n place o ≡ Err x → (steps : List Progress) × FaultsBehind source words text line n place o steps x)
+    behind : ((n place : ℕ) (o : Options) (x : WordsFault) → left o < m → read_words m source words text line n place o ≡ Err x
+        → (steps : List Progress) × FaultsBehind source words text line n place o steps x)
         → (token : Token) → next_token source words text place ≡ Some token
-        → (one_option source words text line n token o ≡ Err x) ⊎ ((p : Progress) × (one_option source words text line n token o ≡ Ok p) × (Next m source words text line p ≡ Err x))
+        → (one_option source words text line n token o ≡ Err x) ⊎ ((p : Progress) × (one_option source words text line n token o ≡ Ok p)
+        × (Next m source words text line p ≡ Err x))
         → (steps : List Progress) × FaultsBehind source words text line n place o steps x
     behind others token is (inl e) = ([], (token, is, ((reads-option source words text line n token o).1 x).0 e))
     behind others token is (inr (p, gives, e)) =
@@ -123,29 +142,36 @@ words-Err (suc m) source words text line n place o x less e = by (words-Err m so
         let rest = others p.number p.place p.options x (omega arith) e in
         (p ∷ rest.0, ((token, is, g), rest.1))
 
-    by : ((n place : ℕ) (o : Options) (x : WordsFault) → left o < m → read_words m source words text line n place o ≡ Err x → (steps : List Progress) × FaultsBehind source words text line n place o steps x)
-        → (t : Option Token) → next_token source words text place ≡ t → per_token t (Ok o) (λ (token : Token). one_option source words text line n token o >>= Next m source words text line) ≡ Err x
+    by : ((n place : ℕ) (o : Options) (x : WordsFault) → left o < m → read_words m source words text line n place o ≡ Err x
+        → (steps : List Progress) × FaultsBehind source words text line n place o steps x)
+        → (t : Option Token) → next_token source words text place ≡ t → per_token t (Ok o)
+        (λ (token : Token). one_option source words text line n token o >>= Next m source words text line) ≡ Err x
         → (steps : List Progress) × FaultsBehind source words text line n place o steps x
     by others None is h = cc
     by others (Some token) is h = behind others token is (failed (one_option source words text line n token o) (Next m source words text line) x h)
 
-words-give : (m : ℕ) (source : Source) (words : List (List ℕ)) (text : List ℕ) (line n place : ℕ) (o all : Options) (steps : List Progress) → left o < m → GiveOptions source words text n place o steps all → read_words m source words text line n place o ≡ Ok all
+words-give : (m : ℕ) (source : Source) (words : List (List ℕ)) (text : List ℕ) (line n place : ℕ) (o all : Options) (steps : List Progress) → left o < m
+    → GiveOptions source words text n place o steps all → read_words m source words text line n place o ≡ Ok all
 unfolding read_words
 words-give zero source words text line n place o all steps less h = absurd (omega arith)
 words-give (suc m) source words text line n place o all [] less h = rw h.0 (ap (λ (x : Options). Ok x) (sym h.1))
 words-give (suc m) source words text line n place o all (p ∷ steps) less (gives, rest) =
     let few = fewer source words text n place o p gives in
-    rw (gives.1, ((reads-option source words text line n gives.0 o).0 p).1 gives.2) (words-give m source words text line p.number p.place p.options all steps (omega arith) rest)
+    rw (gives.1, ((reads-option source words text line n gives.0 o).0 p).1 gives.2)
+    (words-give m source words text line p.number p.place p.options all steps (omega arith) rest)
 
-words-fail : (m : ℕ) (source : Source) (words : List (List ℕ)) (text : List ℕ) (line n place : ℕ) (o : Options) (steps : List Progress) (x : WordsFault) → left o < m → FaultsBehind source words text line n place o steps x → read_words m source words text line n place o ≡ Err x
+words-fail : (m : ℕ) (source : Source) (words : List (List ℕ)) (text : List ℕ) (line n place : ℕ) (o : Options) (steps : List Progress) (x : WordsFault)
+    → left o < m → FaultsBehind source words text line n place o steps x → read_words m source words text line n place o ≡ Err x
 unfolding read_words
 words-fail zero source words text line n place o steps x less h = absurd (omega arith)
 words-fail (suc m) source words text line n place o [] x less h = rw (h.1, ((reads-option source words text line n h.0 o).1 x).1 h.2) refl
 words-fail (suc m) source words text line n place o (p ∷ steps) x less (gives, rest) =
     let few = fewer source words text n place o p gives in
-    rw (gives.1, ((reads-option source words text line n gives.0 o).0 p).1 gives.2) (words-fail m source words text line p.number p.place p.options steps x (omega arith) rest)
+    rw (gives.1, ((reads-option source words text line n gives.0 o).0 p).1 gives.2)
+    (words-fail m source words text line p.number p.place p.options steps x (omega arith) rest)
 
-pub reads-words : (source : Source) (words : List (List ℕ)) (text : List ℕ) (line place : ℕ) (o : Options) → Reads (read_words 12 source words text line 1 place o) (WordsGive source words text place o) (WordsFail source words text line place o)
+pub reads-words : (source : Source) (words : List (List ℕ)) (text : List ℕ) (line place : ℕ) (o : Options)
+    → Reads (read_words 12 source words text line 1 place o) (WordsGive source words text place o) (WordsFail source words text line place o)
 reads-words source words text line place o = (
   (λ all. (words-Ok 12 source words text line 1 place o all, (λ h. words-give 12 source words text line 1 place o all h.0 (few o) h.1))),
   (λ x. (words-Err 12 source words text line 1 place o x (few o), (λ h. words-fail 12 source words text line 1 place o h.0 x (few o) h.1))),

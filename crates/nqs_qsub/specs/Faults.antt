@@ -42,7 +42,8 @@ NoOption source words text line n place o fault =
 -- behind these options, one after another, comes the fault
 abbrev pub FaultsBehind : Source → List (List ℕ) → List ℕ → ℕ → ℕ → ℕ → Options → List Progress → WordsFault → Type 0
 FaultsBehind source words text line n place o [] fault = NoOption source words text line n place o fault
-FaultsBehind source words text line n place o (p ∷ steps) fault = GivesOption source words text n place o p × FaultsBehind source words text line p.number p.place p.options steps fault
+FaultsBehind source words text line n place o (p ∷ steps) fault = GivesOption source words text n place o p
+    × FaultsBehind source words text line p.number p.place p.options steps fault
 
 abbrev pub WordsFail : Source → List (List ℕ) → List ℕ → ℕ → ℕ → Options → WordsFault → Type 0
 WordsFail source words text line place o fault = (steps : List Progress) × FaultsBehind source words text line 1 place o steps fault
@@ -51,7 +52,8 @@ WordsFail source words text line place o fault = (steps : List Progress) × Faul
 
 -- behind these lines, one after another, comes the line with the fault
 abbrev pub FaultsBelow : List ℕ → ℕ → ℕ → Options → List Options → WordsFault → Type 0
-FaultsBelow script line place o [] fault = (line_kind (drop place script) ≡ Words) × WordsFail Script [] (take (line_end script place) script) line (place + 3) o fault
+FaultsBelow script line place o [] fault = (line_kind (drop place script) ≡ Words)
+    × WordsFail Script [] (take (line_end script place) script) line (place + 3) o fault
 FaultsBelow script line place o (more ∷ lines) fault = LineGives script place o more × FaultsBelow script (line + 1) (next_line script place) more lines fault
 
 abbrev pub ScriptFails : List ℕ → WordsFault → Type 0
@@ -63,4 +65,5 @@ ScriptFails script fault = (lines : List Options) × FaultsBelow script 1 0 no_o
 abbrev pub Faults : List (List ℕ) → List ℕ → WordsFault → Type 0
 Faults words script fault =
     ((32768 < length script) × (fault ≡ fault_at 0 0 cause.ScriptTooLong))
-    ⊎ ((length script ≤ 32768) × (WordsFail Command words [] 0 0 no_options fault ⊎ ((command : Options) × WordsGive Command words [] 0 no_options command × ScriptFails script fault)))
+    ⊎ ((length script ≤ 32768) × (WordsFail Command words [] 0 0 no_options fault
+    ⊎ ((command : Options) × WordsGive Command words [] 0 no_options command × ScriptFails script fault)))

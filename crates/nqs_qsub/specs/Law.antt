@@ -2,10 +2,8 @@
 use Rattle.std.specs.Prelude.{◌≡◌, ◌↔◌, ◌⊎◌, ℕ, List, Ok, Err}
 use Rattle.std.specs.declared.result.Result.{Result}
 use Rattle.nqs_types.specs.declared.fault.WordsFault.{WordsFault}
-use Rattle.nqs_types.specs.declared.fault.WordsCause.TheVariants as cause
 use Rattle.nqs_types.specs.declared.event.Submission.{Submission}
 use Rattle.nqs_qsub.specs.declared.options.Options.{Options}
-use Rattle.nqs_qsub.specs.Tokens.{fault_at}
 use Rattle.nqs_qsub.specs.Qsub.{qsub_options, submission}
 use Rattle.nqs_qsub.specs.Says.{Says}
 use Rattle.nqs_qsub.specs.Faults.{Faults}
@@ -30,7 +28,7 @@ NeverBoth = (words : List (List ℕ)) (script : List ℕ) (o : Options) (fault :
 abbrev pub OneFault : Type 0
 OneFault = (words : List (List ℕ)) (script : List ℕ) (f g : WordsFault) → Faults words script f → Faults words script g → f ≡ g
 
--- the answer to words and a script: the submission that they make, or their first fault; memory may be wanting
+-- the answer to words and a script: the submission that they make, or their first fault
 abbrev pub Answers : List ℕ → List (List ℕ) → List ℕ → Result Submission WordsFault → Type 0
 Answers user words script (Ok s) = (o : Options) × Says words script o × (s ≡ submission user words script o)
-Answers user words script (Err f) = (f ≡ fault_at 0 0 cause.Memory) ⊎ Faults words script f
+Answers user words script (Err f) = Faults words script f

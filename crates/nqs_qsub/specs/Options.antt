@@ -34,7 +34,20 @@ flag_of bytes =
 
 abbrev pub no_options : Options
 no_options =
-    record { queue = None; priority = None; job_name = None; earliest = None; out = None; error = None; join = false; no_rerun = false; cpu = None; memory = None; forms = None }
+    record {
+      queue = None;
+      priority = None;
+      job_name = None;
+      earliest = None;
+      out = None;
+      error = None;
+      join = false;
+      no_rerun = false;
+      cpu = None;
+      memory =
+          None;
+      forms = None;
+    }
 
 -- was the option given?
 unfoldable pub is_given : Options → Flag → Bool

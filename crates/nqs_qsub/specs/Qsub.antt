@@ -1,5 +1,5 @@
 -- What a submission is, from its words and its script.
-use Rattle.std.specs.Prelude.{◌≡◌, ◌⊎◌, ℕ, Bool, not, ◌||◌, nat_lt, List, [], length, codes, Option, Some, None, is_some, unwrap_or, if◌then◌else◌, Ok, Err}
+use Rattle.std.specs.Prelude.{◌≡◌, ℕ, Bool, not, ◌||◌, nat_lt, List, [], length, codes, Option, Some, None, is_some, unwrap_or, if◌then◌else◌, Ok, Err}
 use Rattle.std.specs.Option.{option_or}
 use Rattle.std.specs.declared.result.Result.{Result}
 use Rattle.nqs_types.specs.declared.fault.WordsFault.{WordsFault}
@@ -67,7 +67,7 @@ job user words script o =
 abbrev pub submission : List ℕ → List (List ℕ) → List ℕ → Options → Submission
 submission user words script o = record { queue = o.queue; job = job user words script o; script = script }
 
--- what reading a submission answers; the cases exclude each other, but that memory may be wanting
+-- what reading a submission answers; the cases exclude each other
 abbrev pub ReadsQsub : List ℕ → List (List ℕ) → List ℕ → Result Submission WordsFault → Type 0
 ReadsQsub user words script (Ok s) = (o : Options) × (qsub_options words script ≡ Ok o) × (s ≡ submission user words script o)
-ReadsQsub user words script (Err f) = (f ≡ fault_at 0 0 cause.Memory) ⊎ (qsub_options words script ≡ Err f)
+ReadsQsub user words script (Err f) = qsub_options words script ≡ Err f

@@ -38,7 +38,8 @@ GivesOption source words text n place o p =
 -- options one behind another, up to the last word
 abbrev pub GiveOptions : Source → List (List ℕ) → List ℕ → ℕ → ℕ → Options → List Progress → Options → Type 0
 GiveOptions source words text n place o [] all = (next_token source words text place ≡ None) × (all ≡ o)
-GiveOptions source words text n place o (p ∷ steps) all = GivesOption source words text n place o p × GiveOptions source words text p.number p.place p.options steps all
+GiveOptions source words text n place o (p ∷ steps) all = GivesOption source words text n place o p
+    × GiveOptions source words text p.number p.place p.options steps all
 
 -- the words from a place on give these options besides those before them
 abbrev pub WordsGive : Source → List (List ℕ) → List ℕ → ℕ → Options → Options → Type 0
@@ -65,4 +66,5 @@ ScriptGives script all = (lines : List Options) × GiveLines script 0 no_options
 -- the command's words and the script give these options: the command's where it has one, else the script's
 abbrev pub Says : List (List ℕ) → List ℕ → Options → Type 0
 Says words script o =
-    (length script ≤ 32768) × ((command : Options) × WordsGive Command words [] 0 no_options command × ((scripted : Options) × ScriptGives script scripted × (o ≡ merged command scripted)))
+    (length script ≤ 32768) × ((command : Options) × WordsGive Command words [] 0 no_options command
+    × ((scripted : Options) × ScriptGives script scripted × (o ≡ merged command scripted)))

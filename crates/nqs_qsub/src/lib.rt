@@ -1,10 +1,10 @@
-//! Submissions as qsub takes them: options among the command's words and in the lines of the script that begin
-//! with `#@$`. `read_qsub` gives the submission, or the first fault.
+//! Submissions as qsub takes them: options among the command's words and in the lines of the script
+//! that begin with `#@$`. `read_qsub` gives the submission, or the first fault.
 //!
-//! specs/Options.antt says what each option says, specs/Script.antt which lines hold options, specs/Qsub.antt
-//! which word wins and what a submission is. specs/Says.antt has the grammar and specs/Faults.antt the first fault,
-//! both apart from the reading, and specs/Law.antt that what is read is just that. docs/commands.md has it in
-//! plain words.
+//! specs/Options.antt says what each option says, specs/Script.antt which lines hold options,
+//! specs/Qsub.antt which word wins and what a submission is. specs/Says.antt has the grammar and
+//! specs/Faults.antt the first fault, both apart from the reading, and specs/Law.antt that what is
+//! read is just that. docs/commands.md has it in plain words.
 #![tactic(auto)]
 
 mod laws;

@@ -31,8 +31,8 @@ fn has_parent(path: &[u8]) -> bool
     path.split(|b| *b == b'/').any(|c| c == b"..".as_slice())
 }
 
-/// Is it a path below the folder that it starts from: 1 to 255 bytes that are seen, no `/` in front and no
-/// component `..`?
+/// Is it a path below the folder that it starts from: 1 to 255 bytes that are seen, no `/` in front
+/// and no component `..`?
 pub fn is_path(path: &[u8]) -> bool
     ensures { result ≡ is_path path.now }
 {

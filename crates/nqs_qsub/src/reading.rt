@@ -117,8 +117,8 @@ fn one_option(
     with_flag(source, words, text, line, number, token, options, flag)
 }
 
-/// The options from a place on, with those that were given before; at most `left` of them. The word there has
-/// the number `number`, and the line of the script, 0 for the command, is `line`.
+/// The options from a place on, with those that were given before; at most `left` of them. The word
+/// there has the number `number`, and the line of the script, 0 for the command, is `line`.
 #[tactic(auto, unfolding(crate::specs::Options::read_words))]
 pub fn read_words(
     left: u8,

@@ -1,5 +1,6 @@
-//! The lines of a script that hold options: from the first line on while lines begin with `#`. A line that
-//! begins with `#@$` and is longer holds words, `#@$` alone ends the reading, and other lines are remarks.
+//! The lines of a script that hold options: from the first line on while lines begin with `#`. A
+//! line that begins with `#@$` and is longer holds words, `#@$` alone ends the reading, and other
+//! lines are remarks.
 
 ghost use Rattle.std.specs.Prelude.{◌≡◌, ◌+◌, ◌≤◌, [], length, take, drop};
 ghost use Rattle.nqs_qsub.specs.declared.token.Source.TheVariants.{Script};

@@ -1,4 +1,5 @@
-//! A submission from its words and its script. The command's word wins over the script's; a command's `-e` or
+//! A submission from its words and its script. The command's word wins over the script's; a
+//! command's `-e` or
 //! `-eo` sets aside both of the script's.
 
 ghost use Rattle.std.specs.Prelude.{◌≡◌, ◌≤◌, length, codes, IfOk};
@@ -153,31 +154,31 @@ fn read_submission(
     user: &Name,
     words: &[Bytes],
     script: &[u8],
-) -> Result<Submission, WordsFault>
-    ensures { ReadsQsub user.now words.now script.now result }
+) -> Result<Result<Submission, WordsFault>, Memory>
+    ensures { IfOk result (λ read. ReadsQsub user.now words.now script.now read) }
 {
     let options = match qsub_options(words, script) {
         Ok(options) => options,
-        Err(fault) => return Err(fault),
+        Err(fault) => return Ok(Err(fault)),
     };
     match submission(alloc, user, words, script, &options) {
-        Ok(submission) => Ok(submission),
-        Err(_) => Err(fault_at(0, 0, WordsCause::Memory)),
+        Ok(submission) => Ok(Ok(submission)),
+        Err(memory) => Err(memory),
     }
 }
 
-/// The submission of this user by these words and this script, or the first fault. A script above 32,768
-/// bytes is `ScriptTooLong` at word 0, before all else; then come the command's words, then the script's
-/// lines. Default paths of outputs are empty. Memory is taken for the paths and the script; where there is
-/// none the answer is `Memory`, at word 0.
+/// The submission of this user by these words and this script, or the first fault. A script above
+/// 32,768 bytes is `ScriptTooLong` at word 0, before all else; then come the command's words, then
+/// the script's lines. Default paths of outputs are empty. Memory is taken for the paths and the
+/// script alone, so a fault is found without any.
 pub fn read_qsub(
     alloc: Global,
     user: &Name,
     words: &[Bytes],
     script: &[u8],
-) -> Result<Submission, WordsFault>
-    ensures read { ReadsQsub user.now words.now script.now result }
-    ensures answers { Answers user.now words.now script.now result }
+) -> Result<Result<Submission, WordsFault>, Memory>
+    ensures read { IfOk result (λ read. ReadsQsub user.now words.now script.now read) }
+    ensures answers { IfOk result (λ read. Answers user.now words.now script.now read) }
 {
     read_submission(alloc, user, words, script)
 }

@@ -1,5 +1,5 @@
-//! Words of the command and of a script's line, one after another. A word is named by its place, so that no
-//! list of words is made.
+//! Words of the command and of a script's line, one after another. A word is named by its place, so
+//! that no list of words is made.
 
 ghost use Rattle.std.specs.Prelude.{◌≡◌, []};
 ghost use Rattle.nqs_qsub.specs.declared.token.Source.TheVariants.{Command, Script};
@@ -46,7 +46,8 @@ pub fn fault_at(line: u32, number: u32, cause: WordsCause) -> WordsFault
     }
 }
 
-/// The next word from a place on: of the command's words, or of the front of a script up to a line's end.
+/// The next word from a place on: of the command's words, or of the front of a script up to a
+/// line's end.
 #[tactic(auto, unfolding(crate::specs::Tokens::next_token))]
 pub fn next_token(source: Source, words: &[Bytes], text: &[u8], place: usize) -> Option<Token>
     ensures { result ≡ next_token source words.now text.now place }

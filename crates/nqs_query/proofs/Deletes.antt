@@ -51,14 +51,16 @@ unknown_at true = refl
 unknown_at false = refl
 
 request-read : (kill : Bool) (text : List ℕ) (more : List (List ℕ)) → (kill ≡ false → text ≢ codes "-k") → (r : Result Named NotNamed) → IsRequestOrNot text r
-    → SaysDeleteOrFaults (kill_words kill ++ text ∷ more) (named_or_fault (first_number kill) r >>= (λ id. nothing_more (first_number kill + 1) more >>= (λ done. Ok (command.Delete id kill))))
+    → SaysDeleteOrFaults (kill_words kill ++ text ∷ more) (named_or_fault (first_number kill) r >>=
+    (λ id. nothing_more (first_number kill + 1) more >>= (λ done. Ok (command.Delete id kill))))
 request-read kill text [] other (Ok id) h = record { kill = kill; text = text; id = id; written = refl; request = h; asks = refl }
 request-read kill text (word ∷ more) other (Ok id) h =
     inr (inr (kill, text, id, word, more, refl, h, unknown_at kill))
 request-read kill text more other (Err BadNumber) h = inr (inl (kill, text, more, cause.BadNumber, record { written = refl; no_option = other }, h, refl))
 request-read kill text more other (Err BadName) h = inr (inl (kill, text, more, cause.BadName, record { written = refl; no_option = other }, h, refl))
 
-from-read : (kill : Bool) (words : List (List ℕ)) → ((text : List ℕ) (more : List (List ℕ)) → words ≡ text ∷ more → kill ≡ false → text ≢ codes "-k") → SaysDeleteOrFaults (kill_words kill ++ words) (from_word kill words)
+from-read : (kill : Bool) (words : List (List ℕ)) → ((text : List ℕ) (more : List (List ℕ)) → words ≡ text ∷ more → kill ≡ false → text ≢ codes "-k")
+    → SaysDeleteOrFaults (kill_words kill ++ words) (from_word kill words)
 from-read true [] other = inl (true, refl, refl)
 from-read false [] other = inl (false, refl, refl)
 from-read kill (text ∷ more) other = request-read kill text more (other text more refl) (named_of text) ((requests_are_read text (named_of text)).0 refl)
@@ -72,12 +74,14 @@ read (word ∷ words) = by (is_kill_option word) refl
     first text more other e there = let same : word ≡ text = cc in other (same ∙ there)
 
     by : (t : Bool) → is_kill_option word ≡ t → SaysDeleteOrFaults (word ∷ words) (cond t (request_from 2 true words) (request_from 1 false (word ∷ words)))
-    by true is = subst (λ (w : List ℕ). SaysDeleteOrFaults (w ∷ words) (request_from 2 true words)) (sym (is_option word is)) (from-read true words (λ text more e f. cc))
+    by true is = subst (λ (w : List ℕ). SaysDeleteOrFaults (w ∷ words) (request_from 2 true words)) (sym (is_option word is))
+        (from-read true words (λ text more e f. cc))
     by false is = from-read false (word ∷ words) (λ text more e f. first text more (other_word word is) e)
 
 -- ---- and the other way round
 
-from-said : (kill : Bool) (words : List (List ℕ)) → ((text : List ℕ) (more : List (List ℕ)) → words ≡ text ∷ more → kill ≡ false → text ≢ codes "-k") → delete_of (kill_words kill ++ words) ≡ from_word kill words
+from-said : (kill : Bool) (words : List (List ℕ)) → ((text : List ℕ) (more : List (List ℕ)) → words ≡ text ∷ more → kill ≡ false → text ≢ codes "-k")
+    → delete_of (kill_words kill ++ words) ≡ from_word kill words
 unfolding delete_of
 from-said true words other = refl
 from-said false [] other = refl
@@ -87,10 +91,12 @@ from-said false (text ∷ more) other = rw (no_option text (other text more refl
 request_no_option : (text : List ℕ) (id : Named) → IsRequest text id → text ≢ codes "-k"
 request_no_option text id r e = option_no_request id (subst (λ (t : List ℕ). IsRequest t id) e r)
 
-one_word : (kill : Bool) (text : List ℕ) (more : List (List ℕ)) → (kill ≡ false → text ≢ codes "-k") → (w : List ℕ) (ws : List (List ℕ)) → text ∷ more ≡ w ∷ ws → kill ≡ false → w ≢ codes "-k"
+one_word : (kill : Bool) (text : List ℕ) (more : List (List ℕ)) → (kill ≡ false → text ≢ codes "-k") → (w : List ℕ) (ws : List (List ℕ)) → text ∷ more ≡ w ∷ ws
+    → kill ≡ false → w ≢ codes "-k"
 one_word kill text more other w ws e f there = let same : text ≡ w = cc in other f (same ∙ there)
 
-bad-said : (kill : Bool) (text : List ℕ) (more : List (List ℕ)) (why : WordsCause) → IsNoRequest text why → from_word kill (text ∷ more) ≡ Err (fault_at (first_number kill) why)
+bad-said : (kill : Bool) (text : List ℕ) (more : List (List ℕ)) (why : WordsCause) → IsNoRequest text why
+    → from_word kill (text ∷ more) ≡ Err (fault_at (first_number kill) why)
 bad-said kill text more cause.BadNumber h = rw ((requests_are_read text (Err BadNumber)).1 h) refl
 bad-said kill text more cause.BadName h = rw ((requests_are_read text (Err BadName)).1 h) refl
 bad-said kill text more cause.Unknown h = absurd h
@@ -100,7 +106,6 @@ bad-said kill text more cause.Both h = absurd h
 bad-said kill text more cause.BadMoment h = absurd h
 bad-said kill text more cause.BadPath h = absurd h
 bad-said kill text more cause.ScriptTooLong h = absurd h
-bad-said kill text more cause.Memory h = absurd h
 
 nothing-said : (kill : Bool) → delete_of (kill_words kill) ≡ Err (fault_at (length (kill_words kill) + 1) cause.Missing)
 unfolding delete_of
@@ -110,16 +115,20 @@ nothing-said false = refl
 said : (words : List (List ℕ)) (answer : Read Command) → SaysDeleteOrFaults words answer → delete_of words ≡ answer
 said words (Ok c) h =
     let other = one_word h.kill h.text [] (λ f. request_no_option h.text h.id h.request) in
-    ap delete_of h.written ∙ (from-said h.kill (h.text ∷ []) other ∙ rw ((requests_are_read h.text (Ok h.id)).1 h.request) (ap (λ (d : Command). Ok d) (sym h.asks)))
+    ap delete_of h.written ∙ (from-said h.kill (h.text ∷ []) other ∙ rw ((requests_are_read h.text (Ok h.id)).1 h.request)
+    (ap (λ (d : Command). Ok d) (sym h.asks)))
 said words (Err fault) (inl h) =
-    ap delete_of h.1 ∙ (nothing-said h.0 ∙ ap (λ (f : WordsFault). Err f) (ap (λ (ws : List (List ℕ)). fault_at (length ws + 1) cause.Missing) (sym h.1) ∙ sym h.2))
+    ap delete_of h.1 ∙ (nothing-said h.0 ∙ ap (λ (f : WordsFault). Err f)
+    (ap (λ (ws : List (List ℕ)). fault_at (length ws + 1) cause.Missing) (sym h.1) ∙ sym h.2))
 said words (Err fault) (inr (inl h)) =
-    ap delete_of h.4.written ∙ (from-said h.0 (h.1 ∷ h.2) (one_word h.0 h.1 h.2 h.4.no_option) ∙ (bad-said h.0 h.1 h.2 h.3 h.5 ∙ ap (λ (f : WordsFault). Err f) (sym h.6)))
+    ap delete_of h.4.written ∙ (from-said h.0 (h.1 ∷ h.2) (one_word h.0 h.1 h.2 h.4.no_option)
+    ∙ (bad-said h.0 h.1 h.2 h.3 h.5 ∙ ap (λ (f : WordsFault). Err f) (sym h.6)))
 said words (Err fault) (inr (inr h)) =
     let other = one_word h.0 h.1 (h.3 ∷ h.4) (λ f. request_no_option h.1 h.2 h.6) in
     ap delete_of h.5 ∙ (from-said h.0 (h.1 ∷ h.3 ∷ h.4) other ∙ (unknown h.0 h.1 h.2 h.3 h.4 h.6 ∙ ap (λ (f : WordsFault). Err f) (sym h.7)))
   where
-    unknown : (kill : Bool) (text : List ℕ) (id : Named) (word : List ℕ) (more : List (List ℕ)) → IsRequest text id → from_word kill (text ∷ word ∷ more) ≡ Err (fault_at (length (kill_words kill) + 2) cause.Unknown)
+    unknown : (kill : Bool) (text : List ℕ) (id : Named) (word : List ℕ) (more : List (List ℕ)) → IsRequest text id
+        → from_word kill (text ∷ word ∷ more) ≡ Err (fault_at (length (kill_words kill) + 2) cause.Unknown)
     unknown kill text id word more r = rw ((requests_are_read text (Ok id)).1 r) (ap (λ (f : WordsFault). Err f) (unknown_at kill))
 
 pub deletes_are_read : ReadsDeletes

@@ -1,5 +1,6 @@
 -- Words of qstat are read as they are written.
-use Rattle.std.proofs.Common.{◌≡◌, ◌≢◌, ◌⊎◌, inl, inr, ℕ, ◌+◌, List, [], ◌∷◌, ◌++◌, length, arith, refl, ap, sym, subst, ◌∙◌, Some, None, Option, Result, Ok, Err, Bool, true, false, cond}
+use Rattle.std.proofs.Common.{◌≡◌, ◌≢◌, ◌⊎◌, inl, inr, ℕ, ◌+◌, List, [], ◌∷◌, ◌++◌, length, arith, refl, ap, sym, subst, ◌∙◌, Some, None, Option, Result, Ok}
+use Rattle.std.proofs.Common.{Err, Bool, true, false, cond}
 use Rattle.std.specs.Prelude.{codes}
 use Rattle.nqs_values.specs.Same.{name_eq, name_exact}
 use Rattle.nqs_values.specs.Name.{IsName}
@@ -34,7 +35,8 @@ abbrev NamesOrStops : List (List ℕ) → Result (List (List ℕ)) ℕ → Type 
 NamesOrStops words (Ok names) = AreNames words × (names ≡ words)
 NamesOrStops words (Err place) = Stops words place
 
-one_more : (word : List ℕ) (words : List (List ℕ)) (r : Result (List (List ℕ)) ℕ) → IsName word → NamesOrStops words r → NamesOrStops (word ∷ words) (with_name (Some word) r)
+one_more : (word : List ℕ) (words : List (List ℕ)) (r : Result (List (List ℕ)) ℕ) → IsName word → NamesOrStops words r
+    → NamesOrStops (word ∷ words) (with_name (Some word) r)
 one_more word words (Ok names) h others = ((h, others.0), ap (λ (l : List (List ℕ)). word ∷ l) others.1)
 one_more word words (Err place) h others = record {
   front = word ∷ others.front;
@@ -51,8 +53,10 @@ unfolding names_of
 names-read [] = (tt, refl)
 names-read (word ∷ words) = by (named word) (names-read words)
   where
-    by : (IsName word × (name_of word ≡ Some word)) ⊎ ((IsName word → ⊥) × (name_of word ≡ None)) → NamesOrStops words (names_of words) → NamesOrStops (word ∷ words) (with_name (name_of word) (names_of words))
-    by (inl n) others = subst (λ (o : Option (List ℕ)). NamesOrStops (word ∷ words) (with_name o (names_of words))) (sym n.1) (one_more word words (names_of words) n.0 others)
+    by : (IsName word × (name_of word ≡ Some word)) ⊎ ((IsName word → ⊥) × (name_of word ≡ None)) → NamesOrStops words (names_of words)
+        → NamesOrStops (word ∷ words) (with_name (name_of word) (names_of words))
+    by (inl n) others = subst (λ (o : Option (List ℕ)). NamesOrStops (word ∷ words) (with_name o (names_of words))) (sym n.1)
+        (one_more word words (names_of words) n.0 others)
     by (inr n) others = subst (λ (o : Option (List ℕ)). NamesOrStops (word ∷ words) (with_name o (names_of words))) (sym n.1)
         (record { front = []; word = word; more = words; written = refl; before = tt; bad = n.0; at = refl })
 
@@ -61,7 +65,8 @@ unfolding names_of
 names-said [] h = refl
 names-said (word ∷ words) h = rw (is-name word h.0, names-said words h.1) refl
 
-names-stopped : (front : List (List ℕ)) (word : List ℕ) (more : List (List ℕ)) → AreNames front → (IsName word → ⊥) → names_of (front ++ word ∷ more) ≡ Err (length front)
+names-stopped : (front : List (List ℕ)) (word : List ℕ) (more : List (List ℕ)) → AreNames front → (IsName word → ⊥)
+    → names_of (front ++ word ∷ more) ≡ Err (length front)
 unfolding names_of
 names-stopped [] word more h bad = rw (no-name word bad) refl
 names-stopped (w ∷ ws) word more h bad = rw (is-name w h.0, names-stopped ws word more h.1 bad) (ap (λ (n : ℕ). Err n) (omega arith))
@@ -90,7 +95,8 @@ other_word word is e = let t : name_eq (codes "-u") (codes "-u") ≡ false = sub
 fault_same : (n m : ℕ) → n ≡ m → fault_at n cause.BadName ≡ fault_at m cause.BadName
 fault_same n m e = ap (λ (k : ℕ). fault_at k cause.BadName) e
 
-all-read : (words : List (List ℕ)) → ((word : List ℕ) (more : List (List ℕ)) → words ≡ word ∷ more → word ≢ codes "-u") → (r : Result (List (List ℕ)) ℕ) → NamesOrStops words r
+all-read : (words : List (List ℕ)) → ((word : List ℕ) (more : List (List ℕ)) → words ≡ word ∷ more → word ≢ codes "-u") → (r : Result (List (List ℕ)) ℕ)
+    → NamesOrStops words r
     → SaysStatOrFaults words (or_bad_name 1 r >>= (λ queues. Ok (record { user = None; queues = queues })))
 all-read words other (Ok names) h = (sym h.1, (tt, subst AreNames (sym h.1) h.0))
 all-read words other (Err place) h =
@@ -130,7 +136,8 @@ option-read : (words : List (List ℕ)) → SaysStatOrFaults (codes "-u" ∷ wor
 option-read [] = inl (refl, refl)
 option-read (user ∷ more) = by (named user)
   where
-    by : (IsName user × (name_of user ≡ Some user)) ⊎ ((IsName user → ⊥) × (name_of user ≡ None)) → SaysStatOrFaults (codes "-u" ∷ user ∷ more) (of_user (codes "-u" ∷ user ∷ more))
+    by : (IsName user × (name_of user ≡ Some user)) ⊎ ((IsName user → ⊥) × (name_of user ≡ None))
+        → SaysStatOrFaults (codes "-u" ∷ user ∷ more) (of_user (codes "-u" ∷ user ∷ more))
     by (inl n) = rw n.1 (user-read user more n.0 (names_of more) (names-read more))
     by (inr n) = rw n.1 (inr (inl (user, more, refl, n.0, refl)))
 
@@ -151,23 +158,28 @@ read (word ∷ words) = by (name_eq (codes "-u") word) refl
 name_no_option : (word : List ℕ) → IsName word → word ≢ codes "-u"
 name_no_option word h e = option_no_name (subst IsName e h)
 
-stat-said : (user : Option (List ℕ)) (queues : List (List ℕ)) → MayBeName user → AreNames queues → stat_of (user_words user ++ queues) ≡ Ok (record { user = user; queues = queues })
+stat-said : (user : Option (List ℕ)) (queues : List (List ℕ)) → MayBeName user → AreNames queues
+    → stat_of (user_words user ++ queues) ≡ Ok (record { user = user; queues = queues })
 unfolding stat_of
 stat-said None [] u h = rw (names-said [] tt) refl
 stat-said None (q ∷ qs) u h = rw (no_option q (name_no_option q h.0), names-said (q ∷ qs) h) refl
 stat-said (Some user) queues u h = rw (is-name user u, names-said queues h) refl
 
-bad_first : (front : List (List ℕ)) (word : List ℕ) (more : List (List ℕ)) → AreNames front → (front ≡ [] → word ≢ codes "-u") → is_user_option (front ++ word ∷ more) ≡ false
+bad_first : (front : List (List ℕ)) (word : List ℕ) (more : List (List ℕ)) → AreNames front → (front ≡ [] → word ≢ codes "-u")
+    → is_user_option (front ++ word ∷ more) ≡ false
 bad_first [] word more h other = no_option word (other refl)
 bad_first (q ∷ qs) word more h other = no_option q (name_no_option q h.0)
 
-stat-bad : (user : Option (List ℕ)) (front : List (List ℕ)) (word : List ℕ) (more : List (List ℕ)) → MayBeName user → AreNames front → (IsName word → ⊥) → (user_words user ++ front ≡ [] → word ≢ codes "-u")
+stat-bad : (user : Option (List ℕ)) (front : List (List ℕ)) (word : List ℕ) (more : List (List ℕ)) → MayBeName user → AreNames front → (IsName word → ⊥)
+    → (user_words user ++ front ≡ [] → word ≢ codes "-u")
     → stat_of ((user_words user ++ front) ++ word ∷ more) ≡ Err (fault_at (length (user_words user ++ front) + 1) cause.BadName)
 unfolding stat_of
 stat-bad None front word more u h bad other =
-    rw (bad_first front word more h other, names-stopped front word more h bad) (ap (λ (f : WordsFault). Err f) (fault_same (1 + length front) (length front + 1) (omega arith)))
+    rw (bad_first front word more h other, names-stopped front word more h bad)
+    (ap (λ (f : WordsFault). Err f) (fault_same (1 + length front) (length front + 1) (omega arith)))
 stat-bad (Some user) front word more u h bad other =
-    rw (is-name user u, names-stopped front word more h bad) (ap (λ (f : WordsFault). Err f) (fault_same (3 + length front) (length (user_words (Some user) ++ front) + 1) (omega arith)))
+    rw (is-name user u, names-stopped front word more h bad) (ap (λ (f : WordsFault). Err f)
+    (fault_same (3 + length front) (length (user_words (Some user) ++ front) + 1) (omega arith)))
 
 no_user : (user : List ℕ) (more : List (List ℕ)) → (IsName user → ⊥) → stat_of (codes "-u" ∷ user ∷ more) ≡ Err (fault_at 2 cause.BadName)
 unfolding stat_of
@@ -182,7 +194,8 @@ said words (Ok asked) h = ap stat_of h.0 ∙ stat-said asked.user asked.queues h
 said words (Err fault) (inl h) = ap stat_of h.0 ∙ (user_missing ∙ ap (λ (f : WordsFault). Err f) (sym h.1))
 said words (Err fault) (inr (inl h)) = ap stat_of h.2 ∙ (no_user h.0 h.1 h.3 ∙ ap (λ (f : WordsFault). Err f) (sym h.4))
 said words (Err fault) (inr (inr h)) =
-    ap stat_of h.2.written ∙ (stat-bad h.0.user h.0.queues h.1 h.2.more h.2.before.0 h.2.before.1 h.2.bad h.2.no_option ∙ ap (λ (f : WordsFault). Err f) (sym h.3))
+    ap stat_of h.2.written ∙ (stat-bad h.0.user h.0.queues h.1 h.2.more h.2.before.0 h.2.before.1 h.2.bad h.2.no_option
+    ∙ ap (λ (f : WordsFault). Err f) (sym h.3))
 
 pub stats_are_read : ReadsStats
 stats_are_read words answer = (

@@ -88,8 +88,10 @@ IsNoRequest text _ = ⊥
 abbrev pub FaultsDelete : List (List ℕ) → WordsFault → Type 0
 FaultsDelete words fault =
     ((kill : Bool) × (words ≡ kill_words kill) × (fault ≡ fault_at (length words + 1) cause.Missing))
-    ⊎ ((kill : Bool) × (text : List ℕ) × (more : List (List ℕ)) × (why : WordsCause) × HasWord words kill text more × IsNoRequest text why × (fault ≡ fault_at (length (kill_words kill) + 1) why))
-    ⊎ ((kill : Bool) × (text : List ℕ) × (id : Named) × (word : List ℕ) × (more : List (List ℕ)) × (words ≡ kill_words kill ++ text ∷ word ∷ more) × IsRequest text id × (fault ≡ fault_at (length (kill_words kill) + 2) cause.Unknown))
+    ⊎ ((kill : Bool) × (text : List ℕ) × (more : List (List ℕ)) × (why : WordsCause) × HasWord words kill text more × IsNoRequest text why
+    × (fault ≡ fault_at (length (kill_words kill) + 1) why))
+    ⊎ ((kill : Bool) × (text : List ℕ) × (id : Named) × (word : List ℕ) × (more : List (List ℕ)) × (words ≡ kill_words kill ++ text ∷ word ∷ more)
+    × IsRequest text id × (fault ≡ fault_at (length (kill_words kill) + 2) cause.Unknown))
 
 abbrev pub SaysDeleteOrFaults : List (List ℕ) → Read Command → Type 0
 SaysDeleteOrFaults words (Ok c) = SaysDelete words c

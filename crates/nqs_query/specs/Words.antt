@@ -1,5 +1,5 @@
 -- The words of qstat and qdel.
-use Rattle.std.specs.Prelude.{◌≡◌, ◌⊎◌, ℕ, ◌+◌, Bool, true, false, nat_le, List, [], ◌∷◌, drop, codes, Option, Some, None, if◌then◌else◌, Ok, Err}
+use Rattle.std.specs.Prelude.{◌≡◌, ℕ, ◌+◌, Bool, true, false, nat_le, List, [], ◌∷◌, drop, codes, Option, Some, None, if◌then◌else◌, Ok, Err}
 use Rattle.std.specs.declared.result.Result.{Result}
 use Rattle.std.specs.Global.{Vec}
 use Rattle.nqs_values.specs.Same.{name_eq}
@@ -50,7 +50,7 @@ names_of (word ∷ words) = with_name (name_of word) (names_of words)
 abbrev pub ReadsNames : List (List ℕ) → Result (Vec Name) NotNames → Type 0
 ReadsNames words (Ok names) = names_of words ≡ Ok names.items
 ReadsNames words (Err (Bad place)) = names_of words ≡ Err place
-ReadsNames words (Err Memory) = Unit {0}
+ReadsNames words (Err (Memory memory)) = Unit {0}
 
 -- the names of queues, the first of which is the word of this number
 abbrev pub or_bad_name : ℕ → Result (List (List ℕ)) ℕ → Read (List (List ℕ))
@@ -89,14 +89,15 @@ of_all words = queues_from 1 words >>= (λ queues. Ok (record { user = None; que
 unfoldable pub stat_of : List (List ℕ) → Read Asked
 stat_of words = if is_user_option words then of_user words else of_all words
 
--- the answer is what the words give, but that memory may be wanting
+-- the queues that are read are those that the words give, or their first fault is
 abbrev pub ReadsQueues : ℕ → List (List ℕ) → Result (List Name) WordsFault → Type 0
 ReadsQueues number words (Ok queues) = queues_from number words ≡ Ok queues
-ReadsQueues number words (Err f) = (f ≡ fault_at 0 cause.Memory) ⊎ (queues_from number words ≡ Err f)
+ReadsQueues number words (Err f) = queues_from number words ≡ Err f
 
+-- a command is what was read, or its fault is
 abbrev pub Stats : Read Asked → Result Command WordsFault → Type 0
 Stats r (Ok c) = (asked : Asked) × (r ≡ Ok asked) × (c ≡ command.Stat asked.user asked.queues)
-Stats r (Err f) = (f ≡ fault_at 0 cause.Memory) ⊎ (r ≡ Err f)
+Stats r (Err f) = r ≡ Err f
 
 -- what reading the words of qstat answers
 abbrev pub ReadsStat : List (List ℕ) → Result Command WordsFault → Type 0
@@ -116,7 +117,8 @@ nothing_more number (word ∷ words) = Err (fault_at number cause.Unknown)
 -- one request, whose word has this number
 abbrev pub request_from : ℕ → Bool → List (List ℕ) → Read Command
 request_from number kill [] = Err (fault_at number cause.Missing)
-request_from number kill (word ∷ words) = named_or_fault number (named_of word) >>= (λ id. nothing_more (number + 1) words >>= (λ done. Ok (command.Delete id kill)))
+request_from number kill (word ∷ words) = named_or_fault number (named_of word) >>=
+    (λ id. nothing_more (number + 1) words >>= (λ done. Ok (command.Delete id kill)))
 
 abbrev pub is_kill_option : List ℕ → Bool
 is_kill_option word = name_eq (codes "-k") word

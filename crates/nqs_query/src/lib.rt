@@ -1,7 +1,7 @@
 //! Questions and answers: the words of qstat and qdel, and the text of each reply.
 //!
-//! specs/Words.antt says what the words ask for; the texts stand in nqs_rules (specs/Transcript.antt).
-//! docs/commands.md has both in plain words.
+//! specs/Words.antt says what the words ask for; the texts stand in nqs_rules
+//! (specs/Transcript.antt). docs/commands.md has both in plain words.
 #![tactic(auto)]
 
 mod laws;

@@ -34,7 +34,6 @@ fn put_grammar_fault(alloc: Global, fault: GrammarFault, out: &mut Vec<u8>) -> R
         GrammarFault::Extra(place) => put_at_place(alloc, place, b"extra", out),
         GrammarFault::BadName(place) => put_at_place(alloc, place, b"bad name", out),
         GrammarFault::BadNumber(place) => put_at_place(alloc, place, b"bad number", out),
-        GrammarFault::Memory => put_text(b"", out),
     }
 }
 
@@ -51,7 +50,6 @@ fn words_text(cause: WordsCause) -> &'static [u8]
         WordsCause::BadMoment => b"bad moment",
         WordsCause::BadPath => b"bad path",
         WordsCause::ScriptTooLong => b"script too long",
-        WordsCause::Memory => b"",
     }
 }
 
@@ -158,8 +156,8 @@ fn put_one_line(
     }
 }
 
-/// Appends the text of a reply: its lines, each with a line feed. Requests are named by the hosts of the
-/// site. Want of memory leaves a front of the text behind what was there.
+/// Appends the text of a reply: its lines, each with a line feed. Requests are named by the hosts
+/// of the site. Want of memory leaves a front of the text behind what was there.
 pub fn print_reply(
     alloc: Global,
     reply: &Reply,

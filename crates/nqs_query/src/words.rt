@@ -3,29 +3,31 @@
 //! `qstat [-u USER] [QUEUE]..` and `qdel [-k] SEQ.HOST`: the option comes first. specs/Words.antt has the
 //! definitions.
 
-ghost use Rattle.std.specs.Prelude.{◌≡◌, ◌+◌, ◌≤◌, [], drop, length};
+ghost use Rattle.std.specs.Prelude.{◌≡◌, ◌+◌, ◌≤◌, [], drop, length, IfOk};
 ghost use Rattle.nqs_words.specs.Values.{named_of};
 ghost use Rattle.nqs_query.specs.declared.words.NotNames.TheVariants.{Memory};
-ghost use Rattle.nqs_query.specs.Words.{word_number, fault_at, ReadsNames, ReadsQueues, user_word, of_user, of_all, is_user_option, Stats, ReadsStat, named_or_fault, nothing_more, request_from, is_kill_option, delete_of};
+ghost use Rattle.nqs_query.specs.Words.{word_number, fault_at, ReadsNames, ReadsQueues, user_word, of_user, of_all, is_user_option, Stats, ReadsStat};
+ghost use Rattle.nqs_query.specs.Words.{named_or_fault, nothing_more, request_from, is_kill_option, delete_of};
+ghost use Rattle.nqs_values.specs.Want.{want};
 
 use nqs_types::{Command, Named, WordsCause, WordsFault};
-use nqs_values::{Bytes, Name, NameList};
+use nqs_values::{Bytes, Memory, Name, NameList};
 use nqs_words::{NotNamed, name_of, named_of};
 use std::alloc::{AllocFailed, Global};
 
 /// Why words are no list of names.
-#[derive(Clone, Copy)]
+#[derive(Drop)]
 pub enum NotNames {
     /// The place, from 0, of the first word that is no name.
     Bad(usize),
-    Memory,
+    Memory(Memory),
 }
 
 impl<T: Drop> From<AllocFailed<T>> for NotNames {
-    ghost from_gives = { λ _ e. e ≡ Memory };
+    ghost from_gives = { λ _ e. e ≡ Memory want };
 
-    fn from(_e: AllocFailed<T>) -> NotNames {
-        NotNames::Memory
+    fn from(refused: AllocFailed<T>) -> NotNames {
+        NotNames::Memory(refused.into())
     }
 }
 
@@ -64,13 +66,17 @@ fn fault_at(first: u32, behind: usize, cause: WordsCause) -> WordsFault
 }
 
 // Queues, the first of which is the word of this number.
-fn queues_from(alloc: Global, first: u32, words: &[Bytes]) -> Result<NameList, WordsFault>
-    ensures { ReadsQueues first words.now result }
+fn queues_from(
+    alloc: Global,
+    first: u32,
+    words: &[Bytes],
+) -> Result<Result<NameList, WordsFault>, Memory>
+    ensures { IfOk result (λ read. ReadsQueues first words.now read) }
 {
     match names_of(alloc, words) {
-        Ok(names) => Ok(NameList::from_vec(names)),
-        Err(NotNames::Bad(place)) => Err(fault_at(first, place, WordsCause::BadName)),
-        Err(NotNames::Memory) => Err(fault_at(0, 0, WordsCause::Memory)),
+        Ok(names) => Ok(Ok(NameList::from_vec(names))),
+        Err(NotNames::Bad(place)) => Ok(Err(fault_at(first, place, WordsCause::BadName))),
+        Err(NotNames::Memory(memory)) => Err(memory),
     }
 }
 
@@ -105,36 +111,35 @@ fn behind_two(words: &[Bytes]) -> &[Bytes]
     &words[2..]
 }
 
-fn of_user(alloc: Global, words: &[Bytes]) -> Result<Command, WordsFault>
-    ensures { Stats (of_user words.now) result }
+fn of_user(alloc: Global, words: &[Bytes]) -> Result<Result<Command, WordsFault>, Memory>
+    ensures { IfOk result (λ read. Stats (of_user words.now) read) }
 {
     let user = match user_of(words) {
         Ok(user) => user,
-        Err(fault) => return Err(fault),
+        Err(fault) => return Ok(Err(fault)),
     };
-    match queues_from(alloc, 3, behind_two(words)) {
-        Ok(queues) => Ok(Command::Stat {
+    match queues_from(alloc, 3, behind_two(words))? {
+        Ok(queues) => Ok(Ok(Command::Stat {
             user: Some(user),
             queues,
-        }),
-        Err(fault) => Err(fault),
+        })),
+        Err(fault) => Ok(Err(fault)),
     }
 }
 
-fn of_all(alloc: Global, words: &[Bytes]) -> Result<Command, WordsFault>
-    ensures { Stats (of_all words.now) result }
+fn of_all(alloc: Global, words: &[Bytes]) -> Result<Result<Command, WordsFault>, Memory>
+    ensures { IfOk result (λ read. Stats (of_all words.now) read) }
 {
-    match queues_from(alloc, 1, words) {
-        Ok(queues) => Ok(Command::Stat { user: None, queues }),
-        Err(fault) => Err(fault),
+    match queues_from(alloc, 1, words)? {
+        Ok(queues) => Ok(Ok(Command::Stat { user: None, queues })),
+        Err(fault) => Ok(Err(fault)),
     }
 }
 
-/// What the words of qstat ask for, or the first fault. Memory is taken for the list of queues; where there is
-/// none the answer is `Memory`, at word 0.
+/// What the words of qstat ask for, or the first fault. Memory is taken for the list of queues.
 #[tactic(auto, unfolding(crate::specs::Words::stat_of))]
-pub fn read_qstat(alloc: Global, words: &[Bytes]) -> Result<Command, WordsFault>
-    ensures { ReadsStat words.now result }
+pub fn read_qstat(alloc: Global, words: &[Bytes]) -> Result<Result<Command, WordsFault>, Memory>
+    ensures { IfOk result (λ read. ReadsStat words.now read) }
 {
     if is_user_option(words) {
         return of_user(alloc, words);

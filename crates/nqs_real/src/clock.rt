@@ -6,7 +6,8 @@ use nqs_outside::Clock;
 use std::rt::HostRuntime;
 use std::time::{SystemTime, UNIX_EPOCH};
 
-/// The system's clock. Where it can't be read, or stands before 1970, the last moment that it gave stands for it, at first 0.
+/// The system's clock. Where it can't be read, or stands before 1970, the last moment that it gave
+/// stands for it, at first 0.
 #[derive(Drop)]
 pub struct SystemClock {
     rt: HostRuntime,

@@ -15,8 +15,8 @@ use std::rt::HostRuntime;
 /// No disk is longer: 2^40 bytes.
 const LONGEST: u64 = 1 << 40;
 
-/// A file as a disk. Trusted: that the file's bytes are those that were written, and that a sync which answered Ok left them
-/// on the device.
+/// A file as a disk. Trusted: that the file's bytes are those that were written, and that a sync
+/// which answered Ok left them on the device.
 #[derive(Drop)]
 pub struct FileDisk {
     file: File,
@@ -24,8 +24,9 @@ pub struct FileDisk {
 }
 
 impl FileDisk {
-    /// Opens the file of this name in a folder. Where it isn't there it is made, for its owner alone, and the folder synced.
-    /// The file is synced, so nothing is pending on the disk. A file longer than 2^40 bytes is refused.
+    /// Opens the file of this name in a folder. Where it isn't there it is made, for its owner
+    /// alone, and the folder synced. The file is synced, so nothing is pending on the disk. A file
+    /// longer than 2^40 bytes is refused.
     pub fn open(rt: &HostRuntime, folder: &str, name: &str) -> io::Result<FileDisk>
         ensures { IfOk result (λ disk. disk.faults ≡ 0) }
     {
@@ -139,7 +140,8 @@ pub struct HostDisks {
     pub spool: FileDisk,
 }
 
-/// Opens the disks in the folder of a host, by `FileDisk::open`: the files `root`, `first`, `second` and `spool`.
+/// Opens the disks in the folder of a host, by `FileDisk::open`: the files `root`, `first`,
+/// `second` and `spool`.
 pub fn open_disks(rt: &HostRuntime, folder: &str) -> io::Result<HostDisks>
     ensures { IfOk result (λ disks. (disks.root.faults ≡ 0) × (disks.first.faults ≡ 0) × (disks.second.faults ≡ 0) × (disks.spool.faults ≡ 0)) }
 {

@@ -65,7 +65,8 @@ pub fn request_text(rt: &HostRuntime, site: &[SiteHost], id: RequestId) -> io::R
     Ok(format!(in rt.alloc(); "{}.{host}", id.seq)?)
 }
 
-/// The folder `DIR/HOST` of a host of the site, which is made where it isn't there. All that a host keeps stands below it.
+/// The folder `DIR/HOST` of a host of the site, which is made where it isn't there. All that a host
+/// keeps stands below it.
 pub fn make_host_folder(
     rt: &HostRuntime,
     dir: &str,
@@ -75,21 +76,24 @@ pub fn make_host_folder(
     make_folder(rt, dir, host_text(site, host)?)
 }
 
-/// The folder `jobs` of a host, below this folder, as a path from the root without links. The host's folder is there; the folder
+/// The folder `jobs` of a host, below this folder, as a path from the root without links. The
+/// host's folder is there; the folder
 /// `jobs` need not be.
 pub fn jobs_path(rt: &HostRuntime, folder: &str) -> io::Result<String> {
     let folder = fs::canonicalize(rt, folder)?;
     Ok(format!(in rt.alloc(); "{}/jobs", folder.as_str())?)
 }
 
-/// The lock of a host's folder. The system gives it back when the value is dropped, or the process ends.
+/// The lock of a host's folder. The system gives it back when the value is dropped, or the process
+/// ends.
 #[derive(Drop)]
 pub struct HostLock {
     _file: File,
 }
 
 impl HostLock {
-    /// Locks the file `lock` in the folder of a host. Where another process has the lock it fails at once, with `WouldBlock`.
+    /// Locks the file `lock` in the folder of a host. Where another process has the lock it fails
+    /// at once, with `WouldBlock`.
     pub fn take(rt: &HostRuntime, folder: &str) -> io::Result<HostLock> {
         let path = format!(in rt.alloc(); "{folder}/lock")?;
         let file = OpenOptions::new()

@@ -1,4 +1,5 @@
-//! The launcher: a process of this very program for each job, its shepherd, which runs the job and tells the daemon its end.
+//! The launcher: a process of this very program for each job, its shepherd, which runs the job and
+//! tells the daemon its end.
 
 ghost use Rattle.std.specs.Prelude.{◌≡◌, ◌++◌, None, IfOk, codes, string_bytes};
 ghost use Rattle.nqs_real.specs.Names.{job_text};
@@ -26,10 +27,11 @@ struct Shepherd {
     place: String,
 }
 
-/// Starts `PROGRAM shepherd DIR HOST SEQ.HOST START` for each job, under `setpriv`, which has the system kill the shepherd as soon
-/// as the daemon ends. Where there is no `setpriv` each launch fails. What is left of the jobs of an earlier daemon is ended before
-/// anything is launched; what is left of a job whose shepherd was killed, at the next launch or kill. Trusted: that the program is
-/// still the one that runs, and that a shepherd which was started runs its job.
+/// Starts `PROGRAM shepherd DIR HOST SEQ.HOST START` for each job, under `setpriv`, which has the
+/// system kill the shepherd as soon as the daemon ends. Where there is no `setpriv` each launch
+/// fails. What is left of the jobs of an earlier daemon is ended before anything is launched; what
+/// is left of a job whose shepherd was killed, at the next launch or kill. Trusted: that the
+/// program is still the one that runs, and that a shepherd which was started runs its job.
 #[derive(Drop)]
 pub struct ShepherdLauncher {
     rt: HostRuntime,
@@ -69,7 +71,8 @@ fn write_private(rt: &HostRuntime, path: &str, bytes: &[u8]) -> io::Result<()> {
     file.write_all(bytes)
 }
 
-// The folder of the jobs of a host, without what an earlier daemon left: processes of its jobs, and their files.
+// The folder of the jobs of a host, without what an earlier daemon left: processes of its jobs, and
+// their files.
 fn make_jobs(rt: &HostRuntime, folder: &str) -> io::Result<String> {
     let jobs = jobs_path(rt, folder)?;
     end_jobs(rt, &jobs)?;
@@ -78,8 +81,8 @@ fn make_jobs(rt: &HostRuntime, folder: &str) -> io::Result<String> {
     Ok(jobs)
 }
 
-// Does the shepherd still run? Where it has ended and its job's folder is there yet, it was cut off: what is left of its job is
-// ended too.
+// Does the shepherd still run? Where it has ended and its job's folder is there yet, it was cut
+// off: what is left of its job is ended too.
 fn still_runs(rt: &HostRuntime, shepherd: &mut Shepherd) -> bool {
     if matches!(shepherd.child.try_wait(), Ok(None)) {
         return true;
@@ -91,9 +94,10 @@ fn still_runs(rt: &HostRuntime, shepherd: &mut Shepherd) -> bool {
 }
 
 impl ShepherdLauncher {
-    /// The launcher of a host's daemon, to be opened while the daemon has the host's lock. What is left of the host's jobs is ended.
-    /// Where that can't be done in about a second and a half, it fails with `TimedOut`: else a job could run twice. Jobs have folders
-    /// in the folder `jobs` of the host's folder, which is made anew.
+    /// The launcher of a host's daemon, to be opened while the daemon has the host's lock. What is
+    /// left of the host's jobs is ended. Where that can't be done in about a second and a half, it
+    /// fails with `TimedOut`: else a job could run twice. Jobs have folders in the folder `jobs` of
+    /// the host's folder, which is made anew.
     pub fn open(
         rt: HostRuntime,
         program: &str,

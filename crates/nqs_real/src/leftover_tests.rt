@@ -11,7 +11,8 @@ use std::test::Fail;
 use std::time::Duration;
 use std::{env, fs, io, thread};
 
-// An environment, whether it is that of a process of the job `/s/a/jobs/1.a.1`, and whether that of one of a job in `/s/a/jobs`.
+// An environment, whether it is that of a process of the job `/s/a/jobs/1.a.1`, and whether that of
+// one of a job in `/s/a/jobs`.
 const ENVIRONMENTS: [(&[u8], bool, bool); 15] = [
     (b"NQS_JOB=/s/a/jobs/1.a.1\0", true, true),
     (b"NQS_JOB=/s/a/jobs/1.a.1", true, true),
@@ -41,8 +42,9 @@ fn an_entry_is_the_mark(rt: HostRuntime) -> Result<(), Fail> {
     Ok(())
 }
 
-// Sleeping processes, each with a variable, and a value that has this in front of the path of the folder `jobs` and that behind
-// it. The first is of the job 1.alpha.1, the second of another job of the host, the others of none.
+// Sleeping processes, each with a variable, and a value that has this in front of the path of the
+// folder `jobs` and that behind it. The first is of the job 1.alpha.1, the second of another job of
+// the host, the others of none.
 const SLEEPERS: [(&str, &str, &str); 6] = [
     ("NQS_JOB", "", "/1.alpha.1"),
     ("NQS_JOB", "", "/1.alpha.12"),

@@ -1,10 +1,13 @@
-//! What is left of jobs: processes that live on after their job's shell, its shepherd or its daemon has ended.
+//! What is left of jobs: processes that live on after their job's shell, its shepherd or its daemon
+//! has ended.
 //!
-//! The shepherd of a job and all that it starts have the variable `NQS_JOB` in the environment that they were started with: the
-//! job's folder, as a path from the root without links. So a look through the files `/proc/NUMBER/environ` finds each of them,
-//! whatever its parent, group or session. Trusted: that the system shows its processes there and starts none with another
-//! environment than it was given. Not found are a process that took the variable out of its environment or wrote over it, what
-//! such a process started, and a process of a user whose files there can't be read.
+//! The shepherd of a job and all that it starts have the variable `NQS_JOB` in the environment that
+//! they were started with: the job's folder, as a path from the root without links. So a look
+//! through the files `/proc/NUMBER/environ` finds each of them, whatever its parent, group or
+//! session. Trusted: that the system shows its processes there and starts none with another
+//! environment than it was given. Not found are a process that took the variable out of its
+//! environment or wrote over it, what such a process started, and a process of a user whose files
+//! there can't be read.
 
 ghost use Rattle.std.specs.Prelude.{◌≡◌};
 ghost use Rattle.nqs_real.specs.Marks.{is_mark, is_marked};
@@ -106,9 +109,10 @@ fn end_found(rt: &HostRuntime, mark: &Mark) -> io::Result<bool> {
     Ok(false)
 }
 
-// Ends each process with this mark, but for this process, by SIGKILL: it looks until two looks in a row find none, since a look
-// misses a process that is just between two programs, and one whose parent the look ended. Where there are some left after
-// twenty looks, in about a second and a half, it fails with `TimedOut`.
+// Ends each process with this mark, but for this process, by SIGKILL: it looks until two looks in a
+// row find none, since a look misses a process that is just between two programs, and one whose
+// parent the look ended. Where there are some left after twenty looks, in about a second and a
+// half, it fails with `TimedOut`.
 fn end_marked(rt: &HostRuntime, mark: &Mark) -> io::Result<()> {
     let mut was_calm = false;
     let mut wait = FIRST_WAIT;
@@ -130,13 +134,14 @@ pub fn put_mark(command: &mut Command, place: &str) -> Result<(), AllocError> {
     Ok(())
 }
 
-/// Ends what is left of the job with this folder, but for this process. It fails as `end_jobs` does.
+/// Ends what is left of the job with this folder, but for this process. It fails as `end_jobs`
+/// does.
 pub fn end_job(rt: &HostRuntime, place: &str) -> io::Result<()> {
     end_marked(rt, &Mark::Is(format!(in rt.alloc(); "{JOB}={place}")?))
 }
 
-/// Ends what is left of each job whose folder is in this one, but for this process. Where there is some left after twenty looks,
-/// in about a second and a half, it fails with `TimedOut`.
+/// Ends what is left of each job whose folder is in this one, but for this process. Where there is
+/// some left after twenty looks, in about a second and a half, it fails with `TimedOut`.
 pub fn end_jobs(rt: &HostRuntime, jobs: &str) -> io::Result<()> {
     end_marked(rt, &Mark::Begins(format!(in rt.alloc(); "{JOB}={jobs}/")?))
 }

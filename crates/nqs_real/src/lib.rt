@@ -1,6 +1,7 @@
-//! The real outside of a host: files, a socket, child processes, the system's clock, standard streams. Each adapter counts its
-//! failed calls and tells nothing; what the system then does with a call is trusted. `docs/real.md` has the files below a folder,
-//! what a job finds around it, and what may outlive it.
+//! The real outside of a host: files, a socket, child processes, the system's clock, standard
+//! streams. Each adapter counts its failed calls and tells nothing; what the system then does with
+//! a call is trusted. `docs/real.md` has the files below a folder, what a job finds around it, and
+//! what may outlive it.
 #![tactic(auto)]
 
 mod clock;

@@ -1,5 +1,5 @@
-//! The file by which a launcher tells a runner of a job: lines `KEY VALUE` with the keys `name`, `owner` and `queue`, and `cpu`
-//! (seconds) and `memory` (bytes) where the job has that limit.
+//! The file by which a launcher tells a runner of a job: lines `KEY VALUE` with the keys `name`,
+//! `owner` and `queue`, and `cpu` (seconds) and `memory` (bytes) where the job has that limit.
 
 use crate::folder::name_text;
 use nqs_text::read_u64;

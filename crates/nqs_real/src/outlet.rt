@@ -9,8 +9,8 @@ use nqs_outside::{Failed, Outlet};
 use std::io;
 use std::rt::HostRuntime;
 
-/// The files below the folder `output` of a host's folder, each at its path. A path that leads out of it is a failed call.
-/// Trusted: that no job puts a link there that leads elsewhere.
+/// The files below the folder `output` of a host's folder, each at its path. A path that leads out
+/// of it is a failed call. Trusted: that no job puts a link there that leads elsewhere.
 #[derive(Drop)]
 pub struct FileOutlet {
     rt: HostRuntime,

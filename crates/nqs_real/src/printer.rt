@@ -12,7 +12,8 @@ use nqs_values::Name;
 use std::io;
 use std::rt::HostRuntime;
 
-/// A folder for each device, below the folder `printed` of a host's folder: what is printed is the file `DEVICE/SEQ.HOST.START`.
+/// A folder for each device, below the folder `printed` of a host's folder: what is printed is the
+/// file `DEVICE/SEQ.HOST.START`.
 #[derive(Drop)]
 pub struct FilePrinter {
     rt: HostRuntime,

@@ -22,7 +22,8 @@ pub fn start_quietly(rt: &HostRuntime, command: &mut Command) -> io::Result<Chil
         .spawn(rt)
 }
 
-// Runs a program with these words, whose three streams are `/dev/null`, to its end. How it ended is not looked at.
+// Runs a program with these words, whose three streams are `/dev/null`, to its end. How it ended is
+// not looked at.
 fn run_quietly(rt: &HostRuntime, program: &str, words: &[&str]) -> io::Result<()> {
     let mut command = Command::new(rt.alloc(), program)?;
     add_words(&mut command, words)?;
@@ -41,7 +42,8 @@ pub fn end_processes(rt: &HostRuntime, numbers: &[String]) -> io::Result<()> {
     Ok(())
 }
 
-/// Ends each process of the session that this process leads, whatever signals it ignores. `kill` ends the leader's group at once,
+/// Ends each process of the session that this process leads, whatever signals it ignores. `kill`
+/// ends the leader's group at once,
 /// `pkill` then what has a group of its own. A process that began a session of its own is not found:
 /// `crate::leftovers` finds it.
 pub fn end_session(rt: &HostRuntime, leader: u32) -> io::Result<()> {

@@ -10,7 +10,8 @@ use std::rt::HostRuntime;
 /// The longest path, in bytes.
 const LONGEST: usize = 255;
 
-/// Does the path name a file below the folder that it starts from: 1 to 255 bytes that are seen, no `/` in front, and no part `..`?
+/// Does the path name a file below the folder that it starts from: 1 to 255 bytes that are seen, no
+/// `/` in front, and no part `..`?
 pub fn is_below(path: &str) -> bool {
     let fits = !path.is_empty() && path.len() <= LONGEST;
     let is_seen = path.bytes().all(|byte| byte.is_ascii_graphic());
@@ -59,8 +60,9 @@ fn folder_at(path: &str, place: usize) -> Option<&str> {
     }
 }
 
-/// Puts a file at a path below the folder, in place of one that was there; folders on its way are made. At Ok it outlasts a stop,
-/// and at an `Err` either file may be there, whole. The bytes are first written to the file `FOLDER.new`.
+/// Puts a file at a path below the folder, in place of one that was there; folders on its way are
+/// made. At Ok it outlasts a stop, and at an `Err` either file may be there, whole. The bytes are
+/// first written to the file `FOLDER.new`.
 pub fn put_file(rt: &HostRuntime, folder: &str, path: &[u8], bytes: &[u8]) -> io::Result<()> {
     let path = path_text(path)?;
     let new = format!(in rt.alloc(); "{folder}.new")?;

@@ -33,8 +33,9 @@ const LAST_WAIT: u64 = 20;
 /// Reads the script as `sh FILE` does, with no rights for others on the files that it makes.
 const SHELL: &str = "umask 077; . \"$0\"";
 
-/// Runs the script of a job by `/bin/sh`, in a session of its own, looks every 1 to 20 milliseconds whether it has ended or is to
-/// be killed, and then ends what is left of the job and removes its files. Trusted: the programs `setpriv`, `setsid`,
+/// Runs the script of a job by `/bin/sh`, in a session of its own, looks every 1 to 20 milliseconds
+/// whether it has ended or is to be killed, and then ends what is left of the job and removes its
+/// files. Trusted: the programs `setpriv`, `setsid`,
 /// `prlimit`, `sh`, `kill` and `pkill`, and that no job changes the files of the folder `jobs`.
 #[derive(Drop)]
 pub struct ShellRunner {
@@ -95,8 +96,8 @@ fn add_limits(rt: &HostRuntime, command: &mut Command, order: &JobOrder) -> io::
 }
 
 impl ShellRunner {
-    /// The runner of a host's jobs, whose launcher made their folders. Jobs run in the folder `work` of the host's folder; where
-    /// it isn't there it is made.
+    /// The runner of a host's jobs, whose launcher made their folders. Jobs run in the folder
+    /// `work` of the host's folder; where it isn't there it is made.
     pub fn open(
         rt: HostRuntime,
         folder: &str,

@@ -1,7 +1,8 @@
 //! The site file: which hosts there are, and where.
 //!
-//! One line for each host, in the site's order: its name, its address as four numbers with dots, and its port, parted by
-//! single spaces; each line ends with a line feed. There are 1 to 16 hosts with distinct names.
+//! One line for each host, in the site's order: its name, its address as four numbers with dots,
+//! and its port, parted by single spaces; each line ends with a line feed. There are 1 to 16 hosts
+//! with distinct names.
 
 ghost use Rattle.std.specs.Prelude.{◌≡◌, ◌≤◌, length, map, IfOk};
 
@@ -19,7 +20,7 @@ pub struct SiteHost {
 }
 
 /// Why a site can't be read.
-#[derive(Clone, Copy, Debug, PartialEq, Eq)]
+#[derive(Debug, PartialEq, Eq, Drop)]
 pub enum SiteFault {
     /// The bytes are no site file.
     Form,

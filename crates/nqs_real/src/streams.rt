@@ -1,4 +1,5 @@
-//! Standard input and output as a source and a sink, with their faults counted; and streams that are closed at the start.
+//! Standard input and output as a source and a sink, with their faults counted; and streams that
+//! are closed at the start.
 
 ghost use Rattle.std.specs.Prelude.{◌≡◌};
 
@@ -89,8 +90,9 @@ impl<W: Write + Drop> Sink for Writing<W> {
     }
 }
 
-/// Fills standard input, output and error, where they are closed, with `/dev/null`: else the next file or socket would take the
-/// number of one and get what is written to it. To be called before anything is opened.
+/// Fills standard input, output and error, where they are closed, with `/dev/null`: else the next
+/// file or socket would take the number of one and get what is written to it. To be called before
+/// anything is opened.
 pub fn fill_streams(rt: &HostRuntime) -> io::Result<()> {
     for _ in 0..3 {
         let file = File::open(rt, "/dev/null")?;

@@ -16,9 +16,10 @@ use std::time::{Duration, Instant};
 /// A second, in milliseconds: the longest wait.
 const SECOND: u64 = 1000;
 
-/// A UDP socket as a wire. A receive waits at most until the wire's wait is over, which begins at the first receive and anew at
-/// the first one after each `Quiet`. So under any traffic a `Quiet` comes once a wait, and after it the next receive looks at the
-/// socket. Who sent a datagram is not known.
+/// A UDP socket as a wire. A receive waits at most until the wire's wait is over, which begins at
+/// the first receive and anew at the first one after each `Quiet`. So under any traffic a `Quiet`
+/// comes once a wait, and after it the next receive looks at the socket. Who sent a datagram is not
+/// known.
 #[derive(Drop)]
 pub struct UdpWire {
     rt: HostRuntime,
@@ -39,7 +40,8 @@ fn no_such_host() -> io::Error {
 }
 
 impl UdpWire {
-    /// The wire of a host's daemon, at the address and port of the site. The wait is in milliseconds, from 1 to 1,000.
+    /// The wire of a host's daemon, at the address and port of the site. The wait is in
+    /// milliseconds, from 1 to 1,000.
     pub fn of_daemon(
         rt: HostRuntime,
         site: &[SiteHost],
@@ -54,7 +56,8 @@ impl UdpWire {
         }
     }
 
-    /// The wire of a client or a shepherd, at a free port of the machine's loopback address, which is given too.
+    /// The wire of a client or a shepherd, at a free port of the machine's loopback address, which
+    /// is given too.
     pub fn of_client(rt: HostRuntime, site: &[SiteHost], wait: u64) -> io::Result<(UdpWire, u16)>
         ensures { IfOk result (λ made. (made.0.receive_faults ≡ 0) × (made.0.send_faults ≡ 0)) }
     {

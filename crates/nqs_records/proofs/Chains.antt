@@ -1,5 +1,6 @@
 -- Chains of readings: each keeps that what is found stands there, and that what stands there is found.
-use Rattle.std.proofs.Common.{◌≡◌, ℕ, zero, suc, ◌+◌, Bool, true, false, cond, IsTrue, List, [], ◌∷◌, ◌++◌, length, drop, Option, Some, None, refl, sym, ap, ◌∙◌, subst, arith, length-append, append_assoc, append-nil, Result, Ok, Err}
+use Rattle.std.proofs.Common.{◌≡◌, ℕ, zero, suc, ◌+◌, Bool, true, false, cond, IsTrue, List, [], ◌∷◌, ◌++◌, length, drop, Option, Some, None, refl, sym, ap}
+use Rattle.std.proofs.Common.{◌∙◌, subst, arith, length-append, append_assoc, append-nil, Result, Ok, Err}
 use Rattle.std.specs.Prelude.{flat_map}
 use Rattle.std.specs.List.{AllByRecursion}
 use Rattle.nqs_codec.specs.Fields.{bool_field}
@@ -73,7 +74,8 @@ tested : {A : Type 0} (t : Bool) (x : RecordFault) (a b : A) → cond t (Ok a) (
 tested true x a b e = (refl, cc)
 tested false x a b e = cc
 
-pub within_read : {A : Type 0} {IsA : A → Type 0} {f : A → List ℕ} {r : Reading A} (test : A → Bool) → ((a : A) → IsTrue (test a) → IsA a) → IsRead IsA f r → IsRead (λ a. IsTrue (test a)) f (within test r)
+pub within_read : {A : Type 0} {IsA : A → Type 0} {f : A → List ℕ} {r : Reading A} (test : A → Bool) → ((a : A) → IsTrue (test a) → IsA a) → IsRead IsA f r
+    → IsRead (λ a. IsTrue (test a)) f (within test r)
 within_read {A} {IsA} {f} {r} test fits_it one = record {
   found = λ bytes place value next fits e.
       let a = bound (r bytes place) (λ a. cond (test a.0) (Ok a) (Err (BadField place))) (value, next) e in
@@ -90,7 +92,8 @@ last_read {A} {IsA} {f} {r} one = subst (λ (g : A → List ℕ). IsRead IsA g r
 
 -- ---- what may be left out
 
-there_found : {A : Type 0} {IsA : A → Type 0} {f : A → List ℕ} {r : Reading A} → IsRead IsA f r → (bytes : List ℕ) (place : ℕ) → AreBytes bytes → (is_there : Bool) (start : ℕ) → Stands bytes place (bool_field is_there) start
+there_found : {A : Type 0} {IsA : A → Type 0} {f : A → List ℕ} {r : Reading A} → IsRead IsA f r → (bytes : List ℕ) (place : ℕ) → AreBytes bytes
+    → (is_there : Bool) (start : ℕ) → Stands bytes place (bool_field is_there) start
     → (value : Option A) (next : ℕ) → if_there is_there r bytes start ≡ Ok (value, next) → Found (IsOpt IsA) (opt_field f) bytes place (value, next)
 there_found {A} {IsA} {f} {r} one bytes place fits false start stands value next e =
     subst (Found (IsOpt IsA) (opt_field f) bytes place) (same_Ok (None, start) (value, next) e) (tt, stands)
@@ -100,10 +103,12 @@ there_found {A} {IsA} {f} {r} one bytes place fits true start stands value next 
     subst (Found (IsOpt IsA) (opt_field f) bytes place) (same_Ok (Some a.0.0, a.0.1) (value, next) a.2)
     (here.0, two_stand bytes place start a.0.1 (bool_field true) (f a.0.0) stands here.1)
 
-opt_taken : {A : Type 0} {IsA : A → Type 0} {f : A → List ℕ} {r : Reading A} → IsRead IsA f r → (bytes rest : List ℕ) (place : ℕ) (value : Option A) → AreBytes bytes → IsOpt IsA value
+opt_taken : {A : Type 0} {IsA : A → Type 0} {f : A → List ℕ} {r : Reading A} → IsRead IsA f r → (bytes rest : List ℕ) (place : ℕ) (value : Option A)
+    → AreBytes bytes → IsOpt IsA value
     → drop place bytes ≡ opt_field f value ++ rest → opt_at r bytes place ≡ Ok (value, place + length (opt_field f value))
 unfolding opt_at
-opt_taken {A} {IsA} {f} {r} one bytes rest place None fits is_value is = bind (bool_at bytes place) _ _ _ (bool_read.taken bytes rest place false fits tt is) refl
+opt_taken {A} {IsA} {f} {r} one bytes rest place None fits is_value is = bind (bool_at bytes place) _ _ _
+    (bool_read.taken bytes rest place false fits tt is) refl
 opt_taken {A} {IsA} {f} {r} one bytes rest place (Some a) fits is_value is =
     let text = is ∙ append_assoc (bool_field true) (f a) rest in
     let start = place + length (bool_field true) in
@@ -125,7 +130,8 @@ opt_read {A} {IsA} {f} {r} one = record {
 abbrev pub AreSo : {A : Type 0} → (A → Type 0) → ℕ → List A → Type 0
 AreSo {A} IsA n l = (length l ≡ n) × AllByRecursion IsA l
 
-repeated_found : {A : Type 0} {IsA : A → Type 0} {f : A → List ℕ} {r : Reading A} → IsRead IsA f r → (n : ℕ) (bytes : List ℕ) (place : ℕ) (value : List A) (next : ℕ) → AreBytes bytes
+repeated_found : {A : Type 0} {IsA : A → Type 0} {f : A → List ℕ} {r : Reading A} → IsRead IsA f r
+    → (n : ℕ) (bytes : List ℕ) (place : ℕ) (value : List A) (next : ℕ) → AreBytes bytes
     → repeated n r bytes place ≡ Ok (value, next) → Found (AreSo IsA n) (flat_map f) bytes place (value, next)
 unfolding repeated
 repeated_found {A} {IsA} {f} {r} one zero bytes place value next fits e =
@@ -138,7 +144,8 @@ repeated_found {A} {IsA} {f} {r} one (suc n) bytes place value next fits e =
     subst (Found (AreSo IsA (suc n)) (flat_map f) bytes place) (same_Ok (x.0.0 ∷ xs.0.0, xs.0.1) (value, next) xs.2)
     ((ap (λ (k : ℕ). suc k) there.0.0, (here.0, there.0.1)), two_stand bytes place x.0.1 xs.0.1 (f x.0.0) (flat_map f xs.0.0) here.1 there.1)
 
-repeated_taken : {A : Type 0} {IsA : A → Type 0} {f : A → List ℕ} {r : Reading A} → IsRead IsA f r → (value : List A) (bytes rest : List ℕ) (place : ℕ) → AreBytes bytes → AllByRecursion IsA value
+repeated_taken : {A : Type 0} {IsA : A → Type 0} {f : A → List ℕ} {r : Reading A} → IsRead IsA f r → (value : List A) (bytes rest : List ℕ) (place : ℕ)
+    → AreBytes bytes → AllByRecursion IsA value
     → drop place bytes ≡ flat_map f value ++ rest → repeated (length value) r bytes place ≡ Ok (value, place + length (flat_map f value))
 unfolding repeated
 repeated_taken {A} {IsA} {f} {r} one [] bytes rest place fits all is = ap (λ (n : ℕ). Ok ([], n)) (omega arith)
@@ -157,7 +164,8 @@ counted_read {A} {IsN} {fn} {rn} {IsA} {f} {r} count one = record {
       let here = count.found bytes place n.0.0 n.0.1 fits n.1 in
       let there = repeated_found one n.0.0 bytes n.0.1 value next fits n.2 in (
         (subst IsN (sym there.0.0) here.0, there.0.1),
-        two_stand bytes place n.0.1 next (fn (length value)) (flat_map f value) (subst (λ (k : ℕ). Stands bytes place (fn k) n.0.1) (sym there.0.0) here.1) there.1,
+        two_stand bytes place n.0.1 next (fn (length value)) (flat_map f value)
+            (subst (λ (k : ℕ). Stands bytes place (fn k) n.0.1) (sym there.0.0) here.1) there.1,
       );
   taken = λ bytes rest place value fits is_value is.
       let front = fn (length value) in

@@ -1,5 +1,6 @@
 -- The laws of the arguments of edits.
-use Rattle.std.proofs.Common.{◌≡◌, ℕ, ◌+◌, ◌<◌, ◌^◌, Bool, true, false, ◌==◌, nat_le, is_some, IsTrue, List, [], ◌++◌, drop, Option, Some, None, refl, sym, ap, arith, Ok}
+use Rattle.std.proofs.Common.{◌≡◌, ℕ, ◌+◌, ◌<◌, ◌^◌, Bool, true, false, ◌==◌, nat_le, is_some, IsTrue, List, [], ◌++◌, drop, Option, Some, None, refl, sym, ap}
+use Rattle.std.proofs.Common.{arith, Ok}
 use Rattle.std.specs.Prelude.{⊤}
 use Rattle.std.proofs.lemmas.Bool.{eqb-true}
 use Rattle.std.proofs.lemmas.Bool.Decides.{nat_tests}
@@ -12,7 +13,8 @@ use Rattle.nqs_records.specs.Spelling.{opt_field}
 use Rattle.nqs_records.specs.Values.{is_at_most, IsU64, IsAny, IsOpt}
 use Rattle.nqs_records.specs.EditSpelling.{one_if, flag_field, dest_field, named_field}
 use Rattle.nqs_records.specs.EditValues.{IsAtMost, IsDest, IsNamed}
-use Rattle.nqs_records.specs.Edits.{nothing_at, at_most_at, wait_at, flag_at, names_at, dest_at, named_at, created_at, number_and_name_at, user_limit_at, limit_at, dest_and_name_at, named_and_name_at, named_and_priority_at}
+use Rattle.nqs_records.specs.Edits.{nothing_at, at_most_at, wait_at, flag_at, names_at, dest_at, named_at, created_at, number_and_name_at, user_limit_at}
+use Rattle.nqs_records.specs.Edits.{limit_at, dest_and_name_at, named_and_name_at, named_and_priority_at}
 use Rattle.nqs_records.specs.declared.edit_parts.Created.{Created}
 use Rattle.nqs_records.proofs.IsRead.{IsRead}
 use Rattle.nqs_records.proofs.Numbers.{u64_read}
@@ -71,7 +73,8 @@ one_again (Some n) is = ap (λ (m : ℕ). Some m) (sym (eqb-true n 1 is))
 flag : IsRead IsAny flag_field flag_at
 unfolding flag_at flag_field
 flag =
-    mapped_where IsAny flag_field (λ n. is_some n) one_if is_some_one (λ n is. tt) (λ is_set any. one_is_one is_set) (λ n is. ap (opt_field u64_field) (one_again n is))
+    mapped_where IsAny flag_field (λ n. is_some n) one_if is_some_one (λ n is. tt) (λ is_set any. one_is_one is_set)
+    (λ n is. ap (opt_field u64_field) (one_again n is))
     (opt_read (within_read (λ n. n == 1) one_fits u64_read))
 
 -- ---- names
@@ -85,7 +88,8 @@ two_names = both_read name_read (λ _ _. one_name)
 
 dest : IsRead IsDest dest_field dest_at
 unfolding dest_at dest_field
-dest = mapped_read IsDest dest_field (λ v. record { queue = v.0; host = v.1 }) (λ d. (d.queue, d.host)) (λ d. refl) (λ v is. is) (λ d is. is) (λ v. refl) two_names
+dest = mapped_read IsDest dest_field (λ v. record { queue = v.0; host = v.1 }) (λ d. (d.queue, d.host)) (λ d. refl) (λ v is. is) (λ d is. is)
+    (λ v. refl) two_names
 
 named_law : IsRead IsNamed named_field named_at
 unfolding named_at named_field
@@ -106,15 +110,18 @@ pub created : IsRead IsCreated created_field created_at
 unfolding created_at
 created =
     mapped_read IsCreated created_field (λ v. record { queue = v.0; priority = v.1.0; run_limit = v.1.1.0; pipe_only = v.1.1.1 })
-    (λ c. (c.queue, (c.priority, (c.run_limit, c.pipe_only)))) (λ c. refl) (λ v is. (is.0, is.1.0, is.1.1.0, is.1.1.1)) (λ c is. (is.0, (is.1, (is.2, is.3)))) (λ v. refl)
+    (λ c. (c.queue, (c.priority, (c.run_limit, c.pipe_only)))) (λ c. refl) (λ v is. (is.0, is.1.0, is.1.1.0, is.1.1.1)) (λ c is. (is.0, (is.1, (is.2, is.3))))
+    (λ v. refl)
     (both_read name_read λ _ _. both_read (opt_read (at_most 63 refl)) λ _ _. both_read (opt_read (at_most 10000 refl)) λ _ _. last_read flag)
 
 pub pipe_created : IsRead (λ v. IsName v.0 × (IsOpt (IsAtMost 63) v.1.0 × (IsOpt (IsAtMost 10000) v.1.1.0 × (IsAny v.1.1.1.0 × IsOpt IsDest v.1.1.1.1))))
     (λ v. short_field v.0 ++ (opt_field u64_field v.1.0 ++ (opt_field u64_field v.1.1.0 ++ (flag_field v.1.1.1.0 ++ (opt_field dest_field v.1.1.1.1 ++ [])))))
     (both name_at λ _. both (opt_at (at_most_at 63)) λ _. both (opt_at (at_most_at 10000)) λ _. both flag_at λ _. opt_at dest_at)
-pipe_created = both_read name_read λ _ _. both_read (opt_read (at_most 63 refl)) λ _ _. both_read (opt_read (at_most 10000 refl)) λ _ _. both_read flag λ _ _. last_read (opt_read dest)
+pipe_created = both_read name_read λ _ _. both_read (opt_read (at_most 63 refl)) λ _ _. both_read
+    (opt_read (at_most 10000 refl)) λ _ _. both_read flag λ _ _. last_read (opt_read dest)
 
-pub number_and_name : (limit : ℕ) → nat_le limit 10000 ≡ true → IsRead (λ v. IsAtMost limit v.0 × IsName v.1) (λ v. u64_field v.0 ++ (short_field v.1 ++ [])) (number_and_name_at limit)
+pub number_and_name : (limit : ℕ) → nat_le limit 10000 ≡ true → IsRead (λ v. IsAtMost limit v.0 × IsName v.1) (λ v. u64_field v.0 ++ (short_field v.1 ++ []))
+    (number_and_name_at limit)
 unfolding number_and_name_at
 number_and_name limit small = both_read (at_most limit small) (λ _ _. one_name)
 

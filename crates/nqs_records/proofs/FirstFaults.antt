@@ -1,10 +1,12 @@
 -- Which bytes have which first fault.
-use Rattle.std.proofs.Common.{◌≡◌, ℕ, zero, suc, ◌+◌, ◌<◌, Bool, true, false, cond, nat_lt, List, [], ◌∷◌, ◌++◌, length, drop, refl, sym, ap, ◌∙◌, subst, arith, length-append, Ok, Err}
+use Rattle.std.proofs.Common.{◌≡◌, ℕ, zero, suc, ◌+◌, ◌<◌, Bool, true, false, cond, nat_lt, List, [], ◌∷◌, ◌++◌, length, drop, refl, sym, ap, ◌∙◌, subst, arith}
+use Rattle.std.proofs.Common.{length-append, Ok, Err}
 use Rattle.std.specs.Prelude.{⊤}
 use Rattle.std.specs.declared.result.Result.{Result}
 use Rattle.std.proofs.lemmas.List.{length-drop}
 use Rattle.std.proofs.lemmas.Bool.Decides.{nat_tests}
 use Rattle.nqs_codec.specs.Fields.{u8_field}
+use Rattle.nqs_values.specs.Want.{want}
 use Rattle.nqs_records.specs.declared.fault.RecordFault.{RecordFault}
 use Rattle.nqs_records.specs.declared.fault.RecordFault.TheVariants.{Short, Kind, BadField, Trailing, Memory}
 use Rattle.nqs_records.specs.Reading.{◌>>=◌, Read, numbered}
@@ -59,7 +61,7 @@ Tells bytes (Err (Short end)) other = end ≡ length bytes
 Tells bytes (Err (Kind place)) other = (place ≡ 0) × HasOtherKind bytes × (other ≡ Err (Kind place))
 Tells bytes (Err (BadField place)) other = (place < length bytes) × (other ≡ Err (BadField place))
 Tells bytes (Err (Trailing place)) other = IsFollowed bytes place × (other ≡ Err (Trailing place))
-Tells bytes (Err Memory) other = ⊥
+Tells bytes (Err (Memory memory)) other = ⊥
 
 followed : (bytes : List ℕ) (c : HostChange) (n : ℕ) → AreBytes bytes → change_at bytes 0 ≡ Ok (c, n) → n < length bytes → IsFollowed bytes n
 followed bytes c n fits e less =
@@ -104,7 +106,7 @@ whole_tells bytes more fits stays = by (change_at bytes 0) refl stays
     by (Err (Kind place)) e f = absurd f
     by (Err (BadField place)) e f = named (Err (BadField place)) e (f.0, record_is (bytes ++ more) (Err (BadField place)) f.1)
     by (Err (Trailing place)) e f = absurd f
-    by (Err Memory) e f = absurd f
+    by (Err (Memory memory)) e f = absurd f
 
 kind_tells : (k : ℕ) (rest more : List ℕ) → AreBytes (k ∷ rest) → (t : Bool) → is_kind k ≡ t
     → Tells (k ∷ rest) (record_of (k ∷ rest)) (record_of (k ∷ (rest ++ more)))
@@ -148,7 +150,7 @@ still_so bytes more (Short end) final t = absurd final
 still_so bytes more (Kind place) final t = t.2
 still_so bytes more (BadField place) final t = t.1
 still_so bytes more (Trailing place) final t = t.1
-still_so bytes more Memory final t = absurd final
+still_so bytes more (Memory memory) final t = absurd final
 
 still : (bytes : List ℕ) → AreBytes bytes → (fault : RecordFault) → IsFinal fault → record_of bytes ≡ Err fault → (more : List ℕ)
     → record_of (bytes ++ more) ≡ Err fault
@@ -198,7 +200,7 @@ cut_is bytes fits cut = by (record_of bytes) refl
     by (Err (Kind place)) e = absurd (final (Kind place) tt e)
     by (Err (BadField place)) e = absurd (final (BadField place) tt e)
     by (Err (Trailing place)) e = absurd (final (Trailing place) tt e)
-    by (Err Memory) e = absurd (told_by bytes [] Memory fits e)
+    by (Err (Memory memory)) e = absurd (told_by bytes [] (Memory memory) fits e)
 
 kind_of : (bytes : List ℕ) (place : ℕ) → Tells bytes (Err (Kind place)) (record_of (bytes ++ [])) → (place ≡ 0) × HasOtherKind bytes
 kind_of bytes place t = (t.0, t.1)
@@ -212,5 +214,5 @@ first_faults bytes fits = record {
   field = λ place e. ((told_by bytes [] (BadField place) fits e).0, none_with bytes fits (BadField place) tt e);
   final = λ fault is e. none_with bytes fits fault is e;
   still = λ fault is e more. still bytes fits fault is e more;
-  memory = λ e. told_by bytes [] Memory fits e;
+  memory = λ e. told_by bytes [] (Memory want) fits e;
 }

@@ -9,8 +9,10 @@ use Rattle.nqs_records.specs.Fields.{or_short, or_fault}
 use Rattle.nqs_records.specs.Changes.{AreBytes}
 
 pub record IsRead {A : Type 0} (IsValue : A → Type 0) (field : A → List ℕ) (reading : Reading A) : Type 0 where
-  pub found : (bytes : List ℕ) (place : ℕ) (value : A) (next : ℕ) → AreBytes bytes → reading bytes place ≡ Ok (value, next) → IsValue value × Stands bytes place (field value) next
-  pub taken : (bytes rest : List ℕ) (place : ℕ) (value : A) → AreBytes bytes → IsValue value → drop place bytes ≡ field value ++ rest → reading bytes place ≡ Ok (value, place + length (field value))
+  pub found : (bytes : List ℕ) (place : ℕ) (value : A) (next : ℕ) → AreBytes bytes → reading bytes place ≡ Ok (value, next)
+      → IsValue value × Stands bytes place (field value) next
+  pub taken : (bytes rest : List ℕ) (place : ℕ) (value : A) → AreBytes bytes → IsValue value → drop place bytes ≡ field value ++ rest
+      → reading bytes place ≡ Ok (value, place + length (field value))
 
 pub bound : {E A B : Type 0} (r : Result A E) (f : A → Result B E) (b : B) → (r >>= f) ≡ Ok b → (a : A) × (r ≡ Ok a) × (f a ≡ Ok b)
 bound (Ok a) f b e = (a, refl, e)
@@ -27,23 +29,30 @@ fault_Ok (Err x) a e = cc
 module _ {A : Type 0} {IsValue : A → Type 0} {field : A → List ℕ} {Takes : List ℕ → ℕ → Result (A × ℕ) Short → Type 0} (back : IsReadBack IsValue field Takes)
     (answer : List ℕ → ℕ → Result (A × ℕ) Short)
     (takes : (bytes : List ℕ) (place : ℕ) → AreBytes bytes → Takes bytes place (answer bytes place))
-    (stands : (bytes : List ℕ) (place : ℕ) (value : A) (next : ℕ) → Takes bytes place (Ok (value, next)) → IsValue value × Stands bytes place (field value) next) where
+    (stands : (bytes : List ℕ) (place : ℕ) (value : A) (next : ℕ) → Takes bytes place (Ok (value, next))
+    → IsValue value × Stands bytes place (field value) next) where
   pub short_read : IsRead IsValue field (λ bytes place. or_short (answer bytes place))
   short_read = record {
-    found = λ bytes place value next fits e. stands bytes place value next (subst (Takes bytes place) (short_Ok (answer bytes place) (value, next) e) (takes bytes place fits));
-    taken = λ bytes rest place value fits is_value is. ap or_short (back.taken bytes rest place value (answer bytes place) is_value is (takes bytes place fits));
+    found = λ bytes place value next fits e. stands bytes place value next
+        (subst (Takes bytes place) (short_Ok (answer bytes place) (value, next) e) (takes bytes place fits));
+    taken = λ bytes rest place value fits is_value is. ap or_short (back.taken bytes rest place value (answer bytes place) is_value is
+        (takes bytes place fits));
   }
 
-  pub short_same : (bytes : List ℕ) (place : ℕ) (other : Result (A × ℕ) Short) → AreBytes bytes → Takes bytes place other → or_short other ≡ or_short (answer bytes place)
+  pub short_same : (bytes : List ℕ) (place : ℕ) (other : Result (A × ℕ) Short) → AreBytes bytes → Takes bytes place other
+      → or_short other ≡ or_short (answer bytes place)
   short_same bytes place other fits took = ap or_short (back.one_answer bytes place other (answer bytes place) took (takes bytes place fits))
 
-module _ {A : Type 0} {IsValue : A → Type 0} {field : A → List ℕ} {Takes : List ℕ → ℕ → Result (A × ℕ) FieldFault → Type 0} (back : IsReadBack IsValue field Takes)
+module _ {A : Type 0} {IsValue : A → Type 0} {field : A → List ℕ} {Takes : List ℕ → ℕ → Result (A × ℕ) FieldFault → Type 0}
+    (back : IsReadBack IsValue field Takes)
     (answer : List ℕ → ℕ → Result (A × ℕ) FieldFault)
     (takes : (bytes : List ℕ) (place : ℕ) → Takes bytes place (answer bytes place))
-    (stands : (bytes : List ℕ) (place : ℕ) (value : A) (next : ℕ) → Takes bytes place (Ok (value, next)) → IsValue value × Stands bytes place (field value) next) where
+    (stands : (bytes : List ℕ) (place : ℕ) (value : A) (next : ℕ) → Takes bytes place (Ok (value, next))
+    → IsValue value × Stands bytes place (field value) next) where
   pub fault_read : IsRead IsValue field (λ bytes place. or_fault (answer bytes place))
   fault_read = record {
-    found = λ bytes place value next fits e. stands bytes place value next (subst (Takes bytes place) (fault_Ok (answer bytes place) (value, next) e) (takes bytes place));
+    found = λ bytes place value next fits e. stands bytes place value next
+        (subst (Takes bytes place) (fault_Ok (answer bytes place) (value, next) e) (takes bytes place));
     taken = λ bytes rest place value fits is_value is. ap or_fault (back.taken bytes rest place value (answer bytes place) is_value is (takes bytes place));
   }
 

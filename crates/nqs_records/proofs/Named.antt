@@ -1,5 +1,6 @@
 -- Yes and no, names and paths: what is read at a place is what is taken from there.
-use Rattle.std.proofs.Common.{◌≡◌, ℕ, zero, suc, ◌+◌, ◌<◌, ◌≤◌, ◌⊎◌, inl, inr, Bool, true, false, cond, ◌&&◌, ◌==◌, nat_lt, nat_le, IsTrue, List, [], ◌∷◌, length, take, drop, slice_index, Option, Some, None, option_map, refl, sym, ap, ◌∙◌, subst, arith, Result, Ok, Err}
+use Rattle.std.proofs.Common.{◌≡◌, ℕ, zero, suc, ◌+◌, ◌<◌, ◌≤◌, ◌⊎◌, inl, inr, Bool, true, false, cond, ◌&&◌, ◌==◌, nat_lt, nat_le, IsTrue, List, [], ◌∷◌}
+use Rattle.std.proofs.Common.{length, take, drop, slice_index, Option, Some, None, option_map, refl, sym, ap, ◌∙◌, subst, arith, Result, Ok, Err}
 use Rattle.std.specs.Prelude.{⊤}
 use Rattle.std.proofs.lemmas.Bool.{eqb-true}
 use Rattle.std.proofs.lemmas.Bool.Decides.{nat_tests}
@@ -59,7 +60,8 @@ step_none true None e = (refl, refl)
 step_none true (Some k) e = cc
 step_none false o e = cc
 
-step_some : (t : Bool) (o : Option ℕ) (k : ℕ) → cond t (option_map (λ i. suc i) o) (Some 0) ≡ Some k → ((t ≡ false) × (k ≡ 0)) ⊎ ((j : ℕ) × (t ≡ true) × (o ≡ Some j) × (k ≡ suc j))
+step_some : (t : Bool) (o : Option ℕ) (k : ℕ) → cond t (option_map (λ i. suc i) o) (Some 0) ≡ Some k
+    → ((t ≡ false) × (k ≡ 0)) ⊎ ((j : ℕ) × (t ≡ true) × (o ≡ Some j) × (k ≡ suc j))
 step_some true None k e = cc
 step_some true (Some j) k e = inr (j, refl, refl, cc)
 step_some false o k e = inl (refl, cc)
@@ -68,12 +70,14 @@ pub all_allowed : (allowed : ℕ → ℕ → Bool) (l : List ℕ) → first_bad 
 unfolding first_bad
 all_allowed allowed [] e i less = absurd (omega (arith, less))
 all_allowed allowed (b ∷ bs) e zero less = (step_none (allowed 0 b) (first_bad (λ i. allowed (suc i)) bs) e).0
-all_allowed allowed (b ∷ bs) e (suc i) less = all_allowed (λ i. allowed (suc i)) bs (step_none (allowed 0 b) (first_bad (λ i. allowed (suc i)) bs) e).1 i (omega (arith, less))
+all_allowed allowed (b ∷ bs) e (suc i) less = all_allowed (λ i. allowed (suc i)) bs (step_none (allowed 0 b) (first_bad (λ i. allowed (suc i)) bs) e).1 i
+    (omega (arith, less))
 
 abbrev FirstBad : (ℕ → ℕ → Bool) → List ℕ → ℕ → Type 0
 FirstBad allowed l k = (k < length l) × ((i : ℕ) → i < k → IsTrue (allowed i (slice_index l i))) × (allowed k (slice_index l k) ≡ false)
 
-later_bad : (allowed : ℕ → ℕ → Bool) (b : ℕ) (bs : List ℕ) (j : ℕ) → allowed 0 b ≡ true → FirstBad (λ i. allowed (suc i)) bs j → FirstBad allowed (b ∷ bs) (suc j)
+later_bad : (allowed : ℕ → ℕ → Bool) (b : ℕ) (bs : List ℕ) (j : ℕ) → allowed 0 b ≡ true → FirstBad (λ i. allowed (suc i)) bs j
+    → FirstBad allowed (b ∷ bs) (suc j)
 later_bad allowed b bs j first f = (omega (arith, f.0), before, f.2)
   where
     before : (i : ℕ) → i < suc j → IsTrue (allowed i (slice_index (b ∷ bs) i))
@@ -85,7 +89,9 @@ unfolding first_bad
 is_first_bad allowed [] k e = cc
 is_first_bad allowed (b ∷ bs) k e = by (λ j is. is_first_bad (λ i. allowed (suc i)) bs j is) (step_some (allowed 0 b) (first_bad (λ i. allowed (suc i)) bs) k e)
   where
-    by : ((j : ℕ) → first_bad (λ i. allowed (suc i)) bs ≡ Some j → FirstBad (λ i. allowed (suc i)) bs j) → ((allowed 0 b ≡ false) × (k ≡ 0)) ⊎ ((j : ℕ) × (allowed 0 b ≡ true) × (first_bad (λ i. allowed (suc i)) bs ≡ Some j) × (k ≡ suc j)) → FirstBad allowed (b ∷ bs) k
+    by : ((j : ℕ) → first_bad (λ i. allowed (suc i)) bs ≡ Some j → FirstBad (λ i. allowed (suc i)) bs j)
+        → ((allowed 0 b ≡ false) × (k ≡ 0)) ⊎ ((j : ℕ) × (allowed 0 b ≡ true) × (first_bad (λ i. allowed (suc i)) bs ≡ Some j) × (k ≡ suc j))
+        → FirstBad allowed (b ∷ bs) k
     by later (inl (bad, is)) = subst (FirstBad allowed (b ∷ bs)) (sym is) (omega arith, (λ i less. absurd (omega (arith, less))), bad)
     by later (inr (j, first, is, next)) = subst (FirstBad allowed (b ∷ bs)) (sym next) (later_bad allowed b bs j first (later j is))
 
@@ -108,12 +114,15 @@ short_answer : (most : ℕ) (bytes : List ℕ) (place : ℕ) → ShortAnswer mos
 unfolding short_of u8_field
 short_answer most bytes place = by (drop place bytes) refl
   where
-    there : (count : ℕ) (rest : List ℕ) → drop place bytes ≡ count ∷ rest → 0 < count → count ≤ most → count ≤ length rest → IsShortAt most bytes place (take count rest)
+    there : (count : ℕ) (rest : List ℕ) → drop place bytes ≡ count ∷ rest → 0 < count → count ≤ most → count ≤ length rest
+        → IsShortAt most bytes place (take count rest)
     there count rest is some few long =
         let next = behind bytes place count rest is in
-        short_stands most bytes place count (place + 1) (take count rest) (record { text = is ∙ ap (λ (l : List ℕ). count ∷ l) next; behind = refl }) (ap (take count) next) (subst (λ (l : List ℕ). count ≤ length l) next long) some few
+        short_stands most bytes place count (place + 1) (take count rest) (record { text = is ∙ ap (λ (l : List ℕ). count ∷ l) next; behind = refl })
+        (ap (take count) next) (subst (λ (l : List ℕ). count ≤ length l) next long) some few
 
-    told : (count : ℕ) (rest : List ℕ) → drop place bytes ≡ count ∷ rest → (good short : Bool) → (nat_le 1 count && nat_le count most) ≡ good → nat_lt (length rest) count ≡ short
+    told : (count : ℕ) (rest : List ℕ) → drop place bytes ≡ count ∷ rest → (good short : Bool) → (nat_le 1 count && nat_le count most) ≡ good
+        → nat_lt (length rest) count ≡ short
         → ShortAnswer most bytes place (cond good (cond short (Err (Short (length bytes))) (Ok (take count rest))) (Err (Bad place)))
     told count rest is false short is_bad is_short = (refl, subst (IsBadLength most) (sym is) (bad_count count most is_bad))
     told count rest is true true is_good is_short =
@@ -133,13 +142,15 @@ takes_name : (bytes : List ℕ) (place : ℕ) → TakesName bytes place (name_of
 unfolding name_of
 takes_name bytes place = by (short_of 15 (length bytes) place (drop place bytes)) (short_answer 15 bytes place)
   where
-    told : (value : List ℕ) → IsShortAt 15 bytes place value → (bad : Option ℕ) → first_bad allowed_at value ≡ bad → TakesName bytes place (named place value bad)
+    told : (value : List ℕ) → IsShortAt 15 bytes place value → (bad : Option ℕ) → first_bad allowed_at value ≡ bad
+        → TakesName bytes place (named place value bad)
     told value there None is = (record { some = there.some; few = there.few; allowed = all_allowed allowed_at value is }, there.stands)
     told value there (Some k) is =
         let f = is_first_bad allowed_at value k is in
         inr (record { value = value; is_there = there; offset = k; first = record { inside = f.0; before = f.1; bad = f.2 }; is_place = refl })
 
-    by : (r : Result (List ℕ) FieldFault) → ShortAnswer 15 bytes place r → TakesName bytes place (r >>= (λ value. named place value (first_bad allowed_at value)))
+    by : (r : Result (List ℕ) FieldFault) → ShortAnswer 15 bytes place r → TakesName bytes place
+        (r >>= (λ value. named place value (first_bad allowed_at value)))
     by (Ok value) there = told value there (first_bad allowed_at value) refl
     by (Err (Short end)) fault = fault
     by (Err (Bad at)) fault = inl fault
@@ -162,17 +173,36 @@ takes_path : (bytes : List ℕ) (place : ℕ) → TakesBytesOf bytes place (path
 unfolding path_of
 takes_path bytes place = by (short_of 255 (length bytes) place (drop place bytes)) (short_answer 255 bytes place)
   where
-    below_it : (value : List ℕ) → IsShortAt 255 bytes place value → first_bad path_allowed_at value ≡ None → (parent : Bool) → has_parent value ≡ parent → TakesBytesOf bytes place (cond parent (Err (Bad place)) (Ok (value, place + 1 + length value)))
-    below_it value there none true is = inr (inr (record { value = value; is_there = there; allowed = all_allowed path_allowed_at value none; parent = is; is_place = refl }))
-    below_it value there none false is = (record { some = there.some; few = there.few; allowed = all_allowed path_allowed_at value none; below = is }, there.stands)
+    below_it : (value : List ℕ) → IsShortAt 255 bytes place value → first_bad path_allowed_at value ≡ None → (parent : Bool) → has_parent value ≡ parent
+        → TakesBytesOf bytes place (cond parent (Err (Bad place)) (Ok (value, place + 1 + length value)))
+    below_it value there none true is = inr (inr (record {
+      value = value;
+      is_there = there;
+      allowed = all_allowed path_allowed_at value none;
+      parent =
+          is;
+      is_place = refl;
+    }))
+    below_it value there none false is = (
+      record {
+        some = there.some;
+        few = there.few;
+        allowed = all_allowed path_allowed_at value none;
+        below =
+            is;
+      },
+      there.stands,
+    )
 
-    told : (value : List ℕ) → IsShortAt 255 bytes place value → (bad : Option ℕ) → first_bad path_allowed_at value ≡ bad → TakesBytesOf bytes place (pathed place value bad)
+    told : (value : List ℕ) → IsShortAt 255 bytes place value → (bad : Option ℕ) → first_bad path_allowed_at value ≡ bad
+        → TakesBytesOf bytes place (pathed place value bad)
     told value there None is = below_it value there is (has_parent value) refl
     told value there (Some k) is =
         let f = is_first_bad path_allowed_at value k is in
         inr (inl (record { value = value; is_there = there; offset = k; first = record { inside = f.0; before = f.1; bad = f.2 }; is_place = refl }))
 
-    by : (r : Result (List ℕ) FieldFault) → ShortAnswer 255 bytes place r → TakesBytesOf bytes place (r >>= (λ value. pathed place value (first_bad path_allowed_at value)))
+    by : (r : Result (List ℕ) FieldFault) → ShortAnswer 255 bytes place r
+        → TakesBytesOf bytes place (r >>= (λ value. pathed place value (first_bad path_allowed_at value)))
     by (Ok value) there = told value there (first_bad path_allowed_at value) refl
     by (Err (Short end)) fault = fault
     by (Err (Bad at)) fault = inl fault
@@ -188,7 +218,8 @@ path_same : (bytes : List ℕ) (place : ℕ) (answer : Result (List ℕ × ℕ) 
 unfolding path_at
 path_same = fault_same path_back path_of takes_path (λ bytes place value next took. took)
 
-pub path_taken : (bytes : List ℕ) (place : ℕ) (extent : Extent) (next : ℕ) → TakesPath bytes place (Ok (extent, next)) → Ok (extent_bytes bytes extent, next) ≡ path_at bytes place
+pub path_taken : (bytes : List ℕ) (place : ℕ) (extent : Extent) (next : ℕ) → TakesPath bytes place (Ok (extent, next))
+    → Ok (extent_bytes bytes extent, next) ≡ path_at bytes place
 path_taken bytes place extent next took = path_same bytes place (Ok (extent_bytes bytes extent, next)) (took.0, took.1)
 
 pub path_refused : (bytes : List ℕ) (place : ℕ) (fault : FieldFault) → TakesPath bytes place (Err fault) → Err (as_fault fault) ≡ path_at bytes place

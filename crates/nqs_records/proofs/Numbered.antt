@@ -1,5 +1,6 @@
 -- Values behind a number that says which kind they are of.
-use Rattle.std.proofs.Common.{◌≡◌, ℕ, zero, suc, ◌+◌, ◌<◌, ◌≤◌, ◌^◌, List, [], ◌∷◌, ◌++◌, length, drop, refl, sym, ap, ◌∙◌, subst, arith, length-append, append_assoc, Ok}
+use Rattle.std.proofs.Common.{◌≡◌, ℕ, zero, suc, ◌+◌, ◌<◌, ◌≤◌, ◌^◌, List, [], ◌∷◌, ◌++◌, length, drop, refl, sym, ap, ◌∙◌, subst, arith, length-append}
+use Rattle.std.proofs.Common.{append_assoc, Ok}
 use Rattle.std.specs.Prelude.{⊤}
 use Rattle.nqs_codec.specs.Fields.{u8_field}
 use Rattle.nqs_codec.specs.Takes.{Stands}
@@ -21,7 +22,8 @@ pub record IsOfKind {A : Type 0} (IsValue : A → Type 0) (spelling : A → List
 
 -- what this reading finds is of that kind
 abbrev pub Finds : {A : Type 0} → (A → Type 0) → (A → List ℕ) → ℕ → Reading A → Type 0
-Finds {A} IsValue spelling k reading = (bytes : List ℕ) (place : ℕ) (value : A) (next : ℕ) → AreBytes bytes → reading bytes place ≡ Ok (value, next) → IsOfKind IsValue spelling k bytes place value next
+Finds {A} IsValue spelling k reading = (bytes : List ℕ) (place : ℕ) (value : A) (next : ℕ) → AreBytes bytes → reading bytes place ≡ Ok (value, next)
+    → IsOfKind IsValue spelling k bytes place value next
 
 -- and each reading of a table, from that number on
 abbrev pub AllFind : {A : Type 0} → (A → Type 0) → (A → List ℕ) → ℕ → List (Reading A) → Type 0
@@ -52,12 +54,14 @@ nth_finds : {A : Type 0} (IsValue : A → Type 0) (spelling : A → List ℕ) (r
 nth_finds IsValue spelling [] k i n other is never all bytes place value next fits e = absurd (never bytes place (value, next) e)
 nth_finds IsValue spelling (r ∷ rs) k zero n other is never all bytes place value next fits e =
     subst (λ (m : ℕ). IsOfKind IsValue spelling m bytes place value next) (same_number k n is) (all.0 bytes place value next fits e)
-nth_finds IsValue spelling (r ∷ rs) k (suc i) n other is never all bytes place value next fits e = nth_finds IsValue spelling rs (suc k) i n other (omega (arith, is)) never all.1 bytes place value next fits e
+nth_finds IsValue spelling (r ∷ rs) k (suc i) n other is never all bytes place value next fits e =
+    nth_finds IsValue spelling rs (suc k) i n other (omega (arith, is)) never all.1 bytes place value next fits e
 
 pub numbered_finds : {A : Type 0} (IsValue : A → Type 0) (spelling : A → List ℕ) (rs : List (Reading A)) (n : ℕ) (other : Reading A)
     → ((bytes : List ℕ) (place : ℕ) (v : A × ℕ) → other bytes place ≡ Ok v → ⊥) → AllFind IsValue spelling 1 rs → Finds IsValue spelling n (numbered rs n other)
 numbered_finds IsValue spelling rs zero other never all bytes place value next fits e = absurd (never bytes place (value, next) e)
-numbered_finds IsValue spelling rs (suc i) other never all bytes place value next fits e = nth_finds IsValue spelling rs 1 i (suc i) other (omega arith) never all bytes place value next fits e
+numbered_finds IsValue spelling rs (suc i) other never all bytes place value next fits e =
+    nth_finds IsValue spelling rs 1 i (suc i) other (omega arith) never all bytes place value next fits e
 
 -- a number, and what it announces
 abbrev pub coded : {A : Type 0} → List (Reading A) → (ℕ → Reading A) → Reading A
@@ -65,12 +69,16 @@ coded {A} rs other bytes place = u8_at bytes place >>= (λ k. numbered rs k.0 (o
 
 pub coded_found : {A : Type 0} (IsValue : A → Type 0) (spelling : A → List ℕ) (rs : List (Reading A)) (other : ℕ → Reading A)
     → ((at : ℕ) (bytes : List ℕ) (place : ℕ) (v : A × ℕ) → other at bytes place ≡ Ok v → ⊥) → AllFind IsValue spelling 1 rs
-    → (bytes : List ℕ) (place : ℕ) (value : A) (next : ℕ) → AreBytes bytes → coded rs other bytes place ≡ Ok (value, next) → Found IsValue spelling bytes place (value, next)
+    → (bytes : List ℕ) (place : ℕ) (value : A) (next : ℕ) → AreBytes bytes → coded rs other bytes place ≡ Ok (value, next)
+    → Found IsValue spelling bytes place (value, next)
 coded_found IsValue spelling rs other never all bytes place value next fits e =
     let k = bound (u8_at bytes place) (λ k. numbered rs k.0 (other place) bytes k.1) (value, next) e in
     let here = (u8_read.found bytes place k.0.0 k.0.1 fits k.1).1 in
-    let there = numbered_finds IsValue spelling rs k.0.0 (other place) (never place) all bytes k.0.1 value next fits k.2 in
-    (there.is_value, subst (λ (l : List ℕ). Stands bytes place l next) (sym there.spelled) (two_stand bytes place k.0.1 next (u8_field k.0.0) there.args here there.stands))
+    let there = numbered_finds IsValue spelling rs k.0.0 (other place) (never place) all bytes k.0.1 value next fits k.2 in (
+      there.is_value,
+      subst (λ (l : List ℕ). Stands bytes place l next) (sym there.spelled)
+          (two_stand bytes place k.0.1 next (u8_field k.0.0) there.args here there.stands),
+    )
 
 pub coded_taken : {A T : Type 0} {IsT : T → Type 0} {f : T → List ℕ} {r : Reading T} (rs : List (Reading A)) (other : ℕ → Reading A) (k : ℕ) (make : T → A)
     → IsRead IsT f r → k < 2 ^ 8 → (t : T) (bytes rest : List ℕ) (place : ℕ) → AreBytes bytes → IsT t → numbered rs k (other place) ≡ mapped make r

@@ -1,5 +1,6 @@
 -- Numbers: what is read at a place is what is taken from there.
-use Rattle.std.proofs.Common.{◌≡◌, ℕ, ◌+◌, ◌<◌, ◌≤◌, ◌^◌, Bool, true, false, cond, nat_lt, List, [], ◌∷◌, length, take, drop, slice_index, refl, arith, Result, Ok, Err}
+use Rattle.std.proofs.Common.{◌≡◌, ℕ, ◌+◌, ◌<◌, ◌≤◌, ◌^◌, Bool, true, false, cond, nat_lt, List, [], ◌∷◌, length, take, drop, slice_index, refl, arith, Result}
+use Rattle.std.proofs.Common.{Ok, Err}
 use Rattle.std.proofs.lemmas.Bool.Decides.{nat_tests}
 use Rattle.std.specs.Int.{w16, w32, w64, from_be_bytes}
 use Rattle.nqs_codec.specs.Fields.{u8_field, u16_field, u32_field, u64_field}
@@ -20,12 +21,14 @@ not_below m n is = grind (arith, nat_tests)
 
 module _ (size limit : ℕ) (number : List ℕ → ℕ) (field : ℕ → List ℕ)
     (none : (bytes : List ℕ) (place : ℕ) → length (drop place bytes) < size → StandsNone (λ n. n < limit) field bytes place)
-    (some : (bytes : List ℕ) (place : ℕ) → AreBytes bytes → size ≤ length (drop place bytes) → TakesNumber limit field bytes place (Ok (number (take size (drop place bytes)), place + size))) where
+    (some : (bytes : List ℕ) (place : ℕ) → AreBytes bytes → size ≤ length (drop place bytes)
+    → TakesNumber limit field bytes place (Ok (number (take size (drop place bytes)), place + size))) where
   takes : (bytes : List ℕ) (place : ℕ) → AreBytes bytes → TakesNumber limit field bytes place (number_at size number bytes place)
   unfolding number_at
   takes bytes place fits = by (nat_lt (length (drop place bytes)) size) refl
     where
-      by : (short : Bool) → nat_lt (length (drop place bytes)) size ≡ short → TakesNumber limit field bytes place (cond short (Err (record { 0 = length bytes })) (Ok (number (take size (drop place bytes)), place + size)))
+      by : (short : Bool) → nat_lt (length (drop place bytes)) size ≡ short
+          → TakesNumber limit field bytes place (cond short (Err (record { 0 = length bytes })) (Ok (number (take size (drop place bytes)), place + size)))
       by true is = (refl, none bytes place (below (length (drop place bytes)) size is))
       by false is = some bytes place fits (not_below (length (drop place bytes)) size is)
 
@@ -37,21 +40,25 @@ none_u8 : (bytes : List ℕ) (place : ℕ) → length (drop place bytes) < 1 →
 unfolding u8_field
 none_u8 bytes place short = none_stands (λ n. n < 2 ^ 8) u8_field bytes place (λ value small. short)
 
-some_u8 : (bytes : List ℕ) (place : ℕ) → AreBytes bytes → 1 ≤ length (drop place bytes) → TakesNumber (2 ^ 8) u8_field bytes place (Ok (slice_index (take 1 (drop place bytes)) 0, place + 1))
+some_u8 : (bytes : List ℕ) (place : ℕ) → AreBytes bytes → 1 ≤ length (drop place bytes)
+    → TakesNumber (2 ^ 8) u8_field bytes place (Ok (slice_index (take 1 (drop place bytes)) 0, place + 1))
 unfolding u8_field
 some_u8 bytes place fits long = (part_fits bytes place 1 fits 0, part_stands bytes place 1 _ (one_byte (drop place bytes) long) long)
 
-some_u16 : (bytes : List ℕ) (place : ℕ) → AreBytes bytes → 2 ≤ length (drop place bytes) → TakesNumber (2 ^ 16) u16_field bytes place (Ok (from_be_bytes w16 (take 2 (drop place bytes)), place + 2))
+some_u16 : (bytes : List ℕ) (place : ℕ) → AreBytes bytes → 2 ≤ length (drop place bytes)
+    → TakesNumber (2 ^ 16) u16_field bytes place (Ok (from_be_bytes w16 (take 2 (drop place bytes)), place + 2))
 some_u16 bytes place fits long =
     let f = part_fits bytes place 2 fits in
     (omega (arith, f 0, f 1), stands_u16 bytes place _ _ fits refl long refl)
 
-some_u32 : (bytes : List ℕ) (place : ℕ) → AreBytes bytes → 4 ≤ length (drop place bytes) → TakesNumber (2 ^ 32) u32_field bytes place (Ok (from_be_bytes w32 (take 4 (drop place bytes)), place + 4))
+some_u32 : (bytes : List ℕ) (place : ℕ) → AreBytes bytes → 4 ≤ length (drop place bytes)
+    → TakesNumber (2 ^ 32) u32_field bytes place (Ok (from_be_bytes w32 (take 4 (drop place bytes)), place + 4))
 some_u32 bytes place fits long =
     let f = part_fits bytes place 4 fits in
     (omega (arith, f 0, f 1, f 2, f 3), stands_u32 bytes place _ _ fits refl long refl)
 
-some_u64 : (bytes : List ℕ) (place : ℕ) → AreBytes bytes → 8 ≤ length (drop place bytes) → TakesNumber (2 ^ 64) u64_field bytes place (Ok (from_be_bytes w64 (take 8 (drop place bytes)), place + 8))
+some_u64 : (bytes : List ℕ) (place : ℕ) → AreBytes bytes → 8 ≤ length (drop place bytes)
+    → TakesNumber (2 ^ 64) u64_field bytes place (Ok (from_be_bytes w64 (take 8 (drop place bytes)), place + 8))
 some_u64 bytes place fits long =
     let f = part_fits bytes place 8 fits in
     (omega (arith, f 0, f 1, f 2, f 3, f 4, f 5, f 6, f 7), stands_u64 bytes place _ _ fits refl long refl)
@@ -86,18 +93,22 @@ u64_read = short_read u64_back (number_at 8 (from_be_bytes w64)) takes_u64 (λ b
 
 -- ---- what the calls answer
 
-pub u8_same : (bytes : List ℕ) (place : ℕ) (answer : Result (ℕ × ℕ) Short) → AreBytes bytes → TakesNumber (2 ^ 8) u8_field bytes place answer → or_short answer ≡ u8_at bytes place
+pub u8_same : (bytes : List ℕ) (place : ℕ) (answer : Result (ℕ × ℕ) Short) → AreBytes bytes → TakesNumber (2 ^ 8) u8_field bytes place answer
+    → or_short answer ≡ u8_at bytes place
 unfolding u8_at
 u8_same = short_same u8_back (number_at 1 (λ part. slice_index part 0)) takes_u8 (λ bytes place value next took. took)
 
-pub u16_same : (bytes : List ℕ) (place : ℕ) (answer : Result (ℕ × ℕ) Short) → AreBytes bytes → TakesNumber (2 ^ 16) u16_field bytes place answer → or_short answer ≡ u16_at bytes place
+pub u16_same : (bytes : List ℕ) (place : ℕ) (answer : Result (ℕ × ℕ) Short) → AreBytes bytes → TakesNumber (2 ^ 16) u16_field bytes place answer
+    → or_short answer ≡ u16_at bytes place
 unfolding u16_at
 u16_same = short_same u16_back (number_at 2 (from_be_bytes w16)) takes_u16 (λ bytes place value next took. took)
 
-pub u32_same : (bytes : List ℕ) (place : ℕ) (answer : Result (ℕ × ℕ) Short) → AreBytes bytes → TakesNumber (2 ^ 32) u32_field bytes place answer → or_short answer ≡ u32_at bytes place
+pub u32_same : (bytes : List ℕ) (place : ℕ) (answer : Result (ℕ × ℕ) Short) → AreBytes bytes → TakesNumber (2 ^ 32) u32_field bytes place answer
+    → or_short answer ≡ u32_at bytes place
 unfolding u32_at
 u32_same = short_same u32_back (number_at 4 (from_be_bytes w32)) takes_u32 (λ bytes place value next took. took)
 
-pub u64_same : (bytes : List ℕ) (place : ℕ) (answer : Result (ℕ × ℕ) Short) → AreBytes bytes → TakesNumber (2 ^ 64) u64_field bytes place answer → or_short answer ≡ u64_at bytes place
+pub u64_same : (bytes : List ℕ) (place : ℕ) (answer : Result (ℕ × ℕ) Short) → AreBytes bytes → TakesNumber (2 ^ 64) u64_field bytes place answer
+    → or_short answer ≡ u64_at bytes place
 unfolding u64_at
 u64_same = short_same u64_back (number_at 8 (from_be_bytes w64)) takes_u64 (λ bytes place value next took. took)

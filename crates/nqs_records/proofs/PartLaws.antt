@@ -43,7 +43,8 @@ count_fits me n is = grind (arith, nat_tests)
 
 pub host_law : IsRead IsHost (λ h. u8_field h.0) host_at
 unfolding host_at
-host_law = mapped_read IsHost (λ h. u8_field h.0) (λ n. record { 0 = n }) (λ h. h.0) (λ h. refl) (λ n is. is) (λ h is. is) (λ n. refl) (within_read is_host host_fits u8_read)
+host_law = mapped_read IsHost (λ h. u8_field h.0) (λ n. record { 0 = n }) (λ h. h.0) (λ h. refl) (λ n is. is) (λ h is. is) (λ n. refl)
+    (within_read is_host host_fits u8_read)
 
 pub seq_law : IsRead (λ n. IsTrue (is_seq n)) u32_field seq_at
 unfolding seq_at
@@ -67,7 +68,19 @@ job_law =
     mapped_read IsJob job_field job_of
     (λ j. (j.name, (j.owner, (j.priority, (j.earliest, (j.rerun, (j.limits.cpu, (j.limits.memory, (j.forms, (j.out, (j.err, j.join)))))))))))
     (λ j. refl)
-    (λ v is. (is.0, is.1.0, is.1.1.0, is.1.1.1.0, is.1.1.1.1.0, is.1.1.1.1.1.0, is.1.1.1.1.1.1.0, is.1.1.1.1.1.1.1.0, is.1.1.1.1.1.1.1.1.0, is.1.1.1.1.1.1.1.1.1.0, is.1.1.1.1.1.1.1.1.1.1))
+    (λ v is. (
+      is.0,
+      is.1.0,
+      is.1.1.0,
+      is.1.1.1.0,
+      is.1.1.1.1.0,
+      is.1.1.1.1.1.0,
+      is.1.1.1.1.1.1.0,
+      is.1.1.1.1.1.1.1.0,
+      is.1.1.1.1.1.1.1.1.0,
+      is.1.1.1.1.1.1.1.1.1.0,
+      is.1.1.1.1.1.1.1.1.1.1,
+    ))
     (λ j is. (is.0, (is.1, (is.2, (is.3, (is.4, (is.5, (is.6, (is.7, (is.8, (is.9, is.10)))))))))))
     (λ v. refl)
     (both_read name_read λ _ _. both_read name_read λ _ _. both_read (within_read (is_at_most 63) priority_fits u8_read) λ _ _.
@@ -101,7 +114,8 @@ hand_law =
 
 -- ---- lists
 
-pub site_law : (me : HostId) → IsRead (IsList (λ n. IsTrue (is_site_count me n)) IsName) (list_field short_field) (counted (within (is_site_count me) u8_at) name_at)
+pub site_law : (me : HostId) → IsRead (IsList (λ n. IsTrue (is_site_count me n)) IsName) (list_field short_field)
+    (counted (within (is_site_count me) u8_at) name_at)
 unfolding list_field
 site_law me = counted_read (within_read (is_site_count me) (count_fits me) u8_read) name_read
 

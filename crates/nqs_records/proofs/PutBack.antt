@@ -74,10 +74,17 @@ length-parts_with [] xs = refl
 length-parts_with (part ∷ parts) xs = ap suc (length-parts_with parts (drop 1 xs))
 
 -- a part, its extent last
-pub part_ends : (path : List ℕ) (x : Extent) (later : List ℕ) → part_field (record { path = path; bytes = x }) ++ later ≡ short_field path ++ extent_field x ++ later
+pub part_ends : (path : List ℕ) (x : Extent) (later : List ℕ) → part_field (record { path = path; bytes = x }) ++ later
+    ≡ short_field path ++ extent_field x ++ later
 unfolding part_field
 part_ends path x later = ap (λ (l : List ℕ). (short_field path ++ l) ++ later) (append-nil (extent_field x))
 
 pub length-part : (part : OutPart Extent) → length (part_field part) ≡ 13 + length part.path
 unfolding part_field short_field
-length-part part = omega (arith, length-append (length part.path ∷ part.path) (extent_field part.bytes ++ []), ap length (append-nil (extent_field part.bytes)), length-extent part.bytes)
+length-part part = omega (
+  arith,
+  length-append (length part.path ∷ part.path) (extent_field part.bytes ++ []),
+  ap length
+      (append-nil (extent_field part.bytes)),
+  length-extent part.bytes,
+)

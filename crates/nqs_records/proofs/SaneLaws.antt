@@ -1,5 +1,6 @@
 -- What may stand in a record is sane for the rules.
-use Rattle.std.proofs.Common.{◌≡◌, ℕ, zero, suc, ◌<◌, ◌≤◌, Bool, true, false, not, ◌&&◌, ◌==◌, nat_le, nat_lt, IsTrue, List, [], ◌∷◌, length, slice_index, Option, Some, None, refl, arith}
+use Rattle.std.proofs.Common.{◌≡◌, ℕ, zero, suc, ◌<◌, ◌≤◌, Bool, true, false, not, ◌&&◌, ◌==◌, nat_le, nat_lt, IsTrue, List, [], ◌∷◌, length, slice_index}
+use Rattle.std.proofs.Common.{Option, Some, None, refl, arith}
 use Rattle.std.specs.List.{list_all, AllByRecursion}
 use Rattle.std.proofs.lemmas.Bool.{and_parts, and_from}
 use Rattle.std.proofs.lemmas.Bool.Decides.{nat_tests}
@@ -9,13 +10,18 @@ use Rattle.nqs_types.specs.declared.ids.HostId.{HostId}
 use Rattle.nqs_types.specs.declared.request.Job.{Job}
 use Rattle.nqs_types.specs.declared.request.Carried.{Carried}
 use Rattle.nqs_types.specs.declared.change.OutPart.{OutPart}
-use Rattle.nqs_types.specs.declared.change.Change.TheVariants.{Site, Submitted, Deleted, Doomed, Started, Ended, Unlaunched, Boot, Edited, HandOpened, HandCommitted, HandRefused, HandsSilent, HandDone, Promised, Accepted, Dropped, MovedLocal, RefusedLocal, HeldFar, StageGot, StageGone, FileGone}
+use Rattle.nqs_types.specs.declared.change.Change.TheVariants.{Site, Submitted, Deleted, Doomed, Started, Ended, Unlaunched, Boot, Edited, HandOpened}
+use Rattle.nqs_types.specs.declared.change.Change.TheVariants.{HandCommitted, HandRefused, HandsSilent, HandDone, Promised, Accepted, Dropped, MovedLocal}
+use Rattle.nqs_types.specs.declared.change.Change.TheVariants.{RefusedLocal, HeldFar, StageGot, StageGone, FileGone}
 use Rattle.nqs_types.specs.declared.edit.Edit.{Edit}
 use Rattle.nqs_types.specs.declared.edit.Edit.TheVariants.{Conf, Limits as LimitsOf, Access as AccessOf, Devices as DevicesOf, Rows as RowsOf}
 use Rattle.nqs_types.specs.declared.edit.ConfEdit.{ConfEdit}
-use Rattle.nqs_types.specs.declared.edit.ConfEdit.TheVariants.{CreateBatchQueue, CreateDeviceQueue, CreatePipeQueue, DeleteQueue, EnableQueue, DisableQueue, StartQueue, StopQueue, PurgeQueue, SetPriority, SetRunLimit, AddDestination, RemoveDestination, SetDefaultQueue, SetNoDefaultQueue, SetPatience, SetRetryWait}
+use Rattle.nqs_types.specs.declared.edit.ConfEdit.TheVariants.{CreateBatchQueue, CreateDeviceQueue, CreatePipeQueue, DeleteQueue, EnableQueue, DisableQueue}
+use Rattle.nqs_types.specs.declared.edit.ConfEdit.TheVariants.{StartQueue, StopQueue, PurgeQueue, SetPriority, SetRunLimit, AddDestination, RemoveDestination}
+use Rattle.nqs_types.specs.declared.edit.ConfEdit.TheVariants.{SetDefaultQueue, SetNoDefaultQueue, SetPatience, SetRetryWait}
 use Rattle.nqs_types.specs.declared.edit.LimitsEdit.{LimitsEdit}
-use Rattle.nqs_types.specs.declared.edit.LimitsEdit.TheVariants.{SetUserLimit, SetCpuLimit, SetMemoryLimit, CreateComplex, DeleteComplex, AddQueue, RemoveQueue, SetComplexLimit, SetGlobalLimit}
+use Rattle.nqs_types.specs.declared.edit.LimitsEdit.TheVariants.{SetUserLimit, SetCpuLimit, SetMemoryLimit, CreateComplex, DeleteComplex, AddQueue, RemoveQueue}
+use Rattle.nqs_types.specs.declared.edit.LimitsEdit.TheVariants.{SetComplexLimit, SetGlobalLimit}
 use Rattle.nqs_types.specs.declared.edit.RowsEdit.{RowsEdit}
 use Rattle.nqs_types.specs.declared.edit.RowsEdit.TheVariants.{AbortQueue, HoldRequest, ReleaseRequest, MoveRequest, ModifyRequest}
 use Rattle.nqs_rules.specs.Conf.{at_most, is_conf_within}
@@ -42,7 +48,8 @@ path_sane [] path = absurd (omega (arith, path.some))
 path_sane (b ∷ bs) path =
     let first = and_parts (is_visible b) (not (b == 47)) (path.allowed 0 path.some) in
     let all = seen (b ∷ bs) visible in
-    and_from _ _ (and_from _ _ (and_from _ _ (and_from _ _ (test 1 (length (b ∷ bs)) path.some) (test (length (b ∷ bs)) 255 path.few)) all) first.1) (is_not (has_parent (b ∷ bs)) path.below)
+    and_from _ _ (and_from _ _ (and_from _ _ (and_from _ _ (test 1 (length (b ∷ bs)) path.some) (test (length (b ∷ bs)) 255 path.few)) all) first.1)
+    (is_not (has_parent (b ∷ bs)) path.below)
   where
     visible : (i : ℕ) → i < length (b ∷ bs) → IsTrue (is_visible (slice_index (b ∷ bs) i))
     visible zero less = (and_parts (is_visible b) (not (b == 47)) (path.allowed 0 path.some)).0

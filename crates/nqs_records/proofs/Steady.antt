@@ -11,7 +11,7 @@ Stays {A} bytes (Err (Short end)) other = end ≡ length bytes
 Stays {A} bytes (Err (Kind place)) other = ⊥
 Stays {A} bytes (Err (BadField place)) other = (place < length bytes) × (other ≡ Err (BadField place))
 Stays {A} bytes (Err (Trailing place)) other = ⊥
-Stays {A} bytes (Err Memory) other = ⊥
+Stays {A} bytes (Err (Memory memory)) other = ⊥
 
 abbrev pub IsSteady : {A : Type 0} → Reading A → Type 0
 IsSteady {A} r = (bytes more : List ℕ) (place : ℕ) → Stays bytes (r bytes place) (r (bytes ++ more) place)
@@ -27,7 +27,7 @@ then bytes (Err (Short end)) s f g one other = one
 then bytes (Err (Kind place)) s f g one other = absurd one
 then bytes (Err (BadField place)) s f g one other = (one.0, ap (λ (x : Read _). x >>= g) one.1)
 then bytes (Err (Trailing place)) s f g one other = absurd one
-then bytes (Err Memory) s f g one other = absurd one
+then bytes (Err (Memory memory)) s f g one other = absurd one
 
 pub mapped_steady : {A B : Type 0} (make : A → B) (r : Reading A) → IsSteady r → IsSteady (mapped make r)
 mapped_steady make r one bytes more place =

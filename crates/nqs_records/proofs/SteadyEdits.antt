@@ -5,7 +5,8 @@ use Rattle.nqs_types.specs.declared.edit.Edit.TheVariants.{Conf}
 use Rattle.nqs_types.specs.declared.edit.ConfEdit.TheVariants.{SetNoDefaultQueue}
 use Rattle.nqs_records.specs.Reading.{◌>>=◌, Reading, numbered, bad_at}
 use Rattle.nqs_records.specs.Fields.{u8_at}
-use Rattle.nqs_records.specs.Edits.{edits, edit_at, nothing_at, at_most_at, wait_at, flag_at, names_at, dest_at, named_at, created_at, pipe_created_at, number_and_name_at, user_limit_at, limit_at, dest_and_name_at, named_and_name_at, named_and_priority_at}
+use Rattle.nqs_records.specs.Edits.{edits, edit_at, nothing_at, at_most_at, wait_at, flag_at, names_at, dest_at, named_at, created_at, pipe_created_at}
+use Rattle.nqs_records.specs.Edits.{number_and_name_at, user_limit_at, limit_at, dest_and_name_at, named_and_name_at, named_and_priority_at}
 use Rattle.nqs_records.proofs.Steady.{Stays, IsSteady, then, mapped_steady, both_steady, within_steady, numbered_all, ◌⨾◌}
 use Rattle.nqs_records.proofs.SteadyFields.{u8_steady, u64_steady, u8_some, u64_some, opt_steady}
 use Rattle.nqs_records.proofs.SteadyNames.{name_steady}

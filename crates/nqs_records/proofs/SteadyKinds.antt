@@ -6,7 +6,9 @@ use Rattle.std.proofs.lemmas.Bool.Decides.{nat_tests}
 use Rattle.nqs_records.specs.Reading.{Reading, both, nth_of, numbered}
 use Rattle.nqs_records.specs.Fields.{u64_at}
 use Rattle.nqs_records.specs.Parts.{host_at}
-use Rattle.nqs_records.specs.Kinds.{kinds, no_kind, boot_at, site_at, submitted_at, deleted_at, doomed_at, started_at, ended_at, unlaunched_at, edited_at, hand_opened_at, hand_committed_at, hand_refused_at, hands_silent_at, hand_done_at, promised_at, accepted_at, dropped_at, moved_local_at, refused_local_at, held_far_at, stage_got_at, stage_gone_at, file_gone_at}
+use Rattle.nqs_records.specs.Kinds.{kinds, no_kind, boot_at, site_at, submitted_at, deleted_at, doomed_at, started_at, ended_at, unlaunched_at, edited_at}
+use Rattle.nqs_records.specs.Kinds.{hand_opened_at, hand_committed_at, hand_refused_at, hands_silent_at, hand_done_at, promised_at, accepted_at, dropped_at}
+use Rattle.nqs_records.specs.Kinds.{moved_local_at, refused_local_at, held_far_at, stage_got_at, stage_gone_at, file_gone_at}
 use Rattle.nqs_records.specs.Faults.{is_kind}
 use Rattle.nqs_records.proofs.Steady.{IsSteady, mapped_steady, both_steady, ◌⨾◌}
 use Rattle.nqs_records.proofs.SteadyFields.{u8_steady, u64_steady, opt_steady}
@@ -23,7 +25,8 @@ hand_kind_steady : IsSteady (both host_at (λ _. u64_at))
 hand_kind_steady = both_steady _ _ host_steady (λ _. u64_steady)
 
 kinds_steady : AllByRecursion IsSteady kinds
-unfolding kinds site_at submitted_at deleted_at doomed_at started_at ended_at unlaunched_at edited_at hand_opened_at hand_committed_at hand_refused_at hands_silent_at hand_done_at promised_at accepted_at dropped_at moved_local_at refused_local_at held_far_at stage_got_at stage_gone_at file_gone_at
+unfolding kinds site_at submitted_at deleted_at doomed_at started_at ended_at unlaunched_at edited_at hand_opened_at hand_committed_at hand_refused_at
+    hands_silent_at hand_done_at promised_at accepted_at dropped_at moved_local_at refused_local_at held_far_at stage_got_at stage_gone_at file_gone_at
 kinds_steady =
     mapped_steady _ _ (both_steady _ _ host_steady site_steady)
     ⨾ mapped_steady _ _ (both_steady _ _ name_steady λ _. both_steady _ _ job_steady λ _. extent_steady)

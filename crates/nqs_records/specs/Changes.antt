@@ -5,7 +5,9 @@ use Rattle.nqs_values.specs.Path.{IsPath}
 use Rattle.nqs_codec.specs.Fields.{u8_field, u64_field, short_field}
 use Rattle.nqs_values.specs.declared.extent.Extent.{Extent}
 use Rattle.nqs_types.specs.declared.change.Change.{Change}
-use Rattle.nqs_types.specs.declared.change.Change.TheVariants.{Site, Submitted, Deleted, Doomed, Started, Ended, Unlaunched, Boot, Edited, HandOpened, HandCommitted, HandRefused, HandsSilent, HandDone, Promised, Accepted, Dropped, MovedLocal, RefusedLocal, HeldFar, StageGot, StageGone, FileGone}
+use Rattle.nqs_types.specs.declared.change.Change.TheVariants.{Site, Submitted, Deleted, Doomed, Started, Ended, Unlaunched, Boot, Edited, HandOpened}
+use Rattle.nqs_types.specs.declared.change.Change.TheVariants.{HandCommitted, HandRefused, HandsSilent, HandDone, Promised, Accepted, Dropped, MovedLocal}
+use Rattle.nqs_types.specs.declared.change.Change.TheVariants.{RefusedLocal, HeldFar, StageGot, StageGone, FileGone}
 use Rattle.nqs_records.specs.Spelling.{fields, opt_field, list_field, id_field, extent_field, job_field, carried_field, part_field, hand_field}
 use Rattle.nqs_records.specs.EditSpelling.{edit_field}
 use Rattle.nqs_records.specs.EditValues.{IsEdit}
@@ -68,6 +70,7 @@ MayStand (StageGot peer number path bytes) = IsHost peer × IsU64 number × IsPa
 MayStand (StageGone peer number) = IsHost peer × IsU64 number
 MayStand (FileGone file) = IsU64 file
 
+-- numbers below 256
 abbrev pub AreBytes : List ℕ → Type 0
 AreBytes bytes = (i : ℕ) → get_or bytes i 0 < 256
 

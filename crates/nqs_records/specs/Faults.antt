@@ -1,6 +1,7 @@
 -- Which bytes have which first fault, apart from how they are read.
 use Rattle.std.specs.Prelude.{◌≡◌, ◌≢◌, ◌↔◌, ℕ, ◌<◌, Bool, false, ◌&&◌, nat_le, List, [], ◌∷◌, ◌++◌, length, Err}
 use Rattle.nqs_values.specs.declared.extent.Extent.{Extent}
+use Rattle.nqs_values.specs.Want.{want}
 use Rattle.nqs_types.specs.declared.change.Change.{Change}
 use Rattle.nqs_records.specs.Kinds.{record_of}
 use Rattle.nqs_records.specs.Changes.{spelling, MayStand, AreBytes, SpellsNone}
@@ -44,7 +45,7 @@ IsFinal (Short end) = ⊥
 IsFinal (Kind place) = Unit {0}
 IsFinal (BadField place) = Unit {0}
 IsFinal (Trailing place) = Unit {0}
-IsFinal Memory = ⊥
+IsFinal (Memory memory) = ⊥
 
 -- Another kind and a change that is followed are told exactly. Short is told at the end, of each change cut off too. A fault else is final.
 pub record HasFirstFaults (bytes : List ℕ) : Type 0 where
@@ -55,7 +56,8 @@ pub record HasFirstFaults (bytes : List ℕ) : Type 0 where
   pub field : (place : ℕ) → record_of bytes ≡ Err (BadField place) → (place < length bytes) × SpellsNoneWith bytes
   pub final : (fault : RecordFault) → IsFinal fault → record_of bytes ≡ Err fault → SpellsNoneWith bytes
   pub still : (fault : RecordFault) → IsFinal fault → record_of bytes ≡ Err fault → (more : List ℕ) → record_of (bytes ++ more) ≡ Err fault
-  pub memory : record_of bytes ≢ Err Memory
+  pub memory : record_of bytes ≢ Err (Memory want)
 
+-- the first faults of all bytes
 abbrev pub FirstFaults : Type 0
 FirstFaults = (bytes : List ℕ) → AreBytes bytes → HasFirstFaults bytes

@@ -1,5 +1,6 @@
 -- Readings of single fields.
-use Rattle.std.specs.Prelude.{ℕ, suc, ◌+◌, Bool, true, false, ◌&&◌, ◌==◌, nat_lt, nat_le, List, [], ◌∷◌, length, take, drop, slice_index, Option, Some, None, option_map, if◌then◌else◌, Ok, Err}
+use Rattle.std.specs.Prelude.{ℕ, suc, ◌+◌, Bool, true, false, ◌&&◌, ◌==◌, nat_lt, nat_le, List, [], ◌∷◌, length, take, drop, slice_index, Option, Some, None}
+use Rattle.std.specs.Prelude.{option_map, if◌then◌else◌, Ok, Err}
 use Rattle.std.specs.Int.{w16, w32, w64, from_be_bytes}
 use Rattle.std.specs.declared.result.Result.{Result}
 use Rattle.nqs_values.specs.Name.{allowed_at}
@@ -16,10 +17,12 @@ abbrev pub as_fault : FieldFault → RecordFault
 as_fault (field.Short end) = fault.Short end
 as_fault (field.Bad place) = fault.BadField place
 
+-- what was taken, or where the bytes end too early
 abbrev pub or_short : {A : Type 0} → Result A Short → Read A
 or_short {A} (Ok a) = Ok a
 or_short {A} (Err short) = Err (fault.Short short.0)
 
+-- what was taken, or the fault of its field
 abbrev pub or_fault : {A : Type 0} → Result A FieldFault → Read A
 or_fault {A} (Ok a) = Ok a
 or_fault {A} (Err e) = Err (as_fault e)
@@ -73,6 +76,7 @@ unfoldable pub first_bad : (ℕ → ℕ → Bool) → List ℕ → Option ℕ
 first_bad allowed [] = None
 first_bad allowed (b ∷ bs) = if allowed 0 b then option_map (λ i. suc i) (first_bad (λ i. allowed (suc i)) bs) else Some 0
 
+-- a name that was taken, or the first of its bytes that may not stand there
 abbrev pub named : ℕ → List ℕ → Option ℕ → Result (List ℕ × ℕ) FieldFault
 named place value None = Ok (value, place + 1 + length value)
 named place value (Some offset) = Err (field.Bad (place + 1 + offset))
@@ -82,6 +86,7 @@ name_of bytes place = do
   value ← short_of 15 (length bytes) place (drop place bytes)
   named place value (first_bad allowed_at value)
 
+-- a path that was taken: one with `..` in it is bad from its first byte on
 abbrev pub pathed : ℕ → List ℕ → Option ℕ → Result (List ℕ × ℕ) FieldFault
 pathed place value None = if has_parent value then Err (field.Bad place) else named place value None
 pathed place value (Some offset) = named place value (Some offset)

@@ -2,7 +2,9 @@
 use Rattle.std.specs.Prelude.{ℕ, nat_lt, List, [], ◌∷◌, length, if◌then◌else◌, Ok, Err}
 use Rattle.nqs_values.specs.declared.extent.Extent.{Extent}
 use Rattle.nqs_types.specs.declared.change.Change.{Change}
-use Rattle.nqs_types.specs.declared.change.Change.TheVariants.{Site, Submitted, Deleted, Doomed, Started, Ended, Unlaunched, Boot, Edited, HandOpened, HandCommitted, HandRefused, HandsSilent, HandDone, Promised, Accepted, Dropped, MovedLocal, RefusedLocal, HeldFar, StageGot, StageGone, FileGone}
+use Rattle.nqs_types.specs.declared.change.Change.TheVariants.{Site, Submitted, Deleted, Doomed, Started, Ended, Unlaunched, Boot, Edited, HandOpened}
+use Rattle.nqs_types.specs.declared.change.Change.TheVariants.{HandCommitted, HandRefused, HandsSilent, HandDone, Promised, Accepted, Dropped, MovedLocal}
+use Rattle.nqs_types.specs.declared.change.Change.TheVariants.{RefusedLocal, HeldFar, StageGot, StageGone, FileGone}
 use Rattle.nqs_records.specs.Edits.{edit_at}
 use Rattle.nqs_records.specs.Reading.{Read, Reading, ◌>>=◌, mapped, both, within, counted, numbered}
 use Rattle.nqs_records.specs.Fields.{u8_at, u64_at, name_at, path_at, opt_at}
@@ -97,6 +99,7 @@ kinds =
     ∷ promised_at ∷ accepted_at ∷ dropped_at ∷ moved_local_at ∷ refused_local_at ∷ held_far_at
     ∷ stage_got_at ∷ stage_gone_at ∷ file_gone_at ∷ []
 
+-- no change is of this kind
 abbrev pub no_kind : Reading HostChange
 no_kind bytes place = Err (Kind 0)
 

@@ -27,6 +27,7 @@ extent_at = mapped (λ v. record { place = v.0; length = v.1 }) (both u64_at (λ
 abbrev pub JobFields : Type 0
 JobFields = List ℕ × (List ℕ × (ℕ × (ℕ × (Bool × (Option ℕ × (Option ℕ × (Option (List ℕ) × (List ℕ × (List ℕ × Bool)))))))))
 
+-- the job that these fields make
 abbrev pub job_of : JobFields → Job
 job_of v = record {
   name = v.0;

@@ -4,14 +4,17 @@ use Rattle.std.specs.declared.result.Result.{Result}
 use Rattle.nqs_records.specs.declared.fault.RecordFault.{RecordFault}
 use Rattle.nqs_records.specs.declared.fault.RecordFault.TheVariants.{BadField, Memory}
 
+-- what follows a value, unless there is a fault
 infixl 10 ◌>>=◌
 abbrev pub ◌>>=◌ : {E A B : Type 0} → Result A E → (A → Result B E) → Result B E
 ◌>>=◌ {E} {A} {B} (Ok a) f = f a
 ◌>>=◌ {E} {A} {B} (Err e) f = Err e
 
+-- a value, or a fault
 abbrev pub Read : Type 0 → Type 0
 Read A = Result A RecordFault
 
+-- what stands at a place of bytes, with the place behind it
 abbrev pub Reading : Type 0 → Type 0
 Reading A = List ℕ → ℕ → Read (A × ℕ)
 
@@ -48,18 +51,21 @@ counted {A} count item bytes place = do
   n ← count bytes place
   repeated n.0 item bytes n.1
 
+-- a value where there is one
 abbrev pub if_there : {A : Type 0} → Bool → Reading A → Reading (Option A)
 if_there {A} true item bytes place = mapped (λ a. Some a) item bytes place
 if_there {A} false item bytes place = Ok (None, place)
 
+-- whether memory was wanting
 abbrev pub is_memory : {A : Type 0} → Read A → Bool
-is_memory {A} (Err Memory) = true
+is_memory {A} (Err (Memory memory)) = true
 is_memory {A} _ = false
 
 -- what is read, unless memory is wanting
 abbrev pub Answers : {A : Type 0} → Read A → Read A → Type 0
 Answers {A} read answer = is_memory answer ≡ false → answer ≡ read
 
+-- the one at that place of the list, from 0
 abbrev pub nth_of : {A : Type 0} → List A → ℕ → A → A
 nth_of {A} [] n other = other
 nth_of {A} (x ∷ xs) zero other = x

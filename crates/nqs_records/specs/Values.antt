@@ -16,12 +16,15 @@ use Rattle.nqs_types.specs.declared.change.OutPart.{OutPart}
 abbrev pub IsU8 : ℕ → Type 0
 IsU8 n = n < 2 ^ 8
 
+-- a number of 16 bits
 abbrev pub IsU16 : ℕ → Type 0
 IsU16 n = n < 2 ^ 16
 
+-- a number of 32 bits
 abbrev pub IsU32 : ℕ → Type 0
 IsU32 n = n < 2 ^ 32
 
+-- a number of 64 bits
 abbrev pub IsU64 : ℕ → Type 0
 IsU64 n = n < 2 ^ 64
 
@@ -33,9 +36,11 @@ IsAny b = Unit {0}
 abbrev pub is_host : ℕ → Bool
 is_host n = nat_lt n 16
 
+-- the number of a request: from 1 to the greatest
 abbrev pub is_seq : ℕ → Bool
 is_seq n = nat_le 1 n && nat_le n last_seq
 
+-- whether a number is within a limit
 abbrev pub is_at_most : ℕ → ℕ → Bool
 is_at_most limit n = nat_le n limit
 
@@ -52,15 +57,19 @@ IsOpt {A} IsValue (Some a) = IsValue a
 abbrev pub IsList : {A : Type 0} → (ℕ → Type 0) → (A → Type 0) → List A → Type 0
 IsList {A} IsCount IsValue xs = IsCount (length xs) × AllByRecursion IsValue xs
 
+-- a host of a site of 16 at most
 abbrev pub IsHost : HostId → Type 0
 IsHost host = IsTrue (is_host host.0)
 
+-- a request: its number and its host
 abbrev pub IsId : RequestId → Type 0
 IsId id = IsTrue (is_seq id.seq) × IsHost id.host
 
+-- a range of a spool that one script fits in
 abbrev pub IsExtent : Extent → Type 0
 IsExtent e = IsU64 e.place × IsTrue (is_at_most 32768 e.length)
 
+-- a job whose fields are within their limits
 abbrev pub IsJob : Job → Type 0
 IsJob j =
     IsName j.name × IsName j.owner × IsTrue (is_at_most 63 j.priority) × IsU64 j.earliest × IsAny j.rerun
@@ -71,8 +80,10 @@ IsJob j =
 abbrev pub IsCarried : Carried → Type 0
 IsCarried c = IsId c.id × IsJob c.job × IsTrue (is_at_most 65534 c.starts) × IsTrue (c.lost == c.starts) × IsTrue (is_at_most 32 c.hops)
 
+-- an output of a job whose path is one
 abbrev pub IsPart : OutPart Extent → Type 0
 IsPart p = IsPath p.path × IsExtent p.bytes
 
+-- a handover: its peer and its number
 abbrev pub IsHand : PeerNumber → Type 0
 IsHand h = IsHost h.peer × IsU64 h.number

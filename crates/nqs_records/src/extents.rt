@@ -25,7 +25,8 @@ fn spelled(extent: Extent) -> [u8; EXTENT]
 fn put_extent(text: &mut [u8], behind: usize, extent: Extent)
     requires { behind + 12 ≤ length text.old }
     ensures length { length text.new ≡ length text.old }
-    ensures put { (front back : List ℕ) (old : Extent) → text.old ≡ front ++ extent_field old ++ back → length back ≡ behind → text.new ≡ front ++ extent_field extent ++ back }
+    ensures put { (front back : List ℕ) (old : Extent) → text.old ≡ front ++ extent_field old ++ back → length back ≡ behind
+        → text.new ≡ front ++ extent_field extent ++ back }
 {
     let end = text.len() - behind;
     text[end - EXTENT..end].copy_from_slice(&spelled(extent));
@@ -36,7 +37,8 @@ fn put_part_extents(parts: &[OutPart], text: &mut [u8]) -> usize
     requires { length (flat_map part_field parts.now) ≤ length text.old }
     ensures behind { result ≡ length (flat_map part_field parts.now) }
     ensures length { length text.new ≡ length text.old }
-    ensures put { (front : List ℕ) (xs : List Extent) → text.old ≡ front ++ flat_map part_field (parts_with parts.now xs) → text.new ≡ front ++ flat_map part_field parts.now }
+    ensures put { (front : List ℕ) (xs : List Extent) → text.old ≡ front ++ flat_map part_field (parts_with parts.now xs)
+        → text.new ≡ front ++ flat_map part_field parts.now }
 {
     match parts.split_first() {
         None => 0,
@@ -48,7 +50,8 @@ fn put_part_extents(parts: &[OutPart], text: &mut [u8]) -> usize
     }
 }
 
-/// Puts the extents of a change into a record that was written of the change with others. It takes no memory.
+/// Puts the extents of a change into a record that was written of the change with others. It takes
+/// no memory.
 pub fn put_extents(change: &Change, text: &mut [u8])
     requires { length text.old ≡ length (spelling change.now) }
     ensures { (others : List Extent) → text.old ≡ spelling (with_extents change.now others) → text.new ≡ spelling change.now }

@@ -2,11 +2,13 @@
 
 ghost use Rattle.std.specs.Prelude.{◌≡◌};
 ghost use Rattle.nqs_records.specs.declared.fault.RecordFault.TheVariants as fault;
+ghost use Rattle.nqs_values.specs.Want.{want};
 
+use nqs_values::Memory;
 use std::alloc::{AllocError, AllocFailed};
 
 /// The first thing that is wrong with bytes that are no record. Places are counted from 0.
-#[derive(Clone, Copy, Debug)]
+#[derive(Debug, Drop)]
 pub enum RecordFault {
     /// The bytes end before the record does. The place is that of their end.
     Short(u64),
@@ -17,21 +19,21 @@ pub enum RecordFault {
     /// The record is whole. The place is that of the first byte behind it.
     Trailing(u64),
     /// Want of memory.
-    Memory,
+    Memory(Memory),
 }
 
 impl From<AllocError> for RecordFault {
-    ghost from_gives = { λ _ f. f ≡ fault.Memory };
+    ghost from_gives = { λ _ f. f ≡ fault.Memory want };
 
-    fn from(_: AllocError) -> RecordFault {
-        RecordFault::Memory
+    fn from(refused: AllocError) -> RecordFault {
+        RecordFault::Memory(refused.into())
     }
 }
 
 impl<T: Drop> From<AllocFailed<T>> for RecordFault {
-    ghost from_gives = { λ _ f. f ≡ fault.Memory };
+    ghost from_gives = { λ _ f. f ≡ fault.Memory want };
 
-    fn from(_: AllocFailed<T>) -> RecordFault {
-        RecordFault::Memory
+    fn from(refused: AllocFailed<T>) -> RecordFault {
+        RecordFault::Memory(refused.into())
     }
 }

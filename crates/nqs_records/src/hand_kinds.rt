@@ -2,7 +2,8 @@
 
 ghost use Rattle.std.specs.Prelude.{◌≡◌};
 ghost use Rattle.nqs_records.specs.Reading.{Answers};
-ghost use Rattle.nqs_records.specs.Kinds.{accepted_at, dropped_at, hand_committed_at, hand_done_at, hand_opened_at, hand_refused_at, hands_silent_at, promised_at};
+ghost use Rattle.nqs_records.specs.Kinds.{accepted_at, dropped_at, hand_committed_at, hand_done_at, hand_opened_at, hand_refused_at, hands_silent_at};
+ghost use Rattle.nqs_records.specs.Kinds.{promised_at};
 
 use crate::fault::RecordFault;
 use crate::field::{read_name, read_u8, read_u64};

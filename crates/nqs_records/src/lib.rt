@@ -1,14 +1,16 @@
 //! The journal records of a host: each change of its state has exactly one spelling as bytes.
 //!
-//! A record is its kind's byte and its fields, and nothing else (`specs/Changes.antt` has the fields of each kind).
-//! Numbers go with their highest byte first. A name or a path is a byte of length and its bytes; yes and no are 1
-//! and 0; what may be left out is 0, or 1 and the value; a list is a byte that counts it, and its values. A request
-//! is its sequence number (4 bytes) and its host (1); an extent its place (8) and its length (4). An edit is its
-//! code's byte and its arguments (`specs/EditSpelling.antt`); that a new queue is for pipe queues alone is the number 1
+//! A record is its kind's byte and its fields, and nothing else (`specs/Changes.antt` has the
+//! fields of each kind). Numbers go with their highest byte first. A name or a path is a byte of
+//! length and its bytes; yes and no are 1 and 0; what may be left out is 0, or 1 and the value; a
+//! list is a byte that counts it, and its values. A request is its sequence number (4 bytes) and
+//! its host (1); an extent its place (8) and its length (4). An edit is its code's byte and its
+//! arguments (`specs/EditSpelling.antt`); that a new queue is for pipe queues alone is the number 1
 //! (8 bytes), which may be left out.
 //!
-//! Fields are read in order, and the first fault is the answer. A value that is not all there is `Short`; one that
-//! is there and is past its limits (`specs/Values.antt`, `specs/EditValues.antt`) is `BadField` at its first byte.
+//! Fields are read in order, and the first fault is the answer. A value that is not all there is
+//! `Short`; one that is there and is past its limits (`specs/Values.antt`, `specs/EditValues.antt`)
+//! is `BadField` at its first byte.
 //!
 //! The fields that datagrams share with records are read and put by the same calls.
 #![tactic(auto)]

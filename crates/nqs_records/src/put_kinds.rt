@@ -1,4 +1,5 @@
-//! Kinds of record, put at the end of a list: the kind's number and its fields. After `Memory` a part may stand there.
+//! Kinds of record, put at the end of a list: the kind's number and its fields. After `Memory` a
+//! part may stand there.
 
 ghost use Rattle.std.specs.Prelude.{◌≡◌, ◌∷◌, []};
 ghost use Rattle.std.specs.Prelude.{◌<◌, length, IsTrue};
@@ -96,7 +97,8 @@ pub(crate) fn put_hand_opened(
     since: u64,
     out: &mut Vec<u8>,
 ) -> Result<(), Memory>
-    ensures { Adds out.old.items (fields (u8_field 10 ∷ u8_field peer.0 ∷ u64_field number ∷ id_field id ∷ short_field queue.now ∷ u64_field since ∷ [])) result out.new.items }
+    ensures { Adds out.old.items (fields (u8_field 10 ∷ u8_field peer.0 ∷ u64_field number ∷ id_field id ∷ short_field queue.now ∷ u64_field since ∷ [])) result
+        out.new.items }
 {
     put_u8(10, out)?;
     put_u8(peer.0, out)?;
@@ -145,7 +147,8 @@ pub(crate) fn put_promised(
     out: &mut Vec<u8>,
 ) -> Result<(), Memory>
     requires { IsCarried carried.now }
-    ensures { Adds out.old.items (fields (u8_field 15 ∷ u8_field peer.0 ∷ u64_field number ∷ short_field queue.now ∷ carried_field carried.now ∷ extent_field script ∷ [])) result out.new.items }
+    ensures { Adds out.old.items (fields (u8_field 15 ∷ u8_field peer.0 ∷ u64_field number ∷ short_field queue.now ∷ carried_field carried.now
+        ∷ extent_field script ∷ [])) result out.new.items }
 {
     put_u8(15, out)?;
     put_u8(peer.0, out)?;
@@ -188,7 +191,8 @@ pub(crate) fn put_stage_got(
     out: &mut Vec<u8>,
 ) -> Result<(), Memory>
     requires { IsPath path.now }
-    ensures { Adds out.old.items (fields (u8_field 21 ∷ u8_field peer.0 ∷ u64_field number ∷ short_field path.now ∷ extent_field bytes ∷ [])) result out.new.items }
+    ensures { Adds out.old.items (fields (u8_field 21 ∷ u8_field peer.0 ∷ u64_field number ∷ short_field path.now ∷ extent_field bytes ∷ [])) result
+        out.new.items }
 {
     put_u8(21, out)?;
     put_u8(peer.0, out)?;

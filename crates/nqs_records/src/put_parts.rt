@@ -70,7 +70,8 @@ pub(crate) fn put_part(part: &OutPart, out: &mut Vec<u8>) -> Result<(), Memory>
 
 #[tactic(auto, using(crate::proofs::Joined::joined))]
 fn put_job_head(job: &Job, out: &mut Vec<u8>) -> Result<(), Memory>
-    ensures { Adds out.old.items (fields (short_field job.now.name ∷ short_field job.now.owner ∷ u8_field job.now.priority ∷ u64_field job.now.earliest ∷ bool_field job.now.rerun ∷ [])) result out.new.items }
+    ensures { Adds out.old.items (fields (short_field job.now.name ∷ short_field job.now.owner ∷ u8_field job.now.priority ∷ u64_field job.now.earliest
+        ∷ bool_field job.now.rerun ∷ [])) result out.new.items }
 {
     put_name(&job.name, out)?;
     put_name(&job.owner, out)?;
@@ -82,7 +83,8 @@ fn put_job_head(job: &Job, out: &mut Vec<u8>) -> Result<(), Memory>
 #[tactic(auto, using(crate::proofs::Joined::joined))]
 fn put_job_tail(job: &Job, out: &mut Vec<u8>) -> Result<(), Memory>
     requires { IsJob job.now }
-    ensures { Adds out.old.items (fields (opt_field u64_field job.now.limits.cpu ∷ opt_field u64_field job.now.limits.memory ∷ opt_field short_field job.now.forms ∷ short_field job.now.out ∷ short_field job.now.err ∷ bool_field job.now.join ∷ [])) result out.new.items }
+    ensures { Adds out.old.items (fields (opt_field u64_field job.now.limits.cpu ∷ opt_field u64_field job.now.limits.memory
+        ∷ opt_field short_field job.now.forms ∷ short_field job.now.out ∷ short_field job.now.err ∷ bool_field job.now.join ∷ [])) result out.new.items }
 {
     put_opt_u64(&job.limits.cpu, out)?;
     put_opt_u64(&job.limits.memory, out)?;

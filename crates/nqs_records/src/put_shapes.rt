@@ -1,4 +1,5 @@
-//! Edits, put at the end of a list: a code and the arguments. After `Memory` a part of it may stand there.
+//! Edits, put at the end of a list: a code and the arguments. After `Memory` a part of it may stand
+//! there.
 
 ghost use Rattle.std.specs.Prelude.{◌≡◌, ◌∷◌, []};
 ghost use Rattle.nqs_codec.specs.Fields.{u8_field, u64_field, short_field};
@@ -172,7 +173,8 @@ pub(crate) fn put_created(
     pipe_only: bool,
     out: &mut Vec<u8>,
 ) -> Result<(), Memory>
-    ensures { Adds out.old.items (fields (u8_field code ∷ short_field queue ∷ opt_field u64_field priority ∷ opt_field u64_field run_limit ∷ flag_field pipe_only ∷ [])) result out.new.items }
+    ensures { Adds out.old.items (fields (u8_field code ∷ short_field queue ∷ opt_field u64_field priority ∷ opt_field u64_field run_limit
+        ∷ flag_field pipe_only ∷ [])) result out.new.items }
 {
     put_u8(code, out)?;
     put_name(&queue, out)?;
@@ -190,7 +192,8 @@ pub(crate) fn put_pipe_created(
     destination: Option<NamedDest>,
     out: &mut Vec<u8>,
 ) -> Result<(), Memory>
-    ensures { Adds out.old.items (fields (u8_field 3 ∷ short_field queue ∷ opt_field u64_field priority ∷ opt_field u64_field run_limit ∷ flag_field pipe_only ∷ opt_field dest_field destination ∷ [])) result out.new.items }
+    ensures { Adds out.old.items (fields (u8_field 3 ∷ short_field queue ∷ opt_field u64_field priority ∷ opt_field u64_field run_limit ∷ flag_field pipe_only
+        ∷ opt_field dest_field destination ∷ [])) result out.new.items }
 {
     put_u8(3, out)?;
     put_name(&queue, out)?;

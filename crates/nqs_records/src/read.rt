@@ -7,6 +7,7 @@ ghost use Rattle.nqs_records.specs.Edits.{edits, edit_at};
 ghost use Rattle.nqs_records.specs.Changes.{ReadsTheSpelling, IsSpelledBy, SpellsNone, WhatMayStandIsSane};
 ghost use Rattle.nqs_records.specs.Faults.{FirstFaults};
 ghost use Rattle.nqs_records.specs.declared.fault.RecordFault.TheVariants.{Memory};
+ghost use Rattle.nqs_values.specs.Want.{want};
 
 use crate::edit_kinds::{read_complex_edit, read_creation, read_number_edit, read_queue_edit};
 use crate::edit_others::{
@@ -111,28 +112,31 @@ fn read_record(alloc: Global, bytes: &[u8]) -> Result<Change, RecordFault>
     Ok(change)
 }
 
-/// Reads the whole list as one record. A fault other than `Memory` is the first from the left, as `record_of` says it.
+/// Reads the whole list as one record. A fault other than `Memory` is the first from the left, as
+/// `record_of` says it.
 pub fn read_change(alloc: Global, bytes: &[u8]) -> Result<Change, RecordFault>
     ensures answer { Answers (record_of bytes.now) result }
     ensures ok { IfOk result (IsSpelledBy bytes.now) }
-    ensures none { IfErr result (λ fault. fault ≢ Memory → SpellsNone bytes.now) }
+    ensures none { IfErr result (λ fault. fault ≢ Memory want → SpellsNone bytes.now) }
 {
     read_record(alloc, bytes)
 }
 
-/// Bytes are read as a change exactly where they are its spelling and its values are within their limits:
-/// a law, which callers call for its contract.
+/// Bytes are read as a change exactly where they are its spelling and its values are within their
+/// limits: a law, which callers call for its contract.
 pub fn reads_the_spelling()
     ensures { ReadsTheSpelling }
 {}
 
-/// Which bytes have which first fault, apart from how they are read. A fault other than that they are short is one whatever
-/// follows them, so that with no bytes behind them are they a change; and a change that is cut off is short: a law.
+/// Which bytes have which first fault, apart from how they are read. A fault other than that they
+/// are short is one whatever follows them, so that with no bytes behind them are they a change; and
+/// a change that is cut off is short: a law.
 pub fn first_faults()
     ensures { FirstFaults }
 {}
 
-/// A change that may stand in a record is one that the rules call sane: a law, which callers call for its contract.
+/// A change that may stand in a record is one that the rules call sane: a law, which callers call
+/// for its contract.
 pub fn what_may_stand_is_sane()
     ensures { WhatMayStandIsSane }
 {}

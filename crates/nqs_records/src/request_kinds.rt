@@ -2,7 +2,8 @@
 
 ghost use Rattle.std.specs.Prelude.{◌≡◌};
 ghost use Rattle.nqs_records.specs.Reading.{Answers};
-ghost use Rattle.nqs_records.specs.Kinds.{deleted_at, doomed_at, ended_at, held_far_at, moved_local_at, refused_local_at, started_at, submitted_at, unlaunched_at};
+ghost use Rattle.nqs_records.specs.Kinds.{deleted_at, doomed_at, ended_at, held_far_at, moved_local_at, refused_local_at, started_at, submitted_at};
+ghost use Rattle.nqs_records.specs.Kinds.{unlaunched_at};
 
 use crate::fault::RecordFault;
 use crate::field::{read_name, read_u8};

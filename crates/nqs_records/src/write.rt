@@ -96,7 +96,8 @@ fn put_change(change: &Change, out: &mut Vec<u8>) -> Result<(), Memory>
     }
 }
 
-/// Adds the one spelling of a change whose values are within their limits. `Memory` leaves the list as it was.
+/// Adds the one spelling of a change whose values are within their limits. `Memory` leaves the list
+/// as it was.
 pub fn write_change(alloc: Global, change: &Change, out: &mut Vec<u8>) -> Result<(), Memory>
     requires { MayStand change.now }
     ensures { Puts out.old.items (spelling change.now) result out.new.items }

@@ -57,8 +57,8 @@ fn may_try(state: &HostState, row: &Row, now: u64, dest: &Dest) -> bool
         && (state.me == dest.host || is_reachable(state, now, dest.host))
 }
 
-/// The first destination of the queue that may be tried for the row at a moment, in seconds since 1970.
-/// It is given by its place in the queue's list, from 0.
+/// The first destination of the queue that may be tried for the row at a moment, in seconds since
+/// 1970. It is given by its place in the queue's list, from 0.
 pub fn destination_in(state: &HostState, queue: &QueueDef, row: &Row, now: u64) -> Option<usize>
     ensures { result ≡ destination queue.now now (content state.now) row.now }
 {

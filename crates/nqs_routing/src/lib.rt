@@ -1,7 +1,9 @@
-//! Routing: which destination of a pipe queue is tried for a request, and what a refusal or a silence leaves.
+//! Routing: which destination of a pipe queue is tried for a request, and what a refusal or a
+//! silence leaves.
 //!
-//! A destination that refused a request isn't tried again for it, and one on another host only while no
-//! handover to that host is open and the host isn't waited for. `nqs_rules/specs/Routing.antt` has the rules;
+//! A destination that refused a request isn't tried again for it, and one on another host only
+//! while no handover to that host is open and the host isn't waited for.
+//! `nqs_rules/specs/Routing.antt` has the rules;
 //! `docs/rules.md` says them in words. No call takes memory.
 #![tactic(auto)]
 

@@ -44,10 +44,11 @@ fn set_refused(row: &mut Row, refused: RefusedList, held: bool)
     }
 }
 
-/// Notes that a destination refused the request, with the number of the refusal, 1 to 33, behind those before. Then
-/// refusals by destinations that the queue has no longer go, this one too. The system holds the request where each
-/// destination that is left has refused, also where none is left. A request that isn't there changes nothing.
-/// It takes no memory: `HostState::make_room` made it, for the change that this is part of.
+/// Notes that a destination refused the request, with the number of the refusal, 1 to 33, behind
+/// those before. Then refusals by destinations that the queue has no longer go, this one too. The
+/// system holds the request where each destination that is left has refused, also where none is
+/// left. A request that isn't there changes nothing. It takes no memory: `HostState::make_room`
+/// made it, for the change that this is part of.
 pub fn note_refusal(state: &mut HostState, id: RequestId, dest: Dest, cause: u8)
     requires room { refusals_of (find (is_row id) state.old.rows.items) < state.old.spare_refused }
     ensures { content state.new ≡ change_row id (λ r. refusal_noted (dests_for r (content state.old)) dest cause r) (content state.old) }
@@ -66,8 +67,8 @@ pub fn note_refusal(state: &mut HostState, id: RequestId, dest: Dest, cause: u8)
         .change(&id, |row: &mut Row| set_refused(row, refused, held));
 }
 
-/// No handover to the host is opened until that moment, in seconds since 1970. A host that isn't of the site
-/// changes nothing.
+/// No handover to the host is opened until that moment, in seconds since 1970. A host that isn't of
+/// the site changes nothing.
 pub fn note_silence(state: &mut HostState, peer: HostId, until: u64)
     ensures { content state.new ≡ change_peer peer (λ p. record p { wait = until }) (content state.old) }
 {

@@ -1,5 +1,6 @@
 -- First refusals of lists that are put together, and by what a look-up found.
-use Rattle.std.proofs.Common.{◌≡◌, ℕ, ◌+◌, ◌<◌, Bool, true, false, true≢false, not, List, [], ◌∷◌, ◌++◌, Option, None, Some, Err, is_ok, nat_le, if◌then◌else◌, refl, sym, arith, IsTrue}
+use Rattle.std.proofs.Common.{◌≡◌, ℕ, ◌+◌, ◌<◌, Bool, true, false, true≢false, not, List, [], ◌∷◌, ◌++◌, Option, None, Some, Err, is_ok, nat_le, if◌then◌else◌}
+use Rattle.std.proofs.Common.{refl, sym, arith, IsTrue}
 use Rattle.std.proofs.lemmas.Bool.Decides.{nat_tests}
 use Rattle.std.specs.List.{list_any}
 use Rattle.nqs_state.specs.State.{State}
@@ -9,7 +10,8 @@ use Rattle.nqs_access.proofs.Found.{queue_there, queue_missing}
 use Rattle.nqs_rules.specs.Tests.{passes}
 use Rattle.nqs_rules.specs.Causes.{Cause, cause, first_refusal}
 use Rattle.nqs_rules.specs.Find.{find_queue, meant_row}
-use Rattle.nqs_rules.specs.Rows.{causes_of, arrivals_used, idle_causes, move_entry_causes, move_causes, is_host_full, numbers_used, queue_entry_causes, submit_causes_at, is_pipe_named, named_causes, rows_causes}
+use Rattle.nqs_rules.specs.Rows.{causes_of, arrivals_used, idle_causes, move_entry_causes, move_causes, is_host_full, numbers_used, queue_entry_causes}
+use Rattle.nqs_rules.specs.Rows.{submit_causes_at, is_pipe_named, named_causes, rows_causes}
 use Rattle.nqs_types.specs.declared.ids.Named.{Named}
 use Rattle.nqs_types.specs.declared.request.Job.{Job}
 use Rattle.nqs_types.specs.declared.request.Row.{Row}
@@ -24,7 +26,8 @@ last_fails [] true r h = absurd (true≢false (sym h))
 last_fails [] false r h = refl
 last_fails (c ∷ cs) b r h = by (last_fails cs b r) c.holds h
   where
-    by : (IsTrue (is_ok (first_refusal (cs ++ cause b r ∷ []))) → b ≡ false) → (t : Bool) → IsTrue (is_ok (if t then Err c.refusal else first_refusal (cs ++ cause b r ∷ []))) → b ≡ false
+    by : (IsTrue (is_ok (first_refusal (cs ++ cause b r ∷ []))) → b ≡ false) → (t : Bool)
+        → IsTrue (is_ok (if t then Err c.refusal else first_refusal (cs ++ cause b r ∷ []))) → b ≡ false
     by _ true h = absurd (true≢false (sym h))
     by rest false h = rest h
 
@@ -58,7 +61,8 @@ module _ {E : Type 0} (s : State E) where
   abbrev abort_part : List ℕ → Bool → Option QueueDef → List Cause
   abort_part q there found = cause (not there) (NoQueue q) ∷ cause (passes is_pipe_named found) WrongKind ∷ []
 
-  pub abort_found : (q : List ℕ) (d : QueueDef) → Some d ≡ find_queue q s → first_refusal (cause (is_pipe_named d) WrongKind ∷ []) ≡ first_refusal (rows_causes (AbortQueue q) s)
+  pub abort_found : (q : List ℕ) (d : QueueDef) → Some d ≡ find_queue q s
+      → first_refusal (cause (is_pipe_named d) WrongKind ∷ []) ≡ first_refusal (rows_causes (AbortQueue q) s)
   abort_found q d h = (λ i. first_refusal (abort_part q (sym (queue_there q s d (sym h)) i) (h i)))
 
   pub abort_absent : (q : List ℕ) → None ≡ find_queue q s → Err (NoQueue q) ≡ first_refusal (rows_causes (AbortQueue q) s)
@@ -72,5 +76,6 @@ module _ {E : Type 0} (s : State E) where
       by None h = absurd (true≢false (sym h))
       by (Some r) h =
           let unused : nat_le 18446744073709551615 s.arrivals ≡ false =
-          last_fails (cause (not (list_any (is_queue q) s.queues)) (NoQueue q) ∷ idle_causes id r ++ causes_of (move_entry_causes r) (find_queue q s)) (arrivals_used s) NumbersUsed h in
+          last_fails (cause (not (list_any (is_queue q) s.queues)) (NoQueue q) ∷ idle_causes id r ++ causes_of (move_entry_causes r) (find_queue q s))
+          (arrivals_used s) NumbersUsed h in
           grind (arith, nat_tests)

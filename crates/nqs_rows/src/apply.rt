@@ -55,7 +55,8 @@ fn move_request(state: &mut HostState, request: &Named, edit: &RowsEdit)
     requires site { length state.old.site ≤ 16 }
     requires within { IsTrue (is_rows_within edit.now) }
     requires number { state.old.arrivals + 1 < 2 ^ 64 }
-    ensures { content state.new ≡ change_meant (meant_request request.now (content state.old)) (row_edited edit.now (state.old.arrivals + 1)) (record (content state.old) { arrivals = state.old.arrivals + 1 }) }
+    ensures { content state.new ≡ change_meant (meant_request request.now (content state.old)) (row_edited edit.now (state.old.arrivals + 1))
+        (record (content state.old) { arrivals = state.old.arrivals + 1 }) }
 {
     state.arrivals += 1;
     edit_request(state, request, edit);
@@ -78,9 +79,9 @@ fn abort_queue(state: &mut HostState, queue: &Name)
     });
 }
 
-/// Makes an edit of requests that `check_rows` lets through. It takes no memory and can't fail. A moved request keeps
-/// its hold, and a released one may be tried by every destination again. `within`: a priority is at most 63. `site`
-/// holds of each state in order: at most 16 hosts.
+/// Makes an edit of requests that `check_rows` lets through. It takes no memory and can't fail. A
+/// moved request keeps its hold, and a released one may be tried by every destination again.
+/// `within`: a priority is at most 63. `site` holds of each state in order: at most 16 hosts.
 pub fn apply_rows(state: &mut HostState, edit: RowsEdit)
     requires site { length state.old.site ≤ 16 }
     requires check { IsTrue (is_ok (first_refusal (rows_causes edit (content state.old)))) }

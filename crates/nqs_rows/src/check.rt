@@ -5,7 +5,8 @@ ghost use Rattle.nqs_state.specs.State.{content};
 ghost use Rattle.nqs_rules.specs.Causes.{cause, first_refusal};
 ghost use Rattle.nqs_rules.specs.Find.{meant_row};
 ghost use Rattle.nqs_rules.specs.Access.{rank, is_plain_user};
-ghost use Rattle.nqs_rules.specs.Rows.{arrivals_used, delete_row_causes, delete_causes, named_causes, idle_causes, hold_causes, release_causes, move_entry_causes, move_causes, is_pipe_named, rows_causes};
+ghost use Rattle.nqs_rules.specs.Rows.{arrivals_used, delete_row_causes, delete_causes, named_causes, idle_causes, hold_causes, release_causes};
+ghost use Rattle.nqs_rules.specs.Rows.{move_entry_causes, move_causes, is_pipe_named, rows_causes};
 ghost use Rattle.nqs_rows.specs.OneRow.{row_causes};
 
 use crate::entry::check_job;
@@ -39,9 +40,10 @@ fn check_delete_row(
     Ok(())
 }
 
-/// Whether a user may delete a request: `Ok`, or the first of these that holds: `NoRequest`; `NotOwner` for one who is
-/// neither its owner, a manager nor an operator; `RequestRunning`, unless `kill` is set. One that is on its way may be
-/// deleted. `site` holds of each state in order: at most 16 hosts.
+/// Whether a user may delete a request: `Ok`, or the first of these that holds: `NoRequest`;
+/// `NotOwner` for one who is neither its owner, a manager nor an operator; `RequestRunning`, unless
+/// `kill` is set. One that is on its way may be deleted. `site` holds of each state in order: at
+/// most 16 hosts.
 pub fn check_delete(state: &HostState, user: &Name, id: &Named, kill: bool) -> Result<(), Refusal>
     requires site { length state.now.site ≤ 16 }
     ensures { result ≡ first_refusal (delete_causes user.now id.now kill (content state.now)) }
@@ -92,7 +94,8 @@ fn check_arrivals(state: &HostState) -> Result<(), Refusal>
 
 // A move into this queue.
 fn check_move_to(state: &HostState, id: &Named, row: &Row, queue: &QueueDef) -> Result<(), Refusal>
-    ensures { result ≡ first_refusal (idle_causes id.now row.now ++ move_entry_causes row.now queue.now ++ cause (arrivals_used (content state.now)) Refusal.NumbersUsed ∷ []) }
+    ensures { result ≡ first_refusal (idle_causes id.now row.now ++ move_entry_causes row.now queue.now
+        ++ cause (arrivals_used (content state.now)) Refusal.NumbersUsed ∷ []) }
 {
     check_idle(row, id)?;
     check_job(queue, &row.job, Entry::FromPipe)?;
@@ -149,8 +152,9 @@ fn check_abort(state: &HostState, queue: &Name) -> Result<(), Refusal>
     }
 }
 
-/// Whether an edit of requests may be made: `Ok`, or the first of these that holds. An abort: `NoQueue`, `WrongKind` for
-/// a pipe queue. The others: `NoRequest`, and then a hold: `RequestRouting`, `RequestRunning`, `IsHeld`; a release:
+/// Whether an edit of requests may be made: `Ok`, or the first of these that holds. An abort:
+/// `NoQueue`, `WrongKind` for a pipe queue. The others: `NoRequest`, and then a hold:
+/// `RequestRouting`, `RequestRunning`, `IsHeld`; a release:
 /// `NotHeld`; a move: `NoQueue`, `RequestRouting`, `RequestRunning`, the way of its owner and of its limits into that
 /// queue as from a pipe queue, `NumbersUsed`; a new priority: `RequestRouting`, `RequestRunning`.
 /// `site` holds of each state in order: at most 16 hosts.

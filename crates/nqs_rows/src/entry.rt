@@ -8,7 +8,8 @@ use nqs_access::may_use;
 use nqs_limits::over_limits;
 use nqs_types::{Entry, Job, QueueDef, Refusal};
 
-/// Whether a job is let into the queue: whether its owner is, and then whether its limits are within the queue's.
+/// Whether a job is let into the queue: whether its owner is, and then whether its limits are
+/// within the queue's.
 pub(crate) fn check_job(queue: &QueueDef, job: &Job, entry: Entry) -> Result<(), Refusal>
     ensures { result ≡ first_refusal (job_causes queue.now job.now entry) }
 {

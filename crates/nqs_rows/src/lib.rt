@@ -1,4 +1,5 @@
-//! Requests: whether a submission, a deletion or an edit of one is refused, and what the edits make of a state.
+//! Requests: whether a submission, a deletion or an edit of one is refused, and what the edits make
+//! of a state.
 //!
 //! `entry` has the way of a job into a queue, `meant` the request that is typed. `nqs_rules/specs/Rows.antt` has the
 //! rules; `docs/rules.md` says them in words. No call takes memory.

@@ -23,8 +23,8 @@ pub(crate) fn meant_request(state: &HostState, request: &Named) -> Option<Reques
     }
 }
 
-/// The row of the request that is typed so, if its host is of the site and it lies here. `requires`: at most 16 hosts,
-/// as each state in order has.
+/// The row of the request that is typed so, if its host is of the site and it lies here.
+/// `requires`: at most 16 hosts, as each state in order has.
 pub fn meant_row<'a>(state: &'a HostState, request: &Named) -> Option<&'a Row>
     requires { length state.now.site ≤ 16 }
     ensures { option_copied result ≡ meant_row request.now (content state.now) }

@@ -19,7 +19,8 @@ fn is_host_full(state: &HostState) -> bool
 
 // Whether the host has room and numbers for one more request.
 fn check_host(state: &HostState) -> Result<(), Refusal>
-    ensures { result ≡ first_refusal (cause (is_host_full (content state.now)) Refusal.HostFull ∷ cause (numbers_used (content state.now)) Refusal.NumbersUsed ∷ []) }
+    ensures { result ≡ first_refusal (cause (is_host_full (content state.now)) Refusal.HostFull ∷ cause (numbers_used (content state.now)) Refusal.NumbersUsed
+        ∷ []) }
 {
     if is_host_full(state) {
         return Err(Refusal::HostFull);
@@ -31,7 +32,8 @@ fn check_host(state: &HostState) -> Result<(), Refusal>
 }
 
 fn check_into(state: &HostState, job: &Job, queue: &QueueDef) -> Result<(), Refusal>
-    ensures { result ≡ first_refusal (queue_entry_causes job.now queue.now ++ cause (is_host_full (content state.now)) Refusal.HostFull ∷ cause (numbers_used (content state.now)) Refusal.NumbersUsed ∷ []) }
+    ensures { result ≡ first_refusal (queue_entry_causes job.now queue.now
+        ++ cause (is_host_full (content state.now)) Refusal.HostFull ∷ cause (numbers_used (content state.now)) Refusal.NumbersUsed ∷ []) }
 {
     check_job(queue, job, Entry::Direct)?;
     check_host(state)
@@ -46,9 +48,10 @@ fn check_submit_to(state: &HostState, job: &Job, queue: &Name) -> Result<(), Ref
     }
 }
 
-/// Whether a submission into its queue, or else into the default one, may be made: `Ok`, or the first of these that
-/// holds: `NoDefault`; `NoQueue`; the way of its owner and of its limits into that queue; `HostFull` at 10,000 requests
-/// and promises; `NumbersUsed` where the last sequence number, 4,294,967,294, or the last arrival was given.
+/// Whether a submission into its queue, or else into the default one, may be made: `Ok`, or the
+/// first of these that holds: `NoDefault`; `NoQueue`; the way of its owner and of its limits into
+/// that queue; `HostFull` at 10,000 requests and promises; `NumbersUsed` where the last sequence
+/// number, 4,294,967,294, or the last arrival was given.
 pub fn check_submit(state: &HostState, submission: &Submission) -> Result<(), Refusal>
     ensures { result ≡ first_refusal (submit_causes submission.now (content state.now)) }
 {

@@ -1,5 +1,6 @@
 -- The best of a list: it passes and stands at its place, nothing that passes beats it, and it beats all before it that pass.
-use Rattle.std.proofs.Common.{◌≡◌, ℕ, ◌+◌, ◌<◌, Bool, true, false, ◌||◌, List, [], ◌∷◌, Option, None, Some, slice_get, is_some, true≢false, zero, suc, refl, sym, ap, subst, ◌∙◌, arith, if◌then◌else◌}
+use Rattle.std.proofs.Common.{◌≡◌, ℕ, ◌+◌, ◌<◌, Bool, true, false, ◌||◌, List, [], ◌∷◌, Option, None, Some, slice_get, is_some, true≢false, zero, suc, refl}
+use Rattle.std.proofs.Common.{sym, ap, subst, ◌∙◌, arith, if◌then◌else◌}
 use Rattle.std.proofs.lemmas.Option.{same_Some, none-some}
 use Rattle.std.specs.List.{list_any}
 use Rattle.std.specs.Option.{IfSome}
@@ -68,7 +69,13 @@ module _ {V : Type 0} (test : V → Bool) (beats : V → V → Bool) where
 
     -- behind a value that does not pass
     passed : (v q : V) (vs : List V) (k : ℕ) → test v ≡ false → IsBest vs k q → IsBest (v ∷ vs) (suc k) q
-    passed v q vs k fails b = record { at = b.at; passes = b.passes; unbeaten = skip _ b.unbeaten; first = skip _ (λ i u there p below. b.first i u there p (omega arith)) }
+    passed v q vs k fails b = record {
+      at = b.at;
+      passes = b.passes;
+      unbeaten = skip _ b.unbeaten;
+      first =
+          skip _ (λ i u there p below. b.first i u there p (omega arith));
+    }
       where
         skip : (P : ℕ → V → Type 0) → EachThat vs (λ i u. P (suc i) u) → EachThat (v ∷ vs) P
         skip P rest zero u there p = absurd (true≢false (sym p ∙ ap test (sym (same_Some v u there)) ∙ fails))

@@ -24,16 +24,20 @@ use Rattle.nqs_types.specs.declared.edit.Edit.{Edit}
 use Rattle.nqs_types.specs.declared.edit.Edit.TheVariants.{Conf, Limits as LimitsOf, Access as AccessOf, Devices as DevicesOf, Rows as RowsOf}
 use Rattle.nqs_types.specs.declared.change.OutPart.{OutPart}
 use Rattle.nqs_types.specs.declared.change.Change.{Change}
-use Rattle.nqs_types.specs.declared.change.Change.TheVariants.{Site, Submitted, Deleted, Doomed, Started, Ended, Unlaunched, Boot, Edited, HandOpened, HandCommitted, HandRefused, HandsSilent, HandDone, Promised, Accepted, Dropped, MovedLocal, RefusedLocal, HeldFar, StageGot, StageGone, FileGone}
+use Rattle.nqs_types.specs.declared.change.Change.TheVariants.{Site, Submitted, Deleted, Doomed, Started, Ended, Unlaunched, Boot, Edited, HandOpened}
+use Rattle.nqs_types.specs.declared.change.Change.TheVariants.{HandCommitted, HandRefused, HandsSilent, HandDone, Promised, Accepted, Dropped, MovedLocal}
+use Rattle.nqs_types.specs.declared.change.Change.TheVariants.{RefusedLocal, HeldFar, StageGot, StageGone, FileGone}
 use Rattle.nqs_rules.specs.Tests.{passes, is_ready, is_running, is_queued, is_unheld, is_offered, is_committed}
 use Rattle.nqs_rules.specs.Find.{peer_number, find_hand, find_peer}
 use Rattle.nqs_rules.specs.Edits.{change_row, change_peer, drop_row}
 use Rattle.nqs_rules.specs.Conf.{conf_applied, is_queued_in}
 use Rattle.nqs_rules.specs.Limits.{limits_applied}
 use Rattle.nqs_rules.specs.Devices.{devices_applied}
-use Rattle.nqs_rules.specs.Rows.{rows_causes, rows_applied, idle_causes, hold_causes, release_causes, move_causes, held_row, released_row, moved_row, with_priority, next_arrival}
+use Rattle.nqs_rules.specs.Rows.{rows_causes, rows_applied, idle_causes, hold_causes, release_causes, move_causes, held_row, released_row, moved_row}
+use Rattle.nqs_rules.specs.Rows.{with_priority, next_arrival}
 use Rattle.nqs_rules.specs.Routing.{dests_for, is_hand_to}
-use Rattle.nqs_rules.specs.Applied.{applied, edit_applied, access_applied, doomed_row, started_row, held_far, moved_local, local_refused, hand_committed, hand_refused, accepted}
+use Rattle.nqs_rules.specs.Applied.{applied, edit_applied, access_applied, doomed_row, started_row, held_far, moved_local, local_refused, hand_committed}
+use Rattle.nqs_rules.specs.Applied.{hand_refused, accepted}
 use Rattle.nqs_rules.specs.Fits.{fits, edit_fits, is_committed_hand, runs, may_hop, is_next, row_passes, device_fits}
 use Rattle.nqs_rules.specs.InOrder.{IsInOrder, IsConsistent}
 use Rattle.nqs_rules.proofs.Chains.{each}
@@ -45,11 +49,13 @@ use Rattle.nqs_rules.proofs.EditOrder.{meant}
 use Rattle.nqs_rules.proofs.ChangesOrder.{with_offer, with_promise}
 use Rattle.nqs_rules.proofs.OutputsKept.{file_keeps, outputs_keep}
 use Rattle.nqs_rules.proofs.Consistent.{same_core, IsCalm, row_stays, rows_stay}
-use Rattle.nqs_rules.proofs.ConsistentOrder.{queued_calm, ready_spared, deleted_calm, submitted_calm, booted_calm, aborted_calm, opened_calm, committed_calm, done_calm, refused_calm, promised_calm, dropped_calm, accepted_calm, silent_calm}
+use Rattle.nqs_rules.proofs.ConsistentOrder.{queued_calm, ready_spared, deleted_calm, submitted_calm, booted_calm, aborted_calm, opened_calm, committed_calm}
+use Rattle.nqs_rules.proofs.ConsistentOrder.{done_calm, refused_calm, promised_calm, dropped_calm, accepted_calm, silent_calm}
 
 module _ {E : Type 0} (s : State E) (h : IsInOrder s) (c : IsConsistent s) where
   -- one row of a state whose rest is the same
-  row_edited : (t : State E) → t.rows ≡ s.rows → t.hands ≡ s.hands → t.promises ≡ s.promises → t.me ≡ s.me → t.seq ≡ s.seq → (id : RequestId) (f : Row E → Row E) → ((r : Row E) → IsCalm t r → IsCalm t (f r)) → IsConsistent (change_row id f t)
+  row_edited : (t : State E) → t.rows ≡ s.rows → t.hands ≡ s.hands → t.promises ≡ s.promises → t.me ≡ s.me → t.seq ≡ s.seq
+      → (id : RequestId) (f : Row E → Row E) → ((r : Row E) → IsCalm t r → IsCalm t (f r)) → IsConsistent (change_row id f t)
   row_edited t rows hands promises me seq id f keeps = row_stays t id f (same_core s t rows hands promises me seq c) (λ r found k. keeps r k)
 
   conf_calm : (e : ConfEdit) → IsConsistent (conf_applied e s)
@@ -73,11 +79,17 @@ module _ {E : Type 0} (s : State E) (h : IsInOrder s) (c : IsConsistent s) where
   rows_calm (HoldRequest id) fit = meant s IsConsistent id (hold_causes id) held_row s (λ rid r found allows.
       let idle = none_holds (hold_causes id r) allows in
       row_stays s rid held_row c (λ q e k.
-      record { doomed = k.doomed; held = or_left (is_queued q.state) (is_unheld (held_row q).hold) (ap (λ y. is_queued y.state) (same_Some q r (sym e ∙ found)) ∙ ap is_queued (idle_is r.state idle.0 idle.1.0)); routing = k.routing })) fit
+      record {
+        doomed = k.doomed;
+        held = or_left (is_queued q.state) (is_unheld (held_row q).hold)
+            (ap (λ y. is_queued y.state) (same_Some q r (sym e ∙ found)) ∙ ap is_queued (idle_is r.state idle.0 idle.1.0));
+        routing = k.routing;
+      })) fit
   rows_calm (ReleaseRequest id) fit = meant s IsConsistent id (release_causes id) released_row s (λ rid r found allows.
       row_stays s rid released_row c (λ q e k. record { doomed = k.doomed; held = or_right (is_queued q.state) true refl; routing = k.routing })) fit
   rows_calm (MoveRequest id q) fit = meant s IsConsistent id (move_causes id q s) (moved_row q (s.arrivals + 1)) (next_arrival s) (λ rid r found allows.
-      row_edited (next_arrival s) refl refl refl refl refl rid (moved_row q (s.arrivals + 1)) (λ r k. record { doomed = k.doomed; held = k.held; routing = k.routing })) fit
+      row_edited (next_arrival s) refl refl refl refl refl rid (moved_row q (s.arrivals + 1))
+      (λ r k. record { doomed = k.doomed; held = k.held; routing = k.routing })) fit
   rows_calm (ModifyRequest id n) fit = meant s IsConsistent id (idle_causes id) (with_priority n) s (λ rid r found allows.
       row_stays s rid (with_priority n) c (λ q e k. record { doomed = k.doomed; held = k.held; routing = k.routing })) fit
 
@@ -89,7 +101,8 @@ module _ {E : Type 0} (s : State E) (h : IsInOrder s) (c : IsConsistent s) where
   edit_calm (RowsOf e) fit = rows_calm e fit
 
   -- a row that is ready stays queued
-  ready_stays : (id : RequestId) (f : Row E → Row E) → ((r : Row E) → (f r).state ≡ r.state) → ((r : Row E) → (f r).doomed ≡ r.doomed) → row_passes is_ready id s ≡ true → IsConsistent (change_row id f s)
+  ready_stays : (id : RequestId) (f : Row E → Row E) → ((r : Row E) → (f r).state ≡ r.state) → ((r : Row E) → (f r).doomed ≡ r.doomed)
+      → row_passes is_ready id s ≡ true → IsConsistent (change_row id f s)
   ready_stays id f states dooms fit =
       let r = found_row is_ready id s fit in
       row_stays s id f c (λ q e k.
@@ -102,23 +115,38 @@ module _ {E : Type 0} (s : State E) (h : IsInOrder s) (c : IsConsistent s) where
   applied_consistent (Deleted id) fit = deleted_calm s h c id
   applied_consistent (Doomed id) fit =
       let r = found_row runs id s fit in
-      row_stays s id doomed_row c (λ q e k. record { doomed = or_left (is_running q.state) (not true) (ap runs (same_Some q r.0 (sym e ∙ r.1)) ∙ r.2); held = k.held; routing = k.routing })
+      row_stays s id doomed_row c (λ q e k. record {
+        doomed = or_left (is_running q.state) (not true) (ap runs (same_Some q r.0 (sym e ∙ r.1)) ∙ r.2);
+        held =
+            k.held;
+        routing = k.routing;
+      })
   applied_consistent (Started id device) fit =
       let r = found_row is_ready id s (and_parts (row_passes is_ready id s) (device_fits device s) fit).0 in
-      row_stays s id (started_row device) c (λ q e k. record { doomed = refl; held = ap (λ y. is_unheld y.hold) (same_Some q r.0 (sym e ∙ r.1)) ∙ (and_parts (is_queued r.0.state) (is_unheld r.0.hold) r.2).1; routing = refl })
+      row_stays s id (started_row device) c (λ q e k. record {
+        doomed = refl;
+        held = ap (λ y. is_unheld y.hold) (same_Some q r.0 (sym e ∙ r.1))
+            ∙ (and_parts (is_queued r.0.state) (is_unheld r.0.hold) r.2).1;
+        routing = refl;
+      })
   applied_consistent (Ended id parts) fit =
       let t = drop_row id s in
-      same_core t (applied (Ended id parts) s) (outputs_keep (λ u. u.rows) (λ u fs n. refl) (λ u ts ps. refl) id parts t) (outputs_keep (λ u. u.hands) (λ u fs n. refl) (λ u ts ps. refl) id parts t)
-      (outputs_keep (λ u. u.promises) (λ u fs n. refl) (λ u ts ps. refl) id parts t) (outputs_keep (λ u. u.me) (λ u fs n. refl) (λ u ts ps. refl) id parts t) (outputs_keep (λ u. u.seq) (λ u fs n. refl) (λ u ts ps. refl) id parts t)
+      same_core t (applied (Ended id parts) s) (outputs_keep (λ u. u.rows) (λ u fs n. refl) (λ u ts ps. refl) id parts t)
+      (outputs_keep (λ u. u.hands) (λ u fs n. refl) (λ u ts ps. refl) id parts t)
+      (outputs_keep (λ u. u.promises) (λ u fs n. refl) (λ u ts ps. refl) id parts t) (outputs_keep (λ u. u.me) (λ u fs n. refl) (λ u ts ps. refl) id parts t)
+      (outputs_keep (λ u. u.seq) (λ u fs n. refl) (λ u ts ps. refl) id parts t)
       (rows_stay s t.rows (without_part (is_row id) s.rows) c)
   applied_consistent (Unlaunched id) fit = rows_stay s (drop_row id s).rows (without_part (is_row id) s.rows) c
   applied_consistent Boot fit = booted_calm s h c
   applied_consistent (Edited e) fit = edit_calm e fit
   applied_consistent (HandOpened peer number id queue since) fit =
-      opened_calm s h c peer number id queue since (each (row_passes may_hop id s) (passes (is_next number) (find_peer peer s) ∷ not (list_any (is_hand_to peer) s.hands) ∷ []) fit).0
-  applied_consistent (HandCommitted peer number) fit = with_offer IsConsistent s peer number (λ o. hand_committed (peer_number peer number) o s) (λ x e offered. committed_calm s h c (peer_number peer number) x e) fit
+      opened_calm s h c peer number id queue since (each (row_passes may_hop id s)
+      (passes (is_next number) (find_peer peer s) ∷ not (list_any (is_hand_to peer) s.hands) ∷ []) fit).0
+  applied_consistent (HandCommitted peer number) fit = with_offer IsConsistent s peer number (λ o. hand_committed (peer_number peer number) o s)
+      (λ x e offered. committed_calm s h c (peer_number peer number) x e) fit
   applied_consistent (HandRefused peer number refusal) fit =
-      with_offer IsConsistent s peer number (λ o. hand_refused (peer_number peer number) refusal o s) (λ x e offered. refused_calm s h c (peer_number peer number) x e offered refusal) fit
+      with_offer IsConsistent s peer number (λ o. hand_refused (peer_number peer number) refusal o s)
+      (λ x e offered. refused_calm s h c (peer_number peer number) x e offered refusal) fit
   applied_consistent (HandsSilent until ks) fit = silent_calm until ks s h c fit
   applied_consistent (HandDone peer number) fit = of (find_hand peer number s) refl fit
     where
@@ -130,16 +158,21 @@ module _ {E : Type 0} (s : State E) (h : IsInOrder s) (c : IsConsistent s) where
       of None e fit = absurd (true≢false (sym fit))
       of (Some x) e fit = done_calm s h c (peer_number peer number) x e (unoffered x.phase fit)
   applied_consistent (Promised peer number queue d script) fit = promised_calm s h c peer number queue d script
-  applied_consistent (Accepted peer number) fit = with_promise IsConsistent s peer number (λ o. accepted (peer_number peer number) o s) (λ x e. accepted_calm s h c (peer_number peer number) x e) fit
+  applied_consistent (Accepted peer number) fit = with_promise IsConsistent s peer number (λ o. accepted (peer_number peer number) o s)
+      (λ x e. accepted_calm s h c (peer_number peer number) x e) fit
   applied_consistent (Dropped peer number) fit = dropped_calm s h c (peer_number peer number)
-  applied_consistent (MovedLocal id queue) fit = row_edited (next_arrival s) refl refl refl refl refl id (moved_local queue (s.arrivals + 1)) (λ r k. record { doomed = k.doomed; held = k.held; routing = k.routing })
-  applied_consistent (RefusedLocal id queue refusal) fit = ready_stays id (local_refused queue refusal s) (λ q. noted_kept (λ y. y.state) (λ y l. refl) (λ y. refl) (dests_for q s) (record { queue = queue; host = s.me }) refusal q)
+  applied_consistent (MovedLocal id queue) fit = row_edited (next_arrival s) refl refl refl refl refl id (moved_local queue (s.arrivals + 1))
+      (λ r k. record { doomed = k.doomed; held = k.held; routing = k.routing })
+  applied_consistent (RefusedLocal id queue refusal) fit = ready_stays id (local_refused queue refusal s)
+      (λ q. noted_kept (λ y. y.state) (λ y l. refl) (λ y. refl) (dests_for q s) (record { queue = queue; host = s.me }) refusal q)
       (λ q. noted_kept (λ y. y.doomed) (λ y l. refl) (λ y. refl) (dests_for q s) (record { queue = queue; host = s.me }) refusal q) fit
   applied_consistent (HeldFar id) fit = ready_stays id held_far (λ q. refl) (λ q. refl) fit
   applied_consistent (StageGot peer number path bytes) fit =
       let t = change_peer peer (λ p. record p { stage_got = number }) s in
       let part : OutPart E = record { path = path; bytes = bytes } in
-      same_core s (applied (StageGot peer number path bytes) s) (file_keeps (λ u. u.rows) (λ u fs n. refl) (λ u ts ps. refl) part t) (file_keeps (λ u. u.hands) (λ u fs n. refl) (λ u ts ps. refl) part t)
-      (file_keeps (λ u. u.promises) (λ u fs n. refl) (λ u ts ps. refl) part t) (file_keeps (λ u. u.me) (λ u fs n. refl) (λ u ts ps. refl) part t) (file_keeps (λ u. u.seq) (λ u fs n. refl) (λ u ts ps. refl) part t) c
+      same_core s (applied (StageGot peer number path bytes) s) (file_keeps (λ u. u.rows) (λ u fs n. refl) (λ u ts ps. refl) part t)
+      (file_keeps (λ u. u.hands) (λ u fs n. refl) (λ u ts ps. refl) part t)
+      (file_keeps (λ u. u.promises) (λ u fs n. refl) (λ u ts ps. refl) part t) (file_keeps (λ u. u.me) (λ u fs n. refl) (λ u ts ps. refl) part t)
+      (file_keeps (λ u. u.seq) (λ u fs n. refl) (λ u ts ps. refl) part t) c
   applied_consistent (StageGone peer number) fit = same_core s (applied (StageGone peer number) s) refl refl refl refl refl c
   applied_consistent (FileGone file) fit = same_core s (applied (FileGone file) s) refl refl refl refl refl c

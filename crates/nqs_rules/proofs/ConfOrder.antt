@@ -1,5 +1,6 @@
 -- The edits of queues, limits and complexes: a state in order stays so.
-use Rattle.std.proofs.Common.{◌≡◌, ℕ, ◌+◌, Bool, true, false, not, nat_lt, nat_le, List, [], ◌∷◌, ◌++◌, filter, length, position, unwrap_or, Option, None, Some, option_map, is_ok, Err, true≢false, refl, sym, ap, ◌∙◌, arith, if◌then◌else◌}
+use Rattle.std.proofs.Common.{◌≡◌, ℕ, ◌+◌, Bool, true, false, not, nat_lt, nat_le, List, [], ◌∷◌, ◌++◌, filter, length, position, unwrap_or, Option, None, Some}
+use Rattle.std.proofs.Common.{option_map, is_ok, Err, true≢false, refl, sym, ap, ◌∙◌, arith, if◌then◌else◌}
 use Rattle.std.proofs.lemmas.Bool.{and_parts, and_from, leb-true, leb-false, le-leb, lt-ltb, not-false}
 use Rattle.std.proofs.lemmas.List.{length-append}
 use Rattle.std.specs.List.{list_all}
@@ -10,16 +11,20 @@ use Rattle.nqs_types.specs.declared.ids.NamedDest.{NamedDest}
 use Rattle.nqs_types.specs.declared.queue.Kind.{Kind}
 use Rattle.nqs_types.specs.declared.queue.Kind.TheVariants.{Batch, Device, Pipe}
 use Rattle.nqs_types.specs.declared.edit.ConfEdit.{ConfEdit}
-use Rattle.nqs_types.specs.declared.edit.ConfEdit.TheVariants.{CreateBatchQueue, CreateDeviceQueue, CreatePipeQueue, DeleteQueue, EnableQueue, DisableQueue, StartQueue, StopQueue, PurgeQueue, SetPriority, SetRunLimit, AddDestination, RemoveDestination, SetDefaultQueue, SetNoDefaultQueue, SetPatience, SetRetryWait}
+use Rattle.nqs_types.specs.declared.edit.ConfEdit.TheVariants.{CreateBatchQueue, CreateDeviceQueue, CreatePipeQueue, DeleteQueue, EnableQueue, DisableQueue}
+use Rattle.nqs_types.specs.declared.edit.ConfEdit.TheVariants.{StartQueue, StopQueue, PurgeQueue, SetPriority, SetRunLimit, AddDestination, RemoveDestination}
+use Rattle.nqs_types.specs.declared.edit.ConfEdit.TheVariants.{SetDefaultQueue, SetNoDefaultQueue, SetPatience, SetRetryWait}
 use Rattle.nqs_types.specs.declared.edit.LimitsEdit.{LimitsEdit}
-use Rattle.nqs_types.specs.declared.edit.LimitsEdit.TheVariants.{SetUserLimit, SetCpuLimit, SetMemoryLimit, CreateComplex, DeleteComplex, AddQueue, RemoveQueue, SetComplexLimit, SetGlobalLimit}
+use Rattle.nqs_types.specs.declared.edit.LimitsEdit.TheVariants.{SetUserLimit, SetCpuLimit, SetMemoryLimit, CreateComplex, DeleteComplex, AddQueue, RemoveQueue}
+use Rattle.nqs_types.specs.declared.edit.LimitsEdit.TheVariants.{SetComplexLimit, SetGlobalLimit}
 use Rattle.nqs_rules.specs.Tests.{passes, same_dest}
 use Rattle.nqs_rules.specs.Causes.{Cause, first_refusal}
 use Rattle.nqs_rules.specs.Edits.{change_queue}
 use Rattle.nqs_rules.specs.Find.{host_at, dest_of, has_queue, find_queue, meant_dest}
 use Rattle.nqs_rules.specs.Format.{new_queue}
 use Rattle.nqs_rules.specs.Access.{without_name}
-use Rattle.nqs_rules.specs.Conf.{no_host_cause, at_most, is_conf_within, create_causes, conf_causes, dest_list, with_dest, without_dest, created_dests, add_queue, conf_applied, conf_edited, has_full_dests}
+use Rattle.nqs_rules.specs.Conf.{no_host_cause, at_most, is_conf_within, create_causes, conf_causes, dest_list, with_dest, without_dest, created_dests}
+use Rattle.nqs_rules.specs.Conf.{add_queue, conf_applied, conf_edited, has_full_dests}
 use Rattle.nqs_rules.specs.Limits.{is_limits_within, limits_causes, limits_applied, limits_edited, complex_edited, new_complex}
 use Rattle.nqs_rules.specs.InOrder.{IsInOrder, is_dest_right}
 use Rattle.nqs_rules.proofs.Sublists.{filter_part, part_length, part_all}
@@ -51,7 +56,8 @@ pub causes_behind : (cs ds : List Cause) → Allows (cs ++ ds) → Allows cs × 
 causes_behind [] ds h = (refl, h)
 causes_behind (c ∷ cs) ds h = by c.holds h (causes_behind cs ds)
   where
-    by : (b : Bool) → is_ok (if b then Err c.refusal else first_refusal (cs ++ ds)) ≡ true → (Allows (cs ++ ds) → Allows cs × Allows ds) → (is_ok (if b then Err c.refusal else first_refusal cs) ≡ true) × Allows ds
+    by : (b : Bool) → is_ok (if b then Err c.refusal else first_refusal (cs ++ ds)) ≡ true → (Allows (cs ++ ds) → Allows cs × Allows ds)
+        → (is_ok (if b then Err c.refusal else first_refusal cs) ≡ true) × Allows ds
     by true h rest = absurd (true≢false (sym h))
     by false h rest = rest h
 
@@ -68,7 +74,8 @@ module _ {E : Type 0} (s : State E) where
     where
       by : (o : Option ℕ) → position (name_eq d.host) s.site ≡ o → list_all (is_dest_right s) (dest_list (dest_of d.queue (option_map host_at o))) ≡ true
       by None e = refl
-      by (Some n) e = let p = position_at (name_eq d.host) s.site n e in and_from (nat_lt n (length s.site)) true (lt-ltb n (length s.site) (place_below s.site n p.value p.at)) refl
+      by (Some n) e = let p = position_at (name_eq d.host) s.site n e in and_from (nat_lt n (length s.site)) true
+          (lt-ltb n (length s.site) (place_below s.site n p.value p.at)) refl
 
   created_right : (o : Option NamedDest) → (list_all (is_dest_right s) (created_dests o s) ≡ true) × (nat_le (length (created_dests o s)) 16 ≡ true)
   created_right None = (refl, refl)
@@ -79,27 +86,44 @@ module _ {E : Type 0} (s : State E) where
       one (Some x) = refl
 
   module _ (h : IsInOrder s) where
-    created : (q : List ℕ) (kind : Kind) (priority run_limit : Option ℕ) (pipe_only : Bool) (dests : List Dest) → at_most 63 priority ≡ true → at_most 10000 run_limit ≡ true → list_all (is_dest_right s) dests ≡ true → nat_le (length dests) 16 ≡ true → Allows (create_causes q s)
+    created : (q : List ℕ) (kind : Kind) (priority run_limit : Option ℕ) (pipe_only : Bool) (dests : List Dest) → at_most 63 priority ≡ true
+        → at_most 10000 run_limit ≡ true → list_all (is_dest_right s) dests ≡ true → nat_le (length dests) 16 ≡ true → Allows (create_causes q s)
         → IsInOrder (add_queue (new_queue q kind priority run_limit pipe_only dests) s)
     created q kind priority run_limit pipe_only dests low few there short fit =
         let causes = none_holds (create_causes q s) fit in
         let full : nat_le 256 (length s.queues) ≡ false = causes.1.0 in
         let below = leb-false 256 (length s.queues) full in
         queue_added s (new_queue q kind priority run_limit pipe_only dests) h
-        (queue_right s (new_queue q kind priority run_limit pipe_only dests) (record { priority = stated 63 31 priority refl low; run_limit = stated 10000 1 run_limit refl few; user_limit = refl; access = refl; few_dests = short; dests = there; few_devices = refl; devices = refl; once = refl }))
+        (queue_right s (new_queue q kind priority run_limit pipe_only dests)
+        (record {
+          priority = stated 63 31 priority refl low;
+          run_limit = stated 10000 1 run_limit refl few;
+          user_limit = refl;
+          access = refl;
+          few_dests =
+              short;
+          dests = there;
+          few_devices = refl;
+          devices = refl;
+          once = refl;
+        }))
         causes.0 (lt-ltb (length s.queues) 256 (omega (arith, below)))
 
     params : IsParameters s
     params = parameters_are s h.parameters
 
     pub conf_order : (e : ConfEdit) → is_conf_within e ≡ true → Allows (conf_causes e s) → IsInOrder (conf_applied e s)
-    conf_order (CreateBatchQueue q priority run_limit pipe_only) sane fit = let p = and_parts (at_most 63 priority) (at_most 10000 run_limit) sane in created q Batch priority run_limit pipe_only [] p.0 p.1 refl refl fit
-    conf_order (CreateDeviceQueue q priority run_limit pipe_only) sane fit = let p = and_parts (at_most 63 priority) (at_most 10000 run_limit) sane in created q Device priority run_limit pipe_only [] p.0 p.1 refl refl fit
-    conf_order (CreatePipeQueue q priority run_limit pipe_only None) sane fit = let p = and_parts (at_most 63 priority) (at_most 10000 run_limit) sane in created q Pipe priority run_limit pipe_only [] p.0 p.1 refl refl fit
+    conf_order (CreateBatchQueue q priority run_limit pipe_only) sane fit = let p = and_parts (at_most 63 priority) (at_most 10000 run_limit) sane in
+        created q Batch priority run_limit pipe_only [] p.0 p.1 refl refl fit
+    conf_order (CreateDeviceQueue q priority run_limit pipe_only) sane fit = let p = and_parts (at_most 63 priority) (at_most 10000 run_limit) sane in
+        created q Device priority run_limit pipe_only [] p.0 p.1 refl refl fit
+    conf_order (CreatePipeQueue q priority run_limit pipe_only None) sane fit = let p = and_parts (at_most 63 priority) (at_most 10000 run_limit) sane in
+        created q Pipe priority run_limit pipe_only [] p.0 p.1 refl refl fit
     conf_order (CreatePipeQueue q priority run_limit pipe_only (Some d)) sane fit =
         let p = and_parts (at_most 63 priority) (at_most 10000 run_limit) sane in
         let there = created_right (Some d) in
-        created q Pipe priority run_limit pipe_only (created_dests (Some d) s) p.0 p.1 there.0 there.1 (causes_behind (no_host_cause d.host s ∷ []) (create_causes q s) fit).1
+        created q Pipe priority run_limit pipe_only (created_dests (Some d) s) p.0 p.1 there.0 there.1
+        (causes_behind (no_host_cause d.host s ∷ []) (create_causes q s) fit).1
     conf_order (DeleteQueue q) sane fit = queue_deleted s q h (none_holds (conf_causes (DeleteQueue q) s) fit).1.0
     conf_order (EnableQueue q) sane fit = queue_changed s q (conf_edited (EnableQueue q)) h (λ d. refl) (λ d found k. k)
     conf_order (DisableQueue q) sane fit = queue_changed s q (conf_edited (DisableQueue q)) h (λ d. refl) (λ d found k. k)
@@ -107,14 +131,37 @@ module _ {E : Type 0} (s : State E) where
     conf_order (StopQueue q) sane fit = queue_changed s q (conf_edited (StopQueue q)) h (λ d. refl) (λ d found k. k)
     conf_order (PurgeQueue q) sane fit = rows_purged s q h
     conf_order (SetPriority n q) sane fit = queue_changed s q (conf_edited (SetPriority n q)) h (λ d. refl) (λ d found k. let p = queue_is s d k in
-        queue_right s (conf_edited (SetPriority n q) d) (record { priority = sane; run_limit = p.run_limit; user_limit = p.user_limit; access = p.access; few_dests = p.few_dests; dests = p.dests; few_devices = p.few_devices; devices = p.devices; once = p.once }))
+        queue_right s (conf_edited (SetPriority n q) d) (record {
+          priority = sane;
+          run_limit = p.run_limit;
+          user_limit = p.user_limit;
+          access =
+              p.access;
+          few_dests = p.few_dests;
+          dests = p.dests;
+          few_devices = p.few_devices;
+          devices = p.devices;
+          once = p.once;
+        }))
     conf_order (SetRunLimit n q) sane fit = queue_changed s q (conf_edited (SetRunLimit n q)) h (λ d. refl) (λ d found k. let p = queue_is s d k in
-        queue_right s (conf_edited (SetRunLimit n q) d) (record { priority = p.priority; run_limit = sane; user_limit = p.user_limit; access = p.access; few_dests = p.few_dests; dests = p.dests; few_devices = p.few_devices; devices = p.devices; once = p.once }))
+        queue_right s (conf_edited (SetRunLimit n q) d) (record {
+          priority = p.priority;
+          run_limit = sane;
+          user_limit = p.user_limit;
+          access =
+              p.access;
+          few_dests = p.few_dests;
+          dests = p.dests;
+          few_devices = p.few_devices;
+          devices = p.devices;
+          once = p.once;
+        }))
     conf_order (AddDestination d q) sane fit =
         let full : passes has_full_dests (find_queue q s) ≡ false = (none_holds (conf_causes (AddDestination d q) s) fit).1.1.1.1.0 in
         added (meant_dest d s) (meant_right d) full
       where
-        added : (o : Option Dest) → list_all (is_dest_right s) (dest_list o) ≡ true → passes has_full_dests (find_queue q s) ≡ false → IsInOrder (change_queue q (with_dest o) s)
+        added : (o : Option Dest) → list_all (is_dest_right s) (dest_list o) ≡ true → passes has_full_dests (find_queue q s) ≡ false
+            → IsInOrder (change_queue q (with_dest o) s)
         added None there full = queue_changed s q (with_dest None) h (λ d. refl) (λ d found k. k)
         added (Some x) there full = queue_changed s q (with_dest (Some x)) h (λ d. refl) (λ d found k.
             let p = queue_is s d k in
@@ -153,14 +200,26 @@ module _ {E : Type 0} (s : State E) where
               devices = p.devices;
               once = p.once;
             }))
-    conf_order (SetDefaultQueue q) sane fit = with_parameters s (Some q) s.global_limit s.patience s.retry_wait h (not-false (has_queue q s) (none_holds (conf_causes (SetDefaultQueue q) s) fit).0) params.limit params.patience params.wait
+    conf_order (SetDefaultQueue q) sane fit = with_parameters s (Some q) s.global_limit s.patience s.retry_wait h
+        (not-false (has_queue q s) (none_holds (conf_causes (SetDefaultQueue q) s) fit).0) params.limit params.patience params.wait
     conf_order SetNoDefaultQueue sane fit = with_parameters s None s.global_limit s.patience s.retry_wait h refl params.limit params.patience params.wait
     conf_order (SetPatience n) sane fit = with_parameters s s.default_queue s.global_limit n s.retry_wait h params.queue params.limit sane params.wait
     conf_order (SetRetryWait n) sane fit = with_parameters s s.default_queue s.global_limit s.patience n h params.queue params.limit params.patience sane
 
     pub limits_order : (e : LimitsEdit) → is_limits_within e ≡ true → Allows (limits_causes e s) → IsInOrder (limits_applied e s)
     limits_order (SetUserLimit n q) sane fit = queue_changed s q (limits_edited (SetUserLimit n q)) h (λ d. refl) (λ d found k. let p = queue_is s d k in
-        queue_right s (limits_edited (SetUserLimit n q) d) (record { priority = p.priority; run_limit = p.run_limit; user_limit = sane; access = p.access; few_dests = p.few_dests; dests = p.dests; few_devices = p.few_devices; devices = p.devices; once = p.once }))
+        queue_right s (limits_edited (SetUserLimit n q) d) (record {
+          priority = p.priority;
+          run_limit = p.run_limit;
+          user_limit = sane;
+          access =
+              p.access;
+          few_dests = p.few_dests;
+          dests = p.dests;
+          few_devices = p.few_devices;
+          devices = p.devices;
+          once = p.once;
+        }))
     limits_order (SetCpuLimit n q) sane fit = queue_changed s q (limits_edited (SetCpuLimit n q)) h (λ d. refl) (λ d found k. k)
     limits_order (SetMemoryLimit n q) sane fit = queue_changed s q (limits_edited (SetMemoryLimit n q)) h (λ d. refl) (λ d found k. k)
     limits_order (CreateComplex c) sane fit =
@@ -176,7 +235,9 @@ module _ {E : Type 0} (s : State E) where
         and_from (nat_le d.limit 10000) (list_all (λ n. has_queue n s) (d.queues ++ q ∷ [])) p.0 (all-added (λ n. has_queue n s) d.queues q p.1 there))
     limits_order (RemoveQueue q c) sane fit = complex_changed s c (complex_edited (RemoveQueue q c)) h (λ d. refl) (λ d k.
         let p = and_parts (nat_le d.limit 10000) (list_all (λ n. has_queue n s) d.queues) k in
-        and_from (nat_le d.limit 10000) (list_all (λ n. has_queue n s) (without_name q d.queues)) p.0 (part_all (λ n. has_queue n s) (filter_part (λ n. not (name_eq q n)) d.queues) p.1))
+        and_from (nat_le d.limit 10000) (list_all (λ n. has_queue n s) (without_name q d.queues)) p.0
+        (part_all (λ n. has_queue n s) (filter_part (λ n. not (name_eq q n)) d.queues) p.1))
     limits_order (SetComplexLimit n c) sane fit = complex_changed s c (complex_edited (SetComplexLimit n c)) h (λ d. refl) (λ d k.
-        let p = and_parts (nat_le d.limit 10000) (list_all (λ q. has_queue q s) d.queues) k in and_from (nat_le n 10000) (list_all (λ q. has_queue q s) d.queues) sane p.1)
+        let p = and_parts (nat_le d.limit 10000) (list_all (λ q. has_queue q s) d.queues) k in
+        and_from (nat_le n 10000) (list_all (λ q. has_queue q s) d.queues) sane p.1)
     limits_order (SetGlobalLimit n) sane fit = with_parameters s s.default_queue n s.patience s.retry_wait h params.queue sane params.patience params.wait

@@ -1,5 +1,6 @@
 -- The edits of users, devices and requests: a state in order stays so.
-use Rattle.std.proofs.Common.{◌≡◌, ℕ, ◌+◌, ◌≤◌, true, false, not, nat_le, List, [], ◌∷◌, ◌++◌, map, find, length, Option, None, Some, true≢false, refl, sym, ap, ◌∙◌, arith}
+use Rattle.std.proofs.Common.{◌≡◌, ℕ, ◌+◌, ◌≤◌, true, false, not, nat_le, List, [], ◌∷◌, ◌++◌, map, find, length, Option, None, Some, true≢false, refl, sym, ap}
+use Rattle.std.proofs.Common.{◌∙◌, arith}
 use Rattle.std.proofs.lemmas.Bool.{and_parts, leb-true, leb-false, le-leb, lt-ltb, not-true, not-false, not_from_false}
 use Rattle.std.proofs.lemmas.List.{length-append, length-map}
 use Rattle.std.proofs.lemmas.Option.{same_Some}
@@ -17,7 +18,8 @@ use Rattle.nqs_types.specs.declared.queue.Access.{Access}
 use Rattle.nqs_types.specs.declared.queue.Access.TheVariants.{All, Users}
 use Rattle.nqs_types.specs.declared.queue.QueueDef.{QueueDef}
 use Rattle.nqs_types.specs.declared.edit.AccessEdit.{AccessEdit}
-use Rattle.nqs_types.specs.declared.edit.AccessEdit.TheVariants.{SetUnrestrictedAccess, SetNoAccess, AddUser, RemoveUser, AddManager, RemoveManager, AddOperator, RemoveOperator}
+use Rattle.nqs_types.specs.declared.edit.AccessEdit.TheVariants.{SetUnrestrictedAccess, SetNoAccess, AddUser, RemoveUser, AddManager, RemoveManager}
+use Rattle.nqs_types.specs.declared.edit.AccessEdit.TheVariants.{AddOperator, RemoveOperator}
 use Rattle.nqs_types.specs.declared.edit.DevicesEdit.{DevicesEdit}
 use Rattle.nqs_types.specs.declared.edit.DevicesEdit.TheVariants.{CreateDevice, DeleteDevice, EnableDevice, DisableDevice, SetForms, AddDevice, RemoveDevice}
 use Rattle.nqs_types.specs.declared.edit.RowsEdit.{RowsEdit}
@@ -28,7 +30,8 @@ use Rattle.nqs_rules.specs.Find.{has_queue, find_queue, has_device, find_row, ro
 use Rattle.nqs_rules.specs.Access.{access_causes, access_edited, with_user, without_user, without_name, has_full_list, is_full, add_name_causes}
 use Rattle.nqs_rules.specs.Applied.{access_applied}
 use Rattle.nqs_rules.specs.Devices.{devices_causes, devices_applied, device_edited, new_device, with_device, without_device, lists_device}
-use Rattle.nqs_rules.specs.Rows.{arrivals_used, named_causes, idle_causes, hold_causes, release_causes, move_causes, move_entry_causes, causes_of, rows_causes, rows_applied, change_meant, held_row, released_row, moved_row, with_priority, next_arrival, is_rows_within}
+use Rattle.nqs_rules.specs.Rows.{arrivals_used, named_causes, idle_causes, hold_causes, release_causes, move_causes, move_entry_causes, causes_of, rows_causes}
+use Rattle.nqs_rules.specs.Rows.{rows_applied, change_meant, held_row, released_row, moved_row, with_priority, next_arrival, is_rows_within}
 use Rattle.nqs_rules.specs.InOrder.{IsInOrder, are_distinct, is_user_list_short, is_queue_right}
 use Rattle.nqs_rules.proofs.Sublists.{filter_part, part_length, part_all, part_distinct}
 use Rattle.nqs_rules.proofs.KeyFacts.{all-both, all-added, all_from_none, any-without_other, distinct-added, length_without, turned}
@@ -51,16 +54,20 @@ few_names (n ∷ ns) ms distinct all =
     let less = length_without (name_eq n) ms a.0 in
     let rest = few_names ns (without_first (name_eq n) ms) d.1
     (all-both (λ m. list_any (name_eq m) ms) (λ m. not (name_eq n m)) (λ m. list_any (name_eq m) (without_first (name_eq n) ms))
-    (λ m there other. any-without_other name_eq (λ x. x) name_exact same_name m n ms (turned name_eq name_exact same_name n m (not-true (name_eq n m) other)) ∙ there)
+    (λ m there other. any-without_other name_eq (λ x. x) name_exact same_name m n ms (turned name_eq name_exact same_name n m (not-true (name_eq n m) other))
+    ∙ there)
     ns a.1 (all_from_none (λ m. not (name_eq n m)) (name_eq n) (λ m e. not_from_false (name_eq n m) e) ns (not-true (list_any (name_eq n) ns) d.0))) in
     omega (arith, less, rest)
 
-pub once_added : {E : Type 0} (s : State E) (x : List ℕ) (q : List ℕ) (d : QueueDef) → find (is_queue q) s.queues ≡ Some d → are_distinct name_eq d.devices ≡ true → passes (lists_device x) (find_queue q s) ≡ false → are_distinct name_eq (with_device x d).devices ≡ true
+pub once_added : {E : Type 0} (s : State E) (x : List ℕ) (q : List ℕ) (d : QueueDef) → find (is_queue q) s.queues ≡ Some d
+    → are_distinct name_eq d.devices ≡ true → passes (lists_device x) (find_queue q s) ≡ false → are_distinct name_eq (with_device x d).devices ≡ true
 once_added s x q d found once new = distinct-added name_eq name_exact same_name d.devices x (ap (passes (lists_device x)) (sym found) ∙ new) once
 
 module _ {E : Type 0} (s : State E) (P : State E → Type 0) where
   -- the row that is meant, with what lets its change be
-  pub meant : (id : Named) (causes : Row E → List Cause) (f : Row E → Row E) (t : State E) → ((rid : RequestId) (r : Row E) → find_row rid s ≡ Some r → Allows (causes r) → P (change_meant (Some rid) f t)) → Allows (named_causes id causes (meant_row id s)) → P (change_meant (meant_request id s) f t)
+  pub meant : (id : Named) (causes : Row E → List Cause) (f : Row E → Row E) (t : State E)
+      → ((rid : RequestId) (r : Row E) → find_row rid s ≡ Some r → Allows (causes r) → P (change_meant (Some rid) f t))
+      → Allows (named_causes id causes (meant_row id s)) → P (change_meant (meant_request id s) f t)
   meant id causes f t kept fit = of (meant_request id s) fit
     where
       at : (rid : RequestId) (o : Option (Row E)) → find_row rid s ≡ o → Allows (named_causes id causes o) → P (change_meant (Some rid) f t)
@@ -87,10 +94,22 @@ module _ {E : Type 0} (s : State E) (h : IsInOrder s) where
 
   -- the lists of users
 
-  with_access : (d : QueueDef) (access : Access) → is_queue_right s d ≡ true → is_user_list_short access ≡ true → is_queue_right s (record d { access = access }) ≡ true
+  with_access : (d : QueueDef) (access : Access) → is_queue_right s d ≡ true → is_user_list_short access ≡ true
+      → is_queue_right s (record d { access = access }) ≡ true
   with_access d access k few =
       let p = queue_is s d k in
-      queue_right s (record d { access = access }) (record { priority = p.priority; run_limit = p.run_limit; user_limit = p.user_limit; access = few; few_dests = p.few_dests; dests = p.dests; few_devices = p.few_devices; devices = p.devices; once = p.once })
+      queue_right s (record d { access = access }) (record {
+        priority = p.priority;
+        run_limit = p.run_limit;
+        user_limit = p.user_limit;
+        access =
+            few;
+        few_dests = p.few_dests;
+        dests = p.dests;
+        few_devices = p.few_devices;
+        devices = p.devices;
+        once = p.once;
+      })
 
   one_more : (names : List (List ℕ)) (name : List ℕ) → nat_le 256 (length names) ≡ false → nat_le (length (names ++ name ∷ [])) 256 ≡ true
   one_more names name room =
@@ -120,22 +139,40 @@ module _ {E : Type 0} (s : State E) (h : IsInOrder s) where
       let full : passes has_full_list (find_queue q s) ≡ false = (none_holds (access_causes (AddUser user q) s) fit).1.1.0 in
       queue_changed s q (access_edited (AddUser user q)) h (λ d. refl) (λ d found k.
       with_access d (with_user user d.access) k (user_added user d.access (ap (passes has_full_list) (sym found) ∙ full) (queue_is s d k).access))
-  access_order (RemoveUser user q) fit = queue_changed s q (access_edited (RemoveUser user q)) h (λ d. refl) (λ d found k. with_access d (without_user user d.access) k (user_removed user d.access (queue_is s d k).access))
-  access_order (AddManager user) fit = with_staff s (s.managers ++ user ∷ []) s.operators h (one_more s.managers user (none_holds (add_name_causes s.managers user) fit).1.0) short.operators
+  access_order (RemoveUser user q) fit = queue_changed s q (access_edited (RemoveUser user q)) h (λ d. refl)
+      (λ d found k. with_access d (without_user user d.access) k (user_removed user d.access (queue_is s d k).access))
+  access_order (AddManager user) fit = with_staff s (s.managers ++ user ∷ []) s.operators h
+      (one_more s.managers user (none_holds (add_name_causes s.managers user) fit).1.0) short.operators
   access_order (RemoveManager user) fit = with_staff s (without_name user s.managers) s.operators h (fewer_names s.managers user short.managers) short.operators
-  access_order (AddOperator user) fit = with_staff s s.managers (s.operators ++ user ∷ []) h short.managers (one_more s.operators user (none_holds (add_name_causes s.operators user) fit).1.0)
-  access_order (RemoveOperator user) fit = with_staff s s.managers (without_name user s.operators) h short.managers (fewer_names s.operators user short.operators)
+  access_order (AddOperator user) fit = with_staff s s.managers (s.operators ++ user ∷ []) h short.managers
+      (one_more s.operators user (none_holds (add_name_causes s.operators user) fit).1.0)
+  access_order (RemoveOperator user) fit = with_staff s s.managers (without_name user s.operators) h short.managers
+      (fewer_names s.operators user short.operators)
 
   -- devices
 
-  list_right : (d : QueueDef) (devices : List (List ℕ)) → is_queue_right s d ≡ true → nat_le (length devices) 64 ≡ true → list_all (λ n. has_device n s) devices ≡ true → are_distinct name_eq devices ≡ true → is_queue_right s (record d { devices = devices }) ≡ true
+  list_right : (d : QueueDef) (devices : List (List ℕ)) → is_queue_right s d ≡ true → nat_le (length devices) 64 ≡ true
+      → list_all (λ n. has_device n s) devices ≡ true → are_distinct name_eq devices ≡ true → is_queue_right s (record d { devices = devices }) ≡ true
   list_right d devices k few there once =
       let p = queue_is s d k in
-      queue_right s (record d { devices = devices }) (record { priority = p.priority; run_limit = p.run_limit; user_limit = p.user_limit; access = p.access; few_dests = p.few_dests; dests = p.dests; few_devices = few; devices = there; once = once })
+      queue_right s (record d { devices = devices }) (record {
+        priority = p.priority;
+        run_limit = p.run_limit;
+        user_limit = p.user_limit;
+        access =
+            p.access;
+        few_dests = p.few_dests;
+        dests = p.dests;
+        few_devices = few;
+        devices = there;
+        once = once;
+      })
 
-  few_listed : (devices : List (List ℕ)) → are_distinct name_eq devices ≡ true → list_all (λ n. has_device n s) devices ≡ true → nat_le (length devices) 64 ≡ true
+  few_listed : (devices : List (List ℕ)) → are_distinct name_eq devices ≡ true → list_all (λ n. has_device n s) devices ≡ true
+      → nat_le (length devices) 64 ≡ true
   few_listed devices once there =
-      let fewer = few_names devices (map (λ d. d.name) s.devices) once (all-both (λ n. has_device n s) (λ n. has_device n s) (λ n. list_any (name_eq n) (map (λ d. d.name) s.devices)) (λ n k l. list_any-map (λ d. d.name) (name_eq n) s.devices ∙ k) devices there there) in
+      let fewer = few_names devices (map (λ d. d.name) s.devices) once (all-both (λ n. has_device n s) (λ n. has_device n s)
+      (λ n. list_any (name_eq n) (map (λ d. d.name) s.devices)) (λ n k l. list_any-map (λ d. d.name) (name_eq n) s.devices ∙ k) devices there there) in
       let same = length-map s.devices (λ d. d.name) in
       let few = leb-true (length s.devices) 64 short.devices in
       le-leb (length devices) 64 (omega (arith, fewer, same, few))
@@ -162,7 +199,8 @@ module _ {E : Type 0} (s : State E) (h : IsInOrder s) where
       let part = filter_part (λ n. not (name_eq d n)) x.devices in
       let fewer = part_length part in
       let few = leb-true (length x.devices) 64 p.few_devices in
-      list_right x (without_name d x.devices) k (le-leb (length (without_name d x.devices)) 64 (omega (arith, fewer, few))) (part_all (λ n. has_device n s) part p.devices) (part_distinct name_eq part p.once))
+      list_right x (without_name d x.devices) k (le-leb (length (without_name d x.devices)) 64 (omega (arith, fewer, few)))
+      (part_all (λ n. has_device n s) part p.devices) (part_distinct name_eq part p.once))
 
   -- requests
 
@@ -175,7 +213,9 @@ module _ {E : Type 0} (s : State E) (h : IsInOrder s) where
   rows_order (MoveRequest id q) sane fit = meant s IsInOrder id (move_causes id q s) (moved_row q (s.arrivals + 1)) (next_arrival s) (λ rid r found allows.
       let p = may_move s id q r allows in
       row_moved s rid (moved_row q (s.arrivals + 1)) h (not_from_false (arrivals_used s) p.2) (λ x. refl) (λ x. refl) (λ x e k.
-      moved_right (next_arrival s) x k q (s.arrivals + 1) 0 (ap (λ y. y.state) (same_Some x r (sym e ∙ found)) ∙ p.1) p.0 (le-leb (s.arrivals + 1) (s.arrivals + 1) (omega arith)) refl)
+      moved_right (next_arrival s) x k q (s.arrivals + 1) 0 (ap (λ y. y.state) (same_Some x r (sym e ∙ found)) ∙ p.1) p.0
+      (le-leb (s.arrivals + 1) (s.arrivals + 1) (omega arith)) refl)
       (no_offer s rid h r found (ap is_routing p.1))) fit
   rows_order (ModifyRequest id n) sane fit = meant s IsInOrder id (idle_causes id) (with_priority n) s (λ rid r found allows.
-      row_changed s rid (with_priority n) h (λ q. refl) (λ q e k. priority_right s q k n sane) (λ q. refl) (no_offer s rid h r found (none_holds (idle_causes id r) allows).0)) fit
+      row_changed s rid (with_priority n) h (λ q. refl) (λ q e k. priority_right s q k n sane) (λ q. refl)
+      (no_offer s rid h r found (none_holds (idle_causes id r) allows).0)) fit

@@ -18,7 +18,8 @@ filled-stored (Ended id parts) = ap (Ended id) (parts-filled parts)
 filled-stored Boot = refl
 filled-stored c = refl
 
-parts-alike : (g : Extent → Extent) (parts : List (OutPart Extent)) (puts : List (List ℕ)) → filled_parts (map (map_part g) parts) puts ≡ filled_parts parts puts
+parts-alike : (g : Extent → Extent) (parts : List (OutPart Extent)) (puts : List (List ℕ))
+    → filled_parts (map (map_part g) parts) puts ≡ filled_parts parts puts
 parts-alike g [] puts = refl
 parts-alike g (part ∷ parts) [] = refl
 parts-alike g (part ∷ parts) (put ∷ puts) = ap (λ ps. record { path = part.path; bytes = put } ∷ ps) (parts-alike g parts puts)
@@ -47,7 +48,8 @@ module _ (c : Change Extent) (planned : Change (List ℕ)) (shape : map_change (
   read-planned f same = filled-read f c ∙ ap (filled c) same ∙ filled-planned
 
 -- what is filled into a plan's change is the step's change
-pub filled-plan : (done : Stepped Extent) (c : Change Extent) → Some (map_change (λ _. no_extent) c) ≡ (plan_of done).change → Some (filled c (plan_of done).puts) ≡ done.change
+pub filled-plan : (done : Stepped Extent) (c : Change Extent) → Some (map_change (λ _. no_extent) c) ≡ (plan_of done).change
+    → Some (filled c (plan_of done).puts) ≡ done.change
 filled-plan done c shape = by done.change shape
   where
     by : (o : Option (Change (List ℕ))) → Some (map_change (λ _. no_extent) c) ≡ option_map (map_change (λ _. no_extent)) o → Some (filled c (puts_of o)) ≡ o

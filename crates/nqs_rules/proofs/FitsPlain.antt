@@ -3,7 +3,8 @@ use Rattle.std.proofs.Common.{◌≡◌, ℕ, not, ◌&&◌, ◌||◌, nat_lt, n
 use Rattle.std.specs.List.{list_any}
 use Rattle.nqs_state.specs.State.{State}
 use Rattle.nqs_types.specs.declared.change.Change.{Change}
-use Rattle.nqs_types.specs.declared.change.Change.TheVariants.{Submitted, Deleted, Doomed, Started, Ended, Unlaunched, Boot, Edited, HandOpened, Promised, Accepted, Dropped, MovedLocal, RefusedLocal, HeldFar, StageGone, FileGone}
+use Rattle.nqs_types.specs.declared.change.Change.TheVariants.{Submitted, Deleted, Doomed, Started, Ended, Unlaunched, Boot, Edited, HandOpened, Promised}
+use Rattle.nqs_types.specs.declared.change.Change.TheVariants.{Accepted, Dropped, MovedLocal, RefusedLocal, HeldFar, StageGone, FileGone}
 use Rattle.nqs_types.specs.declared.edit.Edit.{Edit}
 use Rattle.nqs_types.specs.declared.edit.Edit.TheVariants.{Conf, Limits as LimitsOf, Access as AccessOf, Devices as DevicesOf, Rows as RowsOf}
 use Rattle.nqs_types.specs.declared.edit.ConfEdit.{ConfEdit}
@@ -29,7 +30,8 @@ use Rattle.nqs_rules.specs.Routing.{is_hand_to}
 use Rattle.nqs_rules.specs.Fits.{is_idle, runs, may_hop, is_next, is_open_number, is_site_host, device_fits, edit_causes, fits}
 use Rattle.nqs_rules.specs.Plain.{map_state}
 use Rattle.nqs_rules.specs.Stepped.{map_change}
-use Rattle.nqs_rules.proofs.FoundPlain.{row_passes-map, has_row-map, has_promise-map, has_stage-map, has_file-map, held_count-map, held_in-map, offered_count-map, is_busy-map, named_causes-map}
+use Rattle.nqs_rules.proofs.FoundPlain.{row_passes-map, has_row-map, has_promise-map, has_stage-map, has_file-map, held_count-map, held_in-map}
+use Rattle.nqs_rules.proofs.FoundPlain.{offered_count-map, is_busy-map, named_causes-map}
 
 module _ {E F : Type 0} (f : E → F) where
   conf_causes-map : (e : ConfEdit) (s : State E) → conf_causes e (map_state f s) ≡ conf_causes e s
@@ -71,7 +73,8 @@ module _ {E F : Type 0} (f : E → F) where
 
   -- whether a change fits
   pub fits-state : {G : Type 0} (c : Change G) (s : State E) → fits c (map_state f s) ≡ fits c s
-  fits-state (Submitted queue job script) s = ap (λ n. has_queue queue s && not (nat_le 10000 n) && nat_lt s.seq last_seq && not (arrivals_used s)) (held_count-map f s)
+  fits-state (Submitted queue job script) s = ap (λ n. has_queue queue s && not (nat_le 10000 n) && nat_lt s.seq last_seq && not (arrivals_used s))
+      (held_count-map f s)
   fits-state (Deleted id) s = row_passes-map f is_idle id s
   fits-state (Doomed id) s = row_passes-map f runs id s
   fits-state (Started id device) s = (λ j. row_passes-map f is_ready id s j && device-map device j)
@@ -82,10 +85,12 @@ module _ {E F : Type 0} (f : E → F) where
   fits-state (Ended id parts) s = row_passes-map f runs id s
   fits-state (Unlaunched id) s = row_passes-map f runs id s
   fits-state (Edited e) s = ap (λ cs. is_ok (first_refusal cs)) (edit_causes-map e s)
-  fits-state (HandOpened peer number id queue since) s = ap (λ b. b && passes (is_next number) (find_peer peer s) && not (list_any (is_hand_to peer) s.hands)) (row_passes-map f may_hop id s)
+  fits-state (HandOpened peer number id queue since) s = ap (λ b. b && passes (is_next number) (find_peer peer s) && not (list_any (is_hand_to peer) s.hands))
+      (row_passes-map f may_hop id s)
   fits-state (Promised peer number queue c script) s =
       (λ j. has_queue queue s && passes (is_open_number number) (find_peer peer s) && not (has_promise-map f peer number s j) && is_site_host c.id.host s
-      && (not (has_row-map f c.id s j) && (not (same_host s.me c.id.host) || nat_le c.id.seq s.seq)) && not (nat_le 10000 (offered_count-map f peer s j)) && not (arrivals_used s))
+      && (not (has_row-map f c.id s j) && (not (same_host s.me c.id.host) || nat_le c.id.seq s.seq)) && not (nat_le 10000 (offered_count-map f peer s j))
+      && not (arrivals_used s))
   fits-state (Accepted peer number) s = has_promise-map f peer number s
   fits-state (Dropped peer number) s = has_promise-map f peer number s
   fits-state (MovedLocal id queue) s = ap (λ b. b && has_queue queue s && not (arrivals_used s)) (row_passes-map f may_hop id s)

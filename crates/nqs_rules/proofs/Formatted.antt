@@ -14,8 +14,13 @@ new_peers (name ∷ site) = new_peers site
 
 pub formatted_order : {E : Type 0} (me : HostId) (site : List (List ℕ)) → me.0 < length site → length site ≤ 16 → IsInOrder (formatted {E = E} me site)
 formatted_order me site among few = record {
-  site = chained (nat_le 1 (length site)) (nat_le (length site) 16 ∷ nat_lt me.0 (length site) ∷ (length (map (λ _. new_peer) site) == length site) ∷ [])
-      (le-leb 1 (length site) (omega arith), (le-leb (length site) 16 few, (lt-ltb me.0 (length site) among, (eq-eqb _ (length site) (length-map site (λ _. new_peer)), tt))));
+  site = chained (nat_le 1 (length site)) (nat_le (length site) 16 ∷ nat_lt me.0 (length site) ∷ (length (map (λ _. new_peer) site) == length site) ∷ []) (
+    le-leb 1 (length site) (omega arith),
+    (
+      le-leb (length site) 16 few,
+      (lt-ltb me.0 (length site) among, (eq-eqb _ (length site) (length-map site (λ _. new_peer)), tt)),
+    ),
+  );
   parameters = refl;
   short = refl;
   keys = refl;

@@ -50,7 +50,8 @@ module _ {E F : Type 0} (f : E → F) where
 
   -- rows, and promises of other hosts
   pub offered_count-map : (peer : HostId) (s : State E)
-      → length (map_state f s).rows + length (filter (λ p. not (is_promise_of peer p)) (map_state f s).promises) ≡ length s.rows + length (filter (λ p. not (is_promise_of peer p)) s.promises)
+      → length (map_state f s).rows + length (filter (λ p. not (is_promise_of peer p)) (map_state f s).promises)
+      ≡ length s.rows + length (filter (λ p. not (is_promise_of peer p)) s.promises)
   offered_count-map peer s = (λ j. length-map s.rows (map_row f) j + count-map (map_promise f) (λ p. not (is_promise_of peer p)) s.promises j)
 
   pub is_busy-map : (device : List ℕ) (s : State E) → is_busy device (map_state f s) ≡ is_busy device s
@@ -63,10 +64,12 @@ module _ {E F : Type 0} (f : E → F) where
       by None = refl
       by (Some r) = find_row-map r s
 
-  named-map : (id : Named) (g : Row F → List Cause) (o : Option (Row E)) → named_causes id g (option_map (map_row f) o) ≡ named_causes id (λ r. g (map_row f r)) o
+  named-map : (id : Named) (g : Row F → List Cause) (o : Option (Row E)) → named_causes id g (option_map (map_row f) o)
+      ≡ named_causes id (λ r. g (map_row f r)) o
   named-map id g None = refl
   named-map id g (Some r) = refl
 
   -- causes about a request that is named
-  pub named_causes-map : (id : Named) (g : Row F → List Cause) (s : State E) → named_causes id g (meant_row id (map_state f s)) ≡ named_causes id (λ r. g (map_row f r)) (meant_row id s)
+  pub named_causes-map : (id : Named) (g : Row F → List Cause) (s : State E)
+      → named_causes id g (meant_row id (map_state f s)) ≡ named_causes id (λ r. g (map_row f r)) (meant_row id s)
   named_causes-map id g s = ap (named_causes id g) (meant_row-map id s) ∙ named-map id g (meant_row id s)

@@ -1,5 +1,6 @@
 -- The changes of handovers: a state in order stays so.
-use Rattle.std.proofs.Common.{◌≡◌, ℕ, ◌+◌, ◌-◌, Bool, true, false, cond, not, ◌||◌, ◌==◌, nat_lt, nat_le, List, [], ◌∷◌, ◌++◌, map, filter, find, length, Option, None, Some, option_map, true≢false, refl, sym, ap, ◌∙◌, arith, if◌then◌else◌}
+use Rattle.std.proofs.Common.{◌≡◌, ℕ, ◌+◌, ◌-◌, Bool, true, false, cond, not, ◌||◌, ◌==◌, nat_lt, nat_le, List, [], ◌∷◌, ◌++◌, map, filter, find, length}
+use Rattle.std.proofs.Common.{Option, None, Some, option_map, true≢false, refl, sym, ap, ◌∙◌, arith, if◌then◌else◌}
 use Rattle.std.proofs.lemmas.Bool.{and_parts, and_from, leb-true, leb-false, le-leb, lt-leb, ltb-true, lt-ltb, not-true, not_from_false, eqb-true}
 use Rattle.std.proofs.lemmas.Option.{same_Some}
 use Rattle.std.specs.List.{list_any, list_all}
@@ -24,14 +25,17 @@ use Rattle.nqs_rules.specs.Edits.{change_row, change_peer}
 use Rattle.nqs_rules.specs.Rows.{arrivals_used}
 use Rattle.nqs_rules.specs.Routing.{is_hand_to, close, dests_for, refusal_noted}
 use Rattle.nqs_rules.specs.Sane.{is_sane_job, is_sane_id, is_sane_carried}
-use Rattle.nqs_rules.specs.Applied.{committed, new_row, routing_row, requeued_row, drop_hand, hand_opened, hand_committed, hand_refused, hand_silent, hands_silent, is_promise_of, drop_promise, add_promised, accepted, dropped, promised}
+use Rattle.nqs_rules.specs.Applied.{committed, new_row, routing_row, requeued_row, drop_hand, hand_opened, hand_committed, hand_refused, hand_silent}
+use Rattle.nqs_rules.specs.Applied.{hands_silent, is_promise_of, drop_promise, add_promised, accepted, dropped, promised}
 use Rattle.nqs_rules.specs.Fits.{is_offered_hand, row_passes, hand_passes, may_hop, is_next, is_open_number, is_site_host, is_unknown, offer_full, are_offered}
-use Rattle.nqs_rules.specs.InOrder.{IsInOrder, same_number, is_id_right, is_hand_given, is_peer_right, is_promise_open, is_row_right, is_hand_right, is_routing_row, is_promise_right}
+use Rattle.nqs_rules.specs.InOrder.{IsInOrder, same_number, is_id_right, is_hand_given, is_peer_right, is_promise_open, is_row_right, is_hand_right}
+use Rattle.nqs_rules.specs.InOrder.{is_routing_row, is_promise_right}
 use Rattle.nqs_rules.proofs.Chains.{each, implied}
 use Rattle.nqs_rules.proofs.Sublists.{filter_part}
 use Rattle.nqs_rules.proofs.ListFacts.{found_passes, list_all-found, list_all-weaker}
 use Rattle.nqs_rules.proofs.ListMaps.{list_any-map}
-use Rattle.nqs_rules.proofs.KeyFacts.{all_get, place_below, any_found, none_found, find-changed, find-without_other, gone_without, all_from_none, key_gone, key_gone_behind, length_without}
+use Rattle.nqs_rules.proofs.KeyFacts.{all_get, place_below, any_found, none_found, find-changed, find-without_other, gone_without, all_from_none, key_gone}
+use Rattle.nqs_rules.proofs.KeyFacts.{key_gone_behind, length_without}
 use Rattle.nqs_rules.proofs.StateFacts.{sites_are, parameters_are, short_are, keys_are}
 use Rattle.nqs_rules.proofs.RowFacts.{same_it, same_peer_number, Keeps, row_kept, IsRow, row_is, IsPromise, promise_is, promise_right}
 use Rattle.nqs_rules.proofs.RowsOrder.{IsHand, row_dropped, row_changed, row_added, hand_is, hand_right}
@@ -52,7 +56,8 @@ offer_or_none (Some x) h = h
 module _ {E : Type 0} where
   -- what is known of a peer and of a hand that a change speaks of
 
-  pub found_peer : (test : Peer → Bool) (host : HostId) (s : State E) → passes test (find_peer host s) ≡ true → (p : Peer) × (find_peer host s ≡ Some p) × (test p ≡ true)
+  pub found_peer : (test : Peer → Bool) (host : HostId) (s : State E) → passes test (find_peer host s) ≡ true
+      → (p : Peer) × (find_peer host s ≡ Some p) × (test p ≡ true)
   found_peer test host s h = of (find_peer host s) refl h
     where
       of : (o : Option Peer) → find_peer host s ≡ o → passes test o ≡ true → (p : Peer) × (find_peer host s ≡ Some p) × (test p ≡ true)
@@ -79,48 +84,62 @@ module _ {E : Type 0} where
     routes q e = ap (passes is_routing_row) (sym e) ∙ implied (is_offered x.phase) (passes is_routing_row (find_row x.id s)) is.stands offered
 
     pub committed_order : IsInOrder (hand_committed k (Some x) s)
-    committed_order = row_dropped (record s { hands = change_first (is_hand k) committed s.hands }) x.id (hand_changed s k h) (offer_committed (is_hand k) x offered s.hands found h.offers)
+    committed_order = row_dropped (record s { hands = change_first (is_hand k) committed s.hands }) x.id (hand_changed s k h)
+        (offer_committed (is_hand k) x offered s.hands found h.offers)
 
     requeued : IsInOrder (change_row x.id requeued_row (drop_hand k s))
-    requeued = row_changed (drop_hand k s) x.id requeued_row (hand_dropped s k h) (λ q. refl) (λ q e right. requeued_right (drop_hand k s) q right (ap is_running (routing_is q.state (routes q e)))) (λ q. refl) (offer_gone (is_hand k) x offered s.hands found h.offers)
+    requeued = row_changed (drop_hand k s) x.id requeued_row (hand_dropped s k h) (λ q. refl)
+        (λ q e right. requeued_right (drop_hand k s) q right (ap is_running (routing_is q.state (routes q e)))) (λ q. refl)
+        (offer_gone (is_hand k) x offered s.hands found h.offers)
 
     pub refused_order : (refusal : ℕ) → IsInOrder (hand_refused k refusal (Some x) s)
     refused_order refusal =
         let dest : Dest = record { queue = x.queue; host = x.peer } in
-        row_changed (drop_hand k s) x.id (λ r. refusal_noted (dests_for r s) dest refusal (requeued_row r)) (hand_dropped s k h) (λ q. noted_kept (λ y. y.id) (λ y l. refl) (λ y. refl) (dests_for q s) dest refusal (requeued_row q))
-        (λ q e right. noted_right (drop_hand k s) (requeued_row q) (requeued_right (drop_hand k s) q right (ap is_running (routing_is q.state (routes q e)))) (dests_for q s) dest refusal peer_known)
-        (λ q. noted_kept (λ y. y.arrival) (λ y l. refl) (λ y. refl) (dests_for q s) dest refusal (requeued_row q)) (offer_gone (is_hand k) x offered s.hands found h.offers)
+        row_changed (drop_hand k s) x.id (λ r. refusal_noted (dests_for r s) dest refusal (requeued_row r)) (hand_dropped s k h)
+        (λ q. noted_kept (λ y. y.id) (λ y l. refl) (λ y. refl) (dests_for q s) dest refusal (requeued_row q))
+        (λ q e right. noted_right (drop_hand k s) (requeued_row q) (requeued_right (drop_hand k s) q right (ap is_running (routing_is q.state (routes q e))))
+        (dests_for q s) dest refusal peer_known)
+        (λ q. noted_kept (λ y. y.arrival) (λ y l. refl) (λ y. refl) (dests_for q s) dest refusal (requeued_row q))
+        (offer_gone (is_hand k) x offered s.hands found h.offers)
 
     pub silent_one : (until : ℕ) → IsInOrder (hand_silent until k (Some x) s)
-    silent_one until = peer_counted (change_row x.id requeued_row (drop_hand k s)) k.peer (λ p. record p { wait = until }) requeued (λ p e. record { next = omega arith; stage_next = omega arith }) (λ p. refl)
+    silent_one until = peer_counted (change_row x.id requeued_row (drop_hand k s)) k.peer (λ p. record p { wait = until }) requeued
+        (λ p e. record { next = omega arith; stage_next = omega arith }) (λ p. refl)
 
   -- hands of offers that are taken back one after the other
 
-  pub still_offered : (s : State E) → IsInOrder s → (k l : PeerNumber) → not_committed (find (is_hand l) s.hands) ≡ true → not_committed (find (is_hand l) (without_first (is_hand k) s.hands)) ≡ true
+  pub still_offered : (s : State E) → IsInOrder s → (k l : PeerNumber) → not_committed (find (is_hand l) s.hands) ≡ true
+      → not_committed (find (is_hand l) (without_first (is_hand k) s.hands)) ≡ true
   still_offered s h k l opened = by (peer_number_eq l k) refl
     where
       by : (b : Bool) → peer_number_eq l k ≡ b → not_committed (find (is_hand l) (without_first (is_hand k) s.hands)) ≡ true
       by true e = ap (λ m. not_committed (find (is_hand m) (without_first (is_hand k) s.hands))) (peer_number_exact l k e)
-          ∙ ap not_committed (none_found (is_hand k) (without_first (is_hand k) s.hands) (gone_without peer_number_eq hand_key peer_number_exact same_peer_number k s.hands (keys_are s h.keys).hands))
+          ∙ ap not_committed (none_found (is_hand k) (without_first (is_hand k) s.hands)
+          (gone_without peer_number_eq hand_key peer_number_exact same_peer_number k s.hands (keys_are s h.keys).hands))
       by false e = ap not_committed (find-without_other peer_number_eq hand_key peer_number_exact same_peer_number l k s.hands e) ∙ opened
 
-  silent_all : (until : ℕ) (ks : List PeerNumber) (s : State E) → IsInOrder s → list_all (λ k. not_committed (find_hand k.peer k.number s)) ks ≡ true → IsInOrder (hands_silent until ks s)
+  silent_all : (until : ℕ) (ks : List PeerNumber) (s : State E) → IsInOrder s → list_all (λ k. not_committed (find_hand k.peer k.number s)) ks ≡ true
+      → IsInOrder (hands_silent until ks s)
   silent_all until [] s h all = h
   silent_all until (k ∷ ks) s h all =
       let p = and_parts (not_committed (find_hand k.peer k.number s)) (list_all (λ l. not_committed (find_hand l.peer l.number s)) ks) all in
       of (find_hand k.peer k.number s) refl p.0 p.1 (silent_all until ks)
     where
       of : (o : Option Hand) → find_hand k.peer k.number s ≡ o → not_committed o ≡ true → list_all (λ l. not_committed (find_hand l.peer l.number s)) ks ≡ true
-          → ((t : State E) → IsInOrder t → list_all (λ l. not_committed (find_hand l.peer l.number t)) ks ≡ true → IsInOrder (hands_silent until ks t)) → IsInOrder (hands_silent until ks (hand_silent until k o s))
+          → ((t : State E) → IsInOrder t → list_all (λ l. not_committed (find_hand l.peer l.number t)) ks ≡ true → IsInOrder (hands_silent until ks t))
+          → IsInOrder (hands_silent until ks (hand_silent until k o s))
       of None e opened others rest = rest s h others
       of (Some x) e opened others rest = rest (hand_silent until k (Some x) s) (silent_one s h k x e opened until)
-          (list_all-weaker (λ l. not_committed (find_hand l.peer l.number s)) (λ l. not_committed (find (is_hand l) (without_first (is_hand k) s.hands))) (λ l. still_offered s h k l) ks others)
+          (list_all-weaker (λ l. not_committed (find_hand l.peer l.number s)) (λ l. not_committed (find (is_hand l) (without_first (is_hand k) s.hands)))
+          (λ l. still_offered s h k l) ks others)
 
   pub silent_order : (until : ℕ) (ks : List PeerNumber) (s : State E) → IsInOrder s → are_offered ks s ≡ true → IsInOrder (hands_silent until ks s)
-  silent_order until ks s h all = silent_all until ks s h (list_all-weaker (λ k. hand_passes is_offered_hand k.peer k.number s) (λ k. not_committed (find_hand k.peer k.number s)) (λ k. offer_or_none (find_hand k.peer k.number s)) ks all)
+  silent_order until ks s h all = silent_all until ks s h (list_all-weaker (λ k. hand_passes is_offered_hand k.peer k.number s)
+      (λ k. not_committed (find_hand k.peer k.number s)) (λ k. offer_or_none (find_hand k.peer k.number s)) ks all)
 
   -- a handover is opened
-  pub opened_order : (s : State E) → IsInOrder s → (peer : HostId) (number : ℕ) (id : RequestId) (queue : List ℕ) (since : ℕ) → row_passes may_hop id s ≡ true → passes (is_next number) (find_peer peer s) ≡ true → list_any (is_hand_to peer) s.hands ≡ false → IsInOrder (hand_opened peer number id queue since s)
+  pub opened_order : (s : State E) → IsInOrder s → (peer : HostId) (number : ℕ) (id : RequestId) (queue : List ℕ) (since : ℕ) → row_passes may_hop id s ≡ true
+      → passes (is_next number) (find_peer peer s) ≡ true → list_any (is_hand_to peer) s.hands ≡ false → IsInOrder (hand_opened peer number id queue since s)
   opened_order s h peer number id queue since hop next free =
       let r = found_row may_hop id s hop in
       let may = and_parts (is_ready r.0) (nat_lt r.0.hops 32) r.2 in
@@ -135,12 +154,14 @@ module _ {E : Type 0} where
       let a : IsInOrder s1 = row_changed s id routing_row h (λ q. refl) (λ q e k.
       let is : q ≡ r.0 = same_Some q r.0 (sym e ∙ r.1) in
       routing_right s q k (ready_queued q (ap is_ready is ∙ may.0)) (ap (λ y. nat_lt y.hops 32) is ∙ may.1)) (λ q. refl) unrouted in
-      let b : IsInOrder s2 = peer_counted s1 peer f a (λ q e. let is : q.next ≡ p.0.next = ap (λ y. y.next) (same_Some q p.0 (sym e ∙ p.1)) in record { next = omega (arith, is, same); stage_next = omega arith }) (λ q. refl) in
+      let b : IsInOrder s2 = peer_counted s1 peer f a (λ q e. let is : q.next ≡ p.0.next = ap (λ y. y.next) (same_Some q p.0 (sym e ∙ p.1)) in
+      record { next = omega (arith, is, same); stage_next = omega arith }) (λ q. refl) in
       let key : id ≡ r.0.id = id_exact id r.0.id (found_passes (is_row id) s.rows r.0 r.1) in
       let right : IsRow s r.0 = row_is s r.0 (list_all-found (is_row_right s) (is_row id) s.rows r.0 h.rows r.1) in
       hand_added s2 x b (hand_right s2 x (record {
         id = ap (is_id_right s) key ∙ right.id;
-        given = ap (passes (is_hand_given number)) (get-changed peer.0 f s.peers ∙ ap (option_map f) p.1) ∙ given_next number (ap (nat_le 1) (sym same) ∙ counts);
+        given = ap (passes (is_hand_given number)) (get-changed peer.0 f s.peers ∙ ap (option_map f) p.1)
+            ∙ given_next number (ap (nat_le 1) (sym same) ∙ counts);
         stands = ap (passes is_routing_row) (find-changed (is_row id) routing_row (λ q. refl) s.rows ∙ ap (option_map routing_row) r.1);
       })) free unrouted refl
 
@@ -152,11 +173,14 @@ module _ {E : Type 0} where
   others_only peer (p ∷ ps) = by (is_promise_of peer p) refl (others_only peer ps)
     where
       by : (b : Bool) → is_promise_of peer p ≡ b → list_all (λ q. not (is_promise_of peer q)) (filter (λ q. not (is_promise_of peer q)) ps) ≡ true
-          → list_all (λ q. not (is_promise_of peer q)) (cond (not b) (p ∷ filter (λ q. not (is_promise_of peer q)) ps) (filter (λ q. not (is_promise_of peer q)) ps)) ≡ true
+          → list_all (λ q. not (is_promise_of peer q)) (cond (not b) (p ∷ filter (λ q. not (is_promise_of peer q)) ps)
+          (filter (λ q. not (is_promise_of peer q)) ps)) ≡ true
       by true e rest = rest
-      by false e rest = and_from (not (is_promise_of peer p)) (list_all (λ q. not (is_promise_of peer q)) (filter (λ q. not (is_promise_of peer q)) ps)) (not_from_false (is_promise_of peer p) e) rest
+      by false e rest = and_from (not (is_promise_of peer p)) (list_all (λ q. not (is_promise_of peer q)) (filter (λ q. not (is_promise_of peer q)) ps))
+          (not_from_false (is_promise_of peer p) e) rest
 
-  pub promised_order : (s : State E) → IsInOrder s → (peer : HostId) (number : ℕ) (queue : List ℕ) (c : Carried) (script : E) → is_sane_carried c ≡ true → has_queue queue s ≡ true → passes (is_open_number number) (find_peer peer s) ≡ true → is_site_host c.id.host s ≡ true
+  pub promised_order : (s : State E) → IsInOrder s → (peer : HostId) (number : ℕ) (queue : List ℕ) (c : Carried) (script : E) → is_sane_carried c ≡ true
+      → has_queue queue s ≡ true → passes (is_open_number number) (find_peer peer s) ≡ true → is_site_host c.id.host s ≡ true
       → is_unknown c.id s ≡ true → offer_full peer s ≡ false → arrivals_used s ≡ false → IsInOrder (promised peer number queue c script s)
   promised_order s h peer number queue c script sane there opens host unknown full used =
       let unused : nat_le last_u64 s.arrivals ≡ false = used in
@@ -180,11 +204,13 @@ module _ {E : Type 0} where
       let as_often : c.lost ≡ c.starts = eqb-true c.lost c.starts values.1.1.1.0 in
       let fewer = ltb-true c.starts 65535 values.1.1.0 in
       promise_added s3 p d (promise_right s3 p (record {
-        row = new_row_right s3 c queue (s.arrivals + 1) script (and_from (is_site_host c.id.host s) (is_sane_id c.id) host values.0) (and_parts (not (has_row c.id s)) (not (same_host s.me c.id.host) || nat_le c.id.seq s.seq) unknown).1 values.1.0 there
+        row = new_row_right s3 c queue (s.arrivals + 1) script (and_from (is_site_host c.id.host s) (is_sane_id c.id) host values.0)
+            (and_parts (not (has_row c.id s)) (not (same_host s.me c.id.host) || nat_le c.id.seq s.seq) unknown).1 values.1.0 there
             (le-leb (s.arrivals + 1) (s.arrivals + 1) (omega arith)) (sym as_often) (lt-ltb c.lost 65535 (omega (arith, fewer, as_often))) values.1.1.1.1.0;
         queued = refl;
         some = le-leb 1 number (omega (arith, some));
-        opens = ap (passes (is_promise_open number)) (get-changed peer.0 (close (number - 1)) s.peers ∙ ap (option_map (close (number - 1))) found.1) ∙ not_from_false (nat_le number (number - 1)) (lt-leb number (number - 1) (omega (arith, some)));
+        opens = ap (passes (is_promise_open number)) (get-changed peer.0 (close (number - 1)) s.peers ∙ ap (option_map (close (number - 1))) found.1)
+            ∙ not_from_false (nat_le number (number - 1)) (lt-leb number (number - 1) (omega (arith, some)));
       })) (others_only peer s.promises) (arrival_new s2 b) (lt-ltb (held_count s3) 10000 (omega (arith, free)))
 
   -- the promise that a change speaks of goes, and its peer has no other
@@ -193,8 +219,10 @@ module _ {E : Type 0} where
     key = peer_number_exact k (promise_key p) (found_passes (is_promise k) s.promises p found)
 
     alone : list_all (λ q. not (is_promise_of k.peer q)) (without_first (is_promise k) s.promises) ≡ true
-    alone = all_from_none (λ q. not (is_promise_of k.peer q)) (is_promise_of k.peer) (λ q e. not_from_false (is_promise_of k.peer q) e) (without_first (is_promise k) s.promises)
-        (ap (λ m. list_any (is_promise_of m.peer) (without_first (is_promise k) s.promises)) key ∙ sym (list_any-map (λ q. q.peer) (same_host p.peer) (without_first (is_promise k) s.promises))
+    alone = all_from_none (λ q. not (is_promise_of k.peer q)) (is_promise_of k.peer) (λ q e. not_from_false (is_promise_of k.peer q) e)
+        (without_first (is_promise k) s.promises)
+        (ap (λ m. list_any (is_promise_of m.peer) (without_first (is_promise k) s.promises)) key
+        ∙ sym (list_any-map (λ q. q.peer) (same_host p.peer) (without_first (is_promise k) s.promises))
         ∙ key_gone same_host (λ q. q.peer) same_host_exact (λ m. same_it m.0) (is_promise k) s.promises p found h.promisers)
 
     pub dropped_order : IsInOrder (dropped k s)
@@ -215,13 +243,15 @@ module _ {E : Type 0} where
             let less = length_without (is_promise k) s.promises (any_found (is_promise k) s.promises p found) in
             let held : nat_le (length s.rows + length s.promises) 10000 ≡ true = (short_are s h.short).held in
             let few = leb-true (length s.rows + length s.promises) 10000 held in
-            row_added t (requeued_row p.row) (promise_dropped s k h) (lt-ltb (held_count t) 10000 (omega (arith, less, few))) (requeued_right t p.row (row_kept s t keeps p.row q.row) (ap is_running (queued_is p.row.state q.queued))) new
+            row_added t (requeued_row p.row) (promise_dropped s k h) (lt-ltb (held_count t) 10000 (omega (arith, less, few)))
+            (requeued_right t p.row (row_kept s t keeps p.row q.row) (ap is_running (queued_is p.row.state q.queued))) new
             (key_gone_behind same_number (λ m. m.row.arrival) number_exact same_it (is_promise k) (map (λ r. r.arrival) s.rows) s.promises p found h.arrivals)
 
         by : (b : Bool) → has_row p.row.id s ≡ b → IsInOrder (if b then t else record t { rows = s.rows ++ requeued_row p.row ∷ [] })
         by true e = promise_dropped s k h
         by false e = more e
 
-        same : (b : Bool) → list_all (λ m. not (is_promise_of k.peer m)) (if b then t else record t { rows = s.rows ++ requeued_row p.row ∷ [] }).promises ≡ true
+        same : (b : Bool) → list_all (λ m. not (is_promise_of k.peer m)) (if b then t else record t { rows = s.rows ++ requeued_row p.row ∷ [] }).promises
+            ≡ true
         same true = alone
         same false = alone

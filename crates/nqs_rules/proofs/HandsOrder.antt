@@ -1,5 +1,6 @@
 -- Changes of handovers: a state in order stays so.
-use Rattle.std.proofs.Common.{◌≡◌, ◌+◌, Bool, true, false, cond, not, ◌&&◌, ◌==◌, nat_le, List, [], ◌∷◌, ◌++◌, map, filter, find, length, Some, suc, refl, sym, ap, ◌∙◌, arith, if◌then◌else◌}
+use Rattle.std.proofs.Common.{◌≡◌, ◌+◌, Bool, true, false, cond, not, ◌&&◌, ◌==◌, nat_le, List, [], ◌∷◌, ◌++◌, map, filter, find, length, Some, suc, refl, sym}
+use Rattle.std.proofs.Common.{ap, ◌∙◌, arith, if◌then◌else◌}
 use Rattle.std.proofs.lemmas.Bool.{and_parts, and_from, leb-true, le-leb, not-true, not_from_false, or_parts, or_from, and_left}
 use Rattle.std.proofs.lemmas.List.{map-append, length-append}
 use Rattle.std.proofs.lemmas.List.Elements.{filter-append}
@@ -30,98 +31,126 @@ use Rattle.nqs_rules.proofs.RowsOrder.{is_no_offer_of, hand_is, hand_right}
 -- offers
 
 -- a committed hand is no offer
-committed_offers : (t : Hand → Bool) (hs : List Hand) → IsPart (map (λ h. h.id) (filter is_offered_hand (change_first t committed hs))) (map (λ h. h.id) (filter is_offered_hand hs))
+committed_offers : (t : Hand → Bool) (hs : List Hand) → IsPart (map (λ h. h.id) (filter is_offered_hand (change_first t committed hs)))
+    (map (λ h. h.id) (filter is_offered_hand hs))
 committed_offers t [] = whole []
 committed_offers t (x ∷ hs) = by (t x) (is_offered x.phase) (committed_offers t hs)
   where
     kept : (c : Bool) → IsPart (map (λ h. h.id) (filter is_offered_hand (change_first t committed hs))) (map (λ h. h.id) (filter is_offered_hand hs))
-        → IsPart (map (λ h. h.id) (cond c (x ∷ filter is_offered_hand (change_first t committed hs)) (filter is_offered_hand (change_first t committed hs)))) (map (λ h. h.id) (cond c (x ∷ filter is_offered_hand hs) (filter is_offered_hand hs)))
+        → IsPart (map (λ h. h.id) (cond c (x ∷ filter is_offered_hand (change_first t committed hs)) (filter is_offered_hand (change_first t committed hs))))
+        (map (λ h. h.id) (cond c (x ∷ filter is_offered_hand hs) (filter is_offered_hand hs)))
     kept true rest = keep rest
     kept false rest = rest
 
-    gone : (c : Bool) → IsPart (map (λ h. h.id) (filter is_offered_hand hs)) (map (λ h. h.id) (cond c (x ∷ filter is_offered_hand hs) (filter is_offered_hand hs)))
+    gone : (c : Bool) → IsPart (map (λ h. h.id) (filter is_offered_hand hs))
+        (map (λ h. h.id) (cond c (x ∷ filter is_offered_hand hs) (filter is_offered_hand hs)))
     gone true = skip (whole (map (λ h. h.id) (filter is_offered_hand hs)))
     gone false = whole (map (λ h. h.id) (filter is_offered_hand hs))
 
     by : (b c : Bool) → IsPart (map (λ h. h.id) (filter is_offered_hand (change_first t committed hs))) (map (λ h. h.id) (filter is_offered_hand hs))
-        → IsPart (map (λ h. h.id) (filter is_offered_hand (if b then committed x ∷ hs else x ∷ change_first t committed hs))) (map (λ h. h.id) (filter is_offered_hand (x ∷ hs)))
+        → IsPart (map (λ h. h.id) (filter is_offered_hand (if b then committed x ∷ hs else x ∷ change_first t committed hs)))
+        (map (λ h. h.id) (filter is_offered_hand (x ∷ hs)))
     by true c rest = gone (is_offered x.phase)
     by false c rest = kept (is_offered x.phase) rest
 
 -- what no offer passes, the found one doesn't
-found_offer : (q : RequestId → Bool) (t : Hand → Bool) (hs : List Hand) (h : Hand) → find t hs ≡ Some h → is_offered h.phase ≡ true → list_any q (map (λ x. x.id) (filter is_offered_hand hs)) ≡ false → q h.id ≡ false
+found_offer : (q : RequestId → Bool) (t : Hand → Bool) (hs : List Hand) (h : Hand) → find t hs ≡ Some h → is_offered h.phase ≡ true
+    → list_any q (map (λ x. x.id) (filter is_offered_hand hs)) ≡ false → q h.id ≡ false
 found_offer q t [] h found offered none = absurd (none-some h found)
 found_offer q t (x ∷ hs) h found offered none = by (t x) found (is_offered x.phase) refl none (found_offer q t hs h)
   where
-    by : (b : Bool) → cond b (Some x) (find t hs) ≡ Some h → (c : Bool) → is_offered x.phase ≡ c → list_any q (map (λ y. y.id) (cond c (x ∷ filter is_offered_hand hs) (filter is_offered_hand hs))) ≡ false
+    by : (b : Bool) → cond b (Some x) (find t hs) ≡ Some h → (c : Bool) → is_offered x.phase ≡ c
+        → list_any q (map (λ y. y.id) (cond c (x ∷ filter is_offered_hand hs) (filter is_offered_hand hs))) ≡ false
         → (find t hs ≡ Some h → is_offered h.phase ≡ true → list_any q (map (λ y. y.id) (filter is_offered_hand hs)) ≡ false → q h.id ≡ false) → q h.id ≡ false
-    by true found true e none rest = ap (λ y. q y.id) (sym (same_Some x h found)) ∙ (or_parts (q x.id) (list_any q (map (λ y. y.id) (filter is_offered_hand hs))) none).0
+    by true found true e none rest = ap (λ y. q y.id) (sym (same_Some x h found))
+        ∙ (or_parts (q x.id) (list_any q (map (λ y. y.id) (filter is_offered_hand hs))) none).0
     by true found false e none rest = differ (is_offered h.phase) offered (ap (λ y. is_offered y.phase) (sym (same_Some x h found)) ∙ e)
     by false found true e none rest = rest found offered (or_parts (q x.id) (list_any q (map (λ y. y.id) (filter is_offered_hand hs))) none).1
     by false found false e none rest = rest found offered none
 
-no_offers_left : (id : RequestId) (hs : List Hand) → list_any (id_eq id) (map (λ x. x.id) (filter is_offered_hand hs)) ≡ false → list_all (is_no_offer_of id) hs ≡ true
+no_offers_left : (id : RequestId) (hs : List Hand) → list_any (id_eq id) (map (λ x. x.id) (filter is_offered_hand hs)) ≡ false
+    → list_all (is_no_offer_of id) hs ≡ true
 no_offers_left id [] none = refl
 no_offers_left id (x ∷ hs) none = by (is_offered x.phase) none (no_offers_left id hs)
   where
     by : (c : Bool) → list_any (id_eq id) (map (λ y. y.id) (cond c (x ∷ filter is_offered_hand hs) (filter is_offered_hand hs))) ≡ false
-        → (list_any (id_eq id) (map (λ y. y.id) (filter is_offered_hand hs)) ≡ false → list_all (is_no_offer_of id) hs ≡ true) → (not (c && id_eq id x.id) && list_all (is_no_offer_of id) hs) ≡ true
-    by true none rest = let p = or_parts (id_eq id x.id) (list_any (id_eq id) (map (λ y. y.id) (filter is_offered_hand hs))) none in and_from (not (id_eq id x.id)) (list_all (is_no_offer_of id) hs) (not_from_false _ p.0) (rest p.1)
+        → (list_any (id_eq id) (map (λ y. y.id) (filter is_offered_hand hs)) ≡ false → list_all (is_no_offer_of id) hs ≡ true)
+        → (not (c && id_eq id x.id) && list_all (is_no_offer_of id) hs) ≡ true
+    by true none rest = let p = or_parts (id_eq id x.id) (list_any (id_eq id) (map (λ y. y.id) (filter is_offered_hand hs))) none in
+        and_from (not (id_eq id x.id)) (list_all (is_no_offer_of id) hs) (not_from_false _ p.0) (rest p.1)
     by false none rest = rest none
 
 -- with the one offer of a request gone, or committed, it has none
 module _ (t : Hand → Bool) (h : Hand) (offered : is_offered h.phase ≡ true) where
-  not_twice : (x : Hand) (hs : List Hand) → find t hs ≡ Some h → (c : Bool) → are_distinct id_eq (map (λ y. y.id) (cond c (x ∷ filter is_offered_hand hs) (filter is_offered_hand hs))) ≡ true
+  not_twice : (x : Hand) (hs : List Hand) → find t hs ≡ Some h → (c : Bool)
+      → are_distinct id_eq (map (λ y. y.id) (cond c (x ∷ filter is_offered_hand hs) (filter is_offered_hand hs))) ≡ true
       → (not (c && id_eq h.id x.id) ≡ true) × (are_distinct id_eq (map (λ y. y.id) (filter is_offered_hand hs)) ≡ true)
   not_twice x hs found true d =
-      let p = and_parts (not (list_any (id_eq x.id) (map (λ y. y.id) (filter is_offered_hand hs)))) (are_distinct id_eq (map (λ y. y.id) (filter is_offered_hand hs))) d in
+      let p = and_parts (not (list_any (id_eq x.id) (map (λ y. y.id) (filter is_offered_hand hs))))
+      (are_distinct id_eq (map (λ y. y.id) (filter is_offered_hand hs))) d in
       (not_from_false _ (turned id_eq id_exact same_id x.id h.id (found_offer (id_eq x.id) t hs h found offered (not-true _ p.0))), p.1)
   not_twice x hs found false d = (refl, d)
 
-  first_gone : (x : Hand) (hs : List Hand) → x ≡ h → (c : Bool) → is_offered x.phase ≡ c → are_distinct id_eq (map (λ y. y.id) (cond c (x ∷ filter is_offered_hand hs) (filter is_offered_hand hs))) ≡ true → list_all (is_no_offer_of h.id) hs ≡ true
-  first_gone x hs is true e d = no_offers_left h.id hs (ap (λ y. list_any (id_eq y.id) (map (λ z. z.id) (filter is_offered_hand hs))) (sym is) ∙ not-true _ (and_parts (not (list_any (id_eq x.id) (map (λ y. y.id) (filter is_offered_hand hs)))) (are_distinct id_eq (map (λ y. y.id) (filter is_offered_hand hs))) d).0)
+  first_gone : (x : Hand) (hs : List Hand) → x ≡ h → (c : Bool) → is_offered x.phase ≡ c
+      → are_distinct id_eq (map (λ y. y.id) (cond c (x ∷ filter is_offered_hand hs) (filter is_offered_hand hs))) ≡ true
+      → list_all (is_no_offer_of h.id) hs ≡ true
+  first_gone x hs is true e d = no_offers_left h.id hs (ap (λ y. list_any (id_eq y.id) (map (λ z. z.id) (filter is_offered_hand hs))) (sym is)
+      ∙ not-true _ (and_parts (not (list_any (id_eq x.id) (map (λ y. y.id) (filter is_offered_hand hs))))
+      (are_distinct id_eq (map (λ y. y.id) (filter is_offered_hand hs))) d).0)
   first_gone x hs is false e d = differ (is_offered h.phase) offered (ap (λ y. is_offered y.phase) (sym is) ∙ e)
 
-  pub offer_gone : (hs : List Hand) → find t hs ≡ Some h → are_distinct id_eq (map (λ y. y.id) (filter is_offered_hand hs)) ≡ true → list_all (is_no_offer_of h.id) (without_first t hs) ≡ true
+  pub offer_gone : (hs : List Hand) → find t hs ≡ Some h → are_distinct id_eq (map (λ y. y.id) (filter is_offered_hand hs)) ≡ true
+      → list_all (is_no_offer_of h.id) (without_first t hs) ≡ true
   offer_gone [] found d = refl
   offer_gone (x ∷ hs) found d = by (t x) found (offer_gone hs)
     where
-      by : (b : Bool) → cond b (Some x) (find t hs) ≡ Some h → (find t hs ≡ Some h → are_distinct id_eq (map (λ y. y.id) (filter is_offered_hand hs)) ≡ true → list_all (is_no_offer_of h.id) (without_first t hs) ≡ true)
+      by : (b : Bool) → cond b (Some x) (find t hs) ≡ Some h → (find t hs ≡ Some h → are_distinct id_eq (map (λ y. y.id) (filter is_offered_hand hs)) ≡ true
+          → list_all (is_no_offer_of h.id) (without_first t hs) ≡ true)
           → list_all (is_no_offer_of h.id) (if b then hs else x ∷ without_first t hs) ≡ true
       by true found rest = first_gone x hs (same_Some x h found) (is_offered x.phase) refl d
-      by false found rest = let p = not_twice x hs found (is_offered x.phase) d in and_from (is_no_offer_of h.id x) (list_all (is_no_offer_of h.id) (without_first t hs)) p.0 (rest found p.1)
+      by false found rest = let p = not_twice x hs found (is_offered x.phase) d in
+          and_from (is_no_offer_of h.id x) (list_all (is_no_offer_of h.id) (without_first t hs)) p.0 (rest found p.1)
 
-  pub offer_committed : (hs : List Hand) → find t hs ≡ Some h → are_distinct id_eq (map (λ y. y.id) (filter is_offered_hand hs)) ≡ true → list_all (is_no_offer_of h.id) (change_first t committed hs) ≡ true
+  pub offer_committed : (hs : List Hand) → find t hs ≡ Some h → are_distinct id_eq (map (λ y. y.id) (filter is_offered_hand hs)) ≡ true
+      → list_all (is_no_offer_of h.id) (change_first t committed hs) ≡ true
   offer_committed [] found d = refl
   offer_committed (x ∷ hs) found d = by (t x) found (offer_committed hs)
     where
-      by : (b : Bool) → cond b (Some x) (find t hs) ≡ Some h → (find t hs ≡ Some h → are_distinct id_eq (map (λ y. y.id) (filter is_offered_hand hs)) ≡ true → list_all (is_no_offer_of h.id) (change_first t committed hs) ≡ true)
+      by : (b : Bool) → cond b (Some x) (find t hs) ≡ Some h → (find t hs ≡ Some h → are_distinct id_eq (map (λ y. y.id) (filter is_offered_hand hs)) ≡ true
+          → list_all (is_no_offer_of h.id) (change_first t committed hs) ≡ true)
           → list_all (is_no_offer_of h.id) (if b then committed x ∷ hs else x ∷ change_first t committed hs) ≡ true
       by true found rest = first_gone x hs (same_Some x h found) (is_offered x.phase) refl d
-      by false found rest = let p = not_twice x hs found (is_offered x.phase) d in and_from (is_no_offer_of h.id x) (list_all (is_no_offer_of h.id) (change_first t committed hs)) p.0 (rest found p.1)
+      by false found rest = let p = not_twice x hs found (is_offered x.phase) d in
+          and_from (is_no_offer_of h.id x) (list_all (is_no_offer_of h.id) (change_first t committed hs)) p.0 (rest found p.1)
 
 -- as many go to a host as before
-few_changed : (t : Hand → Bool) (peer : HostId) (hs : List Hand) → length (filter (λ h. same_host peer h.peer) (change_first t committed hs)) ≡ length (filter (λ h. same_host peer h.peer) hs)
+few_changed : (t : Hand → Bool) (peer : HostId) (hs : List Hand) → length (filter (λ h. same_host peer h.peer) (change_first t committed hs))
+    ≡ length (filter (λ h. same_host peer h.peer) hs)
 few_changed t peer [] = refl
 few_changed t peer (x ∷ hs) = by (t x) (same_host peer x.peer) (few_changed t peer hs)
   where
     there : (c : Bool) → length (filter (λ h. same_host peer h.peer) (change_first t committed hs)) ≡ length (filter (λ h. same_host peer h.peer) hs)
-        → length (cond c (x ∷ filter (λ h. same_host peer h.peer) (change_first t committed hs)) (filter (λ h. same_host peer h.peer) (change_first t committed hs))) ≡ length (cond c (x ∷ filter (λ h. same_host peer h.peer) hs) (filter (λ h. same_host peer h.peer) hs))
+        → length (cond c (x ∷ filter (λ h. same_host peer h.peer) (change_first t committed hs))
+        (filter (λ h. same_host peer h.peer) (change_first t committed hs)))
+        ≡ length (cond c (x ∷ filter (λ h. same_host peer h.peer) hs) (filter (λ h. same_host peer h.peer) hs))
     there true rest = ap suc rest
     there false rest = rest
 
-    here : (c : Bool) → length (cond c (committed x ∷ filter (λ h. same_host peer h.peer) hs) (filter (λ h. same_host peer h.peer) hs)) ≡ length (cond c (x ∷ filter (λ h. same_host peer h.peer) hs) (filter (λ h. same_host peer h.peer) hs))
+    here : (c : Bool) → length (cond c (committed x ∷ filter (λ h. same_host peer h.peer) hs) (filter (λ h. same_host peer h.peer) hs))
+        ≡ length (cond c (x ∷ filter (λ h. same_host peer h.peer) hs) (filter (λ h. same_host peer h.peer) hs))
     here true = refl
     here false = refl
 
     by : (b c : Bool) → length (filter (λ h. same_host peer h.peer) (change_first t committed hs)) ≡ length (filter (λ h. same_host peer h.peer) hs)
-        → length (filter (λ h. same_host peer h.peer) (if b then committed x ∷ hs else x ∷ change_first t committed hs)) ≡ length (filter (λ h. same_host peer h.peer) (x ∷ hs))
+        → length (filter (λ h. same_host peer h.peer) (if b then committed x ∷ hs else x ∷ change_first t committed hs))
+        ≡ length (filter (λ h. same_host peer h.peer) (x ∷ hs))
     by true c rest = here (same_host peer x.peer)
     by false c rest = there (same_host peer x.peer) rest
 
 none_counted : (peer : HostId) (hs : List Hand) → list_any (is_hand_to peer) hs ≡ false → length (filter (λ h. same_host peer h.peer) hs) ≡ 0
 none_counted peer [] none = refl
-none_counted peer (x ∷ hs) none = let p = or_parts (is_hand_to peer x) (list_any (is_hand_to peer) hs) none in ap (λ b. length (cond b (x ∷ filter (λ h. same_host peer h.peer) hs) (filter (λ h. same_host peer h.peer) hs))) p.0 ∙ none_counted peer hs p.1
+none_counted peer (x ∷ hs) none = let p = or_parts (is_hand_to peer x) (list_any (is_hand_to peer) hs) none in
+    ap (λ b. length (cond b (x ∷ filter (λ h. same_host peer h.peer) hs) (filter (λ h. same_host peer h.peer) hs))) p.0 ∙ none_counted peer hs p.1
 
 module _ {E : Type 0} where
   -- fewer hands
@@ -134,7 +163,17 @@ module _ {E : Type 0} where
         site = h.site;
         parameters = parameters_kept s t refl (λ q k. k) h.parameters;
         short = h.short;
-        keys = keys_right t (record { queues = keys.queues; complexes = keys.complexes; devices = keys.devices; rows = keys.rows; hands = part_distinct peer_number_eq (map_part hand_key part) keys.hands; promises = keys.promises; stages = keys.stages; files = keys.files });
+        keys = keys_right t (record {
+          queues = keys.queues;
+          complexes = keys.complexes;
+          devices = keys.devices;
+          rows = keys.rows;
+          hands =
+              part_distinct peer_number_eq (map_part hand_key part) keys.hands;
+          promises = keys.promises;
+          stages = keys.stages;
+          files = keys.files;
+        });
         arrivals = h.arrivals;
         queues = h.queues;
         complexes = h.complexes;
@@ -168,15 +207,28 @@ module _ {E : Type 0} where
         site = h.site;
         parameters = parameters_kept s t refl (λ q k. k) h.parameters;
         short = h.short;
-        keys = keys_right t (record { queues = keys.queues; complexes = keys.complexes; devices = keys.devices; rows = keys.rows; hands = ap (are_distinct peer_number_eq) (map-changed hand_key (is_hand k) committed (λ x. refl) s.hands) ∙ keys.hands; promises = keys.promises; stages = keys.stages; files = keys.files });
+        keys = keys_right t (record {
+          queues = keys.queues;
+          complexes = keys.complexes;
+          devices = keys.devices;
+          rows = keys.rows;
+          hands =
+              ap (are_distinct peer_number_eq) (map-changed hand_key (is_hand k) committed (λ x. refl) s.hands)
+              ∙ keys.hands;
+          promises = keys.promises;
+          stages = keys.stages;
+          files = keys.files;
+        });
         arrivals = h.arrivals;
         queues = h.queues;
         complexes = h.complexes;
         rows = rows_kept s t keeps s.rows h.rows;
         promises = promises_kept s t keeps refl s.promises h.promises;
         promisers = h.promisers;
-        hands = list_all-changed (is_hand_right s) (is_hand k) committed s.hands h.hands (λ x found. right x (list_all-found (is_hand_right s) (is_hand k) s.hands x h.hands found));
-        few = list_all-changed (has_few_hands t) (is_hand k) committed s.hands (list_all-weaker (has_few_hands s) (has_few_hands t) fewer s.hands h.few) (λ x found. fewer x (list_all-found (has_few_hands s) (is_hand k) s.hands x h.few found));
+        hands = list_all-changed (is_hand_right s) (is_hand k) committed s.hands h.hands
+            (λ x found. right x (list_all-found (is_hand_right s) (is_hand k) s.hands x h.hands found));
+        few = list_all-changed (has_few_hands t) (is_hand k) committed s.hands (list_all-weaker (has_few_hands s) (has_few_hands t) fewer s.hands h.few)
+            (λ x found. fewer x (list_all-found (has_few_hands s) (is_hand k) s.hands x h.few found));
         offers = part_distinct id_eq (committed_offers (is_hand k) s.hands) h.offers;
         peers = h.peers;
         stages = h.stages;
@@ -190,7 +242,8 @@ module _ {E : Type 0} where
       right x q = let p = hand_is s x q in hand_right s (committed x) (record { id = p.id; given = p.given; stands = refl })
 
   -- one hand more, to a host that none went to, for a request that wasn't offered
-  pub hand_added : (s : State E) (x : Hand) → IsInOrder s → is_hand_right s x ≡ true → list_any (is_hand_to x.peer) s.hands ≡ false → list_all (is_no_offer_of x.id) s.hands ≡ true → is_offered x.phase ≡ true → IsInOrder (record s { hands = s.hands ++ x ∷ [] })
+  pub hand_added : (s : State E) (x : Hand) → IsInOrder s → is_hand_right s x ≡ true → list_any (is_hand_to x.peer) s.hands ≡ false
+      → list_all (is_no_offer_of x.id) s.hands ≡ true → is_offered x.phase ≡ true → IsInOrder (record s { hands = s.hands ++ x ∷ [] })
   hand_added s x h right new unoffered offered =
       let keys = keys_are s h.keys in
       let t : State E = record s { hands = s.hands ++ x ∷ [] } in
@@ -199,7 +252,19 @@ module _ {E : Type 0} where
         site = h.site;
         parameters = parameters_kept s t refl (λ q k. k) h.parameters;
         short = h.short;
-        keys = keys_right t (record { queues = keys.queues; complexes = keys.complexes; devices = keys.devices; rows = keys.rows; hands = ap (are_distinct peer_number_eq) (map-append hand_key s.hands (x ∷ [])) ∙ distinct-added peer_number_eq peer_number_exact same_peer_number (map hand_key s.hands) (hand_key x) (key_new s.hands new) keys.hands; promises = keys.promises; stages = keys.stages; files = keys.files });
+        keys = keys_right t (record {
+          queues = keys.queues;
+          complexes = keys.complexes;
+          devices = keys.devices;
+          rows = keys.rows;
+          hands =
+              ap (are_distinct peer_number_eq) (map-append hand_key s.hands (x ∷ []))
+              ∙ distinct-added peer_number_eq peer_number_exact same_peer_number (map hand_key s.hands) (hand_key x) (key_new s.hands new) keys.hands;
+          promises =
+              keys.promises;
+          stages = keys.stages;
+          files = keys.files;
+        });
         arrivals = h.arrivals;
         queues = h.queues;
         complexes = h.complexes;
@@ -207,7 +272,9 @@ module _ {E : Type 0} where
         promises = promises_kept s t keeps refl s.promises h.promises;
         promisers = h.promisers;
         hands = all-added (is_hand_right s) s.hands x h.hands right;
-        few = all-added (has_few_hands t) s.hands x (all-both (has_few_hands s) (λ y. not (is_hand_to x.peer y)) (has_few_hands t) (λ y few other. few_old y few (not-true (is_hand_to x.peer y) other)) s.hands h.few (all_from_none (λ y. not (is_hand_to x.peer y)) (is_hand_to x.peer) (λ y e. not_from_false (is_hand_to x.peer y) e) s.hands new)) few_new;
+        few = all-added (has_few_hands t) s.hands x (all-both (has_few_hands s) (λ y. not (is_hand_to x.peer y)) (has_few_hands t)
+            (λ y few other. few_old y few (not-true (is_hand_to x.peer y) other)) s.hands h.few
+            (all_from_none (λ y. not (is_hand_to x.peer y)) (is_hand_to x.peer) (λ y e. not_from_false (is_hand_to x.peer y) e) s.hands new)) few_new;
         offers = ap (are_distinct id_eq) offers_more ∙ distinct-added id_eq id_exact same_id (offered_ids s) x.id (offer_new s.hands unoffered) h.offers;
         peers = h.peers;
         stages = h.stages;
@@ -216,26 +283,35 @@ module _ {E : Type 0} where
     where
       key_new : (hs : List Hand) → list_any (is_hand_to x.peer) hs ≡ false → list_any (peer_number_eq (hand_key x)) (map hand_key hs) ≡ false
       key_new [] none = refl
-      key_new (y ∷ hs) none = let p = or_parts (is_hand_to x.peer y) (list_any (is_hand_to x.peer) hs) none in or_from (peer_number_eq (hand_key x) (hand_key y)) (list_any (peer_number_eq (hand_key x)) (map hand_key hs)) (and_left (x.peer.0 == y.peer.0) (x.number == y.number) p.0) (key_new hs p.1)
+      key_new (y ∷ hs) none = let p = or_parts (is_hand_to x.peer y) (list_any (is_hand_to x.peer) hs) none in
+          or_from (peer_number_eq (hand_key x) (hand_key y)) (list_any (peer_number_eq (hand_key x)) (map hand_key hs))
+          (and_left (x.peer.0 == y.peer.0) (x.number == y.number) p.0) (key_new hs p.1)
 
       offer_new : (hs : List Hand) → list_all (is_no_offer_of x.id) hs ≡ true → list_any (id_eq x.id) (map (λ y. y.id) (filter is_offered_hand hs)) ≡ false
       offer_new [] all = refl
-      offer_new (y ∷ hs) all = let p = and_parts (is_no_offer_of x.id y) (list_all (is_no_offer_of x.id) hs) all in by (is_offered y.phase) p.0 (offer_new hs p.1)
+      offer_new (y ∷ hs) all = let p = and_parts (is_no_offer_of x.id y) (list_all (is_no_offer_of x.id) hs) all in
+          by (is_offered y.phase) p.0 (offer_new hs p.1)
         where
-          by : (c : Bool) → not (c && id_eq x.id y.id) ≡ true → list_any (id_eq x.id) (map (λ z. z.id) (filter is_offered_hand hs)) ≡ false → list_any (id_eq x.id) (map (λ z. z.id) (cond c (y ∷ filter is_offered_hand hs) (filter is_offered_hand hs))) ≡ false
+          by : (c : Bool) → not (c && id_eq x.id y.id) ≡ true → list_any (id_eq x.id) (map (λ z. z.id) (filter is_offered_hand hs)) ≡ false
+              → list_any (id_eq x.id) (map (λ z. z.id) (cond c (y ∷ filter is_offered_hand hs) (filter is_offered_hand hs))) ≡ false
           by true k rest = or_from (id_eq x.id y.id) (list_any (id_eq x.id) (map (λ z. z.id) (filter is_offered_hand hs))) (not-true _ k) rest
           by false k rest = rest
 
       offers_more : offered_ids (record s { hands = s.hands ++ x ∷ [] }) ≡ offered_ids s ++ x.id ∷ []
-      offers_more = ap (map (λ y. y.id)) (filter-append is_offered_hand s.hands (x ∷ [])) ∙ map-append (λ y. y.id) (filter is_offered_hand s.hands) (filter is_offered_hand (x ∷ [])) ∙ ap (λ b. offered_ids s ++ map (λ y. y.id) (cond b (x ∷ []) [])) offered
+      offers_more = ap (map (λ y. y.id)) (filter-append is_offered_hand s.hands (x ∷ []))
+          ∙ map-append (λ y. y.id) (filter is_offered_hand s.hands) (filter is_offered_hand (x ∷ []))
+          ∙ ap (λ b. offered_ids s ++ map (λ y. y.id) (cond b (x ∷ []) [])) offered
 
-      count : (peer : HostId) → length (hands_to peer (record s { hands = s.hands ++ x ∷ [] })) ≡ length (hands_to peer s) + length (cond (same_host peer x.peer) (x ∷ []) [])
-      count peer = ap length (filter-append (λ y. same_host peer y.peer) s.hands (x ∷ [])) ∙ length-append (hands_to peer s) (filter (λ y. same_host peer y.peer) (x ∷ []))
+      count : (peer : HostId) → length (hands_to peer (record s { hands = s.hands ++ x ∷ [] }))
+          ≡ length (hands_to peer s) + length (cond (same_host peer x.peer) (x ∷ []) [])
+      count peer = ap length (filter-append (λ y. same_host peer y.peer) s.hands (x ∷ []))
+          ∙ length-append (hands_to peer s) (filter (λ y. same_host peer y.peer) (x ∷ []))
 
       few_old : (y : Hand) → has_few_hands s y ≡ true → is_hand_to x.peer y ≡ false → has_few_hands (record s { hands = s.hands ++ x ∷ [] }) y ≡ true
       few_old y few other =
           let k = leb-true (length (hands_to y.peer s)) 8 few in
-          let no : length (cond (same_host y.peer x.peer) (x ∷ []) []) ≡ 0 = ap (λ b. length (cond b (x ∷ []) [])) (turned (λ a b. a == b) number_exact same_it x.peer.0 y.peer.0 other) in
+          let no : length (cond (same_host y.peer x.peer) (x ∷ []) []) ≡ 0 =
+          ap (λ b. length (cond b (x ∷ []) [])) (turned (λ a b. a == b) number_exact same_it x.peer.0 y.peer.0 other) in
           le-leb (length (hands_to y.peer (record s { hands = s.hands ++ x ∷ [] }))) 8 (omega (arith, count y.peer, no, k))
 
       few_new : has_few_hands (record s { hands = s.hands ++ x ∷ [] }) x ≡ true

@@ -1,5 +1,6 @@
 -- Finding, changing and counting in lists.
-use Rattle.std.proofs.Common.{◌≡◌, ℕ, ◌+◌, ◌<◌, ◌≤◌, Bool, true, false, cond, not, nat_lt, List, [], ◌∷◌, map, filter, find, length, position, sum, None, Some, slice_get, true≢false, zero, suc, refl, sym, ap, subst, ◌∙◌, arith, if◌then◌else◌}
+use Rattle.std.proofs.Common.{◌≡◌, ℕ, ◌+◌, ◌<◌, ◌≤◌, Bool, true, false, cond, not, nat_lt, List, [], ◌∷◌, map, filter, find, length, position, sum, None, Some}
+use Rattle.std.proofs.Common.{slice_get, true≢false, zero, suc, refl, sym, ap, subst, ◌∙◌, arith, if◌then◌else◌}
 use Rattle.std.proofs.lemmas.Bool.{and_parts, and_from, or_parts, false_from_ne_true, not_from_true}
 use Rattle.std.proofs.lemmas.Bool.Decides.{nat_tests}
 use Rattle.std.proofs.lemmas.Option.{same_Some, none-some}
@@ -25,24 +26,29 @@ module _ {V : Type 0} where
   list_all-found p test [] v all h = absurd (none-some v h)
   list_all-found p test (x ∷ vs) v all h = by (test x) (and_parts (p x) (list_all p vs) all) (list_all-found p test vs v) h
     where
-      by : (b : Bool) → (p x ≡ true) × (list_all p vs ≡ true) → (list_all p vs ≡ true → find test vs ≡ Some v → p v ≡ true) → cond b (Some x) (find test vs) ≡ Some v → p v ≡ true
+      by : (b : Bool) → (p x ≡ true) × (list_all p vs ≡ true) → (list_all p vs ≡ true → find test vs ≡ Some v → p v ≡ true)
+          → cond b (Some x) (find test vs) ≡ Some v → p v ≡ true
       by true all rest h = ap p (sym (same_Some x v h)) ∙ all.0
       by false all rest h = rest all.1 h
 
   pub list_all-weaker : (p q : V → Bool) → ((v : V) → p v ≡ true → q v ≡ true) → (vs : List V) → list_all p vs ≡ true → list_all q vs ≡ true
   list_all-weaker p q h [] all = refl
-  list_all-weaker p q h (v ∷ vs) all = let parts : (p v ≡ true) × (list_all p vs ≡ true) = and_parts (p v) (list_all p vs) all in and_from (q v) (list_all q vs) (h v parts.0) (list_all-weaker p q h vs parts.1)
+  list_all-weaker p q h (v ∷ vs) all = let parts : (p v ≡ true) × (list_all p vs ≡ true) = and_parts (p v) (list_all p vs) all in
+      and_from (q v) (list_all q vs) (h v parts.0) (list_all-weaker p q h vs parts.1)
 
-  pub list_all-changed : (p test : V → Bool) (g : V → V) (vs : List V) → list_all p vs ≡ true → ((v : V) → find test vs ≡ Some v → p (g v) ≡ true) → list_all p (change_first test g vs) ≡ true
+  pub list_all-changed : (p test : V → Bool) (g : V → V) (vs : List V) → list_all p vs ≡ true → ((v : V) → find test vs ≡ Some v → p (g v) ≡ true)
+      → list_all p (change_first test g vs) ≡ true
   list_all-changed p test g [] all h = refl
   list_all-changed p test g (x ∷ vs) all h = by (test x) (and_parts (p x) (list_all p vs) all) (list_all-changed p test g vs) h
     where
-      by : (b : Bool) → (p x ≡ true) × (list_all p vs ≡ true) → (list_all p vs ≡ true → ((v : V) → find test vs ≡ Some v → p (g v) ≡ true) → list_all p (change_first test g vs) ≡ true)
+      by : (b : Bool) → (p x ≡ true) × (list_all p vs ≡ true) → (list_all p vs ≡ true → ((v : V) → find test vs ≡ Some v → p (g v) ≡ true)
+          → list_all p (change_first test g vs) ≡ true)
           → ((v : V) → cond b (Some x) (find test vs) ≡ Some v → p (g v) ≡ true) → list_all p (if b then g x ∷ vs else x ∷ change_first test g vs) ≡ true
       by true all rest h = and_from (p (g x)) (list_all p vs) (h x refl) all.1
       by false all rest h = and_from (p x) (list_all p (change_first test g vs)) all.0 (rest all.1 h)
 
-  pub map-changed : {K : Type 0} (key : V → K) (test : V → Bool) (g : V → V) → ((v : V) → key (g v) ≡ key v) → (vs : List V) → map key (change_first test g vs) ≡ map key vs
+  pub map-changed : {K : Type 0} (key : V → K) (test : V → Bool) (g : V → V) → ((v : V) → key (g v) ≡ key v) → (vs : List V)
+      → map key (change_first test g vs) ≡ map key vs
   map-changed key test g same [] = refl
   map-changed key test g same (x ∷ vs) = by (test x) (map-changed key test g same vs)
     where
@@ -55,11 +61,13 @@ module _ {V : Type 0} where
   sum_cons : (w : V → ℕ) (v : V) (vs : List V) → sum (map w (v ∷ vs)) ≡ w v + sum (map w vs)
   sum_cons w v vs = sum-map w (v ∷ vs) ∙ sum_by-cons w v vs ∙ ap (λ n. w v + n) (sym (sum-map w vs))
 
-  pub sum-changed : (test : V → Bool) (g : V → V) (w : V → ℕ) (vs : List V) (v : V) → find test vs ≡ Some v → sum (map w (change_first test g vs)) + w v ≡ sum (map w vs) + w (g v)
+  pub sum-changed : (test : V → Bool) (g : V → V) (w : V → ℕ) (vs : List V) (v : V) → find test vs ≡ Some v
+      → sum (map w (change_first test g vs)) + w v ≡ sum (map w vs) + w (g v)
   sum-changed test g w [] v h = absurd (none-some v h)
   sum-changed test g w (x ∷ vs) v h = by (test x) (sum-changed test g w vs v) h
     where
-      by : (b : Bool) → (find test vs ≡ Some v → sum (map w (change_first test g vs)) + w v ≡ sum (map w vs) + w (g v)) → cond b (Some x) (find test vs) ≡ Some v
+      by : (b : Bool) → (find test vs ≡ Some v → sum (map w (change_first test g vs)) + w v ≡ sum (map w vs) + w (g v))
+          → cond b (Some x) (find test vs) ≡ Some v
           → sum (map w (if b then g x ∷ vs else x ∷ change_first test g vs)) + w v ≡ sum (map w (x ∷ vs)) + w (g v)
       by true rest h =
           let e : x ≡ v = same_Some x v h in
@@ -68,30 +76,35 @@ module _ {V : Type 0} where
 
   -- a test that passes less counts less
 
-  pub filter_fewer : (q p : V → Bool) (vs : List V) → ((i : ℕ) (v : V) → slice_get vs i ≡ Some v → q v ≡ true → p v ≡ true) → length (filter q vs) ≤ length (filter p vs)
+  pub filter_fewer : (q p : V → Bool) (vs : List V) → ((i : ℕ) (v : V) → slice_get vs i ≡ Some v → q v ≡ true → p v ≡ true)
+      → length (filter q vs) ≤ length (filter p vs)
   filter_fewer q p [] h = omega arith
   filter_fewer q p (x ∷ vs) h = by (q x) (p x) (h 0 x refl) (filter_fewer q p vs (λ i v. h (suc i) v))
     where
-      by : (b c : Bool) → (b ≡ true → c ≡ true) → length (filter q vs) ≤ length (filter p vs) → length (cond b (x ∷ filter q vs) (filter q vs)) ≤ length (cond c (x ∷ filter p vs) (filter p vs))
+      by : (b c : Bool) → (b ≡ true → c ≡ true) → length (filter q vs) ≤ length (filter p vs)
+          → length (cond b (x ∷ filter q vs) (filter q vs)) ≤ length (cond c (x ∷ filter p vs) (filter p vs))
       by true true imp rest = omega arith
       by true false imp rest = absurd (true≢false (sym (imp refl)))
       by false true imp rest = omega arith
       by false false imp rest = rest
 
-  pub filter_less : (q p : V → Bool) (vs : List V) (n : ℕ) (u : V) → ((i : ℕ) (v : V) → slice_get vs i ≡ Some v → q v ≡ true → p v ≡ true) → slice_get vs n ≡ Some u → p u ≡ true → q u ≡ false
+  pub filter_less : (q p : V → Bool) (vs : List V) (n : ℕ) (u : V) → ((i : ℕ) (v : V) → slice_get vs i ≡ Some v → q v ≡ true → p v ≡ true)
+      → slice_get vs n ≡ Some u → p u ≡ true → q u ≡ false
       → length (filter q vs) < length (filter p vs)
   filter_less q p [] n u h at passes fails = absurd (none-some u at)
   filter_less q p (x ∷ vs) zero u h at passes fails =
       let e : x ≡ u = same_Some x u at in
       by (q x) (p x) (ap q e ∙ fails) (ap p e ∙ passes) (filter_fewer q p vs (λ i v. h (suc i) v))
     where
-      by : (b c : Bool) → b ≡ false → c ≡ true → length (filter q vs) ≤ length (filter p vs) → length (cond b (x ∷ filter q vs) (filter q vs)) < length (cond c (x ∷ filter p vs) (filter p vs))
+      by : (b c : Bool) → b ≡ false → c ≡ true → length (filter q vs) ≤ length (filter p vs)
+          → length (cond b (x ∷ filter q vs) (filter q vs)) < length (cond c (x ∷ filter p vs) (filter p vs))
       by false true f t rest = omega arith
       by true c f t rest = absurd (true≢false f)
       by false false f t rest = absurd (true≢false (sym t))
   filter_less q p (x ∷ vs) (suc n) u h at passes fails = by (q x) (p x) (h 0 x refl) (filter_less q p vs n u (λ i v. h (suc i) v) at passes fails)
     where
-      by : (b c : Bool) → (b ≡ true → c ≡ true) → length (filter q vs) < length (filter p vs) → length (cond b (x ∷ filter q vs) (filter q vs)) < length (cond c (x ∷ filter p vs) (filter p vs))
+      by : (b c : Bool) → (b ≡ true → c ≡ true) → length (filter q vs) < length (filter p vs)
+          → length (cond b (x ∷ filter q vs) (filter q vs)) < length (cond c (x ∷ filter p vs) (filter p vs))
       by true true imp rest = omega arith
       by true false imp rest = absurd (true≢false (sym (imp refl)))
       by false true imp rest = omega arith
@@ -111,7 +124,8 @@ module _ {V : Type 0} where
       behind : (n m : ℕ) → suc n ≡ m → IsAt p vs n → IsAt p (x ∷ vs) m
       behind n m e a = subst (IsAt p (x ∷ vs)) e (record { value = a.value; at = a.at; passes = a.passes })
 
-      by : (b : Bool) → p x ≡ b → (position_or_len p vs < length vs → IsAt p vs (position_or_len p vs)) → cond (not b) (1 + position_or_len p vs) 0 < length (x ∷ vs) → IsAt p (x ∷ vs) (cond (not b) (1 + position_or_len p vs) 0)
+      by : (b : Bool) → p x ≡ b → (position_or_len p vs < length vs → IsAt p vs (position_or_len p vs))
+          → cond (not b) (1 + position_or_len p vs) 0 < length (x ∷ vs) → IsAt p (x ∷ vs) (cond (not b) (1 + position_or_len p vs) 0)
       by true e rest h = record { value = x; at = refl; passes = e }
       by false e rest h = behind (position_or_len p vs) (1 + position_or_len p vs) (omega arith) (rest (omega arith))
 
@@ -134,9 +148,11 @@ module _ {K V : Type 0} (eq : K → K → Bool) (key : V → K) (exact : (a b : 
   found_again (x ∷ vs) zero v distinct at =
       let e : x ≡ v = same_Some x v at in
       ap (λ b. cond b (Some x) (find (has_key eq key (key v)) vs)) (ap (λ y. eq (key v) (key y)) e ∙ same (key v)) ∙ ap Some e
-  found_again (x ∷ vs) (suc i) v distinct at = by (eq (key v) (key x)) refl (and_parts (not (list_any (eq (key x)) (map key vs))) (are_distinct eq (map key vs)) distinct) (λ d. found_again vs i v d at)
+  found_again (x ∷ vs) (suc i) v distinct at = by (eq (key v) (key x)) refl
+      (and_parts (not (list_any (eq (key x)) (map key vs))) (are_distinct eq (map key vs)) distinct) (λ d. found_again vs i v d at)
     where
-      by : (b : Bool) → eq (key v) (key x) ≡ b → (not (list_any (eq (key x)) (map key vs)) ≡ true) × (are_distinct eq (map key vs) ≡ true) → (are_distinct eq (map key vs) ≡ true → find (has_key eq key (key v)) vs ≡ Some v) → cond b (Some x) (find (has_key eq key (key v)) vs) ≡ Some v
+      by : (b : Bool) → eq (key v) (key x) ≡ b → (not (list_any (eq (key x)) (map key vs)) ≡ true) × (are_distinct eq (map key vs) ≡ true)
+          → (are_distinct eq (map key vs) ≡ true → find (has_key eq key (key v)) vs ≡ Some v) → cond b (Some x) (find (has_key eq key (key v)) vs) ≡ Some v
       by true e d rest =
           let alike : key v ≡ key x = exact (key v) (key x) e in
           absurd (true≢false (sym (same (key x)) ∙ ap (eq (key x)) (sym alike) ∙ other (key x) vs i v (not_true (list_any (eq (key x)) (map key vs)) d.0) at))

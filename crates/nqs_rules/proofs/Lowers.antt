@@ -1,5 +1,6 @@
 -- Each start lowers the number of starts that there may still be, and leaves what the starts rest on.
-use Rattle.std.proofs.Common.{◌≡◌, ℕ, ◌+◌, ◌-◌, ◌*◌, ◌<◌, ◌≤◌, Bool, true, false, not, ◌||◌, nat_lt, nat_le, List, [], ◌∷◌, ◌++◌, map, filter, find, slice_get, length, sum, Option, None, Some, zero, suc, refl, sym, ap, subst, ◌∙◌, arith, if◌then◌else◌}
+use Rattle.std.proofs.Common.{◌≡◌, ℕ, ◌+◌, ◌-◌, ◌*◌, ◌<◌, ◌≤◌, Bool, true, false, not, ◌||◌, nat_lt, nat_le, List, [], ◌∷◌, ◌++◌, map, filter, find, slice_get}
+use Rattle.std.proofs.Common.{length, sum, Option, None, Some, zero, suc, refl, sym, ap, subst, ◌∙◌, arith, if◌then◌else◌}
 use Rattle.std.proofs.lemmas.Bool.{and_parts, and_from, and_right, or_parts, or_left, or_right, eqb-true, not_from_true, not_from_false}
 use Rattle.std.proofs.lemmas.Bool.Decides.{nat_tests}
 use Rattle.std.proofs.lemmas.Option.{same_Some, none-some}
@@ -65,7 +66,8 @@ module _ (s : Plain) (steady : IsSteady s) where
     where
       of : (o : Option QueueDef) → find (is_queue q) s.queues ≡ o → length (dests_of o) ≤ 16
       of None e = omega arith
-      of (Some d) e = let few : nat_le (length d.dests) 16 ≡ true = list_all-found (λ q. nat_le (length q.dests) 16) (is_queue q) s.queues d steady.dests e in grind (arith, nat_tests)
+      of (Some d) e = let few : nat_le (length d.dests) 16 ≡ true = list_all-found (λ q. nat_le (length q.dests) 16) (is_queue q) s.queues d steady.dests e in
+          grind (arith, nat_tests)
 
   few_untried : (r : PlainRow) → length (untried r s) ≤ 16
   few_untried r =
@@ -96,7 +98,8 @@ module _ (s : Plain) (steady : IsSteady s) where
     moved_lower : (queue : List ℕ) (arrival : ℕ) → starts_of s (moved_local queue arrival r) < starts_of s r
     moved_lower queue arrival =
         let q = moved_local queue arrival r in
-        let e : starts_of s q ≡ (33 - (r.hops + 1)) * 17 + length (untried q s) = ap (λ b. if b then (33 - (r.hops + 1)) * 17 + length (untried q s) else 0) ready in
+        let e : starts_of s q ≡ (33 - (r.hops + 1)) * 17 + length (untried q s) =
+        ap (λ b. if b then (33 - (r.hops + 1)) * 17 + length (untried q s) else 0) ready in
         omega (arith, e, weight, few_hops, few_untried q)
 
     system_held : (q : PlainRow) → is_ready (record q { hold = System }) ≡ false
@@ -122,13 +125,15 @@ module _ (s : Plain) (steady : IsSteady s) where
 
         -- whoever refused before has refused
         kept : (i : ℕ) (d : Dest) → slice_get dests i ≡ Some d → after d ≡ true → before d ≡ true
-        kept i d at h = not_from_false (was_refused d r.refused) (or_parts (was_refused d r.refused) (same_dest d new || false) (sym (noted_is dests new refusal r.refused i d at) ∙ not_true (was_refused d refused) h)).0
+        kept i d at h = not_from_false (was_refused d r.refused) (or_parts (was_refused d r.refused) (same_dest d new || false)
+            (sym (noted_is dests new refusal r.refused i d at) ∙ not_true (was_refused d refused) h)).0
 
         now_refused : after u.dest ≡ false
         now_refused =
             not_from_true (was_refused u.dest refused)
             (noted_is dests new refusal r.refused u.place u.dest u.at
-            ∙ or_right (was_refused u.dest r.refused) (same_dest u.dest new || false) (or_left (same_dest u.dest new) false (ap (same_dest u.dest) u.is ∙ dest_same u.dest)))
+            ∙ or_right (was_refused u.dest r.refused) (same_dest u.dest new || false)
+            (or_left (same_dest u.dest new) false (ap (same_dest u.dest) u.is ∙ dest_same u.dest)))
 
         fewer : length (filter after dests) < length (filter before dests)
         fewer = filter_less after before dests u.place u.dest kept u.at (not_from_false (was_refused u.dest r.refused) u.new) now_refused
@@ -136,11 +141,13 @@ module _ (s : Plain) (steady : IsSteady s) where
         by : (b : Bool) → starts_of s (held_where b (record r { refused = refused })) < starts_of s r
         by true = unready (record r { refused = refused; hold = System }) (system_held r)
         by false =
-            let e : starts_of s (record r { refused = refused }) ≡ (33 - r.hops) * 17 + length (filter after dests) = ap (λ b. if b then (33 - r.hops) * 17 + length (filter after dests) else 0) ready in
+            let e : starts_of s (record r { refused = refused }) ≡ (33 - r.hops) * 17 + length (filter after dests) =
+            ap (λ b. if b then (33 - r.hops) * 17 + length (filter after dests) else 0) ready in
             omega (arith, e, weight, fewer)
 
     -- the row that is changed lowers the sum
-    changed : (id : RequestId) (g : PlainRow → PlainRow) → id ≡ r.id → starts_of s (g r) < starts_of s r → sum (map (starts_of s) (change_first (is_row id) g s.rows)) < starts_left s
+    changed : (id : RequestId) (g : PlainRow → PlainRow) → id ≡ r.id → starts_of s (g r) < starts_of s r
+        → sum (map (starts_of s) (change_first (is_row id) g s.rows)) < starts_left s
     changed id g is lower =
         let there : find (is_row id) s.rows ≡ Some r = subst (λ i. find (is_row i) s.rows ≡ Some r) (sym is) found in
         omega (arith, sum-changed (is_row id) g (starts_of s) s.rows r there, lower)
@@ -157,17 +164,20 @@ module _ (s : Plain) (steady : IsSteady s) where
     -- what the starts rest on stays
 
     steady_changed : (id : RequestId) (g : PlainRow → PlainRow) → id ≡ r.id → ((q : PlainRow) → (g q).id ≡ q.id) → nat_le (g r).hops 32 ≡ true
-        → (are_distinct id_eq (map (λ q. q.id) (change_first (is_row id) g s.rows)) ≡ true) × (list_all (λ q. nat_le q.hops 32) (change_first (is_row id) g s.rows) ≡ true)
+        → (are_distinct id_eq (map (λ q. q.id) (change_first (is_row id) g s.rows)) ≡ true)
+        × (list_all (λ q. nat_le q.hops 32) (change_first (is_row id) g s.rows) ≡ true)
     steady_changed id g is same few = (
       ap (are_distinct id_eq) (map-changed (λ q. q.id) (is_row id) g same s.rows) ∙ steady.ids,
-      list_all-changed (λ q. nat_le q.hops 32) (is_row id) g s.rows steady.hops (λ v h. ap (λ q. nat_le (g q).hops 32) (same_Some v r (sym h ∙ subst (λ i. find (is_row i) s.rows ≡ Some r) (sym is) found)) ∙ few),
+      list_all-changed (λ q. nat_le q.hops 32) (is_row id) g s.rows steady.hops
+          (λ v h. ap (λ q. nat_le (g q).hops 32) (same_Some v r (sym h ∙ subst (λ i. find (is_row i) s.rows ≡ Some r) (sym is) found)) ∙ few),
     )
 
     noted_same : (b : Bool) (q : PlainRow) → ((held_where b q).id ≡ q.id) × ((held_where b q).hops ≡ q.hops)
     noted_same true q = (refl, refl)
     noted_same false q = (refl, refl)
 
-    steady_rows : (t : Plain) → t.queues ≡ s.queues → (are_distinct id_eq (map (λ q. q.id) t.rows) ≡ true) × (list_all (λ q. nat_le q.hops 32) t.rows ≡ true) → IsSteady t
+    steady_rows : (t : Plain) → t.queues ≡ s.queues → (are_distinct id_eq (map (λ q. q.id) t.rows) ≡ true) × (list_all (λ q. nat_le q.hops 32) t.rows ≡ true)
+        → IsSteady t
     steady_rows t queues rows = record {
       ids = rows.0;
       names = ap (λ qs. are_distinct name_eq (map (λ q. q.name) qs)) queues ∙ steady.names;

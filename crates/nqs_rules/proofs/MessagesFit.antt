@@ -1,5 +1,6 @@
 -- What a step makes fits its state: messages, and ends of jobs.
-use Rattle.std.proofs.Common.{◌≡◌, ℕ, ◌+◌, ◌<◌, ◌≤◌, Bool, true, false, not, ◌&&◌, ◌||◌, ◌==◌, nat_lt, nat_le, List, [], ◌∷◌, ◌++◌, length, slice_get, Option, None, Some, Result, Ok, Err, is_ok, true≢false, zero, suc, refl, sym, ap, ◌∙◌, arith, if◌then◌else◌}
+use Rattle.std.proofs.Common.{◌≡◌, ℕ, ◌+◌, ◌<◌, ◌≤◌, Bool, true, false, not, ◌&&◌, ◌||◌, ◌==◌, nat_lt, nat_le, List, [], ◌∷◌, ◌++◌, length, slice_get, Option}
+use Rattle.std.proofs.Common.{None, Some, Result, Ok, Err, is_ok, true≢false, zero, suc, refl, sym, ap, ◌∙◌, arith, if◌then◌else◌}
 use Rattle.std.proofs.lemmas.Bool.{and_parts, and_from, or_parts, leb-false, le-leb, ltb-true, lt-ltb, eqb-true, not-false, not_from_false}
 use Rattle.std.proofs.lemmas.Bool.Decides.{nat_tests}
 use Rattle.std.proofs.lemmas.List.Folds.{list_all-append}
@@ -34,8 +35,11 @@ use Rattle.nqs_rules.specs.Routing.{is_closed}
 use Rattle.nqs_rules.specs.Sane.{is_of_site, is_short_script, is_sane_carried, is_sane_job, has_path, is_sane_body, is_sane_event}
 use Rattle.nqs_rules.specs.Fits.{is_offered_hand, is_committed_hand, is_open_number, is_new_stage, is_site_host, is_unknown, offer_full, runs}
 use Rattle.nqs_rules.specs.Stepped.{quiet, says, makes, ready}
-use Rattle.nqs_rules.specs.Handover.{closes, was_given, send_abort, send_done, send_ready, named_of, is_given_here, offer_entry_causes, offer_causes, offer_by, on_offer, ready_phase, ready_with, on_ready, refused_phase, refused_with, on_refused, on_commit, done_phase, done_with, on_done, on_abort}
-use Rattle.nqs_rules.specs.Stage.{Part, part_to, parts_of, has_left, numbered, first_number, kept_parts, on_end, is_got, send_staged, on_stage, due_of, on_staged, on_written}
+use Rattle.nqs_rules.specs.Handover.{closes, was_given, send_abort, send_done, send_ready, named_of, is_not_given_here, offer_entry_causes, offer_causes}
+use Rattle.nqs_rules.specs.Handover.{offer_by, on_offer, ready_phase, ready_with, on_ready, refused_phase, refused_with, on_refused, on_commit, done_phase}
+use Rattle.nqs_rules.specs.Handover.{done_with, on_done, on_abort}
+use Rattle.nqs_rules.specs.Stage.{Part, part_to, parts_of, has_left, numbered, first_number, kept_parts, on_end, is_got, send_staged, on_stage, due_of}
+use Rattle.nqs_rules.specs.Stage.{on_staged, on_written}
 use Rattle.nqs_rules.specs.Step.{on_message, is_start, ended_by, unlaunched_by, step}
 use Rattle.nqs_rules.specs.InOrder.{IsInOrder, is_row_right}
 use Rattle.nqs_rules.proofs.Chains.{each, chained}
@@ -64,21 +68,27 @@ part_sane : (path bytes : List ℕ) → is_path path ≡ true → (length (part_
 part_sane path [] h = (omega arith, refl)
 part_sane path (b ∷ bytes) h = (omega arith, and_from (is_path path) true h refl)
 
-parts_sane : (j : Job) (output error : List ℕ) → is_sane_job j ≡ true → (length (parts_of j output error) ≤ 2) × (list_all has_path (parts_of j output error) ≡ true)
+parts_sane : (j : Job) (output error : List ℕ) → is_sane_job j ≡ true → (length (parts_of j output error) ≤ 2)
+    × (list_all has_path (parts_of j output error) ≡ true)
 parts_sane j output error h = by (j.join)
   where
     k : (nat_le j.priority 63 ≡ true) × ((is_path j.out ≡ true) × ((is_path j.err ≡ true) × Unit {0}))
     k = each (nat_le j.priority 63) (is_path j.out ∷ is_path j.err ∷ []) h
 
-    by : (b : Bool) → (length (if b then part_to j.out (output ++ error) else part_to j.out output ++ part_to j.err error) ≤ 2) × (list_all has_path (if b then part_to j.out (output ++ error) else part_to j.out output ++ part_to j.err error) ≡ true)
+    by : (b : Bool) → (length (if b then part_to j.out (output ++ error) else part_to j.out output ++ part_to j.err error) ≤ 2)
+        × (list_all has_path (if b then part_to j.out (output ++ error) else part_to j.out output ++ part_to j.err error) ≡ true)
     by true = let p = part_sane j.out (output ++ error) k.1.0 in let few = p.0 in (omega arith, p.1)
     by false =
         let p = part_sane j.out output k.1.0 in
         let q = part_sane j.err error k.1.1.0 in
         let one = p.0 in
         let other = q.0 in
-        let both : length (part_to j.out output ++ part_to j.err error) ≡ length (part_to j.out output) + length (part_to j.err error) = length-append (part_to j.out output) (part_to j.err error) in
-        (omega (arith, both, one, other), list_all-append has_path (part_to j.out output) (part_to j.err error) ∙ and_from (list_all has_path (part_to j.out output)) (list_all has_path (part_to j.err error)) p.1 q.1)
+        let both : length (part_to j.out output ++ part_to j.err error) ≡ length (part_to j.out output) + length (part_to j.err error) =
+        length-append (part_to j.out output) (part_to j.err error) in (
+          omega (arith, both, one, other),
+          list_all-append has_path (part_to j.out output) (part_to j.err error)
+              ∙ and_from (list_all has_path (part_to j.out output)) (list_all has_path (part_to j.err error)) p.1 q.1,
+        )
 
 module _ {E : Type 0} (s : State E) (h : IsInOrder s) where
   -- of each host of the site something is known
@@ -93,39 +103,45 @@ module _ {E : Type 0} (s : State E) (h : IsInOrder s) where
       there (p ∷ ps) zero below = refl
       there (p ∷ ps) (suc n) below = there ps n (omega arith)
 
-  not_passed : (test other : Peer → Bool) (o : Option Peer) → ((p : Peer) → test p ≡ false → other p ≡ true) → passes (λ _. true) o ≡ true → passes test o ≡ false → passes other o ≡ true
+  not_passed : (test other : Peer → Bool) (o : Option Peer) → ((p : Peer) → test p ≡ false → other p ≡ true) → passes (λ _. true) o ≡ true
+      → passes test o ≡ false → passes other o ≡ true
   not_passed test other None turns some fails = absurd (true≢false (sym some))
   not_passed test other (Some p) turns some fails = turns p fails
 
-  offer_fits : (peer : HostId) (n : ℕ) (queue : List ℕ) (c : Carried) (script : List ℕ) → is_of_site (length s.site) peer ≡ true → is_sane_carried c ≡ true → is_of_site (length s.site) c.id.host ≡ true → Fitting s (on_offer peer n queue c script s).change
+  offer_fits : (peer : HostId) (n : ℕ) (queue : List ℕ) (c : Carried) (script : List ℕ) → is_of_site (length s.site) peer ≡ true → is_sane_carried c ≡ true
+      → is_of_site (length s.site) c.id.host ≡ true → Fitting s (on_offer peer n queue c script s).change
   offer_fits peer n queue c script of_site sane host = by (closes n (find_peer peer s)) refl (has_promise peer n s) refl
     where
-      made : closes n (find_peer peer s) ≡ false → has_promise peer n s ≡ false → (o : Result (Unit {0}) Refusal) → first_refusal (offer_causes peer queue c s) ≡ o → Fitting s (offer_by o peer n queue c script s).change
+      made : closes n (find_peer peer s) ≡ false → has_promise peer n s ≡ false → (o : Result (Unit {0}) Refusal)
+          → first_refusal (offer_causes peer queue c s) ≡ o → Fitting s (offer_by o peer n queue c script s).change
       made opens new (Err refusal) e = tt
       made opens new (Ok u) e =
           let entry : List Cause = causes_of (offer_entry_causes c) (find_queue queue s) in
-          let first : List Cause = cause (has_row c.id s || is_given_here c.id s) (RequestExists (named_of c.id s)) ∷ cause (not (has_queue queue s)) (NoQueue queue) ∷ entry in
+          let first : List Cause = cause (has_row c.id s || is_not_given_here c.id s) (RequestExists (named_of c.id s))
+          ∷ cause (not (has_queue queue s)) (NoQueue queue) ∷ entry in
           let last : List Cause = cause (offer_full peer s) HostFull ∷ cause (arrivals_used s) NumbersUsed ∷ [] in
           let parts = causes_behind first last (ap is_ok e) in
           let front = none_holds first parts.0 in
           let back = none_holds last parts.1 in
-          let known = or_parts (has_row c.id s) (is_given_here c.id s) front.0 in (
-            chained (has_queue queue s) (passes (is_open_number n) (find_peer peer s) ∷ not (has_promise peer n s) ∷ is_site_host c.id.host s ∷ is_unknown c.id s ∷ not (offer_full peer s) ∷ not (arrivals_used s) ∷ []) (
-              not-false (has_queue queue s) front.1.0,
-              (
-                not_passed (is_closed n) (is_open_number n) (find_peer peer s) (λ p e. not_from_false (is_closed n p) e) (peer_known peer of_site) opens,
-                (
-                  not_from_false (has_promise peer n s) new,
+          let known = or_parts (has_row c.id s) (is_not_given_here c.id s) front.0 in (
+            chained (has_queue queue s) (passes (is_open_number n) (find_peer peer s) ∷ not (has_promise peer n s) ∷ is_site_host c.id.host s
+                ∷ is_unknown c.id s ∷ not (offer_full peer s) ∷ not (arrivals_used s) ∷ []) (
+                  not-false (has_queue queue s) front.1.0,
                   (
-                    host,
+                    not_passed (is_closed n) (is_open_number n) (find_peer peer s) (λ p e. not_from_false (is_closed n p) e) (peer_known peer of_site) opens,
                     (
-                      and_from (not (has_row c.id s)) (not (same_host s.me c.id.host) || nat_le c.id.seq s.seq) (not_from_false (has_row c.id s) known.0) (given (same_host s.me c.id.host) known.1),
-                      (not_from_false (offer_full peer s) back.0, (not_from_false (arrivals_used s) back.1.0, tt)),
+                      not_from_false (has_promise peer n s) new,
+                      (
+                        host,
+                        (
+                          and_from (not (has_row c.id s)) (not (same_host s.me c.id.host) || nat_le c.id.seq s.seq) (not_from_false (has_row c.id s) known.0)
+                              (given (same_host s.me c.id.host) known.1),
+                          (not_from_false (offer_full peer s) back.0, (not_from_false (arrivals_used s) back.1.0, tt)),
+                        ),
+                      ),
                     ),
                   ),
                 ),
-              ),
-            ),
             sane,
           )
         where
@@ -134,7 +150,8 @@ module _ {E : Type 0} (s : State E) (h : IsInOrder s) where
           given false e = refl
 
       by : (b : Bool) → closes n (find_peer peer s) ≡ b → (d : Bool) → has_promise peer n s ≡ d
-          → Fitting s (if b then says (send_done s peer n ∷ []) else (if d then says (send_ready s peer n ∷ []) else offer_by (first_refusal (offer_causes peer queue c s)) peer n queue c script s)).change
+          → Fitting s (if b then says (send_done s peer n ∷ []) else (if d then says (send_ready s peer n ∷ []) else
+          offer_by (first_refusal (offer_causes peer queue c s)) peer n queue c script s)).change
       by true opens d new = tt
       by false opens true new = tt
       by false opens false new = made opens new (first_refusal (offer_causes peer queue c s)) refl
@@ -179,7 +196,8 @@ module _ {E : Type 0} (s : State E) (h : IsInOrder s) where
   commit_fits : (peer : HostId) (n : ℕ) → Fitting s (on_commit peer n s).change
   commit_fits peer n = by (has_promise peer n s) refl (closes n (find_peer peer s))
     where
-      by : (b : Bool) → has_promise peer n s ≡ b → (d : Bool) → Fitting s (if b then makes (Accepted peer n) (send_done s peer n ∷ []) else (if d then says (send_done s peer n ∷ []) else quiet)).change
+      by : (b : Bool) → has_promise peer n s ≡ b → (d : Bool) → Fitting s
+          (if b then makes (Accepted peer n) (send_done s peer n ∷ []) else (if d then says (send_done s peer n ∷ []) else quiet)).change
       by true e d = (e, refl)
       by false e true = tt
       by false e false = tt
@@ -191,14 +209,17 @@ module _ {E : Type 0} (s : State E) (h : IsInOrder s) where
       by true e = (e, refl)
       by false e = tt
 
-  stage_fits : (peer : HostId) (n : ℕ) (path bytes : List ℕ) → is_of_site (length s.site) peer ≡ true → is_path path ≡ true → Fitting s (on_stage peer n path bytes s).change
+  stage_fits : (peer : HostId) (n : ℕ) (path bytes : List ℕ) → is_of_site (length s.site) peer ≡ true → is_path path ≡ true
+      → Fitting s (on_stage peer n path bytes s).change
   stage_fits peer n path bytes of_site sane = by (passes (is_got n) (find_peer peer s)) refl (has_left s.file_next 0)
     where
       new : passes (is_got n) (find_peer peer s) ≡ false → passes (is_new_stage n) (find_peer peer s) ≡ true
       new e = not_passed (is_got n) (is_new_stage n) (find_peer peer s) (λ p k. lt-ltb p.stage_got n (leb-false n p.stage_got k)) (peer_known peer of_site) e
 
       by : (b : Bool) → passes (is_got n) (find_peer peer s) ≡ b → (d : Bool)
-          → Fitting s (if b then says (send_staged s peer n ∷ []) else (if d then makes (StageGot peer n path bytes) (send_staged s peer n ∷ ready (out.File s.file_next path bytes) ∷ []) else makes (StageGot peer n path []) (send_staged s peer n ∷ []))).change
+          → Fitting s (if b then says (send_staged s peer n ∷ []) else (if d then
+          makes (StageGot peer n path bytes) (send_staged s peer n ∷ ready (out.File s.file_next path bytes) ∷ []) else
+          makes (StageGot peer n path []) (send_staged s peer n ∷ []))).change
       by true e d = tt
       by false e true = (new e, sane)
       by false e false = (new e, sane)
@@ -206,7 +227,8 @@ module _ {E : Type 0} (s : State E) (h : IsInOrder s) where
   staged_fits : (peer : HostId) (n : ℕ) → Fitting s (on_staged peer n s).change
   staged_fits peer n = by (has_stage peer n s) refl
     where
-      by : (b : Bool) → has_stage peer n s ≡ b → Fitting s (if b then makes (StageGone peer n) (due_of s peer (without_first (is_stage (peer_number peer n)) s.stages)) else quiet).change
+      by : (b : Bool) → has_stage peer n s ≡ b → Fitting s (if b then makes (StageGone peer n)
+          (due_of s peer (without_first (is_stage (peer_number peer n)) s.stages)) else quiet).change
       by true e = (e, refl)
       by false e = tt
 
@@ -228,7 +250,8 @@ module _ {E : Type 0} (s : State E) (h : IsInOrder s) where
           let part = numbered_part (first_number s r.id) 0 (parts_of r.job output error) in
           let fewer = part_length part in (
             passes_found runs s r found (and_parts (is_running r.state) (r.starts == start) e).0,
-            and_from (nat_le (length (kept_parts s r output error)) 2) (list_all has_path (kept_parts s r output error)) (le-leb (length (kept_parts s r output error)) 2 (omega (arith, few, fewer))) (part_all has_path part parts.1),
+            and_from (nat_le (length (kept_parts s r output error)) 2) (list_all has_path (kept_parts s r output error))
+                (le-leb (length (kept_parts s r output error)) 2 (omega (arith, few, fewer))) (part_all has_path part parts.1),
           )
       by r found false e = tt
 
@@ -239,7 +262,8 @@ module _ {E : Type 0} (s : State E) (h : IsInOrder s) where
   unlaunched_fits : (id : RequestId) (start : ℕ) → Fitting s (unlaunched_by (find_row id s) id start).change
   unlaunched_fits id start = of (find_row id s) refl
     where
-      by : (r : Row E) → find_row id s ≡ Some r → (b : Bool) → is_start start r ≡ b → Fitting s (if b then makes {E = E} (Unlaunched id) (ready (out.Unlaunched id start) ∷ []) else quiet).change
+      by : (r : Row E) → find_row id s ≡ Some r → (b : Bool) → is_start start r ≡ b
+          → Fitting s (if b then makes {E = E} (Unlaunched id) (ready (out.Unlaunched id start) ∷ []) else quiet).change
       by r found true e = (ap (passes runs) found ∙ (and_parts (is_running r.state) (r.starts == start) e).0, refl)
       by r found false e = tt
 
@@ -247,7 +271,8 @@ module _ {E : Type 0} (s : State E) (h : IsInOrder s) where
       of None found = tt
       of (Some r) found = by r found (is_start start r) refl
 
-  message_fits : (peer : HostId) (b : Body) → is_of_site (length s.site) peer ≡ true → is_sane_body (length s.site) b ≡ true → Fitting s (on_message peer b s).change
+  message_fits : (peer : HostId) (b : Body) → is_of_site (length s.site) peer ≡ true → is_sane_body (length s.site) b ≡ true
+      → Fitting s (on_message peer b s).change
   message_fits peer (body.Offer n queue c script) of_site sane =
       let k = each (nat_le 1 n) (is_sane_carried c ∷ is_of_site (length s.site) c.id.host ∷ is_short_script script ∷ []) sane in
       offer_fits peer n queue c script of_site k.1.0 k.1.1.0
@@ -257,13 +282,15 @@ module _ {E : Type 0} (s : State E) (h : IsInOrder s) where
   message_fits peer (body.Done n) of_site sane = done_fits peer n
   message_fits peer (body.Inquire n) of_site sane = ready_fits peer n
   message_fits peer (body.Abort n) of_site sane = abort_fits peer n
-  message_fits peer (body.Stage n path bytes) of_site sane = stage_fits peer n path bytes of_site (each (nat_le 1 n) (is_path path ∷ is_short_script bytes ∷ []) sane).1.0
+  message_fits peer (body.Stage n path bytes) of_site sane = stage_fits peer n path bytes of_site
+      (each (nat_le 1 n) (is_path path ∷ is_short_script bytes ∷ []) sane).1.0
   message_fits peer (body.Staged n) of_site sane = staged_fits peer n
   message_fits peer b of_site sane = tt
 
   pub step_fits : (e : Event) → is_sane_event (length s.site) e ≡ true → Fitting s (step e s).change
   step_fits (event.Ask now port token user c) sane = command_fits s h now (record { port = port; token = token }) user c sane
-  step_fits (event.Arrived now m) sane = let k = and_parts (is_of_site (length s.site) m.from) (is_sane_body (length s.site) m.body) sane in message_fits m.from m.body k.0 k.1
+  step_fits (event.Arrived now m) sane = let k = and_parts (is_of_site (length s.site) m.from) (is_sane_body (length s.site) m.body) sane in
+      message_fits m.from m.body k.0 k.1
   step_fits (event.Ended now port id start status output error) sane = ended_fits id start status output error
   step_fits (event.Unlaunched now id start) sane = unlaunched_fits id start
   step_fits (event.Written now file) sane = written_fits file

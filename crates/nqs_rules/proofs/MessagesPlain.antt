@@ -19,7 +19,9 @@ use Rattle.nqs_rules.specs.Causes.{cause, first_refusal}
 use Rattle.nqs_rules.specs.Find.{peer_number, has_queue, find_queue, has_promise, has_stage, find_hand, find_peer}
 use Rattle.nqs_rules.specs.Rows.{causes_of, arrivals_used}
 use Rattle.nqs_rules.specs.Stepped.{Stepped, map_stepped, quiet, says, makes}
-use Rattle.nqs_rules.specs.Handover.{closes, was_given, is_given_here, named_of, offer_entry_causes, offer_causes, offer_by, on_offer, send_done, send_ready, ready_phase, ready_with, on_ready, refused_phase, refused_with, on_refused, commit_without, on_commit, done_phase, done_with, on_done, on_abort}
+use Rattle.nqs_rules.specs.Handover.{closes, was_given, is_not_given_here, named_of, offer_entry_causes, offer_causes, offer_by, on_offer, send_done}
+use Rattle.nqs_rules.specs.Handover.{send_ready, ready_phase, ready_with, on_ready, refused_phase, refused_with, on_refused, commit_without, on_commit}
+use Rattle.nqs_rules.specs.Handover.{done_phase, done_with, on_done, on_abort}
 use Rattle.nqs_rules.specs.Stage.{has_left, is_got, on_stage, due_of, on_staged, on_written}
 use Rattle.nqs_rules.specs.Step.{on_message}
 use Rattle.nqs_rules.specs.Plain.{map_stage, map_state}
@@ -29,22 +31,27 @@ use Rattle.nqs_rules.proofs.OutputsPlain.{due_of-map}
 
 module _ {E F : Type 0} (f : E → F) where
   -- one of two steps
-  pub choice-map : (b : Bool) (x y : Stepped E) (x' y' : Stepped F) → x' ≡ map_stepped f x → y' ≡ map_stepped f y → (if b then x' else y') ≡ map_stepped f (if b then x else y)
+  pub choice-map : (b : Bool) (x y : Stepped E) (x' y' : Stepped F) → x' ≡ map_stepped f x → y' ≡ map_stepped f y
+      → (if b then x' else y') ≡ map_stepped f (if b then x else y)
   choice-map b x y x' y' e g = (λ j. if b then e j else g j) ∙ if-map (map_stepped f) b x y
 
   offer_causes-map : (peer : HostId) (queue : List ℕ) (c : Carried) (s : State E) → offer_causes peer queue c (map_state f s) ≡ offer_causes peer queue c s
-  offer_causes-map peer queue c s = (λ j. cause (has_row-map f c.id s j || is_given_here c.id s) (RequestExists (named_of c.id s)) ∷ cause (not (has_queue queue s)) (NoQueue queue)
-      ∷ causes_of (offer_entry_causes c) (find_queue queue s) ++ cause (nat_le 10000 (offered_count-map f peer s j)) HostFull ∷ cause (arrivals_used s) NumbersUsed ∷ [])
+  offer_causes-map peer queue c s = (λ j. cause (has_row-map f c.id s j || is_not_given_here c.id s) (RequestExists (named_of c.id s))
+      ∷ cause (not (has_queue queue s)) (NoQueue queue)
+      ∷ causes_of (offer_entry_causes c) (find_queue queue s) ++ cause (nat_le 10000 (offered_count-map f peer s j)) HostFull
+      ∷ cause (arrivals_used s) NumbersUsed ∷ [])
 
   offer_by-map : (r : Result (Unit {0}) Refusal) (peer : HostId) (n : ℕ) (queue : List ℕ) (c : Carried) (script : List ℕ) (s : State E)
       → offer_by r peer n queue c script (map_state f s) ≡ map_stepped f (offer_by r peer n queue c script s)
   offer_by-map (Ok u) peer n queue c script s = refl
   offer_by-map (Err e) peer n queue c script s = refl
 
-  on_offer-map : (peer : HostId) (n : ℕ) (queue : List ℕ) (c : Carried) (script : List ℕ) (s : State E) → on_offer peer n queue c script (map_state f s) ≡ map_stepped f (on_offer peer n queue c script s)
+  on_offer-map : (peer : HostId) (n : ℕ) (queue : List ℕ) (c : Carried) (script : List ℕ) (s : State E)
+      → on_offer peer n queue c script (map_state f s) ≡ map_stepped f (on_offer peer n queue c script s)
   on_offer-map peer n queue c script s =
       choice-map (closes n (find_peer peer s)) _ _ _ _ refl
-      ((λ j. if has_promise-map f peer n s j then says (send_ready (map_state f s) peer n ∷ []) else offer_by (first_refusal (offer_causes-map peer queue c s j)) peer n queue c script (map_state f s))
+      ((λ j. if has_promise-map f peer n s j then says (send_ready (map_state f s) peer n ∷ []) else
+      offer_by (first_refusal (offer_causes-map peer queue c s j)) peer n queue c script (map_state f s))
       ∙ choice-map (has_promise peer n s) _ _ _ _ refl (offer_by-map (first_refusal (offer_causes peer queue c s)) peer n queue c script s))
 
   on_ready-map : (peer : HostId) (n : ℕ) (s : State E) → on_ready peer n (map_state f s) ≡ map_stepped f (on_ready peer n s)
@@ -71,7 +78,8 @@ module _ {E F : Type 0} (f : E → F) where
 
   on_commit-map : (peer : HostId) (n : ℕ) (s : State E) → on_commit peer n (map_state f s) ≡ map_stepped f (on_commit peer n s)
   on_commit-map peer n s =
-      ap (λ b. if b then makes (Accepted peer n) (send_done (map_state f s) peer n ∷ []) else commit_without peer n (map_state f s)) (has_promise-map f peer n s)
+      ap (λ b. if b then makes (Accepted peer n) (send_done (map_state f s) peer n ∷ []) else commit_without peer n (map_state f s))
+      (has_promise-map f peer n s)
       ∙ choice-map (has_promise peer n s) _ _ _ _ refl (choice-map (closes n (find_peer peer s)) _ _ _ _ refl refl)
 
   on_done-map : (peer : HostId) (n : ℕ) (s : State E) → on_done peer n (map_state f s) ≡ map_stepped f (on_done peer n s)
@@ -86,18 +94,23 @@ module _ {E F : Type 0} (f : E → F) where
       by (Some h) = phase h.phase
 
   on_abort-map : (peer : HostId) (n : ℕ) (s : State E) → on_abort peer n (map_state f s) ≡ map_stepped f (on_abort peer n s)
-  on_abort-map peer n s = ap (λ b. if b then makes (Dropped peer n) [] else quiet) (has_promise-map f peer n s) ∙ choice-map (has_promise peer n s) _ _ _ _ refl refl
+  on_abort-map peer n s = ap (λ b. if b then makes (Dropped peer n) [] else quiet) (has_promise-map f peer n s)
+      ∙ choice-map (has_promise peer n s) _ _ _ _ refl refl
 
-  on_stage-map : (peer : HostId) (n : ℕ) (path bytes : List ℕ) (s : State E) → on_stage peer n path bytes (map_state f s) ≡ map_stepped f (on_stage peer n path bytes s)
+  on_stage-map : (peer : HostId) (n : ℕ) (path bytes : List ℕ) (s : State E)
+      → on_stage peer n path bytes (map_state f s) ≡ map_stepped f (on_stage peer n path bytes s)
   on_stage-map peer n path bytes s = choice-map (passes (is_got n) (find_peer peer s)) _ _ _ _ refl (choice-map (has_left s.file_next 0) _ _ _ _ refl refl)
 
   on_staged-map : (peer : HostId) (n : ℕ) (s : State E) → on_staged peer n (map_state f s) ≡ map_stepped f (on_staged peer n s)
   on_staged-map peer n s =
-      (λ j. if has_stage-map f peer n s j then makes (StageGone peer n) (due_of (map_state f s) peer (sym (map-without_first (map_stage f) (is_stage (peer_number peer n)) s.stages) j)) else quiet)
-      ∙ choice-map (has_stage peer n s) _ _ _ _ (ap (makes (StageGone peer n)) (due_of-map f s peer (without_first (is_stage (peer_number peer n)) s.stages))) refl
+      (λ j. if has_stage-map f peer n s j then makes (StageGone peer n) (due_of (map_state f s) peer
+      (sym (map-without_first (map_stage f) (is_stage (peer_number peer n)) s.stages) j)) else quiet)
+      ∙ choice-map (has_stage peer n s) _ _ _ _ (ap (makes (StageGone peer n))
+      (due_of-map f s peer (without_first (is_stage (peer_number peer n)) s.stages))) refl
 
   pub on_written-map : (file : ℕ) (s : State E) → on_written file (map_state f s) ≡ map_stepped f (on_written file s)
-  on_written-map file s = ap (λ b. if b then makes (FileGone file) [] else quiet) (has_file-map f file s) ∙ choice-map (list_any (is_file file) s.files) _ _ _ _ refl refl
+  on_written-map file s = ap (λ b. if b then makes (FileGone file) [] else quiet) (has_file-map f file s)
+      ∙ choice-map (list_any (is_file file) s.files) _ _ _ _ refl refl
 
   pub on_message-map : (peer : HostId) (b : Body) (s : State E) → on_message peer b (map_state f s) ≡ map_stepped f (on_message peer b s)
   on_message-map peer (body.Offer n queue c script) s = on_offer-map peer n queue c script s

@@ -14,11 +14,17 @@ use Rattle.nqs_rules.specs.Applied.{add_file, add_stage_to, add_stage, add_outpu
 
 module _ {E : Type 0} where
   -- outputs touch files, stages and counters alone
-  module _ {A : Type 0} (part_of : State E → A) (files : (s : State E) (fs : List (FileOut E)) (n : ℕ) → part_of (record s { files = fs; file_next = n }) ≡ part_of s) (stages : (s : State E) (ts : List (Stage E)) (ps : List Peer) → part_of (record s { stages = ts; peers = ps }) ≡ part_of s) where
+  module _ {A : Type 0} (part_of : State E → A) (files : (s : State E) (fs : List (FileOut E)) (n : ℕ)
+      → part_of (record s { files = fs; file_next = n }) ≡ part_of s) (stages : (s : State E) (ts : List (Stage E)) (ps : List Peer)
+      → part_of (record s { stages = ts; peers = ps }) ≡ part_of s) where
     pub file_keeps : (part : OutPart E) (s : State E) → part_of (add_file part s) ≡ part_of s
     file_keeps part s = by (nat_lt s.file_next last_u64)
       where
-        by : (b : Bool) → part_of (if b then record s { files = s.files ++ record { number = s.file_next; path = part.path; bytes = part.bytes } ∷ []; file_next = s.file_next + 1 } else s) ≡ part_of s
+        by : (b : Bool) → part_of (if b then record s {
+          files = s.files ++ record { number = s.file_next; path = part.path; bytes = part.bytes }
+              ∷ [];
+          file_next = s.file_next + 1;
+        } else s) ≡ part_of s
         by true = files s (s.files ++ record { number = s.file_next; path = part.path; bytes = part.bytes } ∷ []) (s.file_next + 1)
         by false = refl
 
@@ -26,8 +32,10 @@ module _ {E : Type 0} where
     stage_keeps host part s None = refl
     stage_keeps host part s (Some p) = by (nat_lt p.stage_next last_u64)
       where
-        by : (b : Bool) → part_of (if b then record (change_peer host stage_counted s) { stages = s.stages ++ record { peer = host; number = p.stage_next; path = part.path; bytes = part.bytes } ∷ [] } else s) ≡ part_of s
-        by true = stages s (s.stages ++ record { peer = host; number = p.stage_next; path = part.path; bytes = part.bytes } ∷ []) (change_peer host stage_counted s).peers
+        by : (b : Bool) → part_of (if b then record (change_peer host stage_counted s)
+            { stages = s.stages ++ record { peer = host; number = p.stage_next; path = part.path; bytes = part.bytes } ∷ [] } else s) ≡ part_of s
+        by true = stages s (s.stages ++ record { peer = host; number = p.stage_next; path = part.path; bytes = part.bytes } ∷ [])
+            (change_peer host stage_counted s).peers
         by false = refl
 
     output_keeps : (id : RequestId) (part : OutPart E) (s : State E) → part_of (add_output id part s) ≡ part_of s

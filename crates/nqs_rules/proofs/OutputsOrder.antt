@@ -1,5 +1,6 @@
 -- Changes of outputs: a state in order stays so.
-use Rattle.std.proofs.Common.{◌≡◌, ℕ, ◌+◌, Bool, true, false, ◌&&◌, nat_lt, nat_le, List, [], ◌∷◌, ◌++◌, map, slice_get, Option, None, Some, option_map, true≢false, zero, suc, refl, sym, ap, ◌∙◌, arith, if◌then◌else◌}
+use Rattle.std.proofs.Common.{◌≡◌, ℕ, ◌+◌, Bool, true, false, ◌&&◌, nat_lt, nat_le, List, [], ◌∷◌, ◌++◌, map, slice_get, Option, None, Some, option_map}
+use Rattle.std.proofs.Common.{true≢false, zero, suc, refl, sym, ap, ◌∙◌, arith, if◌then◌else◌}
 use Rattle.std.proofs.lemmas.Bool.{and_parts, and_from, le-leb, ltb-true, lt-ltb, eqb-true, false_from_ne_true}
 use Rattle.std.proofs.lemmas.List.{map-append}
 use Rattle.std.specs.List.{list_any, list_all}
@@ -53,7 +54,17 @@ module _ {E : Type 0} where
         site = h.site;
         parameters = parameters_kept s t refl (λ q k. k) h.parameters;
         short = h.short;
-        keys = keys_right t (record { queues = keys.queues; complexes = keys.complexes; devices = keys.devices; rows = keys.rows; hands = keys.hands; promises = keys.promises; stages = keys.stages; files = part_distinct same_number (map_part (λ f. f.number) part) keys.files });
+        keys = keys_right t (record {
+          queues = keys.queues;
+          complexes = keys.complexes;
+          devices = keys.devices;
+          rows = keys.rows;
+          hands = keys.hands;
+          promises =
+              keys.promises;
+          stages = keys.stages;
+          files = part_distinct same_number (map_part (λ f. f.number) part) keys.files;
+        });
         arrivals = h.arrivals;
         queues = h.queues;
         complexes = h.complexes;
@@ -78,7 +89,17 @@ module _ {E : Type 0} where
         site = h.site;
         parameters = parameters_kept s t refl (λ q k. k) h.parameters;
         short = h.short;
-        keys = keys_right t (record { queues = keys.queues; complexes = keys.complexes; devices = keys.devices; rows = keys.rows; hands = keys.hands; promises = keys.promises; stages = part_distinct peer_number_eq (map_part stage_key part) keys.stages; files = keys.files });
+        keys = keys_right t (record {
+          queues = keys.queues;
+          complexes = keys.complexes;
+          devices = keys.devices;
+          rows = keys.rows;
+          hands = keys.hands;
+          promises =
+              keys.promises;
+          stages = part_distinct peer_number_eq (map_part stage_key part) keys.stages;
+          files = keys.files;
+        });
         arrivals = h.arrivals;
         queues = h.queues;
         complexes = h.complexes;
@@ -93,7 +114,8 @@ module _ {E : Type 0} where
         files = h.files;
       }
 
-  file_numbered : (s : State E) (part : OutPart E) → IsInOrder s → is_path part.path ≡ true → nat_lt s.file_next last_u64 ≡ true → IsInOrder (record s { files = s.files ++ record { number = s.file_next; path = part.path; bytes = part.bytes } ∷ []; file_next = s.file_next + 1 })
+  file_numbered : (s : State E) (part : OutPart E) → IsInOrder s → is_path part.path ≡ true → nat_lt s.file_next last_u64 ≡ true
+      → IsInOrder (record s { files = s.files ++ record { number = s.file_next; path = part.path; bytes = part.bytes } ∷ []; file_next = s.file_next + 1 })
   file_numbered s part h path left =
       let keys = keys_are s h.keys in
       let p = parameters_are s h.parameters in
@@ -103,9 +125,31 @@ module _ {E : Type 0} where
       let keeps : Keeps s t = record { me = refl; site = refl; seq = omega arith; arrivals = omega arith; queues = λ q k. k; devices = λ d k. k } in
       record {
         site = h.site;
-        parameters = parameters_right t (record { limit = p.limit; patience = p.patience; wait = p.wait; seq = p.seq; arrivals = p.arrivals; file_some = le-leb 1 (s.file_next + 1) (omega arith); file = le-leb (s.file_next + 1) last_u64 (omega (arith, below)); queue = default_kept s t (λ q k. k) s.default_queue p.queue });
+        parameters = parameters_right t (record {
+          limit = p.limit;
+          patience = p.patience;
+          wait = p.wait;
+          seq = p.seq;
+          arrivals = p.arrivals;
+          file_some =
+              le-leb 1 (s.file_next + 1) (omega arith);
+          file = le-leb (s.file_next + 1) last_u64 (omega (arith, below));
+          queue =
+              default_kept s t (λ q k. k) s.default_queue p.queue;
+        });
         short = h.short;
-        keys = keys_right t (record { queues = keys.queues; complexes = keys.complexes; devices = keys.devices; rows = keys.rows; hands = keys.hands; promises = keys.promises; stages = keys.stages; files = ap (are_distinct same_number) (map-append (λ x. x.number) s.files (f ∷ [])) ∙ distinct-added same_number number_exact same_it (map (λ x. x.number) s.files) s.file_next new keys.files });
+        keys = keys_right t (record {
+          queues = keys.queues;
+          complexes = keys.complexes;
+          devices = keys.devices;
+          rows = keys.rows;
+          hands = keys.hands;
+          promises =
+              keys.promises;
+          stages = keys.stages;
+          files = ap (are_distinct same_number) (map-append (λ x. x.number) s.files (f ∷ []))
+              ∙ distinct-added same_number number_exact same_it (map (λ x. x.number) s.files) s.file_next new keys.files;
+        });
         arrivals = h.arrivals;
         queues = h.queues;
         complexes = h.complexes;
@@ -117,26 +161,31 @@ module _ {E : Type 0} where
         offers = h.offers;
         peers = h.peers;
         stages = h.stages;
-        files = all-added (is_file_right t) s.files f (list_all-weaker (is_file_right s) (is_file_right t) old s.files h.files) (and_from (is_path part.path) (is_given s.file_next (s.file_next + 1)) path (given_next s.file_next p.file_some));
+        files = all-added (is_file_right t) s.files f (list_all-weaker (is_file_right s) (is_file_right t) old s.files h.files)
+            (and_from (is_path part.path) (is_given s.file_next (s.file_next + 1)) path (given_next s.file_next p.file_some));
       }
     where
       old : (x : FileOut E) → is_file_right s x ≡ true → (is_path x.path && is_given x.number (s.file_next + 1)) ≡ true
-      old x k = let q = and_parts (is_path x.path) (is_given x.number s.file_next) k in and_from (is_path x.path) (is_given x.number (s.file_next + 1)) q.0 (given_more x.number s.file_next (s.file_next + 1) (omega arith) q.1)
+      old x k = let q = and_parts (is_path x.path) (is_given x.number s.file_next) k in
+          and_from (is_path x.path) (is_given x.number (s.file_next + 1)) q.0 (given_more x.number s.file_next (s.file_next + 1) (omega arith) q.1)
 
       new : list_any (same_number s.file_next) (map (λ x. x.number) s.files) ≡ false
-      new = list_any-map (λ x. x.number) (same_number s.file_next) s.files ∙ none_from_all (is_file_right s) (λ x. same_number s.file_next x.number) (λ x k. false_from_ne_true (same_number s.file_next x.number) (λ e.
+      new = list_any-map (λ x. x.number) (same_number s.file_next) s.files
+          ∙ none_from_all (is_file_right s) (λ x. same_number s.file_next x.number) (λ x k. false_from_ne_true (same_number s.file_next x.number) (λ e.
           let q = (and_parts (is_path x.path) (is_given x.number s.file_next) k).1 in
           true≢false (sym q ∙ ap (λ n. is_given n s.file_next) (sym (eqb-true s.file_next x.number e)) ∙ not_given s.file_next))) s.files h.files
 
   pub file_added : (s : State E) (part : OutPart E) → IsInOrder s → is_path part.path ≡ true → IsInOrder (add_file part s)
   file_added s part h path = by (nat_lt s.file_next last_u64) refl
     where
-      by : (b : Bool) → nat_lt s.file_next last_u64 ≡ b → IsInOrder (if b then record s { files = s.files ++ record { number = s.file_next; path = part.path; bytes = part.bytes } ∷ []; file_next = s.file_next + 1 } else s)
+      by : (b : Bool) → nat_lt s.file_next last_u64 ≡ b → IsInOrder (if b then
+          record s { files = s.files ++ record { number = s.file_next; path = part.path; bytes = part.bytes } ∷ []; file_next = s.file_next + 1 } else s)
       by true e = file_numbered s part h path e
       by false e = h
 
   -- one stage more
-  with_stage : (s : State E) (x : Stage E) → IsInOrder s → is_stage_right s x ≡ true → list_any (peer_number_eq (stage_key x)) (map stage_key s.stages) ≡ false → IsInOrder (record s { stages = s.stages ++ x ∷ [] })
+  with_stage : (s : State E) (x : Stage E) → IsInOrder s → is_stage_right s x ≡ true → list_any (peer_number_eq (stage_key x)) (map stage_key s.stages) ≡ false
+      → IsInOrder (record s { stages = s.stages ++ x ∷ [] })
   with_stage s x h right new =
       let keys = keys_are s h.keys in
       let t : State E = record s { stages = s.stages ++ x ∷ [] } in
@@ -145,7 +194,18 @@ module _ {E : Type 0} where
         site = h.site;
         parameters = parameters_kept s t refl (λ q k. k) h.parameters;
         short = h.short;
-        keys = keys_right t (record { queues = keys.queues; complexes = keys.complexes; devices = keys.devices; rows = keys.rows; hands = keys.hands; promises = keys.promises; stages = ap (are_distinct peer_number_eq) (map-append stage_key s.stages (x ∷ [])) ∙ distinct-added peer_number_eq peer_number_exact same_peer_number (map stage_key s.stages) (stage_key x) new keys.stages; files = keys.files });
+        keys = keys_right t (record {
+          queues = keys.queues;
+          complexes = keys.complexes;
+          devices = keys.devices;
+          rows = keys.rows;
+          hands = keys.hands;
+          promises =
+              keys.promises;
+          stages = ap (are_distinct peer_number_eq) (map-append stage_key s.stages (x ∷ []))
+              ∙ distinct-added peer_number_eq peer_number_exact same_peer_number (map stage_key s.stages) (stage_key x) new keys.stages;
+          files = keys.files;
+        });
         arrivals = h.arrivals;
         queues = h.queues;
         complexes = h.complexes;
@@ -160,28 +220,41 @@ module _ {E : Type 0} where
         files = h.files;
       }
 
-  stage_numbered : (s : State E) (host : HostId) (part : OutPart E) (p : Peer) → IsInOrder s → is_path part.path ≡ true → find_peer host s ≡ Some p → IsInOrder (record (change_peer host stage_counted s) { stages = s.stages ++ record { peer = host; number = p.stage_next; path = part.path; bytes = part.bytes } ∷ [] })
+  stage_numbered : (s : State E) (host : HostId) (part : OutPart E) (p : Peer) → IsInOrder s → is_path part.path ≡ true → find_peer host s ≡ Some p
+      → IsInOrder (record (change_peer host stage_counted s) {
+        stages = s.stages
+            ++ record { peer = host; number = p.stage_next; path = part.path; bytes = part.bytes } ∷ [];
+      })
   stage_numbered s host part p h path found =
       let t : State E = change_peer host stage_counted s in
       let k : IsInOrder t = peer_counted s host stage_counted h (λ q e. record { next = omega arith; stage_next = omega arith }) (λ q. refl) in
       let right : passes (is_stage_given p.stage_next) (find_peer host t) ≡ true =
-      ap (passes (is_stage_given p.stage_next)) (get-changed host.0 stage_counted s.peers ∙ ap (option_map stage_counted) found) ∙ given_next p.stage_next counts in
-      with_stage t (record { peer = host; number = p.stage_next; path = part.path; bytes = part.bytes }) k (and_from (is_path part.path) (passes (is_stage_given p.stage_next) (find_peer host t)) path right) new
+      ap (passes (is_stage_given p.stage_next)) (get-changed host.0 stage_counted s.peers ∙ ap (option_map stage_counted) found)
+      ∙ given_next p.stage_next counts in
+      with_stage t (record { peer = host; number = p.stage_next; path = part.path; bytes = part.bytes }) k
+      (and_from (is_path part.path) (passes (is_stage_given p.stage_next) (find_peer host t)) path right) new
     where
       counts : nat_le 1 p.stage_next ≡ true
       counts = (and_parts (nat_le 1 p.next) (nat_le 1 p.stage_next) (all_get is_peer_right s.peers host.0 p h.peers found)).1
 
       new : list_any (peer_number_eq (peer_number host p.stage_next)) (map stage_key s.stages) ≡ false
-      new = list_any-map stage_key (peer_number_eq (peer_number host p.stage_next)) s.stages ∙ none_from_all (is_stage_right s) (λ x. peer_number_eq (peer_number host p.stage_next) (stage_key x)) (λ x k.
+      new = list_any-map stage_key (peer_number_eq (peer_number host p.stage_next)) s.stages
+          ∙ none_from_all (is_stage_right s) (λ x. peer_number_eq (peer_number host p.stage_next) (stage_key x)) (λ x k.
           false_from_ne_true (peer_number_eq (peer_number host p.stage_next) (stage_key x)) (λ e.
           let is : peer_number host p.stage_next ≡ stage_key x = peer_number_exact (peer_number host p.stage_next) (stage_key x) e in
-          let given : passes (is_stage_given x.number) (find_peer x.peer s) ≡ true = (and_parts (is_path x.path) (passes (is_stage_given x.number) (find_peer x.peer s)) k).1 in
-          true≢false (sym given ∙ (λ j. passes (is_stage_given (sym is j).number) (find_peer (sym is j).peer s)) ∙ ap (passes (is_stage_given p.stage_next)) found ∙ not_given p.stage_next))) s.stages h.stages
+          let given : passes (is_stage_given x.number) (find_peer x.peer s) ≡ true =
+          (and_parts (is_path x.path) (passes (is_stage_given x.number) (find_peer x.peer s)) k).1 in
+          true≢false (sym given ∙ (λ j. passes (is_stage_given (sym is j).number) (find_peer (sym is j).peer s))
+          ∙ ap (passes (is_stage_given p.stage_next)) found ∙ not_given p.stage_next))) s.stages h.stages
 
   stage_added : (s : State E) (host : HostId) (part : OutPart E) → IsInOrder s → is_path part.path ≡ true → IsInOrder (add_stage host part s)
   stage_added s host part h path = of (find_peer host s) refl
     where
-      by : (p : Peer) (b : Bool) → find_peer host s ≡ Some p → IsInOrder (if b then record (change_peer host stage_counted s) { stages = s.stages ++ record { peer = host; number = p.stage_next; path = part.path; bytes = part.bytes } ∷ [] } else s)
+      by : (p : Peer) (b : Bool) → find_peer host s ≡ Some p → IsInOrder (if b then
+          record (change_peer host stage_counted s) {
+            stages = s.stages ++ record { peer = host; number = p.stage_next; path = part.path; bytes = part.bytes }
+                ∷ [];
+          } else s)
       by p true found = stage_numbered s host part p h path found
       by p false found = h
 
@@ -196,6 +269,8 @@ module _ {E : Type 0} where
       by true = file_added s part h path
       by false = stage_added s id.host part h path
 
-  pub outputs_added : (s : State E) (id : RequestId) (parts : List (OutPart E)) → IsInOrder s → list_all has_path parts ≡ true → IsInOrder (add_outputs id parts s)
+  pub outputs_added : (s : State E) (id : RequestId) (parts : List (OutPart E)) → IsInOrder s → list_all has_path parts ≡ true
+      → IsInOrder (add_outputs id parts s)
   outputs_added s id [] h paths = h
-  outputs_added s id (part ∷ parts) h paths = let p = and_parts (has_path part) (list_all has_path parts) paths in outputs_added (add_output id part s) id parts (output_added s id part h p.0) p.1
+  outputs_added s id (part ∷ parts) h paths = let p = and_parts (has_path part) (list_all has_path parts) paths in
+      outputs_added (add_output id part s) id parts (output_added s id part h p.0) p.1

@@ -13,8 +13,10 @@ use Rattle.nqs_types.specs.declared.request.Stage.{Stage}
 use Rattle.nqs_types.specs.declared.event.Output.TheVariants as out
 use Rattle.nqs_rules.specs.Find.{find_row, host_at}
 use Rattle.nqs_rules.specs.Stepped.{Pending, map_pending, map_stepped}
-use Rattle.nqs_rules.specs.Handover.{is_silent, repeat_offer, repeat_phase, repeat_hand, repeated_hands, send_inquire, inquiries, silence, silent_hands, on_tick}
-use Rattle.nqs_rules.specs.Stage.{Part, goes_here, files_written, is_stage_to, has_stage_to, stage_sent, stage_due, parts_sent, first_number, kept_parts, is_earlier_stage, send_stage, due_of, file_again, stages_from, due_outputs, on_end}
+use Rattle.nqs_rules.specs.Handover.{is_silent, repeat_offer, repeat_phase, repeat_hand, repeated_hands, send_inquire, inquiries, silence, silent_hands}
+use Rattle.nqs_rules.specs.Handover.{on_tick}
+use Rattle.nqs_rules.specs.Stage.{Part, goes_here, files_written, is_stage_to, has_stage_to, stage_sent, stage_due, parts_sent, first_number, kept_parts}
+use Rattle.nqs_rules.specs.Stage.{is_earlier_stage, send_stage, due_of, file_again, stages_from, due_outputs, on_end}
 use Rattle.nqs_rules.specs.Step.{ticked}
 use Rattle.nqs_rules.specs.Plain.{map_row, map_promise, map_stage, map_file, map_state}
 use Rattle.nqs_rules.proofs.ListMaps.{if-map, map-mapped, map-flat_map, list_any-map, best_from-map, at_place}
@@ -47,8 +49,10 @@ module _ {E F : Type 0} (f : E → F) where
 
   -- stages and files that wait
 
-  pub due_of-map : (s : State E) (peer : HostId) (stages : List (Stage E)) → due_of (map_state f s) peer (map (map_stage f) stages) ≡ mapped (due_of s peer stages)
-  due_of-map s peer stages = ap (send_stage (map_state f s)) (best_from-map (map_stage f) (is_stage_to peer) is_earlier_stage 0 stages) ∙ by (best_from (is_stage_to peer) is_earlier_stage 0 stages)
+  pub due_of-map : (s : State E) (peer : HostId) (stages : List (Stage E))
+      → due_of (map_state f s) peer (map (map_stage f) stages) ≡ mapped (due_of s peer stages)
+  due_of-map s peer stages = ap (send_stage (map_state f s)) (best_from-map (map_stage f) (is_stage_to peer) is_earlier_stage 0 stages)
+      ∙ by (best_from (is_stage_to peer) is_earlier_stage 0 stages)
     where
       by : (o : Option (ℕ × Stage E)) → send_stage (map_state f s) (option_map (at_place (map_stage f)) o) ≡ mapped (send_stage s o)
       by None = refl
@@ -90,5 +94,10 @@ module _ {E F : Type 0} (f : E → F) where
       ((λ j. tick_outputs-map now s j ++ due_outputs-map s j) ∙ sym (map-append (map_pending f) (on_tick now s).outputs (due_outputs s)))
 
   -- a job ends
-  pub on_end-map : (status : ℕ) (r : Row E) (output error : List ℕ) (s : State E) → on_end status (map_row f r) output error (map_state f s) ≡ map_stepped f (on_end status r output error s)
-  on_end-map status r output error s = ap (λ l. record { change = (on_end status r output error s).change; outputs = (out.Ended r.id r.starts status, None) ∷ l }) (parts_sent-map s r.id (kept_parts s r output error))
+  pub on_end-map : (status : ℕ) (r : Row E) (output error : List ℕ) (s : State E)
+      → on_end status (map_row f r) output error (map_state f s) ≡ map_stepped f (on_end status r output error s)
+  on_end-map status r output error s = ap (λ l. record {
+    change = (on_end status r output error s).change;
+    outputs =
+        (out.Ended r.id r.starts status, None) ∷ l;
+  }) (parts_sent-map s r.id (kept_parts s r output error))

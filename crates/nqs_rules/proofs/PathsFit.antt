@@ -18,7 +18,8 @@ use Rattle.nqs_rules.proofs.ListFacts.{list_all-weaker}
 use Rattle.nqs_rules.proofs.KeyFacts.{all-added}
 
 digit_seen : (d : ℕ) → d < 10 → is_name_byte (48 + d) ≡ true
-digit_seen d low = and_from (is_visible (48 + d)) (not ((48 + d) == 47)) (and_from (nat_le 33 (48 + d)) (nat_le (48 + d) 126) (le-leb 33 (48 + d) (omega arith)) (le-leb (48 + d) 126 (omega arith))) (grind (arith, nat_tests))
+digit_seen d low = and_from (is_visible (48 + d)) (not ((48 + d) == 47)) (and_from (nat_le 33 (48 + d)) (nat_le (48 + d) 126) (le-leb 33 (48 + d) (omega arith))
+    (le-leb (48 + d) 126 (omega arith))) (grind (arith, nat_tests))
 
 digits_seen : (n : ℕ) → n < 2 ^ 64 → list_all is_name_byte (decimal n) ≡ true
 digits_seen n few = decimal_by_steps (λ n ds. list_all is_name_byte ds ≡ true) (λ n low. and_from (is_name_byte (48 + n)) true (digit_seen n low) refl)
@@ -32,14 +33,17 @@ one_part : (p : List ℕ) → list_all is_name_byte p ≡ true → components p 
 one_part [] h = refl
 one_part (b ∷ p) h =
     let k = and_parts (is_name_byte b) (list_all is_name_byte p) h in
-    (λ j. cond (not-true (b == 47) (and_parts (is_visible b) (not (b == 47)) k.0).1 j) ([] ∷ components p) (onto_first b (components p))) ∙ ap (onto_first b) (one_part p k.1)
+    (λ j. cond (not-true (b == 47) (and_parts (is_visible b) (not (b == 47)) k.0).1 j) ([] ∷ components p) (onto_first b (components p)))
+    ∙ ap (onto_first b) (one_part p k.1)
 
 -- a name of more than two bytes has no part `..`
 no_parent : (p : List ℕ) → list_all is_name_byte p ≡ true → 2 < length p → has_parent p ≡ false
 unfolding has_parent
-no_parent p h long = ap (list_any is_parent) (one_part p h) ∙ or_from (is_parent p) false (false_from_ne_true (is_parent p) (λ e. let is : length p ≡ 2 = ap length (name_exact p (46 ∷ 46 ∷ []) e) in omega arith)) refl
+no_parent p h long = ap (list_any is_parent) (one_part p h) ∙ or_from (is_parent p) false
+    (false_from_ne_true (is_parent p) (λ e. let is : length p ≡ 2 = ap length (name_exact p (46 ∷ 46 ∷ []) e) in omega arith)) refl
 
-default_path : (name : List ℕ) (letter seq : ℕ) → is_sane_name name ≡ true → is_name_byte letter ≡ true → seq ≤ last_seq → is_path (name ++ 46 ∷ letter ∷ [] ++ decimal seq) ≡ true
+default_path : (name : List ℕ) (letter seq : ℕ) → is_sane_name name ≡ true → is_name_byte letter ≡ true → seq ≤ last_seq
+    → is_path (name ++ 46 ∷ letter ∷ [] ++ decimal seq) ≡ true
 default_path name letter seq sane seen few =
     let k = each (nat_le 1 (length name)) (nat_le (length name) 15 ∷ list_all is_name_byte name ∷ []) sane in
     let path : List ℕ = name ++ 46 ∷ letter ∷ [] ++ decimal seq in
@@ -50,20 +54,30 @@ default_path name letter seq sane seen few =
     let front : length (name ++ 46 ∷ letter ∷ []) ≡ length name + length (46 ∷ letter ∷ []) = length-append name (46 ∷ letter ∷ []) in
     let two : length (46 ∷ letter ∷ []) ≡ 2 = refl in
     let all : list_all is_name_byte path ≡ true =
-    list_all-append is_name_byte (name ++ 46 ∷ letter ∷ []) (decimal seq) ∙ and_from (list_all is_name_byte (name ++ 46 ∷ letter ∷ [])) (list_all is_name_byte (decimal seq))
-    (list_all-append is_name_byte name (46 ∷ letter ∷ []) ∙ and_from (list_all is_name_byte name) (is_name_byte letter && true) k.1.1.0 (and_from (is_name_byte letter) true seen refl)) (digits_seen seq (omega arith)) in
+    list_all-append is_name_byte (name ++ 46 ∷ letter ∷ []) (decimal seq)
+    ∙ and_from (list_all is_name_byte (name ++ 46 ∷ letter ∷ [])) (list_all is_name_byte (decimal seq))
+    (list_all-append is_name_byte name (46 ∷ letter ∷ []) ∙ and_from (list_all is_name_byte name) (is_name_byte letter && true) k.1.1.0
+    (and_from (is_name_byte letter) true seen refl)) (digits_seen seq (omega arith)) in
     chained (nat_le 1 (length path)) (nat_le (length path) 255 ∷ list_all is_visible path ∷ not (begins_with_slash path) ∷ not (has_parent path) ∷ []) (
       le-leb 1 (length path) (omega (arith, size, front, two, some)),
       (
         le-leb (length path) 255 (omega (arith, size, front, two, short, digits)),
         (
           list_all-weaker is_name_byte is_visible (λ b h. (and_parts (is_visible b) (not (b == 47)) h).0) path all,
-          (not_from_false (begins_with_slash path) (no_slash path all), (not_from_false (has_parent path) (no_parent path all (omega (arith, size, front, two, some))), tt)),
+          (
+            not_from_false (begins_with_slash path) (no_slash path all),
+            (
+              not_from_false (has_parent path)
+                  (no_parent path all (omega (arith, size, front, two, some))),
+              tt,
+            ),
+          ),
         ),
       ),
     )
 
-path_given : (path name : List ℕ) (letter seq : ℕ) → is_path_or_none path ≡ true → is_sane_name name ≡ true → is_name_byte letter ≡ true → seq ≤ last_seq → is_path (path_or path name letter seq) ≡ true
+path_given : (path name : List ℕ) (letter seq : ℕ) → is_path_or_none path ≡ true → is_sane_name name ≡ true → is_name_byte letter ≡ true → seq ≤ last_seq
+    → is_path (path_or path name letter seq) ≡ true
 path_given [] name letter seq asked sane seen few = default_path name letter seq sane seen few
 path_given (b ∷ path) name letter seq asked sane seen few = asked
 

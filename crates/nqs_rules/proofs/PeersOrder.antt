@@ -1,5 +1,6 @@
 -- Changes of peers and promises: a state in order stays so.
-use Rattle.std.proofs.Common.{◌≡◌, ℕ, ◌+◌, ◌≤◌, Bool, true, false, not, ◌==◌, nat_lt, nat_le, List, [], ◌∷◌, ◌++◌, map, length, slice_get, Option, None, Some, true≢false, zero, suc, refl, sym, ap, ◌∙◌, arith}
+use Rattle.std.proofs.Common.{◌≡◌, ℕ, ◌+◌, ◌≤◌, Bool, true, false, not, ◌==◌, nat_lt, nat_le, List, [], ◌∷◌, ◌++◌, map, length, slice_get, Option, None, Some}
+use Rattle.std.proofs.Common.{true≢false, zero, suc, refl, sym, ap, ◌∙◌, arith}
 use Rattle.std.proofs.lemmas.Bool.{and_parts, and_from, leb-true, le-leb, ltb-true, lt-ltb, eqb-true, not-true, or_from, and_left}
 use Rattle.std.proofs.lemmas.List.{map-append, length-append, append_assoc}
 use Rattle.std.specs.List.{list_any, list_all}
@@ -20,7 +21,8 @@ use Rattle.nqs_rules.specs.Routing.{close}
 use Rattle.nqs_rules.specs.Applied.{drop_promise, is_promise_of}
 use Rattle.nqs_rules.specs.Edits.{change_at, change_peer}
 use Rattle.nqs_rules.specs.Find.{find_peer, held_count}
-use Rattle.nqs_rules.specs.InOrder.{IsInOrder, are_distinct, same_number, arrivals_of, promisers, is_given, is_peer_right, is_hand_given, is_stage_given, is_promise_open, is_hand_right, is_promise_right, is_stage_right}
+use Rattle.nqs_rules.specs.InOrder.{IsInOrder, are_distinct, same_number, arrivals_of, promisers, is_given, is_peer_right, is_hand_given, is_stage_given}
+use Rattle.nqs_rules.specs.InOrder.{is_promise_open, is_hand_right, is_promise_right, is_stage_right}
 use Rattle.nqs_rules.proofs.Sublists.{IsPart, without_part, map_part, part_behind, part_length, part_all, part_distinct}
 use Rattle.nqs_rules.proofs.ListFacts.{list_all-weaker}
 use Rattle.nqs_rules.proofs.KeyFacts.{all-both, all-added, distinct-added}
@@ -41,7 +43,8 @@ module _ {V : Type 0} where
   get-other (suc n) zero f (v ∷ vs) other = refl
   get-other (suc n) (suc k) f (v ∷ vs) other = get-other n k f vs (λ e. other (ap suc e))
 
-  get-kept : (p q : V → Bool) (n k : ℕ) (f : V → V) (vs : List V) → ((v : V) → slice_get vs n ≡ Some v → p v ≡ true → q (f v) ≡ true) → ((v : V) → p v ≡ true → q v ≡ true) → passes p (slice_get vs k) ≡ true → passes q (slice_get (change_at n f vs) k) ≡ true
+  get-kept : (p q : V → Bool) (n k : ℕ) (f : V → V) (vs : List V) → ((v : V) → slice_get vs n ≡ Some v → p v ≡ true → q (f v) ≡ true)
+      → ((v : V) → p v ≡ true → q v ≡ true) → passes p (slice_get vs k) ≡ true → passes q (slice_get (change_at n f vs) k) ≡ true
   get-kept p q n k f [] changed same h = absurd (true≢false (sym h))
   get-kept p q zero zero f (v ∷ vs) changed same h = changed v refl h
   get-kept p q zero (suc k) f (v ∷ vs) changed same h = weaker (slice_get vs k) h
@@ -52,10 +55,12 @@ module _ {V : Type 0} where
   get-kept p q (suc n) zero f (v ∷ vs) changed same h = same v h
   get-kept p q (suc n) (suc k) f (v ∷ vs) changed same h = get-kept p q n k f vs changed same h
 
-  all-at : (p : V → Bool) (n : ℕ) (f : V → V) (vs : List V) → ((v : V) → slice_get vs n ≡ Some v → p v ≡ true → p (f v) ≡ true) → list_all p vs ≡ true → list_all p (change_at n f vs) ≡ true
+  all-at : (p : V → Bool) (n : ℕ) (f : V → V) (vs : List V) → ((v : V) → slice_get vs n ≡ Some v → p v ≡ true → p (f v) ≡ true) → list_all p vs ≡ true
+      → list_all p (change_at n f vs) ≡ true
   all-at p n f [] changed h = refl
   all-at p zero f (v ∷ vs) changed h = let q = and_parts (p v) (list_all p vs) h in and_from (p (f v)) (list_all p vs) (changed v refl q.0) q.1
-  all-at p (suc n) f (v ∷ vs) changed h = let q = and_parts (p v) (list_all p vs) h in and_from (p v) (list_all p (change_at n f vs)) q.0 (all-at p n f vs changed q.1)
+  all-at p (suc n) f (v ∷ vs) changed h = let q = and_parts (p v) (list_all p vs) h in
+      and_from (p v) (list_all p (change_at n f vs)) q.0 (all-at p n f vs changed q.1)
 
 -- numbers that were given stay so as the counter grows
 pub given_more : (number n m : ℕ) → n ≤ m → is_given number n ≡ true → is_given number m ≡ true
@@ -73,13 +78,20 @@ pub record Counts (p q : Peer) : Type 0 where
 
 module _ {E : Type 0} where
   -- what is known of one peer changes: its counters don't fall, and the promises' numbers stay open
-  pub peer_changed : (s : State E) (host : HostId) (f : Peer → Peer) → IsInOrder s → ((p : Peer) → find_peer host s ≡ Some p → Counts p (f p)) → list_all (λ p. passes (is_promise_open p.number) (find_peer p.peer (change_peer host f s))) s.promises ≡ true → IsInOrder (change_peer host f s)
+  pub peer_changed : (s : State E) (host : HostId) (f : Peer → Peer) → IsInOrder s → ((p : Peer) → find_peer host s ≡ Some p → Counts p (f p))
+      → list_all (λ p. passes (is_promise_open p.number) (find_peer p.peer (change_peer host f s))) s.promises ≡ true → IsInOrder (change_peer host f s)
   peer_changed s host f h counts opens =
       let t : State E = change_peer host f s in
       let site = sites_are s h.site in
       let keeps : Keeps s t = record { me = refl; site = refl; seq = omega arith; arrivals = omega arith; queues = λ q k. k; devices = λ d k. k } in
       record {
-        site = sites_right t (record { some = site.some; few = site.few; me = site.me; peers = ap (λ n. n == length s.site) (length-at host.0 f s.peers) ∙ site.peers });
+        site = sites_right t (record {
+          some = site.some;
+          few = site.few;
+          me = site.me;
+          peers = ap (λ n. n == length s.site) (length-at host.0 f s.peers)
+              ∙ site.peers;
+        });
         parameters = parameters_kept s t refl (λ q k. k) h.parameters;
         short = h.short;
         keys = h.keys;
@@ -87,7 +99,8 @@ module _ {E : Type 0} where
         queues = h.queues;
         complexes = h.complexes;
         rows = rows_kept s t keeps s.rows h.rows;
-        promises = all-both (is_promise_right s) (λ p. passes (is_promise_open p.number) (find_peer p.peer t)) (is_promise_right t) promise s.promises h.promises opens;
+        promises = all-both (is_promise_right s) (λ p. passes (is_promise_open p.number) (find_peer p.peer t))
+            (is_promise_right t) promise s.promises h.promises opens;
         promisers = h.promisers;
         hands = list_all-weaker (is_hand_right s) (is_hand_right t) hand s.hands h.hands;
         few = h.few;
@@ -110,15 +123,23 @@ module _ {E : Type 0} where
       hand : (x : Hand) → is_hand_right s x ≡ true → is_hand_right (change_peer host f s) x ≡ true
       hand x k =
           let p = hand_is s x k in
-          hand_right (change_peer host f s) x (record { id = p.id; given = get-kept (is_hand_given x.number) (is_hand_given x.number) host.0 x.peer.0 f s.peers (λ q found g. given_more x.number q.next (f q).next (counts q found).next g) (λ q g. g) p.given; stands = p.stands })
+          hand_right (change_peer host f s) x (record {
+            id = p.id;
+            given =
+                get-kept (is_hand_given x.number) (is_hand_given x.number) host.0 x.peer.0 f s.peers
+                (λ q found g. given_more x.number q.next (f q).next (counts q found).next g) (λ q g. g) p.given;
+            stands = p.stands;
+          })
 
       stage : (x : Stage E) → is_stage_right s x ≡ true → is_stage_right (change_peer host f s) x ≡ true
       stage x k =
           let p = and_parts (is_path x.path) (passes (is_stage_given x.number) (find_peer x.peer s)) k in
           and_from (is_path x.path) (passes (is_stage_given x.number) (find_peer x.peer (change_peer host f s))) p.0
-          (get-kept (is_stage_given x.number) (is_stage_given x.number) host.0 x.peer.0 f s.peers (λ q found g. given_more x.number q.stage_next (f q).stage_next (counts q found).stage_next g) (λ q g. g) p.1)
+          (get-kept (is_stage_given x.number) (is_stage_given x.number) host.0 x.peer.0 f s.peers
+          (λ q found g. given_more x.number q.stage_next (f q).stage_next (counts q found).stage_next g) (λ q g. g) p.1)
 
-      promise : (p : Promise E) → is_promise_right s p ≡ true → passes (is_promise_open p.number) (find_peer p.peer (change_peer host f s)) ≡ true → is_promise_right (change_peer host f s) p ≡ true
+      promise : (p : Promise E) → is_promise_right s p ≡ true → passes (is_promise_open p.number) (find_peer p.peer (change_peer host f s)) ≡ true
+          → is_promise_right (change_peer host f s) p ≡ true
       promise p k opens =
           let t : State E = change_peer host f s in
           let q = promise_is s p k in
@@ -126,12 +147,16 @@ module _ {E : Type 0} where
           promise_right t p (record { row = row_kept s t keeps p.row q.row; queued = q.queued; some = q.some; opens = opens })
 
   -- where nothing is closed, all stays open
-  pub peer_counted : (s : State E) (host : HostId) (f : Peer → Peer) → IsInOrder s → ((p : Peer) → find_peer host s ≡ Some p → Counts p (f p)) → ((p : Peer) → (f p).closed ≡ p.closed) → IsInOrder (change_peer host f s)
-  peer_counted s host f h counts closed = peer_changed s host f h counts (list_all-weaker (is_promise_right s) (λ p. passes (is_promise_open p.number) (find_peer p.peer (change_peer host f s))) (λ p k.
-      get-kept (is_promise_open p.number) (is_promise_open p.number) host.0 p.peer.0 f s.peers (λ q found g. ap (λ n. not (nat_le p.number n)) (closed q) ∙ g) (λ q g. g) (promise_is s p k).opens) s.promises h.promises)
+  pub peer_counted : (s : State E) (host : HostId) (f : Peer → Peer) → IsInOrder s → ((p : Peer) → find_peer host s ≡ Some p → Counts p (f p))
+      → ((p : Peer) → (f p).closed ≡ p.closed) → IsInOrder (change_peer host f s)
+  peer_counted s host f h counts closed = peer_changed s host f h counts (list_all-weaker (is_promise_right s)
+      (λ p. passes (is_promise_open p.number) (find_peer p.peer (change_peer host f s))) (λ p k.
+      get-kept (is_promise_open p.number) (is_promise_open p.number) host.0 p.peer.0 f s.peers (λ q found g. ap (λ n. not (nat_le p.number n)) (closed q) ∙ g)
+      (λ q g. g) (promise_is s p k).opens) s.promises h.promises)
 
   -- numbers of a host that has no promise may be closed
-  pub peer_closed : (s : State E) (host : HostId) (number : ℕ) → IsInOrder s → list_all (λ p. not (is_promise_of host p)) s.promises ≡ true → IsInOrder (change_peer host (close number) s)
+  pub peer_closed : (s : State E) (host : HostId) (number : ℕ) → IsInOrder s → list_all (λ p. not (is_promise_of host p)) s.promises ≡ true
+      → IsInOrder (change_peer host (close number) s)
   peer_closed s host number h none =
       let t : State E = change_peer host (close number) s in
       peer_changed s host (close number) h (λ p found. record { next = omega arith; stage_next = omega arith })
@@ -151,8 +176,27 @@ module _ {E : Type 0} where
       record {
         site = h.site;
         parameters = parameters_kept s t refl (λ q k. k) h.parameters;
-        short = short_right t (record { queues = short.queues; complexes = short.complexes; devices = short.devices; managers = short.managers; operators = short.operators; held = le-leb (length s.rows + length ps) 10000 (let k = leb-true (length s.rows + length s.promises) 10000 held in omega (arith, few, k)) });
-        keys = keys_right t (record { queues = keys.queues; complexes = keys.complexes; devices = keys.devices; rows = keys.rows; hands = keys.hands; promises = part_distinct peer_number_eq (map_part promise_key part) keys.promises; stages = keys.stages; files = keys.files });
+        short = short_right t (record {
+          queues = short.queues;
+          complexes = short.complexes;
+          devices = short.devices;
+          managers = short.managers;
+          operators =
+              short.operators;
+          held = le-leb (length s.rows + length ps) 10000
+              (let k = leb-true (length s.rows + length s.promises) 10000 held in omega (arith, few, k));
+        });
+        keys = keys_right t (record {
+          queues = keys.queues;
+          complexes = keys.complexes;
+          devices = keys.devices;
+          rows = keys.rows;
+          hands = keys.hands;
+          promises =
+              part_distinct peer_number_eq (map_part promise_key part) keys.promises;
+          stages = keys.stages;
+          files = keys.files;
+        });
         arrivals = part_distinct same_number (part_behind (map (λ r. r.arrival) s.rows) (map_part (λ p. p.row.arrival) part)) h.arrivals;
         queues = h.queues;
         complexes = h.complexes;
@@ -171,7 +215,9 @@ module _ {E : Type 0} where
   promise_dropped s k h = promises_part s (without_first (is_promise k) s.promises) (without_part (is_promise k) s.promises) h
 
   -- one promise more, of a host that had none
-  pub promise_added : (s : State E) (p : Promise E) → IsInOrder s → is_promise_right s p ≡ true → list_all (λ q. not (is_promise_of p.peer q)) s.promises ≡ true → list_any (same_number p.row.arrival) (arrivals_of s) ≡ false → nat_lt (held_count s) 10000 ≡ true → IsInOrder (record s { promises = s.promises ++ p ∷ [] })
+  pub promise_added : (s : State E) (p : Promise E) → IsInOrder s → is_promise_right s p ≡ true → list_all (λ q. not (is_promise_of p.peer q)) s.promises ≡ true
+      → list_any (same_number p.row.arrival) (arrivals_of s) ≡ false → nat_lt (held_count s) 10000 ≡ true
+      → IsInOrder (record s { promises = s.promises ++ p ∷ [] })
   promise_added s p h right others new few =
       let keys = keys_are s h.keys in
       let short = short_are s h.short in
@@ -184,14 +230,35 @@ module _ {E : Type 0} where
       record {
         site = h.site;
         parameters = parameters_kept s t refl (λ q k. k) h.parameters;
-        short = short_right t (record { queues = short.queues; complexes = short.complexes; devices = short.devices; managers = short.managers; operators = short.operators; held = le-leb (length s.rows + length (s.promises ++ p ∷ [])) 10000 (omega (arith, grown, one, below)) });
-        keys = keys_right t (record { queues = keys.queues; complexes = keys.complexes; devices = keys.devices; rows = keys.rows; hands = keys.hands; promises = ap (are_distinct peer_number_eq) (map-append promise_key s.promises (p ∷ [])) ∙ distinct-added peer_number_eq peer_number_exact same_peer_number (map promise_key s.promises) (promise_key p) (no_key s.promises others) keys.promises; stages = keys.stages; files = keys.files });
+        short = short_right t (record {
+          queues = short.queues;
+          complexes = short.complexes;
+          devices = short.devices;
+          managers = short.managers;
+          operators =
+              short.operators;
+          held = le-leb (length s.rows + length (s.promises ++ p ∷ [])) 10000 (omega (arith, grown, one, below));
+        });
+        keys = keys_right t (record {
+          queues = keys.queues;
+          complexes = keys.complexes;
+          devices = keys.devices;
+          rows = keys.rows;
+          hands = keys.hands;
+          promises =
+              ap (are_distinct peer_number_eq) (map-append promise_key s.promises (p ∷ []))
+              ∙ distinct-added peer_number_eq peer_number_exact same_peer_number (map promise_key s.promises) (promise_key p)
+              (no_key s.promises others) keys.promises;
+          stages = keys.stages;
+          files = keys.files;
+        });
         arrivals = arrivals;
         queues = h.queues;
         complexes = h.complexes;
         rows = rows_kept s t keeps s.rows h.rows;
         promises = promises_kept s t keeps refl (s.promises ++ p ∷ []) (all-added (is_promise_right s) s.promises p h.promises right);
-        promisers = ap (are_distinct same_host) (map-append (λ q. q.peer) s.promises (p ∷ [])) ∙ distinct-added same_host same_host_exact (λ a. same_it a.0) (promisers s) p.peer (no_peer s.promises others) h.promisers;
+        promisers = ap (are_distinct same_host) (map-append (λ q. q.peer) s.promises (p ∷ []))
+            ∙ distinct-added same_host same_host_exact (λ a. same_it a.0) (promisers s) p.peer (no_peer s.promises others) h.promisers;
         hands = h.hands;
         few = h.few;
         offers = h.offers;
@@ -200,13 +267,17 @@ module _ {E : Type 0} where
         files = h.files;
       }
     where
-      no_key : (ps : List (Promise E)) → list_all (λ q. not (is_promise_of p.peer q)) ps ≡ true → list_any (peer_number_eq (promise_key p)) (map promise_key ps) ≡ false
+      no_key : (ps : List (Promise E)) → list_all (λ q. not (is_promise_of p.peer q)) ps ≡ true
+          → list_any (peer_number_eq (promise_key p)) (map promise_key ps) ≡ false
       no_key [] all = refl
-      no_key (q ∷ ps) all = let k = and_parts (not (is_promise_of p.peer q)) (list_all (λ q. not (is_promise_of p.peer q)) ps) all in or_from (peer_number_eq (promise_key p) (promise_key q)) (list_any (peer_number_eq (promise_key p)) (map promise_key ps)) (and_left (p.peer.0 == q.peer.0) (p.number == q.number) (not-true _ k.0)) (no_key ps k.1)
+      no_key (q ∷ ps) all = let k = and_parts (not (is_promise_of p.peer q)) (list_all (λ q. not (is_promise_of p.peer q)) ps) all in
+          or_from (peer_number_eq (promise_key p) (promise_key q)) (list_any (peer_number_eq (promise_key p)) (map promise_key ps))
+          (and_left (p.peer.0 == q.peer.0) (p.number == q.number) (not-true _ k.0)) (no_key ps k.1)
 
       no_peer : (ps : List (Promise E)) → list_all (λ q. not (is_promise_of p.peer q)) ps ≡ true → list_any (same_host p.peer) (map (λ q. q.peer) ps) ≡ false
       no_peer [] all = refl
-      no_peer (q ∷ ps) all = let k = and_parts (not (is_promise_of p.peer q)) (list_all (λ q. not (is_promise_of p.peer q)) ps) all in or_from (same_host p.peer q.peer) (list_any (same_host p.peer) (map (λ q. q.peer) ps)) (not-true _ k.0) (no_peer ps k.1)
+      no_peer (q ∷ ps) all = let k = and_parts (not (is_promise_of p.peer q)) (list_all (λ q. not (is_promise_of p.peer q)) ps) all in
+          or_from (same_host p.peer q.peer) (list_any (same_host p.peer) (map (λ q. q.peer) ps)) (not-true _ k.0) (no_peer ps k.1)
 
       arrivals : are_distinct same_number (map (λ r. r.arrival) s.rows ++ map (λ q. q.row.arrival) (s.promises ++ p ∷ [])) ≡ true
       arrivals =

@@ -1,5 +1,6 @@
 -- The scheduler picks the first row of the next queue.
-use Rattle.std.proofs.Common.{◌≡◌, ℕ, Bool, true, false, ◌&&◌, ◌||◌, ◌==◌, nat_lt, Option, None, Some, is_some, true≢false, refl, sym, ap, subst, ◌∙◌, arith, if◌then◌else◌}
+use Rattle.std.proofs.Common.{◌≡◌, ℕ, Bool, true, false, ◌&&◌, ◌||◌, ◌==◌, nat_lt, Option, None, Some, is_some, true≢false, refl, sym, ap, subst, ◌∙◌, arith}
+use Rattle.std.proofs.Common.{if◌then◌else◌}
 use Rattle.std.proofs.lemmas.Bool.Decides.{nat_tests}
 use Rattle.std.specs.List.{list_any}
 use Rattle.std.specs.Option.{IfSome}
@@ -13,7 +14,8 @@ use Rattle.nqs_types.specs.declared.rule.Choice.TheVariants.{TooFar, Local, Hand
 use Rattle.nqs_rules.specs.Tests.{is_ready}
 use Rattle.nqs_rules.specs.Devices.{free_device}
 use Rattle.nqs_rules.specs.Routing.{destination}
-use Rattle.nqs_rules.specs.Order.{is_greater, is_within_limits, kind_allows, is_eligible, comes_before, first_eligible, is_candidate, next_queue, is_local, print_on, move_to, choice_for, choice_of, pick_in, pick}
+use Rattle.nqs_rules.specs.Order.{is_greater, is_within_limits, kind_allows, is_eligible, comes_before, first_eligible, is_candidate, next_queue, is_local}
+use Rattle.nqs_rules.specs.Order.{print_on, move_to, choice_for, choice_of, pick_in, pick}
 use Rattle.nqs_rules.specs.Picked.{PlainRow, has_eligible, may_start, IsFirstRow, IsNextQueue, row_place, IsPicked}
 use Rattle.nqs_rules.proofs.BestLaws.{IsBest, best_is, best_is_some}
 
@@ -31,7 +33,8 @@ not_both_before a b h = numbers a.job.priority b.job.priority a.arrival b.arriva
 not_before_through : (a b c : PlainRow) → comes_before a b ≡ false → comes_before b c ≡ false → comes_before a c ≡ false
 not_before_through a b c h g = numbers a.job.priority b.job.priority c.job.priority a.arrival b.arrival c.arrival h g
   where
-    numbers : (p q r m n o : ℕ) → (nat_lt q p || (p == q && nat_lt m n)) ≡ false → (nat_lt r q || (q == r && nat_lt n o)) ≡ false → (nat_lt r p || (p == r && nat_lt m o)) ≡ false
+    numbers : (p q r m n o : ℕ) → (nat_lt q p || (p == q && nat_lt m n)) ≡ false → (nat_lt r q || (q == r && nat_lt n o)) ≡ false
+        → (nat_lt r p || (p == r && nat_lt m o)) ≡ false
     numbers p q r m n o h g = grind (arith, nat_tests)
 
 not_greater_itself : (d : QueueDef) → is_greater d d ≡ false
@@ -50,7 +53,8 @@ not_greater_through a b c h g = numbers a.priority b.priority c.priority h g
     numbers p q r h g = grind (arith, nat_tests)
 
 -- what an eligible row is
-pub eligible_parts : (d : QueueDef) (now : ℕ) (s : Plain) (r : PlainRow) → is_eligible d now s r ≡ true → (name_eq d.name r.queue ≡ true) × (is_ready r ≡ true) × (kind_allows d.kind d now s r ≡ true)
+pub eligible_parts : (d : QueueDef) (now : ℕ) (s : Plain) (r : PlainRow) → is_eligible d now s r ≡ true
+    → (name_eq d.name r.queue ≡ true) × (is_ready r ≡ true) × (kind_allows d.kind d now s r ≡ true)
 eligible_parts d now s r h = five (name_eq d.name r.queue) (is_ready r) _ _ _ h
   where
     five : (u v w x y : Bool) → (u && v && w && x && y) ≡ true → (u ≡ true) × (v ≡ true) × (y ≡ true)
@@ -131,7 +135,8 @@ module _ (now : ℕ) (s : Plain) where
   pub picked_is : IfSome (pick now s) (IsPicked now s)
   picked_is = in_queue (next_queue now s) next_queue_is
     where
-      with_row : (q : ℕ × QueueDef) → IsNextQueue now s q.0 q.1 → (p : ℕ × PlainRow) → IsFirstRow q.1 now s p.0 p.1 → (o : Option Choice) → choice_for q.1.kind q.1 now s p.0 p.1 ≡ o → IfSome o (λ c. row_place c ≡ p.0)
+      with_row : (q : ℕ × QueueDef) → IsNextQueue now s q.0 q.1 → (p : ℕ × PlainRow) → IsFirstRow q.1 now s p.0 p.1 → (o : Option Choice)
+          → choice_for q.1.kind q.1 now s p.0 p.1 ≡ o → IfSome o (λ c. row_place c ≡ p.0)
           → IfSome o (IsPicked now s)
       with_row q next p first None way place = tt
       with_row q next p first (Some c) way place = record {
@@ -143,7 +148,8 @@ module _ (now : ℕ) (s : Plain) where
         way = ap (λ n. choice_for q.1.kind q.1 now s n p.1) place ∙ way;
       }
 
-      of_queue : (q : ℕ × QueueDef) → IsNextQueue now s q.0 q.1 → (o : Option (ℕ × PlainRow)) → IfSome o (λ p. IsFirstRow q.1 now s p.0 p.1) → IfSome (choice_of q.1 now s o) (IsPicked now s)
+      of_queue : (q : ℕ × QueueDef) → IsNextQueue now s q.0 q.1 → (o : Option (ℕ × PlainRow)) → IfSome o (λ p. IsFirstRow q.1 now s p.0 p.1)
+          → IfSome (choice_of q.1 now s o) (IsPicked now s)
       of_queue q next None first = tt
       of_queue q next (Some p) first = with_row q next p first (choice_for q.1.kind q.1 now s p.0 p.1) refl (place_is q.1.kind q.1 p.0 p.1)
 
@@ -154,7 +160,8 @@ module _ (now : ℕ) (s : Plain) where
   pub picked_is_some : is_some (pick now s) ≡ list_any (may_start now s) s.queues
   picked_is_some = in_queue (next_queue now s) next_queue_is ∙ next_queue_is_some
     where
-      of_queue : (d : QueueDef) (o : Option (ℕ × PlainRow)) → is_some o ≡ true → IfSome o (λ p. IsFirstRow d now s p.0 p.1) → is_some (choice_of d now s o) ≡ true
+      of_queue : (d : QueueDef) (o : Option (ℕ × PlainRow)) → is_some o ≡ true → IfSome o (λ p. IsFirstRow d now s p.0 p.1)
+          → is_some (choice_of d now s o) ≡ true
       of_queue d None some first = absurd (true≢false (sym some))
       of_queue d (Some p) some first = choice_is_some d.kind d p.0 p.1 ∙ (eligible_parts d now s p.1 first.eligible).2
 

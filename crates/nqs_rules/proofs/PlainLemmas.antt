@@ -1,5 +1,6 @@
 -- A change of a state is, on the parts that stand for its stored ones, the same change.
-use Rattle.std.proofs.Common.{◌≡◌, ℕ, ◌+◌, Bool, true, false, not, ◌&&◌, filter, List, [], ◌∷◌, ◌++◌, map, Option, None, Some, option_map, refl, sym, ap, ◌∙◌, if◌then◌else◌, nat_lt}
+use Rattle.std.proofs.Common.{◌≡◌, ℕ, ◌+◌, Bool, true, false, not, ◌&&◌, filter, List, [], ◌∷◌, ◌++◌, map, Option, None, Some, option_map, refl, sym, ap, ◌∙◌}
+use Rattle.std.proofs.Common.{if◌then◌else◌, nat_lt}
 use Rattle.std.proofs.lemmas.List.{map-append}
 use Rattle.nqs_state.specs.State.{State}
 use Rattle.nqs_values.specs.Same.{name_eq}
@@ -14,7 +15,9 @@ use Rattle.nqs_types.specs.declared.request.Promise.{Promise}
 use Rattle.nqs_types.specs.declared.request.Peer.{Peer}
 use Rattle.nqs_types.specs.declared.change.OutPart.{OutPart}
 use Rattle.nqs_types.specs.declared.change.Change.{Change}
-use Rattle.nqs_types.specs.declared.change.Change.TheVariants.{Submitted, Deleted, Doomed, Started, Ended, Unlaunched, Boot, Edited, HandOpened, HandCommitted, HandRefused, HandsSilent, Promised, Accepted, Dropped, MovedLocal, RefusedLocal, HeldFar, StageGot, StageGone, FileGone}
+use Rattle.nqs_types.specs.declared.change.Change.TheVariants.{Submitted, Deleted, Doomed, Started, Ended, Unlaunched, Boot, Edited, HandOpened, HandCommitted}
+use Rattle.nqs_types.specs.declared.change.Change.TheVariants.{HandRefused, HandsSilent, Promised, Accepted, Dropped, MovedLocal, RefusedLocal, HeldFar}
+use Rattle.nqs_types.specs.declared.change.Change.TheVariants.{StageGot, StageGone, FileGone}
 use Rattle.nqs_types.specs.declared.edit.Edit.{Edit}
 use Rattle.nqs_types.specs.declared.edit.Edit.TheVariants.{Conf, Limits as LimitsOf, Access as AccessOf, Devices as DevicesOf, Rows as RowsOf}
 use Rattle.nqs_types.specs.declared.edit.ConfEdit.{ConfEdit}
@@ -35,16 +38,20 @@ use Rattle.nqs_rules.specs.Limits.{limits_applied}
 use Rattle.nqs_rules.specs.Devices.{devices_applied}
 use Rattle.nqs_rules.specs.Rows.{doomed_in, held_row, released_row, moved_row, with_priority, change_meant, next_arrival, rows_applied}
 use Rattle.nqs_rules.specs.Routing.{close, held_where, all_refused, with_refusal, refusal_noted, dests_for}
-use Rattle.nqs_rules.specs.Applied.{new_row, doomed_row, started_row, may_start_again, lost_row, booted_row, add_file, add_stage_to, add_output, add_outputs, stage_counted, routing_row, requeued_row, drop_hand, hand_committed, hand_refused, hand_silent, hands_silent, is_promise_of, add_promised, drop_promise, accepted, moved_local, local_refused, held_far, access_applied, edit_applied, applied}
+use Rattle.nqs_rules.specs.Applied.{new_row, doomed_row, started_row, may_start_again, lost_row, booted_row, add_file, add_stage_to, add_output, add_outputs}
+use Rattle.nqs_rules.specs.Applied.{stage_counted, routing_row, requeued_row, drop_hand, hand_committed, hand_refused, hand_silent, hands_silent, is_promise_of}
+use Rattle.nqs_rules.specs.Applied.{add_promised, drop_promise, accepted, moved_local, local_refused, held_far, access_applied, edit_applied, applied}
 use Rattle.nqs_rules.specs.Plain.{map_row, map_promise, map_stage, map_file, map_state}
 use Rattle.nqs_rules.specs.Stepped.{map_part, map_change}
 use Rattle.nqs_rules.proofs.ListMaps.{map-change_first, map-without_first, map-filter, map-mapped, map-filter_map, find-map, list_any-map}
 
 module _ {E F : Type 0} (f : E → F) where
-  with_rows : (s : State E) (rows : List (Row E)) (rows' : List (Row F)) → map (map_row f) rows ≡ rows' → map_state f (record s { rows = rows }) ≡ record (map_state f s) { rows = rows' }
+  with_rows : (s : State E) (rows : List (Row E)) (rows' : List (Row F)) → map (map_row f) rows ≡ rows'
+      → map_state f (record s { rows = rows }) ≡ record (map_state f s) { rows = rows' }
   with_rows s rows rows' e = ap (λ l. record (map_state f s) { rows = l }) e
 
-  pub change_row-map : (id : RequestId) (g : Row E → Row E) (h : Row F → Row F) → ((r : Row E) → map_row f (g r) ≡ h (map_row f r)) → (s : State E) → map_state f (change_row id g s) ≡ change_row id h (map_state f s)
+  pub change_row-map : (id : RequestId) (g : Row E → Row E) (h : Row F → Row F) → ((r : Row E) → map_row f (g r) ≡ h (map_row f r)) → (s : State E)
+      → map_state f (change_row id g s) ≡ change_row id h (map_state f s)
   change_row-map id g h same s = with_rows s _ _ (map-change_first (map_row f) (is_row id) g h same s.rows)
 
   drop_row-map : (id : RequestId) (s : State E) → map_state f (drop_row id s) ≡ drop_row id (map_state f s)
@@ -56,7 +63,8 @@ module _ {E F : Type 0} (f : E → F) where
   booted-map : (r : Row E) → option_map (map_row f) (booted_row r) ≡ booted_row (map_row f r)
   booted-map r = by (is_running r.state) (may_start_again r)
     where
-      by : (b c : Bool) → option_map (map_row f) (if b then (if c then Some (lost_row r) else None) else Some r) ≡ (if b then (if c then Some (lost_row (map_row f r)) else None) else Some (map_row f r))
+      by : (b c : Bool) → option_map (map_row f) (if b then (if c then Some (lost_row r) else None) else Some r)
+          ≡ (if b then (if c then Some (lost_row (map_row f r)) else None) else Some (map_row f r))
       by true true = refl
       by true false = refl
       by false c = refl
@@ -88,7 +96,8 @@ module _ {E F : Type 0} (f : E → F) where
   devices-map (CreateDevice d forms) s = refl
   devices-map e s = refl
 
-  meant-map : (m : Option RequestId) (g : Row E → Row E) (h : Row F → Row F) → ((r : Row E) → map_row f (g r) ≡ h (map_row f r)) → (s : State E) → map_state f (change_meant m g s) ≡ change_meant m h (map_state f s)
+  meant-map : (m : Option RequestId) (g : Row E → Row E) (h : Row F → Row F) → ((r : Row E) → map_row f (g r) ≡ h (map_row f r)) → (s : State E)
+      → map_state f (change_meant m g s) ≡ change_meant m h (map_state f s)
   meant-map None g h same s = refl
   meant-map (Some id) g h same s = change_row-map id g h same s
 
@@ -111,17 +120,29 @@ module _ {E F : Type 0} (f : E → F) where
   file-map : (part : OutPart E) (s : State E) → map_state f (add_file part s) ≡ add_file (map_part f part) (map_state f s)
   file-map part s = by (nat_lt s.file_next last_u64)
     where
-      by : (b : Bool) → map_state f (if b then record s { files = s.files ++ record { number = s.file_next; path = part.path; bytes = part.bytes } ∷ []; file_next = s.file_next + 1 } else s)
-          ≡ (if b then record (map_state f s) { files = map (map_file f) s.files ++ record { number = s.file_next; path = part.path; bytes = f part.bytes } ∷ []; file_next = s.file_next + 1 } else map_state f s)
+      by : (b : Bool) → map_state f (if b then record s {
+        files = s.files
+            ++ record { number = s.file_next; path = part.path; bytes = part.bytes } ∷ [];
+        file_next = s.file_next + 1;
+      } else s)
+          ≡ (if b then record (map_state f s) {
+            files = map (map_file f) s.files
+                ++ record { number = s.file_next; path = part.path; bytes = f part.bytes } ∷ [];
+            file_next = s.file_next + 1;
+          } else map_state f s)
       by true = ap (λ l. record (map_state f s) { files = l; file_next = s.file_next + 1 }) (map-append (map_file f) s.files _)
       by false = refl
 
-  stage_to-map : (host : HostId) (part : OutPart E) (o : Option Peer) (s : State E) → map_state f (add_stage_to host part o s) ≡ add_stage_to host (map_part f part) o (map_state f s)
+  stage_to-map : (host : HostId) (part : OutPart E) (o : Option Peer) (s : State E)
+      → map_state f (add_stage_to host part o s) ≡ add_stage_to host (map_part f part) o (map_state f s)
   stage_to-map host part None s = refl
   stage_to-map host part (Some p) s = by (nat_lt p.stage_next last_u64)
     where
-      by : (b : Bool) → map_state f (if b then record (change_peer host stage_counted s) { stages = s.stages ++ record { peer = host; number = p.stage_next; path = part.path; bytes = part.bytes } ∷ [] } else s)
-          ≡ (if b then record (change_peer host stage_counted (map_state f s)) { stages = map (map_stage f) s.stages ++ record { peer = host; number = p.stage_next; path = part.path; bytes = f part.bytes } ∷ [] } else map_state f s)
+      by : (b : Bool) → map_state f (if b then record (change_peer host stage_counted s)
+          { stages = s.stages ++ record { peer = host; number = p.stage_next; path = part.path; bytes = part.bytes } ∷ [] } else s)
+          ≡ (if b then record (change_peer host stage_counted (map_state f s))
+          { stages = map (map_stage f) s.stages ++ record { peer = host; number = p.stage_next; path = part.path; bytes = f part.bytes } ∷ [] } else
+          map_state f s)
       by true = ap (λ l. record (change_peer host stage_counted (map_state f s)) { stages = l }) (map-append (map_stage f) s.stages _)
       by false = refl
 
@@ -133,7 +154,8 @@ module _ {E F : Type 0} (f : E → F) where
       by true = file-map part s
       by false = stage_to-map id.host part (find_peer id.host s) s
 
-  outputs-map : (id : RequestId) (parts : List (OutPart E)) (s : State E) → map_state f (add_outputs id parts s) ≡ add_outputs id (map (map_part f) parts) (map_state f s)
+  outputs-map : (id : RequestId) (parts : List (OutPart E)) (s : State E)
+      → map_state f (add_outputs id parts s) ≡ add_outputs id (map (map_part f) parts) (map_state f s)
   outputs-map id [] s = refl
   outputs-map id (part ∷ parts) s = outputs-map id parts (add_output id part s) ∙ ap (add_outputs id (map (map_part f) parts)) (output-map id part s)
 
@@ -143,7 +165,8 @@ module _ {E F : Type 0} (f : E → F) where
   held-map true r = refl
   held-map false r = refl
 
-  pub noted-map : (dests : List Dest) (dest : Dest) (refusal : ℕ) (r : Row E) → map_row f (refusal_noted dests dest refusal r) ≡ refusal_noted dests dest refusal (map_row f r)
+  pub noted-map : (dests : List Dest) (dest : Dest) (refusal : ℕ) (r : Row E)
+      → map_row f (refusal_noted dests dest refusal r) ≡ refusal_noted dests dest refusal (map_row f r)
   noted-map dests dest refusal r =
       let refused = with_refusal dests dest refusal r.refused in
       held-map (all_refused dests refused) (record r { refused = refused })
@@ -152,32 +175,40 @@ module _ {E F : Type 0} (f : E → F) where
   committed-map k None s = refl
   committed-map k (Some h) s = ap (λ l. record (map_state f (hand_committed k (Some h) s)) { rows = l }) (map-without_first (map_row f) (is_row h.id) s.rows)
 
-  refused-map : (k : PeerNumber) (refusal : ℕ) (o : Option Hand) (s : State E) → map_state f (hand_refused k refusal o s) ≡ hand_refused k refusal o (map_state f s)
+  refused-map : (k : PeerNumber) (refusal : ℕ) (o : Option Hand) (s : State E)
+      → map_state f (hand_refused k refusal o s) ≡ hand_refused k refusal o (map_state f s)
   refused-map k refusal None s = refl
   refused-map k refusal (Some h) s = change_row-map h.id _ _ (λ r. noted-map (dests_for r s) _ refusal (requeued_row r)) (drop_hand k s)
 
   silent-map : (until : ℕ) (k : PeerNumber) (o : Option Hand) (s : State E) → map_state f (hand_silent until k o s) ≡ hand_silent until k o (map_state f s)
   silent-map until k None s = refl
-  silent-map until k (Some h) s = ap (change_peer k.peer (λ p. record p { wait = until })) (change_row-map h.id requeued_row requeued_row (λ r. refl) (drop_hand k s))
+  silent-map until k (Some h) s = ap (change_peer k.peer (λ p. record p { wait = until }))
+      (change_row-map h.id requeued_row requeued_row (λ r. refl) (drop_hand k s))
 
   all_silent-map : (until : ℕ) (ks : List PeerNumber) (s : State E) → map_state f (hands_silent until ks s) ≡ hands_silent until ks (map_state f s)
   all_silent-map until [] s = refl
-  all_silent-map until (k ∷ ks) s = all_silent-map until ks (hand_silent until k (find_hand k.peer k.number s) s) ∙ ap (hands_silent until ks) (silent-map until k (find_hand k.peer k.number s) s)
+  all_silent-map until (k ∷ ks) s = all_silent-map until ks (hand_silent until k (find_hand k.peer k.number s) s)
+      ∙ ap (hands_silent until ks) (silent-map until k (find_hand k.peer k.number s) s)
 
   add_promised-map : (r : Row E) (s : State E) → map_state f (add_promised r s) ≡ add_promised (map_row f r) (map_state f s)
-  add_promised-map r s = by (has_row r.id s) ∙ ap (λ b. if b then map_state f s else record (map_state f s) { rows = map (map_row f) s.rows ++ requeued_row (map_row f r) ∷ [] }) (sym (list_any-map (map_row f) (is_row r.id) s.rows))
+  add_promised-map r s = by (has_row r.id s) ∙ ap (λ b. if b then map_state f s else
+      record (map_state f s) { rows = map (map_row f) s.rows ++ requeued_row (map_row f r) ∷ [] }) (sym (list_any-map (map_row f) (is_row r.id) s.rows))
     where
-      by : (b : Bool) → map_state f (if b then s else record s { rows = s.rows ++ requeued_row r ∷ [] }) ≡ (if b then map_state f s else record (map_state f s) { rows = map (map_row f) s.rows ++ requeued_row (map_row f r) ∷ [] })
+      by : (b : Bool) → map_state f (if b then s else record s { rows = s.rows ++ requeued_row r ∷ [] })
+          ≡ (if b then map_state f s else record (map_state f s) { rows = map (map_row f) s.rows ++ requeued_row (map_row f r) ∷ [] })
       by true = refl
       by false = with_rows s _ _ (map-append (map_row f) s.rows _)
 
-  accepted-map : (k : PeerNumber) (o : Option (Promise E)) (s : State E) → map_state f (accepted k o s) ≡ accepted k (option_map (map_promise f) o) (map_state f s)
+  accepted-map : (k : PeerNumber) (o : Option (Promise E)) (s : State E) → map_state f (accepted k o s)
+      ≡ accepted k (option_map (map_promise f) o) (map_state f s)
   accepted-map k None s = refl
-  accepted-map k (Some p) s = ap (change_peer k.peer (close k.number)) (add_promised-map p.row (drop_promise k s) ∙ ap (add_promised (map_row f p.row)) (drop_promise-map k s))
+  accepted-map k (Some p) s = ap (change_peer k.peer (close k.number)) (add_promised-map p.row (drop_promise k s)
+      ∙ ap (add_promised (map_row f p.row)) (drop_promise-map k s))
 
   -- a change of a state and one of what it is mapped to are the same
   pub applied-map : (c : Change E) (s : State E) → map_state f (applied c s) ≡ applied (map_change f c) (map_state f s)
-  applied-map (Submitted queue job script) s = ap (λ l. record (map_state f s) { rows = l; seq = s.seq + 1; arrivals = s.arrivals + 1 }) (map-append (map_row f) s.rows _)
+  applied-map (Submitted queue job script) s = ap (λ l. record (map_state f s) { rows = l; seq = s.seq + 1; arrivals = s.arrivals + 1 })
+      (map-append (map_row f) s.rows _)
   applied-map (Deleted id) s = ap (λ l. record (map_state f (applied (Deleted id) s)) { rows = l }) (map-without_first (map_row f) (is_row id) s.rows)
   applied-map (Doomed id) s = change_row-map id doomed_row doomed_row (λ r. refl) s
   applied-map (Started id device) s = change_row-map id (started_row device) (started_row device) (λ r. refl) s
@@ -185,19 +216,25 @@ module _ {E F : Type 0} (f : E → F) where
   applied-map (Unlaunched id) s = drop_row-map id s
   applied-map Boot s = with_rows s _ _ (map-filter_map (map_row f) booted_row booted_row booted-map s.rows)
   applied-map (Edited e) s = edit-map e s
-  applied-map (HandOpened peer number id queue since) s = ap (λ l. record (map_state f (applied (HandOpened peer number id queue since) s)) { rows = l }) (map-change_first (map_row f) (is_row id) routing_row routing_row (λ r. refl) s.rows)
+  applied-map (HandOpened peer number id queue since) s = ap (λ l. record (map_state f (applied (HandOpened peer number id queue since) s)) { rows = l })
+      (map-change_first (map_row f) (is_row id) routing_row routing_row (λ r. refl) s.rows)
   applied-map (HandCommitted peer number) s = committed-map (peer_number peer number) (find_hand peer number s) s
   applied-map (HandRefused peer number refusal) s = refused-map (peer_number peer number) refusal (find_hand peer number s) s
   applied-map (HandsSilent until hands) s = all_silent-map until hands s
   applied-map (Promised peer number queue c script) s =
       ap (λ l. record (map_state f (applied (Promised peer number queue c script) s)) { promises = l })
-      (map-append (map_promise f) (filter (λ p. not (is_promise_of peer p)) s.promises) _ ∙ ap (λ l. l ++ record { peer = peer; number = number; row = new_row c queue (s.arrivals + 1) (f script) } ∷ []) (map-filter (map_promise f) (λ p. not (is_promise_of peer p)) s.promises))
-  applied-map (Accepted peer number) s = accepted-map (peer_number peer number) (find_promise peer number s) s ∙ ap (λ o. accepted (peer_number peer number) o (map_state f s)) (sym (find-map (map_promise f) (is_promise (peer_number peer number)) s.promises))
+      (map-append (map_promise f) (filter (λ p. not (is_promise_of peer p)) s.promises) _
+      ∙ ap (λ l. l ++ record { peer = peer; number = number; row = new_row c queue (s.arrivals + 1) (f script) } ∷ [])
+      (map-filter (map_promise f) (λ p. not (is_promise_of peer p)) s.promises))
+  applied-map (Accepted peer number) s = accepted-map (peer_number peer number) (find_promise peer number s) s
+      ∙ ap (λ o. accepted (peer_number peer number) o (map_state f s)) (sym (find-map (map_promise f) (is_promise (peer_number peer number)) s.promises))
   applied-map (Dropped peer number) s = ap (change_peer peer (close number)) (drop_promise-map (peer_number peer number) s)
   applied-map (MovedLocal id queue) s = change_row-map id (moved_local queue (s.arrivals + 1)) (moved_local queue (s.arrivals + 1)) (λ r. refl) (next_arrival s)
-  applied-map (RefusedLocal id queue refusal) s = change_row-map id (local_refused queue refusal s) (local_refused queue refusal (map_state f s)) (λ r. noted-map (dests_for r s) _ refusal r) s
+  applied-map (RefusedLocal id queue refusal) s = change_row-map id (local_refused queue refusal s) (local_refused queue refusal (map_state f s))
+      (λ r. noted-map (dests_for r s) _ refusal r) s
   applied-map (HeldFar id) s = change_row-map id held_far held_far (λ r. refl) s
   applied-map (StageGot peer number path bytes) s = file-map (record { path = path; bytes = bytes }) (change_peer peer (λ p. record p { stage_got = number }) s)
-  applied-map (StageGone peer number) s = ap (λ l. record (map_state f s) { stages = l }) (map-without_first (map_stage f) (is_stage (peer_number peer number)) s.stages)
+  applied-map (StageGone peer number) s = ap (λ l. record (map_state f s) { stages = l })
+      (map-without_first (map_stage f) (is_stage (peer_number peer number)) s.stages)
   applied-map (FileGone file) s = ap (λ l. record (map_state f s) { files = l }) (map-without_first (map_file f) (is_file file) s.files)
   applied-map c s = refl

@@ -1,5 +1,6 @@
 -- What each change makes of one row: a right row stays right.
-use Rattle.std.proofs.Common.{◌≡◌, ℕ, ◌+◌, Bool, true, false, not, ◌&&◌, ◌==◌, nat_lt, nat_le, List, [], ◌∷◌, ◌++◌, Option, None, Some, true≢false, refl, sym, ap, subst, ◌∙◌, arith, if◌then◌else◌}
+use Rattle.std.proofs.Common.{◌≡◌, ℕ, ◌+◌, Bool, true, false, not, ◌&&◌, ◌==◌, nat_lt, nat_le, List, [], ◌∷◌, ◌++◌, Option, None, Some, true≢false, refl, sym}
+use Rattle.std.proofs.Common.{ap, subst, ◌∙◌, arith, if◌then◌else◌}
 use Rattle.std.proofs.lemmas.Bool.{and_parts, and_from, eqb-true, eq-eqb}
 use Rattle.std.proofs.lemmas.Bool.Decides.{nat_tests}
 use Rattle.std.specs.List.{list_all}
@@ -75,17 +76,22 @@ module _ {E : Type 0} where
   ready_queued r h = queued_is r.state (and_parts (is_queued r.state) (is_unheld r.hold) h).0
 
   -- what a noted refusal doesn't touch
-  pub noted_kept : {K : Type 0} (key : Row E → K) → ((q : Row E) (refused : List Refused) → key (record q { refused = refused }) ≡ key q) → ((q : Row E) → key (record q { hold = System }) ≡ key q)
+  pub noted_kept : {K : Type 0} (key : Row E → K) → ((q : Row E) (refused : List Refused) → key (record q { refused = refused }) ≡ key q)
+      → ((q : Row E) → key (record q { hold = System }) ≡ key q)
       → (dests : List Dest) (dest : Dest) (refusal : ℕ) (r : Row E) → key (refusal_noted dests dest refusal r) ≡ key r
-  noted_kept key refused held dests dest refusal r = by (all_refused dests (with_refusal dests dest refusal r.refused)) ∙ refused r (with_refusal dests dest refusal r.refused)
+  noted_kept key refused held dests dest refusal r = by (all_refused dests (with_refusal dests dest refusal r.refused))
+      ∙ refused r (with_refusal dests dest refusal r.refused)
     where
-      by : (b : Bool) → key (held_where b (record r { refused = with_refusal dests dest refusal r.refused })) ≡ key (record r { refused = with_refusal dests dest refusal r.refused })
+      by : (b : Bool) → key (held_where b (record r { refused = with_refusal dests dest refusal r.refused }))
+          ≡ key (record r { refused = with_refusal dests dest refusal r.refused })
       by true = held (record r { refused = with_refusal dests dest refusal r.refused })
       by false = refl
 
   module _ (s : State E) where
     -- a row that comes in
-    pub new_row_right : (c : Carried) (queue : List ℕ) (arrival : ℕ) (script : E) → is_id_right s c.id ≡ true → is_id_given s c.id ≡ true → is_sane_job c.job ≡ true → has_queue queue s ≡ true → nat_le arrival s.arrivals ≡ true → c.starts ≡ c.lost → nat_lt c.lost 65535 ≡ true → nat_le c.hops 32 ≡ true
+    pub new_row_right : (c : Carried) (queue : List ℕ) (arrival : ℕ) (script : E) → is_id_right s c.id ≡ true → is_id_given s c.id ≡ true
+        → is_sane_job c.job ≡ true → has_queue queue s ≡ true → nat_le arrival s.arrivals ≡ true → c.starts ≡ c.lost → nat_lt c.lost 65535 ≡ true
+        → nat_le c.hops 32 ≡ true
         → is_row_right s (new_row c queue arrival script) ≡ true
     new_row_right c queue arrival script id given job there later as_often few hops = row_right s (new_row c queue arrival script) (record {
       id = id;
@@ -115,7 +121,8 @@ module _ {E : Type 0} where
         refused = p.refused;
         arrival = p.arrival;
         lost = p.lost;
-        count = eq-eqb (r.starts + 1) (r.lost + 1) (let e : r.starts ≡ r.lost = eqb-true r.starts r.lost (and_parts (r.starts == r.lost) (has_no_device r) (waits r (ap is_running queued) p.count)).0 in omega arith);
+        count = eq-eqb (r.starts + 1) (r.lost + 1) (let e : r.starts ≡ r.lost =
+            eqb-true r.starts r.lost (and_parts (r.starts == r.lost) (has_no_device r) (waits r (ap is_running queued) p.count)).0 in omega arith);
         hop = some_hops r (ap is_routing queued) p.hop;
       })
 
@@ -182,7 +189,8 @@ module _ {E : Type 0} where
           by false = refl
 
       -- a queued row in another queue
-      pub moved_right : (q : List ℕ) (arrival hops : ℕ) → r.state ≡ Queued → has_queue q s ≡ true → nat_le arrival s.arrivals ≡ true → nat_le hops 32 ≡ true → is_row_right s (record r { queue = q; arrival = arrival; hops = hops; refused = [] }) ≡ true
+      pub moved_right : (q : List ℕ) (arrival hops : ℕ) → r.state ≡ Queued → has_queue q s ≡ true → nat_le arrival s.arrivals ≡ true → nat_le hops 32 ≡ true
+          → is_row_right s (record r { queue = q; arrival = arrival; hops = hops; refused = [] }) ≡ true
       moved_right q arrival hops queued there given few = row_right s (record r { queue = q; arrival = arrival; hops = hops; refused = [] }) (record {
         id = p.id;
         given = p.given;
@@ -213,11 +221,28 @@ module _ {E : Type 0} where
           })
 
       refused_right : (refused : List Refused) → list_all (is_refused_right s) refused ≡ true → is_row_right s (record r { refused = refused }) ≡ true
-      refused_right refused all = row_right s (record r { refused = refused }) (record { id = p.id; given = p.given; job = p.job; queue = p.queue; device = p.device; refused = all; arrival = p.arrival; lost = p.lost; count = p.count; hop = p.hop })
+      refused_right refused all = row_right s (record r { refused = refused })
+          (record {
+            id = p.id;
+            given = p.given;
+            job = p.job;
+            queue = p.queue;
+            device = p.device;
+            refused = all;
+            arrival = p.arrival;
+            lost = p.lost;
+            count =
+                p.count;
+            hop = p.hop;
+          })
 
-      pub noted_right : (dests : List Dest) (dest : Dest) (refusal : ℕ) → is_site_host dest.host s ≡ true → is_row_right s (refusal_noted dests dest refusal r) ≡ true
-      noted_right dests dest refusal there = held (all_refused dests (with_refusal dests dest refusal r.refused)) (record r { refused = with_refusal dests dest refusal r.refused })
-          (refused_right (with_refusal dests dest refusal r.refused) (part_all (is_refused_right s) (filter_part (is_present dests) (r.refused ++ record { dest = dest; cause = refusal } ∷ [])) (all-added (is_refused_right s) r.refused _ p.refused there)))
+      pub noted_right : (dests : List Dest) (dest : Dest) (refusal : ℕ) → is_site_host dest.host s ≡ true
+          → is_row_right s (refusal_noted dests dest refusal r) ≡ true
+      noted_right dests dest refusal there = held (all_refused dests (with_refusal dests dest refusal r.refused))
+          (record r { refused = with_refusal dests dest refusal r.refused })
+          (refused_right (with_refusal dests dest refusal r.refused) (part_all (is_refused_right s)
+          (filter_part (is_present dests) (r.refused ++ record { dest = dest; cause = refusal } ∷ []))
+          (all-added (is_refused_right s) r.refused _ p.refused there)))
         where
           held : (b : Bool) (q : Row E) → is_row_right s q ≡ true → is_row_right s (held_where b q) ≡ true
           held true q k = k
@@ -233,7 +258,8 @@ module _ {E : Type 0} where
       pub booted_right : IfSome (booted_row r) (λ q. is_row_right s q ≡ true)
       booted_right = by (is_running r.state) refl (may_start_again r) refl
         where
-          by : (b : Bool) → is_running r.state ≡ b → (c : Bool) → may_start_again r ≡ c → IfSome (if b then (if c then Some (lost_row r) else None) else Some r) (λ q. is_row_right s q ≡ true)
+          by : (b : Bool) → is_running r.state ≡ b → (c : Bool) → may_start_again r ≡ c
+              → IfSome (if b then (if c then Some (lost_row r) else None) else Some r) (λ q. is_row_right s q ≡ true)
           by true e true f = lost_right e (and_parts (r.job.rerun && not r.doomed) (nat_lt r.starts 65535) f).1
           by true e false f = tt
           by false e c f = h

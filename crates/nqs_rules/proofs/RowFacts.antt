@@ -1,5 +1,6 @@
 -- What a row in order needs of its host, and that it stays so where the host keeps that.
-use Rattle.std.proofs.Common.{◌≡◌, ℕ, ◌≤◌, Bool, true, not, ◌&&◌, ◌||◌, ◌==◌, nat_lt, nat_le, List, [], ◌∷◌, length, Option, None, Some, refl, sym, subst, ◌∙◌, arith}
+use Rattle.std.proofs.Common.{◌≡◌, ℕ, ◌≤◌, Bool, true, not, ◌&&◌, ◌||◌, ◌==◌, nat_lt, nat_le, List, [], ◌∷◌, length, Option, None, Some, refl, sym, subst, ◌∙◌}
+use Rattle.std.proofs.Common.{arith}
 use Rattle.std.proofs.lemmas.Bool.{and_from, leb-true, le-leb}
 use Rattle.std.specs.List.{list_all}
 use Rattle.nqs_state.specs.State.{State}
@@ -13,7 +14,8 @@ use Rattle.nqs_types.specs.declared.request.Promise.{Promise}
 use Rattle.nqs_rules.specs.Tests.{passes, is_queued, same_host}
 use Rattle.nqs_rules.specs.Find.{has_queue, has_device, find_peer}
 use Rattle.nqs_rules.specs.Sane.{is_sane_job, is_sane_id}
-use Rattle.nqs_rules.specs.InOrder.{is_id_right, is_id_given, is_device_there, is_refused_right, is_count_right, is_hop_right, is_row_right, is_promise_right, is_promise_open}
+use Rattle.nqs_rules.specs.InOrder.{is_id_right, is_id_given, is_device_there, is_refused_right, is_count_right, is_hop_right, is_row_right, is_promise_right}
+use Rattle.nqs_rules.specs.InOrder.{is_promise_open}
 use Rattle.nqs_rules.proofs.Chains.{each, chained, imply}
 use Rattle.nqs_rules.proofs.ListFacts.{list_all-weaker}
 
@@ -31,7 +33,8 @@ module _ {E : Type 0} where
     pub hop : is_hop_right r ≡ true
 
   abbrev tests : State E → Row E → List Bool
-  tests s r = is_id_given s r.id ∷ is_sane_job r.job ∷ has_queue r.queue s ∷ is_device_there r.device s ∷ list_all (is_refused_right s) r.refused ∷ nat_le r.arrival s.arrivals ∷ nat_lt r.lost 65535 ∷ is_count_right r ∷ is_hop_right r ∷ []
+  tests s r = is_id_given s r.id ∷ is_sane_job r.job ∷ has_queue r.queue s ∷ is_device_there r.device s ∷ list_all (is_refused_right s) r.refused
+      ∷ nat_le r.arrival s.arrivals ∷ nat_lt r.lost 65535 ∷ is_count_right r ∷ is_hop_right r ∷ []
 
   pub row_is : (s : State E) (r : Row E) → is_row_right s r ≡ true → IsRow s r
   row_is s r h =
@@ -50,7 +53,13 @@ module _ {E : Type 0} where
       }
 
   pub row_right : (s : State E) (r : Row E) → IsRow s r → is_row_right s r ≡ true
-  row_right s r h = chained (is_id_right s r.id) (tests s r) (h.id, (h.given, (h.job, (h.queue, (h.device, (h.refused, (h.arrival, (h.lost, (h.count, (h.hop, tt))))))))))
+  row_right s r h = chained (is_id_right s r.id) (tests s r) (
+    h.id,
+    (
+      h.given,
+      (h.job, (h.queue, (h.device, (h.refused, (h.arrival, (h.lost, (h.count, (h.hop, tt)))))))),
+    ),
+  )
 
   pub record IsPromise (s : State E) (p : Promise E) : Type 0 where
     pub row : is_row_right s p.row ≡ true
@@ -64,15 +73,19 @@ module _ {E : Type 0} where
       record { row = q.0; queued = q.1.0; some = q.1.1.0; opens = q.1.1.1.0 }
 
   pub promise_right : (s : State E) (p : Promise E) → IsPromise s p → is_promise_right s p ≡ true
-  promise_right s p h = chained (is_row_right s p.row) (is_queued p.row.state ∷ nat_le 1 p.number ∷ passes (is_promise_open p.number) (find_peer p.peer s) ∷ []) (h.row, (h.queued, (h.some, (h.opens, tt))))
+  promise_right s p h = chained (is_row_right s p.row) (is_queued p.row.state ∷ nat_le 1 p.number ∷ passes (is_promise_open p.number) (find_peer p.peer s) ∷ [])
+      (h.row, (h.queued, (h.some, (h.opens, tt))))
 
   -- a row stays right where its queue and its device stay
-  pub row_kept_by : (s t : State E) (r : Row E) → t.me ≡ s.me → t.site ≡ s.site → s.seq ≤ t.seq → s.arrivals ≤ t.arrivals → has_queue r.queue t ≡ true → is_device_there r.device t ≡ true → is_row_right s r ≡ true → is_row_right t r ≡ true
+  pub row_kept_by : (s t : State E) (r : Row E) → t.me ≡ s.me → t.site ≡ s.site → s.seq ≤ t.seq → s.arrivals ≤ t.arrivals → has_queue r.queue t ≡ true
+      → is_device_there r.device t ≡ true → is_row_right s r ≡ true → is_row_right t r ≡ true
   row_kept_by s t r me site seq arrivals queue device h =
       let p = row_is s r h in
       row_right t r (record {
         id = (λ j. (nat_lt r.id.host.0 (length (site j)) && is_sane_id r.id)) ∙ p.id;
-        given = (λ j. (not (same_host (me j) r.id.host) || nat_le r.id.seq t.seq)) ∙ imply (same_host s.me r.id.host) (nat_le r.id.seq s.seq) (nat_le r.id.seq t.seq) (λ e. le-leb r.id.seq t.seq (let k = leb-true r.id.seq s.seq e in omega arith)) p.given;
+        given = (λ j. (not (same_host (me j) r.id.host) || nat_le r.id.seq t.seq))
+            ∙ imply (same_host s.me r.id.host) (nat_le r.id.seq s.seq) (nat_le r.id.seq t.seq)
+            (λ e. le-leb r.id.seq t.seq (let k = leb-true r.id.seq s.seq e in omega arith)) p.given;
         job = p.job;
         queue = queue;
         device = device;
@@ -84,7 +97,8 @@ module _ {E : Type 0} where
       })
 
   -- more queues and devices than before
-  pub device_kept : (s t : State E) → ((d : List ℕ) → has_device d s ≡ true → has_device d t ≡ true) → (o : Option (List ℕ)) → is_device_there o s ≡ true → is_device_there o t ≡ true
+  pub device_kept : (s t : State E) → ((d : List ℕ) → has_device d s ≡ true → has_device d t ≡ true) → (o : Option (List ℕ)) → is_device_there o s ≡ true
+      → is_device_there o t ≡ true
   device_kept s t devices None h = refl
   device_kept s t devices (Some d) h = devices d h
 
@@ -97,12 +111,19 @@ module _ {E : Type 0} where
     pub devices : (d : List ℕ) → has_device d s ≡ true → has_device d t ≡ true
 
   pub row_kept : (s t : State E) → Keeps s t → (r : Row E) → is_row_right s r ≡ true → is_row_right t r ≡ true
-  row_kept s t k r h = let p = row_is s r h in row_kept_by s t r k.me k.site k.seq k.arrivals (k.queues r.queue p.queue) (device_kept s t k.devices r.device p.device) h
+  row_kept s t k r h = let p = row_is s r h in row_kept_by s t r k.me k.site k.seq k.arrivals (k.queues r.queue p.queue)
+      (device_kept s t k.devices r.device p.device) h
 
   pub promise_kept : (s t : State E) → Keeps s t → t.peers ≡ s.peers → (p : Promise E) → is_promise_right s p ≡ true → is_promise_right t p ≡ true
   promise_kept s t k peers p h =
       let q = promise_is s p h in
-      promise_right t p (record { row = row_kept s t k p.row q.row; queued = q.queued; some = q.some; opens = subst (λ l. passes (is_promise_open p.number) (find_peer p.peer (record t { peers = l })) ≡ true) (sym peers) q.opens })
+      promise_right t p (record {
+        row = row_kept s t k p.row q.row;
+        queued = q.queued;
+        some = q.some;
+        opens =
+            subst (λ l. passes (is_promise_open p.number) (find_peer p.peer (record t { peers = l })) ≡ true) (sym peers) q.opens;
+      })
 
 pub same_it : (n : ℕ) → (n == n) ≡ true
 same_it n = nat_eq_equiv.refl n
@@ -120,5 +141,6 @@ module _ {E : Type 0} where
   pub rows_kept : (s t : State E) → Keeps s t → (rows : List (Row E)) → list_all (is_row_right s) rows ≡ true → list_all (is_row_right t) rows ≡ true
   rows_kept s t k rows h = list_all-weaker (is_row_right s) (is_row_right t) (row_kept s t k) rows h
 
-  pub promises_kept : (s t : State E) → Keeps s t → t.peers ≡ s.peers → (ps : List (Promise E)) → list_all (is_promise_right s) ps ≡ true → list_all (is_promise_right t) ps ≡ true
+  pub promises_kept : (s t : State E) → Keeps s t → t.peers ≡ s.peers → (ps : List (Promise E)) → list_all (is_promise_right s) ps ≡ true
+      → list_all (is_promise_right t) ps ≡ true
   promises_kept s t k peers ps h = list_all-weaker (is_promise_right s) (is_promise_right t) (promise_kept s t k peers) ps h

@@ -1,5 +1,6 @@
 -- The changes of rows, and what counts requests: a state in order stays so.
-use Rattle.std.proofs.Common.{◌≡◌, ℕ, ◌+◌, ◌≤◌, Bool, true, false, not, ◌&&◌, ◌||◌, ◌==◌, nat_le, List, ◌++◌, map, filter, length, Option, None, Some, true≢false, refl, sym, ap, ◌∙◌, arith, if◌then◌else◌}
+use Rattle.std.proofs.Common.{◌≡◌, ℕ, ◌+◌, ◌≤◌, Bool, true, false, not, ◌&&◌, ◌||◌, ◌==◌, nat_le, List, ◌++◌, map, filter, length, Option, None, Some}
+use Rattle.std.proofs.Common.{true≢false, refl, sym, ap, ◌∙◌, arith, if◌then◌else◌}
 use Rattle.std.proofs.lemmas.Bool.{and_parts, leb-true, leb-false, le-leb, not-true, not_from_false, false_from_ne_true, or_from}
 use Rattle.std.proofs.lemmas.Bool.Decides.{nat_tests}
 use Rattle.std.proofs.lemmas.List.{length-map}
@@ -42,7 +43,8 @@ module _ {E : Type 0} where
       of (Some r) e h = (r, e, h)
 
   -- one that isn't on its way has no offer
-  pub unoffered : (test : Row E → Bool) (id : RequestId) (s : State E) → IsInOrder s → ((r : Row E) → test r ≡ true → is_routing r.state ≡ false) → row_passes test id s ≡ true → list_all (is_no_offer_of id) s.hands ≡ true
+  pub unoffered : (test : Row E → Bool) (id : RequestId) (s : State E) → IsInOrder s → ((r : Row E) → test r ≡ true → is_routing r.state ≡ false)
+      → row_passes test id s ≡ true → list_all (is_no_offer_of id) s.hands ≡ true
   unoffered test id s h idle fit = let r = found_row test id s fit in no_offer s id h r.0 r.1 (idle r.0 r.2)
 
   pub running_unrouted : (r : Row E) → is_running r.state ≡ true → is_routing r.state ≡ false
@@ -65,13 +67,22 @@ module _ {E : Type 0} where
       let part : IsPart (filter (λ r. not (is_queued_in q r)) s.rows) s.rows = filter_part (λ r. not (is_queued_in q r)) s.rows in
       let few = part_length part in
       let held : nat_le (length s.rows + length s.promises) 10000 ≡ true = (short_are s h.short).held in
-      with_rows s (filter (λ r. not (is_queued_in q r)) s.rows) h (le-leb _ 10000 (let k = leb-true (length s.rows + length s.promises) 10000 held in omega (arith, few, k))) (part_all (is_row_right s) part h.rows)
-      (part_distinct id_eq (map_part (λ r. r.id) part) (keys_are s h.keys).rows) (part_distinct same_number (part_before _ (map_part (λ r. r.arrival) part)) h.arrivals)
-      (still_stand s _ h (λ k. find-filter_kept (is_row k) is_routing_row (λ r. not (is_queued_in q r)) (λ r routes. not_from_false _ (ap (λ b. b && name_eq q r.queue) (ap is_queued (routing_is r.state routes)))) s.rows))
+      with_rows s (filter (λ r. not (is_queued_in q r)) s.rows) h (le-leb _ 10000
+      (let k = leb-true (length s.rows + length s.promises) 10000 held in omega (arith, few, k))) (part_all (is_row_right s) part h.rows)
+      (part_distinct id_eq (map_part (λ r. r.id) part) (keys_are s h.keys).rows)
+      (part_distinct same_number (part_before _ (map_part (λ r. r.arrival) part)) h.arrivals)
+      (still_stand s _ h (λ k. find-filter_kept (is_row k) is_routing_row (λ r. not (is_queued_in q r))
+      (λ r routes. not_from_false _ (ap (λ b. b && name_eq q r.queue) (ap is_queued (routing_is r.state routes)))) s.rows))
 
   pub rows_booted : (s : State E) → IsInOrder s → IsInOrder (record s { rows = filter_map booted_row s.rows })
   rows_booted s h =
-      let few : length (filter_map booted_row s.rows) ≤ length s.rows = omega (arith, part_length (filter_map_part (λ r. r.id) booted_row (kept_key (λ r. r.id) (λ r. refl)) s.rows), length-map (filter_map booted_row s.rows) (λ r. r.id), length-map s.rows (λ r. r.id)) in
+      let few : length (filter_map booted_row s.rows) ≤ length s.rows = omega (
+        arith,
+        part_length (filter_map_part (λ r. r.id) booted_row (kept_key (λ r. r.id) (λ r. refl)) s.rows),
+        length-map (filter_map booted_row s.rows)
+            (λ r. r.id),
+        length-map s.rows (λ r. r.id),
+      ) in
       let held : nat_le (length s.rows + length s.promises) 10000 ≡ true = (short_are s h.short).held in
       with_rows s (filter_map booted_row s.rows) h (le-leb _ 10000 (let k = leb-true (length s.rows + length s.promises) 10000 held in omega (arith, few, k)))
       (all-filter_map (is_row_right s) (is_row_right s) booted_row (booted_right s) s.rows h.rows)
@@ -95,8 +106,10 @@ module _ {E : Type 0} where
       with_rows s (map (doomed_in q) s.rows) h (ap (λ n. nat_le (n + length s.promises) 10000) (length-map s.rows (doomed_in q)) ∙ (short_are s h.short).held)
       (all-mapped (is_row_right s) (is_row_right s) (doomed_in q) (λ r k. doomed_in_right s r k q) s.rows h.rows)
       (ap (are_distinct id_eq) (map-kept (λ r. r.id) (doomed_in q) (kept_key (λ r. r.id) (λ r. refl)) s.rows) ∙ (keys_are s h.keys).rows)
-      (ap (λ l. are_distinct same_number (l ++ map (λ p. p.row.arrival) s.promises)) (map-kept (λ r. r.arrival) (doomed_in q) (kept_key (λ r. r.arrival) (λ r. refl)) s.rows) ∙ h.arrivals)
-      (still_stand s _ h (λ k found. find-map_kept (is_row k) is_routing_row (doomed_in q) (kept_key (λ r. is_row k r) (λ r. refl)) (kept_key is_routing_row (λ r. refl)) s.rows ∙ found))
+      (ap (λ l. are_distinct same_number (l ++ map (λ p. p.row.arrival) s.promises))
+      (map-kept (λ r. r.arrival) (doomed_in q) (kept_key (λ r. r.arrival) (λ r. refl)) s.rows) ∙ h.arrivals)
+      (still_stand s _ h (λ k found. find-map_kept (is_row k) is_routing_row (doomed_in q) (kept_key (λ r. is_row k r) (λ r. refl))
+      (kept_key is_routing_row (λ r. refl)) s.rows ∙ found))
     where
       kept_key : {K : Type 0} (key : Row E → K) → ((r : Row E) → key (record r { doomed = true }) ≡ key r) → (r : Row E) → key (doomed_in q r) ≡ key r
       kept_key key same r = by (is_running r.state && name_eq q r.queue)
@@ -107,14 +120,25 @@ module _ {E : Type 0} where
 
   -- more numbers given
 
-  pub counted : (s : State E) (seq arrivals : ℕ) → IsInOrder s → s.seq ≤ seq → seq ≤ last_seq → s.arrivals ≤ arrivals → arrivals ≤ last_u64 → IsInOrder (record s { seq = seq; arrivals = arrivals })
+  pub counted : (s : State E) (seq arrivals : ℕ) → IsInOrder s → s.seq ≤ seq → seq ≤ last_seq → s.arrivals ≤ arrivals → arrivals ≤ last_u64
+      → IsInOrder (record s { seq = seq; arrivals = arrivals })
   counted s seq arrivals h more few later last =
       let t : State E = record s { seq = seq; arrivals = arrivals } in
       let keeps : Keeps s t = record { me = refl; site = refl; seq = more; arrivals = later; queues = λ q k. k; devices = λ d k. k } in
       let p = parameters_are s h.parameters in
       record {
         site = h.site;
-        parameters = parameters_right t (record { limit = p.limit; patience = p.patience; wait = p.wait; seq = le-leb seq last_seq few; arrivals = le-leb arrivals last_u64 last; file_some = p.file_some; file = p.file; queue = default_kept s t (λ q k. k) s.default_queue p.queue });
+        parameters = parameters_right t (record {
+          limit = p.limit;
+          patience = p.patience;
+          wait = p.wait;
+          seq = le-leb seq last_seq few;
+          arrivals =
+              le-leb arrivals last_u64 last;
+          file_some = p.file_some;
+          file = p.file;
+          queue = default_kept s t (λ q k. k) s.default_queue p.queue;
+        });
         short = h.short;
         keys = h.keys;
         arrivals = h.arrivals;
@@ -141,16 +165,21 @@ module _ {E : Type 0} where
   pub arrival_new : (s : State E) → IsInOrder s → list_any (same_number (s.arrivals + 1)) (arrivals_of s) ≡ false
   arrival_new s h =
       list_any-append (same_number (s.arrivals + 1)) (map (λ r. r.arrival) s.rows) (map (λ p. p.row.arrival) s.promises)
-      ∙ or_from (list_any (same_number (s.arrivals + 1)) (map (λ r. r.arrival) s.rows)) (list_any (same_number (s.arrivals + 1)) (map (λ p. p.row.arrival) s.promises))
-      (list_any-map (λ r. r.arrival) (same_number (s.arrivals + 1)) s.rows ∙ none_from_all (is_row_right s) (λ r. same_number (s.arrivals + 1) r.arrival) (λ r k. later r (row_is s r k).arrival) s.rows h.rows)
-      (list_any-map (λ p. p.row.arrival) (same_number (s.arrivals + 1)) s.promises ∙ none_from_all (is_promise_right s) (λ p. same_number (s.arrivals + 1) p.row.arrival) (λ p k. later p.row (row_is s p.row (promise_is s p k).row).arrival) s.promises h.promises)
+      ∙ or_from (list_any (same_number (s.arrivals + 1)) (map (λ r. r.arrival) s.rows))
+      (list_any (same_number (s.arrivals + 1)) (map (λ p. p.row.arrival) s.promises))
+      (list_any-map (λ r. r.arrival) (same_number (s.arrivals + 1)) s.rows
+      ∙ none_from_all (is_row_right s) (λ r. same_number (s.arrivals + 1) r.arrival) (λ r k. later r (row_is s r k).arrival) s.rows h.rows)
+      (list_any-map (λ p. p.row.arrival) (same_number (s.arrivals + 1)) s.promises
+      ∙ none_from_all (is_promise_right s) (λ p. same_number (s.arrivals + 1) p.row.arrival)
+      (λ p k. later p.row (row_is s p.row (promise_is s p k).row).arrival) s.promises h.promises)
     where
       later : (r : Row E) → nat_le r.arrival s.arrivals ≡ true → ((s.arrivals + 1) == r.arrival) ≡ false
       later r k = grind (arith, nat_tests)
 
   -- no row has the next number of this host
   pub number_new : (s : State E) → IsInOrder s → has_row (next_id s) s ≡ false
-  number_new s h = none_from_all (is_row_right s) (is_row (next_id s)) (λ r k. false_from_ne_true (id_eq (next_id s) r.id) (λ e. later r (id_exact (next_id s) r.id e) (row_is s r k).given)) s.rows h.rows
+  number_new s h = none_from_all (is_row_right s) (is_row (next_id s)) (λ r k. false_from_ne_true (id_eq (next_id s) r.id)
+      (λ e. later r (id_exact (next_id s) r.id e) (row_is s r k).given)) s.rows h.rows
     where
       later : (r : Row E) → next_id s ≡ r.id → (not (same_host s.me r.id.host) || nat_le r.id.seq s.seq) ≡ true → ⊥
       later r is given =
@@ -159,11 +188,14 @@ module _ {E : Type 0} where
           omega (arith, few)
 
   -- a row under a new arrival number, which has no offer
-  pub row_moved : (s : State E) (id : RequestId) (f : Row E → Row E) → IsInOrder s → not (arrivals_used s) ≡ true → ((r : Row E) → (f r).id ≡ r.id) → ((r : Row E) → (f r).arrival ≡ s.arrivals + 1)
-      → ((r : Row E) → find_row id s ≡ Some r → is_row_right (next_arrival s) r ≡ true → is_row_right (next_arrival s) (f r) ≡ true) → list_all (is_no_offer_of id) s.hands ≡ true → IsInOrder (change_row id f (next_arrival s))
+  pub row_moved : (s : State E) (id : RequestId) (f : Row E → Row E) → IsInOrder s → not (arrivals_used s) ≡ true → ((r : Row E) → (f r).id ≡ r.id)
+      → ((r : Row E) → (f r).arrival ≡ s.arrivals + 1)
+      → ((r : Row E) → find_row id s ≡ Some r → is_row_right (next_arrival s) r ≡ true → is_row_right (next_arrival s) (f r) ≡ true)
+      → list_all (is_no_offer_of id) s.hands ≡ true → IsInOrder (change_row id f (next_arrival s))
   row_moved s id f h some ids arrivals right none =
       let t = next_arrival s in
       let k = arrival_given s h some in
       changed_with t id f k ids right
-      (distinct-renamed same_number (λ r. r.arrival) number_exact same_it (is_row id) f (s.arrivals + 1) arrivals (map (λ p. p.row.arrival) s.promises) s.rows (arrival_new s h) h.arrivals)
+      (distinct-renamed same_number (λ r. r.arrival) number_exact same_it (is_row id) f (s.arrivals + 1) arrivals (map (λ p. p.row.arrival) s.promises) s.rows
+      (arrival_new s h) h.arrivals)
       (others_stand t id (change_first (is_row id) f s.rows) k none (others_found t id f k ids right))

@@ -38,5 +38,6 @@ module _ {E : Type 0} where
       by : (o : Option (Stepped E)) → start now s ≡ o → IfSome o (λ x. Fitting s x.change)
       by None e = tt
       by (Some x) e =
-          let is : IsStart (map_state f s) (map_stepped f x) = start_is now (map_state f s) (map_stepped f x) (steady_plain f s h) (start-map f now s ∙ ap (option_map (map_stepped f)) e) in
+          let is : IsStart (map_state f s) (map_stepped f x) = start_is now (map_state f s) (map_stepped f x) (steady_plain f s h)
+          (start-map f now s ∙ ap (option_map (map_stepped f)) e) in
           subst (Fitting s) (sym is.makes) (sym (fits-state f is.change s) ∙ is.may.0, is.may.1)

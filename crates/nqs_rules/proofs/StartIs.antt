@@ -1,5 +1,6 @@
 -- What a start makes of its row.
-use Rattle.std.proofs.Common.{◌≡◌, ℕ, Bool, true, false, not, ◌||◌, ◌==◌, nat_lt, nat_le, List, map, slice_get, length, Option, None, Some, Result, Ok, Err, is_ok, ◌&&◌, [], ◌∷◌, option_map, true≢false, refl, sym, ap, subst, ◌∙◌, arith, if◌then◌else◌}
+use Rattle.std.proofs.Common.{◌≡◌, ℕ, Bool, true, false, not, ◌||◌, ◌==◌, nat_lt, nat_le, List, map, slice_get, length, Option, None, Some, Result, Ok, Err}
+use Rattle.std.proofs.Common.{is_ok, ◌&&◌, [], ◌∷◌, option_map, true≢false, refl, sym, ap, subst, ◌∙◌, arith, if◌then◌else◌}
 use Rattle.std.proofs.lemmas.Bool.{and_parts, and_from, eqb-true, not-false, not_from_false}
 use Rattle.std.proofs.lemmas.Bool.Decides.{nat_tests}
 use Rattle.std.proofs.lemmas.Cmp.{nat_eq_equiv, nat_list_eq_equiv}
@@ -29,7 +30,8 @@ use Rattle.nqs_rules.specs.Devices.{can_serve, is_busy, is_free_device, free_dev
 use Rattle.nqs_rules.specs.Rows.{arrivals_used, causes_of, move_entry_causes}
 use Rattle.nqs_rules.specs.Sane.{is_sane_change}
 use Rattle.nqs_rules.specs.Fits.{fits, row_passes, may_hop, is_next, device_fits}
-use Rattle.nqs_rules.specs.Routing.{is_hand_to, has_number_left, was_refused, is_over_wait, is_free_peer, is_reachable, may_try, destination, dests_of, dests_for}
+use Rattle.nqs_rules.specs.Routing.{is_hand_to, has_number_left, was_refused, is_over_wait, is_free_peer, is_reachable, may_try, destination, dests_of}
+use Rattle.nqs_rules.specs.Routing.{dests_for}
 use Rattle.nqs_rules.specs.Order.{is_local, print_on, move_to, choice_for, pick}
 use Rattle.nqs_rules.specs.Handover.{opened_with, open_hand}
 use Rattle.nqs_rules.specs.Stepped.{Stepped}
@@ -93,11 +95,13 @@ way_is Device d now s place r = of (free_device d r.job.forms s) refl
     of (Some n) e = e
 way_is Pipe d now s place r = by (r.hops == 32) refl (destination d now s r) refl
   where
-    at : (n : ℕ) (b : Bool) → (r.hops == 32) ≡ false → destination d now s r ≡ Some n → is_local n d s ≡ b → IfSome (if b then Some (Local place n) else Some (Hand place n)) (Way d now s r)
+    at : (n : ℕ) (b : Bool) → (r.hops == 32) ≡ false → destination d now s r ≡ Some n → is_local n d s ≡ b
+        → IfSome (if b then Some (Local place n) else Some (Hand place n)) (Way d now s r)
     at n true hop e here = (hop, e, here)
     at n false hop e here = (hop, e, here)
 
-    by : (b : Bool) → (r.hops == 32) ≡ b → (o : Option ℕ) → destination d now s r ≡ o → IfSome (if b then Some (TooFar place) else move_to place d s o) (Way d now s r)
+    by : (b : Bool) → (r.hops == 32) ≡ b → (o : Option ℕ) → destination d now s r ≡ o
+        → IfSome (if b then Some (TooFar place) else move_to place d s o) (Way d now s r)
     by true hop o e = tt
     by false hop None e = tt
     by false hop (Some n) e = at n (is_local n d s) hop e refl
@@ -122,8 +126,18 @@ module _ (now : ℕ) (s : Plain) (steady : IsSteady s) (x : Stepped (List ℕ)) 
       subst (λ n. find_queue n s ≡ Some d) (name_exact d.name r.queue (eligible_parts d now s r p.first.eligible).0)
       (found_again name_eq (λ q. q.name) name_exact nat_list_eq_equiv.refl s.queues p.queue_place d steady.names p.next.at)
 
-  begins : (change : Change (List ℕ)) (y : Stepped (List ℕ)) → y.change ≡ Some change → y ≡ x → StartsRow s r change → (fits change s ≡ true) × (is_sane_change change ≡ true) → IsStart s x
-  begins change y makes is starts may = record { row = r; found = row_found; ready = (eligible_parts d now s r p.first.eligible).1; change = change; makes = ap (λ z. z.change) (sym is) ∙ makes; starts = starts; may = may }
+  begins : (change : Change (List ℕ)) (y : Stepped (List ℕ)) → y.change ≡ Some change → y ≡ x → StartsRow s r change
+      → (fits change s ≡ true) × (is_sane_change change ≡ true) → IsStart s x
+  begins change y makes is starts may = record {
+    row = r;
+    found = row_found;
+    ready = (eligible_parts d now s r p.first.eligible).1;
+    change = change;
+    makes =
+        ap (λ z. z.change) (sym is) ∙ makes;
+    starts = starts;
+    may = may;
+  }
 
   is_there : row_passes is_ready r.id s ≡ true
   is_there = ap (passes is_ready) row_found ∙ (eligible_parts d now s r p.first.eligible).1
@@ -133,7 +147,8 @@ module _ (now : ℕ) (s : Plain) (steady : IsSteady s) (x : Stepped (List ℕ)) 
   done f e = ap (option_and_then f) (sym p.first.at) ∙ e
 
   launched : with_row (row_place c) s (λ q. Some (launching q s)) ≡ Some x → IsStart s x
-  launched e = begins (Started r.id None) (launching r s) refl (same_Some (launching r s) x (done _ e)) refl (and_from (row_passes is_ready r.id s) true is_there refl, refl)
+  launched e = begins (Started r.id None) (launching r s) refl (same_Some (launching r s) x (done _ e)) refl
+      (and_from (row_passes is_ready r.id s) true is_there refl, refl)
 
   held : with_row (row_place c) s (λ q. Some (holding q)) ≡ Some x → IsStart s x
   held e = begins (HeldFar r.id) (holding r) refl (same_Some (holding r) x (done _ e)) refl (is_there, refl)
@@ -144,18 +159,21 @@ module _ (now : ℕ) (s : Plain) (steady : IsSteady s) (x : Stepped (List ℕ)) 
       let tried : IsAt (is_free_device r.job.forms s) d.devices device = position_at (is_free_device r.job.forms s) d.devices device chosen in
       let is : tried.value ≡ n = same_Some tried.value n (sym tried.at ∙ ap (option_and_then (λ q. slice_get q.devices device)) (sym queue_found) ∙ at) in
       let parts = and_parts (passes (can_serve r.job.forms) (find_device tried.value s)) (not (is_busy tried.value s)) tried.passes in
-      ap (λ m. has_device m s && not (is_busy m s)) (sym is) ∙ and_from (has_device tried.value s) (not (is_busy tried.value s)) (known tried.value (find_device tried.value s) refl parts.0) parts.1
+      ap (λ m. has_device m s && not (is_busy m s)) (sym is) ∙ and_from (has_device tried.value s) (not (is_busy tried.value s))
+      (known tried.value (find_device tried.value s) refl parts.0) parts.1
     where
       known : (m : List ℕ) (o : Option DeviceDef) → find_device m s ≡ o → passes (can_serve r.job.forms) o ≡ true → has_device m s ≡ true
       known m None e serves = absurd (true≢false (sym serves))
       known m (Some y) e serves = any_found (is_device m) s.devices y e
 
-  printed : (device : ℕ) → free_device d r.job.forms s ≡ Some device → with_row (row_place c) s (λ q. option_map (λ n. printing n q s) (device_at device q s)) ≡ Some x → IsStart s x
+  printed : (device : ℕ) → free_device d r.job.forms s ≡ Some device → with_row (row_place c) s (λ q. option_map (λ n. printing n q s) (device_at device q s))
+      ≡ Some x → IsStart s x
   printed device chosen e = of (device_at device r s) refl (done _ e)
     where
       of : (o : Option (List ℕ)) → device_at device r s ≡ o → option_map (λ n. printing n r s) o ≡ Some x → IsStart s x
       of None at e = absurd (none-some x e)
-      of (Some n) at e = begins (Started r.id (Some n)) (printing n r s) refl (same_Some (printing n r s) x e) refl (and_from (row_passes is_ready r.id s) (device_fits (Some n) s) is_there (free device n chosen at), refl)
+      of (Some n) at e = begins (Started r.id (Some n)) (printing n r s) refl (same_Some (printing n r s) x e) refl
+          (and_from (row_passes is_ready r.id s) (device_fits (Some n) s) is_there (free device n chosen at), refl)
 
   way : Way d now s r c
   way = subst (λ o. IfSome o (Way d now s r)) p.way (way_is d.kind d now s (row_place c) r)
@@ -195,7 +213,8 @@ module _ (now : ℕ) (s : Plain) (steady : IsSteady s) (x : Stepped (List ℕ)) 
       where
         lets : is_ok (first_refusal (local_causes tried.value.queue s r)) ≡ true → (has_queue tried.value.queue s ≡ true) × (arrivals_used s ≡ false)
         lets allows =
-            let first : List Cause = cause (not (has_queue tried.value.queue s)) (NoQueue tried.value.queue) ∷ causes_of (move_entry_causes r) (find_queue tried.value.queue s) in
+            let first : List Cause = cause (not (has_queue tried.value.queue s)) (NoQueue tried.value.queue)
+            ∷ causes_of (move_entry_causes r) (find_queue tried.value.queue s) in
             let last : List Cause = cause (arrivals_used s) NumbersUsed ∷ [] in
             let parts = causes_behind first last allows in
             (not-false (has_queue tried.value.queue s) (none_holds first parts.0).0, (none_holds last parts.1).0)
@@ -203,9 +222,13 @@ module _ (now : ℕ) (s : Plain) (steady : IsSteady s) (x : Stepped (List ℕ)) 
         by : (o : Result (Unit {0}) Refusal) → first_refusal (local_causes tried.value.queue s r) ≡ o → moving_by o tried.value.queue r ≡ x → IsStart s x
         by (Ok u) f e =
             let let_in = lets (ap is_ok f) in
-            begins (MovedLocal r.id tried.value.queue) (moving_by (Ok u) tried.value.queue r) refl e (refl, few_hops hop)
-            (chained (row_passes may_hop r.id s) (has_queue tried.value.queue s ∷ not (arrivals_used s) ∷ []) (may_go hop, (let_in.0, (not_from_false (arrivals_used s) let_in.1, tt))), refl)
-        by (Err refusal) f e = begins (RefusedLocal r.id tried.value.queue (refusal_number refusal)) (moving_by (Err refusal) tried.value.queue r) refl e (refl, untried here) (is_there, refl)
+            begins (MovedLocal r.id tried.value.queue) (moving_by (Ok u) tried.value.queue r) refl e (refl, few_hops hop) (
+              chained (row_passes may_hop r.id s) (has_queue tried.value.queue s ∷ not (arrivals_used s) ∷ [])
+                  (may_go hop, (let_in.0, (not_from_false (arrivals_used s) let_in.1, tt))),
+              refl,
+            )
+        by (Err refusal) f e = begins (RefusedLocal r.id tried.value.queue (refusal_number refusal)) (moving_by (Err refusal) tried.value.queue r) refl e
+            (refl, untried here) (is_there, refl)
 
     handed : (r.hops == 32) ≡ false → is_local dest d s ≡ false → open_hand tried.value now s r ≡ x → IsStart s x
     handed hop here e = by (find_peer tried.value.host s) refl e
@@ -221,11 +244,20 @@ module _ (now : ℕ) (s : Plain) (steady : IsSteady s) (x : Stepped (List ℕ)) 
 
         by : (o : Option Peer) → find_peer tried.value.host s ≡ o → opened_with o tried.value now s r ≡ x → IsStart s x
         by None known e = absurd (true≢false (sym parts.1 ∙ ap (passes (is_over_wait now)) known))
-        by (Some peer) known e = begins (HandOpened tried.value.host peer.next r.id tried.value.queue now) (opened_with (Some peer) tried.value now s r) refl e refl (
-          chained (row_passes may_hop r.id s) (passes (is_next peer.next) (find_peer tried.value.host s) ∷ not (list_any (is_hand_to tried.value.host) s.hands) ∷ [])
-              (may_go hop, (ap (passes (is_next peer.next)) known ∙ and_from (peer.next == peer.next) (nat_lt peer.next last_u64) (nat_eq_equiv.refl peer.next) (sym (ap (passes has_number_left) known) ∙ open_to.1), (open_to.0, tt))),
-          refl,
-        )
+        by (Some peer) known e = begins (HandOpened tried.value.host peer.next r.id tried.value.queue now)
+            (opened_with (Some peer) tried.value now s r) refl e refl (
+              chained (row_passes may_hop r.id s) (passes (is_next peer.next) (find_peer tried.value.host s)
+                  ∷ not (list_any (is_hand_to tried.value.host) s.hands)
+                  ∷ []) (
+                    may_go hop,
+                    (
+                      ap (passes (is_next peer.next)) known ∙ and_from (peer.next == peer.next) (nat_lt peer.next last_u64) (nat_eq_equiv.refl peer.next)
+                          (sym (ap (passes has_number_left) known) ∙ open_to.1),
+                      (open_to.0, tt),
+                    ),
+                  ),
+              refl,
+            )
 
 -- what starts is a start of the picked row
 pub start_is : (now : ℕ) (s : Plain) (x : Stepped (List ℕ)) → IsSteady s → start now s ≡ Some x → IsStart s x

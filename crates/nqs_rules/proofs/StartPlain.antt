@@ -1,5 +1,6 @@
 -- A start looks at no stored part.
-use Rattle.std.proofs.Common.{◌≡◌, ℕ, not, ◌&&◌, ◌||◌, nat_lt, nat_le, List, sum, slice_get, position, Option, None, Some, is_some, Result, Ok, Err, option_map, refl, ap, ◌∙◌}
+use Rattle.std.proofs.Common.{◌≡◌, ℕ, not, ◌&&◌, ◌||◌, nat_lt, nat_le, List, sum, slice_get, position, Option, None, Some, is_some, Result, Ok, Err, option_map}
+use Rattle.std.proofs.Common.{refl, ap, ◌∙◌}
 use Rattle.std.specs.Option.{option_and_then}
 use Rattle.std.specs.List.{list_all}
 use Rattle.std.proofs.lemmas.Simd.{map-map}
@@ -21,7 +22,8 @@ use Rattle.nqs_rules.specs.Tests.{passes, is_ready, is_batch}
 use Rattle.nqs_rules.specs.Causes.{first_refusal}
 use Rattle.nqs_rules.specs.Find.{has_name, find_device, find_peer}
 use Rattle.nqs_rules.specs.Devices.{can_serve, free_device}
-use Rattle.nqs_rules.specs.Order.{below, is_greater, is_active_in, is_active_of, runs_in, runs_in_batch, complex_allows, is_within_limits, kind_allows, is_eligible, comes_before, first_eligible, is_candidate, next_queue, print_on, choice_for, choice_of, pick_in, pick}
+use Rattle.nqs_rules.specs.Order.{below, is_greater, is_active_in, is_active_of, runs_in, runs_in_batch, complex_allows, is_within_limits, kind_allows}
+use Rattle.nqs_rules.specs.Order.{is_eligible, comes_before, first_eligible, is_candidate, next_queue, print_on, choice_for, choice_of, pick_in, pick}
 use Rattle.nqs_rules.specs.Handover.{opened_with, open_hand}
 use Rattle.nqs_rules.specs.Stepped.{Stepped, map_stepped}
 use Rattle.nqs_rules.specs.Start.{launching, printing, local_causes, moving_by, moving, holding, with_row, device_at, dest_at, started, start_by, start}
@@ -43,7 +45,8 @@ module _ {E F : Type 0} (f : E → F) where
   within-map : (d : QueueDef) (s : State E) → is_within_limits d (map_state f s) ≡ is_within_limits d s
   within-map d s = (λ j. nat_lt (count-map (map_row f) (is_active_in d.name) s.rows j) d.run_limit
       && (not (is_batch d.kind)
-      || (list_all (λ c. complex_allows-map d.name s c j) s.complexes && nat_lt (count-map (map_row f) (runs_in_batch (map_state f s)) s.rows j) s.global_limit)))
+      || (list_all (λ c. complex_allows-map d.name s c j) s.complexes && nat_lt
+      (count-map (map_row f) (runs_in_batch (map_state f s)) s.rows j) s.global_limit)))
 
   -- eligible rows, and queues that have one
 
@@ -59,7 +62,8 @@ module _ {E F : Type 0} (f : E → F) where
   eligible-map d now s r = (λ j. name_eq d.name r.queue && is_ready r && nat_le r.job.earliest now
       && below (count-map (map_row f) (is_active_of d.name r.job.owner) s.rows j) d.user_limit && kind_allows-map d.kind d now s r j)
 
-  first_eligible-map : (d : QueueDef) (now : ℕ) (s : State E) → first_eligible d now (map_state f s) ≡ option_map (at_place (map_row f)) (first_eligible d now s)
+  first_eligible-map : (d : QueueDef) (now : ℕ) (s : State E) → first_eligible d now (map_state f s)
+      ≡ option_map (at_place (map_row f)) (first_eligible d now s)
   first_eligible-map d now s =
       best_from-map (map_row f) (is_eligible d now (map_state f s)) comes_before 0 s.rows
       ∙ (λ j. option_map (at_place (map_row f)) (best_from (λ r. eligible-map d now s r j) comes_before 0 s.rows))
@@ -73,7 +77,8 @@ module _ {E F : Type 0} (f : E → F) where
 
   -- the choice
 
-  choice_for-map : (k : Kind) (d : QueueDef) (now : ℕ) (s : State E) (place : ℕ) (r : Row E) → choice_for k d now (map_state f s) place (map_row f r) ≡ choice_for k d now s place r
+  choice_for-map : (k : Kind) (d : QueueDef) (now : ℕ) (s : State E) (place : ℕ) (r : Row E)
+      → choice_for k d now (map_state f s) place (map_row f r) ≡ choice_for k d now s place r
   choice_for-map Batch d now s place r = refl
   choice_for-map Device d now s place r = ap (print_on place) (free_device-map d r.job.forms s)
   choice_for-map Pipe d now s place r = refl
@@ -91,7 +96,8 @@ module _ {E F : Type 0} (f : E → F) where
 
   -- the start
 
-  with_row-map : (place : ℕ) (s : State E) (h : Row F → Option (Stepped F)) (g : Row E → Option (Stepped E)) → ((r : Row E) → h (map_row f r) ≡ option_map (map_stepped f) (g r))
+  with_row-map : (place : ℕ) (s : State E) (h : Row F → Option (Stepped F)) (g : Row E → Option (Stepped E))
+      → ((r : Row E) → h (map_row f r) ≡ option_map (map_stepped f) (g r))
       → with_row place (map_state f s) h ≡ option_map (map_stepped f) (with_row place s g)
   with_row-map place s h g same = ap (option_and_then h) (slice_get-map (map_row f) s.rows place) ∙ by (slice_get s.rows place)
     where
@@ -100,7 +106,8 @@ module _ {E F : Type 0} (f : E → F) where
       by (Some r) = same r
 
   -- what is done at a value that may be there
-  done-map : {V : Type 0} (h : V → Stepped F) (g : V → Stepped E) → ((v : V) → h v ≡ map_stepped f (g v)) → (o : Option V) → option_map h o ≡ option_map (map_stepped f) (option_map g o)
+  done-map : {V : Type 0} (h : V → Stepped F) (g : V → Stepped E) → ((v : V) → h v ≡ map_stepped f (g v)) → (o : Option V)
+      → option_map h o ≡ option_map (map_stepped f) (option_map g o)
   done-map h g same None = refl
   done-map h g same (Some v) = ap Some (same v)
 
@@ -121,12 +128,15 @@ module _ {E F : Type 0} (f : E → F) where
   started-map : (c : Choice) (now : ℕ) (s : State E) → started c now (map_state f s) ≡ option_map (map_stepped f) (started c now s)
   started-map (Launch row) now s = with_row-map row s _ (λ r. Some (launching r s)) (λ r. refl)
   started-map (Print row device) now s =
-      with_row-map row s _ (λ r. option_map (λ d. printing d r s) (device_at device r s)) (λ r. done-map (λ d. printing d (map_row f r) (map_state f s)) (λ d. printing d r s) (λ d. refl) (device_at device r s))
+      with_row-map row s _ (λ r. option_map (λ d. printing d r s) (device_at device r s))
+      (λ r. done-map (λ d. printing d (map_row f r) (map_state f s)) (λ d. printing d r s) (λ d. refl) (device_at device r s))
   started-map (TooFar row) now s = with_row-map row s _ (λ r. Some (holding r)) (λ r. refl)
   started-map (Local row dest) now s =
-      with_row-map row s _ (λ r. option_map (λ d. moving d s r) (dest_at dest r s)) (λ r. done-map (λ d. moving d (map_state f s) (map_row f r)) (λ d. moving d s r) (λ d. moving-map d s r) (dest_at dest r s))
+      with_row-map row s _ (λ r. option_map (λ d. moving d s r) (dest_at dest r s))
+      (λ r. done-map (λ d. moving d (map_state f s) (map_row f r)) (λ d. moving d s r) (λ d. moving-map d s r) (dest_at dest r s))
   started-map (Hand row dest) now s =
-      with_row-map row s _ (λ r. option_map (λ d. open_hand d now s r) (dest_at dest r s)) (λ r. done-map (λ d. open_hand d now (map_state f s) (map_row f r)) (λ d. open_hand d now s r) (λ d. hand-map d now s r) (dest_at dest r s))
+      with_row-map row s _ (λ r. option_map (λ d. open_hand d now s r) (dest_at dest r s))
+      (λ r. done-map (λ d. open_hand d now (map_state f s) (map_row f r)) (λ d. open_hand d now s r) (λ d. hand-map d now s r) (dest_at dest r s))
 
   -- a start of a state and one of what it is mapped to are the same
   pub start-map : (now : ℕ) (s : State E) → start now (map_state f s) ≡ option_map (map_stepped f) (start now s)

@@ -44,7 +44,8 @@ module _ {E : Type 0} where
     pub queue : is_default_there s.default_queue s ≡ true
 
   abbrev parameters_tests : State E → List Bool
-  parameters_tests s = is_wait s.patience ∷ is_wait s.retry_wait ∷ nat_le s.seq last_seq ∷ nat_le s.arrivals last_u64 ∷ nat_le 1 s.file_next ∷ nat_le s.file_next last_u64 ∷ is_default_there s.default_queue s ∷ []
+  parameters_tests s = is_wait s.patience ∷ is_wait s.retry_wait ∷ nat_le s.seq last_seq ∷ nat_le s.arrivals last_u64 ∷ nat_le 1 s.file_next
+      ∷ nat_le s.file_next last_u64 ∷ is_default_there s.default_queue s ∷ []
 
   pub parameters_are : (s : State E) → are_parameters_right s ≡ true → IsParameters s
   parameters_are s h =
@@ -61,7 +62,8 @@ module _ {E : Type 0} where
       }
 
   pub parameters_right : (s : State E) → IsParameters s → are_parameters_right s ≡ true
-  parameters_right s h = chained (nat_le s.global_limit 10000) (parameters_tests s) (h.limit, (h.patience, (h.wait, (h.seq, (h.arrivals, (h.file_some, (h.file, (h.queue, tt))))))))
+  parameters_right s h = chained (nat_le s.global_limit 10000) (parameters_tests s)
+      (h.limit, (h.patience, (h.wait, (h.seq, (h.arrivals, (h.file_some, (h.file, (h.queue, tt))))))))
 
   pub record IsShort (s : State E) : Type 0 where
     pub queues : nat_le (length s.queues) 256 ≡ true
@@ -72,7 +74,8 @@ module _ {E : Type 0} where
     pub held : nat_le (held_count s) 10000 ≡ true
 
   abbrev short_tests : State E → List Bool
-  short_tests s = nat_le (length s.complexes) 64 ∷ nat_le (length s.devices) 64 ∷ nat_le (length s.managers) 256 ∷ nat_le (length s.operators) 256 ∷ nat_le (held_count s) 10000 ∷ []
+  short_tests s = nat_le (length s.complexes) 64 ∷ nat_le (length s.devices) 64 ∷ nat_le (length s.managers) 256 ∷ nat_le (length s.operators) 256
+      ∷ nat_le (held_count s) 10000 ∷ []
 
   pub short_are : (s : State E) → are_lists_short s ≡ true → IsShort s
   short_are s h =
@@ -100,7 +103,10 @@ module _ {E : Type 0} where
     pub files : are_distinct same_number (map (λ f. f.number) s.files) ≡ true
 
   abbrev keys_tests : State E → List Bool
-  keys_tests s = are_distinct name_eq (map (λ c. c.name) s.complexes) ∷ are_distinct name_eq (map (λ d. d.name) s.devices) ∷ are_distinct id_eq (map (λ r. r.id) s.rows) ∷ are_distinct peer_number_eq (map hand_key s.hands) ∷ are_distinct peer_number_eq (map promise_key s.promises) ∷ are_distinct peer_number_eq (map stage_key s.stages) ∷ are_distinct same_number (map (λ f. f.number) s.files) ∷ []
+  keys_tests s = are_distinct name_eq (map (λ c. c.name) s.complexes) ∷ are_distinct name_eq (map (λ d. d.name) s.devices)
+      ∷ are_distinct id_eq (map (λ r. r.id) s.rows) ∷ are_distinct peer_number_eq (map hand_key s.hands)
+      ∷ are_distinct peer_number_eq (map promise_key s.promises) ∷ are_distinct peer_number_eq (map stage_key s.stages)
+      ∷ are_distinct same_number (map (λ f. f.number) s.files) ∷ []
 
   pub keys_are : (s : State E) → are_keys_distinct s ≡ true → IsKeyed s
   keys_are s h =
@@ -117,18 +123,21 @@ module _ {E : Type 0} where
       }
 
   pub keys_right : (s : State E) → IsKeyed s → are_keys_distinct s ≡ true
-  keys_right s h = chained (are_distinct name_eq (map (λ q. q.name) s.queues)) (keys_tests s) (h.queues, (h.complexes, (h.devices, (h.rows, (h.hands, (h.promises, (h.stages, (h.files, tt))))))))
+  keys_right s h = chained (are_distinct name_eq (map (λ q. q.name) s.queues)) (keys_tests s)
+      (h.queues, (h.complexes, (h.devices, (h.rows, (h.hands, (h.promises, (h.stages, (h.files, tt))))))))
 
   -- the host's parameters, where its default queue stays
 
-  pub default_kept : (s t : State E) → ((q : List ℕ) → has_queue q s ≡ true → has_queue q t ≡ true) → (o : Option (List ℕ)) → is_default_there o s ≡ true → is_default_there o t ≡ true
+  pub default_kept : (s t : State E) → ((q : List ℕ) → has_queue q s ≡ true → has_queue q t ≡ true) → (o : Option (List ℕ)) → is_default_there o s ≡ true
+      → is_default_there o t ≡ true
   default_kept s t queues None h = refl
   default_kept s t queues (Some q) h = queues q h
 
   abbrev pub numbers : State E → ℕ × ℕ × ℕ × ℕ × ℕ × ℕ × Option (List ℕ)
   numbers s = (s.global_limit, s.patience, s.retry_wait, s.seq, s.arrivals, s.file_next, s.default_queue)
 
-  pub parameters_kept : (s t : State E) → numbers t ≡ numbers s → ((q : List ℕ) → has_queue q s ≡ true → has_queue q t ≡ true) → are_parameters_right s ≡ true → are_parameters_right t ≡ true
+  pub parameters_kept : (s t : State E) → numbers t ≡ numbers s → ((q : List ℕ) → has_queue q s ≡ true → has_queue q t ≡ true) → are_parameters_right s ≡ true
+      → are_parameters_right t ≡ true
   parameters_kept s t same queues h =
       let p = parameters_are s h in
       parameters_right t (record {

@@ -1,5 +1,6 @@
 -- What a step makes fits its state: commands.
-use Rattle.std.proofs.Common.{◌≡◌, ℕ, ◌+◌, Bool, true, false, not, ◌&&◌, ◌||◌, nat_lt, nat_le, List, [], ◌∷◌, filter, slice_get, Option, None, Some, Result, Ok, Err, is_ok, suc, refl, sym, ap, ◌∙◌, arith, if◌then◌else◌}
+use Rattle.std.proofs.Common.{◌≡◌, ℕ, ◌+◌, Bool, true, false, not, ◌&&◌, ◌||◌, nat_lt, nat_le, List, [], ◌∷◌, filter, slice_get, Option, None, Some, Result, Ok}
+use Rattle.std.proofs.Common.{Err, is_ok, suc, refl, sym, ap, ◌∙◌, arith, if◌then◌else◌}
 use Rattle.std.proofs.lemmas.Bool.{and_parts, and_from, or_parts, or_right, leb-false, lt-ltb, not-false, not_from_false}
 use Rattle.std.specs.List.{list_all}
 use Rattle.std.specs.Option.{IfSome}
@@ -28,7 +29,8 @@ use Rattle.nqs_rules.specs.Sane.{is_asked_job, is_short_script, is_sane_command,
 use Rattle.nqs_rules.specs.Fits.{fits, edit_causes, is_offered_hand, hand_passes, runs, is_idle, row_passes}
 use Rattle.nqs_rules.specs.Stepped.{Stepped, makes}
 use Rattle.nqs_rules.specs.Handover.{later, is_silent, silent_hands, silence}
-use Rattle.nqs_rules.specs.Step.{Asker, reply_to, answer_to, kill, kills_of, stat_causes, unless_refused, submit_to, on_submit, delete_row, delete_meant, on_delete, on_allowed, on_command, ticked}
+use Rattle.nqs_rules.specs.Step.{Asker, reply_to, answer_to, kill, kills_of, stat_causes, unless_refused, submit_to, on_submit, delete_row, delete_meant}
+use Rattle.nqs_rules.specs.Step.{on_delete, on_allowed, on_command, ticked}
 use Rattle.nqs_rules.specs.Text.{stat_lines}
 use Rattle.nqs_rules.specs.InOrder.{IsInOrder}
 use Rattle.nqs_rules.proofs.Chains.{chained, implied}
@@ -58,7 +60,8 @@ module _ {E : Type 0} where
   passes_found test s r found h = ap (passes test) found ∙ h
 
   module _ (s : State E) (h : IsInOrder s) where
-    unless : (a : Asker) (causes : List Cause) (done : Stepped E) → (Allows causes → Fitting s done.change) → Fitting s (unless_refused a (first_refusal causes) done).change
+    unless : (a : Asker) (causes : List Cause) (done : Stepped E) → (Allows causes → Fitting s done.change)
+        → Fitting s (unless_refused a (first_refusal causes) done).change
     unless a causes done fitting = by (first_refusal causes) refl
       where
         by : (o : Result (Unit {0}) Refusal) → first_refusal causes ≡ o → Fitting s (unless_refused a o done).change
@@ -78,7 +81,16 @@ module _ {E : Type 0} where
             let room = none_holds last parts.1 in
             let used = or_parts (nat_le last_seq s.seq) (arrivals_used s) room.1.0 in
             let below = leb-false last_seq s.seq used.0 in (
-              chained (has_queue q s) (not (is_host_full s) ∷ nat_lt s.seq last_seq ∷ not (arrivals_used s) ∷ []) (there, (not_from_false (is_host_full s) room.0, (lt-ltb s.seq last_seq (omega (arith, below)), (not_from_false (arrivals_used s) used.1, tt)))),
+              chained (has_queue q s) (not (is_host_full s) ∷ nat_lt s.seq last_seq ∷ not (arrivals_used s) ∷ []) (
+                there,
+                (
+                  not_from_false (is_host_full s) room.0,
+                  (
+                    lt-ltb s.seq last_seq (omega (arith, below)),
+                    (not_from_false (arrivals_used s) used.1, tt),
+                  ),
+                ),
+              ),
               completed_sane (s.seq + 1) sub.job (omega (arith, below)) asked,
             )
 
@@ -92,7 +104,8 @@ module _ {E : Type 0} where
         deleted : (r : Row E) → find_row r.id s ≡ Some r → Fitting s (delete_row a r).change
         deleted r found = by (is_running r.state) refl
           where
-            by : (b : Bool) → is_running r.state ≡ b → Fitting s (if b then makes (Doomed r.id) (reply_to a (reply.Signalled r.id) ∷ kill r ∷ []) else makes (Deleted r.id) (reply_to a (reply.Deleted r.id) ∷ [])).change
+            by : (b : Bool) → is_running r.state ≡ b → Fitting s (if b then makes (Doomed r.id) (reply_to a (reply.Signalled r.id) ∷ kill r ∷ []) else
+                makes (Deleted r.id) (reply_to a (reply.Deleted r.id) ∷ [])).change
             by true e = (passes_found runs s r found e, refl)
             by false e = (passes_found is_idle s r found (not_from_false (is_running r.state) e), refl)
 
@@ -111,14 +124,19 @@ module _ {E : Type 0} where
         one : (n : ℕ) (x : Hand) → slice_get s.hands n ≡ Some x → (not (is_silent now s x) || hand_passes is_offered_hand x.peer x.number s) ≡ true
         one n x at = by (is_offered x.phase) refl
           where
-            by : (b : Bool) → is_offered x.phase ≡ b → (not (b && nat_le (later x.since s.patience) now) || hand_passes is_offered_hand x.peer x.number s) ≡ true
+            by : (b : Bool) → is_offered x.phase ≡ b → (not (b && nat_le (later x.since s.patience) now) || hand_passes is_offered_hand x.peer x.number s)
+                ≡ true
             by true e = or_right (not (nat_le (later x.since s.patience) now)) (hand_passes is_offered_hand x.peer x.number s)
-                (ap (passes is_offered_hand) (found_again peer_number_eq hand_key peer_number_exact same_peer_number s.hands n x (keys_are s h.keys).hands at) ∙ e)
+                (ap (passes is_offered_hand) (found_again peer_number_eq hand_key peer_number_exact same_peer_number s.hands n x (keys_are s h.keys).hands at)
+                ∙ e)
             by false e = refl
 
         offered : list_all (λ k. hand_passes is_offered_hand k.peer k.number s) (silent_hands now s) ≡ true
-        offered = all-mapped (λ x. hand_passes is_offered_hand x.peer x.number s) (λ k. hand_passes is_offered_hand k.peer k.number s) (λ x. peer_number x.peer x.number) (λ x e. e) (filter (is_silent now s) s.hands)
-            (filter_all (is_silent now s) (λ x. not (is_silent now s x) || hand_passes is_offered_hand x.peer x.number s) (λ x. hand_passes is_offered_hand x.peer x.number s) (λ x silent e. implied (is_silent now s x) (hand_passes is_offered_hand x.peer x.number s) e silent) s.hands
+        offered = all-mapped (λ x. hand_passes is_offered_hand x.peer x.number s) (λ k. hand_passes is_offered_hand k.peer k.number s)
+            (λ x. peer_number x.peer x.number) (λ x e. e) (filter (is_silent now s) s.hands)
+            (filter_all (is_silent now s) (λ x. not (is_silent now s x) || hand_passes is_offered_hand x.peer x.number s)
+            (λ x. hand_passes is_offered_hand x.peer x.number s) (λ x silent e. implied (is_silent now s x)
+            (hand_passes is_offered_hand x.peer x.number s) e silent) s.hands
             (all_places (λ x. not (is_silent now s x) || hand_passes is_offered_hand x.peer x.number s) s.hands one))
 
         of : (ks : List PeerNumber) → list_all (λ k. hand_passes is_offered_hand k.peer k.number s) ks ≡ true → Fitting s (silence now s.retry_wait ks)
@@ -127,8 +145,10 @@ module _ {E : Type 0} where
 
     allowed_fits : (now : ℕ) (a : Asker) (user : List ℕ) (c : Command) → is_sane_command c ≡ true → Fitting s (on_allowed now a user c s).change
     allowed_fits now a user (command.Submit sub) sane = submit_fits a sub (and_parts (is_asked_job sub.job) (is_short_script sub.script) sane).0
-    allowed_fits now a user (command.Edit e) sane = unless a (edit_causes e s) (makes (Edited e) (reply_to a reply.Done ∷ kills_of e s)) (λ allows. (allows, sane))
-    allowed_fits now a user (command.Stat owner queues) sane = unless a (stat_causes queues s) (answer_to a (reply.Lines (stat_lines owner queues s))) (λ allows. tt)
+    allowed_fits now a user (command.Edit e) sane = unless a (edit_causes e s) (makes (Edited e) (reply_to a reply.Done ∷ kills_of e s))
+        (λ allows. (allows, sane))
+    allowed_fits now a user (command.Stat owner queues) sane = unless a (stat_causes queues s) (answer_to a (reply.Lines (stat_lines owner queues s)))
+        (λ allows. tt)
     allowed_fits now a user (command.Delete id forced) sane = delete_fits a user id forced
     allowed_fits now a user (command.Show code) sane = tt
     allowed_fits now a user command.Shutdown sane = tt

@@ -1,5 +1,6 @@
 -- A step looks at no stored part.
-use Rattle.std.proofs.Common.{◌≡◌, ℕ, Bool, true, false, not, ◌==◌, nat_le, List, [], ◌∷◌, ◌++◌, map, filter, Option, None, Some, Result, Ok, Err, option_map, refl, sym, ap, ◌∙◌, if◌then◌else◌}
+use Rattle.std.proofs.Common.{◌≡◌, ℕ, Bool, true, false, not, ◌==◌, nat_le, List, [], ◌∷◌, ◌++◌, map, filter, Option, None, Some, Result, Ok, Err, option_map}
+use Rattle.std.proofs.Common.{refl, sym, ap, ◌∙◌, if◌then◌else◌}
 use Rattle.std.proofs.lemmas.List.{map-append}
 use Rattle.nqs_state.specs.State.{State}
 use Rattle.nqs_types.specs.declared.ids.RequestId.{RequestId}
@@ -27,7 +28,8 @@ use Rattle.nqs_rules.specs.Rows.{queue_meant, causes_of, queue_entry_causes, num
 use Rattle.nqs_rules.specs.Fits.{edit_causes}
 use Rattle.nqs_rules.specs.Stepped.{Stepped, Pending, map_pending, map_stepped, makes, ready}
 use Rattle.nqs_rules.specs.Text.{stat_lines}
-use Rattle.nqs_rules.specs.Step.{Asker, reply_to, answer_to, unless_refused, submit_to, on_submit, kill, delete_meant, on_delete, runs_in_queue, kills_of, on_edit, stat_causes, on_stat, ticked, then_reply, on_allowed, is_start, ended_by, then_ack, acknowledged, unlaunched_by, step}
+use Rattle.nqs_rules.specs.Step.{Asker, reply_to, answer_to, unless_refused, submit_to, on_submit, kill, delete_meant, on_delete, runs_in_queue, kills_of}
+use Rattle.nqs_rules.specs.Step.{on_edit, stat_causes, on_stat, ticked, then_reply, on_allowed, is_start, ended_by, then_ack, acknowledged, unlaunched_by, step}
 use Rattle.nqs_rules.specs.Plain.{map_row, map_state}
 use Rattle.nqs_rules.proofs.ListMaps.{map-mapped, map-filter}
 use Rattle.nqs_rules.proofs.FoundPlain.{held_count-map, find_row-map, meant_row-map, named_causes-map}
@@ -37,26 +39,31 @@ use Rattle.nqs_rules.proofs.OutputsPlain.{ticked-map, on_end-map}
 use Rattle.nqs_rules.proofs.MessagesPlain.{choice-map, on_message-map, on_written-map}
 
 module _ {E F : Type 0} (f : E → F) where
-  unless-map : (a : Asker) (r : Result (Unit {0}) Refusal) (done : Stepped E) → unless_refused a r (map_stepped f done) ≡ map_stepped f (unless_refused a r done)
+  unless-map : (a : Asker) (r : Result (Unit {0}) Refusal) (done : Stepped E)
+      → unless_refused a r (map_stepped f done) ≡ map_stepped f (unless_refused a r done)
   unless-map a (Ok u) done = refl
   unless-map a (Err e) done = refl
 
   submit_causes-map : (job : Job) (m : Option (List ℕ)) (s : State E) → submit_causes_at job m (map_state f s) ≡ submit_causes_at job m s
   submit_causes-map job None s = refl
-  submit_causes-map job (Some q) s = ap (λ n. cause (not (has_queue q s)) (NoQueue q) ∷ causes_of (queue_entry_causes job) (find_queue q s) ++ cause (nat_le 10000 n) HostFull ∷ cause (numbers_used s) NumbersUsed ∷ []) (held_count-map f s)
+  submit_causes-map job (Some q) s = ap (λ n. cause (not (has_queue q s)) (NoQueue q) ∷ causes_of (queue_entry_causes job) (find_queue q s)
+      ++ cause (nat_le 10000 n) HostFull ∷ cause (numbers_used s) NumbersUsed ∷ []) (held_count-map f s)
 
   on_submit-map : (a : Asker) (sub : Submission) (s : State E) → on_submit a sub (map_state f s) ≡ map_stepped f (on_submit a sub s)
   on_submit-map a sub s =
-      (λ j. unless_refused a (first_refusal (submit_causes-map sub.job (queue_meant sub.queue s.default_queue) s j)) (to (queue_meant sub.queue s.default_queue) j))
+      (λ j. unless_refused a (first_refusal (submit_causes-map sub.job (queue_meant sub.queue s.default_queue) s j))
+      (to (queue_meant sub.queue s.default_queue) j))
       ∙ unless-map a (first_refusal (submit_causes sub s)) (submit_to a sub s (queue_meant sub.queue s.default_queue))
     where
       to : (m : Option (List ℕ)) → submit_to a sub (map_state f s) m ≡ map_stepped f (submit_to a sub s m)
       to None = refl
       to (Some q) = refl
 
-  on_delete-map : (a : Asker) (user : List ℕ) (id : Named) (forced : Bool) (s : State E) → on_delete a user id forced (map_state f s) ≡ map_stepped f (on_delete a user id forced s)
+  on_delete-map : (a : Asker) (user : List ℕ) (id : Named) (forced : Bool) (s : State E)
+      → on_delete a user id forced (map_state f s) ≡ map_stepped f (on_delete a user id forced s)
   on_delete-map a user id forced s =
-      (λ j. unless_refused a (first_refusal (named_causes-map f id (delete_row_causes user id forced (map_state f s)) s j)) ((ap (delete_meant a id) (meant_row-map f id s) ∙ meant (meant_row id s)) j))
+      (λ j. unless_refused a (first_refusal (named_causes-map f id (delete_row_causes user id forced (map_state f s)) s j))
+      ((ap (delete_meant a id) (meant_row-map f id s) ∙ meant (meant_row id s)) j))
       ∙ unless-map a (first_refusal (delete_causes user id forced s)) (delete_meant a id (meant_row id s))
     where
       meant : (o : Option (Row E)) → delete_meant a id (option_map (map_row f) o) ≡ map_stepped f (delete_meant a id o)
@@ -64,7 +71,8 @@ module _ {E F : Type 0} (f : E → F) where
       meant (Some r) = choice-map f (is_running r.state) _ _ _ _ refl refl
 
   kills-map : (e : Edit) (s : State E) → kills_of e (map_state f s) ≡ map (map_pending f) (kills_of e s)
-  kills-map (RowsOf (AbortQueue q)) s = ap (map kill) (sym (map-filter (map_row f) (runs_in_queue q) s.rows)) ∙ sym (map-mapped (map_pending f) (map_row f) kill kill (λ r. refl) (filter (runs_in_queue q) s.rows))
+  kills-map (RowsOf (AbortQueue q)) s = ap (map kill) (sym (map-filter (map_row f) (runs_in_queue q) s.rows))
+      ∙ sym (map-mapped (map_pending f) (map_row f) kill kill (λ r. refl) (filter (runs_in_queue q) s.rows))
   kills-map e s = refl
 
   on_edit-map : (a : Asker) (e : Edit) (s : State E) → on_edit a e (map_state f s) ≡ map_stepped f (on_edit a e s)
@@ -72,15 +80,21 @@ module _ {E F : Type 0} (f : E → F) where
       (λ j. unless_refused a (first_refusal (edit_causes-map f e s j)) (makes (Edited e) (reply_to a reply.Done ∷ kills-map e s j)))
       ∙ unless-map a (first_refusal (edit_causes e s)) (makes (Edited e) (reply_to a reply.Done ∷ kills_of e s))
 
-  on_stat-map : (a : Asker) (user : Option (List ℕ)) (queues : List (List ℕ)) (s : State E) → on_stat a user queues (map_state f s) ≡ map_stepped f (on_stat a user queues s)
+  on_stat-map : (a : Asker) (user : Option (List ℕ)) (queues : List (List ℕ)) (s : State E)
+      → on_stat a user queues (map_state f s) ≡ map_stepped f (on_stat a user queues s)
   on_stat-map a user queues s =
       ap (λ l. unless_refused a (first_refusal (stat_causes queues s)) (answer_to a (reply.Lines l))) (stat_lines-map f user queues s)
       ∙ unless-map a (first_refusal (stat_causes queues s)) (answer_to a (reply.Lines (stat_lines user queues s)))
 
-  behind-map : (done : Stepped E) (more : List (Pending E)) → record { change = done.change; outputs = map (map_pending f) done.outputs ++ map (map_pending f) more } ≡ map_stepped f (record { change = done.change; outputs = done.outputs ++ more })
+  behind-map : (done : Stepped E) (more : List (Pending E)) → record {
+    change = done.change;
+    outputs =
+        map (map_pending f) done.outputs ++ map (map_pending f) more;
+  } ≡ map_stepped f (record { change = done.change; outputs = done.outputs ++ more })
   behind-map done more = ap (λ l. record { change = done.change; outputs = l }) (sym (map-append (map_pending f) done.outputs more))
 
-  on_allowed-map : (now : ℕ) (a : Asker) (user : List ℕ) (c : Command) (s : State E) → on_allowed now a user c (map_state f s) ≡ map_stepped f (on_allowed now a user c s)
+  on_allowed-map : (now : ℕ) (a : Asker) (user : List ℕ) (c : Command) (s : State E)
+      → on_allowed now a user c (map_state f s) ≡ map_stepped f (on_allowed now a user c s)
   on_allowed-map now a user (command.Submit sub) s = on_submit-map a sub s
   on_allowed-map now a user (command.Edit e) s = on_edit-map a e s
   on_allowed-map now a user (command.Stat owner queues) s = on_stat-map a owner queues s
@@ -96,11 +110,13 @@ module _ {E F : Type 0} (f : E → F) where
       by true = refl
       by false = refl
 
-  ended-map : (o : Option (Row E)) (start status : ℕ) (output error : List ℕ) (s : State E) → ended_by (option_map (map_row f) o) start status output error (map_state f s) ≡ map_stepped f (ended_by o start status output error s)
+  ended-map : (o : Option (Row E)) (start status : ℕ) (output error : List ℕ) (s : State E)
+      → ended_by (option_map (map_row f) o) start status output error (map_state f s) ≡ map_stepped f (ended_by o start status output error s)
   ended-map None start status output error s = refl
   ended-map (Some r) start status output error s = choice-map f (is_start start r) _ _ _ _ (on_end-map f status r output error s) refl
 
-  unlaunched-map : (o : Option (Row E)) (id : RequestId) (start : ℕ) → unlaunched_by (option_map (map_row f) o) id start ≡ map_stepped f (unlaunched_by o id start)
+  unlaunched-map : (o : Option (Row E)) (id : RequestId) (start : ℕ) → unlaunched_by (option_map (map_row f) o) id start
+      ≡ map_stepped f (unlaunched_by o id start)
   unlaunched-map None id start = refl
   unlaunched-map (Some r) id start = choice-map f (is_start start r) _ _ _ _ refl refl
 
@@ -108,11 +124,17 @@ module _ {E F : Type 0} (f : E → F) where
   pub step-map : (e : Event) (s : State E) → step e (map_state f s) ≡ map_stepped f (step e s)
   step-map (event.Ask now port token user c) s =
       let a : Asker = record { port = port; token = token } in
-      ap (unless_refused a (may_command (rank user s) c)) (on_allowed-map now a user c s) ∙ unless-map a (may_command (rank user s) c) (on_allowed now a user c s)
+      ap (unless_refused a (may_command (rank user s) c)) (on_allowed-map now a user c s)
+      ∙ unless-map a (may_command (rank user s) c) (on_allowed now a user c s)
   step-map (event.Arrived now m) s = on_message-map f m.from m.body s
   step-map (event.Ended now port id start status output error) s =
-      ap (then_ack port id start) (ap (λ o. ended_by o start status output error (map_state f s)) (find_row-map f id s) ∙ ended-map (find_row id s) start status output error s)
-      ∙ ap (λ l. record { change = (ended_by (find_row id s) start status output error s).change; outputs = map (map_pending f) (ended_by (find_row id s) start status output error s).outputs ++ l }) (acknowledged-map port id start)
+      ap (then_ack port id start) (ap (λ o. ended_by o start status output error (map_state f s)) (find_row-map f id s)
+      ∙ ended-map (find_row id s) start status output error s)
+      ∙ ap (λ l. record {
+        change = (ended_by (find_row id s) start status output error s).change;
+        outputs =
+            map (map_pending f) (ended_by (find_row id s) start status output error s).outputs ++ l;
+      }) (acknowledged-map port id start)
       ∙ behind-map (ended_by (find_row id s) start status output error s) (acknowledged port id start)
   step-map (event.Unlaunched now id start) s = ap (λ o. unlaunched_by o id start) (find_row-map f id s) ∙ unlaunched-map (find_row id s) id start
   step-map (event.Written now file) s = on_written-map f file s

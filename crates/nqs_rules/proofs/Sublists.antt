@@ -1,5 +1,6 @@
 -- Parts of lists in their order: what stays of a list where some of it goes, and what holds of such a part.
-use Rattle.std.proofs.Common.{◌≡◌, ◌≤◌, Bool, true, false, cond, not, List, [], ◌∷◌, ◌++◌, map, filter, length, Option, None, Some, refl, sym, subst, arith, if◌then◌else◌}
+use Rattle.std.proofs.Common.{◌≡◌, ◌≤◌, Bool, true, false, cond, not, List, [], ◌∷◌, ◌++◌, map, filter, length, Option, None, Some, refl, sym, subst, arith}
+use Rattle.std.proofs.Common.{if◌then◌else◌}
 use Rattle.std.proofs.lemmas.Bool.{and_parts, and_from, or_parts, or_from, not-true, not_from_false}
 use Rattle.std.specs.List.{list_any, list_all, filter_map, cons_option}
 use Rattle.std.specs.Option.{IfSome}
@@ -53,7 +54,8 @@ module _ {V : Type 0} where
       by false rest = rest
   filter_parts test (keep {v = v} {ys = ys} {xs = xs} p) = by (test v) (filter_parts test p)
     where
-      by : (b : Bool) → IsPart (filter test ys) (filter test xs) → IsPart (cond b (v ∷ filter test ys) (filter test ys)) (cond b (v ∷ filter test xs) (filter test xs))
+      by : (b : Bool) → IsPart (filter test ys) (filter test xs) → IsPart (cond b (v ∷ filter test ys) (filter test ys))
+          (cond b (v ∷ filter test xs) (filter test xs))
       by true rest = keep rest
       by false rest = rest
 
@@ -63,11 +65,13 @@ map_part key (skip p) = skip (map_part key p)
 map_part key (keep p) = keep (map_part key p)
 
 -- where a key is kept, the keys of what stays are a part of the keys
-pub filter_map_part : {V K : Type 0} (key : V → K) (f : V → Option V) → ((v : V) → IfSome (f v) (λ w. key w ≡ key v)) → (xs : List V) → IsPart (map key (filter_map f xs)) (map key xs)
+pub filter_map_part : {V K : Type 0} (key : V → K) (f : V → Option V) → ((v : V) → IfSome (f v) (λ w. key w ≡ key v)) → (xs : List V)
+    → IsPart (map key (filter_map f xs)) (map key xs)
 filter_map_part key f same [] = none
 filter_map_part key f same (x ∷ xs) = by (f x) (same x) (filter_map_part key f same xs)
   where
-    by : (o : Option _) → IfSome o (λ w. key w ≡ key x) → IsPart (map key (filter_map f xs)) (map key xs) → IsPart (map key (cons_option o (filter_map f xs))) (key x ∷ map key xs)
+    by : (o : Option _) → IfSome o (λ w. key w ≡ key x) → IsPart (map key (filter_map f xs)) (map key xs)
+        → IsPart (map key (cons_option o (filter_map f xs))) (key x ∷ map key xs)
     by None e rest = skip rest
     by (Some w) e rest = subst (λ k. IsPart (k ∷ map key (filter_map f xs)) (key x ∷ map key xs)) (sym e) (keep rest)
 
@@ -82,12 +86,14 @@ module _ {V : Type 0} where
   pub part_all : (test : V → Bool) {ys xs : List V} → IsPart ys xs → list_all test xs ≡ true → list_all test ys ≡ true
   part_all test none h = refl
   part_all test (skip {v = v} {xs = xs} p) h = part_all test p (and_parts (test v) (list_all test xs) h).1
-  part_all test (keep {v = v} {ys = ys} {xs = xs} p) h = let q = and_parts (test v) (list_all test xs) h in and_from (test v) (list_all test ys) q.0 (part_all test p q.1)
+  part_all test (keep {v = v} {ys = ys} {xs = xs} p) h = let q = and_parts (test v) (list_all test xs) h in
+      and_from (test v) (list_all test ys) q.0 (part_all test p q.1)
 
   pub part_none : (test : V → Bool) {ys xs : List V} → IsPart ys xs → list_any test xs ≡ false → list_any test ys ≡ false
   part_none test none h = refl
   part_none test (skip {v = v} {xs = xs} p) h = part_none test p (or_parts (test v) (list_any test xs) h).1
-  part_none test (keep {v = v} {ys = ys} {xs = xs} p) h = let q = or_parts (test v) (list_any test xs) h in or_from (test v) (list_any test ys) q.0 (part_none test p q.1)
+  part_none test (keep {v = v} {ys = ys} {xs = xs} p) h = let q = or_parts (test v) (list_any test xs) h in
+      or_from (test v) (list_any test ys) q.0 (part_none test p q.1)
 
   pub part_distinct : (eq : V → V → Bool) {ys xs : List V} → IsPart ys xs → are_distinct eq xs ≡ true → are_distinct eq ys ≡ true
   part_distinct eq none h = refl

@@ -36,8 +36,10 @@ module _ (now : ℕ) (s : Plain) (x : Stepped (List ℕ)) (is : IsStart s x) (ca
   stayed : IsSteady (after_step x s)
   stayed = subst (λ o. IsSteady (after_change o s)) (sym is.makes) (stays s calm is.row is.found is.ready is.change is.starts)
 
-pub start_lowers : (now : ℕ) (s : Plain) (x : Stepped (List ℕ)) (c : Change (List ℕ)) → IsInOrder s → start now s ≡ Some x → x.change ≡ Some c → starts_left (applied c s) < starts_left s
-start_lowers now s x c order e makes = subst (λ o. starts_left (after_change o s) < starts_left s) makes (lowered now s x (start_is now s x (steady s order) e) (steady s order))
+pub start_lowers : (now : ℕ) (s : Plain) (x : Stepped (List ℕ)) (c : Change (List ℕ)) → IsInOrder s → start now s ≡ Some x → x.change ≡ Some c
+    → starts_left (applied c s) < starts_left s
+start_lowers now s x c order e makes = subst (λ o. starts_left (after_change o s) < starts_left s) makes
+    (lowered now s x (start_is now s x (steady s order) e) (steady s order))
 
 pub start_changes : (now : ℕ) (s : Plain) (x : Stepped (List ℕ)) → IsInOrder s → start now s ≡ Some x → is_some x.change ≡ true
 start_changes now s x order e = ap is_some (start_is now s x (steady s order) e).makes
@@ -68,7 +70,8 @@ module _ (now : ℕ) where
   enough (suc n) zero s calm few also = none_starts (suc n) s (idle s calm also)
   enough (suc n) (suc m) s calm few also = by (start now s) refl (enough n m)
     where
-      by : (o : Option (Stepped (List ℕ))) → start now s ≡ o → ((t : Plain) → IsSteady t → starts_left t ≤ n → starts_left t ≤ m → starts_at_most n now t ≡ starts_at_most m now t) → Going n s o ≡ Going m s o
+      by : (o : Option (Stepped (List ℕ))) → start now s ≡ o → ((t : Plain) → IsSteady t → starts_left t ≤ n → starts_left t ≤ m
+          → starts_at_most n now t ≡ starts_at_most m now t) → Going n s o ≡ Going m s o
       by None e rest = refl
       by (Some x) e rest =
           let is : IsStart s x = start_is now s x calm e in
@@ -91,7 +94,8 @@ module _ (now : ℕ) where
   end zero s calm few = idle s calm few
   end (suc n) s calm few = by (start now s) refl (end n)
     where
-      by : (o : Option (Stepped (List ℕ))) → start now s ≡ o → ((t : Plain) → IsSteady t → starts_left t ≤ n → start now (after_starts (starts_at_most n now t) t) ≡ None) → start now (after_starts (Going n s o) s) ≡ None
+      by : (o : Option (Stepped (List ℕ))) → start now s ≡ o → ((t : Plain) → IsSteady t → starts_left t ≤ n
+          → start now (after_starts (starts_at_most n now t) t) ≡ None) → start now (after_starts (Going n s o) s) ≡ None
       by None e rest = e
       by (Some x) e rest =
           let is : IsStart s x = start_is now s x calm e in

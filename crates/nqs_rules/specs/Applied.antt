@@ -29,15 +29,20 @@ use Rattle.nqs_types.specs.declared.request.Promise.{Promise}
 use Rattle.nqs_types.specs.declared.request.Peer.{Peer}
 use Rattle.nqs_types.specs.declared.change.OutPart.{OutPart}
 use Rattle.nqs_types.specs.declared.change.Change.{Change}
-use Rattle.nqs_types.specs.declared.change.Change.TheVariants.{Site, Submitted, Deleted, Doomed, Started, Ended, Unlaunched, Boot, Edited, HandOpened, HandCommitted, HandRefused, HandsSilent, HandDone, Promised, Accepted, Dropped, MovedLocal, RefusedLocal, HeldFar, StageGot, StageGone, FileGone}
+use Rattle.nqs_types.specs.declared.change.Change.TheVariants.{Site, Submitted, Deleted, Doomed, Started, Ended, Unlaunched, Boot, Edited, HandOpened}
+use Rattle.nqs_types.specs.declared.change.Change.TheVariants.{HandCommitted, HandRefused, HandsSilent, HandDone, Promised, Accepted, Dropped, MovedLocal}
+use Rattle.nqs_types.specs.declared.change.Change.TheVariants.{RefusedLocal, HeldFar, StageGot, StageGone, FileGone}
 use Rattle.nqs_types.specs.declared.edit.AccessEdit.{AccessEdit}
-use Rattle.nqs_types.specs.declared.edit.AccessEdit.TheVariants.{SetUnrestrictedAccess, SetNoAccess, AddUser, RemoveUser, AddManager, RemoveManager, AddOperator, RemoveOperator}
+use Rattle.nqs_types.specs.declared.edit.AccessEdit.TheVariants.{SetUnrestrictedAccess, SetNoAccess, AddUser, RemoveUser, AddManager, RemoveManager}
+use Rattle.nqs_types.specs.declared.edit.AccessEdit.TheVariants.{AddOperator, RemoveOperator}
 use Rattle.nqs_types.specs.declared.edit.Edit.{Edit}
 use Rattle.nqs_types.specs.declared.edit.Edit.TheVariants.{Conf, Limits as LimitsOf, Access as AccessOf, Devices as DevicesOf, Rows as RowsOf}
 
+-- whether a hand offers this request, and its peer hasn't promised yet
 abbrev pub is_offered_for : RequestId → Hand → Bool
 is_offered_for id h = is_offered h.phase && id_eq id h.id
 
+-- a hand whose peer has promised: the request is the peer's
 abbrev pub committed : Hand → Hand
 committed h = record h { phase = Committed }
 
@@ -59,13 +64,16 @@ new_row c queue arrival script = record {
   script = script;
 }
 
+-- what a request is when it is submitted: never started, lost or handed over
 abbrev pub first_carried : RequestId → Job → Carried
 first_carried id job = record { id = id; job = job; starts = 0; lost = 0; hops = 0 }
 
 module _ {E : Type 0} where
+  -- the request that would be submitted next
   abbrev pub next_id : State E → RequestId
   next_id s = record { seq = s.seq + 1; host = s.me }
 
+  -- a submission adds its request, which gets the next number
   abbrev pub submitted : List ℕ → Job → E → State E → State E
   submitted queue job script s = record s {
     seq = s.seq + 1;
@@ -77,9 +85,11 @@ module _ {E : Type 0} where
   abbrev pub deleted : RequestId → State E → State E
   deleted id s = record (drop_row id s) { hands = filter (λ h. not (is_offered_for id h)) s.hands }
 
+  -- a request whose job was told to end
   abbrev pub doomed_row : Row E → Row E
   doomed_row r = record r { doomed = true }
 
+  -- a request that was started once more, on this device if on one
   abbrev pub started_row : Option (List ℕ) → Row E → Row E
   started_row device r = record r { state = Running; starts = r.starts + 1; device = device }
 
@@ -87,6 +97,7 @@ module _ {E : Type 0} where
   abbrev pub may_start_again : Row E → Bool
   may_start_again r = r.job.rerun && not r.doomed && nat_lt r.starts 65535
 
+  -- a request that ran when its host stopped, and waits again
   abbrev pub lost_row : Row E → Row E
   lost_row r = record r { state = Queued; device = None; lost = r.lost + 1 }
 
@@ -103,15 +114,20 @@ module _ {E : Type 0} where
       then record s { files = s.files ++ record { number = s.file_next; path = part.path; bytes = part.bytes } ∷ []; file_next = s.file_next + 1 }
       else s
 
+-- a peer to which one stage more was sent
 abbrev pub stage_counted : Peer → Peer
 stage_counted p = record p { stage_next = p.stage_next + 1 }
 
 module _ {E : Type 0} where
+  -- a stage to the host of submission, numbered by its peer
   abbrev pub add_stage_to : HostId → OutPart E → Option Peer → State E → State E
   add_stage_to host part None s = s
   add_stage_to host part (Some p) s =
       if nat_lt p.stage_next last_u64
-      then record (change_peer host stage_counted s) { stages = s.stages ++ record { peer = host; number = p.stage_next; path = part.path; bytes = part.bytes } ∷ [] }
+      then record (change_peer host stage_counted s) {
+        stages = s.stages ++ record { peer = host; number = p.stage_next; path = part.path; bytes = part.bytes }
+            ∷ [];
+      }
       else s
 
   -- a stage to another host, under the next number if there is one
@@ -122,33 +138,43 @@ module _ {E : Type 0} where
   abbrev pub add_output : RequestId → OutPart E → State E → State E
   add_output id part s = if same_host s.me id.host then add_file part s else add_stage id.host part s
 
+  -- the outputs of a job: files here, or stages to the host of submission
   abbrev pub add_outputs : RequestId → List (OutPart E) → State E → State E
   add_outputs id [] s = s
   add_outputs id (part ∷ parts) s = add_outputs id parts (add_output id part s)
 
   -- handovers, from the side of the source
 
+  -- a request that is being handed over
   abbrev pub routing_row : Row E → Row E
   routing_row r = record r { state = Routing }
 
+  -- a request that waits again
   abbrev pub requeued_row : Row E → Row E
   requeued_row r = record r { state = Queued }
 
+  -- without a hand
   abbrev pub drop_hand : PeerNumber → State E → State E
   drop_hand k s = record s { hands = without_first (is_hand k) s.hands }
 
+  -- a hand offers the request to its peer
   abbrev pub hand_opened : HostId → ℕ → RequestId → List ℕ → ℕ → State E → State E
   hand_opened peer number id queue since s =
-      record (change_peer peer (λ p. record p { next = number + 1 }) (change_row id routing_row s)) { hands = s.hands ++ record { peer = peer; number = number; id = id; queue = queue; since = since; phase = Offered } ∷ [] }
+      record (change_peer peer (λ p. record p { next = number + 1 }) (change_row id routing_row s))
+      { hands = s.hands ++ record { peer = peer; number = number; id = id; queue = queue; since = since; phase = Offered } ∷ [] }
 
+  -- the peer has promised: the request goes, and the hand stays until the peer is done
   abbrev pub hand_committed : PeerNumber → Option Hand → State E → State E
   hand_committed k None s = s
   hand_committed k (Some h) s = record (drop_row h.id s) { hands = change_first (is_hand k) committed s.hands }
 
+  -- the peer has refused: the hand goes, and the request waits again with the refusal noted
   abbrev pub hand_refused : PeerNumber → ℕ → Option Hand → State E → State E
   hand_refused k refusal None s = s
-  hand_refused k refusal (Some h) s = change_row h.id (λ r. refusal_noted (dests_for r s) (record { queue = h.queue; host = h.peer }) refusal (requeued_row r)) (drop_hand k s)
+  hand_refused k refusal (Some h) s = change_row h.id (λ r. refusal_noted (dests_for r s) (record { queue = h.queue; host = h.peer }) refusal (requeued_row r))
+      (drop_hand k s)
 
+  -- the peer was silent: the hand goes, the request waits again, and the peer isn't tried until then
   abbrev pub hand_silent : ℕ → PeerNumber → Option Hand → State E → State E
   hand_silent until k None s = s
   hand_silent until k (Some h) s = change_peer k.peer (λ p. record p { wait = until }) (change_row h.id requeued_row (drop_hand k s))
@@ -160,16 +186,19 @@ module _ {E : Type 0} where
 
   -- handovers, from the side of the receiver
 
+  -- whether a promise was made to this peer
   abbrev pub is_promise_of : HostId → Promise E → Bool
   is_promise_of peer p = same_host peer p.peer
 
   -- A promise goes behind the others, in place of an older one of that peer. The numbers before its own are closed.
   abbrev pub promised : HostId → ℕ → List ℕ → Carried → E → State E → State E
   promised peer number queue c script s = record (change_peer peer (close (number - 1)) s) {
-    promises = filter (λ p. not (is_promise_of peer p)) s.promises ++ record { peer = peer; number = number; row = new_row c queue (s.arrivals + 1) script } ∷ [];
+    promises = filter (λ p. not (is_promise_of peer p)) s.promises ++ record { peer = peer; number = number; row = new_row c queue (s.arrivals + 1) script }
+        ∷ [];
     arrivals = s.arrivals + 1;
   }
 
+  -- without a promise
   abbrev pub drop_promise : PeerNumber → State E → State E
   drop_promise k s = record s { promises = without_first (is_promise k) s.promises }
 
@@ -177,24 +206,30 @@ module _ {E : Type 0} where
   abbrev pub add_promised : Row E → State E → State E
   add_promised r s = if has_row r.id s then s else record s { rows = s.rows ++ requeued_row r ∷ [] }
 
+  -- a promise becomes a request of this host, and its number is closed
   abbrev pub accepted : PeerNumber → Option (Promise E) → State E → State E
   accepted k None s = s
   accepted k (Some p) s = change_peer k.peer (close k.number) (add_promised p.row (drop_promise k s))
 
+  -- a promise goes, and its number is closed
   abbrev pub dropped : PeerNumber → State E → State E
   dropped k s = change_peer k.peer (close k.number) (drop_promise k s)
 
   -- moves on this host
 
+  -- a request that a pipe queue moved to another queue of this host
   abbrev pub moved_local : List ℕ → ℕ → Row E → Row E
   moved_local queue arrival r = record r { queue = queue; arrival = arrival; hops = r.hops + 1; refused = [] }
 
+  -- a request that a queue of this host refused
   abbrev pub local_refused : List ℕ → ℕ → State E → Row E → Row E
   local_refused queue refusal s r = refusal_noted (dests_for r s) (record { queue = queue; host = s.me }) refusal r
 
+  -- a request that the system holds: it has moved too often
   abbrev pub held_far : Row E → Row E
   held_far r = record r { hold = System }
 
+  -- a stage becomes a file that is to be written, and its number is noted
   abbrev pub stage_got : HostId → ℕ → OutPart E → State E → State E
   stage_got peer number part s = add_file part (change_peer peer (λ p. record p { stage_got = number }) s)
 
@@ -211,6 +246,7 @@ module _ {E : Type 0} where
   access_applied (AddOperator user) s = record s { operators = s.operators ++ user ∷ [] }
   access_applied (RemoveOperator user) s = record s { operators = without_name user s.operators }
 
+  -- an edit is made
   abbrev pub edit_applied : Edit → State E → State E
   edit_applied (Conf e) s = conf_applied e s
   edit_applied (LimitsOf e) s = limits_applied e s

@@ -1,13 +1,18 @@
 -- Refusals: a list of causes in order, and the first that holds.
 use Rattle.std.specs.Prelude.{ℕ, Bool, if◌then◌else◌, List, [], ◌∷◌, Result, Ok, Err}
 use Rattle.nqs_types.specs.declared.refusal.Refusal.{Refusal}
-use Rattle.nqs_types.specs.declared.refusal.Refusal.TheVariants.{NotManager, NotOperator, NoQueue, NoComplex, NoDevice, NoRequest, NoHost, NoDefault, QueueExists, ComplexExists, DeviceExists, WrongKind, DestExists, NoDest, NotMember, IsMember, KeepRoot, NotOwner, Disabled, PipeOnly, NoAccess, RequestRouting, RequestRunning, NotHeld, IsHeld, QueueInUse, DeviceBusy, OverCpu, OverMemory, TooMany, HostFull, NumbersUsed, RequestExists}
+use Rattle.nqs_types.specs.declared.refusal.Refusal.TheVariants.{NotManager, NotOperator, NoQueue, NoComplex, NoDevice, NoRequest, NoHost, NoDefault}
+use Rattle.nqs_types.specs.declared.refusal.Refusal.TheVariants.{QueueExists, ComplexExists, DeviceExists, WrongKind, DestExists, NoDest, NotMember, IsMember}
+use Rattle.nqs_types.specs.declared.refusal.Refusal.TheVariants.{KeepRoot, NotOwner, Disabled, PipeOnly, NoAccess, RequestRouting, RequestRunning, NotHeld}
+use Rattle.nqs_types.specs.declared.refusal.Refusal.TheVariants.{IsHeld, QueueInUse, DeviceBusy, OverCpu, OverMemory, TooMany, HostFull, NumbersUsed}
+use Rattle.nqs_types.specs.declared.refusal.Refusal.TheVariants.{RequestExists}
 
 -- a test, and the refusal that is answered where it holds
 pub record Cause : Type 0 where
   pub holds : Bool
   pub refusal : Refusal
 
+-- a test with its refusal
 abbrev pub cause : Bool → Refusal → Cause
 cause b r = record { holds = b; refusal = r }
 

@@ -1,5 +1,6 @@
 -- The edits of queues and of the host's parameters.
-use Rattle.std.specs.Prelude.{ℕ, ◌+◌, Bool, true, false, not, ◌&&◌, nat_lt, nat_le, if◌then◌else◌, List, [], ◌∷◌, ◌++◌, filter, map, length, Option, None, Some, is_none}
+use Rattle.std.specs.Prelude.{ℕ, ◌+◌, Bool, true, false, not, ◌&&◌, nat_lt, nat_le, if◌then◌else◌, List, [], ◌∷◌, ◌++◌, filter, map, length, Option, None, Some}
+use Rattle.std.specs.Prelude.{is_none}
 use Rattle.std.specs.List.{list_any}
 use Rattle.nqs_values.specs.Same.{name_eq}
 use Rattle.nqs_state.specs.State.{State}
@@ -20,22 +21,29 @@ use Rattle.nqs_types.specs.declared.queue.QueueDef.{QueueDef}
 use Rattle.nqs_types.specs.declared.queue.ComplexDef.{ComplexDef}
 use Rattle.nqs_types.specs.declared.refusal.Refusal.TheVariants.{NoQueue, NoHost, QueueExists, QueueInUse, WrongKind, DestExists, NoDest, TooMany}
 use Rattle.nqs_types.specs.declared.edit.ConfEdit.{ConfEdit}
-use Rattle.nqs_types.specs.declared.edit.ConfEdit.TheVariants.{CreateBatchQueue, CreateDeviceQueue, CreatePipeQueue, DeleteQueue, EnableQueue, DisableQueue, StartQueue, StopQueue, PurgeQueue, SetPriority, SetRunLimit, AddDestination, RemoveDestination, SetDefaultQueue, SetNoDefaultQueue, SetPatience, SetRetryWait}
+use Rattle.nqs_types.specs.declared.edit.ConfEdit.TheVariants.{CreateBatchQueue, CreateDeviceQueue, CreatePipeQueue, DeleteQueue, EnableQueue, DisableQueue}
+use Rattle.nqs_types.specs.declared.edit.ConfEdit.TheVariants.{StartQueue, StopQueue, PurgeQueue, SetPriority, SetRunLimit, AddDestination, RemoveDestination}
+use Rattle.nqs_types.specs.declared.edit.ConfEdit.TheVariants.{SetDefaultQueue, SetNoDefaultQueue, SetPatience, SetRetryWait}
 
+-- whether a queue carries requests to other queues
 abbrev pub is_pipe_queue : QueueDef → Bool
 is_pipe_queue d = is_pipe d.kind
 
+-- whether a queue has this destination
 abbrev pub lists_dest : Option Dest → QueueDef → Bool
 lists_dest None d = false
 lists_dest (Some dest) d = list_any (same_dest dest) d.dests
 
+-- whether a queue has no room for another destination: 16 are the most
 abbrev pub has_full_dests : QueueDef → Bool
 has_full_dests d = nat_le 16 (length d.dests)
 
 module _ {E : Type 0} where
+  -- whether a request is of this queue
   abbrev pub row_in : List ℕ → Row E → Bool
   row_in q r = name_eq q r.queue
 
+  -- whether a promise is for this queue
   abbrev pub promise_in : List ℕ → Promise E → Bool
   promise_in q p = name_eq q p.row.queue
 
@@ -43,16 +51,20 @@ module _ {E : Type 0} where
   abbrev pub held_in : List ℕ → State E → ℕ
   held_in q s = length (filter (row_in q) s.rows) + length (filter (promise_in q) s.promises)
 
+  -- that the site has no such host
   abbrev pub no_host_cause : List ℕ → State E → Cause
   no_host_cause host s = cause (is_none (host_named host s)) (NoHost host)
 
+  -- what keeps a queue from being made: there is one, or there are 256
   abbrev pub create_causes : List ℕ → State E → List Cause
   create_causes q s = cause (has_queue q s) (QueueExists q) ∷ cause (nat_le 256 (length s.queues)) TooMany ∷ []
 
+  -- the same of a pipe queue, whose destination must be on a host of the site
   abbrev pub create_pipe_causes : Option NamedDest → List ℕ → State E → List Cause
   create_pipe_causes None q s = create_causes q s
   create_pipe_causes (Some d) q s = no_host_cause d.host s ∷ create_causes q s
 
+  -- that there is no such queue
   abbrev pub queue_causes : List ℕ → State E → List Cause
   queue_causes q s = cause (not (has_queue q s)) (NoQueue q) ∷ []
 
@@ -80,14 +92,17 @@ module _ {E : Type 0} where
   conf_causes (SetPatience _) s = []
   conf_causes (SetRetryWait _) s = []
 
+-- the destinations of a new queue: the one that was named, if any
 abbrev pub dest_list : Option Dest → List Dest
 dest_list None = []
 dest_list (Some d) = d ∷ []
 
+-- a queue with one destination more
 abbrev pub with_dest : Option Dest → QueueDef → QueueDef
 with_dest None d = d
 with_dest (Some dest) d = record d { dests = d.dests ++ dest ∷ [] }
 
+-- a queue without a destination
 abbrev pub without_dest : Option Dest → QueueDef → QueueDef
 without_dest None d = d
 without_dest (Some dest) d = record d { dests = filter (λ other. not (same_dest dest other)) d.dests }
@@ -102,20 +117,25 @@ conf_edited (SetPriority n _) d = record d { priority = n }
 conf_edited (SetRunLimit n _) d = record d { run_limit = n }
 conf_edited _ d = d
 
+-- a complex without a queue
 abbrev pub without_member : List ℕ → ComplexDef → ComplexDef
 without_member q c = record c { queues = without_name q c.queues }
 
+-- the default queue, unless it was this one
 abbrev pub default_without : List ℕ → Option (List ℕ) → Option (List ℕ)
 default_without name None = None
 default_without name (Some q) = if name_eq name q then None else Some q
 
 module _ {E : Type 0} where
+  -- whether a request is queued in this queue, held or not
   abbrev pub is_queued_in : List ℕ → Row E → Bool
   is_queued_in q r = is_queued r.state && name_eq q r.queue
 
+  -- with one queue more
   abbrev pub add_queue : QueueDef → State E → State E
   add_queue d s = record s { queues = s.queues ++ d ∷ [] }
 
+  -- the destinations of a new pipe queue
   abbrev pub created_dests : Option NamedDest → State E → List Dest
   created_dests None s = []
   created_dests (Some d) s = dest_list (meant_dest d s)
@@ -146,13 +166,16 @@ module _ {E : Type 0} where
 
 -- the numbers of an edit are within their limits
 
+-- whether a number that was given is within a limit
 abbrev pub at_most : ℕ → Option ℕ → Bool
 at_most limit None = true
 at_most limit (Some n) = nat_le n limit
 
+-- 1 to 86,400 seconds
 abbrev pub is_wait : ℕ → Bool
 is_wait n = nat_le 1 n && nat_le n 86400
 
+-- the numbers of an edit of queues are within their limits
 abbrev pub is_conf_within : ConfEdit → Bool
 is_conf_within (CreateBatchQueue _ priority run_limit _) = at_most 63 priority && at_most 10000 run_limit
 is_conf_within (CreateDeviceQueue _ priority run_limit _) = at_most 63 priority && at_most 10000 run_limit

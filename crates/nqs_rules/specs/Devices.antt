@@ -17,6 +17,7 @@ use Rattle.nqs_types.specs.declared.refusal.Refusal.TheVariants.{NoQueue, NoDevi
 use Rattle.nqs_types.specs.declared.edit.DevicesEdit.{DevicesEdit}
 use Rattle.nqs_types.specs.declared.edit.DevicesEdit.TheVariants.{CreateDevice, DeleteDevice, EnableDevice, DisableDevice, SetForms, AddDevice, RemoveDevice}
 
+-- whether there is a name, and it is this one
 abbrev pub same_name_as : List ℕ → Option (List ℕ) → Bool
 same_name_as name other = passes (name_eq name) other
 
@@ -30,6 +31,7 @@ abbrev pub can_serve : Option (List ℕ) → DeviceDef → Bool
 can_serve forms d = d.enabled && has_forms forms d
 
 module _ {E : Type 0} where
+  -- whether a request is printed on this device
   abbrev pub runs_on : List ℕ → Row E → Bool
   runs_on device r = is_running r.state && same_name_as device r.device
 
@@ -37,6 +39,7 @@ module _ {E : Type 0} where
   abbrev pub is_busy : List ℕ → State E → Bool
   is_busy device s = list_any (runs_on device) s.rows
 
+  -- whether a device may take a request with these forms now
   abbrev pub is_free_device : Option (List ℕ) → State E → List ℕ → Bool
   is_free_device forms s device = passes (can_serve forms) (find_device device s) && not (is_busy device s)
 
@@ -44,16 +47,20 @@ module _ {E : Type 0} where
   abbrev pub free_device : QueueDef → Option (List ℕ) → State E → Option ℕ
   free_device d forms s = position (is_free_device forms s) d.devices
 
+-- whether a queue feeds devices
 abbrev pub is_device_queue : QueueDef → Bool
 is_device_queue d = is_device_kind d.kind
 
+-- whether a queue has this device
 abbrev pub lists_device : List ℕ → QueueDef → Bool
 lists_device device d = has_name d.devices device
 
 module _ {E : Type 0} where
+  -- that there is no such device
   abbrev pub device_causes : List ℕ → State E → List Cause
   device_causes d s = cause (not (has_device d s)) (NoDevice d) ∷ []
 
+  -- that there is no such device, or that it is busy
   abbrev pub idle_device_causes : List ℕ → State E → List Cause
   idle_device_causes d s = cause (not (has_device d s)) (NoDevice d) ∷ cause (is_busy d s) (DeviceBusy d) ∷ []
 
@@ -76,9 +83,11 @@ device_edited (DisableDevice _) d = record d { enabled = false }
 device_edited (SetForms forms _) d = record d { forms = forms }
 device_edited _ d = d
 
+-- a queue with one device more
 abbrev pub with_device : List ℕ → QueueDef → QueueDef
 with_device device d = record d { devices = d.devices ++ device ∷ [] }
 
+-- a queue without a device
 abbrev pub without_device : List ℕ → QueueDef → QueueDef
 without_device device d = record d { devices = without_name device d.devices }
 

@@ -20,13 +20,17 @@ use Rattle.nqs_types.specs.declared.request.Row.{Row}
 use Rattle.nqs_types.specs.declared.request.Hand.{Hand}
 use Rattle.nqs_types.specs.declared.request.Peer.{Peer}
 use Rattle.nqs_types.specs.declared.change.Change.{Change}
-use Rattle.nqs_types.specs.declared.change.Change.TheVariants.{Site, Submitted, Deleted, Doomed, Started, Ended, Unlaunched, Boot, Edited, HandOpened, HandCommitted, HandRefused, HandsSilent, HandDone, Promised, Accepted, Dropped, MovedLocal, RefusedLocal, HeldFar, StageGot, StageGone, FileGone}
+use Rattle.nqs_types.specs.declared.change.Change.TheVariants.{Site, Submitted, Deleted, Doomed, Started, Ended, Unlaunched, Boot, Edited, HandOpened}
+use Rattle.nqs_types.specs.declared.change.Change.TheVariants.{HandCommitted, HandRefused, HandsSilent, HandDone, Promised, Accepted, Dropped, MovedLocal}
+use Rattle.nqs_types.specs.declared.change.Change.TheVariants.{RefusedLocal, HeldFar, StageGot, StageGone, FileGone}
 use Rattle.nqs_types.specs.declared.edit.Edit.{Edit}
 use Rattle.nqs_types.specs.declared.edit.Edit.TheVariants.{Conf, Limits as LimitsOf, Access as AccessOf, Devices as DevicesOf, Rows as RowsOf}
 
+-- whether a hand's peer hasn't promised yet
 abbrev pub is_offered_hand : Hand → Bool
 is_offered_hand h = is_offered h.phase
 
+-- whether a hand's peer has promised
 abbrev pub is_committed_hand : Hand → Bool
 is_committed_hand h = is_committed h.phase
 
@@ -34,19 +38,24 @@ is_committed_hand h = is_committed h.phase
 abbrev pub is_next : ℕ → Peer → Bool
 is_next number p = p.next == number && nat_lt p.next last_u64
 
+-- whether a peer's handover of this number isn't closed
 abbrev pub is_open_number : ℕ → Peer → Bool
 is_open_number number p = not (is_closed number p)
 
+-- whether a peer's stage of this number hasn't been taken yet
 abbrev pub is_new_stage : ℕ → Peer → Bool
 is_new_stage number p = nat_lt p.stage_got number
 
 module _ {E : Type 0} where
+  -- whether a request runs
   abbrev pub runs : Row E → Bool
   runs r = is_running r.state
 
+  -- whether a request doesn't run
   abbrev pub is_idle : Row E → Bool
   is_idle r = not (is_running r.state)
 
+  -- whether a request may be handed over: it waits, and hasn't moved 32 times
   abbrev pub may_hop : Row E → Bool
   may_hop r = is_ready r && nat_lt r.hops 32
 
@@ -54,12 +63,15 @@ module _ {E : Type 0} where
   abbrev pub row_passes : (Row E → Bool) → RequestId → State E → Bool
   row_passes test id s = passes test (find_row id s)
 
+  -- whether a handover is there and passes the test
   abbrev pub hand_passes : (Hand → Bool) → HostId → ℕ → State E → Bool
   hand_passes test peer number s = passes test (find_hand peer number s)
 
+  -- whether each of these handovers is offered
   abbrev pub are_offered : List PeerNumber → State E → Bool
   are_offered ks s = list_all (λ k. hand_passes is_offered_hand k.peer k.number s) ks
 
+  -- whether the device that a start names is there and not busy
   abbrev pub device_fits : Option (List ℕ) → State E → Bool
   device_fits None s = true
   device_fits (Some d) s = has_device d s && not (is_busy d s)
@@ -72,6 +84,7 @@ module _ {E : Type 0} where
   edit_causes (DevicesOf e) s = devices_causes e s
   edit_causes (RowsOf e) s = rows_causes e s
 
+  -- whether an edit is refused nothing
   abbrev pub edit_fits : Edit → State E → Bool
   edit_fits e s = is_ok (first_refusal (edit_causes e s))
 
@@ -79,6 +92,7 @@ module _ {E : Type 0} where
   abbrev pub is_unknown : RequestId → State E → Bool
   is_unknown id s = not (has_row id s) && (not (same_host s.me id.host) || nat_le id.seq s.seq)
 
+  -- whether a host is of the site
   abbrev pub is_site_host : HostId → State E → Bool
   is_site_host host s = nat_lt host.0 (length s.site)
 
@@ -105,7 +119,8 @@ module _ {E F : Type 0} where
   fits (HandsSilent _ ks) s = are_offered ks s
   fits (HandDone peer number) s = hand_passes is_committed_hand peer number s
   fits (Promised peer number queue c _) s =
-      has_queue queue s && passes (is_open_number number) (find_peer peer s) && not (has_promise peer number s) && is_site_host c.id.host s && is_unknown c.id s && not (offer_full peer s) && not (arrivals_used s)
+      has_queue queue s && passes (is_open_number number) (find_peer peer s) && not (has_promise peer number s) && is_site_host c.id.host s && is_unknown c.id s
+      && not (offer_full peer s) && not (arrivals_used s)
   fits (Accepted peer number) s = has_promise peer number s
   fits (Dropped peer number) s = has_promise peer number s
   fits (MovedLocal id queue) s = row_passes may_hop id s && has_queue queue s && not (arrivals_used s)

@@ -10,6 +10,7 @@ use Rattle.nqs_types.specs.declared.queue.Kind.TheVariants.{Batch}
 use Rattle.nqs_types.specs.declared.queue.Access.TheVariants.{All}
 use Rattle.nqs_types.specs.declared.queue.QueueDef.{QueueDef}
 
+-- neither processor time nor memory is limited
 abbrev pub no_limits : Limits
 no_limits = record { cpu = None; memory = None }
 
@@ -30,6 +31,7 @@ new_queue name kind priority run_limit pipe_only dests = record {
   devices = [];
 }
 
+-- a peer from which nothing came and to which nothing went
 abbrev pub new_peer : Peer
 new_peer = record { next = 1; closed = 0; wait = 0; stage_next = 1; stage_got = 0 }
 

@@ -1,5 +1,6 @@
 -- What a host's state in order is, and what besides holds of it at every moment.
-use Rattle.std.specs.Prelude.{◌≡◌, ℕ, ◌+◌, Bool, true, not, ◌&&◌, ◌||◌, ◌==◌, nat_lt, nat_le, if◌then◌else◌, List, [], ◌∷◌, ◌++◌, map, filter, length, Option, None, Some}
+use Rattle.std.specs.Prelude.{◌≡◌, ℕ, ◌+◌, Bool, true, not, ◌&&◌, ◌||◌, ◌==◌, nat_lt, nat_le, if◌then◌else◌, List, [], ◌∷◌, ◌++◌, map, filter, length, Option}
+use Rattle.std.specs.Prelude.{None, Some}
 use Rattle.std.specs.List.{list_any, list_all}
 use Rattle.nqs_values.specs.Same.{name_eq}
 use Rattle.nqs_types.specs.Ids.{id_eq, peer_number_eq, hand_key, promise_key, stage_key}
@@ -32,9 +33,11 @@ abbrev pub are_distinct : {A : Type 0} → (A → A → Bool) → List A → Boo
 are_distinct eq [] = true
 are_distinct eq (x ∷ xs) = not (list_any (eq x) xs) && are_distinct eq xs
 
+-- whether two numbers are one
 abbrev pub same_number : ℕ → ℕ → Bool
 same_number a b = a == b
 
+-- a list of users has at most 256
 abbrev pub is_user_list_short : Access → Bool
 is_user_list_short All = true
 is_user_list_short (Users users) = nat_le (length users) 256
@@ -43,27 +46,34 @@ is_user_list_short (Users users) = nat_le (length users) 256
 abbrev pub is_given : ℕ → ℕ → Bool
 is_given number next = nat_le 1 number && nat_lt number next
 
+-- the numbers that a peer gets next begin at 1
 abbrev pub is_peer_right : Peer → Bool
 is_peer_right p = nat_le 1 p.next && nat_le 1 p.stage_next
 
+-- a hand's number was given to its peer
 abbrev pub is_hand_given : ℕ → Peer → Bool
 is_hand_given number p = is_given number p.next
 
+-- a stage's number was given to its peer
 abbrev pub is_stage_given : ℕ → Peer → Bool
 is_stage_given number p = is_given number p.stage_next
 
+-- a promise's number isn't closed yet
 abbrev pub is_promise_open : ℕ → Peer → Bool
 is_promise_open number p = not (is_closed number p)
 
 module _ {E : Type 0} where
   -- names are there
 
+  -- a destination's host is of the site
   abbrev pub is_dest_right : State E → Dest → Bool
   is_dest_right s d = is_site_host d.host s
 
+  -- a refusal's host is of the site
   abbrev pub is_refused_right : State E → Refused → Bool
   is_refused_right s r = is_site_host r.dest.host s
 
+  -- the default queue is there
   abbrev pub is_default_there : Option (List ℕ) → State E → Bool
   is_default_there None s = true
   is_default_there (Some q) s = has_queue q s
@@ -75,6 +85,7 @@ module _ {E : Type 0} where
       && nat_le (length d.dests) 16 && list_all (is_dest_right s) d.dests && nat_le (length d.devices) 64 && list_all (λ n. has_device n s) d.devices
       && are_distinct name_eq d.devices
 
+  -- a complex has a limit within limits, and queues that are there
   abbrev pub is_complex_right : State E → ComplexDef → Bool
   is_complex_right s c = nat_le c.limit 10000 && list_all (λ q. has_queue q s) c.queues
 
@@ -86,10 +97,12 @@ module _ {E : Type 0} where
   abbrev pub is_id_given : State E → RequestId → Bool
   is_id_given s id = not (same_host s.me id.host) || nat_le id.seq s.seq
 
+  -- a device that is named is there
   abbrev pub is_device_there : Option (List ℕ) → State E → Bool
   is_device_there None s = true
   is_device_there (Some d) s = has_device d s
 
+  -- a request is on no device
   abbrev pub has_no_device : Row E → Bool
   has_no_device r = not (passes (λ _. true) r.device)
 
@@ -97,44 +110,56 @@ module _ {E : Type 0} where
   abbrev pub is_count_right : Row E → Bool
   is_count_right r = if is_running r.state then r.starts == r.lost + 1 else r.starts == r.lost && has_no_device r
 
+  -- a request has moved 32 times at most, and fewer while it is handed over
   abbrev pub is_hop_right : Row E → Bool
   is_hop_right r = if is_routing r.state then nat_lt r.hops 32 else nat_le r.hops 32
 
+  -- a request's queue, device, job and numbers are right
   abbrev pub is_row_right : State E → Row E → Bool
   is_row_right s r =
-      is_id_right s r.id && is_id_given s r.id && is_sane_job r.job && has_queue r.queue s && is_device_there r.device s && list_all (is_refused_right s) r.refused
+      is_id_right s r.id && is_id_given s r.id && is_sane_job r.job && has_queue r.queue s && is_device_there r.device s
+      && list_all (is_refused_right s) r.refused
       && nat_le r.arrival s.arrivals && nat_lt r.lost 65535 && is_count_right r && is_hop_right r
 
   -- a promise's row is queued, its number isn't closed
   abbrev pub is_promise_right : State E → Promise E → Bool
   is_promise_right s p = is_row_right s p.row && is_queued p.row.state && nat_le 1 p.number && passes (is_promise_open p.number) (find_peer p.peer s)
 
+  -- whether a request is being handed over
   abbrev pub is_routing_row : Row E → Bool
   is_routing_row r = is_routing r.state
 
   -- a hand's number was given, and an offered one has a routing row
   abbrev pub is_hand_right : State E → Hand → Bool
-  is_hand_right s h = is_id_right s h.id && passes (is_hand_given h.number) (find_peer h.peer s) && (not (is_offered h.phase) || passes is_routing_row (find_row h.id s))
+  is_hand_right s h = is_id_right s h.id && passes (is_hand_given h.number) (find_peer h.peer s)
+      && (not (is_offered h.phase) || passes is_routing_row (find_row h.id s))
 
+  -- a stage's path is one, and its number was given
   abbrev pub is_stage_right : State E → Stage E → Bool
   is_stage_right s t = is_path t.path && passes (is_stage_given t.number) (find_peer t.peer s)
 
+  -- a file's path is one, and its number was given
   abbrev pub is_file_right : State E → FileOut E → Bool
   is_file_right s f = is_path f.path && is_given f.number s.file_next
 
+  -- no two queues, requests, hands and so on have one key
   abbrev pub are_keys_distinct : State E → Bool
   are_keys_distinct s =
-      are_distinct name_eq (map (λ q. q.name) s.queues) && are_distinct name_eq (map (λ c. c.name) s.complexes) && are_distinct name_eq (map (λ d. d.name) s.devices)
-      && are_distinct id_eq (map (λ r. r.id) s.rows) && are_distinct peer_number_eq (map hand_key s.hands) && are_distinct peer_number_eq (map promise_key s.promises)
+      are_distinct name_eq (map (λ q. q.name) s.queues) && are_distinct name_eq (map (λ c. c.name) s.complexes)
+      && are_distinct name_eq (map (λ d. d.name) s.devices)
+      && are_distinct id_eq (map (λ r. r.id) s.rows) && are_distinct peer_number_eq (map hand_key s.hands)
+      && are_distinct peer_number_eq (map promise_key s.promises)
       && are_distinct peer_number_eq (map stage_key s.stages) && are_distinct same_number (map (λ f. f.number) s.files)
 
   -- one arrival number for one row or promise
   abbrev pub arrivals_of : State E → List ℕ
   arrivals_of s = map (λ r. r.arrival) s.rows ++ map (λ p. p.row.arrival) s.promises
 
+  -- the requests that are offered
   abbrev pub offered_ids : State E → List RequestId
   offered_ids s = map (λ h. h.id) (filter is_offered_hand s.hands)
 
+  -- the handovers to a peer
   abbrev pub hands_to : HostId → State E → List Hand
   hands_to peer s = filter (λ h. same_host peer h.peer) s.hands
 
@@ -142,6 +167,7 @@ module _ {E : Type 0} where
   abbrev pub has_few_hands : State E → Hand → Bool
   has_few_hands s h = nat_le (length (hands_to h.peer s)) 8
 
+  -- the peers of the promises
   abbrev pub promisers : State E → List HostId
   promisers s = map (λ p. p.peer) s.promises
 
@@ -149,11 +175,13 @@ module _ {E : Type 0} where
   abbrev pub is_site_right : State E → Bool
   is_site_right s = nat_le 1 (length s.site) && nat_le (length s.site) 16 && is_site_host s.me s && length s.peers == length s.site
 
+  -- no list is longer than it may be
   abbrev pub are_lists_short : State E → Bool
   are_lists_short s =
       nat_le (length s.queues) 256 && nat_le (length s.complexes) 64 && nat_le (length s.devices) 64 && nat_le (length s.managers) 256
       && nat_le (length s.operators) 256 && nat_le (held_count s) 10000
 
+  -- the host's parameters are within their limits
   abbrev pub are_parameters_right : State E → Bool
   are_parameters_right s =
       nat_le s.global_limit 10000 && is_wait s.patience && is_wait s.retry_wait && nat_le s.seq last_seq && nat_le s.arrivals last_u64
@@ -205,12 +233,15 @@ module _ {E : Type 0} where
   abbrev pub has_hand : State E → Row E → Bool
   has_hand s r = not (is_routing r.state) || list_any (is_offered_for r.id) s.hands
 
+  -- what is promised is neither held nor doomed
   abbrev pub is_promise_free : Promise E → Bool
   is_promise_free p = is_unheld p.row.hold && not p.row.doomed
 
+  -- a handover is of a request that has a number
   abbrev pub is_hand_of_given : State E → Hand → Bool
   is_hand_of_given s h = is_id_given s h.id
 
+  -- what holds at every moment beside the order
   pub record IsConsistent (s : State E) : Type 0 where
     pub doomed : list_all is_doom_right s.rows ≡ true
     pub held : list_all is_hold_right s.rows ≡ true

@@ -33,6 +33,7 @@ pub record IsNew (e : Entry) : Type 0 where
   pub starts : e.starts ≡ 0
   pub lost : e.lost ≡ 0
 
+-- a request that runs nothing and lies with its host: queued, held or routing
 abbrev pub IsIdle : NetState → Type 0
 IsIdle Queued = Unit {0}
 IsIdle Held = Unit {0}
@@ -40,6 +41,7 @@ IsIdle Routing = Unit {0}
 IsIdle Arriving = ⊥
 IsIdle Running = ⊥
 
+-- a request that waits in its queue: queued or held
 abbrev pub IsWaiting : NetState → Type 0
 IsWaiting Queued = Unit {0}
 IsWaiting Held = Unit {0}

@@ -13,9 +13,11 @@ use Rattle.nqs_types.specs.declared.request.Limits.{Limits}
 use Rattle.nqs_types.specs.declared.queue.QueueDef.{QueueDef}
 use Rattle.nqs_types.specs.declared.queue.ComplexDef.{ComplexDef}
 use Rattle.nqs_types.specs.declared.refusal.Refusal.{Refusal}
-use Rattle.nqs_types.specs.declared.refusal.Refusal.TheVariants.{NoQueue, NoComplex, ComplexExists, WrongKind, IsMember, NotMember, OverCpu, OverMemory, TooMany}
+use Rattle.nqs_types.specs.declared.refusal.Refusal.TheVariants.{NoQueue, NoComplex, ComplexExists, WrongKind, IsMember, NotMember, OverCpu, OverMemory}
+use Rattle.nqs_types.specs.declared.refusal.Refusal.TheVariants.{TooMany}
 use Rattle.nqs_types.specs.declared.edit.LimitsEdit.{LimitsEdit}
-use Rattle.nqs_types.specs.declared.edit.LimitsEdit.TheVariants.{SetUserLimit, SetCpuLimit, SetMemoryLimit, CreateComplex, DeleteComplex, AddQueue, RemoveQueue, SetComplexLimit, SetGlobalLimit}
+use Rattle.nqs_types.specs.declared.edit.LimitsEdit.TheVariants.{SetUserLimit, SetCpuLimit, SetMemoryLimit, CreateComplex, DeleteComplex, AddQueue, RemoveQueue}
+use Rattle.nqs_types.specs.declared.edit.LimitsEdit.TheVariants.{SetComplexLimit, SetGlobalLimit}
 
 -- there is a limit, and more is stated
 abbrev pub is_over : Option ℕ → Option ℕ → Bool
@@ -26,16 +28,20 @@ is_over _ _ = false
 abbrev pub over_causes : QueueDef → Limits → List Cause
 over_causes d l = cause (is_over d.limits.cpu l.cpu) (OverCpu d.name) ∷ cause (is_over d.limits.memory l.memory) (OverMemory d.name) ∷ []
 
+-- whether what a request asks for is within the limits of a queue
 abbrev pub over_limits : QueueDef → Limits → Result (Unit {0}) Refusal
 over_limits d l = first_refusal (over_causes d l)
 
+-- whether a queue runs scripts
 abbrev pub is_batch_queue : QueueDef → Bool
 is_batch_queue d = is_batch d.kind
 
+-- whether a complex has this queue
 abbrev pub lists_queue : List ℕ → ComplexDef → Bool
 lists_queue q c = has_name c.queues q
 
 module _ {E : Type 0} where
+  -- that there is no such complex
   abbrev pub complex_causes : List ℕ → State E → List Cause
   complex_causes c s = cause (not (has_complex c s)) (NoComplex c) ∷ []
 

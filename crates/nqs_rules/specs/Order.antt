@@ -23,16 +23,20 @@ abbrev pub below : ℕ → Option ℕ → Bool
 below n None = true
 below n (Some limit) = nat_lt n limit
 
+-- whether a queue's priority is greater
 abbrev pub is_greater : QueueDef → QueueDef → Bool
 is_greater a b = nat_lt b.priority a.priority
 
 module _ {E : Type 0} where
+  -- whether a request of this queue runs or is on its way
   abbrev pub is_active_in : List ℕ → Row E → Bool
   is_active_in q r = is_active r.state && name_eq q r.queue
 
+  -- the same of an owner's request
   abbrev pub is_active_of : List ℕ → List ℕ → Row E → Bool
   is_active_of q owner r = is_active_in q r && name_eq owner r.job.owner
 
+  -- whether a request runs in a queue of the complex
   abbrev pub runs_in : ComplexDef → Row E → Bool
   runs_in c r = is_running r.state && has_name c.queues r.queue
 
@@ -44,10 +48,12 @@ module _ {E : Type 0} where
   abbrev pub complex_allows : List ℕ → State E → ComplexDef → Bool
   complex_allows q s c = not (has_name c.queues q) || nat_lt (length (filter (runs_in c) s.rows)) c.limit
 
+  -- whether the complexes and the global limit allow another batch request
   abbrev pub batch_allows : List ℕ → State E → Bool
   batch_allows q s = list_all (complex_allows q s) s.complexes && nat_lt (length (filter (runs_in_batch s) s.rows)) s.global_limit
 
-  -- The queue has fewer active requests than its run limit. For a batch queue each complex of it, and all batch queues together, have fewer running ones than their limits too.
+  -- The queue has fewer active requests than its run limit. For a batch queue each complex of it, and all batch queues
+  -- together, have fewer running ones than their limits too.
   abbrev pub is_within_limits : QueueDef → State E → Bool
   is_within_limits d s = nat_lt (length (filter (is_active_in d.name) s.rows)) d.run_limit && (not (is_batch d.kind) || batch_allows d.name s)
 
@@ -79,14 +85,17 @@ module _ {E : Type 0} where
   abbrev pub next_queue : ℕ → State E → Option (ℕ × QueueDef)
   next_queue now s = best_from (is_candidate now s) is_greater 0 s.queues
 
+-- the choice to print on the first free device, if there is one
 abbrev pub print_on : ℕ → Option ℕ → Option Choice
 print_on place None = None
 print_on place (Some device) = Some (Print place device)
 
 module _ {E : Type 0} where
+  -- whether a destination is on this host
   abbrev pub is_local : ℕ → QueueDef → State E → Bool
   is_local dest d s = passes (λ x. same_host s.me x.host) (slice_get d.dests dest)
 
+  -- the choice to move a request, here or to another host, if there is a destination
   abbrev pub move_to : ℕ → QueueDef → State E → Option ℕ → Option Choice
   move_to place d s None = None
   move_to place d s (Some dest) = if is_local dest d s then Some (Local place dest) else Some (Hand place dest)
@@ -97,10 +106,12 @@ module _ {E : Type 0} where
   choice_for Device d now s place r = print_on place (free_device d r.job.forms s)
   choice_for Pipe d now s place r = if r.hops == 32 then Some (TooFar place) else move_to place d s (destination d now s r)
 
+  -- what is started of a queue, of its first eligible request
   abbrev pub choice_of : QueueDef → ℕ → State E → Option (ℕ × Row E) → Option Choice
   choice_of d now s None = None
   choice_of d now s (Some p) = choice_for d.kind d now s p.0 p.1
 
+  -- what is started, of the queue that comes first
   abbrev pub pick_in : ℕ → State E → Option (ℕ × QueueDef) → Option Choice
   pick_in now s None = None
   pick_in now s (Some q) = choice_of q.1 now s (first_eligible q.1 now s)

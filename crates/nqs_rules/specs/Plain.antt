@@ -7,6 +7,7 @@ use Rattle.nqs_types.specs.declared.request.Stage.{Stage}
 use Rattle.nqs_types.specs.declared.request.FileOut.{FileOut}
 
 module _ {E F : Type 0} (f : E → F) where
+  -- a request with its script mapped
   abbrev pub map_row : Row E → Row F
   map_row r = record {
     id = r.id;
@@ -24,15 +25,19 @@ module _ {E F : Type 0} (f : E → F) where
     script = f r.script;
   }
 
+  -- a promise with its script mapped
   abbrev pub map_promise : Promise E → Promise F
   map_promise p = record { peer = p.peer; number = p.number; row = map_row p.row }
 
+  -- a stage with its bytes mapped
   abbrev pub map_stage : Stage E → Stage F
   map_stage s = record { peer = s.peer; number = s.number; path = s.path; bytes = f s.bytes }
 
+  -- a file with its bytes mapped
   abbrev pub map_file : FileOut E → FileOut F
   map_file o = record { number = o.number; path = o.path; bytes = f o.bytes }
 
+  -- a state with all scripts and outputs mapped
   abbrev pub map_state : State E → State F
   map_state s = record {
     me = s.me;

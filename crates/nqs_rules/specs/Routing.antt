@@ -21,18 +21,23 @@ is_closed number p = nat_le number p.closed
 abbrev pub close : ℕ → Peer → Peer
 close number p = record p { closed = number }
 
+-- whether a hand goes to this peer
 abbrev pub is_hand_to : HostId → Hand → Bool
 is_hand_to peer h = same_host peer h.peer
 
+-- whether a peer can be given another number
 abbrev pub has_number_left : Peer → Bool
 has_number_left p = nat_lt p.next last_u64
 
+-- whether the wait for a peer is over
 abbrev pub is_over_wait : ℕ → Peer → Bool
 is_over_wait now p = nat_le p.wait now
 
+-- whether a refusal is this destination's
 abbrev pub refuses : Dest → Refused → Bool
 refuses dest r = same_dest dest r.dest
 
+-- whether a destination has refused the request
 abbrev pub was_refused : Dest → List Refused → Bool
 was_refused dest refused = list_any (refuses dest) refused
 
@@ -45,6 +50,7 @@ module _ {E : Type 0} where
   abbrev pub is_reachable : ℕ → HostId → State E → Bool
   is_reachable now peer s = is_free_peer peer s && passes (is_over_wait now) (find_peer peer s)
 
+  -- whether a request may be moved to a destination now
   abbrev pub may_try : ℕ → State E → Row E → Dest → Bool
   may_try now s r dest = not (was_refused dest r.refused) && (same_host s.me dest.host || is_reachable now dest.host s)
 
@@ -52,20 +58,25 @@ module _ {E : Type 0} where
   abbrev pub destination : QueueDef → ℕ → State E → Row E → Option ℕ
   destination d now s r = position (may_try now s r) d.dests
 
+-- the destinations of a queue; none where there is no queue
 abbrev pub dests_of : Option QueueDef → List Dest
 dests_of None = []
 dests_of (Some d) = d.dests
 
+-- whether the refusal is of a destination that the queue still has
 abbrev pub is_present : List Dest → Refused → Bool
 is_present dests r = list_any (same_dest r.dest) dests
 
+-- the refusals of a request with one more, but for destinations that the queue no longer has
 abbrev pub with_refusal : List Dest → Dest → ℕ → List Refused → List Refused
 with_refusal dests dest refusal refused = filter (is_present dests) (refused ++ record { dest = dest; cause = refusal } ∷ [])
 
+-- whether each destination has refused
 abbrev pub all_refused : List Dest → List Refused → Bool
 all_refused dests refused = list_all (λ dest. was_refused dest refused) dests
 
 module _ {E : Type 0} where
+  -- a request that the system holds, where this is so
   abbrev pub held_where : Bool → Row E → Row E
   held_where true r = record r { hold = System }
   held_where false r = r

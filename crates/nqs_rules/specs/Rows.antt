@@ -15,7 +15,8 @@ use Rattle.nqs_types.specs.declared.request.Row.{Row}
 use Rattle.nqs_types.specs.declared.request.Hold.TheVariants.{No, User}
 use Rattle.nqs_types.specs.declared.queue.QueueDef.{QueueDef}
 use Rattle.nqs_types.specs.declared.rule.Entry.TheVariants.{Direct, FromPipe}
-use Rattle.nqs_types.specs.declared.refusal.Refusal.TheVariants.{NoQueue, NoDefault, NoRequest, NotOwner, RequestRouting, RequestRunning, NotHeld, IsHeld, WrongKind, HostFull, NumbersUsed}
+use Rattle.nqs_types.specs.declared.refusal.Refusal.TheVariants.{NoQueue, NoDefault, NoRequest, NotOwner, RequestRouting, RequestRunning, NotHeld, IsHeld}
+use Rattle.nqs_types.specs.declared.refusal.Refusal.TheVariants.{WrongKind, HostFull, NumbersUsed}
 use Rattle.nqs_types.specs.declared.event.Submission.{Submission}
 use Rattle.nqs_types.specs.declared.edit.RowsEdit.{RowsEdit}
 use Rattle.nqs_types.specs.declared.edit.RowsEdit.TheVariants.{AbortQueue, HoldRequest, ReleaseRequest, MoveRequest, ModifyRequest}
@@ -35,9 +36,11 @@ module _ {E : Type 0} where
   abbrev pub arrivals_used : State E → Bool
   arrivals_used s = nat_le last_u64 s.arrivals
 
+  -- whether a host has as many requests as it may have, with those on their way to it
   abbrev pub is_host_full : State E → Bool
   is_host_full s = nat_le 10000 (held_count s)
 
+  -- whether a host has no number left for a request
   abbrev pub numbers_used : State E → Bool
   numbers_used s = nat_le last_seq s.seq || arrivals_used s
 
@@ -46,21 +49,26 @@ abbrev pub queue_entry_causes : Job → QueueDef → List Cause
 queue_entry_causes job d = entry_causes d job.owner Direct ++ over_causes d job.limits
 
 module _ {E : Type 0} where
+  -- what keeps a job out of the queue that is meant
   abbrev pub submit_causes_at : Job → Option (List ℕ) → State E → List Cause
   submit_causes_at job None s = cause true NoDefault ∷ []
   submit_causes_at job (Some q) s =
-      cause (not (has_queue q s)) (NoQueue q) ∷ causes_of (queue_entry_causes job) (find_queue q s) ++ cause (is_host_full s) HostFull ∷ cause (numbers_used s) NumbersUsed ∷ []
+      cause (not (has_queue q s)) (NoQueue q) ∷ causes_of (queue_entry_causes job) (find_queue q s)
+      ++ cause (is_host_full s) HostFull ∷ cause (numbers_used s) NumbersUsed ∷ []
 
   -- the causes for which a submission is refused, in order
   abbrev pub submit_causes : Submission → State E → List Cause
   submit_causes sub s = submit_causes_at sub.job (queue_meant sub.queue s.default_queue) s
 
+  -- whether a user is neither the owner nor an operator nor a manager
   abbrev pub is_stranger : List ℕ → State E → Row E → Bool
   is_stranger user s r = is_plain_user (rank user s) && not (name_eq user r.job.owner)
 
+  -- what keeps a user from deleting a request
   abbrev pub delete_row_causes : List ℕ → Named → Bool → State E → Row E → List Cause
   delete_row_causes user id kill s r = cause (is_stranger user s r) NotOwner ∷ cause (is_running r.state && not kill) (RequestRunning id) ∷ []
 
+  -- that there is no such request, or what is the matter with it
   abbrev pub named_causes : Named → (Row E → List Cause) → Option (Row E) → List Cause
   named_causes id f None = cause true (NoRequest id) ∷ []
   named_causes id f (Some r) = f r
@@ -69,12 +77,15 @@ module _ {E : Type 0} where
   abbrev pub delete_causes : List ℕ → Named → Bool → State E → List Cause
   delete_causes user id kill s = named_causes id (delete_row_causes user id kill s) (meant_row id s)
 
+  -- that a request is being handed over, or runs
   abbrev pub idle_causes : Named → Row E → List Cause
   idle_causes id r = cause (is_routing r.state) (RequestRouting id) ∷ cause (is_running r.state) (RequestRunning id) ∷ []
 
+  -- what keeps a request from being held
   abbrev pub hold_causes : Named → Row E → List Cause
   hold_causes id r = idle_causes id r ++ cause (not (is_unheld r.hold)) (IsHeld id) ∷ []
 
+  -- what keeps a request from being released
   abbrev pub release_causes : Named → Row E → List Cause
   release_causes id r = cause (is_unheld r.hold) (NotHeld id) ∷ []
 
@@ -82,10 +93,12 @@ module _ {E : Type 0} where
   abbrev pub move_entry_causes : Row E → QueueDef → List Cause
   move_entry_causes r d = entry_causes d r.job.owner FromPipe ++ over_causes d r.job.limits
 
+  -- what keeps a request from being moved to a queue
   abbrev pub move_causes : Named → List ℕ → State E → Row E → List Cause
   move_causes id q s r =
       cause (not (has_queue q s)) (NoQueue q) ∷ idle_causes id r ++ causes_of (move_entry_causes r) (find_queue q s) ++ cause (arrivals_used s) NumbersUsed ∷ []
 
+-- whether a queue carries requests to other queues
 abbrev pub is_pipe_named : QueueDef → Bool
 is_pipe_named d = is_pipe d.kind
 
@@ -100,12 +113,15 @@ module _ {E : Type 0} where
 
   -- effects
 
+  -- a request, doomed if it runs from this queue
   abbrev pub doomed_in : List ℕ → Row E → Row E
   doomed_in q r = if is_running r.state && name_eq q r.queue then record r { doomed = true } else r
 
+  -- a request that an operator holds
   abbrev pub held_row : Row E → Row E
   held_row r = record r { hold = User }
 
+  -- a request that isn't held any more: its refusals and moves are forgotten
   abbrev pub released_row : Row E → Row E
   released_row r = record r { hold = No; refused = []; hops = 0 }
 
@@ -113,13 +129,16 @@ module _ {E : Type 0} where
   abbrev pub moved_row : List ℕ → ℕ → Row E → Row E
   moved_row q arrival r = record r { queue = q; arrival = arrival; hops = 0; refused = [] }
 
+  -- a request with another priority
   abbrev pub with_priority : ℕ → Row E → Row E
   with_priority n r = record r { job = record (r.job) { priority = n } }
 
+  -- with the request changed that is meant
   abbrev pub change_meant : Option RequestId → (Row E → Row E) → State E → State E
   change_meant None f s = s
   change_meant (Some id) f s = change_row id f s
 
+  -- the next arrival has another number
   abbrev pub next_arrival : State E → State E
   next_arrival s = record s { arrivals = s.arrivals + 1 }
 

@@ -1,11 +1,14 @@
 -- Whole runs of a network.
 use Rattle.std.specs.Prelude.{ℕ, List, [], ◌∷◌, map, None, Some}
 use Rattle.nqs_state.specs.State.{Plain}
-use Rattle.nqs_rules.specs.World.{World, Act, Asks, Ends, Finishes, Fails, Writes, Leaves, Delivers, Newest, Ticks, Clock, Fuse, Crashes, Boots, Shows, Ran, unseen, seeing, then_seen, host_of, takes, taken_by, finishes_up, delivers, packet_at, newest_between, fuses, crashes_up, boots, new_world}
+use Rattle.nqs_rules.specs.World.{World, Act, Asks, Ends, Finishes, Fails, Writes, Leaves, Delivers, Newest, Ticks, Clock, Fuse, Crashes, Boots, Shows, Ran}
+use Rattle.nqs_rules.specs.World.{unseen, seeing, then_seen, host_of, takes, taken_by, finishes_up, delivers, packet_at, newest_between, fuses, crashes_up}
+use Rattle.nqs_rules.specs.World.{boots, new_world}
 use Rattle.nqs_rules.specs.Net.{table}
 use Rattle.nqs_types.specs.declared.world.Seen.TheVariants as seen
 use Rattle.nqs_types.specs.declared.event.Event.TheVariants as event
 
+-- the states of all hosts, in the order of the site
 abbrev pub states_of : World → List Plain
 states_of w = map (λ h. h.state) w.hosts
 

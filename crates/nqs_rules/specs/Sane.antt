@@ -31,6 +31,7 @@ is_sane_edit (AccessOf _) = true
 is_sane_edit (DevicesOf _) = true
 is_sane_edit (RowsOf e) = is_rows_within e
 
+-- a job's priority and its paths are within their limits
 abbrev pub is_sane_job : Job → Bool
 is_sane_job j = nat_le j.priority 63 && is_path j.out && is_path j.err
 
@@ -42,6 +43,7 @@ is_sane_id id = nat_le 1 id.seq && nat_le id.seq last_seq
 abbrev pub is_sane_carried : Carried → Bool
 is_sane_carried c = is_sane_id c.id && is_sane_job c.job && nat_lt c.starts 65535 && c.lost == c.starts && nat_le c.hops 32
 
+-- an output's path is one
 abbrev pub has_path : {E : Type 0} → OutPart E → Bool
 has_path part = is_path part.path
 
@@ -72,12 +74,15 @@ is_sane_name name = nat_le 1 (length name) && nat_le (length name) 15 && list_al
 abbrev pub is_asked_job : Job → Bool
 is_asked_job j = is_sane_name j.name && nat_le j.priority 63 && is_path_or_none j.out && is_path_or_none j.err
 
+-- a script has at most 32,768 bytes
 abbrev pub is_short_script : List ℕ → Bool
 is_short_script bytes = nat_le (length bytes) 32768
 
+-- an output has at most 16,384 bytes
 abbrev pub is_short_output : List ℕ → Bool
 is_short_output bytes = nat_le (length bytes) 16384
 
+-- what a command brings is within its limits
 abbrev pub is_sane_command : Command → Bool
 is_sane_command (command.Submit sub) = is_asked_job sub.job && is_short_script sub.script
 is_sane_command (command.Edit e) = is_sane_edit e
@@ -91,12 +96,14 @@ is_offer_refusal n = list_any (λ m. m == n) (3 ∷ 19 ∷ 21 ∷ 28 ∷ 29 ∷ 
 abbrev pub is_of_site : ℕ → HostId → Bool
 is_of_site hosts h = nat_lt h.0 hosts
 
+-- what a message brings is within its limits, in a site of so many hosts
 abbrev pub is_sane_body : ℕ → Body → Bool
 is_sane_body hosts (body.Offer n _ c script) = nat_le 1 n && is_sane_carried c && is_of_site hosts c.id.host && is_short_script script
 is_sane_body hosts (body.Refused n refusal) = nat_le 1 n && is_offer_refusal refusal
 is_sane_body hosts (body.Stage n path bytes) = nat_le 1 n && is_path path && is_short_script bytes
 is_sane_body hosts _ = true
 
+-- a message is from a host of the site, and what it brings is within its limits
 abbrev pub is_sane_message : ℕ → Message → Bool
 is_sane_message hosts m = is_of_site hosts m.from && is_sane_body hosts m.body
 

@@ -19,6 +19,7 @@ use Rattle.nqs_types.specs.declared.change.Change.TheVariants.{Ended, StageGot, 
 use Rattle.nqs_types.specs.declared.message.Body.TheVariants as body
 use Rattle.nqs_types.specs.declared.event.Output.TheVariants as out
 
+-- an output of a job: its path and its bytes
 abbrev pub Part : Type 0
 Part = OutPart (List ℕ)
 
@@ -40,11 +41,13 @@ abbrev pub numbered : ℕ → ℕ → List Part → List Part
 numbered counter n [] = []
 numbered counter n (part ∷ parts) = if has_left counter n then part ∷ numbered counter (n + 1) parts else []
 
+-- the number that the next stage to a peer gets; the last one of all where there is no such peer
 abbrev pub stage_counter : Option Peer → ℕ
 stage_counter None = last_u64
 stage_counter (Some p) = p.stage_next
 
 module _ {E : Type 0} where
+  -- whether a request was submitted at this host
   abbrev pub goes_here : State E → RequestId → Bool
   goes_here s id = same_host s.me id.host
 
@@ -56,6 +59,7 @@ module _ {E : Type 0} where
   abbrev pub kept_parts : State E → Row E → List ℕ → List ℕ → List Part
   kept_parts s r output error = numbered (first_number s r.id) 0 (parts_of r.job output error)
 
+  -- a file is to be written
   abbrev pub file_written : ℕ → Part → Pending E
   file_written number part = ready (out.File number part.path part.bytes)
 
@@ -64,12 +68,15 @@ module _ {E : Type 0} where
   files_written n [] = []
   files_written n (part ∷ parts) = file_written n part ∷ files_written (n + 1) parts
 
+  -- whether a stage goes to this peer
   abbrev pub is_stage_to : HostId → Stage E → Bool
   is_stage_to peer t = same_host peer t.peer
 
+  -- whether some stage goes to this peer
   abbrev pub has_stage_to : HostId → State E → Bool
   has_stage_to peer s = list_any (is_stage_to peer) s.stages
 
+  -- the first of new stages is sent
   abbrev pub stage_sent : HostId → HostId → ℕ → List Part → List (Pending E)
   stage_sent me peer number [] = []
   stage_sent me peer number (part ∷ parts) = ready (message me peer (body.Stage number part.path part.bytes)) ∷ []
@@ -89,10 +96,12 @@ module _ {E : Type 0} where
       makes (Ended r.id parts) (ready (out.Ended r.id r.starts status) ∷ parts_sent s r.id parts)
   -- STAGE
 
+-- whether a peer's stage of this number was taken
 abbrev pub is_got : ℕ → Peer → Bool
 is_got n p = nat_le n p.stage_got
 
 module _ {E : Type 0} where
+  -- the word that a stage was taken
   abbrev pub send_staged : State E → HostId → ℕ → Pending E
   send_staged s peer n = ready (message s.me peer (body.Staged n))
 
@@ -103,14 +112,17 @@ module _ {E : Type 0} where
       then makes (StageGot peer n path bytes) (send_staged s peer n ∷ ready (out.File s.file_next path bytes) ∷ [])
       else makes (StageGot peer n path []) (send_staged s peer n ∷ [])
 
+  -- what a host does at a stage: it takes it once, and says so each time
   abbrev pub on_stage : HostId → ℕ → List ℕ → List ℕ → State E → Stepped E
   on_stage peer n path bytes s = if passes (is_got n) (find_peer peer s) then says (send_staged s peer n ∷ []) else stage_taken peer n path bytes s
 
   -- STAGED
 
+  -- the order of stages: by number
   abbrev pub is_earlier_stage : Stage E → Stage E → Bool
   is_earlier_stage a b = nat_lt a.number b.number
 
+  -- a stage is sent
   abbrev pub send_stage : State E → Option (ℕ × Stage E) → List (Pending E)
   send_stage s None = []
   send_stage s (Some p) = (message s.me p.1.peer (body.Stage p.1.number p.1.path []), Some p.1.bytes) ∷ []
@@ -119,16 +131,19 @@ module _ {E : Type 0} where
   abbrev pub due_of : State E → HostId → List (Stage E) → List (Pending E)
   due_of s peer stages = send_stage s (best_from (is_stage_to peer) is_earlier_stage 0 stages)
 
+  -- what a host does when its stage was taken: the next one goes
   abbrev pub on_staged : HostId → ℕ → State E → Stepped E
   on_staged peer n s = if has_stage peer n s then makes (StageGone peer n) (due_of s peer (without_first (is_stage (peer_number peer n)) s.stages)) else quiet
 
   -- a file was written, or not
 
+  -- what a host does when a file was written: it is forgotten
   abbrev pub on_written : ℕ → State E → Stepped E
   on_written file s = if list_any (is_file file) s.files then makes (FileGone file) [] else quiet
 
   -- tick
 
+  -- a file is to be written again
   abbrev pub file_again : FileOut E → Pending E
   file_again f = (out.File f.number f.path [], Some f.bytes)
 

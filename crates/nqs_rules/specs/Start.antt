@@ -20,6 +20,7 @@ use Rattle.nqs_types.specs.declared.change.Change.TheVariants.{Started, HeldFar,
 use Rattle.nqs_types.specs.declared.event.LaunchOrder.{LaunchOrder}
 use Rattle.nqs_types.specs.declared.event.Output.TheVariants as out
 
+-- a number, or else another one, if any
 abbrev pub or_else : Option ℕ → Option ℕ → Option ℕ
 or_else None d = d
 or_else (Some n) d = Some n
@@ -30,6 +31,7 @@ limits_of l None = l
 limits_of l (Some d) = record { cpu = or_else l.cpu d.limits.cpu; memory = or_else l.memory d.limits.memory }
 
 module _ {E : Type 0} where
+  -- what the launcher of a job is told
   abbrev pub order_of : Row E → State E → LaunchOrder
   order_of r s = record {
     id = r.id;
@@ -40,34 +42,43 @@ module _ {E : Type 0} where
     limits = limits_of r.job.limits (find_queue r.queue s);
   }
 
+  -- a job is launched
   abbrev pub launching : Row E → State E → Stepped E
   launching r s = makes (Started r.id None) ((out.Launch (order_of r s) [], Some r.script) ∷ [])
 
+  -- a request is printed on a device
   abbrev pub printing : List ℕ → Row E → State E → Stepped E
   printing device r s = makes (Started r.id (Some device)) ((out.Print device (order_of r s) [], Some r.script) ∷ [])
 
   -- the causes for which a queue of this host refuses the row, in order
   abbrev pub local_causes : List ℕ → State E → Row E → List Cause
-  local_causes queue s r = cause (not (has_queue queue s)) (NoQueue queue) ∷ causes_of (move_entry_causes r) (find_queue queue s) ++ cause (arrivals_used s) NumbersUsed ∷ []
+  local_causes queue s r = cause (not (has_queue queue s)) (NoQueue queue) ∷ causes_of (move_entry_causes r) (find_queue queue s)
+      ++ cause (arrivals_used s) NumbersUsed ∷ []
 
+  -- a request is moved to a queue of this host, or refused there
   abbrev pub moving_by : Result (Unit {0}) Refusal → List ℕ → Row E → Stepped E
   moving_by (Ok _) queue r = makes (MovedLocal r.id queue) []
   moving_by (Err refusal) queue r = makes (RefusedLocal r.id queue (refusal_number refusal)) []
 
+  -- the same, by what the queue says
   abbrev pub moving : Dest → State E → Row E → Stepped E
   moving dest s r = moving_by (first_refusal (local_causes dest.queue s r)) dest.queue r
 
+  -- the system holds a request that has moved too often
   abbrev pub holding : Row E → Stepped E
   holding r = makes (HeldFar r.id) []
 
   -- the row at a place of the list of rows, and its queue's device or destination at a place of that list
 
+  -- what is done with the request at a place
   abbrev pub with_row : ℕ → State E → (Row E → Option (Stepped E)) → Option (Stepped E)
   with_row place s f = option_and_then f (slice_get s.rows place)
 
+  -- the device at a place of a request's queue
   abbrev pub device_at : ℕ → Row E → State E → Option (List ℕ)
   device_at place r s = option_and_then (λ d. slice_get d.devices place) (find_queue r.queue s)
 
+  -- the destination at a place of a request's queue
   abbrev pub dest_at : ℕ → Row E → State E → Option Dest
   dest_at place r s = option_and_then (λ d. slice_get d.dests place) (find_queue r.queue s)
 
@@ -79,6 +90,7 @@ module _ {E : Type 0} where
   started (Local row dest) now s = with_row row s (λ r. option_map (λ d. moving d s r) (dest_at dest r s))
   started (Hand row dest) now s = with_row row s (λ r. option_map (λ d. open_hand d now s r) (dest_at dest r s))
 
+  -- what a choice starts
   abbrev pub start_by : Option Choice → ℕ → State E → Option (Stepped E)
   start_by None now s = None
   start_by (Some c) now s = started c now s

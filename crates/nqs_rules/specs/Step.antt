@@ -51,12 +51,15 @@ pub record Asker : Type 0 where
   pub token : ℕ
 
 module _ {E : Type 0} where
+  -- a reply to the one who asked
   abbrev pub reply_to : Asker → Reply → Pending E
   reply_to a r = replied a.port a.token r
 
+  -- a step that is an answer alone
   abbrev pub answer_to : Asker → Reply → Stepped E
   answer_to a r = answer a.port a.token r
 
+  -- an answer that refuses
   abbrev pub refuse : Asker → Refusal → Stepped E
   refuse a refusal = answer_to a (reply.Refused refusal)
 
@@ -67,33 +70,40 @@ module _ {E : Type 0} where
 
   -- qsub
 
+  -- a submission is kept and told
   abbrev pub submit_to : Asker → Submission → State E → Option (List ℕ) → Stepped E
   submit_to a sub s None = refuse a NoDefault
   submit_to a sub s (Some queue) =
       makes (Submitted queue (completed (s.seq + 1) sub.job) sub.script) (reply_to a (reply.Submitted (next_id s) queue) ∷ [])
 
+  -- what a host does at a submission
   abbrev pub on_submit : Asker → Submission → State E → Stepped E
   on_submit a sub s = unless_refused a (first_refusal (submit_causes sub s)) (submit_to a sub s (queue_meant sub.queue s.default_queue))
 
   -- qdel
 
+  -- a job is told to end
   abbrev pub kill : Row E → Pending E
   kill r = ready (out.Kill r.id r.starts)
 
+  -- a request is deleted, or its job told to end
   abbrev pub delete_row : Asker → Row E → Stepped E
   delete_row a r =
       if is_running r.state then makes (Doomed r.id) (reply_to a (reply.Signalled r.id) ∷ kill r ∷ [])
       else makes (Deleted r.id) (reply_to a (reply.Deleted r.id) ∷ [])
 
+  -- the same of the request that is meant
   abbrev pub delete_meant : Asker → Named → Option (Row E) → Stepped E
   delete_meant a id None = refuse a (NoRequest id)
   delete_meant a id (Some r) = delete_row a r
 
+  -- what a host does at a deletion
   abbrev pub on_delete : Asker → List ℕ → Named → Bool → State E → Stepped E
   on_delete a user id forced s = unless_refused a (first_refusal (delete_causes user id forced s)) (delete_meant a id (meant_row id s))
 
   -- qmgr
 
+  -- whether a request runs from this queue
   abbrev pub runs_in_queue : List ℕ → Row E → Bool
   runs_in_queue q r = is_running r.state && name_eq q r.queue
 
@@ -102,14 +112,17 @@ module _ {E : Type 0} where
   kills_of (RowsOf (AbortQueue q)) s = map kill (filter (runs_in_queue q) s.rows)
   kills_of _ s = []
 
+  -- what a host does at an edit: it makes it, and kills what an abort dooms
   abbrev pub on_edit : Asker → Edit → State E → Stepped E
   on_edit a e s = unless_refused a (first_refusal (edit_causes e s)) (makes (Edited e) (reply_to a reply.Done ∷ kills_of e s))
 
   -- lists
 
+  -- that one of the queues asked for isn't there
   abbrev pub stat_causes : List (List ℕ) → State E → List Cause
   stat_causes queues s = map (λ q. cause (not (has_queue q s)) (NoQueue q)) queues
 
+  -- what a host does when it is asked for its requests
   abbrev pub on_stat : Asker → Option (List ℕ) → List (List ℕ) → State E → Stepped E
   on_stat a user queues s = unless_refused a (first_refusal (stat_causes queues s)) (answer_to a (reply.Lines (stat_lines user queues s)))
 
@@ -124,9 +137,11 @@ module _ {E : Type 0} where
 
   -- tick
 
+  -- what a host does at a tick
   abbrev pub ticked : ℕ → State E → Stepped E
   ticked now s = record { change = (on_tick now s).change; outputs = (on_tick now s).outputs ++ due_outputs s }
 
+  -- a step, and the reply that it is done
   abbrev pub then_reply : Asker → Stepped E → Stepped E
   then_reply a done = record { change = done.change; outputs = done.outputs ++ reply_to a reply.Done ∷ [] }
 
@@ -142,6 +157,7 @@ module _ {E : Type 0} where
   on_allowed now a user (command.UnreadLine fault) s = answer_to a (reply.UnreadLine fault)
   on_allowed now a user (command.UnreadWords fault) s = answer_to a (reply.UnreadWords fault)
 
+  -- what a host does at a command: the rank is tested first
   abbrev pub on_command : ℕ → Asker → List ℕ → Command → State E → Stepped E
   on_command now a user c s = unless_refused a (may_command (rank user s) c) (on_allowed now a user c s)
 
@@ -160,19 +176,24 @@ module _ {E : Type 0} where
 
   -- the end of a job, and a launch that failed
 
+  -- whether a request runs by this start
   abbrev pub is_start : ℕ → Row E → Bool
   is_start start r = is_running r.state && r.starts == start
 
+  -- the end of a job, by the request that runs
   abbrev pub ended_by : Option (Row E) → ℕ → ℕ → List ℕ → List ℕ → State E → Stepped E
   ended_by None start status output error s = quiet
   ended_by (Some r) start status output error s = if is_start start r then on_end status r output error s else quiet
 
+  -- the word to a shepherd that its end was taken
   abbrev pub acknowledged : ℕ → RequestId → ℕ → List (Pending E)
   acknowledged port id start = if port == 0 then [] else ready (out.Ack port id start) ∷ []
 
+  -- a step, and that word
   abbrev pub then_ack : ℕ → RequestId → ℕ → Stepped E → Stepped E
   then_ack port id start done = record { change = done.change; outputs = done.outputs ++ acknowledged port id start }
 
+  -- the end of a start that was none
   abbrev pub unlaunched_by : Option (Row E) → RequestId → ℕ → Stepped E
   unlaunched_by None id start = quiet
   unlaunched_by (Some r) id start = if is_start start r then makes (Unlaunched id) (ready (out.Unlaunched id start) ∷ []) else quiet

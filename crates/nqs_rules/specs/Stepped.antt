@@ -7,13 +7,16 @@ use Rattle.nqs_types.specs.declared.message.Body.{Body}
 use Rattle.nqs_types.specs.declared.message.Body.TheVariants as body
 use Rattle.nqs_types.specs.declared.change.OutPart.{OutPart}
 use Rattle.nqs_types.specs.declared.change.Change.{Change}
-use Rattle.nqs_types.specs.declared.change.Change.TheVariants.{Site, Submitted, Deleted, Doomed, Started, Ended, Unlaunched, Boot, Edited, HandOpened, HandCommitted, HandRefused, HandsSilent, HandDone, Promised, Accepted, Dropped, MovedLocal, RefusedLocal, HeldFar, StageGot, StageGone, FileGone}
+use Rattle.nqs_types.specs.declared.change.Change.TheVariants.{Site, Submitted, Deleted, Doomed, Started, Ended, Unlaunched, Boot, Edited, HandOpened}
+use Rattle.nqs_types.specs.declared.change.Change.TheVariants.{HandCommitted, HandRefused, HandsSilent, HandDone, Promised, Accepted, Dropped, MovedLocal}
+use Rattle.nqs_types.specs.declared.change.Change.TheVariants.{RefusedLocal, HeldFar, StageGot, StageGone, FileGone}
 use Rattle.nqs_types.specs.declared.event.Reply.{Reply}
 use Rattle.nqs_types.specs.declared.event.Output.{Output}
 use Rattle.nqs_types.specs.declared.event.Output.TheVariants as out
 use Rattle.nqs_types.specs.declared.event.Plan.{Plan}
 use Rattle.nqs_types.specs.declared.event.PlanRead.{PlanRead}
 
+-- an output with its bytes mapped
 abbrev pub map_part : {E F : Type 0} → (E → F) → OutPart E → OutPart F
 map_part f part = record { path = part.path; bytes = f part.bytes }
 
@@ -43,6 +46,7 @@ map_change f (StageGot peer number path bytes) = StageGot peer number path (f by
 map_change f (StageGone peer number) = StageGone peer number
 map_change f (FileGone file) = FileGone file
 
+-- the bytes of an output
 abbrev pub part_bytes : {E : Type 0} → OutPart E → E
 part_bytes part = part.bytes
 
@@ -58,6 +62,7 @@ stored_parts _ = []
 abbrev pub Pending : Type 0 → Type 0
 Pending E = Output × Option E
 
+-- a message with the bytes that it sends
 abbrev pub sent_with : List ℕ → Body → Body
 sent_with bytes (body.Offer number queue c _) = body.Offer number queue c bytes
 sent_with bytes (body.Stage number path _) = body.Stage number path bytes
@@ -80,6 +85,7 @@ abbrev pub shown : Pending (List ℕ) → Output
 shown (o, None) = o
 shown (o, Some bytes) = with_bytes bytes o
 
+-- an output of a step with what its bytes are read of mapped
 abbrev pub map_pending : {E F : Type 0} → (E → F) → Pending E → Pending F
 map_pending f p = (p.0, option_map f p.1)
 
@@ -88,18 +94,22 @@ pub record Stepped (E : Type 0) : Type 0 where
   pub change : Option (Change (List ℕ))
   pub outputs : List (Pending E)
 
+-- a step with what the bytes of its outputs are read of mapped
 abbrev pub map_stepped : {E F : Type 0} → (E → F) → Stepped E → Stepped F
 map_stepped f s = record { change = s.change; outputs = map (map_pending f) s.outputs }
 
 -- the plan of a step
 
+-- the extent of no bytes
 abbrev pub no_extent : Extent
 no_extent = record { place = 0; length = 0 }
 
+-- the bytes that a step stores
 abbrev pub puts_of : Option (Change (List ℕ)) → List (List ℕ)
 puts_of None = []
 puts_of (Some change) = stored_parts change
 
+-- what is read for the output at a place, if it has bytes
 abbrev pub read_at : ℕ → Option Extent → List PlanRead
 read_at n None = []
 read_at n (Some x) = record { output = n; extent = x } ∷ []
@@ -109,12 +119,19 @@ abbrev pub reads_from : ℕ → List (Pending Extent) → List PlanRead
 reads_from n [] = []
 reads_from n (p ∷ ps) = read_at n p.1 ++ reads_from (n + 1) ps
 
+-- an output without what its bytes are read of
 abbrev pub output_of : Pending Extent → Output
 output_of p = p.0
 
 -- The change without extents, the bytes to be stored in their order, the outputs, and what is to be read for them.
 abbrev pub plan_of : Stepped Extent → Plan
-plan_of s = record { change = option_map (map_change (λ _. no_extent)) s.change; puts = puts_of s.change; outputs = map output_of s.outputs; reads = reads_from 0 s.outputs }
+plan_of s = record {
+  change = option_map (map_change (λ _. no_extent)) s.change;
+  puts = puts_of s.change;
+  outputs = map output_of s.outputs;
+  reads =
+      reads_from 0 s.outputs;
+}
 
 -- small steps
 
@@ -126,12 +143,15 @@ quiet = record { change = None; outputs = [] }
 abbrev pub says : {E : Type 0} → List (Pending E) → Stepped E
 says outputs = record { change = None; outputs = outputs }
 
+-- a step that makes a change and gives outputs
 abbrev pub makes : {E : Type 0} → Change (List ℕ) → List (Pending E) → Stepped E
 makes change outputs = record { change = Some change; outputs = outputs }
 
+-- a message to a host, as an output
 abbrev pub message : HostId → HostId → Body → Output
 message from to b = out.Send (record { from = from; to = to; body = b })
 
+-- a reply to a client, as an output; it carries no stored bytes
 abbrev pub replied : {E : Type 0} → ℕ → ℕ → Reply → Pending E
 replied port token reply = (out.Reply port token reply, None)
 

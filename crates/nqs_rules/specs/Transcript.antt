@@ -15,18 +15,25 @@ use Rattle.nqs_types.specs.declared.fault.WordsFault.{WordsFault}
 use Rattle.nqs_types.specs.declared.fault.WordsCause.{WordsCause}
 use Rattle.nqs_types.specs.declared.fault.WordsCause.TheVariants as words_cause
 use Rattle.nqs_types.specs.declared.refusal.Refusal.{Refusal}
-use Rattle.nqs_types.specs.declared.refusal.Refusal.TheVariants.{NotManager, NotOperator, NoQueue, NoComplex, NoDevice, NoRequest, NoHost, NoDefault, QueueExists, ComplexExists, DeviceExists, WrongKind, DestExists, NoDest, NotMember, IsMember, KeepRoot, NotOwner, Disabled, PipeOnly, NoAccess, RequestRouting, RequestRunning, NotHeld, IsHeld, QueueInUse, DeviceBusy, OverCpu, OverMemory, TooMany, HostFull, NumbersUsed, RequestExists}
+use Rattle.nqs_types.specs.declared.refusal.Refusal.TheVariants.{NotManager, NotOperator, NoQueue, NoComplex, NoDevice, NoRequest, NoHost, NoDefault}
+use Rattle.nqs_types.specs.declared.refusal.Refusal.TheVariants.{QueueExists, ComplexExists, DeviceExists, WrongKind, DestExists, NoDest, NotMember, IsMember}
+use Rattle.nqs_types.specs.declared.refusal.Refusal.TheVariants.{KeepRoot, NotOwner, Disabled, PipeOnly, NoAccess, RequestRouting, RequestRunning, NotHeld}
+use Rattle.nqs_types.specs.declared.refusal.Refusal.TheVariants.{IsHeld, QueueInUse, DeviceBusy, OverCpu, OverMemory, TooMany, HostFull, NumbersUsed}
+use Rattle.nqs_types.specs.declared.refusal.Refusal.TheVariants.{RequestExists}
 use Rattle.nqs_types.specs.declared.event.Reply.{Reply}
 use Rattle.nqs_types.specs.declared.event.Reply.TheVariants as reply
 use Rattle.nqs_types.specs.declared.world.Seen.{Seen}
 use Rattle.nqs_types.specs.declared.world.Seen.TheVariants as seen
 
+-- a text as a line
 abbrev pub line : Text → Text
 line t = t ++ 10 ∷ []
 
+-- texts as lines
 abbrev pub lines : List Text → Text
 lines ts = flat_map line ts
 
+-- what a refusal says
 abbrev pub refusal_text : Refusal → Text
 refusal_text NotManager = codes "not a manager"
 refusal_text NotOperator = codes "not an operator"
@@ -62,10 +69,11 @@ refusal_text HostFull = codes "the host is full"
 refusal_text NumbersUsed = codes "all numbers are used"
 refusal_text (RequestExists id) = codes "request " ++ named_text id ++ codes " exists"
 
+-- what a line that can't be read is answered: the place, from 0, and what is wrong there
 abbrev pub at_place : ℕ → Text → Text
 at_place place cause = codes "Bad line at " ++ decimal place ++ codes ": " ++ cause
 
--- a fault that comes of want of memory is never replied
+-- what the first fault of a line of qmgr says
 abbrev pub grammar_text : GrammarFault → Text
 grammar_text (grammar.UnknownWord n) = at_place n (codes "unknown word")
 grammar_text (grammar.Ambiguous n) = at_place n (codes "ambiguous")
@@ -73,8 +81,8 @@ grammar_text (grammar.Missing n) = at_place n (codes "missing")
 grammar_text (grammar.Extra n) = at_place n (codes "extra")
 grammar_text (grammar.BadName n) = at_place n (codes "bad name")
 grammar_text (grammar.BadNumber n) = at_place n (codes "bad number")
-grammar_text grammar.Memory = []
 
+-- what a fault of words says
 abbrev pub words_text : WordsCause → Text
 words_text words_cause.Unknown = codes "unknown word"
 words_text words_cause.Missing = codes "missing"
@@ -85,11 +93,12 @@ words_text words_cause.BadNumber = codes "bad number"
 words_text words_cause.BadMoment = codes "bad moment"
 words_text words_cause.BadPath = codes "bad path"
 words_text words_cause.ScriptTooLong = codes "script too long"
-words_text words_cause.Memory = []
 
+-- the line of the script that a fault is in; nothing where it is in the command's own words
 abbrev pub in_script : ℕ → Text
 in_script n = if n == 0 then [] else codes " in script line " ++ decimal n
 
+-- what words that can't be read are answered
 abbrev pub words_fault_text : WordsFault → Text
 words_fault_text f = codes "Bad word " ++ decimal f.word ++ in_script f.line ++ codes ": " ++ words_text f.cause
 
@@ -104,9 +113,11 @@ reply_lines site (reply.Lines ls) = ls
 reply_lines site (reply.UnreadLine f) = grammar_text f ∷ []
 reply_lines site (reply.UnreadWords f) = words_fault_text f ∷ []
 
+-- the text of a reply
 abbrev pub reply_text : List Text → Reply → Text
 reply_text site r = lines (reply_lines site r)
 
+-- the kind of a message as it is shown
 abbrev pub kind_name : BodyKind → Text
 kind_name kind.Offer = codes "OFFER"
 kind_name kind.Ready = codes "READY"
@@ -122,13 +133,16 @@ kind_name kind.Answer = codes "ANSWER"
 kind_name kind.Ended = codes "ENDED"
 kind_name kind.EndedAck = codes "ENDEDACK"
 
+-- the name of a host
 abbrev pub host_text : List Text → HostId → Text
 host_text site h = name_at h.0 site
 
+-- the words of a row of the table
 abbrev pub table_words : List Text → TableRow → List Text
 table_words site r =
     host_text site r.host ∷ r.queue ∷ id_text site r.id ∷ net_text r.state ∷ r.owner ∷ codes "starts" ∷ decimal r.starts ∷ codes "lost" ∷ decimal r.lost ∷ []
 
+-- a row of the table as it is shown
 abbrev pub table_line : List Text → TableRow → Text
 table_line site r = words (table_words site r)
 
@@ -136,6 +150,7 @@ table_line site r = words (table_words site r)
 abbrev pub start_words : List Text → Text → HostId → RequestId → ℕ → List Text
 start_words site word h id n = word ∷ host_text site h ∷ id_text site id ∷ decimal n ∷ []
 
+-- the words of a packet that isn't there
 abbrev pub no_packet : Option ℕ → List Text
 no_packet None = codes "no" ∷ codes "packet" ∷ []
 no_packet (Some k) = codes "no" ∷ codes "packet" ∷ decimal k ∷ []
@@ -161,6 +176,7 @@ seen_lines site (seen.NoPacket k) = words (no_packet k) ∷ []
 seen_lines site (seen.Idle h) = words (codes "idle" ∷ host_text site h ∷ []) ∷ []
 seen_lines site (seen.Table rows) = words (codes "table" ∷ decimal (length rows) ∷ []) ∷ map (table_line site) rows
 
+-- the text of a thing that is seen
 abbrev pub seen_text : List Text → Seen → Text
 seen_text site x = lines (seen_lines site x)
 

@@ -1,5 +1,6 @@
 -- A network of hosts as a pure machine of events. There is no byte of a disk in it: a stop is told by the count of device calls.
-use Rattle.std.specs.Prelude.{ℕ, zero, suc, ◌+◌, ◌-◌, ◌%◌, Bool, true, false, ◌&&◌, ◌||◌, ◌==◌, nat_le, nat_lt, max, if◌then◌else◌, List, [], ◌∷◌, ◌++◌, map, filter, length, slice_get, Option, None, Some, is_ok}
+use Rattle.std.specs.Prelude.{ℕ, zero, suc, ◌+◌, ◌-◌, ◌%◌, Bool, true, false, ◌&&◌, ◌||◌, ◌==◌, nat_le, nat_lt, max, if◌then◌else◌, List, [], ◌∷◌, ◌++◌, map}
+use Rattle.std.specs.Prelude.{filter, length, slice_get, Option, None, Some, is_ok}
 use Rattle.std.specs.List.{filter_map}
 use Rattle.nqs_state.specs.State.{Plain}
 use Rattle.nqs_keyed.specs.Table.{best_from}
@@ -35,6 +36,7 @@ use Rattle.nqs_types.specs.declared.event.Event.TheVariants as event
 use Rattle.nqs_types.specs.declared.event.Output.{Output}
 use Rattle.nqs_types.specs.declared.event.Output.TheVariants as out
 
+-- a script, an output or a text
 abbrev pub Bytes : Type 0
 Bytes = List ℕ
 
@@ -52,9 +54,12 @@ pub record Calls : Type 0 where
   pub second : ℕ
   pub spool : ℕ
 
+-- A host: whether it is up, its state, the states that its disks told before since they were new or last became the image
+-- of a stop, the last of them first, what its next stop leaves of a write, its fuses, and how many calls its disks have made.
 pub record Host : Type 0 where
   pub up : Bool
   pub state : Plain
+  pub told : List Plain
   pub tear : Tear
   pub fuses : Fuses
   pub calls : Calls
@@ -90,9 +95,11 @@ pub record Ran : Type 0 where
 
 -- a new world
 
+-- no disk's calls are to fail
 abbrev pub no_fuses : Fuses
 no_fuses = record { root = None; first = None; second = None; spool = None }
 
+-- no calls were made
 abbrev pub no_calls : Calls
 no_calls = record { root = 0; first = 0; second = 0; spool = 0 }
 
@@ -100,30 +107,46 @@ no_calls = record { root = 0; first = 0; second = 0; spool = 0 }
 abbrev pub new_calls : Calls
 new_calls = record no_calls { first = 6 }
 
+-- a host that was formatted and booted, by which its state stayed the same
 abbrev pub new_host : List Bytes → ℕ → Host
-new_host site place = record { up = true; state = formatted (record { 0 = place }) site; tear = Old; fuses = no_fuses; calls = new_calls }
+new_host site place = let s = formatted (record { 0 = place }) site in record {
+  up = true;
+  state = s;
+  told = s ∷ [];
+  tear = Old;
+  fuses = no_fuses;
+  calls =
+      new_calls;
+}
 
+-- new hosts of the site from a place on
 abbrev pub hosts_from : ℕ → List Bytes → List Bytes → List Host
 hosts_from place site [] = []
 hosts_from place site (name ∷ names) = new_host site place ∷ hosts_from (place + 1) site names
 
+-- a site whose hosts were formatted and booted
 abbrev pub new_world : List Bytes → World
 new_world site = record { site = site; hosts = hosts_from 0 site site; packets = []; now = 0 }
 
 -- hosts
 
+-- a host of the world, if there is one
 abbrev pub host_of : HostId → World → Option Host
 host_of h w = slice_get w.hosts h.0
 
+-- a world with one host in place of what it was
 abbrev pub put_host : HostId → Host → World → World
 put_host h host w = record w { hosts = change_at h.0 (λ _. host) w.hosts }
 
+-- what was seen before what a run shows
 abbrev pub then_seen : List Seen → Ran → Ran
 then_seen seen r = record { world = r.world; seen = seen ++ r.seen }
 
+-- a world of which nothing is shown
 abbrev pub unseen : World → Ran
 unseen w = record { world = w; seen = [] }
 
+-- a world of which one thing is shown
 abbrev pub seeing : Seen → World → Ran
 seeing x w = record { world = w; seen = x ∷ [] }
 
@@ -138,6 +161,7 @@ abbrev pub falls : Option ℕ → ℕ → Bool
 falls None n = false
 falls (Some k) n = nat_le k n
 
+-- a fuse after so many calls
 abbrev pub burnt : ℕ → Option ℕ → Option ℕ
 burnt n None = None
 burnt n (Some k) = Some (k - n)
@@ -165,13 +189,16 @@ fate puts h =
     if falls h.fuses.spool (spool_calls puts) then StoppedBefore
     else (if falls h.fuses.first 4 then (if falls_at_gate h.fuses.first && keeps_gate h.tear then StoppedAfter else StoppedBefore) else Made)
 
+-- a host that stopped with this state on its disks: it is down, and its fuses are gone
 abbrev pub stopped : Plain → Host → Host
-stopped s h = record { up = false; state = s; tear = h.tear; fuses = no_fuses; calls = no_calls }
+stopped s h = record { up = false; state = s; told = []; tear = h.tear; fuses = no_fuses; calls = no_calls }
 
+-- a host that kept a change: its state is the new one, and its disks made the calls that keep it
 abbrev pub used : List Bytes → Plain → Host → Host
 used puts s h = record {
   up = true;
   state = s;
+  told = h.state ∷ h.told;
   tear = h.tear;
   fuses = record { root = h.fuses.root; first = burnt 4 h.fuses.first; second = h.fuses.second; spool = burnt (spool_calls puts) h.fuses.spool };
   calls = record { root = h.calls.root; first = h.calls.first + 4; second = h.calls.second; spool = h.calls.spool + spool_calls puts };
@@ -179,6 +206,7 @@ used puts s h = record {
 
 -- what is seen
 
+-- the kind of a message
 abbrev pub body_kind : Body → BodyKind
 body_kind (body.Offer _ _ _ _) = kind.Offer
 body_kind (body.Ready _) = kind.Ready
@@ -207,6 +235,7 @@ body_number (body.Stage n _ _) = n
 body_number (body.Staged n) = n
 body_number _ = 0
 
+-- a message as it is seen when it is sent: its number, who sends it to whom, and its kind
 abbrev pub seen_packet : ℕ → Message → Seen
 seen_packet k m = seen.Packet k m.from m.to (body_kind m.body) (body_number m.body)
 
@@ -224,10 +253,12 @@ seen_output h k (out.Again id) = seen.Again h id ∷ []
 seen_output h k (out.Lost id) = seen.Lost h id ∷ []
 seen_output h k (out.Ack _ _ _) = []
 
+-- the message that an output sends, if it sends one
 abbrev pub sent_by : Output → List Message
 sent_by (out.Send m) = m ∷ []
 sent_by _ = []
 
+-- the number that the next packet gets
 abbrev pub next_number : World → ℕ
 next_number w = length w.packets + 1
 
@@ -238,6 +269,7 @@ emits h (o ∷ os) w = then_seen (seen_output h (next_number w) o) (emits h os (
 
 -- changes
 
+-- a host makes a change, or stops before or after it was kept
 abbrev pub change_fated : Fate → HostId → Host → Change Bytes → List Seen → List Output → World → Ran
 change_fated Made h host c first os w = then_seen first (emits h os (put_host h (used (stored_parts c) (applied c host.state) host) w))
 change_fated StoppedBefore h host c first os w = seeing (seen.Stop h) (put_host h (stopped host.state host) w)
@@ -247,13 +279,16 @@ change_fated StoppedAfter h host c first os w = seeing (seen.Stop h) (put_host h
 abbrev pub makes_change : HostId → Host → Change Bytes → List Seen → List Output → World → Ran
 makes_change h host c first os w = change_fated (fate (stored_parts c) host) h host c first os w
 
+-- a host carries out a step: its change, if it has one, and then its outputs
 abbrev pub carries_out : HostId → Host → Option (Change Bytes) → List Output → World → Ran
 carries_out h host None os w = emits h os w
 carries_out h host (Some c) os w = makes_change h host c [] os w
 
+-- a host takes a step
 abbrev pub steps : HostId → Host → Stepped Bytes → World → Ran
 steps h host s w = carries_out h host s.change (map shown s.outputs) w
 
+-- one thing after the other
 abbrev pub then_ran : Ran → (World → Ran) → Ran
 then_ran r f = then_seen r.seen (f r.world)
 
@@ -273,6 +308,7 @@ starts (suc n) h w = elim (host_of h w) [
   ]
 ]
 
+-- how many starts a host has left at most
 abbrev pub left_of : Option Host → ℕ
 left_of None = 0
 left_of (Some host) = starts_left host.state
@@ -283,6 +319,7 @@ all_starts h w = starts (left_of (host_of h w)) h w
 
 -- events that a host takes
 
+-- whether a command is a shutdown
 abbrev pub is_shutdown : Command → Bool
 is_shutdown command.Shutdown = true
 is_shutdown _ = false
@@ -292,6 +329,7 @@ abbrev pub shuts_down : Event → Plain → Bool
 shuts_down (event.Ask _ _ _ user c) s = is_shutdown c && is_ok (may_command (rank user s) c)
 shuts_down _ s = false
 
+-- a host stops, if it is up
 abbrev pub halted_host : HostId → Option Host → World → Ran
 halted_host h None w = unseen w
 halted_host h (Some host) w = if host.up then seeing (seen.Stop h) (put_host h (stopped host.state host) w) else unseen w
@@ -301,9 +339,11 @@ abbrev pub halts : Bool → HostId → World → Ran
 halts false h w = unseen w
 halts true h w = halted_host h (host_of h w) w
 
+-- a host that is up takes an event, starts what may start, and stops if that was a shutdown
 abbrev pub takes_up : HostId → Host → Event → World → Ran
 takes_up h host e w = then_ran (then_ran (steps h host (step e host.state) w) (all_starts h)) (halts (shuts_down e host.state) h)
 
+-- a host that is up does something; of one that is down it is seen that it is down
 abbrev pub taken_by : Option Host → HostId → (Host → World → Ran) → World → Ran
 taken_by None h f w = unseen w
 taken_by (Some host) h f w = if host.up then f host w else seeing (seen.Down h) w
@@ -314,43 +354,54 @@ takes h e w = taken_by (host_of h w) h (λ host. takes_up h host e) w
 
 -- the least running request of a host, by the host of its submission and then by its number
 
+-- the order of requests: by host, then by number
 abbrev pub is_less_id : RequestId → RequestId → Bool
 is_less_id a b = nat_lt a.host.0 b.host.0 || (a.host.0 == b.host.0 && nat_lt a.seq b.seq)
 
+-- whether a request runs
 abbrev pub runs_now : Row Bytes → Bool
 runs_now r = is_running r.state
 
+-- the order of requests that a host has
 abbrev pub is_less_row : Row Bytes → Row Bytes → Bool
 is_less_row a b = is_less_id a.id b.id
 
+-- a job ends, with status 0; of a host that runs none it is seen that it is idle
 abbrev pub finishes : HostId → Host → Option (ℕ × Row Bytes) → World → Ran
 finishes h host None w = seeing (seen.Idle h) w
 finishes h host (Some p) w = takes_up h host (event.Ended w.now 0 p.1.id p.1.starts 0 [] []) w
 
+-- the first job that runs on a host ends
 abbrev pub finishes_up : HostId → Host → World → Ran
 finishes_up h host w = finishes h host (best_from runs_now is_less_row 0 host.state.rows) w
 
 -- packets
 
+-- a packet arrives at the host that it was sent to
 abbrev pub arrives : Message → World → Ran
 arrives m w = takes m.to (event.Arrived w.now m) w
 
+-- a packet arrives; where there is none it is seen that there is none
 abbrev pub delivers : Option ℕ → Option Message → World → Ran
 delivers k None w = seeing (seen.NoPacket k) w
 delivers k (Some m) w = arrives m w
 
+-- a packet by its number, from 1
 abbrev pub packet_at : ℕ → World → Option Message
 packet_at zero w = None
 packet_at (suc k) w = slice_get w.packets k
 
+-- whether a message was sent between two hosts, either way
 abbrev pub is_between : HostId → HostId → Message → Bool
 is_between a b m = (same_host a m.from && same_host b m.to) || (same_host b m.from && same_host a m.to)
 
+-- the last of a list
 abbrev pub last_of : {A : Type 0} → List A → Option A
 last_of [] = None
 last_of (x ∷ []) = Some x
 last_of (x ∷ y ∷ xs) = last_of (y ∷ xs)
 
+-- the newest packet between two hosts
 abbrev pub newest_between : HostId → HostId → World → Option Message
 newest_between a b w = last_of (filter (is_between a b) w.packets)
 
@@ -360,13 +411,16 @@ newest_between a b w = last_of (filter (is_between a b) w.packets)
 abbrev pub boot_output : Row Bytes → Option Output
 boot_output r = if is_running r.state then Some (if may_start_again r then out.Again r.id else out.Lost r.id) else None
 
+-- a host that is down boots, and starts what may start
 abbrev pub boots_down : HostId → Host → World → Ran
 boots_down h host w = then_ran (makes_change h host Boot (seen.Boot h ∷ []) (filter_map boot_output host.state.rows) w) (all_starts h)
 
+-- a host boots; of one that is up it is seen that it is up
 abbrev pub boots : HostId → Option Host → World → Ran
 boots h None w = unseen w
 boots h (Some host) w = if host.up then seeing (seen.Up h) w else boots_down h host w
 
+-- a host that is up stops
 abbrev pub crashes_up : HostId → Host → World → Ran
 crashes_up h host w = seeing (seen.Stop h) (put_host h (stopped host.state host) w)
 
@@ -381,5 +435,6 @@ fused Spool calls f = record f { spool = Some (max calls 1) }
 abbrev pub fused_host : Which → ℕ → Tear → Host → Host
 fused_host disk calls tear h = record h { tear = tear; fuses = fused disk calls h.fuses }
 
+-- a disk of a host gets a fuse, and the host a tear
 abbrev pub fuses : HostId → Which → ℕ → Tear → World → World
 fuses h disk calls tear w = record w { hosts = change_at h.0 (fused_host disk calls tear) w.hosts }

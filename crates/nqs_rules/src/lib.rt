@@ -1,4 +1,5 @@
-//! The written rules of a batch system of several hosts: definitions over plain states, and their laws.
+//! The written rules of a batch system of several hosts: definitions over plain states, and their
+//! laws.
 //! `docs/rules.md` says them in words, table by table.
 #![tactic(auto)]
 

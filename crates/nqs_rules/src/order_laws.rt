@@ -13,7 +13,8 @@ ghost use Rattle.nqs_rules.specs.Sane.{is_sane_change, is_sane_event};
 ghost use Rattle.nqs_rules.specs.Start.{start};
 ghost use Rattle.nqs_rules.specs.Step.{step};
 
-/// A host of a site of 1 to 16 hosts is in order as it is formatted, with what besides holds at every moment.
+/// A host of a site of 1 to 16 hosts is in order as it is formatted, with what besides holds at
+/// every moment.
 pub fn formatted_is_in_order()
     ensures order { (me : HostId) (site : List (List ℕ)) → me.0 < length site → length site ≤ 16 → IsInOrder (formatted {E = Extent} me site) }
     ensures consistent { (me : HostId) (site : List (List ℕ)) → IsConsistent (formatted {E = Extent} me site) }
@@ -26,12 +27,15 @@ pub fn order_is_kept()
 
 /// What besides holds of a host at every moment stays so under each change that fits.
 pub fn consistent_is_kept()
-    ensures { (c : Change Extent) (s : State Extent) → IsInOrder s → IsConsistent s → IsTrue (is_sane_change c) → IsTrue (fits c s) → IsConsistent (applied c s) }
+    ensures { (c : Change Extent) (s : State Extent) → IsInOrder s → IsConsistent s → IsTrue (is_sane_change c) → IsTrue (fits c s)
+        → IsConsistent (applied c s) }
 {}
 
-/// Whatever change a step makes at a host in order fits the host, and is within its limits, where the event is within its own.
+/// Whatever change a step makes at a host in order fits the host, and is within its limits, where
+/// the event is within its own.
 pub fn step_fits()
-    ensures { (e : Event) (s : State Extent) → IsInOrder s → IsTrue (is_sane_event (length s.site) e) → IfSome (step e s).change (λ c. IsTrue (fits c s) × IsTrue (is_sane_change c)) }
+    ensures { (e : Event) (s : State Extent) → IsInOrder s → IsTrue (is_sane_event (length s.site) e)
+        → IfSome (step e s).change (λ c. IsTrue (fits c s) × IsTrue (is_sane_change c)) }
 {}
 
 /// Whatever change a start makes of a host in order fits the host, and is within its limits.

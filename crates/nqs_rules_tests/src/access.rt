@@ -7,7 +7,8 @@ use nqs_values::{ListOf, Memory, Name};
 use std::alloc::Global;
 use std::test::Fail;
 
-// Whether the queue is enabled and whether only pipe queues lead to it, a user with the way that is taken, and the answer.
+// Whether the queue is enabled and whether only pipe queues lead to it, a user with the way that is
+// taken, and the answer.
 type Case = (bool, bool, Name, Entry, Result<(), Refusal>);
 
 fn answer(def: &mut QueueDef, case: &Case) -> Result<(), Refusal> {

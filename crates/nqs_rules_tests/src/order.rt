@@ -1,4 +1,5 @@
-//! Which request starts next: by priority and arrival, and beside one that is held and one that is on its way.
+//! Which request starts next: by priority and arrival, and beside one that is held and one that is
+//! on its way.
 
 use nqs_builders::{add, host, queue, row};
 use nqs_keyed::Table;
@@ -69,7 +70,8 @@ fn two_stuck(alloc: Global, rows: &mut Table<RequestId, Row>) -> Result<(), Memo
     add(rows, ranked(alloc, low(), 1, 4))
 }
 
-// The choices of a second before any request may start and of that second, and the first of each of two queues.
+// The choices of a second before any request may start and of that second, and the first of each of
+// two queues.
 type Answers = ([Option<Choice>; 2], [Option<usize>; 2]);
 
 fn of_four(alloc: Global, state: &mut HostState) -> Result<Answers, Memory> {

@@ -5,3 +5,4 @@ pub mod Playing
 pub mod Complete
 pub mod Asked
 pub mod Rests
+pub mod Changes

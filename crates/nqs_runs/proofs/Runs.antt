@@ -28,19 +28,25 @@ run_world (a ∷ acts) more w = run_world acts more (happens a w).world
 run_seen : (acts more : List Act) (w : Network) → (run (acts ++ more) w).seen ≡ (run acts w).seen ++ (run more (run acts w).world).seen
 run_seen [] more w = refl
 run_seen (a ∷ acts) more w =
-    ap (λ (l : List Seen). (happens a w).seen ++ l) (run_seen acts more (happens a w).world) ∙ sym (append_assoc (happens a w).seen (run acts (happens a w).world).seen (run more (run acts (happens a w).world).world).seen)
+    ap (λ (l : List Seen). (happens a w).seen ++ l) (run_seen acts more (happens a w).world)
+    ∙ sym (append_assoc (happens a w).seen (run acts (happens a w).world).seen (run more (run acts (happens a w).world).world).seen)
 
 ran_split : (site : List (List ℕ)) (before more : List WorldEvent) → ran site (before ++ more) ≡ run (map act_of before ++ map act_of more) (new_world site)
 ran_split site before more = ap (λ (acts : List Act). run acts (new_world site)) (map-append act_of before more)
 
-pub ran_world : (site : List (List ℕ)) (before : List WorldEvent) (event : WorldEvent) → (ran site (before ++ event ∷ [])).world ≡ (happens (act_of event) (ran site before).world).world
-ran_world site before event = ap (λ (r : Ran). r.world) (ran_split site before (event ∷ [])) ∙ run_world (map act_of before) (act_of event ∷ []) (new_world site)
+pub ran_world : (site : List (List ℕ)) (before : List WorldEvent) (event : WorldEvent)
+    → (ran site (before ++ event ∷ [])).world ≡ (happens (act_of event) (ran site before).world).world
+ran_world site before event = ap (λ (r : Ran). r.world) (ran_split site before (event ∷ []))
+    ∙ run_world (map act_of before) (act_of event ∷ []) (new_world site)
 
-seen_after : (site : List (List ℕ)) (before more : List WorldEvent) → (ran site (before ++ more)).seen ≡ (ran site before).seen ++ (run (map act_of more) (ran site before).world).seen
+seen_after : (site : List (List ℕ)) (before more : List WorldEvent) → (ran site (before ++ more)).seen
+    ≡ (ran site before).seen ++ (run (map act_of more) (ran site before).world).seen
 seen_after site before more = ap (λ (r : Ran). r.seen) (ran_split site before more) ∙ run_seen (map act_of before) (map act_of more) (new_world site)
 
-pub ran_seen : (site : List (List ℕ)) (before : List WorldEvent) (event : WorldEvent) → (ran site (before ++ event ∷ [])).seen ≡ (ran site before).seen ++ (happens (act_of event) (ran site before).world).seen
-ran_seen site before event = seen_after site before (event ∷ []) ∙ ap (λ (l : List Seen). (ran site before).seen ++ l) (append-nil (happens (act_of event) (ran site before).world).seen)
+pub ran_seen : (site : List (List ℕ)) (before : List WorldEvent) (event : WorldEvent)
+    → (ran site (before ++ event ∷ [])).seen ≡ (ran site before).seen ++ (happens (act_of event) (ran site before).world).seen
+ran_seen site before event = seen_after site before (event ∷ []) ∙ ap (λ (l : List Seen). (ran site before).seen ++ l)
+    (append-nil (happens (act_of event) (ran site before).world).seen)
 
 -- the transcript of what was seen before and then
 pub told_more : (site : List (List ℕ)) (before seen : List Seen) → transcript site (before ++ seen) ≡ transcript site before ++ transcript site seen
@@ -50,8 +56,11 @@ told_more site before seen = flat_map-append (seen_text site) before seen
 pub begins_before : (site : List (List ℕ)) (events : List WorldEvent) (i : ℕ) → BeginsWith (text_of false site events) (text_of false site (take i events))
 begins_before site events i =
     let before = take i events in
-    let more = (run (map act_of (drop i events)) (ran site before).world).seen in
-    (transcript site more, ap (text_of false site) (sym (take-append-drop i events)) ∙ ap (transcript site) (seen_after site before (drop i events)) ∙ told_more site (ran site before).seen more)
+    let more = (run (map act_of (drop i events)) (ran site before).world).seen in (
+      transcript site more,
+      ap (text_of false site) (sym (take-append-drop i events)) ∙ ap (transcript site) (seen_after site before (drop i events))
+          ∙ told_more site (ran site before).seen more,
+    )
 
 -- nothing counted
 pub summed_none : (s : Summary) → summary_of s [] ≡ s
@@ -72,30 +81,43 @@ both false b h = absurd cc
 -- the events before a place are sane too
 pub sane_before : (events : List WorldEvent) (i : ℕ) → list_all is_sane_line events ≡ true → list_all is_sane_line (take i events) ≡ true
 sane_before events i sane =
-    (both (list_all is_sane_line (take i events)) (list_all is_sane_line (drop i events)) (sym (list_all-append is_sane_line (take i events) (drop i events)) ∙ ap (list_all is_sane_line) (take-append-drop i events) ∙ sane)).0
+    (both (list_all is_sane_line (take i events)) (list_all is_sane_line (drop i events))
+    (sym (list_all-append is_sane_line (take i events) (drop i events)) ∙ ap (list_all is_sane_line) (take-append-drop i events) ∙ sane)).0
 
 -- a world that took an event, with what was seen of it
-pub goes_on : {E : Type 0} (site : List (List ℕ)) (before : List WorldEvent) (event : WorldEvent) (world : World) (old seen : List Seen) (r : Result (Unit {0}) E)
-    → OnOk r (IsWorld world (happens (act_of event) (ran site before).world).world) → OnOk r (seen ≡ old ++ (happens (act_of event) (ran site before).world).seen) → old ≡ [] → OnOk r (GoesOn site before event world seen)
-goes_on site before event world old seen (Ok done) is told none =
-    (subst (IsWorld world) (sym (ran_world site before event)) is, ran_seen site before event ∙ ap (λ (l : List Seen). (ran site before).seen ++ l) (sym (told ∙ ap (λ (l : List Seen). l ++ (happens (act_of event) (ran site before).world).seen) none)))
+pub goes_on : {E : Type 0} (site : List (List ℕ)) (before : List WorldEvent) (event : WorldEvent) (world : World) (old seen : List Seen)
+    (r : Result (Unit {0}) E)
+    → OnOk r (IsWorld world (happens (act_of event) (ran site before).world).world)
+    → OnOk r (seen ≡ old ++ (happens (act_of event) (ran site before).world).seen) → old ≡ [] → OnOk r (GoesOn site before event world seen)
+goes_on site before event world old seen (Ok done) is told none = (
+  subst (IsWorld world) (sym (ran_world site before event)) is,
+  ran_seen site before event
+      ∙ ap (λ (l : List Seen). (ran site before).seen ++ l) (sym (told ∙ ap
+      (λ (l : List Seen). l ++ (happens (act_of event) (ran site before).world).seen) none)),
+)
 goes_on site before event world old seen (Err e) is told none = tt
 
 -- and what that adds to the transcript
-pub tells : (site : List (List ℕ)) (before : List WorldEvent) (event : WorldEvent) (world : World) (seen : List Seen) (text : List ℕ) → GoesOn site before event world seen → text ≡ transcript site seen → Tells site before event world text
+pub tells : (site : List (List ℕ)) (before : List WorldEvent) (event : WorldEvent) (world : World) (seen : List Seen) (text : List ℕ)
+    → GoesOn site before event world seen → text ≡ transcript site seen → Tells site before event world text
 tells site before event world seen text on is =
     (on.0, ap (transcript site) on.1 ∙ told_more site (ran site before).seen seen ∙ ap (λ (l : List ℕ). transcript site (ran site before).seen ++ l) (sym is))
 
 -- the transcript of the events up to a place, and what the one there adds
-pub told_there : (site : List (List ℕ)) (before after : List WorldEvent) (event : WorldEvent) (world : World) (text piece : List ℕ) → after ≡ before ++ event ∷ [] → Tells site before event world text → piece ≡ text → text_of false site after ≡ text_of false site before ++ piece
+pub told_there : (site : List (List ℕ)) (before after : List WorldEvent) (event : WorldEvent) (world : World) (text piece : List ℕ)
+    → after ≡ before ++ event ∷ [] → Tells site before event world text → piece ≡ text → text_of false site after ≡ text_of false site before ++ piece
 told_there site before after event world text piece more told is =
     ap (text_of false site) more ∙ told.1 ∙ ap (λ (l : List ℕ). text_of false site before ++ l) (sym is)
 
 -- the world after the events up to a place
-pub world_there : (site : List (List ℕ)) (before after : List WorldEvent) (event : WorldEvent) (world : World) → after ≡ before ++ event ∷ [] → IsWorld world (ran site (before ++ event ∷ [])).world → IsWorld world (ran site after).world
+pub world_there : (site : List (List ℕ)) (before after : List WorldEvent) (event : WorldEvent) (world : World) → after ≡ before ++ event ∷ []
+    → IsWorld world (ran site (before ++ event ∷ [])).world → IsWorld world (ran site after).world
 world_there site before after event world more is = subst (λ (events : List WorldEvent). IsWorld world (ran site events).world) (sym more) is
 
 -- the counts after the events up to a place
-pub counted_there : (site : List (List ℕ)) (before after : List WorldEvent) (event : WorldEvent) (world : World) (seen : List Seen) (old : Summary) → after ≡ before ++ event ∷ [] → GoesOn site before event world seen → old ≡ summary_of nothing_seen (ran site before).seen → summary_of old seen ≡ summary_of nothing_seen (ran site after).seen
+pub counted_there : (site : List (List ℕ)) (before after : List WorldEvent) (event : WorldEvent) (world : World) (seen : List Seen) (old : Summary)
+    → after ≡ before ++ event ∷ [] → GoesOn site before event world seen → old ≡ summary_of nothing_seen (ran site before).seen
+    → summary_of old seen ≡ summary_of nothing_seen (ran site after).seen
 counted_there site before after event world seen old more on is =
-    ap (λ (s : Summary). summary_of s seen) is ∙ sym (summed_more nothing_seen (ran site before).seen seen) ∙ ap (summary_of nothing_seen) (sym on.1) ∙ ap (λ (events : List WorldEvent). summary_of nothing_seen (ran site events).seen) (sym more)
+    ap (λ (s : Summary). summary_of s seen) is ∙ sym (summed_more nothing_seen (ran site before).seen seen) ∙ ap (summary_of nothing_seen) (sym on.1)
+    ∙ ap (λ (events : List WorldEvent). summary_of nothing_seen (ran site events).seen) (sym more)

@@ -34,13 +34,17 @@ WritesNothing sink = Appends sink.old sink.new []
 
 -- what comes of an input that was read whole
 abbrev pub Plays : Bool → List ℕ → Sunk → Left → Left → Status → Type 0
-Plays summary input sink old new status.Done = (state : State) × IsSchedule input state × Appends sink.old sink.new (text_of summary state.site state.events) × AddsDisks (ran state.site state.events).world old new
-Plays summary input sink old new status.BadSchedule = (number : ℕ) × (cause : Cause) × IsFirstBad input number cause × Appends sink.old sink.new (bad_line_text number cause) × (new ≡ old)
+Plays summary input sink old new status.Done = (state : State) × IsSchedule input state × Appends sink.old sink.new (text_of summary state.site state.events)
+    × AddsDisks (ran state.site state.events).world old new
+Plays summary input sink old new status.BadSchedule = (number : ℕ) × (cause : Cause) × IsFirstBad input number cause
+    × Appends sink.old sink.new (bad_line_text number cause) × (new ≡ old)
 Plays summary input sink old new status.WriteFault = SinkFailed sink × WritesFrontOf summary input sink × (new ≡ old)
-Plays summary input sink old new status.Memory = (WritesNothing sink ⊎ WritesFrontOf summary input sink) × (new ≡ old)
+Plays summary input sink old new (status.Memory want) = (WritesNothing sink ⊎ WritesFrontOf summary input sink) × (new ≡ old)
+Plays summary input sink old new (status.DiskFull full) = WritesFrontOf summary input sink × (new ≡ old)
 Plays summary input sink old new status.BadWords = ⊥
 Plays summary input sink old new status.ReadFault = ⊥
 Plays summary input sink old new status.TooLong = ⊥
+Plays summary input sink old new (status.Unparsed refused) = ⊥
 
 -- what a source has left and its count of faults, before and after
 pub record Drained : Type 0 where
@@ -76,12 +80,16 @@ EndsRead summary source sink old new status.TooLong = ReadsTooMuch source × IsU
 EndsRead summary source sink old new status.Done = (input : List ℕ) × Reads source input × Plays summary input sink old new status.Done
 EndsRead summary source sink old new status.BadSchedule = (input : List ℕ) × Reads source input × Plays summary input sink old new status.BadSchedule
 EndsRead summary source sink old new status.WriteFault = (input : List ℕ) × Reads source input × Plays summary input sink old new status.WriteFault
-EndsRead summary source sink old new status.Memory = IsUntouched sink old new ⊎ ((input : List ℕ) × Reads source input × Plays summary input sink old new status.Memory)
+EndsRead summary source sink old new (status.Memory want) = IsUntouched sink old new
+    ⊎ ((input : List ℕ) × Reads source input × Plays summary input sink old new (status.Memory want))
+EndsRead summary source sink old new (status.DiskFull full) = (input : List ℕ) × Reads source input × Plays summary input sink old new (status.DiskFull full)
 EndsRead summary source sink old new status.BadWords = ⊥
+EndsRead summary source sink old new (status.Unparsed refused) = ⊥
 
 -- how a run of a generated schedule ends; the source is left unread
 abbrev pub EndsGenerated : Bool → Generation → Drained → Sunk → Left → Left → Status → Type 0
-EndsGenerated summary g source sink old new result = IsUnread source × Runs summary (generated_site g.hosts) (generated g.seed g.hosts g.events) sink old new result
+EndsGenerated summary g source sink old new result = IsUnread source × Runs summary (generated_site g.hosts)
+    (generated g.seed g.hosts g.events) sink old new result
 
 -- by what is asked
 abbrev pub EndsBy : Bool → Option Generation → Drained → Sunk → Left → Left → Status → Type 0
@@ -95,7 +103,9 @@ EndsAsked words source sink old new result = (ask : Ask) × (asked words ≡ Som
 -- how the program ends, with what it has read and written
 abbrev pub Ends : List (List ℕ) → Drained → Sunk → Left → Left → Status → Type 0
 Ends words source sink old new status.BadWords = (asked words ≡ None) × IsUnread source × IsUntouched sink old new
-Ends words source sink old new status.Memory = (IsUnread source × IsUntouched sink old new) ⊎ EndsAsked words source sink old new status.Memory
+Ends words source sink old new (status.Unparsed refused) = IsUnread source × IsUntouched sink old new
+Ends words source sink old new (status.Memory want) = (IsUnread source × IsUntouched sink old new) ⊎ EndsAsked words source sink old new (status.Memory want)
+Ends words source sink old new (status.DiskFull full) = EndsAsked words source sink old new (status.DiskFull full)
 Ends words source sink old new status.Done = EndsAsked words source sink old new status.Done
 Ends words source sink old new status.BadSchedule = EndsAsked words source sink old new status.BadSchedule
 Ends words source sink old new status.ReadFault = EndsAsked words source sink old new status.ReadFault
@@ -104,13 +114,26 @@ Ends words source sink old new status.TooLong = EndsAsked words source sink old 
 
 -- a schedule that isn't too long is there, and the source did not fail
 abbrev pub IsReadable : Drained → Type 0
-IsReadable source = (input : List ℕ) × (state : State) × (source.old ≡ Some input) × (length input ≤ 16777216) × IsSchedule input state × (Rose source.faults_before source.faults_now → ⊥)
+IsReadable source = (input : List ℕ) × (state : State) × (source.old ≡ Some input) × (length input ≤ 16777216) × IsSchedule input state
+    × (Rose source.faults_before source.faults_now → ⊥)
 
 abbrev pub HasSchedule : Option Generation → Drained → Type 0
 HasSchedule None source = IsReadable source
 HasSchedule (Some g) source = Unit {0}
 
--- with words in form, a schedule, and no fault, the program is done, or memory ran out
+-- memory ran out, or a disk of a host would have had too many bytes
+abbrev pub IsLacking : Status → Type 0
+IsLacking (status.Memory want) = Unit {0}
+IsLacking (status.DiskFull full) = Unit {0}
+IsLacking (status.Unparsed refused) = Unit {0}
+IsLacking status.Done = ⊥
+IsLacking status.BadWords = ⊥
+IsLacking status.BadSchedule = ⊥
+IsLacking status.ReadFault = ⊥
+IsLacking status.WriteFault = ⊥
+IsLacking status.TooLong = ⊥
+
+-- with words in form, a schedule, and no fault, the program is done, or something was lacking
 abbrev pub IsComplete : List (List ℕ) → Drained → Sunk → Status → Type 0
 IsComplete words source sink result =
-    (ask : Ask) → asked words ≡ Some ask → HasSchedule ask.generation source → (SinkFailed sink → ⊥) → (result ≡ status.Done) ⊎ (result ≡ status.Memory)
+    (ask : Ask) → asked words ≡ Some ask → HasSchedule ask.generation source → (SinkFailed sink → ⊥) → (result ≡ status.Done) ⊎ IsLacking result

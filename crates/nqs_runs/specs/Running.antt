@@ -42,11 +42,13 @@ AddsDisks network old new = (disks : List (Disks MemDisk)) × (new ≡ old ++ di
 abbrev pub Runs : Bool → List (List ℕ) → List WorldEvent → Sunk → List (Disks MemDisk) → List (Disks MemDisk) → Status → Type 0
 Runs summary site events sink old new status.Done = Appends sink.old sink.new (text_of summary site events) × AddsDisks (ran site events).world old new
 Runs summary site events sink old new status.WriteFault = SinkFailed sink × WritesFront sink (text_of summary site events) × (new ≡ old)
-Runs summary site events sink old new status.Memory = WritesFront sink (text_of summary site events) × (new ≡ old)
+Runs summary site events sink old new (status.Memory want) = WritesFront sink (text_of summary site events) × (new ≡ old)
+Runs summary site events sink old new (status.DiskFull full) = WritesFront sink (text_of summary site events) × (new ≡ old)
 Runs summary site events sink old new status.BadSchedule = ⊥
 Runs summary site events sink old new status.BadWords = ⊥
 Runs summary site events sink old new status.ReadFault = ⊥
 Runs summary site events sink old new status.TooLong = ⊥
+Runs summary site events sink old new (status.Unparsed refused) = ⊥
 
 abbrev pub cause_text : Cause → List ℕ
 cause_text cause.Unended = codes "unended"
@@ -70,8 +72,10 @@ bad_line_text number why = codes "bad line " ++ decimal number ++ codes ": " ++ 
 abbrev pub Reports : ℕ → Cause → Sunk → Status → Type 0
 Reports line why sink status.BadSchedule = Appends sink.old sink.new (bad_line_text line why)
 Reports line why sink status.WriteFault = SinkFailed sink × WritesFront sink (bad_line_text line why)
-Reports line why sink status.Memory = Appends sink.old sink.new []
+Reports line why sink (status.Memory want) = Appends sink.old sink.new []
 Reports line why sink status.Done = ⊥
 Reports line why sink status.BadWords = ⊥
 Reports line why sink status.ReadFault = ⊥
 Reports line why sink status.TooLong = ⊥
+Reports line why sink (status.DiskFull full) = ⊥
+Reports line why sink (status.Unparsed refused) = ⊥

@@ -5,6 +5,8 @@ use Rattle.std.specs.declared.result.Result.{Result}
 use Rattle.clap.specs.Words.{App, Rule, Text, Kinds, new_app, new_rule, with_rule, fault_of, matches_of, first_of, first_value}
 use Rattle.clap.specs.Simple.{on_top}
 use Rattle.clap.specs.declared.builder.action.ArgAction.TheVariants.{Set, SetTrue}
+use Rattle.clap.specs.declared.error.kind.ErrorKind.{ErrorKind}
+use Rattle.clap.specs.declared.error.kind.ErrorKind.TheVariants as kind
 use Rattle.clap.specs.declared.parser.matches.Found.{Found}
 use Rattle.nqs_words.specs.Values.{number_of}
 use Rattle.nqs_runs.specs.declared.words.Generation.{Generation}
@@ -70,7 +72,14 @@ asked words = without_fault (fault_of replay_app words)
 abbrev pub ReadsWords : List Text → Result Ask WordsStop → Type 0
 ReadsWords words (Ok ask) = asked words ≡ Some ask
 ReadsWords words (Err stop.BadWords) = asked words ≡ None
-ReadsWords words (Err stop.Memory) = Unit {0}
+ReadsWords words (Err (stop.Memory want)) = Unit {0}
+ReadsWords words (Err (stop.Unparsed refused)) = Unit {0}
+
+-- what an error of this kind says of the words
+abbrev pub StopsBy : ErrorKind → WordsStop → Type 0
+StopsBy k stop.BadWords = k ≡ kind.OutOfMemory → ⊥
+StopsBy k (stop.Memory want) = ⊥
+StopsBy k (stop.Unparsed refused) = k ≡ kind.OutOfMemory
 
 abbrev pub asked_by : Found → Option Ask
 asked_by f = asked_of (first_value f (codes "summary")) (first_value f (codes "generate")) (first_value f (codes "hosts")) (first_value f (codes "events"))
@@ -79,7 +88,8 @@ asked_by f = asked_of (first_value f (codes "summary")) (first_value f (codes "g
 abbrev pub GivenBy : Found → Result Ask WordsStop → Type 0
 GivenBy f (Ok ask) = asked_by f ≡ Some ask
 GivenBy f (Err stop.BadWords) = asked_by f ≡ None
-GivenBy f (Err stop.Memory) = ⊥
+GivenBy f (Err (stop.Memory want)) = ⊥
+GivenBy f (Err (stop.Unparsed refused)) = ⊥
 
 -- so many hosts as a site has
 abbrev pub IsWithin : Option Generation → Type 0

@@ -6,6 +6,8 @@ use Rattle.std.specs.List.{list_all}
 use Rattle.std.specs.Io.KnownBytes.{Appends}
 use Rattle.nqs_types.specs.declared.world.Seen.{Seen}
 use Rattle.nqs_types.specs.declared.world.WorldEvent.{WorldEvent}
+use Rattle.nqs_disk.specs.declared.lack.Lack.{Lack}
+use Rattle.nqs_disk.specs.declared.lack.Lack.TheVariants as lack
 use Rattle.nqs_disk.specs.declared.mem_disk.MemDisk.{MemDisk}
 use Rattle.nqs_rules.specs.World.{World as Network}
 use Rattle.nqs_rules.specs.Transcript.{transcript}
@@ -35,14 +37,21 @@ Tells site before event world text =
     IsWorld world (ran site (before ++ event ∷ [])).world
     × (transcript site (ran site (before ++ event ∷ [])).seen ≡ transcript site (ran site before).seen ++ text)
 
+-- what a network lacked is why its run was not brought to its end
+abbrev pub stop_of : Lack → RunStop
+stop_of (lack.Memory want) = stop.Memory want
+stop_of (lack.Full full) = stop.Full full
+
 -- the whole text was written, and the world stands for the network; or a front of the text was written
 abbrev pub Writes : List ℕ → Network → Sunk → Result World RunStop → Type 0
 Writes text network sink (Ok world) = Appends sink.old sink.new text × IsWorld world network
 Writes text network sink (Err stop.Sink) = SinkFailed sink × WritesFront sink text
-Writes text network sink (Err stop.Memory) = WritesFront sink text
+Writes text network sink (Err (stop.Memory want)) = WritesFront sink text
+Writes text network sink (Err (stop.Full full)) = WritesFront sink text
 
 -- the same of the disks that are left
 abbrev pub Leaves : List ℕ → Network → Sunk → Result (Vec (Disks MemDisk)) RunStop → Type 0
 Leaves text network sink (Ok disks) = Appends sink.old sink.new text × AreLeft disks.items network.hosts
 Leaves text network sink (Err stop.Sink) = SinkFailed sink × WritesFront sink text
-Leaves text network sink (Err stop.Memory) = WritesFront sink text
+Leaves text network sink (Err (stop.Memory want)) = WritesFront sink text
+Leaves text network sink (Err (stop.Full full)) = WritesFront sink text

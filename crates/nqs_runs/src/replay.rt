@@ -44,10 +44,11 @@ fn play_events<K: Sink>(
     match run(alloc, summary, site, events, out) {
         Ok(mut disks) => match left.append(&mut disks) {
             Ok(()) => Status::Done,
-            Err(_) => Status::Memory,
+            Err(refused) => Status::Memory(refused.into()),
         },
         Err(RunStop::Sink) => Status::WriteFault,
-        Err(RunStop::Memory) => Status::Memory,
+        Err(RunStop::Memory(memory)) => Status::Memory(memory),
+        Err(RunStop::Full(full)) => Status::DiskFull(full),
     }
 }
 
@@ -73,7 +74,7 @@ fn play<K: Sink>(
             left,
         ),
         Err(ScheduleFault::Bad(fault)) => report(alloc, fault, out),
-        Err(ScheduleFault::Memory) => Status::Memory,
+        Err(ScheduleFault::Memory(memory)) => Status::Memory(memory),
     }
 }
 
@@ -85,13 +86,14 @@ fn play_read<S: Source, K: Sink>(
     out: &mut K,
     left: &mut Vec<Disks<MemDisk>>,
 ) -> Status
-    ensures { EndsRead summary (drained S.left S.faults schedule.old schedule.new) (sunk K.taken K.faults K.stalls out.old out.new) left.old.items left.new.items result }
+    ensures { EndsRead summary (drained S.left S.faults schedule.old schedule.new)
+        (sunk K.taken K.faults K.stalls out.old out.new) left.old.items left.new.items result }
 {
     match read_whole(alloc, schedule, MAX_SCHEDULE) {
         Ok(input) => play(alloc, summary, &input, out, left),
         Err(ReadStop::Fault) => Status::ReadFault,
         Err(ReadStop::TooLong) => Status::TooLong,
-        Err(ReadStop::Memory) => Status::Memory,
+        Err(ReadStop::Memory(memory)) => Status::Memory(memory),
     }
 }
 
@@ -105,7 +107,8 @@ fn play_generated<K: Sink>(
 ) -> Status
     requires some { 1 ≤ generation.hosts }
     requires few { generation.hosts ≤ 16 }
-    ensures { Runs summary (generated_site generation.hosts) (generated generation.seed generation.hosts generation.events) (sunk K.taken K.faults K.stalls out.old out.new) left.old.items left.new.items result }
+    ensures { Runs summary (generated_site generation.hosts) (generated generation.seed generation.hosts generation.events)
+        (sunk K.taken K.faults K.stalls out.old out.new) left.old.items left.new.items result }
 {
     generated_schedules_are_sane();
     sites_are_right();
@@ -118,7 +121,7 @@ fn play_generated<K: Sink>(
             out,
             left,
         ),
-        Err(_) => Status::Memory,
+        Err(memory) => Status::Memory(memory),
     }
 }
 
@@ -131,7 +134,8 @@ fn play_asked<S: Source, K: Sink>(
     left: &mut Vec<Disks<MemDisk>>,
 ) -> Status
     requires { IsWithin ask.generation }
-    ensures { EndsBy ask.summary ask.generation (drained S.left S.faults schedule.old schedule.new) (sunk K.taken K.faults K.stalls out.old out.new) left.old.items left.new.items result }
+    ensures { EndsBy ask.summary ask.generation (drained S.left S.faults schedule.old schedule.new)
+        (sunk K.taken K.faults K.stalls out.old out.new) left.old.items left.new.items result }
 {
     match ask.generation {
         None => play_read(alloc, ask.summary, schedule, out, left),
@@ -146,20 +150,24 @@ fn run_program<S: Source, K: Sink>(
     out: &mut K,
     left: &mut Vec<Disks<MemDisk>>,
 ) -> Status
-    ensures { Ends (map (λ s. string_bytes s) words.now) (drained S.left S.faults schedule.old schedule.new) (sunk K.taken K.faults K.stalls out.old out.new) left.old.items left.new.items result }
+    ensures { Ends (map (λ s. string_bytes s) words.now) (drained S.left S.faults schedule.old schedule.new)
+        (sunk K.taken K.faults K.stalls out.old out.new) left.old.items left.new.items result }
 {
     match read_words(alloc, words) {
         Ok(ask) => play_asked(alloc, ask, schedule, out, left),
         Err(WordsStop::BadWords) => Status::BadWords,
-        Err(WordsStop::Memory) => Status::Memory,
+        Err(WordsStop::Memory(memory)) => Status::Memory(memory),
+        Err(WordsStop::Unparsed(refused)) => Status::Unparsed(refused),
     }
 }
 
-/// Does all that the program does, but for making the real source and sink. The words are without the program's
-/// name. At `Done` the disks of each host are added to `left`, in the order of the site; else it stays as it was.
+/// Does all that the program does, but for making the real source and sink. The words are without
+/// the program's name. At `Done` the disks of each host are added to `left`, in the order of the
+/// site; else it stays as it was.
 ///
-/// Whatever images these disks may leave tell the last states of the hosts. Their calls are those that kept each change
-/// since the host was new or last stopped, and at each moment of them the images told the state before or after it.
+/// Whatever images these disks may leave tell the last states of the hosts. Their calls are those
+/// that kept each change since the host was new or last stopped, and at each moment of them the
+/// images told the state before or after it.
 pub fn replay<S: Source, K: Sink>(
     alloc: Global,
     words: &[String],
@@ -167,8 +175,10 @@ pub fn replay<S: Source, K: Sink>(
     out: &mut K,
     left: &mut Vec<Disks<MemDisk>>,
 ) -> Status
-    ensures end { Ends (map (λ s. string_bytes s) words.now) (drained S.left S.faults schedule.old schedule.new) (sunk K.taken K.faults K.stalls out.old out.new) left.old.items left.new.items result }
-    ensures complete { IsComplete (map (λ s. string_bytes s) words.now) (drained S.left S.faults schedule.old schedule.new) (sunk K.taken K.faults K.stalls out.old out.new) result }
+    ensures end { Ends (map (λ s. string_bytes s) words.now) (drained S.left S.faults schedule.old schedule.new)
+        (sunk K.taken K.faults K.stalls out.old out.new) left.old.items left.new.items result }
+    ensures complete { IsComplete (map (λ s. string_bytes s) words.now) (drained S.left S.faults schedule.old schedule.new)
+        (sunk K.taken K.faults K.stalls out.old out.new) result }
     ensures laws { HoldAlways (map (λ s. string_bytes s) words.now) (drained S.left S.faults schedule.old schedule.new) }
 {
     runs_keep_the_laws();

@@ -46,11 +46,11 @@ pub fn report<K: Sink>(alloc: Global, fault: LineFault, out: &mut K) -> Status
     ensures { Reports fault.line fault.cause (sunk K.taken K.faults K.stalls out.old out.new) result }
 {
     let mut text = Vec::new(alloc);
-    let Ok(()) = put_bad_line(alloc, fault.line, fault.cause, &mut text) else {
-        return Status::Memory;
-    };
-    match write_whole(out, &text) {
-        Ok(()) => Status::BadSchedule,
-        Err(_) => Status::WriteFault,
+    match put_bad_line(alloc, fault.line, fault.cause, &mut text) {
+        Err(memory) => Status::Memory(memory),
+        Ok(()) => match write_whole(out, &text) {
+            Ok(()) => Status::BadSchedule,
+            Err(_) => Status::WriteFault,
+        },
     }
 }

@@ -1,6 +1,6 @@
-//! Runs the events of a site on a new world. The transcript is written event by event, each before the next one
-//! happens, through one buffer that is cleared, so memory doesn't grow with it. A summary is counted as things are
-//! seen, and written at last.
+//! Runs the events of a site on a new world. The transcript is written event by event, each before
+//! the next one happens, through one buffer that is cleared, so memory doesn't grow with it. A
+//! summary is counted as things are seen, and written at last.
 
 ghost use Rattle.std.specs.Prelude.{◌≡◌, ◌++◌, List, ℕ, true, false, IsTrue, IfOk, OnOk};
 ghost use Rattle.std.specs.List.{list_all};
@@ -12,9 +12,10 @@ ghost use Rattle.nqs_schedule.specs.Summary.{nothing_seen, summary_of};
 ghost use Rattle.nqs_net.specs.Worlds.{IsWorld};
 ghost use Rattle.nqs_runs.specs.Sunk.{sunk};
 ghost use Rattle.nqs_runs.specs.Running.{ran, text_of, summary_after};
-ghost use Rattle.nqs_runs.specs.Writing.{HasRun, GoesOn, Tells, Writes, Leaves};
+ghost use Rattle.nqs_runs.specs.Writing.{HasRun, GoesOn, Tells, Writes, Leaves, stop_of};
+ghost use Rattle.nqs_values.specs.Want.{want};
 
-use nqs_disk::MemDisk;
+use nqs_disk::{Full, Lack, MemDisk};
 use nqs_laws::runs::hosts_stay_in_order;
 use nqs_lines::laws::acts_are_sane;
 use nqs_net::World;
@@ -26,12 +27,14 @@ use nqs_values::{Memory, Name};
 use std::alloc::Global;
 
 /// Why a run was not brought to its end.
-#[derive(Clone, Copy)]
+#[derive(Drop)]
 pub enum RunStop {
     /// The sink failed, or took nothing of a piece.
     Sink,
     /// Memory ran out.
-    Memory,
+    Memory(Memory),
+    /// A disk of a host would have more than 2^40 bytes.
+    Full(Full),
 }
 
 impl From<Failed> for RunStop {
@@ -49,10 +52,21 @@ impl From<Memory> for RunStop {
     ghost use Rattle.std.specs.Prelude.{◌≡◌};
     ghost use Rattle.nqs_runs.specs.declared.run.RunStop.TheVariants.{Memory};
 
-    ghost from_gives = { λ _ e. e ≡ Memory };
+    ghost from_gives = { λ _ e. e ≡ Memory want };
 
-    fn from(_: Memory) -> RunStop {
-        RunStop::Memory
+    fn from(memory: Memory) -> RunStop {
+        RunStop::Memory(memory)
+    }
+}
+
+impl From<Lack> for RunStop {
+    ghost from_gives = { λ lack e. e ≡ stop_of lack };
+
+    fn from(lack: Lack) -> RunStop {
+        match lack {
+            Lack::Memory(memory) => RunStop::Memory(memory),
+            Lack::Full(full) => RunStop::Full(full),
+        }
     }
 }
 
@@ -62,10 +76,11 @@ fn happen(
     world: &mut World,
     event: &WorldEvent,
     seen: &mut Vec<Seen>,
-) -> Result<(), Memory>
+) -> Result<(), Lack>
     requires sane { IsTrue (is_sane_line event.now) }
     requires sound { (site : List (List ℕ)) × (before : List WorldEvent) × HasRun site before world.old }
-    ensures { (site : List (List ℕ)) (before : List WorldEvent) → HasRun site before world.old → OnOk result (GoesOn site before event.now world.new seen.new.items) }
+    ensures { (site : List (List ℕ)) (before : List WorldEvent) → HasRun site before world.old
+        → OnOk result (GoesOn site before event.now world.new seen.new.items) }
 {
     acts_are_sane();
     hosts_stay_in_order();
@@ -92,7 +107,7 @@ fn tell(
     event: &WorldEvent,
     seen: &mut Vec<Seen>,
     text: &mut Vec<u8>,
-) -> Result<(), Memory>
+) -> Result<(), Lack>
     requires sane { IsTrue (is_sane_line event.now) }
     requires sound { (before : List WorldEvent) × HasRun site.now before world.old }
     ensures { (before : List WorldEvent) → HasRun site.now before world.old → OnOk result (Tells site.now before event.now world.new text.new.items) }
@@ -137,7 +152,7 @@ fn count_events(
     alloc: Global,
     site: &[Name],
     events: &[WorldEvent],
-) -> Result<(World, Summary), Memory>
+) -> Result<(World, Summary), Lack>
     requires site { IsSite site.now }
     requires sane { list_all is_sane_line events.now ≡ true }
     ensures { IfOk result (λ end. IsWorld end.0 (ran site.now events.now).world × (end.1 ≡ summary_of nothing_seen (ran site.now events.now).seen)) }
@@ -153,15 +168,13 @@ fn count_events(
 }
 
 // Runs the events. The text is their summary.
-fn summarize(
-    alloc: Global,
-    site: &[Name],
-    events: &[WorldEvent],
-) -> Result<(World, Vec<u8>), Memory>
+fn summarize(alloc: Global, site: &[Name], events: &[WorldEvent]) -> Result<(World, Vec<u8>), Lack>
     requires site { IsSite site.now }
     requires sane { list_all is_sane_line events.now ≡ true }
     ensures { IfOk result (λ end. IsWorld end.0 (ran site.now events.now).world × (end.1.items ≡ text_of true site.now events.now)) }
 {
+    acts_are_sane();
+    hosts_stay_in_order();
     let (mut world, summary) = count_events(alloc, site, events)?;
     let rows = world.table(alloc)?;
     let mut text = Vec::new(alloc);
@@ -209,9 +222,10 @@ fn run_world<K: Sink>(
     }
 }
 
-/// Runs the events of a site on a new world, and writes their transcript, or their summary. The disks are those of
-/// the hosts as the run leaves them. After an `Err` a front of the text is written, which after `Memory` may be the
-/// whole of it.
+/// Runs the events of a site on a new world, and writes their transcript, or their summary. The
+/// disks are those of the hosts as the run leaves them. After an `Err` a front of the text is
+/// written, which after `Memory` may be the whole of it. `Full` comes of a write of a disk of a
+/// host, past its greatest length.
 pub fn run<K: Sink>(
     alloc: Global,
     summary: bool,
@@ -226,7 +240,7 @@ pub fn run<K: Sink>(
     match run_world(alloc, summary, site, events, out) {
         Ok(world) => match world.close(alloc) {
             Ok(disks) => Ok(disks),
-            Err(Memory) => Err(RunStop::Memory),
+            Err(memory) => Err(RunStop::Memory(memory)),
         },
         Err(stop) => Err(stop),
     }

@@ -1,10 +1,15 @@
 //! How a run of the program ends.
 
+use crate::words::Unparsed;
+use nqs_disk::Full;
+use nqs_values::Memory;
+
 /// How a run of the program ends. Each status has a number, with which the program exits.
 ///
 /// They are decided in this order: words, reading, length, schedule, writing. `Memory` may come at
-/// any place. The text is the transcript of the run, or its summary; disks are left at `Done` alone.
-#[derive(Clone, Copy, PartialEq, Eq)]
+/// any place, and `DiskFull` in a run. The text is the transcript of the run, or its summary; disks
+/// are left at `Done` alone.
+#[derive(PartialEq, Eq, Drop)]
 pub enum Status {
     /// The schedule was read to its end, or generated, and run, and the whole text was written.
     Done,
@@ -17,9 +22,14 @@ pub enum Status {
     /// The sink failed, or took nothing of a piece. A front of the text was written.
     WriteFault,
     /// Memory ran out. A front of the text was written.
-    Memory,
-    /// The schedule has more than 16,777,216 bytes. One more than that were read, and nothing was written.
+    Memory(Memory),
+    /// The schedule has more than 16,777,216 bytes. One more than that were read, and nothing was
+    /// written.
     TooLong,
+    /// A disk of a host would have more than 2^40 bytes. A front of the text was written.
+    DiskFull(Full),
+    /// Memory ran out while the words were read. Nothing was read or written.
+    Unparsed(Unparsed),
 }
 
 impl Status {
@@ -36,8 +46,10 @@ impl Status {
             Status::BadSchedule => 3,
             Status::ReadFault => 4,
             Status::WriteFault => 5,
-            Status::Memory => 6,
+            Status::Memory(_) => 6,
             Status::TooLong => 7,
+            Status::DiskFull(_) => 8,
+            Status::Unparsed(_) => 6,
         }
     }
 }

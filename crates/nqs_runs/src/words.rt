@@ -1,13 +1,15 @@
-//! The words of the command line, which `clap` reads: `--summary`, and `--generate SEED --hosts N --events M`, the three
-//! options all there or none of them. specs/Words.antt says what they ask for.
+//! The words of the command line, which `clap` reads: `--summary`, and `--generate SEED --hosts N
+//! --events M`, the three options all there or none of them. specs/Words.antt says what they ask
+//! for.
 
 ghost use Rattle.std.specs.Prelude.{◌≡◌, IfOk, map, false, option_map, string_bytes};
-ghost use Rattle.clap.specs.Words.{app_of, rule_of, found_of};
+ghost use Rattle.clap.specs.Words.{app_of, rule_of, found_of, kind_of};
 ghost use Rattle.nqs_words.specs.Values.{number_of};
-ghost use Rattle.nqs_runs.specs.Words.{bare_app, replay_app, option_rule, flag_rule, generated, generation_of, is_true, asked_of, ReadsWords, GivenBy};
+ghost use Rattle.nqs_runs.specs.Words.{bare_app, replay_app, option_rule, flag_rule, generated, generation_of, is_true, asked_of, ReadsWords, StopsBy, GivenBy};
 
 use clap::error::ErrorKind;
-use clap::{Arg, ArgAction, ArgMatches, Command};
+use clap::{Arg, ArgAction, ArgMatches, Command, Error};
+use nqs_values::Memory;
 use nqs_words::number_of;
 use std::alloc::{AllocError, Global};
 
@@ -30,11 +32,18 @@ pub struct Ask {
     pub generation: Option<Generation>,
 }
 
+/// `clap` was refused an allocation while it read the words: made of an error of `clap` that says so, and of nothing else.
+#[derive(PartialEq, Eq, Drop)]
+pub struct Unparsed {
+    refused: (),
+}
+
 /// Why the words ask for nothing.
-#[derive(Clone, Copy)]
+#[derive(Drop)]
 pub enum WordsStop {
     BadWords,
-    Memory,
+    Memory(Memory),
+    Unparsed(Unparsed),
 }
 
 fn option<'a>(alloc: Global, name: &'a str) -> Arg<'a>
@@ -117,7 +126,8 @@ fn asked_of(
     hosts: Option<&str>,
     events: Option<&str>,
 ) -> Option<Ask>
-    ensures { result ≡ asked_of (option_map (λ s. s.now) summary.entry) (option_map (λ s. s.now) seed.entry) (option_map (λ s. s.now) hosts.entry) (option_map (λ s. s.now) events.entry) }
+    ensures { result ≡ asked_of (option_map (λ s. s.now) summary.entry) (option_map (λ s. s.now) seed.entry) (option_map (λ s. s.now) hosts.entry)
+        (option_map (λ s. s.now) events.entry) }
 {
     match generation_of(seed, hosts, events) {
         Some(generation) => Some(Ask {
@@ -143,19 +153,25 @@ fn given_by(matches: &ArgMatches) -> Result<Ask, WordsStop>
     }
 }
 
+// What an error of `clap` says of the words.
+fn stop_of(error: &Error) -> WordsStop
+    ensures { StopsBy (kind_of error.now) result }
+{
+    match error.kind() {
+        ErrorKind::OutOfMemory => WordsStop::Unparsed(Unparsed { refused: () }),
+        _ => WordsStop::BadWords,
+    }
+}
+
 /// What the words ask for, or that they are in no form.
 pub fn read_words(alloc: Global, words: &[String]) -> Result<Ask, WordsStop>
     ensures { ReadsWords (map (λ s. string_bytes s) words.now) result }
 {
-    let Ok(command) = command(alloc) else {
-        return Err(WordsStop::Memory);
-    };
-    match command.try_get_matches_from(words) {
-        Ok(matches) => given_by(&matches),
-        Err(e) => Err(if e.kind() == ErrorKind::OutOfMemory {
-            WordsStop::Memory
-        } else {
-            WordsStop::BadWords
-        }),
+    match command(alloc) {
+        Err(refused) => Err(WordsStop::Memory(refused.into())),
+        Ok(command) => match command.try_get_matches_from(words) {
+            Ok(matches) => given_by(&matches),
+            Err(error) => Err(stop_of(&error)),
+        },
     }
 }

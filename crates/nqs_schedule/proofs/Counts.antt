@@ -5,7 +5,8 @@ use Rattle.nqs_types.specs.declared.world.Seen.{Seen}
 use Rattle.nqs_schedule.specs.declared.summary.Summary.{Summary}
 use Rattle.nqs_schedule.specs.Summary.{counted, summary_of}
 
-pub count_more : (xs : List Seen) (i : ℕ) (x : Seen) (s t all : Summary) → i < length xs → x ≡ get_or xs i x → t ≡ counted s x → summary_of s (drop i xs) ≡ all → summary_of t (drop (i + 1) xs) ≡ all
+pub count_more : (xs : List Seen) (i : ℕ) (x : Seen) (s t all : Summary) → i < length xs → x ≡ get_or xs i x → t ≡ counted s x → summary_of s (drop i xs) ≡ all
+    → summary_of t (drop (i + 1) xs) ≡ all
 unfolding summary_of
 count_more xs i x s t all less is counts before =
     let first : drop i xs ≡ x ∷ drop (i + 1) xs = drop_more xs i x less ∙ ap (λ (y : Seen). y ∷ drop (i + 1) xs) (sym is) in

@@ -1,5 +1,6 @@
 -- What one word is read as.
-use Rattle.std.proofs.Common.{◌≡◌, ◌≢◌, ◌⊎◌, inl, inr, ℕ, ◌+◌, ◌<◌, List, ◌++◌, take, drop, get_or, refl, ap, sym, subst, ◌∙◌, Some, None, Option, Result, Ok, Err, Bool, true, false, cond, arith, nat_lt, take-append-drop}
+use Rattle.std.proofs.Common.{◌≡◌, ◌≢◌, ◌⊎◌, inl, inr, ℕ, ◌+◌, ◌<◌, List, ◌++◌, take, drop, get_or, refl, ap, sym, subst, ◌∙◌, Some, None, Option, Result, Ok}
+use Rattle.std.proofs.Common.{Err, Bool, true, false, cond, arith, nat_lt, take-append-drop}
 use Rattle.std.specs.Prelude.{codes}
 use Rattle.std.specs.List.{position}
 use Rattle.std.proofs.lemmas.Bool.Decides.{nat_tests}
@@ -19,7 +20,8 @@ use Rattle.nqs_schedule.specs.declared.cause.Cause.{Cause}
 use Rattle.nqs_schedule.specs.declared.cause.Cause.TheVariants as cause
 use Rattle.nqs_schedule.specs.Words.{Read, ◌>>=◌, or_cause, as_host, host_of, or_bad_request, disk_of, mixed_of, tear_of}
 use Rattle.nqs_schedule.specs.Forms.{last_number}
-use Rattle.nqs_schedule.specs.Spelled.{IsNone, IsNameWord, NoName, IsNumber, NoNumber, IsPlace, NoPlace, IsHost, NoHost, IsId, NoId, disk_text, IsDisk, NoDisk, IsMixed, IsTear, NoTear}
+use Rattle.nqs_schedule.specs.Spelled.{IsNone, IsNameWord, NoName, IsNumber, NoNumber, IsPlace, NoPlace, IsHost, NoHost, IsId, NoId, disk_text, IsDisk, NoDisk}
+use Rattle.nqs_schedule.specs.Spelled.{IsMixed, IsTear, NoTear}
 use Rattle.nqs_schedule.proofs.Readings.{Reads, given, refused, apart, reads-Ok, reads-Err, reads-bind, reads-map, reads-one, reads-cause, reads-same}
 
 pub reads-name : (word : List ℕ) → Reads (or_cause (name_of word) cause.BadName) (IsNameWord word) (NoName word)
@@ -65,7 +67,8 @@ reads-place site n = reads-one (as_host (position (name_eq n) site)) (IsPlace si
     (unplaced (position (name_eq n) site))
 
 pub reads-host : (site : List (List ℕ)) (word : List ℕ) → Reads (or_cause (name_of word) cause.BadName >>= host_of site) (IsHost site word) (NoHost site word)
-reads-host site word = reads-bind (or_cause (name_of word) cause.BadName) (host_of site) (IsNameWord word) (NoName word) (IsPlace site) (NoPlace site) (reads-name word) (reads-place site)
+reads-host site word = reads-bind (or_cause (name_of word) cause.BadName) (host_of site) (IsNameWord word) (NoName word) (IsPlace site) (NoPlace site)
+    (reads-name word) (reads-place site)
 
 -- ---- requests
 
@@ -83,8 +86,10 @@ reads-request word = reads-one (or_bad_request (named_of word)) (IsRequest word)
     (no_request (named_of word))
 
 pub reads-id : (site : List (List ℕ)) (word : List ℕ)
-    → Reads (or_bad_request (named_of word) >>= (λ named. host_of site named.host >>= (λ h. Ok (record { seq = named.seq; host = h })))) (IsId site word) (NoId site word)
-reads-id site word = reads-bind (or_bad_request (named_of word)) f (IsRequest word) (IsNone (IsRequest word) cause.BadRequest) Q (λ named why. NoPlace site named.host why) (reads-request word)
+    → Reads (or_bad_request (named_of word) >>= (λ named. host_of site named.host >>= (λ h. Ok (record { seq = named.seq; host = h })))) (IsId site word)
+    (NoId site word)
+reads-id site word = reads-bind (or_bad_request (named_of word)) f (IsRequest word) (IsNone (IsRequest word) cause.BadRequest) Q
+    (λ named why. NoPlace site named.host why) (reads-request word)
     (λ named. reads-map (host_of site named.host) (made named) (IsPlace site named.host) (NoPlace site named.host) (reads-place site named.host))
   where
     made : Named → HostId → RequestId
@@ -98,7 +103,8 @@ reads-id site word = reads-bind (or_bad_request (named_of word)) f (IsRequest wo
 
 -- ---- disks
 
-pub pick : {V : Type 0} (P : V → List ℕ) (c word : List ℕ) (x v : V) (o : Option V) → P x ≡ c → cond (name_eq c word) (Some x) o ≡ Some v → (o ≡ Some v → word ≡ P v) → word ≡ P v
+pub pick : {V : Type 0} (P : V → List ℕ) (c word : List ℕ) (x v : V) (o : Option V) → P x ≡ c → cond (name_eq c word) (Some x) o ≡ Some v
+    → (o ≡ Some v → word ≡ P v) → word ≡ P v
 pick {V} P c word x v o here e others = by (name_eq c word) refl e
   where
     same : ◌≡◌ {A = Option V} (Some x) (Some v) → x ≡ v
@@ -189,8 +195,10 @@ reads-mixed : (digits : List ℕ) → Reads (tear_of (codes "mixed:" ++ digits))
 reads-mixed digits =
     let word = codes "mixed:" ++ digits in
     subst (λ (m : Read Tear). Reads m (IsTear word) (NoTear word)) (sym (tear-mixed digits))
-    (reads-same (number_tear digits) (λ t. (n : ℕ) × IsNumber 0 last_number digits n × (t ≡ tear.Mixed n)) (IsTear word) (NoNumber 0 last_number digits) (NoTear word)
-    (reads-map (or_cause (number_of 0 last_number digits) cause.BadNumber) (λ (n : ℕ). tear.Mixed n) (IsNumber 0 last_number digits) (NoNumber 0 last_number digits) (reads-number 0 last_number digits))
+    (reads-same (number_tear digits) (λ t. (n : ℕ) × IsNumber 0 last_number digits n × (t ≡ tear.Mixed n)) (IsTear word) (NoNumber 0 last_number digits)
+    (NoTear word)
+    (reads-map (or_cause (number_of 0 last_number digits) cause.BadNumber) (λ (n : ℕ). tear.Mixed n) (IsNumber 0 last_number digits)
+    (NoNumber 0 last_number digits) (reads-number 0 last_number digits))
     (λ t. ((λ h. subst (IsTear word) (sym h.2) (digits, refl, h.1)), mixed-tear digits t)) (λ why. ((λ h. inl (digits, refl, h)), no-mixed-tear digits why)))
 
 -- none of the three
@@ -231,7 +239,8 @@ other-why word why h (inr m) = m.3
 reads-other : (word : List ℕ) → IsOther word → Reads (tear_of word) (IsTear word) (NoTear word)
 reads-other word h =
     subst (λ (m : Read Tear). Reads m (IsTear word) (NoTear word)) (sym (other-tear word h))
-    (reads-same {A = Tear} (Err cause.UnknownWord) (λ t. ⊥) (IsTear word) (λ why. why ≡ cause.UnknownWord) (NoTear word) (reads-Err {A = Tear} cause.UnknownWord)
+    (reads-same {A = Tear} (Err cause.UnknownWord) (λ t. ⊥) (IsTear word) (λ why. why ≡ cause.UnknownWord) (NoTear word)
+    (reads-Err {A = Tear} cause.UnknownWord)
     (λ t. ((λ x. absurd x), (λ e. other-is word t h e))) (λ why. ((λ e. inr (h.0, h.1, h.2, e)), other-why word why h)))
 
 -- which of the four a word is
@@ -245,7 +254,8 @@ reads-tear word = by (name_eq (codes "old") word) (name_eq (codes "new") word) (
     unlike c w is same e = let no_way : name_eq c c ≡ false = subst (λ (x : List ℕ). name_eq c x ≡ false) e is in cc
 
     unmixed : name_eq (codes "mixed:") (take 6 word) ≡ false → (digits : List ℕ) → IsMixed word digits → ⊥
-    unmixed is digits e = let no_way : name_eq (codes "mixed:") (take 6 (codes "mixed:" ++ digits)) ≡ false = subst (λ (x : List ℕ). name_eq (codes "mixed:") (take 6 x) ≡ false) e is in cc
+    unmixed is digits e = let no_way : name_eq (codes "mixed:") (take 6 (codes "mixed:" ++ digits)) ≡ false =
+        subst (λ (x : List ℕ). name_eq (codes "mixed:") (take 6 x) ≡ false) e is in cc
 
     by : (t u v : Bool) → name_eq (codes "old") word ≡ t → name_eq (codes "new") word ≡ u → name_eq (codes "mixed:") (take 6 word) ≡ v → Goal word
     by true u v p q r = subst Goal (name_exact (codes "old") word p) reads-old

@@ -44,7 +44,8 @@ one_why r x y a b = let same : ◌≡◌ {A = Read Says} (Err x) (Err y) = sym a
 no_feed : (l x rest : List ℕ) → rest ≡ ended l ++ x → IsLine rest → ⊥
 no_feed l x rest split is =
     let whole : rest ≡ l ++ 10 ∷ x = split ∙ append_assoc l (10 ∷ []) x in
-    is (length l) 0 (omega (arith, ap length whole, length-append l (10 ∷ x))) (ap (λ (r : List ℕ). get_or r (length l) 0) whole ∙ get_or_at l 10 x 0 (length l) refl)
+    is (length l) 0 (omega (arith, ap length whole, length-append l (10 ∷ x)))
+    (ap (λ (r : List ℕ). get_or r (length l) 0) whole ∙ get_or_at l 10 x 0 (length l) refl)
 
 not_empty : (l x rest : List ℕ) → rest ≡ ended l ++ x → rest ≡ [] → ⊥
 not_empty l x rest split none = absurd (omega (arith, ap length (sym none ∙ split), length-append (ended l) x, length-append l (10 ∷ [])))
@@ -60,7 +61,8 @@ no_line s l x rest says is good split (inr (why, inl bad)) =
     never (line_says s.site s.is_open l) says why good (ap (line_says s.site s.is_open) parts.0 ∙ bad.4)
 no_line s l x rest says is good split (inr (why, inr last)) = no_feed l x rest split last.2
 
-same_front : (s : State) (ls ms : List (List ℕ)) (t u : State) (r q : List ℕ) → AreLines ls → AreLines ms → lines_say s ls ≡ Ok t → lines_say s ms ≡ Ok u → IsEnd t r → IsEnd u q
+same_front : (s : State) (ls ms : List (List ℕ)) (t u : State) (r q : List ℕ) → AreLines ls → AreLines ms → lines_say s ls ≡ Ok t → lines_say s ms ≡ Ok u
+    → IsEnd t r → IsEnd u q
     → flat_map ended ls ++ r ≡ flat_map ended ms ++ q → (ls ≡ ms) × (t ≡ u) × (r ≡ q)
 unfolding lines_say
 same_front s [] [] t u r q h k a b x y e = (refl, one_state t u (sym a ∙ b), e)
@@ -73,7 +75,8 @@ same_front s (l ∷ ls) [] t u r q h k a b x y e =
     let at : IsEnd s q = subst (λ (z : State). IsEnd z q) (sym (one_state s u b)) y in
     absurd (no_line s l (flat_map ended ls ++ r) q d.0 h.0 d.1 (sym e ∙ append_assoc (ended l) (flat_map ended ls) r) at)
 same_front s (l ∷ ls) (m ∷ ms) t u r q h k a b x y e =
-    let parts = line_parts l m (flat_map ended ls ++ r) (flat_map ended ms ++ q) h.0 k.0 (sym (append_assoc (ended l) (flat_map ended ls) r) ∙ e ∙ append_assoc (ended m) (flat_map ended ms) q) in
+    let parts = line_parts l m (flat_map ended ls ++ r) (flat_map ended ms ++ q) h.0 k.0
+    (sym (append_assoc (ended l) (flat_map ended ls) r) ∙ e ∙ append_assoc (ended m) (flat_map ended ms) q) in
     let c = step (line_says s.site s.is_open l) (λ w. lines_say (after s w) ls) t a in
     let d = step (line_says s.site s.is_open m) (λ w. lines_say (after s w) ms) u b in
     let said = one_said (line_says s.site s.is_open l) c.0 d.0 c.1 (ap (line_says s.site s.is_open) parts.0 ∙ d.1) in
@@ -81,7 +84,8 @@ same_front s (l ∷ ls) (m ∷ ms) t u r q h k a b x y e =
     let others = same_front (after s c.0) ls ms t u r q h.1 k.1 c.2 goes x y parts.1 in
     (cc (parts.0, others.0), others.1, others.2)
 
-same_bytes : (bytes : List ℕ) (ls ms : List (List ℕ)) (t u : State) (r q : List ℕ) → Front bytes ls t r → Front bytes ms u q → IsEnd t r → IsEnd u q → (ls ≡ ms) × (t ≡ u) × (r ≡ q)
+same_bytes : (bytes : List ℕ) (ls ms : List (List ℕ)) (t u : State) (r q : List ℕ) → Front bytes ls t r → Front bytes ms u q → IsEnd t r → IsEnd u q
+    → (ls ≡ ms) × (t ≡ u) × (r ≡ q)
 same_bytes bytes ls ms t u r q f g x y = same_front start ls ms t u r q f.whole g.whole f.say g.say x y (sym f.split ∙ g.split)
 
 pub one_schedule : (bytes : List ℕ) (one other : State) → IsSchedule bytes one → IsSchedule bytes other → one ≡ other
@@ -104,7 +108,8 @@ one_cause s rest c d (inl a) (inr b) = absurd (no_feed a.0 a.1 rest a.2 b.2)
 one_cause s rest c d (inr a) (inl b) = absurd (no_feed b.0 b.1 rest b.2 a.2)
 one_cause s rest c d (inr a) (inr b) = a.0 ∙ sym b.0
 
-pub one_fault : (bytes : List ℕ) (one other : ℕ) (why because : Cause) → IsFirstBad bytes one why → IsFirstBad bytes other because → (one ≡ other) × (why ≡ because)
+pub one_fault : (bytes : List ℕ) (one other : ℕ) (why because : Cause) → IsFirstBad bytes one why → IsFirstBad bytes other because
+    → (one ≡ other) × (why ≡ because)
 one_fault bytes one other why because a b =
     let same = same_bytes bytes a.0 b.0 a.1 b.1 a.2 b.2 a.3 b.3 (inr (why, a.4)) (inr (because, b.4)) in
     let there : BeginsBad b.1 b.2 why = subst (λ (r : List ℕ). BeginsBad b.1 r why) same.2 (subst (λ (z : State). BeginsBad z a.2 why) same.1 a.4) in

@@ -1,5 +1,6 @@
 -- Quoted words are written and read in one way.
-use Rattle.std.proofs.Common.{◌≡◌, ℕ, zero, suc, ◌+◌, ◌<◌, ◌≤◌, List, [], ◌∷◌, ◌++◌, length, drop, flat_map, Some, None, Bool, true, false, cond, ◌==◌, refl, ap, sym, ◌∙◌, append_assoc, arith}
+use Rattle.std.proofs.Common.{◌≡◌, ℕ, zero, suc, ◌+◌, ◌<◌, ◌≤◌, List, [], ◌∷◌, ◌++◌, length, drop, flat_map, Some, None, Bool, true, false, cond, ◌==◌, refl}
+use Rattle.std.proofs.Common.{ap, sym, ◌∙◌, append_assoc, arith}
 use Rattle.std.proofs.lemmas.Bool.{eqb-true}
 use Rattle.std.proofs.lemmas.List.{length-append, drop_at}
 use Rattle.nqs_words.specs.Quoted.{Quoted, after, by_step, escape_of, step_of, quoted, escaped, quoted_text}
@@ -12,7 +13,8 @@ use Rattle.nqs_schedule.specs.Laws.{QuotedReadsBack, ReadWasQuoted}
 written : Bool → Bool → Bool → ℕ → List ℕ
 written t u v b = cond t (92 ∷ 110 ∷ []) (cond u (92 ∷ 34 ∷ []) (cond v (92 ∷ 92 ∷ []) (b ∷ [])))
 
-step_written : (t u v : Bool) (b : ℕ) (more : List ℕ) → (b == 10) ≡ t → (b == 34) ≡ u → (b == 92) ≡ v → step_of (written t u v b ++ more) ≡ Byte b (length (written t u v b))
+step_written : (t u v : Bool) (b : ℕ) (more : List ℕ) → (b == 10) ≡ t → (b == 34) ≡ u → (b == 92) ≡ v
+    → step_of (written t u v b ++ more) ≡ Byte b (length (written t u v b))
 unfolding written step_of
 step_written true u v b more p q r = ap (λ (x : ℕ). Byte x 2) (sym (eqb-true b 10 p))
 step_written false true v b more p q r = ap (λ (x : ℕ). Byte x 2) (sym (eqb-true b 34 q))
@@ -47,7 +49,8 @@ back (suc n) (b ∷ word) rest less =
     let others = quoted_text word ++ rest in
     let split : quoted_text (b ∷ word) ++ rest ≡ escaped b ++ others = in_front b word rest in
     let there : drop (length (escaped b)) (escaped b ++ others) ≡ others = drop_at (escaped b) others (length (escaped b)) refl in
-    ap (quoted (suc n)) split ∙ (ap (λ (s : Step). by_step (escaped b ++ others) s (quoted n)) (step_escaped b others) ∙ (ap (λ (l : List ℕ). after (b ∷ []) (quoted n l)) there ∙ ap (after (b ∷ [])) (back n word rest (omega arith))))
+    ap (quoted (suc n)) split ∙ (ap (λ (s : Step). by_step (escaped b ++ others) s (quoted n)) (step_escaped b others)
+    ∙ (ap (λ (l : List ℕ). after (b ∷ []) (quoted n l)) there ∙ ap (after (b ∷ [])) (back n word rest (omega arith))))
 
 text_long : (word : List ℕ) → length word < length (quoted_text word)
 text_long word = by word
@@ -73,7 +76,8 @@ unfolding SaysStep
 escape_says b [] is = tt
 escape_says b (c ∷ cs) is = by (c == 110) (c == 34) (c == 92) refl refl refl
   where
-    by : (t u v : Bool) → (c == 110) ≡ t → (c == 34) ≡ u → (c == 92) ≡ v → SaysStep (b ∷ c ∷ cs) (cond t (Byte 10 2) (cond u (Byte 34 2) (cond v (Byte 92 2) Bad)))
+    by : (t u v : Bool) → (c == 110) ≡ t → (c == 34) ≡ u → (c == 92) ≡ v → SaysStep (b ∷ c ∷ cs)
+        (cond t (Byte 10 2) (cond u (Byte 34 2) (cond v (Byte 92 2) Bad)))
     by true u v p q r = λ j. is j ∷ eqb-true c 110 p j ∷ cs
     by false true v p q r = λ j. is j ∷ eqb-true c 34 q j ∷ cs
     by false false true p q r = λ j. is j ∷ eqb-true c 92 r j ∷ cs
@@ -111,7 +115,8 @@ unfolding quoted SaysStep
 parsed zero bytes word rest is e = cc
 parsed (suc n) bytes word rest is e = by (parsed n) (step_of bytes) (step_says bytes is) e
   where
-    joined : (b taken : ℕ) (q : Quoted) → ((w r : List ℕ) → q ≡ Some (w, r) → drop taken bytes ≡ quoted_text w ++ r) → bytes ≡ escaped b ++ drop taken bytes → after (b ∷ []) q ≡ Some (word, rest) → bytes ≡ quoted_text word ++ rest
+    joined : (b taken : ℕ) (q : Quoted) → ((w r : List ℕ) → q ≡ Some (w, r) → drop taken bytes ≡ quoted_text w ++ r) → bytes ≡ escaped b ++ drop taken bytes
+        → after (b ∷ []) q ≡ Some (word, rest) → bytes ≡ quoted_text word ++ rest
     joined b taken None others says h = cc
     joined b taken (Some p) others says h =
         let w : b ∷ p.0 ≡ word = ap word_in h in

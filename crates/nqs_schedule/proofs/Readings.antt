@@ -30,7 +30,11 @@ pub reads-Ok : {A : Type 0} (a : A) → Reads (Ok a) (λ (b : A). b ≡ a) (λ w
 reads-Ok {A} a = ((λ b. ((λ e. sym (given a b e)), (λ e. ap (λ (c : A). Ok c) (sym e)))), (λ why. ((λ e. apart a why e), (λ h. absurd h))))
 
 pub reads-Err : {A : Type 0} (x : Cause) → Reads {A = A} (Err x) (λ (b : A). ⊥) (λ why. why ≡ x)
-reads-Err {A} x = ((λ b. ((λ e. apart b x (sym e)), (λ h. absurd h))), (λ why. ((λ e. sym (refused {A = A} x why e)), (λ e. ap (λ (c : Cause). Err c) (sym e)))))
+reads-Err {A} x = (
+  (λ b. ((λ e. apart b x (sym e)), (λ h. absurd h))),
+  (λ why.
+      ((λ e. sym (refused {A = A} x why e)), (λ e. ap (λ (c : Cause). Err c) (sym e)))),
+)
 
 -- one reading behind another
 pub reads-bind : {A B : Type 0} (m : Read A) (f : A → Read B) (P : A → Type 0) (N : Cause → Type 0) (Q : A → B → Type 0) (M : A → Cause → Type 0)
@@ -52,7 +56,8 @@ reads-bind {A} {B} m f P N Q M hm hf = (
     back why (inr h) = let is = (hm.0 h.0).1 h.1 in let goes = ((hf h.0).1 why).1 h.2 in rw is goes
 
 -- what is given is made into another thing
-pub reads-map : {A B : Type 0} (m : Read A) (g : A → B) (P : A → Type 0) (N : Cause → Type 0) → Reads m P N → Reads (m >>= (λ a. Ok (g a))) (λ (b : B). (a : A) × P a × (b ≡ g a)) N
+pub reads-map : {A B : Type 0} (m : Read A) (g : A → B) (P : A → Type 0) (N : Cause → Type 0) → Reads m P N
+    → Reads (m >>= (λ a. Ok (g a))) (λ (b : B). (a : A) × P a × (b ≡ g a)) N
 reads-map {A} {B} m g P N hm = (
   (λ b. (
     (λ e. let t = bound m (λ a. Ok (g a)) b e in (t.0, (hm.0 t.0).0 t.1, sym (given (g t.0) b t.2))),
@@ -66,7 +71,8 @@ reads-map {A} {B} m g P N hm = (
     there why (inr t) = absurd (apart (g t.0) why t.2)
 
 -- a test, and then a thing that is known
-pub reads-then : {B : Type 0} (m : Read (Unit {0})) (d : B) (P : Type 0) (N : Cause → Type 0) → Reads m (λ u. P) N → Reads (m >>= (λ u. Ok d)) (λ (b : B). P × (b ≡ d)) N
+pub reads-then : {B : Type 0} (m : Read (Unit {0})) (d : B) (P : Type 0) (N : Cause → Type 0) → Reads m (λ u. P) N
+    → Reads (m >>= (λ u. Ok d)) (λ (b : B). P × (b ≡ d)) N
 reads-then {B} m d P N hm = (
   (λ b. (
     (λ e. let t = bound m (λ u. Ok d) b e in ((hm.0 t.0).0 t.1, sym (given d b t.2))),
@@ -80,7 +86,8 @@ reads-then {B} m d P N hm = (
     there why (inr t) = absurd (apart d why t.2)
 
 -- there is one cause to refuse
-pub reads-one : {A : Type 0} (m : Read A) (P : A → Type 0) (c : Cause) → ((a : A) → m ≡ Ok a ↔ P a) → ((why : Cause) → m ≡ Err why → why ≡ c) → Reads m P (IsNone P c)
+pub reads-one : {A : Type 0} (m : Read A) (P : A → Type 0) (c : Cause) → ((a : A) → m ≡ Ok a ↔ P a) → ((why : Cause) → m ≡ Err why → why ≡ c)
+    → Reads m P (IsNone P c)
 reads-one {A} m P c ok one = (ok, (λ why. ((λ e. ((λ a p. apart a why (sym ((ok a).1 p) ∙ e)), one why e)), (λ n. back why m refl n))))
   where
     back : (why : Cause) (r : Read A) → m ≡ r → IsNone P c why → m ≡ Err why
@@ -96,19 +103,23 @@ none-given (Some b) c why e = cc
 none-given None c why e = cc
 
 pub reads-cause : {A : Type 0} (o : Option A) (P : A → Type 0) (c : Cause) → ((a : A) → o ≡ Some a ↔ P a) → Reads (or_cause o c) P (IsNone P c)
-reads-cause {A} o P c some = reads-one (or_cause o c) P c (λ a. ((λ e. (some a).0 (some-given o c a e)), (λ p. let is = (some a).1 p in rw is refl))) (λ why e. none-given o c why e)
+reads-cause {A} o P c some = reads-one (or_cause o c) P c (λ a. ((λ e. (some a).0 (some-given o c a e)), (λ p. let is = (some a).1 p in rw is refl)))
+    (λ why e. none-given o c why e)
 
 -- the same said in other words
-pub reads-same : {A : Type 0} (m : Read A) (P Q : A → Type 0) (N M : Cause → Type 0) → Reads m P N → ((a : A) → P a ↔ Q a) → ((why : Cause) → N why ↔ M why) → Reads m Q M
+pub reads-same : {A : Type 0} (m : Read A) (P Q : A → Type 0) (N M : Cause → Type 0) → Reads m P N → ((a : A) → P a ↔ Q a) → ((why : Cause) → N why ↔ M why)
+    → Reads m Q M
 reads-same m P Q N M h p n = (
   (λ a. ((λ e. (p a).0 ((h.0 a).0 e)), (λ q. (h.0 a).1 ((p a).1 q)))),
   (λ why. ((λ e. (n why).0 ((h.1 why).0 e)), (λ k. (h.1 why).1 ((n why).1 k)))),
 )
 
 -- a test, and then a reading
-pub reads-after : {B : Type 0} (m : Read (Unit {0})) (r : Read B) (P : Type 0) (N : Cause → Type 0) (Q : B → Type 0) (M : Cause → Type 0) → Reads m (λ u. P) N → Reads r Q M
+pub reads-after : {B : Type 0} (m : Read (Unit {0})) (r : Read B) (P : Type 0) (N : Cause → Type 0) (Q : B → Type 0) (M : Cause → Type 0) → Reads m (λ u. P) N
+    → Reads r Q M
     → Reads (m >>= (λ u. r)) (λ (b : B). P × Q b) (λ why. N why ⊎ (P × M why))
-reads-after {B} m r P N Q M hm hr = reads-same (m >>= (λ u. r)) (λ b. (u : Unit {0}) × P × Q b) (λ b. P × Q b) (λ why. N why ⊎ ((u : Unit {0}) × P × M why)) (λ why. N why ⊎ (P × M why))
+reads-after {B} m r P N Q M hm hr = reads-same (m >>= (λ u. r)) (λ b. (u : Unit {0}) × P × Q b) (λ b. P × Q b) (λ why. N why ⊎ ((u : Unit {0}) × P × M why))
+    (λ why. N why ⊎ (P × M why))
     (reads-bind m (λ u. r) (λ u. P) N (λ u. Q) (λ u. M) hm (λ u. hr)) (λ b. ((λ h. (h.1, h.2)), (λ h. (tt, h.0, h.1)))) (λ why. (there why, back why))
   where
     there : (why : Cause) → N why ⊎ ((u : Unit {0}) × P × M why) → N why ⊎ (P × M why)

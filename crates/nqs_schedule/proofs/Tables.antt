@@ -17,12 +17,15 @@ fused site [] = refl
 fused site (r ∷ rs) = ap (λ (l : Text). line (table_line site r) ++ l) (fused site rs)
 
 pub table_put : (site : List Text) (rows : List TableRow) (i : ℕ) (out new : List ℕ) → length rows ≤ i
-    → new ≡ out ++ (line (words (codes "table" ∷ decimal (length rows) ∷ [])) ++ flat_map (row_line site) (take i rows)) → new ≡ out ++ seen_text site (seen.Table rows)
+    → new ≡ out ++ (line (words (codes "table" ∷ decimal (length rows) ∷ [])) ++ flat_map (row_line site) (take i rows))
+    → new ≡ out ++ seen_text site (seen.Table rows)
 table_put site rows i out new past so_far =
-    so_far ∙ ap (λ (l : Text). out ++ (line (words (codes "table" ∷ decimal (length rows) ∷ [])) ++ l)) (ap (flat_map (row_line site)) (take_all i rows past) ∙ fused site rows)
+    so_far ∙ ap (λ (l : Text). out ++ (line (words (codes "table" ∷ decimal (length rows) ∷ [])) ++ l))
+    (ap (flat_map (row_line site)) (take_all i rows past) ∙ fused site rows)
 
 -- what is seen in one line is that line with its end
-pub one_line : (site : List Text) (x : Seen) → ((r : Reply) → x ≡ seen.Reply r → ⊥) → ((rows : List TableRow) → x ≡ seen.Table rows → ⊥) → seen_text site x ≡ seen_line site x ++ 10 ∷ []
+pub one_line : (site : List Text) (x : Seen) → ((r : Reply) → x ≡ seen.Reply r → ⊥) → ((rows : List TableRow) → x ≡ seen.Table rows → ⊥)
+    → seen_text site x ≡ seen_line site x ++ 10 ∷ []
 one_line site (seen.Reply r) no_reply no_table = absurd (no_reply r refl)
 one_line site (seen.Table rows) no_reply no_table = absurd (no_table rows refl)
 one_line site (seen.Launch h id n) no_reply no_table = append-nil (seen_line site (seen.Launch h id n) ++ 10 ∷ [])

@@ -43,12 +43,15 @@ go n bytes lines state [] less front = whole bytes lines state [] front refl
 go zero bytes lines state (b ∷ bs) less front = absurd (omega (arith, less))
 go (suc n) bytes lines state (b ∷ bs) less front = by (go n bytes) (first_feed (b ∷ bs))
   where
-    said : ((lines : List (List ℕ)) (state : State) (rest : List ℕ) → length rest ≤ n → Front bytes lines state rest → SaidOrBad bytes) → (h : BeginsWithLine (b ∷ bs)) → (r : Read Says) → line_says state.site state.is_open h.0 ≡ r → SaidOrBad bytes
+    said : ((lines : List (List ℕ)) (state : State) (rest : List ℕ) → length rest ≤ n → Front bytes lines state rest → SaidOrBad bytes)
+        → (h : BeginsWithLine (b ∷ bs)) → (r : Read Says) → line_says state.site state.is_open h.0 ≡ r → SaidOrBad bytes
     said others h (Ok says) is =
-        others (lines ++ h.0 ∷ []) (after state says) h.1 (omega (arith, less, ap length h.2, length-append (ended h.0) h.1, length-append h.0 (10 ∷ []))) (Front-more bytes lines state (b ∷ bs) h.0 h.1 says front h.2 h.3 is)
+        others (lines ++ h.0 ∷ []) (after state says) h.1 (omega (arith, less, ap length h.2, length-append (ended h.0) h.1, length-append h.0 (10 ∷ [])))
+        (Front-more bytes lines state (b ∷ bs) h.0 h.1 says front h.2 h.3 is)
     said others h (Err why) is = inr (length lines + 1, why, (lines, state, b ∷ bs, front, inl (h.0, h.1, h.2, h.3, is), refl))
 
-    by : ((lines : List (List ℕ)) (state : State) (rest : List ℕ) → length rest ≤ n → Front bytes lines state rest → SaidOrBad bytes) → IsLine (b ∷ bs) ⊎ BeginsWithLine (b ∷ bs) → SaidOrBad bytes
+    by : ((lines : List (List ℕ)) (state : State) (rest : List ℕ) → length rest ≤ n → Front bytes lines state rest → SaidOrBad bytes)
+        → IsLine (b ∷ bs) ⊎ BeginsWithLine (b ∷ bs) → SaidOrBad bytes
     by others (inl h) = inr (length lines + 1, cause.Unended, (lines, state, b ∷ bs, front, inr (refl, (λ e. cc), h), refl))
     by others (inr h) = said others h (line_says state.site state.is_open h.0) refl
 

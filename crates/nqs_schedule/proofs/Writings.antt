@@ -1,5 +1,6 @@
 -- Lines are split into the words that are written in them.
-use Rattle.std.proofs.Common.{◌≡◌, ◌≢◌, ◌⊎◌, inl, inr, ℕ, zero, suc, ◌+◌, ◌-◌, ◌<◌, ◌≤◌, List, [], ◌∷◌, ◌++◌, length, take, drop, map, All, refl, ap, sym, subst, ◌∙◌, Some, None, Bool, true, false, cond, not, ◌==◌, arith, nat_lt, slice_range}
+use Rattle.std.proofs.Common.{◌≡◌, ◌≢◌, ◌⊎◌, inl, inr, ℕ, zero, suc, ◌+◌, ◌-◌, ◌<◌, ◌≤◌, List, [], ◌∷◌, ◌++◌, length, take, drop, map, All, refl, ap, sym}
+use Rattle.std.proofs.Common.{subst, ◌∙◌, Some, None, Bool, true, false, cond, not, ◌==◌, arith, nat_lt, slice_range}
 use Rattle.std.specs.List.{position_or_len}
 use Rattle.std.proofs.lemmas.Bool.{eqb-true}
 use Rattle.std.proofs.lemmas.Bool.Decides.{nat_tests}
@@ -107,7 +108,8 @@ is-over [] h = inl refl
 is-over (b ∷ bs) h = inr (bs, ap (λ (c : ℕ). c ∷ bs) (eqb-true b 32 h))
 
 -- where a plain word ends
-plain-end : (line : List ℕ) (start : ℕ) (text rest : List ℕ) → drop start line ≡ text ++ rest → All (λ b. b ≢ 32) text → EndsWord rest → end_of Spaces line start ≡ start + length text
+plain-end : (line : List ℕ) (start : ℕ) (text rest : List ℕ) → drop start line ≡ text ++ rest → All (λ b. b ≢ 32) text → EndsWord rest
+    → end_of Spaces line start ≡ start + length text
 unfolding end_of
 plain-end line start text rest is h (inl none) =
     let all : drop start line ≡ text = is ∙ (ap (λ (l : List ℕ). text ++ l) none ∙ append-nil text) in
@@ -150,7 +152,8 @@ quoted-word line start word rest is over =
 quote_first : (word rest : List ℕ) → begins_with_quote ((34 ∷ quoted_text word) ++ rest) ≡ true
 quote_first word rest = refl
 
-word-next : (line : List ℕ) (place : ℕ) (gap text word rest : List ℕ) → drop place line ≡ gap ++ (text ++ rest) → AreSpaces gap → Writes text word → EndsWord rest
+word-next : (line : List ℕ) (place : ℕ) (gap text word rest : List ℕ) → drop place line ≡ gap ++ (text ++ rest) → AreSpaces gap → Writes text word
+    → EndsWord rest
     → next_of line place ≡ Found (record { text = word; end = place + length gap + length text })
 unfolding word_there
 word-next line place gap text word rest is spaces (inl plain) over =
@@ -168,7 +171,11 @@ word-next line place gap text word rest is spaces (inr written) over =
     let there = dropped line place gap ((34 ∷ quoted_text word) ++ rest) all in
     let quote : begins_with_quote (drop start line) ≡ true = ap begins_with_quote there in
     next-start line place gap ((34 ∷ quoted_text word) ++ rest) all spaces (34, quoted_text word ++ rest, refl, (λ e. let h : 34 ≡ 32 = e in omega (arith, h)))
-    ∙ (ap (λ (t : Bool). cond t (quoted_word line start) (Found (record { text = slice_range line start (end_of Spaces line start); end = end_of Spaces line start }))) quote
+    ∙ (ap (λ (t : Bool). cond t (quoted_word line start) (Found (record {
+      text = slice_range line start (end_of Spaces line start);
+      end =
+          end_of Spaces line start;
+    }))) quote
     ∙ (quoted-word line start word rest there over ∙ (λ j. Found (record { text = word; end = start + length (sym written j) }))))
 
 bad-next : (line : List ℕ) (place : ℕ) → IsLine line → (h : BeginsBadly (drop place line)) → next_of line place ≡ BadQuote
@@ -179,13 +186,19 @@ bad-next line place is h =
     let quote : begins_with_quote (drop start line) ≡ true = ap begins_with_quote there in
     let next = behind line start h.rest there in
     next-start line place h.gap (34 ∷ h.rest) h.written h.spaces (34, h.rest, refl, (λ e. let x : 34 ≡ 32 = e in omega (arith, x)))
-    ∙ (ap (λ (t : Bool). cond t (quoted_word line start) (Found (record { text = slice_range line start (end_of Spaces line start); end = end_of Spaces line start }))) quote
+    ∙ (ap (λ (t : Bool). cond t (quoted_word line start) (Found (record {
+      text = slice_range line start (end_of Spaces line start);
+      end =
+          end_of Spaces line start;
+    }))) quote
     ∙ (ap (λ (l : List ℕ). by_quoted line (quoted (length l) l)) next ∙ by (quoted (length h.rest) h.rest) refl))
   where
     rest_is : IsLine h.rest
-    rest_is = subst IsLine (behind line (place + length h.gap) h.rest (dropped line place h.gap (34 ∷ h.rest) h.written)) (line-drop (place + length h.gap + 1) line is)
+    rest_is = subst IsLine (behind line (place + length h.gap) h.rest (dropped line place h.gap (34 ∷ h.rest) h.written))
+        (line-drop (place + length h.gap + 1) line is)
 
-    over : (p : List ℕ × List ℕ) (t : Bool) → is_over p.1 ≡ t → h.rest ≡ quoted_text p.0 ++ p.1 → cond t (Found (record { text = p.0; end = length line - length p.1 })) BadQuote ≡ BadQuote
+    over : (p : List ℕ × List ℕ) (t : Bool) → is_over p.1 ≡ t → h.rest ≡ quoted_text p.0 ++ p.1
+        → cond t (Found (record { text = p.0; end = length line - length p.1 })) BadQuote ≡ BadQuote
     over p true e was = absurd (h.unquoted p.0 p.1 was (is-over p.1 e))
     over p false e was = refl
 
@@ -215,7 +228,16 @@ held (suc n) line place (word ∷ words) bad is less h =
     let b = h.1 in
     let end = place + length b.gap + length b.text in
     let there = dropped line (place + length b.gap) b.text h.0 (dropped line place b.gap (b.text ++ h.0) b.written) in
-    let shorter : length (drop end line) ≤ n = omega (arith, less, ap length there, ap length b.written, length-append b.gap (b.text ++ h.0), length-append b.text h.0, some b.text word b.writes) in
+    let shorter : length (drop end line) ≤ n = omega (
+      arith,
+      less,
+      ap length there,
+      ap length b.written,
+      length-append b.gap
+          (b.text ++ h.0),
+      length-append b.text h.0,
+      some b.text word b.writes,
+    ) in
     let others = held n line end words bad is shorter (subst (λ (l : List ℕ). Holds l words bad) (sym there) h.2) in
     rw (word-next line place b.gap b.text word h.0 b.written b.spaces b.writes b.over) (ap (λ (l : List (List ℕ)). word ∷ l) others.0, others.1)
 
@@ -256,7 +278,8 @@ none_word : (rest : List ℕ) → quoted (length rest) rest ≡ None → (word m
 none_word rest none word more is over =
     let e : ◌≡◌ {A = Quoted} None (Some (word, more)) = sym none ∙ (ap (λ (l : List ℕ). quoted (length l) l) is ∙ reads_back word more) in cc
 
-other_word : (rest : List ℕ) (p : List ℕ × List ℕ) → quoted (length rest) rest ≡ Some p → is_over p.1 ≡ false → (word more : List ℕ) → rest ≡ quoted_text word ++ more → EndsWord more → ⊥
+other_word : (rest : List ℕ) (p : List ℕ × List ℕ) → quoted (length rest) rest ≡ Some p → is_over p.1 ≡ false → (word more : List ℕ)
+    → rest ≡ quoted_text word ++ more → EndsWord more → ⊥
 other_word rest p some_p not_over word more is over =
     let e : ◌≡◌ {A = Quoted} (Some p) (Some (word, more)) = sym some_p ∙ (ap (λ (l : List ℕ). quoted (length l) l) is ∙ reads_back word more) in
     let same : p ≡ (word, more) = cc in
@@ -271,7 +294,19 @@ at_quote bs is = by (quoted (length bs) bs) refl
     bad never = inr (inl (record { gap = []; rest = bs; written = refl; spaces = no_spaces; unquoted = never }))
 
     some_p : (p : List ℕ × List ℕ) (t : Bool) → quoted (length bs) bs ≡ Some p → is_over p.1 ≡ t → Begins (34 ∷ bs)
-    some_p p true e over = inr (inr (p.0, p.1, record { gap = []; text = 34 ∷ quoted_text p.0; written = ap (λ (l : List ℕ). 34 ∷ l) (was_quoted bs p.0 p.1 is e); spaces = no_spaces; writes = inr refl; over = is-over p.1 over }))
+    some_p p true e over = inr (inr (
+      p.0,
+      p.1,
+      record {
+        gap = [];
+        text = 34 ∷ quoted_text p.0;
+        written =
+            ap (λ (l : List ℕ). 34 ∷ l) (was_quoted bs p.0 p.1 is e);
+        spaces = no_spaces;
+        writes = inr refl;
+        over = is-over p.1 over;
+      },
+    ))
     some_p p false e over = bad (other_word bs p e over)
 
     by : (q : Quoted) → quoted (length bs) bs ≡ q → Begins (34 ∷ bs)
@@ -281,8 +316,27 @@ at_quote bs is = by (quoted (length bs) bs) refl
 -- one space more in front
 one_space : (b : ℕ) (bs : List ℕ) → b ≡ 32 → Begins bs → Begins (b ∷ bs)
 one_space b bs e (inl h) = inl (more_spaces b bs e h)
-one_space b bs e (inr (inl h)) = inr (inl (record { gap = b ∷ h.gap; rest = h.rest; written = ap (λ (l : List ℕ). b ∷ l) h.written; spaces = more_spaces b h.gap e h.spaces; unquoted = h.unquoted }))
-one_space b bs e (inr (inr h)) = inr (inr (h.0, h.1, record { gap = b ∷ h.2.gap; text = h.2.text; written = ap (λ (l : List ℕ). b ∷ l) h.2.written; spaces = more_spaces b h.2.gap e h.2.spaces; writes = h.2.writes; over = h.2.over }))
+one_space b bs e (inr (inl h)) = inr (inl (record {
+  gap = b ∷ h.gap;
+  rest = h.rest;
+  written = ap (λ (l : List ℕ). b ∷ l) h.written;
+  spaces =
+      more_spaces b h.gap e h.spaces;
+  unquoted = h.unquoted;
+}))
+one_space b bs e (inr (inr h)) = inr (inr (
+  h.0,
+  h.1,
+  record {
+    gap = b ∷ h.2.gap;
+    text = h.2.text;
+    written = ap (λ (l : List ℕ). b ∷ l) h.2.written;
+    spaces =
+        more_spaces b h.2.gap e h.2.spaces;
+    writes = h.2.writes;
+    over = h.2.over;
+  },
+))
 
 plain_first : (b : ℕ) (bs : List ℕ) → (b == 32) ≡ false → (b == 34) ≡ false → Begins (b ∷ bs)
 plain_first b bs s q =
@@ -317,14 +371,24 @@ holds (suc n) line is short = by (holds n) (begins line is)
     line_rest : (h : (word : List ℕ) × (rest : List ℕ) × BeginsWith line word rest) → IsLine h.1
     line_rest h =
         let b = h.2 in
-        subst IsLine (dropped line (0 + length b.gap) b.text h.1 (dropped line 0 b.gap (b.text ++ h.1) b.written)) (line-drop (0 + length b.gap + length b.text) line is)
+        subst IsLine (dropped line (0 + length b.gap) b.text h.1 (dropped line 0 b.gap (b.text ++ h.1) b.written))
+        (line-drop (0 + length b.gap + length b.text) line is)
 
-    by : ((rest : List ℕ) → IsLine rest → length rest ≤ n → (words : List (List ℕ)) × (bad : Bool) × Holds rest words bad) → Begins line → (words : List (List ℕ)) × (bad : Bool) × Holds line words bad
+    by : ((rest : List ℕ) → IsLine rest → length rest ≤ n → (words : List (List ℕ)) × (bad : Bool) × Holds rest words bad) → Begins line
+        → (words : List (List ℕ)) × (bad : Bool) × Holds line words bad
     by others (inl h) = ([], false, h)
     by others (inr (inl h)) = ([], true, h)
     by others (inr (inr h)) =
         let b = h.2 in
-        let more = others h.1 (line_rest h) (omega (arith, short, ap length b.written, length-append b.gap (b.text ++ h.1), length-append b.text h.1, some b.text h.0 b.writes)) in
+        let more = others h.1 (line_rest h) (omega (
+          arith,
+          short,
+          ap length b.written,
+          length-append b.gap
+              (b.text ++ h.1),
+          length-append b.text h.1,
+          some b.text h.0 b.writes,
+        )) in
         (h.0 ∷ more.0, more.1, (h.1, b, more.2))
 
 pub lines_are_split : SplitsLines

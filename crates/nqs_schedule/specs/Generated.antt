@@ -25,7 +25,8 @@ link_line j = codes "create pipe_queue link destination=batch@" ++ host_name j
 -- the lines that set up a host
 abbrev pub set_up : ℕ → ℕ → List WorldEvent
 set_up hosts i =
-    root_line i (link_line ((i + 1) % hosts)) ∷ root_line i (codes "enable queue link") ∷ root_line i (codes "start queue link") ∷ root_line i (codes "start queue batch") ∷ []
+    root_line i (link_line ((i + 1) % hosts)) ∷ root_line i (codes "enable queue link") ∷ root_line i (codes "start queue link")
+    ∷ root_line i (codes "start queue batch") ∷ []
 
 -- for each of so many hosts, in order
 unfoldable pub for_hosts : (ℕ → List WorldEvent) → ℕ → List WorldEvent

@@ -18,7 +18,8 @@ IsSaidOrBad = (bytes : List ℕ) → ((state : State) × IsSchedule bytes state)
 
 -- one line at most is the first bad one, from one cause
 abbrev pub HasOneFault : Type 0
-HasOneFault = (bytes : List ℕ) (one other : ℕ) (why because : Cause) → IsFirstBad bytes one why → IsFirstBad bytes other because → (one ≡ other) × (why ≡ because)
+HasOneFault = (bytes : List ℕ) (one other : ℕ) (why because : Cause) → IsFirstBad bytes one why → IsFirstBad bytes other because
+    → (one ≡ other) × (why ≡ because)
 
 -- a word that is written within quotes is read back, with what follows it
 abbrev pub QuotedReadsBack : Type 0

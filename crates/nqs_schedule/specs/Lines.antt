@@ -27,7 +27,8 @@ unfoldable pub quoted_word : List ℕ → ℕ → Next
 quoted_word line start = by_quoted line (quoted (length (drop (start + 1) line)) (drop (start + 1) line))
 
 unfoldable pub word_there : List ℕ → Word → Next
-word_there line word = if begins_with_quote (drop word.start line) then quoted_word line word.start else Found (record { text = slice_range line word.start word.end; end = word.end })
+word_there line word = if begins_with_quote (drop word.start line) then quoted_word line word.start else
+    Found (record { text = slice_range line word.start word.end; end = word.end })
 
 abbrev pub or_end : List ℕ → Option Word → Next
 or_end line None = End

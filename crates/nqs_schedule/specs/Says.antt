@@ -1,5 +1,6 @@
 -- What a line says: nothing, the hosts of the site, or an event.
-use Rattle.std.specs.Prelude.{◌≡◌, ℕ, Bool, true, false, ◌&&◌, ◌==◌, nat_le, List, [], ◌∷◌, ◌++◌, length, drop, Option, Some, None, is_some, if◌then◌else◌, Ok, Err, slice_get}
+use Rattle.std.specs.Prelude.{◌≡◌, ℕ, Bool, true, false, ◌&&◌, ◌==◌, nat_le, List, [], ◌∷◌, ◌++◌, length, drop, Option, Some, None, is_some, if◌then◌else◌, Ok}
+use Rattle.std.specs.Prelude.{Err, slice_get}
 use Rattle.std.specs.List.{position}
 use Rattle.std.specs.declared.result.Result.{Result}
 use Rattle.nqs_values.specs.Same.{name_eq}
@@ -21,7 +22,8 @@ use Rattle.nqs_schedule.specs.Events.{event_of}
 -- a further host of a site
 abbrev pub further_host : List (List ℕ) → Option (List ℕ) → Read (List ℕ)
 further_host site None = Err cause.BadName
-further_host site (Some name) = if is_some (position (name_eq name) site) then Err cause.HostTwice else (if nat_le 16 (length site) then Err cause.TooManyHosts else Ok name)
+further_host site (Some name) = if is_some (position (name_eq name) site) then Err cause.HostTwice else
+    (if nat_le 16 (length site) then Err cause.TooManyHosts else Ok name)
 
 -- the hosts that words name, behind those of a site
 unfoldable pub hosts_from : List (List ℕ) → List LineWord → Bool → Read (List (List ℕ))
@@ -40,7 +42,7 @@ hosts_of ws = some_hosts ws.bad (drop 1 ws.words)
 abbrev pub Answers : {A : Type 0} → Result A ReadError → Read A → Type 0
 Answers {A} (Ok a) r = r ≡ Ok a
 Answers {A} (Err (Bad why)) r = r ≡ Err why
-Answers {A} (Err Memory) r = Unit {0}
+Answers {A} (Err (Memory memory)) r = Unit {0}
 
 -- an empty line, or one that begins with `#`
 abbrev pub is_remark : List ℕ → Bool

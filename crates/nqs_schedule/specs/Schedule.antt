@@ -69,10 +69,11 @@ BeginsBad state rest why = BadLine state rest why ⊎ Unended rest why
 
 -- the line of this number is the first that is bad, from this cause
 abbrev pub IsFirstBad : List ℕ → ℕ → Cause → Type 0
-IsFirstBad bytes number why = (lines : List (List ℕ)) × (state : State) × (rest : List ℕ) × Front bytes lines state rest × BeginsBad state rest why × (number ≡ length lines + 1)
+IsFirstBad bytes number why = (lines : List (List ℕ)) × (state : State) × (rest : List ℕ) × Front bytes lines state rest × BeginsBad state rest why
+    × (number ≡ length lines + 1)
 
 -- what reading a schedule answers; the cases exclude each other, but that memory may be wanting
 abbrev pub ReadsSchedule : List ℕ → Result Schedule ScheduleFault → Type 0
 ReadsSchedule bytes (Ok s) = (state : State) × IsSchedule bytes state × (s.site ≡ state.site) × (s.events ≡ state.events)
 ReadsSchedule bytes (Err (Bad fault)) = IsFirstBad bytes fault.line fault.cause
-ReadsSchedule bytes (Err Memory) = Unit {0}
+ReadsSchedule bytes (Err (Memory memory)) = Unit {0}

@@ -62,5 +62,6 @@ count_line word n = word ++ codes " " ++ decimal n ++ 10 ∷ []
 -- the seven lines of a summary
 abbrev pub summary_text : Summary → ℕ → ℕ → List ℕ
 summary_text s events table =
-    count_line (codes "events") events ++ (count_line (codes "submitted") s.submitted ++ (count_line (codes "launches") s.launches ++ (count_line (codes "ended") s.ended
+    count_line (codes "events") events ++ (count_line (codes "submitted") s.submitted
+    ++ (count_line (codes "launches") s.launches ++ (count_line (codes "ended") s.ended
     ++ (count_line (codes "packets") s.packets ++ (count_line (codes "stops") s.stops ++ count_line (codes "table") table)))))

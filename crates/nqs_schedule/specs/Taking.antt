@@ -14,4 +14,4 @@ state_of r = record { site = r.site; events = r.events; is_open = r.is_open }
 abbrev pub TakesLine : State → List ℕ → ℕ → Result (Unit {0}) ScheduleFault → State → Type 0
 TakesLine old line number (Ok done) new = (says : Says) × (line_says old.site old.is_open line ≡ Ok says) × (new ≡ after old says)
 TakesLine old line number (Err (Bad fault)) new = (fault.line ≡ number) × (line_says old.site old.is_open line ≡ Err fault.cause)
-TakesLine old line number (Err Memory) new = Unit {0}
+TakesLine old line number (Err (Memory memory)) new = Unit {0}

@@ -49,4 +49,5 @@ Holds line (word ∷ words) bad = (rest : List ℕ) × BeginsWith line word rest
 
 -- a line is split into the words that it holds
 abbrev pub SplitsLines : Type 0
-SplitsLines = (line : List ℕ) (words : List (List ℕ)) (bad : Bool) → IsLine line → ((words_behind (line_words line) 0 ≡ words) × ((line_words line).bad ≡ bad)) ↔ Holds line words bad
+SplitsLines = (line : List ℕ) (words : List (List ℕ)) (bad : Bool) → IsLine line
+    → ((words_behind (line_words line) 0 ≡ words) × ((line_words line).bad ≡ bad)) ↔ Holds line words bad

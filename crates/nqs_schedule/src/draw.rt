@@ -1,9 +1,11 @@
-//! Schedules that a seed gives. Each host has a pipe queue to the next one; then events are drawn, one word of
-//! the generator for each; at last every host is booted and the table is shown. specs/Generated.antt has it.
+//! Schedules that a seed gives. Each host has a pipe queue to the next one; then events are drawn,
+//! one word of the generator for each; at last every host is booted and the table is shown.
+//! specs/Generated.antt has it.
 
 ghost use Rattle.std.specs.Prelude.{◌≡◌, ◌++◌, ◌%◌, ◌<◌, ◌≤◌, codes, OnOk, IfOk};
 ghost use Rattle.std.specs.Fmt.{decimal};
-ghost use Rattle.nqs_schedule.specs.Generated.{host_name, root_line, qsub, link_line, set_up, for_hosts, piped, submitted_once, stopped, choice, drawn, drawn_from, generator_of, booted, generated, generated_site};
+ghost use Rattle.nqs_schedule.specs.Generated.{host_name, root_line, qsub, link_line, set_up, for_hosts, piped, submitted_once, stopped, choice, drawn};
+ghost use Rattle.nqs_schedule.specs.Generated.{drawn_from, generator_of, booted, generated, generated_site};
 
 use crate::reader::Schedule;
 use nqs_query::{put_decimal, put_text};

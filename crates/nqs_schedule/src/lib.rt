@@ -1,10 +1,12 @@
-//! Schedules and transcripts: `read_schedule` reads recorded events, `print_seen` writes what is seen of them.
+//! Schedules and transcripts: `read_schedule` reads recorded events, `print_seen` writes what is
+//! seen of them.
 //!
-//! The grammar stands apart from the reading: specs/Written.antt (how words are written in a line), specs/Forms.antt
-//! (a row for each kind of line), specs/Spelled.antt (which words spell which event, and their first fault),
-//! specs/Sayings.antt (all words of a line), specs/Schedule.antt (lines). What the code does word by word is in
-//! specs/Lines.antt, specs/Plans.antt and specs/Says.antt; `laws` says that the two agree. The texts of what is seen
-//! stand in nqs_rules (specs/Transcript.antt).
+//! The grammar stands apart from the reading: specs/Written.antt (how words are written in a line),
+//! specs/Forms.antt (a row for each kind of line), specs/Spelled.antt (which words spell which
+//! event, and their first fault), specs/Sayings.antt (all words of a line), specs/Schedule.antt
+//! (lines). What the code does word by word is in specs/Lines.antt, specs/Plans.antt and
+//! specs/Says.antt; `laws` says that the two agree. The texts of what is seen stand in nqs_rules
+//! (specs/Transcript.antt).
 #![tactic(auto)]
 
 mod cause;

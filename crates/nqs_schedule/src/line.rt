@@ -4,6 +4,7 @@ ghost use Rattle.std.specs.Prelude.{◌≡◌};
 ghost use Rattle.nqs_schedule.specs.declared.line.ReadError.TheVariants.{Memory};
 ghost use Rattle.nqs_schedule.specs.Says.{further_host, hosts_of, hosts_say, Answers, is_remark, is_hosts, event_says, verb_says, words_say, line_says};
 ghost use Rattle.nqs_words.specs.Values.{name_of};
+ghost use Rattle.nqs_values.specs.Want.{want};
 
 use crate::cause::Cause;
 use crate::event::event_of;
@@ -11,7 +12,7 @@ use crate::plan::{Verb, plan_of, verb_of};
 use crate::values::{is_host, text_there};
 use crate::words::{LineWords, line_words};
 use nqs_types::WorldEvent;
-use nqs_values::{Name, NameList};
+use nqs_values::{Memory, Name, NameList};
 use nqs_words::name_of;
 use std::alloc::{AllocFailed, Global};
 
@@ -25,17 +26,17 @@ pub enum Says {
 }
 
 /// Why nothing was read.
-#[derive(Clone, Copy)]
+#[derive(Drop)]
 pub enum ReadError {
     Bad(Cause),
-    Memory,
+    Memory(Memory),
 }
 
 impl<T: Drop> From<AllocFailed<T>> for ReadError {
-    ghost from_gives = { λ _ e. e ≡ Memory };
+    ghost from_gives = { λ _ e. e ≡ Memory want };
 
-    fn from(_e: AllocFailed<T>) -> ReadError {
-        ReadError::Memory
+    fn from(refused: AllocFailed<T>) -> ReadError {
+        ReadError::Memory(refused.into())
     }
 }
 
@@ -107,7 +108,7 @@ fn event_says(
     match plan_of(site, words, verb) {
         Ok(plan) => match event_of(alloc, line, words, plan) {
             Ok(event) => Ok(Says::Event(event)),
-            Err(_) => Err(ReadError::Memory),
+            Err(memory) => Err(ReadError::Memory(memory)),
         },
         Err(cause) => Err(ReadError::Bad(cause)),
     }
@@ -163,8 +164,8 @@ fn words_say(
     }
 }
 
-/// What a line says on a site of at most 16 hosts; `is_open` says that no line before it said anything, so that
-/// it may still name the hosts.
+/// What a line says on a site of at most 16 hosts; `is_open` says that no line before it said
+/// anything, so that it may still name the hosts.
 #[tactic(auto, unfolding(crate::specs::Says::line_says))]
 pub fn line_says(
     alloc: Global,
@@ -179,6 +180,6 @@ pub fn line_says(
     }
     match line_words(alloc, line) {
         Ok(words) => words_say(alloc, site, is_open, line, &words),
-        Err(_) => Err(ReadError::Memory),
+        Err(memory) => Err(ReadError::Memory(memory)),
     }
 }

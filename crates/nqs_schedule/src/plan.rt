@@ -1,8 +1,9 @@
-//! What a line asks for, with the first cause why not. The bytes of long words are taken later, so that no
-//! call here takes memory.
+//! What a line asks for, with the first cause why not. The bytes of long words are taken later, so
+//! that no call here takes memory.
 
 ghost use Rattle.std.specs.Prelude.{◌≡◌, ◌≤◌, length};
-ghost use Rattle.nqs_schedule.specs.Plans.{verb_of, submit_plan, qsub_plan, qmgr_plan, qstat_plan, qdel_plan, end_plan, one_host, fail_plan, host_and_file, deliver_plan, newest_plan, clock_plan, fuse_plan, show_plan, plan_of};
+ghost use Rattle.nqs_schedule.specs.Plans.{verb_of, submit_plan, qsub_plan, qmgr_plan, qstat_plan, qdel_plan, end_plan, one_host, fail_plan, host_and_file};
+ghost use Rattle.nqs_schedule.specs.Plans.{deliver_plan, newest_plan, clock_plan, fuse_plan, show_plan, plan_of};
 
 use crate::cause::Cause;
 use crate::values::{

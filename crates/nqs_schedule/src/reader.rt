@@ -1,15 +1,16 @@
-//! Reads a schedule: lines, each with a line feed at its end. Each byte is looked at a few times at most. The
-//! grammar stands in specs/Schedule.antt, what a line says in specs/Says.antt.
+//! Reads a schedule: lines, each with a line feed at its end. Each byte is looked at a few times at
+//! most. The grammar stands in specs/Schedule.antt, what a line says in specs/Says.antt.
 
 ghost use Rattle.std.specs.Prelude.{◌≡◌, ◌≢◌, ◌<◌, ◌≤◌, length, slice_index, take, codes, ◌∷◌, [], IfOk, All, MatchOption};
 ghost use Rattle.nqs_schedule.specs.declared.reader.ScheduleFault.TheVariants.{Memory};
 ghost use Rattle.nqs_schedule.specs.Taking.{state_of, TakesLine};
 ghost use Rattle.nqs_schedule.specs.Schedule.{ReadsSchedule};
+ghost use Rattle.nqs_values.specs.Want.{want};
 
 use crate::cause::Cause;
 use crate::line::{ReadError, Says, line_says};
 use nqs_types::WorldEvent;
-use nqs_values::{Items, Name, NameList};
+use nqs_values::{Items, Memory, Name, NameList};
 use std::alloc::{AllocError, AllocFailed, Global};
 
 /// The first bad line.
@@ -21,25 +22,25 @@ pub struct LineFault {
 }
 
 /// Why there is no schedule.
-#[derive(Clone, Copy)]
+#[derive(Drop)]
 pub enum ScheduleFault {
     Bad(LineFault),
-    Memory,
+    Memory(Memory),
 }
 
 impl<T: Drop> From<AllocFailed<T>> for ScheduleFault {
-    ghost from_gives = { λ _ e. e ≡ Memory };
+    ghost from_gives = { λ _ e. e ≡ Memory want };
 
-    fn from(_e: AllocFailed<T>) -> ScheduleFault {
-        ScheduleFault::Memory
+    fn from(refused: AllocFailed<T>) -> ScheduleFault {
+        ScheduleFault::Memory(refused.into())
     }
 }
 
 impl From<AllocError> for ScheduleFault {
-    ghost from_gives = { λ _ e. e ≡ Memory };
+    ghost from_gives = { λ _ e. e ≡ Memory want };
 
-    fn from(_e: AllocError) -> ScheduleFault {
-        ScheduleFault::Memory
+    fn from(refused: AllocError) -> ScheduleFault {
+        ScheduleFault::Memory(refused.into())
     }
 }
 
@@ -107,12 +108,12 @@ fn take_line(
             line: number,
             cause,
         })),
-        Err(ReadError::Memory) => Err(ScheduleFault::Memory),
+        Err(ReadError::Memory(memory)) => Err(ScheduleFault::Memory(memory)),
     }
 }
 
-/// The schedule that the bytes are, or the first bad line. A last part without a line feed is bad whatever it
-/// holds. Memory is taken for the words of a line and for the events.
+/// The schedule that the bytes are, or the first bad line. A last part without a line feed is bad
+/// whatever it holds. Memory is taken for the words of a line and for the events.
 pub fn read_schedule(alloc: Global, bytes: &[u8]) -> Result<Schedule, ScheduleFault>
     ensures { ReadsSchedule bytes.now result }
 {

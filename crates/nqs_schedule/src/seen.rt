@@ -188,7 +188,8 @@ fn net_text(state: NetState) -> &'static [u8]
 
 // `HOST QUEUE ID STATE OWNER`
 fn put_place(alloc: Global, site: &[Name], row: &TableRow, out: &mut Vec<u8>) -> Result<(), Memory>
-    ensures { OnOk result (out.new.items ≡ out.old.items ++ words (host_text site.now row.now.host ∷ row.now.queue ∷ id_text site.now row.now.id ∷ net_text row.now.state ∷ row.now.owner ∷ [])) }
+    ensures { OnOk result (out.new.items ≡ out.old.items ++ words (host_text site.now row.now.host ∷ row.now.queue ∷ id_text site.now row.now.id
+        ∷ net_text row.now.state ∷ row.now.owner ∷ [])) }
 {
     put_host(site, row.host, out)?;
     put_word(row.queue.as_bytes(), out)?;
@@ -292,8 +293,8 @@ fn put_one_line(alloc: Global, seen: &Seen, site: &[Name], out: &mut Vec<u8>) ->
     }
 }
 
-/// Appends what is seen: its lines, each with a line feed. Want of memory leaves a front of the text behind
-/// what was there.
+/// Appends what is seen: its lines, each with a line feed. Want of memory leaves a front of the
+/// text behind what was there.
 pub fn print_seen(
     alloc: Global,
     seen: &Seen,

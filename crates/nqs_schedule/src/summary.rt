@@ -1,8 +1,9 @@
-//! The summary of a run: how many things of each kind were seen. It is counted as things are seen, so that no
-//! list of them is kept.
+//! The summary of a run: how many things of each kind were seen. It is counted as things are seen,
+//! so that no list of them is kept.
 
 ghost use Rattle.std.specs.Prelude.{◌≡◌, ◌++◌, OnOk};
-ghost use Rattle.nqs_schedule.specs.Summary.{is_submitted_reply, is_submitted, is_launch, is_ended, is_packet, is_stop, more, nothing_seen, counted, summary_of, count_line, summary_text};
+ghost use Rattle.nqs_schedule.specs.Summary.{is_submitted_reply, is_submitted, is_launch, is_ended, is_packet, is_stop, more, nothing_seen, counted};
+ghost use Rattle.nqs_schedule.specs.Summary.{summary_of, count_line, summary_text};
 
 use nqs_query::{put_decimal, put_line_end, put_text};
 use nqs_types::{Reply, Seen};
@@ -135,8 +136,8 @@ fn put_count(alloc: Global, word: &[u8], number: u64, out: &mut Vec<u8>) -> Resu
     put_line_end(out)
 }
 
-/// Appends the summary: the number of events, the counts, and the number of requests in the last table, each
-/// on a line.
+/// Appends the summary: the number of events, the counts, and the number of requests in the last
+/// table, each on a line.
 pub fn print_summary(
     alloc: Global,
     summary: &Summary,

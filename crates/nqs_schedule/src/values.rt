@@ -1,9 +1,11 @@
-//! What the words of a line say, by their places from 0, with the first cause why not. No call takes memory.
+//! What the words of a line say, by their places from 0, with the first cause why not. No call
+//! takes memory.
 
 ghost use Rattle.std.specs.Prelude.{◌≡◌, ◌<◌, ◌≤◌, Some, is_some, IfOk, IfSome, codes, length, take, drop};
 ghost use Rattle.std.specs.List.{position};
 ghost use Rattle.nqs_values.specs.Same.{name_eq};
-ghost use Rattle.nqs_schedule.specs.Words.{no_word, text_there, name_at, number_at, host_of, host_at, request_at, disk_of, disk_at, mixed_of, as_mixed, tear_of, tear_at, output_at, nothing_at, all_good};
+ghost use Rattle.nqs_schedule.specs.Words.{no_word, text_there, name_at, number_at, host_of, host_at, request_at, disk_of, disk_at, mixed_of, as_mixed};
+ghost use Rattle.nqs_schedule.specs.Words.{tear_of, tear_at, output_at, nothing_at, all_good};
 
 use crate::cause::Cause;
 use crate::words::LineWords;

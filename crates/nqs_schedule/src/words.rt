@@ -1,6 +1,6 @@
-//! Splits a line into its words. A word that begins with a quote ends at the next quote that isn't escaped and
-//! stands for its bytes; a space or the line's end must follow it. What comes behind a bad quote isn't read,
-//! since the words before it may be at fault first.
+//! Splits a line into its words. A word that begins with a quote ends at the next quote that isn't
+//! escaped and stands for its bytes; a space or the line's end must follow it. What comes behind a
+//! bad quote isn't read, since the words before it may be at fault first.
 
 ghost use Rattle.std.specs.Prelude.{◌≡◌, ◌+◌, ◌≤◌, length, IfOk};
 ghost use Rattle.nqs_words.specs.Words.{Fits};
@@ -68,7 +68,7 @@ fn quoted_word(alloc: Global, line: &[u8], start: usize) -> Result<Next, Memory>
             Ok(Next::BadQuote)
         }
         Err(QuoteFault::BadQuote) => Ok(Next::BadQuote),
-        Err(QuoteFault::Memory) => Err(Memory),
+        Err(QuoteFault::Memory(memory)) => Err(memory),
     }
 }
 

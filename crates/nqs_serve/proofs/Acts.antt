@@ -13,7 +13,9 @@ use Rattle.nqs_outside.specs.Told.{Extends}
 use Rattle.nqs_outside.proofs.Told.{extends_none, extends_then, extends_same}
 use Rattle.nqs_serve.specs.Events.{Here, event_in, stops_by}
 use Rattle.nqs_serve.specs.Steps.{after_event, outputs}
-use Rattle.nqs_serve.specs.Runs.{Act, received, took, Turn, turn, idle, Outcome, outputs_in, brought_back, event_back, come_back, next, after, IsRun, arrivals_of, moments_of, outcomes_of, arrivals, moments, outcomes, packets, packets_by, asked, asked_by, prints, prints_by, filings, filings_by, Telling, telling, Grew, Ran}
+use Rattle.nqs_serve.specs.Runs.{Act, received, took, Turn, turn, idle, Outcome, outputs_in, brought_back, event_back, come_back, next, after, IsRun}
+use Rattle.nqs_serve.specs.Runs.{arrivals_of, moments_of, outcomes_of, arrivals, moments, outcomes, packets, packets_by, asked, asked_by, prints, prints_by}
+use Rattle.nqs_serve.specs.Runs.{filings, filings_by, Telling, telling, Grew, Ran}
 use Rattle.nqs_serve.specs.Ends.{stop_of, stops}
 use Rattle.nqs_serve.specs.declared.comeback.Comeback.{Comeback}
 
@@ -63,14 +65,19 @@ module _ (here : Here) where
 
   pub grew_then : (xs ys : List Act) (more : List ℕ) (a b c : Telling) → Grew here xs [] a b → Grew here ys more b c → Grew here (xs ++ ys) more a c
   grew_then xs ys more a b c one two = record {
-    received = extends_same a.received c.received (arrivals xs ++ arrivals ys) (arrivals (xs ++ ys)) (sym (arrivals_append xs ys)) (extends_then a.received b.received c.received (arrivals xs) (arrivals ys) one.received two.received);
-    sent = extends_same a.sent c.sent (packets here (outcomes xs) ++ packets here (outcomes ys)) (packets here (outcomes (xs ++ ys))) (of_outcomes (λ (o : Outcome). packets_by here o.output) xs ys)
+    received = extends_same a.received c.received (arrivals xs ++ arrivals ys) (arrivals (xs ++ ys)) (sym (arrivals_append xs ys))
+        (extends_then a.received b.received c.received (arrivals xs) (arrivals ys) one.received two.received);
+    sent = extends_same a.sent c.sent (packets here (outcomes xs) ++ packets here (outcomes ys)) (packets here (outcomes (xs ++ ys)))
+        (of_outcomes (λ (o : Outcome). packets_by here o.output) xs ys)
         (extends_then a.sent b.sent c.sent (packets here (outcomes xs)) (packets here (outcomes ys)) one.sent two.sent);
-    asked = extends_same a.asked c.asked (asked (outcomes xs) ++ asked (outcomes ys)) (asked (outcomes (xs ++ ys))) (of_outcomes (λ (o : Outcome). asked_by o.output o.ok) xs ys)
+    asked = extends_same a.asked c.asked (asked (outcomes xs) ++ asked (outcomes ys)) (asked (outcomes (xs ++ ys)))
+        (of_outcomes (λ (o : Outcome). asked_by o.output o.ok) xs ys)
         (extends_then a.asked b.asked c.asked (asked (outcomes xs)) (asked (outcomes ys)) one.asked two.asked);
-    prints = extends_same a.prints c.prints (prints (outcomes xs) ++ prints (outcomes ys)) (prints (outcomes (xs ++ ys))) (of_outcomes (λ (o : Outcome). prints_by o.output o.ok) xs ys)
+    prints = extends_same a.prints c.prints (prints (outcomes xs) ++ prints (outcomes ys)) (prints (outcomes (xs ++ ys)))
+        (of_outcomes (λ (o : Outcome). prints_by o.output o.ok) xs ys)
         (extends_then a.prints b.prints c.prints (prints (outcomes xs)) (prints (outcomes ys)) one.prints two.prints);
-    filings = extends_same a.filings c.filings (filings (outcomes xs) ++ filings (outcomes ys)) (filings (outcomes (xs ++ ys))) (of_outcomes (λ (o : Outcome). filings_by o.output o.ok) xs ys)
+    filings = extends_same a.filings c.filings (filings (outcomes xs) ++ filings (outcomes ys)) (filings (outcomes (xs ++ ys)))
+        (of_outcomes (λ (o : Outcome). filings_by o.output o.ok) xs ys)
         (extends_then a.filings b.filings c.filings (filings (outcomes xs)) (filings (outcomes ys)) one.filings two.filings);
     given = extends_same a.given c.given ((moments xs ++ []) ++ (moments ys ++ more)) (moments (xs ++ ys) ++ more) (of_moments xs ys more)
         (extends_then a.given b.given c.given (moments xs ++ []) (moments ys ++ more) one.given two.given);
@@ -79,7 +86,8 @@ module _ (here : Here) where
   pub ran_none : (t : Turn) (a : Telling) → Ran here [] t t [] a a
   ran_none t a = record { run = tt; leads = refl; grew = grew_none a }
 
-  pub ran_then : (xs ys : List Act) (t u v : Turn) (more : List ℕ) (a b c : Telling) → Ran here xs t u [] a b → Ran here ys u v more b c → Ran here (xs ++ ys) t v more a c
+  pub ran_then : (xs ys : List Act) (t u v : Turn) (more : List ℕ) (a b c : Telling) → Ran here xs t u [] a b → Ran here ys u v more b c
+      → Ran here (xs ++ ys) t v more a c
   ran_then xs ys t u v more a b c one two =
       let run_on : IsRun here (after here t xs) ys = rw one.leads two.run in
       record {
@@ -98,7 +106,8 @@ pub ran_received : (here : Here) (s : Plain) (a : Arrival) (e : Option Event) (w
 ran_received here s a e was now is grew = record { run = (refl, tt); leads = ap (λ (o : Option Event). turn s (option_to_list o)) (sym is); grew = grew }
 
 -- the next event was taken
-pub ran_took : (here : Here) (s : Plain) (e : Event) (es : List Event) (m : ℕ) (os : List Outcome) (was now : Telling) → outputs_in os ≡ outputs m e s → Grew here (took m os ∷ []) [] was now
+pub ran_took : (here : Here) (s : Plain) (e : Event) (es : List Event) (m : ℕ) (os : List Outcome) (was now : Telling) → outputs_in os ≡ outputs m e s
+    → Grew here (took m os ∷ []) [] was now
     → Ran here (took m os ∷ []) (turn s (e ∷ es)) (turn (after_event m e s) (es ++ come_back os)) [] was now
 ran_took here s e es m os was now same grew = record { run = (same, tt); leads = refl; grew = grew }
 
@@ -107,7 +116,8 @@ pub ran_cut : (here : Here) (t : Turn) (more : List ℕ) (was now : Telling) →
 ran_cut here t more was now grew = record { run = tt; leads = refl; grew = grew }
 
 -- the clock was read, and nothing else was asked
-pub clock_grew : (here : Here) (r : Option (List Arrival)) (s : Option (List Packet)) (a : Option (List Asked)) (p : Option (List Print)) (f : Option (List Filing)) (c0 c1 : Option (List ℕ)) (m : ℕ)
+pub clock_grew : (here : Here) (r : Option (List Arrival)) (s : Option (List Packet)) (a : Option (List Asked)) (p : Option (List Print))
+    (f : Option (List Filing)) (c0 c1 : Option (List ℕ)) (m : ℕ)
     → Extends c0 c1 (m ∷ []) → Grew here [] (m ∷ []) (telling r s a p f c0) (telling r s a p f c1)
 clock_grew here r s a p f c0 c1 m given = record {
   received = extends_none r;
@@ -122,8 +132,10 @@ clock_grew here r s a p f c0 c1 m given = record {
 alone : {A : Type 0} (f : Outcome → List A) (os : List Outcome) → flat_map f os ≡ flat_map f (os ++ [])
 alone f os = ap (flat_map f) (sym (append-nil os))
 
-pub took_grew : (here : Here) (m : ℕ) (os : List Outcome) (was now : Telling) → Extends was.received now.received [] → Extends was.sent now.sent (packets here os) → Extends was.asked now.asked (asked os)
-    → Extends was.prints now.prints (prints os) → Extends was.filings now.filings (filings os) → Extends was.given now.given (m ∷ []) → Grew here (took m os ∷ []) [] was now
+pub took_grew : (here : Here) (m : ℕ) (os : List Outcome) (was now : Telling) → Extends was.received now.received []
+    → Extends was.sent now.sent (packets here os) → Extends was.asked now.asked (asked os)
+    → Extends was.prints now.prints (prints os) → Extends was.filings now.filings (filings os) → Extends was.given now.given (m ∷ [])
+    → Grew here (took m os ∷ []) [] was now
 took_grew here m os was now r s a p f c = record {
   received = r;
   sent = extends_same was.sent now.sent (packets here os) (packets here (os ++ [])) (alone (λ (o : Outcome). packets_by here o.output) os) s;
@@ -134,14 +146,16 @@ took_grew here m os was now r s a p f c = record {
 }
 
 -- the next event that came back was taken
-pub took_back : (here : Here) (acts : List Act) (start : Turn) (u : Plain) (e : Event) (x : Comeback) (queue rest new : List Comeback) (m : ℕ) (os : List Outcome) (a b c : Telling)
+pub took_back : (here : Here) (acts : List Act) (start : Turn) (u : Plain) (e : Event) (x : Comeback) (queue rest new : List Comeback) (m : ℕ)
+    (os : List Outcome) (a b c : Telling)
     → queue ≡ x ∷ rest → e ≡ event_back x → new ≡ rest ++ brought_back os → outputs_in os ≡ outputs m e u
     → Ran here acts start (turn u (map event_back queue)) [] a b → Grew here (took m os ∷ []) [] b c
     → Ran here (acts ++ took m os ∷ []) start (turn (after_event m e u) (map event_back new)) [] a c
 took_back here acts start u e x queue rest new m os a b c split is grown same ran grew =
     let waits : map event_back queue ≡ e ∷ map event_back rest = ap (map event_back) split ∙ ap (λ v. v ∷ map event_back rest) (sym is) in
     let first : Ran here acts start (turn u (e ∷ map event_back rest)) [] a b = subst (λ (w : List Event). Ran here acts start (turn u w) [] a b) waits ran in
-    let waits_then : map event_back rest ++ come_back os ≡ map event_back new = sym (map-append event_back rest (brought_back os)) ∙ ap (map event_back) (sym grown) in
+    let waits_then : map event_back rest ++ come_back os ≡ map event_back new =
+    sym (map-append event_back rest (brought_back os)) ∙ ap (map event_back) (sym grown) in
     subst (λ (w : List Event). Ran here (acts ++ took m os ∷ []) start (turn (after_event m e u) w) [] a c) waits_then
     (ran_then here acts (took m os ∷ []) start (turn u (e ∷ map event_back rest)) _ [] a b c first (ran_took here u e (map event_back rest) m os b c same grew))
 
@@ -156,31 +170,42 @@ cut_back here acts start u e x queue rest m a b c split is ran grew =
     ran_then here acts [] start (turn u (e ∷ map event_back rest)) _ (m ∷ []) a b c first (ran_cut here (turn u (e ∷ map event_back rest)) (m ∷ []) b c grew)
 
 -- a receive asks nothing else
-pub received_grew : (here : Here) (arrival : Arrival) (r0 r1 : Option (List Arrival)) (s0 s1 : Option (List Packet)) (a : Option (List Asked)) (p : Option (List Print)) (f : Option (List Filing)) (c : Option (List ℕ))
+pub received_grew : (here : Here) (arrival : Arrival) (r0 r1 : Option (List Arrival)) (s0 s1 : Option (List Packet)) (a : Option (List Asked))
+    (p : Option (List Print)) (f : Option (List Filing)) (c : Option (List ℕ))
     → Extends r0 r1 (arrival ∷ []) → Extends s0 s1 [] → Grew here (received arrival ∷ []) [] (telling r0 s0 a p f c) (telling r1 s1 a p f c)
-received_grew here arrival r0 r1 s0 s1 a p f c came sent = record { received = came; sent = sent; asked = extends_none a; prints = extends_none p; filings = extends_none f; given = extends_none c }
+received_grew here arrival r0 r1 s0 s1 a p f c came sent =
+    record { received = came; sent = sent; asked = extends_none a; prints = extends_none p; filings = extends_none f; given = extends_none c }
 
 -- a receive that failed
-pub missed_grew : (here : Here) (r0 r1 : Option (List Arrival)) (s0 s1 : Option (List Packet)) (a : Option (List Asked)) (p : Option (List Print)) (f : Option (List Filing)) (c : Option (List ℕ))
+pub missed_grew : (here : Here) (r0 r1 : Option (List Arrival)) (s0 s1 : Option (List Packet)) (a : Option (List Asked)) (p : Option (List Print))
+    (f : Option (List Filing)) (c : Option (List ℕ))
     → Extends r0 r1 [] → Extends s0 s1 [] → Grew here [] [] (telling r0 s0 a p f c) (telling r1 s1 a p f c)
-missed_grew here r0 r1 s0 s1 a p f c lost sent = record { received = lost; sent = sent; asked = extends_none a; prints = extends_none p; filings = extends_none f; given = extends_none c }
+missed_grew here r0 r1 s0 s1 a p f c lost sent =
+    record { received = lost; sent = sent; asked = extends_none a; prints = extends_none p; filings = extends_none f; given = extends_none c }
 
 -- a receive, its event, and those that come back of it
-pub ran_turn : (here : Here) (arrival : Arrival) (m : ℕ) (os : List Outcome) (acts : List Act) (s : Plain) (e : Event) (old back : List Comeback) (v : Turn) (more : List ℕ) (t0 t1 t2 t3 : Telling)
+pub ran_turn : (here : Here) (arrival : Arrival) (m : ℕ) (os : List Outcome) (acts : List Act) (s : Plain) (e : Event) (old back : List Comeback) (v : Turn)
+    (more : List ℕ) (t0 t1 t2 t3 : Telling)
     → Some e ≡ event_in here arrival → old ≡ [] → back ≡ old ++ brought_back os → outputs_in os ≡ outputs m e s
-    → Grew here (received arrival ∷ []) [] t0 t1 → Grew here (took m os ∷ []) [] t1 t2 → Ran here acts (turn (after_event m e s) (map event_back back)) v more t2 t3
+    → Grew here (received arrival ∷ []) [] t0 t1 → Grew here (took m os ∷ []) [] t1 t2
+    → Ran here acts (turn (after_event m e s) (map event_back back)) v more t2 t3
     → Ran here (received arrival ∷ took m os ∷ acts) (idle s) v more t0 t3
 ran_turn here arrival m os acts s e old back v more t0 t1 t2 t3 some empty grown same came took_it rest =
     let back_is : back ≡ brought_back os = grown ∙ ap (λ (l : List Comeback). l ++ brought_back os) empty in
-    let third : Ran here acts (turn (after_event m e s) (come_back os)) v more t2 t3 = subst (λ (q : List Comeback). Ran here acts (turn (after_event m e s) (map event_back q)) v more t2 t3) back_is rest in
+    let third : Ran here acts (turn (after_event m e s) (come_back os)) v more t2 t3 =
+    subst (λ (q : List Comeback). Ran here acts (turn (after_event m e s) (map event_back q)) v more t2 t3) back_is rest in
     ran_then here (received arrival ∷ took m os ∷ []) acts (idle s) _ v more t0 t2 t3
-    (ran_then here (received arrival ∷ []) (took m os ∷ []) (idle s) (turn s (e ∷ [])) _ [] t0 t1 t2 (ran_received here s arrival (Some e) t0 t1 some came) (ran_took here s e [] m os t1 t2 same took_it))
+    (ran_then here (received arrival ∷ []) (took m os ∷ []) (idle s) (turn s (e ∷ [])) _ [] t0 t1 t2 (ran_received here s arrival (Some e) t0 t1 some came)
+    (ran_took here s e [] m os t1 t2 same took_it))
     third
 
 -- in a turn there is one receive
-pub turn_stops : (here : Here) (s : Plain) (arrival : Arrival) (m : ℕ) (os : List Outcome) (acts : List Act) → arrivals acts ≡ [] → stops here (idle s) (received arrival ∷ took m os ∷ acts) ≡ stops_by (event_in here arrival) s ∷ []
-turn_stops here s arrival m os acts none = ap (λ (l : List Bool). stops_by (event_in here arrival) s ∷ l) (stops_none here (next here (next here (idle s) (received arrival)) (took m os)) acts none)
+pub turn_stops : (here : Here) (s : Plain) (arrival : Arrival) (m : ℕ) (os : List Outcome) (acts : List Act) → arrivals acts ≡ []
+    → stops here (idle s) (received arrival ∷ took m os ∷ acts) ≡ stops_by (event_in here arrival) s ∷ []
+turn_stops here s arrival m os acts none = ap (λ (l : List Bool). stops_by (event_in here arrival) s ∷ l)
+    (stops_none here (next here (next here (idle s) (received arrival)) (took m os)) acts none)
 
 -- nothing waits
-pub ran_empty : (here : Here) (acts : List Act) (start : Turn) (u : Plain) (queue : List Comeback) (a b : Telling) → queue ≡ [] → Ran here acts start (turn u (map event_back queue)) [] a b → Ran here acts start (idle u) [] a b
+pub ran_empty : (here : Here) (acts : List Act) (start : Turn) (u : Plain) (queue : List Comeback) (a b : Telling) → queue ≡ []
+    → Ran here acts start (turn u (map event_back queue)) [] a b → Ran here acts start (idle u) [] a b
 ran_empty here acts start u queue a b empty ran = subst (λ (q : List Comeback). Ran here acts start (turn u (map event_back q)) [] a b) empty ran

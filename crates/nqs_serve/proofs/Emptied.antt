@@ -10,7 +10,8 @@ use Rattle.nqs_state.specs.State.{State}
 use Rattle.nqs_rules.specs.Tests.{passes, same_host, is_offered}
 use Rattle.nqs_rules.specs.Find.{find_row}
 use Rattle.nqs_rules.specs.Plain.{map_row, map_promise, map_stage, map_file, map_state}
-use Rattle.nqs_rules.specs.InOrder.{IsInOrder, are_distinct, same_number, is_device_there, is_default_there, arrivals_of, is_row_right, is_promise_right, is_hand_right, is_stage_right, is_file_right, is_routing_row}
+use Rattle.nqs_rules.specs.InOrder.{IsInOrder, are_distinct, same_number, is_device_there, is_default_there, arrivals_of, is_row_right, is_promise_right}
+use Rattle.nqs_rules.specs.InOrder.{is_hand_right, is_stage_right, is_file_right, is_routing_row}
 use Rattle.nqs_rules.proofs.FindKept.{all-mapped}
 use Rattle.nqs_rules.proofs.FoundPlain.{find_row-map, passes-map, held_count-map}
 use Rattle.nqs_rules.proofs.RowFacts.{row_is, row_right, promise_is, promise_right}
@@ -46,12 +47,14 @@ module _ {E F : Type 0} (f : E → F) (s : State E) (h : IsInOrder s) where
       })
 
   promise_stays : (p : Promise E) → is_promise_right s p ≡ true → is_promise_right t (map_promise f p) ≡ true
-  promise_stays p right = let k = promise_is s p right in promise_right t (map_promise f p) (record { row = row_stays p.row k.row; queued = k.queued; some = k.some; opens = k.opens })
+  promise_stays p right = let k = promise_is s p right in promise_right t (map_promise f p)
+      (record { row = row_stays p.row k.row; queued = k.queued; some = k.some; opens = k.opens })
 
   hand_stays : (x : Hand) → is_hand_right s x ≡ true → is_hand_right t x ≡ true
   hand_stays x right =
       let k = hand_is s x right in
-      let same : passes is_routing_row (find_row x.id t) ≡ passes is_routing_row (find_row x.id s) = ap (passes is_routing_row) (find_row-map f x.id s) ∙ passes-map (map_row f) is_routing_row (find_row x.id s) in
+      let same : passes is_routing_row (find_row x.id t) ≡ passes is_routing_row (find_row x.id s) =
+      ap (passes is_routing_row) (find_row-map f x.id s) ∙ passes-map (map_row f) is_routing_row (find_row x.id s) in
       hand_right t x (record { id = k.id; given = k.given; stands = ap (λ b. not (is_offered x.phase) || b) same ∙ k.stands })
 
   arrivals_same : arrivals_of t ≡ arrivals_of s

@@ -1,5 +1,6 @@
 -- Which receives stopped, and how a run ends after another.
 use Rattle.std.proofs.Common.{◌≡◌, ℕ, ◌<◌, List, [], ◌∷◌, ◌++◌, refl, ap, sym, ◌∙◌, Bool, false, true, length, length-append, append_assoc, arith}
+use Rattle.nqs_values.specs.Want.{want}
 use Rattle.nqs_outside.specs.declared.disk.Disk as disk
 use Rattle.nqs_state.specs.State.{Plain}
 use Rattle.nqs_node.specs.declared.node.Node.{Node}
@@ -35,27 +36,29 @@ one_receive b = record { before = []; last = b ∷ []; are = refl; none = refl; 
 
 pub disk_cut : (k : Cut) → fault_of k ≡ fault.Disk → k ≡ cut.Disk
 disk_cut cut.Disk is = refl
-disk_cut cut.Memory is = cc
+disk_cut (cut.Memory memory) is = cc
 
 pub wire_end : (f : Fault) → end_of f ≡ serve_end.WireFault → f ≡ fault.Wire
 wire_end fault.Wire is = refl
 wire_end fault.Disk is = cc
-wire_end fault.Memory is = cc
+wire_end (fault.Memory memory) is = cc
 
 pub disk_end : (f : Fault) → end_of f ≡ serve_end.DiskFault → f ≡ fault.Disk
 disk_end fault.Wire is = cc
 disk_end fault.Disk is = refl
-disk_end fault.Memory is = cc
+disk_end (fault.Memory memory) is = cc
 
 module _ {D : Type 0} {g : disk.Ghosts D} where
   -- turns that went on, and one that was cut off
-  pub ends_then : (f : Fault) (turns : ℕ) (xs bs : List Bool) (t : Turn) (more : List ℕ) (node : Node D g) → NoneStops xs → length xs < turns → Ends (end_of f) 1 bs t more node → Ends (end_of f) turns (xs ++ bs) t more node
+  pub ends_then : (f : Fault) (turns : ℕ) (xs bs : List Bool) (t : Turn) (more : List ℕ) (node : Node D g) → NoneStops xs → length xs < turns
+      → Ends (end_of f) 1 bs t more node → Ends (end_of f) turns (xs ++ bs) t more node
   ends_then fault.Wire turns xs bs t more node none few ends =
       (ends.0, ends.1, ends.2, none_both xs bs none ends.3, (let less : length (xs ++ bs) < turns = omega (arith, length-append xs bs, few, ends.4) in less))
   ends_then fault.Disk turns xs bs t more node none few ends = (ends.0, receives_then turns xs bs none few ends.1)
-  ends_then fault.Memory turns xs bs t more node none few ends = (ends.0, receives_then turns xs bs none few ends.1)
+  ends_then (fault.Memory memory) turns xs bs t more node none few ends = (ends.0, receives_then turns xs bs none few ends.1)
 
   -- an event that was cut off
-  pub cut_ends : (k : Cut) (bs : List Bool) (t : Turn) (more : List ℕ) (node : Node D g) → IsCut t more → (k ≡ cut.Memory → (u : Plain) × Tells node u × IsCutAt t more u) → Receives 1 bs → Ends (end_of (fault_of k)) 1 bs t more node
+  pub cut_ends : (k : Cut) (bs : List Bool) (t : Turn) (more : List ℕ) (node : Node D g) → IsCut t more
+      → (k ≡ cut.Memory want → (u : Plain) × Tells node u × IsCutAt t more u) → Receives 1 bs → Ends (end_of (fault_of k)) 1 bs t more node
   cut_ends cut.Disk bs t more node is known one = (is, one)
-  cut_ends cut.Memory bs t more node is known one = (known refl, one)
+  cut_ends (cut.Memory memory) bs t more node is known one = (known refl, one)

@@ -9,7 +9,8 @@ use Rattle.nqs_types.specs.declared.event.Output.{Output}
 use Rattle.nqs_serve.specs.Events.{Here, event_in}
 use Rattle.nqs_serve.specs.Steps.{after_event, outputs}
 use Rattle.nqs_serve.specs.declared.comeback.Comeback.{Comeback}
-use Rattle.nqs_serve.specs.Runs.{Act, received, took, turn, Outcome, after, IsRun, moments, outcomes, events, outputs_in, brought_back, comeback_of, event_back, come_back, folded, folded_outputs, RunsAreFolds}
+use Rattle.nqs_serve.specs.Runs.{Act, received, took, turn, Outcome, after, IsRun, moments, outcomes, events, outputs_in, brought_back, comeback_of, event_back}
+use Rattle.nqs_serve.specs.Runs.{come_back, folded, folded_outputs, RunsAreFolds}
 
 front_nil : {A : Type 0} (xs ys : List A) → (xs ++ ys) ≡ [] → xs ≡ []
 front_nil [] ys e = refl
@@ -29,7 +30,8 @@ both_none os rest none =
     (front_nil (brought_back os) (brought_back rest) both, back_nil (brought_back os) (brought_back rest) both)
 
 module _ (here : Here) where
-  state_folds : (s : Plain) (waits : List Event) (acts : List Act) → IsRun here (turn s waits) acts → brought_back (outcomes acts) ≡ [] → (after here (turn s waits) acts).waits ≡ []
+  state_folds : (s : Plain) (waits : List Event) (acts : List Act) → IsRun here (turn s waits) acts → brought_back (outcomes acts) ≡ []
+      → (after here (turn s waits) acts).waits ≡ []
       → (after here (turn s waits) acts).state ≡ folded s (waits ++ events here acts) (moments acts)
   state_folds s waits [] run none empty = refl
   state_folds s waits (received a ∷ acts) run none empty =
@@ -41,7 +43,8 @@ module _ (here : Here) where
       state_folds (after_event m e s) (es ++ come_back os) acts run.1 both.1 empty
       ∙ ap (λ w. folded (after_event m e s) (w ++ events here acts) (moments acts)) (waits_on es os both.0)
 
-  outputs_fold : (s : Plain) (waits : List Event) (acts : List Act) → IsRun here (turn s waits) acts → brought_back (outcomes acts) ≡ [] → (after here (turn s waits) acts).waits ≡ []
+  outputs_fold : (s : Plain) (waits : List Event) (acts : List Act) → IsRun here (turn s waits) acts → brought_back (outcomes acts) ≡ []
+      → (after here (turn s waits) acts).waits ≡ []
       → outputs_in (outcomes acts) ≡ folded_outputs s (waits ++ events here acts) (moments acts)
   outputs_fold s waits [] run none empty = refl
   outputs_fold s waits (received a ∷ acts) run none empty =

@@ -19,7 +19,8 @@ module _ {D : Type 0} {g : disk.Ghosts D} where
 
   -- what a node may start, its host may
   pub start_known : (now : ℕ) (node : Node D g) (s : Plain) → Knows node s → is_some (start now s) ≡ is_some (start now (content_of node))
-  start_known now node s knows = ap (λ (x : Plain). is_some (start now x)) (sym knows.1.is) ∙ ap is_some (start-map (bytes_of node) now (content_of node)) ∙ by (start now (content_of node))
+  start_known now node s knows = ap (λ (x : Plain). is_some (start now x)) (sym knows.1.is) ∙ ap is_some (start-map (bytes_of node) now (content_of node))
+      ∙ by (start now (content_of node))
     where
       by : (o : Option (Stepped Extent)) → is_some (option_map (map_stepped (bytes_of node)) o) ≡ is_some o
       by None = refl

@@ -28,7 +28,8 @@ ends_here text end some within is =
     let test : (get_or text (end - 1) 0 == 10) ≡ true = ap (λ b. b == 10) is in
     ap whole_lines (last_of text end some within) ∙ line_ends (take (end - 1) text) (get_or text (end - 1) 0) test ∙ sym (last_of text end some within)
 
-pub goes_on_here : (text : List ℕ) (end : ℕ) → 0 < end → end ≤ length text → (get_or text (end - 1) 0 ≡ 10 → ⊥) → whole_lines (take end text) ≡ whole_lines (take (end - 1) text)
+pub goes_on_here : (text : List ℕ) (end : ℕ) → 0 < end → end ≤ length text → (get_or text (end - 1) 0 ≡ 10 → ⊥)
+    → whole_lines (take end text) ≡ whole_lines (take (end - 1) text)
 goes_on_here text end some within other =
     let test : (get_or text (end - 1) 0 == 10) ≡ false = is_not (get_or text (end - 1) 0) other in
     ap whole_lines (last_of text end some within) ∙ line_goes_on (take (end - 1) text) (get_or text (end - 1) 0) test

@@ -1,5 +1,6 @@
 -- Laws of outcomes.
-use Rattle.std.proofs.Common.{◌≡◌, ℕ, ◌+◌, ◌<◌, ◌≤◌, List, [], ◌∷◌, ◌++◌, map, filter, take, length, length-append, get_or, sym, ap, ◌∙◌, Bool, true, false, Option, arith}
+use Rattle.std.proofs.Common.{◌≡◌, ℕ, ◌+◌, ◌<◌, ◌≤◌, List, [], ◌∷◌, ◌++◌, map, filter, take, length, length-append, get_or, sym, ap, ◌∙◌, Bool, true, false}
+use Rattle.std.proofs.Common.{Option, arith}
 use Rattle.std.specs.List.{flat_map}
 use Rattle.std.specs.Option.{option_to_list}
 use Rattle.std.proofs.lemmas.List.{append-nil, get_or-map, take_more}
@@ -18,8 +19,10 @@ pub one_more : {A : Type 0} (f : Outcome → List A) (os : List Outcome) (o : Ou
 one_more f os o = ap (λ l. flat_map f os ++ l) (sym (append-nil (f o))) ∙ sym (flat_map-append f os (o ∷ []))
 
 -- and in a told list
-pub told_more : {A : Type 0} (f : Outcome → List A) (os : List Outcome) (o : Outcome) (was mid now : Option (List A)) → Extends was mid (flat_map f os) → Extends mid now (f o) → Extends was now (flat_map f (os ++ o ∷ []))
-told_more f os o was mid now first second = extends_same was now (flat_map f os ++ f o) (flat_map f (os ++ o ∷ [])) (one_more f os o) (extends_then was mid now (flat_map f os) (f o) first second)
+pub told_more : {A : Type 0} (f : Outcome → List A) (os : List Outcome) (o : Outcome) (was mid now : Option (List A)) → Extends was mid (flat_map f os)
+    → Extends mid now (f o) → Extends was now (flat_map f (os ++ o ∷ []))
+told_more f os o was mid now first second = extends_same was now (flat_map f os ++ f o) (flat_map f (os ++ o ∷ [])) (one_more f os o)
+    (extends_then was mid now (flat_map f os) (f o) first second)
 
 pub comebacks_append : (xs ys : List Output) → comebacks (xs ++ ys) ≡ comebacks xs + comebacks ys
 comebacks_append xs ys = ap (λ (l : List Output). length l) (filter-append brings_back xs ys) ∙ length-append (filter brings_back xs) (filter brings_back ys)
@@ -53,7 +56,8 @@ one_at_most (out.Lost id) = omega arith
 one_at_most (out.Ack port id n) = omega arith
 
 -- the value at a place of a mapped list
-pub at_mapped : {A B : Type 0} (f : A → B) (xs : List A) (ys : List B) (i : ℕ) (x : A) (y : B) → ys ≡ map f xs → i < length xs → x ≡ get_or xs i x → y ≡ get_or ys i y → y ≡ f x
+pub at_mapped : {A B : Type 0} (f : A → B) (xs : List A) (ys : List B) (i : ℕ) (x : A) (y : B) → ys ≡ map f xs → i < length xs → x ≡ get_or xs i x
+    → y ≡ get_or ys i y → y ≡ f x
 at_mapped f xs ys i x y same less is_x is_y = is_y ∙ ap (λ l. get_or l i y) same ∙ get_or-map f xs i x y less ∙ ap f (sym is_x)
 
 pub taken_more : {A : Type 0} (xs : List A) (i : ℕ) (x : A) → i < length xs → x ≡ get_or xs i x → take (i + 1) xs ≡ take i xs ++ x ∷ []

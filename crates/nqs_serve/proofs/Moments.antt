@@ -1,24 +1,27 @@
 -- Moments of a run after those of another.
-use Rattle.std.proofs.Common.{◌≡◌, ◌⊎◌, inl, inr, ℕ, zero, suc, ◌+◌, ◌-◌, is_some, Bool, true, false, if◌then◌else◌, Option, Some, List, [], ◌∷◌, ◌++◌, take, length, map, refl, sym, ap, ◌∙◌, subst, arith, append_assoc, length-append}
+use Rattle.std.proofs.Common.{◌≡◌, inl, inr, ℕ, zero, suc, ◌+◌, ◌-◌, is_some, Bool, true, false, if◌then◌else◌, Option, None, Some, List}
+use Rattle.std.proofs.Common.{[], ◌∷◌, ◌++◌, take, length, map, refl, sym, ap, ◌∙◌, subst, arith, append_assoc, length-append}
 use Rattle.std.proofs.lemmas.Bool.Decides.{leb_tells}
-use Rattle.std.proofs.lemmas.List.{take-append-le}
+use Rattle.std.proofs.lemmas.List.{append-nil, take-append-le}
 use Rattle.std.proofs.Math.Seq.{take-append-add}
 use Rattle.std.specs.Option.{option_to_list}
 use Rattle.nqs_state.specs.State.{Plain}
+use Rattle.nqs_types.specs.declared.change.Change.{Change}
 use Rattle.nqs_types.specs.declared.event.Event.{Event}
 use Rattle.nqs_types.specs.declared.world.Which.{Which}
 use Rattle.nqs_types.specs.declared.world.Which.TheVariants.{First, Spool}
+use Rattle.nqs_rules.specs.Applied.{applied}
 use Rattle.nqs_rules.specs.Start.{start}
 use Rattle.nqs_rules.specs.Starts.{after_change, after_starts, after_step, starts}
-use Rattle.nqs_rules.specs.Stepped.{Stepped}
+use Rattle.nqs_rules.specs.Stepped.{Stepped, stored_parts}
 use Rattle.nqs_rules.proofs.StartIs.{IsSteady}
 use Rattle.nqs_outside.specs.Asked.{Arrival}
 use Rattle.nqs_outside.specs.History.{Call, History, extended, state, after as after_calls, IsImage}
 use Rattle.nqs_outside.specs.declared.disk.Disk as disk
 use Rattle.nqs_outside.proofs.Histories.{after-append, state-extended, goes_on}
-use Rattle.nqs_store.specs.Commits.{EachImage}
+use Rattle.nqs_store.specs.Commits.{EachImage, Keeping}
 use Rattle.nqs_store.specs.Hosts.{HostCall, same_disk, part, Runs, EachPrefix}
-use Rattle.nqs_store.specs.Images.{IsTold}
+use Rattle.nqs_store.specs.Images.{IsTold, TellsOneOf}
 use Rattle.nqs_store.proofs.Runs.{none_more}
 use Rattle.nqs_store.proofs.TellsNow.{told_now}
 use Rattle.nqs_node.specs.Carried.{Kept, IsOneOrOther, started}
@@ -26,7 +29,7 @@ use Rattle.nqs_node.specs.Nodes.{content_of, history_of}
 use Rattle.nqs_node.specs.declared.node.Node.{Node}
 use Rattle.nqs_serve.specs.Ends.{IsBetween, IsWithin}
 use Rattle.nqs_serve.specs.Events.{Here, event_in}
-use Rattle.nqs_serve.specs.Moments.{TellsThroughout, IsAmid, IsPassed}
+use Rattle.nqs_serve.specs.Moments.{TellsThroughout, IsOfCommits, AreOfCommits, joined, IsAmid, IsPassed}
 use Rattle.nqs_serve.specs.Nodes.{Knows}
 use Rattle.nqs_serve.specs.Runs.{Act, received, took, Turn, turn, idle, Outcome, brought_back, event_back, take_next, after, moments}
 use Rattle.nqs_serve.specs.Steps.{after_event}
@@ -47,17 +50,20 @@ part-append which (call ∷ xs) ys = by (same_disk which call.0) (part-append wh
 
 module _ (old mid now : Which → History) (xs ys : List HostCall) (one : Runs old mid xs) (two : Runs mid now ys) where
   runs_then : Runs old now (xs ++ ys)
-  runs_then which = goes_on (old which) (mid which) (now which) (part which xs) (part which ys) (one which) (two which) ∙ ap (extended (old which)) (sym (part-append which xs ys))
+  runs_then which = goes_on (old which) (mid which) (now which) (part which xs) (part which ys) (one which) (two which)
+      ∙ ap (extended (old which)) (sym (part-append which xs ys))
 
   -- what the disks may leave after some of the later calls
-  later_state : (which : Which) (n : ℕ) → after_calls (state (old which)) (part which (take (length xs + n) (xs ++ ys))) ≡ after_calls (state (mid which)) (part which (take n ys))
+  later_state : (which : Which) (n : ℕ) → after_calls (state (old which)) (part which (take (length xs + n) (xs ++ ys))) ≡ after_calls (state (mid which))
+      (part which (take n ys))
   later_state which n =
       ap (λ (l : List HostCall). after_calls (state (old which)) (part which l)) (take-append-add xs ys n)
       ∙ ap (after_calls (state (old which))) (part-append which xs (take n ys))
       ∙ after-append (state (old which)) (part which xs) (part which (take n ys))
       ∙ ap (λ s. after_calls s (part which (take n ys))) (sym (ap state (one which) ∙ state-extended (old which) (part which xs)))
 
-  later_image : (j : ℕ) (images : Which → List ℕ) (n : ℕ) → j ≡ length xs + n → ((which : Which) → IsImage (after_calls (state (old which)) (part which (take j (xs ++ ys)))) (images which))
+  later_image : (j : ℕ) (images : Which → List ℕ) (n : ℕ) → j ≡ length xs + n
+      → ((which : Which) → IsImage (after_calls (state (old which)) (part which (take j (xs ++ ys)))) (images which))
       → (which : Which) → IsImage (after_calls (state (mid which)) (part which (take n ys))) (images which)
   later_image j images n at leaves which =
       subst (λ s. IsImage s (images which)) (ap (λ i. after_calls (state (old which)) (part which (take i (xs ++ ys)))) at ∙ later_state which n) (leaves which)
@@ -66,7 +72,8 @@ module _ (old mid now : Which → History) (xs ys : List HostCall) (one : Runs o
   each_then P first second j images le leaves =
       let n = j - length xs in
       elim (leb_tells j (length xs)) [
-        | inl early ↦ first j images early.1 (λ which. subst (λ (l : List HostCall). IsImage (after_calls (state (old which)) (part which l)) (images which)) (take-append-le j xs ys early.1) (leaves which))
+        | inl early ↦ first j images early.1 (λ which. subst (λ (l : List HostCall). IsImage (after_calls (state (old which)) (part which l)) (images which))
+            (take-append-le j xs ys early.1) (leaves which))
         | inr late ↦ second n images (omega (arith, late.1, le, length-append xs ys)) (later_image j images n (omega (arith, late.1)) leaves)
       ]
 
@@ -75,27 +82,70 @@ each_none : (now : Which → History) (P : (Which → List ℕ) → Type 0) → 
 each_none now P all zero images le leaves = all images leaves
 each_none now P all (suc j) images le leaves = absurd (omega (arith, le))
 
+-- commits, one after the other
+
+joined-append : (xs ys : List (List HostCall)) → joined (xs ++ ys) ≡ joined xs ++ joined ys
+joined-append [] ys = refl
+joined-append (calls ∷ xs) ys = ap (λ (l : List HostCall). calls ++ l) (joined-append xs ys) ∙ sym (append_assoc calls (joined xs) (joined ys))
+
+commits_then : (xs ys : List (List HostCall)) → AreOfCommits xs → AreOfCommits ys → AreOfCommits (xs ++ ys)
+commits_then [] ys one two = two
+commits_then (calls ∷ xs) ys one two = (one.0, commits_then xs ys one.1 two)
+
+made_then : (xs ys : List HostCall) → IsOfCommits xs → IsOfCommits ys → IsOfCommits (xs ++ ys)
+made_then xs ys one two = (
+  one.0 ++ two.0,
+  ap (λ (l : List HostCall). l ++ ys) one.1 ∙ ap (λ (l : List HostCall). joined one.0 ++ l) two.1 ∙ sym (joined-append one.0 two.0),
+  commits_then one.0 two.0 one.2 two.2,
+)
+
+-- no call
+none_made : IsOfCommits []
+none_made = ([], refl, tt)
+
+-- those of one change
+of_keeping : (c : Change (List ℕ)) (old now : Which → History) (s : Plain) (k : Keeping (stored_parts c) old now s (applied c s)) → IsOfCommits k.run
+of_keeping c old now s k = (
+  k.run ∷ [],
+  sym (append-nil k.run),
+  ((k.places, stored_parts c, k.gate, k.payload, k.many, k.begun), tt),
+)
+
 -- what the disks tell, one run after the other
 
 module _ {D : Type 0} {g : disk.Ghosts D} where
   pub through_none : (node : Node D g) (s : Plain) (P : Plain → Type 0) → Knows node s → P s → TellsThroughout (history_of node) (history_of node) P
   through_none node s P knows has =
-      let told = subst (λ (t : Plain). EachImage (history_of node) (λ images. IsTold (images First) (images Spool) t)) knows.1.is (told_now node.store (content_of node) knows.0 knows.1.told) in
-      let all : EachImage (history_of node) (λ images. (u : Plain) × IsTold (images First) (images Spool) u × P u) = λ images leaves. (s, told images leaves, has) in
-      ([], λ which. none_more (history_of node which), each_none (history_of node) _ all)
+      let told = subst (λ (t : Plain). EachImage (history_of node) (λ images. IsTold (images First) (images Spool) t)) knows.1.is
+      (told_now node.store (content_of node) knows.0 knows.1.told) in
+      let all : EachImage (history_of node) (λ images. (u : Plain) × IsTold (images First) (images Spool) u × P u) =
+      λ images leaves. (s, told images leaves, has) in
+      ([], none_made, λ which. none_more (history_of node which), each_none (history_of node) _ all)
 
-pub through_change : (old now : Which → History) (kept : Kept) (s : Plain) (P : Plain → Type 0) → IsOneOrOther old now kept s → P s → P (after_change kept s) → TellsThroughout old now P
-through_change old now kept s P each before later = (each.0, each.1, λ j images le leaves. by images (each.2 j images le leaves))
-  where
-    by : (images : Which → List ℕ) → IsTold (images First) (images Spool) s ⊎ IsTold (images First) (images Spool) (after_change kept s) → (u : Plain) × IsTold (images First) (images Spool) u × P u
-    by images (inl told) = (s, told, before)
-    by images (inr told) = (after_change kept s, told, later)
+-- of two states one is told, and each has P
+told_either : (s u : Plain) (P : Plain → Type 0) → P s → P u → (images : Which → List ℕ) → TellsOneOf s u (images First) (images Spool)
+    → (v : Plain) × IsTold (images First) (images Spool) v × P v
+told_either s u P before later images (inl told) = (s, told, before)
+told_either s u P before later images (inr told) = (u, told, later)
+
+pub through_change : (old now : Which → History) (kept : Kept) (s : Plain) (P : Plain → Type 0) → IsOneOrOther old now kept s → P s → P (after_change kept s)
+    → TellsThroughout old now P
+through_change old now None s P still before later =
+    ([], none_made, λ which. still.0 which ∙ none_more (old which), each_none old _ (λ images leaves. (s, still.1 images leaves, before)))
+through_change old now (Some c) s P keeping before later =
+    (keeping.run, of_keeping c old now s keeping, keeping.made, λ j images le leaves. told_either s (applied c s) P before later images (keeping.told j images le leaves))
 
 pub through_as : (old now : Which → History) (P Q : Plain → Type 0) → ((u : Plain) → P u → Q u) → TellsThroughout old now P → TellsThroughout old now Q
-through_as old now P Q f each = (each.0, each.1, λ j images le leaves. let told = each.2 j images le leaves in (told.0, told.1, f told.0 told.2))
+through_as old now P Q f each =
+    (each.0, each.1, each.2, λ j images le leaves. let told = each.3 j images le leaves in (told.0, told.1, f told.0 told.2))
 
 pub through_then : (old mid now : Which → History) (P : Plain → Type 0) → TellsThroughout old mid P → TellsThroughout mid now P → TellsThroughout old now P
-through_then old mid now P one two = (one.0 ++ two.0, runs_then old mid now one.0 two.0 one.1 two.1, each_then old mid now one.0 two.0 one.1 two.1 _ one.2 two.2)
+through_then old mid now P one two = (
+  one.0 ++ two.0,
+  made_then one.0 two.0 one.1 two.1,
+  runs_then old mid now one.0 two.0 one.2 two.2,
+  each_then old mid now one.0 two.0 one.2 two.2 _ one.3 two.3,
+)
 
 -- the next start, or none
 pub between_next : (now : ℕ) (s : Plain) (xs : List (Stepped (List ℕ))) → IsSteady (after_starts xs s) → starts now s ≡ xs ++ starts now (after_starts xs s)
@@ -106,7 +156,13 @@ between_next now s xs calm so_far = by (is_some (start now u)) refl
     u = after_starts xs s
 
     by : (b : Bool) → is_some (start now u) ≡ b → IsBetween now s (after_step (started now u) u)
-    by true some = (xs ++ started now u ∷ [], starts now (after_starts (xs ++ started now u ∷ []) s), one_start now s xs calm so_far some, sym (after_more xs (started now u) s))
+    by true some = (
+      xs ++ started now u ∷ [],
+      starts now (after_starts (xs ++ started now u ∷ []) s),
+      one_start now s xs calm so_far some,
+      sym
+          (after_more xs (started now u) s),
+    )
     by false none = (xs, starts now u, so_far, ap (λ (x : Stepped (List ℕ)). after_step x u) (none_started now u none))
 
 -- runs of the daemon
@@ -121,10 +177,12 @@ module _ (here : Here) where
     at.0,
     at.1 ++ ys,
     ap (λ (l : List Act). l ++ ys) at.2 ∙ append_assoc at.0 at.1 ys,
-    subst (λ (ms : List ℕ). IsAmid (after here t at.0) ms u) (of_moments at.1 ys more) (amid_more (after here t at.0) (moments at.1 ++ []) (moments ys ++ more) u at.3),
+    subst (λ (ms : List ℕ). IsAmid (after here t at.0) ms u) (of_moments at.1 ys more)
+        (amid_more (after here t at.0) (moments at.1 ++ []) (moments ys ++ more) u at.3),
   )
 
-  passed_back : (t v : Turn) (xs ys : List Act) (more : List ℕ) (u : Plain) → after here t xs ≡ v → IsPassed here v ys more u → IsPassed here t (xs ++ ys) more u
+  passed_back : (t v : Turn) (xs ys : List Act) (more : List ℕ) (u : Plain) → after here t xs ≡ v → IsPassed here v ys more u
+      → IsPassed here t (xs ++ ys) more u
   passed_back t v xs ys more u leads at = (
     xs ++ at.0,
     at.1,
@@ -134,13 +192,16 @@ module _ (here : Here) where
 
   -- a run after a run
   pub through_run : (old mid now : Which → History) (t v : Turn) (xs ys : List Act) (more : List ℕ) → after here t xs ≡ v
-      → TellsThroughout old mid (IsPassed here t xs []) → TellsThroughout mid now (IsPassed here v ys more) → TellsThroughout old now (IsPassed here t (xs ++ ys) more)
+      → TellsThroughout old mid (IsPassed here t xs []) → TellsThroughout mid now (IsPassed here v ys more)
+      → TellsThroughout old now (IsPassed here t (xs ++ ys) more)
   through_run old mid now t v xs ys more leads one two =
-      through_then old mid now (IsPassed here t (xs ++ ys) more) (through_as old mid (IsPassed here t xs []) (IsPassed here t (xs ++ ys) more) (passed_front t xs ys more) one)
+      through_then old mid now (IsPassed here t (xs ++ ys) more) (through_as old mid (IsPassed here t xs []) (IsPassed here t (xs ++ ys) more)
+      (passed_front t xs ys more) one)
       (through_as mid now (IsPassed here v ys more) (IsPassed here t (xs ++ ys) more) (λ u. passed_back t v xs ys more u leads) two)
 
   -- the next event that waits
-  passed_took : (t : Turn) (e : Event) (es : List Event) (m : ℕ) (os : List Outcome) (u : Plain) → t.waits ≡ e ∷ es → IsWithin m e t.state u → IsPassed here t (took m os ∷ []) [] u
+  passed_took : (t : Turn) (e : Event) (es : List Event) (m : ℕ) (os : List Outcome) (u : Plain) → t.waits ≡ e ∷ es → IsWithin m e t.state u
+      → IsPassed here t (took m os ∷ []) [] u
   passed_took t e es m os u waits within = ([], took m os ∷ [], refl, inr (e, es, m, [], waits, refl, within))
 
   passed_cut : (t : Turn) (e : Event) (es : List Event) (m : ℕ) (u : Plain) → t.waits ≡ e ∷ es → IsWithin m e t.state u → IsPassed here t [] (m ∷ []) u
@@ -151,22 +212,28 @@ waits_are : (e : Event) (x : Comeback) (queue rest : List Comeback) → queue �
 waits_are e x queue rest split is = ap (map event_back) split ∙ ap (λ v. v ∷ map event_back rest) (sym is)
 
 -- the next of them was taken
-pub through_took_back : (here : Here) (old mid now : Which → History) (start : Turn) (acts : List Act) (u : Plain) (e : Event) (x : Comeback) (queue rest : List Comeback) (m : ℕ) (os : List Outcome)
+pub through_took_back : (here : Here) (old mid now : Which → History) (start : Turn) (acts : List Act) (u : Plain) (e : Event) (x : Comeback)
+    (queue rest : List Comeback) (m : ℕ) (os : List Outcome)
     → queue ≡ x ∷ rest → e ≡ event_back x → after here start acts ≡ turn u (map event_back queue)
-    → TellsThroughout old mid (IsPassed here start acts []) → TellsThroughout mid now (IsWithin m e u) → TellsThroughout old now (IsPassed here start (acts ++ took m os ∷ []) [])
+    → TellsThroughout old mid (IsPassed here start acts []) → TellsThroughout mid now (IsWithin m e u)
+    → TellsThroughout old now (IsPassed here start (acts ++ took m os ∷ []) [])
 through_took_back here old mid now start acts u e x queue rest m os split is leads one two =
     let v = turn u (map event_back queue) in
     through_run here old mid now start v acts (took m os ∷ []) [] leads one
-    (through_as mid now (IsWithin m e u) (IsPassed here v (took m os ∷ []) []) (λ w. passed_took here v e (map event_back rest) m os w (waits_are e x queue rest split is)) two)
+    (through_as mid now (IsWithin m e u) (IsPassed here v (took m os ∷ []) [])
+    (λ w. passed_took here v e (map event_back rest) m os w (waits_are e x queue rest split is)) two)
 
 -- it was cut off
-pub through_cut_back : (here : Here) (old mid now : Which → History) (start : Turn) (acts : List Act) (u : Plain) (e : Event) (x : Comeback) (queue rest : List Comeback) (m : ℕ)
+pub through_cut_back : (here : Here) (old mid now : Which → History) (start : Turn) (acts : List Act) (u : Plain) (e : Event) (x : Comeback)
+    (queue rest : List Comeback) (m : ℕ)
     → queue ≡ x ∷ rest → e ≡ event_back x → after here start acts ≡ turn u (map event_back queue)
-    → TellsThroughout old mid (IsPassed here start acts []) → TellsThroughout mid now (IsWithin m e u) → TellsThroughout old now (IsPassed here start (acts ++ []) (m ∷ []))
+    → TellsThroughout old mid (IsPassed here start acts []) → TellsThroughout mid now (IsWithin m e u)
+    → TellsThroughout old now (IsPassed here start (acts ++ []) (m ∷ []))
 through_cut_back here old mid now start acts u e x queue rest m split is leads one two =
     let v = turn u (map event_back queue) in
     through_run here old mid now start v acts [] (m ∷ []) leads one
-    (through_as mid now (IsWithin m e u) (IsPassed here v [] (m ∷ [])) (λ w. passed_cut here v e (map event_back rest) m w (waits_are e x queue rest split is)) two)
+    (through_as mid now (IsWithin m e u) (IsPassed here v [] (m ∷ [])) (λ w. passed_cut here v e (map event_back rest) m w
+    (waits_are e x queue rest split is)) two)
 
 -- the event that a receive brought was cut off
 pub through_cut_turn : (here : Here) (old now : Which → History) (arrival : Arrival) (m : ℕ) (s : Plain) (e : Event) → Some e ≡ event_in here arrival
@@ -176,7 +243,8 @@ through_cut_turn here old now arrival m s e some =
     (λ u within. (received arrival ∷ [], [], refl, inr (e, [], m, [], ap option_to_list (sym some), refl, within)))
 
 -- a receive, its event, and those that came back of it
-pub through_turn : (here : Here) (old mid now : Which → History) (arrival : Arrival) (m : ℕ) (os : List Outcome) (acts : List Act) (s : Plain) (e : Event) (was back : List Comeback) (more : List ℕ)
+pub through_turn : (here : Here) (old mid now : Which → History) (arrival : Arrival) (m : ℕ) (os : List Outcome) (acts : List Act) (s : Plain) (e : Event)
+    (was back : List Comeback) (more : List ℕ)
     → Some e ≡ event_in here arrival → was ≡ [] → back ≡ was ++ brought_back os
     → TellsThroughout old mid (IsWithin m e s) → TellsThroughout mid now (IsPassed here (turn (after_event m e s) (map event_back back)) acts more)
     → TellsThroughout old now (IsPassed here (idle s) (received arrival ∷ took m os ∷ acts) more)
@@ -184,7 +252,8 @@ through_turn here old mid now arrival m os acts s e was back more some empty gro
     let v = turn (after_event m e s) (map event_back back) in
     let back_is : back ≡ brought_back os = grown ∙ ap (λ (l : List Comeback). l ++ brought_back os) empty in
     let leads : after here (idle s) (received arrival ∷ took m os ∷ []) ≡ v =
-    ap (λ (o : Option Event). take_next m os (option_to_list o) s) (sym some) ∙ ap (λ (q : List Comeback). turn (after_event m e s) (map event_back q)) (sym back_is) in
+    ap (λ (o : Option Event). take_next m os (option_to_list o) s) (sym some)
+    ∙ ap (λ (q : List Comeback). turn (after_event m e s) (map event_back q)) (sym back_is) in
     through_run here old mid now (idle s) v (received arrival ∷ took m os ∷ []) acts more leads
     (through_as old mid (IsWithin m e s) (IsPassed here (idle s) (received arrival ∷ took m os ∷ []) [])
     (λ u within. (received arrival ∷ [], took m os ∷ [], refl, inr (e, [], m, [], ap option_to_list (sym some), refl, within))) one)

@@ -1,5 +1,6 @@
 -- What a host in order says goes to hosts of its site, under numbers from 1 on.
-use Rattle.std.proofs.Common.{◌≡◌, ℕ, ◌+◌, Bool, true, false, ◌&&◌, ◌||◌, ◌==◌, nat_lt, nat_le, List, [], ◌∷◌, ◌++◌, map, filter, length, Option, None, Some, Result, Ok, Err, true≢false, refl, sym, subst, ◌∙◌, arith, if◌then◌else◌}
+use Rattle.std.proofs.Common.{◌≡◌, ℕ, ◌+◌, Bool, true, false, ◌&&◌, ◌||◌, ◌==◌, nat_lt, nat_le, List, [], ◌∷◌, ◌++◌, map, filter, length, Option, None, Some}
+use Rattle.std.proofs.Common.{Result, Ok, Err, true≢false, refl, sym, subst, ◌∙◌, arith, if◌then◌else◌}
 use Rattle.std.proofs.lemmas.Bool.{and_parts, and_from, lt-ltb, eqb-true}
 use Rattle.std.proofs.lemmas.List.Folds.{list_all-append}
 use Rattle.std.specs.List.{list_any, list_all, flat_map}
@@ -40,10 +41,15 @@ use Rattle.nqs_rules.specs.Rows.{queue_meant, submit_causes, delete_causes}
 use Rattle.nqs_rules.specs.Fits.{edit_causes}
 use Rattle.nqs_rules.specs.Sane.{is_of_site}
 use Rattle.nqs_rules.specs.Stepped.{Stepped, Pending, quiet, says, makes, message, ready, shown}
-use Rattle.nqs_rules.specs.Handover.{closes, was_given, send_abort, send_ready, send_done, send_inquire, opened_with, offer_causes, offer_by, on_offer, ready_phase, ready_with, on_ready, refused_phase, refused_with, on_refused, on_commit, done_phase, done_with, on_done, on_abort, is_silent, repeat_offer, repeat_phase, repeat_hand, repeated_hands, inquiries}
-use Rattle.nqs_rules.specs.Stage.{Part, goes_here, kept_parts, has_left, stage_counter, files_written, is_stage_to, has_stage_to, stage_sent, parts_sent, on_end, is_got, send_staged, on_stage, is_earlier_stage, send_stage, due_of, on_staged, on_written, file_again, stages_from, due_outputs}
+use Rattle.nqs_rules.specs.Handover.{closes, was_given, send_abort, send_ready, send_done, send_inquire, opened_with, offer_causes, offer_by, on_offer}
+use Rattle.nqs_rules.specs.Handover.{ready_phase, ready_with, on_ready, refused_phase, refused_with, on_refused, on_commit, done_phase, done_with, on_done}
+use Rattle.nqs_rules.specs.Handover.{on_abort, is_silent, repeat_offer, repeat_phase, repeat_hand, repeated_hands, inquiries}
+use Rattle.nqs_rules.specs.Stage.{Part, goes_here, kept_parts, has_left, stage_counter, files_written, is_stage_to, has_stage_to, stage_sent, parts_sent}
+use Rattle.nqs_rules.specs.Stage.{on_end, is_got, send_staged, on_stage, is_earlier_stage, send_stage, due_of, on_staged, on_written, file_again, stages_from}
+use Rattle.nqs_rules.specs.Stage.{due_outputs}
 use Rattle.nqs_rules.specs.Start.{moving_by, local_causes, start}
-use Rattle.nqs_rules.specs.Step.{Asker, reply_to, answer_to, unless_refused, submit_to, kill, delete_meant, runs_in_queue, kills_of, stat_causes, ticked, on_allowed, on_message, is_start, ended_by, acknowledged, unlaunched_by, step}
+use Rattle.nqs_rules.specs.Step.{Asker, reply_to, answer_to, unless_refused, submit_to, kill, delete_meant, runs_in_queue, kills_of, stat_causes, ticked}
+use Rattle.nqs_rules.specs.Step.{on_allowed, on_message, is_start, ended_by, acknowledged, unlaunched_by, step}
 use Rattle.nqs_rules.specs.Text.{stat_lines}
 use Rattle.nqs_rules.specs.InOrder.{IsInOrder, is_row_right, is_hand_right, is_hand_given, is_promise_right, is_stage_right, is_stage_given, is_peer_right}
 use Rattle.nqs_rules.proofs.KeyFacts.{all_get, place_below}
@@ -63,14 +69,18 @@ is_told hosts (out.Send m) = is_of_site hosts m.to && has_number m.body
 is_told hosts (out.Ack port id start) = is_right_id hosts id
 is_told hosts o = true
 
-all-flat : {V W : Type 0} (p : V → Bool) (q : W → Bool) (g : V → List W) → ((v : V) → p v ≡ true → list_all q (g v) ≡ true) → (vs : List V) → list_all p vs ≡ true → list_all q (flat_map g vs) ≡ true
+all-flat : {V W : Type 0} (p : V → Bool) (q : W → Bool) (g : V → List W) → ((v : V) → p v ≡ true → list_all q (g v) ≡ true) → (vs : List V)
+    → list_all p vs ≡ true → list_all q (flat_map g vs) ≡ true
 all-flat p q g f [] h = refl
-all-flat p q g f (v ∷ vs) h = let k = and_parts (p v) (list_all p vs) h in list_all-append q (g v) (flat_map g vs) ∙ and_from (list_all q (g v)) (list_all q (flat_map g vs)) (f v k.0) (all-flat p q g f vs k.1)
+all-flat p q g f (v ∷ vs) h = let k = and_parts (p v) (list_all p vs) h in
+    list_all-append q (g v) (flat_map g vs) ∙ and_from (list_all q (g v)) (list_all q (flat_map g vs)) (f v k.0) (all-flat p q g f vs k.1)
 
 -- the best of a list passes what all pass
-best_passes : {V : Type 0} (p test : V → Bool) (beats : V → V → Bool) (n : ℕ) (vs : List V) → list_all p vs ≡ true → IfSome (best_from test beats n vs) (λ q. p q.1 ≡ true)
+best_passes : {V : Type 0} (p test : V → Bool) (beats : V → V → Bool) (n : ℕ) (vs : List V) → list_all p vs ≡ true
+    → IfSome (best_from test beats n vs) (λ q. p q.1 ≡ true)
 best_passes p test beats n [] h = tt
-best_passes {V} p test beats n (v ∷ vs) h = let k = and_parts (p v) (list_all p vs) h in by (test v) k.0 (best_from test beats (n + 1) vs) (best_passes p test beats (n + 1) vs k.1)
+best_passes {V} p test beats n (v ∷ vs) h = let k = and_parts (p v) (list_all p vs) h in
+    by (test v) k.0 (best_from test beats (n + 1) vs) (best_passes p test beats (n + 1) vs k.1)
   where
     of : (b : Bool) (y : ℕ × V) → p v ≡ true → p y.1 ≡ true → IfSome (if b then Some y else Some (n, v)) (λ q. p q.1 ≡ true)
     of true y a c = c
@@ -118,7 +128,8 @@ module _ (s : Plain) (h : IsInOrder s) where
   stages_near (t ∷ ts) k =
       let a = and_parts (is_stage_right s t) (list_all (is_stage_right s) ts) k in
       let given = (and_parts _ (passes (is_stage_given t.number) (find_peer t.peer s)) a.0).1 in
-      and_from (is_stage_near t) (list_all is_stage_near ts) (and_from (is_of_site hosts t.peer) (nat_le 1 t.number) (near_by (is_stage_given t.number) t.peer given) (some t.number (find_peer t.peer s) given)) (stages_near ts a.1)
+      and_from (is_stage_near t) (list_all is_stage_near ts) (and_from (is_of_site hosts t.peer) (nat_le 1 t.number)
+      (near_by (is_stage_given t.number) t.peer given) (some t.number (find_peer t.peer s) given)) (stages_near ts a.1)
     where
       some : (n : ℕ) (o : Option Peer) → passes (is_stage_given n) o ≡ true → nat_le 1 n ≡ true
       some n None k = absurd (true≢false (sym k))
@@ -132,11 +143,13 @@ module _ (s : Plain) (h : IsInOrder s) where
       of (Some q) k = and_from (is_stage_near q.1) true k refl
 
   due_outputs_told : AreTold (due_outputs s)
-  due_outputs_told = joined (stages_from 0 s s.site) (map file_again s.files) (all_stages 0 s.site) (all-mapped (λ f. true) tells file_again (λ f k. refl) s.files (all-true s.files))
+  due_outputs_told = joined (stages_from 0 s s.site) (map file_again s.files) (all_stages 0 s.site)
+      (all-mapped (λ f. true) tells file_again (λ f k. refl) s.files (all-true s.files))
     where
       all_stages : (place : ℕ) (site : List (List ℕ)) → AreTold (stages_from place s site)
       all_stages place [] = refl
-      all_stages place (name ∷ site) = joined (due_of s (host_at place) s.stages) (stages_from (place + 1) s site) (due_told (host_at place) s.stages (stages_near s.stages h.stages)) (all_stages (place + 1) site)
+      all_stages place (name ∷ site) = joined (due_of s (host_at place) s.stages) (stages_from (place + 1) s site)
+          (due_told (host_at place) s.stages (stages_near s.stages h.stages)) (all_stages (place + 1) site)
 
   -- a tick
 
@@ -152,7 +165,8 @@ module _ (s : Plain) (h : IsInOrder s) where
 
       again : (o : Option PlainRow) → AreTold (repeat_offer s x o)
       again None = refl
-      again (Some r) = and_from (is_of_site hosts x.peer && nat_le 1 x.number) true (and_from (is_of_site hosts x.peer) (nat_le 1 x.number) (near_by (is_hand_given x.number) x.peer given) (some (find_peer x.peer s) given)) refl
+      again (Some r) = and_from (is_of_site hosts x.peer && nat_le 1 x.number) true
+          (and_from (is_of_site hosts x.peer) (nat_le 1 x.number) (near_by (is_hand_given x.number) x.peer given) (some (find_peer x.peer s) given)) refl
 
       of : (p : Phase) → AreTold (repeat_phase p s x)
       of Offered = again (find_row x.id s)
@@ -184,7 +198,8 @@ module _ (s : Plain) (h : IsInOrder s) where
         made (Err r) = answers (body.Refused n (refusal_number r)) refl
         made (Ok u) = answers (body.Ready n) refl
 
-        by : (a b : Bool) → AreTold (if a then says (send_done s peer n ∷ []) else (if b then says (send_ready s peer n ∷ []) else offer_by (first_refusal (offer_causes peer queue c s)) peer n queue c script s)).outputs
+        by : (a b : Bool) → AreTold (if a then says (send_done s peer n ∷ []) else
+            (if b then says (send_ready s peer n ∷ []) else offer_by (first_refusal (offer_causes peer queue c s)) peer n queue c script s)).outputs
         by true b = answers (body.Done n) refl
         by false true = answers (body.Ready n) refl
         by false false = made (first_refusal (offer_causes peer queue c s))
@@ -207,7 +222,8 @@ module _ (s : Plain) (h : IsInOrder s) where
     commit_told : AreTold (on_commit peer n s).outputs
     commit_told = by (has_promise peer n s) (closes n (find_peer peer s))
       where
-        by : (a b : Bool) → AreTold (if a then makes (Accepted peer n) (send_done s peer n ∷ []) else (if b then says (send_done s peer n ∷ []) else quiet)).outputs
+        by : (a b : Bool) → AreTold (if a then makes (Accepted peer n) (send_done s peer n ∷ []) else
+            (if b then says (send_done s peer n ∷ []) else quiet)).outputs
         by true b = answers (body.Done n) refl
         by false true = answers (body.Done n) refl
         by false false = refl
@@ -219,7 +235,8 @@ module _ (s : Plain) (h : IsInOrder s) where
         staged = answers (body.Staged n) refl
 
         by : (a b : Bool)
-            → AreTold (if a then says (send_staged s peer n ∷ []) else (if b then makes (StageGot peer n path bytes) (send_staged s peer n ∷ ready (out.File s.file_next path bytes) ∷ []) else makes (StageGot peer n path []) (send_staged s peer n ∷ []))).outputs
+            → AreTold (if a then says (send_staged s peer n ∷ []) else (if b then makes (StageGot peer n path bytes)
+            (send_staged s peer n ∷ ready (out.File s.file_next path bytes) ∷ []) else makes (StageGot peer n path []) (send_staged s peer n ∷ []))).outputs
         by true b = staged
         by false true = staged
         by false false = staged
@@ -282,7 +299,8 @@ module _ (s : Plain) (h : IsInOrder s) where
   unless_told a (Ok u) done k = k
 
   edit_told : (e : Edit) → AreTold (kills_of e s)
-  edit_told (RowsOf (AbortQueue q)) = all-mapped (λ r. true) tells kill (λ r k. refl) (filter (runs_in_queue q) s.rows) (all-true (filter (runs_in_queue q) s.rows))
+  edit_told (RowsOf (AbortQueue q)) = all-mapped (λ r. true) tells kill (λ r k. refl) (filter (runs_in_queue q) s.rows)
+      (all-true (filter (runs_in_queue q) s.rows))
   edit_told e = refl
 
   submit_told : (a : Asker) (o : Option (List ℕ)) (sub : _) → AreTold (submit_to a sub s o).outputs
@@ -293,15 +311,20 @@ module _ (s : Plain) (h : IsInOrder s) where
   delete_told a id None = refl
   delete_told a id (Some r) = by (is_running r.state)
     where
-      by : (b : Bool) → AreTold (if b then makes (Doomed r.id) (reply_to a (reply.Signalled r.id) ∷ kill r ∷ []) else makes (Deleted r.id) (reply_to a (reply.Deleted r.id) ∷ [])).outputs
+      by : (b : Bool) → AreTold (if b then makes (Doomed r.id) (reply_to a (reply.Signalled r.id) ∷ kill r ∷ []) else makes (Deleted r.id)
+          (reply_to a (reply.Deleted r.id) ∷ [])).outputs
       by true = refl
       by false = refl
 
   command_told : (now : ℕ) (a : Asker) (user : List ℕ) (c : Command) → AreTold (on_allowed now a user c s).outputs
-  command_told now a user (command.Submit sub) = unless_told a (first_refusal (submit_causes sub s)) (submit_to a sub s (queue_meant sub.queue s.default_queue)) (submit_told a (queue_meant sub.queue s.default_queue) sub)
-  command_told now a user (command.Edit e) = unless_told a (first_refusal (edit_causes e s)) (makes (Edited e) (reply_to a reply.Done ∷ kills_of e s)) (edit_told e)
-  command_told now a user (command.Stat owner queues) = unless_told a (first_refusal (stat_causes queues s)) (answer_to a (reply.Lines (stat_lines owner queues s))) refl
-  command_told now a user (command.Delete id forced) = unless_told a (first_refusal (delete_causes user id forced s)) (delete_meant a id (meant_row id s)) (delete_told a id (meant_row id s))
+  command_told now a user (command.Submit sub) = unless_told a (first_refusal (submit_causes sub s))
+      (submit_to a sub s (queue_meant sub.queue s.default_queue)) (submit_told a (queue_meant sub.queue s.default_queue) sub)
+  command_told now a user (command.Edit e) = unless_told a (first_refusal (edit_causes e s)) (makes (Edited e) (reply_to a reply.Done ∷ kills_of e s))
+      (edit_told e)
+  command_told now a user (command.Stat owner queues) = unless_told a (first_refusal (stat_causes queues s))
+      (answer_to a (reply.Lines (stat_lines owner queues s))) refl
+  command_told now a user (command.Delete id forced) = unless_told a (first_refusal (delete_causes user id forced s)) (delete_meant a id (meant_row id s))
+      (delete_told a id (meant_row id s))
   command_told now a user (command.Show code) = refl
   command_told now a user command.Shutdown = refl
   command_told now a user command.Tick = joined (ticked now s).outputs (reply_to a reply.Done ∷ []) (tick_told now) refl
@@ -325,7 +348,8 @@ module _ (s : Plain) (h : IsInOrder s) where
       sent [] = refl
       sent (p ∷ ps) = sends id.host (body.Stage (stage_counter (find_peer id.host s)) p.path p.bytes) site (counter (find_peer id.host s) refl)
 
-      by : (a b : Bool) → AreTold (if a then files_written s.file_next parts else (if b then [] else stage_sent s.me id.host (if a then s.file_next else stage_counter (find_peer id.host s)) parts))
+      by : (a b : Bool) → AreTold (if a then files_written s.file_next parts else
+          (if b then [] else stage_sent s.me id.host (if a then s.file_next else stage_counter (find_peer id.host s)) parts))
       by true b = files s.file_next parts
       by false true = refl
       by false false = sent parts
@@ -366,10 +390,12 @@ module _ (s : Plain) (h : IsInOrder s) where
       by false = refl
 
   told : (e : Event) → is_right_event hosts e ≡ true → AreTold (step e s).outputs
-  told (event.Ask now port token user c) k = let a : Asker = record { port = port; token = token } in unless_told a (may_command (rank user s) c) (on_allowed now a user c s) (command_told now a user c)
+  told (event.Ask now port token user c) k = let a : Asker = record { port = port; token = token } in
+      unless_told a (may_command (rank user s) c) (on_allowed now a user c s) (command_told now a user c)
   told (event.Arrived now m) k = let p = and_parts (is_of_site hosts m.from) (has_number m.body) k in message_told m.from p.0 m.body p.1
   told (event.Ended now port id start status output error) k =
-      joined (ended_by (find_row id s) start status output error s).outputs (acknowledged port id start) (ended_told id start status output error) (ack_told port id start k)
+      joined (ended_by (find_row id s) start status output error s).outputs (acknowledged port id start) (ended_told id start status output error)
+      (ack_told port id start k)
   told (event.Unlaunched now id start) k = unlaunched_told (find_row id s) id start
   told (event.Written now file) k = written_told file
   told (event.Unwritten now file) k = refl
@@ -394,7 +420,8 @@ module _ (s : Plain) (h : IsInOrder s) where
       opened r dest None known = refl
       opened r dest (Some p) known =
           let some = (and_parts (nat_le 1 p.next) (nat_le 1 p.stage_next) (all_get is_peer_right s.peers dest.host.0 p h.peers known)).0 in
-          and_from (is_of_site hosts dest.host && nat_le 1 p.next) true (and_from (is_of_site hosts dest.host) (nat_le 1 p.next) (near dest.host p known) some) refl
+          and_from (is_of_site hosts dest.host && nat_le 1 p.next) true (and_from (is_of_site hosts dest.host) (nat_le 1 p.next)
+          (near dest.host p known) some) refl
 
       of : Begins now s x → AreSaid x
       of (Launches r found is) = subst AreSaid is refl

@@ -85,7 +85,8 @@ or_true : (a b : Bool) → b ≡ true → (a || b) ≡ true
 or_true true b k = refl
 or_true false b k = k
 
-right_by : (hosts : ℕ) (m : Message) (b : Body) → IsBody b → has_number b ≡ has_number m.body → is_of_site hosts m.from ≡ true → are_of_site hosts b ≡ true → IfSome (event_by m b) (λ e. IsTrue (is_right_event hosts e))
+right_by : (hosts : ℕ) (m : Message) (b : Body) → IsBody b → has_number b ≡ has_number m.body → is_of_site hosts m.from ≡ true → are_of_site hosts b ≡ true
+    → IfSome (event_by m b) (λ e. IsTrue (is_right_event hosts e))
 right_by hosts m (Offer n q c s) ok same from of_site = and_from _ _ from (sym same ∙ ok.0.0)
 right_by hosts m (Ready n) ok same from of_site = and_from _ _ from (sym same ∙ ok.0)
 right_by hosts m (Refused n cause) ok same from of_site = and_from _ _ from (sym same ∙ ok.0.0)

@@ -36,7 +36,8 @@ use Rattle.nqs_laws.proofs.Sides.{AreShort}
 use Rattle.nqs_laws.proofs.Sent.{all-true, is_fine_message, all_sent, step_fine, start_sends}
 use Rattle.nqs_back.specs.Bare.{emptied, without_bytes}
 use Rattle.nqs_node.specs.Carried.{started}
-use Rattle.nqs_serve.specs.Sends.{has_number, carries_short, bare, is_right_message, is_right_output, AreRight, is_right_event}
+use Rattle.nqs_node.specs.Reading.{carries_short, sends_short, AreShort as AreShortOutputs}
+use Rattle.nqs_serve.specs.Sends.{has_number, bare, is_right_message, is_right_output, AreRight, is_right_event}
 use Rattle.nqs_serve.proofs.Emptied.{order_stays}
 use Rattle.nqs_serve.proofs.Right.{is_told, step_told, start_told}
 
@@ -70,21 +71,44 @@ module _ (hosts : ℕ) where
   all_bare (o ∷ os) = λ j. output_bare o j && all_bare os j
 
   -- what went out is told but for its bytes
-  pub alike_right : (was now went : List Output) → map without_bytes now ≡ map without_bytes was ++ map without_bytes went → AreRight hosts was → AreRight hosts went → AreRight hosts now
+  pub alike_right : (was now went : List Output) → map without_bytes now ≡ map without_bytes was ++ map without_bytes went → AreRight hosts was
+      → AreRight hosts went → AreRight hosts now
   alike_right was now went alike a b =
-      sym (all_bare now) ∙ ap (list_all (is_right_output hosts)) alike ∙ list_all-append (is_right_output hosts) (map without_bytes was) (map without_bytes went)
-      ∙ and_from (list_all (is_right_output hosts) (map without_bytes was)) (list_all (is_right_output hosts) (map without_bytes went)) (all_bare was ∙ a) (all_bare went ∙ b)
+      sym (all_bare now) ∙ ap (list_all (is_right_output hosts)) alike ∙ list_all-append (is_right_output hosts) (map without_bytes was)
+      (map without_bytes went)
+      ∙ and_from (list_all (is_right_output hosts) (map without_bytes was)) (list_all (is_right_output hosts) (map without_bytes went)) (all_bare was ∙ a)
+      (all_bare went ∙ b)
 
   sane_bare : (b : Body) → is_sane_body hosts b ≡ true → is_sane_body hosts (sent_with [] b) ≡ true
   sane_bare (Offer n queue c script) k = and_from _ true (and_parts _ (is_short_script script) k).0 refl
   sane_bare (Stage n path bytes) k = and_from _ true (and_parts _ (is_short_script bytes) k).0 refl
   sane_bare b k = k
 
+  carried : (b : Body) → is_sane_body hosts b ≡ true → carries_short b ≡ true
+  carried (Offer n queue c script) k = (and_parts _ (is_short_script script) k).1
+  carried (Stage n path bytes) k = (and_parts _ (is_short_script bytes) k).1
+  carried b k = refl
+
+  short_one : (o : Output) → list_all (is_fine_message hosts any) (sent_by o) ≡ true → sends_short o ≡ true
+  short_one (out.Send m) sane =
+      let k = and_parts (is_sane_message hosts m) (body_passes any m.body) (and_parts (is_fine_message hosts any m) true sane).0 in
+      carried m.body (and_parts (is_of_site hosts m.from) (is_sane_body hosts m.body) k.0).1
+  short_one o sane = refl
+
+  -- what is fine carries short scripts and outputs
+  shorts : (os : List Output) → list_all (is_fine_message hosts any) (sent_in os) ≡ true → AreShortOutputs os
+  shorts [] sane = refl
+  shorts (o ∷ os) sane =
+      let k = and_parts (list_all (is_fine_message hosts any) (sent_by o)) (list_all (is_fine_message hosts any) (sent_in os))
+      (sym (list_all-append (is_fine_message hosts any) (sent_by o) (sent_in os)) ∙ sane) in
+      and_from (sends_short o) (list_all sends_short os) (short_one o k.0) (shorts os k.1)
+
   right : (o : Output) → is_told hosts o ≡ true → list_all (is_fine_message hosts any) (sent_by o) ≡ true → is_right_output hosts o ≡ true
   right (out.Send m) told sane =
       let k = and_parts (is_sane_message hosts m) (body_passes any m.body) (and_parts (is_fine_message hosts any m) true sane).0 in
       let q = and_parts (is_of_site hosts m.from) (is_sane_body hosts m.body) k.0 in
-      and_from (is_of_site hosts m.to && has_number m.body) (is_sane_message hosts (bare m)) told (and_from (is_of_site hosts m.from) (is_sane_body hosts (sent_with [] m.body)) q.0 (sane_bare m.body q.1))
+      and_from (is_of_site hosts m.to && has_number m.body) (is_sane_message hosts (bare m)) told
+      (and_from (is_of_site hosts m.from) (is_sane_body hosts (sent_with [] m.body)) q.0 (sane_bare m.body q.1))
   right (out.Ack port id n) told sane = told
   right o told sane = refl
 
@@ -92,7 +116,8 @@ module _ (hosts : ℕ) where
   rights [] told sane = refl
   rights (o ∷ os) told sane =
       let t = and_parts (is_told hosts o) (list_all (is_told hosts) os) told in
-      let k = and_parts (list_all (is_fine_message hosts any) (sent_by o)) (list_all (is_fine_message hosts any) (sent_in os)) (sym (list_all-append (is_fine_message hosts any) (sent_by o) (sent_in os)) ∙ sane) in
+      let k = and_parts (list_all (is_fine_message hosts any) (sent_by o)) (list_all (is_fine_message hosts any) (sent_in os))
+      (sym (list_all-append (is_fine_message hosts any) (sent_by o) (sent_in os)) ∙ sane) in
       and_from (is_right_output hosts o) (list_all (is_right_output hosts) os) (right o t.0 k.0) (rights os t.1 k.1)
 
 -- a site has few hosts
@@ -152,22 +177,43 @@ module _ (host : State Extent) (order : IsInOrder host) where
     files = all-mapped (λ f. true) (λ f. nat_le (length f.bytes) 32768) (map_file (λ _. [])) (λ f k. refl) host.files (all-true host.files);
   }
 
+  step_sane : (e : Event) → is_sane_event hosts e ≡ true → list_all (is_fine_message hosts any) (sent_in (map shown (step e s).outputs)) ≡ true
+  step_sane e sane =
+      all_sent s stays any (λ id. true) (map shown (step e s).outputs)
+      (step_fine s stays any (λ id. true) scripts short (all-true s.rows) e sane (λ queue job script submits. refl))
+
   -- what goes out of an event
   pub step_right : (e : Event) → is_sane_event hosts e ≡ true → is_right_event hosts e ≡ true → AreRight 16 (map shown (step e s).outputs)
   step_right e sane right =
-      wider hosts few (map shown (step e s).outputs) (rights hosts (map shown (step e s).outputs) (step_told s stays e right)
-      (all_sent s stays any (λ id. true) (map shown (step e s).outputs) (step_fine s stays any (λ id. true) scripts short (all-true s.rows) e sane (λ queue job script submits. refl))))
+      wider hosts few (map shown (step e s).outputs) (rights hosts (map shown (step e s).outputs) (step_told s stays e right) (step_sane e sane))
+
+  pub step_short : (e : Event) → is_sane_event hosts e ≡ true → AreShortOutputs (map shown (step e s).outputs)
+  step_short e sane = shorts hosts (map shown (step e s).outputs) (step_sane e sane)
+
+  fit : (now : ℕ) (x : Stepped (List ℕ)) → start now s ≡ Some x → (c : Change (List ℕ)) → x.change ≡ Some c → fits c s ≡ true
+  fit now x e c is =
+      let fitting = subst (λ o. IfSome o (λ (y : Stepped (List ℕ)). Fitting s y.change)) e (start_fits now s stays) in
+      (subst (λ o. IfSome o (λ d. (fits d s ≡ true) × (is_sane_change d ≡ true))) is fitting).0
+
+  start_sane : (now : ℕ) (x : Stepped (List ℕ)) → start now s ≡ Some x → list_all (is_fine_message hosts any) (sent_in (map shown x.outputs)) ≡ true
+  start_sane now x e = start_sends s stays any (λ id. true) scripts short (all-true s.rows) now x e (fit now x e)
 
   -- and of a start
   pub start_right : (now : ℕ) → AreRight 16 (map shown (started now s).outputs)
   start_right now = wider hosts few (map shown (started now s).outputs) (by (start now s) refl)
     where
-      fit : (x : Stepped (List ℕ)) → start now s ≡ Some x → (c : Change (List ℕ)) → x.change ≡ Some c → fits c s ≡ true
-      fit x e c is = (subst (λ o. IfSome o (λ d. (fits d s ≡ true) × (is_sane_change d ≡ true))) is (subst (λ o. IfSome o (λ (y : Stepped (List ℕ)). Fitting s y.change)) e (start_fits now s stays))).0
-
-      by : (o : Option (Stepped (List ℕ))) → start now s ≡ o → (let x : Stepped (List ℕ) = elim o [ None ↦ quiet | Some y ↦ y ] in AreRight hosts (map shown x.outputs))
+      by : (o : Option (Stepped (List ℕ))) → start now s ≡ o
+          → (let x : Stepped (List ℕ) = elim o [ None ↦ quiet | Some y ↦ y ] in AreRight hosts (map shown x.outputs))
       by None e = refl
-      by (Some x) e = rights hosts (map shown x.outputs) (start_told s stays now x e) (start_sends s stays any (λ id. true) scripts short (all-true s.rows) now x e (fit x e))
+      by (Some x) e = rights hosts (map shown x.outputs) (start_told s stays now x e) (start_sane now x e)
+
+  pub start_short : (now : ℕ) → AreShortOutputs (map shown (started now s).outputs)
+  start_short now = by (start now s) refl
+    where
+      by : (o : Option (Stepped (List ℕ))) → start now s ≡ o
+          → (let x : Stepped (List ℕ) = elim o [ None ↦ quiet | Some y ↦ y ] in AreShortOutputs (map shown x.outputs))
+      by None e = refl
+      by (Some x) e = shorts hosts (map shown x.outputs) (start_sane now x e)
 
 -- a right message may be sent where it carries nothing too long
 
@@ -178,11 +224,14 @@ with_what_it_carries _ b k is_short = k
 
 pub sane_message : (m : Message) → is_right_message 16 m ≡ true → carries_short m.body ≡ true → is_sane_message 16 m ≡ true
 sane_message m k is_short =
-    let sane = and_parts (is_of_site 16 m.from) (is_sane_body 16 (sent_with [] m.body)) (and_parts (is_of_site 16 m.to && has_number m.body) (is_sane_message 16 (bare m)) k).1 in
+    let sane = and_parts (is_of_site 16 m.from) (is_sane_body 16 (sent_with [] m.body))
+    (and_parts (is_of_site 16 m.to && has_number m.body) (is_sane_message 16 (bare m)) k).1 in
     and_from _ _ sane.0 (with_what_it_carries 16 m.body sane.1 is_short)
 
 pub goes_to_host : (m : Message) → is_right_message 16 m ≡ true → IsHost m.to
-goes_to_host m k = (and_parts (is_of_site 16 m.to) (has_number m.body) (and_parts (is_of_site 16 m.to && has_number m.body) (is_sane_message 16 (bare m)) k).0).0
+goes_to_host m k = (and_parts (is_of_site 16 m.to) (has_number m.body) (and_parts (is_of_site 16 m.to && has_number m.body)
+    (is_sane_message 16 (bare m)) k).0).0
 
 pub has_its_number : (m : Message) → is_right_message 16 m ≡ true → has_number m.body ≡ true
-has_its_number m k = (and_parts (is_of_site 16 m.to) (has_number m.body) (and_parts (is_of_site 16 m.to && has_number m.body) (is_sane_message 16 (bare m)) k).0).1
+has_its_number m k = (and_parts (is_of_site 16 m.to) (has_number m.body)
+    (and_parts (is_of_site 16 m.to && has_number m.body) (is_sane_message 16 (bare m)) k).0).1

@@ -1,5 +1,6 @@
 -- Starts go on until there is none, whatever bytes are put for scripts.
-use Rattle.std.proofs.Common.{◌≡◌, ℕ, ◌<◌, ◌≤◌, true, nat_le, List, [], ◌∷◌, ◌++◌, length, Option, None, Some, is_some, zero, suc, refl, sym, ap, subst, ◌∙◌, arith, false, append_assoc}
+use Rattle.std.proofs.Common.{◌≡◌, ℕ, ◌<◌, ◌≤◌, true, nat_le, List, [], ◌∷◌, ◌++◌, length, Option, None, Some, is_some, zero, suc, refl, sym, ap, subst, ◌∙◌}
+use Rattle.std.proofs.Common.{arith, false, append_assoc}
 use Rattle.std.proofs.lemmas.Simd.{map-map}
 use Rattle.std.proofs.lemmas.List.{append-nil}
 use Rattle.std.proofs.lemmas.Grind.{flat_map-append}
@@ -62,7 +63,8 @@ module _ (now : ℕ) where
   enough (suc n) zero s calm few also = none_starts (suc n) s (idle s calm also)
   enough (suc n) (suc m) s calm few also = by (start now s) refl (enough n m)
     where
-      by : (o : Option (Stepped (List ℕ))) → start now s ≡ o → ((t : Plain) → IsSteady t → starts_left t ≤ n → starts_left t ≤ m → starts_at_most n now t ≡ starts_at_most m now t) → Going n s o ≡ Going m s o
+      by : (o : Option (Stepped (List ℕ))) → start now s ≡ o → ((t : Plain) → IsSteady t → starts_left t ≤ n → starts_left t ≤ m
+          → starts_at_most n now t ≡ starts_at_most m now t) → Going n s o ≡ Going m s o
       by None e rest = refl
       by (Some x) e rest =
           let is : IsStart s x = start_is now s x calm e in
@@ -99,13 +101,15 @@ pub after_more : (xs : List (Stepped (List ℕ))) (x : Stepped (List ℕ)) (s : 
 after_more [] x s = refl
 after_more (y ∷ xs) x s = after_more xs x (after_step y s)
 
-pub said_more : (out : List Output) (xs : List (Stepped (List ℕ))) (x : Stepped (List ℕ)) → (out ++ flat_map said xs) ++ said x ≡ out ++ flat_map said (xs ++ x ∷ [])
+pub said_more : (out : List Output) (xs : List (Stepped (List ℕ))) (x : Stepped (List ℕ))
+    → (out ++ flat_map said xs) ++ said x ≡ out ++ flat_map said (xs ++ x ∷ [])
 said_more out xs x =
     append_assoc out (flat_map said xs) (said x)
     ∙ ap (λ (l : List Output). out ++ l) (ap (λ (l : List Output). flat_map said xs ++ l) (sym (append-nil (said x))) ∙ sym (flat_map-append said xs (x ∷ [])))
 
 -- the next start, behind those before it
-pub one_start : (now : ℕ) (s : Plain) (xs : List (Stepped (List ℕ))) → IsSteady (after_starts xs s) → starts now s ≡ xs ++ starts now (after_starts xs s) → is_some (start now (after_starts xs s)) ≡ true
+pub one_start : (now : ℕ) (s : Plain) (xs : List (Stepped (List ℕ))) → IsSteady (after_starts xs s) → starts now s ≡ xs ++ starts now (after_starts xs s)
+    → is_some (start now (after_starts xs s)) ≡ true
     → starts now s ≡ (xs ++ started now (after_starts xs s) ∷ []) ++ starts now (after_starts (xs ++ started now (after_starts xs s) ∷ []) s)
 one_start now s xs calm so_far some =
     let u = after_starts xs s in
@@ -116,7 +120,8 @@ one_start now s xs calm so_far some =
     ∙ ap (λ v. (xs ++ x ∷ []) ++ starts now v) (sym (after_more xs x s))
 
 -- there was no other
-pub last_start : (now : ℕ) (s : Plain) (xs : List (Stepped (List ℕ))) → starts now s ≡ xs ++ starts now (after_starts xs s) → is_some (start now (after_starts xs s)) ≡ false → starts now s ≡ xs
+pub last_start : (now : ℕ) (s : Plain) (xs : List (Stepped (List ℕ))) → starts now s ≡ xs ++ starts now (after_starts xs s)
+    → is_some (start now (after_starts xs s)) ≡ false → starts now s ≡ xs
 last_start now s xs so_far none = so_far ∙ ap (λ (l : List (Stepped (List ℕ))). xs ++ l) (starts_none now (after_starts xs s) none) ∙ append-nil xs
 
 pub none_started : (now : ℕ) (s : Plain) → is_some (start now s) ≡ false → started now s ≡ quiet

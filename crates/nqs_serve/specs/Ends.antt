@@ -64,7 +64,8 @@ pub record Receives (turns : ℕ) (bs : List Bool) : Type 0 where
 -- how a run ends, where a predicate says which state is told at its end
 abbrev pub EndsWith : (Plain → Type 0) → ServeEnd → ℕ → List Bool → Turn → List ℕ → Type 0
 -- the last receive brought such a shutdown, and none before it did
-EndsWith Told Shutdown turns bs t more = (t.waits ≡ []) × (more ≡ []) × Told t.state × ((before : List Bool) × (bs ≡ before ++ true ∷ []) × NoneStops before × (length bs ≤ turns))
+EndsWith Told Shutdown turns bs t more = (t.waits ≡ []) × (more ≡ []) × Told t.state
+    × ((before : List Bool) × (bs ≡ before ++ true ∷ []) × NoneStops before × (length bs ≤ turns))
 EndsWith Told TurnsUsed turns bs t more = (t.waits ≡ []) × (more ≡ []) × Told t.state × NoneStops bs × (length bs ≡ turns)
 -- the receive that failed is one more
 EndsWith Told WireFault turns bs t more = (t.waits ≡ []) × (more ≡ []) × Told t.state × NoneStops bs × (length bs < turns)
@@ -79,10 +80,10 @@ module _ {D : Type 0} {g : disk.Ghosts D} where
 -- what cut an event off cuts its turn off
 abbrev pub fault_of : Cut → Fault
 fault_of cut.Disk = fault.Disk
-fault_of cut.Memory = fault.Memory
+fault_of (cut.Memory memory) = fault.Memory memory
 
 -- a turn that was cut off is the last
 abbrev pub end_of : Fault → ServeEnd
 end_of fault.Wire = WireFault
 end_of fault.Disk = DiskFault
-end_of fault.Memory = Memory (record {})
+end_of (fault.Memory memory) = Memory memory

@@ -220,5 +220,7 @@ folded_outputs s (e ∷ es) (m ∷ ms) = outputs m e s ++ folded_outputs (after_
 
 -- where nothing came back, a run that leaves nothing waiting is the fold of the step and its starts over the events in what was received
 abbrev pub RunsAreFolds : Type 0
-RunsAreFolds = (here : Here) (s : Plain) (acts : List Act) → IsRun here (idle s) acts → brought_back (outcomes acts) ≡ [] → (after here (idle s) acts).waits ≡ []
-    → ((after here (idle s) acts).state ≡ folded s (events here acts) (moments acts)) × (outputs_in (outcomes acts) ≡ folded_outputs s (events here acts) (moments acts))
+RunsAreFolds = (here : Here) (s : Plain) (acts : List Act) → IsRun here (idle s) acts → brought_back (outcomes acts) ≡ []
+    → (after here (idle s) acts).waits ≡ []
+    → ((after here (idle s) acts).state ≡ folded s (events here acts) (moments acts))
+    × (outputs_in (outcomes acts) ≡ folded_outputs s (events here acts) (moments acts))

@@ -9,7 +9,7 @@ use Rattle.nqs_types.specs.declared.event.Event.{Event}
 use Rattle.nqs_types.specs.declared.event.Event.TheVariants as event
 use Rattle.nqs_types.specs.declared.event.Output.{Output}
 use Rattle.nqs_types.specs.declared.event.Output.TheVariants as out
-use Rattle.nqs_rules.specs.Sane.{is_of_site, is_sane_id, is_short_script, is_sane_message}
+use Rattle.nqs_rules.specs.Sane.{is_of_site, is_sane_id, is_sane_message}
 use Rattle.nqs_rules.specs.Stepped.{sent_with}
 
 -- what a host says to a host, under a number from 1 on
@@ -24,12 +24,6 @@ has_number (Abort n) = nat_le 1 n
 has_number (Stage n _ _) = nat_le 1 n
 has_number (Staged n) = nat_le 1 n
 has_number _ = false
-
--- the script or output that a message carries is short enough
-abbrev pub carries_short : Body → Bool
-carries_short (Offer _ _ _ script) = is_short_script script
-carries_short (Stage _ _ bytes) = is_short_script bytes
-carries_short _ = true
 
 -- a request of a host of the site
 abbrev pub is_right_id : ℕ → RequestId → Bool

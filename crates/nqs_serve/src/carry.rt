@@ -95,8 +95,8 @@ fn carry_one<W: Wire, L: Launcher, P: Printer, O: Outlet>(
     ok
 }
 
-/// Carries out the outputs, each with its datagram if it has one. What comes back of them is added to `back`, which
-/// has room for it.
+/// Carries out the outputs, each with its datagram if it has one. What comes back of them is added
+/// to `back`, which has room for it.
 pub(crate) fn carry<W: Wire, L: Launcher, P: Printer, O: Outlet>(
     wire: &mut W,
     launcher: &mut L,

@@ -1,9 +1,11 @@
 //! Why an event was cut off.
 
+use nqs_values::Memory;
+
 /// Why an event was cut off.
-#[derive(Clone, Copy, Debug, PartialEq, Eq)]
+#[derive(Debug, PartialEq, Eq, Drop)]
 pub(crate) enum Cut {
     /// A call of a disk failed.
     Disk,
-    Memory,
+    Memory(Memory),
 }

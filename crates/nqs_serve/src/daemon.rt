@@ -25,7 +25,7 @@ use nqs_values::Memory;
 use std::alloc::Global;
 
 /// Why the daemon ended.
-#[derive(Clone, Copy, Debug, PartialEq, Eq)]
+#[derive(Debug, PartialEq, Eq, Drop)]
 pub enum ServeEnd {
     /// The last receive brought a shutdown, which was answered Done.
     Shutdown,
@@ -39,13 +39,13 @@ pub enum ServeEnd {
 }
 
 /// Why a turn was cut off.
-#[derive(Clone, Copy, Debug, PartialEq, Eq)]
+#[derive(Debug, PartialEq, Eq, Drop)]
 pub(crate) enum Fault {
     /// A call of the wire failed.
     Wire,
     /// A call of a disk failed.
     Disk,
-    Memory,
+    Memory(Memory),
 }
 
 fn fault_of(cut: Cut) -> Fault
@@ -53,7 +53,7 @@ fn fault_of(cut: Cut) -> Fault
 {
     match cut {
         Cut::Disk => Fault::Disk,
-        Cut::Memory => Fault::Memory,
+        Cut::Memory(memory) => Fault::Memory(memory),
     }
 }
 
@@ -63,7 +63,7 @@ fn end_of(fault: Fault) -> ServeEnd
     match fault {
         Fault::Wire => ServeEnd::WireFault,
         Fault::Disk => ServeEnd::DiskFault,
-        Fault::Memory => ServeEnd::Memory(Memory),
+        Fault::Memory(memory) => ServeEnd::Memory(memory),
     }
 }
 
@@ -75,7 +75,8 @@ struct Room {
     back: Vec<Comeback>,
 }
 
-// One turn: a receive, the event that it brought, and those that come back of it. True: a shutdown was answered Done.
+// One turn: a receive, the event that it brought, and those that come back of it. True: a shutdown
+// was answered Done.
 fn turn<D: Disk, W: Wire, L: Launcher, P: Printer, O: Outlet, C: Clock>(
     alloc: Global,
     me: HostId,
@@ -93,19 +94,22 @@ fn turn<D: Disk, W: Wire, L: Launcher, P: Printer, O: Outlet, C: Clock>(
     ensures sound { IsSoundHost (content_of node.new) }
     ensures site { (content_of node.new).site ≡ (content_of node.old).site }
     ensures running { OnOk result (is_stopped node.new ≡ false) }
-    ensures ok { (s : Plain) (here : Here) → Knows node.old s → here ≡ record { me = me; site = (content_of node.old).site } → IfOk result (λ stop. (acts : List Act) × (u : Plain) × Knows node.new u × (stops here (idle s) acts ≡ stop ∷ [])
+    ensures ok { (s : Plain) (here : Here) → Knows node.old s → here ≡ record { me = me; site = (content_of node.old).site }
+        → IfOk result (λ stop. (acts : List Act) × (u : Plain) × Knows node.new u × (stops here (idle s) acts ≡ stop ∷ [])
         × Ran here acts (idle s) (idle u) []
         (telling (W.received wire.old) (W.sent wire.old) (L.asked launcher.old) (P.prints printer.old) (O.filings outlet.old) (C.given clock.old))
         (telling (W.received wire.new) (W.sent wire.new) (L.asked launcher.new) (P.prints printer.new) (O.filings outlet.new) (C.given clock.new))
         × TellsThroughout (history_of node.old) (history_of node.new) (IsPassed here (idle s) acts [])) }
-    ensures err { (s : Plain) (here : Here) → Knows node.old s → here ≡ record { me = me; site = (content_of node.old).site } → IfErr result (λ fault. (acts : List Act) × (t : Turn) × (more : List ℕ)
+    ensures err { (s : Plain) (here : Here) → Knows node.old s → here ≡ record { me = me; site = (content_of node.old).site }
+        → IfErr result (λ fault. (acts : List Act) × (t : Turn) × (more : List ℕ)
         × Ran here acts (idle s) t more
         (telling (W.received wire.old) (W.sent wire.old) (L.asked launcher.old) (P.prints printer.old) (O.filings outlet.old) (C.given clock.old))
         (telling (W.received wire.new) (W.sent wire.new) (L.asked launcher.new) (P.prints printer.new) (O.filings outlet.new) (C.given clock.new))
         × Ends (end_of fault) 1 (stops here (idle s) acts) t more node.new
         × TellsThroughout (history_of node.old) (history_of node.new) (IsPassed here (idle s) acts more)) }
     ensures wire_fault { IsErrOf result Fault.Wire → Rose (W.receive_faults wire.old) (W.receive_faults wire.new) }
-    ensures disk_fault { IsErrOf result Fault.Disk → IsTrue (is_stopped node.new) × ((which : Which) × Rose (D.faults (disk_of which node.old)) (D.faults (disk_of which node.new))) }
+    ensures disk_fault { IsErrOf result Fault.Disk → IsTrue (is_stopped node.new)
+        × ((which : Which) × Rose (D.faults (disk_of which node.old)) (D.faults (disk_of which node.new))) }
     ensures later { (which : Which) → D.faults (disk_of which node.old) ≤ D.faults (disk_of which node.new) }
     ensures wire { W.receive_faults wire.old ≤ W.receive_faults wire.new }
 {
@@ -114,7 +118,7 @@ fn turn<D: Disk, W: Wire, L: Launcher, P: Printer, O: Outlet, C: Clock>(
         Ok(Some(event)) => event,
         Ok(None) => return Ok(false),
         Err(Missed::Wire) => return Err(Fault::Wire),
-        Err(Missed::Memory) => return Err(Fault::Memory),
+        Err(Missed::Memory(memory)) => return Err(Fault::Memory(memory)),
     };
     let stop = shuts_down(&event, node.state());
     room.back.clear();
@@ -153,14 +157,16 @@ fn turns_in<D: Disk, W: Wire, L: Launcher, P: Printer, O: Outlet, C: Clock>(
     requires host { IsHost me }
     ensures sound { IsSoundHost (content_of node.new) }
     ensures site { (content_of node.new).site ≡ (content_of node.old).site }
-    ensures run { (s : Plain) (here : Here) → Knows node.old s → here ≡ record { me = me; site = (content_of node.old).site } → (acts : List Act) × (t : Turn) × (more : List ℕ)
+    ensures run { (s : Plain) (here : Here) → Knows node.old s → here ≡ record { me = me; site = (content_of node.old).site }
+        → (acts : List Act) × (t : Turn) × (more : List ℕ)
         × Ran here acts (idle s) t more
         (telling (W.received wire.old) (W.sent wire.old) (L.asked launcher.old) (P.prints printer.old) (O.filings outlet.old) (C.given clock.old))
         (telling (W.received wire.new) (W.sent wire.new) (L.asked launcher.new) (P.prints printer.new) (O.filings outlet.new) (C.given clock.new))
         × Ends result turns (stops here (idle s) acts) t more node.new
         × TellsThroughout (history_of node.old) (history_of node.new) (IsPassed here (idle s) acts more) }
     ensures wire_fault { result ≡ ServeEnd.WireFault → Rose (W.receive_faults wire.old) (W.receive_faults wire.new) }
-    ensures disk_fault { result ≡ ServeEnd.DiskFault → IsTrue (is_stopped node.new) × ((which : Which) × Rose (D.faults (disk_of which node.old)) (D.faults (disk_of which node.new))) }
+    ensures disk_fault { result ≡ ServeEnd.DiskFault → IsTrue (is_stopped node.new)
+        × ((which : Which) × Rose (D.faults (disk_of which node.old)) (D.faults (disk_of which node.new))) }
 {
     let mut left = turns;
     while left > 0 {
@@ -179,12 +185,13 @@ fn turns_in<D: Disk, W: Wire, L: Launcher, P: Printer, O: Outlet, C: Clock>(
 /// The longest datagram, and one byte more: what fills the room was cut.
 const ROOM: usize = 49_153;
 
-/// Serves a host: takes what comes, turn by turn, at most so many. A turn is a receive, the event that it brought with
-/// the starts after it, and the events that come back of what went out.
+/// Serves a host: takes what comes, turn by turn, at most so many. A turn is a receive, the event
+/// that it brought with the starts after it, and the events that come back of what went out.
 ///
-/// The node's state is that after the run over what was received, and what the outside was asked for is just what goes
-/// out of that run, in order; where an event was cut off by a fault, nothing of it went out. Whatever a stop leaves of
-/// the node's disks at any moment tells a state that the run passes. After `DiskFault` the node is stopped.
+/// The node's state is that after the run over what was received, and what the outside was asked
+/// for is just what goes out of that run, in order; where an event was cut off by a fault, nothing
+/// of it went out. Whatever a stop leaves of the node's disks at any moment tells a state that the
+/// run passes. After `DiskFault` the node is stopped.
 pub fn serve<D: Disk, W: Wire, L: Launcher, P: Printer, O: Outlet, C: Clock>(
     alloc: Global,
     node: &mut Node<D>,
@@ -206,10 +213,12 @@ pub fn serve<D: Disk, W: Wire, L: Launcher, P: Printer, O: Outlet, C: Clock>(
         × Ends result turns (stops (here_of node.old) (idle s) acts) t more node.new
         × TellsThroughout (history_of node.old) (history_of node.new) (IsPassed (here_of node.old) (idle s) acts more) }
     ensures wire_fault { result ≡ ServeEnd.WireFault → Rose (W.receive_faults wire.old) (W.receive_faults wire.new) }
-    ensures disk_fault { result ≡ ServeEnd.DiskFault → IsTrue (is_stopped node.new) × ((which : Which) × Rose (D.faults (disk_of which node.old)) (D.faults (disk_of which node.new))) }
+    ensures disk_fault { result ≡ ServeEnd.DiskFault → IsTrue (is_stopped node.new)
+        × ((which : Which) × Rose (D.faults (disk_of which node.old)) (D.faults (disk_of which node.new))) }
 {
-    let Ok(buf) = vec![in alloc; 0u8; ROOM] else {
-        return ServeEnd::Memory(Memory);
+    let buf = match vec![in alloc; 0u8; ROOM] {
+        Ok(buf) => buf,
+        Err(refused) => return ServeEnd::Memory(refused.into()),
     };
     let mut room = Room {
         buf,

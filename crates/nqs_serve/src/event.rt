@@ -15,7 +15,7 @@ use nqs_lines::laws::{edits_are_sane, lists_and_deletions_are_sane, submissions_
 use nqs_lines::{qdel_command, qmgr_command, qstat_command, qsub_command};
 use nqs_packets::{PacketFault, read_message};
 use nqs_state::HostState;
-use nqs_types::{Body, Command, Event, HostId, Message, Tool};
+use nqs_types::{Body, Command, Event, HostId, Message, RequestId, Tool};
 use nqs_values::{Bytes, Memory, Name};
 use std::alloc::Global;
 
@@ -45,8 +45,8 @@ fn command_of(
     match tool {
         Tool::Qsub => qsub_command(alloc, user, words, script),
         Tool::Qstat => qstat_command(alloc, words),
-        Tool::Qdel => qdel_command(words),
-        Tool::Qmgr => qmgr_command(line_in(words)),
+        Tool::Qdel => Ok(qdel_command(words)),
+        Tool::Qmgr => Ok(qmgr_command(line_in(words))),
         Tool::Tick => Ok(Command::Tick),
     }
 }
@@ -76,6 +76,34 @@ fn is_for(me: HostId, site: &[Name], message: &Message) -> bool
     are_of_site(site.len(), &message.body)
 }
 
+// What a user asks for, with the moment 0.
+fn asked(port: u16, token: u64, user: Name, command: Command) -> Event
+    ensures { result ≡ Event.Ask 0 port token user command }
+{
+    Event::Ask {
+        now: 0,
+        port,
+        token,
+        user,
+        command,
+    }
+}
+
+// What a shepherd tells of the end of a job, with the moment 0.
+fn ended(port: u16, id: RequestId, start: u16, status: u8, out: Bytes, err: Bytes) -> Event
+    ensures { result ≡ Event.Ended 0 port id start status out err }
+{
+    Event::Ended {
+        now: 0,
+        port,
+        id,
+        start,
+        status,
+        out,
+        err,
+    }
+}
+
 // The event of a message.
 fn event_of(alloc: Global, message: Message) -> Result<Option<Event>, Memory>
     ensures { IfOk result (λ event. event ≡ event_of message) }
@@ -92,13 +120,7 @@ fn event_of(alloc: Global, message: Message) -> Result<Option<Event>, Memory>
         } => {
             let words = words.as_slice();
             let command = command_of(alloc, &user, tool, words, script.as_slice())?;
-            Ok(Some(Event::Ask {
-                now: 0,
-                port,
-                token,
-                user,
-                command,
-            }))
+            Ok(Some(asked(port, token, user, command)))
         }
         Body::Ended {
             port,
@@ -107,15 +129,7 @@ fn event_of(alloc: Global, message: Message) -> Result<Option<Event>, Memory>
             status,
             out,
             err,
-        } => Ok(Some(Event::Ended {
-            now: 0,
-            port,
-            id,
-            start,
-            status,
-            out,
-            err,
-        })),
+        } => Ok(Some(ended(port, id, start, status, out, err))),
         Body::Answer { .. } => Ok(None),
         Body::EndedAck { .. } => Ok(None),
         body => Ok(Some(Event::Arrived {
@@ -143,7 +157,7 @@ pub(crate) fn event_in(
     edits_are_sane();
     lists_and_deletions_are_sane();
     match read_message(alloc, bytes) {
-        Err(PacketFault::Memory(_)) => Err(Memory),
+        Err(PacketFault::Memory(memory)) => Err(memory),
         Err(_) => Ok(None),
         Ok(message) => {
             if is_for(me, site, &message) {

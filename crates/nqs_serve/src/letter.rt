@@ -3,6 +3,7 @@
 ghost use Rattle.std.specs.Prelude.{◌≡◌, ◌++◌, IfOk, OnOk, IsTrue, map, length};
 ghost use Rattle.nqs_codec.specs.Takes.{IsLong};
 ghost use Rattle.nqs_records.specs.Values.{IsHost};
+ghost use Rattle.nqs_node.specs.Reading.{carries_short, sends_short, AreShort};
 ghost use Rattle.nqs_packets.specs.Values.{MaySend};
 ghost use Rattle.nqs_serve.specs.Sends.{is_right_id, is_right_message, is_right_output, AreRight};
 ghost use Rattle.nqs_serve.specs.Events.{Here};
@@ -11,7 +12,7 @@ ghost use Rattle.nqs_types.specs.declared.event.Output.TheVariants as out;
 ghost use Rattle.nqs_types.specs.declared.message.Body.TheVariants as body;
 ghost use Rattle.nqs_rules.specs.Transcript.{reply_text};
 
-use crate::said::{is_short, may_be_sent};
+use crate::said::may_be_sent;
 use crate::text::cut_text;
 use nqs_outside::Address;
 use nqs_packets::write_message;
@@ -40,14 +41,10 @@ fn post(alloc: Global, to: Address, message: &Message) -> Result<Option<Letter>,
 
 // What a host says to a host.
 fn word(alloc: Global, message: &Message) -> Result<Option<Letter>, Memory>
-    requires { IsTrue (is_right_message 16 message.now) }
+    requires right { IsTrue (is_right_message 16 message.now) }
+    requires short { IsTrue (carries_short message.now.body) }
     ensures { IfOk result (λ l. l ≡ Some (posted (Address.Host message.now.to) message.now)) }
 {
-    // No clause of a node says how long the script or output is that it read back. Where it is longer than what may be
-    // kept, the disk gave something else, and nothing goes out.
-    if !is_short(&message.body) {
-        return Err(Memory);
-    }
     may_be_sent(message);
     post(alloc, Address::Host(message.to), message)
 }
@@ -130,6 +127,7 @@ fn letter_of(
 ) -> Result<Option<Letter>, Memory>
     requires host { IsHost me }
     requires right { IsTrue (is_right_output 16 output.now) }
+    requires short { IsTrue (sends_short output.now) }
     ensures { IfOk result (λ l. l ≡ letter_of (record { me = me; site = site.now }) output.now) }
 {
     match output {
@@ -156,6 +154,7 @@ pub(crate) fn letters_of(
 ) -> Result<Vec<Option<Letter>>, Memory>
     requires host { IsHost me }
     requires right { AreRight 16 outputs.now }
+    requires short { AreShort outputs.now }
     ensures { IfOk result (λ letters. letters.items ≡ map (letter_of (record { me = me; site = site.now })) outputs.now) }
 {
     let mut letters = Vec::new(alloc);

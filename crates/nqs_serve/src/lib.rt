@@ -1,8 +1,9 @@
-//! The daemon: each datagram that a host gets is an event, and each change of its state is kept before anything of it
-//! goes out.
+//! The daemon: each datagram that a host gets is an event, and each change of its state is kept
+//! before anything of it goes out.
 //!
-//! A turn is a receive, the event that it brought, and the events that come back of what went out. `specs/Runs.antt`
-//! says what a run is, `specs/Events.antt` which event a datagram is, `specs/Ends.antt` how a run ends.
+//! A turn is a receive, the event that it brought, and the events that come back of what went out.
+//! `specs/Runs.antt` says what a run is, `specs/Events.antt` which event a datagram is,
+//! `specs/Ends.antt` how a run ends.
 #![tactic(auto)]
 
 mod carry;

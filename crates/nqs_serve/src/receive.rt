@@ -1,6 +1,7 @@
 //! A receive, and the event that it brought.
 
 ghost use Rattle.std.specs.Prelude.{◌≡◌, ◌≤◌, ◌∷◌, [], IfOk, IsErrOf, IfSome, IsTrue, length};
+ghost use Rattle.nqs_values.specs.Want.{want};
 ghost use Rattle.nqs_outside.specs.Causes.{Rose};
 ghost use Rattle.nqs_outside.specs.Told.{Extends};
 ghost use Rattle.nqs_outside.specs.Asked.{Arrival};
@@ -11,15 +12,15 @@ ghost use Rattle.nqs_serve.specs.Sends.{is_right_event};
 use crate::event::event_in;
 use nqs_outside::{Received, Wire};
 use nqs_types::{Event, HostId};
-use nqs_values::Name;
+use nqs_values::{Memory, Name};
 use std::alloc::Global;
 
 /// Why a receive brought nothing.
-#[derive(Clone, Copy, Debug, PartialEq, Eq)]
+#[derive(Debug, PartialEq, Eq, Drop)]
 pub(crate) enum Missed {
     /// A call of the wire failed.
     Wire,
-    Memory,
+    Memory(Memory),
 }
 
 /// The event that a receive brought, if it brought one.
@@ -34,8 +35,9 @@ pub(crate) fn receive<W: Wire>(
         × Extends (W.received wire.old) (W.received wire.new) (arrival ∷ [])) }
     ensures sane { IfOk result (λ event. IfSome event (λ e. IsTrue (is_sane_event (length site.now) e))) }
     ensures right { IfOk result (λ event. IfSome event (λ e. IsTrue (is_right_event (length site.now) e))) }
-    ensures cut { IsErrOf result Missed.Memory → (arrival : Arrival) × Extends (W.received wire.old) (W.received wire.new) (arrival ∷ []) }
-    ensures lost { IsErrOf result Missed.Wire → Extends (W.received wire.old) (W.received wire.new) [] × Rose (W.receive_faults wire.old) (W.receive_faults wire.new) }
+    ensures cut { IsErrOf result (Missed.Memory want) → (arrival : Arrival) × Extends (W.received wire.old) (W.received wire.new) (arrival ∷ []) }
+    ensures lost { IsErrOf result Missed.Wire → Extends (W.received wire.old) (W.received wire.new) []
+        × Rose (W.receive_faults wire.old) (W.receive_faults wire.new) }
     ensures sent { Extends (W.sent wire.old) (W.sent wire.new) [] }
     ensures later { W.receive_faults wire.old ≤ W.receive_faults wire.new }
 {
@@ -46,7 +48,7 @@ pub(crate) fn receive<W: Wire>(
         Received::Quiet => Ok(Some(Event::Tick { now: 0 })),
         Received::Datagram(count) => match event_in(alloc, me, site, &buf[..count]) {
             Ok(event) => Ok(event),
-            Err(_) => Err(Missed::Memory),
+            Err(memory) => Err(Missed::Memory(memory)),
         },
     }
 }

@@ -1,32 +1,19 @@
 //! What a host says may be sent, where the script or output that it carries is short enough.
 //!
-//! The names and numbers of a message are those of its types. The functions that tell it only read them: a caller cites
-//! one by calling it.
+//! The names and numbers of a message are those of its types. The functions that tell it only read
+//! them: a caller cites one by calling it.
 
 ghost use Rattle.std.specs.Prelude.{◌≡◌, IsTrue, nat_le};
 ghost use Rattle.nqs_values.specs.Name.{IsName};
 ghost use Rattle.nqs_records.specs.Values.{IsU8, IsU64, IsOpt};
+ghost use Rattle.nqs_node.specs.Reading.{carries_short};
 ghost use Rattle.nqs_packets.specs.Messages.{IsTypedJob, IsSaid};
 ghost use Rattle.nqs_packets.specs.Values.{IsNumber, MaySend};
-ghost use Rattle.nqs_serve.specs.Sends.{has_number, carries_short, is_right_message};
+ghost use Rattle.nqs_serve.specs.Sends.{has_number, is_right_message};
 
 use nqs_packets::what_is_sane_may_be_sent;
 use nqs_types::{Body, Job, Message};
 use nqs_values::Name;
-
-/// The longest script or output that a message carries.
-const CARRIED: usize = 32_768;
-
-/// Whether the script or output that a message carries is short enough.
-pub(crate) fn is_short(body: &Body) -> bool
-    ensures { result ≡ carries_short body.now }
-{
-    match body {
-        Body::Offer { script, .. } => script.len() <= CARRIED,
-        Body::Stage { bytes, .. } => bytes.len() <= CARRIED,
-        _ => true,
-    }
-}
 
 fn number_is_typed(number: u64)
     requires { IsTrue (nat_le 1 number) }

@@ -2,6 +2,7 @@
 
 ghost use Rattle.std.specs.Prelude.{◌≡◌, ◌≤◌, ◌<◌, ◌+◌, ◌∷◌, ◌++◌, [], false, ℕ, List, IsTrue, OnOk, OnErr, IfOk, IsErrOf, length, map, is_some};
 ghost use Rattle.std.specs.List.{flat_map};
+ghost use Rattle.nqs_values.specs.Want.{want};
 ghost use Rattle.nqs_state.specs.State.{Plain};
 ghost use Rattle.nqs_types.specs.declared.event.Event.{Event as Happening};
 ghost use Rattle.nqs_types.specs.declared.world.Which.{Which};
@@ -15,6 +16,7 @@ ghost use Rattle.nqs_outside.specs.Causes.{Rose};
 ghost use Rattle.nqs_back.specs.Back.{comebacks, comes_back};
 ghost use Rattle.nqs_node.specs.Carried.{started, IsOneOrOther};
 ghost use Rattle.nqs_node.specs.Nodes.{content_of, disk_of, history_of, is_stopped};
+ghost use Rattle.nqs_node.specs.Reading.{AreShort};
 ghost use Rattle.nqs_records.specs.Values.{IsHost};
 ghost use Rattle.nqs_store.specs.Sound.{IsSoundHost};
 ghost use Rattle.nqs_serve.specs.Events.{Here, at_moment};
@@ -33,7 +35,6 @@ use crate::letter::letters_of;
 use nqs_node::{Node, NodeFault};
 use nqs_outside::{Clock, Disk, Launcher, Outlet, Printer, Wire};
 use nqs_types::{Event, HostId, Output};
-use nqs_values::Memory;
 use std::alloc::Global;
 
 // Takes an event.
@@ -48,21 +49,25 @@ fn take<D: Disk>(
     requires sane { IsTrue (is_sane_event (length (content_of node.old).site) event.now) }
     requires right { IsTrue (is_right_event (length (content_of node.old).site) event.now) }
     requires said { AreRight 16 out.old.items }
+    requires short { AreShort out.old.items }
     ensures sound { IsSoundHost (content_of node.new) }
     ensures site { (content_of node.new).site ≡ (content_of node.old).site }
     ensures running { OnOk result (is_stopped node.new ≡ false) }
     ensures right { OnOk result (AreRight 16 out.new.items) }
-    ensures told { (s : Plain) → Knows node.old s → OnOk result (Knows node.new (after_step (step event.now s) s) × (out.new.items ≡ out.old.items ++ said (step event.now s))) }
-    ensures memory { (s : Plain) → Knows node.old s → IsErrOf result Cut.Memory → Knows node.new s }
+    ensures short { OnOk result (AreShort out.new.items) }
+    ensures told { (s : Plain) → Knows node.old s
+        → OnOk result (Knows node.new (after_step (step event.now s) s) × (out.new.items ≡ out.old.items ++ said (step event.now s))) }
+    ensures memory { (s : Plain) → Knows node.old s → IsErrOf result (Cut.Memory want) → Knows node.new s }
     ensures moments { (s : Plain) → Knows node.old s → IsOneOrOther (history_of node.old) (history_of node.new) (step event.now s).change s }
     ensures no_more { IsTrue (comes_back event.now) → OnOk result (starts_left (content_of node.new) ≤ starts_left (content_of node.old)) }
     ensures none_back { IsTrue (comes_back event.now) → OnOk result (comebacks out.new.items ≡ comebacks out.old.items) }
     ensures later { (which : Which) → D.faults (disk_of which node.old) ≤ D.faults (disk_of which node.new) }
-    ensures broken { IsErrOf result Cut.Disk → IsTrue (is_stopped node.new) × ((which : Which) × Rose (D.faults (disk_of which node.old)) (D.faults (disk_of which node.new))) }
+    ensures broken { IsErrOf result Cut.Disk → IsTrue (is_stopped node.new)
+        × ((which : Which) × Rose (D.faults (disk_of which node.old)) (D.faults (disk_of which node.new))) }
 {
     match node.take(alloc, event, out) {
         Ok(()) => Ok(()),
-        Err(NodeFault::Memory) => Err(Cut::Memory),
+        Err(NodeFault::Memory(memory)) => Err(Cut::Memory(memory)),
         Err(NodeFault::Disk(_)) => Err(Cut::Disk),
         Err(NodeFault::Stopped) => unreachable!(),
     }
@@ -78,23 +83,27 @@ fn start<D: Disk>(
     requires sound { IsSoundHost (content_of node.old) }
     requires running { is_stopped node.old ≡ false }
     requires said { AreRight 16 out.old.items }
+    requires short { AreShort out.old.items }
     ensures sound { IsSoundHost (content_of node.new) }
     ensures site { (content_of node.new).site ≡ (content_of node.old).site }
     ensures running { OnOk result (is_stopped node.new ≡ false) }
     ensures right { OnOk result (AreRight 16 out.new.items) }
+    ensures short { OnOk result (AreShort out.new.items) }
     ensures more { (s : Plain) → Knows node.old s → IfOk result (λ more. more ≡ is_some (start now s)) }
-    ensures told { (s : Plain) → Knows node.old s → OnOk result (Knows node.new (after_step (started now s) s) × (out.new.items ≡ out.old.items ++ said (started now s))) }
-    ensures memory { (s : Plain) → Knows node.old s → IsErrOf result Cut.Memory → Knows node.new s }
+    ensures told { (s : Plain) → Knows node.old s
+        → OnOk result (Knows node.new (after_step (started now s) s) × (out.new.items ≡ out.old.items ++ said (started now s))) }
+    ensures memory { (s : Plain) → Knows node.old s → IsErrOf result (Cut.Memory want) → Knows node.new s }
     ensures moments { (s : Plain) → Knows node.old s → IsOneOrOther (history_of node.old) (history_of node.new) (started now s).change s }
     ensures idle { IfOk result (λ more. more ≡ false → (content_of node.new ≡ content_of node.old) × (out.new.items ≡ out.old.items)) }
     ensures fewer { IfOk result (λ more. IsTrue more → starts_left (content_of node.new) < starts_left (content_of node.old)) }
     ensures one_back { OnOk result (comebacks out.new.items ≤ comebacks out.old.items + 1) }
     ensures later { (which : Which) → D.faults (disk_of which node.old) ≤ D.faults (disk_of which node.new) }
-    ensures broken { IsErrOf result Cut.Disk → IsTrue (is_stopped node.new) × ((which : Which) × Rose (D.faults (disk_of which node.old)) (D.faults (disk_of which node.new))) }
+    ensures broken { IsErrOf result Cut.Disk → IsTrue (is_stopped node.new)
+        × ((which : Which) × Rose (D.faults (disk_of which node.old)) (D.faults (disk_of which node.new))) }
 {
     match node.start_next(alloc, now, out) {
         Ok(more) => Ok(more),
-        Err(NodeFault::Memory) => Err(Cut::Memory),
+        Err(NodeFault::Memory(memory)) => Err(Cut::Memory(memory)),
         Err(NodeFault::Disk(_)) => Err(Cut::Disk),
         Err(NodeFault::Stopped) => unreachable!(),
     }
@@ -110,16 +119,21 @@ fn settle<D: Disk>(
     requires sound { IsSoundHost (content_of node.old) }
     requires running { is_stopped node.old ≡ false }
     requires said { AreRight 16 out.old.items }
+    requires short { AreShort out.old.items }
     ensures sound { IsSoundHost (content_of node.new) }
     ensures site { (content_of node.new).site ≡ (content_of node.old).site }
     ensures running { OnOk result (is_stopped node.new ≡ false) }
     ensures right { OnOk result (AreRight 16 out.new.items) }
-    ensures told { (s : Plain) → Knows node.old s → OnOk result (Knows node.new (after_starts (starts now s) s) × (out.new.items ≡ out.old.items ++ flat_map said (starts now s))) }
-    ensures memory { (s : Plain) → Knows node.old s → IsErrOf result Cut.Memory → (xs ys : List (Stepped (List ℕ))) × (starts now s ≡ xs ++ ys) × Knows node.new (after_starts xs s) }
+    ensures short { OnOk result (AreShort out.new.items) }
+    ensures told { (s : Plain) → Knows node.old s
+        → OnOk result (Knows node.new (after_starts (starts now s) s) × (out.new.items ≡ out.old.items ++ flat_map said (starts now s))) }
+    ensures memory { (s : Plain) → Knows node.old s → IsErrOf result (Cut.Memory want)
+        → (xs ys : List (Stepped (List ℕ))) × (starts now s ≡ xs ++ ys) × Knows node.new (after_starts xs s) }
     ensures moments { (s : Plain) → Knows node.old s → TellsThroughout (history_of node.old) (history_of node.new) (IsBetween now s) }
     ensures fewer { OnOk result (starts_left (content_of node.new) + comebacks out.new.items ≤ starts_left (content_of node.old) + comebacks out.old.items) }
     ensures later { (which : Which) → D.faults (disk_of which node.old) ≤ D.faults (disk_of which node.new) }
-    ensures broken { IsErrOf result Cut.Disk → IsTrue (is_stopped node.new) × ((which : Which) × Rose (D.faults (disk_of which node.old)) (D.faults (disk_of which node.new))) }
+    ensures broken { IsErrOf result Cut.Disk → IsTrue (is_stopped node.new)
+        × ((which : Which) × Rose (D.faults (disk_of which node.old)) (D.faults (disk_of which node.new))) }
 {
     loop {
         match start(alloc, node, now, out) {
@@ -143,17 +157,23 @@ fn take_whole<D: Disk>(
     requires sane { IsTrue (is_sane_event (length (content_of node.old).site) event.now) }
     requires right { IsTrue (is_right_event (length (content_of node.old).site) event.now) }
     requires said { AreRight 16 out.old.items }
+    requires short { AreShort out.old.items }
     ensures sound { IsSoundHost (content_of node.new) }
     ensures site { (content_of node.new).site ≡ (content_of node.old).site }
     ensures running { OnOk result (is_stopped node.new ≡ false) }
     ensures right { OnOk result (AreRight 16 out.new.items) }
+    ensures short { OnOk result (AreShort out.new.items) }
     ensures told { (s : Plain) (e : Happening) → Knows node.old s → event.now ≡ at_moment now e
         → OnOk result (Knows node.new (after_event now e s) × (out.new.items ≡ out.old.items ++ outputs now e s)) }
-    ensures memory { (s : Plain) (e : Happening) → Knows node.old s → event.now ≡ at_moment now e → IsErrOf result Cut.Memory → (u : Plain) × Knows node.new u × IsWithin now e s u }
-    ensures moments { (s : Plain) (e : Happening) → Knows node.old s → event.now ≡ at_moment now e → TellsThroughout (history_of node.old) (history_of node.new) (IsWithin now e s) }
-    ensures fewer { IsTrue (comes_back event.now) → OnOk result (starts_left (content_of node.new) + comebacks out.new.items ≤ starts_left (content_of node.old) + comebacks out.old.items) }
+    ensures memory { (s : Plain) (e : Happening) → Knows node.old s → event.now ≡ at_moment now e → IsErrOf result (Cut.Memory want)
+        → (u : Plain) × Knows node.new u × IsWithin now e s u }
+    ensures moments { (s : Plain) (e : Happening) → Knows node.old s → event.now ≡ at_moment now e
+        → TellsThroughout (history_of node.old) (history_of node.new) (IsWithin now e s) }
+    ensures fewer { IsTrue (comes_back event.now)
+        → OnOk result (starts_left (content_of node.new) + comebacks out.new.items ≤ starts_left (content_of node.old) + comebacks out.old.items) }
     ensures later { (which : Which) → D.faults (disk_of which node.old) ≤ D.faults (disk_of which node.new) }
-    ensures broken { IsErrOf result Cut.Disk → IsTrue (is_stopped node.new) × ((which : Which) × Rose (D.faults (disk_of which node.old)) (D.faults (disk_of which node.new))) }
+    ensures broken { IsErrOf result Cut.Disk → IsTrue (is_stopped node.new)
+        × ((which : Which) × Rose (D.faults (disk_of which node.old)) (D.faults (disk_of which node.new))) }
 {
     match take(alloc, node, event, out) {
         Ok(()) => settle(alloc, node, now, out),
@@ -161,8 +181,8 @@ fn take_whole<D: Disk>(
     }
 }
 
-/// Takes an event, and carries out what goes out of it and of the starts after it. What comes back of that waits behind
-/// what is in `back`. Before all is kept and spelled nothing goes out.
+/// Takes an event, and carries out what goes out of it and of the starts after it. What comes back
+/// of that waits behind what is in `back`. Before all is kept and spelled nothing goes out.
 pub(crate) fn take_event<D: Disk, W: Wire, L: Launcher, P: Printer, O: Outlet, C: Clock>(
     alloc: Global,
     me: HostId,
@@ -184,20 +204,24 @@ pub(crate) fn take_event<D: Disk, W: Wire, L: Launcher, P: Printer, O: Outlet, C
     ensures sound { IsSoundHost (content_of node.new) }
     ensures site { (content_of node.new).site ≡ (content_of node.old).site }
     ensures running { OnOk result (is_stopped node.new ≡ false) }
-    ensures ok { (s : Plain) (here : Here) → Knows node.old s → here ≡ record { me = me; site = (content_of node.old).site } → OnOk result ((m : ℕ) × (outcomes : List Outcome) × (back.new.items ≡ back.old.items ++ brought_back outcomes)
+    ensures ok { (s : Plain) (here : Here) → Knows node.old s → here ≡ record { me = me; site = (content_of node.old).site }
+        → OnOk result ((m : ℕ) × (outcomes : List Outcome) × (back.new.items ≡ back.old.items ++ brought_back outcomes)
         × Knows node.new (after_event m event.old s) × (outputs_in outcomes ≡ outputs m event.old s)
         × Grew here (took m outcomes ∷ []) []
         (telling (W.received wire.old) (W.sent wire.old) (L.asked launcher.old) (P.prints printer.old) (O.filings outlet.old) (C.given clock.old))
         (telling (W.received wire.new) (W.sent wire.new) (L.asked launcher.new) (P.prints printer.new) (O.filings outlet.new) (C.given clock.new))
         × TellsThroughout (history_of node.old) (history_of node.new) (IsWithin m event.old s)) }
-    ensures cut { (s : Plain) (here : Here) → Knows node.old s → here ≡ record { me = me; site = (content_of node.old).site } → OnErr result ((m : ℕ) × (IsErrOf result Cut.Memory → (u : Plain) × Knows node.new u × IsWithin m event.old s u)
+    ensures cut { (s : Plain) (here : Here) → Knows node.old s → here ≡ record { me = me; site = (content_of node.old).site }
+        → OnErr result ((m : ℕ) × (IsErrOf result (Cut.Memory want) → (u : Plain) × Knows node.new u × IsWithin m event.old s u)
         × Grew here [] (m ∷ [])
         (telling (W.received wire.old) (W.sent wire.old) (L.asked launcher.old) (P.prints printer.old) (O.filings outlet.old) (C.given clock.old))
         (telling (W.received wire.new) (W.sent wire.new) (L.asked launcher.new) (P.prints printer.new) (O.filings outlet.new) (C.given clock.new))
         × TellsThroughout (history_of node.old) (history_of node.new) (IsWithin m event.old s)) }
-    ensures fewer { IsTrue (comes_back event.old) → OnOk result (starts_left (content_of node.new) + length back.new.items ≤ starts_left (content_of node.old) + length back.old.items) }
+    ensures fewer { IsTrue (comes_back event.old)
+        → OnOk result (starts_left (content_of node.new) + length back.new.items ≤ starts_left (content_of node.old) + length back.old.items) }
     ensures later { (which : Which) → D.faults (disk_of which node.old) ≤ D.faults (disk_of which node.new) }
-    ensures broken { IsErrOf result Cut.Disk → IsTrue (is_stopped node.new) × ((which : Which) × Rose (D.faults (disk_of which node.old)) (D.faults (disk_of which node.new))) }
+    ensures broken { IsErrOf result Cut.Disk → IsTrue (is_stopped node.new)
+        × ((which : Which) × Rose (D.faults (disk_of which node.old)) (D.faults (disk_of which node.new))) }
     ensures wire { W.receive_faults wire.old ≤ W.receive_faults wire.new }
 {
     out.clear();
@@ -206,11 +230,12 @@ pub(crate) fn take_event<D: Disk, W: Wire, L: Launcher, P: Printer, O: Outlet, C
     if let Err(cut) = take_whole(alloc, node, event, now, out) {
         return Err(cut);
     }
-    if back.reserve(out.len()).is_err() {
-        return Err(Cut::Memory);
+    if let Err(refused) = back.reserve(out.len()) {
+        return Err(Cut::Memory(refused.into()));
     }
-    let Ok(letters) = letters_of(alloc, me, node.state().site.as_slice(), out) else {
-        return Err(Cut::Memory);
+    let letters = match letters_of(alloc, me, node.state().site.as_slice(), out) {
+        Ok(letters) => letters,
+        Err(memory) => return Err(Cut::Memory(memory)),
     };
     carry(wire, launcher, printer, outlet, out, &letters, back);
     Ok(())
@@ -251,19 +276,22 @@ pub(crate) fn take_back<D: Disk, W: Wire, L: Launcher, P: Printer, O: Outlet, C:
     ensures sound { IsSoundHost (content_of node.new) }
     ensures site { (content_of node.new).site ≡ (content_of node.old).site }
     ensures running { OnOk result (is_stopped node.new ≡ false) }
-    ensures ok { (s : Plain) (here : Here) → Knows node.old s → here ≡ record { me = me; site = (content_of node.old).site } → OnOk result ((acts : List Act) × (u : Plain) × (arrivals acts ≡ []) × Knows node.new u
+    ensures ok { (s : Plain) (here : Here) → Knows node.old s → here ≡ record { me = me; site = (content_of node.old).site }
+        → OnOk result ((acts : List Act) × (u : Plain) × (arrivals acts ≡ []) × Knows node.new u
         × Ran here acts (turn s (map event_back back.old.items)) (idle u) []
         (telling (W.received wire.old) (W.sent wire.old) (L.asked launcher.old) (P.prints printer.old) (O.filings outlet.old) (C.given clock.old))
         (telling (W.received wire.new) (W.sent wire.new) (L.asked launcher.new) (P.prints printer.new) (O.filings outlet.new) (C.given clock.new))
         × TellsThroughout (history_of node.old) (history_of node.new) (IsPassed here (turn s (map event_back back.old.items)) acts [])) }
-    ensures cut { (s : Plain) (here : Here) → Knows node.old s → here ≡ record { me = me; site = (content_of node.old).site } → OnErr result ((acts : List Act) × (t : Turn) × (more : List ℕ) × (arrivals acts ≡ []) × IsCut t more
-        × (IsErrOf result Cut.Memory → (u : Plain) × Knows node.new u × IsCutAt t more u)
+    ensures cut { (s : Plain) (here : Here) → Knows node.old s → here ≡ record { me = me; site = (content_of node.old).site }
+        → OnErr result ((acts : List Act) × (t : Turn) × (more : List ℕ) × (arrivals acts ≡ []) × IsCut t more
+        × (IsErrOf result (Cut.Memory want) → (u : Plain) × Knows node.new u × IsCutAt t more u)
         × Ran here acts (turn s (map event_back back.old.items)) t more
         (telling (W.received wire.old) (W.sent wire.old) (L.asked launcher.old) (P.prints printer.old) (O.filings outlet.old) (C.given clock.old))
         (telling (W.received wire.new) (W.sent wire.new) (L.asked launcher.new) (P.prints printer.new) (O.filings outlet.new) (C.given clock.new))
         × TellsThroughout (history_of node.old) (history_of node.new) (IsPassed here (turn s (map event_back back.old.items)) acts more)) }
     ensures later { (which : Which) → D.faults (disk_of which node.old) ≤ D.faults (disk_of which node.new) }
-    ensures broken { IsErrOf result Cut.Disk → IsTrue (is_stopped node.new) × ((which : Which) × Rose (D.faults (disk_of which node.old)) (D.faults (disk_of which node.new))) }
+    ensures broken { IsErrOf result Cut.Disk → IsTrue (is_stopped node.new)
+        × ((which : Which) × Rose (D.faults (disk_of which node.old)) (D.faults (disk_of which node.new))) }
     ensures wire { W.receive_faults wire.old ≤ W.receive_faults wire.new }
 {
     while waits(back) {

@@ -1,10 +1,11 @@
 //! What an event of a schedule is to a daemon.
 //!
-//! What is asked for and the ends of jobs come as datagrams, and a tick as a receive that brings nothing. Other events
-//! come back of what went out: `finish`, which is the end of a print, `fail`, `written` and `unwritten`.
+//! What is asked for and the ends of jobs come as datagrams, and a tick as a receive that brings
+//! nothing. Other events come back of what went out: `finish`, which is the end of a print, `fail`,
+//! `written` and `unwritten`.
 
 use nqs_types::{HostId, RequestId, WorldEvent};
-use nqs_values::{Bytes, Name};
+use nqs_values::{Bytes, Items, Name};
 
 /// The words of an ask.
 #[derive(Clone, Copy)]
@@ -68,28 +69,20 @@ fn asked<'a>(
     })
 }
 
-/// What an event is.
-pub fn coming_of(event: &WorldEvent) -> Coming<'_> {
+// A list of words that is asked for, with a script.
+fn listed<'a>(
+    host: HostId,
+    user: &'a Name,
+    tool: u8,
+    words: &'a Items<Bytes>,
+    script: &'a [u8],
+) -> Coming<'a> {
+    asked(host, user, tool, Words::List(words.as_slice()), script)
+}
+
+// What an event is that comes of no user.
+fn other_of(event: &WorldEvent) -> Coming<'_> {
     match event {
-        WorldEvent::Qsub {
-            host,
-            user,
-            script,
-            words,
-        } => asked(
-            *host,
-            user,
-            1,
-            Words::List(words.as_slice()),
-            script.as_slice(),
-        ),
-        WorldEvent::Qstat { host, user, words } => {
-            asked(*host, user, 2, Words::List(words.as_slice()), b"")
-        }
-        WorldEvent::Qdel { host, user, words } => {
-            asked(*host, user, 3, Words::List(words.as_slice()), b"")
-        }
-        WorldEvent::Qmgr { host, user, text } => asked(*host, user, 4, Words::Line(text), b""),
         WorldEvent::End {
             host,
             id,
@@ -113,5 +106,21 @@ pub fn coming_of(event: &WorldEvent) -> Coming<'_> {
         WorldEvent::Unwritten { .. } => Coming::Back,
         WorldEvent::Clock { moment } => Coming::Moment(*moment),
         _ => Coming::Nothing,
+    }
+}
+
+/// What an event is.
+pub fn coming_of(event: &WorldEvent) -> Coming<'_> {
+    match event {
+        WorldEvent::Qsub {
+            host,
+            user,
+            script,
+            words,
+        } => listed(*host, user, 1, words, script.as_slice()),
+        WorldEvent::Qstat { host, user, words } => listed(*host, user, 2, words, b""),
+        WorldEvent::Qdel { host, user, words } => listed(*host, user, 3, words, b""),
+        WorldEvent::Qmgr { host, user, text } => asked(*host, user, 4, Words::Line(text), b""),
+        event => other_of(event),
     }
 }

@@ -1,30 +1,36 @@
-//! Datagrams, put together by hand as `docs/formats.md` has them: each ask is of the port 9, and each end of a job of the
-//! port 10.
+//! Datagrams, put together by hand as `docs/formats.md` has them: each ask is of the port 9, and
+//! each end of a job of the port 10.
 
 use crate::coming::{Ask, Ended, Words};
 use crate::text::put;
+use crate::trouble::Trouble;
 use nqs_types::{HostId, RequestId};
 use nqs_values::{Bytes, Memory, Name};
 
-fn put_bytes(bytes: &[u8], out: &mut Vec<u8>) -> Result<(), Memory> {
+// What is wrong with bytes that a length can't tell.
+const TOO_LONG: &str = "bytes are too long for a datagram";
+
+fn put_bytes(bytes: &[u8], out: &mut Vec<u8>) -> Result<(), Trouble> {
     let Ok(length) = u32::try_from(bytes.len()) else {
-        return Err(Memory);
+        return Err(Trouble::Unexpected(TOO_LONG));
     };
     put(&length.to_be_bytes(), out)?;
-    put(bytes, out)
+    put(bytes, out)?;
+    Ok(())
 }
 
-fn put_name(name: &Name, out: &mut Vec<u8>) -> Result<(), Memory> {
+fn put_name(name: &Name, out: &mut Vec<u8>) -> Result<(), Trouble> {
     let Ok(length) = u8::try_from(name.as_bytes().len()) else {
-        return Err(Memory);
+        return Err(Trouble::Unexpected(TOO_LONG));
     };
     out.push(length)?;
-    put(name.as_bytes(), out)
+    put(name.as_bytes(), out)?;
+    Ok(())
 }
 
-fn put_list(words: &[Bytes], out: &mut Vec<u8>) -> Result<(), Memory> {
+fn put_list(words: &[Bytes], out: &mut Vec<u8>) -> Result<(), Trouble> {
     let Ok(count) = u16::try_from(words.len()) else {
-        return Err(Memory);
+        return Err(Trouble::Unexpected(TOO_LONG));
     };
     put(&count.to_be_bytes(), out)?;
     for word in words {
@@ -33,7 +39,7 @@ fn put_list(words: &[Bytes], out: &mut Vec<u8>) -> Result<(), Memory> {
     Ok(())
 }
 
-fn put_words(words: Words<'_>, out: &mut Vec<u8>) -> Result<(), Memory> {
+fn put_words(words: Words<'_>, out: &mut Vec<u8>) -> Result<(), Trouble> {
     match words {
         Words::Line(line) => {
             put(&[0, 1], out)?;
@@ -44,7 +50,7 @@ fn put_words(words: Words<'_>, out: &mut Vec<u8>) -> Result<(), Memory> {
 }
 
 /// What a user asks a host for, with a token.
-pub fn put_ask(ask: Ask<'_>, token: u64, out: &mut Vec<u8>) -> Result<(), Memory> {
+pub fn put_ask(ask: Ask<'_>, token: u64, out: &mut Vec<u8>) -> Result<(), Trouble> {
     put(&[1, 10, ask.host.0, ask.host.0, 0, 9], out)?;
     put(&token.to_be_bytes(), out)?;
     put_name(ask.user, out)?;
@@ -67,7 +73,7 @@ fn put_start(id: RequestId, start: u16, out: &mut Vec<u8>) -> Result<(), Memory>
 }
 
 /// What a shepherd tells its host of the end of a job.
-pub fn put_ended(ended: Ended<'_>, out: &mut Vec<u8>) -> Result<(), Memory> {
+pub fn put_ended(ended: Ended<'_>, out: &mut Vec<u8>) -> Result<(), Trouble> {
     put(&[1, 12, ended.host.0, ended.host.0, 0, 10], out)?;
     put_start(ended.id, ended.start, out)?;
     out.push(ended.status)?;
@@ -81,7 +87,8 @@ pub fn put_acknowledgement(ended: Ended<'_>, out: &mut Vec<u8>) -> Result<(), Me
     put_start(ended.id, ended.start, out)
 }
 
-/// The text of an answer that begins so, if it is spelled as it is to be. Its flag tells refusals and faults.
+/// The text of an answer that begins so, if it is spelled as it is to be. Its flag tells refusals
+/// and faults.
 pub fn text_of<'a>(datagram: &'a [u8], front: &[u8]) -> Option<&'a [u8]> {
     let rest = datagram.strip_prefix(front)?;
     if rest.len() < 5 {

@@ -6,6 +6,7 @@ use crate::parts::{Parts, put_both};
 use crate::text::put_text;
 use crate::told::tell;
 use crate::transcript::add_replayed;
+use crate::trouble::Trouble;
 use nqs_schedule::read_schedule;
 use nqs_serve::ServeEnd;
 use nqs_types::{HostId, Which};
@@ -68,7 +69,7 @@ fn put_moments(alloc: Global, given: &[u64], out: &mut Vec<u8>) -> Result<(), Me
 }
 
 // The table of the state that the host's disks tell.
-fn add_table(alloc: Global, host: &mut Host, table: &mut Vec<u8>) -> Result<(), Memory> {
+fn add_table(alloc: Global, host: &mut Host, table: &mut Vec<u8>) -> Result<(), Trouble> {
     let mut states = Vec::new(alloc);
     states.push(host.state(alloc)?)?;
     put_table(alloc, &states, table)
@@ -80,7 +81,7 @@ fn serve_rounds(
     outside: &mut Outside,
     table: &mut Vec<u8>,
     out: &mut Vec<u8>,
-) -> Result<(), Memory> {
+) -> Result<(), Trouble> {
     let mut host = Host::alone(alloc)?;
     host.fuse(day.fuse);
     for turns in day.rounds {
@@ -94,44 +95,45 @@ fn serve_rounds(
     add_table(alloc, &mut host, table)
 }
 
-fn fill(alloc: Global, day: &Day, arrivals: &mut Arrivals) -> Result<(), Memory> {
+fn fill(alloc: Global, day: &Day, arrivals: &mut Arrivals) -> Result<(), Trouble> {
     arrivals.fail(&day.failing)?;
-    let Ok(schedule) = read_schedule(alloc, day.schedule) else {
-        return Err(Memory);
-    };
+    let schedule = read_schedule(alloc, day.schedule)?;
     for event in schedule.events.as_slice() {
         arrivals.add(event)?;
     }
     Ok(())
 }
 
-fn outside_at(alloc: Global, day: &Day) -> Result<Outside, Memory> {
+fn outside_at(alloc: Global, day: &Day) -> Result<Outside, Trouble> {
     let mut arrivals = Arrivals::new(alloc, 0);
     fill(alloc, day, &mut arrivals)?;
     arrivals.into_outside()
 }
 
 // Serves the day, and prints how each round ends.
-fn run(alloc: Global, day: &Day, parts: &mut Parts, out: &mut Vec<u8>) -> Result<(), Memory> {
+fn run(alloc: Global, day: &Day, parts: &mut Parts, out: &mut Vec<u8>) -> Result<(), Trouble> {
     put_title(alloc, day, out)?;
     let mut outside = outside_at(alloc, day)?;
     serve_rounds(alloc, day, &mut outside, &mut parts.table, out)?;
     put_moments(alloc, outside.clock.given(), out)?;
-    tell(alloc, HostId(0), &outside, parts)
+    tell(alloc, HostId(0), &outside, parts)?;
+    Ok(())
 }
 
 /// Prints what is seen of a day.
-pub fn put_day(alloc: Global, day: &Day, out: &mut Vec<u8>) -> Result<(), Memory> {
+pub fn put_day(alloc: Global, day: &Day, out: &mut Vec<u8>) -> Result<(), Trouble> {
     let mut parts = Parts::new(alloc);
     run(alloc, day, &mut parts, out)?;
-    put_both(&parts, &parts, out)
+    put_both(&parts, &parts, out)?;
+    Ok(())
 }
 
 /// Prints what is seen of a day beside what its schedule tells.
-pub fn put_compared(alloc: Global, day: &Day, out: &mut Vec<u8>) -> Result<(), Memory> {
+pub fn put_compared(alloc: Global, day: &Day, out: &mut Vec<u8>) -> Result<(), Trouble> {
     let mut parts = Parts::new(alloc);
     run(alloc, day, &mut parts, out)?;
     let mut replayed = Parts::new(alloc);
     add_replayed(alloc, day.schedule, &mut replayed)?;
-    put_both(&replayed, &parts, out)
+    put_both(&replayed, &parts, out)?;
+    Ok(())
 }

@@ -2,11 +2,12 @@
 
 use crate::day::{Day, put_compared, put_day};
 use crate::outside::{Failing, NONE};
+use crate::trouble::Trouble;
 use nqs_types::Which;
-use nqs_values::Memory;
 use std::alloc::Global;
 
-// The print is the least request, so `finish` is its end. The fourth call of the launcher fails, and the third file.
+// The print is the least request, so `finish` is its end. The fourth call of the launcher fails,
+// and the third file.
 const WHOLE: Day = Day {
     title: "a day, beside its schedule",
     failing: Failing {
@@ -104,7 +105,8 @@ const LAUNCH: Day = Day {
     ..JOB
 };
 
-// Two requests for one device. The first print fails, and the device is free for the second, which succeeds.
+// Two requests for one device. The first print fails, and the device is free for the second, which
+// succeeds.
 const PRINT: Day = Day {
     title: "the first print fails",
     failing: Failing {
@@ -171,7 +173,7 @@ fn put_fused(
     which: Which,
     call: u64,
     out: &mut Vec<u8>,
-) -> Result<(), Memory> {
+) -> Result<(), Trouble> {
     let day = Day {
         title,
         fuse: Some((which, call)),
@@ -180,9 +182,9 @@ fn put_fused(
     put_day(alloc, &day, out)
 }
 
-/// Prints what is seen of each day. A change makes four calls of the disk first: those of the edit are 1 to 4, of the
-/// submission 5 to 8, of the start 9 to 12. The script makes two of the spool.
-pub fn put_days(alloc: Global, out: &mut Vec<u8>) -> Result<(), Memory> {
+/// Prints what is seen of each day. A change makes four calls of the disk first: those of the edit
+/// are 1 to 4, of the submission 5 to 8, of the start 9 to 12. The script makes two of the spool.
+pub fn put_days(alloc: Global, out: &mut Vec<u8>) -> Result<(), Trouble> {
     put_compared(alloc, &WHOLE, out)?;
     for day in &DAYS {
         put_day(alloc, day, out)?;

@@ -1,4 +1,5 @@
-//! Hosts that are formatted and booted, and served: `alpha` of a site of one, and each of the two of a site.
+//! Hosts that are formatted and booted, and served: `alpha` of a site of one, and each of the two
+//! of a site.
 
 ghost use Rattle.std.specs.Prelude.{◌≡◌, ◌<◌, [], false, IfOk};
 ghost use Rattle.nqs_types.specs.declared.world.Which.{Which};
@@ -10,6 +11,7 @@ ghost use Rattle.nqs_node.specs.Nodes.{content_of, is_stopped};
 ghost use Rattle.nqs_net.specs.Props.{IsSoundHost-prop};
 
 use crate::outside::Outside;
+use crate::trouble::Trouble;
 use nqs_disk::MemDisk;
 use nqs_node::Node;
 use nqs_schedule::print_seen;
@@ -18,22 +20,18 @@ use nqs_state::HostState;
 use nqs_store::{Disks, format};
 use nqs_table::table_of;
 use nqs_types::{HostId, Seen, Which};
-use nqs_values::{Items, Memory, Name};
+use nqs_values::{Items, Name};
 use std::alloc::Global;
 
-fn empty_disks(alloc: Global) -> Result<Disks<MemDisk>, Memory>
-    ensures { IfOk result (λ disks. (which : Which) → history_of_disk (disk_at which disks) ≡ record { start = []; calls = [] }) }
+fn empty_disks(alloc: Global) -> Disks<MemDisk>
+    ensures { (which : Which) → history_of_disk (disk_at which result) ≡ record { start = []; calls = [] } }
 {
-    let root = MemDisk::new(alloc)?;
-    let first = MemDisk::new(alloc)?;
-    let second = MemDisk::new(alloc)?;
-    let spool = MemDisk::new(alloc)?;
-    Ok(Disks {
-        root,
-        first,
-        second,
-        spool,
-    })
+    Disks {
+        root: MemDisk::new(alloc),
+        first: MemDisk::new(alloc),
+        second: MemDisk::new(alloc),
+        spool: MemDisk::new(alloc),
+    }
 }
 
 /// The name of the first host.
@@ -52,35 +50,31 @@ pub fn beta() -> Name {
     }
 }
 
-fn formatted(alloc: Global) -> Result<Disks<MemDisk>, Memory>
+fn formatted(alloc: Global) -> Result<Disks<MemDisk>, Trouble>
     ensures { IfOk result (λ disks. (which : Which) → IsQuiet (history_of_disk (disk_at which disks))) }
 {
-    let mut disks = empty_disks(alloc)?;
-    match format(alloc, &mut disks, HostId(0), &[alpha()]) {
-        Ok(()) => Ok(disks),
-        Err(_) => Err(Memory),
-    }
+    let mut disks = empty_disks(alloc);
+    format(alloc, &mut disks, HostId(0), &[alpha()])?;
+    Ok(disks)
 }
 
-fn formatted_of_two(alloc: Global, me: HostId) -> Result<Disks<MemDisk>, Memory>
+fn formatted_of_two(alloc: Global, me: HostId) -> Result<Disks<MemDisk>, Trouble>
     requires { me.0 < 2 }
     ensures { IfOk result (λ disks. (which : Which) → IsQuiet (history_of_disk (disk_at which disks))) }
 {
-    let mut disks = empty_disks(alloc)?;
-    match format(alloc, &mut disks, me, &[alpha(), beta()]) {
-        Ok(()) => Ok(disks),
-        Err(_) => Err(Memory),
-    }
+    let mut disks = empty_disks(alloc);
+    format(alloc, &mut disks, me, &[alpha(), beta()])?;
+    Ok(disks)
 }
 
-fn boot(alloc: Global, disks: Disks<MemDisk>) -> Result<Node<MemDisk>, Memory>
+fn boot(alloc: Global, disks: Disks<MemDisk>) -> Result<Node<MemDisk>, Trouble>
     requires { (which : Which) → IsQuiet (history_of_disk (disk_at which disks)) }
     ensures { IfOk result (λ node. IsSoundHost (content_of node)) }
 {
     let mut said = Vec::new(alloc);
     match Node::boot(alloc, disks, &mut said) {
         Ok(node) => Ok(node),
-        Err(_) => Err(Memory),
+        Err((fault, _)) => Err(fault.into()),
     }
 }
 
@@ -106,6 +100,17 @@ fn serve_node(
     )
 }
 
+/// Whether a daemon made all its turns, as it is to.
+pub fn uses_its_turns(end: ServeEnd) -> Result<(), Trouble> {
+    match end {
+        ServeEnd::TurnsUsed => Ok(()),
+        ServeEnd::Memory(memory) => Err(Trouble::Memory(memory)),
+        ServeEnd::Shutdown => Err(Trouble::Unexpected("a daemon is shut down")),
+        ServeEnd::WireFault => Err(Trouble::Unexpected("a wire fails")),
+        ServeEnd::DiskFault => Err(Trouble::Unexpected("a disk fails")),
+    }
+}
+
 /// A host that is served.
 pub struct Host {
     node: Box<Node<MemDisk>>,
@@ -120,7 +125,7 @@ impl Drop for Host {
 }
 
 impl Host {
-    fn of_disks(alloc: Global, disks: Disks<MemDisk>) -> Result<Host, Memory>
+    fn of_disks(alloc: Global, disks: Disks<MemDisk>) -> Result<Host, Trouble>
         requires { (which : Which) → IsQuiet (history_of_disk (disk_at which disks)) }
     {
         let node = Box::new(alloc, boot(alloc, disks)?)?;
@@ -128,13 +133,13 @@ impl Host {
     }
 
     /// The host of a site of one, after its boot.
-    pub fn alone(alloc: Global) -> Result<Host, Memory> {
+    pub fn alone(alloc: Global) -> Result<Host, Trouble> {
         let disks = formatted(alloc)?;
         Host::of_disks(alloc, disks)
     }
 
     /// A host of a site of two, after its boot.
-    pub fn of_two(alloc: Global, me: HostId) -> Result<Host, Memory>
+    pub fn of_two(alloc: Global, me: HostId) -> Result<Host, Trouble>
         requires { me.0 < 2 }
     {
         let disks = formatted_of_two(alloc, me)?;
@@ -163,16 +168,20 @@ impl Host {
     }
 
     /// The state that its disks tell.
-    pub fn state(&mut self, alloc: Global) -> Result<HostState, Memory> {
+    pub fn state(&mut self, alloc: Global) -> Result<HostState, Trouble> {
         match self.node.reread(alloc) {
             Ok(state) => Ok(state),
-            Err(_) => Err(Memory),
+            Err(fault) => Err(fault.into()),
         }
     }
 }
 
 /// Adds the table of these states.
-pub fn put_table(alloc: Global, states: &[HostState], out: &mut Vec<u8>) -> Result<(), Memory> {
+pub fn put_table(alloc: Global, states: &[HostState], out: &mut Vec<u8>) -> Result<(), Trouble> {
+    if states.len() > 256 {
+        return Err(Trouble::Unexpected("a site has more than 256 hosts"));
+    }
     let rows = Items::from_vec(table_of(alloc, states)?);
-    print_seen(alloc, &Seen::Table(rows), &[alpha(), beta()], out)
+    print_seen(alloc, &Seen::Table(rows), &[alpha(), beta()], out)?;
+    Ok(())
 }

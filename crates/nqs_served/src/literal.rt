@@ -1,10 +1,9 @@
 //! A job from its submission to its output, in literal datagrams, as `docs/formats.md` has them.
 
-use crate::host::Host;
+use crate::host::{Host, uses_its_turns};
 use crate::outside::{NONE, Outside, outside_of};
 use crate::text::{put, put_sent};
-use nqs_serve::ServeEnd;
-use nqs_values::Memory;
+use crate::trouble::Trouble;
 use std::alloc::Global;
 
 // `start queue batch` by root, at the port 9 with the token 5.
@@ -29,18 +28,16 @@ const LIST: &[u8] = &[
 
 const DATAGRAMS: [&[u8]; 4] = [START, SUBMIT, ENDED, LIST];
 
-fn serve_all(alloc: Global, outside: &mut Outside) -> Result<(), Memory> {
+fn serve_all(alloc: Global, outside: &mut Outside) -> Result<(), Trouble> {
     let mut host = Host::alone(alloc)?;
-    if host.serve(alloc, outside, 4) != ServeEnd::TurnsUsed {
-        return Err(Memory);
-    }
-    Ok(())
+    uses_its_turns(host.serve(alloc, outside, 4))
 }
 
 /// Prints what the daemon sends for literal datagrams.
-pub fn put_literal(alloc: Global, out: &mut Vec<u8>) -> Result<(), Memory> {
+pub fn put_literal(alloc: Global, out: &mut Vec<u8>) -> Result<(), Trouble> {
     put(b"\n== literal datagrams\n", out)?;
     let mut outside = outside_of(alloc, &NONE, &DATAGRAMS)?;
     serve_all(alloc, &mut outside)?;
-    put_sent(alloc, outside.wire.sent(), out)
+    put_sent(alloc, outside.wire.sent(), out)?;
+    Ok(())
 }

@@ -1,6 +1,7 @@
-//! Serves days over an outside in memory, beside what their schedules say, and prints what was seen: `stdout` has what is
-//! to be seen, by hand. A host of a site of one serves a day, days on which a call of its outside or of a disk fails, and
-//! literal datagrams; two hosts hand a request over and stage its output back; shepherds and a client speak over a wire.
+//! Serves days over an outside in memory, beside what their schedules say, and prints what was
+//! seen: `stdout` has what is to be seen, by hand. A host of a site of one serves a day, days on
+//! which a call of its outside or of a disk fails, and literal datagrams; two hosts hand a request
+//! over and stage its output back; shepherds and a client speak over a wire.
 #![tactic(auto)]
 
 mod coming;
@@ -16,18 +17,19 @@ mod shepherds;
 mod text;
 mod told;
 mod transcript;
+mod trouble;
 
 use days::put_days;
 use literal::put_literal;
 use network::put_network;
-use nqs_values::Memory;
 use shepherds::{put_client, put_shepherds};
 use std::alloc::Global;
 use std::io;
 use std::io::Write;
 use std::process::ExitCode;
+use trouble::Trouble;
 
-fn put_all(alloc: Global, out: &mut Vec<u8>) -> Result<(), Memory> {
+fn put_all(alloc: Global, out: &mut Vec<u8>) -> Result<(), Trouble> {
     put_days(alloc, out)?;
     put_network(alloc, out)?;
     put_literal(alloc, out)?;
@@ -38,10 +40,14 @@ fn put_all(alloc: Global, out: &mut Vec<u8>) -> Result<(), Memory> {
 fn main(rt: HostRuntime) -> ExitCode {
     let mut out = Vec::new(rt.alloc());
     let seen = put_all(rt.alloc(), &mut out);
-    let written = io::writer(&rt).write_all(&out);
-    if seen.is_ok() && written.is_ok() {
-        ExitCode::SUCCESS
-    } else {
-        ExitCode::FAILURE
+    if io::writer(&rt).write_all(&out).is_err() {
+        return ExitCode::FAILURE;
+    }
+    match seen {
+        Ok(()) => ExitCode::SUCCESS,
+        Err(trouble) => {
+            let _ = eprintln!(rt; "{}", trouble.text());
+            ExitCode::FAILURE
+        }
     }
 }

@@ -2,6 +2,7 @@
 
 use crate::coming::{Ask, Coming, Ended, coming_of};
 use crate::datagrams::{put_acknowledgement, put_ask, put_ended, put_front};
+use crate::trouble::Trouble;
 use nqs_fakes::{Item, ListClock, MemLauncher, MemOutlet, MemPrinter, MemWire};
 use nqs_types::WorldEvent;
 use nqs_values::{Bytes, Items, ListOf, Memory};
@@ -133,30 +134,32 @@ impl Arrivals {
     }
 
     // The token is greater by the number of what was to be sent before.
-    fn add_ask(&mut self, ask: Ask<'_>) -> Result<(), Memory> {
+    fn add_ask(&mut self, ask: Ask<'_>) -> Result<(), Trouble> {
         let token = self.token.saturating_add(self.fronts.len() as u64);
         let mut datagram = Vec::new(self.alloc);
         put_ask(ask, token, &mut datagram)?;
         let mut front = Vec::new(self.alloc);
         put_front(ask.host, token, &mut front)?;
-        self.add_datagram(Bytes::from_vec(datagram), Bytes::from_vec(front))
+        self.add_datagram(Bytes::from_vec(datagram), Bytes::from_vec(front))?;
+        Ok(())
     }
 
-    fn add_ended(&mut self, ended: Ended<'_>) -> Result<(), Memory> {
+    fn add_ended(&mut self, ended: Ended<'_>) -> Result<(), Trouble> {
         let mut datagram = Vec::new(self.alloc);
         put_ended(ended, &mut datagram)?;
         let mut front = Vec::new(self.alloc);
         put_acknowledgement(ended, &mut front)?;
-        self.add_datagram(Bytes::from_vec(datagram), Bytes::from_vec(front))
+        self.add_datagram(Bytes::from_vec(datagram), Bytes::from_vec(front))?;
+        Ok(())
     }
 
     /// What comes to the daemon by an event of a schedule.
-    pub fn add(&mut self, event: &WorldEvent) -> Result<(), Memory> {
+    pub fn add(&mut self, event: &WorldEvent) -> Result<(), Trouble> {
         match coming_of(event) {
             Coming::Ask(ask) => self.add_ask(ask),
             Coming::Ended(ended) => self.add_ended(ended),
-            Coming::Quiet(_) => self.add_quiet(),
-            Coming::Back => self.add_event(),
+            Coming::Quiet(_) => Ok(self.add_quiet()?),
+            Coming::Back => Ok(self.add_event()?),
             Coming::Moment(moment) => {
                 self.now = moment;
                 Ok(())
@@ -166,10 +169,10 @@ impl Arrivals {
     }
 
     // It gives the moments in order. There is one at least.
-    fn clock(&self) -> Result<ListClock, Memory> {
+    fn clock(&self) -> Result<ListClock, Trouble> {
         let moments = self.moments.clone()?;
         if moments.len() == 0 {
-            return Err(Memory);
+            return Err(Trouble::Unexpected("a clock has no moment"));
         }
         Ok(ListClock::new(self.alloc, moments))
     }
@@ -199,7 +202,7 @@ impl Arrivals {
     }
 
     /// The outside to which this comes.
-    pub fn into_outside(self) -> Result<Outside, Memory> {
+    pub fn into_outside(self) -> Result<Outside, Trouble> {
         let clock = self.clock()?;
         Ok(self.with_clock(clock))
     }
@@ -219,7 +222,7 @@ fn fill(alloc: Global, comes: &[&[u8]], arrivals: &mut Arrivals) -> Result<(), M
 }
 
 /// The outside to which these datagrams come. Where there are no bytes nothing comes.
-pub fn outside_of(alloc: Global, failing: &Failing, comes: &[&[u8]]) -> Result<Outside, Memory> {
+pub fn outside_of(alloc: Global, failing: &Failing, comes: &[&[u8]]) -> Result<Outside, Trouble> {
     let mut arrivals = Arrivals::new(alloc, 0);
     arrivals.fail(failing)?;
     fill(alloc, comes, &mut arrivals)?;

@@ -73,7 +73,8 @@ fn put_pair(title: &[u8], schedule: &[u8], daemon: &[u8], out: &mut Vec<u8>) -> 
     put_part(title, daemon, out)
 }
 
-/// Prints the parts that have lines, of a schedule's run and of the daemons: once where they are the same, else both.
+/// Prints the parts that have lines, of a schedule's run and of the daemons: once where they are
+/// the same, else both.
 pub fn put_both(schedule: &Parts, daemon: &Parts, out: &mut Vec<u8>) -> Result<(), Memory> {
     put_pair(b"replies", &schedule.replies, &daemon.replies, out)?;
     put_pair(b"jobs", &schedule.jobs, &daemon.jobs, out)?;

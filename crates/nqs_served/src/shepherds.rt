@@ -3,6 +3,7 @@
 use crate::host::{alpha, beta};
 use crate::outside::{Failing, NONE, outside_of};
 use crate::text::{put, put_sent, put_text};
+use crate::trouble::Trouble;
 use nqs_clients::{NqsStatus, ShepherdEnd, client, shepherd};
 use nqs_fakes::{MemRunner, MemWire};
 use nqs_outside::{ListSource, MemSink, RunEnd};
@@ -10,7 +11,8 @@ use nqs_types::{HostId, RequestId};
 use nqs_values::{Bytes, Items, Memory};
 use std::alloc::Global;
 
-// The acknowledgement of the first start of the request 7 of host 1, and that of a request 7 of host 0.
+// The acknowledgement of the first start of the request 7 of host 1, and that of a request 7 of
+// host 0.
 const ACK: &[u8] = &[1, 13, 0, 0, 0, 0, 0, 7, 1, 0, 1];
 
 const OTHER_ACK: &[u8] = &[1, 13, 0, 0, 0, 0, 0, 7, 0, 0, 1];
@@ -127,15 +129,16 @@ fn tend(alloc: Global, row: &Row, wire: &mut MemWire, out: &mut Vec<u8>) -> Resu
     put_text(format!(in alloc; "{end}, jobs {jobs}\n"), out)
 }
 
-fn put_row(alloc: Global, row: &Row, out: &mut Vec<u8>) -> Result<(), Memory> {
+fn put_row(alloc: Global, row: &Row, out: &mut Vec<u8>) -> Result<(), Trouble> {
     put_text(format!(in alloc; "\n== a shepherd: {}\n", row.title), out)?;
     let mut outside = outside_of(alloc, &row.failing, row.comes)?;
     tend(alloc, row, &mut outside.wire, out)?;
-    put_wire(alloc, &outside.wire, out)
+    put_wire(alloc, &outside.wire, out)?;
+    Ok(())
 }
 
 /// Prints what is seen of shepherds.
-pub fn put_shepherds(alloc: Global, out: &mut Vec<u8>) -> Result<(), Memory> {
+pub fn put_shepherds(alloc: Global, out: &mut Vec<u8>) -> Result<(), Trouble> {
     for row in &ROWS {
         put_row(alloc, row, out)?;
     }
@@ -179,9 +182,10 @@ fn put_asked(alloc: Global, wire: &mut MemWire, out: &mut Vec<u8>) -> Result<(),
 }
 
 /// Prints what is seen of a client that gets three answers, of which the last is its own.
-pub fn put_client(alloc: Global, out: &mut Vec<u8>) -> Result<(), Memory> {
+pub fn put_client(alloc: Global, out: &mut Vec<u8>) -> Result<(), Trouble> {
     put(b"\n== a client\n", out)?;
     let mut outside = outside_of(alloc, &NONE, &ANSWERS)?;
     put_asked(alloc, &mut outside.wire, out)?;
-    put_wire(alloc, &outside.wire, out)
+    put_wire(alloc, &outside.wire, out)?;
+    Ok(())
 }

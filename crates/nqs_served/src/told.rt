@@ -40,7 +40,8 @@ fn add_answer(
     add_wrong(alloc, datagram, parts)
 }
 
-// The kind, the sender, the receiver and the number of a datagram between hosts, where the number is below 256.
+// The kind, the sender, the receiver and the number of a datagram between hosts, where the number
+// is below 256.
 fn header_of(datagram: &[u8]) -> Option<(&'static str, HostId, HostId, u8)> {
     let kind = *datagram.get(1)?;
     let from = *datagram.get(2)?;

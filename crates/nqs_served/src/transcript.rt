@@ -2,6 +2,7 @@
 
 use crate::parts::Parts;
 use crate::text::put;
+use crate::trouble::Trouble;
 use nqs_outside::{ListSource, MemSink};
 use nqs_runs::replay::replay;
 use nqs_runs::status::Status;
@@ -88,10 +89,13 @@ fn replay_into(alloc: Global, schedule: &[u8], sink: &mut MemSink) -> Status {
 }
 
 /// Adds what the run of a schedule tells.
-pub fn add_replayed(alloc: Global, schedule: &[u8], parts: &mut Parts) -> Result<(), Memory> {
+pub fn add_replayed(alloc: Global, schedule: &[u8], parts: &mut Parts) -> Result<(), Trouble> {
     let mut sink = MemSink::new(alloc, 100, Vec::new(alloc));
-    if replay_into(alloc, schedule, &mut sink) != Status::Done {
-        return Err(Memory);
+    match replay_into(alloc, schedule, &mut sink) {
+        Status::Done => {}
+        Status::Memory(memory) => return Err(Trouble::Memory(memory)),
+        _ => return Err(Trouble::Unexpected("a schedule isn't run to its end")),
     }
-    add_lines(alloc, sink.taken(), parts)
+    add_lines(alloc, sink.taken(), parts)?;
+    Ok(())
 }

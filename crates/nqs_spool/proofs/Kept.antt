@@ -6,7 +6,8 @@ use Rattle.std.specs.Prelude.{IsTrue}
 use Rattle.std.specs.Option.{unwrap_or}
 use Rattle.nqs_values.specs.declared.extent.Extent.{Extent}
 use Rattle.nqs_spool.specs.declared.slot.Slot.{Slot}
-use Rattle.nqs_spool.specs.Slots.{gap_of, end_of, IsRow, set_from, slot_at, ended, first_fit, lies_between, is_free, inserted, begun_at, removed, begun_if_empty, left_by}
+use Rattle.nqs_spool.specs.Slots.{gap_of, end_of, IsRow, set_from, slot_at, ended, first_fit, lies_between, is_free, inserted, begun_at, removed}
+use Rattle.nqs_spool.specs.Slots.{begun_if_empty, left_by}
 use Rattle.nqs_spool.specs.Extents.{extent_at, past, IsApart, IsClearOf, AreApart, IsLeastPlace, Has, IsWith, extent_of, extents_of}
 use Rattle.nqs_spool.specs.declared.live.LiveExtents.{LiveExtents}
 use Rattle.nqs_spool.specs.Live.{kept}
@@ -52,22 +53,26 @@ fit_to count from end (slot ∷ slots) row = elim (le_cases count (gap_of slot))
   | inr miss ↦ rw (else_of slot.from (first_fit count end slots) miss.0) (fit_to count (end_of slot) end slots row.3)
 ]
 
-fit_clear : (count from end : ℕ) (slots : List Slot) → IsRow from slots end → 0 < count → IsClearOf (extents_of slots) (extent_at (first_fit count end slots) count)
+fit_clear : (count from end : ℕ) (slots : List Slot) → IsRow from slots end → 0 < count
+    → IsClearOf (extents_of slots) (extent_at (first_fit count end slots) count)
 fit_clear count from end [] row some = tt
 fit_clear count from end (slot ∷ slots) row some = elim (le_cases count (gap_of slot)) [
   | inl hit ↦ subst (λ place. IsClearOf (extents_of (slot ∷ slots)) (extent_at place count)) (sym (then_of slot.from (first_fit count end slots) hit.0)) (
     omega (arith, row.0, row.1, hit.1, some),
-    has_all (IsApart (extent_at slot.from count)) (extents_of slots) (λ x has. omega (arith, row.0, row.1, hit.1, some, row_from (end_of slot) end slots row.3 x has)),
+    has_all (IsApart (extent_at slot.from count)) (extents_of slots) (λ x has. omega
+        (arith, row.0, row.1, hit.1, some, row_from (end_of slot) end slots row.3 x has)),
   )
   | inr miss ↦ subst (λ place. IsClearOf (extents_of (slot ∷ slots)) (extent_at place count)) (sym (else_of slot.from (first_fit count end slots) miss.0))
       (omega (arith, fit_from count (end_of slot) end slots row.3), fit_clear count (end_of slot) end slots row.3 some)
 ]
 
-fit_least : (count from end : ℕ) (slots : List Slot) → IsRow from slots end → 0 < count → (other : ℕ) → from ≤ other → IsClearOf (extents_of slots) (extent_at other count) → first_fit count end slots ≤ other
+fit_least : (count from end : ℕ) (slots : List Slot) → IsRow from slots end → 0 < count → (other : ℕ) → from ≤ other
+    → IsClearOf (extents_of slots) (extent_at other count) → first_fit count end slots ≤ other
 fit_least count from end [] row some other le clear = omega (arith, row, le)
 fit_least count from end (slot ∷ slots) row some other le clear = elim (le_cases count (gap_of slot)) [
   | inl hit ↦ rw (then_of slot.from (first_fit count end slots) hit.0) (omega (arith, row.0, le))
-  | inr miss ↦ rw (else_of slot.from (first_fit count end slots) miss.0) (fit_least count (end_of slot) end slots row.3 some other (omega (arith, row.0, row.1, row.2, some, miss.1, le, clear.0)) clear.1)
+  | inr miss ↦ rw (else_of slot.from (first_fit count end slots) miss.0) (fit_least count (end_of slot) end slots row.3 some other
+      (omega (arith, row.0, row.1, row.2, some, miss.1, le, clear.0)) clear.1)
 ]
 
 pub fit_is_least : (count end : ℕ) (slots : List Slot) → IsRow 0 slots end → 0 < count → IsLeastPlace (extents_of slots) count (first_fit count end slots)
@@ -97,7 +102,8 @@ free_from place past limit from end (slot ∷ slots) row free = elim (lt_cases p
   | inr miss ↦ omega (arith, row.1, miss.1)
 ]
 
-pub free_clear : (place count limit from end : ℕ) (slots : List Slot) → IsRow from slots end → 0 < count → IsTrue (is_free place (place + count) end limit slots)
+pub free_clear : (place count limit from end : ℕ) (slots : List Slot) → IsRow from slots end → 0 < count
+    → IsTrue (is_free place (place + count) end limit slots)
     → IsClearOf (extents_of slots) (extent_at place count)
 free_clear place count limit from end [] row some free = tt
 free_clear place count limit from end (slot ∷ slots) row some free = elim (lt_cases place slot.place) [
@@ -105,27 +111,41 @@ free_clear place count limit from end (slot ∷ slots) row some free = elim (lt_
     omega (arith, high, some),
     has_all (IsApart (extent_at place count)) (extents_of slots) (λ x has. omega (arith, high, some, row_from (end_of slot) end slots row.3 x has)),
   )
-  | inr miss ↦ let later = sym (else_of _ _ miss.0) ∙ free in
-      (omega (arith, some, free_from place (place + count) limit (end_of slot) end slots row.3 later), free_clear place count limit (end_of slot) end slots row.3 some later)
+  | inr miss ↦ let later = sym (else_of _ _ miss.0) ∙ free in (
+    omega (arith, some, free_from place (place + count) limit (end_of slot) end slots row.3 later),
+    free_clear place count limit
+        (end_of slot) end slots row.3 some later,
+  )
 ]
 
-pub clear_free : (place count from end : ℕ) (slots : List Slot) → IsRow from slots end → from ≤ place → 0 < count → IsClearOf (extents_of slots) (extent_at place count)
+pub clear_free : (place count from end : ℕ) (slots : List Slot) → IsRow from slots end → from ≤ place → 0 < count
+    → IsClearOf (extents_of slots) (extent_at place count)
     → IsTrue (is_free place (place + count) end (place + count) slots)
 clear_free place count from end [] row low some clear = between_from place (place + count) end (place + count) (omega (arith, row, low)) (omega arith)
 clear_free place count from end (slot ∷ slots) row low some clear = elim (lt_cases place slot.place) [
-  | inl hit ↦ then_of _ _ hit.0 ∙ between_from place (place + count) slot.from slot.place (omega (arith, row.0, low)) (omega (arith, hit.1, row.2, some, clear.0))
+  | inl hit ↦ then_of _ _ hit.0 ∙ between_from place (place + count) slot.from slot.place (omega (arith, row.0, low))
+      (omega (arith, hit.1, row.2, some, clear.0))
   | inr miss ↦ else_of _ _ miss.0 ∙ clear_free place count (end_of slot) end slots row.3 (omega (arith, miss.1, row.2, some, clear.0)) some clear.1
 ]
 
 -- one extent more
 
-pub inserted_row : (place count from end : ℕ) (slots : List Slot) → IsRow from slots end → from ≤ place → 0 < count → IsClearOf (extents_of slots) (extent_at place count)
+pub inserted_row : (place count from end : ℕ) (slots : List Slot) → IsRow from slots end → from ≤ place → 0 < count
+    → IsClearOf (extents_of slots) (extent_at place count)
     → IsRow from (inserted place count end slots) (unwrap_or (ended place count slots) end)
 inserted_row place count from end [] row le some clear = (sym row, le, some, refl)
 inserted_row place count from end (slot ∷ slots) row le some clear = elim (lt_cases place slot.place) [
-  | inl hit ↦ rw (then_of (slot_at slot.from place count ∷ set_from (Some (place + count)) slot ∷ slots) (slot ∷ inserted place count end slots) hit.0, then_of None (ended place count slots) hit.0)
+  | inl hit ↦ rw (
+    then_of (slot_at slot.from place count ∷ set_from (Some (place + count)) slot ∷ slots)
+        (slot ∷ inserted place count end slots) hit.0,
+    then_of None (ended place count slots) hit.0,
+  )
       (row.0, le, some, (refl, omega (arith, hit.1, row.2, some, clear.0), row.2, row.3))
-  | inr miss ↦ rw (else_of (slot_at slot.from place count ∷ set_from (Some (place + count)) slot ∷ slots) (slot ∷ inserted place count end slots) miss.0, else_of None (ended place count slots) miss.0)
+  | inr miss ↦ rw (
+    else_of (slot_at slot.from place count ∷ set_from (Some (place + count)) slot ∷ slots)
+        (slot ∷ inserted place count end slots) miss.0,
+    else_of None (ended place count slots) miss.0,
+  )
       (row.0, row.1, row.2, inserted_row place count (end_of slot) end slots row.3 (omega (arith, miss.1, row.2, some, clear.0)) some clear.1)
 ]
 
@@ -136,7 +156,13 @@ inserted_more place count end (slot ∷ slots) = elim (lt_cases place slot.place
       record { front = []; back = extents_of (slot ∷ slots); without = refl; within = refl }
   | inr miss ↦ rw (else_of (slot_at slot.from place count ∷ set_from (Some (place + count)) slot ∷ slots) (slot ∷ inserted place count end slots) miss.0)
       (let rest = inserted_more place count end slots in
-      record { front = extent_of slot ∷ rest.front; back = rest.back; without = ap (λ l. extent_of slot ∷ l) rest.without; within = ap (λ l. extent_of slot ∷ l) rest.within })
+      record {
+        front = extent_of slot ∷ rest.front;
+        back = rest.back;
+        without = ap (λ l. extent_of slot ∷ l) rest.without;
+        within =
+            ap (λ l. extent_of slot ∷ l) rest.within;
+      })
 ]
 
 pub ended_to : (place count end : ℕ) (slots : List Slot) → unwrap_or (ended place count slots) end ≤ max end (place + count)
@@ -148,15 +174,21 @@ ended_to place count end (slot ∷ slots) = elim (lt_cases place slot.place) [
 
 -- one extent less
 
-begun_row : (from end : ℕ) (slot : Slot) (slots : List Slot) → IsRow from (slot ∷ slots) end → IsRow from (begun_at slot.from slots) (unwrap_or (begun_if_empty slot.from slots) end)
+begun_row : (from end : ℕ) (slot : Slot) (slots : List Slot) → IsRow from (slot ∷ slots) end
+    → IsRow from (begun_at slot.from slots) (unwrap_or (begun_if_empty slot.from slots) end)
 begun_row from end slot [] row = sym row.0
 begun_row from end slot (next ∷ slots) row = (row.0, omega (arith, row.1, row.3.1), row.3.2, row.3.3)
 
 pub removed_row : (place from end : ℕ) (slots : List Slot) → IsRow from slots end → IsRow from (removed place slots) (unwrap_or (left_by place slots) end)
 removed_row place from end [] row = row
 removed_row place from end (slot ∷ slots) row = elim (eq_cases slot.place place) [
-  | inl hit ↦ rw (then_of (begun_at slot.from slots) (slot ∷ removed place slots) hit.0, then_of (begun_if_empty slot.from slots) (left_by place slots) hit.0) (begun_row from end slot slots row)
-  | inr miss ↦ rw (else_of (begun_at slot.from slots) (slot ∷ removed place slots) miss.0, else_of (begun_if_empty slot.from slots) (left_by place slots) miss.0)
+  | inl hit ↦ rw (then_of (begun_at slot.from slots) (slot ∷ removed place slots) hit.0, then_of (begun_if_empty slot.from slots) (left_by place slots) hit.0)
+      (begun_row from end slot slots row)
+  | inr miss ↦ rw (
+    else_of (begun_at slot.from slots) (slot ∷ removed place slots) miss.0,
+    else_of (begun_if_empty slot.from slots)
+        (left_by place slots) miss.0,
+  )
       (row.0, row.1, row.2, removed_row place (end_of slot) end slots row.3)
 ]
 
@@ -167,7 +199,8 @@ begun_to from end (slot ∷ slots) le = omega arith
 pub left_to : (place from end : ℕ) (slots : List Slot) → IsRow from slots end → unwrap_or (left_by place slots) end ≤ end
 left_to place from end [] row = omega arith
 left_to place from end (slot ∷ slots) row = elim (eq_cases slot.place place) [
-  | inl hit ↦ rw (then_of (begun_if_empty slot.from slots) (left_by place slots) hit.0) (begun_to slot.from end slots (omega (arith, row.0, row_rises from end (slot ∷ slots) row)))
+  | inl hit ↦ rw (then_of (begun_if_empty slot.from slots) (left_by place slots) hit.0)
+      (begun_to slot.from end slots (omega (arith, row.0, row_rises from end (slot ∷ slots) row)))
   | inr miss ↦ rw (else_of (begun_if_empty slot.from slots) (left_by place slots) miss.0) (left_to place (end_of slot) end slots row.3)
 ]
 
@@ -175,7 +208,8 @@ begun_extents : (from : ℕ) (slots : List Slot) → extents_of (begun_at from s
 begun_extents from [] = refl
 begun_extents from (slot ∷ slots) = refl
 
-pub removed_less : (from end : ℕ) (slots : List Slot) → IsRow from slots end → (x : Extent) → Has (extents_of slots) x → IsWith (extents_of (removed x.place slots)) x (extents_of slots)
+pub removed_less : (from end : ℕ) (slots : List Slot) → IsRow from slots end → (x : Extent) → Has (extents_of slots) x
+    → IsWith (extents_of (removed x.place slots)) x (extents_of slots)
 removed_less from end [] row x has = absurd has
 removed_less from end (slot ∷ slots) row x (inl is) = elim (eq_cases slot.place x.place) [
   | inl hit ↦ rw (then_of (begun_at slot.from slots) (slot ∷ removed x.place slots) hit.0)
@@ -186,7 +220,13 @@ removed_less from end (slot ∷ slots) row x (inr has) = elim (eq_cases slot.pla
   | inl hit ↦ absurd (omega (arith, hit.1, row.2, row_from (end_of slot) end slots row.3 x has))
   | inr miss ↦ rw (else_of (begun_at slot.from slots) (slot ∷ removed x.place slots) miss.0)
       (let rest = removed_less (end_of slot) end slots row.3 x has in
-      record { front = extent_of slot ∷ rest.front; back = rest.back; without = ap (λ l. extent_of slot ∷ l) rest.without; within = ap (λ l. extent_of slot ∷ l) rest.within })
+      record {
+        front = extent_of slot ∷ rest.front;
+        back = rest.back;
+        without = ap (λ l. extent_of slot ∷ l) rest.without;
+        within =
+            ap (λ l. extent_of slot ∷ l) rest.within;
+      })
 ]
 
 -- of a set

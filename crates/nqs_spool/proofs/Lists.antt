@@ -59,8 +59,16 @@ module _ (kept more live more' : List Extent) (x : Extent) (at : IsWith kept x m
   pub covers_put : IsClearOf live x → Covers kept live → Covers more more'
   covers_put clear so_far = record {
     same = λ y some. (
-      (λ has. rw at.within (has_put at.front at.back x y (elim (has_cut at'.front at'.back x y (rw at'.within at has)) [ inl is ↦ inl is | inr rest ↦ inr (rw at.without at ((so_far.same y some).0 (rw at'.without rest))) ]))),
-      (λ has. rw at'.within (has_put at'.front at'.back x y (elim (has_cut at.front at.back x y (rw at.within at has)) [ inl is ↦ inl is | inr rest ↦ inr (rw at'.without at ((so_far.same y some).1 (rw at.without rest))) ]))),
+      (λ has. rw at.within (has_put at.front at.back x y (elim (has_cut at'.front at'.back x y (rw at'.within at has)) [
+        | inl is ↦ inl is
+        | inr rest ↦ inr
+            (rw at.without at ((so_far.same y some).0 (rw at'.without rest)))
+      ]))),
+      (λ has. rw at'.within (has_put at'.front at'.back x y (elim (has_cut at.front at.back x y (rw at.within at has)) [
+        | inl is ↦ inl is
+        | inr rest ↦ inr
+            (rw at'.without at ((so_far.same y some).1 (rw at.without rest)))
+      ]))),
     );
     apart = rw at'.within (apart_put at'.front at'.back x (rw at'.without at clear) (rw at'.without at so_far.apart));
   }
@@ -71,14 +79,16 @@ module _ (kept more live more' : List Extent) (x : Extent) (at : IsWith kept x m
       let alone = apart_cut at.front at.back x (rw at.within at kept_apart) in
       record {
         same = λ y some_y. (
-          (λ has. elim (has_cut at.front at.back x y (rw at.within at ((so_far.same y some_y).0 (rw at'.within (has_put at'.front at'.back x y (inr (rw at'.without at has))))))) [
-            | inl is ↦ absurd (once (at'.front ++ at'.back) x some apart.0 (subst (Has (at'.front ++ at'.back)) is (rw at'.without at has)))
-            | inr rest ↦ rw at.without rest
-          ]),
-          (λ has. elim (has_cut at'.front at'.back x y (rw at'.within at ((so_far.same y some_y).1 (rw at.within (has_put at.front at.back x y (inr (rw at.without at has))))))) [
-            | inl is ↦ absurd (once (at.front ++ at.back) x some alone.0 (subst (Has (at.front ++ at.back)) is (rw at.without at has)))
-            | inr rest ↦ rw at'.without rest
-          ]),
+          (λ has. elim (has_cut at.front at.back x y (rw at.within at ((so_far.same y some_y).0
+              (rw at'.within (has_put at'.front at'.back x y (inr (rw at'.without at has))))))) [
+                | inl is ↦ absurd (once (at'.front ++ at'.back) x some apart.0 (subst (Has (at'.front ++ at'.back)) is (rw at'.without at has)))
+                | inr rest ↦ rw at.without rest
+              ]),
+          (λ has. elim (has_cut at'.front at'.back x y (rw at'.within at ((so_far.same y some_y).1
+              (rw at.within (has_put at.front at.back x y (inr (rw at.without at has))))))) [
+                | inl is ↦ absurd (once (at.front ++ at.back) x some alone.0 (subst (Has (at.front ++ at.back)) is (rw at.without at has)))
+                | inr rest ↦ rw at'.without rest
+              ]),
         );
         apart = rw at'.without apart.1;
       }
@@ -94,7 +104,11 @@ module _ (kept live more : List Extent) (x : Extent) (empty : x.length ≡ 0) (a
   pub empty_put : Covers kept live → Covers kept more
   empty_put so_far = record {
     same = λ y some. (
-      (λ has. elim (has_cut at.front at.back x y (rw at.within at has)) [ inl is ↦ absurd (not_it y some is) | inr rest ↦ (so_far.same y some).0 (rw at.without rest) ]),
+      (λ has. elim (has_cut at.front at.back x y (rw at.within at has)) [
+        | inl is ↦ absurd (not_it y some is)
+        | inr rest ↦ (so_far.same y some).0
+            (rw at.without rest)
+      ]),
       (λ has. rw at.within (has_put at.front at.back x y (inr (rw at.without at ((so_far.same y some).1 has))))),
     );
     apart = rw at.within (apart_put at.front at.back x (clear (at.front ++ at.back)) (rw at.without at so_far.apart));
@@ -104,7 +118,11 @@ module _ (kept live more : List Extent) (x : Extent) (empty : x.length ≡ 0) (a
   empty_cut so_far = record {
     same = λ y some. (
       (λ has. (so_far.same y some).0 (rw at.within (has_put at.front at.back x y (inr (rw at.without at has))))),
-      (λ has. elim (has_cut at.front at.back x y (rw at.within at ((so_far.same y some).1 has))) [ inl is ↦ absurd (not_it y some is) | inr rest ↦ rw at.without rest ]),
+      (λ has. elim (has_cut at.front at.back x y (rw at.within at ((so_far.same y some).1 has))) [
+        | inl is ↦ absurd
+            (not_it y some is)
+        | inr rest ↦ rw at.without rest
+      ]),
     );
     apart = rw at.without (apart_cut at.front at.back x (rw at.within at so_far.apart)).1;
   }
@@ -125,7 +143,8 @@ clear_live kept live x so_far clear = has_all (IsApart x) live (λ y has. elim (
 ])
 
 -- what is the least place for those that are kept is it for the live extents
-pub least_of_live : (kept live : List Extent) (count place : ℕ) → ((y : Extent) → Has kept y → 0 < y.length) → Covers kept live → IsLeastPlace kept count place → IsLeastPlace live count place
+pub least_of_live : (kept live : List Extent) (count place : ℕ) → ((y : Extent) → Has kept y → 0 < y.length) → Covers kept live → IsLeastPlace kept count place
+    → IsLeastPlace live count place
 least_of_live kept live count place some so_far is = record {
   clear = clear_live kept live (extent_at place count) so_far is.clear;
   least = λ other clear. is.least other (clear_kept kept live (extent_at other count) some so_far clear);

@@ -35,7 +35,8 @@ module _ {D : Type 0} {g : disk.Ghosts D} (spool : Spool D g) where
       (fit_is_least count spool.live.end spool.live.tree spool.live.row (omega arith))
 
   -- what is written at that place
-  module _ (bytes : List ℕ) (place : ℕ) (at : place ≡ place_for spool bytes) (within : IsTrue g.tells → place ≤ length (content (history_of spool))) (extents : List Extent) (tells : Tells spool extents) where
+  module _ (bytes : List ℕ) (place : ℕ) (at : place ≡ place_for spool bytes) (within : IsTrue g.tells → place ≤ length (content (history_of spool)))
+      (extents : List Extent) (tells : Tells spool extents) where
     abbrev new : Extent
     new = extent_at place (length bytes)
 
@@ -44,7 +45,8 @@ module _ {D : Type 0} {g : disk.Ghosts D} (spool : Spool D g) where
 
     -- while it is written
     pub held : IsTrue g.tells → (x : Extent) (script : List ℕ) → Has extents x → Holds (content (history_of spool)) x script
-        → (k : History) (calls : List Call) → k ≡ extended (history_of spool) calls → BreaksOff (written_through place bytes) calls → EachSince (moment (history_of spool)) k (λ image. Holds image x script)
+        → (k : History) (calls : List Call) → k ≡ extended (history_of spool) calls → BreaksOff (written_through place bytes) calls
+        → EachSince (moment (history_of spool)) k (λ image. Holds image x script)
     held told x script has holds k calls is off =
         let apart = all_has (IsApart new) extents x clear has in
         held_throughout (history_of spool) place bytes (tells.quiet told) (within told) x script (omega (arith, apart)) holds k calls is off
@@ -57,14 +59,16 @@ module _ {D : Type 0} {g : disk.Ghosts D} (spool : Spool D g) where
         held_after (history_of spool) place bytes (tells.quiet told) (within told) x script (omega (arith, apart)) holds k calls is off
 
     -- once it is written
-    pub tells_more : (spool' : Spool D g) → IsWith (live.kept spool.live) new (live.kept spool'.live) → (IsTrue g.tells → history_of spool' ≡ extended (history_of spool) (written_through place bytes))
+    pub tells_more : (spool' : Spool D g) → IsWith (live.kept spool.live) new (live.kept spool'.live)
+        → (IsTrue g.tells → history_of spool' ≡ extended (history_of spool) (written_through place bytes))
         → (more : List Extent) → IsWith extents new more → Tells spool' more
     tells_more spool' kept_at made more at' = record {
       live = covers_put (live.kept spool.live) (live.kept spool'.live) extents more new kept_at at' clear tells.live;
       within = λ told.
           let size = length_after (history_of spool) place bytes (within told) (history_of spool') (made told) in
           all_with (λ y. past y ≤ length (content (history_of spool'))) extents more new at' (omega (arith, size))
-          (all_map (λ y. past y ≤ length (content (history_of spool))) (λ y. past y ≤ length (content (history_of spool'))) extents (λ y le. omega (arith, le, size)) (tells.within told));
+          (all_map (λ y. past y ≤ length (content (history_of spool))) (λ y. past y ≤ length (content (history_of spool'))) extents
+          (λ y le. omega (arith, le, size)) (tells.within told));
       quiet = λ told. quiet_after (history_of spool) place bytes (tells.quiet told) (within told) (history_of spool') (made told);
     }
 
@@ -82,7 +86,8 @@ module _ {D : Type 0} {g : disk.Ghosts D} (spool : Spool D g) where
     pub plan : written_through place bytes ≡ put_calls (place_for spool bytes) bytes
     pub within : IsTrue g.tells → place ≤ length (content (history_of spool))
 
-  pub found : (taken : LiveExtents) (bytes : List ℕ) (place : ℕ) (none : Bool) → none ≡ (length bytes == 0) → none ≡ false → live.slots taken ≡ live.slots spool.live → live.end_of taken ≡ live.end_of spool.live
+  pub found : (taken : LiveExtents) (bytes : List ℕ) (place : ℕ) (none : Bool) → none ≡ (length bytes == 0) → none ≡ false
+      → live.slots taken ≡ live.slots spool.live → live.end_of taken ≡ live.end_of spool.live
       → place ≡ live.place_for taken (length bytes) → place ≤ live.end_of taken → Found bytes place
   found taken bytes place none none_is not same_slots same_end is within_end =
       let some = some_of bytes (sym none_is ∙ not) in

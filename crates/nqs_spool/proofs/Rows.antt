@@ -1,11 +1,14 @@
 -- Rows that are put together from two sides and a slot between them.
-use Rattle.std.proofs.Common.{◌≡◌, ◌≢◌, ◌⊎◌, inl, inr, ℕ, ◌+◌, ◌<◌, ◌≤◌, max, nat_le, nat_lt, eqb, Bool, true, false, List, [], ◌∷◌, ◌++◌, Some, None, refl, sym, ap, ◌∙◌, arith, subst, length, length-append}
+use Rattle.std.proofs.Common.{◌≡◌, ◌≢◌, ◌⊎◌, inl, inr, ℕ, ◌+◌, ◌<◌, ◌≤◌, max, nat_le, nat_lt, eqb, Bool, true, false, List, [], ◌∷◌, ◌++◌, Some, None, refl}
+use Rattle.std.proofs.Common.{sym, ap, ◌∙◌, arith, subst, length, length-append}
 use Rattle.std.proofs.lemmas.Bool.Decides.{nat_tests}
 use Rattle.std.specs.Prelude.{if◌then◌else◌}
 use Rattle.nqs_spool.specs.declared.slot.Slot.{Slot}
-use Rattle.nqs_spool.specs.Slots.{gap_of, end_of, widest_of, IsRow, IsSomeRow, set_from, slot_at, ended, first_fit, is_free, inserted, begun_at, removed, begun_if_empty, left_by}
+use Rattle.nqs_spool.specs.Slots.{gap_of, end_of, widest_of, IsRow, IsSomeRow, set_from, slot_at, ended, first_fit, is_free, inserted, begun_at, removed}
+use Rattle.nqs_spool.specs.Slots.{begun_if_empty, left_by}
 
-pub widest-append : (left : List Slot) (slot : Slot) (right : List Slot) → widest_of (left ++ slot ∷ right) ≡ max (max (widest_of left) (gap_of slot)) (widest_of right)
+pub widest-append : (left : List Slot) (slot : Slot) (right : List Slot) → widest_of (left ++ slot ∷ right)
+    ≡ max (max (widest_of left) (gap_of slot)) (widest_of right)
 widest-append [] slot right = omega arith
 widest-append (other ∷ left) slot right = omega (arith, widest-append left slot right)
 
@@ -39,7 +42,8 @@ else_of {A} {b} x y is = ap (λ c. if c then x else y) is
 
 -- the first fit
 
-pub fit-left : (count end : ℕ) (left : List Slot) (slot : Slot) (right : List Slot) → 0 < count → count ≤ widest_of left → first_fit count end (left ++ slot ∷ right) ≡ first_fit count end left
+pub fit-left : (count end : ℕ) (left : List Slot) (slot : Slot) (right : List Slot) → 0 < count → count ≤ widest_of left
+    → first_fit count end (left ++ slot ∷ right) ≡ first_fit count end left
 fit-left count end [] slot right some fits = absurd (omega (arith, some, fits))
 fit-left count end (other ∷ left) slot right some fits = elim (le_cases count (gap_of other)) [
   | inl hit ↦ then_of _ _ hit.0 ∙ sym (then_of _ _ hit.0)
@@ -76,25 +80,41 @@ row_parts from end (other ∷ left) slot right row =
 
 pub inserted-left : (place count end : ℕ) (left : List Slot) (slot : Slot) (right : List Slot) → place < slot.place
     → inserted place count end (left ++ slot ∷ right) ≡ inserted place count slot.from left ++ set_from (ended place count left) slot ∷ right
-inserted-left place count end [] slot right before = elim (lt_cases place slot.place) [ inl hit ↦ then_of _ _ hit.0 | inr miss ↦ absurd (omega (arith, before, miss.1)) ]
+inserted-left place count end [] slot right before = elim (lt_cases place slot.place) [
+  | inl hit ↦ then_of _ _ hit.0
+  | inr miss ↦ absurd
+      (omega (arith, before, miss.1))
+]
 inserted-left place count end (other ∷ left) slot right before = elim (lt_cases place other.place) [
-  | inl hit ↦ then_of _ _ hit.0 ∙ sym (ap (λ b. (if b then slot_at other.from place count ∷ set_from (Some (place + count)) other ∷ left else other ∷ inserted place count slot.from left) ++ set_from (if b then None else ended place count left) slot ∷ right) hit.0)
+  | inl hit ↦ then_of _ _ hit.0 ∙ sym (ap (λ b. (if b then slot_at other.from place count ∷ set_from (Some (place + count)) other ∷ left else
+      other ∷ inserted place count slot.from left) ++ set_from (if b then None else ended place count left) slot ∷ right) hit.0)
   | inr miss ↦ else_of _ _ miss.0 ∙ ap (λ l. other ∷ l) (inserted-left place count end left slot right before)
-      ∙ sym (ap (λ b. (if b then slot_at other.from place count ∷ set_from (Some (place + count)) other ∷ left else other ∷ inserted place count slot.from left) ++ set_from (if b then None else ended place count left) slot ∷ right) miss.0)
+      ∙ sym (ap (λ b. (if b then slot_at other.from place count ∷ set_from (Some (place + count)) other ∷ left else other ∷ inserted place count slot.from left)
+      ++ set_from (if b then None else ended place count left) slot ∷ right) miss.0)
 ]
 
 pub ended-left : (place count : ℕ) (left : List Slot) (slot : Slot) (right : List Slot) → place < slot.place → ended place count (left ++ slot ∷ right) ≡ None
-ended-left place count [] slot right before = elim (lt_cases place slot.place) [ inl hit ↦ then_of _ _ hit.0 | inr miss ↦ absurd (omega (arith, before, miss.1)) ]
-ended-left place count (other ∷ left) slot right before = elim (lt_cases place other.place) [ inl hit ↦ then_of _ _ hit.0 | inr miss ↦ else_of _ _ miss.0 ∙ ended-left place count left slot right before ]
+ended-left place count [] slot right before = elim (lt_cases place slot.place) [
+  | inl hit ↦ then_of _ _ hit.0
+  | inr miss ↦ absurd
+      (omega (arith, before, miss.1))
+]
+ended-left place count (other ∷ left) slot right before = elim (lt_cases place other.place) [
+  | inl hit ↦ then_of _ _ hit.0
+  | inr miss ↦ else_of _ _ miss.0
+      ∙ ended-left place count left slot right before
+]
 
-pub inserted-right : (place count end from to : ℕ) (left rest : List Slot) → IsRow from left to → to ≤ place → inserted place count end (left ++ rest) ≡ left ++ inserted place count end rest
+pub inserted-right : (place count end from to : ℕ) (left rest : List Slot) → IsRow from left to → to ≤ place
+    → inserted place count end (left ++ rest) ≡ left ++ inserted place count end rest
 inserted-right place count end from to [] rest row le = refl
 inserted-right place count end from to (other ∷ left) rest row le = elim (lt_cases place other.place) [
   | inl hit ↦ absurd (omega (arith, hit.1, le, row.2, row_rises (end_of other) to left row.3))
   | inr miss ↦ else_of _ _ miss.0 ∙ ap (λ l. other ∷ l) (inserted-right place count end (end_of other) to left rest row.3 le)
 ]
 
-pub ended-right : (place count from to : ℕ) (left rest : List Slot) → IsRow from left to → to ≤ place → ended place count (left ++ rest) ≡ ended place count rest
+pub ended-right : (place count from to : ℕ) (left rest : List Slot) → IsRow from left to → to ≤ place
+    → ended place count (left ++ rest) ≡ ended place count rest
 ended-right place count from to [] rest row le = refl
 ended-right place count from to (other ∷ left) rest row le = elim (lt_cases place other.place) [
   | inl hit ↦ absurd (omega (arith, hit.1, le, row.2, row_rises (end_of other) to left row.3))
@@ -105,13 +125,18 @@ ended-right place count from to (other ∷ left) rest row le = elim (lt_cases pl
 
 pub free-left : (place past end limit : ℕ) (left : List Slot) (slot : Slot) (right : List Slot) → place < slot.place
     → is_free place past end limit (left ++ slot ∷ right) ≡ is_free place past slot.from slot.place left
-free-left place past end limit [] slot right before = elim (lt_cases place slot.place) [ inl hit ↦ then_of _ _ hit.0 | inr miss ↦ absurd (omega (arith, before, miss.1)) ]
+free-left place past end limit [] slot right before = elim (lt_cases place slot.place) [
+  | inl hit ↦ then_of _ _ hit.0
+  | inr miss ↦ absurd
+      (omega (arith, before, miss.1))
+]
 free-left place past end limit (other ∷ left) slot right before = elim (lt_cases place other.place) [
   | inl hit ↦ then_of _ _ hit.0 ∙ sym (then_of _ _ hit.0)
   | inr miss ↦ else_of _ _ miss.0 ∙ free-left place past end limit left slot right before ∙ sym (else_of _ _ miss.0)
 ]
 
-pub free-right : (place past end limit from to : ℕ) (left rest : List Slot) → IsRow from left to → to ≤ place → is_free place past end limit (left ++ rest) ≡ is_free place past end limit rest
+pub free-right : (place past end limit from to : ℕ) (left rest : List Slot) → IsRow from left to → to ≤ place
+    → is_free place past end limit (left ++ rest) ≡ is_free place past end limit rest
 free-right place past end limit from to [] rest row le = refl
 free-right place past end limit from to (other ∷ left) rest row le = elim (lt_cases place other.place) [
   | inl hit ↦ absurd (omega (arith, hit.1, le, row.2, row_rises (end_of other) to left row.3))
@@ -134,7 +159,8 @@ left_by-none place from end (slot ∷ slots) row lt = elim (eq_cases slot.place 
   | inr miss ↦ else_of _ _ miss.0 ∙ left_by-none place (end_of slot) end slots row.3 (omega (arith, lt, row.1))
 ]
 
-begun-left : (from : ℕ) (left : List Slot) (slot : Slot) (right : List Slot) → begun_at from (left ++ slot ∷ right) ≡ begun_at from left ++ set_from (begun_if_empty from left) slot ∷ right
+begun-left : (from : ℕ) (left : List Slot) (slot : Slot) (right : List Slot)
+    → begun_at from (left ++ slot ∷ right) ≡ begun_at from left ++ set_from (begun_if_empty from left) slot ∷ right
 begun-left from [] slot right = refl
 begun-left from (other ∷ left) slot right = refl
 
@@ -146,16 +172,19 @@ removed-left place from end [] slot right row before = elim (eq_cases slot.place
 ]
 removed-left place from end (other ∷ left) slot right row before = elim (eq_cases other.place place) [
   | inl hit ↦ then_of _ _ hit.0 ∙ begun-left other.from left slot right
-      ∙ sym (ap (λ b. (if b then begun_at other.from left else other ∷ removed place left) ++ set_from (if b then begun_if_empty other.from left else left_by place left) slot ∷ right) hit.0)
+      ∙ sym (ap (λ b. (if b then begun_at other.from left else other ∷ removed place left)
+      ++ set_from (if b then begun_if_empty other.from left else left_by place left) slot ∷ right) hit.0)
   | inr miss ↦ else_of _ _ miss.0 ∙ ap (λ l. other ∷ l) (removed-left place (end_of other) end left slot right row.3 before)
-      ∙ sym (ap (λ b. (if b then begun_at other.from left else other ∷ removed place left) ++ set_from (if b then begun_if_empty other.from left else left_by place left) slot ∷ right) miss.0)
+      ∙ sym (ap (λ b. (if b then begun_at other.from left else other ∷ removed place left)
+      ++ set_from (if b then begun_if_empty other.from left else left_by place left) slot ∷ right) miss.0)
 ]
 
 begun_if_empty-left : (from : ℕ) (left : List Slot) (slot : Slot) (right : List Slot) → begun_if_empty from (left ++ slot ∷ right) ≡ None
 begun_if_empty-left from [] slot right = refl
 begun_if_empty-left from (other ∷ left) slot right = refl
 
-pub left_by-left : (place from end : ℕ) (left : List Slot) (slot : Slot) (right : List Slot) → IsRow from (left ++ slot ∷ right) end → place < slot.place → left_by place (left ++ slot ∷ right) ≡ None
+pub left_by-left : (place from end : ℕ) (left : List Slot) (slot : Slot) (right : List Slot) → IsRow from (left ++ slot ∷ right) end → place < slot.place
+    → left_by place (left ++ slot ∷ right) ≡ None
 left_by-left place from end [] slot right row before = elim (eq_cases slot.place place) [
   | inl hit ↦ absurd (omega (arith, hit.1, before))
   | inr miss ↦ else_of _ _ miss.0 ∙ left_by-none place (end_of slot) end right row.3 (omega (arith, before))
@@ -197,7 +226,12 @@ module _ (left : List Slot) (slot : Slot) (right d : List Slot) (is : left ++ sl
   pub inserted-behind : (place count end : ℕ) → slot.place ≤ place → inserted place count end d ≡ left ++ slot ∷ inserted place count end right
   inserted-behind place count end behind =
       sym (ap (inserted place count end) is) ∙ inserted-right place count end row.0 slot.from left (slot ∷ right) parts.0 (omega (arith, parts.1, behind))
-      ∙ elim (lt_cases place slot.place) [ inl hit ↦ absurd (omega (arith, hit.1, behind)) | inr miss ↦ ap (λ b. left ++ (if b then slot_at slot.from place count ∷ set_from (Some (place + count)) slot ∷ right else slot ∷ inserted place count end right)) miss.0 ]
+      ∙ elim (lt_cases place slot.place) [
+        | inl hit ↦ absurd (omega (arith, hit.1, behind))
+        | inr miss ↦ ap
+            (λ b. left ++ (if b then slot_at slot.from place count ∷ set_from (Some (place + count)) slot ∷ right else slot ∷ inserted place count end right))
+            miss.0
+      ]
 
   pub ended-before : (place count : ℕ) → place < slot.place → ended place count d ≡ None
   ended-before place count before = sym (ap (ended place count) is) ∙ ended-left place count left slot right before
@@ -216,15 +250,21 @@ module _ (left : List Slot) (slot : Slot) (right d : List Slot) (is : left ++ sl
       ∙ elim (lt_cases place slot.place) [ inl hit ↦ absurd (omega (arith, hit.1, behind)) | inr miss ↦ else_of _ _ miss.0 ]
 
   pub removed-before : (place : ℕ) → place < slot.place → removed place d ≡ removed place left ++ set_from (left_by place left) slot ∷ right
-  removed-before place before = sym (ap (removed place) is) ∙ removed-left place row.0 row.1.0 left slot right (subst (λ l. IsRow row.0 l row.1.0) (sym is) row.1.1) before
+  removed-before place before = sym (ap (removed place) is) ∙ removed-left place row.0 row.1.0 left slot right
+      (subst (λ l. IsRow row.0 l row.1.0) (sym is) row.1.1) before
 
   pub left_by-before : (place : ℕ) → place < slot.place → left_by place d ≡ None
-  left_by-before place before = sym (ap (left_by place) is) ∙ left_by-left place row.0 row.1.0 left slot right (subst (λ l. IsRow row.0 l row.1.0) (sym is) row.1.1) before
+  left_by-before place before = sym (ap (left_by place) is) ∙ left_by-left place row.0 row.1.0 left slot right
+      (subst (λ l. IsRow row.0 l row.1.0) (sym is) row.1.1) before
 
   pub removed-behind : (place : ℕ) → slot.place < place → removed place d ≡ left ++ slot ∷ removed place right
   removed-behind place behind =
       sym (ap (removed place) is) ∙ removed-right place row.0 slot.from left (slot ∷ right) parts.0 (omega (arith, parts.1, behind))
-      ∙ elim (eq_cases slot.place place) [ inl hit ↦ absurd (omega (arith, hit.1, behind)) | inr miss ↦ ap (λ b. left ++ (if b then begun_at slot.from right else slot ∷ removed place right)) miss.0 ]
+      ∙ elim (eq_cases slot.place place) [
+        | inl hit ↦ absurd (omega (arith, hit.1, behind))
+        | inr miss ↦ ap
+            (λ b. left ++ (if b then begun_at slot.from right else slot ∷ removed place right)) miss.0
+      ]
 
   pub left_by-behind : (place : ℕ) → slot.place < place → left_by place d ≡ left_by place right
   left_by-behind place behind =
@@ -234,7 +274,11 @@ module _ (left : List Slot) (slot : Slot) (right d : List Slot) (is : left ++ sl
   pub removed-here : (place : ℕ) → slot.place ≡ place → removed place d ≡ left ++ begun_at slot.from right
   removed-here place here =
       sym (ap (removed place) is) ∙ removed-right place row.0 slot.from left (slot ∷ right) parts.0 (omega (arith, parts.1, here))
-      ∙ elim (eq_cases slot.place place) [ inl hit ↦ ap (λ b. left ++ (if b then begun_at slot.from right else slot ∷ removed place right)) hit.0 | inr miss ↦ absurd (miss.1 here) ]
+      ∙ elim (eq_cases slot.place place) [
+        | inl hit ↦ ap (λ b. left ++ (if b then begun_at slot.from right else slot ∷ removed place right)) hit.0
+        | inr miss
+            ↦ absurd (miss.1 here)
+      ]
 
   pub left_by-here : (place : ℕ) → slot.place ≡ place → left_by place d ≡ begun_if_empty slot.from right
   left_by-here place here =

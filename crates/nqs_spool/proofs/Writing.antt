@@ -1,9 +1,11 @@
 -- What the images of a disk hold while bytes are written through.
-use Rattle.std.proofs.Common.{◌≡◌, inl, inr, ℕ, zero, suc, ◌+◌, ◌<◌, ◌≤◌, max, true, false, List, [], ◌∷◌, ◌++◌, length, take, drop, refl, sym, ap, ◌∙◌, subst, arith, append_assoc, length-append}
+use Rattle.std.proofs.Common.{◌≡◌, inl, inr, ℕ, zero, suc, ◌+◌, ◌<◌, ◌≤◌, max, true, false, List, [], ◌∷◌, ◌++◌, length, take, drop, refl, sym, ap, ◌∙◌, subst}
+use Rattle.std.proofs.Common.{arith, append_assoc, length-append}
 use Rattle.std.proofs.lemmas.List.{length-take, take_at, drop_at}
 use Rattle.std.proofs.Math.Seq.{take-length}
 use Rattle.nqs_values.specs.declared.extent.Extent.{Extent}
-use Rattle.nqs_outside.specs.History.{State, Call, write, step, after, fresh, written, made, covers, IsImage, History, extended, state, content, moment, state_at, IsQuiet, EachSince, BreaksOff}
+use Rattle.nqs_outside.specs.History.{State, Call, write, step, after, fresh, written, made, covers, IsImage, History, extended, state, content, moment}
+use Rattle.nqs_outside.specs.History.{state_at, IsQuiet, EachSince, BreaksOff}
 use Rattle.nqs_outside.proofs.Histories.{state-extended, length-written, content-after}
 use Rattle.nqs_outside.proofs.Images.{fresh_image, uncovered_below, uncovered_above}
 use Rattle.nqs_outside.proofs.Coherence.{after_coherent, fresh_coherent, sound_push}
@@ -46,7 +48,8 @@ module _ (h : History) (place : ℕ) (bytes : List ℕ) (quiet : IsQuiet h) (wit
     held_while_writing image is = record {
       within = omega (arith, held.within, is.no_shorter);
       same =
-          same_slice image old x.place x.length (omega (arith, held.within, is.no_shorter)) held.within (λ i from to. is.same i (omega (arith, to, held.within)) (outside x i apart from to))
+          same_slice image old x.place x.length (omega (arith, held.within, is.no_shorter)) held.within
+          (λ i from to. is.same i (omega (arith, to, held.within)) (outside x i apart from to))
           ∙ held.same;
     }
 
@@ -56,7 +59,8 @@ module _ (h : History) (place : ℕ) (bytes : List ℕ) (quiet : IsQuiet h) (wit
     held_at (suc (suc zero)) le image is = subst (λ l. Holds l x script) (sym (fresh_image new image is)) (held_while_writing new written_image)
     held_at (suc (suc (suc i))) le image is = absurd (omega (arith, le))
 
-    pub held_throughout : (k : History) (calls : List Call) → k ≡ extended h calls → BreaksOff (written_through place bytes) calls → EachSince (moment h) k (λ image. Holds image x script)
+    pub held_throughout : (k : History) (calls : List Call) → k ≡ extended h calls → BreaksOff (written_through place bytes) calls
+        → EachSince (moment h) k (λ image. Holds image x script)
     held_throughout k calls is off = λ t image from to leaves.
         let r = moments h k (written_through place bytes) calls is off t from to in
         held_at r.i r.within image (subst (λ s. IsImage s image) (r.is ∙ ap (λ s. after s (take r.i (written_through place bytes))) quiet) leaves)
@@ -92,24 +96,28 @@ module _ (h : History) (place : ℕ) (bytes : List ℕ) (within : place ≤ leng
   no_shorter_at (suc (suc zero)) le = omega (arith, length-written (content h) bytes place within)
   no_shorter_at (suc (suc (suc i))) le = absurd (omega (arith, le))
 
-  pub no_shorter : (k : History) (calls : List Call) → k ≡ extended h calls → BreaksOff (written_through place bytes) calls → length (content h) ≤ length (content k)
+  pub no_shorter : (k : History) (calls : List Call) → k ≡ extended h calls → BreaksOff (written_through place bytes) calls
+      → length (content h) ≤ length (content k)
   no_shorter k calls is off =
       let size : moment h ≤ moment k = omega (arith, ap moment is, length-append h.calls calls) in
       let r = moments h k (written_through place bytes) calls is off (moment k) size (omega arith) in
       let now : content k ≡ made (content h) (take r.i (written_through place bytes)) =
-      sym (ap (λ l. (after (fresh k.start) l).content) (take-length k.calls)) ∙ ap (λ (s : State). s.content) r.is ∙ content-after (state h) (take r.i (written_through place bytes)) in
+      sym (ap (λ l. (after (fresh k.start) l).content) (take-length k.calls)) ∙ ap (λ (s : State). s.content) r.is
+      ∙ content-after (state h) (take r.i (written_through place bytes)) in
       subst (λ l. length (content h) ≤ length l) (sym now) (no_shorter_at r.i r.within)
 
   pub length_after : (k : History) → k ≡ extended h (written_through place bytes) → length (content k) ≡ max (length (content h)) (place + length bytes)
   length_after k is =
-      ap (λ (s : State). length s.content) (ap state is ∙ state-extended h (written_through place bytes)) ∙ ap length (content-after (state h) (written_through place bytes)) ∙ length-written (content h) bytes place within
+      ap (λ (s : State). length s.content) (ap state is ∙ state-extended h (written_through place bytes))
+      ∙ ap length (content-after (state h) (written_through place bytes)) ∙ length-written (content h) bytes place within
 
   pub stored : (k : History) → k ≡ extended h (written_through place bytes) → Holds (content k) (extent_at place (length bytes)) bytes
   stored k is =
       let front = take place (content h) in
       let rest = drop (place + length bytes) (content h) in
       let size : length front ≡ place = omega (arith, length-take place (content h), within) in
-      let now : content k ≡ written (content h) place bytes = ap (λ (s : State). s.content) (ap state is ∙ state-extended h (written_through place bytes)) ∙ content-after (state h) (written_through place bytes) in
+      let now : content k ≡ written (content h) place bytes = ap (λ (s : State). s.content) (ap state is ∙ state-extended h (written_through place bytes))
+      ∙ content-after (state h) (written_through place bytes) in
       record {
         within = omega (arith, length_after k is);
         same =
@@ -119,7 +127,8 @@ module _ (h : History) (place : ℕ) (bytes : List ℕ) (within : place ≤ leng
       }
 
 -- where nothing was done
-pub held_idle : (h k : History) (x : Extent) (script : List ℕ) → IsQuiet h → k ≡ h → Holds (content h) x script → EachSince (moment h) k (λ image. Holds image x script)
+pub held_idle : (h k : History) (x : Extent) (script : List ℕ) → IsQuiet h → k ≡ h → Holds (content h) x script
+    → EachSince (moment h) k (λ image. Holds image x script)
 held_idle h k x script quiet is held = λ t image from to leaves.
     let now : t ≡ moment h = omega (arith, from, to, ap moment is) in
     let at : state_at k t ≡ fresh (content h) = ap (λ l. state_at l t) is ∙ ap (state_at h) now ∙ ap (after (fresh h.start)) (take-length h.calls) ∙ quiet in

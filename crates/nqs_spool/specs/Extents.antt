@@ -4,6 +4,7 @@ use Rattle.std.specs.List.{AllByRecursion}
 use Rattle.nqs_values.specs.declared.extent.Extent.{Extent}
 use Rattle.nqs_spool.specs.declared.slot.Slot.{Slot}
 
+-- so many bytes from a place on
 abbrev pub extent_at : ℕ → ℕ → Extent
 extent_at place count = record { place = place; length = count }
 
@@ -70,8 +71,10 @@ pub record Covers (kept live : List Extent) : Type 0 where
   pub same : (extent : Extent) → 0 < extent.length → Has live extent ↔ Has kept extent
   pub apart : AreApart live
 
+-- the extent that a slot keeps
 abbrev pub extent_of : Slot → Extent
 extent_of slot = extent_at slot.place slot.length
 
+-- the extents of slots, in the same order
 abbrev pub extents_of : List Slot → List Extent
 extents_of slots = map extent_of slots

@@ -7,6 +7,7 @@ use Rattle.nqs_spool.specs.declared.slot.Slot.{Slot}
 abbrev pub gap_of : Slot → ℕ
 gap_of slot = slot.place - slot.from
 
+-- the place behind its extent
 abbrev pub end_of : Slot → ℕ
 end_of slot = slot.place + slot.length
 
@@ -20,6 +21,7 @@ abbrev pub IsRow : ℕ → List Slot → ℕ → Type 0
 IsRow from [] end = from ≡ end
 IsRow from (slot ∷ slots) end = (slot.from ≡ from) × (from ≤ slot.place) × (0 < slot.length) × IsRow (end_of slot) slots end
 
+-- a row from some place to some end
 abbrev pub IsSomeRow : List Slot → Type 0
 IsSomeRow slots = (from : ℕ) × ((end : ℕ) × IsRow from slots end)
 
@@ -28,6 +30,7 @@ abbrev pub set_from : Option ℕ → Slot → Slot
 set_from None slot = slot
 set_from (Some from) slot = record slot { from = from }
 
+-- so many bytes from a place on, before which bytes are free from another
 abbrev pub slot_at : ℕ → ℕ → ℕ → Slot
 slot_at from place count = record { from = from; place = place; length = count }
 
@@ -62,6 +65,7 @@ abbrev pub begun_if_empty : ℕ → List Slot → Option ℕ
 begun_if_empty from [] = Some from
 begun_if_empty from (slot ∷ slots) = None
 
+-- where the free bytes began before the extent at the place, if none is behind it
 abbrev pub left_by : ℕ → List Slot → Option ℕ
 left_by place [] = None
 left_by place (slot ∷ slots) = if eqb slot.place place then begun_if_empty slot.from slots else left_by place slots

@@ -9,6 +9,7 @@ use Rattle.nqs_spool.specs.Live as live
 use Rattle.nqs_spool.specs.declared.spool.Spool.{Spool}
 
 module _ {D : Type 0} {g : disk.Ghosts D} where
+  -- the disk that it keeps its bytes on
   abbrev pub disk_of : Spool D g → D
   disk_of spool = spool.disk
 

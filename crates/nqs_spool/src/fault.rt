@@ -1,5 +1,6 @@
 //! Why a call of the spool failed.
 ghost use Rattle.std.specs.Prelude.{◌≡◌};
+ghost use Rattle.nqs_values.specs.Want.{want};
 
 use nqs_outside::Failed;
 use nqs_values::Memory;
@@ -7,7 +8,7 @@ use std::alloc::AllocError;
 use thiserror::Error;
 
 /// Why a call of the spool failed.
-#[derive(Clone, Copy, Debug, PartialEq, Eq, Error)]
+#[derive(Debug, PartialEq, Eq, Error, Drop)]
 pub enum SpoolFault {
     /// The bytes are more than 32,768. Nothing was done.
     #[error("the bytes are too long for the spool")]
@@ -17,26 +18,26 @@ pub enum SpoolFault {
     Disk,
     /// Nothing was done.
     #[error("out of memory")]
-    Memory,
+    Memory(Memory),
 }
 
 impl From<Memory> for SpoolFault {
     ghost use Rattle.nqs_spool.specs.declared.fault.SpoolFault.TheVariants as fault;
 
-    ghost from_gives = { λ _ e. e ≡ fault.Memory };
+    ghost from_gives = { λ _ e. e ≡ fault.Memory want };
 
-    fn from(_: Memory) -> Self {
-        SpoolFault::Memory
+    fn from(memory: Memory) -> Self {
+        SpoolFault::Memory(memory)
     }
 }
 
 impl From<AllocError> for SpoolFault {
     ghost use Rattle.nqs_spool.specs.declared.fault.SpoolFault.TheVariants as fault;
 
-    ghost from_gives = { λ _ e. e ≡ fault.Memory };
+    ghost from_gives = { λ _ e. e ≡ fault.Memory want };
 
-    fn from(_: AllocError) -> Self {
-        SpoolFault::Memory
+    fn from(refused: AllocError) -> Self {
+        SpoolFault::Memory(refused.into())
     }
 }
 

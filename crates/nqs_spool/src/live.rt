@@ -99,7 +99,8 @@ impl LiveExtents {
         self.tree.is_free(extent.place, past, self.end, past)
     }
 
-    // One extent more, if it ends within so many bytes and meets none. The answer is whether it does.
+    // One extent more, if it ends within so many bytes and meets none. The answer is whether it
+    // does.
     pub fn add_sound(&mut self, extent: &Extent, size: u64) -> Result<bool, Memory>
         ensures sound { IfOk result (λ sound. IsTrue sound → (live more : List Extent) → IsWith live extent.now more
             → Covers (kept self.old) live → IsWithin size extent.now × IsClearOf live extent.now × Covers (kept self.new) more) }
@@ -193,7 +194,8 @@ mod tests {
         Ok(extent)
     }
 
-    // A tree of 1,000 slots whose sides differ by at most one is no higher than 14, and one of 500 than 12.
+    // A tree of 1,000 slots whose sides differ by at most one is no higher than 14, and one of 500
+    // than 12.
     #[test]
     fn stays_low(rt: HostRuntime) -> Result<(), Fail> {
         let mut live = LiveExtents::new(rt.alloc());

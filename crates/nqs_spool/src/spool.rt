@@ -1,7 +1,9 @@
 //! Byte ranges of one disk.
-ghost use Rattle.std.specs.Prelude.{◌≡◌, ◌⊎◌, ◌↔◌, ◌-◌, ◌+◌, ◌<◌, ◌≤◌, ◌^◌, ◌++◌, [], ◌∷◌, max, nat_le, false, List, ℕ, IsTrue, IsErrOf, OnOk, OnErr, IfOk, IfErr, MatchResult, length, vec_capacity};
+ghost use Rattle.std.specs.Prelude.{◌≡◌, ◌⊎◌, ◌↔◌, ◌-◌, ◌+◌, ◌<◌, ◌≤◌, ◌^◌, ◌++◌, [], ◌∷◌, max, nat_le, false, List, ℕ, IsTrue, IsErrOf, OnOk, OnErr, IfOk};
+ghost use Rattle.std.specs.Prelude.{IfErr, MatchResult, length, vec_capacity};
 ghost use Rattle.std.specs.List.{AllByRecursion};
 ghost use Rattle.nqs_values.specs.declared.extent.Extent.{Extent};
+ghost use Rattle.nqs_values.specs.Want.{want};
 ghost use Rattle.nqs_outside.specs.Causes.{Rose};
 ghost use Rattle.nqs_outside.specs.History.{Call, content, IsQuiet, extended, moment, EachSince, StopsShort, IsExact};
 ghost use Rattle.nqs_spool.specs.Puts.{put_calls};
@@ -38,11 +40,11 @@ impl<D: Disk> Spool<D> {
         requires quiet { IsTrue D.tells → IsQuiet (D.history disk) }
         ensures tells { IfOk result (λ spool. Tells spool live.now) }
         ensures same { IfOk result (λ spool. disk_of spool ≡ disk) }
-        ensures refused { IfErr result (λ e. (e.0 ≡ SpoolFault.Memory) × (e.1 ≡ disk)) }
+        ensures refused { IfErr result (λ e. (e.0 ≡ SpoolFault.Memory want) × (e.1 ≡ disk)) }
     {
         match LiveExtents::load(alloc, live) {
             Ok(live) => Ok(Spool { disk, live }),
-            Err(Memory) => Err((SpoolFault::Memory, disk)),
+            Err(memory) => Err((SpoolFault::Memory(memory), disk)),
         }
     }
 
@@ -75,16 +77,18 @@ impl<D: Disk> Spool<D> {
     }
 
     /// Writes the bytes, at most 32,768, at the least place where they meet no live extent, and
-    /// makes their extent live. They are on the disk before the answer. No bytes make no call of the
-    /// disk and get place 0. After `Disk` the spool is to be closed; the live extents keep their bytes.
+    /// makes their extent live. They are on the disk before the answer. No bytes make no call of
+    /// the disk and get place 0. After `Disk` the spool is to be closed; the live extents keep
+    /// their bytes.
     pub fn put(&mut self, bytes: &[u8]) -> Result<Extent, SpoolFault>
         ensures too_long { IsErrOf result SpoolFault.TooLong ↔ (32768 < length bytes.now) }
         ensures disk { IsErrOf result SpoolFault.Disk → Rose (D.faults (disk_of self.old)) (D.faults (disk_of self.new)) }
-        ensures memory { IsErrOf result SpoolFault.Memory → room_of self.old ≡ 0 }
+        ensures memory { IsErrOf result (SpoolFault.Memory want) → room_of self.old ≡ 0 }
         ensures room { room_of self.old ≤ room_of self.new + 1 }
         ensures later { D.faults (disk_of self.old) ≤ D.faults (disk_of self.new) }
-        ensures refused { (result ≡ Err SpoolFault.TooLong) ⊎ (result ≡ Err SpoolFault.Memory) → disk_of self.new ≡ disk_of self.old }
-        ensures unchanged { (result ≡ Err SpoolFault.TooLong) ⊎ (result ≡ Err SpoolFault.Memory) → (live : List Extent) → Tells self.old live → Tells self.new live }
+        ensures refused { (result ≡ Err SpoolFault.TooLong) ⊎ (result ≡ Err (SpoolFault.Memory want)) → disk_of self.new ≡ disk_of self.old }
+        ensures unchanged { (result ≡ Err SpoolFault.TooLong) ⊎ (result ≡ Err (SpoolFault.Memory want))
+            → (live : List Extent) → Tells self.old live → Tells self.new live }
 
         ensures empty { length bytes.now ≡ 0 → (result ≡ Ok (extent_at 0 0)) × (self.new ≡ self.old) }
 
@@ -93,22 +97,26 @@ impl<D: Disk> Spool<D> {
         ensures small { IfOk result (λ extent. past extent ≤ 2 ^ 40) }
         ensures least { (live : List Extent) → Tells self.old live → IsLeastPlace live (length bytes.now) (place_for self.old bytes.now) }
 
-        // The calls that it makes: both, or the first of them, of which only the last may have failed.
-        ensures made { IsTrue D.tells → IfOk result (λ extent. history_of self.new ≡ extended (history_of self.old) (put_calls (place_for self.old bytes.now) bytes.now)) }
+        // The calls that it makes: both, or the first of them, of which only the last may have
+        // failed.
+        ensures made { IsTrue D.tells → IfOk result (λ extent. history_of self.new
+            ≡ extended (history_of self.old) (put_calls (place_for self.old bytes.now) bytes.now)) }
         ensures broken { IsTrue D.tells → IsErrOf result SpoolFault.Disk → (calls : List Call) × (history_of self.new ≡ extended (history_of self.old) calls)
             × StopsShort (put_calls (place_for self.old bytes.now) bytes.now) calls }
 
         // Which of them fails is the disk's to say, unless it is starved.
-        ensures exact { IsTrue D.tells → length bytes.now ≤ 32768 → (IsErrOf result SpoolFault.Memory → ⊥)
+        ensures exact { IsTrue D.tells → length bytes.now ≤ 32768 → (IsErrOf result (SpoolFault.Memory want) → ⊥)
             → IsExact (D.fails (disk_of self.old)) (D.starved (disk_of self.old)) (D.starved (disk_of self.new)) (history_of self.old) (history_of self.new)
             (put_calls (place_for self.old bytes.now) bytes.now) }
         // At Ok neither call was to fail.
-        ensures due { IsTrue D.tells → 0 < length bytes.now → OnOk result ((i : ℕ) → i < 2 → D.fails (disk_of self.old) (moment (history_of self.old) + i) ≡ false) }
+        ensures due { IsTrue D.tells → 0 < length bytes.now
+            → OnOk result ((i : ℕ) → i < 2 → D.fails (disk_of self.old) (moment (history_of self.old) + i) ≡ false) }
         ensures fuse { IsTrue D.tells → (i : ℕ) → D.fails (disk_of self.new) i ≡ D.fails (disk_of self.old) i }
 
         // Each image of each moment of the call holds what the live extents hold.
         ensures kept { IsTrue D.tells → (live : List Extent) → Tells self.old live → (extent : Extent) (script : List ℕ) → Has live extent
-            → Holds (content (history_of self.old)) extent script → EachSince (moment (history_of self.old)) (history_of self.new) (λ image. Holds image extent script) }
+            → Holds (content (history_of self.old)) extent script
+            → EachSince (moment (history_of self.old)) (history_of self.new) (λ image. Holds image extent script) }
 
         // So does what a read gives after it.
         ensures still { IsTrue D.tells → (live : List Extent) → Tells self.old live → (extent : Extent) (script : List ℕ) → Has live extent
@@ -146,11 +154,13 @@ impl<D: Disk> Spool<D> {
         ensures bytes { IsTrue D.tells → (script : List ℕ) → Holds (content (history_of self.old)) extent.now script
             → OnOk result (out.new.items ≡ out.old.items ++ script) }
         ensures unchanged { OnErr result (out.new.items ≡ out.old.items) }
-        ensures memory { IsErrOf result SpoolFault.Memory → vec_capacity out.old < length out.old.items + extent.now.length }
+        // Whatever the disk is, it gives no more bytes than the extent has.
+        ensures few { length out.new.items ≤ length out.old.items + extent.now.length }
+        ensures memory { IsErrOf result (SpoolFault.Memory want) → vec_capacity out.old < length out.old.items + extent.now.length }
         ensures disk { IsErrOf result SpoolFault.Disk → Rose (D.faults (disk_of self.old)) (D.faults (disk_of self.new)) }
         // Only after a call that was to fail.
         ensures cause { IsTrue D.tells → IsErrOf result SpoolFault.Disk → (i : ℕ) × (i < moment (history_of self.old)) × IsTrue (D.fails (disk_of self.old) i) }
-        ensures fault { IfErr result (λ fault. (fault ≡ SpoolFault.Disk) ⊎ (fault ≡ SpoolFault.Memory)) }
+        ensures fault { IfErr result (λ fault. (fault ≡ SpoolFault.Disk) ⊎ (fault ≡ SpoolFault.Memory want)) }
         ensures later { D.faults (disk_of self.old) ≤ D.faults (disk_of self.new) }
         ensures same { IsTrue D.tells → history_of self.new ≡ history_of self.old }
         ensures fuse { IsTrue D.tells → (i : ℕ) → D.fails (disk_of self.new) i ≡ D.fails (disk_of self.old) i }
@@ -185,8 +195,8 @@ impl<D: Disk> Spool<D> {
 impl<D: Fused> Spool<D> {
     ghost use Rattle.nqs_spool.specs.Spooled.{disk_of, history_of, room_of, Tells};
 
-    /// Makes the disk's calls-th write or sync from here fail, and each later call. Where one that was to fail was made
-    /// already, nothing changes.
+    /// Makes the disk's calls-th write or sync from here fail, and each later call. Where one that
+    /// was to fail was made already, nothing changes.
     pub fn fuse(&mut self, calls: u64)
         ensures same { D.history (disk_of self.new) ≡ D.history (disk_of self.old) }
         ensures set { IsTrue D.tells → ((i : ℕ) → i < moment (history_of self.old) → D.fails (disk_of self.old) i ≡ false)

@@ -58,7 +58,8 @@ impl Room {
     }
 }
 
-/// What a slot that was taken out leaves: its memory, and where the free bytes behind all others begin, if it was the last.
+/// What a slot that was taken out leaves: its memory, and where the free bytes behind all others
+/// begin, if it was the last.
 #[derive(Drop)]
 pub(crate) struct Freed {
     pub room: Option<Room>,
@@ -123,7 +124,8 @@ impl Tree {
         }
     }
 
-    // Whether the bytes from the place on to `past` are free, where those behind all slots are from `end` to `limit`.
+    // Whether the bytes from the place on to `past` are free, where those behind all slots are from
+    // `end` to `limit`.
     pub fn is_free(&self, place: u64, past: u64, end: u64, limit: u64) -> bool
         requires { IsSomeRow self.now }
         ensures { result ≡ is_free place past end limit self.now }
@@ -186,7 +188,8 @@ impl Tree {
         }
     }
 
-    // Takes the extent at the place out, if there is one. The free bytes before it join those behind it.
+    // Takes the extent at the place out, if there is one. The free bytes before it join those
+    // behind it.
     pub fn remove(&mut self, place: u64) -> Freed
         requires { IsSomeRow self.old }
         ensures slots { self.new ≡ removed place self.old }

@@ -1,8 +1,10 @@
 //! The writes and reads of a spool.
-ghost use Rattle.std.specs.Prelude.{◌≡◌, ◌⊎◌, ℕ, ◌+◌, ◌<◌, ◌≤◌, ◌^◌, ◌++◌, [], ◌∷◌, List, false, IsTrue, IsErrOf, OnOk, OnErr, IfErr, length, take, drop, vec_capacity};
+ghost use Rattle.std.specs.Prelude.{◌≡◌, ◌⊎◌, ℕ, ◌+◌, ◌<◌, ◌≤◌, ◌^◌, ◌++◌, [], ◌∷◌, List, false, IsTrue, IsErrOf, OnOk, OnErr, IfErr, length, take, drop};
+ghost use Rattle.std.specs.Prelude.{vec_capacity};
 ghost use Rattle.nqs_outside.specs.Causes.{Rose};
 ghost use Rattle.nqs_outside.specs.History.{Call, content, extended, moment, StopsShort, IsExact};
 ghost use Rattle.nqs_spool.specs.Puts.{written_through};
+ghost use Rattle.nqs_values.specs.Want.{want};
 
 use crate::SpoolFault;
 use nqs_outside::{Disk, Failed};
@@ -14,7 +16,8 @@ pub(crate) fn write_through<D: Disk>(disk: &mut D, place: u64, bytes: &[u8]) -> 
     ensures made { IsTrue D.tells → OnOk result (D.history disk.new ≡ extended (D.history disk.old) (written_through place bytes.now)) }
     ensures broken { IsTrue D.tells → OnErr result ((calls : List Call) × (D.history disk.new ≡ extended (D.history disk.old) calls)
         × StopsShort (written_through place bytes.now) calls) }
-    ensures exact { IsTrue D.tells → IsExact (D.fails disk.old) (D.starved disk.old) (D.starved disk.new) (D.history disk.old) (D.history disk.new) (written_through place bytes.now) }
+    ensures exact { IsTrue D.tells → IsExact (D.fails disk.old) (D.starved disk.old) (D.starved disk.new)
+        (D.history disk.old) (D.history disk.new) (written_through place bytes.now) }
     // Neither call was to fail.
     ensures due { IsTrue D.tells → OnOk result ((i : ℕ) → i < 2 → D.fails disk.old (moment (D.history disk.old) + i) ≡ false) }
     ensures fuse { IsTrue D.tells → (i : ℕ) → D.fails disk.new i ≡ D.fails disk.old i }
@@ -34,8 +37,9 @@ pub(crate) fn append_read<D: Disk>(
 ) -> Result<(), SpoolFault>
     ensures bytes { IsTrue D.tells → OnOk result (out.new.items ≡ out.old.items ++ take count (drop place (content (D.history disk.old)))) }
     ensures unchanged { OnErr result (out.new.items ≡ out.old.items) }
-    ensures memory { IsErrOf result SpoolFault.Memory → vec_capacity out.old < length out.old.items + count }
-    ensures fault { IfErr result (λ e. (e ≡ SpoolFault.Disk) ⊎ (e ≡ SpoolFault.Memory)) }
+    ensures few { length out.new.items ≤ length out.old.items + count }
+    ensures memory { IsErrOf result (SpoolFault.Memory want) → vec_capacity out.old < length out.old.items + count }
+    ensures fault { IfErr result (λ e. (e ≡ SpoolFault.Disk) ⊎ (e ≡ SpoolFault.Memory want)) }
     ensures failed { IsErrOf result SpoolFault.Disk → Rose (D.faults disk.old) (D.faults disk.new) }
     // Only after a call that was to fail.
     ensures cause { IsTrue D.tells → IsErrOf result SpoolFault.Disk → (i : ℕ) × (i < moment (D.history disk.old)) × IsTrue (D.fails disk.old i) }

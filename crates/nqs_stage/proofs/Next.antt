@@ -1,5 +1,6 @@
 -- The stage that is due when another one arrived.
-use Rattle.std.proofs.Common.{◌≡◌, ◌∙◌, ℕ, ◌+◌, Bool, true, false, true≢false, not, ◌&&◌, ◌||◌, List, [], ◌∷◌, map, Option, None, Some, if◌then◌else◌, refl, sym, ap, subst}
+use Rattle.std.proofs.Common.{◌≡◌, ◌∙◌, ℕ, ◌+◌, Bool, true, false, true≢false, not, ◌&&◌, ◌||◌, List, [], ◌∷◌, map, Option, None, Some, if◌then◌else◌, refl}
+use Rattle.std.proofs.Common.{sym, ap, subst}
 use Rattle.std.specs.Option.{option_map}
 use Rattle.std.specs.List.{list_any}
 use Rattle.nqs_state.specs.State.{State}
@@ -47,7 +48,8 @@ module _ {V : Type 0} (beats : V → V → Bool) where
   value-best t n (v ∷ vs) = by (t v) (value-best t (n + 1) vs)
     where
       by : (b : Bool) → value (best_from t beats (n + 1) vs) ≡ best_value t vs
-          → value (if b then better beats (n, v) (best_from t beats (n + 1) vs) else best_from t beats (n + 1) vs) ≡ (if b then better_value v (best_value t vs) else best_value t vs)
+          → value (if b then better beats (n, v) (best_from t beats (n + 1) vs) else best_from t beats (n + 1) vs)
+          ≡ (if b then better_value v (best_value t vs) else best_value t vs)
       by true rest = value-better n v (best_from t beats (n + 1) vs) ∙ ap (better_value v) rest
       by false rest = rest
 
@@ -61,7 +63,8 @@ module _ {V : Type 0} (beats : V → V → Bool) where
     all-other (v ∷ vs) h = by (t v) (eq k (key v)) h (all-other vs)
       where
         by : (b c : Bool) → (c || list_any (eq k) (map key vs)) ≡ false → (list_any (eq k) (map key vs) ≡ false → best_value other vs ≡ best_value t vs)
-            → (if b && not c then better_value v (best_value other vs) else best_value other vs) ≡ (if b then better_value v (best_value t vs) else best_value t vs)
+            → (if b && not c then better_value v (best_value other vs) else best_value other vs)
+            ≡ (if b then better_value v (best_value t vs) else best_value t vs)
         by b true h rest = absurd (true≢false h)
         by true false h rest = ap (better_value v) (rest h)
         by false false h rest = rest h
@@ -73,16 +76,20 @@ module _ {V : Type 0} (beats : V → V → Bool) where
         let parts = both (not (list_any (eq (key v)) (map key vs))) (are_distinct eq (map key vs)) h in
         by (t v) (eq k (key v)) refl (not_true _ parts.0) (best-without vs parts.1) ∙ sym (rest_is (eq k (key v)))
       where
-        rest_is : (c : Bool) → best_value t (if c then vs else v ∷ without_first (has_key eq key k) vs) ≡ (if c then best_value t vs else (if t v then better_value v (best_value t (without_first (has_key eq key k) vs)) else best_value t (without_first (has_key eq key k) vs)))
+        rest_is : (c : Bool) → best_value t (if c then vs else v ∷ without_first (has_key eq key k) vs)
+            ≡ (if c then best_value t vs else (if t v then better_value v (best_value t (without_first (has_key eq key k) vs)) else
+            best_value t (without_first (has_key eq key k) vs)))
         rest_is true = refl
         rest_is false = refl
 
         gone : (c : Bool) → c ≡ true → eq k (key v) ≡ c → list_any (eq (key v)) (map key vs) ≡ false → best_value other vs ≡ best_value t vs
         gone c holds e none = all-other vs (subst (λ a. list_any (eq a) (map key vs) ≡ false) (sym (exact k (key v) (e ∙ holds))) none)
 
-        by : (b c : Bool) → eq k (key v) ≡ c → list_any (eq (key v)) (map key vs) ≡ false → best_value other vs ≡ best_value t (without_first (has_key eq key k) vs)
+        by : (b c : Bool) → eq k (key v) ≡ c → list_any (eq (key v)) (map key vs) ≡ false
+            → best_value other vs ≡ best_value t (without_first (has_key eq key k) vs)
             → (if b && not c then better_value v (best_value other vs) else best_value other vs)
-            ≡ (if c then best_value t vs else (if b then better_value v (best_value t (without_first (has_key eq key k) vs)) else best_value t (without_first (has_key eq key k) vs)))
+            ≡ (if c then best_value t vs else (if b then better_value v (best_value t (without_first (has_key eq key k) vs)) else
+            best_value t (without_first (has_key eq key k) vs)))
         by true true e none rest = gone true refl e none
         by false true e none rest = gone true refl e none
         by true false e none rest = ap (better_value v) rest
@@ -99,7 +106,8 @@ module _ {E : Type 0} (s : State E) where
 
   -- the least of the other stages to a host is the one that is due without this one
   pub next_due : (k : PeerNumber) → HasDistinctStages s
-      → send_stage s (best_from (λ t. is_stage_to k.peer t && not (is_stage k t)) is_earlier_stage 0 s.stages) ≡ due_of s k.peer (without_first (is_stage k) s.stages)
+      → send_stage s (best_from (λ t. is_stage_to k.peer t && not (is_stage k t)) is_earlier_stage 0 s.stages)
+      ≡ due_of s k.peer (without_first (is_stage k) s.stages)
   next_due k h =
       let others : Option (ℕ × Stage E) = best_from (λ t. is_stage_to k.peer t && not (is_stage k t)) is_earlier_stage 0 s.stages in
       let left : Option (ℕ × Stage E) = best_from (is_stage_to k.peer) is_earlier_stage 0 (without_first (is_stage k) s.stages) in

@@ -27,7 +27,8 @@ module _ (m : ℕ) where
   kept-take counter n [] = sym (take_none (m - (counter + n)))
   kept-take counter n (p ∷ ps) = by (nat_lt (counter + n) m) refl (kept-take counter (n + 1) ps)
     where
-      by : (b : Bool) → nat_lt (counter + n) m ≡ b → kept counter (n + 1) ps ≡ take (m - (counter + (n + 1))) ps → (if b then p ∷ kept counter (n + 1) ps else []) ≡ take (m - (counter + n)) (p ∷ ps)
+      by : (b : Bool) → nat_lt (counter + n) m ≡ b → kept counter (n + 1) ps ≡ take (m - (counter + (n + 1))) ps
+          → (if b then p ∷ kept counter (n + 1) ps else []) ≡ take (m - (counter + n)) (p ∷ ps)
       by true e rest =
           let next : (counter + n) + 1 ≡ counter + (n + 1) = omega arith in
           ap (λ l. p ∷ l) rest ∙ ap (λ k. take (suc (m - k)) (p ∷ ps)) (sym next) ∙ ap (λ k. take k (p ∷ ps)) (sym (one_left (counter + n) e))

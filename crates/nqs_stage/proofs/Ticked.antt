@@ -9,7 +9,8 @@ use Rattle.nqs_rules.specs.Stage.{file_again, stages_from, due_outputs}
 use Rattle.nqs_plans.specs.More.{with_more}
 use Rattle.nqs_plans.proofs.Grown.{more-both, folded-more}
 
-pub due_is : (s : State Extent) (p q : Plan) → q ≡ with_more p (stages_from 0 s s.site) → fold (λ r f. with_more r (file_again f ∷ [])) q s.files ≡ with_more p (due_outputs s)
+pub due_is : (s : State Extent) (p q : Plan) → q ≡ with_more p (stages_from 0 s s.site)
+    → fold (λ r f. with_more r (file_again f ∷ [])) q s.files ≡ with_more p (due_outputs s)
 due_is s p q h =
     folded-more (λ f. file_again f ∷ []) q s.files
     ∙ (λ j. with_more (h j) (flat_map_single file_again s.files j))

@@ -102,7 +102,8 @@ fn add_stages(alloc: Global, state: &HostState, plan: Plan) -> Result<Plan, Memo
     Ok(plan)
 }
 
-/// The plan, and what a tick sends of outputs: the due stage to each host, and then each file again.
+/// The plan, and what a tick sends of outputs: the due stage to each host, and then each file
+/// again.
 pub fn add_due_stages(alloc: Global, state: &HostState, plan: Plan) -> Result<Plan, Memory>
     requires { length state.now.site ≤ 16 }
     ensures { IfOk result (λ more. more ≡ with_more plan (due_outputs (content state.now))) }

@@ -3,7 +3,8 @@ ghost use Rattle.std.specs.Prelude.{◌≡◌, ◌+◌, ◌≤◌, ◌∷◌, �
 ghost use Rattle.nqs_state.specs.State.{content};
 ghost use Rattle.nqs_rules.specs.Find.{find_peer};
 ghost use Rattle.nqs_rules.specs.Tests.{last_u64};
-ghost use Rattle.nqs_rules.specs.Stage.{goes_here, stage_counter, first_number, kept_parts, file_written, files_written, has_stage_to, stage_sent, stage_due, parts_sent, on_end};
+ghost use Rattle.nqs_rules.specs.Stage.{goes_here, stage_counter, first_number, kept_parts, file_written, files_written, has_stage_to, stage_sent, stage_due};
+ghost use Rattle.nqs_rules.specs.Stage.{parts_sent, on_end};
 ghost use Rattle.nqs_rules.specs.Stepped.{map_part, no_extent, part_bytes, plan_of, ready, says};
 ghost use Rattle.nqs_types.specs.declared.event.Output.TheVariants as event;
 ghost use Rattle.nqs_values.specs.declared.extent.Extent.{Extent};
@@ -205,7 +206,8 @@ fn ended_plan(
     parts: &[Part],
 ) -> Result<Plan, Memory>
     requires { first_number (content state.now) row.now.id + length parts.now ≤ last_u64 }
-    ensures { IfOk result (λ plan. plan ≡ plan_of (says (ready (event.Ended row.now.id row.now.starts status) ∷ parts_sent (content state.now) row.now.id parts.now))) }
+    ensures { IfOk result (λ plan. plan ≡ plan_of (says (ready (event.Ended row.now.id row.now.starts status)
+        ∷ parts_sent (content state.now) row.now.id parts.now))) }
 {
     let ended = Output::Ended {
         id: row.id,
@@ -216,8 +218,9 @@ fn ended_plan(
     add_sent(state, plan, row.id, parts)
 }
 
-/// The job of a row ended with this exit status and these bytes of output and error output: its outputs become files of this host where the request was submitted here, and else
-/// stages to the host where it was, the first of which goes out where no other one to that host waits.
+/// The job of a row ended with this exit status and these bytes of output and error output: its
+/// outputs become files of this host where the request was submitted here, and else stages to the
+/// host where it was, the first of which goes out where no other one to that host waits.
 pub fn on_end(
     alloc: Global,
     state: &HostState,

@@ -10,7 +10,8 @@ use nqs_types::{Change, Plan};
 use nqs_values::Memory;
 use std::alloc::Global;
 
-/// A file that was written goes. One that wasn't stays, and is asked for again at the next tick. It takes no memory.
+/// A file that was written goes. One that wasn't stays, and is asked for again at the next tick. It
+/// takes no memory.
 pub fn on_file(alloc: Global, state: &HostState, file: u64, written: bool) -> Result<Plan, Memory>
     ensures { result ≡ Ok (plan_of (on_file written file (content state.now))) }
 {

@@ -1,4 +1,5 @@
-//! Outputs of jobs: into files of this host, or in stages to the host where the request was submitted.
+//! Outputs of jobs: into files of this host, or in stages to the host where the request was
+//! submitted.
 //!
 //! `part` has what of a job's outputs is kept, `end` the end of a job, `stage` stages that come and that arrived,
 //! `file` files that were written, `due` what is sent again. Each call is the rule of its name in `nqs_rules` (specs/Stage.antt);

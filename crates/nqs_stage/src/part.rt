@@ -9,7 +9,8 @@ use nqs_values::{Bytes, ListOf, Memory};
 use std::alloc::Global;
 use std::marker::Model;
 
-/// One output of a job: the path that it goes to, and its bytes. Contracts see it as a part with its bytes.
+/// One output of a job: the path that it goes to, and its bytes. Contracts see it as a part with
+/// its bytes.
 #[derive(Drop)]
 pub(crate) struct Part {
     pub(crate) path: Bytes,
@@ -45,7 +46,8 @@ fn joined(alloc: Global, first: &Bytes, second: &Bytes) -> Result<Bytes, Memory>
     Ok(ListOf::from_vec(bytes))
 }
 
-/// The outputs of an ended job: one of both, the output first, or one of each. An output without bytes is none.
+/// The outputs of an ended job: one of both, the output first, or one of each. An output without
+/// bytes is none.
 pub(crate) fn parts_of(
     alloc: Global,
     job: &Job,

@@ -80,8 +80,9 @@ fn stage_taken(
     add(plan, file)
 }
 
-/// STAGE: a stage of a new number becomes a file, STAGED goes out, and the file is to be written. One that was
-/// taken before is acknowledged again, and one that no file number is left for is taken without its bytes.
+/// STAGE: a stage of a new number becomes a file, STAGED goes out, and the file is to be written.
+/// One that was taken before is acknowledged again, and one that no file number is left for is
+/// taken without its bytes.
 pub fn on_stage(
     alloc: Global,
     state: &HostState,

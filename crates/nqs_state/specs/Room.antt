@@ -24,26 +24,32 @@ use Rattle.nqs_types.specs.declared.edit.DevicesEdit.TheVariants.{CreateDevice, 
 
 -- lengths of the lists within a queue, a complex or a row, 0 where there is none
 
+-- how many users a list of access has
 abbrev pub user_count : Access → ℕ
 user_count All = 0
 user_count (Users users) = length users
 
+-- how many users the list of a queue has, 0 where there is no such queue
 abbrev pub users_of : Option QueueDef → ℕ
 users_of None = 0
 users_of (Some q) = user_count q.access
 
+-- how many destinations a queue has
 abbrev pub dests_of : Option QueueDef → ℕ
 dests_of None = 0
 dests_of (Some q) = length q.dests
 
+-- how many devices a queue has
 abbrev pub devices_of : Option QueueDef → ℕ
 devices_of None = 0
 devices_of (Some q) = length q.devices
 
+-- how many queues a complex has
 abbrev pub members_of : Option ComplexDef → ℕ
 members_of None = 0
 members_of (Some c) = length c.queues
 
+-- how many refusals a request has
 abbrev pub refusals_of : {E : Type 0} → Option (Row E) → ℕ
 refusals_of None = 0
 refusals_of (Some r) = length r.refused
@@ -53,6 +59,7 @@ abbrev pub hand_refusals : Option Hand → HostState → ℕ
 hand_refusals None h = 0
 hand_refusals (Some hand) h = refusals_of (find (is_row hand.id) h.rows.items)
 
+-- there is room for what an edit of queues adds
 abbrev pub HasRoomForConf : ConfEdit → HostState → Type 0
 HasRoomForConf (CreateBatchQueue _ _ _ _) h = 0 < h.queues.spare
 HasRoomForConf (CreateDeviceQueue _ _ _ _) h = 0 < h.queues.spare
@@ -60,17 +67,20 @@ HasRoomForConf (CreatePipeQueue _ _ _ _ _) h = (0 < h.queues.spare) × (0 < h.sp
 HasRoomForConf (AddDestination _ q) h = dests_of (find (is_queue q) h.queues.items) < h.spare_dests
 HasRoomForConf _ h = Unit {0}
 
+-- there is room for what an edit of limits and complexes adds
 abbrev pub HasRoomForLimits : LimitsEdit → HostState → Type 0
 HasRoomForLimits (CreateComplex _) h = 0 < h.complexes.spare
 HasRoomForLimits (AddQueue _ c) h = members_of (find (is_complex c) h.complexes.items) < h.spare_names
 HasRoomForLimits _ h = Unit {0}
 
+-- there is room for the user that an edit of access adds
 abbrev pub HasRoomForAccess : AccessEdit → HostState → Type 0
 HasRoomForAccess (AddUser _ q) h = users_of (find (is_queue q) h.queues.items) < h.spare_names
 HasRoomForAccess (AddManager _) h = length h.managers < h.spare_names
 HasRoomForAccess (AddOperator _) h = length h.operators < h.spare_names
 HasRoomForAccess _ h = Unit {0}
 
+-- there is room for what an edit of devices adds
 abbrev pub HasRoomForDevices : DevicesEdit → HostState → Type 0
 HasRoomForDevices (CreateDevice _ _) h = 0 < h.devices.spare
 HasRoomForDevices (AddDevice _ q) h = devices_of (find (is_queue q) h.queues.items) < h.spare_names

@@ -1,4 +1,5 @@
-//! All that a host holds, and the room that it has for what comes. `docs/rules.md` says what each part is for.
+//! All that a host holds, and the room that it has for what comes. `docs/rules.md` says what each
+//! part is for.
 #![tactic(auto)]
 
 mod room;

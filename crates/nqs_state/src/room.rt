@@ -1,9 +1,11 @@
-//! Room for a change, made before the change is written anywhere, so that making it takes no memory.
+//! Room for a change, made before the change is written anywhere, so that making it takes no
+//! memory.
 
 ghost use Rattle.std.specs.Prelude.{◌≡◌, ℕ, ◌<◌, ◌≤◌, OnOk, find};
 ghost use Rattle.nqs_state.specs.State.{content};
 ghost use Rattle.nqs_state.specs.Keys.{is_queue, is_complex, is_row, is_hand};
-ghost use Rattle.nqs_state.specs.Room.{HasRoom, HasRoomForEdit, HasRoomForConf, HasRoomForLimits, HasRoomForAccess, HasRoomForDevices, users_of, dests_of, devices_of, members_of, refusals_of, hand_refusals};
+ghost use Rattle.nqs_state.specs.Room.{HasRoom, HasRoomForEdit, HasRoomForConf, HasRoomForLimits, HasRoomForAccess, HasRoomForDevices, users_of, dests_of};
+ghost use Rattle.nqs_state.specs.Room.{devices_of, members_of, refusals_of, hand_refusals};
 ghost use Rattle.nqs_types.specs.declared.ids.PeerNumber.{PeerNumber};
 
 use crate::state::HostState;
@@ -158,7 +160,8 @@ impl HostState {
         }
     }
 
-    /// Makes room for the change. What the state holds stays as it was, also where there is no memory.
+    /// Makes room for the change. What the state holds stays as it was, also where there is no
+    /// memory.
     pub fn make_room(&mut self, change: &Change) -> Result<(), Memory>
         ensures content { content self.new ≡ content self.old }
         ensures room { OnOk result (HasRoom change.now self.new) }

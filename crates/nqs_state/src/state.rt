@@ -38,7 +38,8 @@ pub struct HostState {
     pub arrivals: u64,
     /// The number of the next file, at first 1.
     pub file_next: u64,
-    /// Memory for the growth of a list of names within a queue or a complex, or of managers or operators.
+    /// Memory for the growth of a list of names within a queue or a complex, or of managers or
+    /// operators.
     pub spare_names: Spare<Name>,
     /// Memory for the growth of a queue's list of destinations.
     pub spare_dests: Spare<Dest>,
@@ -46,7 +47,8 @@ pub struct HostState {
     pub spare_refused: Spare<Refused>,
 }
 
-// Written out, so that a host's state is let go by a call: a derived drop is a part of each function that owns one, field by field.
+// Written out, so that a host's state is let go by a call: a derived drop is a part of each
+// function that owns one, field by field.
 impl Drop for HostState {
     fn drop(self) {
         let HostState {

@@ -19,5 +19,6 @@ module _ {A V : Type 0} (t : V → Bool) (f : V → A) where
       by true rest = ap (λ l. f v ∷ l) rest
       by false rest = rest
 
-pub kills_are : (q : List ℕ) (p : Plan) (rows : List (Row Extent)) → fold (λ p r. with_more p (kill_in q r)) p rows ≡ with_more p (map kill (filter (runs_in_queue q) rows))
+pub kills_are : (q : List ℕ) (p : Plan) (rows : List (Row Extent)) → fold (λ p r. with_more p (kill_in q r)) p rows
+    ≡ with_more p (map kill (filter (runs_in_queue q) rows))
 kills_are q p rows = folded-more (kill_in q) p rows ∙ ap (with_more p) (some-mapped (runs_in_queue q) kill rows)

@@ -15,7 +15,8 @@ module _ {E : Type 0} (s : State E) (queue : List ℕ) (r : Row E) where
   abbrev part : Bool → Option QueueDef → List Cause
   part there found = cause (not there) (NoQueue queue) ∷ causes_of (move_entry_causes r) found ++ used_causes s
 
-  pub local_found : (d : QueueDef) → Some d ≡ find_queue queue s → first_refusal (move_entry_causes r d ++ used_causes s) ≡ first_refusal (local_causes queue s r)
+  pub local_found : (d : QueueDef) → Some d ≡ find_queue queue s → first_refusal (move_entry_causes r d ++ used_causes s)
+      ≡ first_refusal (local_causes queue s r)
   local_found d h = (λ i. first_refusal (part (sym (queue_there queue s d (sym h)) i) (h i)))
 
   pub local_absent : None ≡ find_queue queue s → Err (NoQueue queue) ≡ first_refusal (local_causes queue s r)

@@ -1,5 +1,6 @@
 -- What of a host in order the steps and starts stand on.
-use Rattle.std.proofs.Common.{◌≡◌, ℕ, ◌+◌, ◌<◌, ◌≤◌, ◌^◌, Bool, true, false, nat_lt, nat_le, ◌==◌, ◌&&◌, length, true≢false, Some, slice_get, if◌then◌else◌, refl, sym, ap, arith, IsTrue}
+use Rattle.std.proofs.Common.{◌≡◌, ℕ, ◌+◌, ◌<◌, ◌≤◌, ◌^◌, Bool, true, false, nat_lt, nat_le, ◌==◌, ◌&&◌, length, true≢false, Some, slice_get, if◌then◌else◌}
+use Rattle.std.proofs.Common.{refl, sym, ap, arith, IsTrue}
 use Rattle.std.proofs.lemmas.Bool.{eqb-true}
 use Rattle.std.proofs.lemmas.Bool.Decides.{nat_tests}
 use Rattle.nqs_state.specs.State.{State}
@@ -25,7 +26,8 @@ equal m n b h = eqb-true m n (front (m == n) b h)
     front true b h = refl
     front false b h = absurd (true≢false (sym h))
 
-counted : (running : Bool) (starts lost : ℕ) (free : Bool) → running ≡ false → (if running then starts == lost + 1 else starts == lost && free) ≡ true → nat_lt lost 65535 ≡ true → starts + 1 < 2 ^ 16
+counted : (running : Bool) (starts lost : ℕ) (free : Bool) → running ≡ false → (if running then starts == lost + 1 else starts == lost && free) ≡ true
+    → nat_lt lost 65535 ≡ true → starts + 1 < 2 ^ 16
 counted true starts lost free e count few = absurd (true≢false e)
 counted false starts lost free e count few =
     let same : starts ≡ lost = equal starts lost free count in
@@ -58,4 +60,5 @@ module _ {E : Type 0} (s : State E) (h : IsInOrder s) where
   hop_left place r there = (let k : r.hops ≤ 32 = small r.hops 32 (at_most_32 r (row_at place r there).hop) in omega arith)
 
   pub start_left : (place : ℕ) (r : Row E) → slice_get s.rows place ≡ Some r → is_ready r ≡ true → r.starts + 1 < 2 ^ 16
-  start_left place r there ready = counted (is_running r.state) r.starts r.lost (has_no_device r) (ap is_running (ready_queued r ready)) (row_at place r there).count (row_at place r there).lost
+  start_left place r there ready = counted (is_running r.state) r.starts r.lost (has_no_device r) (ap is_running (ready_queued r ready))
+      (row_at place r there).count (row_at place r there).lost

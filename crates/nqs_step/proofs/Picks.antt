@@ -22,8 +22,10 @@ module _ {E : Type 0} (now : ℕ) (s : State E) where
   -- a row that is picked is queued without a hold
   pub picked_ready : (c : Choice) (r : Row E) → pick now s ≡ Some c → slice_get s.rows (row_place c) ≡ Some r → is_ready r ≡ true
   picked_ready c r picked there =
-      let p : IsPicked now (map_state f s) c = subst (λ o. IfSome o (IsPicked now (map_state f s))) (pick-map f now s ∙ picked) (picked_is now (map_state f s)) in
-      let is : p.row ≡ map_row f r = same_Some p.row (map_row f r) (sym p.first.at ∙ slice_get-map (map_row f) s.rows (row_place c) ∙ ap (option_map (map_row f)) there) in
+      let p : IsPicked now (map_state f s) c = subst (λ o. IfSome o (IsPicked now (map_state f s))) (pick-map f now s ∙ picked)
+      (picked_is now (map_state f s)) in
+      let is : p.row ≡ map_row f r = same_Some p.row (map_row f r) (sym p.first.at ∙ slice_get-map (map_row f) s.rows (row_place c)
+      ∙ ap (option_map (map_row f)) there) in
       subst (λ q. is_ready q ≡ true) is (eligible_parts p.queue now (map_state f s) p.row p.first.eligible).1
 
   started_is : (c : Choice) → started c now s ≡ option_and_then (started_row c now s) (slice_get s.rows (row_place c))

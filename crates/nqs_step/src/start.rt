@@ -87,7 +87,8 @@ fn print_at(
     place: usize,
 ) -> Result<Option<Plan>, Memory>
     requires { row.now.starts + 1 < 2 ^ 16 }
-    ensures { IfOk result (λ plan. plan ≡ option_map plan_of (option_map (λ d. printing d row.now (content state.now)) (device_at place row.now (content state.now)))) }
+    ensures { IfOk result (λ plan. plan ≡ option_map plan_of (option_map (λ d. printing d row.now (content state.now))
+        (device_at place row.now (content state.now)))) }
 {
     match device_at(state, row, place) {
         Some(device) => Ok(Some(print(alloc, state, row, *device)?)),
@@ -167,7 +168,8 @@ fn offer_to(
     now: u64,
 ) -> Result<Option<Plan>, Memory>
     requires { row.now.hops < 255 }
-    ensures { IfOk result (λ plan. plan ≡ option_map plan_of (option_map (λ d. open_hand d now (content state.now) row.now) (dest_at place row.now (content state.now)))) }
+    ensures { IfOk result (λ plan. plan ≡ option_map plan_of (option_map (λ d. open_hand d now (content state.now) row.now)
+        (dest_at place row.now (content state.now)))) }
 {
     match dest_at(state, row, place) {
         Some(dest) => Ok(Some(offer_row(alloc, state, row, dest, now)?)),
@@ -209,7 +211,8 @@ fn row_place(choice: Choice) -> usize
     }
 }
 
-/// What the host starts at a moment, in seconds since 1970, if anything: the plan of what is picked.
+/// What the host starts at a moment, in seconds since 1970, if anything: the plan of what is
+/// picked.
 pub fn start(alloc: Global, state: &HostState, now: u64) -> Result<Option<Plan>, Memory>
     requires { IsInOrder (content state.now) }
     ensures { IfOk result (λ plan. plan ≡ option_map plan_of (start now (content state.now))) }

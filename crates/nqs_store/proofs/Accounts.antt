@@ -1,5 +1,6 @@
 -- The extents of a host after a change are those from before it, with the change's own, and without what it takes away.
-use Rattle.std.proofs.Common.{◌≡◌, ℕ, ◌+◌, Bool, true, false, cond, not, ◌&&◌, nat_lt, IsTrue, if◌then◌else◌, List, [], ◌∷◌, ◌++◌, map, filter, find, Option, Some, None, refl, sym, ap, subst, ◌∙◌, append_assoc}
+use Rattle.std.proofs.Common.{◌≡◌, ℕ, ◌+◌, Bool, true, false, cond, not, ◌&&◌, nat_lt, IsTrue, if◌then◌else◌, List, [], ◌∷◌, ◌++◌, map, filter, find, Option}
+use Rattle.std.proofs.Common.{Some, None, refl, sym, ap, subst, ◌∙◌, append_assoc}
 use Rattle.std.specs.List.{filter_map, cons_option}
 use Rattle.std.proofs.lemmas.List.{map-append}
 use Rattle.nqs_keyed.specs.Table.{change_first, without_first}
@@ -15,7 +16,9 @@ use Rattle.nqs_types.specs.declared.request.Hand.{Hand}
 use Rattle.nqs_types.specs.declared.request.Promise.{Promise}
 use Rattle.nqs_types.specs.declared.request.FileOut.{FileOut}
 use Rattle.nqs_types.specs.declared.change.Change.{Change}
-use Rattle.nqs_types.specs.declared.change.Change.TheVariants.{Site, Submitted, Deleted, Doomed, Started, Ended, Unlaunched, Boot, Edited, HandOpened, HandCommitted, HandRefused, HandsSilent, HandDone, Promised, Accepted, Dropped, MovedLocal, RefusedLocal, HeldFar, StageGot, StageGone, FileGone}
+use Rattle.nqs_types.specs.declared.change.Change.TheVariants.{Site, Submitted, Deleted, Doomed, Started, Ended, Unlaunched, Boot, Edited, HandOpened}
+use Rattle.nqs_types.specs.declared.change.Change.TheVariants.{HandCommitted, HandRefused, HandsSilent, HandDone, Promised, Accepted, Dropped, MovedLocal}
+use Rattle.nqs_types.specs.declared.change.Change.TheVariants.{RefusedLocal, HeldFar, StageGot, StageGone, FileGone}
 use Rattle.nqs_types.specs.declared.edit.Edit.{Edit}
 use Rattle.nqs_types.specs.declared.edit.Edit.TheVariants.{Conf, Limits as LimitsOf, Access as AccessOf, Devices as DevicesOf, Rows as RowsOf}
 use Rattle.nqs_types.specs.declared.edit.ConfEdit.{ConfEdit}
@@ -38,13 +41,16 @@ use Rattle.nqs_rules.specs.Limits.{limits_applied}
 use Rattle.nqs_rules.specs.Devices.{devices_applied}
 use Rattle.nqs_rules.specs.Rows.{doomed_in, held_row, released_row, moved_row, with_priority, change_meant, next_arrival, rows_applied}
 use Rattle.nqs_rules.specs.Routing.{close, held_where, refusal_noted, dests_for}
-use Rattle.nqs_rules.specs.Applied.{doomed_row, started_row, may_start_again, lost_row, booted_row, routing_row, requeued_row, hand_committed, hand_refused, hand_silent, hands_silent, is_promise_of, accepted, moved_local, local_refused, held_far, access_applied, edit_applied, applied, drop_hand, drop_promise}
+use Rattle.nqs_rules.specs.Applied.{doomed_row, started_row, may_start_again, lost_row, booted_row, routing_row, requeued_row, hand_committed, hand_refused}
+use Rattle.nqs_rules.specs.Applied.{hand_silent, hands_silent, is_promise_of, accepted, moved_local, local_refused, held_far, access_applied, edit_applied}
+use Rattle.nqs_rules.specs.Applied.{applied, drop_hand, drop_promise}
 use Rattle.nqs_rules.specs.Stepped.{stored_parts}
 use Rattle.nqs_store.specs.Told.{Host}
 use Rattle.nqs_store.specs.Live.{row_part, promise_part, stage_part, file_part, output_parts, live}
 use Rattle.nqs_store.specs.Accounts.{Adds, Takes, IsRearranged}
 use Rattle.nqs_store.specs.Frees.{part_of, goes_at_boot, row_of_hand, doubled, gone}
-use Rattle.nqs_store.proofs.Extents.{with_behind, with_before, adds-behind, adds-before, adds-end, takes-behind, takes-before, takes-end, takes-append, in_order, moved, filter_takes, first_takes}
+use Rattle.nqs_store.proofs.Extents.{with_behind, with_before, adds-behind, adds-before, adds-end, takes-behind, takes-before, takes-end, takes-append}
+use Rattle.nqs_store.proofs.Extents.{in_order, moved, filter_takes, first_takes}
 use Rattle.nqs_store.proofs.Outputs.{outputs}
 
 pub record AreAccounted (before now : List Extent) (added taken : List Extent) : Type 0 where
@@ -63,7 +69,8 @@ module _ (s now : Host) where
   same is = record { more = live s; fewer = live s; adds = refl; takes = refl; order = in_order (live s) (live now) is }
 
   -- rows go
-  rows_go : (taken : List Extent) → Takes (map row_part s.rows) taken (map row_part now.rows) → map promise_part s.promises ≡ map promise_part now.promises → output_parts s ≡ output_parts now → AreAccounted (live s) (live now) [] taken
+  rows_go : (taken : List Extent) → Takes (map row_part s.rows) taken (map row_part now.rows) → map promise_part s.promises ≡ map promise_part now.promises
+      → output_parts s ≡ output_parts now → AreAccounted (live s) (live now) [] taken
   rows_go taken takes promises outs = record {
     more = live s;
     fewer = map row_part now.rows ++ (map promise_part s.promises ++ output_parts s);
@@ -72,7 +79,8 @@ module _ (s now : Host) where
     order = in_order _ (live now) (λ j. map row_part now.rows ++ (promises j ++ outs j));
   }
 
-change_first-part : {V : Type 0} (part : V → Extent) (test : V → Bool) (f : V → V) → ((v : V) → part (f v) ≡ part v) → (vs : List V) → map part (change_first test f vs) ≡ map part vs
+change_first-part : {V : Type 0} (part : V → Extent) (test : V → Bool) (f : V → V) → ((v : V) → part (f v) ≡ part v) → (vs : List V)
+    → map part (change_first test f vs) ≡ map part vs
 change_first-part part test f keeps [] = refl
 change_first-part {V} part test f keeps (v ∷ vs) = by (test v) (change_first-part part test f keeps vs)
   where
@@ -107,11 +115,15 @@ doomed-part q r = by (is_running r.state && Rattle.nqs_values.specs.Same.name_eq
     by false = refl
 
 -- a change of a row keeps its extent
-row_changed : (id : RequestId) (f : Row Extent → Row Extent) → ((r : Row Extent) → row_part (f r) ≡ row_part r) → (s : Host) → AreAccounted (live s) (live (change_row id f s)) [] []
-row_changed id f keeps s = same s (change_row id f s) (ap (λ l. l ++ (map promise_part s.promises ++ output_parts s)) (sym (change_first-part row_part (is_row id) f keeps s.rows)))
+row_changed : (id : RequestId) (f : Row Extent → Row Extent) → ((r : Row Extent) → row_part (f r) ≡ row_part r) → (s : Host)
+    → AreAccounted (live s) (live (change_row id f s)) [] []
+row_changed id f keeps s = same s (change_row id f s) (ap (λ l. l ++ (map promise_part s.promises ++ output_parts s))
+    (sym (change_first-part row_part (is_row id) f keeps s.rows)))
 
-row_dropped : (id : RequestId) (s now : Host) → now.rows ≡ without_first (is_row id) s.rows → map promise_part s.promises ≡ map promise_part now.promises → output_parts s ≡ output_parts now → AreAccounted (live s) (live now) [] (part_of row_part (find_row id s))
-row_dropped id s now is promises outs = rows_go s now _ (subst (λ l. Takes (map row_part s.rows) (part_of row_part (find_row id s)) (map row_part l)) (sym is) (first_takes row_part (is_row id) s.rows)) promises outs
+row_dropped : (id : RequestId) (s now : Host) → now.rows ≡ without_first (is_row id) s.rows → map promise_part s.promises ≡ map promise_part now.promises
+    → output_parts s ≡ output_parts now → AreAccounted (live s) (live now) [] (part_of row_part (find_row id s))
+row_dropped id s now is promises outs = rows_go s now _ (subst (λ l. Takes (map row_part s.rows) (part_of row_part (find_row id s)) (map row_part l)) (sym is)
+    (first_takes row_part (is_row id) s.rows)) promises outs
 
 -- edits
 
@@ -133,12 +145,14 @@ devices_accounted : (e : DevicesEdit) (s : Host) → AreAccounted (live s) (live
 devices_accounted (CreateDevice d forms) s = same s (devices_applied (CreateDevice d forms) s) refl
 devices_accounted e s = same s (devices_applied e s) refl
 
-meant_accounted : (m : Option RequestId) (f : Row Extent → Row Extent) → ((r : Row Extent) → row_part (f r) ≡ row_part r) → (s : Host) → AreAccounted (live s) (live (change_meant m f s)) [] []
+meant_accounted : (m : Option RequestId) (f : Row Extent → Row Extent) → ((r : Row Extent) → row_part (f r) ≡ row_part r) → (s : Host)
+    → AreAccounted (live s) (live (change_meant m f s)) [] []
 meant_accounted None f keeps s = same s s refl
 meant_accounted (Some id) f keeps s = row_changed id f keeps s
 
 rows_accounted : (e : RowsEdit) (s : Host) → AreAccounted (live s) (live (rows_applied e s)) [] []
-rows_accounted (AbortQueue q) s = same s (rows_applied (AbortQueue q) s) (ap (λ l. l ++ (map promise_part s.promises ++ output_parts s)) (sym (map-part row_part (doomed_in q) (doomed-part q) s.rows)))
+rows_accounted (AbortQueue q) s = same s (rows_applied (AbortQueue q) s) (ap (λ l. l ++ (map promise_part s.promises ++ output_parts s))
+    (sym (map-part row_part (doomed_in q) (doomed-part q) s.rows)))
 rows_accounted (HoldRequest id) s = meant_accounted (meant_request id s) held_row (λ r. refl) s
 rows_accounted (ReleaseRequest id) s = meant_accounted (meant_request id s) released_row (λ r. refl) s
 rows_accounted (MoveRequest id q) s = meant_accounted (meant_request id s) (moved_row q (s.arrivals + 1)) (λ r. refl) (next_arrival s)
@@ -162,7 +176,8 @@ committed_accounted k (Some h) s = row_dropped h.id s (hand_committed k (Some h)
 
 refused_accounted : (k : PeerNumber) (refusal : ℕ) (o : Option Hand) (s : Host) → AreAccounted (live s) (live (hand_refused k refusal o s)) [] []
 refused_accounted k refusal None s = same s s refl
-refused_accounted k refusal (Some h) s = row_changed h.id (λ r. refusal_noted (dests_for r s) (record { queue = h.queue; host = h.peer }) refusal (requeued_row r)) (λ r. held-part _ _) (drop_hand k s)
+refused_accounted k refusal (Some h) s = row_changed h.id (λ r. refusal_noted (dests_for r s) (record { queue = h.queue; host = h.peer }) refusal
+    (requeued_row r)) (λ r. held-part _ _) (drop_hand k s)
 
 silent_live : (until : ℕ) (ks : List PeerNumber) (s : Host) → live (hands_silent until ks s) ≡ live s
 silent_live until [] s = refl
@@ -173,7 +188,8 @@ silent_live until (k ∷ ks) s = silent_live until ks (hand_silent until k (find
     one (Some h) = ap (λ l. l ++ (map promise_part s.promises ++ output_parts s)) (change_first-part row_part (is_row h.id) requeued_row (λ r. refl) s.rows)
 
 -- a promise becomes a row
-accepted_accounted : (k : PeerNumber) (o : Option (Promise Extent)) (s : Host) → find (is_promise k) s.promises ≡ o → AreAccounted (live s) (live (accepted k o s)) [] (doubled s o)
+accepted_accounted : (k : PeerNumber) (o : Option (Promise Extent)) (s : Host) → find (is_promise k) s.promises ≡ o
+    → AreAccounted (live s) (live (accepted k o s)) [] (doubled s o)
 accepted_accounted k None s found = same s s refl
 accepted_accounted k (Some p) s found = by (has_row p.row.id s)
   where
@@ -189,12 +205,14 @@ accepted_accounted k (Some p) s found = by (has_row p.row.id s)
     at : IsWith fewer (promise_part p) ps
     at = subst (λ l. IsWith l (promise_part p) ps) goes.2 goes.1
 
-    by : (b : Bool) → AreAccounted (live s) (live (change_peer k.peer (close k.number) (if b then drop_promise k s else record (drop_promise k s) { rows = s.rows ++ requeued_row p.row ∷ [] }))) [] (if b then promise_part p ∷ [] else [])
+    by : (b : Bool) → AreAccounted (live s) (live (change_peer k.peer (close k.number)
+        (if b then drop_promise k s else record (drop_promise k s) { rows = s.rows ++ requeued_row p.row ∷ [] }))) [] (if b then promise_part p ∷ [] else [])
     by true = record {
       more = live s;
       fewer = map row_part s.rows ++ (fewer ++ output_parts s);
       adds = refl;
-      takes = takes-before (map row_part s.rows) (ps ++ output_parts s) (promise_part p ∷ []) (fewer ++ output_parts s) (takes-behind ps (promise_part p ∷ []) fewer (output_parts s) goes);
+      takes = takes-before (map row_part s.rows) (ps ++ output_parts s) (promise_part p ∷ []) (fewer ++ output_parts s)
+          (takes-behind ps (promise_part p ∷ []) fewer (output_parts s) goes);
       order = in_order (map row_part s.rows ++ (fewer ++ output_parts s)) (map row_part s.rows ++ (fewer ++ output_parts s)) refl;
     }
     by false = record {
@@ -202,14 +220,24 @@ accepted_accounted k (Some p) s found = by (has_row p.row.id s)
       fewer = live s;
       adds = refl;
       takes = refl;
-      order = moved (map row_part s.rows ++ (fewer ++ output_parts s)) (live s) (map row_part (s.rows ++ requeued_row p.row ∷ []) ++ (fewer ++ output_parts s)) (promise_part p)
-          (with_before (promise_part p) (map row_part s.rows) (fewer ++ output_parts s) (ps ++ output_parts s) (with_behind (promise_part p) fewer ps (output_parts s) at))
-          (record { front = map row_part s.rows; back = fewer ++ output_parts s; without = refl; within = ap (λ l. l ++ (fewer ++ output_parts s)) (map-append row_part s.rows (requeued_row p.row ∷ [])) ∙ append_assoc (map row_part s.rows) (promise_part p ∷ []) (fewer ++ output_parts s) });
+      order = moved (map row_part s.rows ++ (fewer ++ output_parts s)) (live s) (map row_part (s.rows ++ requeued_row p.row ∷ []) ++ (fewer ++ output_parts s))
+          (promise_part p)
+          (with_before (promise_part p) (map row_part s.rows) (fewer ++ output_parts s) (ps ++ output_parts s)
+          (with_behind (promise_part p) fewer ps (output_parts s) at))
+          (record {
+            front = map row_part s.rows;
+            back = fewer ++ output_parts s;
+            without = refl;
+            within =
+                ap (λ l. l ++ (fewer ++ output_parts s)) (map-append row_part s.rows (requeued_row p.row ∷ []))
+                ∙ append_assoc (map row_part s.rows) (promise_part p ∷ []) (fewer ++ output_parts s);
+          });
     }
 
 -- a row or a promise comes, or outputs do
 
-submitted_accounted : (queue : List ℕ) (job : Job) (script : Extent) (s : Host) → AreAccounted (live s) (live (applied (Submitted queue job script) s)) (script ∷ []) []
+submitted_accounted : (queue : List ℕ) (job : Job) (script : Extent) (s : Host)
+    → AreAccounted (live s) (live (applied (Submitted queue job script) s)) (script ∷ []) []
 submitted_accounted queue job script s =
     let rest = map promise_part s.promises ++ output_parts s in
     record {
@@ -220,7 +248,8 @@ submitted_accounted queue job script s =
       order = in_order _ _ (ap (λ l. l ++ rest) (sym (map-append row_part s.rows _)));
     }
 
-promised_accounted : (peer : HostId) (number : ℕ) (queue : List ℕ) (c : Carried) (script : Extent) (s : Host) → AreAccounted (live s) (live (applied (Promised peer number queue c script) s)) (script ∷ []) (gone (Promised peer number queue c script) s)
+promised_accounted : (peer : HostId) (number : ℕ) (queue : List ℕ) (c : Carried) (script : Extent) (s : Host)
+    → AreAccounted (live s) (live (applied (Promised peer number queue c script) s)) (script ∷ []) (gone (Promised peer number queue c script) s)
 promised_accounted peer number queue c script s =
     let front = map row_part s.rows in
     let ps = map promise_part s.promises in
@@ -230,12 +259,16 @@ promised_accounted peer number queue c script s =
     record {
       more = front ++ ((ps ++ script ∷ []) ++ outs);
       fewer = front ++ ((kept ++ script ∷ []) ++ outs);
-      adds = adds-before front (ps ++ outs) (script ∷ []) ((ps ++ script ∷ []) ++ outs) (adds-behind ps (script ∷ []) (ps ++ script ∷ []) outs (adds-end ps (script ∷ [])));
-      takes = takes-before front ((ps ++ script ∷ []) ++ outs) taken ((kept ++ script ∷ []) ++ outs) (takes-behind (ps ++ script ∷ []) taken (kept ++ script ∷ []) outs (takes-behind ps taken kept (script ∷ []) (filter_takes promise_part (is_promise_of peer) s.promises)));
+      adds = adds-before front (ps ++ outs) (script ∷ []) ((ps ++ script ∷ []) ++ outs)
+          (adds-behind ps (script ∷ []) (ps ++ script ∷ []) outs (adds-end ps (script ∷ [])));
+      takes = takes-before front ((ps ++ script ∷ []) ++ outs) taken ((kept ++ script ∷ []) ++ outs)
+          (takes-behind (ps ++ script ∷ []) taken (kept ++ script ∷ []) outs
+          (takes-behind ps taken kept (script ∷ []) (filter_takes promise_part (is_promise_of peer) s.promises)));
       order = in_order _ _ (ap (λ l. front ++ (l ++ outs)) (sym (map-append promise_part (filter (λ p. not (is_promise_of peer p)) s.promises) _)));
     }
 
-ended_accounted : (id : RequestId) (parts : List (Rattle.nqs_types.specs.declared.change.OutPart.OutPart Extent)) (s : Host) → AreAccounted (live s) (live (applied (Ended id parts) s)) (map Rattle.nqs_rules.specs.Stepped.part_bytes parts) (gone (Ended id parts) s)
+ended_accounted : (id : RequestId) (parts : List (Rattle.nqs_types.specs.declared.change.OutPart.OutPart Extent)) (s : Host)
+    → AreAccounted (live s) (live (applied (Ended id parts) s)) (map Rattle.nqs_rules.specs.Stepped.part_bytes parts) (gone (Ended id parts) s)
 ended_accounted id parts s =
     let next = drop_row id s in
     let out = outputs id parts next in
@@ -253,7 +286,8 @@ ended_accounted id parts s =
       order = in_order _ _ (λ j. sym out.rows j ++ (sym out.promises j ++ output_parts (applied (Ended id parts) s)));
     }
 
-got_accounted : (peer : HostId) (number : ℕ) (path : List ℕ) (bytes : Extent) (s : Host) → AreAccounted (live s) (live (applied (StageGot peer number path bytes) s)) (bytes ∷ []) (gone (StageGot peer number path bytes) s)
+got_accounted : (peer : HostId) (number : ℕ) (path : List ℕ) (bytes : Extent) (s : Host)
+    → AreAccounted (live s) (live (applied (StageGot peer number path bytes) s)) (bytes ∷ []) (gone (StageGot peer number path bytes) s)
 got_accounted peer number path bytes s = by (nat_lt s.file_next last_u64)
   where
     front : List Extent
@@ -272,7 +306,8 @@ got_accounted peer number path bytes s = by (nat_lt s.file_next last_u64)
     more = front ++ (ps ++ (st ++ (fs ++ bytes ∷ [])))
 
     adds : Adds (live s) (bytes ∷ []) more
-    adds = adds-before front (ps ++ (st ++ fs)) (bytes ∷ []) (ps ++ (st ++ (fs ++ bytes ∷ []))) (adds-before ps (st ++ fs) (bytes ∷ []) (st ++ (fs ++ bytes ∷ [])) (adds-before st fs (bytes ∷ []) (fs ++ bytes ∷ []) (adds-end fs (bytes ∷ []))))
+    adds = adds-before front (ps ++ (st ++ fs)) (bytes ∷ []) (ps ++ (st ++ (fs ++ bytes ∷ [])))
+        (adds-before ps (st ++ fs) (bytes ∷ []) (st ++ (fs ++ bytes ∷ [])) (adds-before st fs (bytes ∷ []) (fs ++ bytes ∷ []) (adds-end fs (bytes ∷ []))))
 
     next : Host
     next = change_peer peer (λ p. record p { stage_got = number }) s
@@ -280,23 +315,27 @@ got_accounted peer number path bytes s = by (nat_lt s.file_next last_u64)
     file : FileOut Extent
     file = record { number = s.file_next; path = path; bytes = bytes }
 
-    by : (b : Bool) → AreAccounted (live s) (live (if b then record next { files = s.files ++ file ∷ []; file_next = s.file_next + 1 } else next)) (bytes ∷ []) (if b then [] else bytes ∷ [])
+    by : (b : Bool) → AreAccounted (live s) (live (if b then record next { files = s.files ++ file ∷ []; file_next = s.file_next + 1 } else next)) (bytes ∷ [])
+        (if b then [] else bytes ∷ [])
     by true = record {
       more = more;
       fewer = more;
       adds = adds;
       takes = refl;
-      order = in_order more (front ++ (ps ++ (st ++ map file_part (s.files ++ file ∷ [])))) (ap (λ l. front ++ (ps ++ (st ++ l))) (sym (map-append file_part s.files (file ∷ []))));
+      order = in_order more (front ++ (ps ++ (st ++ map file_part (s.files ++ file ∷ []))))
+          (ap (λ l. front ++ (ps ++ (st ++ l))) (sym (map-append file_part s.files (file ∷ []))));
     }
     by false = record {
       more = more;
       fewer = live s;
       adds = adds;
-      takes = takes-before front (ps ++ (st ++ (fs ++ bytes ∷ []))) (bytes ∷ []) (ps ++ (st ++ fs)) (takes-before ps (st ++ (fs ++ bytes ∷ [])) (bytes ∷ []) (st ++ fs) (takes-before st (fs ++ bytes ∷ []) (bytes ∷ []) fs (takes-end fs (bytes ∷ []))));
+      takes = takes-before front (ps ++ (st ++ (fs ++ bytes ∷ []))) (bytes ∷ []) (ps ++ (st ++ fs))
+          (takes-before ps (st ++ (fs ++ bytes ∷ [])) (bytes ∷ []) (st ++ fs) (takes-before st (fs ++ bytes ∷ []) (bytes ∷ []) fs (takes-end fs (bytes ∷ []))));
       order = in_order (live s) (live s) refl;
     }
 
-pub accounted : (change : Change Extent) (s : Host) → IsTrue (fits change s) → AreAccounted (live s) (live (applied change s)) (stored_parts change) (gone change s)
+pub accounted : (change : Change Extent) (s : Host) → IsTrue (fits change s)
+    → AreAccounted (live s) (live (applied change s)) (stored_parts change) (gone change s)
 accounted (Site me site) s fine = absurd (let no : ⊥ = cc in no)
 accounted (Submitted queue job script) s fine = submitted_accounted queue job script s
 accounted (Deleted id) s fine = row_dropped id s (applied (Deleted id) s) refl refl refl
@@ -306,7 +345,8 @@ accounted (Ended id parts) s fine = ended_accounted id parts s
 accounted (Unlaunched id) s fine = row_dropped id s (applied (Unlaunched id) s) refl refl refl
 accounted Boot s fine = rows_go s (applied Boot s) _ (boot_takes s.rows) refl refl
 accounted (Edited e) s fine = edit_accounted e s
-accounted (HandOpened peer number id queue since) s fine = same s (applied (HandOpened peer number id queue since) s) (ap (λ l. l ++ (map promise_part s.promises ++ output_parts s)) (sym (change_first-part row_part (is_row id) routing_row (λ r. refl) s.rows)))
+accounted (HandOpened peer number id queue since) s fine = same s (applied (HandOpened peer number id queue since) s)
+    (ap (λ l. l ++ (map promise_part s.promises ++ output_parts s)) (sym (change_first-part row_part (is_row id) routing_row (λ r. refl) s.rows)))
 accounted (HandCommitted peer number) s fine = committed_accounted (peer_number peer number) (find_hand peer number s) s
 accounted (HandRefused peer number refusal) s fine = refused_accounted (peer_number peer number) refusal (find_hand peer number s) s
 accounted (HandsSilent until hands) s fine = same s (hands_silent until hands s) (sym (silent_live until hands s))
@@ -330,13 +370,15 @@ accounted (StageGone peer number) s fine = record {
   more = live s;
   fewer = live (applied (StageGone peer number) s);
   adds = refl;
-  takes = takes-before (map row_part s.rows) _ _ _ (takes-before (map promise_part s.promises) _ _ _ (takes-behind _ _ _ (map file_part s.files) (first_takes stage_part (is_stage (peer_number peer number)) s.stages)));
+  takes = takes-before (map row_part s.rows) _ _ _ (takes-before (map promise_part s.promises) _ _ _
+      (takes-behind _ _ _ (map file_part s.files) (first_takes stage_part (is_stage (peer_number peer number)) s.stages)));
   order = in_order _ _ refl;
 }
 accounted (FileGone file) s fine = record {
   more = live s;
   fewer = live (applied (FileGone file) s);
   adds = refl;
-  takes = takes-before (map row_part s.rows) _ _ _ (takes-before (map promise_part s.promises) _ _ _ (takes-before (map stage_part s.stages) _ _ _ (first_takes file_part (is_file file) s.files)));
+  takes = takes-before (map row_part s.rows) _ _ _ (takes-before (map promise_part s.promises) _ _ _
+      (takes-before (map stage_part s.stages) _ _ _ (first_takes file_part (is_file file) s.files)));
   order = in_order _ _ refl;
 }

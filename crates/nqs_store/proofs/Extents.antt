@@ -1,5 +1,6 @@
 -- Extents put in and taken out, in parts of a list.
-use Rattle.std.proofs.Common.{◌≡◌, inl, inr, Bool, true, false, cond, not, List, [], ◌∷◌, ◌++◌, map, filter, find, Some, refl, sym, ap, subst, ◌∙◌, append_assoc}
+use Rattle.std.proofs.Common.{◌≡◌, inl, inr, Bool, true, false, cond, not, List, [], ◌∷◌, ◌++◌, map, filter, find, Some, refl, sym, ap, subst, ◌∙◌}
+use Rattle.std.proofs.Common.{append_assoc}
 use Rattle.std.proofs.lemmas.List.{append-nil}
 use Rattle.std.specs.List.{AllByRecursion}
 use Rattle.nqs_keyed.specs.Table.{without_first}
@@ -91,10 +92,11 @@ moved live xs ys x at at' = record {
 }
   where
     over : (us vs : List Extent) → IsWith live x us → IsWith live x vs → (y : Extent) → Has vs y → Has us y
-    over us vs a b y has = subst (λ l. Has l y) (sym a.within) (has_put a.front a.back x y (elim (has_cut b.front b.back x y (subst (λ l. Has l y) b.within has)) [
-      | inl is ↦ inl is
-      | inr rest ↦ inr (subst (λ l. Has l y) (sym b.without ∙ a.without) rest)
-    ]))
+    over us vs a b y has = subst (λ l. Has l y) (sym a.within) (has_put a.front a.back x y
+        (elim (has_cut b.front b.back x y (subst (λ l. Has l y) b.within has)) [
+          | inl is ↦ inl is
+          | inr rest ↦ inr (subst (λ l. Has l y) (sym b.without ∙ a.without) rest)
+        ]))
 
 -- parts of values of a list
 module _ {V : Type 0} (part : V → Extent) where
@@ -103,7 +105,8 @@ module _ {V : Type 0} (part : V → Extent) where
   filter_takes goes (v ∷ vs) = by (goes v) (filter_takes goes vs)
     where
       by : (b : Bool) → Takes (map part vs) (map part (filter goes vs)) (map part (filter (λ v. not (goes v)) vs))
-          → Takes (part v ∷ map part vs) (map part (cond b (v ∷ filter goes vs) (filter goes vs))) (map part (cond (not b) (v ∷ filter (λ v. not (goes v)) vs) (filter (λ v. not (goes v)) vs)))
+          → Takes (part v ∷ map part vs) (map part (cond b (v ∷ filter goes vs) (filter goes vs)))
+          (map part (cond (not b) (v ∷ filter (λ v. not (goes v)) vs) (filter (λ v. not (goes v)) vs)))
       by true rest = (map part vs, with_first (part v) (map part vs), rest)
       by false rest = takes-before (part v ∷ []) (map part vs) (map part (filter goes vs)) (map part (filter (λ v. not (goes v)) vs)) rest
 

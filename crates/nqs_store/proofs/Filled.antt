@@ -6,7 +6,9 @@ use Rattle.nqs_state.specs.State.{State}
 use Rattle.nqs_values.specs.declared.extent.Extent.{Extent}
 use Rattle.nqs_types.specs.declared.change.OutPart.{OutPart}
 use Rattle.nqs_types.specs.declared.change.Change.{Change}
-use Rattle.nqs_types.specs.declared.change.Change.TheVariants.{Site, Submitted, Deleted, Doomed, Started, Ended, Unlaunched, Boot, Edited, HandOpened, HandCommitted, HandRefused, HandsSilent, HandDone, Promised, Accepted, Dropped, MovedLocal, RefusedLocal, HeldFar, StageGot, StageGone, FileGone}
+use Rattle.nqs_types.specs.declared.change.Change.TheVariants.{Site, Submitted, Deleted, Doomed, Started, Ended, Unlaunched, Boot, Edited, HandOpened}
+use Rattle.nqs_types.specs.declared.change.Change.TheVariants.{HandCommitted, HandRefused, HandsSilent, HandDone, Promised, Accepted, Dropped, MovedLocal}
+use Rattle.nqs_types.specs.declared.change.Change.TheVariants.{RefusedLocal, HeldFar, StageGot, StageGone, FileGone}
 use Rattle.nqs_rules.specs.Fits.{fits}
 use Rattle.nqs_rules.specs.Filled.{filled, filled_parts}
 use Rattle.nqs_rules.specs.Stepped.{map_change, map_part, part_bytes, stored_parts, no_extent}
@@ -41,7 +43,8 @@ parts_stored [] (x ∷ xs) many = absurd (omega (arith, many))
 parts_stored (part ∷ parts) [] many = absurd (omega (arith, many))
 parts_stored (part ∷ parts) (x ∷ xs) many = ap (λ l. x ∷ l) (parts_stored parts xs (omega (arith, many)))
 
-filled_shape : (parts : List (OutPart Extent)) (puts : List (List ℕ)) → AsMany puts parts → map (map_part none) (filled_parts parts puts) ≡ map (map_part none) parts
+filled_shape : (parts : List (OutPart Extent)) (puts : List (List ℕ)) → AsMany puts parts
+    → map (map_part none) (filled_parts parts puts) ≡ map (map_part none) parts
 filled_shape [] puts many = refl
 filled_shape (part ∷ parts) [] many = absurd (omega (arith, many))
 filled_shape (part ∷ parts) (put ∷ puts) many = ap (λ ps. map_part none part ∷ ps) (filled_shape parts puts (omega (arith, many)))
@@ -52,7 +55,8 @@ filled_stored [] (put ∷ puts) many = absurd (omega (arith, many))
 filled_stored (part ∷ parts) [] many = absurd (omega (arith, many))
 filled_stored (part ∷ parts) (put ∷ puts) many = ap (λ l. put ∷ l) (filled_stored parts puts (omega (arith, many)))
 
-parts_stand : (parts : List (OutPart Extent)) (xs : List Extent) → AllByRecursion IsPart parts → AllByRecursion IsExtent xs → AllByRecursion IsPart (parts_with parts xs)
+parts_stand : (parts : List (OutPart Extent)) (xs : List Extent) → AllByRecursion IsPart parts → AllByRecursion IsExtent xs
+    → AllByRecursion IsPart (parts_with parts xs)
 parts_stand [] xs right fine = tt
 parts_stand (part ∷ parts) [] right fine = (right.0, parts_stand parts [] right.1 tt)
 parts_stand (part ∷ parts) (x ∷ xs) right fine = ((right.0.0, fine.0), parts_stand parts xs right.1 fine.1)
@@ -165,7 +169,14 @@ stands_kept (Submitted queue job script) xs right fine = (right.0, right.1, one_
 stands_kept (Deleted id) xs right fine = right
 stands_kept (Doomed id) xs right fine = right
 stands_kept (Started id device) xs right fine = right
-stands_kept (Ended id parts) xs right fine = (right.0, (subst (λ n. IsTrue (is_at_most 2 n)) (sym (length-parts parts xs)) right.1.0, parts_stand parts xs right.1.1 fine))
+stands_kept (Ended id parts) xs right fine = (
+  right.0,
+  (
+    subst (λ n. IsTrue (is_at_most 2 n))
+        (sym (length-parts parts xs)) right.1.0,
+    parts_stand parts xs right.1.1 fine,
+  ),
+)
 stands_kept (Unlaunched id) xs right fine = right
 stands_kept Boot xs right fine = right
 stands_kept (Edited e) xs right fine = right
@@ -213,7 +224,8 @@ stored (FileGone file) xs many = no_parts xs many
 
 -- the change with the bytes is the same otherwise
 
-pub filled_shape_kept : (change : Change Extent) (puts : List (List ℕ)) → AsMany puts (stored_parts change) → map_change none (filled change puts) ≡ map_change none change
+pub filled_shape_kept : (change : Change Extent) (puts : List (List ℕ)) → AsMany puts (stored_parts change)
+    → map_change none (filled change puts) ≡ map_change none change
 filled_shape_kept (Site me site) puts many = refl
 filled_shape_kept (Submitted queue job script) puts many = refl
 filled_shape_kept (Deleted id) puts many = refl

@@ -15,4 +15,5 @@ formatted_sound me site stands =
     record {
       order = formatted_order me site (ltb-true me.0 (length site) parts.1) (leb-true (length site) 16 few.1);
       consistent = record { doomed = refl; held = refl; routing = refl; promises = refl; given = refl };
+      short = refl;
     }

@@ -1,5 +1,6 @@
 -- Extents freed, one after another.
-use Rattle.std.proofs.Common.{◌≡◌, ℕ, zero, suc, ◌+◌, ◌<◌, ◌≤◌, min, get_or, Bool, true, false, cond, List, [], ◌∷◌, ◌++◌, map, filter, take, drop, length, slice_get, slice_set, Some, refl, sym, ap, subst, ◌∙◌, arith}
+use Rattle.std.proofs.Common.{◌≡◌, ℕ, zero, suc, ◌+◌, ◌<◌, ◌≤◌, min, get_or, Bool, true, false, cond, List, [], ◌∷◌, ◌++◌, map, filter, take, drop, length}
+use Rattle.std.proofs.Common.{slice_get, slice_set, Some, refl, sym, ap, subst, ◌∙◌, arith}
 use Rattle.std.proofs.lemmas.Option.{same_Some, none-some}
 use Rattle.nqs_values.specs.declared.extent.Extent.{Extent}
 use Rattle.nqs_types.specs.declared.change.OutPart.{OutPart}
@@ -9,7 +10,9 @@ use Rattle.nqs_types.specs.declared.ids.RequestId.{RequestId}
 use Rattle.nqs_types.specs.declared.request.Carried.{Carried}
 use Rattle.nqs_types.specs.declared.edit.Edit.{Edit}
 use Rattle.nqs_types.specs.declared.change.Change.{Change}
-use Rattle.nqs_types.specs.declared.change.Change.TheVariants.{Site, Submitted, Deleted, Doomed, Started, Ended, Unlaunched, Boot, Edited, HandOpened, HandCommitted, HandRefused, HandsSilent, HandDone, Promised, Accepted, Dropped, MovedLocal, RefusedLocal, HeldFar, StageGot, StageGone, FileGone}
+use Rattle.nqs_types.specs.declared.change.Change.TheVariants.{Site, Submitted, Deleted, Doomed, Started, Ended, Unlaunched, Boot, Edited, HandOpened}
+use Rattle.nqs_types.specs.declared.change.Change.TheVariants.{HandCommitted, HandRefused, HandsSilent, HandDone, Promised, Accepted, Dropped, MovedLocal}
+use Rattle.nqs_types.specs.declared.change.Change.TheVariants.{RefusedLocal, HeldFar, StageGot, StageGone, FileGone}
 use Rattle.nqs_store.specs.Told.{Host}
 use Rattle.nqs_store.specs.Frees.{gone}
 use Rattle.nqs_outside.specs.declared.disk.Disk as disk
@@ -22,20 +25,24 @@ use Rattle.nqs_rules.specs.Tests.{last_u64}
 use Rattle.nqs_records.specs.Extents.{first_or, parts_with}
 use Rattle.nqs_store.specs.Accounts.{Takes}
 
-module _ {D : Type 0} {g : disk.Ghosts D} (old new : Spool D g) (x : Extent) (frees : (live fewer : List Extent) → Tells old live → IsWith fewer x live → Tells new fewer) where
+module _ {D : Type 0} {g : disk.Ghosts D} (old new : Spool D g) (x : Extent)
+    (frees : (live fewer : List Extent) → Tells old live → IsWith fewer x live → Tells new fewer) where
   pub one_free : (live fewer : List Extent) → Tells old live → Takes live (x ∷ []) fewer → Tells new fewer
   one_free live fewer tells takes = frees live fewer tells (subst (λ l. IsWith l x live) takes.2 takes.1)
 
   -- and others later
-  pub first_free : (xs : List Extent) (live fewer : List Extent) → Tells old live → Takes live (x ∷ xs) fewer → (mid : List Extent) × Tells new mid × Takes mid xs fewer
+  pub first_free : (xs : List Extent) (live fewer : List Extent) → Tells old live → Takes live (x ∷ xs) fewer
+      → (mid : List Extent) × Tells new mid × Takes mid xs fewer
   first_free xs live fewer tells takes = (takes.0, frees live takes.0 tells takes.1, takes.2)
 
 module _ {V : Type 0} (part : V → Extent) (p : V → Bool) (vs : List V) (i : ℕ) (v : V) (at : slice_get vs i ≡ Some v) where
   pub taken_on : p v ≡ true → map part (filter p (drop i vs)) ≡ part v ∷ map part (filter p (drop (i + 1) vs))
-  taken_on goes = ap (λ l. map part (filter p l)) (drop-at vs i v at) ∙ ap (λ b. map part (cond b (v ∷ filter p (drop (i + 1) vs)) (filter p (drop (i + 1) vs)))) goes
+  taken_on goes = ap (λ l. map part (filter p l)) (drop-at vs i v at) ∙ ap
+      (λ b. map part (cond b (v ∷ filter p (drop (i + 1) vs)) (filter p (drop (i + 1) vs)))) goes
 
   pub left_on : p v ≡ false → map part (filter p (drop i vs)) ≡ map part (filter p (drop (i + 1) vs))
-  left_on stays = ap (λ l. map part (filter p l)) (drop-at vs i v at) ∙ ap (λ b. map part (cond b (v ∷ filter p (drop (i + 1) vs)) (filter p (drop (i + 1) vs)))) stays
+  left_on stays = ap (λ l. map part (filter p l)) (drop-at vs i v at) ∙ ap
+      (λ b. map part (cond b (v ∷ filter p (drop (i + 1) vs)) (filter p (drop (i + 1) vs)))) stays
 
   pub next_on : map part (drop i vs) ≡ part v ∷ map part (drop (i + 1) vs)
   next_on = ap (map part) (drop-at vs i v at)
@@ -60,15 +67,19 @@ drop_one [] (suc i) = refl
 drop_one (x ∷ xs) i = refl
 
 pub set_next : (ps : List (OutPart Extent)) (xs : List Extent) (i n : ℕ) (p : OutPart Extent) → slice_get ps i ≡ Some p → n ≡ suc i
-    → slice_set (parts_with (take i ps) xs ++ drop i ps) i (record { path = p.path; bytes = first_or p.bytes (drop i xs) }) ≡ parts_with (take n ps) xs ++ drop n ps
+    → slice_set (parts_with (take i ps) xs ++ drop i ps) i (record { path = p.path; bytes = first_or p.bytes (drop i xs) })
+    ≡ parts_with (take n ps) xs ++ drop n ps
 set_next [] xs i n p at next = absurd (none-some p at)
-set_next (q ∷ ps) xs zero n p at next = ap (λ r. record { path = r.path; bytes = first_or r.bytes xs } ∷ ps) (sym (same_Some q p at)) ∙ sym (ap (λ m. parts_with (take m (q ∷ ps)) xs ++ drop m (q ∷ ps)) next)
+set_next (q ∷ ps) xs zero n p at next = ap (λ r. record { path = r.path; bytes = first_or r.bytes xs } ∷ ps) (sym (same_Some q p at))
+    ∙ sym (ap (λ m. parts_with (take m (q ∷ ps)) xs ++ drop m (q ∷ ps)) next)
 set_next (q ∷ ps) xs (suc i) n p at next =
-    ap (λ ys. record { path = q.path; bytes = first_or q.bytes xs } ∷ slice_set (parts_with (take i ps) (drop 1 xs) ++ drop i ps) i (record { path = p.path; bytes = first_or p.bytes ys })) (drop_one xs i)
+    ap (λ ys. record { path = q.path; bytes = first_or q.bytes xs } ∷ slice_set (parts_with (take i ps) (drop 1 xs) ++ drop i ps) i
+    (record { path = p.path; bytes = first_or p.bytes ys })) (drop_one xs i)
     ∙ ap (λ l. record { path = q.path; bytes = first_or q.bytes xs } ∷ l) (set_next ps (drop 1 xs) i (suc i) p at refl)
     ∙ sym (ap (λ m. parts_with (take m (q ∷ ps)) xs ++ drop m (q ∷ ps)) next)
 
-pub get_next : (ps : List (OutPart Extent)) (xs : List Extent) (i : ℕ) (d : OutPart Extent) → i < length ps → get_or (parts_with (take i ps) xs ++ drop i ps) i d ≡ get_or ps i d
+pub get_next : (ps : List (OutPart Extent)) (xs : List Extent) (i : ℕ) (d : OutPart Extent) → i < length ps
+    → get_or (parts_with (take i ps) xs ++ drop i ps) i d ≡ get_or ps i d
 get_next [] xs i d lt = absurd (omega (arith, lt))
 get_next (q ∷ ps) xs zero d lt = refl
 get_next (q ∷ ps) xs (suc i) d lt = get_next ps (drop 1 xs) i d (omega (arith, lt))

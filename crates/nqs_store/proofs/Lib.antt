@@ -11,8 +11,10 @@ pub mod Runs
 pub mod Putting
 pub mod Freeing
 pub mod Accounts
+pub mod ShortExtents
 pub mod HostRuns
 pub mod Lengths
+pub mod Short
 pub mod PlainSame
 pub mod Committed
 pub mod Ends

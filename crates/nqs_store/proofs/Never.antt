@@ -26,11 +26,13 @@ abbrev goes_on : List (List ℕ) → Option Host → Option Host
 goes_on payloads so_far = elim so_far [ None ↦ None | Some host ↦ told_from (Some host) payloads ]
 
 -- behind a record that isn't taken nothing is told
-none_told : (so_far : Option Host) (before later : List (List ℕ)) (payload : List ℕ) → record_taken payload (told_from so_far before) ≡ None → told_from so_far (before ++ payload ∷ later) ≡ None
+none_told : (so_far : Option Host) (before later : List (List ℕ)) (payload : List ℕ) → record_taken payload (told_from so_far before) ≡ None
+    → told_from so_far (before ++ payload ∷ later) ≡ None
 none_told so_far [] later payload bad = ap (goes_on later) bad
 none_told so_far (p ∷ before) later payload bad = by (record_taken p so_far) bad (λ h worse. none_told (Some h) before later payload worse)
   where
-    by : (o : Option Host) → record_taken payload (goes_on before o) ≡ None → ((h : Host) → record_taken payload (told_from (Some h) before) ≡ None → told_from (Some h) (before ++ payload ∷ later) ≡ None)
+    by : (o : Option Host) → record_taken payload (goes_on before o) ≡ None
+        → ((h : Host) → record_taken payload (told_from (Some h) before) ≡ None → told_from (Some h) (before ++ payload ∷ later) ≡ None)
         → goes_on (before ++ payload ∷ later) o ≡ None
     by None bad more = refl
     by (Some h) bad more = more h bad
@@ -52,30 +54,34 @@ bad_not size extents place sound bad =
 
 -- none of these faults says that the bytes are no host's
 
-pub host_not : (payloads : List (List ℕ)) (host : Host) (fault : LoadFault) → told payloads ≡ Some host → IsHostFault payloads fault → (which : Which) (place : ℕ) → fault ≡ load.NotNqs which place → ⊥
+pub host_not : (payloads : List (List ℕ)) (host : Host) (fault : LoadFault) → told payloads ≡ Some host → IsHostFault payloads fault
+    → (which : Which) (place : ℕ) → fault ≡ load.NotNqs which place → ⊥
 host_not payloads host (load.Disk disk) tells bad which place is = bad
 host_not payloads host (load.NotNqs Root at) tells bad which place is = bad
 host_not payloads host (load.NotNqs First at) tells bad which place is = untold_not payloads at host tells bad
 host_not payloads host (load.NotNqs Second at) tells bad which place is = bad
 host_not payloads host (load.NotNqs Spool at) tells bad which place is = bad
-host_not payloads host load.Memory tells bad which place is = let no : ⊥ = cc in no
+host_not payloads host (load.Memory memory) tells bad which place is = let no : ⊥ = cc in no
 
-pub extents_not : (size : ℕ) (extents : List Extent) (fault : LoadFault) → AreSound size extents → IsExtentFault size extents fault → (which : Which) (place : ℕ) → fault ≡ load.NotNqs which place → ⊥
+pub extents_not : (size : ℕ) (extents : List Extent) (fault : LoadFault) → AreSound size extents → IsExtentFault size extents fault
+    → (which : Which) (place : ℕ) → fault ≡ load.NotNqs which place → ⊥
 extents_not size extents (load.Disk disk) sound bad which place is = bad
 extents_not size extents (load.NotNqs Root at) sound bad which place is = bad
 extents_not size extents (load.NotNqs First at) sound bad which place is = bad
 extents_not size extents (load.NotNqs Second at) sound bad which place is = bad
 extents_not size extents (load.NotNqs Spool at) sound bad which place is = bad_not size extents at sound bad
-extents_not size extents load.Memory sound bad which place is = let no : ⊥ = cc in no
+extents_not size extents (load.Memory memory) sound bad which place is = let no : ⊥ = cc in no
 
-pub journal_not : (first : List ℕ) (payloads : List (List ℕ)) (fault : JournalFault) (seen : LoadFault) → StandsFor first payloads → faults.IsLoadFault first fault → JournalIsAt fault seen → (which : Which) (place : ℕ) → seen ≡ load.NotNqs which place → ⊥
+pub journal_not : (first : List ℕ) (payloads : List (List ℕ)) (fault : JournalFault) (seen : LoadFault) → StandsFor first payloads
+    → faults.IsLoadFault first fault → JournalIsAt fault seen → (which : Which) (place : ℕ) → seen ≡ load.NotNqs which place → ⊥
 journal_not first payloads journal.Disk seen stands bad at which place is = let no : ⊥ = cc in no
 journal_not first payloads (journal.NotJournal fault) seen stands bad at which place is = no_fault first payloads fault stands bad
 journal_not first payloads journal.TooLong seen stands bad at which place is = bad
 journal_not first payloads journal.Stopped seen stands bad at which place is = bad
-journal_not first payloads journal.Memory seen stands bad at which place is = let no : ⊥ = cc in no
+journal_not first payloads (journal.Memory memory) seen stands bad at which place is = let no : ⊥ = cc in no
 
-read_not : (payloads : List (List ℕ)) (spool : List ℕ) (host : Host) (fault : LoadFault) → told payloads ≡ Some host → AreSound (length spool) (live host) → IsReadFault payloads spool fault → (which : Which) (place : ℕ) → fault ≡ load.NotNqs which place → ⊥
+read_not : (payloads : List (List ℕ)) (spool : List ℕ) (host : Host) (fault : LoadFault) → told payloads ≡ Some host → AreSound (length spool) (live host)
+    → IsReadFault payloads spool fault → (which : Which) (place : ℕ) → fault ≡ load.NotNqs which place → ⊥
 read_not payloads spool host (load.Disk disk) tells sound bad which place is = let no : ⊥ = cc in no
 read_not payloads spool host (load.NotNqs Root at) tells sound bad which place is = bad
 read_not payloads spool host (load.NotNqs First at) tells sound bad which place is = untold_not payloads at host tells bad
@@ -83,18 +89,21 @@ read_not payloads spool host (load.NotNqs Second at) tells sound bad which place
 read_not payloads spool host (load.NotNqs Spool at) tells sound bad which place is =
     let same = same_Some host bad.0 (sym tells ∙ bad.1) in
     bad_not (length spool) (live bad.0) at (subst (λ h. AreSound (length spool) (live h)) same sound) bad.2
-read_not payloads spool host load.Memory tells sound bad which place is = let no : ⊥ = cc in no
+read_not payloads spool host (load.Memory memory) tells sound bad which place is = let no : ⊥ = cc in no
 
-pub load_not : (first spool : List ℕ) (plain : Plain) (fault : LoadFault) → IsTold first spool plain → IsLoadFault first spool fault → (which : Which) (place : ℕ) → fault ≡ load.NotNqs which place → ⊥
+pub load_not : (first spool : List ℕ) (plain : Plain) (fault : LoadFault) → IsTold first spool plain → IsLoadFault first spool fault
+    → (which : Which) (place : ℕ) → fault ≡ load.NotNqs which place → ⊥
 load_not first spool plain fault is_told (inl bad) = journal_not first is_told.payloads bad.0 fault is_told.stands bad.1 bad.2
 load_not first spool plain fault is_told (inr bad) =
     let same = one_reading first bad.0 is_told.payloads bad.1 is_told.stands in
     read_not bad.0 spool is_told.host fault (ap told same ∙ is_told.tells) is_told.sound bad.2
 
 -- the same of the records that were found
-pub found_not : (first spool : List ℕ) (plain : Plain) (found payloads : List (List ℕ)) (fault : LoadFault) → IsTold first spool plain → StandsFor first payloads → found ≡ payloads → IsReadFault found spool fault
+pub found_not : (first spool : List ℕ) (plain : Plain) (found payloads : List (List ℕ)) (fault : LoadFault) → IsTold first spool plain
+    → StandsFor first payloads → found ≡ payloads → IsReadFault found spool fault
     → (which : Which) (place : ℕ) → fault ≡ load.NotNqs which place → ⊥
-found_not first spool plain found payloads fault is_told stands same bad = load_not first spool plain fault is_told (inr (payloads, stands, subst (λ ps. IsReadFault ps spool fault) same bad))
+found_not first spool plain found payloads fault is_told stands same bad =
+    load_not first spool plain fault is_told (inr (payloads, stands, subst (λ ps. IsReadFault ps spool fault) same bad))
 
 -- bytes tell one host
 pub one_host : (bytes : List ℕ) (ps qs : List (List ℕ)) (a b : Host) → StandsFor bytes ps → told ps ≡ Some a → StandsFor bytes qs → told qs ≡ Some b → a ≡ b

@@ -19,7 +19,8 @@ use Rattle.nqs_store.proofs.Extents.{with_first}
 zeros : List (List ℕ) → List ℕ
 zeros puts = map (λ _. 0) puts
 
-first_failed : (h k : History) (put : List ℕ) (later : List (List ℕ)) (place : ℕ) (calls : List Call) → k ≡ extended h calls → StopsShort (put_calls place put) calls → ArePartlyPut (put ∷ later) h k
+first_failed : (h k : History) (put : List ℕ) (later : List (List ℕ)) (place : ℕ) (calls : List Call) → k ≡ extended h calls
+    → StopsShort (put_calls place put) calls → ArePartlyPut (put ∷ later) h k
 first_failed h k put later place calls made short = record {
   places = place ∷ map (λ _. 0) later;
   calls = calls;
@@ -28,10 +29,12 @@ first_failed h k put later place calls made short = record {
   short = stops_before (put_calls place put) (puts_calls (map (λ _. 0) later) later) calls short;
 }
 
-pub first_broken : (h k : History) (puts : List (List ℕ)) (put : List ℕ) (later : List (List ℕ)) → puts ≡ put ∷ later → (place : ℕ) × (calls : List Call) × (k ≡ extended h calls) × StopsShort (put_calls place put) calls → ArePartlyPut puts h k
+pub first_broken : (h k : History) (puts : List (List ℕ)) (put : List ℕ) (later : List (List ℕ)) → puts ≡ put ∷ later
+    → (place : ℕ) × (calls : List Call) × (k ≡ extended h calls) × StopsShort (put_calls place put) calls → ArePartlyPut puts h k
 first_broken h k puts put later is b = subst (λ l. ArePartlyPut l h k) (sym is) (first_failed h k put later b.0 b.1 b.2 b.3)
 
-pub later_broken : (h j k : History) (puts : List (List ℕ)) (put : List ℕ) (later : List (List ℕ)) (place : ℕ) → puts ≡ put ∷ later → j ≡ extended h (put_calls place put) → ArePartlyPut later j k → ArePartlyPut puts h k
+pub later_broken : (h j k : History) (puts : List (List ℕ)) (put : List ℕ) (later : List (List ℕ)) (place : ℕ) → puts ≡ put ∷ later
+    → j ≡ extended h (put_calls place put) → ArePartlyPut later j k → ArePartlyPut puts h k
 later_broken h j k puts put later place is made b = subst (λ l. ArePartlyPut l h k) (sym is) (record {
   places = place ∷ b.places;
   calls = put_calls place put ++ b.calls;
@@ -55,15 +58,18 @@ module _ {D : Type 0} {g : disk.Ghosts D} where
 
   module _ (old mid now : Spool D g) (x : Extent) (put : List ℕ) (tells : (live more : List Extent) → Tells old live → IsWith live x more → Tells mid more)
       (stored : IsTrue g.tells → Holds (content (history_of mid)) x put) where
-    pub more_put : (puts later : List (List ℕ)) (before between after : List Extent) → puts ≡ put ∷ later → between ≡ before ++ x ∷ [] → IsExtent x → (IsTrue g.tells → history_of mid ≡ extended (history_of old) (put_calls x.place put))
-        → (IsTrue g.tells → (live : List Extent) → Tells mid live → (y : Extent) (script : List ℕ) → Has live y → Holds (content (history_of mid)) y script → Holds (content (history_of now)) y script)
+    pub more_put : (puts later : List (List ℕ)) (before between after : List Extent) → puts ≡ put ∷ later → between ≡ before ++ x ∷ [] → IsExtent x
+        → (IsTrue g.tells → history_of mid ≡ extended (history_of old) (put_calls x.place put))
+        → (IsTrue g.tells → (live : List Extent) → Tells mid live → (y : Extent) (script : List ℕ) → Has live y → Holds (content (history_of mid)) y script
+        → Holds (content (history_of now)) y script)
         → ArePut later mid now between after → ArePut puts old now before after
     more_put puts later before between after is pushed small made still rest = subst (λ l. ArePut l old now before after) (sym is) (record {
       added = x ∷ rest.added;
       is = rest.is ∙ ap (λ l. l ++ rest.added) pushed ∙ append_assoc before (x ∷ []) rest.added;
       many = ap suc rest.many;
       small = (small, rest.small);
-      made = λ told. goes_on (history_of old) (history_of mid) (history_of now) (put_calls x.place put) (puts_calls (map place_of rest.added) later) (made told) (rest.made told);
+      made = λ told. goes_on (history_of old) (history_of mid) (history_of now) (put_calls x.place put) (puts_calls (map place_of rest.added) later) (made told)
+          (rest.made told);
       tells = λ live more was adds. rest.tells adds.0 more (tells live adds.0 was adds.1) adds.2;
       held = λ told live was.
           let first = tells live (x ∷ live) was (with_first x live) in
@@ -71,9 +77,12 @@ module _ {D : Type 0} {g : disk.Ghosts D} where
     })
 
     -- what is live stays so
-    pub kept_on : (live : List Extent) (y : Extent) (script : List ℕ) (calls : List Call) → Tells old live → Has live y → history_of now ≡ extended (history_of mid) calls
+    pub kept_on : (live : List Extent) (y : Extent) (script : List ℕ) (calls : List Call) → Tells old live → Has live y
+        → history_of now ≡ extended (history_of mid) calls
         → EachSince (moment (history_of old)) (history_of mid) (λ image. Holds image y script) → Holds (content (history_of mid)) y script
-        → ((more : List Extent) → Tells mid more → Has more y → Holds (content (history_of mid)) y script → EachSince (moment (history_of mid)) (history_of now) (λ image. Holds image y script))
+        → ((more : List Extent) → Tells mid more → Has more y → Holds (content (history_of mid)) y script
+        → EachSince (moment (history_of mid)) (history_of now) (λ image. Holds image y script))
         → EachSince (moment (history_of old)) (history_of now) (λ image. Holds image y script)
     kept_on live y script calls was has made first still rest =
-        each_since_both (history_of old) (history_of mid) (history_of now) calls (λ image. Holds image y script) made first (rest (x ∷ live) (tells live (x ∷ live) was (with_first x live)) (inr has) still)
+        each_since_both (history_of old) (history_of mid) (history_of now) calls (λ image. Holds image y script) made first
+        (rest (x ∷ live) (tells live (x ∷ live) was (with_first x live)) (inr has) still)

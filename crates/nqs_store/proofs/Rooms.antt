@@ -15,32 +15,40 @@ use Rattle.nqs_store.specs.Puts.{place_of}
 use Rattle.nqs_store.specs.Putting.{ArePartlyPut, ArePut, ArePutFor}
 use Rattle.nqs_store.proofs.Loading.{each_disk}
 
-pub same_histories : (old now : Which → History) → now which.Root ≡ old which.Root → now which.First ≡ old which.First → now which.Second ≡ old which.Second → now which.Spool ≡ old which.Spool → (w : Which) → now w ≡ old w
+pub same_histories : (old now : Which → History) → now which.Root ≡ old which.Root → now which.First ≡ old which.First → now which.Second ≡ old which.Second
+    → now which.Spool ≡ old which.Spool → (w : Which) → now w ≡ old w
 same_histories old now = each_disk (λ w. now w ≡ old w)
 
 pub grown : (h k : History) (calls : List Call) → k ≡ extended h calls → moment h ≤ moment k
 grown h k calls is = omega (arith, ap moment is, length-append h.calls calls)
 
-module _ {D : Type 0} {g : disk.Ghosts D} (was now mid : Spool D g) (same : disk_of now ≡ disk_of was) (room : (live : List Extent) → Tells was live → Tells now live) where
+module _ {D : Type 0} {g : disk.Ghosts D} (was now mid : Spool D g) (same : disk_of now ≡ disk_of was)
+    (room : (live : List Extent) → Tells was live → Tells now live) where
   pub broken_from : (puts : List (List ℕ)) → ArePartlyPut puts (history_of now) (history_of mid) → ArePartlyPut puts (history_of was) (history_of mid)
   broken_from puts put = subst (λ d. ArePartlyPut puts (g.history d) (history_of mid)) same put
 
   pub clear_from : (n : ℕ) → AreClear (g.fails (disk_of now)) (moment (history_of now)) n → AreClear (g.fails (disk_of was)) (moment (history_of was)) n
   clear_from n clear = subst (λ d. AreClear (g.fails d) (moment (g.history d)) n) same clear
 
-  pub failing_from : (starved : Bool) (n : ℕ) → IsTrue starved ⊎ (i : ℕ) × FailsFirst (g.fails (disk_of now)) (moment (history_of now)) n i → IsTrue starved ⊎ (i : ℕ) × FailsFirst (g.fails (disk_of was)) (moment (history_of was)) n i
+  pub failing_from : (starved : Bool) (n : ℕ) → IsTrue starved ⊎ (i : ℕ) × FailsFirst (g.fails (disk_of now)) (moment (history_of now)) n i
+      → IsTrue starved ⊎ (i : ℕ) × FailsFirst (g.fails (disk_of was)) (moment (history_of was)) n i
   failing_from starved n fails = subst (λ d. IsTrue starved ⊎ (i : ℕ) × FailsFirst (g.fails d) (moment (g.history d)) n i) same fails
 
   module _ (live : List Extent) (tells : Tells was live) where
-    pub kept_from : ((others : List Extent) → Tells now others → (x : Extent) (script : List ℕ) → Has others x → Holds (content (history_of now)) x script → EachSince (moment (history_of now)) (history_of mid) (λ image. Holds image x script))
-        → EachSince (moment (history_of was)) (history_of mid) (λ image. (x : Extent) (script : List ℕ) → Has live x → Holds (content (history_of was)) x script → Holds image x script)
+    pub kept_from : ((others : List Extent) → Tells now others → (x : Extent) (script : List ℕ) → Has others x → Holds (content (history_of now)) x script
+        → EachSince (moment (history_of now)) (history_of mid) (λ image. Holds image x script))
+        → EachSince (moment (history_of was)) (history_of mid) (λ image. (x : Extent) (script : List ℕ) → Has live x → Holds (content (history_of was)) x script
+        → Holds image x script)
     kept_from kept =
-        subst (λ d. EachSince (moment (g.history d)) (history_of mid) (λ image. (x : Extent) (script : List ℕ) → Has live x → Holds (content (g.history d)) x script → Holds image x script)) same
+        subst (λ d. EachSince (moment (g.history d)) (history_of mid) (λ image. (x : Extent) (script : List ℕ) → Has live x
+        → Holds (content (g.history d)) x script → Holds image x script)) same
         (λ t image from to leaves x script has holds. kept live (room live tells) x script has holds t image from to leaves)
 
-    pub still_from : ((others : List Extent) → Tells now others → (x : Extent) (script : List ℕ) → Has others x → Holds (content (history_of now)) x script → Holds (content (history_of mid)) x script)
+    pub still_from : ((others : List Extent) → Tells now others → (x : Extent) (script : List ℕ) → Has others x → Holds (content (history_of now)) x script
+        → Holds (content (history_of mid)) x script)
         → (x : Extent) (script : List ℕ) → Has live x → Holds (content (history_of was)) x script → Holds (content (history_of mid)) x script
-    still_from still = subst (λ d. (x : Extent) (script : List ℕ) → Has live x → Holds (content (g.history d)) x script → Holds (content (history_of mid)) x script) same (still live (room live tells))
+    still_from still = subst (λ d. (x : Extent) (script : List ℕ) → Has live x → Holds (content (g.history d)) x script
+        → Holds (content (history_of mid)) x script) same (still live (room live tells))
 
   module _ (before after : Change Extent) (puts : List (List ℕ)) (text text' : List ℕ) (as_text : text' ≡ text) where
     pub put_from : ArePutFor before after puts text now mid → ArePutFor before after puts text' was mid
@@ -53,7 +61,8 @@ module _ {D : Type 0} {g : disk.Ghosts D} (was now mid : Spool D g) (same : disk
             is = put.is;
             many = put.many;
             small = put.small;
-            made = λ told. subst (λ d. history_of mid ≡ extended (g.history d) (Rattle.nqs_store.specs.Plan.puts_calls (map place_of put.added) puts)) same (put.made told);
+            made = λ told. subst (λ d. history_of mid ≡ extended (g.history d) (Rattle.nqs_store.specs.Plan.puts_calls (map place_of put.added) puts)) same
+                (put.made told);
             tells = λ live more tells adds. put.tells live more (room live tells) adds;
             held = λ told live tells. put.held told live (room live tells);
           };

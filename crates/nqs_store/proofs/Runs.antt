@@ -1,8 +1,12 @@
 -- Calls of one disk, one part after another.
-use Rattle.std.proofs.Common.{◌≡◌, ◌⊎◌, inl, inr, ℕ, suc, ◌+◌, ◌-◌, ◌<◌, ◌≤◌, Bool, true, false, List, [], ◌∷◌, ◌++◌, take, drop, length, if◌then◌else◌, IsTrue, refl, sym, ap, subst, ◌∙◌, arith, length-append}
+use Rattle.std.proofs.Common.{◌≡◌, ◌⊎◌, inl, inr, ℕ, suc, ◌+◌, ◌-◌, ◌<◌, ◌≤◌, Bool, true, false, List, [], ◌∷◌, ◌++◌, take, drop, length, if◌then◌else◌, IsTrue}
+use Rattle.std.proofs.Common.{refl, sym, ap, subst, ◌∙◌, arith, length-append}
 use Rattle.std.proofs.lemmas.List.{append-nil, take-append-le, drop_at}
-use Rattle.nqs_outside.specs.History.{Call, write, sync, failed, fresh, History, extended, moment, after, state_at, IsImage, EachSince, StopsShort, answered, IsExact}
+use Rattle.nqs_outside.specs.History.{Call, write, sync, failed, fresh, History, extended, moment, after, state_at, IsImage, EachSince, StopsShort, answered}
+use Rattle.nqs_outside.specs.History.{IsExact}
 use Rattle.std.proofs.lemmas.Bool.{cases_lt}
+use Rattle.nqs_values.specs.Want.{want}
+use Rattle.nqs_journal.specs.Plan.{append_calls}
 use Rattle.nqs_spool.specs.Puts.{put_calls}
 use Rattle.nqs_spool.specs.declared.fault.SpoolFault.{SpoolFault}
 use Rattle.nqs_spool.specs.declared.fault.SpoolFault.TheVariants as spool
@@ -19,7 +23,8 @@ earlier xs ys n le = take-append-le n xs ys le
 pub same_before : (j k : History) (calls : List Call) (t : ℕ) → k ≡ extended j calls → t ≤ moment j → state_at k t ≡ state_at j t
 same_before j k calls t is le = ap (λ l. state_at l t) is ∙ ap (after (fresh j.start)) (earlier j.calls calls t le)
 
-pub each_since_both : (h j k : History) (calls : List Call) (P : List ℕ → Type 0) → k ≡ extended j calls → EachSince (moment h) j P → EachSince (moment j) k P → EachSince (moment h) k P
+pub each_since_both : (h j k : History) (calls : List Call) (P : List ℕ → Type 0) → k ≡ extended j calls → EachSince (moment h) j P → EachSince (moment j) k P
+    → EachSince (moment h) k P
 each_since_both h j k calls P is first second = λ t image from to leaves. elim (cases_lt t (moment j)) [
   | inl early ↦ first t image from (omega (arith, early)) (subst (λ s. IsImage s image) (same_before j k calls t is (omega (arith, early))) leaves)
   | inr late ↦ second t image late to leaves
@@ -71,22 +76,40 @@ is_ok (sync ok) = ok
 true_false : true ≡ false → ⊥
 true_false is = absurd (let no : ⊥ = cc in no)
 
-one_ok : (p : Call) (plan : List Call) → AllOk (p ∷ plan) → p ≡ failed p → ⊥
-one_ok (write place bytes ok) plan all is = true_false (sym all.0 ∙ ap is_ok is)
-one_ok (sync ok) plan all is = true_false (sym all.0 ∙ ap is_ok is)
+one_ok : (call p : Call) (calls : List Call) → AllOk (call ∷ calls) → call ≡ failed p → ⊥
+one_ok call p calls all is = true_false (sym (first_ok call calls all) ∙ ap is_ok is ∙ not_ok p)
+  where
+    first_ok : (call : Call) (calls : List Call) → AllOk (call ∷ calls) → is_ok call ≡ true
+    first_ok (write place bytes ok) calls all = all.0
+    first_ok (sync ok) calls all = all.0
+
+    not_ok : (p : Call) → is_ok (failed p) ≡ false
+    not_ok (write place bytes ok) = refl
+    not_ok (sync ok) = refl
 
 later_ok : (p : Call) (plan : List Call) → AllOk (p ∷ plan) → AllOk plan
 later_ok (write place bytes ok) plan all = all.1
 later_ok (sync ok) plan all = all.1
 
-pub never_short : (plan : List Call) → AllOk plan → StopsShort plan plan → ⊥
-never_short [] all short = short
-never_short (p ∷ []) all (inl is) = one_ok p [] all is
-never_short (p ∷ []) all (inr is) = is.1
-never_short (p ∷ next ∷ plan) all short = never_short (next ∷ plan) (later_ok p (next ∷ plan) all) short.1
+-- as many calls as are planned, each answered Ok, don't stop short
+pub never_short : (plan calls : List Call) → length calls ≡ length plan → AllOk calls → StopsShort plan calls → ⊥
+never_short [] calls same all short = short
+never_short (p ∷ plan) [] same all short = absurd (omega (arith, same))
+never_short (p ∷ plan) (call ∷ []) same all (inl is) = one_ok call p [] all is
+never_short (p ∷ []) (call ∷ []) same all (inr is) = is.1
+never_short (p ∷ next ∷ plan) (call ∷ []) same all (inr is) = absurd (omega (arith, same))
+never_short (p ∷ plan) (call ∷ next ∷ calls) same all short = never_short plan (next ∷ calls) (omega (arith, same)) (later_ok call (next ∷ calls) all) short.1
 
 pub same_calls : (h : History) (xs ys : List Call) → extended h xs ≡ extended h ys → xs ≡ ys
 same_calls h xs ys is = sym (drop_at h.calls xs (moment h) refl) ∙ ap (λ (k : History). drop (moment h) k.calls) is ∙ drop_at h.calls ys (moment h) refl
+
+-- where a record's calls stopped short, the journal didn't make the four of a record
+pub no_record : (h k : History) (gate : ℕ) (payload : List ℕ) (calls : List Call) → k ≡ extended h calls → StopsShort (append_calls gate payload) calls
+    → (place : ℕ) (text : List ℕ) → k ≡ extended h (append_calls place text) → ⊥
+no_record h k gate payload calls is short place text made =
+    let same = same_calls h calls (append_calls place text) (sym is ∙ made) in
+    never_short (append_calls gate payload) (append_calls place text) refl (refl, (refl, (refl, (refl, tt))))
+    (subst (StopsShort (append_calls gate payload)) same short)
 
 -- Calls stopped short at the first that was to fail.
 pub record IsCutShort (fails : ℕ → Bool) (from : ℕ) (plan calls : List Call) : Type 0 where
@@ -103,7 +126,8 @@ decided fails from [] = inl refl
 decided fails from (p ∷ plan) = by (fails from) refl (decided fails (from + 1) plan)
   where
     by : (b : Bool) → fails from ≡ b → (answered fails (from + 1) plan ≡ plan) ⊎ IsCutShort fails (from + 1) plan (answered fails (from + 1) plan)
-        → ((if b then failed p ∷ [] else p ∷ answered fails (from + 1) plan) ≡ p ∷ plan) ⊎ IsCutShort fails from (p ∷ plan) (if b then failed p ∷ [] else p ∷ answered fails (from + 1) plan)
+        → ((if b then failed p ∷ [] else p ∷ answered fails (from + 1) plan) ≡ p ∷ plan)
+        ⊎ IsCutShort fails from (p ∷ plan) (if b then failed p ∷ [] else p ∷ answered fails (from + 1) plan)
     by true due rest = inr (record {
       at = 0;
       first = record { within = omega arith; due = ap fails (omega arith) ∙ due; clear = λ i lt. absurd (omega (arith, lt)) };
@@ -112,20 +136,22 @@ decided fails from (p ∷ plan) = by (fails from) refl (decided fails (from + 1)
     by false clear (inl same) = inl (ap (λ l. p ∷ l) same)
     by false clear (inr cut) = inr (record {
       at = 1 + cut.at;
-      first = subst (λ n. FailsFirst fails from n (1 + cut.at)) (one_more (length plan)) (fails_shifted fails from 1 (length plan) cut.at (one clear) cut.first);
+      first = subst (λ n. FailsFirst fails from n (1 + cut.at)) (one_more (length plan))
+          (fails_shifted fails from 1 (length plan) cut.at (one clear) cut.first);
       size = omega (arith, cut.size);
     })
       where
         one : fails from ≡ false → AreClear fails from 1
         one clear i lt = ap fails (omega (arith, lt)) ∙ clear
 
-pub cut_short : (fails : ℕ → Bool) (was now : Bool) (h k : History) (plan calls : List Call) → AllOk plan → k ≡ extended h calls → StopsShort plan calls → IsExact fails was now h k plan
+pub cut_short : (fails : ℕ → Bool) (was now : Bool) (h k : History) (plan calls : List Call) → AllOk plan → k ≡ extended h calls → StopsShort plan calls
+    → IsExact fails was now h k plan
     → IsTrue now ⊎ IsCutShort fails (moment h) plan calls
 cut_short fails was now h k plan calls all is short (inl starved) = inl starved
 cut_short fails was now h k plan calls all is short (inr exact) =
     let same = same_calls h calls (answered fails (moment h) plan) (sym is ∙ exact.1) in
     elim (decided fails (moment h) plan) [
-      | inl whole ↦ absurd (never_short plan all (subst (StopsShort plan) (same ∙ whole) short))
+      | inl whole ↦ absurd (never_short plan plan refl all (subst (StopsShort plan) (same ∙ whole) short))
       | inr cut ↦ inr (subst (IsCutShort fails (moment h) plan) (sym same) cut)
     ]
 
@@ -143,26 +169,30 @@ pub puts_ok : (place : ℕ) (bytes : List ℕ) → AllOk (put_calls place bytes)
 puts_ok place [] = tt
 puts_ok place (b ∷ bytes) = (refl, (refl, tt))
 
-pub failing : (fails : ℕ → Bool) (was now : Bool) (h k : History) (place : ℕ) (bytes : List ℕ) (calls : List Call) → k ≡ extended h calls → StopsShort (put_calls place bytes) calls
+pub failing : (fails : ℕ → Bool) (was now : Bool) (h k : History) (place : ℕ) (bytes : List ℕ) (calls : List Call) → k ≡ extended h calls
+    → StopsShort (put_calls place bytes) calls
     → IsExact fails was now h k (put_calls place bytes) → IsTrue now ⊎ (i : ℕ) × FailsFirst fails (moment h) (spool_calls (bytes ∷ [])) i
-failing fails was now h k place bytes calls is short exact = elim (cut_short fails was now h k (put_calls place bytes) calls (puts_ok place bytes) is short exact) [
-  | inl starved ↦ inl starved
-  | inr cut ↦ inr (cut.at, subst (λ n. FailsFirst fails (moment h) n cut.at) (size_of_one place bytes) cut.first)
-]
+failing fails was now h k place bytes calls is short exact = elim (cut_short fails was now h k (put_calls place bytes) calls
+    (puts_ok place bytes) is short exact) [
+      | inl starved ↦ inl starved
+      | inr cut ↦ inr (cut.at, subst (λ n. FailsFirst fails (moment h) n cut.at) (size_of_one place bytes) cut.first)
+    ]
 
 -- the fault of a call that was neither too long nor in want of room
-pub is_disk : (fault : SpoolFault) → (fault ≡ spool.TooLong → ⊥) → (fault ≡ spool.Memory → ⊥) → fault ≡ spool.Disk
+pub is_disk : (fault : SpoolFault) → (fault ≡ spool.TooLong → ⊥) → (fault ≡ spool.Memory want → ⊥) → fault ≡ spool.Disk
 is_disk spool.TooLong long memory = absurd (long refl)
 is_disk spool.Disk long memory = refl
-is_disk spool.Memory long memory = absurd (memory refl)
+is_disk (spool.Memory refused) long memory = absurd (memory refl)
 
 -- none of a put's calls was to fail
-pub one_clear : (fails : ℕ → Bool) (from : ℕ) (bytes : List ℕ) → (0 < length bytes → (i : ℕ) → i < 2 → fails (from + i) ≡ false) → AreClear fails from (spool_calls (bytes ∷ []))
+pub one_clear : (fails : ℕ → Bool) (from : ℕ) (bytes : List ℕ) → (0 < length bytes → (i : ℕ) → i < 2 → fails (from + i) ≡ false)
+    → AreClear fails from (spool_calls (bytes ∷ []))
 one_clear fails from [] due = λ i lt. absurd (omega (arith, lt))
 one_clear fails from (b ∷ bytes) due = due (omega arith)
 
 -- a put's calls, and then those of other puts
-module _ (h j : History) (fails later : ℕ → Bool) (place : ℕ) (bytes : List ℕ) (puts : List (List ℕ)) (made : j ≡ extended h (put_calls place bytes)) (same : (i : ℕ) → later i ≡ fails i)
+module _ (h j : History) (fails later : ℕ → Bool) (place : ℕ) (bytes : List ℕ) (puts : List (List ℕ)) (made : j ≡ extended h (put_calls place bytes))
+    (same : (i : ℕ) → later i ≡ fails i)
     (clear : AreClear fails (moment h) (spool_calls (bytes ∷ []))) where
   moment_is : moment j ≡ moment h + spool_calls (bytes ∷ [])
   moment_is = ap moment made ∙ length-append h.calls (put_calls place bytes) ∙ ap (λ n. moment h + n) (size_of_one place bytes)
@@ -175,18 +205,26 @@ module _ (h j : History) (fails later : ℕ → Bool) (place : ℕ) (bytes : Lis
 
   pub all_clear : AreClear later (moment j) (spool_calls puts) → AreClear fails (moment h) (spool_calls (bytes ∷ puts))
   all_clear rest =
-      let back = subst (λ f. AreClear f (moment h + spool_calls (bytes ∷ [])) (spool_calls puts)) same_fails (subst (λ t. AreClear later t (spool_calls puts)) moment_is rest) in
+      let back = subst (λ f. AreClear f (moment h + spool_calls (bytes ∷ [])) (spool_calls puts)) same_fails
+      (subst (λ t. AreClear later t (spool_calls puts)) moment_is rest) in
       subst (AreClear fails (moment h)) count_is (both_clear fails (moment h) (spool_calls (bytes ∷ [])) (spool_calls puts) clear back)
 
-  pub later_fails : (now : Bool) → IsTrue now ⊎ (i : ℕ) × FailsFirst later (moment j) (spool_calls puts) i → IsTrue now ⊎ (i : ℕ) × FailsFirst fails (moment h) (spool_calls (bytes ∷ puts)) i
+  pub later_fails : (now : Bool) → IsTrue now ⊎ (i : ℕ) × FailsFirst later (moment j) (spool_calls puts) i
+      → IsTrue now ⊎ (i : ℕ) × FailsFirst fails (moment h) (spool_calls (bytes ∷ puts)) i
   later_fails now (inl starved) = inl starved
   later_fails now (inr at) =
       let n = spool_calls (bytes ∷ []) in
-      let rest = subst (λ f. FailsFirst f (moment h + n) (spool_calls puts) at.0) same_fails (subst (λ t. FailsFirst later t (spool_calls puts) at.0) moment_is at.1) in
-      inr (n + at.0, subst (λ count. FailsFirst fails (moment h) count (n + at.0)) count_is (fails_shifted fails (moment h) n (spool_calls puts) at.0 clear rest))
+      let rest = subst (λ f. FailsFirst f (moment h + n) (spool_calls puts) at.0) same_fails
+      (subst (λ t. FailsFirst later t (spool_calls puts) at.0) moment_is at.1) in
+      inr (
+        n + at.0,
+        subst (λ count. FailsFirst fails (moment h) count (n + at.0)) count_is
+            (fails_shifted fails (moment h) n (spool_calls puts) at.0 clear rest),
+      )
 
 -- the first put failed
-pub first_fails : (fails : ℕ → Bool) (from : ℕ) (bytes : List ℕ) (puts : List (List ℕ)) (now : Bool) → IsTrue now ⊎ (i : ℕ) × FailsFirst fails from (spool_calls (bytes ∷ [])) i → IsTrue now ⊎ (i : ℕ) × FailsFirst fails from (spool_calls (bytes ∷ puts)) i
+pub first_fails : (fails : ℕ → Bool) (from : ℕ) (bytes : List ℕ) (puts : List (List ℕ)) (now : Bool)
+    → IsTrue now ⊎ (i : ℕ) × FailsFirst fails from (spool_calls (bytes ∷ [])) i → IsTrue now ⊎ (i : ℕ) × FailsFirst fails from (spool_calls (bytes ∷ puts)) i
 first_fails fails from bytes puts now (inl starved) = inl starved
 first_fails fails from bytes puts now (inr at) = inr (
   at.0,

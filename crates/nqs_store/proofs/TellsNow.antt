@@ -10,7 +10,7 @@ use Rattle.nqs_store.specs.Images.{IsTold}
 use Rattle.nqs_store.specs.Commits.{EachImage}
 use Rattle.nqs_store.specs.declared.store.Store.{Store}
 
-only_image : (h : History) (image : List ℕ) → IsQuiet h → IsImage (state h) image → content h ≡ image
+pub only_image : (h : History) (image : List ℕ) → IsQuiet h → IsImage (state h) image → content h ≡ image
 only_image h image quiet is = sym (fresh_image (content h) image (subst (λ (s : State). IsImage s image) quiet is))
 
 module _ {D : Type 0} {g : disk.Ghosts D} (store : Store D g) (host : Host) (yes : IsTrue g.tells) (tells : Tells store host) where
@@ -30,4 +30,5 @@ module _ {D : Type 0} {g : disk.Ghosts D} (store : Store D g) (host : Host) (yes
   told_now images leaves =
       let first = only_image (history_of store First) (images First) tells.first.quiet (leaves First) in
       let spool = only_image (history_of store Spool) (images Spool) (tells.spool.quiet yes) (leaves Spool) in
-      subst (λ bytes. IsTold bytes (images Spool) (plain_of store host)) first (subst (λ bytes. IsTold (content (history_of store First)) bytes (plain_of store host)) spool told_by_reads)
+      subst (λ bytes. IsTold bytes (images Spool) (plain_of store host)) first
+      (subst (λ bytes. IsTold (content (history_of store First)) bytes (plain_of store host)) spool told_by_reads)

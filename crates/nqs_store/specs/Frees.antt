@@ -8,7 +8,8 @@ use Rattle.nqs_types.specs.declared.request.Promise.{Promise}
 use Rattle.nqs_types.specs.declared.request.Hand.{Hand}
 use Rattle.nqs_types.specs.declared.request.Peer.{Peer}
 use Rattle.nqs_types.specs.declared.change.Change.{Change}
-use Rattle.nqs_types.specs.declared.change.Change.TheVariants.{Deleted, Ended, Unlaunched, Boot, Edited, HandCommitted, Promised, Accepted, Dropped, StageGot, StageGone, FileGone}
+use Rattle.nqs_types.specs.declared.change.Change.TheVariants.{Deleted, Ended, Unlaunched, Boot, Edited, HandCommitted, Promised, Accepted, Dropped, StageGot}
+use Rattle.nqs_types.specs.declared.change.Change.TheVariants.{StageGone, FileGone}
 use Rattle.nqs_types.specs.declared.edit.Edit.TheVariants.{Conf}
 use Rattle.nqs_types.specs.declared.edit.ConfEdit.TheVariants.{PurgeQueue}
 use Rattle.nqs_rules.specs.Tests.{is_running, same_host, last_u64}

@@ -30,7 +30,8 @@ Runs old now run = (which : Which) → now which ≡ extended (old which) (part 
 -- A moment is a prefix of the run. Whatever images the disks may leave then, they have P.
 abbrev pub EachPrefix : (Which → History) → List HostCall → ((Which → List ℕ) → Type 0) → Type 0
 EachPrefix old run P =
-    (j : ℕ) (images : Which → List ℕ) → j ≤ length run → ((which : Which) → IsImage (after (state (old which)) (part which (take j run))) (images which)) → P images
+    (j : ℕ) (images : Which → List ℕ) → j ≤ length run → ((which : Which) → IsImage (after (state (old which)) (part which (take j run))) (images which))
+    → P images
 
 -- in some run each moment's images have P
 abbrev pub EachMoment : (old now : Which → History) → ((Which → List ℕ) → Type 0) → Type 0

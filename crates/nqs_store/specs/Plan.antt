@@ -21,4 +21,5 @@ commit_calls places puts gate payload = on Spool (puts_calls places puts) ++ on 
 -- Some run leads from what the disks did before to what they did now, and stands so to the calls of a commit of these bytes.
 abbrev pub CommitsBy : (List HostCall → List HostCall → Type 0) → List (List ℕ) → (old now : Which → History) → Type 0
 CommitsBy Stands puts old now =
-    (places : List ℕ) × (gate : ℕ) × (payload : List ℕ) × (run : List HostCall) × (length places ≡ length puts) × Stands (commit_calls places puts gate payload) run × Runs old now run
+    (places : List ℕ) × (gate : ℕ) × (payload : List ℕ) × (run : List HostCall) × (length places ≡ length puts)
+    × Stands (commit_calls places puts gate payload) run × Runs old now run

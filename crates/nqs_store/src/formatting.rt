@@ -1,6 +1,7 @@
 //! The disks of a host that is formatted.
 
 ghost use Rattle.std.specs.Prelude.{◌≡◌, ◌⊎◌, ◌≤◌, ℕ, List, IsTrue, IsErrOf, OnOk, IfOk, IfErr, length, vec_len, ◌++◌, ◌∷◌, [], Ok};
+ghost use Rattle.nqs_values.specs.Want.{want};
 ghost use Rattle.nqs_outside.specs.Causes.{Rose};
 ghost use Rattle.nqs_outside.specs.History.{Call, extended, StopsShort};
 ghost use Rattle.nqs_journal.specs.Text.{header, records};
@@ -19,31 +20,27 @@ use nqs_types::{Change, HostId, Which};
 use nqs_values::{ListOf, Name};
 use std::alloc::Global;
 
-/// Bytes of a record's payload at most.
-const LONGEST: usize = 65_536;
-
-// The record of a change.
+// The record of a change. The limits of its values keep it short.
 pub(crate) fn written(alloc: Global, change: &Change) -> Result<Vec<u8>, StoreFault>
     requires { MayStand change.now }
     ensures text { IfOk result (λ text. text.items ≡ spelling change.now) }
     ensures short { IfOk result (λ text. vec_len text ≤ 65536) }
-    ensures fault { IfErr result (λ fault. fault ≡ StoreFault.Memory) }
+    ensures fault { IfErr result (λ fault. fault ≡ StoreFault.Memory want) }
 {
     let mut text = Vec::new(alloc);
     write_change(alloc, change, &mut text)?;
-    if text.len() > LONGEST {
-        return Err(StoreFault::Memory);
-    }
     Ok(text)
 }
 
-// A record is read as the change that it was written of: a law, which callers call for its contract.
+// A record is read as the change that it was written of: a law, which callers call for its
+// contract.
 pub(crate) fn read_back(text: &[u8], change: &Change)
     ensures { MayStand change.now → text.now ≡ spelling change.now → record_of text.now ≡ Ok change.now }
 {}
 
-/// Makes empty disks those of a host of this site. `Memory` comes before the first call of a disk, and `Disk` says that a
-/// call of `first` failed: the calls before it were made. The other disks are left alone.
+/// Makes empty disks those of a host of this site. `Memory` comes before the first call of a disk,
+/// and `Disk` says that a call of `first` failed: the calls before it were made. The other disks
+/// are left alone.
 pub fn format<D: Disk>(
     alloc: Global,
     disks: &mut Disks<D>,
@@ -52,13 +49,18 @@ pub fn format<D: Disk>(
 ) -> Result<(), StoreFault>
     requires { MayStand (Change.Site me site.now) }
     ensures told { IsTrue D.tells → OnOk result (IsFormatted (D.history disks.new.first) me site.now) }
-    ensures made { IsTrue D.tells → OnOk result (D.history disks.new.first ≡ extended (D.history disks.old.first) (begin_calls (header ++ records (spelling (Change.Site me site.now) ∷ []) ++ 0 ∷ []))) }
-    ensures only { IfErr result (λ fault. (fault ≡ StoreFault.Disk Which.First) ⊎ (fault ≡ StoreFault.Memory)) }
+    ensures made { IsTrue D.tells → OnOk result (D.history disks.new.first
+        ≡ extended (D.history disks.old.first) (begin_calls (header ++ records (spelling (Change.Site me site.now) ∷ []) ++ 0 ∷ []))) }
+    ensures only { IfErr result (λ fault. (fault ≡ StoreFault.Disk Which.First) ⊎ (fault ≡ StoreFault.Memory want)) }
     // At `Disk` just the first of these calls were made, of which only the last may have failed.
-    ensures broken { IsTrue D.tells → IsErrOf result (StoreFault.Disk Which.First) → (calls : List Call) × (D.history disks.new.first ≡ extended (D.history disks.old.first) calls)
+    ensures broken { IsTrue D.tells → IsErrOf result (StoreFault.Disk Which.First) → (calls : List Call)
+        × (D.history disks.new.first ≡ extended (D.history disks.old.first) calls)
         × StopsShort (begin_calls (header ++ records (spelling (Change.Site me site.now) ∷ []) ++ 0 ∷ [])) calls }
-    ensures memory { IsTrue D.tells → IsErrOf result StoreFault.Memory → D.history disks.new.first ≡ D.history disks.old.first }
+    ensures memory { IsTrue D.tells → IsErrOf result (StoreFault.Memory want) → D.history disks.new.first ≡ D.history disks.old.first }
     ensures failed { IsErrOf result (StoreFault.Disk Which.First) → Rose (D.faults disks.old.first) (D.faults disks.new.first) }
+    // Only where the disk is starved, or a call was to fail.
+    ensures cause { IsTrue D.tells → IsErrOf result (StoreFault.Disk Which.First) → IsTrue (D.starved disks.new.first) ⊎ (i : ℕ)
+        × IsTrue (D.fails disks.old.first i) }
     ensures fuse { IsTrue D.tells → (i : ℕ) → D.fails disks.new.first i ≡ D.fails disks.old.first i }
     ensures root { disks.new.root ≡ disks.old.root }
     ensures second { disks.new.second ≡ disks.old.second }
@@ -74,6 +76,8 @@ pub fn format<D: Disk>(
     match format_with(alloc, &mut disks.first, &text) {
         Ok(()) => Ok(()),
         Err(JournalFault::Disk) => Err(StoreFault::Disk(Which::First)),
-        Err(_) => Err(StoreFault::Memory),
+        Err(JournalFault::Memory(memory)) => Err(StoreFault::Memory(memory)),
+        // A format has no other fault.
+        Err(_) => unreachable!(),
     }
 }

@@ -49,7 +49,8 @@ fn free_all<D: Disk, K: Key, V: Keyed<K> + Drop, P: Fn(&V) -> bool, F: Fn(&V) ->
 )
     requires goes { P.IsAlwaysCallable goes }
     requires part { F.IsAlwaysCallable part }
-    ensures tells { (p : V → Bool) (g : V → Extent) → ((v : V) (b : Bool) → FnReturnsAt P.Fn goes v b → b ≡ p v) → ((v : V) (x : Extent) → FnReturnsAt F.Fn part v x → x ≡ g v)
+    ensures tells { (p : V → Bool) (g : V → Extent) → ((v : V) (b : Bool) → FnReturnsAt P.Fn goes v b → b ≡ p v)
+        → ((v : V) (x : Extent) → FnReturnsAt F.Fn part v x → x ≡ g v)
         → (live fewer : List Extent) → Tells spool.old live → Takes live (map g (filter p table.now.items)) fewer → Tells spool.new fewer }
     ensures same { disk_of spool.new ≡ disk_of spool.old }
 {
@@ -105,7 +106,8 @@ fn is_queued_in(row: &Row, queue: &Name) -> bool
 }
 
 fn free_row<D: Disk>(spool: &mut Spool<D>, state: &HostState, id: &RequestId)
-    ensures tells { (live fewer : List Extent) → Tells spool.old live → Takes live (part_of row_part (find_row id.now (content state.now))) fewer → Tells spool.new fewer }
+    ensures tells { (live fewer : List Extent) → Tells spool.old live → Takes live (part_of row_part (find_row id.now (content state.now))) fewer
+        → Tells spool.new fewer }
     ensures same { disk_of spool.new ≡ disk_of spool.old }
 {
     free_one(spool, state.rows.get(id), |row: &Row| row.script);
@@ -113,7 +115,8 @@ fn free_row<D: Disk>(spool: &mut Spool<D>, state: &HostState, id: &RequestId)
 
 // The row of a handover.
 fn free_row_of_hand<D: Disk>(spool: &mut Spool<D>, state: &HostState, key: &PeerNumber)
-    ensures tells { (live fewer : List Extent) → Tells spool.old live → Takes live (row_of_hand (content state.now) (find_hand key.now.peer key.now.number (content state.now))) fewer → Tells spool.new fewer }
+    ensures tells { (live fewer : List Extent) → Tells spool.old live
+        → Takes live (row_of_hand (content state.now) (find_hand key.now.peer key.now.number (content state.now))) fewer → Tells spool.new fewer }
     ensures same { disk_of spool.new ≡ disk_of spool.old }
 {
     if let Some(hand) = state.hands.get(key) {
@@ -122,7 +125,8 @@ fn free_row_of_hand<D: Disk>(spool: &mut Spool<D>, state: &HostState, key: &Peer
 }
 
 fn free_promise<D: Disk>(spool: &mut Spool<D>, state: &HostState, key: &PeerNumber)
-    ensures tells { (live fewer : List Extent) → Tells spool.old live → Takes live (part_of promise_part (find_promise key.now.peer key.now.number (content state.now))) fewer → Tells spool.new fewer }
+    ensures tells { (live fewer : List Extent) → Tells spool.old live
+        → Takes live (part_of promise_part (find_promise key.now.peer key.now.number (content state.now))) fewer → Tells spool.new fewer }
     ensures same { disk_of spool.new ≡ disk_of spool.old }
 {
     free_one(spool, state.promises.get(key), |promise: &Promise| {
@@ -132,7 +136,8 @@ fn free_promise<D: Disk>(spool: &mut Spool<D>, state: &HostState, key: &PeerNumb
 
 // A promise whose request is a row already.
 fn free_doubled<D: Disk>(spool: &mut Spool<D>, state: &HostState, key: &PeerNumber)
-    ensures tells { (live fewer : List Extent) → Tells spool.old live → Takes live (doubled (content state.now) (find_promise key.now.peer key.now.number (content state.now))) fewer → Tells spool.new fewer }
+    ensures tells { (live fewer : List Extent) → Tells spool.old live
+        → Takes live (doubled (content state.now) (find_promise key.now.peer key.now.number (content state.now))) fewer → Tells spool.new fewer }
     ensures same { disk_of spool.new ≡ disk_of spool.old }
 {
     if let Some(promise) = state.promises.get(key) {
@@ -144,7 +149,8 @@ fn free_doubled<D: Disk>(spool: &mut Spool<D>, state: &HostState, key: &PeerNumb
 
 // The bytes of a stage for which no number of a file is left.
 fn free_unnumbered<D: Disk>(spool: &mut Spool<D>, state: &HostState, bytes: &Extent)
-    ensures tells { (live fewer : List Extent) → Tells spool.old live → Takes live (if nat_lt (content state.now).file_next last_u64 then [] else bytes.now ∷ []) fewer → Tells spool.new fewer }
+    ensures tells { (live fewer : List Extent) → Tells spool.old live
+        → Takes live (if nat_lt (content state.now).file_next last_u64 then [] else bytes.now ∷ []) fewer → Tells spool.new fewer }
     ensures same { disk_of spool.new ≡ disk_of spool.old }
 {
     if state.file_next < u64::MAX {
@@ -154,7 +160,8 @@ fn free_unnumbered<D: Disk>(spool: &mut Spool<D>, state: &HostState, bytes: &Ext
 }
 
 fn free_stage<D: Disk>(spool: &mut Spool<D>, state: &HostState, key: &PeerNumber)
-    ensures tells { (live fewer : List Extent) → Tells spool.old live → Takes live (part_of stage_part (find (is_stage (peer_number key.now.peer key.now.number)) (content state.now).stages)) fewer → Tells spool.new fewer }
+    ensures tells { (live fewer : List Extent) → Tells spool.old live
+        → Takes live (part_of stage_part (find (is_stage (peer_number key.now.peer key.now.number)) (content state.now).stages)) fewer → Tells spool.new fewer }
     ensures same { disk_of spool.new ≡ disk_of spool.old }
 {
     free_one(spool, state.stages.get(key), |stage: &Stage| stage.bytes);
@@ -162,7 +169,8 @@ fn free_stage<D: Disk>(spool: &mut Spool<D>, state: &HostState, key: &PeerNumber
 
 // The rows of a queue that is purged.
 fn free_purged<D: Disk>(spool: &mut Spool<D>, state: &HostState, edit: &ConfEdit)
-    ensures tells { (live fewer : List Extent) → Tells spool.old live → Takes live (gone (Change.Edited (Edit.Conf edit.now)) (content state.now)) fewer → Tells spool.new fewer }
+    ensures tells { (live fewer : List Extent) → Tells spool.old live → Takes live (gone (Change.Edited (Edit.Conf edit.now)) (content state.now)) fewer
+        → Tells spool.new fewer }
     ensures same { disk_of spool.new ≡ disk_of spool.old }
 {
     match edit {
@@ -177,7 +185,8 @@ fn free_purged<D: Disk>(spool: &mut Spool<D>, state: &HostState, edit: &ConfEdit
 }
 
 fn free_edited<D: Disk>(spool: &mut Spool<D>, state: &HostState, edit: &Edit)
-    ensures tells { (live fewer : List Extent) → Tells spool.old live → Takes live (gone (Change.Edited edit.now) (content state.now)) fewer → Tells spool.new fewer }
+    ensures tells { (live fewer : List Extent) → Tells spool.old live → Takes live (gone (Change.Edited edit.now) (content state.now)) fewer
+        → Tells spool.new fewer }
     ensures same { disk_of spool.new ≡ disk_of spool.old }
 {
     match edit {
@@ -194,7 +203,8 @@ fn key(peer: HostId, number: u64) -> PeerNumber
 
 // The rows that go at a boot.
 fn free_at_boot<D: Disk>(spool: &mut Spool<D>, state: &HostState)
-    ensures tells { (live fewer : List Extent) → Tells spool.old live → Takes live (map row_part (filter goes_at_boot (content state.now).rows)) fewer → Tells spool.new fewer }
+    ensures tells { (live fewer : List Extent) → Tells spool.old live → Takes live (map row_part (filter goes_at_boot (content state.now).rows)) fewer
+        → Tells spool.new fewer }
     ensures same { disk_of spool.new ≡ disk_of spool.old }
 {
     free_all(spool, &state.rows, goes_at_boot, |row: &Row| row.script);
@@ -202,7 +212,8 @@ fn free_at_boot<D: Disk>(spool: &mut Spool<D>, state: &HostState)
 
 // The promises to a host.
 fn free_promises_of<D: Disk>(spool: &mut Spool<D>, state: &HostState, peer: HostId)
-    ensures tells { (live fewer : List Extent) → Tells spool.old live → Takes live (map promise_part (filter (is_promise_of peer) (content state.now).promises)) fewer → Tells spool.new fewer }
+    ensures tells { (live fewer : List Extent) → Tells spool.old live
+        → Takes live (map promise_part (filter (is_promise_of peer) (content state.now).promises)) fewer → Tells spool.new fewer }
     ensures same { disk_of spool.new ≡ disk_of spool.old }
 {
     free_all(
@@ -214,14 +225,15 @@ fn free_promises_of<D: Disk>(spool: &mut Spool<D>, state: &HostState, peer: Host
 }
 
 fn free_file<D: Disk>(spool: &mut Spool<D>, state: &HostState, file: u64)
-    ensures tells { (live fewer : List Extent) → Tells spool.old live → Takes live (part_of file_part (find (is_file file) (content state.now).files)) fewer → Tells spool.new fewer }
+    ensures tells { (live fewer : List Extent) → Tells spool.old live → Takes live (part_of file_part (find (is_file file) (content state.now).files)) fewer
+        → Tells spool.new fewer }
     ensures same { disk_of spool.new ≡ disk_of spool.old }
 {
     free_one(spool, state.files.get(&file), |file: &FileOut| file.bytes);
 }
 
-/// Frees what a change takes away of the extents of a host, whose state from before the change is given, and what it
-/// doesn't take up of its own. It takes no memory.
+/// Frees what a change takes away of the extents of a host, whose state from before the change is
+/// given, and what it doesn't take up of its own. It takes no memory.
 pub fn free_gone<D: Disk>(spool: &mut Spool<D>, state: &HostState, change: &Change)
     ensures tells { (live fewer : List Extent) → Tells spool.old live → Takes live (gone change.now (content state.now)) fewer → Tells spool.new fewer }
     ensures same { disk_of spool.new ≡ disk_of spool.old }

@@ -10,7 +10,9 @@ ghost use Rattle.nqs_store.specs.Stores.{history_of, Tells, plain_of};
 use crate::store::Store;
 use nqs_outside::Disk;
 
-/// Whatever images the disks of a store may leave now, they tell the host that the store tells, with all bytes.
+/// Whatever images the disks of a store may leave now, they tell the host that the store tells,
+/// with all bytes.
 pub fn what_is_told_is_on_the_disks<D: Disk>(store: &Store<D>)
-    ensures { IsTrue D.tells → (host : Host) → Tells store.now host → EachImage (history_of store.now) (λ images. IsTold (images First) (images Spool) (plain_of store.now host)) }
+    ensures { IsTrue D.tells → (host : Host) → Tells store.now host
+        → EachImage (history_of store.now) (λ images. IsTold (images First) (images Spool) (plain_of store.now host)) }
 {}

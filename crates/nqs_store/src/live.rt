@@ -19,7 +19,8 @@ fn add_parts<K: Key, V: Keyed<K> + Drop, F: Fn(&V) -> Extent>(
     part: F,
 ) -> Result<(), Memory>
     requires { F.IsAlwaysCallable part }
-    ensures { (g : V → Extent) → ((v : V) (x : Extent) → FnReturnsAt F.Fn part v x → x ≡ g v) → OnOk result (extents.new.items ≡ extents.old.items ++ map g table.now.items) }
+    ensures { (g : V → Extent) → ((v : V) (x : Extent) → FnReturnsAt F.Fn part v x → x ≡ g v)
+        → OnOk result (extents.new.items ≡ extents.old.items ++ map g table.now.items) }
 {
     extents.reserve(table.len())?;
     for place in 0..table.len() {

@@ -1,6 +1,8 @@
 //! Calls of an open store that keep nothing.
 
-ghost use Rattle.std.specs.Prelude.{◌≡◌, ◌≢◌, ◌⊎◌, ◌↔◌, ◌<◌, ◌≤◌, ◌+◌, ◌-◌, ◌++◌, ℕ, List, IsTrue, IsErrOf, OnOk, OnErr, IfOk, IfErr, Some, false, length, max, nat_le, vec_capacity};
+ghost use Rattle.std.specs.Prelude.{◌≡◌, ◌≢◌, ◌⊎◌, ◌↔◌, ◌<◌, ◌≤◌, ◌+◌, ◌-◌, ◌^◌, ◌++◌, ℕ, List, IsTrue, IsErrOf, OnOk, OnErr, IfOk, IfErr, Some, false, length};
+ghost use Rattle.std.specs.Prelude.{max, nat_le, vec_capacity};
+ghost use Rattle.nqs_values.specs.Want.{want};
 ghost use Rattle.nqs_state.specs.State.{content};
 ghost use Rattle.nqs_types.specs.declared.world.Which.{Which};
 ghost use Rattle.nqs_types.specs.declared.world.Which.TheVariants.{First, Spool};
@@ -32,16 +34,21 @@ impl<D: Disk> Store<D> {
         self.stopped
     }
 
-    /// Adds the bytes of a live extent to `out`. It takes no memory where there is room for them. An `Err` adds nothing.
+    /// Adds the bytes of a live extent to `out`. It takes no memory where there is room for them.
+    /// An `Err` adds nothing.
     pub fn script(&mut self, extent: &Extent, out: &mut Vec<u8>) -> Result<(), StoreFault>
         ensures stopped { IsErrOf result StoreFault.Stopped ↔ IsTrue (is_stopped self.old) }
         ensures only { IfErr result IsScriptFault }
-        ensures bytes { IsTrue D.tells → OnOk result ((host : Host) → Tells self.old host → Has (live host) extent.now → out.new.items ≡ out.old.items ++ bytes_of self.old extent.now) }
+        ensures bytes { IsTrue D.tells → OnOk result ((host : Host) → Tells self.old host → Has (live host) extent.now
+            → out.new.items ≡ out.old.items ++ bytes_of self.old extent.now) }
         ensures unchanged { OnErr result (out.new.items ≡ out.old.items) }
-        ensures memory { IsErrOf result StoreFault.Memory → vec_capacity out.old < length out.old.items + extent.now.length }
+        // Whatever the disk is, it gives no more bytes than the extent has.
+        ensures few { length out.new.items ≤ length out.old.items + extent.now.length }
+        ensures memory { IsErrOf result (StoreFault.Memory want) → vec_capacity out.old < length out.old.items + extent.now.length }
         ensures failed { IsErrOf result (StoreFault.Disk Spool) → Rose (D.faults (disk_of Spool self.old)) (D.faults (disk_of Spool self.new)) }
         // Only after a call that was to fail.
-        ensures cause { IsTrue D.tells → IsErrOf result (StoreFault.Disk Spool) → (i : ℕ) × (i < moment (history_of self.old Spool)) × IsTrue (fails_of self.old Spool i) }
+        ensures cause { IsTrue D.tells → IsErrOf result (StoreFault.Disk Spool) → (i : ℕ) × (i < moment (history_of self.old Spool))
+            × IsTrue (fails_of self.old Spool i) }
         ensures same { IsTrue D.tells → (which : Which) → history_of self.new which ≡ history_of self.old which }
         ensures fuse { IsTrue D.tells → (which : Which) (i : ℕ) → fails_of self.new which i ≡ fails_of self.old which i }
         ensures starved { IsTrue D.tells → (which : Which) → is_starved self.new which ≡ is_starved self.old which }
@@ -54,23 +61,28 @@ impl<D: Disk> Store<D> {
         }
         match self.spool.get(extent, out) {
             Ok(()) => Ok(()),
-            Err(SpoolFault::Memory) => Err(StoreFault::Memory),
+            Err(SpoolFault::Memory(memory)) => Err(StoreFault::Memory(memory)),
             Err(_) => Err(StoreFault::Disk(Which::Spool)),
         }
     }
 
-    /// Tells the host by what its disks hold now, whatever the store told before. It writes nothing, and the store stays
-    /// as it is. `NotNqs` has the disk and the place of the first test that fails, as in `load`.
+    /// Tells the host by what its disks hold now, whatever the store told before. It writes
+    /// nothing, and the store stays as it is. `NotNqs` has the disk and the place of the first test
+    /// that fails, as in `load`.
     pub fn reread(&mut self, alloc: Global) -> Result<HostState, LoadFault>
-        ensures found { IsTrue D.tells → IfOk result (λ state. (payloads : List (List ℕ)) × StandsFor (bytes_now (history_of self.old First)) payloads × (told payloads ≡ Some (content state))
-            × AreSound (length (bytes_now (history_of self.old Spool))) (live (content state))) }
+        ensures found { IsTrue D.tells → IfOk result (λ state. (payloads : List (List ℕ)) × StandsFor (bytes_now (history_of self.old First)) payloads
+            × (told payloads ≡ Some (content state)) × AreSound (length (bytes_now (history_of self.old Spool))) (live (content state))) }
         ensures fault { IsTrue D.tells → IfErr result (IsLoadFault (bytes_now (history_of self.old First)) (bytes_now (history_of self.old Spool))) }
         ensures told { IsTrue D.tells → (host : Host) → Tells self.old host → IfOk result (λ state. content state ≡ host) }
         ensures sound { IfOk result (λ state. IsSoundHost (content state)) }
+        // Whatever the disks are, its live extents end within 2^40 bytes, and no two meet.
+        ensures extents { IfOk result (λ state. (size : ℕ) × (size ≤ 2 ^ 40) × AreSound size (live (content state))) }
         ensures never { IsTrue D.tells → (host : Host) → Tells self.old host → (which : Which) (place : ℕ) → IsErrOf result (LoadFault.NotNqs which place) → ⊥ }
-        ensures failed { (which : Which) → IsErrOf result (LoadFault.Disk which) → Rose (D.faults (disk_of which self.old)) (D.faults (disk_of which self.new)) }
+        ensures failed { (which : Which) → IsErrOf result (LoadFault.Disk which)
+            → Rose (D.faults (disk_of which self.old)) (D.faults (disk_of which self.new)) }
         // Only after a call that was to fail.
-        ensures cause { IsTrue D.tells → (which : Which) → IsErrOf result (LoadFault.Disk which) → (i : ℕ) × (i < moment (history_of self.old which)) × IsTrue (fails_of self.old which i) }
+        ensures cause { IsTrue D.tells → (which : Which) → IsErrOf result (LoadFault.Disk which) → (i : ℕ) × (i < moment (history_of self.old which))
+            × IsTrue (fails_of self.old which i) }
         ensures same { IsTrue D.tells → (which : Which) → history_of self.new which ≡ history_of self.old which }
         ensures fuse { IsTrue D.tells → (which : Which) (i : ℕ) → fails_of self.new which i ≡ fails_of self.old which i }
         ensures starved { IsTrue D.tells → (which : Which) → is_starved self.new which ≡ is_starved self.old which }
@@ -89,8 +101,9 @@ impl<D: Disk> Store<D> {
 impl<D: Fused> Store<D> {
     ghost use Rattle.nqs_store.specs.Stores.{disk_of, history_of, fails_of, is_starved, is_stopped, Tells};
 
-    /// Makes the calls-th write or sync from here of the disk fail, and each later call of it. It changes nothing else, and
-    /// nothing where a call of that disk that was to fail was made already.
+    /// Makes the calls-th write or sync from here of the disk fail, and each later call of it. It
+    /// changes nothing else, and nothing where a call of that disk that was to fail was made
+    /// already.
     pub fn fuse(&mut self, which: Which, calls: u64)
         ensures same { (disk : Which) → history_of self.new disk ≡ history_of self.old disk }
         ensures set { IsTrue D.tells → ((i : ℕ) → i < moment (history_of self.old which) → fails_of self.old which i ≡ false)

@@ -2,6 +2,7 @@
 
 ghost use Rattle.std.specs.Prelude.{◌≡◌, ◌⊎◌, ◌+◌, ◌<◌, ◌≤◌, ◌++◌, [], ◌∷◌, ℕ, List, IsTrue, OnOk, OnErr, IfOk, IfErr, drop, length, vec_len, vec_capacity};
 ghost use Rattle.std.specs.List.{AllByRecursion};
+ghost use Rattle.nqs_values.specs.Want.{want};
 ghost use Rattle.nqs_values.specs.declared.extent.Extent.{Extent};
 ghost use Rattle.nqs_outside.specs.Causes.{Rose};
 ghost use Rattle.nqs_outside.specs.History.{Call, content, extended, moment, EachSince, StopsShort};
@@ -35,10 +36,12 @@ fn put_one<D: Disk>(spool: &mut Spool<D>, bytes: &[u8]) -> Result<Extent, Failed
     ensures room { room_of spool.old ≤ room_of spool.new + 1 }
     ensures small { IfOk result IsExtent }
     ensures made { IsTrue D.tells → IfOk result (λ extent. history_of spool.new ≡ extended (history_of spool.old) (put_calls extent.place bytes.now)) }
-    ensures broken { IsTrue D.tells → OnErr result ((place : ℕ) × (calls : List Call) × (history_of spool.new ≡ extended (history_of spool.old) calls) × StopsShort (put_calls place bytes.now) calls) }
+    ensures broken { IsTrue D.tells → OnErr result ((place : ℕ) × (calls : List Call) × (history_of spool.new ≡ extended (history_of spool.old) calls)
+        × StopsShort (put_calls place bytes.now) calls) }
     ensures fuse { IsTrue D.tells → (i : ℕ) → D.fails (disk_of spool.new) i ≡ D.fails (disk_of spool.old) i }
     ensures due { IsTrue D.tells → OnOk result (AreClear (D.fails (disk_of spool.old)) (moment (history_of spool.old)) (spool_calls (bytes.now ∷ []))) }
-    ensures failing { IsTrue D.tells → OnErr result (IsTrue (D.starved (disk_of spool.new)) ⊎ (i : ℕ) × FailsFirst (D.fails (disk_of spool.old)) (moment (history_of spool.old)) (spool_calls (bytes.now ∷ [])) i) }
+    ensures failing { IsTrue D.tells → OnErr result (IsTrue (D.starved (disk_of spool.new)) ⊎ (i : ℕ)
+        × FailsFirst (D.fails (disk_of spool.old)) (moment (history_of spool.old)) (spool_calls (bytes.now ∷ [])) i) }
     ensures kept { IsTrue D.tells → (live : List Extent) → Tells spool.old live → (x : Extent) (script : List ℕ) → Has live x
         → Holds (content (history_of spool.old)) x script → EachSince (moment (history_of spool.old)) (history_of spool.new) (λ image. Holds image x script) }
     ensures still { IsTrue D.tells → (live : List Extent) → Tells spool.old live → (x : Extent) (script : List ℕ) → Has live x
@@ -52,8 +55,8 @@ fn put_one<D: Disk>(spool: &mut Spool<D>, bytes: &[u8]) -> Result<Extent, Failed
     }
 }
 
-/// Puts each list of bytes, at most 32,768 of them, and adds its extent. Room was made for them in the spool and in the
-/// list. After a fault the spool is to be closed.
+/// Puts each list of bytes, at most 32,768 of them, and adds its extent. Room was made for them in
+/// the spool and in the list. After a fault the spool is to be closed.
 pub fn put_all<D: Disk>(
     spool: &mut Spool<D>,
     puts: &[Bytes],
@@ -69,7 +72,8 @@ pub fn put_all<D: Disk>(
     ensures grown { IsTrue D.tells → (calls : List Call) × (history_of spool.new ≡ extended (history_of spool.old) calls) }
     ensures broken { IsTrue D.tells → OnErr result (ArePartlyPut puts.now (history_of spool.old) (history_of spool.new)) }
     ensures due { IsTrue D.tells → OnOk result (AreClear (D.fails (disk_of spool.old)) (moment (history_of spool.old)) (spool_calls puts.now)) }
-    ensures failing { IsTrue D.tells → OnErr result (IsTrue (D.starved (disk_of spool.new)) ⊎ (i : ℕ) × FailsFirst (D.fails (disk_of spool.old)) (moment (history_of spool.old)) (spool_calls puts.now) i) }
+    ensures failing { IsTrue D.tells → OnErr result (IsTrue (D.starved (disk_of spool.new)) ⊎ (i : ℕ)
+        × FailsFirst (D.fails (disk_of spool.old)) (moment (history_of spool.old)) (spool_calls puts.now) i) }
     ensures fuse { IsTrue D.tells → (i : ℕ) → D.fails (disk_of spool.new) i ≡ D.fails (disk_of spool.old) i }
 
     // Each image of each moment holds what the live extents hold, and so does what a read gives.
@@ -136,7 +140,7 @@ pub fn prepared<D: Disk>(
     ensures text { IfOk result (λ r. (r.0.items ≡ spelling change.now) × (vec_len r.0 ≤ 65536)) }
     ensures extents { IfOk result (λ r. (r.1.items ≡ []) × (length puts.now ≤ vec_capacity r.1)) }
     ensures room { OnOk result (length puts.now ≤ room_of spool.new) }
-    ensures fault { IfErr result (λ fault. fault ≡ StoreFault.Memory) }
+    ensures fault { IfErr result (λ fault. fault ≡ StoreFault.Memory want) }
     ensures same { disk_of spool.new ≡ disk_of spool.old }
     ensures tells { (live : List Extent) → Tells spool.old live → Tells spool.new live }
 {
@@ -146,7 +150,8 @@ pub fn prepared<D: Disk>(
     Ok((text, extents))
 }
 
-/// Puts the bytes into the spool, and their extents into the change and its record. After a fault the spool is to be closed.
+/// Puts the bytes into the spool, and their extents into the change and its record. After a fault
+/// the spool is to be closed.
 pub fn put_bytes<D: Disk>(
     alloc: Global,
     spool: &mut Spool<D>,
@@ -166,7 +171,8 @@ pub fn put_bytes<D: Disk>(
     ensures unchanged { OnErr result (change.new ≡ change.old) }
     ensures broken { IsTrue D.tells → OnErr result (ArePartlyPut puts.now (history_of spool.old) (history_of spool.new)) }
     ensures due { IsTrue D.tells → OnOk result (AreClear (D.fails (disk_of spool.old)) (moment (history_of spool.old)) (spool_calls puts.now)) }
-    ensures failing { IsTrue D.tells → OnErr result (IsTrue (D.starved (disk_of spool.new)) ⊎ (i : ℕ) × FailsFirst (D.fails (disk_of spool.old)) (moment (history_of spool.old)) (spool_calls puts.now) i) }
+    ensures failing { IsTrue D.tells → OnErr result (IsTrue (D.starved (disk_of spool.new)) ⊎ (i : ℕ)
+        × FailsFirst (D.fails (disk_of spool.old)) (moment (history_of spool.old)) (spool_calls puts.now) i) }
     ensures fuse { IsTrue D.tells → (i : ℕ) → D.fails (disk_of spool.new) i ≡ D.fails (disk_of spool.old) i }
     ensures kept { IsTrue D.tells → (live : List Extent) → Tells spool.old live → (x : Extent) (script : List ℕ) → Has live x
         → Holds (content (history_of spool.old)) x script → EachSince (moment (history_of spool.old)) (history_of spool.new) (λ image. Holds image x script) }

@@ -23,18 +23,20 @@ pub fn append_record<D: Disk>(first: &mut Journal<D>, text: &[u8]) -> Result<(),
     ensures broken { IsTrue D.tells → OnErr result ((calls : List Call) × (history_of first.new ≡ extended (history_of first.old) calls)
         × StopsShort (append_calls (gate_of first.old) text.now) calls) }
     ensures due { IsTrue D.tells → OnOk result (AreClear (D.fails (disk_of first.old)) (moment (history_of first.old)) 4) }
-    ensures exact { IsTrue D.tells → IsExact (D.fails (disk_of first.old)) (D.starved (disk_of first.old)) (D.starved (disk_of first.new)) (history_of first.old) (history_of first.new)
-        (append_calls (gate_of first.old) text.now) }
+    ensures exact { IsTrue D.tells → IsExact (D.fails (disk_of first.old)) (D.starved (disk_of first.old)) (D.starved (disk_of first.new))
+        (history_of first.old) (history_of first.new) (append_calls (gate_of first.old) text.now) }
     ensures fuse { IsTrue D.tells → (i : ℕ) → D.fails (disk_of first.new) i ≡ D.fails (disk_of first.old) i }
     ensures any_moment { IsTrue D.tells → (front : List ℕ) (payloads : List (List ℕ)) → Tells first.old front payloads
         → EachSince (moment (history_of first.old)) (history_of first.new) (BeforeOrAfter front payloads text.now) }
-    ensures acknowledged { IsTrue D.tells → OnOk result ((front : List ℕ) (payloads : List (List ℕ)) → Tells first.old front payloads → Tells first.new front (payloads ++ text.now ∷ [])) }
+    ensures acknowledged { IsTrue D.tells → OnOk result ((front : List ℕ) (payloads : List (List ℕ)) → Tells first.old front payloads
+        → Tells first.new front (payloads ++ text.now ∷ [])) }
     ensures until_third { IsTrue D.tells → (front : List ℕ) (payloads : List (List ℕ)) → Tells first.old front payloads
         → (t : ℕ) (image : List ℕ) → moment (history_of first.old) ≤ t → t ≤ moment (history_of first.old) + 2 → t ≤ moment (history_of first.new)
         → MayLeave (history_of first.new) t image → StandsAfter front image payloads }
     ensures at_the_gate { IsTrue D.tells → OnErr result ((front : List ℕ) (payloads : List (List ℕ)) → Tells first.old front payloads
         → (t : ℕ) → moment (history_of first.old) + 3 ≤ t → t ≤ moment (history_of first.new)
-        → IsAtGate (state_at (history_of first.new) t) (gate_of first.old) (λ image. StandsAfter front image payloads) (λ image. StandsAfter front image (payloads ++ text.now ∷ []))) }
+        → IsAtGate (state_at (history_of first.new) t) (gate_of first.old)
+        (λ image. StandsAfter front image payloads) (λ image. StandsAfter front image (payloads ++ text.now ∷ []))) }
 {
     match first.append(text) {
         Ok(()) => Ok(()),

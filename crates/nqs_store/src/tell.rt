@@ -1,8 +1,9 @@
-//! The host that the records of a journal tell: each is a change, and fits what those before it tell.
+//! The host that the records of a journal tell: each is a change, and fits what those before it
+//! tell.
 //!
-//! Only a start makes a request run, and a boot leaves none running. So those that started since the last boot are kept
-//! beside the host, and a boot looks at these alone: a journal is told in the time of its records, however many of them
-//! are boots.
+//! Only a start makes a request run, and a boot leaves none running. So those that started since
+//! the last boot are kept beside the host, and a boot looks at these alone: a journal is told in
+//! the time of its records, however many of them are boots.
 
 ghost use Rattle.std.specs.Prelude.{◌≡◌, ◌≤◌, ◌^◌, ◌++◌, [], length, IfOk, IfErr, OnOk, Ok, Err, Some, None, IsTrue};
 ghost use Rattle.nqs_state.specs.State.{content};
@@ -19,6 +20,7 @@ ghost use Rattle.nqs_records.specs.declared.fault.RecordFault.{RecordFault};
 ghost use Rattle.nqs_store.specs.Told.{record_taken, told};
 ghost use Rattle.nqs_store.specs.Sound.{IsSoundHost};
 ghost use Rattle.nqs_store.specs.TellFaults.{IsRefused, IsTellFault};
+ghost use Rattle.nqs_values.specs.Want.{want};
 
 use nqs_changes::boot::boot_running;
 use nqs_host::{apply, fits, formatted};
@@ -34,20 +36,20 @@ const HEADER: u64 = 16;
 const FRAME: u64 = 5;
 
 /// Why records tell no host.
-#[derive(Clone, Copy)]
+#[derive(Drop)]
 pub enum TellFault {
     /// There is none, or the gate of the first that isn't taken stands at this place.
     Untold(u64),
-    Memory,
+    Memory(Memory),
 }
 
 impl From<Memory> for TellFault {
     ghost use Rattle.nqs_store.specs.declared.tell.TellFault.TheVariants as fault;
 
-    ghost from_gives = { λ _ e. e ≡ fault.Memory };
+    ghost from_gives = { λ _ e. e ≡ fault.Memory want };
 
-    fn from(_: Memory) -> TellFault {
-        TellFault::Memory
+    fn from(memory: Memory) -> TellFault {
+        TellFault::Memory(memory)
     }
 }
 
@@ -58,14 +60,15 @@ fn change_of(alloc: Global, place: u64, payload: &[u8]) -> Result<Change, TellFa
 {
     match read_change(alloc, payload) {
         Ok(change) => Ok(change),
-        Err(RecordFault::Memory) => Err(TellFault::Memory),
+        Err(RecordFault::Memory(memory)) => Err(TellFault::Memory(memory)),
         Err(_) => Err(TellFault::Untold(place)),
     }
 }
 
 // The host that is formatted by the first record.
 fn first_host(alloc: Global, payload: &[u8]) -> Result<HostState, TellFault>
-    ensures ok { IfOk result (λ state. (record_taken payload.now None ≡ Some (content state)) × IsSoundHost (content state) × IsTrue (runs_only [] (content state))) }
+    ensures ok { IfOk result (λ state. (record_taken payload.now None ≡ Some (content state)) × IsSoundHost (content state)
+        × IsTrue (runs_only [] (content state))) }
     ensures err { IfErr result (IsRefused 16 (record_taken payload.now None ≡ None)) }
 {
     match change_of(alloc, HEADER, payload)? {
@@ -74,7 +77,8 @@ fn first_host(alloc: Global, payload: &[u8]) -> Result<HostState, TellFault>
     }
 }
 
-// Makes a change that fits, and keeps which requests may run after it. For want of memory it isn't made.
+// Makes a change that fits, and keeps which requests may run after it. For want of memory it isn't
+// made.
 fn make_change(
     state: &mut HostState,
     running: &mut Vec<RequestId>,

@@ -13,12 +13,14 @@ use Rattle.nqs_table.specs.Standing.{StandsFor, StandForEach}
 use Rattle.nqs_table.specs.Shown.{no_bytes, bare}
 
 -- what is kept of two images of a list, where the images are kept and mapped alike
-kept-alike : {A V W : Type 0} (p q : V → Bool) (g h : A → V) (m : V → W) → ((a : A) → p (g a) ≡ q (h a)) → ((a : A) → m (g a) ≡ m (h a)) → (xs : List A) → map m (filter p (map g xs)) ≡ map m (filter q (map h xs))
+kept-alike : {A V W : Type 0} (p q : V → Bool) (g h : A → V) (m : V → W) → ((a : A) → p (g a) ≡ q (h a)) → ((a : A) → m (g a) ≡ m (h a)) → (xs : List A)
+    → map m (filter p (map g xs)) ≡ map m (filter q (map h xs))
 kept-alike p q g h m tests same [] = refl
 kept-alike p q g h m tests same (a ∷ xs) =
     ap (λ b. map m (cond b (g a ∷ filter p (map g xs)) (filter p (map g xs)))) (tests a) ∙ by (q (h a)) (kept-alike p q g h m tests same xs)
   where
-    by : (b : Bool) → map m (filter p (map g xs)) ≡ map m (filter q (map h xs)) → map m (cond b (g a ∷ filter p (map g xs)) (filter p (map g xs))) ≡ map m (cond b (h a ∷ filter q (map h xs)) (filter q (map h xs)))
+    by : (b : Bool) → map m (filter p (map g xs)) ≡ map m (filter q (map h xs))
+        → map m (cond b (g a ∷ filter p (map g xs)) (filter p (map g xs))) ≡ map m (cond b (h a ∷ filter q (map h xs)) (filter q (map h xs)))
     by true rest = (λ j. same a j ∷ rest j)
     by false rest = rest
 
@@ -31,15 +33,18 @@ committed-bare h n (state ∷ states) (plain ∷ plains) stand zero = ap (is_com
 committed-bare h n (state ∷ states) (plain ∷ plains) stand (suc i) = committed-bare h n states plains stand.1 i
 
 module _ (states : List HostState) (plains : List Plain) (stand : StandForEach states plains) (h : HostId) where
-  entries-bare : (bytes : Extent → List ℕ) (state : HostState) → entries_at plains h (map_state bytes (content state)) ≡ entries_at (map bare states) h (bare state)
+  entries-bare : (bytes : Extent → List ℕ) (state : HostState) → entries_at plains h (map_state bytes (content state))
+      ≡ entries_at (map bare states) h (bare state)
   entries-bare bytes state =
       (λ j. map-mapped (row_entry h) (map_row no_bytes) (map_row bytes) (row_entry h) (λ r. refl) (content state).rows j
-      ++ kept-alike (is_arriving plains h) (is_arriving (map bare states) h) (map_promise bytes) (map_promise no_bytes) (promise_entry h) (λ p. committed-bare h p.number states plains stand p.peer.0) (λ p. refl) (content state).promises j)
+      ++ kept-alike (is_arriving plains h) (is_arriving (map bare states) h) (map_promise bytes) (map_promise no_bytes) (promise_entry h)
+      (λ p. committed-bare h p.number states plains stand p.peer.0) (λ p. refl) (content state).promises j)
 
   table_at-bare : (state : HostState) (plain : Plain) → StandsFor state plain → table_at plains h plain ≡ table_at (map bare states) h (bare state)
   table_at-bare state plain stands = ap (table_at plains h) (sym stands.1) ∙ ap (λ es. map table_row (by_request es)) (entries-bare stands.0 state)
 
-table_from-bare : (states : List HostState) (plains : List Plain) → StandForEach states plains → (place : ℕ) (rest : List HostState) (others : List Plain) → StandForEach rest others
+table_from-bare : (states : List HostState) (plains : List Plain) → StandForEach states plains → (place : ℕ) (rest : List HostState) (others : List Plain)
+    → StandForEach rest others
     → table_from place plains others ≡ table_from place (map bare states) (map bare rest)
 table_from-bare states plains stand place [] [] each = refl
 table_from-bare states plains stand place [] (plain ∷ others) each = absurd each

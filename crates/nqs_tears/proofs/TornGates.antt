@@ -1,5 +1,6 @@
 -- A tear leaves 1 at the gate just where it keeps the gate, and so the meaning that goes with it.
-use Rattle.std.proofs.Common.{◌≡◌, ◌≢◌, ℕ, zero, suc, ◌+◌, ◌<◌, ◌%◌, ◌==◌, nat_le, nat_lt, Bool, true, false, ◌&&◌, ◌||◌, List, [], ◌∷◌, length, get_or, refl, sym, ap, subst, ◌∙◌, arith}
+use Rattle.std.proofs.Common.{◌≡◌, ◌≢◌, ℕ, zero, suc, ◌+◌, ◌<◌, ◌%◌, ◌==◌, nat_le, nat_lt, Bool, true, false, ◌&&◌, ◌||◌, List, [], ◌∷◌, length, get_or, refl}
+use Rattle.std.proofs.Common.{sym, ap, subst, ◌∙◌, arith}
 use Rattle.std.specs.Prelude.{if◌then◌else◌, MatchBool}
 use Rattle.std.proofs.lemmas.List.{get_or-take}
 use Rattle.std.proofs.lemmas.Bool.Decides.{nat_tests}
@@ -37,7 +38,8 @@ picked : (m old : ℕ) → old ≢ 1 → IsTold (m == 1) (pick m old 1)
 picked zero old shut = shut
 picked (suc zero) old shut = refl
 picked (suc (suc zero)) old shut = λ e. omega arith
-picked (suc (suc (suc more))) old shut = let no : (suc (suc (suc more)) == 1) ≡ false = grind (arith, nat_tests) in subst (λ b. IsTold b 255) (sym no) (λ e. omega arith)
+picked (suc (suc (suc more))) old shut = let no : (suc (suc (suc more)) == 1) ≡ false = grind (arith, nat_tests) in
+    subst (λ b. IsTold b 255) (sym no) (λ e. omega arith)
 
 no_bits : (n : ℕ) → bits n 0 ≡ n % 4
 no_bits n = omega arith
@@ -48,10 +50,13 @@ below_either false long short = short
 
 module _ (s : State) (gate : ℕ) where
   before_gate : s.ranges ≡ (gate, 1) ∷ [] → gate < length s.synced → (j : ℕ) → j < gate → is_free s (0 + j) ≡ false
-  before_gate pending within j below = ap (λ r. covers r (0 + j) || nat_le (length s.synced) (0 + j)) pending ∙ (let no : ((nat_le gate (0 + j) && nat_lt (0 + j) (gate + 1)) || false || nat_le (length s.synced) (0 + j)) ≡ false = grind (arith, nat_tests) in no)
+  before_gate pending within j below = ap (λ r. covers r (0 + j) || nat_le (length s.synced) (0 + j)) pending
+      ∙ (let no : ((nat_le gate (0 + j) && nat_lt (0 + j) (gate + 1)) || false || nat_le (length s.synced) (0 + j)) ≡ false = grind (arith, nat_tests) in no)
 
   at_gate : s.ranges ≡ (gate, 1) ∷ [] → is_free s (0 + gate) ≡ true
-  at_gate pending = ap (λ r. covers r (0 + gate) || nat_le (length s.synced) (0 + gate)) pending ∙ (let yes : ((nat_le gate (0 + gate) && nat_lt (0 + gate) (gate + 1)) || false || nat_le (length s.synced) (0 + gate)) ≡ true = grind (arith, nat_tests) in yes)
+  at_gate pending = ap (λ r. covers r (0 + gate) || nat_le (length s.synced) (0 + gate)) pending
+      ∙ (let yes : ((nat_le gate (0 + gate) && nat_lt (0 + gate) (gate + 1)) || false || nat_le (length s.synced) (0 + gate)) ≡ true =
+      grind (arith, nat_tests) in yes)
 
   mixed_gate : (n : ℕ) → IsAtGate s gate Anything Anything → IsTold (n % 4 == 1) (get_or (mixed n s) gate 0)
   mixed_gate n g =
@@ -73,7 +78,16 @@ torn_gate s gate (Mixed n) g = mixed_gate s gate n g
 -- what the torn bytes mean
 module _ (s : State) (gate : ℕ) (Shut Wide : List ℕ → Type 0) (g : IsAtGate s gate Shut Wide) where
   any_meaning : IsAtGate s gate Anything Anything
-  any_meaning = record { pending = g.pending; within = g.within; same_length = g.same_length; shut = g.shut; wide = g.wide; if_shut = λ image is byte. tt; if_wide = λ image is byte. tt }
+  any_meaning = record {
+    pending = g.pending;
+    within = g.within;
+    same_length = g.same_length;
+    shut = g.shut;
+    wide = g.wide;
+    if_shut =
+        λ image is byte. tt;
+    if_wide = λ image is byte. tt;
+  }
 
   pub torn_means : (tear : Tear) → IsImage s (torn tear s) → MatchBool (keeps_gate tear) (Wide (torn tear s)) (Shut (torn tear s))
   torn_means tear image = by (keeps_gate tear) (torn_gate s gate tear any_meaning)

@@ -12,4 +12,5 @@ Anything image = Unit {0}
 
 -- the torn bytes have 1 at the gate just where the tear keeps it
 abbrev pub TearsDecide : Type 0
-TearsDecide = (s : State) (gate : ℕ) (tear : Tear) → IsAtGate s gate Anything Anything → MatchBool (keeps_gate tear) (slice_index (torn tear s) gate ≡ 1) (slice_index (torn tear s) gate ≢ 1)
+TearsDecide = (s : State) (gate : ℕ) (tear : Tear) → IsAtGate s gate Anything Anything
+    → MatchBool (keeps_gate tear) (slice_index (torn tear s) gate ≡ 1) (slice_index (torn tear s) gate ≢ 1)

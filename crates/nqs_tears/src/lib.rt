@@ -6,7 +6,8 @@
 
 ghost use Rattle.nqs_tears.specs.Gates.{TearsDecide};
 
-/// While only the gate is pending, a tear leaves 1 there just where the rules say that it keeps the gate.
+/// While only the gate is pending, a tear leaves 1 there just where the rules say that it keeps the
+/// gate.
 pub fn gates_are_torn()
     ensures { TearsDecide }
 {}

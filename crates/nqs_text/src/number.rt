@@ -28,7 +28,8 @@ fn first_other(bytes: &[u8]) -> Option<usize>
     bytes.iter().position(|byte| !is_digit(*byte))
 }
 
-/// The number that digits write; none where it is past 18,446,744,073,709,551,615. It takes no memory.
+/// The number that digits write; none where it is past 18,446,744,073,709,551,615. It takes no
+/// memory.
 pub fn decimal(bytes: &[u8]) -> Option<u64>
     ensures { MatchOption result (2 ^ 64 ≤ decimal bytes.now) (λ number. number ≡ decimal bytes.now) }
 {

@@ -1,6 +1,6 @@
-//! The program `nqs` tried for real. With words it is `nqs` itself, so that it can start itself as a daemon, a client or a
-//! shepherd. Without words it makes a site of two hosts in a new folder, submits, hands over, fetches the outputs and shuts
-//! the daemons down, and prints what came of it.
+//! The program `nqs` tried for real. With words it is `nqs` itself, so that it can start itself as
+//! a daemon, a client or a shepherd. Without words it makes a site of two hosts in a new folder,
+//! submits, hands over, fetches the outputs and shuts the daemons down, and prints what came of it.
 #![tactic(auto)]
 
 mod site;

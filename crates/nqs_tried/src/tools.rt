@@ -79,7 +79,8 @@ pub fn waits_for_none(rt: &HostRuntime, dir: &str, host: &str) -> io::Result<boo
     Ok(false)
 }
 
-/// The output at a path of a host, for which the host is told to tick until it is there, at most 1,000 times.
+/// The output at a path of a host, for which the host is told to tick until it is there, at most
+/// 1,000 times.
 pub fn output_of(rt: &HostRuntime, dir: &str, host: &str, path: &str) -> io::Result<String> {
     let place = format!(in rt.alloc(); "{dir}/{host}/output/{path}")?;
     for _ in 0..1000 {

@@ -1,4 +1,5 @@
-//! What is tried: one host with a job and its output, then two hosts with a handover and an output that is staged back.
+//! What is tried: one host with a job and its output, then two hosts with a handover and an output
+//! that is staged back.
 
 use crate::site::make_site;
 use crate::tools::{output_of, run, run_on, start_daemon, waits_for_none};

@@ -12,7 +12,8 @@ pub struct OutPart<E: Copy + Drop = Extent> {
     pub bytes: E,
 }
 
-/// A change of a host's state. `E` stands for stored bytes: their extent of the spool, or the bytes.
+/// A change of a host's state. `E` stands for stored bytes: their extent of the spool, or the
+/// bytes.
 #[derive(Drop)]
 pub enum Change<E: Copy + Drop = Extent> {
     /// The host is formatted: which one it is, and the hosts of its site.

@@ -24,7 +24,8 @@ pub struct Submission {
 pub enum Command {
     Submit(Submission),
     Edit(Edit),
-    /// The requests of these queues, or of all where there are none, and of this user where one is given.
+    /// The requests of these queues, or of all where there are none, and of this user where one is
+    /// given.
     Stat {
         user: Option<Name>,
         queues: NameList,
@@ -96,7 +97,8 @@ pub enum Reply {
     UnreadWords(WordsFault),
 }
 
-/// What a launcher or a printer is told of a job. The limits are the request's, and where it states none the queue's.
+/// What a launcher or a printer is told of a job. The limits are the request's, and where it states
+/// none the queue's.
 #[derive(Clone, Copy, Debug, PartialEq, Eq)]
 pub struct LaunchOrder {
     pub id: RequestId,
@@ -159,8 +161,9 @@ pub struct PlanRead {
     pub extent: Extent,
 }
 
-/// What one step is to do: at most one change, whose extents aren't chosen yet, the lists of bytes to be
-/// stored for them in order, what goes out, and the outputs whose bytes are still to be read from the spool.
+/// What one step is to do: at most one change, whose extents aren't chosen yet, the lists of bytes
+/// to be stored for them in order, what goes out, and the outputs whose bytes are still to be read
+/// from the spool.
 pub struct Plan {
     pub change: Option<Change>,
     pub puts: Items<Bytes>,
@@ -168,7 +171,8 @@ pub struct Plan {
     pub reads: ListOf<PlanRead>,
 }
 
-// Written out, so that a plan is let go by a call, and not change by change in each function that owns one.
+// Written out, so that a plan is let go by a call, and not change by change in each function that
+// owns one.
 impl Drop for Plan {
     fn drop(self) {
         let Plan {
@@ -181,7 +185,8 @@ impl Drop for Plan {
 }
 
 impl Plan {
-    /// Takes the plan apart: the change, the bytes to be stored, what goes out, and what is to be read.
+    /// Takes the plan apart: the change, the bytes to be stored, what goes out, and what is to be
+    /// read.
     pub fn into_parts(
         self,
     ) -> (

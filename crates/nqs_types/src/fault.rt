@@ -9,9 +9,9 @@ pub enum GrammarFault {
     Extra(u64),
     BadName(u64),
     BadNumber(u64),
-    Memory,
 }
 
+/// Why the words of a command can't be read.
 #[derive(Clone, Copy, Debug, PartialEq, Eq)]
 pub enum WordsCause {
     Unknown,
@@ -24,7 +24,6 @@ pub enum WordsCause {
     BadMoment,
     BadPath,
     ScriptTooLong,
-    Memory,
 }
 
 /// The first fault of the words of a command.

@@ -1,5 +1,5 @@
-//! The types that the crates of the rules share: requests, queues, the changes of a host's state, commands, datagrams,
-//! and the events of schedules. `docs/rules.md` says what they are for.
+//! The types that the crates of the rules share: requests, queues, the changes of a host's state,
+//! commands, datagrams, and the events of schedules. `docs/rules.md` says what they are for.
 #![tactic(auto)]
 
 mod change;

@@ -1,4 +1,5 @@
-//! Datagrams. A datagram is copied variant by variant, one function for each that holds memory of its own.
+//! Datagrams. A datagram is copied variant by variant, one function for each that holds memory of
+//! its own.
 ghost use Rattle.std.specs.Prelude.{◌≡◌, IfOk};
 ghost use Rattle.nqs_types.specs.declared.message.Body.TheVariants.{Offer, Stage, Ask, Answer, Ended};
 

@@ -46,7 +46,8 @@ pub struct QueueDef {
     pub devices: NameList,
 }
 
-// Written out, so that a queue is let go by a call, and not field by field in each function that owns one.
+// Written out, so that a queue is let go by a call, and not field by field in each function that
+// owns one.
 impl Drop for QueueDef {
     fn drop(self) {
         let QueueDef {

@@ -59,7 +59,8 @@ pub struct Job {
     pub join: bool,
 }
 
-// Written out, so that a job is let go by a call, and not field by field in each function that owns one.
+// Written out, so that a job is let go by a call, and not field by field in each function that owns
+// one.
 impl Drop for Job {
     fn drop(self) {
         let Job {
@@ -121,7 +122,8 @@ pub struct Row<E: Copy + Drop = Extent> {
     pub script: E,
 }
 
-// Written out, so that a request is let go by a call, and not field by field in each function that owns one.
+// Written out, so that a request is let go by a call, and not field by field in each function that
+// owns one.
 impl<E: Copy + Drop> Drop for Row<E> {
     fn drop(self) {
         let Row {

@@ -1,4 +1,5 @@
-use Rattle.std.proofs.Common.{◌≡◌, ℕ, zero, suc, ◌<◌, ◌≤◌, List, [], ◌∷◌, length, arith, refl, ap, Some, None, Ok, Err, cond, Bool, true, false, get_or, IsTrue, nat_le}
+use Rattle.std.proofs.Common.{◌≡◌, ℕ, zero, suc, ◌<◌, ◌≤◌, List, [], ◌∷◌, length, arith, refl, ap, Some, None, Ok, Err, cond, Bool, true, false, get_or, IsTrue}
+use Rattle.std.proofs.Common.{nat_le}
 use Rattle.std.proofs.lemmas.Bool.{and_parts, and_from}
 use Rattle.std.proofs.lemmas.List.Sums.{AllPass-from_list_all}
 use Rattle.std.specs.List.{list_all}

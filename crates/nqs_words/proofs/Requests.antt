@@ -1,5 +1,6 @@
 -- Requests are read as they are written.
-use Rattle.std.proofs.Common.{◌≡◌, ◌≢◌, ◌⊎◌, inl, inr, ℕ, zero, suc, ◌+◌, ◌<◌, ◌≤◌, List, [], ◌∷◌, ◌++◌, length, take, drop, get_or, All, arith, refl, ap, sym, subst, ◌∙◌, append_assoc, Some, None, Option, Result, Ok, Err, Bool, true, false, cond, not, ◌&&◌, ◌==◌, nat_lt, nat_le, is_none}
+use Rattle.std.proofs.Common.{◌≡◌, ◌≢◌, ◌⊎◌, inl, inr, ℕ, zero, suc, ◌+◌, ◌<◌, ◌≤◌, List, [], ◌∷◌, ◌++◌, length, take, drop, get_or, All, arith, refl, ap, sym}
+use Rattle.std.proofs.Common.{subst, ◌∙◌, append_assoc, Some, None, Option, Result, Ok, Err, Bool, true, false, cond, not, ◌&&◌, ◌==◌, nat_lt, nat_le, is_none}
 use Rattle.std.specs.List.{position_or_len}
 use Rattle.std.proofs.lemmas.Bool.{and_parts, and_from, eqb-true}
 use Rattle.std.proofs.lemmas.Bool.Decides.{nat_tests}
@@ -42,7 +43,8 @@ is_before n m h = grind (arith, nat_tests)
 place-plain : (front : List ℕ) → IsPlain front → place_of 46 front ≡ None
 unfolding place_of
 place-plain front h =
-    let e : position_or_len (λ b. b == 46) front ≡ length front = subst (λ (l : List ℕ). position_or_len (λ b. b == 46) l ≡ length front) (append-nil front) (before front [] h (inl refl)) in
+    let e : position_or_len (λ b. b == 46) front ≡ length front = subst (λ (l : List ℕ). position_or_len (λ b. b == 46) l ≡ length front) (append-nil front)
+    (before front [] h (inl refl)) in
     rw (e, not_before (length front)) refl
 
 place-point : (front behind : List ℕ) → IsPlain front → place_of 46 (front ++ 46 ∷ behind) ≡ Some (length front)
@@ -61,9 +63,11 @@ named-point front behind h =
     let text = front ++ 46 ∷ behind in
     let front_is : take (length front) text ≡ front = take_at front (46 ∷ behind) (length front) refl in
     let behind_is : drop (length front + 1) text ≡ behind =
-    ap (drop (length front + 1)) (sym (append_assoc front (46 ∷ []) behind)) ∙ drop_at (front ++ 46 ∷ []) behind (length front + 1) (length-append front (46 ∷ [])) in
+    ap (drop (length front + 1)) (sym (append_assoc front (46 ∷ []) behind))
+    ∙ drop_at (front ++ 46 ∷ []) behind (length front + 1) (length-append front (46 ∷ [])) in
     ap (λ (o : Option ℕ). split_named o text) (place-point front behind h)
-    ∙ (ap (λ (l : List ℕ). of_parts (seq_of l) (name_of (drop (length front + 1) text))) front_is ∙ ap (λ (l : List ℕ). of_parts (seq_of front) (name_of l)) behind_is)
+    ∙ (ap (λ (l : List ℕ). of_parts (seq_of l) (name_of (drop (length front + 1) text))) front_is
+    ∙ ap (λ (l : List ℕ). of_parts (seq_of front) (name_of l)) behind_is)
 
 -- ---- sequence numbers and names
 
@@ -155,7 +159,8 @@ digit_not_point b h e = let no : is_digit 46 ≡ true = subst (λ (c : ℕ). is_
 abbrev front_digits : List ℕ → ℕ
 front_digits bs = position_or_len (λ b. not (is_digit b)) bs
 
-digit_first : (t : Bool) (b : ℕ) (bs : List ℕ) (d : ℕ) → is_digit b ≡ t → (length bs ≤ front_digits bs → (i : ℕ) → i < length bs → is_digit (get_or bs i d) ≡ true)
+digit_first : (t : Bool) (b : ℕ) (bs : List ℕ) (d : ℕ) → is_digit b ≡ t →
+    (length bs ≤ front_digits bs → (i : ℕ) → i < length bs → is_digit (get_or bs i d) ≡ true)
     → suc (length bs) ≤ cond (not (not t)) (1 + front_digits bs) 0 → (i : ℕ) → i < suc (length bs) → is_digit (get_or (b ∷ bs) i d) ≡ true
 digit_first true b bs d is others past zero less = is
 digit_first true b bs d is others past (suc i) less = others (omega (arith, past)) i (omega (arith, less))
@@ -189,16 +194,37 @@ front_of (b ∷ bs) = by (b == 46) refl (front_of bs)
     plain front is h zero d less = λ e. let no : (b == 46) ≡ true = rw e refl in cc
     plain front is h (suc i) d less = h i d (omega (arith, less))
 
-    by : (t : Bool) → (b == 46) ≡ t → (front : List ℕ) × (rest : List ℕ) × IsFront bs front rest → (front : List ℕ) × (rest : List ℕ) × IsFront (b ∷ bs) front rest
-    by true is more = ([], b ∷ bs, record { written = refl; plain = λ i d less. absurd (omega (arith, less)); point = inr (bs, ap (λ (c : ℕ). c ∷ bs) (eqb-true b 46 is)) })
-    by false is more = (b ∷ more.0, more.1, record { written = ap (λ (l : List ℕ). b ∷ l) more.2.written; plain = plain more.0 is more.2.plain; point = more.2.point })
+    by : (t : Bool) → (b == 46) ≡ t → (front : List ℕ) × (rest : List ℕ) × IsFront bs front rest
+        → (front : List ℕ) × (rest : List ℕ) × IsFront (b ∷ bs) front rest
+    by true is more = (
+      [],
+      b ∷ bs,
+      record {
+        written = refl;
+        plain = λ i d less. absurd (omega (arith, less));
+        point =
+            inr (bs, ap (λ (c : ℕ). c ∷ bs) (eqb-true b 46 is));
+      },
+    )
+    by false is more = (
+      b ∷ more.0,
+      more.1,
+      record {
+        written = ap (λ (l : List ℕ). b ∷ l) more.2.written;
+        plain = plain more.0 is more.2.plain;
+        point =
+            more.2.point;
+      },
+    )
 
 -- what the parts make
 parts : (text front rest : List ℕ) → IsFront text front rest
-    → ((rest ≡ []) × (named_of text ≡ of_parts (seq_of front) None)) ⊎ ((behind : List ℕ) × (rest ≡ 46 ∷ behind) × (named_of text ≡ of_parts (seq_of front) (name_of behind)))
+    → ((rest ≡ []) × (named_of text ≡ of_parts (seq_of front) None)) ⊎ ((behind : List ℕ) × (rest ≡ 46 ∷ behind)
+    × (named_of text ≡ of_parts (seq_of front) (name_of behind)))
 parts text front rest f = by f.point
   where
-    by : IsAtPoint rest → ((rest ≡ []) × (named_of text ≡ of_parts (seq_of front) None)) ⊎ ((behind : List ℕ) × (rest ≡ 46 ∷ behind) × (named_of text ≡ of_parts (seq_of front) (name_of behind)))
+    by : IsAtPoint rest → ((rest ≡ []) × (named_of text ≡ of_parts (seq_of front) None))
+        ⊎ ((behind : List ℕ) × (rest ≡ 46 ∷ behind) × (named_of text ≡ of_parts (seq_of front) (name_of behind)))
     by (inl none) =
         let whole : text ≡ front = f.written ∙ (ap (λ (l : List ℕ). front ++ l) none ∙ append-nil front) in
         inl (none, ap named_of whole ∙ named-plain front f.plain)
@@ -214,7 +240,8 @@ read text = by_front (front_of text)
     by_front : (front : List ℕ) × (rest : List ℕ) × IsFront text front rest → IsRequestOrNot text (named_of text)
     by_front (front, rest, f) = by (seq_of front) refl (parts text front rest f)
       where
-        named : (seq : ℕ) (behind : List ℕ) → IsSeq front seq → rest ≡ 46 ∷ behind → (o : Option (List ℕ)) → name_of behind ≡ o → IsRequestOrNot text (with_host seq o)
+        named : (seq : ℕ) (behind : List ℕ) → IsSeq front seq → rest ≡ 46 ∷ behind → (o : Option (List ℕ)) → name_of behind ≡ o
+            → IsRequestOrNot text (with_host seq o)
         named seq behind s at (Some name) is =
             let n = name-is behind name is in
             record {
@@ -232,7 +259,8 @@ read text = by_front (front_of text)
                 let some : ◌≡◌ {A = Option (List ℕ)} None (Some host) = sym is ∙ (ap name_of behind_is ∙ is-name host h) in
                 cc
 
-        by : (o : Option ℕ) → seq_of front ≡ o → ((rest ≡ []) × (named_of text ≡ of_parts (seq_of front) None)) ⊎ ((behind : List ℕ) × (rest ≡ 46 ∷ behind) × (named_of text ≡ of_parts (seq_of front) (name_of behind))) → IsRequestOrNot text (named_of text)
+        by : (o : Option ℕ) → seq_of front ≡ o → ((rest ≡ []) × (named_of text ≡ of_parts (seq_of front) None))
+            ⊎ ((behind : List ℕ) × (rest ≡ 46 ∷ behind) × (named_of text ≡ of_parts (seq_of front) (name_of behind))) → IsRequestOrNot text (named_of text)
         by None is (inl p) = subst (IsRequestOrNot text) (sym (p.1 ∙ ap (λ (o : Option ℕ). of_parts o None) is)) (front, rest, f, none)
           where
             none : (seq : ℕ) → IsSeq front seq → ⊥
@@ -241,12 +269,14 @@ read text = by_front (front_of text)
           where
             none : (seq : ℕ) → IsSeq front seq → ⊥
             none seq s = let e : ◌≡◌ {A = Option ℕ} None (Some seq) = sym is ∙ is-seq front seq s in cc
-        by (Some seq) is (inl p) = subst (IsRequestOrNot text) (sym (p.1 ∙ ap (λ (o : Option ℕ). of_parts o None) is)) (front, rest, seq, f, seq-is front seq is, unnamed)
+        by (Some seq) is (inl p) = subst (IsRequestOrNot text) (sym (p.1 ∙ ap (λ (o : Option ℕ). of_parts o None) is))
+            (front, rest, seq, f, seq-is front seq is, unnamed)
           where
             unnamed : (host : List ℕ) → rest ≡ 46 ∷ host → IsName host → ⊥
             unnamed host there h = let e : ◌≡◌ {A = List ℕ} [] (46 ∷ host) = sym p.0 ∙ there in cc
         by (Some seq) is (inr p) =
-            subst (IsRequestOrNot text) (sym (p.2 ∙ ap (λ (o : Option ℕ). of_parts o (name_of p.0)) is)) (named seq p.0 (seq-is front seq is) p.1 (name_of p.0) refl)
+            subst (IsRequestOrNot text) (sym (p.2 ∙ ap (λ (o : Option ℕ). of_parts o (name_of p.0)) is))
+            (named seq p.0 (seq-is front seq is) p.1 (name_of p.0) refl)
 
 -- and the other way round
 said : (text : List ℕ) (answer : Result Named NotNamed) → IsRequestOrNot text answer → named_of text ≡ answer
@@ -255,12 +285,14 @@ said text (Ok id) r =
     ∙ (ap (λ (o : Option ℕ). of_parts o (name_of id.host)) (is-seq r.front id.seq r.seq) ∙ ap (with_host id.seq) (is-name id.host r.host)))
 said text (Err BadNumber) (front, rest, f, none) = by (parts text front rest f)
   where
-    by : ((rest ≡ []) × (named_of text ≡ of_parts (seq_of front) None)) ⊎ ((behind : List ℕ) × (rest ≡ 46 ∷ behind) × (named_of text ≡ of_parts (seq_of front) (name_of behind))) → named_of text ≡ Err BadNumber
+    by : ((rest ≡ []) × (named_of text ≡ of_parts (seq_of front) None)) ⊎
+        ((behind : List ℕ) × (rest ≡ 46 ∷ behind) × (named_of text ≡ of_parts (seq_of front) (name_of behind))) → named_of text ≡ Err BadNumber
     by (inl p) = p.1 ∙ ap (λ (o : Option ℕ). of_parts o None) (no-seq front none)
     by (inr p) = p.2 ∙ ap (λ (o : Option ℕ). of_parts o (name_of p.0)) (no-seq front none)
 said text (Err BadName) (front, rest, seq, f, s, none) = by (parts text front rest f)
   where
-    by : ((rest ≡ []) × (named_of text ≡ of_parts (seq_of front) None)) ⊎ ((behind : List ℕ) × (rest ≡ 46 ∷ behind) × (named_of text ≡ of_parts (seq_of front) (name_of behind))) → named_of text ≡ Err BadName
+    by : ((rest ≡ []) × (named_of text ≡ of_parts (seq_of front) None)) ⊎
+        ((behind : List ℕ) × (rest ≡ 46 ∷ behind) × (named_of text ≡ of_parts (seq_of front) (name_of behind))) → named_of text ≡ Err BadName
     by (inl p) = p.1 ∙ ap (λ (o : Option ℕ). of_parts o None) (is-seq front seq s)
     by (inr p) = p.2 ∙ (ap (λ (o : Option ℕ). of_parts o (name_of p.0)) (is-seq front seq s) ∙ ap (with_host seq) (no-name p.0 (none p.0 p.1)))
 

@@ -1,4 +1,5 @@
-use Rattle.std.proofs.Common.{◌≡◌, ℕ, suc, ◌+◌, ◌-◌, ◌<◌, ◌≤◌, List, [], ◌∷◌, ◌++◌, length, drop, arith, refl, ap, ◌∙◌, sym, Some, None, append_assoc, cond, Bool, true, false, ◌==◌}
+use Rattle.std.proofs.Common.{◌≡◌, ℕ, suc, ◌+◌, ◌-◌, ◌<◌, ◌≤◌, List, [], ◌∷◌, ◌++◌, length, drop, arith, refl, ap, ◌∙◌, sym, Some, None, append_assoc, cond}
+use Rattle.std.proofs.Common.{Bool, true, false, ◌==◌}
 use Rattle.std.proofs.Math.Seq.{drop-drop}
 use Rattle.nqs_words.specs.Quoted.{Quoted, after, step_of, escape_of, quoted, by_step}
 use Rattle.nqs_words.specs.declared.quoted.Step.{Step}
@@ -35,7 +36,8 @@ escape_inside (c ∷ cs) = let n = suc (suc (length cs)) in
 step_inside : (bs : List ℕ) → Inside (length bs) (step_of bs)
 unfolding step_of Inside
 step_inside [] = tt
-step_inside (b ∷ bs) = in_cond (suc (length bs)) (b == 34) End _ (omega arith) (in_cond (suc (length bs)) (b == 92) (escape_of bs) (Byte b 1) (escape_inside bs) (omega arith))
+step_inside (b ∷ bs) = in_cond (suc (length bs)) (b == 34) End _ (omega arith)
+    (in_cond (suc (length bs)) (b == 92) (escape_of bs) (Byte b 1) (escape_inside bs) (omega arith))
 
 pub byte_inside : (bs : List ℕ) (b taken : ℕ) → Byte b taken ≡ step_of bs → taken ≤ length bs
 unfolding Inside
@@ -45,7 +47,8 @@ pub end_inside : (bs : List ℕ) → End ≡ step_of bs → 1 ≤ length bs
 unfolding Inside
 end_inside bs is = rw (← is) at (step_inside bs)
 
-pub turned : (n i : ℕ) (rest word : List ℕ) (all : Quoted) (s : Step) → i < n → s ≡ step_of rest → after word (quoted (n - i) rest) ≡ all → after word (by_step rest s (quoted (n - (i + 1)))) ≡ all
+pub turned : (n i : ℕ) (rest word : List ℕ) (all : Quoted) (s : Step) → i < n → s ≡ step_of rest → after word (quoted (n - i) rest) ≡ all
+    → after word (by_step rest s (quoted (n - (i + 1)))) ≡ all
 turned n i rest word all s less is before =
     ap (λ (t : Step). after word (by_step rest t (quoted (n - (i + 1))))) is ∙ (ap (after word) (sym (quoted-step n i rest less)) ∙ before)
 

@@ -40,7 +40,7 @@ quoted (suc n) bytes = by_step bytes (step_of bytes) (quoted n)
 abbrev pub ReadsQuoted : List ℕ → Result (Vec ℕ × ℕ) QuoteFault → Type 0
 ReadsQuoted bytes (Ok p) = quoted (length bytes) bytes ≡ Some (p.0.items, drop p.1 bytes)
 ReadsQuoted bytes (Err BadQuote) = quoted (length bytes) bytes ≡ None
-ReadsQuoted bytes (Err Memory) = Unit {0}
+ReadsQuoted bytes (Err (Memory memory)) = Unit {0}
 
 -- how a byte is written within quotes
 abbrev pub escaped : ℕ → List ℕ

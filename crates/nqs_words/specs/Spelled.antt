@@ -39,7 +39,8 @@ HasNoSeq text = (front : List ℕ) × (rest : List ℕ) × IsFront text front re
 
 -- it is one, but no point and name follow
 abbrev pub HasNoHost : List ℕ → Type 0
-HasNoHost text = (front : List ℕ) × (rest : List ℕ) × (seq : ℕ) × IsFront text front rest × IsSeq front seq × ((host : List ℕ) → rest ≡ 46 ∷ host → IsName host → ⊥)
+HasNoHost text = (front : List ℕ) × (rest : List ℕ) × (seq : ℕ) × IsFront text front rest × IsSeq front seq
+    × ((host : List ℕ) → rest ≡ 46 ∷ host → IsName host → ⊥)
 
 -- a text is a request, or isn't, for one of two reasons
 abbrev pub IsRequestOrNot : List ℕ → Result Named NotNamed → Type 0

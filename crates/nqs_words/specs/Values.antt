@@ -1,5 +1,6 @@
 -- What words may say: names, numbers, requests and destinations.
-use Rattle.std.specs.Prelude.{ℕ, ◌+◌, Bool, false, ◌&&◌, ◌||◌, ◌==◌, nat_le, List, [], ◌∷◌, length, take, drop, Option, Some, None, is_none, if◌then◌else◌, Ok, Err}
+use Rattle.std.specs.Prelude.{ℕ, ◌+◌, Bool, false, ◌&&◌, ◌||◌, ◌==◌, nat_le, List, [], ◌∷◌, length, take, drop, Option, Some, None, is_none, if◌then◌else◌, Ok}
+use Rattle.std.specs.Prelude.{Err}
 use Rattle.std.specs.List.{position, list_all}
 use Rattle.std.specs.declared.result.Result.{Result}
 use Rattle.nqs_values.specs.Name.{is_letter, is_digit}

@@ -1,5 +1,6 @@
-//! Which keyword a word names. Upper case is read as lower case. A keyword may be shortened to two letters or
-//! more that no other keyword of the same place begins with; a whole keyword wins over longer ones.
+//! Which keyword a word names. Upper case is read as lower case. A keyword may be shortened to two
+//! letters or more that no other keyword of the same place begins with; a whole keyword wins over
+//! longer ones.
 
 ghost use Rattle.std.specs.Prelude.{◌≡◌, count_by, find};
 ghost use Rattle.nqs_words.specs.Keywords.{lower, begins, shortens, is_whole, shortened, keyword_of};

@@ -2,7 +2,8 @@
 
 ghost use Rattle.nqs_words.specs.Spelled.{ReadsRequests};
 
-/// A text is read as a request exactly where it is written as one, and else for the one reason why it isn't.
+/// A text is read as a request exactly where it is written as one, and else for the one reason why
+/// it isn't.
 pub fn requests_as_written()
     ensures { ReadsRequests }
 {}

@@ -1,5 +1,5 @@
-//! Words of the lines that people type, and what they may say. A word is named by its place in the line, so
-//! no list of words is made and no memory taken. specs/ has the definitions.
+//! Words of the lines that people type, and what they may say. A word is named by its place in the
+//! line, so no list of words is made and no memory taken. specs/ has the definitions.
 #![tactic(auto)]
 
 mod amounts;

@@ -1,10 +1,13 @@
-//! Quoted words. A word that begins with a quote ends at the next quote that isn't escaped; within it `\n`,
+//! Quoted words. A word that begins with a quote ends at the next quote that isn't escaped; within
+//! it `\n`,
 //! `\"` and `\\` stand for a line feed, a quote and a backslash, and no other byte may follow a backslash.
 
 ghost use Rattle.std.specs.Prelude.{◌≡◌, ◌≤◌, length, IfOk};
 ghost use Rattle.nqs_words.specs.Quoted.{step_of, escape_of, ReadsQuoted};
 ghost use Rattle.nqs_words.specs.declared.quoted.QuoteFault.TheVariants.{Memory};
+ghost use Rattle.nqs_values.specs.Want.{want};
 
+use nqs_values::Memory;
 use std::alloc::{AllocFailed, Global};
 
 /// What stands first within quotes.
@@ -17,18 +20,18 @@ pub enum Step {
 }
 
 /// Why there is no quoted word.
-#[derive(Clone, Copy, PartialEq, Eq)]
+#[derive(PartialEq, Eq, Drop)]
 pub enum QuoteFault {
     /// It doesn't end, or has another escape.
     BadQuote,
-    Memory,
+    Memory(Memory),
 }
 
 impl<T: Drop> From<AllocFailed<T>> for QuoteFault {
-    ghost from_gives = { λ _ e. e ≡ Memory };
+    ghost from_gives = { λ _ e. e ≡ Memory want };
 
-    fn from(_e: AllocFailed<T>) -> QuoteFault {
-        QuoteFault::Memory
+    fn from(refused: AllocFailed<T>) -> QuoteFault {
+        QuoteFault::Memory(refused.into())
     }
 }
 

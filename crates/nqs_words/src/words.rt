@@ -1,5 +1,5 @@
-//! Words of a line. A word is what stands between gaps; it is named by its place and the place after it, in
-//! bytes from 0, so that no list of words is made.
+//! Words of a line. A word is what stands between gaps; it is named by its place and the place
+//! after it, in bytes from 0, so that no list of words is made.
 
 ghost use Rattle.std.specs.Prelude.{not, ◌≡◌, ◌≤◌, ◌<◌, length, IfSome};
 ghost use Rattle.std.specs.List.{position};

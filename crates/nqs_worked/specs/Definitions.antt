@@ -10,7 +10,9 @@ use Rattle.nqs_rules.specs.Limits.{new_complex}
 use Rattle.nqs_rules.specs.Devices.{new_device}
 use Rattle.nqs_rules.specs.Applied.{new_row, first_carried, applied}
 use Rattle.nqs_rules.specs.Fits.{edit_causes, fits}
-use Rattle.nqs_rules.specs.InOrder.{is_site_right, are_parameters_right, are_lists_short, are_keys_distinct, are_distinct, same_number, arrivals_of, is_queue_right, is_complex_right, is_row_right, is_promise_right, promisers, is_hand_right, has_few_hands, offered_ids, is_peer_right, is_stage_right, is_file_right, is_doom_right, is_hold_right, has_hand, is_promise_free, is_hand_of_given}
+use Rattle.nqs_rules.specs.InOrder.{is_site_right, are_parameters_right, are_lists_short, are_keys_distinct, are_distinct, same_number, arrivals_of}
+use Rattle.nqs_rules.specs.InOrder.{is_queue_right, is_complex_right, is_row_right, is_promise_right, promisers, is_hand_right, has_few_hands, offered_ids}
+use Rattle.nqs_rules.specs.InOrder.{is_peer_right, is_stage_right, is_file_right, is_doom_right, is_hold_right, has_hand, is_promise_free, is_hand_of_given}
 use Rattle.nqs_rules.specs.World.{Act}
 use Rattle.nqs_rules.specs.Run.{run_of, states_of}
 use Rattle.nqs_worked.specs.ScheduleWords.{host, request, named, job_of, two_hosts}
@@ -38,7 +40,11 @@ use Rattle.nqs_types.specs.declared.change.Change.{Change}
 use Rattle.nqs_types.specs.declared.change.Change.TheVariants.{Ended, HandOpened, HandCommitted, Promised}
 use Rattle.nqs_types.specs.declared.edit.Edit.{Edit}
 use Rattle.nqs_types.specs.declared.refusal.Refusal.{Refusal}
-use Rattle.nqs_types.specs.declared.refusal.Refusal.TheVariants.{NotManager, NotOperator, NoQueue, NoComplex, NoDevice, NoRequest, NoHost, NoDefault, QueueExists, ComplexExists, DeviceExists, WrongKind, DestExists, NoDest, NotMember, IsMember, KeepRoot, NotOwner, Disabled, PipeOnly, NoAccess, RequestRouting, RequestRunning, NotHeld, IsHeld, QueueInUse, DeviceBusy, OverCpu, OverMemory, TooMany, HostFull, NumbersUsed, RequestExists}
+use Rattle.nqs_types.specs.declared.refusal.Refusal.TheVariants.{NotManager, NotOperator, NoQueue, NoComplex, NoDevice, NoRequest, NoHost, NoDefault}
+use Rattle.nqs_types.specs.declared.refusal.Refusal.TheVariants.{QueueExists, ComplexExists, DeviceExists, WrongKind, DestExists, NoDest, NotMember, IsMember}
+use Rattle.nqs_types.specs.declared.refusal.Refusal.TheVariants.{KeepRoot, NotOwner, Disabled, PipeOnly, NoAccess, RequestRouting, RequestRunning, NotHeld}
+use Rattle.nqs_types.specs.declared.refusal.Refusal.TheVariants.{IsHeld, QueueInUse, DeviceBusy, OverCpu, OverMemory, TooMany, HostFull, NumbersUsed}
+use Rattle.nqs_types.specs.declared.refusal.Refusal.TheVariants.{RequestExists}
 
 -- the first of two hosts as it is formatted
 abbrev pub fresh : Plain
@@ -145,7 +151,8 @@ with_promised = applied (Promised (host 0) 1 (codes "batch") (carried 1) []) (fo
 abbrev pub planned : Stepped Extent
 planned =
     makes (Ended (request 1 0) (record { path = codes "o"; bytes = codes "ab" } ∷ record { path = codes "e"; bytes = codes "c" } ∷ []))
-    (ready (out.Ended (request 1 0) 1 0) ∷ (out.File 4 (codes "o") [], Some (record { place = 7; length = 2 })) ∷ (out.File 5 (codes "e") [], Some (record { place = 9; length = 3 })) ∷ [])
+    (ready (out.Ended (request 1 0) 1 0) ∷ (out.File 4 (codes "o") [], Some (record { place = 7; length = 2 }))
+    ∷ (out.File 5 (codes "e") [], Some (record { place = 9; length = 3 })) ∷ [])
 
 -- each test of a state in order, and what besides holds of it
 abbrev pub order_tests : Plain → List Bool
@@ -200,17 +207,22 @@ listing n = record (with_devices 1) { queues = record first_queue { devices = re
 -- states that aren't in order, each for one cause
 abbrev pub wrong_states : List Plain
 wrong_states =
-    with_row (record (queued 1) { queue = codes "nope" }) ∷ with_row (record (queued 1) { id = request 10 0 }) ∷ with_row (record (queued 1) { id = request 0 0 })
+    with_row (record (queued 1) { queue = codes "nope" }) ∷ with_row (record (queued 1) { id = request 10 0 })
+    ∷ with_row (record (queued 1) { id = request 0 0 })
     ∷ with_row (record (queued 1) { id = request 1 2 }) ∷ with_row (record (queued 1) { arrival = 10 }) ∷ with_row (record (queued 1) { starts = 1 })
-    ∷ with_row (running 65536) ∷ with_row (record (running 1) { lost = 1 }) ∷ with_row (record (queued 1) { state = Routing }) ∷ with_row (record (queued 1) { hops = 33 })
+    ∷ with_row (running 65536) ∷ with_row (record (running 1) { lost = 1 }) ∷ with_row (record (queued 1) { state = Routing })
+    ∷ with_row (record (queued 1) { hops = 33 })
     ∷ with_row (record (queued 1) { device = Some (codes "laser") }) ∷ record with_promise { promises = promise 3 3 ∷ promise 4 4 ∷ [] }
     ∷ record on_its_way { rows = [] } ∷ record fresh { patience = 0 } ∷ listing 2 ∷ []
 
 -- each refusal in turn
 abbrev pub refusals : List Refusal
 refusals =
-    NotManager ∷ NotOperator ∷ NoQueue (codes "q") ∷ NoComplex (codes "c") ∷ NoDevice (codes "d") ∷ NoRequest (named 7 (codes "h")) ∷ NoHost (codes "h") ∷ NoDefault
-    ∷ QueueExists (codes "q") ∷ ComplexExists (codes "c") ∷ DeviceExists (codes "d") ∷ WrongKind ∷ DestExists ∷ NoDest ∷ NotMember ∷ IsMember ∷ KeepRoot ∷ NotOwner
+    NotManager ∷ NotOperator ∷ NoQueue (codes "q") ∷ NoComplex (codes "c") ∷ NoDevice (codes "d") ∷ NoRequest (named 7 (codes "h")) ∷ NoHost (codes "h")
+    ∷ NoDefault
+    ∷ QueueExists (codes "q") ∷ ComplexExists (codes "c") ∷ DeviceExists (codes "d") ∷ WrongKind ∷ DestExists ∷ NoDest ∷ NotMember ∷ IsMember ∷ KeepRoot
+    ∷ NotOwner
     ∷ Disabled (codes "q") ∷ PipeOnly (codes "q") ∷ NoAccess (codes "q") ∷ RequestRouting (named 7 (codes "h")) ∷ RequestRunning (named 7 (codes "h"))
-    ∷ NotHeld (named 7 (codes "h")) ∷ IsHeld (named 7 (codes "h")) ∷ QueueInUse (codes "q") 3 ∷ DeviceBusy (codes "d") ∷ OverCpu (codes "q") ∷ OverMemory (codes "q")
+    ∷ NotHeld (named 7 (codes "h")) ∷ IsHeld (named 7 (codes "h")) ∷ QueueInUse (codes "q") 3 ∷ DeviceBusy (codes "d") ∷ OverCpu (codes "q")
+    ∷ OverMemory (codes "q")
     ∷ TooMany ∷ HostFull ∷ NumbersUsed ∷ RequestExists (named 7 (codes "h")) ∷ []

@@ -6,7 +6,8 @@ use Rattle.nqs_values.specs.declared.tear.Tear.TheVariants.{New}
 use Rattle.nqs_types.specs.declared.world.Which.TheVariants.{First}
 use Rattle.nqs_types.specs.declared.event.Command.TheVariants.{Edit, Delete}
 use Rattle.nqs_types.specs.declared.edit.Edit.TheVariants.{Conf, Access, Devices, Rows}
-use Rattle.nqs_types.specs.declared.edit.ConfEdit.TheVariants.{CreateBatchQueue, CreateDeviceQueue, CreatePipeQueue, EnableQueue, DisableQueue, StartQueue, AddDestination}
+use Rattle.nqs_types.specs.declared.edit.ConfEdit.TheVariants.{CreateBatchQueue, CreateDeviceQueue, CreatePipeQueue, EnableQueue, DisableQueue, StartQueue}
+use Rattle.nqs_types.specs.declared.edit.ConfEdit.TheVariants.{AddDestination}
 use Rattle.nqs_types.specs.declared.edit.AccessEdit.TheVariants.{SetNoAccess}
 use Rattle.nqs_types.specs.declared.edit.DevicesEdit.TheVariants.{CreateDevice, EnableDevice, AddDevice}
 use Rattle.nqs_types.specs.declared.edit.RowsEdit.TheVariants.{ReleaseRequest}
@@ -140,7 +141,9 @@ site_of_two =
     ∷ Asks (host 1) (codes "root") (Edit (Devices (EnableDevice (codes "laser"))))
     ∷ Asks (host 1) (codes "root") (Edit (Conf (EnableQueue (codes "lp"))))
     ∷ Asks (host 1) (codes "root") (Edit (Conf (StartQueue (codes "lp"))))
-    ∷ Asks (host 1) (codes "ann") (submission (Some (codes "run")) (record (job_of (codes "ann")) { name = codes "flow"; limits = record { cpu = Some 5400; memory = None } }) (codes "#@$ -q run -r flow" ++ 10 ∷ [] ++ codes "#@$ -lT 1:30:00" ++ 10 ∷ [] ++ codes "./flow" ++ 10 ∷ []))
+    ∷ Asks (host 1) (codes "ann") (submission (Some (codes "run")) (record (job_of (codes "ann"))
+    { name = codes "flow"; limits = record { cpu = Some 5400; memory = None } })
+    (codes "#@$ -q run -r flow" ++ 10 ∷ [] ++ codes "#@$ -lT 1:30:00" ++ 10 ∷ [] ++ codes "./flow" ++ 10 ∷ []))
     ∷ Asks (host 1) (codes "bob") (submission (Some (codes "lp")) (record (job_of (codes "bob")) { forms = Some (codes "plain") }) (codes "report"))
     ∷ Delivers 1
     ∷ Delivers 2

@@ -8,7 +8,8 @@ use Rattle.nqs_types.specs.declared.fault.GrammarFault.TheVariants.{Ambiguous}
 use Rattle.nqs_types.specs.declared.fault.WordsCause.TheVariants.{BadNumber, Both}
 use Rattle.nqs_types.specs.declared.event.Command.TheVariants.{Edit, Stat, Delete, UnreadLine}
 use Rattle.nqs_types.specs.declared.edit.Edit.TheVariants.{Conf, Limits, Access, Devices, Rows}
-use Rattle.nqs_types.specs.declared.edit.ConfEdit.TheVariants.{CreateBatchQueue, CreateDeviceQueue, CreatePipeQueue, EnableQueue, DisableQueue, StartQueue, StopQueue, SetRunLimit, AddDestination}
+use Rattle.nqs_types.specs.declared.edit.ConfEdit.TheVariants.{CreateBatchQueue, CreateDeviceQueue, CreatePipeQueue, EnableQueue, DisableQueue, StartQueue}
+use Rattle.nqs_types.specs.declared.edit.ConfEdit.TheVariants.{StopQueue, SetRunLimit, AddDestination}
 use Rattle.nqs_types.specs.declared.edit.LimitsEdit.TheVariants.{CreateComplex, AddQueue, SetComplexLimit}
 use Rattle.nqs_types.specs.declared.edit.AccessEdit.TheVariants.{SetNoAccess, AddOperator, AddUser}
 use Rattle.nqs_types.specs.declared.edit.DevicesEdit.TheVariants.{CreateDevice, EnableDevice, SetForms, AddDevice}

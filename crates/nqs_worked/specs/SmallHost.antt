@@ -4,7 +4,8 @@ use Rattle.nqs_rules.specs.World.{Act, Asks, Ends, Ticks, Clock, Crashes, Boots,
 use Rattle.nqs_worked.specs.ScheduleWords.{host, request, named, typed, job_of, submission, edits, submits}
 use Rattle.nqs_types.specs.declared.event.Command.TheVariants.{Stat, Delete}
 use Rattle.nqs_types.specs.declared.edit.Edit.TheVariants.{Conf, Limits, Access, Devices, Rows}
-use Rattle.nqs_types.specs.declared.edit.ConfEdit.TheVariants.{CreateBatchQueue, CreateDeviceQueue, CreatePipeQueue, EnableQueue, DisableQueue, StartQueue, StopQueue, SetPriority, SetRunLimit, AddDestination}
+use Rattle.nqs_types.specs.declared.edit.ConfEdit.TheVariants.{CreateBatchQueue, CreateDeviceQueue, CreatePipeQueue, EnableQueue, DisableQueue, StartQueue}
+use Rattle.nqs_types.specs.declared.edit.ConfEdit.TheVariants.{StopQueue, SetPriority, SetRunLimit, AddDestination}
 use Rattle.nqs_types.specs.declared.edit.LimitsEdit.TheVariants.{SetUserLimit, SetCpuLimit, SetMemoryLimit, SetGlobalLimit}
 use Rattle.nqs_types.specs.declared.edit.AccessEdit.TheVariants.{SetUnrestrictedAccess, SetNoAccess}
 use Rattle.nqs_types.specs.declared.edit.DevicesEdit.TheVariants.{CreateDevice, EnableDevice, AddDevice}
@@ -29,9 +30,12 @@ abbrev pub request_states_too_much : List Act
 request_states_too_much =
     edits (Limits (SetCpuLimit (Some 60) (codes "batch")))
     ∷ edits (Limits (SetMemoryLimit (Some 1024) (codes "batch")))
-    ∷ Asks (host 0) (codes "ann") (submission (Some (codes "batch")) (record (job_of (codes "ann")) { limits = record { cpu = Some 61; memory = Some 1025 } }) [])
-    ∷ Asks (host 0) (codes "ann") (submission (Some (codes "batch")) (record (job_of (codes "ann")) { limits = record { cpu = Some 60; memory = Some 1025 } }) [])
-    ∷ Asks (host 0) (codes "ann") (submission (Some (codes "batch")) (record (job_of (codes "ann")) { limits = record { cpu = Some 60; memory = Some 1024 } }) [])
+    ∷ Asks (host 0) (codes "ann") (submission (Some (codes "batch")) (record (job_of (codes "ann"))
+    { limits = record { cpu = Some 61; memory = Some 1025 } }) [])
+    ∷ Asks (host 0) (codes "ann") (submission (Some (codes "batch")) (record (job_of (codes "ann"))
+    { limits = record { cpu = Some 60; memory = Some 1025 } }) [])
+    ∷ Asks (host 0) (codes "ann") (submission (Some (codes "batch")) (record (job_of (codes "ann"))
+    { limits = record { cpu = Some 60; memory = Some 1024 } }) [])
     ∷ edits (Conf (DisableQueue (codes "batch")))
     ∷ Asks (host 0) (codes "ann") (submission (Some (codes "batch")) (record (job_of (codes "ann")) { limits = record { cpu = Some 61; memory = None } }) [])
     ∷ edits (Conf (EnableQueue (codes "batch")))

@@ -4,7 +4,8 @@ use Rattle.nqs_rules.specs.World.{Act, Asks, Ends, Delivers, Newest, Ticks, Cloc
 use Rattle.nqs_worked.specs.ScheduleWords.{host, request, named, typed, job_of, submission, edits, submits}
 use Rattle.nqs_types.specs.declared.event.Command.TheVariants.{Edit, Delete}
 use Rattle.nqs_types.specs.declared.edit.Edit.TheVariants.{Conf, Limits, Access, Rows}
-use Rattle.nqs_types.specs.declared.edit.ConfEdit.TheVariants.{CreateBatchQueue, CreatePipeQueue, DeleteQueue, EnableQueue, DisableQueue, StartQueue, PurgeQueue, AddDestination, RemoveDestination}
+use Rattle.nqs_types.specs.declared.edit.ConfEdit.TheVariants.{CreateBatchQueue, CreatePipeQueue, DeleteQueue, EnableQueue, DisableQueue, StartQueue}
+use Rattle.nqs_types.specs.declared.edit.ConfEdit.TheVariants.{PurgeQueue, AddDestination, RemoveDestination}
 use Rattle.nqs_types.specs.declared.edit.LimitsEdit.TheVariants.{SetCpuLimit, SetMemoryLimit}
 use Rattle.nqs_types.specs.declared.edit.AccessEdit.TheVariants.{AddOperator}
 use Rattle.nqs_types.specs.declared.edit.RowsEdit.TheVariants.{HoldRequest, ReleaseRequest, MoveRequest, ModifyRequest}

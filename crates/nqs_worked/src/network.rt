@@ -2,7 +2,8 @@
 ghost use Rattle.std.specs.Prelude.{◌≡◌, codes, [], ◌∷◌};
 ghost use Rattle.nqs_rules.specs.Transcript.{lines};
 ghost use Rattle.nqs_worked.specs.ScheduleWords.{told};
-ghost use Rattle.nqs_worked.specs.Network.{handover, source_stops_at_commit, receiver_stops, late_copies, deletion_in_doubt, all_destinations_refuse, site_of_two};
+ghost use Rattle.nqs_worked.specs.Network.{handover, source_stops_at_commit, receiver_stops, late_copies, deletion_in_doubt, all_destinations_refuse};
+ghost use Rattle.nqs_worked.specs.Network.{site_of_two};
 
 /// A handover, with each packet repeated.
 pub fn handover()

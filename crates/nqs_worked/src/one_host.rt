@@ -3,7 +3,9 @@ ghost use Rattle.std.specs.Prelude.{◌≡◌, codes, [], ◌∷◌, replicate};
 ghost use Rattle.nqs_rules.specs.Transcript.{lines};
 ghost use Rattle.nqs_worked.specs.ScheduleWords.{told, one_host, stops_told, not_kept, kept};
 ghost use Rattle.nqs_types.specs.declared.world.Which.TheVariants.{First, Spool};
-ghost use Rattle.nqs_worked.specs.OneHost.{submission_is_shown, priority_starts_first, complex_limits_its_queues, limit_counts_what_runs, request_is_lost, request_starts_again, boot_stops, commands_are_refused, ranks_and_lists, words_are_refused, requests_are_listed, devices_and_forms, request_goes_round, local_destination_refuses};
+ghost use Rattle.nqs_worked.specs.OneHost.{submission_is_shown, priority_starts_first, complex_limits_its_queues, limit_counts_what_runs, request_is_lost};
+ghost use Rattle.nqs_worked.specs.OneHost.{request_starts_again, boot_stops, commands_are_refused, ranks_and_lists, words_are_refused, requests_are_listed};
+ghost use Rattle.nqs_worked.specs.OneHost.{devices_and_forms, request_goes_round, local_destination_refuses};
 
 /// One submission, and the table.
 pub fn submission_is_shown()
@@ -225,7 +227,8 @@ pub fn spool_stops()
     ensures { stops_told Spool (1 ∷ 2 ∷ []) ≡ replicate 8 not_kept }
 {}
 
-/// Nor does one before the gate is written. From there on the tear decides, by whether it leaves the gate at 1.
+/// Nor does one before the gate is written. From there on the tear decides, by whether it leaves
+/// the gate at 1.
 pub fn gate_decides()
     ensures early { stops_told First (1 ∷ 2 ∷ []) ≡ replicate 8 not_kept }
     ensures late { stops_told First (3 ∷ 4 ∷ []) ≡ not_kept ∷ kept ∷ kept ∷ not_kept ∷ not_kept ∷ kept ∷ kept ∷ not_kept ∷ [] }

@@ -2,7 +2,8 @@
 ghost use Rattle.std.specs.Prelude.{◌≡◌, codes, [], ◌∷◌};
 ghost use Rattle.nqs_rules.specs.Transcript.{lines};
 ghost use Rattle.nqs_worked.specs.ScheduleWords.{told, one_host};
-ghost use Rattle.nqs_worked.specs.QueueEdits.{complexes_are_edited, queue_is_deleted, destinations_are_edited, users_are_listed, lists_are_shown, devices_are_edited};
+ghost use Rattle.nqs_worked.specs.QueueEdits.{complexes_are_edited, queue_is_deleted, destinations_are_edited, users_are_listed, lists_are_shown};
+ghost use Rattle.nqs_worked.specs.QueueEdits.{devices_are_edited};
 
 /// Complexes, with queues and without, and one that lets nothing run.
 pub fn complexes_are_edited()

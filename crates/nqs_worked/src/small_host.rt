@@ -2,9 +2,11 @@
 ghost use Rattle.std.specs.Prelude.{◌≡◌, codes, [], ◌∷◌};
 ghost use Rattle.nqs_rules.specs.Transcript.{lines};
 ghost use Rattle.nqs_worked.specs.ScheduleWords.{told, one_host};
-ghost use Rattle.nqs_worked.specs.SmallHost.{owner_has_a_limit, request_states_too_much, all_batch_queues_have_a_limit, jobs_are_told_to_end, requests_are_held_and_moved, request_waits_for_its_start, pipe_queue_tries_the_next, queues_have_priorities};
+ghost use Rattle.nqs_worked.specs.SmallHost.{owner_has_a_limit, request_states_too_much, all_batch_queues_have_a_limit, jobs_are_told_to_end};
+ghost use Rattle.nqs_worked.specs.SmallHost.{requests_are_held_and_moved, request_waits_for_its_start, pipe_queue_tries_the_next, queues_have_priorities};
 
-/// An owner has so many requests running as the queue allows, and who waits for that keeps back no one.
+/// An owner has so many requests running as the queue allows, and who waits for that keeps back no
+/// one.
 pub fn owner_has_a_limit()
     ensures { told one_host owner_has_a_limit ≡ lines (
         codes "Done."
@@ -69,7 +71,8 @@ pub fn all_batch_queues_have_a_limit()
         ∷ []) }
 {}
 
-/// A running request is told to end by a deletion with kill or by an abort of its queue, again each time, and is lost with its host.
+/// A running request is told to end by a deletion with kill or by an abort of its queue, again each
+/// time, and is lost with its host.
 pub fn jobs_are_told_to_end()
     ensures { told one_host jobs_are_told_to_end ≡ lines (
         codes "Done."
@@ -149,7 +152,8 @@ pub fn requests_are_held_and_moved()
         ∷ []) }
 {}
 
-/// A request with an earliest start waits for it, keeps back no one, and starts at the first event then.
+/// A request with an earliest start waits for it, keeps back no one, and starts at the first event
+/// then.
 pub fn request_waits_for_its_start()
     ensures { told one_host request_waits_for_its_start ≡ lines (
         codes "Done."
@@ -190,7 +194,8 @@ pub fn pipe_queue_tries_the_next()
         ∷ []) }
 {}
 
-/// The queue of greatest priority starts first, among equals the first created, and one that can't start keeps back no one.
+/// The queue of greatest priority starts first, among equals the first created, and one that can't
+/// start keeps back no one.
 pub fn queues_have_priorities()
     ensures { told one_host queues_have_priorities ≡ lines (
         codes "Done."

@@ -2,7 +2,8 @@
 ghost use Rattle.std.specs.Prelude.{◌≡◌, codes, [], ◌∷◌};
 ghost use Rattle.nqs_rules.specs.Transcript.{lines};
 ghost use Rattle.nqs_worked.specs.ScheduleWords.{told, one_host, two_hosts};
-ghost use Rattle.nqs_worked.specs.SmallNetwork.{purge_keeps_what_is_active, newest_packet_arrives, packets_repeat_after_boots, stages_repeat, peer_is_silent, offers_are_refused, request_comes_back, promises_count_for_a_queue};
+ghost use Rattle.nqs_worked.specs.SmallNetwork.{purge_keeps_what_is_active, newest_packet_arrives, packets_repeat_after_boots, stages_repeat, peer_is_silent};
+ghost use Rattle.nqs_worked.specs.SmallNetwork.{offers_are_refused, request_comes_back, promises_count_for_a_queue};
 
 /// A purge drops queued requests, held ones too, and leaves those that run or are on their way.
 pub fn purge_keeps_what_is_active()
@@ -121,7 +122,8 @@ pub fn stages_repeat()
         ∷ []) }
 {}
 
-/// An offer without an answer is taken back, the peer is waited for, and the next offer has the next number.
+/// An offer without an answer is taken back, the peer is waited for, and the next offer has the
+/// next number.
 pub fn peer_is_silent()
     ensures { told two_hosts peer_is_silent ≡ lines (
         codes "Done."
@@ -213,7 +215,8 @@ pub fn request_comes_back()
         ∷ []) }
 {}
 
-/// A queue with a promise is in use, and a request that its own host gave up may be promised and lie elsewhere.
+/// A queue with a promise is in use, and a request that its own host gave up may be promised and
+/// lie elsewhere.
 pub fn promises_count_for_a_queue()
     ensures { told two_hosts promises_count_for_a_queue ≡ lines (
         codes "Done."

@@ -2,7 +2,8 @@
 ghost use Rattle.std.specs.Prelude.{◌≡◌, codes, [], ◌∷◌};
 ghost use Rattle.nqs_rules.specs.Transcript.{lines};
 ghost use Rattle.nqs_worked.specs.ScheduleWords.{told, one_host};
-ghost use Rattle.nqs_worked.specs.Stops.{host_is_shut_down, shutdown_meets_a_fuse, requests_finish, outputs_are_written, rows_come_back_in_order, outputs_meet_fuses, fuses_are_replaced};
+ghost use Rattle.nqs_worked.specs.Stops.{host_is_shut_down, shutdown_meets_a_fuse, requests_finish, outputs_are_written, rows_come_back_in_order};
+ghost use Rattle.nqs_worked.specs.Stops.{outputs_meet_fuses, fuses_are_replaced};
 
 /// A shutdown is answered, then come the starts of that event, and then the host stops.
 pub fn host_is_shut_down()
@@ -125,7 +126,8 @@ pub fn rows_come_back_in_order()
         ∷ []) }
 {}
 
-/// Each output that has bytes takes two calls of the spool, and a call that isn't made counts for no fuse.
+/// Each output that has bytes takes two calls of the spool, and a call that isn't made counts for
+/// no fuse.
 pub fn outputs_meet_fuses()
     ensures { told one_host outputs_meet_fuses ≡ lines (
         codes "Done."
@@ -151,7 +153,8 @@ pub fn outputs_meet_fuses()
         ∷ []) }
 {}
 
-/// A later fuse replaces the count of its disk and the tear of its host, a stop takes all fuses away, and one of 0 is one of 1.
+/// A later fuse replaces the count of its disk and the tear of its host, a stop takes all fuses
+/// away, and one of 0 is one of 1.
 pub fn fuses_are_replaced()
     ensures { told one_host fuses_are_replaced ≡ lines (
         codes "Request 1.alpha submitted to queue: batch."

@@ -1,7 +1,7 @@
 //! Worked bytes: the journal of a formatted host, written by hand from `docs/formats.md`.
 //!
-//! Each law says that the formats of `nqs_journal` and `nqs_records` give these bytes, or what bytes like these tell, and is
-//! proved by computing it.
+//! Each law says that the formats of `nqs_journal` and `nqs_records` give these bytes, or what
+//! bytes like these tell, and is proved by computing it.
 #![tactic(auto)]
 
 ghost use Rattle.std.specs.Prelude.{◌≡◌, codes, [], ◌∷◌, ◌++◌};
@@ -14,13 +14,15 @@ ghost use Rattle.nqs_store.specs.Faults.{IsLoadFault};
 ghost use Rattle.nqs_store.specs.declared.fault.LoadFault.TheVariants.{NotNqs};
 ghost use Rattle.nqs_worked_bytes.specs.Alpha.{alpha_record, alpha_journal};
 
-/// What a format of host alpha leaves, in a site of alpha alone: 31 bytes, which stand for one record.
+/// What a format of host alpha leaves, in a site of alpha alone: 31 bytes, which stand for one
+/// record.
 pub fn formatted_host()
     ensures bytes { header ++ records (spelling (Site (host_at 0) (codes "alpha" ∷ [])) ∷ []) ++ 0 ∷ [] ≡ alpha_journal 1 }
     ensures stands { StandsFor (alpha_journal 1) (alpha_record ∷ []) }
 {}
 
-/// With 7 in place of its gate the record doesn't count. The bytes are a journal without records, which is no host's from the gate's place on.
+/// With 7 in place of its gate the record doesn't count. The bytes are a journal without records,
+/// which is no host's from the gate's place on.
 pub fn record_behind_a_closed_gate()
     ensures stands { StandsFor (alpha_journal 7) [] }
     ensures fault { IsLoadFault (alpha_journal 7) [] (NotNqs First 16) }

@@ -1,6 +1,7 @@
 -- Hosts of a world with fuses, packets on their way, and runs whose calls of disks are counted.
-use Rattle.std.specs.Prelude.{ℕ, false, Bool, List, [], ◌∷◌, map, codes, Option, None, Some}
-use Rattle.nqs_rules.specs.World.{World, Host, Act, Asks, Ends, Fails, Writes, Leaves, Ticks, Finishes, Fuse, Crashes, Boots, Fuses, Calls, Fate, fate, new_world, new_host}
+use Rattle.std.specs.Prelude.{ℕ, false, Bool, List, [], ◌∷◌, map, length, codes, Option, None, Some}
+use Rattle.nqs_rules.specs.World.{World, Host, Act, Asks, Ends, Fails, Writes, Leaves, Ticks, Finishes, Fuse, Crashes, Boots, Fuses, Calls, Fate, fate}
+use Rattle.nqs_rules.specs.World.{new_world, new_host}
 use Rattle.nqs_rules.specs.Run.{run, run_of}
 use Rattle.nqs_worked.specs.ScheduleWords.{host, request, typed, job_of, submission, edits, one_host, two_hosts}
 use Rattle.nqs_values.specs.declared.tear.Tear.{Tear}
@@ -19,6 +20,10 @@ calls first spool = record { root = 0; first = first; second = 0; spool = spool 
 -- the calls of each host at the end of a run
 abbrev pub calls_after : List (List ℕ) → List Act → List Calls
 calls_after site acts = map (λ h. h.calls) (run_of site acts).world.hosts
+
+-- how many requests each state had that the disks of the first host told before, the last state first
+abbrev pub told_after : List Act → List (List ℕ)
+told_after acts = map (λ h. map (λ s. length s.rows) h.told) (run_of one_host acts).world.hosts
 
 -- fuses of the journal and of the spool
 abbrev pub fuses : Option ℕ → Option ℕ → Fuses

@@ -1,13 +1,18 @@
-//! Values at their bounds, and one beyond: edits, jobs, requests on their way, changes, commands, datagrams and events.
+//! Values at their bounds, and one beyond: edits, jobs, requests on their way, changes, commands,
+//! datagrams and events.
 ghost use Rattle.std.specs.Prelude.{◌≡◌, [], ◌∷◌, ◌++◌, map, replicate, true, false};
 ghost use Rattle.nqs_worked.specs.ScheduleWords.{host, request};
 ghost use Rattle.nqs_rules.specs.Conf.{is_conf_within};
 ghost use Rattle.nqs_rules.specs.Limits.{is_limits_within};
 ghost use Rattle.nqs_rules.specs.Rows.{is_rows_within};
-ghost use Rattle.nqs_rules.specs.Sane.{is_sane_edit, is_sane_job, is_sane_id, is_sane_carried, is_sane_change, is_name_byte, is_sane_name, is_asked_job, is_sane_command, is_offer_refusal, is_of_site, is_sane_body, is_sane_event};
-ghost use Rattle.nqs_worked_tables.specs.Bounds.{bytes, bounded_queue_edits, bounded_parameters, free_queue_edits, bounded_limits, free_limits, row_edits, edits_of_each_class, kept_jobs, asked_jobs, carried_ones, kept_changes, lost_changes, kept_commands, lost_commands, kept_bodies, lost_bodies, kept_events, lost_events};
+ghost use Rattle.nqs_rules.specs.Sane.{is_sane_edit, is_sane_job, is_sane_id, is_sane_carried, is_sane_change, is_name_byte, is_sane_name, is_asked_job};
+ghost use Rattle.nqs_rules.specs.Sane.{is_sane_command, is_offer_refusal, is_of_site, is_sane_body, is_sane_event};
+ghost use Rattle.nqs_worked_tables.specs.Bounds.{bytes, bounded_queue_edits, bounded_parameters, free_queue_edits, bounded_limits, free_limits, row_edits};
+ghost use Rattle.nqs_worked_tables.specs.Bounds.{edits_of_each_class, kept_jobs, asked_jobs, carried_ones, kept_changes, lost_changes, kept_commands};
+ghost use Rattle.nqs_worked_tables.specs.Bounds.{lost_commands, kept_bodies, lost_bodies, kept_events, lost_events};
 
-/// The numbers of edits: priorities to 63, limits of what runs to 10,000, waits from 1 to 86,400 seconds.
+/// The numbers of edits: priorities to 63, limits of what runs to 10,000, waits from 1 to 86,400
+/// seconds.
 pub fn edits_have_bounds()
     ensures queues { map is_conf_within bounded_queue_edits ≡ true ∷ false ∷ false ∷ true ∷ false ∷ false ∷ true ∷ false ∷ false ∷ true ∷ true ∷ true ∷ [] }
     ensures parameters { map is_conf_within bounded_parameters ≡ true ∷ false ∷ true ∷ false ∷ false ∷ true ∷ true ∷ false ∷ false ∷ true ∷ true ∷ false ∷ [] }
@@ -18,7 +23,8 @@ pub fn edits_have_bounds()
     ensures classes { map is_sane_edit edits_of_each_class ≡ true ∷ false ∷ true ∷ false ∷ true ∷ true ∷ true ∷ false ∷ [] }
 {}
 
-/// Names of 1 to 15 bytes that are seen but no `/`, priorities to 63, paths below the folder; a job that is asked for may leave its paths out.
+/// Names of 1 to 15 bytes that are seen but no `/`, priorities to 63, paths below the folder; a job
+/// that is asked for may leave its paths out.
 pub fn jobs_have_bounds()
     ensures kept { map is_sane_job kept_jobs ≡ true ∷ true ∷ false ∷ false ∷ false ∷ false ∷ false ∷ [] }
     ensures asked { map is_asked_job asked_jobs ≡ replicate 6 true ++ replicate 6 false }
@@ -34,7 +40,8 @@ pub fn changes_have_bounds()
     ensures lost { map is_sane_change lost_changes ≡ replicate 11 false }
 {}
 
-/// Scripts to 32,768 bytes, outputs of an end to 16,384 each, numbers from 1 on, senders and requests of hosts of the site.
+/// Scripts to 32,768 bytes, outputs of an end to 16,384 each, numbers from 1 on, senders and
+/// requests of hosts of the site.
 pub fn events_have_bounds()
     ensures commands { map is_sane_command kept_commands ≡ replicate 9 true }
     ensures no_commands { map is_sane_command lost_commands ≡ replicate 3 false }

@@ -1,4 +1,5 @@
-//! What is started next: limits at their bounds, the order of rows and queues, devices, destinations, and the start itself.
+//! What is started next: limits at their bounds, the order of rows and queues, devices,
+//! destinations, and the start itself.
 ghost use Rattle.std.specs.Prelude.{◌≡◌, codes, [], ◌∷◌, map, replicate, true, false, None, Some};
 ghost use Rattle.nqs_types.specs.declared.request.RowState.TheVariants.{Running, Routing};
 ghost use Rattle.nqs_types.specs.declared.request.Hold.TheVariants.{User, System};
@@ -17,9 +18,11 @@ ghost use Rattle.nqs_worked.specs.ScheduleWords.{host, request, job_of};
 ghost use Rattle.nqs_worked.specs.Definitions.{fresh, far, link, queued, in_link, carried};
 ghost use Rattle.nqs_worked_tables.specs.Refusals.{printer, in_queue};
 ghost use Rattle.nqs_worked_tables.specs.OrderBounds.{hand};
-ghost use Rattle.nqs_worked_tables.specs.Choices.{night, runs, loaded, with_both, within, timed, owned, ranked, first_of, with_rows, first_place, next_place, ready_queue, five_devices, workshop, asking, to, fork, crossing, crossing_with, sent_to, refused_by_each};
+ghost use Rattle.nqs_worked_tables.specs.Choices.{night, runs, loaded, with_both, within, timed, owned, ranked, first_of, with_rows, first_place, next_place};
+ghost use Rattle.nqs_worked_tables.specs.Choices.{ready_queue, five_devices, workshop, asking, to, fork, crossing, crossing_with, sent_to, refused_by_each};
 
-/// A queue has fewer active rows than its run limit, a batch queue's complexes and all batch queues fewer running ones than theirs.
+/// A queue has fewer active rows than its run limit, a batch queue's complexes and all batch queues
+/// fewer running ones than theirs.
 pub fn queues_are_within_limits()
     ensures run { within first_queue (2 ∷ 3 ∷ 4 ∷ []) loaded ≡ false ∷ false ∷ true ∷ [] }
     ensures other_kinds { map (λ d. within d (1 ∷ 2 ∷ 3 ∷ []) (record (with_both 0 0) { global_limit = 0 })) (printer ∷ link ∷ [])
@@ -32,7 +35,8 @@ pub fn queues_are_within_limits()
         ∷ record (with_both 4 0) { global_limit = 3 } ∷ []) ≡ (true ∷ []) ∷ (false ∷ []) ∷ (false ∷ []) ∷ [] }
 {}
 
-/// A row is eligible from its earliest start on, ready, in its queue, while its owner has fewer active rows there than the user limit.
+/// A row is eligible from its earliest start on, ready, in its queue, while its owner has fewer
+/// active rows there than the user limit.
 pub fn rows_are_eligible()
     ensures moments { map (λ now. is_eligible first_queue now owned timed) (99 ∷ 100 ∷ 101 ∷ []) ≡ false ∷ true ∷ true ∷ [] }
     ensures queues { map (λ q. is_eligible first_queue 100 owned (in_queue q timed)) (codes "batch" ∷ codes "night" ∷ []) ≡ true ∷ false ∷ [] }
@@ -44,7 +48,8 @@ pub fn rows_are_eligible()
         ∷ []) ≡ false ∷ true ∷ [] }
 {}
 
-/// The greatest priority starts first, then the earliest arrival, and of queues the greatest priority, then the first created.
+/// The greatest priority starts first, then the earliest arrival, and of queues the greatest
+/// priority, then the first created.
 pub fn the_first_starts()
     ensures rows { map (λ r. first_of (ranked 1 31 5) r) (ranked 2 30 4 ∷ ranked 2 32 6 ∷ ranked 2 31 4 ∷ ranked 2 31 6 ∷ ranked 2 31 5 ∷ [])
         ≡ (true ∷ false ∷ []) ∷ (false ∷ true ∷ []) ∷ (false ∷ true ∷ []) ∷ (true ∷ false ∷ []) ∷ (false ∷ false ∷ []) ∷ [] }
@@ -70,7 +75,8 @@ pub fn devices_are_free()
     ensures batch { pick 50 (record (workshop (queued 2 ∷ [])) { queues = ready_queue (codes "batch") 5 ∷ [] }) ≡ Some (Launch 1) }
 {}
 
-/// The destination is the first that hasn't refused, and is here or on a host that is free and not waited for.
+/// The destination is the first that hasn't refused, and is here or on a host that is free and not
+/// waited for.
 pub fn destinations_are_tried()
     ensures free { map (λ p. sent_to (crossing p []) (in_link 1)) (new_peer ∷ record new_peer { wait = 50 } ∷ record new_peer { wait = 51 }
         ∷ record new_peer { next = 18446744073709551614 } ∷ record new_peer { next = 18446744073709551615 } ∷ [])

@@ -1,6 +1,8 @@
 //! Which changes fit: each thing that a change needs, there and not there.
 ghost use Rattle.std.specs.Prelude.{◌≡◌, codes, [], ◌∷◌, ◌++◌, map, replicate, true, false, None, Some};
-ghost use Rattle.nqs_types.specs.declared.change.Change.TheVariants.{Submitted, Deleted, Doomed, Started, Ended, Unlaunched, Boot, Edited, HandOpened, HandCommitted, HandRefused, HandsSilent, HandDone, Promised, Accepted, Dropped, MovedLocal, RefusedLocal, HeldFar, StageGot, StageGone, FileGone};
+ghost use Rattle.nqs_types.specs.declared.change.Change.TheVariants.{Submitted, Deleted, Doomed, Started, Ended, Unlaunched, Boot, Edited, HandOpened};
+ghost use Rattle.nqs_types.specs.declared.change.Change.TheVariants.{HandCommitted, HandRefused, HandsSilent, HandDone, Promised, Accepted, Dropped};
+ghost use Rattle.nqs_types.specs.declared.change.Change.TheVariants.{MovedLocal, RefusedLocal, HeldFar, StageGot, StageGone, FileGone};
 ghost use Rattle.nqs_types.specs.declared.edit.Edit.TheVariants.{Conf, Limits, Access, Devices, Rows};
 ghost use Rattle.nqs_types.specs.declared.edit.ConfEdit.TheVariants.{EnableQueue};
 ghost use Rattle.nqs_types.specs.declared.edit.LimitsEdit.TheVariants.{DeleteComplex};
@@ -13,9 +15,11 @@ ghost use Rattle.nqs_worked.specs.ScheduleWords.{host, request};
 ghost use Rattle.nqs_worked.specs.Definitions.{fresh, queued, far_carried, crowded, fit_each, busy};
 ghost use Rattle.nqs_worked_tables.specs.Bounds.{pathed};
 ghost use Rattle.nqs_worked_tables.specs.Refusals.{full_house};
-ghost use Rattle.nqs_worked_tables.specs.Fitting.{fitting, fits_each, fits_of_each_kind, route, opening, opening_bounds, last_opening, promising, promised, full_for};
+ghost use Rattle.nqs_worked_tables.specs.Fitting.{fitting, fits_each, fits_of_each_kind, route, opening, opening_bounds, last_opening, promising, promised};
+ghost use Rattle.nqs_worked_tables.specs.Fitting.{full_for};
 
-/// Changes of one request: of one that is queued, runs, is on its way, is held by the user, by the system, and of one that isn't there.
+/// Changes of one request: of one that is queued, runs, is on its way, is held by the user, by the
+/// system, and of one that isn't there.
 pub fn changes_of_requests_fit()
     ensures deleted { fits_of_each_kind (λ seq. Deleted (request seq 0)) ≡ true ∷ false ∷ true ∷ true ∷ true ∷ false ∷ [] }
     ensures doomed { fits_of_each_kind (λ seq. Doomed (request seq 0)) ≡ false ∷ true ∷ false ∷ false ∷ false ∷ false ∷ [] }
@@ -35,7 +39,8 @@ pub fn changes_of_requests_fit()
         ≡ true ∷ false ∷ true ∷ false ∷ true ∷ false ∷ true ∷ false ∷ true ∷ false ∷ [] }
 {}
 
-/// A submission needs a queue, room for a row, a sequence number and an arrival; a move a queue, a hop and an arrival.
+/// A submission needs a queue, room for a row, a sequence number and an arrival; a move a queue, a
+/// hop and an arrival.
 pub fn numbers_fit()
     ensures rows { map (λ n. fitting (Submitted (codes "batch") pathed []) (crowded n)) (9998 ∷ 9999 ∷ []) ≡ true ∷ false ∷ [] }
     ensures sequence { map (λ n. fitting (Submitted (codes "batch") pathed []) (record fresh { seq = n })) (4294967293 ∷ 4294967294 ∷ []) ≡ true ∷ false ∷ [] }

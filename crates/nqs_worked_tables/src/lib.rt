@@ -1,8 +1,10 @@
-//! Tables of the rules: values of single definitions that were written by hand from `docs/rules.md`.
+//! Tables of the rules: values of single definitions that were written by hand from
+//! `docs/rules.md`.
 //!
-//! Each law says that a definition has these values, and is proved by computing them. The tables go over each bound, each
-//! pair of neighbouring refusals, each kind of change and of datagram, so that a definition in which one word is another is
-//! refused here. `docs/pinned.md` says what is pinned and how that was counted.
+//! Each law says that a definition has these values, and is proved by computing them. The tables go
+//! over each bound, each pair of neighbouring refusals, each kind of change and of datagram, so
+//! that a definition in which one word is another is refused here. `docs/pinned.md` says what is
+//! pinned and how that was counted.
 #![tactic(auto)]
 
 pub mod bounds;

@@ -5,12 +5,19 @@ ghost use Rattle.nqs_types.specs.declared.request.Hold.TheVariants.{User, System
 ghost use Rattle.nqs_types.specs.declared.request.Phase.TheVariants.{Offered, Committed};
 ghost use Rattle.nqs_types.specs.declared.queue.Kind.TheVariants.{Batch, Device, Pipe};
 ghost use Rattle.nqs_types.specs.declared.queue.Access.TheVariants.{Users};
-ghost use Rattle.nqs_types.specs.declared.change.Change.TheVariants.{Site, Submitted, Deleted, Doomed, Started, Ended, Unlaunched, Boot, Edited, HandOpened, HandCommitted, HandRefused, HandsSilent, HandDone, Promised, Accepted, Dropped, MovedLocal, RefusedLocal, HeldFar, StageGot, StageGone, FileGone};
+ghost use Rattle.nqs_types.specs.declared.change.Change.TheVariants.{Site, Submitted, Deleted, Doomed, Started, Ended, Unlaunched, Boot, Edited, HandOpened};
+ghost use Rattle.nqs_types.specs.declared.change.Change.TheVariants.{HandCommitted, HandRefused, HandsSilent, HandDone, Promised, Accepted, Dropped};
+ghost use Rattle.nqs_types.specs.declared.change.Change.TheVariants.{MovedLocal, RefusedLocal, HeldFar, StageGot, StageGone, FileGone};
 ghost use Rattle.nqs_types.specs.declared.edit.Edit.TheVariants.{Conf, Limits, Access, Devices, Rows};
-ghost use Rattle.nqs_types.specs.declared.edit.ConfEdit.TheVariants.{CreateBatchQueue, CreateDeviceQueue, CreatePipeQueue, DeleteQueue, EnableQueue, DisableQueue, StartQueue, StopQueue, PurgeQueue, SetPriority, SetRunLimit, AddDestination, RemoveDestination, SetDefaultQueue, SetNoDefaultQueue, SetPatience, SetRetryWait};
-ghost use Rattle.nqs_types.specs.declared.edit.LimitsEdit.TheVariants.{SetUserLimit, SetCpuLimit, SetMemoryLimit, CreateComplex, DeleteComplex, AddQueue, RemoveQueue, SetComplexLimit, SetGlobalLimit};
-ghost use Rattle.nqs_types.specs.declared.edit.AccessEdit.TheVariants.{SetUnrestrictedAccess, SetNoAccess, AddUser, RemoveUser, AddManager, RemoveManager, AddOperator, RemoveOperator};
-ghost use Rattle.nqs_types.specs.declared.edit.DevicesEdit.TheVariants.{CreateDevice, DeleteDevice, EnableDevice, DisableDevice, SetForms, AddDevice, RemoveDevice};
+ghost use Rattle.nqs_types.specs.declared.edit.ConfEdit.TheVariants.{CreateBatchQueue, CreateDeviceQueue, CreatePipeQueue, DeleteQueue, EnableQueue};
+ghost use Rattle.nqs_types.specs.declared.edit.ConfEdit.TheVariants.{DisableQueue, StartQueue, StopQueue, PurgeQueue, SetPriority, SetRunLimit, AddDestination};
+ghost use Rattle.nqs_types.specs.declared.edit.ConfEdit.TheVariants.{RemoveDestination, SetDefaultQueue, SetNoDefaultQueue, SetPatience, SetRetryWait};
+ghost use Rattle.nqs_types.specs.declared.edit.LimitsEdit.TheVariants.{SetUserLimit, SetCpuLimit, SetMemoryLimit, CreateComplex, DeleteComplex, AddQueue};
+ghost use Rattle.nqs_types.specs.declared.edit.LimitsEdit.TheVariants.{RemoveQueue, SetComplexLimit, SetGlobalLimit};
+ghost use Rattle.nqs_types.specs.declared.edit.AccessEdit.TheVariants.{SetUnrestrictedAccess, SetNoAccess, AddUser, RemoveUser, AddManager, RemoveManager};
+ghost use Rattle.nqs_types.specs.declared.edit.AccessEdit.TheVariants.{AddOperator, RemoveOperator};
+ghost use Rattle.nqs_types.specs.declared.edit.DevicesEdit.TheVariants.{CreateDevice, DeleteDevice, EnableDevice, DisableDevice, SetForms, AddDevice};
+ghost use Rattle.nqs_types.specs.declared.edit.DevicesEdit.TheVariants.{RemoveDevice};
 ghost use Rattle.nqs_types.specs.declared.edit.RowsEdit.TheVariants.{AbortQueue, HoldRequest, ReleaseRequest, MoveRequest, ModifyRequest};
 ghost use Rattle.nqs_rules.specs.Find.{peer_number};
 ghost use Rattle.nqs_rules.specs.Format.{formatted, first_queue, new_peer};
@@ -22,7 +29,8 @@ ghost use Rattle.nqs_worked_tables.specs.Bounds.{pathed, part, kept_changes};
 ghost use Rattle.nqs_worked_tables.specs.Refusals.{full_house, printer, of_each_kind, to_beta, to_alpha};
 ghost use Rattle.nqs_worked_tables.specs.OrderBounds.{hand, on_the_way, started};
 ghost use Rattle.nqs_worked_tables.specs.Fitting.{route};
-ghost use Rattle.nqs_worked_tables.specs.Made.{edited, idle_row, printing_row, routing_row, user_row, system_row, queues_are, batch_is, rows_are, made_queue, incoming, at_work, rests, in_doubt, peers_are, busy_row, stored_changes, part_of_extent};
+ghost use Rattle.nqs_worked_tables.specs.Made.{edited, idle_row, printing_row, routing_row, user_row, system_row, queues_are, batch_is, rows_are, made_queue};
+ghost use Rattle.nqs_worked_tables.specs.Made.{incoming, at_work, rests, in_doubt, peers_are, busy_row, stored_changes, part_of_extent};
 
 /// Queues are created last, disabled and stopped, and deleted out of complexes and as the default.
 pub fn queues_are_made()
@@ -122,7 +130,8 @@ pub fn members_are_added()
         ∷ queues_are (first_queue ∷ record printer { devices = [] } ∷ link ∷ []) ∷ [] }
 {}
 
-/// A purge takes the queued rows of one queue, an abort dooms the running rows of one; and the edits of one row.
+/// A purge takes the queued rows of one queue, an abort dooms the running rows of one; and the
+/// edits of one row.
 pub fn rows_are_edited()
     ensures purge { map edited (Conf (PurgeQueue (codes "batch")) ∷ Conf (PurgeQueue (codes "lp")) ∷ Conf (PurgeQueue (codes "link")) ∷ [])
         ≡ rows_are (printing_row ∷ routing_row ∷ []) ∷ full_house ∷ full_house ∷ [] }
@@ -186,7 +195,8 @@ pub fn requests_are_changed()
         ≡ rows_are (record idle_row { hold = System } ∷ printing_row ∷ routing_row ∷ user_row ∷ system_row ∷ []) }
 {}
 
-/// An output of a request of this host is a file, of another one a stage, each under the next number as long as one is left.
+/// An output of a request of this host is a file, of another one a stage, each under the next
+/// number as long as one is left.
 pub fn outputs_are_made()
     ensures none { applied (Ended (request 2 0) []) at_work
         ≡ rests (started 1 0 ∷ record (started 1 0) { id = request 2 2 } ∷ record (started 1 0) { id = request 1 2 } ∷ []) }

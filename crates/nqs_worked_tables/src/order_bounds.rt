@@ -6,12 +6,18 @@ ghost use Rattle.nqs_types.specs.declared.request.Hold.TheVariants.{User, System
 ghost use Rattle.nqs_types.specs.declared.request.Phase.TheVariants.{Offered, Committed};
 ghost use Rattle.nqs_rules.specs.Tests.{same_host};
 ghost use Rattle.nqs_rules.specs.Format.{new_peer};
-ghost use Rattle.nqs_rules.specs.InOrder.{is_site_right, are_parameters_right, are_lists_short, are_keys_distinct, are_distinct, arrivals_of, same_number, is_queue_right, is_complex_right, is_promise_right, promisers, is_hand_right, offered_ids, has_few_hands, is_peer_right, is_stage_right, is_file_right, are_parts_short, is_doom_right, is_hold_right, has_hand, is_promise_free, is_hand_of_given};
+ghost use Rattle.nqs_rules.specs.InOrder.{is_site_right, are_parameters_right, are_lists_short, are_keys_distinct, are_distinct, arrivals_of, same_number};
+ghost use Rattle.nqs_rules.specs.InOrder.{is_queue_right, is_complex_right, is_promise_right, promisers, is_hand_right, offered_ids, has_few_hands};
+ghost use Rattle.nqs_rules.specs.InOrder.{is_peer_right, is_stage_right, is_file_right, are_parts_short, is_doom_right, is_hold_right, has_hand};
+ghost use Rattle.nqs_rules.specs.InOrder.{is_promise_free, is_hand_of_given};
 ghost use Rattle.nqs_worked.specs.ScheduleWords.{host, request};
-ghost use Rattle.nqs_worked.specs.Definitions.{fresh, with_queues, with_complexes, with_devices, with_managers, with_operators, crowded, queued, running, promise, a_stage, a_file};
+ghost use Rattle.nqs_worked.specs.Definitions.{fresh, with_queues, with_complexes, with_devices, with_managers, with_operators, crowded, queued, running};
+ghost use Rattle.nqs_worked.specs.Definitions.{promise, a_stage, a_file};
 ghost use Rattle.nqs_worked_tables.specs.Bounds.{bad_path};
 ghost use Rattle.nqs_worked_tables.specs.Refusals.{held};
-ghost use Rattle.nqs_worked_tables.specs.OrderBounds.{sited, with_two_devices, may_list, queue_bounds, complex, is_row_of_home, home, right_rows, wrong_rows, is_promise_of_home, promise_bounds, hand, handing, hand_bounds, with_hands, staging, apart, not_apart, with_part, on_the_way, with_hand, doomed};
+ghost use Rattle.nqs_worked_tables.specs.OrderBounds.{sited, with_two_devices, may_list, queue_bounds, complex, is_row_of_home, home, right_rows, wrong_rows};
+ghost use Rattle.nqs_worked_tables.specs.OrderBounds.{is_promise_of_home, promise_bounds, hand, handing, hand_bounds, with_hands, staging, apart, not_apart};
+ghost use Rattle.nqs_worked_tables.specs.OrderBounds.{with_part, on_the_way, with_hand, doomed};
 
 /// A site has 1 to 16 hosts, this one among them, and as many peers.
 pub fn sites_have_bounds()
@@ -94,7 +100,8 @@ pub fn numbers_have_bounds()
     ensures long_parts { map (are_parts_short length) (with_part 32769) ≡ replicate 4 false }
 {}
 
-/// At every moment: who may be doomed and held, that what routes is offered, that a promise is free, that a handover's request was given.
+/// At every moment: who may be doomed and held, that what routes is offered, that a promise is
+/// free, that a handover's request was given.
 pub fn moments_have_bounds()
     ensures doomed { map (λ r. is_doom_right (doomed r)) (running 1 ∷ queued 1 ∷ on_the_way 1 ∷ []) ≡ true ∷ false ∷ false ∷ [] }
     ensures not_doomed { map is_doom_right (running 1 ∷ queued 1 ∷ on_the_way 1 ∷ []) ≡ true ∷ true ∷ true ∷ [] }

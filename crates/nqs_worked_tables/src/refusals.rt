@@ -1,16 +1,30 @@
-//! The order of refusals: for each command and offer states in which neighbouring refusals hold at once.
+//! The order of refusals: for each command and offer states in which neighbouring refusals hold at
+//! once.
 ghost use Rattle.std.specs.Prelude.{◌≡◌, codes, [], ◌∷◌, ◌++◌, map, replicate, true, false, None, Some, Ok, Err};
 ghost use Rattle.nqs_types.specs.declared.edit.Edit.TheVariants.{Conf, Limits, Access, Devices, Rows};
-ghost use Rattle.nqs_types.specs.declared.edit.ConfEdit.TheVariants.{CreateBatchQueue, CreateDeviceQueue, CreatePipeQueue, DeleteQueue, EnableQueue, DisableQueue, StartQueue, StopQueue, PurgeQueue, SetPriority, SetRunLimit, AddDestination, RemoveDestination, SetDefaultQueue, SetNoDefaultQueue, SetPatience, SetRetryWait};
-ghost use Rattle.nqs_types.specs.declared.edit.LimitsEdit.TheVariants.{SetUserLimit, SetCpuLimit, SetMemoryLimit, CreateComplex, DeleteComplex, AddQueue, RemoveQueue, SetComplexLimit, SetGlobalLimit};
-ghost use Rattle.nqs_types.specs.declared.edit.AccessEdit.TheVariants.{SetUnrestrictedAccess, SetNoAccess, AddUser, RemoveUser, AddManager, RemoveManager, AddOperator, RemoveOperator};
-ghost use Rattle.nqs_types.specs.declared.edit.DevicesEdit.TheVariants.{CreateDevice, DeleteDevice, EnableDevice, DisableDevice, SetForms, AddDevice, RemoveDevice};
+ghost use Rattle.nqs_types.specs.declared.edit.ConfEdit.TheVariants.{CreateBatchQueue, CreateDeviceQueue, CreatePipeQueue, DeleteQueue, EnableQueue};
+ghost use Rattle.nqs_types.specs.declared.edit.ConfEdit.TheVariants.{DisableQueue, StartQueue, StopQueue, PurgeQueue, SetPriority, SetRunLimit, AddDestination};
+ghost use Rattle.nqs_types.specs.declared.edit.ConfEdit.TheVariants.{RemoveDestination, SetDefaultQueue, SetNoDefaultQueue, SetPatience, SetRetryWait};
+ghost use Rattle.nqs_types.specs.declared.edit.LimitsEdit.TheVariants.{SetUserLimit, SetCpuLimit, SetMemoryLimit, CreateComplex, DeleteComplex, AddQueue};
+ghost use Rattle.nqs_types.specs.declared.edit.LimitsEdit.TheVariants.{RemoveQueue, SetComplexLimit, SetGlobalLimit};
+ghost use Rattle.nqs_types.specs.declared.edit.AccessEdit.TheVariants.{SetUnrestrictedAccess, SetNoAccess, AddUser, RemoveUser, AddManager, RemoveManager};
+ghost use Rattle.nqs_types.specs.declared.edit.AccessEdit.TheVariants.{AddOperator, RemoveOperator};
+ghost use Rattle.nqs_types.specs.declared.edit.DevicesEdit.TheVariants.{CreateDevice, DeleteDevice, EnableDevice, DisableDevice, SetForms, AddDevice};
+ghost use Rattle.nqs_types.specs.declared.edit.DevicesEdit.TheVariants.{RemoveDevice};
 ghost use Rattle.nqs_types.specs.declared.edit.RowsEdit.TheVariants.{AbortQueue, MoveRequest};
-ghost use Rattle.nqs_types.specs.declared.refusal.Refusal.TheVariants.{NoQueue, NoComplex, NoDevice, NoRequest, NoHost, NoDefault, QueueExists, ComplexExists, DeviceExists, WrongKind, DestExists, NoDest, NotMember, IsMember, KeepRoot, NotOwner, Disabled, PipeOnly, NoAccess, RequestRouting, RequestRunning, NotHeld, IsHeld, QueueInUse, DeviceBusy, OverCpu, OverMemory, TooMany, HostFull, NumbersUsed, RequestExists};
+ghost use Rattle.nqs_types.specs.declared.refusal.Refusal.TheVariants.{NoQueue, NoComplex, NoDevice, NoRequest, NoHost, NoDefault, QueueExists, ComplexExists};
+ghost use Rattle.nqs_types.specs.declared.refusal.Refusal.TheVariants.{DeviceExists, WrongKind, DestExists, NoDest, NotMember, IsMember, KeepRoot, NotOwner};
+ghost use Rattle.nqs_types.specs.declared.refusal.Refusal.TheVariants.{Disabled, PipeOnly, NoAccess, RequestRouting, RequestRunning, NotHeld, IsHeld};
+ghost use Rattle.nqs_types.specs.declared.refusal.Refusal.TheVariants.{QueueInUse, DeviceBusy, OverCpu, OverMemory, TooMany, HostFull, NumbersUsed};
+ghost use Rattle.nqs_types.specs.declared.refusal.Refusal.TheVariants.{RequestExists};
 ghost use Rattle.nqs_rules.specs.Format.{first_queue};
 ghost use Rattle.nqs_worked.specs.ScheduleWords.{request, named};
-ghost use Rattle.nqs_worked.specs.Definitions.{fresh, link, with_queues, with_complexes, with_devices, with_managers, with_operators, with_users, with_dests, sample, carried, queued, with_promise};
-ghost use Rattle.nqs_worked_tables.specs.Refusals.{refused_each, refused_at_each, full_house, to_beta, to_alpha, to_zed, with_batch_dests, mixed_up, haunted, holding, without_root, strict, ways_in, greedy_submission, greedy_row, greedy_carried, last_arrival, crowded_with, submitted_to, offered_to, moved_to, deleted_by, holds_each, releases_each, moves_each, modifies_each, all_held, greedy_at};
+ghost use Rattle.nqs_worked.specs.Definitions.{fresh, link, with_queues, with_complexes, with_devices, with_managers, with_operators, with_users, with_dests};
+ghost use Rattle.nqs_worked.specs.Definitions.{sample, carried, queued, with_promise};
+ghost use Rattle.nqs_worked_tables.specs.Refusals.{refused_each, refused_at_each, full_house, to_beta, to_alpha, to_zed, with_batch_dests, mixed_up, haunted};
+ghost use Rattle.nqs_worked_tables.specs.Refusals.{holding, without_root, strict, ways_in, greedy_submission, greedy_row, greedy_carried, last_arrival};
+ghost use Rattle.nqs_worked_tables.specs.Refusals.{crowded_with, submitted_to, offered_to, moved_to, deleted_by, holds_each, releases_each, moves_each};
+ghost use Rattle.nqs_worked_tables.specs.Refusals.{modifies_each, all_held, greedy_at};
 
 /// A queue is created: its destination's host, then its name, then the number of queues.
 pub fn creations_of_queues_are_refused()
@@ -57,7 +71,8 @@ pub fn queues_are_there()
         ≡ Ok tt ∷ Ok tt ∷ Err WrongKind ∷ [] }
 {}
 
-/// A destination is added: the queue, the host, the kind, whether it is there, how many there are; and removed: the queue, the kind, whether it is there.
+/// A destination is added: the queue, the host, the kind, whether it is there, how many there are;
+/// and removed: the queue, the kind, whether it is there.
 pub fn destinations_are_refused()
     ensures add { refused_each (Conf (AddDestination (to_zed (codes "x")) (codes "nope")) ∷ Conf (AddDestination (to_beta (codes "x")) (codes "nope"))
         ∷ Conf (AddDestination (to_zed (codes "x")) (codes "lp")) ∷ Conf (AddDestination (to_beta (codes "x")) (codes "lp"))
@@ -113,7 +128,8 @@ pub fn users_are_refused()
     ensures no_root { refused_each (Access (RemoveManager (codes "root")) ∷ []) without_root ≡ Err NotMember ∷ [] }
 {}
 
-/// Devices: whether there is one of that name, whether it is busy, the queue, its kind, whether it is a member.
+/// Devices: whether there is one of that name, whether it is busy, the queue, its kind, whether it
+/// is a member.
 pub fn devices_are_refused()
     ensures create { refused_each (Devices (CreateDevice (codes "d") (codes "f")) ∷ Devices (CreateDevice (codes "x") (codes "f")) ∷ []) (with_devices 64)
         ≡ Err (DeviceExists (codes "d")) ∷ Err TooMany ∷ [] }
@@ -167,7 +183,8 @@ pub fn edits_of_requests_are_refused()
         ∷ (Err (OverCpu (codes "batch")) ∷ []) ∷ (Err (OverMemory (codes "batch")) ∷ []) ∷ (Err NumbersUsed ∷ []) ∷ [] }
 {}
 
-/// A submission: the queue, whether it is enabled, pipe-only, its list, cpu, memory, the rows of the host, its numbers.
+/// A submission: the queue, whether it is enabled, pipe-only, its list, cpu, memory, the rows of
+/// the host, its numbers.
 pub fn submissions_are_refused()
     ensures queue { map (λ s. submitted_to sample s) (record fresh { default_queue = None } ∷ record fresh { default_queue = Some (codes "nope") } ∷ fresh
         ∷ []) ≡ Err NoDefault ∷ Err (NoQueue (codes "nope")) ∷ Ok tt ∷ [] }
@@ -181,7 +198,8 @@ pub fn submissions_are_refused()
         ∷ first_queue ∷ []) ≡ Err (OverMemory (codes "batch")) ∷ Err HostFull ∷ [] }
 {}
 
-/// A deletion: the request, its owner, whether it runs. Operators and managers may delete any request.
+/// A deletion: the request, its owner, whether it runs. Operators and managers may delete any
+/// request.
 pub fn deletions_are_refused()
     ensures owner { map (deleted_by (codes "ann")) (1 ∷ 2 ∷ 3 ∷ 4 ∷ [])
         ≡ (Ok tt ∷ Ok tt ∷ []) ∷ (Err (RequestRunning (named 2 (codes "alpha"))) ∷ Ok tt ∷ []) ∷ (Ok tt ∷ Ok tt ∷ []) ∷ (Ok tt ∷ Ok tt ∷ []) ∷ [] }

@@ -1,7 +1,9 @@
 //! What one event makes of one host: each datagram in each case, commands, ends of jobs, files.
 ghost use Rattle.std.specs.Prelude.{◌≡◌, codes, [], ◌∷◌, map, replicate, true, false, None, Some};
-ghost use Rattle.nqs_types.specs.declared.refusal.Refusal.TheVariants.{NotManager, NotOperator, NoQueue, NoRequest, NoDefault, RequestRunning, NotOwner, IsMember};
-ghost use Rattle.nqs_types.specs.declared.change.Change.TheVariants.{Submitted, Deleted, Doomed, Ended, Unlaunched, Edited, HandCommitted, HandRefused, HandDone, Promised, Accepted, Dropped, StageGot, StageGone, FileGone};
+ghost use Rattle.nqs_types.specs.declared.refusal.Refusal.TheVariants.{NotManager, NotOperator, NoQueue, NoRequest, NoDefault, RequestRunning, NotOwner};
+ghost use Rattle.nqs_types.specs.declared.refusal.Refusal.TheVariants.{IsMember};
+ghost use Rattle.nqs_types.specs.declared.change.Change.TheVariants.{Submitted, Deleted, Doomed, Ended, Unlaunched, Edited, HandCommitted, HandRefused};
+ghost use Rattle.nqs_types.specs.declared.change.Change.TheVariants.{HandDone, Promised, Accepted, Dropped, StageGot, StageGone, FileGone};
 ghost use Rattle.nqs_types.specs.declared.edit.Edit.TheVariants.{Conf, Limits, Access, Rows};
 ghost use Rattle.nqs_types.specs.declared.edit.ConfEdit.TheVariants.{EnableQueue, PurgeQueue};
 ghost use Rattle.nqs_types.specs.declared.edit.LimitsEdit.TheVariants.{SetGlobalLimit};
@@ -22,7 +24,8 @@ ghost use Rattle.nqs_worked.specs.ScheduleWords.{host, request, named, submissio
 ghost use Rattle.nqs_worked.specs.Definitions.{fresh, queued, carried, far_carried};
 ghost use Rattle.nqs_worked_tables.specs.Bounds.{part};
 ghost use Rattle.nqs_worked_tables.specs.Refusals.{full_house};
-ghost use Rattle.nqs_worked_tables.specs.Steps.{party, arrive, only_says, makes_and_says, ask, only_replies, makes_and_replies, sim, two_at_work, guests, free_guests, joining, ends};
+ghost use Rattle.nqs_worked_tables.specs.Steps.{party, arrive, only_says, makes_and_says, ask, only_replies, makes_and_replies, sim, two_at_work, guests};
+ghost use Rattle.nqs_worked_tables.specs.Steps.{free_guests, joining, ends};
 
 /// An OFFER: closed numbers first, then promises, then refusals.
 pub fn offers_come()
@@ -36,7 +39,8 @@ pub fn offers_come()
         ≡ only_says 1 (body.Done 2) ∷ only_says 1 (body.Ready 3) ∷ makes_and_says (Promised (host 1) 9 (codes "batch") far_carried []) 1 (body.Ready 9) ∷ [] }
 {}
 
-/// READY and INQUIRE: an offered handover is committed, a committed one said again, and what there is none of, though its number was given, is called off.
+/// READY and INQUIRE: an offered handover is committed, a committed one said again, and what there
+/// is none of, though its number was given, is called off.
 pub fn answers_come()
     ensures ready { arrive 1 (body.Ready 1 ∷ body.Ready 2 ∷ body.Ready 4 ∷ []) party
         ≡ makes_and_says (HandCommitted (host 1) 1) 1 (body.Commit 1) ∷ quiet ∷ quiet ∷ [] }
@@ -53,7 +57,8 @@ pub fn answers_come()
     ensures done_second { arrive 1 (body.Done 1 ∷ body.Done 4 ∷ []) party ≡ quiet ∷ quiet ∷ [] }
 {}
 
-/// COMMIT and ABORT of a promise, of a closed number and of an open one; said again they change nothing.
+/// COMMIT and ABORT of a promise, of a closed number and of an open one; said again they change
+/// nothing.
 pub fn decisions_come()
     ensures commit { arrive 2 (body.Commit 9 ∷ body.Commit 8 ∷ body.Commit 10 ∷ []) party
         ≡ makes_and_says (Accepted (host 2) 9) 2 (body.Done 9) ∷ only_says 2 (body.Done 8) ∷ quiet ∷ [] }
@@ -104,7 +109,8 @@ pub fn submissions_are_answered()
         ≡ only_replies (reply.Refused NoDefault) ∷ only_replies (reply.Refused (NoQueue (codes "x"))) ∷ [] }
 {}
 
-/// A deletion of a request that runs is a kill, of another one is at once; an abort kills what runs in that queue, doomed or not.
+/// A deletion of a request that runs is a kill, of another one is at once; an abort kills what runs
+/// in that queue, doomed or not.
 pub fn kills_go_out()
     ensures queued { map (λ kill. ask (codes "ann") (command.Delete (named 4 (codes "alpha")) kill) two_at_work) (false ∷ true ∷ [])
         ≡ replicate 2 (makes_and_replies (Deleted (request 4 0)) (reply.Deleted (request 4 0)) []) }
@@ -125,7 +131,8 @@ pub fn kills_go_out()
         ≡ makes_and_replies (Edited (Conf (PurgeQueue (codes "batch")))) reply.Done [] }
 {}
 
-/// A command that can't be read is answered before ranks, a rank before what the command names; lists change nothing.
+/// A command that can't be read is answered before ranks, a rank before what the command names;
+/// lists change nothing.
 pub fn commands_are_answered()
     ensures unread { map (λ c. ask (codes "ann") c fresh) (command.UnreadLine (grammar.Extra 4) ∷ command.UnreadWords (bad_words words_cause.Missing 0 2) ∷ [])
         ≡ only_replies (reply.UnreadLine (grammar.Extra 4)) ∷ only_replies (reply.UnreadWords (bad_words words_cause.Missing 0 2)) ∷ [] }

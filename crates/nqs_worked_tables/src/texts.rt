@@ -1,4 +1,5 @@
-//! The lines of all that is seen, lists of requests, the bytes of a transcript, and the table of a network.
+//! The lines of all that is seen, lists of requests, the bytes of a transcript, and the table of a
+//! network.
 ghost use Rattle.std.specs.Prelude.{◌≡◌, codes, [], ◌∷◌, map, true, false, None, Some};
 ghost use Rattle.nqs_types.specs.declared.request.RowState.TheVariants.{Routing, Running};
 ghost use Rattle.nqs_types.specs.declared.request.Hold.TheVariants.{User, System};
@@ -8,7 +9,8 @@ ghost use Rattle.nqs_rules.specs.Text.{words, seen_state};
 ghost use Rattle.nqs_rules.specs.Net.{entries, entry_of, is_table, table, last_given};
 ghost use Rattle.nqs_worked.specs.ScheduleWords.{host, request, told};
 ghost use Rattle.nqs_worked.specs.Definitions.{queued, with_row};
-ghost use Rattle.nqs_worked_tables.specs.Texts.{told_each, seen_of_requests, seen_of_hosts, seen_of_replies, packets, table_of_each, list_of, shortest, shortest_bytes, sender, receiver};
+ghost use Rattle.nqs_worked_tables.specs.Texts.{told_each, seen_of_requests, seen_of_hosts, seen_of_replies, packets, table_of_each, list_of, shortest};
+ghost use Rattle.nqs_worked_tables.specs.Texts.{shortest_bytes, sender, receiver};
 
 /// The line of each thing that is seen.
 pub fn lines_are_told()
@@ -66,7 +68,8 @@ pub fn lines_are_told()
     ensures words { map words ([] ∷ (codes "a" ∷ []) ∷ (codes "a" ∷ codes "b" ∷ codes "c" ∷ []) ∷ []) ≡ [] ∷ codes "a" ∷ codes "a b c" ∷ [] }
 {}
 
-/// A list of requests: by creation of queues, greater priority, earlier arrival; of all or of one user, of all queues or of some.
+/// A list of requests: by creation of queues, greater priority, earlier arrival; of all or of one
+/// user, of all queues or of some.
 pub fn requests_are_listed()
     ensures all { list_of None [] ≡
         codes "4.alpha sim ann batch ROUTING 63"
@@ -95,7 +98,8 @@ pub fn transcript_is_bytes()
     ensures { told (codes "a" ∷ []) shortest ≡ shortest_bytes }
 {}
 
-/// A request lies with a host that has a row of it, or a promise that its sender has committed; the table is by host and then by request.
+/// A request lies with a host that has a row of it, or a promise that its sender has committed; the
+/// table is by host and then by request.
 pub fn network_is_shown()
     ensures offered { map (λ r. r.id) (table (sender Offered ∷ receiver ∷ [])) ≡ request 2 0 ∷ request 4 1 ∷ request 5 1 ∷ [] }
     ensures committed { table (sender Committed ∷ receiver ∷ []) ≡

@@ -1,4 +1,5 @@
-//! The world: how many calls each change makes, where fuses fall, which packet is meant, and what is seen of hosts that are up and down.
+//! The world: how many calls each change makes, where fuses fall, which packet is meant, and what
+//! is seen of hosts that are up and down.
 ghost use Rattle.std.specs.Prelude.{◌≡◌, codes, [], ◌∷◌, ◌++◌, map, replicate, true, false, None, Some};
 ghost use Rattle.nqs_values.specs.declared.tear.Tear.TheVariants.{Old, New, Mixed};
 ghost use Rattle.nqs_types.specs.declared.world.Which.TheVariants.{Root, First, Second, Spool};
@@ -9,14 +10,19 @@ ghost use Rattle.nqs_types.specs.declared.message.Tool.TheVariants.{Qmgr};
 ghost use Rattle.nqs_types.specs.declared.event.Output.TheVariants as out;
 ghost use Rattle.nqs_types.specs.declared.event.Reply.TheVariants as reply;
 ghost use Rattle.nqs_types.specs.declared.event.Command.TheVariants.{Shutdown, Tick};
-ghost use Rattle.nqs_rules.specs.World.{Asks, Ends, Fails, Writes, Leaves, Delivers, Newest, Ticks, Finishes, Clock, Fuse, Crashes, Boots, Shows, Made, StoppedBefore, StoppedAfter, no_fuses, new_host, fate, falls, burnt, spool_calls, used, stopped, body_kind, body_number, seen_output, sent_by, packet_at, newest_between, boot_output, fused, is_less_id};
+ghost use Rattle.nqs_rules.specs.Format.{formatted};
+ghost use Rattle.nqs_rules.specs.World.{Asks, Ends, Fails, Writes, Leaves, Delivers, Newest, Ticks, Finishes, Clock, Fuse, Crashes, Boots, Shows, Made};
+ghost use Rattle.nqs_rules.specs.World.{StoppedBefore, StoppedAfter, no_fuses, new_host, fate, falls, burnt, spool_calls, used, stopped, body_kind};
+ghost use Rattle.nqs_rules.specs.World.{body_number, seen_output, sent_by, packet_at, newest_between, boot_output, fused, is_less_id};
 ghost use Rattle.nqs_worked.specs.ScheduleWords.{host, request, job_of, one_host, two_hosts};
 ghost use Rattle.nqs_worked.specs.Definitions.{far_carried, queued, running};
 ghost use Rattle.nqs_worked_tables.specs.Refusals.{full_house};
 ghost use Rattle.nqs_worked_tables.specs.OrderBounds.{on_the_way};
-ghost use Rattle.nqs_worked_tables.specs.Worlds.{calls, calls_after, fuses, fused_with, journal_fates, spool_fates, first_fuses, linked, scripted, with_script, at_batch, sent, mail, seen_of, up_after, fuses_after, tears_after, elsewhere};
+ghost use Rattle.nqs_worked_tables.specs.Worlds.{calls, calls_after, told_after, fuses, fused_with, journal_fates, spool_fates, first_fuses, linked, scripted};
+ghost use Rattle.nqs_worked_tables.specs.Worlds.{with_script, at_batch, sent, mail, seen_of, up_after, fuses_after, tears_after, elsewhere};
 
-/// A change makes four calls of the journal, and before them two of the spool for each stored part that isn't empty.
+/// A change makes four calls of the journal, and before them two of the spool for each stored part
+/// that isn't empty. A host knows what its disks told before, until a stop.
 pub fn calls_are_counted()
     ensures new { calls_after two_hosts [] ≡ calls 6 0 ∷ calls 6 0 ∷ [] }
     ensures refused { calls_after one_host (Asks (host 0) (codes "ann") Shutdown ∷ Asks (host 0) (codes "ann") Tick ∷ []) ≡ calls 6 0 ∷ [] }
@@ -31,12 +37,16 @@ pub fn calls_are_counted()
     ensures stops { map (λ acts. calls_after one_host (with_script (codes "date") ∷ acts)) ((Crashes (host 0) ∷ []) ∷ (Crashes (host 0) ∷ Boots (host 0) ∷ [])
         ∷ (Asks (host 0) (codes "root") Shutdown ∷ []) ∷ (Fuse (host 0) First 4 New ∷ with_script (codes "date") ∷ []) ∷ [])
         ≡ replicate 1 (calls 0 0 ∷ []) ++ (calls 4 0 ∷ []) ∷ (calls 0 0 ∷ []) ∷ (calls 0 0 ∷ []) ∷ [] }
+    ensures told { map (λ acts. told_after (with_script [] ∷ with_script (codes "date") ∷ acts))
+        ([] ∷ (Crashes (host 0) ∷ []) ∷ (Crashes (host 0) ∷ Boots (host 0) ∷ []) ∷ [])
+        ≡ ((1 ∷ 0 ∷ 0 ∷ []) ∷ []) ∷ ([] ∷ []) ∷ ((2 ∷ []) ∷ []) ∷ [] }
     ensures parts { map spool_calls ([] ∷ ([] ∷ []) ∷ (codes "a" ∷ []) ∷ (codes "ab" ∷ [] ∷ codes "c" ∷ []) ∷ []) ≡ 0 ∷ 0 ∷ 2 ∷ 4 ∷ [] }
     ensures used { used (codes "a"
         ∷ []) full_house (record (new_host one_host 0) { tear = New; fuses = first_fuses; calls = record { root = 1; first = 2; second = 3; spool = 4 } })
         ≡ record {
           up = true;
           state = full_house;
+          told = replicate 2 (formatted (host 0) one_host);
           tear = New;
           fuses = record { root = Some 11; first = Some 8; second = Some 13; spool = Some 12 };
           calls = record { root = 1; first = 6; second = 3; spool = 6 };
@@ -46,6 +56,7 @@ pub fn calls_are_counted()
         ≡ record {
           up = false;
           state = full_house;
+          told = [];
           tear = New;
           fuses = record { root = None; first = None; second = None; spool = None };
           calls = record
@@ -53,7 +64,8 @@ pub fn calls_are_counted()
         } }
 {}
 
-/// Where a fuse falls: at a call of the spool or at the first two of the journal a change isn't kept, at the last two as the tear has it.
+/// Where a fuse falls: at a call of the spool or at the first two of the journal a change isn't
+/// kept, at the last two as the tear has it.
 pub fn fuses_fall()
     ensures old { journal_fates Old ≡ replicate 4 StoppedBefore ++ Made ∷ [] }
     ensures new { journal_fates New ≡ StoppedBefore ∷ StoppedBefore ∷ StoppedAfter ∷ StoppedAfter ∷ Made ∷ [] }
@@ -76,7 +88,8 @@ pub fn fuses_fall()
     ensures tears { tears_after (Fuse (host 1) First 9 New ∷ Fuse (host 1) Spool 8 (Mixed 3) ∷ []) ≡ Old ∷ Mixed 3 ∷ [] }
 {}
 
-/// The packet of a number, the newest between two hosts either way, and what is seen where there is none.
+/// The packet of a number, the newest between two hosts either way, and what is seen where there is
+/// none.
 pub fn packets_are_found()
     ensures numbers { map (λ k. packet_at k mail) (0 ∷ 1 ∷ 3 ∷ 5 ∷ 6 ∷ []) ≡ None ∷ Some (sent 0 1 1) ∷ Some (sent 1 0 3) ∷ Some (sent 1 1 5) ∷ None ∷ [] }
     ensures between { newest_between (host 0) (host 1) mail ≡ Some (sent 1 0 3) }

@@ -18,9 +18,9 @@ loop-place-preserved c =
     let place = c.loop-place.place in
     let state = c.index-states-place.result in
     let rest = table_from (place + 1) all (map bare (drop (place + 1) states)) in
-    let left : drop place states ≡ state ∷ drop (place + 1) states = drop_more states place state c.loop-place-test.true ∙ ap (λ s. s ∷ drop (place + 1) states) (sym c.index-states-place.is) in
-    let host : c.in-Ok.host ≡ place = search rules in
-    let rows : c.in_ok-rows.rows.items ≡ table_at all (host_at place) (bare state) = c.in_ok-rows.ensures ∙ ap (λ n. table_at all (host_at n) (bare state)) host in
+    let left : drop place states ≡ state ∷ drop (place + 1) states = drop_more states place state c.loop-place-test.true
+    ∙ ap (λ s. s ∷ drop (place + 1) states) (sym c.index-states-place.is) in
+    let rows : c.in_ok-rows.rows.items ≡ table_at all (host_at place) (bare state) = c.in_ok-rows.ensures in
     ap (λ l. l ++ rest) c.in_ok-append.ensures.items
     ∙ append_assoc c.loop-place.table.items c.in_ok-rows.rows.items rest
     ∙ ap (λ l. c.loop-place.table.items ++ (l ++ rest)) rows
@@ -31,6 +31,7 @@ pub returns : goal.returns
 returns c = λ plains stand.
     let states = c.args.states.now in
     sym (append-nil c.loop-place.table.items)
-    ∙ ap (λ l. c.loop-place.table.items ++ table_from c.loop-place.place (map bare states) (map bare l)) (sym (drop_all c.loop-place.place states c.loop-place-test.false))
+    ∙ ap (λ l. c.loop-place.table.items ++ table_from c.loop-place.place (map bare states) (map bare l))
+    (sym (drop_all c.loop-place.place states c.loop-place-test.false))
     ∙ c.loop-place.invariant
     ∙ sym (table-bare states plains stand)

@@ -13,4 +13,5 @@ returns-in-All c = ap (λ qs. record (content c.args.state.now) { queues = qs })
     (λ j. record v { access = (ap (with_user c.args.user) all ∙ sym all) j }))))
 
 pub returns-in-None : goal.returns-in-None
-returns-in-None c = ap (λ qs. record (content c.args.state.now) { queues = qs }) (sym (change_first-none _ _ c.args.state.now.queues.items (sym c.in-None.ensures)))
+returns-in-None c = ap (λ qs. record (content c.args.state.now) { queues = qs })
+    (sym (change_first-none _ _ c.args.state.now.queues.items (sym c.in-None.ensures)))

@@ -5,4 +5,5 @@ use Rattle.nqs_rules.specs.Access.{access_edited}
 use Rattle.nqs_access.proofs.apply.remove_user.Goals as goal
 
 pub returns : goal.returns
-returns c = ap (λ qs. record (content c.args.state.now) { queues = qs }) (c.change.ensures.changed (access_edited (RemoveUser c.args.user.now c.args.queue.now)) (λ v w found ran. search rules))
+returns c = ap (λ qs. record (content c.args.state.now) { queues = qs }) (c.change.ensures.changed (access_edited (RemoveUser c.args.user.now c.args.queue.now))
+    (λ v w found ran. search rules))

@@ -22,4 +22,5 @@ pub returns : goal.returns
 returns c =
     let s = content c.loop-id.state in
     let ids = c.args.running.now in
-    sym (at_drop_all (λ l. requests_booted l s) ids c.loop-id.id-index c.loop-id-test.false) ∙ c.loop-id.invariant.1 ∙ boot_is ids (content c.args.state.now) c.requires.order c.requires.only
+    sym (at_drop_all (λ l. requests_booted l s) ids c.loop-id.id-index c.loop-id-test.false) ∙ c.loop-id.invariant.1
+    ∙ boot_is ids (content c.args.state.now) c.requires.order c.requires.only

@@ -5,4 +5,5 @@ use Rattle.nqs_changes.specs.Running.{requests_booted}
 use Rattle.nqs_changes.proofs.boot.boot_running.Given as goal
 
 abbrev pub invariant-loop-id : goal.invariant-loop-id
-invariant-loop-id l = IsInOrder (content l.state) × (requests_booted (drop l.id-index l.running) (content l.state) ≡ requests_booted l.running (content l.initial.state))
+invariant-loop-id l = IsInOrder (content l.state) × (requests_booted (drop l.id-index l.running) (content l.state)
+    ≡ requests_booted l.running (content l.initial.state))

@@ -11,7 +11,8 @@ use Rattle.nqs_changes.proofs.hands.opened.Goals as goal
 pub push-requires-clause-absent : goal.push-requires-clause-absent
 push-requires-clause-absent c =
     let hand = c.args.hand in
-    ap (λ hs. list_any (is_hand (peer_number hand.peer hand.number)) hs.items) c.change_peer.ensures.hands ∙ hand_is_new hand.peer hand.number c.args.state.now.hands.items c.requires.alone
+    ap (λ hs. list_any (is_hand (peer_number hand.peer hand.number)) hs.items) c.change_peer.ensures.hands
+    ∙ hand_is_new hand.peer hand.number c.args.state.now.hands.items c.requires.alone
 
 pub returns : goal.returns
 returns c =
@@ -20,4 +21,5 @@ returns c =
     let rows = c.change.ensures.changed routing_row (λ v w found ran. search rules) in
     let peers = c.change_peer.ensures.content (λ p. record p { next = hand.number + 1 }) (λ p q found ran. search rules) in
     (λ j. record (peers j) { hands = c.push.ensures.items j })
-    ∙ (λ j. record (change_peer hand.peer (λ p. record p { next = hand.number + 1 }) (record s { rows = rows j })) { hands = (c.change_peer.ensures.hands j).items ++ record hand { phase = c.requires.phase j } ∷ [] })
+    ∙ (λ j. record (change_peer hand.peer (λ p. record p { next = hand.number + 1 }) (record s { rows = rows j }))
+    { hands = (c.change_peer.ensures.hands j).items ++ record hand { phase = c.requires.phase j } ∷ [] })

@@ -9,4 +9,5 @@ use Rattle.nqs_changes.proofs.outputs.ended.Goals as goal
 pub add_outputs-requires-clause-order : goal.add_outputs-requires-clause-order
 add_outputs-requires-clause-order c =
     let s = content c.args.state.now in
-    subst (λ rs. IsInOrder (record s { rows = rs })) (sym c.remove_key.ensures.items) (row_dropped s c.args.id c.requires.order (unoffered runs c.args.id s c.requires.order running_unrouted c.requires.runs))
+    subst (λ rs. IsInOrder (record s { rows = rs })) (sym c.remove_key.ensures.items)
+    (row_dropped s c.args.id c.requires.order (unoffered runs c.args.id s c.requires.order running_unrouted c.requires.runs))

@@ -13,7 +13,8 @@ returns-in-Some c =
     let k = c.args.key.now in
     let at = first_at (is_promise k) s.promises c.in-Some.place c.remove-promise.result (sym c.in-Some.ensures.place) c.remove-promise.ensures.out in
     c.close.ensures
-    ∙ ap (change_peer k.peer (close k.number)) (c.add_promised.ensures ∙ ap (λ ps. add_promised c.remove-promise.result.row (record s { promises = ps })) (c.remove-promise.ensures.items ∙ at.others))
+    ∙ ap (change_peer k.peer (close k.number)) (c.add_promised.ensures ∙ ap (λ ps. add_promised c.remove-promise.result.row (record s { promises = ps }))
+    (c.remove-promise.ensures.items ∙ at.others))
     ∙ ap (λ o. accepted k o s) (sym at.found)
 
 pub returns-in_default : goal.returns-in_default

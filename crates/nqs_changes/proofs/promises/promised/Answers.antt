@@ -12,4 +12,5 @@ pub push-requires-clause-absent : goal.push-requires-clause-absent
 push-requires-clause-absent c =
     let s = content c.args.state.now in
     let keep : Promise Extent → Bool = λ p. not (is_promise_of c.args.key.peer p) in
-    ap (list_any (is_promise c.args.key)) (c.revise.ensures.filtered keep (λ k v w b t call. search rules)) ∙ none_filtered (is_promise c.args.key) keep s.promises c.requires.new
+    ap (list_any (is_promise c.args.key)) (c.revise.ensures.filtered keep (λ k v w b t call. search rules))
+    ∙ none_filtered (is_promise c.args.key) keep s.promises c.requires.new

@@ -29,7 +29,8 @@ returns-in-Ok-clause-parts g c =
       | inr wants ↦ (
         first_of 1 (shepherd_parts at 0 runs no_wire),
         extends_then _ _ _ _ _ (extends_then _ _ _ _ _ c.in-Ok.ensures.lent wants.2) c.runner_back.ensures.lent,
-        extends_same _ _ _ _ (ap (λ r. runner_back r ∷ []) wants.1) (extends_then _ _ _ _ _ (extends_then _ _ _ _ _ c.in-Ok.ensures.back wants.3) c.runner_back.ensures.back),
+        extends_same _ _ _ _ (ap (λ r. runner_back r ∷ []) wants.1) (extends_then _ _ _ _ _
+            (extends_then _ _ _ _ _ c.in-Ok.ensures.back wants.3) c.runner_back.ensures.back),
         inr (wanting_within _ _ _ _ _ c.in-Ok.ensures.later c.runner_back.ensures.later wants.0, (0, runs, no_wire, (1, omega arith, refl))),
       )
     ]

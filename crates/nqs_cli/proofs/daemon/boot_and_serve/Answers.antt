@@ -17,10 +17,14 @@ use Rattle.nqs_cli.proofs.daemon.boot_and_serve.Goals as goal
 
 pub returns-in-Err : goal.returns-in-Err
 returns-in-Err g c =
-    let was : Outside = outside (disks_told g.D.Disk.history g.D.Disk.faults c.args.disks) (wire_told g.W.Wire.received g.W.Wire.sent g.W.Wire.receive_faults g.W.Wire.send_faults c.args.wire.now)
-    (g.L.Launcher.asked c.args.launcher.now) (g.P.Printer.prints c.args.printer.now) (g.O.Outlet.filings c.args.outlet.now) (g.C.Clock.given c.args.clock.now) in
-    let now : Outside = outside (disks_told g.D.Disk.history g.D.Disk.faults c.in-Err.disks) (wire_told g.W.Wire.received g.W.Wire.sent g.W.Wire.receive_faults g.W.Wire.send_faults c.args.wire.now)
-    (g.L.Launcher.asked c.args.launcher.now) (g.P.Printer.prints c.args.printer.now) (g.O.Outlet.filings c.args.outlet.now) (g.C.Clock.given c.args.clock.now) in
+    let was : Outside = outside (disks_told g.D.Disk.history g.D.Disk.faults c.args.disks)
+    (wire_told g.W.Wire.received g.W.Wire.sent g.W.Wire.receive_faults g.W.Wire.send_faults c.args.wire.now)
+    (g.L.Launcher.asked c.args.launcher.now) (g.P.Printer.prints c.args.printer.now) (g.O.Outlet.filings c.args.outlet.now)
+    (g.C.Clock.given c.args.clock.now) in
+    let now : Outside = outside (disks_told g.D.Disk.history g.D.Disk.faults c.in-Err.disks)
+    (wire_told g.W.Wire.received g.W.Wire.sent g.W.Wire.receive_faults g.W.Wire.send_faults c.args.wire.now)
+    (g.L.Launcher.asked c.args.launcher.now) (g.P.Printer.prints c.args.printer.now) (g.O.Outlet.filings c.args.outlet.now)
+    (g.C.Clock.given c.args.clock.now) in
     not_booted g.D.Disk.tells c.args.me c.args.names.now c.args.turns was now c.in-Err.fault c.status_of_fault.result c.status_of_fault.ensures (refl, refl)
     c.in-Err.ensures.failed (λ yes. (c.in-Err.ensures.broken_off yes, c.in-Err.ensures.any_moment yes)) c.in-Err.ensures.fault c.in-Err.ensures.memory
 
@@ -30,34 +34,44 @@ returns-then-not-is_here g c = (
   λ yes.
       let one = c.in-Ok.ensures.one yes in
       let same : c.is_here.result ≡ is_here c.args.me c.args.names.now one.0 =
-      c.is_here.ensures (bytes_of c.in-Ok.node) ∙ ap (λ h. is_here c.args.me c.args.names.now (map_state (bytes_of c.in-Ok.node) h)) c.state.ensures ∙ ap (is_here c.args.me c.args.names.now) one.2.is in
+      c.is_here.ensures (bytes_of c.in-Ok.node) ∙ ap (λ h. is_here c.args.me c.args.names.now (map_state (bytes_of c.in-Ok.node) h)) c.state.ensures
+      ∙ ap (is_here c.args.me c.args.names.now) one.2.is in
       inr (
         one.0,
         one.1,
         sym same ∙ c.if-not-is_here.true,
-        leaves c.in-Ok.node (applied Boot one.0) (histories_of g.D.Disk.history c.close.result) yes one.2 (λ which. ap g.D.Disk.history (c.close.ensures which)),
-        boot_alone _ (history_of c.in-Ok.node) (histories_of g.D.Disk.history c.close.result) one.0 (λ which. ap g.D.Disk.history (c.close.ensures which)) (c.in-Ok.ensures.any_moment yes one.0 one.1),
+        leaves c.in-Ok.node (applied Boot one.0) (histories_of g.D.Disk.history c.close.result) yes one.2
+            (λ which. ap g.D.Disk.history (c.close.ensures which)),
+        boot_alone _ (history_of c.in-Ok.node) (histories_of g.D.Disk.history c.close.result) one.0 (λ which. ap g.D.Disk.history (c.close.ensures which))
+            (c.in-Ok.ensures.any_moment yes one.0 one.1),
       ),
 )
 
 pub returns : goal.returns
 returns g c =
-    let was : Outside = outside (disks_told g.D.Disk.history g.D.Disk.faults c.args.disks) (wire_told g.W.Wire.received g.W.Wire.sent g.W.Wire.receive_faults g.W.Wire.send_faults c.args.wire.now)
-    (g.L.Launcher.asked c.args.launcher.now) (g.P.Printer.prints c.args.printer.now) (g.O.Outlet.filings c.args.outlet.now) (g.C.Clock.given c.args.clock.now) in
-    let now : Outside = outside (disks_told g.D.Disk.history g.D.Disk.faults c.close-in-Ok.result) (wire_told g.W.Wire.received g.W.Wire.sent g.W.Wire.receive_faults g.W.Wire.send_faults c.serve-end.new.wire)
-    (g.L.Launcher.asked c.serve-end.new.launcher) (g.P.Printer.prints c.serve-end.new.printer) (g.O.Outlet.filings c.serve-end.new.outlet) (g.C.Clock.given c.serve-end.new.clock) in
+    let was : Outside = outside (disks_told g.D.Disk.history g.D.Disk.faults c.args.disks)
+    (wire_told g.W.Wire.received g.W.Wire.sent g.W.Wire.receive_faults g.W.Wire.send_faults c.args.wire.now)
+    (g.L.Launcher.asked c.args.launcher.now) (g.P.Printer.prints c.args.printer.now) (g.O.Outlet.filings c.args.outlet.now)
+    (g.C.Clock.given c.args.clock.now) in
+    let now : Outside = outside (disks_told g.D.Disk.history g.D.Disk.faults c.close-in-Ok.result)
+    (wire_told g.W.Wire.received g.W.Wire.sent g.W.Wire.receive_faults g.W.Wire.send_faults c.serve-end.new.wire)
+    (g.L.Launcher.asked c.serve-end.new.launcher) (g.P.Printer.prints c.serve-end.new.printer) (g.O.Outlet.filings c.serve-end.new.outlet)
+    (g.C.Clock.given c.serve-end.new.clock) in
     has_served g.D.Disk.tells c.args.me c.args.names.now c.args.turns was now c.serve-end.result c.status_of_serve.result c.status_of_serve.ensures
     (λ yes.
     let one = c.in-Ok.ensures.one yes in
     let s = one.0 in
     let u = applied Boot s in
     let same : c.is_here.result ≡ is_here c.args.me c.args.names.now s =
-    c.is_here.ensures (bytes_of c.in-Ok.node) ∙ ap (λ h. is_here c.args.me c.args.names.now (map_state (bytes_of c.in-Ok.node) h)) c.state.ensures ∙ ap (is_here c.args.me c.args.names.now) one.2.is in
+    c.is_here.ensures (bytes_of c.in-Ok.node) ∙ ap (λ h. is_here c.args.me c.args.names.now (map_state (bytes_of c.in-Ok.node) h)) c.state.ensures
+    ∙ ap (is_here c.args.me c.args.names.now) one.2.is in
     let run = c.serve-end.ensures.run yes u one.2 in
     let here = ap here_of one.2.is in
-    let moved = subst (λ (h : Here). Ran h run.0 (idle u) run.1 run.2 (telling_of was) (telling_of now) × EndsWith (Tells c.serve-end.new.node) c.serve-end.result c.args.turns (stops h (idle u) run.0) run.1 run.2)
+    let moved = subst (λ (h : Here). Ran h run.0 (idle u) run.1 run.2 (telling_of was) (telling_of now)
+    × EndsWith (Tells c.serve-end.new.node) c.serve-end.result c.args.turns (stops h (idle u) run.0) run.1 run.2)
     here (run.3, run.4) in
-    let passes = subst (λ (h : Here). TellsThroughout (history_of c.in-Ok.node) (history_of c.serve-end.new.node) (IsPassed h (idle u) run.0 run.2)) here run.5 in (
+    let passes = subst (λ (h : Here). TellsThroughout (history_of c.in-Ok.node) (history_of c.serve-end.new.node) (IsPassed h (idle u) run.0 run.2))
+    here run.5 in (
       s,
       one.1,
       sym same ∙ c.if-not-is_here.false,
@@ -67,12 +81,17 @@ returns g c =
         run.2,
         moved.0,
         ends_as (Tells c.serve-end.new.node) (Leaves now.disks)
-            (λ t told. leaves c.serve-end.new.node t (histories_of g.D.Disk.history c.close-in-Ok.result) yes told (λ which. ap g.D.Disk.history (c.close-in-Ok.ensures which)))
+            (λ t told. leaves c.serve-end.new.node t (histories_of g.D.Disk.history c.close-in-Ok.result) yes told
+            (λ which. ap g.D.Disk.history (c.close-in-Ok.ensures which)))
             c.serve-end.result c.args.turns (stops (here_of s) (idle u) run.0) run.1 run.2 moved.1,
-        since_boot _ (history_of c.in-Ok.node) (history_of c.serve-end.new.node) (histories_of g.D.Disk.history c.close-in-Ok.result) s run.0 run.2 (λ which. ap g.D.Disk.history (c.close-in-Ok.ensures which))
+        since_boot _ (history_of c.in-Ok.node) (history_of c.serve-end.new.node) (histories_of g.D.Disk.history c.close-in-Ok.result) s run.0 run.2
+            (λ which. ap g.D.Disk.history (c.close-in-Ok.ensures which))
             (c.in-Ok.ensures.any_moment yes s one.1) passes,
       ),
     ))
     c.serve-end.ensures.wire_fault
-    (λ is. let rose = (c.serve-end.ensures.disk_fault is).1 in
-    (rose.0, subst (λ d. Rose (g.D.Disk.faults (disk_at rose.0 c.args.disks)) (g.D.Disk.faults d)) (sym (c.close-in-Ok.ensures rose.0)) (rose_since _ _ _ (c.in-Ok.ensures.later rose.0) rose.1)))
+    (λ is. let rose = (c.serve-end.ensures.disk_fault is).1 in (
+      rose.0,
+      subst (λ d. Rose (g.D.Disk.faults (disk_at rose.0 c.args.disks)) (g.D.Disk.faults d)) (sym (c.close-in-Ok.ensures rose.0))
+          (rose_since _ _ _ (c.in-Ok.ensures.later rose.0) rose.1),
+    ))

@@ -27,6 +27,8 @@ returns-clause-parts g c =
         did.0,
         refl,
         runs_within g.M.D.Disk.tells c.args.dir.now names (host_named names c.args.name.now) c.args.form (map (λ s. string_bytes s) c.args.words.now)
-            (fed g.S.Source.left g.S.Source.faults c.args.input.now c.run_named.new.input) (sunk g.K.Sink.taken g.K.Sink.faults g.K.Sink.stalls c.args.out.now c.run_named.new.out) _ _ _ did.0 c.run_named.result c.in-Ok.ensures.later did.3,
+            (fed g.S.Source.left g.S.Source.faults c.args.input.now c.run_named.new.input)
+            (sunk g.K.Sink.taken g.K.Sink.faults g.K.Sink.stalls c.args.out.now c.run_named.new.out) _ _ _ did.0 c.run_named.result c.in-Ok.ensures.later
+            did.3,
       ),
     )

@@ -9,7 +9,7 @@ use Rattle.nqs_cli.proofs.format.format_empty.Goals as goal
 
 abbrev IsDisk : StoreFault → Type 0
 IsDisk (store.Disk which) = Unit {0}
-IsDisk store.Memory = ⊥
+IsDisk (store.Memory memory) = ⊥
 IsDisk store.Stopped = ⊥
 
 pub returns-in-Err : goal.returns-in-Err
@@ -23,7 +23,12 @@ returns-in-Ok g c = λ yes.
     let same = c.in-Ok-false.ensures.same yes in (
       c.in-Ok-false.ensures.empty yes c.in-Ok-false.field-0-test,
       c.in-Ok.ensures.told yes,
-      (ap g.D.Disk.history c.in-Ok.ensures.root ∙ same Root, ap g.D.Disk.history c.in-Ok.ensures.second ∙ same Second, ap g.D.Disk.history c.in-Ok.ensures.spool ∙ same Spool),
+      (
+        ap g.D.Disk.history c.in-Ok.ensures.root ∙ same Root,
+        ap g.D.Disk.history c.in-Ok.ensures.second
+            ∙ same Second,
+        ap g.D.Disk.history c.in-Ok.ensures.spool ∙ same Spool,
+      ),
     )
 
 pub returns-in-Err-Disk : goal.returns-in-Err-Disk
@@ -33,5 +38,10 @@ returns-in-Err-Disk g c =
         | inl first ↦ (First, rose_since _ _ _ (c.have_bytes.ensures.later First) (c.in-Err-Disk.ensures.failed (ap Err first)))
         | inr memory ↦ absurd (subst IsDisk (sym c.in-Err-Disk.field-0-is ∙ memory) (record {}))
       ],
-      λ yes. (ap g.D.Disk.history c.format.ensures.root ∙ same yes Root, ap g.D.Disk.history c.format.ensures.second ∙ same yes Second, ap g.D.Disk.history c.format.ensures.spool ∙ same yes Spool),
+      λ yes. (
+        ap g.D.Disk.history c.format.ensures.root ∙ same yes Root,
+        ap g.D.Disk.history c.format.ensures.second
+            ∙ same yes Second,
+        ap g.D.Disk.history c.format.ensures.spool ∙ same yes Spool,
+      ),
     )

@@ -8,7 +8,8 @@ use Rattle.nqs_cli.proofs.lending.lend_launcher.Goals as goal
 pub returns-in-Err-clause-broken_off : goal.returns-in-Err-clause-broken_off
 returns-in-Err-clause-broken_off g c = (
   c.in_ok-disks.ensures.lent.0,
-  outside (disks_told g.M.D.Disk.history g.M.D.Disk.faults c.in_ok-disks.disks) (wire_told g.M.W.Wire.received g.M.W.Wire.sent g.M.W.Wire.receive_faults g.M.W.Wire.send_faults c.in_ok-disks.wire) None None None None,
+  outside (disks_told g.M.D.Disk.history g.M.D.Disk.faults c.in_ok-disks.disks)
+      (wire_told g.M.W.Wire.received g.M.W.Wire.sent g.M.W.Wire.receive_faults g.M.W.Wire.send_faults c.in_ok-disks.wire) None None None None,
   2,
   omega arith,
   extends_then _ _ _ _ _ (extends_then _ _ _ _ _ c.in_ok-disks.ensures.lent.1 c.in-Err.ensures.none) c.give_wire.ensures.lent,

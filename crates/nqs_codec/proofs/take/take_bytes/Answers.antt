@@ -13,7 +13,11 @@ pub returns-in_err-part_at : goal.returns-in_err-part_at
 returns-in_err-part_at c =
     let p = err_from_is_err_and c.from_residual-in_err-part_at.result c.from_residual-in_err-part_at.ensures.1 in
     let field = c.in_ok-length.ensures in
-    rw (p.1, p.2) (c.in_err-part_at.ensures.end, none_behind_length c.args.bytes.now c.args.place c.in_ok-length.length c.in_ok-length.start field.0 field.1 c.in_err-part_at.ensures.short)
+    rw (p.1, p.2) (
+      c.in_err-part_at.ensures.end,
+      none_behind_length c.args.bytes.now c.args.place c.in_ok-length.length c.in_ok-length.start field.0 field.1
+          c.in_err-part_at.ensures.short,
+    )
 
 pub returns : goal.returns
 returns c =

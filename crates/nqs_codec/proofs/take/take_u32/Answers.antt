@@ -9,4 +9,8 @@ returns-in_err-part c =
     rw (p.1, p.2) (c.in_err-part.ensures.end, none_u32 c.args.bytes.now c.args.place c.in_err-part.ensures.short)
 
 pub returns : goal.returns
-returns c = (c.from_be_bytes-number.type_inv, stands_u32 c.args.bytes.now c.args.place c.from_be_bytes-number.result c.in_ok-part.part.now (λ i. omega (arith, c.type_inv.bytes i)) c.in_ok-part.ensures.part c.in_ok-part.ensures.whole c.from_be_bytes-number.ensures)
+returns c = (
+  c.from_be_bytes-number.type_inv,
+  stands_u32 c.args.bytes.now c.args.place c.from_be_bytes-number.result c.in_ok-part.part.now
+      (λ i. omega (arith, c.type_inv.bytes i)) c.in_ok-part.ensures.part c.in_ok-part.ensures.whole c.from_be_bytes-number.ensures,
+)

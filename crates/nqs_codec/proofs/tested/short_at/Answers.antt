@@ -24,8 +24,13 @@ pub returns-in_err-value-clause-fault : goal.returns-in_err-value-clause-fault
 returns-in_err-value-clause-fault c =
     let p = err_from_is_err_and c.from_residual-in_err-value.result c.from_residual-in_err-value.ensures.1 in
     let there = byte_there c.args.bytes.now c.args.place c.in_ok-count.count c.in_ok-count.start c.in_ok-count.ensures.1 in
-    rw (p.1, p.2) (c.in_err-value.ensures.end, subst (IsCutShort c.args.most) (sym there.0) (omega (arith, c.if-count-eq0.false), c.if-count-most.false, c.in_err-value.ensures.short))
+    rw (p.1, p.2) (
+      c.in_err-value.ensures.end,
+      subst (IsCutShort c.args.most) (sym there.0)
+          (omega (arith, c.if-count-eq0.false), c.if-count-most.false, c.in_err-value.ensures.short),
+    )
 
 pub returns-clause-found : goal.returns-clause-found
 returns-clause-found c =
-    short_stands c.args.most c.args.bytes.now c.args.place c.in_ok-count.count c.in_ok-count.start c.in_ok-value.value.now c.in_ok-count.ensures.1 c.in_ok-value.ensures.part c.in_ok-value.ensures.whole (omega (arith, c.if-count-eq0.false)) c.if-count-most.false
+    short_stands c.args.most c.args.bytes.now c.args.place c.in_ok-count.count c.in_ok-count.start c.in_ok-value.value.now c.in_ok-count.ensures.1
+    c.in_ok-value.ensures.part c.in_ok-value.ensures.whole (omega (arith, c.if-count-eq0.false)) c.if-count-most.false

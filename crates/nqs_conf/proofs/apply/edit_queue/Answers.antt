@@ -4,4 +4,5 @@ use Rattle.nqs_rules.specs.Conf.{conf_edited}
 use Rattle.nqs_conf.proofs.apply.edit_queue.Goals as goal
 
 pub returns : goal.returns
-returns c = ap (λ qs. record (content c.args.state.now) { queues = qs }) (c.change.ensures.changed (conf_edited c.args.edit.now) (λ v w found ran. search rules))
+returns c = ap (λ qs. record (content c.args.state.now) { queues = qs }) (c.change.ensures.changed (conf_edited c.args.edit.now)
+    (λ v w found ran. search rules))

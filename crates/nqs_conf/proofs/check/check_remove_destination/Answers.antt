@@ -7,4 +7,8 @@ pub returns-in-None : goal.returns-in-None
 returns-in-None c = rw (queue_missing c.args.queue.now (content c.args.state.now) (sym c.in-None.ensures)) refl
 
 pub returns-in-Some : goal.returns-in-Some
-returns-in-Some c = rw (queue_there c.args.queue.now (content c.args.state.now) c.in-Some.def.now (sym c.in-Some.ensures), sym c.in-Some.ensures) c.check_listed_dest.ensures
+returns-in-Some c = rw (
+  queue_there c.args.queue.now (content c.args.state.now) c.in-Some.def.now
+      (sym c.in-Some.ensures),
+  sym c.in-Some.ensures,
+) c.check_listed_dest.ensures

@@ -6,7 +6,8 @@ use Rattle.nqs_rules.specs.Devices.{with_device}
 use Rattle.nqs_devices.proofs.apply.add_device.Goals as goal
 
 pub returns-in-None : goal.returns-in-None
-returns-in-None c = ap (λ qs. record (content c.args.state.now) { queues = qs }) (sym (change_first-none _ _ c.args.state.now.queues.items (sym c.in-None.ensures)))
+returns-in-None c = ap (λ qs. record (content c.args.state.now) { queues = qs })
+    (sym (change_first-none _ _ c.args.state.now.queues.items (sym c.in-None.ensures)))
 
 pub returns : goal.returns
 returns c = ap (λ qs. record (content c.args.state.now) { queues = qs }) (c.change.ensures.changed (with_device c.args.device) (λ v w found ran.

@@ -11,4 +11,5 @@ returns-in_err-check_way c =
     rw (p.1, p.2) (refused (way_causes c.args.queue.now c.args.job.now) (host_causes c.args.peer (content c.args.state.now)) _ c.in_err-check_way.ensures)
 
 pub returns : goal.returns
-returns c = c.check_host.ensures ∙ sym (passed (way_causes c.args.queue.now c.args.job.now) (host_causes c.args.peer (content c.args.state.now)) c.in_ok-check_way.ensures)
+returns c = c.check_host.ensures ∙ sym (passed (way_causes c.args.queue.now c.args.job.now)
+    (host_causes c.args.peer (content c.args.state.now)) c.in_ok-check_way.ensures)

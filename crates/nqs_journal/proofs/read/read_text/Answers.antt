@@ -27,7 +27,11 @@ returns-in_default-first_frame-clause-fault c =
       text = c.records.invariant.text;
       is_place = c.records.invariant.gate;
       short = c.records.invariant.short;
-      bad = inr (c.in-Some-split_first.after.now, first.0 ∙ ap (λ b. b ∷ c.in-Some-split_first.after.now) c.if-byte-ne1.false, c.in_default-first_frame.ensures.none);
+      bad = inr (
+        c.in-Some-split_first.after.now,
+        first.0 ∙ ap (λ b. b ∷ c.in-Some-split_first.after.now) c.if-byte-ne1.false,
+        c.in_default-first_frame.ensures.none,
+      );
     })
 
 pub records-preserved : goal.records-preserved
@@ -35,11 +39,21 @@ records-preserved c =
     let first = c.in-Some-split_first.ensures.cases in
     let payload = c.in-Some-first_frame.payload.now in
     let so_far = c.records.payloads.items in
-    let begins = c.records.invariant.text ∙ ap (λ l. header ++ records so_far ++ l) (first.0 ∙ ap (λ b. b ∷ c.in-Some-split_first.after.now) c.if-byte-ne1.false) in
+    let begins = c.records.invariant.text ∙ ap (λ l. header ++ records so_far ++ l)
+    (first.0 ∙ ap (λ b. b ∷ c.in-Some-split_first.after.now) c.if-byte-ne1.false) in
     let pushed : c.push.new.self.items ≡ so_far ++ payload ∷ [] = search (rules, common_steps) in
     record {
-      text = one_more _ _ _ payload so_far begins c.in-Some-first_frame.ensures.some ∙ ap (λ ps. header ++ records ps ++ c.in-Some-first_frame.more.now) (sym pushed);
+      text = one_more _ _ _ payload so_far begins c.in-Some-first_frame.ensures.some
+          ∙ ap (λ ps. header ++ records ps ++ c.in-Some-first_frame.more.now) (sym pushed);
       gate = gate_more payload so_far c.records.gate c.records.invariant.gate ∙ ap (λ ps. length (header ++ records ps)) (sym pushed);
-      size = omega (arith, c.records.invariant.size, ap length first.0, ap length c.in-Some-first_frame.ensures.some, length-append {A = ℕ}, length-frame payload);
+      size = omega (
+        arith,
+        c.records.invariant.size,
+        ap length first.0,
+        ap length c.in-Some-first_frame.ensures.some,
+        length-append
+            {A = ℕ},
+        length-frame payload,
+      );
       short = subst (AllByRecursion IsShort) (sym pushed) (short-push so_far payload c.records.invariant.short c.in-Some-first_frame.ensures.short);
     }

@@ -14,5 +14,11 @@ returns-in-None-get c =
 pub returns-in-Some-get : goal.returns-in-Some-get
 returns-in-Some-get c =
     let s = content c.args.state.now in
-    rw (complex_there c.args.complex.now s c.in-Some.members.now (sym c.in-Some.ensures), queue_there c.args.queue.now s c.in-Some-get.def.now (sym c.in-Some-get.ensures), sym c.in-Some.ensures, sym c.in-Some-get.ensures)
+    rw (
+      complex_there c.args.complex.now s c.in-Some.members.now (sym c.in-Some.ensures),
+      queue_there c.args.queue.now s c.in-Some-get.def.now
+          (sym c.in-Some-get.ensures),
+      sym c.in-Some.ensures,
+      sym c.in-Some-get.ensures,
+    )
     c.check_new_member.ensures

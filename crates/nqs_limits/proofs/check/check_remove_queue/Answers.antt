@@ -7,4 +7,8 @@ pub returns-in-None : goal.returns-in-None
 returns-in-None c = rw (complex_missing c.args.complex.now (content c.args.state.now) (sym c.in-None.ensures)) refl
 
 pub returns-in-Some : goal.returns-in-Some
-returns-in-Some c = rw (complex_there c.args.complex.now (content c.args.state.now) c.in-Some.members.now (sym c.in-Some.ensures), sym c.in-Some.ensures) c.check_member.ensures
+returns-in-Some c = rw (
+  complex_there c.args.complex.now (content c.args.state.now) c.in-Some.members.now
+      (sym c.in-Some.ensures),
+  sym c.in-Some.ensures,
+) c.check_member.ensures

@@ -3,18 +3,20 @@ use Rattle.nqs_types.specs.declared.event.Event.TheVariants as event
 use Rattle.nqs_rules.specs.World.{takes_up}
 use Rattle.nqs_node.specs.Nodes.{content_of}
 use Rattle.nqs_net.specs.Least.{least_of}
-use Rattle.nqs_net.proofs.Finishing.{least_ends, none_ends, stayed, turns_as}
+use Rattle.nqs_net.proofs.Following.{done_as}
+use Rattle.nqs_net.proofs.Finishing.{least_ends, none_ends, stayed}
 use Rattle.nqs_net.proofs.deed.finish_up.Goals as goal
 
 pub returns-in-Some : goal.returns-in-Some
 returns-in-Some c = λ w host faces is now.
-    turns_as c.take_up.result c.args.me c.args.tear _ _ _ w _ _
+    done_as c.args.me c.args.tear _ _ _ _ w _ _ c.take_up.result
     (ap (λ e. takes_up c.args.me host e w) (c.ended-event.ensures ∙ ap (λ n. event.Ended n 0 c.in-Some.id c.in-Some.start 0 [] []) (sym now))
-    ∙ sym (least_ends c.args.node.value host is c.args.me w (c.in-Some.id, c.in-Some.start) (c.in-Some.ensures ∙ ap (λ s. least_of s.rows) (c.state.ensures ∙ ap content_of c.deref.ensures))))
+    ∙ sym (least_ends c.args.node.value host is c.args.me w (c.in-Some.id, c.in-Some.start)
+    (c.in-Some.ensures ∙ ap (λ s. least_of s.rows) (c.state.ensures ∙ ap content_of c.deref.ensures))))
     (c.take_up.ensures w host faces is now)
 
 pub returns-in-None : goal.returns-in-None
 returns-in-None c = λ w host faces is now.
-    turns_as c.stay.result c.args.me c.args.tear _ _ _ w _ _
+    done_as c.args.me c.args.tear _ _ _ _ w _ _ c.stay.result
     (sym (none_ends c.args.node.value host is c.args.me w (c.in-None.ensures ∙ ap (λ s. least_of s.rows) (c.state.ensures ∙ ap content_of c.deref.ensures))))
-    (stayed c.stay.result _ _ _ _ c.stay.ensures.same c.stay.ensures.seen c.args.me w host c.args.tear _ faces is)
+    (stayed c.stay.result _ _ _ _ c.stay.ensures.same c.stay.ensures.seen c.stay.ensures.unseen c.args.me w host c.args.tear _ faces is)

@@ -1,33 +1,56 @@
-use Rattle.std.proofs.Common.{◌≡◌, ◌∙◌, ◌++◌, [], ◌∷◌, length, refl, sym, ap, subst}
+use Rattle.std.proofs.Common.{◌≡◌, ◌∙◌, ◌++◌, [], ◌∷◌, false, length, Some, refl, sym, ap, subst}
 use Rattle.std.proofs.lemmas.List.{append_assoc}
 use Rattle.std.proofs.lemmas.Result.{err_from_is_err_and}
+use Rattle.nqs_types.specs.declared.change.Change.TheVariants.{Boot}
 use Rattle.nqs_types.specs.declared.world.Seen.TheVariants as seen
 use Rattle.std.specs.List.{filter_map}
 use Rattle.nqs_rules.specs.World.{boot_output}
 use Rattle.nqs_disk.specs.MemDisk as mem
 use Rattle.nqs_store.specs.Disks.{disk_at, histories_of}
 use Rattle.nqs_store.specs.Sound.{IsSoundHost}
-use Rattle.nqs_node.specs.Nodes.{content_of}
-use Rattle.nqs_net.specs.Lists.{sent_in, seen_from}
+use Rattle.nqs_node.specs.Nodes.{history_of, content_of, is_stopped}
+use Rattle.nqs_net.specs.Lists.{sent_in, seen_from, GrowsByFront}
+use Rattle.nqs_net.specs.Followed.{GoOn, Follows}
 use Rattle.nqs_net.specs.Worlds.{IsDown}
-use Rattle.nqs_net.proofs.Hosting.{boot_turn, boot_cut, uncalled_quiet}
+use Rattle.nqs_net.proofs.Fronts.{none_shown, shown_as, shown_before}
+use Rattle.nqs_net.proofs.Following.{goes, broke_off, follow_stopped, turn_follows}
+use Rattle.nqs_net.proofs.Hosting.{boot_turn, boot_seen, boot_cut, uncalled_quiet}
 use Rattle.nqs_net.proofs.host.boot_step.Goals as goal
 
 pub boot-requires : goal.boot-requires
-boot-requires c = record { quiet = λ yes which. uncalled_quiet _ (subst (λ d. (histories_of mem.history_of d which).calls ≡ []) (sym c.into_inner.ensures) (c.args.down.rests which)) }
+boot-requires c = record {
+  quiet = λ yes which. uncalled_quiet _ (subst (λ d. (histories_of mem.history_of d which).calls ≡ []) (sym c.into_inner.ensures)
+      (c.args.down.rests which));
+}
 
 pub returns-in_err-push-in-Ok : goal.returns-in_err-push-in-Ok
 returns-in_err-push-in-Ok c = λ w host faces is.
     let p = err_from_is_err_and c.from_residual-in_err-push-in-Ok.result c.from_residual-in_err-push-in-Ok.ensures.1 in
-    rw p.1 tt
+    rw p.1 (none_shown c.args.seen.now.items c.push.new.self.items _ c.in_err-push-in-Ok.ensures.items)
 
 pub returns-in_err-emit-in-Ok : goal.returns-in_err-emit-in-Ok
 returns-in_err-emit-in-Ok c = λ w host faces is.
     let p = err_from_is_err_and c.from_residual-in_err-emit-in-Ok.result c.from_residual-in_err-emit-in-Ok.ensures.1 in
-    rw p.1 tt
+    let me = c.args.me in
+    let down = subst (λ d. IsDown d host) (sym c.into_inner.ensures) is in
+    let outs = filter_map boot_output host.state.rows in
+    let packets = c.args.packets.now.items in
+    let before = c.args.seen.now.items in
+    let mid = c.push.new.self.items in
+    let after = c.emit.new.seen.items in
+    let out = c.in-Ok.ensures.outputs refl host.state down.tells ∙ ap (λ l. l ++ outs) c.new-out.ensures.items in
+    let saw = boot_seen me w host c.args.tear packets faces c.into_inner.result down c.in-Ok.node c.in-Ok.ensures.sound
+    (c.in-Ok.ensures.told refl host.state down.tells) (c.in-Ok.ensures.made refl) (c.in-Ok.ensures.any_moment refl host.state down.tells)
+    (c.in-Ok.ensures.fuse refl) in
+    let front = subst (λ l. GrowsByFront mid after (seen_from me (length packets) l)) out c.in_err-emit-in-Ok.ensures.front in
+    rw p.1 (shown_as before after _ _ saw (shown_before before mid after (seen.Boot me ∷ [])
+    (seen_from me (length packets) outs) c.in_ok-push-in-Ok.ensures.items front))
 
 pub invariant_of-result : goal.invariant_of-result
-invariant_of-result c = record { sound = subst (λ n. IsSoundHost (content_of n)) (sym c.in_ok-node-in-Ok.ensures.ok) c.in-Ok.ensures.sound }
+invariant_of-result c = record {
+  sound = subst (λ n. IsSoundHost (content_of n)) (sym c.in_ok-node-in-Ok.ensures.ok) c.in-Ok.ensures.sound;
+  running = subst (λ n. is_stopped n ≡ false) (sym c.in_ok-node-in-Ok.ensures.ok) c.in-Ok.ensures.running;
+}
 
 pub returns-in-Ok : goal.returns-in-Ok
 returns-in-Ok c = λ w host faces is.
@@ -36,24 +59,56 @@ returns-in-Ok c = λ w host faces is.
     let packets = c.args.packets.now.items in
     let before = c.args.seen.now.items in
     let out = c.in-Ok.ensures.outputs refl host.state down.tells ∙ ap (λ l. l ++ outs) c.new-out.ensures.items in
-    boot_turn c.args.me w host c.args.tear packets faces c.into_inner.result down c.in-Ok.node _ c.in_ok-node-in-Ok.ensures.ok c.in-Ok.ensures.sound (c.in-Ok.ensures.told refl host.state down.tells) (c.in-Ok.ensures.made refl) (c.in-Ok.ensures.any_moment refl host.state down.tells) (c.in-Ok.ensures.fuse refl)
+    let boxed = c.in_ok-node-in-Ok.ensures.ok in
+    let went = goes (histories_of mem.history_of c.into_inner.result) (history_of c.in-Ok.node) (Some Boot) host.state
+    (c.in-Ok.ensures.any_moment refl host.state down.tells) in
+    let follows = subst (λ n. GoOn (histories_of mem.history_of c.into_inner.result) (history_of n)) (sym boxed) went in
+    turn_follows c.args.me c.args.tear _ before _ w c.args.tear (histories_of mem.history_of c.args.down.disks.value) _ _
+    (subst (λ d. GoOn (histories_of mem.history_of d) (history_of c.in_ok-node-in-Ok.node.value)) c.into_inner.ensures follows)
+    (boot_turn c.args.me w host c.args.tear packets faces c.into_inner.result down c.in-Ok.node _ c.in_ok-node-in-Ok.ensures.ok c.in-Ok.ensures.sound
+    (c.in-Ok.ensures.told refl host.state down.tells) (c.in-Ok.ensures.made refl) (c.in-Ok.ensures.any_moment refl host.state down.tells)
+    (c.in-Ok.ensures.fuse refl)
     _ before _ (c.in_ok-emit-in-Ok.ensures.packets ∙ ap (λ l. packets ++ sent_in l) out)
-    (c.in_ok-emit-in-Ok.ensures.seen ∙ ap (λ l. l ++ seen_from c.args.me (length packets) c.boot.new.out.items) c.in_ok-push-in-Ok.ensures.items ∙ append_assoc before (seen.Boot c.args.me ∷ []) (seen_from c.args.me (length packets) c.boot.new.out.items) ∙ ap (λ l. before ++ (seen.Boot c.args.me ∷ seen_from c.args.me (length packets) l)) out)
+    (c.in_ok-emit-in-Ok.ensures.seen ∙ ap (λ l. l ++ seen_from c.args.me (length packets) c.boot.new.out.items) c.in_ok-push-in-Ok.ensures.items
+    ∙ append_assoc before (seen.Boot c.args.me ∷ []) (seen_from c.args.me (length packets) c.boot.new.out.items)
+    ∙ ap (λ l. before ++ (seen.Boot c.args.me ∷ seen_from c.args.me (length packets) l)) out))
 
 pub returns-in_err-node-in-Ok : goal.returns-in_err-node-in-Ok
 returns-in_err-node-in-Ok c = λ w host faces is.
     let p = err_from_is_err_and c.from_residual.result c.from_residual.ensures.1 in
-    rw p.1 tt
+    rw p.1 (none_shown c.args.seen.now.items c.args.seen.now.items _ refl)
 
 pub returns-in_err-slot-in-Err-Disk-default : goal.returns-in_err-slot-in-Err-Disk-default
 returns-in_err-slot-in-Err-Disk-default c = λ w host faces is.
     let p = err_from_is_err_and c.from_residual-in_err-slot-in-Err-Disk-default.result c.from_residual-in_err-slot-in-Err-Disk-default.ensures.1 in
-    rw p.1 tt
+    rw p.1 (none_shown c.args.seen.now.items c.stop.new.seen.items _ c.in_err-slot-in-Err-Disk-default.ensures.unseen)
 
 pub returns-in-Err-Disk-default : goal.returns-in-Err-Disk-default
 returns-in-Err-Disk-default c = λ w host faces is.
     let down = subst (λ d. IsDown d host) (sym c.into_inner.ensures) is in
     let broke = c.in-Err-Disk-default in
     let stop = c.in_ok-slot-in-Err-Disk-default in
-    boot_cut c.args.me w host c.args.tear c.args.packets.now.items faces c.into_inner.result down (histories_of mem.history_of broke.disks) stop.slot broke.field-0-0-0 (mem.is_starved (disk_at broke.field-0-0-0 broke.disks)) c.args.seen.now.items _
-    stop.ensures.seen stop.ensures.stopped (stop.ensures.fed broke.field-0-0-0) (broke.ensures.cut refl host.state down.tells broke.field-0-0-0 broke.field-0-0-is)
+    let went = broke_off (histories_of mem.history_of c.into_inner.result) (histories_of mem.history_of broke.disks) (Some Boot)
+    (broke.ensures.broken_off refl) in
+    let follows = follow_stopped c.args.tear (histories_of mem.history_of c.into_inner.result)
+    (histories_of mem.history_of broke.disks) stop.slot went stop.ensures.stopped in
+    turn_follows c.args.me c.args.tear c.args.packets.now.items c.args.seen.now.items _ w c.args.tear
+    (histories_of mem.history_of c.args.down.disks.value) stop.slot _
+    (subst (λ d. Follows c.args.tear (histories_of mem.history_of d) stop.slot) c.into_inner.ensures follows)
+    (boot_cut c.args.me w host c.args.tear c.args.packets.now.items faces c.into_inner.result down
+    (histories_of mem.history_of broke.disks) stop.slot broke.field-0-0-0 (mem.is_starved (disk_at broke.field-0-0-0 broke.disks)) c.args.seen.now.items _
+    stop.ensures.seen stop.ensures.stopped (stop.ensures.fed broke.field-0-0-0)
+    (broke.ensures.cut refl host.state down.tells broke.field-0-0-0 broke.field-0-0-is))
+
+pub unreachable-unreachable : goal.unreachable-unreachable
+unreachable-unreachable c = c.unreachable.type_inv
+
+pub unreachable-requires : goal.unreachable-requires
+unreachable-requires c =
+    let (host, is) = c.requires in
+    let down = subst (λ d. IsDown d host) (sym c.into_inner.ensures) is in
+    let broke = c.in-Err-NotNqs-default in
+    broke.ensures.never refl host.state down.tells broke.field-0-0-0 broke.field-0-0-1 broke.field-0-0-is
+
+pub returns-in-Err-Memory-default : goal.returns-in-Err-Memory-default
+returns-in-Err-Memory-default c = λ w host faces is. none_shown c.args.seen.now.items c.args.seen.now.items _ refl

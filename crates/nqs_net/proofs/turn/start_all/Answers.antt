@@ -1,29 +1,46 @@
-use Rattle.std.proofs.Common.{◌∙◌, refl}
+use Rattle.std.proofs.Common.{◌∙◌, refl, sym, ap}
 use Rattle.std.proofs.lemmas.Result.{err_from_is_err_and}
-use Rattle.nqs_rules.specs.World.{unseen, then_ran}
-use Rattle.nqs_net.specs.Worlds.{IsSlot}
+use Rattle.nqs_rules.specs.World.{Ran, unseen, then_ran, all_starts}
+use Rattle.nqs_net.specs.Followed.{StandsAfter}
+use Rattle.nqs_net.proofs.Fronts.{shown_as, shown_before}
 use Rattle.nqs_net.proofs.Starting.{both_turn, both_goes, both_last}
 use Rattle.nqs_net.proofs.Hosting.{idle_at}
 use Rattle.nqs_net.proofs.turn.start_all.Goals as goal
 
-pub loop-init : goal.loop-init
-loop-init c = λ w at now. (unseen w, idle_at c.args.me w at.host c.args.tear c.args.packets.now.items at.faces (IsSlot c.args.first) at.stands c.args.seen.now.items, refl)
+pub loop-more-init : goal.loop-more-init
+loop-more-init c = λ w old at now. (
+  unseen w,
+  idle_at c.args.me w at.host c.args.tear c.args.packets.now.items at.faces
+      (StandsAfter c.args.tear old c.args.first) at.stands c.args.seen.now.items,
+  refl,
+)
 
 pub returns-in_err-more : goal.returns-in_err-more
-returns-in_err-more c = λ w at now.
+returns-in_err-more c = λ w old at now.
     let p = err_from_is_err_and c.from_residual.result c.from_residual.ensures.1 in
-    rw p.1 tt
+    let v = c.loop-more.invariant w old at now in
+    let before = c.args.seen.now.items in
+    let after = c.start_one.new.seen.items in
+    let rest = c.in_err-more.ensures.turn v.0.world old v.1.at (v.1.rest.now ∙ now) in
+    rw p.1 (shown_as before after _ _ (ap (λ (r : Ran). r.seen) (sym v.2))
+    (shown_before before c.loop-more.seen.items after v.0.seen (all_starts c.args.me v.0.world).seen v.1.seen rest))
 
 pub returns-then-not-more : goal.returns-then-not-more
-returns-then-not-more c = λ w at now.
-    let v = c.loop.invariant w at now in
-    both_last c.args.me (IsSlot c.loop.slot) (IsSlot c.in_ok-more.next) c.args.tear _ _ c.args.seen.now.items _ _ w v.0 v.1 v.2 c.in_ok-more.more (c.in_ok-more.ensures v.0.world v.1.at (v.1.rest.now ∙ now)) c.if-not-more.true
+returns-then-not-more c = λ w old at now.
+    let v = c.loop-more.invariant w old at now in
+    both_last c.args.me (StandsAfter c.args.tear old c.loop-more.slot) (StandsAfter c.args.tear old c.in_ok-more.next) c.args.tear _ _ c.args.seen.now.items _ _
+    w v.0 v.1 v.2 c.in_ok-more.more (c.in_ok-more.ensures.turn v.0.world old v.1.at (v.1.rest.now ∙ now)) c.if-not-more.true
 
-pub loop-preserved : goal.loop-preserved
-loop-preserved c = λ w at now.
-    let v = c.loop.invariant w at now in
-    let s = c.in_ok-more.ensures v.0.world v.1.at (v.1.rest.now ∙ now) in (
+pub loop-more-preserved : goal.loop-more-preserved
+loop-more-preserved c = λ w old at now.
+    let v = c.loop-more.invariant w old at now in
+    let s = c.in_ok-more.ensures.turn v.0.world old v.1.at (v.1.rest.now ∙ now) in (
       then_ran v.0 (λ _. s.ran),
-      both_turn c.args.me (IsSlot c.loop.slot) (IsSlot c.in_ok-more.next) c.args.tear _ _ c.args.seen.now.items _ _ w v.0 v.1 v.2 c.in_ok-more.more s,
-      both_goes c.args.me (IsSlot c.loop.slot) (IsSlot c.in_ok-more.next) c.args.tear _ _ c.args.seen.now.items _ _ w v.0 v.1 v.2 c.in_ok-more.more s,
+      both_turn c.args.me (StandsAfter c.args.tear old c.loop-more.slot) (StandsAfter c.args.tear old c.in_ok-more.next) c.args.tear _ _ c.args.seen.now.items _
+          _ w v.0 v.1 v.2 c.in_ok-more.more s,
+      both_goes c.args.me (StandsAfter c.args.tear old c.loop-more.slot) (StandsAfter c.args.tear old c.in_ok-more.next) c.args.tear _ _ c.args.seen.now.items _
+          _ w v.0 v.1 v.2 c.in_ok-more.more s,
     )
+
+pub loop-more-smaller : goal.loop-more-smaller
+loop-more-smaller c = c.in_ok-more.ensures.fewer c.if-not-more.false

@@ -1,35 +1,77 @@
-use Rattle.std.proofs.Common.{◌∙◌, sym, ap, subst}
+use Rattle.std.proofs.Common.{◌≡◌, ◌∙◌, false, refl, sym, ap, subst, arith}
 use Rattle.std.proofs.lemmas.Result.{err_from_is_err_and}
+use Rattle.nqs_rules.specs.Measure.{starts_left}
 use Rattle.nqs_rules.specs.Start.{start}
-use Rattle.nqs_rules.specs.World.{steps}
+use Rattle.nqs_rules.specs.World.{Ran, steps, all_starts}
 use Rattle.nqs_node.specs.Carried.{started}
-use Rattle.nqs_node.specs.Nodes.{content_of}
+use Rattle.nqs_node.specs.Nodes.{history_of, fails_of, content_of, is_stopped}
 use Rattle.nqs_store.specs.Sound.{IsSoundHost}
-use Rattle.nqs_net.specs.Worlds.{IsUp, IsSlot}
+use Rattle.nqs_net.specs.Followed.{StandsAfter}
+use Rattle.nqs_net.specs.Worlds.{IsUp}
 use Rattle.nqs_net.specs.Turns.{Turns}
-use Rattle.nqs_net.proofs.Starting.{starting, steady_up}
+use Rattle.nqs_net.specs.Lists.{GrowsByFront}
+use Rattle.nqs_net.proofs.Fronts.{none_shown, shown_as, more_to_show}
+use Rattle.nqs_net.proofs.Following.{turn_stands, starts_follow}
+use Rattle.nqs_net.proofs.Starting.{starting, next_all, steady_up}
 use Rattle.nqs_net.proofs.turn.start_step.Goals as goal
 
 pub start_event-requires : goal.start_event-requires
-start_event-requires c = record { sound = subst (λ n. IsSoundHost (content_of n)) (sym c.deref_mut.ensures.value) c.requires.sound }
+start_event-requires c = record {
+  sound = subst (λ n. IsSoundHost (content_of n)) (sym c.deref_mut.ensures.value) c.requires.sound;
+  running = subst (λ n. is_stopped n ≡ false) (sym c.deref_mut.ensures.value) c.requires.running;
+}
 
 pub returns-in_err-took : goal.returns-in_err-took
-returns-in_err-took c = λ w host faces is now.
+returns-in_err-took c =
     let p = err_from_is_err_and c.from_residual.result c.from_residual.ensures.1 in
-    rw p.1 tt
+    record { turn = λ w host faces is now. rw p.1 (none_shown c.args.seen.now.items c.args.seen.now.items _ refl); fewer = rw p.1 tt }
 
 pub carry-requires : goal.carry-requires
-carry-requires c = record { sound = c.in_ok-took.ensures.sound }
+carry-requires c = record { sound = c.in_ok-took.ensures.sound; running = c.in_ok-took.ensures.running }
 
 pub returns-in_err-slot : goal.returns-in_err-slot
-returns-in_err-slot c = λ w host faces is now.
+returns-in_err-slot c =
     let p = err_from_is_err_and c.from_residual-in_err-slot.result c.from_residual-in_err-slot.ensures.1 in
-    rw p.1 tt
+    let node = c.deref_mut.result.now in
+    let me = c.args.me in
+    let before = c.args.seen.now.items in
+    let after = c.carry.new.seen.items in
+    record {
+      turn = λ w host faces is now. (let up = subst (λ n. IsUp n host) (sym c.deref_mut.ensures.value) is in
+          let x = started w.now host.state in
+          let ran = steps me host x w in
+          let front : GrowsByFront before after ran.seen = subst (λ n. GrowsByFront before after (steps me host (started n host.state) w).seen) (sym now)
+          (c.in_err-slot.ensures.turn w host (started c.args.now host.state) (fails_of node) (history_of node) faces
+          (c.in_ok-took.ensures.taken host up c.new-out.ensures.items)) in
+          rw p.1 (shown_as before after _ _ (ap (λ (r : Ran). r.seen) (sym (next_all me w host faces.there (steady_up c.args.node.value host is) is.up)))
+          (more_to_show before after ran.seen (all_starts me ran.world).seen front)));
+      fewer = rw p.1 tt;
+    }
 
-pub returns : goal.returns
-returns c = λ w host faces is now.
+pub returns-clause-fewer : goal.returns-clause-fewer
+returns-clause-fewer c = λ more.
+    let less = c.in_ok-took.ensures.fewer more in
+    omega (arith, less.1, c.in_ok-slot.ensures.left less.0, ap (λ n. starts_left (content_of n)) c.deref_mut.ensures.value)
+
+pub returns-clause-turn : goal.returns-clause-turn
+returns-clause-turn c = λ w host faces is now.
+    let node = c.deref_mut.result.now in
     let up = subst (λ n. IsUp n host) (sym c.deref_mut.ensures.value) is in
-    starting c.args.me w host faces.there (steady_up c.args.node.value host is) is.up c.args.tear _ _ _ _ c.args.seen.now.items _
-    (subst (λ n. Turns c.args.me (IsSlot c.in_ok-slot.slot) c.args.tear c.carry.new.packets.items c.args.seen.now.items c.carry.new.seen.items w (steps c.args.me host (started n host.state) w)) (sym now) (c.in_ok-slot.ensures.turn w host (started c.args.now host.state) faces (c.in_ok-took.ensures.taken host up c.new-out.ensures.items)))
+    let slot = c.in_ok-slot.slot in
+    let packets = c.carry.new.packets.items in
+    let before = c.args.seen.now.items in
+    let after = c.carry.new.seen.items in
+    let ran = steps c.args.me host (started w.now host.state) w in
+    let carried : Turns c.args.me (StandsAfter c.args.tear (history_of node) slot) c.args.tear packets before after w ran =
+    subst (λ n. Turns c.args.me (StandsAfter c.args.tear (history_of node) slot) c.args.tear packets before after w
+    (steps c.args.me host (started n host.state) w)) (sym now)
+    (c.in_ok-slot.ensures.turn w host (started c.args.now host.state) (fails_of node) (history_of node) faces
+    (c.in_ok-took.ensures.taken host up c.new-out.ensures.items)) in
+    let turn = subst (λ n. Turns c.args.me (StandsAfter c.args.tear (history_of n) slot) c.args.tear packets before after w ran) c.deref_mut.ensures.value
+    carried in
+    let old = history_of c.args.node.value in
+    starts_follow c.args.me c.args.tear packets before after w c.args.tear old slot c.in_ok-took.more turn.at.stands.follows
+    (starting c.args.me w host faces.there (steady_up c.args.node.value host is) is.up c.args.tear slot c.in_ok-took.took c.in_ok-took.more packets before after
+    (turn_stands c.args.me c.args.tear packets before after w c.args.tear old slot ran turn)
     c.in_ok-slot.ensures.down
-    (λ took none. ap (λ n. start n host.state) now ∙ c.in_ok-took.ensures.last host up took none)
+    (λ took none. ap (λ n. start n host.state) now ∙ c.in_ok-took.ensures.last host up took none))

@@ -1,14 +1,11 @@
-use Rattle.std.proofs.Common.{◌∙◌, Err, ◌++◌, map, refl, ap}
+use Rattle.std.proofs.Common.{◌∙◌, Err, true≢false, ◌++◌, map, refl, sym, ap}
 use Rattle.nqs_rules.specs.Step.{step}
 use Rattle.nqs_rules.specs.Stepped.{shown}
-use Rattle.nqs_node.specs.Nodes.{history_of, fails_of}
 use Rattle.nqs_net.proofs.turn.take_event.Goals as goal
 
 pub returns-in-Ok-clause-taken : goal.returns-in-Ok-clause-taken
 returns-in-Ok-clause-taken c = λ host is empty. record {
   up = is.up;
-  fails = fails_of c.args.node.now;
-  old = history_of c.args.node.now;
   disks = is.disks;
   past = is.past;
   moments = c.in-Ok.ensures.any_moment refl host.state is.tells;
@@ -23,8 +20,6 @@ returns-in-Ok-clause-taken c = λ host is empty. record {
 pub returns-in-Err-Disk-clause-taken : goal.returns-in-Err-Disk-clause-taken
 returns-in-Err-Disk-clause-taken c = λ host is empty. record {
   up = is.up;
-  fails = fails_of c.args.node.now;
-  old = history_of c.args.node.now;
   disks = is.disks;
   past = is.past;
   moments = c.in-Err-Disk.ensures.any_moment refl host.state is.tells;
@@ -33,7 +28,7 @@ returns-in-Err-Disk-clause-taken c = λ host is empty. record {
 }
 
 pub take-requires : goal.take-requires
-take-requires c = c.requires
+take-requires c = record { sound = c.requires.sound; sane = c.requires.sane }
 
 pub returns-in-Ok-clause-sound : goal.returns-in-Ok-clause-sound
 returns-in-Ok-clause-sound c = c.in-Ok.ensures.sound
@@ -41,5 +36,17 @@ returns-in-Ok-clause-sound c = c.in-Ok.ensures.sound
 pub returns-in-Err-Disk-clause-sound : goal.returns-in-Err-Disk-clause-sound
 returns-in-Err-Disk-clause-sound c = c.in-Err-Disk.ensures.sound
 
-pub returns-in-Err : goal.returns-in-Err
-returns-in-Err c = record { sound = c.in-Err.ensures.sound; taken = λ host is empty. tt }
+pub returns-in-Ok-clause-running : goal.returns-in-Ok-clause-running
+returns-in-Ok-clause-running c = λ took. c.in-Ok.ensures.running
+
+pub returns-in-Err-Disk-clause-running : goal.returns-in-Err-Disk-clause-running
+returns-in-Err-Disk-clause-running c = λ took. absurd (true≢false (sym took))
+
+pub returns-in-Err-Memory : goal.returns-in-Err-Memory
+returns-in-Err-Memory c = record { sound = c.in-Err-Memory.ensures.sound; running = tt; taken = λ host is empty. tt }
+
+pub unreachable-requires : goal.unreachable-requires
+unreachable-requires c = true≢false (sym (c.in-Err-Stopped.ensures.stopped.0 (ap Err c.in-Err-Stopped.field-0-is)) ∙ c.requires.running)
+
+pub unreachable-unreachable : goal.unreachable-unreachable
+unreachable-unreachable c = c.unreachable.type_inv

@@ -1,32 +1,47 @@
-use Rattle.std.proofs.Common.{IsTrue, length, sym, subst}
+use Rattle.std.proofs.Common.{◌≡◌, IsTrue, false, length, refl, sym, subst}
 use Rattle.std.proofs.lemmas.Result.{err_from_is_err_and}
 use Rattle.nqs_rules.specs.Sane.{is_sane_event}
 use Rattle.nqs_rules.specs.Step.{step}
-use Rattle.nqs_node.specs.Nodes.{content_of}
+use Rattle.nqs_rules.specs.World.{steps}
+use Rattle.nqs_node.specs.Nodes.{history_of, fails_of, content_of, is_stopped}
 use Rattle.nqs_store.specs.Sound.{IsSoundHost}
+use Rattle.nqs_net.specs.Followed.{StandsAfter}
+use Rattle.nqs_net.specs.Turns.{Turns}
 use Rattle.nqs_net.specs.Worlds.{IsUp}
+use Rattle.nqs_net.proofs.Fronts.{none_shown}
 use Rattle.nqs_net.proofs.turn.take_step.Goals as goal
 
 pub take_event-requires-clause-sound : goal.take_event-requires-clause-sound
 take_event-requires-clause-sound c = subst (λ n. IsSoundHost (content_of n)) (sym c.deref_mut.ensures.value) c.requires.sound
 
+pub take_event-requires-clause-running : goal.take_event-requires-clause-running
+take_event-requires-clause-running c = subst (λ n. is_stopped n ≡ false) (sym c.deref_mut.ensures.value) c.requires.running
+
 pub take_event-requires-clause-sane : goal.take_event-requires-clause-sane
-take_event-requires-clause-sane c = subst (λ n. IsTrue (is_sane_event (length (content_of n).site) c.args.event.now)) (sym c.deref_mut.ensures.value) c.requires.sane
+take_event-requires-clause-sane c = subst (λ n. IsTrue (is_sane_event (length (content_of n).site) c.args.event.now))
+    (sym c.deref_mut.ensures.value) c.requires.sane
 
 pub returns-in_err-took : goal.returns-in_err-took
 returns-in_err-took c = λ w host faces is.
     let p = err_from_is_err_and c.from_residual.result c.from_residual.ensures.1 in
-    rw p.1 tt
+    rw p.1 (none_shown c.args.seen.now.items c.args.seen.now.items _ refl)
 
 pub carry-requires : goal.carry-requires
-carry-requires c = record { sound = c.in_ok-took.ensures.sound }
+carry-requires c = record { sound = c.in_ok-took.ensures.sound; running = c.in_ok-took.ensures.running }
 
 pub returns-in_err-slot : goal.returns-in_err-slot
 returns-in_err-slot c = λ w host faces is.
     let p = err_from_is_err_and c.from_residual-in_err-slot.result c.from_residual-in_err-slot.ensures.1 in
-    rw p.1 tt
+    let node = c.deref_mut.result.now in
+    let up = subst (λ n. IsUp n host) (sym c.deref_mut.ensures.value) is in
+    rw p.1 (c.in_err-slot.ensures.turn w host (step c.args.event.now host.state) (fails_of node) (history_of node) faces
+    (c.in_ok-took.ensures.taken host up c.new-out.ensures.items))
 
 pub returns : goal.returns
 returns c = λ w host faces is.
+    let node = c.deref_mut.result.now in
     let up = subst (λ n. IsUp n host) (sym c.deref_mut.ensures.value) is in
-    c.in_ok-slot.ensures.turn w host (step c.args.event.now host.state) faces (c.in_ok-took.ensures.taken host up c.new-out.ensures.items)
+    let x = step c.args.event.now host.state in
+    subst (λ n. Turns c.args.me (StandsAfter c.args.tear (history_of n) c.in_ok-slot.slot) c.args.tear c.carry.new.packets.items c.args.seen.now.items
+    c.carry.new.seen.items w (steps c.args.me host x w)) c.deref_mut.ensures.value
+    (c.in_ok-slot.ensures.turn w host x (fails_of node) (history_of node) faces (c.in_ok-took.ensures.taken host up c.new-out.ensures.items))

@@ -1,4 +1,6 @@
-use Rattle.std.proofs.Common.{◌+◌, drop, sym, ap, ◌∙◌, arith, get_or}
+use Rattle.std.proofs.Common.{◌+◌, [], length, drop, sym, ap, subst, ◌∙◌, arith, get_or}
+use Rattle.std.specs.List.{list_all}
+use Rattle.std.proofs.lemmas.Bool.{leb-true, le-leb}
 use Rattle.std.proofs.lemmas.List.{at_drop_more, at_drop_all}
 use Rattle.std.proofs.lemmas.Result.{err_from_is_err_and}
 use Rattle.nqs_types.specs.declared.world.Which.TheVariants.{Spool}
@@ -8,7 +10,8 @@ use Rattle.nqs_rules.specs.Edits.{change_at}
 use Rattle.nqs_rules.specs.Stepped.{with_bytes}
 use Rattle.nqs_store.specs.Live.{bytes_at}
 use Rattle.nqs_store.specs.Stores.{history_of, fails_of, bytes_of}
-use Rattle.nqs_node.specs.Reading.{read_into, IsLiveRead}
+use Rattle.nqs_node.specs.Reading.{read_into, IsLiveRead, IsShortRead, sends_short, AreShort}
+use Rattle.nqs_node.proofs.Carrying.{read_short}
 use Rattle.nqs_node.proofs.Places.{all_at, rose_since, blown_since}
 use Rattle.nqs_node.proofs.reads.read_all.Goals as goal
 
@@ -21,7 +24,8 @@ pub returns-in_err-read_one-clause-cause : goal.returns-in_err-read_one-clause-c
 returns-in_err-read_one-clause-cause g c =
     let p = err_from_is_err_and c.from_residual.result c.from_residual.ensures.1 in
     let v = c.loop-read.invariant in
-    rw (p.1, p.2) (λ yes failed. blown_since (fails_of c.args.store.now Spool) (fails_of c.loop-read.store Spool) (history_of c.loop-read.store Spool) (history_of c.args.store.now Spool) (v.fuse yes Spool) (v.same yes Spool) (c.in_err-read_one.ensures.cause yes failed))
+    rw (p.1, p.2) (λ yes failed. blown_since (fails_of c.args.store.now Spool) (fails_of c.loop-read.store Spool) (history_of c.loop-read.store Spool)
+    (history_of c.args.store.now Spool) (v.fuse yes Spool) (v.same yes Spool) (c.in_err-read_one.ensures.cause yes failed))
 
 pub returns-in_err-read_one-clause-tells : goal.returns-in_err-read_one-clause-tells
 returns-in_err-read_one-clause-tells g c = λ yes host told. c.read_one.ensures.tells yes host (c.loop-read.invariant.tells yes host told)
@@ -41,6 +45,13 @@ loop-read-preserved g c =
           let bytes = ap (λ (h : History). bytes_at (content h) x.extent) (v.same yes Spool) in
           ap (read_into f (drop (i + 1) reads)) (read ∙ ap (λ b. change_at x.output (with_bytes b) outputs) bytes)
           ∙ sym (at_drop_more (λ rs. read_into f rs outputs) reads i none c.loop-read-test.true) ∙ v.filled yes host told all;
+      short = λ few was.
+          let read = c.in_ok-read_one.ensures.few in
+          let small = leb-true x.extent.length 32768 (all_at IsShortRead reads i none few c.loop-read-test.true) in
+          let script = le-leb (length read.0) 32768 (omega (arith, read.1, small)) in
+          let before = sym (at_drop_more (λ rs. list_all sends_short (read_into (λ _. []) rs outputs)) reads i none c.loop-read-test.true) ∙ v.short few was in
+          subst (λ os. AreShort (read_into (λ _. []) (drop (i + 1) reads) os)) (sym read.2)
+          (read_short (drop (i + 1) reads) x.output read.0 script outputs before);
       as_many = c.read_one.ensures.as_many ∙ v.as_many;
       alike = c.read_one.ensures.alike ∙ v.alike;
       same = λ yes which. c.read_one.ensures.same yes which ∙ v.same yes which;
@@ -54,4 +65,11 @@ loop-read-preserved g c =
 pub returns-clause-filled : goal.returns-clause-filled
 returns-clause-filled g c = λ yes host told all.
     let f = bytes_of c.args.store.now in
-    sym (at_drop_all (λ rs. read_into f rs c.loop-read.outputs.items) c.args.reads.now c.loop-read.read-index c.loop-read-test.false) ∙ c.loop-read.invariant.filled yes host told all
+    sym (at_drop_all (λ rs. read_into f rs c.loop-read.outputs.items) c.args.reads.now c.loop-read.read-index c.loop-read-test.false)
+    ∙ c.loop-read.invariant.filled yes host told all
+
+pub returns-clause-short : goal.returns-clause-short
+returns-clause-short g c = λ few was.
+    let outputs = c.loop-read.outputs.items in
+    sym (at_drop_all (λ rs. list_all sends_short (read_into (λ _. []) rs outputs)) c.args.reads.now c.loop-read.read-index c.loop-read-test.false)
+    ∙ c.loop-read.invariant.short few was

@@ -1,9 +1,10 @@
-use Rattle.std.proofs.Common.{◌≡◌, ◌≤◌, ℕ, IsTrue, length, map, drop}
+use Rattle.std.proofs.Common.{◌≡◌, ◌≤◌, ℕ, IsTrue, [], length, map, drop}
+use Rattle.std.specs.List.{AllByRecursion}
 use Rattle.nqs_types.specs.declared.world.Which.{Which}
 use Rattle.nqs_store.specs.Stores.{disk_of, history_of, fails_of, is_starved, is_stopped, bytes_of, Tells}
 use Rattle.nqs_store.specs.Told.{Host}
 use Rattle.nqs_back.specs.Bare.{without_bytes}
-use Rattle.nqs_node.specs.Reading.{read_into, AreLiveReads}
+use Rattle.nqs_node.specs.Reading.{read_into, AreLiveReads, IsShortRead, AreShort}
 use Rattle.nqs_node.proofs.reads.read_all.Given as goal
 
 -- what is left to read comes after what was read
@@ -11,6 +12,8 @@ abbrev pub invariant-loop-read : goal.invariant-loop-read
 invariant-loop-read g l = record {
   filled : IsTrue g.D.Disk.tells → (host : Host) → Tells l.fn.store host → AreLiveReads host l.reads
       → read_into (bytes_of l.fn.store) (drop l.read-index l.reads) l.outputs.items ≡ read_into (bytes_of l.fn.store) l.reads l.fn.outputs.items;
+  short : AllByRecursion IsShortRead l.reads → AreShort (read_into (λ _. []) l.reads l.fn.outputs.items)
+      → AreShort (read_into (λ _. []) (drop l.read-index l.reads) l.outputs.items);
   as_many : length l.outputs.items ≡ length l.fn.outputs.items;
   alike : map without_bytes l.outputs.items ≡ map without_bytes l.fn.outputs.items;
   same : IsTrue g.D.Disk.tells → (which : Which) → history_of l.store which ≡ history_of l.fn.store which;

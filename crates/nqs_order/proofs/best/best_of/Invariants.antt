@@ -7,7 +7,8 @@ use Rattle.nqs_order.proofs.best.best_of.Given as goal
 abbrev pub invariant-loop-place : goal.invariant-loop-place
 invariant-loop-place g l = record {
   within : l.place ≤ length l.table.items;
-  best : (p : _) (b : _) → ((v : _) (r : Bool) → FnReturnsAt g.P.Fn l.passes v r → r ≡ p v) → ((u v : _) (r : Bool) → FnReturnsAtPair g.B.Fn l.beats u v r → r ≡ b u v)
+  best : (p : _) (b : _) → ((v : _) (r : Bool) → FnReturnsAt g.P.Fn l.passes v r → r ≡ p v)
+      → ((u v : _) (r : Bool) → FnReturnsAtPair g.B.Fn l.beats u v r → r ≡ b u v)
       → option_map (λ x. (x.0, x.1.now)) l.best ≡ best_from p b l.place (drop l.place l.table.items);
 }
 

@@ -5,4 +5,5 @@ use Rattle.nqs_order.proofs.BestLemmas.{is_some-best}
 use Rattle.nqs_order.proofs.eligible.has_eligible.Goals as goal
 
 pub returns : goal.returns
-returns c = c.any_eligible.ensures ∙ is_some-best (is_eligible c.args.queue.now c.args.now (content c.args.state.now)) comes_before (content c.args.state.now).rows 0
+returns c = c.any_eligible.ensures ∙ is_some-best (is_eligible c.args.queue.now c.args.now (content c.args.state.now)) comes_before
+    (content c.args.state.now).rows 0

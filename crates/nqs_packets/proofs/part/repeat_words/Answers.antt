@@ -10,16 +10,19 @@ returns-in_err-word c =
     let p = err_from_is_err_and c.from_residual.result c.from_residual.ensures.1 in
     let some : c.loop-left.left ≡ suc (c.loop-left.left - 1) = omega (arith, c.loop-left-test.true) in
     let is = c.loop-left.invariant ∙ ap (λ (n : ℕ). after c.loop-left.words.items (repeated n (bytes_at is_any) c.args.bytes.now c.loop-left.here)) some in
-    rw (p.1, p.2) (λ q. stops _ c.loop-left.words.items (c.loop-left.left - 1) (bytes_at is_any) c.args.bytes.now c.loop-left.here _ is (sym (c.in_err-word.ensures q)))
+    rw (p.1, p.2) (λ q. stops _ c.loop-left.words.items (c.loop-left.left - 1) (bytes_at is_any) c.args.bytes.now c.loop-left.here _ is
+    (sym (c.in_err-word.ensures q)))
 
 pub loop-left-preserved : goal.loop-left-preserved
 loop-left-preserved c =
     let some : c.loop-left.left ≡ suc (c.loop-left.left - 1) = omega (arith, c.loop-left-test.true) in
     let is = c.loop-left.invariant ∙ ap (λ (n : ℕ). after c.loop-left.words.items (repeated n (bytes_at is_any) c.args.bytes.now c.loop-left.here)) some in
-    rw c.in_ok-push.ensures.items (one_more _ c.loop-left.words.items (c.loop-left.left - 1) (bytes_at is_any) c.args.bytes.now c.loop-left.here c.in_ok-word.word c.in_ok-word.next is (sym (c.in_ok-word.ensures refl)))
+    rw c.in_ok-push.ensures.items (one_more _ c.loop-left.words.items (c.loop-left.left - 1)
+    (bytes_at is_any) c.args.bytes.now c.loop-left.here c.in_ok-word.word c.in_ok-word.next is (sym (c.in_ok-word.ensures refl)))
 
 pub returns : goal.returns
 returns c = λ q.
     let none : c.loop-left.left ≡ 0 = omega (arith, c.loop-left-test.false) in
     let is = c.loop-left.invariant ∙ ap (λ (n : ℕ). after c.loop-left.words.items (repeated n (bytes_at is_any) c.args.bytes.now c.loop-left.here)) none in
-    ap (λ (l : List (List ℕ)). Ok (l, c.loop-left.here)) c.from_vec.ensures ∙ all_read _ c.loop-left.words.items (bytes_at is_any) c.args.bytes.now c.loop-left.here is
+    ap (λ (l : List (List ℕ)). Ok (l, c.loop-left.here)) c.from_vec.ensures
+    ∙ all_read _ c.loop-left.words.items (bytes_at is_any) c.args.bytes.now c.loop-left.here is

@@ -11,7 +11,32 @@ use Rattle.nqs_plans_tests.proofs.step.launch_there.Goals as goal
 
 order : IsInOrder (plot_host 12 (plot_row (plot_job (codes "o") (codes "e")) Queued 2 ∷ []))
 unfolding digits has_parent
-order = record { site = refl; parameters = refl; short = refl; keys = refl; arrivals = refl; queues = refl; complexes = refl; rows = refl; promises = refl; promisers = refl; hands = refl; few = refl; offers = refl; peers = refl; stages = refl; files = refl }
+order = record {
+  site = refl;
+  parameters = refl;
+  short = refl;
+  keys = refl;
+  arrivals = refl;
+  queues = refl;
+  complexes = refl;
+  rows = refl;
+  promises =
+      refl;
+  promisers = refl;
+  hands = refl;
+  few = refl;
+  offers = refl;
+  peers = refl;
+  stages = refl;
+  files = refl;
+}
 
 pub plan_launch-requires : goal.plan_launch-requires
-plan_launch-requires c = subst IsInOrder (sym (c.in_ok-fill_with.ensures ∙ ap {A = State Extent} (λ s. record s { site = codes "plot" ∷ []; queues = plot_queue ∷ []; peers = new_peer ∷ []; rows = plot_row (plot_job (codes "o") (codes "e")) Queued 2 ∷ [] }) c.requires)) order
+plan_launch-requires c = subst IsInOrder (sym (c.in_ok-fill_with.ensures ∙ ap {A = State Extent}
+    (λ s. record s {
+      site = codes "plot" ∷ [];
+      queues = plot_queue ∷ [];
+      peers = new_peer ∷ [];
+      rows =
+          plot_row (plot_job (codes "o") (codes "e")) Queued 2 ∷ [];
+    }) c.requires)) order

@@ -9,7 +9,26 @@ use Rattle.nqs_plans_tests.proofs.step.submit_there.Goals as goal
 
 order : IsInOrder (plot_host 11 [])
 unfolding digits
-order = record { site = refl; parameters = refl; short = refl; keys = refl; arrivals = refl; queues = refl; complexes = refl; rows = refl; promises = refl; promisers = refl; hands = refl; few = refl; offers = refl; peers = refl; stages = refl; files = refl }
+order = record {
+  site = refl;
+  parameters = refl;
+  short = refl;
+  keys = refl;
+  arrivals = refl;
+  queues = refl;
+  complexes = refl;
+  rows = refl;
+  promises =
+      refl;
+  promisers = refl;
+  hands = refl;
+  few = refl;
+  offers = refl;
+  peers = refl;
+  stages = refl;
+  files = refl;
+}
 
 pub plan_submission-requires : goal.plan_submission-requires
-plan_submission-requires c = subst IsInOrder (sym (c.in_ok-fill.ensures ∙ ap {A = State Extent} (λ s. record s { site = codes "plot" ∷ []; queues = plot_queue ∷ []; peers = new_peer ∷ [] }) c.requires)) order
+plan_submission-requires c = subst IsInOrder (sym (c.in_ok-fill.ensures ∙ ap {A = State Extent}
+    (λ s. record s { site = codes "plot" ∷ []; queues = plot_queue ∷ []; peers = new_peer ∷ [] }) c.requires)) order

@@ -6,4 +6,4 @@ asked : (words queues : List (List ℕ)) → queues_from 1 words ≡ Ok queues �
 asked words queues e = rw e refl
 
 pub returns-in-Ok : goal.returns-in-Ok
-returns-in-Ok c = (record { user = None; queues = c.in-Ok.queues }, asked c.args.words.now c.in-Ok.queues c.in-Ok.ensures, refl)
+returns-in-Ok c = (record { user = None; queues = c.in-Ok.queues }, asked c.args.words.now c.in-Ok.queues (rw c.in-Ok.is at c.in_ok-queues.ensures), refl)

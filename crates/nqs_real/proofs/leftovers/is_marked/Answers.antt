@@ -8,5 +8,6 @@ pub returns : goal.returns
 unfolding is_marked
 returns c =
     any_from_yields_List (is_mark c.args.mark.now) _ _ c.any.result c.any.ensures.ran
-    (YieldsList-from_slice_split _ (λ b. b == 0) c.args.environ.now c.split.ensures.rest c.split.ensures.done c.split.ensures.closure (λ x r q k. search (rules, tests)))
+    (YieldsList-from_slice_split _ (λ b. b == 0) c.args.environ.now c.split.ensures.rest c.split.ensures.done c.split.ensures.closure
+    (λ x r q k. search (rules, tests)))
     (λ x r q k. search (rules, tests))

@@ -8,8 +8,10 @@ use Rattle.nqs_records.proofs.PutBack.{length-part, part_ends}
 use Rattle.nqs_records.proofs.extents.+put_part_extents.Goals as goal
 
 -- the parts' bytes are those of the first and of the others
-sizes : (parts : List (OutPart Extent)) (part : OutPart Extent) (later : List (OutPart Extent)) → parts ≡ part ∷ later → length (flat_map part_field parts) ≡ 13 + length part.path + length (flat_map part_field later)
-sizes parts part later is = ap (λ ps. length (flat_map part_field ps)) is ∙ length-append (part_field part) (flat_map part_field later) ∙ ap (λ n. n + length (flat_map part_field later)) (length-part part)
+sizes : (parts : List (OutPart Extent)) (part : OutPart Extent) (later : List (OutPart Extent)) → parts ≡ part ∷ later
+    → length (flat_map part_field parts) ≡ 13 + length part.path + length (flat_map part_field later)
+sizes parts part later is = ap (λ ps. length (flat_map part_field ps)) is ∙ length-append (part_field part) (flat_map part_field later)
+    ∙ ap (λ n. n + length (flat_map part_field later)) (length-part part)
 
 pub put_extent-requires : goal.put_extent-requires
 put_extent-requires n c =
@@ -40,7 +42,8 @@ returns-in-Some-clause-put n c = λ front xs is.
     c.put_part_extents-behind.ensures.put (front ++ (path ++ extent_field old)) (drop 1 xs) (
     is ∙ ap (λ ps. front ++ flat_map part_field (parts_with ps xs)) parts ∙ ap (λ (l : List ℕ). front ++ l) (part_ends part.path old others)
     ∙ sym (append_assoc front (path ++ extent_field old) others)) in
-    c.put_extent.ensures.put (front ++ path) rest old (now ∙ ap (λ (l : List ℕ). l ++ rest) (sym (append_assoc front path (extent_field old)))) (sym c.put_part_extents-behind.ensures.behind)
+    c.put_extent.ensures.put (front ++ path) rest old (now ∙ ap (λ (l : List ℕ). l ++ rest) (sym (append_assoc front path (extent_field old))))
+    (sym c.put_part_extents-behind.ensures.behind)
     ∙ ap (λ (l : List ℕ). l ++ rest) (append_assoc front path (extent_field part.bytes))
     ∙ append_assoc front (path ++ extent_field part.bytes) rest
     ∙ ap (λ (l : List ℕ). front ++ l) (sym (part_ends part.path part.bytes rest))

@@ -14,5 +14,6 @@ returns-clause-put c = λ front back old is behind.
     let one = length-append front mid in
     let end = n - c.args.behind in
     ap (λ (l : List ℕ). put_mid (end - 12) (end - (end - 12)) l c.copy_from_slice.new.self) is
-    ∙ put_back front mid back c.copy_from_slice.new.self (end - 12) (end - (end - 12)) (omega (arith, whole, size, behind, one, two)) (omega (arith, whole, size, behind, one, two))
+    ∙ put_back front mid back c.copy_from_slice.new.self (end - 12) (end - (end - 12)) (omega (arith, whole, size, behind, one, two))
+    (omega (arith, whole, size, behind, one, two))
     ∙ ap (λ (l : List ℕ). front ++ l ++ back) (c.copy_from_slice.ensures.after ∙ c.spelled.ensures)

@@ -17,7 +17,8 @@ pub loop-left-preserved : goal.loop-left-preserved
 loop-left-preserved c =
     let some : c.loop-left.left ≡ suc (c.loop-left.left - 1) = omega (arith, c.loop-left-test.true) in
     let is = c.loop-left.invariant ∙ ap (λ (n : ℕ). after c.loop-left.hands.items (repeated n hand_at c.args.bytes.now c.loop-left.here)) some in
-    rw c.in_ok-push.ensures.items (one_more _ c.loop-left.hands.items (c.loop-left.left - 1) hand_at c.args.bytes.now c.loop-left.here c.in_ok-hand.hand c.in_ok-hand.next is (sym c.in_ok-hand.ensures))
+    rw c.in_ok-push.ensures.items (one_more _ c.loop-left.hands.items (c.loop-left.left - 1) hand_at c.args.bytes.now c.loop-left.here c.in_ok-hand.hand
+    c.in_ok-hand.next is (sym c.in_ok-hand.ensures))
 
 pub returns : goal.returns
 returns c = λ q.

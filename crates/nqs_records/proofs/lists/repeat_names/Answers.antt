@@ -16,7 +16,8 @@ pub loop-left-preserved : goal.loop-left-preserved
 loop-left-preserved c =
     let some : c.loop-left.left ≡ suc (c.loop-left.left - 1) = omega (arith, c.loop-left-test.true) in
     let is = c.loop-left.invariant ∙ ap (λ (n : ℕ). after c.loop-left.names.items (repeated n name_at c.args.bytes.now c.loop-left.here)) some in
-    rw c.in_ok-push.ensures.items (one_more _ c.loop-left.names.items (c.loop-left.left - 1) name_at c.args.bytes.now c.loop-left.here c.in_ok-name.name c.in_ok-name.next is (sym c.in_ok-name.ensures))
+    rw c.in_ok-push.ensures.items (one_more _ c.loop-left.names.items (c.loop-left.left - 1) name_at c.args.bytes.now c.loop-left.here c.in_ok-name.name
+    c.in_ok-name.next is (sym c.in_ok-name.ensures))
 
 pub returns : goal.returns
 returns c = λ q.

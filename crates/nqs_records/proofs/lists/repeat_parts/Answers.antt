@@ -18,10 +18,12 @@ pub loop-left-preserved : goal.loop-left-preserved
 loop-left-preserved c =
     let some : c.loop-left.left ≡ suc (c.loop-left.left - 1) = omega (arith, c.loop-left-test.true) in
     let is = c.loop-left.invariant ∙ ap (λ (n : ℕ). after c.loop-left.parts.items (repeated n part_at c.args.bytes.now c.loop-left.here)) some in
-    rw c.in_ok-push.ensures.items (one_more _ c.loop-left.parts.items (c.loop-left.left - 1) part_at c.args.bytes.now c.loop-left.here c.in_ok-part.part c.in_ok-part.next is (sym (c.in_ok-part.ensures refl)))
+    rw c.in_ok-push.ensures.items (one_more _ c.loop-left.parts.items (c.loop-left.left - 1) part_at c.args.bytes.now c.loop-left.here c.in_ok-part.part
+    c.in_ok-part.next is (sym (c.in_ok-part.ensures refl)))
 
 pub returns : goal.returns
 returns c = λ q.
     let none : c.loop-left.left ≡ 0 = omega (arith, c.loop-left-test.false) in
     let is = c.loop-left.invariant ∙ ap (λ (n : ℕ). after c.loop-left.parts.items (repeated n part_at c.args.bytes.now c.loop-left.here)) none in
-    ap (λ (l : List (OutPart Extent)). Ok (l, c.loop-left.here)) c.from_vec.ensures ∙ all_read _ c.loop-left.parts.items part_at c.args.bytes.now c.loop-left.here is
+    ap (λ (l : List (OutPart Extent)). Ok (l, c.loop-left.here)) c.from_vec.ensures
+    ∙ all_read _ c.loop-left.parts.items part_at c.args.bytes.now c.loop-left.here is

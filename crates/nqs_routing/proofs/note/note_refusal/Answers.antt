@@ -6,7 +6,8 @@ use Rattle.nqs_rules.specs.Routing.{dests_for, is_present, with_refusal, all_ref
 use Rattle.nqs_routing.proofs.note.note_refusal.Goals as goal
 
 pub returns-in_default : goal.returns-in_default
-returns-in_default c = ap (λ rs. record (content c.args.state.now) { rows = rs }) (sym (change_first-none _ _ c.args.state.now.rows.items (sym c.in_default.ensures)))
+returns-in_default c = ap (λ rs. record (content c.args.state.now) { rows = rs })
+    (sym (change_first-none _ _ c.args.state.now.rows.items (sym c.in_default.ensures)))
 
 pub returns : goal.returns
 returns c =
@@ -15,7 +16,8 @@ returns c =
     let cause = c.args.cause in
     let row = c.in-Some.row.now in
     let dests : c.dests_of-dests.result.now ≡ dests_for row s = c.dests_of-dests.ensures in
-    let grown : c.grown-refused.result ≡ row.refused ++ record { dest = dest; cause = cause } ∷ [] = c.grown-refused.ensures ∙ ap (λ l. l ++ record { dest = dest; cause = cause } ∷ []) c.as_slice.ensures in
+    let grown : c.grown-refused.result ≡ row.refused ++ record { dest = dest; cause = cause } ∷ [] = c.grown-refused.ensures
+    ∙ ap (λ l. l ++ record { dest = dest; cause = cause } ∷ []) c.as_slice.ensures in
     let kept : c.keep.new.self ≡ with_refusal (dests_for row s) dest cause row.refused =
     c.keep.ensures (is_present c.dests_of-dests.result.now) (λ x r t call. search rules) ∙ (λ j. filter (is_present (dests j)) (grown j)) in
     let held : c.all_refused-held.result ≡ all_refused (dests_for row s) (with_refusal (dests_for row s) dest cause row.refused) =
@@ -25,4 +27,5 @@ returns c =
     let set : w ≡ held_where c.all_refused-held.result (record v { refused = c.keep.new.self }) = search rules in
     set
     ∙ (λ j. held_where (held j) (record v { refused = kept j }))
-    ∙ (λ j. held_where (all_refused (dests_for (same j) s) (with_refusal (dests_for (same j) s) dest cause (same j).refused)) (record v { refused = with_refusal (dests_for (same j) s) dest cause (same j).refused }))))
+    ∙ (λ j. held_where (all_refused (dests_for (same j) s) (with_refusal (dests_for (same j) s) dest cause (same j).refused))
+    (record v { refused = with_refusal (dests_for (same j) s) dest cause (same j).refused }))))

@@ -16,10 +16,12 @@ pub returns-in-HoldRequest : goal.returns-in-HoldRequest
 returns-in-HoldRequest c = c.edit_request.ensures ∙ subst (IsOfRow (content c.args.state.now) c.in-HoldRequest.request) (sym c.in-HoldRequest.is) refl
 
 pub returns-in-ReleaseRequest : goal.returns-in-ReleaseRequest
-returns-in-ReleaseRequest c = c.edit_request-in-ReleaseRequest.ensures ∙ subst (IsOfRow (content c.args.state.now) c.in-ReleaseRequest.request) (sym c.in-ReleaseRequest.is) refl
+returns-in-ReleaseRequest c = c.edit_request-in-ReleaseRequest.ensures ∙ subst (IsOfRow (content c.args.state.now) c.in-ReleaseRequest.request)
+    (sym c.in-ReleaseRequest.is) refl
 
 pub returns-in-MoveRequest : goal.returns-in-MoveRequest
 returns-in-MoveRequest c = c.move_request.ensures ∙ subst (IsMove (content c.args.state.now) c.in-MoveRequest.request) (sym c.in-MoveRequest.is) refl
 
 pub returns-in-ModifyRequest : goal.returns-in-ModifyRequest
-returns-in-ModifyRequest c = c.edit_request-in-ModifyRequest.ensures ∙ subst (IsOfRow (content c.args.state.now) c.in-ModifyRequest.request) (sym c.in-ModifyRequest.is) refl
+returns-in-ModifyRequest c = c.edit_request-in-ModifyRequest.ensures ∙ subst (IsOfRow (content c.args.state.now) c.in-ModifyRequest.request)
+    (sym c.in-ModifyRequest.is) refl

@@ -8,7 +8,9 @@ use Rattle.nqs_rows.proofs.entry.check_job.Goals as goal
 pub returns-in_err-may_use : goal.returns-in_err-may_use
 returns-in_err-may_use c =
     let p = err_from_is_err_and c.from_residual.result c.from_residual.ensures.1 in
-    rw (p.1, p.2) (refused (entry_causes c.args.queue.now c.args.job.now.owner c.args.entry) (over_causes c.args.queue.now c.args.job.now.limits) _ c.in_err-may_use.ensures)
+    rw (p.1, p.2) (refused (entry_causes c.args.queue.now c.args.job.now.owner c.args.entry)
+    (over_causes c.args.queue.now c.args.job.now.limits) _ c.in_err-may_use.ensures)
 
 pub returns : goal.returns
-returns c = c.over_limits.ensures ∙ sym (passed (entry_causes c.args.queue.now c.args.job.now.owner c.args.entry) (over_causes c.args.queue.now c.args.job.now.limits) c.in_ok-may_use.ensures)
+returns c = c.over_limits.ensures ∙ sym (passed (entry_causes c.args.queue.now c.args.job.now.owner c.args.entry)
+    (over_causes c.args.queue.now c.args.job.now.limits) c.in_ok-may_use.ensures)

@@ -18,7 +18,9 @@ play_events-requires-clause-sane g c =
 pub returns-in-Ok : goal.returns-in-Ok
 returns-in-Ok g c =
     let read = c.in-Ok.ensures in
-    plays c.args.summary c.args.input.now read.0 c.as_slice.result.now c.as_slice-in-Ok.result.now _ c.args.left.now.items c.play_events.new.left.items c.play_events.result read.1 (c.as_slice.ensures ∙ read.2) (c.as_slice-in-Ok.ensures ∙ read.3) c.play_events.ensures
+    plays c.args.summary c.args.input.now read.0 c.as_slice.result.now c.as_slice-in-Ok.result.now _ c.args.left.now.items c.play_events.new.left.items
+    c.play_events.result read.1 (c.as_slice.ensures ∙ read.2) (c.as_slice-in-Ok.ensures ∙ read.3) c.play_events.ensures
 
 pub returns-in-Err-Bad : goal.returns-in-Err-Bad
-returns-in-Err-Bad g c = reports c.args.summary c.args.input.now c.in-Err-Bad.fault.line c.in-Err-Bad.fault.cause _ c.args.left.now.items c.report.result (rw c.in-Err-Bad.field-0-is at c.in-Err-Bad.ensures) c.report.ensures
+returns-in-Err-Bad g c = reports c.args.summary c.args.input.now c.in-Err-Bad.fault.line c.in-Err-Bad.fault.cause _ c.args.left.now.items c.report.result
+    (rw c.in-Err-Bad.field-0-is at c.in-Err-Bad.ensures) c.report.ensures

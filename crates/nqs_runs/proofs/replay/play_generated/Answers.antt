@@ -16,4 +16,5 @@ play_events-requires-clause-sane g c =
 
 pub returns-in-Ok : goal.returns-in-Ok
 returns-in-Ok g c =
-    runs_same c.args.summary _ _ _ _ _ c.args.left.now.items c.play_events.new.left.items c.play_events.result (c.as_slice.ensures ∙ c.in-Ok.ensures.site) (c.as_slice-in-Ok.ensures ∙ c.in-Ok.ensures.events) c.play_events.ensures
+    runs_same c.args.summary _ _ _ _ _ c.args.left.now.items c.play_events.new.left.items c.play_events.result (c.as_slice.ensures ∙ c.in-Ok.ensures.site)
+    (c.as_slice-in-Ok.ensures ∙ c.in-Ok.ensures.events) c.play_events.ensures

@@ -21,10 +21,12 @@ loop-event-preserved c =
     let events = c.args.events.now in
     let event = c.event-item.result in
     let before = take i events in
-    let more : take (i + 1) events ≡ before ++ event ∷ [] = take_more events i event c.loop-event-test.true ∙ ap (λ (e : WorldEvent). before ++ e ∷ []) (sym c.event-item.is) in
+    let more : take (i + 1) events ≡ before ++ event ∷ [] = take_more events i event c.loop-event-test.true
+    ∙ ap (λ (e : WorldEvent). before ++ e ∷ []) (sym c.event-item.is) in
     let on = c.in_ok-happen.ensures site before (c.requires.site, sane_before events i c.requires.sane, c.loop-event.invariant.world) in
     record {
       world = world_there site before (take (i + 1) events) event c.happen.new.world more on.0;
       counted = c.count_all.ensures ∙ ap (λ (seen : List Seen). summary_of c.loop-event.summary seen) c.deref.ensures.value
-          ∙ counted_there site before (take (i + 1) events) event c.happen.new.world c.happen.new.seen.items c.loop-event.summary more on c.loop-event.invariant.counted;
+          ∙ counted_there site before (take (i + 1) events) event c.happen.new.world c.happen.new.seen.items c.loop-event.summary more on
+          c.loop-event.invariant.counted;
     }

@@ -14,4 +14,5 @@ pub returns : goal.returns
 returns c = λ site before run.
     let order = c.hosts_stay_in_order.ensures site (map act_of before) run.0 (c.acts_are_sane.ensures before run.1) in
     let network = (ran site before).world in
-    goes_on site before c.args.event.now c.event.new.self _ c.event.new.seen.items c.event.result (c.event.ensures.world site network order run.2) (c.event.ensures.seen site network order run.2) c.clear.ensures.items
+    goes_on site before c.args.event.now c.event.new.self _ c.event.new.seen.items c.event.result (c.event.ensures.world site network order run.2)
+    (c.event.ensures.seen site network order run.2) c.clear.ensures.items

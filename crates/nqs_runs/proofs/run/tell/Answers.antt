@@ -9,4 +9,5 @@ happen-requires-clause-sound c = (c.args.site.now, c.requires.sound.0, c.require
 pub returns : goal.returns
 returns c = λ before run.
     let site = c.args.site.now in
-    tells site before c.args.event.now c.happen.new.world c.happen.new.seen.items c.print_all.new.text.items (c.in_ok-happen.ensures site before run) (c.in_ok-print_all.ensures ∙ ap (transcript site) c.deref.ensures.value)
+    tells site before c.args.event.now c.happen.new.world c.happen.new.seen.items c.print_all.new.text.items (c.in_ok-happen.ensures site before run)
+    (c.in_ok-print_all.ensures ∙ ap (transcript site) c.deref.ensures.value)

@@ -11,7 +11,8 @@ returns-in_err-take_line c =
     let rest = c.loop-rest.rest.now in
     let end = c.in-Some.end in
     let found = c.in-Some.ensures in
-    rw (p.1, p.2) (bad_line _ _ front.0 _ rest (take end rest) (drop (end + 1) rest) _ _ front.1 front.2 (first_line rest end found.0 found.1) found.2 c.in_err-take_line.ensures)
+    rw (p.1, p.2) (bad_line _ _ front.0 _ rest (take end rest) (drop (end + 1) rest) _ _ front.1 front.2
+    (first_line rest end found.0 found.1) found.2 c.in_err-take_line.ensures)
 
 pub loop-rest-preserved : goal.loop-rest-preserved
 loop-rest-preserved c =

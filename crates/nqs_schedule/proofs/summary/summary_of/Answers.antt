@@ -4,7 +4,8 @@ use Rattle.nqs_schedule.proofs.summary.summary_of.Goals as goal
 
 pub loop-i-preserved : goal.loop-i-preserved
 loop-i-preserved c = record {
-  so_far = count_more c.args.seen.now c.loop-i.i c.index-seen-i.result c.loop-i.summary c.count.new.self (summary_of nothing_seen c.args.seen.now) c.loop-i-test.true c.index-seen-i.is c.count.ensures c.loop-i.invariant.so_far;
+  so_far = count_more c.args.seen.now c.loop-i.i c.index-seen-i.result c.loop-i.summary c.count.new.self
+      (summary_of nothing_seen c.args.seen.now) c.loop-i-test.true c.index-seen-i.is c.count.ensures c.loop-i.invariant.so_far;
 }
 
 pub returns : goal.returns

@@ -12,7 +12,8 @@ returns-then-is_over-clause-next c =
     let read = rw (take_rest line (start + 1)) at c.in-Ok.ensures.word in
     let inside = rw (take_rest line (start + 1)) at c.in-Ok.ensures.inside in
     let ends = sym (rw (take_rest line (start + 1 + c.in-Ok.taken)) at c.is_over.ensures) ∙ c.if-is_over.true in
-    ap (λ (t : List ℕ). Found (record { text = t; end = start + 1 + c.in-Ok.taken })) c.from_vec.ensures ∙ over line start c.in-Ok.taken c.in-Ok.text.items inside c.requires read ends
+    ap (λ (t : List ℕ). Found (record { text = t; end = start + 1 + c.in-Ok.taken })) c.from_vec.ensures
+    ∙ over line start c.in-Ok.taken c.in-Ok.text.items inside c.requires read ends
 
 pub returns-else-is_over-clause-next : goal.returns-else-is_over-clause-next
 returns-else-is_over-clause-next c =

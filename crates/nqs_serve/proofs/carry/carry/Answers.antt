@@ -27,11 +27,13 @@ loop-place-preserved g c =
     let o = c.index-outputs-place.result in
     let this : Outcome = outcome o c.carry_one.result in
     let did = c.carry_one.ensures in
-    let grown : take (c.loop-place.place + 1) c.args.outputs.now ≡ take c.loop-place.place c.args.outputs.now ++ o ∷ [] = taken_more c.args.outputs.now c.loop-place.place o c.loop-place-test.true c.index-outputs-place.is in
+    let grown : take (c.loop-place.place + 1) c.args.outputs.now ≡ take c.loop-place.place c.args.outputs.now ++ o ∷ [] =
+    taken_more c.args.outputs.now c.loop-place.place o c.loop-place-test.true c.index-outputs-place.is in
     record {
       carried = λ here same.
           let before = c.loop-place.invariant.carried here same in
-          let sends = at_mapped (letter_of here) c.args.outputs.now c.args.letters.now c.loop-place.place o c.index-letters-place.result same c.loop-place-test.true c.index-outputs-place.is c.index-letters-place.is in (
+          let sends = at_mapped (letter_of here) c.args.outputs.now c.args.letters.now c.loop-place.place o c.index-letters-place.result same
+          c.loop-place-test.true c.index-outputs-place.is c.index-letters-place.is in (
             before.0 ++ this ∷ [],
             map-append (λ (x : Outcome). x.output) before.0 (this ∷ []) ∙ ap (λ (l : List Output). l ++ o ∷ []) before.1 ∙ sym grown,
             did.noted ∙ ap (λ (l : List Comeback). l ++ option_to_list (comeback_of o c.carry_one.result)) before.2
@@ -50,5 +52,13 @@ loop-place-preserved g c =
 
 pub returns-clause-carried : goal.returns-clause-carried
 returns-clause-carried g c = λ here same.
-    let before = c.loop-place.invariant.carried here same in
-    (before.0, before.1 ∙ taken_all c.args.outputs.now c.loop-place.place (omega (arith, c.loop-place-test.false)) c.loop-place.auto.place-end, before.2, before.3, before.4, before.5, before.6)
+    let before = c.loop-place.invariant.carried here same in (
+      before.0,
+      before.1 ∙ taken_all c.args.outputs.now c.loop-place.place
+          (omega (arith, c.loop-place-test.false)) c.loop-place.auto.place-end,
+      before.2,
+      before.3,
+      before.4,
+      before.5,
+      before.6,
+    )

@@ -7,4 +7,10 @@ use Rattle.nqs_serve.proofs.carry.carry_one.Goals as goal
 
 pub returns-clause-few : goal.returns-clause-few
 returns-clause-few g c =
-    omega (arith, ap (λ (l : List Comeback). length l) c.note.ensures.noted, length-append c.args.back.now.items (option_to_list (comeback_of c.args.output.now c.ask-ok.result)), few_back c.args.output.now c.ask-ok.result)
+    omega (
+      arith,
+      ap (λ (l : List Comeback). length l) c.note.ensures.noted,
+      length-append c.args.back.now.items
+          (option_to_list (comeback_of c.args.output.now c.ask-ok.result)),
+      few_back c.args.output.now c.ask-ok.result,
+    )

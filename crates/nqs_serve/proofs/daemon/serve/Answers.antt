@@ -12,8 +12,8 @@ use Rattle.nqs_records.specs.Values.{IsHost}
 use Rattle.nqs_store.specs.Told.{Host}
 use Rattle.nqs_serve.proofs.daemon.serve.Goals as goal
 
-pub returns-in_default-clause-run : goal.returns-in_default-clause-run
-returns-in_default-clause-run g c = λ tells s told. (
+pub returns-in-Err-clause-run : goal.returns-in-Err-clause-run
+returns-in-Err-clause-run g c = λ tells s told. (
   [],
   idle s,
   [],

@@ -33,8 +33,14 @@ returns-in-Ok-None-clause-ok g c = λ s here knows same.
 pub returns-in-Err-Wire-clause-err : goal.returns-in-Err-Wire-clause-err
 returns-in-Err-Wire-clause-err g c = λ s here knows same.
     let lost = c.in-Err-Wire.ensures.lost (ap Err c.in-Err-Wire.field-0-is) in
-    let still = through_none c.args.node.now s (IsPassed here (idle s) [] []) knows ([], [], refl, inl refl) in
-    ([], idle s, [], ran_cut here (idle s) [] _ _ (missed_grew here _ _ _ _ _ _ _ _ lost.0 c.receive.ensures.sent), (refl, refl, knows.1, refl, omega arith), still)
+    let still = through_none c.args.node.now s (IsPassed here (idle s) [] []) knows ([], [], refl, inl refl) in (
+      [],
+      idle s,
+      [],
+      ran_cut here (idle s) [] _ _ (missed_grew here _ _ _ _ _ _ _ _ lost.0 c.receive.ensures.sent),
+      (refl, refl, knows.1, refl, omega arith),
+      still,
+    )
 
 pub returns-in-Err-Memory-clause-err : goal.returns-in-Err-Memory-clause-err
 returns-in-Err-Memory-clause-err g c = λ s here knows same.
@@ -51,13 +57,15 @@ pub take_event-taken-requires-clause-sane : goal.take_event-taken-requires-claus
 take_event-taken-requires-clause-sane g c =
     let some : IsTrue (is_sane_event (length c.as_slice-site.result.now) c.in-Ok-Some.event) =
     subst (λ o. IfSome o (λ e. IsTrue (is_sane_event (length c.as_slice-site.result.now) e))) c.in-Ok-Some.field-0-is c.in-Ok-Some.ensures.sane in
-    subst (λ (names : List (List ℕ)). IsTrue (is_sane_event (length names) c.in-Ok-Some.event)) (c.as_slice-site.ensures ∙ ap (λ h. h.site) c.state.ensures) some
+    subst (λ (names : List (List ℕ)). IsTrue (is_sane_event (length names) c.in-Ok-Some.event))
+    (c.as_slice-site.ensures ∙ ap (λ h. h.site) c.state.ensures) some
 
 pub take_event-taken-requires-clause-right : goal.take_event-taken-requires-clause-right
 take_event-taken-requires-clause-right g c =
     let some : IsTrue (is_right_event (length c.as_slice-site.result.now) c.in-Ok-Some.event) =
     subst (λ o. IfSome o (λ e. IsTrue (is_right_event (length c.as_slice-site.result.now) e))) c.in-Ok-Some.field-0-is c.in-Ok-Some.ensures.right in
-    subst (λ (names : List (List ℕ)). IsTrue (is_right_event (length names) c.in-Ok-Some.event)) (c.as_slice-site.ensures ∙ ap (λ h. h.site) c.state.ensures) some
+    subst (λ (names : List (List ℕ)). IsTrue (is_right_event (length names) c.in-Ok-Some.event))
+    (c.as_slice-site.ensures ∙ ap (λ h. h.site) c.state.ensures) some
 
 pub returns-in-Err-clause-err : goal.returns-in-Err-clause-err
 returns-in-Err-clause-err g c = λ s here knows same.
@@ -72,10 +80,12 @@ returns-in-Err-clause-err g c = λ s here knows same.
       turn s (e ∷ []),
       cut.0 ∷ [],
       ran_then here (received came.0 ∷ []) [] (idle s) (turn s (e ∷ [])) _ (cut.0 ∷ []) _ _ _
-          (ran_received here s came.0 (Some e) _ _ some (received_grew here came.0 _ _ _ _ _ _ _ _ came.2 c.receive.ensures.sent)) (ran_cut here (turn s (e ∷ [])) (cut.0 ∷ []) _ _ cut.2),
+          (ran_received here s came.0 (Some e) _ _ some (received_grew here came.0 _ _ _ _ _ _ _ _ came.2 c.receive.ensures.sent))
+          (ran_cut here (turn s (e ∷ [])) (cut.0 ∷ []) _ _ cut.2),
       subst (λ f. Ends (end_of f) 1 bs (turn s (e ∷ [])) (cut.0 ∷ []) c.take_event-taken.new.node) (sym c.fault_of.ensures)
           (cut_ends c.in-Err.cut bs (turn s (e ∷ [])) (cut.0 ∷ []) c.take_event-taken.new.node (inr (e, [], cut.0, refl, refl))
-          (λ memory. let known = cut.1 (ap Err memory) in (known.0, known.1.1, inr (e, [], cut.0, refl, refl, known.2))) (one_receive (stops_by (event_in here came.0) s))),
+          (λ memory. let known = cut.1 (ap Err memory) in (known.0, known.1.1, inr (e, [], cut.0, refl, refl, known.2)))
+          (one_receive (stops_by (event_in here came.0) s))),
       through_cut_turn here _ _ came.0 cut.0 s e some cut.3,
     )
 
@@ -98,7 +108,8 @@ returns-in-Err-take_back-clause-err g c = λ s here knows same.
           (received_grew here came.0 _ _ _ _ _ _ _ _ came.2 c.receive.ensures.sent) ok.5 cut.6,
       subst (λ f. Ends (end_of f) 1 bs cut.1 cut.2 c.take_back.new.node) (sym c.fault_of-in-Err-take_back.ensures)
           (cut_ends c.in-Err-take_back.cut bs cut.1 cut.2 c.take_back.new.node cut.4
-          (λ memory. let known = cut.5 (ap Err memory) in (known.0, known.1.1, known.2)) (subst (λ l. Receives 1 l) (sym one) (one_receive (stops_by (event_in here came.0) s)))),
+          (λ memory. let known = cut.5 (ap Err memory) in (known.0, known.1.1, known.2))
+          (subst (λ l. Receives 1 l) (sym one) (one_receive (stops_by (event_in here came.0) s)))),
       through_turn here _ _ _ came.0 ok.0 ok.1 cut.0 s e c.clear.new.self.items _ cut.2 some c.clear.ensures.items ok.2 ok.6 cut.7,
     )
 
@@ -128,7 +139,8 @@ returns-clause-ok g c = λ s here knows same.
     let ok = c.in_default.ensures.ok s here knows same in
     let rest = c.in_default-take_back.ensures.ok (after_event ok.0 e s) here ok.3 (same ∙ ap at (sym c.in_default.ensures.site)) in
     let bytes = bytes_of c.args.node.now in
-    let stop : c.shuts_down-stop.result ≡ shuts_down e s = c.shuts_down-stop.ensures bytes ∙ ap (λ h. shuts_down e (map_state bytes h)) c.state-2.ensures ∙ ap (shuts_down e) knows.1.is in (
+    let stop : c.shuts_down-stop.result ≡ shuts_down e s = c.shuts_down-stop.ensures bytes ∙ ap (λ h. shuts_down e (map_state bytes h)) c.state-2.ensures
+    ∙ ap (shuts_down e) knows.1.is in (
       received came.0 ∷ took ok.0 ok.1 ∷ rest.0,
       rest.1,
       rest.3,

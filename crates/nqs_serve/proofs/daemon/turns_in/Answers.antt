@@ -27,12 +27,30 @@ returns-in-Ok-true-clause-run g c = λ s here knows same.
     let ok = c.in-Ok-true.ensures.ok before.1 here before.4 (same ∙ ap at (sym c.loop-left.invariant.site)) in
     let xs = stops here (idle s) before.0 in
     let all : stops here (idle s) (before.0 ++ ok.0) ≡ xs ++ true ∷ [] =
-    stops_then here before.0 ok.0 (idle s) (idle before.1) before.5.leads ∙ ap (λ (l : List Bool). xs ++ l) (ok.3 ∙ ap (λ b. b ∷ []) c.in-Ok-true.field-0-test) in (
+    stops_then here before.0 ok.0 (idle s) (idle before.1) before.5.leads
+    ∙ ap (λ (l : List Bool). xs ++ l) (ok.3 ∙ ap (λ b. b ∷ []) c.in-Ok-true.field-0-test) in (
       before.0 ++ ok.0,
       idle ok.1,
       [],
       ran_then here before.0 ok.0 (idle s) (idle before.1) (idle ok.1) [] _ _ _ before.5 ok.4,
-      (refl, refl, ok.2.1, (xs, all, before.2, omega (arith, ap (λ (l : List Bool). length l) all, length-append xs (true ∷ []), before.3, c.loop-left-test.true))),
+      (
+        refl,
+        refl,
+        ok.2.1,
+        (
+          xs,
+          all,
+          before.2,
+          omega (
+            arith,
+            ap (λ (l : List Bool). length l) all,
+            length-append xs
+                (true ∷ []),
+            before.3,
+            c.loop-left-test.true,
+          ),
+        ),
+      ),
       through_run here _ _ _ (idle s) (idle before.1) before.0 ok.0 [] before.5.leads before.6 ok.5,
     )
 
@@ -43,7 +61,8 @@ returns-in-Err-clause-run g c = λ s here knows same.
     let err = c.in-Err.ensures.err before.1 here before.4 (same ∙ ap at (sym c.loop-left.invariant.site)) in
     let xs = stops here (idle s) before.0 in
     let all = stops_then here before.0 err.0 (idle s) (idle before.1) before.5.leads in
-    let ends = ends_then c.in-Err.fault c.args.turns xs (stops here (idle before.1) err.0) err.1 err.2 c.turn.new.node before.2 (omega (arith, before.3, c.loop-left-test.true)) err.4 in (
+    let ends = ends_then c.in-Err.fault c.args.turns xs (stops here (idle before.1) err.0) err.1 err.2 c.turn.new.node before.2
+    (omega (arith, before.3, c.loop-left-test.true)) err.4 in (
       before.0 ++ err.0,
       err.1,
       err.2,
@@ -75,7 +94,8 @@ loop-left-preserved g c = record {
       let ok = c.in-Ok-false.ensures.ok before.1 here before.4 (same ∙ ap at (sym c.loop-left.invariant.site)) in
       let xs = stops here (idle s) before.0 in
       let all : stops here (idle s) (before.0 ++ ok.0) ≡ xs ++ false ∷ [] =
-      stops_then here before.0 ok.0 (idle s) (idle before.1) before.5.leads ∙ ap (λ (l : List Bool). xs ++ l) (ok.3 ∙ ap (λ b. b ∷ []) c.in-Ok-false.field-0-test) in (
+      stops_then here before.0 ok.0 (idle s) (idle before.1) before.5.leads
+      ∙ ap (λ (l : List Bool). xs ++ l) (ok.3 ∙ ap (λ b. b ∷ []) c.in-Ok-false.field-0-test) in (
         before.0 ++ ok.0,
         ok.1,
         subst (λ (l : List Bool). NoneStops l) (sym all) (none_both xs (false ∷ []) before.2 refl),

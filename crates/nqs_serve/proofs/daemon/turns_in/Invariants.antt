@@ -17,11 +17,14 @@ invariant-loop-left g l = record {
   running : is_stopped l.node ≡ false;
   later : (which : Which) → g.D.Disk.faults (disk_of which l.fn.node) ≤ g.D.Disk.faults (disk_of which l.node);
   wire : g.W.Wire.receive_faults l.fn.wire ≤ g.W.Wire.receive_faults l.wire;
-  ran : (s : Plain) (here : Here) → Knows l.fn.node s → here ≡ record { me = l.me; site = (content_of l.fn.node).site } → (acts : List Act) × (u : Plain) × NoneStops (stops here (idle s) acts)
+  ran : (s : Plain) (here : Here) → Knows l.fn.node s → here ≡ record { me = l.me; site = (content_of l.fn.node).site }
+      → (acts : List Act) × (u : Plain) × NoneStops (stops here (idle s) acts)
       × (length (stops here (idle s) acts) + l.left ≡ l.turns) × Knows l.node u
       × Ran here acts (idle s) (idle u) []
-      (telling (g.W.Wire.received l.fn.wire) (g.W.Wire.sent l.fn.wire) (g.L.Launcher.asked l.fn.launcher) (g.P.Printer.prints l.fn.printer) (g.O.Outlet.filings l.fn.outlet) (g.C.Clock.given l.fn.clock))
-      (telling (g.W.Wire.received l.wire) (g.W.Wire.sent l.wire) (g.L.Launcher.asked l.launcher) (g.P.Printer.prints l.printer) (g.O.Outlet.filings l.outlet) (g.C.Clock.given l.clock))
+      (telling (g.W.Wire.received l.fn.wire) (g.W.Wire.sent l.fn.wire) (g.L.Launcher.asked l.fn.launcher) (g.P.Printer.prints l.fn.printer)
+      (g.O.Outlet.filings l.fn.outlet) (g.C.Clock.given l.fn.clock))
+      (telling (g.W.Wire.received l.wire) (g.W.Wire.sent l.wire) (g.L.Launcher.asked l.launcher) (g.P.Printer.prints l.printer) (g.O.Outlet.filings l.outlet)
+      (g.C.Clock.given l.clock))
       × TellsThroughout (history_of l.fn.node) (history_of l.node) (IsPassed here (idle s) acts []);
 }
 

@@ -9,13 +9,15 @@ pub returns-then-is_shutdown : goal.returns-then-is_shutdown
 returns-then-is_shutdown c = λ bytes.
     let plain = map_state bytes (content c.args.state.now) in
     c.is_ok.ensures.value ∙ ap is_ok (c.may_command.ensures ∙ ap (λ r. may_command r c.in-Ask.command) c.rank.ensures)
-    ∙ sym (ap (λ b. b && is_ok (may_command (rank c.in-Ask.user plain) c.in-Ask.command)) (sym c.is_shutdown.ensures ∙ c.if-is_shutdown.true)) ∙ sym (ap (λ e. shuts_down e plain) c.in-Ask.is)
+    ∙ sym (ap (λ b. b && is_ok (may_command (rank c.in-Ask.user plain) c.in-Ask.command)) (sym c.is_shutdown.ensures ∙ c.if-is_shutdown.true))
+    ∙ sym (ap (λ e. shuts_down e plain) c.in-Ask.is)
 
 pub returns-else-is_shutdown : goal.returns-else-is_shutdown
 returns-else-is_shutdown c = λ bytes.
     let plain = map_state bytes (content c.args.state.now) in
     c.if-is_shutdown.false
-    ∙ sym (ap (λ b. b && is_ok (may_command (rank c.in-Ask.user plain) c.in-Ask.command)) (sym c.is_shutdown.ensures ∙ c.if-is_shutdown.false)) ∙ sym (ap (λ e. shuts_down e plain) c.in-Ask.is)
+    ∙ sym (ap (λ b. b && is_ok (may_command (rank c.in-Ask.user plain) c.in-Ask.command)) (sym c.is_shutdown.ensures ∙ c.if-is_shutdown.false))
+    ∙ sym (ap (λ e. shuts_down e plain) c.in-Ask.is)
 
 pub returns-in-Arrived : goal.returns-in-Arrived
 returns-in-Arrived c = λ bytes. sym (ap (λ e. shuts_down e (map_state bytes (content c.args.state.now))) c.in-Arrived.is)

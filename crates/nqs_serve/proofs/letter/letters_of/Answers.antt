@@ -1,6 +1,7 @@
 use Rattle.std.proofs.Common.{◌≡◌, ◌∙◌, sym, ap, Some, slice_get, arith}
 use Rattle.nqs_rules.proofs.KeyFacts.{all_get}
 use Rattle.nqs_store.proofs.Lists.{get_at}
+use Rattle.nqs_node.specs.Reading.{sends_short}
 use Rattle.nqs_serve.specs.Sends.{is_right_output}
 use Rattle.nqs_serve.proofs.letter.letters_of.Goals as goal
 
@@ -9,5 +10,15 @@ letter_of-requires-clause-right c =
     let i = c.loop-output.output-index in
     let outputs = c.args.outputs.now in
     let output = c.output-item.result in
-    let at : slice_get outputs i ≡ Some output = get_at outputs i output (omega (arith, c.loop-output-test.true, c.loop-output.auto.output-index-end)) ∙ ap Some (sym c.output-item.is) in
+    let at : slice_get outputs i ≡ Some output =
+    get_at outputs i output (omega (arith, c.loop-output-test.true, c.loop-output.auto.output-index-end)) ∙ ap Some (sym c.output-item.is) in
     all_get (is_right_output 16) outputs i output c.requires.right at
+
+pub letter_of-requires-clause-short : goal.letter_of-requires-clause-short
+letter_of-requires-clause-short c =
+    let i = c.loop-output.output-index in
+    let outputs = c.args.outputs.now in
+    let output = c.output-item.result in
+    let at : slice_get outputs i ≡ Some output =
+    get_at outputs i output (omega (arith, c.loop-output-test.true, c.loop-output.auto.output-index-end)) ∙ ap Some (sym c.output-item.is) in
+    all_get sends_short outputs i output c.requires.short at

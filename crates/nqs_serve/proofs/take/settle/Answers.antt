@@ -23,6 +23,7 @@ loop-cut-init g c = record {
   site = refl;
   running = c.requires.running;
   right = c.requires.said;
+  short = c.requires.short;
   told = λ s knows. ([], refl, knows, sym (append-nil c.args.out.now.items));
   moments = λ s knows. through_none c.args.node.now s (IsBetween c.args.now s) knows ([], starts c.args.now s, refl, refl);
   fewer = omega arith;
@@ -38,6 +39,7 @@ loop-cut-preserved g c =
       site = did.site ∙ c.loop-cut.invariant.site;
       running = did.running;
       right = did.right;
+      short = did.short;
       told = λ s knows.
           let before = c.loop-cut.invariant.told s knows in
           let u = after_starts before.0 s in
@@ -69,7 +71,8 @@ returns-in-Ok-false-clause-told g c = λ s knows.
     let all = last_start now s before.0 before.1 none in
     let still = none_started now u none in
     let after = did.told u before.2 in (
-      subst (λ v. Knows c.start.new.node v) (ap (λ (x : Stepped (List ℕ)). after_step x u) still ∙ ap (λ (xs : List (Stepped (List ℕ))). after_starts xs s) (sym all)) after.0,
+      subst (λ v. Knows c.start.new.node v) (ap (λ (x : Stepped (List ℕ)). after_step x u) still
+          ∙ ap (λ (xs : List (Stepped (List ℕ))). after_starts xs s) (sym all)) after.0,
       after.1 ∙ ap (λ (x : Stepped (List ℕ)). c.loop-cut.out.items ++ said x) still ∙ append-nil c.loop-cut.out.items ∙ before.3
           ∙ ap (λ (xs : List (Stepped (List ℕ))). c.args.out.now.items ++ flat_map said xs) (sym all),
     )

@@ -1,7 +1,7 @@
 use Rattle.std.proofs.Common.{Err, ap, sym, ◌∙◌}
 use Rattle.nqs_serve.proofs.Known.{start_known}
 use Rattle.nqs_node.specs.Nodes.{content_of}
-use Rattle.nqs_serve.proofs.Sendable.{alike_right, start_right}
+use Rattle.nqs_serve.proofs.Sendable.{alike_right, start_right, start_short}
 use Rattle.nqs_serve.proofs.take.start.Goals as goal
 
 pub returns-in-Ok-clause-more : goal.returns-in-Ok-clause-more
@@ -28,4 +28,8 @@ returns-in-Err-Disk-clause-broken g c = λ failed.
     (broken.0, (c.in-Err-Disk.field-0-0, broken.1))
 
 pub returns-in-Ok-clause-right : goal.returns-in-Ok-clause-right
-returns-in-Ok-clause-right g c = alike_right 16 _ _ _ c.in-Ok.ensures.alike c.requires.said (start_right (content_of c.args.node.now) c.requires.sound.order c.args.now)
+returns-in-Ok-clause-right g c = alike_right 16 _ _ _ c.in-Ok.ensures.alike c.requires.said
+    (start_right (content_of c.args.node.now) c.requires.sound.order c.args.now)
+
+pub returns-in-Ok-clause-short : goal.returns-in-Ok-clause-short
+returns-in-Ok-clause-short g c = c.in-Ok.ensures.short c.requires.short (start_short (content_of c.args.node.now) c.requires.sound.order c.args.now)

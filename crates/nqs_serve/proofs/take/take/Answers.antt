@@ -1,6 +1,6 @@
 use Rattle.std.proofs.Common.{Err, ap}
 use Rattle.nqs_node.specs.Nodes.{content_of}
-use Rattle.nqs_serve.proofs.Sendable.{alike_right, step_right}
+use Rattle.nqs_serve.proofs.Sendable.{alike_right, step_right, step_short}
 use Rattle.nqs_serve.proofs.take.take.Goals as goal
 
 pub returns-in-Ok-clause-moments : goal.returns-in-Ok-clause-moments
@@ -21,4 +21,9 @@ returns-in-Err-Disk-clause-broken g c = λ failed.
     (broken.0, (c.in-Err-Disk.field-0-0, broken.1))
 
 pub returns-in-Ok-clause-right : goal.returns-in-Ok-clause-right
-returns-in-Ok-clause-right g c = alike_right 16 _ _ _ c.in-Ok.ensures.alike c.requires.said (step_right (content_of c.args.node.now) c.requires.sound.order c.args.event.now c.requires.sane c.requires.right)
+returns-in-Ok-clause-right g c = alike_right 16 _ _ _ c.in-Ok.ensures.alike c.requires.said
+    (step_right (content_of c.args.node.now) c.requires.sound.order c.args.event.now c.requires.sane c.requires.right)
+
+pub returns-in-Ok-clause-short : goal.returns-in-Ok-clause-short
+returns-in-Ok-clause-short g c =
+    c.in-Ok.ensures.short c.requires.short (step_short (content_of c.args.node.now) c.requires.sound.order c.args.event.now c.requires.sane)

@@ -90,7 +90,8 @@ loop-alloc-preserved g c =
             arrivals_append before.0 (took ok.0 ok.1 ∷ []) ∙ ap (λ l. l ++ []) before.2,
             ok.3,
             took_back here before.0 _ before.1 e x c.loop-alloc.back.items rest _ ok.0 ok.1 _ _ _ split c.event_back-event.ensures ok.2 ok.4 before.4 ok.5,
-            through_took_back here _ _ _ _ before.0 before.1 e x c.loop-alloc.back.items rest ok.0 ok.1 split c.event_back-event.ensures before.4.leads before.5 ok.6,
+            through_took_back here _ _ _ _ before.0 before.1 e x c.loop-alloc.back.items rest ok.0 ok.1 split c.event_back-event.ensures before.4.leads
+                before.5 ok.6,
           );
     }
 

@@ -17,10 +17,13 @@ invariant-loop-alloc g l = record {
   running : is_stopped l.node ≡ false;
   later : (which : Which) → g.D.Disk.faults (disk_of which l.fn.node) ≤ g.D.Disk.faults (disk_of which l.node);
   wire : g.W.Wire.receive_faults l.fn.wire ≤ g.W.Wire.receive_faults l.wire;
-  ran : (s : Plain) (here : Here) → Knows l.fn.node s → here ≡ record { me = l.me; site = (content_of l.fn.node).site } → (acts : List Act) × (u : Plain) × (arrivals acts ≡ []) × Knows l.node u
+  ran : (s : Plain) (here : Here) → Knows l.fn.node s → here ≡ record { me = l.me; site = (content_of l.fn.node).site }
+      → (acts : List Act) × (u : Plain) × (arrivals acts ≡ []) × Knows l.node u
       × Ran here acts (turn s (map event_back l.fn.back.items)) (turn u (map event_back l.back.items)) []
-      (telling (g.W.Wire.received l.fn.wire) (g.W.Wire.sent l.fn.wire) (g.L.Launcher.asked l.fn.launcher) (g.P.Printer.prints l.fn.printer) (g.O.Outlet.filings l.fn.outlet) (g.C.Clock.given l.fn.clock))
-      (telling (g.W.Wire.received l.wire) (g.W.Wire.sent l.wire) (g.L.Launcher.asked l.launcher) (g.P.Printer.prints l.printer) (g.O.Outlet.filings l.outlet) (g.C.Clock.given l.clock))
+      (telling (g.W.Wire.received l.fn.wire) (g.W.Wire.sent l.fn.wire) (g.L.Launcher.asked l.fn.launcher) (g.P.Printer.prints l.fn.printer)
+      (g.O.Outlet.filings l.fn.outlet) (g.C.Clock.given l.fn.clock))
+      (telling (g.W.Wire.received l.wire) (g.W.Wire.sent l.wire) (g.L.Launcher.asked l.launcher) (g.P.Printer.prints l.printer) (g.O.Outlet.filings l.outlet)
+      (g.C.Clock.given l.clock))
       × TellsThroughout (history_of l.fn.node) (history_of l.node) (IsPassed here (turn s (map event_back l.fn.back.items)) acts []);
 }
 

@@ -5,6 +5,7 @@ use Rattle.nqs_rules.specs.Sane.{is_sane_event}
 use Rattle.nqs_rules.specs.Starts.{starts}
 use Rattle.nqs_back.specs.Back.{comebacks, comes_back}
 use Rattle.nqs_node.specs.Nodes.{content_of}
+use Rattle.nqs_node.specs.Reading.{sends_short}
 use Rattle.nqs_serve.specs.Events.{Here}
 use Rattle.nqs_serve.specs.Letters.{letter_of}
 use Rattle.nqs_serve.specs.Steps.{stepped, after_event, outputs}
@@ -32,22 +33,42 @@ returns-in-Err-clause-cut g c = λ s here knows same. (
 pub returns-in-Err-clause-broken : goal.returns-in-Err-clause-broken
 returns-in-Err-clause-broken g c = λ failed. c.in-Err.ensures.broken failed
 
-pub returns-then-is_err-clause-cut : goal.returns-then-is_err-clause-cut
-returns-then-is_err-clause-cut g c = λ s here knows same.
+pub returns-in-Err-reserve-clause-cut : goal.returns-in-Err-reserve-clause-cut
+returns-in-Err-reserve-clause-cut g c = λ s here knows same.
     let now = c.now-now.result in
     let told = c.in_default.ensures.told s c.args.event.now knows c.set_moment.ensures in (
       now,
-      λ failed. (after_event now c.args.event.now s, told.0, inr (starts now (stepped now c.args.event.now s), [], sym (append-nil (starts now (stepped now c.args.event.now s))), refl)),
+      λ failed. (
+        after_event now c.args.event.now s,
+        told.0,
+        inr (
+          starts now (stepped now c.args.event.now s),
+          [],
+          sym
+              (append-nil (starts now (stepped now c.args.event.now s))),
+          refl,
+        ),
+      ),
       clock_grew here _ _ _ _ _ _ _ now c.now-now.ensures,
       c.in_default.ensures.moments s c.args.event.now knows c.set_moment.ensures,
     )
 
-pub returns-in_default-letters_of-clause-cut : goal.returns-in_default-letters_of-clause-cut
-returns-in_default-letters_of-clause-cut g c = λ s here knows same.
+pub returns-in-Err-letters_of-clause-cut : goal.returns-in-Err-letters_of-clause-cut
+returns-in-Err-letters_of-clause-cut g c = λ s here knows same.
     let now = c.now-now.result in
     let told = c.in_default.ensures.told s c.args.event.now knows c.set_moment.ensures in (
       now,
-      λ failed. (after_event now c.args.event.now s, told.0, inr (starts now (stepped now c.args.event.now s), [], sym (append-nil (starts now (stepped now c.args.event.now s))), refl)),
+      λ failed. (
+        after_event now c.args.event.now s,
+        told.0,
+        inr (
+          starts now (stepped now c.args.event.now s),
+          [],
+          sym
+              (append-nil (starts now (stepped now c.args.event.now s))),
+          refl,
+        ),
+      ),
       clock_grew here _ _ _ _ _ _ _ now c.now-now.ensures,
       c.in_default.ensures.moments s c.args.event.now knows c.set_moment.ensures,
     )
@@ -61,7 +82,8 @@ returns-clause-ok g c = λ s here knows same.
     let at : List (List ℕ) → Here = λ x. record { me = c.args.me; site = x } in
     let is_here : at c.as_slice.result.now ≡ here = ap at site ∙ sym same in
     let spelled : c.deref-3.result.now ≡ map (letter_of here) c.deref-2.result.now =
-    c.deref-3.ensures.value ∙ c.in-Ok.ensures ∙ ap (λ h. map (letter_of h) c.deref.result.now) is_here ∙ ap (map (letter_of here)) (c.deref.ensures.value ∙ sym c.deref-2.ensures.value) in
+    c.deref-3.ensures.value ∙ c.in-Ok.ensures ∙ ap (λ h. map (letter_of h) c.deref.result.now) is_here
+    ∙ ap (map (letter_of here)) (c.deref.ensures.value ∙ sym c.deref-2.ensures.value) in
     let carried = c.carry.ensures.carried here spelled in (
       now,
       carried.0,
@@ -75,7 +97,15 @@ returns-clause-ok g c = λ s here knows same.
 pub returns-clause-fewer : goal.returns-clause-fewer
 returns-clause-fewer g c = λ back.
     let first = c.in_default.ensures.fewer (ap comes_back c.set_moment.ensures ∙ comes_at c.now-now.result c.args.event.now ∙ back) in
-    omega (arith, first, c.carry.ensures.few, ap comebacks c.clear.ensures.items, ap comebacks c.deref-2.ensures.value, ap (λ (l : List Comeback). length l) c.reserve.ensures.items)
+    omega (
+      arith,
+      first,
+      c.carry.ensures.few,
+      ap comebacks c.clear.ensures.items,
+      ap comebacks c.deref-2.ensures.value,
+      ap
+          (λ (l : List Comeback). length l) c.reserve.ensures.items,
+    )
 
 pub take_whole-requires-clause-right : goal.take_whole-requires-clause-right
 take_whole-requires-clause-right g c =
@@ -87,3 +117,9 @@ take_whole-requires-clause-said g c = ap (list_all (is_right_output 16)) c.clear
 
 pub letters_of-requires-clause-right : goal.letters_of-requires-clause-right
 letters_of-requires-clause-right g c = ap (list_all (is_right_output 16)) c.deref.ensures.value ∙ c.in_default.ensures.right
+
+pub take_whole-requires-clause-short : goal.take_whole-requires-clause-short
+take_whole-requires-clause-short g c = ap (list_all sends_short) c.clear.ensures.items
+
+pub letters_of-requires-clause-short : goal.letters_of-requires-clause-short
+letters_of-requires-clause-short g c = ap (list_all sends_short) c.deref.ensures.value ∙ c.in_default.ensures.short

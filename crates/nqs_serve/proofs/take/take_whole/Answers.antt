@@ -16,11 +16,13 @@ returns-in-Ok-clause-told g c = λ s e knows same.
     let u = stepped c.args.now e s in
     let first = c.in-Ok.ensures.told s knows in
     let taken : Knows c.take.new.node u = subst (λ v. Knows c.take.new.node (after_step (step v s) s)) same first.0 in
-    let went : c.take.new.out.items ≡ c.args.out.now.items ++ said (step (at_moment c.args.now e) s) = first.1 ∙ ap (λ v. c.args.out.now.items ++ said (step v s)) same in
+    let went : c.take.new.out.items ≡ c.args.out.now.items ++ said (step (at_moment c.args.now e) s) =
+    first.1 ∙ ap (λ v. c.args.out.now.items ++ said (step v s)) same in
     on_ok c.settle.result
     (λ done. (
       done.0,
-      done.1 ∙ ap (λ (l : List Output). l ++ flat_map said (starts c.args.now u)) went ∙ append_assoc c.args.out.now.items (said (step (at_moment c.args.now e) s)) (flat_map said (starts c.args.now u)),
+      done.1 ∙ ap (λ (l : List Output). l ++ flat_map said (starts c.args.now u)) went
+          ∙ append_assoc c.args.out.now.items (said (step (at_moment c.args.now e) s)) (flat_map said (starts c.args.now u)),
     ))
     (c.settle.ensures.told u taken)
 
@@ -40,7 +42,8 @@ returns-in-Ok-clause-moments g c = λ s e knows same.
     let stepped_is : after_step (step c.args.event.now s) s ≡ u = ap (λ v. after_step (step v s) s) same in
     let taken : Knows c.take.new.node u = subst (Knows c.take.new.node) stepped_is first.0 in
     through_then _ _ _ (IsWithin now e s)
-    (through_change _ _ (step c.args.event.now s).change s (IsWithin now e s) (c.in-Ok.ensures.moments s knows) (inl refl) (inr ([], starts now u, refl, stepped_is)))
+    (through_change _ _ (step c.args.event.now s).change s (IsWithin now e s) (c.in-Ok.ensures.moments s knows) (inl refl)
+    (inr ([], starts now u, refl, stepped_is)))
     (through_as _ _ (IsBetween now u) (IsWithin now e s) (λ v between. inr between) (c.settle.ensures.moments u taken))
 
 pub returns-in-Err-clause-moments : goal.returns-in-Err-clause-moments
@@ -50,7 +53,8 @@ returns-in-Err-clause-moments g c = λ s e knows same.
     (inr ([], starts now (stepped now e s), refl, ap (λ v. after_step (step v s) s) same))
 
 pub returns-in-Ok-clause-fewer : goal.returns-in-Ok-clause-fewer
-returns-in-Ok-clause-fewer g c = λ back. on_ok c.settle.result (λ less. omega (arith, less, c.in-Ok.ensures.no_more back, c.in-Ok.ensures.none_back back)) c.settle.ensures.fewer
+returns-in-Ok-clause-fewer g c = λ back. on_ok c.settle.result (λ less. omega (arith, less, c.in-Ok.ensures.no_more back, c.in-Ok.ensures.none_back back))
+    c.settle.ensures.fewer
 
 pub returns-in-Ok-clause-broken : goal.returns-in-Ok-clause-broken
 returns-in-Ok-clause-broken g c = λ failed.

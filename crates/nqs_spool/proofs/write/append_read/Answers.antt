@@ -19,5 +19,6 @@ returns-in-Ok-clause-bytes g c = λ told.
     let tail = length-drop start all in
     rw (c.truncate.ensures.items, c.in-Ok.ensures.bytes told) (
     read_behind all _ _ _ bytes start c.resize.new.self.len c.args.place c.args.count c.in-Ok.read
-    (omega (arith, size)) (omega (arith, c.in-Ok.ensures.within, part, tail, size, c.in_ok-resize.ensures.len)) (omega (arith, c.in-Ok.ensures.count told, part, tail, size))
+    (omega (arith, size)) (omega (arith, c.in-Ok.ensures.within, part, tail, size, c.in_ok-resize.ensures.len))
+    (omega (arith, c.in-Ok.ensures.count told, part, tail, size))
     ∙ ap (λ (l : List ℕ). l ++ take c.args.count (drop c.args.place bytes)) front)

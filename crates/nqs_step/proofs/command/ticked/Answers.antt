@@ -13,4 +13,5 @@ on_tick-requires c = hops_left (content c.args.state.now) c.requires
 pub returns : goal.returns
 returns c =
     let s = content c.args.state.now in
-    subst (λ x. IfOk c.add_due_stages.result (λ plan. plan ≡ x)) (ap (λ p. with_more p (due_outputs s)) c.in_ok-plan.ensures ∙ plan-also (on_tick c.args.now s) (due_outputs s)) c.add_due_stages.ensures
+    subst (λ x. IfOk c.add_due_stages.result (λ plan. plan ≡ x)) (ap (λ p. with_more p (due_outputs s)) c.in_ok-plan.ensures
+    ∙ plan-also (on_tick c.args.now s) (due_outputs s)) c.add_due_stages.ensures

@@ -12,4 +12,5 @@ returns-in-AbortQueue c =
     let s = content c.args.state.now in
     let q = c.in-AbortQueue.queue in
     let made = c.fold_each.ensures (λ p r. with_more p (kill_in q r)) (λ a w r k. search rules) in
-    subst (λ x. IfOk c.fold_each.result (λ more. more ≡ x)) (kills_are q c.args.plan s.rows ∙ sym (ap (λ e. with_more c.args.plan (kills_of (Rows e) s)) c.in-AbortQueue.is)) made
+    subst (λ x. IfOk c.fold_each.result (λ more. more ≡ x)) (kills_are q c.args.plan s.rows
+    ∙ sym (ap (λ e. with_more c.args.plan (kills_of (Rows e) s)) c.in-AbortQueue.is)) made

@@ -12,4 +12,5 @@ returns-in_err-check_way c =
     rw (p.1, p.2) (refused (move_entry_causes c.args.row.now c.args.queue.now) (used_causes (content c.args.state.now)) _ c.in_err-check_way.ensures)
 
 pub returns : goal.returns
-returns c = c.check_arrivals.ensures ∙ sym (passed (move_entry_causes c.args.row.now c.args.queue.now) (used_causes (content c.args.state.now)) c.in_ok-check_way.ensures)
+returns c = c.check_arrivals.ensures ∙ sym (passed (move_entry_causes c.args.row.now c.args.queue.now)
+    (used_causes (content c.args.state.now)) c.in_ok-check_way.ensures)

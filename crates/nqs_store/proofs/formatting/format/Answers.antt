@@ -18,6 +18,8 @@ returns-in-Ok-clause-told g c = λ tells.
     c.read_back.ensures (subst (λ s. MayStand (Site me s)) (sym sites) c.requires) (c.deref.ensures.value ∙ c.in_ok-text.ensures.text) in
     record {
       payload = text;
-      opened = subst (λ p. IsOpen (g.D.Disk.history c.format_with.new.disk) header (length (header ++ records (p ∷ []))) (p ∷ [])) c.deref-2.ensures.value (c.in-Ok.ensures.formatted tells);
-      tells = told_one text (formatted me c.args.site.now) (ap (λ r. read_taken r None) (ap record_of (sym c.deref.ensures.value) ∙ read ∙ ap (λ s. Ok (Site me s)) sites));
+      opened = subst (λ p. IsOpen (g.D.Disk.history c.format_with.new.disk) header (length (header ++ records (p ∷ []))) (p ∷ [])) c.deref-2.ensures.value
+          (c.in-Ok.ensures.formatted tells);
+      tells = told_one text (formatted me c.args.site.now) (ap (λ r. read_taken r None)
+          (ap record_of (sym c.deref.ensures.value) ∙ read ∙ ap (λ s. Ok (Site me s)) sites));
     }

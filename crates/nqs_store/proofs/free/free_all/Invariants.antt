@@ -8,6 +8,8 @@ use Rattle.nqs_store.proofs.free.free_all.Given as goal
 abbrev pub invariant-loop-place : goal.invariant-loop-place
 invariant-loop-place g l = record {
   same : disk_of l.spool ≡ disk_of l.initial.spool;
-  tells : (p : _ → Bool) (part : _ → Extent) → ((v : _) (b : Bool) → FnReturnsAt g.P.Fn l.goes v b → b ≡ p v) → ((v : _) (x : Extent) → FnReturnsAt g.F.Fn l.part v x → x ≡ part v)
-      → (live fewer : List Extent) → Tells l.initial.spool live → Takes live (map part (filter p l.table.items)) fewer → (mid : List Extent) × Tells l.spool mid × Takes mid (map part (filter p (drop l.place l.table.items))) fewer;
+  tells : (p : _ → Bool) (part : _ → Extent) → ((v : _) (b : Bool) → FnReturnsAt g.P.Fn l.goes v b → b ≡ p v)
+      → ((v : _) (x : Extent) → FnReturnsAt g.F.Fn l.part v x → x ≡ part v)
+      → (live fewer : List Extent) → Tells l.initial.spool live → Takes live (map part (filter p l.table.items)) fewer
+      → (mid : List Extent) × Tells l.spool mid × Takes mid (map part (filter p (drop l.place l.table.items))) fewer;
 }

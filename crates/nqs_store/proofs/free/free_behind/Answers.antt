@@ -18,7 +18,8 @@ loop-part-preserved g c =
       same = c.free.ensures.same ∙ inv.same;
       tells = λ live fewer was takes.
           let so_far = inv.tells live fewer was takes in
-          first_free c.loop-part.spool c.free.new.self v.bytes c.free.ensures.tells (map part_bytes (drop (i + 1) vs)) so_far.0 fewer so_far.1 (subst (λ l. Takes so_far.0 l fewer) (next_on part_bytes (λ _. Rattle.std.proofs.Common.true) vs i v at) so_far.2);
+          first_free c.loop-part.spool c.free.new.self v.bytes c.free.ensures.tells (map part_bytes (drop (i + 1) vs)) so_far.0 fewer so_far.1
+          (subst (λ l. Takes so_far.0 l fewer) (next_on part_bytes (λ _. Rattle.std.proofs.Common.true) vs i v at) so_far.2);
     }
 
 pub returns-clause-tells : goal.returns-clause-tells

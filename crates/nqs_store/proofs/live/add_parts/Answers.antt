@@ -18,4 +18,5 @@ pub returns : goal.returns
 returns g c = λ part says.
     let vs = c.args.table.now.items in
     c.loop-place.invariant part says
-    ∙ (λ j. c.in_ok-reserve.ensures.items j ++ map part (take_all c.loop-place.place vs (omega (arith, c.loop-place-test.false, c.loop-place.auto.place-end, c.len-place-end.ensures)) j))
+    ∙ (λ j. c.in_ok-reserve.ensures.items j ++ map part (take_all c.loop-place.place vs
+    (omega (arith, c.loop-place-test.false, c.loop-place.auto.place-end, c.len-place-end.ensures)) j))

@@ -14,7 +14,8 @@ use Rattle.nqs_store.proofs.put.put_bytes.Goals as goal
 
 pub put_extents-requires : goal.put_extents-requires
 put_extents-requires g c =
-    ap length (c.deref_mut.ensures.value ∙ c.requires.text) ∙ sym (same_length c.args.change.now c.deref.result.now) ∙ ap (λ x. length (spelling x)) (sym c.set_extents.ensures)
+    ap length (c.deref_mut.ensures.value ∙ c.requires.text) ∙ sym (same_length c.args.change.now c.deref.result.now)
+    ∙ ap (λ x. length (spelling x)) (sym c.set_extents.ensures)
 
 pub returns-clause-done : goal.returns-clause-done
 returns-clause-done g c =
@@ -24,7 +25,8 @@ returns-clause-done g c =
     let set = c.set_extents.ensures ∙ ap (with_extents old) c.deref.ensures.value in
     let was = c.deref_mut.ensures.value ∙ c.requires.text ∙ ap spelling (sym (ap (λ ch. with_extents ch (stored_parts old)) set ∙ with_back old xs)) in
     let is = c.put_extents.ensures (stored_parts old) was in
-    let size = ap length is ∙ ap (λ ch. length (spelling ch)) set ∙ same_length old xs ∙ ap length (sym c.requires.text) ∙ ap length (sym c.deref_mut.ensures.value) ∙ c.deref_mut.ensures.len in
+    let size = ap length is ∙ ap (λ ch. length (spelling ch)) set ∙ same_length old xs ∙ ap length (sym c.requires.text)
+    ∙ ap length (sym c.deref_mut.ensures.value) ∙ c.deref_mut.ensures.len in
     let stands = subst MayStand (sym set) (stands_kept old xs c.requires.may_stand (subst (AllByRecursion IsExtent) (sym put.is) put.small)) in
     let whole = take_at c.put_extents.new.text (drop (length c.put_extents.new.text) c.args.text.now.items) c.args.text.now.len size in
     record {

@@ -21,9 +21,11 @@ returns-in_err-sound_extents-clause-never g c = λ yes host tells sound which pl
     let state = content c.in_ok-state.state in
     let same = same_Some host state (sym tells ∙ c.in_ok-state.ensures.ok.0) in
     let within = subst (λ n. AreSound n (live host)) (sym (c.in-Ok.ensures.length yes)) sound in
-    extents_not c.in-Ok.size (live state) _ (subst (λ h. AreSound c.in-Ok.size (live h)) same within) c.in_err-sound_extents.ensures.err which place (cc (p.1, p.2, is))
+    extents_not c.in-Ok.size (live state) _ (subst (λ h. AreSound c.in-Ok.size (live h)) same within) c.in_err-sound_extents.ensures.err which place
+    (cc (p.1, p.2, is))
 
 pub returns-in_err-sound_extents-clause-fault : goal.returns-in_err-sound_extents-clause-fault
 returns-in_err-sound_extents-clause-fault g c = λ told.
     let p = err_from_is_err_and c.from_residual-in_err-sound_extents.result c.from_residual-in_err-sound_extents.ensures.1 in
-    rw (p.1, p.2) (extent_read c.args.payloads.now (bytes_now (spool_history c.args.spool.now)) c.in-Ok.size (content c.in_ok-state.state) _ c.in_ok-state.ensures.ok.0 (c.in-Ok.ensures.length told) c.in_err-sound_extents.ensures.err)
+    rw (p.1, p.2) (extent_read c.args.payloads.now (bytes_now (spool_history c.args.spool.now)) c.in-Ok.size
+    (content c.in_ok-state.state) _ c.in_ok-state.ensures.ok.0 (c.in-Ok.ensures.length told) c.in_err-sound_extents.ensures.err)

@@ -45,4 +45,5 @@ returns-clause-host g c = λ tells payloads stands host is.
     let f = c.in-Ok.ensures.found tells in
     let state = content c.in_ok-state-in-Ok.state in
     let all = c.deref.ensures.value ∙ f.2 ∙ ap (λ l. l ++ f.0) c.new-found.ensures.items in
-    one_host (bytes_now (g.D.Disk.history c.args.disks.now.first)) f.0 payloads state host f.1 (subst (λ ps. told ps ≡ Some state) all c.in_ok-state-in-Ok.ensures.host.0) stands is
+    one_host (bytes_now (g.D.Disk.history c.args.disks.now.first)) f.0 payloads state host f.1
+    (subst (λ ps. told ps ≡ Some state) all c.in_ok-state-in-Ok.ensures.host.0) stands is

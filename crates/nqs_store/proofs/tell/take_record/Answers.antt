@@ -8,6 +8,7 @@ use Rattle.nqs_records.proofs.SaneLaws.{what_may_stand_is_sane}
 use Rattle.nqs_changes.specs.Running.{runs_only}
 use Rattle.nqs_changes.proofs.Running.{what_may_run}
 use Rattle.nqs_store.specs.Sound.{IsSoundHost}
+use Rattle.nqs_store.proofs.ShortExtents.{live_short}
 use Rattle.nqs_store.proofs.tell.take_record.Goals as goal
 
 pub make_change-requires-clause-sane : goal.make_change-requires-clause-sane
@@ -22,6 +23,7 @@ returns-clause-sound c =
     subst IsSoundHost (sym now) (record {
       order = applied_order change s c.requires.sound.order (what_may_stand_is_sane change c.in_ok-change.ensures.ok.1) fit;
       consistent = applied_consistent s c.requires.sound.order c.requires.sound.consistent change fit;
+      short = live_short change s fit c.in_ok-change.ensures.ok.1 c.requires.sound.short;
     })
 
 pub returns-clause-only : goal.returns-clause-only

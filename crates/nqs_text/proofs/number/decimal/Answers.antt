@@ -13,7 +13,14 @@ pub returns-in_err-value : goal.returns-in_err-value
 unfolding decimal
 returns-in_err-value c =
     let least = next_digit c.loop-byte.value c.loop-byte.byte-index c.args.bytes.now c.loop-byte-test.true in
-    rw c.from_residual-in_err-value.ensures (omega (arith, least, c.loop-byte.invariant.so_far, c.in_err-value.ensures, c.in_ok-tens.ensures, c.saturating_sub.ensures))
+    rw c.from_residual-in_err-value.ensures (omega (
+      arith,
+      least,
+      c.loop-byte.invariant.so_far,
+      c.in_err-value.ensures,
+      c.in_ok-tens.ensures,
+      c.saturating_sub.ensures,
+    ))
 
 pub returns : goal.returns
 unfolding decimal

@@ -16,11 +16,50 @@ returns-clause-parts c = refl
 
 pub returns-clause-order : goal.returns-clause-order
 unfolding digits
-returns-clause-order c = record { site = refl; parameters = refl; short = refl; keys = refl; arrivals = refl; queues = refl; complexes = refl; rows = refl; promises = refl; promisers = refl; hands = refl; few = refl; offers = refl; peers = refl; stages = refl; files = refl }
+returns-clause-order c = record {
+  site = refl;
+  parameters = refl;
+  short = refl;
+  keys = refl;
+  arrivals = refl;
+  queues = refl;
+  complexes = refl;
+  rows =
+      refl;
+  promises = refl;
+  promisers = refl;
+  hands = refl;
+  few = refl;
+  offers = refl;
+  peers = refl;
+  stages = refl;
+  files = refl;
+}
 
 pub returns-clause-whole : goal.returns-clause-whole
 unfolding digits
-returns-clause-whole c = record { order = record { site = refl; parameters = refl; short = refl; keys = refl; arrivals = refl; queues = refl; complexes = refl; rows = refl; promises = refl; promisers = refl; hands = refl; few = refl; offers = refl; peers = refl; stages = refl; files = refl }; parts = refl }
+returns-clause-whole c = record {
+  order = record {
+    site = refl;
+    parameters = refl;
+    short = refl;
+    keys = refl;
+    arrivals = refl;
+    queues = refl;
+    complexes =
+        refl;
+    rows = refl;
+    promises = refl;
+    promisers = refl;
+    hands = refl;
+    few = refl;
+    offers = refl;
+    peers = refl;
+    stages = refl;
+    files = refl;
+  };
+  parts = refl;
+}
 
 pub returns-clause-consistent : goal.returns-clause-consistent
 unfolding digits

@@ -8,4 +8,5 @@ on_ok (Err e) P Q f p = tt
 
 pub returns-clause-found : goal.returns-clause-found
 returns-clause-found g c = λ told. on_ok c.read_payloads.result _ _
-    (λ found payloads tells. found.2 ∙ ap (λ ps. c.args.found.now.items ++ ps) (one_reading _ found.0 payloads found.1 tells.stands)) (c.read_payloads.ensures.found told)
+    (λ found payloads tells. found.2 ∙ ap (λ ps. c.args.found.now.items ++ ps) (one_reading _ found.0 payloads found.1 tells.stands))
+    (c.read_payloads.ensures.found told)

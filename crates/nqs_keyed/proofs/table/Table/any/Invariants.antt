@@ -4,4 +4,5 @@ use Rattle.std.specs.List.{list_any}
 use Rattle.nqs_keyed.proofs.table.Table.any.Given as goal
 
 abbrev pub invariant-loop-place : goal.invariant-loop-place
-invariant-loop-place g l = (p : _) → ((v : _) (b : Bool) → FnReturnsAt g.F.Fn l.f v b → b ≡ p v) → list_any p (drop l.place l.self.items) ≡ list_any p l.self.items
+invariant-loop-place g l = (p : _) → ((v : _) (b : Bool) → FnReturnsAt g.F.Fn l.f v b → b ≡ p v)
+    → list_any p (drop l.place l.self.items) ≡ list_any p l.self.items

@@ -8,7 +8,8 @@ use Rattle.nqs_keyed.specs.Table.{has_key, change_first}
 use Rattle.nqs_keyed.proofs.TableLemmas.{values_set_value_at, map-slice_set, values-changed, change_first-none, lookup-values, none_from_is_some}
 use Rattle.nqs_keyed.proofs.table.Table.change.Goals as goal
 
-ran : (g : Rattle.nqs_keyed.proofs.table.Table.change.Given.Over) (c : goal.After-self-1 g) → FnOnceReturnsAtMut g.F.FnOnce c.args.f c.index_mut.result.now tt c.change.new.self
+ran : (g : Rattle.nqs_keyed.proofs.table.Table.change.Given.Over) (c : goal.After-self-1 g)
+    → FnOnceReturnsAtMut g.F.FnOnce c.args.f c.index_mut.result.now tt c.change.new.self
 ran g c = c.change.ensures
 
 pub invariant_of-self : goal.invariant_of-self
@@ -18,8 +19,10 @@ invariant_of-self g c =
     let i = c.in-Some.place in
     let w = c.change.new.self in
     let same_key : slice_get (map key (values_of m.entries)) i ≡ Some (key w) =
-    slice_get-map key (values_of m.entries) i ∙ (λ j. Rattle.std.specs.Option.option_map key (c.index_mut.ensures.value j)) ∙ ap Some (sym (c.requires.keeps _ _ (ran g c))) in (
-      keys-with_value_at m i w ∙ c.self.invariant.0 ∙ sym (map-slice_set key (values_of m.entries) i w same_key) ∙ ap (map key) (sym (values_set_value_at m.entries i w)),
+    slice_get-map key (values_of m.entries) i ∙ (λ j. Rattle.std.specs.Option.option_map key (c.index_mut.ensures.value j))
+    ∙ ap Some (sym (c.requires.keeps _ _ (ran g c))) in (
+      keys-with_value_at m i w ∙ c.self.invariant.0 ∙ sym (map-slice_set key (values_of m.entries) i w same_key)
+          ∙ ap (map key) (sym (values_set_value_at m.entries i w)),
       subst (IsDistinct g.K.PartialEq.eq) (sym (keys-with_value_at m i w)) c.self.invariant.1,
     )
 

@@ -5,5 +5,6 @@ use Rattle.nqs_keyed.proofs.table.Table.count.Given as goal
 abbrev pub invariant-loop-place : goal.invariant-loop-place
 invariant-loop-place g l = record {
   within : l.count ≤ l.place;
-  rest : (p : _) → ((v : _) (b : Bool) → FnReturnsAt g.F.Fn l.f v b → b ≡ p v) → l.count + length (filter p (drop l.place l.self.items)) ≡ length (filter p l.self.items);
+  rest : (p : _) → ((v : _) (b : Bool) → FnReturnsAt g.F.Fn l.f v b → b ≡ p v)
+      → l.count + length (filter p (drop l.place l.self.items)) ≡ length (filter p l.self.items);
 }

@@ -11,8 +11,10 @@ invariant_of-self g c =
     let i = c.args.place in
     let w = c.exchange.new.self in
     let same_key : slice_get (map g.V.Keyed.key_of (values_of m.entries)) i ≡ Some (g.V.Keyed.key_of w) =
-    ap (λ r. slice_get (map g.V.Keyed.key_of r.items) i) c.self.view_is ∙ c.requires.same ∙ ap (λ v. Some (g.V.Keyed.key_of v)) (sym c.exchange.ensures.inside) in (
-      keys-with_value_at m i w ∙ c.self.invariant.0 ∙ sym (map-slice_set g.V.Keyed.key_of (values_of m.entries) i w same_key) ∙ ap (map g.V.Keyed.key_of) (sym (values_set_value_at m.entries i w)),
+    ap (λ r. slice_get (map g.V.Keyed.key_of r.items) i) c.self.view_is ∙ c.requires.same
+    ∙ ap (λ v. Some (g.V.Keyed.key_of v)) (sym c.exchange.ensures.inside) in (
+      keys-with_value_at m i w ∙ c.self.invariant.0 ∙ sym (map-slice_set g.V.Keyed.key_of (values_of m.entries) i w same_key)
+          ∙ ap (map g.V.Keyed.key_of) (sym (values_set_value_at m.entries i w)),
       subst (IsDistinct g.K.PartialEq.eq) (sym (keys-with_value_at m i w)) c.self.invariant.1,
     )
 

@@ -16,7 +16,8 @@ invariant_of-self g c =
 
 pub returns-clause-items : goal.returns-clause-items
 returns-clause-items g c =
-    ap values_of c.shift_remove_index.ensures.entries ∙ map-remove (λ e. e.1) c.self.inside.map.entries c.args.place ∙ ap (λ r. remove r.items c.args.place) c.self.view_is
+    ap values_of c.shift_remove_index.ensures.entries ∙ map-remove (λ e. e.1) c.self.inside.map.entries c.args.place
+    ∙ ap (λ r. remove r.items c.args.place) c.self.view_is
 
 pub returns-clause-out : goal.returns-clause-out
 returns-clause-out g c =

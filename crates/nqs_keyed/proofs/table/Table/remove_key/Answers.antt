@@ -6,7 +6,8 @@ use Rattle.nqs_keyed.proofs.table.Table.remove_key.Goals as goal
 
 pub invariant_of-self : goal.invariant_of-self
 invariant_of-self g c = (
-  subst (IsKeyed g.V.Keyed.key_of) (sym c.shift_remove-gone.ensures.entries) (IsKeyed-removed g.K.PartialEq.eq g.V.Keyed.key_of c.args.key.now c.self.inside.map.entries c.self.invariant.0),
+  subst (IsKeyed g.V.Keyed.key_of) (sym c.shift_remove-gone.ensures.entries)
+      (IsKeyed-removed g.K.PartialEq.eq g.V.Keyed.key_of c.args.key.now c.self.inside.map.entries c.self.invariant.0),
   c.shift_remove-gone.ensures.unique,
 )
 

@@ -24,17 +24,20 @@ invariant_of-self g c = (
 
 pub returns-clause-revised : goal.returns-clause-revised
 returns-clause-revised g c h says =
-    values-retained g.V.Keyed.key_of _ c.requires.keeps h c.args.f _ refl _ _ (λ k v w b t there. says k v w b t (subst (λ l. Contains l.items v) c.self.view_is there)) (ran g c)
+    values-retained g.V.Keyed.key_of _ c.requires.keeps h c.args.f _ refl _ _
+    (λ k v w b t there. says k v w b t (subst (λ l. Contains l.items v) c.self.view_is there)) (ran g c)
     ∙ ap (λ r. filter_map h r.items) c.self.view_is
 
 pub returns-clause-mapped : goal.returns-clause-mapped
 returns-clause-mapped g c f says =
-    values-retained g.V.Keyed.key_of _ c.requires.keeps (λ v. Some (f v)) c.args.f _ refl _ _ (λ k v w b t there call. let h = says k v w b t call in (if_some (f v) b true w h.0 h.1, h.2)) (ran g c)
+    values-retained g.V.Keyed.key_of _ c.requires.keeps (λ v. Some (f v)) c.args.f _ refl _ _
+    (λ k v w b t there call. let h = says k v w b t call in (if_some (f v) b true w h.0 h.1, h.2)) (ran g c)
     ∙ filter_map-mapped f (values_of c.self.inside.map.entries)
     ∙ ap (λ r. map f r.items) c.self.view_is
 
 pub returns-clause-filtered : goal.returns-clause-filtered
 returns-clause-filtered g c p says =
-    values-retained g.V.Keyed.key_of _ c.requires.keeps (λ v. if p v then Some v else None) c.args.f _ refl _ _ (λ k v w b t there call. let h = says k v w b t call in (if_some v b (p v) w h.0 h.1, h.2)) (ran g c)
+    values-retained g.V.Keyed.key_of _ c.requires.keeps (λ v. if p v then Some v else None) c.args.f _ refl _ _
+    (λ k v w b t there call. let h = says k v w b t call in (if_some v b (p v) w h.0 h.1, h.2)) (ran g c)
     ∙ filter_map-filtered p (values_of c.self.inside.map.entries)
     ∙ ap (λ r. filter p r.items) c.self.view_is

@@ -14,5 +14,7 @@ pub returns : goal.returns
 returns c = λ network world.
     let slots = c.args.self.slots in
     let gives = c.into_iter-slot-iterator.ensures.into_iter_gives in
-    let seen = YieldsList-end (YieldsList-from_vec slots.items gives.0 (gives.1 ∙ slots.ok.0)) c.loop-slot.yielded c.loop-slot.slot-iterator c.loop-slot.yielded_by c.next.result c.next.new.self c.in-None.is c.next.ensures.steps in
-    all_left slots.items c.args.self.tears.items network.hosts c.loop-slot.left.items (subst (λ slots. LeaveEach slots c.loop-slot.left.items) (sym (map-id c.loop-slot.yielded) ∙ seen.0) c.loop-slot.invariant) world.hosts
+    let seen = YieldsList-end (YieldsList-from_vec slots.items gives.0 (gives.1 ∙ slots.ok.0)) c.loop-slot.yielded c.loop-slot.slot-iterator
+    c.loop-slot.yielded_by c.next.result c.next.new.self c.in-None.is c.next.ensures.steps in
+    all_left slots.items c.args.self.tears.items network.hosts c.loop-slot.left.items
+    (subst (λ slots. LeaveEach slots c.loop-slot.left.items) (sym (map-id c.loop-slot.yielded) ∙ seen.0) c.loop-slot.invariant) world.hosts

@@ -1,16 +1,41 @@
-use Rattle.std.proofs.Common.{◌≡◌, ◌∙◌, ◌++◌, OnOk, sym, subst}
+use Rattle.std.proofs.Common.{◌≡◌, ◌∙◌, ◌++◌, OnOk, OnErr, refl, sym, subst}
+use Rattle.std.proofs.lemmas.Result.{on_ok_weaker, err_from_is_err_and}
 use Rattle.nqs_rules.specs.World.{Ran}
 use Rattle.nqs_lines.specs.Acts.{act_of}
+use Rattle.nqs_net.specs.Lists.{GrowsByFront}
 use Rattle.nqs_net.specs.Worlds.{IsWorld}
+use Rattle.nqs_net.proofs.Fronts.{none_shown}
 use Rattle.nqs_net.proofs.Means.{happened}
+use Rattle.nqs_net.proofs.Ordered.{order_kept}
 use Rattle.nqs_net.proofs.world.World.event.Goals as goal
 
 pub returns-in-Some-clause-world : goal.returns-in-Some-clause-world
 returns-in-Some-clause-world c = λ site network order stands.
-    subst (λ (r : Ran). OnOk c.act.result (IsWorld c.act.new.self r.world)) (sym (happened (act_of c.args.event.now) c.args.self.now (c.in-Some.host, c.in-Some.deed) (sym c.in_ok-host.ensures ∙ c.in-Some.is) network stands))
+    subst (λ (r : Ran). OnOk c.act.result (IsWorld c.act.new.self r.world))
+    (sym (happened (act_of c.args.event.now) c.args.self.now (c.in-Some.host, c.in-Some.deed) (sym c.in_ok-host.ensures ∙ c.in-Some.is) network stands))
     (c.act.ensures.world network stands)
 
 pub returns-in-Some-clause-seen : goal.returns-in-Some-clause-seen
 returns-in-Some-clause-seen c = λ site network order stands.
-    subst (λ (r : Ran). OnOk c.act.result (c.act.new.seen.items ≡ c.args.seen.now.items ++ r.seen)) (sym (happened (act_of c.args.event.now) c.args.self.now (c.in-Some.host, c.in-Some.deed) (sym c.in_ok-host.ensures ∙ c.in-Some.is) network stands))
+    subst (λ (r : Ran). OnOk c.act.result (c.act.new.seen.items ≡ c.args.seen.now.items ++ r.seen))
+    (sym (happened (act_of c.args.event.now) c.args.self.now (c.in-Some.host, c.in-Some.deed) (sym c.in_ok-host.ensures ∙ c.in-Some.is) network stands))
     (c.act.ensures.seen network stands)
+
+pub returns-in-Some-clause-sound : goal.returns-in-Some-clause-sound
+returns-in-Some-clause-sound c = λ site network order stands. on_ok_weaker c.act.result
+    (λ _. order_kept site network (act_of c.args.event.now) c.requires.sane order) (c.act.ensures.world network stands)
+
+pub returns-in-None-clause-sound : goal.returns-in-None-clause-sound
+returns-in-None-clause-sound c = λ site network order stands. on_ok_weaker c.other.result
+    (λ _. order_kept site network (act_of c.args.event.now) c.requires.sane order) (c.other.ensures.world network stands)
+
+pub returns-in_err-host-clause-front : goal.returns-in_err-host-clause-front
+returns-in_err-host-clause-front c = λ site network order stands.
+    let p = err_from_is_err_and c.from_residual.result c.from_residual.ensures.1 in
+    rw p.1 (none_shown c.args.seen.now.items c.args.seen.now.items _ refl)
+
+pub returns-in-Some-clause-front : goal.returns-in-Some-clause-front
+returns-in-Some-clause-front c = λ site network order stands.
+    subst (λ (r : Ran). OnErr c.act.result (GrowsByFront c.args.seen.now.items c.act.new.seen.items r.seen))
+    (sym (happened (act_of c.args.event.now) c.args.self.now (c.in-Some.host, c.in-Some.deed) (sym c.in_ok-host.ensures ∙ c.in-Some.is) network stands))
+    (c.act.ensures.front network stands)

@@ -11,4 +11,5 @@ loop-me-preserved c =
     let slots = c.push.new.self.items in
     let tears = c.push-in-loop-me.new.self.items in
     subst (λ hosts. AreSlots slots tears hosts) (sym (host_more site me c.loop-me-test.true))
-    (more_up c.loop-me.slots.items slots c.loop-me.tears.items tears (hosts_from 0 site (take me site)) _ (new_host site me) c.loop-me.invariant c.in_ok-push.ensures.items c.in_ok-push-2.ensures.items c.in_ok-node.ensures refl)
+    (more_up c.loop-me.slots.items slots c.loop-me.tears.items tears (hosts_from 0 site (take me site)) _
+    (new_host site me) c.loop-me.invariant c.in_ok-push.ensures.items c.in_ok-push-2.ensures.items c.in_ok-node.ensures.up refl)

@@ -23,7 +23,8 @@ pub load-requires : goal.load-requires
 load-requires g c = λ yes. (c.requires.quiet yes First, c.requires.quiet yes Spool)
 
 pub returns-in-Err-clause-broken_off : goal.returns-in-Err-clause-broken_off
-returns-in-Err-clause-broken_off g c = λ yes. still_broken_off (histories_of g.D.Disk.history c.args.disks) (histories_of g.D.Disk.history c.in-Err.disks) (c.in-Err.ensures.same_err yes) (Some Boot)
+returns-in-Err-clause-broken_off g c = λ yes. still_broken_off (histories_of g.D.Disk.history c.args.disks) (histories_of g.D.Disk.history c.in-Err.disks)
+    (c.in-Err.ensures.same_err yes) (Some Boot)
 
 pub returns-in-Err-clause-any_moment : goal.returns-in-Err-clause-any_moment
 returns-in-Err-clause-any_moment g c = λ yes s is.
@@ -48,8 +49,10 @@ returns-in-Err-begin-clause-never g c = λ yes s told which place is. c.in-Err-b
 
 pub returns-in-Err-begin-clause-broken_off : goal.returns-in-Err-begin-clause-broken_off
 returns-in-Err-begin-clause-broken_off g c = λ yes.
-    subst (λ (h : Which → History). IsBrokenOff (histories_of g.D.Disk.history c.args.disks) h (Some Boot)) (λ j which. g.D.Disk.history (sym (c.close.ensures which) j))
-    (broken_since (failing_of g.D.Disk.fails c.args.disks) (fails_of c.in-Ok.store) (histories_of g.D.Disk.history c.args.disks) (history_of c.in-Ok.store) (history_of c.begin.new.store)
+    subst (λ (h : Which → History). IsBrokenOff (histories_of g.D.Disk.history c.args.disks) h (Some Boot))
+    (λ j which. g.D.Disk.history (sym (c.close.ensures which) j))
+    (broken_since (failing_of g.D.Disk.fails c.args.disks) (fails_of c.in-Ok.store) (histories_of g.D.Disk.history c.args.disks) (history_of c.in-Ok.store)
+    (history_of c.begin.new.store)
     (c.in-Ok.ensures.fuse yes) (c.in-Ok.ensures.same yes) Boot [] (Some Boot) boot_kept (c.in-Err-begin.ensures.broken_off yes))
 
 either : {A B C X Y : Type 0} → (A → X) → (B → Y) → A ⊎ B → X ⊎ (C ⊎ Y)
@@ -59,18 +62,26 @@ either f h (inr b) = inr (inr (h b))
 pub returns-in-Err-begin-clause-cut : goal.returns-in-Err-begin-clause-cut
 returns-in-Err-begin-clause-cut g c = λ yes s is which failed.
     either (subst (λ d. IsTrue (g.D.Disk.starved d)) (sym (c.close.ensures which)))
-    (λ k. subst (λ (h : Which → History). IsCutBy (failing_of g.D.Disk.fails c.args.disks) (histories_of g.D.Disk.history c.args.disks) h (Some Boot) s which) (λ j which. g.D.Disk.history (sym (c.close.ensures which) j))
-    (cut_since (failing_of g.D.Disk.fails c.args.disks) (fails_of c.in-Ok.store) (histories_of g.D.Disk.history c.args.disks) (history_of c.in-Ok.store) (history_of c.begin.new.store)
+    (λ k. subst (λ (h : Which → History). IsCutBy (failing_of g.D.Disk.fails c.args.disks) (histories_of g.D.Disk.history c.args.disks) h (Some Boot) s which)
+    (λ j which. g.D.Disk.history (sym (c.close.ensures which) j))
+    (cut_since (failing_of g.D.Disk.fails c.args.disks) (fails_of c.in-Ok.store) (histories_of g.D.Disk.history c.args.disks) (history_of c.in-Ok.store)
+    (history_of c.begin.new.store)
     (c.in-Ok.ensures.fuse yes) (c.in-Ok.ensures.same yes) Boot [] (Some Boot) boot_kept
-    (plain_of c.in-Ok.store (content c.in-Ok.state)) s (loaded_is c.in-Ok.store (content c.in-Ok.state) is.host (bytes_now (g.D.Disk.history (disk_at Spool c.args.disks))) s (ap bytes_now (c.in-Ok.ensures.same yes Spool)) (c.in-Ok.ensures.told yes is.payloads is.stands is.host is.tells) is.bytes) which k))
+    (plain_of c.in-Ok.store (content c.in-Ok.state)) s (loaded_is c.in-Ok.store (content c.in-Ok.state) is.host
+    (bytes_now (g.D.Disk.history (disk_at Spool c.args.disks))) s (ap bytes_now (c.in-Ok.ensures.same yes Spool))
+    (c.in-Ok.ensures.told yes is.payloads is.stands is.host is.tells) is.bytes) which k))
     (c.in-Err-begin.ensures.cut yes (c.in-Ok.ensures.tells yes) which (ap Err failed))
 
 pub returns-in-Err-begin-clause-any_moment : goal.returns-in-Err-begin-clause-any_moment
 returns-in-Err-begin-clause-any_moment g c = λ yes s is.
-    subst (λ (h : Which → History). IsOneOrOther (histories_of g.D.Disk.history c.args.disks) h (Some Boot) s) (λ j which. g.D.Disk.history (sym (c.close.ensures which) j))
-    (moments_since (failing_of g.D.Disk.fails c.args.disks) (fails_of c.in-Ok.store) (histories_of g.D.Disk.history c.args.disks) (history_of c.in-Ok.store) (history_of c.begin.new.store)
+    subst (λ (h : Which → History). IsOneOrOther (histories_of g.D.Disk.history c.args.disks) h (Some Boot) s)
+    (λ j which. g.D.Disk.history (sym (c.close.ensures which) j))
+    (moments_since (failing_of g.D.Disk.fails c.args.disks) (fails_of c.in-Ok.store) (histories_of g.D.Disk.history c.args.disks) (history_of c.in-Ok.store)
+    (history_of c.begin.new.store)
     (c.in-Ok.ensures.fuse yes) (c.in-Ok.ensures.same yes) Boot [] (Some Boot) boot_kept
-    (plain_of c.in-Ok.store (content c.in-Ok.state)) s (loaded_is c.in-Ok.store (content c.in-Ok.state) is.host (bytes_now (g.D.Disk.history (disk_at Spool c.args.disks))) s (ap bytes_now (c.in-Ok.ensures.same yes Spool)) (c.in-Ok.ensures.told yes is.payloads is.stands is.host is.tells) is.bytes)
+    (plain_of c.in-Ok.store (content c.in-Ok.state)) s (loaded_is c.in-Ok.store (content c.in-Ok.state) is.host
+    (bytes_now (g.D.Disk.history (disk_at Spool c.args.disks))) s (ap bytes_now (c.in-Ok.ensures.same yes Spool))
+    (c.in-Ok.ensures.told yes is.payloads is.stands is.host is.tells) is.bytes)
     (c.begin.ensures.any_moment yes (c.in-Ok.ensures.tells yes)))
 
 pub returns-in-Err-begin-clause-later : goal.returns-in-Err-begin-clause-later
@@ -97,23 +108,31 @@ returns-in-Ok-begin-clause-one g c = λ yes.
 
 pub returns-in-Ok-begin-clause-told : goal.returns-in-Ok-begin-clause-told
 returns-in-Ok-begin-clause-told g c = λ yes s is. record {
-  is = c.in-Ok-begin.ensures.plain yes (c.in-Ok.ensures.tells yes) ∙ ap (applied Boot) (loaded_is c.in-Ok.store (content c.in-Ok.state) is.host (bytes_now (g.D.Disk.history (disk_at Spool c.args.disks))) s (ap bytes_now (c.in-Ok.ensures.same yes Spool)) (c.in-Ok.ensures.told yes is.payloads is.stands is.host is.tells) is.bytes);
+  is = c.in-Ok-begin.ensures.plain yes (c.in-Ok.ensures.tells yes) ∙ ap (applied Boot)
+      (loaded_is c.in-Ok.store (content c.in-Ok.state) is.host (bytes_now (g.D.Disk.history (disk_at Spool c.args.disks))) s
+      (ap bytes_now (c.in-Ok.ensures.same yes Spool)) (c.in-Ok.ensures.told yes is.payloads is.stands is.host is.tells) is.bytes);
   told = c.in-Ok-begin.ensures.told yes (c.in-Ok.ensures.tells yes);
   running = refl;
 }
 
 pub returns-in-Ok-begin-clause-outputs : goal.returns-in-Ok-begin-clause-outputs
 returns-in-Ok-begin-clause-outputs g c = λ yes s is.
-    c.in-Ok-begin.ensures.outputs (bytes_of c.in-Ok.store) ∙ ap (λ (p : Plain). c.args.out.now.items ++ filter_map boot_output p.rows) (loaded_is c.in-Ok.store (content c.in-Ok.state) is.host (bytes_now (g.D.Disk.history (disk_at Spool c.args.disks))) s (ap bytes_now (c.in-Ok.ensures.same yes Spool)) (c.in-Ok.ensures.told yes is.payloads is.stands is.host is.tells) is.bytes)
+    c.in-Ok-begin.ensures.outputs (bytes_of c.in-Ok.store) ∙ ap (λ (p : Plain). c.args.out.now.items ++ filter_map boot_output p.rows)
+    (loaded_is c.in-Ok.store (content c.in-Ok.state) is.host (bytes_now (g.D.Disk.history (disk_at Spool c.args.disks))) s
+    (ap bytes_now (c.in-Ok.ensures.same yes Spool)) (c.in-Ok.ensures.told yes is.payloads is.stands is.host is.tells) is.bytes)
 
 pub returns-in-Ok-begin-clause-made : goal.returns-in-Ok-begin-clause-made
 returns-in-Ok-begin-clause-made g c = λ yes.
-    made_since (failing_of g.D.Disk.fails c.args.disks) (fails_of c.in-Ok.store) (histories_of g.D.Disk.history c.args.disks) (history_of c.in-Ok.store) (history_of c.begin.new.store)
+    made_since (failing_of g.D.Disk.fails c.args.disks) (fails_of c.in-Ok.store) (histories_of g.D.Disk.history c.args.disks) (history_of c.in-Ok.store)
+    (history_of c.begin.new.store)
     (c.in-Ok.ensures.fuse yes) (c.in-Ok.ensures.same yes) Boot [] (Some Boot) boot_kept (c.in-Ok-begin.ensures.made yes)
 
 pub returns-in-Ok-begin-clause-any_moment : goal.returns-in-Ok-begin-clause-any_moment
 returns-in-Ok-begin-clause-any_moment g c = λ yes s is.
-    moments_since (failing_of g.D.Disk.fails c.args.disks) (fails_of c.in-Ok.store) (histories_of g.D.Disk.history c.args.disks) (history_of c.in-Ok.store) (history_of c.begin.new.store)
+    moments_since (failing_of g.D.Disk.fails c.args.disks) (fails_of c.in-Ok.store) (histories_of g.D.Disk.history c.args.disks) (history_of c.in-Ok.store)
+    (history_of c.begin.new.store)
     (c.in-Ok.ensures.fuse yes) (c.in-Ok.ensures.same yes) Boot [] (Some Boot) boot_kept
-    (plain_of c.in-Ok.store (content c.in-Ok.state)) s (loaded_is c.in-Ok.store (content c.in-Ok.state) is.host (bytes_now (g.D.Disk.history (disk_at Spool c.args.disks))) s (ap bytes_now (c.in-Ok.ensures.same yes Spool)) (c.in-Ok.ensures.told yes is.payloads is.stands is.host is.tells) is.bytes)
+    (plain_of c.in-Ok.store (content c.in-Ok.state)) s (loaded_is c.in-Ok.store (content c.in-Ok.state) is.host
+    (bytes_now (g.D.Disk.history (disk_at Spool c.args.disks))) s (ap bytes_now (c.in-Ok.ensures.same yes Spool))
+    (c.in-Ok.ensures.told yes is.payloads is.stands is.host is.tells) is.bytes)
     (c.begin.ensures.any_moment yes (c.in-Ok.ensures.tells yes))

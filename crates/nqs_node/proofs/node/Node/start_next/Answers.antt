@@ -10,10 +10,11 @@ use Rattle.nqs_kept.specs.Offers.{takes_back_few}
 use Rattle.nqs_kept.specs.Reads.{AreLive}
 use Rattle.nqs_node.specs.Carried.{started, IsMade}
 use Rattle.nqs_node.specs.Nodes.{history_of, fails_of, content_of, bytes_of, Tells}
+use Rattle.nqs_node.specs.Reading.{AreShort}
 use Rattle.nqs_back.proofs.Plans.{bare_step, alike_step, fewer_left, one_back}
 use Rattle.nqs_node.proofs.Bare.{picked_bare, started_bare, bare_none, alike_none}
 use Rattle.nqs_node.proofs.Performing.{still_broken_off}
-use Rattle.nqs_node.proofs.Planning.{next_is, at_next, none_next, may_be_done}
+use Rattle.nqs_node.proofs.Planning.{next_is, at_next, none_next, may_be_done, does}
 use Rattle.nqs_node.proofs.Resting.{none_found}
 use Rattle.nqs_node.proofs.Telling.{tells_still, one_still, does_next, quiet_next}
 use Rattle.nqs_node.proofs.node.Node.start_next.Goals as goal
@@ -36,35 +37,45 @@ carry_out-requires-clause-may g c =
     (at_next (λ x. AreLive host x.outputs) now host plan next (c.outputs_read_live_extents.ensures.start now host order))
 
 pub returns-in-Err-clause-broken_off : goal.returns-in-Err-clause-broken_off
-returns-in-Err-clause-broken_off g c = λ yes s told. still_broken_off (history_of c.args.self.now) (history_of c.args.self.now) (λ which. refl) (started c.args.now s).change
+returns-in-Err-clause-broken_off g c = λ yes s told. still_broken_off (history_of c.args.self.now) (history_of c.args.self.now) (λ which. refl)
+    (started c.args.now s).change
 
 pub returns-in-Err-clause-any_moment : goal.returns-in-Err-clause-any_moment
 returns-in-Err-clause-any_moment g c = λ yes s told. one_still c.args.self.now s told yes (started c.args.now s).change
 
 pub invariant_of-self : goal.invariant_of-self
 invariant_of-self g c =
-    record { running = c.args.self.now.running; rests = none_found c.args.now (content_of c.args.self.now) (none_next c.args.now (content_of c.args.self.now) (sym c.in-Ok-None.field-0-is ∙ c.in-Ok-None.ensures)) }
+    record {
+      running = c.args.self.now.running;
+      rests = none_found c.args.now (content_of c.args.self.now)
+          (none_next c.args.now (content_of c.args.self.now) (sym c.in-Ok-None.field-0-is ∙ c.in-Ok-None.ensures));
+    }
 
 pub returns-in-Ok-None-clause-more : goal.returns-in-Ok-None-clause-more
 returns-in-Ok-None-clause-more g c = sym (ap is_some (none_next c.args.now (content_of c.args.self.now) (sym c.in-Ok-None.field-0-is ∙ c.in-Ok-None.ensures)))
 
 pub returns-in-Ok-None-clause-told : goal.returns-in-Ok-None-clause-told
 returns-in-Ok-None-clause-told g c = λ yes s told.
-    let still = quiet_next c.args.self.now s told c.args.now (c.start_looks_at_no_bytes.ensures.start (bytes_of c.args.self.now) c.args.now (content_of c.args.self.now))
+    let still = quiet_next c.args.self.now s told c.args.now (c.start_looks_at_no_bytes.ensures.start (bytes_of c.args.self.now) c.args.now
+    (content_of c.args.self.now))
     (none_next c.args.now (content_of c.args.self.now) (sym c.in-Ok-None.field-0-is ∙ c.in-Ok-None.ensures)) in
-    tells_still c.args.self.now (after_step (started c.args.now s) s) (subst (λ (x : Stepped (List ℕ)). Tells c.args.self.now (after_step x s)) (sym still) told) _ refl (λ which. refl) (λ host tells. tells) told.running
+    tells_still c.args.self.now (after_step (started c.args.now s) s) (subst (λ (x : Stepped (List ℕ)). Tells c.args.self.now (after_step x s))
+    (sym still) told) _ refl (λ which. refl) (λ host tells. tells) told.running
 
 pub returns-in-Ok-None-clause-outputs : goal.returns-in-Ok-None-clause-outputs
 returns-in-Ok-None-clause-outputs g c = λ yes s told.
-    let still = quiet_next c.args.self.now s told c.args.now (c.start_looks_at_no_bytes.ensures.start (bytes_of c.args.self.now) c.args.now (content_of c.args.self.now))
+    let still = quiet_next c.args.self.now s told c.args.now (c.start_looks_at_no_bytes.ensures.start (bytes_of c.args.self.now) c.args.now
+    (content_of c.args.self.now))
     (none_next c.args.now (content_of c.args.self.now) (sym c.in-Ok-None.field-0-is ∙ c.in-Ok-None.ensures)) in
     sym (append-nil c.args.out.now.items) ∙ ap (λ (x : Stepped (List ℕ)). c.args.out.now.items ++ map shown x.outputs) (sym still)
 
 pub returns-in-Ok-None-clause-made : goal.returns-in-Ok-None-clause-made
 returns-in-Ok-None-clause-made g c = λ yes s told.
-    let still = quiet_next c.args.self.now s told c.args.now (c.start_looks_at_no_bytes.ensures.start (bytes_of c.args.self.now) c.args.now (content_of c.args.self.now))
+    let still = quiet_next c.args.self.now s told c.args.now (c.start_looks_at_no_bytes.ensures.start (bytes_of c.args.self.now) c.args.now
+    (content_of c.args.self.now))
     (none_next c.args.now (content_of c.args.self.now) (sym c.in-Ok-None.field-0-is ∙ c.in-Ok-None.ensures)) in
-    subst (λ (x : Stepped (List ℕ)). IsMade (fails_of c.args.self.now) (history_of c.args.self.now) (history_of c.args.self.now) x.change) (sym still) (λ which. refl)
+    subst (λ (x : Stepped (List ℕ)). IsMade (fails_of c.args.self.now) (history_of c.args.self.now) (history_of c.args.self.now) x.change) (sym still)
+    (λ which. refl)
 
 pub returns-in-Ok-None-clause-any_moment : goal.returns-in-Ok-None-clause-any_moment
 returns-in-Ok-None-clause-any_moment g c = λ yes s told. one_still c.args.self.now s told yes (started c.args.now s).change
@@ -77,66 +88,99 @@ returns-in-Err-carry_out-clause-memory g c = λ yes failed. c.in-Err-carry_out.e
 
 pub returns-in-Err-carry_out-clause-broken_off : goal.returns-in-Err-carry_out-clause-broken_off
 returns-in-Err-carry_out-clause-broken_off g c = λ yes s told.
-    c.in-Err-carry_out.ensures.broken_off yes (started c.args.now s) (does_next c.args.self.now s told c.args.now (c.start_looks_at_no_bytes.ensures.start (bytes_of c.args.self.now) c.args.now (content_of c.args.self.now)) c.in-Ok-Some.plan
+    c.in-Err-carry_out.ensures.broken_off yes (started c.args.now s) (does_next c.args.self.now s told c.args.now
+    (c.start_looks_at_no_bytes.ensures.start (bytes_of c.args.self.now) c.args.now (content_of c.args.self.now)) c.in-Ok-Some.plan
     (next_is c.args.now (content_of c.args.self.now) c.in-Ok-Some.plan (sym c.in-Ok-Some.field-0-is ∙ c.in-Ok-Some.ensures)))
 
 pub returns-in-Err-carry_out-clause-cut : goal.returns-in-Err-carry_out-clause-cut
 returns-in-Err-carry_out-clause-cut g c = λ yes s told which failed.
-    c.in-Err-carry_out.ensures.cut yes s told (started c.args.now s) (does_next c.args.self.now s told c.args.now (c.start_looks_at_no_bytes.ensures.start (bytes_of c.args.self.now) c.args.now (content_of c.args.self.now)) c.in-Ok-Some.plan
+    c.in-Err-carry_out.ensures.cut yes s told (started c.args.now s) (does_next c.args.self.now s told c.args.now
+    (c.start_looks_at_no_bytes.ensures.start (bytes_of c.args.self.now) c.args.now (content_of c.args.self.now)) c.in-Ok-Some.plan
     (next_is c.args.now (content_of c.args.self.now) c.in-Ok-Some.plan (sym c.in-Ok-Some.field-0-is ∙ c.in-Ok-Some.ensures))) which (same_error _ _ failed)
 
 pub returns-in-Err-carry_out-clause-any_moment : goal.returns-in-Err-carry_out-clause-any_moment
 returns-in-Err-carry_out-clause-any_moment g c = λ yes s told.
-    c.in-Err-carry_out.ensures.any_moment yes s told (started c.args.now s) (does_next c.args.self.now s told c.args.now (c.start_looks_at_no_bytes.ensures.start (bytes_of c.args.self.now) c.args.now (content_of c.args.self.now)) c.in-Ok-Some.plan
+    c.in-Err-carry_out.ensures.any_moment yes s told (started c.args.now s)
+    (does_next c.args.self.now s told c.args.now (c.start_looks_at_no_bytes.ensures.start (bytes_of c.args.self.now) c.args.now
+    (content_of c.args.self.now)) c.in-Ok-Some.plan
     (next_is c.args.now (content_of c.args.self.now) c.in-Ok-Some.plan (sym c.in-Ok-Some.field-0-is ∙ c.in-Ok-Some.ensures)))
 
 pub returns-in-Ok-clause-more : goal.returns-in-Ok-clause-more
-returns-in-Ok-clause-more g c = sym (ap is_some (next_is c.args.now (content_of c.args.self.now) c.in-Ok-Some.plan (sym c.in-Ok-Some.field-0-is ∙ c.in-Ok-Some.ensures)).picked)
+returns-in-Ok-clause-more g c = sym (ap is_some (next_is c.args.now (content_of c.args.self.now) c.in-Ok-Some.plan
+    (sym c.in-Ok-Some.field-0-is ∙ c.in-Ok-Some.ensures)).picked)
 
 pub returns-in-Ok-clause-told : goal.returns-in-Ok-clause-told
 returns-in-Ok-clause-told g c = λ yes s told.
-    c.in-Ok.ensures.told yes s told (started c.args.now s) (does_next c.args.self.now s told c.args.now (c.start_looks_at_no_bytes.ensures.start (bytes_of c.args.self.now) c.args.now (content_of c.args.self.now)) c.in-Ok-Some.plan
+    c.in-Ok.ensures.told yes s told (started c.args.now s) (does_next c.args.self.now s told c.args.now
+    (c.start_looks_at_no_bytes.ensures.start (bytes_of c.args.self.now) c.args.now (content_of c.args.self.now)) c.in-Ok-Some.plan
     (next_is c.args.now (content_of c.args.self.now) c.in-Ok-Some.plan (sym c.in-Ok-Some.field-0-is ∙ c.in-Ok-Some.ensures)))
 
 pub returns-in-Ok-clause-outputs : goal.returns-in-Ok-clause-outputs
 returns-in-Ok-clause-outputs g c = λ yes s told.
-    c.in-Ok.ensures.outputs yes s told (started c.args.now s) (does_next c.args.self.now s told c.args.now (c.start_looks_at_no_bytes.ensures.start (bytes_of c.args.self.now) c.args.now (content_of c.args.self.now)) c.in-Ok-Some.plan
+    c.in-Ok.ensures.outputs yes s told (started c.args.now s) (does_next c.args.self.now s told c.args.now
+    (c.start_looks_at_no_bytes.ensures.start (bytes_of c.args.self.now) c.args.now (content_of c.args.self.now)) c.in-Ok-Some.plan
     (next_is c.args.now (content_of c.args.self.now) c.in-Ok-Some.plan (sym c.in-Ok-Some.field-0-is ∙ c.in-Ok-Some.ensures)))
 
 pub returns-in-Ok-clause-made : goal.returns-in-Ok-clause-made
 returns-in-Ok-clause-made g c = λ yes s told.
-    c.in-Ok.ensures.made yes (started c.args.now s) (does_next c.args.self.now s told c.args.now (c.start_looks_at_no_bytes.ensures.start (bytes_of c.args.self.now) c.args.now (content_of c.args.self.now)) c.in-Ok-Some.plan
+    c.in-Ok.ensures.made yes (started c.args.now s) (does_next c.args.self.now s told c.args.now
+    (c.start_looks_at_no_bytes.ensures.start (bytes_of c.args.self.now) c.args.now (content_of c.args.self.now)) c.in-Ok-Some.plan
     (next_is c.args.now (content_of c.args.self.now) c.in-Ok-Some.plan (sym c.in-Ok-Some.field-0-is ∙ c.in-Ok-Some.ensures)))
 
 pub returns-in-Ok-clause-any_moment : goal.returns-in-Ok-clause-any_moment
 returns-in-Ok-clause-any_moment g c = λ yes s told.
-    c.in-Ok.ensures.any_moment yes s told (started c.args.now s) (does_next c.args.self.now s told c.args.now (c.start_looks_at_no_bytes.ensures.start (bytes_of c.args.self.now) c.args.now (content_of c.args.self.now)) c.in-Ok-Some.plan
+    c.in-Ok.ensures.any_moment yes s told (started c.args.now s) (does_next c.args.self.now s told c.args.now
+    (c.start_looks_at_no_bytes.ensures.start (bytes_of c.args.self.now) c.args.now (content_of c.args.self.now)) c.in-Ok-Some.plan
     (next_is c.args.now (content_of c.args.self.now) c.in-Ok-Some.plan (sym c.in-Ok-Some.field-0-is ∙ c.in-Ok-Some.ensures)))
 
 pub returns-in-Ok-None-clause-bare : goal.returns-in-Ok-None-clause-bare
-returns-in-Ok-None-clause-bare g c = bare_none c.args.now (content_of c.args.self.now) (c.start_looks_at_no_bytes.ensures.start (λ _. []) c.args.now (content_of c.args.self.now)) (none_next c.args.now (content_of c.args.self.now) (sym c.in-Ok-None.field-0-is ∙ c.in-Ok-None.ensures))
+returns-in-Ok-None-clause-bare g c = bare_none c.args.now (content_of c.args.self.now)
+    (c.start_looks_at_no_bytes.ensures.start (λ _. []) c.args.now (content_of c.args.self.now))
+    (none_next c.args.now (content_of c.args.self.now) (sym c.in-Ok-None.field-0-is ∙ c.in-Ok-None.ensures))
 
 pub returns-in-Ok-None-clause-alike : goal.returns-in-Ok-None-clause-alike
-returns-in-Ok-None-clause-alike g c = alike_none c.args.now (content_of c.args.self.now) (c.start_looks_at_no_bytes.ensures.start (λ _. []) c.args.now (content_of c.args.self.now)) (none_next c.args.now (content_of c.args.self.now) (sym c.in-Ok-None.field-0-is ∙ c.in-Ok-None.ensures)) c.args.out.now.items
+returns-in-Ok-None-clause-alike g c = alike_none c.args.now (content_of c.args.self.now)
+    (c.start_looks_at_no_bytes.ensures.start (λ _. []) c.args.now (content_of c.args.self.now))
+    (none_next c.args.now (content_of c.args.self.now) (sym c.in-Ok-None.field-0-is ∙ c.in-Ok-None.ensures)) c.args.out.now.items
 
 pub returns-in-Ok-clause-bare : goal.returns-in-Ok-clause-bare
 returns-in-Ok-clause-bare g c =
     let next = next_is c.args.now (content_of c.args.self.now) c.in-Ok-Some.plan (sym c.in-Ok-Some.field-0-is ∙ c.in-Ok-Some.ensures) in
-    bare_step (content_of c.args.self.now) (content_of c.carry_out.new.self) (started c.args.now) next.done c.in-Ok-Some.plan next.is (started_bare c.args.now (content_of c.args.self.now) (c.start_looks_at_no_bytes.ensures.start (λ _. []) c.args.now (content_of c.args.self.now)) next.done next.picked) c.in-Ok.ensures.bare
+    bare_step (content_of c.args.self.now) (content_of c.carry_out.new.self) (started c.args.now) next.done c.in-Ok-Some.plan next.is
+    (started_bare c.args.now (content_of c.args.self.now) (c.start_looks_at_no_bytes.ensures.start (λ _. []) c.args.now
+    (content_of c.args.self.now)) next.done next.picked) c.in-Ok.ensures.bare
 
 pub returns-in-Ok-clause-alike : goal.returns-in-Ok-clause-alike
 returns-in-Ok-clause-alike g c =
     let next = next_is c.args.now (content_of c.args.self.now) c.in-Ok-Some.plan (sym c.in-Ok-Some.field-0-is ∙ c.in-Ok-Some.ensures) in
-    alike_step (content_of c.args.self.now) (started c.args.now) next.done c.in-Ok-Some.plan next.is (started_bare c.args.now (content_of c.args.self.now) (c.start_looks_at_no_bytes.ensures.start (λ _. []) c.args.now (content_of c.args.self.now)) next.done next.picked) c.args.out.now.items c.carry_out.new.out.items c.in-Ok.ensures.alike
+    alike_step (content_of c.args.self.now) (started c.args.now) next.done c.in-Ok-Some.plan next.is
+    (started_bare c.args.now (content_of c.args.self.now) (c.start_looks_at_no_bytes.ensures.start (λ _. []) c.args.now
+    (content_of c.args.self.now)) next.done next.picked) c.args.out.now.items c.carry_out.new.out.items c.in-Ok.ensures.alike
 
 pub returns-in-Ok-clause-fewer : goal.returns-in-Ok-clause-fewer
 returns-in-Ok-clause-fewer g c = λ more.
     let next = next_is c.args.now (content_of c.args.self.now) c.in-Ok-Some.plan (sym c.in-Ok-Some.field-0-is ∙ c.in-Ok-Some.ensures) in
-    fewer_left (content_of c.args.self.now) (content_of c.carry_out.new.self) c.args.now (map_stepped (λ _. []) next.done) c.requires.sound.order (picked_bare c.args.now (content_of c.args.self.now) (c.start_looks_at_no_bytes.ensures.start (λ _. []) c.args.now (content_of c.args.self.now)) next.done next.picked)
-    (bare_step (content_of c.args.self.now) (content_of c.carry_out.new.self) (λ _. map_stepped (λ _. []) next.done) next.done c.in-Ok-Some.plan next.is refl c.in-Ok.ensures.bare)
+    fewer_left (content_of c.args.self.now) (content_of c.carry_out.new.self) c.args.now (map_stepped (λ _. []) next.done) c.requires.sound.order
+    (picked_bare c.args.now (content_of c.args.self.now) (c.start_looks_at_no_bytes.ensures.start (λ _. []) c.args.now
+    (content_of c.args.self.now)) next.done next.picked)
+    (bare_step (content_of c.args.self.now) (content_of c.carry_out.new.self)
+    (λ _. map_stepped (λ _. []) next.done) next.done c.in-Ok-Some.plan next.is refl c.in-Ok.ensures.bare)
 
 pub returns-in-Ok-clause-one_back : goal.returns-in-Ok-clause-one_back
 returns-in-Ok-clause-one_back g c =
     let next = next_is c.args.now (content_of c.args.self.now) c.in-Ok-Some.plan (sym c.in-Ok-Some.field-0-is ∙ c.in-Ok-Some.ensures) in
-    one_back (content_of c.args.self.now) (content_of c.carry_out.new.self) c.args.now (map_stepped (λ _. []) next.done) (picked_bare c.args.now (content_of c.args.self.now) (c.start_looks_at_no_bytes.ensures.start (λ _. []) c.args.now (content_of c.args.self.now)) next.done next.picked) c.args.out.now.items c.carry_out.new.out.items
-    (alike_step (content_of c.args.self.now) (λ _. map_stepped (λ _. []) next.done) next.done c.in-Ok-Some.plan next.is refl c.args.out.now.items c.carry_out.new.out.items c.in-Ok.ensures.alike)
+    one_back (content_of c.args.self.now) (content_of c.carry_out.new.self) c.args.now (map_stepped (λ _. []) next.done)
+    (picked_bare c.args.now (content_of c.args.self.now) (c.start_looks_at_no_bytes.ensures.start (λ _. []) c.args.now
+    (content_of c.args.self.now)) next.done next.picked) c.args.out.now.items c.carry_out.new.out.items
+    (alike_step (content_of c.args.self.now) (λ _. map_stepped (λ _. []) next.done) next.done c.in-Ok-Some.plan next.is refl c.args.out.now.items
+    c.carry_out.new.out.items c.in-Ok.ensures.alike)
+
+pub returns-in-Ok-clause-short : goal.returns-in-Ok-clause-short
+returns-in-Ok-clause-short g c = λ was went.
+    let now = c.args.now in
+    let host = content_of c.args.self.now in
+    let plan = c.in-Ok-Some.plan in
+    let next = next_is now host plan (sym c.in-Ok-Some.field-0-is ∙ c.in-Ok-Some.ensures) in
+    let same = started_bare now host (c.start_looks_at_no_bytes.ensures.start (λ _. []) now host) next.done next.picked in
+    c.in-Ok.ensures.short (map_stepped (λ _. []) next.done) (does next.done plan next.is (λ _. [])) was
+    (subst (λ (x : Stepped (List ℕ)). AreShort (map shown x.outputs)) same went)

@@ -1,10 +1,12 @@
-use Rattle.std.proofs.Common.{[], refl}
+use Rattle.std.proofs.Common.{ℕ, List, [], map, refl, subst}
 use Rattle.std.proofs.lemmas.Result.{on_ok_weaker}
 use Rattle.nqs_rules.specs.Step.{step}
+use Rattle.nqs_rules.specs.Stepped.{Stepped, map_stepped, shown}
 use Rattle.nqs_node.specs.Nodes.{history_of, content_of, bytes_of}
+use Rattle.nqs_node.specs.Reading.{AreShort}
 use Rattle.nqs_back.proofs.Plans.{bare_step, alike_step, no_more_left, none_back}
 use Rattle.nqs_node.proofs.Performing.{still_broken_off}
-use Rattle.nqs_node.proofs.Planning.{may_be_done}
+use Rattle.nqs_node.proofs.Planning.{may_be_done, does}
 use Rattle.nqs_node.proofs.Telling.{one_still, done_here}
 use Rattle.nqs_node.proofs.node.Node.take.Goals as goal
 
@@ -14,61 +16,85 @@ carry_out-requires-clause-may g c =
     let host = content_of c.args.self.now in
     let order = c.requires.sound.order in
     let sane = c.requires.sane in
-    may_be_done (step e host) c.in-Ok.plan c.in-Ok.ensures host (c.step_fits.ensures e host order sane) (c.few_offers_are_taken_back.ensures.step e host order sane) (c.stored_bytes_are_short.ensures.step e host order sane)
+    may_be_done (step e host) c.in-Ok.plan c.in-Ok.ensures host (c.step_fits.ensures e host order sane)
+    (c.few_offers_are_taken_back.ensures.step e host order sane) (c.stored_bytes_are_short.ensures.step e host order sane)
     (c.outputs_read_live_extents.ensures.step e host order)
 
 pub returns-in-Err-clause-broken_off : goal.returns-in-Err-clause-broken_off
-returns-in-Err-clause-broken_off g c = λ yes s told. still_broken_off (history_of c.args.self.now) (history_of c.args.self.now) (λ which. refl) (step c.args.event.now s).change
+returns-in-Err-clause-broken_off g c = λ yes s told. still_broken_off (history_of c.args.self.now) (history_of c.args.self.now) (λ which. refl)
+    (step c.args.event.now s).change
 
 pub returns-in-Err-clause-any_moment : goal.returns-in-Err-clause-any_moment
 returns-in-Err-clause-any_moment g c = λ yes s told. one_still c.args.self.now s told yes (step c.args.event.now s).change
 
 pub returns-in-Ok-clause-told : goal.returns-in-Ok-clause-told
 returns-in-Ok-clause-told g c = λ yes s told.
-    c.carry_out.ensures.told yes s told (step c.args.event.now s) (done_here c.args.self.now s told (step c.args.event.now) (step c.args.event.now (content_of c.args.self.now)) c.in-Ok.plan c.in-Ok.ensures
+    c.carry_out.ensures.told yes s told (step c.args.event.now s) (done_here c.args.self.now s told (step c.args.event.now)
+    (step c.args.event.now (content_of c.args.self.now)) c.in-Ok.plan c.in-Ok.ensures
     (c.step_looks_at_no_bytes.ensures (bytes_of c.args.self.now) c.args.event.now (content_of c.args.self.now)))
 
 pub returns-in-Ok-clause-outputs : goal.returns-in-Ok-clause-outputs
 returns-in-Ok-clause-outputs g c = λ yes s told.
-    c.carry_out.ensures.outputs yes s told (step c.args.event.now s) (done_here c.args.self.now s told (step c.args.event.now) (step c.args.event.now (content_of c.args.self.now)) c.in-Ok.plan c.in-Ok.ensures
+    c.carry_out.ensures.outputs yes s told (step c.args.event.now s) (done_here c.args.self.now s told (step c.args.event.now)
+    (step c.args.event.now (content_of c.args.self.now)) c.in-Ok.plan c.in-Ok.ensures
     (c.step_looks_at_no_bytes.ensures (bytes_of c.args.self.now) c.args.event.now (content_of c.args.self.now)))
 
 pub returns-in-Ok-clause-made : goal.returns-in-Ok-clause-made
 returns-in-Ok-clause-made g c = λ yes s told.
-    c.carry_out.ensures.made yes (step c.args.event.now s) (done_here c.args.self.now s told (step c.args.event.now) (step c.args.event.now (content_of c.args.self.now)) c.in-Ok.plan c.in-Ok.ensures
+    c.carry_out.ensures.made yes (step c.args.event.now s) (done_here c.args.self.now s told (step c.args.event.now)
+    (step c.args.event.now (content_of c.args.self.now)) c.in-Ok.plan c.in-Ok.ensures
     (c.step_looks_at_no_bytes.ensures (bytes_of c.args.self.now) c.args.event.now (content_of c.args.self.now)))
 
 pub returns-in-Ok-clause-broken_off : goal.returns-in-Ok-clause-broken_off
 returns-in-Ok-clause-broken_off g c = λ yes s told.
-    c.carry_out.ensures.broken_off yes (step c.args.event.now s) (done_here c.args.self.now s told (step c.args.event.now) (step c.args.event.now (content_of c.args.self.now)) c.in-Ok.plan c.in-Ok.ensures
+    c.carry_out.ensures.broken_off yes (step c.args.event.now s) (done_here c.args.self.now s told (step c.args.event.now)
+    (step c.args.event.now (content_of c.args.self.now)) c.in-Ok.plan c.in-Ok.ensures
     (c.step_looks_at_no_bytes.ensures (bytes_of c.args.self.now) c.args.event.now (content_of c.args.self.now)))
 
 pub returns-in-Ok-clause-cut : goal.returns-in-Ok-clause-cut
 returns-in-Ok-clause-cut g c = λ yes s told which failed.
-    c.carry_out.ensures.cut yes s told (step c.args.event.now s) (done_here c.args.self.now s told (step c.args.event.now) (step c.args.event.now (content_of c.args.self.now)) c.in-Ok.plan c.in-Ok.ensures
+    c.carry_out.ensures.cut yes s told (step c.args.event.now s) (done_here c.args.self.now s told (step c.args.event.now)
+    (step c.args.event.now (content_of c.args.self.now)) c.in-Ok.plan c.in-Ok.ensures
     (c.step_looks_at_no_bytes.ensures (bytes_of c.args.self.now) c.args.event.now (content_of c.args.self.now))) which failed
 
 pub returns-in-Ok-clause-any_moment : goal.returns-in-Ok-clause-any_moment
 returns-in-Ok-clause-any_moment g c = λ yes s told.
-    c.carry_out.ensures.any_moment yes s told (step c.args.event.now s) (done_here c.args.self.now s told (step c.args.event.now) (step c.args.event.now (content_of c.args.self.now)) c.in-Ok.plan c.in-Ok.ensures
+    c.carry_out.ensures.any_moment yes s told (step c.args.event.now s) (done_here c.args.self.now s told (step c.args.event.now)
+    (step c.args.event.now (content_of c.args.self.now)) c.in-Ok.plan c.in-Ok.ensures
     (c.step_looks_at_no_bytes.ensures (bytes_of c.args.self.now) c.args.event.now (content_of c.args.self.now)))
 
 pub returns-in-Ok-clause-bare : goal.returns-in-Ok-clause-bare
 returns-in-Ok-clause-bare g c =
-    on_ok_weaker c.carry_out.result (bare_step (content_of c.args.self.now) (content_of c.carry_out.new.self) (step c.args.event.now) (step c.args.event.now (content_of c.args.self.now)) c.in-Ok.plan c.in-Ok.ensures
+    on_ok_weaker c.carry_out.result (bare_step (content_of c.args.self.now) (content_of c.carry_out.new.self) (step c.args.event.now)
+    (step c.args.event.now (content_of c.args.self.now)) c.in-Ok.plan c.in-Ok.ensures
     (c.step_looks_at_no_bytes.ensures (λ _. []) c.args.event.now (content_of c.args.self.now))) c.carry_out.ensures.bare
 
 pub returns-in-Ok-clause-alike : goal.returns-in-Ok-clause-alike
 returns-in-Ok-clause-alike g c =
-    on_ok_weaker c.carry_out.result (alike_step (content_of c.args.self.now) (step c.args.event.now) (step c.args.event.now (content_of c.args.self.now)) c.in-Ok.plan c.in-Ok.ensures
-    (c.step_looks_at_no_bytes.ensures (λ _. []) c.args.event.now (content_of c.args.self.now)) c.args.out.now.items c.carry_out.new.out.items) c.carry_out.ensures.alike
+    on_ok_weaker c.carry_out.result (alike_step (content_of c.args.self.now) (step c.args.event.now)
+    (step c.args.event.now (content_of c.args.self.now)) c.in-Ok.plan c.in-Ok.ensures
+    (c.step_looks_at_no_bytes.ensures (λ _. []) c.args.event.now (content_of c.args.self.now)) c.args.out.now.items c.carry_out.new.out.items)
+    c.carry_out.ensures.alike
 
 pub returns-in-Ok-clause-no_more : goal.returns-in-Ok-clause-no_more
 returns-in-Ok-clause-no_more g c = λ back.
-    on_ok_weaker c.carry_out.result (λ made. no_more_left (content_of c.args.self.now) (content_of c.carry_out.new.self) c.args.event.now back (bare_step (content_of c.args.self.now) (content_of c.carry_out.new.self) (step c.args.event.now) (step c.args.event.now (content_of c.args.self.now)) c.in-Ok.plan c.in-Ok.ensures
+    on_ok_weaker c.carry_out.result (λ made. no_more_left (content_of c.args.self.now) (content_of c.carry_out.new.self) c.args.event.now back
+    (bare_step (content_of c.args.self.now) (content_of c.carry_out.new.self) (step c.args.event.now)
+    (step c.args.event.now (content_of c.args.self.now)) c.in-Ok.plan c.in-Ok.ensures
     (c.step_looks_at_no_bytes.ensures (λ _. []) c.args.event.now (content_of c.args.self.now)) made)) c.carry_out.ensures.bare
 
 pub returns-in-Ok-clause-none_back : goal.returns-in-Ok-clause-none_back
 returns-in-Ok-clause-none_back g c = λ back.
-    on_ok_weaker c.carry_out.result (λ said. none_back (content_of c.args.self.now) (content_of c.carry_out.new.self) c.args.event.now back c.args.out.now.items c.carry_out.new.out.items (alike_step (content_of c.args.self.now) (step c.args.event.now) (step c.args.event.now (content_of c.args.self.now)) c.in-Ok.plan c.in-Ok.ensures
-    (c.step_looks_at_no_bytes.ensures (λ _. []) c.args.event.now (content_of c.args.self.now)) c.args.out.now.items c.carry_out.new.out.items said)) c.carry_out.ensures.alike
+    on_ok_weaker c.carry_out.result (λ said. none_back (content_of c.args.self.now)
+    (content_of c.carry_out.new.self) c.args.event.now back c.args.out.now.items c.carry_out.new.out.items
+    (alike_step (content_of c.args.self.now) (step c.args.event.now) (step c.args.event.now (content_of c.args.self.now)) c.in-Ok.plan c.in-Ok.ensures
+    (c.step_looks_at_no_bytes.ensures (λ _. []) c.args.event.now (content_of c.args.self.now)) c.args.out.now.items c.carry_out.new.out.items said))
+    c.carry_out.ensures.alike
+
+pub returns-in-Ok-clause-short : goal.returns-in-Ok-clause-short
+returns-in-Ok-clause-short g c = λ was went.
+    let e = c.args.event.now in
+    let host = content_of c.args.self.now in
+    let same = c.step_looks_at_no_bytes.ensures (λ _. []) e host in
+    c.carry_out.ensures.short (map_stepped (λ _. []) (step e host)) (does (step e host) c.in-Ok.plan c.in-Ok.ensures (λ _. [])) was
+    (subst (λ (x : Stepped (List ℕ)). AreShort (map shown x.outputs)) same went)

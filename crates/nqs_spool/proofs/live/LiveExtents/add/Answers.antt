@@ -5,7 +5,8 @@ use Rattle.nqs_spool.proofs.Lists.{covers_put, empty_put}
 use Rattle.nqs_spool.proofs.live.LiveExtents.add.Goals as goal
 
 pub returns-then-extent-eq0-clause-covers : goal.returns-then-extent-eq0-clause-covers
-returns-then-extent-eq0-clause-covers c = λ live more at clear so_far. empty_put (kept c.args.self.now) live more c.args.extent.now c.if-extent-eq0.true at so_far
+returns-then-extent-eq0-clause-covers c = λ live more at clear so_far. empty_put
+    (kept c.args.self.now) live more c.args.extent.now c.if-extent-eq0.true at so_far
 
 pub returns-clause-covers : goal.returns-clause-covers
 returns-clause-covers c = λ live more at clear so_far.

@@ -11,4 +11,5 @@ pub returns-clause-less : goal.returns-clause-less
 returns-clause-less c = rw c.remove-freed.ensures.slots (removed_less 0 (end_of c.args.self.now) (slots c.args.self.now) c.args.self.now.row c.args.extent.now)
 
 pub returns-clause-end : goal.returns-clause-end
-returns-clause-end c = rw (c.unwrap_or-self.ensures, c.remove-freed.ensures.from) (left_to c.args.extent.now.place 0 (end_of c.args.self.now) (slots c.args.self.now) c.args.self.now.row)
+returns-clause-end c = rw (c.unwrap_or-self.ensures, c.remove-freed.ensures.from)
+    (left_to c.args.extent.now.place 0 (end_of c.args.self.now) (slots c.args.self.now) c.args.self.now.row)

@@ -13,7 +13,8 @@ returns-then-extent-gt0-clause-tells g c = λ extents fewer tells at.
     let old = c.args.self.now in
     let has = (tells.live.same x c.if-extent-gt0.true).0 (has_with fewer extents x at) in
     record {
-      live = covers_cut (live.kept c.remove.new.self) (live.kept old.live) fewer extents x (c.remove.ensures.less has) at c.if-extent-gt0.true (kept_apart old.live) tells.live;
+      live = covers_cut (live.kept c.remove.new.self) (live.kept old.live) fewer extents x (c.remove.ensures.less has) at c.if-extent-gt0.true
+          (kept_apart old.live) tells.live;
       within = λ told. all_without (λ y. past y ≤ length (content (history_of old))) fewer extents x at (tells.within told);
       quiet = tells.quiet;
     }

@@ -44,7 +44,8 @@ pub invariant_of-self-in-Ok : goal.invariant_of-self-in-Ok
 invariant_of-self-in-Ok g c = record {
   within = λ told.
       let h = history_of c.args.self.now in
-      let f = found c.args.self.now c.take_room.new.self c.args.bytes.now c.least_place-place.result c.is_empty.result c.is_empty.ensures c.if-is_empty.false c.in_ok-room.ensures.same c.in_ok-room.ensures.end c.least_place-place.ensures.place c.least_place-place.ensures.within in
+      let f = found c.args.self.now c.take_room.new.self c.args.bytes.now c.least_place-place.result c.is_empty.result c.is_empty.ensures c.if-is_empty.false
+      c.in_ok-room.ensures.same c.in_ok-room.ensures.end c.least_place-place.ensures.place c.least_place-place.ensures.within in
       omega (
         arith,
         c.insert.ensures.end,
@@ -58,58 +59,69 @@ pub invariant_of-self-in-Err : goal.invariant_of-self-in-Err
 invariant_of-self-in-Err g c = record {
   within = λ told.
       let h = history_of c.args.self.now in
-      let f = found c.args.self.now c.take_room.new.self c.args.bytes.now c.least_place-place.result c.is_empty.result c.is_empty.ensures c.if-is_empty.false c.in_ok-room.ensures.same c.in_ok-room.ensures.end c.least_place-place.ensures.place c.least_place-place.ensures.within in
+      let f = found c.args.self.now c.take_room.new.self c.args.bytes.now c.least_place-place.result c.is_empty.result c.is_empty.ensures c.if-is_empty.false
+      c.in_ok-room.ensures.same c.in_ok-room.ensures.end c.least_place-place.ensures.place c.least_place-place.ensures.within in
       let broken = c.in-Err.ensures.broken told in
       omega (
         arith,
         c.in_ok-room.ensures.end,
         c.args.self.now.within told,
-        no_shorter h c.least_place-place.result c.args.bytes.now (f.within told) (g.D.Disk.history c.write_through.new.disk) broken.0 broken.1 (short_is_prefix _ _ broken.2),
+        no_shorter h c.least_place-place.result c.args.bytes.now (f.within told) (g.D.Disk.history c.write_through.new.disk) broken.0 broken.1
+            (short_is_prefix _ _ broken.2),
       );
 }
 
 pub returns-in-Ok-clause-extent : goal.returns-in-Ok-clause-extent
 returns-in-Ok-clause-extent g c =
-    let f = found c.args.self.now c.take_room.new.self c.args.bytes.now c.least_place-place.result c.is_empty.result c.is_empty.ensures c.if-is_empty.false c.in_ok-room.ensures.same c.in_ok-room.ensures.end c.least_place-place.ensures.place c.least_place-place.ensures.within in
+    let f = found c.args.self.now c.take_room.new.self c.args.bytes.now c.least_place-place.result c.is_empty.result c.is_empty.ensures c.if-is_empty.false
+    c.in_ok-room.ensures.same c.in_ok-room.ensures.end c.least_place-place.ensures.place c.least_place-place.ensures.within in
     ap (λ place. extent_at place (length c.args.bytes.now)) f.at
 
 pub returns-in-Ok-clause-made : goal.returns-in-Ok-clause-made
 returns-in-Ok-clause-made g c = λ told.
-    let f = found c.args.self.now c.take_room.new.self c.args.bytes.now c.least_place-place.result c.is_empty.result c.is_empty.ensures c.if-is_empty.false c.in_ok-room.ensures.same c.in_ok-room.ensures.end c.least_place-place.ensures.place c.least_place-place.ensures.within in
+    let f = found c.args.self.now c.take_room.new.self c.args.bytes.now c.least_place-place.result c.is_empty.result c.is_empty.ensures c.if-is_empty.false
+    c.in_ok-room.ensures.same c.in_ok-room.ensures.end c.least_place-place.ensures.place c.least_place-place.ensures.within in
     c.in-Ok.ensures.made told ∙ ap (extended (history_of c.args.self.now)) f.plan
 
 pub returns-in-Ok-clause-exact : goal.returns-in-Ok-clause-exact
 returns-in-Ok-clause-exact g c = λ told short free.
-    let f = found c.args.self.now c.take_room.new.self c.args.bytes.now c.least_place-place.result c.is_empty.result c.is_empty.ensures c.if-is_empty.false c.in_ok-room.ensures.same c.in_ok-room.ensures.end c.least_place-place.ensures.place c.least_place-place.ensures.within in
+    let f = found c.args.self.now c.take_room.new.self c.args.bytes.now c.least_place-place.result c.is_empty.result c.is_empty.ensures c.if-is_empty.false
+    c.in_ok-room.ensures.same c.in_ok-room.ensures.end c.least_place-place.ensures.place c.least_place-place.ensures.within in
     rw (sym f.plan) (c.in-Ok.ensures.exact told)
 
 pub returns-in-Err-clause-exact : goal.returns-in-Err-clause-exact
 returns-in-Err-clause-exact g c = λ told short free.
-    let f = found c.args.self.now c.take_room.new.self c.args.bytes.now c.least_place-place.result c.is_empty.result c.is_empty.ensures c.if-is_empty.false c.in_ok-room.ensures.same c.in_ok-room.ensures.end c.least_place-place.ensures.place c.least_place-place.ensures.within in
+    let f = found c.args.self.now c.take_room.new.self c.args.bytes.now c.least_place-place.result c.is_empty.result c.is_empty.ensures c.if-is_empty.false
+    c.in_ok-room.ensures.same c.in_ok-room.ensures.end c.least_place-place.ensures.place c.least_place-place.ensures.within in
     rw (sym f.plan) (c.in-Err.ensures.exact told)
 
 pub returns-in-Err-clause-broken : goal.returns-in-Err-clause-broken
 returns-in-Err-clause-broken g c = λ told fell.
-    let f = found c.args.self.now c.take_room.new.self c.args.bytes.now c.least_place-place.result c.is_empty.result c.is_empty.ensures c.if-is_empty.false c.in_ok-room.ensures.same c.in_ok-room.ensures.end c.least_place-place.ensures.place c.least_place-place.ensures.within in
+    let f = found c.args.self.now c.take_room.new.self c.args.bytes.now c.least_place-place.result c.is_empty.result c.is_empty.ensures c.if-is_empty.false
+    c.in_ok-room.ensures.same c.in_ok-room.ensures.end c.least_place-place.ensures.place c.least_place-place.ensures.within in
     let broken = c.in-Err.ensures.broken told in
     (broken.0, broken.1, subst (λ plan. StopsShort plan broken.0) f.plan broken.2)
 
 pub returns-in-Ok-clause-kept : goal.returns-in-Ok-clause-kept
 returns-in-Ok-clause-kept g c = λ told extents tells x script has holds.
-    let f = found c.args.self.now c.take_room.new.self c.args.bytes.now c.least_place-place.result c.is_empty.result c.is_empty.ensures c.if-is_empty.false c.in_ok-room.ensures.same c.in_ok-room.ensures.end c.least_place-place.ensures.place c.least_place-place.ensures.within in
+    let f = found c.args.self.now c.take_room.new.self c.args.bytes.now c.least_place-place.result c.is_empty.result c.is_empty.ensures c.if-is_empty.false
+    c.in_ok-room.ensures.same c.in_ok-room.ensures.end c.least_place-place.ensures.place c.least_place-place.ensures.within in
     held c.args.self.now c.args.bytes.now c.least_place-place.result f.at f.within extents tells told x script has holds
-    (g.D.Disk.history c.write_through.new.disk) (written_through c.least_place-place.result c.args.bytes.now) (c.in-Ok.ensures.made told) (whole_is_prefix (written_through c.least_place-place.result c.args.bytes.now))
+    (g.D.Disk.history c.write_through.new.disk) (written_through c.least_place-place.result c.args.bytes.now) (c.in-Ok.ensures.made told)
+    (whole_is_prefix (written_through c.least_place-place.result c.args.bytes.now))
 
 pub returns-in-Err-clause-kept : goal.returns-in-Err-clause-kept
 returns-in-Err-clause-kept g c = λ told extents tells x script has holds.
-    let f = found c.args.self.now c.take_room.new.self c.args.bytes.now c.least_place-place.result c.is_empty.result c.is_empty.ensures c.if-is_empty.false c.in_ok-room.ensures.same c.in_ok-room.ensures.end c.least_place-place.ensures.place c.least_place-place.ensures.within in
+    let f = found c.args.self.now c.take_room.new.self c.args.bytes.now c.least_place-place.result c.is_empty.result c.is_empty.ensures c.if-is_empty.false
+    c.in_ok-room.ensures.same c.in_ok-room.ensures.end c.least_place-place.ensures.place c.least_place-place.ensures.within in
     let broken = c.in-Err.ensures.broken told in
     held c.args.self.now c.args.bytes.now c.least_place-place.result f.at f.within extents tells told x script has holds
     (g.D.Disk.history c.write_through.new.disk) broken.0 broken.1 (short_is_prefix _ _ broken.2)
 
 pub returns-in-Ok-clause-tells : goal.returns-in-Ok-clause-tells
 returns-in-Ok-clause-tells g c = λ extents more tells with_it.
-    let f = found c.args.self.now c.take_room.new.self c.args.bytes.now c.least_place-place.result c.is_empty.result c.is_empty.ensures c.if-is_empty.false c.in_ok-room.ensures.same c.in_ok-room.ensures.end c.least_place-place.ensures.place c.least_place-place.ensures.within in
+    let f = found c.args.self.now c.take_room.new.self c.args.bytes.now c.least_place-place.result c.is_empty.result c.is_empty.ensures c.if-is_empty.false
+    c.in_ok-room.ensures.same c.in_ok-room.ensures.end c.least_place-place.ensures.place c.least_place-place.ensures.within in
     let new = extent_at c.least_place-place.result (length c.args.bytes.now) in
     tells_more c.args.self.now c.args.bytes.now c.least_place-place.result f.at f.within extents tells _
     (subst (λ l. IsWith (extents_of l) new (live.kept c.insert.new.self)) c.in_ok-room.ensures.same c.insert.ensures.more) c.in-Ok.ensures.made more with_it
@@ -117,18 +129,22 @@ returns-in-Ok-clause-tells g c = λ extents more tells with_it.
 pub returns-in-Ok-clause-stored : goal.returns-in-Ok-clause-stored
 returns-in-Ok-clause-stored g c = λ told.
     let h = history_of c.args.self.now in
-    let f = found c.args.self.now c.take_room.new.self c.args.bytes.now c.least_place-place.result c.is_empty.result c.is_empty.ensures c.if-is_empty.false c.in_ok-room.ensures.same c.in_ok-room.ensures.end c.least_place-place.ensures.place c.least_place-place.ensures.within in
+    let f = found c.args.self.now c.take_room.new.self c.args.bytes.now c.least_place-place.result c.is_empty.result c.is_empty.ensures c.if-is_empty.false
+    c.in_ok-room.ensures.same c.in_ok-room.ensures.end c.least_place-place.ensures.place c.least_place-place.ensures.within in
     stored h c.least_place-place.result c.args.bytes.now (f.within told) (g.D.Disk.history c.write_through.new.disk) (c.in-Ok.ensures.made told)
 
 pub returns-in-Ok-clause-still : goal.returns-in-Ok-clause-still
 returns-in-Ok-clause-still g c = λ told extents tells x script has holds.
-    let f = found c.args.self.now c.take_room.new.self c.args.bytes.now c.least_place-place.result c.is_empty.result c.is_empty.ensures c.if-is_empty.false c.in_ok-room.ensures.same c.in_ok-room.ensures.end c.least_place-place.ensures.place c.least_place-place.ensures.within in
+    let f = found c.args.self.now c.take_room.new.self c.args.bytes.now c.least_place-place.result c.is_empty.result c.is_empty.ensures c.if-is_empty.false
+    c.in_ok-room.ensures.same c.in_ok-room.ensures.end c.least_place-place.ensures.place c.least_place-place.ensures.within in
     held_still c.args.self.now c.args.bytes.now c.least_place-place.result f.at f.within extents tells told x script has holds
-    (g.D.Disk.history c.write_through.new.disk) (written_through c.least_place-place.result c.args.bytes.now) (c.in-Ok.ensures.made told) (whole_is_prefix (written_through c.least_place-place.result c.args.bytes.now))
+    (g.D.Disk.history c.write_through.new.disk) (written_through c.least_place-place.result c.args.bytes.now) (c.in-Ok.ensures.made told)
+    (whole_is_prefix (written_through c.least_place-place.result c.args.bytes.now))
 
 pub returns-in-Err-clause-still : goal.returns-in-Err-clause-still
 returns-in-Err-clause-still g c = λ told extents tells x script has holds.
-    let f = found c.args.self.now c.take_room.new.self c.args.bytes.now c.least_place-place.result c.is_empty.result c.is_empty.ensures c.if-is_empty.false c.in_ok-room.ensures.same c.in_ok-room.ensures.end c.least_place-place.ensures.place c.least_place-place.ensures.within in
+    let f = found c.args.self.now c.take_room.new.self c.args.bytes.now c.least_place-place.result c.is_empty.result c.is_empty.ensures c.if-is_empty.false
+    c.in_ok-room.ensures.same c.in_ok-room.ensures.end c.least_place-place.ensures.place c.least_place-place.ensures.within in
     let broken = c.in-Err.ensures.broken told in
     held_still c.args.self.now c.args.bytes.now c.least_place-place.result f.at f.within extents tells told x script has holds
     (g.D.Disk.history c.write_through.new.disk) broken.0 broken.1 (short_is_prefix _ _ broken.2)

@@ -5,7 +5,14 @@ use Rattle.nqs_spool.proofs.tree.Tree.+insert.Goals as goal
 pub insert-behind-requires : goal.insert-behind-requires
 insert-behind-requires t c =
     let less = shorter c.in-Fork.left.value c.in-Fork.slot c.in-Fork.right.value c.args.self.now c.in-Fork.ensures.slots in
-    rw c.deref_mut.ensures.value (omega (arith, less.0, c.decreases), (left_row c.in-Fork.left.value c.in-Fork.slot c.in-Fork.right.value c.args.self.now c.in-Fork.ensures.slots c.requires.row, c.requires.small))
+    rw c.deref_mut.ensures.value (
+      omega (arith, less.0, c.decreases),
+      (
+        left_row c.in-Fork.left.value c.in-Fork.slot c.in-Fork.right.value c.args.self.now
+            c.in-Fork.ensures.slots c.requires.row,
+        c.requires.small,
+      ),
+    )
 
 pub returns-then-place-slot-clause-slots : goal.returns-then-place-slot-clause-slots
 returns-then-place-slot-clause-slots t c =
@@ -22,12 +29,16 @@ returns-then-place-slot-clause-slots t c =
 
 pub returns-then-place-slot-clause-last : goal.returns-then-place-slot-clause-last
 returns-then-place-slot-clause-last t c =
-    sym (ended-before c.in-Fork.left.value c.in-Fork.slot c.in-Fork.right.value c.args.self.now c.in-Fork.ensures.slots c.requires.row c.args.place c.args.length c.if-place-slot.true)
+    sym (ended-before c.in-Fork.left.value c.in-Fork.slot c.in-Fork.right.value c.args.self.now c.in-Fork.ensures.slots c.requires.row c.args.place
+    c.args.length c.if-place-slot.true)
 
 pub insert-last-requires : goal.insert-last-requires
 insert-last-requires t c =
     let less = shorter c.in-Fork.left.value c.in-Fork.slot c.in-Fork.right.value c.args.self.now c.in-Fork.ensures.slots in
-    rw c.deref_mut-in-Fork.ensures.value (omega (arith, less.1, c.decreases), (right_row c.in-Fork.left.value c.in-Fork.slot c.in-Fork.right.value c.args.self.now c.in-Fork.ensures.slots c.requires.row, c.requires.small))
+    rw c.deref_mut-in-Fork.ensures.value (
+      omega (arith, less.1, c.decreases),
+      (right_row c.in-Fork.left.value c.in-Fork.slot c.in-Fork.right.value c.args.self.now c.in-Fork.ensures.slots c.requires.row, c.requires.small),
+    )
 
 pub returns-else-place-slot-clause-slots : goal.returns-else-place-slot-clause-slots
 returns-else-place-slot-clause-slots t c =
@@ -36,7 +47,8 @@ returns-else-place-slot-clause-slots t c =
       c.balanced-in-Fork.ensures.slots,
       c.insert-last.ensures.slots,
       c.deref_mut-in-Fork.ensures.value,
-      inserted-behind c.in-Fork.left.value c.in-Fork.slot c.in-Fork.right.value c.args.self.now c.in-Fork.ensures.slots c.requires.row c.args.place c.args.length c.args.end c.if-place-slot.false,
+      inserted-behind c.in-Fork.left.value c.in-Fork.slot c.in-Fork.right.value c.args.self.now c.in-Fork.ensures.slots c.requires.row c.args.place
+          c.args.length c.args.end c.if-place-slot.false,
     )
 
 pub returns-else-place-slot-clause-last : goal.returns-else-place-slot-clause-last
@@ -44,5 +56,6 @@ returns-else-place-slot-clause-last t c =
     cc (
       c.insert-last.ensures.last,
       c.deref_mut-in-Fork.ensures.value,
-      ended-behind c.in-Fork.left.value c.in-Fork.slot c.in-Fork.right.value c.args.self.now c.in-Fork.ensures.slots c.requires.row c.args.place c.args.length c.if-place-slot.false,
+      ended-behind c.in-Fork.left.value c.in-Fork.slot c.in-Fork.right.value c.args.self.now c.in-Fork.ensures.slots c.requires.row c.args.place c.args.length
+          c.if-place-slot.false,
     )

@@ -1,6 +1,9 @@
 use Rattle.std.proofs.Common.{◌++◌, ◌<◌, ℕ, Ok, Err, Result, IfOk, IfErr, IsTrue, inr, sym, ap, subst, ◌∙◌}
 use Rattle.std.proofs.lemmas.Option.{same_Some}
 use Rattle.std.proofs.lemmas.Result.{IfOk-weaker}
+use Rattle.nqs_state.specs.State.{content}
+use Rattle.nqs_spool.specs.Extents.{AreSound}
+use Rattle.nqs_store.specs.Live.{live}
 use Rattle.nqs_outside.specs.History.{content as bytes_now, moment}
 use Rattle.nqs_journal.specs.Text.{header}
 use Rattle.nqs_store.specs.Told.{told}
@@ -24,13 +27,23 @@ pub returns-clause-found : goal.returns-clause-found
 returns-clause-found g c = λ yes.
     let f = c.in-Ok.ensures.stands yes in
     let all = c.deref.ensures.value ∙ f.2 ∙ ap (λ l. l ++ f.0) c.new-found.ensures.items in
-    if_ok_both c.host_with.result _ _ _ (λ state is sound. (f.0, f.1, sym (ap told all) ∙ is, sound)) c.host_with.ensures.told (c.host_with.ensures.extents yes)
+    if_ok_both c.host_with.result _ _ _ (λ state is sound. (
+      f.0,
+      f.1,
+      sym (ap told all)
+          ∙ is,
+      subst (λ n. AreSound n (live (content state))) (sound.3 yes) sound.2,
+    )) c.host_with.ensures.told c.host_with.ensures.extents
+
+pub returns-clause-extents : goal.returns-clause-extents
+returns-clause-extents g c = IfOk-weaker c.host_with.result _ _ (λ state sound. (sound.0, sound.1, sound.2)) c.host_with.ensures.extents
 
 pub returns-clause-fault : goal.returns-clause-fault
 returns-clause-fault g c = λ yes.
     let f = c.in-Ok.ensures.stands yes in
     let all = c.deref.ensures.value ∙ f.2 ∙ ap (λ l. l ++ f.0) c.new-found.ensures.items in
-    if_err_weaker c.host_with.result _ _ (λ e is. inr (f.0, f.1, subst (λ ps. IsReadFault ps (bytes_now (history_of c.args.self.now Spool)) e) all is)) (c.host_with.ensures.fault yes)
+    if_err_weaker c.host_with.result _ _ (λ e is. inr (f.0, f.1, subst (λ ps. IsReadFault ps (bytes_now (history_of c.args.self.now Spool)) e) all is))
+    (c.host_with.ensures.fault yes)
 
 pub returns-in-Err-clause-never : goal.returns-in-Err-clause-never
 returns-in-Err-clause-never g c = λ yes host tells which place is.
@@ -56,7 +69,8 @@ pub returns-clause-cause : goal.returns-clause-cause
 returns-clause-cause g c = λ yes which is.
     let store = c.args.self.now in
     let at = c.host_with.ensures.spool which is in
-    subst (λ w. (i : ℕ) × (i < moment (history_of store w)) × IsTrue (fails_of store w i)) (sym at) (c.host_with.ensures.cause yes (is ∙ ap (λ w. Err (load.Disk w)) at))
+    subst (λ w. (i : ℕ) × (i < moment (history_of store w)) × IsTrue (fails_of store w i)) (sym at)
+    (c.host_with.ensures.cause yes (is ∙ ap (λ w. Err (load.Disk w)) at))
 
 pub returns-in-Err-clause-tells : goal.returns-in-Err-clause-tells
 returns-in-Err-clause-tells g c = λ yes host tells. record {

@@ -1,0 +1,9 @@
+use Rattle.nqs_reasons.proofs.Bytes.{reason-map, count_before-map, answer-map}
+use Rattle.nqs_reasons.proofs.laws.reason_looks_at_no_bytes.Goals as goal
+
+pub returns : goal.returns
+returns c = record {
+  reason = λ f now s r. reason-map f now s r;
+  count = λ f now s r. count_before-map f now s r;
+  answer = λ f now s r dest. answer-map f now s r dest;
+}

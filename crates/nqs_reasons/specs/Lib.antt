@@ -1,0 +1,5 @@
+pub mod Reasons
+pub mod Answers
+pub mod Chosen
+pub mod Spelled
+pub mod Worked

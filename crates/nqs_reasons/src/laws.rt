@@ -1,0 +1,92 @@
+//! Laws of reasons: what they say of what the scheduler starts.
+
+ghost use Rattle.std.specs.Prelude.{◌≡◌, ◌≢◌, ℕ, ◌≤◌, ◌&&◌, Bool, true, false, List, slice_get, Option, None, Some, IfSome, is_some};
+ghost use Rattle.std.specs.List.{list_any};
+ghost use Rattle.nqs_state.specs.State.{State, Plain};
+ghost use Rattle.nqs_values.specs.declared.extent.Extent.{Extent};
+ghost use Rattle.nqs_types.specs.declared.ids.Dest.{Dest};
+ghost use Rattle.nqs_types.specs.declared.request.Row.{Row};
+ghost use Rattle.nqs_types.specs.declared.queue.QueueDef.{QueueDef};
+ghost use Rattle.nqs_types.specs.declared.rule.Choice.{Choice};
+ghost use Rattle.nqs_rules.specs.Find.{find_queue};
+ghost use Rattle.nqs_rules.specs.InOrder.{IsInOrder};
+ghost use Rattle.nqs_rules.specs.Order.{is_eligible, pick};
+ghost use Rattle.nqs_rules.specs.Picked.{PlainRow, may_start, IsFirstRow, IsNextQueue, row_place};
+ghost use Rattle.nqs_rules.specs.Plain.{map_row, map_state};
+ghost use Rattle.nqs_rules.specs.Routing.{may_try};
+ghost use Rattle.nqs_rules.specs.Text.{Text};
+ghost use Rattle.nqs_reasons.specs.Reasons.{Conditions, first_failing, reason_of, count_before};
+ghost use Rattle.nqs_reasons.specs.Answers.{answer_of};
+ghost use Rattle.nqs_reasons.specs.Chosen.{is_next, may_be_tried, IsFirstFailing, IsAtOrBefore};
+ghost use Rattle.nqs_reasons.specs.Spelled.{IsReasonText, IsAnswerText};
+ghost use Rattle.nqs_reasons.specs.declared.reasons.Reason.{Reason};
+ghost use Rattle.nqs_reasons.specs.declared.reasons.Reason.TheVariants.{NoQueue, NoDestination, Next};
+ghost use Rattle.nqs_reasons.specs.declared.reasons.DestAnswer.TheVariants.{NoHost};
+ghost use Rattle.nqs_reasons.specs.declared.reasons.DestAnswer.{DestAnswer};
+
+/// What is told of a list of conditions is told of the first that fails, and nothing else is.
+pub fn first_failing_is_told()
+    ensures told { (cs : Conditions Reason) (last : Reason) → IsFirstFailing cs last (first_failing cs last) }
+    ensures only { (cs : Conditions Reason) (last answer : Reason) → IsFirstFailing cs last answer → answer ≡ first_failing cs last }
+{}
+
+/// A request of a host is next exactly where its queue may start a request, and it is one that may
+/// start from there. In a host in order each request has a queue.
+pub fn next_request_may_start()
+    ensures next { (now : ℕ) (s : Plain) (place : ℕ) (r : PlainRow) (d : QueueDef) → slice_get s.rows place ≡ Some r → find_queue r.queue s ≡ Some d
+        → is_next (reason_of now s r) ≡ (may_start now s d && is_eligible d now s r) }
+    ensures no_queue { (now : ℕ) (s : Plain) (r : PlainRow) → find_queue r.queue s ≡ None → is_next (reason_of now s r) ≡ false }
+    ensures queue { (now : ℕ) (s : Plain) (place : ℕ) (r : PlainRow) → IsInOrder s → slice_get s.rows place ≡ Some r → reason_of now s r ≢ NoQueue }
+{}
+
+/// Where a request is next something starts: it, or a request before it. So where nothing is left
+/// to start, as after each event of a host, none is next. Where none of its queue comes before it,
+/// it is its queue's first, and starts where its queue is the next one. Those that come before it
+/// are some of those that wait before it.
+pub fn next_request_waits_for_those_before()
+    ensures some { (now : ℕ) (s : Plain) (place : ℕ) (r : PlainRow) → slice_get s.rows place ≡ Some r → is_next (reason_of now s r) ≡ true
+        → is_some (pick now s) ≡ true }
+    ensures before { (now : ℕ) (s : Plain) (place : ℕ) (r : PlainRow) → IsInOrder s → slice_get s.rows place ≡ Some r → is_next (reason_of now s r) ≡ true
+        → IfSome (pick now s) (IsAtOrBefore s place r) }
+    ensures rest { (now : ℕ) (s : Plain) (place : ℕ) (r : PlainRow) → pick now s ≡ None → slice_get s.rows place ≡ Some r
+        → is_next (reason_of now s r) ≡ false }
+    ensures first { (now : ℕ) (s : Plain) (place : ℕ) (r : PlainRow) (d : QueueDef) → slice_get s.rows place ≡ Some r → find_queue r.queue s ≡ Some d
+        → reason_of now s r ≡ Next 0 → IsFirstRow d now s place r }
+    ensures starts { (now : ℕ) (s : Plain) (place : ℕ) (r : PlainRow) (queue_place : ℕ) (d : QueueDef) → IsInOrder s → slice_get s.rows place ≡ Some r
+        → reason_of now s r ≡ Next 0 → IsNextQueue now s queue_place d → find_queue r.queue s ≡ Some d → IfSome (pick now s) (λ c. row_place c ≡ place) }
+    ensures waiting { (now : ℕ) (s : Plain) (r : PlainRow) (n : ℕ) → reason_of now s r ≡ Next n → n ≤ count_before now s r }
+{}
+
+/// What the scheduler starts is next, and none of its queue comes before it. So no request with
+/// another reason starts.
+pub fn only_next_requests_start()
+    ensures started { (now : ℕ) (s : Plain) (c : Choice) (r : PlainRow) → IsInOrder s → pick now s ≡ Some c → slice_get s.rows (row_place c) ≡ Some r
+        → reason_of now s r ≡ Next 0 }
+    ensures others { (now : ℕ) (s : Plain) (c : Choice) (place : ℕ) (r : PlainRow) → IsInOrder s → pick now s ≡ Some c → slice_get s.rows place ≡ Some r
+        → is_next (reason_of now s r) ≡ false → row_place c ≢ place }
+{}
+
+/// A destination may be tried exactly where its answer says so. Where the reason is that none may,
+/// each has another answer.
+pub fn answers_say_what_may_be_tried()
+    ensures tried { (now : ℕ) (s : Plain) (r : PlainRow) (dest : Dest) → may_be_tried (answer_of now s r dest) ≡ may_try now s r dest }
+    ensures none { (now : ℕ) (s : Plain) (r : PlainRow) (d : QueueDef) → find_queue r.queue s ≡ Some d → reason_of now s r ≡ NoDestination
+        → list_any (λ dest. may_be_tried (answer_of now s r dest)) d.dests ≡ false }
+    ensures host { (now : ℕ) (s : Plain) (r : PlainRow) (d : QueueDef) (k : ℕ) (dest : Dest) → IsInOrder s → find_queue r.queue s ≡ Some d
+        → slice_get d.dests k ≡ Some dest → answer_of now s r dest ≢ NoHost }
+{}
+
+/// None of it depends on stored bytes.
+pub fn reason_looks_at_no_bytes()
+    ensures reason { (f : Extent → List ℕ) (now : ℕ) (s : State Extent) (r : Row Extent) → reason_of now (map_state f s) (map_row f r) ≡ reason_of now s r }
+    ensures count { (f : Extent → List ℕ) (now : ℕ) (s : State Extent) (r : Row Extent)
+        → count_before now (map_state f s) (map_row f r) ≡ count_before now s r }
+    ensures answer { (f : Extent → List ℕ) (now : ℕ) (s : State Extent) (r : Row Extent) (dest : Dest)
+        → answer_of now (map_state f s) (map_row f r) dest ≡ answer_of now s r dest }
+{}
+
+/// Each reason and each answer has one text.
+pub fn texts_are_one()
+    ensures reason { (queue : Text) (reason : Reason) (text other : Text) → IsReasonText queue reason text → IsReasonText queue reason other → text ≡ other }
+    ensures answer { (answer : DestAnswer) (text other : Text) → IsAnswerText answer text → IsAnswerText answer other → text ≡ other }
+{}

@@ -1,0 +1,208 @@
+//! The texts of reasons, and of the answers of destinations. Want of memory leaves a front of one.
+
+ghost use Rattle.std.specs.Prelude.{◌≡◌, ◌++◌, codes, OnOk};
+ghost use Rattle.std.specs.Fmt.{decimal};
+ghost use Rattle.std.specs.Option.{option_copied};
+ghost use Rattle.nqs_reasons.specs.Spelled.{limit_words, forms_words, next_words, reason_words, reason_moment, answer_words, answer_moment, IsMomentText};
+ghost use Rattle.nqs_reasons.specs.Spelled.{IsReasonText, IsAnswerText, Appends};
+
+use crate::reasons::{DestAnswer, Reason};
+use nqs_moments::{PrintFault, print_moment};
+use nqs_query::{put_decimal, put_text};
+use nqs_values::{Memory, Name};
+use std::alloc::Global;
+
+// A name between two texts.
+fn put_about(before: &[u8], name: &Name, after: &[u8], out: &mut Vec<u8>) -> Result<(), Memory>
+    ensures { OnOk result (out.new.items ≡ out.old.items ++ (before.now ++ name.now ++ after.now)) }
+{
+    put_text(before, out)?;
+    put_text(name.as_bytes(), out)?;
+    put_text(after, out)
+}
+
+// A number between two texts.
+fn put_count(
+    alloc: Global,
+    before: &[u8],
+    number: u64,
+    after: &[u8],
+    out: &mut Vec<u8>,
+) -> Result<(), Memory>
+    ensures { OnOk result (out.new.items ≡ out.old.items ++ (before.now ++ decimal number ++ after.now)) }
+{
+    put_text(before, out)?;
+    put_decimal(alloc, number, out)?;
+    put_text(after, out)
+}
+
+fn put_limit(
+    alloc: Global,
+    before: &[u8],
+    limit: u64,
+    of: &[u8],
+    name: &Name,
+    out: &mut Vec<u8>,
+) -> Result<(), Memory>
+    ensures { OnOk result (out.new.items ≡ out.old.items ++ limit_words before.now limit of.now name.now) }
+{
+    put_text(before, out)?;
+    put_decimal(alloc, limit, out)?;
+    put_about(of, name, b" is reached", out)
+}
+
+fn put_forms(forms: Option<&Name>, out: &mut Vec<u8>) -> Result<(), Memory>
+    ensures { OnOk result (out.new.items ≡ out.old.items ++ forms_words (option_copied forms.entry)) }
+{
+    match forms {
+        Some(forms) => put_about(b" with forms ", forms, b"", out),
+        None => Ok(()),
+    }
+}
+
+fn put_no_device(queue: &Name, forms: Option<&Name>, out: &mut Vec<u8>) -> Result<(), Memory>
+    ensures { let forms = forms_words (option_copied forms.entry) in
+        OnOk result (out.new.items ≡ out.old.items ++ (codes "no device of queue " ++ queue.now ++ forms ++ codes " is free")) }
+{
+    put_about(b"no device of queue ", queue, b"", out)?;
+    put_forms(forms, out)?;
+    put_text(b" is free", out)
+}
+
+fn put_next(alloc: Global, queue: &Name, count: u64, out: &mut Vec<u8>) -> Result<(), Memory>
+    ensures { OnOk result (out.new.items ≡ out.old.items ++ next_words queue.now count) }
+{
+    if count == 0 {
+        return put_about(b"it is next in queue ", queue, b"", out);
+    }
+    if count == 1 {
+        return put_text(b"1 request of the queue comes before it", out);
+    }
+    put_count(
+        alloc,
+        b"",
+        count,
+        b" requests of the queue come before it",
+        out,
+    )
+}
+
+// The words of a reason, without its moment.
+fn put_reason_words(
+    alloc: Global,
+    queue: &Name,
+    reason: &Reason,
+    out: &mut Vec<u8>,
+) -> Result<(), Memory>
+    ensures { OnOk result (out.new.items ≡ out.old.items ++ reason_words queue.now reason.now) }
+{
+    match reason {
+        Reason::Runs => put_text(b"it runs", out),
+        Reason::OnItsWay => put_text(b"it is on its way to another host", out),
+        Reason::HeldByUser => put_text(b"it is held", out),
+        Reason::HeldBySystem => put_text(b"the system holds it", out),
+        Reason::NotBefore(_) => put_text(b"it may not start before ", out),
+        Reason::NoQueue => put_about(b"no queue ", queue, b"", out),
+        Reason::QueueStopped => put_about(b"queue ", queue, b" is stopped", out),
+        Reason::UserLimit(limit) => {
+            let limit = u64::from(*limit);
+            put_limit(alloc, b"the user limit ", limit, b" of queue ", queue, out)
+        }
+        Reason::RunLimit(limit) => {
+            let limit = u64::from(*limit);
+            put_limit(alloc, b"the run limit ", limit, b" of queue ", queue, out)
+        }
+        Reason::ComplexLimit(complex, limit) => {
+            let limit = u64::from(*limit);
+            put_limit(alloc, b"the limit ", limit, b" of complex ", complex, out)
+        }
+        Reason::GlobalLimit(limit) => {
+            let limit = u64::from(*limit);
+            put_count(alloc, b"the global limit ", limit, b" is reached", out)
+        }
+        Reason::NoDevice(forms) => put_no_device(queue, forms.as_ref(), out),
+        Reason::NoDestination => put_about(
+            b"no destination of queue ",
+            queue,
+            b" may be tried now",
+            out,
+        ),
+        Reason::Next(count) => put_next(alloc, queue, *count, out),
+    }
+}
+
+fn reason_moment(reason: &Reason) -> Option<u64>
+    ensures { result ≡ reason_moment reason.now }
+{
+    match reason {
+        Reason::NotBefore(moment) => Some(*moment),
+        _ => None,
+    }
+}
+
+fn put_answer_words(alloc: Global, answer: &DestAnswer, out: &mut Vec<u8>) -> Result<(), Memory>
+    ensures { OnOk result (out.new.items ≡ out.old.items ++ answer_words answer.now) }
+{
+    match answer {
+        DestAnswer::Refused(number) => {
+            put_count(alloc, b"refused with number ", u64::from(*number), b"", out)
+        }
+        DestAnswer::NoHost => put_text(b"no such host", out),
+        DestAnswer::NoNumberLeft => put_text(b"all numbers are used", out),
+        DestAnswer::HandingOver => put_text(b"its host is being handed another request", out),
+        DestAnswer::WaitedFor(_) => put_text(b"its host is waited for until ", out),
+        DestAnswer::MayBeTried => put_text(b"may be tried", out),
+    }
+}
+
+fn answer_moment(answer: &DestAnswer) -> Option<u64>
+    ensures { result ≡ answer_moment answer.now }
+{
+    match answer {
+        DestAnswer::WaitedFor(moment) => Some(*moment),
+        _ => None,
+    }
+}
+
+// A moment as its date, and past the last day that has one as its seconds since 1970.
+fn put_date(alloc: Global, moment: u64, out: &mut Vec<u8>) -> Result<(), Memory>
+    ensures { OnOk result (Appends (IsMomentText (Some moment)) out.old.items out.new.items) }
+{
+    match print_moment(alloc, moment, out) {
+        Ok(()) => Ok(()),
+        Err(PrintFault::Range) => put_decimal(alloc, moment, out),
+        Err(PrintFault::Memory(refused)) => Err(refused),
+    }
+}
+
+fn put_moment(alloc: Global, moment: Option<u64>, out: &mut Vec<u8>) -> Result<(), Memory>
+    ensures { OnOk result (Appends (IsMomentText moment) out.old.items out.new.items) }
+{
+    match moment {
+        Some(moment) => put_date(alloc, moment, out),
+        None => Ok(()),
+    }
+}
+
+/// Appends the text of a reason, for a request of this queue: `queue batch is stopped`.
+/// A moment is a date in UTC, and past the last day of 9999 its seconds since 1970.
+pub fn put_reason(
+    alloc: Global,
+    queue: &Name,
+    reason: &Reason,
+    out: &mut Vec<u8>,
+) -> Result<(), Memory>
+    ensures { OnOk result (Appends (IsReasonText queue.now reason.now) out.old.items out.new.items) }
+{
+    put_reason_words(alloc, queue, reason, out)?;
+    put_moment(alloc, reason_moment(reason), out)
+}
+
+/// Appends the text of a destination's answer: `refused with number 19`.
+/// A moment is as in the text of a reason.
+pub fn put_answer(alloc: Global, answer: &DestAnswer, out: &mut Vec<u8>) -> Result<(), Memory>
+    ensures { OnOk result (Appends (IsAnswerText answer.now) out.old.items out.new.items) }
+{
+    put_answer_words(alloc, answer, out)?;
+    put_moment(alloc, answer_moment(answer), out)
+}

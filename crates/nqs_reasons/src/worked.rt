@@ -1,0 +1,124 @@
+//! Reasons by hand: each of them, each pair of neighbours in their order, both sides of each bound,
+//! and the texts.
+ghost use Rattle.std.specs.Prelude.{◌≡◌, codes, [], ◌∷◌, map, replicate, true, false, None, Some};
+ghost use Rattle.nqs_types.specs.declared.request.RowState.TheVariants.{Running, Routing};
+ghost use Rattle.nqs_types.specs.declared.request.Hold.TheVariants.{User, System};
+ghost use Rattle.nqs_rules.specs.Format.{new_peer};
+ghost use Rattle.nqs_worked.specs.ScheduleWords.{host, job_of};
+ghost use Rattle.nqs_worked.specs.Definitions.{far, near};
+ghost use Rattle.nqs_reasons.specs.Reasons.{reason_of};
+ghost use Rattle.nqs_reasons.specs.Spelled.{reason_words, answer_words, IsReasonText, IsAnswerText};
+ghost use Rattle.nqs_reasons.specs.Worked.{ours, told, busy, without_queue, printing, to_print, moving, to_move, waiting, ranked, of_bob, lined_up, told_among};
+ghost use Rattle.nqs_reasons.specs.Worked.{counted_among, hand, answered};
+ghost use Rattle.nqs_reasons.specs.declared.reasons.Reason.TheVariants.{Runs, OnItsWay, HeldByUser, HeldBySystem, NotBefore, NoQueue, QueueStopped, UserLimit};
+ghost use Rattle.nqs_reasons.specs.declared.reasons.Reason.TheVariants.{RunLimit, ComplexLimit, GlobalLimit, NoDevice, NoDestination, Next};
+ghost use Rattle.nqs_reasons.specs.declared.reasons.DestAnswer.TheVariants.{Refused, NoHost, NoNumberLeft, HandingOver, WaitedFor, MayBeTried};
+
+/// Of a request that runs, is on its way, is held, is too early or has no queue, where all that
+/// comes behind would hold it back too.
+pub fn rows_are_told()
+    ensures rows { map (told (busy false (Some 1) 2 2 2 2)) (record (ours (codes "batch") 51) { state = Running; hold = User }
+        ∷ record (ours (codes "batch") 51) { state = Routing; hold = System } ∷ record (ours (codes "batch") 51) { hold = User }
+        ∷ record (ours (codes "batch") 51) { hold = System } ∷ ours (codes "batch") 51 ∷ ours (codes "batch") 50 ∷ [])
+        ≡ Runs ∷ OnItsWay ∷ HeldByUser ∷ HeldBySystem ∷ NotBefore 51 ∷ QueueStopped ∷ [] }
+    ensures no_queue { map (told without_queue) (record waiting { state = Running } ∷ record (ours (codes "batch") 51) { hold = User }
+        ∷ ours (codes "batch") 51 ∷ ours (codes "batch") 50 ∷ []) ≡ Runs ∷ HeldByUser ∷ NotBefore 51 ∷ NoQueue ∷ [] }
+    ensures moments { map (λ n. told (lined_up []) (ours (codes "batch") n)) (0 ∷ 49 ∷ 50 ∷ 51 ∷ 99 ∷ [])
+        ≡ Next 0 ∷ Next 0 ∷ Next 0 ∷ NotBefore 51 ∷ NotBefore 99 ∷ [] }
+{}
+
+/// Of a request in a batch queue, one condition after the other mended, where all that comes behind
+/// fails still.
+pub fn batch_queues_are_told()
+    ensures order { map (λ s. told s waiting) (busy false (Some 1) 2 2 2 2 ∷ busy true (Some 1) 2 2 2 2 ∷ busy true (Some 2) 2 2 2 2
+        ∷ busy true (Some 2) 3 2 2 2 ∷ busy true (Some 2) 3 3 2 2 ∷ busy true (Some 2) 3 3 3 2 ∷ busy true (Some 2) 3 3 3 3 ∷ [])
+        ≡ QueueStopped ∷ UserLimit 1 ∷ RunLimit 2 ∷ ComplexLimit (codes "one") 2 ∷ ComplexLimit (codes "two") 2 ∷ GlobalLimit 2 ∷ Next 0 ∷ [] }
+    ensures users { map (λ n. told (busy true n 9 9 9 9) waiting) (Some 0 ∷ Some 1 ∷ Some 2 ∷ None ∷ [])
+        ≡ UserLimit 0 ∷ UserLimit 1 ∷ Next 0 ∷ Next 0 ∷ [] }
+    ensures strangers { map (λ n. told (busy true n 9 9 9 9) (record waiting { job = job_of (codes "cy") })) (Some 0 ∷ Some 1 ∷ [])
+        ≡ UserLimit 0 ∷ Next 0 ∷ [] }
+    ensures run { map (λ n. told (busy true None n 9 9 9) waiting) (0 ∷ 1 ∷ 2 ∷ 3 ∷ []) ≡ RunLimit 0 ∷ RunLimit 1 ∷ RunLimit 2 ∷ Next 0 ∷ [] }
+    ensures complexes { map (λ n. told (busy true None 9 n 9 9) waiting) (0 ∷ 1 ∷ 2 ∷ 3 ∷ [])
+        ≡ ComplexLimit (codes "one") 0 ∷ ComplexLimit (codes "one") 1 ∷ ComplexLimit (codes "one") 2 ∷ Next 0 ∷ [] }
+    ensures others { map (λ q. told (record (busy true None 9 9 9 9) { complexes = record { name = codes "one"; limit = 0; queues = q ∷ [] } ∷ [] }) waiting)
+        (codes "bat" ∷ codes "batch" ∷ []) ≡ Next 0 ∷ ComplexLimit (codes "one") 0 ∷ [] }
+    ensures global { map (λ n. told (busy true None 9 9 9 n) waiting) (0 ∷ 1 ∷ 2 ∷ 3 ∷ []) ≡ GlobalLimit 0 ∷ GlobalLimit 1 ∷ GlobalLimit 2 ∷ Next 0 ∷ [] }
+{}
+
+/// Of a request in a device queue, for which neither complexes nor the global limit count.
+pub fn device_queues_are_told()
+    ensures order { map (λ s. told s (to_print None)) (printing false (Some 1) 1 (codes "ink" ∷ []) ∷ printing true (Some 1) 1 (codes "ink" ∷ [])
+        ∷ printing true (Some 2) 1 (codes "ink" ∷ []) ∷ printing true (Some 2) 2 (codes "ink" ∷ [])
+        ∷ printing true (Some 2) 2 (codes "ink" ∷ codes "laser" ∷ []) ∷ []) ≡ QueueStopped ∷ UserLimit 1 ∷ RunLimit 1 ∷ NoDevice None ∷ Next 0 ∷ [] }
+    ensures forms { map (λ f. told (printing true None 2 (codes "ink" ∷ codes "off" ∷ codes "gone" ∷ codes "laser" ∷ [])) (to_print f)) (None
+        ∷ Some (codes "red") ∷ Some (codes "plain") ∷ Some (codes "blue") ∷ Some (codes "pink") ∷ [])
+        ≡ Next 0 ∷ Next 0 ∷ NoDevice (Some (codes "plain")) ∷ NoDevice (Some (codes "blue")) ∷ NoDevice (Some (codes "pink")) ∷ [] }
+    ensures listed { map (λ ds. told (printing true None 2 ds) (to_print (Some (codes "red")))) ([] ∷ (codes "ink" ∷ []) ∷ (codes "laser" ∷ []) ∷ [])
+        ≡ NoDevice (Some (codes "red")) ∷ NoDevice (Some (codes "red")) ∷ Next 0 ∷ [] }
+{}
+
+/// Of a request in a pipe queue, for which neither complexes nor the global limit count.
+pub fn pipe_queues_are_told()
+    ensures order { map (λ s. told s (to_move 31)) (moving false (Some 1) 1 ∷ moving true (Some 1) 1 ∷ moving true (Some 2) 1 ∷ moving true (Some 2) 2
+        ∷ record (moving true (Some 2) 2) { hands = [] } ∷ []) ≡ QueueStopped ∷ UserLimit 1 ∷ RunLimit 1 ∷ NoDestination ∷ Next 0 ∷ [] }
+    ensures far { map (λ n. told (moving true None 2) (to_move n)) (0 ∷ 31 ∷ 32 ∷ []) ≡ NoDestination ∷ NoDestination ∷ Next 0 ∷ [] }
+    ensures refused { map (λ d. told (record (moving true None 2) { hands = [] }) (record (to_move 0) { refused = record { dest = d; cause = 19 } ∷ [] }))
+        (far ∷ near ∷ []) ≡ NoDestination ∷ Next 0 ∷ [] }
+{}
+
+/// How many come before: of greater priority, or of the same one and earlier, in the same queue,
+/// and those that may start themselves, or those that wait.
+pub fn those_before_are_counted()
+    ensures ranks { told_among (ranked 31 4 ∷ ranked 31 2 ∷ ranked 40 8 ∷ ranked 20 1 ∷ []) (ranked 41 9 ∷ ranked 40 7 ∷ ranked 40 9 ∷ ranked 31 1
+        ∷ ranked 31 3 ∷ ranked 31 9 ∷ ranked 20 9 ∷ ranked 19 0 ∷ []) ≡ Next 0 ∷ Next 0 ∷ Next 1 ∷ Next 1 ∷ Next 2 ∷ Next 3 ∷ Next 4 ∷ Next 4 ∷ [] }
+    ensures places { map (reason_of 50 (lined_up (ranked 31 4 ∷ ranked 31 2 ∷ ranked 40 8 ∷ []))) (ranked 31 4 ∷ ranked 31 2 ∷ ranked 40 8 ∷ [])
+        ≡ Next 2 ∷ Next 1 ∷ Next 0 ∷ [] }
+    ensures eligible { map (λ q. told (lined_up (q ∷ ranked 40 2 ∷ [])) (ranked 31 9)) (ranked 40 1 ∷ record (ranked 40 1) { hold = User }
+        ∷ record (ranked 40 1) { hold = System } ∷ record (ranked 40 1) { state = Running } ∷ record (ranked 40 1) { state = Routing }
+        ∷ record (ranked 40 1) { queue = codes "night" } ∷ record (ours (codes "batch") 51) { arrival = 1 } ∷ []) ≡ Next 2 ∷ replicate 6 (Next 1) }
+    ensures at_limit { map (λ n. told (busy true n 9 9 9 9) (of_bob 20 9)) (Some 2 ∷ None ∷ []) ≡ Next 0 ∷ Next 0 ∷ [] }
+    ensures limited { map (told (record (busy true (Some 1) 9 9 9 9) { rows = record (ranked 31 1) { state = Running } ∷ ranked 40 2 ∷ ranked 40 3 ∷ [] }))
+        (of_bob 20 9 ∷ ranked 20 9 ∷ []) ≡ Next 0 ∷ UserLimit 1 ∷ [] }
+    ensures waiting { map (λ q. counted_among (q ∷ ranked 40 2 ∷ ranked 31 9 ∷ ranked 31 10 ∷ []) (ranked 31 9)) (ranked 40 1 ∷ ranked 31 8
+        ∷ record (ranked 40 1) { hold = User } ∷ record (ranked 40 1) { hold = System } ∷ record (ranked 40 1) { state = Running }
+        ∷ record (ranked 40 1) { state = Routing } ∷ record (ranked 40 1) { queue = codes "night" } ∷ record (ours (codes "batch") 51) { arrival = 1 } ∷ [])
+        ≡ 2 ∷ 2 ∷ replicate 6 1 }
+    ensures hindered { map (λ r. counted_among (record (ranked 31 1) { state = Running } ∷ ranked 40 2 ∷ ranked 40 3 ∷ []) r) (of_bob 20 9 ∷ ranked 20 9
+        ∷ ranked 40 3 ∷ ranked 40 2 ∷ []) ≡ 2 ∷ 2 ∷ 1 ∷ 0 ∷ [] }
+{}
+
+/// What a destination answered, one condition after the other mended, where all that comes behind
+/// fails still.
+pub fn answers_are_told()
+    ensures order { answered (record new_peer { next = 18446744073709551615; wait = 51 }) (hand ∷ []) (far ∷ []) far
+        ∷ answered (record new_peer { next = 18446744073709551615; wait = 51 }) (hand ∷ []) (near ∷ []) far
+        ∷ answered (record new_peer { next = 18446744073709551614; wait = 51 }) (hand ∷ []) [] far ∷ answered (record new_peer { wait = 51 }) [] [] far
+        ∷ answered (record new_peer { wait = 50 }) [] [] far ∷ answered new_peer [] [] far ∷ []
+        ≡ Refused 19 ∷ NoNumberLeft ∷ HandingOver ∷ WaitedFor 51 ∷ MayBeTried ∷ MayBeTried ∷ [] }
+    ensures here { map (λ refused. answered (record new_peer { next = 18446744073709551615; wait = 51 }) (hand ∷ record hand { peer = host 0 } ∷ [])
+        refused near) ((near ∷ []) ∷ (far ∷ []) ∷ []) ≡ Refused 19 ∷ MayBeTried ∷ [] }
+    ensures elsewhere { map (λ refused. answered new_peer (record hand { peer = host 2 } ∷ []) refused (record far { host = host 2 }))
+        ((record far { host = host 2 } ∷ []) ∷ [] ∷ []) ≡ Refused 19 ∷ NoHost ∷ [] }
+    ensures other_host { answered new_peer (record hand { peer = host 0 } ∷ []) [] far ≡ MayBeTried }
+{}
+
+/// The texts.
+pub fn reasons_are_spelled()
+    ensures words { map (reason_words (codes "batch")) (Runs ∷ OnItsWay ∷ HeldByUser ∷ HeldBySystem ∷ NoQueue ∷ QueueStopped ∷ UserLimit 2 ∷ RunLimit 10
+        ∷ ComplexLimit (codes "night") 3 ∷ GlobalLimit 64 ∷ NoDevice None ∷ NoDevice (Some (codes "red")) ∷ NoDestination ∷ [])
+        ≡ codes "it runs" ∷ codes "it is on its way to another host" ∷ codes "it is held" ∷ codes "the system holds it" ∷ codes "no queue batch"
+        ∷ codes "queue batch is stopped" ∷ codes "the user limit 2 of queue batch is reached" ∷ codes "the run limit 10 of queue batch is reached"
+        ∷ codes "the limit 3 of complex night is reached" ∷ codes "the global limit 64 is reached" ∷ codes "no device of queue batch is free"
+        ∷ codes "no device of queue batch with forms red is free" ∷ codes "no destination of queue batch may be tried now" ∷ [] }
+    ensures next { map (λ n. reason_words (codes "batch") (Next n)) (0 ∷ 1 ∷ 2 ∷ 30 ∷ []) ≡ codes "it is next in queue batch"
+        ∷ codes "1 request of the queue comes before it" ∷ codes "2 requests of the queue come before it" ∷ codes "30 requests of the queue come before it"
+        ∷ [] }
+    ensures answers { map answer_words (Refused 19 ∷ NoHost ∷ NoNumberLeft ∷ HandingOver ∷ MayBeTried ∷ []) ≡ codes "refused with number 19"
+        ∷ codes "no such host" ∷ codes "all numbers are used" ∷ codes "its host is being handed another request" ∷ codes "may be tried" ∷ [] }
+    ensures stopped { IsReasonText (codes "batch") QueueStopped (codes "queue batch is stopped") }
+    ensures early { IsReasonText (codes "batch") (NotBefore 1000000000) (codes "it may not start before 2001-09-09T01:46:40") }
+    ensures last { IsReasonText (codes "batch") (NotBefore 253402214400) (codes "it may not start before 9999-12-31T00:00:00") }
+    ensures beyond { IsReasonText (codes "batch") (NotBefore 253402214401) (codes "it may not start before 253402214401") }
+    ensures silent { IsAnswerText (WaitedFor 300) (codes "its host is waited for until 1970-01-01T00:05:00") }
+    ensures told { IsAnswerText (Refused 3) (codes "refused with number 3") }
+{}
