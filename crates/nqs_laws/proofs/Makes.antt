@@ -118,6 +118,7 @@ module _ (s : Plain) where
   command_makes now a user (command.Delete id forced) = unless_makes (IsDeleted id s) a (first_refusal (delete_causes user id forced s))
       (delete_meant a id (meant_row id s)) (delete_makes a id (meant_row id s) refl)
   command_makes now a user (command.Show code) = tt
+  command_makes now a user (command.Why id) = tt
   command_makes now a user command.Shutdown = tt
   command_makes now a user command.Tick = silenced now s.retry_wait (silent_hands now s)
   command_makes now a user (command.UnreadLine fault) = tt

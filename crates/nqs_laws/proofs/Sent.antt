@@ -63,7 +63,7 @@ use Rattle.nqs_rules.specs.Stage.{on_written, file_again, stages_from, due_outpu
 use Rattle.nqs_rules.specs.Start.{launching, printing, moving_by, moving, holding, local_causes, with_row, device_at, dest_at, started, start_by, start}
 use Rattle.nqs_rules.specs.Order.{pick}
 use Rattle.nqs_rules.specs.Applied.{next_id}
-use Rattle.nqs_rules.specs.Step.{completed, Asker, reply_to, answer_to, unless_refused, submit_to, kill, delete_meant, runs_in_queue, kills_of, stat_causes}
+use Rattle.nqs_rules.specs.Step.{completed, Asker, reply_to, answer_to, unless_refused, submit_to, kill, delete_meant, why_reply, runs_in_queue, kills_of, stat_causes}
 use Rattle.nqs_rules.specs.Step.{ticked, on_allowed, on_message, is_start, ended_by, acknowledged, unlaunched_by, step}
 use Rattle.nqs_rules.specs.Text.{stat_lines}
 use Rattle.nqs_rules.specs.World.{sent_by}
@@ -491,6 +491,10 @@ module _ (s : Plain) (h : IsInOrder s) where
         by true = refl
         by false = refl
 
+    why_outputs : (now : ℕ) (a : Asker) (id : Named) (o : Option PlainRow) → AreFine (answer_to a (why_reply now id s o)).outputs
+    why_outputs now a id None = refl
+    why_outputs now a id (Some r) = refl
+
     command_outputs : (now : ℕ) (a : Asker) (user : List ℕ) (c : Command) → MaySubmit (on_allowed now a user c s).change
         → AreFine (on_allowed now a user c s).outputs
     command_outputs now a user (command.Submit sub) submits = unless_submits a (first_refusal (submit_causes sub s))
@@ -502,6 +506,7 @@ module _ (s : Plain) (h : IsInOrder s) where
     command_outputs now a user (command.Delete id forced) submits = unless_fine a (first_refusal (delete_causes user id forced s))
         (delete_meant a id (meant_row id s)) (delete_outputs a id (meant_row id s))
     command_outputs now a user (command.Show code) submits = refl
+    command_outputs now a user (command.Why id) submits = why_outputs now a id (meant_row id s)
     command_outputs now a user command.Shutdown submits = refl
     command_outputs now a user command.Tick submits = joined (ticked now s).outputs (reply_to a reply.Done ∷ []) (tick_fine now) refl
     command_outputs now a user (command.UnreadLine fault) submits = refl
@@ -706,6 +711,7 @@ module _ (s : Plain) (h : IsInOrder s) where
         allowed (command.Delete id forced) k = unless_short a (first_refusal (delete_causes user id forced s)) (delete_meant a id (meant_row id s))
             (deleted id (meant_row id s))
         allowed (command.Show code) k = tt
+        allowed (command.Why id) k = tt
         allowed command.Shutdown k = tt
         allowed command.Tick k = silenced (silent_hands now s)
         allowed (command.UnreadLine fault) k = tt

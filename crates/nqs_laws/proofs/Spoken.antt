@@ -524,6 +524,7 @@ module _ (states : List Plain) (h : HostId) (s : Plain) (o : IsInOrder s) (calm 
   command_spoken now a user (command.Delete id forced) fit = unless_spoken a (first_refusal (delete_causes user id forced s))
       (delete_meant a id (meant_row id s)) (delete_spoken a id (meant_row id s)) fit
   command_spoken now a user (command.Show code) fit = (tt, tt)
+  command_spoken now a user (command.Why id) fit = (tt, tt)
   command_spoken now a user command.Shutdown fit = (tt, tt)
   command_spoken now a user command.Tick fit = all-both (Said (after_change (ticked now s).change s)) (ticked now s).outputs (reply_to a reply.Done ∷ [])
       (tick_spoken now fit) (tt, tt)

@@ -10,7 +10,8 @@ use Rattle.jiff_core.specs.declared.civil.date.Date.{Date}
 use Rattle.jiff_core.proofs.DateLemmas.{epoch_day_injective}
 use Rattle.jiff_core.proofs.CalendarLemmas.{days_in_month_bounds}
 use Rattle.jiff_core.proofs.SignedLemmas.{signed_arith}
-use Rattle.nqs_moments.specs.Moment.{IsSecond, IsMoment, moment_misfit, moment_text}
+use Rattle.nqs_text.specs.Dates.{moment_text}
+use Rattle.nqs_moments.specs.Moment.{IsSecond, IsMoment, moment_misfit}
 use Rattle.nqs_moments.specs.Parts.{part, IsNamed}
 use Rattle.nqs_moments.specs.Laws.{PrintedReadsBack, ReadPrintsBack}
 use Rattle.nqs_moments.specs.declared.moment.MomentFault.TheVariants.{Form, Range}

@@ -3,7 +3,8 @@ use Rattle.std.proofs.Common.{◌≡◌, ℕ, ◌+◌, ◌-◌, ◌*◌, ◌/◌
 use Rattle.std.proofs.Common.{◌==◌}
 use Rattle.std.proofs.lemmas.Bool.Decides.{nat_tests}
 use Rattle.nqs_values.specs.Name.{is_digit}
-use Rattle.nqs_moments.specs.Moment.{misfit, suits, moment_misfit, two, four, moment_text}
+use Rattle.nqs_text.specs.Dates.{two, four, moment_text}
+use Rattle.nqs_moments.specs.Moment.{misfit, suits, moment_misfit}
 use Rattle.nqs_moments.specs.Parts.{part}
 use Rattle.nqs_moments.proofs.Facts.{text-formed, two-digits, four-digits}
 

@@ -4,6 +4,7 @@ use Rattle.std.specs.Prelude.{Ok, Err}
 use Rattle.std.specs.declared.result.Result.{Result}
 use Rattle.jiff_core.specs.Calendar.{IsDate, days_from_civil}
 use Rattle.nqs_values.specs.Name.{is_digit}
+use Rattle.nqs_text.specs.Dates.{moment_text}
 use Rattle.nqs_moments.specs.declared.moment.MomentFault.{MomentFault}
 use Rattle.nqs_moments.specs.declared.moment.MomentFault.TheVariants.{Form, Range}
 use Rattle.nqs_moments.specs.declared.moment.PrintFault.{PrintFault}
@@ -34,18 +35,6 @@ pub record IsSecond (year month day hour minute second moment : ℕ) : Type 0 wh
   pub minutes : minute < 60
   pub seconds : second < 60
   pub counted : pos moment ≡ (days_from_civil (pos year) month day *ℤ pos 86400) +ℤ pos (hour * 3600 + minute * 60 + second)
-
--- the last two digits of a number
-unfoldable pub two : ℕ → List ℕ
-two n = (48 + n / 10 % 10) ∷ (48 + n % 10) ∷ []
-
--- the last four digits of a number
-unfoldable pub four : ℕ → List ℕ
-four n = (48 + n / 1000 % 10) ∷ (48 + n / 100 % 10) ∷ (48 + n / 10 % 10) ∷ (48 + n % 10) ∷ []
-
--- the text of a civil date and time
-unfoldable pub moment_text : ℕ → ℕ → ℕ → ℕ → ℕ → ℕ → List ℕ
-moment_text year month day hour minute second = four year ++ 45 ∷ two month ++ 45 ∷ two day ++ 84 ∷ two hour ++ 58 ∷ two minute ++ 58 ∷ two second
 
 -- the bytes are the text of the date and time at that second
 pub record IsMoment (bytes : List ℕ) (moment : ℕ) : Type 0 where

@@ -5,7 +5,8 @@
 ghost use Rattle.std.specs.Prelude.{◌≡◌, ◌+◌, ◌^◌, ◌<◌, ◌≤◌, ◌≤ℤ◌, ℕ, length, pos, None, MatchOption};
 ghost use Rattle.std.specs.Prelude.{◌%◌};
 ghost use Rattle.jiff_core.specs.Date.{epoch_day};
-ghost use Rattle.nqs_moments.specs.Moment.{misfit, suits, moment_misfit, ReadsMoment, IsSecond, moment_text, PrintsMoment};
+ghost use Rattle.nqs_text.specs.Dates.{moment_text, date_text};
+ghost use Rattle.nqs_moments.specs.Moment.{misfit, suits, moment_misfit, ReadsMoment, IsSecond, PrintsMoment};
 ghost use Rattle.nqs_moments.specs.Parts.{part, IsNamed};
 
 use jiff::civil::Date;
@@ -127,7 +128,7 @@ fn digit(number: u64) -> u8
 }
 
 // The text of a civil date and time.
-#[tactic(auto, unfolding(crate::specs::Moment::moment_text, crate::specs::Moment::two, crate::specs::Moment::four))]
+#[tactic(auto, unfolding(nqs_text::specs::Dates::moment_text, nqs_text::specs::Dates::two, nqs_text::specs::Dates::four))]
 fn text_of(year: u64, month: u64, day: u64, hour: u64, minute: u64, second: u64) -> [u8; 19]
     ensures { result ≡ moment_text year month day hour minute second }
 {

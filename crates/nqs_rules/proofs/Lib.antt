@@ -3,6 +3,7 @@ pub mod PlainLemmas
 pub mod FoundPlain
 pub mod FitsPlain
 pub mod TextPlain
+pub mod ReasonsPlain
 pub mod OutputsPlain
 pub mod MessagesPlain
 pub mod StepPlain

@@ -151,6 +151,7 @@ module _ {E : Type 0} where
         (λ allows. tt)
     allowed_fits now a user (command.Delete id forced) sane = delete_fits a user id forced
     allowed_fits now a user (command.Show code) sane = tt
+    allowed_fits now a user (command.Why id) sane = tt
     allowed_fits now a user command.Shutdown sane = tt
     allowed_fits now a user command.Tick sane = tick_fits now
     allowed_fits now a user (command.UnreadLine fault) sane = tt

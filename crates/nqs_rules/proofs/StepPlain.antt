@@ -29,12 +29,13 @@ use Rattle.nqs_rules.specs.Fits.{edit_causes}
 use Rattle.nqs_rules.specs.Stepped.{Stepped, Pending, map_pending, map_stepped, makes, ready}
 use Rattle.nqs_rules.specs.Text.{stat_lines}
 use Rattle.nqs_rules.specs.Step.{Asker, reply_to, answer_to, unless_refused, submit_to, on_submit, kill, delete_meant, on_delete, runs_in_queue, kills_of}
-use Rattle.nqs_rules.specs.Step.{on_edit, stat_causes, on_stat, ticked, then_reply, on_allowed, is_start, ended_by, then_ack, acknowledged, unlaunched_by, step}
+use Rattle.nqs_rules.specs.Step.{on_edit, stat_causes, on_stat, why_reply, ticked, then_reply, on_allowed, is_start, ended_by, then_ack, acknowledged, unlaunched_by, step}
 use Rattle.nqs_rules.specs.Plain.{map_row, map_state}
 use Rattle.nqs_rules.proofs.ListMaps.{map-mapped, map-filter}
 use Rattle.nqs_rules.proofs.FoundPlain.{held_count-map, find_row-map, meant_row-map, named_causes-map}
 use Rattle.nqs_rules.proofs.FitsPlain.{edit_causes-map}
 use Rattle.nqs_rules.proofs.TextPlain.{stat_lines-map, show_lines-map}
+use Rattle.nqs_rules.proofs.ReasonsPlain.{why_lines-map}
 use Rattle.nqs_rules.proofs.OutputsPlain.{ticked-map, on_end-map}
 use Rattle.nqs_rules.proofs.MessagesPlain.{choice-map, on_message-map, on_written-map}
 
@@ -86,6 +87,10 @@ module _ {E F : Type 0} (f : E → F) where
       ap (λ l. unless_refused a (first_refusal (stat_causes queues s)) (answer_to a (reply.Lines l))) (stat_lines-map f user queues s)
       ∙ unless-map a (first_refusal (stat_causes queues s)) (answer_to a (reply.Lines (stat_lines user queues s)))
 
+  why_reply-map : (now : ℕ) (id : Named) (s : State E) (o : Option (Row E)) → why_reply now id (map_state f s) (option_map (map_row f) o) ≡ why_reply now id s o
+  why_reply-map now id s None = refl
+  why_reply-map now id s (Some r) = ap reply.Lines (why_lines-map f now s r)
+
   behind-map : (done : Stepped E) (more : List (Pending E)) → record {
     change = done.change;
     outputs =
@@ -100,6 +105,8 @@ module _ {E F : Type 0} (f : E → F) where
   on_allowed-map now a user (command.Stat owner queues) s = on_stat-map a owner queues s
   on_allowed-map now a user (command.Delete id forced) s = on_delete-map a user id forced s
   on_allowed-map now a user (command.Show code) s = ap (λ l. answer_to a (reply.Lines l)) (show_lines-map f code s)
+  on_allowed-map now a user (command.Why id) s =
+      ap (answer_to a) (ap (why_reply now id (map_state f s)) (meant_row-map f id s) ∙ why_reply-map now id s (meant_row id s))
   on_allowed-map now a user command.Tick s = ap (then_reply a) (ticked-map f now s) ∙ behind-map (ticked now s) (reply_to a reply.Done ∷ [])
   on_allowed-map now a user c s = refl
 

@@ -22,6 +22,9 @@ pub mod Handover
 pub mod Stage
 pub mod Start
 pub mod Text
+pub mod Reasons
+pub mod Answers
+pub mod Why
 pub mod Step
 pub mod Measure
 pub mod Starts

@@ -14,6 +14,7 @@ use Rattle.nqs_rules.specs.Stepped.{Stepped, Pending, quiet, makes, answer, repl
 use Rattle.nqs_rules.specs.Handover.{on_offer, on_ready, on_refused, on_commit, on_done, on_abort, on_tick}
 use Rattle.nqs_rules.specs.Stage.{on_end, on_stage, on_staged, on_written, due_outputs}
 use Rattle.nqs_rules.specs.Text.{stat_lines, queue_line, device_line, complex_line, manager_line, operator_line, parameter_lines}
+use Rattle.nqs_rules.specs.Why.{why_lines}
 use Rattle.nqs_types.specs.declared.ids.HostId.{HostId}
 use Rattle.nqs_types.specs.declared.ids.RequestId.{RequestId}
 use Rattle.nqs_types.specs.declared.ids.Named.{Named}
@@ -135,6 +136,11 @@ module _ {E : Type 0} where
       else (if code == 51 then map manager_line s.managers ++ map operator_line s.operators
       else (if code == 52 then parameter_lines s else []))))
 
+  -- what is answered where a request is asked about, by the one that is meant
+  abbrev pub why_reply : ℕ → Named → State E → Option (Row E) → Reply
+  why_reply now id s None = reply.Refused (NoRequest id)
+  why_reply now id s (Some r) = reply.Lines (why_lines now s r)
+
   -- tick
 
   -- what a host does at a tick
@@ -152,6 +158,7 @@ module _ {E : Type 0} where
   on_allowed now a user (command.Stat owner queues) s = on_stat a owner queues s
   on_allowed now a user (command.Delete id forced) s = on_delete a user id forced s
   on_allowed now a user (command.Show code) s = answer_to a (reply.Lines (show_lines code s))
+  on_allowed now a user (command.Why id) s = answer_to a (why_reply now id s (meant_row id s))
   on_allowed now a user command.Shutdown s = answer_to a reply.Done
   on_allowed now a user command.Tick s = then_reply a (ticked now s)
   on_allowed now a user (command.UnreadLine fault) s = answer_to a (reply.UnreadLine fault)

@@ -326,6 +326,7 @@ module _ (s : Plain) (h : IsInOrder s) where
   command_told now a user (command.Delete id forced) = unless_told a (first_refusal (delete_causes user id forced s)) (delete_meant a id (meant_row id s))
       (delete_told a id (meant_row id s))
   command_told now a user (command.Show code) = refl
+  command_told now a user (command.Why id) = refl
   command_told now a user command.Shutdown = refl
   command_told now a user command.Tick = joined (ticked now s).outputs (reply_to a reply.Done ∷ []) (tick_told now) refl
   command_told now a user (command.UnreadLine fault) = refl

@@ -36,6 +36,8 @@ pub enum Command {
     },
     /// A list of qmgr, by the code of its line, from 48 to 52.
     Show(u8),
+    /// Why a request doesn't run.
+    Why(Named),
     Shutdown,
     Tick,
     UnreadLine(GrammarFault),

@@ -10,6 +10,7 @@ mod ids;
 mod keys;
 mod message;
 mod queue;
+mod reason;
 mod refusal;
 mod request;
 mod rule;
@@ -23,6 +24,7 @@ pub use fault::{GrammarFault, WordsCause, WordsFault};
 pub use ids::{Dest, HostId, Named, NamedDest, PeerNumber, RequestId};
 pub use message::{Body, BodyKind, Message, Tool};
 pub use queue::{Access, ComplexDef, DestList, DeviceDef, Kind, QueueDef};
+pub use reason::{DestAnswer, Reason};
 pub use refusal::Refusal;
 pub use request::{
     Carried, FileOut, Hand, Hold, Job, Limits, Peer, Phase, Promise, Refused, RefusedList, Row,

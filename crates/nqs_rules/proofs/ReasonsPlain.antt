@@ -1,4 +1,4 @@
--- A reason looks at no stored part.
+-- A reason looks at no stored part, and what is told of a request neither.
 use Rattle.std.proofs.Common.{◌≡◌, ℕ, not, ◌&&◌, ◌||◌, nat_lt, nat_le, List, [], ◌∷◌, ◌++◌, map, length, filter, find, position, Option, None, Some, is_some}
 use Rattle.std.proofs.Common.{refl, ap, ◌∙◌, unwrap_or, if◌then◌else◌}
 use Rattle.nqs_values.specs.Same.{name_eq}
@@ -19,11 +19,12 @@ use Rattle.nqs_rules.specs.Order.{below, is_active_in, is_active_of, runs_in, ru
 use Rattle.nqs_rules.specs.Plain.{map_row, map_state}
 use Rattle.nqs_rules.proofs.ListMaps.{count-map}
 use Rattle.nqs_rules.proofs.FoundPlain.{is_busy-map}
-use Rattle.nqs_reasons.specs.declared.reasons.Reason.TheVariants.{QueueStopped, UserLimit, RunLimit, ComplexLimit, GlobalLimit, NoDevice, Next}
-use Rattle.nqs_reasons.specs.declared.reasons.DestAnswer.TheVariants.{MayBeTried}
-use Rattle.nqs_reasons.specs.Answers.{refusal_conditions, peer_conditions, answer_of}
-use Rattle.nqs_reasons.specs.Reasons.{first_failing, row_conditions, kind_conditions, conditions, goes_first, next_in, reason_in, reason_of, waits_before}
-use Rattle.nqs_reasons.specs.Reasons.{count_before}
+use Rattle.nqs_types.specs.declared.reason.Reason.TheVariants.{QueueStopped, UserLimit, RunLimit, ComplexLimit, GlobalLimit, NoDevice, Next}
+use Rattle.nqs_types.specs.declared.reason.DestAnswer.TheVariants.{MayBeTried}
+use Rattle.nqs_rules.specs.Answers.{refusal_conditions, peer_conditions, answer_of}
+use Rattle.nqs_rules.specs.Reasons.{first_failing, row_conditions, kind_conditions, conditions, goes_first, next_in, reason_in, reason_of, waits_before}
+use Rattle.nqs_rules.specs.Reasons.{count_before}
+use Rattle.nqs_rules.specs.Why.{reason_line, dest_lines, before_lines, why_lines}
 
 module _ {E F : Type 0} (f : E → F) (now : ℕ) (s : State E) where
   complex_allows-map : (q : List ℕ) (c : ComplexDef) → complex_allows q (map_state f s) c ≡ complex_allows q s c
@@ -75,3 +76,8 @@ module _ {E F : Type 0} (f : E → F) (now : ℕ) (s : State E) where
   answer-map r dest =
       (λ j. first_failing (refusal_conditions (find (refuses dest) r.refused)
       ++ (if same_host s.me dest.host then [] else peer_conditions-map (find_peer dest.host s) dest.host j)) MayBeTried)
+
+  -- what is told of a request at a moment
+  pub why_lines-map : (r : Row E) → why_lines now (map_state f s) (map_row f r) ≡ why_lines now s r
+  why_lines-map r = (λ j. reason_line s.site r.id r.queue (reason-map r j)
+      ∷ dest_lines s.site (reason-map r j) (find_queue r.queue s) (λ dest. answer-map r dest j) ++ before_lines r.state (count_before-map r j))

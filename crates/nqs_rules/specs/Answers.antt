@@ -10,9 +10,9 @@ use Rattle.nqs_types.specs.declared.ids.Dest.{Dest}
 use Rattle.nqs_types.specs.declared.request.Refused.{Refused as Refusal}
 use Rattle.nqs_types.specs.declared.request.Row.{Row}
 use Rattle.nqs_types.specs.declared.request.Peer.{Peer}
-use Rattle.nqs_reasons.specs.declared.reasons.DestAnswer.{DestAnswer}
-use Rattle.nqs_reasons.specs.declared.reasons.DestAnswer.TheVariants.{Refused, NoHost, NoNumberLeft, HandingOver, WaitedFor, MayBeTried}
-use Rattle.nqs_reasons.specs.Reasons.{Conditions, first_failing}
+use Rattle.nqs_types.specs.declared.reason.DestAnswer.{DestAnswer}
+use Rattle.nqs_types.specs.declared.reason.DestAnswer.TheVariants.{Refused, NoHost, NoNumberLeft, HandingOver, WaitedFor, MayBeTried}
+use Rattle.nqs_rules.specs.Reasons.{Conditions, first_failing}
 
 -- the destination hasn't refused the request: it does so once at most
 abbrev pub refusal_conditions : Option Refusal → Conditions DestAnswer

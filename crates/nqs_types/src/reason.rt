@@ -2,8 +2,9 @@
 
 use nqs_values::Name;
 
-/// Why a request doesn't start at a moment. The cases stand in the order in which they are told,
-/// but that a queue of one kind has the conditions of that kind alone.
+/// Why a request doesn't start at a moment (docs/rules.md, "Why a request waits"). The cases stand
+/// in the order in which they are told, but that a queue of one kind has the conditions of that
+/// kind alone.
 #[derive(Clone, Copy)]
 pub enum Reason {
     /// It was started, and runs.
@@ -33,7 +34,7 @@ pub enum Reason {
     GlobalLimit(u16),
     /// No device of its queue is free that is enabled and has these forms, if it asks for any.
     NoDevice(Option<Name>),
-    /// No destination of its queue may be tried now. `answer` says of each of them why.
+    /// No destination of its queue may be tried now. Each has an answer that says why.
     NoDestination,
     /// Nothing stands in its way but the order. So many requests of its queue that may start as
     /// well come before it; 0 where it is the first. Other queues may come before its queue. After

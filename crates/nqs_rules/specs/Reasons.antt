@@ -16,9 +16,9 @@ use Rattle.nqs_types.specs.declared.queue.Kind.{Kind}
 use Rattle.nqs_types.specs.declared.queue.Kind.TheVariants.{Batch, Device, Pipe}
 use Rattle.nqs_types.specs.declared.queue.QueueDef.{QueueDef}
 use Rattle.nqs_types.specs.declared.queue.ComplexDef.{ComplexDef}
-use Rattle.nqs_reasons.specs.declared.reasons.Reason.{Reason}
-use Rattle.nqs_reasons.specs.declared.reasons.Reason.TheVariants.{Runs, OnItsWay, HeldByUser, HeldBySystem, NotBefore, NoQueue, QueueStopped, UserLimit}
-use Rattle.nqs_reasons.specs.declared.reasons.Reason.TheVariants.{RunLimit, ComplexLimit, GlobalLimit, NoDevice, NoDestination, Next}
+use Rattle.nqs_types.specs.declared.reason.Reason.{Reason}
+use Rattle.nqs_types.specs.declared.reason.Reason.TheVariants.{Runs, OnItsWay, HeldByUser, HeldBySystem, NotBefore, NoQueue, QueueStopped, UserLimit}
+use Rattle.nqs_types.specs.declared.reason.Reason.TheVariants.{RunLimit, ComplexLimit, GlobalLimit, NoDevice, NoDestination, Next}
 
 -- conditions, each with what is told where it fails
 abbrev pub Conditions : Type 0 → Type 0
