@@ -47,7 +47,10 @@ fn message_in(alloc: Global, received: Received, buf: &[u8]) -> Result<Option<Me
 }
 
 /// Makes one receive. What comes may be no message.
-pub fn receive_message<W: Wire>(alloc: Global, wire: &mut W) -> Result<Option<Message>, WaitStop>
+pub(crate) fn receive_message<W: Wire>(
+    alloc: Global,
+    wire: &mut W,
+) -> Result<Option<Message>, WaitStop>
     ensures received { Receives message_in (W.received wire.old) (W.received wire.new) result }
     ensures sent { Extends (W.sent wire.old) (W.sent wire.new) [] }
     ensures cause { StopsFor (W.receive_faults wire.old) (W.receive_faults wire.new) result }
@@ -64,7 +67,7 @@ pub fn receive_message<W: Wire>(alloc: Global, wire: &mut W) -> Result<Option<Me
 }
 
 /// The bytes of a message.
-pub fn spelled(alloc: Global, message: &Message) -> Result<Vec<u8>, Memory>
+pub(crate) fn spelled(alloc: Global, message: &Message) -> Result<Vec<u8>, Memory>
     requires { MaySend message.now }
     ensures { IfOk result (λ bytes. bytes.items ≡ spelling message.now) }
 {

@@ -158,7 +158,11 @@ fn made_of(
 
 /// What the words ask for.
 #[tactic(auto, unfolding(crate::specs::Errand::errand_of))]
-pub fn read_words(alloc: Global, site: &[Name], words: &[String]) -> Result<Errand, WordsStop>
+pub(crate) fn read_words(
+    alloc: Global,
+    site: &[Name],
+    words: &[String],
+) -> Result<Errand, WordsStop>
     requires { length site.now ≤ 16 }
     ensures errand { ReadsErrand site.now (map (λ s. string_bytes s) words.now) result }
     ensures may { IfOk result (λ errand. MayAsk errand) }

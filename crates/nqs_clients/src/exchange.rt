@@ -104,7 +104,7 @@ fn await_answer<W: Wire>(
 }
 
 /// Asks the host, and waits for its answer.
-pub fn exchange<W: Wire>(
+pub(crate) fn exchange<W: Wire>(
     alloc: Global,
     port: u16,
     errand: Errand,

@@ -91,7 +91,7 @@ impl<V: Drop> Held<V> {
 }
 
 /// Takes room until there are so many.
-pub fn take_rooms<V: Drop>(
+pub(crate) fn take_rooms<V: Drop>(
     alloc: Global,
     rooms: &mut Vec<Room<V>>,
     wanted: usize,

@@ -46,7 +46,7 @@ pub struct Options {
 }
 
 /// No option.
-pub fn no_options() -> Options
+pub(crate) fn no_options() -> Options
     ensures { result ≡ no_options }
 {
     Options {
@@ -66,7 +66,7 @@ pub fn no_options() -> Options
 
 /// The option that a word names.
 #[tactic(auto, unfolding(crate::specs::Options::flag_of))]
-pub fn flag_of(bytes: &[u8]) -> Option<Flag>
+pub(crate) fn flag_of(bytes: &[u8]) -> Option<Flag>
     ensures { result ≡ flag_of bytes.now }
 {
     if b"-q".as_slice() == bytes {
@@ -107,7 +107,7 @@ pub fn flag_of(bytes: &[u8]) -> Option<Flag>
 
 /// Was the option given?
 #[tactic(auto, unfolding(crate::specs::Options::is_given))]
-pub fn is_given(options: &Options, flag: Flag) -> bool
+pub(crate) fn is_given(options: &Options, flag: Flag) -> bool
     ensures { result ≡ is_given options.now flag }
 {
     match flag {
@@ -139,7 +139,7 @@ fn is_both(options: &Options, flag: Flag) -> bool
 
 /// That the option may be given now.
 #[tactic(auto, unfolding(crate::specs::Options::fresh))]
-pub fn fresh(options: &Options, flag: Flag) -> Result<(), WordsCause>
+pub(crate) fn fresh(options: &Options, flag: Flag) -> Result<(), WordsCause>
     ensures { result ≡ fresh options.now flag }
 {
     if is_given(options, flag) {
@@ -153,7 +153,7 @@ pub fn fresh(options: &Options, flag: Flag) -> Result<(), WordsCause>
 
 /// Does the option take a value?
 #[tactic(auto, unfolding(crate::specs::Options::takes_value))]
-pub fn takes_value(flag: Flag) -> bool
+pub(crate) fn takes_value(flag: Flag) -> bool
     ensures { result ≡ takes_value flag }
 {
     match flag {
@@ -165,7 +165,7 @@ pub fn takes_value(flag: Flag) -> bool
 
 /// The options with one that takes no value.
 #[tactic(auto, unfolding(crate::specs::Options::marked))]
-pub fn marked(options: Options, flag: Flag) -> Options
+pub(crate) fn marked(options: Options, flag: Flag) -> Options
     ensures { result ≡ marked options flag }
 {
     match flag {
@@ -315,7 +315,12 @@ fn with_forms(options: Options, text: &[u8]) -> Result<Options, WordsCause>
 
 /// The options with one and the text of its value, which stands at that place.
 #[tactic(auto, unfolding(crate::specs::Options::valued))]
-pub fn valued(options: Options, flag: Flag, text: &[u8], at: Place) -> Result<Options, WordsCause>
+pub(crate) fn valued(
+    options: Options,
+    flag: Flag,
+    text: &[u8],
+    at: Place,
+) -> Result<Options, WordsCause>
     ensures { result ≡ valued options flag text.now at }
 {
     match flag {

@@ -120,7 +120,7 @@ fn one_option(
 /// The options from a place on, with those that were given before; at most `left` of them. The word
 /// there has the number `number`, and the line of the script, 0 for the command, is `line`.
 #[tactic(auto, unfolding(crate::specs::Options::read_words))]
-pub fn read_words(
+pub(crate) fn read_words(
     left: u8,
     source: Source,
     words: &[Bytes],

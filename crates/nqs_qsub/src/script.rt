@@ -151,7 +151,7 @@ fn line_options(
 }
 
 /// The options of a script of at most 32,768 bytes, or the first fault with its line and word.
-pub fn script_options(script: &[u8]) -> Result<Options, WordsFault>
+pub(crate) fn script_options(script: &[u8]) -> Result<Options, WordsFault>
     requires { length script.now ≤ 32768 }
     ensures { result ≡ script_options (length script.now) script.now 1 0 no_options }
 {

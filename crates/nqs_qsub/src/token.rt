@@ -36,7 +36,7 @@ pub struct Token {
 }
 
 /// A fault of a word, by the script's line, 0 for the command, and the word's number.
-pub fn fault_at(line: u32, number: u32, cause: WordsCause) -> WordsFault
+pub(crate) fn fault_at(line: u32, number: u32, cause: WordsCause) -> WordsFault
     ensures { result ≡ fault_at line number cause }
 {
     WordsFault {
@@ -49,7 +49,12 @@ pub fn fault_at(line: u32, number: u32, cause: WordsCause) -> WordsFault
 /// The next word from a place on: of the command's words, or of the front of a script up to a
 /// line's end.
 #[tactic(auto, unfolding(crate::specs::Tokens::next_token))]
-pub fn next_token(source: Source, words: &[Bytes], text: &[u8], place: usize) -> Option<Token>
+pub(crate) fn next_token(
+    source: Source,
+    words: &[Bytes],
+    text: &[u8],
+    place: usize,
+) -> Option<Token>
     ensures { result ≡ next_token source words.now text.now place }
 {
     match source {
@@ -87,7 +92,7 @@ fn next_of_script(text: &[u8], place: usize) -> Option<Token>
 
 /// The bytes of a word.
 #[tactic(auto, unfolding(crate::specs::Tokens::text_of))]
-pub fn text_of<'a>(words: &'a [Bytes], script: &'a [u8], at: Place) -> &'a [u8]
+pub(crate) fn text_of<'a>(words: &'a [Bytes], script: &'a [u8], at: Place) -> &'a [u8]
     ensures { result.now ≡ text_of words.now script.now at }
 {
     match at {

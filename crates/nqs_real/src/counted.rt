@@ -7,7 +7,7 @@ use nqs_outside::Failed;
 use std::io;
 
 /// The answer of a call: where it failed, the count rises, and what was wrong is not told.
-pub fn counted<T: Drop>(made: io::Result<T>, faults: &mut u64) -> Result<T, Failed>
+pub(crate) fn counted<T: Drop>(made: io::Result<T>, faults: &mut u64) -> Result<T, Failed>
     ensures value { IfOk result (λ value. made ≡ Ok value) }
     ensures cause { HasCause faults.old faults.new result }
 {

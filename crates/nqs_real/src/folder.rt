@@ -13,12 +13,12 @@ use std::rt::HostRuntime;
 use std::{fs, io};
 
 /// Makes what stands in the folder outlast a stop: that a file is there, and under which name.
-pub fn sync_folder(rt: &HostRuntime, folder: &str) -> io::Result<()> {
+pub(crate) fn sync_folder(rt: &HostRuntime, folder: &str) -> io::Result<()> {
     File::open(rt, folder)?.sync_all()
 }
 
 /// Makes a folder for its owner alone, where it isn't there. Did it?
-pub fn make_private(rt: &HostRuntime, path: &str) -> io::Result<bool> {
+pub(crate) fn make_private(rt: &HostRuntime, path: &str) -> io::Result<bool> {
     let mut builder = DirBuilder::new();
     builder.mode(0o700);
     match builder.create(rt, path) {
@@ -29,7 +29,7 @@ pub fn make_private(rt: &HostRuntime, path: &str) -> io::Result<bool> {
 }
 
 /// The path of a folder in another. Where it isn't there it is made, and the other is synced.
-pub fn make_folder(rt: &HostRuntime, parent: &str, name: &str) -> io::Result<String> {
+pub(crate) fn make_folder(rt: &HostRuntime, parent: &str, name: &str) -> io::Result<String> {
     let path = format!(in rt.alloc(); "{parent}/{name}")?;
     if make_private(rt, &path)? {
         sync_folder(rt, parent)?;
@@ -38,7 +38,7 @@ pub fn make_folder(rt: &HostRuntime, parent: &str, name: &str) -> io::Result<Str
 }
 
 /// A name as text: its bytes are letters, digits, `_` and `-`.
-pub fn name_text(name: &Name) -> io::Result<&str>
+pub(crate) fn name_text(name: &Name) -> io::Result<&str>
     ensures { IfOk result (λ text. text.now ≡ name.now) }
 {
     match str::from_utf8(name.as_bytes()) {
@@ -48,7 +48,7 @@ pub fn name_text(name: &Name) -> io::Result<&str>
 }
 
 /// The name of a host of the site. Another host is an `Err`.
-pub fn host_text(site: &[SiteHost], host: HostId) -> io::Result<&str>
+pub(crate) fn host_text(site: &[SiteHost], host: HostId) -> io::Result<&str>
     ensures { IfOk result (λ text. text.now ≡ name_at host.0 site.now) }
 {
     match site.get(host.0 as usize) {
@@ -58,7 +58,7 @@ pub fn host_text(site: &[SiteHost], host: HostId) -> io::Result<&str>
 }
 
 /// A request as users write it: `SEQ.HOST`.
-pub fn request_text(rt: &HostRuntime, site: &[SiteHost], id: RequestId) -> io::Result<String>
+pub(crate) fn request_text(rt: &HostRuntime, site: &[SiteHost], id: RequestId) -> io::Result<String>
     ensures { IfOk result (λ text. string_bytes text ≡ request_text id site.now) }
 {
     let host = host_text(site, id.host)?;
@@ -79,7 +79,7 @@ pub fn make_host_folder(
 /// The folder `jobs` of a host, below this folder, as a path from the root without links. The
 /// host's folder is there; the folder
 /// `jobs` need not be.
-pub fn jobs_path(rt: &HostRuntime, folder: &str) -> io::Result<String> {
+pub(crate) fn jobs_path(rt: &HostRuntime, folder: &str) -> io::Result<String> {
     let folder = fs::canonicalize(rt, folder)?;
     Ok(format!(in rt.alloc(); "{}/jobs", folder.as_str())?)
 }

@@ -50,7 +50,7 @@ pub fn own_program(rt: &HostRuntime) -> io::Result<String> {
 }
 
 /// The folder of a job, by its name in the folder `jobs`.
-pub fn job_name(
+pub(crate) fn job_name(
     rt: &HostRuntime,
     site: &[SiteHost],
     id: RequestId,

@@ -55,7 +55,7 @@ fn is_mark(entry: &[u8], mark: &Mark) -> bool
 }
 
 /// Is the mark an entry of this environment, whose entries are parted by NULs?
-pub fn is_marked(environ: &[u8], mark: &Mark) -> bool
+pub(crate) fn is_marked(environ: &[u8], mark: &Mark) -> bool
     ensures { result ≡ is_marked mark.now environ.now }
 {
     environ
@@ -129,19 +129,19 @@ fn end_marked(rt: &HostRuntime, mark: &Mark) -> io::Result<()> {
 }
 
 /// Has what a command starts be known as a process of the job with this folder.
-pub fn put_mark(command: &mut Command, place: &str) -> Result<(), AllocError> {
+pub(crate) fn put_mark(command: &mut Command, place: &str) -> Result<(), AllocError> {
     command.env(JOB, place)?;
     Ok(())
 }
 
 /// Ends what is left of the job with this folder, but for this process. It fails as `end_jobs`
 /// does.
-pub fn end_job(rt: &HostRuntime, place: &str) -> io::Result<()> {
+pub(crate) fn end_job(rt: &HostRuntime, place: &str) -> io::Result<()> {
     end_marked(rt, &Mark::Is(format!(in rt.alloc(); "{JOB}={place}")?))
 }
 
 /// Ends what is left of each job whose folder is in this one, but for this process. Where there is
 /// some left after twenty looks, in about a second and a half, it fails with `TimedOut`.
-pub fn end_jobs(rt: &HostRuntime, jobs: &str) -> io::Result<()> {
+pub(crate) fn end_jobs(rt: &HostRuntime, jobs: &str) -> io::Result<()> {
     end_marked(rt, &Mark::Begins(format!(in rt.alloc(); "{JOB}={jobs}/")?))
 }

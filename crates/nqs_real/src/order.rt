@@ -25,7 +25,7 @@ fn limit_line(rt: &HostRuntime, key: &str, limit: Option<u64>) -> io::Result<Str
 }
 
 /// The text of the file.
-pub fn order_text(rt: &HostRuntime, order: &LaunchOrder) -> io::Result<String> {
+pub(crate) fn order_text(rt: &HostRuntime, order: &LaunchOrder) -> io::Result<String> {
     let name = name_text(&order.name)?;
     let owner = name_text(&order.owner)?;
     let queue = name_text(&order.queue)?;
@@ -61,7 +61,7 @@ fn limit_of(text: &str, key: &str) -> io::Result<Option<u64>> {
 }
 
 /// The order of the file with this text.
-pub fn read_order(text: &str) -> io::Result<JobOrder<'_>> {
+pub(crate) fn read_order(text: &str) -> io::Result<JobOrder<'_>> {
     let (Some(owner), Some(queue)) = (value_of(text, "owner"), value_of(text, "queue")) else {
         return Err(invalid());
     };

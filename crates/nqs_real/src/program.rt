@@ -6,7 +6,7 @@ use std::process::{Child, Command, Stdio};
 use std::rt::HostRuntime;
 
 /// Adds words to a command, in order.
-pub fn add_words(command: &mut Command, words: &[&str]) -> Result<(), AllocError> {
+pub(crate) fn add_words(command: &mut Command, words: &[&str]) -> Result<(), AllocError> {
     for word in words {
         command.arg(*word)?;
     }
@@ -14,7 +14,7 @@ pub fn add_words(command: &mut Command, words: &[&str]) -> Result<(), AllocError
 }
 
 /// Starts a program whose three streams are `/dev/null`.
-pub fn start_quietly(rt: &HostRuntime, command: &mut Command) -> io::Result<Child> {
+pub(crate) fn start_quietly(rt: &HostRuntime, command: &mut Command) -> io::Result<Child> {
     command
         .stdin(Stdio::null())
         .stdout(Stdio::null())
@@ -32,7 +32,7 @@ fn run_quietly(rt: &HostRuntime, program: &str, words: &[&str]) -> io::Result<()
 }
 
 /// Sends SIGKILL to the processes with these numbers. One that has ended is passed over.
-pub fn end_processes(rt: &HostRuntime, numbers: &[String]) -> io::Result<()> {
+pub(crate) fn end_processes(rt: &HostRuntime, numbers: &[String]) -> io::Result<()> {
     let mut command = Command::new(rt.alloc(), "kill")?;
     add_words(&mut command, &["-KILL", "--"])?;
     for number in numbers {
@@ -46,7 +46,7 @@ pub fn end_processes(rt: &HostRuntime, numbers: &[String]) -> io::Result<()> {
 /// ends the leader's group at once,
 /// `pkill` then what has a group of its own. A process that began a session of its own is not found:
 /// `crate::leftovers` finds it.
-pub fn end_session(rt: &HostRuntime, leader: u32) -> io::Result<()> {
+pub(crate) fn end_session(rt: &HostRuntime, leader: u32) -> io::Result<()> {
     let group = format!(in rt.alloc(); "-{leader}")?;
     let ended = run_quietly(rt, "kill", &["-KILL", "--", group.as_str()]);
     let session = group.trim_start_matches('-');

@@ -12,7 +12,7 @@ const LONGEST: usize = 255;
 
 /// Does the path name a file below the folder that it starts from: 1 to 255 bytes that are seen, no
 /// `/` in front, and no part `..`?
-pub fn is_below(path: &str) -> bool {
+pub(crate) fn is_below(path: &str) -> bool {
     let fits = !path.is_empty() && path.len() <= LONGEST;
     let is_seen = path.bytes().all(|byte| byte.is_ascii_graphic());
     let climbs = path.split('/').any(|part| part == "..");
@@ -63,7 +63,12 @@ fn folder_at(path: &str, place: usize) -> Option<&str> {
 /// Puts a file at a path below the folder, in place of one that was there; folders on its way are
 /// made. At Ok it outlasts a stop, and at an `Err` either file may be there, whole. The bytes are
 /// first written to the file `FOLDER.new`.
-pub fn put_file(rt: &HostRuntime, folder: &str, path: &[u8], bytes: &[u8]) -> io::Result<()> {
+pub(crate) fn put_file(
+    rt: &HostRuntime,
+    folder: &str,
+    path: &[u8],
+    bytes: &[u8],
+) -> io::Result<()> {
     let path = path_text(path)?;
     let new = format!(in rt.alloc(); "{folder}.new")?;
     let place = format!(in rt.alloc(); "{folder}/{path}")?;

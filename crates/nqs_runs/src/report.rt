@@ -42,7 +42,7 @@ fn put_bad_line(alloc: Global, line: u64, cause: Cause, out: &mut Vec<u8>) -> Re
 }
 
 /// Writes the line that names the first bad line.
-pub fn report<K: Sink>(alloc: Global, fault: LineFault, out: &mut K) -> Status
+pub(crate) fn report<K: Sink>(alloc: Global, fault: LineFault, out: &mut K) -> Status
     ensures { Reports fault.line fault.cause (sunk K.taken K.faults K.stalls out.old out.new) result }
 {
     let mut text = Vec::new(alloc);

@@ -226,7 +226,7 @@ fn run_world<K: Sink>(
 /// disks are those of the hosts as the run leaves them. After an `Err` a front of the text is
 /// written, which after `Memory` may be the whole of it. `Full` comes of a write of a disk of a
 /// host, past its greatest length.
-pub fn run<K: Sink>(
+pub(crate) fn run<K: Sink>(
     alloc: Global,
     summary: bool,
     site: &[Name],

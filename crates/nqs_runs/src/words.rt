@@ -164,7 +164,7 @@ fn stop_of(error: &Error) -> WordsStop
 }
 
 /// What the words ask for, or that they are in no form.
-pub fn read_words(alloc: Global, words: &[String]) -> Result<Ask, WordsStop>
+pub(crate) fn read_words(alloc: Global, words: &[String]) -> Result<Ask, WordsStop>
     ensures { ReadsWords (map (λ s. string_bytes s) words.now) result }
 {
     match command(alloc) {

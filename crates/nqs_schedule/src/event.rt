@@ -67,7 +67,7 @@ fn qmgr_text(alloc: Global, line: &[u8], words: &LineWords) -> Result<Bytes, Mem
 }
 
 /// The event that a plan stands for, by its line and the line's words.
-pub fn event_of(
+pub(crate) fn event_of(
     alloc: Global,
     line: &[u8],
     words: &LineWords,

@@ -167,7 +167,7 @@ fn words_say(
 /// What a line says on a site of at most 16 hosts; `is_open` says that no line before it said
 /// anything, so that it may still name the hosts.
 #[tactic(auto, unfolding(crate::specs::Says::line_says))]
-pub fn line_says(
+pub(crate) fn line_says(
     alloc: Global,
     site: &[Name],
     is_open: bool,

@@ -74,7 +74,7 @@ pub enum Plan {
 
 /// What the first word of a line stands for.
 #[tactic(auto, unfolding(crate::specs::Plans::verb_of))]
-pub fn verb_of(text: &[u8]) -> Option<Verb>
+pub(crate) fn verb_of(text: &[u8]) -> Option<Verb>
     ensures { result ≡ verb_of text.now }
 {
     if b"hosts".as_slice() == text {
@@ -297,7 +297,7 @@ fn show_plan(words: &LineWords) -> Result<Plan, Cause>
 
 /// What the line of a verb asks for, or the first cause why it is bad. A line of hosts is no event.
 #[tactic(auto, unfolding(crate::specs::Plans::plan_of))]
-pub fn plan_of(site: &[Name], words: &LineWords, verb: Verb) -> Result<Plan, Cause>
+pub(crate) fn plan_of(site: &[Name], words: &LineWords, verb: Verb) -> Result<Plan, Cause>
     ensures { result ≡ plan_of site.now words.now verb }
 {
     match verb {

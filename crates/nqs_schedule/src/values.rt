@@ -25,7 +25,7 @@ fn no_word(words: &LineWords) -> Cause
 
 /// That a word stands there.
 #[tactic(auto, unfolding(crate::specs::Words::text_there, crate::specs::Words::text_at))]
-pub fn text_there(words: &LineWords, place: usize) -> Result<(), Cause>
+pub(crate) fn text_there(words: &LineWords, place: usize) -> Result<(), Cause>
     ensures { result ≡ text_there words.now place }
 {
     match words.words.as_slice().get(place) {
@@ -36,7 +36,7 @@ pub fn text_there(words: &LineWords, place: usize) -> Result<(), Cause>
 
 /// The word as a name.
 #[tactic(auto, unfolding(crate::specs::Words::name_at, crate::specs::Words::text_at))]
-pub fn name_at(words: &LineWords, place: usize) -> Result<Name, Cause>
+pub(crate) fn name_at(words: &LineWords, place: usize) -> Result<Name, Cause>
     ensures { result ≡ name_at words.now place }
 {
     match words.words.as_slice().get(place) {
@@ -50,7 +50,7 @@ pub fn name_at(words: &LineWords, place: usize) -> Result<Name, Cause>
 
 /// The word as a number between these two.
 #[tactic(auto, unfolding(crate::specs::Words::number_at, crate::specs::Words::text_at))]
-pub fn number_at(low: u64, high: u64, words: &LineWords, place: usize) -> Result<u64, Cause>
+pub(crate) fn number_at(low: u64, high: u64, words: &LineWords, place: usize) -> Result<u64, Cause>
     ensures number { result ≡ number_at low high words.now place }
     ensures bound { IfOk result (λ n. n ≤ high) }
 {
@@ -71,7 +71,7 @@ fn place_of_host(site: &[Name], name: &Name) -> Option<usize>
 }
 
 /// Is there a host of this name?
-pub fn is_host(site: &[Name], name: &Name) -> bool
+pub(crate) fn is_host(site: &[Name], name: &Name) -> bool
     ensures { result ≡ is_some (position (name_eq name.now) site.now) }
 {
     place_of_host(site, name).is_some()
@@ -93,7 +93,7 @@ fn host_of(site: &[Name], name: &Name) -> Result<HostId, Cause>
 
 /// The word as a host of the site.
 #[tactic(auto, unfolding(crate::specs::Words::host_at))]
-pub fn host_at(site: &[Name], words: &LineWords, place: usize) -> Result<HostId, Cause>
+pub(crate) fn host_at(site: &[Name], words: &LineWords, place: usize) -> Result<HostId, Cause>
     ensures { result ≡ host_at site.now words.now place }
 {
     let name = name_at(words, place)?;
@@ -102,7 +102,7 @@ pub fn host_at(site: &[Name], words: &LineWords, place: usize) -> Result<HostId,
 
 /// The word as a request, `SEQ.HOST`.
 #[tactic(auto, unfolding(crate::specs::Words::request_at, crate::specs::Words::text_at))]
-pub fn request_at(site: &[Name], words: &LineWords, place: usize) -> Result<RequestId, Cause>
+pub(crate) fn request_at(site: &[Name], words: &LineWords, place: usize) -> Result<RequestId, Cause>
     ensures { result ≡ request_at site.now words.now place }
 {
     let Some(word) = words.words.as_slice().get(place) else {
@@ -136,7 +136,7 @@ fn disk_of(text: &[u8]) -> Option<Which>
 
 /// The word as a disk.
 #[tactic(auto, unfolding(crate::specs::Words::disk_at, crate::specs::Words::text_at))]
-pub fn disk_at(words: &LineWords, place: usize) -> Result<Which, Cause>
+pub(crate) fn disk_at(words: &LineWords, place: usize) -> Result<Which, Cause>
     ensures { result ≡ disk_at words.now place }
 {
     match words.words.as_slice().get(place) {
@@ -188,7 +188,7 @@ fn tear_of(text: &[u8]) -> Result<Tear, Cause>
 
 /// The word as what a stop leaves.
 #[tactic(auto, unfolding(crate::specs::Words::tear_at, crate::specs::Words::text_at))]
-pub fn tear_at(words: &LineWords, place: usize) -> Result<Tear, Cause>
+pub(crate) fn tear_at(words: &LineWords, place: usize) -> Result<Tear, Cause>
     ensures { result ≡ tear_at words.now place }
 {
     match words.words.as_slice().get(place) {
@@ -199,7 +199,7 @@ pub fn tear_at(words: &LineWords, place: usize) -> Result<Tear, Cause>
 
 /// That the word, where there is one, is no longer than an output may be.
 #[tactic(auto, unfolding(crate::specs::Words::output_at, crate::specs::Words::all_good))]
-pub fn output_at(words: &LineWords, place: usize) -> Result<(), Cause>
+pub(crate) fn output_at(words: &LineWords, place: usize) -> Result<(), Cause>
     ensures { result ≡ output_at words.now place }
 {
     let Some(word) = words.words.as_slice().get(place) else {
@@ -213,7 +213,7 @@ pub fn output_at(words: &LineWords, place: usize) -> Result<(), Cause>
 
 /// That no word stands there, not even a badly quoted one.
 #[tactic(auto, unfolding(crate::specs::Words::nothing_at))]
-pub fn nothing_at(words: &LineWords, place: usize) -> Result<(), Cause>
+pub(crate) fn nothing_at(words: &LineWords, place: usize) -> Result<(), Cause>
     ensures { result ≡ nothing_at words.now place }
 {
     if words.words.as_slice().get(place).is_some() {
@@ -227,7 +227,7 @@ pub fn nothing_at(words: &LineWords, place: usize) -> Result<(), Cause>
 
 /// That no word is quoted badly.
 #[tactic(auto, unfolding(crate::specs::Words::all_good))]
-pub fn all_good(words: &LineWords) -> Result<(), Cause>
+pub(crate) fn all_good(words: &LineWords) -> Result<(), Cause>
     ensures { result ≡ all_good words.now }
 {
     if words.bad {

@@ -101,7 +101,7 @@ fn next_of(alloc: Global, line: &[u8], place: usize) -> Result<Next, Memory>
 }
 
 /// The words of a line.
-pub fn line_words(alloc: Global, line: &[u8]) -> Result<LineWords, Memory>
+pub(crate) fn line_words(alloc: Global, line: &[u8]) -> Result<LineWords, Memory>
     ensures { IfOk result (λ words. words ≡ line_words line.now) }
 {
     let mut words = Items::new(alloc);

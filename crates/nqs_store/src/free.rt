@@ -234,7 +234,7 @@ fn free_file<D: Disk>(spool: &mut Spool<D>, state: &HostState, file: u64)
 
 /// Frees what a change takes away of the extents of a host, whose state from before the change is
 /// given, and what it doesn't take up of its own. It takes no memory.
-pub fn free_gone<D: Disk>(spool: &mut Spool<D>, state: &HostState, change: &Change)
+pub(crate) fn free_gone<D: Disk>(spool: &mut Spool<D>, state: &HostState, change: &Change)
     ensures tells { (live fewer : List Extent) → Tells spool.old live → Takes live (gone change.now (content state.now)) fewer → Tells spool.new fewer }
     ensures same { disk_of spool.new ≡ disk_of spool.old }
 {

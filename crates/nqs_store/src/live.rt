@@ -30,7 +30,7 @@ fn add_parts<K: Key, V: Keyed<K> + Drop, F: Fn(&V) -> Extent>(
 }
 
 /// The live extents of a host: those of rows, promises, stages and files, in this order.
-pub fn live_extents(alloc: Global, state: &HostState) -> Result<Vec<Extent>, Memory>
+pub(crate) fn live_extents(alloc: Global, state: &HostState) -> Result<Vec<Extent>, Memory>
     ensures { IfOk result (λ extents. extents.items ≡ live (content state.now)) }
 {
     let mut extents = Vec::new(alloc);

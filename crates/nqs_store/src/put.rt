@@ -57,7 +57,7 @@ fn put_one<D: Disk>(spool: &mut Spool<D>, bytes: &[u8]) -> Result<Extent, Failed
 
 /// Puts each list of bytes, at most 32,768 of them, and adds its extent. Room was made for them in
 /// the spool and in the list. After a fault the spool is to be closed.
-pub fn put_all<D: Disk>(
+pub(crate) fn put_all<D: Disk>(
     spool: &mut Spool<D>,
     puts: &[Bytes],
     extents: &mut Vec<Extent>,
@@ -113,7 +113,7 @@ fn set_part_extents(parts: &mut [OutPart], extents: &[Extent])
 }
 
 /// Sets the extents of a change, in order. It takes no memory.
-pub fn set_extents(alloc: Global, change: &mut Change, extents: &[Extent])
+pub(crate) fn set_extents(alloc: Global, change: &mut Change, extents: &[Extent])
     ensures { change.new ≡ with_extents change.old extents.now }
 {
     match change {
@@ -130,7 +130,7 @@ pub fn set_extents(alloc: Global, change: &mut Change, extents: &[Extent])
 }
 
 /// The change's record, and memory for all that is put. It makes no call of a disk.
-pub fn prepared<D: Disk>(
+pub(crate) fn prepared<D: Disk>(
     alloc: Global,
     spool: &mut Spool<D>,
     change: &Change,
@@ -152,7 +152,7 @@ pub fn prepared<D: Disk>(
 
 /// Puts the bytes into the spool, and their extents into the change and its record. After a fault
 /// the spool is to be closed.
-pub fn put_bytes<D: Disk>(
+pub(crate) fn put_bytes<D: Disk>(
     alloc: Global,
     spool: &mut Spool<D>,
     change: &mut Change,

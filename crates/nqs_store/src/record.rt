@@ -13,7 +13,7 @@ use nqs_journal::Journal;
 use nqs_outside::{Disk, Failed};
 
 /// Appends a record, at most 65,536 bytes of it. After a fault the journal is stopped.
-pub fn append_record<D: Disk>(first: &mut Journal<D>, text: &[u8]) -> Result<(), Failed>
+pub(crate) fn append_record<D: Disk>(first: &mut Journal<D>, text: &[u8]) -> Result<(), Failed>
     requires short { length text.now ≤ 65536 }
     requires running { is_stopped first.old ≡ false }
     ensures fault { OnErr result (Rose (D.faults (disk_of first.old)) (D.faults (disk_of first.new))) }

@@ -135,7 +135,7 @@ fn take_record(
 }
 
 /// The host that these records tell.
-pub fn tell(alloc: Global, payloads: &[Bytes]) -> Result<HostState, TellFault>
+pub(crate) fn tell(alloc: Global, payloads: &[Bytes]) -> Result<HostState, TellFault>
     requires { length (header ++ records payloads.now) ≤ 2 ^ 40 }
     ensures ok { IfOk result (λ state. (told payloads.now ≡ Some (content state)) × IsSoundHost (content state)) }
     ensures err { IfErr result (IsTellFault payloads.now) }
