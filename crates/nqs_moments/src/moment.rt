@@ -2,7 +2,7 @@
 //!
 //! The dates are jiff's, the seconds of the day are counted here. There are no leap seconds.
 
-ghost use Rattle.std.specs.Prelude.{◌≡◌, ◌+◌, ◌^◌, ◌<◌, ◌≤◌, ◌≤ℤ◌, ℕ, length, pos, None, MatchOption};
+ghost use Rattle.std.specs.Prelude.{◌≡◌, ◌+◌, ◌^◌, ◌<◌, ◌≤◌, ◌≤ℤ◌, ◌++◌, ℕ, length, pos, None, MatchOption, OnOk};
 ghost use Rattle.std.specs.Prelude.{◌%◌};
 ghost use Rattle.jiff_core.specs.Date.{epoch_day};
 ghost use Rattle.nqs_text.specs.Dates.{moment_text, date_text};
@@ -169,7 +169,8 @@ fn date_of(days: u64) -> civil::Date
 
 /// Appends the text of the moment.
 pub fn print_moment(_: Global, moment: u64, out: &mut Vec<u8>) -> Result<(), PrintFault>
-    ensures { PrintsMoment out.old.items moment result out.new.items }
+    ensures printed { PrintsMoment out.old.items moment result out.new.items }
+    ensures date { OnOk result (out.new.items ≡ out.old.items ++ date_text moment) }
 {
     if moment > 253_402_214_400 {
         return Err(PrintFault::Range);

@@ -1,7 +1,9 @@
-use Rattle.std.proofs.Common.{arith, ◌∙◌, ◌/◌, ◌%◌}
+use Rattle.std.proofs.Common.{ℕ, arith, ap, ◌∙◌, ◌/◌, ◌%◌, List, ◌++◌}
 use Rattle.jiff_core.proofs.SignedLemmas.{signed_arith}
 use Rattle.nqs_moments.specs.Moment.{IsMoment}
-use Rattle.nqs_moments.proofs.Moments.{year_is, second_is}
+use Rattle.nqs_text.specs.Dates.{date_text}
+use Rattle.nqs_moments.proofs.Dates.{date_is_moment}
+use Rattle.nqs_moments.proofs.Moments.{year_is, second_is, one_text}
 use Rattle.nqs_moments.proofs.moment.print_moment.Goals as goal
 
 pub returns-in-Ok : goal.returns-in-Ok
@@ -21,4 +23,8 @@ returns-in-Ok c =
       text = text;
       is_second = second_is date c.from.result moment year known.day;
     } in
-    (c.if-moment-gt253402214400.false, c.text_of-text.result, is, c.in-Ok.ensures.items)
+    let within = c.if-moment-gt253402214400.false in
+    record {
+      printed = (within, c.text_of-text.result, is, c.in-Ok.ensures.items);
+      date = c.in-Ok.ensures.items ∙ ap (λ (l : List ℕ). c.args.out.now.items ++ l) (one_text c.text_of-text.result (date_text moment) moment is (date_is_moment moment within));
+    }
