@@ -22,8 +22,9 @@ fn is_active_of(row: &Row, queue: &Name, owner: &Name) -> bool
     is_active_in(row, queue) && *owner == row.job.owner
 }
 
-// Whether the owner has fewer active requests in the queue than its user limit.
-fn user_allows(state: &HostState, queue: &QueueDef, owner: &Name) -> bool
+/// Whether fewer requests of the owner run in the queue, or are on their way, than its user limit;
+/// true where it has none.
+pub fn user_allows(state: &HostState, queue: &QueueDef, owner: &Name) -> bool
     ensures { result ≡ below (length (filter (is_active_of queue.now.name owner.now) state.now.rows.items)) queue.now.user_limit }
 {
     match queue.user_limit {
@@ -37,7 +38,10 @@ fn user_allows(state: &HostState, queue: &QueueDef, owner: &Name) -> bool
     }
 }
 
-fn kind_allows(state: &HostState, queue: &QueueDef, now: u64, row: &Row) -> bool
+/// Whether the queue can do something with the row at a moment, in seconds since 1970: a device is
+/// free that has its forms, or a destination may be tried, or it was moved 32 times. A batch queue
+/// always can.
+pub fn kind_allows(state: &HostState, queue: &QueueDef, now: u64, row: &Row) -> bool
     ensures { result ≡ kind_allows queue.now.kind queue.now now (content state.now) row.now }
 {
     match queue.kind {
@@ -58,7 +62,9 @@ fn is_waiting(queue: &QueueDef, now: u64, row: &Row) -> bool
         && queue.name == row.queue
 }
 
-fn is_eligible(state: &HostState, queue: &QueueDef, now: u64, row: &Row) -> bool
+/// Whether the row may start from the queue at a moment, in seconds since 1970, as far as the row
+/// itself goes: whether the queue may start one more isn't asked, but for its user limit.
+pub fn is_eligible(state: &HostState, queue: &QueueDef, now: u64, row: &Row) -> bool
     ensures { result ≡ is_eligible queue.now now (content state.now) row.now }
 {
     is_waiting(queue, now, row)

@@ -11,6 +11,6 @@ mod eligible;
 mod limits;
 
 pub use choice::pick;
-pub use eligible::{comes_before, first_eligible};
-pub use limits::within_limits;
+pub use eligible::{comes_before, first_eligible, is_eligible, kind_allows, user_allows};
+pub use limits::{complex_allows, global_allows, run_allows, within_limits};
 pub use nqs_types::Choice;

@@ -5,13 +5,12 @@
 #![tactic(auto)]
 
 mod laws;
-mod put;
 mod refusal;
 mod reply;
 mod words;
 
 pub use laws::words_as_written;
-pub use put::{put_decimal, put_host, put_id, put_line_end, put_named, put_text, put_word};
+pub use nqs_put::{put_decimal, put_host, put_id, put_line_end, put_named, put_text, put_word};
 pub use refusal::put_refusal;
 pub use reply::print_reply;
 pub use words::{NotNames, read_qdel, read_qstat};

@@ -5,19 +5,10 @@ ghost use Rattle.nqs_rules.specs.Text.{named_text};
 ghost use Rattle.nqs_rules.specs.Transcript.{refusal_text};
 ghost use Rattle.nqs_types.specs.declared.refusal.Refusal.TheVariants.{NoRequest, QueueInUse};
 
-use crate::put::{put_decimal, put_named, put_text};
+use nqs_put::{put_about, put_decimal, put_named, put_text};
 use nqs_types::{Named, Refusal};
 use nqs_values::{Memory, Name};
 use std::alloc::Global;
-
-// A name between two texts.
-fn put_about(before: &[u8], name: &Name, after: &[u8], out: &mut Vec<u8>) -> Result<(), Memory>
-    ensures { OnOk result (out.new.items ≡ out.old.items ++ (before.now ++ name.now ++ after.now)) }
-{
-    put_text(before, out)?;
-    put_text(name.as_bytes(), out)?;
-    put_text(after, out)
-}
 
 // A text and a name.
 fn put_of(before: &[u8], name: &Name, out: &mut Vec<u8>) -> Result<(), Memory>

@@ -3,7 +3,7 @@ use Rattle.std.proofs.Common.{◌≡◌, Bool, true, false, cond, not, ◌&&◌,
 use Rattle.std.proofs.Common.{inl, inr, if◌then◌else◌}
 use Rattle.std.specs.List.{list_all}
 use Rattle.nqs_rules.proofs.ListFacts.{not_true, list_all-weaker}
-use Rattle.nqs_reasons.specs.Reasons.{Conditions, first_failing}
+use Rattle.nqs_rules.specs.Reasons.{Conditions, first_failing}
 use Rattle.nqs_reasons.specs.Chosen.{all_hold, IsFirstFailing}
 
 module _ {V A : Type 0} (holds : V → Bool) (said : V → A) where

@@ -2,6 +2,4 @@ pub mod Failing
 pub mod Next
 pub mod Tried
 pub mod Picks
-pub mod Bytes
 pub mod Texts
-pub mod Dates

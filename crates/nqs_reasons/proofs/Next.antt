@@ -22,10 +22,10 @@ use Rattle.nqs_rules.specs.Picked.{PlainRow, has_eligible, may_start}
 use Rattle.nqs_rules.proofs.ListFacts.{found_passes, list_all-weaker}
 use Rattle.nqs_rules.proofs.KeyFacts.{found_any, all_get}
 use Rattle.nqs_rules.proofs.RowFacts.{same_name, row_is}
-use Rattle.nqs_reasons.specs.declared.reasons.Reason.{Reason}
-use Rattle.nqs_reasons.specs.declared.reasons.Reason.TheVariants.{NoQueue, Next}
-use Rattle.nqs_reasons.specs.Reasons.{first_failing, state_reason, hold_reason, row_conditions, complex_condition, global_condition, kind_conditions}
-use Rattle.nqs_reasons.specs.Reasons.{conditions, goes_first, next_in, reason_in, reason_of}
+use Rattle.nqs_types.specs.declared.reason.Reason.{Reason}
+use Rattle.nqs_types.specs.declared.reason.Reason.TheVariants.{NoQueue, Next}
+use Rattle.nqs_rules.specs.Reasons.{first_failing, state_reason, hold_reason, row_conditions, complex_condition, global_condition, kind_conditions}
+use Rattle.nqs_rules.specs.Reasons.{conditions, goes_first, next_in, reason_in, reason_of}
 use Rattle.nqs_reasons.specs.Chosen.{is_next, all_hold}
 use Rattle.nqs_reasons.proofs.Failing.{and_true, told_last, not_said, all_passed}
 

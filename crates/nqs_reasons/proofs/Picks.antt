@@ -23,8 +23,8 @@ use Rattle.nqs_rules.proofs.KeyFacts.{all_get, any-before, none_passes}
 use Rattle.nqs_rules.proofs.RowFacts.{same_name, same_it}
 use Rattle.nqs_rules.proofs.StateFacts.{keys_are}
 use Rattle.nqs_rules.proofs.PickLaws.{eligible_parts, picked_is, picked_is_some}
-use Rattle.nqs_reasons.specs.declared.reasons.Reason.TheVariants.{Next}
-use Rattle.nqs_reasons.specs.Reasons.{goes_first, waits_before, count_before, reason_of}
+use Rattle.nqs_types.specs.declared.reason.Reason.TheVariants.{Next}
+use Rattle.nqs_rules.specs.Reasons.{goes_first, waits_before, count_before, reason_of}
 use Rattle.nqs_reasons.specs.Chosen.{is_next, StartsBefore, IsAtOrBefore}
 use Rattle.nqs_reasons.proofs.Failing.{both_parts, and_false}
 use Rattle.nqs_reasons.proofs.Next.{found_named, next_is, next_without, next_count, next_said}

@@ -31,13 +31,13 @@ use Rattle.nqs_rules.proofs.ListFacts.{list_all-found}
 use Rattle.nqs_rules.proofs.KeyFacts.{any_found, all_get}
 use Rattle.nqs_rules.proofs.QueuesOrder.{queue_is}
 use Rattle.nqs_rules.proofs.StateFacts.{sites_are}
-use Rattle.nqs_reasons.specs.declared.reasons.Reason.{Reason}
-use Rattle.nqs_reasons.specs.declared.reasons.Reason.TheVariants.{NoDestination}
-use Rattle.nqs_reasons.specs.declared.reasons.DestAnswer.{DestAnswer}
-use Rattle.nqs_reasons.specs.declared.reasons.DestAnswer.TheVariants.{NoHost, NoNumberLeft, HandingOver, WaitedFor, MayBeTried}
-use Rattle.nqs_reasons.specs.Reasons.{first_failing, state_reason, hold_reason, complex_condition, global_condition, kind_conditions, conditions, next_in}
-use Rattle.nqs_reasons.specs.Reasons.{reason_in, reason_of}
-use Rattle.nqs_reasons.specs.Answers.{refusal_conditions, peer_conditions, host_conditions, answer_of}
+use Rattle.nqs_types.specs.declared.reason.Reason.{Reason}
+use Rattle.nqs_types.specs.declared.reason.Reason.TheVariants.{NoDestination}
+use Rattle.nqs_types.specs.declared.reason.DestAnswer.{DestAnswer}
+use Rattle.nqs_types.specs.declared.reason.DestAnswer.TheVariants.{NoHost, NoNumberLeft, HandingOver, WaitedFor, MayBeTried}
+use Rattle.nqs_rules.specs.Reasons.{first_failing, state_reason, hold_reason, complex_condition, global_condition, kind_conditions, conditions, next_in}
+use Rattle.nqs_rules.specs.Reasons.{reason_in, reason_of}
+use Rattle.nqs_rules.specs.Answers.{refusal_conditions, peer_conditions, host_conditions, answer_of}
 use Rattle.nqs_reasons.specs.Chosen.{may_be_tried}
 use Rattle.nqs_reasons.proofs.Failing.{or_true, and_false, not_told, not_said}
 

@@ -7,11 +7,11 @@ use Rattle.nqs_rules.specs.Order.{is_greater, comes_before}
 use Rattle.nqs_rules.specs.Picked.{PlainRow, row_place}
 use Rattle.nqs_types.specs.declared.queue.QueueDef.{QueueDef}
 use Rattle.nqs_types.specs.declared.rule.Choice.{Choice}
-use Rattle.nqs_reasons.specs.declared.reasons.Reason.{Reason}
-use Rattle.nqs_reasons.specs.declared.reasons.Reason.TheVariants.{Next}
-use Rattle.nqs_reasons.specs.declared.reasons.DestAnswer.{DestAnswer}
-use Rattle.nqs_reasons.specs.declared.reasons.DestAnswer.TheVariants.{MayBeTried}
-use Rattle.nqs_reasons.specs.Reasons.{Conditions}
+use Rattle.nqs_types.specs.declared.reason.Reason.{Reason}
+use Rattle.nqs_types.specs.declared.reason.Reason.TheVariants.{Next}
+use Rattle.nqs_types.specs.declared.reason.DestAnswer.{DestAnswer}
+use Rattle.nqs_types.specs.declared.reason.DestAnswer.TheVariants.{MayBeTried}
+use Rattle.nqs_rules.specs.Reasons.{Conditions}
 
 -- nothing stands in the way but the order
 abbrev pub is_next : Reason → Bool

@@ -1,5 +1,1 @@
-pub mod Reasons
-pub mod Answers
 pub mod Chosen
-pub mod Spelled
-pub mod Worked

@@ -5,14 +5,13 @@ ghost use Rattle.std.specs.List.{list_any};
 ghost use Rattle.std.specs.Option.{option_copied};
 ghost use Rattle.nqs_state.specs.State.{content};
 ghost use Rattle.nqs_rules.specs.Routing.{is_hand_to, refuses};
-ghost use Rattle.nqs_reasons.specs.Reasons.{first_failing};
-ghost use Rattle.nqs_reasons.specs.Answers.{peer_conditions, host_conditions, answer_of};
-ghost use Rattle.nqs_reasons.specs.declared.reasons.DestAnswer.TheVariants.{MayBeTried};
+ghost use Rattle.nqs_rules.specs.Reasons.{first_failing};
+ghost use Rattle.nqs_rules.specs.Answers.{peer_conditions, host_conditions, answer_of};
+ghost use Rattle.nqs_types.specs.declared.reason.DestAnswer.TheVariants.{MayBeTried};
 
-use crate::reasons::DestAnswer;
 use nqs_routing::find_peer;
 use nqs_state::HostState;
-use nqs_types::{Dest, Hand, HostId, Peer, Refused, Row};
+use nqs_types::{Dest, DestAnswer, Hand, HostId, Peer, Refused, Row};
 
 fn refuses(refused: &Refused, dest: &Dest) -> bool
     ensures { result ≡ refuses dest.now refused.now }

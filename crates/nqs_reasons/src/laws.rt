@@ -14,15 +14,14 @@ ghost use Rattle.nqs_rules.specs.Order.{is_eligible, pick};
 ghost use Rattle.nqs_rules.specs.Picked.{PlainRow, may_start, IsFirstRow, IsNextQueue, row_place};
 ghost use Rattle.nqs_rules.specs.Plain.{map_row, map_state};
 ghost use Rattle.nqs_rules.specs.Routing.{may_try};
-ghost use Rattle.nqs_rules.specs.Text.{Text};
-ghost use Rattle.nqs_reasons.specs.Reasons.{Conditions, first_failing, reason_of, count_before};
-ghost use Rattle.nqs_reasons.specs.Answers.{answer_of};
+ghost use Rattle.nqs_rules.specs.Reasons.{Conditions, first_failing, reason_of, count_before};
+ghost use Rattle.nqs_rules.specs.Answers.{answer_of};
 ghost use Rattle.nqs_reasons.specs.Chosen.{is_next, may_be_tried, IsFirstFailing, IsAtOrBefore};
-ghost use Rattle.nqs_reasons.specs.Spelled.{IsReasonText, IsAnswerText};
-ghost use Rattle.nqs_reasons.specs.declared.reasons.Reason.{Reason};
-ghost use Rattle.nqs_reasons.specs.declared.reasons.Reason.TheVariants.{NoQueue, NoDestination, Next};
-ghost use Rattle.nqs_reasons.specs.declared.reasons.DestAnswer.TheVariants.{NoHost};
-ghost use Rattle.nqs_reasons.specs.declared.reasons.DestAnswer.{DestAnswer};
+ghost use Rattle.nqs_rules.specs.Why.{why_lines};
+ghost use Rattle.nqs_types.specs.declared.reason.Reason.{Reason};
+ghost use Rattle.nqs_types.specs.declared.reason.Reason.TheVariants.{NoQueue, NoDestination, Next};
+ghost use Rattle.nqs_types.specs.declared.reason.DestAnswer.TheVariants.{NoHost};
+ghost use Rattle.nqs_types.specs.declared.reason.DestAnswer.{DestAnswer};
 
 /// What is told of a list of conditions is told of the first that fails, and nothing else is.
 pub fn first_failing_is_told()
@@ -76,17 +75,13 @@ pub fn answers_say_what_may_be_tried()
         → slice_get d.dests k ≡ Some dest → answer_of now s r dest ≢ NoHost }
 {}
 
-/// None of it depends on stored bytes.
+/// None of it depends on stored bytes, and so nothing that is told of a request does.
 pub fn reason_looks_at_no_bytes()
     ensures reason { (f : Extent → List ℕ) (now : ℕ) (s : State Extent) (r : Row Extent) → reason_of now (map_state f s) (map_row f r) ≡ reason_of now s r }
     ensures count { (f : Extent → List ℕ) (now : ℕ) (s : State Extent) (r : Row Extent)
         → count_before now (map_state f s) (map_row f r) ≡ count_before now s r }
     ensures answer { (f : Extent → List ℕ) (now : ℕ) (s : State Extent) (r : Row Extent) (dest : Dest)
         → answer_of now (map_state f s) (map_row f r) dest ≡ answer_of now s r dest }
-{}
-
-/// Each reason and each answer has one text.
-pub fn texts_are_one()
-    ensures reason { (queue : Text) (reason : Reason) (text other : Text) → IsReasonText queue reason text → IsReasonText queue reason other → text ≡ other }
-    ensures answer { (answer : DestAnswer) (text other : Text) → IsAnswerText answer text → IsAnswerText answer other → text ≡ other }
+    ensures lines { (f : Extent → List ℕ) (now : ℕ) (s : State Extent) (r : Row Extent)
+        → why_lines now (map_state f s) (map_row f r) ≡ why_lines now s r }
 {}

@@ -1,20 +1,20 @@
 //! Why a request doesn't run: the first condition of the scheduler's rule that fails.
 //!
-//! `reasons` has what is told, `told` which of it, `allowed` the single conditions, `answers` what
-//! a destination of a pipe queue last answered, `text` the words for both. `specs/Reasons.antt` has
-//! the conditions in their order, each with its reason. `laws` says that they are those of the
-//! scheduler, `worked` has values by hand. Only the texts take memory.
+//! `told` has which reason it is, `before` which requests come before another, `answers` what a
+//! destination of a pipe queue last answered, `text` the texts of both, `lines` all that is told of
+//! a request. `nqs_rules/specs/Reasons.antt` has the conditions in their order, each with its
+//! reason, and `Why.antt` beside it the texts. `laws` says that the conditions are those of the
+//! scheduler. Only the texts take memory.
 #![tactic(auto)]
 
-mod allowed;
 mod answers;
+mod before;
 pub mod laws;
-mod reasons;
+mod lines;
 mod text;
 mod told;
-pub mod worked;
 
 pub use answers::answer;
-pub use reasons::{DestAnswer, Reason};
+pub use lines::why_lines;
 pub use text::{put_answer, put_reason};
 pub use told::{count_before, reason};

@@ -3,22 +3,31 @@
 ghost use Rattle.std.specs.Prelude.{◌≡◌, ◌++◌, codes, OnOk};
 ghost use Rattle.std.specs.Fmt.{decimal};
 ghost use Rattle.std.specs.Option.{option_copied};
-ghost use Rattle.nqs_reasons.specs.Spelled.{limit_words, forms_words, next_words, reason_words, reason_moment, answer_words, answer_moment, IsMomentText};
-ghost use Rattle.nqs_reasons.specs.Spelled.{IsReasonText, IsAnswerText, Appends};
+ghost use Rattle.nqs_rules.specs.Why.{when_text, limit_text, forms_text, next_text, reason_text, answer_text};
 
-use crate::reasons::{DestAnswer, Reason};
 use nqs_moments::{PrintFault, print_moment};
-use nqs_query::{put_decimal, put_text};
+use nqs_put::{put_about, put_decimal, put_text};
+use nqs_types::{DestAnswer, Reason};
 use nqs_values::{Memory, Name};
 use std::alloc::Global;
 
-// A name between two texts.
-fn put_about(before: &[u8], name: &Name, after: &[u8], out: &mut Vec<u8>) -> Result<(), Memory>
-    ensures { OnOk result (out.new.items ≡ out.old.items ++ (before.now ++ name.now ++ after.now)) }
+// A moment as its date, and past the last day that has one as its seconds since 1970.
+fn put_when(alloc: Global, moment: u64, out: &mut Vec<u8>) -> Result<(), Memory>
+    ensures { OnOk result (out.new.items ≡ out.old.items ++ when_text moment) }
+{
+    match print_moment(alloc, moment, out) {
+        Ok(()) => Ok(()),
+        Err(PrintFault::Range) => put_decimal(alloc, moment, out),
+        Err(PrintFault::Memory(refused)) => Err(refused),
+    }
+}
+
+// A moment behind a text.
+fn put_moment(alloc: Global, before: &[u8], moment: u64, out: &mut Vec<u8>) -> Result<(), Memory>
+    ensures { OnOk result (out.new.items ≡ out.old.items ++ (before.now ++ when_text moment)) }
 {
     put_text(before, out)?;
-    put_text(name.as_bytes(), out)?;
-    put_text(after, out)
+    put_when(alloc, moment, out)
 }
 
 // A number between two texts.
@@ -44,7 +53,7 @@ fn put_limit(
     name: &Name,
     out: &mut Vec<u8>,
 ) -> Result<(), Memory>
-    ensures { OnOk result (out.new.items ≡ out.old.items ++ limit_words before.now limit of.now name.now) }
+    ensures { OnOk result (out.new.items ≡ out.old.items ++ limit_text before.now limit of.now name.now) }
 {
     put_text(before, out)?;
     put_decimal(alloc, limit, out)?;
@@ -52,7 +61,7 @@ fn put_limit(
 }
 
 fn put_forms(forms: Option<&Name>, out: &mut Vec<u8>) -> Result<(), Memory>
-    ensures { OnOk result (out.new.items ≡ out.old.items ++ forms_words (option_copied forms.entry)) }
+    ensures { OnOk result (out.new.items ≡ out.old.items ++ forms_text (option_copied forms.entry)) }
 {
     match forms {
         Some(forms) => put_about(b" with forms ", forms, b"", out),
@@ -61,7 +70,7 @@ fn put_forms(forms: Option<&Name>, out: &mut Vec<u8>) -> Result<(), Memory>
 }
 
 fn put_no_device(queue: &Name, forms: Option<&Name>, out: &mut Vec<u8>) -> Result<(), Memory>
-    ensures { let forms = forms_words (option_copied forms.entry) in
+    ensures { let forms = forms_text (option_copied forms.entry) in
         OnOk result (out.new.items ≡ out.old.items ++ (codes "no device of queue " ++ queue.now ++ forms ++ codes " is free")) }
 {
     put_about(b"no device of queue ", queue, b"", out)?;
@@ -70,7 +79,7 @@ fn put_no_device(queue: &Name, forms: Option<&Name>, out: &mut Vec<u8>) -> Resul
 }
 
 fn put_next(alloc: Global, queue: &Name, count: u64, out: &mut Vec<u8>) -> Result<(), Memory>
-    ensures { OnOk result (out.new.items ≡ out.old.items ++ next_words queue.now count) }
+    ensures { OnOk result (out.new.items ≡ out.old.items ++ next_text queue.now count) }
 {
     if count == 0 {
         return put_about(b"it is next in queue ", queue, b"", out);
@@ -87,21 +96,22 @@ fn put_next(alloc: Global, queue: &Name, count: u64, out: &mut Vec<u8>) -> Resul
     )
 }
 
-// The words of a reason, without its moment.
-fn put_reason_words(
+/// Appends the text of a reason, for a request of this queue: `queue batch is stopped`.
+/// A moment is a date in UTC, and past the last day of 9999 its seconds since 1970.
+pub fn put_reason(
     alloc: Global,
     queue: &Name,
     reason: &Reason,
     out: &mut Vec<u8>,
 ) -> Result<(), Memory>
-    ensures { OnOk result (out.new.items ≡ out.old.items ++ reason_words queue.now reason.now) }
+    ensures { OnOk result (out.new.items ≡ out.old.items ++ reason_text queue.now reason.now) }
 {
     match reason {
         Reason::Runs => put_text(b"it runs", out),
         Reason::OnItsWay => put_text(b"it is on its way to another host", out),
         Reason::HeldByUser => put_text(b"it is held", out),
         Reason::HeldBySystem => put_text(b"the system holds it", out),
-        Reason::NotBefore(_) => put_text(b"it may not start before ", out),
+        Reason::NotBefore(moment) => put_moment(alloc, b"it may not start before ", *moment, out),
         Reason::NoQueue => put_about(b"no queue ", queue, b"", out),
         Reason::QueueStopped => put_about(b"queue ", queue, b" is stopped", out),
         Reason::UserLimit(limit) => {
@@ -131,17 +141,10 @@ fn put_reason_words(
     }
 }
 
-fn reason_moment(reason: &Reason) -> Option<u64>
-    ensures { result ≡ reason_moment reason.now }
-{
-    match reason {
-        Reason::NotBefore(moment) => Some(*moment),
-        _ => None,
-    }
-}
-
-fn put_answer_words(alloc: Global, answer: &DestAnswer, out: &mut Vec<u8>) -> Result<(), Memory>
-    ensures { OnOk result (out.new.items ≡ out.old.items ++ answer_words answer.now) }
+/// Appends the text of a destination's answer: `refused with number 19`.
+/// A moment is as in the text of a reason.
+pub fn put_answer(alloc: Global, answer: &DestAnswer, out: &mut Vec<u8>) -> Result<(), Memory>
+    ensures { OnOk result (out.new.items ≡ out.old.items ++ answer_text answer.now) }
 {
     match answer {
         DestAnswer::Refused(number) => {
@@ -150,59 +153,9 @@ fn put_answer_words(alloc: Global, answer: &DestAnswer, out: &mut Vec<u8>) -> Re
         DestAnswer::NoHost => put_text(b"no such host", out),
         DestAnswer::NoNumberLeft => put_text(b"all numbers are used", out),
         DestAnswer::HandingOver => put_text(b"its host is being handed another request", out),
-        DestAnswer::WaitedFor(_) => put_text(b"its host is waited for until ", out),
+        DestAnswer::WaitedFor(moment) => {
+            put_moment(alloc, b"its host is waited for until ", *moment, out)
+        }
         DestAnswer::MayBeTried => put_text(b"may be tried", out),
     }
-}
-
-fn answer_moment(answer: &DestAnswer) -> Option<u64>
-    ensures { result ≡ answer_moment answer.now }
-{
-    match answer {
-        DestAnswer::WaitedFor(moment) => Some(*moment),
-        _ => None,
-    }
-}
-
-// A moment as its date, and past the last day that has one as its seconds since 1970.
-fn put_date(alloc: Global, moment: u64, out: &mut Vec<u8>) -> Result<(), Memory>
-    ensures { OnOk result (Appends (IsMomentText (Some moment)) out.old.items out.new.items) }
-{
-    match print_moment(alloc, moment, out) {
-        Ok(()) => Ok(()),
-        Err(PrintFault::Range) => put_decimal(alloc, moment, out),
-        Err(PrintFault::Memory(refused)) => Err(refused),
-    }
-}
-
-fn put_moment(alloc: Global, moment: Option<u64>, out: &mut Vec<u8>) -> Result<(), Memory>
-    ensures { OnOk result (Appends (IsMomentText moment) out.old.items out.new.items) }
-{
-    match moment {
-        Some(moment) => put_date(alloc, moment, out),
-        None => Ok(()),
-    }
-}
-
-/// Appends the text of a reason, for a request of this queue: `queue batch is stopped`.
-/// A moment is a date in UTC, and past the last day of 9999 its seconds since 1970.
-pub fn put_reason(
-    alloc: Global,
-    queue: &Name,
-    reason: &Reason,
-    out: &mut Vec<u8>,
-) -> Result<(), Memory>
-    ensures { OnOk result (Appends (IsReasonText queue.now reason.now) out.old.items out.new.items) }
-{
-    put_reason_words(alloc, queue, reason, out)?;
-    put_moment(alloc, reason_moment(reason), out)
-}
-
-/// Appends the text of a destination's answer: `refused with number 19`.
-/// A moment is as in the text of a reason.
-pub fn put_answer(alloc: Global, answer: &DestAnswer, out: &mut Vec<u8>) -> Result<(), Memory>
-    ensures { OnOk result (Appends (IsAnswerText answer.now) out.old.items out.new.items) }
-{
-    put_answer_words(alloc, answer, out)?;
-    put_moment(alloc, answer_moment(answer), out)
 }

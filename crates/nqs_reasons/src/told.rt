@@ -1,20 +1,18 @@
-//! Which reason it is.
+//! Which reason it is, and how many wait before a request.
 
 ghost use Rattle.std.specs.Prelude.{◌≡◌, [], ◌∷◌, ◌++◌, find, not};
 ghost use Rattle.std.specs.Option.{option_copied};
 ghost use Rattle.nqs_state.specs.State.{content};
 ghost use Rattle.nqs_types.specs.declared.queue.Kind.TheVariants.{Batch};
 ghost use Rattle.nqs_rules.specs.Order.{complex_allows, kind_allows};
-ghost use Rattle.nqs_reasons.specs.Reasons.{first_failing, state_reason, hold_reason, queue_conditions, global_condition, kind_conditions, next_in, reason_of};
-ghost use Rattle.nqs_reasons.specs.Reasons.{count_before};
-ghost use Rattle.nqs_reasons.specs.declared.reasons.Reason.TheVariants.{ComplexLimit};
+ghost use Rattle.nqs_rules.specs.Reasons.{first_failing, state_reason, hold_reason, queue_conditions, global_condition, kind_conditions, next_in, reason_of};
+ghost use Rattle.nqs_rules.specs.Reasons.{count_before};
+ghost use Rattle.nqs_types.specs.declared.reason.Reason.TheVariants.{ComplexLimit};
 
-use crate::allowed::{
-    complex_allows, global_allows, goes_first, kind_allows, run_allows, user_allows, waits_before,
-};
-use crate::reasons::Reason;
+use crate::before::{goes_first, waits_before};
+use nqs_order::{complex_allows, global_allows, kind_allows, run_allows, user_allows};
 use nqs_state::HostState;
-use nqs_types::{ComplexDef, Hold, Kind, QueueDef, Row, RowState};
+use nqs_types::{ComplexDef, Hold, Kind, QueueDef, Reason, Row, RowState};
 use nqs_values::Name;
 
 fn state_reason(state: RowState) -> Reason

@@ -1,10 +1,12 @@
 //! A command comes.
-ghost use Rattle.std.specs.Prelude.{◌≡◌, IfOk};
+ghost use Rattle.std.specs.Prelude.{◌≡◌, ◌≤◌, length, IfOk};
 ghost use Rattle.nqs_state.specs.State.{content};
 ghost use Rattle.nqs_rules.specs.Causes.{first_refusal};
+ghost use Rattle.nqs_rules.specs.Find.{meant_row};
 ghost use Rattle.nqs_rules.specs.InOrder.{IsInOrder};
-ghost use Rattle.nqs_rules.specs.Step.{answer_to, stat_causes, on_stat, show_lines, ticked, then_reply, on_allowed, on_command};
+ghost use Rattle.nqs_rules.specs.Step.{answer_to, stat_causes, on_stat, show_lines, why_reply, ticked, then_reply, on_allowed, on_command};
 ghost use Rattle.nqs_rules.specs.Stepped.{plan_of};
+ghost use Rattle.nqs_rules.specs.Why.{why_lines};
 ghost use Rattle.nqs_types.specs.declared.event.Reply.TheVariants.{Lines};
 ghost use Rattle.nqs_step.specs.Asked.{asked};
 
@@ -16,9 +18,11 @@ use nqs_access::{known_queue, may_command, rank};
 use nqs_handover::on_tick;
 use nqs_lists::{show_lines, stat_lines};
 use nqs_plans::add;
+use nqs_reasons::why_lines;
+use nqs_rows::meant_row;
 use nqs_stage::add_due_stages;
 use nqs_state::HostState;
-use nqs_types::{Command, Plan, Refusal, Reply};
+use nqs_types::{Command, Named, Plan, Refusal, Reply, Row};
 use nqs_values::{Memory, Name};
 use std::alloc::Global;
 
@@ -74,6 +78,38 @@ fn on_show(alloc: Global, state: &HostState, asker: Asker, code: u8) -> Result<P
     answer(alloc, asker, Reply::Lines(lines))
 }
 
+// What is told of a request at a moment.
+fn explain(
+    alloc: Global,
+    state: &HostState,
+    now: u64,
+    asker: Asker,
+    row: &Row,
+) -> Result<Plan, Memory>
+    ensures { IfOk result (λ plan. plan ≡ plan_of (answer_to (asked asker) (Lines (why_lines now (content state.now) row.now)))) }
+{
+    let lines = why_lines(alloc, state, row, now)?;
+    answer(alloc, asker, Reply::Lines(lines))
+}
+
+// Why a request doesn't run, by the one that is meant.
+fn on_why(
+    alloc: Global,
+    state: &HostState,
+    now: u64,
+    asker: Asker,
+    id: &Named,
+) -> Result<Plan, Memory>
+    requires { length state.now.site ≤ 16 }
+    ensures { let s = content state.now in
+        IfOk result (λ plan. plan ≡ plan_of (answer_to (asked asker) (why_reply now id.now s (meant_row id.now s)))) }
+{
+    match meant_row(state, id) {
+        None => refuse(alloc, asker, Refusal::NoRequest(*id)),
+        Some(row) => explain(alloc, state, now, asker, row),
+    }
+}
+
 // A command that its user may give.
 fn on_allowed(
     alloc: Global,
@@ -92,6 +128,7 @@ fn on_allowed(
         Command::Stat { user, queues } => on_stat(alloc, state, asker, user, queues.as_slice()),
         Command::Delete { id, kill } => on_delete(alloc, state, asker, user, id, *kill),
         Command::Show(code) => on_show(alloc, state, asker, *code),
+        Command::Why(id) => on_why(alloc, state, now, asker, id),
         Command::Shutdown => answer(alloc, asker, Reply::Done),
         Command::Tick => on_tick_command(alloc, state, asker, now),
         Command::UnreadLine(fault) => answer(alloc, asker, Reply::UnreadLine(*fault)),

@@ -9,3 +9,4 @@ pub mod Choices
 pub mod Worlds
 pub mod Texts
 pub mod TwoQueues
+pub mod Reasons

@@ -13,6 +13,7 @@ pub mod commands;
 pub mod fitting;
 pub mod made;
 pub mod order_bounds;
+pub mod reasons;
 pub mod refusals;
 pub mod steps;
 pub mod texts;

@@ -1,4 +1,4 @@
-use Rattle.nqs_reasons.proofs.Bytes.{reason-map, count_before-map, answer-map}
+use Rattle.nqs_rules.proofs.ReasonsPlain.{reason-map, count_before-map, answer-map, why_lines-map}
 use Rattle.nqs_reasons.proofs.laws.reason_looks_at_no_bytes.Goals as goal
 
 pub returns : goal.returns
@@ -6,4 +6,5 @@ returns c = record {
   reason = λ f now s r. reason-map f now s r;
   count = λ f now s r. count_before-map f now s r;
   answer = λ f now s r dest. answer-map f now s r dest;
+  lines = λ f now s r. why_lines-map f now s r;
 }

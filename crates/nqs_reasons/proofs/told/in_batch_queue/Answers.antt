@@ -2,9 +2,9 @@ use Rattle.std.proofs.Common.{◌∙◌, Bool, ◌∷◌, [], ap}
 use Rattle.nqs_types.specs.declared.queue.ComplexDef.{ComplexDef}
 use Rattle.nqs_state.specs.State.{content}
 use Rattle.nqs_rules.specs.Order.{complex_allows}
-use Rattle.nqs_reasons.specs.Reasons.{Conditions, first_failing, global_condition, next_in}
-use Rattle.nqs_reasons.specs.declared.reasons.Reason.{Reason}
-use Rattle.nqs_reasons.specs.declared.reasons.Reason.TheVariants.{ComplexLimit}
+use Rattle.nqs_rules.specs.Reasons.{Conditions, first_failing, global_condition, next_in}
+use Rattle.nqs_types.specs.declared.reason.Reason.{Reason}
+use Rattle.nqs_types.specs.declared.reason.Reason.TheVariants.{ComplexLimit}
 use Rattle.nqs_reasons.proofs.Failing.{said_of, failing-each}
 use Rattle.nqs_reasons.proofs.told.in_batch_queue.Goals as goal
 

@@ -3,7 +3,7 @@ use Rattle.std.specs.Prelude.{ℕ, Bool, true, false, List, [], ◌∷◌, ◌++
 use Rattle.nqs_state.specs.State.{Plain}
 use Rattle.nqs_rules.specs.Format.{first_queue, new_peer}
 use Rattle.nqs_worked.specs.ScheduleWords.{host, request, job_of}
-use Rattle.nqs_worked.specs.Definitions.{fresh, link, queued}
+use Rattle.nqs_worked.specs.Definitions.{fresh, link, queued, far, near}
 use Rattle.nqs_types.specs.declared.ids.Dest.{Dest}
 use Rattle.nqs_types.specs.declared.request.Row.{Row}
 use Rattle.nqs_types.specs.declared.request.RowState.TheVariants.{Running, Routing}
@@ -13,10 +13,10 @@ use Rattle.nqs_types.specs.declared.request.Phase.TheVariants.{Committed}
 use Rattle.nqs_types.specs.declared.queue.Kind.TheVariants.{Device}
 use Rattle.nqs_types.specs.declared.queue.ComplexDef.{ComplexDef}
 use Rattle.nqs_types.specs.declared.queue.DeviceDef.{DeviceDef}
-use Rattle.nqs_reasons.specs.declared.reasons.Reason.{Reason}
-use Rattle.nqs_reasons.specs.declared.reasons.DestAnswer.{DestAnswer}
-use Rattle.nqs_reasons.specs.Reasons.{reason_of, count_before}
-use Rattle.nqs_reasons.specs.Answers.{answer_of}
+use Rattle.nqs_types.specs.declared.reason.Reason.{Reason}
+use Rattle.nqs_types.specs.declared.reason.DestAnswer.{DestAnswer}
+use Rattle.nqs_rules.specs.Reasons.{reason_of, count_before}
+use Rattle.nqs_rules.specs.Answers.{answer_of}
 
 -- ann's request under a number in a queue, to be started from a moment on
 abbrev pub ours : List ℕ → ℕ → Row (List ℕ)
@@ -112,3 +112,19 @@ abbrev pub answered : Peer → List Hand → List Dest → Dest → DestAnswer
 answered p hands refused dest =
     let r = record (queued 9) { refused = map (λ d. record { dest = d; cause = 19 }) refused } in
     answer_of 50 (record fresh { peers = new_peer ∷ p ∷ []; hands = hands }) r dest
+
+-- what is told of a request at the moment 50, where it is the last of the host's rows
+abbrev pub asked : Plain → Row (List ℕ) → List (List ℕ)
+asked s r = why_lines 50 (record s { rows = s.rows ++ r ∷ [] }) r
+
+-- The host of `moving`, whose queue link has two destinations: one on the other host, which is being handed a request, and one here.
+abbrev pub parting : Plain
+parting = record (moving true None 2) { queues = record link { started = true; run_limit = 2; dests = far ∷ near ∷ [] } ∷ [] }
+
+-- a host that isn't to start anything from its queue batch, with these rows
+abbrev pub stopped : List (Row (List ℕ)) → Plain
+stopped rows = record (lined_up rows) { queues = record first_queue { run_limit = 5 } ∷ [] }
+
+-- a request of the other host that runs here
+abbrev pub from_afar : Row (List ℕ)
+from_afar = record (runs (codes "ann") 3 (codes "batch")) { id = request 3 1 }

@@ -1,18 +1,19 @@
-//! Reasons by hand: each of them, each pair of neighbours in their order, both sides of each bound,
-//! and the texts.
+//! Why a request doesn't run: each reason, each pair of neighbours in their order, both sides of
+//! each bound, the texts, and all that is told of a request.
 ghost use Rattle.std.specs.Prelude.{◌≡◌, codes, [], ◌∷◌, map, replicate, true, false, None, Some};
 ghost use Rattle.nqs_types.specs.declared.request.RowState.TheVariants.{Running, Routing};
 ghost use Rattle.nqs_types.specs.declared.request.Hold.TheVariants.{User, System};
 ghost use Rattle.nqs_rules.specs.Format.{new_peer};
 ghost use Rattle.nqs_worked.specs.ScheduleWords.{host, job_of};
 ghost use Rattle.nqs_worked.specs.Definitions.{far, near};
-ghost use Rattle.nqs_reasons.specs.Reasons.{reason_of};
-ghost use Rattle.nqs_reasons.specs.Spelled.{reason_words, answer_words, IsReasonText, IsAnswerText};
-ghost use Rattle.nqs_reasons.specs.Worked.{ours, told, busy, without_queue, printing, to_print, moving, to_move, waiting, ranked, of_bob, lined_up, told_among};
-ghost use Rattle.nqs_reasons.specs.Worked.{counted_among, hand, answered};
-ghost use Rattle.nqs_reasons.specs.declared.reasons.Reason.TheVariants.{Runs, OnItsWay, HeldByUser, HeldBySystem, NotBefore, NoQueue, QueueStopped, UserLimit};
-ghost use Rattle.nqs_reasons.specs.declared.reasons.Reason.TheVariants.{RunLimit, ComplexLimit, GlobalLimit, NoDevice, NoDestination, Next};
-ghost use Rattle.nqs_reasons.specs.declared.reasons.DestAnswer.TheVariants.{Refused, NoHost, NoNumberLeft, HandingOver, WaitedFor, MayBeTried};
+ghost use Rattle.nqs_text.specs.Dates.{date_text};
+ghost use Rattle.nqs_rules.specs.Reasons.{reason_of};
+ghost use Rattle.nqs_rules.specs.Why.{reason_text, answer_text};
+ghost use Rattle.nqs_worked_tables.specs.Reasons.{ours, told, busy, without_queue, printing, to_print, moving, to_move, waiting, ranked, of_bob, lined_up, told_among};
+ghost use Rattle.nqs_worked_tables.specs.Reasons.{counted_among, hand, answered, asked, parting, stopped, from_afar};
+ghost use Rattle.nqs_types.specs.declared.reason.Reason.TheVariants.{Runs, OnItsWay, HeldByUser, HeldBySystem, NotBefore, NoQueue, QueueStopped, UserLimit};
+ghost use Rattle.nqs_types.specs.declared.reason.Reason.TheVariants.{RunLimit, ComplexLimit, GlobalLimit, NoDevice, NoDestination, Next};
+ghost use Rattle.nqs_types.specs.declared.reason.DestAnswer.TheVariants.{Refused, NoHost, NoNumberLeft, HandingOver, WaitedFor, MayBeTried};
 
 /// Of a request that runs, is on its way, is held, is too early or has no queue, where all that
 /// comes behind would hold it back too.
@@ -104,21 +105,52 @@ pub fn answers_are_told()
 
 /// The texts.
 pub fn reasons_are_spelled()
-    ensures words { map (reason_words (codes "batch")) (Runs ∷ OnItsWay ∷ HeldByUser ∷ HeldBySystem ∷ NoQueue ∷ QueueStopped ∷ UserLimit 2 ∷ RunLimit 10
+    ensures words { map (reason_text (codes "batch")) (Runs ∷ OnItsWay ∷ HeldByUser ∷ HeldBySystem ∷ NoQueue ∷ QueueStopped ∷ UserLimit 2 ∷ RunLimit 10
         ∷ ComplexLimit (codes "night") 3 ∷ GlobalLimit 64 ∷ NoDevice None ∷ NoDevice (Some (codes "red")) ∷ NoDestination ∷ [])
         ≡ codes "it runs" ∷ codes "it is on its way to another host" ∷ codes "it is held" ∷ codes "the system holds it" ∷ codes "no queue batch"
         ∷ codes "queue batch is stopped" ∷ codes "the user limit 2 of queue batch is reached" ∷ codes "the run limit 10 of queue batch is reached"
         ∷ codes "the limit 3 of complex night is reached" ∷ codes "the global limit 64 is reached" ∷ codes "no device of queue batch is free"
         ∷ codes "no device of queue batch with forms red is free" ∷ codes "no destination of queue batch may be tried now" ∷ [] }
-    ensures next { map (λ n. reason_words (codes "batch") (Next n)) (0 ∷ 1 ∷ 2 ∷ 30 ∷ []) ≡ codes "it is next in queue batch"
+    ensures next { map (λ n. reason_text (codes "batch") (Next n)) (0 ∷ 1 ∷ 2 ∷ 30 ∷ []) ≡ codes "it is next in queue batch"
         ∷ codes "1 request of the queue comes before it" ∷ codes "2 requests of the queue come before it" ∷ codes "30 requests of the queue come before it"
         ∷ [] }
-    ensures answers { map answer_words (Refused 19 ∷ NoHost ∷ NoNumberLeft ∷ HandingOver ∷ MayBeTried ∷ []) ≡ codes "refused with number 19"
-        ∷ codes "no such host" ∷ codes "all numbers are used" ∷ codes "its host is being handed another request" ∷ codes "may be tried" ∷ [] }
-    ensures stopped { IsReasonText (codes "batch") QueueStopped (codes "queue batch is stopped") }
-    ensures early { IsReasonText (codes "batch") (NotBefore 1000000000) (codes "it may not start before 2001-09-09T01:46:40") }
-    ensures last { IsReasonText (codes "batch") (NotBefore 253402214400) (codes "it may not start before 9999-12-31T00:00:00") }
-    ensures beyond { IsReasonText (codes "batch") (NotBefore 253402214401) (codes "it may not start before 253402214401") }
-    ensures silent { IsAnswerText (WaitedFor 300) (codes "its host is waited for until 1970-01-01T00:05:00") }
-    ensures told { IsAnswerText (Refused 3) (codes "refused with number 3") }
+    ensures moments { map (λ n. reason_text (codes "batch") (NotBefore n)) (1000000000 ∷ 253402214400 ∷ 253402214401 ∷ [])
+        ≡ codes "it may not start before 2001-09-09T01:46:40" ∷ codes "it may not start before 9999-12-31T00:00:00"
+        ∷ codes "it may not start before 253402214401" ∷ [] }
+    ensures answers { map answer_text (Refused 19 ∷ NoHost ∷ NoNumberLeft ∷ HandingOver ∷ WaitedFor 300 ∷ WaitedFor 253402214401 ∷ MayBeTried ∷ [])
+        ≡ codes "refused with number 19" ∷ codes "no such host" ∷ codes "all numbers are used" ∷ codes "its host is being handed another request"
+        ∷ codes "its host is waited for until 1970-01-01T00:05:00" ∷ codes "its host is waited for until 253402214401" ∷ codes "may be tried" ∷ [] }
+{}
+
+/// The dates of moments: the first second and the last day, both sides of a new year, leap days,
+/// and a century without one.
+pub fn dates_are_spelled()
+    ensures { map date_text (0 ∷ 300 ∷ 68169600 ∷ 946684799 ∷ 946684800 ∷ 951782400 ∷ 1000000000 ∷ 4107542400 ∷ 253402214400 ∷ [])
+        ≡ codes "1970-01-01T00:00:00" ∷ codes "1970-01-01T00:05:00" ∷ codes "1972-02-29T00:00:00" ∷ codes "1999-12-31T23:59:59"
+        ∷ codes "2000-01-01T00:00:00" ∷ codes "2000-02-29T00:00:00" ∷ codes "2001-09-09T01:46:40" ∷ codes "2100-03-01T00:00:00"
+        ∷ codes "9999-12-31T00:00:00" ∷ [] }
+{}
+
+/// All that is told of a request: of one in a stopped queue, whether others come before it or not,
+/// of one that is too early, of one in a pipe queue with two destinations, and of one that has two
+/// before it.
+pub fn requests_are_explained()
+    ensures is_stopped { asked (busy false (Some 1) 2 2 2 2) waiting ≡ codes "Request 9.alpha: queue batch is stopped."
+        ∷ codes "Requests that wait before it: 0." ∷ [] }
+    ensures is_behind { asked (stopped (ranked 40 1 ∷ ranked 31 8 ∷ ranked 31 10 ∷ [])) (ranked 31 9) ≡ codes "Request 9.alpha: queue batch is stopped."
+        ∷ codes "Requests that wait before it: 2." ∷ [] }
+    ensures early { asked (lined_up []) (ours (codes "batch") 51) ≡ codes "Request 9.alpha: it may not start before 1970-01-01T00:00:51."
+        ∷ codes "Requests that wait before it: 0." ∷ [] }
+    ensures dests { asked parting (record (to_move 0) { refused = record { dest = near; cause = 19 } ∷ [] })
+        ≡ codes "Request 9.alpha: no destination of queue link may be tried now." ∷ codes "batch@beta: its host is being handed another request."
+        ∷ codes "batch@alpha: refused with number 19." ∷ codes "Requests that wait before it: 0." ∷ [] }
+    ensures open { asked parting (to_move 0) ≡ codes "Request 9.alpha: it is next in queue link." ∷ codes "Requests that wait before it: 0." ∷ [] }
+    ensures next { asked (lined_up (ranked 40 1 ∷ ranked 31 8 ∷ ranked 31 10 ∷ [])) (ranked 31 9)
+        ≡ codes "Request 9.alpha: 2 requests of the queue come before it." ∷ codes "Requests that wait before it: 2." ∷ [] }
+{}
+
+/// Of one that runs or is on its way there is a reason, and no more.
+pub fn started_requests_are_explained()
+    ensures running { asked (busy false (Some 1) 2 2 2 2) from_afar ≡ codes "Request 3.beta: it runs." ∷ [] }
+    ensures moved { asked parting (record (to_move 0) { state = Routing }) ≡ codes "Request 9.alpha: it is on its way to another host." ∷ [] }
 {}

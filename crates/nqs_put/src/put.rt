@@ -1,4 +1,4 @@
-//! Parts of texts, appended to a list of bytes. Want of memory leaves a front of the part.
+//! The parts.
 
 ghost use Rattle.std.specs.Prelude.{◌≡◌, ◌++◌, ◌∷◌, [], codes, OnOk};
 ghost use Rattle.std.specs.Fmt.{decimal};
@@ -15,6 +15,20 @@ pub fn put_text(text: &[u8], out: &mut Vec<u8>) -> Result<(), Memory>
 {
     out.extend_from_slice(text)?;
     Ok(())
+}
+
+/// Appends a name between two texts.
+pub fn put_about(
+    before: &[u8],
+    name: &Name,
+    after: &[u8],
+    out: &mut Vec<u8>,
+) -> Result<(), Memory>
+    ensures { OnOk result (out.new.items ≡ out.old.items ++ (before.now ++ name.now ++ after.now)) }
+{
+    put_text(before, out)?;
+    put_text(name.as_bytes(), out)?;
+    put_text(after, out)
 }
 
 /// Appends a space and bytes.
