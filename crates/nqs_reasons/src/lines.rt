@@ -1,18 +1,20 @@
 //! All that is told of a request that is asked about.
 
-ghost use Rattle.std.specs.Prelude.{◌≡◌, ◌++◌, ◌∷◌, [], map, IfOk, OnOk};
+ghost use Rattle.std.specs.Prelude.{◌≡◌, ◌++◌, map, codes, IfOk, OnOk};
+ghost use Rattle.std.specs.Fmt.{decimal};
 ghost use Rattle.nqs_state.specs.State.{content};
 ghost use Rattle.nqs_rules.specs.Find.{find_queue};
 ghost use Rattle.nqs_rules.specs.Answers.{answer_of};
-ghost use Rattle.nqs_rules.specs.Why.{reason_line, dest_line, dest_lines, before_lines, why_lines};
 ghost use Rattle.nqs_rules.specs.Reasons.{count_before};
+ghost use Rattle.nqs_rules.specs.Why.{reason_line, dest_line, dest_lines, before_lines, why_lines};
+ghost use Rattle.nqs_types.specs.declared.reason.Reason.TheVariants.{NoDestination};
 
 use crate::answers::answer;
-use crate::text::{put_answer, put_reason};
+use crate::text::{put_answer, put_count, put_reason};
 use crate::told::{count_before, reason};
-use nqs_put::{put_decimal, put_host, put_id, put_text};
+use nqs_put::{put_host, put_id, put_text};
 use nqs_state::HostState;
-use nqs_types::{Dest, DestAnswer, QueueDef, Reason, Row, RowState};
+use nqs_types::{Dest, DestAnswer, Reason, Row, RowState};
 use nqs_values::{Bytes, Items, ListOf, Memory, Name};
 use std::alloc::Global;
 
@@ -130,19 +132,17 @@ fn add_dest_lines(
 }
 
 // `Requests that wait before it: N.`
-fn put_before(alloc: Global, count: u64, out: &mut Vec<u8>) -> Result<(), Memory>
-    ensures { OnOk result (out.new.items ≡ out.old.items ++ (codes "Requests that wait before it: " ++ decimal count ++ codes ".")) }
-{
-    put_text(b"Requests that wait before it: ", out)?;
-    put_decimal(alloc, count, out)?;
-    put_text(b".", out)
-}
-
 fn before_line(alloc: Global, count: u64) -> Result<Bytes, Memory>
     ensures { IfOk result (λ line. line ≡ codes "Requests that wait before it: " ++ decimal count ++ codes ".") }
 {
     let mut line = Vec::new(alloc);
-    put_before(alloc, count, &mut line)?;
+    put_count(
+        alloc,
+        b"Requests that wait before it: ",
+        count,
+        b".",
+        &mut line,
+    )?;
     Ok(ListOf::from_vec(line))
 }
 

@@ -31,7 +31,7 @@ fn put_moment(alloc: Global, before: &[u8], moment: u64, out: &mut Vec<u8>) -> R
 }
 
 // A number between two texts.
-fn put_count(
+pub(crate) fn put_count(
     alloc: Global,
     before: &[u8],
     number: u64,

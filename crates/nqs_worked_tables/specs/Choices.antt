@@ -7,7 +7,7 @@ use Rattle.nqs_rules.specs.Routing.{destination}
 use Rattle.nqs_worked.specs.ScheduleWords.{host, job_of}
 use Rattle.nqs_worked.specs.Definitions.{fresh, link, queued, in_link}
 use Rattle.nqs_worked_tables.specs.Refusals.{printer, in_queue}
-use Rattle.nqs_worked_tables.specs.OrderBounds.{on_the_way, started}
+use Rattle.nqs_worked_tables.specs.OrderBounds.{on_the_way}
 use Rattle.nqs_types.specs.declared.ids.Dest.{Dest}
 use Rattle.nqs_types.specs.declared.request.Row.{Row}
 use Rattle.nqs_types.specs.declared.request.Peer.{Peer}

@@ -1,5 +1,5 @@
 -- Small hosts in which several conditions of a start fail at once.
-use Rattle.std.specs.Prelude.{ℕ, Bool, true, false, List, [], ◌∷◌, ◌++◌, map, codes, Option, Some}
+use Rattle.std.specs.Prelude.{ℕ, Bool, true, false, List, [], ◌∷◌, ◌++◌, map, codes, Option, None, Some}
 use Rattle.nqs_state.specs.State.{Plain}
 use Rattle.nqs_rules.specs.Format.{first_queue, new_peer}
 use Rattle.nqs_worked.specs.ScheduleWords.{host, request, job_of}
@@ -17,6 +17,7 @@ use Rattle.nqs_types.specs.declared.reason.Reason.{Reason}
 use Rattle.nqs_types.specs.declared.reason.DestAnswer.{DestAnswer}
 use Rattle.nqs_rules.specs.Reasons.{reason_of, count_before}
 use Rattle.nqs_rules.specs.Answers.{answer_of}
+use Rattle.nqs_rules.specs.Why.{why_lines}
 
 -- ann's request under a number in a queue, to be started from a moment on
 abbrev pub ours : List ℕ → ℕ → Row (List ℕ)
