@@ -25,7 +25,7 @@ use Rattle.nqs_qmgr.specs.Heads.{name_at, request_at, nothing_after, last_name, 
 use Rattle.nqs_qmgr.specs.Options.{no_settings, once, with_priority, with_run_limit, with_pipe_only, with_destination, with_option, per_word, options}
 use Rattle.nqs_qmgr.specs.Shapes.{Shape, nothing, alone, one_name, number, name_value, number_and_name, limit_and_name, two_names, dest_and_name, one_request}
 use Rattle.nqs_qmgr.specs.Shapes.{request_and_name, request_and_priority, name_and_forms, made_queue}
-use Rattle.nqs_qmgr.specs.Lines.{create_shape, delete_shape, enable_shape, disable_shape, set_shape, other_setting, add_shape, remove_shape, show_code, listed}
+use Rattle.nqs_qmgr.specs.Lines.{create_shape, delete_shape, enable_shape, disable_shape, set_shape, other_setting, add_shape, remove_shape, show_code, listed, show_shape}
 use Rattle.nqs_qmgr.specs.Lines.{single_shape, shape_of, verbs, nouns, read_alone, read_one_name, read_value, read_value_and_name, read_one_request}
 use Rattle.nqs_qmgr.specs.Lines.{read_request_and_name, last_value, read_request_and_priority, read_name_and_forms, read_made_queue, read_shape, after_verb}
 use Rattle.nqs_qmgr.specs.Lines.{qmgr_line}
@@ -136,6 +136,10 @@ list_allows : (code : Option ℕ) → Allows (listed code)
 list_allows (Some code) = refl
 list_allows None = tt
 
+show_allows : (noun : Keyword) → Allows (show_shape noun)
+show_allows k.Why = λ r. refl
+show_allows noun = list_allows (show_code noun)
+
 single_allows : (verb : Keyword) → Allows (single_shape verb)
 single_allows k.Start = λ q. refl
 single_allows k.Stop = λ q. refl
@@ -156,7 +160,7 @@ shape_allows k.Disable noun = disable_allows noun
 shape_allows k.Set noun = set_allows noun
 shape_allows k.Add noun = add_allows noun
 shape_allows k.Remove noun = remove_allows noun
-shape_allows k.Show noun = list_allows (show_code noun)
+shape_allows k.Show noun = show_allows noun
 shape_allows verb noun = single_allows verb
 
 -- ---- values

@@ -92,6 +92,7 @@ fn command_code(command: &Command) -> u8 {
         Command::Delete { kill, .. } => { if *kill { 47 } else { 0 } }
         Command::Show(code) => *code,
         Command::Shutdown => 53,
+        Command::Why(_) => 54,
         _ => 0,
     }
 }
@@ -126,7 +127,7 @@ fn fault(line: &[u8]) -> Option<GrammarFault> {
 }
 
 /// A line of each kind, and its number.
-const LINES: [(&[u8], u8); 53] = [
+const LINES: [(&[u8], u8); 55] = [
     (b"create batch_queue q priority=5 run_limit=3 pipeonly", 1),
     (b"create device_queue q", 2),
     (b"create pipe_queue q destination=a@b", 3),
@@ -180,6 +181,8 @@ const LINES: [(&[u8], u8); 53] = [
     (b"show managers", 51),
     (b"show parameters", 52),
     (b"\tshutdown ", 53),
+    (b"show why 1.a", 54),
+    (b"SHO\tWh  1.a ", 54),
 ];
 
 #[test]
@@ -243,22 +246,31 @@ fn frees_memory_by(line: &[u8], name: &Name) -> bool {
     }
 }
 
+// Whether it asks why the request of number 12 of this host waits.
+fn asks_by(line: &[u8], host: &Name) -> bool {
+    match read_qmgr(line) {
+        Ok(Command::Why(id)) => id.seq == 12 && id.host == *host,
+        _ => false,
+    }
+}
+
 // Whether lines are read with their values.
-fn values(q: Name) -> [bool; 3] {
+fn values(q: Name) -> [bool; 4] {
     [
         creates_by(b"Cr\tbatch q PIP prio=5 run=3", &q),
         sets_cpu_by(b"set cpu=1:30:00 q", &q),
         frees_memory_by(b"set mem=none q", &q),
+        asks_by(b"show why 12.q", &q),
     ]
 }
 
 #[test]
 fn reads_values(rt: HostRuntime) {
-    assert_eq!(rt; Name::read(b"q").map(values).ok(), Some([true; 3]));
+    assert_eq!(rt; Name::read(b"q").map(values).ok(), Some([true; 4]));
 }
 
 /// A line, and its fault.
-const BAD: [(&[u8], GrammarFault); 24] = [
+const BAD: [(&[u8], GrammarFault); 33] = [
     (b"st queue batch", GrammarFault::Ambiguous(0)),
     (b"frob x", GrammarFault::UnknownWord(0)),
     (b"s", GrammarFault::UnknownWord(0)),
@@ -286,6 +298,15 @@ const BAD: [(&[u8], GrammarFault); 24] = [
     (b"add destination=a@b@c q", GrammarFault::BadName(16)),
     (b"hold request 07.a", GrammarFault::BadNumber(13)),
     (b"hold request 7.9", GrammarFault::BadName(13)),
+    (b"show", GrammarFault::Missing(4)),
+    (b"show why", GrammarFault::Missing(8)),
+    (b"show why 1.a b", GrammarFault::Extra(13)),
+    (b"sh why 1.a", GrammarFault::Ambiguous(0)),
+    (b"show w 1.a", GrammarFault::UnknownWord(5)),
+    (b"show whys 1.a", GrammarFault::UnknownWord(5)),
+    (b"show why=1.a", GrammarFault::Extra(5)),
+    (b"show why 01.a", GrammarFault::BadNumber(9)),
+    (b"show why 1.9", GrammarFault::BadName(9)),
 ];
 
 #[test]

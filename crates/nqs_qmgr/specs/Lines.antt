@@ -131,6 +131,7 @@ listed (Some code) = alone (command.Show code)
 listed None = nothing
 
 abbrev pub show_shape : Keyword → Shape
+show_shape k.Why = one_request (λ r. command.Why r)
 show_shape noun = listed (show_code noun)
 
 -- the verbs whose lines name one queue or one request, which have one second keyword each
@@ -185,7 +186,7 @@ nouns k.Hold = k.Request ∷ []
 nouns k.Release = k.Request ∷ []
 nouns k.Move = k.Request ∷ []
 nouns k.Modify = k.Request ∷ []
-nouns k.Show = k.Queues ∷ k.Devices ∷ k.Complexes ∷ k.Managers ∷ k.Parameters ∷ []
+nouns k.Show = k.Queues ∷ k.Devices ∷ k.Complexes ∷ k.Managers ∷ k.Parameters ∷ k.Why ∷ []
 nouns _ = []
 
 -- ---- reading a shape, from its keyword on

@@ -3,7 +3,7 @@
 ghost use Rattle.std.specs.Prelude.{◌≡◌, length};
 ghost use Rattle.nqs_words.specs.declared.keyword.Keyword.TheVariants as k;
 ghost use Rattle.nqs_qmgr.specs.Heads.{FitsLine};
-ghost use Rattle.nqs_qmgr.specs.Lines.{create_shape, delete_shape, enable_shape, disable_shape, set_shape, other_setting, add_shape, remove_shape, show_code};
+ghost use Rattle.nqs_qmgr.specs.Lines.{create_shape, delete_shape, enable_shape, disable_shape, set_shape, other_setting, add_shape, remove_shape, show_code, listed};
 ghost use Rattle.nqs_qmgr.specs.Lines.{show_shape, single_shape, shape_of, read_shape, after_verb, qmgr_line};
 ghost use Rattle.nqs_qmgr.specs.Law.{Answers};
 
@@ -304,15 +304,29 @@ fn show_code(keyword: Keyword) -> Option<u8>
 }
 
 #[tactic(auto, unfolding(crate::specs::Lines::read_shape))]
-fn show_line(line: &[u8], head: Head) -> Result<Command, GrammarFault>
+fn show_list(line: &[u8], head: Head) -> Result<Command, GrammarFault>
     requires { FitsLine line.now head }
-    ensures { result ≡ read_shape (show_shape head.keyword) line.now head }
+    ensures { result ≡ read_shape (listed (show_code head.keyword)) line.now head }
 {
     let Some(code) = show_code(head.keyword) else {
         return Err(GrammarFault::UnknownWord(head.word.start as u64));
     };
     read_alone(line, head)?;
     Ok(Command::Show(code))
+}
+
+#[tactic(auto, unfolding(crate::specs::Lines::read_shape))]
+fn show_line(line: &[u8], head: Head) -> Result<Command, GrammarFault>
+    requires { FitsLine line.now head }
+    ensures { result ≡ read_shape (show_shape head.keyword) line.now head }
+{
+    match head.keyword {
+        Keyword::Why => {
+            let id = read_one_request(line, head)?;
+            Ok(Command::Why(id))
+        }
+        _ => show_list(line, head),
+    }
 }
 
 // The verbs whose lines name one queue or one request.

@@ -72,12 +72,13 @@ static OF_ADD: [Keyword; 6] = [
 
 static OF_REQUEST: [Keyword; 1] = [Keyword::Request];
 
-static OF_SHOW: [Keyword; 5] = [
+static OF_SHOW: [Keyword; 6] = [
     Keyword::Queues,
     Keyword::Devices,
     Keyword::Complexes,
     Keyword::Managers,
     Keyword::Parameters,
+    Keyword::Why,
 ];
 
 /// The options of a batch or device queue.

@@ -57,6 +57,7 @@ spelling k.RunLimit = codes "run_limit"
 spelling k.UnrestrictedAccess = codes "unrestricted_access"
 spelling k.User = codes "user"
 spelling k.UserLimit = codes "user_limit"
+spelling k.Why = codes "why"
 
 -- an upper case letter in lower case
 abbrev pub lower : ℕ → ℕ

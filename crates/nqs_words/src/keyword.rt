@@ -54,6 +54,7 @@ pub enum Keyword {
     UnrestrictedAccess,
     User,
     UserLimit,
+    Why,
 }
 
 /// How a keyword is written in full.
@@ -109,5 +110,6 @@ pub fn spelling(keyword: Keyword) -> &'static [u8]
         Keyword::UnrestrictedAccess => b"unrestricted_access",
         Keyword::User => b"user",
         Keyword::UserLimit => b"user_limit",
+        Keyword::Why => b"why",
     }
 }
