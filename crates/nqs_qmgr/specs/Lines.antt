@@ -1,5 +1,6 @@
 -- Which line has which shape, and how lines are read.
-use Rattle.std.specs.Prelude.{ℕ, List, [], ◌∷◌, Option, Some, None, true, Ok, Err}
+use Rattle.std.specs.Prelude.{ℕ, Bool, true, ◌&&◌, List, [], ◌∷◌, map, filter, find, Option, Ok, Err}
+use Rattle.std.specs.Option.{option_map_or}
 use Rattle.nqs_types.specs.declared.ids.Named.{Named}
 use Rattle.nqs_types.specs.declared.fault.GrammarFault.{GrammarFault}
 use Rattle.nqs_types.specs.declared.fault.GrammarFault.TheVariants as fault
@@ -17,6 +18,7 @@ use Rattle.nqs_types.specs.declared.edit.DevicesEdit.TheVariants as devices
 use Rattle.nqs_types.specs.declared.edit.RowsEdit.{RowsEdit}
 use Rattle.nqs_types.specs.declared.edit.RowsEdit.TheVariants as rows
 use Rattle.nqs_words.specs.Values.{name_of, number_of, dest_of}
+use Rattle.nqs_words.specs.Keywords.{is_same}
 use Rattle.nqs_words.specs.declared.keyword.Keyword.{Keyword}
 use Rattle.nqs_words.specs.declared.keyword.Keyword.TheVariants as k
 use Rattle.nqs_qmgr.specs.declared.head.Head.{Head}
@@ -45,149 +47,104 @@ of_devices e = command.Edit (edit.Devices e)
 abbrev pub of_rows : RowsEdit → Command
 of_rows e = command.Edit (edit.Rows e)
 
--- ---- the table of lines: the shape of each verb with its second keyword
+-- ---- the table of lines
 
+-- options of a batch or device queue
 abbrev pub queue_words : List Keyword
 queue_words = k.Priority ∷ k.RunLimit ∷ k.PipeOnly ∷ []
 
+-- options of a pipe queue
 abbrev pub pipe_words : List Keyword
 pipe_words = k.Priority ∷ k.RunLimit ∷ k.PipeOnly ∷ k.Destination ∷ []
 
-abbrev pub create_shape : Keyword → Shape
-create_shape k.BatchQueue = made_queue queue_words (λ q s. of_conf (conf.CreateBatchQueue q s.priority s.run_limit s.pipe_only))
-create_shape k.DeviceQueue = made_queue queue_words (λ q s. of_conf (conf.CreateDeviceQueue q s.priority s.run_limit s.pipe_only))
-create_shape k.PipeQueue = made_queue pipe_words (λ q s. of_conf (conf.CreatePipeQueue q s.priority s.run_limit s.pipe_only s.destination))
-create_shape k.Complex = one_name (λ q. of_limits (limits.CreateComplex q))
-create_shape k.Device = name_and_forms (λ d f. of_devices (devices.CreateDevice d f))
-create_shape _ = nothing
+-- a line of qmgr: its verb, its second keyword, and what stands from there on
+pub record Line : Type 0 where
+  pub verb : Keyword
+  pub noun : Keyword
+  pub shape : Shape
 
-abbrev pub delete_shape : Keyword → Shape
-delete_shape k.Queue = one_name (λ q. of_conf (conf.DeleteQueue q))
-delete_shape k.Complex = one_name (λ q. of_limits (limits.DeleteComplex q))
-delete_shape k.Device = one_name (λ d. of_devices (devices.DeleteDevice d))
-delete_shape k.Request = one_request (λ r. command.Delete r true)
-delete_shape _ = nothing
+-- a line by its verb and its second keyword
+abbrev pub row : Keyword → Keyword → Shape → Line
+row verb noun shape = record { verb = verb; noun = noun; shape = shape }
 
-abbrev pub enable_shape : Keyword → Shape
-enable_shape k.Queue = one_name (λ q. of_conf (conf.EnableQueue q))
-enable_shape k.Device = one_name (λ d. of_devices (devices.EnableDevice d))
-enable_shape _ = nothing
+-- all lines but `shutdown`, which is a verb alone
+unfoldable pub table : List Line
+table =
+    row k.Create k.BatchQueue (made_queue queue_words (λ q s. of_conf (conf.CreateBatchQueue q s.priority s.run_limit s.pipe_only)))
+    ∷ row k.Create k.DeviceQueue (made_queue queue_words (λ q s. of_conf (conf.CreateDeviceQueue q s.priority s.run_limit s.pipe_only)))
+    ∷ row k.Create k.PipeQueue (made_queue pipe_words (λ q s. of_conf (conf.CreatePipeQueue q s.priority s.run_limit s.pipe_only s.destination)))
+    ∷ row k.Create k.Complex (one_name (λ c. of_limits (limits.CreateComplex c)))
+    ∷ row k.Create k.Device (name_and_forms (λ d f. of_devices (devices.CreateDevice d f)))
+    ∷ row k.Delete k.Queue (one_name (λ q. of_conf (conf.DeleteQueue q)))
+    ∷ row k.Delete k.Complex (one_name (λ c. of_limits (limits.DeleteComplex c)))
+    ∷ row k.Delete k.Device (one_name (λ d. of_devices (devices.DeleteDevice d)))
+    ∷ row k.Delete k.Request (one_request (λ r. command.Delete r true))
+    ∷ row k.Enable k.Queue (one_name (λ q. of_conf (conf.EnableQueue q)))
+    ∷ row k.Enable k.Device (one_name (λ d. of_devices (devices.EnableDevice d)))
+    ∷ row k.Disable k.Queue (one_name (λ q. of_conf (conf.DisableQueue q)))
+    ∷ row k.Disable k.Device (one_name (λ d. of_devices (devices.DisableDevice d)))
+    ∷ row k.Start k.Queue (one_name (λ q. of_conf (conf.StartQueue q)))
+    ∷ row k.Stop k.Queue (one_name (λ q. of_conf (conf.StopQueue q)))
+    ∷ row k.Purge k.Queue (one_name (λ q. of_conf (conf.PurgeQueue q)))
+    ∷ row k.Abort k.Queue (one_name (λ q. of_rows (rows.AbortQueue q)))
+    ∷ row k.Set k.Priority (number_and_name 0 63 (λ n q. of_conf (conf.SetPriority n q)))
+    ∷ row k.Set k.RunLimit (number_and_name 0 10000 (λ n q. of_conf (conf.SetRunLimit n q)))
+    ∷ row k.Set k.UserLimit (limit_and_name Count (λ l q. of_limits (limits.SetUserLimit l q)))
+    ∷ row k.Set k.CpuLimit (limit_and_name Time (λ l q. of_limits (limits.SetCpuLimit l q)))
+    ∷ row k.Set k.MemoryLimit (limit_and_name Size (λ l q. of_limits (limits.SetMemoryLimit l q)))
+    ∷ row k.Set k.ComplexLimit (number_and_name 0 10000 (λ n c. of_limits (limits.SetComplexLimit n c)))
+    ∷ row k.Set k.GlobalLimit (number 0 10000 (λ n. of_limits (limits.SetGlobalLimit n)))
+    ∷ row k.Set k.Forms (two_names (λ f d. of_devices (devices.SetForms f d)))
+    ∷ row k.Set k.UnrestrictedAccess (one_name (λ q. of_access (access.SetUnrestrictedAccess q)))
+    ∷ row k.Set k.NoAccess (one_name (λ q. of_access (access.SetNoAccess q)))
+    ∷ row k.Set k.DefaultQueue (name_value (λ q. of_conf (conf.SetDefaultQueue q)))
+    ∷ row k.Set k.NoDefaultQueue (alone (of_conf conf.SetNoDefaultQueue))
+    ∷ row k.Set k.Patience (number 1 86400 (λ n. of_conf (conf.SetPatience n)))
+    ∷ row k.Set k.RetryWait (number 1 86400 (λ n. of_conf (conf.SetRetryWait n)))
+    ∷ row k.Add k.Destination (dest_and_name (λ d q. of_conf (conf.AddDestination d q)))
+    ∷ row k.Add k.Queue (two_names (λ q c. of_limits (limits.AddQueue q c)))
+    ∷ row k.Add k.Device (two_names (λ d q. of_devices (devices.AddDevice d q)))
+    ∷ row k.Add k.User (two_names (λ u q. of_access (access.AddUser u q)))
+    ∷ row k.Add k.Manager (name_value (λ u. of_access (access.AddManager u)))
+    ∷ row k.Add k.Operator (name_value (λ u. of_access (access.AddOperator u)))
+    ∷ row k.Remove k.Destination (dest_and_name (λ d q. of_conf (conf.RemoveDestination d q)))
+    ∷ row k.Remove k.Queue (two_names (λ q c. of_limits (limits.RemoveQueue q c)))
+    ∷ row k.Remove k.Device (two_names (λ d q. of_devices (devices.RemoveDevice d q)))
+    ∷ row k.Remove k.User (two_names (λ u q. of_access (access.RemoveUser u q)))
+    ∷ row k.Remove k.Manager (name_value (λ u. of_access (access.RemoveManager u)))
+    ∷ row k.Remove k.Operator (name_value (λ u. of_access (access.RemoveOperator u)))
+    ∷ row k.Hold k.Request (one_request (λ r. of_rows (rows.HoldRequest r)))
+    ∷ row k.Release k.Request (one_request (λ r. of_rows (rows.ReleaseRequest r)))
+    ∷ row k.Move k.Request (request_and_name (λ r q. of_rows (rows.MoveRequest r q)))
+    ∷ row k.Modify k.Request (request_and_priority (λ r n. of_rows (rows.ModifyRequest r n)))
+    ∷ row k.Show k.Queues (alone (command.Show 48))
+    ∷ row k.Show k.Devices (alone (command.Show 49))
+    ∷ row k.Show k.Complexes (alone (command.Show 50))
+    ∷ row k.Show k.Managers (alone (command.Show 51))
+    ∷ row k.Show k.Parameters (alone (command.Show 52))
+    ∷ row k.Show k.Why (one_request (λ r. command.Why r))
+    ∷ []
 
-abbrev pub disable_shape : Keyword → Shape
-disable_shape k.Queue = one_name (λ q. of_conf (conf.DisableQueue q))
-disable_shape k.Device = one_name (λ d. of_devices (devices.DisableDevice d))
-disable_shape _ = nothing
-
--- what is set of a complex, a device or the host
-abbrev pub other_setting : Keyword → Shape
-other_setting k.ComplexLimit = number_and_name 0 10000 (λ n c. of_limits (limits.SetComplexLimit n c))
-other_setting k.GlobalLimit = number 0 10000 (λ n. of_limits (limits.SetGlobalLimit n))
-other_setting k.Forms = two_names (λ f d. of_devices (devices.SetForms f d))
-other_setting k.DefaultQueue = name_value (λ q. of_conf (conf.SetDefaultQueue q))
-other_setting k.NoDefaultQueue = alone (of_conf conf.SetNoDefaultQueue)
-other_setting k.Patience = number 1 86400 (λ n. of_conf (conf.SetPatience n))
-other_setting k.RetryWait = number 1 86400 (λ n. of_conf (conf.SetRetryWait n))
-other_setting _ = nothing
-
-abbrev pub set_shape : Keyword → Shape
-set_shape k.Priority = number_and_name 0 63 (λ n q. of_conf (conf.SetPriority n q))
-set_shape k.RunLimit = number_and_name 0 10000 (λ n q. of_conf (conf.SetRunLimit n q))
-set_shape k.UserLimit = limit_and_name Count (λ l q. of_limits (limits.SetUserLimit l q))
-set_shape k.CpuLimit = limit_and_name Time (λ l q. of_limits (limits.SetCpuLimit l q))
-set_shape k.MemoryLimit = limit_and_name Size (λ l q. of_limits (limits.SetMemoryLimit l q))
-set_shape k.UnrestrictedAccess = one_name (λ q. of_access (access.SetUnrestrictedAccess q))
-set_shape k.NoAccess = one_name (λ q. of_access (access.SetNoAccess q))
-set_shape keyword = other_setting keyword
-
-abbrev pub add_shape : Keyword → Shape
-add_shape k.Destination = dest_and_name (λ d q. of_conf (conf.AddDestination d q))
-add_shape k.Queue = two_names (λ q c. of_limits (limits.AddQueue q c))
-add_shape k.Device = two_names (λ d q. of_devices (devices.AddDevice d q))
-add_shape k.User = two_names (λ u q. of_access (access.AddUser u q))
-add_shape k.Manager = name_value (λ u. of_access (access.AddManager u))
-add_shape k.Operator = name_value (λ u. of_access (access.AddOperator u))
-add_shape _ = nothing
-
-abbrev pub remove_shape : Keyword → Shape
-remove_shape k.Destination = dest_and_name (λ d q. of_conf (conf.RemoveDestination d q))
-remove_shape k.Queue = two_names (λ q c. of_limits (limits.RemoveQueue q c))
-remove_shape k.Device = two_names (λ d q. of_devices (devices.RemoveDevice d q))
-remove_shape k.User = two_names (λ u q. of_access (access.RemoveUser u q))
-remove_shape k.Manager = name_value (λ u. of_access (access.RemoveManager u))
-remove_shape k.Operator = name_value (λ u. of_access (access.RemoveOperator u))
-remove_shape _ = nothing
-
--- the code of a list
-abbrev pub show_code : Keyword → Option ℕ
-show_code k.Queues = Some 48
-show_code k.Devices = Some 49
-show_code k.Complexes = Some 50
-show_code k.Managers = Some 51
-show_code k.Parameters = Some 52
-show_code _ = None
-
-abbrev pub listed : Option ℕ → Shape
-listed (Some code) = alone (command.Show code)
-listed None = nothing
-
-abbrev pub show_shape : Keyword → Shape
-show_shape k.Why = one_request (λ r. command.Why r)
-show_shape noun = listed (show_code noun)
-
--- the verbs whose lines name one queue or one request, which have one second keyword each
-abbrev pub single_shape : Keyword → Shape
-single_shape k.Start = one_name (λ q. of_conf (conf.StartQueue q))
-single_shape k.Stop = one_name (λ q. of_conf (conf.StopQueue q))
-single_shape k.Purge = one_name (λ q. of_conf (conf.PurgeQueue q))
-single_shape k.Abort = one_name (λ q. of_rows (rows.AbortQueue q))
-single_shape k.Hold = one_request (λ r. of_rows (rows.HoldRequest r))
-single_shape k.Release = one_request (λ r. of_rows (rows.ReleaseRequest r))
-single_shape k.Move = request_and_name (λ r q. of_rows (rows.MoveRequest r q))
-single_shape k.Modify = request_and_priority (λ r n. of_rows (rows.ModifyRequest r n))
-single_shape _ = nothing
-
-unfoldable pub shape_of : Keyword → Keyword → Shape
-shape_of k.Create noun = create_shape noun
-shape_of k.Delete noun = delete_shape noun
-shape_of k.Enable noun = enable_shape noun
-shape_of k.Disable noun = disable_shape noun
-shape_of k.Set noun = set_shape noun
-shape_of k.Add noun = add_shape noun
-shape_of k.Remove noun = remove_shape noun
-shape_of k.Show noun = show_shape noun
-shape_of verb noun = single_shape verb
-
--- ---- the keywords of each place
-
+-- what a line begins with
 unfoldable pub verbs : List Keyword
 verbs = k.Abort ∷ k.Add ∷ k.Create ∷ k.Delete ∷ k.Disable ∷ k.Enable ∷ k.Hold ∷ k.Modify ∷ k.Move ∷ k.Purge ∷ k.Release ∷ k.Remove ∷ k.Set ∷ k.Show ∷ k.Shutdown
     ∷ k.Start ∷ k.Stop ∷ []
 
-abbrev pub added_nouns : List Keyword
-added_nouns = k.Destination ∷ k.Queue ∷ k.Device ∷ k.User ∷ k.Manager ∷ k.Operator ∷ []
+-- a line has this verb
+abbrev pub is_of : Keyword → Line → Bool
+is_of verb l = is_same verb l.verb
 
-abbrev pub set_nouns : List Keyword
-set_nouns = k.Priority ∷ k.RunLimit ∷ k.UserLimit ∷ k.CpuLimit ∷ k.MemoryLimit ∷ k.ComplexLimit ∷ k.GlobalLimit ∷ k.Forms ∷ k.UnrestrictedAccess ∷ k.NoAccess
-    ∷ k.DefaultQueue ∷ k.NoDefaultQueue ∷ k.Patience ∷ k.RetryWait ∷ []
+-- and this second keyword
+abbrev pub is_line : Keyword → Keyword → Line → Bool
+is_line verb noun l = is_of verb l && is_same noun l.noun
 
+-- the second keywords of a verb
 unfoldable pub nouns : Keyword → List Keyword
-nouns k.Create = k.BatchQueue ∷ k.DeviceQueue ∷ k.PipeQueue ∷ k.Complex ∷ k.Device ∷ []
-nouns k.Delete = k.Queue ∷ k.Complex ∷ k.Device ∷ k.Request ∷ []
-nouns k.Enable = k.Queue ∷ k.Device ∷ []
-nouns k.Disable = k.Queue ∷ k.Device ∷ []
-nouns k.Start = k.Queue ∷ []
-nouns k.Stop = k.Queue ∷ []
-nouns k.Purge = k.Queue ∷ []
-nouns k.Abort = k.Queue ∷ []
-nouns k.Set = set_nouns
-nouns k.Add = added_nouns
-nouns k.Remove = added_nouns
-nouns k.Hold = k.Request ∷ []
-nouns k.Release = k.Request ∷ []
-nouns k.Move = k.Request ∷ []
-nouns k.Modify = k.Request ∷ []
-nouns k.Show = k.Queues ∷ k.Devices ∷ k.Complexes ∷ k.Managers ∷ k.Parameters ∷ k.Why ∷ []
-nouns _ = []
+nouns verb = map (λ (l : Line). l.noun) (filter (is_of verb) table)
+
+-- what stands from a second keyword on
+unfoldable pub shape_of : Keyword → Keyword → Shape
+shape_of verb noun = option_map_or (λ (l : Line). l.shape) (find (is_line verb noun) table) nothing
 
 -- ---- reading a shape, from its keyword on
 

@@ -1,10 +1,11 @@
 //! The lines by their keywords.
 
 ghost use Rattle.std.specs.Prelude.{◌≡◌, length};
+ghost use Rattle.nqs_types.specs.declared.event.Command.TheVariants as command;
 ghost use Rattle.nqs_words.specs.declared.keyword.Keyword.TheVariants as k;
 ghost use Rattle.nqs_qmgr.specs.Heads.{FitsLine};
-ghost use Rattle.nqs_qmgr.specs.Lines.{create_shape, delete_shape, enable_shape, disable_shape, set_shape, other_setting, add_shape, remove_shape, show_code, listed};
-ghost use Rattle.nqs_qmgr.specs.Lines.{show_shape, single_shape, shape_of, read_shape, after_verb, qmgr_line};
+ghost use Rattle.nqs_qmgr.specs.Shapes.{alone};
+ghost use Rattle.nqs_qmgr.specs.Lines.{shape_of, read_shape, after_verb, qmgr_line};
 ghost use Rattle.nqs_qmgr.specs.Law.{Answers};
 
 use crate::edits::{of_access, of_conf, of_devices, of_limits, of_rows};
@@ -19,10 +20,10 @@ use crate::value::Amount;
 use nqs_types::{AccessEdit, Command, ConfEdit, DevicesEdit, GrammarFault, LimitsEdit, RowsEdit};
 use nqs_words::Keyword;
 
-#[tactic(auto, unfolding(crate::specs::Lines::read_shape))]
+#[tactic(auto, unfolding(crate::specs::Lines::read_shape, crate::specs::Lines::shape_of, crate::specs::Lines::table))]
 fn create_batch_queue(line: &[u8], head: Head) -> Result<Command, GrammarFault>
     requires { FitsLine line.now head }
-    ensures { result ≡ read_shape (create_shape k.BatchQueue) line.now head }
+    ensures { result ≡ read_shape (shape_of k.Create k.BatchQueue) line.now head }
 {
     let (queue, settings) = read_made_queue(line, head, QUEUE_WORDS.as_slice())?;
     Ok(of_conf(ConfEdit::CreateBatchQueue {
@@ -33,10 +34,10 @@ fn create_batch_queue(line: &[u8], head: Head) -> Result<Command, GrammarFault>
     }))
 }
 
-#[tactic(auto, unfolding(crate::specs::Lines::read_shape))]
+#[tactic(auto, unfolding(crate::specs::Lines::read_shape, crate::specs::Lines::shape_of, crate::specs::Lines::table))]
 fn create_device_queue(line: &[u8], head: Head) -> Result<Command, GrammarFault>
     requires { FitsLine line.now head }
-    ensures { result ≡ read_shape (create_shape k.DeviceQueue) line.now head }
+    ensures { result ≡ read_shape (shape_of k.Create k.DeviceQueue) line.now head }
 {
     let (queue, settings) = read_made_queue(line, head, QUEUE_WORDS.as_slice())?;
     Ok(of_conf(ConfEdit::CreateDeviceQueue {
@@ -47,10 +48,10 @@ fn create_device_queue(line: &[u8], head: Head) -> Result<Command, GrammarFault>
     }))
 }
 
-#[tactic(auto, unfolding(crate::specs::Lines::read_shape))]
+#[tactic(auto, unfolding(crate::specs::Lines::read_shape, crate::specs::Lines::shape_of, crate::specs::Lines::table))]
 fn create_pipe_queue(line: &[u8], head: Head) -> Result<Command, GrammarFault>
     requires { FitsLine line.now head }
-    ensures { result ≡ read_shape (create_shape k.PipeQueue) line.now head }
+    ensures { result ≡ read_shape (shape_of k.Create k.PipeQueue) line.now head }
 {
     let (queue, settings) = read_made_queue(line, head, PIPE_WORDS.as_slice())?;
     Ok(of_conf(ConfEdit::CreatePipeQueue {
@@ -62,10 +63,10 @@ fn create_pipe_queue(line: &[u8], head: Head) -> Result<Command, GrammarFault>
     }))
 }
 
-#[tactic(auto, unfolding(crate::specs::Lines::read_shape))]
+#[tactic(auto, unfolding(crate::specs::Lines::read_shape, crate::specs::Lines::shape_of, crate::specs::Lines::table))]
 fn create_line(line: &[u8], head: Head) -> Result<Command, GrammarFault>
     requires { FitsLine line.now head }
-    ensures { result ≡ read_shape (create_shape head.keyword) line.now head }
+    ensures { result ≡ read_shape (shape_of k.Create head.keyword) line.now head }
 {
     match head.keyword {
         Keyword::BatchQueue => create_batch_queue(line, head),
@@ -83,10 +84,10 @@ fn create_line(line: &[u8], head: Head) -> Result<Command, GrammarFault>
     }
 }
 
-#[tactic(auto, unfolding(crate::specs::Lines::read_shape))]
+#[tactic(auto, unfolding(crate::specs::Lines::read_shape, crate::specs::Lines::shape_of, crate::specs::Lines::table))]
 fn delete_line(line: &[u8], head: Head) -> Result<Command, GrammarFault>
     requires { FitsLine line.now head }
-    ensures { result ≡ read_shape (delete_shape head.keyword) line.now head }
+    ensures { result ≡ read_shape (shape_of k.Delete head.keyword) line.now head }
 {
     match head.keyword {
         Keyword::Queue => {
@@ -109,10 +110,10 @@ fn delete_line(line: &[u8], head: Head) -> Result<Command, GrammarFault>
     }
 }
 
-#[tactic(auto, unfolding(crate::specs::Lines::read_shape))]
+#[tactic(auto, unfolding(crate::specs::Lines::read_shape, crate::specs::Lines::shape_of, crate::specs::Lines::table))]
 fn enable_line(line: &[u8], head: Head) -> Result<Command, GrammarFault>
     requires { FitsLine line.now head }
-    ensures { result ≡ read_shape (enable_shape head.keyword) line.now head }
+    ensures { result ≡ read_shape (shape_of k.Enable head.keyword) line.now head }
 {
     match head.keyword {
         Keyword::Queue => {
@@ -127,10 +128,10 @@ fn enable_line(line: &[u8], head: Head) -> Result<Command, GrammarFault>
     }
 }
 
-#[tactic(auto, unfolding(crate::specs::Lines::read_shape))]
+#[tactic(auto, unfolding(crate::specs::Lines::read_shape, crate::specs::Lines::shape_of, crate::specs::Lines::table))]
 fn disable_line(line: &[u8], head: Head) -> Result<Command, GrammarFault>
     requires { FitsLine line.now head }
-    ensures { result ≡ read_shape (disable_shape head.keyword) line.now head }
+    ensures { result ≡ read_shape (shape_of k.Disable head.keyword) line.now head }
 {
     match head.keyword {
         Keyword::Queue => {
@@ -145,49 +146,91 @@ fn disable_line(line: &[u8], head: Head) -> Result<Command, GrammarFault>
     }
 }
 
-// What is set of a complex, a device or the host.
-#[tactic(auto, unfolding(crate::specs::Lines::read_shape))]
-fn set_other(line: &[u8], head: Head) -> Result<Command, GrammarFault>
+#[tactic(auto, unfolding(crate::specs::Lines::read_shape, crate::specs::Lines::shape_of, crate::specs::Lines::table))]
+fn set_complex_limit(line: &[u8], head: Head) -> Result<Command, GrammarFault>
     requires { FitsLine line.now head }
-    ensures { result ≡ read_shape (other_setting head.keyword) line.now head }
+    ensures { result ≡ read_shape (shape_of k.Set k.ComplexLimit) line.now head }
 {
-    match head.keyword {
-        Keyword::ComplexLimit => {
-            let (limit, complex) = read_number_and_name(line, head, 0, 10_000)?;
-            Ok(of_limits(LimitsEdit::SetComplexLimit { limit, complex }))
-        }
-        Keyword::GlobalLimit => {
-            let limit = read_number(line, head, 0, 10_000)?;
-            Ok(of_limits(LimitsEdit::SetGlobalLimit { limit }))
-        }
-        Keyword::Forms => {
-            let (forms, device) = read_two_names(line, head)?;
-            Ok(of_devices(DevicesEdit::SetForms { forms, device }))
-        }
-        Keyword::DefaultQueue => {
-            let queue = read_name_value(line, head)?;
-            Ok(of_conf(ConfEdit::SetDefaultQueue { queue }))
-        }
-        Keyword::NoDefaultQueue => {
-            read_alone(line, head)?;
-            Ok(of_conf(ConfEdit::SetNoDefaultQueue))
-        }
-        Keyword::Patience => {
-            let seconds = read_number(line, head, 1, 86_400)?;
-            Ok(of_conf(ConfEdit::SetPatience { seconds }))
-        }
-        Keyword::RetryWait => {
-            let seconds = read_number(line, head, 1, 86_400)?;
-            Ok(of_conf(ConfEdit::SetRetryWait { seconds }))
-        }
-        _ => Err(GrammarFault::UnknownWord(head.word.start as u64)),
-    }
+    let (limit, complex) = read_number_and_name(line, head, 0, 10_000)?;
+    Ok(of_limits(LimitsEdit::SetComplexLimit { limit, complex }))
 }
 
-#[tactic(auto, unfolding(crate::specs::Lines::read_shape))]
+#[tactic(auto, unfolding(crate::specs::Lines::read_shape, crate::specs::Lines::shape_of, crate::specs::Lines::table))]
+fn set_global_limit(line: &[u8], head: Head) -> Result<Command, GrammarFault>
+    requires { FitsLine line.now head }
+    ensures { result ≡ read_shape (shape_of k.Set k.GlobalLimit) line.now head }
+{
+    let limit = read_number(line, head, 0, 10_000)?;
+    Ok(of_limits(LimitsEdit::SetGlobalLimit { limit }))
+}
+
+#[tactic(auto, unfolding(crate::specs::Lines::read_shape, crate::specs::Lines::shape_of, crate::specs::Lines::table))]
+fn set_forms(line: &[u8], head: Head) -> Result<Command, GrammarFault>
+    requires { FitsLine line.now head }
+    ensures { result ≡ read_shape (shape_of k.Set k.Forms) line.now head }
+{
+    let (forms, device) = read_two_names(line, head)?;
+    Ok(of_devices(DevicesEdit::SetForms { forms, device }))
+}
+
+#[tactic(auto, unfolding(crate::specs::Lines::read_shape, crate::specs::Lines::shape_of, crate::specs::Lines::table))]
+fn set_unrestricted_access(line: &[u8], head: Head) -> Result<Command, GrammarFault>
+    requires { FitsLine line.now head }
+    ensures { result ≡ read_shape (shape_of k.Set k.UnrestrictedAccess) line.now head }
+{
+    let queue = read_one_name(line, head)?;
+    Ok(of_access(AccessEdit::SetUnrestrictedAccess { queue }))
+}
+
+#[tactic(auto, unfolding(crate::specs::Lines::read_shape, crate::specs::Lines::shape_of, crate::specs::Lines::table))]
+fn set_no_access(line: &[u8], head: Head) -> Result<Command, GrammarFault>
+    requires { FitsLine line.now head }
+    ensures { result ≡ read_shape (shape_of k.Set k.NoAccess) line.now head }
+{
+    let queue = read_one_name(line, head)?;
+    Ok(of_access(AccessEdit::SetNoAccess { queue }))
+}
+
+#[tactic(auto, unfolding(crate::specs::Lines::read_shape, crate::specs::Lines::shape_of, crate::specs::Lines::table))]
+fn set_default_queue(line: &[u8], head: Head) -> Result<Command, GrammarFault>
+    requires { FitsLine line.now head }
+    ensures { result ≡ read_shape (shape_of k.Set k.DefaultQueue) line.now head }
+{
+    let queue = read_name_value(line, head)?;
+    Ok(of_conf(ConfEdit::SetDefaultQueue { queue }))
+}
+
+#[tactic(auto, unfolding(crate::specs::Lines::read_shape, crate::specs::Lines::shape_of, crate::specs::Lines::table))]
+fn set_no_default_queue(line: &[u8], head: Head) -> Result<Command, GrammarFault>
+    requires { FitsLine line.now head }
+    ensures { result ≡ read_shape (shape_of k.Set k.NoDefaultQueue) line.now head }
+{
+    read_alone(line, head)?;
+    Ok(of_conf(ConfEdit::SetNoDefaultQueue))
+}
+
+#[tactic(auto, unfolding(crate::specs::Lines::read_shape, crate::specs::Lines::shape_of, crate::specs::Lines::table))]
+fn set_patience(line: &[u8], head: Head) -> Result<Command, GrammarFault>
+    requires { FitsLine line.now head }
+    ensures { result ≡ read_shape (shape_of k.Set k.Patience) line.now head }
+{
+    let seconds = read_number(line, head, 1, 86_400)?;
+    Ok(of_conf(ConfEdit::SetPatience { seconds }))
+}
+
+#[tactic(auto, unfolding(crate::specs::Lines::read_shape, crate::specs::Lines::shape_of, crate::specs::Lines::table))]
+fn set_retry_wait(line: &[u8], head: Head) -> Result<Command, GrammarFault>
+    requires { FitsLine line.now head }
+    ensures { result ≡ read_shape (shape_of k.Set k.RetryWait) line.now head }
+{
+    let seconds = read_number(line, head, 1, 86_400)?;
+    Ok(of_conf(ConfEdit::SetRetryWait { seconds }))
+}
+
+#[tactic(auto, unfolding(crate::specs::Lines::read_shape, crate::specs::Lines::shape_of, crate::specs::Lines::table))]
 fn set_line(line: &[u8], head: Head) -> Result<Command, GrammarFault>
     requires { FitsLine line.now head }
-    ensures { result ≡ read_shape (set_shape head.keyword) line.now head }
+    ensures { result ≡ read_shape (shape_of k.Set head.keyword) line.now head }
 {
     match head.keyword {
         Keyword::Priority => {
@@ -210,22 +253,23 @@ fn set_line(line: &[u8], head: Head) -> Result<Command, GrammarFault>
             let (limit, queue) = read_limit_and_name(line, head, Amount::Size)?;
             Ok(of_limits(LimitsEdit::SetMemoryLimit { limit, queue }))
         }
-        Keyword::UnrestrictedAccess => {
-            let queue = read_one_name(line, head)?;
-            Ok(of_access(AccessEdit::SetUnrestrictedAccess { queue }))
-        }
-        Keyword::NoAccess => {
-            let queue = read_one_name(line, head)?;
-            Ok(of_access(AccessEdit::SetNoAccess { queue }))
-        }
-        _ => set_other(line, head),
+        Keyword::ComplexLimit => set_complex_limit(line, head),
+        Keyword::GlobalLimit => set_global_limit(line, head),
+        Keyword::Forms => set_forms(line, head),
+        Keyword::UnrestrictedAccess => set_unrestricted_access(line, head),
+        Keyword::NoAccess => set_no_access(line, head),
+        Keyword::DefaultQueue => set_default_queue(line, head),
+        Keyword::NoDefaultQueue => set_no_default_queue(line, head),
+        Keyword::Patience => set_patience(line, head),
+        Keyword::RetryWait => set_retry_wait(line, head),
+        _ => Err(GrammarFault::UnknownWord(head.word.start as u64)),
     }
 }
 
-#[tactic(auto, unfolding(crate::specs::Lines::read_shape))]
+#[tactic(auto, unfolding(crate::specs::Lines::read_shape, crate::specs::Lines::shape_of, crate::specs::Lines::table))]
 fn add_line(line: &[u8], head: Head) -> Result<Command, GrammarFault>
     requires { FitsLine line.now head }
-    ensures { result ≡ read_shape (add_shape head.keyword) line.now head }
+    ensures { result ≡ read_shape (shape_of k.Add head.keyword) line.now head }
 {
     match head.keyword {
         Keyword::Destination => {
@@ -256,10 +300,10 @@ fn add_line(line: &[u8], head: Head) -> Result<Command, GrammarFault>
     }
 }
 
-#[tactic(auto, unfolding(crate::specs::Lines::read_shape))]
+#[tactic(auto, unfolding(crate::specs::Lines::read_shape, crate::specs::Lines::shape_of, crate::specs::Lines::table))]
 fn remove_line(line: &[u8], head: Head) -> Result<Command, GrammarFault>
     requires { FitsLine line.now head }
-    ensures { result ≡ read_shape (remove_shape head.keyword) line.now head }
+    ensures { result ≡ read_shape (shape_of k.Remove head.keyword) line.now head }
 {
     match head.keyword {
         Keyword::Destination => {
@@ -290,81 +334,139 @@ fn remove_line(line: &[u8], head: Head) -> Result<Command, GrammarFault>
     }
 }
 
-fn show_code(keyword: Keyword) -> Option<u8>
-    ensures { result ≡ show_code keyword }
-{
-    match keyword {
-        Keyword::Queues => Some(48),
-        Keyword::Devices => Some(49),
-        Keyword::Complexes => Some(50),
-        Keyword::Managers => Some(51),
-        Keyword::Parameters => Some(52),
-        _ => None,
-    }
-}
-
 #[tactic(auto, unfolding(crate::specs::Lines::read_shape))]
-fn show_list(line: &[u8], head: Head) -> Result<Command, GrammarFault>
+fn show_list(line: &[u8], head: Head, code: u8) -> Result<Command, GrammarFault>
     requires { FitsLine line.now head }
-    ensures { result ≡ read_shape (listed (show_code head.keyword)) line.now head }
+    ensures { result ≡ read_shape (alone (command.Show code)) line.now head }
 {
-    let Some(code) = show_code(head.keyword) else {
-        return Err(GrammarFault::UnknownWord(head.word.start as u64));
-    };
     read_alone(line, head)?;
     Ok(Command::Show(code))
 }
 
-#[tactic(auto, unfolding(crate::specs::Lines::read_shape))]
+#[tactic(auto, unfolding(crate::specs::Lines::read_shape, crate::specs::Lines::shape_of, crate::specs::Lines::table))]
 fn show_line(line: &[u8], head: Head) -> Result<Command, GrammarFault>
     requires { FitsLine line.now head }
-    ensures { result ≡ read_shape (show_shape head.keyword) line.now head }
+    ensures { result ≡ read_shape (shape_of k.Show head.keyword) line.now head }
 {
     match head.keyword {
+        Keyword::Queues => show_list(line, head, 48),
+        Keyword::Devices => show_list(line, head, 49),
+        Keyword::Complexes => show_list(line, head, 50),
+        Keyword::Managers => show_list(line, head, 51),
+        Keyword::Parameters => show_list(line, head, 52),
         Keyword::Why => {
             let id = read_one_request(line, head)?;
             Ok(Command::Why(id))
         }
-        _ => show_list(line, head),
+        _ => Err(GrammarFault::UnknownWord(head.word.start as u64)),
     }
 }
 
-// The verbs whose lines name one queue or one request.
-#[tactic(auto, unfolding(crate::specs::Lines::read_shape, crate::specs::Lines::shape_of))]
-fn single_line(line: &[u8], head: Head, verb: Keyword) -> Result<Command, GrammarFault>
+#[tactic(auto, unfolding(crate::specs::Lines::read_shape, crate::specs::Lines::shape_of, crate::specs::Lines::table))]
+fn start_line(line: &[u8], head: Head) -> Result<Command, GrammarFault>
     requires { FitsLine line.now head }
-    ensures { result ≡ read_shape (single_shape verb) line.now head }
+    ensures { result ≡ read_shape (shape_of k.Start head.keyword) line.now head }
 {
-    match verb {
-        Keyword::Start => {
+    match head.keyword {
+        Keyword::Queue => {
             let queue = read_one_name(line, head)?;
             Ok(of_conf(ConfEdit::StartQueue { queue }))
         }
-        Keyword::Stop => {
+        _ => Err(GrammarFault::UnknownWord(head.word.start as u64)),
+    }
+}
+
+#[tactic(auto, unfolding(crate::specs::Lines::read_shape, crate::specs::Lines::shape_of, crate::specs::Lines::table))]
+fn stop_line(line: &[u8], head: Head) -> Result<Command, GrammarFault>
+    requires { FitsLine line.now head }
+    ensures { result ≡ read_shape (shape_of k.Stop head.keyword) line.now head }
+{
+    match head.keyword {
+        Keyword::Queue => {
             let queue = read_one_name(line, head)?;
             Ok(of_conf(ConfEdit::StopQueue { queue }))
         }
-        Keyword::Purge => {
+        _ => Err(GrammarFault::UnknownWord(head.word.start as u64)),
+    }
+}
+
+#[tactic(auto, unfolding(crate::specs::Lines::read_shape, crate::specs::Lines::shape_of, crate::specs::Lines::table))]
+fn purge_line(line: &[u8], head: Head) -> Result<Command, GrammarFault>
+    requires { FitsLine line.now head }
+    ensures { result ≡ read_shape (shape_of k.Purge head.keyword) line.now head }
+{
+    match head.keyword {
+        Keyword::Queue => {
             let queue = read_one_name(line, head)?;
             Ok(of_conf(ConfEdit::PurgeQueue { queue }))
         }
-        Keyword::Abort => {
+        _ => Err(GrammarFault::UnknownWord(head.word.start as u64)),
+    }
+}
+
+#[tactic(auto, unfolding(crate::specs::Lines::read_shape, crate::specs::Lines::shape_of, crate::specs::Lines::table))]
+fn abort_line(line: &[u8], head: Head) -> Result<Command, GrammarFault>
+    requires { FitsLine line.now head }
+    ensures { result ≡ read_shape (shape_of k.Abort head.keyword) line.now head }
+{
+    match head.keyword {
+        Keyword::Queue => {
             let queue = read_one_name(line, head)?;
             Ok(of_rows(RowsEdit::AbortQueue { queue }))
         }
-        Keyword::Hold => {
+        _ => Err(GrammarFault::UnknownWord(head.word.start as u64)),
+    }
+}
+
+#[tactic(auto, unfolding(crate::specs::Lines::read_shape, crate::specs::Lines::shape_of, crate::specs::Lines::table))]
+fn hold_line(line: &[u8], head: Head) -> Result<Command, GrammarFault>
+    requires { FitsLine line.now head }
+    ensures { result ≡ read_shape (shape_of k.Hold head.keyword) line.now head }
+{
+    match head.keyword {
+        Keyword::Request => {
             let request = read_one_request(line, head)?;
             Ok(of_rows(RowsEdit::HoldRequest { request }))
         }
-        Keyword::Release => {
+        _ => Err(GrammarFault::UnknownWord(head.word.start as u64)),
+    }
+}
+
+#[tactic(auto, unfolding(crate::specs::Lines::read_shape, crate::specs::Lines::shape_of, crate::specs::Lines::table))]
+fn release_line(line: &[u8], head: Head) -> Result<Command, GrammarFault>
+    requires { FitsLine line.now head }
+    ensures { result ≡ read_shape (shape_of k.Release head.keyword) line.now head }
+{
+    match head.keyword {
+        Keyword::Request => {
             let request = read_one_request(line, head)?;
             Ok(of_rows(RowsEdit::ReleaseRequest { request }))
         }
-        Keyword::Move => {
+        _ => Err(GrammarFault::UnknownWord(head.word.start as u64)),
+    }
+}
+
+#[tactic(auto, unfolding(crate::specs::Lines::read_shape, crate::specs::Lines::shape_of, crate::specs::Lines::table))]
+fn move_line(line: &[u8], head: Head) -> Result<Command, GrammarFault>
+    requires { FitsLine line.now head }
+    ensures { result ≡ read_shape (shape_of k.Move head.keyword) line.now head }
+{
+    match head.keyword {
+        Keyword::Request => {
             let (request, queue) = read_request_and_name(line, head)?;
             Ok(of_rows(RowsEdit::MoveRequest { request, queue }))
         }
-        Keyword::Modify => {
+        _ => Err(GrammarFault::UnknownWord(head.word.start as u64)),
+    }
+}
+
+#[tactic(auto, unfolding(crate::specs::Lines::read_shape, crate::specs::Lines::shape_of, crate::specs::Lines::table))]
+fn modify_line(line: &[u8], head: Head) -> Result<Command, GrammarFault>
+    requires { FitsLine line.now head }
+    ensures { result ≡ read_shape (shape_of k.Modify head.keyword) line.now head }
+{
+    match head.keyword {
+        Keyword::Request => {
             let (request, priority) = read_request_and_priority(line, head)?;
             Ok(of_rows(RowsEdit::ModifyRequest { request, priority }))
         }
@@ -372,7 +474,7 @@ fn single_line(line: &[u8], head: Head, verb: Keyword) -> Result<Command, Gramma
     }
 }
 
-#[tactic(auto, unfolding(crate::specs::Lines::shape_of))]
+#[tactic(auto, unfolding(crate::specs::Lines::read_shape, crate::specs::Lines::shape_of, crate::specs::Lines::table))]
 fn line_of(line: &[u8], head: Head, verb: Keyword) -> Result<Command, GrammarFault>
     requires { FitsLine line.now head }
     ensures { result ≡ read_shape (shape_of verb head.keyword) line.now head }
@@ -386,7 +488,15 @@ fn line_of(line: &[u8], head: Head, verb: Keyword) -> Result<Command, GrammarFau
         Keyword::Add => add_line(line, head),
         Keyword::Remove => remove_line(line, head),
         Keyword::Show => show_line(line, head),
-        _ => single_line(line, head, verb),
+        Keyword::Start => start_line(line, head),
+        Keyword::Stop => stop_line(line, head),
+        Keyword::Purge => purge_line(line, head),
+        Keyword::Abort => abort_line(line, head),
+        Keyword::Hold => hold_line(line, head),
+        Keyword::Release => release_line(line, head),
+        Keyword::Move => move_line(line, head),
+        Keyword::Modify => modify_line(line, head),
+        _ => Err(GrammarFault::UnknownWord(head.word.start as u64)),
     }
 }
 

@@ -101,7 +101,7 @@ pub fn verbs() -> &'static [Keyword]
 }
 
 /// The second keywords of a verb.
-#[tactic(auto, unfolding(crate::specs::Lines::nouns))]
+#[tactic(auto, unfolding(crate::specs::Lines::nouns, crate::specs::Lines::table))]
 pub fn nouns(verb: Keyword) -> &'static [Keyword]
     ensures { result.now ≡ nouns verb }
 {

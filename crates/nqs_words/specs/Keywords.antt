@@ -2,6 +2,7 @@
 use Rattle.std.specs.Prelude.{ℕ, ◌+◌, Bool, true, false, ◌&&◌, ◌==◌, nat_lt, nat_le, List, [], ◌∷◌, length, codes, if◌then◌else◌, Ok, Err, find, count_by}
 use Rattle.std.specs.Option.{option_map_or}
 use Rattle.std.specs.declared.result.Result.{Result}
+use Rattle.nqs_values.specs.Same.{name_eq}
 use Rattle.nqs_words.specs.declared.keyword.Keyword.{Keyword}
 use Rattle.nqs_words.specs.declared.keyword.Keyword.TheVariants as k
 use Rattle.nqs_words.specs.declared.keywords.NoKeyword.{NoKeyword}
@@ -58,6 +59,10 @@ spelling k.UnrestrictedAccess = codes "unrestricted_access"
 spelling k.User = codes "user"
 spelling k.UserLimit = codes "user_limit"
 spelling k.Why = codes "why"
+
+-- two keywords are the same one: they are written alike
+abbrev pub is_same : Keyword → Keyword → Bool
+is_same a b = name_eq (spelling a) (spelling b)
 
 -- an upper case letter in lower case
 abbrev pub lower : ℕ → ℕ
