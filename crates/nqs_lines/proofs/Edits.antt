@@ -2,6 +2,9 @@
 use Rattle.std.proofs.Common.{◌≡◌, ℕ, zero, suc, Bool, true, false, cond, nat_le, List, [], ◌∷◌, refl, Option, Some, None, option_map, is_some, Ok, Err, IfOk}
 use Rattle.std.proofs.Common.{codes}
 use Rattle.std.proofs.lemmas.Bool.{and_from}
+use Rattle.std.specs.Prelude.{find}
+use Rattle.std.specs.List.{AllByRecursion}
+use Rattle.std.specs.Option.{option_map_or}
 use Rattle.nqs_values.specs.Same.{name_eq}
 use Rattle.nqs_types.specs.declared.ids.Named.{Named}
 use Rattle.nqs_types.specs.declared.ids.NamedDest.{NamedDest}
@@ -25,8 +28,7 @@ use Rattle.nqs_qmgr.specs.Heads.{name_at, request_at, nothing_after, last_name, 
 use Rattle.nqs_qmgr.specs.Options.{no_settings, once, with_priority, with_run_limit, with_pipe_only, with_destination, with_option, per_word, options}
 use Rattle.nqs_qmgr.specs.Shapes.{Shape, nothing, alone, one_name, number, name_value, number_and_name, limit_and_name, two_names, dest_and_name, one_request}
 use Rattle.nqs_qmgr.specs.Shapes.{request_and_name, request_and_priority, name_and_forms, made_queue}
-use Rattle.nqs_qmgr.specs.Lines.{create_shape, delete_shape, enable_shape, disable_shape, set_shape, other_setting, add_shape, remove_shape, show_code, listed, show_shape}
-use Rattle.nqs_qmgr.specs.Lines.{single_shape, shape_of, verbs, nouns, read_alone, read_one_name, read_value, read_value_and_name, read_one_request}
+use Rattle.nqs_qmgr.specs.Lines.{Line, table, is_line, shape_of, verbs, nouns, read_alone, read_one_name, read_value, read_value_and_name, read_one_request}
 use Rattle.nqs_qmgr.specs.Lines.{read_request_and_name, last_value, read_request_and_priority, read_name_and_forms, read_made_queue, read_shape, after_verb}
 use Rattle.nqs_qmgr.specs.Lines.{qmgr_line}
 use Rattle.nqs_lines.specs.Acts.{of_line}
@@ -69,99 +71,96 @@ Allows (made_queue keywords f) = (q : List ℕ) (s : Settings) → AreSettled s 
 
 -- ---- the table of lines
 
-create_allows : (noun : Keyword) → Allows (create_shape noun)
-create_allows k.BatchQueue = λ q s h. and_from _ _ h.priority h.run_limit
-create_allows k.DeviceQueue = λ q s h. and_from _ _ h.priority h.run_limit
-create_allows k.PipeQueue = λ q s h. and_from _ _ h.priority h.run_limit
-create_allows k.Complex = λ q. refl
-create_allows k.Device = λ d f. refl
-create_allows _ = tt
+-- each line of the table
+each_allows : AllByRecursion (λ (l : Line). Allows l.shape) table
+unfolding table
+each_allows = (
+  -- create
+  (λ q s h. and_from _ _ h.priority h.run_limit),
+  (λ q s h. and_from _ _ h.priority h.run_limit),
+  (λ q s h. and_from _ _ h.priority h.run_limit),
+  (λ c. refl),
+  (λ d f. refl),
+  -- delete
+  (λ q. refl),
+  (λ c. refl),
+  (λ d. refl),
+  (λ r. refl),
+  -- enable
+  (λ q. refl),
+  (λ d. refl),
+  -- disable
+  (λ q. refl),
+  (λ d. refl),
+  -- start
+  (λ q. refl),
+  -- stop
+  (λ q. refl),
+  -- purge
+  (λ q. refl),
+  -- abort
+  (λ q. refl),
+  -- set
+  (λ n q h. h.1),
+  (λ n q h. h.1),
+  (λ l q h. h),
+  (λ l q h. refl),
+  (λ l q h. refl),
+  (λ n c h. h.1),
+  (λ n h. h.1),
+  (λ f d. refl),
+  (λ q. refl),
+  (λ q. refl),
+  (λ q. refl),
+  refl,
+  (λ n h. and_from _ _ h.0 h.1),
+  (λ n h. and_from _ _ h.0 h.1),
+  -- add
+  (λ d q. refl),
+  (λ q c. refl),
+  (λ d q. refl),
+  (λ u q. refl),
+  (λ u. refl),
+  (λ u. refl),
+  -- remove
+  (λ d q. refl),
+  (λ q c. refl),
+  (λ d q. refl),
+  (λ u q. refl),
+  (λ u. refl),
+  (λ u. refl),
+  -- hold
+  (λ r. refl),
+  -- release
+  (λ r. refl),
+  -- move
+  (λ r q. refl),
+  -- modify
+  (λ r n h. h.1),
+  -- show
+  refl,
+  refl,
+  refl,
+  refl,
+  refl,
+  (λ r. refl),
+  tt,
+)
 
-delete_allows : (noun : Keyword) → Allows (delete_shape noun)
-delete_allows k.Queue = λ q. refl
-delete_allows k.Complex = λ q. refl
-delete_allows k.Device = λ d. refl
-delete_allows k.Request = λ r. refl
-delete_allows _ = tt
-
-enable_allows : (noun : Keyword) → Allows (enable_shape noun)
-enable_allows k.Queue = λ q. refl
-enable_allows k.Device = λ d. refl
-enable_allows _ = tt
-
-disable_allows : (noun : Keyword) → Allows (disable_shape noun)
-disable_allows k.Queue = λ q. refl
-disable_allows k.Device = λ d. refl
-disable_allows _ = tt
-
-other_allows : (noun : Keyword) → Allows (other_setting noun)
-other_allows k.ComplexLimit = λ n c h. h.1
-other_allows k.GlobalLimit = λ n h. h.1
-other_allows k.Forms = λ f d. refl
-other_allows k.DefaultQueue = λ q. refl
-other_allows k.NoDefaultQueue = refl
-other_allows k.Patience = λ n h. and_from _ _ h.0 h.1
-other_allows k.RetryWait = λ n h. and_from _ _ h.0 h.1
-other_allows _ = tt
-
-set_allows : (noun : Keyword) → Allows (set_shape noun)
-set_allows k.Priority = λ n q h. h.1
-set_allows k.RunLimit = λ n q h. h.1
-set_allows k.UserLimit = λ l q h. h
-set_allows k.CpuLimit = λ l q h. refl
-set_allows k.MemoryLimit = λ l q h. refl
-set_allows k.UnrestrictedAccess = λ q. refl
-set_allows k.NoAccess = λ q. refl
-set_allows noun = other_allows noun
-
-add_allows : (noun : Keyword) → Allows (add_shape noun)
-add_allows k.Destination = λ d q. refl
-add_allows k.Queue = λ q c. refl
-add_allows k.Device = λ d q. refl
-add_allows k.User = λ u q. refl
-add_allows k.Manager = λ u. refl
-add_allows k.Operator = λ u. refl
-add_allows _ = tt
-
-remove_allows : (noun : Keyword) → Allows (remove_shape noun)
-remove_allows k.Destination = λ d q. refl
-remove_allows k.Queue = λ q c. refl
-remove_allows k.Device = λ d q. refl
-remove_allows k.User = λ u q. refl
-remove_allows k.Manager = λ u. refl
-remove_allows k.Operator = λ u. refl
-remove_allows _ = tt
-
-list_allows : (code : Option ℕ) → Allows (listed code)
-list_allows (Some code) = refl
-list_allows None = tt
-
-show_allows : (noun : Keyword) → Allows (show_shape noun)
-show_allows k.Why = λ r. refl
-show_allows noun = list_allows (show_code noun)
-
-single_allows : (verb : Keyword) → Allows (single_shape verb)
-single_allows k.Start = λ q. refl
-single_allows k.Stop = λ q. refl
-single_allows k.Purge = λ q. refl
-single_allows k.Abort = λ q. refl
-single_allows k.Hold = λ r. refl
-single_allows k.Release = λ r. refl
-single_allows k.Move = λ r q. refl
-single_allows k.Modify = λ r n h. h.1
-single_allows _ = tt
+-- and what stands behind two keywords, which is that of the first such line
+found_allows : (test : Line → Bool) (lines : List Line) → AllByRecursion (λ (l : Line). Allows l.shape) lines
+    → Allows (option_map_or (λ (l : Line). l.shape) (find test lines) nothing)
+found_allows test [] h = tt
+found_allows test (line ∷ lines) h = by (test line) (found_allows test lines h.1)
+  where
+    by : (t : Bool) → Allows (option_map_or (λ (l : Line). l.shape) (find test lines) nothing)
+        → Allows (option_map_or (λ (l : Line). l.shape) (cond t (Some line) (find test lines)) nothing)
+    by true later = h.0
+    by false later = later
 
 shape_allows : (verb noun : Keyword) → Allows (shape_of verb noun)
 unfolding shape_of
-shape_allows k.Create noun = create_allows noun
-shape_allows k.Delete noun = delete_allows noun
-shape_allows k.Enable noun = enable_allows noun
-shape_allows k.Disable noun = disable_allows noun
-shape_allows k.Set noun = set_allows noun
-shape_allows k.Add noun = add_allows noun
-shape_allows k.Remove noun = remove_allows noun
-shape_allows k.Show noun = show_allows noun
-shape_allows verb noun = single_allows verb
+shape_allows verb noun = found_allows (is_line verb noun) table each_allows
 
 -- ---- values
 

@@ -4,3 +4,4 @@ pub mod Shapes
 pub mod Fails
 pub mod Faulted
 pub mod Decided
+pub mod Table

@@ -1,5 +1,6 @@
 -- What is read is what the grammar has, and the fault that is answered is the line's first one.
-use Rattle.std.specs.Prelude.{◌≡◌, ◌↔◌, ◌⊎◌, ℕ, ◌≤◌, List, length, Some, Ok, Err, slice_range}
+use Rattle.std.specs.Prelude.{◌≡◌, ◌↔◌, ◌⊎◌, ℕ, ◌≤◌, List, length, map, find, Some, is_some, Ok, Err, slice_range}
+use Rattle.std.specs.List.{list_any}
 use Rattle.std.specs.declared.result.Result.{Result}
 use Rattle.nqs_types.specs.declared.event.Command.{Command}
 use Rattle.nqs_types.specs.declared.fault.GrammarFault.{GrammarFault}
@@ -7,7 +8,11 @@ use Rattle.nqs_types.specs.declared.fault.GrammarFault.TheVariants as fault
 use Rattle.nqs_words.specs.Words.{next_word}
 use Rattle.nqs_words.specs.declared.words.Word.{Word}
 use Rattle.nqs_words.specs.declared.words.Gaps.TheVariants.{SpacesAndTabs}
-use Rattle.nqs_qmgr.specs.Lines.{qmgr_line}
+use Rattle.nqs_words.specs.Keywords.{spelling, is_same, keyword_of}
+use Rattle.nqs_words.specs.declared.keyword.Keyword.{Keyword}
+use Rattle.nqs_words.specs.declared.keywords.NoKeyword.{NoKeyword}
+use Rattle.nqs_qmgr.specs.Shapes.{Shape}
+use Rattle.nqs_qmgr.specs.Lines.{Line, table, is_line, verbs, nouns, shape_of, qmgr_line}
 use Rattle.nqs_qmgr.specs.Says.{Says}
 use Rattle.nqs_qmgr.specs.Faults.{Faults}
 
@@ -34,6 +39,28 @@ OneCommand = (line : List ℕ) (c d : Command) → Says line c → Says line d �
 -- none has two first faults
 abbrev pub OneFault : Type 0
 OneFault = (line : List ℕ) (f g : GrammarFault) → Faults line f → Faults line g → f ≡ g
+
+-- ---- the table
+
+-- what is told of a line: the keywords that two words name, and what stands from there on
+abbrev pub Telling : Type 0
+Telling = Result Keyword NoKeyword × (Result Keyword NoKeyword × Shape)
+
+-- what the keywords of a line tell, written in full: among the verbs, and among the second ones of the verb
+abbrev pub told_by : Line → Telling
+told_by l = (keyword_of verbs (spelling l.verb), (keyword_of (nouns l.verb) (spelling l.noun), shape_of l.verb l.noun))
+
+-- the line itself
+abbrev pub as_it_stands : Line → Telling
+as_it_stands l = (Ok l.verb, (Ok l.noun, l.shape))
+
+-- each line of the table is told by its keywords: none is hidden by another
+abbrev pub EachLineIsTold : Type 0
+EachLineIsTold = map told_by table ≡ map as_it_stands table
+
+-- a keyword stands among the second ones of a verb just where the table has a line of the two
+abbrev pub NounsAreOfLines : Type 0
+NounsAreOfLines = (verb noun : Keyword) → list_any (is_same noun) (nouns verb) ≡ is_some (find (is_line verb noun) table)
 
 -- ---- a fault is decided by the words up to it
 

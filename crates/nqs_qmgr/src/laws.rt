@@ -2,6 +2,7 @@
 //! first fault.
 
 ghost use Rattle.nqs_qmgr.specs.Law.{ReadsWhatIsSaid, FindsTheFault, SaysOrFaults, NeverBoth, OneCommand, OneFault, NoCommandBeginsSo};
+ghost use Rattle.nqs_qmgr.specs.Law.{EachLineIsTold, NounsAreOfLines};
 
 /// A line is read as a command exactly where the grammar has it, and a fault is answered exactly
 /// where the line has it first; each line says one command or has one first fault, never both.
@@ -18,4 +19,11 @@ pub fn reads_what_is_said()
 /// that one has the same fault, whatever follows: no command begins with these words.
 pub fn no_command_begins_with_a_fault()
     ensures { NoCommandBeginsSo }
+{}
+
+/// Each line of the table is told by its own keywords, and a keyword stands behind a verb just
+/// where the table has a line of the two.
+pub fn lines_are_told_by_their_keywords()
+    ensures told { EachLineIsTold }
+    ensures nouns { NounsAreOfLines }
 {}

@@ -17,7 +17,9 @@ mod shape;
 mod value;
 
 pub use head::Head;
-pub use laws::{no_command_begins_with_a_fault, reads_what_is_said};
+pub use laws::{
+    lines_are_told_by_their_keywords, no_command_begins_with_a_fault, reads_what_is_said,
+};
 pub use lines::read_qmgr;
 pub use options::Settings;
 pub use value::Amount;

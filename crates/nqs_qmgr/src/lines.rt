@@ -1,4 +1,5 @@
 //! The lines by their keywords.
+#![tactic(auto, unfolding(crate::specs::Lines::read_shape, crate::specs::Lines::shape_of, crate::specs::Lines::table))]
 
 ghost use Rattle.std.specs.Prelude.{◌≡◌, length};
 ghost use Rattle.nqs_types.specs.declared.event.Command.TheVariants as command;
@@ -20,7 +21,6 @@ use crate::value::Amount;
 use nqs_types::{AccessEdit, Command, ConfEdit, DevicesEdit, GrammarFault, LimitsEdit, RowsEdit};
 use nqs_words::Keyword;
 
-#[tactic(auto, unfolding(crate::specs::Lines::read_shape, crate::specs::Lines::shape_of, crate::specs::Lines::table))]
 fn create_batch_queue(line: &[u8], head: Head) -> Result<Command, GrammarFault>
     requires { FitsLine line.now head }
     ensures { result ≡ read_shape (shape_of k.Create k.BatchQueue) line.now head }
@@ -34,7 +34,6 @@ fn create_batch_queue(line: &[u8], head: Head) -> Result<Command, GrammarFault>
     }))
 }
 
-#[tactic(auto, unfolding(crate::specs::Lines::read_shape, crate::specs::Lines::shape_of, crate::specs::Lines::table))]
 fn create_device_queue(line: &[u8], head: Head) -> Result<Command, GrammarFault>
     requires { FitsLine line.now head }
     ensures { result ≡ read_shape (shape_of k.Create k.DeviceQueue) line.now head }
@@ -48,7 +47,6 @@ fn create_device_queue(line: &[u8], head: Head) -> Result<Command, GrammarFault>
     }))
 }
 
-#[tactic(auto, unfolding(crate::specs::Lines::read_shape, crate::specs::Lines::shape_of, crate::specs::Lines::table))]
 fn create_pipe_queue(line: &[u8], head: Head) -> Result<Command, GrammarFault>
     requires { FitsLine line.now head }
     ensures { result ≡ read_shape (shape_of k.Create k.PipeQueue) line.now head }
@@ -63,7 +61,6 @@ fn create_pipe_queue(line: &[u8], head: Head) -> Result<Command, GrammarFault>
     }))
 }
 
-#[tactic(auto, unfolding(crate::specs::Lines::read_shape, crate::specs::Lines::shape_of, crate::specs::Lines::table))]
 fn create_line(line: &[u8], head: Head) -> Result<Command, GrammarFault>
     requires { FitsLine line.now head }
     ensures { result ≡ read_shape (shape_of k.Create head.keyword) line.now head }
@@ -84,7 +81,6 @@ fn create_line(line: &[u8], head: Head) -> Result<Command, GrammarFault>
     }
 }
 
-#[tactic(auto, unfolding(crate::specs::Lines::read_shape, crate::specs::Lines::shape_of, crate::specs::Lines::table))]
 fn delete_line(line: &[u8], head: Head) -> Result<Command, GrammarFault>
     requires { FitsLine line.now head }
     ensures { result ≡ read_shape (shape_of k.Delete head.keyword) line.now head }
@@ -110,7 +106,6 @@ fn delete_line(line: &[u8], head: Head) -> Result<Command, GrammarFault>
     }
 }
 
-#[tactic(auto, unfolding(crate::specs::Lines::read_shape, crate::specs::Lines::shape_of, crate::specs::Lines::table))]
 fn enable_line(line: &[u8], head: Head) -> Result<Command, GrammarFault>
     requires { FitsLine line.now head }
     ensures { result ≡ read_shape (shape_of k.Enable head.keyword) line.now head }
@@ -128,7 +123,6 @@ fn enable_line(line: &[u8], head: Head) -> Result<Command, GrammarFault>
     }
 }
 
-#[tactic(auto, unfolding(crate::specs::Lines::read_shape, crate::specs::Lines::shape_of, crate::specs::Lines::table))]
 fn disable_line(line: &[u8], head: Head) -> Result<Command, GrammarFault>
     requires { FitsLine line.now head }
     ensures { result ≡ read_shape (shape_of k.Disable head.keyword) line.now head }
@@ -146,7 +140,6 @@ fn disable_line(line: &[u8], head: Head) -> Result<Command, GrammarFault>
     }
 }
 
-#[tactic(auto, unfolding(crate::specs::Lines::read_shape, crate::specs::Lines::shape_of, crate::specs::Lines::table))]
 fn set_complex_limit(line: &[u8], head: Head) -> Result<Command, GrammarFault>
     requires { FitsLine line.now head }
     ensures { result ≡ read_shape (shape_of k.Set k.ComplexLimit) line.now head }
@@ -155,7 +148,6 @@ fn set_complex_limit(line: &[u8], head: Head) -> Result<Command, GrammarFault>
     Ok(of_limits(LimitsEdit::SetComplexLimit { limit, complex }))
 }
 
-#[tactic(auto, unfolding(crate::specs::Lines::read_shape, crate::specs::Lines::shape_of, crate::specs::Lines::table))]
 fn set_global_limit(line: &[u8], head: Head) -> Result<Command, GrammarFault>
     requires { FitsLine line.now head }
     ensures { result ≡ read_shape (shape_of k.Set k.GlobalLimit) line.now head }
@@ -164,7 +156,6 @@ fn set_global_limit(line: &[u8], head: Head) -> Result<Command, GrammarFault>
     Ok(of_limits(LimitsEdit::SetGlobalLimit { limit }))
 }
 
-#[tactic(auto, unfolding(crate::specs::Lines::read_shape, crate::specs::Lines::shape_of, crate::specs::Lines::table))]
 fn set_forms(line: &[u8], head: Head) -> Result<Command, GrammarFault>
     requires { FitsLine line.now head }
     ensures { result ≡ read_shape (shape_of k.Set k.Forms) line.now head }
@@ -173,7 +164,6 @@ fn set_forms(line: &[u8], head: Head) -> Result<Command, GrammarFault>
     Ok(of_devices(DevicesEdit::SetForms { forms, device }))
 }
 
-#[tactic(auto, unfolding(crate::specs::Lines::read_shape, crate::specs::Lines::shape_of, crate::specs::Lines::table))]
 fn set_unrestricted_access(line: &[u8], head: Head) -> Result<Command, GrammarFault>
     requires { FitsLine line.now head }
     ensures { result ≡ read_shape (shape_of k.Set k.UnrestrictedAccess) line.now head }
@@ -182,7 +172,6 @@ fn set_unrestricted_access(line: &[u8], head: Head) -> Result<Command, GrammarFa
     Ok(of_access(AccessEdit::SetUnrestrictedAccess { queue }))
 }
 
-#[tactic(auto, unfolding(crate::specs::Lines::read_shape, crate::specs::Lines::shape_of, crate::specs::Lines::table))]
 fn set_no_access(line: &[u8], head: Head) -> Result<Command, GrammarFault>
     requires { FitsLine line.now head }
     ensures { result ≡ read_shape (shape_of k.Set k.NoAccess) line.now head }
@@ -191,7 +180,6 @@ fn set_no_access(line: &[u8], head: Head) -> Result<Command, GrammarFault>
     Ok(of_access(AccessEdit::SetNoAccess { queue }))
 }
 
-#[tactic(auto, unfolding(crate::specs::Lines::read_shape, crate::specs::Lines::shape_of, crate::specs::Lines::table))]
 fn set_default_queue(line: &[u8], head: Head) -> Result<Command, GrammarFault>
     requires { FitsLine line.now head }
     ensures { result ≡ read_shape (shape_of k.Set k.DefaultQueue) line.now head }
@@ -200,7 +188,6 @@ fn set_default_queue(line: &[u8], head: Head) -> Result<Command, GrammarFault>
     Ok(of_conf(ConfEdit::SetDefaultQueue { queue }))
 }
 
-#[tactic(auto, unfolding(crate::specs::Lines::read_shape, crate::specs::Lines::shape_of, crate::specs::Lines::table))]
 fn set_no_default_queue(line: &[u8], head: Head) -> Result<Command, GrammarFault>
     requires { FitsLine line.now head }
     ensures { result ≡ read_shape (shape_of k.Set k.NoDefaultQueue) line.now head }
@@ -209,7 +196,6 @@ fn set_no_default_queue(line: &[u8], head: Head) -> Result<Command, GrammarFault
     Ok(of_conf(ConfEdit::SetNoDefaultQueue))
 }
 
-#[tactic(auto, unfolding(crate::specs::Lines::read_shape, crate::specs::Lines::shape_of, crate::specs::Lines::table))]
 fn set_patience(line: &[u8], head: Head) -> Result<Command, GrammarFault>
     requires { FitsLine line.now head }
     ensures { result ≡ read_shape (shape_of k.Set k.Patience) line.now head }
@@ -218,7 +204,6 @@ fn set_patience(line: &[u8], head: Head) -> Result<Command, GrammarFault>
     Ok(of_conf(ConfEdit::SetPatience { seconds }))
 }
 
-#[tactic(auto, unfolding(crate::specs::Lines::read_shape, crate::specs::Lines::shape_of, crate::specs::Lines::table))]
 fn set_retry_wait(line: &[u8], head: Head) -> Result<Command, GrammarFault>
     requires { FitsLine line.now head }
     ensures { result ≡ read_shape (shape_of k.Set k.RetryWait) line.now head }
@@ -227,7 +212,6 @@ fn set_retry_wait(line: &[u8], head: Head) -> Result<Command, GrammarFault>
     Ok(of_conf(ConfEdit::SetRetryWait { seconds }))
 }
 
-#[tactic(auto, unfolding(crate::specs::Lines::read_shape, crate::specs::Lines::shape_of, crate::specs::Lines::table))]
 fn set_line(line: &[u8], head: Head) -> Result<Command, GrammarFault>
     requires { FitsLine line.now head }
     ensures { result ≡ read_shape (shape_of k.Set head.keyword) line.now head }
@@ -266,7 +250,6 @@ fn set_line(line: &[u8], head: Head) -> Result<Command, GrammarFault>
     }
 }
 
-#[tactic(auto, unfolding(crate::specs::Lines::read_shape, crate::specs::Lines::shape_of, crate::specs::Lines::table))]
 fn add_line(line: &[u8], head: Head) -> Result<Command, GrammarFault>
     requires { FitsLine line.now head }
     ensures { result ≡ read_shape (shape_of k.Add head.keyword) line.now head }
@@ -300,7 +283,6 @@ fn add_line(line: &[u8], head: Head) -> Result<Command, GrammarFault>
     }
 }
 
-#[tactic(auto, unfolding(crate::specs::Lines::read_shape, crate::specs::Lines::shape_of, crate::specs::Lines::table))]
 fn remove_line(line: &[u8], head: Head) -> Result<Command, GrammarFault>
     requires { FitsLine line.now head }
     ensures { result ≡ read_shape (shape_of k.Remove head.keyword) line.now head }
@@ -343,7 +325,6 @@ fn show_list(line: &[u8], head: Head, code: u8) -> Result<Command, GrammarFault>
     Ok(Command::Show(code))
 }
 
-#[tactic(auto, unfolding(crate::specs::Lines::read_shape, crate::specs::Lines::shape_of, crate::specs::Lines::table))]
 fn show_line(line: &[u8], head: Head) -> Result<Command, GrammarFault>
     requires { FitsLine line.now head }
     ensures { result ≡ read_shape (shape_of k.Show head.keyword) line.now head }
@@ -362,7 +343,6 @@ fn show_line(line: &[u8], head: Head) -> Result<Command, GrammarFault>
     }
 }
 
-#[tactic(auto, unfolding(crate::specs::Lines::read_shape, crate::specs::Lines::shape_of, crate::specs::Lines::table))]
 fn start_line(line: &[u8], head: Head) -> Result<Command, GrammarFault>
     requires { FitsLine line.now head }
     ensures { result ≡ read_shape (shape_of k.Start head.keyword) line.now head }
@@ -376,7 +356,6 @@ fn start_line(line: &[u8], head: Head) -> Result<Command, GrammarFault>
     }
 }
 
-#[tactic(auto, unfolding(crate::specs::Lines::read_shape, crate::specs::Lines::shape_of, crate::specs::Lines::table))]
 fn stop_line(line: &[u8], head: Head) -> Result<Command, GrammarFault>
     requires { FitsLine line.now head }
     ensures { result ≡ read_shape (shape_of k.Stop head.keyword) line.now head }
@@ -390,7 +369,6 @@ fn stop_line(line: &[u8], head: Head) -> Result<Command, GrammarFault>
     }
 }
 
-#[tactic(auto, unfolding(crate::specs::Lines::read_shape, crate::specs::Lines::shape_of, crate::specs::Lines::table))]
 fn purge_line(line: &[u8], head: Head) -> Result<Command, GrammarFault>
     requires { FitsLine line.now head }
     ensures { result ≡ read_shape (shape_of k.Purge head.keyword) line.now head }
@@ -404,7 +382,6 @@ fn purge_line(line: &[u8], head: Head) -> Result<Command, GrammarFault>
     }
 }
 
-#[tactic(auto, unfolding(crate::specs::Lines::read_shape, crate::specs::Lines::shape_of, crate::specs::Lines::table))]
 fn abort_line(line: &[u8], head: Head) -> Result<Command, GrammarFault>
     requires { FitsLine line.now head }
     ensures { result ≡ read_shape (shape_of k.Abort head.keyword) line.now head }
@@ -418,7 +395,6 @@ fn abort_line(line: &[u8], head: Head) -> Result<Command, GrammarFault>
     }
 }
 
-#[tactic(auto, unfolding(crate::specs::Lines::read_shape, crate::specs::Lines::shape_of, crate::specs::Lines::table))]
 fn hold_line(line: &[u8], head: Head) -> Result<Command, GrammarFault>
     requires { FitsLine line.now head }
     ensures { result ≡ read_shape (shape_of k.Hold head.keyword) line.now head }
@@ -432,7 +408,6 @@ fn hold_line(line: &[u8], head: Head) -> Result<Command, GrammarFault>
     }
 }
 
-#[tactic(auto, unfolding(crate::specs::Lines::read_shape, crate::specs::Lines::shape_of, crate::specs::Lines::table))]
 fn release_line(line: &[u8], head: Head) -> Result<Command, GrammarFault>
     requires { FitsLine line.now head }
     ensures { result ≡ read_shape (shape_of k.Release head.keyword) line.now head }
@@ -446,7 +421,6 @@ fn release_line(line: &[u8], head: Head) -> Result<Command, GrammarFault>
     }
 }
 
-#[tactic(auto, unfolding(crate::specs::Lines::read_shape, crate::specs::Lines::shape_of, crate::specs::Lines::table))]
 fn move_line(line: &[u8], head: Head) -> Result<Command, GrammarFault>
     requires { FitsLine line.now head }
     ensures { result ≡ read_shape (shape_of k.Move head.keyword) line.now head }
@@ -460,7 +434,6 @@ fn move_line(line: &[u8], head: Head) -> Result<Command, GrammarFault>
     }
 }
 
-#[tactic(auto, unfolding(crate::specs::Lines::read_shape, crate::specs::Lines::shape_of, crate::specs::Lines::table))]
 fn modify_line(line: &[u8], head: Head) -> Result<Command, GrammarFault>
     requires { FitsLine line.now head }
     ensures { result ≡ read_shape (shape_of k.Modify head.keyword) line.now head }
@@ -474,7 +447,6 @@ fn modify_line(line: &[u8], head: Head) -> Result<Command, GrammarFault>
     }
 }
 
-#[tactic(auto, unfolding(crate::specs::Lines::read_shape, crate::specs::Lines::shape_of, crate::specs::Lines::table))]
 fn line_of(line: &[u8], head: Head, verb: Keyword) -> Result<Command, GrammarFault>
     requires { FitsLine line.now head }
     ensures { result ≡ read_shape (shape_of verb head.keyword) line.now head }

@@ -6,3 +6,4 @@ pub mod SmallHost
 pub mod Stops
 pub mod SmallNetwork
 pub mod Definitions
+pub mod Waits

@@ -13,3 +13,4 @@ pub mod queue_edits;
 pub mod small_host;
 pub mod small_network;
 pub mod stops;
+pub mod waits;

@@ -1,0 +1,8 @@
+use Rattle.std.proofs.Common.{refl}
+use Rattle.std.specs.Fmt.{digits}
+use Rattle.nqs_text.specs.Dates.{two, four, moment_text, year_of, month_of, second_text, day_text, date_text}
+use Rattle.nqs_worked.proofs.waits.destinations_say_why.Goals as goal
+
+pub returns : goal.returns
+unfolding digits two four moment_text year_of month_of second_text day_text date_text
+returns c = refl
