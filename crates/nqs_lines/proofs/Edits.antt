@@ -71,81 +71,85 @@ Allows (made_queue keywords f) = (q : List ℕ) (s : Settings) → AreSettled s 
 
 -- ---- the table of lines
 
--- each line of the table
+infixr 5 ◌&◌
+-- the two together
+◌&◌ : {A B : Type 0} → A → B → A × B
+a & b = (a, b)
+
+-- each line of the table, in its order
 each_allows : AllByRecursion (λ (l : Line). Allows l.shape) table
 unfolding table
-each_allows = (
-  -- create
-  (λ q s h. and_from _ _ h.priority h.run_limit),
-  (λ q s h. and_from _ _ h.priority h.run_limit),
-  (λ q s h. and_from _ _ h.priority h.run_limit),
-  (λ c. refl),
-  (λ d f. refl),
-  -- delete
-  (λ q. refl),
-  (λ c. refl),
-  (λ d. refl),
-  (λ r. refl),
-  -- enable
-  (λ q. refl),
-  (λ d. refl),
-  -- disable
-  (λ q. refl),
-  (λ d. refl),
-  -- start
-  (λ q. refl),
-  -- stop
-  (λ q. refl),
-  -- purge
-  (λ q. refl),
-  -- abort
-  (λ q. refl),
-  -- set
-  (λ n q h. h.1),
-  (λ n q h. h.1),
-  (λ l q h. h),
-  (λ l q h. refl),
-  (λ l q h. refl),
-  (λ n c h. h.1),
-  (λ n h. h.1),
-  (λ f d. refl),
-  (λ q. refl),
-  (λ q. refl),
-  (λ q. refl),
-  refl,
-  (λ n h. and_from _ _ h.0 h.1),
-  (λ n h. and_from _ _ h.0 h.1),
-  -- add
-  (λ d q. refl),
-  (λ q c. refl),
-  (λ d q. refl),
-  (λ u q. refl),
-  (λ u. refl),
-  (λ u. refl),
-  -- remove
-  (λ d q. refl),
-  (λ q c. refl),
-  (λ d q. refl),
-  (λ u q. refl),
-  (λ u. refl),
-  (λ u. refl),
-  -- hold
-  (λ r. refl),
-  -- release
-  (λ r. refl),
-  -- move
-  (λ r q. refl),
-  -- modify
-  (λ r n h. h.1),
-  -- show
-  refl,
-  refl,
-  refl,
-  refl,
-  refl,
-  (λ r. refl),
-  tt,
-)
+each_allows =
+    -- create
+    (λ q s h. and_from _ _ h.priority h.run_limit)
+    & (λ q s h. and_from _ _ h.priority h.run_limit)
+    & (λ q s h. and_from _ _ h.priority h.run_limit)
+    & (λ c. refl)
+    & (λ d f. refl)
+    -- delete
+    & (λ q. refl)
+    & (λ c. refl)
+    & (λ d. refl)
+    & (λ r. refl)
+    -- enable
+    & (λ q. refl)
+    & (λ d. refl)
+    -- disable
+    & (λ q. refl)
+    & (λ d. refl)
+    -- start
+    & (λ q. refl)
+    -- stop
+    & (λ q. refl)
+    -- purge
+    & (λ q. refl)
+    -- abort
+    & (λ q. refl)
+    -- set
+    & (λ n q h. h.1)
+    & (λ n q h. h.1)
+    & (λ l q h. h)
+    & (λ l q h. refl)
+    & (λ l q h. refl)
+    & (λ n c h. h.1)
+    & (λ n h. h.1)
+    & (λ f d. refl)
+    & (λ q. refl)
+    & (λ q. refl)
+    & (λ q. refl)
+    & refl
+    & (λ n h. and_from _ _ h.0 h.1)
+    & (λ n h. and_from _ _ h.0 h.1)
+    -- add
+    & (λ d q. refl)
+    & (λ q c. refl)
+    & (λ d q. refl)
+    & (λ u q. refl)
+    & (λ u. refl)
+    & (λ u. refl)
+    -- remove
+    & (λ d q. refl)
+    & (λ q c. refl)
+    & (λ d q. refl)
+    & (λ u q. refl)
+    & (λ u. refl)
+    & (λ u. refl)
+    -- hold
+    & (λ r. refl)
+    -- release
+    & (λ r. refl)
+    -- move
+    & (λ r q. refl)
+    -- modify
+    & (λ r n h. h.1)
+    -- show
+    & refl
+    & refl
+    & refl
+    & refl
+    & refl
+    & (λ r. refl)
+    & tt
 
 -- and what stands behind two keywords, which is that of the first such line
 found_allows : (test : Line → Bool) (lines : List Line) → AllByRecursion (λ (l : Line). Allows l.shape) lines
