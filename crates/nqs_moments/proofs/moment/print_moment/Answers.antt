@@ -24,7 +24,8 @@ returns-in-Ok c =
       is_second = second_is date c.from.result moment year known.day;
     } in
     let within = c.if-moment-gt253402214400.false in
+    let same = one_text c.text_of-text.result (date_text moment) moment is (date_is_moment moment within) in
     record {
       printed = (within, c.text_of-text.result, is, c.in-Ok.ensures.items);
-      date = c.in-Ok.ensures.items ∙ ap (λ (l : List ℕ). c.args.out.now.items ++ l) (one_text c.text_of-text.result (date_text moment) moment is (date_is_moment moment within));
+      date = c.in-Ok.ensures.items ∙ ap (λ (l : List ℕ). c.args.out.now.items ++ l) same;
     }
