@@ -1,6 +1,6 @@
 use nqs_qmgr::read_qmgr;
 use nqs_types::{
-    AccessEdit, Command, ConfEdit, DevicesEdit, Edit, GrammarFault, LimitsEdit, RowsEdit,
+    AccessEdit, Command, ConfEdit, DevicesEdit, Edit, GrammarFault, LimitsEdit, Named, RowsEdit,
 };
 use nqs_values::Name;
 use std::rt::HostRuntime;
@@ -246,11 +246,26 @@ fn frees_memory_by(line: &[u8], name: &Name) -> bool {
     }
 }
 
-// Whether it asks why the request of number 12 of this host waits.
-fn asks_by(line: &[u8], host: &Name) -> bool {
+// The request of which it is asked why it waits.
+fn asked_of(command: &Command) -> Option<Named> {
+    match command {
+        Command::Why(id) => Some(*id),
+        _ => None,
+    }
+}
+
+fn asked(line: &[u8]) -> Option<Named> {
     match read_qmgr(line) {
-        Ok(Command::Why(id)) => id.seq == 12 && id.host == *host,
-        _ => false,
+        Ok(command) => asked_of(&command),
+        Err(_) => None,
+    }
+}
+
+// Whether that is the one of number 12 of this host.
+fn asks_by(line: &[u8], host: &Name) -> bool {
+    match asked(line) {
+        Some(id) => id.seq == 12 && id.host == *host,
+        None => false,
     }
 }
 
