@@ -21,6 +21,7 @@ pub data Arrival : Type 0 where
   came : (bytes : List ℕ) → Arrival
   quiet : Arrival
 
+-- what a receive brought, by its answer and the buffer
 abbrev pub arrival : Received → List ℕ → Arrival
 arrival (Datagram n) buf = came (take n buf)
 arrival Quiet buf = quiet
@@ -30,6 +31,7 @@ pub record Packet : Type 0 where
   pub to : Address
   pub bytes : List ℕ
 
+-- a datagram of these bytes to this address
 abbrev pub packet : Address → List ℕ → Packet
 packet to bytes = record { to = to; bytes = bytes }
 
@@ -45,6 +47,7 @@ pub record Print : Type 0 where
   pub bytes : List ℕ
   pub ok : Bool
 
+-- what was to be printed, made of its parts
 abbrev pub printed : List ℕ → LaunchOrder → List ℕ → Bool → Print
 printed device order bytes ok = record { device = device; order = order; bytes = bytes; ok = ok }
 
@@ -54,6 +57,7 @@ pub record Filing : Type 0 where
   pub bytes : List ℕ
   pub ok : Bool
 
+-- a file that was to be written, made of its parts
 abbrev pub filed : List ℕ → List ℕ → Bool → Filing
 filed path bytes ok = record { path = path; bytes = bytes; ok = ok }
 
@@ -63,9 +67,11 @@ pub record Job : Type 0 where
   pub start : ℕ
   pub end : Option RunEnd
 
+-- how a job ended, if it was run
 abbrev pub end_of : Result RunEnd Failed → Option RunEnd
 end_of (Ok end) = Some end
 end_of (Err failed) = None
 
+-- a job that was to be run, made of its parts
 abbrev pub ran : RequestId → ℕ → Option RunEnd → Job
 ran id start end = record { id = id; start = start; end = end }

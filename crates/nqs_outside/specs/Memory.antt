@@ -16,8 +16,10 @@ pub record Offer : Type 0 where
   pub bytes : List ℕ
   pub taken : Option ℕ
 
+-- what was offered in a call, made of its parts
 abbrev pub offer : List ℕ → Option ℕ → Offer
 offer bytes taken = record { bytes = bytes; taken = taken }
 
+-- what was offered in each call, in order
 abbrev pub offers_of : List SinkCall → List Offer
 offers_of calls = map (λ call. offer call.offered call.taken) calls

@@ -9,34 +9,43 @@ use Rattle.nqs_records.specs.Fields.{u8_at, u16_at, u64_at, bool_at, name_at, pa
 use Rattle.nqs_records.specs.Parts.{id_at, carried_at}
 use Rattle.nqs_packets.specs.Parts.{is_any, number_at, cause_at, bytes_at, tool_at, words_at}
 
+-- an offer of a request: the handover's number, the queue that it is for, what is carried, and its script
 unfoldable pub offer_at : Reading Body
 offer_at =
     mapped (λ v. Offer v.0 v.1.0 v.1.1.0 v.1.1.1)
     (both number_at λ _. both name_at λ _. both carried_at λ _. bytes_at (is_at_most 32768))
 
+-- that the request of this handover is stored at the receiver
 unfoldable pub ready_at : Reading Body
 ready_at = mapped (λ n. Ready n) number_at
 
+-- that the receiver refuses this handover, with the number of the refusal
 unfoldable pub refused_at : Reading Body
 refused_at = mapped (λ v. Refused v.0 v.1) (both number_at λ _. cause_at)
 
+-- that the request of this handover is the receiver's
 unfoldable pub commit_at : Reading Body
 commit_at = mapped (λ n. Commit n) number_at
 
+-- that the request of this handover is in a queue of the receiver, or was
 unfoldable pub done_at : Reading Body
 done_at = mapped (λ n. Done n) number_at
 
+-- the question what of the promise of this number
 unfoldable pub inquire_at : Reading Body
 inquire_at = mapped (λ n. Inquire n) number_at
 
+-- that the request of this number isn't the receiver's
 unfoldable pub abort_at : Reading Body
 abort_at = mapped (λ n. Abort n) number_at
 
+-- an output of a job, to be written as a file: its number, its path and its bytes
 unfoldable pub stage_at : Reading Body
 stage_at =
     mapped (λ v. Stage v.0 v.1.0 v.1.1)
     (both number_at λ _. both path_at λ _. bytes_at (is_at_most 32768))
 
+-- that the output of this number was taken
 unfoldable pub staged_at : Reading Body
 staged_at = mapped (λ n. Staged n) number_at
 
@@ -46,14 +55,17 @@ ask_at =
     mapped (λ v. Ask v.0 v.1.0 v.1.1.0 v.1.1.1.0 v.1.1.1.1.0 v.1.1.1.1.1)
     (both u16_at λ _. both u64_at λ _. both name_at λ _. both tool_at λ tool. both (words_at tool) λ _. bytes_at (is_at_most 32768))
 
+-- the answer to a client: the token of its ask, whether that was done, and a text
 unfoldable pub answer_at : Reading Body
 answer_at = mapped (λ v. Answer v.0 v.1.0 v.1.1) (both u64_at λ _. both bool_at λ _. bytes_at is_any)
 
+-- the end of a job: its shepherd's port, the request, the start, the exit status and both outputs
 unfoldable pub ended_at : Reading Body
 ended_at =
     mapped (λ v. Ended v.0 v.1.0 v.1.1.0 v.1.1.1.0 v.1.1.1.1.0 v.1.1.1.1.1)
     (both u16_at λ _. both id_at λ _. both u16_at λ _. both u8_at λ _. both (bytes_at (is_at_most 16384)) λ _. bytes_at (is_at_most 16384))
 
+-- that the end of this start of this request is known
 unfoldable pub ended_ack_at : Reading Body
 ended_ack_at = mapped (λ v. EndedAck v.0 v.1) (both id_at λ _. u16_at)
 
@@ -63,5 +75,6 @@ bodies =
     offer_at ∷ ready_at ∷ refused_at ∷ commit_at ∷ done_at ∷ inquire_at ∷ abort_at ∷ stage_at ∷ staged_at
     ∷ ask_at ∷ answer_at ∷ ended_at ∷ ended_ack_at ∷ []
 
+-- there is no such kind, which is found at the second byte
 abbrev pub no_body : Reading Body
 no_body bytes place = Err (Kind 1)

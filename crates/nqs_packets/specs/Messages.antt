@@ -24,11 +24,12 @@ SpellsNone bytes = (message : Message) → MaySend message → bytes ≡ spellin
 abbrev pub ReadsTheSpelling : Type 0
 ReadsTheSpelling = (bytes : List ℕ) (message : Message) → AreBytes bytes → message_of bytes ≡ Ok message ↔ (bytes ≡ spelling message) × MaySend message
 
--- the sender, and the host of an offered request, are of a site of so many hosts
+-- the host of an offered request is of a site of so many hosts
 abbrev pub offers_of_site : ℕ → Body → Bool
 offers_of_site hosts (Offer number queue carried script) = is_of_site hosts carried.id.host
 offers_of_site hosts _ = true
 
+-- the sender, and the host of an offered request, are of a site of so many hosts
 abbrev pub comes_from_site : ℕ → Message → Bool
 comes_from_site hosts message = is_of_site hosts message.from && offers_of_site hosts message.body
 

@@ -11,6 +11,7 @@ use Rattle.nqs_records.specs.Fields.{u8_at, u16_at, u32_at, u64_at}
 abbrev pub is_number : ℕ → Bool
 is_number n = nat_le 1 n
 
+-- the number of a handover or a stage, from 1 on
 unfoldable pub number_at : Reading ℕ
 number_at = within is_number u64_at
 
@@ -36,15 +37,19 @@ is_any n = true
 
 -- ---- commands of clients
 
+-- the tools that ask, in the order of their numbers
 abbrev pub tools : List Tool
 tools = Qsub ∷ Qstat ∷ Qdel ∷ Qmgr ∷ Tick ∷ []
 
+-- whether a tool has this number
 abbrev pub is_tool : ℕ → Bool
 is_tool n = nat_le 1 n && nat_le n 5
 
+-- the tool of this number
 abbrev pub tool_of : ℕ → Tool
 tool_of n = numbered tools n Tick
 
+-- a tool, by its number
 unfoldable pub tool_at : Reading Tool
 tool_at = mapped tool_of (within is_tool u8_at)
 
@@ -56,5 +61,6 @@ is_word_count Qdel n = true
 is_word_count Qmgr n = n == 1
 is_word_count Tick n = n == 0
 
+-- a tool's words, as many as it may have
 unfoldable pub words_at : Tool → Reading (List (List ℕ))
 words_at tool = counted (within (is_word_count tool) u16_at) (bytes_at is_any)

@@ -30,12 +30,15 @@ one_if false = None
 unfoldable pub flag_field : Bool → List ℕ
 flag_field is_set = opt_field u64_field (one_if is_set)
 
+-- a destination: the names of a queue and of a host
 unfoldable pub dest_field : NamedDest → List ℕ
 dest_field d = fields (short_field d.queue ∷ short_field d.host ∷ [])
 
+-- a request as it was typed: its number and the name of its host
 unfoldable pub named_field : Named → List ℕ
 named_field n = fields (u32_field n.seq ∷ short_field n.host ∷ [])
 
+-- the edits of queues and of the host's parameters
 unfoldable pub conf_field : ConfEdit → List ℕ
 conf_field (CreateBatchQueue queue priority run_limit pipe_only) = fields
     (u8_field 1 ∷ short_field queue ∷ opt_field u64_field priority ∷ opt_field u64_field run_limit ∷ flag_field pipe_only ∷ [])
@@ -59,6 +62,7 @@ conf_field SetNoDefaultQueue = fields (u8_field 40 ∷ [])
 conf_field (SetPatience seconds) = fields (u8_field 41 ∷ u64_field seconds ∷ [])
 conf_field (SetRetryWait seconds) = fields (u8_field 42 ∷ u64_field seconds ∷ [])
 
+-- the edits of limits and complexes
 unfoldable pub limits_field : LimitsEdit → List ℕ
 limits_field (SetUserLimit limit queue) = fields (u8_field 13 ∷ opt_field u64_field limit ∷ short_field queue ∷ [])
 limits_field (SetCpuLimit limit queue) = fields (u8_field 14 ∷ opt_field u64_field limit ∷ short_field queue ∷ [])
@@ -70,6 +74,7 @@ limits_field (RemoveQueue queue complex) = fields (u8_field 21 ∷ short_field q
 limits_field (SetComplexLimit limit complex) = fields (u8_field 22 ∷ u64_field limit ∷ short_field complex ∷ [])
 limits_field (SetGlobalLimit limit) = fields (u8_field 23 ∷ u64_field limit ∷ [])
 
+-- the edits of who may do what
 unfoldable pub access_field : AccessEdit → List ℕ
 access_field (SetUnrestrictedAccess queue) = fields (u8_field 31 ∷ short_field queue ∷ [])
 access_field (SetNoAccess queue) = fields (u8_field 32 ∷ short_field queue ∷ [])
@@ -80,6 +85,7 @@ access_field (RemoveManager user) = fields (u8_field 36 ∷ short_field user ∷
 access_field (AddOperator user) = fields (u8_field 37 ∷ short_field user ∷ [])
 access_field (RemoveOperator user) = fields (u8_field 38 ∷ short_field user ∷ [])
 
+-- the edits of devices
 unfoldable pub devices_field : DevicesEdit → List ℕ
 devices_field (CreateDevice device forms) = fields (u8_field 24 ∷ short_field device ∷ short_field forms ∷ [])
 devices_field (DeleteDevice device) = fields (u8_field 25 ∷ short_field device ∷ [])
@@ -89,6 +95,7 @@ devices_field (SetForms forms device) = fields (u8_field 28 ∷ short_field form
 devices_field (AddDevice device queue) = fields (u8_field 29 ∷ short_field device ∷ short_field queue ∷ [])
 devices_field (RemoveDevice device queue) = fields (u8_field 30 ∷ short_field device ∷ short_field queue ∷ [])
 
+-- the edits of requests
 unfoldable pub rows_field : RowsEdit → List ℕ
 rows_field (AbortQueue queue) = fields (u8_field 10 ∷ short_field queue ∷ [])
 rows_field (HoldRequest request) = fields (u8_field 43 ∷ named_field request ∷ [])
@@ -96,6 +103,7 @@ rows_field (ReleaseRequest request) = fields (u8_field 44 ∷ named_field reques
 rows_field (MoveRequest request queue) = fields (u8_field 45 ∷ named_field request ∷ short_field queue ∷ [])
 rows_field (ModifyRequest request priority) = fields (u8_field 46 ∷ named_field request ∷ u64_field priority ∷ [])
 
+-- an edit of any kind
 unfoldable pub edit_field : Edit → List ℕ
 edit_field (Conf e) = conf_field e
 edit_field (LimitsOf e) = limits_field e

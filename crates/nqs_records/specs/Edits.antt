@@ -24,9 +24,11 @@ use Rattle.nqs_records.specs.declared.edit_parts.Created.{Created}
 abbrev pub nothing_at : Reading (Unit {0})
 nothing_at bytes place = Ok (tt, place)
 
+-- a number of 8 bytes, up to a limit
 unfoldable pub at_most_at : ℕ → Reading ℕ
 at_most_at limit = within (is_at_most limit) u64_at
 
+-- seconds to wait, from 1 to 86,400
 unfoldable pub wait_at : Reading ℕ
 wait_at = within is_wait u64_at
 
@@ -34,40 +36,51 @@ wait_at = within is_wait u64_at
 unfoldable pub flag_at : Reading Bool
 flag_at = mapped (λ n. is_some n) (opt_at (within (λ n. n == 1) u64_at))
 
+-- two names
 unfoldable pub names_at : Reading (List ℕ × List ℕ)
 names_at = both name_at (λ _. name_at)
 
+-- a destination: the names of a queue and of a host
 unfoldable pub dest_at : Reading NamedDest
 dest_at = mapped (λ v. record { queue = v.0; host = v.1 }) names_at
 
+-- a request as it was typed: its number and the name of its host
 unfoldable pub named_at : Reading Named
 named_at = mapped (λ v. record { seq = v.0; host = v.1 }) (both seq_at (λ _. name_at))
 
+-- what creates a batch or a device queue: its name, priority and run limit where given, and whether pipe-only
 unfoldable pub created_at : Reading Created
 created_at =
     mapped (λ v. record { queue = v.0; priority = v.1.0; run_limit = v.1.1.0; pipe_only = v.1.1.1 })
     (both name_at λ _. both (opt_at (at_most_at 63)) λ _. both (opt_at (at_most_at 10000)) λ _. flag_at)
 
+-- what creates a pipe queue: the same, and a destination where one is given
 unfoldable pub pipe_created_at : Reading Edit
 pipe_created_at =
     mapped (λ v. Conf (CreatePipeQueue v.0 v.1.0 v.1.1.0 v.1.1.1.0 v.1.1.1.1))
     (both name_at λ _. both (opt_at (at_most_at 63)) λ _. both (opt_at (at_most_at 10000)) λ _. both flag_at λ _. opt_at dest_at)
 
+-- a number up to a limit, and a name
 unfoldable pub number_and_name_at : ℕ → Reading (ℕ × List ℕ)
 number_and_name_at limit = both (at_most_at limit) (λ _. name_at)
 
+-- how many requests of one user may run at once, if not any number, and a queue's name
 unfoldable pub user_limit_at : Reading (Option ℕ × List ℕ)
 user_limit_at = both (opt_at (at_most_at 10000)) (λ _. name_at)
 
+-- a limit of seconds or bytes, if there is one, and a queue's name
 unfoldable pub limit_at : Reading (Option ℕ × List ℕ)
 limit_at = both (opt_at u64_at) (λ _. name_at)
 
+-- a destination, and a queue's name
 unfoldable pub dest_and_name_at : Reading (NamedDest × List ℕ)
 dest_and_name_at = both dest_at (λ _. name_at)
 
+-- a request as it was typed, and a queue's name
 unfoldable pub named_and_name_at : Reading (Named × List ℕ)
 named_and_name_at = both named_at (λ _. name_at)
 
+-- a request as it was typed, and its priority, up to 63
 unfoldable pub named_and_priority_at : Reading (Named × ℕ)
 named_and_priority_at = both named_at (λ _. at_most_at 63)
 

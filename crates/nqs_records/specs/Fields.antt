@@ -35,24 +35,30 @@ number_at size number bytes place =
     if nat_lt (length (drop place bytes)) size then Err (record { 0 = length bytes })
     else Ok (number (take size (drop place bytes)), place + size)
 
+-- a number of one byte
 unfoldable pub u8_at : Reading ℕ
 u8_at bytes place = or_short (number_at 1 (λ part. slice_index part 0) bytes place)
 
+-- a number of two bytes
 unfoldable pub u16_at : Reading ℕ
 u16_at bytes place = or_short (number_at 2 (from_be_bytes w16) bytes place)
 
+-- a number of four bytes
 unfoldable pub u32_at : Reading ℕ
 u32_at bytes place = or_short (number_at 4 (from_be_bytes w32) bytes place)
 
+-- a number of eight bytes
 unfoldable pub u64_at : Reading ℕ
 u64_at bytes place = or_short (number_at 8 (from_be_bytes w64) bytes place)
 
 -- ---- yes and no
 
+-- a byte that is 0 for no or 1 for yes, and no other
 unfoldable pub bool_of : ℕ → ℕ → List ℕ → Result (Bool × ℕ) FieldFault
 bool_of end place [] = Err (field.Short end)
 bool_of end place (b ∷ rest) = if b == 0 then Ok (false, place + 1) else (if b == 1 then Ok (true, place + 1) else Err (field.Bad place))
 
+-- no or yes
 unfoldable pub bool_at : Reading Bool
 bool_at bytes place = or_fault (bool_of (length bytes) place (drop place bytes))
 
@@ -81,6 +87,7 @@ abbrev pub named : ℕ → List ℕ → Option ℕ → Result (List ℕ × ℕ) 
 named place value None = Ok (value, place + 1 + length value)
 named place value (Some offset) = Err (field.Bad (place + 1 + offset))
 
+-- a name behind its length, of at most 15 bytes, each of which may stand at its place
 unfoldable pub name_of : List ℕ → ℕ → Result (List ℕ × ℕ) FieldFault
 name_of bytes place = do
   value ← short_of 15 (length bytes) place (drop place bytes)
@@ -91,13 +98,16 @@ abbrev pub pathed : ℕ → List ℕ → Option ℕ → Result (List ℕ × ℕ)
 pathed place value None = if has_parent value then Err (field.Bad place) else named place value None
 pathed place value (Some offset) = named place value (Some offset)
 
+-- a path behind its length, of at most 255 bytes
 unfoldable pub path_of : List ℕ → ℕ → Result (List ℕ × ℕ) FieldFault
 path_of bytes place = do
   value ← short_of 255 (length bytes) place (drop place bytes)
   pathed place value (first_bad path_allowed_at value)
 
+-- a name
 unfoldable pub name_at : Reading (List ℕ)
 name_at bytes place = or_fault (name_of bytes place)
 
+-- a path
 unfoldable pub path_at : Reading (List ℕ)
 path_at bytes place = or_fault (path_of bytes place)

@@ -11,15 +11,19 @@ use Rattle.nqs_records.specs.Reading.{Reading, mapped, both, within}
 use Rattle.nqs_records.specs.Fields.{u8_at, u16_at, u32_at, u64_at, bool_at, opt_at, name_at, path_at}
 use Rattle.nqs_records.specs.Values.{is_host, is_seq, is_at_most}
 
+-- a host, by its place in the site, below 16
 unfoldable pub host_at : Reading HostId
 host_at = mapped (λ n. record { 0 = n }) (within is_host u8_at)
 
+-- the number of a request, from 1 on
 unfoldable pub seq_at : Reading ℕ
 seq_at = within is_seq u32_at
 
+-- a request: its number, and the host of its submission
 unfoldable pub id_at : Reading RequestId
 id_at = mapped (λ v. record { seq = v.0; host = v.1 }) (both seq_at (λ _. host_at))
 
+-- an extent of the spool: its place, and its length, at most 32,768
 unfoldable pub extent_at : Reading Extent
 extent_at = mapped (λ v. record { place = v.0; length = v.1 }) (both u64_at (λ _. within (is_at_most 32768) u32_at))
 
@@ -42,6 +46,7 @@ job_of v = record {
   join = v.1.1.1.1.1.1.1.1.1.1;
 }
 
+-- a job, by its fields in order
 unfoldable pub job_at : Reading Job
 job_at = mapped job_of (
     both name_at λ _. both name_at λ _. both (within (is_at_most 63) u8_at) λ _. both u64_at λ _. both bool_at λ _.
@@ -49,14 +54,17 @@ job_at = mapped job_of (
     both path_at λ _. both path_at λ _. bool_at
     )
 
+-- what goes from host to host with a request, which was lost as often as it was started
 unfoldable pub carried_at : Reading Carried
 carried_at = mapped (λ v. record { id = v.0; job = v.1.0; starts = v.1.1.0; lost = v.1.1.1.0; hops = v.1.1.1.1 }) (
     both id_at λ _. both job_at λ _. both (within (is_at_most 65534) u16_at) λ starts.
     both (within (λ lost. lost == starts) u16_at) λ _. within (is_at_most 32) u8_at
     )
 
+-- an output of a job: its path, and where its bytes are
 unfoldable pub part_at : Reading (OutPart Extent)
 part_at = mapped (λ v. record { path = v.0; bytes = v.1 }) (both path_at (λ _. extent_at))
 
+-- a handover, by its peer and its number
 unfoldable pub hand_at : Reading PeerNumber
 hand_at = mapped (λ v. record { peer = v.0; number = v.1 }) (both host_at (λ _. u64_at))

@@ -4,8 +4,8 @@ use Rattle.std.specs.declared.result.Result.{Result}
 use Rattle.nqs_records.specs.declared.fault.RecordFault.{RecordFault}
 use Rattle.nqs_records.specs.declared.fault.RecordFault.TheVariants.{BadField, Memory}
 
--- what follows a value, unless there is a fault
 infixl 10 ◌>>=◌
+-- what follows a value, unless there is a fault
 abbrev pub ◌>>=◌ : {E A B : Type 0} → Result A E → (A → Result B E) → Result B E
 ◌>>=◌ {E} {A} {B} (Ok a) f = f a
 ◌>>=◌ {E} {A} {B} (Err e) f = Err e

@@ -22,12 +22,15 @@ opt_field {A} field (Some a) = bool_field true ++ field a
 unfoldable pub list_field : {A : Type 0} → (A → List ℕ) → List A → List ℕ
 list_field {A} field xs = u8_field (length xs) ++ flat_map field xs
 
+-- a request: its number, and the host of its submission
 unfoldable pub id_field : RequestId → List ℕ
 id_field id = fields (u32_field id.seq ∷ u8_field id.host.0 ∷ [])
 
+-- an extent of the spool: its place and its length
 unfoldable pub extent_field : Extent → List ℕ
 extent_field e = fields (u64_field e.place ∷ u32_field e.length ∷ [])
 
+-- a job, by its fields in order
 unfoldable pub job_field : Job → List ℕ
 job_field j = fields (
     short_field j.name ∷ short_field j.owner ∷ u8_field j.priority ∷ u64_field j.earliest ∷ bool_field j.rerun
@@ -35,11 +38,14 @@ job_field j = fields (
     ∷ short_field j.out ∷ short_field j.err ∷ bool_field j.join ∷ []
     )
 
+-- what goes from host to host with a request
 unfoldable pub carried_field : Carried → List ℕ
 carried_field c = fields (id_field c.id ∷ job_field c.job ∷ u16_field c.starts ∷ u16_field c.lost ∷ u8_field c.hops ∷ [])
 
+-- an output of a job: its path, and where its bytes are
 unfoldable pub part_field : OutPart Extent → List ℕ
 part_field p = fields (short_field p.path ∷ extent_field p.bytes ∷ [])
 
+-- a handover, by its peer and its number
 unfoldable pub hand_field : PeerNumber → List ℕ
 hand_field h = fields (u8_field h.peer.0 ∷ u64_field h.number ∷ [])

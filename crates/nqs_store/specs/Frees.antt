@@ -29,6 +29,7 @@ part_of part (Some v) = part v ∷ []
 abbrev pub goes_at_boot : Row Extent → Bool
 goes_at_boot row = is_running row.state && not (may_start_again row)
 
+-- how many more numbers there are for outputs to a peer
 abbrev pub stages_left : Option Peer → ℕ
 stages_left None = 0
 stages_left (Some peer) = last_u64 - peer.stage_next
@@ -37,6 +38,7 @@ stages_left (Some peer) = last_u64 - peer.stage_next
 abbrev pub numbers_left : HostId → Host → ℕ
 numbers_left to host = if same_host host.me to then last_u64 - host.file_next else stages_left (find_peer to host)
 
+-- the script of the request that a handover is of
 abbrev pub row_of_hand : Host → Option Hand → List Extent
 row_of_hand host None = []
 row_of_hand host (Some hand) = part_of row_part (find_row hand.id host)

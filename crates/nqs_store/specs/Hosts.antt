@@ -8,6 +8,7 @@ use Rattle.nqs_outside.specs.History.{Call, History, failed, extended, state, af
 abbrev pub HostCall : Type 0
 HostCall = Which × Call
 
+-- whether both are the same disk
 abbrev pub same_disk : Which → Which → Bool
 same_disk Root Root = true
 same_disk First First = true
@@ -15,6 +16,7 @@ same_disk Second Second = true
 same_disk Spool Spool = true
 same_disk _ _ = false
 
+-- calls, all of one disk
 abbrev pub on : Which → List Call → List HostCall
 on which calls = map (λ call. (which, call)) calls
 
@@ -37,6 +39,7 @@ EachPrefix old run P =
 abbrev pub EachMoment : (old now : Which → History) → ((Which → List ℕ) → Type 0) → Type 0
 EachMoment old now P = (run : List HostCall) × Runs old now run × EachPrefix old run P
 
+-- the same call of the same disk, that failed
 abbrev pub failed_on : HostCall → HostCall
 failed_on call = (call.0, failed call.1)
 

@@ -7,15 +7,19 @@ use Rattle.nqs_types.specs.declared.request.Stage.{Stage}
 use Rattle.nqs_types.specs.declared.request.FileOut.{FileOut}
 use Rattle.nqs_store.specs.Told.{Host}
 
+-- where the script of a request is
 abbrev pub row_part : Row Extent → Extent
 row_part row = row.script
 
+-- where the script of a promised request is
 abbrev pub promise_part : Promise Extent → Extent
 promise_part promise = promise.row.script
 
+-- where the bytes of a stage are
 abbrev pub stage_part : Stage Extent → Extent
 stage_part stage = stage.bytes
 
+-- where the bytes of a file are
 abbrev pub file_part : FileOut Extent → Extent
 file_part file = file.bytes
 

@@ -3,9 +3,11 @@ use Rattle.std.specs.Prelude.{ℕ, ◌≤◌, List, [], ◌∷◌, length}
 use Rattle.nqs_values.specs.declared.extent.Extent.{Extent}
 use Rattle.nqs_spool.specs.Extents.{Holds}
 
+-- they are no more than a script or an output may have
 abbrev pub IsShortPut : List ℕ → Type 0
 IsShortPut bytes = length bytes ≤ 32768
 
+-- where an extent begins
 abbrev pub place_of : Extent → ℕ
 place_of extent = extent.place
 

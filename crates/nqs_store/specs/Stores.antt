@@ -15,6 +15,7 @@ use Rattle.nqs_store.specs.Live.{live, bytes_at}
 use Rattle.nqs_store.specs.declared.store.Store.{Store}
 
 module _ {D : Type 0} {g : disk.Ghosts D} where
+  -- one of the store's disks
   abbrev pub disk_of : Which → Store D g → D
   disk_of Root store = store.root
   disk_of First store = journal.disk_of store.first
