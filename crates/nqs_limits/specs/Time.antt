@@ -7,6 +7,7 @@ use Rattle.nqs_text.specs.Number.{decimal, first_other}
 use Rattle.nqs_text.specs.declared.number.NumberFault.{NumberFault}
 use Rattle.nqs_text.specs.declared.number.NumberFault.TheVariants.{Empty, BadByte, TooLarge}
 
+-- the place of the first colon, if there is one
 unfoldable pub first_colon : List ℕ → Option ℕ
 first_colon bytes = position (λ b. b == 58) bytes
 
@@ -39,6 +40,7 @@ abbrev pub later_seconds : Option ℕ → ℕ → List ℕ → ℕ
 later_seconds None n bytes = n * 60 + decimal bytes
 later_seconds (Some colon) n bytes = (n * 60 + decimal (take colon bytes)) * 60 + decimal (drop (colon + 1) bytes)
 
+-- the seconds of one to three parts, of which the first ends at this colon
 abbrev pub all_seconds : Option ℕ → List ℕ → ℕ
 all_seconds None bytes = decimal bytes
 all_seconds (Some colon) bytes = later_seconds (first_colon (drop (colon + 1) bytes)) (decimal (take colon bytes)) (drop (colon + 1) bytes)

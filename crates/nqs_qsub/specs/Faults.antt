@@ -45,6 +45,7 @@ FaultsBehind source words text line n place o [] fault = NoOption source words t
 FaultsBehind source words text line n place o (p ∷ steps) fault = GivesOption source words text n place o p
     × FaultsBehind source words text line p.number p.place p.options steps fault
 
+-- the words from a place on give options up to the first fault, which is this
 abbrev pub WordsFail : Source → List (List ℕ) → List ℕ → ℕ → ℕ → Options → WordsFault → Type 0
 WordsFail source words text line place o fault = (steps : List Progress) × FaultsBehind source words text line 1 place o steps fault
 
@@ -56,6 +57,7 @@ FaultsBelow script line place o [] fault = (line_kind (drop place script) ≡ Wo
     × WordsFail Script [] (take (line_end script place) script) line (place + 3) o fault
 FaultsBelow script line place o (more ∷ lines) fault = LineGives script place o more × FaultsBelow script (line + 1) (next_line script place) more lines fault
 
+-- the lines of the script give options up to the first fault, which is this
 abbrev pub ScriptFails : List ℕ → WordsFault → Type 0
 ScriptFails script fault = (lines : List Options) × FaultsBelow script 1 0 no_options lines fault
 

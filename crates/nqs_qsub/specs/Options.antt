@@ -32,6 +32,7 @@ flag_of bytes =
     (if name_eq (codes "-lM") bytes then Some flag.Memory else
     (if name_eq (codes "-f") bytes then Some flag.Forms else None))))))))))
 
+-- no option was given
 abbrev pub no_options : Options
 no_options =
     record {
@@ -73,6 +74,7 @@ is_both o _ = false
 unfoldable pub fresh : Options → Flag → Result (Unit {0}) WordsCause
 fresh o f = if is_given o f then Err cause.Repeated else (if is_both o f then Err cause.Both else Ok tt)
 
+-- does a word follow the option that is its value?
 unfoldable pub takes_value : Flag → Bool
 takes_value flag.Join = false
 takes_value flag.NoRerun = false
@@ -89,6 +91,7 @@ abbrev pub given : {A : Type 0} → Option A → WordsCause → (A → Options) 
 given {A} (Some a) cause set = Ok (set a)
 given {A} None cause set = Err cause
 
+-- the place of a value that is a path
 abbrev pub path_at : List ℕ → Place → Option Place
 path_at text at = if is_path text then Some at else None
 
@@ -114,16 +117,19 @@ with_value source words text line n token o f = do
   more ← located line (n + 1) (valued o f (text_of words text value.at) value.at)
   Ok (record { options = more; number = n + 2; place = value.after })
 
+-- an option's word with its value, or without where it takes none
 abbrev pub with_flag : Bool → Source → List (List ℕ) → List ℕ → ℕ → ℕ → Token → Options → Flag → Read Progress
 with_flag true source words text line n token o f = with_value source words text line n token o f
 with_flag false source words text line n token o f = Ok (record { options = marked o f; number = n + 1; place = token.after })
 
+-- the option whose word stands there, of number n, where it may be given
 unfoldable pub one_option : Source → List (List ℕ) → List ℕ → ℕ → ℕ → Token → Options → Read Progress
 one_option source words text line n token o = do
   f ← or_fault (flag_of (text_of words text token.at)) (fault_at line n cause.Unknown)
   first ← located line n (fresh o f)
   with_flag (takes_value f) source words text line n token o f
 
+-- what comes of the next word, or of there being none
 abbrev pub per_token : {A : Type 0} → Option Token → Read A → (Token → Read A) → Read A
 per_token {A} None last next = last
 per_token {A} (Some token) last next = next token

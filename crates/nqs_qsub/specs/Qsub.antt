@@ -34,6 +34,7 @@ merged c s =
       forms = option_or c.forms s.forms;
     }
 
+-- the options of the command and of the script together, or the first fault
 unfoldable pub both_options : List (List ℕ) → List ℕ → Read Options
 both_options words script = do
   command ← read_words 12 Command words [] 0 1 0 no_options
@@ -49,6 +50,7 @@ abbrev pub path_text : List (List ℕ) → List ℕ → Option Place → List �
 path_text words script (Some at) = text_of words script at
 path_text words script None = []
 
+-- the job that the options ask for; without them it is named `STDIN`, has priority 31 and is rerunnable
 abbrev pub job : List ℕ → List (List ℕ) → List ℕ → Options → Job
 job user words script o =
     record {
@@ -64,6 +66,7 @@ job user words script o =
       join = o.join;
     }
 
+-- what is submitted: the queue, if one was named, the job and the script
 abbrev pub submission : List ℕ → List (List ℕ) → List ℕ → Options → Submission
 submission user words script o = record { queue = o.queue; job = job user words script o; script = script }
 

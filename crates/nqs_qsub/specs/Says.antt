@@ -58,6 +58,7 @@ abbrev pub GiveLines : List ℕ → ℕ → Options → List Options → Options
 GiveLines script place o [] all = (line_kind (drop place script) ≡ Last) × (all ≡ o)
 GiveLines script place o (more ∷ lines) all = LineGives script place o more × GiveLines script (next_line script place) more lines all
 
+-- the lines of the script give these options
 abbrev pub ScriptGives : List ℕ → Options → Type 0
 ScriptGives script all = (lines : List Options) × GiveLines script 0 no_options lines all
 

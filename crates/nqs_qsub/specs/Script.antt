@@ -13,6 +13,7 @@ abbrev pub has_mark : List ℕ → Bool
 has_mark (a ∷ b ∷ c ∷ rest) = a == 35 && (b == 64 && c == 36)
 has_mark _ = false
 
+-- does the line begin with `#`?
 abbrev pub has_hash : List ℕ → Bool
 has_hash [] = false
 has_hash (b ∷ bs) = b == 35
@@ -40,6 +41,7 @@ line_options Last script line place o = Ok (o, false)
 line_options Remark script line place o = Ok (o, true)
 line_options Words script line place o = read_words 12 Script [] (take (line_end script place) script) line 1 (place + 3) o >>= (λ more. Ok (more, true))
 
+-- the options so far, or with those of the next lines, where the reading goes on
 abbrev pub go_on : Options × Bool → (Options → Read Options) → Read Options
 go_on p next = if p.1 then next p.0 else Ok p.0
 

@@ -36,6 +36,7 @@ abbrev pub located : {A : Type 0} → ℕ → ℕ → Result A WordsCause → Re
 located {A} line number (Ok a) = Ok a
 located {A} line number (Err cause) = Err (fault_at line number cause)
 
+-- a word of the script, and the place behind it
 abbrev pub word_token : Word → Token
 word_token word = record { at = InScript word; after = word.end }
 

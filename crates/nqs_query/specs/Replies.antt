@@ -5,6 +5,7 @@ use Rattle.nqs_types.specs.declared.event.Reply.TheVariants as reply
 use Rattle.nqs_rules.specs.Text.{Text}
 use Rattle.nqs_rules.specs.Transcript.{reply_lines}
 
+-- the first of these texts; an empty one where there is none
 abbrev pub first_text : List Text → Text
 first_text [] = []
 first_text (t ∷ ts) = t

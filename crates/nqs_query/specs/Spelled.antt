@@ -12,6 +12,7 @@ use Rattle.nqs_query.specs.Words.{Read, Asked, fault_at, stat_of, delete_of}
 
 -- ---- qstat [-u USER] [QUEUE]..
 
+-- `-u USER` in front, where the requests of one user are asked for
 abbrev pub user_words : Option (List ℕ) → List (List ℕ)
 user_words None = []
 user_words (Some user) = codes "-u" ∷ user ∷ []
@@ -20,10 +21,12 @@ user_words (Some user) = codes "-u" ∷ user ∷ []
 abbrev pub stat_words : Asked → List (List ℕ)
 stat_words asked = user_words asked.user ++ asked.queues
 
+-- each word is a name
 abbrev pub AreNames : List (List ℕ) → Type 0
 AreNames [] = Unit {0}
 AreNames (word ∷ words) = IsName word × AreNames words
 
+-- the user, where one is named, has a name
 abbrev pub MayBeName : Option (List ℕ) → Type 0
 MayBeName None = Unit {0}
 MayBeName (Some user) = IsName user
@@ -32,6 +35,7 @@ MayBeName (Some user) = IsName user
 abbrev pub HasNames : Asked → Type 0
 HasNames asked = MayBeName asked.user × AreNames asked.queues
 
+-- the words are those that ask for this
 abbrev pub SaysStat : List (List ℕ) → Asked → Type 0
 SaysStat words asked = (words ≡ stat_words asked) × HasNames asked
 
@@ -50,6 +54,7 @@ FaultsStat words fault =
     ⊎ ((user : List ℕ) × (more : List (List ℕ)) × (words ≡ codes "-u" ∷ user ∷ more) × (IsName user → ⊥) × (fault ≡ fault_at 2 cause.BadName))
     ⊎ ((asked : Asked) × (word : List ℕ) × IsBadQueue words asked word × (fault ≡ fault_at (length (stat_words asked) + 1) cause.BadName))
 
+-- the words of qstat ask for this, or this is their first fault
 abbrev pub SaysStatOrFaults : List (List ℕ) → Read Asked → Type 0
 SaysStatOrFaults words (Ok asked) = SaysStat words asked
 SaysStatOrFaults words (Err fault) = FaultsStat words fault
@@ -60,6 +65,7 @@ ReadsStats = (words : List (List ℕ)) (answer : Read Asked) → stat_of words �
 
 -- ---- qdel [-k] SEQ.HOST
 
+-- `-k` in front, where a running job is to be ended
 abbrev pub kill_words : Bool → List (List ℕ)
 kill_words true = codes "-k" ∷ []
 kill_words false = []
@@ -93,9 +99,11 @@ FaultsDelete words fault =
     ⊎ ((kill : Bool) × (text : List ℕ) × (id : Named) × (word : List ℕ) × (more : List (List ℕ)) × (words ≡ kill_words kill ++ text ∷ word ∷ more)
     × IsRequest text id × (fault ≡ fault_at (length (kill_words kill) + 2) cause.Unknown))
 
+-- the words of qdel ask for this, or this is their first fault
 abbrev pub SaysDeleteOrFaults : List (List ℕ) → Read Command → Type 0
 SaysDeleteOrFaults words (Ok c) = SaysDelete words c
 SaysDeleteOrFaults words (Err fault) = FaultsDelete words fault
 
+-- words of qdel are read as what they say, or by their first fault, and each is just one of these
 abbrev pub ReadsDeletes : Type 0
 ReadsDeletes = (words : List (List ℕ)) (answer : Read Command) → delete_of words ≡ answer ↔ SaysDeleteOrFaults words answer

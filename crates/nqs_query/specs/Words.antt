@@ -47,6 +47,7 @@ unfoldable pub names_of : List (List ℕ) → Result (List (List ℕ)) ℕ
 names_of [] = Ok []
 names_of (word ∷ words) = with_name (name_of word) (names_of words)
 
+-- what reading words as names answers; the cases exclude each other, but that memory may be wanting
 abbrev pub ReadsNames : List (List ℕ) → Result (Vec Name) NotNames → Type 0
 ReadsNames words (Ok names) = names_of words ≡ Ok names.items
 ReadsNames words (Err (Bad place)) = names_of words ≡ Err place
@@ -57,13 +58,16 @@ abbrev pub or_bad_name : ℕ → Result (List (List ℕ)) ℕ → Read (List (Li
 or_bad_name number (Ok names) = Ok names
 or_bad_name number (Err place) = Err (fault_at (number + place) cause.BadName)
 
+-- the queues that words name, the first of which has this number, or the first fault
 abbrev pub queues_from : ℕ → List (List ℕ) → Read (List (List ℕ))
 queues_from number words = or_bad_name number (names_of words)
 
+-- is the first word `-u`?
 abbrev pub is_user_option : List (List ℕ) → Bool
 is_user_option [] = false
 is_user_option (word ∷ words) = name_eq (codes "-u") word
 
+-- the user's name, or the fault of the second word
 abbrev pub user_or_fault : Option (List ℕ) → Read (List ℕ)
 user_or_fault (Some name) = Ok name
 user_or_fault None = Err (fault_at 2 cause.BadName)
@@ -79,9 +83,11 @@ pub record Asked : Type 0 where
   pub user : Option (List ℕ)
   pub queues : List (List ℕ)
 
+-- what is asked for behind `-u`: the requests of one user, in all queues or in those that are named
 abbrev pub of_user : List (List ℕ) → Read Asked
 of_user words = user_word words >>= (λ user. queues_from 3 (drop 2 words) >>= (λ queues. Ok (record { user = Some user; queues = queues })))
 
+-- what is asked for without it: the requests of all users, in all queues or in those that are named
 abbrev pub of_all : List (List ℕ) → Read Asked
 of_all words = queues_from 1 words >>= (λ queues. Ok (record { user = None; queues = queues }))
 
@@ -105,11 +111,13 @@ ReadsStat words answer = Stats (stat_of words) answer
 
 -- ---- qdel
 
+-- the request that the word of this number names, or its fault
 abbrev pub named_or_fault : ℕ → Result Named NotNamed → Read Named
 named_or_fault number (Ok id) = Ok id
 named_or_fault number (Err BadNumber) = Err (fault_at number cause.BadNumber)
 named_or_fault number (Err BadName) = Err (fault_at number cause.BadName)
 
+-- no word stands there; it would have this number
 abbrev pub nothing_more : ℕ → List (List ℕ) → Read (Unit {0})
 nothing_more number [] = Ok tt
 nothing_more number (word ∷ words) = Err (fault_at number cause.Unknown)
@@ -120,6 +128,7 @@ request_from number kill [] = Err (fault_at number cause.Missing)
 request_from number kill (word ∷ words) = named_or_fault number (named_of word) >>=
     (λ id. nothing_more (number + 1) words >>= (λ done. Ok (command.Delete id kill)))
 
+-- is the word `-k`?
 abbrev pub is_kill_option : List ℕ → Bool
 is_kill_option word = name_eq (codes "-k") word
 

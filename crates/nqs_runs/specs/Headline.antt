@@ -35,13 +35,15 @@ use Rattle.nqs_runs.specs.declared.words.Ask.{Ask}
 use Rattle.nqs_runs.specs.Words.{asked}
 use Rattle.nqs_runs.specs.Replay.{Drained, Reads}
 
--- what happened, and the states of the hosts then and at first
+-- what happened in these events, from a new network of the site on
 abbrev pub notes_of : List (List ℕ) → List Act → List Note
 notes_of site acts = history acts (new_world site)
 
+-- the states of the hosts at first
 abbrev pub first_states : List (List ℕ) → List Plain
 first_states site = states_of (new_world site)
 
+-- the states of the hosts after these events
 abbrev pub last_states : List (List ℕ) → List Act → List Plain
 last_states site acts = states_of (run_of site acts).world
 

@@ -15,6 +15,7 @@ use Rattle.nqs_runs.specs.Words.{asked}
 use Rattle.nqs_runs.specs.Sunk.{Sunk, SinkFailed, WritesFront}
 use Rattle.nqs_runs.specs.Running.{text_of, bad_line_text, AddsDisks, Runs, ran}
 
+-- the disks that the hosts of runs have left
 abbrev pub Left : Type 0
 Left = List (Disks MemDisk)
 
@@ -53,6 +54,7 @@ pub record Drained : Type 0 where
   pub faults_before : ℕ
   pub faults_now : ℕ
 
+-- what a source tells of itself before and after, by its two ways to tell it
 abbrev pub drained : {S : Type 0} → (S → Option (List ℕ)) → (S → ℕ) → S → S → Drained
 drained left faults old new =
     record { old = left old; new = left new; faults_before = faults old; faults_now = faults new }
@@ -117,6 +119,7 @@ abbrev pub IsReadable : Drained → Type 0
 IsReadable source = (input : List ℕ) × (state : State) × (source.old ≡ Some input) × (length input ≤ 16777216) × IsSchedule input state
     × (Rose source.faults_before source.faults_now → ⊥)
 
+-- there is a schedule: that of a seed, or one that can be read
 abbrev pub HasSchedule : Option Generation → Drained → Type 0
 HasSchedule None source = IsReadable source
 HasSchedule (Some g) source = Unit {0}

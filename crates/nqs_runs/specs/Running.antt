@@ -26,6 +26,7 @@ ran site events = run_of site (map act_of events)
 abbrev pub table_length : Network → ℕ
 table_length network = length (table (states_of network))
 
+-- the summary of a run of so many events
 abbrev pub summary_after : ℕ → Ran → List ℕ
 summary_after events r = summary_text (summary_of nothing_seen r.seen) events (table_length r.world)
 
@@ -50,6 +51,7 @@ Runs summary site events sink old new status.ReadFault = ⊥
 Runs summary site events sink old new status.TooLong = ⊥
 Runs summary site events sink old new (status.Unparsed refused) = ⊥
 
+-- why a line is bad, in words
 abbrev pub cause_text : Cause → List ℕ
 cause_text cause.Unended = codes "unended"
 cause_text cause.UnknownWord = codes "unknown word"
@@ -65,6 +67,7 @@ cause_text cause.HostTwice = codes "host named twice"
 cause_text cause.TooManyHosts = codes "too many hosts"
 cause_text cause.OutputTooLong = codes "output too long"
 
+-- the text that names a bad line by its number, and says why
 abbrev pub bad_line_text : ℕ → Cause → List ℕ
 bad_line_text number why = codes "bad line " ++ decimal number ++ codes ": " ++ cause_text why ++ codes "\n"
 

@@ -13,6 +13,7 @@ pub record Sunk : Type 0 where
   pub stalls_before : ℕ
   pub stalls_now : ℕ
 
+-- what a sink tells of itself before and after, by its three ways to tell it
 abbrev pub sunk : {K : Type 0} → (K → Option (List ℕ)) → (K → ℕ) → (K → ℕ) → K → K → Sunk
 sunk taken faults stalls old new =
     record { old = taken old; new = taken new; faults_before = faults old; faults_now = faults new; stalls_before = stalls old; stalls_now = stalls new }

@@ -18,6 +18,7 @@ use Rattle.nqs_runs.specs.declared.words.WordsStop.TheVariants as stop
 abbrev pub option_rule : Text → Rule
 option_rule name = record (new_rule name) { long = Some name; action = Some Set }
 
+-- an option without a value
 abbrev pub flag_rule : Text → Rule
 flag_rule name = record (new_rule name) { long = Some name; action = Some SetTrue }
 
@@ -46,10 +47,12 @@ generation_of None None None = Some None
 generation_of (Some seed) (Some hosts) (Some events) = generated (number_of 0 18446744073709551615 seed) (number_of 1 16 hosts) (number_of 0 100000 events)
 generation_of _ _ _ = None
 
+-- whether the flag was given, which then has this value
 abbrev pub is_true : Option Text → Bool
 is_true None = false
 is_true (Some text) = bytes_eq text (codes "true")
 
+-- the summary or the transcript of what is to be run, where that is in form
 abbrev pub with_summary : Bool → Option (Option Generation) → Option Ask
 with_summary summary (Some generation) = Some (record { summary = summary; generation = generation })
 with_summary summary None = None
@@ -81,6 +84,7 @@ StopsBy k stop.BadWords = k ≡ kind.OutOfMemory → ⊥
 StopsBy k (stop.Memory want) = ⊥
 StopsBy k (stop.Unparsed refused) = k ≡ kind.OutOfMemory
 
+-- what the values that `clap` found ask for
 abbrev pub asked_by : Found → Option Ask
 asked_by f = asked_of (first_value f (codes "summary")) (first_value f (codes "generate")) (first_value f (codes "hosts")) (first_value f (codes "events"))
 

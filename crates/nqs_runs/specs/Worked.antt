@@ -3,9 +3,11 @@ use Rattle.std.specs.Prelude.{◌≡◌, ℕ, Bool, true, false, [], ◌∷◌, 
 use Rattle.nqs_runs.specs.declared.words.Ask.{Ask}
 use Rattle.nqs_runs.specs.Words.{asked}
 
+-- the schedule of the source is asked for
 abbrev pub read : Bool → Option Ask
 read summary = Some (record { summary = summary; generation = None })
 
+-- the schedule of a seed is asked for
 abbrev pub generate : Bool → ℕ → ℕ → ℕ → Option Ask
 generate summary seed hosts events = Some (record { summary = summary; generation = Some (record { seed = seed; hosts = hosts; events = events }) })
 

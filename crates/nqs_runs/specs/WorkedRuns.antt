@@ -6,6 +6,7 @@ use Rattle.nqs_schedule.specs.Schedule.{State, start, lines_say, ended}
 use Rattle.nqs_schedule.specs.Words.{Read}
 use Rattle.nqs_runs.specs.Running.{text_of}
 
+-- the text of what lines say; none where one of them is bad
 abbrev pub text_by : Bool → Read State → List ℕ
 text_by summary (Ok s) = text_of summary s.site s.events
 text_by summary (Err why) = []
@@ -44,6 +45,7 @@ two_hosts =
     codes "show" ∷
     []
 
+-- what is seen of that
 abbrev pub seen_of_two_hosts : List (List ℕ)
 seen_of_two_hosts =
     codes "Done." ∷
@@ -74,6 +76,7 @@ seen_of_two_hosts =
     codes "table 0" ∷
     []
 
+-- the summary of that
 abbrev pub summary_of_two_hosts : List (List ℕ)
 summary_of_two_hosts =
     codes "events 24" ∷
@@ -94,6 +97,7 @@ stopped_submission =
     codes "show" ∷
     []
 
+-- what is seen of that
 abbrev pub seen_of_stopped_submission : List (List ℕ)
 seen_of_stopped_submission =
     codes "stop alpha" ∷
@@ -113,6 +117,7 @@ seen_of_generated =
     codes "table 0" ∷
     []
 
+-- just these texts are written of these schedules
 pub record AreRun : Type 0 where
   pub hosts : text_by_lines false two_hosts ≡ flat_map ended seen_of_two_hosts
   pub summary : text_by_lines true two_hosts ≡ flat_map ended summary_of_two_hosts

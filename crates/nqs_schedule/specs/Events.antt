@@ -7,6 +7,7 @@ use Rattle.nqs_schedule.specs.declared.words.LineWords.{LineWords}
 use Rattle.nqs_schedule.specs.declared.plan.Plan.{Plan}
 use Rattle.nqs_schedule.specs.declared.plan.Plan.TheVariants as plan
 
+-- the bytes of a word, if there is one
 abbrev pub text_in : Option LineWord → List ℕ
 text_in (Some word) = word.text
 text_in None = []
@@ -15,6 +16,7 @@ text_in None = []
 abbrev pub bytes_at : LineWords → ℕ → List ℕ
 bytes_at ws i = text_in (slice_get ws.words i)
 
+-- the bytes of a word
 abbrev pub text_of_word : LineWord → List ℕ
 text_of_word word = word.text
 
@@ -27,6 +29,7 @@ abbrev pub without_spaces : List ℕ → List ℕ
 without_spaces [] = []
 without_spaces (b ∷ bs) = if b == 32 then without_spaces bs else b ∷ bs
 
+-- what stands behind a word, and the spaces there
 abbrev pub behind_word : List ℕ → Option LineWord → List ℕ
 behind_word line (Some word) = without_spaces (drop word.end line)
 behind_word line None = []

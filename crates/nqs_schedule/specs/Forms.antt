@@ -11,6 +11,7 @@ use Rattle.nqs_schedule.specs.declared.cause.Cause.TheVariants as cause
 use Rattle.nqs_schedule.specs.declared.plan.Verb.{Verb}
 use Rattle.nqs_schedule.specs.declared.plan.Verb.TheVariants as verb
 
+-- what may stand from a word of a line on, by the kind of that word, and the event that all of them make
 pub data Form : Type 0 where
   -- no such line, for this cause
   never : Cause → Form
@@ -59,6 +60,7 @@ verb_text verb.Crash = codes "crash"
 verb_text verb.Boot = codes "boot"
 verb_text verb.Show = codes "show"
 
+-- the greatest number of 64 bits
 abbrev pub last_number : ℕ
 last_number = 18446744073709551615
 

@@ -8,6 +8,7 @@ use Rattle.nqs_types.specs.declared.ids.HostId.{HostId}
 use Rattle.nqs_types.specs.declared.world.WorldEvent.{WorldEvent}
 use Rattle.nqs_types.specs.declared.world.WorldEvent.TheVariants as event
 
+-- the host of a place
 abbrev pub host : ℕ → HostId
 host i = record { 0 = i }
 
@@ -15,6 +16,7 @@ host i = record { 0 = i }
 abbrev pub host_name : ℕ → List ℕ
 host_name i = codes "h" ++ decimal i
 
+-- a line of qmgr, typed by root at a host
 abbrev pub root_line : ℕ → List ℕ → WorldEvent
 root_line i text = event.Qmgr (host i) (codes "root") text
 
@@ -33,9 +35,11 @@ unfoldable pub for_hosts : (ℕ → List WorldEvent) → ℕ → List WorldEvent
 for_hosts f zero = []
 for_hosts f (suc n) = for_hosts f n ++ f n
 
+-- the priority that a word gives, from 0 to 63
 abbrev pub priority_of : ℕ → ℕ
 priority_of word = word / 4096 % 64
 
+-- a submission of an empty script by the user `u`, with these options
 abbrev pub qsub : ℕ → List (List ℕ) → WorldEvent
 qsub a words = event.Qsub (host a) (codes "u") [] words
 
@@ -47,6 +51,7 @@ piped a word = qsub a (codes "-q" ∷ codes "link" ∷ codes "-p" ∷ decimal (p
 abbrev pub submitted_once : ℕ → WorldEvent
 submitted_once a = qsub a (codes "-nr" ∷ [])
 
+-- a stop of the host, by one word of four, and else a boot
 abbrev pub stopped : ℕ → ℕ → WorldEvent
 stopped a word = if word / 65536 % 4 == 0 then event.Crash (host a) else event.Boot (host a)
 
@@ -74,6 +79,7 @@ drawn_from hosts k g (suc n) = drawn hosts k (pcg32 g).0 ∷ drawn_from hosts (k
 abbrev pub generator_of : ℕ → Lcg
 generator_of seed = pcg32_of_seed (pcg32_seed 16 seed)
 
+-- a boot of the host
 abbrev pub booted : ℕ → List WorldEvent
 booted i = event.Boot (host i) ∷ []
 
@@ -81,6 +87,7 @@ booted i = event.Boot (host i) ∷ []
 unfoldable pub generated : ℕ → ℕ → ℕ → List WorldEvent
 generated seed hosts events = ((for_hosts (set_up hosts) hosts ++ drawn_from hosts 1 (generator_of seed) events) ++ for_hosts booted hosts) ++ event.Show ∷ []
 
+-- the names of so many hosts
 unfoldable pub generated_site : ℕ → List (List ℕ)
 generated_site zero = []
 generated_site (suc n) = generated_site n ++ host_name n ∷ []

@@ -13,6 +13,7 @@ abbrev pub is_over : List ℕ → Bool
 is_over [] = true
 is_over (b ∷ bs) = b == 32
 
+-- does a quoted word begin here?
 abbrev pub begins_with_quote : List ℕ → Bool
 begins_with_quote [] = false
 begins_with_quote (b ∷ bs) = b == 34
@@ -26,10 +27,12 @@ by_quoted line (Some p) = if is_over p.1 then Found (record { text = p.0; end = 
 unfoldable pub quoted_word : List ℕ → ℕ → Next
 quoted_word line start = by_quoted line (quoted (length (drop (start + 1) line)) (drop (start + 1) line))
 
+-- the word that begins there, quoted or plain
 unfoldable pub word_there : List ℕ → Word → Next
 word_there line word = if begins_with_quote (drop word.start line) then quoted_word line word.start else
     Found (record { text = slice_range line word.start word.end; end = word.end })
 
+-- the word that begins there, or the end of the line
 abbrev pub or_end : List ℕ → Option Word → Next
 or_end line None = End
 or_end line (Some word) = word_there line word

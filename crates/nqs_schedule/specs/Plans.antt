@@ -35,6 +35,7 @@ verb_of text =
     (if name_eq (codes "show") text then Some verb.Show else
     None))))))))))))))))))
 
+-- what `submit USER NAME` asks for
 unfoldable pub submit_plan : LineWords → Read Plan
 submit_plan ws = do
   user ← name_at ws 1
@@ -42,6 +43,7 @@ submit_plan ws = do
   done ← nothing_at ws 3
   Ok (plan.Ready (event.Submit user name))
 
+-- what `qsub HOST USER SCRIPT` and options ask for
 unfoldable pub qsub_plan : List (List ℕ) → LineWords → Read Plan
 qsub_plan site ws = do
   host ← host_at site ws 1
@@ -50,12 +52,14 @@ qsub_plan site ws = do
   done ← all_good ws
   Ok (plan.Qsub host user)
 
+-- what `qmgr HOST USER` and the rest of the line ask for
 unfoldable pub qmgr_plan : List (List ℕ) → LineWords → Read Plan
 qmgr_plan site ws = do
   host ← host_at site ws 1
   user ← name_at ws 2
   Ok (plan.Qmgr host user)
 
+-- what `qstat HOST USER` and further words ask for
 unfoldable pub qstat_plan : List (List ℕ) → LineWords → Read Plan
 qstat_plan site ws = do
   host ← host_at site ws 1
@@ -63,6 +67,7 @@ qstat_plan site ws = do
   done ← all_good ws
   Ok (plan.Qstat host user)
 
+-- what `qdel HOST USER` and further words ask for
 unfoldable pub qdel_plan : List (List ℕ) → LineWords → Read Plan
 qdel_plan site ws = do
   host ← host_at site ws 1
@@ -70,6 +75,7 @@ qdel_plan site ws = do
   done ← all_good ws
   Ok (plan.Qdel host user)
 
+-- what `end HOST ID START STATUS` and up to two outputs ask for
 unfoldable pub end_plan : List (List ℕ) → LineWords → Read Plan
 end_plan site ws = do
   host ← host_at site ws 1
@@ -88,6 +94,7 @@ one_host site ws = do
   done ← nothing_at ws 2
   Ok host
 
+-- what `fail HOST ID START` asks for
 unfoldable pub fail_plan : List (List ℕ) → LineWords → Read Plan
 fail_plan site ws = do
   host ← host_at site ws 1
@@ -104,12 +111,14 @@ host_and_file site ws = do
   done ← nothing_at ws 3
   Ok (host, file)
 
+-- what `deliver PACKET` asks for
 unfoldable pub deliver_plan : LineWords → Read Plan
 deliver_plan ws = do
   packet ← number_at 1 18446744073709551615 ws 1
   done ← nothing_at ws 2
   Ok (plan.Ready (event.Deliver packet))
 
+-- what `newest HOST HOST` asks for
 unfoldable pub newest_plan : List (List ℕ) → LineWords → Read Plan
 newest_plan site ws = do
   one ← host_at site ws 1
@@ -117,12 +126,14 @@ newest_plan site ws = do
   done ← nothing_at ws 3
   Ok (plan.Ready (event.Newest one other))
 
+-- what `clock MOMENT` asks for
 unfoldable pub clock_plan : LineWords → Read Plan
 clock_plan ws = do
   moment ← number_at 0 18446744073709551615 ws 1
   done ← nothing_at ws 2
   Ok (plan.Ready (event.Clock moment))
 
+-- what `fuse HOST DISK CALLS TEAR` asks for
 unfoldable pub fuse_plan : List (List ℕ) → LineWords → Read Plan
 fuse_plan site ws = do
   host ← host_at site ws 1
@@ -132,6 +143,7 @@ fuse_plan site ws = do
   done ← nothing_at ws 5
   Ok (plan.Ready (event.Fuse host disk calls tear))
 
+-- what `show` asks for
 unfoldable pub show_plan : LineWords → Read Plan
 show_plan ws = do
   done ← nothing_at ws 1

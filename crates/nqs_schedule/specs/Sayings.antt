@@ -18,6 +18,7 @@ use Rattle.nqs_schedule.specs.Spelled.{HasBadQuote, Spells, Faults}
 
 -- ---- hosts NAME..
 
+-- whether the site has a host of this name
 abbrev pub is_of_site : List (List ℕ) → List ℕ → Bool
 is_of_site site word = is_some (position (name_eq word) site)
 
@@ -27,6 +28,7 @@ pub record IsNewHost (site : List (List ℕ)) (word : List ℕ) : Type 0 where
   pub new : is_of_site site word ≡ false
   pub few : length site < 16
 
+-- why a word names no further host: it is no name, the site has it, or the site has sixteen
 abbrev pub NoNewHost : List (List ℕ) → List ℕ → Cause → Type 0
 NoNewHost site word why =
     ((IsName word → ⊥) × (why ≡ cause.BadName))
@@ -43,16 +45,19 @@ abbrev pub NameNoHosts : Bool → List (List ℕ) → List (List ℕ) → Cause 
 NameNoHosts bad site [] why = HasBadQuote bad why
 NameNoHosts bad site (word ∷ more) why = NoNewHost site word why ⊎ (IsNewHost site word × NameNoHosts bad (site ++ word ∷ []) more why)
 
+-- the words of a line of hosts name these, at least one
 abbrev pub HostsSay : Bool → List (List ℕ) → List (List ℕ) → Type 0
 HostsSay bad [] all = ⊥
 HostsSay bad (word ∷ more) all = (bad ≡ false) × NameHosts [] (word ∷ more) all
 
+-- the first fault of the words of a line of hosts
 abbrev pub HostsFault : Bool → List (List ℕ) → Cause → Type 0
 HostsFault bad [] why = why ≡ no_word bad
 HostsFault bad (word ∷ more) why = NameNoHosts bad [] (word ∷ more) why
 
 -- ---- all words; `is_open`: no line before this one said anything
 
+-- the words behind the verb say this
 abbrev pub FirstSays : List (List ℕ) → Bool → List ℕ → Bool → Verb → List (List ℕ) → Says → Type 0
 FirstSays site is_open line bad v more Nothing = ⊥
 FirstSays site is_open line bad v more (Hosts all) = (v ≡ verb.Hosts) × (is_open ≡ true) × HostsSay bad more all
@@ -78,6 +83,7 @@ WordsFault site is_open bad (word ∷ more) why =
     (((v : Verb) → word ≢ verb_text v) × (why ≡ cause.UnknownWord))
     ⊎ ((v : Verb) × (word ≡ verb_text v) × FirstFaults site is_open bad v more why)
 
+-- the words of a line say this, or this is their first fault
 abbrev pub WordsSayOrFault : List (List ℕ) → Bool → List ℕ → Bool → List (List ℕ) → Read Says → Type 0
 WordsSayOrFault site is_open line bad texts (Ok says) = WordsSay site is_open line bad texts says
 WordsSayOrFault site is_open line bad texts (Err why) = WordsFault site is_open bad texts why

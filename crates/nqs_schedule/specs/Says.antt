@@ -30,6 +30,7 @@ unfoldable pub hosts_from : List (List ℕ) → List LineWord → Bool → Read 
 hosts_from site [] bad = if bad then Err cause.BadQuote else Ok site
 hosts_from site (word ∷ words) bad = further_host site (name_of word.text) >>= (λ name. hosts_from (site ++ name ∷ []) words bad)
 
+-- the hosts that words name, at least one
 abbrev pub some_hosts : Bool → List LineWord → Read (List (List ℕ))
 some_hosts bad [] = Err (no_word bad)
 some_hosts bad (word ∷ words) = hosts_from [] (word ∷ words) bad
@@ -49,10 +50,12 @@ abbrev pub is_remark : List ℕ → Bool
 is_remark [] = true
 is_remark (b ∷ bs) = b == 35
 
+-- is it the verb of a line of hosts?
 abbrev pub is_hosts : Verb → Bool
 is_hosts verb.Hosts = true
 is_hosts _ = false
 
+-- what a line of hosts says
 abbrev pub hosts_say : LineWords → Read Says
 hosts_say ws = hosts_of ws >>= (λ hosts. Ok (Hosts hosts))
 
@@ -64,10 +67,12 @@ event_says site line ws v = plan_of site ws v >>= (λ plan. Ok (Event (event_of 
 unfoldable pub verb_says : List (List ℕ) → Bool → List ℕ → LineWords → Verb → Read Says
 verb_says site is_open line ws v = if is_hosts v && is_open then hosts_say ws else event_says site line ws v
 
+-- what a line says by its first word, or nothing where it has no word
 abbrev pub first_says : List (List ℕ) → Bool → List ℕ → LineWords → Option LineWord → Read Says
 first_says site is_open line ws None = if ws.bad then Err cause.BadQuote else Ok Nothing
 first_says site is_open line ws (Some word) = or_cause (verb_of word.text) cause.UnknownWord >>= (λ v. verb_says site is_open line ws v)
 
+-- what a line says that is no remark
 unfoldable pub words_say : List (List ℕ) → Bool → List ℕ → LineWords → Read Says
 words_say site is_open line ws = first_says site is_open line ws (slice_get ws.words 0)
 

@@ -24,6 +24,7 @@ pub record State : Type 0 where
 abbrev pub start : State
 start = record { site = codes "alpha" ∷ []; events = []; is_open = true }
 
+-- what lines have said, with one more
 abbrev pub after : State → Says → State
 after s Nothing = s
 after s (Hosts site) = record { site = site; events = s.events; is_open = false }
@@ -42,6 +43,7 @@ ended line = line ++ 10 ∷ []
 abbrev pub IsLine : List ℕ → Type 0
 IsLine line = All (λ b. b ≢ 10) line
 
+-- no line feed is in any of them
 abbrev pub AreLines : List (List ℕ) → Type 0
 AreLines [] = Unit {0}
 AreLines (line ∷ lines) = IsLine line × AreLines lines
@@ -64,6 +66,7 @@ BadLine state rest why = (line : List ℕ) × (more : List ℕ) × (rest ≡ end
 abbrev pub Unended : List ℕ → Cause → Type 0
 Unended rest why = (why ≡ cause.Unended) × (rest ≢ []) × IsLine rest
 
+-- the rest begins with a bad line, or is one without an end
 abbrev pub BeginsBad : State → List ℕ → Cause → Type 0
 BeginsBad state rest why = BadLine state rest why ⊎ Unended rest why
 

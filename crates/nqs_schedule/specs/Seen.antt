@@ -6,6 +6,7 @@ use Rattle.nqs_rules.specs.Text.{Text}
 use Rattle.nqs_types.specs.declared.table_row.TableRow.{TableRow}
 use Rattle.nqs_rules.specs.Transcript.{line, seen_lines, table_line}
 
+-- the first of these texts; an empty one where there is none
 abbrev pub first_text : List Text → Text
 first_text [] = []
 first_text (t ∷ ts) = t

@@ -30,9 +30,11 @@ use Rattle.nqs_schedule.specs.Forms.{Form, never, done, host, name, request, num
 abbrev pub IsNone : {A : Type 0} → (A → Type 0) → Cause → Cause → Type 0
 IsNone {A} P none why = ((a : A) → P a → ⊥) × (why ≡ none)
 
+-- the word is this name
 abbrev pub IsNameWord : List ℕ → List ℕ → Type 0
 IsNameWord word n = IsName word × (n ≡ word)
 
+-- the word is no name
 abbrev pub NoName : List ℕ → Cause → Type 0
 NoName word why = IsNone (IsNameWord word) cause.BadName why
 
@@ -40,6 +42,7 @@ NoName word why = IsNone (IsNameWord word) cause.BadName why
 abbrev pub IsNumber : ℕ → ℕ → List ℕ → ℕ → Type 0
 IsNumber low high word n = AreDigits word × (n ≡ decimal word) × (low ≤ n) × (n ≤ high)
 
+-- the word is no such number
 abbrev pub NoNumber : ℕ → ℕ → List ℕ → Cause → Type 0
 NoNumber low high word why = IsNone (IsNumber low high word) cause.BadNumber why
 
@@ -47,36 +50,46 @@ NoNumber low high word why = IsNone (IsNumber low high word) cause.BadNumber why
 abbrev pub IsPlace : List (List ℕ) → List ℕ → HostId → Type 0
 IsPlace site n h = (position (name_eq n) site ≡ Some h.0) × (h.0 < 16)
 
+-- the site has no host of this name
 abbrev pub NoPlace : List (List ℕ) → List ℕ → Cause → Type 0
 NoPlace site n why = IsNone (IsPlace site n) cause.NoSuchHost why
 
+-- the word is the name of this host
 abbrev pub IsHost : List (List ℕ) → List ℕ → HostId → Type 0
 IsHost site word h = (n : List ℕ) × IsNameWord word n × IsPlace site n h
 
+-- the word is no name, or the site has no host of this name
 abbrev pub NoHost : List (List ℕ) → List ℕ → Cause → Type 0
 NoHost site word why = NoName word why ⊎ ((n : List ℕ) × IsNameWord word n × NoPlace site n why)
 
+-- the word is the `SEQ.HOST` of this request, whose host is of the site
 abbrev pub IsId : List (List ℕ) → List ℕ → RequestId → Type 0
 IsId site word id = (named : Named) × IsRequest word named × ((h : HostId) × IsPlace site named.host h × (id ≡ record { seq = named.seq; host = h }))
 
+-- the word is no `SEQ.HOST`, or its host is not of the site
 abbrev pub NoId : List (List ℕ) → List ℕ → Cause → Type 0
 NoId site word why = IsNone (IsRequest word) cause.BadRequest why ⊎ ((named : Named) × IsRequest word named × NoPlace site named.host why)
 
+-- the word of a disk
 abbrev pub disk_text : Which → List ℕ
 disk_text which.Root = codes "root"
 disk_text which.First = codes "first"
 disk_text which.Second = codes "second"
 disk_text which.Spool = codes "spool"
 
+-- the word is that of this disk
 abbrev pub IsDisk : List ℕ → Which → Type 0
 IsDisk word d = word ≡ disk_text d
 
+-- the word is that of no disk
 abbrev pub NoDisk : List ℕ → Cause → Type 0
 NoDisk word why = IsNone (IsDisk word) cause.UnknownWord why
 
+-- these stand behind `mixed:`
 abbrev pub IsMixed : List ℕ → List ℕ → Type 0
 IsMixed word digits = word ≡ codes "mixed:" ++ digits
 
+-- the word is that of the tear: `old`, `new`, or `mixed:` with a number of 64 bits
 abbrev pub IsTear : List ℕ → Tear → Type 0
 IsTear word tear.Old = word ≡ codes "old"
 IsTear word tear.New = word ≡ codes "new"
@@ -88,15 +101,19 @@ NoTear word why =
     ((digits : List ℕ) × IsMixed word digits × NoNumber 0 last_number digits why)
     ⊎ ((word ≢ codes "old") × (word ≢ codes "new") × ((digits : List ℕ) → IsMixed word digits → ⊥) × (why ≡ cause.UnknownWord))
 
+-- the word may be any, and these are its bytes
 abbrev pub IsText : List ℕ → List ℕ → Type 0
 IsText word t = t ≡ word
 
+-- so no word is at fault
 abbrev pub NoText : List ℕ → Cause → Type 0
 NoText word why = ⊥
 
+-- the output isn't too long
 abbrev pub IsShort : List ℕ → Type 0
 IsShort word = length word ≤ 16384
 
+-- the output is too long
 abbrev pub IsTooLong : List ℕ → Cause → Type 0
 IsTooLong word why = (16384 < length word) × (why ≡ cause.OutputTooLong)
 
@@ -116,17 +133,21 @@ FirstFault {A} Is No Behind bad (word ∷ more) why = No word why ⊎ ((a : A) �
 abbrev pub IsOver : Bool → List (List ℕ) → Type 0
 IsOver bad texts = (texts ≡ []) × (bad ≡ false)
 
+-- a word is left, good or badly quoted, which is one too many
 abbrev pub IsNotOver : Bool → List (List ℕ) → Cause → Type 0
 IsNotOver bad texts why = (IsOver bad texts → ⊥) × (why ≡ cause.ExtraWord)
 
+-- behind the words stands a badly quoted one
 abbrev pub HasBadQuote : Bool → Cause → Type 0
 HasBadQuote bad why = (bad ≡ true) × (why ≡ cause.BadQuote)
 
+-- the words are a job's outputs: none, OUT, or OUT and ERR
 abbrev pub AreOutputs : (List ℕ → List ℕ → WorldEvent) → Bool → List (List ℕ) → WorldEvent → Type 0
 AreOutputs f bad [] e = (bad ≡ false) × (e ≡ f [] [])
 AreOutputs f bad (out ∷ []) e = IsShort out × ((bad ≡ false) × (e ≡ f out []))
 AreOutputs f bad (out ∷ err ∷ more) e = IsShort out × (IsShort err × (IsOver bad more × (e ≡ f out err)))
 
+-- the first fault of the words of a job's outputs
 abbrev pub AreNoOutputs : Bool → List (List ℕ) → Cause → Type 0
 AreNoOutputs bad [] why = HasBadQuote bad why
 AreNoOutputs bad (out ∷ []) why = IsTooLong out why ⊎ (IsShort out × HasBadQuote bad why)
@@ -162,6 +183,7 @@ Faults site bad (words f) texts why = HasBadQuote bad why
 Faults site bad (outputs f) texts why = AreNoOutputs bad texts why
 Faults site bad (rest f) texts why = ⊥
 
+-- the words of the form spell this event, or this is their first fault
 abbrev pub SpellsOrFaults : List (List ℕ) → List ℕ → Bool → Form → List (List ℕ) → Read WorldEvent → Type 0
 SpellsOrFaults site line bad form texts (Ok e) = Spells site line bad form texts e
 SpellsOrFaults site line bad form texts (Err why) = Faults site bad form texts why

@@ -7,27 +7,33 @@ use Rattle.nqs_types.specs.declared.world.Seen.{Seen}
 use Rattle.nqs_types.specs.declared.world.Seen.TheVariants as seen
 use Rattle.nqs_schedule.specs.declared.summary.Summary.{Summary}
 
+-- the reply says that a request was submitted
 abbrev pub is_submitted_reply : Reply → Bool
 is_submitted_reply (reply.Submitted id q) = true
 is_submitted_reply _ = false
 
+-- a request was submitted
 abbrev pub is_submitted : Seen → Bool
 is_submitted (seen.Reply r) = is_submitted_reply r
 is_submitted _ = false
 
+-- a job was started, by a launch or a print
 abbrev pub is_launch : Seen → Bool
 is_launch (seen.Launch h id n) = true
 is_launch (seen.Print h id n d) = true
 is_launch _ = false
 
+-- a job ended
 abbrev pub is_ended : Seen → Bool
 is_ended (seen.Ended h id n s) = true
 is_ended _ = false
 
+-- a datagram was sent
 abbrev pub is_packet : Seen → Bool
 is_packet (seen.Packet k f t kind n) = true
 is_packet _ = false
 
+-- a host stopped
 abbrev pub is_stop : Seen → Bool
 is_stop (seen.Stop h) = true
 is_stop _ = false
@@ -36,6 +42,7 @@ is_stop _ = false
 abbrev pub more : Bool → ℕ → ℕ
 more b n = if b then (if nat_lt n 18446744073709551615 then n + 1 else n) else n
 
+-- the counts before anything was seen
 abbrev pub nothing_seen : Summary
 nothing_seen = record { submitted = 0; launches = 0; ended = 0; packets = 0; stops = 0 }
 

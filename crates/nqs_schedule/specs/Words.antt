@@ -36,6 +36,7 @@ or_cause {A} None e = Err e
 abbrev pub no_word : Bool → Cause
 no_word bad = if bad then cause.BadQuote else cause.MissingWord
 
+-- the bytes of a word, or why there is none
 abbrev pub text_or : Option LineWord → Bool → Read (List ℕ)
 text_or (Some word) bad = Ok word.text
 text_or None bad = Err (no_word bad)
@@ -50,11 +51,13 @@ text_there ws i = do
   text ← text_at ws i
   Ok tt
 
+-- the name at a place
 unfoldable pub name_at : LineWords → ℕ → Read (List ℕ)
 name_at ws i = do
   text ← text_at ws i
   or_cause (name_of text) cause.BadName
 
+-- the number at a place, within two bounds
 unfoldable pub number_at : ℕ → ℕ → LineWords → ℕ → Read ℕ
 number_at low high ws i = do
   text ← text_at ws i
@@ -69,15 +72,18 @@ as_host None = Err cause.NoSuchHost
 unfoldable pub host_of : List (List ℕ) → List ℕ → Read HostId
 host_of site name = as_host (position (name_eq name) site)
 
+-- the host at a place
 unfoldable pub host_at : List (List ℕ) → LineWords → ℕ → Read HostId
 host_at site ws i = do
   name ← name_at ws i
   host_of site name
 
+-- the request that a word names, or that it names none
 abbrev pub or_bad_request : Result Named NotNamed → Read Named
 or_bad_request (Ok id) = Ok id
 or_bad_request (Err why) = Err cause.BadRequest
 
+-- the request at a place, whose host is of the site
 unfoldable pub request_at : List (List ℕ) → LineWords → ℕ → Read RequestId
 request_at site ws i = do
   text ← text_at ws i
@@ -85,6 +91,7 @@ request_at site ws i = do
   host ← host_of site id.host
   Ok (record { seq = id.seq; host = host })
 
+-- the disk of a word
 unfoldable pub disk_of : List ℕ → Option Which
 disk_of text =
     if name_eq (codes "root") text then Some which.Root else
@@ -92,6 +99,7 @@ disk_of text =
     (if name_eq (codes "second") text then Some which.Second else
     (if name_eq (codes "spool") text then Some which.Spool else None)))
 
+-- the disk at a place
 unfoldable pub disk_at : LineWords → ℕ → Read Which
 disk_at ws i = do
   text ← text_at ws i
@@ -101,15 +109,18 @@ disk_at ws i = do
 unfoldable pub mixed_of : List ℕ → Option (List ℕ)
 mixed_of text = if name_eq (codes "mixed:") (take 6 text) then Some (drop 6 text) else None
 
+-- the number that says how writes are mixed
 abbrev pub as_mixed : Option (List ℕ) → Read Tear
 as_mixed None = Err cause.UnknownWord
 as_mixed (Some number) = or_cause (number_of 0 18446744073709551615 number) cause.BadNumber >>= (λ n. Ok (tear.Mixed n))
 
+-- which image a word says that a stop leaves
 unfoldable pub tear_of : List ℕ → Read Tear
 tear_of text =
     if name_eq (codes "old") text then Ok tear.Old else
     (if name_eq (codes "new") text then Ok tear.New else as_mixed (mixed_of text))
 
+-- which image the word at a place says that a stop leaves
 unfoldable pub tear_at : LineWords → ℕ → Read Tear
 tear_at ws i = do
   text ← text_at ws i

@@ -5,9 +5,11 @@ use Rattle.nqs_schedule.specs.Schedule.{IsLine}
 use Rattle.nqs_schedule.specs.Events.{words_behind}
 use Rattle.nqs_schedule.specs.Lines.{line_words}
 
+-- nothing but spaces
 abbrev pub AreSpaces : List ℕ → Type 0
 AreSpaces gap = All (λ b. b ≡ 32) gap
 
+-- there is a first byte, which is no quote
 abbrev pub BeginsPlain : List ℕ → Type 0
 BeginsPlain [] = ⊥
 BeginsPlain (b ∷ bs) = b ≢ 34
