@@ -16,6 +16,7 @@ brings_back _ = false
 abbrev pub comebacks : List Output → ℕ
 comebacks outputs = length (filter brings_back outputs)
 
+-- no byte is there
 abbrev pub has_none : List ℕ → Bool
 has_none [] = true
 has_none (b ∷ bytes) = false

@@ -18,6 +18,7 @@ use Rattle.nqs_clients.specs.declared.errand.Errand.{Errand}
 use Rattle.nqs_clients.specs.declared.errand.WordsStop.{WordsStop}
 use Rattle.nqs_clients.specs.declared.errand.WordsStop.TheVariants.{BadWords, Memory}
 
+-- the client that a word names
 abbrev pub tool_of : List ℕ → Option Tool
 tool_of word =
     if name_eq word (codes "qsub") then Some Qsub else
@@ -44,6 +45,7 @@ words_of Tick (word ∷ own) = None
 abbrev pub are_short : List (List ℕ) → Bool
 are_short own = nat_le (sum_by (λ w. length w + 4) own) 4000
 
+-- an errand, made of its parts: the host, the user, the tool and its words
 abbrev pub errand : HostId → List ℕ → Tool → List (List ℕ) → Errand
 errand host user tool words = record { host = host; user = user; tool = tool; words = words }
 
@@ -61,6 +63,7 @@ unfoldable pub errand_of : List (List ℕ) → List (List ℕ) → Option Errand
 errand_of site (tool ∷ host ∷ user ∷ own) = if are_short own then made_of (tool_of tool) (place_of site host) (name_of user) own else None
 errand_of site _ = None
 
+-- what reading the words answers; the cases exclude each other, but that memory may be wanting
 abbrev pub ReadsErrand : List (List ℕ) → List (List ℕ) → Result Errand WordsStop → Type 0
 ReadsErrand site words (Ok e) = errand_of site words ≡ Some e
 ReadsErrand site words (Err BadWords) = errand_of site words ≡ None

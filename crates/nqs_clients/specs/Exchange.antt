@@ -19,6 +19,7 @@ use Rattle.nqs_clients.specs.declared.datagram.WaitStop.{WaitStop}
 use Rattle.nqs_clients.specs.declared.datagram.WaitStop.TheVariants.{Fault, Memory}
 use Rattle.nqs_clients.specs.declared.errand.Errand.{Errand}
 
+-- the number by which a client knows the answer to what it asked
 abbrev pub token : ℕ
 token = 5
 
@@ -36,6 +37,7 @@ abbrev pub answer_of : HostId → Option Message → Option Answer
 answer_of host None = None
 answer_of host (Some message) = if message.from.0 == host.0 then answer_body message.body else None
 
+-- the answer of the host that an arrival brings, if it brings one
 abbrev pub answer_in : HostId → Arrival → Option Answer
 answer_in host arrival = answer_of host (message_in arrival)
 
@@ -55,6 +57,7 @@ Awaits host arrivals (Ok None) = (length arrivals ≡ 10) × (list_any (answers 
 Awaits host arrivals (Err Fault) = (length arrivals ≤ 9) × (list_any (answers host) arrivals ≡ false)
 Awaits host arrivals (Err (Memory memory)) = length arrivals ≤ 10
 
+-- what the wire received from then to now is one such wait, which ended so
 abbrev pub Hears : HostId → Option (List Arrival) → Option (List Arrival) → Result (Option Answer) WaitStop → Type 0
 Hears host was now result = (arrivals : List Arrival) × Extends was now arrivals × Awaits host arrivals result
 

@@ -4,6 +4,7 @@ use Rattle.nqs_clients.specs.declared.status.NqsStatus.{NqsStatus}
 use Rattle.nqs_clients.specs.declared.status.NqsStatus.TheVariants.{Done, Refused, BadWords, NotNqs, ReadFault, WriteFault, Memory, NoAnswer, WireFault}
 use Rattle.nqs_clients.specs.declared.status.NqsStatus.TheVariants.{DiskFault, TurnsUsed, MachineFault, Exists}
 
+-- the number with which a program exits at a status
 abbrev pub number_of : NqsStatus → ℕ
 number_of Done = 0
 number_of Refused = 1

@@ -23,6 +23,7 @@ abbrev pub ended : ℕ → RequestId → ℕ → Option RunEnd → Body
 ended port id start (Some end) = Ended port id start end.status (take 16384 end.out) (take 16384 end.err)
 ended port id start None = Ended port id start 127 [] []
 
+-- what is said is that the end of this start of the request is known
 abbrev pub is_ack_body : RequestId → ℕ → Body → Bool
 is_ack_body id start (EndedAck other at) = id_eq other id && at == start
 is_ack_body id start _ = false
@@ -32,6 +33,7 @@ abbrev pub is_ack : HostId → RequestId → ℕ → Option Message → Bool
 is_ack host id start None = false
 is_ack host id start (Some message) = message.from.0 == host.0 && message.to.0 == host.0 && is_ack_body id start message.body
 
+-- does the arrival bring that acknowledgement?
 abbrev pub acknowledges : HostId → RequestId → ℕ → Arrival → Bool
 acknowledges host id start arrival = is_ack host id start (message_in arrival)
 

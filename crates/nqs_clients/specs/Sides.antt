@@ -16,6 +16,7 @@ pub record Wired : Type 0 where
   pub send_faults : ℕ
   pub send_faults_now : ℕ
 
+-- what a wire tells of itself before and after, by its four ways to tell it
 abbrev pub wired : {W : Type 0} → (W → Option (List Arrival)) → (W → Option (List Packet)) → (W → ℕ) → (W → ℕ) → W → W → Wired
 wired received sent receive_faults send_faults old new =
     record {
@@ -41,6 +42,7 @@ pub record Fed : Type 0 where
   pub faults : ℕ
   pub faults_now : ℕ
 
+-- what a source tells of itself before and after, by its two ways to tell it
 abbrev pub fed : {S : Type 0} → (S → Option (List ℕ)) → (S → ℕ) → S → S → Fed
 fed left faults old new = record { left = left old; left_now = left new; faults = faults old; faults_now = faults new }
 
@@ -65,6 +67,7 @@ pub record Sunk : Type 0 where
   pub stalls : ℕ
   pub stalls_now : ℕ
 
+-- what a sink tells of itself before and after, by its three ways to tell it
 abbrev pub sunk : {K : Type 0} → (K → Option (List ℕ)) → (K → ℕ) → (K → ℕ) → K → K → Sunk
 sunk taken faults stalls old new =
     record { taken = taken old; taken_now = taken new; faults = faults old; faults_now = faults new; stalls = stalls old; stalls_now = stalls new }

@@ -12,9 +12,11 @@ module _ {E : Type 0} where
   abbrev pub may_count_hop : Row E → Bool
   may_count_hop r = nat_lt r.hops 255
 
+  -- one more move of each row can be counted so
   abbrev pub may_count_hops : State E → Bool
   may_count_hops s = list_all may_count_hop s.rows
 
+  -- the step that there is, or that nothing happens
   abbrev pub or_quiet : Option (Stepped E) → Stepped E
   or_quiet None = quiet
   or_quiet (Some x) = x

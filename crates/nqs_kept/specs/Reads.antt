@@ -7,6 +7,7 @@ use Rattle.nqs_spool.specs.Extents.{Has}
 use Rattle.nqs_store.specs.Told.{Host}
 use Rattle.nqs_store.specs.Live.{live}
 
+-- the extent, where there is one, is a live one of the host
 abbrev pub IsLive : Host → Option Extent → Type 0
 IsLive host None = Unit {0}
 IsLive host (Some extent) = Has (live host) extent

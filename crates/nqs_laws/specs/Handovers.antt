@@ -14,6 +14,7 @@ use Rattle.nqs_types.specs.declared.message.Message.{Message}
 use Rattle.nqs_types.specs.declared.message.Body.{Body}
 use Rattle.nqs_types.specs.declared.message.Body.TheVariants as body
 
+-- the host has this state in the world
 abbrev pub IsStateOf : World → HostId → Plain → Type 0
 IsStateOf w a s = slice_get (states_of w) a.0 ≡ Some s
 
@@ -21,17 +22,19 @@ IsStateOf w a s = slice_get (states_of w) a.0 ≡ Some s
 abbrev pub WasSent : World → Message → Type 0
 WasSent w m = (k : ℕ) × (packet_at k w ≡ Some m)
 
--- of the sender: its handover to this host under this number is offered, or committed
+-- of the sender: its handover to this host under this number is offered
 abbrev pub is_open : HostId → ℕ → Plain → Bool
 is_open to n s = passes is_offered_hand (find_hand to n s)
 
+-- of the sender: its handover to this host under this number is committed
 abbrev pub is_committed_to : HostId → ℕ → Plain → Bool
 is_committed_to to n s = passes is_committed_hand (find_hand to n s)
 
--- of the receiver: the number of this sender is closed, or it is promised or closed
+-- of the receiver: the number of this sender is closed
 abbrev pub is_closed_for : HostId → ℕ → Plain → Bool
 is_closed_for from n t = closes n (find_peer from t)
 
+-- of the receiver: the number of this sender is promised or closed
 abbrev pub is_taken_for : HostId → ℕ → Plain → Bool
 is_taken_for from n t = has_promise from n t || is_closed_for from n t
 

@@ -35,13 +35,15 @@ LicensesEdit (RowsOf (ReleaseRequest id)) s x Release = meant_request id s ≡ S
 LicensesEdit (RowsOf (MoveRequest id q)) s x Move = meant_request id s ≡ Some x
 LicensesEdit _ s x k = ⊥
 
--- the request of a handover, and of a promise
+-- the request is the one that is handed to a peer under this number
 abbrev pub IsHanded : HostId → ℕ → Plain → RequestId → Type 0
 IsHanded peer n s x = passes (λ y. id_eq x y.id) (find_hand peer n s) ≡ true
 
+-- the request is the one that was promised to a peer under this number
 abbrev pub IsPromised : HostId → ℕ → Plain → RequestId → Type 0
 IsPromised peer n s x = passes (λ p. id_eq x p.row.id) (find_promise peer n s) ≡ true
 
+-- a message of a peer: what was handed to it goes there or comes back, what was promised to it arrives
 abbrev pub LicensesMessage : Body → HostId → Plain → RequestId → Kind → Type 0
 LicensesMessage (body.Ready n) peer s x Route = IsHanded peer n s x
 LicensesMessage (body.Inquire n) peer s x Route = IsHanded peer n s x
@@ -54,6 +56,7 @@ abbrev pub LicensesTick : ℕ → Plain → RequestId → Kind → Type 0
 LicensesTick now s x Back = list_any (λ y. is_silent now s y && id_eq x y.id) s.hands ≡ true
 LicensesTick now s x k = ⊥
 
+-- a command: a submission makes the next request, a deletion takes the one it names, edits and ticks do as above
 abbrev pub LicensesCommand : ℕ → Command → Plain → RequestId → Kind → Type 0
 LicensesCommand now (command.Submit sub) s x Submit = x ≡ next_id s
 LicensesCommand now (command.Delete id forced) s x Delete = meant_request id s ≡ Some x
@@ -67,6 +70,7 @@ abbrev pub LicensesEnd : RequestId → ℕ → Plain → RequestId → Kind → 
 LicensesEnd id start s x End = (x ≡ id) × (passes (is_start start) (find_row id s) ≡ true)
 LicensesEnd id start s x k = ⊥
 
+-- what an event does, by its command, its message, the start that ended, or its tick
 abbrev pub LicensesEvent : Event → Plain → RequestId → Kind → Type 0
 LicensesEvent (event.Ask now port token user c) s x k = LicensesCommand now c s x k
 LicensesEvent (event.Arrived now m) s x k = LicensesMessage m.body m.from s x k
@@ -83,6 +87,7 @@ LicensesStart Hold = Unit {0}
 LicensesStart Start = Unit {0}
 LicensesStart _ = ⊥
 
+-- what a boot does with what was running: it is queued again, or goes
 abbrev pub LicensesBoot : Kind → Type 0
 LicensesBoot Again = Unit {0}
 LicensesBoot Gone = Unit {0}

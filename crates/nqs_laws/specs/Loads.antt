@@ -42,6 +42,7 @@ pub record Errand : Type 0 where
   pub id : RequestId
   pub queue : List ℕ
 
+-- the errand of this request to this queue
 abbrev pub errand : RequestId → List ℕ → Errand
 errand id queue = record { id = id; queue = queue }
 

@@ -8,6 +8,7 @@ use Rattle.nqs_rules.specs.World.{newest_between, runs_now}
 use Rattle.nqs_types.specs.declared.ids.HostId.{HostId}
 use Rattle.nqs_types.specs.declared.message.Message.{Message}
 
+-- the host that a packet goes to, if there is a packet
 abbrev pub receiver : Option Message → Option HostId
 receiver m = option_map (λ m. m.to) m
 
@@ -15,6 +16,7 @@ receiver m = option_map (λ m. m.to) m
 abbrev pub if_host : (Host → Bool) → HostId → World → Option HostId
 if_host test h w = if passes test (host_of h w) then Some h else None
 
+-- whether some request of the host runs
 abbrev pub runs_something : Host → Bool
 runs_something host = list_any runs_now host.state.rows
 

@@ -10,6 +10,7 @@ is_sane_act (Asks _ _ c) = is_sane_command c
 is_sane_act (Ends _ _ _ _ output error) = is_short_output output && is_short_output error
 is_sane_act _ = true
 
+-- what is asked in all these events is within its limits
 abbrev pub AreSane : List Act → Type 0
 AreSane acts = list_all is_sane_act acts ≡ true
 

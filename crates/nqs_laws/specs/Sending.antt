@@ -7,6 +7,7 @@ use Rattle.nqs_types.specs.declared.ids.HostId.{HostId}
 use Rattle.nqs_types.specs.declared.message.Message.{Message}
 use Rattle.nqs_types.specs.declared.message.Body.{Body}
 
+-- a message from host to host
 abbrev pub word : HostId → HostId → Body → Message
 word from to b = record { from = from; to = to; body = b }
 

@@ -31,10 +31,11 @@ pub record IsSafe (h : HostId) (w : World) : Type 0 where
   pub up : host.up ≡ true
   pub fuses : host.fuses ≡ no_fuses
 
--- the host that an event is for: where it goes, also as a packet
+-- the host that a message goes to
 abbrev pub receiver : Message → HostId
 receiver m = m.to
 
+-- the host that an event is for: the one that it names, or the receiver of its packet
 abbrev pub taker : Act → World → Option HostId
 taker (Asks h user c) w = Some h
 taker (Ends h id start status output error) w = Some h
@@ -72,12 +73,15 @@ pub record SendsThen (earlier later : World) (kind : Message → Type 0) (holds 
 -- A matter of a host with another, which three events settle: a tick, by which the host asks; the arrival of what was asked,
 -- which is answered; and the arrival of the answer. Each event leaves its host up, so that no fuse falls within it.
 module _ (host other : HostId) (asked answered : Message → Type 0) (settled : Plain → Type 0) where
+  -- the arrival of this answer settles the matter
   abbrev pub IsSettledBy : World → ℕ → Type 0
   IsSettledBy w answer = IfUpAfter (Delivers answer) host w (λ v. HoldsAt v host settled)
 
+  -- the arrival of this question sends an answer, and each such answer settles the matter
   abbrev pub IsAnsweredTo : World → ℕ → Type 0
   IsAnsweredTo w question = IfUpAfter (Delivers question) other w (λ v. SendsThen w v answered (IsSettledBy v))
 
+  -- a tick of the host sends a question, each such question is answered, and each such answer settles the matter
   abbrev pub IsSettledInThree : World → Type 0
   IsSettledInThree w = IfUpAfter (Ticks host) host w (λ v. SendsThen w v asked (IsAnsweredTo v))
 

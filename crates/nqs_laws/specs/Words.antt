@@ -53,9 +53,11 @@ is_counted e = if_running e.state (e.starts == e.lost + 1) (e.starts == e.lost)
 abbrev pub is_never_lost : Entry → Bool
 is_never_lost e = e.rerun || e.lost == 0
 
+-- what is carried was lost as often as it was started
 abbrev pub is_carried_counted : Carried → Bool
 is_carried_counted c = c.starts == c.lost
 
+-- what is carried is rerunnable, or was never lost
 abbrev pub is_carried_never_lost : Carried → Bool
 is_carried_never_lost c = c.job.rerun || c.lost == 0
 
@@ -64,6 +66,7 @@ abbrev pub body_passes : (Carried → Bool) → Body → Bool
 body_passes test (body.Offer _ _ c _) = test c
 body_passes test _ = true
 
+-- what a message offers, if it is an offer, passes the test
 abbrev pub offers_pass : (Carried → Bool) → Message → Bool
 offers_pass test m = body_passes test m.body
 

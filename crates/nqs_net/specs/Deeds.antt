@@ -28,9 +28,11 @@ abbrev pub done_down : Deed → HostId → Host → Network → Ran
 done_down Boot h host w = boots_down h host w
 done_down _ h host w = seeing (seen.Down h) w
 
+-- at a host, by whether it is up
 abbrev pub done_at : Deed → HostId → Host → Network → Ran
 done_at deed h host w = if host.up then done_up deed h host w else done_down deed h host w
 
+-- at a host, if there is one; else nothing happens
 abbrev pub done_by : Option Host → Deed → HostId → Network → Ran
 done_by None deed h w = unseen w
 done_by (Some host) deed h w = done_at deed h host w

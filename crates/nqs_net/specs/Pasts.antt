@@ -16,6 +16,7 @@ pub record Point : Type 0 where
   pub histories : Which → History
   pub state : Plain
 
+-- a point of these histories and this state
 abbrev pub point : (Which → History) → Plain → Point
 point now s = record { histories = now; state = s }
 

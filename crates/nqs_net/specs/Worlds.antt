@@ -19,12 +19,14 @@ use Rattle.nqs_net.specs.declared.slot.Slot.{Slot}
 use Rattle.nqs_net.specs.declared.slot.Slot.TheVariants.{Up, Down}
 use Rattle.nqs_net.specs.declared.world.World.{World}
 
+-- how many calls of a disk are left until one is to fail, if one is
 abbrev pub fuse_of : Which → Fuses → Option ℕ
 fuse_of Root fuses = fuses.root
 fuse_of First fuses = fuses.first
 fuse_of Second fuses = fuses.second
 fuse_of Spool fuses = fuses.spool
 
+-- how many calls were made of a disk
 abbrev pub calls_of : Which → Calls → ℕ
 calls_of Root calls = calls.root
 calls_of First calls = calls.first
@@ -48,6 +50,7 @@ pub record IsDisk (left : Option ℕ) (made : ℕ) (h : History) (fails : ℕ �
   pub count : moment h ≡ made
   pub turn : AreInTurn h.calls
 
+-- each disk has made as many calls as the host says, and has the fuse that it says
 abbrev pub AreDisks : Host → (Which → History) → (Which → ℕ → Bool) → Type 0
 AreDisks host histories fails = (which : Which) → IsDisk (fuse_of which host.fuses) (calls_of which host.calls) (histories which) (fails which)
 
@@ -68,6 +71,7 @@ pub record IsDown (left : Disks MemDisk) (host : Host) : Type 0 where
   pub disks : AreDisks host (histories_of mem.history_of left) (failing_of mem.fails_of left)
   pub calls : (which : Which) → (histories_of mem.history_of left which).calls ≡ []
 
+-- a slot, up or down, stands for this host
 abbrev pub IsSlot : Slot → Host → Type 0
 IsSlot (Up up) host = IsUp up.node.value host
 IsSlot (Down down) host = IsDown down.disks.value host

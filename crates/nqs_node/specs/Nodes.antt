@@ -10,6 +10,7 @@ use Rattle.nqs_back.specs.Bare.{emptied}
 use Rattle.nqs_node.specs.declared.node.Node.{Node}
 
 module _ {D : Type 0} {g : disk.Ghosts D} where
+  -- one of the node's disks
   abbrev pub disk_of : Which → Node D g → D
   disk_of which node = store.disk_of which node.store
 

@@ -20,6 +20,7 @@ abbrev pub read_into : (Extent → List ℕ) → List PlanRead → List Output �
 read_into bytes [] outputs = outputs
 read_into bytes (read ∷ reads) outputs = read_into bytes reads (change_at read.output (with_bytes (bytes read.extent)) outputs)
 
+-- the extent that is to be read is a live one of the host
 abbrev pub IsLiveRead : Host → PlanRead → Type 0
 IsLiveRead host read = Has (live host) read.extent
 

@@ -9,9 +9,11 @@ use Rattle.nqs_types.specs.declared.request.Row.{Row}
 use Rattle.nqs_types.specs.declared.request.RowState.{RowState}
 use Rattle.nqs_rules.specs.Format.{no_limits, first_queue, formatted}
 
+-- a batch queue that is enabled and started
 abbrev pub plot_queue : QueueDef
 plot_queue = record first_queue { name = codes "plot"; started = true }
 
+-- a rerunnable job with these paths of its outputs
 abbrev pub plot_job : List ℕ → List ℕ → Job
 plot_job out err = record {
   name = codes "plot";
