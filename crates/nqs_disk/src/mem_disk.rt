@@ -1,5 +1,5 @@
-// A disk in memory. It keeps its calls, so each image of each moment is a function of what it
-// stores.
+//! A disk in memory. It keeps its calls, so each image of each moment is a function of what it
+//! stores.
 ghost use Rattle.std.specs.Prelude.{◌≡◌, ◌≤◌, ◌<◌, ◌+◌, ◌-◌, ◌^◌, ℕ, true, false, IsTrue, IfOk, OnOk, OnErr, IfSome, MatchResult, ◌||◌, is_err, is_some, Some};
 ghost use Rattle.std.specs.Prelude.{None, [], length, max, vec_len};
 ghost use Rattle.nqs_outside.specs.Causes.{Rose};
@@ -15,6 +15,7 @@ use nqs_outside::{Disk, Failed, Fused};
 use nqs_values::Tear;
 use std::alloc::Global;
 
+/// A disk in memory, of at most 2^40 bytes. A fuse has one of its calls fail, and each later one.
 #[derive(Drop)]
 pub struct MemDisk {
     alloc: Global,

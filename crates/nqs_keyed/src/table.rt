@@ -41,6 +41,7 @@ impl<K: Key, V: Keyed<K> + Drop> Model for Table<K, V> {
 }
 
 impl<K: Key, V: Keyed<K> + Drop> Table<K, V> {
+    /// A table without values.
     pub fn new(alloc: Global) -> Self
         ensures { result.items ≡ [] }
     {
@@ -50,10 +51,12 @@ impl<K: Key, V: Keyed<K> + Drop> Table<K, V> {
         }
     }
 
+    /// The allocator of its memory.
     pub fn allocator(&self) -> Global {
         *self.map.allocator()
     }
 
+    /// How many values it has.
     pub fn len(&self) -> usize
         ensures { result ≡ length self.now.items }
     {

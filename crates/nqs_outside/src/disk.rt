@@ -1,4 +1,4 @@
-// A disk as the crates above see it.
+//! A disk as the crates above see it.
 ghost use Rattle.std.specs.Prelude.{◌≡◌, ◌⊎◌, ◌+◌, ◌-◌, ◌<◌, ◌≤◌, ◌^◌, ◌++◌, [], ◌∷◌, ℕ, Bool, true, false, IsTrue, min, max, nat_le, length, take, drop, IfOk};
 ghost use Rattle.std.specs.Prelude.{OnOk, OnErr};
 ghost use Rattle.nqs_outside.specs.Causes.{Rose};
@@ -6,6 +6,8 @@ ghost use Rattle.nqs_outside.specs.History.{History, Call, write, sync, content,
 
 use crate::source::Failed;
 
+/// Bytes that are written at their places. A stop keeps what was written before a sync that
+/// answered Ok; in place of what was written since it may leave any bytes.
 pub trait Disk {
     /// Whether disks of this kind tell their history. A real one doesn't.
     ghost tells: { Bool };
@@ -22,6 +24,7 @@ pub trait Disk {
     /// How often a call has failed.
     ghost faults: { Self → ℕ };
 
+    /// How many bytes there are.
     fn len(&mut self) -> Result<u64, Failed>
         ensures small { IfOk result (λ n. n ≤ 2 ^ 40) }
         ensures length { IsTrue tells → IfOk result (λ n. n ≡ length (content (history self.old))) }

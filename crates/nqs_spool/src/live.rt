@@ -22,6 +22,7 @@ pub(crate) struct LiveExtents {
 impl LiveExtents {
     ghost use Rattle.nqs_spool.specs.Live.{kept, slots, end_of, room_of, place_for};
 
+    /// The set that is empty.
     pub fn new(alloc: Global) -> LiveExtents
         ensures none { kept result ≡ [] }
         ensures end { end_of result ≡ 0 }
@@ -34,7 +35,7 @@ impl LiveExtents {
         }
     }
 
-    // The set of these.
+    /// The set of these. An `Err` is want of memory, here and below.
     pub fn load(alloc: Global, live: &[Extent]) -> Result<LiveExtents, Memory>
         requires apart { AreApart live.now }
         requires small { AllByRecursion (λ extent. past extent < 2 ^ 64) live.now }
@@ -50,7 +51,7 @@ impl LiveExtents {
         Ok(loaded)
     }
 
-    // Memory for so many more.
+    /// Memory for so many more.
     pub fn make_room(&mut self, count: u64) -> Result<(), Memory>
         ensures room { OnOk result (count ≤ room_of self.new) }
         ensures more { room_of self.old ≤ room_of self.new }
@@ -63,7 +64,7 @@ impl LiveExtents {
         Ok(())
     }
 
-    // Memory for one.
+    /// Memory for one.
     pub fn take_room(&mut self) -> Result<Room, Memory>
         ensures memory { OnErr result (room_of self.old ≡ 0) }
         ensures room { room_of self.old ≤ room_of self.new + 1 }
@@ -76,7 +77,7 @@ impl LiveExtents {
         }
     }
 
-    // The least place at which so many bytes meet none.
+    /// The least place at which so many bytes meet none.
     pub fn least_place(&self, count: u32) -> u64
         requires { 0 < count }
         ensures least { IsLeastPlace (kept self.now) count result }
@@ -99,8 +100,8 @@ impl LiveExtents {
         self.tree.is_free(extent.place, past, self.end, past)
     }
 
-    // One extent more, if it ends within so many bytes and meets none. The answer is whether it
-    // does.
+    /// One extent more, if it ends within so many bytes and meets none. The answer is whether it
+    /// does.
     pub fn add_sound(&mut self, extent: &Extent, size: u64) -> Result<bool, Memory>
         ensures sound { IfOk result (λ sound. IsTrue sound → (live more : List Extent) → IsWith live extent.now more
             → Covers (kept self.old) live → IsWithin size extent.now × IsClearOf live extent.now × Covers (kept self.new) more) }
@@ -117,6 +118,7 @@ impl LiveExtents {
         Ok(true)
     }
 
+    /// One extent more, in this memory. It takes no other.
     pub fn insert(&mut self, room: Room, extent: Extent)
         requires clear { IsClearOf (kept self.old) extent }
         requires some { 0 < extent.length }
@@ -131,7 +133,7 @@ impl LiveExtents {
         self.end = last.unwrap_or(self.end);
     }
 
-    // The same with memory of its own. An empty extent is left out.
+    // One extent more, in memory of its own. An empty one is left out.
     fn add(&mut self, extent: &Extent) -> Result<(), Memory>
         requires clear { IsClearOf (kept self.old) extent.now }
         requires small { past extent.now < 2 ^ 64 }
@@ -147,7 +149,7 @@ impl LiveExtents {
         Ok(())
     }
 
-    // Takes the extent out. It takes no memory.
+    /// Takes the extent out. It takes no memory.
     pub fn remove(&mut self, extent: &Extent)
         ensures less { Has (kept self.old) extent.now → IsWith (kept self.new) extent.now (kept self.old) }
         ensures end { end_of self.new ≤ end_of self.old }

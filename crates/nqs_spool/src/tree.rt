@@ -51,6 +51,7 @@ pub(crate) struct Room {
 }
 
 impl Room {
+    /// Room for one slot. An `Err` is want of memory.
     pub fn new(alloc: Global) -> Result<Room, AllocError> {
         let left = Box::new(alloc, Tree::new())?;
         let right = Box::new(alloc, Tree::new())?;
@@ -67,6 +68,7 @@ pub(crate) struct Freed {
 }
 
 impl Tree {
+    /// The tree without slots.
     pub fn new() -> Tree
         ensures { result ≡ [] }
     {
@@ -82,6 +84,7 @@ impl Tree {
         }
     }
 
+    /// How many slots stand one below the other at most.
     pub fn height(&self) -> u8 {
         match &self.node {
             Node::Leaf => 0,
@@ -105,7 +108,7 @@ impl Tree {
         Tree { node }
     }
 
-    // Where the first free bytes begin that are so many.
+    /// Where the first free bytes begin that are so many.
     pub fn first_fit(&self, count: u64, end: u64) -> u64
         requires { 0 < count }
         ensures { result ≡ first_fit count end self.now }
@@ -124,8 +127,8 @@ impl Tree {
         }
     }
 
-    // Whether the bytes from the place on to `past` are free, where those behind all slots are from
-    // `end` to `limit`.
+    /// Whether the bytes from the place on to `past` are free, where those behind all slots are
+    /// from `end` to `limit`.
     pub fn is_free(&self, place: u64, past: u64, end: u64, limit: u64) -> bool
         requires { IsSomeRow self.now }
         ensures { result ≡ is_free place past end limit self.now }
@@ -153,7 +156,7 @@ fn lies_between(place: u64, past: u64, from: u64, to: u64) -> bool
 }
 
 impl Tree {
-    // One extent more. Answers where it ends, if it is the last.
+    /// One extent more. Answers where it ends, if it is the last.
     pub fn insert(&mut self, room: Room, end: u64, place: u64, length: u32) -> Option<u64>
         requires row { IsSomeRow self.old }
         requires small { place + length < 2 ^ 64 }
@@ -188,8 +191,8 @@ impl Tree {
         }
     }
 
-    // Takes the extent at the place out, if there is one. The free bytes before it join those
-    // behind it.
+    /// Takes the extent at the place out, if there is one. The free bytes before it join those
+    /// behind it.
     pub fn remove(&mut self, place: u64) -> Freed
         requires { IsSomeRow self.old }
         ensures slots { self.new ≡ removed place self.old }
