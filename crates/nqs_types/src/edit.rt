@@ -121,6 +121,7 @@ pub enum RowsEdit {
     ModifyRequest { request: Named, priority: u64 },
 }
 
+/// A change of a host by a command, by what it changes.
 #[derive(Clone, Copy)]
 pub enum Edit {
     Conf(ConfEdit),

@@ -20,6 +20,7 @@ pub struct Submission {
     pub script: Bytes,
 }
 
+/// What a host is asked for.
 #[derive(Drop)]
 pub enum Command {
     Submit(Submission),

@@ -81,6 +81,7 @@ pub enum Body {
     },
 }
 
+/// What one host says to another, or a host and its clients to each other.
 #[derive(Drop)]
 pub struct Message {
     pub from: HostId,

@@ -22,6 +22,7 @@ pub enum Access {
     Users(NameList),
 }
 
+/// A queue of a host: which requests it accepts, and how many of them it starts.
 pub struct QueueDef {
     pub name: Name,
     pub kind: Kind,
@@ -75,6 +76,7 @@ pub struct ComplexDef {
     pub queues: NameList,
 }
 
+/// A device of a host. It takes requests while it is enabled.
 #[derive(Clone, Copy, Debug, PartialEq, Eq)]
 pub struct DeviceDef {
     pub name: Name,

@@ -30,6 +30,7 @@ pub enum Hold {
     System,
 }
 
+/// What a request is doing in its queue.
 #[derive(Clone, Copy, Debug, PartialEq, Eq)]
 pub enum RowState {
     Queued,
@@ -177,6 +178,7 @@ pub struct Promise<E: Copy + Drop = Extent> {
     pub row: Row<E>,
 }
 
+/// Whose the request of a handover is.
 #[derive(Clone, Copy, Debug, PartialEq, Eq)]
 pub enum Phase {
     /// Offered: the request is still this host's.
