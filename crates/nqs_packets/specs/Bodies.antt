@@ -31,7 +31,7 @@ commit_at = mapped (λ n. Commit n) number_at
 unfoldable pub done_at : Reading Body
 done_at = mapped (λ n. Done n) number_at
 
--- the question what of the promise of this number
+-- the question what has become of the promise of this number
 unfoldable pub inquire_at : Reading Body
 inquire_at = mapped (λ n. Inquire n) number_at
 

@@ -47,7 +47,7 @@ generation_of None None None = Some None
 generation_of (Some seed) (Some hosts) (Some events) = generated (number_of 0 18446744073709551615 seed) (number_of 1 16 hosts) (number_of 0 100000 events)
 generation_of _ _ _ = None
 
--- whether the flag was given, which then has this value
+-- whether the flag was given: it then has the value `true`
 abbrev pub is_true : Option Text → Bool
 is_true None = false
 is_true (Some text) = bytes_eq text (codes "true")

@@ -109,7 +109,7 @@ disk_at ws i = do
 unfoldable pub mixed_of : List ℕ → Option (List ℕ)
 mixed_of text = if name_eq (codes "mixed:") (take 6 text) then Some (drop 6 text) else None
 
--- the number that says how writes are mixed
+-- the tear of this number, where it is one of 64 bits
 abbrev pub as_mixed : Option (List ℕ) → Read Tear
 as_mixed None = Err cause.UnknownWord
 as_mixed (Some number) = or_cause (number_of 0 18446744073709551615 number) cause.BadNumber >>= (λ n. Ok (tear.Mixed n))

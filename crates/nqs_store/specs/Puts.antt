@@ -3,7 +3,7 @@ use Rattle.std.specs.Prelude.{ℕ, ◌≤◌, List, [], ◌∷◌, length}
 use Rattle.nqs_values.specs.declared.extent.Extent.{Extent}
 use Rattle.nqs_spool.specs.Extents.{Holds}
 
--- they are no more than a script or an output may have
+-- they are no more than an extent may have
 abbrev pub IsShortPut : List ℕ → Type 0
 IsShortPut bytes = length bytes ≤ 32768
 
