@@ -1,4 +1,5 @@
 pub mod Text
+pub mod Either
 pub mod Faults
 pub mod Plan
 pub mod Gate

@@ -12,7 +12,7 @@ use crate::JournalFault;
 use nqs_outside::{Disk, Failed};
 use std::alloc::{AllocError, Global};
 
-const SNAPSHOT: [u8; 16] = *b"NQS-SNAPSHOT-v1\n";
+pub(crate) const SNAPSHOT: [u8; 16] = *b"NQS-SNAPSHOT-v1\n";
 
 #[tactic(auto, unfolding(crate::specs::Text::snapshot_front))]
 pub(crate) fn snapshot_text(alloc: Global, snapshot: &[u8]) -> Result<Vec<u8>, AllocError>

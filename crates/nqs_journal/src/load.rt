@@ -22,7 +22,7 @@ impl From<Failed> for JournalFault {
 }
 
 // All the bytes.
-fn read_disk<D: Disk>(alloc: Global, disk: &mut D) -> Result<Vec<u8>, JournalFault>
+pub(crate) fn read_disk<D: Disk>(alloc: Global, disk: &mut D) -> Result<Vec<u8>, JournalFault>
     ensures bytes { IsTrue D.tells → IfOk result (λ bytes. bytes.items ≡ content (D.history disk.old)) }
     ensures small { IfOk result (λ bytes. vec_len bytes ≤ 2 ^ 40) }
     ensures same { IsTrue D.tells → D.history disk.new ≡ D.history disk.old }

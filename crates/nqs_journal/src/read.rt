@@ -1,8 +1,8 @@
 //! What the bytes of a journal stand for.
 ghost use Rattle.std.specs.Prelude.{◌≡◌, ◌⊎◌, ◌+◌, ◌<◌, ◌≤◌, ◌++◌, ℕ, List, length, take, drop, slice_get, ◌≢◌, IfSome, IfNone, IfOk, IfErr, OnErr};
 ghost use Rattle.std.specs.Prelude.{MatchOption};
-ghost use Rattle.nqs_journal.specs.Text.{header, frame, records, IsNoFrame, LeavesHeader, IsFaultAt, StandsFor};
-ghost use Rattle.nqs_journal.specs.Faults.{IsReadFault};
+ghost use Rattle.nqs_journal.specs.Text.{header, frame, records, IsNoFrame, LeavesHeader, IsFaultAt, StandsAfter, StandsFor};
+ghost use Rattle.nqs_journal.specs.Faults.{IsReadFault, IsRecordsFault};
 
 use crate::JournalFault;
 use crate::journal::LONGEST;
@@ -12,7 +12,7 @@ use std::alloc::Global;
 pub(crate) const HEADER: [u8; 16] = *b"NQS-JOURNAL-v1\n\n";
 
 // The first place at which the bytes leave others.
-fn first_difference(bytes: &[u8], others: &[u8]) -> Option<usize>
+pub(crate) fn first_difference(bytes: &[u8], others: &[u8]) -> Option<usize>
     ensures none { IfNone result (bytes.now ≡ others.now ++ drop (length others.now) bytes.now) }
     ensures within { IfSome result (λ place. place < length others.now) }
     ensures same { IfSome result (λ place. take place bytes.now ≡ take place others.now) }
@@ -64,19 +64,21 @@ pub(crate) struct Reading {
     pub gate: u64,
 }
 
-// The payloads that the bytes stand for, and the place of the next gate.
-pub(crate) fn read_text(alloc: Global, bytes: &[u8]) -> Result<Reading, JournalFault>
-    ensures stands { IfOk result (λ found. StandsFor bytes.now found.payloads.items) }
-    ensures gate { IfOk result (λ found. found.gate ≡ length (header ++ records found.payloads.items)) }
+// The payloads whose records stand behind a front of so many bytes, and the place of the next gate.
+pub(crate) fn read_records(
+    alloc: Global,
+    bytes: &[u8],
+    front: usize,
+) -> Result<Reading, JournalFault>
+    requires { front ≤ length bytes.now }
+    ensures stands { IfOk result (λ found. StandsAfter (take front bytes.now) bytes.now found.payloads.items) }
+    ensures gate { IfOk result (λ found. found.gate ≡ length (take front bytes.now ++ records found.payloads.items)) }
     ensures within { IfOk result (λ found. found.gate < length bytes.now) }
-    ensures fault { IfErr result (IsReadFault bytes.now) }
+    ensures fault { IfErr result (IsRecordsFault (take front bytes.now) bytes.now) }
 {
-    if let Some(place) = header_fault(bytes) {
-        return Err(JournalFault::NotJournal(place as u64));
-    }
     let mut payloads = Vec::new(alloc);
-    let mut rest = &bytes[16..];
-    let mut gate = 16;
+    let mut rest = &bytes[front..];
+    let mut gate = front as u64;
     'records: loop {
         let Some((byte, after)) = rest.split_first() else {
             return Err(JournalFault::NotJournal(gate));
@@ -91,4 +93,17 @@ pub(crate) fn read_text(alloc: Global, bytes: &[u8]) -> Result<Reading, JournalF
         gate += 5 + payload.len() as u64;
         rest = more;
     }
+}
+
+// The payloads that the bytes stand for, and the place of the next gate.
+pub(crate) fn read_text(alloc: Global, bytes: &[u8]) -> Result<Reading, JournalFault>
+    ensures stands { IfOk result (λ found. StandsFor bytes.now found.payloads.items) }
+    ensures gate { IfOk result (λ found. found.gate ≡ length (header ++ records found.payloads.items)) }
+    ensures within { IfOk result (λ found. found.gate < length bytes.now) }
+    ensures fault { IfErr result (IsReadFault bytes.now) }
+{
+    if let Some(place) = header_fault(bytes) {
+        return Err(JournalFault::NotJournal(place as u64));
+    }
+    read_records(alloc, bytes, 16)
 }
