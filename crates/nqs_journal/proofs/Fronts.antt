@@ -1,11 +1,10 @@
 -- What comes before the records, by either form.
-use Rattle.std.proofs.Common.{◌≡◌, ◌≢◌, ◌⊎◌, inl, inr, ℕ, zero, suc, ◌+◌, ◌<◌, ◌≤◌, ◌^◌, max, Bool, false, true, List, [], ◌∷◌, ◌++◌, length, take, drop, get_or}
-use Rattle.std.proofs.Common.{slice_get, refl, sym, ap, ◌∙◌, subst, arith, append_assoc, length-append}
-use Rattle.std.proofs.lemmas.List.{append_cancel_left, take_at, take-take}
-use Rattle.std.specs.Int.{to_be_bytes, w64}
+use Rattle.std.proofs.Common.{◌≡◌, ◌≢◌, ◌⊎◌, inl, inr, ℕ, zero, suc, ◌+◌, ◌<◌, ◌≤◌, max, Bool, false, true, List, [], ◌∷◌, ◌++◌, length, take, drop, get_or}
+use Rattle.std.proofs.Common.{slice_get, refl, sym, ap, ◌∙◌, arith, length-append}
+use Rattle.std.proofs.lemmas.List.{append_cancel_left, take_at}
 use Rattle.nqs_journal.specs.Text.{header, snapshot_front}
 use Rattle.nqs_journal.specs.Either.{snapshot_header, long_frame, front_of, IsSnapshot, LeavesHeaders}
-use Rattle.nqs_journal.proofs.LongFrames.{length-long_frame, long_frame_cancel}
+use Rattle.nqs_journal.proofs.LongFrames.{long_frame_cancel}
 
 pub front_text : (snapshot rest : List ℕ) → snapshot_front snapshot ++ rest ≡ snapshot_header ++ (long_frame snapshot ++ rest)
 unfolding snapshot_front long_frame

@@ -12,10 +12,10 @@ slice_get_front (x ∷ xs) ys zero lt = refl
 slice_get_front (x ∷ xs) ys (suc i) lt = slice_get_front xs ys i (omega (arith, lt))
 
 -- behind the records the bytes end, or a gate is open with no payload behind it
-abbrev IsBadEnd : List ℕ → Type 0
+abbrev pub IsBadEnd : List ℕ → Type 0
 IsBadEnd rest = (rest ≡ []) ⊎ ((more : List ℕ) × (rest ≡ 1 ∷ more) × IsNoFrame more)
 
-not_both : (ps qs : List (List ℕ)) (gate : ℕ) (x rest : List ℕ) → AllByRecursion IsShort ps → AllByRecursion IsShort qs → gate ≢ 1
+pub not_both : (ps qs : List (List ℕ)) (gate : ℕ) (x rest : List ℕ) → AllByRecursion IsShort ps → AllByRecursion IsShort qs → gate ≢ 1
     → records ps ++ gate ∷ x ≡ records qs ++ rest → IsBadEnd rest → ⊥
 not_both [] [] gate x rest short_p short_q shut same (inl none) = let no : ⊥ = cc in no
 not_both [] [] gate x rest short_p short_q shut same (inr wide) = let e : gate ≡ 1 = cc (same, wide.1) in shut e

@@ -3,7 +3,7 @@ ghost use Rattle.std.specs.Prelude.{◌≡◌, ◌+◌, ◌<◌, ◌≤◌, ◌^
 ghost use Rattle.nqs_outside.specs.Causes.{Rose};
 ghost use Rattle.nqs_outside.specs.History.{content, moment, IsWhole};
 ghost use Rattle.nqs_journal.specs.Text.{records};
-ghost use Rattle.nqs_journal.specs.Either.{front_of, StandsBy};
+ghost use Rattle.nqs_journal.specs.Either.{front_of, IsSnapshot, StandsBy};
 ghost use Rattle.nqs_journal.specs.Faults.{IsEitherLoadFault, IsEitherReadFault, IsReadingFault};
 
 use crate::JournalFault;
@@ -47,4 +47,70 @@ pub(crate) fn add_text(
         has_snapshot: front.has_snapshot,
         gate: reading.gate,
     })
+}
+
+// Adds what a read of the disk finds.
+pub(crate) fn add_journal<D: Disk>(
+    alloc: Global,
+    disk: &mut D,
+    snapshot: &mut Vec<u8>,
+    found: &mut Vec<Bytes>,
+) -> Result<Found, JournalFault>
+    ensures added { IsTrue D.tells → IfOk result (λ told. (front : List ℕ) × (payloads : List (List ℕ))
+        × StandsBy (content (D.history disk.old)) told.has_snapshot front payloads
+        × (snapshot.new.items ≡ snapshot.old.items ++ front) × (found.new.items ≡ found.old.items ++ payloads)
+        × (told.gate ≡ length (front_of told.has_snapshot front ++ records payloads))
+        × (told.gate < length (content (D.history disk.old)))) }
+    ensures small { IfOk result (λ told. (front : List ℕ) × (payloads : List (List ℕ)) × IsSnapshot told.has_snapshot front
+        × (snapshot.new.items ≡ snapshot.old.items ++ front) × (found.new.items ≡ found.old.items ++ payloads)
+        × (told.gate ≡ length (front_of told.has_snapshot front ++ records payloads)) × (told.gate ≤ 2 ^ 40)) }
+    ensures unchanged { OnErr result ((snapshot.new.items ≡ snapshot.old.items) × (found.new.items ≡ found.old.items)) }
+    ensures same { IsTrue D.tells → D.history disk.new ≡ D.history disk.old }
+    ensures later { D.faults disk.old ≤ D.faults disk.new }
+    ensures fault { IsTrue D.tells → IfErr result (IsEitherLoadFault (content (D.history disk.old))) }
+    ensures only { IfErr result IsReadingFault }
+    ensures failed { IsErrOf result JournalFault.Disk → Rose (D.faults disk.old) (D.faults disk.new) }
+    // Ok only where no call that was made was to fail, and `Disk` only after one that was.
+    ensures whole { IsTrue D.tells → OnOk result (IsWhole (D.fails disk.old) (moment (D.history disk.old))) }
+    ensures cause { IsTrue D.tells → IsErrOf result JournalFault.Disk → (i : ℕ) × (i < moment (D.history disk.old)) × IsTrue (D.fails disk.old i) }
+    ensures fuse { IsTrue D.tells → (i : ℕ) → D.fails disk.new i ≡ D.fails disk.old i }
+    ensures starved { IsTrue D.tells → D.starved disk.new ≡ D.starved disk.old }
+{
+    let bytes = read_disk(alloc, disk)?;
+    add_text(alloc, &bytes, snapshot, found)
+}
+
+/// Adds the snapshot's bytes, where there is one, and the payloads that a read finds now, by either
+/// form of a journal. `true` says that there is a snapshot. It writes nothing. `NotJournal` tells
+/// the first byte at which neither header goes on, 16 where the snapshot or its length runs past
+/// the end, or the gate at which the bytes end or behind which no record stands. An `Err` changes
+/// nothing.
+pub fn read_either<D: Disk>(
+    alloc: Global,
+    disk: &mut D,
+    snapshot: &mut Vec<u8>,
+    found: &mut Vec<Bytes>,
+) -> Result<bool, JournalFault>
+    ensures found { IsTrue D.tells → IfOk result (λ has. (front : List ℕ) × (payloads : List (List ℕ))
+        × StandsBy (content (D.history disk.old)) has front payloads
+        × (snapshot.new.items ≡ snapshot.old.items ++ front) × (found.new.items ≡ found.old.items ++ payloads)) }
+    ensures small { IfOk result (λ has. (front : List ℕ) × (payloads : List (List ℕ)) × IsSnapshot has front
+        × (snapshot.new.items ≡ snapshot.old.items ++ front) × (found.new.items ≡ found.old.items ++ payloads)
+        × (length (front_of has front ++ records payloads) ≤ 2 ^ 40)) }
+    ensures unchanged { OnErr result ((snapshot.new.items ≡ snapshot.old.items) × (found.new.items ≡ found.old.items)) }
+    ensures same { IsTrue D.tells → D.history disk.new ≡ D.history disk.old }
+    ensures later { D.faults disk.old ≤ D.faults disk.new }
+    ensures fault { IsTrue D.tells → IfErr result (IsEitherLoadFault (content (D.history disk.old))) }
+    ensures only { IfErr result IsReadingFault }
+    ensures failed { IsErrOf result JournalFault.Disk → Rose (D.faults disk.old) (D.faults disk.new) }
+    // Ok only where no call that was made was to fail, and `Disk` only after one that was.
+    ensures whole { IsTrue D.tells → OnOk result (IsWhole (D.fails disk.old) (moment (D.history disk.old))) }
+    ensures cause { IsTrue D.tells → IsErrOf result JournalFault.Disk → (i : ℕ) × (i < moment (D.history disk.old)) × IsTrue (D.fails disk.old i) }
+    ensures fuse { IsTrue D.tells → (i : ℕ) → D.fails disk.new i ≡ D.fails disk.old i }
+    ensures starved { IsTrue D.tells → D.starved disk.new ≡ D.starved disk.old }
+{
+    match add_journal(alloc, disk, snapshot, found) {
+        Ok(told) => Ok(told.has_snapshot),
+        Err(fault) => Err(fault),
+    }
 }

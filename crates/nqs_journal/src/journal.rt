@@ -1,16 +1,18 @@
 //! An open journal: payloads are appended by four calls of its disk, the gate's byte last.
-ghost use Rattle.std.specs.Prelude.{◌≡◌, ◌-◌, max, nat_le, IfOk, IfErr, ◌⊎◌, ◌↔◌, ◌+◌, ◌<◌, ◌≤◌, ◌^◌, ◌++◌, [], ◌∷◌, List, ℕ, IsTrue, IsErrOf, OnOk, OnErr};
+ghost use Rattle.std.specs.Prelude.{◌≡◌, ◌-◌, max, nat_le, IfOk, IfErr, ◌⊎◌, ◌↔◌, ◌+◌, ◌<◌, ◌≤◌, ◌^◌, ◌++◌, [], ◌∷◌, List, ℕ, IsTrue, Bool, IsErrOf, OnOk, OnErr};
 ghost use Rattle.std.specs.Prelude.{MatchResult, true, false, length, vec_capacity};
 ghost use Rattle.nqs_outside.specs.Causes.{Rose};
 ghost use Rattle.nqs_outside.specs.History.{Call, content, IsQuiet, extended, moment, state_at, MayLeave, EachSince, StopsShort, IsExact, IsWhole};
 ghost use Rattle.nqs_journal.specs.Text.{header, records, snapshot_front, StandsAfter, StandsFor};
+ghost use Rattle.nqs_journal.specs.Either.{front_of, IsSnapshot, StandsBy};
 ghost use Rattle.nqs_journal.specs.Plan.{append_calls, format_calls, front_calls};
-ghost use Rattle.nqs_journal.specs.Faults.{IsAppendFault, IsLoadFault, IsReadingFault, MatchBegin};
+ghost use Rattle.nqs_journal.specs.Faults.{IsAppendFault, IsEitherLoadFault, IsLoadFault, IsReadingFault, MatchBegin};
 ghost use Rattle.nqs_journal.specs.Opened.{IsOpen};
 ghost use Rattle.nqs_journal.specs.Gate.{IsAtGate};
 
 use crate::JournalFault;
 use crate::begin::{snapshot_text, write_begin};
+use crate::either::{add_journal, read_either};
 use crate::load::{read_journal, read_payloads};
 use crate::write::{fill, write_behind};
 use nqs_outside::{Disk, Failed, Fused};
@@ -175,6 +177,57 @@ impl<D: Disk> Journal<D> {
         })
     }
 
+    /// Opens a journal of either form, adds the snapshot's bytes to those handed in, where there is
+    /// one, and the payloads to those found. `true` says that there is a snapshot. `NotJournal`
+    /// tells the place that `read_either` tells. On a refusal both lists are as before.
+    pub fn load_either(
+        alloc: Global,
+        disk: D,
+        snapshot: &mut Vec<u8>,
+        found: &mut Vec<Bytes>,
+    ) -> Result<(Journal<D>, bool), (JournalFault, D)>
+        requires { IsTrue D.tells → IsQuiet (D.history disk) }
+        ensures tells { IsTrue D.tells → IfOk result (λ told. (front : List ℕ) × (payloads : List (List ℕ)) × IsSnapshot told.1 front
+            × Tells told.0 (front_of told.1 front) payloads
+            × (snapshot.new.items ≡ snapshot.old.items ++ front) × (found.new.items ≡ found.old.items ++ payloads)) }
+        ensures small { IfOk result (λ told. (front : List ℕ) × (payloads : List (List ℕ)) × IsSnapshot told.1 front
+            × (snapshot.new.items ≡ snapshot.old.items ++ front) × (found.new.items ≡ found.old.items ++ payloads)
+            × (length (front_of told.1 front ++ records payloads) ≤ 2 ^ 40)) }
+        ensures same { IsTrue D.tells → IfOk result (λ told. history_of told.0 ≡ D.history disk) }
+        ensures running { IfOk result (λ told. is_stopped told.0 ≡ false) }
+        ensures unchanged { OnErr result ((snapshot.new.items ≡ snapshot.old.items) × (found.new.items ≡ found.old.items)) }
+        ensures same_err { IsTrue D.tells → IfErr result (λ e. D.history e.1 ≡ D.history disk) }
+        ensures fault { IsTrue D.tells → IfErr result (λ e. IsEitherLoadFault (content (D.history disk)) e.0) }
+        ensures only { IfErr result (λ e. IsReadingFault e.0) }
+        ensures failed { IfErr result (λ e. e.0 ≡ JournalFault.Disk → Rose (D.faults disk) (D.faults e.1)) }
+        // Ok only where no call that was made was to fail, and `Disk` only after one that was.
+        ensures whole { IsTrue D.tells → OnOk result (IsWhole (D.fails disk) (moment (D.history disk))) }
+        ensures cause { IsTrue D.tells → IfErr result (λ e. e.0 ≡ JournalFault.Disk
+            → (i : ℕ) × (i < moment (D.history disk)) × IsTrue (D.fails disk i)) }
+        ensures fuse { IsTrue D.tells → (i : ℕ) → MatchResult result (λ told. D.fails (disk_of told.0) i ≡ D.fails disk i)
+            (λ e. D.fails e.1 i ≡ D.fails disk i) }
+        ensures starved { IsTrue D.tells → MatchResult result (λ told. D.starved (disk_of told.0) ≡ D.starved disk)
+            (λ e. D.starved e.1 ≡ D.starved disk) }
+        ensures later { MatchResult result (λ told. D.faults disk ≤ D.faults (disk_of told.0)) (λ e. D.faults disk ≤ D.faults e.1) }
+    {
+        let mut disk = disk;
+        let buffer = match Vec::with_capacity(alloc, ROOM) {
+            Ok(buffer) => buffer,
+            Err(refused) => return Err((refused.into(), disk)),
+        };
+        let told = match add_journal(alloc, &mut disk, snapshot, found) {
+            Ok(told) => told,
+            Err(fault) => return Err((fault, disk)),
+        };
+        let journal = Journal {
+            disk,
+            gate: told.gate,
+            buffer,
+            stopped: false,
+        };
+        Ok((journal, told.has_snapshot))
+    }
+
     /// Makes a disk the journal of a snapshot, whatever stood there.
     pub fn begin(alloc: Global, disk: D, snapshot: &[u8]) -> Result<Journal<D>, (JournalFault, D)>
         requires { length snapshot.now < 2 ^ 40 }
@@ -243,6 +296,41 @@ impl<D: Disk> Journal<D> {
         ensures stays { (gate_of self.new ≡ gate_of self.old) × (is_stopped self.new ≡ is_stopped self.old) }
     {
         read_payloads(alloc, &mut self.disk, found)
+    }
+
+    /// Adds what `read_either` finds on the disk now, whatever the journal told before. It writes
+    /// nothing, and the journal stays as it is. An `Err` adds nothing.
+    pub fn reread_either(
+        &mut self,
+        alloc: Global,
+        snapshot: &mut Vec<u8>,
+        found: &mut Vec<Bytes>,
+    ) -> Result<bool, JournalFault>
+        ensures stands { IsTrue D.tells → IfOk result (λ has. (front : List ℕ) × (payloads : List (List ℕ))
+            × StandsBy (content (history_of self.old)) has front payloads
+            × (snapshot.new.items ≡ snapshot.old.items ++ front) × (found.new.items ≡ found.old.items ++ payloads)) }
+        ensures found { IsTrue D.tells → IfOk result (λ has. (told : Bool) (front : List ℕ) (payloads : List (List ℕ)) → IsSnapshot told front
+            → Tells self.old (front_of told front) payloads
+            → (has ≡ told) × (snapshot.new.items ≡ snapshot.old.items ++ front) × (found.new.items ≡ found.old.items ++ payloads)) }
+        ensures small { IfOk result (λ has. (front : List ℕ) × (payloads : List (List ℕ)) × IsSnapshot has front
+            × (snapshot.new.items ≡ snapshot.old.items ++ front) × (found.new.items ≡ found.old.items ++ payloads)
+            × (length (front_of has front ++ records payloads) ≤ 2 ^ 40)) }
+        ensures unchanged { OnErr result ((snapshot.new.items ≡ snapshot.old.items) × (found.new.items ≡ found.old.items)) }
+        ensures same { IsTrue D.tells → history_of self.new ≡ history_of self.old }
+        ensures tells { IsTrue D.tells → (front : List ℕ) (payloads : List (List ℕ)) → Tells self.old front payloads → Tells self.new front payloads }
+        ensures later { D.faults (disk_of self.old) ≤ D.faults (disk_of self.new) }
+        ensures fault { IsTrue D.tells → IfErr result (IsEitherLoadFault (content (history_of self.old))) }
+        ensures only { IfErr result IsReadingFault }
+        ensures failed { IsErrOf result JournalFault.Disk → Rose (D.faults (disk_of self.old)) (D.faults (disk_of self.new)) }
+        // Ok only where no call that was made was to fail, and `Disk` only after one that was.
+        ensures whole { IsTrue D.tells → OnOk result (IsWhole (D.fails (disk_of self.old)) (moment (history_of self.old))) }
+        ensures cause { IsTrue D.tells → IsErrOf result JournalFault.Disk
+            → (i : ℕ) × (i < moment (history_of self.old)) × IsTrue (D.fails (disk_of self.old) i) }
+        ensures fuse { IsTrue D.tells → (i : ℕ) → D.fails (disk_of self.new) i ≡ D.fails (disk_of self.old) i }
+        ensures starved { IsTrue D.tells → D.starved (disk_of self.new) ≡ D.starved (disk_of self.old) }
+        ensures stays { (gate_of self.new ≡ gate_of self.old) × (is_stopped self.new ≡ is_stopped self.old) }
+    {
+        read_either(alloc, &mut self.disk, snapshot, found)
     }
 }
 

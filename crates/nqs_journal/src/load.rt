@@ -3,7 +3,7 @@ ghost use Rattle.std.specs.Prelude.{[], ◌≡◌, ◌+◌, ◌<◌, ◌≤◌, 
 ghost use Rattle.nqs_outside.specs.Causes.{Rose};
 ghost use Rattle.nqs_outside.specs.History.{content, moment, IsWhole};
 ghost use Rattle.nqs_journal.specs.Text.{header, records, StandsFor};
-ghost use Rattle.nqs_journal.specs.Faults.{IsLoadFault, IsReadingFault};
+ghost use Rattle.nqs_journal.specs.Faults.{IsDiskFault, IsLoadFault, IsReadingFault};
 
 use crate::JournalFault;
 use crate::read::{Reading, read_text};
@@ -27,7 +27,7 @@ pub(crate) fn read_disk<D: Disk>(alloc: Global, disk: &mut D) -> Result<Vec<u8>,
     ensures small { IfOk result (λ bytes. vec_len bytes ≤ 2 ^ 40) }
     ensures same { IsTrue D.tells → D.history disk.new ≡ D.history disk.old }
     ensures later { D.faults disk.old ≤ D.faults disk.new }
-    ensures fault { IfErr result (λ e. (bytes : List ℕ) → IsLoadFault bytes e) }
+    ensures fault { IfErr result IsDiskFault }
     ensures failed { IsErrOf result JournalFault.Disk → Rose (D.faults disk.old) (D.faults disk.new) }
     // Ok only where no call that was made was to fail, and `Disk` only after one that was.
     ensures whole { IsTrue D.tells → OnOk result (IsWhole (D.fails disk.old) (moment (D.history disk.old))) }
