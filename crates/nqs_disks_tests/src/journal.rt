@@ -58,7 +58,7 @@ fn left_after(alloc: Global, call: u64, tear: Tear) -> Result<Vec<Bytes>, Fail> 
     Ok(found)
 }
 
-fn has(found: &[Bytes], payloads: &[&[u8]]) -> bool {
+pub(crate) fn has(found: &[Bytes], payloads: &[&[u8]]) -> bool {
     found.len() == payloads.len()
         && found
             .iter()
@@ -178,7 +178,7 @@ fn stops_within_a_format(rt: HostRuntime) -> Result<(), Fail> {
 /// record of the site, gate.
 const ALPHA: [u8; 31] = *b"NQS-JOURNAL-v1\n\n\x01\0\0\0\x09\x01\0\x01\x05alpha\0";
 
-fn disk_of(alloc: Global, bytes: &[u8]) -> Result<MemDisk, Fail> {
+pub(crate) fn disk_of(alloc: Global, bytes: &[u8]) -> Result<MemDisk, Fail> {
     let mut disk = MemDisk::new(alloc);
     disk.write_at(0, bytes)?;
     Ok(disk)
