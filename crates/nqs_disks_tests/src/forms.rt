@@ -55,9 +55,6 @@ const RECORDS: [&[u8]; 3] = [
     b"\x01\0\0\0\x05first\x01\0\0\0\x06second\0",
 ];
 
-/// Where the gates of these stand behind the front.
-const GATES: [usize; 3] = [0, 10, 21];
-
 fn text_of(alloc: Global, form: &Form, records: &[u8]) -> Result<Vec<u8>, Fail> {
     let mut text = form.header.to_vec(alloc)?;
     text.extend_from_slice(form.snapshot)?;
@@ -67,18 +64,13 @@ fn text_of(alloc: Global, form: &Form, records: &[u8]) -> Result<Vec<u8>, Fail> 
 
 // Whether the bytes are read as that snapshot and these payloads, which stand behind what the list
 // of the snapshot had.
-fn reads_as(
-    alloc: Global,
-    bytes: &[u8],
-    form: &Form,
-    payloads: &[&[u8]],
-) -> Result<bool, Fail> {
+fn reads_as(alloc: Global, bytes: &[u8], form: &Form, payloads: &[&[u8]]) -> Result<bool, Fail> {
     let mut disk = disk_of(alloc, bytes)?;
     let mut snapshot = vec![in alloc; 9u8; 1]?;
     let mut found = Vec::new(alloc);
     let has_snapshot = read_either(alloc, &mut disk, &mut snapshot, &mut found)?;
     let told = has_snapshot == form.has_snapshot && snapshot[0] == 9;
-    Ok(told && snapshot[1..] == *form.snapshot && has(&found, payloads))
+    Ok(told && &snapshot[1..] == form.snapshot && has(&found, payloads))
 }
 
 #[test]
@@ -109,19 +101,24 @@ fn refused_at(alloc: Global, bytes: &[u8]) -> Result<Option<u64>, Fail> {
     }
 }
 
-// Where a text of so many bytes is refused, whose records stand behind so many: within the headers
-// at its end, within the snapshot at 16, and then at the last gate.
+// Where a front of a text is refused, which has so many bytes, or those before the records: within
+// the header at its end, within the snapshot at 16, and then at the last gate.
 fn end_of(length: usize, front: usize) -> usize {
     if length < 16 {
         return length;
     }
-    let mut place = 16;
-    for gate in &GATES {
-        if front + *gate <= length {
-            place = front + *gate;
-        }
+    if length < front {
+        return 16;
     }
-    place
+    // Behind the front the gates stand at 0, 10 and 21.
+    let behind = length - front;
+    if behind < 10 {
+        return front;
+    }
+    if behind < 21 {
+        return front + 10;
+    }
+    front + 21
 }
 
 // Whether each front of a text is refused at its place, and the text isn't.
@@ -176,11 +173,13 @@ fn refuses_wrong_bytes(rt: HostRuntime) -> Result<(), Fail> {
     Ok(())
 }
 
+const STATE: &[u8] = b"state";
+
 // A disk with the journal of a snapshot and the first payload.
 fn begun(alloc: Global) -> Result<MemDisk, Fail>
     ensures { IfOk result (λ disk. IsQuiet (history_of disk)) }
 {
-    let Ok(mut journal) = Journal::begin(alloc, MemDisk::new(alloc), b"state") else {
+    let Ok(mut journal) = Journal::begin(alloc, MemDisk::new(alloc), STATE) else {
         return Err("begin")?;
     };
     journal.append(PAYLOADS[0])?;
@@ -197,11 +196,15 @@ fn goes_on(alloc: Global, disk: MemDisk) -> Result<[bool; 2], Fail>
     else {
         return Err("load")?;
     };
-    let loaded = snapshot == *b"state" && has(&found, &PAYLOADS[..1]);
+    let loaded = snapshot.as_slice() == STATE && has(&found, &PAYLOADS[..1]);
     journal.append(PAYLOADS[1])?;
+    snapshot.clear();
     found.clear();
     let told = journal.reread_either(alloc, &mut snapshot, &mut found)?;
-    Ok([loaded, told && snapshot == *b"statestate" && has(&found, &PAYLOADS)])
+    Ok([
+        loaded,
+        told && snapshot.as_slice() == STATE && has(&found, &PAYLOADS),
+    ])
 }
 
 #[test]
@@ -292,15 +295,16 @@ fn loads(alloc: Global, left: u64) -> Result<[bool; 2], Fail> {
         faults: 0,
     };
     let mut journal = match Journal::load_either(alloc, disk, &mut snapshot, &mut found) {
-        Ok((journal, true)) if snapshot == *b"x" && has(&found, &PAYLOADS[..1]) => journal,
+        Ok((journal, true))
+            if snapshot.as_slice() == b"x".as_slice() && has(&found, &PAYLOADS[..1]) => journal,
         Err((JournalFault::Disk, _)) if snapshot.is_empty() && found.is_empty() => {
             return Ok([false, false]);
         }
         _ => return Err("load")?,
     };
     match journal.reread_either(alloc, &mut snapshot, &mut found) {
-        Ok(true) if snapshot == *b"xx" && found.len() == 2 => Ok([true, true]),
-        Err(JournalFault::Disk) if snapshot == *b"x" && found.len() == 1 => Ok([true, false]),
+        Ok(true) if snapshot.len() == 2 && found.len() == 2 => Ok([true, true]),
+        Err(JournalFault::Disk) if snapshot.len() == 1 && found.len() == 1 => Ok([true, false]),
         _ => Err("reread")?,
     }
 }
