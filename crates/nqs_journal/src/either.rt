@@ -19,6 +19,8 @@ use std::alloc::Global;
 pub(crate) struct Found {
     pub has_snapshot: bool,
     pub gate: u64,
+    /// How many payloads stand before it.
+    pub count: u64,
 }
 
 // Adds the snapshot and the payloads that the bytes stand for.
@@ -32,6 +34,8 @@ pub(crate) fn add_text(
         × (snapshot.new.items ≡ snapshot.old.items ++ front) × (found.new.items ≡ found.old.items ++ payloads)
         × (told.gate ≡ length (front_of told.has_snapshot front ++ records payloads))) }
     ensures within { IfOk result (λ told. told.gate < length bytes.now) }
+    ensures counted { IfOk result (λ told. length found.new.items ≡ length found.old.items + told.count) }
+    ensures few { IfOk result (λ told. told.count ≤ told.gate) }
     ensures unchanged { OnErr result ((snapshot.new.items ≡ snapshot.old.items) × (found.new.items ≡ found.old.items)) }
     ensures fault { IfErr result (IsEitherReadFault bytes.now) }
 {
@@ -40,12 +44,14 @@ pub(crate) fn add_text(
         Err(place) => return Err(JournalFault::NotJournal(place as u64)),
     };
     let mut reading = read_records(alloc, bytes, front.length)?;
+    let count = reading.payloads.len() as u64;
     snapshot.reserve(front.snapshot.len())?;
     found.append(&mut reading.payloads)?;
     snapshot.extend_from_slice(front.snapshot).unwrap();
     Ok(Found {
         has_snapshot: front.has_snapshot,
         gate: reading.gate,
+        count,
     })
 }
 
@@ -64,6 +70,8 @@ pub(crate) fn add_journal<D: Disk>(
     ensures small { IfOk result (λ told. (front : List ℕ) × (payloads : List (List ℕ)) × IsSnapshot told.has_snapshot front
         × (snapshot.new.items ≡ snapshot.old.items ++ front) × (found.new.items ≡ found.old.items ++ payloads)
         × (told.gate ≡ length (front_of told.has_snapshot front ++ records payloads)) × (told.gate ≤ 2 ^ 40)) }
+    ensures counted { IfOk result (λ told. length found.new.items ≡ length found.old.items + told.count) }
+    ensures few { IfOk result (λ told. told.count ≤ told.gate) }
     ensures unchanged { OnErr result ((snapshot.new.items ≡ snapshot.old.items) × (found.new.items ≡ found.old.items)) }
     ensures same { IsTrue D.tells → D.history disk.new ≡ D.history disk.old }
     ensures later { D.faults disk.old ≤ D.faults disk.new }

@@ -7,7 +7,7 @@ ghost use Rattle.nqs_journal.specs.Text.{header, records, snapshot_front, Stands
 ghost use Rattle.nqs_journal.specs.Either.{front_of, IsSnapshot, StandsBy};
 ghost use Rattle.nqs_journal.specs.Plan.{append_calls, format_calls, front_calls};
 ghost use Rattle.nqs_journal.specs.Faults.{IsAppendFault, IsEitherLoadFault, IsLoadFault, IsReadingFault, MatchBegin};
-ghost use Rattle.nqs_journal.specs.Opened.{IsOpen};
+ghost use Rattle.nqs_journal.specs.Opened.{IsCounted, IsOpen};
 ghost use Rattle.nqs_journal.specs.Gate.{IsAtGate};
 
 use crate::JournalFault;
@@ -29,15 +29,19 @@ pub struct Journal<D: Disk> {
     disk: D,
     /// The place of the next record's gate.
     gate: u64,
+    /// How many payloads stand before it.
+    count: u64,
     buffer: Vec<u8>,
     stopped: bool,
     ghost small: { gate ≤ 2 ^ 40 },
     ghost within: { IsTrue D.tells → stopped ≡ false → gate < length (content (D.history disk)) },
     ghost room: { 65541 ≤ vec_capacity buffer },
+    ghost few: { count ≤ gate },
+    ghost counted: { IsTrue D.tells → stopped ≡ false → ∥ IsCounted (D.history disk) gate count ∥₁ },
 }
 
 impl<D: Disk> Journal<D> {
-    ghost use Rattle.nqs_journal.specs.Open.{disk_of, gate_of, is_stopped, history_of, Tells, BeforeOrAfter};
+    ghost use Rattle.nqs_journal.specs.Open.{disk_of, gate_of, count_of, is_stopped, history_of, Tells, BeforeOrAfter};
 
     /// Adds a payload. It is on the disk before the answer. After `Disk` the journal is stopped.
     pub fn append(&mut self, payload: &[u8]) -> Result<(), JournalFault>
@@ -47,6 +51,7 @@ impl<D: Disk> Journal<D> {
         ensures disk { IsErrOf result JournalFault.Disk → Rose (D.faults (disk_of self.old)) (D.faults (disk_of self.new)) }
         ensures stops { IsTrue (is_stopped self.new) ↔ (IsTrue (is_stopped self.old) ⊎ IsErrOf result JournalFault.Disk) }
         ensures running { OnOk result (is_stopped self.new ≡ false) }
+        ensures counted { MatchResult result (λ _. count_of self.new ≡ count_of self.old + 1) (λ _. count_of self.new ≡ count_of self.old) }
         ensures later { D.faults (disk_of self.old) ≤ D.faults (disk_of self.new) }
 
         // The calls that it makes: all four, or the first of them, of which only the last may have
@@ -97,6 +102,7 @@ impl<D: Disk> Journal<D> {
         match write_behind(&mut self.disk, self.gate, &self.buffer) {
             Ok(()) => {
                 self.gate += 5 + payload.len() as u64;
+                self.count += 1;
                 Ok(())
             }
             Err(Failed) => {
@@ -127,7 +133,7 @@ pub fn format<D: Disk>(disk: &mut D) -> Result<(), JournalFault>
 }
 
 impl<D: Disk> Journal<D> {
-    ghost use Rattle.nqs_journal.specs.Open.{disk_of, gate_of, is_stopped, history_of, Tells};
+    ghost use Rattle.nqs_journal.specs.Open.{disk_of, gate_of, count_of, is_stopped, history_of, Tells};
 
     /// Opens a journal and adds its payloads to those found. On a refusal these are as before.
     pub fn load(
@@ -142,6 +148,7 @@ impl<D: Disk> Journal<D> {
             × (length (header ++ records payloads) ≤ 2 ^ 40)) }
         ensures same { IsTrue D.tells → IfOk result (λ journal. history_of journal ≡ D.history disk) }
         ensures running { IfOk result (λ journal. is_stopped journal ≡ false) }
+        ensures counted { IfOk result (λ journal. length found.new.items ≡ length found.old.items + count_of journal) }
         ensures unchanged { OnErr result (found.new.items ≡ found.old.items) }
         ensures same_err { IsTrue D.tells → IfErr result (λ e. D.history e.1 ≡ D.history disk) }
         ensures fault { IsTrue D.tells → IfErr result (λ e. IsLoadFault (content (D.history disk)) e.0) }
@@ -166,12 +173,14 @@ impl<D: Disk> Journal<D> {
             Ok(reading) => reading,
             Err(fault) => return Err((fault, disk)),
         };
+        let count = reading.payloads.len() as u64;
         if let Err(refused) = found.append(&mut reading.payloads) {
             return Err((refused.into(), disk));
         }
         Ok(Journal {
             disk,
             gate: reading.gate,
+            count,
             buffer,
             stopped: false,
         })
@@ -195,6 +204,7 @@ impl<D: Disk> Journal<D> {
             × (length (front_of told.1 front ++ records payloads) ≤ 2 ^ 40)) }
         ensures same { IsTrue D.tells → IfOk result (λ told. history_of told.0 ≡ D.history disk) }
         ensures running { IfOk result (λ told. is_stopped told.0 ≡ false) }
+        ensures counted { IfOk result (λ told. length found.new.items ≡ length found.old.items + count_of told.0) }
         ensures unchanged { OnErr result ((snapshot.new.items ≡ snapshot.old.items) × (found.new.items ≡ found.old.items)) }
         ensures same_err { IsTrue D.tells → IfErr result (λ e. D.history e.1 ≡ D.history disk) }
         ensures fault { IsTrue D.tells → IfErr result (λ e. IsEitherLoadFault (content (D.history disk)) e.0) }
@@ -222,6 +232,7 @@ impl<D: Disk> Journal<D> {
         let journal = Journal {
             disk,
             gate: told.gate,
+            count: told.count,
             buffer,
             stopped: false,
         };
@@ -236,6 +247,7 @@ impl<D: Disk> Journal<D> {
         ensures broken { IsTrue D.tells → IfErr result (λ e. MatchBegin e.0 (D.history disk) (D.history e.1) (front_calls (snapshot_front snapshot.now))) }
         ensures failed { IfErr result (λ e. e.0 ≡ JournalFault.Disk → Rose (D.faults disk) (D.faults e.1)) }
         ensures running { IfOk result (λ journal. is_stopped journal ≡ false) }
+        ensures counted { IfOk result (λ journal. count_of journal ≡ 0) }
     {
         let mut disk = disk;
         let buffer = match Vec::with_capacity(alloc, ROOM) {
@@ -250,11 +262,22 @@ impl<D: Disk> Journal<D> {
             Ok(()) => Ok(Journal {
                 disk,
                 gate: text.len() as u64 - 1,
+                count: 0,
                 buffer,
                 stopped: false,
             }),
             Err(Failed) => Err((JournalFault::Disk, disk)),
         }
+    }
+
+    /// How many payloads it has. Of a stopped journal it counts those before the append that
+    /// failed.
+    pub fn count(&self) -> u64
+        ensures counted { result ≡ count_of self.now }
+        ensures told { IsTrue D.tells → is_stopped self.now ≡ false → (has : Bool) (snapshot : List ℕ) (payloads : List (List ℕ))
+            → IsSnapshot has snapshot → Tells self.now (front_of has snapshot) payloads → result ≡ length payloads }
+    {
+        self.count
     }
 
     /// Hands the disk back.
@@ -264,6 +287,7 @@ impl<D: Disk> Journal<D> {
         let Journal {
             disk,
             gate: _,
+            count: _,
             buffer: _,
             stopped: _,
         } = self;
@@ -294,6 +318,7 @@ impl<D: Disk> Journal<D> {
         ensures fuse { IsTrue D.tells → (i : ℕ) → D.fails (disk_of self.new) i ≡ D.fails (disk_of self.old) i }
         ensures starved { IsTrue D.tells → D.starved (disk_of self.new) ≡ D.starved (disk_of self.old) }
         ensures stays { (gate_of self.new ≡ gate_of self.old) × (is_stopped self.new ≡ is_stopped self.old) }
+        ensures counted { count_of self.new ≡ count_of self.old }
     {
         read_payloads(alloc, &mut self.disk, found)
     }
@@ -329,13 +354,14 @@ impl<D: Disk> Journal<D> {
         ensures fuse { IsTrue D.tells → (i : ℕ) → D.fails (disk_of self.new) i ≡ D.fails (disk_of self.old) i }
         ensures starved { IsTrue D.tells → D.starved (disk_of self.new) ≡ D.starved (disk_of self.old) }
         ensures stays { (gate_of self.new ≡ gate_of self.old) × (is_stopped self.new ≡ is_stopped self.old) }
+        ensures counted { count_of self.new ≡ count_of self.old }
     {
         read_either(alloc, &mut self.disk, snapshot, found)
     }
 }
 
 impl<D: Fused> Journal<D> {
-    ghost use Rattle.nqs_journal.specs.Open.{disk_of, gate_of, is_stopped, history_of};
+    ghost use Rattle.nqs_journal.specs.Open.{disk_of, gate_of, count_of, is_stopped, history_of};
 
     /// Makes the calls-th write or sync from here of the disk fail, and each later call. Where one
     /// that was to fail was made already, nothing changes.
@@ -349,6 +375,7 @@ impl<D: Fused> Journal<D> {
             → (j : ℕ) → i ≤ j → IsTrue (D.fails (disk_of self.new) j) }
         ensures starved { D.starved (disk_of self.new) ≡ D.starved (disk_of self.old) }
         ensures gate { gate_of self.new ≡ gate_of self.old }
+        ensures counted { count_of self.new ≡ count_of self.old }
         ensures stopped { is_stopped self.new ≡ is_stopped self.old }
         ensures faults { D.faults (disk_of self.new) ≡ D.faults (disk_of self.old) }
     {

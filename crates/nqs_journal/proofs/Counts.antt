@@ -1,0 +1,59 @@
+-- How many payloads a journal has.
+use Rattle.std.proofs.Common.{◌≡◌, ℕ, ◌+◌, ◌<◌, ◌≤◌, Bool, List, [], ◌∷◌, ◌++◌, length, ap, sym, ◌∙◌, subst, arith, length-append}
+use Rattle.std.proofs.Math.Logic.{∥∥₁_elim, ∥∥₁_map}
+use Rattle.std.specs.Coded.{Coded-set, coded_ℕ}
+use Rattle.nqs_outside.specs.History.{History, extended, content, IsQuiet}
+use Rattle.nqs_journal.specs.Text.{frame, records, StandsAfter}
+use Rattle.nqs_journal.specs.Either.{front_of, IsSnapshot, StandsBy}
+use Rattle.nqs_journal.specs.Opened.{IsOpen, IsCounted}
+use Rattle.nqs_journal.specs.Plan.{append_calls}
+use Rattle.nqs_journal.proofs.Appends.{acknowledged}
+use Rattle.nqs_journal.proofs.Eithers.{one_reading}
+
+few_records : (payloads : List (List ℕ)) → length payloads ≤ length (records payloads)
+few_records [] = omega arith
+few_records (payload ∷ payloads) = omega (arith, few_records payloads, length-append (frame payload) (records payloads))
+
+-- each record takes more than one byte
+pub few : (front : List ℕ) (payloads : List (List ℕ)) → length payloads ≤ length (front ++ records payloads)
+few front payloads = omega (arith, few_records payloads, length-append front (records payloads))
+
+pub counted_same : (h k : History) (gate count : ℕ) → k ≡ h → ∥ IsCounted h gate count ∥₁ → ∥ IsCounted k gate count ∥₁
+counted_same h k gate count same counted = subst (λ l. ∥ IsCounted l gate count ∥₁) (sym same) counted
+
+-- the closed gate lies within
+pub within : (front bytes : List ℕ) (payloads : List (List ℕ)) → StandsAfter front bytes payloads → length (front ++ records payloads) < length bytes
+within front bytes payloads stands =
+    omega (arith, ap length stands.text, length-append (front ++ records payloads) (stands.gate ∷ stands.rest))
+
+-- a quiet disk that was read, and did nothing since
+pub counted_by : (h k : History) (gate count : ℕ) (has : Bool) (snapshot : List ℕ) (payloads : List (List ℕ)) → k ≡ h → IsQuiet h
+    → StandsBy (content h) has snapshot payloads → gate ≡ length (front_of has snapshot ++ records payloads) → count ≡ length payloads
+    → ∥ IsCounted k gate count ∥₁
+counted_by h k gate count has snapshot payloads same quiet stands gate_is count_is = counted_same h k gate count same
+    ∣ record {
+      has = has;
+      snapshot = snapshot;
+      payloads = payloads;
+      is = stands.0;
+      opened = record { stands = stands.1; gate_place = gate_is; quiet = quiet };
+      count_is = count_is;
+    } ∣₁
+
+pub counted_more : (h k : History) (gate count : ℕ) (payload : List ℕ) → length payload ≤ 65536 → k ≡ extended h (append_calls gate payload)
+    → ∥ IsCounted h gate count ∥₁ → ∥ IsCounted k (gate + (5 + length payload)) (count + 1) ∥₁
+counted_more h k gate count payload short made counted = ∥∥₁_map counted (λ c. record {
+  has = c.has;
+  snapshot = c.snapshot;
+  payloads = c.payloads ++ payload ∷ [];
+  is = c.is;
+  opened = acknowledged h (front_of c.has c.snapshot) gate c.payloads payload c.opened short k made;
+  count_is = omega (arith, c.count_is, length-append c.payloads (payload ∷ []));
+})
+
+-- the count is that of the payloads that are told by one of the forms
+pub counted_is : (h : History) (gate count : ℕ) (has : Bool) (snapshot : List ℕ) (payloads : List (List ℕ)) → ∥ IsCounted h gate count ∥₁
+    → IsSnapshot has snapshot → IsOpen h (front_of has snapshot) gate payloads → count ≡ length payloads
+counted_is h gate count has snapshot payloads counted is opened = ∥∥₁_elim counted (Coded-set coded_ℕ _ _) (λ c.
+    let same = one_reading (content h) c.has has c.snapshot snapshot c.payloads payloads (c.is, c.opened.stands) (is, opened.stands) in
+    c.count_is ∙ ap length same.2)
