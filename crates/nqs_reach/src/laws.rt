@@ -1,0 +1,72 @@
+//! Laws of what a peer can reach by what it sends. They ask nothing of a message; but for those of
+//! running requests they ask nothing of the state either.
+ghost use Rattle.std.specs.Prelude.{◌≡◌, ◌||◌, ℕ, List, false, IsTrue};
+ghost use Rattle.std.specs.List.{list_any, list_all};
+ghost use Rattle.nqs_state.specs.State.{Plain};
+ghost use Rattle.nqs_types.specs.declared.event.Command.{Command};
+ghost use Rattle.nqs_types.specs.declared.ids.HostId.{HostId};
+ghost use Rattle.nqs_types.specs.declared.ids.RequestId.{RequestId};
+ghost use Rattle.nqs_rules.specs.Access.{may_command, rank};
+ghost use Rattle.nqs_rules.specs.Applied.{next_id};
+ghost use Rattle.nqs_rules.specs.Find.{find_complex, find_device, find_queue, find_row, has_row};
+ghost use Rattle.nqs_rules.specs.InOrder.{IsInOrder};
+ghost use Rattle.nqs_reach.specs.Arrivals.{Arrival, after_message, after_messages, is_from};
+ghost use Rattle.nqs_reach.specs.Reach.{is_given_to, is_in_reach, is_promised_to, running_rows, KeepsSettings, IsWithinReach, IsWithinReachInTheEnd};
+
+/// Whatever message comes, at whatever moment, with whatever content: the state after it is within
+/// reach of its sender from the state before.
+pub fn messages_stay_within_reach()
+    ensures { (a : Arrival) (s : Plain) → IsWithinReach a.1.from s (after_message a s) }
+{}
+
+/// A request out of the sender's reach stays as it is at each message, and one that the host has
+/// stays out of its reach.
+pub fn requests_out_of_reach_stay()
+    ensures row { (a : Arrival) (s : Plain) (id : RequestId) → is_in_reach a.1.from s id ≡ false → find_row id (after_message a s) ≡ find_row id s }
+    ensures out { (a : Arrival) (s : Plain) (id : RequestId) → IsTrue (has_row id s) → is_in_reach a.1.from s id ≡ false
+        → is_in_reach a.1.from (after_message a s) id ≡ false }
+{}
+
+/// A request goes only to the sender, which has promised it, and the host keeps a handover that
+/// says so; one comes only where the host has promised it to the sender.
+pub fn requests_move_by_promises()
+    ensures gone { (a : Arrival) (s : Plain) (id : RequestId) → IsTrue (has_row id s)
+        → IsTrue (has_row id (after_message a s) || list_any (is_given_to a.1.from id) (after_message a s).hands) }
+    ensures come { (a : Arrival) (s : Plain) (id : RequestId) → has_row id s ≡ false → IsTrue (has_row id (after_message a s))
+        → IsTrue (list_any (is_promised_to a.1.from id) s.promises) }
+{}
+
+/// However many messages a peer sends, one after the other: the state after them is within its
+/// reach from the state before, but for rows of requests that the host didn't have. The row of each
+/// request that it had, out of the peer's reach, is as it was.
+pub fn messages_of_a_peer_stay_within_reach()
+    ensures within { (peer : HostId) (arrivals : List Arrival) (s : Plain) → IsTrue (list_all (is_from peer) arrivals)
+        → IsWithinReachInTheEnd peer s (after_messages arrivals s) }
+    ensures row { (peer : HostId) (arrivals : List Arrival) (s : Plain) (id : RequestId) → IsTrue (list_all (is_from peer) arrivals) → IsTrue (has_row id s)
+        → is_in_reach peer s id ≡ false → find_row id (after_messages arrivals s) ≡ find_row id s }
+{}
+
+/// Whatever messages come, of whatever senders: the requests that run at a host in order are the
+/// same, so none is started, ended or changed, and none runs at once that came in.
+pub fn running_jobs_stay()
+    ensures { (arrivals : List Arrival) (s : Plain) → IsInOrder s → running_rows (after_messages arrivals s) ≡ running_rows s }
+{}
+
+/// Whatever messages come, of whatever senders: the host's settings stay.
+pub fn settings_stay()
+    ensures { (arrivals : List Arrival) (s : Plain) → KeepsSettings s (after_messages arrivals s) }
+{}
+
+/// Queues, complexes and devices are then the same, by name.
+pub fn queues_stay()
+    ensures queues { (arrivals : List Arrival) (s : Plain) (name : List ℕ) → find_queue name (after_messages arrivals s) ≡ find_queue name s }
+    ensures complexes { (arrivals : List Arrival) (s : Plain) (name : List ℕ) → find_complex name (after_messages arrivals s) ≡ find_complex name s }
+    ensures devices { (arrivals : List Arrival) (s : Plain) (name : List ℕ) → find_device name (after_messages arrivals s) ≡ find_device name s }
+{}
+
+/// Each user may give the same commands as before, and the next request gets the same number.
+pub fn rights_stay()
+    ensures commands { (arrivals : List Arrival) (s : Plain) (user : List ℕ) (c : Command)
+        → may_command (rank user (after_messages arrivals s)) c ≡ may_command (rank user s) c }
+    ensures next { (arrivals : List Arrival) (s : Plain) → next_id (after_messages arrivals s) ≡ next_id s }
+{}
