@@ -1,3 +1,4 @@
 pub mod Lists
 pub mod Messages
+pub mod Spoken
 pub mod Runs

@@ -1,10 +1,11 @@
 -- What a test keeps of a list, where the list changes at what the test doesn't keep.
-use Rattle.std.proofs.Common.{◌≡◌, ℕ, Bool, true, false, cond, ◌||◌, List, [], ◌∷◌, ◌++◌, filter, find, Some, true≢false, zero, suc, refl, sym, ap, ◌∙◌}
+use Rattle.std.proofs.Common.{◌≡◌, ℕ, ◌+◌, Bool, true, false, cond, ◌||◌, List, [], ◌∷◌, ◌++◌, filter, find, Option, None, Some, true≢false, zero, suc, refl, sym, ap, ◌∙◌}
 use Rattle.std.proofs.Common.{if◌then◌else◌}
 use Rattle.std.proofs.lemmas.Bool.{or_parts, or_from, false_from_ne_true}
 use Rattle.std.proofs.lemmas.Option.{same_Some, none-some}
 use Rattle.std.specs.List.{list_any}
-use Rattle.nqs_keyed.specs.Table.{change_first, without_first}
+use Rattle.std.specs.Option.{IfSome}
+use Rattle.nqs_keyed.specs.Table.{change_first, without_first, better, best_from}
 use Rattle.nqs_rules.specs.Edits.{change_at}
 
 module _ {V : Type 0} where
@@ -96,6 +97,36 @@ module _ {V : Type 0} where
       by b found rest true k = refl
       by true found rest false k = absurd (true≢false (sym h ∙ ap other (sym (same_Some x v found)) ∙ k))
       by false found rest false k = rest found h
+
+  -- what is found stays found as more comes behind
+  pub found_before : (test : V → Bool) (vs more : List V) (v : V) → find test vs ≡ Some v → find test (vs ++ more) ≡ Some v
+  found_before test [] more v found = absurd (none-some v found)
+  found_before test (x ∷ vs) more v found = by (test x) found (found_before test vs more v)
+    where
+      by : (b : Bool) → cond b (Some x) (find test vs) ≡ Some v → (find test vs ≡ Some v → find test (vs ++ more) ≡ Some v)
+          → cond b (Some x) (find test (vs ++ more)) ≡ Some v
+      by true found rest = found
+      by false found rest = rest found
+
+  -- the best of those that pass a test passes it
+  pub best_passes : (test : V → Bool) (beats : V → V → Bool) (n : ℕ) (vs : List V) → IfSome (best_from test beats n vs) (λ p. test p.1 ≡ true)
+  best_passes test beats n [] = tt
+  best_passes test beats n (x ∷ vs) = by (test x) refl (best_from test beats (n + 1) vs) (best_passes test beats (n + 1) vs)
+    where
+      Right : Option (ℕ × V) → Type 0
+      Right o = IfSome o (λ p. test p.1 ≡ true)
+
+      one : (p : ℕ × V) → test p.1 ≡ true → test x ≡ true → (b : Bool) → Right (if b then Some p else Some (n, x))
+      one p k e true = k
+      one p k e false = e
+
+      of : (o : Option (ℕ × V)) → Right o → test x ≡ true → Right (better beats (n, x) o)
+      of None k e = e
+      of (Some p) k e = one p k e (beats p.1 x)
+
+      by : (b : Bool) → test x ≡ b → (o : Option (ℕ × V)) → Right o → Right (if b then better beats (n, x) o else o)
+      by true e o k = of o k e
+      by false e o k = k
 
   pub any_changed : (test other : V → Bool) (f : V → V) (vs : List V) (v : V) → find test vs ≡ Some v → other (f v) ≡ true
       → list_any other (change_first test f vs) ≡ true

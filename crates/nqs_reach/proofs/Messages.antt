@@ -1,17 +1,17 @@
 -- What one message makes of a state: it stays within reach of its sender.
-use Rattle.std.proofs.Common.{◌≡◌, ℕ, ◌+◌, ◌-◌, ◌≤◌, Bool, true, false, not, ◌&&◌, ◌||◌, ◌==◌, nat_lt, List, [], ◌∷◌, ◌++◌, filter, find, Option, None, Some}
-use Rattle.std.proofs.Common.{Result, Ok, Err, true≢false, refl, sym, ap, subst, ◌∙◌, arith, if◌then◌else◌}
+use Rattle.std.proofs.Common.{◌≡◌, ℕ, ◌+◌, ◌-◌, ◌≤◌, Bool, true, false, not, ◌||◌, ◌==◌, nat_lt, List, [], ◌∷◌, ◌++◌, map, filter, find, Option, None, Some}
+use Rattle.std.proofs.Common.{option_map, Result, Ok, Err, true≢false, refl, sym, ap, subst, ◌∙◌, arith, if◌then◌else◌}
 use Rattle.std.proofs.lemmas.Bool.{and_parts, and_from, or_parts, or_from, or_left, or_right, not_from_true, false_from_ne_true}
 use Rattle.std.proofs.lemmas.List.{append-nil}
 use Rattle.std.proofs.lemmas.List.Folds.{list_any-append}
+use Rattle.std.proofs.lemmas.Option.{same_Some, none-some}
 use Rattle.std.specs.List.{list_any}
 use Rattle.nqs_state.specs.State.{State, Plain}
 use Rattle.nqs_state.specs.Keys.{is_hand, is_promise, is_row, is_stage}
 use Rattle.nqs_keyed.specs.Table.{change_first, without_first}
-use Rattle.nqs_types.specs.Ids.{id_eq, id_exact, peer_number_exact, hand_key, promise_key, stage_key}
+use Rattle.nqs_types.specs.Ids.{id_eq, id_exact}
 use Rattle.nqs_types.specs.declared.ids.HostId.{HostId}
 use Rattle.nqs_types.specs.declared.ids.RequestId.{RequestId}
-use Rattle.nqs_types.specs.declared.ids.Dest.{Dest}
 use Rattle.nqs_types.specs.declared.request.Carried.{Carried}
 use Rattle.nqs_types.specs.declared.request.Row.{Row}
 use Rattle.nqs_types.specs.declared.request.Hand.{Hand}
@@ -28,30 +28,31 @@ use Rattle.nqs_types.specs.declared.change.Change.TheVariants.{Accepted, Dropped
 use Rattle.nqs_types.specs.declared.message.Body.{Body}
 use Rattle.nqs_types.specs.declared.message.Body.TheVariants as body
 use Rattle.nqs_types.specs.declared.event.Output.TheVariants as out
-use Rattle.nqs_rules.specs.Tests.{passes, is_running, is_offered, same_host, last_u64}
+use Rattle.nqs_rules.specs.Tests.{passes, is_running, is_offered, last_u64}
 use Rattle.nqs_rules.specs.Causes.{Cause, cause, first_refusal}
-use Rattle.nqs_rules.specs.Find.{has_row, has_promise, has_stage, find_hand, find_promise, find_peer, peer_number, has_queue, find_queue}
+use Rattle.nqs_rules.specs.Find.{has_row, find_row, has_promise, has_stage, find_hand, find_promise, find_peer, peer_number, has_queue, find_queue}
 use Rattle.nqs_rules.specs.Edits.{change_at, change_peer}
-use Rattle.nqs_rules.specs.Fits.{runs, is_committed_hand, offer_full}
+use Rattle.nqs_rules.specs.Fits.{runs, offer_full}
 use Rattle.nqs_rules.specs.Routing.{is_hand_to, close, dests_for, refusal_noted}
 use Rattle.nqs_rules.specs.Rows.{causes_of, arrivals_used}
-use Rattle.nqs_rules.specs.Applied.{is_offered_for, is_promise_of, committed, requeued_row, new_row, drop_hand, drop_promise, add_promised, hand_committed}
+use Rattle.nqs_rules.specs.Applied.{is_offered_for, is_promise_of, committed, requeued_row, new_row, drop_hand, drop_promise, hand_committed}
 use Rattle.nqs_rules.specs.Applied.{hand_refused, promised, accepted, dropped, stage_got}
+use Rattle.nqs_rules.specs.InOrder.{are_distinct}
 use Rattle.nqs_rules.specs.Handover.{closes, was_given, is_not_given_here, named_of, offer_entry_causes, offer_causes, offer_by, on_offer, on_ready, on_refused}
-use Rattle.nqs_rules.specs.Handover.{on_commit, on_done, on_abort, ready_phase, ready_without, ready_with, refused_phase, refused_with, commit_without, done_phase}
+use Rattle.nqs_rules.specs.Handover.{on_commit, on_done, on_abort, ready_phase, ready_with, refused_phase, refused_with, commit_without, done_phase}
 use Rattle.nqs_rules.specs.Handover.{done_with, send_done, send_ready, send_abort}
 use Rattle.nqs_rules.specs.Stage.{is_stage_to, is_got, has_left, send_staged, on_stage, due_of, on_staged}
 use Rattle.nqs_rules.specs.Starts.{after_step}
 use Rattle.nqs_rules.specs.Step.{on_message}
 use Rattle.nqs_rules.specs.Stepped.{Stepped, quiet, says, makes, ready}
-use Rattle.nqs_rules.proofs.KeyFacts.{any_found, any-before, any-without_other, any-changed}
-use Rattle.nqs_rules.proofs.ListFacts.{found_passes, not_true}
+use Rattle.nqs_rules.proofs.KeyFacts.{any-before, any-without_other, any-changed, none_found, gone_without, find-changed, find-without_other, find-changed_other}
+use Rattle.nqs_rules.proofs.ListFacts.{found_passes}
 use Rattle.nqs_rules.proofs.RowChanges.{noted_kept}
 use Rattle.nqs_rules.proofs.RowFacts.{same_it, same_id}
 use Rattle.nqs_rules.proofs.Sublists.{part_none, without_part, filter_part}
-use Rattle.nqs_reach.specs.Reach.{is_offered_to, is_given_to, is_promised_to, is_in_reach, hands_beside, promises_beside, stages_beside, peers_beside}
-use Rattle.nqs_reach.specs.Reach.{rows_beside, running_rows, KeepsSettings, IsWithin, IsWithinReach}
-use Rattle.nqs_reach.proofs.Lists.{kept_none, kept_without, kept_changed, kept_filter, kept_added, any_of_found, any_changed, none_changed, put_twice}
+use Rattle.nqs_reach.specs.Reach.{is_offered_to, is_given_to, is_promised_to, is_in_reach, hands_beside, promises_beside, stages_beside}
+use Rattle.nqs_reach.specs.Reach.{rows_beside, running_rows, lasting, KeepsSettings, IsWithinReach}
+use Rattle.nqs_reach.proofs.Lists.{kept_none, kept_without, kept_changed, kept_filter, kept_added, any_of_found, found_before, any_changed, none_changed, put_twice}
 
 -- the parts of a state that a message may change
 record Parts (E : Type 0) : Type 0 where
@@ -121,6 +122,12 @@ module _ {E : Type 0} where
     pub came : (id : RequestId) → list_any (is_promised_to peer id) s.promises ≡ false → has_row id s ≡ false → has_row id t ≡ false
     pub offers : (id : RequestId) → list_any (is_offered_for id) s.hands ≡ false → list_any (is_offered_for id) t.hands ≡ false
     pub running : NoneOffered s → running_rows t ≡ running_rows s
+    pub lasts : are_distinct id_eq (map (λ r. r.id) s.rows) ≡ true → (id : RequestId) (r q : Row E) → find_row id s ≡ Some r → find_row id t ≡ Some q
+        → lasting q ≡ lasting r
+
+  -- a row that is found as before
+  same_row : (a b : Option (Row E)) → b ≡ a → (r q : Row E) → a ≡ Some r → b ≡ Some q → lasting q ≡ lasting r
+  same_row a b same r q found there = ap lasting (same_Some q r (sym there ∙ same ∙ found))
 
   -- a row's request may be touched, if its number may
   touched : (may_touch : RequestId → Bool) (id : RequestId) → may_touch id ≡ true → (r : Row E) → is_row id r ≡ true → not (may_touch r.id) ≡ false
@@ -216,6 +223,7 @@ module _ {E : Type 0} where
       came = λ id none new. ap (list_any (is_row id)) rows ∙ new;
       offers = λ id none. ap (list_any (is_offered_for id)) hands ∙ none;
       running = λ none. ap (filter runs) rows;
+      lasts = λ distinct id r q. same_row (find_row id s) (find_row id t) (ap (find (is_row id)) rows) r q;
     }
 
     pub nothing : Reached peer s s
@@ -250,10 +258,21 @@ module _ {E : Type 0} where
         came = λ id none new. part_none (is_row id) (without_part (is_row h.id) s.rows) new;
         offers = λ id none. none_changed (is_hand (peer_number peer n)) (is_offered_for id) committed (λ x. refl) s.hands none;
         running = λ none. kept_without runs (is_row h.id) s.rows (idle none);
+        lasts = λ distinct id r q found there. stays distinct id r q found there (id_eq id h.id) refl;
       }
         where
           hands : List Hand
           hands = change_first (is_hand (peer_number peer n)) committed s.hands
+
+          rows : List (Row E)
+          rows = without_first (is_row h.id) s.rows
+
+          stays : are_distinct id_eq (map (λ r. r.id) s.rows) ≡ true → (id : RequestId) (r q : Row E) → find_row id s ≡ Some r → find (is_row id) rows ≡ Some q
+              → (b : Bool) → id_eq id h.id ≡ b → lasting q ≡ lasting r
+          stays distinct id r q found there true e = absurd (none-some q (sym (none_found (is_row h.id) rows
+              (gone_without id_eq (λ r. r.id) id_exact same_id h.id s.rows distinct)) ∙ ap (λ i. find (is_row i) rows) (sym (id_exact id h.id e)) ∙ there))
+          stays distinct id r q found there false e = same_row (find_row id s) (find (is_row id) rows)
+              (find-without_other id_eq (λ r. r.id) id_exact same_id id h.id s.rows e) r q found there
 
           by : (id : RequestId) → has_row id s ≡ true → (b : Bool) → id_eq id h.id ≡ b
               → (list_any (is_row id) (without_first (is_row h.id) s.rows) || list_any (is_given_to peer id) hands) ≡ true
@@ -278,6 +297,7 @@ module _ {E : Type 0} where
         came = λ id none new. any-changed id_eq (λ r. r.id) id_exact same_id (is_row h.id) waits same_request id s.rows ∙ new;
         offers = λ id none. part_none (is_offered_for id) (without_part (is_hand (peer_number peer n)) s.hands) none;
         running = λ none. kept_changed runs (is_row h.id) waits (λ r e. queued r) s.rows (idle none);
+        lasts = λ distinct id r q found there. stays id r q found there (id_eq id h.id) refl;
       }
         where
           waits : Row E → Row E
@@ -285,6 +305,22 @@ module _ {E : Type 0} where
 
           same_request : (r : Row E) → (waits r).id ≡ r.id
           same_request r = noted_kept (λ y. y.id) (λ y l. refl) (λ y. refl) (dests_for r s) (record { queue = h.queue; host = h.peer }) refusal (requeued_row r)
+
+          same_job : (r : Row E) → lasting (waits r) ≡ lasting r
+          same_job r = noted_kept lasting (λ y l. refl) (λ y. refl) (dests_for r s) (record { queue = h.queue; host = h.peer }) refusal (requeued_row r)
+
+          rows : List (Row E)
+          rows = change_first (is_row h.id) waits s.rows
+
+          stays : (id : RequestId) (r q : Row E) → find_row id s ≡ Some r → find (is_row id) rows ≡ Some q → (b : Bool) → id_eq id h.id ≡ b
+              → lasting q ≡ lasting r
+          stays id r q found there true e =
+              let is : id ≡ h.id = id_exact id h.id e in
+              let changed : find (is_row h.id) rows ≡ Some (waits r) = find-changed (is_row h.id) waits (λ v. ap (id_eq h.id) (same_request v)) s.rows
+              ∙ ap (option_map waits) (ap (λ i. find (is_row i) s.rows) (sym is) ∙ found) in
+              ap lasting (same_Some q (waits r) (sym there ∙ ap (λ i. find (is_row i) rows) is ∙ changed)) ∙ same_job r
+          stays id r q found there false e = same_row (find_row id s) (find (is_row id) rows)
+              (find-changed_other id_eq (λ r. r.id) id_exact same_id waits same_request id h.id s.rows e) r q found there
 
           queued : (r : Row E) → runs (waits r) ≡ false
           queued r = noted_kept (λ y. is_running y.state) (λ y l. refl) (λ y. refl) (dests_for r s) (record { queue = h.queue; host = h.peer }) refusal
@@ -301,6 +337,7 @@ module _ {E : Type 0} where
       came = λ id none new. new;
       offers = λ id none. part_none (is_offered_for id) (without_part (is_hand (peer_number peer n)) s.hands) none;
       running = λ none. refl;
+      lasts = λ distinct id r q. same_row (find_row id s) (find_row id s) refl r q;
     }
 
     -- an offer is promised, of a request that the host doesn't have
@@ -323,6 +360,7 @@ module _ {E : Type 0} where
       came = λ id none new. new;
       offers = λ id none. none;
       running = λ none. refl;
+      lasts = λ distinct id r q. same_row (find_row id s) (find_row id s) refl r q;
     }
       where
         new : Promise E
@@ -349,6 +387,7 @@ module _ {E : Type 0} where
       came = λ id none new. new;
       offers = λ id none. none;
       running = λ none. refl;
+      lasts = λ distinct id r q. same_row (find_row id s) (find_row id s) refl r q;
     }
 
     -- a promise becomes a request, unless the host has it
@@ -381,6 +420,7 @@ module _ {E : Type 0} where
               true≢false (sym promised_it ∙ ap (λ i. list_any (is_promised_to peer i) s.promises) (sym (id_exact id p.row.id e)) ∙ none))) refl);
           offers = λ id none. none;
           running = λ none. kept_added runs s.rows (requeued_row p.row) refl;
+          lasts = λ distinct id r q found there. ap lasting (same_Some q r (sym there ∙ found_before (is_row id) s.rows (requeued_row p.row ∷ []) r found));
         }
 
     -- a stage becomes a file, where a number is left for one

@@ -1,22 +1,27 @@
 -- What of a host's state is within reach of a peer, whatever the peer sends, and what is beside it.
-use Rattle.std.specs.Prelude.{◌≡◌, ℕ, ◌≤◌, Bool, not, ◌&&◌, ◌||◌, List, ◌++◌, filter, Option}
+use Rattle.std.specs.Prelude.{◌≡◌, ◌≤◌, Bool, true, false, not, ◌&&◌, ◌||◌, List, [], ◌++◌, filter}
 use Rattle.std.specs.List.{list_any}
 use Rattle.nqs_state.specs.State.{State}
 use Rattle.nqs_types.specs.Ids.{id_eq}
 use Rattle.nqs_types.specs.declared.ids.HostId.{HostId}
 use Rattle.nqs_types.specs.declared.ids.RequestId.{RequestId}
 use Rattle.nqs_types.specs.declared.request.Row.{Row}
+use Rattle.nqs_types.specs.declared.request.RowState.TheVariants.{Queued}
+use Rattle.nqs_types.specs.declared.request.Hold.TheVariants.{No}
 use Rattle.nqs_types.specs.declared.request.Hand.{Hand}
 use Rattle.nqs_types.specs.declared.request.Promise.{Promise}
 use Rattle.nqs_types.specs.declared.request.Peer.{Peer}
 use Rattle.nqs_types.specs.declared.request.Stage.{Stage}
 use Rattle.nqs_types.specs.declared.request.FileOut.{FileOut}
+use Rattle.nqs_types.specs.declared.event.Output.{Output}
+use Rattle.nqs_types.specs.declared.event.Output.TheVariants as out
 use Rattle.nqs_rules.specs.Applied.{is_offered_for, is_promise_of}
 use Rattle.nqs_rules.specs.Edits.{change_at}
 use Rattle.nqs_rules.specs.Find.{has_row}
 use Rattle.nqs_rules.specs.Fits.{runs, is_committed_hand}
 use Rattle.nqs_rules.specs.Routing.{is_hand_to}
 use Rattle.nqs_rules.specs.Stage.{is_stage_to}
+use Rattle.nqs_rules.specs.Tests.{same_host}
 
 -- which requests a peer may touch
 
@@ -67,6 +72,10 @@ module _ {E : Type 0} where
   abbrev pub running_rows : State E → List (Row E)
   running_rows s = filter runs s.rows
 
+  -- a row but for what an answer to its offer may change: its state, its hold and its refusals
+  abbrev pub lasting : Row E → Row E
+  lasting r = record r { state = Queued; hold = No; refused = [] }
+
   -- what stays, and what may differ
 
   -- the host, its site, its queues, its people, its parameters and the number of its last request stand as they stood
@@ -103,3 +112,9 @@ module _ {E : Type 0} where
   -- what any number of messages of a peer may make of a state: rows may come in that are of requests which the host didn't have
   abbrev pub IsWithinReachInTheEnd : HostId → State E → State E → Type 0
   IsWithinReachInTheEnd peer s t = IsWithin peer (is_in_reach_or_new peer s) s t
+
+-- what a message of a peer may bring out: a message back to it, or a file of this host
+abbrev pub is_answer_to : HostId → Output → Bool
+is_answer_to peer (out.Send m) = same_host peer m.to
+is_answer_to peer (out.File number path bytes) = true
+is_answer_to peer _ = false

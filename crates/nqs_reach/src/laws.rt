@@ -1,17 +1,22 @@
 //! Laws of what a peer can reach by what it sends. They ask nothing of a message; but for those of
 //! running requests they ask nothing of the state either.
-ghost use Rattle.std.specs.Prelude.{◌≡◌, ◌||◌, ℕ, List, false, IsTrue};
+ghost use Rattle.std.specs.Prelude.{◌≡◌, ◌≤◌, ◌||◌, ℕ, List, length, map, false, Some, IsTrue};
 ghost use Rattle.std.specs.List.{list_any, list_all};
 ghost use Rattle.nqs_state.specs.State.{Plain};
 ghost use Rattle.nqs_types.specs.declared.event.Command.{Command};
+ghost use Rattle.nqs_types.specs.declared.event.Event.TheVariants as event;
 ghost use Rattle.nqs_types.specs.declared.ids.HostId.{HostId};
 ghost use Rattle.nqs_types.specs.declared.ids.RequestId.{RequestId};
 ghost use Rattle.nqs_rules.specs.Access.{may_command, rank};
 ghost use Rattle.nqs_rules.specs.Applied.{next_id};
 ghost use Rattle.nqs_rules.specs.Find.{find_complex, find_device, find_queue, find_row, has_row};
 ghost use Rattle.nqs_rules.specs.InOrder.{IsInOrder};
+ghost use Rattle.nqs_rules.specs.Picked.{PlainRow};
+ghost use Rattle.nqs_rules.specs.Step.{step};
+ghost use Rattle.nqs_rules.specs.Stepped.{shown};
 ghost use Rattle.nqs_reach.specs.Arrivals.{Arrival, after_message, after_messages, is_from};
-ghost use Rattle.nqs_reach.specs.Reach.{is_given_to, is_in_reach, is_promised_to, running_rows, KeepsSettings, IsWithinReach, IsWithinReachInTheEnd};
+ghost use Rattle.nqs_reach.specs.Reach.{is_answer_to, is_given_to, is_in_reach, is_promised_to, lasting, running_rows, KeepsSettings, IsWithinReach};
+ghost use Rattle.nqs_reach.specs.Reach.{IsWithinReachInTheEnd};
 
 /// Whatever message comes, at whatever moment, with whatever content: the state after it is within
 /// reach of its sender from the state before.
@@ -34,6 +39,20 @@ pub fn requests_move_by_promises()
         → IsTrue (has_row id (after_message a s) || list_any (is_given_to a.1.from id) (after_message a s).hands) }
     ensures come { (a : Arrival) (s : Plain) (id : RequestId) → has_row id s ≡ false → IsTrue (has_row id (after_message a s))
         → IsTrue (list_any (is_promised_to a.1.from id) s.promises) }
+{}
+
+/// A request that stays keeps its job, its script, its queue, its starts and losses at each message:
+/// at most its state, its hold and its refusals change.
+pub fn requests_keep_their_jobs()
+    ensures { (a : Arrival) (s : Plain) (id : RequestId) (before after : PlainRow) → IsInOrder s → find_row id s ≡ Some before
+        → find_row id (after_message a s) ≡ Some after → lasting after ≡ lasting before }
+{}
+
+/// What goes out at a message is at most a message back to its sender, and a file: nothing is
+/// launched, printed or killed, and no other host hears of it.
+pub fn answers_go_to_the_sender()
+    ensures sender { (a : Arrival) (s : Plain) → IsTrue (list_all (is_answer_to a.1.from) (map shown (step (event.Arrived a.0 a.1) s).outputs)) }
+    ensures few { (a : Arrival) (s : Plain) → length (step (event.Arrived a.0 a.1) s).outputs ≤ 2 }
 {}
 
 /// However many messages a peer sends, one after the other: the state after them is within its

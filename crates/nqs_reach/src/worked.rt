@@ -13,8 +13,10 @@ pub fn offers_are_answered()
         ≡ record small { rows = busy ∷ elsewhere ∷ []; hands = hand beta 2 1 Committed ∷ hand gamma 3 3 Offered ∷ hand beta 1 4 Committed ∷ [] } }
     ensures inquire { after beta (Inquire 2) ≡ after beta (Ready 2) }
     ensures refused { after beta (Refused 2 19)
-        ≡ record small { rows = record going { state = Queued; refused = record { dest = batch_of beta; cause = 19 } ∷ [] } ∷ busy ∷ elsewhere ∷ [];
-            hands = hand gamma 3 3 Offered ∷ hand beta 1 4 Committed ∷ [] } }
+        ≡ record small {
+          rows = record going { state = Queued; refused = record { dest = batch_of beta; cause = 19 } ∷ [] } ∷ busy ∷ elsewhere ∷ [];
+          hands = hand gamma 3 3 Offered ∷ hand beta 1 4 Committed ∷ [];
+        } }
     ensures done { after beta (Done 1) ≡ record small { hands = hand beta 2 1 Offered ∷ hand gamma 3 3 Offered ∷ [] } }
 {}
 
@@ -24,8 +26,11 @@ pub fn promises_are_settled()
     ensures offer { after beta (Offer 6 (codes "batch") (carried (request 9 beta)) (codes "date"))
         ≡ record small { promises = promise gamma 6 8 5 ∷ promise beta 6 9 6 ∷ []; peers = known ∷ record known { closed = 5 } ∷ known ∷ []; arrivals = 6 } }
     ensures commit { after beta (Commit 5)
-        ≡ record small { rows = going ∷ busy ∷ elsewhere ∷ row (request 7 beta) (codes "batch") 4 ∷ []; promises = promise gamma 6 8 5 ∷ [];
-            peers = known ∷ record known { closed = 5 } ∷ known ∷ [] } }
+        ≡ record small {
+          rows = going ∷ busy ∷ elsewhere ∷ row (request 7 beta) (codes "batch") 4 ∷ [];
+          promises = promise gamma 6 8 5 ∷ [];
+          peers = known ∷ record known { closed = 5 } ∷ known ∷ [];
+        } }
     ensures abort { after beta (Abort 5)
         ≡ record small { promises = promise gamma 6 8 5 ∷ []; peers = known ∷ record known { closed = 5 } ∷ known ∷ [] } }
 {}
