@@ -1,5 +1,6 @@
 -- What a test keeps of a list, where the list changes at what the test doesn't keep.
-use Rattle.std.proofs.Common.{◌≡◌, ℕ, ◌+◌, Bool, true, false, cond, ◌||◌, List, [], ◌∷◌, ◌++◌, filter, find, Option, None, Some, true≢false, zero, suc, refl, sym, ap, ◌∙◌}
+use Rattle.std.proofs.Common.{◌≡◌, ℕ, ◌+◌, Bool, true, false, cond, ◌||◌, List, [], ◌∷◌, ◌++◌, filter, find, Option, None, Some, true≢false, zero, suc, refl}
+use Rattle.std.proofs.Common.{sym, ap, ◌∙◌}
 use Rattle.std.proofs.Common.{if◌then◌else◌}
 use Rattle.std.proofs.lemmas.Bool.{or_parts, or_from, false_from_ne_true}
 use Rattle.std.proofs.lemmas.Option.{same_Some, none-some}

@@ -45,14 +45,16 @@ use Rattle.nqs_rules.specs.Stage.{is_stage_to, is_got, has_left, send_staged, on
 use Rattle.nqs_rules.specs.Starts.{after_step}
 use Rattle.nqs_rules.specs.Step.{on_message}
 use Rattle.nqs_rules.specs.Stepped.{Stepped, quiet, says, makes, ready}
-use Rattle.nqs_rules.proofs.KeyFacts.{any-before, any-without_other, any-changed, none_found, gone_without, find-changed, find-without_other, find-changed_other}
+use Rattle.nqs_rules.proofs.KeyFacts.{any-before, any-without_other, any-changed, none_found, gone_without, find-changed, find-without_other}
+use Rattle.nqs_rules.proofs.KeyFacts.{find-changed_other}
 use Rattle.nqs_rules.proofs.ListFacts.{found_passes}
 use Rattle.nqs_rules.proofs.RowChanges.{noted_kept}
 use Rattle.nqs_rules.proofs.RowFacts.{same_it, same_id}
 use Rattle.nqs_rules.proofs.Sublists.{part_none, without_part, filter_part}
 use Rattle.nqs_reach.specs.Reach.{is_offered_to, is_given_to, is_promised_to, is_in_reach, hands_beside, promises_beside, stages_beside}
 use Rattle.nqs_reach.specs.Reach.{rows_beside, running_rows, lasting, KeepsSettings, IsWithinReach}
-use Rattle.nqs_reach.proofs.Lists.{kept_none, kept_without, kept_changed, kept_filter, kept_added, any_of_found, found_before, any_changed, none_changed, put_twice}
+use Rattle.nqs_reach.proofs.Lists.{kept_none, kept_without, kept_changed, kept_filter, kept_added, any_of_found, found_before, any_changed, none_changed}
+use Rattle.nqs_reach.proofs.Lists.{put_twice}
 
 -- the parts of a state that a message may change
 record Parts (E : Type 0) : Type 0 where

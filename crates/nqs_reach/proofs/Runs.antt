@@ -26,7 +26,7 @@ use Rattle.nqs_rules.proofs.RowKinds.{running_unrouted}
 use Rattle.nqs_rules.proofs.RowsOrder.{is_no_offer_of, no_offer}
 use Rattle.nqs_rules.proofs.StateFacts.{keys_are}
 use Rattle.nqs_rules.proofs.Sublists.{part_none, filter_part}
-use Rattle.nqs_reach.specs.Arrivals.{Arrival, is_from, after_message, after_messages}
+use Rattle.nqs_reach.specs.Deliveries.{Delivery, is_from, after_message, after_messages}
 use Rattle.nqs_reach.specs.Reach.{is_in_reach, is_in_reach_or_new, is_promised_to, running_rows, KeepsSettings, IsWithin, IsWithinReachInTheEnd}
 use Rattle.nqs_reach.proofs.Lists.{kept_filter, any_kept, find_kept}
 use Rattle.nqs_reach.proofs.Messages.{NoneOffered, Reached, reached}
@@ -133,7 +133,8 @@ module _ {E : Type 0} where
       → (r : Row E) × (find (is_row id) rows ≡ Some r) × (is_running r.state ≡ true)
   found_running id [] distinct h = absurd (true≢false (sym h))
   found_running id (x ∷ rows) distinct h =
-      by (is_row id x) refl (runs x) refl (and_parts (not (list_any (id_eq x.id) (map (λ r. r.id) rows))) (are_distinct id_eq (map (λ r. r.id) rows)) distinct) h
+      by (is_row id x) refl (runs x) refl (and_parts (not (list_any (id_eq x.id) (map (λ r. r.id) rows)))
+      (are_distinct id_eq (map (λ r. r.id) rows)) distinct) h
       (found_running id rows)
     where
       by : (b : Bool) → is_row id x ≡ b → (c : Bool) → runs x ≡ c
@@ -158,11 +159,11 @@ module _ {E : Type 0} where
 
 -- by messages
 
-pub reached_by : (a : Arrival) (s : Plain) → Reached a.1.from s (after_message a s)
+pub reached_by : (a : Delivery) (s : Plain) → Reached a.1.from s (after_message a s)
 reached_by a s = reached a.1.from s a.1.body
 
 -- a request that comes was promised
-pub promised_before : (a : Arrival) (s : Plain) (id : RequestId) → has_row id s ≡ false → has_row id (after_message a s) ≡ true
+pub promised_before : (a : Delivery) (s : Plain) (id : RequestId) → has_row id s ≡ false → has_row id (after_message a s) ≡ true
     → list_any (is_promised_to a.1.from id) s.promises ≡ true
 promised_before a s id new has = by (list_any (is_promised_to a.1.from id) s.promises) refl
   where
@@ -170,7 +171,7 @@ promised_before a s id new has = by (list_any (is_promised_to a.1.from id) s.pro
     by true e = refl
     by false e = absurd (true≢false (sym has ∙ (reached_by a s).came id e new))
 
-pub kept_settings : (arrivals : List Arrival) (s : Plain) → KeepsSettings s (after_messages arrivals s)
+pub kept_settings : (deliveries : List Delivery) (s : Plain) → KeepsSettings s (after_messages deliveries s)
 kept_settings [] s = same_settings s
 kept_settings (a ∷ rest) s =
     settings_then s (after_message a s) (after_messages rest (after_message a s)) (reached_by a s).within.settings (kept_settings rest (after_message a s))
@@ -179,15 +180,15 @@ pub same_rights : (user : List ℕ) (c : Command) (s t : Plain) → KeepsSetting
 same_rights user c s t kept = λ j. may_command (if has_name (kept.managers j) user then Manager else
     (if has_name (kept.operators j) user then Operator else User)) c
 
-running_stay : (arrivals : List Arrival) (s : Plain) → NoneOffered s → running_rows (after_messages arrivals s) ≡ running_rows s
+running_stay : (deliveries : List Delivery) (s : Plain) → NoneOffered s → running_rows (after_messages deliveries s) ≡ running_rows s
 running_stay [] s none = refl
 running_stay (a ∷ rest) s none =
     let r = reached_by a s in
     let same = r.running none in
     running_stay rest (after_message a s) (λ id h. r.offers id (none id (ap (list_any (is_row id)) (sym same) ∙ h))) ∙ same
 
-pub jobs_stay : (arrivals : List Arrival) (s : Plain) → IsInOrder s → running_rows (after_messages arrivals s) ≡ running_rows s
-jobs_stay arrivals s order = running_stay arrivals s (none_offered s order)
+pub jobs_stay : (deliveries : List Delivery) (s : Plain) → IsInOrder s → running_rows (after_messages deliveries s) ≡ running_rows s
+jobs_stay deliveries s order = running_stay deliveries s (none_offered s order)
 
 module _ (peer : HostId) (s : Plain) where
   -- whether a request may be touched by the messages of the peer
@@ -201,8 +202,8 @@ module _ (peer : HostId) (s : Plain) where
   begins : StillOut s
   begins id out = let p = or_parts (is_in_reach peer s id) (not (has_row id s)) out in (not-false (has_row id s) p.1, p.0)
 
-  goes_on : (arrivals : List Arrival) (t : Plain) → list_all (is_from peer) arrivals ≡ true → IsWithinReachInTheEnd peer s t → StillOut t
-      → IsWithinReachInTheEnd peer s (after_messages arrivals t)
+  goes_on : (deliveries : List Delivery) (t : Plain) → list_all (is_from peer) deliveries ≡ true → IsWithinReachInTheEnd peer s t → StillOut t
+      → IsWithinReachInTheEnd peer s (after_messages deliveries t)
   goes_on [] t from within still = within
   goes_on (a ∷ rest) t from within still =
       let p = and_parts (is_from peer a) (list_all (is_from peer) rest) from in
@@ -212,10 +213,11 @@ module _ (peer : HostId) (s : Plain) where
       goes_on rest u p.1 (within_then peer touchable s t u within step)
       (λ id out. let k = still id out in (has_stays peer touchable t u step id out ∙ k.0, r.out id k.0 k.1))
 
-  pub in_the_end : (arrivals : List Arrival) → list_all (is_from peer) arrivals ≡ true → IsWithinReachInTheEnd peer s (after_messages arrivals s)
-  in_the_end arrivals from = goes_on arrivals s from (nothing_done peer touchable s) begins
+  pub in_the_end : (deliveries : List Delivery) → list_all (is_from peer) deliveries ≡ true → IsWithinReachInTheEnd peer s (after_messages deliveries s)
+  in_the_end deliveries from = goes_on deliveries s from (nothing_done peer touchable s) begins
 
-  pub end_row : (arrivals : List Arrival) → list_all (is_from peer) arrivals ≡ true → (id : RequestId) → has_row id s ≡ true → is_in_reach peer s id ≡ false
-      → find_row id (after_messages arrivals s) ≡ find_row id s
-  end_row arrivals from id has out = row_stays peer touchable s (after_messages arrivals s) (in_the_end arrivals from) id
+  pub end_row : (deliveries : List Delivery) → list_all (is_from peer) deliveries ≡ true → (id : RequestId) → has_row id s ≡ true
+      → is_in_reach peer s id ≡ false
+      → find_row id (after_messages deliveries s) ≡ find_row id s
+  end_row deliveries from id has out = row_stays peer touchable s (after_messages deliveries s) (in_the_end deliveries from) id
       (or_from (is_in_reach peer s id) (not (has_row id s)) out (not_from_true (has_row id s) has))

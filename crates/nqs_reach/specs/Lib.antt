@@ -1,3 +1,3 @@
 pub mod Reach
-pub mod Arrivals
+pub mod Deliveries
 pub mod Worked

@@ -21,7 +21,7 @@ use Rattle.nqs_types.specs.declared.message.Body.{Body}
 use Rattle.nqs_rules.specs.Applied.{first_carried, new_row}
 use Rattle.nqs_rules.specs.Find.{host_at}
 use Rattle.nqs_rules.specs.Format.{formatted, new_peer, new_queue, no_limits}
-use Rattle.nqs_reach.specs.Arrivals.{after_message}
+use Rattle.nqs_reach.specs.Deliveries.{after_message}
 
 -- the host that the messages come to
 abbrev pub alpha : HostId

@@ -4,7 +4,8 @@ ghost use Rattle.std.specs.Prelude.{◌≡◌, codes, [], ◌∷◌, ◌++◌, m
 ghost use Rattle.nqs_types.specs.declared.request.Phase.TheVariants.{Committed, Offered};
 ghost use Rattle.nqs_types.specs.declared.request.RowState.TheVariants.{Queued};
 ghost use Rattle.nqs_types.specs.declared.message.Body.TheVariants.{Abort, Answer, Commit, Done, EndedAck, Inquire, Offer, Ready, Refused, Stage, Staged};
-ghost use Rattle.nqs_reach.specs.Worked.{after, alpha, batch_of, beta, busy, carried, elsewhere, file, gamma, going, hand, known, promise, request, row, small, stage};
+ghost use Rattle.nqs_reach.specs.Worked.{after, alpha, batch_of, beta, busy, carried, elsewhere, file, gamma, going, hand, known, promise, request, row, small};
+ghost use Rattle.nqs_reach.specs.Worked.{stage};
 
 /// Handovers to the sender: a promise takes the request away, a refusal lets it wait again with
 /// the refusal noted, a commit that was taken ends the handover.

@@ -5,7 +5,7 @@ use Rattle.nqs_reach.proofs.laws.queues_stay.Goals as goal
 
 pub returns : goal.returns
 returns c = record {
-  queues = λ arrivals s name. ap (find (is_queue name)) (kept_settings arrivals s).queues;
-  complexes = λ arrivals s name. ap (find (is_complex name)) (kept_settings arrivals s).complexes;
-  devices = λ arrivals s name. ap (find (is_device name)) (kept_settings arrivals s).devices;
+  queues = λ deliveries s name. ap (find (is_queue name)) (kept_settings deliveries s).queues;
+  complexes = λ deliveries s name. ap (find (is_complex name)) (kept_settings deliveries s).complexes;
+  devices = λ deliveries s name. ap (find (is_device name)) (kept_settings deliveries s).devices;
 }

@@ -1,4 +1,4 @@
-use Rattle.nqs_reach.specs.Arrivals.{after_message}
+use Rattle.nqs_reach.specs.Deliveries.{after_message}
 use Rattle.nqs_reach.specs.Reach.{is_in_reach}
 use Rattle.nqs_reach.proofs.Runs.{reached_by, row_stays}
 use Rattle.nqs_reach.proofs.laws.requests_out_of_reach_stay.Goals as goal

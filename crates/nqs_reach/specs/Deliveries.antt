@@ -9,18 +9,18 @@ use Rattle.nqs_rules.specs.Starts.{after_step}
 use Rattle.nqs_rules.specs.Step.{step}
 
 -- a moment, in seconds since 1970, and the message that comes then
-abbrev pub Arrival : Type 0
-Arrival = ℕ × Message
+abbrev pub Delivery : Type 0
+Delivery = ℕ × Message
 
 -- whether a message says that it is from this peer
-abbrev pub is_from : HostId → Arrival → Bool
+abbrev pub is_from : HostId → Delivery → Bool
 is_from peer a = same_host peer a.1.from
 
 -- the state after a message
-abbrev pub after_message : Arrival → Plain → Plain
+abbrev pub after_message : Delivery → Plain → Plain
 after_message a s = after_step (step (event.Arrived a.0 a.1) s) s
 
 -- the state after messages, one after the other
-abbrev pub after_messages : List Arrival → Plain → Plain
+abbrev pub after_messages : List Delivery → Plain → Plain
 after_messages [] s = s
 after_messages (a ∷ rest) s = after_messages rest (after_message a s)
