@@ -1,5 +1,5 @@
 -- What of a host's state is within reach of a peer, whatever the peer sends, and what is beside it.
-use Rattle.std.specs.Prelude.{◌≡◌, ◌≤◌, Bool, true, false, not, ◌&&◌, ◌||◌, List, [], ◌++◌, filter}
+use Rattle.std.specs.Prelude.{◌≡◌, ◌≤◌, Bool, not, ◌&&◌, ◌||◌, List, [], ◌∷◌, ◌++◌, filter, IsTrue}
 use Rattle.std.specs.List.{list_any}
 use Rattle.nqs_state.specs.State.{State}
 use Rattle.nqs_types.specs.Ids.{id_eq}
@@ -113,8 +113,9 @@ module _ {E : Type 0} where
   abbrev pub IsWithinReachInTheEnd : HostId → State E → State E → Type 0
   IsWithinReachInTheEnd peer s t = IsWithin peer (is_in_reach_or_new peer s) s t
 
--- what a message of a peer may bring out: a message back to it, or a file of this host
-abbrev pub is_answer_to : HostId → Output → Bool
-is_answer_to peer (out.Send m) = same_host peer m.to
-is_answer_to peer (out.File number path bytes) = true
-is_answer_to peer _ = false
+-- what goes out at a message of a peer: nothing, a message back to it, or such a message and a file
+abbrev pub AnswersOnly : HostId → List Output → Type 0
+AnswersOnly peer [] = Unit {0}
+AnswersOnly peer (out.Send m ∷ []) = IsTrue (same_host peer m.to)
+AnswersOnly peer (out.Send m ∷ out.File number path bytes ∷ []) = IsTrue (same_host peer m.to)
+AnswersOnly peer _ = ⊥

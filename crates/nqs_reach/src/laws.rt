@@ -1,6 +1,6 @@
 //! Laws of what a peer can reach by what it sends. They ask nothing of a message; but for those of
 //! running requests they ask nothing of the state either.
-ghost use Rattle.std.specs.Prelude.{◌≡◌, ◌≤◌, ◌||◌, ℕ, List, length, map, false, Some, IsTrue};
+ghost use Rattle.std.specs.Prelude.{◌≡◌, ◌||◌, ℕ, List, map, false, Some, IsTrue};
 ghost use Rattle.std.specs.List.{list_any, list_all};
 ghost use Rattle.nqs_state.specs.State.{Plain};
 ghost use Rattle.nqs_types.specs.declared.event.Command.{Command};
@@ -15,7 +15,7 @@ ghost use Rattle.nqs_rules.specs.Picked.{PlainRow};
 ghost use Rattle.nqs_rules.specs.Step.{step};
 ghost use Rattle.nqs_rules.specs.Stepped.{shown};
 ghost use Rattle.nqs_reach.specs.Deliveries.{Delivery, after_message, after_messages, is_from};
-ghost use Rattle.nqs_reach.specs.Reach.{is_answer_to, is_given_to, is_in_reach, is_promised_to, lasting, running_rows, KeepsSettings, IsWithinReach};
+ghost use Rattle.nqs_reach.specs.Reach.{is_given_to, is_in_reach, is_promised_to, lasting, running_rows, AnswersOnly, KeepsSettings, IsWithinReach};
 ghost use Rattle.nqs_reach.specs.Reach.{IsWithinReachInTheEnd};
 
 /// Whatever message comes, at whatever moment, with whatever content: the state after it is within
@@ -48,11 +48,10 @@ pub fn requests_keep_their_jobs()
         → find_row id (after_message a s) ≡ Some after → lasting after ≡ lasting before }
 {}
 
-/// What goes out at a message is at most a message back to its sender, and a file: nothing is
-/// launched, printed or killed, and no other host hears of it.
+/// At a message nothing goes out but a message back to its sender, and at most one file with it: so
+/// nothing is launched, printed or killed, and no other host hears of it.
 pub fn answers_go_to_the_sender()
-    ensures sender { (a : Delivery) (s : Plain) → IsTrue (list_all (is_answer_to a.1.from) (map shown (step (event.Arrived a.0 a.1) s).outputs)) }
-    ensures few { (a : Delivery) (s : Plain) → length (step (event.Arrived a.0 a.1) s).outputs ≤ 2 }
+    ensures { (a : Delivery) (s : Plain) → AnswersOnly a.1.from (map shown (step (event.Arrived a.0 a.1) s).outputs) }
 {}
 
 /// However many messages a peer sends, one after the other: the state after them is within its
