@@ -12,7 +12,8 @@ use crate::part::{read_id, read_opt_name, read_opt_u64, read_path};
 use nqs_types::{Carried, Job, Limits};
 use std::alloc::Global;
 
-pub(crate) fn read_u8_at_most(bytes: &[u8], place: u64, limit: u8) -> Result<(u8, u64), RecordFault>
+/// The number of one byte at the place, up to a limit.
+pub fn read_u8_at_most(bytes: &[u8], place: u64, limit: u8) -> Result<(u8, u64), RecordFault>
     ensures { result ≡ within (is_at_most limit) u8_at bytes.now place }
 {
     let (value, next) = read_u8(bytes, place)?;
@@ -34,8 +35,9 @@ fn read_u16_at_most(bytes: &[u8], place: u64, limit: u16) -> Result<(u16, u64), 
     }
 }
 
+/// The job at the place.
 #[tactic(auto, unfolding(crate::specs::Parts::job_at))]
-pub(crate) fn read_job(alloc: Global, bytes: &[u8], place: u64) -> Result<(Job, u64), RecordFault>
+pub fn read_job(alloc: Global, bytes: &[u8], place: u64) -> Result<(Job, u64), RecordFault>
     ensures { Answers (job_at bytes.now place) result }
 {
     let (name, place) = read_name(bytes, place)?;

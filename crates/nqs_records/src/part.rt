@@ -13,8 +13,9 @@ use nqs_types::{HostId, OutPart, PeerNumber, RequestId};
 use nqs_values::{Bytes, Extent, Name};
 use std::alloc::Global;
 
+/// The number of eight bytes at the place, or nothing.
 #[tactic(auto, unfolding(crate::specs::Fields::opt_at))]
-pub(crate) fn read_opt_u64(bytes: &[u8], place: u64) -> Result<(Option<u64>, u64), RecordFault>
+pub fn read_opt_u64(bytes: &[u8], place: u64) -> Result<(Option<u64>, u64), RecordFault>
     ensures { result ≡ opt_at u64_at bytes.now place }
 {
     let (is_there, next) = read_bool(bytes, place)?;
@@ -25,8 +26,9 @@ pub(crate) fn read_opt_u64(bytes: &[u8], place: u64) -> Result<(Option<u64>, u64
     Ok((Some(value), end))
 }
 
+/// The name at the place, or nothing.
 #[tactic(auto, unfolding(crate::specs::Fields::opt_at))]
-pub(crate) fn read_opt_name(bytes: &[u8], place: u64) -> Result<(Option<Name>, u64), RecordFault>
+pub fn read_opt_name(bytes: &[u8], place: u64) -> Result<(Option<Name>, u64), RecordFault>
     ensures { result ≡ opt_at name_at bytes.now place }
 {
     let (is_there, next) = read_bool(bytes, place)?;
@@ -72,8 +74,9 @@ pub(crate) fn read_seq(bytes: &[u8], place: u64) -> Result<(u32, u64), RecordFau
     }
 }
 
+/// The range of a spool at the place, of one script or output at most.
 #[tactic(auto, unfolding(crate::specs::Parts::extent_at))]
-pub(crate) fn read_extent(bytes: &[u8], place: u64) -> Result<(Extent, u64), RecordFault>
+pub fn read_extent(bytes: &[u8], place: u64) -> Result<(Extent, u64), RecordFault>
     ensures { result ≡ extent_at bytes.now place }
 {
     let (start, next) = read_u64(bytes, place)?;

@@ -10,8 +10,9 @@ use nqs_codec::{put_bool, put_name, put_path, put_u8, put_u16, put_u32, put_u64}
 use nqs_types::{Carried, Job, OutPart, PeerNumber, RequestId};
 use nqs_values::{Extent, Memory, Name};
 
+/// Puts a number of eight bytes that may be left out.
 #[tactic(auto, using(crate::proofs::Joined::joined))]
-pub(crate) fn put_opt_u64(value: &Option<u64>, out: &mut Vec<u8>) -> Result<(), Memory>
+pub fn put_opt_u64(value: &Option<u64>, out: &mut Vec<u8>) -> Result<(), Memory>
     ensures { Adds out.old.items (opt_field u64_field value.now) result out.new.items }
 {
     let Some(value) = value else {
@@ -22,8 +23,9 @@ pub(crate) fn put_opt_u64(value: &Option<u64>, out: &mut Vec<u8>) -> Result<(), 
     put_u64(*value, out)
 }
 
+/// Puts a name that may be left out.
 #[tactic(auto, using(crate::proofs::Joined::joined))]
-pub(crate) fn put_opt_name(value: &Option<Name>, out: &mut Vec<u8>) -> Result<(), Memory>
+pub fn put_opt_name(value: &Option<Name>, out: &mut Vec<u8>) -> Result<(), Memory>
     ensures { Adds out.old.items (opt_field short_field value.now) result out.new.items }
 {
     let Some(value) = value else {
@@ -43,8 +45,9 @@ pub fn put_id(id: RequestId, out: &mut Vec<u8>) -> Result<(), Memory>
     put_u8(id.host.0, out)
 }
 
+/// Puts a range of a spool.
 #[tactic(auto, using(crate::proofs::Joined::joined), unfolding(crate::specs::Spelling::extent_field))]
-pub(crate) fn put_extent(extent: Extent, out: &mut Vec<u8>) -> Result<(), Memory>
+pub fn put_extent(extent: Extent, out: &mut Vec<u8>) -> Result<(), Memory>
     ensures { Adds out.old.items (extent_field extent) result out.new.items }
 {
     put_u64(extent.place, out)?;
@@ -94,8 +97,9 @@ fn put_job_tail(job: &Job, out: &mut Vec<u8>) -> Result<(), Memory>
     put_bool(job.join, out)
 }
 
+/// Puts a job.
 #[tactic(auto, using(crate::proofs::Joined::joined), unfolding(crate::specs::Spelling::job_field))]
-pub(crate) fn put_job(job: &Job, out: &mut Vec<u8>) -> Result<(), Memory>
+pub fn put_job(job: &Job, out: &mut Vec<u8>) -> Result<(), Memory>
     requires { IsJob job.now }
     ensures { Adds out.old.items (job_field job.now) result out.new.items }
 {

@@ -1,0 +1,37 @@
+-- What a state in order says of each of its requests, outputs and files.
+use Rattle.std.proofs.Common.{◌≡◌, Bool, true, ◌&&◌, IsTrue, List, [], ◌∷◌}
+use Rattle.std.proofs.lemmas.Bool.{and_parts}
+use Rattle.std.specs.List.{list_all, AllByRecursion}
+use Rattle.nqs_values.specs.declared.extent.Extent.{Extent}
+use Rattle.nqs_values.specs.Path.{is_path}
+use Rattle.nqs_state.specs.State.{State}
+use Rattle.nqs_types.specs.declared.request.Row.{Row}
+use Rattle.nqs_types.specs.declared.request.Promise.{Promise}
+use Rattle.nqs_types.specs.declared.request.Stage.{Stage}
+use Rattle.nqs_types.specs.declared.request.FileOut.{FileOut}
+use Rattle.nqs_rules.specs.Tests.{passes}
+use Rattle.nqs_rules.specs.Find.{find_peer}
+use Rattle.nqs_rules.specs.Sane.{is_sane_job}
+use Rattle.nqs_rules.specs.InOrder.{IsInOrder, is_row_right, is_promise_right, is_stage_right, is_file_right, is_stage_given, is_given}
+use Rattle.nqs_rules.proofs.RowFacts.{row_is, promise_is}
+
+-- what each that passes a test is
+pub each_is : {V : Type 0} (p : V → Bool) (Is : V → Type 0) → ((v : V) → p v ≡ true → Is v) → (vs : List V) → list_all p vs ≡ true → AllByRecursion Is vs
+each_is p Is to [] all = tt
+each_is p Is to (v ∷ vs) all = let k = and_parts (p v) (list_all p vs) all in (to v k.0, each_is p Is to vs k.1)
+
+module _ (s : State Extent) (h : IsInOrder s) where
+  pub rows_sane : AllByRecursion (λ (r : Row Extent). IsTrue (is_sane_job r.job)) s.rows
+  rows_sane = each_is (is_row_right s) (λ (r : Row Extent). IsTrue (is_sane_job r.job)) (λ r k. (row_is s r k).job) s.rows h.rows
+
+  pub promises_sane : AllByRecursion (λ (p : Promise Extent). IsTrue (is_sane_job p.row.job)) s.promises
+  promises_sane = each_is (is_promise_right s) (λ (p : Promise Extent). IsTrue (is_sane_job p.row.job))
+      (λ p k. (row_is s p.row (promise_is s p k).row).job) s.promises h.promises
+
+  pub stages_sane : AllByRecursion (λ (t : Stage Extent). IsTrue (is_path t.path)) s.stages
+  stages_sane = each_is (is_stage_right s) (λ (t : Stage Extent). IsTrue (is_path t.path))
+      (λ t k. (and_parts (is_path t.path) (passes (is_stage_given t.number) (find_peer t.peer s)) k).0) s.stages h.stages
+
+  pub files_sane : AllByRecursion (λ (f : FileOut Extent). IsTrue (is_path f.path)) s.files
+  files_sane = each_is (is_file_right s) (λ (f : FileOut Extent). IsTrue (is_path f.path))
+      (λ f k. (and_parts (is_path f.path) (is_given f.number s.file_next) k).0) s.files h.files

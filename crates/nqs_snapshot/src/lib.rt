@@ -1,0 +1,11 @@
+//! A host's whole state as bytes, from which a second journal goes on: one spelling of each state
+//! in order, both ways.
+#![tactic(auto)]
+
+mod field;
+mod put_dealings;
+mod put_queues;
+mod put_requests;
+mod write;
+
+pub use write::write_state;
