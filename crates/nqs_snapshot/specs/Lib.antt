@@ -1,1 +1,5 @@
 pub mod Spelling
+pub mod Values
+pub mod Readings
+pub mod Sound
+pub mod Reading

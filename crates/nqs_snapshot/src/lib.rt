@@ -3,9 +3,15 @@
 #![tactic(auto)]
 
 mod field;
+mod lists;
+mod parts;
 mod put_dealings;
 mod put_queues;
 mod put_requests;
+mod read_dealings;
+mod read_queues;
+mod read_requests;
+mod tables;
 mod write;
 
 pub use write::write_state;

@@ -1,0 +1,97 @@
+-- What bytes are read as: the parts of a state one behind the other, then the state, where it is sound and nothing follows.
+use Rattle.std.specs.Prelude.{ℕ, nat_lt, List, length, if◌then◌else◌, Option, Ok, Err}
+use Rattle.nqs_values.specs.declared.extent.Extent.{Extent}
+use Rattle.nqs_state.specs.State.{State}
+use Rattle.nqs_records.specs.declared.fault.RecordFault.TheVariants.{BadField, Trailing}
+use Rattle.nqs_records.specs.Reading.{◌>>=◌, Read, Reading, mapped, both}
+use Rattle.nqs_records.specs.Fields.{u16_at, u32_at, u64_at, opt_at, name_at}
+use Rattle.nqs_records.specs.Parts.{host_at}
+use Rattle.nqs_snapshot.specs.declared.parts.SitePart.{SitePart}
+use Rattle.nqs_snapshot.specs.declared.parts.RequestPart.{RequestPart}
+use Rattle.nqs_snapshot.specs.declared.parts.DealingPart.{DealingPart}
+use Rattle.nqs_snapshot.specs.declared.parts.CounterPart.{CounterPart}
+use Rattle.nqs_snapshot.specs.declared.parts.Parts.{Parts}
+use Rattle.nqs_snapshot.specs.Readings.{many_at, queue_at, complex_at, device_at, row_at, hand_at, promise_at, peer_at, stage_at, file_at}
+use Rattle.nqs_snapshot.specs.Sound.{is_sound}
+
+unfoldable pub site_at : Reading SitePart
+site_at = mapped (λ v. record { me = v.0; site = v.1.0; queues = v.1.1.0; complexes = v.1.1.1.0; devices = v.1.1.1.1 }) (
+    both host_at λ _. both (many_at name_at) λ _. both (many_at queue_at) λ _. both (many_at complex_at) λ _. many_at device_at
+    )
+
+unfoldable pub requests_at : Reading RequestPart
+requests_at = mapped (λ v. record { rows = v.0; hands = v.1.0; promises = v.1.1 }) (
+    both (many_at row_at) λ _. both (many_at hand_at) λ _. many_at promise_at
+    )
+
+unfoldable pub dealings_at : Reading DealingPart
+dealings_at = mapped (λ v. record { peers = v.0; stages = v.1.0; files = v.1.1.0; managers = v.1.1.1.0; operators = v.1.1.1.1 }) (
+    both (many_at peer_at) λ _. both (many_at stage_at) λ _. both (many_at file_at) λ _. both (many_at name_at) λ _. many_at name_at
+    )
+
+-- the values of the parameters and counters, in order
+abbrev pub CounterFields : Type 0
+CounterFields = Option (List ℕ) × (ℕ × (ℕ × (ℕ × (ℕ × (ℕ × ℕ)))))
+
+-- the parameters and counters that these values make
+abbrev pub counters_of : CounterFields → CounterPart
+counters_of v = record {
+  default_queue = v.0;
+  global_limit = v.1.0;
+  patience = v.1.1.0;
+  retry_wait = v.1.1.1.0;
+  seq = v.1.1.1.1.0;
+  arrivals = v.1.1.1.1.1.0;
+  file_next = v.1.1.1.1.1.1;
+}
+
+unfoldable pub counters_at : Reading CounterPart
+counters_at = mapped counters_of (
+    both (opt_at name_at) λ _. both u16_at λ _. both u64_at λ _. both u64_at λ _. both u32_at λ _. both u64_at λ _. u64_at
+    )
+
+unfoldable pub parts_at : Reading Parts
+parts_at = mapped (λ v. record { site = v.0; requests = v.1.0; dealings = v.1.1.0; counters = v.1.1.1 }) (
+    both site_at λ _. both requests_at λ _. both dealings_at λ _. counters_at
+    )
+
+-- the state of these parts
+abbrev pub state_of : Parts → State Extent
+state_of p = record {
+  me = p.site.me;
+  site = p.site.site;
+  queues = p.site.queues;
+  complexes = p.site.complexes;
+  devices = p.site.devices;
+  rows = p.requests.rows;
+  hands = p.requests.hands;
+  promises = p.requests.promises;
+  peers = p.dealings.peers;
+  stages = p.dealings.stages;
+  files = p.dealings.files;
+  managers = p.dealings.managers;
+  operators = p.dealings.operators;
+  default_queue = p.counters.default_queue;
+  global_limit = p.counters.global_limit;
+  patience = p.counters.patience;
+  retry_wait = p.counters.retry_wait;
+  seq = p.counters.seq;
+  arrivals = p.counters.arrivals;
+  file_next = p.counters.file_next;
+}
+
+-- a state where it is sound, and else its first place is at fault
+abbrev pub or_bad : State Extent → Read (State Extent)
+or_bad s = if is_sound s then Ok s else Err (BadField 0)
+
+-- the parts that stand in the whole list
+unfoldable pub whole_of : List ℕ → Read Parts
+whole_of bytes = do
+  parts ← parts_at bytes 0
+  if nat_lt parts.1 (length bytes) then Err (Trailing parts.1) else Ok parts.0
+
+-- the whole list as one state
+unfoldable pub snapshot_of : List ℕ → Read (State Extent)
+snapshot_of bytes = do
+  parts ← whole_of bytes
+  or_bad (state_of parts)
