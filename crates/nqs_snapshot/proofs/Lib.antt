@@ -4,3 +4,6 @@ pub mod Stands
 pub mod Sane
 pub mod Distinct
 pub mod PartLaws
+pub mod StateLaws
+pub mod SoundLaws
+pub mod Snapshots

@@ -143,7 +143,7 @@ phase_law = mapped_where (λ _. ⊤) (λ p. u8_field (phase_number p)) phase_of 
     (within_read (is_at_most 1) one_fits u8_read)
 
 -- the list of those who may use a queue, if there is one
-users_of : Access → Option (List (List ℕ))
+abbrev users_of : Access → Option (List (List ℕ))
 users_of All = None
 users_of (Users users) = Some users
 
@@ -207,7 +207,7 @@ settings_law =
     last_read limits_law)
 
 -- the settings of a queue
-settings_in : QueueDef → Settings
+abbrev settings_in : QueueDef → Settings
 settings_in q = record {
   name = q.name;
   kind = q.kind;
@@ -221,7 +221,7 @@ settings_in q = record {
 }
 
 pub queue_law : IsRead IsQueue queue_field queue_at
-unfolding queue_at queue_field settings_field settings_in
+unfolding queue_at queue_field settings_field
 queue_law =
     mapped_read IsQueue queue_field (λ v. queue_of v.0 v.1.0 v.1.1.0 v.1.1.1) (λ q. (settings_in q, (q.access, (q.dests, q.devices))))
     (λ q. refl)
@@ -278,7 +278,7 @@ course_law =
     last_read (opt_read name_read))
 
 -- where a request stands
-course_in : Row Extent → Course
+abbrev course_in : Row Extent → Course
 course_in r = record {
   queue = r.queue;
   state = r.state;
@@ -292,7 +292,7 @@ course_in r = record {
 }
 
 pub row_law : IsRead IsRow row_field row_at
-unfolding row_at row_field course_field course_in
+unfolding row_at row_field course_field
 row_law =
     mapped_read IsRow row_field (λ v. row_of v.0 v.1.0 v.1.1.0 v.1.1.1.0 v.1.1.1.1) (λ r. (r.id, (r.job, (course_in r, (r.refused, r.script)))))
     (λ r. refl)

@@ -3,3 +3,5 @@ pub mod Values
 pub mod Readings
 pub mod Sound
 pub mod Reading
+pub mod Laws
+pub mod Blank

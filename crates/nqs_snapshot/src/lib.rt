@@ -2,6 +2,7 @@
 //! in order, both ways.
 #![tactic(auto)]
 
+mod build;
 mod field;
 mod lists;
 mod parts;

@@ -1,0 +1,74 @@
+-- What the whole list is read as, and what an answer tells.
+use Rattle.std.proofs.Common.{◌≡◌, ◌≢◌, ℕ, Bool, true, false, cond, List, refl, sym, ap, ◌∙◌, subst, Ok, Err, IfOk, IfErr}
+use Rattle.std.specs.declared.result.Result.{Result}
+use Rattle.nqs_values.specs.Want.{want}
+use Rattle.nqs_values.specs.declared.extent.Extent.{Extent}
+use Rattle.nqs_state.specs.State.{State, content}
+use Rattle.nqs_state.specs.declared.state.HostState.{HostState}
+use Rattle.nqs_records.specs.declared.fault.RecordFault.{RecordFault}
+use Rattle.nqs_records.specs.declared.fault.RecordFault.TheVariants.{Short, Kind, BadField, Trailing, Memory}
+use Rattle.nqs_records.specs.Reading.{Read, is_memory, Answers}
+use Rattle.nqs_records.specs.Changes.{AreBytes}
+use Rattle.nqs_records.proofs.IsRead.{bound}
+use Rattle.nqs_records.proofs.Chains.{bind, same_Ok}
+use Rattle.nqs_snapshot.specs.declared.parts.Parts.{Parts}
+use Rattle.nqs_snapshot.specs.Spelling.{state_field}
+use Rattle.nqs_snapshot.specs.Values.{MayStand}
+use Rattle.nqs_snapshot.specs.Sound.{is_sound}
+use Rattle.nqs_snapshot.specs.Reading.{state_of, or_bad, whole_of, snapshot_of}
+use Rattle.nqs_snapshot.specs.Laws.{IsSpelledBy, ReadsTheSpelling, SpellsOne, SpellsNone, told_by}
+use Rattle.nqs_snapshot.proofs.StateLaws.{parts_of, whole_spelled, spelled_whole}
+use Rattle.nqs_snapshot.proofs.SoundLaws.{sound_is_in_order}
+
+sound_one : (s t : State Extent) → or_bad s ≡ Ok t → (is_sound s ≡ true) × (s ≡ t)
+sound_one s t e = by (is_sound s) e
+  where
+    by : (b : Bool) → ◌≡◌ {A = Read (State Extent)} (cond b (Ok s) (Err (BadField 0))) (Ok t) → (b ≡ true) × (s ≡ t)
+    by true f = (refl, same_Ok s t f)
+    by false f = cc
+
+is_spelled : (bytes : List ℕ) (s : State Extent) → AreBytes bytes → snapshot_of bytes ≡ Ok s → IsSpelledBy bytes s
+unfolding snapshot_of
+is_spelled bytes s fits e =
+    let p = bound (whole_of bytes) (λ p. or_bad (state_of p)) s e in
+    let here = whole_spelled bytes p.0 fits p.1 in
+    let one = sound_one (state_of p.0) s p.2 in
+    let right = (sound_is_in_order (state_of p.0)).0 one.0 in
+    subst (IsSpelledBy bytes) one.1 (here.0, record { stands = here.1; order = right.0; consistent = right.1 })
+
+spelled_is : (bytes : List ℕ) (s : State Extent) → AreBytes bytes → IsSpelledBy bytes s → snapshot_of bytes ≡ Ok s
+unfolding snapshot_of
+spelled_is bytes s fits is =
+    let sound = (sound_is_in_order s).1 (is.1.order, is.1.consistent) in
+    bind (whole_of bytes) (λ p. or_bad (state_of p)) (parts_of s) s (spelled_whole bytes s fits is.0 is.1.stands) (rw sound refl)
+
+pub reads_the_spelling : ReadsTheSpelling
+reads_the_spelling bytes s fits = (λ e. is_spelled bytes s fits e, λ is. spelled_is bytes s fits is)
+
+pub spells_one : SpellsOne
+spells_one bytes s t fits may other is also =
+    ap state_of (same_Ok (parts_of s) (parts_of t) (sym (spelled_whole bytes s fits is may) ∙ spelled_whole bytes t fits also other))
+
+-- ---- what the call answers
+
+pub if_read : (bytes : List ℕ) (answer : Result HostState RecordFault) → AreBytes bytes → Answers (snapshot_of bytes) (told_by answer)
+    → IfOk answer (λ state. IsSpelledBy bytes (content state))
+if_read bytes (Ok state) fits answers = is_spelled bytes (content state) fits (sym (answers refl))
+if_read bytes (Err fault) fits answers = tt
+
+not_memory : (fault : RecordFault) → fault ≢ Memory want → is_memory {A = State Extent} (Err fault) ≡ false
+not_memory (Short place) other = refl
+not_memory (Kind place) other = refl
+not_memory (BadField place) other = refl
+not_memory (Trailing place) other = refl
+not_memory (Memory memory) other = absurd (other refl)
+
+apart : (s : State Extent) (fault : RecordFault) (r : Read (State Extent)) → Err fault ≡ r → r ≡ Ok s → ⊥
+apart s fault (Ok d) e f = cc
+apart s fault (Err x) e f = cc
+
+pub if_refused : (bytes : List ℕ) (answer : Result HostState RecordFault) → AreBytes bytes → Answers (snapshot_of bytes) (told_by answer)
+    → IfErr answer (λ fault. fault ≢ Memory want → SpellsNone bytes)
+if_refused bytes (Ok state) fits answers = tt
+if_refused bytes (Err fault) fits answers = λ other s is.
+    apart s fault (snapshot_of bytes) (answers (not_memory fault other)) (spelled_is bytes s fits is)

@@ -1,0 +1,149 @@
+//! A state, built of the parts that were read: each value stands in its table under its key.
+
+ghost use Rattle.std.specs.Prelude.{◌≡◌, true, false, [], IfOk, IfSome, IfNone};
+ghost use Rattle.nqs_state.specs.State.{content};
+ghost use Rattle.nqs_rules.specs.InOrder.{are_keys_distinct};
+ghost use Rattle.nqs_snapshot.specs.Reading.{state_of};
+ghost use Rattle.nqs_snapshot.specs.Blank.{IsBlank, are_names_distinct, are_requests_distinct, are_outputs_distinct, with_site, with_requests, with_dealings};
+ghost use Rattle.nqs_snapshot.specs.Blank.{with_counters};
+
+use crate::parts::{CounterPart, DealingPart, Parts, RequestPart, SitePart};
+use crate::tables::fill;
+use nqs_keyed::Table;
+use nqs_state::HostState;
+use nqs_types::HostId;
+use nqs_values::{ListOf, Spare};
+use std::alloc::{AllocError, Global};
+
+// A state whose tables are empty.
+fn blank(alloc: Global) -> HostState
+    ensures { IsBlank (content result) }
+{
+    HostState {
+        me: HostId(0),
+        site: ListOf::new(alloc),
+        queues: Table::new(alloc),
+        complexes: Table::new(alloc),
+        devices: Table::new(alloc),
+        rows: Table::new(alloc),
+        hands: Table::new(alloc),
+        promises: Table::new(alloc),
+        peers: ListOf::new(alloc),
+        stages: Table::new(alloc),
+        files: Table::new(alloc),
+        managers: ListOf::new(alloc),
+        operators: ListOf::new(alloc),
+        default_queue: None,
+        global_limit: 0,
+        patience: 0,
+        retry_wait: 0,
+        seq: 0,
+        arrivals: 0,
+        file_next: 0,
+        spare_names: Spare::new(alloc),
+        spare_dests: Spare::new(alloc),
+        spare_refused: Spare::new(alloc),
+    }
+}
+
+// Whether no two queues, complexes or devices have one name.
+fn fill_site(state: &mut HostState, part: SitePart) -> Result<bool, AllocError>
+    requires queues { state.old.queues.items ≡ [] }
+    requires complexes { state.old.complexes.items ≡ [] }
+    requires devices { state.old.devices.items ≡ [] }
+    ensures distinct { IfOk result (λ filled. filled ≡ are_names_distinct part) }
+    ensures filled { IfOk result (λ filled. filled ≡ true → content state.new ≡ with_site part (content state.old)) }
+{
+    let SitePart {
+        me,
+        site,
+        queues,
+        complexes,
+        devices,
+    } = part;
+    state.me = me;
+    state.site = site;
+    let queues_differ = fill(&mut state.queues, queues)?;
+    let complexes_differ = fill(&mut state.complexes, complexes)?;
+    let devices_differ = fill(&mut state.devices, devices)?;
+    Ok(queues_differ && complexes_differ && devices_differ)
+}
+
+// Whether no two requests are one, nor two handovers or promises.
+fn fill_requests(state: &mut HostState, part: RequestPart) -> Result<bool, AllocError>
+    requires rows { state.old.rows.items ≡ [] }
+    requires hands { state.old.hands.items ≡ [] }
+    requires promises { state.old.promises.items ≡ [] }
+    ensures distinct { IfOk result (λ filled. filled ≡ are_requests_distinct part) }
+    ensures filled { IfOk result (λ filled. filled ≡ true → content state.new ≡ with_requests part (content state.old)) }
+{
+    let RequestPart {
+        rows,
+        hands,
+        promises,
+    } = part;
+    let rows_differ = fill(&mut state.rows, rows)?;
+    let hands_differ = fill(&mut state.hands, hands)?;
+    let promises_differ = fill(&mut state.promises, promises)?;
+    Ok(rows_differ && hands_differ && promises_differ)
+}
+
+// Whether no two stages or files are one.
+fn fill_dealings(state: &mut HostState, part: DealingPart) -> Result<bool, AllocError>
+    requires stages { state.old.stages.items ≡ [] }
+    requires files { state.old.files.items ≡ [] }
+    ensures distinct { IfOk result (λ filled. filled ≡ are_outputs_distinct part) }
+    ensures filled { IfOk result (λ filled. filled ≡ true → content state.new ≡ with_dealings part (content state.old)) }
+{
+    let DealingPart {
+        peers,
+        stages,
+        files,
+        managers,
+        operators,
+    } = part;
+    state.peers = peers;
+    state.managers = managers;
+    state.operators = operators;
+    let stages_differ = fill(&mut state.stages, stages)?;
+    let files_differ = fill(&mut state.files, files)?;
+    Ok(stages_differ && files_differ)
+}
+
+fn set_counters(state: &mut HostState, part: CounterPart)
+    ensures { content state.new ≡ with_counters part (content state.old) }
+{
+    state.default_queue = part.default_queue;
+    state.global_limit = part.global_limit;
+    state.patience = part.patience;
+    state.retry_wait = part.retry_wait;
+    state.seq = part.seq;
+    state.arrivals = part.arrivals;
+    state.file_next = part.file_next;
+}
+
+/// The state of the parts, unless two of a table have one key.
+pub(crate) fn build(alloc: Global, parts: Parts) -> Result<Option<HostState>, AllocError>
+    ensures some { IfOk result (λ built. IfSome built (λ state. content state ≡ state_of parts)) }
+    ensures distinct { IfOk result (λ built. IfSome built (λ _. are_keys_distinct (state_of parts) ≡ true)) }
+    ensures none { IfOk result (λ built. IfNone built (are_keys_distinct (state_of parts) ≡ false)) }
+{
+    let Parts {
+        site,
+        requests,
+        dealings,
+        counters,
+    } = parts;
+    let mut state = blank(alloc);
+    set_counters(&mut state, counters);
+    if !fill_site(&mut state, site)? {
+        return Ok(None);
+    }
+    if !fill_requests(&mut state, requests)? {
+        return Ok(None);
+    }
+    if !fill_dealings(&mut state, dealings)? {
+        return Ok(None);
+    }
+    Ok(Some(state))
+}
