@@ -7,3 +7,4 @@ pub mod PartLaws
 pub mod StateLaws
 pub mod SoundLaws
 pub mod Snapshots
+pub mod Marks

@@ -1,6 +1,6 @@
 -- What a state in order says of each of its requests, outputs and files.
 use Rattle.std.proofs.Common.{◌≡◌, Bool, true, ◌&&◌, IsTrue, List, [], ◌∷◌}
-use Rattle.std.proofs.lemmas.Bool.{and_parts}
+use Rattle.std.proofs.lemmas.Bool.{and_parts, and_from}
 use Rattle.std.specs.List.{list_all, AllByRecursion}
 use Rattle.nqs_values.specs.declared.extent.Extent.{Extent}
 use Rattle.nqs_values.specs.Path.{is_path}
@@ -14,6 +14,10 @@ use Rattle.nqs_rules.specs.Find.{find_peer}
 use Rattle.nqs_rules.specs.Sane.{is_sane_job}
 use Rattle.nqs_rules.specs.InOrder.{IsInOrder, is_row_right, is_promise_right, is_stage_right, is_file_right, is_stage_given, is_given}
 use Rattle.nqs_rules.proofs.RowFacts.{row_is, promise_is}
+use Rattle.nqs_records.specs.Values.{IsJob}
+use Rattle.nqs_records.proofs.SaneLaws.{path_sane}
+use Rattle.nqs_types.specs.declared.request.Job.{Job}
+use Rattle.nqs_snapshot.specs.Values.{IsRow, IsPromise, IsStage, IsFile, MayStand}
 
 -- what each that passes a test is
 pub each_is : {V : Type 0} (p : V → Bool) (Is : V → Type 0) → ((v : V) → p v ≡ true → Is v) → (vs : List V) → list_all p vs ≡ true → AllByRecursion Is vs
@@ -35,3 +39,25 @@ module _ (s : State Extent) (h : IsInOrder s) where
   pub files_sane : AllByRecursion (λ (f : FileOut Extent). IsTrue (is_path f.path)) s.files
   files_sane = each_is (is_file_right s) (λ (f : FileOut Extent). IsTrue (is_path f.path))
       (λ f k. (and_parts (is_path f.path) (is_given f.number s.file_next) k).0) s.files h.files
+
+-- what has a field is sane
+
+job_sane : (j : Job) → IsJob j → IsTrue (is_sane_job j)
+job_sane j is = and_from _ _ (and_from _ _ is.2 (path_sane j.out is.8)) (path_sane j.err is.9)
+
+pub each_so : {V : Type 0} (P Q : V → Type 0) → ((v : V) → P v → Q v) → (vs : List V) → AllByRecursion P vs → AllByRecursion Q vs
+each_so P Q to [] all = tt
+each_so P Q to (v ∷ vs) all = (to v all.0, each_so P Q to vs all.1)
+
+module _ (s : State Extent) (h : MayStand s) where
+  pub rows_stand : AllByRecursion (λ (r : Row Extent). IsTrue (is_sane_job r.job)) s.rows
+  rows_stand = each_so IsRow (λ (r : Row Extent). IsTrue (is_sane_job r.job)) (λ r k. job_sane r.job k.1) s.rows h.1.0.1
+
+  pub promises_stand : AllByRecursion (λ (p : Promise Extent). IsTrue (is_sane_job p.row.job)) s.promises
+  promises_stand = each_so IsPromise (λ (p : Promise Extent). IsTrue (is_sane_job p.row.job)) (λ p k. job_sane p.row.job k.2.1) s.promises h.1.2.1
+
+  pub stages_stand : AllByRecursion (λ (t : Stage Extent). IsTrue (is_path t.path)) s.stages
+  stages_stand = each_so IsStage (λ (t : Stage Extent). IsTrue (is_path t.path)) (λ t k. path_sane t.path k.2) s.stages h.2.1.1
+
+  pub files_stand : AllByRecursion (λ (f : FileOut Extent). IsTrue (is_path f.path)) s.files
+  files_stand = each_so IsFile (λ (f : FileOut Extent). IsTrue (is_path f.path)) (λ f k. path_sane f.path k.1) s.files h.2.2.1

@@ -11,65 +11,61 @@ use Rattle.nqs_rules.specs.InOrder.{are_keys_distinct, arrivals_of, is_queue_rig
 use Rattle.nqs_rules.specs.InOrder.{is_hand_right, has_few_hands, offered_ids, is_peer_right, is_stage_right, is_file_right}
 use Rattle.nqs_rules.specs.InOrder.{is_doom_right, is_hold_right, has_hand, is_promise_free, is_hand_of_given}
 use Rattle.nqs_rules.proofs.Chains.{each, chained}
-use Rattle.nqs_snapshot.specs.Sound.{is_right, is_consistent, is_sound, SoundIsInOrder}
+use Rattle.nqs_snapshot.specs.Sound.{are_bounds_right, are_values_right, are_hands_few, are_numbers_distinct, is_right, is_consistent, is_sound}
+use Rattle.nqs_snapshot.specs.Sound.{SoundIsInOrder}
 
--- the tests of a state, behind the first
-abbrev right_tests : State Extent → List Bool
-right_tests s =
-    are_parameters_right s ∷ are_lists_short s ∷ are_distinct same_number (arrivals_of s)
-    ∷ list_all (is_queue_right s) s.queues ∷ list_all (is_complex_right s) s.complexes ∷ list_all (is_row_right s) s.rows
-    ∷ list_all (is_promise_right s) s.promises ∷ are_distinct same_host (promisers s) ∷ list_all (is_hand_right s) s.hands
-    ∷ list_all (has_few_hands s) s.hands ∷ are_distinct id_eq (offered_ids s) ∷ list_all is_peer_right s.peers
-    ∷ list_all (is_stage_right s) s.stages ∷ list_all (is_file_right s) s.files ∷ []
+-- the tests of a state's values, behind the first
+abbrev value_tests : State Extent → List Bool
+value_tests s =
+    list_all (is_complex_right s) s.complexes ∷ list_all (is_row_right s) s.rows ∷ list_all (is_promise_right s) s.promises
+    ∷ list_all (is_hand_right s) s.hands ∷ list_all is_peer_right s.peers ∷ list_all (is_stage_right s) s.stages ∷ list_all (is_file_right s) s.files ∷ []
 
 abbrev consistent_tests : State Extent → List Bool
 consistent_tests s =
     list_all is_hold_right s.rows ∷ list_all (has_hand s) s.rows ∷ list_all is_promise_free s.promises ∷ list_all (is_hand_of_given s) s.hands ∷ []
 
 order_of : (s : State Extent) → are_keys_distinct s ≡ true → is_right s ≡ true → IsInOrder s
-unfolding is_right
+unfolding is_right are_bounds_right are_values_right are_hands_few are_numbers_distinct
 order_of s keys h =
-    let p = each (is_site_right s) (right_tests s) h in
+    let p = and_parts (are_bounds_right s) (are_values_right s && (are_hands_few s && are_numbers_distinct s)) h in
+    let q = and_parts (are_values_right s) (are_hands_few s && are_numbers_distinct s) p.1 in
+    let r = and_parts (are_hands_few s) (are_numbers_distinct s) q.1 in
+    let b = each (is_site_right s) (are_parameters_right s ∷ are_lists_short s ∷ []) p.0 in
+    let v = each (list_all (is_queue_right s) s.queues) (value_tests s) q.0 in
+    let n = and_parts (are_distinct same_number (arrivals_of s)) (are_distinct same_host (promisers s) && are_distinct id_eq (offered_ids s)) r.1 in
+    let m = and_parts (are_distinct same_host (promisers s)) (are_distinct id_eq (offered_ids s)) n.1 in
     record {
-      site = p.0;
-      parameters = p.1.0;
-      short = p.1.1.0;
+      site = b.0;
+      parameters = b.1.0;
+      short = b.1.1.0;
       keys = keys;
-      arrivals = p.1.1.1.0;
-      queues = p.1.1.1.1.0;
-      complexes = p.1.1.1.1.1.0;
-      rows = p.1.1.1.1.1.1.0;
-      promises = p.1.1.1.1.1.1.1.0;
-      promisers = p.1.1.1.1.1.1.1.1.0;
-      hands = p.1.1.1.1.1.1.1.1.1.0;
-      few = p.1.1.1.1.1.1.1.1.1.1.0;
-      offers = p.1.1.1.1.1.1.1.1.1.1.1.0;
-      peers = p.1.1.1.1.1.1.1.1.1.1.1.1.0;
-      stages = p.1.1.1.1.1.1.1.1.1.1.1.1.1.0;
-      files = p.1.1.1.1.1.1.1.1.1.1.1.1.1.1.0;
+      arrivals = n.0;
+      queues = v.0;
+      complexes = v.1.0;
+      rows = v.1.1.0;
+      promises = v.1.1.1.0;
+      promisers = m.0;
+      hands = v.1.1.1.1.0;
+      few = r.0;
+      offers = m.1;
+      peers = v.1.1.1.1.1.0;
+      stages = v.1.1.1.1.1.1.0;
+      files = v.1.1.1.1.1.1.1.0;
     }
 
 right_of : (s : State Extent) → IsInOrder s → is_right s ≡ true
-unfolding is_right
-right_of s h = chained (is_site_right s) (right_tests s) (
-  h.site,
-  (
-    h.parameters,
-    (
-      h.short,
-      (
-        h.arrivals,
-        (
-          h.queues,
-          (
-            h.complexes,
-            (h.rows, (h.promises, (h.promisers, (h.hands, (h.few, (h.offers, (h.peers, (h.stages, (h.files, tt))))))))),
-          ),
-        ),
-      ),
-    ),
-  ),
-)
+unfolding is_right are_bounds_right are_values_right are_hands_few are_numbers_distinct
+right_of s h =
+    let b : are_bounds_right s ≡ true =
+    chained (is_site_right s) (are_parameters_right s ∷ are_lists_short s ∷ []) (h.site, (h.parameters, (h.short, tt))) in
+    let v : are_values_right s ≡ true =
+    chained (list_all (is_queue_right s) s.queues) (value_tests s)
+    (h.queues, (h.complexes, (h.rows, (h.promises, (h.hands, (h.peers, (h.stages, (h.files, tt)))))))) in
+    let n : are_numbers_distinct s ≡ true =
+    and_from (are_distinct same_number (arrivals_of s)) (are_distinct same_host (promisers s) && are_distinct id_eq (offered_ids s)) h.arrivals
+    (and_from (are_distinct same_host (promisers s)) (are_distinct id_eq (offered_ids s)) h.promisers h.offers) in
+    and_from (are_bounds_right s) (are_values_right s && (are_hands_few s && are_numbers_distinct s)) b
+    (and_from (are_values_right s) (are_hands_few s && are_numbers_distinct s) v (and_from (are_hands_few s) (are_numbers_distinct s) h.few n))
 
 consistent_of : (s : State Extent) → is_consistent s ≡ true → IsConsistent s
 unfolding is_consistent

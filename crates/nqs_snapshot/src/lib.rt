@@ -3,8 +3,13 @@
 #![tactic(auto)]
 
 mod build;
+mod consistent;
+mod differ;
 mod field;
 mod lists;
+mod order;
+mod order_queues;
+mod order_requests;
 mod parts;
 mod put_dealings;
 mod put_queues;
