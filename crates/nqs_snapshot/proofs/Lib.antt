@@ -8,3 +8,4 @@ pub mod StateLaws
 pub mod SoundLaws
 pub mod Snapshots
 pub mod Marks
+pub mod FewHands

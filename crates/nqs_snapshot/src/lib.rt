@@ -5,6 +5,7 @@
 mod build;
 mod consistent;
 mod differ;
+mod few;
 mod field;
 mod lists;
 mod order;
@@ -14,10 +15,13 @@ mod parts;
 mod put_dealings;
 mod put_queues;
 mod put_requests;
+mod read;
 mod read_dealings;
 mod read_queues;
 mod read_requests;
+mod sound;
 mod tables;
 mod write;
 
+pub use read::read_state;
 pub use write::write_state;

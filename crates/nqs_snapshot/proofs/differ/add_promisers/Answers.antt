@@ -6,6 +6,6 @@ pub loop-place-preserved : goal.loop-place-preserved
 loop-place-preserved c = (
   c.loop-place.invariant.0
       ∙ one_more (λ n. n.0) (λ p. p.peer.0) c.loop-place.numbers.items _ c.args.promises.now.items c.loop-place.place c.at.result.now _ c.at.ensures c.in_ok-push.ensures.items
-      refl,
+      c.from.ensures,
   omega (arith, c.loop-place-test.true, c.len.ensures),
 )

@@ -1,0 +1,63 @@
+//! A whole state, read.
+
+ghost use Rattle.std.specs.Prelude.{◌≢◌, IfOk, IfErr};
+ghost use Rattle.nqs_values.specs.Want.{want};
+ghost use Rattle.nqs_state.specs.State.{content};
+ghost use Rattle.nqs_records.specs.Reading.{Answers};
+ghost use Rattle.nqs_records.specs.declared.fault.RecordFault.TheVariants.{Memory};
+ghost use Rattle.nqs_snapshot.specs.Values.{MayStand};
+ghost use Rattle.nqs_snapshot.specs.Reading.{parts_at, state_of, or_bad, whole_of, snapshot_of};
+ghost use Rattle.nqs_snapshot.specs.Laws.{IsSpelledBy, SpellsNone, told_by};
+
+use crate::build::build;
+use crate::parts::{Parts, read_parts};
+use crate::sound::may_go_on;
+use nqs_records::RecordFault;
+use nqs_state::HostState;
+use std::alloc::Global;
+
+// The parts that the whole list spells.
+#[tactic(auto, unfolding(crate::specs::Reading::whole_of))]
+fn read_whole(alloc: Global, bytes: &[u8]) -> Result<Parts, RecordFault>
+    ensures { Answers (whole_of bytes.now) result }
+{
+    let (parts, end) = read_parts(alloc, bytes, 0)?;
+    if end < bytes.len() as u64 {
+        return Err(RecordFault::Trailing(end));
+    }
+    Ok(parts)
+}
+
+// The state of the parts, where a host may go on from it.
+#[tactic(auto, unfolding(crate::specs::Sound::is_sound))]
+fn sound_state(alloc: Global, parts: Parts) -> Result<HostState, RecordFault>
+    requires { MayStand (state_of parts) }
+    ensures { Answers (or_bad (state_of parts)) (told_by result) }
+{
+    let Some(state) = build(alloc, parts)? else {
+        return Err(RecordFault::BadField(0));
+    };
+    if !may_go_on(alloc, &state)? {
+        return Err(RecordFault::BadField(0));
+    }
+    Ok(state)
+}
+
+#[tactic(auto, unfolding(crate::specs::Reading::snapshot_of))]
+fn read_snapshot(alloc: Global, bytes: &[u8]) -> Result<HostState, RecordFault>
+    ensures { Answers (snapshot_of bytes.now) (told_by result) }
+{
+    let parts = read_whole(alloc, bytes)?;
+    sound_state(alloc, parts)
+}
+
+/// Reads the whole list as one state from which a host goes on: one in order, and consistent. A
+/// fault other than `Memory` is the first from the left; a state that reads and isn't in order is
+/// `BadField(0)`.
+pub fn read_state(alloc: Global, bytes: &[u8]) -> Result<HostState, RecordFault>
+    ensures answer { Answers (snapshot_of bytes.now) (told_by result) }
+    ensures ok { IfOk result (λ state. IsSpelledBy bytes.now (content state)) }
+    ensures none { IfErr result (λ fault. fault ≢ Memory want → SpellsNone bytes.now) }
+{
+    read_snapshot(alloc, bytes)
+}
