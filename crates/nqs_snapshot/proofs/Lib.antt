@@ -9,3 +9,5 @@ pub mod SoundLaws
 pub mod Snapshots
 pub mod Marks
 pub mod FewHands
+pub mod SteadyParts
+pub mod FirstFaults

@@ -4,4 +4,6 @@ pub mod Readings
 pub mod Sound
 pub mod Reading
 pub mod Laws
+pub mod Faults
+pub mod Alpha
 pub mod Blank

@@ -7,6 +7,7 @@ mod consistent;
 mod differ;
 mod few;
 mod field;
+mod laws;
 mod lists;
 mod order;
 mod order_queues;
@@ -23,5 +24,6 @@ mod sound;
 mod tables;
 mod write;
 
+pub use laws::{first_faults, formatted_host, reads_the_spelling, sound_is_in_order, spells_one};
 pub use read::read_state;
 pub use write::write_state;
