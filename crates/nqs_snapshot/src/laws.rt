@@ -2,7 +2,7 @@
 //!
 //! A caller calls the function for its contract; it does nothing.
 
-ghost use Rattle.std.specs.Prelude.{◌≡◌, codes, [], ◌∷◌, Err};
+ghost use Rattle.std.specs.Prelude.{◌≡◌, codes, [], ◌∷◌, length, Err};
 ghost use Rattle.nqs_records.specs.declared.fault.RecordFault.TheVariants.{Short};
 ghost use Rattle.nqs_rules.specs.Find.{host_at};
 ghost use Rattle.nqs_rules.specs.Format.{formatted};
@@ -34,9 +34,10 @@ pub fn first_faults()
     ensures { FirstFaults }
 {}
 
-/// What a formatted host of host alpha alone is written as: 214 bytes. Of no bytes at all the
+/// What a formatted host of host alpha alone is written as: 226 bytes. Of no bytes at all the
 /// answer is `Short(0)`.
 pub fn formatted_host()
     ensures bytes { state_field (formatted (host_at 0) (codes "alpha" ∷ [])) ≡ alpha_snapshot }
+    ensures length { length alpha_snapshot ≡ 226 }
     ensures none { snapshot_of [] ≡ Err (Short 0) }
 {}

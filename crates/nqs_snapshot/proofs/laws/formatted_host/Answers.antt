@@ -11,6 +11,9 @@ pub returns-clause-bytes : goal.returns-clause-bytes
 unfolding u8_field u16_field u32_field u64_field short_field bool_field many_field access_field limits_field settings_field queue_field peer_field site_part request_part dealing_part counter_part state_field
 returns-clause-bytes c = refl
 
+pub returns-clause-length : goal.returns-clause-length
+returns-clause-length c = refl
+
 pub returns-clause-none : goal.returns-clause-none
 unfolding u8_at number_at host_at site_at parts_at whole_of snapshot_of
 returns-clause-none c = refl
