@@ -25,6 +25,7 @@ abbrev pub of_words : Result Command WordsFault → Command
 of_words (Ok c) = c
 of_words (Err fault) = command.UnreadWords fault
 
+-- the submission that the words of qsub make with their script, or their fault
 abbrev pub submitted : List ℕ → List (List ℕ) → List ℕ → Result Options WordsFault → Result Command WordsFault
 submitted user words script (Ok o) = Ok (command.Submit (submission user words script o))
 submitted user words script (Err fault) = Err fault
@@ -33,6 +34,7 @@ submitted user words script (Err fault) = Err fault
 abbrev pub qsub_command : List ℕ → List (List ℕ) → List ℕ → Command
 qsub_command user words script = of_words (submitted user words script (qsub_options words script))
 
+-- what the words of qstat ask, as a command, or their fault
 abbrev pub listed : Result Asked WordsFault → Result Command WordsFault
 listed (Ok asked) = Ok (command.Stat asked.user asked.queues)
 listed (Err fault) = Err fault
@@ -41,6 +43,7 @@ listed (Err fault) = Err fault
 abbrev pub named_submission : List ℕ → List ℕ → Command
 named_submission user name = qsub_command user (codes "-r" ∷ name ∷ []) []
 
+-- what an event of a schedule asks of the network
 abbrev pub act_of : WorldEvent → Act
 act_of (line.Submit user name) = Asks (host_at 0) user (named_submission user name)
 act_of (line.Qsub host user script words) = Asks host user (qsub_command user words script)

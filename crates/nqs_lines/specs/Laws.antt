@@ -14,12 +14,15 @@ use Rattle.nqs_lines.specs.Acts.{of_line, of_words, listed, qsub_command, act_of
 abbrev pub SubmissionsAreSane : Type 0
 SubmissionsAreSane = (user : List ℕ) (words : List (List ℕ)) (script : List ℕ) → IsTrue (is_sane_command (qsub_command user words script))
 
+-- whatever the line of qmgr is
 abbrev pub EditsAreSane : Type 0
 EditsAreSane = (line : List ℕ) → IsTrue (is_sane_command (of_line (qmgr_line line)))
 
+-- whatever the words of qstat are
 abbrev pub ListsAreSane : Type 0
 ListsAreSane = (words : List (List ℕ)) → IsTrue (is_sane_command (of_words (listed (stat_of words))))
 
+-- whatever the words of qdel are
 abbrev pub DeletionsAreSane : Type 0
 DeletionsAreSane = (words : List (List ℕ)) → IsTrue (is_sane_command (of_words (delete_of words)))
 

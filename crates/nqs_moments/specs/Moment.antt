@@ -21,6 +21,7 @@ misfit [] place (b ∷ bs) = Some place
 misfit (t ∷ ts) place [] = Some place
 misfit (t ∷ ts) place (b ∷ bs) = if suits t b then misfit ts (place + 1) bs else Some place
 
+-- the form of a moment; a `0` stands for any digit
 abbrev pub moment_form : List ℕ
 moment_form = codes "0000-00-00T00:00:00"
 

@@ -36,6 +36,7 @@ NoWord line place f = Ends line place × (f ≡ fault.Missing (length line))
 abbrev pub WordTooMany : List ℕ → ℕ → GrammarFault → Type 0
 WordTooMany line place f = (word : Word) × (next_word SpacesAndTabs line place ≡ Some word) × (f ≡ fault.Extra word.start)
 
+-- why a word names no keyword, as a fault at its place
 abbrev pub unnamed : NoKeyword → ℕ → GrammarFault
 unnamed Unknown place = fault.UnknownWord place
 unnamed Ambiguous place = fault.Ambiguous place
@@ -45,6 +46,7 @@ abbrev pub NamesNone : List Keyword → List ℕ → Word → GrammarFault → T
 NamesNone keywords line word f = (why : NoKeyword) × (keyword_of keywords (slice_range line word.start (stem_of line word)) ≡ Err why)
     × (f ≡ unnamed why word.start)
 
+-- a word stands next, and names none of the keywords, or more than one
 abbrev pub NoKeywordThere : List Keyword → List ℕ → ℕ → GrammarFault → Type 0
 NoKeywordThere keywords line place f = (word : Word) × (next_word SpacesAndTabs line place ≡ Some word) × NamesNone keywords line word f
 
@@ -57,6 +59,7 @@ abbrev pub NoName : List ℕ → ℕ → GrammarFault → Type 0
 NoName line place f = NoWord line place f ⊎ ((word : Word) × (next_word SpacesAndTabs line place ≡ Some word)
     × ((name_of (word_text line word) ≡ None) × (f ≡ fault.BadName word.start)))
 
+-- why a word is no request, as a fault at its place
 abbrev pub unread_request : NotNamed → ℕ → GrammarFault
 unread_request BadNumber place = fault.BadNumber place
 unread_request BadName place = fault.BadName place
@@ -67,6 +70,7 @@ NoRequest line place f =
     NoWord line place f ⊎ ((word : Word) × (next_word SpacesAndTabs line place ≡ Some word)
     × ((why : NotNamed) × (named_of (word_text line word) ≡ Err why) × (f ≡ unread_request why word.start)))
 
+-- the keyword has a `=`, and behind it its value
 abbrev pub HasValue : Head → Type 0
 HasValue head = head.stem < head.word.end
 
@@ -112,6 +116,7 @@ value_of (two_names f) = Some a_name
 value_of (dest_and_name f) = Some a_dest
 value_of _ = None
 
+-- what stands behind the second keyword in a line of this shape
 abbrev pub rest_of : Shape → Rest
 rest_of (one_name f) = a_name_then the_end
 rest_of (number_and_name low high f) = a_name_then the_end
@@ -165,6 +170,7 @@ FaultsBehind keywords line place s [] f = NoOption keywords line place s f
 FaultsBehind keywords line place s (head ∷ heads) f =
     HasHead keywords line place head × ((more : Settings) × GivesOption line head s head.keyword more × FaultsBehind keywords line head.word.end more heads f)
 
+-- a fault in the options of these keywords, where none is given yet
 abbrev pub FaultsOptions : List Keyword → List ℕ → ℕ → GrammarFault → Type 0
 FaultsOptions keywords line place f = (heads : List Head) × FaultsBehind keywords line place no_settings heads f
 
@@ -185,6 +191,7 @@ FaultsRest (some_options keywords) line place f = FaultsOptions keywords line pl
 abbrev pub FaultsFrom : Option Value → Rest → List ℕ → Head → GrammarFault → Type 0
 FaultsFrom value rest line head f = Misstands value line head f ⊎ (Stands value line head × FaultsRest rest line head.word.end f)
 
+-- a fault from the second keyword on, where the table wants this shape
 abbrev pub FaultsShape : Shape → List ℕ → Head → GrammarFault → Type 0
 FaultsShape nothing line head f = f ≡ fault.UnknownWord head.word.start
 FaultsShape shape line head f = FaultsFrom (value_of shape) (rest_of shape) line head f
@@ -194,6 +201,7 @@ abbrev pub FaultsNoun : List ℕ → ℕ → Keyword → GrammarFault → Type 0
 FaultsNoun line place verb f = NoHead (nouns verb) line place f ⊎ ((head : Head) × HasHead (nouns verb) line place head
     × FaultsShape (shape_of verb head.keyword) line head f)
 
+-- a fault from the verb on: `shutdown` stands alone, behind any other comes a second keyword
 abbrev pub FaultsVerb : List ℕ → Head → Keyword → GrammarFault → Type 0
 FaultsVerb line verb k.Shutdown f = FaultsFrom None the_end line verb f
 FaultsVerb line verb keyword f = ValueTooMany verb f ⊎ (HasNoValue verb × FaultsNoun line verb.word.end keyword f)

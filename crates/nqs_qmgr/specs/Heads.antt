@@ -27,35 +27,42 @@ pub record FitsLine (line : List ℕ) (head : Head) : Type 0 where
   pub above : head.word.start ≤ head.stem
   pub below : head.stem ≤ head.word.end
 
+-- the bytes of a word of the line
 abbrev pub word_text : List ℕ → Word → List ℕ
 word_text line word = slice_range line word.start word.end
 
 -- ---- words
 
+-- the next word, or that it is missing, at the end of the line
 unfoldable pub word_at : List ℕ → ℕ → Read Word
 word_at line place = or_fault (next_word SpacesAndTabs line place) (fault.Missing (length line))
 
+-- the name that stands next, and the place behind it
 unfoldable pub name_at : List ℕ → ℕ → Read (List ℕ × ℕ)
 name_at line place = do
   word ← word_at line place
   name ← or_fault (name_of (word_text line word)) (fault.BadName word.start)
   Ok (name, word.end)
 
+-- the request that a word says, or the fault at the place of that word
 abbrev pub or_not_named : ℕ → Result Named NotNamed → Read Named
 or_not_named place (Ok id) = Ok id
 or_not_named place (Err BadNumber) = Err (fault.BadNumber place)
 or_not_named place (Err BadName) = Err (fault.BadName place)
 
+-- the request that stands next, and the place behind it
 unfoldable pub request_at : List ℕ → ℕ → Read (Named × ℕ)
 request_at line place = do
   word ← word_at line place
   id ← or_not_named word.start (named_of (word_text line word))
   Ok (id, word.end)
 
+-- a word that is left is one too many
 abbrev pub nothing_more : Option Word → Read (Unit {0})
 nothing_more None = Ok tt
 nothing_more (Some word) = Err (fault.Extra word.start)
 
+-- no word may stand from the place on
 unfoldable pub nothing_after : List ℕ → ℕ → Read (Unit {0})
 nothing_after line place = nothing_more (next_word SpacesAndTabs line place)
 
@@ -72,6 +79,7 @@ last_name line place = do
 unfoldable pub stem_of : List ℕ → Word → ℕ
 stem_of line word = word.start + unwrap_or (place_of 61 (word_text line word)) (word.end - word.start)
 
+-- the keyword that a word names, or the fault at the place of that word
 abbrev pub chosen : ℕ → Result Keyword NoKeyword → Read Keyword
 chosen place (Ok keyword) = Ok keyword
 chosen place (Err Unknown) = Err (fault.UnknownWord place)
@@ -83,6 +91,7 @@ head_of keywords line word = do
   keyword ← chosen word.start (keyword_of keywords (slice_range line word.start (stem_of line word)))
   Ok (record { keyword = keyword; word = word; stem = stem_of line word })
 
+-- the keyword that the next word names
 unfoldable pub head_at : List Keyword → List ℕ → ℕ → Read Head
 head_at keywords line place = do
   word ← word_at line place

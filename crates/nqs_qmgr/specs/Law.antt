@@ -70,6 +70,7 @@ SharesWords line other end =
     ((place : ℕ) (word : Word) → next_word SpacesAndTabs line place ≡ Some word → word.end ≤ end → next_word SpacesAndTabs other place ≡ Some word)
     × ((from to : ℕ) → to ≤ end → slice_range line from to ≡ slice_range other from to)
 
+-- the place that a fault tells, in bytes from the start of the line
 abbrev pub place_of : GrammarFault → ℕ
 place_of (fault.UnknownWord place) = place
 place_of (fault.Ambiguous place) = place

@@ -32,18 +32,23 @@ use Rattle.nqs_qmgr.specs.Shapes.{request_and_name, request_and_priority, name_a
 
 -- ---- commands
 
+-- an edit of queues or parameters as a command
 abbrev pub of_conf : ConfEdit → Command
 of_conf e = command.Edit (edit.Conf e)
 
+-- an edit of limits or complexes as a command
 abbrev pub of_limits : LimitsEdit → Command
 of_limits e = command.Edit (edit.Limits e)
 
+-- an edit of who may do what as a command
 abbrev pub of_access : AccessEdit → Command
 of_access e = command.Edit (edit.Access e)
 
+-- an edit of devices as a command
 abbrev pub of_devices : DevicesEdit → Command
 of_devices e = command.Edit (edit.Devices e)
 
+-- an edit of requests as a command
 abbrev pub of_rows : RowsEdit → Command
 of_rows e = command.Edit (edit.Rows e)
 
@@ -148,11 +153,13 @@ shape_of verb noun = option_map_or (λ (l : Line). l.shape) (find (is_line verb 
 
 -- ---- reading a shape, from its keyword on
 
+-- a keyword without a value, and nothing behind it
 unfoldable pub read_alone : List ℕ → Head → Read (Unit {0})
 read_alone line head = do
   place ← bare head
   nothing_after line place
 
+-- a name behind the keyword, and nothing more
 unfoldable pub read_one_name : List ℕ → Head → Read (List ℕ)
 read_one_name line head = do
   place ← bare head
@@ -172,6 +179,7 @@ read_value_and_name read bad line head = do
   name ← last_name line head.word.end
   Ok (a, name)
 
+-- a request behind the keyword, and nothing more
 unfoldable pub read_one_request : List ℕ → Head → Read Named
 read_one_request line head = do
   place ← bare head
@@ -179,6 +187,7 @@ read_one_request line head = do
   done ← nothing_after line id.1
   Ok id.0
 
+-- a request and a name behind the keyword, and nothing more
 unfoldable pub read_request_and_name : List ℕ → Head → Read (Named × List ℕ)
 read_request_and_name line head = do
   place ← bare head
@@ -192,6 +201,7 @@ last_value read bad keyword line place = do
   head ← head_at (keyword ∷ []) line place
   read_value read bad line head
 
+-- a request and its new priority behind the keyword, and nothing more
 unfoldable pub read_request_and_priority : List ℕ → Head → Read (Named × ℕ)
 read_request_and_priority line head = do
   place ← bare head
@@ -199,6 +209,7 @@ read_request_and_priority line head = do
   n ← last_value (number_of 0 63) fault.BadNumber k.Priority line id.1
   Ok (id.0, n)
 
+-- a name and the forms behind the keyword, and nothing more
 unfoldable pub read_name_and_forms : List ℕ → Head → Read (List ℕ × List ℕ)
 read_name_and_forms line head = do
   place ← bare head
@@ -206,6 +217,7 @@ read_name_and_forms line head = do
   forms ← last_value name_of fault.BadName k.Forms line name.1
   Ok (name.0, forms)
 
+-- the name of a new queue behind the keyword, and what its options set
 unfoldable pub read_made_queue : List Keyword → List ℕ → Head → Read (List ℕ × Settings)
 read_made_queue keywords line head = do
   place ← bare head
@@ -213,6 +225,7 @@ read_made_queue keywords line head = do
   settings ← options 5 keywords line name.1 no_settings
   Ok (name.0, settings)
 
+-- the command of a line of this shape
 unfoldable pub read_shape : Shape → List ℕ → Head → Read Command
 read_shape nothing line head = Err (fault.UnknownWord head.word.start)
 read_shape (alone c) line head = read_alone line head >>= (λ done. Ok c)
@@ -231,6 +244,7 @@ read_shape (made_queue keywords f) line head = read_made_queue keywords line hea
 
 -- ---- lines
 
+-- the command from the verb on: `shutdown` stands alone, behind any other comes a second keyword
 unfoldable pub after_verb : List ℕ → Head → Keyword → Read Command
 after_verb line verb k.Shutdown = read_alone line verb >>= (λ done. Ok command.Shutdown)
 after_verb line verb keyword = bare verb >>= (λ place. head_at (nouns keyword) line place >>= (λ head. read_shape (shape_of keyword head.keyword) line head))

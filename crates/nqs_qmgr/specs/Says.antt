@@ -25,6 +25,7 @@ pub record HasHead (keywords : List Keyword) (line : List ℕ) (place : ℕ) (he
   pub stem : head.stem ≡ stem_of line head.word
   pub named : keyword_of keywords (slice_range line head.word.start head.stem) ≡ Ok head.keyword
 
+-- the keyword has no `=`, and so no value
 abbrev pub HasNoValue : Head → Type 0
 HasNoValue head = head.word.end ≤ head.stem
 
@@ -97,6 +98,7 @@ GiveOptions keywords line place s [] all = Ends line place × (all ≡ s)
 GiveOptions keywords line place s (head ∷ heads) all =
     HasHead keywords line place head × ((more : Settings) × GivesOption line head s head.keyword more × GiveOptions keywords line head.word.end more heads all)
 
+-- what the options of these keywords set, up to the end of the line
 abbrev pub Options : List Keyword → List ℕ → ℕ → Settings → Type 0
 Options keywords line place all = (heads : List Head) × GiveOptions keywords line place no_settings heads all
 

@@ -7,6 +7,7 @@ use Rattle.nqs_words.specs.declared.keyword.Keyword.{Keyword}
 use Rattle.nqs_qmgr.specs.declared.value.Amount.{Amount}
 use Rattle.nqs_qmgr.specs.declared.options.Settings.{Settings}
 
+-- what stands in a line from its second keyword on, with the command that its values make
 pub data Shape : Type 0 where
   -- no such line
   nothing : Shape

@@ -14,16 +14,19 @@ use Rattle.nqs_snapshot.specs.declared.parts.Parts.{Parts}
 use Rattle.nqs_snapshot.specs.Readings.{many_at, queue_at, complex_at, device_at, row_at, hand_at, promise_at, peer_at, stage_at, file_at}
 use Rattle.nqs_snapshot.specs.Sound.{is_sound}
 
+-- who the host is, the hosts of its site, and its queues, complexes and devices
 unfoldable pub site_at : Reading SitePart
 site_at = mapped (λ v. record { me = v.0; site = v.1.0; queues = v.1.1.0; complexes = v.1.1.1.0; devices = v.1.1.1.1 }) (
     both host_at λ _. both (many_at name_at) λ _. both (many_at queue_at) λ _. both (many_at complex_at) λ _. many_at device_at
     )
 
+-- its requests, handovers and promises
 unfoldable pub requests_at : Reading RequestPart
 requests_at = mapped (λ v. record { rows = v.0; hands = v.1.0; promises = v.1.1 }) (
     both (many_at row_at) λ _. both (many_at hand_at) λ _. many_at promise_at
     )
 
+-- what it knows of each host, its stages and files, its managers and operators
 unfoldable pub dealings_at : Reading DealingPart
 dealings_at = mapped (λ v. record { peers = v.0; stages = v.1.0; files = v.1.1.0; managers = v.1.1.1.0; operators = v.1.1.1.1 }) (
     both (many_at peer_at) λ _. both (many_at stage_at) λ _. both (many_at file_at) λ _. both (many_at name_at) λ _. many_at name_at
@@ -45,11 +48,13 @@ counters_of v = record {
   file_next = v.1.1.1.1.1.1;
 }
 
+-- its parameters and counters
 unfoldable pub counters_at : Reading CounterPart
 counters_at = mapped counters_of (
     both (opt_at name_at) λ _. both u16_at λ _. both u64_at λ _. both u64_at λ _. both u32_at λ _. both u64_at λ _. u64_at
     )
 
+-- all parts of a state, in order
 unfoldable pub parts_at : Reading Parts
 parts_at = mapped (λ v. record { site = v.0; requests = v.1.0; dealings = v.1.1.0; counters = v.1.1.1 }) (
     both site_at λ _. both requests_at λ _. both dealings_at λ _. counters_at

@@ -59,15 +59,19 @@ row_state_of n = if n == 0 then Queued else (if n == 1 then Routing else Running
 abbrev pub phase_of : ℕ → Phase
 phase_of n = if n == 0 then Offered else Committed
 
+-- the kind of a queue: batch, device or pipe
 unfoldable pub kind_at : Reading Kind
 kind_at = mapped kind_of (number_at 2)
 
+-- who holds a request back
 unfoldable pub hold_at : Reading Hold
 hold_at = mapped hold_of (number_at 2)
 
+-- whether a request waits, is on its way or runs
 unfoldable pub row_state_at : Reading RowState
 row_state_at = mapped row_state_of (number_at 2)
 
+-- whose the request of a handover is
 unfoldable pub phase_at : Reading Phase
 phase_at = mapped phase_of (number_at 1)
 
@@ -76,14 +80,17 @@ abbrev pub access_of : Option (List (List ℕ)) → Access
 access_of None = All
 access_of (Some users) = Users users
 
+-- who may use a queue
 unfoldable pub access_at : Reading Access
 access_at = mapped access_of (opt_at (many_at name_at))
 
 -- ---- queues, complexes and devices
 
+-- the limits of processor time and of memory, each where there is one
 unfoldable pub limits_at : Reading Limits
 limits_at = mapped (λ v. record { cpu = v.0; memory = v.1 }) (both (opt_at u64_at) λ _. opt_at u64_at)
 
+-- a destination: its queue, and its host
 unfoldable pub dest_at : Reading Dest
 dest_at = mapped (λ v. record { queue = v.0; host = v.1 }) (both name_at λ _. host_at)
 
@@ -105,6 +112,7 @@ settings_of v = record {
   limits = v.1.1.1.1.1.1.1.1;
 }
 
+-- a queue but for its lists; its priority is at most 63
 unfoldable pub settings_at : Reading Settings
 settings_at = mapped settings_of (
     both name_at λ _. both kind_at λ _. both bool_at λ _. both bool_at λ _. both bool_at λ _. both (within (is_at_most 63) u8_at) λ _.
@@ -128,19 +136,23 @@ queue_of c access dests devices = record {
   devices = devices;
 }
 
+-- a queue: its settings, who may use it, its destinations and its devices
 unfoldable pub queue_at : Reading QueueDef
 queue_at = mapped (λ v. queue_of v.0 v.1.0 v.1.1.0 v.1.1.1) (
     both settings_at λ _. both access_at λ _. both (many_at dest_at) λ _. many_at name_at
     )
 
+-- a complex: its name, its limit, and its queues
 unfoldable pub complex_at : Reading ComplexDef
 complex_at = mapped (λ v. record { name = v.0; limit = v.1.0; queues = v.1.1 }) (both name_at λ _. both u16_at λ _. many_at name_at)
 
+-- a device: its name, its forms, and whether it is enabled
 unfoldable pub device_at : Reading DeviceDef
 device_at = mapped (λ v. record { name = v.0; forms = v.1.0; enabled = v.1.1 }) (both name_at λ _. both name_at λ _. bool_at)
 
 -- ---- requests
 
+-- a destination that refused a request, and the number of the refusal
 unfoldable pub refused_at : Reading Refused
 refused_at = mapped (λ v. record { dest = v.0; cause = v.1 }) (both dest_at λ _. u8_at)
 
@@ -162,6 +174,7 @@ course_of v = record {
   device = v.1.1.1.1.1.1.1.1;
 }
 
+-- where a request stands; pipe queues have moved it at most 32 times
 unfoldable pub course_at : Reading Course
 course_at = mapped course_of (
     both name_at λ _. both row_state_at λ _. both hold_at λ _. both u64_at λ _. both bool_at λ _. both u16_at λ _. both u16_at λ _.
@@ -186,6 +199,7 @@ row_of id job c refused script = record {
   script = script;
 }
 
+-- a request: its job, where it stands, the destinations that refused it, and where its script is
 unfoldable pub row_at : Reading (Row Extent)
 row_at = mapped (λ v. row_of v.0 v.1.0 v.1.1.0 v.1.1.1.0 v.1.1.1.1) (
     both id_at λ _. both job_at λ _. both course_at λ _. both (many_at refused_at) λ _. extent_at
@@ -193,23 +207,28 @@ row_at = mapped (λ v. row_of v.0 v.1.0 v.1.1.0 v.1.1.1.0 v.1.1.1.1) (
 
 -- ---- dealings with other hosts, and files
 
+-- a handover to another host
 unfoldable pub hand_at : Reading Hand
 hand_at =
     mapped (λ v. record { peer = v.0; number = v.1.0; id = v.1.1.0; queue = v.1.1.1.0; since = v.1.1.1.1.0; phase = v.1.1.1.1.1 })
     (both host_at λ _. both u64_at λ _. both id_at λ _. both name_at λ _. both u64_at λ _. phase_at)
 
+-- a request that was promised to be taken, with the number of its handover
 unfoldable pub promise_at : Reading (Promise Extent)
 promise_at = mapped (λ v. record { peer = v.0; number = v.1.0; row = v.1.1 }) (both host_at λ _. both u64_at λ _. row_at)
 
+-- what is known of another host: how far handovers and stages are, and until when to wait
 unfoldable pub peer_at : Reading Peer
 peer_at =
     mapped (λ v. record { next = v.0; closed = v.1.0; wait = v.1.1.0; stage_next = v.1.1.1.0; stage_got = v.1.1.1.1 })
     (both u64_at λ _. both u64_at λ _. both u64_at λ _. both u64_at λ _. u64_at)
 
+-- an output on its way to another host, and where its bytes are
 unfoldable pub stage_at : Reading (Stage Extent)
 stage_at =
     mapped (λ v. record { peer = v.0; number = v.1.0; path = v.1.1.0; bytes = v.1.1.1 })
     (both host_at λ _. both u64_at λ _. both path_at λ _. extent_at)
 
+-- an output that is to be a file of this host, and where its bytes are
 unfoldable pub file_at : Reading (FileOut Extent)
 file_at = mapped (λ v. record { number = v.0; path = v.1.0; bytes = v.1.1 }) (both u64_at λ _. both path_at λ _. extent_at)

@@ -7,6 +7,7 @@ use Rattle.nqs_limits.specs.Size.{size_unit, size}
 unfoldable pub time_of : List ℕ → Option ℕ
 time_of bytes = if is_none (time_fault bytes) && nat_lt (seconds bytes) (2 ^ 64) then Some (seconds bytes) else None
 
+-- the bytes of a size in this unit, where 64 bits hold them
 abbrev pub in_units : List ℕ → Option ℕ → Option ℕ
 in_units bytes (Some unit) = if nat_lt (size bytes unit) (2 ^ 64) then Some (size bytes unit) else None
 in_units bytes None = None

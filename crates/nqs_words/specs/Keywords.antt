@@ -74,9 +74,11 @@ begins [] text = true
 begins (b ∷ bs) [] = false
 begins (b ∷ bs) (t ∷ ts) = lower b == t && begins bs ts
 
+-- the word begins the keyword, in whatever case it is written
 abbrev pub shortens : List ℕ → Keyword → Bool
 shortens word keyword = begins word (spelling keyword)
 
+-- the word is the whole keyword, in whatever case it is written
 abbrev pub is_whole : List ℕ → Keyword → Bool
 is_whole word keyword = length word == length (spelling keyword) && shortens word keyword
 

@@ -8,6 +8,7 @@ use Rattle.nqs_moments.specs.Parts.{part}
 abbrev pub is_date : ℕ → ℕ → ℕ → Bool
 is_date year month day = (nat_le year 9999 && (nat_le 1 month && nat_le month 12)) && (nat_le 1 day && nat_le day (days_in_month (pos year) month))
 
+-- is it a time of day, without a leap second?
 abbrev pub is_time : ℕ → ℕ → ℕ → Bool
 is_time hour minute second = nat_lt hour 24 && (nat_lt minute 60 && nat_lt second 60)
 
@@ -15,10 +16,12 @@ is_time hour minute second = nat_lt hour 24 && (nat_lt minute 60 && nat_lt secon
 unfoldable pub seconds_to : ℕ → ℕ → ℕ → ℕ → ℕ → ℕ → ℤ
 seconds_to year month day hour minute second = (days_from_civil (pos year) month day *ℤ pos 86400) +ℤ pos (hour * 3600 + minute * 60 + second)
 
+-- a number that isn't below zero, as a natural one
 abbrev pub natural : ℤ → Option ℕ
 natural (pos n) = Some n
 natural (negsuc n) = None
 
+-- the moment of a civil date and time, from the first of 1970 to the end of the year 9999
 unfoldable pub second_of : ℕ → ℕ → ℕ → ℕ → ℕ → ℕ → Option ℕ
 second_of year month day hour minute second =
     if is_date year month day && is_time hour minute second then natural (seconds_to year month day hour minute second) else None

@@ -26,6 +26,7 @@ abbrev pub after : List ℕ → Quoted → Quoted
 after word None = None
 after word (Some p) = Some (word ++ p.0, p.1)
 
+-- a quoted word by what stands first: its end, no word at all, or a byte and then the rest
 abbrev pub by_step : List ℕ → Step → (List ℕ → Quoted) → Quoted
 by_step bytes Bad next = None
 by_step bytes End next = Some ([], drop 1 bytes)

@@ -50,9 +50,11 @@ use Rattle.nqs_types.specs.declared.refusal.Refusal.TheVariants.{RequestExists}
 abbrev pub fresh : Plain
 fresh = formatted (host 0) two_hosts
 
+-- the queue `batch` of the other host
 abbrev pub far : Dest
 far = record { queue = codes "batch"; host = host 1 }
 
+-- the queue of that name of the first host
 abbrev pub near : Dest
 near = record far { host = host 0 }
 
@@ -60,29 +62,37 @@ near = record far { host = host 0 }
 abbrev pub link : QueueDef
 link = new_queue (codes "link") Pipe None None false (far ∷ [])
 
+-- the first host with the queue that it was formatted with, and the pipe queue
 abbrev pub with_link : Plain
 with_link = record fresh { queues = first_queue ∷ link ∷ [] }
 
 -- states whose lists have so many items
 
+-- so many queues, all alike
 abbrev pub with_queues : ℕ → Plain
 with_queues n = record fresh { queues = replicate n first_queue }
 
+-- so many complexes, all alike
 abbrev pub with_complexes : ℕ → Plain
 with_complexes n = record fresh { complexes = replicate n (new_complex (codes "c")) }
 
+-- so many devices, all alike
 abbrev pub with_devices : ℕ → Plain
 with_devices n = record fresh { devices = replicate n (new_device (codes "d") (codes "f")) }
 
+-- so many managers, all alike
 abbrev pub with_managers : ℕ → Plain
 with_managers n = record fresh { managers = replicate n (codes "root") }
 
+-- so many operators, all alike
 abbrev pub with_operators : ℕ → Plain
 with_operators n = record fresh { operators = replicate n (codes "op") }
 
+-- a queue that so many users may use, all alike
 abbrev pub with_users : ℕ → Plain
 with_users n = record fresh { queues = record first_queue { access = Users (replicate n (codes "bob")) } ∷ [] }
 
+-- a pipe queue with so many destinations, all alike
 abbrev pub with_dests : ℕ → Plain
 with_dests n = record fresh { queues = record link { dests = replicate n far } ∷ [] }
 
@@ -92,12 +102,15 @@ refused e s = first_refusal (edit_causes e s)
 
 -- requests of the first host
 
+-- what goes to another host with the request of this number
 abbrev pub carried : ℕ → Carried
 carried seq = first_carried (request seq 0) (record (job_of (codes "ann")) { out = codes "o"; err = codes "e" })
 
+-- it waits in the queue `batch`
 abbrev pub queued : ℕ → Row (List ℕ)
 queued seq = new_row (carried seq) (codes "batch") seq []
 
+-- it waits in the pipe queue
 abbrev pub in_link : ℕ → Row (List ℕ)
 in_link seq = record (queued seq) { queue = codes "link" }
 
@@ -105,9 +118,11 @@ in_link seq = record (queued seq) { queue = codes "link" }
 abbrev pub refused_by : Dest → ℕ → Row (List ℕ)
 refused_by dest refusal = record (in_link 1) { refused = record { dest = dest; cause = refusal } ∷ [] }
 
+-- it runs, was started so many times, and lost each time but the last
 abbrev pub running : ℕ → Row (List ℕ)
 running n = record (queued 1) { state = Running; starts = n; lost = n - 1 }
 
+-- a host that has this request and no other
 abbrev pub with_row : Row (List ℕ) → Plain
 with_row r = record with_link { rows = r ∷ []; seq = 9; arrivals = 9 }
 
@@ -115,12 +130,15 @@ with_row r = record with_link { rows = r ∷ []; seq = 9; arrivals = 9 }
 abbrev pub on_its_way : Plain
 on_its_way = applied (HandOpened (host 1) 1 (request 1 0) (codes "batch") 7) (with_row (in_link 1))
 
+-- its request is the other host's, and the handover isn't done yet
 abbrev pub handed_over : Plain
 handed_over = applied (HandCommitted (host 1) 1) on_its_way
 
+-- a promise to take, by a handover of this number, the other host's request of that number
 abbrev pub promise : ℕ → ℕ → Promise (List ℕ)
 promise number seq = record { peer = host 1; number = number; row = record (queued seq) { id = request seq 1 } }
 
+-- the host has a promise and no request
 abbrev pub with_promise : Plain
 with_promise = record fresh { promises = promise 3 3 ∷ []; arrivals = 9 }
 
@@ -128,6 +146,7 @@ with_promise = record fresh { promises = promise 3 3 ∷ []; arrivals = 9 }
 abbrev pub crowded : ℕ → Plain
 crowded n = record with_promise { rows = replicate n (queued 1) }
 
+-- whether each of the changes fits the host
 abbrev pub fit_each : List (Change (List ℕ)) → Plain → List Bool
 fit_each cs s = map (λ c. fits c s) cs
 
@@ -165,6 +184,7 @@ order_tests s =
     ∷ list_all is_doom_right s.rows ∷ list_all is_hold_right s.rows ∷ list_all (has_hand s) s.rows ∷ list_all is_promise_free s.promises
     ∷ list_all (is_hand_of_given s) s.hands ∷ []
 
+-- the host passes each of these tests
 abbrev pub is_all_right : Plain → Bool
 is_all_right s = list_all (λ b. b) (order_tests s)
 
@@ -172,9 +192,11 @@ is_all_right s = list_all (λ b. b) (order_tests s)
 abbrev pub order_told : List (List ℕ) → List Act → List Bool
 order_told site acts = map is_all_right (states_of (run_of site acts).world)
 
+-- an output on its way to this host, by its number
 abbrev pub a_stage : ℕ → ℕ → Stage (List ℕ)
 a_stage peer number = record { peer = host peer; number = number; path = codes "o"; bytes = codes "s" }
 
+-- an output that is to be a file, by its number
 abbrev pub a_file : ℕ → FileOut (List ℕ)
 a_file number = record { number = number; path = codes "e"; bytes = codes "f" }
 
@@ -190,6 +212,7 @@ busy = record (formatted (host 0) (codes "alpha" ∷ codes "beta" ∷ codes "gam
   files = a_file 3 ∷ a_file 4 ∷ [];
 }
 
+-- a message of the first host to another one
 abbrev pub sends : ℕ → Body → Output
 sends to b = message (host 0) (host to) b
 
@@ -197,6 +220,7 @@ sends to b = message (host 0) (host to) b
 abbrev pub told_at : Event → Plain → List Output
 told_at e s = map shown (step e s).outputs
 
+-- what a host records at an event
 abbrev pub changed_at : Event → Plain → Option (Change (List ℕ))
 changed_at e s = (step e s).change
 

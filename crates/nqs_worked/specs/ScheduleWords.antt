@@ -18,15 +18,19 @@ use Rattle.nqs_types.specs.declared.event.Command.{Command}
 use Rattle.nqs_types.specs.declared.event.Command.TheVariants.{Submit, Edit as EditOf, UnreadWords}
 use Rattle.nqs_types.specs.declared.edit.Edit.{Edit}
 
+-- the host at this place of its site, from 0 on
 abbrev pub host : ℕ → HostId
 host place = record { 0 = place }
 
+-- the request of this number that was submitted at the host of this place
 abbrev pub request : ℕ → ℕ → RequestId
 request seq place = record { seq = seq; host = host place }
 
+-- a request as it is typed: its number, and the name of its host
 abbrev pub named : ℕ → List ℕ → Named
 named seq name = record { seq = seq; host = name }
 
+-- a destination as it is typed: its queue, and the name of its host
 abbrev pub typed : List ℕ → List ℕ → NamedDest
 typed queue name = record { queue = queue; host = name }
 
@@ -45,18 +49,23 @@ job_of owner = record {
   join = false;
 }
 
+-- a submission as a command; without a queue it goes to the default one
 abbrev pub submission : Option (List ℕ) → Job → List ℕ → Command
 submission queue job script = Submit (record { queue = queue; job = job; script = script })
 
+-- a fault of words: its cause, the line, and the word of that line
 abbrev pub bad_words : WordsCause → ℕ → ℕ → WordsFault
 bad_words cause line word = record { cause = cause; line = line; word = word }
 
+-- words with this fault as a command
 abbrev pub unread_words : WordsCause → ℕ → ℕ → Command
 unread_words cause line word = UnreadWords (bad_words cause line word)
 
+-- a site of one host
 abbrev pub one_host : List (List ℕ)
 one_host = codes "alpha" ∷ []
 
+-- a site of two hosts
 abbrev pub two_hosts : List (List ℕ)
 two_hosts = codes "alpha" ∷ codes "beta" ∷ []
 
@@ -77,9 +86,11 @@ abbrev pub stopped_submission : Which → ℕ → Tear → List Act
 stopped_submission disk calls tear =
     Fuse (host 0) disk calls tear ∷ Asks (host 0) (codes "ann") (submission None (job_of (codes "ann")) (codes "date")) ∷ Boots (host 0) ∷ Shows ∷ []
 
+-- the transcript of that, on a site of one host
 abbrev pub stop_told : Which → ℕ → Tear → List ℕ
 stop_told disk calls tear = told one_host (stopped_submission disk calls tear)
 
+-- all old, all new, and two mixes
 abbrev pub tears : List Tear
 tears = Old ∷ New ∷ Mixed 1 ∷ Mixed 2 ∷ []
 
