@@ -1,3 +1,5 @@
+//! Fields of each kind by hand: written, taken at their places, cut short, and the first at fault.
+
 use nqs_codec::*;
 use nqs_values::{Extent, Memory, Name};
 use std::alloc::Global;

@@ -24,6 +24,9 @@ pub(crate) const LONGEST: usize = 65_536;
 /// A length, the longest payload and a gate.
 const ROOM: usize = 65_541;
 
+/// An open journal over a disk, as `load`, `load_either` and `begin` give it. Payloads of at most
+/// 65,536 bytes are appended. After an append that ended with `Disk` it is stopped and appends
+/// nothing more; `close` gives the disk back, which may be loaded anew.
 #[derive(Drop)]
 pub struct Journal<D: Disk> {
     disk: D,

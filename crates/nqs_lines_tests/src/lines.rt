@@ -1,3 +1,5 @@
+//! What the words, lines and scripts of each of the five commands ask for, also where they are bad.
+
 use nqs_lines::{qdel_command, qmgr_command, qstat_command, qsub_command, submit_command};
 use nqs_types::Command;
 use nqs_values::{Bytes, Memory, Name};

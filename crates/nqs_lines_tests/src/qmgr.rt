@@ -1,3 +1,5 @@
+//! Lines of qmgr: the command of each kind of line, their values, and the first faults of bad ones.
+
 use nqs_qmgr::read_qmgr;
 use nqs_types::{
     AccessEdit, Command, ConfEdit, DevicesEdit, Edit, GrammarFault, LimitsEdit, Named, RowsEdit,

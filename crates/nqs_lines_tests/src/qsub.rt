@@ -1,3 +1,6 @@
+//! Words of qsub and of its script lines: defaults, values, the command's before the script's, first
+//! faults, and a script that is too long.
+
 use nqs_qsub::read_qsub;
 use nqs_types::{Submission, WordsCause, WordsFault};
 use nqs_values::{Bytes, Memory, Name};

@@ -1,3 +1,5 @@
+//! Words of qstat and qdel with their first faults, and the texts of replies, refusals and faults.
+
 use nqs_query::{print_reply, read_qdel, read_qstat};
 use nqs_types::{
     Command, GrammarFault, HostId, Named, Refusal, Reply, RequestId, WordsCause, WordsFault,

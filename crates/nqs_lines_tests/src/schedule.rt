@@ -1,3 +1,6 @@
+//! Schedules as they are read, with the first bad line, and as a seed gives them; the lines of what
+//! is seen, and its summary.
+
 use nqs_schedule::{
     Cause, LineFault, Schedule, ScheduleFault, generate, print_seen, read_schedule, summarize,
 };

@@ -1,3 +1,5 @@
+//! Numbers and moments as texts, by hand.
+
 use nqs_moments::*;
 use nqs_text::*;
 use std::alloc::Global;

@@ -1,3 +1,5 @@
+//! Words of a line and what they may say: keywords, numbers, requests, destinations, quoted words.
+
 use nqs_words::{
     Gaps, Keyword, NoKeyword, NotNamed, QuoteFault, Word, dest_of, keyword_of, moment_of, named_of,
     next_word, number_of, read_quoted, seq_of, size_of, time_of,
