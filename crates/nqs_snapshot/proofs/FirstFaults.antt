@@ -1,5 +1,5 @@
 -- Which bytes have which first fault.
-use Rattle.std.proofs.Common.{◌≡◌, ◌≢◌, ◌⊎◌, inl, inr, ℕ, ◌+◌, ◌<◌, Bool, true, false, cond, nat_lt, List, [], ◌++◌, length, refl, sym, ap, ◌∙◌, subst, arith}
+use Rattle.std.proofs.Common.{◌≡◌, ◌⊎◌, inl, inr, ℕ, ◌+◌, ◌<◌, Bool, true, false, cond, nat_lt, List, [], ◌++◌, length, refl, sym, ap, ◌∙◌, subst, arith}
 use Rattle.std.proofs.Common.{length-append, drop, Ok, Err}
 use Rattle.std.proofs.lemmas.List.{length-drop}
 use Rattle.std.specs.Prelude.{⊤}
@@ -16,7 +16,6 @@ use Rattle.nqs_records.proofs.FirstFaults.{both_bytes}
 use Rattle.std.proofs.lemmas.Bool.Decides.{nat_tests}
 use Rattle.nqs_snapshot.specs.declared.parts.Parts.{Parts}
 use Rattle.nqs_snapshot.specs.Spelling.{state_field}
-use Rattle.nqs_snapshot.specs.Values.{MayStand}
 use Rattle.nqs_snapshot.specs.Sound.{is_sound}
 use Rattle.nqs_snapshot.specs.Reading.{parts_at, state_of, or_bad, whole_of, snapshot_of}
 use Rattle.nqs_snapshot.specs.Faults.{IsFollowed, IsCut, IsUnsound, SpellsNoneWith, FirstFaults}

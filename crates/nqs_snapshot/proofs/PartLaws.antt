@@ -1,6 +1,6 @@
 -- The laws of the values of a snapshot: what is read stands there, and what stands there is read.
-use Rattle.std.proofs.Common.{◌≡◌, ℕ, zero, suc, ◌<◌, ◌^◌, IsTrue, List, Option, Some, None, refl, ap, arith}
-use Rattle.std.specs.Prelude.{⊤, [], ◌∷◌, ◌++◌}
+use Rattle.std.proofs.Common.{◌≡◌, ℕ, zero, suc, ◌<◌, ◌^◌, IsTrue, List, Option, Some, None, refl, arith}
+use Rattle.std.specs.Prelude.{⊤, [], ◌∷◌}
 use Rattle.std.proofs.lemmas.Bool.Decides.{nat_tests}
 use Rattle.nqs_values.specs.Name.{IsName}
 use Rattle.nqs_values.specs.declared.extent.Extent.{Extent}
@@ -18,8 +18,7 @@ use Rattle.nqs_types.specs.declared.queue.Access.TheVariants.{All, Users}
 use Rattle.nqs_types.specs.declared.queue.QueueDef.{QueueDef}
 use Rattle.nqs_codec.specs.Fields.{u8_field, u16_field, u64_field, short_field, bool_field}
 use Rattle.nqs_records.specs.Reading.{Reading}
-use Rattle.nqs_records.specs.Fields.{name_at}
-use Rattle.nqs_records.specs.Spelling.{fields, opt_field, id_field, extent_field, job_field}
+use Rattle.nqs_records.specs.Spelling.{fields, opt_field}
 use Rattle.nqs_records.specs.Values.{is_at_most, IsU16, IsU64, IsOpt}
 use Rattle.nqs_records.proofs.IsRead.{IsRead}
 use Rattle.nqs_records.proofs.Numbers.{u8_read, u16_read, u64_read}
@@ -31,7 +30,7 @@ use Rattle.nqs_snapshot.specs.declared.read_requests.Course.{Course}
 use Rattle.nqs_snapshot.specs.Spelling.{many_field, kind_number, hold_number, state_number, phase_number, access_field, limits_field, dest_field}
 use Rattle.nqs_snapshot.specs.Spelling.{settings_field, queue_field, complex_field, device_field, refused_field, course_field, row_field, hand_field}
 use Rattle.nqs_snapshot.specs.Spelling.{promise_field, peer_field, stage_field, file_field}
-use Rattle.nqs_snapshot.specs.Values.{IsMany, IsAccess, IsLimits, IsDest, AreSettings, IsQueue, IsComplex, IsDevice, IsRefused, IsCourse, IsRow, IsHand}
+use Rattle.nqs_snapshot.specs.Values.{IsMany, IsAccess, IsLimits, IsDest, IsQueue, IsComplex, IsDevice, IsRefused, IsRow, IsHand}
 use Rattle.nqs_snapshot.specs.Values.{IsPromise, IsPeer, IsStage, IsFile}
 use Rattle.nqs_snapshot.specs.Readings.{many_at, kind_of, hold_of, row_state_of, phase_of, kind_at, hold_at, row_state_at, phase_at, access_of, access_at}
 use Rattle.nqs_snapshot.specs.Readings.{limits_at, dest_at, settings_of, settings_at, queue_of, queue_at, complex_at, device_at, refused_at, course_of, course_at}

@@ -11,9 +11,6 @@ use Rattle.nqs_records.specs.Reading.{Read, is_memory, Answers}
 use Rattle.nqs_records.specs.Changes.{AreBytes}
 use Rattle.nqs_records.proofs.IsRead.{bound}
 use Rattle.nqs_records.proofs.Chains.{bind, same_Ok}
-use Rattle.nqs_snapshot.specs.declared.parts.Parts.{Parts}
-use Rattle.nqs_snapshot.specs.Spelling.{state_field}
-use Rattle.nqs_snapshot.specs.Values.{MayStand}
 use Rattle.nqs_snapshot.specs.Sound.{is_sound}
 use Rattle.nqs_snapshot.specs.Reading.{state_of, or_bad, whole_of, snapshot_of}
 use Rattle.nqs_snapshot.specs.Laws.{IsSpelledBy, ReadsTheSpelling, SpellsOne, SpellsNone, told_by}

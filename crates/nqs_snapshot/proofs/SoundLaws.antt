@@ -8,7 +8,7 @@ use Rattle.nqs_state.specs.State.{State}
 use Rattle.nqs_rules.specs.Tests.{same_host}
 use Rattle.nqs_rules.specs.InOrder.{IsInOrder, IsConsistent, are_distinct, same_number, is_site_right, are_parameters_right, are_lists_short}
 use Rattle.nqs_rules.specs.InOrder.{are_keys_distinct, arrivals_of, is_queue_right, is_complex_right, is_row_right, is_promise_right, promisers}
-use Rattle.nqs_rules.specs.InOrder.{is_hand_right, has_few_hands, offered_ids, is_peer_right, is_stage_right, is_file_right}
+use Rattle.nqs_rules.specs.InOrder.{is_hand_right, offered_ids, is_peer_right, is_stage_right, is_file_right}
 use Rattle.nqs_rules.specs.InOrder.{is_doom_right, is_hold_right, has_hand, is_promise_free, is_hand_of_given}
 use Rattle.nqs_rules.proofs.Chains.{each, chained}
 use Rattle.nqs_snapshot.specs.Sound.{are_bounds_right, are_values_right, are_hands_few, are_numbers_distinct, is_right, is_consistent, is_sound}

@@ -1,13 +1,11 @@
 -- Bytes are read as a state exactly where they are its spelling.
-use Rattle.std.proofs.Common.{◌≡◌, ◌≢◌, ℕ, ◌+◌, Bool, true, false, cond, nat_lt, List, [], ◌∷◌, ◌++◌, length, drop, refl, sym, ap, ◌∙◌, subst, arith}
-use Rattle.std.proofs.Common.{append-nil, Ok, Err, IfErr}
-use Rattle.nqs_values.specs.Want.{want}
+use Rattle.std.proofs.Common.{◌≡◌, ℕ, ◌+◌, Bool, true, false, cond, nat_lt, List, [], ◌∷◌, ◌++◌, length, refl, sym, ap, ◌∙◌, subst, arith}
+use Rattle.std.proofs.Common.{append-nil, Ok, Err}
 use Rattle.nqs_values.specs.declared.extent.Extent.{Extent}
 use Rattle.nqs_state.specs.State.{State}
 use Rattle.nqs_codec.specs.Fields.{u8_field, u16_field, u32_field, u64_field, short_field}
 use Rattle.nqs_records.specs.declared.fault.RecordFault.{RecordFault}
-use Rattle.nqs_records.specs.declared.fault.RecordFault.TheVariants.{Short, Kind, BadField, Trailing, Memory}
-use Rattle.nqs_records.specs.Reading.{Read, Reading, ◌>>=◌, mapped, is_memory, Answers}
+use Rattle.nqs_records.specs.declared.fault.RecordFault.TheVariants.{Trailing}
 use Rattle.nqs_records.specs.Changes.{AreBytes}
 use Rattle.nqs_records.specs.Spelling.{fields, opt_field}
 use Rattle.nqs_records.specs.Values.{IsU16, IsU32, IsU64, IsOpt, IsHost}

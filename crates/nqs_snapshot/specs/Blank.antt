@@ -1,5 +1,5 @@
 -- States whose tables are still to be filled.
-use Rattle.std.specs.Prelude.{◌≡◌, Bool, ◌&&◌, List, [], map}
+use Rattle.std.specs.Prelude.{◌≡◌, Bool, ◌&&◌, [], map}
 use Rattle.nqs_values.specs.Same.{name_eq}
 use Rattle.nqs_types.specs.Ids.{id_eq, peer_number_eq, hand_key, promise_key, stage_key}
 use Rattle.nqs_values.specs.declared.extent.Extent.{Extent}

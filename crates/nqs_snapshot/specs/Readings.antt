@@ -1,7 +1,6 @@
 -- Readings of the values of a snapshot, at a place of the bytes: the value and the place behind it, or the first fault from the left.
 use Rattle.std.specs.Prelude.{ℕ, Bool, ◌==◌, if◌then◌else◌, List, Option, Some, None}
 use Rattle.nqs_values.specs.declared.extent.Extent.{Extent}
-use Rattle.nqs_types.specs.declared.ids.HostId.{HostId}
 use Rattle.nqs_types.specs.declared.ids.RequestId.{RequestId}
 use Rattle.nqs_types.specs.declared.ids.Dest.{Dest}
 use Rattle.nqs_types.specs.declared.request.Limits.{Limits}
@@ -27,7 +26,7 @@ use Rattle.nqs_types.specs.declared.queue.QueueDef.{QueueDef}
 use Rattle.nqs_types.specs.declared.queue.ComplexDef.{ComplexDef}
 use Rattle.nqs_types.specs.declared.queue.DeviceDef.{DeviceDef}
 use Rattle.nqs_records.specs.Reading.{Reading, mapped, both, within, counted}
-use Rattle.nqs_records.specs.Fields.{u8_at, u16_at, u32_at, u64_at, bool_at, opt_at, name_at, path_at}
+use Rattle.nqs_records.specs.Fields.{u8_at, u16_at, u64_at, bool_at, opt_at, name_at, path_at}
 use Rattle.nqs_records.specs.Parts.{host_at, id_at, extent_at, job_at}
 use Rattle.nqs_records.specs.Values.{is_at_most}
 use Rattle.nqs_snapshot.specs.declared.read_queues.Settings.{Settings}

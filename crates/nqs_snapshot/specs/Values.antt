@@ -1,6 +1,5 @@
 -- The values that may stand in a snapshot: those that have a field.
 use Rattle.std.specs.Prelude.{IsTrue, List}
-use Rattle.std.specs.List.{AllByRecursion}
 use Rattle.nqs_values.specs.Name.{IsName}
 use Rattle.nqs_values.specs.Path.{IsPath}
 use Rattle.nqs_values.specs.declared.extent.Extent.{Extent}

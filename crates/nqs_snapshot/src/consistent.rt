@@ -31,8 +31,7 @@ fn is_offered_for(hand: &Hand, id: RequestId) -> bool
 fn has_hand(row: &Row, state: &HostState) -> bool
     ensures { result ≡ has_hand (content state.now) row.now }
 {
-    !(row.state == RowState::Routing)
-        || state.hands.any(|hand: &Hand| is_offered_for(hand, row.id))
+    !(row.state == RowState::Routing) || state.hands.any(|hand: &Hand| is_offered_for(hand, row.id))
 }
 
 fn is_promise_free(promise: &Promise) -> bool
@@ -53,7 +52,5 @@ pub(crate) fn is_consistent(state: &HostState) -> bool
         && state
             .promises
             .all(|promise: &Promise| is_promise_free(promise))
-        && state
-            .hands
-            .all(|hand: &Hand| is_id_given(hand.id, state))
+        && state.hands.all(|hand: &Hand| is_id_given(hand.id, state))
 }

@@ -112,5 +112,9 @@ fn is_peer_right(peer: &Peer) -> bool
 pub(crate) fn are_peers_right(state: &HostState) -> bool
     ensures { result ≡ list_all is_peer_right state.now.peers }
 {
-    state.peers.as_slice().iter().all(|peer| is_peer_right(peer))
+    state
+        .peers
+        .as_slice()
+        .iter()
+        .all(|peer| is_peer_right(peer))
 }

@@ -54,7 +54,9 @@ fn is_user_limit_right(limit: Option<u16>) -> bool
 fn are_dests_right(dests: &[Dest], state: &HostState) -> bool
     ensures { result ≡ list_all (is_dest_right (content state.now)) dests.now }
 {
-    dests.iter().all(|dest: &Dest| is_site_host(state, dest.host))
+    dests
+        .iter()
+        .all(|dest: &Dest| is_site_host(state, dest.host))
 }
 
 fn are_devices_there(names: &[Name], state: &HostState) -> bool

@@ -11,9 +11,7 @@ ghost use Rattle.nqs_rules.specs.InOrder.{is_file_right};
 
 use crate::order::{LAST_SEQ, Right, is_site_host};
 use nqs_state::HostState;
-use nqs_types::{
-    FileOut, Hand, HostId, Phase, Promise, Refused, RequestId, Row, RowState, Stage,
-};
+use nqs_types::{FileOut, Hand, HostId, Phase, Promise, Refused, RequestId, Row, RowState, Stage};
 
 fn is_id_right(id: RequestId, state: &HostState) -> bool
     ensures { result ≡ is_id_right (content state.now) id }

@@ -6,9 +6,7 @@ ghost use Rattle.nqs_snapshot.specs.Reading.{site_at, requests_at, dealings_at, 
 use crate::lists::{read_list, read_many};
 use nqs_records::{RecordFault, read_host, read_opt_name, read_u16, read_u32, read_u64};
 use nqs_state::PeerList;
-use nqs_types::{
-    ComplexDef, DeviceDef, FileOut, Hand, HostId, Promise, QueueDef, Row, Stage,
-};
+use nqs_types::{ComplexDef, DeviceDef, FileOut, Hand, HostId, Promise, QueueDef, Row, Stage};
 use nqs_values::{Items, Name, NameList};
 use std::alloc::Global;
 
@@ -81,11 +79,7 @@ fn read_site(alloc: Global, bytes: &[u8], place: u64) -> Result<(SitePart, u64),
 }
 
 #[tactic(auto, unfolding(crate::specs::Reading::requests_at))]
-fn read_requests(
-    alloc: Global,
-    bytes: &[u8],
-    place: u64,
-) -> Result<(RequestPart, u64), RecordFault>
+fn read_requests(alloc: Global, bytes: &[u8], place: u64) -> Result<(RequestPart, u64), RecordFault>
     ensures { Answers (requests_at bytes.now place) result }
 {
     let (rows, place) = read_many(alloc, bytes, place)?;
@@ -100,11 +94,7 @@ fn read_requests(
 }
 
 #[tactic(auto, unfolding(crate::specs::Reading::dealings_at))]
-fn read_dealings(
-    alloc: Global,
-    bytes: &[u8],
-    place: u64,
-) -> Result<(DealingPart, u64), RecordFault>
+fn read_dealings(alloc: Global, bytes: &[u8], place: u64) -> Result<(DealingPart, u64), RecordFault>
     ensures { Answers (dealings_at bytes.now place) result }
 {
     let (peers, place) = read_list(alloc, bytes, place)?;

@@ -67,11 +67,7 @@ fn read_limits(bytes: &[u8], place: u64) -> Result<(Limits, u64), RecordFault>
 }
 
 #[tactic(auto, using(crate::proofs::Opt::opt_is), unfolding(crate::specs::Readings::access_at))]
-fn read_access(
-    alloc: Global,
-    bytes: &[u8],
-    place: u64,
-) -> Result<(Access, u64), RecordFault>
+fn read_access(alloc: Global, bytes: &[u8], place: u64) -> Result<(Access, u64), RecordFault>
     ensures { Answers (access_at bytes.now place) result }
 {
     let (is_there, next) = read_bool(bytes, place)?;

@@ -1,4 +1,4 @@
-use Rattle.std.proofs.Common.{◌≡◌, ◌∙◌, arith}
+use Rattle.std.proofs.Common.{◌∙◌, arith}
 use Rattle.nqs_rules.specs.Fits.{is_offered_hand}
 use Rattle.nqs_snapshot.proofs.Marks.{one_if}
 use Rattle.nqs_snapshot.proofs.differ.add_offered.Goals as goal

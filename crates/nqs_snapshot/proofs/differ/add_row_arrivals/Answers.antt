@@ -1,4 +1,4 @@
-use Rattle.std.proofs.Common.{◌≡◌, ◌∙◌, refl, arith}
+use Rattle.std.proofs.Common.{◌∙◌, refl, arith}
 use Rattle.nqs_snapshot.proofs.Marks.{one_more}
 use Rattle.nqs_snapshot.proofs.differ.add_row_arrivals.Goals as goal
 

@@ -1,5 +1,4 @@
-use Rattle.std.proofs.Common.{◌≡◌, ℕ, List, ◌++◌, map, ap, ◌∙◌, Ok, Err, IfOk, Bool}
-use Rattle.std.specs.declared.result.Result.{Result}
+use Rattle.std.proofs.Common.{◌++◌, map, ap, ◌∙◌}
 use Rattle.nqs_rules.specs.InOrder.{are_distinct, same_number}
 use Rattle.nqs_snapshot.proofs.Marks.{by_number, same_answer}
 use Rattle.nqs_snapshot.proofs.differ.promisers_differ.Goals as goal

@@ -1,4 +1,4 @@
-use Rattle.std.proofs.Common.{◌≡◌, sym, ap, ◌∙◌, nat_le, arith}
+use Rattle.std.proofs.Common.{sym, ap, ◌∙◌, nat_le, arith}
 use Rattle.nqs_state.specs.State.{content}
 use Rattle.nqs_snapshot.proofs.FewHands.{above, all_few, not_few}
 use Rattle.nqs_snapshot.proofs.few.are_hands_few.Goals as goal

@@ -1,4 +1,4 @@
-use Rattle.std.proofs.Common.{◌≡◌, ℕ, ◌+◌, List, ◌++◌, flat_map, drop, ap, subst, sym, ◌∙◌, append_assoc, arith}
+use Rattle.std.proofs.Common.{◌+◌, ◌++◌, flat_map, drop, ap, subst, sym, ◌∙◌, append_assoc, arith}
 use Rattle.std.specs.List.{AllByRecursion}
 use Rattle.nqs_keyed.proofs.TableLemmas.{drop-at}
 use Rattle.nqs_snapshot.proofs.field.put_rows.Goals as goal

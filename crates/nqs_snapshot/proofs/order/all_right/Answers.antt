@@ -1,4 +1,4 @@
-use Rattle.std.proofs.Common.{◌≡◌, ℕ, ◌+◌, true, false, ◌&&◌, List, ◌∷◌, drop, refl, ap, subst, sym, ◌∙◌, arith}
+use Rattle.std.proofs.Common.{◌≡◌, ◌+◌, true, false, ◌&&◌, drop, ap, subst, sym, ◌∙◌, arith}
 use Rattle.std.specs.List.{AllByRecursion, list_all}
 use Rattle.nqs_state.specs.State.{content}
 use Rattle.nqs_keyed.proofs.TableLemmas.{drop-at, list_all-drop}
@@ -16,8 +16,7 @@ pub loop-place-preserved : goal.loop-place-preserved
 loop-place-preserved g c =
     let right = g.V.Right.right (content c.args.state.now) in
     let items = c.args.table.now.items in
-    let holds : right c.at.result.now ≡ true = sym c.is_right.ensures ∙ c.if-not-is_right.false in
-    (
+    let holds : right c.at.result.now ≡ true = sym c.is_right.ensures ∙ c.if-not-is_right.false in (
       sym (ap (λ b. b && list_all right (drop (c.loop-place.place + 1) items)) holds)
           ∙ sym (list_all-drop right items c.loop-place.place c.at.result.now c.at.ensures) ∙ c.loop-place.invariant.0,
       (subst (AllByRecursion g.V.Put.IsPut) (drop-at items c.loop-place.place c.at.result.now c.at.ensures) c.loop-place.invariant.1).1,

@@ -1,4 +1,4 @@
-use Rattle.std.proofs.Common.{◌≡◌, true, false, List, ◌∷◌, ◌++◌, [], map, length, length-append, ap, sym, ◌∙◌, append_assoc, arith}
+use Rattle.std.proofs.Common.{◌≡◌, true, false, ◌∷◌, ◌++◌, [], map, length, ap, sym, ◌∙◌, append_assoc, arith}
 use Rattle.std.specs.Vec.Iter.{into_iter_items}
 use Rattle.std.specs.List.{list_any}
 use Rattle.nqs_keyed.specs.Table.{has_key}
@@ -27,8 +27,7 @@ loop-value-preserved g c =
     let v = c.in-Some.value in
     let whole : c.args.values ≡ items ++ (v ∷ rest) = c.loop-value.invariant.2 ∙ ap (λ l. items ++ l) c.in-Some.ensures.steps.0 in
     let none : list_any (has_key eq key (key v)) items ≡ false =
-    ap (λ k. list_any (has_key eq key k) items) (sym c.key.ensures) ∙ sym c.has.ensures ∙ c.if-has.false in
-    (
+    ap (λ k. list_any (has_key eq key k) items) (sym c.key.ensures) ∙ sym c.has.ensures ∙ c.if-has.false in (
       tt,
       tt,
       whole ∙ sym (append_assoc items (v ∷ []) rest) ∙ ap (λ l. l ++ rest) (sym c.push.ensures.items),
