@@ -18,12 +18,7 @@ pub fn put_text(text: &[u8], out: &mut Vec<u8>) -> Result<(), Memory>
 }
 
 /// Appends a name between two texts.
-pub fn put_about(
-    before: &[u8],
-    name: &Name,
-    after: &[u8],
-    out: &mut Vec<u8>,
-) -> Result<(), Memory>
+pub fn put_about(before: &[u8], name: &Name, after: &[u8], out: &mut Vec<u8>) -> Result<(), Memory>
     ensures { OnOk result (out.new.items ≡ out.old.items ++ (before.now ++ name.now ++ after.now)) }
 {
     put_text(before, out)?;

@@ -38,7 +38,7 @@ fn word_at(line: &[u8], place: usize) -> Result<Word, GrammarFault>
 
 /// The next word as a name, and the place behind it.
 #[tactic(auto, unfolding(crate::specs::Heads::name_at))]
-pub fn name_at(line: &[u8], place: usize) -> Result<(Name, usize), GrammarFault>
+pub(crate) fn name_at(line: &[u8], place: usize) -> Result<(Name, usize), GrammarFault>
     requires { place ≤ length line.now }
     ensures name { result ≡ name_at line.now place }
     ensures fits { IfOk result (λ r. r.1 ≤ length line.now) }
@@ -52,7 +52,7 @@ pub fn name_at(line: &[u8], place: usize) -> Result<(Name, usize), GrammarFault>
 
 /// The next word as a request, and the place behind it.
 #[tactic(auto, unfolding(crate::specs::Heads::request_at))]
-pub fn request_at(line: &[u8], place: usize) -> Result<(Named, usize), GrammarFault>
+pub(crate) fn request_at(line: &[u8], place: usize) -> Result<(Named, usize), GrammarFault>
     requires { place ≤ length line.now }
     ensures request { result ≡ request_at line.now place }
     ensures fits { IfOk result (λ r. r.1 ≤ length line.now) }
@@ -67,7 +67,7 @@ pub fn request_at(line: &[u8], place: usize) -> Result<(Named, usize), GrammarFa
 
 /// That no word is left.
 #[tactic(auto, unfolding(crate::specs::Heads::nothing_after))]
-pub fn nothing_after(line: &[u8], place: usize) -> Result<(), GrammarFault>
+pub(crate) fn nothing_after(line: &[u8], place: usize) -> Result<(), GrammarFault>
     requires { place ≤ length line.now }
     ensures { result ≡ nothing_after line.now place }
 {
@@ -79,7 +79,7 @@ pub fn nothing_after(line: &[u8], place: usize) -> Result<(), GrammarFault>
 
 /// The last word, as a name.
 #[tactic(auto, unfolding(crate::specs::Heads::last_name))]
-pub fn last_name(line: &[u8], place: usize) -> Result<Name, GrammarFault>
+pub(crate) fn last_name(line: &[u8], place: usize) -> Result<Name, GrammarFault>
     requires { place ≤ length line.now }
     ensures { result ≡ last_name line.now place }
 {
@@ -103,7 +103,7 @@ fn stem_of(line: &[u8], word: Word) -> usize
 
 /// The keyword that a word names among these.
 #[tactic(auto, unfolding(crate::specs::Heads::head_of))]
-pub fn head_of(keywords: &[Keyword], line: &[u8], word: Word) -> Result<Head, GrammarFault>
+pub(crate) fn head_of(keywords: &[Keyword], line: &[u8], word: Word) -> Result<Head, GrammarFault>
     requires { Fits line.now word }
     ensures head { result ≡ head_of keywords.now line.now word }
     ensures fits { IfOk result (FitsLine line.now) }
@@ -122,7 +122,7 @@ pub fn head_of(keywords: &[Keyword], line: &[u8], word: Word) -> Result<Head, Gr
 
 /// The next word, as one of these keywords.
 #[tactic(auto, unfolding(crate::specs::Heads::head_at))]
-pub fn head_at(keywords: &[Keyword], line: &[u8], place: usize) -> Result<Head, GrammarFault>
+pub(crate) fn head_at(keywords: &[Keyword], line: &[u8], place: usize) -> Result<Head, GrammarFault>
     requires { place ≤ length line.now }
     ensures head { result ≡ head_at keywords.now line.now place }
     ensures fits { IfOk result (FitsLine line.now) }
@@ -133,7 +133,7 @@ pub fn head_at(keywords: &[Keyword], line: &[u8], place: usize) -> Result<Head, 
 
 /// The place behind a keyword that takes no value.
 #[tactic(auto, unfolding(crate::specs::Heads::bare))]
-pub fn bare(line: &[u8], head: Head) -> Result<usize, GrammarFault>
+pub(crate) fn bare(line: &[u8], head: Head) -> Result<usize, GrammarFault>
     requires { FitsLine line.now head }
     ensures place { result ≡ bare head }
     ensures fits { IfOk result (λ place. place ≤ length line.now) }
@@ -157,7 +157,7 @@ fn value_at(head: Head) -> Result<usize, GrammarFault>
 
 /// The keyword's value as a number between these two.
 #[tactic(auto, unfolding(crate::specs::Heads::valued))]
-pub fn number_in(line: &[u8], head: Head, low: u64, high: u64) -> Result<u64, GrammarFault>
+pub(crate) fn number_in(line: &[u8], head: Head, low: u64, high: u64) -> Result<u64, GrammarFault>
     requires { FitsLine line.now head }
     ensures { result ≡ valued (number_of low high) fault.BadNumber line.now head }
 {
@@ -170,7 +170,7 @@ pub fn number_in(line: &[u8], head: Head, low: u64, high: u64) -> Result<u64, Gr
 
 /// The keyword's value as a limit.
 #[tactic(auto, unfolding(crate::specs::Heads::valued))]
-pub fn limit_in(line: &[u8], head: Head, amount: Amount) -> Result<Option<u64>, GrammarFault>
+pub(crate) fn limit_in(line: &[u8], head: Head, amount: Amount) -> Result<Option<u64>, GrammarFault>
     requires { FitsLine line.now head }
     ensures { result ≡ valued (limit_of amount) fault.BadNumber line.now head }
 {
@@ -183,7 +183,7 @@ pub fn limit_in(line: &[u8], head: Head, amount: Amount) -> Result<Option<u64>, 
 
 /// The keyword's value as a name.
 #[tactic(auto, unfolding(crate::specs::Heads::valued))]
-pub fn name_in(line: &[u8], head: Head) -> Result<Name, GrammarFault>
+pub(crate) fn name_in(line: &[u8], head: Head) -> Result<Name, GrammarFault>
     requires { FitsLine line.now head }
     ensures { result ≡ valued name_of fault.BadName line.now head }
 {
@@ -196,7 +196,7 @@ pub fn name_in(line: &[u8], head: Head) -> Result<Name, GrammarFault>
 
 /// The keyword's value as a destination.
 #[tactic(auto, unfolding(crate::specs::Heads::valued))]
-pub fn dest_in(line: &[u8], head: Head) -> Result<NamedDest, GrammarFault>
+pub(crate) fn dest_in(line: &[u8], head: Head) -> Result<NamedDest, GrammarFault>
     requires { FitsLine line.now head }
     ensures { result ≡ valued dest_of fault.BadName line.now head }
 {

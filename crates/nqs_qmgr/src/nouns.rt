@@ -82,10 +82,14 @@ static OF_SHOW: [Keyword; 6] = [
 ];
 
 /// The options of a batch or device queue.
-pub static QUEUE_WORDS: [Keyword; 3] = [Keyword::Priority, Keyword::RunLimit, Keyword::PipeOnly];
+pub(crate) static QUEUE_WORDS: [Keyword; 3] = [
+    Keyword::Priority,
+    Keyword::RunLimit,
+    Keyword::PipeOnly,
+];
 
 /// The options of a pipe queue.
-pub static PIPE_WORDS: [Keyword; 4] = [
+pub(crate) static PIPE_WORDS: [Keyword; 4] = [
     Keyword::Priority,
     Keyword::RunLimit,
     Keyword::PipeOnly,
@@ -94,7 +98,7 @@ pub static PIPE_WORDS: [Keyword; 4] = [
 
 /// What a line begins with.
 #[tactic(auto, unfolding(crate::specs::Lines::verbs))]
-pub fn verbs() -> &'static [Keyword]
+pub(crate) fn verbs() -> &'static [Keyword]
     ensures { result.now ≡ verbs }
 {
     &VERBS
@@ -102,7 +106,7 @@ pub fn verbs() -> &'static [Keyword]
 
 /// The second keywords of a verb.
 #[tactic(auto, unfolding(crate::specs::Lines::nouns, crate::specs::Lines::table))]
-pub fn nouns(verb: Keyword) -> &'static [Keyword]
+pub(crate) fn nouns(verb: Keyword) -> &'static [Keyword]
     ensures { result.now ≡ nouns verb }
 {
     match verb {

@@ -18,7 +18,7 @@ pub struct Settings {
 }
 
 /// No option.
-pub fn no_settings() -> Settings
+pub(crate) fn no_settings() -> Settings
     ensures { result ≡ no_settings }
 {
     Settings {
@@ -104,7 +104,7 @@ fn with_option(line: &[u8], head: Head, settings: Settings) -> Result<Settings, 
 /// The options from a place up to the line's end, behind those that were read already; at most
 /// `left` words.
 #[tactic(auto, unfolding(crate::specs::Options::options))]
-pub fn options(
+pub(crate) fn options(
     left: u8,
     keywords: &[Keyword],
     line: &[u8],

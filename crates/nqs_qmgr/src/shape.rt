@@ -20,7 +20,7 @@ use nqs_words::Keyword;
 
 /// `KEYWORD`
 #[tactic(auto, unfolding(crate::specs::Lines::read_alone))]
-pub fn read_alone(line: &[u8], head: Head) -> Result<(), GrammarFault>
+pub(crate) fn read_alone(line: &[u8], head: Head) -> Result<(), GrammarFault>
     requires { FitsLine line.now head }
     ensures { result ≡ read_alone line.now head }
 {
@@ -30,7 +30,7 @@ pub fn read_alone(line: &[u8], head: Head) -> Result<(), GrammarFault>
 
 /// `KEYWORD Q`
 #[tactic(auto, unfolding(crate::specs::Lines::read_one_name))]
-pub fn read_one_name(line: &[u8], head: Head) -> Result<Name, GrammarFault>
+pub(crate) fn read_one_name(line: &[u8], head: Head) -> Result<Name, GrammarFault>
     requires { FitsLine line.now head }
     ensures { result ≡ read_one_name line.now head }
 {
@@ -40,7 +40,7 @@ pub fn read_one_name(line: &[u8], head: Head) -> Result<Name, GrammarFault>
 
 /// `KEYWORD=N`
 #[tactic(auto, unfolding(crate::specs::Lines::read_value))]
-pub fn read_number(line: &[u8], head: Head, low: u64, high: u64) -> Result<u64, GrammarFault>
+pub(crate) fn read_number(line: &[u8], head: Head, low: u64, high: u64) -> Result<u64, GrammarFault>
     requires { FitsLine line.now head }
     ensures { result ≡ read_value (number_of low high) fault.BadNumber line.now head }
 {
@@ -51,7 +51,7 @@ pub fn read_number(line: &[u8], head: Head, low: u64, high: u64) -> Result<u64, 
 
 /// `KEYWORD=P`
 #[tactic(auto, unfolding(crate::specs::Lines::read_value))]
-pub fn read_name_value(line: &[u8], head: Head) -> Result<Name, GrammarFault>
+pub(crate) fn read_name_value(line: &[u8], head: Head) -> Result<Name, GrammarFault>
     requires { FitsLine line.now head }
     ensures { result ≡ read_value name_of fault.BadName line.now head }
 {
@@ -62,7 +62,7 @@ pub fn read_name_value(line: &[u8], head: Head) -> Result<Name, GrammarFault>
 
 /// `KEYWORD=N Q`
 #[tactic(auto, unfolding(crate::specs::Lines::read_value_and_name))]
-pub fn read_number_and_name(
+pub(crate) fn read_number_and_name(
     line: &[u8],
     head: Head,
     low: u64,
@@ -78,7 +78,7 @@ pub fn read_number_and_name(
 
 /// `KEYWORD=N Q`, or `none` in place of the amount
 #[tactic(auto, unfolding(crate::specs::Lines::read_value_and_name))]
-pub fn read_limit_and_name(
+pub(crate) fn read_limit_and_name(
     line: &[u8],
     head: Head,
     amount: Amount,
@@ -93,7 +93,7 @@ pub fn read_limit_and_name(
 
 /// `KEYWORD=P Q`
 #[tactic(auto, unfolding(crate::specs::Lines::read_value_and_name))]
-pub fn read_two_names(line: &[u8], head: Head) -> Result<(Name, Name), GrammarFault>
+pub(crate) fn read_two_names(line: &[u8], head: Head) -> Result<(Name, Name), GrammarFault>
     requires { FitsLine line.now head }
     ensures { result ≡ read_value_and_name name_of fault.BadName line.now head }
 {
@@ -104,7 +104,7 @@ pub fn read_two_names(line: &[u8], head: Head) -> Result<(Name, Name), GrammarFa
 
 /// `KEYWORD=Q@H P`
 #[tactic(auto, unfolding(crate::specs::Lines::read_value_and_name))]
-pub fn read_dest_and_name(line: &[u8], head: Head) -> Result<(NamedDest, Name), GrammarFault>
+pub(crate) fn read_dest_and_name(line: &[u8], head: Head) -> Result<(NamedDest, Name), GrammarFault>
     requires { FitsLine line.now head }
     ensures { result ≡ read_value_and_name dest_of fault.BadName line.now head }
 {
@@ -115,7 +115,7 @@ pub fn read_dest_and_name(line: &[u8], head: Head) -> Result<(NamedDest, Name), 
 
 /// `KEYWORD SEQ.HOST`
 #[tactic(auto, unfolding(crate::specs::Lines::read_one_request))]
-pub fn read_one_request(line: &[u8], head: Head) -> Result<Named, GrammarFault>
+pub(crate) fn read_one_request(line: &[u8], head: Head) -> Result<Named, GrammarFault>
     requires { FitsLine line.now head }
     ensures { result ≡ read_one_request line.now head }
 {
@@ -127,7 +127,7 @@ pub fn read_one_request(line: &[u8], head: Head) -> Result<Named, GrammarFault>
 
 /// `KEYWORD SEQ.HOST Q`
 #[tactic(auto, unfolding(crate::specs::Lines::read_request_and_name))]
-pub fn read_request_and_name(line: &[u8], head: Head) -> Result<(Named, Name), GrammarFault>
+pub(crate) fn read_request_and_name(line: &[u8], head: Head) -> Result<(Named, Name), GrammarFault>
     requires { FitsLine line.now head }
     ensures { result ≡ read_request_and_name line.now head }
 {
@@ -163,7 +163,10 @@ fn last_forms(line: &[u8], place: usize) -> Result<Name, GrammarFault>
 
 /// `KEYWORD SEQ.HOST priority=N`
 #[tactic(auto, unfolding(crate::specs::Lines::read_request_and_priority))]
-pub fn read_request_and_priority(line: &[u8], head: Head) -> Result<(Named, u64), GrammarFault>
+pub(crate) fn read_request_and_priority(
+    line: &[u8],
+    head: Head,
+) -> Result<(Named, u64), GrammarFault>
     requires { FitsLine line.now head }
     ensures { result ≡ read_request_and_priority line.now head }
 {
@@ -175,7 +178,7 @@ pub fn read_request_and_priority(line: &[u8], head: Head) -> Result<(Named, u64)
 
 /// `KEYWORD D forms=F`
 #[tactic(auto, unfolding(crate::specs::Lines::read_name_and_forms))]
-pub fn read_name_and_forms(line: &[u8], head: Head) -> Result<(Name, Name), GrammarFault>
+pub(crate) fn read_name_and_forms(line: &[u8], head: Head) -> Result<(Name, Name), GrammarFault>
     requires { FitsLine line.now head }
     ensures { result ≡ read_name_and_forms line.now head }
 {
@@ -187,7 +190,7 @@ pub fn read_name_and_forms(line: &[u8], head: Head) -> Result<(Name, Name), Gram
 
 /// `KEYWORD Q` with options of these keywords
 #[tactic(auto, unfolding(crate::specs::Lines::read_made_queue))]
-pub fn read_made_queue(
+pub(crate) fn read_made_queue(
     line: &[u8],
     head: Head,
     keywords: &[Keyword],

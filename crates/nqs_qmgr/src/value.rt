@@ -28,7 +28,7 @@ fn amount_of(amount: Amount, bytes: &[u8]) -> Option<u64>
 
 /// An amount, or `none`, which is `Some(None)`.
 #[tactic(auto, unfolding(crate::specs::Heads::limit_of))]
-pub fn limit_of(amount: Amount, bytes: &[u8]) -> Option<Option<u64>>
+pub(crate) fn limit_of(amount: Amount, bytes: &[u8]) -> Option<Option<u64>>
     ensures { result ≡ limit_of amount bytes.now }
 {
     if b"none".as_slice() == bytes {
