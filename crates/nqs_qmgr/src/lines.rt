@@ -1,4 +1,5 @@
-//! The lines by their keywords.
+//! The lines by their keywords: a function for each verb, with an arm for each second keyword that
+//! it has. Which these are, and what stands from there on, is the table of specs/Lines.antt.
 #![tactic(auto, unfolding(crate::specs::Lines::read_shape, crate::specs::Lines::shape_of, crate::specs::Lines::table))]
 
 ghost use Rattle.std.specs.Prelude.{◌≡◌, length};
