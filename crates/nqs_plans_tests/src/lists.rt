@@ -2,7 +2,6 @@
 
 use nqs_builders::{add, host, queue, row};
 use nqs_lists::{show_lines, stat_lines};
-use nqs_reasons::why_lines;
 use nqs_state::HostState;
 use nqs_types::{ComplexDef, DeviceDef, Hold, QueueDef, Row};
 use nqs_values::{Bytes, Items, ListOf, Memory, Name};
@@ -129,32 +128,12 @@ fn wrong_line(alloc: Global, state: &HostState) -> Option<(u8, usize)> {
     None
 }
 
-fn is_explained(lines: &Items<Bytes>) -> bool {
-    line(lines, 0) == b"Request 12.ann: it is held.".as_slice()
-        && line(lines, 1) == b"Requests that wait before it: 0.".as_slice()
-}
-
-// Whether it is told why the one request doesn't run.
-fn explains(alloc: Global, state: &HostState) -> bool {
-    let Some(row) = state.rows.get_at(0) else {
-        return false;
-    };
-    match why_lines(alloc, state, row, 50) {
-        Ok(lines) => is_explained(&lines),
-        Err(_) => false,
-    }
-}
-
-// What is seen of the requests, of the lists of qmgr, and of why a request doesn't run.
-type Seen = (Option<(bool, bool, usize)>, Option<(u8, usize)>, bool);
+// What is seen of the requests, and of the lists of qmgr.
+type Seen = (Option<(bool, bool, usize)>, Option<(u8, usize)>);
 
 fn see(alloc: Global, state: &mut HostState) -> Result<Seen, Memory> {
     fill(alloc, state)?;
-    Ok((
-        list(alloc, state),
-        wrong_line(alloc, state),
-        explains(alloc, state),
-    ))
+    Ok((list(alloc, state), wrong_line(alloc, state)))
 }
 
 fn seen(alloc: Global) -> Result<Seen, Memory> {
@@ -165,7 +144,7 @@ fn seen(alloc: Global) -> Result<Seen, Memory> {
 }
 
 #[test]
-fn requests_are_counted_and_explained_and_each_list_is_shown(rt: HostRuntime) {
+fn requests_are_counted_and_each_list_is_shown(rt: HostRuntime) {
     let seen = seen(rt.alloc());
-    assert_eq!(rt; seen, Ok((Some((true, true, 2)), None, true)));
+    assert_eq!(rt; seen, Ok((Some((true, true, 2)), None)));
 }
