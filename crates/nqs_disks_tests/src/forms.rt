@@ -196,14 +196,14 @@ fn goes_on(alloc: Global, disk: MemDisk) -> Result<[bool; 2], Fail>
     else {
         return Err("load")?;
     };
-    let loaded = snapshot.as_slice() == STATE && has(&found, &PAYLOADS[..1]);
+    let loaded = journal.count() == 1 && snapshot.as_slice() == STATE && has(&found, &PAYLOADS[..1]);
     journal.append(PAYLOADS[1])?;
     snapshot.clear();
     found.clear();
     let told = journal.reread_either(alloc, &mut snapshot, &mut found)?;
     Ok([
         loaded,
-        told && snapshot.as_slice() == STATE && has(&found, &PAYLOADS),
+        told && journal.count() == 2 && snapshot.as_slice() == STATE && has(&found, &PAYLOADS),
     ])
 }
 

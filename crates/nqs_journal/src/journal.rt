@@ -1,6 +1,6 @@
 //! An open journal: payloads are appended by four calls of its disk, the gate's byte last.
-ghost use Rattle.std.specs.Prelude.{◌≡◌, ◌-◌, max, nat_le, IfOk, IfErr, ◌⊎◌, ◌↔◌, ◌+◌, ◌<◌, ◌≤◌, ◌^◌, ◌++◌, [], ◌∷◌, List, ℕ, IsTrue, Bool, IsErrOf, OnOk, OnErr};
-ghost use Rattle.std.specs.Prelude.{MatchResult, true, false, length, vec_capacity};
+ghost use Rattle.std.specs.Prelude.{◌≡◌, ◌-◌, max, nat_le, IfOk, IfErr, ◌⊎◌, ◌↔◌, ◌+◌, ◌<◌, ◌≤◌, ◌^◌, ◌++◌, [], ◌∷◌, List, ℕ, IsTrue, Bool, IsErrOf, OnOk};
+ghost use Rattle.std.specs.Prelude.{OnErr, MatchResult, true, false, length, vec_capacity};
 ghost use Rattle.nqs_outside.specs.Causes.{Rose};
 ghost use Rattle.nqs_outside.specs.History.{Call, content, IsQuiet, extended, moment, state_at, MayLeave, EachSince, StopsShort, IsExact, IsWhole};
 ghost use Rattle.nqs_journal.specs.Text.{header, records, snapshot_front, StandsAfter, StandsFor};

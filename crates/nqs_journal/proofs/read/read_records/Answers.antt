@@ -3,7 +3,7 @@ use Rattle.std.specs.List.{AllByRecursion}
 use Rattle.std.proofs.lemmas.Grind.{common_steps}
 use Rattle.nqs_journal.specs.Text.{records, IsShort}
 use Rattle.nqs_journal.proofs.Texts.{short-push, length-frame}
-use Rattle.nqs_journal.proofs.Readings.{one_more, gate_more}
+use Rattle.nqs_journal.proofs.Readings.{one_more, gate_more_behind}
 use Rattle.std.proofs.lemmas.List.{length-append}
 use Rattle.nqs_journal.proofs.read.read_records.Goals as goal
 
@@ -45,7 +45,8 @@ records-preserved c =
     record {
       text = one_more _ _ _ _ payload so_far begins c.in-Some-first_frame.ensures.some
           ∙ ap (λ ps. take c.args.front c.args.bytes.now ++ records ps ++ c.in-Some-first_frame.more.now) (sym pushed);
-      gate = gate_more _ payload so_far c.records.gate c.records.invariant.gate ∙ ap (λ ps. length (take c.args.front c.args.bytes.now ++ records ps)) (sym pushed);
+      gate = gate_more_behind _ payload so_far c.records.gate c.records.invariant.gate
+          ∙ ap (λ ps. length (take c.args.front c.args.bytes.now ++ records ps)) (sym pushed);
       size = omega (
         arith,
         c.records.invariant.size,
