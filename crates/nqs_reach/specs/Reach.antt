@@ -42,7 +42,7 @@ module _ {E : Type 0} where
   abbrev pub is_in_reach : HostId → State E → RequestId → Bool
   is_in_reach peer s id = list_any (is_offered_to peer id) s.hands || list_any (is_promised_to peer id) s.promises
 
-  -- a request is in a peer's reach, or is none of this host's
+  -- a request is in a peer's reach, or the host doesn't have it
   abbrev pub is_in_reach_or_new : HostId → State E → RequestId → Bool
   is_in_reach_or_new peer s id = is_in_reach peer s id || not (has_row id s)
 
@@ -109,7 +109,7 @@ module _ {E : Type 0} where
   abbrev pub IsWithinReach : HostId → State E → State E → Type 0
   IsWithinReach peer s t = IsWithin peer (is_in_reach peer s) s t
 
-  -- what any number of messages of a peer may make of a state: rows may come in that are of requests which the host didn't have
+  -- what any number of messages of a peer may make of a state: rows may come in of requests that the host didn't have
   abbrev pub IsWithinReachInTheEnd : HostId → State E → State E → Type 0
   IsWithinReachInTheEnd peer s t = IsWithin peer (is_in_reach_or_new peer s) s t
 
