@@ -196,7 +196,9 @@ fn goes_on(alloc: Global, disk: MemDisk) -> Result<[bool; 2], Fail>
     else {
         return Err("load")?;
     };
-    let loaded = journal.count() == 1 && snapshot.as_slice() == STATE && has(&found, &PAYLOADS[..1]);
+    let loaded = journal.count() == 1
+        && snapshot.as_slice() == STATE
+        && has(&found, &PAYLOADS[..1]);
     journal.append(PAYLOADS[1])?;
     snapshot.clear();
     found.clear();
