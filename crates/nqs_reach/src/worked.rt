@@ -4,6 +4,7 @@ ghost use Rattle.std.specs.Prelude.{◌≡◌, codes, [], ◌∷◌, ◌++◌, m
 ghost use Rattle.nqs_types.specs.declared.request.Phase.TheVariants.{Committed, Offered};
 ghost use Rattle.nqs_types.specs.declared.request.RowState.TheVariants.{Queued};
 ghost use Rattle.nqs_types.specs.declared.message.Body.TheVariants.{Abort, Answer, Commit, Done, EndedAck, Inquire, Offer, Ready, Refused, Stage, Staged};
+ghost use Rattle.nqs_reach.specs.Deliveries.{after_message};
 ghost use Rattle.nqs_reach.specs.Worked.{after, alpha, batch_of, beta, busy, carried, elsewhere, file, gamma, going, hand, known, promise, request, row, small};
 ghost use Rattle.nqs_reach.specs.Worked.{stage};
 
@@ -22,7 +23,7 @@ pub fn offers_are_answered()
 {}
 
 /// Promises to the sender: an offer makes one in place of the older one, a commit makes a request
-/// of it, which waits, and an abort lets it go.
+/// of it, which waits, and an abort lets it go. An offer and a commit bring in one of the sender's.
 pub fn promises_are_settled()
     ensures offer { after beta (Offer 6 (codes "batch") (carried (request 9 beta)) (codes "date"))
         ≡ record small { promises = promise gamma 6 8 5 ∷ promise beta 6 9 6 ∷ []; peers = known ∷ record known { closed = 5 } ∷ known ∷ []; arrivals = 6 } }
@@ -32,6 +33,9 @@ pub fn promises_are_settled()
           promises = promise gamma 6 8 5 ∷ [];
           peers = known ∷ record known { closed = 5 } ∷ known ∷ [];
         } }
+    ensures both { map (λ r. r.id) (after_message (51, record { from = beta; to = alpha; body = Commit 6 })
+        (after beta (Offer 6 (codes "batch") (carried (request 9 beta)) (codes "date")))).rows
+        ≡ request 1 alpha ∷ request 2 alpha ∷ request 3 alpha ∷ request 9 beta ∷ [] }
     ensures abort { after beta (Abort 5)
         ≡ record small { promises = promise gamma 6 8 5 ∷ []; peers = known ∷ record known { closed = 5 } ∷ known ∷ [] } }
 {}
