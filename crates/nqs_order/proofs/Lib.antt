@@ -1,2 +1,4 @@
 pub mod BestLemmas
 pub mod Candidates
+pub mod LineLemmas
+pub mod OrderLemmas

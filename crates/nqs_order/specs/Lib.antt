@@ -1,3 +1,6 @@
 pub mod Best
+pub mod Indexed
+pub mod Keys
+pub mod Lines
 pub mod Places
 pub mod Waiting

@@ -8,9 +8,17 @@
 mod best;
 mod choice;
 mod eligible;
+mod index;
+mod key;
+mod line;
 mod limits;
+mod steps;
 
 pub use choice::pick;
 pub use eligible::{comes_before, first_eligible, is_eligible, kind_allows, user_allows};
+pub use index::{Index, QueueIndex, owners_count_rows};
+pub use key::Key;
+pub use line::{Entry, Line, keys_order_rows};
 pub use limits::{complex_allows, global_allows, run_allows, within_limits};
 pub use nqs_types::Choice;
+pub use steps::Steps;

@@ -20,7 +20,7 @@ pub(crate) fn is_active_in(row: &Row, queue: &Name) -> bool
     row.state != RowState::Queued && *queue == row.queue
 }
 
-fn runs_in(row: &Row, complex: &ComplexDef) -> bool
+pub(crate) fn runs_in(row: &Row, complex: &ComplexDef) -> bool
     ensures { result ≡ runs_in complex.now row.now }
 {
     row.state == RowState::Running && has_name(complex.queues.as_slice(), &row.queue)
@@ -35,7 +35,7 @@ fn is_batch_queue(queue: Option<&QueueDef>) -> bool
     }
 }
 
-fn runs_in_batch(state: &HostState, row: &Row) -> bool
+pub(crate) fn runs_in_batch(state: &HostState, row: &Row) -> bool
     ensures { result ≡ runs_in_batch (content state.now) row.now }
 {
     row.state == RowState::Running && is_batch_queue(state.queues.get(&row.queue))

@@ -1,0 +1,205 @@
+//! A sorted index of what may start: for each queue its waiting rows in the order in which they
+//! start, and how many rows are active or run, so that no limit needs a look at all rows.
+//! `specs/Indexed.antt` says what it is that stands for a state.
+
+ghost use Rattle.std.specs.Prelude.{◌≡◌, ◌<◌, [], length, map, filter, OnOk, IfOk};
+ghost use Rattle.nqs_state.specs.State.{content};
+ghost use Rattle.nqs_rules.specs.Order.{runs_in_batch};
+ghost use Rattle.nqs_order.specs.Indexed.{StandsForIndex, CountsRows, waits_in, with_row, line_of, with_owner, owners_in, queue_of, running_of};
+
+use crate::key::Key;
+use crate::limits::{is_active_in, runs_in, runs_in_batch};
+use crate::line::Line;
+use crate::steps::Steps;
+use nqs_state::HostState;
+use nqs_types::{ComplexDef, QueueDef, Row, RowState};
+use nqs_values::{Items, ListOf, Memory, Name};
+use std::alloc::Global;
+use std::marker::Brand;
+use std::sync::ledger::{Blank, Ledger};
+
+/// What is kept of a queue.
+pub struct QueueIndex {
+    /// Its waiting rows.
+    line: Line,
+    /// The owner of each of its rows that run or are on their way.
+    owners: ListOf<Name>,
+}
+
+impl Drop for QueueIndex {
+    fn drop(self) {
+        let QueueIndex { line: _, owners: _ } = self;
+    }
+}
+
+/// What is kept of a host: of each queue and each complex, in the host's order.
+pub struct Index {
+    queues: Items<QueueIndex>,
+    /// How many rows of each complex's queues run.
+    complexes: ListOf<usize>,
+    /// How many rows of batch queues run.
+    batch: usize,
+}
+
+impl Drop for Index {
+    fn drop(self) {
+        let Index {
+            queues: _,
+            complexes: _,
+            batch: _,
+        } = self;
+    }
+}
+
+/// The owners that are kept of a queue count its active rows, and those of each owner.
+pub fn owners_count_rows()
+    ensures { CountsRows }
+{
+}
+
+fn waits_in(row: &Row, queue: &Name) -> bool
+    ensures { result ≡ waits_in queue.now row.now }
+{
+    row.state == RowState::Queued && *queue == row.queue
+}
+
+// A waiting row of the queue gets its place in the line.
+fn add_waiting<L: Ledger>(
+    line: &mut Line,
+    queue: &Name,
+    row: &Row,
+    steps: &mut Steps<L>,
+) -> Result<(), Memory>
+    ensures { OnOk result (line.new ≡ with_row queue.now row.now line.old) }
+{
+    if !waits_in(row, queue) {
+        return Ok(());
+    }
+    line.insert(Key::of(row), row.id, steps)
+}
+
+// The line of a queue.
+fn line_of<L: Ledger>(
+    alloc: Global,
+    state: &HostState,
+    queue: &Name,
+    steps: &mut Steps<L>,
+) -> Result<Line, Memory>
+    ensures { IfOk result (λ line. line ≡ line_of queue.now [] state.now.rows.items) }
+{
+    let mut line = Line::new(alloc);
+    let mut place = 0;
+    while place < state.rows.len() {
+        add_waiting(&mut line, queue, state.rows.at(place), steps)?;
+        place += 1;
+    }
+    Ok(line)
+}
+
+// An active row of the queue gives its owner.
+fn add_owner(owners: &mut ListOf<Name>, queue: &Name, row: &Row) -> Result<(), Memory>
+    ensures { OnOk result (owners.new ≡ with_owner queue.now row.now owners.old) }
+{
+    if !is_active_in(row, queue) {
+        return Ok(());
+    }
+    owners.push(row.job.owner)?;
+    Ok(())
+}
+
+// The owners of the active rows of a queue.
+fn owners_in(alloc: Global, state: &HostState, queue: &Name) -> Result<ListOf<Name>, Memory>
+    ensures { IfOk result (λ owners. owners ≡ owners_in queue.now state.now.rows.items) }
+{
+    let mut owners = ListOf::new(alloc);
+    let mut place = 0;
+    while place < state.rows.len() {
+        add_owner(&mut owners, queue, state.rows.at(place))?;
+        place += 1;
+    }
+    Ok(owners)
+}
+
+fn queue_of<L: Ledger>(
+    alloc: Global,
+    state: &HostState,
+    queue: &QueueDef,
+    steps: &mut Steps<L>,
+) -> Result<QueueIndex, Memory>
+    ensures { IfOk result (λ q. q ≡ queue_of (content state.now) queue.now) }
+{
+    let line = line_of(alloc, state, &queue.name, steps)?;
+    let owners = owners_in(alloc, state, &queue.name)?;
+    Ok(QueueIndex { line, owners })
+}
+
+fn queues_of<L: Ledger>(
+    alloc: Global,
+    state: &HostState,
+    steps: &mut Steps<L>,
+) -> Result<Items<QueueIndex>, Memory>
+    ensures { IfOk result (λ qs. qs ≡ map (queue_of (content state.now)) state.now.queues.items) }
+{
+    let mut queues = Items::new(alloc);
+    let mut place = 0;
+    while place < state.queues.len() {
+        queues.push(queue_of(alloc, state, state.queues.at(place), steps)?)?;
+        place += 1;
+    }
+    Ok(queues)
+}
+
+// How many rows of the complex's queues run.
+fn running_of(state: &HostState, complex: &ComplexDef) -> usize
+    ensures { result ≡ running_of (content state.now) complex.now }
+{
+    state.rows.count(|row: &Row| runs_in(row, complex))
+}
+
+fn complexes_of(alloc: Global, state: &HostState) -> Result<ListOf<usize>, Memory>
+    ensures { IfOk result (λ counts. counts ≡ map (running_of (content state.now)) state.now.complexes.items) }
+{
+    let mut counts = ListOf::new(alloc);
+    let mut place = 0;
+    while place < state.complexes.len() {
+        counts.push(running_of(state, state.complexes.at(place)))?;
+        place += 1;
+    }
+    Ok(counts)
+}
+
+// How many rows of batch queues run.
+fn running_batch(state: &HostState) -> usize
+    ensures { result ≡ length (filter (runs_in_batch (content state.now)) state.now.rows.items) }
+{
+    state.rows.count(|row: &Row| runs_in_batch(state, row))
+}
+
+fn counted_build<L: Ledger>(
+    alloc: Global,
+    state: &HostState,
+    blank: Blank,
+) -> Result<Index, Memory>
+    requires name { blank.name ≡ L.name }
+    requires parts { blank.parts ≡ L.parts }
+    requires some { 0 < L.parts }
+    ensures { IfOk result (λ index. StandsForIndex index (content state.now)) }
+{
+    let mut steps = Steps::<L>::new(blank);
+    let queues = queues_of(alloc, state, &mut steps)?;
+    let complexes = complexes_of(alloc, state)?;
+    Ok(Index {
+        queues,
+        complexes,
+        batch: running_batch(state),
+    })
+}
+
+impl Index {
+    /// The index of a state.
+    pub fn build(alloc: Global, state: &HostState) -> Result<Index, Memory>
+        ensures { IfOk result (λ index. StandsForIndex index (content state.now)) }
+    {
+        counted_build::<Brand>(alloc, state, Blank::new(1))
+    }
+}
