@@ -1,4 +1,5 @@
 pub mod BestLemmas
 pub mod Candidates
+pub mod IndexLemmas
 pub mod LineLemmas
 pub mod OrderLemmas
