@@ -2,6 +2,8 @@
 //!
 //! `limits` has the limits of queues and complexes, `eligible` the first row of a queue that may start, `choice`
 //! the next start of the host, `best` the search for the best of a table.
+//! `index` keeps what may start in order, with its counts, for whoever doesn't want to look at all rows: `key` has
+//! what orders rows, `steps` the count of comparisons, `line` a queue's waiting rows. Nothing calls it yet.
 //! `nqs_rules/specs/Order.antt` has the rules.
 #![tactic(auto)]
 
