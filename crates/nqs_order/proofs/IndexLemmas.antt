@@ -1,6 +1,9 @@
 -- Indexes: tables gone over from the front, and owners counted.
 use Rattle.std.proofs.Common.{◌≡◌, ℕ, ◌+◌, ◌≤◌, suc, zero, Bool, true, false, ◌&&◌, List, [], ◌∷◌, ◌++◌, length, drop, map, filter, Some, slice_get, refl, sym, ap, ◌∙◌, arith, append_assoc, if◌then◌else◌}
 use Rattle.std.specs.Prelude.{cond}
+use Rattle.std.proofs.Common.{◌<◌, slice_set, slice_index_or}
+use Rattle.nqs_order.specs.declared.line.Entry.{Entry}
+use Rattle.nqs_order.specs.declared.index.QueueIndex.{QueueIndex}
 use Rattle.nqs_keyed.proofs.TableLemmas.{drop-at}
 use Rattle.nqs_values.specs.Same.{name_eq}
 use Rattle.nqs_types.specs.declared.request.Row.{Row}
@@ -73,3 +76,12 @@ module _ {E : Type 0} (q : List ℕ) where
 
 pub counts_rows : CountsRows
 counts_rows q rows = counts_owners q rows
+
+-- the line of a queue is changed, where its index is
+pub line_changed : (qs : List QueueIndex) (place : ℕ) (new q : QueueIndex) (f : List Entry → List Entry) → place < length (map (λ (q : QueueIndex). q.line) qs)
+    → q ≡ slice_index_or qs place q → new.line ≡ f q.line
+    → map (λ (q : QueueIndex). q.line) (slice_set qs place new)
+    ≡ slice_set (map (λ (q : QueueIndex). q.line) qs) place (f (slice_index_or (map (λ (q : QueueIndex). q.line) qs) place []))
+line_changed [] place new q f lt at is = absurd (let no : ⊥ = omega arith in no)
+line_changed (y ∷ qs) zero new q f lt at is = ap (λ l. l ∷ map (λ (q : QueueIndex). q.line) qs) (is ∙ ap (λ (q : QueueIndex). f q.line) at)
+line_changed (y ∷ qs) (suc n) new q f lt at is = ap (λ l. y.line ∷ l) (line_changed qs n new q f (omega arith) at is)

@@ -1,5 +1,5 @@
 -- What an index keeps of a state.
-use Rattle.std.specs.Prelude.{◌≡◌, ℕ, Bool, not, ◌&&◌, if◌then◌else◌, List, [], ◌∷◌, ◌++◌, map, filter, length}
+use Rattle.std.specs.Prelude.{◌≡◌, ℕ, Bool, not, ◌&&◌, if◌then◌else◌, List, [], ◌∷◌, ◌++◌, map, filter, length, slice_set, slice_index_or}
 use Rattle.nqs_values.specs.Same.{name_eq}
 use Rattle.nqs_values.specs.declared.extent.Extent.{Extent}
 use Rattle.nqs_types.specs.declared.request.Row.{Row}
@@ -13,6 +13,14 @@ use Rattle.nqs_order.specs.declared.index.QueueIndex.{QueueIndex}
 use Rattle.nqs_order.specs.declared.index.Index.{Index}
 use Rattle.nqs_order.specs.Keys.{key_of}
 use Rattle.nqs_order.specs.Lines.{placed, entry_at}
+
+-- the lines of an index's queues
+abbrev pub lines_of : Index → List (List Entry)
+lines_of index = map (λ (q : QueueIndex). q.line) index.queues.items
+
+-- the lines, with an entry put where it belongs in the one at a place
+abbrev pub entered : ℕ → Entry → List (List Entry) → List (List Entry)
+entered place x lines = slice_set lines place (placed x (slice_index_or lines place []))
 
 module _ {E : Type 0} where
   -- the row is queued in the queue
@@ -46,7 +54,7 @@ module _ {E : Type 0} where
 
   -- the index keeps of each queue and complex, and of all batch queues, what the state's rows give
   pub record StandsForIndex (index : Index) (s : State E) : Type 0 where
-    pub queues : index.queues ≡ map (queue_of s) s.queues
+    pub queues : index.queues.items ≡ map (queue_of s) s.queues
     pub complexes : index.complexes ≡ map (running_of s) s.complexes
     pub batch : index.batch ≡ length (filter (runs_in_batch s) s.rows)
 

@@ -2,17 +2,18 @@
 //! start, and how many rows are active or run, so that no limit needs a look at all rows.
 //! `specs/Indexed.antt` says what it is that stands for a state.
 
-ghost use Rattle.std.specs.Prelude.{◌≡◌, ◌<◌, [], length, map, filter, OnOk, IfOk};
+ghost use Rattle.std.specs.Prelude.{◌≡◌, ◌<◌, ◌≤◌, ◌+◌, ◌-◌, ◌*◌, ◌^◌, slice_index_or, OnErr, [], length, map, filter, OnOk, IfOk};
 ghost use Rattle.nqs_state.specs.State.{content};
 ghost use Rattle.nqs_rules.specs.Order.{runs_in_batch};
-ghost use Rattle.nqs_order.specs.Indexed.{StandsForIndex, CountsRows, waits_in, with_row, line_of, with_owner, owners_in, queue_of, running_of};
+ghost use Rattle.nqs_order.specs.Indexed.{StandsForIndex, CountsRows, waits_in, with_row, line_of, with_owner, owners_in, queue_of, running_of, lines_of, entered};
+ghost use Rattle.nqs_order.specs.Lines.{entry_at};
 
 use crate::key::Key;
 use crate::limits::{is_active_in, runs_in, runs_in_batch};
 use crate::line::Line;
 use crate::steps::Steps;
 use nqs_state::HostState;
-use nqs_types::{ComplexDef, QueueDef, Row, RowState};
+use nqs_types::{ComplexDef, QueueDef, RequestId, Row, RowState};
 use nqs_values::{Items, ListOf, Memory, Name};
 use std::alloc::Global;
 use std::marker::Brand;
@@ -34,7 +35,7 @@ impl Drop for QueueIndex {
 
 /// What is kept of a host: of each queue and each complex, in the host's order.
 pub struct Index {
-    queues: Items<QueueIndex>,
+    queues: Vec<QueueIndex>,
     /// How many rows of each complex's queues run.
     complexes: ListOf<usize>,
     /// How many rows of batch queues run.
@@ -189,7 +190,7 @@ fn counted_build<L: Ledger>(
     let queues = queues_of(alloc, state, &mut steps)?;
     let complexes = complexes_of(alloc, state)?;
     Ok(Index {
-        queues,
+        queues: queues.into_vec(),
         complexes,
         batch: running_batch(state),
     })
@@ -201,5 +202,31 @@ impl Index {
         ensures { IfOk result (λ index. StandsForIndex index (content state.now)) }
     {
         counted_build::<Brand>(alloc, state, Blank::new(1))
+    }
+
+    /// How many queues it has.
+    pub fn len(&self) -> usize
+        ensures { result ≡ length (lines_of self.now) }
+    {
+        self.queues.len()
+    }
+
+    /// Puts a request into the line of the queue at a place, from 0, behind those of equal keys:
+    /// twice to the power of the comparisons is at most twice the line's length, and one. An `Err`
+    /// changes no line.
+    pub fn insert<L: Ledger>(
+        &mut self,
+        queue: usize,
+        key: Key,
+        id: RequestId,
+        steps: &mut Steps<L>,
+    ) -> Result<(), Memory>
+        requires { queue < length (lines_of self.old) }
+        ensures ok { OnOk result (lines_of self.new ≡ entered queue (entry_at key id) (lines_of self.old)) }
+        ensures err { OnErr result (lines_of self.new ≡ lines_of self.old) }
+        ensures rises { steps.old ≤ steps.new }
+        ensures cost { 2 ^ (steps.new - steps.old) ≤ 2 * length (slice_index_or (lines_of self.old) queue []) + 1 }
+    {
+        self.queues[queue].line.insert(key, id, steps)
     }
 }
