@@ -55,8 +55,7 @@ impl Drop for Index {
 /// The owners that are kept of a queue count its active rows, and those of each owner.
 pub fn owners_count_rows()
     ensures { CountsRows }
-{
-}
+{}
 
 fn waits_in(row: &Row, queue: &Name) -> bool
     ensures { result ≡ waits_in queue.now row.now }
@@ -176,11 +175,7 @@ fn running_batch(state: &HostState) -> usize
     state.rows.count(|row: &Row| runs_in_batch(state, row))
 }
 
-fn counted_build<L: Ledger>(
-    alloc: Global,
-    state: &HostState,
-    blank: Blank,
-) -> Result<Index, Memory>
+fn counted_build<L: Ledger>(alloc: Global, state: &HostState, blank: Blank) -> Result<Index, Memory>
     requires name { blank.name ≡ L.name }
     requires parts { blank.parts ≡ L.parts }
     requires some { 0 < L.parts }

@@ -12,15 +12,15 @@ mod choice;
 mod eligible;
 mod index;
 mod key;
-mod line;
 mod limits;
+mod line;
 mod steps;
 
 pub use choice::pick;
 pub use eligible::{comes_before, first_eligible, is_eligible, kind_allows, user_allows};
 pub use index::{Index, QueueIndex, owners_count_rows};
 pub use key::Key;
-pub use line::{Entry, Line, keys_order_rows};
 pub use limits::{complex_allows, global_allows, run_allows, within_limits};
+pub use line::{Entry, Line, keys_order_rows};
 pub use nqs_types::Choice;
 pub use steps::Steps;
