@@ -5,24 +5,25 @@ use Rattle.nqs_state.specs.State.{Plain}
 use Rattle.nqs_types.specs.declared.change.Change.TheVariants.{Boot}
 use Rattle.nqs_types.specs.declared.ids.HostId.{HostId}
 use Rattle.nqs_types.specs.declared.world.Which.{Which}
-use Rattle.nqs_types.specs.declared.world.Which.TheVariants.{First, Spool}
 use Rattle.nqs_rules.specs.Applied.{applied}
 use Rattle.nqs_outside.specs.Causes.{Rose}
-use Rattle.nqs_outside.specs.History.{History, content}
+use Rattle.nqs_outside.specs.History.{History}
 use Rattle.nqs_outside.specs.declared.disk.Disk as disk
-use Rattle.nqs_store.proofs.TellsNow.{told_now}
+use Rattle.nqs_store.specs.Active.{Active}
 use Rattle.nqs_store.specs.Commits.{EachImage}
+use Rattle.nqs_store.specs.Disks.{contents}
 use Rattle.nqs_store.specs.Faults.{IsLoadFault}
 use Rattle.nqs_store.specs.Images.{IsTold}
 use Rattle.nqs_store.specs.declared.fault.LoadFault.{LoadFault}
 use Rattle.nqs_store.specs.declared.fault.LoadFault.TheVariants as load
-use Rattle.nqs_node.specs.Carried.{IsOneOrOther}
+use Rattle.nqs_node.specs.Carried.{after_kept, IsOneOrOther}
 use Rattle.nqs_node.specs.Nodes.{content_of, history_of, Tells}
 use Rattle.nqs_node.specs.declared.node.Node.{Node}
+use Rattle.nqs_node.proofs.Nothing.{told_images}
 use Rattle.nqs_serve.specs.Ends.{EndsWith}
 use Rattle.nqs_serve.specs.Moments.{TellsThroughout, IsPassed}
 use Rattle.nqs_serve.specs.Runs.{Act, Turn, idle}
-use Rattle.nqs_serve.proofs.Moments.{through_change, through_then, through_as}
+use Rattle.nqs_serve.proofs.Moments.{through_made, through_then, through_as}
 use Rattle.nqs_serve.specs.declared.daemon.ServeEnd.{ServeEnd}
 use Rattle.nqs_serve.specs.declared.daemon.ServeEnd.TheVariants as end
 use Rattle.nqs_clients.specs.declared.status.NqsStatus.{NqsStatus}
@@ -32,11 +33,11 @@ use Rattle.nqs_cli.specs.Formats.{AreSame}
 
 -- whatever a stop may leave of the disks of a node tells what the node tells
 pub leaves : {D : Type 0} {g : disk.Ghosts D} (node : Node D g) (s : Plain) (k : Which → History) → IsTrue g.tells → Tells node s
-    → ((which : Which) → k which ≡ history_of node which) → EachImage k (λ images. IsTold (images First) (images Spool) s)
+    → ((which : Which) → k which ≡ history_of node which) → EachImage k (λ images. IsTold images s)
 leaves node s k telling tells same =
-    subst (λ (h : Which → History). EachImage h (λ images. IsTold (images First) (images Spool) s)) (λ j which. sym (same which) j)
-    (subst (λ (t : Plain). EachImage (history_of node) (λ images. IsTold (images First) (images Spool) t)) tells.is
-    (told_now node.store (content_of node) telling tells.told))
+    subst (λ (h : Which → History). EachImage h (λ images. IsTold images s)) (λ j which. sym (same which) j)
+    (subst (λ (t : Plain). EachImage (history_of node) (λ images. IsTold images t)) tells.is
+    (told_images node.store (content_of node) telling tells.told))
 
 -- a run ends so where more than the state is told
 pub ends_as : (P Q : Plain → Type 0) → ((s : Plain) → P s → Q s) → (so : ServeEnd) (turns : ℕ) (bs : List Bool) (t : Turn) (more : List ℕ)
@@ -48,19 +49,20 @@ ends_as P Q f end.DiskFault turns bs t more e = e
 ends_as P Q f (end.Memory memory) turns bs t more e = ((e.0.0, f e.0.0 e.0.1, e.0.2), e.1)
 
 -- at each moment of the boot and of the run after it
-pub since_boot : (old mid new now : Which → History) (s : Plain) (acts : List Act) (more : List ℕ) → ((which : Which) → now which ≡ new which)
-    → IsOneOrOther old mid (Some Boot) s → TellsThroughout mid new (IsPassed (here_of s) (idle (applied Boot s)) acts more)
-    → TellsThroughout old now (IsPassedSince s acts more)
-since_boot old mid new now s acts more same boot run =
+pub since_boot : (a b : Active) (old mid new now : Which → History) (s : Plain) (acts : List Act) (more : List ℕ)
+    → ((which : Which) → now which ≡ new which) → b ≡ after_kept (Some Boot) a
+    → IsOneOrOther a old mid (Some Boot) s → TellsThroughout b mid new (IsPassed (here_of s) (idle (applied Boot s)) acts more)
+    → TellsThroughout a old now (IsPassedSince s acts more)
+since_boot a b old mid new now s acts more same active boot run =
     let P = IsPassedSince s acts more in
-    let all = through_then old mid new P (through_change old mid (Some Boot) s P boot (inl refl) (inr ([], acts, refl, inl refl)))
-    (through_as mid new (IsPassed (here_of s) (idle (applied Boot s)) acts more) P (λ u at. inr at) run) in
-    subst (λ (h : Which → History). TellsThroughout old h P) (λ j which. sym (same which) j) all
+    let all = through_then a b run.0 old mid new P (through_made a b old mid (Some Boot) s P active boot (inl refl) (inr ([], acts, refl, inl refl)))
+    (through_as b run.0 mid new (IsPassed (here_of s) (idle (applied Boot s)) acts more) P (λ u at. inr at) run.1) in
+    subst (λ (h : Which → History). TellsThroughout a old h P) (λ j which. sym (same which) j) (run.0, all)
 
 -- the boot alone
-pub boot_alone : (old mid now : Which → History) (s : Plain) → ((which : Which) → now which ≡ mid which) → IsOneOrOther old mid (Some Boot) s
-    → IsOneOrOther old now (Some Boot) s
-boot_alone old mid now s same boot = subst (λ (h : Which → History). IsOneOrOther old h (Some Boot) s) (λ j which. sym (same which) j) boot
+pub boot_alone : (a : Active) (old mid now : Which → History) (s : Plain) → ((which : Which) → now which ≡ mid which)
+    → IsOneOrOther a old mid (Some Boot) s → IsOneOrOther a old now (Some Boot) s
+boot_alone a old mid now s same boot = subst (λ (h : Which → History). IsOneOrOther a old h (Some Boot) s) (λ j which. sym (same which) j) boot
 
 module _ (tells : Bool) (me : HostId) (names : List (List ℕ)) (turns : ℕ) (was now : Outside) where
   -- the host could not be booted
@@ -68,7 +70,7 @@ module _ (tells : Bool) (me : HostId) (names : List (List ℕ)) (turns : ℕ) (w
       → ((which : Which) → fault ≡ load.Disk which → Rose (was.disks.faults which) (now.disks.faults which))
       → (IsTrue tells → HasFailed was.disks now.disks)
       → (IsTrue tells → (which : Which) (place : ℕ) → fault ≡ load.NotNqs which place
-      → IsLoadFault (content (was.disks.histories First)) (content (was.disks.histories Spool)) fault)
+      → IsLoadFault (contents was.disks.histories) fault)
       → (IsTrue tells → fault ≡ load.Memory want → AreSame was.disks.histories now.disks.histories)
       → Daemons tells me names turns was now status
   not_booted (load.Disk which) status is unasked failed broken bad same =

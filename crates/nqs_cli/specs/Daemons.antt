@@ -8,12 +8,12 @@ use Rattle.nqs_state.specs.State.{Plain}
 use Rattle.nqs_types.specs.declared.change.Change.TheVariants.{Boot}
 use Rattle.nqs_types.specs.declared.ids.HostId.{HostId}
 use Rattle.nqs_types.specs.declared.world.Which.{Which}
-use Rattle.nqs_types.specs.declared.world.Which.TheVariants.{First, Spool}
 use Rattle.nqs_rules.specs.Applied.{applied}
 use Rattle.nqs_rules.specs.Tests.{same_host}
 use Rattle.nqs_outside.specs.Asked.{Asked, Print, Filing}
 use Rattle.nqs_outside.specs.Causes.{Rose}
-use Rattle.nqs_outside.specs.History.{content}
+use Rattle.nqs_store.specs.Active.{Active, IsActive}
+use Rattle.nqs_store.specs.Disks.{contents}
 use Rattle.nqs_store.specs.Faults.{IsLoadFault}
 use Rattle.nqs_store.specs.Commits.{EachImage}
 use Rattle.nqs_store.specs.Images.{IsTold}
@@ -55,11 +55,15 @@ daemon_parts dir me port o =
 
 -- the host that the disks tell, by what a read gives
 abbrev pub IsThere : DisksTold → Plain → Type 0
-IsThere d s = IsTold (content (d.histories First)) (content (d.histories Spool)) s
+IsThere d s = IsTold (contents d.histories) s
 
 -- whatever a stop may leave now tells this host
 abbrev pub Leaves : DisksTold → Plain → Type 0
-Leaves d s = EachImage d.histories (λ images. IsTold (images First) (images Spool) s)
+Leaves d s = EachImage d.histories (λ images. IsTold images s)
+
+-- by what a read gives the root names this journal, which can be read
+abbrev pub IsNamed : DisksTold → Active → Type 0
+IsNamed d a = IsActive (contents d.histories) a
 
 -- only the disks have been used
 abbrev pub IsUnasked : Outside → Outside → Type 0
@@ -86,17 +90,20 @@ abbrev pub HasServed : Bool → HostId → List (List ℕ) → ℕ → Outside �
 HasServed tells me names turns was now end = IsTrue tells → (s : Plain) × IsThere was.disks s × (is_here me names s ≡ true)
     × ((acts : List Act) × (t : Turn) × (more : List ℕ) × Ran (here_of s) acts (idle (applied Boot s)) t more (telling_of was) (telling_of now)
     × EndsWith (Leaves now.disks) end turns (stops (here_of s) (idle (applied Boot s)) acts) t more
-    × TellsThroughout was.disks.histories now.disks.histories (IsPassedSince s acts more))
+    × ((a : Active) × IsNamed was.disks a × TellsThroughout a was.disks.histories now.disks.histories (IsPassedSince s acts more)))
 
 -- The disks tell no host, or another, which was booted: it runs nothing, and what ran there starts again or is lost.
 abbrev pub IsNotOurs : HostId → List (List ℕ) → DisksTold → DisksTold → Type 0
 IsNotOurs me names was now =
-    ((which : Which) × (place : ℕ) × IsLoadFault (content (was.histories First)) (content (was.histories Spool)) (NotNqs which place))
-    ⊎ ((s : Plain) × IsThere was s × (is_here me names s ≡ false) × Leaves now (applied Boot s) × IsOneOrOther was.histories now.histories (Some Boot) s)
+    ((which : Which) × (place : ℕ) × IsLoadFault (contents was.histories) (NotNqs which place))
+    ⊎ ((s : Plain) × IsThere was s × (is_here me names s ≡ false) × Leaves now (applied Boot s)
+    × ((a : Active) × IsNamed was a × IsOneOrOther a was.histories now.histories (Some Boot) s))
 
--- The boot failed: at each moment a stop would have left the host before it or after it.
+-- The boot failed: at each moment a stop would have left the host before it or after it. Disks that name no journal are as they were.
 abbrev pub HasFailed : DisksTold → DisksTold → Type 0
-HasFailed was now = IsBrokenOff was.histories now.histories (Some Boot) × ((s : Plain) → IsThere was s → IsOneOrOther was.histories now.histories (Some Boot) s)
+HasFailed was now = ((a : Active) → IsNamed was a → IsBrokenOff a was.histories now.histories (Some Boot)
+    × ((s : Plain) → IsThere was s → IsOneOrOther a was.histories now.histories (Some Boot) s))
+    × (((a : Active) → IsNamed was a → ⊥) → AreSame was.histories now.histories)
 
 -- by its status, where the disks tell
 abbrev pub Daemons : Bool → HostId → List (List ℕ) → ℕ → Outside → Outside → NqsStatus → Type 0

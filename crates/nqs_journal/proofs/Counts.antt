@@ -1,9 +1,9 @@
 -- How many payloads a journal has.
-use Rattle.std.proofs.Common.{◌≡◌, ℕ, ◌+◌, ◌<◌, ◌≤◌, Bool, List, [], ◌∷◌, ◌++◌, length, ap, sym, ◌∙◌, subst, arith, length-append}
+use Rattle.std.proofs.Common.{◌≡◌, ℕ, ◌+◌, ◌-◌, ◌^◌, ◌<◌, ◌≤◌, Bool, true, List, [], ◌∷◌, ◌++◌, length, refl, ap, sym, ◌∙◌, subst, arith, length-append}
 use Rattle.std.proofs.Math.Logic.{∥∥₁_elim, ∥∥₁_map}
 use Rattle.std.specs.Coded.{Coded-set, coded_ℕ}
 use Rattle.nqs_outside.specs.History.{History, extended, content, IsQuiet}
-use Rattle.nqs_journal.specs.Text.{frame, records, StandsAfter}
+use Rattle.nqs_journal.specs.Text.{frame, records, snapshot_front, StandsAfter}
 use Rattle.nqs_journal.specs.Either.{front_of, IsSnapshot, StandsBy}
 use Rattle.nqs_journal.specs.Opened.{IsOpen, IsCounted}
 use Rattle.nqs_journal.specs.Plan.{append_calls}
@@ -50,6 +50,26 @@ counted_more h k gate count payload short made counted = ∥∥₁_map counted (
   opened = acknowledged h (front_of c.has c.snapshot) gate c.payloads payload c.opened short k made;
   count_is = omega (arith, c.count_is, length-append c.payloads (payload ∷ []));
 })
+
+-- the text of a snapshot's journal ends with a closed gate
+pub text_size : (snapshot text : List ℕ) → text ≡ snapshot_front snapshot ++ 0 ∷ [] → length text ≡ length (snapshot_front snapshot) + 1
+text_size snapshot text is = omega (arith, ap length is, length-append (snapshot_front snapshot) (0 ∷ []))
+
+-- where such a text was written, no payload is told
+pub counted_none : (k : History) (snapshot text : List ℕ) → length snapshot < 2 ^ 64 → text ≡ snapshot_front snapshot ++ 0 ∷ []
+    → IsOpen k (snapshot_front snapshot) (length (snapshot_front snapshot)) [] → ∥ IsCounted k (length text - 1) 0 ∥₁
+counted_none k snapshot text small is opened = ∣ record {
+  has = true;
+  snapshot = snapshot;
+  payloads = [];
+  is = small;
+  opened = record {
+    stands = opened.stands;
+    gate_place = let gate : length text - 1 ≡ length (snapshot_front snapshot) = omega (arith, text_size snapshot text is) in gate ∙ opened.gate_place;
+    quiet = opened.quiet;
+  };
+  count_is = refl;
+} ∣₁
 
 -- the count is that of the payloads that are told by one of the forms
 pub counted_is : (h : History) (gate count : ℕ) (has : Bool) (snapshot : List ℕ) (payloads : List (List ℕ)) → ∥ IsCounted h gate count ∥₁

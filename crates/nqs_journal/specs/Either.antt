@@ -21,6 +21,10 @@ abbrev pub IsSnapshot : Bool → List ℕ → Type 0
 IsSnapshot false snapshot = snapshot ≡ []
 IsSnapshot true snapshot = length snapshot < 2 ^ 64
 
+-- the whole text of a journal that begins with a snapshot and has no record
+abbrev pub IsSnapshotText : List ℕ → Type 0
+IsSnapshotText text = (snapshot : List ℕ) × (length snapshot < 2 ^ 64) × (text ≡ snapshot_front snapshot ++ 0 ∷ [])
+
 -- By one of the forms, as there is a snapshot or none, the bytes stand for it and the payloads.
 abbrev pub StandsBy : List ℕ → Bool → List ℕ → List (List ℕ) → Type 0
 StandsBy bytes has snapshot payloads = IsSnapshot has snapshot × StandsAfter (front_of has snapshot) bytes payloads

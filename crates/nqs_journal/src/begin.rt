@@ -1,8 +1,9 @@
 //! The first text of a journal: one that begins with a snapshot, and one that has a payload.
-ghost use Rattle.std.specs.Prelude.{◌≡◌, ◌⊎◌, ◌+◌, ◌<◌, ◌≤◌, ◌^◌, ◌++◌, [], ◌∷◌, ℕ, List, IsTrue, IsErrOf, OnOk, OnErr, IfOk, IfErr, length, vec_len};
+ghost use Rattle.std.specs.Prelude.{◌≡◌, ◌⊎◌, ◌+◌, ◌<◌, ◌≤◌, ◌^◌, ◌++◌, [], ◌∷◌, ℕ, List, false, IsTrue, IsErrOf, OnOk, OnErr, IfOk, IfErr, length, vec_len};
 ghost use Rattle.nqs_outside.specs.Causes.{Rose};
-ghost use Rattle.nqs_outside.specs.History.{Call, content, extended, StopsShort};
+ghost use Rattle.nqs_outside.specs.History.{Call, content, extended, moment, StopsShort, IsExact};
 ghost use Rattle.nqs_journal.specs.Text.{header, records, frame, snapshot_front};
+ghost use Rattle.nqs_journal.specs.Either.{IsSnapshotText};
 ghost use Rattle.nqs_journal.specs.Plan.{begin_calls, front_calls};
 ghost use Rattle.nqs_values.specs.Want.{want};
 ghost use Rattle.nqs_journal.specs.Opened.{IsOpen};
@@ -10,14 +11,18 @@ ghost use Rattle.nqs_journal.specs.Faults.{MatchBegin};
 
 use crate::JournalFault;
 use nqs_outside::{Disk, Failed};
+use nqs_values::Memory;
 use std::alloc::{AllocError, Global};
 
 pub(crate) const SNAPSHOT: [u8; 16] = *b"NQS-SNAPSHOT-v1\n";
 
+/// The whole text of a journal that begins with this snapshot and has no record, for
+/// `Journal::begin_anew`. `Memory` makes nothing.
 #[tactic(auto, unfolding(crate::specs::Text::snapshot_front))]
-pub(crate) fn snapshot_text(alloc: Global, snapshot: &[u8]) -> Result<Vec<u8>, AllocError>
+pub fn snapshot_text(alloc: Global, snapshot: &[u8]) -> Result<Vec<u8>, Memory>
     ensures text { IfOk result (λ text. text.items ≡ snapshot_front snapshot.now ++ 0 ∷ []) }
     ensures length { IfOk result (λ text. vec_len text ≡ length snapshot.now + 25) }
+    ensures begins { IfOk result (λ text. IsSnapshotText text.items) }
 {
     let mut text = Vec::new(alloc);
     text.extend_from_slice(&SNAPSHOT)?;
@@ -41,6 +46,10 @@ pub(crate) fn write_begin<D: Disk>(disk: &mut D, text: &[u8]) -> Result<(), Fail
     ensures failed { OnErr result (Rose (D.faults disk.old) (D.faults disk.new)) }
     // Only where the disk is starved, or a call was to fail.
     ensures cause { IsTrue D.tells → OnErr result (IsTrue (D.starved disk.new) ⊎ (i : ℕ) × IsTrue (D.fails disk.old i)) }
+    ensures exact { IsTrue D.tells → IsExact (D.fails disk.old) (D.starved disk.old) (D.starved disk.new)
+        (D.history disk.old) (D.history disk.new) (begin_calls text.now) }
+    // None of them was to fail.
+    ensures due { IsTrue D.tells → OnOk result ((i : ℕ) → i < 2 → D.fails disk.old (moment (D.history disk.old) + i) ≡ false) }
 {
     disk.write_at(0, text)?;
     disk.sync()?;

@@ -4,11 +4,12 @@ ghost use Rattle.std.specs.Prelude.{OnErr, MatchResult, true, false, length, vec
 ghost use Rattle.nqs_outside.specs.Causes.{Rose};
 ghost use Rattle.nqs_outside.specs.History.{Call, content, IsQuiet, extended, moment, state_at, MayLeave, EachSince, StopsShort, IsExact, IsWhole};
 ghost use Rattle.nqs_journal.specs.Text.{header, records, snapshot_front, StandsAfter, StandsFor};
-ghost use Rattle.nqs_journal.specs.Either.{front_of, IsSnapshot, StandsBy};
-ghost use Rattle.nqs_journal.specs.Plan.{append_calls, format_calls, front_calls};
+ghost use Rattle.nqs_journal.specs.Either.{front_of, IsSnapshot, IsSnapshotText, StandsBy};
+ghost use Rattle.nqs_journal.specs.Plan.{append_calls, begin_calls, format_calls, front_calls};
 ghost use Rattle.nqs_journal.specs.Faults.{IsAppendFault, IsEitherLoadFault, IsLoadFault, IsReadingFault, MatchBegin};
 ghost use Rattle.nqs_journal.specs.Opened.{IsCounted, IsOpen};
 ghost use Rattle.nqs_journal.specs.Gate.{IsAtGate};
+ghost use Rattle.nqs_values.specs.Want.{want};
 
 use crate::JournalFault;
 use crate::begin::{snapshot_text, write_begin};
@@ -244,13 +245,15 @@ impl<D: Disk> Journal<D> {
 
     /// Makes a disk the journal of a snapshot, whatever stood there.
     pub fn begin(alloc: Global, disk: D, snapshot: &[u8]) -> Result<Journal<D>, (JournalFault, D)>
-        requires { length snapshot.now < 2 ^ 40 }
         ensures tells { IsTrue D.tells → IfOk result (λ journal. Tells journal (snapshot_front snapshot.now) []) }
         ensures made { IsTrue D.tells → IfOk result (λ journal. history_of journal ≡ extended (D.history disk) (front_calls (snapshot_front snapshot.now))) }
         ensures broken { IsTrue D.tells → IfErr result (λ e. MatchBegin e.0 (D.history disk) (D.history e.1) (front_calls (snapshot_front snapshot.now))) }
         ensures failed { IfErr result (λ e. e.0 ≡ JournalFault.Disk → Rose (D.faults disk) (D.faults e.1)) }
         ensures running { IfOk result (λ journal. is_stopped journal ≡ false) }
         ensures counted { IfOk result (λ journal. count_of journal ≡ 0) }
+        ensures fuse { IsTrue D.tells → (i : ℕ) → MatchResult result (λ journal. D.fails (disk_of journal) i ≡ D.fails disk i)
+            (λ e. D.fails e.1 i ≡ D.fails disk i) }
+        ensures later { MatchResult result (λ journal. D.faults disk ≤ D.faults (disk_of journal)) (λ e. D.faults disk ≤ D.faults e.1) }
     {
         let mut disk = disk;
         let buffer = match Vec::with_capacity(alloc, ROOM) {
@@ -259,7 +262,7 @@ impl<D: Disk> Journal<D> {
         };
         let text = match snapshot_text(alloc, snapshot) {
             Ok(text) => text,
-            Err(refused) => return Err((refused.into(), disk)),
+            Err(refused) => return Err((JournalFault::Memory(refused), disk)),
         };
         match write_begin(&mut disk, &text) {
             Ok(()) => Ok(Journal {
@@ -271,6 +274,56 @@ impl<D: Disk> Journal<D> {
             }),
             Err(Failed) => Err((JournalFault::Disk, disk)),
         }
+    }
+
+    /// The journal of a disk that isn't used: it is stopped, so that nothing is appended until it is
+    /// begun anew. It makes no call of the disk, and a refusal gives the disk back.
+    pub fn rest(alloc: Global, disk: D) -> Result<Journal<D>, (JournalFault, D)>
+        ensures disk { MatchResult result (λ journal. disk_of journal ≡ disk) (λ e. e.1 ≡ disk) }
+        ensures only { IfErr result (λ e. e.0 ≡ JournalFault.Memory want) }
+        ensures stopped { IfOk result (λ journal. is_stopped journal ≡ true) }
+        ensures counted { IfOk result (λ journal. count_of journal ≡ 0) }
+    {
+        match Vec::with_capacity(alloc, ROOM) {
+            Ok(buffer) => Ok(Journal {
+                disk,
+                gate: 0,
+                count: 0,
+                buffer,
+                stopped: true,
+            }),
+            Err(refused) => Err((refused.into(), disk)),
+        }
+    }
+
+    /// Makes its disk the journal of the snapshot whose text `snapshot_text` gave, whatever stood
+    /// there and whatever the journal was. It takes no memory. After an error the journal is
+    /// stopped.
+    pub fn begin_anew(&mut self, text: &[u8]) -> Result<(), Failed>
+        requires { IsSnapshotText text.now }
+        ensures running { OnOk result (is_stopped self.new ≡ false) }
+        ensures stops { OnErr result (is_stopped self.new ≡ true) }
+        ensures counted { OnOk result (count_of self.new ≡ 0) }
+        ensures tells { IsTrue D.tells → OnOk result ((snapshot : List ℕ) → text.now ≡ snapshot_front snapshot ++ 0 ∷ []
+            → Tells self.new (snapshot_front snapshot) []) }
+        ensures made { IsTrue D.tells → OnOk result (history_of self.new ≡ extended (history_of self.old) (begin_calls text.now)) }
+        ensures broken { IsTrue D.tells → OnErr result ((calls : List Call) × (history_of self.new ≡ extended (history_of self.old) calls)
+            × StopsShort (begin_calls text.now) calls) }
+        // Which of the two fails is the disk's to say, unless it is starved.
+        ensures exact { IsTrue D.tells → IsExact (D.fails (disk_of self.old)) (D.starved (disk_of self.old)) (D.starved (disk_of self.new))
+            (history_of self.old) (history_of self.new) (begin_calls text.now) }
+        // At Ok none of them was to fail.
+        ensures due { IsTrue D.tells → OnOk result ((i : ℕ) → i < 2 → D.fails (disk_of self.old) (moment (history_of self.old) + i) ≡ false) }
+        ensures fuse { IsTrue D.tells → (i : ℕ) → D.fails (disk_of self.new) i ≡ D.fails (disk_of self.old) i }
+        ensures later { D.faults (disk_of self.old) ≤ D.faults (disk_of self.new) }
+        ensures failed { OnErr result (Rose (D.faults (disk_of self.old)) (D.faults (disk_of self.new))) }
+    {
+        self.stopped = true;
+        write_begin(&mut self.disk, text)?;
+        self.gate = text.len() as u64 - 1;
+        self.count = 0;
+        self.stopped = false;
+        Ok(())
     }
 
     /// How many payloads it has. Of a stopped journal it counts those before the append that

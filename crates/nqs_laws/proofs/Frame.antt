@@ -16,8 +16,9 @@ use Rattle.nqs_rules.specs.Step.{step}
 use Rattle.nqs_rules.specs.Start.{start}
 use Rattle.nqs_rules.specs.Stepped.{Stepped, shown, stored_parts}
 use Rattle.nqs_rules.specs.World.{World, Host, Ran, Fate, Made, StoppedBefore, StoppedAfter, Act, Asks, Ends, Finishes, Fails, Writes, Leaves, Delivers, Newest}
-use Rattle.nqs_rules.specs.World.{Ticks, Clock, Fuse, Crashes, Boots, Shows, fate, host_of, put_host, then_seen, seeing, unseen, stopped, used, seen_output}
-use Rattle.nqs_rules.specs.World.{sent_by, emits, change_fated, makes_change, steps, starts, all_starts, left_of, shuts_down, halted_host, halts, takes_up}
+use Rattle.nqs_rules.specs.World.{Ticks, Clock, Fuse, Crashes, Boots, Shows, fate, host_of, put_host, then_seen, seeing, unseen, stopped, used}
+use Rattle.nqs_rules.specs.World.{ready, cut_off, recorded}
+use Rattle.nqs_rules.specs.World.{seen_output, sent_by, emits, change_fated, makes_change, steps, starts, all_starts, left_of, shuts_down, halted_host, halts, takes_up}
 use Rattle.nqs_rules.specs.World.{taken_by, takes, finishes, finishes_up, delivers, packet_at, last_of, is_between, newest_between, boot_output, boots_down}
 use Rattle.nqs_rules.specs.World.{boots, crashes_up, runs_now, is_less_row, fused_host, fuses}
 use Rattle.nqs_rules.specs.Run.{states_of, happens, run}
@@ -175,9 +176,9 @@ put_states h host w = map-at state_in h.0 (λ _. host) (λ _. host.state) (λ v.
 pub state_at : (h : HostId) (host : Host) (w : World) → host_of h w ≡ Some host → slice_get (states_of w) h.0 ≡ Some host.state
 state_at h host w e = slice_get-map state_in w.hosts h.0 ∙ ap (option_map state_in) e
 
--- a host that stops as it is
-stop_states : (h : HostId) (host : Host) (w : World) → host_of h w ≡ Some host → states_of (put_host h (stopped host.state host) w) ≡ states_of w
-stop_states h host w e = put_states h (stopped host.state host) w ∙ put-same h.0 host.state (states_of w) (state_at h host w e)
+-- a host that stops with its state, whatever else its disks hold
+stop_states : (h : HostId) (host left : Host) (w : World) → host_of h w ≡ Some host → states_of (put_host h (stopped host.state left) w) ≡ states_of w
+stop_states h host left w e = put_states h (stopped host.state left) w ∙ put-same h.0 host.state (states_of w) (state_at h host w e)
 
 -- outputs
 
@@ -259,12 +260,12 @@ module _ (P : Moment → Type 0) (f : Steps P) where
         ∙ (λ j. moment (sym world j) (ns ++ (Kept h (why_by way) c ∷ saws (first_by way ++ (emits h (outputs_by way) v).seen)))))
         done
     fated StoppedBefore c e =
-        subst (λ l. P (record { states = l; packets = w.packets; notes = ns ++ Saw (seen.Stop h) ∷ [] })) (sym (stop_states h host w there))
+        subst (λ l. P (record { states = l; packets = w.packets; notes = ns ++ Saw (seen.Stop h) ∷ [] })) (sym (stop_states h host (cut_off host) w there))
         (f.idle (moment w ns) (seen.Stop h) tt p)
     fated StoppedAfter c e =
-        let v : World = put_host h (stopped (applied c host.state) host) w in
+        let new : Host = stopped (applied c host.state) (recorded (ready host)) in
         subst P (λ j. record {
-          states = sym (put_states h (stopped (applied c host.state) host) w) j;
+          states = sym (put_states h new w) j;
           packets = w.packets;
           notes =
               append_assoc ns (Kept h (why_by way) c ∷ []) (Saw (seen.Stop h) ∷ []) j;
@@ -375,7 +376,7 @@ module _ (P : Moment → Type 0) (f : Steps P) where
     where
       by : (host : Host) → host_of h w ≡ Some host → (up : Bool)
           → (let r = if up then seeing (seen.Stop h) (put_host h (stopped host.state host) w) else unseen w in After r.world (ns ++ saws r.seen))
-      by host there true = subst (λ l. P (record { states = l; packets = w.packets; notes = ns ++ Saw (seen.Stop h) ∷ [] })) (sym (stop_states h host w there))
+      by host there true = subst (λ l. P (record { states = l; packets = w.packets; notes = ns ++ Saw (seen.Stop h) ∷ [] })) (sym (stop_states h host host w there))
           (f.idle (moment w ns) (seen.Stop h) tt p)
       by host there false = nothing w ns p
 
@@ -449,7 +450,7 @@ module _ (P : Moment → Type 0) (f : Steps P) where
     where
       by : (host : Host) → host_of h w ≡ Some host → (up : Bool) → (let r = if up then crashes_up h host w else seeing (seen.Down h) w in
           After r.world (ns ++ saws r.seen))
-      by host there true = subst (λ l. P (record { states = l; packets = w.packets; notes = ns ++ Saw (seen.Stop h) ∷ [] })) (sym (stop_states h host w there))
+      by host there true = subst (λ l. P (record { states = l; packets = w.packets; notes = ns ++ Saw (seen.Stop h) ∷ [] })) (sym (stop_states h host host w there))
           (f.idle (moment w ns) (seen.Stop h) tt p)
       by host there false = f.idle (moment w ns) (seen.Down h) tt p
 

@@ -1,3 +1,4 @@
+pub mod TwoJournals
 pub mod Frame
 pub mod Told
 pub mod RowTests
@@ -41,7 +42,12 @@ pub mod HealSteps
 pub mod HealLaws
 pub mod WholeEvents
 pub mod WholeHeals
+pub mod Unfused
 pub mod Others
+pub mod CheckpointLaws
+pub mod HostRuns
+pub mod SmallDisks
+pub mod AlikeRuns
 pub mod Kept
 pub mod ClosedNumbers
 pub mod WentOuts

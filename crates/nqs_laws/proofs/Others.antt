@@ -1,5 +1,5 @@
 -- An event leaves the hosts that it isn't for, and a host without fuses stays up.
-use Rattle.std.proofs.Common.{◌≡◌, ℕ, ◌⊎◌, inl, inr, ◌&&◌, map, Bool, true, false, List, [], ◌∷◌, Option, None, Some, zero, suc, refl, sym, ap, subst, ◌∙◌}
+use Rattle.std.proofs.Common.{◌≡◌, ℕ, ◌⊎◌, inl, inr, map, Bool, true, false, List, [], ◌∷◌, Option, None, Some, zero, suc, refl, sym, ap, subst, ◌∙◌}
 use Rattle.std.proofs.Common.{if◌then◌else◌}
 use Rattle.std.proofs.lemmas.Option.{same_Some}
 use Rattle.std.specs.List.{filter_map}
@@ -21,7 +21,8 @@ use Rattle.nqs_rules.specs.Step.{step}
 use Rattle.nqs_rules.specs.Start.{start}
 use Rattle.nqs_rules.specs.Stepped.{Stepped, shown, stored_parts}
 use Rattle.nqs_rules.specs.World.{World, Host, Ran, Fate, Made, StoppedBefore, StoppedAfter, Act, Asks, Ends, Finishes, Fails, Writes, Leaves, Delivers, Newest}
-use Rattle.nqs_rules.specs.World.{Ticks, Clock, Fuse, Crashes, Boots, Shows, no_fuses, fate, spool_calls, falls, falls_at_gate, burnt, keeps_gate, host_of}
+use Rattle.nqs_rules.specs.World.{Ticks, Clock, Fuse, Crashes, Boots, Shows, no_fuses, fate, host_of}
+use Rattle.nqs_rules.specs.World.{ready, cut_off, recorded}
 use Rattle.nqs_rules.specs.World.{put_host, seeing, unseen, stopped, used, emits, change_fated, makes_change, carries_out, steps, starts, all_starts, left_of}
 use Rattle.nqs_rules.specs.World.{shuts_down, halted_host, halts, takes_up, taken_by, takes, finishes, finishes_up, delivers, packet_at, newest_between}
 use Rattle.nqs_rules.specs.World.{boot_output, boots_down, boots, crashes_up, runs_now, is_less_row, fused_host}
@@ -30,6 +31,7 @@ use Rattle.nqs_laws.specs.Whole.{after, IsSafe, taker, receiver}
 use Rattle.nqs_laws.proofs.Frame.{emits_world}
 use Rattle.nqs_laws.proofs.Sound.{get-here}
 use Rattle.nqs_laws.proofs.Views.{host_cases}
+use Rattle.nqs_laws.proofs.Unfused.{made, still_none}
 use Rattle.nqs_laws.proofs.WholeEvents.{begins, starts_of}
 
 -- other hosts
@@ -49,8 +51,8 @@ module _ (g h : HostId) (apart : g ≡ h → ⊥) where
       → host_of h (change_fated f g host c first os w).world ≡ host_of h w
   fated_other Made host c first os w = emits_other os (put_host g (used (stored_parts c) (applied c host.state) host) w)
       ∙ put_other (used (stored_parts c) (applied c host.state) host) w
-  fated_other StoppedBefore host c first os w = put_other (stopped host.state host) w
-  fated_other StoppedAfter host c first os w = put_other (stopped (applied c host.state) host) w
+  fated_other StoppedBefore host c first os w = put_other (stopped host.state (cut_off host)) w
+  fated_other StoppedAfter host c first os w = put_other (stopped (applied c host.state) (recorded (ready host))) w
 
   steps_other : (host : Host) (x : Stepped (List ℕ)) (w : World) → host_of h (steps g host x w).world ≡ host_of h w
   steps_other host x w = of x.change
@@ -158,15 +160,6 @@ module _ (h : HostId) where
 
   safe_emits : (os : List Output) (w : World) → IsSafe h w → IsSafe h (emits h os w).world
   safe_emits os w k = record { host = k.host; there = ap (host_of h) (emits_world h os w) ∙ k.there; up = k.up; fuses = k.fuses }
-
-  -- no fuse falls
-  made : (puts : List (List ℕ)) (host : Host) → host.fuses ≡ no_fuses → fate puts host ≡ Made
-  made puts host none = ap (λ f. if falls f.spool (spool_calls puts) then StoppedBefore else
-      (if falls f.first 4 then (if falls_at_gate f.first && keeps_gate host.tear then StoppedAfter else StoppedBefore) else Made)) none
-
-  -- and none comes
-  still_none : (puts : List (List ℕ)) (s : Plain) (host : Host) → host.fuses ≡ no_fuses → (used puts s host).fuses ≡ no_fuses
-  still_none puts s host none = ap (λ f. record { root = f.root; first = burnt 4 f.first; second = f.second; spool = burnt (spool_calls puts) f.spool }) none
 
   steps_safe : (x : Stepped (List ℕ)) (w : World) (k : IsSafe h w) → IsSafe h (steps h k.host x w).world
   steps_safe x w k = of x.change

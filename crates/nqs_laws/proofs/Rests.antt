@@ -11,6 +11,7 @@ use Rattle.nqs_rules.specs.Step.{step}
 use Rattle.nqs_rules.specs.Start.{start}
 use Rattle.nqs_rules.specs.Stepped.{Stepped, shown, stored_parts}
 use Rattle.nqs_rules.specs.World.{World, Host, Fate, Made, StoppedBefore, StoppedAfter, fate, host_of, put_host, then_seen, seeing, unseen, stopped, used}
+use Rattle.nqs_rules.specs.World.{ready, cut_off, recorded}
 use Rattle.nqs_rules.specs.World.{emits, change_fated, makes_change, carries_out, steps, starts, all_starts, left_of, shuts_down, halted_host, halts, takes_up}
 use Rattle.nqs_rules.proofs.ChangesOrder.{applied_order}
 use Rattle.nqs_rules.proofs.StartIs.{start_is}
@@ -45,8 +46,8 @@ module _ (h : HostId) (host : Host) (w : World) (there : host_of h w ≡ Some ho
   fated Made c first os p =
       let u : Host = used (stored_parts c) (applied c host.state) host in
       emitted os (put_host h u w) (λ g at up. subst (λ g. P g.state) (same_Some u g (sym (get-here h.0 u host w.hosts there) ∙ at)) p)
-  fated StoppedBefore c first os p = λ g at up. down g (stopped host.state host) refl at up
-  fated StoppedAfter c first os p = λ g at up. down g (stopped (applied c host.state) host) refl at up
+  fated StoppedBefore c first os p = λ g at up. down g (stopped host.state (cut_off host)) refl at up
+  fated StoppedAfter c first os p = λ g at up. down g (stopped (applied c host.state) (recorded (ready host))) refl at up
 
   carried : (o : Option (Change (List ℕ))) (os : List Output) → P (after_change o host.state) → Holds h P (carries_out h host o os w).world
   carried None os p = emitted os w (λ g at up. subst (λ g. P g.state) (same_Some host g (sym there ∙ at)) p)

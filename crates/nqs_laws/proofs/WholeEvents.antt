@@ -18,6 +18,7 @@ use Rattle.nqs_rules.specs.Step.{step}
 use Rattle.nqs_rules.specs.Start.{start}
 use Rattle.nqs_rules.specs.Stepped.{Stepped, shown, stored_parts}
 use Rattle.nqs_rules.specs.World.{World, Host, Fate, Made, StoppedBefore, StoppedAfter, fate, host_of, put_host, then_seen, seeing, unseen, stopped, used}
+use Rattle.nqs_rules.specs.World.{ready, cut_off, recorded}
 use Rattle.nqs_rules.specs.World.{emits, change_fated, carries_out, steps, starts, all_starts, left_of, shuts_down, halts, takes_up, taken_by, takes, packet_at}
 use Rattle.nqs_types.specs.declared.world.Seen.TheVariants as seen
 use Rattle.nqs_laws.specs.History.{Note, ByEvent, ByStart, step_notes}
@@ -55,8 +56,8 @@ module _ (h : HostId) (w : World) (host : Host) (there : host_of h w ≡ Some ho
   put_there new = get-here h.0 new host w.hosts there
 
   -- a host that stopped is down
-  down : (s : Plain) → is_up h (put_host h (stopped s host) w) ≡ true → ⊥
-  down s up = true≢false (sym up ∙ ap (passes (λ (x : Host). x.up)) (put_there (stopped s host)))
+  down : (s : Plain) (left : Host) → is_up h (put_host h (stopped s left) w) ≡ true → ⊥
+  down s left up = true≢false (sym up ∙ ap (passes (λ (x : Host). x.up)) (put_there (stopped s left)))
 
   pub steps_did : (x : Stepped (List ℕ)) → is_up h (steps h host x w).world ≡ true → Did w (steps h host x w).world h host.state x
   steps_did x up = of x.change up
@@ -76,8 +77,8 @@ module _ (h : HostId) (w : World) (host : Host) (there : host_of h w ≡ Some ho
                 ∙ put_there new;
             is = refl;
           }
-      fated StoppedBefore c up = absurd (down host.state up)
-      fated StoppedAfter c up = absurd (down (applied c host.state) up)
+      fated StoppedBefore c up = absurd (down host.state (cut_off host) up)
+      fated StoppedAfter c up = absurd (down (applied c host.state) (recorded (ready host)) up)
 
       of : (o : Option (Change (List ℕ))) → is_up h (carries_out h host o os w).world ≡ true
           → Did w (carries_out h host o os w).world h host.state (record { change = o; outputs = x.outputs })
@@ -121,9 +122,12 @@ module _ (h : HostId) (w : World) (host : Host) (there : host_of h w ≡ Some ho
           let new : Host = used (stored_parts c) (applied c host.state) host in
           let v : World = put_host h new w in
           at_host (emits h os v).world new (ap (host_of h) (emits_world h os v) ∙ put_there new) p at
-      fated StoppedBefore c p at = at_host (put_host h (stopped host.state host) w) (stopped host.state host) (put_there (stopped host.state host)) before at
-      fated StoppedAfter c p at = at_host (put_host h (stopped (applied c host.state) host) w) (stopped (applied c host.state) host)
-          (put_there (stopped (applied c host.state) host)) p at
+      fated StoppedBefore c p at =
+          let new : Host = stopped host.state (cut_off host) in
+          at_host (put_host h new w) new (put_there new) before at
+      fated StoppedAfter c p at =
+          let new : Host = stopped (applied c host.state) (recorded (ready host)) in
+          at_host (put_host h new w) new (put_there new) p at
 
       of : (o : Option (Change (List ℕ))) → P (after_change o host.state) → IsStateOf (carries_out h host o os w).world h s → P s
       of None p at = at_host (emits h os w).world host (ap (host_of h) (emits_world h os w) ∙ there) p at

@@ -17,3 +17,4 @@ pub mod AtOnce
 pub mod HeldBy
 pub mod TakenOut
 pub mod Rest
+pub mod Checkpoints

@@ -3,9 +3,11 @@
 #![tactic(auto)]
 
 pub mod at_once;
+pub mod checkpoints;
 pub mod closings;
 pub mod handovers;
 pub mod heals;
+pub mod journal_laws;
 pub mod launches;
 pub mod numbers;
 pub mod requests;

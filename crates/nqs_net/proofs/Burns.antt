@@ -1,19 +1,25 @@
 -- After a change that was made the fuses have burnt, and the counts have grown.
-use Rattle.std.proofs.Common.{◌≡◌, ℕ, ◌+◌, ◌-◌, ◌<◌, nat_le, Bool, true, false, List, [], ◌∷◌, ◌++◌, length, Option, None, Some, refl, sym, ap, subst, ◌∙◌}
-use Rattle.std.proofs.Common.{arith}
+use Rattle.std.proofs.Common.{◌≡◌, ℕ, ◌+◌, ◌-◌, ◌%◌, ◌==◌, ◌<◌, nat_le, Bool, true, false, not, List, [], ◌∷◌, ◌++◌, length, Option, None, Some, refl}
+use Rattle.std.proofs.Common.{sym, ap, subst, ◌∙◌, arith}
+use Rattle.std.specs.Prelude.{if◌then◌else◌}
 use Rattle.std.proofs.lemmas.Bool.Decides.{nat_tests}
-use Rattle.std.proofs.lemmas.List.{length-append, append-nil}
+use Rattle.std.proofs.lemmas.List.{length-append}
 use Rattle.nqs_state.specs.State.{Plain}
 use Rattle.nqs_types.specs.declared.world.Which.{Which}
 use Rattle.nqs_types.specs.declared.world.Which.TheVariants.{Root, First, Second, Spool}
 use Rattle.nqs_outside.specs.History.{Call, write, sync, History, moment, extended}
-use Rattle.nqs_journal.specs.Plan.{append_calls}
-use Rattle.nqs_rules.specs.World.{Host, falls, burnt, spool_calls, used}
-use Rattle.nqs_store.specs.Hosts.{HostCall, on, part}
-use Rattle.nqs_store.specs.Plan.{puts_calls, commit_calls}
-use Rattle.nqs_store.specs.Commits.{IsKept}
-use Rattle.nqs_net.specs.Worlds.{fuse_of, calls_of, IsFuse, AreInTurn, IsDisk, AreDisks}
-use Rattle.nqs_net.proofs.Fates.{spool_clear, first_clear}
+use Rattle.nqs_journal.specs.Plan.{append_calls, begin_calls, front_calls}
+use Rattle.nqs_journal.specs.Text.{snapshot_front}
+use Rattle.nqs_rules.specs.Journals.{is_second, active, byte_of, is_due}
+use Rattle.nqs_rules.specs.World.{Host, falls, burnt, spool_calls, fuse_of, calling, turns_over, ready, wrote, used}
+use Rattle.nqs_store.specs.Active.{Active, journal_of, other_of, turned_to, ready as ready_in}
+use Rattle.nqs_store.specs.Commits.{AreClear, IsPast, IsKept, record_moment}
+use Rattle.nqs_store.specs.Hosts.{HostCall, same_disk, on, part}
+use Rattle.nqs_store.specs.Plan.{puts_calls, checkpoint_calls, due_calls, commit_calls}
+use Rattle.nqs_net.specs.Worlds.{calls_of, IsFuse, AreInTurn, IsDisk, AreDisks, active_in}
+use Rattle.nqs_net.proofs.Fates.{clear_falls}
+use Rattle.nqs_net.proofs.Parts.{part_more, part_same, part_other, root_other, spool_other, journal_not_root, journal_not_spool, ran, ran_more, ran_still, ran_same}
+use Rattle.nqs_net.proofs.Parts.{ran_other, moment_more}
 
 -- calls in turn
 
@@ -32,68 +38,12 @@ puts_turn (place ∷ places) [] = tt
 puts_turn (place ∷ places) ([] ∷ puts) = puts_turn places puts
 puts_turn (place ∷ places) ((byte ∷ bytes) ∷ puts) = puts_turn places puts
 
-puts_count : (places : List ℕ) (puts : List (List ℕ)) → length places ≡ length puts → length (puts_calls places puts) ≡ spool_calls puts
+pub puts_count : (places : List ℕ) (puts : List (List ℕ)) → length places ≡ length puts → length (puts_calls places puts) ≡ spool_calls puts
 puts_count [] [] same = refl
 puts_count [] (put ∷ puts) same = absurd (let no : ⊥ = omega (arith, same) in no)
 puts_count (place ∷ places) [] same = absurd (let no : ⊥ = omega (arith, same) in no)
 puts_count (place ∷ places) ([] ∷ puts) same = puts_count places puts (omega (arith, same))
 puts_count (place ∷ places) ((byte ∷ bytes) ∷ puts) same = (let rest = puts_count places puts (omega (arith, same)) in omega (arith, rest))
-
--- the parts of a commit's calls
-
-part_more : (which : Which) (xs ys : List HostCall) → part which (xs ++ ys) ≡ part which xs ++ part which ys
-part_more which [] ys = refl
-part_more Root ((Root, call) ∷ xs) ys = ap (λ l. call ∷ l) (part_more Root xs ys)
-part_more Root ((First, call) ∷ xs) ys = part_more Root xs ys
-part_more Root ((Second, call) ∷ xs) ys = part_more Root xs ys
-part_more Root ((Spool, call) ∷ xs) ys = part_more Root xs ys
-part_more First ((Root, call) ∷ xs) ys = part_more First xs ys
-part_more First ((First, call) ∷ xs) ys = ap (λ l. call ∷ l) (part_more First xs ys)
-part_more First ((Second, call) ∷ xs) ys = part_more First xs ys
-part_more First ((Spool, call) ∷ xs) ys = part_more First xs ys
-part_more Second ((Root, call) ∷ xs) ys = part_more Second xs ys
-part_more Second ((First, call) ∷ xs) ys = part_more Second xs ys
-part_more Second ((Second, call) ∷ xs) ys = ap (λ l. call ∷ l) (part_more Second xs ys)
-part_more Second ((Spool, call) ∷ xs) ys = part_more Second xs ys
-part_more Spool ((Root, call) ∷ xs) ys = part_more Spool xs ys
-part_more Spool ((First, call) ∷ xs) ys = part_more Spool xs ys
-part_more Spool ((Second, call) ∷ xs) ys = part_more Spool xs ys
-part_more Spool ((Spool, call) ∷ xs) ys = ap (λ l. call ∷ l) (part_more Spool xs ys)
-
-spool_on : (calls : List Call) → part Spool (on Spool calls) ≡ calls
-spool_on [] = refl
-spool_on (call ∷ calls) = ap (λ l. call ∷ l) (spool_on calls)
-
-first_on : (calls : List Call) → part First (on Spool calls) ≡ []
-first_on [] = refl
-first_on (call ∷ calls) = first_on calls
-
-root_on : (calls : List Call) → part Root (on Spool calls) ≡ []
-root_on [] = refl
-root_on (call ∷ calls) = root_on calls
-
-second_on : (calls : List Call) → part Second (on Spool calls) ≡ []
-second_on [] = refl
-second_on (call ∷ calls) = second_on calls
-
-module _ (places : List ℕ) (puts : List (List ℕ)) (gate : ℕ) (payload : List ℕ) where
-  abbrev all_calls : List HostCall
-  all_calls = commit_calls places puts gate payload
-
-  spool_part : part Spool all_calls ≡ puts_calls places puts
-  spool_part = part_more Spool (on Spool (puts_calls places puts)) (on First (append_calls gate payload))
-      ∙ ap (λ l. l ++ []) (spool_on (puts_calls places puts)) ∙ append-nil (puts_calls places puts)
-
-  pub first_part : part First all_calls ≡ append_calls gate payload
-  first_part = part_more First (on Spool (puts_calls places puts)) (on First (append_calls gate payload))
-      ∙ ap (λ l. l ++ append_calls gate payload) (first_on (puts_calls places puts))
-
-  root_part : part Root all_calls ≡ []
-  root_part = part_more Root (on Spool (puts_calls places puts)) (on First (append_calls gate payload)) ∙ ap (λ l. l ++ []) (root_on (puts_calls places puts))
-
-  second_part : part Second all_calls ≡ []
-  second_part = part_more Second (on Spool (puts_calls places puts)) (on First (append_calls gate payload))
-      ∙ ap (λ l. l ++ []) (second_on (puts_calls places puts))
 
 -- a disk after so many calls that weren't to fail
 
@@ -129,36 +79,169 @@ module _ (fuse : Option ℕ) (calls : ℕ) (h k : History) (fails now : ℕ → 
       same_fuse None old = λ i. same i ∙ old i
       same_fuse (Some left) old = (old.0, λ i. same i ∙ old.1 i)
 
-module _ (host : Host) (fails now_fails : Which → ℕ → Bool) (old now : Which → History) (disks : AreDisks host old fails)
-    (same : (which : Which) (i : ℕ) → now_fails which i ≡ fails which i) where
-  pub kept_disks : (puts : List (List ℕ)) (s : Plain) → IsKept fails puts old now → AreDisks (used puts s host) now now_fails
-  kept_disks puts s kept =
-      let (places, gate, payload, run, as_many, is, runs) = kept.calls in
-      let each : (which : Which) → now which ≡ extended (old which) (part which (commit_calls places puts gate payload)) = λ which. runs which
-      ∙ ap (λ l. extended (old which) (part which l)) is in
-      by places gate payload as_many each
+-- the same disks, where no call was made
+pub same_disks : (host : Host) (fails now_fails : Which → ℕ → Bool) (old now : Which → History) → AreDisks host old fails
+    → ((which : Which) (i : ℕ) → now_fails which i ≡ fails which i) → ((which : Which) → now which ≡ old which) → AreDisks host now now_fails
+same_disks host fails now_fails old now disks same idle which = after_none (fuse_of which host.fuses) (calls_of which host.calls) (old which) (now which)
+    (fails which) (now_fails which) [] (same which) (disks which) (idle which)
+
+-- calls of one disk that weren't to fail
+module _ (host : Host) (fails : Which → ℕ → Bool) (old : Which → History) (disks : AreDisks host old fails) (disk : Which) (n : ℕ) (calls : List Call)
+    (count : length calls ≡ n) (turn : AreInTurn calls) (clear : AreClear (fails disk) (moment (old disk)) n) where
+  made : IsDisk (burnt n (fuse_of disk host.fuses)) (calls_of disk host.calls + n) (ran old (on disk calls) disk) (fails disk)
+  made = after_calls (fuse_of disk host.fuses) (calls_of disk host.calls) (old disk) (ran old (on disk calls) disk) (fails disk) (fails disk) calls
+      (λ i. refl) (disks disk) n (ran_same old disk calls) count turn (clear_falls (fuse_of disk host.fuses) (moment (old disk)) n (fails disk) (disks disk).fuse clear)
+
+  still : (which : Which) → same_disk which disk ≡ false
+      → IsDisk (fuse_of which host.fuses) (calls_of which host.calls) (ran old (on disk calls) which) (fails which)
+  still which other = after_none (fuse_of which host.fuses) (calls_of which host.calls) (old which) (ran old (on disk calls) which) (fails which) (fails which)
+      [] (λ i. refl) (disks which) (ran_other old which disk calls other)
+
+calling_disks : (host : Host) (fails : Which → ℕ → Bool) (old : Which → History) → AreDisks host old fails → (disk : Which) (n : ℕ) (calls : List Call)
+    → length calls ≡ n → AreInTurn calls → AreClear (fails disk) (moment (old disk)) n → AreDisks (calling disk n host) (ran old (on disk calls)) fails
+calling_disks host fails old disks Root n calls count turn clear Root = made host fails old disks Root n calls count turn clear
+calling_disks host fails old disks Root n calls count turn clear First = still host fails old disks Root n calls count turn clear First refl
+calling_disks host fails old disks Root n calls count turn clear Second = still host fails old disks Root n calls count turn clear Second refl
+calling_disks host fails old disks Root n calls count turn clear Spool = still host fails old disks Root n calls count turn clear Spool refl
+calling_disks host fails old disks First n calls count turn clear Root = still host fails old disks First n calls count turn clear Root refl
+calling_disks host fails old disks First n calls count turn clear First = made host fails old disks First n calls count turn clear
+calling_disks host fails old disks First n calls count turn clear Second = still host fails old disks First n calls count turn clear Second refl
+calling_disks host fails old disks First n calls count turn clear Spool = still host fails old disks First n calls count turn clear Spool refl
+calling_disks host fails old disks Second n calls count turn clear Root = still host fails old disks Second n calls count turn clear Root refl
+calling_disks host fails old disks Second n calls count turn clear First = still host fails old disks Second n calls count turn clear First refl
+calling_disks host fails old disks Second n calls count turn clear Second = made host fails old disks Second n calls count turn clear
+calling_disks host fails old disks Second n calls count turn clear Spool = still host fails old disks Second n calls count turn clear Spool refl
+calling_disks host fails old disks Spool n calls count turn clear Root = still host fails old disks Spool n calls count turn clear Root refl
+calling_disks host fails old disks Spool n calls count turn clear First = still host fails old disks Spool n calls count turn clear First refl
+calling_disks host fails old disks Spool n calls count turn clear Second = still host fails old disks Spool n calls count turn clear Second refl
+calling_disks host fails old disks Spool n calls count turn clear Spool = made host fails old disks Spool n calls count turn clear
+
+-- the journal that is active after a checkpoint, where one was due
+
+is_turned : (second : Bool) → (byte_of second % 2 == 1) ≡ second
+is_turned true = refl
+is_turned false = refl
+
+ready_by : (host : Host) (b : Bool) → active_in (if b then turns_over host else host)
+    ≡ (if b then turned_to (active_in host) else active_in host)
+ready_by host true = λ j. record { second = is_turned (not (is_second host.root)) j; records = 0 }
+ready_by host false = refl
+
+pub ready_active : (host : Host) → active_in (ready host) ≡ ready_in (active_in host)
+ready_active host = ready_by host (is_due host.records)
+
+-- where a checkpoint is due, and where none is
+
+pub due_ready : (host : Host) → is_due host.records ≡ true → ready host ≡ turns_over host
+due_ready host due = ap (λ b. if b then turns_over host else host) due
+
+pub idle_ready : (host : Host) → is_due host.records ≡ false → ready host ≡ host
+idle_ready host idle = ap (λ b. if b then turns_over host else host) idle
+
+-- the disks after a checkpoint, where one was due
+module _ (host : Host) (fails : Which → ℕ → Bool) (old : Which → History) (disks : AreDisks host old fails) (snapshot : List ℕ) where
+  abbrev here : Active
+  here = active_in host
+
+  abbrev other_calls : List HostCall
+  other_calls = on (other_of here) (front_calls (snapshot_front snapshot))
+
+  abbrev byte_calls : List Call
+  byte_calls = begin_calls (byte_of (not here.second) ∷ [])
+
+  turned_disks : AreClear (fails (other_of here)) (moment (old (other_of here))) 2 → AreClear (fails Root) (moment (old Root)) 2
+      → AreDisks (turns_over host) (ran old (checkpoint_calls here snapshot)) fails
+  turned_disks other root =
+      let one = calling (other_of here) 2 host in
+      let mid = ran old other_calls in
+      let first : AreDisks one mid fails = calling_disks host fails old disks (other_of here) 2 (front_calls (snapshot_front snapshot)) refl tt other in
+      let same : moment (mid Root) ≡ moment (old Root) = ap moment (ran_other old Root (other_of here) (front_calls (snapshot_front snapshot)) (root_other (not here.second))) in
+      let both : AreDisks (turns_over host) (ran mid (on Root byte_calls)) fails = calling_disks one fails mid first Root 2 byte_calls refl tt
+      (subst (λ t. AreClear (fails Root) t 2) (sym same) root) in
+      same_disks (turns_over host) fails fails (ran mid (on Root byte_calls)) (ran old (checkpoint_calls here snapshot)) both (λ which i. refl)
+      (ran_more old other_calls (on Root byte_calls))
+
+  pub ready_disks : IsPast here fails old → AreDisks (ready host) (ran old (due_calls here snapshot)) fails
+  ready_disks past = by (is_due host.records) refl
     where
-      none : (h : History) → extended h [] ≡ h
-      none h = ap (λ (l : List Call). let e : History = record { start = h.start; calls = l } in e) (append-nil h.calls)
+      by : (b : Bool) → is_due host.records ≡ b
+          → AreDisks (if b then turns_over host else host) (ran old (if b then checkpoint_calls here snapshot else [])) fails
+      by true due = turned_disks (past.other due) (past.root due)
+      by false idle = same_disks host fails fails old (ran old []) disks (λ which i. refl) (λ which. ran_still old [] which refl)
 
-      by : (places : List ℕ) (gate : ℕ) (payload : List ℕ) → length places ≡ length puts
-          → ((which : Which) → now which ≡ extended (old which) (part which (commit_calls places puts gate payload)))
-          → AreDisks (used puts s host) now now_fails
-      by places gate payload as_many each Root = after_none host.fuses.root host.calls.root (old Root) (now Root) (fails Root) (now_fails Root) [] (same Root)
-          (disks Root) (each Root ∙ ap (extended (old Root)) (root_part places puts gate payload) ∙ none (old Root))
-      by places gate payload as_many each First =
-          after_calls host.fuses.first host.calls.first (old First) (now First) (fails First) (now_fails First) (append_calls gate payload) (same First)
-          (disks First) 4
-          (each First ∙ ap (extended (old First)) (first_part places puts gate payload)) refl tt (first_clear host fails old disks puts kept.first)
-      by places gate payload as_many each Second = after_none host.fuses.second host.calls.second (old Second) (now Second) (fails Second) (now_fails Second) []
-          (same Second) (disks Second) (each Second ∙ ap (extended (old Second)) (second_part places puts gate payload) ∙ none (old Second))
-      by places gate payload as_many each Spool =
-          after_calls host.fuses.spool host.calls.spool (old Spool) (now Spool) (fails Spool) (now_fails Spool) (puts_calls places puts) (same Spool)
-          (disks Spool) (spool_calls puts)
-          (each Spool ∙ ap (extended (old Spool)) (spool_part places puts gate payload)) (puts_count places puts as_many) (puts_turn places puts)
-          (spool_clear host fails old disks puts kept.spool)
+-- the parts of a checkpoint's calls
 
-  -- where no call was made
-  pub same_disks : ((which : Which) → now which ≡ old which) → AreDisks host now now_fails
-  same_disks idle which = after_none (fuse_of which host.fuses) (calls_of which host.calls) (old which) (now which) (fails which) (now_fails which) []
-      (same which) (disks which) (idle which)
+module _ (a : Active) (snapshot : List ℕ) where
+  abbrev front_part : List Call
+  front_part = front_calls (snapshot_front snapshot)
+
+  abbrev byte_part : List Call
+  byte_part = begin_calls (byte_of (not a.second) ∷ [])
+
+  pub spool_due : (b : Bool) → part Spool (if b then checkpoint_calls a snapshot else []) ≡ []
+  spool_due false = refl
+  spool_due true = part_more Spool (on (other_of a) front_part) (on Root byte_part) ∙ ap (λ l. l ++ []) (part_other Spool (other_of a) front_part (spool_other (not a.second)))
+
+  pub root_due : (b : Bool) → part Root (if b then checkpoint_calls a snapshot else []) ≡ (if b then byte_part else [])
+  root_due false = refl
+  root_due true = part_more Root (on (other_of a) front_part) (on Root byte_part) ∙ ap (λ l. l ++ byte_part) (part_other Root (other_of a) front_part (root_other (not a.second)))
+
+  -- of the journal that the record goes to
+  pub journal_due : (b : Bool) → length (part (journal_of (if b then turned_to a else a)) (if b then checkpoint_calls a snapshot else []))
+      ≡ (if b then 2 else 0)
+  journal_due false = refl
+  journal_due true = ap length (part_more (other_of a) (on (other_of a) front_part) (on Root byte_part)
+      ∙ ap (λ l. l ++ part (other_of a) (on Root byte_part)) (part_same (other_of a) front_part)
+      ∙ ap (λ l. front_part ++ l) (part_other (other_of a) Root byte_part (journal_not_root (not a.second))))
+
+module _ (old : Which → History) (a : Active) (snapshot : List ℕ) where
+  pub spool_then : moment (ran old (due_calls a snapshot) Spool) ≡ moment (old Spool)
+  spool_then = ap moment (ran_still old (due_calls a snapshot) Spool (spool_due a snapshot (is_due a.records)))
+
+  pub journal_then : moment (ran old (due_calls a snapshot) (journal_of (ready_in a))) ≡ record_moment a old
+  journal_then = moment_more (old (journal_of (ready_in a))) (part (journal_of (ready_in a)) (due_calls a snapshot))
+      ∙ ap (λ n. moment (old (journal_of (ready_in a))) + n) (journal_due a snapshot (is_due a.records))
+
+-- the disks after the calls of a change
+module _ (host : Host) (fails : Which → ℕ → Bool) (old : Which → History) (disks : AreDisks host old fails) (puts : List (List ℕ)) (places : List ℕ)
+    (gate : ℕ) (payload : List ℕ) (many : length places ≡ length puts) (j : Which) (is_active : active host.root ≡ j) (apart : same_disk j Spool ≡ false) where
+  written_disks : AreClear (fails Spool) (moment (old Spool)) (spool_calls puts) → AreClear (fails j) (moment (old j)) 4
+      → AreDisks (wrote puts host) (ran (ran old (on Spool (puts_calls places puts))) (on j (append_calls gate payload))) fails
+  written_disks spool journal =
+      let n = spool_calls puts in
+      let one = calling Spool n host in
+      let mid = ran old (on Spool (puts_calls places puts)) in
+      let first : AreDisks one mid fails = calling_disks host fails old disks Spool n (puts_calls places puts) (puts_count places puts many)
+      (puts_turn places puts) spool in
+      let same : moment (mid j) ≡ moment (old j) = ap moment (ran_other old j Spool (puts_calls places puts) apart) in
+      let both : AreDisks (calling j 4 one) (ran mid (on j (append_calls gate payload))) fails = calling_disks one fails mid first j 4
+      (append_calls gate payload) refl tt (subst (λ t. AreClear (fails j) t 4) (sym same) journal) in
+      subst (λ d. AreDisks (calling d 4 one) (ran mid (on j (append_calls gate payload))) fails) (sym is_active) both
+
+-- a change was kept
+module _ (host : Host) (fails now_fails : Which → ℕ → Bool) (old now : Which → History) (disks : AreDisks host old fails)
+    (same : (which : Which) (i : ℕ) → now_fails which i ≡ fails which i) (puts : List (List ℕ)) (kept : IsKept (active_in host) fails puts old now) where
+  abbrev from : Active
+  from = active_in host
+
+  -- each disk made just its part of the calls
+  made_all : (which : Which) → now which
+      ≡ ran old (commit_calls from kept.calls.snapshot kept.calls.places puts kept.calls.gate kept.calls.payload) which
+  made_all which = kept.calls.made which ∙ ap (λ l. ran old l which) kept.calls.stands
+
+  pub kept_disks : (s : Plain) → AreDisks (used puts s host) now now_fails
+  kept_disks s =
+      let c = kept.calls in
+      let due = due_calls from c.snapshot in
+      let spool = on Spool (puts_calls c.places puts) in
+      let j = journal_of (ready_in from) in
+      let record_calls = on j (append_calls c.gate c.payload) in
+      let mid = ran old due in
+      let r = ready host in
+      let is_active : active r.root ≡ j = ap journal_of (ready_active host) in
+      let last : AreDisks (wrote puts r) (ran (ran mid spool) record_calls) fails = written_disks r fails mid (ready_disks host fails old disks c.snapshot kept.past)
+      puts c.places c.gate c.payload c.many j is_active (journal_not_spool (ready_in from).second)
+      (subst (λ t. AreClear (fails Spool) t (spool_calls puts)) (sym (spool_then old from c.snapshot)) kept.spool)
+      (subst (λ t. AreClear (fails j) t 4) (sym (journal_then old from c.snapshot)) kept.journal) in
+      same_disks (used puts s host) fails now_fails (ran (ran mid spool) record_calls) now last same
+      (λ which. made_all which ∙ ran_more old due (spool ++ record_calls) which ∙ ran_more mid spool record_calls which)

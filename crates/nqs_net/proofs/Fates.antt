@@ -1,23 +1,22 @@
 -- How a change of a host ends, by its fuses: what its disks did says the same as the rules.
-use Rattle.std.proofs.Common.{◌≡◌, ℕ, ◌+◌, ◌-◌, ◌<◌, ◌≤◌, nat_le, Bool, true, false, ◌&&◌, List, Option, None, Some, true≢false, refl, sym, ap, subst, ◌∙◌}
+use Rattle.std.proofs.Common.{◌≡◌, ℕ, ◌+◌, ◌-◌, ◌<◌, ◌≤◌, nat_le, Bool, true, false, not, ◌&&◌, ◌||◌, List, Option, None, Some, true≢false, refl, sym, ap, ◌∙◌}
 use Rattle.std.proofs.Common.{arith}
-use Rattle.std.specs.Prelude.{if◌then◌else◌, MatchBool}
+use Rattle.std.specs.Prelude.{if◌then◌else◌}
 use Rattle.std.proofs.lemmas.Bool.Decides.{nat_tests}
-use Rattle.nqs_state.specs.State.{Plain}
 use Rattle.nqs_types.specs.declared.world.Which.{Which}
-use Rattle.nqs_types.specs.declared.world.Which.TheVariants.{Root, First, Second, Spool}
-use Rattle.nqs_outside.specs.History.{History, state, moment, IsImage}
-use Rattle.nqs_disk.specs.Torn.{torn}
-use Rattle.nqs_rules.specs.World.{Host, Fate, Made, StoppedBefore, StoppedAfter, falls, falls_at_gate, keeps_gate, spool_calls, fate}
-use Rattle.nqs_tears.proofs.TornGates.{torn_means}
-use Rattle.nqs_store.specs.Images.{IsTold}
-use Rattle.nqs_store.specs.Commits.{AreClear, FailsFirst, IsKept, IsCutAtSpool, IsCutAtFirst, IsCutAt}
+use Rattle.nqs_types.specs.declared.world.Which.TheVariants.{Root}
+use Rattle.nqs_outside.specs.History.{History, moment}
+use Rattle.nqs_rules.specs.Journals.{active, is_due}
+use Rattle.nqs_rules.specs.World.{Host, Fate, Made, StoppedBefore, StoppedAfter, falls, falls_at_gate, falls_at_journal, falls_at_root, keeps_gate, spool_calls}
+use Rattle.nqs_rules.specs.World.{fuse_of, turns_over, torn_over, ready, cut_off, fate_of_record, fate}
+use Rattle.nqs_store.specs.Active.{Active, other_of}
+use Rattle.nqs_store.specs.Commits.{AreClear, FailsFirst, IsPast}
 use Rattle.nqs_node.specs.Carried.{IsBlown}
-use Rattle.nqs_net.specs.Worlds.{IsFuse, AreDisks}
+use Rattle.nqs_net.specs.Worlds.{IsFuse, AreDisks, active_in}
 
 -- one fuse
 
-clear_falls : (fuse : Option ℕ) (made n : ℕ) (fails : ℕ → Bool) → IsFuse fuse made fails → AreClear fails made n → falls fuse n ≡ false
+pub clear_falls : (fuse : Option ℕ) (made n : ℕ) (fails : ℕ → Bool) → IsFuse fuse made fails → AreClear fails made n → falls fuse n ≡ false
 clear_falls None made n fails is clear = refl
 clear_falls (Some left) made n fails is clear = by (nat_le left n) refl
   where
@@ -57,71 +56,106 @@ unblown (Some left) h fails is blown =
     let later : nat_le (moment h + (left - 1)) blown.0 ≡ true = sym (is.1 blown.0) ∙ blown.2 in
     absurd (let no : ⊥ = grind (arith, nat_tests, later, blown.1) in no)
 
--- what the images of a stop tell, by how the change ended
-abbrev pub CutsTo : (before after : Plain) → (Which → List ℕ) → Fate → Type 0
-CutsTo before after images Made = ⊥
-CutsTo before after images StoppedBefore = IsTold (images First) (images Spool) before
-CutsTo before after images StoppedAfter = IsTold (images First) (images Spool) after
+-- how a change without a checkpoint ends, by its three tests
+abbrev record_fate : Bool → Bool → Bool → Fate
+record_fate spool journal gate = if spool then StoppedBefore else (if journal then (if gate then StoppedAfter else StoppedBefore) else Made)
 
--- the fate, by its three tests
-abbrev fate_by : Bool → Bool → Bool → Fate
-fate_by spool first gate = if spool then StoppedBefore else (if first then (if gate then StoppedAfter else StoppedBefore) else Made)
+-- the calls of a change without a checkpoint
+module _ (r : Host) (puts : List (List ℕ)) (at_spool at_journal : ℕ) (spool_fails journal_fails : ℕ → Bool) (spool : IsFuse r.fuses.spool at_spool spool_fails)
+    (journal : IsFuse (fuse_of (active r.root) r.fuses) at_journal journal_fails) where
+  abbrev fuse : Option ℕ
+  fuse = fuse_of (active r.root) r.fuses
 
+  abbrev gate_kept : Bool
+  gate_kept = falls_at_gate fuse && keeps_gate r.tear
+
+  spool_clear : AreClear spool_fails at_spool (spool_calls puts) → falls r.fuses.spool (spool_calls puts) ≡ false
+  spool_clear clear = clear_falls r.fuses.spool at_spool (spool_calls puts) spool_fails spool clear
+
+  pub made_record : AreClear spool_fails at_spool (spool_calls puts) → AreClear journal_fails at_journal 4 → fate_of_record puts r ≡ Made
+  made_record clear rest = ap (λ b. record_fate b (falls fuse 4) gate_kept) (spool_clear clear)
+      ∙ ap (λ b. record_fate false b gate_kept) (clear_falls fuse at_journal 4 journal_fails journal rest)
+
+  pub spool_record : (at : ℕ) → FailsFirst spool_fails at_spool (spool_calls puts) at → fate_of_record puts r ≡ StoppedBefore
+  spool_record at first = ap (λ b. record_fate b (falls fuse 4) gate_kept) (ap (λ f. falls f (spool_calls puts))
+      (first_falls r.fuses.spool at_spool (spool_calls puts) at spool_fails spool first) ∙ falls_within at (spool_calls puts) first.within)
+
+  module _ (clear : AreClear spool_fails at_spool (spool_calls puts)) (at : ℕ) (first : FailsFirst journal_fails at_journal 4 at) where
+    set : fuse ≡ Some (at + 1)
+    set = first_falls fuse at_journal 4 at journal_fails journal first
+
+    cut_record : fate_of_record puts r ≡ (if gate_kept then StoppedAfter else StoppedBefore)
+    cut_record = ap (λ b. record_fate b (falls fuse 4) gate_kept) (spool_clear clear)
+        ∙ ap (λ b. record_fate false b gate_kept) (ap (λ f. falls f 4) set ∙ falls_within at 4 first.within)
+
+    pub early_record : at < 2 → fate_of_record puts r ≡ StoppedBefore
+    early_record early =
+        let no : falls_at_gate (Some (at + 1)) ≡ false = grind (arith, nat_tests, early) in
+        cut_record ∙ ap (λ b. if b && keeps_gate r.tear then StoppedAfter else StoppedBefore) (ap falls_at_gate set ∙ no)
+
+    pub late_record : 2 ≤ at → fate_of_record puts r ≡ (if keeps_gate r.tear then StoppedAfter else StoppedBefore)
+    late_record late =
+        let yes : falls_at_gate (Some (at + 1)) ≡ true = grind (arith, nat_tests, late) in
+        cut_record ∙ ap (λ b. if b && keeps_gate r.tear then StoppedAfter else StoppedBefore) (ap falls_at_gate set ∙ yes)
+
+-- the calls of a checkpoint, where one is due
 module _ (host : Host) (fails : Which → ℕ → Bool) (old : Which → History) (disks : AreDisks host old fails) (puts : List (List ℕ)) where
-  pub spool_clear : AreClear (fails Spool) (moment (old Spool)) (spool_calls puts) → falls host.fuses.spool (spool_calls puts) ≡ false
-  spool_clear clear = clear_falls host.fuses.spool (moment (old Spool)) (spool_calls puts) (fails Spool) (disks Spool).fuse clear
+  abbrev a : Active
+  a = active_in host
 
-  pub first_clear : AreClear (fails First) (moment (old First)) 4 → falls host.fuses.first 4 ≡ false
-  first_clear clear = clear_falls host.fuses.first (moment (old First)) 4 (fails First) (disks First).fuse clear
+  abbrev by_checkpoint : Bool → Bool → Fate
+  by_checkpoint due falls = if due && falls then StoppedBefore else fate_of_record puts (ready host)
 
-  pub kept_fate : (now : Which → History) → IsKept fails puts old now → fate puts host ≡ Made
-  kept_fate now kept =
-      ap (λ b. fate_by b (falls host.fuses.first 4) (falls_at_gate host.fuses.first && keeps_gate host.tear)) (spool_clear kept.spool)
-      ∙ ap (λ b. fate_by false b (falls_at_gate host.fuses.first && keeps_gate host.tear)) (first_clear kept.first)
+  pub journal_clear : AreClear (fails (other_of a)) (moment (old (other_of a))) 2 → falls_at_journal host ≡ false
+  journal_clear clear = clear_falls (fuse_of (other_of a) host.fuses) (moment (old (other_of a))) 2 (fails (other_of a)) (disks (other_of a)).fuse clear
 
-  module _ (now : Which → History) (before after : Plain) (images : (which : Which) → IsImage (state (now which)) (torn host.tear (state (now which)))) where
-    abbrev left : Which → List ℕ
-    left which = torn host.tear (state (now which))
+  pub root_clear : AreClear (fails Root) (moment (old Root)) 2 → falls_at_root host ≡ false
+  root_clear clear = clear_falls host.fuses.root (moment (old Root)) 2 (fails Root) (disks Root).fuse clear
 
-    cut_spool : IsCutAtSpool fails puts old now before after → CutsTo before after left (fate puts host)
-    cut_spool cut =
-        let set = first_falls host.fuses.spool (moment (old Spool)) (spool_calls puts) cut.at (fails Spool) (disks Spool).fuse cut.failed in
-        let down : falls host.fuses.spool (spool_calls puts) ≡ true = ap (λ f. falls f (spool_calls puts)) set
-        ∙ falls_within cut.at (spool_calls puts) cut.failed.within in
-        subst (λ b. CutsTo before after left (fate_by b (falls host.fuses.first 4) (falls_at_gate host.fuses.first && keeps_gate host.tear))) (sym down)
-        (cut.told left images)
+  pub journal_falls : (at : ℕ) → FailsFirst (fails (other_of a)) (moment (old (other_of a))) 2 at → falls_at_journal host ≡ true
+  journal_falls at first = ap (λ f. falls f 2) (first_falls (fuse_of (other_of a) host.fuses) (moment (old (other_of a))) 2 at (fails (other_of a))
+      (disks (other_of a)).fuse first) ∙ falls_within at 2 first.within
 
-    module _ (cut : IsCutAtFirst fails puts old now before after) where
-      set : host.fuses.first ≡ Some (cut.at + 1)
-      set = first_falls host.fuses.first (moment (old First)) 4 cut.at (fails First) (disks First).fuse cut.failed
+  pub root_falls : (at : ℕ) → FailsFirst (fails Root) (moment (old Root)) 2 at → falls_at_root host ≡ true
+  root_falls at first = ap (λ f. falls f 2) (first_falls host.fuses.root (moment (old Root)) 2 at (fails Root) (disks Root).fuse first)
+      ∙ falls_within at 2 first.within
 
-      down : falls host.fuses.first 4 ≡ true
-      down = ap (λ f. falls f 4) set ∙ falls_within cut.at 4 cut.failed.within
+  -- its calls weren't to fail
+  pub past_fate : IsPast a fails old → fate puts host ≡ fate_of_record puts (ready host)
+  past_fate past = by (is_due host.records) refl
+    where
+      by : (b : Bool) → is_due host.records ≡ b → by_checkpoint b (falls_at_journal host || falls_at_root host) ≡ fate_of_record puts (ready host)
+      by false idle = refl
+      by true due = ap (λ b. by_checkpoint true (b || falls_at_root host)) (journal_clear (past.other due))
+          ∙ ap (by_checkpoint true) (root_clear (past.root due))
 
-      by_gate : (g : Bool) → falls_at_gate host.fuses.first ≡ g → CutsTo before after left (if g && keeps_gate host.tear then StoppedAfter else StoppedBefore)
-      by_gate false e =
-          let early : cut.at < 2 = grind (arith, nat_tests, sym (ap falls_at_gate set) ∙ e) in
-          cut.told early left images
-      by_gate true e =
-          let late : 2 ≤ cut.at = grind (arith, nat_tests, sym (ap falls_at_gate set) ∙ e) in
-          of (keeps_gate host.tear) (torn_means (state (now First)) (cut.gate late).gate _ _ (cut.gate late).decides host.tear (images First))
-        where
-          of : (k : Bool)
-              → MatchBool k ((spool : List ℕ) → IsImage (state (now Spool)) spool → IsTold (left First) spool after)
-              ((spool : List ℕ) → IsImage (state (now Spool)) spool → IsTold (left First) spool before)
-              → CutsTo before after left (if k then StoppedAfter else StoppedBefore)
-          of true told = told (left Spool) (images Spool)
-          of false told = told (left Spool) (images Spool)
+  -- then a stop leaves what the checkpoint made
+  pub past_cut : IsPast a fails old → cut_off host ≡ ready host
+  past_cut past = by (is_due host.records) refl
+    where
+      by : (b : Bool) → is_due host.records ≡ b
+          → (if not b || falls_at_journal host then host else (if falls_at_root host then torn_over host else turns_over host))
+          ≡ (if b then turns_over host else host)
+      by false idle = refl
+      by true due = ap (λ b. if b then host else (if falls_at_root host then torn_over host else turns_over host)) (journal_clear (past.other due))
+          ∙ ap (λ b. if b then torn_over host else turns_over host) (root_clear (past.root due))
 
-      cut_first : CutsTo before after left (fate puts host)
-      cut_first =
-          subst (λ b. CutsTo before after left (fate_by b (falls host.fuses.first 4) (falls_at_gate host.fuses.first && keeps_gate host.tear)))
-          (sym (spool_clear cut.spool))
-          (subst (λ b. CutsTo before after left (fate_by false b (falls_at_gate host.fuses.first && keeps_gate host.tear))) (sym down)
-          (by_gate (falls_at_gate host.fuses.first) refl))
+  -- it was cut off
+  module _ (due : is_due host.records ≡ true) where
+    pub other_fate : falls_at_journal host ≡ true → fate puts host ≡ StoppedBefore
+    other_fate falls = ap (λ b. by_checkpoint b (falls_at_journal host || falls_at_root host)) due ∙ ap (λ b. by_checkpoint true (b || falls_at_root host)) falls
 
-    pub cut_fate : (which : Which) → IsCutAt fails puts old now before after which → CutsTo before after left (fate puts host)
-    cut_fate Root cut = absurd cut
-    cut_fate First cut = cut_first cut
-    cut_fate Second cut = absurd cut
-    cut_fate Spool cut = cut_spool cut
+    pub other_cut : falls_at_journal host ≡ true → cut_off host ≡ host
+    other_cut falls =
+        ap (λ b. if not b || falls_at_journal host then host else (if falls_at_root host then torn_over host else turns_over host)) due
+        ∙ ap (λ b. if b then host else (if falls_at_root host then torn_over host else turns_over host)) falls
+
+    pub root_fate : falls_at_journal host ≡ false → falls_at_root host ≡ true → fate puts host ≡ StoppedBefore
+    root_fate clear falls = ap (λ b. by_checkpoint b (falls_at_journal host || falls_at_root host)) due
+        ∙ ap (λ b. by_checkpoint true (b || falls_at_root host)) clear ∙ ap (by_checkpoint true) falls
+
+    pub root_cut : falls_at_journal host ≡ false → falls_at_root host ≡ true → cut_off host ≡ torn_over host
+    root_cut clear falls =
+        ap (λ b. if not b || falls_at_journal host then host else (if falls_at_root host then torn_over host else turns_over host)) due
+        ∙ ap (λ b. if b then host else (if falls_at_root host then torn_over host else turns_over host)) clear
+        ∙ ap (λ b. if b then torn_over host else turns_over host) falls

@@ -15,6 +15,7 @@ use Rattle.nqs_disk.specs.contracts.mem_disk.MemDiskDisk.TheImpl.{ghosts}
 use Rattle.nqs_disk.specs.declared.lack.Lack.{Lack}
 use Rattle.nqs_disk.specs.declared.mem_disk.MemDisk.{MemDisk}
 use Rattle.nqs_rules.specs.World.{Host, Ran, World as Network}
+use Rattle.nqs_store.specs.Active.{Active}
 use Rattle.nqs_store.specs.Disks.{disk_at, histories_of}
 use Rattle.nqs_store.specs.declared.disks.Disks.{Disks}
 use Rattle.nqs_store.specs.Hosts.{HostCall, Runs, part}
@@ -44,13 +45,13 @@ still old now same = λ which. ([], same which ∙ no_more (old which))
 pub by_run : (old now : Which → History) (run : List HostCall) → Runs old now run → GoOn old now
 by_run old now run runs = λ which. (part which run, runs which)
 
-pub goes : (old now : Which → History) (o : Option (Change (List ℕ))) (s : Plain) → IsOneOrOther old now o s → GoOn old now
-goes old now None s (same, told) = still old now same
-goes old now (Some c) s keeping = by_run old now keeping.run keeping.made
+pub goes : (a : Active) (old now : Which → History) (o : Option (Change (List ℕ))) (s : Plain) → IsOneOrOther a old now o s → GoOn old now
+goes a old now None s (same, told) = still old now same
+goes a old now (Some c) s keeping = by_run old now keeping.run keeping.made
 
-pub broke_off : (old now : Which → History) (o : Option (Change (List ℕ))) → IsBrokenOff old now o → GoOn old now
-broke_off old now None same = still old now same
-broke_off old now (Some c) (places, gate, payload, run, as_many, stands, runs) = by_run old now run runs
+pub broke_off : (a : Active) (old now : Which → History) (o : Option (Change (List ℕ))) → IsBrokenOff a old now o → GoOn old now
+broke_off a old now None same = still old now same
+broke_off a old now (Some c) broken = by_run old now broken.run broken.made
 
 pub further : (old mid now : Which → History) → GoOn old mid → GoOn mid now → GoOn old now
 further old mid now one two = λ which.

@@ -8,32 +8,33 @@ use Rattle.nqs_values.specs.declared.tear.Tear.{Tear}
 use Rattle.nqs_values.specs.declared.tear.Tear.TheVariants.{Old}
 use Rattle.nqs_types.specs.declared.world.Which.{Which}
 use Rattle.nqs_types.specs.declared.world.Which.TheVariants.{Root, First, Second, Spool}
-use Rattle.nqs_outside.specs.History.{History, State, content, state, moment, extended, IsImage, IsQuiet}
-use Rattle.nqs_outside.proofs.Images.{fresh_image}
+use Rattle.nqs_outside.specs.History.{History, content, moment, extended, IsQuiet}
 use Rattle.nqs_journal.specs.Plan.{begin_calls}
+use Rattle.nqs_journal.specs.Either.{StandsBy}
 use Rattle.nqs_disk.specs.MemDisk as mem
 use Rattle.nqs_disk.specs.contracts.mem_disk.MemDiskDisk.TheImpl.{ghosts}
 use Rattle.nqs_disk.specs.declared.mem_disk.MemDisk.{MemDisk}
 use Rattle.nqs_rules.specs.Applied.{applied}
 use Rattle.nqs_rules.specs.Format.{formatted}
+use Rattle.nqs_rules.specs.Journals.{is_second, active}
 use Rattle.nqs_rules.specs.World.{Host, no_fuses, no_calls, new_host, hosts_from}
+use Rattle.nqs_store.specs.Active.{Active, IsActive, recorded, ready}
 use Rattle.nqs_store.specs.Commits.{IsKept}
 use Rattle.nqs_node.specs.Carried.{IsCutBy, IsBlown, IsOneOrOther}
-use Rattle.nqs_store.specs.Disks.{histories_of, failing_of}
+use Rattle.nqs_store.specs.Disks.{histories_of, failing_of, contents}
 use Rattle.nqs_store.specs.declared.fault.StoreFault.{StoreFault}
 use Rattle.nqs_store.specs.Formatted.{IsFormatted}
 use Rattle.nqs_store.specs.Images.{IsTold}
 use Rattle.nqs_store.specs.Sound.{IsSoundHost}
 use Rattle.nqs_store.specs.declared.disks.Disks.{Disks}
-use Rattle.nqs_node.specs.Nodes.{history_of, fails_of, content_of, Tells}
+use Rattle.nqs_node.specs.Nodes.{history_of, fails_of, active_of, content_of, Tells}
 use Rattle.nqs_node.specs.declared.node.Node.{Node}
 use Rattle.nqs_net.specs.Worlds.{IsDisk, AreInTurn, AreDisks, IsUp, IsSlot, AreSlots}
 use Rattle.nqs_net.specs.declared.slot.Slot.{Slot}
 use Rattle.nqs_net.specs.declared.slot.Slot.TheVariants.{Up}
 use Rattle.nqs_net.specs.declared.slot.UpHost.{UpHost}
-use Rattle.nqs_net.proofs.Burns.{kept_disks}
-use Rattle.nqs_net.proofs.Coming.{told_here, come_more}
-use Rattle.nqs_net.proofs.Hosting.{uncalled_quiet}
+use Rattle.nqs_net.proofs.Coming.{told_here, uncalled_quiet}
+use Rattle.nqs_net.proofs.Turning.{kept_up}
 use Rattle.nqs_net.specs.Pasts.{HasCome}
 
 -- an empty disk before any call
@@ -55,17 +56,41 @@ format_starved fault fails starved which unfused (inl first) cause is = by (caus
     by (inl hungry) = hungry
     by (inr (i, due)) = absurd (true≢false (sym due ∙ unfused i))
 
+-- the first journal is active, and has one record
+abbrev pub formatted_active : Active
+formatted_active = record { second = false; records = 1 }
+
 module _ (me : HostId) (site : List (List ℕ)) where
-  pub formatted_told : (disks : Disks MemDisk) → IsFormatted (mem.history_of disks.first) me site
-      → IsTold (content (histories_of mem.history_of disks First)) (content (histories_of mem.history_of disks Spool)) (formatted me site)
-  formatted_told disks is = record {
-    payloads = is.payload ∷ [];
-    stands = is.opened.stands;
-    host = formatted me site;
-    tells = is.tells;
-    sound = record { apart = tt; within = tt };
-    bytes = refl;
-  }
+  module _ (disks : Disks MemDisk) (empty : mem.history_of disks.root ≡ unused) (is : IsFormatted (mem.history_of disks.first) me site) where
+    abbrev bytes : Which → List ℕ
+    bytes = contents (histories_of mem.history_of disks)
+
+    no_root : bytes Root ≡ []
+    no_root = ap content empty
+
+    pub formatted_told : IsTold bytes (formatted me site)
+    formatted_told = record {
+      host = formatted me site;
+      is = record {
+        has = false;
+        snapshot = [];
+        payloads = is.payload ∷ [];
+        stands = subst (λ root. StandsBy (bytes (active root)) false [] (is.payload ∷ [])) (sym no_root) (refl, is.opened.stands);
+        tells = is.tells;
+        sound = record { apart = tt; within = tt };
+      };
+      bytes = refl;
+    }
+
+    pub formatted_is_active : IsActive bytes formatted_active
+    formatted_is_active = record {
+      named = ap is_second no_root;
+      has = false;
+      snapshot = [];
+      payloads = is.payload ∷ [];
+      stands = (refl, is.opened.stands);
+      many = refl;
+    }
 
   module _ (new disks : Disks MemDisk)
       (bare : (which : Which) → histories_of mem.history_of new which ≡ unused)
@@ -74,7 +99,7 @@ module _ (me : HostId) (site : List (List ℕ)) where
       (text : List ℕ) (made : mem.history_of disks.first ≡ extended (mem.history_of new.first) (begin_calls text))
       (fuse : (i : ℕ) → mem.fails_of disks.first i ≡ mem.fails_of new.first i) where
     abbrev host : Host
-    host = record { up = true; state = formatted me site; told = []; tear = Old; fuses = no_fuses; calls = record no_calls { first = 2 } }
+    host = record { up = true; state = formatted me site; told = []; tear = Old; fuses = no_fuses; calls = record no_calls { first = 2 }; root = []; records = 1 }
 
     two_calls : AreDisks host (histories_of mem.history_of disks) (failing_of mem.fails_of disks)
     two_calls Root = still disks.root (ap mem.history_of root ∙ bare Root) (λ i. ap (λ d. mem.fails_of d i) root ∙ unfused Root i)
@@ -100,22 +125,24 @@ module _ (me : HostId) (site : List (List ℕ)) where
     -- a call of its boot failed only where the disk is starved
     pub boot_starved : (which : Which) (now : Which → History) (starved : Bool)
         → IsTrue starved ⊎ (IsBlown (failing_of mem.fails_of disks which) (histories_of mem.history_of disks which)
-        ⊎ IsCutBy (failing_of mem.fails_of disks) (histories_of mem.history_of disks) now (Some Boot) (formatted me site) which)
+        ⊎ IsCutBy formatted_active (failing_of mem.fails_of disks) (histories_of mem.history_of disks) now (Some Boot) (formatted me site) which)
         → IsTrue starved
     boot_starved which now starved (inl hungry) = hungry
     boot_starved which now starved (inr (inl blown)) = absurd (true≢false (sym blown.2 ∙ unfused_now which blown.0))
-    boot_starved Root now starved (inr (inr cut)) = absurd cut
-    boot_starved First now starved (inr (inr cut)) = absurd (true≢false (sym cut.failed.due ∙ unfused_now First _))
-    boot_starved Second now starved (inr (inr cut)) = absurd cut
+    boot_starved Root now starved (inr (inr cut)) = absurd (true≢false (sym cut.failed.due ∙ unfused_now Root _))
+    boot_starved First now starved (inr (inr (inl cut))) = absurd (true≢false (sym cut.1.failed.due ∙ unfused_now Second _))
+    boot_starved First now starved (inr (inr (inr cut))) = absurd (true≢false (sym cut.1.failed.due ∙ unfused_now First _))
+    boot_starved Second now starved (inr (inr (inl cut))) = absurd (true≢false (sym cut.1.failed.due ∙ unfused_now Second _))
+    boot_starved Second now starved (inr (inr (inr cut))) = absurd (true≢false (sym cut.1.failed.due ∙ unfused_now First _))
     boot_starved Spool now starved (inr (inr cut)) = absurd (true≢false (sym cut.failed.due ∙ unfused_now Spool _))
 
     abbrev made_so : Which → History
     made_so = histories_of mem.history_of disks
 
-    first_image : IsFormatted (mem.history_of disks.first) me site → (image : List ℕ) → IsImage (state (made_so First)) image → content (made_so First) ≡ image
-    first_image is image leaves = sym (fresh_image (content (made_so First)) image (subst (λ (s : State). IsImage s image) is.opened.quiet leaves))
+    empty_root : mem.history_of disks.root ≡ unused
+    empty_root = ap mem.history_of root ∙ bare Root
 
-    formatted_come : IsFormatted (mem.history_of disks.first) me site → HasCome made_so [] (formatted me site)
+    formatted_come : IsFormatted (mem.history_of disks.first) me site → HasCome made_so formatted_active [] (formatted me site)
     formatted_come is = (
       [],
       refl,
@@ -124,23 +151,18 @@ module _ (me : HostId) (site : List (List ℕ)) where
         first = (let two : moment (made_so First) ≡ 2 = (two_calls First).count in let few : moment (made_so First) ≤ 2 = omega (arith, two) in few);
         second = (two_calls Second).count;
         spool = (two_calls Spool).count;
-        told = told_here made_so (formatted me site) (first_image is) (ap (λ (h : History). h.calls) (ap mem.history_of spool ∙ bare Spool))
-            (formatted_told disks is);
+        told = told_here made_so (formatted me site) formatted_active (formatted_quiet is) (formatted_told disks empty_root is)
+            (formatted_is_active disks empty_root is);
       },
     )
 
     pub booted : IsFormatted (mem.history_of disks.first) me site → (node : Node MemDisk ghosts) → Tells node (applied Boot (formatted me site))
-        → IsSoundHost (content_of node)
-        → IsKept (failing_of mem.fails_of disks) [] made_so (history_of node) → IsOneOrOther made_so (history_of node) (Some Boot) (formatted me site)
+        → IsSoundHost (content_of node) → active_of node ≡ recorded (ready formatted_active)
+        → IsKept formatted_active (failing_of mem.fails_of disks) [] made_so (history_of node)
+        → IsOneOrOther formatted_active made_so (history_of node) (Some Boot) (formatted me site)
         → ((which : Which) (i : ℕ) → fails_of node which i ≡ failing_of mem.fails_of disks which i) → IsUp node (new_host site me.0)
-    booted is node tells sound kept moments same = record {
-      up = refl;
-      tells = tells;
-      sound = sound;
-      disks = kept_disks host (failing_of mem.fails_of disks) (fails_of node) (histories_of mem.history_of disks) (history_of node) two_calls same []
-          (formatted me site) kept;
-      past = come_more made_so node [] (formatted me site) Boot (formatted_come is) kept.calls moments tells;
-    }
+    booted is node tells sound goes kept moments same = kept_up host (failing_of mem.fails_of disks) made_so two_calls node Boot (formatted_quiet is Root)
+        (ap content empty_root) (formatted_come is) moments kept goes tells sound same
 
 -- one host more
 

@@ -7,8 +7,8 @@ use Rattle.nqs_types.specs.declared.world.Which.{Which}
 use Rattle.nqs_types.specs.declared.world.Which.TheVariants.{Root, First, Second, Spool}
 use Rattle.nqs_outside.specs.History.{History, moment}
 use Rattle.nqs_rules.specs.Edits.{change_at}
-use Rattle.nqs_rules.specs.World.{Host, fused_host}
-use Rattle.nqs_net.specs.Worlds.{fuse_of, calls_of, IsFuse, AreInTurn, IsDisk, AreDisks, IsSlot, AreSlots}
+use Rattle.nqs_rules.specs.World.{Host, fuse_of, fused_host}
+use Rattle.nqs_net.specs.Worlds.{calls_of, IsFuse, AreInTurn, IsDisk, AreDisks, IsSlot, AreSlots}
 use Rattle.nqs_net.specs.declared.slot.Slot.{Slot}
 
 -- no call that was made was to fail

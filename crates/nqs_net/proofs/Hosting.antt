@@ -10,41 +10,45 @@ use Rattle.nqs_values.specs.declared.tear.Tear.{Tear}
 use Rattle.nqs_types.specs.declared.world.Seen.{Seen}
 use Rattle.nqs_types.specs.declared.world.Seen.TheVariants as seen
 use Rattle.nqs_types.specs.declared.world.Which.{Which}
-use Rattle.nqs_types.specs.declared.world.Which.TheVariants.{First, Spool}
-use Rattle.nqs_outside.specs.History.{Call, History, fresh, after, state, IsImage, IsQuiet}
+use Rattle.nqs_types.specs.declared.world.Which.TheVariants.{Root}
+use Rattle.nqs_outside.specs.History.{History, state, IsImage}
 use Rattle.nqs_disk.specs.MemDisk as mem
 use Rattle.nqs_disk.specs.Torn.{torn}
 use Rattle.nqs_disk.specs.contracts.mem_disk.MemDiskDisk.TheImpl.{ghosts}
 use Rattle.nqs_disk.specs.declared.mem_disk.MemDisk.{MemDisk}
 use Rattle.nqs_rules.specs.Applied.{applied}
 use Rattle.nqs_rules.specs.Stepped.{stored_parts}
-use Rattle.nqs_rules.specs.World.{World as Network, Host, stopped, used, halted_host, halts, crashes_up, makes_change, boot_output, unseen}
-use Rattle.nqs_store.specs.Commits.{IsKept}
-use Rattle.nqs_store.specs.Images.{IsTold}
+use Rattle.nqs_rules.specs.World.{fuse_of, World as Network, Host, stopped, used, halted_host, halts, crashes_up, makes_change, boot_output, unseen}
+use Rattle.nqs_store.specs.Active.{IsActive, ready, recorded}
 use Rattle.nqs_store.specs.Disks.{disk_at, histories_of, failing_of}
 use Rattle.nqs_store.specs.declared.disks.Disks.{Disks}
 use Rattle.nqs_store.specs.Sound.{IsSoundHost}
-use Rattle.nqs_store.proofs.TellsNow.{told_now}
+use Rattle.nqs_store.proofs.TellsNow.{only_image}
 use Rattle.nqs_node.specs.Carried.{IsMade, IsCutBy, IsBlown, IsOneOrOther}
-use Rattle.nqs_node.specs.Nodes.{disk_of, history_of, fails_of, content_of, Tells}
+use Rattle.nqs_node.specs.Nodes.{disk_of, history_of, fails_of, active_of, content_of, Tells}
 use Rattle.nqs_node.specs.declared.node.Node.{Node}
 use Rattle.nqs_net.specs.Lists.{sent_in, seen_from}
-use Rattle.nqs_net.specs.Worlds.{fuse_of, IsUp, IsDown, IsSlot}
+use Rattle.nqs_net.specs.Worlds.{IsUp, IsDown, IsSlot, active_in}
 use Rattle.nqs_net.specs.Turns.{IsStopped, Faces, Turns}
 use Rattle.nqs_net.specs.declared.slot.Slot.{Slot}
 use Rattle.nqs_net.specs.declared.slot.Slot.TheVariants.{Up, Down}
 use Rattle.nqs_net.proofs.Fates.{unblown}
-use Rattle.nqs_net.proofs.Burns.{kept_disks}
-use Rattle.nqs_net.proofs.Coming.{come_more, down_come}
-use Rattle.nqs_net.proofs.Turning.{put_turn, torn_down, kept_turn, cut_turn, same_self}
+use Rattle.nqs_net.proofs.Stops.{AreFound}
+use Rattle.nqs_net.proofs.Coming.{node_tells, down_quiet, down_come}
+use Rattle.nqs_net.proofs.Turning.{put_turn, torn_down, kept_up, kept_turn, cut_turn, same_self}
 
--- what a node tells is told by what a stop leaves of its disks
-node_told : (node : Node MemDisk ghosts) (host : Host) (tear : Tear) → IsUp node host
+-- what a node tells is found in what a stop leaves of its disks
+node_found : (node : Node MemDisk ghosts) (host : Host) (tear : Tear) → IsUp node host
     → ((which : Which) → IsImage (state (history_of node which)) (torn tear (state (history_of node which))))
-    → IsTold (torn tear (state (history_of node First))) (torn tear (state (history_of node Spool))) host.state
-node_told node host tear is images =
-    subst (IsTold (torn tear (state (history_of node First))) (torn tear (state (history_of node Spool)))) is.tells.is
-    (told_now node.store (content_of node) refl is.tells.told (λ which. torn tear (state (history_of node which))) images)
+    → AreFound (λ which. torn tear (state (history_of node which))) host.state host
+node_found node host tear is images =
+    let left : Which → List ℕ = λ which. torn tear (state (history_of node which)) in
+    let told = node_tells node host.state is.tells left images in
+    record {
+      told = told.0;
+      root = sym (only_image (history_of node Root) (left Root) is.tells.told.root (images Root)) ∙ is.root;
+      active = subst (IsActive left) is.active told.1;
+    }
 
 module _ (h : HostId) (w : Network) (host : Host) (tear : Tear) (packets : List Message) (faces : Faces h host tear packets w) where
   -- a host that is up stops as it is
@@ -62,7 +66,7 @@ module _ (h : HostId) (w : Network) (host : Host) (tear : Tear) (packets : List 
           subst (λ l. Turns h (IsSlot (Down down)) tear l before after w (crashes_up h host w)) (sym faces.packets)
           (put_turn h w host (stopped host.state host) faces.there (IsSlot (Down down))
           (torn_down host.tear (history_of node) down.disks.value torn_now host host.state
-          (node_told node host host.tear is torn_now.images)) tear faces.tear (seen.Stop h ∷ []) before after saw)
+          (node_found node host host.tear is torn_now.images)) tear faces.tear (seen.Stop h ∷ []) before after saw)
 
   -- nothing is done
   pub idle_at : (P : Host → Type 0) → P host → (before : List Seen) → Turns h P tear packets before before w (unseen w)
@@ -92,46 +96,36 @@ module _ (h : HostId) (w : Network) (host : Host) (tear : Tear) (packets : List 
     old = histories_of mem.history_of disks
 
     pub boot_turn : (node boxed : Node MemDisk ghosts) → boxed ≡ node → IsSoundHost (content_of node) → Tells node (applied Boot host.state)
-        → IsMade fails old (history_of node) (Some Boot) → IsOneOrOther old (history_of node) (Some Boot) host.state
-        → ((which : Which) (i : ℕ) → fails_of node which i ≡ fails which i)
+        → IsMade (active_in host) fails old (history_of node) (Some Boot) → active_of node ≡ recorded (ready (active_in host))
+        → IsOneOrOther (active_in host) old (history_of node) (Some Boot) host.state → ((which : Which) (i : ℕ) → fails_of node which i ≡ fails which i)
         → (sent : List Message) (before after : List Seen) → sent ≡ packets ++ sent_in (filter_map boot_output host.state.rows)
         → after ≡ before ++ (seen.Boot h ∷ seen_from h (length packets) (filter_map boot_output host.state.rows))
         → Turns h (IsUp boxed) tear sent before after w (makes_change h host Boot (seen.Boot h ∷ []) (filter_map boot_output host.state.rows) w)
-    boot_turn node boxed same_node sound tells kept moments same sent before after sends saw =
+    boot_turn node boxed same_node sound tells kept goes moments same sent before after sends saw =
         kept_turn h w host tear packets faces (seen.Boot h ∷ []) (filter_map boot_output host.state.rows) Boot fails old is.disks (history_of node)
         (IsUp boxed) kept
         (subst (λ n. IsUp n (used (stored_parts Boot) (applied Boot host.state) host)) (sym same_node)
-        (record {
-          up = refl;
-          tells = tells;
-          sound = sound;
-          disks = kept_disks host fails (fails_of node) old (history_of node) is.disks same
-              (stored_parts Boot) (applied Boot host.state) kept;
-          past = come_more old node host.told host.state Boot (down_come disks host is)
-              (let k : IsKept fails [] old (history_of node) = kept in k.calls) moments tells;
-        })) sent before after sends saw
+        (kept_up host fails old is.disks node Boot (down_quiet disks host is Root) is.root (down_come disks host is) moments kept goes tells sound same))
+        sent before after sends saw
 
     -- what there is to see of it
     pub boot_seen : (node : Node MemDisk ghosts) → IsSoundHost (content_of node) → Tells node (applied Boot host.state)
-        → IsMade fails old (history_of node) (Some Boot) → IsOneOrOther old (history_of node) (Some Boot) host.state
-        → ((which : Which) (i : ℕ) → fails_of node which i ≡ fails which i)
+        → IsMade (active_in host) fails old (history_of node) (Some Boot) → active_of node ≡ recorded (ready (active_in host))
+        → IsOneOrOther (active_in host) old (history_of node) (Some Boot) host.state → ((which : Which) (i : ℕ) → fails_of node which i ≡ fails which i)
         → seen.Boot h ∷ seen_from h (length packets) (filter_map boot_output host.state.rows)
         ≡ (makes_change h host Boot (seen.Boot h ∷ []) (filter_map boot_output host.state.rows) w).seen
-    boot_seen node sound tells kept moments same =
+    boot_seen node sound tells kept goes moments same =
         let outs = filter_map boot_output host.state.rows in
-        (boot_turn node node refl sound tells kept moments same (packets ++ sent_in outs) [] (seen.Boot h ∷ seen_from h (length packets) outs) refl refl).seen
+        (boot_turn node node refl sound tells kept goes moments same (packets ++ sent_in outs) [] (seen.Boot h ∷ seen_from h (length packets) outs) refl
+        refl).seen
 
     pub boot_cut : (now : Which → History) (slot : Slot) (which : Which) (starved : Bool) (before after : List Seen) → after ≡ before ++ seen.Stop h ∷ []
         → IsStopped tear now slot → starved ≡ false
-        → IsTrue starved ⊎ (IsBlown (fails which) (old which) ⊎ IsCutBy fails old now (Some Boot) host.state which)
+        → IsTrue starved ⊎ (IsBlown (fails which) (old which) ⊎ IsCutBy (active_in host) fails old now (Some Boot) host.state which)
         → Turns h (IsSlot slot) tear packets before after w (makes_change h host Boot (seen.Boot h ∷ []) (filter_map boot_output host.state.rows) w)
     boot_cut now slot which starved before after saw torn_now fed (inl hungry) = absurd (true≢false (sym hungry ∙ fed))
     boot_cut now slot which starved before after saw torn_now fed (inr (inl blown)) =
         absurd (unblown (fuse_of which host.fuses) (old which) (fails which) (is.disks which).fuse blown)
     boot_cut now slot which starved before after saw torn_now fed (inr (inr cut)) =
         cut_turn h w host tear packets faces (seen.Boot h ∷ []) (filter_map boot_output host.state.rows) Boot fails old is.disks now before after saw slot which
-        torn_now cut
-
--- where no call was made, nothing is pending
-pub uncalled_quiet : (h : History) → h.calls ≡ [] → IsQuiet h
-uncalled_quiet h none = subst (λ (l : List Call). after (fresh h.start) l ≡ fresh (after (fresh h.start) l).content) (sym none) refl
+        torn_now (down_quiet disks host is Root) is.root cut

@@ -1,5 +1,9 @@
+pub mod Parts
 pub mod Fates
 pub mod Burns
+pub mod Roots
+pub mod Stops
+pub mod Wholes
 pub mod Coming
 pub mod Turning
 pub mod Fronts

@@ -1,12 +1,12 @@
 -- Reads of disks change nothing, and tell the states of the hosts.
-use Rattle.std.proofs.Common.{◌≡◌, ℕ, zero, suc, ◌<◌, ◌≤◌, List, [], ◌∷◌, ◌++◌, map, take, length, get_or, slice_get, set, Some, refl, sym, ap, subst, ◌∙◌}
+use Rattle.std.proofs.Common.{◌≡◌, ℕ, zero, suc, ◌<◌, ◌≤◌, List, [], ◌∷◌, ◌++◌, map, take, length, get_or, slice_get, set, refl, sym, ap, subst, ◌∙◌}
 use Rattle.std.proofs.Common.{arith}
 use Rattle.std.proofs.lemmas.Bool.{leb-true}
 use Rattle.nqs_state.specs.State.{Plain, content}
 use Rattle.nqs_state.specs.declared.state.HostState.{HostState}
 use Rattle.nqs_values.specs.declared.tear.Tear.{Tear}
 use Rattle.nqs_types.specs.declared.world.Which.{Which}
-use Rattle.nqs_types.specs.declared.world.Which.TheVariants.{First, Spool}
+use Rattle.nqs_types.specs.declared.world.Which.TheVariants.{Root, Spool}
 use Rattle.nqs_outside.specs.History.{content as bytes_now}
 use Rattle.nqs_disk.specs.MemDisk as mem
 use Rattle.nqs_disk.specs.contracts.mem_disk.MemDiskDisk.TheImpl.{ghosts}
@@ -16,31 +16,33 @@ use Rattle.nqs_rules.specs.Run.{states_of}
 use Rattle.nqs_rules.specs.World.{Host, World as Network}
 use Rattle.nqs_rules.proofs.StateFacts.{sites_are}
 use Rattle.nqs_laws.specs.Words.{IsInOrderAll}
-use Rattle.nqs_store.specs.Disks.{histories_of, failing_of}
-use Rattle.nqs_store.specs.Images.{IsTold}
+use Rattle.nqs_store.specs.Active.{IsActive}
+use Rattle.nqs_store.specs.Disks.{histories_of, failing_of, contents}
+use Rattle.nqs_store.specs.Images.{IsTold, IsToldHost}
 use Rattle.nqs_store.specs.Live.{bytes_at}
-use Rattle.nqs_store.specs.Told.{Host as Told, told}
-use Rattle.nqs_journal.specs.Text.{StandsFor as IsJournal}
+use Rattle.nqs_store.specs.Told.{Host as Told}
 use Rattle.nqs_store.specs.Sound.{IsSoundHost}
 use Rattle.nqs_store.specs.Stores as store
 use Rattle.nqs_store.specs.declared.disks.Disks.{Disks}
-use Rattle.nqs_node.specs.Nodes.{history_of, fails_of, content_of, Tells}
+use Rattle.nqs_node.specs.Nodes.{history_of, fails_of, active_of, content_of, Tells}
 use Rattle.nqs_node.specs.declared.node.Node.{Node}
 use Rattle.nqs_table.specs.Standing.{StandsFor, StandForEach}
-use Rattle.nqs_net.specs.Worlds.{IsUp, IsDown, IsSlot, AreSlots}
+use Rattle.nqs_net.specs.Worlds.{IsUp, IsDown, IsSlot, AreSlots, active_in}
 use Rattle.nqs_net.specs.declared.slot.Slot.{Slot}
 use Rattle.nqs_net.proofs.Burns.{same_disks}
 use Rattle.nqs_net.proofs.Coming.{come_still}
 
 pub same_up : (old now : Node MemDisk ghosts) (host : Host) → ((which : Which) → history_of now which ≡ history_of old which)
     → ((which : Which) (i : ℕ) → fails_of now which i ≡ fails_of old which i)
-    → content_of now ≡ content_of old → ((s : Plain) → Tells old s → Tells now s) → IsUp old host → IsUp now host
-same_up old now host same fuse state tells up = record {
+    → content_of now ≡ content_of old → active_of now ≡ active_of old → ((s : Plain) → Tells old s → Tells now s) → IsUp old host → IsUp now host
+same_up old now host same fuse state is_active tells up = record {
   up = up.up;
   tells = tells host.state up.tells;
   sound = subst IsSoundHost (sym state) up.sound;
   disks = same_disks host (fails_of old) (fails_of now) (history_of old) (history_of now) up.disks fuse same;
-  past = come_still (history_of old) (history_of now) host.told host.state same up.past;
+  root = ap bytes_now (same Root) ∙ up.root;
+  active = is_active ∙ up.active;
+  past = come_still (history_of old) (history_of now) (active_in host) host.told host.state same up.past;
 }
 
 pub up_stands : (node : Node MemDisk ghosts) (state : HostState) (host : Host) → content state ≡ content_of node → IsUp node host → StandsFor state host.state
@@ -51,20 +53,23 @@ pub same_down : (old now : Disks MemDisk) (host : Host) → ((which : Which) →
 same_down old now host same fuse down = record {
   down = down.down;
   told = down.told;
-  tells = subst (λ h. IsTold (bytes_now (h First)) (bytes_now (h Spool)) host.state)
-      (sym (let e : histories_of mem.history_of now ≡ histories_of mem.history_of old = λ j which. same which j in e)) down.tells;
+  tells = subst (λ h. IsTold (contents h) host.state) here down.tells;
   disks = same_disks host (failing_of mem.fails_of old) (failing_of mem.fails_of now) (histories_of mem.history_of old)
       (histories_of mem.history_of now) down.disks fuse same;
+  root = ap bytes_now (same Root) ∙ down.root;
+  active = subst (λ h. IsActive (contents h) (active_in host)) here down.active;
   calls = λ which. ap (λ h. h.calls) (same which) ∙ down.calls which;
 }
+  where
+    here : histories_of mem.history_of old ≡ histories_of mem.history_of now
+    here = λ j which. sym (same which) j
 
 pub down_stands : (disks : Disks MemDisk) (state : HostState) (host : Host)
-    → ((payloads : List (List ℕ)) → IsJournal (bytes_now (histories_of mem.history_of disks First)) payloads → (told_host : Told)
-    → told payloads ≡ Some told_host → content state ≡ told_host)
+    → ((told_host : Told) → IsToldHost (contents (histories_of mem.history_of disks)) told_host → content state ≡ told_host)
     → IsDown disks host → StandsFor state host.state
 down_stands disks state host read down =
     let bytes = bytes_at (bytes_now (histories_of mem.history_of disks Spool)) in
-    (bytes, ap (map_state bytes) (read down.tells.payloads down.tells.stands down.tells.host down.tells.tells) ∙ down.tells.bytes)
+    (bytes, ap (map_state bytes) (read down.tells.host down.tells.is) ∙ down.tells.bytes)
 
 -- slots at a place
 

@@ -14,7 +14,8 @@ use Rattle.nqs_rules.specs.Measure.{starts_left}
 use Rattle.nqs_rules.specs.Plain.{map_row, map_state}
 use Rattle.nqs_rules.specs.Start.{start}
 use Rattle.nqs_rules.specs.Stepped.{Stepped, quiet, shown, stored_parts}
-use Rattle.nqs_rules.specs.World.{World as Network, Host, Ran, Fate, Made, StoppedBefore, StoppedAfter, fate, host_of, put_host, stopped, used, change_fated}
+use Rattle.nqs_rules.specs.World.{World as Network, Host, Ran, Fate, Made, StoppedBefore, StoppedAfter, fate, host_of, put_host}
+use Rattle.nqs_rules.specs.World.{ready, recorded, cut_off, stopped, used, change_fated}
 use Rattle.nqs_rules.specs.World.{carries_out, steps, starts, all_starts, left_of, then_seen, then_ran, unseen}
 use Rattle.nqs_rules.proofs.ListFacts.{list_all-weaker}
 use Rattle.nqs_rules.proofs.FindKept.{all-mapped}
@@ -89,18 +90,12 @@ module _ (h : HostId) (w : Network) (host : Host) (there : host_of h w ≡ Some 
       let next = used (stored_parts c) (applied c host.state) host in
       subst (λ v. Lowered h host.state v) (sym (emits_world h os (put_host h next w)))
       (record { host = next; there = get-here h.0 next host w.hosts there; fewer = inr (steady, less) })
-  fated StoppedBefore c os steady less = record {
-    host = stopped host.state host;
-    there = get-here h.0 (stopped host.state host) host w.hosts there;
-    fewer =
-        inl refl;
-  }
-  fated StoppedAfter c os steady less = record {
-    host = stopped (applied c host.state) host;
-    there =
-        get-here h.0 (stopped (applied c host.state) host) host w.hosts there;
-    fewer = inl refl;
-  }
+  fated StoppedBefore c os steady less =
+      let next = stopped host.state (cut_off host) in
+      record { host = next; there = get-here h.0 next host w.hosts there; fewer = inl refl }
+  fated StoppedAfter c os steady less =
+      let next = stopped (applied c host.state) (recorded (ready host)) in
+      record { host = next; there = get-here h.0 next host w.hosts there; fewer = inl refl }
 
   step_lowers : (x : Stepped (List ℕ)) → start w.now host.state ≡ Some x → Lowered h host.state (steps h host x w).world
   step_lowers x e =

@@ -12,21 +12,22 @@ use Rattle.nqs_types.specs.declared.world.Seen.{Seen}
 use Rattle.nqs_types.specs.declared.world.Seen.TheVariants as seen
 use Rattle.nqs_types.specs.declared.world.Which.{Which}
 use Rattle.nqs_types.specs.declared.world.Which.TheVariants.{Root, First, Second, Spool}
-use Rattle.nqs_outside.specs.History.{History, content, moment, state, IsImage}
+use Rattle.nqs_outside.specs.History.{History, content, moment, state, IsImage, IsQuiet}
 use Rattle.nqs_disk.specs.MemDisk as mem
 use Rattle.nqs_disk.specs.Torn.{torn}
 use Rattle.nqs_disk.specs.declared.mem_disk.MemDisk.{MemDisk}
 use Rattle.nqs_rules.specs.Applied.{applied}
 use Rattle.nqs_rules.specs.Starts.{after_change, after_step}
 use Rattle.nqs_rules.specs.Stepped.{Stepped, shown, stored_parts}
-use Rattle.nqs_rules.specs.World.{World as Network, Host, Ran, Fate, Made, StoppedBefore, StoppedAfter, fate, host_of, put_host, emits, sent_by, seen_output}
-use Rattle.nqs_rules.specs.World.{stopped, used, change_fated, makes_change, carries_out, steps, then_seen, then_ran}
+use Rattle.nqs_rules.specs.World.{fuse_of, World as Network, Host, Ran, Fate, Made, StoppedBefore, StoppedAfter, fate, host_of, put_host, emits, sent_by, seen_output}
+use Rattle.nqs_rules.specs.World.{ready, recorded, cut_off, stopped, used, change_fated, makes_change, carries_out, steps, then_seen, then_ran}
+use Rattle.nqs_store.specs.Active.{IsActive, ready as ready_in, recorded as recorded_in}
 use Rattle.nqs_store.specs.Commits.{IsKept, IsCutAt}
-use Rattle.nqs_store.specs.Disks.{disk_at, histories_of, failing_of}
+use Rattle.nqs_store.specs.Disks.{disk_at, histories_of, failing_of, contents}
 use Rattle.nqs_store.specs.Images.{IsTold}
 use Rattle.nqs_store.specs.declared.disks.Disks.{Disks}
-use Rattle.nqs_node.specs.Carried.{IsMade, IsCutBy, IsBlown, IsOneOrOther}
-use Rattle.nqs_node.specs.Nodes.{disk_of, history_of, fails_of, is_starved, content_of, Tells}
+use Rattle.nqs_node.specs.Carried.{after_kept, IsMade, IsCutBy, IsBlown, IsOneOrOther}
+use Rattle.nqs_node.specs.Nodes.{disk_of, history_of, fails_of, is_starved, active_of, content_of, Tells}
 use Rattle.nqs_disk.specs.contracts.mem_disk.MemDiskDisk.TheImpl.{ghosts}
 use Rattle.nqs_node.specs.declared.node.Node.{Node}
 use Rattle.nqs_store.specs.Sound.{IsSoundHost}
@@ -34,13 +35,15 @@ use Rattle.nqs_laws.proofs.PairedRuns.{put-twice}
 use Rattle.nqs_laws.proofs.Sound.{get-here}
 use Rattle.nqs_net.specs.Lists.{sent_in, seen_from}
 use Rattle.nqs_net.specs.Pasts.{HasCome}
-use Rattle.nqs_net.specs.Worlds.{fuse_of, AreInTurn, AreDisks, IsUp, IsDown, IsSlot}
+use Rattle.nqs_net.specs.Worlds.{AreInTurn, AreDisks, IsUp, IsDown, IsSlot, active_in}
 use Rattle.nqs_net.specs.Turns.{IsTorn, IsStopped, IsTaken, IsDownSlot, Faces, IsSameBut, Turns}
 use Rattle.nqs_net.specs.declared.slot.Slot.{Slot}
 use Rattle.nqs_net.specs.declared.slot.Slot.TheVariants.{Up, Down}
-use Rattle.nqs_net.proofs.Fates.{CutsTo, unblown, kept_fate, cut_fate}
+use Rattle.nqs_net.proofs.Fates.{unblown}
 use Rattle.nqs_net.proofs.Burns.{kept_disks, same_disks}
-use Rattle.nqs_net.proofs.Coming.{come_more, come_still}
+use Rattle.nqs_net.proofs.Roots.{kept_root}
+use Rattle.nqs_net.proofs.Stops.{AreFound, CutsTo, ready_tear, cut_tear, kept_fate, cut_fate}
+use Rattle.nqs_net.proofs.Coming.{come_more, come_still, used_active}
 
 -- outputs
 
@@ -141,15 +144,18 @@ module _ (tear : Tear) (now : Which → History) (disks : Disks MemDisk) (is : I
   abbrev left : Which → List ℕ
   left which = torn tear (state (now which))
 
-  pub torn_down : (host : Host) (s : Plain) → IsTold (left First) (left Spool) s → IsDown disks (stopped s host)
-  torn_down host s told = record {
-    down = refl;
-    told = refl;
-    tells = subst (λ b. IsTold b (content (histories_of mem.history_of disks Spool)) s) (sym (ap content (is.histories First)))
-        (subst (λ b. IsTold (left First) b s) (sym (ap content (is.histories Spool))) told);
-    disks = no_fuse host s;
-    calls = λ which. ap (λ (x : History). x.calls) (is.histories which);
-  }
+  pub torn_down : (host : Host) (s : Plain) → AreFound left s host → IsDown disks (stopped s host)
+  torn_down host s found =
+      let same : left ≡ contents (histories_of mem.history_of disks) = λ j which. sym (ap content (is.histories which)) j in
+      record {
+        down = refl;
+        told = refl;
+        tells = subst (λ bytes. IsTold bytes s) same found.told;
+        disks = no_fuse host s;
+        root = ap content (is.histories Root) ∙ found.root;
+        active = subst (λ bytes. IsActive bytes (active_in host)) same found.active;
+        calls = λ which. ap (λ (x : History). x.calls) (is.histories which);
+      }
 
 -- a change of a host over its disks
 
@@ -157,13 +163,13 @@ module _ (h : HostId) (w : Network) (host : Host) (tear : Tear) (packets : List 
     (os : List Output) (c : Change (List ℕ))
     (fails : Which → ℕ → Bool) (old : Which → History) (disks : AreDisks host old fails) where
   -- it was kept
-  pub kept_turn : (now : Which → History) (P : Host → Type 0) → IsKept fails (stored_parts c) old now → P (used (stored_parts c) (applied c host.state) host)
+  pub kept_turn : (now : Which → History) (P : Host → Type 0) → IsKept (active_in host) fails (stored_parts c) old now → P (used (stored_parts c) (applied c host.state) host)
       → (sent : List Message) (before after : List Seen) → sent ≡ packets ++ sent_in os → after ≡ before ++ (first ++ seen_from h (length packets) os)
       → Turns h P tear sent before after w (makes_change h host c first os w)
   kept_turn now P kept p sent before after sends saw =
       subst (λ (f : Fate). Turns h P tear sent before after w (change_fated f h host c first os w))
       (sym (kept_fate host fails old disks (stored_parts c) now kept))
-      (out_turn h w host (used (stored_parts c) (applied c host.state) host) faces.there P p tear faces.tear os first before after sent
+      (out_turn h w host (used (stored_parts c) (applied c host.state) host) faces.there P p tear (faces.tear ∙ sym (ready_tear host)) os first before after sent
       (sends ∙ ap (λ l. l ++ sent_in os) faces.packets) (saw ∙ ap (λ l. before ++ (first ++ seen_from h (length l) os)) faces.packets))
 
   -- it was cut off
@@ -174,83 +180,143 @@ module _ (h : HostId) (w : Network) (host : Host) (tear : Tear) (packets : List 
         (sym faces.packets) (put_turn h w host x faces.there (IsSlot slot) p tear (faces.tear ∙ same) (seen.Stop h ∷ []) before after saw)
 
     by_fate : (slot : Slot) → IsStopped host.tear now slot → (f : Fate) →
-        ((down : _) → slot ≡ Down down → CutsTo host.state (applied c host.state) (λ which. torn host.tear (state (now which))) f)
+        ((down : _) → slot ≡ Down down → CutsTo host.state (applied c host.state) (λ which. torn host.tear (state (now which))) host f)
         → Turns h (IsSlot slot) tear packets before after w (change_fated f h host c first os w)
     by_fate (Up up) is f cuts = absurd is
     by_fate (Down down) is Made cuts = absurd (cuts down refl)
-    by_fate (Down down) is StoppedBefore cuts = stop_turn (Down down) (stopped host.state host)
-        (torn_down host.tear now down.disks.value is host host.state (cuts down refl)) refl
-    by_fate (Down down) is StoppedAfter cuts = stop_turn (Down down) (stopped (applied c host.state) host)
-        (torn_down host.tear now down.disks.value is host (applied c host.state) (cuts down refl)) refl
+    by_fate (Down down) is StoppedBefore cuts = stop_turn (Down down) (stopped host.state (cut_off host))
+        (torn_down host.tear now down.disks.value is (cut_off host) host.state (cuts down refl)) (sym (cut_tear host))
+    by_fate (Down down) is StoppedAfter cuts = stop_turn (Down down) (stopped (applied c host.state) (recorded (ready host)))
+        (torn_down host.tear now down.disks.value is (recorded (ready host)) (applied c host.state) (cuts down refl)) (sym (ready_tear host))
 
     images_of : (slot : Slot) → IsStopped host.tear now slot → (which : Which) → IsImage (state (now which)) (torn host.tear (state (now which)))
     images_of (Up up) is = absurd is
     images_of (Down down) is = is.images
 
-    pub cut_turn : (slot : Slot) (which : Which) → IsStopped tear now slot → IsCutAt fails (stored_parts c) old now host.state (applied c host.state) which
+    pub cut_turn : (slot : Slot) (which : Which) → IsStopped tear now slot → IsQuiet (old Root) → content (old Root) ≡ host.root
+        → IsCutAt (active_in host) fails (stored_parts c) old now host.state (applied c host.state) which
         → Turns h (IsSlot slot) tear packets before after w (makes_change h host c first os w)
-    cut_turn slot which is cut =
+    cut_turn slot which is quiet holds cut =
         let here : IsStopped host.tear now slot = subst (λ t. IsStopped t now slot) faces.tear is in
         by_fate slot here (fate (stored_parts c) host) (λ down e. cut_fate host fails old disks (stored_parts c) now host.state (applied c host.state)
-        (images_of slot here) which cut)
+        (images_of slot here) quiet holds which cut)
+
+-- a host whose node kept a change
+pub kept_up : (host : Host) (fails : Which → ℕ → Bool) (old : Which → History) → AreDisks host old fails → (node : Node MemDisk ghosts) (c : Change (List ℕ))
+    → IsQuiet (old Root) → content (old Root) ≡ host.root → HasCome old (active_in host) host.told host.state
+    → IsOneOrOther (active_in host) old (history_of node) (Some c) host.state → IsKept (active_in host) fails (stored_parts c) old (history_of node)
+    → active_of node ≡ recorded_in (ready_in (active_in host)) → Tells node (applied c host.state) → IsSoundHost (content_of node)
+    → ((which : Which) (i : ℕ) → fails_of node which i ≡ fails which i) → IsUp node (used (stored_parts c) (applied c host.state) host)
+kept_up host fails old disks node c quiet holds past moments kept goes told sound same =
+    let is_active = used_active (stored_parts c) (applied c host.state) host in
+    record {
+      up = refl;
+      tells = told;
+      sound = sound;
+      disks = kept_disks host fails (fails_of node) old (history_of node) disks same (stored_parts c) kept (applied c host.state);
+      root = kept_root host fails (stored_parts c) old (history_of node) quiet holds kept;
+      active = goes ∙ sym is_active;
+      past = subst (λ a. HasCome (history_of node) a (host.state ∷ host.told) (applied c host.state)) (sym is_active)
+          (come_more old (active_in host) node host.told host.state c past kept.calls moments told goes);
+    }
 
 -- a step of a host over its disks
 
 module _ (h : HostId) (w : Network) (host : Host) (tear : Tear) (packets : List Message) (faces : Faces h host tear packets w) (x : Stepped (List ℕ))
     (fails : Which → ℕ → Bool) (old : Which → History) (disks : AreDisks host old fails) where
-  pub made_turn : (node : Node MemDisk ghosts) → host.up ≡ true → HasCome old host.told host.state → IsOneOrOther old (history_of node) x.change host.state
-      → IsMade fails old (history_of node) x.change → Tells node (after_step x host.state) → IsSoundHost (content_of node)
-      → ((which : Which) (i : ℕ) → fails_of node which i ≡ fails which i)
+  pub made_turn : (node : Node MemDisk ghosts) → host.up ≡ true → IsQuiet (old Root) → content (old Root) ≡ host.root
+      → HasCome old (active_in host) host.told host.state → IsOneOrOther (active_in host) old (history_of node) x.change host.state
+      → IsMade (active_in host) fails old (history_of node) x.change → active_of node ≡ after_kept x.change (active_in host)
+      → Tells node (after_step x host.state) → IsSoundHost (content_of node) → ((which : Which) (i : ℕ) → fails_of node which i ≡ fails which i)
       → (sent : List Message) (before after : List Seen) → sent ≡ packets ++ sent_in (map shown x.outputs)
       → after ≡ before ++ seen_from h (length packets) (map shown x.outputs)
       → Turns h (IsUp node) tear sent before after w (steps h host x w)
-  made_turn node up past moments made tells sound same sent before after sends saw = by x.change moments made tells
+  made_turn node up quiet holds past moments made is_active tells sound same sent before after sends saw = by x.change moments made is_active tells
     where
-      by : (o : Option (Change (List ℕ))) → IsOneOrOther old (history_of node) o host.state → IsMade fails old (history_of node) o
+      by : (o : Option (Change (List ℕ))) → IsOneOrOther (active_in host) old (history_of node) o host.state
+          → IsMade (active_in host) fails old (history_of node) o → active_of node ≡ after_kept o (active_in host)
           → Tells node (after_change o host.state) → Turns h (IsUp node) tear sent before after w (carries_out h host o (map shown x.outputs) w)
-      by None each idle told =
+      by None each idle goes told =
           idle_turn h w host faces.there (IsUp node) (record {
             up = up;
             tells = told;
             sound = sound;
             disks =
                 same_disks host fails (fails_of node) old (history_of node) disks same idle;
+            root = ap content (idle Root) ∙ holds;
+            active = goes;
             past =
-                come_still old (history_of node) host.told host.state idle past;
+                come_still old (history_of node) (active_in host) host.told host.state idle past;
           }) tear faces.tear (map shown x.outputs) before after sent
           (sends ∙ ap (λ l. l ++ sent_in (map shown x.outputs)) faces.packets)
           (saw ∙ ap (λ l. before ++ seen_from h (length l) (map shown x.outputs)) faces.packets)
-      by (Some c) each kept told =
+      by (Some c) each kept goes told =
           kept_turn h w host tear packets faces [] (map shown x.outputs) c fails old disks (history_of node) (IsUp node) kept
-          (record {
-            up = refl;
-            tells = told;
-            sound = sound;
-            disks = kept_disks host fails (fails_of node) old (history_of node) disks same (stored_parts c)
-                (applied c host.state) kept;
-            past = come_more old node host.told host.state c past
-                (let k : IsKept fails (stored_parts c) old (history_of node) = kept in k.calls) each told;
-          }) sent before after sends saw
+          (kept_up host fails old disks node c quiet holds past each kept goes told sound same) sent before after sends saw
 
   pub cut_step : (now : Which → History) (slot : Slot) (which : Which) (before after : List Seen) → after ≡ before ++ seen.Stop h ∷ [] → IsStopped tear now slot
-      → IsCutBy fails old now x.change host.state which
+      → IsQuiet (old Root) → content (old Root) ≡ host.root → IsCutBy (active_in host) fails old now x.change host.state which
       → Turns h (IsSlot slot) tear packets before after w (steps h host x w)
-  cut_step now slot which before after saw is cut = by x.change cut
+  cut_step now slot which before after saw is quiet holds cut = by x.change cut
     where
-      by : (o : Option (Change (List ℕ))) → IsCutBy fails old now o host.state which
+      by : (o : Option (Change (List ℕ))) → IsCutBy (active_in host) fails old now o host.state which
           → Turns h (IsSlot slot) tear packets before after w (carries_out h host o (map shown x.outputs) w)
       by None cut = absurd cut
-      by (Some c) cut = cut_turn h w host tear packets faces [] (map shown x.outputs) c fails old disks now before after saw slot which is cut
+      by (Some c) cut = cut_turn h w host tear packets faces [] (map shown x.outputs) c fails old disks now before after saw slot which is quiet holds cut
 
   -- which of the ways a failed call stops a host: the fuse's alone
   pub stopped_step : (now : Which → History) (slot : Slot) (which : Which) (starved : Bool) (before after : List Seen) → after ≡ before ++ seen.Stop h ∷ []
-      → IsStopped tear now slot → starved ≡ false
-      → IsTrue starved ⊎ (IsBlown (fails which) (old which) ⊎ IsCutBy fails old now x.change host.state which)
+      → IsStopped tear now slot → starved ≡ false → IsQuiet (old Root) → content (old Root) ≡ host.root
+      → IsTrue starved ⊎ (IsBlown (fails which) (old which) ⊎ IsCutBy (active_in host) fails old now x.change host.state which)
       → Turns h (IsSlot slot) tear packets before after w (steps h host x w)
-  stopped_step now slot which starved before after saw is fed (inl hungry) = absurd (true≢false (sym hungry ∙ fed))
-  stopped_step now slot which starved before after saw is fed (inr (inl blown)) =
+  stopped_step now slot which starved before after saw is fed quiet holds (inl hungry) = absurd (true≢false (sym hungry ∙ fed))
+  stopped_step now slot which starved before after saw is fed quiet holds (inr (inl blown)) =
       absurd (unblown (fuse_of which host.fuses) (old which) (fails which) (disks which).fuse blown)
-  stopped_step now slot which starved before after saw is fed (inr (inr cut)) = cut_step now slot which before after saw is cut
+  stopped_step now slot which starved before after saw is fed quiet holds (inr (inr cut)) =
+      cut_step now slot which before after saw is quiet holds cut
+
+-- what a call of a node did, by its answer
+module _ (node now : Node MemDisk ghosts) (host : Host) (is : IsUp node host) (x : Stepped (List ℕ)) (out : List Output)
+    (moments : IsOneOrOther (active_of node) (history_of node) (history_of now) x.change host.state)
+    (same : (which : Which) (i : ℕ) → fails_of now which i ≡ fails_of node which i) where
+  here : IsOneOrOther (active_in host) (history_of node) (history_of now) x.change host.state
+  here = subst (λ a. IsOneOrOther a (history_of node) (history_of now) x.change host.state) is.active moments
+
+  pub took_step : Tells now (after_step x host.state) → IsMade (active_of node) (fails_of node) (history_of node) (history_of now) x.change
+      → out ≡ map shown x.outputs → active_of now ≡ after_kept x.change (active_of node) → IsTaken host x (fails_of node) (history_of node) now out true
+  took_step tells made shows goes = record {
+    up = is.up;
+    disks = is.disks;
+    root = is.root;
+    quiet = is.tells.told.root;
+    past = is.past;
+    moments = here;
+    same = same;
+    ended = (
+      tells,
+      subst (λ a. IsMade a (fails_of node) (history_of node) (history_of now) x.change) is.active made,
+      shows,
+      goes ∙ ap (after_kept x.change) is.active,
+    );
+  }
+
+  pub broke_step : (which : Which) → IsTrue (is_starved now which) ⊎ (IsBlown (fails_of node which) (history_of node which)
+      ⊎ IsCutBy (active_of node) (fails_of node) (history_of node) (history_of now) x.change host.state which)
+      → IsTaken host x (fails_of node) (history_of node) now out false
+  broke_step which cut = record {
+    up = is.up;
+    disks = is.disks;
+    root = is.root;
+    quiet = is.tells.told.root;
+    past = is.past;
+    moments = here;
+    same = same;
+    ended = (
+      which,
+      subst (λ a. IsTrue (is_starved now which) ⊎ (IsBlown (fails_of node which) (history_of node which)
+          ⊎ IsCutBy a (fails_of node) (history_of node) (history_of now) x.change host.state which)) is.active cut,
+    );
+  }
 
 -- what a node's call did is what the step does
 module _ (h : HostId) (w : Network) (host : Host) (tear : Tear) (packets : List Message) (faces : Faces h host tear packets w) (x : Stepped (List ℕ))
@@ -259,8 +325,8 @@ module _ (h : HostId) (w : Network) (host : Host) (tear : Tear) (packets : List 
       → sent ≡ packets ++ sent_in out → after ≡ before ++ seen_from h (length packets) out
       → Turns h (IsUp node) tear sent before after w (steps h host x w)
   took_turn t sound sent before after sends saw =
-      made_turn h w host tear packets faces x fails old t.disks node t.up t.past t.moments t.ended.1 t.ended.0 sound t.same sent before after
-      (sends ∙ ap (λ l. packets ++ sent_in l) t.ended.2) (saw ∙ ap (λ l. before ++ seen_from h (length packets) l) t.ended.2)
+      made_turn h w host tear packets faces x fails old t.disks node t.up t.quiet t.root t.past t.moments t.ended.1 t.ended.3 t.ended.0 sound t.same sent before
+      after (sends ∙ ap (λ l. packets ++ sent_in l) t.ended.2) (saw ∙ ap (λ l. before ++ seen_from h (length packets) l) t.ended.2)
 
   -- what there is to see of the step
   pub took_seen : IsTaken host x fails old node out true → IsSoundHost (content_of node) → seen_from h (length packets) out ≡ (steps h host x w).seen
@@ -272,7 +338,7 @@ module _ (h : HostId) (w : Network) (host : Host) (tear : Tear) (packets : List 
   broke_turn t slot before after saw is fed =
       let which = t.ended.0 in
       stopped_step h w host tear packets faces x fails old t.disks (history_of node) slot which (is_starved node which) before after saw is
-      (fed which) t.ended.1
+      (fed which) t.quiet t.root t.ended.1
 
   -- the node was closed, and its disks were torn
   pub closed_turn : IsTaken host x fails old node out false → (disks : Disks MemDisk) → ((which : Which) → disk_at which disks ≡ disk_of which node)

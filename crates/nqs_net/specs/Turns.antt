@@ -2,20 +2,21 @@
 use Rattle.std.specs.Prelude.{◌≡◌, ◌⊎◌, ℕ, Bool, true, false, IsTrue, List, [], ◌++◌, map, Some}
 use Rattle.nqs_types.specs.declared.event.Output.{Output}
 use Rattle.nqs_disk.specs.contracts.mem_disk.MemDiskDisk.TheImpl.{ghosts}
-use Rattle.nqs_node.specs.Carried.{IsMade, IsCutBy, IsBlown, IsOneOrOther}
-use Rattle.nqs_node.specs.Nodes.{history_of, fails_of, is_starved, content_of, Tells}
+use Rattle.nqs_node.specs.Carried.{after_kept, IsMade, IsCutBy, IsBlown, IsOneOrOther}
+use Rattle.nqs_node.specs.Nodes.{history_of, fails_of, is_starved, active_of, content_of, Tells}
 use Rattle.nqs_node.specs.declared.node.Node.{Node}
 use Rattle.nqs_rules.specs.Measure.{starts_left}
 use Rattle.nqs_rules.specs.Starts.{after_step}
 use Rattle.nqs_rules.specs.Stepped.{Stepped, shown}
 use Rattle.nqs_net.specs.Pasts.{HasCome}
-use Rattle.nqs_net.specs.Worlds.{AreDisks}
+use Rattle.nqs_net.specs.Worlds.{AreDisks, active_in}
 use Rattle.nqs_types.specs.declared.ids.HostId.{HostId}
 use Rattle.nqs_types.specs.declared.message.Message.{Message}
 use Rattle.nqs_values.specs.declared.tear.Tear.{Tear}
 use Rattle.nqs_types.specs.declared.world.Seen.{Seen}
 use Rattle.nqs_types.specs.declared.world.Which.{Which}
-use Rattle.nqs_outside.specs.History.{History, state, IsImage}
+use Rattle.nqs_types.specs.declared.world.Which.TheVariants.{Root}
+use Rattle.nqs_outside.specs.History.{History, state, content, IsImage, IsQuiet}
 use Rattle.nqs_disk.specs.MemDisk as mem
 use Rattle.nqs_disk.specs.Torn.{torn}
 use Rattle.nqs_disk.specs.declared.mem_disk.MemDisk.{MemDisk}
@@ -49,18 +50,21 @@ starts_in (Down down) = 0
 
 -- what a call of a node did for a step, by whether it was made: else a failed call of a disk stopped the node
 abbrev pub Ended : Host → Stepped (List ℕ) → (Which → ℕ → Bool) → (Which → History) → Node MemDisk ghosts → List Output → Bool → Type 0
-Ended host x fails old node out true = Tells node (after_step x host.state) × IsMade fails old (history_of node) x.change × (out ≡ map shown x.outputs)
+Ended host x fails old node out true = Tells node (after_step x host.state) × IsMade (active_in host) fails old (history_of node) x.change
+    × (out ≡ map shown x.outputs) × (active_of node ≡ after_kept x.change (active_in host))
 Ended host x fails old node out false = (which : Which) × (IsTrue (is_starved node which)
-    ⊎ (IsBlown (fails which) (old which) ⊎ IsCutBy fails old (history_of node) x.change host.state which))
+    ⊎ (IsBlown (fails which) (old which) ⊎ IsCutBy (active_in host) fails old (history_of node) x.change host.state which))
 
--- A node whose disks had done this, with these calls to fail, was to take a step of this host. Until its last call, whatever
--- images the disks may leave tell the state before the step or the one after it.
+-- A node whose disks had done this, with these calls to fail, was to take a step of this host. Its root held what the host says.
+-- Until its last call, whatever images the disks may leave tell the state before the step or the one after it.
 pub record IsTaken (host : Host) (x : Stepped (List ℕ)) (fails : Which → ℕ → Bool) (old : Which → History) (node : Node MemDisk ghosts) (out : List Output)
     (took : Bool) : Type 0 where
   pub up : host.up ≡ true
   pub disks : AreDisks host old fails
-  pub past : HasCome old host.told host.state
-  pub moments : IsOneOrOther old (history_of node) x.change host.state
+  pub root : content (old Root) ≡ host.root
+  pub quiet : IsQuiet (old Root)
+  pub past : HasCome old (active_in host) host.told host.state
+  pub moments : IsOneOrOther (active_in host) old (history_of node) x.change host.state
   pub same : (which : Which) (i : ℕ) → fails_of node which i ≡ fails which i
   pub ended : Ended host x fails old node out took
 

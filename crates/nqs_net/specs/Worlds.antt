@@ -6,12 +6,14 @@ use Rattle.nqs_values.specs.declared.tear.Tear.{Tear}
 use Rattle.nqs_outside.specs.History.{Call, write, sync, History, content, moment}
 use Rattle.nqs_disk.specs.MemDisk as mem
 use Rattle.nqs_disk.specs.declared.mem_disk.MemDisk.{MemDisk}
-use Rattle.nqs_rules.specs.World.{Fuses, Calls, Host, World as Network}
-use Rattle.nqs_store.specs.Disks.{histories_of, failing_of}
+use Rattle.nqs_rules.specs.Journals.{is_second}
+use Rattle.nqs_rules.specs.World.{Calls, Host, World as Network, fuse_of}
+use Rattle.nqs_store.specs.Active.{Active, IsActive}
+use Rattle.nqs_store.specs.Disks.{histories_of, failing_of, contents}
 use Rattle.nqs_store.specs.declared.disks.Disks.{Disks}
 use Rattle.nqs_store.specs.Images.{IsTold}
 use Rattle.nqs_store.specs.Sound.{IsSoundHost}
-use Rattle.nqs_node.specs.Nodes.{history_of, fails_of, content_of, Tells}
+use Rattle.nqs_node.specs.Nodes.{history_of, fails_of, active_of, content_of, Tells}
 use Rattle.nqs_disk.specs.contracts.mem_disk.MemDiskDisk.TheImpl.{ghosts}
 use Rattle.nqs_node.specs.declared.node.Node.{Node}
 use Rattle.nqs_net.specs.Pasts.{HasCome}
@@ -19,12 +21,9 @@ use Rattle.nqs_net.specs.declared.slot.Slot.{Slot}
 use Rattle.nqs_net.specs.declared.slot.Slot.TheVariants.{Up, Down}
 use Rattle.nqs_net.specs.declared.world.World.{World}
 
--- how many calls of a disk are left until one is to fail, if one is
-abbrev pub fuse_of : Which → Fuses → Option ℕ
-fuse_of Root fuses = fuses.root
-fuse_of First fuses = fuses.first
-fuse_of Second fuses = fuses.second
-fuse_of Spool fuses = fuses.spool
+-- the active journal of a host
+abbrev pub active_in : Host → Active
+active_in host = record { second = is_second host.root; records = host.records }
 
 -- how many calls were made of a disk
 abbrev pub calls_of : Which → Calls → ℕ
@@ -54,21 +53,25 @@ pub record IsDisk (left : Option ℕ) (made : ℕ) (h : History) (fails : ℕ �
 abbrev pub AreDisks : Host → (Which → History) → (Which → ℕ → Bool) → Type 0
 AreDisks host histories fails = (which : Which) → IsDisk (fuse_of which host.fuses) (calls_of which host.calls) (histories which) (fails which)
 
--- A node that is up. At each moment since its disks were new or torn, whatever images they may leave then tell the state
--- before the change that is being kept or the one after it.
+-- A node that is up. Its root holds what the host says, and its active journal is the host's. At each moment since its disks
+-- were new or torn, whatever images they may leave then tell the state before the change that is being kept or the one after it.
 pub record IsUp (node : Node MemDisk ghosts) (host : Host) : Type 0 where
   pub up : host.up ≡ true
   pub tells : Tells node host.state
   pub sound : IsSoundHost (content_of node)
   pub disks : AreDisks host (history_of node) (fails_of node)
-  pub past : HasCome (history_of node) host.told host.state
+  pub root : content (history_of node Root) ≡ host.root
+  pub active : active_of node ≡ active_in host
+  pub past : HasCome (history_of node) (active_in host) host.told host.state
 
 -- The disks of a host that is down. No call was made of them, and they told no other state.
 pub record IsDown (left : Disks MemDisk) (host : Host) : Type 0 where
   pub down : host.up ≡ false
   pub told : host.told ≡ []
-  pub tells : IsTold (content (histories_of mem.history_of left First)) (content (histories_of mem.history_of left Spool)) host.state
+  pub tells : IsTold (contents (histories_of mem.history_of left)) host.state
   pub disks : AreDisks host (histories_of mem.history_of left) (failing_of mem.fails_of left)
+  pub root : content (histories_of mem.history_of left Root) ≡ host.root
+  pub active : IsActive (contents (histories_of mem.history_of left)) (active_in host)
   pub calls : (which : Which) → (histories_of mem.history_of left which).calls ≡ []
 
 -- a slot, up or down, stands for this host

@@ -1,5 +1,5 @@
 -- What a boot says, and what disks tell before it.
-use Rattle.std.proofs.Common.{◌≡◌, ℕ, ◌+◌, ◌++◌, List, [], ◌∷◌, map, take, slice_get, Option, Some, None, refl, ap, subst, ◌∙◌}
+use Rattle.std.proofs.Common.{◌≡◌, ℕ, ◌+◌, ◌++◌, IsTrue, List, [], ◌∷◌, length, map, take, slice_get, Option, Some, None, refl, sym, ap, subst, ◌∙◌, arith}
 use Rattle.std.specs.List.{filter_map, cons_option}
 use Rattle.std.specs.Option.{option_to_list}
 use Rattle.std.proofs.lemmas.List.{map-append}
@@ -10,20 +10,23 @@ use Rattle.nqs_types.specs.declared.request.Row.{Row}
 use Rattle.nqs_types.specs.declared.event.Output.{Output}
 use Rattle.nqs_types.specs.declared.change.Change.TheVariants.{Boot}
 use Rattle.nqs_types.specs.declared.world.Which.{Which}
-use Rattle.nqs_types.specs.declared.world.Which.TheVariants.{First, Spool}
-use Rattle.nqs_outside.specs.History.{History, content, IsQuiet}
+use Rattle.nqs_types.specs.declared.world.Which.TheVariants.{Root, Spool}
+use Rattle.nqs_outside.specs.History.{State, History, state, content, IsImage, IsQuiet}
 use Rattle.nqs_outside.specs.declared.disk.Disk as disk
 use Rattle.nqs_rules.specs.Plain.{map_row, map_state}
+use Rattle.nqs_rules.specs.Journals.{is_second}
 use Rattle.nqs_rules.specs.World.{boot_output}
+use Rattle.nqs_store.specs.Active.{Active, IsActive}
+use Rattle.nqs_store.specs.Disks.{contents}
 use Rattle.nqs_store.specs.Images.{IsTold}
 use Rattle.nqs_store.specs.Live.{bytes_at}
-use Rattle.nqs_store.specs.Stores.{history_of, plain_of}
+use Rattle.nqs_store.specs.Stores.{history_of, plain_of, Tells}
 use Rattle.nqs_store.specs.Told.{Host}
 use Rattle.nqs_store.specs.declared.store.Store.{Store}
 use Rattle.nqs_store.proofs.Lists.{take-at}
 use Rattle.nqs_node.specs.Carried.{Kept, IsOneOrOther}
 use Rattle.nqs_store.proofs.TellsNow.{only_image}
-use Rattle.nqs_node.proofs.Nothing.{none_one}
+use Rattle.nqs_node.proofs.Nothing.{none_one, all_quiet, told_images}
 use Rattle.nqs_node.specs.Planned.{IsKeptWith}
 
 one_said : (o : Option Output) → cons_option o [] ≡ option_to_list o
@@ -46,13 +49,31 @@ pub boot_kept : IsKeptWith (Some Boot) [] (Some Boot)
 boot_kept = record { is = refl; stored = refl }
 
 -- where nothing is pending and no call is made, the images tell what a read tells
-pub quiet_one : (old : Which → History) → IsQuiet (old First) → IsQuiet (old Spool) → (s : Plain) → IsTold (content (old First)) (content (old Spool)) s
-    → (kept : Kept) → IsOneOrOther old old kept s
-quiet_one old first spool s told = none_one old old (λ which. refl) first s (λ images leaves.
-    subst (λ bytes. IsTold bytes (images Spool) s) (only_image (old First) (images First) first (leaves First))
-    (subst (λ bytes. IsTold (content (old First)) bytes s) (only_image (old Spool) (images Spool) spool (leaves Spool)) told))
+pub quiet_one : (a : Active) (old : Which → History) → ((which : Which) → IsQuiet (old which)) → (s : Plain) → IsTold (contents old) s → (kept : Kept)
+    → IsOneOrOther a old old kept s
+quiet_one a old quiet s told = none_one a old old (λ which. refl) quiet s (λ images leaves.
+    subst (λ (bytes : Which → List ℕ). IsTold bytes s) (λ j which. only_image (old which) (images which) (quiet which) (leaves which) j) told)
+
+-- what a read gives is what a stop may leave, where nothing is pending
+own_image : (h : History) → IsQuiet h → IsImage (state h) (content h)
+own_image h quiet = subst (λ (s : State). IsImage s (content h)) (sym quiet)
+    (record { no_shorter = omega arith; no_longer = omega arith; same = λ i lt uncovered. refl })
+
+-- a read of the disks tells the host
+pub told_by_reads : {D : Type 0} {g : disk.Ghosts D} (store : Store D g) (host : Host) → IsTrue g.tells → Tells store host
+    → IsTold (contents (history_of store)) (plain_of store host)
+told_by_reads store host telling tells =
+    told_images store host telling tells (contents (history_of store))
+    (λ which. own_image (history_of store which) (all_quiet store host telling tells which))
 
 -- the host that was opened is the one that the disks tell
 pub loaded_is : {D : Type 0} {g : disk.Ghosts D} (store : Store D g) (host told : Host) (bytes : List ℕ) (s : Plain) → content (history_of store Spool) ≡ bytes
     → host ≡ told → map_state (bytes_at bytes) told ≡ s → plain_of store host ≡ s
 loaded_is store host told bytes s same is e = (λ j. map_state (bytes_at (same j)) (is j)) ∙ e
+
+-- disks that tell a state name their active journal
+pub active_told : (images : Which → List ℕ) (s : Plain) → IsTold images s → (a : Active) × IsActive images a
+active_told images s told = (
+  record { second = is_second (images Root); records = length told.is.payloads },
+  record { named = refl; has = told.is.has; snapshot = told.is.snapshot; payloads = told.is.payloads; stands = told.is.stands; many = refl },
+)

@@ -1,68 +1,102 @@
 -- What is told where no call is made.
-use Rattle.std.proofs.Common.{◌≡◌, inl, inr, ℕ, List, [], ◌∷◌, ◌++◌, map, IsTrue, None, Some, sym, ap, subst}
-use Rattle.std.proofs.lemmas.List.{append-nil, length-map}
+use Rattle.std.proofs.Common.{◌≡◌, inl, inr, ℕ, Bool, true, false, not, List, [], ◌∷◌, ◌++◌, map, IsTrue, None, Some, sym, ap, subst}
+use Rattle.std.proofs.lemmas.List.{length-map}
 use Rattle.std.proofs.Math.Seq.{take-nil}
 use Rattle.nqs_state.specs.State.{Plain}
 use Rattle.nqs_types.specs.declared.world.Which.{Which}
-use Rattle.nqs_types.specs.declared.world.Which.TheVariants.{First, Spool}
-use Rattle.nqs_outside.specs.History.{State, Call, History, state, after, extended, IsImage, IsQuiet}
+use Rattle.nqs_types.specs.declared.world.Which.TheVariants.{First, Second, Spool}
+use Rattle.nqs_outside.specs.History.{State, History, state, after, IsImage, IsQuiet}
 use Rattle.nqs_outside.specs.declared.disk.Disk as disk
+use Rattle.nqs_journal.specs.Plan.{append_calls}
 use Rattle.nqs_rules.specs.Applied.{applied}
+use Rattle.nqs_rules.specs.Journals.{journal_on}
 use Rattle.nqs_rules.specs.Stepped.{stored_parts}
+use Rattle.nqs_store.specs.Active.{Active, journal_of, ready}
 use Rattle.nqs_store.specs.Commits.{EachImage, Keeping}
 use Rattle.nqs_store.specs.Told.{Host}
-use Rattle.nqs_store.specs.Stores.{history_of, plain_of, Tells}
+use Rattle.nqs_store.specs.Stores.{history_of, active_of, plain_of, Tells}
 use Rattle.nqs_store.specs.declared.store.Store.{Store}
 use Rattle.nqs_store.specs.Images.{IsTold}
 use Rattle.nqs_store.specs.Hosts.{HostCall, Runs, StopsShort, on, part}
-use Rattle.nqs_store.specs.Plan.{CommitsBy, puts_calls}
-use Rattle.nqs_store.proofs.Runs.{no_record}
-use Rattle.nqs_store.proofs.TellsNow.{told_now}
+use Rattle.nqs_store.specs.Plan.{CommitsBy, due_calls, puts_calls, change_calls, commit_calls}
+use Rattle.nqs_store.proofs.EachDisk.{each_disk}
+use Rattle.nqs_store.proofs.Runs.{none_more}
+use Rattle.nqs_store.proofs.TellsNow.{told_now, active_quiet}
 use Rattle.nqs_node.specs.Carried.{Kept, IsOneOrOther}
 
-extended-none : (h : History) → h ≡ extended h []
-extended-none h = ap (λ (l : List Call). let e : History = record { start = h.start; calls = l } in e) (sym (append-nil h.calls))
+-- no call of a commit was made
 
-pub none_runs : (old : Which → History) → Runs old old []
-none_runs old which = extended-none (old which)
+begun : (xs ys : List HostCall) → StopsShort ys [] → StopsShort (xs ++ ys) []
+begun [] ys short = short
+begun (x ∷ xs) ys short = tt
 
-stops : (xs : List HostCall) (y : HostCall) (ys : List HostCall) → StopsShort (xs ++ y ∷ ys) []
-stops [] y ys = tt
-stops (x ∷ xs) y ys = tt
+none_begun : (a : Active) (snapshot places : List ℕ) (puts : List (List ℕ)) (gate : ℕ) (payload : List ℕ)
+    → StopsShort (commit_calls a snapshot places puts gate payload) []
+none_begun a snapshot places puts gate payload =
+    begun (due_calls a snapshot) (change_calls (ready a) places puts gate payload)
+    (begun (on Spool (puts_calls places puts)) (on (journal_of (ready a)) (append_calls gate payload)) tt)
 
-pub none_broken : (puts : List (List ℕ)) (old : Which → History) → CommitsBy StopsShort puts old old
-none_broken puts old =
-    let places : List ℕ = map (λ (l : List ℕ). 0) puts in
-    (places, 0, [], [], length-map puts (λ (l : List ℕ). 0), stops (on Spool (puts_calls places puts)) _ _, none_runs old)
+none_runs : (old : Which → History) → Runs old old []
+none_runs old which = none_more (old which)
 
--- A change is to be kept, and no call of its commit was made yet: quiet disks that tell a state still tell it.
-pub none_made : (puts : List (List ℕ)) (old : Which → History) (before later : Plain) → IsQuiet (old First)
-    → EachImage old (λ images. IsTold (images First) (images Spool) before) → Keeping puts old old before later
-none_made puts old before later quiet told =
+pub none_broken : (a : Active) (puts : List (List ℕ)) (old : Which → History) → CommitsBy StopsShort a puts old old
+none_broken a puts old =
     let places : List ℕ = map (λ (l : List ℕ). 0) puts in
     record {
+      snapshot = [];
       places = places;
       gate = 0;
       payload = [];
       run = [];
       many = length-map puts (λ (l : List ℕ). 0);
-      begun = inr (stops (on Spool (puts_calls places puts)) _ _);
+      stands = none_begun a [] places puts 0 [];
+      made = none_runs old;
+    }
+
+-- A change is to be kept, and no call of its commit was made yet: quiet disks that tell a state still tell it.
+none_made : (a : Active) (puts : List (List ℕ)) (old : Which → History) (before later : Plain) → ((which : Which) → IsQuiet (old which))
+    → EachImage old (λ images. IsTold images before) → Keeping a puts old old before later
+none_made a puts old before later quiet told =
+    let places : List ℕ = map (λ (l : List ℕ). 0) puts in
+    record {
+      snapshot = [];
+      places = places;
+      gate = 0;
+      payload = [];
+      run = [];
+      many = length-map puts (λ (l : List ℕ). 0);
+      begun = inr (none_begun a [] places puts 0 []);
       made = none_runs old;
       told = λ j images within leaves.
           inl (told images (λ which. subst (λ l. IsImage (after (state (old which)) (part which l)) (images which)) (take-nil j) (leaves which)));
-      settled = λ j. inl (subst (λ l. (after (state (old First)) (part First l)).ranges ≡ []) (sym (take-nil j)) (ap (λ (s : State). s.ranges) quiet));
-      one_more = λ gate payload same. absurd (no_record (old First) (old First) 0 [] [] (extended-none (old First)) tt gate payload same);
+      settled = λ j v w apart.
+          inl (subst (λ l. (after (state (old v)) (part v l)).ranges ≡ []) (sym (take-nil j)) (ap (λ (s : State). s.ranges) (quiet v)));
+      one_more = λ whole. absurd (subst (λ l. StopsShort l []) (sym whole) (none_begun a [] places puts 0 []));
     }
 
 -- The same, whatever is to be kept.
-pub none_one : (old now : Which → History) → ((which : Which) → now which ≡ old which) → IsQuiet (old First) → (s : Plain)
-    → EachImage old (λ images. IsTold (images First) (images Spool) s) → (kept : Kept) → IsOneOrOther old now kept s
-none_one old now same quiet s told None = (same, told)
-none_one old now same quiet s told (Some c) =
-    subst (λ (h : Which → History). Keeping (stored_parts c) old h s (applied c s)) (λ j which. sym (same which) j)
-    (none_made (stored_parts c) old s (applied c s) quiet told)
+pub none_one : (a : Active) (old now : Which → History) → ((which : Which) → now which ≡ old which) → ((which : Which) → IsQuiet (old which)) → (s : Plain)
+    → EachImage old (λ images. IsTold images s) → (kept : Kept) → IsOneOrOther a old now kept s
+none_one a old now same quiet s told None = (same, told)
+none_one a old now same quiet s told (Some c) =
+    subst (λ (h : Which → History). Keeping a (stored_parts c) old h s (applied c s)) (λ j which. sym (same which) j)
+    (none_made a (stored_parts c) old s (applied c s) quiet told)
+
+-- a store that tells a host
+
+on_both : (P : Which → Type 0) (second : Bool) → P (journal_on second) → P (journal_on (not second)) → P First × P Second
+on_both P false one other = (one, other)
+on_both P true one other = (other, one)
 
 module _ {D : Type 0} {g : disk.Ghosts D} (store : Store D g) (host : Host) (yes : IsTrue g.tells) (tells : Tells store host) where
+  pub all_quiet : (which : Which) → IsQuiet (history_of store which)
+  all_quiet =
+      let both = on_both (λ which. IsQuiet (history_of store which)) store.on_second (active_quiet store host tells) tells.rest in
+      each_disk (λ which. IsQuiet (history_of store which)) tells.root both.0 both.1 (tells.spool.quiet yes)
+
+  pub told_images : EachImage (history_of store) (λ images. IsTold images (plain_of store host))
+  told_images images leaves = (told_now store host tells yes images leaves).0
+
   -- where no call was made, they tell the state before
-  pub none_told : (puts : List (List ℕ)) (later : Plain) → Keeping puts (history_of store) (history_of store) (plain_of store host) later
-  none_told puts later = none_made puts (history_of store) (plain_of store host) later tells.first.quiet (told_now store host yes tells)
+  pub none_told : (puts : List (List ℕ)) (later : Plain) → Keeping (active_of store) puts (history_of store) (history_of store) (plain_of store host) later
+  none_told puts later = none_made (active_of store) puts (history_of store) (plain_of store host) later all_quiet told_images

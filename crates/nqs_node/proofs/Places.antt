@@ -4,7 +4,10 @@ use Rattle.std.specs.List.{AllByRecursion}
 use Rattle.nqs_outside.specs.Causes.{Rose}
 use Rattle.nqs_outside.specs.History.{History, moment}
 use Rattle.nqs_rules.specs.Edits.{change_at}
-use Rattle.nqs_node.specs.Carried.{IsBlown}
+use Rattle.nqs_outside.specs.declared.disk.Disk as disk
+use Rattle.nqs_types.specs.declared.world.Which.{Which}
+use Rattle.nqs_store.specs.Stores.{OnlyReads, FailedToRead}
+use Rattle.nqs_store.specs.declared.store.Store.{Store}
 
 pub set_at : {V : Type 0} (vs : List V) (i : ℕ) (f : V → V) (d : V) → i < length vs → slice_set vs i (f (get_or vs i d)) ≡ change_at i f vs
 set_at [] i f d lt = absurd (omega (arith, lt))
@@ -24,5 +27,24 @@ all_at P (v ∷ vs) (suc i) d all lt = all_at P vs i d all.1 (omega (arith, lt))
 pub rose_since : (a b c : ℕ) → a ≤ b → Rose b c → Rose a c
 rose_since a b c later rose = omega (arith, later, rose)
 
-pub blown_since : (f g : ℕ → Bool) (h k : History) → ((i : ℕ) → g i ≡ f i) → h ≡ k → IsBlown g h → IsBlown f k
-blown_since f g h k fuse same blown = (blown.0, subst (λ x. blown.0 < moment x) same blown.1, sym (fuse blown.0) ∙ blown.2)
+-- a store that is only read, once and again
+
+module _ {D : Type 0} {g : disk.Ghosts D} where
+  pub reads_none : (store : Store D g) → OnlyReads store store
+  reads_none store = record { same = λ yes which. refl; fuse = λ yes which i. refl; starved = λ yes which. refl; later = λ which. omega arith }
+
+  pub reads_then : (a b c : Store D g) → OnlyReads a b → OnlyReads b c → OnlyReads a c
+  reads_then a b c one two = record {
+    same = λ yes which. two.same yes which ∙ one.same yes which;
+    fuse = λ yes which i. two.fuse yes which i ∙ one.fuse yes which i;
+    starved = λ yes which. two.starved yes which ∙ one.starved yes which;
+    later = λ which. omega (arith, one.later which, two.later which);
+  }
+
+  pub failed_since : (a b c : Store D g) (which : Which) → OnlyReads a b → FailedToRead b c which → FailedToRead a c which
+  failed_since a b c which reads failed = record {
+    rose = rose_since _ _ _ (reads.later which) failed.rose;
+    blown = λ yes.
+        let blown = failed.blown yes in
+        (blown.0, subst (λ x. blown.0 < moment x) (reads.same yes which) blown.1, sym (reads.fuse yes which blown.0) ∙ blown.2);
+  }

@@ -11,7 +11,7 @@ use Rattle.nqs_outside.specs.declared.disk.Disk as disk
 use Rattle.nqs_store.specs.Stores as store
 use Rattle.nqs_store.specs.Told.{Host}
 use Rattle.nqs_node.specs.Carried.{Kept, started, IsOneOrOther}
-use Rattle.nqs_node.specs.Nodes.{history_of, content_of, bytes_of, plain_of, is_stopped, Tells}
+use Rattle.nqs_node.specs.Nodes.{history_of, active_of, content_of, bytes_of, plain_of, is_stopped, Tells}
 use Rattle.nqs_node.specs.Planned.{IsKeptWith, Does}
 use Rattle.nqs_node.specs.declared.node.Node.{Node}
 use Rattle.nqs_node.proofs.Performing.{still_one, same_plain}
@@ -31,8 +31,8 @@ module _ {D : Type 0} {g : disk.Ghosts D} (old : Node D g) (s : Plain) (told : T
     running = running;
   }
 
-  pub one_still : IsTrue g.tells → (kept : Kept) → IsOneOrOther (history_of old) (history_of old) kept s
-  one_still telling kept = subst (λ (p : Plain). IsOneOrOther (history_of old) (history_of old) kept p) told.is
+  pub one_still : IsTrue g.tells → (kept : Kept) → IsOneOrOther (active_of old) (history_of old) (history_of old) kept s
+  one_still telling kept = subst (λ (p : Plain). IsOneOrOther (active_of old) (history_of old) (history_of old) kept p) told.is
       (still_one old.store old.store (λ which. refl) (content_of old) telling told.told kept)
 
   -- the plan of what is done at a host does what is done at the plain state

@@ -5,6 +5,7 @@ use Rattle.nqs_values.specs.declared.extent.Extent.{Extent}
 use Rattle.nqs_types.specs.declared.world.Which.{Which}
 use Rattle.nqs_outside.specs.History.{History}
 use Rattle.nqs_outside.specs.declared.disk.Disk as disk
+use Rattle.nqs_store.specs.Active.{Active}
 use Rattle.nqs_store.specs.Stores as store
 use Rattle.nqs_back.specs.Bare.{emptied}
 use Rattle.nqs_node.specs.declared.node.Node.{Node}
@@ -25,6 +26,10 @@ module _ {D : Type 0} {g : disk.Ghosts D} where
   -- a failed call of one of its disks wasn't made
   abbrev pub is_starved : Node D g → Which → Bool
   is_starved node which = g.starved (disk_of which node)
+
+  -- its active journal
+  abbrev pub active_of : Node D g → Active
+  active_of node = store.active_of node.store
 
   -- its state, with extents of the spool
   abbrev pub content_of : Node D g → State Extent
@@ -51,3 +56,19 @@ module _ {D : Type 0} {g : disk.Ghosts D} where
     pub is : plain_of node ≡ s
     pub told : store.Tells node.store (content_of node)
     pub running : is_stopped node ≡ false
+
+  -- Nothing happened to it: its state and its active journal stay, its disks made no counted call, and it tells what it told.
+  pub record Stays (old now : Node D g) : Type 0 where
+    pub state : content_of now ≡ content_of old
+    pub running : is_stopped now ≡ is_stopped old
+    pub active : active_of now ≡ active_of old
+    pub same : (which : Which) → history_of now which ≡ history_of old which
+    pub tells : (s : Plain) → Tells old s → Tells now s
+
+  -- it only read its disks
+  abbrev pub OnlyReads : (old now : Node D g) → Type 0
+  OnlyReads old now = store.OnlyReads old.store now.store
+
+  -- a read of one of its disks failed
+  abbrev pub FailedToRead : (old now : Node D g) → Which → Type 0
+  FailedToRead old now which = store.FailedToRead old.store now.store which

@@ -10,10 +10,9 @@ ghost use Rattle.nqs_state.specs.State.{Plain, content};
 ghost use Rattle.nqs_values.specs.Want.{want};
 ghost use Rattle.nqs_values.specs.declared.extent.Extent.{Extent};
 ghost use Rattle.nqs_types.specs.declared.world.Which.{Which};
-ghost use Rattle.nqs_types.specs.declared.world.Which.TheVariants.{First, Spool};
 ghost use Rattle.nqs_types.specs.declared.change.Change.TheVariants.{Boot};
 ghost use Rattle.nqs_outside.specs.Causes.{Rose};
-ghost use Rattle.nqs_outside.specs.History.{History, IsQuiet, content as bytes_now};
+ghost use Rattle.nqs_outside.specs.History.{History, IsQuiet};
 ghost use Rattle.nqs_rules.specs.Applied.{applied};
 ghost use Rattle.nqs_rules.specs.World.{boot_output};
 ghost use Rattle.nqs_rules.specs.Plain.{map_row, map_state};
@@ -21,19 +20,21 @@ ghost use Rattle.nqs_store.specs.Commits.{IsKept, IsCutAt, Keeping};
 ghost use Rattle.nqs_store.specs.Hosts.{StopsShort};
 ghost use Rattle.nqs_store.specs.Plan.{CommitsBy};
 ghost use Rattle.nqs_store.specs.Stores.{disk_of as store_disk_of, history_of as history_of_store, fails_of as fails_of_store, is_starved};
+ghost use Rattle.nqs_store.specs.Stores.{active_of as active_of_store};
 ghost use Rattle.nqs_store.specs.Stores.{is_stopped as is_store_stopped, plain_of, Tells as TellsHost};
-ghost use Rattle.nqs_store.specs.Disks.{disk_at, histories_of, failing_of};
+ghost use Rattle.nqs_store.specs.Active.{Active, IsActive, ready, recorded};
+ghost use Rattle.nqs_store.specs.Disks.{disk_at, histories_of, failing_of, contents};
 ghost use Rattle.nqs_store.specs.Faults.{IsLoadFault};
 ghost use Rattle.nqs_store.specs.Images.{IsTold};
 ghost use Rattle.nqs_store.specs.Sound.{IsSoundHost};
-ghost use Rattle.nqs_node.specs.Carried.{IsMade, IsCutBy, IsBrokenOff, IsOneOrOther, IsBlown};
+ghost use Rattle.nqs_node.specs.Carried.{after_kept, IsMade, IsCutBy, IsBrokenOff, IsOneOrOther, IsBlown};
 
 use crate::keep::keep;
 use crate::node::Node;
 use nqs_changes::boot::may_start_again;
 use nqs_outside::Disk;
 use nqs_state::HostState;
-use nqs_store::{Disks, LoadFault, Store, StoreFault};
+use nqs_store::{Disks, LoadFault, Store, StoreFault, one_journal_is_active};
 use nqs_types::{Change, Output, Row, RowState};
 use nqs_values::Memory;
 use std::alloc::Global;
@@ -97,15 +98,16 @@ fn begin<D: Disk>(
     ensures plain { IsTrue D.tells → TellsHost store.old (content state.old)
         → OnOk result (plain_of store.new (content state.new) ≡ applied Boot (plain_of store.old (content state.old))) }
     ensures outputs { (f : Extent → List ℕ) → OnOk result (out.new.items ≡ out.old.items ++ filter_map boot_output (map_state f (content state.old)).rows) }
-    ensures made { IsTrue D.tells → OnOk result (IsKept (fails_of_store store.old) [] (history_of_store store.old) (history_of_store store.new)) }
-    ensures broken_off { IsTrue D.tells → OnErr result (CommitsBy StopsShort [] (history_of_store store.old) (history_of_store store.new)) }
+    ensures active { OnOk result (active_of_store store.new ≡ recorded (ready (active_of_store store.old))) }
+    ensures made { IsTrue D.tells → OnOk result (IsKept (active_of_store store.old) (fails_of_store store.old) [] (history_of_store store.old) (history_of_store store.new)) }
+    ensures broken_off { IsTrue D.tells → OnErr result (CommitsBy StopsShort (active_of_store store.old) [] (history_of_store store.old) (history_of_store store.new)) }
     ensures cut { IsTrue D.tells → TellsHost store.old (content state.old) → (which : Which) → IsErrOf result (LoadFault.Disk which)
-        → IsTrue (is_starved store.new which) ⊎ IsCutAt (fails_of_store store.old) [] (history_of_store store.old) (history_of_store store.new)
+        → IsTrue (is_starved store.new which) ⊎ IsCutAt (active_of_store store.old) (fails_of_store store.old) [] (history_of_store store.old) (history_of_store store.new)
         (plain_of store.old (content state.old)) (applied Boot (plain_of store.old (content state.old))) which }
     ensures fuse { IsTrue D.tells → (which : Which) (i : ℕ) → fails_of_store store.new which i ≡ fails_of_store store.old which i }
     ensures later { (which : Which) → D.faults (store_disk_of which store.old) ≤ D.faults (store_disk_of which store.new) }
     ensures any_moment { IsTrue D.tells → TellsHost store.old (content state.old)
-        → Keeping [] (history_of_store store.old) (history_of_store store.new) (plain_of store.old (content state.old))
+        → Keeping (active_of_store store.old) [] (history_of_store store.old) (history_of_store store.new) (plain_of store.old (content state.old))
         (applied Boot (plain_of store.old (content state.old))) }
 {
     match outputs_of(alloc, state) {
@@ -127,7 +129,7 @@ fn begin<D: Disk>(
 }
 
 impl<D: Disk> Node<D> {
-    ghost use Rattle.nqs_node.specs.Nodes.{disk_of, history_of, fails_of, content_of, is_stopped, Tells};
+    ghost use Rattle.nqs_node.specs.Nodes.{disk_of, history_of, fails_of, active_of, content_of, is_stopped, Tells};
 
     /// Boots a host from its disks, on which nothing is pending: what ran there starts again or is
     /// lost, which is one record of its journal. It adds to `out` what is said of each such
@@ -145,34 +147,41 @@ impl<D: Disk> Node<D> {
         ensures failed { IfErr result (λ e. (which : Which) → e.0 ≡ LoadFault.Disk which
             → Rose (D.faults (disk_at which disks)) (D.faults (disk_at which e.1))) }
         ensures fault { IsTrue D.tells → IfErr result (λ e. (which : Which) (place : ℕ) → e.0 ≡ LoadFault.NotNqs which place
-            → IsLoadFault (bytes_now (histories_of D.history disks First)) (bytes_now (histories_of D.history disks Spool)) e.0) }
+            → IsLoadFault (contents (histories_of D.history disks)) e.0) }
         ensures memory { IsTrue D.tells → IfErr result (λ e. e.0 ≡ LoadFault.Memory want → (which : Which)
             → histories_of D.history e.1 which ≡ histories_of D.history disks which) }
 
         // Disks that tell a host are booted, and tell the state after the boot. Others are not
         // booted.
         ensures one { IsTrue D.tells → IfOk result (λ node. (s : Plain)
-            × IsTold (bytes_now (histories_of D.history disks First)) (bytes_now (histories_of D.history disks Spool)) s × Tells node (applied Boot s)) }
+            × IsTold (contents (histories_of D.history disks)) s × Tells node (applied Boot s)) }
         ensures never { IsTrue D.tells → (s : Plain)
-            → IsTold (bytes_now (histories_of D.history disks First)) (bytes_now (histories_of D.history disks Spool)) s
+            → IsTold (contents (histories_of D.history disks)) s
             → IfErr result (λ e. (which : Which) (place : ℕ) → e.0 ≡ LoadFault.NotNqs which place → ⊥) }
         ensures told { IsTrue D.tells → (s : Plain)
-            → IsTold (bytes_now (histories_of D.history disks First)) (bytes_now (histories_of D.history disks Spool)) s
+            → IsTold (contents (histories_of D.history disks)) s
             → IfOk result (λ node. Tells node (applied Boot s)) }
         ensures outputs { IsTrue D.tells → (s : Plain)
-            → IsTold (bytes_now (histories_of D.history disks First)) (bytes_now (histories_of D.history disks Spool)) s
+            → IsTold (contents (histories_of D.history disks)) s
             → OnOk result (out.new.items ≡ out.old.items ++ filter_map boot_output s.rows) }
 
-        // The calls that it makes: at Ok just those of one record, else a part of them, of which
-        // only the last may have failed.
-        ensures made { IsTrue D.tells → IfOk result (λ node. IsMade (failing_of D.fails disks) (histories_of D.history disks) (history_of node) (Some Boot)) }
-        ensures broken_off { IsTrue D.tells → IfErr result (λ e. IsBrokenOff (histories_of D.history disks) (histories_of D.history e.1) (Some Boot)) }
+        // The calls that it makes: at Ok just those of one record, behind those of a checkpoint
+        // where one is due, else a part of them, of which only the last may have failed.
+        ensures made { IsTrue D.tells → (a : Active) → IsActive (contents (histories_of D.history disks)) a
+            → IfOk result (λ node. IsMade a (failing_of D.fails disks) (histories_of D.history disks) (history_of node) (Some Boot)) }
+        ensures broken_off { IsTrue D.tells → (a : Active) → IsActive (contents (histories_of D.history disks)) a
+            → IfErr result (λ e. IsBrokenOff a (histories_of D.history disks) (histories_of D.history e.1) (Some Boot)) }
+        // Disks that name no journal are left as they are.
+        ensures untouched { IsTrue D.tells → ((a : Active) → IsActive (contents (histories_of D.history disks)) a → ⊥)
+            → IfErr result (λ e. (which : Which) → histories_of D.history e.1 which ≡ histories_of D.history disks which) }
+        ensures active { IsTrue D.tells → (a : Active) → IsActive (contents (histories_of D.history disks)) a
+            → IfOk result (λ node. active_of node ≡ after_kept (Some Boot) a) }
 
         // Which of them fails is the disk's to say, unless it is starved.
-        ensures cut { IsTrue D.tells → (s : Plain) → IsTold (bytes_now (histories_of D.history disks First)) (bytes_now (histories_of D.history disks Spool)) s
-            → IfErr result (λ e. (which : Which) → e.0 ≡ LoadFault.Disk which → IsTrue (D.starved (disk_at which e.1))
+        ensures cut { IsTrue D.tells → (s : Plain) → IsTold (contents (histories_of D.history disks)) s
+            → (a : Active) → IsActive (contents (histories_of D.history disks)) a → IfErr result (λ e. (which : Which) → e.0 ≡ LoadFault.Disk which → IsTrue (D.starved (disk_at which e.1))
             ⊎ (IsBlown (failing_of D.fails disks which) (histories_of D.history disks which)
-            ⊎ IsCutBy (failing_of D.fails disks) (histories_of D.history disks) (histories_of D.history e.1) (Some Boot) s which)) }
+            ⊎ IsCutBy a (failing_of D.fails disks) (histories_of D.history disks) (histories_of D.history e.1) (Some Boot) s which)) }
         ensures fuse { IsTrue D.tells → IfOk result (λ node. (which : Which) (i : ℕ) → fails_of node which i ≡ failing_of D.fails disks which i) }
         ensures later { MatchResult result
             (λ node. (which : Which) → D.faults (disk_at which disks) ≤ D.faults (disk_of which node))
@@ -180,23 +189,25 @@ impl<D: Disk> Node<D> {
 
         // At each moment, whatever images the disks may leave, they tell the state before the boot
         // or the one after it.
-        ensures any_moment { IsTrue D.tells → (s : Plain)
-            → IsTold (bytes_now (histories_of D.history disks First)) (bytes_now (histories_of D.history disks Spool)) s
-            → MatchResult result
-            (λ node. IsOneOrOther (histories_of D.history disks) (history_of node) (Some Boot) s)
-            (λ e. IsOneOrOther (histories_of D.history disks) (histories_of D.history e.1) (Some Boot) s) }
+        ensures any_moment { IsTrue D.tells → (s : Plain) → IsTold (contents (histories_of D.history disks)) s
+            → (a : Active) → IsActive (contents (histories_of D.history disks)) a → MatchResult result
+            (λ node. IsOneOrOther a (histories_of D.history disks) (history_of node) (Some Boot) s)
+            (λ e. IsOneOrOther a (histories_of D.history disks) (histories_of D.history e.1) (Some Boot) s) }
     {
         match Store::load(alloc, disks) {
             Err((fault, disks)) => Err((fault, disks)),
-            Ok((mut store, mut state)) => match begin(alloc, &mut store, &mut state, out) {
-                Err(fault) => Err((fault, store.close())),
-                Ok(()) => Ok(Node {
-                    store,
-                    state,
-                    stopped: false,
-                    idle: None,
-                }),
-            },
+            Ok((mut store, mut state)) => {
+                one_journal_is_active();
+                match begin(alloc, &mut store, &mut state, out) {
+                    Err(fault) => Err((fault, store.close())),
+                    Ok(()) => Ok(Node {
+                        store,
+                        state,
+                        stopped: false,
+                        idle: None,
+                    }),
+                }
+            }
         }
     }
 }

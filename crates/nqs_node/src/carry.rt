@@ -10,7 +10,7 @@ ghost use Rattle.nqs_rules.specs.Starts.{after_change, after_step};
 ghost use Rattle.nqs_rules.specs.Stepped.{Stepped, shown};
 ghost use Rattle.nqs_store.specs.Sound.{IsSoundHost};
 ghost use Rattle.nqs_back.specs.Bare.{emptied, blank, without_bytes};
-ghost use Rattle.nqs_node.specs.Carried.{IsMade, IsCutBy, IsBrokenOff, IsOneOrOther, IsBlown};
+ghost use Rattle.nqs_node.specs.Carried.{after_kept, IsMade, IsCutBy, IsBrokenOff, IsOneOrOther, IsBlown};
 ghost use Rattle.nqs_node.specs.Planned.{MayBeDone, Does};
 ghost use Rattle.nqs_node.specs.Reading.{AreShort};
 
@@ -23,7 +23,7 @@ use nqs_types::{Output, Plan};
 use std::alloc::Global;
 
 impl<D: Disk> Node<D> {
-    ghost use Rattle.nqs_node.specs.Nodes.{disk_of, history_of, fails_of, is_starved, content_of, bytes_of, is_stopped, Tells};
+    ghost use Rattle.nqs_node.specs.Nodes.{disk_of, history_of, fails_of, is_starved, active_of, content_of, bytes_of, is_stopped, Tells, Stays};
 
     // Carries out a plan of this host: reads, keeps and makes it, and adds to `out` what goes out.
     pub(crate) fn carry_out(
@@ -48,24 +48,24 @@ impl<D: Disk> Node<D> {
         ensures short { (done : Stepped (List ℕ)) → Does (λ _. []) plan done → AreShort out.old.items → AreShort (map shown done.outputs)
             → OnOk result (AreShort out.new.items) }
         ensures alike { OnOk result (map without_bytes out.new.items ≡ map without_bytes out.old.items ++ map without_bytes plan.outputs) }
-        ensures memory { IsTrue D.tells → IsErrOf result (NodeFault.Memory want) → (content_of self.new ≡ content_of self.old)
-            × (is_stopped self.new ≡ is_stopped self.old)
-            × ((which : Which) → history_of self.new which ≡ history_of self.old which) × ((s : Plain) → Tells self.old s → Tells self.new s) }
+        ensures memory { IsTrue D.tells → IsErrOf result (NodeFault.Memory want) → Stays self.old self.new }
         ensures told { IsTrue D.tells → (s : Plain) → Tells self.old s → (done : Stepped (List ℕ)) → Does (bytes_of self.old) plan done
             → OnOk result (Tells self.new (after_step done s)) }
         ensures outputs { IsTrue D.tells → (s : Plain) → Tells self.old s → (done : Stepped (List ℕ)) → Does (bytes_of self.old) plan done
             → OnOk result (out.new.items ≡ out.old.items ++ map shown done.outputs) }
         ensures made { IsTrue D.tells → (done : Stepped (List ℕ)) → Does (bytes_of self.old) plan done
-            → OnOk result (IsMade (fails_of self.old) (history_of self.old) (history_of self.new) done.change) }
+            → OnOk result (IsMade (active_of self.old) (fails_of self.old) (history_of self.old) (history_of self.new) done.change) }
+        ensures active { (done : Stepped (List ℕ)) → Does (bytes_of self.old) plan done
+            → OnOk result (active_of self.new ≡ after_kept done.change (active_of self.old)) }
         ensures broken_off { IsTrue D.tells → (done : Stepped (List ℕ)) → Does (bytes_of self.old) plan done
-            → OnErr result (IsBrokenOff (history_of self.old) (history_of self.new) done.change) }
+            → OnErr result (IsBrokenOff (active_of self.old) (history_of self.old) (history_of self.new) done.change) }
         ensures cut { IsTrue D.tells → (s : Plain) → Tells self.old s → (done : Stepped (List ℕ)) → Does (bytes_of self.old) plan done → (which : Which)
             → IsErrOf result (NodeFault.Disk which)
             → IsTrue (is_starved self.new which) ⊎ (IsBlown (fails_of self.old which) (history_of self.old which)
-            ⊎ IsCutBy (fails_of self.old) (history_of self.old) (history_of self.new) done.change s which) }
+            ⊎ IsCutBy (active_of self.old) (fails_of self.old) (history_of self.old) (history_of self.new) done.change s which) }
         ensures fuse { IsTrue D.tells → (which : Which) (i : ℕ) → fails_of self.new which i ≡ fails_of self.old which i }
         ensures any_moment { IsTrue D.tells → (s : Plain) → Tells self.old s → (done : Stepped (List ℕ)) → Does (bytes_of self.old) plan done
-            → IsOneOrOther (history_of self.old) (history_of self.new) done.change s }
+            → IsOneOrOther (active_of self.old) (history_of self.old) (history_of self.new) done.change s }
     {
         match out.reserve(plan.outputs.len()) {
             Err(refused) => Err(NodeFault::Memory(refused.into())),

@@ -19,7 +19,7 @@ ghost use Rattle.nqs_store.specs.Sound.{IsSoundHost};
 ghost use Rattle.nqs_store.specs.Stores.{is_stopped as is_store_stopped};
 ghost use Rattle.nqs_back.specs.Back.{comebacks, comes_back};
 ghost use Rattle.nqs_back.specs.Bare.{emptied, without_bytes};
-ghost use Rattle.nqs_node.specs.Carried.{started, IsMade, IsCutBy, IsBrokenOff, IsOneOrOther, IsBlown};
+ghost use Rattle.nqs_node.specs.Carried.{started, after_kept, IsMade, IsCutBy, IsBrokenOff, IsOneOrOther, IsBlown};
 ghost use Rattle.nqs_node.specs.Idle.{is_idle};
 ghost use Rattle.nqs_node.specs.Reading.{AreShort};
 
@@ -53,7 +53,7 @@ pub struct Node<D: Disk> {
 }
 
 impl<D: Disk> Node<D> {
-    ghost use Rattle.nqs_node.specs.Nodes.{disk_of, history_of, fails_of, is_starved, content_of, bare, is_stopped, Tells};
+    ghost use Rattle.nqs_node.specs.Nodes.{disk_of, history_of, fails_of, is_starved, active_of, content_of, bare, is_stopped, Tells, Stays, OnlyReads, FailedToRead};
 
     /// Takes an event: keeps its change, makes it, and adds to `out` what goes out. `Memory` and
     /// `Stopped` leave all as it was.
@@ -75,9 +75,7 @@ impl<D: Disk> Node<D> {
         ensures unsaid { OnErr result (out.new.items ≡ out.old.items) }
         // No disk's count of faults falls.
         ensures later { (which : Which) → D.faults (disk_of which self.old) ≤ D.faults (disk_of which self.new) }
-        ensures memory { IsTrue D.tells → IsErrOf result (NodeFault.Memory want) → (content_of self.new ≡ content_of self.old)
-            × (is_stopped self.new ≡ is_stopped self.old)
-            × ((which : Which) → history_of self.new which ≡ history_of self.old which) × ((s : Plain) → Tells self.old s → Tells self.new s) }
+        ensures memory { IsTrue D.tells → IsErrOf result (NodeFault.Memory want) → Stays self.old self.new }
         ensures unmade { OnErr result (content_of self.new ≡ content_of self.old) }
 
         // Over whatever disks: at Ok its state is that after the step, and what goes out is the
@@ -104,20 +102,21 @@ impl<D: Disk> Node<D> {
         // The calls that it makes: at Ok just those of the change's commit, else a part of them, of
         // which only the last may have failed.
         ensures made { IsTrue D.tells → (s : Plain) → Tells self.old s
-            → OnOk result (IsMade (fails_of self.old) (history_of self.old) (history_of self.new) (step event.now s).change) }
+            → OnOk result (IsMade (active_of self.old) (fails_of self.old) (history_of self.old) (history_of self.new) (step event.now s).change) }
+        ensures active { IsTrue D.tells → (s : Plain) → Tells self.old s → OnOk result (active_of self.new ≡ after_kept (step event.now s).change (active_of self.old)) }
         ensures broken_off { IsTrue D.tells → (s : Plain) → Tells self.old s
-            → OnErr result (IsBrokenOff (history_of self.old) (history_of self.new) (step event.now s).change) }
+            → OnErr result (IsBrokenOff (active_of self.old) (history_of self.old) (history_of self.new) (step event.now s).change) }
 
         // Which of them fails is the disk's to say, unless it is starved.
         ensures cut { IsTrue D.tells → (s : Plain) → Tells self.old s → (which : Which) → IsErrOf result (NodeFault.Disk which)
             → IsTrue (is_starved self.new which) ⊎ (IsBlown (fails_of self.old which) (history_of self.old which)
-            ⊎ IsCutBy (fails_of self.old) (history_of self.old) (history_of self.new) (step event.now s).change s which) }
+            ⊎ IsCutBy (active_of self.old) (fails_of self.old) (history_of self.old) (history_of self.new) (step event.now s).change s which) }
         ensures fuse { IsTrue D.tells → (which : Which) (i : ℕ) → fails_of self.new which i ≡ fails_of self.old which i }
 
         // At each moment, whatever images the disks may leave, they tell the state before the step
         // or the one after it.
         ensures any_moment { IsTrue D.tells → (s : Plain) → Tells self.old s
-            → IsOneOrOther (history_of self.old) (history_of self.new) (step event.now s).change s }
+            → IsOneOrOther (active_of self.old) (history_of self.old) (history_of self.new) (step event.now s).change s }
     {
         if self.stopped {
             return Err(NodeFault::Stopped);
@@ -165,9 +164,7 @@ impl<D: Disk> Node<D> {
         ensures unsaid { OnErr result (out.new.items ≡ out.old.items) }
         // No disk's count of faults falls.
         ensures later { (which : Which) → D.faults (disk_of which self.old) ≤ D.faults (disk_of which self.new) }
-        ensures memory { IsTrue D.tells → IsErrOf result (NodeFault.Memory want) → (content_of self.new ≡ content_of self.old)
-            × (is_stopped self.new ≡ is_stopped self.old)
-            × ((which : Which) → history_of self.new which ≡ history_of self.old which) × ((s : Plain) → Tells self.old s → Tells self.new s) }
+        ensures memory { IsTrue D.tells → IsErrOf result (NodeFault.Memory want) → Stays self.old self.new }
         ensures unmade { OnErr result (content_of self.new ≡ content_of self.old) }
 
         // It is false exactly where none may start.
@@ -198,20 +195,21 @@ impl<D: Disk> Node<D> {
         // The calls that it makes: at Ok just those of the change's commit, else a part of them, of
         // which only the last may have failed.
         ensures made { IsTrue D.tells → (s : Plain) → Tells self.old s
-            → OnOk result (IsMade (fails_of self.old) (history_of self.old) (history_of self.new) (started now s).change) }
+            → OnOk result (IsMade (active_of self.old) (fails_of self.old) (history_of self.old) (history_of self.new) (started now s).change) }
+        ensures active { IsTrue D.tells → (s : Plain) → Tells self.old s → OnOk result (active_of self.new ≡ after_kept (started now s).change (active_of self.old)) }
         ensures broken_off { IsTrue D.tells → (s : Plain) → Tells self.old s
-            → OnErr result (IsBrokenOff (history_of self.old) (history_of self.new) (started now s).change) }
+            → OnErr result (IsBrokenOff (active_of self.old) (history_of self.old) (history_of self.new) (started now s).change) }
 
         // Which of them fails is the disk's to say, unless it is starved.
         ensures cut { IsTrue D.tells → (s : Plain) → Tells self.old s → (which : Which) → IsErrOf result (NodeFault.Disk which)
             → IsTrue (is_starved self.new which) ⊎ (IsBlown (fails_of self.old which) (history_of self.old which)
-            ⊎ IsCutBy (fails_of self.old) (history_of self.old) (history_of self.new) (started now s).change s which) }
+            ⊎ IsCutBy (active_of self.old) (fails_of self.old) (history_of self.old) (history_of self.new) (started now s).change s which) }
         ensures fuse { IsTrue D.tells → (which : Which) (i : ℕ) → fails_of self.new which i ≡ fails_of self.old which i }
 
         // At each moment, whatever images the disks may leave, they tell the state before the start
         // or the one after it.
         ensures any_moment { IsTrue D.tells → (s : Plain) → Tells self.old s
-            → IsOneOrOther (history_of self.old) (history_of self.new) (started now s).change s }
+            → IsOneOrOther (active_of self.old) (history_of self.old) (history_of self.new) (started now s).change s }
     {
         if self.stopped {
             return Err(NodeFault::Stopped);
@@ -259,15 +257,10 @@ impl<D: Disk> Node<D> {
     pub fn reread(&mut self, alloc: Global) -> Result<HostState, LoadFault>
         ensures told { IsTrue D.tells → (s : Plain) → Tells self.old s → IfOk result (λ state. content state ≡ content_of self.old) }
         ensures never { IsTrue D.tells → (s : Plain) → Tells self.old s → (which : Which) (place : ℕ) → IsErrOf result (LoadFault.NotNqs which place) → ⊥ }
-        ensures failed { (which : Which) → IsErrOf result (LoadFault.Disk which)
-            → Rose (D.faults (disk_of which self.old)) (D.faults (disk_of which self.new)) }
-        // Only after a call that was to fail.
-        ensures cause { IsTrue D.tells → (which : Which) → IsErrOf result (LoadFault.Disk which)
-            → IsBlown (fails_of self.old which) (history_of self.old which) }
+        ensures failed { (which : Which) → IsErrOf result (LoadFault.Disk which) → FailedToRead self.old self.new which }
+        ensures reads { OnlyReads self.old self.new }
         ensures state { content_of self.new ≡ content_of self.old }
-        ensures stays { is_stopped self.new ≡ is_stopped self.old }
-        ensures same { IsTrue D.tells → (which : Which) → history_of self.new which ≡ history_of self.old which }
-        ensures fuse { IsTrue D.tells → (which : Which) (i : ℕ) → fails_of self.new which i ≡ fails_of self.old which i }
+        ensures stays { (is_stopped self.new ≡ is_stopped self.old) × (active_of self.new ≡ active_of self.old) }
         ensures tells { IsTrue D.tells → (s : Plain) → Tells self.old s → Tells self.new s }
     {
         self.store.reread(alloc)
@@ -275,7 +268,7 @@ impl<D: Disk> Node<D> {
 }
 
 impl<D: Fused> Node<D> {
-    ghost use Rattle.nqs_node.specs.Nodes.{disk_of, history_of, fails_of, is_starved, content_of, is_stopped, Tells};
+    ghost use Rattle.nqs_node.specs.Nodes.{disk_of, history_of, fails_of, is_starved, active_of, content_of, is_stopped, Tells};
 
     /// Makes the calls-th write or sync from here of the disk fail, and each later call of it. It
     /// changes nothing else.
@@ -285,7 +278,7 @@ impl<D: Fused> Node<D> {
             → (i : ℕ) → fails_of self.new which i ≡ nat_le (moment (history_of self.old which) + (max calls 1 - 1)) i }
         ensures others { (disk : Which) → disk ≢ which → (i : ℕ) → fails_of self.new disk i ≡ fails_of self.old disk i }
         ensures state { content_of self.new ≡ content_of self.old }
-        ensures stopped { is_stopped self.new ≡ is_stopped self.old }
+        ensures stopped { (is_stopped self.new ≡ is_stopped self.old) × (active_of self.new ≡ active_of self.old) }
         ensures tells { (s : Plain) → Tells self.old s → Tells self.new s }
     {
         self.store.fuse(which, calls);

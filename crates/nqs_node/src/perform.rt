@@ -8,10 +8,10 @@ ghost use Rattle.nqs_types.specs.declared.world.Which.{Which};
 ghost use Rattle.nqs_outside.specs.Causes.{Rose};
 ghost use Rattle.nqs_rules.specs.Starts.{after_change};
 ghost use Rattle.nqs_store.specs.Sound.{IsSoundHost};
-ghost use Rattle.nqs_store.specs.Stores.{disk_of, history_of, fails_of, is_starved, is_stopped, bytes_of, plain_of, Tells};
+ghost use Rattle.nqs_store.specs.Stores.{disk_of, history_of, fails_of, is_starved, is_stopped, active_of, bytes_of, plain_of, Tells};
 ghost use Rattle.nqs_store.specs.Told.{Host};
 ghost use Rattle.nqs_back.specs.Bare.{emptied, blank, without_bytes};
-ghost use Rattle.nqs_node.specs.Carried.{Kept, IsMade, IsCutBy, IsBrokenOff, IsOneOrOther, IsBlown};
+ghost use Rattle.nqs_node.specs.Carried.{Kept, after_kept, IsMade, IsCutBy, IsBrokenOff, IsOneOrOther, IsBlown};
 ghost use Rattle.nqs_node.specs.Idle.{is_idle};
 ghost use Rattle.nqs_node.specs.Planned.{MayBeKept, IsKeptWith};
 ghost use Rattle.nqs_node.specs.Reading.{read_into, AreLiveReads, AreShort};
@@ -55,7 +55,7 @@ pub(crate) fn perform<D: Disk>(
     ensures later { (which : Which) → D.faults (disk_of which store.old) ≤ D.faults (disk_of which store.new) }
     ensures bare { OnOk result (emptied (content state.new) ≡ after_change (option_map blank change) (emptied (content state.old))) }
     ensures alike { map without_bytes outputs.new.items ≡ map without_bytes outputs.old.items }
-    ensures memory { IsErrOf result (StoreFault.Memory want) → is_stopped store.new ≡ false }
+    ensures memory { IsErrOf result (StoreFault.Memory want) → (is_stopped store.new ≡ false) × (active_of store.new ≡ active_of store.old) }
     ensures unchanged { IsTrue D.tells → IsErrOf result (StoreFault.Memory want) → ((which : Which) → history_of store.new which ≡ history_of store.old which)
         × ((host : Host) → Tells store.old host → Tells store.new host) }
     ensures told { IsTrue D.tells → Tells store.old (content state.old) → OnOk result (Tells store.new (content state.new)) }
@@ -64,16 +64,17 @@ pub(crate) fn perform<D: Disk>(
     ensures outputs { IsTrue D.tells → Tells store.old (content state.old)
         → OnOk result (outputs.new.items ≡ read_into (bytes_of store.old) reads.now outputs.old.items) }
     ensures made { IsTrue D.tells → (kept : Kept) → IsKeptWith change puts.now kept
-        → OnOk result (IsMade (fails_of store.old) (history_of store.old) (history_of store.new) kept) }
+        → OnOk result (IsMade (active_of store.old) (fails_of store.old) (history_of store.old) (history_of store.new) kept) }
+    ensures active { (kept : Kept) → IsKeptWith change puts.now kept → OnOk result (active_of store.new ≡ after_kept kept (active_of store.old)) }
     ensures broken_off { IsTrue D.tells → (kept : Kept) → IsKeptWith change puts.now kept
-        → OnErr result (IsBrokenOff (history_of store.old) (history_of store.new) kept) }
+        → OnErr result (IsBrokenOff (active_of store.old) (history_of store.old) (history_of store.new) kept) }
     ensures cut { IsTrue D.tells → Tells store.old (content state.old) → (kept : Kept) → IsKeptWith change puts.now kept → (which : Which)
         → IsErrOf result (StoreFault.Disk which) → IsTrue (is_starved store.new which)
         ⊎ (IsBlown (fails_of store.old which) (history_of store.old which)
-        ⊎ IsCutBy (fails_of store.old) (history_of store.old) (history_of store.new) kept (plain_of store.old (content state.old)) which) }
+        ⊎ IsCutBy (active_of store.old) (fails_of store.old) (history_of store.old) (history_of store.new) kept (plain_of store.old (content state.old)) which) }
     ensures fuse { IsTrue D.tells → (which : Which) (i : ℕ) → fails_of store.new which i ≡ fails_of store.old which i }
     ensures any_moment { IsTrue D.tells → Tells store.old (content state.old) → (kept : Kept) → IsKeptWith change puts.now kept
-        → IsOneOrOther (history_of store.old) (history_of store.new) kept (plain_of store.old (content state.old)) }
+        → IsOneOrOther (active_of store.old) (history_of store.old) (history_of store.new) kept (plain_of store.old (content state.old)) }
 {
     match read_all(alloc, store, reads, outputs) {
         Err(fault) => Err(fault),

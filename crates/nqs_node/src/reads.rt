@@ -2,17 +2,13 @@
 
 ghost use Rattle.std.specs.Prelude.{◌≡◌, ◌<◌, ◌≤◌, ℕ, IsTrue, IsErrOf, OnOk, IfErr, length, map, [], List};
 ghost use Rattle.std.specs.List.{AllByRecursion};
-ghost use Rattle.nqs_types.specs.declared.world.Which.{Which};
 ghost use Rattle.nqs_types.specs.declared.world.Which.TheVariants.{Spool};
-ghost use Rattle.nqs_outside.specs.Causes.{Rose};
-ghost use Rattle.nqs_outside.specs.History.{moment};
 ghost use Rattle.nqs_rules.specs.Edits.{change_at};
 ghost use Rattle.nqs_rules.specs.Stepped.{sent_with, with_bytes};
 ghost use Rattle.nqs_store.specs.Faults.{IsScriptFault};
-ghost use Rattle.nqs_store.specs.Stores.{disk_of, history_of, fails_of, is_starved, is_stopped, bytes_of, Tells};
+ghost use Rattle.nqs_store.specs.Stores.{is_stopped, active_of, bytes_of, Tells, OnlyReads, FailedToRead};
 ghost use Rattle.nqs_store.specs.Told.{Host};
 ghost use Rattle.nqs_back.specs.Bare.{without_bytes};
-ghost use Rattle.nqs_node.specs.Carried.{IsBlown};
 ghost use Rattle.nqs_node.specs.Reading.{read_into, IsLiveRead, AreLiveReads, IsShortRead, AreShort};
 
 use nqs_outside::Disk;
@@ -70,13 +66,9 @@ fn read_one<D: Disk>(
         × (outputs.new.items ≡ change_at read.now.output (with_bytes bytes) outputs.old.items)) }
     ensures as_many { length outputs.new.items ≡ length outputs.old.items }
     ensures alike { map without_bytes outputs.new.items ≡ map without_bytes outputs.old.items }
-    ensures failed { IsErrOf result (StoreFault.Disk Spool) → Rose (D.faults (disk_of Spool store.old)) (D.faults (disk_of Spool store.new)) }
-    ensures cause { IsTrue D.tells → IsErrOf result (StoreFault.Disk Spool) → IsBlown (fails_of store.old Spool) (history_of store.old Spool) }
-    ensures same { IsTrue D.tells → (which : Which) → history_of store.new which ≡ history_of store.old which }
-    ensures fuse { IsTrue D.tells → (which : Which) (i : ℕ) → fails_of store.new which i ≡ fails_of store.old which i }
-    ensures starved { IsTrue D.tells → (which : Which) → is_starved store.new which ≡ is_starved store.old which }
-    ensures stays { is_stopped store.new ≡ is_stopped store.old }
-    ensures later { (which : Which) → D.faults (disk_of which store.old) ≤ D.faults (disk_of which store.new) }
+    ensures failed { IsErrOf result (StoreFault.Disk Spool) → FailedToRead store.old store.new Spool }
+    ensures reads { OnlyReads store.old store.new }
+    ensures stays { (is_stopped store.new ≡ is_stopped store.old) × (active_of store.new ≡ active_of store.old) }
     ensures tells { IsTrue D.tells → (host : Host) → Tells store.old host → Tells store.new host }
 {
     let mut bytes = Vec::new(alloc);
@@ -105,13 +97,9 @@ pub(crate) fn read_all<D: Disk>(
         → OnOk result (AreShort outputs.new.items) }
     ensures as_many { length outputs.new.items ≡ length outputs.old.items }
     ensures alike { map without_bytes outputs.new.items ≡ map without_bytes outputs.old.items }
-    ensures failed { IsErrOf result (StoreFault.Disk Spool) → Rose (D.faults (disk_of Spool store.old)) (D.faults (disk_of Spool store.new)) }
-    ensures cause { IsTrue D.tells → IsErrOf result (StoreFault.Disk Spool) → IsBlown (fails_of store.old Spool) (history_of store.old Spool) }
-    ensures same { IsTrue D.tells → (which : Which) → history_of store.new which ≡ history_of store.old which }
-    ensures fuse { IsTrue D.tells → (which : Which) (i : ℕ) → fails_of store.new which i ≡ fails_of store.old which i }
-    ensures starved { IsTrue D.tells → (which : Which) → is_starved store.new which ≡ is_starved store.old which }
-    ensures stays { is_stopped store.new ≡ is_stopped store.old }
-    ensures later { (which : Which) → D.faults (disk_of which store.old) ≤ D.faults (disk_of which store.new) }
+    ensures failed { IsErrOf result (StoreFault.Disk Spool) → FailedToRead store.old store.new Spool }
+    ensures reads { OnlyReads store.old store.new }
+    ensures stays { (is_stopped store.new ≡ is_stopped store.old) × (active_of store.new ≡ active_of store.old) }
     ensures tells { IsTrue D.tells → (host : Host) → Tells store.old host → Tells store.new host }
 {
     for read in reads {

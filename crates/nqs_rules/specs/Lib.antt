@@ -28,6 +28,7 @@ pub mod Why
 pub mod Step
 pub mod Measure
 pub mod Starts
+pub mod Journals
 pub mod World
 pub mod Net
 pub mod Run

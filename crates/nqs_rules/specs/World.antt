@@ -1,5 +1,5 @@
 -- A network of hosts as a pure machine of events. There is no byte of a disk in it: a stop is told by the count of device calls.
-use Rattle.std.specs.Prelude.{ℕ, zero, suc, ◌+◌, ◌-◌, ◌%◌, Bool, true, false, ◌&&◌, ◌||◌, ◌==◌, nat_le, nat_lt, max, if◌then◌else◌, List, [], ◌∷◌, ◌++◌, map}
+use Rattle.std.specs.Prelude.{ℕ, zero, suc, ◌+◌, ◌-◌, ◌%◌, Bool, true, false, not, ◌&&◌, ◌||◌, ◌==◌, nat_le, nat_lt, max, if◌then◌else◌, List, [], ◌∷◌, ◌++◌, map}
 use Rattle.std.specs.Prelude.{filter, length, slice_get, Option, None, Some, is_ok}
 use Rattle.std.specs.List.{filter_map}
 use Rattle.nqs_state.specs.State.{Plain}
@@ -9,6 +9,7 @@ use Rattle.nqs_rules.specs.Edits.{change_at}
 use Rattle.nqs_rules.specs.Access.{rank, may_command}
 use Rattle.nqs_rules.specs.Applied.{applied, may_start_again}
 use Rattle.nqs_rules.specs.Format.{formatted}
+use Rattle.nqs_rules.specs.Journals.{active, resting, turned, is_due, torn_root, names_same}
 use Rattle.nqs_rules.specs.Stepped.{Stepped, shown, stored_parts}
 use Rattle.nqs_rules.specs.Step.{step}
 use Rattle.nqs_rules.specs.Start.{start}
@@ -55,7 +56,8 @@ pub record Calls : Type 0 where
   pub spool : ℕ
 
 -- A host: whether it is up, its state, the states that its disks told before since they were new or last became the image
--- of a stop, the last of them first, what its next stop leaves of a write, its fuses, and how many calls its disks have made.
+-- of a stop, the last of them first, what its next stop leaves of a write, its fuses, how many calls its disks have made,
+-- what its disk `root` holds, which names the active journal, and how many records that journal has.
 pub record Host : Type 0 where
   pub up : Bool
   pub state : Plain
@@ -63,6 +65,8 @@ pub record Host : Type 0 where
   pub tear : Tear
   pub fuses : Fuses
   pub calls : Calls
+  pub root : Bytes
+  pub records : ℕ
 
 -- the packets are all that were ever sent, the first of them with the number 1
 pub record World : Type 0 where
@@ -107,7 +111,7 @@ no_calls = record { root = 0; first = 0; second = 0; spool = 0 }
 abbrev pub new_calls : Calls
 new_calls = record no_calls { first = 6 }
 
--- a host that was formatted and booted, by which its state stayed the same
+-- a host that was formatted and booted, each of which is one record, and by which its state stayed the same
 abbrev pub new_host : List Bytes → ℕ → Host
 new_host site place = let s = formatted (record { 0 = place }) site in record {
   up = true;
@@ -115,8 +119,9 @@ new_host site place = let s = formatted (record { 0 = place }) site in record {
   told = s ∷ [];
   tear = Old;
   fuses = no_fuses;
-  calls =
-      new_calls;
+  calls = new_calls;
+  root = [];
+  records = 2;
 }
 
 -- new hosts of the site from a place on
@@ -183,26 +188,91 @@ spool_calls [] = 0
 spool_calls ([] ∷ puts) = spool_calls puts
 spool_calls ((b ∷ bs) ∷ puts) = 2 + spool_calls puts
 
--- the spool's calls come first, then the four of the journal
-abbrev pub fate : List Bytes → Host → Fate
-fate puts h =
+-- the fuse of a disk
+abbrev pub fuse_of : Which → Fuses → Option ℕ
+fuse_of Root f = f.root
+fuse_of First f = f.first
+fuse_of Second f = f.second
+fuse_of Spool f = f.spool
+
+-- the fuses after so many calls of a disk
+abbrev pub burnt_at : Which → ℕ → Fuses → Fuses
+burnt_at Root n f = record f { root = burnt n f.root }
+burnt_at First n f = record f { first = burnt n f.first }
+burnt_at Second n f = record f { second = burnt n f.second }
+burnt_at Spool n f = record f { spool = burnt n f.spool }
+
+-- so many calls more of a disk
+abbrev pub called : Which → ℕ → Calls → Calls
+called Root n c = record c { root = c.root + n }
+called First n c = record c { first = c.first + n }
+called Second n c = record c { second = c.second + n }
+called Spool n c = record c { spool = c.spool + n }
+
+-- a host whose disk made so many calls more
+abbrev pub calling : Which → ℕ → Host → Host
+calling disk n h = record h { fuses = burnt_at disk n h.fuses; calls = called disk n h.calls }
+
+-- A host that made a checkpoint: two calls of the other journal's disk and two of the root. The other journal is active, without
+-- a record.
+abbrev pub turns_over : Host → Host
+turns_over h = record (calling Root 2 (calling (resting h.root) 2 h)) { root = turned h.root; records = 0 }
+
+-- a host that made a checkpoint where one was due, and goes on to the calls of a change
+abbrev pub ready : Host → Host
+ready h = if is_due h.records then turns_over h else h
+
+-- a fuse falls among a checkpoint's calls of the other journal
+abbrev pub falls_at_journal : Host → Bool
+falls_at_journal h = falls (fuse_of (resting h.root) h.fuses) 2
+
+-- a fuse falls among a checkpoint's calls of the root
+abbrev pub falls_at_root : Host → Bool
+falls_at_root h = falls h.fuses.root 2
+
+-- how a change without a checkpoint ends: the spool's calls come first, then the four of the active journal
+abbrev pub fate_of_record : List Bytes → Host → Fate
+fate_of_record puts h =
+    let fuse = fuse_of (active h.root) h.fuses in
     if falls h.fuses.spool (spool_calls puts) then StoppedBefore
-    else (if falls h.fuses.first 4 then (if falls_at_gate h.fuses.first && keeps_gate h.tear then StoppedAfter else StoppedBefore) else Made)
+    else (if falls fuse 4 then (if falls_at_gate fuse && keeps_gate h.tear then StoppedAfter else StoppedBefore) else Made)
+
+-- how a change ends: the calls of a checkpoint come before its own, where one is due
+abbrev pub fate : List Bytes → Host → Fate
+fate puts h = if is_due h.records && (falls_at_journal h || falls_at_root h) then StoppedBefore else fate_of_record puts (ready h)
+
+-- A host whose root was torn in a checkpoint. Where it names the other journal, that one has no record.
+abbrev pub torn_over : Host → Host
+torn_over h = record h { root = torn_root h.tear h.root; records = if names_same h.root (torn_root h.tear h.root) then h.records else 0 }
+
+-- what a stop before its change was kept leaves of a host's root and records
+abbrev pub cut_off : Host → Host
+cut_off h = if not (is_due h.records) || falls_at_journal h then h else (if falls_at_root h then torn_over h else turns_over h)
+
+-- a host with one record more
+abbrev pub recorded : Host → Host
+recorded h = record h { records = h.records + 1 }
 
 -- a host that stopped with this state on its disks: it is down, and its fuses are gone
 abbrev pub stopped : Plain → Host → Host
-stopped s h = record { up = false; state = s; told = []; tear = h.tear; fuses = no_fuses; calls = no_calls }
+stopped s h = record {
+  up = false;
+  state = s;
+  told = [];
+  tear = h.tear;
+  fuses = no_fuses;
+  calls = no_calls;
+  root = h.root;
+  records = h.records;
+}
+
+-- a host that made the calls of a change, of which the spool's two for each list of bytes and the journal's four
+abbrev pub wrote : List Bytes → Host → Host
+wrote puts h = recorded (calling (active h.root) 4 (calling Spool (spool_calls puts) h))
 
 -- a host that kept a change: its state is the new one, and its disks made the calls that keep it
 abbrev pub used : List Bytes → Plain → Host → Host
-used puts s h = record {
-  up = true;
-  state = s;
-  told = h.state ∷ h.told;
-  tear = h.tear;
-  fuses = record { root = h.fuses.root; first = burnt 4 h.fuses.first; second = h.fuses.second; spool = burnt (spool_calls puts) h.fuses.spool };
-  calls = record { root = h.calls.root; first = h.calls.first + 4; second = h.calls.second; spool = h.calls.spool + spool_calls puts };
-}
+used puts s h = let w = wrote puts (ready h) in record w { up = true; state = s; told = h.state ∷ h.told }
 
 -- what is seen
 
@@ -272,8 +342,8 @@ emits h (o ∷ os) w = then_seen (seen_output h (next_number w) o) (emits h os (
 -- a host makes a change, or stops before or after it was kept
 abbrev pub change_fated : Fate → HostId → Host → Change Bytes → List Seen → List Output → World → Ran
 change_fated Made h host c first os w = then_seen first (emits h os (put_host h (used (stored_parts c) (applied c host.state) host) w))
-change_fated StoppedBefore h host c first os w = seeing (seen.Stop h) (put_host h (stopped host.state host) w)
-change_fated StoppedAfter h host c first os w = seeing (seen.Stop h) (put_host h (stopped (applied c host.state) host) w)
+change_fated StoppedBefore h host c first os w = seeing (seen.Stop h) (put_host h (stopped host.state (cut_off host)) w)
+change_fated StoppedAfter h host c first os w = seeing (seen.Stop h) (put_host h (stopped (applied c host.state) (recorded (ready host))) w)
 
 -- a host makes a change, which is seen first, and then come the outputs; a stop is all that is seen of it
 abbrev pub makes_change : HostId → Host → Change Bytes → List Seen → List Output → World → Ran

@@ -11,3 +11,5 @@ mod Sendable
 mod Ending
 mod Known
 pub mod Moments
+mod Sorting
+mod Sampled

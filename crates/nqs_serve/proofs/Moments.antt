@@ -9,7 +9,6 @@ use Rattle.nqs_state.specs.State.{Plain}
 use Rattle.nqs_types.specs.declared.change.Change.{Change}
 use Rattle.nqs_types.specs.declared.event.Event.{Event}
 use Rattle.nqs_types.specs.declared.world.Which.{Which}
-use Rattle.nqs_types.specs.declared.world.Which.TheVariants.{First, Spool}
 use Rattle.nqs_rules.specs.Applied.{applied}
 use Rattle.nqs_rules.specs.Start.{start}
 use Rattle.nqs_rules.specs.Starts.{after_change, after_starts, after_step, starts}
@@ -19,17 +18,18 @@ use Rattle.nqs_outside.specs.Asked.{Arrival}
 use Rattle.nqs_outside.specs.History.{Call, History, extended, state, after as after_calls, IsImage}
 use Rattle.nqs_outside.specs.declared.disk.Disk as disk
 use Rattle.nqs_outside.proofs.Histories.{after-append, state-extended, goes_on}
+use Rattle.nqs_store.specs.Active.{Active, ready, recorded}
 use Rattle.nqs_store.specs.Commits.{EachImage, Keeping}
 use Rattle.nqs_store.specs.Hosts.{HostCall, same_disk, part, Runs, EachPrefix}
 use Rattle.nqs_store.specs.Images.{IsTold, TellsOneOf}
 use Rattle.nqs_store.proofs.Runs.{none_more}
-use Rattle.nqs_store.proofs.TellsNow.{told_now}
-use Rattle.nqs_node.specs.Carried.{Kept, IsOneOrOther, started}
-use Rattle.nqs_node.specs.Nodes.{content_of, history_of}
+use Rattle.nqs_node.specs.Carried.{Kept, after_kept, IsOneOrOther, started}
+use Rattle.nqs_node.specs.Nodes.{active_of, content_of, history_of}
 use Rattle.nqs_node.specs.declared.node.Node.{Node}
+use Rattle.nqs_node.proofs.Nothing.{told_images}
 use Rattle.nqs_serve.specs.Ends.{IsBetween, IsWithin}
 use Rattle.nqs_serve.specs.Events.{Here, event_in}
-use Rattle.nqs_serve.specs.Moments.{TellsThroughout, IsOfCommits, AreOfCommits, joined, IsAmid, IsPassed}
+use Rattle.nqs_serve.specs.Moments.{TellsTo, IsOfCommits, AreOfCommits, behind, joined, IsAmid, IsPassed}
 use Rattle.nqs_serve.specs.Nodes.{Knows}
 use Rattle.nqs_serve.specs.Runs.{Act, received, took, Turn, turn, idle, Outcome, brought_back, event_back, take_next, after, moments}
 use Rattle.nqs_serve.specs.Steps.{after_event}
@@ -88,61 +88,79 @@ joined-append : (xs ys : List (List HostCall)) → joined (xs ++ ys) ≡ joined 
 joined-append [] ys = refl
 joined-append (calls ∷ xs) ys = ap (λ (l : List HostCall). calls ++ l) (joined-append xs ys) ∙ sym (append_assoc calls (joined xs) (joined ys))
 
-commits_then : (xs ys : List (List HostCall)) → AreOfCommits xs → AreOfCommits ys → AreOfCommits (xs ++ ys)
-commits_then [] ys one two = two
-commits_then (calls ∷ xs) ys one two = (one.0, commits_then xs ys one.1 two)
+commits_then : (a : Active) (xs ys : List (List HostCall)) → AreOfCommits a xs → AreOfCommits (behind xs a) ys → AreOfCommits a (xs ++ ys)
+commits_then a [] ys one two = two
+commits_then a (calls ∷ xs) ys one two = (one.0, commits_then (recorded (ready a)) xs ys one.1 two)
 
-made_then : (xs ys : List HostCall) → IsOfCommits xs → IsOfCommits ys → IsOfCommits (xs ++ ys)
-made_then xs ys one two = (
+behind-append : (a : Active) (xs ys : List (List HostCall)) → behind (xs ++ ys) a ≡ behind ys (behind xs a)
+behind-append a [] ys = refl
+behind-append a (calls ∷ xs) ys = behind-append (recorded (ready a)) xs ys
+
+made_then : (from mid to : Active) (xs ys : List HostCall) → IsOfCommits from mid xs → IsOfCommits mid to ys → IsOfCommits from to (xs ++ ys)
+made_then from mid to xs ys one two = (
   one.0 ++ two.0,
   ap (λ (l : List HostCall). l ++ ys) one.1 ∙ ap (λ (l : List HostCall). joined one.0 ++ l) two.1 ∙ sym (joined-append one.0 two.0),
-  commits_then one.0 two.0 one.2 two.2,
+  commits_then from one.0 two.0 one.2 (subst (λ a. AreOfCommits a two.0) (sym one.3) two.2),
+  behind-append from one.0 two.0 ∙ ap (behind two.0) one.3 ∙ two.3,
 )
 
 -- no call
-none_made : IsOfCommits []
-none_made = ([], refl, tt)
+none_made : (a : Active) → IsOfCommits a a []
+none_made a = ([], refl, tt, refl)
 
 -- those of one change
-of_keeping : (c : Change (List ℕ)) (old now : Which → History) (s : Plain) (k : Keeping (stored_parts c) old now s (applied c s)) → IsOfCommits k.run
-of_keeping c old now s k = (
+of_keeping : (a : Active) (c : Change (List ℕ)) (old now : Which → History) (s : Plain) (k : Keeping a (stored_parts c) old now s (applied c s))
+    → IsOfCommits a (recorded (ready a)) k.run
+of_keeping a c old now s k = (
   k.run ∷ [],
   sym (append-nil k.run),
-  ((k.places, stored_parts c, k.gate, k.payload, k.many, k.begun), tt),
+  ((k.snapshot, k.places, stored_parts c, k.gate, k.payload, k.many, k.begun), tt),
+  refl,
 )
 
 -- what the disks tell, one run after the other
 
 module _ {D : Type 0} {g : disk.Ghosts D} where
-  pub through_none : (node : Node D g) (s : Plain) (P : Plain → Type 0) → Knows node s → P s → TellsThroughout (history_of node) (history_of node) P
+  pub through_none : (node : Node D g) (s : Plain) (P : Plain → Type 0) → Knows node s → P s
+      → TellsTo (active_of node) (active_of node) (history_of node) (history_of node) P
   through_none node s P knows has =
-      let told = subst (λ (t : Plain). EachImage (history_of node) (λ images. IsTold (images First) (images Spool) t)) knows.1.is
-      (told_now node.store (content_of node) knows.0 knows.1.told) in
-      let all : EachImage (history_of node) (λ images. (u : Plain) × IsTold (images First) (images Spool) u × P u) =
-      λ images leaves. (s, told images leaves, has) in
-      ([], none_made, λ which. none_more (history_of node which), each_none (history_of node) _ all)
+      let told = subst (λ (t : Plain). EachImage (history_of node) (λ images. IsTold images t)) knows.1.is
+      (told_images node.store (content_of node) knows.0 knows.1.told) in
+      let all : EachImage (history_of node) (λ images. (u : Plain) × IsTold images u × P u) = λ images leaves. (s, told images leaves, has) in
+      ([], none_made (active_of node), λ which. none_more (history_of node which), each_none (history_of node) _ all)
 
 -- of two states one is told, and each has P
-told_either : (s u : Plain) (P : Plain → Type 0) → P s → P u → (images : Which → List ℕ) → TellsOneOf s u (images First) (images Spool)
-    → (v : Plain) × IsTold (images First) (images Spool) v × P v
+told_either : (s u : Plain) (P : Plain → Type 0) → P s → P u → (images : Which → List ℕ) → TellsOneOf s u images
+    → (v : Plain) × IsTold images v × P v
 told_either s u P before later images (inl told) = (s, told, before)
 told_either s u P before later images (inr told) = (u, told, later)
 
-pub through_change : (old now : Which → History) (kept : Kept) (s : Plain) (P : Plain → Type 0) → IsOneOrOther old now kept s → P s → P (after_change kept s)
-    → TellsThroughout old now P
-through_change old now None s P still before later =
-    ([], none_made, λ which. still.0 which ∙ none_more (old which), each_none old _ (λ images leaves. (s, still.1 images leaves, before)))
-through_change old now (Some c) s P keeping before later =
-    (keeping.run, of_keeping c old now s keeping, keeping.made, λ j images le leaves. told_either s (applied c s) P before later images (keeping.told j images le leaves))
+pub through_change : (a : Active) (old now : Which → History) (kept : Kept) (s : Plain) (P : Plain → Type 0) → IsOneOrOther a old now kept s → P s
+    → P (after_change kept s) → TellsTo a (after_kept kept a) old now P
+through_change a old now None s P still before later =
+    ([], none_made a, λ which. still.0 which ∙ none_more (old which), each_none old _ (λ images leaves. (s, still.1 images leaves, before)))
+through_change a old now (Some c) s P keeping before later = (
+  keeping.run,
+  of_keeping a c old now s keeping,
+  keeping.made,
+  λ j images le leaves. told_either s (applied c s) P before later images (keeping.told j images le leaves),
+)
 
-pub through_as : (old now : Which → History) (P Q : Plain → Type 0) → ((u : Plain) → P u → Q u) → TellsThroughout old now P → TellsThroughout old now Q
-through_as old now P Q f each =
+-- the same, to the journal that is active then
+pub through_made : (a b : Active) (old now : Which → History) (kept : Kept) (s : Plain) (P : Plain → Type 0) → b ≡ after_kept kept a
+    → IsOneOrOther a old now kept s → P s → P (after_change kept s) → TellsTo a b old now P
+through_made a b old now kept s P active keeping before later =
+    subst (λ x. TellsTo a x old now P) (sym active) (through_change a old now kept s P keeping before later)
+
+pub through_as : (a b : Active) (old now : Which → History) (P Q : Plain → Type 0) → ((u : Plain) → P u → Q u) → TellsTo a b old now P → TellsTo a b old now Q
+through_as a b old now P Q f each =
     (each.0, each.1, each.2, λ j images le leaves. let told = each.3 j images le leaves in (told.0, told.1, f told.0 told.2))
 
-pub through_then : (old mid now : Which → History) (P : Plain → Type 0) → TellsThroughout old mid P → TellsThroughout mid now P → TellsThroughout old now P
-through_then old mid now P one two = (
+pub through_then : (a b c : Active) (old mid now : Which → History) (P : Plain → Type 0) → TellsTo a b old mid P → TellsTo b c mid now P
+    → TellsTo a c old now P
+through_then a b c old mid now P one two = (
   one.0 ++ two.0,
-  made_then one.0 two.0 one.1 two.1,
+  made_then a b c one.0 two.0 one.1 two.1,
   runs_then old mid now one.0 two.0 one.2 two.2,
   each_then old mid now one.0 two.0 one.2 two.2 _ one.3 two.3,
 )
@@ -191,13 +209,13 @@ module _ (here : Here) where
   )
 
   -- a run after a run
-  pub through_run : (old mid now : Which → History) (t v : Turn) (xs ys : List Act) (more : List ℕ) → after here t xs ≡ v
-      → TellsThroughout old mid (IsPassed here t xs []) → TellsThroughout mid now (IsPassed here v ys more)
-      → TellsThroughout old now (IsPassed here t (xs ++ ys) more)
-  through_run old mid now t v xs ys more leads one two =
-      through_then old mid now (IsPassed here t (xs ++ ys) more) (through_as old mid (IsPassed here t xs []) (IsPassed here t (xs ++ ys) more)
+  pub through_run : (a b c : Active) (old mid now : Which → History) (t v : Turn) (xs ys : List Act) (more : List ℕ) → after here t xs ≡ v
+      → TellsTo a b old mid (IsPassed here t xs []) → TellsTo b c mid now (IsPassed here v ys more)
+      → TellsTo a c old now (IsPassed here t (xs ++ ys) more)
+  through_run a b c old mid now t v xs ys more leads one two =
+      through_then a b c old mid now (IsPassed here t (xs ++ ys) more) (through_as a b old mid (IsPassed here t xs []) (IsPassed here t (xs ++ ys) more)
       (passed_front t xs ys more) one)
-      (through_as mid now (IsPassed here v ys more) (IsPassed here t (xs ++ ys) more) (λ u. passed_back t v xs ys more u leads) two)
+      (through_as b c mid now (IsPassed here v ys more) (IsPassed here t (xs ++ ys) more) (λ u. passed_back t v xs ys more u leads) two)
 
   -- the next event that waits
   passed_took : (t : Turn) (e : Event) (es : List Event) (m : ℕ) (os : List Outcome) (u : Plain) → t.waits ≡ e ∷ es → IsWithin m e t.state u
@@ -212,49 +230,49 @@ waits_are : (e : Event) (x : Comeback) (queue rest : List Comeback) → queue �
 waits_are e x queue rest split is = ap (map event_back) split ∙ ap (λ v. v ∷ map event_back rest) (sym is)
 
 -- the next of them was taken
-pub through_took_back : (here : Here) (old mid now : Which → History) (start : Turn) (acts : List Act) (u : Plain) (e : Event) (x : Comeback)
+pub through_took_back : (here : Here) (a b c : Active) (old mid now : Which → History) (start : Turn) (acts : List Act) (u : Plain) (e : Event) (x : Comeback)
     (queue rest : List Comeback) (m : ℕ) (os : List Outcome)
     → queue ≡ x ∷ rest → e ≡ event_back x → after here start acts ≡ turn u (map event_back queue)
-    → TellsThroughout old mid (IsPassed here start acts []) → TellsThroughout mid now (IsWithin m e u)
-    → TellsThroughout old now (IsPassed here start (acts ++ took m os ∷ []) [])
-through_took_back here old mid now start acts u e x queue rest m os split is leads one two =
+    → TellsTo a b old mid (IsPassed here start acts []) → TellsTo b c mid now (IsWithin m e u)
+    → TellsTo a c old now (IsPassed here start (acts ++ took m os ∷ []) [])
+through_took_back here a b c old mid now start acts u e x queue rest m os split is leads one two =
     let v = turn u (map event_back queue) in
-    through_run here old mid now start v acts (took m os ∷ []) [] leads one
-    (through_as mid now (IsWithin m e u) (IsPassed here v (took m os ∷ []) [])
+    through_run here a b c old mid now start v acts (took m os ∷ []) [] leads one
+    (through_as b c mid now (IsWithin m e u) (IsPassed here v (took m os ∷ []) [])
     (λ w. passed_took here v e (map event_back rest) m os w (waits_are e x queue rest split is)) two)
 
 -- it was cut off
-pub through_cut_back : (here : Here) (old mid now : Which → History) (start : Turn) (acts : List Act) (u : Plain) (e : Event) (x : Comeback)
+pub through_cut_back : (here : Here) (a b c : Active) (old mid now : Which → History) (start : Turn) (acts : List Act) (u : Plain) (e : Event) (x : Comeback)
     (queue rest : List Comeback) (m : ℕ)
     → queue ≡ x ∷ rest → e ≡ event_back x → after here start acts ≡ turn u (map event_back queue)
-    → TellsThroughout old mid (IsPassed here start acts []) → TellsThroughout mid now (IsWithin m e u)
-    → TellsThroughout old now (IsPassed here start (acts ++ []) (m ∷ []))
-through_cut_back here old mid now start acts u e x queue rest m split is leads one two =
+    → TellsTo a b old mid (IsPassed here start acts []) → TellsTo b c mid now (IsWithin m e u)
+    → TellsTo a c old now (IsPassed here start (acts ++ []) (m ∷ []))
+through_cut_back here a b c old mid now start acts u e x queue rest m split is leads one two =
     let v = turn u (map event_back queue) in
-    through_run here old mid now start v acts [] (m ∷ []) leads one
-    (through_as mid now (IsWithin m e u) (IsPassed here v [] (m ∷ [])) (λ w. passed_cut here v e (map event_back rest) m w
+    through_run here a b c old mid now start v acts [] (m ∷ []) leads one
+    (through_as b c mid now (IsWithin m e u) (IsPassed here v [] (m ∷ [])) (λ w. passed_cut here v e (map event_back rest) m w
     (waits_are e x queue rest split is)) two)
 
 -- the event that a receive brought was cut off
-pub through_cut_turn : (here : Here) (old now : Which → History) (arrival : Arrival) (m : ℕ) (s : Plain) (e : Event) → Some e ≡ event_in here arrival
-    → TellsThroughout old now (IsWithin m e s) → TellsThroughout old now (IsPassed here (idle s) (received arrival ∷ []) (m ∷ []))
-through_cut_turn here old now arrival m s e some =
-    through_as old now (IsWithin m e s) (IsPassed here (idle s) (received arrival ∷ []) (m ∷ []))
+pub through_cut_turn : (here : Here) (a b : Active) (old now : Which → History) (arrival : Arrival) (m : ℕ) (s : Plain) (e : Event) → Some e ≡ event_in here arrival
+    → TellsTo a b old now (IsWithin m e s) → TellsTo a b old now (IsPassed here (idle s) (received arrival ∷ []) (m ∷ []))
+through_cut_turn here a b old now arrival m s e some =
+    through_as a b old now (IsWithin m e s) (IsPassed here (idle s) (received arrival ∷ []) (m ∷ []))
     (λ u within. (received arrival ∷ [], [], refl, inr (e, [], m, [], ap option_to_list (sym some), refl, within)))
 
 -- a receive, its event, and those that came back of it
-pub through_turn : (here : Here) (old mid now : Which → History) (arrival : Arrival) (m : ℕ) (os : List Outcome) (acts : List Act) (s : Plain) (e : Event)
+pub through_turn : (here : Here) (a b c : Active) (old mid now : Which → History) (arrival : Arrival) (m : ℕ) (os : List Outcome) (acts : List Act) (s : Plain) (e : Event)
     (was back : List Comeback) (more : List ℕ)
     → Some e ≡ event_in here arrival → was ≡ [] → back ≡ was ++ brought_back os
-    → TellsThroughout old mid (IsWithin m e s) → TellsThroughout mid now (IsPassed here (turn (after_event m e s) (map event_back back)) acts more)
-    → TellsThroughout old now (IsPassed here (idle s) (received arrival ∷ took m os ∷ acts) more)
-through_turn here old mid now arrival m os acts s e was back more some empty grown one two =
+    → TellsTo a b old mid (IsWithin m e s) → TellsTo b c mid now (IsPassed here (turn (after_event m e s) (map event_back back)) acts more)
+    → TellsTo a c old now (IsPassed here (idle s) (received arrival ∷ took m os ∷ acts) more)
+through_turn here a b c old mid now arrival m os acts s e was back more some empty grown one two =
     let v = turn (after_event m e s) (map event_back back) in
     let back_is : back ≡ brought_back os = grown ∙ ap (λ (l : List Comeback). l ++ brought_back os) empty in
     let leads : after here (idle s) (received arrival ∷ took m os ∷ []) ≡ v =
     ap (λ (o : Option Event). take_next m os (option_to_list o) s) (sym some)
     ∙ ap (λ (q : List Comeback). turn (after_event m e s) (map event_back q)) (sym back_is) in
-    through_run here old mid now (idle s) v (received arrival ∷ took m os ∷ []) acts more leads
-    (through_as old mid (IsWithin m e s) (IsPassed here (idle s) (received arrival ∷ took m os ∷ []) [])
+    through_run here a b c old mid now (idle s) v (received arrival ∷ took m os ∷ []) acts more leads
+    (through_as a b old mid (IsWithin m e s) (IsPassed here (idle s) (received arrival ∷ took m os ∷ []) [])
     (λ u within. (received arrival ∷ [], took m os ∷ [], refl, inr (e, [], m, [], ap option_to_list (sym some), refl, within))) one)
     two

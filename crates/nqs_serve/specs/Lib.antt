@@ -6,3 +6,5 @@ pub mod Runs
 pub mod Ends
 pub mod Moments
 pub mod Nodes
+pub mod Sorted
+pub mod Samples

@@ -3,8 +3,8 @@ use Rattle.std.specs.Prelude.{◌≡◌, ◌⊎◌, ℕ, List, [], ◌∷◌, �
 use Rattle.nqs_state.specs.State.{Plain}
 use Rattle.nqs_types.specs.declared.event.Event.{Event}
 use Rattle.nqs_types.specs.declared.world.Which.{Which}
-use Rattle.nqs_types.specs.declared.world.Which.TheVariants.{First, Spool}
 use Rattle.nqs_outside.specs.History.{History}
+use Rattle.nqs_store.specs.Active.{Active, ready, recorded}
 use Rattle.nqs_store.specs.Commits.{IsBegun}
 use Rattle.nqs_store.specs.Hosts.{HostCall, Runs, EachPrefix}
 use Rattle.nqs_store.specs.Images.{IsTold}
@@ -13,30 +13,39 @@ use Rattle.nqs_serve.specs.Ends.{IsWithin}
 use Rattle.nqs_serve.specs.Events.{Here}
 use Rattle.nqs_serve.specs.Runs.{Act, Turn, after, moments}
 
--- the calls of a commit of some bytes, in their order over all disks, or the first of them
-abbrev pub IsOfACommit : List HostCall → Type 0
-IsOfACommit calls =
-    (places : List ℕ) × (puts : List (List ℕ)) × (gate : ℕ) × (payload : List ℕ) × (length places ≡ length puts)
-    × IsBegun (commit_calls places puts gate payload) calls
+-- the calls of a commit of some bytes where this journal is active, in their order over all disks, or the first of them
+abbrev pub IsOfACommit : Active → List HostCall → Type 0
+IsOfACommit a calls =
+    (snapshot places : List ℕ) × (puts : List (List ℕ)) × (gate : ℕ) × (payload : List ℕ) × (length places ≡ length puts)
+    × IsBegun (commit_calls a snapshot places puts gate payload) calls
 
--- each of these lists of calls is that of a commit
-abbrev pub AreOfCommits : List (List HostCall) → Type 0
-AreOfCommits [] = Unit {0}
-AreOfCommits (calls ∷ parts) = IsOfACommit calls × AreOfCommits parts
+-- each of these lists of calls is that of a commit, which goes on in the journal that those before it left active
+abbrev pub AreOfCommits : Active → List (List HostCall) → Type 0
+AreOfCommits a [] = Unit {0}
+AreOfCommits a (calls ∷ parts) = IsOfACommit a calls × AreOfCommits (recorded (ready a)) parts
+
+-- the active journal behind these commits
+abbrev pub behind : List (List HostCall) → Active → Active
+behind [] a = a
+behind (calls ∷ parts) a = behind parts (recorded (ready a))
 
 -- lists of calls one after the other
 abbrev pub joined : List (List HostCall) → List HostCall
 joined [] = []
 joined (calls ∷ parts) = calls ++ joined parts
 
--- a run that is made of the calls of commits, one after the other
-abbrev pub IsOfCommits : List HostCall → Type 0
-IsOfCommits run = (parts : List (List HostCall)) × (run ≡ joined parts) × AreOfCommits parts
+-- a run that is made of the calls of commits, one after the other, from one active journal to another
+abbrev pub IsOfCommits : (from to : Active) → List HostCall → Type 0
+IsOfCommits from to run = (parts : List (List HostCall)) × (run ≡ joined parts) × AreOfCommits from parts × (behind parts from ≡ to)
 
 -- the calls are those of commits, and whatever images the disks may leave at a moment of them, they tell a state that has P
-abbrev pub TellsThroughout : (old now : Which → History) → (Plain → Type 0) → Type 0
-TellsThroughout old now P =
-    (run : List HostCall) × IsOfCommits run × Runs old now run × EachPrefix old run (λ images. (u : Plain) × IsTold (images First) (images Spool) u × P u)
+abbrev pub TellsTo : (from to : Active) → (old now : Which → History) → (Plain → Type 0) → Type 0
+TellsTo from to old now P =
+    (run : List HostCall) × IsOfCommits from to run × Runs old now run × EachPrefix old run (λ images. (u : Plain) × IsTold images u × P u)
+
+-- the same, to whatever active journal
+abbrev pub TellsThroughout : Active → (old now : Which → History) → (Plain → Type 0) → Type 0
+TellsThroughout a old now P = (to : Active) × TellsTo a to old now P
 
 -- the state of a turn, or, where a moment was read for the next event that waits, one on the way to the state after it
 abbrev pub IsAmid : Turn → List ℕ → Plain → Type 0

@@ -4,14 +4,14 @@ ghost use Rattle.std.specs.Prelude.{◌≡◌, ◌⊎◌, ◌≤◌, ◌<◌, �
 ghost use Rattle.nqs_state.specs.State.{Plain};
 ghost use Rattle.nqs_types.specs.declared.world.Which.{Which};
 ghost use Rattle.nqs_outside.specs.Causes.{Rose};
-ghost use Rattle.nqs_node.specs.Nodes.{content_of, disk_of, history_of, is_stopped, Tells};
+ghost use Rattle.nqs_node.specs.Nodes.{active_of, content_of, disk_of, history_of, is_stopped, Tells};
 ghost use Rattle.nqs_records.specs.Values.{IsHost};
 ghost use Rattle.nqs_store.specs.Sound.{IsSoundHost};
 ghost use Rattle.nqs_serve.specs.Events.{Here};
 ghost use Rattle.nqs_serve.specs.Runs.{Act, Turn, idle, telling, Ran};
 ghost use Rattle.nqs_serve.specs.Nodes.{Knows, here_of};
 ghost use Rattle.nqs_serve.specs.Ends.{Ends, stops, fault_of, end_of};
-ghost use Rattle.nqs_serve.specs.Moments.{TellsThroughout, IsPassed};
+ghost use Rattle.nqs_serve.specs.Moments.{TellsTo, TellsThroughout, IsPassed};
 
 use crate::comeback::Comeback;
 use crate::cut::Cut;
@@ -99,14 +99,14 @@ fn turn<D: Disk, W: Wire, L: Launcher, P: Printer, O: Outlet, C: Clock>(
         × Ran here acts (idle s) (idle u) []
         (telling (W.received wire.old) (W.sent wire.old) (L.asked launcher.old) (P.prints printer.old) (O.filings outlet.old) (C.given clock.old))
         (telling (W.received wire.new) (W.sent wire.new) (L.asked launcher.new) (P.prints printer.new) (O.filings outlet.new) (C.given clock.new))
-        × TellsThroughout (history_of node.old) (history_of node.new) (IsPassed here (idle s) acts [])) }
+        × TellsTo (active_of node.old) (active_of node.new) (history_of node.old) (history_of node.new) (IsPassed here (idle s) acts [])) }
     ensures err { (s : Plain) (here : Here) → Knows node.old s → here ≡ record { me = me; site = (content_of node.old).site }
         → IfErr result (λ fault. (acts : List Act) × (t : Turn) × (more : List ℕ)
         × Ran here acts (idle s) t more
         (telling (W.received wire.old) (W.sent wire.old) (L.asked launcher.old) (P.prints printer.old) (O.filings outlet.old) (C.given clock.old))
         (telling (W.received wire.new) (W.sent wire.new) (L.asked launcher.new) (P.prints printer.new) (O.filings outlet.new) (C.given clock.new))
         × Ends (end_of fault) 1 (stops here (idle s) acts) t more node.new
-        × TellsThroughout (history_of node.old) (history_of node.new) (IsPassed here (idle s) acts more)) }
+        × TellsThroughout (active_of node.old) (history_of node.old) (history_of node.new) (IsPassed here (idle s) acts more)) }
     ensures wire_fault { IsErrOf result Fault.Wire → Rose (W.receive_faults wire.old) (W.receive_faults wire.new) }
     ensures disk_fault { IsErrOf result Fault.Disk → IsTrue (is_stopped node.new)
         × ((which : Which) × Rose (D.faults (disk_of which node.old)) (D.faults (disk_of which node.new))) }
@@ -163,7 +163,7 @@ fn turns_in<D: Disk, W: Wire, L: Launcher, P: Printer, O: Outlet, C: Clock>(
         (telling (W.received wire.old) (W.sent wire.old) (L.asked launcher.old) (P.prints printer.old) (O.filings outlet.old) (C.given clock.old))
         (telling (W.received wire.new) (W.sent wire.new) (L.asked launcher.new) (P.prints printer.new) (O.filings outlet.new) (C.given clock.new))
         × Ends result turns (stops here (idle s) acts) t more node.new
-        × TellsThroughout (history_of node.old) (history_of node.new) (IsPassed here (idle s) acts more) }
+        × TellsThroughout (active_of node.old) (history_of node.old) (history_of node.new) (IsPassed here (idle s) acts more) }
     ensures wire_fault { result ≡ ServeEnd.WireFault → Rose (W.receive_faults wire.old) (W.receive_faults wire.new) }
     ensures disk_fault { result ≡ ServeEnd.DiskFault → IsTrue (is_stopped node.new)
         × ((which : Which) × Rose (D.faults (disk_of which node.old)) (D.faults (disk_of which node.new))) }
@@ -211,7 +211,7 @@ pub fn serve<D: Disk, W: Wire, L: Launcher, P: Printer, O: Outlet, C: Clock>(
         (telling (W.received wire.old) (W.sent wire.old) (L.asked launcher.old) (P.prints printer.old) (O.filings outlet.old) (C.given clock.old))
         (telling (W.received wire.new) (W.sent wire.new) (L.asked launcher.new) (P.prints printer.new) (O.filings outlet.new) (C.given clock.new))
         × Ends result turns (stops (here_of node.old) (idle s) acts) t more node.new
-        × TellsThroughout (history_of node.old) (history_of node.new) (IsPassed (here_of node.old) (idle s) acts more) }
+        × TellsThroughout (active_of node.old) (history_of node.old) (history_of node.new) (IsPassed (here_of node.old) (idle s) acts more) }
     ensures wire_fault { result ≡ ServeEnd.WireFault → Rose (W.receive_faults wire.old) (W.receive_faults wire.new) }
     ensures disk_fault { result ≡ ServeEnd.DiskFault → IsTrue (is_stopped node.new)
         × ((which : Which) × Rose (D.faults (disk_of which node.old)) (D.faults (disk_of which node.new))) }

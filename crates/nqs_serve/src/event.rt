@@ -7,20 +7,16 @@ ghost use Rattle.nqs_rules.specs.Plain.{map_state};
 ghost use Rattle.nqs_rules.specs.Sane.{is_sane_event};
 ghost use Rattle.nqs_rules.specs.World.{is_shutdown, shuts_down};
 ghost use Rattle.nqs_outside.specs.Asked.{came};
-ghost use Rattle.nqs_serve.specs.Events.{Here, line_in, command_of, are_of_site, is_for, event_by, event_of, event_in, at_moment};
+ghost use Rattle.nqs_serve.specs.Events.{Here, line_in, command_of, are_of_site, event_by, event_of, event_in, at_moment};
 ghost use Rattle.nqs_serve.specs.Sends.{is_right_event};
 
+use crate::sort::{Sorted, sort_datagram};
 use nqs_access::{may_command, rank};
-use nqs_lines::laws::{edits_are_sane, lists_and_deletions_are_sane, submissions_are_sane};
 use nqs_lines::{qdel_command, qmgr_command, qstat_command, qsub_command};
-use nqs_packets::{PacketFault, read_message};
 use nqs_state::HostState;
 use nqs_types::{Body, Command, Event, HostId, Message, RequestId, Tool};
 use nqs_values::{Bytes, Memory, Name};
 use std::alloc::Global;
-
-/// The longest datagram.
-const LONGEST: usize = 49_152;
 
 // The line of qmgr, which is its one word.
 fn line_in(words: &[Bytes]) -> &[u8]
@@ -51,8 +47,8 @@ fn command_of(
     }
 }
 
-// The hosts of its requests are of the site.
-fn are_of_site(hosts: usize, body: &Body) -> bool
+/// The hosts of its requests are of the site.
+pub(crate) fn are_of_site(hosts: usize, body: &Body) -> bool
     ensures { result ≡ are_of_site hosts body.now }
 {
     match body {
@@ -61,19 +57,6 @@ fn are_of_site(hosts: usize, body: &Body) -> bool
         Body::EndedAck { id, .. } => usize::from(id.host.0) < hosts,
         _ => true,
     }
-}
-
-// It is for this host, and speaks of hosts of the site.
-fn is_for(me: HostId, site: &[Name], message: &Message) -> bool
-    ensures { result ≡ is_for (record { me = me; site = site.now }) message.now }
-{
-    if me.0 != message.to.0 {
-        return false;
-    }
-    if usize::from(message.from.0) >= site.len() {
-        return false;
-    }
-    are_of_site(site.len(), &message.body)
 }
 
 // What a user asks for, with the moment 0.
@@ -104,8 +87,8 @@ fn ended(port: u16, id: RequestId, start: u16, status: u8, out: Bytes, err: Byte
     }
 }
 
-// The event of a message.
-fn event_of(alloc: Global, message: Message) -> Result<Option<Event>, Memory>
+/// The event of a message, with the moment 0, if it is one.
+pub(crate) fn event_of(alloc: Global, message: Message) -> Result<Option<Event>, Memory>
     ensures { IfOk result (λ event. event ≡ event_of message) }
 {
     let Message { from, to, body } = message;
@@ -139,7 +122,7 @@ fn event_of(alloc: Global, message: Message) -> Result<Option<Event>, Memory>
     }
 }
 
-/// The event that a datagram is, if it is one.
+/// The event that a datagram is, with the moment 0, if it is one.
 pub(crate) fn event_in(
     alloc: Global,
     me: HostId,
@@ -150,22 +133,10 @@ pub(crate) fn event_in(
     ensures sane { IfOk result (λ event. IfSome event (λ e. IsTrue (is_sane_event (length site.now) e))) }
     ensures right { IfOk result (λ event. IfSome event (λ e. IsTrue (is_right_event (length site.now) e))) }
 {
-    if bytes.len() > LONGEST {
-        return Ok(None);
-    }
-    submissions_are_sane();
-    edits_are_sane();
-    lists_and_deletions_are_sane();
-    match read_message(alloc, bytes) {
-        Err(PacketFault::Memory(memory)) => Err(memory),
-        Err(_) => Ok(None),
-        Ok(message) => {
-            if is_for(me, site, &message) {
-                event_of(alloc, message)
-            } else {
-                Ok(None)
-            }
-        }
+    match sort_datagram(alloc, site, me, 0, bytes) {
+        Ok(Sorted::Event(event)) => Ok(Some(event)),
+        Ok(Sorted::Ignored(_)) => Ok(None),
+        Err(memory) => Err(memory),
     }
 }
 

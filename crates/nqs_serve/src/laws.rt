@@ -1,10 +1,38 @@
-//! Laws of runs of the daemon. A caller cites one by calling it.
+//! Laws of runs of the daemon, and of how it sorts what comes. A caller cites one by calling it.
 
+ghost use Rattle.std.specs.Prelude.{◌≡◌, ℕ, [], ◌∷◌};
+ghost use Rattle.nqs_types.specs.declared.event.Event.TheVariants.{Arrived};
+ghost use Rattle.nqs_types.specs.declared.message.Body.TheVariants.{Done};
+ghost use Rattle.nqs_packets.specs.declared.fault.PacketFault.TheVariants.{Short};
 ghost use Rattle.nqs_serve.specs.Runs.{RunsAreFolds};
+ghost use Rattle.nqs_serve.specs.Sorted.{sorted, SortedOneWay, EventsAreTaken};
+ghost use Rattle.nqs_serve.specs.Samples.{done_from, one_of_two};
+ghost use Rattle.nqs_serve.specs.declared.sort.IgnoreCause.TheVariants.{Unread, NotHere, Stranger};
+ghost use Rattle.nqs_serve.specs.declared.sort.Sorted.TheVariants.{Event, Ignored};
 
 /// Where no launch, print or file came back, the state after a run that leaves nothing waiting is
 /// the fold of the step and its starts over the events in what was received, with the moments that
 /// the clock gave, and what went out is just what goes out of these steps, in order.
 pub fn runs_are_folds()
     ensures { RunsAreFolds }
+{}
+
+/// Each datagram is sorted in one way, and in no other.
+pub fn datagrams_are_sorted_one_way()
+    ensures { SortedOneWay }
+{}
+
+/// A datagram is sorted as an event exactly where the daemon takes one of it, and as just that one.
+pub fn sorted_events_are_taken()
+    ensures { EventsAreTaken }
+{}
+
+/// DONE of handover 1 from host 1 to host 0, of two: an event there and nowhere else. From a host
+/// that the site doesn't have it is a stranger's; its first byte alone is short.
+pub fn a_datagram_by_hand()
+    ensures event { (now : ℕ) → sorted (one_of_two 0) now (done_from 1)
+        ≡ Event (Arrived now (record { from = record { 0 = 1 }; to = record { 0 = 0 }; body = Done 1 })) }
+    ensures elsewhere { (now : ℕ) → sorted (one_of_two 1) now (done_from 1) ≡ Ignored NotHere }
+    ensures stranger { (now : ℕ) → sorted (one_of_two 0) now (done_from 5) ≡ Ignored Stranger }
+    ensures cut { (now : ℕ) → sorted (one_of_two 0) now (1 ∷ []) ≡ Ignored (Unread (Short 1)) }
 {}

@@ -3,6 +3,7 @@
 //!
 //! A turn is a receive, the event that it brought, and the events that come back of what went out.
 //! `specs/Runs.antt` says what a run is, `specs/Events.antt` which event a datagram is,
+//! `specs/Sorted.antt` why one is none,
 //! `specs/Ends.antt` how a run ends.
 #![tactic(auto)]
 
@@ -15,8 +16,10 @@ pub mod laws;
 mod letter;
 mod receive;
 mod said;
+mod sort;
 mod take;
 mod text;
 
 pub use comeback::Comeback;
 pub use daemon::{ServeEnd, serve};
+pub use sort::{IgnoreCause, Sorted, sort_datagram};

@@ -1,6 +1,6 @@
 //! A node takes an event and starts what may start, and then what goes out is carried out.
 
-ghost use Rattle.std.specs.Prelude.{◌≡◌, ◌≤◌, ◌<◌, ◌+◌, ◌∷◌, ◌++◌, [], false, ℕ, List, IsTrue, OnOk, OnErr, IfOk, IsErrOf, length, map, is_some};
+ghost use Rattle.std.specs.Prelude.{◌≡◌, ◌≤◌, ◌<◌, ◌+◌, ◌∷◌, ◌++◌, [], false, ℕ, List, IsTrue, OnOk, OnErr, IfOk, IsErrOf, MatchResult, length, map, is_some};
 ghost use Rattle.std.specs.List.{flat_map};
 ghost use Rattle.nqs_values.specs.Want.{want};
 ghost use Rattle.nqs_state.specs.State.{Plain};
@@ -14,8 +14,8 @@ ghost use Rattle.nqs_rules.specs.Step.{step};
 ghost use Rattle.nqs_rules.specs.Stepped.{Stepped};
 ghost use Rattle.nqs_outside.specs.Causes.{Rose};
 ghost use Rattle.nqs_back.specs.Back.{comebacks, comes_back};
-ghost use Rattle.nqs_node.specs.Carried.{started, IsOneOrOther};
-ghost use Rattle.nqs_node.specs.Nodes.{content_of, disk_of, history_of, is_stopped};
+ghost use Rattle.nqs_node.specs.Carried.{started, after_kept, IsOneOrOther};
+ghost use Rattle.nqs_node.specs.Nodes.{active_of, content_of, disk_of, history_of, is_stopped};
 ghost use Rattle.nqs_node.specs.Reading.{AreShort};
 ghost use Rattle.nqs_records.specs.Values.{IsHost};
 ghost use Rattle.nqs_store.specs.Sound.{IsSoundHost};
@@ -25,7 +25,7 @@ ghost use Rattle.nqs_serve.specs.Runs.{Act, took, Outcome, Turn, turn, idle, out
 ghost use Rattle.nqs_serve.specs.Nodes.{Knows};
 ghost use Rattle.nqs_serve.specs.Sends.{is_right_event, AreRight};
 ghost use Rattle.nqs_serve.specs.Ends.{IsBetween, IsWithin, IsCut, IsCutAt};
-ghost use Rattle.nqs_serve.specs.Moments.{TellsThroughout, IsPassed};
+ghost use Rattle.nqs_serve.specs.Moments.{TellsTo, TellsThroughout, IsPassed};
 
 use crate::carry::carry;
 use crate::comeback::{Comeback, event_back};
@@ -58,7 +58,8 @@ fn take<D: Disk>(
     ensures told { (s : Plain) → Knows node.old s
         → OnOk result (Knows node.new (after_step (step event.now s) s) × (out.new.items ≡ out.old.items ++ said (step event.now s))) }
     ensures memory { (s : Plain) → Knows node.old s → IsErrOf result (Cut.Memory want) → Knows node.new s }
-    ensures moments { (s : Plain) → Knows node.old s → IsOneOrOther (history_of node.old) (history_of node.new) (step event.now s).change s }
+    ensures active { (s : Plain) → Knows node.old s → OnOk result (active_of node.new ≡ after_kept (step event.now s).change (active_of node.old)) }
+    ensures moments { (s : Plain) → Knows node.old s → IsOneOrOther (active_of node.old) (history_of node.old) (history_of node.new) (step event.now s).change s }
     ensures no_more { IsTrue (comes_back event.now) → OnOk result (starts_left (content_of node.new) ≤ starts_left (content_of node.old)) }
     ensures none_back { IsTrue (comes_back event.now) → OnOk result (comebacks out.new.items ≡ comebacks out.old.items) }
     ensures later { (which : Which) → D.faults (disk_of which node.old) ≤ D.faults (disk_of which node.new) }
@@ -93,7 +94,8 @@ fn start<D: Disk>(
     ensures told { (s : Plain) → Knows node.old s
         → OnOk result (Knows node.new (after_step (started now s) s) × (out.new.items ≡ out.old.items ++ said (started now s))) }
     ensures memory { (s : Plain) → Knows node.old s → IsErrOf result (Cut.Memory want) → Knows node.new s }
-    ensures moments { (s : Plain) → Knows node.old s → IsOneOrOther (history_of node.old) (history_of node.new) (started now s).change s }
+    ensures active { (s : Plain) → Knows node.old s → OnOk result (active_of node.new ≡ after_kept (started now s).change (active_of node.old)) }
+    ensures moments { (s : Plain) → Knows node.old s → IsOneOrOther (active_of node.old) (history_of node.old) (history_of node.new) (started now s).change s }
     ensures idle { IfOk result (λ more. more ≡ false → (content_of node.new ≡ content_of node.old) × (out.new.items ≡ out.old.items)) }
     ensures fewer { IfOk result (λ more. IsTrue more → starts_left (content_of node.new) < starts_left (content_of node.old)) }
     ensures one_back { OnOk result (comebacks out.new.items ≤ comebacks out.old.items + 1) }
@@ -129,7 +131,9 @@ fn settle<D: Disk>(
         → OnOk result (Knows node.new (after_starts (starts now s) s) × (out.new.items ≡ out.old.items ++ flat_map said (starts now s))) }
     ensures memory { (s : Plain) → Knows node.old s → IsErrOf result (Cut.Memory want)
         → (xs ys : List (Stepped (List ℕ))) × (starts now s ≡ xs ++ ys) × Knows node.new (after_starts xs s) }
-    ensures moments { (s : Plain) → Knows node.old s → TellsThroughout (history_of node.old) (history_of node.new) (IsBetween now s) }
+    ensures moments { (s : Plain) → Knows node.old s → MatchResult result
+        (λ _. TellsTo (active_of node.old) (active_of node.new) (history_of node.old) (history_of node.new) (IsBetween now s))
+        (λ _. TellsThroughout (active_of node.old) (history_of node.old) (history_of node.new) (IsBetween now s)) }
     ensures fewer { OnOk result (starts_left (content_of node.new) + comebacks out.new.items ≤ starts_left (content_of node.old) + comebacks out.old.items) }
     ensures later { (which : Which) → D.faults (disk_of which node.old) ≤ D.faults (disk_of which node.new) }
     ensures broken { IsErrOf result Cut.Disk → IsTrue (is_stopped node.new)
@@ -167,8 +171,9 @@ fn take_whole<D: Disk>(
         → OnOk result (Knows node.new (after_event now e s) × (out.new.items ≡ out.old.items ++ outputs now e s)) }
     ensures memory { (s : Plain) (e : Happening) → Knows node.old s → event.now ≡ at_moment now e → IsErrOf result (Cut.Memory want)
         → (u : Plain) × Knows node.new u × IsWithin now e s u }
-    ensures moments { (s : Plain) (e : Happening) → Knows node.old s → event.now ≡ at_moment now e
-        → TellsThroughout (history_of node.old) (history_of node.new) (IsWithin now e s) }
+    ensures moments { (s : Plain) (e : Happening) → Knows node.old s → event.now ≡ at_moment now e → MatchResult result
+        (λ _. TellsTo (active_of node.old) (active_of node.new) (history_of node.old) (history_of node.new) (IsWithin now e s))
+        (λ _. TellsThroughout (active_of node.old) (history_of node.old) (history_of node.new) (IsWithin now e s)) }
     ensures fewer { IsTrue (comes_back event.now)
         → OnOk result (starts_left (content_of node.new) + comebacks out.new.items ≤ starts_left (content_of node.old) + comebacks out.old.items) }
     ensures later { (which : Which) → D.faults (disk_of which node.old) ≤ D.faults (disk_of which node.new) }
@@ -210,13 +215,13 @@ pub(crate) fn take_event<D: Disk, W: Wire, L: Launcher, P: Printer, O: Outlet, C
         × Grew here (took m outcomes ∷ []) []
         (telling (W.received wire.old) (W.sent wire.old) (L.asked launcher.old) (P.prints printer.old) (O.filings outlet.old) (C.given clock.old))
         (telling (W.received wire.new) (W.sent wire.new) (L.asked launcher.new) (P.prints printer.new) (O.filings outlet.new) (C.given clock.new))
-        × TellsThroughout (history_of node.old) (history_of node.new) (IsWithin m event.old s)) }
+        × TellsTo (active_of node.old) (active_of node.new) (history_of node.old) (history_of node.new) (IsWithin m event.old s)) }
     ensures cut { (s : Plain) (here : Here) → Knows node.old s → here ≡ record { me = me; site = (content_of node.old).site }
         → OnErr result ((m : ℕ) × (IsErrOf result (Cut.Memory want) → (u : Plain) × Knows node.new u × IsWithin m event.old s u)
         × Grew here [] (m ∷ [])
         (telling (W.received wire.old) (W.sent wire.old) (L.asked launcher.old) (P.prints printer.old) (O.filings outlet.old) (C.given clock.old))
         (telling (W.received wire.new) (W.sent wire.new) (L.asked launcher.new) (P.prints printer.new) (O.filings outlet.new) (C.given clock.new))
-        × TellsThroughout (history_of node.old) (history_of node.new) (IsWithin m event.old s)) }
+        × TellsThroughout (active_of node.old) (history_of node.old) (history_of node.new) (IsWithin m event.old s)) }
     ensures fewer { IsTrue (comes_back event.old)
         → OnOk result (starts_left (content_of node.new) + length back.new.items ≤ starts_left (content_of node.old) + length back.old.items) }
     ensures later { (which : Which) → D.faults (disk_of which node.old) ≤ D.faults (disk_of which node.new) }
@@ -281,14 +286,14 @@ pub(crate) fn take_back<D: Disk, W: Wire, L: Launcher, P: Printer, O: Outlet, C:
         × Ran here acts (turn s (map event_back back.old.items)) (idle u) []
         (telling (W.received wire.old) (W.sent wire.old) (L.asked launcher.old) (P.prints printer.old) (O.filings outlet.old) (C.given clock.old))
         (telling (W.received wire.new) (W.sent wire.new) (L.asked launcher.new) (P.prints printer.new) (O.filings outlet.new) (C.given clock.new))
-        × TellsThroughout (history_of node.old) (history_of node.new) (IsPassed here (turn s (map event_back back.old.items)) acts [])) }
+        × TellsTo (active_of node.old) (active_of node.new) (history_of node.old) (history_of node.new) (IsPassed here (turn s (map event_back back.old.items)) acts [])) }
     ensures cut { (s : Plain) (here : Here) → Knows node.old s → here ≡ record { me = me; site = (content_of node.old).site }
         → OnErr result ((acts : List Act) × (t : Turn) × (more : List ℕ) × (arrivals acts ≡ []) × IsCut t more
         × (IsErrOf result (Cut.Memory want) → (u : Plain) × Knows node.new u × IsCutAt t more u)
         × Ran here acts (turn s (map event_back back.old.items)) t more
         (telling (W.received wire.old) (W.sent wire.old) (L.asked launcher.old) (P.prints printer.old) (O.filings outlet.old) (C.given clock.old))
         (telling (W.received wire.new) (W.sent wire.new) (L.asked launcher.new) (P.prints printer.new) (O.filings outlet.new) (C.given clock.new))
-        × TellsThroughout (history_of node.old) (history_of node.new) (IsPassed here (turn s (map event_back back.old.items)) acts more)) }
+        × TellsThroughout (active_of node.old) (history_of node.old) (history_of node.new) (IsPassed here (turn s (map event_back back.old.items)) acts more)) }
     ensures later { (which : Which) → D.faults (disk_of which node.old) ≤ D.faults (disk_of which node.new) }
     ensures broken { IsErrOf result Cut.Disk → IsTrue (is_stopped node.new)
         × ((which : Which) × Rose (D.faults (disk_of which node.old)) (D.faults (disk_of which node.new))) }

@@ -11,3 +11,4 @@ pub mod Marks
 pub mod FewHands
 pub mod SteadyParts
 pub mod FirstFaults
+pub mod Standing

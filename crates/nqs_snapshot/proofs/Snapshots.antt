@@ -11,7 +11,10 @@ use Rattle.nqs_records.specs.Reading.{Read, is_memory, Answers}
 use Rattle.nqs_records.specs.Changes.{AreBytes}
 use Rattle.nqs_records.proofs.IsRead.{bound}
 use Rattle.nqs_records.proofs.Chains.{bind, same_Ok}
+use Rattle.nqs_rules.specs.InOrder.{IsInOrder, IsConsistent}
 use Rattle.nqs_snapshot.specs.Sound.{is_sound}
+use Rattle.nqs_snapshot.specs.Spelling.{state_field}
+use Rattle.nqs_snapshot.specs.Values.{MayStand}
 use Rattle.nqs_snapshot.specs.Reading.{state_of, or_bad, whole_of, snapshot_of}
 use Rattle.nqs_snapshot.specs.Laws.{IsSpelledBy, ReadsTheSpelling, SpellsOne, SpellsNone, told_by}
 use Rattle.nqs_snapshot.proofs.StateLaws.{parts_of, whole_spelled, spelled_whole}
@@ -38,6 +41,12 @@ unfolding snapshot_of
 spelled_is bytes s fits is =
     let sound = (sound_is_in_order s).1 (is.1.order, is.1.consistent) in
     bind (whole_of bytes) (λ p. or_bad (state_of p)) (parts_of s) s (spelled_whole bytes s fits is.0 is.1.stands) (rw sound refl)
+
+-- what was written of such a state reads back
+pub reads_back : (bytes : List ℕ) (s : State Extent) → AreBytes bytes → bytes ≡ state_field s → MayStand s → IsInOrder s → IsConsistent s
+    → snapshot_of (state_field s) ≡ Ok s
+reads_back bytes s fits is stands order consistent =
+    subst (λ l. snapshot_of l ≡ Ok s) is (spelled_is bytes s fits (is, record { stands = stands; order = order; consistent = consistent }))
 
 pub reads_the_spelling : ReadsTheSpelling
 reads_the_spelling bytes s fits = (λ e. is_spelled bytes s fits e, λ is. spelled_is bytes s fits is)

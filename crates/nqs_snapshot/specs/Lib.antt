@@ -1,5 +1,6 @@
 pub mod Spelling
 pub mod Values
+pub mod Typed
 pub mod Readings
 pub mod Sound
 pub mod Reading

@@ -5,7 +5,7 @@ use Rattle.nqs_values.specs.declared.extent.Extent.{Extent}
 use Rattle.nqs_types.specs.Ids.{id_eq}
 use Rattle.nqs_state.specs.State.{State}
 use Rattle.nqs_rules.specs.Tests.{same_host}
-use Rattle.nqs_rules.specs.InOrder.{IsInOrder, IsConsistent, are_distinct, same_number, is_site_right, are_parameters_right, are_lists_short}
+use Rattle.nqs_rules.specs.InOrder.{IsInOrder, IsConsistent, are_distinct, same_number, is_site_right, are_parameters_right, are_lists_short, are_parts_short}
 use Rattle.nqs_rules.specs.InOrder.{are_keys_distinct, arrivals_of, is_queue_right, is_complex_right, is_row_right, is_promise_right, promisers}
 use Rattle.nqs_rules.specs.InOrder.{is_hand_right, has_few_hands, offered_ids, is_peer_right, is_stage_right, is_file_right}
 use Rattle.nqs_rules.specs.InOrder.{is_doom_right, is_hold_right, has_hand, is_promise_free, is_hand_of_given}
@@ -43,6 +43,10 @@ is_consistent s =
 -- whether a host may go on from a state
 unfoldable pub is_sound : State Extent → Bool
 is_sound s = are_keys_distinct s && (is_right s && is_consistent s)
+
+-- each script and output of a state has at most 32,768 bytes
+abbrev pub HasShortParts : State Extent → Type 0
+HasShortParts s = are_parts_short (λ (x : Extent). x.length) s ≡ true
 
 -- a host may go on from a state exactly where it is in order and consistent
 abbrev pub SoundIsInOrder : Type 0

@@ -4,10 +4,13 @@
 
 ghost use Rattle.std.specs.Prelude.{◌≡◌, codes, [], ◌∷◌, length, Err};
 ghost use Rattle.nqs_records.specs.declared.fault.RecordFault.TheVariants.{Short};
+ghost use Rattle.nqs_values.specs.declared.extent.Extent.{Extent};
+ghost use Rattle.nqs_state.specs.State.{State};
 ghost use Rattle.nqs_rules.specs.Find.{host_at};
 ghost use Rattle.nqs_rules.specs.Format.{formatted};
 ghost use Rattle.nqs_snapshot.specs.Spelling.{state_field};
-ghost use Rattle.nqs_snapshot.specs.Sound.{SoundIsInOrder};
+ghost use Rattle.nqs_snapshot.specs.Values.{MayStand};
+ghost use Rattle.nqs_snapshot.specs.Sound.{HasShortParts, SoundIsInOrder};
 ghost use Rattle.nqs_snapshot.specs.Reading.{snapshot_of};
 ghost use Rattle.nqs_snapshot.specs.Laws.{ReadsTheSpelling, SpellsOne};
 ghost use Rattle.nqs_snapshot.specs.Faults.{FirstFaults};
@@ -32,6 +35,11 @@ pub fn sound_is_in_order()
 /// Which bytes have which first fault, apart from how they are read.
 pub fn first_faults()
     ensures { FirstFaults }
+{}
+
+/// A state whose values have fields has short scripts and outputs.
+pub fn what_stands_is_short()
+    ensures { (s : State Extent) → MayStand s → HasShortParts s }
 {}
 
 /// What a formatted host of host alpha alone is written as: 226 bytes. Of no bytes at all the

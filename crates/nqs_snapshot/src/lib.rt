@@ -34,8 +34,12 @@ mod read_queues;
 mod read_requests;
 mod sound;
 mod tables;
+mod typed;
 mod write;
 
-pub use laws::{first_faults, formatted_host, reads_the_spelling, sound_is_in_order, spells_one};
+pub use laws::{
+    first_faults, formatted_host, reads_the_spelling, sound_is_in_order, spells_one,
+    what_stands_is_short,
+};
 pub use read::read_state;
 pub use write::write_state;

@@ -11,6 +11,7 @@ ghost use Rattle.nqs_snapshot.specs.Spelling.{state_number, hold_number, refused
 
 use crate::field::{Put, put_list};
 use crate::put_queues::put_dest;
+use crate::typed::job_stands;
 use nqs_codec::{put_bool, put_name, put_u8, put_u16, put_u64};
 use nqs_records::{put_extent, put_id, put_job, put_opt_name};
 use nqs_types::{Hold, Job, Refused, Row, RowState};
@@ -34,48 +35,6 @@ fn hold_number(hold: Hold) -> u8
         Hold::User => 1,
         Hold::System => 2,
     }
-}
-
-// What its type says of a name.
-fn name_stands(name: &Name)
-    ensures { IsName name.now }
-{
-    let _ = name.as_bytes();
-}
-
-fn maybe_name_stands(name: &Option<Name>)
-    ensures { IsOpt IsName name.now }
-{
-    match name {
-        Some(name) => name_stands(name),
-        None => {}
-    }
-}
-
-fn number_stands(number: u64)
-    ensures { IsU64 number }
-{}
-
-fn maybe_number_stands(number: &Option<u64>)
-    ensures { IsOpt IsU64 number.now }
-{
-    match number {
-        Some(number) => number_stands(*number),
-        None => {}
-    }
-}
-
-// What its type says of a job, beside what the rules call sane.
-fn job_stands(job: &Job)
-    requires { IsTrue (is_sane_job job.now) }
-    ensures { IsJob job.now }
-{
-    name_stands(&job.name);
-    name_stands(&job.owner);
-    number_stands(job.earliest);
-    maybe_number_stands(&job.limits.cpu);
-    maybe_number_stands(&job.limits.memory);
-    maybe_name_stands(&job.forms);
 }
 
 fn put_sane_job(job: &Job, out: &mut Vec<u8>) -> Result<(), Memory>

@@ -7,6 +7,8 @@ ghost use Rattle.nqs_records.specs.Reading.{Answers};
 ghost use Rattle.nqs_records.specs.declared.fault.RecordFault.TheVariants.{Memory};
 ghost use Rattle.nqs_snapshot.specs.Values.{MayStand};
 ghost use Rattle.nqs_snapshot.specs.Reading.{parts_at, state_of, or_bad, whole_of, snapshot_of};
+ghost use Rattle.nqs_rules.specs.InOrder.{IsInOrder, IsConsistent};
+ghost use Rattle.nqs_snapshot.specs.Sound.{HasShortParts};
 ghost use Rattle.nqs_snapshot.specs.Laws.{IsSpelledBy, SpellsNone, told_by};
 
 use crate::build::build;
@@ -57,6 +59,9 @@ fn read_snapshot(alloc: Global, bytes: &[u8]) -> Result<HostState, RecordFault>
 pub fn read_state(alloc: Global, bytes: &[u8]) -> Result<HostState, RecordFault>
     ensures answer { Answers (snapshot_of bytes.now) (told_by result) }
     ensures ok { IfOk result (λ state. IsSpelledBy bytes.now (content state)) }
+    ensures order { IfOk result (λ state. IsInOrder (content state)) }
+    ensures consistent { IfOk result (λ state. IsConsistent (content state)) }
+    ensures short { IfOk result (λ state. HasShortParts (content state)) }
     ensures none { IfErr result (λ fault. fault ≢ Memory want → SpellsNone bytes.now) }
 {
     read_snapshot(alloc, bytes)

@@ -1,16 +1,20 @@
 //! A whole state, written at the end of a list.
 
-ghost use Rattle.std.specs.Prelude.{IsTrue};
+ghost use Rattle.std.specs.Prelude.{◌≡◌, IsTrue, Ok, OnOk};
 ghost use Rattle.std.specs.List.{AllByRecursion};
 ghost use Rattle.nqs_codec.specs.Puts.{Puts};
 ghost use Rattle.nqs_records.specs.Adds.{Adds};
-ghost use Rattle.nqs_rules.specs.InOrder.{IsInOrder};
+ghost use Rattle.nqs_rules.specs.InOrder.{IsInOrder, IsConsistent};
 ghost use Rattle.nqs_rules.specs.Sane.{is_sane_job};
 ghost use Rattle.nqs_values.specs.Path.{is_path};
 ghost use Rattle.nqs_state.specs.State.{content};
 ghost use Rattle.nqs_snapshot.specs.Spelling.{site_part, request_part, dealing_part, counter_part, state_field};
+ghost use Rattle.nqs_snapshot.specs.Values.{MayStand};
+ghost use Rattle.nqs_snapshot.specs.Reading.{snapshot_of};
+ghost use Rattle.nqs_snapshot.specs.Sound.{HasShortParts};
 
 use crate::field::{put_list, put_table};
+use crate::typed::state_stands;
 use nqs_codec::{put_u8, put_u16, put_u32, put_u64};
 use nqs_records::put_opt_name;
 use nqs_state::HostState;
@@ -76,13 +80,28 @@ fn put_state(state: &HostState, out: &mut Vec<u8>) -> Result<(), Memory>
     put_counters(state, out)
 }
 
-/// Adds the one spelling of a state in order. `Memory` leaves the list as it was.
+// What was written of a state from which a host goes on is read as it.
+fn spelling_reads_back(state: &HostState, spelling: &[u8])
+    requires order { IsInOrder (content state.now) }
+    requires stands { HasShortParts (content state.now) → MayStand (content state.now) }
+    requires written { spelling.now ≡ state_field (content state.now) }
+    ensures { IsConsistent (content state.now) → HasShortParts (content state.now)
+        → snapshot_of (state_field (content state.now)) ≡ Ok (content state.now) }
+{}
+
+/// Adds the one spelling of a state in order. `Memory` leaves the list as it was. What is written of
+/// a consistent state with short scripts and outputs reads back as it.
 pub fn write_state(alloc: Global, state: &HostState, out: &mut Vec<u8>) -> Result<(), Memory>
     requires { IsInOrder (content state.now) }
-    ensures { Puts out.old.items (state_field (content state.now)) result out.new.items }
+    ensures written { Puts out.old.items (state_field (content state.now)) result out.new.items }
+    ensures stands { HasShortParts (content state.now) → MayStand (content state.now) }
+    ensures reads_back { OnOk result (IsConsistent (content state.now) → HasShortParts (content state.now)
+        → snapshot_of (state_field (content state.now)) ≡ Ok (content state.now)) }
 {
+    state_stands(state);
     let mut spelling = Vec::new(alloc);
     put_state(state, &mut spelling)?;
+    spelling_reads_back(state, spelling.as_slice());
     out.extend_from_slice(spelling.as_slice())?;
     Ok(())
 }

@@ -1,5 +1,5 @@
 -- What images tell while a change is kept.
-use Rattle.std.proofs.Common.{◌≡◌, inl, inr, ℕ, ◌+◌, ◌≤◌, Bool, true, false, IsTrue, if◌then◌else◌, List, [], ◌∷◌, ◌++◌, map, length, Some, None, refl, sym, ap}
+use Rattle.std.proofs.Common.{◌≡◌, ◌≢◌, inl, inr, ℕ, ◌+◌, ◌≤◌, Bool, true, false, IsTrue, if◌then◌else◌, List, [], ◌∷◌, ◌++◌, map, length, Some, None, refl, sym, ap}
 use Rattle.std.proofs.Common.{subst, ◌∙◌, arith}
 use Rattle.std.specs.List.{AllByRecursion}
 use Rattle.nqs_state.specs.State.{Plain}
@@ -8,16 +8,20 @@ use Rattle.nqs_types.specs.declared.change.Change.{Change}
 use Rattle.nqs_types.specs.declared.change.Change.TheVariants.{Site, Submitted, Deleted, Doomed, Started, Ended, Unlaunched, Boot, Edited, HandOpened}
 use Rattle.nqs_types.specs.declared.change.Change.TheVariants.{HandCommitted, HandRefused, HandsSilent, HandDone, Promised, Accepted, Dropped, MovedLocal}
 use Rattle.nqs_types.specs.declared.change.Change.TheVariants.{RefusedLocal, HeldFar, StageGot, StageGone, FileGone}
-use Rattle.nqs_outside.specs.History.{History, content, moment, MayLeave, EachSince}
+use Rattle.nqs_outside.specs.History.{History, content, moment, EachSince}
 use Rattle.nqs_outside.specs.declared.disk.Disk as disk
 use Rattle.nqs_outside.proofs.Images.{quiet_image}
-use Rattle.nqs_spool.specs.Extents.{Has, Holds, past, AreApart, IsWithin}
+use Rattle.nqs_spool.specs.Extents.{Has, Holds, past, AreApart, AreSound, IsWithin}
 use Rattle.nqs_spool.specs.Spooled as spool
-use Rattle.nqs_spool.specs.declared.spool.Spool.{Spool}
+use Rattle.nqs_spool.specs.declared.spool.Spool.{Spool as SpoolOf}
 use Rattle.nqs_spool.proofs.Lists.{has_all, all_has}
-use Rattle.nqs_journal.specs.Text.{header, StandsFor}
-use Rattle.nqs_journal.specs.Open as journal
+use Rattle.nqs_types.specs.declared.world.Which.{Which}
+use Rattle.nqs_types.specs.declared.world.Which.TheVariants.{Root, Spool}
+use Rattle.nqs_outside.specs.History.{State, IsImage, IsQuiet, state, state_at, extended, Call}
+use Rattle.nqs_journal.specs.Either.{StandsBy, front_of}
 use Rattle.nqs_journal.specs.Open.{BeforeOrAfter}
+use Rattle.nqs_rules.specs.Journals.{is_second, journal_on}
+use Rattle.nqs_snapshot.specs.Reading.{snapshot_of}
 use Rattle.nqs_rules.specs.Fits.{fits}
 use Rattle.nqs_rules.specs.Applied.{applied}
 use Rattle.nqs_rules.specs.Filled.{filled}
@@ -25,21 +29,25 @@ use Rattle.nqs_rules.specs.Stepped.{map_change, stored_parts, no_extent}
 use Rattle.nqs_rules.specs.Plain.{map_state}
 use Rattle.nqs_rules.proofs.PlainLemmas.{applied-map}
 use Rattle.nqs_rules.proofs.FilledLemmas.{read-planned}
-use Rattle.nqs_store.specs.Told.{Host, told, taken, read_taken}
+use Rattle.nqs_store.specs.Told.{Host, told_by, taken, read_taken}
 use Rattle.nqs_store.specs.Live.{live, bytes_at}
 use Rattle.nqs_store.specs.Accounts.{Adds}
 use Rattle.nqs_store.specs.Frees.{gone}
 use Rattle.nqs_store.specs.Puts.{HoldEach}
 use Rattle.nqs_store.specs.Putting.{ArePut, ArePutFor}
 use Rattle.nqs_store.specs.Images.{IsTold, TellsOneOf}
-use Rattle.nqs_store.specs.Stores.{Tells, plain_of}
+use Rattle.nqs_store.specs.Stores.{Tells, plain_of, history_of}
+use Rattle.nqs_store.specs.Hosts.{on}
+use Rattle.nqs_store.specs.Moments.{Moments}
 use Rattle.nqs_store.specs.declared.store.Store.{Store}
-use Rattle.nqs_store.proofs.Telling.{told_more}
+use Rattle.nqs_store.proofs.Telling.{told_by_more}
+use Rattle.nqs_store.proofs.TellsNow.{only_image, told_host, active_quiet, active_stands}
 use Rattle.nqs_store.proofs.Accounts.{accounted, AreAccounted}
 use Rattle.nqs_store.proofs.Extents.{takes_all, takes_apart}
 use Rattle.nqs_store.proofs.Filled.{shape_kept, fits_kept, stored, filled_shape_kept, filled_bytes}
 use Rattle.nqs_store.proofs.PlainSame.{plain_same}
-use Rattle.nqs_store.proofs.HostRuns.{EachPair}
+use Rattle.nqs_store.proofs.HostRuns.{moments_on, no_pending}
+use Rattle.nqs_store.proofs.EachDisk.{each_of, with_disk, at_disk, but_disk, rest_of, root_apart, spool_apart, journal_apart}
 
 -- each of the host's extents holds in the image what it held
 abbrev pub Keeps : Host → List ℕ → List ℕ → Type 0
@@ -87,7 +95,7 @@ taken_some (FileGone file) host fine = by (applied (FileGone file) host) (fits {
 
 -- The bytes of a change that fits the host were put, and what the spool held stays.
 pub record IsPut {D : Type 0} {g : disk.Ghosts D} (old : Store D g) (host : Host) (change now : Change Extent) (puts : List (List ℕ)) (text : List ℕ)
-    (mid : Spool D g) : Type 0 where
+    (mid : SpoolOf D g) : Type 0 where
   pub fine : IsTrue (fits change host)
   pub many : length puts ≡ length (stored_parts change)
   pub done : ArePutFor change now puts text old.spool mid
@@ -104,21 +112,33 @@ module _ {D : Type 0} {g : disk.Ghosts D} (tells_all : IsTrue g.tells) (old : St
   pub plain_kept : (image : List ℕ) → Keeps host was image → map_state (bytes_at image) host ≡ plain_of old host
   plain_kept image keeps = plain_same (bytes_at image) (bytes_at was) host (λ x has. (keeps x (bytes_at was x) has (held x has)).same)
 
-  pub told_before : (first image : List ℕ) → StandsFor first is_told.payloads → Keeps host was image → IsTold first image (plain_of old host)
-  told_before first image stands keeps = record {
-    payloads = is_told.payloads;
-    stands = stands;
+  pub told_before : (images : Which → List ℕ) → is_second (images Root) ≡ old.on_second
+      → StandsBy (images (journal_on old.on_second)) is_told.has is_told.snapshot is_told.payloads → Keeps host was (images Spool)
+      → IsTold images (plain_of old host)
+  told_before images named stands keeps = record {
     host = host;
-    tells = is_told.records;
-    sound = record {
+    is = told_host old host is_told images named stands (record {
       apart = is_told.spool.live.apart;
-      within = has_all (IsWithin (length image)) (live host)
+      within = has_all (IsWithin (length (images Spool))) (live host)
           (λ x has. (keeps x (bytes_at was x) has (held x has)).within);
-    };
-    bytes = plain_kept image keeps;
+    });
+    bytes = plain_kept (images Spool) keeps;
   }
 
-  module _ {change now : Change Extent} {puts : List (List ℕ)} {text : List ℕ} {mid : Spool D g} (p : IsPut old host change now puts text mid) where
+  -- the root's image names the journal
+  pub named_image : (image : List ℕ) → IsImage (state (history_of old Root)) image → is_second image ≡ old.on_second
+  named_image image leaves = ap is_second (sym (only_image (history_of old Root) image is_told.root leaves)) ∙ is_told.named
+
+  pub stands_image : (image : List ℕ) → IsImage (state (history_of old (journal_on old.on_second))) image
+      → StandsBy image is_told.has is_told.snapshot is_told.payloads
+  stands_image image leaves = subst (λ b. StandsBy b is_told.has is_told.snapshot is_told.payloads)
+      (only_image (history_of old (journal_on old.on_second)) image (active_quiet old host is_told) leaves) (active_stands old host is_told)
+
+  -- nothing is pending on any disk
+  pub quiet : (w : Which) → IsQuiet (history_of old w)
+  quiet = each_of old.on_second (λ w. IsQuiet (history_of old w)) is_told.root (active_quiet old host is_told) is_told.rest (is_told.spool.quiet tells_all)
+
+  module _ {change now : Change Extent} {puts : List (List ℕ)} {text : List ℕ} {mid : SpoolOf D g} (p : IsPut old host change now puts text mid) where
     abbrev bytes : List ℕ
     bytes = content (spool.history_of mid)
 
@@ -147,8 +167,9 @@ module _ {D : Type 0} {g : disk.Ghosts D} (tells_all : IsTrue g.tells) (old : St
     pub plain_now : map_state (bytes_at bytes) (applied now host) ≡ applied (filled change puts) (plain_of old host)
     plain_now = applied-map (bytes_at bytes) now host ∙ (λ j. applied (filled_now j) (plain_kept bytes p.still j))
 
-    pub records_now : told (is_told.payloads ++ text ∷ []) ≡ Some (applied now host)
-    records_now = told_more None is_told.payloads host text is_told.records ∙ ap (λ r. read_taken r (Some host)) p.done.read ∙ taken_some now host fine_now
+    pub records_now : told_by is_told.has is_told.snapshot (is_told.payloads ++ text ∷ []) ≡ Some (applied now host)
+    records_now = told_by_more is_told.has is_told.snapshot is_told.payloads host text is_told.records ∙ ap (λ r. read_taken r (Some host)) p.done.read
+        ∙ taken_some now host fine_now
 
     within_now : AllByRecursion (λ x. past x ≤ length bytes) (live (applied now host))
     within_now =
@@ -159,18 +180,24 @@ module _ {D : Type 0} {g : disk.Ghosts D} (tells_all : IsTrue g.tells) (old : St
     apart_now : AreApart (live (applied now host))
     apart_now = account.order.apart (takes_apart account.more (gone now host) account.fewer account.takes put_tells.live.apart)
 
-    pub told_after : (first : List ℕ) → StandsFor first (is_told.payloads ++ text ∷ []) → IsTold first bytes (applied (filled change puts) (plain_of old host))
-    told_after first stands = record {
-      payloads = is_told.payloads ++ text ∷ [];
-      stands = stands;
+    pub told_after : (images : Which → List ℕ) → is_second (images Root) ≡ old.on_second
+        → StandsBy (images (journal_on old.on_second)) is_told.has is_told.snapshot (is_told.payloads ++ text ∷ []) → images Spool ≡ bytes
+        → IsTold images (applied (filled change puts) (plain_of old host))
+    told_after images named stands spool = record {
       host = applied now host;
-      tells = records_now;
-      sound = record { apart = apart_now; within = within_now };
-      bytes = plain_now;
+      is = record {
+        has = is_told.has;
+        snapshot = is_told.snapshot;
+        payloads = is_told.payloads ++ text ∷ [];
+        stands = subst (λ b. StandsBy (images (journal_on b)) is_told.has is_told.snapshot (is_told.payloads ++ text ∷ [])) (sym named) stands;
+        tells = records_now;
+        sound = subst (λ b. AreSound (length b) (live (applied now host))) (sym spool) (record { apart = apart_now; within = within_now });
+      };
+      bytes = ap (λ b. map_state (bytes_at b) (applied now host)) spool ∙ plain_now;
     }
 
     -- once the extents that go are free
-    pub spool_tells : (last : Spool D g) → spool.Tells last account.fewer → spool.Tells last (live (applied now host))
+    pub spool_tells : (last : SpoolOf D g) → spool.Tells last account.fewer → spool.Tells last (live (applied now host))
     spool_tells last tells = record {
       live = record {
         same = λ x some. (
@@ -184,24 +211,44 @@ module _ {D : Type 0} {g : disk.Ghosts D} (tells_all : IsTrue g.tells) (old : St
       quiet = tells.quiet;
     }
 
-    -- images of moments of the put and of the append
-    pub both : (f' : History) → EachSince (moment (journal.history_of old.first)) f' (BeforeOrAfter header is_told.payloads text)
-        → ((u : ℕ) (image : List ℕ) → moment (journal.history_of old.first) ≤ u → u ≤ moment (journal.history_of old.first) + 2 → u ≤ moment f'
-        → MayLeave f' u image → StandsFor image is_told.payloads)
-        → EachPair (spool.history_of old.spool) (spool.history_of mid) (journal.history_of old.first) f'
-        (TellsOneOf (plain_of old host) (applied (filled change puts) (plain_of old host)))
-    both f' any early = λ t u image first from to from' to' order leaves leaves'. elim order [
-      | inr begun ↦ inl (told_before first image (early u first from' (omega (arith, begun)) to' leaves') (p.kept t image from to leaves))
-      | inl ended ↦ elim (any u first from' to' leaves') [
-        | inl before ↦ inl (told_before first image before (p.kept t image from to leaves))
-        | inr after ↦ inr (subst (λ b. IsTold first b (applied (filled change puts) (plain_of old host)))
-            (sym (quiet_image (spool.history_of mid) t image (put_tells.quiet tells_all) (omega (arith, ended)) to leaves)) (told_after first after))
-      ]
-    ]
+    -- the spool's images are what a read gives
+    pub spool_image : (image : List ℕ) → IsImage (state (spool.history_of mid)) image → image ≡ bytes
+    spool_image image leaves = sym (only_image (spool.history_of mid) image (put_tells.quiet tells_all) leaves)
 
-  -- where the journal stays as it was
-  pub only_spool : (s' : History) (after : Plain) → EachSince (moment (spool.history_of old.spool)) s' (λ image. Keeps host was image)
-      → EachPair (spool.history_of old.spool) s' (journal.history_of old.first) (journal.history_of old.first) (TellsOneOf (plain_of old host) after)
-  only_spool s' after kept = λ t u image first from to from' to' order leaves leaves'.
-      inl (told_before first image (subst (λ b. StandsFor b is_told.payloads)
-      (sym (quiet_image (journal.history_of old.first) u first is_told.first.quiet from' to' leaves')) is_told.first.stands) (kept t image from to leaves))
+    -- what images of the journal tell, where the spool has the bytes
+    pub one_of : (images : Which → List ℕ) → IsImage (state (history_of old Root)) (images Root) → IsImage (state (spool.history_of mid)) (images Spool)
+        → BeforeOrAfter (front_of is_told.has is_told.snapshot) is_told.payloads text (images (journal_on old.on_second))
+        → TellsOneOf (plain_of old host) (applied (filled change puts) (plain_of old host)) images
+    one_of images root spool (inl before) = inl (told_before images (named_image (images Root) root) (is_told.is, before)
+        (subst (Keeps host was) (sym (spool_image (images Spool) spool)) p.still))
+    one_of images root spool (inr after) = inr (told_after images (named_image (images Root) root) (is_told.is, after) (spool_image (images Spool) spool))
+
+    -- moments of the append
+    pub append_moments : (f' : History) (calls : List Call)
+        → f' ≡ extended (with_disk Spool (spool.history_of mid) (history_of old) (journal_on old.on_second)) calls
+        → EachSince (moment (history_of old (journal_on old.on_second))) f' (BeforeOrAfter (front_of is_told.has is_told.snapshot) is_told.payloads text)
+        → Moments (with_disk Spool (spool.history_of mid) (history_of old)) (on (journal_on old.on_second) calls)
+        (TellsOneOf (plain_of old host) (applied (filled change puts) (plain_of old host)))
+    append_moments f' calls did any =
+        let w = with_disk Spool (spool.history_of mid) (history_of old) in
+        let same = but_disk Spool (spool.history_of mid) (history_of old) (journal_on old.on_second) (journal_apart old.on_second) in
+        moments_on w f' (journal_on old.on_second) calls _ did
+        (λ v other. rest_of Spool (spool.history_of mid) (history_of old) (λ h. (state h).ranges ≡ [])
+        (λ u. no_pending (state (history_of old u)) (content (history_of old u)) (quiet u))
+        (no_pending (state (spool.history_of mid)) bytes (put_tells.quiet tells_all)) v)
+        (λ t images from to leaves others. one_of images (but Root (λ is. let no : ⊥ = cc in no) images (others Root (root_apart old.on_second))) (subst (λ h. IsImage (state h) (images Spool)) (at_disk Spool (spool.history_of mid) (history_of old)) (others Spool (spool_apart old.on_second)))
+        (any t (images (journal_on old.on_second)) (subst (λ h. moment h ≤ t) same from) to leaves))
+      where
+        but : (v : Which) → v ≢ Spool → (images : Which → List ℕ)
+            → IsImage (state (with_disk Spool (spool.history_of mid) (history_of old) v)) (images v) → IsImage (state (history_of old v)) (images v)
+        but v other images leaves = subst (λ h. IsImage (state h) (images v)) (but_disk Spool (spool.history_of mid) (history_of old) v other) leaves
+
+  -- moments of the puts
+  pub put_moments : (s' : History) (calls : List Call) → s' ≡ extended (history_of old Spool) calls
+      → EachSince (moment (history_of old Spool)) s' (λ image. Keeps host was image)
+      → Moments (history_of old) (on Spool calls) (λ images. IsTold images (plain_of old host))
+  put_moments s' calls did kept =
+      moments_on (history_of old) s' Spool calls _ did (λ w other. no_pending (state (history_of old w)) (content (history_of old w)) (quiet w))
+      (λ t images from to leaves others. told_before images (named_image (images Root) (others Root (λ is. let no : ⊥ = cc in no)))
+      (stands_image (images (journal_on old.on_second)) (others (journal_on old.on_second) (journal_apart old.on_second)))
+      (kept t (images Spool) from to leaves))

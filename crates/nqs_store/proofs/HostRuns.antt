@@ -1,172 +1,195 @@
--- Runs of a host's disks: the spool's calls, and then the journal's.
-use Rattle.std.proofs.Common.{◌≡◌, ◌⊎◌, inl, inr, ℕ, zero, suc, ◌+◌, ◌≤◌, List, [], ◌∷◌, ◌++◌, map, length, take, refl, sym, ap, ◌∙◌, subst, arith}
-use Rattle.std.proofs.Common.{length-append}
-use Rattle.std.proofs.lemmas.List.{append-nil, length-map}
-use Rattle.std.proofs.Math.Seq.{take-length}
-use Rattle.nqs_state.specs.State.{Plain}
+-- Runs of a host's disks, one part after another.
+use Rattle.std.proofs.Common.{◌≡◌, ◌≢◌, ◌⊎◌, inl, inr, ℕ, zero, suc, ◌+◌, ◌-◌, ◌≤◌, Bool, true, false, if◌then◌else◌, List, [], ◌∷◌, ◌++◌, map, length, take}
+use Rattle.std.proofs.Common.{refl, sym, ap, ◌∙◌, subst, arith, length-append}
+use Rattle.std.proofs.lemmas.List.{append-nil, take-append-le}
+use Rattle.std.proofs.lemmas.Bool.{cases_lt}
+use Rattle.std.proofs.Math.Seq.{take-append-add}
 use Rattle.nqs_types.specs.declared.world.Which.{Which}
 use Rattle.nqs_types.specs.declared.world.Which.TheVariants.{Root, First, Second, Spool}
 use Rattle.nqs_outside.specs.History.{Call, State, History, extended, fresh, content, state, moment, after, state_at, IsImage, IsQuiet, StopsShort as DiskStops}
-use Rattle.nqs_outside.proofs.Histories.{state-extended, state_at-extended}
-use Rattle.nqs_journal.specs.Plan.{append_calls}
-use Rattle.nqs_store.specs.Hosts.{HostCall, on, part, Runs, EachPrefix, StopsShort}
-use Rattle.nqs_store.specs.Images.{TellsOneOf}
-use Rattle.nqs_store.specs.Commits.{IsBegun, IsSettled, HasOneMore, Keeping}
-use Rattle.nqs_store.specs.Plan.{puts_calls, commit_calls, CommitsBy}
-use Rattle.nqs_store.specs.Putting.{ArePartlyPut}
+use Rattle.nqs_outside.proofs.Histories.{state-extended, state_at-extended, after-append, goes_on}
+use Rattle.nqs_store.specs.Hosts.{HostCall, on, part, same_disk, Runs, EachPrefix, StopsShort}
+use Rattle.nqs_store.specs.Commits.{IsSettled}
+use Rattle.nqs_store.specs.Moments.{Moments}
 use Rattle.nqs_store.proofs.Runs.{none_more}
-use Rattle.nqs_store.proofs.Loading.{each_disk}
 
-spool-first : (b : List Call) → part Spool (on First b) ≡ []
-spool-first [] = refl
-spool-first (call ∷ b) = spool-first b
+false_true : false ≡ true → ⊥
+false_true is = absurd (let no : ⊥ = cc in no)
 
-first-first : (b : List Call) → part First (on First b) ≡ b
-first-first [] = refl
-first-first (call ∷ b) = ap (λ l. call ∷ l) (first-first b)
+pub same_self : (w : Which) → same_disk w w ≡ true
+same_self Root = refl
+same_self First = refl
+same_self Second = refl
+same_self Spool = refl
 
-root-first : (b : List Call) → part Root (on First b) ≡ []
-root-first [] = refl
-root-first (call ∷ b) = root-first b
+same_is : (v w : Which) → same_disk v w ≡ true → v ≡ w
+same_is Root Root is = refl
+same_is Root First is = absurd (false_true is)
+same_is Root Second is = absurd (false_true is)
+same_is Root Spool is = absurd (false_true is)
+same_is First Root is = absurd (false_true is)
+same_is First First is = refl
+same_is First Second is = absurd (false_true is)
+same_is First Spool is = absurd (false_true is)
+same_is Second Root is = absurd (false_true is)
+same_is Second First is = absurd (false_true is)
+same_is Second Second is = refl
+same_is Second Spool is = absurd (false_true is)
+same_is Spool Root is = absurd (false_true is)
+same_is Spool First is = absurd (false_true is)
+same_is Spool Second is = absurd (false_true is)
+same_is Spool Spool is = refl
 
-second-first : (b : List Call) → part Second (on First b) ≡ []
-second-first [] = refl
-second-first (call ∷ b) = second-first b
-
--- the parts of the run
-pub record AreParts (a b : List Call) : Type 0 where
-  pub root : part Root (on Spool a ++ on First b) ≡ []
-  pub first : part First (on Spool a ++ on First b) ≡ b
-  pub second : part Second (on Spool a ++ on First b) ≡ []
-  pub spool : part Spool (on Spool a ++ on First b) ≡ a
-
-pub parts : (a b : List Call) → AreParts a b
-parts [] b = record { root = root-first b; first = first-first b; second = second-first b; spool = spool-first b }
-parts (call ∷ a) b = let rest = parts a b in record { root = rest.root; first = rest.first; second = rest.second; spool = ap (λ l. call ∷ l) rest.spool }
-
--- What the disks did: the spool these calls, the journal those, and the others none.
-pub record DidSo (old now : Which → History) (a b : List Call) : Type 0 where
-  pub root : now Root ≡ old Root
-  pub first : now First ≡ extended (old First) b
-  pub second : now Second ≡ old Second
-  pub spool : now Spool ≡ extended (old Spool) a
-
-pub runs : (old now : Which → History) (a b : List Call) → DidSo old now a b → Runs old now (on Spool a ++ on First b)
-runs old now a b did =
-    let p = parts a b in
-    each_disk (λ which. now which ≡ extended (old which) (part which (on Spool a ++ on First b)))
-    (did.root ∙ none_more (old Root) ∙ ap (extended (old Root)) (sym p.root))
-    (did.first ∙ ap (extended (old First)) (sym p.first))
-    (did.second ∙ none_more (old Second) ∙ ap (extended (old Second)) (sym p.second))
-    (did.spool ∙ ap (extended (old Spool)) (sym p.spool))
-
--- a prefix of the run is a prefix of one part and none of the other, or the whole of one
-pub record IsSplit (a b : List Call) (j : ℕ) : Type 0 where
-  pub i : ℕ
-  pub k : ℕ
-  pub within : i ≤ length a
-  pub within' : k ≤ length b
-  pub spool : part Spool (take j (on Spool a ++ on First b)) ≡ take i a
-  pub first : part First (take j (on Spool a ++ on First b)) ≡ take k b
-  pub order : (i ≡ length a) ⊎ (k ≡ 0)
-
-no_calls : (n : ℕ) → take {A = Call} n [] ≡ []
-no_calls zero = refl
-no_calls (suc n) = refl
-
-pub split : (a b : List Call) (j : ℕ) → IsSplit a b j
-split [] [] zero = record { i = 0; k = 0; within = omega arith; within' = omega arith; spool = refl; first = refl; order = inl refl }
-split [] [] (suc j) = record { i = 0; k = 0; within = omega arith; within' = omega arith; spool = refl; first = refl; order = inl refl }
-split [] (call ∷ b) zero = record { i = 0; k = 0; within = omega arith; within' = omega arith; spool = refl; first = refl; order = inl refl }
-split [] (call ∷ b) (suc j) =
-    let rest = split [] b j in
-    record {
-      i = 0;
-      k = suc rest.k;
-      within = omega arith;
-      within' = omega (arith, rest.within');
-      spool = rest.spool ∙ no_calls rest.i;
-      first = ap (λ l. call ∷ l) rest.first;
-      order = inl refl;
-    }
-split (call ∷ a) b zero = record { i = 0; k = 0; within = omega arith; within' = omega arith; spool = refl; first = refl; order = inr refl }
-split (call ∷ a) b (suc j) =
-    let rest = split a b j in
-    record {
-      i = suc rest.i;
-      k = rest.k;
-      within = omega (arith, rest.within);
-      within' = rest.within';
-      spool = ap (λ l. call ∷ l) rest.spool;
-      first = rest.first;
-      order = elim rest.order [ inl all ↦ inl (ap suc all) | inr none ↦ inr none ];
-    }
-
--- P holds of each pair of images of moments in order: the spool's is the last, or the journal's the first
-abbrev pub EachPair : (s s' f f' : History) → (List ℕ → List ℕ → Type 0) → Type 0
-EachPair s s' f f' P =
-    (t u : ℕ) (spool first : List ℕ) → moment s ≤ t → t ≤ moment s' → moment f ≤ u → u ≤ moment f' → (t ≡ moment s') ⊎ (u ≡ moment f)
-    → IsImage (state_at s' t) spool → IsImage (state_at f' u) first → P first spool
-
-pub each_moment : (old now : Which → History) (a b : List Call) (P : List ℕ → List ℕ → Type 0) → DidSo old now a b
-    → EachPair (old Spool) (now Spool) (old First) (now First) P
-    → EachPrefix old (on Spool a ++ on First b) (λ images. P (images First) (images Spool))
-each_moment old now a b P did each = λ j images le leaves.
-    let s = old Spool in
-    let f = old First in
-    let at = split a b j in
-    let ends : moment (now Spool) ≡ moment s + length a = ap moment did.spool ∙ length-append s.calls a in
-    let ends' : moment (now First) ≡ moment f + length b = ap moment did.first ∙ length-append f.calls b in
-    let spool_at = subst (λ h. IsImage (state_at h (moment s + at.i)) (images Spool)) (sym did.spool)
-    (subst (λ u. IsImage u (images Spool)) (ap (after (state s)) at.spool ∙ sym (state_at-extended s a at.i)) (leaves Spool)) in
-    let first_at = subst (λ h. IsImage (state_at h (moment f + at.k)) (images First)) (sym did.first)
-    (subst (λ u. IsImage u (images First)) (ap (after (state f)) at.first ∙ sym (state_at-extended f b at.k)) (leaves First)) in
-    each (moment s + at.i) (moment f + at.k) (images Spool) (images First) (omega arith) (omega (arith, ends, at.within)) (omega arith)
-    (omega (arith, ends', at.within'))
-    (elim at.order [ inl all ↦ inl (omega (arith, all, ends)) | inr none ↦ inr (omega (arith, none)) ])
-    spool_at first_at
-
-no_pending : (s : State) (bytes : List ℕ) → s ≡ fresh bytes → s.ranges ≡ []
-no_pending s bytes is = ap (λ (u : State). u.ranges) is
-
-none_of : (b : List Call) → take 0 b ≡ []
-none_of [] = refl
-none_of (call ∷ b) = refl
-
--- At each moment one of the journal and the spool has no write pending: the spool's calls settle it before the journal makes one.
-pub settled : (old now : Which → History) (a b : List Call) → DidSo old now a b → IsQuiet (old First) → (b ≡ []) ⊎ IsQuiet (now Spool) → (j : ℕ)
-    → IsSettled old (take j (on Spool a ++ on First b)) First ⊎ IsSettled old (take j (on Spool a ++ on First b)) Spool
-settled old now a b did quiet rest j =
-    let at = split a b j in
-    elim at.order [
-      | inr none ↦ inl (before (at.first ∙ ap (λ k. take k b) none ∙ none_of b))
-      | inl all ↦ elim rest [
-        | inl empty ↦ inl (before (at.first ∙ ap (take at.k) empty ∙ no_calls at.k))
-        | inr done ↦ inr (no_pending (after (state (old Spool)) (part Spool (take j (on Spool a ++ on First b)))) (content (now Spool))
-            (ap (after (state (old Spool))) (at.spool ∙ ap (λ i. take i a) all ∙ take-length a) ∙ sym (state-extended (old Spool) a) ∙ ap state (sym did.spool)
-            ∙ done))
-      ]
-    ]
+-- the same disk, or another
+pub same_or : (v w : Which) → (v ≡ w) ⊎ ((v ≢ w) × (same_disk v w ≡ false))
+same_or v w = by (same_disk v w) refl
   where
-    before : part First (take j (on Spool a ++ on First b)) ≡ [] → IsSettled old (take j (on Spool a ++ on First b)) First
-    before none = no_pending (after (state (old First)) (part First (take j (on Spool a ++ on First b)))) (content (old First))
-        (ap (after (state (old First))) none ∙ quiet)
+    by : (b : Bool) → same_disk v w ≡ b → (v ≡ w) ⊎ ((v ≢ w) × (same_disk v w ≡ false))
+    by true is = inl (same_is v w is)
+    by false is = inr ((λ same. false_true (sym is ∙ ap (same_disk v) (sym same) ∙ same_self v)), is)
+
+part_step : (v w : Which) (call : Call) (b : List HostCall) (c : Bool) → same_disk v w ≡ c
+    → part v ((w, call) ∷ b) ≡ (if c then call ∷ part v b else part v b)
+part_step v w call b c is = ap (λ (d : Bool). if d then call ∷ part v b else part v b) is
+
+-- a disk's part of its own calls
+pub part_own : (v : Which) (b : List Call) → part v (on v b) ≡ b
+part_own v [] = refl
+part_own v (call ∷ b) = part_step v v call (on v b) true (same_self v) ∙ ap (λ l. call ∷ l) (part_own v b)
+
+-- and of those of another
+pub part_other : (v w : Which) (b : List Call) → same_disk v w ≡ false → part v (on w b) ≡ []
+part_other v w [] other = refl
+part_other v w (call ∷ b) other = part_step v w call (on w b) false other ∙ part_other v w b other
+
+pub part_append : (v : Which) (r s : List HostCall) → part v (r ++ s) ≡ part v r ++ part v s
+part_append v [] s = refl
+part_append v (call ∷ r) s = by (same_disk v call.0) (part_append v r s)
+  where
+    by : (c : Bool) → part v (r ++ s) ≡ part v r ++ part v s
+        → (if c then call.1 ∷ part v (r ++ s) else part v (r ++ s)) ≡ (if c then call.1 ∷ part v r else part v r) ++ part v s
+    by true rest = ap (λ l. call.1 ∷ l) rest
+    by false rest = rest
+
+-- calls of one disk
+pub runs_on : (old now : Which → History) (v : Which) (a : List Call) → now v ≡ extended (old v) a → ((w : Which) → w ≢ v → now w ≡ old w)
+    → Runs old now (on v a)
+runs_on old now v a did rest w = elim (same_or w v) [
+  | inl is ↦ subst (λ u. now u ≡ extended (old u) (part u (on v a))) (sym is) (did ∙ ap (extended (old v)) (sym (part_own v a)))
+  | inr other ↦ rest w other.0 ∙ none_more (old w) ∙ ap (extended (old w)) (sym (part_other w v a other.1))
+]
+
+-- one run after another
+pub runs_both : (old mid now : Which → History) (r s : List HostCall) → Runs old mid r → Runs mid now s → Runs old now (r ++ s)
+runs_both old mid now r s first second w = goes_on (old w) (mid w) (now w) (part w r) (part w s) (first w) (second w)
+    ∙ ap (extended (old w)) (sym (part_append w r s))
+
+pub runs_none : (old now : Which → History) → ((w : Which) → now w ≡ old w) → Runs old now []
+runs_none old now same w = same w ∙ none_more (old w)
+
+-- moments
+
+take_on : (v : Which) (a : List Call) (j : ℕ) → take j (on v a) ≡ on v (take j a)
+take_on v [] zero = refl
+take_on v [] (suc j) = refl
+take_on v (call ∷ a) zero = refl
+take_on v (call ∷ a) (suc j) = ap (λ l. (v, call) ∷ l) (take_on v a j)
+
+pub length_on : (v : Which) (a : List Call) → length (on v a) ≡ length a
+length_on v [] = refl
+length_on v (call ∷ a) = ap suc (length_on v a)
+
+own_after : (old : Which → History) (v : Which) (a : List Call) (j : ℕ)
+    → after (state (old v)) (part v (take j (on v a))) ≡ state_at (extended (old v) a) (moment (old v) + j)
+own_after old v a j = ap (λ l. after (state (old v)) (part v l)) (take_on v a j) ∙ ap (after (state (old v))) (part_own v (take j a))
+    ∙ sym (state_at-extended (old v) a j)
+
+other_after : (old : Which → History) (v w : Which) (a : List Call) (j : ℕ) → same_disk w v ≡ false
+    → after (state (old w)) (part w (take j (on v a))) ≡ state (old w)
+other_after old v w a j other = ap (λ l. after (state (old w)) (part w l)) (take_on v a j) ∙ ap (after (state (old w))) (part_other w v (take j a) other)
+
+-- calls of one disk, where the others have nothing pending
+pub moments_on : (old : Which → History) (now : History) (v : Which) (a : List Call) (P : (Which → List ℕ) → Type 0) → now ≡ extended (old v) a
+    → ((w : Which) → w ≢ v → (state (old w)).ranges ≡ [])
+    → ((t : ℕ) (images : Which → List ℕ) → moment (old v) ≤ t → t ≤ moment now → IsImage (state_at now t) (images v)
+    → ((w : Which) → w ≢ v → IsImage (state (old w)) (images w)) → P images)
+    → Moments old (on v a) P
+moments_on old now v a P did quiet each = record {
+  told = λ j images le leaves. each (moment (old v) + j) images (omega arith)
+      (omega (arith, le, length_on v a, ap moment did, length-append ((old v).calls) a))
+      (subst (λ h. IsImage (state_at h (moment (old v) + j)) (images v)) (sym did)
+      (subst (λ s. IsImage s (images v)) (own_after old v a j) (leaves v)))
+      (λ w other. subst (λ s. IsImage s (images w)) (other_after old v w a j (apart w v other)) (leaves w));
+  settled = λ j x y differ. elim (same_or x v) [
+    | inl is ↦ inr (settled_other j y (λ same. differ (is ∙ sym same)))
+    | inr other ↦ inl (settled_other j x other.0)
+  ];
+}
+  where
+    apart : (w u : Which) → w ≢ u → same_disk w u ≡ false
+    apart w u other = elim (same_or w u) [ inl is ↦ absurd (other is) | inr far ↦ far.1 ]
+
+    settled_other : (j : ℕ) (w : Which) → w ≢ v → IsSettled old (take j (on v a)) w
+    settled_other j w other = ap (λ (s : State). s.ranges) (other_after old v w a j (apart w v other)) ∙ quiet w other
+
+after_run : (old mid : Which → History) (r s : List HostCall) (w : Which) → Runs old mid r
+    → after (state (old w)) (part w (r ++ s)) ≡ after (state (mid w)) (part w s)
+after_run old mid r s w runs = ap (after (state (old w))) (part_append w r s) ∙ after-append (state (old w)) (part w r) (part w s)
+    ∙ ap (λ u. after u (part w s)) (sym (state-extended (old w) (part w r)) ∙ ap state (sym (runs w)))
+
+-- one run after another
+pub moments_both : (old mid : Which → History) (r s : List HostCall) (P : (Which → List ℕ) → Type 0) → Runs old mid r → Moments old r P → Moments mid s P
+    → Moments old (r ++ s) P
+moments_both old mid r s P runs first second = record {
+  told = λ j images le leaves. elim (cases_lt j (length r)) [
+    | inl early ↦ first.told j images (omega (arith, early)) (λ w. subst (λ l. IsImage (after (state (old w)) (part w l)) (images w))
+        (take-append-le j r s (omega (arith, early))) (leaves w))
+    | inr late ↦ second.told (j - length r) images (omega (arith, le, late, length-append r s))
+        (λ w. subst (λ u. IsImage u (images w)) (ap (λ l. after (state (old w)) (part w l)) (behind j late)
+        ∙ after_run old mid r (take (j - length r) s) w runs) (leaves w))
+  ];
+  settled = λ j x y differ. elim (cases_lt j (length r)) [
+    | inl early ↦ subst (λ l. IsSettled old l x ⊎ IsSettled old l y) (sym (take-append-le j r s (omega (arith, early)))) (first.settled j x y differ)
+    | inr late ↦ subst (λ l. IsSettled old l x ⊎ IsSettled old l y) (sym (behind j late)) (elim (second.settled (j - length r) x y differ) [
+      | inl is ↦ inl (ap (λ (u : State). u.ranges) (after_run old mid r (take (j - length r) s) x runs) ∙ is)
+      | inr is ↦ inr (ap (λ (u : State). u.ranges) (after_run old mid r (take (j - length r) s) y runs) ∙ is)
+    ])
+  ];
+}
+  where
+    behind : (j : ℕ) → length r ≤ j → take j (r ++ s) ≡ r ++ take (j - length r) s
+    behind j late = ap (λ i. take i (r ++ s)) (let whole : j ≡ length r + (j - length r) = omega (arith, late) in whole) ∙ take-append-add r s (j - length r)
+
+pub moments_weaker : (old : Which → History) (run : List HostCall) (P Q : (Which → List ℕ) → Type 0) → ((images : Which → List ℕ) → P images → Q images)
+    → Moments old run P → Moments old run Q
+moments_weaker old run P Q weaker m = record { told = λ j images le leaves. weaker images (m.told j images le leaves); settled = m.settled }
+
+-- no call
+pub moments_none : (old : Which → History) (P : (Which → List ℕ) → Type 0) → ((w : Which) → (state (old w)).ranges ≡ [])
+    → ((images : Which → List ℕ) → ((w : Which) → IsImage (state (old w)) (images w)) → P images) → Moments old [] P
+moments_none old P quiet each = record {
+  told = λ j images le leaves. each images (λ w. subst (λ l. IsImage (after (state (old w)) (part w l)) (images w)) (none j) (leaves w));
+  settled = λ j x y differ. inl (ap (λ l. (after (state (old x)) (part x l)).ranges) (none j) ∙ quiet x);
+}
+  where
+    none : (j : ℕ) → take {A = HostCall} j [] ≡ []
+    none zero = refl
+    none (suc j) = refl
+
+pub no_pending : (s : State) (bytes : List ℕ) → s ≡ fresh bytes → s.ranges ≡ []
+no_pending s bytes is = ap (λ (u : State). u.ranges) is
 
 -- plans over all disks
 
-pub spool_stops : (plan calls : List Call) (rest : List HostCall) → DiskStops plan calls → StopsShort (on Spool plan ++ rest) (on Spool calls)
-spool_stops [] calls rest short = absurd short
-spool_stops (p ∷ plan) [] rest short = tt
-spool_stops (p ∷ plan) (call ∷ []) rest (inl is) = inl (ap (λ c. (Spool, c)) is)
-spool_stops (p ∷ plan) (call ∷ []) rest (inr is) = inr (ap (λ c. (Spool, c)) is.0, spool_stops plan [] rest is.1)
-spool_stops (p ∷ plan) (call ∷ next ∷ calls) rest short = (ap (λ c. (Spool, c)) short.0, spool_stops plan (next ∷ calls) rest short.1)
+pub on_stops : (v : Which) (plan calls : List Call) (rest : List HostCall) → DiskStops plan calls → StopsShort (on v plan ++ rest) (on v calls)
+on_stops v [] calls rest short = absurd short
+on_stops v (p ∷ plan) [] rest short = tt
+on_stops v (p ∷ plan) (call ∷ []) rest (inl is) = inl (ap (λ c. (v, c)) is)
+on_stops v (p ∷ plan) (call ∷ []) rest (inr is) = inr (ap (λ c. (v, c)) is.0, on_stops v plan [] rest is.1)
+on_stops v (p ∷ plan) (call ∷ next ∷ calls) rest short = (ap (λ c. (v, c)) short.0, on_stops v plan (next ∷ calls) rest short.1)
 
-pub first_stops : (plan calls : List Call) → DiskStops plan calls → StopsShort (on First plan) (on First calls)
-first_stops [] calls short = absurd short
-first_stops (p ∷ plan) [] short = tt
-first_stops (p ∷ plan) (call ∷ []) (inl is) = inl (ap (λ c. (First, c)) is)
-first_stops (p ∷ plan) (call ∷ []) (inr is) = inr (ap (λ c. (First, c)) is.0, first_stops plan [] is.1)
-first_stops (p ∷ plan) (call ∷ next ∷ calls) short = (ap (λ c. (First, c)) short.0, first_stops plan (next ∷ calls) short.1)
+pub last_stops : (v : Which) (plan calls : List Call) → DiskStops plan calls → StopsShort (on v plan) (on v calls)
+last_stops v plan calls short = subst (λ l. StopsShort l (on v calls)) (append-nil (on v plan)) (on_stops v plan calls [] short)
 
 pub behind_stops : (done plan calls : List HostCall) → StopsShort plan calls → StopsShort (done ++ plan) (done ++ calls)
 behind_stops [] plan calls short = short
@@ -174,102 +197,22 @@ behind_stops (d ∷ []) plan [] short = inr (refl, short)
 behind_stops (d ∷ []) plan (call ∷ calls) short = (refl, short)
 behind_stops (d ∷ next ∷ done) plan calls short = (refl, behind_stops (next ∷ done) plan calls short)
 
-none_stops : (done plan : List HostCall) → StopsShort plan [] → StopsShort (done ++ plan) []
+-- a plan goes on behind
+pub before_stops : (plan more calls : List HostCall) → StopsShort plan calls → StopsShort (plan ++ more) calls
+before_stops [] more calls short = absurd short
+before_stops (p ∷ plan) more [] short = tt
+before_stops (p ∷ plan) more (call ∷ []) (inl is) = inl is
+before_stops (p ∷ plan) more (call ∷ []) (inr is) = inr (is.0, before_stops plan more [] is.1)
+before_stops (p ∷ plan) more (call ∷ next ∷ calls) short = (short.0, before_stops plan more (next ∷ calls) short.1)
+
+-- nothing was done of a plan that has a call
+pub none_stops : (done plan : List HostCall) → StopsShort plan [] → StopsShort (done ++ plan) []
 none_stops [] plan short = short
 none_stops (d ∷ done) plan short = tt
 
--- A commit made these calls of the spool, and then those of the journal, which stand so to the planned ones.
-pub record Commits (Stands : List HostCall → List HostCall → Type 0) (puts : List (List ℕ)) (old now : Which → History) (a b : List Call) : Type 0 where
-  pub places : List ℕ
-  pub gate : ℕ
-  pub payload : List ℕ
-  pub many : length places ≡ length puts
-  pub stands : Stands (commit_calls places puts gate payload) (on Spool a ++ on First b)
-  pub did : DidSo old now a b
-
-pub commits_by : {Stands : List HostCall → List HostCall → Type 0} {puts : List (List ℕ)} {old now : Which → History} {a b : List Call}
-    → Commits Stands puts old now a b → CommitsBy Stands puts old now
-commits_by {Stands} {puts} {old} {now} {a} {b} c = (c.places, c.gate, c.payload, on Spool a ++ on First b, c.many, c.stands, runs old now a b c.did)
-
--- and are begun so
-pub begun : {Stands : List HostCall → List HostCall → Type 0} {puts : List (List ℕ)} {old now : Which → History} {a b : List Call}
-    → ((planned run : List HostCall) → Stands planned run → IsBegun planned run)
-    → Commits Stands puts old now a b → Commits IsBegun puts old now a b
-begun {Stands} {puts} {old} {now} {a} {b} begins c = record {
-  places = c.places;
-  gate = c.gate;
-  payload = c.payload;
-  many = c.many;
-  stands = begins (commit_calls c.places puts c.gate c.payload) (on Spool a ++ on First b) c.stands;
-  did = c.did;
-}
-
--- nothing was done
-pub idle_commit : (old now : Which → History) (puts : List (List ℕ)) → ((which : Which) → now which ≡ old which) → Commits StopsShort puts old now [] []
-idle_commit old now puts same = record {
-  places = map (λ _. 0) puts;
-  gate = 0;
-  payload = [];
-  many = length-map puts (λ _. 0);
-  stands = none_stops (on Spool (puts_calls (map (λ _. 0) puts) puts)) (on First (append_calls 0 [])) tt;
-  did = record { root = same Root; first = same First ∙ none_more (old First); second = same Second; spool = same Spool ∙ none_more (old Spool) };
-}
-
--- the spool failed
-pub spool_commit : (old now : Which → History) (puts : List (List ℕ)) → (put : ArePartlyPut puts (old Spool) (now Spool)) → DidSo old now put.calls []
-    → Commits StopsShort puts old now put.calls []
-spool_commit old now puts put did = record {
-  places = put.places;
-  gate = 0;
-  payload = [];
-  many = put.many;
-  stands = subst (StopsShort (commit_calls put.places puts 0 [])) (sym (append-nil (on Spool put.calls)))
-      (spool_stops (puts_calls put.places puts) put.calls (on First (append_calls 0 [])) put.short);
-  did = did;
-}
-
--- the journal failed
-pub first_commit : (old now : Which → History) (puts : List (List ℕ)) (places : List ℕ) (gate : ℕ) (payload : List ℕ) (calls : List Call)
-    → length places ≡ length puts → DidSo old now (puts_calls places puts) calls
-    → DiskStops (append_calls gate payload) calls → Commits StopsShort puts old now (puts_calls places puts) calls
-first_commit old now puts places gate payload calls many did short = record {
-  places = places;
-  gate = gate;
-  payload = payload;
-  many = many;
-  stands = behind_stops (on Spool (puts_calls places puts)) (on First (append_calls gate payload)) (on First calls)
-      (first_stops (append_calls gate payload) calls short);
-  did = did;
-}
-
--- all was done
-pub whole_commit : (old now : Which → History) (puts : List (List ℕ)) (places : List ℕ) (gate : ℕ) (payload : List ℕ) → length places ≡ length puts
-    → DidSo old now (puts_calls places puts) (append_calls gate payload)
-    → Commits (λ planned run. run ≡ planned) puts old now (puts_calls places puts) (append_calls gate payload)
-whole_commit old now puts places gate payload many did = record {
-  places = places;
-  gate = gate;
-  payload = payload;
-  many = many;
-  stands = refl;
-  did = did;
-}
-
--- A run of a commit is one that keeps its change, where each pair of its moments tells one of the two states.
-pub keeping : (puts : List (List ℕ)) (old now : Which → History) (before later : Plain) (a b : List Call) → Commits IsBegun puts old now a b
-    → IsQuiet (old First) → (b ≡ []) ⊎ IsQuiet (now Spool)
-    → EachPair (old Spool) (now Spool) (old First) (now First) (TellsOneOf before later)
-    → ((gate : ℕ) (payload : List ℕ) → now First ≡ extended (old First) (append_calls gate payload) → HasOneMore (old First) (now First))
-    → Keeping puts old now before later
-keeping puts old now before later a b c quiet rest each more = record {
-  places = c.places;
-  gate = c.gate;
-  payload = c.payload;
-  run = on Spool a ++ on First b;
-  many = c.many;
-  begun = c.stands;
-  made = runs old now a b c.did;
-  told = each_moment old now a b (TellsOneOf before later) c.did each;
-  settled = settled old now a b c.did quiet rest;
-  one_more = more;
-}
+-- what stops short is no longer than the plan
+pub stops_size : (plan calls : List HostCall) → StopsShort plan calls → length calls ≤ length plan
+stops_size [] calls short = absurd short
+stops_size (p ∷ plan) [] short = omega arith
+stops_size (p ∷ plan) (call ∷ []) short = omega arith
+stops_size (p ∷ plan) (call ∷ next ∷ calls) short = let rest = stops_size plan (next ∷ calls) short.1 in omega (arith, rest)

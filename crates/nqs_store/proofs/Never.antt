@@ -1,22 +1,24 @@
 -- Bytes that tell a host are at fault nowhere.
-use Rattle.std.proofs.Common.{◌≡◌, inl, inr, ℕ, List, [], ◌∷◌, ◌++◌, length, Option, Some, None, refl, sym, ap, subst, ◌∙◌, arith}
+use Rattle.std.proofs.Common.{◌≡◌, inl, inr, ℕ, Bool, true, false, List, [], ◌∷◌, ◌++◌, length, Option, Some, None, Ok, Err, refl, sym, ap, subst, ◌∙◌, arith}
 use Rattle.std.proofs.lemmas.Option.{same_Some, none-some}
 use Rattle.std.specs.List.{AllByRecursion}
 use Rattle.nqs_state.specs.State.{Plain}
 use Rattle.nqs_types.specs.declared.world.Which.{Which}
-use Rattle.nqs_types.specs.declared.world.Which.TheVariants.{Root, First, Second, Spool}
+use Rattle.nqs_types.specs.declared.world.Which.TheVariants.{Root, Spool}
 use Rattle.nqs_values.specs.declared.extent.Extent.{Extent}
-use Rattle.nqs_journal.specs.Text.{StandsFor}
+use Rattle.nqs_journal.specs.Either.{StandsBy}
 use Rattle.nqs_journal.specs.Faults as faults
 use Rattle.nqs_journal.specs.declared.fault.JournalFault.{JournalFault}
 use Rattle.nqs_journal.specs.declared.fault.JournalFault.TheVariants as journal
-use Rattle.nqs_journal.proofs.OneReading.{one_reading}
-use Rattle.nqs_journal.proofs.NoFault.{no_fault}
+use Rattle.nqs_journal.proofs.Eithers.{one_reading, no_fault}
+use Rattle.nqs_records.specs.Reading.{Read}
+use Rattle.nqs_snapshot.specs.Reading.{snapshot_of}
+use Rattle.nqs_rules.specs.Journals.{active}
 use Rattle.nqs_spool.specs.Extents.{IsApart, IsWithin, AreSound, IsBadExtent}
 use Rattle.nqs_spool.proofs.Lists.{all_cut, apart_cut}
-use Rattle.nqs_store.specs.Told.{Host, record_taken, told, told_from, IsUntold}
+use Rattle.nqs_store.specs.Told.{Host, record_taken, told, told_from, told_by, told_behind, IsUntold, IsUntoldBehind, IsUntoldBy}
 use Rattle.nqs_store.specs.Live.{live}
-use Rattle.nqs_store.specs.Images.{IsTold}
+use Rattle.nqs_store.specs.Images.{IsTold, IsToldHost}
 use Rattle.nqs_store.specs.Faults.{JournalIsAt, IsHostFault, IsExtentFault, IsReadFault, IsLoadFault}
 use Rattle.nqs_store.specs.declared.fault.LoadFault.{LoadFault}
 use Rattle.nqs_store.specs.declared.fault.LoadFault.TheVariants as load
@@ -41,6 +43,17 @@ untold_not : (payloads : List (List ℕ)) (place : ℕ) (host : Host) → told p
 untold_not payloads place host tells (inl none) = none-some host (sym (ap told none.0) ∙ tells)
 untold_not payloads place host tells (inr bad) = none-some host (sym (ap told bad.is ∙ none_told None bad.before bad.later bad.payload bad.bad) ∙ tells)
 
+behind_not : (read : Read Host) (snapshot : List ℕ) (payloads : List (List ℕ)) (place : ℕ) (host : Host) → told_behind read payloads ≡ Some host
+    → IsUntoldBehind read snapshot payloads place → ⊥
+behind_not (Ok first) snapshot payloads place host tells bad =
+    none-some host (sym (ap (told_from (Some first)) bad.is ∙ none_told (Some first) bad.before bad.later bad.payload bad.bad) ∙ tells)
+behind_not (Err fault) snapshot payloads place host tells bad = none-some host tells
+
+untold_by_not : (has : Bool) (snapshot : List ℕ) (payloads : List (List ℕ)) (place : ℕ) (host : Host) → told_by has snapshot payloads ≡ Some host
+    → IsUntoldBy has snapshot payloads place → ⊥
+untold_by_not false snapshot payloads place host tells bad = untold_not payloads place host tells bad
+untold_by_not true snapshot payloads place host tells bad = behind_not (snapshot_of snapshot) snapshot payloads place host tells bad
+
 all_front : (P : Extent → Type 0) (front back : List Extent) → AllByRecursion P (front ++ back) → AllByRecursion P front
 all_front P [] back all = tt
 all_front P (x ∷ front) back all = (all.0, all_front P front back all.1)
@@ -54,57 +67,62 @@ bad_not size extents place sound bad =
 
 -- none of these faults says that the bytes are no host's
 
-pub host_not : (payloads : List (List ℕ)) (host : Host) (fault : LoadFault) → told payloads ≡ Some host → IsHostFault payloads fault
+pub host_not : (on : Which) (has : Bool) (snapshot : List ℕ) (payloads : List (List ℕ)) (host : Host) (fault : LoadFault)
+    → told_by has snapshot payloads ≡ Some host → IsHostFault on has snapshot payloads fault
     → (which : Which) (place : ℕ) → fault ≡ load.NotNqs which place → ⊥
-host_not payloads host (load.Disk disk) tells bad which place is = bad
-host_not payloads host (load.NotNqs Root at) tells bad which place is = bad
-host_not payloads host (load.NotNqs First at) tells bad which place is = untold_not payloads at host tells bad
-host_not payloads host (load.NotNqs Second at) tells bad which place is = bad
-host_not payloads host (load.NotNqs Spool at) tells bad which place is = bad
-host_not payloads host (load.Memory memory) tells bad which place is = let no : ⊥ = cc in no
+host_not on has snapshot payloads host (load.Disk disk) tells bad which place is = bad
+host_not on has snapshot payloads host (load.NotNqs disk at) tells bad which place is = untold_by_not has snapshot payloads at host tells bad.1
+host_not on has snapshot payloads host (load.Memory memory) tells bad which place is = let no : ⊥ = cc in no
 
 pub extents_not : (size : ℕ) (extents : List Extent) (fault : LoadFault) → AreSound size extents → IsExtentFault size extents fault
     → (which : Which) (place : ℕ) → fault ≡ load.NotNqs which place → ⊥
 extents_not size extents (load.Disk disk) sound bad which place is = bad
-extents_not size extents (load.NotNqs Root at) sound bad which place is = bad
-extents_not size extents (load.NotNqs First at) sound bad which place is = bad
-extents_not size extents (load.NotNqs Second at) sound bad which place is = bad
-extents_not size extents (load.NotNqs Spool at) sound bad which place is = bad_not size extents at sound bad
+extents_not size extents (load.NotNqs disk at) sound bad which place is = bad_not size extents at sound bad.1
 extents_not size extents (load.Memory memory) sound bad which place is = let no : ⊥ = cc in no
 
-pub journal_not : (first : List ℕ) (payloads : List (List ℕ)) (fault : JournalFault) (seen : LoadFault) → StandsFor first payloads
-    → faults.IsLoadFault first fault → JournalIsAt fault seen → (which : Which) (place : ℕ) → seen ≡ load.NotNqs which place → ⊥
-journal_not first payloads journal.Disk seen stands bad at which place is = let no : ⊥ = cc in no
-journal_not first payloads (journal.NotJournal fault) seen stands bad at which place is = no_fault first payloads fault stands bad
-journal_not first payloads journal.TooLong seen stands bad at which place is = bad
-journal_not first payloads journal.Stopped seen stands bad at which place is = bad
-journal_not first payloads (journal.Memory memory) seen stands bad at which place is = let no : ⊥ = cc in no
+pub journal_not : (on : Which) (bytes : List ℕ) (has : Bool) (snapshot : List ℕ) (payloads : List (List ℕ)) (fault : JournalFault) (seen : LoadFault)
+    → StandsBy bytes has snapshot payloads → faults.IsEitherLoadFault bytes fault → JournalIsAt on fault seen
+    → (which : Which) (place : ℕ) → seen ≡ load.NotNqs which place → ⊥
+journal_not on bytes has snapshot payloads journal.Disk seen stands bad at which place is = let no : ⊥ = cc in no
+journal_not on bytes has snapshot payloads (journal.NotJournal fault) seen stands bad at which place is =
+    no_fault bytes has snapshot payloads fault stands bad
+journal_not on bytes has snapshot payloads journal.TooLong seen stands bad at which place is = bad
+journal_not on bytes has snapshot payloads journal.Stopped seen stands bad at which place is = bad
+journal_not on bytes has snapshot payloads (journal.Memory memory) seen stands bad at which place is = let no : ⊥ = cc in no
 
-read_not : (payloads : List (List ℕ)) (spool : List ℕ) (host : Host) (fault : LoadFault) → told payloads ≡ Some host → AreSound (length spool) (live host)
-    → IsReadFault payloads spool fault → (which : Which) (place : ℕ) → fault ≡ load.NotNqs which place → ⊥
-read_not payloads spool host (load.Disk disk) tells sound bad which place is = let no : ⊥ = cc in no
-read_not payloads spool host (load.NotNqs Root at) tells sound bad which place is = bad
-read_not payloads spool host (load.NotNqs First at) tells sound bad which place is = untold_not payloads at host tells bad
-read_not payloads spool host (load.NotNqs Second at) tells sound bad which place is = bad
-read_not payloads spool host (load.NotNqs Spool at) tells sound bad which place is =
-    let same = same_Some host bad.0 (sym tells ∙ bad.1) in
-    bad_not (length spool) (live bad.0) at (subst (λ h. AreSound (length spool) (live h)) same sound) bad.2
-read_not payloads spool host (load.Memory memory) tells sound bad which place is = let no : ⊥ = cc in no
-
-pub load_not : (first spool : List ℕ) (plain : Plain) (fault : LoadFault) → IsTold first spool plain → IsLoadFault first spool fault
+pub read_not : (on : Which) (has : Bool) (snapshot : List ℕ) (payloads : List (List ℕ)) (spool : List ℕ) (host : Host) (fault : LoadFault)
+    → told_by has snapshot payloads ≡ Some host → AreSound (length spool) (live host) → IsReadFault on has snapshot payloads spool fault
     → (which : Which) (place : ℕ) → fault ≡ load.NotNqs which place → ⊥
-load_not first spool plain fault is_told (inl bad) = journal_not first is_told.payloads bad.0 fault is_told.stands bad.1 bad.2
-load_not first spool plain fault is_told (inr bad) =
-    let same = one_reading first bad.0 is_told.payloads bad.1 is_told.stands in
-    read_not bad.0 spool is_told.host fault (ap told same ∙ is_told.tells) is_told.sound bad.2
+read_not on has snapshot payloads spool host (load.Disk disk) tells sound bad which place is = let no : ⊥ = cc in no
+read_not on has snapshot payloads spool host (load.NotNqs disk at) tells sound (inl bad) which place is =
+    untold_by_not has snapshot payloads at host tells bad.1
+read_not on has snapshot payloads spool host (load.NotNqs disk at) tells sound (inr bad) which place is =
+    let one = bad.1 in
+    let same = same_Some host one.0 (sym tells ∙ one.1) in
+    bad_not (length spool) (live one.0) at (subst (λ h. AreSound (length spool) (live h)) same sound) one.2
+read_not on has snapshot payloads spool host (load.Memory memory) tells sound bad which place is = let no : ⊥ = cc in no
 
--- the same of the records that were found
-pub found_not : (first spool : List ℕ) (plain : Plain) (found payloads : List (List ℕ)) (fault : LoadFault) → IsTold first spool plain
-    → StandsFor first payloads → found ≡ payloads → IsReadFault found spool fault
-    → (which : Which) (place : ℕ) → fault ≡ load.NotNqs which place → ⊥
-found_not first spool plain found payloads fault is_told stands same bad =
-    load_not first spool plain fault is_told (inr (payloads, stands, subst (λ ps. IsReadFault ps spool fault) same bad))
+-- by what a journal stands for, one host is told
+pub one_host : (bytes : List ℕ) (has had : Bool) (snapshot other : List ℕ) (ps qs : List (List ℕ)) (a b : Host) → StandsBy bytes has snapshot ps
+    → told_by has snapshot ps ≡ Some a → StandsBy bytes had other qs → told_by had other qs ≡ Some b → a ≡ b
+one_host bytes has had snapshot other ps qs a b p tells q tells' =
+    let same = one_reading bytes has had snapshot other ps qs p q in
+    same_Some a b (sym tells ∙ (λ j. told_by (same.0 j) (same.1 j) (same.2 j)) ∙ tells')
 
 -- bytes tell one host
-pub one_host : (bytes : List ℕ) (ps qs : List (List ℕ)) (a b : Host) → StandsFor bytes ps → told ps ≡ Some a → StandsFor bytes qs → told qs ≡ Some b → a ≡ b
-one_host bytes ps qs a b p tells q tells' = same_Some a b (sym tells ∙ ap told (one_reading bytes ps qs p q) ∙ tells')
+pub one_told : (bytes : Which → List ℕ) (a b : Host) → IsToldHost bytes a → IsToldHost bytes b → a ≡ b
+one_told bytes a b is is' =
+    one_host (bytes (active (bytes Root))) is.has is'.has is.snapshot is'.snapshot is.payloads is'.payloads a b is.stands is.tells is'.stands is'.tells
+
+-- no fault says that bytes which tell a host are no host's
+pub load_not : (bytes : Which → List ℕ) (host : Host) (fault : LoadFault) → IsToldHost bytes host → IsLoadFault bytes fault
+    → (which : Which) (place : ℕ) → fault ≡ load.NotNqs which place → ⊥
+load_not bytes host fault is_told (inl (inl bad)) which place is = let no : ⊥ = cc in no
+load_not bytes host fault is_told (inl (inr bad)) which place is = let no : ⊥ = cc in no
+load_not bytes host fault is_told (inr (inl bad)) which place is =
+    journal_not (active (bytes Root)) (bytes (active (bytes Root))) is_told.has is_told.snapshot is_told.payloads bad.0 fault is_told.stands bad.1 bad.2
+    which place is
+load_not bytes host fault is_told (inr (inr bad)) which place is =
+    let same = one_reading (bytes (active (bytes Root))) is_told.has bad.0 is_told.snapshot bad.1 is_told.payloads bad.2 is_told.stands bad.3 in
+    read_not (active (bytes Root)) bad.0 bad.1 bad.2 (bytes Spool) host fault ((λ j. told_by (sym same.0 j) (sym same.1 j) (sym same.2 j)) ∙ is_told.tells)
+    is_told.sound bad.4 which place is

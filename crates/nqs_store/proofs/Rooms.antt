@@ -13,7 +13,7 @@ use Rattle.nqs_spool.specs.declared.spool.Spool.{Spool}
 use Rattle.nqs_store.specs.Commits.{AreClear, FailsFirst}
 use Rattle.nqs_store.specs.Puts.{place_of}
 use Rattle.nqs_store.specs.Putting.{ArePartlyPut, ArePut, ArePutFor}
-use Rattle.nqs_store.proofs.Loading.{each_disk}
+use Rattle.nqs_store.proofs.EachDisk.{each_disk}
 
 pub same_histories : (old now : Which → History) → now which.Root ≡ old which.Root → now which.First ≡ old which.First → now which.Second ≡ old which.Second
     → now which.Spool ≡ old which.Spool → (w : Which) → now w ≡ old w

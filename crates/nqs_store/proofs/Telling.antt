@@ -1,12 +1,28 @@
 -- What records tell, one after the other.
-use Rattle.std.proofs.Common.{◌≡◌, inl, inr, ℕ, ◌+◌, ◌≤◌, List, [], ◌∷◌, ◌++◌, take, drop, take-append-drop, length, length-append, slice_get, Option, Some}
-use Rattle.std.proofs.Common.{None, is_some, refl, sym, ap, subst, ◌∙◌, arith, append_assoc}
+use Rattle.std.proofs.Common.{◌≡◌, inl, inr, ℕ, ◌+◌, ◌≤◌, Bool, true, false, not, ◌||◌, IsTrue, List, [], ◌∷◌, ◌++◌, take, drop, take-append-drop, length, length-append, slice_get, Option, Some}
+use Rattle.std.proofs.Common.{None, Ok, Err, is_some, refl, sym, ap, subst, ◌∙◌, arith, append_assoc}
 use Rattle.std.proofs.lemmas.Option.{none-some}
 use Rattle.nqs_keyed.proofs.TableLemmas.{drop-at}
-use Rattle.nqs_journal.specs.Text.{header, records, frame}
-use Rattle.nqs_journal.proofs.Readings.{gate_more}
-use Rattle.nqs_store.specs.Told.{Host, record_taken, told, told_from, IsUntold}
-use Rattle.nqs_store.specs.TellFaults.{IsRefused, IsTellFault}
+use Rattle.nqs_journal.specs.Text.{header, snapshot_front, records, frame}
+use Rattle.nqs_journal.proofs.Texts.{length-frame}
+use Rattle.nqs_journal.proofs.Fronts.{length-front}
+use Rattle.nqs_records.specs.Reading.{Read}
+use Rattle.nqs_records.specs.declared.fault.RecordFault.{RecordFault}
+use Rattle.nqs_snapshot.specs.Reading.{snapshot_of}
+use Rattle.std.specs.List.{list_any}
+use Rattle.std.proofs.lemmas.List.Folds.{list_any-append}
+use Rattle.nqs_values.specs.declared.extent.Extent.{Extent}
+use Rattle.nqs_types.specs.Ids.{id_eq}
+use Rattle.nqs_types.specs.declared.ids.RequestId.{RequestId}
+use Rattle.nqs_types.specs.declared.request.Row.{Row}
+use Rattle.nqs_rules.specs.Tests.{is_running}
+use Rattle.nqs_rules.proofs.Chains.{imply}
+use Rattle.nqs_rules.proofs.KeyFacts.{any-before}
+use Rattle.nqs_rules.proofs.RowFacts.{same_id}
+use Rattle.std.proofs.lemmas.Bool.{or_left, or_right}
+use Rattle.nqs_changes.specs.Running.{runs_in}
+use Rattle.nqs_store.specs.Told.{Host, record_taken, told, told_from, told_by, told_behind, IsUntoldBehind}
+use Rattle.nqs_store.specs.TellFaults.{IsRefused, IsTakenFault, IsTellFault}
 use Rattle.nqs_store.specs.declared.tell.TellFault.{TellFault}
 use Rattle.nqs_store.specs.declared.tell.TellFault.TheVariants.{Untold, Memory}
 
@@ -30,53 +46,149 @@ told_more so_far (p ∷ payloads) host payload is = by (record_taken p so_far) (
     by None more is = absurd (none-some host is)
     by (Some h) more is = more h is
 
+-- the same behind either beginning of a journal
+pub told_by_more : (has : Bool) (snapshot : List ℕ) (payloads : List (List ℕ)) (host : Host) (payload : List ℕ) → told_by has snapshot payloads ≡ Some host
+    → told_by has snapshot (payloads ++ payload ∷ []) ≡ record_taken payload (Some host)
+told_by_more false snapshot payloads host payload is = told_more None payloads host payload is
+told_by_more true snapshot payloads host payload is = by (snapshot_of snapshot) is
+  where
+    by : (read : Read Host) → told_behind read payloads ≡ Some host → told_behind read (payloads ++ payload ∷ []) ≡ record_taken payload (Some host)
+    by (Ok first) is = told_more (Some first) payloads host payload is
+    by (Err fault) is = absurd (none-some host is)
+
 records-append : (ps qs : List (List ℕ)) → records (ps ++ qs) ≡ records ps ++ records qs
 records-append [] qs = refl
 records-append (p ∷ ps) qs = ap (λ (l : List ℕ). 1 ∷ frame p ++ l) (records-append ps qs)
     ∙ ap (λ (l : List ℕ). 1 ∷ l) (sym (append_assoc (frame p) (records ps) (records qs)))
 
--- the records so far are no longer than all
-pub shorter : (ps qs : List (List ℕ)) → length (header ++ records ps) ≤ length (header ++ records (ps ++ qs))
-shorter ps qs = omega (
+-- the records from a place on are no longer than all
+within : (place bound : ℕ) (before : List (List ℕ)) (payload : List ℕ) (later : List (List ℕ)) → place + length (records (before ++ payload ∷ later)) ≤ bound
+    → place + length (records before) + (5 + length payload) ≤ bound
+within place bound before payload later short = omega (
   arith,
-  length-append header (records ps),
-  length-append header (records (ps ++ qs)),
-  ap length (records-append ps qs),
-  length-append
-      (records ps) (records qs),
+  short,
+  ap length (records-append before (payload ∷ later)),
+  length-append (records before) (records (payload ∷ later)),
+  length-append (1 ∷ frame payload) (records later),
+  length-frame payload,
 )
 
-module _ (first : List ℕ) (later : List (List ℕ)) (i : ℕ) (payload : List ℕ) (at : slice_get later i ≡ Some payload) where
-  pub parted : first ∷ later ≡ (first ∷ take i later) ++ payload ∷ drop (i + 1) later
-  parted = ap (λ l. first ∷ l) (sym (take-append-drop i later) ∙ ap (λ l. take i later ++ l) (drop-at later i payload at))
+module _ (payloads : List (List ℕ)) (i : ℕ) (payload : List ℕ) (at : slice_get payloads i ≡ Some payload) where
+  pub parted : payloads ≡ take i payloads ++ payload ∷ drop (i + 1) payloads
+  parted = sym (take-append-drop i payloads) ∙ ap (λ l. take i payloads ++ l) (drop-at payloads i payload at)
 
--- why a record isn't taken is why the records tell no host
-pub refused_untold : (payloads : List (List ℕ)) (place : ℕ) (Bad : Type 0) (fault : TellFault) → IsRefused place Bad fault → (Bad → IsUntold payloads place)
-    → IsTellFault payloads fault
-refused_untold payloads place Bad (Untold at) refused untold = subst (IsUntold payloads) (sym refused.0) (untold refused.1)
-refused_untold payloads place Bad (Memory memory) refused untold = tt
+  -- a record's end is within all of them
+  pub next_within : (place bound now : ℕ) → place + length (records payloads) ≤ bound → now ≡ place + length (records (take i payloads))
+      → now + (5 + length payload) ≤ bound
+  next_within place bound now short is = let fits = within place bound (take i payloads) payload (drop (i + 1) payloads)
+      (subst (λ ps. place + length (records ps) ≤ bound) parted short) in omega (arith, fits, is)
 
-pub bad_first : (payloads : List (List ℕ)) (first : List ℕ) (later : List (List ℕ)) → payloads ≡ first ∷ later → record_taken first None ≡ None
-    → IsUntold payloads 16
-bad_first payloads first later is bad = inr (record { before = []; payload = first; later = later; is = is; so_far = inl refl; bad = bad; at = refl })
+  -- and is where the next begins
+  pub next_is : (place now : ℕ) (more : List (List ℕ)) → now ≡ place + length (records (take i payloads)) → more ≡ take i payloads ++ payload ∷ []
+      → now + (5 + length payload) ≡ place + length (records more)
+  next_is place now more is same = omega (
+    arith,
+    is,
+    ap (λ ps. length (records ps)) same,
+    ap length (records-append (take i payloads) (payload ∷ [])),
+    length-append (records (take i payloads)) (records (payload ∷ [])),
+    length-append (1 ∷ frame payload) (records []),
+    length-frame payload,
+  )
 
-pub bad_later : (payloads before : List (List ℕ)) (payload : List ℕ) (later : List (List ℕ)) (host : Host) (place : ℕ) → payloads ≡ before ++ payload ∷ later
-    → told before ≡ Some host → place ≡ length (header ++ records before)
-    → record_taken payload (Some host) ≡ None → IsUntold payloads place
-bad_later payloads before payload later host place is tells at bad = inr (record {
-  before = before;
+-- a record that isn't taken
+pub refused_from : (host : Host) (place : ℕ) (payloads : List (List ℕ)) (i : ℕ) (payload slice : List ℕ) (now : Host) (at : ℕ) (fault : TellFault)
+    → slice ≡ payload → slice_get payloads i ≡ Some payload → told_from (Some host) (take i payloads) ≡ Some now → at ≡ place + length (records (take i payloads))
+    → IsRefused at (record_taken slice (Some now) ≡ None) fault → IsTakenFault host place payloads fault
+refused_from host place payloads i payload slice now at (Untold found) same is tells stands bad = record {
+  before = take i payloads;
   payload = payload;
+  later = drop (i + 1) payloads;
+  is = parted payloads i payload is;
+  so_far = ap is_some tells;
+  bad = ap (record_taken payload) tells ∙ ap (λ q. record_taken q (Some now)) (sym same) ∙ bad.1;
+  stands = bad.0 ∙ stands;
+}
+refused_from host place payloads i payload slice now at (Memory memory) same is tells stands bad = tt
+
+-- records behind the first one
+
+first_told : (first : List ℕ) (later : List (List ℕ)) (host : Host) → record_taken first None ≡ Some host → told (first ∷ later) ≡ told_from (Some host) later
+first_told first later host is = ap (λ (r : Option Host). elim r [ None ↦ None | Some h ↦ told_from (Some h) later ]) is
+
+pub told_first : (payloads : List (List ℕ)) (first : List ℕ) (later : List (List ℕ)) (host now : Host) → payloads ≡ first ∷ later
+    → record_taken first None ≡ Some host → told_from (Some host) later ≡ Some now → told payloads ≡ Some now
+told_first payloads first later host now is one rest = ap told is ∙ first_told first later host one ∙ rest
+
+pub bad_first : (payloads : List (List ℕ)) (first slice : List ℕ) (later : List (List ℕ)) (fault : TellFault) → slice ≡ first → payloads ≡ first ∷ later
+    → IsRefused 16 (record_taken slice None ≡ None) fault → IsTellFault false [] payloads fault
+bad_first payloads first slice later (Untold place) same is bad = inr (record {
+  before = [];
+  payload = first;
   later = later;
   is = is;
-  so_far = inr (ap is_some tells);
-  bad = ap (record_taken payload) tells ∙ bad;
-  at = at;
+  so_far = inl refl;
+  bad = ap (λ q. record_taken q None) (sym same) ∙ bad.1;
+  at = bad.0;
 })
+bad_first payloads first slice later (Memory memory) same is bad = tt
 
--- a record's end is within all of them
-pub next_within : (payloads before : List (List ℕ)) (payload : List ℕ) (later : List (List ℕ)) (place bound : ℕ) → payloads ≡ before ++ payload ∷ later
-    → length (header ++ records payloads) ≤ bound → place ≡ length (header ++ records before)
-    → place + (5 + length payload) ≤ bound
-next_within payloads before payload later place bound is short at =
-    let whole : payloads ≡ (before ++ payload ∷ []) ++ later = is ∙ sym (append_assoc before (payload ∷ []) later) in
-    omega (arith, short, at, gate_more payload before place at, shorter (before ++ payload ∷ []) later, ap (λ ps. length (header ++ records ps)) whole)
+pub bad_later : (payloads : List (List ℕ)) (first : List ℕ) (later : List (List ℕ)) (host : Host) (place : ℕ) (fault : TellFault) → payloads ≡ first ∷ later
+    → record_taken first None ≡ Some host → place ≡ 21 + length first → IsTakenFault host place later fault → IsTellFault false [] payloads fault
+bad_later payloads first later host place (Untold at) is one stands bad = inr (record {
+  before = first ∷ bad.before;
+  payload = bad.payload;
+  later = bad.later;
+  is = is ∙ ap (λ l. first ∷ l) bad.is;
+  so_far = inr (subst (λ o. IsTrue (is_some o)) (sym (first_told first bad.before host one)) bad.so_far);
+  bad = ap (record_taken bad.payload) (first_told first bad.before host one) ∙ bad.bad;
+  at = omega (
+    arith,
+    bad.stands,
+    stands,
+    length-append header (records (first ∷ bad.before)),
+    length-append (1 ∷ frame first) (records bad.before),
+    length-frame first,
+  );
+})
+bad_later payloads first later host place (Memory memory) is one stands bad = tt
+
+-- records behind a snapshot
+
+pub told_snapshot : (snapshot : List ℕ) (payloads : List (List ℕ)) (host now : Host) → snapshot_of snapshot ≡ Ok host
+    → told_from (Some host) payloads ≡ Some now → told_by true snapshot payloads ≡ Some now
+told_snapshot snapshot payloads host now reads rest = ap (λ r. told_behind r payloads) reads ∙ rest
+
+pub bad_snapshot : (snapshot : List ℕ) (payloads : List (List ℕ)) (fault : TellFault)
+    → IsRefused 24 ((why : RecordFault) × (snapshot_of snapshot ≡ Err why)) fault → IsTellFault true snapshot payloads fault
+bad_snapshot snapshot payloads (Untold place) bad = subst (λ r. IsUntoldBehind r snapshot payloads place) (sym bad.1.1) bad.0
+bad_snapshot snapshot payloads (Memory memory) bad = tt
+
+-- where the records of such a journal begin
+pub front_size : (snapshot : List ℕ) → length (snapshot_front snapshot) ≡ 24 + length snapshot
+front_size snapshot = length-front snapshot
+
+pub bad_behind : (snapshot : List ℕ) (payloads : List (List ℕ)) (host : Host) (place : ℕ) (fault : TellFault) → snapshot_of snapshot ≡ Ok host
+    → place ≡ 24 + length snapshot → IsTakenFault host place payloads fault → IsTellFault true snapshot payloads fault
+bad_behind snapshot payloads host place (Untold at) reads stands bad = subst (λ r. IsUntoldBehind r snapshot payloads at) (sym reads) (record {
+  before = bad.before;
+  payload = bad.payload;
+  later = bad.later;
+  is = bad.is;
+  so_far = bad.so_far;
+  bad = bad.bad;
+  at = omega (arith, bad.stands, stands, length-append (snapshot_front snapshot) (records bad.before), front_size snapshot);
+})
+bad_behind snapshot payloads host place (Memory memory) reads stands bad = tt
+
+-- the requests that run
+
+module _ (ids : List RequestId) (row : Row Extent) where
+  -- one more may run
+  pub still_in : (r : Row Extent) → runs_in ids r ≡ true → runs_in (ids ++ row.id ∷ []) r ≡ true
+  still_in r = imply (is_running r.state) (list_any (id_eq r.id) ids) (list_any (id_eq r.id) (ids ++ row.id ∷ [])) (any-before (id_eq r.id) ids (row.id ∷ []))
+
+  -- and the row is among them
+  pub added_in : runs_in (ids ++ row.id ∷ []) row ≡ true
+  added_in = or_right (not (is_running row.state)) (list_any (id_eq row.id) (ids ++ row.id ∷ [])) (list_any-append (id_eq row.id) ids (row.id ∷ [])
+      ∙ or_right (list_any (id_eq row.id) ids) (id_eq row.id row.id || false) (or_left (id_eq row.id row.id) false (same_id row.id)))

@@ -1,8 +1,8 @@
 -- The disks of a host.
-use Rattle.std.specs.Prelude.{ℕ, Bool}
+use Rattle.std.specs.Prelude.{ℕ, Bool, List}
 use Rattle.nqs_types.specs.declared.world.Which.{Which}
 use Rattle.nqs_types.specs.declared.world.Which.TheVariants.{Root, First, Second, Spool}
-use Rattle.nqs_outside.specs.History.{History}
+use Rattle.nqs_outside.specs.History.{History, content}
 use Rattle.nqs_store.specs.declared.disks.Disks.{Disks}
 
 -- one of them
@@ -19,3 +19,7 @@ histories_of history disks which = history (disk_at which disks)
 -- which of their calls are to fail
 abbrev pub failing_of : {D : Type 0} → (D → ℕ → Bool) → Disks D → Which → ℕ → Bool
 failing_of fails disks which = fails (disk_at which disks)
+
+-- what each of them holds
+abbrev pub contents : (Which → History) → Which → List ℕ
+contents now which = content (now which)

@@ -1,3 +1,4 @@
+pub mod Active
 pub mod Told
 pub mod Live
 pub mod Sound
@@ -13,4 +14,9 @@ pub mod Hosts
 pub mod Plan
 pub mod Putting
 pub mod Images
+pub mod Reads
+pub mod Opens
 pub mod Commits
+pub mod Moments
+pub mod Steps
+pub mod Changing

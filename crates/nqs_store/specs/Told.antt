@@ -1,5 +1,5 @@
 -- What the records of a journal tell.
-use Rattle.std.specs.Prelude.{◌≡◌, ◌⊎◌, ℕ, if◌then◌else◌, List, [], ◌∷◌, ◌++◌, length, Option, Some, None, Ok, Err, IsTrue, is_some}
+use Rattle.std.specs.Prelude.{◌≡◌, ◌⊎◌, ℕ, Bool, false, true, if◌then◌else◌, List, [], ◌∷◌, ◌++◌, length, Option, Some, None, Ok, Err, IsTrue, is_some}
 use Rattle.nqs_state.specs.State.{State}
 use Rattle.nqs_values.specs.declared.extent.Extent.{Extent}
 use Rattle.nqs_types.specs.declared.change.Change.{Change}
@@ -7,9 +7,10 @@ use Rattle.nqs_types.specs.declared.change.Change.TheVariants.{Site}
 use Rattle.nqs_rules.specs.Format.{formatted}
 use Rattle.nqs_rules.specs.Fits.{fits}
 use Rattle.nqs_rules.specs.Applied.{applied}
-use Rattle.nqs_journal.specs.Text.{header, records}
+use Rattle.nqs_journal.specs.Text.{header, snapshot_front, records}
 use Rattle.nqs_records.specs.Reading.{Read}
 use Rattle.nqs_records.specs.Kinds.{record_of}
+use Rattle.nqs_snapshot.specs.Reading.{snapshot_of}
 
 -- a host with the extents of its scripts and outputs
 abbrev pub Host : Type 0
@@ -39,6 +40,16 @@ told_from so_far (payload ∷ payloads) = elim (record_taken payload so_far) [ N
 abbrev pub told : List (List ℕ) → Option Host
 told payloads = told_from None payloads
 
+-- what the records make of the host that a snapshot was read as
+abbrev pub told_behind : Read Host → List (List ℕ) → Option Host
+told_behind (Ok host) payloads = told_from (Some host) payloads
+told_behind (Err fault) payloads = None
+
+-- the host that a journal of either form tells, as it begins with a snapshot or not, if it tells one
+abbrev pub told_by : Bool → List ℕ → List (List ℕ) → Option Host
+told_by false snapshot payloads = told payloads
+told_by true snapshot payloads = told_behind (snapshot_of snapshot) payloads
+
 -- The first record that is no change or doesn't fit what those before it tell. Its gate stands at the place.
 pub record IsBadRecord (payloads : List (List ℕ)) (place : ℕ) : Type 0 where
   pub before : List (List ℕ)
@@ -52,3 +63,23 @@ pub record IsBadRecord (payloads : List (List ℕ)) (place : ℕ) : Type 0 where
 -- why payloads tell no host: there is none, or one is bad
 abbrev pub IsUntold : List (List ℕ) → ℕ → Type 0
 IsUntold payloads place = ((payloads ≡ []) × (place ≡ 16)) ⊎ IsBadRecord payloads place
+
+-- The first record that is no change or doesn't fit what a host and those before it tell. Its gate stands at the place behind a front.
+pub record IsBadRecordBehind (front : List ℕ) (host : Host) (payloads : List (List ℕ)) (place : ℕ) : Type 0 where
+  pub before : List (List ℕ)
+  pub payload : List ℕ
+  pub later : List (List ℕ)
+  pub is : payloads ≡ before ++ payload ∷ later
+  pub so_far : IsTrue (is_some (told_from (Some host) before))
+  pub bad : record_taken payload (told_from (Some host) before) ≡ None
+  pub at : place ≡ length (front ++ records before)
+
+-- why a snapshot and the payloads behind it tell no host: it is no spelling of one, or a record is bad
+abbrev pub IsUntoldBehind : Read Host → List ℕ → List (List ℕ) → ℕ → Type 0
+IsUntoldBehind (Ok host) snapshot payloads place = IsBadRecordBehind (snapshot_front snapshot) host payloads place
+IsUntoldBehind (Err fault) snapshot payloads place = place ≡ 24
+
+-- why a journal of either form tells no host
+abbrev pub IsUntoldBy : Bool → List ℕ → List (List ℕ) → ℕ → Type 0
+IsUntoldBy false snapshot payloads place = IsUntold payloads place
+IsUntoldBy true snapshot payloads place = IsUntoldBehind (snapshot_of snapshot) snapshot payloads place

@@ -2,7 +2,8 @@
 
 use nqs_outside::Disk;
 
-/// The four disks of a host. `root` and `second` are empty, and no call is made of them.
+/// The four disks of a host: `first` and `second` have a journal each, of which `root` names the
+/// active one, and `spool` has the bytes of scripts and outputs.
 #[derive(Drop)]
 pub struct Disks<D: Disk> {
     pub root: D,

@@ -14,9 +14,10 @@ pub enum LoadFault {
     /// A call of this disk failed.
     #[error("a disk failed")]
     Disk(Which),
-    /// The disk has no host's bytes from this place on, counted from 0. On `first` it is the place
-    /// of a byte that is none of a journal, or of the gate of a record that is no change or doesn't
-    /// fit; on the spool that of an extent that runs past the end or meets an earlier one.
+    /// The disk has no host's bytes from this place on, counted from 0. On the active journal's
+    /// disk it is the place of a byte that is none of a journal, of a snapshot that is none of a
+    /// host, or of the gate of a record that is no change or doesn't fit; on the spool that of an
+    /// extent that runs past the end or meets an earlier one.
     #[error("not a host's disk: byte {1}")]
     NotNqs(Which, u64),
     #[error("out of memory")]

@@ -1,22 +1,23 @@
 //! Calls of an open store that keep nothing.
 
-ghost use Rattle.std.specs.Prelude.{◌≡◌, ◌≢◌, ◌⊎◌, ◌↔◌, ◌<◌, ◌≤◌, ◌+◌, ◌-◌, ◌^◌, ◌++◌, ℕ, List, IsTrue, IsErrOf, OnOk, OnErr, IfOk, IfErr, Some, false, length};
+ghost use Rattle.std.specs.Prelude.{◌≡◌, ◌≢◌, ◌↔◌, ◌<◌, ◌≤◌, ◌+◌, ◌-◌, ◌^◌, ◌++◌, ℕ, IsTrue, IsErrOf, OnOk, OnErr, IfOk, IfErr, false, length};
 ghost use Rattle.std.specs.Prelude.{max, nat_le, vec_capacity};
 ghost use Rattle.nqs_values.specs.Want.{want};
 ghost use Rattle.nqs_state.specs.State.{content};
 ghost use Rattle.nqs_types.specs.declared.world.Which.{Which};
-ghost use Rattle.nqs_types.specs.declared.world.Which.TheVariants.{First, Spool};
-ghost use Rattle.nqs_outside.specs.Causes.{Rose};
-ghost use Rattle.nqs_outside.specs.History.{content as bytes_now, moment};
-ghost use Rattle.nqs_journal.specs.Text.{StandsFor};
+ghost use Rattle.nqs_types.specs.declared.world.Which.TheVariants.{Spool};
+ghost use Rattle.nqs_outside.specs.History.{moment};
 ghost use Rattle.nqs_spool.specs.Extents.{Has, AreSound};
-ghost use Rattle.nqs_store.specs.Told.{Host, told};
+ghost use Rattle.nqs_store.specs.Told.{Host};
+ghost use Rattle.nqs_store.specs.Disks.{contents};
+ghost use Rattle.nqs_store.specs.Images.{IsToldHost};
 ghost use Rattle.nqs_store.specs.Live.{live};
 ghost use Rattle.nqs_store.specs.Sound.{IsSoundHost};
 ghost use Rattle.nqs_store.specs.Faults.{IsScriptFault, IsLoadFault};
 
 use crate::fault::{LoadFault, StoreFault};
-use crate::store::{Store, first_fault, host_with};
+use crate::reading::{names_second, reread_host};
+use crate::store::Store;
 use nqs_outside::{Disk, Fused};
 use nqs_spool::SpoolFault;
 use nqs_state::HostState;
@@ -25,7 +26,7 @@ use nqs_values::Extent;
 use std::alloc::Global;
 
 impl<D: Disk> Store<D> {
-    ghost use Rattle.nqs_store.specs.Stores.{disk_of, history_of, fails_of, is_starved, is_stopped, Tells, bytes_of};
+    ghost use Rattle.nqs_store.specs.Stores.{history_of, is_stopped, active_of, Tells, bytes_of, OnlyReads, FailedToRead};
 
     /// Whether an earlier commit was answered `Disk`.
     pub fn is_stopped(&self) -> bool
@@ -45,15 +46,9 @@ impl<D: Disk> Store<D> {
         // Whatever the disk is, it gives no more bytes than the extent has.
         ensures few { length out.new.items ≤ length out.old.items + extent.now.length }
         ensures memory { IsErrOf result (StoreFault.Memory want) → vec_capacity out.old < length out.old.items + extent.now.length }
-        ensures failed { IsErrOf result (StoreFault.Disk Spool) → Rose (D.faults (disk_of Spool self.old)) (D.faults (disk_of Spool self.new)) }
-        // Only after a call that was to fail.
-        ensures cause { IsTrue D.tells → IsErrOf result (StoreFault.Disk Spool) → (i : ℕ) × (i < moment (history_of self.old Spool))
-            × IsTrue (fails_of self.old Spool i) }
-        ensures same { IsTrue D.tells → (which : Which) → history_of self.new which ≡ history_of self.old which }
-        ensures fuse { IsTrue D.tells → (which : Which) (i : ℕ) → fails_of self.new which i ≡ fails_of self.old which i }
-        ensures starved { IsTrue D.tells → (which : Which) → is_starved self.new which ≡ is_starved self.old which }
-        ensures stays { is_stopped self.new ≡ is_stopped self.old }
-        ensures later { (which : Which) → D.faults (disk_of which self.old) ≤ D.faults (disk_of which self.new) }
+        ensures failed { IsErrOf result (StoreFault.Disk Spool) → FailedToRead self.old self.new Spool }
+        ensures reads { OnlyReads self.old self.new }
+        ensures stays { (is_stopped self.new ≡ is_stopped self.old) × (active_of self.new ≡ active_of self.old) }
         ensures tells { IsTrue D.tells → (host : Host) → Tells self.old host → Tells self.new host }
     {
         if self.stopped {
@@ -69,37 +64,33 @@ impl<D: Disk> Store<D> {
     /// Tells the host by what its disks hold now, whatever the store told before. It writes
     /// nothing, and the store stays as it is. `NotNqs` has the disk and the place of the first test
     /// that fails, as in `load`.
+    #[tactic(none)]
     pub fn reread(&mut self, alloc: Global) -> Result<HostState, LoadFault>
-        ensures found { IsTrue D.tells → IfOk result (λ state. (payloads : List (List ℕ)) × StandsFor (bytes_now (history_of self.old First)) payloads
-            × (told payloads ≡ Some (content state)) × AreSound (length (bytes_now (history_of self.old Spool))) (live (content state))) }
-        ensures fault { IsTrue D.tells → IfErr result (IsLoadFault (bytes_now (history_of self.old First)) (bytes_now (history_of self.old Spool))) }
+        ensures found { IsTrue D.tells → IfOk result (λ state. IsToldHost (contents (history_of self.old)) (content state)) }
+        ensures fault { IsTrue D.tells → IfErr result (IsLoadFault (contents (history_of self.old))) }
         ensures told { IsTrue D.tells → (host : Host) → Tells self.old host → IfOk result (λ state. content state ≡ host) }
         ensures sound { IfOk result (λ state. IsSoundHost (content state)) }
         // Whatever the disks are, its live extents end within 2^40 bytes, and no two meet.
         ensures extents { IfOk result (λ state. (size : ℕ) × (size ≤ 2 ^ 40) × AreSound size (live (content state))) }
         ensures never { IsTrue D.tells → (host : Host) → Tells self.old host → (which : Which) (place : ℕ) → IsErrOf result (LoadFault.NotNqs which place) → ⊥ }
-        ensures failed { (which : Which) → IsErrOf result (LoadFault.Disk which)
-            → Rose (D.faults (disk_of which self.old)) (D.faults (disk_of which self.new)) }
-        // Only after a call that was to fail.
-        ensures cause { IsTrue D.tells → (which : Which) → IsErrOf result (LoadFault.Disk which) → (i : ℕ) × (i < moment (history_of self.old which))
-            × IsTrue (fails_of self.old which i) }
-        ensures same { IsTrue D.tells → (which : Which) → history_of self.new which ≡ history_of self.old which }
-        ensures fuse { IsTrue D.tells → (which : Which) (i : ℕ) → fails_of self.new which i ≡ fails_of self.old which i }
-        ensures starved { IsTrue D.tells → (which : Which) → is_starved self.new which ≡ is_starved self.old which }
-        ensures stays { is_stopped self.new ≡ is_stopped self.old }
-        ensures later { (which : Which) → D.faults (disk_of which self.old) ≤ D.faults (disk_of which self.new) }
+        ensures failed { (which : Which) → IsErrOf result (LoadFault.Disk which) → FailedToRead self.old self.new which }
+        ensures reads { OnlyReads self.old self.new }
+        ensures stays { (is_stopped self.new ≡ is_stopped self.old) × (active_of self.new ≡ active_of self.old) }
         ensures tells { IsTrue D.tells → (host : Host) → Tells self.old host → Tells self.new host }
     {
-        let mut found = Vec::new(alloc);
-        match self.first.reread(alloc, &mut found) {
-            Err(fault) => Err(first_fault(fault)),
-            Ok(()) => host_with(alloc, &found, &mut self.spool),
+        let Ok(second) = names_second(&mut self.root) else {
+            return Err(LoadFault::Disk(Which::Root));
+        };
+        if second {
+            reread_host(alloc, Which::Second, &mut self.second, &mut self.spool)
+        } else {
+            reread_host(alloc, Which::First, &mut self.first, &mut self.spool)
         }
     }
 }
 
 impl<D: Fused> Store<D> {
-    ghost use Rattle.nqs_store.specs.Stores.{disk_of, history_of, fails_of, is_starved, is_stopped, Tells};
+    ghost use Rattle.nqs_store.specs.Stores.{disk_of, history_of, fails_of, is_starved, is_stopped, active_of, Tells};
 
     /// Makes the calls-th write or sync from here of the disk fail, and each later call of it. It
     /// changes nothing else, and nothing where a call of that disk that was to fail was made
@@ -114,7 +105,7 @@ impl<D: Fused> Store<D> {
         ensures others { (disk : Which) → disk ≢ which → (i : ℕ) → fails_of self.new disk i ≡ fails_of self.old disk i }
         ensures starved { (disk : Which) → is_starved self.new disk ≡ is_starved self.old disk }
         ensures faults { (disk : Which) → D.faults (disk_of disk self.new) ≡ D.faults (disk_of disk self.old) }
-        ensures stopped { is_stopped self.new ≡ is_stopped self.old }
+        ensures stopped { (is_stopped self.new ≡ is_stopped self.old) × (active_of self.new ≡ active_of self.old) }
         ensures tells { (host : Host) → Tells self.old host → Tells self.new host }
     {
         match which {

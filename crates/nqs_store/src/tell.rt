@@ -1,37 +1,44 @@
-//! The host that the records of a journal tell: each is a change, and fits what those before it
-//! tell.
+//! The host that a journal tells: its records are changes, of which each fits what those before it
+//! tell. The first one formats the host, or a snapshot stands in its place.
 //!
-//! Only a start makes a request run, and a boot leaves none running. So those that started since
-//! the last boot are kept beside the host, and a boot looks at these alone: a journal is told in
+//! Only a start makes a request run, and a boot leaves none running. So those that run in a snapshot
+//! and those that started since, or since the last boot, are kept beside the host, and a boot looks at these alone: a journal is told in
 //! the time of its records, however many of them are boots.
 
-ghost use Rattle.std.specs.Prelude.{◌≡◌, ◌≤◌, ◌^◌, ◌++◌, [], length, IfOk, IfErr, OnOk, Ok, Err, Some, None, IsTrue};
+ghost use Rattle.std.specs.Prelude.{◌≡◌, ◌≤◌, ◌^◌, ◌+◌, ◌++◌, [], length, IfOk, IfErr, OnOk, Ok, Err, Some, None, true, false, IsTrue};
 ghost use Rattle.nqs_state.specs.State.{content};
 ghost use Rattle.nqs_state.specs.Room.{HasRoom};
 ghost use Rattle.nqs_rules.specs.InOrder.{IsInOrder};
 ghost use Rattle.nqs_rules.specs.Sane.{is_sane_change};
 ghost use Rattle.nqs_rules.specs.Fits.{fits};
 ghost use Rattle.nqs_rules.specs.Applied.{applied};
-ghost use Rattle.nqs_changes.specs.Running.{runs_only, may_run};
-ghost use Rattle.nqs_journal.specs.Text.{header, records};
+ghost use Rattle.nqs_changes.specs.Running.{runs_in, runs_only, may_run};
+ghost use Rattle.nqs_journal.specs.Text.{header, snapshot_front, records};
+ghost use Rattle.nqs_journal.specs.Either.{front_of};
+ghost use Rattle.nqs_snapshot.specs.Reading.{snapshot_of};
+ghost use Rattle.nqs_values.specs.declared.extent.Extent.{Extent};
+ghost use Rattle.nqs_types.specs.declared.request.Row.{Row as RowOf};
 ghost use Rattle.nqs_records.specs.Kinds.{record_of};
 ghost use Rattle.nqs_records.specs.Changes.{MayStand};
 ghost use Rattle.nqs_records.specs.declared.fault.RecordFault.{RecordFault};
-ghost use Rattle.nqs_store.specs.Told.{record_taken, told};
+ghost use Rattle.nqs_store.specs.Told.{record_taken, told, told_from, told_by};
 ghost use Rattle.nqs_store.specs.Sound.{IsSoundHost};
-ghost use Rattle.nqs_store.specs.TellFaults.{IsRefused, IsTellFault};
+ghost use Rattle.nqs_store.specs.TellFaults.{IsRefused, IsTakenFault, IsTellFault};
 ghost use Rattle.nqs_values.specs.Want.{want};
 
 use nqs_changes::boot::boot_running;
 use nqs_host::{apply, fits, formatted};
 use nqs_records::{RecordFault, read_change};
+use nqs_snapshot::read_state;
 use nqs_state::HostState;
-use nqs_types::{Change, RequestId};
+use nqs_types::{Change, RequestId, Row, RowState};
 use nqs_values::{Bytes, Memory};
 use std::alloc::Global;
 
 /// Bytes of a journal's header.
 const HEADER: u64 = 16;
+/// Bytes of a snapshot's header and length.
+const SNAPSHOT: u64 = 24;
 /// Bytes of a record beside its payload.
 const FRAME: u64 = 5;
 
@@ -134,21 +141,106 @@ fn take_record(
     Ok(())
 }
 
-/// The host that these records tell.
-pub(crate) fn tell(alloc: Global, payloads: &[Bytes]) -> Result<HostState, TellFault>
+// A request that runs is kept as one that may.
+fn keep_if_running(running: &mut Vec<RequestId>, row: &Row) -> Result<(), Memory>
+    ensures only { OnOk result (IsTrue (runs_in running.new.items row.now)) }
+    ensures others { OnOk result ((r : RowOf Extent) → IsTrue (runs_in running.old.items r) → IsTrue (runs_in running.new.items r)) }
+{
+    if row.state == RowState::Running {
+        running.push(row.id)?;
+    }
+    Ok(())
+}
+
+// The requests that may run in a host: those that do.
+fn running_of(alloc: Global, state: &HostState) -> Result<Vec<RequestId>, Memory>
+    ensures { IfOk result (λ running. IsTrue (runs_only running.items (content state.now))) }
+{
+    let mut running: Vec<RequestId> = Vec::new(alloc);
+    for place in 0..state.rows.len() {
+        keep_if_running(&mut running, state.rows.at(place))?;
+    }
+    Ok(running)
+}
+
+// The host that a snapshot is read as.
+fn snapshot_host(alloc: Global, snapshot: &[u8]) -> Result<HostState, TellFault>
+    ensures ok { IfOk result (λ state. (snapshot_of snapshot.now ≡ Ok (content state)) × IsSoundHost (content state)) }
+    ensures err { IfErr result (IsRefused 24 ((fault : RecordFault) × (snapshot_of snapshot.now ≡ Err fault))) }
+{
+    match read_state(alloc, snapshot) {
+        Ok(state) => Ok(state),
+        Err(RecordFault::Memory(memory)) => Err(TellFault::Memory(memory)),
+        Err(_) => Err(TellFault::Untold(SNAPSHOT)),
+    }
+}
+
+// Makes the changes of the records, of which the first has its gate at the place.
+fn take_records(
+    alloc: Global,
+    state: &mut HostState,
+    running: &mut Vec<RequestId>,
+    place: u64,
+    payloads: &[Bytes],
+) -> Result<(), TellFault>
+    requires sound { IsSoundHost (content state.old) }
+    requires only { IsTrue (runs_only running.old.items (content state.old)) }
+    requires short { place + length (records payloads.now) ≤ 2 ^ 40 }
+    ensures ok { OnOk result (told_from (Some (content state.old)) payloads.now ≡ Some (content state.new)) }
+    ensures sound { OnOk result (IsSoundHost (content state.new)) }
+    ensures err { IfErr result (IsTakenFault (content state.old) place payloads.now) }
+{
+    let mut at = place;
+    for payload in payloads {
+        take_record(alloc, state, running, at, payload.as_slice())?;
+        at += FRAME + payload.len() as u64;
+    }
+    Ok(())
+}
+
+// The host that records tell behind the header.
+fn tell_first(alloc: Global, payloads: &[Bytes]) -> Result<HostState, TellFault>
     requires { length (header ++ records payloads.now) ≤ 2 ^ 40 }
     ensures ok { IfOk result (λ state. (told payloads.now ≡ Some (content state)) × IsSoundHost (content state)) }
-    ensures err { IfErr result (IsTellFault payloads.now) }
+    ensures err { IfErr result (IsTellFault false [] payloads.now) }
 {
     let Some((first, later)) = payloads.split_first() else {
         return Err(TellFault::Untold(HEADER));
     };
     let mut state = first_host(alloc, first.as_slice())?;
     let mut running: Vec<RequestId> = Vec::new(alloc);
-    let mut place = HEADER + FRAME + first.len() as u64;
-    for payload in later {
-        take_record(alloc, &mut state, &mut running, place, payload.as_slice())?;
-        place += FRAME + payload.len() as u64;
-    }
+    let place = HEADER + FRAME + first.len() as u64;
+    take_records(alloc, &mut state, &mut running, place, later)?;
     Ok(state)
+}
+
+// The host that records tell behind a snapshot.
+fn tell_behind(alloc: Global, snapshot: &[u8], payloads: &[Bytes]) -> Result<HostState, TellFault>
+    requires { length (snapshot_front snapshot.now ++ records payloads.now) ≤ 2 ^ 40 }
+    ensures ok { IfOk result (λ state. (told_by true snapshot.now payloads.now ≡ Some (content state)) × IsSoundHost (content state)) }
+    ensures err { IfErr result (IsTellFault true snapshot.now payloads.now) }
+{
+    let mut state = snapshot_host(alloc, snapshot)?;
+    let mut running = running_of(alloc, &state)?;
+    let place = SNAPSHOT + snapshot.len() as u64;
+    take_records(alloc, &mut state, &mut running, place, payloads)?;
+    Ok(state)
+}
+
+/// The host that a journal of either form tells, by its snapshot, if it has one, and its records.
+pub(crate) fn tell(
+    alloc: Global,
+    has: bool,
+    snapshot: &[u8],
+    payloads: &[Bytes],
+) -> Result<HostState, TellFault>
+    requires { length (front_of has snapshot.now ++ records payloads.now) ≤ 2 ^ 40 }
+    ensures ok { IfOk result (λ state. (told_by has snapshot.now payloads.now ≡ Some (content state)) × IsSoundHost (content state)) }
+    ensures err { IfErr result (IsTellFault has snapshot.now payloads.now) }
+{
+    if has {
+        tell_behind(alloc, snapshot, payloads)
+    } else {
+        tell_first(alloc, payloads)
+    }
 }

@@ -1,1 +1,2 @@
 pub mod TornGates
+pub mod TornRoots

@@ -41,7 +41,7 @@ picked (suc (suc zero)) old shut = λ e. omega arith
 picked (suc (suc (suc more))) old shut = let no : (suc (suc (suc more)) == 1) ≡ false = grind (arith, nat_tests) in
     subst (λ b. IsTold b 255) (sym no) (λ e. omega arith)
 
-no_bits : (n : ℕ) → bits n 0 ≡ n % 4
+pub no_bits : (n : ℕ) → bits n 0 ≡ n % 4
 no_bits n = omega arith
 
 below_either : {gate short long : ℕ} (b : Bool) → gate < long → gate < short → gate < (if b then long else short)

@@ -4,6 +4,7 @@ pub mod Network
 pub mod QueueEdits
 pub mod SmallHost
 pub mod Stops
+pub mod Checkpoints
 pub mod SmallNetwork
 pub mod Definitions
 pub mod Waits

@@ -6,6 +6,7 @@
 //! here. `docs/rules.md` names the places.
 #![tactic(auto)]
 
+pub mod checkpoints;
 pub mod definitions;
 pub mod network;
 pub mod one_host;

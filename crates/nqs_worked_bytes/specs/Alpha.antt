@@ -1,5 +1,7 @@
 -- The bytes of a journal, by hand.
 use Rattle.std.specs.Prelude.{ℕ, List, [], ◌∷◌, ◌++◌}
+use Rattle.nqs_types.specs.declared.world.Which.{Which}
+use Rattle.nqs_types.specs.declared.world.Which.TheVariants.{Root, First, Second, Spool}
 
 -- kind 1; the host at place 0; one name, of five bytes: alpha
 abbrev pub alpha_record : List ℕ
@@ -10,3 +12,10 @@ abbrev pub alpha_journal : ℕ → List ℕ
 alpha_journal gate =
     0x4e ∷ 0x51 ∷ 0x53 ∷ 0x2d ∷ 0x4a ∷ 0x4f ∷ 0x55 ∷ 0x52 ∷ 0x4e ∷ 0x41 ∷ 0x4c ∷ 0x2d ∷ 0x76 ∷ 0x31 ∷ 0x0a ∷ 0x0a
     ∷ gate ∷ 0x00 ∷ 0x00 ∷ 0x00 ∷ 0x09 ∷ alpha_record ++ 0x00 ∷ []
+
+-- what the disks of a host hold that was formatted and never ran: this journal, and nothing else
+abbrev pub disks_with : List ℕ → Which → List ℕ
+disks_with journal Root = []
+disks_with journal First = journal
+disks_with journal Second = []
+disks_with journal Spool = []

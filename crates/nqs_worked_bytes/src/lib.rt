@@ -12,7 +12,7 @@ ghost use Rattle.nqs_journal.specs.Text.{header, records, StandsFor};
 ghost use Rattle.nqs_records.specs.Changes.{spelling};
 ghost use Rattle.nqs_store.specs.Faults.{IsLoadFault};
 ghost use Rattle.nqs_store.specs.declared.fault.LoadFault.TheVariants.{NotNqs};
-ghost use Rattle.nqs_worked_bytes.specs.Alpha.{alpha_record, alpha_journal};
+ghost use Rattle.nqs_worked_bytes.specs.Alpha.{alpha_record, alpha_journal, disks_with};
 
 /// What a format of host alpha leaves, in a site of alpha alone: 31 bytes, which stand for one
 /// record.
@@ -25,5 +25,5 @@ pub fn formatted_host()
 /// which is no host's from the gate's place on.
 pub fn record_behind_a_closed_gate()
     ensures stands { StandsFor (alpha_journal 7) [] }
-    ensures fault { IsLoadFault (alpha_journal 7) [] (NotNqs First 16) }
+    ensures fault { IsLoadFault (disks_with (alpha_journal 7)) (NotNqs First 16) }
 {}

@@ -7,6 +7,7 @@ pub mod Made
 pub mod Steps
 pub mod Choices
 pub mod Worlds
+pub mod Checkpoints
 pub mod Texts
 pub mod TwoQueues
 pub mod Reasons

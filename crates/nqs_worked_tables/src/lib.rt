@@ -8,6 +8,7 @@
 #![tactic(auto)]
 
 pub mod bounds;
+pub mod checkpoints;
 pub mod choices;
 pub mod commands;
 pub mod fitting;

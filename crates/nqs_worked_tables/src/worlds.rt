@@ -50,6 +50,8 @@ pub fn calls_are_counted()
           tear = New;
           fuses = record { root = Some 11; first = Some 8; second = Some 13; spool = Some 12 };
           calls = record { root = 1; first = 6; second = 3; spool = 6 };
+          root = [];
+          records = 3;
         } }
     ensures stopped { stopped full_house (record (new_host one_host 0)
         { tear = New; fuses = first_fuses; calls = record { root = 1; first = 2; second = 3; spool = 4 } })
@@ -59,8 +61,9 @@ pub fn calls_are_counted()
           told = [];
           tear = New;
           fuses = record { root = None; first = None; second = None; spool = None };
-          calls = record
-              { root = 0; first = 0; second = 0; spool = 0 };
+          calls = record { root = 0; first = 0; second = 0; spool = 0 };
+          root = [];
+          records = 2;
         } }
 {}
 

@@ -1,11 +1,11 @@
-use Rattle.std.proofs.Common.{◌≡◌, inr, refl, sym, ap, subst, ◌∙◌}
+use Rattle.std.proofs.Common.{◌≡◌, inr, refl, sym, ap, subst, ◌∙◌, arith}
 use Rattle.nqs_types.specs.declared.change.Change.TheVariants.{Boot}
 use Rattle.nqs_rules.specs.Applied.{applied}
 use Rattle.nqs_rules.specs.Plain.{map_state}
 use Rattle.nqs_outside.specs.Causes.{Rose}
 use Rattle.nqs_store.specs.Disks.{disk_at, histories_of}
-use Rattle.nqs_node.specs.Nodes.{bytes_of, history_of, Tells}
-use Rattle.nqs_node.proofs.Places.{rose_since}
+use Rattle.nqs_node.specs.Nodes.{active_of, bytes_of, history_of, Tells}
+use Rattle.nqs_node.proofs.Booting.{active_told}
 use Rattle.nqs_serve.specs.Ends.{EndsWith, stops}
 use Rattle.nqs_serve.specs.Events.{Here}
 use Rattle.nqs_serve.specs.Moments.{TellsThroughout, IsPassed}
@@ -26,13 +26,16 @@ returns-in-Err g c =
     (g.L.Launcher.asked c.args.launcher.now) (g.P.Printer.prints c.args.printer.now) (g.O.Outlet.filings c.args.outlet.now)
     (g.C.Clock.given c.args.clock.now) in
     not_booted g.D.Disk.tells c.args.me c.args.names.now c.args.turns was now c.in-Err.fault c.status_of_fault.result c.status_of_fault.ensures (refl, refl)
-    c.in-Err.ensures.failed (λ yes. (c.in-Err.ensures.broken_off yes, c.in-Err.ensures.any_moment yes)) c.in-Err.ensures.fault c.in-Err.ensures.memory
+    c.in-Err.ensures.failed
+    (λ yes. ((λ a named. (c.in-Err.ensures.broken_off yes a named, λ s there. c.in-Err.ensures.any_moment yes s there a named), c.in-Err.ensures.untouched yes)))
+    c.in-Err.ensures.fault c.in-Err.ensures.memory
 
 pub returns-then-not-is_here : goal.returns-then-not-is_here
 returns-then-not-is_here g c = (
   (refl, refl),
   λ yes.
       let one = c.in-Ok.ensures.one yes in
+      let named = active_told _ one.0 one.1 in
       let same : c.is_here.result ≡ is_here c.args.me c.args.names.now one.0 =
       c.is_here.ensures (bytes_of c.in-Ok.node) ∙ ap (λ h. is_here c.args.me c.args.names.now (map_state (bytes_of c.in-Ok.node) h)) c.state.ensures
       ∙ ap (is_here c.args.me c.args.names.now) one.2.is in
@@ -42,8 +45,12 @@ returns-then-not-is_here g c = (
         sym same ∙ c.if-not-is_here.true,
         leaves c.in-Ok.node (applied Boot one.0) (histories_of g.D.Disk.history c.close.result) yes one.2
             (λ which. ap g.D.Disk.history (c.close.ensures which)),
-        boot_alone _ (history_of c.in-Ok.node) (histories_of g.D.Disk.history c.close.result) one.0 (λ which. ap g.D.Disk.history (c.close.ensures which))
-            (c.in-Ok.ensures.any_moment yes one.0 one.1),
+        (
+          named.0,
+          named.1,
+          boot_alone named.0 _ (history_of c.in-Ok.node) (histories_of g.D.Disk.history c.close.result) one.0 (λ which. ap g.D.Disk.history (c.close.ensures which))
+              (c.in-Ok.ensures.any_moment yes one.0 one.1 named.0 named.1),
+        ),
       ),
 )
 
@@ -60,6 +67,7 @@ returns g c =
     has_served g.D.Disk.tells c.args.me c.args.names.now c.args.turns was now c.serve-end.result c.status_of_serve.result c.status_of_serve.ensures
     (λ yes.
     let one = c.in-Ok.ensures.one yes in
+    let named = active_told _ one.0 one.1 in
     let s = one.0 in
     let u = applied Boot s in
     let same : c.is_here.result ≡ is_here c.args.me c.args.names.now s =
@@ -70,7 +78,7 @@ returns g c =
     let moved = subst (λ (h : Here). Ran h run.0 (idle u) run.1 run.2 (telling_of was) (telling_of now)
     × EndsWith (Tells c.serve-end.new.node) c.serve-end.result c.args.turns (stops h (idle u) run.0) run.1 run.2)
     here (run.3, run.4) in
-    let passes = subst (λ (h : Here). TellsThroughout (history_of c.in-Ok.node) (history_of c.serve-end.new.node) (IsPassed h (idle u) run.0 run.2))
+    let passes = subst (λ (h : Here). TellsThroughout (active_of c.in-Ok.node) (history_of c.in-Ok.node) (history_of c.serve-end.new.node) (IsPassed h (idle u) run.0 run.2))
     here run.5 in (
       s,
       one.1,
@@ -84,14 +92,18 @@ returns g c =
             (λ t told. leaves c.serve-end.new.node t (histories_of g.D.Disk.history c.close-in-Ok.result) yes told
             (λ which. ap g.D.Disk.history (c.close-in-Ok.ensures which)))
             c.serve-end.result c.args.turns (stops (here_of s) (idle u) run.0) run.1 run.2 moved.1,
-        since_boot _ (history_of c.in-Ok.node) (history_of c.serve-end.new.node) (histories_of g.D.Disk.history c.close-in-Ok.result) s run.0 run.2
-            (λ which. ap g.D.Disk.history (c.close-in-Ok.ensures which))
-            (c.in-Ok.ensures.any_moment yes s one.1) passes,
+        (
+          named.0,
+          named.1,
+          since_boot named.0 (active_of c.in-Ok.node) _ (history_of c.in-Ok.node) (history_of c.serve-end.new.node)
+              (histories_of g.D.Disk.history c.close-in-Ok.result) s run.0 run.2 (λ which. ap g.D.Disk.history (c.close-in-Ok.ensures which))
+              (c.in-Ok.ensures.active yes named.0 named.1) (c.in-Ok.ensures.any_moment yes s one.1 named.0 named.1) passes,
+        ),
       ),
     ))
     c.serve-end.ensures.wire_fault
     (λ is. let rose = (c.serve-end.ensures.disk_fault is).1 in (
       rose.0,
       subst (λ d. Rose (g.D.Disk.faults (disk_at rose.0 c.args.disks)) (g.D.Disk.faults d)) (sym (c.close-in-Ok.ensures rose.0))
-          (rose_since _ _ _ (c.in-Ok.ensures.later rose.0) rose.1),
+          (omega (arith, c.in-Ok.ensures.later rose.0, rose.1)),
     ))

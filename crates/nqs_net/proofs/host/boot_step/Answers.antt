@@ -11,10 +11,11 @@ use Rattle.nqs_store.specs.Sound.{IsSoundHost}
 use Rattle.nqs_node.specs.Nodes.{history_of, content_of, is_stopped}
 use Rattle.nqs_net.specs.Lists.{sent_in, seen_from, GrowsByFront}
 use Rattle.nqs_net.specs.Followed.{GoOn, Follows}
-use Rattle.nqs_net.specs.Worlds.{IsDown}
+use Rattle.nqs_net.specs.Worlds.{IsDown, active_in}
 use Rattle.nqs_net.proofs.Fronts.{none_shown, shown_as, shown_before}
 use Rattle.nqs_net.proofs.Following.{goes, broke_off, follow_stopped, turn_follows}
-use Rattle.nqs_net.proofs.Hosting.{boot_turn, boot_seen, boot_cut, uncalled_quiet}
+use Rattle.nqs_net.proofs.Coming.{uncalled_quiet}
+use Rattle.nqs_net.proofs.Hosting.{boot_turn, boot_seen, boot_cut}
 use Rattle.nqs_net.proofs.host.boot_step.Goals as goal
 
 pub boot-requires : goal.boot-requires
@@ -40,7 +41,8 @@ returns-in_err-emit-in-Ok c = λ w host faces is.
     let after = c.emit.new.seen.items in
     let out = c.in-Ok.ensures.outputs refl host.state down.tells ∙ ap (λ l. l ++ outs) c.new-out.ensures.items in
     let saw = boot_seen me w host c.args.tear packets faces c.into_inner.result down c.in-Ok.node c.in-Ok.ensures.sound
-    (c.in-Ok.ensures.told refl host.state down.tells) (c.in-Ok.ensures.made refl) (c.in-Ok.ensures.any_moment refl host.state down.tells)
+    (c.in-Ok.ensures.told refl host.state down.tells) (c.in-Ok.ensures.made refl (active_in host) down.active)
+    (c.in-Ok.ensures.active refl (active_in host) down.active) (c.in-Ok.ensures.any_moment refl host.state down.tells (active_in host) down.active)
     (c.in-Ok.ensures.fuse refl) in
     let front = subst (λ l. GrowsByFront mid after (seen_from me (length packets) l)) out c.in_err-emit-in-Ok.ensures.front in
     rw p.1 (shown_as before after _ _ saw (shown_before before mid after (seen.Boot me ∷ [])
@@ -60,13 +62,14 @@ returns-in-Ok c = λ w host faces is.
     let before = c.args.seen.now.items in
     let out = c.in-Ok.ensures.outputs refl host.state down.tells ∙ ap (λ l. l ++ outs) c.new-out.ensures.items in
     let boxed = c.in_ok-node-in-Ok.ensures.ok in
-    let went = goes (histories_of mem.history_of c.into_inner.result) (history_of c.in-Ok.node) (Some Boot) host.state
-    (c.in-Ok.ensures.any_moment refl host.state down.tells) in
+    let went = goes (active_in host) (histories_of mem.history_of c.into_inner.result) (history_of c.in-Ok.node) (Some Boot) host.state
+    (c.in-Ok.ensures.any_moment refl host.state down.tells (active_in host) down.active) in
     let follows = subst (λ n. GoOn (histories_of mem.history_of c.into_inner.result) (history_of n)) (sym boxed) went in
     turn_follows c.args.me c.args.tear _ before _ w c.args.tear (histories_of mem.history_of c.args.down.disks.value) _ _
     (subst (λ d. GoOn (histories_of mem.history_of d) (history_of c.in_ok-node-in-Ok.node.value)) c.into_inner.ensures follows)
     (boot_turn c.args.me w host c.args.tear packets faces c.into_inner.result down c.in-Ok.node _ c.in_ok-node-in-Ok.ensures.ok c.in-Ok.ensures.sound
-    (c.in-Ok.ensures.told refl host.state down.tells) (c.in-Ok.ensures.made refl) (c.in-Ok.ensures.any_moment refl host.state down.tells)
+    (c.in-Ok.ensures.told refl host.state down.tells) (c.in-Ok.ensures.made refl (active_in host) down.active)
+    (c.in-Ok.ensures.active refl (active_in host) down.active) (c.in-Ok.ensures.any_moment refl host.state down.tells (active_in host) down.active)
     (c.in-Ok.ensures.fuse refl)
     _ before _ (c.in_ok-emit-in-Ok.ensures.packets ∙ ap (λ l. packets ++ sent_in l) out)
     (c.in_ok-emit-in-Ok.ensures.seen ∙ ap (λ l. l ++ seen_from c.args.me (length packets) c.boot.new.out.items) c.in_ok-push-in-Ok.ensures.items
@@ -88,8 +91,8 @@ returns-in-Err-Disk-default c = λ w host faces is.
     let down = subst (λ d. IsDown d host) (sym c.into_inner.ensures) is in
     let broke = c.in-Err-Disk-default in
     let stop = c.in_ok-slot-in-Err-Disk-default in
-    let went = broke_off (histories_of mem.history_of c.into_inner.result) (histories_of mem.history_of broke.disks) (Some Boot)
-    (broke.ensures.broken_off refl) in
+    let went = broke_off (active_in host) (histories_of mem.history_of c.into_inner.result) (histories_of mem.history_of broke.disks) (Some Boot)
+    (broke.ensures.broken_off refl (active_in host) down.active) in
     let follows = follow_stopped c.args.tear (histories_of mem.history_of c.into_inner.result)
     (histories_of mem.history_of broke.disks) stop.slot went stop.ensures.stopped in
     turn_follows c.args.me c.args.tear c.args.packets.now.items c.args.seen.now.items _ w c.args.tear
@@ -98,7 +101,7 @@ returns-in-Err-Disk-default c = λ w host faces is.
     (boot_cut c.args.me w host c.args.tear c.args.packets.now.items faces c.into_inner.result down
     (histories_of mem.history_of broke.disks) stop.slot broke.field-0-0-0 (mem.is_starved (disk_at broke.field-0-0-0 broke.disks)) c.args.seen.now.items _
     stop.ensures.seen stop.ensures.stopped (stop.ensures.fed broke.field-0-0-0)
-    (broke.ensures.cut refl host.state down.tells broke.field-0-0-0 broke.field-0-0-is))
+    (broke.ensures.cut refl host.state down.tells (active_in host) down.active broke.field-0-0-0 broke.field-0-0-is))
 
 pub unreachable-unreachable : goal.unreachable-unreachable
 unreachable-unreachable c = c.unreachable.type_inv

@@ -1,11 +1,11 @@
-use Rattle.std.proofs.Common.{Err, refl, sym, ap, subst}
-use Rattle.nqs_types.specs.declared.world.Which.TheVariants.{First}
+use Rattle.std.proofs.Common.{◌∙◌, Err, refl, sym, ap, subst}
+use Rattle.nqs_types.specs.declared.world.Which.TheVariants.{Root, First}
 use Rattle.nqs_disk.specs.MemDisk as mem
 use Rattle.nqs_rules.specs.Format.{formatted}
 use Rattle.nqs_rules.specs.World.{new_host}
 use Rattle.nqs_store.specs.Disks.{disk_at, histories_of}
 use Rattle.nqs_net.specs.Worlds.{IsUp}
-use Rattle.nqs_net.proofs.Founding.{format_starved, formatted_told, formatted_quiet, boot_starved, booted}
+use Rattle.nqs_net.proofs.Founding.{format_starved, formatted_active, formatted_told, formatted_is_active, formatted_quiet, boot_starved, booted}
 use Rattle.nqs_net.proofs.new.new_node.Goals as goal
 
 pub unformatted-requires-clause-starved : goal.unformatted-requires-clause-starved
@@ -27,20 +27,24 @@ unbooted-requires-clause-starved c = λ which e.
     let me = c.args.me in
     let site = c.args.site.now in
     let disks = c.format.new.disks in
-    let told = formatted_told me site disks (c.in-Ok.ensures.told refl) in
+    let empty = ap mem.history_of c.format.ensures.root ∙ c.new_disks-disks.ensures.histories Root in
+    let is = c.in-Ok.ensures.told refl in
+    let told = formatted_told me site disks empty is in
+    let active = formatted_is_active me site disks empty is in
     let left = c.in-Err-boot.disks in (
       which,
       boot_starved me site c.new_disks-disks.result disks c.new_disks-disks.ensures.histories c.new_disks-disks.ensures.fuses c.format.ensures.root
           c.format.ensures.second c.format.ensures.spool
           _ (c.in-Ok.ensures.made refl) (c.format.ensures.fuse refl) which (histories_of mem.history_of left) (mem.is_starved (disk_at which left))
-          (c.in-Err-boot.ensures.cut refl (formatted me site) told which e),
+          (c.in-Err-boot.ensures.cut refl (formatted me site) told formatted_active active which e),
     )
 
 pub unbooted-requires-clause-told : goal.unbooted-requires-clause-told
 unbooted-requires-clause-told c = λ which place e.
     let me = c.args.me in
     let site = c.args.site.now in
-    c.in-Err-boot.ensures.never refl (formatted me site) (formatted_told me site c.format.new.disks (c.in-Ok.ensures.told refl)) which place e
+    let empty = ap mem.history_of c.format.ensures.root ∙ c.new_disks-disks.ensures.histories Root in
+    c.in-Err-boot.ensures.never refl (formatted me site) (formatted_told me site c.format.new.disks empty (c.in-Ok.ensures.told refl)) which place e
 
 pub returns-clause-up : goal.returns-clause-up
 returns-clause-up c =
@@ -48,9 +52,12 @@ returns-clause-up c =
     let site = c.args.site.now in
     let disks = c.format.new.disks in
     let is = c.in-Ok.ensures.told refl in
-    let told = c.in-Ok-boot.ensures.told refl (formatted me site) (formatted_told me site disks is) in
+    let empty = ap mem.history_of c.format.ensures.root ∙ c.new_disks-disks.ensures.histories Root in
+    let told = formatted_told me site disks empty is in
+    let active = formatted_is_active me site disks empty is in
     subst (λ n. IsUp n (new_host site me.0)) (sym c.in_ok-new-in-Ok-boot.ensures.ok)
     (booted me site c.new_disks-disks.result disks c.new_disks-disks.ensures.histories c.new_disks-disks.ensures.fuses c.format.ensures.root
     c.format.ensures.second c.format.ensures.spool
-    _ (c.in-Ok.ensures.made refl) (c.format.ensures.fuse refl) is c.in-Ok-boot.node told c.in-Ok-boot.ensures.sound (c.in-Ok-boot.ensures.made refl)
-    (c.in-Ok-boot.ensures.any_moment refl (formatted me site) (formatted_told me site disks is)) (c.in-Ok-boot.ensures.fuse refl))
+    _ (c.in-Ok.ensures.made refl) (c.format.ensures.fuse refl) is c.in-Ok-boot.node (c.in-Ok-boot.ensures.told refl (formatted me site) told)
+    c.in-Ok-boot.ensures.sound (c.in-Ok-boot.ensures.active refl formatted_active active) (c.in-Ok-boot.ensures.made refl formatted_active active)
+    (c.in-Ok-boot.ensures.any_moment refl (formatted me site) told formatted_active active) (c.in-Ok-boot.ensures.fuse refl))

@@ -4,6 +4,7 @@ use Rattle.nqs_types.specs.declared.world.Which.{Which}
 use Rattle.nqs_store.specs.Disks.{disk_at}
 use Rattle.nqs_node.specs.Nodes.{disk_of, history_of}
 use Rattle.nqs_net.specs.Turns.{IsTaken}
+use Rattle.nqs_net.specs.Worlds.{active_in}
 use Rattle.nqs_net.proofs.Fronts.{none_shown, shown_as}
 use Rattle.nqs_net.proofs.Following.{goes, follow_closed, turn_follows}
 use Rattle.nqs_net.proofs.Turning.{took_turn, took_seen, closed_turn, down_stopped}
@@ -42,7 +43,7 @@ pub returns-then-took-clause-turn : goal.returns-then-took-clause-turn
 returns-then-took-clause-turn c = λ w host x fails old faces taken.
     let node = c.args.node.value in
     let took = subst (IsTaken host x fails old node c.args.out.items) c.if-took.true taken in
-    turn_follows c.args.me c.args.tear _ c.args.seen.now.items _ w c.args.tear old _ _ (goes old (history_of node) x.change host.state took.moments)
+    turn_follows c.args.me c.args.tear _ c.args.seen.now.items _ w c.args.tear old _ _ (goes (active_in host) old (history_of node) x.change host.state took.moments)
     (took_turn c.args.me w host c.args.tear c.args.packets.now.items faces x fails old node c.args.out.items took c.requires.sound _ c.args.seen.now.items _
     c.in_ok-emit.ensures.packets c.in_ok-emit.ensures.seen)
 
@@ -67,7 +68,7 @@ returns-clause-turn c = λ w host x fails old faces taken.
     let disks = c.close-disks.result in
     let closed : (which : Which) → disk_at which disks ≡ disk_of which node = λ which. c.close-disks.ensures which ∙ ap (disk_of which) c.into_inner.ensures in
     turn_follows c.args.me c.args.tear _ c.args.seen.now.items _ w c.args.tear old slot _
-    (follow_closed c.args.tear old node disks slot closed (goes old (history_of node) x.change host.state broke.moments) c.in_ok-slot.ensures.stopped)
+    (follow_closed c.args.tear old node disks slot closed (goes (active_in host) old (history_of node) x.change host.state broke.moments) c.in_ok-slot.ensures.stopped)
     (closed_turn c.args.me w host c.args.tear c.args.packets.now.items faces x fails old node c.args.out.items broke disks closed slot c.args.seen.now.items _
     c.in_ok-slot.ensures.seen c.in_ok-slot.ensures.stopped c.in_ok-slot.ensures.fed)
 

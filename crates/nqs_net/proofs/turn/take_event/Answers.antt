@@ -1,31 +1,21 @@
 use Rattle.std.proofs.Common.{◌∙◌, Err, true≢false, ◌++◌, map, refl, sym, ap}
 use Rattle.nqs_rules.specs.Step.{step}
 use Rattle.nqs_rules.specs.Stepped.{shown}
+use Rattle.nqs_net.proofs.Turning.{took_step, broke_step}
 use Rattle.nqs_net.proofs.turn.take_event.Goals as goal
 
 pub returns-in-Ok-clause-taken : goal.returns-in-Ok-clause-taken
-returns-in-Ok-clause-taken c = λ host is empty. record {
-  up = is.up;
-  disks = is.disks;
-  past = is.past;
-  moments = c.in-Ok.ensures.any_moment refl host.state is.tells;
-  same = c.in-Ok.ensures.fuse refl;
-  ended = (
-    c.in-Ok.ensures.told refl host.state is.tells,
-    c.in-Ok.ensures.made refl host.state is.tells,
-    c.in-Ok.ensures.outputs refl host.state is.tells ∙ ap (λ l. l ++ map shown (step c.args.event.now host.state).outputs) empty,
-  );
-}
+returns-in-Ok-clause-taken c = λ host is empty.
+    let x = step c.args.event.now host.state in
+    took_step c.args.node.now c.take.new.self host is x c.take.new.out.items (c.in-Ok.ensures.any_moment refl host.state is.tells) (c.in-Ok.ensures.fuse refl)
+    (c.in-Ok.ensures.told refl host.state is.tells) (c.in-Ok.ensures.made refl host.state is.tells)
+    (c.in-Ok.ensures.outputs refl host.state is.tells ∙ ap (λ l. l ++ map shown x.outputs) empty) (c.in-Ok.ensures.active refl host.state is.tells)
 
 pub returns-in-Err-Disk-clause-taken : goal.returns-in-Err-Disk-clause-taken
-returns-in-Err-Disk-clause-taken c = λ host is empty. record {
-  up = is.up;
-  disks = is.disks;
-  past = is.past;
-  moments = c.in-Err-Disk.ensures.any_moment refl host.state is.tells;
-  same = c.in-Err-Disk.ensures.fuse refl;
-  ended = (c.in-Err-Disk.field-0-0, c.in-Err-Disk.ensures.cut refl host.state is.tells c.in-Err-Disk.field-0-0 (ap Err c.in-Err-Disk.field-0-is));
-}
+returns-in-Err-Disk-clause-taken c = λ host is empty.
+    broke_step c.args.node.now c.take.new.self host is (step c.args.event.now host.state) c.take.new.out.items (c.in-Err-Disk.ensures.any_moment refl host.state is.tells)
+    (c.in-Err-Disk.ensures.fuse refl) c.in-Err-Disk.field-0-0
+    (c.in-Err-Disk.ensures.cut refl host.state is.tells c.in-Err-Disk.field-0-0 (ap Err c.in-Err-Disk.field-0-is))
 
 pub take-requires : goal.take-requires
 take-requires c = record { sound = c.requires.sound; sane = c.requires.sane }

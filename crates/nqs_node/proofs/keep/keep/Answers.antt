@@ -5,7 +5,7 @@ use Rattle.nqs_rules.specs.Applied.{applied}
 use Rattle.nqs_rules.specs.Filled.{filled}
 use Rattle.nqs_rules.specs.Fits.{fits}
 use Rattle.nqs_store.specs.Sound.{IsSoundHost}
-use Rattle.nqs_store.specs.Stores.{history_of, fails_of, is_starved, plain_of, Tells}
+use Rattle.nqs_store.specs.Stores.{history_of, fails_of, is_starved, active_of, plain_of, Tells}
 use Rattle.nqs_store.specs.Commits.{IsCutAt, Keeping}
 use Rattle.nqs_store.proofs.ShortExtents.{live_short}
 use Rattle.nqs_node.proofs.Nothing.{none_broken, none_told}
@@ -15,7 +15,7 @@ use Rattle.nqs_back.proofs.Plans.{bare_made}
 use Rattle.nqs_node.proofs.keep.keep.Goals as goal
 
 pub returns-in-Err-clause-broken_off : goal.returns-in-Err-clause-broken_off
-returns-in-Err-clause-broken_off g c = λ yes. none_broken _ _
+returns-in-Err-clause-broken_off g c = λ yes. none_broken _ _ _
 
 pub returns-in-Err-clause-any_moment : goal.returns-in-Err-clause-any_moment
 returns-in-Err-clause-any_moment g c = λ yes told. none_told _ _ yes told _ _
@@ -23,7 +23,7 @@ returns-in-Err-clause-any_moment g c = λ yes told. none_told _ _ yes told _ _
 pub returns-in-Err-commit-clause-any_moment : goal.returns-in-Err-commit-clause-any_moment
 returns-in-Err-commit-clause-any_moment g c = λ tells told.
     let same = c.make_room.ensures.content in
-    subst (λ (h : State Extent). Keeping c.args.puts.now (history_of c.args.store.now) (history_of c.commit.new.self) (plain_of c.args.store.now h)
+    subst (λ (h : State Extent). Keeping (active_of c.args.store.now) c.args.puts.now (history_of c.args.store.now) (history_of c.commit.new.self) (plain_of c.args.store.now h)
     (applied (filled c.args.change c.args.puts.now) (plain_of c.args.store.now h)))
     same (c.commit.ensures.any_moment tells (subst (Tells c.args.store.now) (sym same) told))
 
@@ -31,9 +31,12 @@ pub returns-in-Err-commit-clause-cut : goal.returns-in-Err-commit-clause-cut
 returns-in-Err-commit-clause-cut g c = λ tells told which failed.
     let same = c.make_room.ensures.content in
     subst (λ (h : State Extent). IsTrue (is_starved c.commit.new.self which)
-    ⊎ IsCutAt (fails_of c.args.store.now) c.args.puts.now (history_of c.args.store.now) (history_of c.commit.new.self) (plain_of c.args.store.now h)
+    ⊎ IsCutAt (active_of c.args.store.now) (fails_of c.args.store.now) c.args.puts.now (history_of c.args.store.now) (history_of c.commit.new.self) (plain_of c.args.store.now h)
     (applied (filled c.args.change c.args.puts.now) (plain_of c.args.store.now h)) which)
     same (c.in-Err-commit.ensures.cut tells (subst (Tells c.args.store.now) (sym same) told) which failed)
+
+pub commit-requires-clause-sound : goal.commit-requires-clause-sound
+commit-requires-clause-sound g c = subst IsSoundHost (sym c.make_room.ensures.content) c.requires.sound
 
 pub apply-requires-clause-sane : goal.apply-requires-clause-sane
 apply-requires-clause-sane g c = same_sane c.args.change c.commit.new.change c.commit.ensures.shape ∙ c.requires.sane
@@ -66,7 +69,7 @@ returns-in-Ok-commit-clause-site g c =
 pub returns-in-Ok-commit-clause-any_moment : goal.returns-in-Ok-commit-clause-any_moment
 returns-in-Ok-commit-clause-any_moment g c = λ tells told.
     let same = c.make_room.ensures.content in
-    subst (λ (h : State Extent). Keeping c.args.puts.now (history_of c.args.store.now) (history_of c.commit.new.self) (plain_of c.args.store.now h)
+    subst (λ (h : State Extent). Keeping (active_of c.args.store.now) c.args.puts.now (history_of c.args.store.now) (history_of c.commit.new.self) (plain_of c.args.store.now h)
     (applied (filled c.args.change c.args.puts.now) (plain_of c.args.store.now h)))
     same (c.commit.ensures.any_moment tells (subst (Tells c.args.store.now) (sym same) told))
 

@@ -1,14 +1,20 @@
-use Rattle.std.proofs.Common.{◌⊎◌, inl, inr, Option, option_map, sym, ap, ◌∙◌}
+use Rattle.std.proofs.Common.{◌≡◌, ◌⊎◌, inl, inr, IsTrue, Err, Option, option_map, sym, ap, subst, ◌∙◌}
+use Rattle.std.proofs.Math.Nat.{le_trans}
 use Rattle.std.proofs.lemmas.Result.{on_ok_weaker, on_err_weaker}
 use Rattle.nqs_state.specs.State.{content}
 use Rattle.nqs_types.specs.declared.change.Change.{Change}
 use Rattle.nqs_values.specs.declared.extent.Extent.{Extent}
 use Rattle.nqs_rules.specs.Starts.{after_change}
-use Rattle.nqs_store.specs.Stores.{history_of, fails_of, plain_of}
+use Rattle.nqs_store.specs.Active.{ready, recorded}
+use Rattle.nqs_store.specs.Stores.{disk_of, history_of, fails_of, is_starved, active_of, plain_of}
 use Rattle.nqs_back.specs.Bare.{emptied, blank}
-use Rattle.nqs_node.specs.Carried.{Kept}
+use Rattle.nqs_outside.specs.Causes.{Rose}
+use Rattle.nqs_store.specs.declared.fault.StoreFault.TheVariants.{Disk}
+use Rattle.nqs_node.specs.Carried.{Kept, after_kept, IsMade, IsCutBy, IsBlown}
 use Rattle.nqs_node.proofs.Carrying.{reads_short}
 use Rattle.nqs_node.proofs.Performing.{still_broken_off, still_one, same_plain, none_kept, some_kept, made_since, broken_since, cut_since, moments_since}
+use Rattle.nqs_node.proofs.Performing.{read_failed}
+use Rattle.nqs_node.proofs.Places.{rose_since}
 use Rattle.nqs_node.proofs.Performing.{plain_since}
 use Rattle.nqs_node.proofs.perform.perform.Goals as goal
 
@@ -17,65 +23,65 @@ either f (inl a) = inl a
 either f (inr b) = inr (inr (f b))
 
 pub returns-in-Err-clause-broken_off : goal.returns-in-Err-clause-broken_off
-returns-in-Err-clause-broken_off g c = λ yes kept with. still_broken_off (history_of c.args.store.now) (history_of c.read_all.new.store)
-    (c.read_all.ensures.same yes) kept
+returns-in-Err-clause-broken_off g c = λ yes kept with. still_broken_off (active_of c.args.store.now) (history_of c.args.store.now) (history_of c.read_all.new.store)
+    (c.read_all.ensures.reads.same yes) kept
 
 pub returns-in-Err-clause-any_moment : goal.returns-in-Err-clause-any_moment
-returns-in-Err-clause-any_moment g c = λ yes told kept with. still_one c.args.store.now c.read_all.new.store (c.read_all.ensures.same yes)
+returns-in-Err-clause-any_moment g c = λ yes told kept with. still_one c.args.store.now c.read_all.new.store (c.read_all.ensures.reads.same yes)
     (content c.args.state.now) yes told kept
 
 pub returns-in-None-clause-plain : goal.returns-in-None-clause-plain
 returns-in-None-clause-plain g c = λ yes told kept with.
-    same_plain c.args.store.now c.read_all.new.store (c.read_all.ensures.same yes) (content c.args.state.now)
+    same_plain c.args.store.now c.read_all.new.store (c.read_all.ensures.reads.same yes) (content c.args.state.now)
     ∙ ap (λ (k : Kept). after_change k (plain_of c.args.store.now (content c.args.state.now))) (none_kept c.args.change c.args.puts.now kept c.in-None.is with)
 
 pub returns-in-None-clause-outputs : goal.returns-in-None-clause-outputs
 returns-in-None-clause-outputs g c = λ yes told. c.in-Ok.ensures.filled yes (content c.args.state.now) told c.requires.live
 
 pub returns-in-None-clause-any_moment : goal.returns-in-None-clause-any_moment
-returns-in-None-clause-any_moment g c = λ yes told kept with. still_one c.args.store.now c.read_all.new.store (c.read_all.ensures.same yes)
+returns-in-None-clause-any_moment g c = λ yes told kept with. still_one c.args.store.now c.read_all.new.store (c.read_all.ensures.reads.same yes)
     (content c.args.state.now) yes told kept
 
 pub returns-in-Some-clause-plain : goal.returns-in-Some-clause-plain
 returns-in-Some-clause-plain g c = λ yes told kept with.
-    on_ok_weaker c.keep.result (plain_since (fails_of c.args.store.now) (fails_of c.read_all.new.store) (history_of c.args.store.now)
-    (history_of c.read_all.new.store) (history_of c.keep.new.store) (c.read_all.ensures.fuse yes)
-    (c.read_all.ensures.same yes) c.in-Some.change c.args.puts.now kept
+    on_ok_weaker c.keep.result (plain_since (active_of c.args.store.now) (active_of c.read_all.new.store) c.read_all.ensures.stays.1 (fails_of c.args.store.now) (fails_of c.read_all.new.store) (history_of c.args.store.now)
+    (history_of c.read_all.new.store) (history_of c.keep.new.store) (c.read_all.ensures.reads.fuse yes)
+    (c.read_all.ensures.reads.same yes) c.in-Some.change c.args.puts.now kept
     (some_kept c.args.change c.in-Some.change c.args.puts.now kept c.in-Some.is with)
     (plain_of c.read_all.new.store (content c.args.state.now)) (plain_of c.args.store.now (content c.args.state.now))
-    (same_plain c.args.store.now c.read_all.new.store (c.read_all.ensures.same yes) (content c.args.state.now))
+    (same_plain c.args.store.now c.read_all.new.store (c.read_all.ensures.reads.same yes) (content c.args.state.now))
     (plain_of c.keep.new.store (content c.keep.new.state))) (c.keep.ensures.plain yes (c.read_all.ensures.tells yes (content c.args.state.now) told))
 
 pub returns-in-Some-clause-made : goal.returns-in-Some-clause-made
 returns-in-Some-clause-made g c = λ yes kept with.
-    on_ok_weaker c.keep.result (made_since (fails_of c.args.store.now) (fails_of c.read_all.new.store) (history_of c.args.store.now)
-    (history_of c.read_all.new.store) (history_of c.keep.new.store) (c.read_all.ensures.fuse yes)
-    (c.read_all.ensures.same yes) c.in-Some.change c.args.puts.now kept
+    on_ok_weaker c.keep.result (made_since (active_of c.args.store.now) (active_of c.read_all.new.store) c.read_all.ensures.stays.1 (fails_of c.args.store.now) (fails_of c.read_all.new.store) (history_of c.args.store.now)
+    (history_of c.read_all.new.store) (history_of c.keep.new.store) (c.read_all.ensures.reads.fuse yes)
+    (c.read_all.ensures.reads.same yes) c.in-Some.change c.args.puts.now kept
     (some_kept c.args.change c.in-Some.change c.args.puts.now kept c.in-Some.is with)) (c.keep.ensures.made yes)
 
 pub returns-in-Some-clause-broken_off : goal.returns-in-Some-clause-broken_off
 returns-in-Some-clause-broken_off g c = λ yes kept with.
-    on_err_weaker c.keep.result (broken_since (fails_of c.args.store.now) (fails_of c.read_all.new.store) (history_of c.args.store.now)
-    (history_of c.read_all.new.store) (history_of c.keep.new.store) (c.read_all.ensures.fuse yes)
-    (c.read_all.ensures.same yes) c.in-Some.change c.args.puts.now kept
+    on_err_weaker c.keep.result (broken_since (active_of c.args.store.now) (active_of c.read_all.new.store) c.read_all.ensures.stays.1 (fails_of c.args.store.now) (fails_of c.read_all.new.store) (history_of c.args.store.now)
+    (history_of c.read_all.new.store) (history_of c.keep.new.store) (c.read_all.ensures.reads.fuse yes)
+    (c.read_all.ensures.reads.same yes) c.in-Some.change c.args.puts.now kept
     (some_kept c.args.change c.in-Some.change c.args.puts.now kept c.in-Some.is with)) (c.keep.ensures.broken_off yes)
 
 pub returns-in-Some-clause-cut : goal.returns-in-Some-clause-cut
 returns-in-Some-clause-cut g c = λ yes told kept with which failed.
-    either (cut_since (fails_of c.args.store.now) (fails_of c.read_all.new.store) (history_of c.args.store.now) (history_of c.read_all.new.store)
-    (history_of c.keep.new.store) (c.read_all.ensures.fuse yes) (c.read_all.ensures.same yes) c.in-Some.change c.args.puts.now kept
+    either (cut_since (active_of c.args.store.now) (active_of c.read_all.new.store) c.read_all.ensures.stays.1 (fails_of c.args.store.now) (fails_of c.read_all.new.store) (history_of c.args.store.now) (history_of c.read_all.new.store)
+    (history_of c.keep.new.store) (c.read_all.ensures.reads.fuse yes) (c.read_all.ensures.reads.same yes) c.in-Some.change c.args.puts.now kept
     (some_kept c.args.change c.in-Some.change c.args.puts.now kept c.in-Some.is with)
     (plain_of c.read_all.new.store (content c.args.state.now)) (plain_of c.args.store.now (content c.args.state.now))
-    (same_plain c.args.store.now c.read_all.new.store (c.read_all.ensures.same yes) (content c.args.state.now)) which)
+    (same_plain c.args.store.now c.read_all.new.store (c.read_all.ensures.reads.same yes) (content c.args.state.now)) which)
     (c.keep.ensures.cut yes (c.read_all.ensures.tells yes (content c.args.state.now) told) which failed)
 
 pub returns-in-Some-clause-any_moment : goal.returns-in-Some-clause-any_moment
 returns-in-Some-clause-any_moment g c = λ yes told kept with.
-    moments_since (fails_of c.args.store.now) (fails_of c.read_all.new.store) (history_of c.args.store.now) (history_of c.read_all.new.store)
-    (history_of c.keep.new.store) (c.read_all.ensures.fuse yes) (c.read_all.ensures.same yes) c.in-Some.change c.args.puts.now kept
+    moments_since (active_of c.args.store.now) (active_of c.read_all.new.store) c.read_all.ensures.stays.1 (fails_of c.args.store.now) (fails_of c.read_all.new.store) (history_of c.args.store.now) (history_of c.read_all.new.store)
+    (history_of c.keep.new.store) (c.read_all.ensures.reads.fuse yes) (c.read_all.ensures.reads.same yes) c.in-Some.change c.args.puts.now kept
     (some_kept c.args.change c.in-Some.change c.args.puts.now kept c.in-Some.is with)
     (plain_of c.read_all.new.store (content c.args.state.now)) (plain_of c.args.store.now (content c.args.state.now))
-    (same_plain c.args.store.now c.read_all.new.store (c.read_all.ensures.same yes) (content c.args.state.now))
+    (same_plain c.args.store.now c.read_all.new.store (c.read_all.ensures.reads.same yes) (content c.args.state.now))
     (c.keep.ensures.any_moment yes (c.read_all.ensures.tells yes (content c.args.state.now) told))
 
 pub returns-in-None-clause-bare : goal.returns-in-None-clause-bare
@@ -94,3 +100,73 @@ pub returns-in-Some-clause-short : goal.returns-in-Some-clause-short
 returns-in-Some-clause-short g c = λ was.
     let short = c.in-Ok.ensures.short (reads_short (content c.args.state.now) c.requires.sound.short c.args.reads.now c.requires.live) was in
     on_ok_weaker c.keep.result (λ _. short) c.keep.ensures.running
+
+pub returns-in-Err-clause-broken : goal.returns-in-Err-clause-broken
+returns-in-Err-clause-broken g c = λ which failed.
+    let is : c.in-Err.fault ≡ Disk which = cc in
+    read_failed (λ w. Rose (g.D.Disk.faults (disk_of w c.args.store.now)) (g.D.Disk.faults (disk_of w c.read_all.new.store))) c.in-Err.fault which
+    c.in-Err.ensures.only is (λ spool. (c.in-Err.ensures.failed (ap Err spool)).rose)
+
+pub returns-in-Err-clause-cut : goal.returns-in-Err-clause-cut
+returns-in-Err-clause-cut g c = λ yes told kept with which failed.
+    let is : c.in-Err.fault ≡ Disk which = cc in
+    read_failed (λ w. IsTrue (is_starved c.read_all.new.store w) ⊎ (IsBlown (fails_of c.args.store.now w) (history_of c.args.store.now w)
+    ⊎ IsCutBy (active_of c.args.store.now) (fails_of c.args.store.now) (history_of c.args.store.now) (history_of c.read_all.new.store) kept
+    (plain_of c.args.store.now (content c.args.state.now)) w)) c.in-Err.fault which
+    c.in-Err.ensures.only is (λ spool. inr (inl ((c.in-Err.ensures.failed (ap Err spool)).blown yes)))
+
+pub returns-in-Err-clause-later : goal.returns-in-Err-clause-later
+returns-in-Err-clause-later g c = λ which. c.read_all.ensures.reads.later which
+
+pub returns-in-None-clause-later : goal.returns-in-None-clause-later
+returns-in-None-clause-later g c = λ which. c.read_all.ensures.reads.later which
+
+pub returns-in-Some-clause-later : goal.returns-in-Some-clause-later
+returns-in-Some-clause-later g c = λ which. le_trans (c.read_all.ensures.reads.later which) (c.keep.ensures.later which)
+
+pub returns-in-Err-clause-fuse : goal.returns-in-Err-clause-fuse
+returns-in-Err-clause-fuse g c = λ yes which i. c.read_all.ensures.reads.fuse yes which i
+
+pub returns-in-None-clause-fuse : goal.returns-in-None-clause-fuse
+returns-in-None-clause-fuse g c = λ yes which i. c.read_all.ensures.reads.fuse yes which i
+
+pub returns-in-Some-clause-fuse : goal.returns-in-Some-clause-fuse
+returns-in-Some-clause-fuse g c = λ yes which i. c.keep.ensures.fuse yes which i ∙ c.read_all.ensures.reads.fuse yes which i
+
+pub returns-in-Some-clause-broken : goal.returns-in-Some-clause-broken
+returns-in-Some-clause-broken g c = λ which failed. rose_since _ _ _ (c.read_all.ensures.reads.later which) (c.keep.ensures.broken which failed).1
+
+pub returns-in-Err-clause-unchanged : goal.returns-in-Err-clause-unchanged
+returns-in-Err-clause-unchanged g c = λ yes failed. (c.read_all.ensures.reads.same yes, c.read_all.ensures.tells yes)
+
+pub returns-in-Some-clause-unchanged : goal.returns-in-Some-clause-unchanged
+returns-in-Some-clause-unchanged g c = λ yes failed.
+    let kept = c.keep.ensures.memory failed in (
+      λ which. ap g.D.Disk.history (kept.0 which) ∙ c.read_all.ensures.reads.same yes which,
+      λ host told. kept.2 host (c.read_all.ensures.tells yes host told),
+    )
+
+pub returns-in-Err-clause-memory : goal.returns-in-Err-clause-memory
+returns-in-Err-clause-memory g c = λ failed. (c.read_all.ensures.stays.0 ∙ c.requires.running, c.read_all.ensures.stays.1)
+
+pub returns-in-Some-clause-memory : goal.returns-in-Some-clause-memory
+returns-in-Some-clause-memory g c = λ failed. (
+  (c.keep.ensures.memory failed).1 ∙ c.read_all.ensures.stays.0 ∙ c.requires.running,
+  c.keep.ensures.still failed ∙ c.read_all.ensures.stays.1,
+)
+
+pub returns-in-None-clause-made : goal.returns-in-None-clause-made
+returns-in-None-clause-made g c = λ yes kept with.
+    subst (λ (k : Kept). IsMade (active_of c.args.store.now) (fails_of c.args.store.now) (history_of c.args.store.now) (history_of c.read_all.new.store) k)
+    (none_kept c.args.change c.args.puts.now kept c.in-None.is with) (c.read_all.ensures.reads.same yes)
+
+pub returns-in-None-clause-active : goal.returns-in-None-clause-active
+returns-in-None-clause-active g c = λ kept with.
+    c.read_all.ensures.stays.1 ∙ ap (λ (k : Kept). after_kept k (active_of c.args.store.now)) (none_kept c.args.change c.args.puts.now kept c.in-None.is with)
+
+pub returns-in-Some-clause-active : goal.returns-in-Some-clause-active
+returns-in-Some-clause-active g c = λ kept with.
+    on_ok_weaker c.keep.result (λ turned.
+    turned ∙ ap (λ x. recorded (ready x)) c.read_all.ensures.stays.1
+    ∙ ap (λ (k : Kept). after_kept k (active_of c.args.store.now)) (some_kept c.args.change c.in-Some.change c.args.puts.now kept c.in-Some.is with).is)
+    c.keep.ensures.active

@@ -1,4 +1,4 @@
-use Rattle.std.proofs.Common.{◌+◌, [], length, drop, sym, ap, subst, ◌∙◌, arith, get_or}
+use Rattle.std.proofs.Common.{◌+◌, [], length, drop, refl, sym, ap, subst, ◌∙◌, arith, get_or}
 use Rattle.std.specs.List.{list_all}
 use Rattle.std.proofs.lemmas.Bool.{leb-true, le-leb}
 use Rattle.std.proofs.lemmas.List.{at_drop_more, at_drop_all}
@@ -9,23 +9,19 @@ use Rattle.nqs_outside.specs.History.{History, content}
 use Rattle.nqs_rules.specs.Edits.{change_at}
 use Rattle.nqs_rules.specs.Stepped.{with_bytes}
 use Rattle.nqs_store.specs.Live.{bytes_at}
-use Rattle.nqs_store.specs.Stores.{history_of, fails_of, bytes_of}
+use Rattle.nqs_store.specs.Stores.{bytes_of}
 use Rattle.nqs_node.specs.Reading.{read_into, IsLiveRead, IsShortRead, sends_short, AreShort}
 use Rattle.nqs_node.proofs.Carrying.{read_short}
-use Rattle.nqs_node.proofs.Places.{all_at, rose_since, blown_since}
+use Rattle.nqs_node.proofs.Places.{all_at, reads_none, reads_then, failed_since}
 use Rattle.nqs_node.proofs.reads.read_all.Goals as goal
 
 pub returns-in_err-read_one-clause-failed : goal.returns-in_err-read_one-clause-failed
 returns-in_err-read_one-clause-failed g c =
     let p = err_from_is_err_and c.from_residual.result c.from_residual.ensures.1 in
-    rw (p.1, p.2) (λ failed. rose_since _ _ _ (c.loop-read.invariant.later Spool) (c.in_err-read_one.ensures.failed failed))
+    rw (p.1, p.2) (λ failed. failed_since _ _ _ Spool c.loop-read.invariant.reads (c.in_err-read_one.ensures.failed failed))
 
-pub returns-in_err-read_one-clause-cause : goal.returns-in_err-read_one-clause-cause
-returns-in_err-read_one-clause-cause g c =
-    let p = err_from_is_err_and c.from_residual.result c.from_residual.ensures.1 in
-    let v = c.loop-read.invariant in
-    rw (p.1, p.2) (λ yes failed. blown_since (fails_of c.args.store.now Spool) (fails_of c.loop-read.store Spool) (history_of c.loop-read.store Spool)
-    (history_of c.args.store.now Spool) (v.fuse yes Spool) (v.same yes Spool) (c.in_err-read_one.ensures.cause yes failed))
+pub returns-in_err-read_one-clause-reads : goal.returns-in_err-read_one-clause-reads
+returns-in_err-read_one-clause-reads g c = reads_then _ _ _ c.loop-read.invariant.reads c.read_one.ensures.reads
 
 pub returns-in_err-read_one-clause-tells : goal.returns-in_err-read_one-clause-tells
 returns-in_err-read_one-clause-tells g c = λ yes host told. c.read_one.ensures.tells yes host (c.loop-read.invariant.tells yes host told)
@@ -42,7 +38,7 @@ loop-read-preserved g c =
     record {
       filled = λ yes host told all.
           let read = c.in_ok-read_one.ensures.filled yes host (v.tells yes host told) (all_at (IsLiveRead host) reads i none all c.loop-read-test.true) in
-          let bytes = ap (λ (h : History). bytes_at (content h) x.extent) (v.same yes Spool) in
+          let bytes = ap (λ (h : History). bytes_at (content h) x.extent) (v.reads.same yes Spool) in
           ap (read_into f (drop (i + 1) reads)) (read ∙ ap (λ b. change_at x.output (with_bytes b) outputs) bytes)
           ∙ sym (at_drop_more (λ rs. read_into f rs outputs) reads i none c.loop-read-test.true) ∙ v.filled yes host told all;
       short = λ few was.
@@ -54,11 +50,8 @@ loop-read-preserved g c =
           (read_short (drop (i + 1) reads) x.output read.0 script outputs before);
       as_many = c.read_one.ensures.as_many ∙ v.as_many;
       alike = c.read_one.ensures.alike ∙ v.alike;
-      same = λ yes which. c.read_one.ensures.same yes which ∙ v.same yes which;
-      fuse = λ yes which n. c.read_one.ensures.fuse yes which n ∙ v.fuse yes which n;
-      starved = λ yes which. c.read_one.ensures.starved yes which ∙ v.starved yes which;
-      stays = c.read_one.ensures.stays ∙ v.stays;
-      later = λ which. omega (arith, v.later which, c.read_one.ensures.later which);
+      reads = reads_then _ _ _ v.reads c.read_one.ensures.reads;
+      stays = (c.read_one.ensures.stays.0 ∙ v.stays.0, c.read_one.ensures.stays.1 ∙ v.stays.1);
       tells = λ yes host told. c.read_one.ensures.tells yes host (v.tells yes host told);
     }
 
@@ -73,3 +66,18 @@ returns-clause-short g c = λ few was.
     let outputs = c.loop-read.outputs.items in
     sym (at_drop_all (λ rs. list_all sends_short (read_into (λ _. []) rs outputs)) c.args.reads.now c.loop-read.read-index c.loop-read-test.false)
     ∙ c.loop-read.invariant.short few was
+
+pub loop-read-init : goal.loop-read-init
+loop-read-init g c = record {
+  filled = λ yes host told all. refl;
+  short = λ few was. was;
+  as_many = refl;
+  alike = refl;
+  reads = reads_none _;
+  stays = (refl, refl);
+  tells = λ yes host told. told;
+}
+
+pub returns-in_err-read_one-clause-stays : goal.returns-in_err-read_one-clause-stays
+returns-in_err-read_one-clause-stays g c =
+    (c.read_one.ensures.stays.0 ∙ c.loop-read.invariant.stays.0, c.read_one.ensures.stays.1 ∙ c.loop-read.invariant.stays.1)

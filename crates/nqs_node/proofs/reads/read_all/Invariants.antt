@@ -1,7 +1,6 @@
-use Rattle.std.proofs.Common.{◌≡◌, ◌≤◌, ℕ, IsTrue, [], length, map, drop}
+use Rattle.std.proofs.Common.{◌≡◌, IsTrue, [], length, map, drop}
 use Rattle.std.specs.List.{AllByRecursion}
-use Rattle.nqs_types.specs.declared.world.Which.{Which}
-use Rattle.nqs_store.specs.Stores.{disk_of, history_of, fails_of, is_starved, is_stopped, bytes_of, Tells}
+use Rattle.nqs_store.specs.Stores.{is_stopped, active_of, bytes_of, Tells, OnlyReads}
 use Rattle.nqs_store.specs.Told.{Host}
 use Rattle.nqs_back.specs.Bare.{without_bytes}
 use Rattle.nqs_node.specs.Reading.{read_into, AreLiveReads, IsShortRead, AreShort}
@@ -16,10 +15,7 @@ invariant-loop-read g l = record {
       → AreShort (read_into (λ _. []) (drop l.read-index l.reads) l.outputs.items);
   as_many : length l.outputs.items ≡ length l.fn.outputs.items;
   alike : map without_bytes l.outputs.items ≡ map without_bytes l.fn.outputs.items;
-  same : IsTrue g.D.Disk.tells → (which : Which) → history_of l.store which ≡ history_of l.fn.store which;
-  fuse : IsTrue g.D.Disk.tells → (which : Which) (i : ℕ) → fails_of l.store which i ≡ fails_of l.fn.store which i;
-  starved : IsTrue g.D.Disk.tells → (which : Which) → is_starved l.store which ≡ is_starved l.fn.store which;
-  stays : is_stopped l.store ≡ is_stopped l.fn.store;
-  later : (which : Which) → g.D.Disk.faults (disk_of which l.fn.store) ≤ g.D.Disk.faults (disk_of which l.store);
+  reads : OnlyReads l.fn.store l.store;
+  stays : (is_stopped l.store ≡ is_stopped l.fn.store) × (active_of l.store ≡ active_of l.fn.store);
   tells : IsTrue g.D.Disk.tells → (host : Host) → Tells l.fn.store host → Tells l.store host;
 }

@@ -1,6 +1,6 @@
 use Rattle.std.proofs.Common.{refl, ap, sym, subst, [], inl, arith}
 use Rattle.nqs_types.specs.declared.ids.HostId.{HostId}
-use Rattle.nqs_node.specs.Nodes.{content_of}
+use Rattle.nqs_node.specs.Nodes.{active_of, content_of}
 use Rattle.nqs_serve.specs.Events.{Here}
 use Rattle.nqs_serve.specs.Runs.{idle}
 use Rattle.nqs_serve.specs.Moments.{IsPassed}
@@ -19,7 +19,7 @@ returns-in-Err-clause-run g c = λ tells s told. (
   [],
   ran_none (here_of c.args.node.now) (idle s) _,
   ((s, told, inl (refl, refl)), record { before = []; last = []; are = refl; none = refl; at_most_one = omega arith; few = omega arith }),
-  through_none c.args.node.now s (IsPassed (here_of c.args.node.now) (idle s) [] []) (tells, told) ([], [], refl, inl refl),
+  (active_of c.args.node.now, through_none c.args.node.now s (IsPassed (here_of c.args.node.now) (idle s) [] []) (tells, told) ([], [], refl, inl refl)),
 )
 
 pub returns-clause-run : goal.returns-clause-run

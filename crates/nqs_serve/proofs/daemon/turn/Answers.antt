@@ -3,7 +3,7 @@ use Rattle.std.specs.Option.{option_to_list}
 use Rattle.nqs_rules.specs.Plain.{map_state}
 use Rattle.nqs_rules.specs.Sane.{is_sane_event}
 use Rattle.nqs_rules.specs.World.{shuts_down}
-use Rattle.nqs_node.specs.Nodes.{bytes_of}
+use Rattle.nqs_node.specs.Nodes.{active_of, bytes_of}
 use Rattle.nqs_serve.specs.Events.{Here, event_in, stops_by}
 use Rattle.nqs_serve.specs.Steps.{after_event}
 use Rattle.nqs_serve.specs.Runs.{received, took, turn, idle}
@@ -39,7 +39,7 @@ returns-in-Err-Wire-clause-err g c = λ s here knows same.
       [],
       ran_cut here (idle s) [] _ _ (missed_grew here _ _ _ _ _ _ _ _ lost.0 c.receive.ensures.sent),
       (refl, refl, knows.1, refl, omega arith),
-      still,
+      (active_of c.args.node.now, still),
     )
 
 pub returns-in-Err-Memory-clause-err : goal.returns-in-Err-Memory-clause-err
@@ -50,7 +50,11 @@ returns-in-Err-Memory-clause-err g c = λ s here knows same.
       [],
       ran_received here s came.0 (event_in here came.0) _ _ refl (received_grew here came.0 _ _ _ _ _ _ _ _ came.1 c.receive.ensures.sent),
       ((s, knows.1, inl (refl, refl)), one_receive (stops_by (event_in here came.0) s)),
-      through_none c.args.node.now s (IsPassed here (idle s) (received came.0 ∷ []) []) knows ([], received came.0 ∷ [], refl, inl refl),
+      (
+        active_of c.args.node.now,
+        through_none c.args.node.now s (IsPassed here (idle s) (received came.0 ∷ []) []) knows
+            ([], received came.0 ∷ [], refl, inl refl),
+      ),
     )
 
 pub take_event-taken-requires-clause-sane : goal.take_event-taken-requires-clause-sane
@@ -86,7 +90,7 @@ returns-in-Err-clause-err g c = λ s here knows same.
           (cut_ends c.in-Err.cut bs (turn s (e ∷ [])) (cut.0 ∷ []) c.take_event-taken.new.node (inr (e, [], cut.0, refl, refl))
           (λ memory. let known = cut.1 (ap Err memory) in (known.0, known.1.1, inr (e, [], cut.0, refl, refl, known.2)))
           (one_receive (stops_by (event_in here came.0) s))),
-      through_cut_turn here _ _ came.0 cut.0 s e some cut.3,
+      (cut.3.0, through_cut_turn here _ _ _ _ came.0 cut.0 s e some cut.3.1),
     )
 
 pub returns-in-Err-take_back-clause-err : goal.returns-in-Err-take_back-clause-err
@@ -110,7 +114,7 @@ returns-in-Err-take_back-clause-err g c = λ s here knows same.
           (cut_ends c.in-Err-take_back.cut bs cut.1 cut.2 c.take_back.new.node cut.4
           (λ memory. let known = cut.5 (ap Err memory) in (known.0, known.1.1, known.2))
           (subst (λ l. Receives 1 l) (sym one) (one_receive (stops_by (event_in here came.0) s)))),
-      through_turn here _ _ _ came.0 ok.0 ok.1 cut.0 s e c.clear.new.self.items _ cut.2 some c.clear.ensures.items ok.2 ok.6 cut.7,
+      (cut.7.0, through_turn here _ _ _ _ _ _ came.0 ok.0 ok.1 cut.0 s e c.clear.new.self.items _ cut.2 some c.clear.ensures.items ok.2 ok.6 cut.7.1),
     )
 
 pub returns-in-Err-clause-disk_fault : goal.returns-in-Err-clause-disk_fault
@@ -147,5 +151,5 @@ returns-clause-ok g c = λ s here knows same.
       turn_stops here s came.0 ok.0 ok.1 rest.0 rest.2 ∙ ap (λ o. stops_by o s ∷ []) (sym some) ∙ ap (λ b. b ∷ []) (sym stop),
       ran_turn here came.0 ok.0 ok.1 rest.0 s e c.clear.new.self.items _ (idle rest.1) [] _ _ _ _ some c.clear.ensures.items ok.2 ok.4
           (received_grew here came.0 _ _ _ _ _ _ _ _ came.2 c.receive.ensures.sent) ok.5 rest.4,
-      through_turn here _ _ _ came.0 ok.0 ok.1 rest.0 s e c.clear.new.self.items _ [] some c.clear.ensures.items ok.2 ok.6 rest.5,
+      through_turn here _ _ _ _ _ _ came.0 ok.0 ok.1 rest.0 s e c.clear.new.self.items _ [] some c.clear.ensures.items ok.2 ok.6 rest.5,
     )

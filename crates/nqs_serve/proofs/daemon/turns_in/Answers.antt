@@ -1,4 +1,5 @@
 use Rattle.std.proofs.Common.{◌≡◌, ℕ, refl, ap, sym, subst, ◌∙◌, ◌++◌, [], ◌∷◌, List, length, length-append, arith, Err, Bool, true, false, inl}
+use Rattle.nqs_node.specs.Nodes.{active_of}
 use Rattle.nqs_serve.specs.Events.{Here}
 use Rattle.nqs_serve.specs.Runs.{idle}
 use Rattle.nqs_serve.specs.Ends.{Ends, NoneStops, stops, end_of}
@@ -51,7 +52,7 @@ returns-in-Ok-true-clause-run g c = λ s here knows same.
           ),
         ),
       ),
-      through_run here _ _ _ (idle s) (idle before.1) before.0 ok.0 [] before.5.leads before.6 ok.5,
+      (active_of c.turn.new.node, through_run here _ _ _ _ _ _ (idle s) (idle before.1) before.0 ok.0 [] before.5.leads before.6 ok.5),
     )
 
 pub returns-in-Err-clause-run : goal.returns-in-Err-clause-run
@@ -69,7 +70,7 @@ returns-in-Err-clause-run g c = λ s here knows same.
       ran_then here before.0 err.0 (idle s) (idle before.1) err.1 err.2 _ _ _ before.5 err.3,
       subst (λ e. Ends e c.args.turns (stops here (idle s) (before.0 ++ err.0)) err.1 err.2 c.turn.new.node) (sym c.end_of.ensures)
           (subst (λ (l : List Bool). Ends (end_of c.in-Err.fault) c.args.turns l err.1 err.2 c.turn.new.node) (sym all) ends),
-      through_run here _ _ _ (idle s) (idle before.1) before.0 err.0 err.2 before.5.leads before.6 err.5,
+      (err.5.0, through_run here _ _ _ _ _ _ (idle s) (idle before.1) before.0 err.0 err.2 before.5.leads before.6 err.5.1),
     )
 
 pub returns-in-Err-clause-wire_fault : goal.returns-in-Err-clause-wire_fault
@@ -102,11 +103,17 @@ loop-left-preserved g c = record {
         omega (arith, ap (λ (l : List Bool). length l) all, length-append xs (false ∷ []), before.3, c.loop-left-test.true),
         ok.2,
         ran_then here before.0 ok.0 (idle s) (idle before.1) (idle ok.1) [] _ _ _ before.5 ok.4,
-        through_run here _ _ _ (idle s) (idle before.1) before.0 ok.0 [] before.5.leads before.6 ok.5,
+        through_run here _ _ _ _ _ _ (idle s) (idle before.1) before.0 ok.0 [] before.5.leads before.6 ok.5,
       );
 }
 
 pub returns-clause-run : goal.returns-clause-run
 returns-clause-run g c = λ s here knows same.
-    let before = c.loop-left.invariant.ran s here knows same in
-    (before.0, idle before.1, [], before.5, (refl, refl, before.4.1, before.2, omega (arith, before.3, c.loop-left-test.false)), before.6)
+    let before = c.loop-left.invariant.ran s here knows same in (
+      before.0,
+      idle before.1,
+      [],
+      before.5,
+      (refl, refl, before.4.1, before.2, omega (arith, before.3, c.loop-left-test.false)),
+      (active_of c.loop-left.node, before.6),
+    )

@@ -1,10 +1,10 @@
 use Rattle.std.proofs.Common.{◌≡◌, ◌≤◌, ◌+◌, [], List, length, false}
 use Rattle.nqs_state.specs.State.{Plain}
 use Rattle.nqs_types.specs.declared.world.Which.{Which}
-use Rattle.nqs_node.specs.Nodes.{content_of, disk_of, history_of, is_stopped}
+use Rattle.nqs_node.specs.Nodes.{active_of, content_of, disk_of, history_of, is_stopped}
 use Rattle.nqs_store.specs.Sound.{IsSoundHost}
 use Rattle.nqs_serve.specs.Events.{Here}
-use Rattle.nqs_serve.specs.Moments.{TellsThroughout, IsPassed}
+use Rattle.nqs_serve.specs.Moments.{TellsTo, IsPassed}
 use Rattle.nqs_serve.specs.Nodes.{Knows}
 use Rattle.nqs_serve.specs.Runs.{Act, idle, telling, Ran}
 use Rattle.nqs_serve.specs.Ends.{NoneStops, stops}
@@ -25,7 +25,7 @@ invariant-loop-left g l = record {
       (g.O.Outlet.filings l.fn.outlet) (g.C.Clock.given l.fn.clock))
       (telling (g.W.Wire.received l.wire) (g.W.Wire.sent l.wire) (g.L.Launcher.asked l.launcher) (g.P.Printer.prints l.printer) (g.O.Outlet.filings l.outlet)
       (g.C.Clock.given l.clock))
-      × TellsThroughout (history_of l.fn.node) (history_of l.node) (IsPassed here (idle s) acts []);
+      × TellsTo (active_of l.fn.node) (active_of l.node) (history_of l.fn.node) (history_of l.node) (IsPassed here (idle s) acts []);
 }
 
 abbrev pub decreases-loop-left : goal.decreases-loop-left

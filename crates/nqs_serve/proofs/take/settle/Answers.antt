@@ -7,13 +7,14 @@ use Rattle.nqs_rules.specs.Start.{start}
 use Rattle.nqs_rules.specs.Starts.{starts, after_starts, after_step}
 use Rattle.nqs_rules.specs.Stepped.{Stepped}
 use Rattle.nqs_back.specs.Back.{comebacks}
-use Rattle.nqs_node.specs.Carried.{started}
+use Rattle.nqs_node.specs.Carried.{started, after_kept}
+use Rattle.nqs_node.specs.Nodes.{active_of}
 use Rattle.nqs_serve.specs.Ends.{IsBetween}
 use Rattle.nqs_serve.specs.Nodes.{Knows}
 use Rattle.nqs_serve.specs.Steps.{said}
 use Rattle.nqs_serve.proofs.Faults.{same_error, rose_behind}
 use Rattle.nqs_serve.proofs.Known.{steady_known}
-use Rattle.nqs_serve.proofs.Moments.{through_none, through_change, through_then, between_next}
+use Rattle.nqs_serve.proofs.Moments.{through_none, through_change, through_made, through_then, between_next}
 use Rattle.nqs_serve.proofs.Starting.{one_start, last_start, none_started, after_more, said_more}
 use Rattle.nqs_serve.proofs.take.settle.Goals as goal
 
@@ -54,8 +55,8 @@ loop-cut-preserved g c =
       moments = λ s knows.
           let before = c.loop-cut.invariant.told s knows in
           let u = after_starts before.0 s in
-          through_then _ _ _ (IsBetween now s) (c.loop-cut.invariant.moments s knows)
-          (through_change _ _ (started now u).change u (IsBetween now s) (did.moments u before.2) (before.0, starts now u, before.1, refl)
+          through_then _ _ _ _ _ _ (IsBetween now s) (c.loop-cut.invariant.moments s knows)
+          (through_made _ _ _ _ (started now u).change u (IsBetween now s) (did.active u before.2) (did.moments u before.2) (before.0, starts now u, before.1, refl)
           (between_next now s before.0 (steady_known c.loop-cut.node u before.2 c.loop-cut.invariant.sound) before.1));
       fewer = omega (arith, c.loop-cut.invariant.fewer, did.fewer c.in-Ok-true.field-0-test, did.one_back);
       later = λ which. omega (arith, c.loop-cut.invariant.later which, did.later which);
@@ -82,18 +83,20 @@ returns-in-Ok-false-clause-moments g c = λ s knows.
     let now = c.args.now in
     let before = c.loop-cut.invariant.told s knows in
     let u = after_starts before.0 s in
-    through_then _ _ _ (IsBetween now s) (c.loop-cut.invariant.moments s knows)
-    (through_change _ _ (started now u).change u (IsBetween now s) (c.in-Ok-false.ensures.moments u before.2) (before.0, starts now u, before.1, refl)
+    through_then _ _ _ _ _ _ (IsBetween now s) (c.loop-cut.invariant.moments s knows)
+    (through_made _ _ _ _ (started now u).change u (IsBetween now s) (c.in-Ok-false.ensures.active u before.2) (c.in-Ok-false.ensures.moments u before.2) (before.0, starts now u, before.1, refl)
     (between_next now s before.0 (steady_known c.loop-cut.node u before.2 c.loop-cut.invariant.sound) before.1))
 
 pub returns-in-Err-clause-moments : goal.returns-in-Err-clause-moments
 returns-in-Err-clause-moments g c = λ s knows.
     let now = c.args.now in
     let before = c.loop-cut.invariant.told s knows in
-    let u = after_starts before.0 s in
-    through_then _ _ _ (IsBetween now s) (c.loop-cut.invariant.moments s knows)
-    (through_change _ _ (started now u).change u (IsBetween now s) (c.in-Err.ensures.moments u before.2) (before.0, starts now u, before.1, refl)
-    (between_next now s before.0 (steady_known c.loop-cut.node u before.2 c.loop-cut.invariant.sound) before.1))
+    let u = after_starts before.0 s in (
+      after_kept (started now u).change (active_of c.loop-cut.node),
+      through_then _ _ _ _ _ _ (IsBetween now s) (c.loop-cut.invariant.moments s knows)
+          (through_change _ _ _ (started now u).change u (IsBetween now s) (c.in-Err.ensures.moments u before.2) (before.0, starts now u, before.1, refl)
+          (between_next now s before.0 (steady_known c.loop-cut.node u before.2 c.loop-cut.invariant.sound) before.1)),
+    )
 
 pub returns-in-Ok-false-clause-fewer : goal.returns-in-Ok-false-clause-fewer
 returns-in-Ok-false-clause-fewer g c =

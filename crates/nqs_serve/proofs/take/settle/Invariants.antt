@@ -6,11 +6,11 @@ use Rattle.nqs_rules.specs.Measure.{starts_left}
 use Rattle.nqs_rules.specs.Starts.{starts, after_starts}
 use Rattle.nqs_rules.specs.Stepped.{Stepped}
 use Rattle.nqs_back.specs.Back.{comebacks}
-use Rattle.nqs_node.specs.Nodes.{content_of, disk_of, history_of, is_stopped}
+use Rattle.nqs_node.specs.Nodes.{active_of, content_of, disk_of, history_of, is_stopped}
 use Rattle.nqs_node.specs.Reading.{AreShort}
 use Rattle.nqs_store.specs.Sound.{IsSoundHost}
 use Rattle.nqs_serve.specs.Ends.{IsBetween}
-use Rattle.nqs_serve.specs.Moments.{TellsThroughout}
+use Rattle.nqs_serve.specs.Moments.{TellsTo}
 use Rattle.nqs_serve.specs.Nodes.{Knows}
 use Rattle.nqs_serve.specs.Sends.{AreRight}
 use Rattle.nqs_serve.specs.Steps.{said}
@@ -25,7 +25,7 @@ invariant-loop-cut g l = record {
   short : AreShort l.out.items;
   told : (s : Plain) → Knows l.fn.node s → (xs : List (Stepped (List ℕ))) × (starts l.now s ≡ xs ++ starts l.now (after_starts xs s))
       × Knows l.node (after_starts xs s) × (l.out.items ≡ l.fn.out.items ++ flat_map said xs);
-  moments : (s : Plain) → Knows l.fn.node s → TellsThroughout (history_of l.fn.node) (history_of l.node) (IsBetween l.now s);
+  moments : (s : Plain) → Knows l.fn.node s → TellsTo (active_of l.fn.node) (active_of l.node) (history_of l.fn.node) (history_of l.node) (IsBetween l.now s);
   fewer : starts_left (content_of l.node) + comebacks l.out.items ≤ starts_left (content_of l.fn.node) + comebacks l.fn.out.items;
   later : (which : Which) → g.D.Disk.faults (disk_of which l.fn.node) ≤ g.D.Disk.faults (disk_of which l.node);
 }

@@ -20,7 +20,7 @@ pub returns-in-Err-Disk-clause-moments : goal.returns-in-Err-Disk-clause-moments
 returns-in-Err-Disk-clause-moments g c = λ s knows. c.in-Err-Disk.ensures.any_moment knows.0 s knows.1
 
 pub returns-in-Err-Memory-clause-memory : goal.returns-in-Err-Memory-clause-memory
-returns-in-Err-Memory-clause-memory g c = λ s knows failed. (knows.0, (c.in-Err-Memory.ensures.memory knows.0 (ap Err c.in-Err-Memory.field-0-is)).3 s knows.1)
+returns-in-Err-Memory-clause-memory g c = λ s knows failed. (knows.0, (c.in-Err-Memory.ensures.memory knows.0 (ap Err c.in-Err-Memory.field-0-is)).tells s knows.1)
 
 pub returns-in-Err-Disk-clause-broken : goal.returns-in-Err-Disk-clause-broken
 returns-in-Err-Disk-clause-broken g c = λ failed.
@@ -33,3 +33,6 @@ returns-in-Ok-clause-right g c = alike_right 16 _ _ _ c.in-Ok.ensures.alike c.re
 
 pub returns-in-Ok-clause-short : goal.returns-in-Ok-clause-short
 returns-in-Ok-clause-short g c = c.in-Ok.ensures.short c.requires.short (start_short (content_of c.args.node.now) c.requires.sound.order c.args.now)
+
+pub returns-in-Ok-clause-active : goal.returns-in-Ok-clause-active
+returns-in-Ok-clause-active g c = λ s knows. c.in-Ok.ensures.active knows.0 s knows.1

@@ -55,7 +55,11 @@ returns-in-Err-clause-cut g c = λ s here knows same.
       inr (e, map event_back rest, cut.0, refl, refl),
       λ failed. let known = cut.1 failed in (known.0, known.1, inr (e, map event_back rest, cut.0, refl, refl, known.2)),
       cut_back here before.0 _ before.1 e x c.loop-alloc.back.items rest cut.0 _ _ _ split c.event_back-event.ensures before.4 cut.2,
-      through_cut_back here _ _ _ _ before.0 before.1 e x c.loop-alloc.back.items rest cut.0 split c.event_back-event.ensures before.4.leads before.5 cut.3,
+      (
+        cut.3.0,
+        through_cut_back here _ _ _ _ _ _ _ before.0 before.1 e x c.loop-alloc.back.items rest cut.0 split c.event_back-event.ensures
+            before.4.leads before.5 cut.3.1,
+      ),
     )
 
 pub returns-in-Err-clause-broken : goal.returns-in-Err-clause-broken
@@ -90,7 +94,7 @@ loop-alloc-preserved g c =
             arrivals_append before.0 (took ok.0 ok.1 ∷ []) ∙ ap (λ l. l ++ []) before.2,
             ok.3,
             took_back here before.0 _ before.1 e x c.loop-alloc.back.items rest _ ok.0 ok.1 _ _ _ split c.event_back-event.ensures ok.2 ok.4 before.4 ok.5,
-            through_took_back here _ _ _ _ before.0 before.1 e x c.loop-alloc.back.items rest ok.0 ok.1 split c.event_back-event.ensures before.4.leads
+            through_took_back here _ _ _ _ _ _ _ before.0 before.1 e x c.loop-alloc.back.items rest ok.0 ok.1 split c.event_back-event.ensures before.4.leads
                 before.5 ok.6,
           );
     }

@@ -2,10 +2,10 @@ use Rattle.std.proofs.Common.{◌≡◌, ◌≤◌, ◌+◌, [], List, map, leng
 use Rattle.nqs_state.specs.State.{Plain}
 use Rattle.nqs_types.specs.declared.world.Which.{Which}
 use Rattle.nqs_rules.specs.Measure.{starts_left}
-use Rattle.nqs_node.specs.Nodes.{content_of, disk_of, history_of, is_stopped}
+use Rattle.nqs_node.specs.Nodes.{active_of, content_of, disk_of, history_of, is_stopped}
 use Rattle.nqs_store.specs.Sound.{IsSoundHost}
 use Rattle.nqs_serve.specs.Events.{Here}
-use Rattle.nqs_serve.specs.Moments.{TellsThroughout, IsPassed}
+use Rattle.nqs_serve.specs.Moments.{TellsTo, IsPassed}
 use Rattle.nqs_serve.specs.Nodes.{Knows}
 use Rattle.nqs_serve.specs.Runs.{Act, arrivals, turn, event_back, telling, Ran}
 use Rattle.nqs_serve.proofs.take.take_back.Given as goal
@@ -24,7 +24,7 @@ invariant-loop-alloc g l = record {
       (g.O.Outlet.filings l.fn.outlet) (g.C.Clock.given l.fn.clock))
       (telling (g.W.Wire.received l.wire) (g.W.Wire.sent l.wire) (g.L.Launcher.asked l.launcher) (g.P.Printer.prints l.printer) (g.O.Outlet.filings l.outlet)
       (g.C.Clock.given l.clock))
-      × TellsThroughout (history_of l.fn.node) (history_of l.node) (IsPassed here (turn s (map event_back l.fn.back.items)) acts []);
+      × TellsTo (active_of l.fn.node) (active_of l.node) (history_of l.fn.node) (history_of l.node) (IsPassed here (turn s (map event_back l.fn.back.items)) acts []);
 }
 
 -- each event that came back is one less, and each start that may bring one back lowers how many there may still be

@@ -4,7 +4,7 @@ use Rattle.nqs_types.specs.declared.event.Output.{Output}
 use Rattle.nqs_rules.specs.Sane.{is_sane_event}
 use Rattle.nqs_rules.specs.Starts.{starts}
 use Rattle.nqs_back.specs.Back.{comebacks, comes_back}
-use Rattle.nqs_node.specs.Nodes.{content_of}
+use Rattle.nqs_node.specs.Nodes.{active_of, content_of}
 use Rattle.nqs_node.specs.Reading.{sends_short}
 use Rattle.nqs_serve.specs.Events.{Here}
 use Rattle.nqs_serve.specs.Letters.{letter_of}
@@ -50,7 +50,7 @@ returns-in-Err-reserve-clause-cut g c = λ s here knows same.
         ),
       ),
       clock_grew here _ _ _ _ _ _ _ now c.now-now.ensures,
-      c.in_default.ensures.moments s c.args.event.now knows c.set_moment.ensures,
+      (active_of c.take_whole.new.node, c.in_default.ensures.moments s c.args.event.now knows c.set_moment.ensures),
     )
 
 pub returns-in-Err-letters_of-clause-cut : goal.returns-in-Err-letters_of-clause-cut
@@ -70,7 +70,7 @@ returns-in-Err-letters_of-clause-cut g c = λ s here knows same.
         ),
       ),
       clock_grew here _ _ _ _ _ _ _ now c.now-now.ensures,
-      c.in_default.ensures.moments s c.args.event.now knows c.set_moment.ensures,
+      (active_of c.take_whole.new.node, c.in_default.ensures.moments s c.args.event.now knows c.set_moment.ensures),
     )
 
 pub returns-clause-ok : goal.returns-clause-ok

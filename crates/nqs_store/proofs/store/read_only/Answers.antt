@@ -1,49 +1,95 @@
-use Rattle.std.proofs.Common.{◌≡◌, ◌++◌, Some, refl, ap, subst, arith, ◌∙◌}
-use Rattle.std.proofs.lemmas.Result.{err_from_is_err_and}
-use Rattle.nqs_state.specs.State.{content}
-use Rattle.nqs_store.specs.Told.{told}
-use Rattle.nqs_spool.specs.Extents.{AreSound}
-use Rattle.nqs_store.specs.Live.{live}
-use Rattle.nqs_outside.specs.History.{content as bytes_now}
-use Rattle.nqs_store.proofs.Loading.{each_disk}
-use Rattle.nqs_store.proofs.Never.{journal_not, found_not, one_host}
+use Rattle.std.proofs.Common.{◌≡◌, inl, inr, true, false, refl, sym, ◌∙◌}
+use Rattle.nqs_types.specs.declared.world.Which.TheVariants.{Root, First, Second, Spool}
+use Rattle.nqs_store.specs.Disks.{histories_of, contents}
+use Rattle.nqs_store.proofs.EachDisk.{each_disk}
+use Rattle.nqs_store.proofs.Opening.{one_same, each_reads, failed_at}
+use Rattle.nqs_store.proofs.ReadEnds.{told_end, fault_end, host_end, never_end}
 use Rattle.nqs_store.proofs.store.read_only.Goals as goal
 
-pub returns-clause-told : goal.returns-clause-told
-returns-clause-told g c = λ tells.
-    let f = c.in-Ok.ensures.found tells in
-    let host = content c.in_ok-state-in-Ok.state in
-    let all = c.deref.ensures.value ∙ f.2 ∙ ap (λ l. l ++ f.0) c.new-found.ensures.items in
-    let e = c.in_ok-state-in-Ok.ensures.extents in
-    (f.0, f.1, subst (λ ps. told ps ≡ Some host) all c.in_ok-state-in-Ok.ensures.host.0, subst (λ n. AreSound n (live host)) (e.3 tells) e.2)
+pub returns-in_default-clause-fault : goal.returns-in_default-clause-fault
+returns-in_default-clause-fault g c = λ told. inl (inl refl)
 
-pub returns-clause-same : goal.returns-clause-same
-returns-clause-same g c = λ tells. each_disk _ refl (c.in-Ok.ensures.same tells) refl (c.host_in.ensures.same tells)
+pub returns-in_default-clause-failed : goal.returns-in_default-clause-failed
+returns-in_default-clause-failed g c = λ which is.
+    let at : which ≡ Root = cc in
+    failed_at _ _ _ g.D.Disk.starved _ _ _ Root which at c.in_default.ensures.failed
 
-pub returns-clause-fuse : goal.returns-clause-fuse
-returns-clause-fuse g c = λ tells. each_disk _ (λ i. refl) (c.in-Ok.ensures.fuse tells) (λ i. refl) (c.host_in.ensures.fuse tells)
+pub returns-in_default-clause-never : goal.returns-in_default-clause-never
+returns-in_default-clause-never g c = λ told plain tells which place is. let no : ⊥ = cc in no
 
-pub returns-clause-starved : goal.returns-clause-starved
-returns-clause-starved g c = λ tells. each_disk _ refl (c.in-Ok.ensures.starved tells) refl (c.host_in.ensures.starved tells)
+pub returns-in_default-clause-reads : goal.returns-in_default-clause-reads
+returns-in_default-clause-reads g c = each_reads _ _ _ _ _ _ _
+    (each_disk _ c.in_default.ensures.reads (one_same _ _ _ _ _ _ _ refl) (one_same _ _ _ _ _ _ _ refl) (one_same _ _ _ _ _ _ _ refl))
 
-pub returns-clause-later : goal.returns-clause-later
-returns-clause-later g c = each_disk _ (omega arith) c.in-Ok.ensures.later (omega arith) c.host_in.ensures.later
+pub returns-then-second-clause-told : goal.returns-then-second-clause-told
+returns-then-second-clause-told g c = λ told.
+    told_end (contents (histories_of g.D.Disk.history c.args.disks.now)) true (sym c.if-second.true ∙ c.in-Ok.ensures.names told)
+    c.read_host.result (c.read_host.ensures.found told)
 
-pub returns-in-Err-clause-never : goal.returns-in-Err-clause-never
-returns-in-Err-clause-never g c = λ tells plain is_told which place is.
-    journal_not _ is_told.payloads _ _ is_told.stands (c.in-Err.ensures.fault tells) c.first_fault.ensures which place cc
+pub returns-then-second-clause-sound : goal.returns-then-second-clause-sound
+returns-then-second-clause-sound g c = c.read_host.ensures.sound
 
-pub returns-in_err-state-in-Ok-clause-never : goal.returns-in_err-state-in-Ok-clause-never
-returns-in_err-state-in-Ok-clause-never g c = λ tells plain is_told which place is.
-    let f = c.in-Ok.ensures.found tells in
-    let all = c.deref.ensures.value ∙ f.2 ∙ ap (λ l. l ++ f.0) c.new-found.ensures.items in
-    let p = err_from_is_err_and c.from_residual.result c.from_residual.ensures.1 in
-    found_not _ _ plain _ f.0 _ is_told f.1 all (c.in_err-state-in-Ok.ensures.fault tells) which place (cc (p.1, p.2, is))
+pub returns-then-second-clause-extents : goal.returns-then-second-clause-extents
+returns-then-second-clause-extents g c = c.read_host.ensures.extents
 
-pub returns-clause-host : goal.returns-clause-host
-returns-clause-host g c = λ tells payloads stands host is.
-    let f = c.in-Ok.ensures.found tells in
-    let state = content c.in_ok-state-in-Ok.state in
-    let all = c.deref.ensures.value ∙ f.2 ∙ ap (λ l. l ++ f.0) c.new-found.ensures.items in
-    one_host (bytes_now (g.D.Disk.history c.args.disks.now.first)) f.0 payloads state host f.1
-    (subst (λ ps. told ps ≡ Some state) all c.in_ok-state-in-Ok.ensures.host.0) stands is
+pub returns-then-second-clause-fault : goal.returns-then-second-clause-fault
+returns-then-second-clause-fault g c = λ told.
+    fault_end (contents (histories_of g.D.Disk.history c.args.disks.now)) true (sym c.if-second.true ∙ c.in-Ok.ensures.names told)
+    c.read_host.result (c.read_host.ensures.fault told)
+
+pub returns-then-second-clause-failed : goal.returns-then-second-clause-failed
+returns-then-second-clause-failed g c = λ which is. elim (c.read_host.ensures.failed which is) [
+  | inl at ↦ failed_at _ _ _ g.D.Disk.starved _ _ _ Second which at.0 at.1
+  | inr at ↦ failed_at _ _ _ g.D.Disk.starved _ _ _ Spool which at.0 at.1
+]
+
+pub returns-then-second-clause-host : goal.returns-then-second-clause-host
+returns-then-second-clause-host g c = λ told host is.
+    host_end (contents (histories_of g.D.Disk.history c.args.disks.now)) true (sym c.if-second.true ∙ c.in-Ok.ensures.names told)
+    c.read_host.result (c.read_host.ensures.found told) host is
+
+pub returns-then-second-clause-never : goal.returns-then-second-clause-never
+returns-then-second-clause-never g c = λ told plain tells which place is.
+    never_end (contents (histories_of g.D.Disk.history c.args.disks.now)) true (sym c.if-second.true ∙ c.in-Ok.ensures.names told)
+    c.read_host.result (c.read_host.ensures.fault told) tells.host tells.is which place is
+
+pub returns-then-second-clause-reads : goal.returns-then-second-clause-reads
+returns-then-second-clause-reads g c =
+    each_reads _ _ _ _ _ _ _ (each_disk _ c.in-Ok.ensures.reads (one_same _ _ _ _ _ _ _ refl) c.read_host.ensures.active c.read_host.ensures.spool)
+
+pub returns-else-second-clause-told : goal.returns-else-second-clause-told
+returns-else-second-clause-told g c = λ told.
+    told_end (contents (histories_of g.D.Disk.history c.args.disks.now)) false (sym c.if-second.false ∙ c.in-Ok.ensures.names told)
+    c.read_host-else-second.result (c.read_host-else-second.ensures.found told)
+
+pub returns-else-second-clause-sound : goal.returns-else-second-clause-sound
+returns-else-second-clause-sound g c = c.read_host-else-second.ensures.sound
+
+pub returns-else-second-clause-extents : goal.returns-else-second-clause-extents
+returns-else-second-clause-extents g c = c.read_host-else-second.ensures.extents
+
+pub returns-else-second-clause-fault : goal.returns-else-second-clause-fault
+returns-else-second-clause-fault g c = λ told.
+    fault_end (contents (histories_of g.D.Disk.history c.args.disks.now)) false (sym c.if-second.false ∙ c.in-Ok.ensures.names told)
+    c.read_host-else-second.result (c.read_host-else-second.ensures.fault told)
+
+pub returns-else-second-clause-failed : goal.returns-else-second-clause-failed
+returns-else-second-clause-failed g c = λ which is. elim (c.read_host-else-second.ensures.failed which is) [
+  | inl at ↦ failed_at _ _ _ g.D.Disk.starved _ _ _ First which at.0 at.1
+  | inr at ↦ failed_at _ _ _ g.D.Disk.starved _ _ _ Spool which at.0 at.1
+]
+
+pub returns-else-second-clause-host : goal.returns-else-second-clause-host
+returns-else-second-clause-host g c = λ told host is.
+    host_end (contents (histories_of g.D.Disk.history c.args.disks.now)) false (sym c.if-second.false ∙ c.in-Ok.ensures.names told)
+    c.read_host-else-second.result (c.read_host-else-second.ensures.found told) host is
+
+pub returns-else-second-clause-never : goal.returns-else-second-clause-never
+returns-else-second-clause-never g c = λ told plain tells which place is.
+    never_end (contents (histories_of g.D.Disk.history c.args.disks.now)) false (sym c.if-second.false ∙ c.in-Ok.ensures.names told)
+    c.read_host-else-second.result (c.read_host-else-second.ensures.fault told) tells.host tells.is which place is
+
+pub returns-else-second-clause-reads : goal.returns-else-second-clause-reads
+returns-else-second-clause-reads g c =
+    each_reads _ _ _ _ _ _ _
+    (each_disk _ c.in-Ok.ensures.reads c.read_host-else-second.ensures.active (one_same _ _ _ _ _ _ _ refl) c.read_host-else-second.ensures.spool)

@@ -10,4 +10,4 @@ pub returns-clause-never : goal.returns-clause-never
 returns-clause-never g c = λ yes s told. c.reread.ensures.never yes (content_of c.args.self.now) told.told
 
 pub returns-clause-tells : goal.returns-clause-tells
-returns-clause-tells g c = λ yes s told. tells_still c.args.self.now s told _ refl (c.reread.ensures.same yes) (c.reread.ensures.tells yes) told.running
+returns-clause-tells g c = λ yes s told. tells_still c.args.self.now s told _ refl (c.reread.ensures.reads.same yes) (c.reread.ensures.tells yes) told.running

@@ -8,8 +8,8 @@ use Rattle.nqs_rules.specs.Stepped.{Stepped, map_stepped, shown, puts_of}
 use Rattle.nqs_store.specs.Puts.{IsShortPut}
 use Rattle.nqs_kept.specs.Offers.{takes_back_few}
 use Rattle.nqs_kept.specs.Reads.{AreLive}
-use Rattle.nqs_node.specs.Carried.{started, IsMade}
-use Rattle.nqs_node.specs.Nodes.{history_of, fails_of, content_of, bytes_of, Tells}
+use Rattle.nqs_node.specs.Carried.{started, after_kept, IsMade}
+use Rattle.nqs_node.specs.Nodes.{history_of, fails_of, active_of, content_of, bytes_of, Tells}
 use Rattle.nqs_node.specs.Reading.{AreShort}
 use Rattle.nqs_back.proofs.Plans.{bare_step, alike_step, fewer_left, one_back}
 use Rattle.nqs_node.proofs.Bare.{picked_bare, started_bare, bare_none, alike_none}
@@ -37,7 +37,7 @@ carry_out-requires-clause-may g c =
     (at_next (λ x. AreLive host x.outputs) now host plan next (c.outputs_read_live_extents.ensures.start now host order))
 
 pub returns-in-Err-clause-broken_off : goal.returns-in-Err-clause-broken_off
-returns-in-Err-clause-broken_off g c = λ yes s told. still_broken_off (history_of c.args.self.now) (history_of c.args.self.now) (λ which. refl)
+returns-in-Err-clause-broken_off g c = λ yes s told. still_broken_off (active_of c.args.self.now) (history_of c.args.self.now) (history_of c.args.self.now) (λ which. refl)
     (started c.args.now s).change
 
 pub returns-in-Err-clause-any_moment : goal.returns-in-Err-clause-any_moment
@@ -74,8 +74,15 @@ returns-in-Ok-None-clause-made g c = λ yes s told.
     let still = quiet_next c.args.self.now s told c.args.now (c.start_looks_at_no_bytes.ensures.start (bytes_of c.args.self.now) c.args.now
     (content_of c.args.self.now))
     (none_next c.args.now (content_of c.args.self.now) (sym c.in-Ok-None.field-0-is ∙ c.in-Ok-None.ensures)) in
-    subst (λ (x : Stepped (List ℕ)). IsMade (fails_of c.args.self.now) (history_of c.args.self.now) (history_of c.args.self.now) x.change) (sym still)
+    subst (λ (x : Stepped (List ℕ)). IsMade (active_of c.args.self.now) (fails_of c.args.self.now) (history_of c.args.self.now) (history_of c.args.self.now) x.change) (sym still)
     (λ which. refl)
+
+pub returns-in-Ok-None-clause-active : goal.returns-in-Ok-None-clause-active
+returns-in-Ok-None-clause-active g c = λ yes s told.
+    let still = quiet_next c.args.self.now s told c.args.now (c.start_looks_at_no_bytes.ensures.start (bytes_of c.args.self.now) c.args.now
+    (content_of c.args.self.now))
+    (none_next c.args.now (content_of c.args.self.now) (sym c.in-Ok-None.field-0-is ∙ c.in-Ok-None.ensures)) in
+    ap (λ (x : Stepped (List ℕ)). after_kept x.change (active_of c.args.self.now)) (sym still)
 
 pub returns-in-Ok-None-clause-any_moment : goal.returns-in-Ok-None-clause-any_moment
 returns-in-Ok-None-clause-any_moment g c = λ yes s told. one_still c.args.self.now s told yes (started c.args.now s).change
@@ -124,6 +131,12 @@ returns-in-Ok-clause-outputs g c = λ yes s told.
 pub returns-in-Ok-clause-made : goal.returns-in-Ok-clause-made
 returns-in-Ok-clause-made g c = λ yes s told.
     c.in-Ok.ensures.made yes (started c.args.now s) (does_next c.args.self.now s told c.args.now
+    (c.start_looks_at_no_bytes.ensures.start (bytes_of c.args.self.now) c.args.now (content_of c.args.self.now)) c.in-Ok-Some.plan
+    (next_is c.args.now (content_of c.args.self.now) c.in-Ok-Some.plan (sym c.in-Ok-Some.field-0-is ∙ c.in-Ok-Some.ensures)))
+
+pub returns-in-Ok-clause-active : goal.returns-in-Ok-clause-active
+returns-in-Ok-clause-active g c = λ yes s told.
+    c.in-Ok.ensures.active (started c.args.now s) (does_next c.args.self.now s told c.args.now
     (c.start_looks_at_no_bytes.ensures.start (bytes_of c.args.self.now) c.args.now (content_of c.args.self.now)) c.in-Ok-Some.plan
     (next_is c.args.now (content_of c.args.self.now) c.in-Ok-Some.plan (sym c.in-Ok-Some.field-0-is ∙ c.in-Ok-Some.ensures)))
 

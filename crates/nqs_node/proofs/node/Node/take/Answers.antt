@@ -2,7 +2,7 @@ use Rattle.std.proofs.Common.{ℕ, List, [], map, refl, subst}
 use Rattle.std.proofs.lemmas.Result.{on_ok_weaker}
 use Rattle.nqs_rules.specs.Step.{step}
 use Rattle.nqs_rules.specs.Stepped.{Stepped, map_stepped, shown}
-use Rattle.nqs_node.specs.Nodes.{history_of, content_of, bytes_of}
+use Rattle.nqs_node.specs.Nodes.{history_of, active_of, content_of, bytes_of}
 use Rattle.nqs_node.specs.Reading.{AreShort}
 use Rattle.nqs_back.proofs.Plans.{bare_step, alike_step, no_more_left, none_back}
 use Rattle.nqs_node.proofs.Performing.{still_broken_off}
@@ -21,7 +21,7 @@ carry_out-requires-clause-may g c =
     (c.outputs_read_live_extents.ensures.step e host order)
 
 pub returns-in-Err-clause-broken_off : goal.returns-in-Err-clause-broken_off
-returns-in-Err-clause-broken_off g c = λ yes s told. still_broken_off (history_of c.args.self.now) (history_of c.args.self.now) (λ which. refl)
+returns-in-Err-clause-broken_off g c = λ yes s told. still_broken_off (active_of c.args.self.now) (history_of c.args.self.now) (history_of c.args.self.now) (λ which. refl)
     (step c.args.event.now s).change
 
 pub returns-in-Err-clause-any_moment : goal.returns-in-Err-clause-any_moment
@@ -42,6 +42,12 @@ returns-in-Ok-clause-outputs g c = λ yes s told.
 pub returns-in-Ok-clause-made : goal.returns-in-Ok-clause-made
 returns-in-Ok-clause-made g c = λ yes s told.
     c.carry_out.ensures.made yes (step c.args.event.now s) (done_here c.args.self.now s told (step c.args.event.now)
+    (step c.args.event.now (content_of c.args.self.now)) c.in-Ok.plan c.in-Ok.ensures
+    (c.step_looks_at_no_bytes.ensures (bytes_of c.args.self.now) c.args.event.now (content_of c.args.self.now)))
+
+pub returns-in-Ok-clause-active : goal.returns-in-Ok-clause-active
+returns-in-Ok-clause-active g c = λ yes s told.
+    c.carry_out.ensures.active (step c.args.event.now s) (done_here c.args.self.now s told (step c.args.event.now)
     (step c.args.event.now (content_of c.args.self.now)) c.in-Ok.plan c.in-Ok.ensures
     (c.step_looks_at_no_bytes.ensures (bytes_of c.args.self.now) c.args.event.now (content_of c.args.self.now)))
 

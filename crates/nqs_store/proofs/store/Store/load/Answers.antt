@@ -1,81 +1,109 @@
-use Rattle.std.proofs.Common.{◌≡◌, ◌++◌, ◌<◌, ◌≤◌, ◌^◌, length, Some, refl, sym, ap, subst, arith, ◌∙◌}
-use Rattle.std.specs.List.{AllByRecursion}
-use Rattle.nqs_state.specs.State.{content}
-use Rattle.nqs_outside.specs.History.{content as bytes_now}
-use Rattle.nqs_journal.specs.Text.{StandsFor}
-use Rattle.nqs_spool.specs.Spooled as spool
-use Rattle.nqs_spool.specs.Extents.{past}
-use Rattle.nqs_spool.proofs.Lists.{all_map}
-use Rattle.nqs_store.specs.Live.{live}
-use Rattle.nqs_store.specs.Told.{told}
-use Rattle.nqs_store.proofs.Loading.{each_disk}
-use Rattle.nqs_store.proofs.Never.{journal_not, found_not, one_host}
+use Rattle.std.proofs.Common.{◌≡◌, ◌∙◌, inl, true, false, refl, sym}
+use Rattle.nqs_types.specs.declared.world.Which.TheVariants.{Root, First, Second, Spool}
+use Rattle.nqs_store.proofs.EachDisk.{each_disk}
+use Rattle.nqs_store.proofs.Opening.{one_same, each_reads, failed_at}
+use Rattle.nqs_store.proofs.LoadEnds.{tells_end, told_end, active_end, host_end, fault_end, failed_end, never_end, reads_end}
 use Rattle.nqs_store.proofs.store.Store.load.Goals as goal
 
-pub returns-in-Err-load-clause-same_err : goal.returns-in-Err-load-clause-same_err
-returns-in-Err-load-clause-same_err g c = λ tells.
-    each_disk _ refl (ap g.D.Disk.history c.close-in-Err-load.ensures ∙ c.in-Ok.ensures.same tells) refl
-    (ap g.D.Disk.history c.in-Err-load.ensures.refused.1 ∙ c.host_in.ensures.same tells)
+pub returns-in_default-clause-fault : goal.returns-in_default-clause-fault
+returns-in_default-clause-fault g c = λ told. inl (inl refl)
 
-pub returns-clause-tells : goal.returns-clause-tells
-returns-clause-tells g c = λ tells.
-    let t = c.in-Ok.ensures.tells tells in
-    let host = content c.in-Ok-host_in.state in
-    let all = c.deref.ensures.value ∙ t.2 ∙ ap (λ l. l ++ t.0) c.new-found.ensures.items in
-    let extents = c.deref-in-Ok-host_in.ensures.value ∙ c.in-Ok-host_in.ensures.host.2 in
-    record {
-      payloads = t.0;
-      first = t.1;
-      records = subst (λ ps. told ps ≡ Some host) all c.in-Ok-host_in.ensures.host.0;
-      spool = subst (λ xs. spool.Tells c.in-Ok-load.spool xs) extents c.in-Ok-load.ensures.tells;
-    }
+pub returns-in_default-clause-failed : goal.returns-in_default-clause-failed
+returns-in_default-clause-failed g c = λ which is.
+    let at : which ≡ Root = cc in
+    failed_at _ _ _ g.D.Disk.starved _ _ _ Root which at c.in_default.ensures.failed
 
-pub returns-in-Err-load-clause-fuse : goal.returns-in-Err-load-clause-fuse
-returns-in-Err-load-clause-fuse g c = λ tells.
-    let fails = g.D.Disk.fails in
-    each_disk _ (λ i. refl) (λ i. ap (λ d. fails d i) c.close-in-Err-load.ensures ∙ c.in-Ok.ensures.fuse tells i) (λ i. refl)
-    (λ i. ap (λ d. fails d i) c.in-Err-load.ensures.refused.1 ∙ c.host_in.ensures.fuse tells i)
+pub returns-in_default-clause-never : goal.returns-in_default-clause-never
+returns-in_default-clause-never g c = λ told plain is which place no. let never : ⊥ = cc in never
 
-pub returns-in-Err-load-clause-starved : goal.returns-in-Err-load-clause-starved
-returns-in-Err-load-clause-starved g c = λ tells.
-    each_disk _ refl (ap g.D.Disk.starved c.close-in-Err-load.ensures ∙ c.in-Ok.ensures.starved tells) refl
-    (ap g.D.Disk.starved c.in-Err-load.ensures.refused.1 ∙ c.host_in.ensures.starved tells)
+pub returns-in_default-clause-reads : goal.returns-in_default-clause-reads
+returns-in_default-clause-reads g c = each_reads _ _ _ _ _ _ _
+    (each_disk _ c.in_default.ensures.reads (one_same _ _ _ _ _ _ _ refl) (one_same _ _ _ _ _ _ _ refl) (one_same _ _ _ _ _ _ _ refl))
 
-pub returns-in-Err-load-clause-later : goal.returns-in-Err-load-clause-later
-returns-in-Err-load-clause-later g c =
-    each_disk _ (omega arith) (omega (arith, ap g.D.Disk.faults c.close-in-Err-load.ensures, c.in-Ok.ensures.later)) (omega arith)
-    (omega (arith, ap g.D.Disk.faults c.in-Err-load.ensures.refused.1, c.host_in.ensures.later))
+pub open_second-requires : goal.open_second-requires
+open_second-requires g c = λ told. (c.requires told Second, c.requires told Spool)
 
-pub returns-in-Err-clause-never : goal.returns-in-Err-clause-never
-returns-in-Err-clause-never g c = λ tells plain is_told. journal_not _ is_told.payloads _ _ is_told.stands (c.in-Err.ensures.fault tells) c.first_fault.ensures
+pub returns-then-on_second-clause-tells : goal.returns-then-on_second-clause-tells
+returns-then-on_second-clause-tells g c = λ told.
+    tells_end {g = g.D.Disk} c.args.disks _ c.in-Ok.ensures.reads true told (sym c.if-on_second.true ∙ c.in-Ok.ensures.names told) (c.requires told) c.open_second.result (c.open_second.ensures.opened told) c.open_second.ensures.named c.open_second.ensures.root c.open_second.ensures.resting
 
-pub returns-in-Err-host_in-clause-never : goal.returns-in-Err-host_in-clause-never
-returns-in-Err-host_in-clause-never g c = λ tells plain is_told.
-    let t = c.in-Ok.ensures.tells tells in
-    let all = c.deref.ensures.value ∙ t.2 ∙ ap (λ l. l ++ t.0) c.new-found.ensures.items in
-    let stands = subst (λ h. StandsFor (bytes_now h) t.0) (c.in-Ok.ensures.same tells) t.1.stands in
-    found_not _ _ plain _ t.0 _ is_told stands all (c.in-Err-host_in.ensures.fault tells)
+pub returns-then-on_second-clause-active : goal.returns-then-on_second-clause-active
+returns-then-on_second-clause-active g c = λ told.
+    active_end {g = g.D.Disk} c.args.disks _ c.in-Ok.ensures.reads true told (sym c.if-on_second.true ∙ c.in-Ok.ensures.names told) c.open_second.result
+    (tells_end {g = g.D.Disk} c.args.disks _ c.in-Ok.ensures.reads true told (sym c.if-on_second.true ∙ c.in-Ok.ensures.names told) (c.requires told) c.open_second.result (c.open_second.ensures.opened told) c.open_second.ensures.named c.open_second.ensures.root c.open_second.ensures.resting)
+    c.open_second.ensures.root c.open_second.ensures.active c.open_second.ensures.resting c.open_second.ensures.spool
 
-pub returns-clause-told : goal.returns-clause-told
-returns-clause-told g c = λ tells payloads stands host is.
-    let t = c.in-Ok.ensures.tells tells in
-    let all = c.deref.ensures.value ∙ t.2 ∙ ap (λ l. l ++ t.0) c.new-found.ensures.items in
-    let found = subst (λ h. StandsFor (bytes_now h) t.0) (c.in-Ok.ensures.same tells) t.1.stands in
-    let state = content c.in-Ok-host_in.state in
-    one_host (bytes_now (g.D.Disk.history c.args.disks.first)) t.0 payloads state host found
-    (subst (λ ps. told ps ≡ Some state) all c.in-Ok-host_in.ensures.host.0) stands is
+pub returns-then-on_second-clause-sound : goal.returns-then-on_second-clause-sound
+returns-then-on_second-clause-sound g c = c.open_second.ensures.sound
 
-pub load-requires-in-Ok-host_in-clause-small : goal.load-requires-in-Ok-host_in-clause-small
-load-requires-in-Ok-host_in-clause-small g c =
-    let e = c.in-Ok-host_in.ensures in
-    let extents = c.deref-in-Ok-host_in.ensures.value ∙ e.host.2 in
-    subst (AllByRecursion (λ x. past x < 2 ^ 64)) (sym extents) (all_map _ _ (live (content c.in-Ok-host_in.state))
-    (λ x le. omega (arith, le, e.extents.1)) e.extents.2.within)
+pub returns-then-on_second-clause-extents : goal.returns-then-on_second-clause-extents
+returns-then-on_second-clause-extents g c = c.open_second.ensures.extents
 
-pub load-requires-in-Ok-host_in-clause-within : goal.load-requires-in-Ok-host_in-clause-within
-load-requires-in-Ok-host_in-clause-within g c = λ tells.
-    let e = c.in-Ok-host_in.ensures in
-    let extents = c.deref-in-Ok-host_in.ensures.value ∙ e.host.2 in
-    let size = e.extents.3 tells ∙ ap (λ h. length (bytes_now h)) (sym (c.host_in.ensures.same tells)) in
-    subst (AllByRecursion (λ x. past x ≤ length (bytes_now (g.D.Disk.history c.host_in.new.spool)))) (sym extents)
-    (subst (λ n. AllByRecursion (λ x. past x ≤ n) (live (content c.in-Ok-host_in.state))) size e.extents.2.within)
+pub returns-then-on_second-clause-running : goal.returns-then-on_second-clause-running
+returns-then-on_second-clause-running g c = c.open_second.ensures.running
+
+pub returns-then-on_second-clause-fault : goal.returns-then-on_second-clause-fault
+returns-then-on_second-clause-fault g c = λ told.
+    fault_end {g = g.D.Disk} c.args.disks _ c.in-Ok.ensures.reads true told (sym c.if-on_second.true ∙ c.in-Ok.ensures.names told) c.open_second.result (c.open_second.ensures.fault told)
+
+pub returns-then-on_second-clause-failed : goal.returns-then-on_second-clause-failed
+returns-then-on_second-clause-failed g c =
+    failed_end {g = g.D.Disk} c.args.disks _ c.in-Ok.ensures.reads true c.open_second.result c.open_second.ensures.failed
+
+pub returns-then-on_second-clause-told : goal.returns-then-on_second-clause-told
+returns-then-on_second-clause-told g c = λ told.
+    let tells = tells_end {g = g.D.Disk} c.args.disks _ c.in-Ok.ensures.reads true told (sym c.if-on_second.true ∙ c.in-Ok.ensures.names told) (c.requires told) c.open_second.result (c.open_second.ensures.opened told) c.open_second.ensures.named c.open_second.ensures.root c.open_second.ensures.resting in
+    host_end {g = g.D.Disk} c.args.disks _ c.in-Ok.ensures.reads true told (sym c.if-on_second.true ∙ c.in-Ok.ensures.names told) c.open_second.result
+    (told_end {g = g.D.Disk} c.args.disks _ c.in-Ok.ensures.reads true told (sym c.if-on_second.true ∙ c.in-Ok.ensures.names told) c.open_second.result tells c.open_second.ensures.root c.open_second.ensures.active c.open_second.ensures.resting c.open_second.ensures.spool)
+
+pub returns-then-on_second-clause-never : goal.returns-then-on_second-clause-never
+returns-then-on_second-clause-never g c = λ told plain is.
+    never_end {g = g.D.Disk} c.args.disks _ c.in-Ok.ensures.reads true told (sym c.if-on_second.true ∙ c.in-Ok.ensures.names told) c.open_second.result (c.open_second.ensures.fault told) is.host is.is
+
+pub returns-then-on_second-clause-reads : goal.returns-then-on_second-clause-reads
+returns-then-on_second-clause-reads g c =
+    reads_end {g = g.D.Disk} c.args.disks _ c.in-Ok.ensures.reads true c.open_second.result c.open_second.ensures.root c.open_second.ensures.active c.open_second.ensures.resting c.open_second.ensures.spool
+
+pub open_first-requires : goal.open_first-requires
+open_first-requires g c = λ told. (c.requires told First, c.requires told Spool)
+
+pub returns-else-on_second-clause-tells : goal.returns-else-on_second-clause-tells
+returns-else-on_second-clause-tells g c = λ told.
+    tells_end {g = g.D.Disk} c.args.disks _ c.in-Ok.ensures.reads false told (sym c.if-on_second.false ∙ c.in-Ok.ensures.names told) (c.requires told) c.open_first.result (c.open_first.ensures.opened told) c.open_first.ensures.named c.open_first.ensures.root c.open_first.ensures.resting
+
+pub returns-else-on_second-clause-active : goal.returns-else-on_second-clause-active
+returns-else-on_second-clause-active g c = λ told.
+    active_end {g = g.D.Disk} c.args.disks _ c.in-Ok.ensures.reads false told (sym c.if-on_second.false ∙ c.in-Ok.ensures.names told) c.open_first.result
+    (tells_end {g = g.D.Disk} c.args.disks _ c.in-Ok.ensures.reads false told (sym c.if-on_second.false ∙ c.in-Ok.ensures.names told) (c.requires told) c.open_first.result (c.open_first.ensures.opened told) c.open_first.ensures.named c.open_first.ensures.root c.open_first.ensures.resting)
+    c.open_first.ensures.root c.open_first.ensures.active c.open_first.ensures.resting c.open_first.ensures.spool
+
+pub returns-else-on_second-clause-sound : goal.returns-else-on_second-clause-sound
+returns-else-on_second-clause-sound g c = c.open_first.ensures.sound
+
+pub returns-else-on_second-clause-extents : goal.returns-else-on_second-clause-extents
+returns-else-on_second-clause-extents g c = c.open_first.ensures.extents
+
+pub returns-else-on_second-clause-running : goal.returns-else-on_second-clause-running
+returns-else-on_second-clause-running g c = c.open_first.ensures.running
+
+pub returns-else-on_second-clause-fault : goal.returns-else-on_second-clause-fault
+returns-else-on_second-clause-fault g c = λ told.
+    fault_end {g = g.D.Disk} c.args.disks _ c.in-Ok.ensures.reads false told (sym c.if-on_second.false ∙ c.in-Ok.ensures.names told) c.open_first.result (c.open_first.ensures.fault told)
+
+pub returns-else-on_second-clause-failed : goal.returns-else-on_second-clause-failed
+returns-else-on_second-clause-failed g c =
+    failed_end {g = g.D.Disk} c.args.disks _ c.in-Ok.ensures.reads false c.open_first.result c.open_first.ensures.failed
+
+pub returns-else-on_second-clause-told : goal.returns-else-on_second-clause-told
+returns-else-on_second-clause-told g c = λ told.
+    let tells = tells_end {g = g.D.Disk} c.args.disks _ c.in-Ok.ensures.reads false told (sym c.if-on_second.false ∙ c.in-Ok.ensures.names told) (c.requires told) c.open_first.result (c.open_first.ensures.opened told) c.open_first.ensures.named c.open_first.ensures.root c.open_first.ensures.resting in
+    host_end {g = g.D.Disk} c.args.disks _ c.in-Ok.ensures.reads false told (sym c.if-on_second.false ∙ c.in-Ok.ensures.names told) c.open_first.result
+    (told_end {g = g.D.Disk} c.args.disks _ c.in-Ok.ensures.reads false told (sym c.if-on_second.false ∙ c.in-Ok.ensures.names told) c.open_first.result tells c.open_first.ensures.root c.open_first.ensures.active c.open_first.ensures.resting c.open_first.ensures.spool)
+
+pub returns-else-on_second-clause-never : goal.returns-else-on_second-clause-never
+returns-else-on_second-clause-never g c = λ told plain is.
+    never_end {g = g.D.Disk} c.args.disks _ c.in-Ok.ensures.reads false told (sym c.if-on_second.false ∙ c.in-Ok.ensures.names told) c.open_first.result (c.open_first.ensures.fault told) is.host is.is
+
+pub returns-else-on_second-clause-reads : goal.returns-else-on_second-clause-reads
+returns-else-on_second-clause-reads g c =
+    reads_end {g = g.D.Disk} c.args.disks _ c.in-Ok.ensures.reads false c.open_first.result c.open_first.ensures.root c.open_first.ensures.active c.open_first.ensures.resting c.open_first.ensures.spool

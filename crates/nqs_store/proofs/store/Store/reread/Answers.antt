@@ -1,81 +1,149 @@
-use Rattle.std.proofs.Common.{◌++◌, ◌<◌, ℕ, Ok, Err, Result, IfOk, IfErr, IsTrue, inr, sym, ap, subst, ◌∙◌}
-use Rattle.std.proofs.lemmas.Option.{same_Some}
-use Rattle.std.proofs.lemmas.Result.{IfOk-weaker}
-use Rattle.nqs_state.specs.State.{content}
-use Rattle.nqs_spool.specs.Extents.{AreSound}
-use Rattle.nqs_store.specs.Live.{live}
-use Rattle.nqs_outside.specs.History.{content as bytes_now, moment}
-use Rattle.nqs_journal.specs.Text.{header}
-use Rattle.nqs_store.specs.Told.{told}
-use Rattle.nqs_store.specs.Stores.{history_of, fails_of}
-use Rattle.nqs_store.specs.declared.fault.LoadFault.TheVariants as load
-use Rattle.nqs_types.specs.declared.world.Which.TheVariants.{Spool}
-use Rattle.nqs_store.specs.Faults.{IsReadFault}
-use Rattle.nqs_store.proofs.Loading.{journal_disk}
-use Rattle.nqs_store.proofs.Never.{journal_not}
+use Rattle.std.proofs.Common.{◌≡◌, inl, inr, true, false, refl, sym, ◌∙◌}
+use Rattle.nqs_types.specs.declared.world.Which.TheVariants.{Root, First, Second, Spool}
+use Rattle.nqs_store.specs.Disks.{contents}
+use Rattle.nqs_store.specs.Stores.{history_of}
+use Rattle.nqs_store.proofs.EachDisk.{each_disk}
+use Rattle.nqs_store.proofs.Opening.{one_same, each_reads, failed_at, tells_read}
+use Rattle.nqs_store.proofs.ReadEnds.{told_end, fault_end, host_end, never_end}
+use Rattle.nqs_store.proofs.Rereading.{either_one, first_runs, second_runs, active_again, tells_again}
 use Rattle.nqs_store.proofs.store.Store.reread.Goals as goal
 
-if_ok_both : {T E : Type 0} (r : Result T E) (P Q R : T → Type 0) → ((x : T) → P x → Q x → R x) → IfOk r P → IfOk r Q → IfOk r R
-if_ok_both (Ok x) P Q R both p q = both x p q
-if_ok_both (Err e) P Q R both p q = tt
+pub invariant_of-self : goal.invariant_of-self
+invariant_of-self g c = record { running = c.args.self.now.running }
 
-if_err_weaker : {T E : Type 0} (r : Result T E) (P Q : E → Type 0) → ((e : E) → P e → Q e) → IfErr r P → IfErr r Q
-if_err_weaker (Ok x) P Q weaker p = tt
-if_err_weaker (Err e) P Q weaker p = weaker e p
+pub returns-in_default-clause-fault : goal.returns-in_default-clause-fault
+returns-in_default-clause-fault g c = λ told. inl (inl refl)
 
-pub returns-clause-found : goal.returns-clause-found
-returns-clause-found g c = λ yes.
-    let f = c.in-Ok.ensures.stands yes in
-    let all = c.deref.ensures.value ∙ f.2 ∙ ap (λ l. l ++ f.0) c.new-found.ensures.items in
-    if_ok_both c.host_with.result _ _ _ (λ state is sound. (
-      f.0,
-      f.1,
-      sym (ap told all)
-          ∙ is,
-      subst (λ n. AreSound n (live (content state))) (sound.3 yes) sound.2,
-    )) c.host_with.ensures.told c.host_with.ensures.extents
+pub returns-in_default-clause-never : goal.returns-in_default-clause-never
+returns-in_default-clause-never g c = λ told host tells which place is. let no : ⊥ = cc in no
 
-pub returns-clause-extents : goal.returns-clause-extents
-returns-clause-extents g c = IfOk-weaker c.host_with.result _ _ (λ state sound. (sound.0, sound.1, sound.2)) c.host_with.ensures.extents
+pub returns-in_default-clause-failed : goal.returns-in_default-clause-failed
+returns-in_default-clause-failed g c = λ which is.
+    let at : which ≡ Root = cc in
+    failed_at _ _ _ g.D.Disk.starved _ _ _ Root which at c.in_default.ensures.failed
 
-pub returns-clause-fault : goal.returns-clause-fault
-returns-clause-fault g c = λ yes.
-    let f = c.in-Ok.ensures.stands yes in
-    let all = c.deref.ensures.value ∙ f.2 ∙ ap (λ l. l ++ f.0) c.new-found.ensures.items in
-    if_err_weaker c.host_with.result _ _ (λ e is. inr (f.0, f.1, subst (λ ps. IsReadFault ps (bytes_now (history_of c.args.self.now Spool)) e) all is))
-    (c.host_with.ensures.fault yes)
+pub returns-in_default-clause-reads : goal.returns-in_default-clause-reads
+returns-in_default-clause-reads g c = each_reads _ _ _ _ _ _ _
+    (each_disk _ c.in_default.ensures.reads (one_same _ _ _ _ _ _ _ refl) (one_same _ _ _ _ _ _ _ refl) (one_same _ _ _ _ _ _ _ refl))
 
-pub returns-in-Err-clause-never : goal.returns-in-Err-clause-never
-returns-in-Err-clause-never g c = λ yes host tells which place is.
-    journal_not _ tells.payloads _ _ tells.first.stands (c.in-Err.ensures.fault yes) c.first_fault.ensures which place cc
+pub returns-in_default-clause-stays : goal.returns-in_default-clause-stays
+returns-in_default-clause-stays g c = (refl, refl)
 
-pub returns-clause-told : goal.returns-clause-told
-returns-clause-told g c = λ yes host tells.
-    let all = c.deref.ensures.value ∙ c.in-Ok.ensures.found yes tells.payloads tells.first ∙ ap (λ l. l ++ tells.payloads) c.new-found.ensures.items in
-    IfOk-weaker c.host_with.result _ _ (λ state is. same_Some _ _ (sym is ∙ ap told all ∙ tells.records)) c.host_with.ensures.told
-
-pub returns-clause-never : goal.returns-clause-never
-returns-clause-never g c = λ yes host tells.
-    let all = c.deref.ensures.value ∙ c.in-Ok.ensures.found yes tells.payloads tells.first ∙ ap (λ l. l ++ tells.payloads) c.new-found.ensures.items in
-    c.host_with.ensures.never yes host (ap told all ∙ tells.records) (record { apart = tells.spool.live.apart; within = tells.spool.within yes })
-
-pub returns-in-Err-clause-cause : goal.returns-in-Err-clause-cause
-returns-in-Err-clause-cause g c = λ yes which is.
+pub returns-in_default-clause-tells : goal.returns-in_default-clause-tells
+returns-in_default-clause-tells g c = λ told.
     let store = c.args.self.now in
-    let at = journal_disk _ _ which c.first_fault.ensures cc in
-    subst (λ w. (i : ℕ) × (i < moment (history_of store w)) × IsTrue (fails_of store w i)) (sym at.1) (c.in-Err.ensures.cause yes (ap (λ e. Err e) at.0))
+    tells_again store c.names_second.new.root store.first store.second store.spool _ (each_disk _ (c.in_default.ensures.reads.same told) refl refl refl)
+    (λ b front payloads is. is) (λ b. refl) (λ live is. is)
 
-pub returns-clause-cause : goal.returns-clause-cause
-returns-clause-cause g c = λ yes which is.
+pub invariant_of-self-then-second : goal.invariant_of-self-then-second
+invariant_of-self-then-second g c =
     let store = c.args.self.now in
-    let at = c.host_with.ensures.spool which is in
-    subst (λ w. (i : ℕ) × (i < moment (history_of store w)) × IsTrue (fails_of store w i)) (sym at)
-    (c.host_with.ensures.cause yes (is ∙ ap (λ w. Err (load.Disk w)) at))
+    record {
+      running = second_runs store.on_second store.stopped store.first store.second c.reread_host.new.journal c.reread_host.ensures.stays.0 store.running;
+    }
 
-pub returns-in-Err-clause-tells : goal.returns-in-Err-clause-tells
-returns-in-Err-clause-tells g c = λ yes host tells. record {
-  payloads = tells.payloads;
-  first = c.in-Err.ensures.tells yes header tells.payloads tells.first;
-  records = tells.records;
-  spool = tells.spool;
-}
+pub invariant_of-self-else-second : goal.invariant_of-self-else-second
+invariant_of-self-else-second g c =
+    let store = c.args.self.now in
+    let read = c.reread_host-else-second in
+    record { running = first_runs store.on_second store.stopped store.first store.second read.new.journal read.ensures.stays.0 store.running }
+
+pub returns-then-second-clause-found : goal.returns-then-second-clause-found
+returns-then-second-clause-found g c = λ told.
+    told_end (contents (history_of c.args.self.now)) true (sym c.if-second.true ∙ c.in-Ok.ensures.names told)
+    c.reread_host.result (c.reread_host.ensures.found told)
+
+pub returns-then-second-clause-fault : goal.returns-then-second-clause-fault
+returns-then-second-clause-fault g c = λ told.
+    fault_end (contents (history_of c.args.self.now)) true (sym c.if-second.true ∙ c.in-Ok.ensures.names told)
+    c.reread_host.result (c.reread_host.ensures.fault told)
+
+pub returns-then-second-clause-told : goal.returns-then-second-clause-told
+returns-then-second-clause-told g c = λ told host tells.
+    host_end (contents (history_of c.args.self.now)) true (sym c.if-second.true ∙ c.in-Ok.ensures.names told)
+    c.reread_host.result (c.reread_host.ensures.found told) host (tells_read c.args.self.now host told tells)
+
+pub returns-then-second-clause-sound : goal.returns-then-second-clause-sound
+returns-then-second-clause-sound g c = c.reread_host.ensures.sound
+
+pub returns-then-second-clause-extents : goal.returns-then-second-clause-extents
+returns-then-second-clause-extents g c = c.reread_host.ensures.extents
+
+pub returns-then-second-clause-never : goal.returns-then-second-clause-never
+returns-then-second-clause-never g c = λ told host tells which place is.
+    never_end (contents (history_of c.args.self.now)) true (sym c.if-second.true ∙ c.in-Ok.ensures.names told)
+    c.reread_host.result (c.reread_host.ensures.fault told) host (tells_read c.args.self.now host told tells) which place is
+
+pub returns-then-second-clause-failed : goal.returns-then-second-clause-failed
+returns-then-second-clause-failed g c = λ which is. elim (c.reread_host.ensures.failed which is) [
+  | inl at ↦ failed_at _ _ _ g.D.Disk.starved _ _ _ Second which at.0 at.1
+  | inr at ↦ failed_at _ _ _ g.D.Disk.starved _ _ _ Spool which at.0 at.1
+]
+
+pub returns-then-second-clause-reads : goal.returns-then-second-clause-reads
+returns-then-second-clause-reads g c =
+    each_reads _ _ _ _ _ _ _
+    (each_disk _ c.in-Ok.ensures.reads (one_same _ _ _ _ _ _ _ refl) c.reread_host.ensures.active c.reread_host.ensures.spool)
+
+pub returns-then-second-clause-stays : goal.returns-then-second-clause-stays
+returns-then-second-clause-stays g c = (
+  refl,
+  active_again c.args.self.now c.args.self.now.first c.reread_host.new.journal (either_one _ refl c.reread_host.ensures.stays.1),
+)
+
+pub returns-then-second-clause-tells : goal.returns-then-second-clause-tells
+returns-then-second-clause-tells g c = λ told.
+    tells_again c.args.self.now c.names_second.new.root c.args.self.now.first c.reread_host.new.journal c.reread_host.new.spool _
+    (each_disk _ (c.in-Ok.ensures.reads.same told) refl (c.reread_host.ensures.active.same told) (c.reread_host.ensures.spool.same told))
+    (either_one _ (λ front payloads is. is) (c.reread_host.ensures.tells told)) (either_one _ refl c.reread_host.ensures.stays.1) c.reread_host.ensures.kept
+
+pub returns-else-second-clause-found : goal.returns-else-second-clause-found
+returns-else-second-clause-found g c = λ told.
+    told_end (contents (history_of c.args.self.now)) false (sym c.if-second.false ∙ c.in-Ok.ensures.names told)
+    c.reread_host-else-second.result (c.reread_host-else-second.ensures.found told)
+
+pub returns-else-second-clause-fault : goal.returns-else-second-clause-fault
+returns-else-second-clause-fault g c = λ told.
+    fault_end (contents (history_of c.args.self.now)) false (sym c.if-second.false ∙ c.in-Ok.ensures.names told)
+    c.reread_host-else-second.result (c.reread_host-else-second.ensures.fault told)
+
+pub returns-else-second-clause-told : goal.returns-else-second-clause-told
+returns-else-second-clause-told g c = λ told host tells.
+    host_end (contents (history_of c.args.self.now)) false (sym c.if-second.false ∙ c.in-Ok.ensures.names told)
+    c.reread_host-else-second.result (c.reread_host-else-second.ensures.found told) host (tells_read c.args.self.now host told tells)
+
+pub returns-else-second-clause-sound : goal.returns-else-second-clause-sound
+returns-else-second-clause-sound g c = c.reread_host-else-second.ensures.sound
+
+pub returns-else-second-clause-extents : goal.returns-else-second-clause-extents
+returns-else-second-clause-extents g c = c.reread_host-else-second.ensures.extents
+
+pub returns-else-second-clause-never : goal.returns-else-second-clause-never
+returns-else-second-clause-never g c = λ told host tells which place is.
+    never_end (contents (history_of c.args.self.now)) false (sym c.if-second.false ∙ c.in-Ok.ensures.names told)
+    c.reread_host-else-second.result (c.reread_host-else-second.ensures.fault told) host (tells_read c.args.self.now host told tells) which place is
+
+pub returns-else-second-clause-failed : goal.returns-else-second-clause-failed
+returns-else-second-clause-failed g c = λ which is. elim (c.reread_host-else-second.ensures.failed which is) [
+  | inl at ↦ failed_at _ _ _ g.D.Disk.starved _ _ _ First which at.0 at.1
+  | inr at ↦ failed_at _ _ _ g.D.Disk.starved _ _ _ Spool which at.0 at.1
+]
+
+pub returns-else-second-clause-reads : goal.returns-else-second-clause-reads
+returns-else-second-clause-reads g c =
+    each_reads _ _ _ _ _ _ _
+    (each_disk _ c.in-Ok.ensures.reads c.reread_host-else-second.ensures.active (one_same _ _ _ _ _ _ _ refl) c.reread_host-else-second.ensures.spool)
+
+pub returns-else-second-clause-stays : goal.returns-else-second-clause-stays
+returns-else-second-clause-stays g c = (
+  refl,
+  active_again c.args.self.now c.reread_host-else-second.new.journal c.args.self.now.second (either_one _ c.reread_host-else-second.ensures.stays.1 refl),
+)
+
+pub returns-else-second-clause-tells : goal.returns-else-second-clause-tells
+returns-else-second-clause-tells g c = λ told.
+    tells_again c.args.self.now c.names_second.new.root c.reread_host-else-second.new.journal c.args.self.now.second c.reread_host-else-second.new.spool _
+    (each_disk _ (c.in-Ok.ensures.reads.same told) (c.reread_host-else-second.ensures.active.same told) refl
+    (c.reread_host-else-second.ensures.spool.same told))
+    (either_one _ (c.reread_host-else-second.ensures.tells told) (λ front payloads is. is)) (either_one _ c.reread_host-else-second.ensures.stays.1 refl)
+    c.reread_host-else-second.ensures.kept

@@ -1,0 +1,89 @@
+-- How a datagram is sorted: as an event, or as ignored, by the first cause.
+use Rattle.std.specs.Prelude.{◌≡◌, ◌↔◌, ℕ, ◌<◌, ◌≤◌, ◌&&◌, Bool, true, false, IsTrue, if◌then◌else◌, List, length, Ok, Err}
+use Rattle.std.specs.Option.{option_map}
+use Rattle.std.specs.declared.option.Option.{Option}
+use Rattle.std.specs.declared.option.Option.TheVariants.{None, Some}
+use Rattle.std.specs.declared.result.Result.{Result}
+use Rattle.nqs_types.specs.declared.event.Event.{Event as Happening}
+use Rattle.nqs_types.specs.declared.message.Message.{Message}
+use Rattle.nqs_types.specs.declared.message.Body.{Body}
+use Rattle.nqs_types.specs.declared.message.Body.TheVariants as body
+use Rattle.nqs_rules.specs.Tests.{same_host}
+use Rattle.nqs_rules.specs.Sane.{is_of_site}
+use Rattle.nqs_outside.specs.Asked.{came}
+use Rattle.nqs_packets.specs.Reading.{message_of, is_fault_of_memory}
+use Rattle.nqs_packets.specs.declared.fault.PacketFault.{PacketFault}
+use Rattle.nqs_serve.specs.Events.{Here, is_whole, are_of_site, event_of, event_in, at_moment}
+use Rattle.nqs_serve.specs.declared.sort.IgnoreCause.TheVariants.{TooLong, Unread, NotHere, Stranger, NotAsked}
+use Rattle.nqs_serve.specs.declared.sort.Sorted.{Sorted}
+use Rattle.nqs_serve.specs.declared.sort.Sorted.TheVariants.{Event, Ignored}
+
+-- the message is for this host
+abbrev pub is_here : Here → Message → Bool
+is_here here m = same_host here.me m.to
+
+-- its sender, and the requests that it names, are of hosts of the site
+abbrev pub is_known : Here → Message → Bool
+is_known here m = is_of_site (length here.site) m.from && are_of_site (length here.site) m.body
+
+-- what is said to a client or a shepherd: an answer, or an acknowledgement of the end of a job
+abbrev pub is_said_back : Body → Bool
+is_said_back (body.Answer _ _ _) = true
+is_said_back (body.EndedAck _ _) = true
+is_said_back _ = false
+
+-- bytes that may be a datagram, and are read as a message that has P
+abbrev pub Reads : List ℕ → (Message → Type 0) → Type 0
+Reads bytes P = (length bytes ≤ 49152) × ((m : Message) × (message_of bytes ≡ Ok m) × P m)
+
+-- How a datagram is sorted at a moment: the causes in order, each where none before it holds, and else the event of its message.
+abbrev pub IsSorted : Here → ℕ → List ℕ → Sorted → Type 0
+IsSorted here now bytes (Ignored TooLong) = 49152 < length bytes
+IsSorted here now bytes (Ignored (Unread fault)) = (length bytes ≤ 49152) × (message_of bytes ≡ Err fault)
+IsSorted here now bytes (Ignored NotHere) = Reads bytes (λ m. is_here here m ≡ false)
+IsSorted here now bytes (Ignored Stranger) = Reads bytes (λ m. IsTrue (is_here here m) × (is_known here m ≡ false))
+IsSorted here now bytes (Ignored NotAsked) = Reads bytes (λ m. IsTrue (is_here here m) × IsTrue (is_known here m) × IsTrue (is_said_back m.body))
+IsSorted here now bytes (Event e) =
+    Reads bytes (λ m. IsTrue (is_here here m) × IsTrue (is_known here m) × (option_map (at_moment now) (event_of m) ≡ Some e))
+
+-- the same as a function of the bytes
+
+-- by the event of a message
+abbrev pub event_sorted : ℕ → Option Happening → Sorted
+event_sorted now None = Ignored NotAsked
+event_sorted now (Some e) = Event (at_moment now e)
+
+-- by a message
+abbrev pub message_sorted : Here → ℕ → Message → Sorted
+message_sorted here now m = if is_here here m then (if is_known here m then event_sorted now (event_of m) else Ignored Stranger) else Ignored NotHere
+
+-- by what was read
+abbrev pub read_sorted : Here → ℕ → Result Message PacketFault → Sorted
+read_sorted here now (Ok m) = message_sorted here now m
+read_sorted here now (Err fault) = Ignored (Unread fault)
+
+-- by its bytes
+abbrev pub sorted : Here → ℕ → List ℕ → Sorted
+sorted here now bytes = if is_whole bytes then read_sorted here now (message_of bytes) else Ignored TooLong
+
+-- ignored for this fault, which is none of memory
+abbrev pub HasFault : PacketFault → Sorted → Type 0
+HasFault fault s = (s ≡ Ignored (Unread fault)) × (is_fault_of_memory fault ≡ false)
+
+-- its event, if it is one
+abbrev pub taken_of : Sorted → Option Happening
+taken_of (Event e) = Some e
+taken_of (Ignored cause) = None
+
+-- an event has P
+abbrev pub IfEvent : Sorted → (Happening → Type 0) → Type 0
+IfEvent (Event e) P = P e
+IfEvent (Ignored cause) P = Unit {0}
+
+-- Each datagram is sorted in one way, and in no other.
+abbrev pub SortedOneWay : Type 0
+SortedOneWay = (here : Here) (now : ℕ) (bytes : List ℕ) (s : Sorted) → IsSorted here now bytes s ↔ s ≡ sorted here now bytes
+
+-- It is an event exactly where the daemon takes one of it, and just that one, at the moment.
+abbrev pub EventsAreTaken : Type 0
+EventsAreTaken = (here : Here) (now : ℕ) (bytes : List ℕ) → taken_of (sorted here now bytes) ≡ option_map (at_moment now) (event_in here (came bytes))

@@ -1,0 +1,150 @@
+//! How a datagram is sorted: as an event, or as ignored, by the first cause.
+
+ghost use Rattle.std.specs.Prelude.{◌≡◌, ℕ, List, false, IfOk, IsTrue, length};
+ghost use Rattle.std.specs.Option.{option_map};
+ghost use Rattle.nqs_rules.specs.Sane.{is_sane_event};
+ghost use Rattle.nqs_outside.specs.Asked.{came};
+ghost use Rattle.nqs_packets.specs.Reading.{is_fault_of_memory};
+ghost use Rattle.nqs_packets.specs.declared.fault.PacketFault.{PacketFault as Fault};
+ghost use Rattle.nqs_serve.specs.Events.{Here, event_of, event_in, at_moment};
+ghost use Rattle.nqs_serve.specs.Sends.{is_right_event};
+ghost use Rattle.nqs_serve.specs.Sorted.{is_here, is_known, event_sorted, message_sorted, HasFault, IsSorted, taken_of, IfEvent};
+
+use crate::event::{are_of_site, event_of, set_moment};
+use nqs_lines::laws::{edits_are_sane, lists_and_deletions_are_sane, submissions_are_sane};
+use nqs_packets::{PacketFault, read_message};
+use nqs_types::{Event, HostId, Message};
+use nqs_values::{Memory, Name};
+use std::alloc::Global;
+
+/// Why a datagram is no event. The first of these that holds is the cause.
+#[derive(Debug, PartialEq, Eq, Drop)]
+pub enum IgnoreCause {
+    /// It has more than 49,152 bytes, as no host writes it.
+    TooLong,
+    /// It is no message. The fault is never `Memory`.
+    Unread(PacketFault),
+    /// It isn't for this host.
+    NotHere,
+    /// It comes from no host of the site, or names a request of none.
+    Stranger,
+    /// It is said to a client or a shepherd: an answer, or an acknowledgement of the end of a job.
+    NotAsked,
+}
+
+/// What a datagram is to a host.
+#[derive(Drop)]
+pub enum Sorted {
+    Event(Event),
+    Ignored(IgnoreCause),
+}
+
+/// The longest datagram.
+const LONGEST: usize = 49_152;
+
+fn ignored(cause: IgnoreCause) -> Sorted
+    ensures { result ≡ Sorted.Ignored cause }
+{
+    Sorted::Ignored(cause)
+}
+
+// A datagram that is no message.
+fn unread(fault: PacketFault) -> Result<Sorted, Memory>
+    ensures { IfOk result (HasFault fault) }
+{
+    match fault {
+        PacketFault::Short(end) => Ok(ignored(IgnoreCause::Unread(PacketFault::Short(end)))),
+        PacketFault::Version => Ok(ignored(IgnoreCause::Unread(PacketFault::Version))),
+        PacketFault::Kind => Ok(ignored(IgnoreCause::Unread(PacketFault::Kind))),
+        PacketFault::BadField(place) => {
+            Ok(ignored(IgnoreCause::Unread(PacketFault::BadField(place))))
+        }
+        PacketFault::Trailing(place) => {
+            Ok(ignored(IgnoreCause::Unread(PacketFault::Trailing(place))))
+        }
+        PacketFault::Memory(memory) => Err(memory),
+    }
+}
+
+// It is for this host.
+fn is_here(me: HostId, message: &Message) -> bool
+    ensures { (site : List (List ℕ)) → result ≡ is_here (record { me = me; site = site }) message.now }
+{
+    me.0 == message.to.0
+}
+
+// Its sender, and the requests that it names, are of hosts of the site.
+fn is_known(site: &[Name], message: &Message) -> bool
+    ensures { (me : HostId) → result ≡ is_known (record { me = me; site = site.now }) message.now }
+{
+    if usize::from(message.from.0) >= site.len() {
+        return false;
+    }
+    are_of_site(site.len(), &message.body)
+}
+
+fn event_at(event: Event, now: u64) -> Sorted
+    ensures { result ≡ Sorted.Event (at_moment now event) }
+{
+    let mut event = event;
+    set_moment(&mut event, now);
+    Sorted::Event(event)
+}
+
+// By the event of a message that is for this host.
+fn sort_event(alloc: Global, now: u64, message: Message) -> Result<Sorted, Memory>
+    ensures { IfOk result (λ s. s ≡ event_sorted now (event_of message)) }
+{
+    match event_of(alloc, message) {
+        Err(memory) => Err(memory),
+        Ok(None) => Ok(ignored(IgnoreCause::NotAsked)),
+        Ok(Some(event)) => Ok(event_at(event, now)),
+    }
+}
+
+// By a message.
+fn sort_message(
+    alloc: Global,
+    site: &[Name],
+    me: HostId,
+    now: u64,
+    message: Message,
+) -> Result<Sorted, Memory>
+    ensures { IfOk result (λ s. s ≡ message_sorted (record { me = me; site = site.now }) now message) }
+{
+    if !is_here(me, &message) {
+        Ok(ignored(IgnoreCause::NotHere))
+    } else if !is_known(site, &message) {
+        Ok(ignored(IgnoreCause::Stranger))
+    } else {
+        sort_event(alloc, now, message)
+    }
+}
+
+/// Sorts a datagram that this host of a site got at a moment. The bytes may be any. An ask whose
+/// words can't be read is an event too, which is answered.
+pub fn sort_datagram(
+    alloc: Global,
+    site: &[Name],
+    me: HostId,
+    now: u64,
+    bytes: &[u8],
+) -> Result<Sorted, Memory>
+    ensures sorted { IfOk result (IsSorted (record { me = me; site = site.now }) now bytes.now) }
+    ensures memory { IfOk result (λ s. (fault : Fault) → s ≡ Sorted.Ignored (IgnoreCause.Unread fault) → is_fault_of_memory fault ≡ false) }
+    // It is an event exactly where the daemon takes one of it, and just that one.
+    ensures taken { IfOk result (λ s. taken_of s ≡ option_map (at_moment now) (event_in (record { me = me; site = site.now }) (came bytes.now))) }
+    ensures sane { IfOk result (λ s. IfEvent s (λ e. IsTrue (is_sane_event (length site.now) e))) }
+    ensures right { IfOk result (λ s. IfEvent s (λ e. IsTrue (is_right_event (length site.now) e))) }
+{
+    if bytes.len() > LONGEST {
+        return Ok(ignored(IgnoreCause::TooLong));
+    }
+    submissions_are_sane();
+    edits_are_sane();
+    lists_and_deletions_are_sane();
+    match read_message(alloc, bytes) {
+        Err(fault) => unread(fault),
+        Ok(message) => sort_message(alloc, site, me, now, message),
+    }
+}

@@ -1,0 +1,59 @@
+-- What one call of a journal, or of the root, leaves.
+use Rattle.std.specs.Prelude.{◌≡◌, ◌⊎◌, ℕ, ◌+◌, ◌≤◌, ◌<◌, ◌^◌, Bool, true, false, IsTrue, List, [], ◌∷◌, ◌++◌, length}
+use Rattle.nqs_outside.specs.Causes.{Rose}
+use Rattle.nqs_outside.specs.History.{Call, extended, moment, state_at, MayLeave, EachSince, StopsShort, IsExact}
+use Rattle.nqs_outside.specs.declared.disk.Disk as disk
+use Rattle.nqs_journal.specs.Text.{StandsAfter, snapshot_front}
+use Rattle.nqs_journal.specs.Plan.{append_calls, begin_calls}
+use Rattle.nqs_journal.specs.Gate.{IsAtGate}
+use Rattle.nqs_journal.specs.Open.{disk_of, gate_of, count_of, is_stopped, history_of, Tells, BeforeOrAfter}
+use Rattle.nqs_journal.specs.declared.journal.Journal.{Journal}
+use Rattle.nqs_store.specs.Commits.{AreClear}
+
+-- the text of a journal that begins with a snapshot, which is no longer than a list in memory
+pub record IsTextOf (text snapshot : List ℕ) : Type 0 where
+  pub small : length snapshot < 2 ^ 64
+  pub is : text ≡ snapshot_front snapshot ++ 0 ∷ []
+
+module _ {D : Type 0} {g : disk.Ghosts D} where
+  -- The journal begins anew with this text.
+  pub record HasBegun (old now : Journal D g) (text : List ℕ) : Type 0 where
+    pub running : is_stopped now ≡ false
+    pub counted : count_of now ≡ 0
+    pub tells : IsTrue g.tells → (snapshot : List ℕ) → text ≡ snapshot_front snapshot ++ 0 ∷ [] → Tells now (snapshot_front snapshot) []
+    pub made : IsTrue g.tells → history_of now ≡ extended (history_of old) (begin_calls text)
+    pub clear : IsTrue g.tells → AreClear (g.fails (disk_of old)) (moment (history_of old)) 2
+
+  -- One of the two calls failed.
+  pub record HasBegunShort (old now : Journal D g) (text : List ℕ) : Type 0 where
+    pub rose : Rose (g.faults (disk_of old)) (g.faults (disk_of now))
+    pub broken : IsTrue g.tells → (calls : List Call) × (history_of now ≡ extended (history_of old) calls) × StopsShort (begin_calls text) calls
+    pub exact : IsTrue g.tells → IsExact (g.fails (disk_of old)) (g.starved (disk_of old)) (g.starved (disk_of now))
+        (history_of old) (history_of now) (begin_calls text)
+
+  -- The record is in the journal.
+  pub record HasAppended (old now : Journal D g) (text : List ℕ) : Type 0 where
+    pub running : is_stopped now ≡ false
+    pub counted : count_of now ≡ count_of old + 1
+    pub made : IsTrue g.tells → history_of now ≡ extended (history_of old) (append_calls (gate_of old) text)
+    pub clear : IsTrue g.tells → AreClear (g.fails (disk_of old)) (moment (history_of old)) 4
+    pub any_moment : IsTrue g.tells → (front : List ℕ) (payloads : List (List ℕ)) → Tells old front payloads
+        → EachSince (moment (history_of old)) (history_of now) (BeforeOrAfter front payloads text)
+    pub acknowledged : IsTrue g.tells → (front : List ℕ) (payloads : List (List ℕ)) → Tells old front payloads
+        → Tells now front (payloads ++ text ∷ [])
+
+  -- One of its four calls failed.
+  pub record HasAppendedShort (old now : Journal D g) (text : List ℕ) : Type 0 where
+    pub broken : IsTrue g.tells → (calls : List Call) × (history_of now ≡ extended (history_of old) calls)
+        × StopsShort (append_calls (gate_of old) text) calls
+    pub exact : IsTrue g.tells → IsExact (g.fails (disk_of old)) (g.starved (disk_of old)) (g.starved (disk_of now))
+        (history_of old) (history_of now) (append_calls (gate_of old) text)
+    pub any_moment : IsTrue g.tells → (front : List ℕ) (payloads : List (List ℕ)) → Tells old front payloads
+        → EachSince (moment (history_of old)) (history_of now) (BeforeOrAfter front payloads text)
+    pub until_third : IsTrue g.tells → (front : List ℕ) (payloads : List (List ℕ)) → Tells old front payloads
+        → (t : ℕ) (image : List ℕ) → moment (history_of old) ≤ t → t ≤ moment (history_of old) + 2 → t ≤ moment (history_of now)
+        → MayLeave (history_of now) t image → StandsAfter front image payloads
+    pub at_the_gate : IsTrue g.tells → (front : List ℕ) (payloads : List (List ℕ)) → Tells old front payloads
+        → (t : ℕ) → moment (history_of old) + 3 ≤ t → t ≤ moment (history_of now)
+        → IsAtGate (state_at (history_of now) t) (gate_of old)
+        (λ image. StandsAfter front image payloads) (λ image. StandsAfter front image (payloads ++ text ∷ []))
