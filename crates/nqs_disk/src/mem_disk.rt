@@ -1,9 +1,9 @@
 //! A disk in memory. It keeps its calls, so each image of each moment is a function of what it
 //! stores.
 ghost use Rattle.std.specs.Prelude.{◌≡◌, ◌≤◌, ◌<◌, ◌+◌, ◌-◌, ◌^◌, ℕ, true, false, IsTrue, IfOk, OnOk, OnErr, IfSome, MatchResult, ◌||◌, is_err, is_some, Some};
-ghost use Rattle.std.specs.Prelude.{None, [], length, max, vec_len};
+ghost use Rattle.std.specs.Prelude.{None, [], ◌==◌, length, max, vec_len};
 ghost use Rattle.nqs_outside.specs.Causes.{Rose};
-ghost use Rattle.nqs_outside.specs.History.{after, fresh, is_sound, state, content, IsImage};
+ghost use Rattle.nqs_outside.specs.History.{after, fresh, is_sound, state, content, moment, IsImage};
 ghost use Rattle.nqs_disk.specs.Calls.{calls_of};
 ghost use Rattle.nqs_disk.specs.Lack.{newest};
 
@@ -16,6 +16,7 @@ use nqs_values::Tear;
 use std::alloc::Global;
 
 /// A disk in memory, of at most 2^40 bytes. A fuse has one of its calls fail, and each later one.
+/// Beside it one call may be set to fail alone.
 #[derive(Drop)]
 pub struct MemDisk {
     alloc: Global,
@@ -23,6 +24,7 @@ pub struct MemDisk {
     content: Vec<u8>,
     calls: Vec<DiskCall>,
     fuse: Option<Fuse>,
+    once: Option<Fuse>,
     faults: u64,
     lack: Option<Lack>,
     ghost replayed: { (after (fresh start.items) (calls_of calls.items)).content ≡ content.items },
@@ -31,15 +33,16 @@ pub struct MemDisk {
 }
 
 impl MemDisk {
-    ghost use Rattle.nqs_disk.specs.MemDisk.{history_of, faults_of, lack_of, is_starved, fuse_of};
+    ghost use Rattle.nqs_disk.specs.MemDisk.{history_of, faults_of, lack_of, is_starved, fuse_of, once_of, fails_of, ends_of};
     ghost use Rattle.nqs_disk.specs.Torn.{torn};
 
-    /// An empty disk without a fuse.
+    /// An empty disk of which no call is to fail.
     pub fn new(alloc: Global) -> MemDisk
         ensures history { history_of result ≡ record { start = []; calls = [] } }
         ensures faults { faults_of result ≡ 0 }
         ensures starved { is_starved result ≡ false }
         ensures fuse { fuse_of result ≡ None }
+        ensures once { once_of result ≡ None }
     {
         MemDisk {
             alloc,
@@ -47,6 +50,7 @@ impl MemDisk {
             content: Vec::new(alloc),
             calls: Vec::new(alloc),
             fuse: None,
+            once: None,
             faults: 0,
             lack: None,
         }
@@ -59,6 +63,7 @@ impl MemDisk {
         ensures faults { IfOk result (λ disk. faults_of disk ≡ 0) }
         ensures starved { IfOk result (λ disk. is_starved disk ≡ false) }
         ensures fuse { IfOk result (λ disk. fuse_of disk ≡ None) }
+        ensures once { IfOk result (λ disk. once_of disk ≡ None) }
         ensures fed { IfOk result (λ _. is_starved self ≡ false) }
         ensures lack { IfSome (lack_of self) (λ lack. result ≡ Err lack) }
     {
@@ -68,6 +73,7 @@ impl MemDisk {
             content,
             calls,
             fuse: _,
+            once: _,
             faults: _,
             lack,
         } = self;
@@ -81,9 +87,25 @@ impl MemDisk {
             content,
             calls: Vec::new(alloc),
             fuse: None,
+            once: None,
             faults: 0,
             lack: None,
         })
+    }
+
+    /// Makes the call-th write or sync from here fail, beside those that the fuse has fail. The
+    /// later ones go on, and reads too. It takes the place of a call that was set so before.
+    pub fn fail_once(&mut self, call: u64)
+        ensures history { history_of self.new ≡ history_of self.old }
+        ensures faults { faults_of self.new ≡ faults_of self.old }
+        ensures lack { lack_of self.new ≡ lack_of self.old }
+        ensures fuse { fuse_of self.new ≡ fuse_of self.old }
+        ensures set { (i : ℕ) → fails_of self.new i ≡ ((moment (history_of self.old) + (max call 1 - 1)) == i || ends_of self.old i) }
+    {
+        self.once = Some(Fuse {
+            set_at: self.calls.len(),
+            after: call.max(1) - 1,
+        });
     }
 
     /// Whether a failed call was a refused growth, or a write past the greatest length.
@@ -104,6 +126,7 @@ impl MemDisk {
             content: _,
             calls: _,
             fuse: _,
+            once: _,
             faults: _,
             lack,
         } = self;
@@ -111,7 +134,7 @@ impl MemDisk {
     }
 }
 
-// The answer to a call, by whether it was kept and whether the fuse let it be done. What it lacked
+// The answer to a call, by whether it was kept and whether it was to be done. What it lacked
 // stays with the disk.
 fn answer(
     kept: Result<(), Lack>,
@@ -138,13 +161,15 @@ fn answer(
 }
 
 impl Disk for MemDisk {
-    ghost use Rattle.nqs_disk.specs.MemDisk.{history_of, fails_of, is_starved};
+    ghost use Rattle.nqs_disk.specs.MemDisk.{history_of, fails_of, ends_of, is_starved};
 
     ghost tells = { true };
 
     ghost history = { history_of };
 
     ghost fails = { fails_of };
+
+    ghost ends = { ends_of };
 
     ghost starved = { is_starved };
 
@@ -173,7 +198,7 @@ impl Disk for MemDisk {
     }
 
     fn write_at(&mut self, place: u64, bytes: &[u8]) -> Result<(), Failed> {
-        let done = is_done(self.fuse, self.calls.len());
+        let done = is_done(self.fuse, self.once, self.calls.len());
         let kept = keep_write(
             self.alloc,
             &mut self.content,
@@ -186,7 +211,7 @@ impl Disk for MemDisk {
     }
 
     fn sync(&mut self) -> Result<(), Failed> {
-        let done = is_done(self.fuse, self.calls.len());
+        let done = is_done(self.fuse, self.once, self.calls.len());
         let kept = keep_sync(&mut self.calls, done);
         answer(kept, done, &mut self.faults, &mut self.lack)
     }
@@ -195,6 +220,7 @@ impl Disk for MemDisk {
 impl Fused for MemDisk {
     fn fuse(&mut self, calls: u64) {
         let made = self.calls.len();
+        self.once = None;
         if !is_blown(self.fuse, made) {
             self.fuse = Some(Fuse {
                 set_at: made,

@@ -255,6 +255,8 @@ impl Disk for Failing {
 
     ghost fails = { λ _ _. false };
 
+    ghost ends = { λ _ _. false };
+
     ghost starved = { λ _. false };
 
     ghost faults = { λ disk. disk.faults };

@@ -6,6 +6,8 @@
 #[cfg(test)]
 mod codec;
 #[cfg(test)]
+mod failures;
+#[cfg(test)]
 mod forms;
 #[cfg(test)]
 mod journal;

@@ -24,7 +24,7 @@ const SCRIPT: &[u8] = b"echo done\n";
 type Seen = ([bool; 2], [Option<bool>; 3], usize, bool);
 
 // The queue that a host has when it is formatted, and a user of this name.
-fn batch() -> Name
+pub(crate) fn batch() -> Name
     ensures { result ≡ codes "batch" }
 {
     match Name::read(b"batch") {
@@ -33,7 +33,7 @@ fn batch() -> Name
     }
 }
 
-fn root() -> Name
+pub(crate) fn root() -> Name
     ensures { result ≡ codes "root" }
 {
     match Name::read(b"root") {
@@ -54,7 +54,7 @@ fn empty_disks(alloc: Global) -> Disks<MemDisk>
 }
 
 // The disks of the one host of a site.
-fn formatted(alloc: Global) -> Result<Disks<MemDisk>, StoreFault>
+pub(crate) fn formatted(alloc: Global) -> Result<Disks<MemDisk>, StoreFault>
     ensures { IfOk result (λ disks. (which : Which) → IsQuiet (history_of_disk (disk_at which disks))) }
 {
     let mut disks = empty_disks(alloc);
@@ -64,7 +64,7 @@ fn formatted(alloc: Global) -> Result<Disks<MemDisk>, StoreFault>
     }
 }
 
-fn submission(alloc: Global) -> Result<Command, Memory>
+pub(crate) fn submission(alloc: Global) -> Result<Command, Memory>
     ensures { IfOk result (λ command. IsTrue (is_sane_command command)) }
 {
     let mut script = Vec::new(alloc);
@@ -106,7 +106,7 @@ fn ask(alloc: Global, node: &mut Node<MemDisk>, command: Command, out: &mut Vec<
     node.take(alloc, &event, out).is_ok()
 }
 
-fn submit(alloc: Global, node: &mut Node<MemDisk>, out: &mut Vec<Output>) -> bool
+pub(crate) fn submit(alloc: Global, node: &mut Node<MemDisk>, out: &mut Vec<Output>) -> bool
     requires { IsSoundHost (content_of node.old) }
     ensures { IsSoundHost (content_of node.new) }
 {
@@ -116,7 +116,7 @@ fn submit(alloc: Global, node: &mut Node<MemDisk>, out: &mut Vec<Output>) -> boo
     }
 }
 
-fn start_queue(alloc: Global, node: &mut Node<MemDisk>, out: &mut Vec<Output>) -> bool
+pub(crate) fn start_queue(alloc: Global, node: &mut Node<MemDisk>, out: &mut Vec<Output>) -> bool
     requires { IsSoundHost (content_of node.old) }
     ensures { IsSoundHost (content_of node.new) }
 {

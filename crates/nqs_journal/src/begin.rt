@@ -42,6 +42,7 @@ pub(crate) fn write_begin<D: Disk>(disk: &mut D, text: &[u8]) -> Result<(), Fail
         (front : List ℕ) → text.now ≡ front ++ 0 ∷ [] → IsOpen (D.history disk.new) front (length front) []) }
     ensures length { IsTrue D.tells → OnOk result (length text.now ≤ length (content (D.history disk.new))) }
     ensures fuse { IsTrue D.tells → (i : ℕ) → D.fails disk.new i ≡ D.fails disk.old i }
+    ensures ends { IsTrue D.tells → (i : ℕ) → D.ends disk.new i ≡ D.ends disk.old i }
     ensures later { D.faults disk.old ≤ D.faults disk.new }
     ensures failed { OnErr result (Rose (D.faults disk.old) (D.faults disk.new)) }
     // Only where the disk is starved, or a call was to fail.
@@ -87,6 +88,7 @@ pub fn format_with<D: Disk>(alloc: Global, disk: &mut D, payload: &[u8]) -> Resu
     // Only where the disk is starved, or a call was to fail.
     ensures cause { IsTrue D.tells → IsErrOf result JournalFault.Disk → IsTrue (D.starved disk.new) ⊎ (i : ℕ) × IsTrue (D.fails disk.old i) }
     ensures fuse { IsTrue D.tells → (i : ℕ) → D.fails disk.new i ≡ D.fails disk.old i }
+    ensures ends { IsTrue D.tells → (i : ℕ) → D.ends disk.new i ≡ D.ends disk.old i }
     ensures later { D.faults disk.old ≤ D.faults disk.new }
 {
     let text = match one_payload_text(alloc, payload) {

@@ -78,10 +78,11 @@ pub(crate) fn add_journal<D: Disk>(
     ensures fault { IsTrue D.tells → IfErr result (IsEitherLoadFault (content (D.history disk.old))) }
     ensures only { IfErr result IsReadingFault }
     ensures failed { IsErrOf result JournalFault.Disk → Rose (D.faults disk.old) (D.faults disk.new) }
-    // Ok only where no call that was made was to fail, and `Disk` only after one that was.
-    ensures whole { IsTrue D.tells → OnOk result (IsWhole (D.fails disk.old) (moment (D.history disk.old))) }
+    // Ok only where no call has ended the disk, `Disk` only after one that was to fail.
+    ensures whole { IsTrue D.tells → OnOk result (IsWhole (D.ends disk.old) (moment (D.history disk.old))) }
     ensures cause { IsTrue D.tells → IsErrOf result JournalFault.Disk → (i : ℕ) × (i < moment (D.history disk.old)) × IsTrue (D.fails disk.old i) }
     ensures fuse { IsTrue D.tells → (i : ℕ) → D.fails disk.new i ≡ D.fails disk.old i }
+    ensures ends { IsTrue D.tells → (i : ℕ) → D.ends disk.new i ≡ D.ends disk.old i }
     ensures starved { IsTrue D.tells → D.starved disk.new ≡ D.starved disk.old }
 {
     let bytes = read_disk(alloc, disk)?;
@@ -111,10 +112,11 @@ pub fn read_either<D: Disk>(
     ensures fault { IsTrue D.tells → IfErr result (IsEitherLoadFault (content (D.history disk.old))) }
     ensures only { IfErr result IsReadingFault }
     ensures failed { IsErrOf result JournalFault.Disk → Rose (D.faults disk.old) (D.faults disk.new) }
-    // Ok only where no call that was made was to fail, and `Disk` only after one that was.
-    ensures whole { IsTrue D.tells → OnOk result (IsWhole (D.fails disk.old) (moment (D.history disk.old))) }
+    // Ok only where no call has ended the disk, `Disk` only after one that was to fail.
+    ensures whole { IsTrue D.tells → OnOk result (IsWhole (D.ends disk.old) (moment (D.history disk.old))) }
     ensures cause { IsTrue D.tells → IsErrOf result JournalFault.Disk → (i : ℕ) × (i < moment (D.history disk.old)) × IsTrue (D.fails disk.old i) }
     ensures fuse { IsTrue D.tells → (i : ℕ) → D.fails disk.new i ≡ D.fails disk.old i }
+    ensures ends { IsTrue D.tells → (i : ℕ) → D.ends disk.new i ≡ D.ends disk.old i }
     ensures starved { IsTrue D.tells → D.starved disk.new ≡ D.starved disk.old }
 {
     match add_journal(alloc, disk, snapshot, found) {

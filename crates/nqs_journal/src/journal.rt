@@ -71,6 +71,7 @@ impl<D: Disk> Journal<D> {
         // At Ok none of them was to fail.
         ensures due { IsTrue D.tells → OnOk result ((i : ℕ) → i < 4 → D.fails (disk_of self.old) (moment (history_of self.old) + i) ≡ false) }
         ensures fuse { IsTrue D.tells → (i : ℕ) → D.fails (disk_of self.new) i ≡ D.fails (disk_of self.old) i }
+        ensures ends { IsTrue D.tells → (i : ℕ) → D.ends (disk_of self.new) i ≡ D.ends (disk_of self.old) i }
 
         // Each image of each moment of the call has the payloads from before it, with the new one
         // or without.
@@ -158,12 +159,14 @@ impl<D: Disk> Journal<D> {
         ensures fault { IsTrue D.tells → IfErr result (λ e. IsLoadFault (content (D.history disk)) e.0) }
         ensures only { IfErr result (λ e. IsReadingFault e.0) }
         ensures failed { IfErr result (λ e. e.0 ≡ JournalFault.Disk → Rose (D.faults disk) (D.faults e.1)) }
-        // Ok only where no call that was made was to fail, and `Disk` only after one that was.
-        ensures whole { IsTrue D.tells → OnOk result (IsWhole (D.fails disk) (moment (D.history disk))) }
+        // Ok only where no call has ended the disk, `Disk` only after one that was to fail.
+        ensures whole { IsTrue D.tells → OnOk result (IsWhole (D.ends disk) (moment (D.history disk))) }
         ensures cause { IsTrue D.tells → IfErr result (λ e. e.0 ≡ JournalFault.Disk
             → (i : ℕ) × (i < moment (D.history disk)) × IsTrue (D.fails disk i)) }
         ensures fuse { IsTrue D.tells → (i : ℕ) → MatchResult result (λ journal. D.fails (disk_of journal) i ≡ D.fails disk i)
             (λ e. D.fails e.1 i ≡ D.fails disk i) }
+        ensures ends { IsTrue D.tells → (i : ℕ) → MatchResult result (λ journal. D.ends (disk_of journal) i ≡ D.ends disk i)
+            (λ e. D.ends e.1 i ≡ D.ends disk i) }
         ensures starved { IsTrue D.tells → MatchResult result (λ journal. D.starved (disk_of journal) ≡ D.starved disk)
             (λ e. D.starved e.1 ≡ D.starved disk) }
         ensures later { MatchResult result (λ journal. D.faults disk ≤ D.faults (disk_of journal)) (λ e. D.faults disk ≤ D.faults e.1) }
@@ -214,12 +217,14 @@ impl<D: Disk> Journal<D> {
         ensures fault { IsTrue D.tells → IfErr result (λ e. IsEitherLoadFault (content (D.history disk)) e.0) }
         ensures only { IfErr result (λ e. IsReadingFault e.0) }
         ensures failed { IfErr result (λ e. e.0 ≡ JournalFault.Disk → Rose (D.faults disk) (D.faults e.1)) }
-        // Ok only where no call that was made was to fail, and `Disk` only after one that was.
-        ensures whole { IsTrue D.tells → OnOk result (IsWhole (D.fails disk) (moment (D.history disk))) }
+        // Ok only where no call has ended the disk, `Disk` only after one that was to fail.
+        ensures whole { IsTrue D.tells → OnOk result (IsWhole (D.ends disk) (moment (D.history disk))) }
         ensures cause { IsTrue D.tells → IfErr result (λ e. e.0 ≡ JournalFault.Disk
             → (i : ℕ) × (i < moment (D.history disk)) × IsTrue (D.fails disk i)) }
         ensures fuse { IsTrue D.tells → (i : ℕ) → MatchResult result (λ told. D.fails (disk_of told.0) i ≡ D.fails disk i)
             (λ e. D.fails e.1 i ≡ D.fails disk i) }
+        ensures ends { IsTrue D.tells → (i : ℕ) → MatchResult result (λ told. D.ends (disk_of told.0) i ≡ D.ends disk i)
+            (λ e. D.ends e.1 i ≡ D.ends disk i) }
         ensures starved { IsTrue D.tells → MatchResult result (λ told. D.starved (disk_of told.0) ≡ D.starved disk)
             (λ e. D.starved e.1 ≡ D.starved disk) }
         ensures later { MatchResult result (λ told. D.faults disk ≤ D.faults (disk_of told.0)) (λ e. D.faults disk ≤ D.faults e.1) }
@@ -253,6 +258,8 @@ impl<D: Disk> Journal<D> {
         ensures counted { IfOk result (λ journal. count_of journal ≡ 0) }
         ensures fuse { IsTrue D.tells → (i : ℕ) → MatchResult result (λ journal. D.fails (disk_of journal) i ≡ D.fails disk i)
             (λ e. D.fails e.1 i ≡ D.fails disk i) }
+        ensures ends { IsTrue D.tells → (i : ℕ) → MatchResult result (λ journal. D.ends (disk_of journal) i ≡ D.ends disk i)
+            (λ e. D.ends e.1 i ≡ D.ends disk i) }
         ensures later { MatchResult result (λ journal. D.faults disk ≤ D.faults (disk_of journal)) (λ e. D.faults disk ≤ D.faults e.1) }
     {
         let mut disk = disk;
@@ -315,6 +322,7 @@ impl<D: Disk> Journal<D> {
         // At Ok none of them was to fail.
         ensures due { IsTrue D.tells → OnOk result ((i : ℕ) → i < 2 → D.fails (disk_of self.old) (moment (history_of self.old) + i) ≡ false) }
         ensures fuse { IsTrue D.tells → (i : ℕ) → D.fails (disk_of self.new) i ≡ D.fails (disk_of self.old) i }
+        ensures ends { IsTrue D.tells → (i : ℕ) → D.ends (disk_of self.new) i ≡ D.ends (disk_of self.old) i }
         ensures later { D.faults (disk_of self.old) ≤ D.faults (disk_of self.new) }
         ensures failed { OnErr result (Rose (D.faults (disk_of self.old)) (D.faults (disk_of self.new))) }
     {
@@ -367,11 +375,12 @@ impl<D: Disk> Journal<D> {
         ensures fault { IsTrue D.tells → IfErr result (IsLoadFault (content (history_of self.old))) }
         ensures only { IfErr result IsReadingFault }
         ensures failed { IsErrOf result JournalFault.Disk → Rose (D.faults (disk_of self.old)) (D.faults (disk_of self.new)) }
-        // Ok only where no call that was made was to fail, and `Disk` only after one that was.
-        ensures whole { IsTrue D.tells → OnOk result (IsWhole (D.fails (disk_of self.old)) (moment (history_of self.old))) }
+        // Ok only where no call has ended the disk, `Disk` only after one that was to fail.
+        ensures whole { IsTrue D.tells → OnOk result (IsWhole (D.ends (disk_of self.old)) (moment (history_of self.old))) }
         ensures cause { IsTrue D.tells → IsErrOf result JournalFault.Disk
             → (i : ℕ) × (i < moment (history_of self.old)) × IsTrue (D.fails (disk_of self.old) i) }
         ensures fuse { IsTrue D.tells → (i : ℕ) → D.fails (disk_of self.new) i ≡ D.fails (disk_of self.old) i }
+        ensures ends { IsTrue D.tells → (i : ℕ) → D.ends (disk_of self.new) i ≡ D.ends (disk_of self.old) i }
         ensures starved { IsTrue D.tells → D.starved (disk_of self.new) ≡ D.starved (disk_of self.old) }
         ensures stays { (gate_of self.new ≡ gate_of self.old) × (is_stopped self.new ≡ is_stopped self.old) }
         ensures counted { count_of self.new ≡ count_of self.old }
@@ -403,11 +412,12 @@ impl<D: Disk> Journal<D> {
         ensures fault { IsTrue D.tells → IfErr result (IsEitherLoadFault (content (history_of self.old))) }
         ensures only { IfErr result IsReadingFault }
         ensures failed { IsErrOf result JournalFault.Disk → Rose (D.faults (disk_of self.old)) (D.faults (disk_of self.new)) }
-        // Ok only where no call that was made was to fail, and `Disk` only after one that was.
-        ensures whole { IsTrue D.tells → OnOk result (IsWhole (D.fails (disk_of self.old)) (moment (history_of self.old))) }
+        // Ok only where no call has ended the disk, `Disk` only after one that was to fail.
+        ensures whole { IsTrue D.tells → OnOk result (IsWhole (D.ends (disk_of self.old)) (moment (history_of self.old))) }
         ensures cause { IsTrue D.tells → IsErrOf result JournalFault.Disk
             → (i : ℕ) × (i < moment (history_of self.old)) × IsTrue (D.fails (disk_of self.old) i) }
         ensures fuse { IsTrue D.tells → (i : ℕ) → D.fails (disk_of self.new) i ≡ D.fails (disk_of self.old) i }
+        ensures ends { IsTrue D.tells → (i : ℕ) → D.ends (disk_of self.new) i ≡ D.ends (disk_of self.old) i }
         ensures starved { IsTrue D.tells → D.starved (disk_of self.new) ≡ D.starved (disk_of self.old) }
         ensures stays { (gate_of self.new ≡ gate_of self.old) × (is_stopped self.new ≡ is_stopped self.old) }
         ensures counted { count_of self.new ≡ count_of self.old }
@@ -419,16 +429,19 @@ impl<D: Disk> Journal<D> {
 impl<D: Fused> Journal<D> {
     ghost use Rattle.nqs_journal.specs.Open.{disk_of, gate_of, count_of, is_stopped, history_of};
 
-    /// Makes the calls-th write or sync from here of the disk fail, and each later call. Where one
-    /// that was to fail was made already, nothing changes.
+    /// Makes the calls-th write or sync from here of the disk fail, and each later call, and no
+    /// other. Where a call was made from which on each one is to fail, that stays so.
     pub fn fuse(&mut self, calls: u64)
         ensures same { D.history (disk_of self.new) ≡ D.history (disk_of self.old) }
         ensures set { IsTrue D.tells → ((i : ℕ) → i < moment (history_of self.old) → D.fails (disk_of self.old) i ≡ false)
             → (i : ℕ) → D.fails (disk_of self.new) i ≡ nat_le (moment (history_of self.old) + (max calls 1 - 1)) i }
-        ensures stays { IsTrue D.tells → (i : ℕ) → i < moment (history_of self.old) → IsTrue (D.fails (disk_of self.old) i)
-            → (j : ℕ) → D.fails (disk_of self.new) j ≡ D.fails (disk_of self.old) j }
+        ensures later { IsTrue D.tells → IsWhole (D.ends (disk_of self.old)) (moment (history_of self.old))
+            → (i : ℕ) → D.fails (disk_of self.new) i ≡ nat_le (moment (history_of self.old) + (max calls 1 - 1)) i }
+        ensures stays { IsTrue D.tells → (i : ℕ) → i < moment (history_of self.old) → IsTrue (D.ends (disk_of self.old) i)
+            → (j : ℕ) → D.ends (disk_of self.new) j ≡ D.ends (disk_of self.old) j }
         ensures onward { IsTrue D.tells → (i : ℕ) → IsTrue (D.fails (disk_of self.new) i)
             → (j : ℕ) → i ≤ j → IsTrue (D.fails (disk_of self.new) j) }
+        ensures alike { IsTrue D.tells → (i : ℕ) → D.ends (disk_of self.new) i ≡ D.fails (disk_of self.new) i }
         ensures starved { D.starved (disk_of self.new) ≡ D.starved (disk_of self.old) }
         ensures gate { gate_of self.new ≡ gate_of self.old }
         ensures counted { count_of self.new ≡ count_of self.old }

@@ -29,10 +29,11 @@ pub(crate) fn read_disk<D: Disk>(alloc: Global, disk: &mut D) -> Result<Vec<u8>,
     ensures later { D.faults disk.old ≤ D.faults disk.new }
     ensures fault { IfErr result IsDiskFault }
     ensures failed { IsErrOf result JournalFault.Disk → Rose (D.faults disk.old) (D.faults disk.new) }
-    // Ok only where no call that was made was to fail, and `Disk` only after one that was.
-    ensures whole { IsTrue D.tells → OnOk result (IsWhole (D.fails disk.old) (moment (D.history disk.old))) }
+    // Ok only where no call has ended the disk, `Disk` only after one that was to fail.
+    ensures whole { IsTrue D.tells → OnOk result (IsWhole (D.ends disk.old) (moment (D.history disk.old))) }
     ensures cause { IsTrue D.tells → IsErrOf result JournalFault.Disk → (i : ℕ) × (i < moment (D.history disk.old)) × IsTrue (D.fails disk.old i) }
     ensures fuse { IsTrue D.tells → (i : ℕ) → D.fails disk.new i ≡ D.fails disk.old i }
+    ensures ends { IsTrue D.tells → (i : ℕ) → D.ends disk.new i ≡ D.ends disk.old i }
     ensures starved { IsTrue D.tells → D.starved disk.new ≡ D.starved disk.old }
 {
     let length = disk.len()?;
@@ -52,10 +53,11 @@ pub(crate) fn read_journal<D: Disk>(alloc: Global, disk: &mut D) -> Result<Readi
     ensures fault { IsTrue D.tells → IfErr result (IsLoadFault (content (D.history disk.old))) }
     ensures only { IfErr result IsReadingFault }
     ensures failed { IsErrOf result JournalFault.Disk → Rose (D.faults disk.old) (D.faults disk.new) }
-    // Ok only where no call that was made was to fail, and `Disk` only after one that was.
-    ensures whole { IsTrue D.tells → OnOk result (IsWhole (D.fails disk.old) (moment (D.history disk.old))) }
+    // Ok only where no call has ended the disk, `Disk` only after one that was to fail.
+    ensures whole { IsTrue D.tells → OnOk result (IsWhole (D.ends disk.old) (moment (D.history disk.old))) }
     ensures cause { IsTrue D.tells → IsErrOf result JournalFault.Disk → (i : ℕ) × (i < moment (D.history disk.old)) × IsTrue (D.fails disk.old i) }
     ensures fuse { IsTrue D.tells → (i : ℕ) → D.fails disk.new i ≡ D.fails disk.old i }
+    ensures ends { IsTrue D.tells → (i : ℕ) → D.ends disk.new i ≡ D.ends disk.old i }
     ensures starved { IsTrue D.tells → D.starved disk.new ≡ D.starved disk.old }
 {
     let bytes = read_disk(alloc, disk)?;
@@ -78,10 +80,11 @@ pub fn read_payloads<D: Disk>(
     ensures fault { IsTrue D.tells → IfErr result (IsLoadFault (content (D.history disk.old))) }
     ensures only { IfErr result IsReadingFault }
     ensures failed { IsErrOf result JournalFault.Disk → Rose (D.faults disk.old) (D.faults disk.new) }
-    // Ok only where no call that was made was to fail, and `Disk` only after one that was.
-    ensures whole { IsTrue D.tells → OnOk result (IsWhole (D.fails disk.old) (moment (D.history disk.old))) }
+    // Ok only where no call has ended the disk, `Disk` only after one that was to fail.
+    ensures whole { IsTrue D.tells → OnOk result (IsWhole (D.ends disk.old) (moment (D.history disk.old))) }
     ensures cause { IsTrue D.tells → IsErrOf result JournalFault.Disk → (i : ℕ) × (i < moment (D.history disk.old)) × IsTrue (D.fails disk.old i) }
     ensures fuse { IsTrue D.tells → (i : ℕ) → D.fails disk.new i ≡ D.fails disk.old i }
+    ensures ends { IsTrue D.tells → (i : ℕ) → D.ends disk.new i ≡ D.ends disk.old i }
     ensures starved { IsTrue D.tells → D.starved disk.new ≡ D.starved disk.old }
 {
     let mut reading = read_journal(alloc, disk)?;

@@ -20,6 +20,7 @@ pub(crate) fn write_behind<D: Disk>(disk: &mut D, gate: u64, text: &[u8]) -> Res
     // None of them was to fail.
     ensures due { IsTrue D.tells → OnOk result ((i : ℕ) → i < 4 → D.fails disk.old (moment (D.history disk.old) + i) ≡ false) }
     ensures fuse { IsTrue D.tells → (i : ℕ) → D.fails disk.new i ≡ D.fails disk.old i }
+    ensures ends { IsTrue D.tells → (i : ℕ) → D.ends disk.new i ≡ D.ends disk.old i }
     ensures later { D.faults disk.old ≤ D.faults disk.new }
     ensures failed { OnErr result (Rose (D.faults disk.old) (D.faults disk.new)) }
 {

@@ -18,6 +18,9 @@ pub trait Disk {
     /// Whether the call at this place of the list is to fail.
     ghost fails: { Self → ℕ → Bool };
 
+    /// Whether each call from that at this place on is to fail, and each read behind it.
+    ghost ends: { Self → ℕ → Bool };
+
     /// Whether a failed call wasn't made.
     ghost starved: { Self → Bool };
 
@@ -30,9 +33,11 @@ pub trait Disk {
         ensures length { IsTrue tells → IfOk result (λ n. n ≡ length (content (history self.old))) }
         ensures same { IsTrue tells → history self.new ≡ history self.old }
         ensures fuse { IsTrue tells → (i : ℕ) → fails self.new i ≡ fails self.old i }
+        ensures ends { IsTrue tells → (i : ℕ) → ends self.new i ≡ ends self.old i }
         ensures starved { IsTrue tells → starved self.new ≡ starved self.old }
-        // Ok only where no call that was made was to fail, and an error only after one that was.
-        ensures whole { IsTrue tells → OnOk result (IsWhole (fails self.old) (moment (history self.old))) }
+        // An error exactly behind a call from which on each one is to fail.
+        ensures whole { IsTrue tells → OnOk result (IsWhole (ends self.old) (moment (history self.old))) }
+        ensures ended { IsTrue tells → OnErr result ((i : ℕ) × (i < moment (history self.old)) × IsTrue (ends self.old i)) }
         ensures cause { IsTrue tells → OnErr result ((i : ℕ) × (i < moment (history self.old)) × IsTrue (fails self.old i)) }
         ensures later { faults self.old ≤ faults self.new }
         ensures failed { OnErr result (Rose (faults self.old) (faults self.new)) };
@@ -44,9 +49,11 @@ pub trait Disk {
         ensures bytes { IsTrue tells → IfOk result (λ n. buf.new ≡ take n (drop place (content (history self.old))) ++ drop n buf.old) }
         ensures same { IsTrue tells → history self.new ≡ history self.old }
         ensures fuse { IsTrue tells → (i : ℕ) → fails self.new i ≡ fails self.old i }
+        ensures ends { IsTrue tells → (i : ℕ) → ends self.new i ≡ ends self.old i }
         ensures starved { IsTrue tells → starved self.new ≡ starved self.old }
-        // Ok only where no call that was made was to fail, and an error only after one that was.
-        ensures whole { IsTrue tells → OnOk result (IsWhole (fails self.old) (moment (history self.old))) }
+        // An error exactly behind a call from which on each one is to fail.
+        ensures whole { IsTrue tells → OnOk result (IsWhole (ends self.old) (moment (history self.old))) }
+        ensures ended { IsTrue tells → OnErr result ((i : ℕ) × (i < moment (history self.old)) × IsTrue (ends self.old i)) }
         ensures cause { IsTrue tells → OnErr result ((i : ℕ) × (i < moment (history self.old)) × IsTrue (fails self.old i)) }
         ensures later { faults self.old ≤ faults self.new }
         ensures failed { OnErr result (Rose (faults self.old) (faults self.new)) };
@@ -57,11 +64,12 @@ pub trait Disk {
         ensures small { OnOk result (place + length bytes.now ≤ 2 ^ 40) }
         ensures made { IsTrue tells → OnOk result (history self.new ≡ extended (history self.old) (write place bytes.now true ∷ [])) }
         ensures due { IsTrue tells → OnOk result (fails self.old (moment (history self.old)) ≡ false) }
-        ensures whole { IsTrue tells → OnOk result (IsWhole (fails self.old) (moment (history self.old))) }
+        ensures whole { IsTrue tells → OnOk result (IsWhole (ends self.old) (moment (history self.old))) }
         // A refused growth isn't in the list.
         ensures broken { IsTrue tells → OnErr result (IsBroken (history self.old) (history self.new) (write place bytes.now false)
             (fails self.old (moment (history self.old))) (starved self.old) (starved self.new)) }
         ensures fuse { IsTrue tells → (i : ℕ) → fails self.new i ≡ fails self.old i }
+        ensures ends { IsTrue tells → (i : ℕ) → ends self.new i ≡ ends self.old i }
         ensures starved { IsTrue tells → OnOk result (starved self.new ≡ starved self.old) }
         ensures later { faults self.old ≤ faults self.new }
         ensures failed { OnErr result (Rose (faults self.old) (faults self.new)) };
@@ -70,10 +78,11 @@ pub trait Disk {
     fn sync(&mut self) -> Result<(), Failed>
         ensures made { IsTrue tells → OnOk result (history self.new ≡ extended (history self.old) (sync true ∷ [])) }
         ensures due { IsTrue tells → OnOk result (fails self.old (moment (history self.old)) ≡ false) }
-        ensures whole { IsTrue tells → OnOk result (IsWhole (fails self.old) (moment (history self.old))) }
+        ensures whole { IsTrue tells → OnOk result (IsWhole (ends self.old) (moment (history self.old))) }
         ensures broken { IsTrue tells → OnErr result (IsBroken (history self.old) (history self.new) (sync false)
             (fails self.old (moment (history self.old))) (starved self.old) (starved self.new)) }
         ensures fuse { IsTrue tells → (i : ℕ) → fails self.new i ≡ fails self.old i }
+        ensures ends { IsTrue tells → (i : ℕ) → ends self.new i ≡ ends self.old i }
         ensures starved { IsTrue tells → OnOk result (starved self.new ≡ starved self.old) }
         ensures later { faults self.old ≤ faults self.new }
         ensures failed { OnErr result (Rose (faults self.old) (faults self.new)) };
@@ -81,8 +90,8 @@ pub trait Disk {
 
 /// A disk that can be set to fail.
 pub trait Fused: Disk {
-    /// Makes the calls-th write or sync from here fail, and each later call. Where one that was to
-    /// fail was made already, nothing changes.
+    /// Makes the calls-th write or sync from here fail, and each later call, and no other. Where a
+    /// call was made from which on each one is to fail, that stays so.
     fn fuse(&mut self, calls: u64)
         ensures same { Self.history self.new ≡ Self.history self.old }
         ensures starved { Self.starved self.new ≡ Self.starved self.old }
@@ -90,8 +99,12 @@ pub trait Fused: Disk {
         // If none was to fail before.
         ensures set { IsTrue Self.tells → ((i : ℕ) → i < moment (Self.history self.old) → Self.fails self.old i ≡ false)
             → (i : ℕ) → Self.fails self.new i ≡ nat_le (moment (Self.history self.old) + (max calls 1 - 1)) i }
-        ensures stays { IsTrue Self.tells → (i : ℕ) → i < moment (Self.history self.old) → IsTrue (Self.fails self.old i)
-            → (j : ℕ) → Self.fails self.new j ≡ Self.fails self.old j }
+        // If one may have failed alone.
+        ensures later { IsTrue Self.tells → IsWhole (Self.ends self.old) (moment (Self.history self.old))
+            → (i : ℕ) → Self.fails self.new i ≡ nat_le (moment (Self.history self.old) + (max calls 1 - 1)) i }
+        ensures stays { IsTrue Self.tells → (i : ℕ) → i < moment (Self.history self.old) → IsTrue (Self.ends self.old i)
+            → (j : ℕ) → Self.ends self.new j ≡ Self.ends self.old j }
         // Each call behind one that is to fail is to fail.
-        ensures onward { IsTrue Self.tells → (i : ℕ) → IsTrue (Self.fails self.new i) → (j : ℕ) → i ≤ j → IsTrue (Self.fails self.new j) };
+        ensures onward { IsTrue Self.tells → (i : ℕ) → IsTrue (Self.fails self.new i) → (j : ℕ) → i ≤ j → IsTrue (Self.fails self.new j) }
+        ensures alike { IsTrue Self.tells → (i : ℕ) → Self.ends self.new i ≡ Self.fails self.new i };
 }

@@ -106,6 +106,8 @@ impl Disk for FileDisk {
 
     ghost fails = { λ _ _. false };
 
+    ghost ends = { λ _ _. false };
+
     ghost starved = { λ _. false };
 
     ghost faults = { λ disk. disk.faults };

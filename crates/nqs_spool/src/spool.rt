@@ -5,7 +5,7 @@ ghost use Rattle.std.specs.List.{AllByRecursion};
 ghost use Rattle.nqs_values.specs.declared.extent.Extent.{Extent};
 ghost use Rattle.nqs_values.specs.Want.{want};
 ghost use Rattle.nqs_outside.specs.Causes.{Rose};
-ghost use Rattle.nqs_outside.specs.History.{Call, content, IsQuiet, extended, moment, EachSince, StopsShort, IsExact};
+ghost use Rattle.nqs_outside.specs.History.{Call, content, IsQuiet, extended, moment, EachSince, StopsShort, IsExact, IsWhole};
 ghost use Rattle.nqs_spool.specs.Puts.{put_calls};
 ghost use Rattle.nqs_spool.specs.Extents.{extent_at, past, AreApart, IsLeastPlace, Has, IsWith, Holds};
 ghost use Rattle.nqs_spool.specs.Live.{end_of};
@@ -195,15 +195,18 @@ impl<D: Disk> Spool<D> {
 impl<D: Fused> Spool<D> {
     ghost use Rattle.nqs_spool.specs.Spooled.{disk_of, history_of, room_of, Tells};
 
-    /// Makes the disk's calls-th write or sync from here fail, and each later call. Where one that
-    /// was to fail was made already, nothing changes.
+    /// Makes the disk's calls-th write or sync from here fail, and each later call, and no other.
+    /// Where a call was made from which on each one is to fail, that stays so.
     pub fn fuse(&mut self, calls: u64)
         ensures same { D.history (disk_of self.new) ≡ D.history (disk_of self.old) }
         ensures set { IsTrue D.tells → ((i : ℕ) → i < moment (history_of self.old) → D.fails (disk_of self.old) i ≡ false)
             → (i : ℕ) → D.fails (disk_of self.new) i ≡ nat_le (moment (history_of self.old) + (max calls 1 - 1)) i }
-        ensures stays { IsTrue D.tells → (i : ℕ) → i < moment (history_of self.old) → IsTrue (D.fails (disk_of self.old) i)
-            → (j : ℕ) → D.fails (disk_of self.new) j ≡ D.fails (disk_of self.old) j }
+        ensures later { IsTrue D.tells → IsWhole (D.ends (disk_of self.old)) (moment (history_of self.old))
+            → (i : ℕ) → D.fails (disk_of self.new) i ≡ nat_le (moment (history_of self.old) + (max calls 1 - 1)) i }
+        ensures stays { IsTrue D.tells → (i : ℕ) → i < moment (history_of self.old) → IsTrue (D.ends (disk_of self.old) i)
+            → (j : ℕ) → D.ends (disk_of self.new) j ≡ D.ends (disk_of self.old) j }
         ensures onward { IsTrue D.tells → (i : ℕ) → IsTrue (D.fails (disk_of self.new) i) → (j : ℕ) → i ≤ j → IsTrue (D.fails (disk_of self.new) j) }
+        ensures alike { IsTrue D.tells → (i : ℕ) → D.ends (disk_of self.new) i ≡ D.fails (disk_of self.new) i }
         ensures starved { D.starved (disk_of self.new) ≡ D.starved (disk_of self.old) }
         ensures faults { D.faults (disk_of self.new) ≡ D.faults (disk_of self.old) }
         ensures tells { (live : List Extent) → Tells self.old live → Tells self.new live }

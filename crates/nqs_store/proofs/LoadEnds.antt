@@ -26,7 +26,7 @@ use Rattle.nqs_store.proofs.EachDisk.{each_of, stands_on, history_on}
 use Rattle.nqs_store.proofs.Never.{one_told, load_not}
 use Rattle.nqs_store.proofs.Opening.{read_fault, one_same, each_reads, failed_at, opened_tells, tells_read, tells_active}
 
-module _ {D : Type 0} {g : disk.Ghosts D} (disks : Disks D) (root : D)
+module _ {D : Type 0} (g : disk.Ghosts D) (disks : Disks D) (root : D)
     (read : OnlyReadsOne g.tells g.history g.fails g.starved g.faults disks.root root) (b : Bool) where
   abbrev Answer : Type 0
   Answer = Result (Store D g × HostState) (LoadFault × Disks D)

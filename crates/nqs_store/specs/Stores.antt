@@ -74,6 +74,10 @@ module _ {D : Type 0} {g : disk.Ghosts D} where
   abbrev pub fails_of : Store D g → Which → ℕ → Bool
   fails_of store which = g.fails (disk_of which store)
 
+  -- from which of its disks' calls on each one is to fail
+  abbrev pub ends_of : Store D g → Which → ℕ → Bool
+  ends_of store which = g.ends (disk_of which store)
+
   -- a failed call of one of its disks wasn't made
   abbrev pub is_starved : Store D g → Which → Bool
   is_starved store which = g.starved (disk_of which store)

@@ -6,7 +6,7 @@ ghost use Rattle.nqs_values.specs.Want.{want};
 ghost use Rattle.nqs_state.specs.State.{content};
 ghost use Rattle.nqs_types.specs.declared.world.Which.{Which};
 ghost use Rattle.nqs_types.specs.declared.world.Which.TheVariants.{Spool};
-ghost use Rattle.nqs_outside.specs.History.{moment};
+ghost use Rattle.nqs_outside.specs.History.{moment, IsWhole};
 ghost use Rattle.nqs_spool.specs.Extents.{Has, AreSound};
 ghost use Rattle.nqs_store.specs.Told.{Host};
 ghost use Rattle.nqs_store.specs.Disks.{contents};
@@ -90,18 +90,21 @@ impl<D: Disk> Store<D> {
 }
 
 impl<D: Fused> Store<D> {
-    ghost use Rattle.nqs_store.specs.Stores.{disk_of, history_of, fails_of, is_starved, is_stopped, active_of, Tells};
+    ghost use Rattle.nqs_store.specs.Stores.{disk_of, history_of, fails_of, ends_of, is_starved, is_stopped, active_of, Tells};
 
-    /// Makes the calls-th write or sync from here of the disk fail, and each later call of it. It
-    /// changes nothing else, and nothing where a call of that disk that was to fail was made
-    /// already.
+    /// Makes the calls-th write or sync from here of the disk fail, and each later call of it, and
+    /// no other of that disk. It changes nothing else. Where a call of that disk was made from which
+    /// on each one is to fail, that stays so.
     pub fn fuse(&mut self, which: Which, calls: u64)
         ensures same { (disk : Which) → history_of self.new disk ≡ history_of self.old disk }
         ensures set { IsTrue D.tells → ((i : ℕ) → i < moment (history_of self.old which) → fails_of self.old which i ≡ false)
             → (i : ℕ) → fails_of self.new which i ≡ nat_le (moment (history_of self.old which) + (max calls 1 - 1)) i }
-        ensures stays { IsTrue D.tells → (i : ℕ) → i < moment (history_of self.old which) → IsTrue (fails_of self.old which i)
-            → (j : ℕ) → fails_of self.new which j ≡ fails_of self.old which j }
+        ensures later { IsTrue D.tells → IsWhole (ends_of self.old which) (moment (history_of self.old which))
+            → (i : ℕ) → fails_of self.new which i ≡ nat_le (moment (history_of self.old which) + (max calls 1 - 1)) i }
+        ensures stays { IsTrue D.tells → (i : ℕ) → i < moment (history_of self.old which) → IsTrue (ends_of self.old which i)
+            → (j : ℕ) → ends_of self.new which j ≡ ends_of self.old which j }
         ensures onward { IsTrue D.tells → (i : ℕ) → IsTrue (fails_of self.new which i) → (j : ℕ) → i ≤ j → IsTrue (fails_of self.new which j) }
+        ensures alike { IsTrue D.tells → (i : ℕ) → ends_of self.new which i ≡ fails_of self.new which i }
         ensures others { (disk : Which) → disk ≢ which → (i : ℕ) → fails_of self.new disk i ≡ fails_of self.old disk i }
         ensures starved { (disk : Which) → is_starved self.new disk ≡ is_starved self.old disk }
         ensures faults { (disk : Which) → D.faults (disk_of disk self.new) ≡ D.faults (disk_of disk self.old) }
