@@ -3,9 +3,11 @@ use Rattle.std.proofs.Common.{◌≡◌, inl, inr, ℕ, Bool, IsTrue, List, [], 
 use Rattle.nqs_values.specs.Want.{want}
 use Rattle.nqs_state.specs.State.{Plain}
 use Rattle.nqs_types.specs.declared.change.Change.TheVariants.{Boot}
+use Rattle.nqs_types.specs.declared.event.Output.{Output}
 use Rattle.nqs_types.specs.declared.ids.HostId.{HostId}
 use Rattle.nqs_types.specs.declared.world.Which.{Which}
 use Rattle.nqs_rules.specs.Applied.{applied}
+use Rattle.nqs_rules.specs.Stepped.{Stepped}
 use Rattle.nqs_outside.specs.Causes.{Rose}
 use Rattle.nqs_outside.specs.History.{History}
 use Rattle.nqs_outside.specs.declared.disk.Disk as disk
@@ -20,14 +22,14 @@ use Rattle.nqs_node.specs.Carried.{after_kept, IsOneOrOther}
 use Rattle.nqs_node.specs.Nodes.{content_of, history_of, Tells}
 use Rattle.nqs_node.specs.declared.node.Node.{Node}
 use Rattle.nqs_node.proofs.Nothing.{told_images}
-use Rattle.nqs_serve.specs.Ends.{EndsWith}
+use Rattle.nqs_serve.specs.Ends.{EndsWith, Broke, IsBroken}
 use Rattle.nqs_serve.specs.Moments.{TellsThroughout, IsPassed}
-use Rattle.nqs_serve.specs.Runs.{Act, Turn, idle}
+use Rattle.nqs_serve.specs.Runs.{Act, Turn, idle, Begun}
 use Rattle.nqs_serve.proofs.Moments.{through_made, through_then, through_as}
 use Rattle.nqs_serve.specs.declared.daemon.ServeEnd.{ServeEnd}
 use Rattle.nqs_serve.specs.declared.daemon.ServeEnd.TheVariants as end
 use Rattle.nqs_clients.specs.declared.status.NqsStatus.{NqsStatus}
-use Rattle.nqs_cli.specs.Daemons.{Outside, IsUnasked, HasFailed, IsPassedSince, HasServed, HasDiskFault, Daemons, here_of}
+use Rattle.nqs_cli.specs.Daemons.{Outside, Unseen, IsUnasked, HasFailed, IsPassedSince, HasServed, HasDiskFault, Daemons, here_of}
 use Rattle.nqs_cli.specs.Ends.{status_of_fault, status_of_serve}
 use Rattle.nqs_cli.specs.Formats.{AreSame}
 
@@ -39,14 +41,21 @@ leaves node s k telling tells same =
     (subst (λ (t : Plain). EachImage (history_of node) (λ images. IsTold images t)) tells.is
     (told_images node.store (content_of node) telling tells.told))
 
--- a run ends so where more than the state is told
-pub ends_as : (P Q : Plain → Type 0) → ((s : Plain) → P s → Q s) → (so : ServeEnd) (turns : ℕ) (bs : List Bool) (t : Turn) (more : List ℕ)
-    → EndsWith P so turns bs t more → EndsWith Q so turns bs t more
-ends_as P Q f end.Shutdown turns bs t more e = (e.0, e.1, f t.state e.2, e.3)
-ends_as P Q f end.TurnsUsed turns bs t more e = (e.0, e.1, f t.state e.2, e.3, e.4)
-ends_as P Q f end.WireFault turns bs t more e = (e.0, e.1, f t.state e.2, e.3, e.4)
-ends_as P Q f end.DiskFault turns bs t more e = e
-ends_as P Q f (end.Memory memory) turns bs t more e = ((e.0.0, f e.0.0 e.0.1, e.0.2), e.1)
+unseen : (At : Plain → Type 0) (steps : List (Stepped (List ℕ))) (s : Plain) (went : List Output) (h : Which → History) → Broke At steps s went h
+    → Broke Unseen steps s went h
+unseen At steps s went h broke = record { done = broke.done; left = broke.left; are = broke.are; at = tt; out = broke.out; leaves = broke.leaves }
+
+-- a run ends so where more than the state is told, of the same disks, and the host is seen no more
+pub ends_as : (P Q At : Plain → Type 0) (h k : Which → History) → ((s : Plain) → P s → Q s) → ((which : Which) → k which ≡ h which) → (so : ServeEnd) (turns : ℕ)
+    (bs : List Bool) (t : Turn) (more : Begun)
+    → EndsWith P At h so turns bs t more → EndsWith Q Unseen k so turns bs t more
+ends_as P Q At h k f same end.Shutdown turns bs t more e = (e.0, e.1, f t.state e.2, e.3)
+ends_as P Q At h k f same end.TurnsUsed turns bs t more e = (e.0, e.1, f t.state e.2, e.3, e.4)
+ends_as P Q At h k f same end.WireFault turns bs t more e = (e.0, e.1, f t.state e.2, e.3, e.4)
+ends_as P Q At h k f same end.DiskFault turns bs t more e =
+    let broken : IsBroken Unseen t more h = (e.0.0, e.0.1, e.0.2, e.0.3, e.0.4, e.0.5, unseen At _ _ _ h e.0.6) in
+    subst (λ (x : Which → History). EndsWith Q Unseen x end.DiskFault turns bs t more) (λ j which. sym (same which) j) (broken, e.1)
+ends_as P Q At h k f same (end.Memory memory) turns bs t more e = ((e.0.0, f e.0.0 e.0.1, e.0.2), e.1)
 
 -- at each moment of the boot and of the run after it
 pub since_boot : (a b : Active) (old mid new now : Which → History) (s : Plain) (acts : List Act) (more : List ℕ)

@@ -22,7 +22,7 @@ use Rattle.nqs_node.specs.Carried.{IsBrokenOff, IsOneOrOther}
 use Rattle.nqs_serve.specs.Ends.{EndsWith, stops}
 use Rattle.nqs_serve.specs.Events.{Here}
 use Rattle.nqs_serve.specs.Moments.{TellsThroughout, IsPassed}
-use Rattle.nqs_serve.specs.Runs.{Act, Turn, idle, Telling, telling, Ran}
+use Rattle.nqs_serve.specs.Runs.{Act, Turn, idle, Telling, telling, Begun, Ran}
 use Rattle.nqs_serve.specs.declared.daemon.ServeEnd.{ServeEnd}
 use Rattle.nqs_serve.specs.declared.daemon.ServeEnd.TheVariants as end
 use Rattle.nqs_clients.specs.declared.status.NqsStatus.{NqsStatus}
@@ -61,6 +61,10 @@ IsThere d s = IsTold (contents d.histories) s
 abbrev pub Leaves : DisksTold → Plain → Type 0
 Leaves d s = EachImage d.histories (λ images. IsTold images s)
 
+-- a host at whatever state: its parts came back, and nobody sees it
+abbrev pub Unseen : Plain → Type 0
+Unseen s = Unit {0}
+
 -- by what a read gives the root names this journal, which can be read
 abbrev pub IsNamed : DisksTold → Active → Type 0
 IsNamed d a = IsActive (contents d.histories) a
@@ -88,9 +92,9 @@ IsPassedSince s acts more u = (u ≡ s) ⊎ IsPassed (here_of s) (idle (applied 
 -- The disks told this host of this site. It was booted, and served until so an end: a run of the daemon from the state after the boot.
 abbrev pub HasServed : Bool → HostId → List (List ℕ) → ℕ → Outside → Outside → ServeEnd → Type 0
 HasServed tells me names turns was now end = IsTrue tells → (s : Plain) × IsThere was.disks s × (is_here me names s ≡ true)
-    × ((acts : List Act) × (t : Turn) × (more : List ℕ) × Ran (here_of s) acts (idle (applied Boot s)) t more (telling_of was) (telling_of now)
-    × EndsWith (Leaves now.disks) end turns (stops (here_of s) (idle (applied Boot s)) acts) t more
-    × ((a : Active) × IsNamed was.disks a × TellsThroughout a was.disks.histories now.disks.histories (IsPassedSince s acts more)))
+    × ((acts : List Act) × (t : Turn) × (more : Begun) × Ran (here_of s) acts (idle (applied Boot s)) t more (telling_of was) (telling_of now)
+    × EndsWith (Leaves now.disks) Unseen now.disks.histories end turns (stops (here_of s) (idle (applied Boot s)) acts) t more
+    × ((a : Active) × IsNamed was.disks a × TellsThroughout a was.disks.histories now.disks.histories (IsPassedSince s acts more.moments)))
 
 -- The disks tell no host, or another, which was booted: it runs nothing, and what ran there starts again or is lost.
 abbrev pub IsNotOurs : HostId → List (List ℕ) → DisksTold → DisksTold → Type 0

@@ -4,3 +4,5 @@
 
 #[cfg(test)]
 mod packets;
+#[cfg(test)]
+mod turned;

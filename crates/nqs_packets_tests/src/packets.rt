@@ -15,7 +15,7 @@ const OFFER: &[u8] = b"\x01\x01\x00\x01\x00\x00\x00\x00\x00\x00\x00\x02\x05batch
 const ASK: &[u8] = b"\x01\x0a\x00\x00\x00\x09\x00\x00\x00\x00\x00\x00\x00\x05\x03ann\x03\
 \x00\x02\x00\x00\x00\x02-k\x00\x00\x00\x077.alpha\x00\x00\x00\x00";
 
-const MESSAGES: [&[u8]; 13] = [
+pub(crate) const MESSAGES: [&[u8]; 13] = [
     OFFER,
     b"\x01\x02\x01\x00\xff\xff\xff\xff\xff\xff\xff\xff",
     b"\x01\x03\x01\x00\x00\x00\x00\x00\x00\x00\x00\x01\x21",
@@ -120,7 +120,7 @@ fn reads_the_fields(rt: HostRuntime) {
     assert_eq!(rt; read, (true, true, true));
 }
 
-fn fault(alloc: Global, bytes: &[u8]) -> Option<PacketFault> {
+pub(crate) fn fault(alloc: Global, bytes: &[u8]) -> Option<PacketFault> {
     read_message(alloc, bytes).err()
 }
 

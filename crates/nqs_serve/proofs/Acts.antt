@@ -14,8 +14,8 @@ use Rattle.nqs_outside.proofs.Told.{extends_none, extends_then, extends_same}
 use Rattle.nqs_serve.specs.Events.{Here, event_in, stops_by}
 use Rattle.nqs_serve.specs.Steps.{after_event, outputs}
 use Rattle.nqs_serve.specs.Runs.{Act, received, took, Turn, turn, idle, Outcome, outputs_in, brought_back, event_back, come_back, next, after, IsRun}
-use Rattle.nqs_serve.specs.Runs.{arrivals_of, moments_of, outcomes_of, arrivals, moments, outcomes, packets, packets_by, asked, asked_by, prints, prints_by}
-use Rattle.nqs_serve.specs.Runs.{filings, filings_by, Telling, telling, Grew, Ran}
+use Rattle.nqs_serve.specs.Runs.{arrivals_of, moments_of, outcomes_of, arrivals, moments, packets, packets_by, asked, asked_by, prints, prints_by}
+use Rattle.nqs_serve.specs.Runs.{filings, filings_by, Telling, telling, Begun, none_begun, begun, carried, Grew, Ran}
 use Rattle.nqs_serve.specs.Ends.{stop_of, stops}
 use Rattle.nqs_serve.specs.declared.comeback.Comeback.{Comeback}
 
@@ -43,17 +43,23 @@ module _ (here : Here) where
 pub arrivals_append : (xs ys : List Act) → arrivals (xs ++ ys) ≡ arrivals xs ++ arrivals ys
 arrivals_append xs ys = flat_map-append arrivals_of xs ys
 
-of_outcomes : {A : Type 0} (f : Outcome → List A) (xs ys : List Act) → flat_map f (outcomes xs) ++ flat_map f (outcomes ys) ≡ flat_map f (outcomes (xs ++ ys))
-of_outcomes f xs ys = sym (ap (flat_map f) (flat_map-append outcomes_of xs ys) ∙ flat_map-append f (outcomes xs) (outcomes ys))
+-- lists of acts, and of an event that was cut off behind them
+of_acts : {A : Type 0} (f : Act → List A) (xs ys : List Act) (more : List A) → (flat_map f xs ++ []) ++ (flat_map f ys ++ more) ≡ flat_map f (xs ++ ys) ++ more
+of_acts {A} f xs ys more =
+    append_assoc (flat_map f xs) [] (flat_map f ys ++ more)
+    ∙ sym (append_assoc (flat_map f xs) (flat_map f ys) more)
+    ∙ ap (λ (l : List A). l ++ more) (sym (flat_map-append f xs ys))
+
+of_carried : {A : Type 0} (f : Outcome → List A) (xs ys : List Act) (more : Begun)
+    → flat_map f (carried xs none_begun) ++ flat_map f (carried ys more) ≡ flat_map f (carried (xs ++ ys) more)
+of_carried f xs ys more =
+    sym (flat_map-append f (carried xs none_begun) (carried ys more)) ∙ ap (flat_map f) (of_acts outcomes_of xs ys more.outcomes)
 
 pub of_moments : (xs ys : List Act) (more : List ℕ) → (moments xs ++ []) ++ (moments ys ++ more) ≡ moments (xs ++ ys) ++ more
-of_moments xs ys more =
-    append_assoc (moments xs) [] (moments ys ++ more)
-    ∙ sym (append_assoc (moments xs) (moments ys) more)
-    ∙ ap (λ (l : List ℕ). l ++ more) (sym (flat_map-append moments_of xs ys))
+of_moments xs ys more = of_acts moments_of xs ys more
 
 module _ (here : Here) where
-  pub grew_none : (t : Telling) → Grew here [] [] t t
+  pub grew_none : (t : Telling) → Grew here [] none_begun t t
   grew_none t = record {
     received = extends_none t.received;
     sent = extends_none t.sent;
@@ -63,30 +69,31 @@ module _ (here : Here) where
     given = extends_none t.given;
   }
 
-  pub grew_then : (xs ys : List Act) (more : List ℕ) (a b c : Telling) → Grew here xs [] a b → Grew here ys more b c → Grew here (xs ++ ys) more a c
+  pub grew_then : (xs ys : List Act) (more : Begun) (a b c : Telling) → Grew here xs none_begun a b → Grew here ys more b c → Grew here (xs ++ ys) more a c
   grew_then xs ys more a b c one two = record {
     received = extends_same a.received c.received (arrivals xs ++ arrivals ys) (arrivals (xs ++ ys)) (sym (arrivals_append xs ys))
         (extends_then a.received b.received c.received (arrivals xs) (arrivals ys) one.received two.received);
-    sent = extends_same a.sent c.sent (packets here (outcomes xs) ++ packets here (outcomes ys)) (packets here (outcomes (xs ++ ys)))
-        (of_outcomes (λ (o : Outcome). packets_by here o.output) xs ys)
-        (extends_then a.sent b.sent c.sent (packets here (outcomes xs)) (packets here (outcomes ys)) one.sent two.sent);
-    asked = extends_same a.asked c.asked (asked (outcomes xs) ++ asked (outcomes ys)) (asked (outcomes (xs ++ ys)))
-        (of_outcomes (λ (o : Outcome). asked_by o.output o.ok) xs ys)
-        (extends_then a.asked b.asked c.asked (asked (outcomes xs)) (asked (outcomes ys)) one.asked two.asked);
-    prints = extends_same a.prints c.prints (prints (outcomes xs) ++ prints (outcomes ys)) (prints (outcomes (xs ++ ys)))
-        (of_outcomes (λ (o : Outcome). prints_by o.output o.ok) xs ys)
-        (extends_then a.prints b.prints c.prints (prints (outcomes xs)) (prints (outcomes ys)) one.prints two.prints);
-    filings = extends_same a.filings c.filings (filings (outcomes xs) ++ filings (outcomes ys)) (filings (outcomes (xs ++ ys)))
-        (of_outcomes (λ (o : Outcome). filings_by o.output o.ok) xs ys)
-        (extends_then a.filings b.filings c.filings (filings (outcomes xs)) (filings (outcomes ys)) one.filings two.filings);
-    given = extends_same a.given c.given ((moments xs ++ []) ++ (moments ys ++ more)) (moments (xs ++ ys) ++ more) (of_moments xs ys more)
-        (extends_then a.given b.given c.given (moments xs ++ []) (moments ys ++ more) one.given two.given);
+    sent = extends_same a.sent c.sent (packets here (carried xs none_begun) ++ packets here (carried ys more)) (packets here (carried (xs ++ ys) more))
+        (of_carried (λ (o : Outcome). packets_by here o.output) xs ys more)
+        (extends_then a.sent b.sent c.sent (packets here (carried xs none_begun)) (packets here (carried ys more)) one.sent two.sent);
+    asked = extends_same a.asked c.asked (asked (carried xs none_begun) ++ asked (carried ys more)) (asked (carried (xs ++ ys) more))
+        (of_carried (λ (o : Outcome). asked_by o.output o.ok) xs ys more)
+        (extends_then a.asked b.asked c.asked (asked (carried xs none_begun)) (asked (carried ys more)) one.asked two.asked);
+    prints = extends_same a.prints c.prints (prints (carried xs none_begun) ++ prints (carried ys more)) (prints (carried (xs ++ ys) more))
+        (of_carried (λ (o : Outcome). prints_by o.output o.ok) xs ys more)
+        (extends_then a.prints b.prints c.prints (prints (carried xs none_begun)) (prints (carried ys more)) one.prints two.prints);
+    filings = extends_same a.filings c.filings (filings (carried xs none_begun) ++ filings (carried ys more)) (filings (carried (xs ++ ys) more))
+        (of_carried (λ (o : Outcome). filings_by o.output o.ok) xs ys more)
+        (extends_then a.filings b.filings c.filings (filings (carried xs none_begun)) (filings (carried ys more)) one.filings two.filings);
+    given = extends_same a.given c.given ((moments xs ++ []) ++ (moments ys ++ more.moments)) (moments (xs ++ ys) ++ more.moments)
+        (of_moments xs ys more.moments)
+        (extends_then a.given b.given c.given (moments xs ++ []) (moments ys ++ more.moments) one.given two.given);
   }
 
-  pub ran_none : (t : Turn) (a : Telling) → Ran here [] t t [] a a
+  pub ran_none : (t : Turn) (a : Telling) → Ran here [] t t none_begun a a
   ran_none t a = record { run = tt; leads = refl; grew = grew_none a }
 
-  pub ran_then : (xs ys : List Act) (t u v : Turn) (more : List ℕ) (a b c : Telling) → Ran here xs t u [] a b → Ran here ys u v more b c
+  pub ran_then : (xs ys : List Act) (t u v : Turn) (more : Begun) (a b c : Telling) → Ran here xs t u none_begun a b → Ran here ys u v more b c
       → Ran here (xs ++ ys) t v more a c
   ran_then xs ys t u v more a b c one two =
       let run_on : IsRun here (after here t xs) ys = rw one.leads two.run in
@@ -101,24 +108,24 @@ module _ (here : Here) where
   stops_then xs ys t u leads = stops_append here t xs ys ∙ ap (λ w. stops here t xs ++ stops here w ys) leads
 
 -- a receive when nothing waits
-pub ran_received : (here : Here) (s : Plain) (a : Arrival) (e : Option Event) (was now : Telling) → e ≡ event_in here a → Grew here (received a ∷ []) [] was now
-    → Ran here (received a ∷ []) (idle s) (turn s (option_to_list e)) [] was now
+pub ran_received : (here : Here) (s : Plain) (a : Arrival) (e : Option Event) (was now : Telling) → e ≡ event_in here a → Grew here (received a ∷ []) none_begun was now
+    → Ran here (received a ∷ []) (idle s) (turn s (option_to_list e)) none_begun was now
 ran_received here s a e was now is grew = record { run = (refl, tt); leads = ap (λ (o : Option Event). turn s (option_to_list o)) (sym is); grew = grew }
 
 -- the next event was taken
 pub ran_took : (here : Here) (s : Plain) (e : Event) (es : List Event) (m : ℕ) (os : List Outcome) (was now : Telling) → outputs_in os ≡ outputs m e s
-    → Grew here (took m os ∷ []) [] was now
-    → Ran here (took m os ∷ []) (turn s (e ∷ es)) (turn (after_event m e s) (es ++ come_back os)) [] was now
+    → Grew here (took m os ∷ []) none_begun was now
+    → Ran here (took m os ∷ []) (turn s (e ∷ es)) (turn (after_event m e s) (es ++ come_back os)) none_begun was now
 ran_took here s e es m os was now same grew = record { run = (same, tt); leads = refl; grew = grew }
 
--- nothing was carried out
-pub ran_cut : (here : Here) (t : Turn) (more : List ℕ) (was now : Telling) → Grew here [] more was now → Ran here [] t t more was now
+-- no act, and an event that was cut off, or none
+pub ran_cut : (here : Here) (t : Turn) (more : Begun) (was now : Telling) → Grew here [] more was now → Ran here [] t t more was now
 ran_cut here t more was now grew = record { run = tt; leads = refl; grew = grew }
 
 -- the clock was read, and nothing else was asked
 pub clock_grew : (here : Here) (r : Option (List Arrival)) (s : Option (List Packet)) (a : Option (List Asked)) (p : Option (List Print))
     (f : Option (List Filing)) (c0 c1 : Option (List ℕ)) (m : ℕ)
-    → Extends c0 c1 (m ∷ []) → Grew here [] (m ∷ []) (telling r s a p f c0) (telling r s a p f c1)
+    → Extends c0 c1 (m ∷ []) → Grew here [] (begun m []) (telling r s a p f c0) (telling r s a p f c1)
 clock_grew here r s a p f c0 c1 m given = record {
   received = extends_none r;
   sent = extends_none s;
@@ -128,20 +135,27 @@ clock_grew here r s a p f c0 c1 m given = record {
   given = given;
 }
 
+-- the clock was read, and these were carried out
+pub cut_grew : (here : Here) (m : ℕ) (os : List Outcome) (was now : Telling) → Extends was.received now.received []
+    → Extends was.sent now.sent (packets here os) → Extends was.asked now.asked (asked os)
+    → Extends was.prints now.prints (prints os) → Extends was.filings now.filings (filings os) → Extends was.given now.given (m ∷ [])
+    → Grew here [] (begun m os) was now
+cut_grew here m os was now r s a p f c = record { received = r; sent = s; asked = a; prints = p; filings = f; given = c }
+
 -- the same of a list of outcomes, and of the act that has them
-alone : {A : Type 0} (f : Outcome → List A) (os : List Outcome) → flat_map f os ≡ flat_map f (os ++ [])
-alone f os = ap (flat_map f) (sym (append-nil os))
+alone : {A : Type 0} (f : Outcome → List A) (os : List Outcome) → flat_map f os ≡ flat_map f ((os ++ []) ++ [])
+alone f os = ap (flat_map f) (sym (append-nil os) ∙ sym (append-nil (os ++ [])))
 
 pub took_grew : (here : Here) (m : ℕ) (os : List Outcome) (was now : Telling) → Extends was.received now.received []
     → Extends was.sent now.sent (packets here os) → Extends was.asked now.asked (asked os)
     → Extends was.prints now.prints (prints os) → Extends was.filings now.filings (filings os) → Extends was.given now.given (m ∷ [])
-    → Grew here (took m os ∷ []) [] was now
+    → Grew here (took m os ∷ []) none_begun was now
 took_grew here m os was now r s a p f c = record {
   received = r;
-  sent = extends_same was.sent now.sent (packets here os) (packets here (os ++ [])) (alone (λ (o : Outcome). packets_by here o.output) os) s;
-  asked = extends_same was.asked now.asked (asked os) (asked (os ++ [])) (alone (λ (o : Outcome). asked_by o.output o.ok) os) a;
-  prints = extends_same was.prints now.prints (prints os) (prints (os ++ [])) (alone (λ (o : Outcome). prints_by o.output o.ok) os) p;
-  filings = extends_same was.filings now.filings (filings os) (filings (os ++ [])) (alone (λ (o : Outcome). filings_by o.output o.ok) os) f;
+  sent = extends_same was.sent now.sent (packets here os) (packets here ((os ++ []) ++ [])) (alone (λ (o : Outcome). packets_by here o.output) os) s;
+  asked = extends_same was.asked now.asked (asked os) (asked ((os ++ []) ++ [])) (alone (λ (o : Outcome). asked_by o.output o.ok) os) a;
+  prints = extends_same was.prints now.prints (prints os) (prints ((os ++ []) ++ [])) (alone (λ (o : Outcome). prints_by o.output o.ok) os) p;
+  filings = extends_same was.filings now.filings (filings os) (filings ((os ++ []) ++ [])) (alone (λ (o : Outcome). filings_by o.output o.ok) os) f;
   given = c;
 }
 
@@ -149,45 +163,46 @@ took_grew here m os was now r s a p f c = record {
 pub took_back : (here : Here) (acts : List Act) (start : Turn) (u : Plain) (e : Event) (x : Comeback) (queue rest new : List Comeback) (m : ℕ)
     (os : List Outcome) (a b c : Telling)
     → queue ≡ x ∷ rest → e ≡ event_back x → new ≡ rest ++ brought_back os → outputs_in os ≡ outputs m e u
-    → Ran here acts start (turn u (map event_back queue)) [] a b → Grew here (took m os ∷ []) [] b c
-    → Ran here (acts ++ took m os ∷ []) start (turn (after_event m e u) (map event_back new)) [] a c
+    → Ran here acts start (turn u (map event_back queue)) none_begun a b → Grew here (took m os ∷ []) none_begun b c
+    → Ran here (acts ++ took m os ∷ []) start (turn (after_event m e u) (map event_back new)) none_begun a c
 took_back here acts start u e x queue rest new m os a b c split is grown same ran grew =
     let waits : map event_back queue ≡ e ∷ map event_back rest = ap (map event_back) split ∙ ap (λ v. v ∷ map event_back rest) (sym is) in
-    let first : Ran here acts start (turn u (e ∷ map event_back rest)) [] a b = subst (λ (w : List Event). Ran here acts start (turn u w) [] a b) waits ran in
+    let first : Ran here acts start (turn u (e ∷ map event_back rest)) none_begun a b = subst (λ (w : List Event). Ran here acts start (turn u w) none_begun a b) waits ran in
     let waits_then : map event_back rest ++ come_back os ≡ map event_back new =
     sym (map-append event_back rest (brought_back os)) ∙ ap (map event_back) (sym grown) in
-    subst (λ (w : List Event). Ran here (acts ++ took m os ∷ []) start (turn (after_event m e u) w) [] a c) waits_then
-    (ran_then here acts (took m os ∷ []) start (turn u (e ∷ map event_back rest)) _ [] a b c first (ran_took here u e (map event_back rest) m os b c same grew))
+    subst (λ (w : List Event). Ran here (acts ++ took m os ∷ []) start (turn (after_event m e u) w) none_begun a c) waits_then
+    (ran_then here acts (took m os ∷ []) start (turn u (e ∷ map event_back rest)) _ none_begun a b c first (ran_took here u e (map event_back rest) m os b c same grew))
 
 -- the next one was cut off
-pub cut_back : (here : Here) (acts : List Act) (start : Turn) (u : Plain) (e : Event) (x : Comeback) (queue rest : List Comeback) (m : ℕ) (a b c : Telling)
+pub cut_back : (here : Here) (acts : List Act) (start : Turn) (u : Plain) (e : Event) (x : Comeback) (queue rest : List Comeback) (m : ℕ)
+    (os : List Outcome) (a b c : Telling)
     → queue ≡ x ∷ rest → e ≡ event_back x
-    → Ran here acts start (turn u (map event_back queue)) [] a b → Grew here [] (m ∷ []) b c
-    → Ran here (acts ++ []) start (turn u (e ∷ map event_back rest)) (m ∷ []) a c
-cut_back here acts start u e x queue rest m a b c split is ran grew =
+    → Ran here acts start (turn u (map event_back queue)) none_begun a b → Grew here [] (begun m os) b c
+    → Ran here (acts ++ []) start (turn u (e ∷ map event_back rest)) (begun m os) a c
+cut_back here acts start u e x queue rest m os a b c split is ran grew =
     let waits : map event_back queue ≡ e ∷ map event_back rest = ap (map event_back) split ∙ ap (λ v. v ∷ map event_back rest) (sym is) in
-    let first : Ran here acts start (turn u (e ∷ map event_back rest)) [] a b = subst (λ (w : List Event). Ran here acts start (turn u w) [] a b) waits ran in
-    ran_then here acts [] start (turn u (e ∷ map event_back rest)) _ (m ∷ []) a b c first (ran_cut here (turn u (e ∷ map event_back rest)) (m ∷ []) b c grew)
+    let first : Ran here acts start (turn u (e ∷ map event_back rest)) none_begun a b = subst (λ (w : List Event). Ran here acts start (turn u w) none_begun a b) waits ran in
+    ran_then here acts [] start (turn u (e ∷ map event_back rest)) _ (begun m os) a b c first (ran_cut here (turn u (e ∷ map event_back rest)) (begun m os) b c grew)
 
 -- a receive asks nothing else
 pub received_grew : (here : Here) (arrival : Arrival) (r0 r1 : Option (List Arrival)) (s0 s1 : Option (List Packet)) (a : Option (List Asked))
     (p : Option (List Print)) (f : Option (List Filing)) (c : Option (List ℕ))
-    → Extends r0 r1 (arrival ∷ []) → Extends s0 s1 [] → Grew here (received arrival ∷ []) [] (telling r0 s0 a p f c) (telling r1 s1 a p f c)
+    → Extends r0 r1 (arrival ∷ []) → Extends s0 s1 [] → Grew here (received arrival ∷ []) none_begun (telling r0 s0 a p f c) (telling r1 s1 a p f c)
 received_grew here arrival r0 r1 s0 s1 a p f c came sent =
     record { received = came; sent = sent; asked = extends_none a; prints = extends_none p; filings = extends_none f; given = extends_none c }
 
 -- a receive that failed
 pub missed_grew : (here : Here) (r0 r1 : Option (List Arrival)) (s0 s1 : Option (List Packet)) (a : Option (List Asked)) (p : Option (List Print))
     (f : Option (List Filing)) (c : Option (List ℕ))
-    → Extends r0 r1 [] → Extends s0 s1 [] → Grew here [] [] (telling r0 s0 a p f c) (telling r1 s1 a p f c)
+    → Extends r0 r1 [] → Extends s0 s1 [] → Grew here [] none_begun (telling r0 s0 a p f c) (telling r1 s1 a p f c)
 missed_grew here r0 r1 s0 s1 a p f c lost sent =
     record { received = lost; sent = sent; asked = extends_none a; prints = extends_none p; filings = extends_none f; given = extends_none c }
 
 -- a receive, its event, and those that come back of it
 pub ran_turn : (here : Here) (arrival : Arrival) (m : ℕ) (os : List Outcome) (acts : List Act) (s : Plain) (e : Event) (old back : List Comeback) (v : Turn)
-    (more : List ℕ) (t0 t1 t2 t3 : Telling)
+    (more : Begun) (t0 t1 t2 t3 : Telling)
     → Some e ≡ event_in here arrival → old ≡ [] → back ≡ old ++ brought_back os → outputs_in os ≡ outputs m e s
-    → Grew here (received arrival ∷ []) [] t0 t1 → Grew here (took m os ∷ []) [] t1 t2
+    → Grew here (received arrival ∷ []) none_begun t0 t1 → Grew here (took m os ∷ []) none_begun t1 t2
     → Ran here acts (turn (after_event m e s) (map event_back back)) v more t2 t3
     → Ran here (received arrival ∷ took m os ∷ acts) (idle s) v more t0 t3
 ran_turn here arrival m os acts s e old back v more t0 t1 t2 t3 some empty grown same came took_it rest =
@@ -195,7 +210,7 @@ ran_turn here arrival m os acts s e old back v more t0 t1 t2 t3 some empty grown
     let third : Ran here acts (turn (after_event m e s) (come_back os)) v more t2 t3 =
     subst (λ (q : List Comeback). Ran here acts (turn (after_event m e s) (map event_back q)) v more t2 t3) back_is rest in
     ran_then here (received arrival ∷ took m os ∷ []) acts (idle s) _ v more t0 t2 t3
-    (ran_then here (received arrival ∷ []) (took m os ∷ []) (idle s) (turn s (e ∷ [])) _ [] t0 t1 t2 (ran_received here s arrival (Some e) t0 t1 some came)
+    (ran_then here (received arrival ∷ []) (took m os ∷ []) (idle s) (turn s (e ∷ [])) _ none_begun t0 t1 t2 (ran_received here s arrival (Some e) t0 t1 some came)
     (ran_took here s e [] m os t1 t2 same took_it))
     third
 
@@ -207,5 +222,5 @@ turn_stops here s arrival m os acts none = ap (λ (l : List Bool). stops_by (eve
 
 -- nothing waits
 pub ran_empty : (here : Here) (acts : List Act) (start : Turn) (u : Plain) (queue : List Comeback) (a b : Telling) → queue ≡ []
-    → Ran here acts start (turn u (map event_back queue)) [] a b → Ran here acts start (idle u) [] a b
-ran_empty here acts start u queue a b empty ran = subst (λ (q : List Comeback). Ran here acts start (turn u (map event_back q)) [] a b) empty ran
+    → Ran here acts start (turn u (map event_back queue)) none_begun a b → Ran here acts start (idle u) none_begun a b
+ran_empty here acts start u queue a b empty ran = subst (λ (q : List Comeback). Ran here acts start (turn u (map event_back q)) none_begun a b) empty ran

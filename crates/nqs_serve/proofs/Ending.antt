@@ -1,12 +1,14 @@
 -- Which receives stopped, and how a run ends after another.
-use Rattle.std.proofs.Common.{◌≡◌, ℕ, ◌<◌, List, [], ◌∷◌, ◌++◌, refl, ap, sym, ◌∙◌, Bool, false, true, length, length-append, append_assoc, arith}
+use Rattle.std.proofs.Common.{◌≡◌, ℕ, ◌<◌, List, [], ◌∷◌, ◌++◌, refl, ap, sym, ◌∙◌, Bool, false, true, length, length-append, append_assoc, arith, Err, IsErrOf}
 use Rattle.nqs_values.specs.Want.{want}
+use Rattle.nqs_values.specs.declared.memory.Memory.{Memory}
 use Rattle.nqs_outside.specs.declared.disk.Disk as disk
 use Rattle.nqs_state.specs.State.{Plain}
 use Rattle.nqs_node.specs.declared.node.Node.{Node}
-use Rattle.nqs_node.specs.Nodes.{Tells}
-use Rattle.nqs_serve.specs.Runs.{Turn}
-use Rattle.nqs_serve.specs.Ends.{NoneStops, Receives, Ends, IsCut, IsCutAt, fault_of, end_of}
+use Rattle.nqs_node.specs.Nodes.{Tells, history_of}
+use Rattle.nqs_serve.specs.Nodes.{IsAt}
+use Rattle.nqs_serve.specs.Runs.{Turn, Begun}
+use Rattle.nqs_serve.specs.Ends.{NoneStops, Receives, Ends, IsCutAt, IsBroken, UnlessWant, fault_of, end_of}
 use Rattle.nqs_serve.specs.declared.cut.Cut.{Cut}
 use Rattle.nqs_serve.specs.declared.cut.Cut.TheVariants as cut
 use Rattle.nqs_serve.specs.declared.daemon.ServeEnd.TheVariants as serve_end
@@ -50,7 +52,7 @@ disk_end (fault.Memory memory) is = cc
 
 module _ {D : Type 0} {g : disk.Ghosts D} where
   -- turns that went on, and one that was cut off
-  pub ends_then : (f : Fault) (turns : ℕ) (xs bs : List Bool) (t : Turn) (more : List ℕ) (node : Node D g) → NoneStops xs → length xs < turns
+  pub ends_then : (f : Fault) (turns : ℕ) (xs bs : List Bool) (t : Turn) (more : Begun) (node : Node D g) → NoneStops xs → length xs < turns
       → Ends (end_of f) 1 bs t more node → Ends (end_of f) turns (xs ++ bs) t more node
   ends_then fault.Wire turns xs bs t more node none few ends =
       (ends.0, ends.1, ends.2, none_both xs bs none ends.3, (let less : length (xs ++ bs) < turns = omega (arith, length-append xs bs, few, ends.4) in less))
@@ -58,7 +60,24 @@ module _ {D : Type 0} {g : disk.Ghosts D} where
   ends_then (fault.Memory memory) turns xs bs t more node none few ends = (ends.0, receives_then turns xs bs none few ends.1)
 
   -- an event that was cut off
-  pub cut_ends : (k : Cut) (bs : List Bool) (t : Turn) (more : List ℕ) (node : Node D g) → IsCut t more
-      → (k ≡ cut.Memory want → (u : Plain) × Tells node u × IsCutAt t more u) → Receives 1 bs → Ends (end_of (fault_of k)) 1 bs t more node
-  cut_ends cut.Disk bs t more node is known one = (is, one)
-  cut_ends (cut.Memory memory) bs t more node is known one = (known refl, one)
+  pub cut_ends : (k : Cut) (bs : List Bool) (t : Turn) (more : Begun) (node : Node D g)
+      → (k ≡ cut.Memory want → (u : Plain) × Tells node u × IsCutAt t more u) → (k ≡ cut.Disk → IsBroken (IsAt node) t more (history_of node)) → Receives 1 bs
+      → Ends (end_of (fault_of k)) 1 bs t more node
+  cut_ends cut.Disk bs t more node known broke one = (broke refl, one)
+  cut_ends (cut.Memory memory) bs t more node known broke one = (known refl, one)
+
+-- what holds, holds unless memory ran out
+pub unless_memory : (k : Cut) (P : Type 0) → P → UnlessWant k P
+unless_memory cut.Disk P p = p
+unless_memory (cut.Memory memory) P p = tt
+
+-- a disk's fault is no want of memory
+pub unless_disk : (k : Cut) (P : Type 0) → k ≡ cut.Disk → UnlessWant k P → P
+unless_disk cut.Disk P is p = p
+unless_disk (cut.Memory memory) P is p = cc
+
+pub memory_is_no_disk : {T : Type 0} (memory : Memory) → IsErrOf {T = T} (Err (cut.Memory memory)) cut.Disk → ⊥
+memory_is_no_disk memory is = cc
+
+pub disk_is_no_memory : {T : Type 0} (memory : Memory) → IsErrOf {T = T} (Err cut.Disk) (cut.Memory memory) → ⊥
+disk_is_no_memory memory is = cc

@@ -1,10 +1,10 @@
 -- Laws of outcomes.
-use Rattle.std.proofs.Common.{◌≡◌, ℕ, ◌+◌, ◌<◌, ◌≤◌, List, [], ◌∷◌, ◌++◌, map, filter, take, length, length-append, get_or, sym, ap, ◌∙◌, Bool, true, false}
+use Rattle.std.proofs.Common.{◌≡◌, ℕ, ◌+◌, ◌<◌, ◌≤◌, List, [], ◌∷◌, ◌++◌, map, filter, take, length, length-append, get_or, sym, ap, subst, ◌∙◌, Bool, true, false}
 use Rattle.std.proofs.Common.{Option, arith}
 use Rattle.std.specs.List.{flat_map}
 use Rattle.std.specs.Option.{option_to_list}
-use Rattle.std.proofs.lemmas.List.{append-nil, get_or-map, take_more}
-use Rattle.std.proofs.Math.Seq.{take-length}
+use Rattle.std.proofs.lemmas.List.{append-nil, get_or-map, length-map, take_more}
+use Rattle.std.proofs.Math.Seq.{take-length, take-append_seam}
 use Rattle.std.proofs.lemmas.List.Elements.{filter-append}
 use Rattle.std.proofs.lemmas.Grind.{flat_map-append}
 use Rattle.nqs_types.specs.declared.event.Output.{Output}
@@ -12,7 +12,10 @@ use Rattle.nqs_types.specs.declared.event.Output.TheVariants as out
 use Rattle.nqs_outside.specs.Told.{Extends}
 use Rattle.nqs_outside.proofs.Told.{extends_then, extends_same}
 use Rattle.nqs_back.specs.Back.{brings_back, comebacks}
+use Rattle.nqs_serve.specs.Events.{Here}
+use Rattle.nqs_serve.specs.Letters.{letter_of, AreReady}
 use Rattle.nqs_serve.specs.Runs.{Outcome, comeback_of}
+use Rattle.nqs_serve.specs.declared.letter.Letter.{Letter}
 
 -- one outcome more, in a list of what outcomes ask
 pub one_more : {A : Type 0} (f : Outcome → List A) (os : List Outcome) (o : Outcome) → flat_map f os ++ f o ≡ flat_map f (os ++ o ∷ [])
@@ -65,3 +68,20 @@ taken_more xs i x less is = take_more xs i x less ∙ ap (λ v. take i xs ++ v �
 
 pub taken_all : {A : Type 0} (xs : List A) (i : ℕ) → length xs ≤ i → i ≤ length xs → take i xs ≡ xs
 taken_all xs i from to = let same : i ≡ length xs = omega (arith, from, to) in ap (λ n. take n xs) same ∙ take-length xs
+
+-- those that have their datagrams are the first
+pub ready_front : (here : Here) (was went now : List Output) (letters : List (Option Letter)) → now ≡ was ++ went → AreReady here was letters
+    → AreReady here (take (length letters) now) letters
+ready_front here was went now letters grown ready =
+    let count : length letters ≡ length was = ap (λ (l : List (Option Letter)). length l) ready ∙ length-map was (letter_of here) in
+    ready ∙ ap (map (letter_of here)) (sym (ap (λ n. take n now) count ∙ ap (take (length was)) grown ∙ take-append_seam was went))
+
+-- all of them have theirs, where a call that adds the others says so
+pub ready_all : {here there : Here} {now told : List Output} {letters all : List (Option Letter)} → told ≡ now → there ≡ here
+    → AreReady here (take (length letters) now) letters → (AreReady there (take (length letters) told) letters → AreReady there told all)
+    → AreReady here now all
+ready_all {here} {there} {now} {told} {letters} {all} is_told is_here front adds =
+    subst (λ (h : Here). AreReady h now all) is_here
+    (subst (λ (l : List Output). AreReady there l all) is_told
+    (adds (subst (λ (l : List Output). AreReady there (take (length letters) l) letters) (sym is_told)
+    (subst (λ (h : Here). AreReady h (take (length letters) now) letters) (sym is_here) front))))

@@ -3,7 +3,7 @@ use Rattle.std.proofs.Common.{◌≡◌, inl, inr, ℕ, zero, suc, ◌+◌, ◌-
 use Rattle.std.proofs.Common.{[], ◌∷◌, ◌++◌, take, length, map, refl, sym, ap, ◌∙◌, subst, arith, append_assoc, length-append}
 use Rattle.std.proofs.lemmas.Bool.Decides.{leb_tells}
 use Rattle.std.proofs.lemmas.List.{append-nil, take-append-le}
-use Rattle.std.proofs.Math.Seq.{take-append-add}
+use Rattle.std.proofs.Math.Seq.{take-append-add, take-length}
 use Rattle.std.specs.Option.{option_to_list}
 use Rattle.nqs_state.specs.State.{Plain}
 use Rattle.nqs_types.specs.declared.change.Change.{Change}
@@ -145,6 +145,17 @@ through_change a old now (Some c) s P keeping before later = (
   keeping.made,
   λ j images le leaves. told_either s (applied c s) P before later images (keeping.told j images le leaves),
 )
+
+-- what the disks may leave at its end
+pub at_last : (a : Active) (old now : Which → History) (kept : Kept) (s : Plain) → IsOneOrOther a old now kept s
+    → EachImage now (TellsOneOf s (after_change kept s))
+at_last a old now None s still = λ images leaves. inl (still.1 images (λ which. subst (λ h. IsImage (state h) (images which)) (still.0 which) (leaves which)))
+at_last a old now (Some c) s keeping = λ images leaves.
+    keeping.told (length keeping.run) images (omega arith) (λ which. subst (λ x. IsImage x (images which)) (is which) (leaves which))
+  where
+    is : (which : Which) → state (now which) ≡ after_calls (state (old which)) (part which (take (length keeping.run) keeping.run))
+    is which = ap state (keeping.made which) ∙ state-extended (old which) (part which keeping.run)
+        ∙ ap (λ (l : List HostCall). after_calls (state (old which)) (part which l)) (sym (take-length keeping.run))
 
 -- the same, to the journal that is active then
 pub through_made : (a b : Active) (old now : Which → History) (kept : Kept) (s : Plain) (P : Plain → Type 0) → b ≡ after_kept kept a

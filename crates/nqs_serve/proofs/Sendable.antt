@@ -3,6 +3,7 @@ use Rattle.std.proofs.Common.{◌≡◌, ℕ, ◌≤◌, Bool, true, ◌&&◌, n
 use Rattle.std.specs.List.{list_all}
 use Rattle.std.specs.Option.{IfSome}
 use Rattle.std.proofs.lemmas.Bool.{and_parts, and_from, ltb-true, lt-ltb, leb-true}
+use Rattle.std.proofs.lemmas.List.{length-append, length-map}
 use Rattle.std.proofs.lemmas.List.Folds.{list_all-append}
 use Rattle.nqs_values.specs.declared.extent.Extent.{Extent}
 use Rattle.nqs_types.specs.declared.ids.HostId.{HostId}
@@ -40,6 +41,16 @@ use Rattle.nqs_node.specs.Reading.{carries_short, sends_short, AreShort as AreSh
 use Rattle.nqs_serve.specs.Sends.{has_number, bare, is_right_message, is_right_output, AreRight, is_right_event}
 use Rattle.nqs_serve.proofs.Emptied.{order_stays}
 use Rattle.nqs_serve.proofs.Right.{is_told, step_told, start_told}
+
+-- what went out stays, and more may have come
+pub alike_longer : (was now went : List Output) → map without_bytes now ≡ map without_bytes was ++ map without_bytes went → length was ≤ length now
+alike_longer was now went alike = omega (
+  arith,
+  ap (λ (l : List Output). length l) alike,
+  length-append (map without_bytes was) (map without_bytes went),
+  length-map was without_bytes,
+  length-map now without_bytes,
+)
 
 -- any request may be carried
 abbrev any : Carried → Bool

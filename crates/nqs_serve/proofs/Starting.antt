@@ -1,6 +1,6 @@
 -- Starts go on until there is none, whatever bytes are put for scripts.
 use Rattle.std.proofs.Common.{◌≡◌, ℕ, ◌<◌, ◌≤◌, true, nat_le, List, [], ◌∷◌, ◌++◌, length, Option, None, Some, is_some, zero, suc, refl, sym, ap, subst, ◌∙◌}
-use Rattle.std.proofs.Common.{arith, false, append_assoc}
+use Rattle.std.proofs.Common.{arith, Bool, false, append_assoc}
 use Rattle.std.proofs.lemmas.Simd.{map-map}
 use Rattle.std.proofs.lemmas.List.{append-nil}
 use Rattle.std.proofs.lemmas.Grind.{flat_map-append}
@@ -23,7 +23,7 @@ use Rattle.nqs_rules.proofs.QueuesOrder.{queue_is}
 use Rattle.nqs_rules.proofs.StartIs.{IsSteady, IsStart, start_is}
 use Rattle.nqs_rules.proofs.Lowers.{lower, stays}
 use Rattle.nqs_node.specs.Carried.{started}
-use Rattle.nqs_serve.specs.Steps.{said}
+use Rattle.nqs_serve.specs.Steps.{said, after_next}
 
 module _ {E : Type 0} where
   -- a state in order is steady, whatever bytes are put for its scripts
@@ -130,3 +130,12 @@ none_started now s none = by (start now s) none
     by : (o : Option (Stepped (List ℕ))) → is_some o ≡ false → (elim o [ None ↦ quiet {E = List ℕ} | Some x ↦ x ]) ≡ quiet {E = List ℕ}
     by None e = refl
     by (Some x) e = absurd (let stop : ⊥ = cc in stop)
+
+-- the state after the next start, or as it is
+pub next_started : (now : ℕ) (s : Plain) → IsSteady s → after_next (starts now s) s ≡ after_step (started now s) s
+next_started now s calm = by (is_some (start now s)) refl
+  where
+    by : (b : Bool) → is_some (start now s) ≡ b → after_next (starts now s) s ≡ after_step (started now s) s
+    by true some = ap (λ (l : List (Stepped (List ℕ))). after_next l s) (starts_next now s calm some)
+    by false none = ap (λ (l : List (Stepped (List ℕ))). after_next l s) (starts_none now s none)
+        ∙ ap (λ (x : Stepped (List ℕ)). after_step x s) (sym (none_started now s none))

@@ -1,5 +1,5 @@
 -- What is sent: the datagram of an output, if it has one.
-use Rattle.std.specs.Prelude.{ℕ, ◌==◌, nat_le, Bool, true, false, if◌then◌else◌, List, [], ◌∷◌, ◌++◌, length, take, codes}
+use Rattle.std.specs.Prelude.{◌≡◌, ℕ, ◌==◌, nat_le, Bool, true, false, if◌then◌else◌, List, [], ◌∷◌, ◌++◌, length, map, take, codes}
 use Rattle.std.specs.declared.option.Option.{Option}
 use Rattle.std.specs.declared.option.Option.TheVariants.{None, Some}
 use Rattle.nqs_types.specs.declared.message.Message.{Message}
@@ -61,3 +61,7 @@ letter_of here _ = None
 abbrev pub packets_in : Option Letter → List Packet
 packets_in None = []
 packets_in (Some l) = packet l.to l.bytes ∷ []
+
+-- each output has its datagram, if it has one
+abbrev pub AreReady : Here → List Output → List (Option Letter) → Type 0
+AreReady here outputs letters = letters ≡ map (letter_of here) outputs

@@ -187,17 +187,34 @@ pub record Telling : Type 0 where
 abbrev pub telling : Option (List Arrival) → Option (List Packet) → Option (List Asked) → Option (List Print) → Option (List Filing) → Option (List ℕ) → Telling
 telling r s a p f c = record { received = r; sent = s; asked = a; prints = p; filings = f; given = c }
 
--- What the outside tells grew by just what these acts ask of it. The clock may have given moments more.
-pub record Grew (here : Here) (acts : List Act) (more : List ℕ) (was now : Telling) : Type 0 where
-  pub received : Extends was.received now.received (arrivals acts)
-  pub sent : Extends was.sent now.sent (packets here (outcomes acts))
-  pub asked : Extends was.asked now.asked (asked (outcomes acts))
-  pub prints : Extends was.prints now.prints (prints (outcomes acts))
-  pub filings : Extends was.filings now.filings (filings (outcomes acts))
-  pub given : Extends was.given now.given (moments acts ++ more)
+-- what was done of an event that was cut off: the moment at which it was to be taken, and what of it was carried out
+pub record Begun : Type 0 where
+  pub moments : List ℕ
+  pub outcomes : List Outcome
 
--- The acts lead from one turn to another, and are just what the outside saw.
-pub record Ran (here : Here) (acts : List Act) (start finish : Turn) (more : List ℕ) (was now : Telling) : Type 0 where
+-- no event was cut off
+abbrev pub none_begun : Begun
+none_begun = record { moments = []; outcomes = [] }
+
+-- an event that was to be taken at this moment was cut off
+abbrev pub begun : ℕ → List Outcome → Begun
+begun m outcomes = record { moments = m ∷ []; outcomes = outcomes }
+
+-- all that was carried out, of acts and then of an event that was cut off
+abbrev pub carried : List Act → Begun → List Outcome
+carried acts more = outcomes acts ++ more.outcomes
+
+-- What the outside tells grew by just what these acts, and then an event that was cut off, ask of it.
+pub record Grew (here : Here) (acts : List Act) (more : Begun) (was now : Telling) : Type 0 where
+  pub received : Extends was.received now.received (arrivals acts)
+  pub sent : Extends was.sent now.sent (packets here (carried acts more))
+  pub asked : Extends was.asked now.asked (asked (carried acts more))
+  pub prints : Extends was.prints now.prints (prints (carried acts more))
+  pub filings : Extends was.filings now.filings (filings (carried acts more))
+  pub given : Extends was.given now.given (moments acts ++ more.moments)
+
+-- The acts lead from one turn to another. They, and what was done of an event that was cut off, are just what the outside saw.
+pub record Ran (here : Here) (acts : List Act) (start finish : Turn) (more : Begun) (was now : Telling) : Type 0 where
   pub run : IsRun here start acts
   pub leads : after here start acts ≡ finish
   pub grew : Grew here acts more was now

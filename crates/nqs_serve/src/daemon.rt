@@ -8,7 +8,7 @@ ghost use Rattle.nqs_node.specs.Nodes.{active_of, content_of, disk_of, history_o
 ghost use Rattle.nqs_records.specs.Values.{IsHost};
 ghost use Rattle.nqs_store.specs.Sound.{IsSoundHost};
 ghost use Rattle.nqs_serve.specs.Events.{Here};
-ghost use Rattle.nqs_serve.specs.Runs.{Act, Turn, idle, telling, Ran};
+ghost use Rattle.nqs_serve.specs.Runs.{Act, Turn, idle, telling, Ran, Begun, none_begun};
 ghost use Rattle.nqs_serve.specs.Nodes.{Knows, here_of};
 ghost use Rattle.nqs_serve.specs.Ends.{Ends, stops, fault_of, end_of};
 ghost use Rattle.nqs_serve.specs.Moments.{TellsTo, TellsThroughout, IsPassed};
@@ -35,6 +35,7 @@ pub enum ServeEnd {
     WireFault,
     /// A call of a disk failed. The node is stopped: it is to be closed.
     DiskFault,
+    /// Memory ran out before the last event and its starts were kept and spelled.
     Memory(Memory),
 }
 
@@ -96,17 +97,17 @@ fn turn<D: Disk, W: Wire, L: Launcher, P: Printer, O: Outlet, C: Clock>(
     ensures running { OnOk result (is_stopped node.new ≡ false) }
     ensures ok { (s : Plain) (here : Here) → Knows node.old s → here ≡ record { me = me; site = (content_of node.old).site }
         → IfOk result (λ stop. (acts : List Act) × (u : Plain) × Knows node.new u × (stops here (idle s) acts ≡ stop ∷ [])
-        × Ran here acts (idle s) (idle u) []
+        × Ran here acts (idle s) (idle u) none_begun
         (telling (W.received wire.old) (W.sent wire.old) (L.asked launcher.old) (P.prints printer.old) (O.filings outlet.old) (C.given clock.old))
         (telling (W.received wire.new) (W.sent wire.new) (L.asked launcher.new) (P.prints printer.new) (O.filings outlet.new) (C.given clock.new))
         × TellsTo (active_of node.old) (active_of node.new) (history_of node.old) (history_of node.new) (IsPassed here (idle s) acts [])) }
     ensures err { (s : Plain) (here : Here) → Knows node.old s → here ≡ record { me = me; site = (content_of node.old).site }
-        → IfErr result (λ fault. (acts : List Act) × (t : Turn) × (more : List ℕ)
+        → IfErr result (λ fault. (acts : List Act) × (t : Turn) × (more : Begun)
         × Ran here acts (idle s) t more
         (telling (W.received wire.old) (W.sent wire.old) (L.asked launcher.old) (P.prints printer.old) (O.filings outlet.old) (C.given clock.old))
         (telling (W.received wire.new) (W.sent wire.new) (L.asked launcher.new) (P.prints printer.new) (O.filings outlet.new) (C.given clock.new))
         × Ends (end_of fault) 1 (stops here (idle s) acts) t more node.new
-        × TellsThroughout (active_of node.old) (history_of node.old) (history_of node.new) (IsPassed here (idle s) acts more)) }
+        × TellsThroughout (active_of node.old) (history_of node.old) (history_of node.new) (IsPassed here (idle s) acts more.moments)) }
     ensures wire_fault { IsErrOf result Fault.Wire → Rose (W.receive_faults wire.old) (W.receive_faults wire.new) }
     ensures disk_fault { IsErrOf result Fault.Disk → IsTrue (is_stopped node.new)
         × ((which : Which) × Rose (D.faults (disk_of which node.old)) (D.faults (disk_of which node.new))) }
@@ -158,12 +159,12 @@ fn turns_in<D: Disk, W: Wire, L: Launcher, P: Printer, O: Outlet, C: Clock>(
     ensures sound { IsSoundHost (content_of node.new) }
     ensures site { (content_of node.new).site ≡ (content_of node.old).site }
     ensures run { (s : Plain) (here : Here) → Knows node.old s → here ≡ record { me = me; site = (content_of node.old).site }
-        → (acts : List Act) × (t : Turn) × (more : List ℕ)
+        → (acts : List Act) × (t : Turn) × (more : Begun)
         × Ran here acts (idle s) t more
         (telling (W.received wire.old) (W.sent wire.old) (L.asked launcher.old) (P.prints printer.old) (O.filings outlet.old) (C.given clock.old))
         (telling (W.received wire.new) (W.sent wire.new) (L.asked launcher.new) (P.prints printer.new) (O.filings outlet.new) (C.given clock.new))
         × Ends result turns (stops here (idle s) acts) t more node.new
-        × TellsThroughout (active_of node.old) (history_of node.old) (history_of node.new) (IsPassed here (idle s) acts more) }
+        × TellsThroughout (active_of node.old) (history_of node.old) (history_of node.new) (IsPassed here (idle s) acts more.moments) }
     ensures wire_fault { result ≡ ServeEnd.WireFault → Rose (W.receive_faults wire.old) (W.receive_faults wire.new) }
     ensures disk_fault { result ≡ ServeEnd.DiskFault → IsTrue (is_stopped node.new)
         × ((which : Which) × Rose (D.faults (disk_of which node.old)) (D.faults (disk_of which node.new))) }
@@ -189,9 +190,10 @@ const ROOM: usize = 49_153;
 /// that it brought with the starts after it, and the events that come back of what went out.
 ///
 /// The node's state is that after the run over what was received, and what the outside was asked
-/// for is just what goes out of that run, in order; where an event was cut off by a fault, nothing
-/// of it went out. Whatever a stop leaves of the node's disks at any moment tells a state that the
-/// run passes. After `DiskFault` the node is stopped.
+/// for is just what goes out of that run, in order. Whatever a stop leaves of the node's disks at
+/// any moment tells a state that the run passes. After `DiskFault` the node is stopped, what went
+/// out of the last event is just what the calls before the failed one say, and the disks tell the
+/// state after these or after that one. After `Memory` nothing of the last event went out.
 pub fn serve<D: Disk, W: Wire, L: Launcher, P: Printer, O: Outlet, C: Clock>(
     alloc: Global,
     node: &mut Node<D>,
@@ -206,12 +208,12 @@ pub fn serve<D: Disk, W: Wire, L: Launcher, P: Printer, O: Outlet, C: Clock>(
     requires running { is_stopped node.old ≡ false }
     ensures sound { IsSoundHost (content_of node.new) }
     ensures site { (content_of node.new).site ≡ (content_of node.old).site }
-    ensures run { IsTrue D.tells → (s : Plain) → Tells node.old s → (acts : List Act) × (t : Turn) × (more : List ℕ)
+    ensures run { IsTrue D.tells → (s : Plain) → Tells node.old s → (acts : List Act) × (t : Turn) × (more : Begun)
         × Ran (here_of node.old) acts (idle s) t more
         (telling (W.received wire.old) (W.sent wire.old) (L.asked launcher.old) (P.prints printer.old) (O.filings outlet.old) (C.given clock.old))
         (telling (W.received wire.new) (W.sent wire.new) (L.asked launcher.new) (P.prints printer.new) (O.filings outlet.new) (C.given clock.new))
         × Ends result turns (stops (here_of node.old) (idle s) acts) t more node.new
-        × TellsThroughout (active_of node.old) (history_of node.old) (history_of node.new) (IsPassed (here_of node.old) (idle s) acts more) }
+        × TellsThroughout (active_of node.old) (history_of node.old) (history_of node.new) (IsPassed (here_of node.old) (idle s) acts more.moments) }
     ensures wire_fault { result ≡ ServeEnd.WireFault → Rose (W.receive_faults wire.old) (W.receive_faults wire.new) }
     ensures disk_fault { result ≡ ServeEnd.DiskFault → IsTrue (is_stopped node.new)
         × ((which : Which) × Rose (D.faults (disk_of which node.old)) (D.faults (disk_of which node.new))) }

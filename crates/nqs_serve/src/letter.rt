@@ -1,13 +1,13 @@
 //! What is sent: the datagrams of outputs are spelled before anything goes out.
 
-ghost use Rattle.std.specs.Prelude.{◌≡◌, ◌++◌, IfOk, OnOk, IsTrue, map, length};
+ghost use Rattle.std.specs.Prelude.{◌≡◌, ◌≤◌, IfOk, OnOk, IsTrue, take, length};
 ghost use Rattle.nqs_codec.specs.Takes.{IsLong};
 ghost use Rattle.nqs_records.specs.Values.{IsHost};
 ghost use Rattle.nqs_node.specs.Reading.{carries_short, sends_short, AreShort};
 ghost use Rattle.nqs_packets.specs.Values.{MaySend};
 ghost use Rattle.nqs_serve.specs.Sends.{is_right_id, is_right_message, is_right_output, AreRight};
 ghost use Rattle.nqs_serve.specs.Events.{Here};
-ghost use Rattle.nqs_serve.specs.Letters.{is_answered, cut_text, posted, letter_of};
+ghost use Rattle.nqs_serve.specs.Letters.{is_answered, cut_text, posted, letter_of, AreReady};
 ghost use Rattle.nqs_types.specs.declared.event.Output.TheVariants as out;
 ghost use Rattle.nqs_types.specs.declared.message.Body.TheVariants as body;
 ghost use Rattle.nqs_rules.specs.Transcript.{reply_text};
@@ -145,21 +145,24 @@ fn letter_of(
     }
 }
 
-/// The datagrams of all outputs, one place for each.
-pub(crate) fn letters_of(
+/// Adds the datagrams of the outputs behind those that have theirs, one place for each.
+pub(crate) fn add_letters(
     alloc: Global,
     me: HostId,
     site: &[Name],
     outputs: &[Output],
-) -> Result<Vec<Option<Letter>>, Memory>
+    letters: &mut Vec<Option<Letter>>,
+) -> Result<(), Memory>
     requires host { IsHost me }
     requires right { AreRight 16 outputs.now }
     requires short { AreShort outputs.now }
-    ensures { IfOk result (λ letters. letters.items ≡ map (letter_of (record { me = me; site = site.now })) outputs.now) }
+    requires fits { length letters.old.items ≤ length outputs.now }
+    ensures many { OnOk result (length letters.new.items ≡ length outputs.now) }
+    ensures spelled { AreReady (record { me = me; site = site.now }) (take (length letters.old.items) outputs.now) letters.old.items
+        → OnOk result (AreReady (record { me = me; site = site.now }) outputs.now letters.new.items) }
 {
-    let mut letters = Vec::new(alloc);
-    for output in outputs {
-        letters.push(letter_of(alloc, me, site, output)?)?;
+    for place in letters.len()..outputs.len() {
+        letters.push(letter_of(alloc, me, site, &outputs[place])?)?;
     }
-    Ok(letters)
+    Ok(())
 }

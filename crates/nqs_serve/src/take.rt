@@ -1,10 +1,12 @@
 //! A node takes an event and starts what may start, and then what goes out is carried out.
 
-ghost use Rattle.std.specs.Prelude.{◌≡◌, ◌≤◌, ◌<◌, ◌+◌, ◌∷◌, ◌++◌, [], false, ℕ, List, IsTrue, OnOk, OnErr, IfOk, IsErrOf, MatchResult, length, map, is_some};
+ghost use Rattle.std.specs.Prelude.{◌≡◌, ◌≤◌, ◌<◌, ◌+◌, ◌∷◌, ◌++◌, [], false, ℕ, List, IsTrue, OnOk, OnErr, IfOk, IsErrOf, MatchResult, take, length, map, is_some};
+ghost use Rattle.std.specs.Prelude.{vec_capacity};
 ghost use Rattle.std.specs.List.{flat_map};
 ghost use Rattle.nqs_values.specs.Want.{want};
 ghost use Rattle.nqs_state.specs.State.{Plain};
 ghost use Rattle.nqs_types.specs.declared.event.Event.{Event as Happening};
+ghost use Rattle.nqs_types.specs.declared.event.Output.{Output as Out};
 ghost use Rattle.nqs_types.specs.declared.world.Which.{Which};
 ghost use Rattle.nqs_rules.specs.Measure.{starts_left};
 ghost use Rattle.nqs_rules.specs.Sane.{is_sane_event};
@@ -20,21 +22,24 @@ ghost use Rattle.nqs_node.specs.Reading.{AreShort};
 ghost use Rattle.nqs_records.specs.Values.{IsHost};
 ghost use Rattle.nqs_store.specs.Sound.{IsSoundHost};
 ghost use Rattle.nqs_serve.specs.Events.{Here, at_moment};
-ghost use Rattle.nqs_serve.specs.Steps.{said, stepped, after_event, outputs};
+ghost use Rattle.nqs_serve.specs.Letters.{AreReady};
+ghost use Rattle.nqs_serve.specs.Steps.{said, stepped, after_event, outputs, calls};
 ghost use Rattle.nqs_serve.specs.Runs.{Act, took, Outcome, Turn, turn, idle, outputs_in, brought_back, event_back, arrivals, telling, Grew, Ran};
-ghost use Rattle.nqs_serve.specs.Nodes.{Knows};
+ghost use Rattle.nqs_serve.specs.Runs.{Begun, none_begun, begun};
+ghost use Rattle.nqs_serve.specs.Nodes.{Knows, IsAt};
 ghost use Rattle.nqs_serve.specs.Sends.{is_right_event, AreRight};
-ghost use Rattle.nqs_serve.specs.Ends.{IsBetween, IsWithin, IsCut, IsCutAt};
+ghost use Rattle.nqs_serve.specs.Ends.{IsBetween, IsWithin, IsCutAt, UnlessMemory, Broke, IsBroken};
 ghost use Rattle.nqs_serve.specs.Moments.{TellsTo, TellsThroughout, IsPassed};
 
 use crate::carry::carry;
 use crate::comeback::{Comeback, event_back};
 use crate::cut::Cut;
 use crate::event::set_moment;
-use crate::letter::letters_of;
+use crate::letter::{Letter, add_letters};
 use nqs_node::{Node, NodeFault};
 use nqs_outside::{Clock, Disk, Launcher, Outlet, Printer, Wire};
 use nqs_types::{Event, HostId, Output};
+use nqs_values::{Memory, Name};
 use std::alloc::Global;
 
 // Takes an event.
@@ -58,6 +63,9 @@ fn take<D: Disk>(
     ensures told { (s : Plain) → Knows node.old s
         → OnOk result (Knows node.new (after_step (step event.now s) s) × (out.new.items ≡ out.old.items ++ said (step event.now s))) }
     ensures memory { (s : Plain) → Knows node.old s → IsErrOf result (Cut.Memory want) → Knows node.new s }
+    ensures longer { length out.old.items ≤ length out.new.items }
+    ensures unsaid { OnErr result (out.new.items ≡ out.old.items) }
+    ensures unmade { OnErr result (content_of node.new ≡ content_of node.old) }
     ensures active { (s : Plain) → Knows node.old s → OnOk result (active_of node.new ≡ after_kept (step event.now s).change (active_of node.old)) }
     ensures moments { (s : Plain) → Knows node.old s → IsOneOrOther (active_of node.old) (history_of node.old) (history_of node.new) (step event.now s).change s }
     ensures no_more { IsTrue (comes_back event.now) → OnOk result (starts_left (content_of node.new) ≤ starts_left (content_of node.old)) }
@@ -94,6 +102,9 @@ fn start<D: Disk>(
     ensures told { (s : Plain) → Knows node.old s
         → OnOk result (Knows node.new (after_step (started now s) s) × (out.new.items ≡ out.old.items ++ said (started now s))) }
     ensures memory { (s : Plain) → Knows node.old s → IsErrOf result (Cut.Memory want) → Knows node.new s }
+    ensures longer { length out.old.items ≤ length out.new.items }
+    ensures unsaid { OnErr result (out.new.items ≡ out.old.items) }
+    ensures unmade { OnErr result (content_of node.new ≡ content_of node.old) }
     ensures active { (s : Plain) → Knows node.old s → OnOk result (active_of node.new ≡ after_kept (started now s).change (active_of node.old)) }
     ensures moments { (s : Plain) → Knows node.old s → IsOneOrOther (active_of node.old) (history_of node.old) (history_of node.new) (started now s).change s }
     ensures idle { IfOk result (λ more. more ≡ false → (content_of node.new ≡ content_of node.old) × (out.new.items ≡ out.old.items)) }
@@ -111,26 +122,62 @@ fn start<D: Disk>(
     }
 }
 
-// Starts what may start.
+// Spells what the last call added to `out`, and makes room for what may come back of all of it.
+fn spell(
+    alloc: Global,
+    me: HostId,
+    site: &[Name],
+    out: &[Output],
+    letters: &mut Vec<Option<Letter>>,
+    back: &mut Vec<Comeback>,
+) -> Result<(), Memory>
+    requires host { IsHost me }
+    requires right { AreRight 16 out.now }
+    requires short { AreShort out.now }
+    requires fits { length letters.old.items ≤ length out.now }
+    ensures many { OnOk result (length letters.new.items ≡ length out.now) }
+    ensures spelled { AreReady (record { me = me; site = site.now }) (take (length letters.old.items) out.now) letters.old.items
+        → OnOk result (AreReady (record { me = me; site = site.now }) out.now letters.new.items) }
+    ensures room { OnOk result (length back.new.items + length out.now ≤ vec_capacity back.new) }
+    ensures behind { back.new.items ≡ back.old.items }
+{
+    match back.reserve(out.len()) {
+        Err(refused) => Err(refused.into()),
+        Ok(()) => add_letters(alloc, me, site, out, letters),
+    }
+}
+
+// Starts what may start. What each start says is spelled before the next one is made.
 fn settle<D: Disk>(
     alloc: Global,
+    me: HostId,
     node: &mut Node<D>,
     now: u64,
     out: &mut Vec<Output>,
+    letters: &mut Vec<Option<Letter>>,
+    back: &mut Vec<Comeback>,
 ) -> Result<(), Cut>
     requires sound { IsSoundHost (content_of node.old) }
     requires running { is_stopped node.old ≡ false }
+    requires host { IsHost me }
     requires said { AreRight 16 out.old.items }
     requires short { AreShort out.old.items }
+    requires many { length letters.old.items ≡ length out.old.items }
+    requires room { length back.old.items + length out.old.items ≤ vec_capacity back.old }
     ensures sound { IsSoundHost (content_of node.new) }
     ensures site { (content_of node.new).site ≡ (content_of node.old).site }
     ensures running { OnOk result (is_stopped node.new ≡ false) }
-    ensures right { OnOk result (AreRight 16 out.new.items) }
-    ensures short { OnOk result (AreShort out.new.items) }
+    ensures many { UnlessMemory result (length letters.new.items ≡ length out.new.items) }
+    ensures ready { (s : Plain) (here : Here) → Knows node.old s → here ≡ record { me = me; site = (content_of node.old).site }
+        → AreReady here out.old.items letters.old.items → UnlessMemory result (AreReady here out.new.items letters.new.items) }
+    ensures room { UnlessMemory result (length back.new.items + length out.new.items ≤ vec_capacity back.new) }
+    ensures behind { back.new.items ≡ back.old.items }
     ensures told { (s : Plain) → Knows node.old s
         → OnOk result (Knows node.new (after_starts (starts now s) s) × (out.new.items ≡ out.old.items ++ flat_map said (starts now s))) }
     ensures memory { (s : Plain) → Knows node.old s → IsErrOf result (Cut.Memory want)
         → (xs ys : List (Stepped (List ℕ))) × (starts now s ≡ xs ++ ys) × Knows node.new (after_starts xs s) }
+    ensures broke { (s : Plain) → Knows node.old s → IsErrOf result Cut.Disk
+        → (went : List Out) × (out.new.items ≡ out.old.items ++ went) × Broke (IsAt node.new) (starts now s) s went (history_of node.new) }
     ensures moments { (s : Plain) → Knows node.old s → MatchResult result
         (λ _. TellsTo (active_of node.old) (active_of node.new) (history_of node.old) (history_of node.new) (IsBetween now s))
         (λ _. TellsThroughout (active_of node.old) (history_of node.old) (history_of node.new) (IsBetween now s)) }
@@ -145,49 +192,68 @@ fn settle<D: Disk>(
             Ok(false) => return Ok(()),
             Err(cut) => return Err(cut),
         }
+        let site = node.state().site.as_slice();
+        if let Err(memory) = spell(alloc, me, site, out, letters, back) {
+            return Err(Cut::Memory(memory));
+        }
     }
 }
 
-// Takes an event and starts what may start after it. Nothing goes out yet.
+// Takes an event and starts what may start after it. Nothing goes out yet, but what each call says
+// is spelled before the next one is made.
 fn take_whole<D: Disk>(
     alloc: Global,
+    me: HostId,
     node: &mut Node<D>,
     event: &Event,
     now: u64,
     out: &mut Vec<Output>,
+    letters: &mut Vec<Option<Letter>>,
+    back: &mut Vec<Comeback>,
 ) -> Result<(), Cut>
     requires sound { IsSoundHost (content_of node.old) }
     requires running { is_stopped node.old ≡ false }
+    requires host { IsHost me }
     requires sane { IsTrue (is_sane_event (length (content_of node.old).site) event.now) }
     requires right { IsTrue (is_right_event (length (content_of node.old).site) event.now) }
-    requires said { AreRight 16 out.old.items }
-    requires short { AreShort out.old.items }
+    requires silent { out.old.items ≡ [] }
+    requires blank { letters.old.items ≡ [] }
     ensures sound { IsSoundHost (content_of node.new) }
     ensures site { (content_of node.new).site ≡ (content_of node.old).site }
     ensures running { OnOk result (is_stopped node.new ≡ false) }
-    ensures right { OnOk result (AreRight 16 out.new.items) }
-    ensures short { OnOk result (AreShort out.new.items) }
+    ensures many { UnlessMemory result (length letters.new.items ≡ length out.new.items) }
+    ensures ready { (s : Plain) (here : Here) → Knows node.old s → here ≡ record { me = me; site = (content_of node.old).site }
+        → UnlessMemory result (AreReady here out.new.items letters.new.items) }
+    ensures room { UnlessMemory result (length back.new.items + length out.new.items ≤ vec_capacity back.new) }
+    ensures behind { back.new.items ≡ back.old.items }
     ensures told { (s : Plain) (e : Happening) → Knows node.old s → event.now ≡ at_moment now e
-        → OnOk result (Knows node.new (after_event now e s) × (out.new.items ≡ out.old.items ++ outputs now e s)) }
+        → OnOk result (Knows node.new (after_event now e s) × (out.new.items ≡ outputs now e s)) }
     ensures memory { (s : Plain) (e : Happening) → Knows node.old s → event.now ≡ at_moment now e → IsErrOf result (Cut.Memory want)
         → (u : Plain) × Knows node.new u × IsWithin now e s u }
+    ensures broke { (s : Plain) (e : Happening) → Knows node.old s → event.now ≡ at_moment now e → IsErrOf result Cut.Disk
+        → Broke (IsAt node.new) (calls now e s) s out.new.items (history_of node.new) }
     ensures moments { (s : Plain) (e : Happening) → Knows node.old s → event.now ≡ at_moment now e → MatchResult result
         (λ _. TellsTo (active_of node.old) (active_of node.new) (history_of node.old) (history_of node.new) (IsWithin now e s))
         (λ _. TellsThroughout (active_of node.old) (history_of node.old) (history_of node.new) (IsWithin now e s)) }
     ensures fewer { IsTrue (comes_back event.now)
-        → OnOk result (starts_left (content_of node.new) + comebacks out.new.items ≤ starts_left (content_of node.old) + comebacks out.old.items) }
+        → OnOk result (starts_left (content_of node.new) + comebacks out.new.items ≤ starts_left (content_of node.old)) }
     ensures later { (which : Which) → D.faults (disk_of which node.old) ≤ D.faults (disk_of which node.new) }
     ensures broken { IsErrOf result Cut.Disk → IsTrue (is_stopped node.new)
         × ((which : Which) × Rose (D.faults (disk_of which node.old)) (D.faults (disk_of which node.new))) }
 {
-    match take(alloc, node, event, out) {
-        Ok(()) => settle(alloc, node, now, out),
-        Err(cut) => Err(cut),
+    if let Err(cut) = take(alloc, node, event, out) {
+        return Err(cut);
+    }
+    let site = node.state().site.as_slice();
+    match spell(alloc, me, site, out, letters, back) {
+        Err(memory) => Err(Cut::Memory(memory)),
+        Ok(()) => settle(alloc, me, node, now, out, letters, back),
     }
 }
 
 /// Takes an event, and carries out what goes out of it and of the starts after it. What comes back
-/// of that waits behind what is in `back`. Before all is kept and spelled nothing goes out.
+/// of that waits behind what is in `back`. Before all is kept and spelled nothing goes out; where a
+/// call of a disk fails, what the calls before it say does, and nothing else.
 pub(crate) fn take_event<D: Disk, W: Wire, L: Launcher, P: Printer, O: Outlet, C: Clock>(
     alloc: Global,
     me: HostId,
@@ -212,13 +278,15 @@ pub(crate) fn take_event<D: Disk, W: Wire, L: Launcher, P: Printer, O: Outlet, C
     ensures ok { (s : Plain) (here : Here) → Knows node.old s → here ≡ record { me = me; site = (content_of node.old).site }
         → OnOk result ((m : ℕ) × (outcomes : List Outcome) × (back.new.items ≡ back.old.items ++ brought_back outcomes)
         × Knows node.new (after_event m event.old s) × (outputs_in outcomes ≡ outputs m event.old s)
-        × Grew here (took m outcomes ∷ []) []
+        × Grew here (took m outcomes ∷ []) none_begun
         (telling (W.received wire.old) (W.sent wire.old) (L.asked launcher.old) (P.prints printer.old) (O.filings outlet.old) (C.given clock.old))
         (telling (W.received wire.new) (W.sent wire.new) (L.asked launcher.new) (P.prints printer.new) (O.filings outlet.new) (C.given clock.new))
         × TellsTo (active_of node.old) (active_of node.new) (history_of node.old) (history_of node.new) (IsWithin m event.old s)) }
     ensures cut { (s : Plain) (here : Here) → Knows node.old s → here ≡ record { me = me; site = (content_of node.old).site }
-        → OnErr result ((m : ℕ) × (IsErrOf result (Cut.Memory want) → (u : Plain) × Knows node.new u × IsWithin m event.old s u)
-        × Grew here [] (m ∷ [])
+        → OnErr result ((m : ℕ) × (outcomes : List Outcome)
+        × (IsErrOf result (Cut.Memory want) → (outcomes ≡ []) × ((u : Plain) × Knows node.new u × IsWithin m event.old s u))
+        × (IsErrOf result Cut.Disk → Broke (IsAt node.new) (calls m event.old s) s (outputs_in outcomes) (history_of node.new))
+        × Grew here [] (begun m outcomes)
         (telling (W.received wire.old) (W.sent wire.old) (L.asked launcher.old) (P.prints printer.old) (O.filings outlet.old) (C.given clock.old))
         (telling (W.received wire.new) (W.sent wire.new) (L.asked launcher.new) (P.prints printer.new) (O.filings outlet.new) (C.given clock.new))
         × TellsThroughout (active_of node.old) (history_of node.old) (history_of node.new) (IsWithin m event.old s)) }
@@ -232,18 +300,18 @@ pub(crate) fn take_event<D: Disk, W: Wire, L: Launcher, P: Printer, O: Outlet, C
     out.clear();
     let now = clock.now();
     set_moment(event, now);
-    if let Err(cut) = take_whole(alloc, node, event, now, out) {
-        return Err(cut);
+    let mut letters = Vec::new(alloc);
+    match take_whole(alloc, me, node, event, now, out, &mut letters, back) {
+        Err(Cut::Memory(memory)) => Err(Cut::Memory(memory)),
+        Err(Cut::Disk) => {
+            carry(wire, launcher, printer, outlet, out, &letters, back);
+            Err(Cut::Disk)
+        }
+        Ok(()) => {
+            carry(wire, launcher, printer, outlet, out, &letters, back);
+            Ok(())
+        }
     }
-    if let Err(refused) = back.reserve(out.len()) {
-        return Err(Cut::Memory(refused.into()));
-    }
-    let letters = match letters_of(alloc, me, node.state().site.as_slice(), out) {
-        Ok(letters) => letters,
-        Err(memory) => return Err(Cut::Memory(memory)),
-    };
-    carry(wire, launcher, printer, outlet, out, &letters, back);
-    Ok(())
 }
 
 // Whether something waits.
@@ -283,17 +351,18 @@ pub(crate) fn take_back<D: Disk, W: Wire, L: Launcher, P: Printer, O: Outlet, C:
     ensures running { OnOk result (is_stopped node.new ≡ false) }
     ensures ok { (s : Plain) (here : Here) → Knows node.old s → here ≡ record { me = me; site = (content_of node.old).site }
         → OnOk result ((acts : List Act) × (u : Plain) × (arrivals acts ≡ []) × Knows node.new u
-        × Ran here acts (turn s (map event_back back.old.items)) (idle u) []
+        × Ran here acts (turn s (map event_back back.old.items)) (idle u) none_begun
         (telling (W.received wire.old) (W.sent wire.old) (L.asked launcher.old) (P.prints printer.old) (O.filings outlet.old) (C.given clock.old))
         (telling (W.received wire.new) (W.sent wire.new) (L.asked launcher.new) (P.prints printer.new) (O.filings outlet.new) (C.given clock.new))
         × TellsTo (active_of node.old) (active_of node.new) (history_of node.old) (history_of node.new) (IsPassed here (turn s (map event_back back.old.items)) acts [])) }
     ensures cut { (s : Plain) (here : Here) → Knows node.old s → here ≡ record { me = me; site = (content_of node.old).site }
-        → OnErr result ((acts : List Act) × (t : Turn) × (more : List ℕ) × (arrivals acts ≡ []) × IsCut t more
+        → OnErr result ((acts : List Act) × (t : Turn) × (more : Begun) × (arrivals acts ≡ [])
         × (IsErrOf result (Cut.Memory want) → (u : Plain) × Knows node.new u × IsCutAt t more u)
+        × (IsErrOf result Cut.Disk → IsBroken (IsAt node.new) t more (history_of node.new))
         × Ran here acts (turn s (map event_back back.old.items)) t more
         (telling (W.received wire.old) (W.sent wire.old) (L.asked launcher.old) (P.prints printer.old) (O.filings outlet.old) (C.given clock.old))
         (telling (W.received wire.new) (W.sent wire.new) (L.asked launcher.new) (P.prints printer.new) (O.filings outlet.new) (C.given clock.new))
-        × TellsThroughout (active_of node.old) (history_of node.old) (history_of node.new) (IsPassed here (turn s (map event_back back.old.items)) acts more)) }
+        × TellsThroughout (active_of node.old) (history_of node.old) (history_of node.new) (IsPassed here (turn s (map event_back back.old.items)) acts more.moments)) }
     ensures later { (which : Which) → D.faults (disk_of which node.old) ≤ D.faults (disk_of which node.new) }
     ensures broken { IsErrOf result Cut.Disk → IsTrue (is_stopped node.new)
         × ((which : Which) × Rose (D.faults (disk_of which node.old)) (D.faults (disk_of which node.new))) }

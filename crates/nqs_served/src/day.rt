@@ -18,8 +18,10 @@ use std::alloc::Global;
 pub struct Day {
     pub title: &'static str,
     pub failing: Failing,
-    /// The disk and the number of its call that fails, as each later one does.
+    /// The disk and the number of its call that fails.
     pub fuse: Option<(Which, u64)>,
+    /// Whether that call fails alone. Else each later one fails too.
+    pub alone: bool,
     pub schedule: &'static [u8],
     /// It is served so many turns, and so many again.
     pub rounds: &'static [u64],
@@ -75,6 +77,17 @@ fn add_table(alloc: Global, host: &mut Host, table: &mut Vec<u8>) -> Result<(), 
     put_table(alloc, &states, table)
 }
 
+fn booted(alloc: Global, day: &Day) -> Result<Host, Trouble> {
+    match day.fuse {
+        Some((which, call)) if day.alone => Host::failing_once(alloc, which, call),
+        fuse => {
+            let mut host = Host::alone(alloc)?;
+            host.fuse(fuse);
+            Ok(host)
+        }
+    }
+}
+
 fn serve_rounds(
     alloc: Global,
     day: &Day,
@@ -82,8 +95,7 @@ fn serve_rounds(
     table: &mut Vec<u8>,
     out: &mut Vec<u8>,
 ) -> Result<(), Trouble> {
-    let mut host = Host::alone(alloc)?;
-    host.fuse(day.fuse);
+    let mut host = booted(alloc, day)?;
     for turns in day.rounds {
         let end = host.serve(alloc, outside, *turns);
         let left = outside.wire.script().len();

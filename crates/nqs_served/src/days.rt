@@ -16,6 +16,7 @@ const WHOLE: Day = Day {
         ..NONE
     },
     fuse: None,
+    alone: false,
     schedule: b"clock 1000
 qmgr alpha root add operator=olga
 qmgr alpha root set run_limit=2 batch
@@ -69,6 +70,7 @@ const JOB: Day = Day {
     title: "a job",
     failing: NONE,
     fuse: None,
+    alone: false,
     schedule: b"qmgr alpha root start queue batch
 qsub alpha ann \"date\\n\"
 qstat alpha ann
@@ -83,6 +85,26 @@ const RECEIVE: Day = Day {
         ..NONE
     },
     rounds: &[3, 2],
+    ..JOB
+};
+
+const FIRST_RECEIVE: Day = Day {
+    title: "the first receive fails",
+    failing: Failing {
+        receives: &[1],
+        ..NONE
+    },
+    rounds: &[3, 3],
+    ..JOB
+};
+
+const LAST_RECEIVE: Day = Day {
+    title: "the last receive fails",
+    failing: Failing {
+        receives: &[3],
+        ..NONE
+    },
+    rounds: &[3, 1],
     ..JOB
 };
 
@@ -105,6 +127,23 @@ const LAUNCH: Day = Day {
     ..JOB
 };
 
+// A failed kill is a loss: nothing comes back of it.
+const KILL: Day = Day {
+    title: "the kill fails",
+    failing: Failing {
+        launches: &[2],
+        ..NONE
+    },
+    fuse: None,
+    alone: false,
+    schedule: b"qmgr alpha root start queue batch
+qsub alpha ann \"date\\n\"
+qdel alpha ann -k 1.alpha
+qstat alpha ann
+",
+    rounds: &[4],
+};
+
 // Two requests for one device. The first print fails, and the device is free for the second, which
 // succeeds.
 const PRINT: Day = Day {
@@ -114,6 +153,7 @@ const PRINT: Day = Day {
         ..NONE
     },
     fuse: None,
+    alone: false,
     schedule: b"qmgr alpha root create device laser forms=plain
 qmgr alpha root create device_queue paper
 qmgr alpha root add device=laser paper
@@ -128,6 +168,16 @@ qmgr alpha ann show devices
     rounds: &[10],
 };
 
+// The first is at its end, and the second goes.
+const SECOND_PRINT: Day = Day {
+    title: "the second print fails",
+    failing: Failing {
+        prints: &[2],
+        ..NONE
+    },
+    ..PRINT
+};
+
 // A file that isn't written is asked for again by the next tick, and by no later one.
 const FILE: Day = Day {
     title: "the first file fails",
@@ -136,6 +186,7 @@ const FILE: Day = Day {
         ..NONE
     },
     fuse: None,
+    alone: false,
     schedule: b"qmgr alpha root start queue batch
 qsub alpha ann \"date\\n\"
 end alpha 1.alpha 1 0 \"hi\\n\"
@@ -151,6 +202,7 @@ const SHUTDOWN: Day = Day {
     title: "a shutdown",
     failing: NONE,
     fuse: None,
+    alone: false,
     schedule: b"tick alpha
 qmgr alpha root shutdown
 qstat alpha ann
@@ -158,7 +210,19 @@ qstat alpha ann
     rounds: &[9],
 };
 
-const DAYS: [Day; 7] = [JOB, RECEIVE, SEND, LAUNCH, PRINT, FILE, SHUTDOWN];
+const DAYS: [Day; 11] = [
+    JOB,
+    FIRST_RECEIVE,
+    RECEIVE,
+    LAST_RECEIVE,
+    SEND,
+    LAUNCH,
+    KILL,
+    PRINT,
+    SECOND_PRINT,
+    FILE,
+    SHUTDOWN,
+];
 
 // What a failed launch brings back is one change more, when the submission is answered.
 const LATE: Day = Day {
@@ -172,14 +236,41 @@ fn put_fused(
     title: &'static str,
     which: Which,
     call: u64,
+    alone: bool,
     out: &mut Vec<u8>,
 ) -> Result<(), Trouble> {
     let day = Day {
         title,
         fuse: Some((which, call)),
+        alone,
         ..JOB
     };
     put_day(alloc, &day, out)
+}
+
+// A failed call ends the daemon, also where the later ones would go on.
+fn put_alone(alloc: Global, out: &mut Vec<u8>) -> Result<(), Trouble> {
+    for call in 4..14u64 {
+        put_fused(
+            alloc,
+            "the disk first fails, and once, at its call",
+            Which::First,
+            call,
+            true,
+            out,
+        )?;
+    }
+    for call in 1..4u64 {
+        put_fused(
+            alloc,
+            "the spool fails, and once, at its call",
+            Which::Spool,
+            call,
+            true,
+            out,
+        )?;
+    }
+    Ok(())
 }
 
 /// Prints what is seen of each day. A change makes four calls of the disk first: those of the edit
@@ -196,6 +287,7 @@ pub fn put_days(alloc: Global, out: &mut Vec<u8>) -> Result<(), Trouble> {
             "the disk first fails at its call",
             Which::First,
             call,
+            false,
             out,
         )?;
     }
@@ -205,8 +297,9 @@ pub fn put_days(alloc: Global, out: &mut Vec<u8>) -> Result<(), Trouble> {
             "the spool fails at its call",
             Which::Spool,
             call,
+            false,
             out,
         )?;
     }
-    Ok(())
+    put_alone(alloc, out)
 }

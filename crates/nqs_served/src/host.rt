@@ -2,7 +2,7 @@
 //! of a site.
 
 ghost use Rattle.std.specs.Prelude.{◌≡◌, ◌<◌, [], false, IfOk};
-ghost use Rattle.nqs_types.specs.declared.world.Which.{Which};
+ghost use Rattle.nqs_types.specs.declared.world.Which.{Which as OneOf};
 ghost use Rattle.nqs_outside.specs.History.{IsQuiet};
 ghost use Rattle.nqs_disk.specs.MemDisk.{history_of as history_of_disk};
 ghost use Rattle.nqs_store.specs.Disks.{disk_at};
@@ -24,7 +24,7 @@ use nqs_values::{Items, Name};
 use std::alloc::Global;
 
 fn empty_disks(alloc: Global) -> Disks<MemDisk>
-    ensures { (which : Which) → history_of_disk (disk_at which result) ≡ record { start = []; calls = [] } }
+    ensures { (which : OneOf) → history_of_disk (disk_at which result) ≡ record { start = []; calls = [] } }
 {
     Disks {
         root: MemDisk::new(alloc),
@@ -51,7 +51,7 @@ pub fn beta() -> Name {
 }
 
 fn formatted(alloc: Global) -> Result<Disks<MemDisk>, Trouble>
-    ensures { IfOk result (λ disks. (which : Which) → IsQuiet (history_of_disk (disk_at which disks))) }
+    ensures { IfOk result (λ disks. (which : OneOf) → IsQuiet (history_of_disk (disk_at which disks))) }
 {
     let mut disks = empty_disks(alloc);
     format(alloc, &mut disks, HostId(0), &[alpha()])?;
@@ -60,15 +60,27 @@ fn formatted(alloc: Global) -> Result<Disks<MemDisk>, Trouble>
 
 fn formatted_of_two(alloc: Global, me: HostId) -> Result<Disks<MemDisk>, Trouble>
     requires { me.0 < 2 }
-    ensures { IfOk result (λ disks. (which : Which) → IsQuiet (history_of_disk (disk_at which disks))) }
+    ensures { IfOk result (λ disks. (which : OneOf) → IsQuiet (history_of_disk (disk_at which disks))) }
 {
     let mut disks = empty_disks(alloc);
     format(alloc, &mut disks, me, &[alpha(), beta()])?;
     Ok(disks)
 }
 
+// A call of a disk fails alone.
+fn fail_once(disks: &mut Disks<MemDisk>, which: Which, call: u64)
+    ensures { (disk : OneOf) → history_of_disk (disk_at disk disks.new) ≡ history_of_disk (disk_at disk disks.old) }
+{
+    match which {
+        Which::Root => disks.root.fail_once(call),
+        Which::First => disks.first.fail_once(call),
+        Which::Second => disks.second.fail_once(call),
+        Which::Spool => disks.spool.fail_once(call),
+    }
+}
+
 fn boot(alloc: Global, disks: Disks<MemDisk>) -> Result<Node<MemDisk>, Trouble>
-    requires { (which : Which) → IsQuiet (history_of_disk (disk_at which disks)) }
+    requires { (which : OneOf) → IsQuiet (history_of_disk (disk_at which disks)) }
     ensures { IfOk result (λ node. IsSoundHost (content_of node)) }
 {
     let mut said = Vec::new(alloc);
@@ -126,7 +138,7 @@ impl Drop for Host {
 
 impl Host {
     fn of_disks(alloc: Global, disks: Disks<MemDisk>) -> Result<Host, Trouble>
-        requires { (which : Which) → IsQuiet (history_of_disk (disk_at which disks)) }
+        requires { (which : OneOf) → IsQuiet (history_of_disk (disk_at which disks)) }
     {
         let node = Box::new(alloc, boot(alloc, disks)?)?;
         Ok(Host { node })
@@ -135,6 +147,15 @@ impl Host {
     /// The host of a site of one, after its boot.
     pub fn alone(alloc: Global) -> Result<Host, Trouble> {
         let disks = formatted(alloc)?;
+        Host::of_disks(alloc, disks)
+    }
+
+    /// The same, and the call of this number of a disk behind the boot fails alone. A boot makes
+    /// four calls of the disk first, and none of the others.
+    pub fn failing_once(alloc: Global, which: Which, call: u64) -> Result<Host, Trouble> {
+        let mut disks = formatted(alloc)?;
+        let made = if which == Which::First { 4 } else { 0 };
+        fail_once(&mut disks, which, call.saturating_add(made));
         Host::of_disks(alloc, disks)
     }
 

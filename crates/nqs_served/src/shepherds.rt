@@ -2,11 +2,11 @@
 
 use crate::host::{alpha, beta};
 use crate::outside::{Failing, NONE, outside_of};
-use crate::text::{put, put_sent, put_text};
+use crate::text::{put, put_quoted, put_sent, put_text};
 use crate::trouble::Trouble;
 use nqs_clients::{NqsStatus, ShepherdEnd, client, shepherd};
 use nqs_fakes::{MemRunner, MemWire};
-use nqs_outside::{ListSource, MemSink, RunEnd};
+use nqs_outside::{MemSink, MemSource, RunEnd};
 use nqs_types::{HostId, RequestId};
 use nqs_values::{Bytes, Items, Memory};
 use std::alloc::Global;
@@ -158,34 +158,141 @@ const ANSWERS: [&[u8]; 3] = [
     ],
 ];
 
-fn words(alloc: Global) -> Result<Vec<String>, Memory> {
+// The words of a client, and the calls of its wire, of its input and of its output that fail. The
+// output takes so many bytes at a call.
+#[derive(Clone, Copy)]
+struct Asking {
+    title: &'static str,
+    words: &'static [&'static str],
+    failing: Failing,
+    reads: &'static [u64],
+    piece: usize,
+    writes: &'static [u64],
+}
+
+const ASKED: Asking = Asking {
+    title: "the third answer is its own",
+    words: &["qstat", "beta", "ann"],
+    failing: NONE,
+    reads: &[],
+    piece: 100,
+    writes: &[],
+};
+
+const SUBMITTED: Asking = Asking {
+    title: "a script is sent",
+    words: &["qsub", "beta", "ann"],
+    ..ASKED
+};
+
+// Nothing is sent or written where the input fails, nothing written where the wire does, and a
+// front of the answer where the output does.
+const ASKINGS: [Asking; 10] = [
+    ASKED,
+    Asking {
+        title: "its send fails",
+        failing: Failing {
+            sends: &[1],
+            ..NONE
+        },
+        ..ASKED
+    },
+    Asking {
+        title: "its second receive fails",
+        failing: Failing {
+            receives: &[2],
+            ..NONE
+        },
+        ..ASKED
+    },
+    Asking {
+        title: "its output fails",
+        writes: &[1],
+        ..ASKED
+    },
+    Asking {
+        title: "its output fails behind two bytes",
+        piece: 2,
+        writes: &[2],
+        ..ASKED
+    },
+    Asking {
+        title: "its output takes nothing",
+        piece: 0,
+        ..ASKED
+    },
+    Asking {
+        title: "its input fails, and isn't read",
+        reads: &[1],
+        ..ASKED
+    },
+    SUBMITTED,
+    Asking {
+        title: "the script can't be read",
+        reads: &[1],
+        ..SUBMITTED
+    },
+    Asking {
+        title: "the end of the script can't be read",
+        reads: &[2],
+        ..SUBMITTED
+    },
+];
+
+fn words_in(alloc: Global, list: &[&str]) -> Result<Vec<String>, Memory> {
     let mut words = Vec::new(alloc);
-    for word in &["qstat", "beta", "ann"] {
+    for word in list {
         words.push(word.to_string(alloc)?)?;
     }
     Ok(words)
 }
 
+// A script of one line.
+fn script_of(alloc: Global, asking: &Asking) -> Result<MemSource, Memory> {
+    let script = Vec::from_slice(alloc, b"date\n")?;
+    let fails = Vec::from_slice(alloc, asking.reads)?;
+    Ok(MemSource::new(script, fails))
+}
+
 // A client that asks host 1, and what it writes.
-fn ask(alloc: Global, wire: &mut MemWire, sink: &mut MemSink) -> Result<NqsStatus, Memory> {
-    let words = words(alloc)?;
-    let mut input = ListSource::new(b"");
+fn ask(
+    alloc: Global,
+    asking: &Asking,
+    wire: &mut MemWire,
+    sink: &mut MemSink,
+) -> Result<NqsStatus, Memory> {
+    let words = words_in(alloc, asking.words)?;
+    let mut input = script_of(alloc, asking)?;
     let site = [alpha(), beta()];
     Ok(client(alloc, &site, &words, 9, wire, &mut input, sink))
 }
 
-fn put_asked(alloc: Global, wire: &mut MemWire, out: &mut Vec<u8>) -> Result<(), Memory> {
-    let mut sink = MemSink::new(alloc, 100, Vec::new(alloc));
-    let status = ask(alloc, wire, &mut sink)?.number();
-    put_text(format!(in alloc; "status {status}\n"), out)?;
-    put(sink.taken(), out)
+fn put_asked(
+    alloc: Global,
+    asking: &Asking,
+    wire: &mut MemWire,
+    out: &mut Vec<u8>,
+) -> Result<(), Memory> {
+    let fails = Vec::from_slice(alloc, asking.writes)?;
+    let mut sink = MemSink::new(alloc, asking.piece, fails);
+    let status = ask(alloc, asking, wire, &mut sink)?.number();
+    put_text(format!(in alloc; "status {status}\nwrote "), out)?;
+    put_quoted(sink.taken(), out)?;
+    put(b"\n", out)
 }
 
-/// Prints what is seen of a client that gets three answers, of which the last is its own.
-pub fn put_client(alloc: Global, out: &mut Vec<u8>) -> Result<(), Trouble> {
-    put(b"\n== a client\n", out)?;
-    let mut outside = outside_of(alloc, &NONE, &ANSWERS)?;
-    put_asked(alloc, &mut outside.wire, out)?;
+fn put_asking(alloc: Global, asking: &Asking, out: &mut Vec<u8>) -> Result<(), Trouble> {
+    put_text(format!(in alloc; "\n== a client: {}\n", asking.title), out)?;
+    let mut outside = outside_of(alloc, &asking.failing, &ANSWERS)?;
+    put_asked(alloc, asking, &mut outside.wire, out)?;
     put_wire(alloc, &outside.wire, out)?;
+    Ok(())
+}
+
+/// Prints what is seen of clients that get three answers, of which the last is their own.
+pub fn put_client(alloc: Global, out: &mut Vec<u8>) -> Result<(), Trouble> {
+    for asking in &ASKINGS {
+        put_asking(alloc, asking, out)?;
+    }
     Ok(())
 }

@@ -9,6 +9,7 @@ use Rattle.nqs_node.proofs.Booting.{active_told}
 use Rattle.nqs_serve.specs.Ends.{EndsWith, stops}
 use Rattle.nqs_serve.specs.Events.{Here}
 use Rattle.nqs_serve.specs.Moments.{TellsThroughout, IsPassed}
+use Rattle.nqs_serve.specs.Nodes.{IsAt}
 use Rattle.nqs_serve.specs.Runs.{idle, Ran}
 use Rattle.nqs_cli.specs.Parts.{disks_told, wire_told}
 use Rattle.nqs_cli.specs.Daemons.{Outside, outside, is_here, telling_of, here_of, Leaves}
@@ -76,9 +77,9 @@ returns g c =
     let run = c.serve-end.ensures.run yes u one.2 in
     let here = ap here_of one.2.is in
     let moved = subst (λ (h : Here). Ran h run.0 (idle u) run.1 run.2 (telling_of was) (telling_of now)
-    × EndsWith (Tells c.serve-end.new.node) c.serve-end.result c.args.turns (stops h (idle u) run.0) run.1 run.2)
+    × EndsWith (Tells c.serve-end.new.node) (IsAt c.serve-end.new.node) (history_of c.serve-end.new.node) c.serve-end.result c.args.turns (stops h (idle u) run.0) run.1 run.2)
     here (run.3, run.4) in
-    let passes = subst (λ (h : Here). TellsThroughout (active_of c.in-Ok.node) (history_of c.in-Ok.node) (history_of c.serve-end.new.node) (IsPassed h (idle u) run.0 run.2))
+    let passes = subst (λ (h : Here). TellsThroughout (active_of c.in-Ok.node) (history_of c.in-Ok.node) (history_of c.serve-end.new.node) (IsPassed h (idle u) run.0 run.2.moments))
     here run.5 in (
       s,
       one.1,
@@ -88,15 +89,16 @@ returns g c =
         run.1,
         run.2,
         moved.0,
-        ends_as (Tells c.serve-end.new.node) (Leaves now.disks)
+        ends_as (Tells c.serve-end.new.node) (Leaves now.disks) (IsAt c.serve-end.new.node) (history_of c.serve-end.new.node) (histories_of g.D.Disk.history c.close-in-Ok.result)
             (λ t told. leaves c.serve-end.new.node t (histories_of g.D.Disk.history c.close-in-Ok.result) yes told
             (λ which. ap g.D.Disk.history (c.close-in-Ok.ensures which)))
+            (λ which. ap g.D.Disk.history (c.close-in-Ok.ensures which))
             c.serve-end.result c.args.turns (stops (here_of s) (idle u) run.0) run.1 run.2 moved.1,
         (
           named.0,
           named.1,
           since_boot named.0 (active_of c.in-Ok.node) _ (history_of c.in-Ok.node) (history_of c.serve-end.new.node)
-              (histories_of g.D.Disk.history c.close-in-Ok.result) s run.0 run.2 (λ which. ap g.D.Disk.history (c.close-in-Ok.ensures which))
+              (histories_of g.D.Disk.history c.close-in-Ok.result) s run.0 run.2.moments (λ which. ap g.D.Disk.history (c.close-in-Ok.ensures which))
               (c.in-Ok.ensures.active yes named.0 named.1) (c.in-Ok.ensures.any_moment yes s one.1 named.0 named.1) passes,
         ),
       ),

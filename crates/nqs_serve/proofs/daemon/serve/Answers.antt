@@ -2,7 +2,7 @@ use Rattle.std.proofs.Common.{refl, ap, sym, subst, [], inl, arith}
 use Rattle.nqs_types.specs.declared.ids.HostId.{HostId}
 use Rattle.nqs_node.specs.Nodes.{active_of, content_of}
 use Rattle.nqs_serve.specs.Events.{Here}
-use Rattle.nqs_serve.specs.Runs.{idle}
+use Rattle.nqs_serve.specs.Runs.{idle, none_begun}
 use Rattle.nqs_serve.specs.Moments.{IsPassed}
 use Rattle.nqs_serve.specs.Nodes.{here_of}
 use Rattle.nqs_serve.proofs.Acts.{ran_none}
@@ -16,7 +16,7 @@ pub returns-in-Err-clause-run : goal.returns-in-Err-clause-run
 returns-in-Err-clause-run g c = λ tells s told. (
   [],
   idle s,
-  [],
+  none_begun,
   ran_none (here_of c.args.node.now) (idle s) _,
   ((s, told, inl (refl, refl)), record { before = []; last = []; are = refl; none = refl; at_most_one = omega arith; few = omega arith }),
   (active_of c.args.node.now, through_none c.args.node.now s (IsPassed (here_of c.args.node.now) (idle s) [] []) (tells, told) ([], [], refl, inl refl)),

@@ -6,7 +6,7 @@ use Rattle.nqs_rules.specs.World.{shuts_down}
 use Rattle.nqs_node.specs.Nodes.{active_of, bytes_of}
 use Rattle.nqs_serve.specs.Events.{Here, event_in, stops_by}
 use Rattle.nqs_serve.specs.Steps.{after_event}
-use Rattle.nqs_serve.specs.Runs.{received, took, turn, idle}
+use Rattle.nqs_serve.specs.Runs.{received, took, turn, idle, none_begun, begun}
 use Rattle.nqs_serve.specs.Ends.{Ends, Receives, stops, end_of}
 use Rattle.nqs_serve.specs.Moments.{IsPassed}
 use Rattle.nqs_serve.proofs.Acts.{ran_received, ran_cut, ran_then, received_grew, missed_grew, ran_turn, turn_stops}
@@ -36,8 +36,8 @@ returns-in-Err-Wire-clause-err g c = λ s here knows same.
     let still = through_none c.args.node.now s (IsPassed here (idle s) [] []) knows ([], [], refl, inl refl) in (
       [],
       idle s,
-      [],
-      ran_cut here (idle s) [] _ _ (missed_grew here _ _ _ _ _ _ _ _ lost.0 c.receive.ensures.sent),
+      none_begun,
+      ran_cut here (idle s) none_begun _ _ (missed_grew here _ _ _ _ _ _ _ _ lost.0 c.receive.ensures.sent),
       (refl, refl, knows.1, refl, omega arith),
       (active_of c.args.node.now, still),
     )
@@ -47,7 +47,7 @@ returns-in-Err-Memory-clause-err g c = λ s here knows same.
     let came = c.in-Err-Memory.ensures.cut (ap Err c.in-Err-Memory.field-0-is) in (
       received came.0 ∷ [],
       turn s (option_to_list (event_in here came.0)),
-      [],
+      none_begun,
       ran_received here s came.0 (event_in here came.0) _ _ refl (received_grew here came.0 _ _ _ _ _ _ _ _ came.1 c.receive.ensures.sent),
       ((s, knows.1, inl (refl, refl)), one_receive (stops_by (event_in here came.0) s)),
       (
@@ -82,15 +82,16 @@ returns-in-Err-clause-err g c = λ s here knows same.
     let bs = stops_by (event_in here came.0) s ∷ [] in (
       received came.0 ∷ [],
       turn s (e ∷ []),
-      cut.0 ∷ [],
-      ran_then here (received came.0 ∷ []) [] (idle s) (turn s (e ∷ [])) _ (cut.0 ∷ []) _ _ _
+      begun cut.0 cut.1,
+      ran_then here (received came.0 ∷ []) [] (idle s) (turn s (e ∷ [])) _ (begun cut.0 cut.1) _ _ _
           (ran_received here s came.0 (Some e) _ _ some (received_grew here came.0 _ _ _ _ _ _ _ _ came.2 c.receive.ensures.sent))
-          (ran_cut here (turn s (e ∷ [])) (cut.0 ∷ []) _ _ cut.2),
-      subst (λ f. Ends (end_of f) 1 bs (turn s (e ∷ [])) (cut.0 ∷ []) c.take_event-taken.new.node) (sym c.fault_of.ensures)
-          (cut_ends c.in-Err.cut bs (turn s (e ∷ [])) (cut.0 ∷ []) c.take_event-taken.new.node (inr (e, [], cut.0, refl, refl))
-          (λ memory. let known = cut.1 (ap Err memory) in (known.0, known.1.1, inr (e, [], cut.0, refl, refl, known.2)))
+          (ran_cut here (turn s (e ∷ [])) (begun cut.0 cut.1) _ _ cut.4),
+      subst (λ f. Ends (end_of f) 1 bs (turn s (e ∷ [])) (begun cut.0 cut.1) c.take_event-taken.new.node) (sym c.fault_of.ensures)
+          (cut_ends c.in-Err.cut bs (turn s (e ∷ [])) (begun cut.0 cut.1) c.take_event-taken.new.node
+          (λ memory. let known = cut.2 (ap Err memory) in (known.1.0, known.1.1.1, inr (e, [], cut.0, refl, ap (begun cut.0) known.0, known.1.2)))
+          (λ disk. (e, [], cut.0, cut.1, refl, refl, cut.3 (ap Err disk)))
           (one_receive (stops_by (event_in here came.0) s))),
-      (cut.3.0, through_cut_turn here _ _ _ _ came.0 cut.0 s e some cut.3.1),
+      (cut.5.0, through_cut_turn here _ _ _ _ came.0 cut.0 s e some cut.5.1),
     )
 
 pub returns-in-Err-take_back-clause-err : goal.returns-in-Err-take_back-clause-err
@@ -111,10 +112,11 @@ returns-in-Err-take_back-clause-err g c = λ s here knows same.
       ran_turn here came.0 ok.0 ok.1 cut.0 s e c.clear.new.self.items _ cut.1 cut.2 _ _ _ _ some c.clear.ensures.items ok.2 ok.4
           (received_grew here came.0 _ _ _ _ _ _ _ _ came.2 c.receive.ensures.sent) ok.5 cut.6,
       subst (λ f. Ends (end_of f) 1 bs cut.1 cut.2 c.take_back.new.node) (sym c.fault_of-in-Err-take_back.ensures)
-          (cut_ends c.in-Err-take_back.cut bs cut.1 cut.2 c.take_back.new.node cut.4
-          (λ memory. let known = cut.5 (ap Err memory) in (known.0, known.1.1, known.2))
+          (cut_ends c.in-Err-take_back.cut bs cut.1 cut.2 c.take_back.new.node
+          (λ memory. let known = cut.4 (ap Err memory) in (known.0, known.1.1, known.2))
+          (λ disk. cut.5 (ap Err disk))
           (subst (λ l. Receives 1 l) (sym one) (one_receive (stops_by (event_in here came.0) s)))),
-      (cut.7.0, through_turn here _ _ _ _ _ _ came.0 ok.0 ok.1 cut.0 s e c.clear.new.self.items _ cut.2 some c.clear.ensures.items ok.2 ok.6 cut.7.1),
+      (cut.7.0, through_turn here _ _ _ _ _ _ came.0 ok.0 ok.1 cut.0 s e c.clear.new.self.items _ cut.2.moments some c.clear.ensures.items ok.2 ok.6 cut.7.1),
     )
 
 pub returns-in-Err-clause-disk_fault : goal.returns-in-Err-clause-disk_fault
@@ -149,7 +151,7 @@ returns-clause-ok g c = λ s here knows same.
       rest.1,
       rest.3,
       turn_stops here s came.0 ok.0 ok.1 rest.0 rest.2 ∙ ap (λ o. stops_by o s ∷ []) (sym some) ∙ ap (λ b. b ∷ []) (sym stop),
-      ran_turn here came.0 ok.0 ok.1 rest.0 s e c.clear.new.self.items _ (idle rest.1) [] _ _ _ _ some c.clear.ensures.items ok.2 ok.4
+      ran_turn here came.0 ok.0 ok.1 rest.0 s e c.clear.new.self.items _ (idle rest.1) none_begun _ _ _ _ some c.clear.ensures.items ok.2 ok.4
           (received_grew here came.0 _ _ _ _ _ _ _ _ came.2 c.receive.ensures.sent) ok.5 rest.4,
       through_turn here _ _ _ _ _ _ came.0 ok.0 ok.1 rest.0 s e c.clear.new.self.items _ [] some c.clear.ensures.items ok.2 ok.6 rest.5,
     )

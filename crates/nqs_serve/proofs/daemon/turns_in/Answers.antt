@@ -1,7 +1,7 @@
 use Rattle.std.proofs.Common.{◌≡◌, ℕ, refl, ap, sym, subst, ◌∙◌, ◌++◌, [], ◌∷◌, List, length, length-append, arith, Err, Bool, true, false, inl}
 use Rattle.nqs_node.specs.Nodes.{active_of}
 use Rattle.nqs_serve.specs.Events.{Here}
-use Rattle.nqs_serve.specs.Runs.{idle}
+use Rattle.nqs_serve.specs.Runs.{idle, none_begun}
 use Rattle.nqs_serve.specs.Ends.{Ends, NoneStops, stops, end_of}
 use Rattle.nqs_serve.specs.Moments.{IsPassed}
 use Rattle.nqs_serve.proofs.Acts.{ran_none, ran_then, stops_then}
@@ -32,8 +32,8 @@ returns-in-Ok-true-clause-run g c = λ s here knows same.
     ∙ ap (λ (l : List Bool). xs ++ l) (ok.3 ∙ ap (λ b. b ∷ []) c.in-Ok-true.field-0-test) in (
       before.0 ++ ok.0,
       idle ok.1,
-      [],
-      ran_then here before.0 ok.0 (idle s) (idle before.1) (idle ok.1) [] _ _ _ before.5 ok.4,
+      none_begun,
+      ran_then here before.0 ok.0 (idle s) (idle before.1) (idle ok.1) none_begun _ _ _ before.5 ok.4,
       (
         refl,
         refl,
@@ -70,7 +70,7 @@ returns-in-Err-clause-run g c = λ s here knows same.
       ran_then here before.0 err.0 (idle s) (idle before.1) err.1 err.2 _ _ _ before.5 err.3,
       subst (λ e. Ends e c.args.turns (stops here (idle s) (before.0 ++ err.0)) err.1 err.2 c.turn.new.node) (sym c.end_of.ensures)
           (subst (λ (l : List Bool). Ends (end_of c.in-Err.fault) c.args.turns l err.1 err.2 c.turn.new.node) (sym all) ends),
-      (err.5.0, through_run here _ _ _ _ _ _ (idle s) (idle before.1) before.0 err.0 err.2 before.5.leads before.6 err.5.1),
+      (err.5.0, through_run here _ _ _ _ _ _ (idle s) (idle before.1) before.0 err.0 err.2.moments before.5.leads before.6 err.5.1),
     )
 
 pub returns-in-Err-clause-wire_fault : goal.returns-in-Err-clause-wire_fault
@@ -102,7 +102,7 @@ loop-left-preserved g c = record {
         subst (λ (l : List Bool). NoneStops l) (sym all) (none_both xs (false ∷ []) before.2 refl),
         omega (arith, ap (λ (l : List Bool). length l) all, length-append xs (false ∷ []), before.3, c.loop-left-test.true),
         ok.2,
-        ran_then here before.0 ok.0 (idle s) (idle before.1) (idle ok.1) [] _ _ _ before.5 ok.4,
+        ran_then here before.0 ok.0 (idle s) (idle before.1) (idle ok.1) none_begun _ _ _ before.5 ok.4,
         through_run here _ _ _ _ _ _ (idle s) (idle before.1) before.0 ok.0 [] before.5.leads before.6 ok.5,
       );
 }
@@ -112,7 +112,7 @@ returns-clause-run g c = λ s here knows same.
     let before = c.loop-left.invariant.ran s here knows same in (
       before.0,
       idle before.1,
-      [],
+      none_begun,
       before.5,
       (refl, refl, before.4.1, before.2, omega (arith, before.3, c.loop-left-test.false)),
       (active_of c.loop-left.node, before.6),

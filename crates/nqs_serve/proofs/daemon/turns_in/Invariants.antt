@@ -6,7 +6,7 @@ use Rattle.nqs_store.specs.Sound.{IsSoundHost}
 use Rattle.nqs_serve.specs.Events.{Here}
 use Rattle.nqs_serve.specs.Moments.{TellsTo, IsPassed}
 use Rattle.nqs_serve.specs.Nodes.{Knows}
-use Rattle.nqs_serve.specs.Runs.{Act, idle, telling, Ran}
+use Rattle.nqs_serve.specs.Runs.{Act, idle, telling, none_begun, Ran}
 use Rattle.nqs_serve.specs.Ends.{NoneStops, stops}
 use Rattle.nqs_serve.proofs.daemon.turns_in.Given as goal
 
@@ -20,7 +20,7 @@ invariant-loop-left g l = record {
   ran : (s : Plain) (here : Here) → Knows l.fn.node s → here ≡ record { me = l.me; site = (content_of l.fn.node).site }
       → (acts : List Act) × (u : Plain) × NoneStops (stops here (idle s) acts)
       × (length (stops here (idle s) acts) + l.left ≡ l.turns) × Knows l.node u
-      × Ran here acts (idle s) (idle u) []
+      × Ran here acts (idle s) (idle u) none_begun
       (telling (g.W.Wire.received l.fn.wire) (g.W.Wire.sent l.fn.wire) (g.L.Launcher.asked l.fn.launcher) (g.P.Printer.prints l.fn.printer)
       (g.O.Outlet.filings l.fn.outlet) (g.C.Clock.given l.fn.clock))
       (telling (g.W.Wire.received l.wire) (g.W.Wire.sent l.wire) (g.L.Launcher.asked l.launcher) (g.P.Printer.prints l.printer) (g.O.Outlet.filings l.outlet)

@@ -1,5 +1,5 @@
-use Rattle.std.proofs.Common.{◌≡◌, refl, sym, ap, subst, ◌∙◌, ◌++◌, ◌∷◌, [], List, ℕ, is_some, true, false, arith}
-use Rattle.std.specs.List.{flat_map}
+use Rattle.std.proofs.Common.{◌≡◌, refl, sym, ap, subst, ◌∙◌, ◌++◌, ◌∷◌, [], List, ◌+◌, ◌≤◌, ℕ, length, map, vec_capacity, is_some, true, false, arith}
+use Rattle.std.specs.List.{flat_map, list_all}
 use Rattle.std.proofs.lemmas.List.{append-nil}
 use Rattle.nqs_types.specs.declared.event.Output.{Output}
 use Rattle.nqs_rules.specs.Measure.{starts_left}
@@ -8,14 +8,23 @@ use Rattle.nqs_rules.specs.Starts.{starts, after_starts, after_step}
 use Rattle.nqs_rules.specs.Stepped.{Stepped}
 use Rattle.nqs_back.specs.Back.{comebacks}
 use Rattle.nqs_node.specs.Carried.{started, after_kept}
-use Rattle.nqs_node.specs.Nodes.{active_of}
+use Rattle.nqs_node.specs.Nodes.{active_of, history_of}
+use Rattle.nqs_node.specs.Reading.{sends_short}
+use Rattle.nqs_state.specs.State.{Plain}
+use Rattle.nqs_store.specs.Commits.{EachImage}
+use Rattle.nqs_store.specs.Images.{TellsOneOf}
 use Rattle.nqs_serve.specs.Ends.{IsBetween}
+use Rattle.nqs_serve.specs.Events.{Here}
+use Rattle.nqs_serve.specs.Letters.{letter_of}
+use Rattle.nqs_serve.specs.Sends.{is_right_output}
 use Rattle.nqs_serve.specs.Nodes.{Knows}
 use Rattle.nqs_serve.specs.Steps.{said}
+use Rattle.nqs_serve.proofs.Ending.{unless_memory}
 use Rattle.nqs_serve.proofs.Faults.{same_error, rose_behind}
-use Rattle.nqs_serve.proofs.Known.{steady_known}
-use Rattle.nqs_serve.proofs.Moments.{through_none, through_change, through_made, through_then, between_next}
-use Rattle.nqs_serve.proofs.Starting.{one_start, last_start, none_started, after_more, said_more}
+use Rattle.nqs_serve.proofs.Known.{steady_known, at_known}
+use Rattle.nqs_serve.proofs.Lists.{ready_front, ready_all}
+use Rattle.nqs_serve.proofs.Moments.{through_none, through_change, through_made, through_then, between_next, at_last}
+use Rattle.nqs_serve.proofs.Starting.{one_start, last_start, none_started, after_more, said_more, next_started}
 use Rattle.nqs_serve.proofs.take.settle.Goals as goal
 
 pub loop-cut-init : goal.loop-cut-init
@@ -26,15 +35,30 @@ loop-cut-init g c = record {
   right = c.requires.said;
   short = c.requires.short;
   told = λ s knows. ([], refl, knows, sym (append-nil c.args.out.now.items));
+  many = c.requires.many;
+  room = c.requires.room;
+  behind = refl;
+  ready = λ s here knows same ready. ready;
   moments = λ s knows. through_none c.args.node.now s (IsBetween c.args.now s) knows ([], starts c.args.now s, refl, refl);
   fewer = omega arith;
   later = λ which. omega arith;
 }
 
+pub spell-requires-clause-right : goal.spell-requires-clause-right
+spell-requires-clause-right g c = ap (list_all (is_right_output 16)) c.deref.ensures.value ∙ c.in-Ok-true.ensures.right
+
+pub spell-requires-clause-short : goal.spell-requires-clause-short
+spell-requires-clause-short g c = ap (list_all sends_short) c.deref.ensures.value ∙ c.in-Ok-true.ensures.short
+
+pub spell-requires-clause-fits : goal.spell-requires-clause-fits
+spell-requires-clause-fits g c =
+    omega (arith, c.loop-cut.invariant.many, c.in-Ok-true.ensures.longer, ap (λ (l : List Output). length l) c.deref.ensures.value)
+
 pub loop-cut-preserved : goal.loop-cut-preserved
 loop-cut-preserved g c =
     let now = c.args.now in
     let did = c.in-Ok-true.ensures in
+    let spelled = c.in_default.ensures in
     record {
       sound = did.sound;
       site = did.site ∙ c.loop-cut.invariant.site;
@@ -52,6 +76,17 @@ loop-cut-preserved g c =
             subst (λ v. Knows c.start.new.node v) (sym (after_more before.0 x s)) after.0,
             after.1 ∙ ap (λ (l : List Output). l ++ said x) before.3 ∙ said_more c.args.out.now.items before.0 x,
           );
+      many = spelled.many ∙ ap (λ (l : List Output). length l) c.deref.ensures.value;
+      room = omega (arith, spelled.room, ap (λ (l : List Output). length l) c.deref.ensures.value);
+      behind = spelled.behind ∙ c.loop-cut.invariant.behind;
+      ready = λ s here knows same ready.
+          let before = c.loop-cut.invariant.told s knows in
+          let grown = (did.told (after_starts before.0 s) before.2).1 in
+          let at : List (List ℕ) → Here = λ names. record { me = c.args.me; site = names } in
+          let is_here : at c.as_slice-site.result.now ≡ here =
+          ap at (c.as_slice-site.ensures ∙ ap (λ h. h.site) c.state.ensures ∙ did.site ∙ c.loop-cut.invariant.site) ∙ sym same in
+          let front = ready_front here c.loop-cut.out.items _ c.start.new.out.items c.loop-cut.letters.items grown (c.loop-cut.invariant.ready s here knows same ready) in
+          ready_all c.deref.ensures.value is_here front spelled.spelled;
       moments = λ s knows.
           let before = c.loop-cut.invariant.told s knows in
           let u = after_starts before.0 s in
@@ -61,6 +96,77 @@ loop-cut-preserved g c =
       fewer = omega (arith, c.loop-cut.invariant.fewer, did.fewer c.in-Ok-true.field-0-test, did.one_back);
       later = λ which. omega (arith, c.loop-cut.invariant.later which, did.later which);
     }
+
+pub returns-in-Err-spell-clause-memory : goal.returns-in-Err-spell-clause-memory
+returns-in-Err-spell-clause-memory g c = λ s knows failed.
+    let now = c.args.now in
+    let did = c.in-Ok-true.ensures in
+    let before = c.loop-cut.invariant.told s knows in
+    let u = after_starts before.0 s in
+    let x = started now u in
+    let some : is_some (start now u) ≡ true = sym (did.more u before.2) ∙ c.in-Ok-true.field-0-test in (
+      before.0 ++ x ∷ [],
+      starts now (after_starts (before.0 ++ x ∷ []) s),
+      one_start now s before.0 (steady_known c.loop-cut.node u before.2 c.loop-cut.invariant.sound) before.1 some,
+      subst (λ v. Knows c.start.new.node v) (sym (after_more before.0 x s)) (did.told u before.2).0,
+    )
+
+pub returns-in-Err-spell-clause-moments : goal.returns-in-Err-spell-clause-moments
+returns-in-Err-spell-clause-moments g c = λ s knows.
+    let now = c.args.now in
+    let did = c.in-Ok-true.ensures in
+    let before = c.loop-cut.invariant.told s knows in
+    let u = after_starts before.0 s in (
+      active_of c.start.new.node,
+      through_then _ _ _ _ _ _ (IsBetween now s) (c.loop-cut.invariant.moments s knows)
+          (through_made _ _ _ _ (started now u).change u (IsBetween now s) (did.active u before.2) (did.moments u before.2) (before.0, starts now u, before.1, refl)
+          (between_next now s before.0 (steady_known c.loop-cut.node u before.2 c.loop-cut.invariant.sound) before.1)),
+    )
+
+pub returns-in-Ok-false-clause-many : goal.returns-in-Ok-false-clause-many
+returns-in-Ok-false-clause-many g c =
+    c.loop-cut.invariant.many ∙ sym (ap (λ (l : List Output). length l) (c.in-Ok-false.ensures.idle c.in-Ok-false.field-0-test).1)
+
+pub returns-in-Ok-false-clause-room : goal.returns-in-Ok-false-clause-room
+returns-in-Ok-false-clause-room g c =
+    omega (arith, c.loop-cut.invariant.room, ap (λ (l : List Output). length l) (c.in-Ok-false.ensures.idle c.in-Ok-false.field-0-test).1)
+
+pub returns-in-Ok-false-clause-ready : goal.returns-in-Ok-false-clause-ready
+returns-in-Ok-false-clause-ready g c = λ s here knows same ready.
+    c.loop-cut.invariant.ready s here knows same ready ∙ ap (map (letter_of here)) (sym (c.in-Ok-false.ensures.idle c.in-Ok-false.field-0-test).1)
+
+pub returns-in-Err-clause-many : goal.returns-in-Err-clause-many
+returns-in-Err-clause-many g c =
+    unless_memory c.in-Err.cut _ (c.loop-cut.invariant.many ∙ sym (ap (λ (l : List Output). length l) c.in-Err.ensures.unsaid))
+
+pub returns-in-Err-clause-room : goal.returns-in-Err-clause-room
+returns-in-Err-clause-room g c =
+    let room : length c.loop-cut.back.items + length c.start.new.out.items ≤ vec_capacity c.loop-cut.back =
+    omega (arith, c.loop-cut.invariant.room, ap (λ (l : List Output). length l) c.in-Err.ensures.unsaid) in
+    unless_memory c.in-Err.cut _ room
+
+pub returns-in-Err-clause-ready : goal.returns-in-Err-clause-ready
+returns-in-Err-clause-ready g c = λ s here knows same ready.
+    unless_memory c.in-Err.cut _ (c.loop-cut.invariant.ready s here knows same ready ∙ ap (map (letter_of here)) (sym c.in-Err.ensures.unsaid))
+
+pub returns-in-Err-clause-broke : goal.returns-in-Err-clause-broke
+returns-in-Err-clause-broke g c = λ s knows failed.
+    let now = c.args.now in
+    let before = c.loop-cut.invariant.told s knows in
+    let u = after_starts before.0 s in
+    let next = next_started now u (steady_known c.loop-cut.node u before.2 c.loop-cut.invariant.sound) in (
+      flat_map said before.0,
+      c.in-Err.ensures.unsaid ∙ before.3,
+      record {
+        done = before.0;
+        left = starts now u;
+        are = before.1;
+        at = at_known c.loop-cut.node c.start.new.node u before.2 c.in-Err.ensures.unmade;
+        out = refl;
+        leaves = subst (λ (v : Plain). EachImage (history_of c.start.new.node) (TellsOneOf u v)) (sym next)
+            (at_last _ _ _ (started now u).change u (c.in-Err.ensures.moments u before.2));
+      },
+    )
 
 pub returns-in-Ok-false-clause-told : goal.returns-in-Ok-false-clause-told
 returns-in-Ok-false-clause-told g c = λ s knows.

@@ -1,4 +1,4 @@
-use Rattle.std.proofs.Common.{◌≡◌, ◌≤◌, ◌+◌, ◌++◌, ℕ, List, false}
+use Rattle.std.proofs.Common.{◌≡◌, ◌≤◌, ◌+◌, ◌++◌, ℕ, List, length, vec_capacity, false}
 use Rattle.std.specs.List.{flat_map}
 use Rattle.nqs_state.specs.State.{Plain}
 use Rattle.nqs_types.specs.declared.world.Which.{Which}
@@ -10,6 +10,8 @@ use Rattle.nqs_node.specs.Nodes.{active_of, content_of, disk_of, history_of, is_
 use Rattle.nqs_node.specs.Reading.{AreShort}
 use Rattle.nqs_store.specs.Sound.{IsSoundHost}
 use Rattle.nqs_serve.specs.Ends.{IsBetween}
+use Rattle.nqs_serve.specs.Events.{Here}
+use Rattle.nqs_serve.specs.Letters.{AreReady}
 use Rattle.nqs_serve.specs.Moments.{TellsTo}
 use Rattle.nqs_serve.specs.Nodes.{Knows}
 use Rattle.nqs_serve.specs.Sends.{AreRight}
@@ -26,6 +28,11 @@ invariant-loop-cut g l = record {
   told : (s : Plain) → Knows l.fn.node s → (xs : List (Stepped (List ℕ))) × (starts l.now s ≡ xs ++ starts l.now (after_starts xs s))
       × Knows l.node (after_starts xs s) × (l.out.items ≡ l.fn.out.items ++ flat_map said xs);
   moments : (s : Plain) → Knows l.fn.node s → TellsTo (active_of l.fn.node) (active_of l.node) (history_of l.fn.node) (history_of l.node) (IsBetween l.now s);
+  many : length l.letters.items ≡ length l.out.items;
+  room : length l.back.items + length l.out.items ≤ vec_capacity l.back;
+  behind : l.back.items ≡ l.fn.back.items;
+  ready : (s : Plain) (here : Here) → Knows l.fn.node s → here ≡ record { me = l.me; site = (content_of l.fn.node).site }
+      → AreReady here l.fn.out.items l.fn.letters.items → AreReady here l.out.items l.letters.items;
   fewer : starts_left (content_of l.node) + comebacks l.out.items ≤ starts_left (content_of l.fn.node) + comebacks l.fn.out.items;
   later : (which : Which) → g.D.Disk.faults (disk_of which l.fn.node) ≤ g.D.Disk.faults (disk_of which l.node);
 }

@@ -1,7 +1,7 @@
 use Rattle.std.proofs.Common.{Err, ap, sym, ◌∙◌}
 use Rattle.nqs_serve.proofs.Known.{start_known}
 use Rattle.nqs_node.specs.Nodes.{content_of}
-use Rattle.nqs_serve.proofs.Sendable.{alike_right, start_right, start_short}
+use Rattle.nqs_serve.proofs.Sendable.{alike_right, alike_longer, start_right, start_short}
 use Rattle.nqs_serve.proofs.take.start.Goals as goal
 
 pub returns-in-Ok-clause-more : goal.returns-in-Ok-clause-more
@@ -36,3 +36,6 @@ returns-in-Ok-clause-short g c = c.in-Ok.ensures.short c.requires.short (start_s
 
 pub returns-in-Ok-clause-active : goal.returns-in-Ok-clause-active
 returns-in-Ok-clause-active g c = λ s knows. c.in-Ok.ensures.active knows.0 s knows.1
+
+pub returns-in-Ok-clause-longer : goal.returns-in-Ok-clause-longer
+returns-in-Ok-clause-longer g c = alike_longer _ _ _ c.in-Ok.ensures.alike

@@ -1,6 +1,6 @@
 use Rattle.std.proofs.Common.{Err, ap}
 use Rattle.nqs_node.specs.Nodes.{content_of}
-use Rattle.nqs_serve.proofs.Sendable.{alike_right, step_right, step_short}
+use Rattle.nqs_serve.proofs.Sendable.{alike_right, alike_longer, step_right, step_short}
 use Rattle.nqs_serve.proofs.take.take.Goals as goal
 
 pub returns-in-Ok-clause-moments : goal.returns-in-Ok-clause-moments
@@ -30,3 +30,6 @@ returns-in-Ok-clause-short g c =
 
 pub returns-in-Ok-clause-active : goal.returns-in-Ok-clause-active
 returns-in-Ok-clause-active g c = λ s knows. c.in-Ok.ensures.active knows.0 s knows.1
+
+pub returns-in-Ok-clause-longer : goal.returns-in-Ok-clause-longer
+returns-in-Ok-clause-longer g c = alike_longer _ _ _ c.in-Ok.ensures.alike

@@ -5,7 +5,7 @@ use Rattle.nqs_node.specs.Nodes.{content_of}
 use Rattle.nqs_serve.specs.Events.{Here}
 use Rattle.nqs_serve.specs.Steps.{after_event}
 use Rattle.nqs_serve.specs.Moments.{IsPassed}
-use Rattle.nqs_serve.specs.Runs.{took, turn, event_back}
+use Rattle.nqs_serve.specs.Runs.{took, turn, event_back, begun}
 use Rattle.nqs_serve.specs.declared.comeback.Comeback.{Comeback}
 use Rattle.nqs_serve.proofs.Acts.{arrivals_append, ran_none, ran_empty, took_back, cut_back}
 use Rattle.nqs_serve.proofs.Faults.{rose_behind}
@@ -50,15 +50,15 @@ returns-in-Err-clause-cut g c = λ s here knows same.
     let cut = c.in-Err.ensures.cut before.1 here before.3 (same ∙ ap at (sym c.loop-alloc.invariant.site)) in (
       before.0 ++ [],
       turn before.1 (e ∷ map event_back rest),
-      cut.0 ∷ [],
+      begun cut.0 cut.1,
       arrivals_append before.0 [] ∙ ap (λ l. l ++ []) before.2,
-      inr (e, map event_back rest, cut.0, refl, refl),
-      λ failed. let known = cut.1 failed in (known.0, known.1, inr (e, map event_back rest, cut.0, refl, refl, known.2)),
-      cut_back here before.0 _ before.1 e x c.loop-alloc.back.items rest cut.0 _ _ _ split c.event_back-event.ensures before.4 cut.2,
+      λ failed. let known = cut.2 failed in (known.1.0, known.1.1, inr (e, map event_back rest, cut.0, refl, ap (begun cut.0) known.0, known.1.2)),
+      λ failed. (e, map event_back rest, cut.0, cut.1, refl, refl, cut.3 failed),
+      cut_back here before.0 _ before.1 e x c.loop-alloc.back.items rest cut.0 cut.1 _ _ _ split c.event_back-event.ensures before.4 cut.4,
       (
-        cut.3.0,
+        cut.5.0,
         through_cut_back here _ _ _ _ _ _ _ before.0 before.1 e x c.loop-alloc.back.items rest cut.0 split c.event_back-event.ensures
-            before.4.leads before.5 cut.3.1,
+            before.4.leads before.5 cut.5.1,
       ),
     )
 

@@ -7,7 +7,7 @@ use Rattle.nqs_store.specs.Sound.{IsSoundHost}
 use Rattle.nqs_serve.specs.Events.{Here}
 use Rattle.nqs_serve.specs.Moments.{TellsTo, IsPassed}
 use Rattle.nqs_serve.specs.Nodes.{Knows}
-use Rattle.nqs_serve.specs.Runs.{Act, arrivals, turn, event_back, telling, Ran}
+use Rattle.nqs_serve.specs.Runs.{Act, arrivals, turn, event_back, telling, none_begun, Ran}
 use Rattle.nqs_serve.proofs.take.take_back.Given as goal
 
 abbrev pub invariant-loop-alloc : goal.invariant-loop-alloc
@@ -19,7 +19,7 @@ invariant-loop-alloc g l = record {
   wire : g.W.Wire.receive_faults l.fn.wire ≤ g.W.Wire.receive_faults l.wire;
   ran : (s : Plain) (here : Here) → Knows l.fn.node s → here ≡ record { me = l.me; site = (content_of l.fn.node).site }
       → (acts : List Act) × (u : Plain) × (arrivals acts ≡ []) × Knows l.node u
-      × Ran here acts (turn s (map event_back l.fn.back.items)) (turn u (map event_back l.back.items)) []
+      × Ran here acts (turn s (map event_back l.fn.back.items)) (turn u (map event_back l.back.items)) none_begun
       (telling (g.W.Wire.received l.fn.wire) (g.W.Wire.sent l.fn.wire) (g.L.Launcher.asked l.fn.launcher) (g.P.Printer.prints l.fn.printer)
       (g.O.Outlet.filings l.fn.outlet) (g.C.Clock.given l.fn.clock))
       (telling (g.W.Wire.received l.wire) (g.W.Wire.sent l.wire) (g.L.Launcher.asked l.launcher) (g.P.Printer.prints l.printer) (g.O.Outlet.filings l.outlet)

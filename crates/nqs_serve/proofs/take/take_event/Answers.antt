@@ -1,20 +1,18 @@
-use Rattle.std.proofs.Common.{◌≡◌, ℕ, refl, ap, sym, ◌∙◌, ◌++◌, [], List, length, map, arith, inr}
-use Rattle.std.proofs.lemmas.List.{append-nil}
+use Rattle.std.proofs.Common.{◌≡◌, refl, ap, sym, subst, ◌∙◌, ◌++◌, [], List, length, map, Err, arith}
 use Rattle.nqs_types.specs.declared.event.Output.{Output}
 use Rattle.nqs_rules.specs.Sane.{is_sane_event}
-use Rattle.nqs_rules.specs.Starts.{starts}
 use Rattle.nqs_back.specs.Back.{comebacks, comes_back}
-use Rattle.nqs_node.specs.Nodes.{active_of, content_of}
-use Rattle.nqs_node.specs.Reading.{sends_short}
-use Rattle.nqs_serve.specs.Events.{Here}
+use Rattle.nqs_node.specs.Nodes.{content_of, history_of}
+use Rattle.nqs_serve.specs.Ends.{Broke}
 use Rattle.nqs_serve.specs.Letters.{letter_of}
-use Rattle.nqs_serve.specs.Steps.{stepped, after_event, outputs}
+use Rattle.nqs_serve.specs.Nodes.{IsAt}
+use Rattle.nqs_serve.specs.Steps.{calls}
 use Rattle.nqs_serve.specs.Runs.{brought_back}
 use Rattle.nqs_serve.specs.declared.comeback.Comeback.{Comeback}
-use Rattle.nqs_serve.proofs.Acts.{clock_grew, took_grew}
+use Rattle.nqs_serve.proofs.Acts.{clock_grew, cut_grew, took_grew}
+use Rattle.nqs_serve.proofs.Ending.{unless_disk, memory_is_no_disk, disk_is_no_memory}
 use Rattle.nqs_serve.proofs.Sane.{sane_at, right_at, comes_at}
-use Rattle.std.specs.List.{list_all}
-use Rattle.nqs_serve.specs.Sends.{is_right_output, is_right_event}
+use Rattle.nqs_serve.specs.Sends.{is_right_event}
 use Rattle.nqs_serve.proofs.take.take_event.Goals as goal
 
 pub take_whole-requires-clause-sane : goal.take_whole-requires-clause-sane
@@ -22,104 +20,76 @@ take_whole-requires-clause-sane g c =
     let hosts = length (content_of c.args.node.now).site in
     ap (is_sane_event hosts) c.set_moment.ensures ∙ sane_at hosts c.now-now.result c.args.event.now ∙ c.requires.sane
 
-pub returns-in-Err-clause-cut : goal.returns-in-Err-clause-cut
-returns-in-Err-clause-cut g c = λ s here knows same. (
+pub returns-in-Err-Memory-clause-cut : goal.returns-in-Err-Memory-clause-cut
+returns-in-Err-Memory-clause-cut g c = λ s here knows same. (
   c.now-now.result,
-  λ failed. c.in-Err.ensures.memory s c.args.event.now knows c.set_moment.ensures failed,
+  [],
+  λ failed. (refl, c.in-Err-Memory.ensures.memory s c.args.event.now knows c.set_moment.ensures (ap Err c.in-Err-Memory.field-0-is)),
+  λ failed. absurd (memory_is_no_disk _ failed),
   clock_grew here _ _ _ _ _ _ _ c.now-now.result c.now-now.ensures,
-  c.in-Err.ensures.moments s c.args.event.now knows c.set_moment.ensures,
+  c.in-Err-Memory.ensures.moments s c.args.event.now knows c.set_moment.ensures,
 )
 
-pub returns-in-Err-clause-broken : goal.returns-in-Err-clause-broken
-returns-in-Err-clause-broken g c = λ failed. c.in-Err.ensures.broken failed
-
-pub returns-in-Err-reserve-clause-cut : goal.returns-in-Err-reserve-clause-cut
-returns-in-Err-reserve-clause-cut g c = λ s here knows same.
+pub returns-in-Err-Disk-clause-cut : goal.returns-in-Err-Disk-clause-cut
+returns-in-Err-Disk-clause-cut g c = λ s here knows same.
     let now = c.now-now.result in
-    let told = c.in_default.ensures.told s c.args.event.now knows c.set_moment.ensures in (
+    let e = c.args.event.now in
+    let ready = unless_disk c.in-Err-Disk.field-0 _ c.in-Err-Disk.field-0-is (c.in-Err-Disk.ensures.ready s here knows same) in
+    let spelled : c.deref-in-Err-Disk.result.now ≡ map (letter_of here) c.deref.result.now =
+    c.deref-in-Err-Disk.ensures.value ∙ ready ∙ ap (map (letter_of here)) (sym c.deref.ensures.value) in
+    let carried = c.carry.ensures.carried here spelled in (
       now,
-      λ failed. (
-        after_event now c.args.event.now s,
-        told.0,
-        inr (
-          starts now (stepped now c.args.event.now s),
-          [],
-          sym
-              (append-nil (starts now (stepped now c.args.event.now s))),
-          refl,
-        ),
-      ),
-      clock_grew here _ _ _ _ _ _ _ now c.now-now.ensures,
-      (active_of c.take_whole.new.node, c.in_default.ensures.moments s c.args.event.now knows c.set_moment.ensures),
+      carried.0,
+      λ failed. absurd (disk_is_no_memory _ failed),
+      λ failed.
+          subst (λ (l : List Output). Broke (IsAt c.take_whole.new.node) (calls now e s) s l (history_of c.take_whole.new.node)) (sym (carried.1 ∙ c.deref.ensures.value))
+          (c.in-Err-Disk.ensures.broke s e knows c.set_moment.ensures (ap Err c.in-Err-Disk.field-0-is)),
+      cut_grew here now carried.0 _ _ c.carry.ensures.received carried.3 carried.4 carried.5 carried.6 c.now-now.ensures,
+      c.in-Err-Disk.ensures.moments s e knows c.set_moment.ensures,
     )
 
-pub returns-in-Err-letters_of-clause-cut : goal.returns-in-Err-letters_of-clause-cut
-returns-in-Err-letters_of-clause-cut g c = λ s here knows same.
-    let now = c.now-now.result in
-    let told = c.in_default.ensures.told s c.args.event.now knows c.set_moment.ensures in (
-      now,
-      λ failed. (
-        after_event now c.args.event.now s,
-        told.0,
-        inr (
-          starts now (stepped now c.args.event.now s),
-          [],
-          sym
-              (append-nil (starts now (stepped now c.args.event.now s))),
-          refl,
-        ),
-      ),
-      clock_grew here _ _ _ _ _ _ _ now c.now-now.ensures,
-      (active_of c.take_whole.new.node, c.in_default.ensures.moments s c.args.event.now knows c.set_moment.ensures),
-    )
+pub carry-requires-clause-many : goal.carry-requires-clause-many
+carry-requires-clause-many g c =
+    ap (λ l. length l) c.deref-in-Err-Disk.ensures.value ∙ unless_disk c.in-Err-Disk.field-0 _ c.in-Err-Disk.field-0-is c.in-Err-Disk.ensures.many
+    ∙ sym (ap (λ (l : List Output). length l) c.deref.ensures.value)
+
+pub carry-requires-clause-room : goal.carry-requires-clause-room
+carry-requires-clause-room g c = omega (
+  arith,
+  unless_disk c.in-Err-Disk.field-0 _ c.in-Err-Disk.field-0-is c.in-Err-Disk.ensures.room,
+  ap (λ (l : List Output). length l) c.deref.ensures.value,
+)
 
 pub returns-clause-ok : goal.returns-clause-ok
 returns-clause-ok g c = λ s here knows same.
     let now = c.now-now.result in
     let e = c.args.event.now in
-    let told = c.in_default.ensures.told s e knows c.set_moment.ensures in
-    let site : c.as_slice.result.now ≡ (content_of c.args.node.now).site = c.as_slice.ensures ∙ ap (λ h. h.site) c.state.ensures ∙ c.in_default.ensures.site in
-    let at : List (List ℕ) → Here = λ x. record { me = c.args.me; site = x } in
-    let is_here : at c.as_slice.result.now ≡ here = ap at site ∙ sym same in
-    let spelled : c.deref-3.result.now ≡ map (letter_of here) c.deref-2.result.now =
-    c.deref-3.ensures.value ∙ c.in-Ok.ensures ∙ ap (λ h. map (letter_of h) c.deref.result.now) is_here
-    ∙ ap (map (letter_of here)) (c.deref.ensures.value ∙ sym c.deref-2.ensures.value) in
-    let carried = c.carry.ensures.carried here spelled in (
+    let told = c.in-Ok.ensures.told s e knows c.set_moment.ensures in
+    let ready = c.in-Ok.ensures.ready s here knows same in
+    let spelled : c.deref-in-Ok-2.result.now ≡ map (letter_of here) c.deref-in-Ok.result.now =
+    c.deref-in-Ok-2.ensures.value ∙ ready ∙ ap (map (letter_of here)) (sym c.deref-in-Ok.ensures.value) in
+    let carried = c.carry-in-Ok.ensures.carried here spelled in (
       now,
       carried.0,
-      carried.2 ∙ ap (λ (l : List Comeback). l ++ brought_back carried.0) c.reserve.ensures.items,
+      carried.2 ∙ ap (λ (l : List Comeback). l ++ brought_back carried.0) c.in-Ok.ensures.behind,
       told.0,
-      carried.1 ∙ c.deref-2.ensures.value ∙ told.1 ∙ ap (λ (l : List Output). l ++ outputs now e s) c.clear.ensures.items,
-      took_grew here now carried.0 _ _ c.carry.ensures.received carried.3 carried.4 carried.5 carried.6 c.now-now.ensures,
-      c.in_default.ensures.moments s e knows c.set_moment.ensures,
+      carried.1 ∙ c.deref-in-Ok.ensures.value ∙ told.1,
+      took_grew here now carried.0 _ _ c.carry-in-Ok.ensures.received carried.3 carried.4 carried.5 carried.6 c.now-now.ensures,
+      c.in-Ok.ensures.moments s e knows c.set_moment.ensures,
     )
 
 pub returns-clause-fewer : goal.returns-clause-fewer
 returns-clause-fewer g c = λ back.
-    let first = c.in_default.ensures.fewer (ap comes_back c.set_moment.ensures ∙ comes_at c.now-now.result c.args.event.now ∙ back) in
+    let first = c.in-Ok.ensures.fewer (ap comes_back c.set_moment.ensures ∙ comes_at c.now-now.result c.args.event.now ∙ back) in
     omega (
       arith,
       first,
-      c.carry.ensures.few,
-      ap comebacks c.clear.ensures.items,
-      ap comebacks c.deref-2.ensures.value,
-      ap
-          (λ (l : List Comeback). length l) c.reserve.ensures.items,
+      c.carry-in-Ok.ensures.few,
+      ap comebacks c.deref-in-Ok.ensures.value,
+      ap (λ (l : List Comeback). length l) c.in-Ok.ensures.behind,
     )
 
 pub take_whole-requires-clause-right : goal.take_whole-requires-clause-right
 take_whole-requires-clause-right g c =
     let hosts = length (content_of c.args.node.now).site in
     ap (is_right_event hosts) c.set_moment.ensures ∙ right_at hosts c.now-now.result c.args.event.now ∙ c.requires.right
-
-pub take_whole-requires-clause-said : goal.take_whole-requires-clause-said
-take_whole-requires-clause-said g c = ap (list_all (is_right_output 16)) c.clear.ensures.items
-
-pub letters_of-requires-clause-right : goal.letters_of-requires-clause-right
-letters_of-requires-clause-right g c = ap (list_all (is_right_output 16)) c.deref.ensures.value ∙ c.in_default.ensures.right
-
-pub take_whole-requires-clause-short : goal.take_whole-requires-clause-short
-take_whole-requires-clause-short g c = ap (list_all sends_short) c.clear.ensures.items
-
-pub letters_of-requires-clause-short : goal.letters_of-requires-clause-short
-letters_of-requires-clause-short g c = ap (list_all sends_short) c.deref.ensures.value ∙ c.in_default.ensures.short

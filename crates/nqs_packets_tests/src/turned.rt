@@ -1,0 +1,333 @@
+//! Datagrams that came wrong: cut short at every byte, with a byte too many, and with each byte in
+//! turn as 0, 7f and ff. What is wanted is written by hand, by the fields of each kind.
+
+use crate::packets::{MESSAGES, fault};
+use Fault::{Here, Is};
+use nqs_packets::PacketFault;
+use nqs_packets::PacketFault::{BadField, Kind, Short, Trailing, Version};
+use nqs_values::Memory;
+use std::alloc::Global;
+use std::rt::HostRuntime;
+use std::test::Fail;
+
+// Whether each part of the datagram from its beginning is short, at its end.
+fn are_short(alloc: Global, bytes: &[u8]) -> bool {
+    for end in 0..bytes.len() {
+        if fault(alloc, &bytes[..end]) != Some(Short(end as u64)) {
+            return false;
+        }
+    }
+    true
+}
+
+#[test]
+fn what_is_cut_off_is_short(rt: HostRuntime) {
+    for bytes in &MESSAGES {
+        assert!(rt; are_short(rt.alloc(), bytes));
+    }
+}
+
+/// What a byte is turned to.
+const VALUES: [u8; 3] = [0, 0x7f, 0xff];
+
+// Whether that byte behind the datagram is found there.
+fn is_followed(alloc: Global, bytes: &[u8], value: u8) -> Result<bool, Memory> {
+    let mut longer = bytes.to_vec(alloc)?;
+    longer.push(value)?;
+    Ok(fault(alloc, &longer) == Some(Trailing(bytes.len() as u64)))
+}
+
+#[test]
+fn a_byte_too_many_is_found(rt: HostRuntime) -> Result<(), Fail> {
+    for bytes in &MESSAGES {
+        for value in &VALUES {
+            assert!(rt; is_followed(rt.alloc(), bytes, *value)?);
+        }
+    }
+    Ok(())
+}
+
+/// The fault where a byte is turned.
+enum Fault {
+    /// The byte is bad itself.
+    Here,
+    Is(PacketFault),
+}
+
+/// The first and the last of some bytes, and the fault where one of them is turned.
+type Run = (usize, usize, Fault);
+
+/// For each of the datagrams the runs of bytes that give a fault where they are 0, 7f and ff. Each
+/// other byte may be so. In a name or a path each byte may be wrong by itself: no letter, digit or
+/// other sign that stands there is any of these three.
+const TURNED: [[&[Run]; 3]; 13] = [
+    // OFFER: the number at 4, the queue at 12, the request at 18 and 22, its name at 23 and owner at
+    // 25, the priority at 29, rerun at 38, three values that may be missing from 39 on, two paths at
+    // 42 and 47, join at 52, starts at 53, lost at 55, hops at 57, the script at 58.
+    [
+        &[
+            (0, 0, Is(Version)),
+            (1, 1, Is(Kind)),
+            (11, 11, Is(BadField(4))),
+            (12, 17, Here),
+            (21, 21, Is(BadField(18))),
+            (23, 28, Here),
+            (42, 51, Here),
+            (54, 54, Is(BadField(55))),
+            (56, 56, Is(BadField(55))),
+            (61, 61, Is(Trailing(62))),
+        ],
+        &[
+            (0, 0, Is(Version)),
+            (1, 1, Is(Kind)),
+            (2, 3, Here),
+            (12, 17, Here),
+            (22, 29, Here),
+            (38, 41, Here),
+            (42, 42, Is(Short(64))),
+            (43, 46, Here),
+            (47, 47, Is(Short(64))),
+            (48, 51, Here),
+            (52, 52, Here),
+            (53, 56, Is(BadField(55))),
+            (57, 57, Here),
+            (58, 59, Is(BadField(58))),
+            (60, 61, Is(Short(64))),
+        ],
+        &[
+            (0, 0, Is(Version)),
+            (1, 1, Is(Kind)),
+            (2, 3, Here),
+            (12, 17, Here),
+            (22, 29, Here),
+            (38, 41, Here),
+            (42, 42, Is(Short(64))),
+            (43, 46, Here),
+            (47, 47, Is(Short(64))),
+            (48, 51, Here),
+            (52, 52, Here),
+            (53, 56, Is(BadField(55))),
+            (57, 57, Here),
+            (58, 60, Is(BadField(58))),
+            (61, 61, Is(Short(64))),
+        ],
+    ],
+    // READY: a number with no byte that is 0.
+    [&[(0, 0, Is(Version)), (1, 1, Is(Kind))], ENDS, ENDS],
+    // REFUSED: the number of the refusal at 12.
+    [
+        &[
+            (0, 0, Is(Version)),
+            (1, 1, Is(Kind)),
+            (11, 11, Is(BadField(4))),
+            (12, 12, Here),
+        ],
+        CAUSE,
+        CAUSE,
+    ],
+    // COMMIT, DONE, INQUIRE, ABORT
+    [NUMBER, ENDS, ENDS],
+    [NUMBER, ENDS, ENDS],
+    [NUMBER, ENDS, ENDS],
+    [NUMBER, ENDS, ENDS],
+    // STAGE: the path at 12, the output at 17.
+    [
+        &[
+            (0, 0, Is(Version)),
+            (1, 1, Is(Kind)),
+            (11, 11, Is(BadField(4))),
+            (12, 16, Here),
+            (20, 20, Is(Trailing(21))),
+        ],
+        &[
+            (0, 0, Is(Version)),
+            (1, 1, Is(Kind)),
+            (2, 3, Here),
+            (12, 12, Is(Short(24))),
+            (13, 16, Here),
+            (17, 18, Is(BadField(17))),
+            (19, 20, Is(Short(24))),
+        ],
+        &[
+            (0, 0, Is(Version)),
+            (1, 1, Is(Kind)),
+            (2, 3, Here),
+            (12, 12, Is(Short(24))),
+            (13, 16, Here),
+            (17, 19, Is(BadField(17))),
+            (20, 20, Is(Short(24))),
+        ],
+    ],
+    // STAGED
+    [NUMBER, ENDS, ENDS],
+    // ASK: the user at 14, the tool at 18, the count at 19, two words at 21 and 27, the script at 38.
+    // Without words the first one is the script. The first word without bytes is followed by one of
+    // 2d6b0000 bytes, the second one by a script of 372e616c.
+    [
+        &[
+            (0, 0, Is(Version)),
+            (1, 1, Is(Kind)),
+            (14, 17, Here),
+            (18, 18, Here),
+            (20, 20, Is(Trailing(27))),
+            (24, 24, Is(Short(42))),
+            (30, 30, Is(BadField(31))),
+        ],
+        &[
+            (0, 0, Is(Version)),
+            (1, 1, Is(Kind)),
+            (2, 3, Here),
+            (14, 17, Here),
+            (18, 18, Here),
+            (19, 24, Is(Short(42))),
+            (27, 30, Is(Short(42))),
+            (38, 39, Is(BadField(38))),
+            (40, 41, Is(Short(42))),
+        ],
+        &[
+            (0, 0, Is(Version)),
+            (1, 1, Is(Kind)),
+            (2, 3, Here),
+            (14, 17, Here),
+            (18, 18, Here),
+            (19, 24, Is(Short(42))),
+            (27, 30, Is(Short(42))),
+            (38, 40, Is(BadField(38))),
+            (41, 41, Is(Short(42))),
+        ],
+    ],
+    // ANSWER: whether it was done at 12, the text at 13, of any length.
+    [
+        &[
+            (0, 0, Is(Version)),
+            (1, 1, Is(Kind)),
+            (16, 16, Is(Trailing(17))),
+        ],
+        TEXT,
+        TEXT,
+    ],
+    // ENDED: the request at 6 and 10, the output at 14, the error output at 18.
+    [
+        &[
+            (0, 0, Is(Version)),
+            (1, 1, Is(Kind)),
+            (9, 9, Is(BadField(6))),
+            (21, 21, Is(Trailing(22))),
+        ],
+        OUTPUTS,
+        OUTPUTS,
+    ],
+    // ENDEDACK: the request at 4 and 8. Its number is the greatest, and none with ff as its last
+    // byte.
+    [
+        &[(0, 0, Is(Version)), (1, 1, Is(Kind))],
+        &[
+            (0, 0, Is(Version)),
+            (1, 1, Is(Kind)),
+            (2, 3, Here),
+            (8, 8, Here),
+        ],
+        &[
+            (0, 0, Is(Version)),
+            (1, 1, Is(Kind)),
+            (2, 3, Here),
+            (7, 7, Is(BadField(4))),
+            (8, 8, Here),
+        ],
+    ],
+];
+
+/// A number of which the last byte alone isn't 0.
+const NUMBER: &[Run] = &[
+    (0, 0, Is(Version)),
+    (1, 1, Is(Kind)),
+    (11, 11, Is(BadField(4))),
+];
+
+/// A sender and a receiver that no site has.
+const ENDS: &[Run] = &[(0, 0, Is(Version)), (1, 1, Is(Kind)), (2, 3, Here)];
+
+/// A number of a refusal that no offer gets.
+const CAUSE: &[Run] = &[
+    (0, 0, Is(Version)),
+    (1, 1, Is(Kind)),
+    (2, 3, Here),
+    (12, 12, Here),
+];
+
+/// A text that is longer than what is there.
+const TEXT: &[Run] = &[
+    (0, 0, Is(Version)),
+    (1, 1, Is(Kind)),
+    (2, 3, Here),
+    (12, 12, Here),
+    (13, 16, Is(Short(28))),
+];
+
+/// Outputs that are longer than may be, and then than what is there.
+const OUTPUTS: &[Run] = &[
+    (0, 0, Is(Version)),
+    (1, 1, Is(Kind)),
+    (2, 3, Here),
+    (10, 10, Here),
+    (14, 16, Is(BadField(14))),
+    (17, 17, Is(Short(25))),
+    (18, 20, Is(BadField(18))),
+    (21, 21, Is(Short(25))),
+];
+
+// The fault that is wanted where that byte is turned.
+fn wanted(runs: &[Run], place: usize) -> Option<&Fault> {
+    for (first, last, fault) in runs {
+        if *first <= place && place <= *last {
+            return Some(fault);
+        }
+    }
+    None
+}
+
+// Whether a fault is the one that is wanted of that byte.
+fn is_fault(found: Option<&PacketFault>, place: usize, fault: Option<&Fault>) -> bool {
+    match (found, fault) {
+        (None, None) => true,
+        (Some(found), Some(Here)) => *found == BadField(place as u64),
+        (Some(found), Some(Is(fault))) => found == fault,
+        _ => false,
+    }
+}
+
+// Whether the datagram with that byte turned has the fault.
+fn is_wanted(
+    alloc: Global,
+    bytes: &[u8],
+    place: usize,
+    value: u8,
+    runs: &[Run],
+) -> Result<bool, Memory> {
+    let mut turned = bytes.to_vec(alloc)?;
+    if let Some(byte) = turned.get_mut(place) {
+        *byte = value;
+    }
+    let found = fault(alloc, &turned);
+    Ok(is_fault(found.as_ref(), place, wanted(runs, place)))
+}
+
+// Whether each byte turned in its turn gives what is wanted.
+fn are_wanted(alloc: Global, bytes: &[u8], value: u8, runs: &[Run]) -> Result<bool, Memory> {
+    for place in 0..bytes.len() {
+        if !is_wanted(alloc, bytes, place, value, runs)? {
+            return Ok(false);
+        }
+    }
+    Ok(true)
+}
+
+#[test]
+fn each_byte_is_turned(rt: HostRuntime) -> Result<(), Fail> {
+    for (bytes, runs) in MESSAGES.iter().zip(TURNED.iter()) {
+        for (value, of) in VALUES.iter().zip(runs.iter()) {
+            assert!(rt; are_wanted(rt.alloc(), bytes, *value, of)?);
+        }
+    }
+    Ok(())
+}
