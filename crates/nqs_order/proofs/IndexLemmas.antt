@@ -1,5 +1,5 @@
 -- Indexes: tables gone over from the front, and owners counted.
-use Rattle.std.proofs.Common.{◌≡◌, ℕ, ◌+◌, ◌≤◌, suc, zero, Bool, true, false, ◌&&◌, List, [], ◌∷◌, ◌++◌, length, drop, map, filter, Some, slice_get, refl, sym, ap, ◌∙◌, arith, append_assoc, if◌then◌else◌}
+use Rattle.std.proofs.Common.{◌≡◌, ℕ, ◌+◌, ◌≤◌, suc, zero, Bool, true, false, ◌&&◌, List, [], ◌∷◌, ◌++◌, length, drop, map, filter, Option, None, Some, slice_get, refl, sym, ap, ◌∙◌, arith, append_assoc, if◌then◌else◌}
 use Rattle.std.specs.Prelude.{cond}
 use Rattle.std.proofs.Common.{◌<◌, slice_set, slice_index_or}
 use Rattle.nqs_order.specs.declared.line.Entry.{Entry}
@@ -8,7 +8,8 @@ use Rattle.nqs_keyed.proofs.TableLemmas.{drop-at}
 use Rattle.nqs_values.specs.Same.{name_eq}
 use Rattle.nqs_types.specs.declared.request.Row.{Row}
 use Rattle.nqs_rules.specs.Order.{is_active_in, is_active_of}
-use Rattle.nqs_order.specs.Indexed.{with_owner, owners_in, CountsOwners, CountsRows}
+use Rattle.std.specs.List.{filter_map, cons_option}
+use Rattle.nqs_order.specs.Indexed.{with_owner, owners_in, with_device, device_of, CountsOwners, CountsRows}
 
 pub nothing_behind : {A : Type 0} (xs : List A) (n : ℕ) → length xs ≤ n → drop n xs ≡ []
 nothing_behind [] zero le = refl
@@ -28,6 +29,22 @@ mapped f ys xs i x at = append_assoc ys (f x ∷ []) (map f (drop (i + 1) xs)) �
 -- what was made of a whole table
 pub all_mapped : {A B : Type 0} (f : A → B) (ys all : List B) (xs : List A) (n : ℕ) → length xs ≤ n → ys ++ map f (drop n xs) ≡ all → ys ≡ all
 all_mapped f ys all xs n le is = with_nothing ys ∙ ap (λ l. ys ++ map f l) (sym (nothing_behind xs n le)) ∙ is
+
+one_device : (o : Option (List ℕ)) (devices rest : List (List ℕ)) → with_device o devices ++ rest ≡ devices ++ cons_option o rest
+one_device None devices rest = refl
+one_device (Some d) devices rest = append_assoc devices (d ∷ []) rest
+
+module _ {E : Type 0} where
+  -- one more row was looked at
+  pub device_added : (devices : List (List ℕ)) (rows : List (Row E)) (i : ℕ) (r : Row E) → slice_get rows i ≡ Some r
+      → with_device (device_of r) devices ++ filter_map device_of (drop (i + 1) rows) ≡ devices ++ filter_map device_of (drop i rows)
+  device_added devices rows i r at =
+      one_device (device_of r) devices (filter_map device_of (drop (i + 1) rows)) ∙ sym (ap (λ rs. devices ++ filter_map device_of rs) (drop-at rows i r at))
+
+  -- all rows were looked at
+  pub devices_done : (devices : List (List ℕ)) (rows : List (Row E)) (n : ℕ) → length rows ≤ n → devices ++ filter_map device_of (drop n rows) ≡ filter_map device_of rows
+      → devices ≡ filter_map device_of rows
+  devices_done devices rows n le is = with_nothing devices ∙ ap (λ rs. devices ++ filter_map device_of rs) (sym (nothing_behind rows n le)) ∙ is
 
 -- one more that passes in both lists, or in none
 one_more_of : {A B : Type 0} (b : Bool) (x : A) (y : B) (xs : List A) (ys : List B) → length xs ≡ length ys → length (cond b (x ∷ xs) xs) ≡ length (cond b (y ∷ ys) ys)
@@ -71,7 +88,7 @@ module _ {E : Type 0} (q : List ℕ) where
       by true rest = one_more_of (name_eq owner r.job.owner) r.job.owner r (filter (name_eq owner) (owners_in q rs)) (filter (is_active_of q owner) rs) rest
       by false rest = rest
 
-  counts_owners : (rows : List (Row E)) → CountsOwners q rows
+  pub counts_owners : (rows : List (Row E)) → CountsOwners q rows
   counts_owners rows = record { all = as_many rows; each = λ owner. as_often owner rows }
 
 pub counts_rows : CountsRows

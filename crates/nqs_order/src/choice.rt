@@ -27,7 +27,7 @@ fn is_candidate(state: &HostState, queue: &QueueDef, now: u64) -> bool
     is_within_limits(state, queue) && has_eligible(state, queue, now)
 }
 
-fn is_greater(one: &QueueDef, other: &QueueDef) -> bool
+pub(crate) fn is_greater(one: &QueueDef, other: &QueueDef) -> bool
     ensures { result ≡ is_greater one.now other.now }
 {
     other.priority < one.priority
@@ -43,7 +43,7 @@ fn next_queue(state: &HostState, now: u64) -> Option<(usize, &QueueDef)>
     )
 }
 
-fn print_on(place: usize, device: Option<usize>) -> Option<Choice>
+pub(crate) fn print_on(place: usize, device: Option<usize>) -> Option<Choice>
     ensures { result ≡ print_on place device }
 {
     match device {
@@ -61,7 +61,12 @@ fn is_local(state: &HostState, queue: &QueueDef, dest: usize) -> bool
     }
 }
 
-fn move_to(state: &HostState, queue: &QueueDef, place: usize, dest: Option<usize>) -> Option<Choice>
+pub(crate) fn move_to(
+    state: &HostState,
+    queue: &QueueDef,
+    place: usize,
+    dest: Option<usize>,
+) -> Option<Choice>
     ensures { result ≡ move_to place queue.now (content state.now) dest }
 {
     match dest {

@@ -53,7 +53,7 @@ pub fn kind_allows(state: &HostState, queue: &QueueDef, now: u64, row: &Row) -> 
 
 // Whether the row is queued in the queue, isn't held and may start by its time. What tells most is
 // looked at first.
-fn is_waiting(queue: &QueueDef, now: u64, row: &Row) -> bool
+pub(crate) fn is_waiting(queue: &QueueDef, now: u64, row: &Row) -> bool
     ensures { result ≡ is_waiting queue.now now row.now }
 {
     row.state == RowState::Queued

@@ -3,15 +3,21 @@
 //! `specs/Indexed.antt` says what it is that stands for a state.
 
 ghost use Rattle.std.specs.Prelude.{◌≡◌, ◌<◌, ◌≤◌, ◌+◌, ◌-◌, ◌*◌, ◌^◌, slice_index_or, OnErr, [], length, map, filter, OnOk, IfOk};
+ghost use Rattle.std.specs.List.{filter_map};
+ghost use Rattle.std.specs.Option.{option_copied};
+ghost use Rattle.nqs_values.specs.Same.{name_eq};
 ghost use Rattle.nqs_state.specs.State.{content};
+ghost use Rattle.nqs_rules.specs.Find.{has_name};
 ghost use Rattle.nqs_rules.specs.Order.{runs_in_batch};
-ghost use Rattle.nqs_order.specs.Indexed.{StandsForIndex, CountsRows, waits_in, with_row, line_of, with_owner, owners_in, queue_of, running_of, lines_of, entered};
+ghost use Rattle.nqs_order.specs.Indexed.{StandsForIndex, CountsRows, waits_in, with_row, line_of, with_owner, owners_in, queue_of, running_of, lines_of, entered, taken, device_of, with_device, one};
+ghost use Rattle.nqs_order.specs.ByIndex.{owned, kept_of, count_of};
 ghost use Rattle.nqs_order.specs.Lines.{entry_at};
 
 use crate::key::Key;
 use crate::limits::{is_active_in, runs_in, runs_in_batch};
-use crate::line::Line;
+use crate::line::{Entry, Line};
 use crate::steps::Steps;
+use nqs_devices::has_name;
 use nqs_state::HostState;
 use nqs_types::{ComplexDef, QueueDef, RequestId, Row, RowState};
 use nqs_values::{Items, ListOf, Memory, Name};
@@ -40,6 +46,8 @@ pub struct Index {
     complexes: ListOf<usize>,
     /// How many rows of batch queues run.
     batch: usize,
+    /// The device of each row that runs on one.
+    printing: ListOf<Name>,
 }
 
 impl Drop for Index {
@@ -48,6 +56,7 @@ impl Drop for Index {
             queues: _,
             complexes: _,
             batch: _,
+            printing: _,
         } = self;
     }
 }
@@ -175,6 +184,42 @@ fn running_batch(state: &HostState) -> usize
     state.rows.count(|row: &Row| runs_in_batch(state, row))
 }
 
+fn device_of(row: &Row) -> Option<Name>
+    ensures { result ≡ device_of row.now }
+{
+    if row.state == RowState::Running {
+        row.device
+    } else {
+        None
+    }
+}
+
+// A row that runs on a device gives it.
+fn add_device(devices: &mut ListOf<Name>, device: Option<Name>) -> Result<(), Memory>
+    ensures { OnOk result (devices.new ≡ with_device device devices.old) }
+{
+    match device {
+        Some(device) => {
+            devices.push(device)?;
+            Ok(())
+        }
+        None => Ok(()),
+    }
+}
+
+// The device of each row that runs on one.
+fn devices_of(alloc: Global, state: &HostState) -> Result<ListOf<Name>, Memory>
+    ensures { IfOk result (λ devices. devices ≡ filter_map device_of state.now.rows.items) }
+{
+    let mut devices = ListOf::new(alloc);
+    let mut place = 0;
+    while place < state.rows.len() {
+        add_device(&mut devices, device_of(state.rows.at(place)))?;
+        place += 1;
+    }
+    Ok(devices)
+}
+
 fn counted_build<L: Ledger>(alloc: Global, state: &HostState, blank: Blank) -> Result<Index, Memory>
     requires name { blank.name ≡ L.name }
     requires parts { blank.parts ≡ L.parts }
@@ -184,14 +229,93 @@ fn counted_build<L: Ledger>(alloc: Global, state: &HostState, blank: Blank) -> R
     let mut steps = Steps::<L>::new(blank);
     let queues = queues_of(alloc, state, &mut steps)?;
     let complexes = complexes_of(alloc, state)?;
+    let printing = devices_of(alloc, state)?;
     Ok(Index {
         queues: queues.into_vec(),
         complexes,
         batch: running_batch(state),
+        printing,
     })
 }
 
+impl QueueIndex {
+    // The waiting rows.
+    pub(crate) fn line(&self) -> &[Entry]
+        ensures { result.now ≡ self.now.line }
+    {
+        self.line.as_slice()
+    }
+
+    // How many rows are active.
+    pub(crate) fn active(&self) -> usize
+        ensures { result ≡ length self.now.owners }
+    {
+        self.owners.len()
+    }
+
+    // How many of the active rows are the owner's.
+    pub(crate) fn owned(&self, owner: &Name) -> usize
+        ensures { result ≡ owned owner.now self.now }
+    {
+        count_name(self.owners.as_slice(), owner)
+    }
+}
+
+fn one_if_same(name: &Name, other: &Name) -> usize
+    ensures value { result ≡ one (name_eq name.now other.now) }
+    ensures most { result ≤ 1 }
+{
+    if *name == *other { 1 } else { 0 }
+}
+
+// How often a name stands in a list.
+fn count_name(names: &[Name], name: &Name) -> usize
+    ensures { result ≡ length (filter (name_eq name.now) names.now) }
+{
+    let mut count = 0;
+    let mut place = 0;
+    while place < names.len() {
+        count += one_if_same(name, &names[place]);
+        place += 1;
+    }
+    count
+}
+
 impl Index {
+    // What is kept of a queue of the host.
+    pub(crate) fn kept_of(&self, queue: &Name, state: &HostState) -> Option<&QueueIndex>
+        ensures { option_copied result ≡ kept_of self.now queue.now (content state.now) }
+    {
+        match state.queues.place(queue) {
+            Some(place) => self.queues.as_slice().get(place),
+            None => None,
+        }
+    }
+
+    // How many rows of a complex of the host run.
+    pub(crate) fn count_of(&self, complex: &Name, state: &HostState) -> Option<usize>
+        ensures { result ≡ count_of self.now complex.now (content state.now) }
+    {
+        match state.complexes.place(complex) {
+            Some(place) => self.complexes.as_slice().get(place).copied(),
+            None => None,
+        }
+    }
+
+    // How many rows of batch queues run.
+    pub(crate) fn batch(&self) -> usize
+        ensures { result ≡ self.now.batch }
+    {
+        self.batch
+    }
+
+    // Whether a row runs on the device.
+    pub(crate) fn prints_on(&self, device: &Name) -> bool
+        ensures { result ≡ has_name self.now.printing device.now }
+    {
+        has_name(self.printing.as_slice(), device)
+    }
+
     /// The index of a state.
     pub fn build(alloc: Global, state: &HostState) -> Result<Index, Memory>
         ensures { IfOk result (λ index. StandsForIndex index (content state.now)) }
@@ -223,5 +347,14 @@ impl Index {
         ensures cost { 2 ^ (steps.new - steps.old) ≤ 2 * length (slice_index_or (lines_of self.old) queue []) + 1 }
     {
         self.queues[queue].line.insert(key, id, steps)
+    }
+
+    /// Takes a request out of the line of the queue at a place, from 0, if it is there, and no
+    /// memory.
+    pub fn take<L: Ledger>(&mut self, queue: usize, key: Key, id: RequestId, steps: &mut Steps<L>)
+        requires { queue < length (lines_of self.old) }
+        ensures { lines_of self.new ≡ taken queue (entry_at key id) (lines_of self.old) }
+    {
+        self.queues[queue].line.take(key, id, steps);
     }
 }

@@ -1,0 +1,158 @@
+-- The scheduler's rules over an index: its counts in place of those of rows, and a queue's line in place of all rows.
+use Rattle.std.specs.Prelude.{ℕ, Bool, true, false, not, ◌&&◌, ◌||◌, ◌==◌, nat_lt, if◌then◌else◌, List, [], ◌∷◌, length, filter, position, slice_get, Option, None, Some, is_some}
+use Rattle.std.specs.List.{list_all, list_any}
+use Rattle.std.specs.Option.{option_map, option_and_then}
+use Rattle.nqs_values.specs.Same.{name_eq}
+use Rattle.nqs_keyed.specs.Table.{best_from}
+use Rattle.nqs_state.specs.State.{State}
+use Rattle.nqs_state.specs.Keys.{is_row, is_queue, is_complex}
+use Rattle.nqs_rules.specs.Tests.{passes, is_batch}
+use Rattle.nqs_rules.specs.Find.{has_name, find_device}
+use Rattle.nqs_rules.specs.Devices.{can_serve}
+use Rattle.nqs_rules.specs.Routing.{destination}
+use Rattle.nqs_rules.specs.Order.{below, is_greater, print_on, move_to}
+use Rattle.nqs_types.specs.declared.ids.RequestId.{RequestId}
+use Rattle.nqs_types.specs.declared.request.Row.{Row}
+use Rattle.nqs_types.specs.declared.queue.Kind.{Kind}
+use Rattle.nqs_types.specs.declared.queue.Kind.TheVariants.{Batch, Device, Pipe}
+use Rattle.nqs_types.specs.declared.queue.QueueDef.{QueueDef}
+use Rattle.nqs_types.specs.declared.queue.ComplexDef.{ComplexDef}
+use Rattle.nqs_types.specs.declared.rule.Choice.{Choice}
+use Rattle.nqs_types.specs.declared.rule.Choice.TheVariants.{Launch, TooFar}
+use Rattle.nqs_order.specs.declared.index.Index.{Index}
+use Rattle.nqs_order.specs.declared.index.QueueIndex.{QueueIndex}
+use Rattle.nqs_order.specs.declared.line.Entry.{Entry}
+use Rattle.nqs_order.specs.Waiting.{is_waiting}
+
+-- how many of a queue's active requests are the owner's
+abbrev pub owned : List ℕ → QueueIndex → ℕ
+owned owner q = length (filter (name_eq owner) q.owners)
+
+-- fewer requests of the owner are active in the queue than its user limit
+abbrev pub user_allows : QueueIndex → QueueDef → List ℕ → Bool
+user_allows q d owner = below (owned owner q) d.user_limit
+
+-- a line has an entry
+abbrev pub is_filled : List Entry → Bool
+is_filled line = nat_lt 0 (length line)
+
+-- a number is below the complex's limit
+abbrev pub is_below : ComplexDef → ℕ → Bool
+is_below c n = nat_lt n c.limit
+
+module _ {E : Type 0} where
+  -- what is kept of a queue of the host
+  abbrev pub kept_of : Index → List ℕ → State E → Option QueueIndex
+  kept_of index name s = option_and_then (slice_get index.queues.items) (position (is_queue name) s.queues)
+
+  -- how many requests run in a complex of the host
+  abbrev pub count_of : Index → List ℕ → State E → Option ℕ
+  count_of index name s = option_and_then (slice_get index.complexes) (position (is_complex name) s.complexes)
+
+  -- the queue isn't of the complex, or fewer requests run in the complex than its limit
+  abbrev pub complex_allows : Index → List ℕ → State E → ComplexDef → Bool
+  complex_allows index q s c = not (has_name c.queues q) || passes (is_below c) (count_of index c.name s)
+
+  -- the complexes and the global limit allow another batch request
+  abbrev pub batch_allows : Index → List ℕ → State E → Bool
+  batch_allows index q s = list_all (complex_allows index q s) s.complexes && nat_lt index.batch s.global_limit
+
+  -- the queue's run limit, and for a batch queue those limits too
+  abbrev pub is_within_limits : Index → QueueIndex → QueueDef → State E → Bool
+  is_within_limits index q d s = nat_lt (length q.owners) d.run_limit && (not (is_batch d.kind) || batch_allows index d.name s)
+
+  -- a device may take a request with these forms now
+  abbrev pub is_free_device : Index → Option (List ℕ) → State E → List ℕ → Bool
+  is_free_device index forms s device = passes (can_serve forms) (find_device device s) && not (has_name index.printing device)
+
+  -- the place in the queue's list of its first device that is free and has the forms
+  abbrev pub free_device : Index → QueueDef → Option (List ℕ) → State E → Option ℕ
+  free_device index d forms s = position (is_free_device index forms s) d.devices
+
+  -- a device of the queue is free, whatever its forms
+  abbrev pub has_free_device : Index → QueueDef → State E → Bool
+  has_free_device index d s = list_any (is_free_device index None s) d.devices
+
+  -- the queue can do something with some row, as far as that is told without one
+  abbrev pub may_serve : Kind → Index → QueueDef → State E → Bool
+  may_serve Batch index d s = true
+  may_serve Device index d s = has_free_device index d s
+  may_serve Pipe index d s = true
+
+  -- the queue can do something with the row
+  abbrev pub kind_allows : Kind → Index → QueueDef → ℕ → State E → Row E → Bool
+  kind_allows Batch index d now s r = true
+  kind_allows Device index d now s r = is_some (free_device index d r.job.forms s)
+  kind_allows Pipe index d now s r = r.hops == 32 || is_some (destination d now s r)
+
+  -- the row may start
+  abbrev pub is_eligible : Index → QueueIndex → QueueDef → ℕ → State E → Row E → Bool
+  is_eligible index q d now s r = is_waiting d now r && user_allows q d r.job.owner && kind_allows d.kind index d now s r
+
+  -- a place with a row
+  abbrev pub placed_row : ℕ → Row E → ℕ × Row E
+  placed_row n r = (n, r)
+
+  -- a place, with the row that stands there
+  abbrev pub with_row : State E → ℕ → Option (ℕ × Row E)
+  with_row s n = option_map (placed_row n) (slice_get s.rows n)
+
+  -- a row that passes a test, with its place
+  abbrev pub if_passes : (Row E → Bool) → ℕ × Row E → Option (ℕ × Row E)
+  if_passes test p = if test p.1 then Some p else None
+
+  -- the row of a request, with its place, if it may start
+  abbrev pub startable : Index → QueueIndex → QueueDef → ℕ → State E → RequestId → Option (ℕ × Row E)
+  startable index q d now s id = option_and_then (if_passes (is_eligible index q d now s)) (option_and_then (with_row s) (position (is_row id) s.rows))
+
+  -- what was found, or else another one
+  abbrev pub found_or : Option (ℕ × Row E) → Option (ℕ × Row E) → Option (ℕ × Row E)
+  found_or None other = other
+  found_or (Some p) other = Some p
+
+  -- the row of the first entry whose row may start, with its place
+  abbrev pub first_in : Index → QueueIndex → QueueDef → ℕ → State E → List Entry → Option (ℕ × Row E)
+  first_in index q d now s [] = None
+  first_in index q d now s (e ∷ es) = found_or (startable index q d now s e.id) (first_in index q d now s es)
+
+  -- the same of the queue's line
+  abbrev pub first_of : Index → QueueDef → ℕ → State E → Option QueueIndex → Option (ℕ × Row E)
+  first_of index d now s None = None
+  first_of index d now s (Some q) = first_in index q d now s q.line
+
+  -- the first row of a queue that may start
+  abbrev pub first_eligible : Index → QueueDef → ℕ → State E → Option (ℕ × Row E)
+  first_eligible index d now s = first_of index d now s (kept_of index d.name s)
+
+  -- the queue may start one more request, by what is kept of it
+  abbrev pub may_start : Index → ℕ → State E → QueueDef → Option QueueIndex → Bool
+  may_start index now s d None = false
+  may_start index now s d (Some q) = is_filled q.line && is_within_limits index q d s && may_serve d.kind index d s && is_some (first_in index q d now s q.line)
+
+  -- the queue is started, within its limits, and has an eligible row
+  abbrev pub is_candidate : Index → ℕ → State E → QueueDef → Bool
+  is_candidate index now s d = d.started && may_start index now s d (kept_of index d.name s)
+
+  -- the queue that starts next
+  abbrev pub next_queue : Index → ℕ → State E → Option (ℕ × QueueDef)
+  next_queue index now s = best_from (is_candidate index now s) is_greater 0 s.queues
+
+  -- what is done with an eligible row
+  abbrev pub choice_for : Kind → Index → QueueDef → ℕ → State E → ℕ → Row E → Option Choice
+  choice_for Batch index d now s place r = Some (Launch place)
+  choice_for Device index d now s place r = print_on place (free_device index d r.job.forms s)
+  choice_for Pipe index d now s place r = if r.hops == 32 then Some (TooFar place) else move_to place d s (destination d now s r)
+
+  -- what is started of a queue, of its first eligible request
+  abbrev pub choice_of : Index → QueueDef → ℕ → State E → Option (ℕ × Row E) → Option Choice
+  choice_of index d now s None = None
+  choice_of index d now s (Some p) = choice_for d.kind index d now s p.0 p.1
+
+  -- what is started, of the queue that comes first
+  abbrev pub pick_in : Index → ℕ → State E → Option (ℕ × QueueDef) → Option Choice
+  pick_in index now s None = None
+  pick_in index now s (Some q) = choice_of index q.1 now s (first_eligible index q.1 now s)
+
+  -- what is started next
+  abbrev pub pick : Index → ℕ → State E → Option Choice
+  pick index now s = pick_in index now s (next_queue index now s)
