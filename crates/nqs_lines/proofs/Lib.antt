@@ -1,6 +1,7 @@
 pub mod Steps
 pub mod Options
 pub mod Submissions
+mod Named
 pub mod Edits
 pub mod Questions
 pub mod Schedules

@@ -10,7 +10,7 @@ ghost use Rattle.nqs_lines.specs.Acts.{of_line, of_words, listed, qsub_command a
 use nqs_qmgr::read_qmgr;
 use nqs_qsub::read_qsub;
 use nqs_query::{read_qdel, read_qstat};
-use nqs_types::Command;
+use nqs_types::{Command, Job, Limits, Submission};
 use nqs_values::{Bytes, Memory, Name};
 use std::alloc::Global;
 
@@ -29,14 +29,32 @@ pub fn qsub_command(
     }
 }
 
-/// A submission with this name for the request, and an empty script.
-pub fn submit_command(alloc: Global, user: &Name, name: &Name) -> Result<Command, Memory>
-    ensures { IfOk result (λ command. command ≡ named_submission user.now name.now) }
+/// A submission with this name for the request, and an empty script: that of `-r` and the name.
+pub fn submit_command(alloc: Global, user: &Name, name: &Name) -> Command
+    ensures { result ≡ named_submission user.now name.now }
 {
-    let option = Bytes::from_vec(Vec::from_slice(alloc, b"-r")?);
-    let value = Bytes::from_vec(Vec::from_slice(alloc, name.as_bytes())?);
-    let words = [option, value];
-    qsub_command(alloc, user, &words, b"")
+    // The proof needs that it is one.
+    let _bytes = name.as_bytes();
+    let job = Job {
+        name: *name,
+        owner: *user,
+        priority: 31,
+        earliest: 0,
+        rerun: true,
+        limits: Limits {
+            cpu: None,
+            memory: None,
+        },
+        forms: None,
+        out: Bytes::new(alloc),
+        err: Bytes::new(alloc),
+        join: false,
+    };
+    Command::Submit(Submission {
+        queue: None,
+        job,
+        script: Bytes::new(alloc),
+    })
 }
 
 /// A line of qmgr.

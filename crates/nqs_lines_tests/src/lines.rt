@@ -55,7 +55,7 @@ type Answers = ([Option<bool>; 2], Option<bool>, [bool; 3]);
 fn answers(alloc: Global, words: &[Bytes]) -> Answers {
     let submitted = [
         submits(qsub_command(alloc, &name(), words, b"date")),
-        submits(submit_command(alloc, &name(), &name())),
+        Some(is_submission(&submit_command(alloc, &name(), &name()))),
     ];
     let listed = unread(qstat_command(alloc, &[]));
     let others = [

@@ -1,17 +1,12 @@
 -- Packets that arrive: the newest of two hosts, and why each is within its limits.
-use Rattle.std.proofs.Common.{◌≡◌, ℕ, zero, suc, ◌<◌, Bool, true, false, cond, List, [], ◌∷◌, length, drop, filter, get_or, slice_get, Option, None, Some, refl}
+use Rattle.std.proofs.Common.{◌≡◌, ℕ, zero, suc, ◌<◌, Bool, true, false, cond, List, [], ◌∷◌, length, drop, filter, get_or, slice_get, Some}
 use Rattle.std.proofs.Common.{sym, ap, subst, ◌∙◌, arith}
 use Rattle.std.proofs.lemmas.Bool.{and_parts}
 use Rattle.std.proofs.lemmas.Option.{same_Some, none-some}
 use Rattle.std.specs.List.{list_all}
 use Rattle.nqs_types.specs.declared.ids.HostId.{HostId}
 use Rattle.nqs_types.specs.declared.message.Message.{Message}
-use Rattle.nqs_rules.specs.Sane.{is_sane_message}
 use Rattle.nqs_rules.specs.World.{World as Network, last_of, packet_at, is_between, newest_between}
-use Rattle.nqs_laws.specs.Words.{IsInOrderAll}
-use Rattle.nqs_net.specs.Deeds.{IsReadyFor}
-use Rattle.nqs_net.specs.Worlds.{IsWorld}
-use Rattle.nqs_net.specs.declared.world.World.{World}
 
 module _ {A : Type 0} where
   last_more : (x m : A) (ys : List A) → last_of ys ≡ Some m → last_of (x ∷ ys) ≡ Some m
@@ -55,12 +50,6 @@ numbered_sane t (suc k) w m all e = all_at t w.packets k m all e
 
 pub newest_sane : (t : Message → Bool) (a b : HostId) (w : Network) (m : Message) → list_all t w.packets ≡ true → newest_between a b w ≡ Some m → t m ≡ true
 newest_sane t a b w m all e = all_last t (is_between a b) w.packets m all e
-
--- a packet that was sent may come to its host
-pub ready_for : (world : World) (o : Option Message) (site : List (List ℕ)) (network : Network) → IsInOrderAll site network → IsWorld world network
-    → ((m : Message) → o ≡ Some m → is_sane_message (length site) m ≡ true) → IsReadyFor world o
-ready_for world None site network order stands sane = tt
-ready_for world (Some m) site network order stands sane = record { site = site; network = network; order = order; stands = stands; sane = sane m refl }
 
 pub latest : (a b : HostId) (w : Network) (l : List Message) (p n : ℕ) (m : Message) → l ≡ w.packets → p ≡ suc n → n < length l → m ≡ get_or l n m
     → is_between a b m ≡ true → filter (is_between a b) (drop p l) ≡ []

@@ -18,7 +18,8 @@ use Rattle.nqs_store.specs.Hosts.{HostCall, same_disk, on, part}
 use Rattle.nqs_store.specs.Plan.{puts_calls, checkpoint_calls, due_calls, commit_calls}
 use Rattle.nqs_net.specs.Worlds.{calls_of, IsFuse, AreInTurn, IsDisk, AreDisks, active_in}
 use Rattle.nqs_net.proofs.Fates.{clear_falls}
-use Rattle.nqs_net.proofs.Parts.{part_more, part_same, part_other, root_other, spool_other, journal_not_root, journal_not_spool, ran, ran_more, ran_still, ran_same}
+use Rattle.nqs_net.proofs.Parts.{part_more, part_same, part_other, root_other, spool_other, journal_not_root, journal_not_spool, ran, ran_more, ran_still}
+use Rattle.nqs_net.proofs.Parts.{ran_same}
 use Rattle.nqs_net.proofs.Parts.{ran_other, moment_more}
 
 -- calls in turn
@@ -90,7 +91,8 @@ module _ (host : Host) (fails : Which → ℕ → Bool) (old : Which → History
     (count : length calls ≡ n) (turn : AreInTurn calls) (clear : AreClear (fails disk) (moment (old disk)) n) where
   made : IsDisk (burnt n (fuse_of disk host.fuses)) (calls_of disk host.calls + n) (ran old (on disk calls) disk) (fails disk)
   made = after_calls (fuse_of disk host.fuses) (calls_of disk host.calls) (old disk) (ran old (on disk calls) disk) (fails disk) (fails disk) calls
-      (λ i. refl) (disks disk) n (ran_same old disk calls) count turn (clear_falls (fuse_of disk host.fuses) (moment (old disk)) n (fails disk) (disks disk).fuse clear)
+      (λ i. refl) (disks disk) n (ran_same old disk calls) count turn (clear_falls (fuse_of disk host.fuses) (moment (old disk)) n (fails disk)
+      (disks disk).fuse clear)
 
   still : (which : Which) → same_disk which disk ≡ false
       → IsDisk (fuse_of which host.fuses) (calls_of which host.calls) (ran old (on disk calls) which) (fails which)
@@ -155,7 +157,8 @@ module _ (host : Host) (fails : Which → ℕ → Bool) (old : Which → History
       let one = calling (other_of here) 2 host in
       let mid = ran old other_calls in
       let first : AreDisks one mid fails = calling_disks host fails old disks (other_of here) 2 (front_calls (snapshot_front snapshot)) refl tt other in
-      let same : moment (mid Root) ≡ moment (old Root) = ap moment (ran_other old Root (other_of here) (front_calls (snapshot_front snapshot)) (root_other (not here.second))) in
+      let same : moment (mid Root) ≡ moment (old Root) = ap moment (ran_other old Root (other_of here) (front_calls (snapshot_front snapshot))
+      (root_other (not here.second))) in
       let both : AreDisks (turns_over host) (ran mid (on Root byte_calls)) fails = calling_disks one fails mid first Root 2 byte_calls refl tt
       (subst (λ t. AreClear (fails Root) t 2) (sym same) root) in
       same_disks (turns_over host) fails fails (ran mid (on Root byte_calls)) (ran old (checkpoint_calls here snapshot)) both (λ which i. refl)
@@ -180,11 +183,13 @@ module _ (a : Active) (snapshot : List ℕ) where
 
   pub spool_due : (b : Bool) → part Spool (if b then checkpoint_calls a snapshot else []) ≡ []
   spool_due false = refl
-  spool_due true = part_more Spool (on (other_of a) front_part) (on Root byte_part) ∙ ap (λ l. l ++ []) (part_other Spool (other_of a) front_part (spool_other (not a.second)))
+  spool_due true = part_more Spool (on (other_of a) front_part) (on Root byte_part)
+      ∙ ap (λ l. l ++ []) (part_other Spool (other_of a) front_part (spool_other (not a.second)))
 
   pub root_due : (b : Bool) → part Root (if b then checkpoint_calls a snapshot else []) ≡ (if b then byte_part else [])
   root_due false = refl
-  root_due true = part_more Root (on (other_of a) front_part) (on Root byte_part) ∙ ap (λ l. l ++ byte_part) (part_other Root (other_of a) front_part (root_other (not a.second)))
+  root_due true = part_more Root (on (other_of a) front_part) (on Root byte_part)
+      ∙ ap (λ l. l ++ byte_part) (part_other Root (other_of a) front_part (root_other (not a.second)))
 
   -- of the journal that the record goes to
   pub journal_due : (b : Bool) → length (part (journal_of (if b then turned_to a else a)) (if b then checkpoint_calls a snapshot else []))
@@ -239,7 +244,8 @@ module _ (host : Host) (fails now_fails : Which → ℕ → Bool) (old now : Whi
       let mid = ran old due in
       let r = ready host in
       let is_active : active r.root ≡ j = ap journal_of (ready_active host) in
-      let last : AreDisks (wrote puts r) (ran (ran mid spool) record_calls) fails = written_disks r fails mid (ready_disks host fails old disks c.snapshot kept.past)
+      let last : AreDisks (wrote puts r) (ran (ran mid spool) record_calls) fails =
+      written_disks r fails mid (ready_disks host fails old disks c.snapshot kept.past)
       puts c.places c.gate c.payload c.many j is_active (journal_not_spool (ready_in from).second)
       (subst (λ t. AreClear (fails Spool) t (spool_calls puts)) (sym (spool_then old from c.snapshot)) kept.spool)
       (subst (λ t. AreClear (fails j) t 4) (sym (journal_then old from c.snapshot)) kept.journal) in

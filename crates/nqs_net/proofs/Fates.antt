@@ -143,7 +143,8 @@ module _ (host : Host) (fails : Which → ℕ → Bool) (old : Which → History
   -- it was cut off
   module _ (due : is_due host.records ≡ true) where
     pub other_fate : falls_at_journal host ≡ true → fate puts host ≡ StoppedBefore
-    other_fate falls = ap (λ b. by_checkpoint b (falls_at_journal host || falls_at_root host)) due ∙ ap (λ b. by_checkpoint true (b || falls_at_root host)) falls
+    other_fate falls = ap (λ b. by_checkpoint b (falls_at_journal host || falls_at_root host)) due
+        ∙ ap (λ b. by_checkpoint true (b || falls_at_root host)) falls
 
     pub other_cut : falls_at_journal host ≡ true → cut_off host ≡ host
     other_cut falls =

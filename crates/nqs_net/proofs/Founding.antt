@@ -99,7 +99,17 @@ module _ (me : HostId) (site : List (List ℕ)) where
       (text : List ℕ) (made : mem.history_of disks.first ≡ extended (mem.history_of new.first) (begin_calls text))
       (fuse : (i : ℕ) → mem.fails_of disks.first i ≡ mem.fails_of new.first i) where
     abbrev host : Host
-    host = record { up = true; state = formatted me site; told = []; tear = Old; fuses = no_fuses; calls = record no_calls { first = 2 }; root = []; records = 1 }
+    host = record {
+      up = true;
+      state = formatted me site;
+      told = [];
+      tear = Old;
+      fuses = no_fuses;
+      calls = record no_calls { first = 2 };
+      root = [];
+      records =
+          1;
+    }
 
     two_calls : AreDisks host (histories_of mem.history_of disks) (failing_of mem.fails_of disks)
     two_calls Root = still disks.root (ap mem.history_of root ∙ bare Root) (λ i. ap (λ d. mem.fails_of d i) root ∙ unfused Root i)

@@ -20,7 +20,8 @@ use Rattle.nqs_store.specs.Commits.{root_calls, record_moment, AreImages}
 use Rattle.nqs_store.specs.Images.{IsTold}
 use Rattle.nqs_net.specs.Worlds.{IsFuse, AreDisks, active_in}
 use Rattle.nqs_net.proofs.Burns.{ready_active, ready_disks, spool_then, journal_then}
-use Rattle.nqs_net.proofs.Fates.{made_record, spool_record, early_record, late_record, past_fate, past_cut, journal_clear, journal_falls, root_falls, other_fate, other_cut}
+use Rattle.nqs_net.proofs.Fates.{made_record, spool_record, early_record, late_record, past_fate, past_cut, journal_clear, journal_falls, root_falls}
+use Rattle.nqs_net.proofs.Fates.{other_fate, other_cut}
 use Rattle.nqs_net.proofs.Fates.{root_fate, root_cut}
 use Rattle.nqs_net.proofs.Roots.{ready_root, root_after}
 
@@ -140,7 +141,8 @@ module _ (host : Host) (fails : Which → ℕ → Bool) (old : Which → History
 
       late_fate : 2 ≤ at → fate puts host ≡ (if keeps_gate host.tear then StoppedAfter else StoppedBefore)
       late_fate late = past_fate host fails old disks puts past
-          ∙ late_record r puts (moment (old Spool)) (record_moment a old) (fails Spool) (fails (journal_of (ready_in a))) spool_fuse journal_fuse clear at failed late
+          ∙ late_record r puts (moment (old Spool)) (record_moment a old) (fails Spool)
+          (fails (journal_of (ready_in a))) spool_fuse journal_fuse clear at failed late
           ∙ ap (λ t. if keeps_gate t then StoppedAfter else StoppedBefore) (ready_tear host)
 
       by_gate : (k : Bool) → MatchBool k (IsTold left after × IsActive left (recorded_in (ready_in a))) (IsTold left before × IsActive left (ready_in a))
@@ -158,7 +160,8 @@ module _ (host : Host) (fails : Which → ℕ → Bool) (old : Which → History
     abbrev j : Which
     j = journal_of (ready_in a)
 
-    gate_tells : MatchBool (keeps_gate host.tear) (IsTold left after × IsActive left (recorded_in (ready_in a))) (IsTold left before × IsActive left (ready_in a))
+    gate_tells : MatchBool (keeps_gate host.tear) (IsTold left after × IsActive left (recorded_in (ready_in a)))
+        (IsTold left before × IsActive left (ready_in a))
     gate_tells = by (keeps_gate host.tear) (torn_means (state (now j)) gate.gate _ _ gate.decides host.tear (images j))
       where
         by : (k : Bool)

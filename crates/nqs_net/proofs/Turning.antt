@@ -19,7 +19,8 @@ use Rattle.nqs_disk.specs.declared.mem_disk.MemDisk.{MemDisk}
 use Rattle.nqs_rules.specs.Applied.{applied}
 use Rattle.nqs_rules.specs.Starts.{after_change, after_step}
 use Rattle.nqs_rules.specs.Stepped.{Stepped, shown, stored_parts}
-use Rattle.nqs_rules.specs.World.{fuse_of, World as Network, Host, Ran, Fate, Made, StoppedBefore, StoppedAfter, fate, host_of, put_host, emits, sent_by, seen_output}
+use Rattle.nqs_rules.specs.World.{fuse_of, World as Network, Host, Ran, Fate, Made, StoppedBefore, StoppedAfter, fate, host_of, put_host, emits, sent_by}
+use Rattle.nqs_rules.specs.World.{seen_output}
 use Rattle.nqs_rules.specs.World.{ready, recorded, cut_off, stopped, used, change_fated, makes_change, carries_out, steps, then_seen, then_ran}
 use Rattle.nqs_store.specs.Active.{IsActive, ready as ready_in, recorded as recorded_in}
 use Rattle.nqs_store.specs.Commits.{IsKept, IsCutAt}
@@ -163,13 +164,15 @@ module _ (h : HostId) (w : Network) (host : Host) (tear : Tear) (packets : List 
     (os : List Output) (c : Change (List ℕ))
     (fails : Which → ℕ → Bool) (old : Which → History) (disks : AreDisks host old fails) where
   -- it was kept
-  pub kept_turn : (now : Which → History) (P : Host → Type 0) → IsKept (active_in host) fails (stored_parts c) old now → P (used (stored_parts c) (applied c host.state) host)
+  pub kept_turn : (now : Which → History) (P : Host → Type 0) → IsKept (active_in host) fails (stored_parts c) old now
+      → P (used (stored_parts c) (applied c host.state) host)
       → (sent : List Message) (before after : List Seen) → sent ≡ packets ++ sent_in os → after ≡ before ++ (first ++ seen_from h (length packets) os)
       → Turns h P tear sent before after w (makes_change h host c first os w)
   kept_turn now P kept p sent before after sends saw =
       subst (λ (f : Fate). Turns h P tear sent before after w (change_fated f h host c first os w))
       (sym (kept_fate host fails old disks (stored_parts c) now kept))
-      (out_turn h w host (used (stored_parts c) (applied c host.state) host) faces.there P p tear (faces.tear ∙ sym (ready_tear host)) os first before after sent
+      (out_turn h w host (used (stored_parts c) (applied c host.state) host) faces.there P p tear
+      (faces.tear ∙ sym (ready_tear host)) os first before after sent
       (sends ∙ ap (λ l. l ++ sent_in os) faces.packets) (saw ∙ ap (λ l. before ++ (first ++ seen_from h (length l) os)) faces.packets))
 
   -- it was cut off

@@ -5,8 +5,9 @@ use Rattle.nqs_types.specs.declared.ids.HostId.{HostId}
 use Rattle.nqs_types.specs.declared.message.Message.{Message}
 use Rattle.nqs_types.specs.declared.world.Seen.TheVariants as seen
 use Rattle.nqs_rules.specs.Sane.{is_sane_event}
-use Rattle.nqs_rules.specs.World.{Act, Asks, Ends, Finishes, Fails, Writes, Leaves, Ticks, Crashes, Boots, Host, Ran, World as Network, host_of, unseen, seeing}
-use Rattle.nqs_rules.specs.World.{takes_up, finishes_up, crashes_up, boots_down}
+use Rattle.nqs_rules.specs.World.{Act, Asks, Ends, Finishes, Fails, Writes, Leaves, Delivers, Newest, Ticks, Crashes, Boots, Host, Ran, World as Network}
+use Rattle.nqs_rules.specs.World.{host_of, unseen, seeing}
+use Rattle.nqs_rules.specs.World.{takes_up, finishes_up, crashes_up, boots_down, packet_at, newest_between}
 use Rattle.nqs_laws.specs.Words.{IsInOrderAll}
 use Rattle.nqs_node.specs.Nodes.{content_of}
 use Rattle.nqs_net.specs.declared.deed.Deed.{Deed}
@@ -75,13 +76,15 @@ plain_deed (Crashes h) now = Some (h, Crash)
 plain_deed (Boots h) now = Some (h, Boot)
 plain_deed _ now = None
 
--- the same of each event that comes to one host without a packet
-abbrev pub deed_of : Act → ℕ → Option (HostId × Deed)
-deed_of (Asks h user c) now = Some (h, Take (event.Ask now 0 0 user c))
-deed_of (Ends h id start status output error) now = Some (h, Take (event.Ended now 0 id start status output error))
-deed_of act now = plain_deed act now
+-- a packet, if there is one, comes to its host
+abbrev pub arrival : Option Message → ℕ → Option (HostId × Deed)
+arrival None now = None
+arrival (Some m) now = Some (m.to, Take (event.Arrived now m))
 
--- the same for a packet, if there is one
-abbrev pub IsReadyFor : World → Option Message → Type 0
-IsReadyFor world None = Unit {0}
-IsReadyFor world (Some m) = IsReady world (Take (event.Arrived world.now m))
+-- what comes to one host by an event, if anything does
+abbrev pub deed_of : Act → Network → Option (HostId × Deed)
+deed_of (Asks h user c) w = Some (h, Take (event.Ask w.now 0 0 user c))
+deed_of (Ends h id start status output error) w = Some (h, Take (event.Ended w.now 0 id start status output error))
+deed_of (Delivers k) w = arrival (packet_at k w) w.now
+deed_of (Newest one other) w = arrival (newest_between one other w) w.now
+deed_of act w = plain_deed act w.now

@@ -17,11 +17,12 @@ ghost use Rattle.nqs_net.specs.Least.{least_of};
 
 use crate::host::{boot_down, crash_up, take_up};
 use crate::slot::{DownHost, Slot, UpHost};
+use crate::turn::Turn;
 use nqs_disk::{Lack, MemDisk};
 use nqs_node::Node;
 use nqs_state::HostState;
-use nqs_types::{Event, HostId, Message, RequestId, Row, RowState, Seen};
-use nqs_values::{Bytes, Tear};
+use nqs_types::{Event, Message, RequestId, Row, RowState, Seen};
+use nqs_values::Bytes;
 use std::alloc::Global;
 
 /// What comes to one host.
@@ -90,90 +91,86 @@ fn ended(alloc: Global, now: u64, id: RequestId, start: u16) -> Event
 // The least running request of a host that is up ends.
 fn finish_up(
     alloc: Global,
-    me: HostId,
+    turn: Turn,
     node: Box<Node<MemDisk>>,
-    tear: Tear,
-    now: u64,
     packets: &mut Vec<Message>,
     seen: &mut Vec<Seen>,
 ) -> Result<Slot, Lack>
     requires sound { IsSoundHost (content_of node.value) }
     requires running { is_stopped node.value ≡ false }
-    ensures { (w : Network) (host : Host) → Faces me host tear packets.old.items w → IsUp node.value host → w.now ≡ now
-        → IsDone me tear (history_of node.value) packets.new.items seen.old.items seen.new.items w (finishes_up me host w) result }
+    ensures { (w : Network) (host : Host) → Faces turn.me host turn.tear packets.old.items w → IsUp node.value host → w.now ≡ turn.now
+        → IsDone turn.me turn.tear (history_of node.value) packets.new.items seen.old.items seen.new.items w (finishes_up turn.me host w) result }
 {
     match least_running(node.state()) {
         Some((id, start)) => {
-            let event = ended(alloc, now, id, start);
-            take_up(alloc, me, node, tear, &event, now, packets, seen)
+            let event = ended(alloc, turn.now, id, start);
+            take_up(alloc, turn, node, &event, packets, seen)
         }
-        None => stay(Slot::Up(UpHost { node }), Seen::Idle { host: me }, seen),
+        None => stay(
+            Slot::Up(UpHost { node }),
+            Seen::Idle { host: turn.me },
+            seen,
+        ),
     }
 }
 
 fn do_up(
     alloc: Global,
-    me: HostId,
+    turn: Turn,
     node: Box<Node<MemDisk>>,
-    tear: Tear,
     deed: &Deed,
-    now: u64,
     packets: &mut Vec<Message>,
     seen: &mut Vec<Seen>,
 ) -> Result<Slot, Lack>
     requires sound { IsSoundHost (content_of node.value) }
     requires running { is_stopped node.value ≡ false }
     requires sane { IsSaneFor (length (content_of node.value).site) deed.now }
-    ensures { (w : Network) (host : Host) → Faces me host tear packets.old.items w → IsUp node.value host → w.now ≡ now
-        → IsDone me tear (history_of node.value) packets.new.items seen.old.items seen.new.items w (done_up deed.now me host w) result }
+    ensures { (w : Network) (host : Host) → Faces turn.me host turn.tear packets.old.items w → IsUp node.value host → w.now ≡ turn.now
+        → IsDone turn.me turn.tear (history_of node.value) packets.new.items seen.old.items seen.new.items w (done_up deed.now turn.me host w) result }
 {
     match deed {
-        Deed::Take(event) => take_up(alloc, me, node, tear, event, now, packets, seen),
-        Deed::Finish => finish_up(alloc, me, node, tear, now, packets, seen),
-        Deed::Crash => crash_up(alloc, me, node, tear, seen),
-        Deed::Boot => stay(Slot::Up(UpHost { node }), Seen::Up { host: me }, seen),
+        Deed::Take(event) => take_up(alloc, turn, node, event, packets, seen),
+        Deed::Finish => finish_up(alloc, turn, node, packets, seen),
+        Deed::Crash => crash_up(alloc, turn, node, seen),
+        Deed::Boot => stay(Slot::Up(UpHost { node }), Seen::Up { host: turn.me }, seen),
     }
 }
 
 fn do_down(
     alloc: Global,
-    me: HostId,
+    turn: Turn,
     down: DownHost,
-    tear: Tear,
     deed: &Deed,
-    now: u64,
     packets: &mut Vec<Message>,
     seen: &mut Vec<Seen>,
 ) -> Result<Slot, Lack>
     requires { (host : Host) × IsDown down.disks.value host }
-    ensures { (w : Network) (host : Host) → Faces me host tear packets.old.items w → IsDown down.disks.value host → w.now ≡ now
-        → IsDone me tear (histories_of mem.history_of down.disks.value) packets.new.items seen.old.items seen.new.items w
-        (done_down deed.now me host w) result }
+    ensures { (w : Network) (host : Host) → Faces turn.me host turn.tear packets.old.items w → IsDown down.disks.value host → w.now ≡ turn.now
+        → IsDone turn.me turn.tear (histories_of mem.history_of down.disks.value) packets.new.items seen.old.items seen.new.items w
+        (done_down deed.now turn.me host w) result }
 {
     match deed {
-        Deed::Boot => boot_down(alloc, me, down, tear, now, packets, seen),
-        _ => stay(Slot::Down(down), Seen::Down { host: me }, seen),
+        Deed::Boot => boot_down(alloc, turn, down, packets, seen),
+        _ => stay(Slot::Down(down), Seen::Down { host: turn.me }, seen),
     }
 }
 
 /// What comes to a host: one that is down only boots.
 pub(crate) fn do_at(
     alloc: Global,
-    me: HostId,
+    turn: Turn,
     slot: Slot,
-    tear: Tear,
     deed: &Deed,
-    now: u64,
     packets: &mut Vec<Message>,
     seen: &mut Vec<Seen>,
 ) -> Result<Slot, Lack>
     requires sane { IsSaneAt deed.now slot }
     requires boots { MayBoot slot }
-    ensures { (w : Network) (host : Host) → Faces me host tear packets.old.items w → IsSlot slot host → w.now ≡ now
-        → IsDone me tear (disks_in slot) packets.new.items seen.old.items seen.new.items w (done_at deed.now me host w) result }
+    ensures { (w : Network) (host : Host) → Faces turn.me host turn.tear packets.old.items w → IsSlot slot host → w.now ≡ turn.now
+        → IsDone turn.me turn.tear (disks_in slot) packets.new.items seen.old.items seen.new.items w (done_at deed.now turn.me host w) result }
 {
     match slot {
-        Slot::Up(up) => do_up(alloc, me, up.node, tear, deed, now, packets, seen),
-        Slot::Down(down) => do_down(alloc, me, down, tear, deed, now, packets, seen),
+        Slot::Up(up) => do_up(alloc, turn, up.node, deed, packets, seen),
+        Slot::Down(down) => do_down(alloc, turn, down, deed, packets, seen),
     }
 }

@@ -13,12 +13,20 @@ ghost use Rattle.nqs_net.specs.Worlds.{IsWorld};
 ghost use Rattle.nqs_net.specs.Deeds.{deed_of};
 
 use crate::meaning::deed;
-use crate::packets::{newest_between, packet_at};
 use crate::world::World;
 use nqs_disk::Lack;
 use nqs_types::{Seen, WorldEvent};
 use nqs_values::Items;
 use std::alloc::Global;
+
+// There is no packet, of a number that was asked for or between two hosts.
+fn miss(packet: Option<u64>, seen: &mut Vec<Seen>) -> Result<(), Lack>
+    ensures seen { OnOk result (seen.new.items ≡ seen.old.items ++ sight.NoPacket packet ∷ []) }
+    ensures unseen { OnErr result (seen.new.items ≡ seen.old.items) }
+{
+    seen.push(Seen::NoPacket(packet))?;
+    Ok(())
+}
 
 impl World {
     // The table is seen.
@@ -36,10 +44,10 @@ impl World {
         Ok(())
     }
 
-    // What an event does that isn't meant for one host: the others don't come here.
+    // What an event does that comes to no host: the others don't come here. A packet isn't there.
     fn other(&mut self, alloc: Global, event: &WorldEvent, seen: &mut Vec<Seen>) -> Result<(), Lack>
         requires sound { (site : List (List ℕ)) × (network : Network) × IsInOrderAll site network × IsWorld self.old network }
-        requires other { deed_of (act_of event.now) self.old.now ≡ None }
+        requires other { (network : Network) → IsWorld self.old network → deed_of (act_of event.now) network ≡ None }
         ensures world { (network : Network) → IsWorld self.old network → OnOk result (IsWorld self.new (happens (act_of event.now) network).world) }
         ensures follow { (network : Network) → IsWorld self.old network
             → OnOk result (FollowEach self.old.tears.items self.old.slots.items self.new.slots.items) }
@@ -49,14 +57,8 @@ impl World {
             → OnErr result (GrowsByFront seen.old.items seen.new.items (happens (act_of event.now) network).seen) }
     {
         match event {
-            WorldEvent::Deliver { packet } => {
-                let message = packet_at(&self.packets, *packet)?;
-                self.deliver(alloc, Some(*packet), message, seen)
-            }
-            WorldEvent::Newest { one, other } => {
-                let message = newest_between(&self.packets, *one, *other)?;
-                self.deliver(alloc, None, message, seen)
-            }
+            WorldEvent::Deliver { packet } => miss(Some(*packet), seen),
+            WorldEvent::Newest { .. } => miss(None, seen),
             WorldEvent::Clock { moment } => {
                 self.now = *moment;
                 Ok(())
@@ -104,7 +106,7 @@ impl World {
         ensures front { (site : List (List ℕ)) (network : Network) → IsInOrderAll site network → IsWorld self.old network
             → OnErr result (GrowsByFront seen.old.items seen.new.items (happens (act_of event.now) network).seen) }
     {
-        match deed(alloc, event, self.now)? {
+        match deed(alloc, event, self.now, &self.packets)? {
             Some((host, deed)) => self.act(alloc, host, &deed, seen),
             None => self.other(alloc, event, seen),
         }

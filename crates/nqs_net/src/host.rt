@@ -23,14 +23,13 @@ ghost use Rattle.nqs_net.specs.Turns.{Faces, IsAt};
 use crate::emit::emit;
 use crate::slot::{DownHost, Slot, UpHost};
 use crate::stop::stop;
-use crate::turn::{start_all, take_step};
+use crate::turn::{Turn, start_all, take_step};
 use nqs_access::{may_command, rank};
 use nqs_disk::{Lack, MemDisk};
 use nqs_node::Node;
 use nqs_state::HostState;
 use nqs_store::LoadFault;
-use nqs_types::{Command, Event, HostId, Message, Seen};
-use nqs_values::Tear;
+use nqs_types::{Command, Event, Message, Seen};
 use std::alloc::Global;
 
 fn is_shutdown(command: &Command) -> bool
@@ -64,16 +63,15 @@ fn shuts_down(event: &Event, state: &HostState) -> bool
 #[tactic(none)]
 pub(crate) fn crash_up(
     alloc: Global,
-    me: HostId,
+    turn: Turn,
     node: Box<Node<MemDisk>>,
-    tear: Tear,
     seen: &mut Vec<Seen>,
 ) -> Result<Slot, Lack>
-    ensures { (w : Network) (host : Host) (packets : List Sent) → Faces me host tear packets w → IsUp node.value host
-        → IsDone me tear (history_of node.value) packets seen.old.items seen.new.items w (crashes_up me host w) result }
+    ensures { (w : Network) (host : Host) (packets : List Sent) → Faces turn.me host turn.tear packets w → IsUp node.value host
+        → IsDone turn.me turn.tear (history_of node.value) packets seen.old.items seen.new.items w (crashes_up turn.me host w) result }
 {
     let disks = Box::into_inner(node).close();
-    let slot = stop(alloc, me, disks, tear, seen)?;
+    let slot = stop(alloc, turn, disks, seen)?;
     Ok(slot)
 }
 
@@ -81,21 +79,20 @@ pub(crate) fn crash_up(
 #[tactic(none)]
 fn halt(
     alloc: Global,
-    me: HostId,
+    turn: Turn,
     stops: bool,
     slot: Slot,
-    tear: Tear,
     seen: &mut Vec<Seen>,
 ) -> Result<Slot, Lack>
-    ensures { (w : Network) (packets : List Sent) (old : Which → History) → IsAt me (StandsAfter tear old slot) tear packets w
-        → IsDone me tear old packets seen.old.items seen.new.items w (halts stops me w) result }
+    ensures { (w : Network) (packets : List Sent) (old : Which → History) → IsAt turn.me (StandsAfter turn.tear old slot) turn.tear packets w
+        → IsDone turn.me turn.tear old packets seen.old.items seen.new.items w (halts stops turn.me w) result }
 {
     if !stops {
         return Ok(slot);
     }
     match slot {
         Slot::Down(down) => Ok(Slot::Down(down)),
-        Slot::Up(up) => crash_up(alloc, me, up.node, tear, seen),
+        Slot::Up(up) => crash_up(alloc, turn, up.node, seen),
     }
 }
 
@@ -103,24 +100,22 @@ fn halt(
 #[tactic(none)]
 pub(crate) fn take_up(
     alloc: Global,
-    me: HostId,
+    turn: Turn,
     node: Box<Node<MemDisk>>,
-    tear: Tear,
     event: &Event,
-    now: u64,
     packets: &mut Vec<Message>,
     seen: &mut Vec<Seen>,
 ) -> Result<Slot, Lack>
     requires sound { IsSoundHost (content_of node.value) }
     requires running { is_stopped node.value ≡ false }
     requires sane { IsTrue (is_sane_event (length (content_of node.value).site) event.now) }
-    ensures { (w : Network) (host : Host) → Faces me host tear packets.old.items w → IsUp node.value host → w.now ≡ now
-        → IsDone me tear (history_of node.value) packets.new.items seen.old.items seen.new.items w (takes_up me host event.now w) result }
+    ensures { (w : Network) (host : Host) → Faces turn.me host turn.tear packets.old.items w → IsUp node.value host → w.now ≡ turn.now
+        → IsDone turn.me turn.tear (history_of node.value) packets.new.items seen.old.items seen.new.items w (takes_up turn.me host event.now w) result }
 {
     let stops = shuts_down(event, node.state());
-    let taken = take_step(alloc, me, node, tear, event, packets, seen)?;
-    let begun = start_all(alloc, me, taken, tear, now, packets, seen)?;
-    let left = halt(alloc, me, stops, begun, tear, seen)?;
+    let taken = take_step(alloc, turn, node, event, packets, seen)?;
+    let begun = start_all(alloc, turn, taken, packets, seen)?;
+    let left = halt(alloc, turn, stops, begun, seen)?;
     Ok(left)
 }
 
@@ -128,27 +123,26 @@ pub(crate) fn take_up(
 #[tactic(none)]
 fn boot_step(
     alloc: Global,
-    me: HostId,
+    turn: Turn,
     down: DownHost,
-    tear: Tear,
     packets: &mut Vec<Message>,
     seen: &mut Vec<Seen>,
 ) -> Result<Slot, Lack>
     requires { (host : Host) × IsDown down.disks.value host }
-    ensures { (w : Network) (host : Host) → Faces me host tear packets.old.items w → IsDown down.disks.value host
-        → IsDone me tear (histories_of mem.history_of down.disks.value) packets.new.items seen.old.items seen.new.items w
-        (makes_change me host Boot (sight.Boot me ∷ []) (filter_map boot_output host.state.rows) w) result }
+    ensures { (w : Network) (host : Host) → Faces turn.me host turn.tear packets.old.items w → IsDown down.disks.value host
+        → IsDone turn.me turn.tear (histories_of mem.history_of down.disks.value) packets.new.items seen.old.items seen.new.items w
+        (makes_change turn.me host Boot (sight.Boot turn.me ∷ []) (filter_map boot_output host.state.rows) w) result }
 {
     let mut out = Vec::new(alloc);
     match Node::boot(alloc, Box::into_inner(down.disks), &mut out) {
         Ok(node) => {
             let node = Box::new(alloc, node)?;
-            seen.push(Seen::Boot { host: me })?;
-            emit(me, out, packets, seen)?;
+            seen.push(Seen::Boot { host: turn.me })?;
+            emit(turn.me, out, packets, seen)?;
             Ok(Slot::Up(UpHost { node }))
         }
         Err((LoadFault::Disk(_), disks)) => {
-            let slot = stop(alloc, me, disks, tear, seen)?;
+            let slot = stop(alloc, turn, disks, seen)?;
             Ok(slot)
         }
         Err((LoadFault::Memory(memory), _)) => Err(Lack::Memory(memory)),
@@ -161,18 +155,17 @@ fn boot_step(
 #[tactic(none)]
 pub(crate) fn boot_down(
     alloc: Global,
-    me: HostId,
+    turn: Turn,
     down: DownHost,
-    tear: Tear,
-    now: u64,
     packets: &mut Vec<Message>,
     seen: &mut Vec<Seen>,
 ) -> Result<Slot, Lack>
     requires { (host : Host) × IsDown down.disks.value host }
-    ensures { (w : Network) (host : Host) → Faces me host tear packets.old.items w → IsDown down.disks.value host → w.now ≡ now
-        → IsDone me tear (histories_of mem.history_of down.disks.value) packets.new.items seen.old.items seen.new.items w (boots_down me host w) result }
+    ensures { (w : Network) (host : Host) → Faces turn.me host turn.tear packets.old.items w → IsDown down.disks.value host → w.now ≡ turn.now
+        → IsDone turn.me turn.tear (histories_of mem.history_of down.disks.value) packets.new.items seen.old.items seen.new.items w
+        (boots_down turn.me host w) result }
 {
-    let booted = boot_step(alloc, me, down, tear, packets, seen)?;
-    let begun = start_all(alloc, me, booted, tear, now, packets, seen)?;
+    let booted = boot_step(alloc, turn, down, packets, seen)?;
+    let begun = start_all(alloc, turn, booted, packets, seen)?;
     Ok(begun)
 }

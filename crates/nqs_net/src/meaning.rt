@@ -1,19 +1,20 @@
 //! What comes to one host by an event of a schedule.
 
 ghost use Rattle.std.specs.Prelude.{◌≡◌, IfOk};
-ghost use Rattle.nqs_rules.specs.World.{Asks, Ends};
+ghost use Rattle.nqs_rules.specs.World.{Asks, Ends, World as Network};
 ghost use Rattle.nqs_lines.specs.Acts.{act_of};
-ghost use Rattle.nqs_net.specs.Deeds.{deed_of, plain_deed};
+ghost use Rattle.nqs_net.specs.Deeds.{arrival, deed_of, plain_deed};
 
 use crate::deed::Deed;
+use crate::packets::{newest_between, packet_at};
 use nqs_lines::{qdel_command, qmgr_command, qstat_command, qsub_command, submit_command};
-use nqs_types::{Command, Event, HostId, RequestId, WorldEvent};
+use nqs_types::{Command, Event, HostId, Message, RequestId, WorldEvent};
 use nqs_values::{Bytes, Memory, Name};
 use std::alloc::Global;
 
 // A host is asked by a user.
 fn ask(now: u64, host: HostId, user: &Name, command: Command) -> Option<(HostId, Deed)>
-    ensures { result ≡ deed_of (Asks host user.now command) now }
+    ensures { (w : Network) → w.now ≡ now → result ≡ deed_of (Asks host user.now command) w }
 {
     let event = Event::Ask {
         now,
@@ -65,7 +66,7 @@ fn end(
     out: &Bytes,
     err: &Bytes,
 ) -> Result<Option<(HostId, Deed)>, Memory>
-    ensures { IfOk result (λ deed. deed ≡ deed_of (Ends host id start status out.now err.now) now) }
+    ensures { (w : Network) → w.now ≡ now → IfOk result (λ deed. deed ≡ deed_of (Ends host id start status out.now err.now) w) }
 {
     let event = Event::Ended {
         now,
@@ -79,17 +80,28 @@ fn end(
     Ok(Some((host, Deed::Take(event))))
 }
 
-// What comes to one host by an event, other than a packet.
+// A packet, if there is one, comes to its host.
+fn arrival(now: u64, message: Option<Message>) -> Option<(HostId, Deed)>
+    ensures { result ≡ arrival message now }
+{
+    match message {
+        Some(message) => Some((message.to, Deed::Take(Event::Arrived { now, message }))),
+        None => None,
+    }
+}
+
+/// What comes to one host by an event, if anything does, where these packets were sent so far.
 pub(crate) fn deed(
     alloc: Global,
     event: &WorldEvent,
     now: u64,
+    packets: &[Message],
 ) -> Result<Option<(HostId, Deed)>, Memory>
-    ensures { IfOk result (λ deed. deed ≡ deed_of (act_of event.now) now) }
+    ensures { (w : Network) → w.now ≡ now → packets.now ≡ w.packets → IfOk result (λ deed. deed ≡ deed_of (act_of event.now) w) }
 {
     match event {
         WorldEvent::Submit { user, name } => {
-            Ok(ask(now, HostId(0), user, submit_command(alloc, user, name)?))
+            Ok(ask(now, HostId(0), user, submit_command(alloc, user, name)))
         }
         WorldEvent::Qsub {
             host,
@@ -117,6 +129,10 @@ pub(crate) fn deed(
             out,
             err,
         } => { end(alloc, now, *host, *id, *start, *status, out, err) }
+        WorldEvent::Deliver { packet } => Ok(arrival(now, packet_at(packets, *packet)?)),
+        WorldEvent::Newest { one, other } => {
+            Ok(arrival(now, newest_between(packets, *one, *other)?))
+        }
         _ => Ok(plain_deed(event, now)),
     }
 }

@@ -1,18 +1,10 @@
-//! Packets of a world that arrive.
+//! Packets of a world: that of a number, and the newest between two hosts.
 
-ghost use Rattle.std.specs.Prelude.{◌≡◌, ◌++◌, OnOk, OnErr, IfOk};
-ghost use Rattle.nqs_rules.specs.World.{World as Network, packet_at, is_between, newest_between, delivers};
-ghost use Rattle.nqs_net.specs.Lists.{GrowsByFront};
-ghost use Rattle.nqs_net.specs.Followed.{FollowEach};
-ghost use Rattle.nqs_net.specs.Worlds.{IsWorld};
-ghost use Rattle.nqs_net.specs.Deeds.{IsReadyFor};
+ghost use Rattle.std.specs.Prelude.{◌≡◌, IfOk};
+ghost use Rattle.nqs_rules.specs.World.{World as Network, packet_at, is_between, newest_between};
 
-use crate::deed::Deed;
-use crate::world::World;
-use nqs_disk::Lack;
-use nqs_types::{Event, HostId, Message, Seen};
+use nqs_types::{HostId, Message};
 use nqs_values::Memory;
-use std::alloc::Global;
 
 fn copy(message: &Message) -> Result<Message, Memory>
     ensures { IfOk result (λ copy. copy ≡ message.now) }
@@ -56,33 +48,4 @@ pub(crate) fn newest_between(
         }
     }
     Ok(None)
-}
-
-impl World {
-    /// A packet arrives, if there is one. The number is the one that was asked for.
-    pub(crate) fn deliver(
-        &mut self,
-        alloc: Global,
-        packet: Option<u64>,
-        message: Option<Message>,
-        seen: &mut Vec<Seen>,
-    ) -> Result<(), Lack>
-        requires ready { IsReadyFor self.old message }
-        ensures world { (network : Network) → IsWorld self.old network → OnOk result (IsWorld self.new (delivers packet message network).world) }
-        ensures follow { (network : Network) → IsWorld self.old network
-            → OnOk result (FollowEach self.old.tears.items self.old.slots.items self.new.slots.items) }
-        ensures seen { (network : Network) → IsWorld self.old network
-            → OnOk result (seen.new.items ≡ seen.old.items ++ (delivers packet message network).seen) }
-        ensures front { (network : Network) → IsWorld self.old network
-            → OnErr result (GrowsByFront seen.old.items seen.new.items (delivers packet message network).seen) }
-    {
-        let Some(message) = message else {
-            seen.push(Seen::NoPacket(packet))?;
-            return Ok(());
-        };
-        let host = message.to;
-        let now = self.now;
-        let deed = Deed::Take(Event::Arrived { now, message });
-        self.act(alloc, host, &deed, seen)
-    }
 }

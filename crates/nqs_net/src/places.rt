@@ -8,6 +8,7 @@ ghost use Rattle.nqs_net.specs.Worlds.{IsWorld};
 ghost use Rattle.nqs_net.specs.Deeds.{done, IsReady};
 
 use crate::deed::{Deed, do_at};
+use crate::turn::Turn;
 use crate::world::World;
 use nqs_disk::Lack;
 use nqs_types::{HostId, Seen};
@@ -36,16 +37,12 @@ impl World {
         }
         let tear = self.tears[place];
         let slot = self.slots.remove(place);
-        let slot = do_at(
-            alloc,
-            host,
-            slot,
+        let turn = Turn {
+            me: host,
             tear,
-            deed,
-            self.now,
-            &mut self.packets,
-            seen,
-        )?;
+            now: self.now,
+        };
+        let slot = do_at(alloc, turn, slot, deed, &mut self.packets, seen)?;
         self.slots.insert(place, slot)?;
         Ok(())
     }

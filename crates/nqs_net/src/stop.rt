@@ -9,9 +9,10 @@ ghost use Rattle.nqs_store.specs.Disks.{disk_at, histories_of};
 ghost use Rattle.nqs_net.specs.Turns.{IsTorn, IsStopped};
 
 use crate::slot::{DownHost, Slot};
+use crate::turn::Turn;
 use nqs_disk::{Lack, MemDisk};
 use nqs_store::Disks;
-use nqs_types::{HostId, Seen};
+use nqs_types::Seen;
 use nqs_values::Tear;
 use std::alloc::Global;
 
@@ -33,18 +34,17 @@ fn torn(disks: Disks<MemDisk>, tear: Tear) -> Result<Disks<MemDisk>, Lack>
 /// that, as the host couldn't go on, and didn't stop by a fuse.
 pub(crate) fn stop(
     alloc: Global,
-    me: HostId,
+    turn: Turn,
     disks: Disks<MemDisk>,
-    tear: Tear,
     seen: &mut Vec<Seen>,
 ) -> Result<Slot, Lack>
     ensures fed { IfOk result (λ _. (which : Which) → mem.is_starved (disk_at which disks) ≡ false) }
-    ensures stopped { IfOk result (IsStopped tear (histories_of mem.history_of disks)) }
-    ensures seen { OnOk result (seen.new.items ≡ seen.old.items ++ sight.Stop me ∷ []) }
+    ensures stopped { IfOk result (IsStopped turn.tear (histories_of mem.history_of disks)) }
+    ensures seen { OnOk result (seen.new.items ≡ seen.old.items ++ sight.Stop turn.me ∷ []) }
     ensures unseen { OnErr result (seen.new.items ≡ seen.old.items) }
 {
-    let disks = torn(disks, tear)?;
+    let disks = torn(disks, turn.tear)?;
     let disks = Box::new(alloc, disks)?;
-    seen.push(Seen::Stop { host: me })?;
+    seen.push(Seen::Stop { host: turn.me })?;
     Ok(Slot::Down(DownHost { disks }))
 }

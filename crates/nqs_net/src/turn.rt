@@ -25,6 +25,15 @@ use nqs_types::{Event, HostId, Message, Output, Seen};
 use nqs_values::{Memory, Tear};
 use std::alloc::Global;
 
+/// Whose turn it is: a host, the tear that a stop would leave its disks with, and the moment, in
+/// seconds since 1970.
+#[derive(Clone, Copy)]
+pub(crate) struct Turn {
+    pub me: HostId,
+    pub tear: Tear,
+    pub now: u64,
+}
+
 // Takes an event: `false` where a failed call of a disk stopped the node.
 #[tactic(none)]
 fn take_event(
@@ -82,28 +91,27 @@ fn start_event(
 #[tactic(none)]
 fn carry(
     alloc: Global,
-    me: HostId,
+    turn: Turn,
     node: Box<Node<MemDisk>>,
     took: bool,
     out: Vec<Output>,
-    tear: Tear,
     packets: &mut Vec<Message>,
     seen: &mut Vec<Seen>,
 ) -> Result<Slot, Lack>
     requires sound { IsSoundHost (content_of node.value) }
     requires running { took ≡ true → is_stopped node.value ≡ false }
     ensures turn { (w : Network) (host : Host) (x : Stepped (List ℕ)) (fails : Which → ℕ → Bool) (old : Which → History)
-        → Faces me host tear packets.old.items w → IsTaken host x fails old node.value out.items took
-        → IsDone me tear old packets.new.items seen.old.items seen.new.items w (steps me host x w) result }
+        → Faces turn.me host turn.tear packets.old.items w → IsTaken host x fails old node.value out.items took
+        → IsDone turn.me turn.tear old packets.new.items seen.old.items seen.new.items w (steps turn.me host x w) result }
     ensures down { took ≡ false → IfOk result IsDownSlot }
     ensures left { took ≡ true → IfOk result (λ slot. starts_in slot ≡ starts_left (content_of node.value)) }
 {
     if took {
-        emit(me, out, packets, seen)?;
+        emit(turn.me, out, packets, seen)?;
         return Ok(Slot::Up(UpHost { node }));
     }
     let disks = Box::into_inner(node).close();
-    let slot = stop(alloc, me, disks, tear, seen)?;
+    let slot = stop(alloc, turn, disks, seen)?;
     Ok(slot)
 }
 
@@ -111,9 +119,8 @@ fn carry(
 #[tactic(none)]
 pub(crate) fn take_step(
     alloc: Global,
-    me: HostId,
+    turn: Turn,
     node: Box<Node<MemDisk>>,
-    tear: Tear,
     event: &Event,
     packets: &mut Vec<Message>,
     seen: &mut Vec<Seen>,
@@ -121,13 +128,14 @@ pub(crate) fn take_step(
     requires sound { IsSoundHost (content_of node.value) }
     requires running { is_stopped node.value ≡ false }
     requires sane { IsTrue (is_sane_event (length (content_of node.value).site) event.now) }
-    ensures { (w : Network) (host : Host) → Faces me host tear packets.old.items w → IsUp node.value host
-        → IsDone me tear (history_of node.value) packets.new.items seen.old.items seen.new.items w (steps me host (step event.now host.state) w) result }
+    ensures { (w : Network) (host : Host) → Faces turn.me host turn.tear packets.old.items w → IsUp node.value host
+        → IsDone turn.me turn.tear (history_of node.value) packets.new.items seen.old.items seen.new.items w
+        (steps turn.me host (step event.now host.state) w) result }
 {
     let mut node = node;
     let mut out = Vec::new(alloc);
     let took = take_event(alloc, &mut *node, event, &mut out)?;
-    let slot = carry(alloc, me, node, took, out, tear, packets, seen)?;
+    let slot = carry(alloc, turn, node, took, out, packets, seen)?;
     Ok(slot)
 }
 
@@ -135,23 +143,21 @@ pub(crate) fn take_step(
 #[tactic(none)]
 fn start_step(
     alloc: Global,
-    me: HostId,
+    turn: Turn,
     node: Box<Node<MemDisk>>,
-    tear: Tear,
-    now: u64,
     packets: &mut Vec<Message>,
     seen: &mut Vec<Seen>,
 ) -> Result<(bool, Slot), Lack>
     requires sound { IsSoundHost (content_of node.value) }
     requires running { is_stopped node.value ≡ false }
-    ensures turn { (w : Network) (host : Host) → Faces me host tear packets.old.items w → IsUp node.value host → w.now ≡ now
-        → IsStarted me tear (history_of node.value) packets.new.items seen.old.items seen.new.items w result }
+    ensures turn { (w : Network) (host : Host) → Faces turn.me host turn.tear packets.old.items w → IsUp node.value host → w.now ≡ turn.now
+        → IsStarted turn.me turn.tear (history_of node.value) packets.new.items seen.old.items seen.new.items w result }
     ensures fewer { IfOk result (λ r. r.0 ≡ true → starts_in r.1 < starts_left (content_of node.value)) }
 {
     let mut node = node;
     let mut out = Vec::new(alloc);
-    let (took, more) = start_event(alloc, &mut *node, now, &mut out)?;
-    let slot = carry(alloc, me, node, took, out, tear, packets, seen)?;
+    let (took, more) = start_event(alloc, &mut *node, turn.now, &mut out)?;
+    let slot = carry(alloc, turn, node, took, out, packets, seen)?;
     Ok((more, slot))
 }
 
@@ -159,20 +165,18 @@ fn start_step(
 #[tactic(none)]
 fn start_one(
     alloc: Global,
-    me: HostId,
+    turn: Turn,
     slot: Slot,
-    tear: Tear,
-    now: u64,
     packets: &mut Vec<Message>,
     seen: &mut Vec<Seen>,
 ) -> Result<(bool, Slot), Lack>
-    ensures turn { (w : Network) (old : Which → History) → IsAt me (StandsAfter tear old slot) tear packets.old.items w → w.now ≡ now
-        → IsStarted me tear old packets.new.items seen.old.items seen.new.items w result }
+    ensures turn { (w : Network) (old : Which → History) → IsAt turn.me (StandsAfter turn.tear old slot) turn.tear packets.old.items w
+        → w.now ≡ turn.now → IsStarted turn.me turn.tear old packets.new.items seen.old.items seen.new.items w result }
     ensures fewer { IfOk result (λ r. r.0 ≡ true → starts_in r.1 < starts_in slot) }
 {
     match slot {
         Slot::Down(down) => Ok((false, Slot::Down(down))),
-        Slot::Up(up) => start_step(alloc, me, up.node, tear, now, packets, seen),
+        Slot::Up(up) => start_step(alloc, turn, up.node, packets, seen),
     }
 }
 
@@ -180,19 +184,17 @@ fn start_one(
 #[tactic(none)]
 pub(crate) fn start_all(
     alloc: Global,
-    me: HostId,
+    turn: Turn,
     first: Slot,
-    tear: Tear,
-    now: u64,
     packets: &mut Vec<Message>,
     seen: &mut Vec<Seen>,
 ) -> Result<Slot, Lack>
-    ensures { (w : Network) (old : Which → History) → IsAt me (StandsAfter tear old first) tear packets.old.items w → w.now ≡ now
-        → IsDone me tear old packets.new.items seen.old.items seen.new.items w (all_starts me w) result }
+    ensures { (w : Network) (old : Which → History) → IsAt turn.me (StandsAfter turn.tear old first) turn.tear packets.old.items w → w.now ≡ turn.now
+        → IsDone turn.me turn.tear old packets.new.items seen.old.items seen.new.items w (all_starts turn.me w) result }
 {
     let mut slot = first;
     loop {
-        let (more, next) = start_one(alloc, me, slot, tear, now, packets, seen)?;
+        let (more, next) = start_one(alloc, turn, slot, packets, seen)?;
         if !more {
             return Ok(next);
         }

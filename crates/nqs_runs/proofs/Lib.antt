@@ -1,6 +1,7 @@
 pub mod Matched
 pub mod Runs
 pub mod Fronts
+pub mod Pieces
 pub mod Playing
 pub mod Complete
 pub mod Asked

@@ -85,16 +85,21 @@ sane_before events i sane =
     (sym (list_all-append is_sane_line (take i events) (drop i events)) ∙ ap (list_all is_sane_line) (take-append-drop i events) ∙ sane)).0
 
 -- a world that took an event, with what was seen of it
-pub goes_on : {E : Type 0} (site : List (List ℕ)) (before : List WorldEvent) (event : WorldEvent) (world : World) (old seen : List Seen)
-    (r : Result (Unit {0}) E)
-    → OnOk r (IsWorld world (happens (act_of event) (ran site before).world).world)
-    → OnOk r (seen ≡ old ++ (happens (act_of event) (ran site before).world).seen) → old ≡ [] → OnOk r (GoesOn site before event world seen)
-goes_on site before event world old seen (Ok done) is told none = (
+pub went_on : (site : List (List ℕ)) (before : List WorldEvent) (event : WorldEvent) (world : World) (old seen : List Seen)
+    → IsWorld world (happens (act_of event) (ran site before).world).world
+    → seen ≡ old ++ (happens (act_of event) (ran site before).world).seen → old ≡ [] → GoesOn site before event world seen
+went_on site before event world old seen is told none = (
   subst (IsWorld world) (sym (ran_world site before event)) is,
   ran_seen site before event
       ∙ ap (λ (l : List Seen). (ran site before).seen ++ l) (sym (told ∙ ap
       (λ (l : List Seen). l ++ (happens (act_of event) (ran site before).world).seen) none)),
 )
+
+pub goes_on : {E : Type 0} (site : List (List ℕ)) (before : List WorldEvent) (event : WorldEvent) (world : World) (old seen : List Seen)
+    (r : Result (Unit {0}) E)
+    → OnOk r (IsWorld world (happens (act_of event) (ran site before).world).world)
+    → OnOk r (seen ≡ old ++ (happens (act_of event) (ran site before).world).seen) → old ≡ [] → OnOk r (GoesOn site before event world seen)
+goes_on site before event world old seen (Ok done) is told none = went_on site before event world old seen is told none
 goes_on site before event world old seen (Err e) is told none = tt
 
 -- and what that adds to the transcript

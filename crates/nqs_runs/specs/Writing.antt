@@ -1,20 +1,17 @@
 -- What a run has written, by the way it ended.
 use Rattle.std.specs.Prelude.{◌≡◌, ℕ, true, List, [], ◌∷◌, ◌++◌, Ok, Err}
+use Rattle.std.specs.declared.option.Option.{Option}
 use Rattle.std.specs.declared.result.Result.{Result}
-use Rattle.std.specs.Global.{Vec}
 use Rattle.std.specs.List.{list_all}
 use Rattle.std.specs.Io.KnownBytes.{Appends}
 use Rattle.nqs_types.specs.declared.world.Seen.{Seen}
 use Rattle.nqs_types.specs.declared.world.WorldEvent.{WorldEvent}
 use Rattle.nqs_disk.specs.declared.lack.Lack.{Lack}
 use Rattle.nqs_disk.specs.declared.lack.Lack.TheVariants as lack
-use Rattle.nqs_disk.specs.declared.mem_disk.MemDisk.{MemDisk}
 use Rattle.nqs_rules.specs.World.{World as Network}
 use Rattle.nqs_rules.specs.Transcript.{transcript}
 use Rattle.nqs_laws.specs.Sane.{IsSite}
 use Rattle.nqs_lines.specs.Acts.{is_sane_line}
-use Rattle.nqs_store.specs.declared.disks.Disks.{Disks}
-use Rattle.nqs_net.specs.Left.{AreLeft}
 use Rattle.nqs_net.specs.Worlds.{IsWorld}
 use Rattle.nqs_net.specs.declared.world.World.{World}
 use Rattle.nqs_runs.specs.declared.run.RunStop.{RunStop}
@@ -37,6 +34,14 @@ Tells site before event world text =
     IsWorld world (ran site (before ++ event ∷ [])).world
     × (transcript site (ran site (before ++ event ∷ [])).seen ≡ transcript site (ran site before).seen ++ text)
 
+-- the same, where the text had something before
+abbrev pub TellsMore : List (List ℕ) → List WorldEvent → WorldEvent → World → (old new : List ℕ) → Type 0
+TellsMore site before event world old new = (more : List ℕ) × (new ≡ old ++ more) × Tells site before event world more
+
+-- a sink has taken all of a text but the rest of it
+abbrev pub HasWritten : Option (List ℕ) → Option (List ℕ) → (text rest : List ℕ) → Type 0
+HasWritten old new text rest = (front : List ℕ) × (text ≡ front ++ rest) × Appends old new front
+
 -- what a network lacked is why its run was not brought to its end
 abbrev pub stop_of : Lack → RunStop
 stop_of (lack.Memory want) = stop.Memory want
@@ -48,10 +53,3 @@ Writes text network sink (Ok world) = Appends sink.old sink.new text × IsWorld 
 Writes text network sink (Err stop.Sink) = SinkFailed sink × WritesFront sink text
 Writes text network sink (Err (stop.Memory want)) = WritesFront sink text
 Writes text network sink (Err (stop.Full full)) = WritesFront sink text
-
--- the same of the disks that are left
-abbrev pub Leaves : List ℕ → Network → Sunk → Result (Vec (Disks MemDisk)) RunStop → Type 0
-Leaves text network sink (Ok disks) = Appends sink.old sink.new text × AreLeft disks.items network.hosts
-Leaves text network sink (Err stop.Sink) = SinkFailed sink × WritesFront sink text
-Leaves text network sink (Err (stop.Memory want)) = WritesFront sink text
-Leaves text network sink (Err (stop.Full full)) = WritesFront sink text

@@ -7,15 +7,14 @@ ghost use Rattle.nqs_lines.specs.Acts.{is_sane_line};
 ghost use Rattle.nqs_schedule.specs.Generated.{generated, generated_site};
 ghost use Rattle.nqs_runs.specs.Sunk.{sunk};
 ghost use Rattle.nqs_runs.specs.Running.{Runs};
-ghost use Rattle.nqs_runs.specs.Words.{IsWithin};
-ghost use Rattle.nqs_runs.specs.Replay.{drained, Plays, EndsRead, EndsBy, Ends, IsComplete};
+ghost use Rattle.nqs_runs.specs.Replay.{drained, Plays, EndsRead, Ends, IsComplete};
 ghost use Rattle.nqs_runs.specs.Headline.{HoldAlways};
 
 use crate::laws::runs_keep_the_laws;
 use crate::report::report;
-use crate::run::{RunStop, run};
+use crate::run::run;
 use crate::status::Status;
-use crate::words::{Ask, Generation, WordsStop, read_words};
+use crate::words::{Generation, WordsStop, read_words};
 use nqs_disk::MemDisk;
 use nqs_lines::laws::{generated_schedules_are_sane, schedules_are_sane, sites_are_right};
 use nqs_outside::{ReadStop, Sink, Source, read_whole};
@@ -27,30 +26,6 @@ use std::alloc::Global;
 
 // The greatest length of a schedule.
 const MAX_SCHEDULE: usize = 16_777_216;
-
-// Runs the events of a site, and adds the disks that they leave.
-fn play_events<K: Sink>(
-    alloc: Global,
-    summary: bool,
-    site: &[Name],
-    events: &[WorldEvent],
-    out: &mut K,
-    left: &mut Vec<Disks<MemDisk>>,
-) -> Status
-    requires site { IsSite site.now }
-    requires sane { list_all is_sane_line events.now ≡ true }
-    ensures { Runs summary site.now events.now (sunk K.taken K.faults K.stalls out.old out.new) left.old.items left.new.items result }
-{
-    match run(alloc, summary, site, events, out) {
-        Ok(mut disks) => match left.append(&mut disks) {
-            Ok(()) => Status::Done,
-            Err(refused) => Status::Memory(refused.into()),
-        },
-        Err(RunStop::Sink) => Status::WriteFault,
-        Err(RunStop::Memory(memory)) => Status::Memory(memory),
-        Err(RunStop::Full(full)) => Status::DiskFull(full),
-    }
-}
 
 // What comes of an input that was read whole.
 fn play<K: Sink>(
@@ -65,7 +40,7 @@ fn play<K: Sink>(
     schedules_are_sane();
     sites_are_right();
     match read_schedule(alloc, input) {
-        Ok(schedule) => play_events(
+        Ok(schedule) => run(
             alloc,
             summary,
             schedule.site.as_slice(),
@@ -113,7 +88,7 @@ fn play_generated<K: Sink>(
     generated_schedules_are_sane();
     sites_are_right();
     match generate(alloc, generation.seed, generation.hosts, generation.events) {
-        Ok(schedule) => play_events(
+        Ok(schedule) => run(
             alloc,
             summary,
             schedule.site.as_slice(),
@@ -125,25 +100,8 @@ fn play_generated<K: Sink>(
     }
 }
 
-// Runs what is asked for.
+// Runs what the words ask for.
 fn play_asked<S: Source, K: Sink>(
-    alloc: Global,
-    ask: Ask,
-    schedule: &mut S,
-    out: &mut K,
-    left: &mut Vec<Disks<MemDisk>>,
-) -> Status
-    requires { IsWithin ask.generation }
-    ensures { EndsBy ask.summary ask.generation (drained S.left S.faults schedule.old schedule.new)
-        (sunk K.taken K.faults K.stalls out.old out.new) left.old.items left.new.items result }
-{
-    match ask.generation {
-        None => play_read(alloc, ask.summary, schedule, out, left),
-        Some(generation) => play_generated(alloc, ask.summary, generation, out, left),
-    }
-}
-
-fn run_program<S: Source, K: Sink>(
     alloc: Global,
     words: &[String],
     schedule: &mut S,
@@ -154,7 +112,10 @@ fn run_program<S: Source, K: Sink>(
         (sunk K.taken K.faults K.stalls out.old out.new) left.old.items left.new.items result }
 {
     match read_words(alloc, words) {
-        Ok(ask) => play_asked(alloc, ask, schedule, out, left),
+        Ok(ask) => match ask.generation {
+            None => play_read(alloc, ask.summary, schedule, out, left),
+            Some(generation) => play_generated(alloc, ask.summary, generation, out, left),
+        },
         Err(WordsStop::BadWords) => Status::BadWords,
         Err(WordsStop::Memory(memory)) => Status::Memory(memory),
         Err(WordsStop::Unparsed(refused)) => Status::Unparsed(refused),
@@ -182,5 +143,5 @@ pub fn replay<S: Source, K: Sink>(
     ensures laws { HoldAlways (map (λ s. string_bytes s) words.now) (drained S.left S.faults schedule.old schedule.new) }
 {
     runs_keep_the_laws();
-    run_program(alloc, words, schedule, out, left)
+    play_asked(alloc, words, schedule, out, left)
 }

@@ -1,20 +1,23 @@
-//! Runs the events of a site on a new world. The transcript is written event by event, each before
-//! the next one happens, through one buffer that is cleared, so memory doesn't grow with it. A
-//! summary is counted as things are seen, and written at last.
+//! Runs the events of a site on a new world. The transcript is written piece by piece as the events
+//! happen, through one buffer that is cleared, so memory doesn't grow with it and a call of the
+//! system serves many events. A summary is counted as things are seen, and written at last.
 
-ghost use Rattle.std.specs.Prelude.{◌≡◌, ◌++◌, List, ℕ, true, false, IsTrue, IfOk, OnOk};
+ghost use Rattle.std.specs.Prelude.{◌≡◌, ◌⊎◌, ◌≤◌, ◌++◌, List, ℕ, Bool, take, true, false, IsTrue, IfOk, OnOk, OnErr};
+ghost use Rattle.std.specs.Io.KnownBytes.{Appends};
 ghost use Rattle.std.specs.List.{list_all};
+ghost use Rattle.nqs_outside.specs.Causes.{Rose};
 ghost use Rattle.nqs_rules.specs.Transcript.{transcript};
 ghost use Rattle.nqs_laws.specs.Sane.{IsSite};
 ghost use Rattle.nqs_lines.specs.Acts.{is_sane_line};
 ghost use Rattle.nqs_types.specs.declared.world.WorldEvent.{WorldEvent};
 ghost use Rattle.nqs_schedule.specs.Summary.{nothing_seen, summary_of};
 ghost use Rattle.nqs_net.specs.Worlds.{IsWorld};
-ghost use Rattle.nqs_runs.specs.Sunk.{sunk};
-ghost use Rattle.nqs_runs.specs.Running.{ran, text_of, summary_after};
-ghost use Rattle.nqs_runs.specs.Writing.{HasRun, GoesOn, Tells, Writes, Leaves, stop_of};
+ghost use Rattle.nqs_runs.specs.Sunk.{Sunk, sunk};
+ghost use Rattle.nqs_runs.specs.Running.{ran, text_of, summary_after, Runs};
+ghost use Rattle.nqs_runs.specs.Writing.{HasRun, GoesOn, TellsMore, HasWritten, Writes, stop_of};
 ghost use Rattle.nqs_values.specs.Want.{want};
 
+use crate::status::Status;
 use nqs_disk::{Full, Lack, MemDisk};
 use nqs_laws::runs::hosts_stay_in_order;
 use nqs_lines::laws::acts_are_sane;
@@ -70,36 +73,17 @@ impl From<Lack> for RunStop {
     }
 }
 
-// Takes an event. `seen` becomes what is seen of it.
-fn happen(
-    alloc: Global,
-    world: &mut World,
-    event: &WorldEvent,
-    seen: &mut Vec<Seen>,
-) -> Result<(), Lack>
-    requires sane { IsTrue (is_sane_line event.now) }
-    requires sound { (site : List (List ℕ)) × (before : List WorldEvent) × HasRun site before world.old }
-    ensures { (site : List (List ℕ)) (before : List WorldEvent) → HasRun site before world.old
-        → OnOk result (GoesOn site before event.now world.new seen.new.items) }
-{
-    acts_are_sane();
-    hosts_stay_in_order();
-    seen.clear();
-    world.event(alloc, event, seen)
-}
-
-// The text becomes the transcript of what was seen.
+// The transcript of what was seen is added to the text.
 fn print_all(alloc: Global, site: &[Name], seen: &[Seen], text: &mut Vec<u8>) -> Result<(), Memory>
-    ensures { OnOk result (text.new.items ≡ transcript site.now seen.now) }
+    ensures { OnOk result (text.new.items ≡ text.old.items ++ transcript site.now seen.now) }
 {
-    text.clear();
     for one in seen {
         print_seen(alloc, one, site, text)?;
     }
     Ok(())
 }
 
-// Takes an event. The text becomes what it adds to the transcript.
+// Takes an event. What it adds to the transcript is added to the text.
 fn tell(
     alloc: Global,
     site: &[Name],
@@ -110,10 +94,32 @@ fn tell(
 ) -> Result<(), Lack>
     requires sane { IsTrue (is_sane_line event.now) }
     requires sound { (before : List WorldEvent) × HasRun site.now before world.old }
-    ensures { (before : List WorldEvent) → HasRun site.now before world.old → OnOk result (Tells site.now before event.now world.new text.new.items) }
+    ensures { (before : List WorldEvent) → HasRun site.now before world.old
+        → OnOk result (TellsMore site.now before event.now world.new text.old.items text.new.items) }
 {
-    happen(alloc, world, event, seen)?;
+    acts_are_sane();
+    hosts_stay_in_order();
+    seen.clear();
+    world.event(alloc, event, seen)?;
     print_all(alloc, site, seen, text)?;
+    Ok(())
+}
+
+/// With so many bytes of it the text is written.
+const PIECE: usize = 32_768;
+
+// Writes the text where there is a piece of it, which leaves none.
+fn write_piece<K: Sink>(out: &mut K, text: &mut Vec<u8>) -> Result<(), Failed>
+    ensures ok { OnOk result (HasWritten (K.taken out.old) (K.taken out.new) text.old.items text.new.items) }
+    ensures err { OnErr result ((n : ℕ) × Appends (K.taken out.old) (K.taken out.new) (take n text.old.items)) }
+    ensures fault { OnErr result (Rose (K.faults out.old) (K.faults out.new) ⊎ Rose (K.stalls out.old) (K.stalls out.new)) }
+    ensures later { (K.faults out.old ≤ K.faults out.new) × (K.stalls out.old ≤ K.stalls out.new) }
+{
+    if text.len() < PIECE {
+        return Ok(());
+    }
+    write_whole(out, text)?;
+    text.clear();
     Ok(())
 }
 
@@ -133,9 +139,28 @@ fn run_told<K: Sink>(
     let mut text = Vec::new(alloc);
     for event in events {
         tell(alloc, site, &mut world, event, &mut seen, &mut text)?;
-        write_whole(out, &text)?;
+        write_piece(out, &mut text)?;
     }
+    write_whole(out, &text)?;
     Ok(world)
+}
+
+// Takes an event. `seen` becomes what is seen of it.
+fn happen(
+    alloc: Global,
+    world: &mut World,
+    event: &WorldEvent,
+    seen: &mut Vec<Seen>,
+) -> Result<(), Lack>
+    requires sane { IsTrue (is_sane_line event.now) }
+    requires sound { (site : List (List ℕ)) × (before : List WorldEvent) × HasRun site before world.old }
+    ensures { (site : List (List ℕ)) (before : List WorldEvent) → HasRun site before world.old
+        → OnOk result (GoesOn site before event.now world.new seen.new.items) }
+{
+    acts_are_sane();
+    hosts_stay_in_order();
+    seen.clear();
+    world.event(alloc, event, seen)
 }
 
 // Counts what was seen.
@@ -204,44 +229,44 @@ fn run_summed<K: Sink>(
     Ok(world)
 }
 
-fn run_world<K: Sink>(
-    alloc: Global,
-    summary: bool,
-    site: &[Name],
-    events: &[WorldEvent],
-    out: &mut K,
-) -> Result<World, RunStop>
-    requires site { IsSite site.now }
-    requires sane { list_all is_sane_line events.now ≡ true }
-    ensures { Writes (text_of summary site.now events.now) (ran site.now events.now).world (sunk K.taken K.faults K.stalls out.old out.new) result }
+// How the program ends by a run that was brought to its end, or wasn't; the disks that it leaves
+// are added.
+fn finish(alloc: Global, ended: Result<World, RunStop>, left: &mut Vec<Disks<MemDisk>>) -> Status
+    ensures { (summary : Bool) (site : List (List ℕ)) (events : List WorldEvent) (sink : Sunk)
+        → Writes (text_of summary site events) (ran site events).world sink ended → Runs summary site events sink left.old.items left.new.items result }
 {
-    if summary {
-        run_summed(alloc, site, events, out)
-    } else {
-        run_told(alloc, site, events, out)
+    match ended {
+        Ok(world) => match world.close(alloc) {
+            Ok(mut disks) => match left.append(&mut disks) {
+                Ok(()) => Status::Done,
+                Err(refused) => Status::Memory(refused.into()),
+            },
+            Err(memory) => Status::Memory(memory),
+        },
+        Err(RunStop::Sink) => Status::WriteFault,
+        Err(RunStop::Memory(memory)) => Status::Memory(memory),
+        Err(RunStop::Full(full)) => Status::DiskFull(full),
     }
 }
 
-/// Runs the events of a site on a new world, and writes their transcript, or their summary. The
-/// disks are those of the hosts as the run leaves them. After an `Err` a front of the text is
-/// written, which after `Memory` may be the whole of it. `Full` comes of a write of a disk of a
-/// host, past its greatest length.
+/// Runs the events of a site on a new world, writes their transcript, or their summary, and adds
+/// the disks that the hosts are left with. At `Memory` a front of the text is written, which may be
+/// the whole of it, and no disk is added.
 pub(crate) fn run<K: Sink>(
     alloc: Global,
     summary: bool,
     site: &[Name],
     events: &[WorldEvent],
     out: &mut K,
-) -> Result<Vec<Disks<MemDisk>>, RunStop>
+    left: &mut Vec<Disks<MemDisk>>,
+) -> Status
     requires site { IsSite site.now }
     requires sane { list_all is_sane_line events.now ≡ true }
-    ensures { Leaves (text_of summary site.now events.now) (ran site.now events.now).world (sunk K.taken K.faults K.stalls out.old out.new) result }
+    ensures { Runs summary site.now events.now (sunk K.taken K.faults K.stalls out.old out.new) left.old.items left.new.items result }
 {
-    match run_world(alloc, summary, site, events, out) {
-        Ok(world) => match world.close(alloc) {
-            Ok(disks) => Ok(disks),
-            Err(memory) => Err(RunStop::Memory(memory)),
-        },
-        Err(stop) => Err(stop),
+    if summary {
+        finish(alloc, run_summed(alloc, site, events, out), left)
+    } else {
+        finish(alloc, run_told(alloc, site, events, out), left)
     }
 }

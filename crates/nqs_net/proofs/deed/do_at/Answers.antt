@@ -8,16 +8,17 @@ use Rattle.nqs_net.proofs.deed.do_at.Goals as goal
 pub returns-in-Up : goal.returns-in-Up
 returns-in-Up c = λ w host faces is now.
     let up : IsUp c.in-Up.up.node.value host = subst (λ s. IsSlot s host) c.in-Up.is is in
-    done_from c.args.me c.args.tear _ _ _ _ _ w _ c.do_up.result (sym (ap disks_in c.in-Up.is)) (done_as c.args.me c.args.tear _ _ _ _ w _ _ c.do_up.result
-    (ap (λ b. if b then done_up c.args.deed.now c.args.me host w else done_down c.args.deed.now c.args.me host w) (sym up.up))
+    done_from c.args.turn.me c.args.turn.tear _ _ _ _ _ w _ c.do_up.result (sym (ap disks_in c.in-Up.is))
+    (done_as c.args.turn.me c.args.turn.tear _ _ _ _ w _ _ c.do_up.result
+    (ap (λ b. if b then done_up c.args.deed.now c.args.turn.me host w else done_down c.args.deed.now c.args.turn.me host w) (sym up.up))
     (c.do_up.ensures w host faces up now))
 
 pub returns-in-Down : goal.returns-in-Down
 returns-in-Down c = λ w host faces is now.
     let down : IsDown c.in-Down.down.disks.value host = subst (λ s. IsSlot s host) c.in-Down.is is in
-    done_from c.args.me c.args.tear _ _ _ _ _ w _ c.do_down.result (sym (ap disks_in c.in-Down.is))
-    (done_as c.args.me c.args.tear _ _ _ _ w _ _ c.do_down.result
-    (ap (λ b. if b then done_up c.args.deed.now c.args.me host w else done_down c.args.deed.now c.args.me host w) (sym down.down))
+    done_from c.args.turn.me c.args.turn.tear _ _ _ _ _ w _ c.do_down.result (sym (ap disks_in c.in-Down.is))
+    (done_as c.args.turn.me c.args.turn.tear _ _ _ _ w _ _ c.do_down.result
+    (ap (λ b. if b then done_up c.args.deed.now c.args.turn.me host w else done_down c.args.deed.now c.args.turn.me host w) (sym down.down))
     (c.do_down.ensures w host faces down now))
 
 pub do_down-requires : goal.do_down-requires

@@ -9,14 +9,15 @@ use Rattle.nqs_net.proofs.deed.finish_up.Goals as goal
 
 pub returns-in-Some : goal.returns-in-Some
 returns-in-Some c = λ w host faces is now.
-    done_as c.args.me c.args.tear _ _ _ _ w _ _ c.take_up.result
-    (ap (λ e. takes_up c.args.me host e w) (c.ended-event.ensures ∙ ap (λ n. event.Ended n 0 c.in-Some.id c.in-Some.start 0 [] []) (sym now))
-    ∙ sym (least_ends c.args.node.value host is c.args.me w (c.in-Some.id, c.in-Some.start)
+    done_as c.args.turn.me c.args.turn.tear _ _ _ _ w _ _ c.take_up.result
+    (ap (λ e. takes_up c.args.turn.me host e w) (c.ended-event.ensures ∙ ap (λ n. event.Ended n 0 c.in-Some.id c.in-Some.start 0 [] []) (sym now))
+    ∙ sym (least_ends c.args.node.value host is c.args.turn.me w (c.in-Some.id, c.in-Some.start)
     (c.in-Some.ensures ∙ ap (λ s. least_of s.rows) (c.state.ensures ∙ ap content_of c.deref.ensures))))
     (c.take_up.ensures w host faces is now)
 
 pub returns-in-None : goal.returns-in-None
 returns-in-None c = λ w host faces is now.
-    done_as c.args.me c.args.tear _ _ _ _ w _ _ c.stay.result
-    (sym (none_ends c.args.node.value host is c.args.me w (c.in-None.ensures ∙ ap (λ s. least_of s.rows) (c.state.ensures ∙ ap content_of c.deref.ensures))))
-    (stayed c.stay.result _ _ _ _ c.stay.ensures.same c.stay.ensures.seen c.stay.ensures.unseen c.args.me w host c.args.tear _ faces is)
+    done_as c.args.turn.me c.args.turn.tear _ _ _ _ w _ _ c.stay.result
+    (sym (none_ends c.args.node.value host is c.args.turn.me w (c.in-None.ensures
+    ∙ ap (λ s. least_of s.rows) (c.state.ensures ∙ ap content_of c.deref.ensures))))
+    (stayed c.stay.result _ _ _ _ c.stay.ensures.same c.stay.ensures.seen c.stay.ensures.unseen c.args.turn.me w host c.args.turn.tear _ faces is)

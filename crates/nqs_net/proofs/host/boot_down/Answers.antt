@@ -16,7 +16,7 @@ boot_step-requires c = c.requires
 pub returns-in_err-booted : goal.returns-in_err-booted
 returns-in_err-booted c = λ w host faces is now.
     let p = err_from_is_err_and c.from_residual.result c.from_residual.ensures.1 in
-    let me = c.args.me in
+    let me = c.args.turn.me in
     let booted = makes_change me host Boot (seen.Boot me ∷ []) (filter_map boot_output host.state.rows) w in
     rw p.1 (more_to_show c.args.seen.now.items c.boot_step.new.seen.items booted.seen (all_starts me booted.world).seen
     (c.in_err-booted.ensures w host faces is))
@@ -24,7 +24,7 @@ returns-in_err-booted c = λ w host faces is now.
 pub returns-in_err-begun : goal.returns-in_err-begun
 returns-in_err-begun c = λ w host faces is now.
     let p = err_from_is_err_and c.from_residual-in_err-begun.result c.from_residual-in_err-begun.ensures.1 in
-    let me = c.args.me in
+    let me = c.args.turn.me in
     let booted = makes_change me host Boot (seen.Boot me ∷ []) (filter_map boot_output host.state.rows) w in
     let one = c.in_ok-booted.ensures w host faces is in
     let two = c.in_err-begun.ensures booted.world (histories_of mem.history_of c.args.down.disks.value) one.at (one.rest.now ∙ now) in
@@ -32,8 +32,8 @@ returns-in_err-begun c = λ w host faces is now.
 
 pub returns : goal.returns
 returns c = λ w host faces is now.
-    let me = c.args.me in
+    let me = c.args.turn.me in
     let booted = makes_change me host Boot (seen.Boot me ∷ []) (filter_map boot_output host.state.rows) w in
     let one = c.in_ok-booted.ensures w host faces is in
     let two = c.in_ok-begun.ensures booted.world (histories_of mem.history_of c.args.down.disks.value) one.at (one.rest.now ∙ now) in
-    turn_after me _ _ c.args.tear c.args.tear _ _ _ _ _ w booted (all_starts me) one two
+    turn_after me _ _ c.args.turn.tear c.args.turn.tear _ _ _ _ _ w booted (all_starts me) one two

@@ -32,7 +32,7 @@ returns-in_err-push-in-Ok c = λ w host faces is.
 pub returns-in_err-emit-in-Ok : goal.returns-in_err-emit-in-Ok
 returns-in_err-emit-in-Ok c = λ w host faces is.
     let p = err_from_is_err_and c.from_residual-in_err-emit-in-Ok.result c.from_residual-in_err-emit-in-Ok.ensures.1 in
-    let me = c.args.me in
+    let me = c.args.turn.me in
     let down = subst (λ d. IsDown d host) (sym c.into_inner.ensures) is in
     let outs = filter_map boot_output host.state.rows in
     let packets = c.args.packets.now.items in
@@ -40,7 +40,7 @@ returns-in_err-emit-in-Ok c = λ w host faces is.
     let mid = c.push.new.self.items in
     let after = c.emit.new.seen.items in
     let out = c.in-Ok.ensures.outputs refl host.state down.tells ∙ ap (λ l. l ++ outs) c.new-out.ensures.items in
-    let saw = boot_seen me w host c.args.tear packets faces c.into_inner.result down c.in-Ok.node c.in-Ok.ensures.sound
+    let saw = boot_seen me w host c.args.turn.tear packets faces c.into_inner.result down c.in-Ok.node c.in-Ok.ensures.sound
     (c.in-Ok.ensures.told refl host.state down.tells) (c.in-Ok.ensures.made refl (active_in host) down.active)
     (c.in-Ok.ensures.active refl (active_in host) down.active) (c.in-Ok.ensures.any_moment refl host.state down.tells (active_in host) down.active)
     (c.in-Ok.ensures.fuse refl) in
@@ -65,16 +65,16 @@ returns-in-Ok c = λ w host faces is.
     let went = goes (active_in host) (histories_of mem.history_of c.into_inner.result) (history_of c.in-Ok.node) (Some Boot) host.state
     (c.in-Ok.ensures.any_moment refl host.state down.tells (active_in host) down.active) in
     let follows = subst (λ n. GoOn (histories_of mem.history_of c.into_inner.result) (history_of n)) (sym boxed) went in
-    turn_follows c.args.me c.args.tear _ before _ w c.args.tear (histories_of mem.history_of c.args.down.disks.value) _ _
+    turn_follows c.args.turn.me c.args.turn.tear _ before _ w c.args.turn.tear (histories_of mem.history_of c.args.down.disks.value) _ _
     (subst (λ d. GoOn (histories_of mem.history_of d) (history_of c.in_ok-node-in-Ok.node.value)) c.into_inner.ensures follows)
-    (boot_turn c.args.me w host c.args.tear packets faces c.into_inner.result down c.in-Ok.node _ c.in_ok-node-in-Ok.ensures.ok c.in-Ok.ensures.sound
+    (boot_turn c.args.turn.me w host c.args.turn.tear packets faces c.into_inner.result down c.in-Ok.node _ c.in_ok-node-in-Ok.ensures.ok c.in-Ok.ensures.sound
     (c.in-Ok.ensures.told refl host.state down.tells) (c.in-Ok.ensures.made refl (active_in host) down.active)
     (c.in-Ok.ensures.active refl (active_in host) down.active) (c.in-Ok.ensures.any_moment refl host.state down.tells (active_in host) down.active)
     (c.in-Ok.ensures.fuse refl)
     _ before _ (c.in_ok-emit-in-Ok.ensures.packets ∙ ap (λ l. packets ++ sent_in l) out)
-    (c.in_ok-emit-in-Ok.ensures.seen ∙ ap (λ l. l ++ seen_from c.args.me (length packets) c.boot.new.out.items) c.in_ok-push-in-Ok.ensures.items
-    ∙ append_assoc before (seen.Boot c.args.me ∷ []) (seen_from c.args.me (length packets) c.boot.new.out.items)
-    ∙ ap (λ l. before ++ (seen.Boot c.args.me ∷ seen_from c.args.me (length packets) l)) out))
+    (c.in_ok-emit-in-Ok.ensures.seen ∙ ap (λ l. l ++ seen_from c.args.turn.me (length packets) c.boot.new.out.items) c.in_ok-push-in-Ok.ensures.items
+    ∙ append_assoc before (seen.Boot c.args.turn.me ∷ []) (seen_from c.args.turn.me (length packets) c.boot.new.out.items)
+    ∙ ap (λ l. before ++ (seen.Boot c.args.turn.me ∷ seen_from c.args.turn.me (length packets) l)) out))
 
 pub returns-in_err-node-in-Ok : goal.returns-in_err-node-in-Ok
 returns-in_err-node-in-Ok c = λ w host faces is.
@@ -93,12 +93,12 @@ returns-in-Err-Disk-default c = λ w host faces is.
     let stop = c.in_ok-slot-in-Err-Disk-default in
     let went = broke_off (active_in host) (histories_of mem.history_of c.into_inner.result) (histories_of mem.history_of broke.disks) (Some Boot)
     (broke.ensures.broken_off refl (active_in host) down.active) in
-    let follows = follow_stopped c.args.tear (histories_of mem.history_of c.into_inner.result)
+    let follows = follow_stopped c.args.turn.tear (histories_of mem.history_of c.into_inner.result)
     (histories_of mem.history_of broke.disks) stop.slot went stop.ensures.stopped in
-    turn_follows c.args.me c.args.tear c.args.packets.now.items c.args.seen.now.items _ w c.args.tear
+    turn_follows c.args.turn.me c.args.turn.tear c.args.packets.now.items c.args.seen.now.items _ w c.args.turn.tear
     (histories_of mem.history_of c.args.down.disks.value) stop.slot _
-    (subst (λ d. Follows c.args.tear (histories_of mem.history_of d) stop.slot) c.into_inner.ensures follows)
-    (boot_cut c.args.me w host c.args.tear c.args.packets.now.items faces c.into_inner.result down
+    (subst (λ d. Follows c.args.turn.tear (histories_of mem.history_of d) stop.slot) c.into_inner.ensures follows)
+    (boot_cut c.args.turn.me w host c.args.turn.tear c.args.packets.now.items faces c.into_inner.result down
     (histories_of mem.history_of broke.disks) stop.slot broke.field-0-0-0 (mem.is_starved (disk_at broke.field-0-0-0 broke.disks)) c.args.seen.now.items _
     stop.ensures.seen stop.ensures.stopped (stop.ensures.fed broke.field-0-0-0)
     (broke.ensures.cut refl host.state down.tells (active_in host) down.active broke.field-0-0-0 broke.field-0-0-is))

@@ -20,7 +20,7 @@ returns c = λ w host packets faces is.
     let disks = c.close-disks.result in
     let old = history_of node in
     let closed : (which : Which) → disk_at which disks ≡ disk_of which node = λ which. c.close-disks.ensures which ∙ ap (disk_of which) c.into_inner.ensures in
-    turn_follows c.args.me c.args.tear packets c.args.seen.now.items _ w c.args.tear old slot _
-    (follow_closed c.args.tear old node disks slot closed (still old old (λ which. refl)) c.in_ok-slot.ensures.stopped)
-    (crash_turn c.args.me w host c.args.tear packets faces node is disks closed slot c.args.seen.now.items _ c.in_ok-slot.ensures.seen
+    turn_follows c.args.turn.me c.args.turn.tear packets c.args.seen.now.items _ w c.args.turn.tear old slot _
+    (follow_closed c.args.turn.tear old node disks slot closed (still old old (λ which. refl)) c.in_ok-slot.ensures.stopped)
+    (crash_turn c.args.turn.me w host c.args.turn.tear packets faces node is disks closed slot c.args.seen.now.items _ c.in_ok-slot.ensures.seen
     c.in_ok-slot.ensures.stopped)

@@ -37,7 +37,7 @@ module _ (me : HostId) (host : Host) (event : Event) (w : Network) where
 pub returns-in_err-taken : goal.returns-in_err-taken
 returns-in_err-taken c = λ w host faces is now.
     let p = err_from_is_err_and c.from_residual.result c.from_residual.ensures.1 in
-    let me = c.args.me in
+    let me = c.args.turn.me in
     let event = c.args.event.now in
     let before = c.args.seen.now.items in
     let after = c.take_step.new.seen.items in
@@ -49,7 +49,7 @@ returns-in_err-taken c = λ w host faces is now.
 pub returns-in_err-begun : goal.returns-in_err-begun
 returns-in_err-begun c = λ w host faces is now.
     let p = err_from_is_err_and c.from_residual-in_err-begun.result c.from_residual-in_err-begun.ensures.1 in
-    let me = c.args.me in
+    let me = c.args.turn.me in
     let event = c.args.event.now in
     let before = c.args.seen.now.items in
     let after = c.start_all.new.seen.items in
@@ -63,7 +63,7 @@ returns-in_err-begun c = λ w host faces is now.
 pub returns-in_err-left : goal.returns-in_err-left
 returns-in_err-left c = λ w host faces is now.
     let p = err_from_is_err_and c.from_residual-in_err-left.result c.from_residual-in_err-left.ensures.1 in
-    let me = c.args.me in
+    let me = c.args.turn.me in
     let event = c.args.event.now in
     let old = history_of c.args.node.value in
     let before = c.args.seen.now.items in
@@ -73,7 +73,7 @@ returns-in_err-left c = λ w host faces is now.
     let all = begun me host event w in
     let one = c.in_ok-taken.ensures w host faces is in
     let two = c.in_ok-begun.ensures step.world old one.at (one.rest.now ∙ now) in
-    let both = turn_after me _ _ c.args.tear c.args.tear _ _ _ _ _ w step (all_starts me) one two in
+    let both = turn_after me _ _ c.args.turn.tear c.args.turn.tear _ _ _ _ _ w step (all_starts me) one two in
     let stops = c.shuts_down-stops.ensures (bytes_of c.args.node.value.store)
     ∙ ap (λ s. shuts_down event (map_state (bytes_of c.args.node.value.store) s)) (c.state.ensures ∙ ap content_of c.deref.ensures)
     ∙ ap (shuts_down event) is.tells.is in
@@ -82,18 +82,18 @@ returns-in_err-left c = λ w host faces is now.
 
 pub returns : goal.returns
 returns c = λ w host faces is now.
-    let me = c.args.me in
+    let me = c.args.turn.me in
     let event = c.args.event.now in
     let old = history_of c.args.node.value in
     let step = stepped me host event w in
     let all = begun me host event w in
     let one = c.in_ok-taken.ensures w host faces is in
     let two = c.in_ok-begun.ensures step.world old one.at (one.rest.now ∙ now) in
-    let both = turn_after me _ _ c.args.tear c.args.tear _ _ _ _ _ w step (all_starts me) one two in
+    let both = turn_after me _ _ c.args.turn.tear c.args.turn.tear _ _ _ _ _ w step (all_starts me) one two in
     let three = c.in_ok-left.ensures all.world _ old both.at in
     let stops = c.shuts_down-stops.ensures (bytes_of c.args.node.value.store)
     ∙ ap (λ s. shuts_down event (map_state (bytes_of c.args.node.value.store) s)) (c.state.ensures ∙ ap content_of c.deref.ensures)
     ∙ ap (shuts_down event) is.tells.is in
-    turn_after me _ _ c.args.tear c.args.tear _ _ _ _ _ w all (halts (shuts_down event host.state) me) both
-    (subst (λ b. Turns me (StandsAfter c.args.tear old c.in_ok-left.left) c.args.tear c.start_all.new.packets.items c.start_all.new.seen.items
+    turn_after me _ _ c.args.turn.tear c.args.turn.tear _ _ _ _ _ w all (halts (shuts_down event host.state) me) both
+    (subst (λ b. Turns me (StandsAfter c.args.turn.tear old c.in_ok-left.left) c.args.turn.tear c.start_all.new.packets.items c.start_all.new.seen.items
     c.halt.new.seen.items all.world (halts b me all.world)) stops three)

@@ -14,7 +14,8 @@ pub returns-in_err-emit-clause-turn : goal.returns-in_err-emit-clause-turn
 returns-in_err-emit-clause-turn c = λ w host x fails old faces taken.
     let p = err_from_is_err_and c.from_residual.result c.from_residual.ensures.1 in
     let took = subst (IsTaken host x fails old c.args.node.value c.args.out.items) c.if-took.true taken in
-    rw p.1 (shown_as c.args.seen.now.items c.emit.new.seen.items _ _ (took_seen c.args.me w host c.args.tear c.args.packets.now.items faces x fails old
+    rw p.1 (shown_as c.args.seen.now.items c.emit.new.seen.items _ _ (took_seen c.args.turn.me w host c.args.turn.tear c.args.packets.now.items faces x fails
+    old
     c.args.node.value c.args.out.items took c.requires.sound) c.in_err-emit.ensures.front)
 
 pub returns-in_err-emit-clause-down : goal.returns-in_err-emit-clause-down
@@ -43,8 +44,10 @@ pub returns-then-took-clause-turn : goal.returns-then-took-clause-turn
 returns-then-took-clause-turn c = λ w host x fails old faces taken.
     let node = c.args.node.value in
     let took = subst (IsTaken host x fails old node c.args.out.items) c.if-took.true taken in
-    turn_follows c.args.me c.args.tear _ c.args.seen.now.items _ w c.args.tear old _ _ (goes (active_in host) old (history_of node) x.change host.state took.moments)
-    (took_turn c.args.me w host c.args.tear c.args.packets.now.items faces x fails old node c.args.out.items took c.requires.sound _ c.args.seen.now.items _
+    turn_follows c.args.turn.me c.args.turn.tear _ c.args.seen.now.items _ w c.args.turn.tear old _ _
+    (goes (active_in host) old (history_of node) x.change host.state took.moments)
+    (took_turn c.args.turn.me w host c.args.turn.tear c.args.packets.now.items faces x fails old node c.args.out.items took c.requires.sound _
+    c.args.seen.now.items _
     c.in_ok-emit.ensures.packets c.in_ok-emit.ensures.seen)
 
 pub returns-then-took-clause-down : goal.returns-then-took-clause-down
@@ -67,10 +70,12 @@ returns-clause-turn c = λ w host x fails old faces taken.
     let slot = c.in_ok-slot.slot in
     let disks = c.close-disks.result in
     let closed : (which : Which) → disk_at which disks ≡ disk_of which node = λ which. c.close-disks.ensures which ∙ ap (disk_of which) c.into_inner.ensures in
-    turn_follows c.args.me c.args.tear _ c.args.seen.now.items _ w c.args.tear old slot _
-    (follow_closed c.args.tear old node disks slot closed (goes (active_in host) old (history_of node) x.change host.state broke.moments) c.in_ok-slot.ensures.stopped)
-    (closed_turn c.args.me w host c.args.tear c.args.packets.now.items faces x fails old node c.args.out.items broke disks closed slot c.args.seen.now.items _
+    turn_follows c.args.turn.me c.args.turn.tear _ c.args.seen.now.items _ w c.args.turn.tear old slot _
+    (follow_closed c.args.turn.tear old node disks slot closed (goes (active_in host) old
+    (history_of node) x.change host.state broke.moments) c.in_ok-slot.ensures.stopped)
+    (closed_turn c.args.turn.me w host c.args.turn.tear c.args.packets.now.items faces x fails old node c.args.out.items broke disks closed slot
+    c.args.seen.now.items _
     c.in_ok-slot.ensures.seen c.in_ok-slot.ensures.stopped c.in_ok-slot.ensures.fed)
 
 pub returns-clause-down : goal.returns-clause-down
-returns-clause-down c = λ broke. down_stopped c.args.tear _ _ c.in_ok-slot.ensures.stopped
+returns-clause-down c = λ broke. down_stopped c.args.turn.tear _ _ c.in_ok-slot.ensures.stopped

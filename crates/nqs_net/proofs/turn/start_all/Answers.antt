@@ -10,8 +10,8 @@ use Rattle.nqs_net.proofs.turn.start_all.Goals as goal
 pub loop-more-init : goal.loop-more-init
 loop-more-init c = λ w old at now. (
   unseen w,
-  idle_at c.args.me w at.host c.args.tear c.args.packets.now.items at.faces
-      (StandsAfter c.args.tear old c.args.first) at.stands c.args.seen.now.items,
+  idle_at c.args.turn.me w at.host c.args.turn.tear c.args.packets.now.items at.faces
+      (StandsAfter c.args.turn.tear old c.args.first) at.stands c.args.seen.now.items,
   refl,
 )
 
@@ -23,12 +23,13 @@ returns-in_err-more c = λ w old at now.
     let after = c.start_one.new.seen.items in
     let rest = c.in_err-more.ensures.turn v.0.world old v.1.at (v.1.rest.now ∙ now) in
     rw p.1 (shown_as before after _ _ (ap (λ (r : Ran). r.seen) (sym v.2))
-    (shown_before before c.loop-more.seen.items after v.0.seen (all_starts c.args.me v.0.world).seen v.1.seen rest))
+    (shown_before before c.loop-more.seen.items after v.0.seen (all_starts c.args.turn.me v.0.world).seen v.1.seen rest))
 
 pub returns-then-not-more : goal.returns-then-not-more
 returns-then-not-more c = λ w old at now.
     let v = c.loop-more.invariant w old at now in
-    both_last c.args.me (StandsAfter c.args.tear old c.loop-more.slot) (StandsAfter c.args.tear old c.in_ok-more.next) c.args.tear _ _ c.args.seen.now.items _ _
+    both_last c.args.turn.me (StandsAfter c.args.turn.tear old c.loop-more.slot)
+    (StandsAfter c.args.turn.tear old c.in_ok-more.next) c.args.turn.tear _ _ c.args.seen.now.items _ _
     w v.0 v.1 v.2 c.in_ok-more.more (c.in_ok-more.ensures.turn v.0.world old v.1.at (v.1.rest.now ∙ now)) c.if-not-more.true
 
 pub loop-more-preserved : goal.loop-more-preserved
@@ -36,9 +37,11 @@ loop-more-preserved c = λ w old at now.
     let v = c.loop-more.invariant w old at now in
     let s = c.in_ok-more.ensures.turn v.0.world old v.1.at (v.1.rest.now ∙ now) in (
       then_ran v.0 (λ _. s.ran),
-      both_turn c.args.me (StandsAfter c.args.tear old c.loop-more.slot) (StandsAfter c.args.tear old c.in_ok-more.next) c.args.tear _ _ c.args.seen.now.items _
+      both_turn c.args.turn.me (StandsAfter c.args.turn.tear old c.loop-more.slot)
+          (StandsAfter c.args.turn.tear old c.in_ok-more.next) c.args.turn.tear _ _ c.args.seen.now.items _
           _ w v.0 v.1 v.2 c.in_ok-more.more s,
-      both_goes c.args.me (StandsAfter c.args.tear old c.loop-more.slot) (StandsAfter c.args.tear old c.in_ok-more.next) c.args.tear _ _ c.args.seen.now.items _
+      both_goes c.args.turn.me (StandsAfter c.args.turn.tear old c.loop-more.slot)
+          (StandsAfter c.args.turn.tear old c.in_ok-more.next) c.args.turn.tear _ _ c.args.seen.now.items _
           _ w v.0 v.1 v.2 c.in_ok-more.more s,
     )
 

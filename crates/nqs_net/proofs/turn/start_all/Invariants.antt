@@ -8,9 +8,10 @@ use Rattle.nqs_net.proofs.turn.start_all.Given as goal
 
 -- what was started so far, and that the others follow
 abbrev pub invariant-loop-more : goal.invariant-loop-more
-invariant-loop-more l = (w : Network) (old : Which → History) → IsAt l.me (StandsAfter l.tear old l.fn.first) l.tear l.fn.packets.items w → w.now ≡ l.now
-    → (r : Ran) × Turns l.me (StandsAfter l.tear old l.slot) l.tear l.packets.items l.fn.seen.items l.seen.items w r
-    × (all_starts l.me w ≡ then_ran r (all_starts l.me))
+invariant-loop-more l = (w : Network) (old : Which → History) → IsAt l.turn.me (StandsAfter l.turn.tear old l.fn.first) l.turn.tear l.fn.packets.items w
+    → w.now ≡ l.turn.now
+    → (r : Ran) × Turns l.turn.me (StandsAfter l.turn.tear old l.slot) l.turn.tear l.packets.items l.fn.seen.items l.seen.items w r
+    × (all_starts l.turn.me w ≡ then_ran r (all_starts l.turn.me))
 
 -- each start leaves fewer
 abbrev pub decreases-loop-more : goal.decreases-loop-more

@@ -8,13 +8,15 @@ use Rattle.nqs_net.proofs.turn.start_event.Goals as goal
 pub returns-in-Ok-clause-taken : goal.returns-in-Ok-clause-taken
 returns-in-Ok-clause-taken c = λ host is empty.
     let x = started c.args.now host.state in
-    took_step c.args.node.now c.start_next.new.self host is x c.start_next.new.out.items (c.in-Ok.ensures.any_moment refl host.state is.tells) (c.in-Ok.ensures.fuse refl)
+    took_step c.args.node.now c.start_next.new.self host is x c.start_next.new.out.items (c.in-Ok.ensures.any_moment refl host.state is.tells)
+    (c.in-Ok.ensures.fuse refl)
     (c.in-Ok.ensures.told refl host.state is.tells) (c.in-Ok.ensures.made refl host.state is.tells)
     (c.in-Ok.ensures.outputs refl host.state is.tells ∙ ap (λ l. l ++ map shown x.outputs) empty) (c.in-Ok.ensures.active refl host.state is.tells)
 
 pub returns-in-Err-Disk-clause-taken : goal.returns-in-Err-Disk-clause-taken
 returns-in-Err-Disk-clause-taken c = λ host is empty.
-    broke_step c.args.node.now c.start_next.new.self host is (started c.args.now host.state) c.start_next.new.out.items (c.in-Err-Disk.ensures.any_moment refl host.state is.tells)
+    broke_step c.args.node.now c.start_next.new.self host is (started c.args.now host.state) c.start_next.new.out.items
+    (c.in-Err-Disk.ensures.any_moment refl host.state is.tells)
     (c.in-Err-Disk.ensures.fuse refl) c.in-Err-Disk.field-0-0
     (c.in-Err-Disk.ensures.cut refl host.state is.tells c.in-Err-Disk.field-0-0 (ap Err c.in-Err-Disk.field-0-is))
 

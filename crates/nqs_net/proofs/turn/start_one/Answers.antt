@@ -16,11 +16,11 @@ returns-in-Down-clause-fewer c = λ more. absurd (true≢false (sym more))
 
 pub returns-in-Down-clause-turn : goal.returns-in-Down-clause-turn
 returns-in-Down-clause-turn c = λ w old at now.
-    let after = subst (λ s. StandsAfter c.args.tear old s at.host) c.in-Down.is at.stands in record {
+    let after = subst (λ s. StandsAfter c.args.turn.tear old s at.host) c.in-Down.is at.stands in record {
       ran = unseen w;
-      turn = idle_at c.args.me w at.host c.args.tear c.args.packets.now.items at.faces _ after c.args.seen.now.items;
+      turn = idle_at c.args.turn.me w at.host c.args.turn.tear c.args.packets.now.items at.faces _ after c.args.seen.now.items;
       goes_on = refl;
-      last = λ e. down_all c.args.me w at.host at.faces.there after.stands.down;
+      last = λ e. down_all c.args.turn.me w at.host at.faces.there after.stands.down;
     }
 
 pub returns-in-Up-clause-fewer : goal.returns-in-Up-clause-fewer
@@ -28,7 +28,7 @@ returns-in-Up-clause-fewer c = subst (λ s. IfOk c.start_step.result (λ r. r.0 
 
 pub returns-in-Up-clause-turn : goal.returns-in-Up-clause-turn
 returns-in-Up-clause-turn c = λ w old at now.
-    let after = subst (λ s. StandsAfter c.args.tear old s at.host) c.in-Up.is at.stands in
+    let after = subst (λ s. StandsAfter c.args.turn.tear old s at.host) c.in-Up.is at.stands in
     let mid = history_of c.in-Up.up.node.value in
-    started_on c.args.me c.args.tear old mid c.start_step.new.packets.items c.args.seen.now.items c.start_step.new.seen.items w c.start_step.result
+    started_on c.args.turn.me c.args.turn.tear old mid c.start_step.new.packets.items c.args.seen.now.items c.start_step.new.seen.items w c.start_step.result
     after.follows (c.start_step.ensures.turn w at.host at.faces after.stands now)

@@ -33,7 +33,7 @@ pub returns-in_err-slot : goal.returns-in_err-slot
 returns-in_err-slot c =
     let p = err_from_is_err_and c.from_residual-in_err-slot.result c.from_residual-in_err-slot.ensures.1 in
     let node = c.deref_mut.result.now in
-    let me = c.args.me in
+    let me = c.args.turn.me in
     let before = c.args.seen.now.items in
     let after = c.carry.new.seen.items in
     record {
@@ -41,7 +41,7 @@ returns-in_err-slot c =
           let x = started w.now host.state in
           let ran = steps me host x w in
           let front : GrowsByFront before after ran.seen = subst (λ n. GrowsByFront before after (steps me host (started n host.state) w).seen) (sym now)
-          (c.in_err-slot.ensures.turn w host (started c.args.now host.state) (fails_of node) (history_of node) faces
+          (c.in_err-slot.ensures.turn w host (started c.args.turn.now host.state) (fails_of node) (history_of node) faces
           (c.in_ok-took.ensures.taken host up c.new-out.ensures.items)) in
           rw p.1 (shown_as before after _ _ (ap (λ (r : Ran). r.seen) (sym (next_all me w host faces.there (steady_up c.args.node.value host is) is.up)))
           (more_to_show before after ran.seen (all_starts me ran.world).seen front)));
@@ -61,17 +61,19 @@ returns-clause-turn c = λ w host faces is now.
     let packets = c.carry.new.packets.items in
     let before = c.args.seen.now.items in
     let after = c.carry.new.seen.items in
-    let ran = steps c.args.me host (started w.now host.state) w in
-    let carried : Turns c.args.me (StandsAfter c.args.tear (history_of node) slot) c.args.tear packets before after w ran =
-    subst (λ n. Turns c.args.me (StandsAfter c.args.tear (history_of node) slot) c.args.tear packets before after w
-    (steps c.args.me host (started n host.state) w)) (sym now)
-    (c.in_ok-slot.ensures.turn w host (started c.args.now host.state) (fails_of node) (history_of node) faces
+    let ran = steps c.args.turn.me host (started w.now host.state) w in
+    let carried : Turns c.args.turn.me (StandsAfter c.args.turn.tear (history_of node) slot) c.args.turn.tear packets before after w ran =
+    subst (λ n. Turns c.args.turn.me (StandsAfter c.args.turn.tear (history_of node) slot) c.args.turn.tear packets before after w
+    (steps c.args.turn.me host (started n host.state) w)) (sym now)
+    (c.in_ok-slot.ensures.turn w host (started c.args.turn.now host.state) (fails_of node) (history_of node) faces
     (c.in_ok-took.ensures.taken host up c.new-out.ensures.items)) in
-    let turn = subst (λ n. Turns c.args.me (StandsAfter c.args.tear (history_of n) slot) c.args.tear packets before after w ran) c.deref_mut.ensures.value
+    let turn = subst (λ n. Turns c.args.turn.me (StandsAfter c.args.turn.tear (history_of n) slot) c.args.turn.tear packets before after w ran)
+    c.deref_mut.ensures.value
     carried in
     let old = history_of c.args.node.value in
-    starts_follow c.args.me c.args.tear packets before after w c.args.tear old slot c.in_ok-took.more turn.at.stands.follows
-    (starting c.args.me w host faces.there (steady_up c.args.node.value host is) is.up c.args.tear slot c.in_ok-took.took c.in_ok-took.more packets before after
-    (turn_stands c.args.me c.args.tear packets before after w c.args.tear old slot ran turn)
+    starts_follow c.args.turn.me c.args.turn.tear packets before after w c.args.turn.tear old slot c.in_ok-took.more turn.at.stands.follows
+    (starting c.args.turn.me w host faces.there (steady_up c.args.node.value host is) is.up c.args.turn.tear slot c.in_ok-took.took c.in_ok-took.more packets
+    before after
+    (turn_stands c.args.turn.me c.args.turn.tear packets before after w c.args.turn.tear old slot ran turn)
     c.in_ok-slot.ensures.down
     (λ took none. ap (λ n. start n host.state) now ∙ c.in_ok-took.ensures.last host up took none))

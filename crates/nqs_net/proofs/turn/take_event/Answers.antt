@@ -13,7 +13,8 @@ returns-in-Ok-clause-taken c = λ host is empty.
 
 pub returns-in-Err-Disk-clause-taken : goal.returns-in-Err-Disk-clause-taken
 returns-in-Err-Disk-clause-taken c = λ host is empty.
-    broke_step c.args.node.now c.take.new.self host is (step c.args.event.now host.state) c.take.new.out.items (c.in-Err-Disk.ensures.any_moment refl host.state is.tells)
+    broke_step c.args.node.now c.take.new.self host is (step c.args.event.now host.state) c.take.new.out.items
+    (c.in-Err-Disk.ensures.any_moment refl host.state is.tells)
     (c.in-Err-Disk.ensures.fuse refl) c.in-Err-Disk.field-0-0
     (c.in-Err-Disk.ensures.cut refl host.state is.tells c.in-Err-Disk.field-0-0 (ap Err c.in-Err-Disk.field-0-is))
 

@@ -42,6 +42,7 @@ returns c = λ w host faces is.
     let node = c.deref_mut.result.now in
     let up = subst (λ n. IsUp n host) (sym c.deref_mut.ensures.value) is in
     let x = step c.args.event.now host.state in
-    subst (λ n. Turns c.args.me (StandsAfter c.args.tear (history_of n) c.in_ok-slot.slot) c.args.tear c.carry.new.packets.items c.args.seen.now.items
-    c.carry.new.seen.items w (steps c.args.me host x w)) c.deref_mut.ensures.value
+    subst (λ n. Turns c.args.turn.me (StandsAfter c.args.turn.tear (history_of n) c.in_ok-slot.slot) c.args.turn.tear c.carry.new.packets.items
+    c.args.seen.now.items
+    c.carry.new.seen.items w (steps c.args.turn.me host x w)) c.deref_mut.ensures.value
     (c.in_ok-slot.ensures.turn w host x (fails_of node) (history_of node) faces (c.in_ok-took.ensures.taken host up c.new-out.ensures.items))

@@ -8,7 +8,8 @@ use Rattle.nqs_words.specs.Values.{is_name, name_of, number_of, seq_of, place_of
 use Rattle.nqs_words.specs.Words.{end_of, next_word}
 use Rattle.nqs_limits.specs.Time.{first_colon}
 use Rattle.nqs_qmgr.specs.Heads.{word_at, name_at, request_at, nothing_after, last_name, stem_of, head_of, head_at, bare, value_at, valued, limit_of}
-use Rattle.nqs_qmgr.specs.Lines.{table, shape_of, verbs, nouns, read_alone, read_one_name, read_value, read_value_and_name, read_one_request, read_request_and_name}
+use Rattle.nqs_qmgr.specs.Lines.{table, shape_of, verbs, nouns, read_alone, read_one_name, read_value, read_value_and_name, read_one_request}
+use Rattle.nqs_qmgr.specs.Lines.{read_request_and_name}
 use Rattle.nqs_qmgr.specs.Lines.{last_value, read_request_and_priority, read_name_and_forms, read_made_queue, read_shape, after_verb, qmgr_line}
 use Rattle.nqs_qmgr.specs.Options.{once, with_priority, with_run_limit, with_pipe_only, with_destination, with_option, options}
 use Rattle.nqs_qsub.specs.Options.{flag_of, is_given, is_both, fresh, takes_value, marked, valued as qsub_valued, with_value, one_option, read_words}
@@ -31,7 +32,8 @@ use Rattle.nqs_runs.proofs.laws.worked_runs.Goals as goal
 pub returns : goal.returns
 unfolding digits decimal first_other time_of size_of keyword_of step_of quoted is_name name_of number_of seq_of place_of named_of dest_of end_of next_word
     first_colon word_at name_at request_at nothing_after last_name stem_of head_of head_at bare value_at valued limit_of table shape_of verbs nouns
-    read_alone read_one_name read_value read_value_and_name read_one_request read_request_and_name last_value read_request_and_priority read_name_and_forms read_made_queue
+    read_alone read_one_name read_value read_value_and_name read_one_request read_request_and_name last_value read_request_and_priority read_name_and_forms
+    read_made_queue
     read_shape after_verb qmgr_line once with_priority with_run_limit with_pipe_only with_destination with_option options flag_of is_given is_both fresh
     takes_value marked qsub_valued with_value one_option read_words both_options qsub_options line_kind line_end next_line line_options script_options
     next_token text_of names_of stat_of delete_of for_hosts drawn drawn_from generated generated_site quoted_word word_there next_of words_from verb_of

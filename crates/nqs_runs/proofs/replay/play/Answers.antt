@@ -5,21 +5,21 @@ use Rattle.nqs_lines.specs.Acts.{is_sane_line}
 use Rattle.nqs_runs.proofs.Playing.{plays, reports}
 use Rattle.nqs_runs.proofs.replay.play.Goals as goal
 
-pub play_events-requires-clause-site : goal.play_events-requires-clause-site
-play_events-requires-clause-site g c =
+pub run-requires-clause-site : goal.run-requires-clause-site
+run-requires-clause-site g c =
     let read = c.in-Ok.ensures in
     subst IsSite (sym (c.as_slice.ensures ∙ read.2)) (c.sites_are_right.ensures.read c.args.input.now read.0 read.1)
 
-pub play_events-requires-clause-sane : goal.play_events-requires-clause-sane
-play_events-requires-clause-sane g c =
+pub run-requires-clause-sane : goal.run-requires-clause-sane
+run-requires-clause-sane g c =
     let read = c.in-Ok.ensures in
     ap (list_all is_sane_line) (c.as_slice-in-Ok.ensures ∙ read.3) ∙ c.schedules_are_sane.ensures c.args.input.now read.0 read.1
 
 pub returns-in-Ok : goal.returns-in-Ok
 returns-in-Ok g c =
     let read = c.in-Ok.ensures in
-    plays c.args.summary c.args.input.now read.0 c.as_slice.result.now c.as_slice-in-Ok.result.now _ c.args.left.now.items c.play_events.new.left.items
-    c.play_events.result read.1 (c.as_slice.ensures ∙ read.2) (c.as_slice-in-Ok.ensures ∙ read.3) c.play_events.ensures
+    plays c.args.summary c.args.input.now read.0 c.as_slice.result.now c.as_slice-in-Ok.result.now _ c.args.left.now.items c.run.new.left.items
+    c.run.result read.1 (c.as_slice.ensures ∙ read.2) (c.as_slice-in-Ok.ensures ∙ read.3) c.run.ensures
 
 pub returns-in-Err-Bad : goal.returns-in-Err-Bad
 returns-in-Err-Bad g c = reports c.args.summary c.args.input.now c.in-Err-Bad.fault.line c.in-Err-Bad.fault.cause _ c.args.left.now.items c.report.result
