@@ -14,7 +14,7 @@ use crate::peers::change_peer;
 use nqs_routing::find_peer;
 use nqs_state::HostState;
 use nqs_types::{FileOut, HostId, OutPart, Peer, RequestId, Stage};
-use nqs_values::{Bytes, Extent, Items};
+use nqs_values::{Bytes, Extent, Items, Rest};
 
 // A file of this host, under the next number if there is one.
 fn add_file(state: &mut HostState, part: OutPart)
@@ -82,7 +82,7 @@ fn add_output(state: &mut HostState, id: RequestId, part: OutPart)
     }
 }
 
-fn add_outputs(state: &mut HostState, id: RequestId, mut parts: Items<OutPart>)
+fn add_outputs(state: &mut HostState, id: RequestId, mut parts: Rest<OutPart>)
     requires files { length parts ≤ state.old.files.spare }
     requires stages { length parts ≤ state.old.stages.spare }
     requires order { IsInOrder (content state.old) }
@@ -105,7 +105,7 @@ pub fn ended(state: &mut HostState, id: RequestId, outputs: Items<OutPart>)
     ensures { content state.new ≡ add_outputs id outputs (drop_row id (content state.old)) }
 {
     state.rows.remove_key(&id);
-    add_outputs(state, id, outputs);
+    add_outputs(state, id, Rest::of(outputs));
 }
 
 /// A stage has come from another host, and is a file of this one.

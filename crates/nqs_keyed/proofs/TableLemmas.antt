@@ -2,8 +2,7 @@ use Rattle.std.proofs.Common.{◌≡◌, ℕ, ◌+◌, Bool, true, false, cond, 
 use Rattle.std.proofs.Common.{nat_lt, slice_get, slice_set, remove, take, drop, refl, sym, ap, subst, ◌∙◌, zero, suc, is_some, if◌then◌else◌, true≢false, ◌||◌}
 use Rattle.std.proofs.Common.{◌&&◌, Bor, arith}
 use Rattle.std.proofs.lemmas.Option.{same_Some, none-some}
-use Rattle.indexmap.specs.IndexMap.{shift_remove_entry}
-use Rattle.indexmap.proofs.MapLemmas.{Found-position}
+use Rattle.indexmap.proofs.MapLemmas.{Found-position, Missing-position}
 use Rattle.std.proofs.lemmas.List.{map-append, length-map, take-map, drop-map}
 use Rattle.std.specs.List.{position_or_len, filter_map, cons_option, list_all, list_any}
 use Rattle.std.proofs.lemmas.List.Elements.{Contains-get_or, Contains-append_right}
@@ -43,6 +42,11 @@ module _ {K V : Type 0} where
   values_set_value_at (e ∷ es) zero w = refl
   values_set_value_at (e ∷ es) (suc i) w = ap (λ l. e.1 ∷ l) (values_set_value_at es i w)
 
+  keys_set : (es : List (K × V)) (i : ℕ) (w : V) → keys_of (set_value_at es i w) ≡ keys_of es
+  keys_set [] i w = refl
+  keys_set (e ∷ es) zero w = refl
+  keys_set (e ∷ es) (suc i) w = ap (λ l. e.0 ∷ l) (keys_set es i w)
+
 module _ {A B : Type 0} (f : A → B) where
   pub map-remove : (xs : List A) (i : ℕ) → map f (remove xs i) ≡ remove (map f xs) i
   map-remove xs i = map-append f (take i xs) (drop (suc i) xs) ∙ sym (λ j. take-map f i xs j ++ drop-map f (suc i) xs j)
@@ -52,6 +56,41 @@ module _ {A B : Type 0} (f : A → B) where
   map-slice_set [] i y h = refl
   map-slice_set (x ∷ xs) zero y h = (let e : f x ≡ f y = cc in ap (λ z. z ∷ map f xs) (sym e))
   map-slice_set (x ∷ xs) (suc i) y h = ap (λ l. f x ∷ l) (map-slice_set xs i y h)
+
+module _ {K V : Type 0} (key : V → K) where
+  -- a value of the same key takes the place of another
+  pub IsKeyed-set : (es : List (K × V)) (i : ℕ) (w : V) → IsKeyed key es → slice_get (map key (values_of es)) i ≡ Some (key w)
+      → IsKeyed key (set_value_at es i w)
+  IsKeyed-set es i w h same = keys_set es i w ∙ h ∙ sym (map-slice_set key (values_of es) i w same) ∙ ap (map key) (sym (values_set_value_at es i w))
+
+  pub IsKeyed-remove : (es : List (K × V)) (i : ℕ) → IsKeyed key es → IsKeyed key (remove es i)
+  IsKeyed-remove es i h =
+      map-remove (λ e. e.0) es i ∙ ap (λ l. remove l i) h ∙ sym (map-remove key (values_of es) i) ∙ ap (map key) (sym (map-remove (λ e. e.1) es i))
+
+module _ {V : Type 0} (test : V → Bool) where
+  -- without the one at the first place that passes
+  pub removed_at : (vs : List V) (v : V) → slice_get vs (position_or_len test vs) ≡ Some v → remove vs (position_or_len test vs) ≡ without_first test vs
+  removed_at [] v h = absurd (none-some v h)
+  removed_at (x ∷ xs) v h = by (removed_at xs v) (test x) h
+    where
+      by : (slice_get xs (position_or_len test xs) ≡ Some v → remove xs (position_or_len test xs) ≡ without_first test xs) → (b : Bool)
+          → slice_get (x ∷ xs) (cond (not b) (1 + position_or_len test xs) 0) ≡ Some v
+          → remove (x ∷ xs) (cond (not b) (1 + position_or_len test xs) 0) ≡ (if b then xs else x ∷ without_first test xs)
+      by _ true h = refl
+      by rest false h =
+          let e : suc (position_or_len test xs) ≡ 1 + position_or_len test xs = omega arith in
+          subst (λ m. remove (x ∷ xs) m ≡ x ∷ without_first test xs) e
+          (ap (λ l. x ∷ l) (rest (subst (λ m. slice_get (x ∷ xs) m ≡ Some v) (sym e) h)))
+
+  -- nothing is removed where nothing passes
+  pub without_first-none : (vs : List V) → find test vs ≡ None → without_first test vs ≡ vs
+  without_first-none [] h = refl
+  without_first-none (x ∷ xs) h = by (without_first-none xs) (test x) h
+    where
+      by : (find test xs ≡ None → without_first test xs ≡ xs) → (b : Bool) → cond b (Some x) (find test xs) ≡ None
+          → (if b then xs else x ∷ without_first test xs) ≡ x ∷ xs
+      by _ true h = cc
+      by rest false h = ap (λ l. x ∷ l) (rest h)
 
 module _ {K V S : Type 0} (eq : K → K → Bool) (key : V → K) where
   -- a value of a new key goes last
@@ -73,7 +112,8 @@ module _ {K V : Type 0} where
   values-added es k v = map-append (λ e. e.1) es ((k, v) ∷ [])
 
 module _ {V : Type 0} (test : V → Bool) (g : V → V) where
-  change_at : (vs : List V) (v : V) → slice_get vs (position_or_len test vs) ≡ Some v → slice_set vs (position_or_len test vs) (g v) ≡ change_first test g vs
+  pub change_at : (vs : List V) (v : V) → slice_get vs (position_or_len test vs) ≡ Some v → slice_set vs (position_or_len test vs) (g v)
+      ≡ change_first test g vs
   change_at [] v h = refl
   change_at (x ∷ xs) v h = by (change_at xs v) (test x) h
     where
@@ -109,30 +149,25 @@ module _ {K V : Type 0} (eq : K → K → Bool) (key : V → K) (k : K) (g : V �
       ∙ change_at (has_key eq key k) g (values_of es) v (ap (slice_get (values_of es)) at' ∙ there)
 
 module _ {K V : Type 0} (eq : K → K → Bool) (key : V → K) (k : K) where
-  pub values-removed : (es : List (K × V)) → IsKeyed key es → values_of (shift_remove_entry (eq k) es) ≡ without_first (has_key eq key k) (values_of es)
-  values-removed [] h = refl
-  values-removed (e ∷ es) h =
-      let head : e.0 ≡ key e.1 = cc in
-      let rest : IsKeyed key es = cc in
-      by (eq k e.0) (eq k (key e.1)) (ap (eq k) head) (values-removed es rest)
-    where
-      by : (b c : Bool) → b ≡ c → values_of (shift_remove_entry (eq k) es) ≡ without_first (has_key eq key k) (values_of es)
-          → values_of (cond b es (e ∷ shift_remove_entry (eq k) es)) ≡ (if c then values_of es else e.1 ∷ without_first (has_key eq key k) (values_of es))
-      by true true same rest = refl
-      by true false same rest = absurd (true≢false same)
-      by false true same rest = absurd (true≢false (sym same))
-      by false false same rest = ap (λ l. e.1 ∷ l) rest
+  -- the place of the key is that of the first value of that key
+  pub key_place : (es : List (K × V)) (i : ℕ) → IsKeyed key es → position (eq k) (keys_of es) ≡ Some i → position_or_len (has_key eq key k) (values_of es) ≡ i
+  key_place es i keyed at =
+      sym (position_or_len-values' eq key k (values_of es)) ∙ ap (position_or_len (eq k)) (sym keyed) ∙ (Found-position (eq k) es i at).or_len
 
-  pub IsKeyed-removed : (es : List (K × V)) → IsKeyed key es → IsKeyed key (shift_remove_entry (eq k) es)
-  IsKeyed-removed [] h = refl
-  IsKeyed-removed (e ∷ es) h =
-      let head : e.0 ≡ key e.1 = cc in
-      let rest : IsKeyed key es = cc in
-      by (eq k e.0) head rest (IsKeyed-removed es rest)
-    where
-      by : (b : Bool) → e.0 ≡ key e.1 → IsKeyed key es → IsKeyed key (shift_remove_entry (eq k) es) → IsKeyed key (cond b es (e ∷ shift_remove_entry (eq k) es))
-      by true head rest _ = rest
-      by false head _ rest = (λ j. head j ∷ rest j)
+  pub values-removed : (es : List (K × V)) (i : ℕ) (v : V) → IsKeyed key es → position (eq k) (keys_of es) ≡ Some i → slice_get (values_of es) i ≡ Some v
+      → values_of (remove es i) ≡ without_first (has_key eq key k) (values_of es)
+  values-removed es i v keyed at there =
+      let e : position_or_len (has_key eq key k) (values_of es) ≡ i = key_place es i keyed at in
+      map-remove (λ e. e.1) es i ∙ ap (remove (values_of es)) (sym e)
+      ∙ removed_at (has_key eq key k) (values_of es) v (ap (slice_get (values_of es)) e ∙ there)
+
+  -- a value that is found under its key, and one that isn't
+  pub find-key : (es : List (K × V)) (i : ℕ) (v : V) → IsKeyed key es → position (eq k) (keys_of es) ≡ Some i → slice_get (values_of es) i ≡ Some v
+      → find (has_key eq key k) (values_of es) ≡ Some v
+  find-key es i v keyed at there = sym (lookup-values eq key k es keyed) ∙ (Found-position (eq k) es i at).value ∙ there
+
+  pub find-no_key : (es : List (K × V)) → IsKeyed key es → position (eq k) (keys_of es) ≡ None → find (has_key eq key k) (values_of es) ≡ None
+  find-no_key es keyed at = sym (lookup-values eq key k es keyed) ∙ (Missing-position (eq k) es at).value
 
 pub none_from_is_some : {X : Type 0} (o : Option X) → is_some o ≡ false → o ≡ None
 none_from_is_some None h = refl

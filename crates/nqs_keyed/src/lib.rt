@@ -2,6 +2,7 @@
 #![tactic(auto)]
 
 mod held;
+mod slots;
 mod table;
 
 pub use table::Table;

@@ -1,6 +1,5 @@
 //! A map in order of creation, each value under its own key. A removal keeps the order of the
-//! others. The values lie in rooms of their own, so a removal moves the addresses and keys of the
-//! later ones, and no value.
+//! others, and moves none of them.
 ghost use Rattle.std.specs.Prelude.{◌≡◌, ℕ, ◌+◌, ◌-◌, ◌≤◌, ◌<◌, [], ◌∷◌, ◌++◌, length, map, position, find, Some, None, OnOk, OnErr, IsOk, IfSome, Bool};
 ghost use Rattle.std.specs.Prelude.{Option, Contains, filter, if◌then◌else◌, slice_get, slice_set, remove, true, false};
 ghost use Rattle.std.specs.Option.{option_copied, option_map};
@@ -10,34 +9,35 @@ ghost use Rattle.std.specs.Fn.{FnOnceReturnsAtMut, FnReturnsAt, FnReturnsAtPair}
 ghost use Rattle.std.specs.Map.Calls.{CalledAtPair};
 
 use crate::held::{Held, Room, take_rooms};
-use indexmap::IndexMap;
+use crate::slots::Slots;
 use nqs_values::{Key, Keyed};
 use std::alloc::{AllocError, Global};
 use std::marker::Model;
 
 /// Values in order of creation, each found by its key.
 pub struct Table<K: Key, V: Keyed<K> + Drop> {
-    map: IndexMap<K, Held<V>>,
+    slots: Slots<K, V>,
     rooms: Vec<Room<V>>,
 }
 
 // Written out, so that a table is let go by one call.
 impl<K: Key, V: Keyed<K> + Drop> Drop for Table<K, V> {
     fn drop(self) {
-        let Table { map: _, rooms: _ } = self;
+        let Table { slots: _, rooms: _ } = self;
     }
 }
 
 impl<K: Key, V: Keyed<K> + Drop> Model for Table<K, V> {
     ghost use Rattle.std.specs.Prelude.{length, min};
+    ghost use Rattle.std.specs.Map.{values_of};
+    ghost use Rattle.nqs_keyed.specs.Slots.{live};
     ghost use Rattle.nqs_keyed.specs.Table.{Roomy, IsKeyed};
-    ghost use Rattle.indexmap.specs.IndexMap.{values, spare, IsUnique};
 
     ghost Value = { Roomy V };
 
-    ghost view = { λ t. record { items = values t.map; spare = min (spare t.map) (length t.rooms.items) } };
+    ghost view = { λ t. record { items = values_of (live t.slots.entries); spare = min t.slots.spare (length t.rooms.items) } };
 
-    ghost invariant = { λ t. IsKeyed V.key_of t.map.entries × IsUnique K.eq t.map };
+    ghost invariant = { λ t. IsKeyed V.key_of (live t.slots.entries) };
 }
 
 impl<K: Key, V: Keyed<K> + Drop> Table<K, V> {
@@ -46,21 +46,21 @@ impl<K: Key, V: Keyed<K> + Drop> Table<K, V> {
         ensures { result.items ≡ [] }
     {
         Table {
-            map: IndexMap::new(alloc),
+            slots: Slots::new(alloc),
             rooms: Vec::new(alloc),
         }
     }
 
     /// The allocator of its memory.
     pub fn allocator(&self) -> Global {
-        *self.map.allocator()
+        self.slots.allocator()
     }
 
     /// How many values it has.
     pub fn len(&self) -> usize
         ensures { result ≡ length self.now.items }
     {
-        self.map.len()
+        self.slots.len()
     }
 
     /// Makes room for more values.
@@ -69,7 +69,7 @@ impl<K: Key, V: Keyed<K> + Drop> Table<K, V> {
         ensures ok { OnOk result (additional ≤ self.new.spare) }
         ensures room { self.old.spare ≤ self.new.spare }
     {
-        self.map.reserve(additional)?;
+        self.slots.reserve(additional)?;
         take_rooms(self.allocator(), &mut self.rooms, additional)
     }
 
@@ -78,7 +78,10 @@ impl<K: Key, V: Keyed<K> + Drop> Table<K, V> {
         ensures place { result ≡ position (has_key K.eq V.key_of key.now) self.now.items }
         ensures within { IfSome result (λ i. i < length self.now.items) }
     {
-        self.map.get_index_of(key)
+        match self.slots.find(key) {
+            Some(slot) => Some(self.slots.place(slot)),
+            None => None,
+        }
     }
 
     /// The value at a place.
@@ -86,15 +89,15 @@ impl<K: Key, V: Keyed<K> + Drop> Table<K, V> {
         requires { place < length self.now.items }
         ensures { slice_get self.now.items place ≡ Some result.now }
     {
-        self.map.get_index(place).unwrap().1.get()
+        self.slots.value(self.slots.slot(place))
     }
 
     /// The value with this key.
     pub fn get(&self, key: &K) -> Option<&V>
         ensures { option_copied result ≡ find (has_key K.eq V.key_of key.now) self.now.items }
     {
-        match self.map.get(key) {
-            Some(held) => Some(held.get()),
+        match self.slots.find(key) {
+            Some(slot) => Some(self.slots.value(slot)),
             None => None,
         }
     }
@@ -108,7 +111,7 @@ impl<K: Key, V: Keyed<K> + Drop> Table<K, V> {
     {
         let key = value.key();
         let room = self.rooms.pop().unwrap();
-        let _none = self.map.insert(key, Held::fill(room, value)).unwrap();
+        self.slots.push(key, Held::fill(room, value));
     }
 
     /// Exchanges the value at a place for another of the same key.
@@ -119,17 +122,17 @@ impl<K: Key, V: Keyed<K> + Drop> Table<K, V> {
         ensures items { self.new.items ≡ slice_set self.old.items place value.old }
         ensures room { self.old.spare ≤ self.new.spare }
     {
-        self.map[place].exchange(value);
+        self.slots.exchange(self.slots.slot(place), value);
     }
 
-    /// Removes the value at a place. The later ones move down.
+    /// Removes the value at a place. The later ones have a place less.
     pub fn remove(&mut self, place: usize) -> V
         requires { place < length self.old.items }
         ensures out { slice_get self.old.items place ≡ Some result }
         ensures items { self.new.items ≡ remove self.old.items place }
         ensures room { self.old.spare ≤ self.new.spare }
     {
-        self.map.shift_remove_index(place).unwrap().1.into_inner()
+        self.slots.take(self.slots.slot(place))
     }
 
     /// Changes the value with this key, if there is one, and not its key.
@@ -138,20 +141,25 @@ impl<K: Key, V: Keyed<K> + Drop> Table<K, V> {
         requires keeps { (v w : V) → FnOnceReturnsAtMut F.FnOnce f v tt w → V.key_of w ≡ V.key_of v }
         ensures changed { (g : V → V) → ((v w : V) → find (has_key K.eq V.key_of key.now) self.old.items ≡ Some v → FnOnceReturnsAtMut F.FnOnce f v tt w
             → w ≡ g v) → self.new.items ≡ change_first (has_key K.eq V.key_of key.now) g self.old.items }
+        ensures made { IfSome (find (has_key K.eq V.key_of key.now) self.old.items) (λ v. (w : V) × FnOnceReturnsAtMut F.FnOnce f v tt w
+            × (self.new.items ≡ change_first (has_key K.eq V.key_of key.now) (λ _. w) self.old.items)) }
         ensures room { self.old.spare ≤ self.new.spare }
     {
-        match self.map.get_index_of(key) {
-            Some(place) => self.map[place].change(f),
+        match self.slots.find(key) {
+            Some(slot) => self.slots.change(slot, f),
             None => {}
         }
     }
 
-    /// Removes the value with this key, if there is one. The later ones move down.
+    /// Removes the value with this key, if there is one. The later ones have a place less.
     pub fn remove_key(&mut self, key: &K)
         ensures items { self.new.items ≡ without_first (has_key K.eq V.key_of key.now) self.old.items }
         ensures room { self.old.spare ≤ self.new.spare }
     {
-        let _gone = self.map.shift_remove(key);
+        match self.slots.find(key) {
+            Some(slot) => drop(self.slots.take(slot)),
+            None => {}
+        }
     }
 
     /// Goes over the values in order: each is changed, and kept where the answer is true. No key
@@ -167,13 +175,7 @@ impl<K: Key, V: Keyed<K> + Drop> Table<K, V> {
             → self.new.items ≡ filter p self.old.items }
         ensures room { self.old.spare ≤ self.new.spare }
     {
-        let mut f = f;
-        self.map.retain(
-            move |key: &K, held: &mut Held<V>| -> bool
-                requires { (s : F) (x y : _) → F.pre s x y }
-                ensures { CalledAtPair F.FnMut f.entry key.now held.old result held.new f.exit }
-            { held.ask(key, &mut f) },
-        );
+        self.slots.revise(f);
     }
 
     /// Whether a value has this key.
@@ -190,10 +192,12 @@ impl<K: Key, V: Keyed<K> + Drop> Table<K, V> {
         ensures within { result ≤ length self.now.items }
     {
         let mut count = 0usize;
-        for place in 0..self.len() {
-            if f(self.at(place)) {
+        let mut slot = self.slots.next(0);
+        for _place in 0..self.len() {
+            if f(self.slots.value(slot)) {
                 count += 1;
             }
+            slot = self.slots.after(slot);
         }
         count
     }
@@ -203,10 +207,12 @@ impl<K: Key, V: Keyed<K> + Drop> Table<K, V> {
         requires { F.IsAlwaysCallable f }
         ensures { (p : V → Bool) → ((v : V) (b : Bool) → FnReturnsAt F.Fn f v b → b ≡ p v) → result ≡ list_all p self.now.items }
     {
-        for place in 0..self.len() {
-            if !f(self.at(place)) {
+        let mut slot = self.slots.next(0);
+        for _place in 0..self.len() {
+            if !f(self.slots.value(slot)) {
                 return false;
             }
+            slot = self.slots.after(slot);
         }
         true
     }
@@ -216,10 +222,12 @@ impl<K: Key, V: Keyed<K> + Drop> Table<K, V> {
         requires { F.IsAlwaysCallable f }
         ensures { (p : V → Bool) → ((v : V) (b : Bool) → FnReturnsAt F.Fn f v b → b ≡ p v) → result ≡ list_any p self.now.items }
     {
-        for place in 0..self.len() {
-            if f(self.at(place)) {
+        let mut slot = self.slots.next(0);
+        for _place in 0..self.len() {
+            if f(self.slots.value(slot)) {
                 return true;
             }
+            slot = self.slots.after(slot);
         }
         false
     }
@@ -250,9 +258,11 @@ impl<K: Key, V: Keyed<K> + Drop> Table<K, V> {
     {
         let mut best: Option<(usize, &V)> = None;
         let mut place = self.len();
+        let mut slot = self.slots.end();
         while place > 0 {
             place -= 1;
-            let value = self.at(place);
+            slot = self.slots.previous(slot);
+            let value = self.slots.value(slot);
             if passes(value) {
                 best = better(place, value, best, &beats);
             }

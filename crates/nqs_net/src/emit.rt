@@ -6,7 +6,7 @@ ghost use Rattle.nqs_rules.specs.World.{body_kind, body_number, seen_packet, see
 ghost use Rattle.nqs_net.specs.Lists.{of_option, sent_in, seen_from, GrowsByFront};
 
 use nqs_types::{Body, BodyKind, HostId, Message, Output, Seen};
-use nqs_values::{Bytes, Items, Memory};
+use nqs_values::{Bytes, Memory, Rest};
 
 fn body_kind(body: &Body) -> BodyKind
     ensures { result ≡ body_kind body.now }
@@ -188,7 +188,7 @@ pub(crate) fn emit(
     ensures seen { OnOk result (seen.new.items ≡ seen.old.items ++ seen_from me (length packets.old.items) outputs.items) }
     ensures front { OnErr result (GrowsByFront seen.old.items seen.new.items (seen_from me (length packets.old.items) outputs.items)) }
 {
-    let mut rest = Items::from_vec(outputs);
+    let mut rest = Rest::from_vec(outputs);
     while let Some(output) = rest.take_first() {
         emit_one(me, output, packets, seen)?;
     }

@@ -17,7 +17,7 @@ use crate::part::{Part, keep_numbered, parts_of};
 use nqs_plans::{add, copy_bytes, find_peer, message, no_extent, quiet};
 use nqs_state::HostState;
 use nqs_types::{Body, Change, HostId, OutPart, Output, Plan, RequestId, Row, Stage};
-use nqs_values::{Bytes, Items, Memory};
+use nqs_values::{Bytes, Items, Memory, Rest};
 use std::alloc::Global;
 
 // Whether outputs of the request are files of this host.
@@ -176,7 +176,7 @@ fn split_parts(alloc: Global, parts: Vec<Part>) -> Result<(Items<OutPart>, Items
 {
     let mut outputs = Items::new(alloc);
     let mut puts = Items::new(alloc);
-    let mut rest = Items::from_vec(parts);
+    let mut rest = Rest::from_vec(parts);
     while let Some(part) = rest.take_first() {
         split_part(&mut outputs, &mut puts, part)?;
     }
