@@ -9,9 +9,12 @@ use Rattle.nqs_codec.specs.Fields.{u8_field}
 use Rattle.nqs_values.specs.Want.{want}
 use Rattle.nqs_records.specs.declared.fault.RecordFault.{RecordFault}
 use Rattle.nqs_records.specs.declared.fault.RecordFault.TheVariants.{Short, Kind, BadField, Trailing, Memory}
-use Rattle.nqs_records.specs.Reading.{◌>>=◌, Read, numbered}
+use Rattle.nqs_records.specs.Reading.{◌>>=◌, Read}
 use Rattle.nqs_records.specs.Fields.{u8_at, number_at}
-use Rattle.nqs_records.specs.Kinds.{HostChange, kinds, no_kind, change_at, record_of}
+use Rattle.nqs_records.specs.Tables.{by_code}
+use Rattle.nqs_records.specs.KindFields.{value_at}
+use Rattle.nqs_records.specs.KindTable.{HostChange, kinds}
+use Rattle.nqs_records.specs.Kinds.{no_kind, change_at, record_of}
 use Rattle.nqs_records.specs.Changes.{AreBytes, spelling}
 use Rattle.nqs_records.specs.Faults.{is_kind, HasOtherKind, IsFollowed, IsCut, SpellsNoneWith, IsFinal, FirstFaults}
 use Rattle.nqs_records.proofs.Numbers.{below, u8_read}
@@ -37,9 +40,9 @@ no_bytes : record_of [] ≡ Err (Short 0)
 unfolding record_of change_at u8_at number_at
 no_bytes = refl
 
-by_kind : (k : ℕ) (bytes : List ℕ) → u8_at bytes 0 ≡ Ok (k, 1) → change_at bytes 0 ≡ numbered kinds k no_kind bytes 1
+by_kind : (k : ℕ) (bytes : List ℕ) → u8_at bytes 0 ≡ Ok (k, 1) → change_at bytes 0 ≡ by_code value_at kinds k no_kind bytes 1
 unfolding change_at
-by_kind k bytes e = step (u8_at bytes 0) (λ kind. numbered kinds kind.0 no_kind bytes kind.1) (k, 1) e
+by_kind k bytes e = step (u8_at bytes 0) (λ kind. by_code value_at kinds kind.0 no_kind bytes kind.1) (k, 1) e
 
 -- the whole list, where this was read
 abbrev whole : List ℕ → Read (HostChange × ℕ) → Read HostChange
@@ -119,7 +122,7 @@ kind_tells k rest more fits true is =
     let stays = kind_steady k is (k ∷ rest) more 1 in
     whole_tells (k ∷ rest) more fits
     (subst (λ (x : Read (HostChange × ℕ)). Stays (k ∷ rest) x (change_at (k ∷ (rest ++ more)) 0)) (sym here)
-    (subst (λ (x : Read (HostChange × ℕ)). Stays (k ∷ rest) (numbered kinds k no_kind (k ∷ rest) 1) x) (sym there) stays))
+    (subst (λ (x : Read (HostChange × ℕ)). Stays (k ∷ rest) (by_code value_at kinds k no_kind (k ∷ rest) 1) x) (sym there) stays))
 
 tells : (bytes more : List ℕ) → AreBytes bytes → Tells bytes (record_of bytes) (record_of (bytes ++ more))
 tells [] more fits = subst (λ (x : Read HostChange). Tells [] x (record_of more)) (sym no_bytes) refl

@@ -5,8 +5,11 @@ pub mod Fronts
 pub mod Chains
 pub mod PartLaws
 pub mod Numbered
-pub mod EditShapes
+pub mod ShapeLaws
+pub mod Tables
+pub mod EditFieldLaws
 pub mod EditLaws
+pub mod KindFieldLaws
 pub mod KindLaws
 pub mod Spelled
 pub mod Joined
@@ -16,6 +19,7 @@ pub mod Steady
 pub mod SteadyFields
 pub mod SteadyNames
 pub mod SteadyParts
+pub mod SteadyTables
 pub mod SteadyEdits
 pub mod SteadyKinds
 pub mod FirstFaults

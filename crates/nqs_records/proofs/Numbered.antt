@@ -1,17 +1,13 @@
 -- Values behind a number that says which kind they are of.
-use Rattle.std.proofs.Common.{◌≡◌, ℕ, zero, suc, ◌+◌, ◌<◌, ◌≤◌, ◌^◌, List, [], ◌∷◌, ◌++◌, length, drop, refl, sym, ap, ◌∙◌, subst, arith, length-append}
-use Rattle.std.proofs.Common.{append_assoc, Ok}
+use Rattle.std.proofs.Common.{◌≡◌, ℕ, zero, suc, ◌+◌, List, [], ◌∷◌, ◌++◌, sym, ap, ◌∙◌, subst, arith}
+use Rattle.std.proofs.Common.{Ok}
 use Rattle.std.specs.Prelude.{⊤}
 use Rattle.nqs_codec.specs.Fields.{u8_field}
 use Rattle.nqs_codec.specs.Takes.{Stands}
-use Rattle.nqs_codec.proofs.Places.{rest_is}
-use Rattle.nqs_codec.proofs.Lengths.{two_stand}
-use Rattle.nqs_records.specs.Reading.{Read, Reading, ◌>>=◌, mapped, nth_of, numbered}
-use Rattle.nqs_records.specs.Fields.{u8_at}
+use Rattle.nqs_records.specs.Reading.{Read, Reading, mapped, nth_of, numbered}
 use Rattle.nqs_records.specs.Changes.{AreBytes}
 use Rattle.nqs_records.proofs.IsRead.{IsRead, bound}
-use Rattle.nqs_records.proofs.Numbers.{u8_read}
-use Rattle.nqs_records.proofs.Chains.{Found, bind, same_Ok}
+use Rattle.nqs_records.proofs.Chains.{same_Ok}
 
 -- behind the number the rest of the value's spelling stands
 pub record IsOfKind {A : Type 0} (IsValue : A → Type 0) (spelling : A → List ℕ) (k : ℕ) (bytes : List ℕ) (place : ℕ) (value : A) (next : ℕ) : Type 0 where
@@ -62,41 +58,3 @@ pub numbered_finds : {A : Type 0} (IsValue : A → Type 0) (spelling : A → Lis
 numbered_finds IsValue spelling rs zero other never all bytes place value next fits e = absurd (never bytes place (value, next) e)
 numbered_finds IsValue spelling rs (suc i) other never all bytes place value next fits e =
     nth_finds IsValue spelling rs 1 i (suc i) other (omega arith) never all bytes place value next fits e
-
--- a number, and what it announces
-abbrev pub coded : {A : Type 0} → List (Reading A) → (ℕ → Reading A) → Reading A
-coded {A} rs other bytes place = u8_at bytes place >>= (λ k. numbered rs k.0 (other place) bytes k.1)
-
-pub coded_found : {A : Type 0} (IsValue : A → Type 0) (spelling : A → List ℕ) (rs : List (Reading A)) (other : ℕ → Reading A)
-    → ((at : ℕ) (bytes : List ℕ) (place : ℕ) (v : A × ℕ) → other at bytes place ≡ Ok v → ⊥) → AllFind IsValue spelling 1 rs
-    → (bytes : List ℕ) (place : ℕ) (value : A) (next : ℕ) → AreBytes bytes → coded rs other bytes place ≡ Ok (value, next)
-    → Found IsValue spelling bytes place (value, next)
-coded_found IsValue spelling rs other never all bytes place value next fits e =
-    let k = bound (u8_at bytes place) (λ k. numbered rs k.0 (other place) bytes k.1) (value, next) e in
-    let here = (u8_read.found bytes place k.0.0 k.0.1 fits k.1).1 in
-    let there = numbered_finds IsValue spelling rs k.0.0 (other place) (never place) all bytes k.0.1 value next fits k.2 in (
-      there.is_value,
-      subst (λ (l : List ℕ). Stands bytes place l next) (sym there.spelled)
-          (two_stand bytes place k.0.1 next (u8_field k.0.0) there.args here there.stands),
-    )
-
-pub coded_taken : {A T : Type 0} {IsT : T → Type 0} {f : T → List ℕ} {r : Reading T} (rs : List (Reading A)) (other : ℕ → Reading A) (k : ℕ) (make : T → A)
-    → IsRead IsT f r → k < 2 ^ 8 → (t : T) (bytes rest : List ℕ) (place : ℕ) → AreBytes bytes → IsT t → numbered rs k (other place) ≡ mapped make r
-    → drop place bytes ≡ (u8_field k ++ f t) ++ rest → coded rs other bytes place ≡ Ok (make t, place + length (u8_field k ++ f t))
-coded_taken {A} {T} {IsT} {f} {r} rs other k make one small t bytes rest place fits is_t entry is =
-    let text = is ∙ append_assoc (u8_field k) (f t) rest in
-    let start = place + length (u8_field k) in
-    let there = one.taken bytes rest start t fits is_t (rest_is bytes place (u8_field k) (f t ++ rest) text) in
-    let end : start + length (f t) ≡ place + length (u8_field k ++ f t) = omega (arith, length-append (u8_field k) (f t)) in
-    bind (u8_at bytes place) _ (k, start) _ (u8_read.taken bytes (f t ++ rest) place k fits small text)
-    (ap (λ (rd : Reading A). rd bytes start) entry ∙ bind (r bytes start) _ _ _ there (ap (λ (n : ℕ). Ok (make t, n)) end))
-
-nth_beyond : {A : Type 0} (xs : List A) (n : ℕ) (other : A) → length xs ≤ n → nth_of xs n other ≡ other
-nth_beyond [] n other few = refl
-nth_beyond (x ∷ xs) zero other few = absurd (omega (arith, few))
-nth_beyond (x ∷ xs) (suc n) other few = nth_beyond xs n other (omega (arith, few))
-
--- past the last
-pub beyond : {A : Type 0} (xs : List A) (n : ℕ) (other : A) → length xs < n → numbered xs n other ≡ other
-beyond xs zero other few = refl
-beyond xs (suc n) other few = nth_beyond xs n other (omega (arith, few))

@@ -10,20 +10,20 @@ use Rattle.nqs_types.specs.declared.ids.HostId.{HostId}
 use Rattle.nqs_types.specs.declared.request.Job.{Job}
 use Rattle.nqs_types.specs.declared.request.Carried.{Carried}
 use Rattle.nqs_types.specs.declared.change.OutPart.{OutPart}
-use Rattle.nqs_types.specs.declared.change.Change.TheVariants.{Site, Submitted, Deleted, Doomed, Started, Ended, Unlaunched, Boot, Edited, HandOpened}
-use Rattle.nqs_types.specs.declared.change.Change.TheVariants.{HandCommitted, HandRefused, HandsSilent, HandDone, Promised, Accepted, Dropped, MovedLocal}
-use Rattle.nqs_types.specs.declared.change.Change.TheVariants.{RefusedLocal, HeldFar, StageGot, StageGone, FileGone}
+use Rattle.nqs_types.specs.declared.change.Change.TheVariants.{Site, Submitted, Ended, Edited}
+use Rattle.nqs_types.specs.declared.change.Change.TheVariants.{Promised}
+use Rattle.nqs_types.specs.declared.change.Change.TheVariants.{StageGot}
 use Rattle.nqs_types.specs.declared.edit.Edit.{Edit}
 use Rattle.nqs_types.specs.declared.edit.Edit.TheVariants.{Conf, Limits as LimitsOf, Access as AccessOf, Devices as DevicesOf, Rows as RowsOf}
 use Rattle.nqs_types.specs.declared.edit.ConfEdit.{ConfEdit}
-use Rattle.nqs_types.specs.declared.edit.ConfEdit.TheVariants.{CreateBatchQueue, CreateDeviceQueue, CreatePipeQueue, DeleteQueue, EnableQueue, DisableQueue}
-use Rattle.nqs_types.specs.declared.edit.ConfEdit.TheVariants.{StartQueue, StopQueue, PurgeQueue, SetPriority, SetRunLimit, AddDestination, RemoveDestination}
-use Rattle.nqs_types.specs.declared.edit.ConfEdit.TheVariants.{SetDefaultQueue, SetNoDefaultQueue, SetPatience, SetRetryWait}
+use Rattle.nqs_types.specs.declared.edit.ConfEdit.TheVariants.{CreateBatchQueue, CreateDeviceQueue, CreatePipeQueue}
+use Rattle.nqs_types.specs.declared.edit.ConfEdit.TheVariants.{SetPriority, SetRunLimit}
+use Rattle.nqs_types.specs.declared.edit.ConfEdit.TheVariants.{SetPatience, SetRetryWait}
 use Rattle.nqs_types.specs.declared.edit.LimitsEdit.{LimitsEdit}
-use Rattle.nqs_types.specs.declared.edit.LimitsEdit.TheVariants.{SetUserLimit, SetCpuLimit, SetMemoryLimit, CreateComplex, DeleteComplex, AddQueue, RemoveQueue}
+use Rattle.nqs_types.specs.declared.edit.LimitsEdit.TheVariants.{SetUserLimit}
 use Rattle.nqs_types.specs.declared.edit.LimitsEdit.TheVariants.{SetComplexLimit, SetGlobalLimit}
 use Rattle.nqs_types.specs.declared.edit.RowsEdit.{RowsEdit}
-use Rattle.nqs_types.specs.declared.edit.RowsEdit.TheVariants.{AbortQueue, HoldRequest, ReleaseRequest, MoveRequest, ModifyRequest}
+use Rattle.nqs_types.specs.declared.edit.RowsEdit.TheVariants.{ModifyRequest}
 use Rattle.nqs_rules.specs.Conf.{at_most, is_conf_within}
 use Rattle.nqs_rules.specs.Limits.{is_limits_within}
 use Rattle.nqs_rules.specs.Rows.{is_rows_within}
@@ -81,38 +81,21 @@ conf_sane : (e : ConfEdit) → IsConfEdit e → is_conf_within e ≡ true
 conf_sane (CreateBatchQueue queue priority run_limit pipe_only) is = and_from _ _ (opt_sane 63 priority is.1) (opt_sane 10000 run_limit is.2)
 conf_sane (CreateDeviceQueue queue priority run_limit pipe_only) is = and_from _ _ (opt_sane 63 priority is.1) (opt_sane 10000 run_limit is.2)
 conf_sane (CreatePipeQueue queue priority run_limit pipe_only destination) is = and_from _ _ (opt_sane 63 priority is.1) (opt_sane 10000 run_limit is.2)
-conf_sane (DeleteQueue queue) is = refl
-conf_sane (EnableQueue queue) is = refl
-conf_sane (DisableQueue queue) is = refl
-conf_sane (StartQueue queue) is = refl
-conf_sane (StopQueue queue) is = refl
-conf_sane (PurgeQueue queue) is = refl
 conf_sane (SetPriority priority queue) is = is.0
 conf_sane (SetRunLimit limit queue) is = is.0
-conf_sane (AddDestination destination queue) is = refl
-conf_sane (RemoveDestination destination queue) is = refl
-conf_sane (SetDefaultQueue queue) is = refl
-conf_sane SetNoDefaultQueue is = refl
 conf_sane (SetPatience seconds) is = is
 conf_sane (SetRetryWait seconds) is = is
+conf_sane e is = refl
 
 limits_sane : (e : LimitsEdit) → IsLimitsEdit e → is_limits_within e ≡ true
 limits_sane (SetUserLimit limit queue) is = opt_sane 10000 limit is.0
-limits_sane (SetCpuLimit limit queue) is = refl
-limits_sane (SetMemoryLimit limit queue) is = refl
-limits_sane (CreateComplex complex) is = refl
-limits_sane (DeleteComplex complex) is = refl
-limits_sane (AddQueue queue complex) is = refl
-limits_sane (RemoveQueue queue complex) is = refl
 limits_sane (SetComplexLimit limit complex) is = is.0
 limits_sane (SetGlobalLimit limit) is = is
+limits_sane e is = refl
 
 rows_sane : (e : RowsEdit) → IsRowsEdit e → is_rows_within e ≡ true
-rows_sane (AbortQueue queue) is = refl
-rows_sane (HoldRequest request) is = refl
-rows_sane (ReleaseRequest request) is = refl
-rows_sane (MoveRequest request queue) is = refl
 rows_sane (ModifyRequest request priority) is = is.1
+rows_sane e is = refl
 
 edit_sane : (e : Edit) → IsEdit e → is_sane_edit e ≡ true
 edit_sane (Conf e) is = conf_sane e is
@@ -124,24 +107,8 @@ edit_sane (RowsOf e) is = rows_sane e is
 pub what_may_stand_is_sane : WhatMayStandIsSane
 what_may_stand_is_sane (Site me site) ok = site_sane me (length site) ok.1.0
 what_may_stand_is_sane (Submitted queue job script) ok = job_sane job ok.1
-what_may_stand_is_sane (Deleted id) ok = refl
-what_may_stand_is_sane (Doomed id) ok = refl
-what_may_stand_is_sane (Started id device) ok = refl
 what_may_stand_is_sane (Ended id outputs) ok = and_from _ _ ok.1.0 (parts_sane outputs ok.1.1)
-what_may_stand_is_sane (Unlaunched id) ok = refl
-what_may_stand_is_sane Boot ok = refl
 what_may_stand_is_sane (Edited edit) ok = edit_sane edit ok
-what_may_stand_is_sane (HandOpened peer number id queue since) ok = refl
-what_may_stand_is_sane (HandCommitted peer number) ok = refl
-what_may_stand_is_sane (HandRefused peer number cause) ok = refl
-what_may_stand_is_sane (HandsSilent until hands) ok = refl
-what_may_stand_is_sane (HandDone peer number) ok = refl
 what_may_stand_is_sane (Promised peer number queue carried script) ok = carried_sane carried ok.3
-what_may_stand_is_sane (Accepted peer number) ok = refl
-what_may_stand_is_sane (Dropped peer number) ok = refl
-what_may_stand_is_sane (MovedLocal id queue) ok = refl
-what_may_stand_is_sane (RefusedLocal id queue cause) ok = refl
-what_may_stand_is_sane (HeldFar id) ok = refl
 what_may_stand_is_sane (StageGot peer number path bytes) ok = path_sane path ok.2
-what_may_stand_is_sane (StageGone peer number) ok = refl
-what_may_stand_is_sane (FileGone file) ok = refl
+what_may_stand_is_sane change ok = refl

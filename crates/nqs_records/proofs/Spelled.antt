@@ -3,7 +3,8 @@ use Rattle.std.proofs.Common.{◌≡◌, ◌≢◌, ℕ, zero, suc, ◌+◌, ◌
 use Rattle.std.proofs.Common.{arith, append-nil, Ok, Err, IfOk, IfErr}
 use Rattle.std.proofs.lemmas.Bool.Decides.{nat_tests}
 use Rattle.nqs_records.specs.Reading.{Read, is_memory, Answers}
-use Rattle.nqs_records.specs.Kinds.{HostChange, change_at, record_of}
+use Rattle.nqs_records.specs.KindTable.{HostChange}
+use Rattle.nqs_records.specs.Kinds.{change_at, record_of}
 use Rattle.nqs_records.specs.Changes.{AreBytes, MayStand, spelling, ReadsTheSpelling, IsSpelledBy, SpellsNone}
 use Rattle.nqs_values.specs.Want.{want}
 use Rattle.nqs_records.specs.declared.fault.RecordFault.{RecordFault}

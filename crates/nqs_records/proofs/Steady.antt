@@ -1,8 +1,7 @@
 -- Readings whose answer stays whatever follows the bytes, unless these are short.
-use Rattle.std.proofs.Common.{◌≡◌, ℕ, zero, suc, ◌+◌, ◌<◌, Bool, true, false, cond, List, [], ◌∷◌, ◌++◌, length, Some, refl, sym, ap, subst, Ok, Err}
-use Rattle.std.specs.List.{AllByRecursion}
+use Rattle.std.proofs.Common.{◌≡◌, ℕ, zero, suc, ◌<◌, Bool, true, false, cond, List, ◌∷◌, ◌++◌, length, Some, refl, sym, ap, subst, Ok, Err}
 use Rattle.nqs_records.specs.declared.fault.RecordFault.TheVariants.{Short, Kind, BadField, Trailing, Memory}
-use Rattle.nqs_records.specs.Reading.{◌>>=◌, Read, Reading, mapped, both, within, repeated, counted, if_there, nth_of, numbered}
+use Rattle.nqs_records.specs.Reading.{◌>>=◌, Read, Reading, mapped, both, within, repeated, counted, if_there}
 
 -- an answer that is short at the end, or the same as the other one
 abbrev pub Stays : {A : Type 0} → List ℕ → Read A → Read A → Type 0
@@ -78,13 +77,3 @@ infixr 5 ◌⨾◌
 -- what is so for the first, and for the others
 abbrev pub ◌⨾◌ : {P Q : Type 0} → P → Q → P × Q
 ◌⨾◌ {P} {Q} p q = (p, q)
-
-nth_all : {A : Type 0} (Is : A → Type 0) (xs : List A) (n : ℕ) (other : A) → Is other → AllByRecursion Is xs → Is (nth_of xs n other)
-nth_all Is [] n other is all = is
-nth_all Is (x ∷ xs) zero other is all = all.0
-nth_all Is (x ∷ xs) (suc n) other is all = nth_all Is xs n other is all.1
-
--- what is so for each of a table and for what stands beside it
-pub numbered_all : {A : Type 0} (Is : A → Type 0) (xs : List A) (n : ℕ) (other : A) → Is other → AllByRecursion Is xs → Is (numbered xs n other)
-numbered_all Is xs zero other is all = is
-numbered_all Is xs (suc n) other is all = nth_all Is xs n other is all

@@ -4,7 +4,7 @@ use Rattle.std.proofs.Common.{arith, length-append, Ok, Err}
 use Rattle.std.proofs.lemmas.List.{length-drop, take-append-le, drop-append-le}
 use Rattle.std.proofs.lemmas.Bool.Decides.{nat_tests}
 use Rattle.nqs_codec.specs.declared.fault.FieldFault.TheVariants as field
-use Rattle.nqs_records.specs.Reading.{◌>>=◌, Reading, if_there}
+use Rattle.nqs_records.specs.Reading.{Reading, if_there}
 use Rattle.nqs_records.specs.Fields.{or_short, or_fault, number_at, u8_at, u16_at, u32_at, u64_at, bool_of, bool_at, opt_at}
 use Rattle.nqs_records.proofs.Numbers.{below, not_below}
 use Rattle.nqs_records.proofs.Steady.{Stays, IsSteady, TakesSome, then, there_steady}

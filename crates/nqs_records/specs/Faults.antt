@@ -1,16 +1,18 @@
 -- Which bytes have which first fault, apart from how they are read.
-use Rattle.std.specs.Prelude.{◌≡◌, ◌≢◌, ◌↔◌, ℕ, ◌<◌, Bool, false, ◌&&◌, nat_le, List, [], ◌∷◌, ◌++◌, length, Err}
+use Rattle.std.specs.Prelude.{◌≡◌, ◌≢◌, ◌↔◌, ℕ, ◌<◌, Bool, false, List, [], ◌∷◌, ◌++◌, length, Err}
 use Rattle.nqs_values.specs.declared.extent.Extent.{Extent}
 use Rattle.nqs_values.specs.Want.{want}
 use Rattle.nqs_types.specs.declared.change.Change.{Change}
+use Rattle.nqs_records.specs.Tables.{has_code}
+use Rattle.nqs_records.specs.KindTable.{kinds}
 use Rattle.nqs_records.specs.Kinds.{record_of}
 use Rattle.nqs_records.specs.Changes.{spelling, MayStand, AreBytes, SpellsNone}
 use Rattle.nqs_records.specs.declared.fault.RecordFault.{RecordFault}
 use Rattle.nqs_records.specs.declared.fault.RecordFault.TheVariants.{Short, Kind, BadField, Trailing, Memory}
 
--- the numbers of the kinds
-abbrev pub is_kind : ℕ → Bool
-is_kind kind = nat_le 1 kind && nat_le kind 23
+-- whether a row of the table is of this kind
+unfoldable pub is_kind : ℕ → Bool
+is_kind kind = has_code kinds kind
 
 -- a first byte that is no kind
 abbrev pub HasOtherKind : List ℕ → Type 0

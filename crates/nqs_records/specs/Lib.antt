@@ -4,9 +4,14 @@ pub mod Fields
 pub mod Values
 pub mod Parts
 pub mod Spelling
+pub mod Tables
+pub mod EditFields
+pub mod EditTable
 pub mod EditSpelling
 pub mod EditValues
 pub mod Edits
+pub mod KindFields
+pub mod KindTable
 pub mod Kinds
 pub mod Extents
 pub mod Changes

@@ -1,8 +1,11 @@
 -- Readings of what records are made of.
-use Rattle.std.specs.Prelude.{ℕ, Bool, ◌==◌, List, Option}
+use Rattle.std.specs.Prelude.{ℕ, Bool, ◌==◌, is_some, List, Option, Ok}
 use Rattle.nqs_types.specs.declared.ids.HostId.{HostId}
 use Rattle.nqs_types.specs.declared.ids.RequestId.{RequestId}
 use Rattle.nqs_types.specs.declared.ids.PeerNumber.{PeerNumber}
+use Rattle.nqs_types.specs.declared.ids.Named.{Named}
+use Rattle.nqs_types.specs.declared.ids.NamedDest.{NamedDest}
+use Rattle.nqs_rules.specs.Conf.{is_wait}
 use Rattle.nqs_values.specs.declared.extent.Extent.{Extent}
 use Rattle.nqs_types.specs.declared.request.Job.{Job}
 use Rattle.nqs_types.specs.declared.request.Carried.{Carried}
@@ -10,6 +13,22 @@ use Rattle.nqs_types.specs.declared.change.OutPart.{OutPart}
 use Rattle.nqs_records.specs.Reading.{Reading, mapped, both, within}
 use Rattle.nqs_records.specs.Fields.{u8_at, u16_at, u32_at, u64_at, bool_at, opt_at, name_at, path_at}
 use Rattle.nqs_records.specs.Values.{is_host, is_seq, is_at_most}
+
+-- no bytes are taken
+abbrev pub nothing_at : Reading (Unit {0})
+nothing_at bytes place = Ok (tt, place)
+
+-- a number of 8 bytes, up to a limit
+unfoldable pub at_most_at : ℕ → Reading ℕ
+at_most_at limit = within (is_at_most limit) u64_at
+
+-- seconds to wait, from 1 to 86,400
+unfoldable pub wait_at : Reading ℕ
+wait_at = within is_wait u64_at
+
+-- a flag: whether the number 1 is there, where no other may stand
+unfoldable pub flag_at : Reading Bool
+flag_at = mapped (λ n. is_some n) (opt_at (within (λ n. n == 1) u64_at))
 
 -- a host, by its place in the site, below 16
 unfoldable pub host_at : Reading HostId
@@ -22,6 +41,14 @@ seq_at = within is_seq u32_at
 -- a request: its number, and the host of its submission
 unfoldable pub id_at : Reading RequestId
 id_at = mapped (λ v. record { seq = v.0; host = v.1 }) (both seq_at (λ _. host_at))
+
+-- a destination: the names of a queue and of a host
+unfoldable pub dest_at : Reading NamedDest
+dest_at = mapped (λ v. record { queue = v.0; host = v.1 }) (both name_at (λ _. name_at))
+
+-- a request as it was typed: its number and the name of its host
+unfoldable pub named_at : Reading Named
+named_at = mapped (λ v. record { seq = v.0; host = v.1 }) (both seq_at (λ _. name_at))
 
 -- an extent of the spool: its place, and its length, at most 32,768
 unfoldable pub extent_at : Reading Extent

@@ -1,8 +1,10 @@
 -- The one spelling of each value. Fields stand one behind the other, and numbers with their highest byte first.
-use Rattle.std.specs.Prelude.{ℕ, true, false, List, [], ◌∷◌, ◌++◌, length, flat_map, Option, Some, None}
+use Rattle.std.specs.Prelude.{ℕ, Bool, true, false, List, [], ◌∷◌, ◌++◌, length, flat_map, Option, Some, None}
 use Rattle.nqs_codec.specs.Fields.{u8_field, u16_field, u32_field, u64_field, short_field, bool_field}
 use Rattle.nqs_types.specs.declared.ids.RequestId.{RequestId}
 use Rattle.nqs_types.specs.declared.ids.PeerNumber.{PeerNumber}
+use Rattle.nqs_types.specs.declared.ids.Named.{Named}
+use Rattle.nqs_types.specs.declared.ids.NamedDest.{NamedDest}
 use Rattle.nqs_values.specs.declared.extent.Extent.{Extent}
 use Rattle.nqs_types.specs.declared.request.Job.{Job}
 use Rattle.nqs_types.specs.declared.request.Carried.{Carried}
@@ -49,3 +51,20 @@ part_field p = fields (short_field p.path ∷ extent_field p.bytes ∷ [])
 -- a handover, by its peer and its number
 unfoldable pub hand_field : PeerNumber → List ℕ
 hand_field h = fields (u8_field h.peer.0 ∷ u64_field h.number ∷ [])
+
+-- 1 where it is so, else nothing
+abbrev pub one_if : Bool → Option ℕ
+one_if true = Some 1
+one_if false = None
+
+-- a flag: the number 1, which may be left out
+unfoldable pub flag_field : Bool → List ℕ
+flag_field is_set = opt_field u64_field (one_if is_set)
+
+-- a destination: the names of a queue and of a host
+unfoldable pub dest_field : NamedDest → List ℕ
+dest_field d = fields (short_field d.queue ∷ short_field d.host ∷ [])
+
+-- a request as it was typed: its number and the name of its host
+unfoldable pub named_field : Named → List ℕ
+named_field n = fields (u32_field n.seq ∷ short_field n.host ∷ [])

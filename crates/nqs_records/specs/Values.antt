@@ -7,6 +7,8 @@ use Rattle.nqs_rules.specs.Tests.{last_seq}
 use Rattle.nqs_types.specs.declared.ids.HostId.{HostId}
 use Rattle.nqs_types.specs.declared.ids.RequestId.{RequestId}
 use Rattle.nqs_types.specs.declared.ids.PeerNumber.{PeerNumber}
+use Rattle.nqs_types.specs.declared.ids.Named.{Named}
+use Rattle.nqs_types.specs.declared.ids.NamedDest.{NamedDest}
 use Rattle.nqs_values.specs.declared.extent.Extent.{Extent}
 use Rattle.nqs_types.specs.declared.request.Job.{Job}
 use Rattle.nqs_types.specs.declared.request.Carried.{Carried}
@@ -43,6 +45,10 @@ is_seq n = nat_le 1 n && nat_le n last_seq
 -- whether a number is within a limit
 abbrev pub is_at_most : ℕ → ℕ → Bool
 is_at_most limit n = nat_le n limit
+
+-- a number is within a limit
+abbrev pub IsAtMost : ℕ → ℕ → Type 0
+IsAtMost limit n = IsTrue (is_at_most limit n)
 
 -- how many hosts a site may have that has this one
 abbrev pub is_site_count : HostId → ℕ → Bool
@@ -87,3 +93,11 @@ IsPart p = IsPath p.path × IsExtent p.bytes
 -- a handover: its peer and its number
 abbrev pub IsHand : PeerNumber → Type 0
 IsHand h = IsHost h.peer × IsU64 h.number
+
+-- a destination of two names
+abbrev pub IsDest : NamedDest → Type 0
+IsDest d = IsName d.queue × IsName d.host
+
+-- a request as people name it: a number from 1 on and a host
+abbrev pub IsNamed : Named → Type 0
+IsNamed n = IsTrue (is_seq n.seq) × IsName n.host

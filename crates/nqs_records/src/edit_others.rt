@@ -1,24 +1,75 @@
-//! Edits of devices, access, parameters and requests, by their codes from 24 to 46.
+//! Edits of access, devices and requests, by their codes. Each function has an arm for each row of
+//! its part of the table (`specs/EditTable.antt`), and asks the next one else.
 
-ghost use Rattle.std.specs.Prelude.{◌≡◌, ◌&&◌, nat_le, IsTrue};
-ghost use Rattle.nqs_records.specs.Reading.{numbered, bad_at};
-ghost use Rattle.nqs_records.specs.Edits.{edits};
+ghost use Rattle.std.specs.Prelude.{◌≡◌};
+ghost use Rattle.nqs_records.specs.Reading.{bad_at};
+ghost use Rattle.nqs_records.specs.Tables.{by_code};
+ghost use Rattle.nqs_records.specs.EditFields.{value_at};
+ghost use Rattle.nqs_records.specs.EditTable.{access_edits, devices_edits, rows_edits};
 
-use crate::edit_pairs::{read_named_and_name, read_named_and_priority, read_names};
-use crate::edit_parts::{read_named, read_wait};
+use crate::edit_shapes::{
+    read_named_and_name, read_named_and_priority, read_names, read_one_name, read_one_named,
+};
 use crate::fault::RecordFault;
-use crate::field::read_name;
-use nqs_types::{AccessEdit, ConfEdit, DevicesEdit, Edit, RowsEdit};
+use nqs_types::{AccessEdit, DevicesEdit, Edit, RowsEdit};
 
-#[tactic(auto, unfolding(crate::specs::Edits::edits))]
-pub(crate) fn read_device_edit(
+#[tactic(auto, unfolding(crate::specs::EditTable::access_edits))]
+pub(crate) fn read_access_edit(
     code: u8,
     bytes: &[u8],
     place: u64,
     at: u64,
 ) -> Result<(Edit, u64), RecordFault>
-    requires { IsTrue (nat_le 24 code && nat_le code 30) }
-    ensures { result ≡ numbered edits code (bad_at at) bytes.now place }
+    ensures { result ≡ by_code value_at access_edits code (bad_at at) bytes.now place }
+{
+    match code {
+        31 => {
+            let (queue, place) = read_one_name(bytes, place)?;
+            Ok((
+                Edit::Access(AccessEdit::SetUnrestrictedAccess { queue }),
+                place,
+            ))
+        }
+        32 => {
+            let (queue, place) = read_one_name(bytes, place)?;
+            Ok((Edit::Access(AccessEdit::SetNoAccess { queue }), place))
+        }
+        33 => {
+            let ((user, queue), place) = read_names(bytes, place)?;
+            Ok((Edit::Access(AccessEdit::AddUser { user, queue }), place))
+        }
+        34 => {
+            let ((user, queue), place) = read_names(bytes, place)?;
+            Ok((Edit::Access(AccessEdit::RemoveUser { user, queue }), place))
+        }
+        35 => {
+            let (user, place) = read_one_name(bytes, place)?;
+            Ok((Edit::Access(AccessEdit::AddManager { user }), place))
+        }
+        36 => {
+            let (user, place) = read_one_name(bytes, place)?;
+            Ok((Edit::Access(AccessEdit::RemoveManager { user }), place))
+        }
+        37 => {
+            let (user, place) = read_one_name(bytes, place)?;
+            Ok((Edit::Access(AccessEdit::AddOperator { user }), place))
+        }
+        38 => {
+            let (user, place) = read_one_name(bytes, place)?;
+            Ok((Edit::Access(AccessEdit::RemoveOperator { user }), place))
+        }
+        _ => read_devices_edit(code, bytes, place, at),
+    }
+}
+
+#[tactic(auto, unfolding(crate::specs::EditTable::devices_edits))]
+fn read_devices_edit(
+    code: u8,
+    bytes: &[u8],
+    place: u64,
+    at: u64,
+) -> Result<(Edit, u64), RecordFault>
+    ensures { result ≡ by_code value_at devices_edits code (bad_at at) bytes.now place }
 {
     match code {
         24 => {
@@ -29,15 +80,15 @@ pub(crate) fn read_device_edit(
             ))
         }
         25 => {
-            let (device, place) = read_name(bytes, place)?;
+            let (device, place) = read_one_name(bytes, place)?;
             Ok((Edit::Devices(DevicesEdit::DeleteDevice { device }), place))
         }
         26 => {
-            let (device, place) = read_name(bytes, place)?;
+            let (device, place) = read_one_name(bytes, place)?;
             Ok((Edit::Devices(DevicesEdit::EnableDevice { device }), place))
         }
         27 => {
-            let (device, place) = read_name(bytes, place)?;
+            let (device, place) = read_one_name(bytes, place)?;
             Ok((Edit::Devices(DevicesEdit::DisableDevice { device }), place))
         }
         28 => {
@@ -61,105 +112,25 @@ pub(crate) fn read_device_edit(
                 place,
             ))
         }
-        _ => unreachable!(),
+        _ => read_rows_edit(code, bytes, place, at),
     }
 }
 
-#[tactic(auto, unfolding(crate::specs::Edits::edits))]
-pub(crate) fn read_access_edit(
-    code: u8,
-    bytes: &[u8],
-    place: u64,
-    at: u64,
-) -> Result<(Edit, u64), RecordFault>
-    requires { IsTrue (nat_le 31 code && nat_le code 38) }
-    ensures { result ≡ numbered edits code (bad_at at) bytes.now place }
+#[tactic(auto, unfolding(crate::specs::EditTable::rows_edits))]
+fn read_rows_edit(code: u8, bytes: &[u8], place: u64, at: u64) -> Result<(Edit, u64), RecordFault>
+    ensures { result ≡ by_code value_at rows_edits code (bad_at at) bytes.now place }
 {
     match code {
-        31 => {
-            let (queue, place) = read_name(bytes, place)?;
-            Ok((
-                Edit::Access(AccessEdit::SetUnrestrictedAccess { queue }),
-                place,
-            ))
+        10 => {
+            let (queue, place) = read_one_name(bytes, place)?;
+            Ok((Edit::Rows(RowsEdit::AbortQueue { queue }), place))
         }
-        32 => {
-            let (queue, place) = read_name(bytes, place)?;
-            Ok((Edit::Access(AccessEdit::SetNoAccess { queue }), place))
-        }
-        33 => {
-            let ((user, queue), place) = read_names(bytes, place)?;
-            Ok((Edit::Access(AccessEdit::AddUser { user, queue }), place))
-        }
-        34 => {
-            let ((user, queue), place) = read_names(bytes, place)?;
-            Ok((Edit::Access(AccessEdit::RemoveUser { user, queue }), place))
-        }
-        35 => {
-            let (user, place) = read_name(bytes, place)?;
-            Ok((Edit::Access(AccessEdit::AddManager { user }), place))
-        }
-        36 => {
-            let (user, place) = read_name(bytes, place)?;
-            Ok((Edit::Access(AccessEdit::RemoveManager { user }), place))
-        }
-        37 => {
-            let (user, place) = read_name(bytes, place)?;
-            Ok((Edit::Access(AccessEdit::AddOperator { user }), place))
-        }
-        38 => {
-            let (user, place) = read_name(bytes, place)?;
-            Ok((Edit::Access(AccessEdit::RemoveOperator { user }), place))
-        }
-        _ => unreachable!(),
-    }
-}
-
-#[tactic(auto, unfolding(crate::specs::Edits::edits))]
-pub(crate) fn read_default_edit(
-    code: u8,
-    bytes: &[u8],
-    place: u64,
-    at: u64,
-) -> Result<(Edit, u64), RecordFault>
-    requires { IsTrue (nat_le 39 code && nat_le code 42) }
-    ensures { result ≡ numbered edits code (bad_at at) bytes.now place }
-{
-    match code {
-        39 => {
-            let (queue, place) = read_name(bytes, place)?;
-            Ok((Edit::Conf(ConfEdit::SetDefaultQueue { queue }), place))
-        }
-        40 => { Ok((Edit::Conf(ConfEdit::SetNoDefaultQueue), place)) }
-        41 => {
-            let (seconds, place) = read_wait(bytes, place)?;
-            Ok((Edit::Conf(ConfEdit::SetPatience { seconds }), place))
-        }
-        42 => {
-            let (seconds, place) = read_wait(bytes, place)?;
-            Ok((Edit::Conf(ConfEdit::SetRetryWait { seconds }), place))
-        }
-        _ => unreachable!(),
-    }
-}
-
-#[tactic(auto, unfolding(crate::specs::Edits::edits))]
-pub(crate) fn read_request_edit(
-    code: u8,
-    bytes: &[u8],
-    place: u64,
-    at: u64,
-) -> Result<(Edit, u64), RecordFault>
-    requires { IsTrue (nat_le 43 code && nat_le code 46) }
-    ensures { result ≡ numbered edits code (bad_at at) bytes.now place }
-{
-    match code {
         43 => {
-            let (request, place) = read_named(bytes, place)?;
+            let (request, place) = read_one_named(bytes, place)?;
             Ok((Edit::Rows(RowsEdit::HoldRequest { request }), place))
         }
         44 => {
-            let (request, place) = read_named(bytes, place)?;
+            let (request, place) = read_one_named(bytes, place)?;
             Ok((Edit::Rows(RowsEdit::ReleaseRequest { request }), place))
         }
         45 => {
@@ -173,6 +144,6 @@ pub(crate) fn read_request_edit(
                 place,
             ))
         }
-        _ => unreachable!(),
+        _ => Err(RecordFault::BadField(at)),
     }
 }

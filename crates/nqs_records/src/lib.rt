@@ -1,12 +1,27 @@
 //! The journal records of a host: each change of its state has exactly one spelling as bytes.
 //!
-//! A record is its kind's byte and its fields, and nothing else (`specs/Changes.antt` has the
+//! A record is its kind's byte and its fields, and nothing else (`specs/KindTable.antt` has the
 //! fields of each kind). Numbers go with their highest byte first. A name or a path is a byte of
 //! length and its bytes; yes and no are 1 and 0; what may be left out is 0, or 1 and the value; a
 //! list is a byte that counts it, and its values. A request is its sequence number (4 bytes) and
 //! its host (1); an extent its place (8) and its length (4). An edit is its code's byte and its
-//! arguments (`specs/EditSpelling.antt`); that a new queue is for pipe queues alone is the number 1
+//! arguments (`specs/EditTable.antt`); that a new queue is for pipe queues alone is the number 1
 //! (8 bytes), which may be left out.
+//!
+//! Each table has a row for each code: the fields behind it, and what their values make. How it is
+//! read, spelled and bounded follows from its fields (`specs/EditFields.antt`, `KindFields.antt`,
+//! `Tables.antt`). Codes are looked up, so that some may be left out. A new edit is
+//!
+//! - a row of `specs/EditTable.antt`, and the line of `conf_entry` or its like that spells it;
+//! - an arm in `src/edit_kinds.rt` or `src/edit_others.rt`, beside those of its part of the table;
+//! - an arm in `src/put_edits.rt`.
+//!
+//! A new kind is a row of `specs/KindTable.antt` and its line of `kind_entry`, an arm in
+//! `src/request_kinds.rt`, `src/hand_kinds.rt` or `src/host_kinds.rt`, beside those of its part of
+//! the table, and one in `src/write.rt`. Rows and arms are held to one another by the contracts,
+//! rows and entries by the laws (`proofs/EditLaws.antt`, `proofs/KindLaws.antt`). Fields that stood
+//! behind no code together before have a reader and a writer (`src/edit_shapes.rt`,
+//! `src/put_shapes.rt`), and a limit of the rules has its line in `proofs/SaneLaws.antt`.
 //!
 //! Fields are read in order, and the first fault is the answer. A value that is not all there is
 //! `Short`; one that is there and is past its limits (`specs/Values.antt`, `specs/EditValues.antt`)
@@ -17,8 +32,8 @@
 
 mod edit_kinds;
 mod edit_others;
-mod edit_pairs;
 mod edit_parts;
+mod edit_shapes;
 mod extents;
 mod fault;
 mod field;

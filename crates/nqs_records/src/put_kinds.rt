@@ -1,7 +1,7 @@
 //! Kinds of record, put at the end of a list: the kind's number and its fields. After `Memory` a
 //! part may stand there.
 
-ghost use Rattle.std.specs.Prelude.{◌≡◌, ◌∷◌, []};
+ghost use Rattle.std.specs.Prelude.{◌≡◌, ◌∷◌, ◌++◌, []};
 ghost use Rattle.std.specs.Prelude.{◌<◌, length, IsTrue};
 ghost use Rattle.std.specs.List.{AllByRecursion};
 ghost use Rattle.nqs_values.specs.Path.{IsPath};
@@ -41,7 +41,7 @@ pub(crate) fn put_with_hand(
 #[tactic(auto, using(crate::proofs::Joined::joined))]
 pub(crate) fn put_site(me: HostId, site: &[Name], out: &mut Vec<u8>) -> Result<(), Memory>
     requires { length site.now < 256 }
-    ensures { Adds out.old.items (fields (u8_field 1 ∷ u8_field me.0 ∷ list_field short_field site.now ∷ [])) result out.new.items }
+    ensures { Adds out.old.items (fields (u8_field 1 ∷ (u8_field me.0 ++ list_field short_field site.now) ∷ [])) result out.new.items }
 {
     put_u8(1, out)?;
     put_u8(me.0, out)?;

@@ -4,8 +4,7 @@
 ghost use Rattle.std.specs.Prelude.{◌≡◌, ◌∷◌, []};
 ghost use Rattle.nqs_codec.specs.Fields.{u8_field, u64_field, short_field};
 ghost use Rattle.nqs_records.specs.Adds.{Adds};
-ghost use Rattle.nqs_records.specs.Spelling.{fields, opt_field};
-ghost use Rattle.nqs_records.specs.EditSpelling.{flag_field, dest_field, named_field};
+ghost use Rattle.nqs_records.specs.Spelling.{fields, opt_field, flag_field, dest_field, named_field};
 
 use crate::put_parts::put_opt_u64;
 use nqs_codec::{put_bool, put_name, put_u8, put_u32, put_u64};
@@ -13,7 +12,7 @@ use nqs_types::{Named, NamedDest};
 use nqs_values::{Memory, Name};
 
 // A flag: the number 1, or nothing.
-#[tactic(auto, unfolding(crate::specs::EditSpelling::flag_field))]
+#[tactic(auto, unfolding(crate::specs::Spelling::flag_field))]
 fn put_flag(is_set: bool, out: &mut Vec<u8>) -> Result<(), Memory>
     ensures { Adds out.old.items (flag_field is_set) result out.new.items }
 {
@@ -21,7 +20,7 @@ fn put_flag(is_set: bool, out: &mut Vec<u8>) -> Result<(), Memory>
     put_opt_u64(&number, out)
 }
 
-#[tactic(auto, using(crate::proofs::Joined::joined), unfolding(crate::specs::EditSpelling::dest_field))]
+#[tactic(auto, using(crate::proofs::Joined::joined), unfolding(crate::specs::Spelling::dest_field))]
 fn put_dest(dest: NamedDest, out: &mut Vec<u8>) -> Result<(), Memory>
     ensures { Adds out.old.items (dest_field dest) result out.new.items }
 {
@@ -29,7 +28,7 @@ fn put_dest(dest: NamedDest, out: &mut Vec<u8>) -> Result<(), Memory>
     put_name(&dest.host, out)
 }
 
-#[tactic(auto, using(crate::proofs::Joined::joined), unfolding(crate::specs::EditSpelling::named_field))]
+#[tactic(auto, using(crate::proofs::Joined::joined), unfolding(crate::specs::Spelling::named_field))]
 fn put_named(named: Named, out: &mut Vec<u8>) -> Result<(), Memory>
     ensures { Adds out.old.items (named_field named) result out.new.items }
 {
