@@ -11,6 +11,15 @@ use Rattle.nqs_types.specs.declared.event.Output.{Output}
 use Rattle.nqs_types.specs.declared.change.Change.TheVariants.{Boot}
 use Rattle.nqs_types.specs.declared.world.Which.{Which}
 use Rattle.nqs_types.specs.declared.world.Which.TheVariants.{Root, Spool}
+use Rattle.std.proofs.Common.{Ok, Err, IsErrOf}
+use Rattle.nqs_values.specs.Want.{want}
+use Rattle.nqs_types.specs.declared.change.Change.{Change}
+use Rattle.nqs_store.specs.Calls.{MayStop, Commits}
+use Rattle.nqs_store.specs.declared.fault.LoadFault.{LoadFault}
+use Rattle.nqs_store.specs.declared.fault.LoadFault.TheVariants as load
+use Rattle.nqs_store.specs.declared.fault.StoreFault.{StoreFault}
+use Rattle.nqs_store.specs.declared.fault.StoreFault.TheVariants as store
+use Rattle.nqs_node.specs.Makes.{Makes}
 use Rattle.nqs_outside.specs.History.{State, History, state, content, IsImage, IsQuiet}
 use Rattle.nqs_outside.specs.declared.disk.Disk as disk
 use Rattle.nqs_rules.specs.Plain.{map_row, map_state}
@@ -77,3 +86,65 @@ active_told images s told = (
   record { second = is_second (images Root); records = length told.is.payloads },
   record { named = refl; has = told.is.has; snapshot = told.is.snapshot; payloads = told.is.payloads; stands = told.is.stands; many = refl },
 )
+
+-- what a call leaves whose fault is told as one of a boot
+
+pub loads_memory : (fault : LoadFault) → fault ≡ load.Memory want → (which : Which) → IsErrOf {T = Unit {0}} (Err fault) (load.Disk which) → ⊥
+loads_memory fault is which failed = let no : ⊥ = cc in no
+
+pub at_disk : (fault : StoreFault) (w : Which) → fault ≡ store.Disk w → (which : Which) → IsErrOf {T = Unit {0}} (Err (load.Disk w)) (load.Disk which)
+    → IsErrOf {T = Unit {0}} (Err fault) (store.Disk which)
+at_disk fault w is which failed = let same : w ≡ which = cc in ap Err (is ∙ ap store.Disk same)
+
+module _ {D : Type 0} {g : disk.Ghosts D} (old now : Store D g) where
+  module _ (fault : StoreFault) (told : LoadFault)
+      (to : (which : Which) → IsErrOf {T = Unit {0}} (Err told) (load.Disk which) → IsErrOf {T = Unit {0}} (Err fault) (store.Disk which)) where
+    pub load_stops : MayStop {T = Unit {0}} old now store.Disk (Err fault) → MayStop {T = Unit {0}} old now load.Disk (Err told)
+    load_stops m = record { running = tt; broken = λ which is. m.broken which (to which is); later = m.later; fuse = m.fuse }
+
+    pub load_commits : (change : Change Extent) (puts : List (List ℕ)) (host : Host)
+        → Commits {T = Unit {0}} old now change puts host store.Disk (Err fault) → Commits {T = Unit {0}} old now change puts host load.Disk (Err told)
+    load_commits change puts host m = record {
+      made = λ yes. tt;
+      broken_off = m.broken_off;
+      cut = λ yes tells which is. m.cut yes tells which (to which is);
+      any_moment = m.any_moment;
+    }
+
+    pub load_makes : (before after : Host) (change : Change Extent) (puts : List (List ℕ))
+        → Makes {T = Unit {0}} {E = StoreFault} old now before after change puts (Err fault)
+        → Makes {T = Unit {0}} {E = LoadFault} old now before after change puts (Err told)
+    load_makes before after change puts m = record {
+      sound = m.sound;
+      site = m.site;
+      err = m.err;
+      bare = tt;
+      active = tt;
+      told = λ yes tells. tt;
+      plain = λ yes tells. tt;
+    }
+
+  pub booted_stops : MayStop {T = Unit {0}} old now store.Disk (Ok tt) → MayStop {T = Unit {0}} old now load.Disk (Ok tt)
+  booted_stops m = record { running = m.running; broken = λ which is. absurd (let no : ⊥ = cc in no); later = m.later; fuse = m.fuse }
+
+  pub booted_commits : (change : Change Extent) (puts : List (List ℕ)) (host : Host)
+      → Commits {T = Unit {0}} old now change puts host store.Disk (Ok tt) → Commits {T = Unit {0}} old now change puts host load.Disk (Ok tt)
+  booted_commits change puts host m = record {
+    made = m.made;
+    broken_off = λ yes. tt;
+    cut = λ yes tells which is. absurd (let no : ⊥ = cc in no);
+    any_moment = m.any_moment;
+  }
+
+  pub booted_makes : (before after : Host) (change : Change Extent) (puts : List (List ℕ))
+      → Makes {T = Unit {0}} {E = StoreFault} old now before after change puts (Ok tt)
+      → Makes {T = Unit {0}} {E = LoadFault} old now before after change puts (Ok tt)
+  booted_makes before after change puts m = record {
+    sound = m.sound;
+    site = m.site;
+    err = tt;
+    bare = m.bare;
+    active = m.active;
+    told = m.told;
+    plain = m.plain;
+  }

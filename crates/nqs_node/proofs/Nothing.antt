@@ -14,7 +14,7 @@ use Rattle.nqs_rules.specs.Stepped.{stored_parts}
 use Rattle.nqs_store.specs.Active.{Active, journal_of, ready}
 use Rattle.nqs_store.specs.Commits.{EachImage, Keeping}
 use Rattle.nqs_store.specs.Told.{Host}
-use Rattle.nqs_store.specs.Stores.{history_of, active_of, plain_of, Tells}
+use Rattle.nqs_store.specs.Stores.{history_of, plain_of, Tells}
 use Rattle.nqs_store.specs.declared.store.Store.{Store}
 use Rattle.nqs_store.specs.Images.{IsTold}
 use Rattle.nqs_store.specs.Hosts.{HostCall, Runs, StopsShort, on, part}
@@ -96,7 +96,3 @@ module _ {D : Type 0} {g : disk.Ghosts D} (store : Store D g) (host : Host) (yes
 
   pub told_images : EachImage (history_of store) (λ images. IsTold images (plain_of store host))
   told_images images leaves = (told_now store host tells yes images leaves).0
-
-  -- where no call was made, they tell the state before
-  pub none_told : (puts : List (List ℕ)) (later : Plain) → Keeping (active_of store) puts (history_of store) (history_of store) (plain_of store host) later
-  none_told puts later = none_made (active_of store) puts (history_of store) (plain_of store host) later all_quiet told_images

@@ -1,11 +1,14 @@
 -- Lists by places, and reads from a store that hasn't changed.
+use Rattle.std.proofs.Common.{Err, Ok, IsErrOf, false, IsTrue}
 use Rattle.std.proofs.Common.{◌≡◌, ℕ, zero, suc, ◌<◌, ◌≤◌, List, [], ◌∷◌, Bool, length, get_or, slice_set, refl, sym, ap, subst, ◌∙◌, arith}
 use Rattle.std.specs.List.{AllByRecursion}
 use Rattle.nqs_outside.specs.Causes.{Rose}
-use Rattle.nqs_outside.specs.History.{History, moment}
+use Rattle.nqs_outside.specs.History.{moment}
 use Rattle.nqs_rules.specs.Edits.{change_at}
 use Rattle.nqs_outside.specs.declared.disk.Disk as disk
 use Rattle.nqs_types.specs.declared.world.Which.{Which}
+use Rattle.nqs_values.specs.declared.memory.Memory.{Memory}
+use Rattle.nqs_node.specs.declared.fault.NodeFault.TheVariants as node
 use Rattle.nqs_store.specs.Stores.{OnlyReads, FailedToRead}
 use Rattle.nqs_store.specs.declared.store.Store.{Store}
 
@@ -48,3 +51,17 @@ module _ {D : Type 0} {g : disk.Ghosts D} where
         let blown = failed.blown yes in
         (blown.0, subst (λ x. blown.0 < moment x) (reads.same yes which) blown.1, sym (reads.fuse yes which blown.0) ∙ blown.2);
   }
+
+-- an answer is one or the other
+
+pub no_error : {T E : Type 0} (x : T) (e : E) → IsErrOf {T = T} {E = E} (Ok x) e → ⊥
+no_error x e is = let no : ⊥ = cc in no
+
+pub not_both : (b : Bool) → IsTrue b → b ≡ false → ⊥
+not_both b is isnt = let never : ⊥ = cc in never
+
+pub node_memory : (memory : Memory) (which : Which) → IsErrOf {T = Unit {0}} (Err (node.Memory memory)) (node.Disk which) → ⊥
+node_memory memory which is = let no : ⊥ = cc in no
+
+pub node_disk : (w which : Which) → IsErrOf {T = Unit {0}} (Err (node.Disk w)) (node.Disk which) → w ≡ which
+node_disk w which is = cc

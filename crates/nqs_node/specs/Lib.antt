@@ -3,3 +3,4 @@ pub mod Carried
 pub mod Idle
 pub mod Reading
 pub mod Planned
+pub mod Makes

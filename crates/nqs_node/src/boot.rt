@@ -3,7 +3,7 @@
 //! The boot is one change like any other: what is said of it is made first, then it is kept, and
 //! then made.
 
-ghost use Rattle.std.specs.Prelude.{◌≡◌, ◌⊎◌, ◌≤◌, ◌++◌, [], ℕ, Bool, List, IsTrue, IsErrOf, OnOk, OnErr, IfOk, IfErr, MatchResult, false, Some};
+ghost use Rattle.std.specs.Prelude.{◌≡◌, ◌⊎◌, ◌≤◌, ◌++◌, [], ℕ, List, IsTrue, IsErrOf, OnOk, OnErr, IfOk, IfErr, MatchResult, false, Some};
 ghost use Rattle.std.specs.List.{filter_map};
 ghost use Rattle.std.specs.Option.{option_to_list};
 ghost use Rattle.nqs_state.specs.State.{Plain, content};
@@ -12,21 +12,18 @@ ghost use Rattle.nqs_values.specs.declared.extent.Extent.{Extent};
 ghost use Rattle.nqs_types.specs.declared.world.Which.{Which};
 ghost use Rattle.nqs_types.specs.declared.change.Change.TheVariants.{Boot};
 ghost use Rattle.nqs_outside.specs.Causes.{Rose};
-ghost use Rattle.nqs_outside.specs.History.{History, IsQuiet};
+ghost use Rattle.nqs_outside.specs.History.{IsQuiet};
 ghost use Rattle.nqs_rules.specs.Applied.{applied};
 ghost use Rattle.nqs_rules.specs.World.{boot_output};
 ghost use Rattle.nqs_rules.specs.Plain.{map_row, map_state};
-ghost use Rattle.nqs_store.specs.Commits.{IsKept, IsCutAt, Keeping};
-ghost use Rattle.nqs_store.specs.Hosts.{StopsShort};
-ghost use Rattle.nqs_store.specs.Plan.{CommitsBy};
-ghost use Rattle.nqs_store.specs.Stores.{disk_of as store_disk_of, history_of as history_of_store, fails_of as fails_of_store, is_starved};
-ghost use Rattle.nqs_store.specs.Stores.{active_of as active_of_store};
-ghost use Rattle.nqs_store.specs.Stores.{is_stopped as is_store_stopped, plain_of, Tells as TellsHost};
-ghost use Rattle.nqs_store.specs.Active.{Active, IsActive, ready, recorded};
+ghost use Rattle.nqs_store.specs.Calls.{IsLeft, MayStop, Commits};
+ghost use Rattle.nqs_store.specs.Stores.{is_stopped as is_store_stopped};
+ghost use Rattle.nqs_store.specs.Active.{Active, IsActive};
 ghost use Rattle.nqs_store.specs.Disks.{disk_at, histories_of, failing_of, contents};
 ghost use Rattle.nqs_store.specs.Faults.{IsLoadFault};
 ghost use Rattle.nqs_store.specs.Images.{IsTold};
 ghost use Rattle.nqs_store.specs.Sound.{IsSoundHost};
+ghost use Rattle.nqs_node.specs.Makes.{Makes};
 ghost use Rattle.nqs_node.specs.Carried.{after_kept, IsMade, IsCutBy, IsBrokenOff, IsOneOrOther, IsBlown};
 
 use crate::keep::keep;
@@ -86,29 +83,13 @@ fn begin<D: Disk>(
 ) -> Result<(), LoadFault>
     requires sound { IsSoundHost (content state.old) }
     requires running { is_store_stopped store.old ≡ false }
-    ensures sound { IsSoundHost (content state.new) }
-    ensures running { OnOk result (is_store_stopped store.new ≡ false) }
     ensures unsaid { OnErr result (out.new.items ≡ out.old.items) }
     ensures only { (which : Which) (place : ℕ) → IsErrOf result (LoadFault.NotNqs which place) → ⊥ }
-    ensures failed { (which : Which) → IsErrOf result (LoadFault.Disk which)
-        → Rose (D.faults (store_disk_of which store.old)) (D.faults (store_disk_of which store.new)) }
-    ensures memory { IsTrue D.tells → IsErrOf result (LoadFault.Memory want) → (which : Which)
-        → history_of_store store.new which ≡ history_of_store store.old which }
-    ensures told { IsTrue D.tells → TellsHost store.old (content state.old) → OnOk result (TellsHost store.new (content state.new)) }
-    ensures plain { IsTrue D.tells → TellsHost store.old (content state.old)
-        → OnOk result (plain_of store.new (content state.new) ≡ applied Boot (plain_of store.old (content state.old))) }
+    ensures memory { IsErrOf result (LoadFault.Memory want) → IsLeft store.old store.new }
     ensures outputs { (f : Extent → List ℕ) → OnOk result (out.new.items ≡ out.old.items ++ filter_map boot_output (map_state f (content state.old)).rows) }
-    ensures active { OnOk result (active_of_store store.new ≡ recorded (ready (active_of_store store.old))) }
-    ensures made { IsTrue D.tells → OnOk result (IsKept (active_of_store store.old) (fails_of_store store.old) [] (history_of_store store.old) (history_of_store store.new)) }
-    ensures broken_off { IsTrue D.tells → OnErr result (CommitsBy StopsShort (active_of_store store.old) [] (history_of_store store.old) (history_of_store store.new)) }
-    ensures cut { IsTrue D.tells → TellsHost store.old (content state.old) → (which : Which) → IsErrOf result (LoadFault.Disk which)
-        → IsTrue (is_starved store.new which) ⊎ IsCutAt (active_of_store store.old) (fails_of_store store.old) [] (history_of_store store.old) (history_of_store store.new)
-        (plain_of store.old (content state.old)) (applied Boot (plain_of store.old (content state.old))) which }
-    ensures fuse { IsTrue D.tells → (which : Which) (i : ℕ) → fails_of_store store.new which i ≡ fails_of_store store.old which i }
-    ensures later { (which : Which) → D.faults (store_disk_of which store.old) ≤ D.faults (store_disk_of which store.new) }
-    ensures any_moment { IsTrue D.tells → TellsHost store.old (content state.old)
-        → Keeping (active_of_store store.old) [] (history_of_store store.old) (history_of_store store.new) (plain_of store.old (content state.old))
-        (applied Boot (plain_of store.old (content state.old))) }
+    ensures stops { MayStop store.old store.new LoadFault.Disk result }
+    ensures makes { Makes store.old store.new (content state.old) (content state.new) Boot [] result }
+    ensures calls { Commits store.old store.new Boot [] (content state.old) LoadFault.Disk result }
 {
     match outputs_of(alloc, state) {
         Err(memory) => Err(LoadFault::Memory(memory)),

@@ -1,5 +1,5 @@
 -- How the calls of a change end, from what they did.
-use Rattle.std.proofs.Common.{◌≡◌, ◌≢◌, ◌⊎◌, inl, inr, ℕ, ◌+◌, ◌<◌, ◌≤◌, Bool, true, false, not, IsTrue, List, [], ◌∷◌, ◌++◌, length, refl, sym, ap}
+use Rattle.std.proofs.Common.{◌≡◌, ◌≢◌, ◌⊎◌, inl, inr, ℕ, ◌+◌, ◌≤◌, Bool, not, IsTrue, List, [], ◌∷◌, ◌++◌, length, refl, sym, ap}
 use Rattle.std.proofs.Common.{subst, ◌∙◌, arith, length-append, map, Some}
 use Rattle.std.proofs.Math.Seq.{take-length}
 use Rattle.std.specs.declared.result.Result.{Result}
@@ -26,23 +26,23 @@ use Rattle.nqs_rules.specs.Journals.{is_second, journal_on}
 use Rattle.nqs_rules.specs.World.{spool_calls}
 use Rattle.nqs_store.specs.Told.{Host, told_by}
 use Rattle.nqs_store.specs.Live.{live}
-use Rattle.nqs_store.specs.Active.{Active, IsActive, journal_of, recorded}
-use Rattle.nqs_store.specs.Hosts.{HostCall, on, part, Runs, StopsShort as HostStops}
+use Rattle.nqs_store.specs.Active.{Active, IsActive, recorded}
+use Rattle.nqs_store.specs.Hosts.{on, part, Runs, StopsShort as HostStops}
 use Rattle.nqs_store.specs.Plan.{puts_calls, change_calls}
 use Rattle.nqs_store.specs.Puts.{place_of}
 use Rattle.nqs_store.specs.Putting.{ArePartlyPut, ArePutFor}
 use Rattle.nqs_store.specs.Images.{IsTold, TellsOneOf}
 use Rattle.nqs_store.specs.Moments.{Moments}
-use Rattle.nqs_store.specs.Commits.{AreClear, FailsFirst, EachImage, HasOneMore, LeavesHost, AreImages, IsAtHostGate}
+use Rattle.nqs_store.specs.Commits.{AreClear, FailsFirst, LeavesHost, AreImages}
 use Rattle.nqs_store.specs.Changing.{Changing, CutSpool, CutRecord, IsChangeCut}
 use Rattle.nqs_store.specs.Steps.{HasAppended, HasAppendedShort}
 use Rattle.nqs_store.specs.Stores.{Tells, plain_of, history_of, fails_of, is_starved, active_of, journal_in, pick}
 use Rattle.nqs_store.specs.declared.store.Store.{Store}
-use Rattle.nqs_store.proofs.TellsNow.{only_image, active_image, active_quiet, active_stands}
-use Rattle.nqs_store.proofs.EachDisk.{each_of, each_disk, with_disk, at_disk, but_disk, journal_apart, spool_apart, journals_apart, stands_on, history_on}
-use Rattle.nqs_store.proofs.Runs.{cut_short, never_short, AllOk}
-use Rattle.nqs_store.proofs.HostRuns.{part_own, part_other, part_append, same_or, runs_on, runs_both, moments_on, moments_both, moments_weaker, on_stops, last_stops, behind_stops}
-use Rattle.nqs_store.proofs.Committed.{Keeps, IsPut, told_before, told_after, named_image, stands_image, append_moments, put_moments, one_of, put_tells}
+use Rattle.nqs_store.proofs.TellsNow.{only_image, active_image}
+use Rattle.nqs_store.proofs.EachDisk.{each_of, with_disk, but_disk, journal_apart, stands_on, history_on}
+use Rattle.nqs_store.proofs.Runs.{cut_short, never_short}
+use Rattle.nqs_store.proofs.HostRuns.{part_own, part_other, part_append, same_or, runs_on, runs_both, moments_both, moments_weaker, on_stops, last_stops, behind_stops}
+use Rattle.nqs_store.proofs.Committed.{Keeps, IsPut, told_before, named_image, stands_image, append_moments, put_moments}
 
 pub spool_rest : (old now : Which → History) → now Root ≡ old Root → now First ≡ old First → now Second ≡ old Second → (w : Which) → w ≢ Spool
     → now w ≡ old w
@@ -372,3 +372,9 @@ module _ {D : Type 0} {g : disk.Ghosts D} (old now : Store D g) where
   pub journal_clear : {n : ℕ} → AreClear (g.fails (journal.disk_of (journal_in old.on_second old))) (moment (journal.history_of (journal_in old.on_second old))) n
       → AreClear (fails_of old (journal_on old.on_second)) (moment (history_of old (journal_on old.on_second))) n
   journal_clear {n} clear = subst (λ d. AreClear (g.fails d) (moment (g.history d)) n) (sym (stands_on old.on_second old)) clear
+
+-- none of the record's calls was to fail
+pub record_clear : {D : Type 0} {g : disk.Ghosts D} (old : Store D g)
+    → AreClear (g.fails (journal.disk_of (journal_in old.on_second old))) (moment (journal.history_of (journal_in old.on_second old))) 4
+    → AreClear (fails_of old (journal_on old.on_second)) (moment (history_of old (journal_on old.on_second))) 4
+record_clear {D} {g} old clear = subst (λ d. AreClear (g.fails d) (moment (g.history d)) 4) (sym (stands_on old.on_second old)) clear

@@ -1,8 +1,7 @@
 -- What images tell while a change is kept.
-use Rattle.std.proofs.Common.{◌≡◌, ◌≢◌, inl, inr, ℕ, ◌+◌, ◌≤◌, Bool, true, false, IsTrue, if◌then◌else◌, List, [], ◌∷◌, ◌++◌, map, length, Some, None, refl, sym, ap}
-use Rattle.std.proofs.Common.{subst, ◌∙◌, arith}
+use Rattle.std.proofs.Common.{◌≡◌, ◌≢◌, inl, inr, ℕ, ◌≤◌, Bool, true, false, IsTrue, if◌then◌else◌, List, [], ◌∷◌, ◌++◌, map, length, Some, None, refl, sym, ap}
+use Rattle.std.proofs.Common.{subst, ◌∙◌}
 use Rattle.std.specs.List.{AllByRecursion}
-use Rattle.nqs_state.specs.State.{Plain}
 use Rattle.nqs_values.specs.declared.extent.Extent.{Extent}
 use Rattle.nqs_types.specs.declared.change.Change.{Change}
 use Rattle.nqs_types.specs.declared.change.Change.TheVariants.{Site, Submitted, Deleted, Doomed, Started, Ended, Unlaunched, Boot, Edited, HandOpened}
@@ -10,18 +9,16 @@ use Rattle.nqs_types.specs.declared.change.Change.TheVariants.{HandCommitted, Ha
 use Rattle.nqs_types.specs.declared.change.Change.TheVariants.{RefusedLocal, HeldFar, StageGot, StageGone, FileGone}
 use Rattle.nqs_outside.specs.History.{History, content, moment, EachSince}
 use Rattle.nqs_outside.specs.declared.disk.Disk as disk
-use Rattle.nqs_outside.proofs.Images.{quiet_image}
 use Rattle.nqs_spool.specs.Extents.{Has, Holds, past, AreApart, AreSound, IsWithin}
 use Rattle.nqs_spool.specs.Spooled as spool
 use Rattle.nqs_spool.specs.declared.spool.Spool.{Spool as SpoolOf}
 use Rattle.nqs_spool.proofs.Lists.{has_all, all_has}
 use Rattle.nqs_types.specs.declared.world.Which.{Which}
 use Rattle.nqs_types.specs.declared.world.Which.TheVariants.{Root, Spool}
-use Rattle.nqs_outside.specs.History.{State, IsImage, IsQuiet, state, state_at, extended, Call}
+use Rattle.nqs_outside.specs.History.{IsImage, IsQuiet, state, extended, Call}
 use Rattle.nqs_journal.specs.Either.{StandsBy, front_of}
 use Rattle.nqs_journal.specs.Open.{BeforeOrAfter}
 use Rattle.nqs_rules.specs.Journals.{is_second, journal_on}
-use Rattle.nqs_snapshot.specs.Reading.{snapshot_of}
 use Rattle.nqs_rules.specs.Fits.{fits}
 use Rattle.nqs_rules.specs.Applied.{applied}
 use Rattle.nqs_rules.specs.Filled.{filled}

@@ -1,31 +1,31 @@
 -- A commit from its two parts: a checkpoint, where one is due, and the calls of the change.
-use Rattle.std.proofs.Common.{◌≡◌, ◌≢◌, ◌⊎◌, inl, inr, ℕ, ◌+◌, ◌<◌, ◌≤◌, Bool, true, false, not, IsTrue, if◌then◌else◌, List, [], ◌∷◌, ◌++◌, length, map, Ok, refl, sym, ap}
+use Rattle.std.proofs.Common.{◌≡◌, ◌≢◌, inl, inr, ℕ, ◌+◌, ◌≤◌, Bool, true, false, not, IsTrue, if◌then◌else◌, List, [], ◌∷◌, ◌++◌, length, map, Ok, refl, sym, ap}
 use Rattle.std.proofs.Common.{subst, ◌∙◌, arith, length-append}
 use Rattle.std.proofs.lemmas.List.{length-map, append-nil}
 use Rattle.nqs_state.specs.State.{Plain}
 use Rattle.nqs_types.specs.declared.world.Which.{Which}
-use Rattle.nqs_types.specs.declared.world.Which.TheVariants.{Root, First, Second, Spool}
-use Rattle.nqs_outside.specs.History.{Call, History, content, extended, state, moment, IsImage}
+use Rattle.nqs_types.specs.declared.world.Which.TheVariants.{Root, Spool}
+use Rattle.nqs_outside.specs.History.{Call, History, content, extended, state, moment}
 use Rattle.nqs_outside.specs.declared.disk.Disk as disk
 use Rattle.nqs_journal.specs.Plan.{append_calls, begin_calls, front_calls}
 use Rattle.nqs_journal.specs.Text.{snapshot_front}
-use Rattle.nqs_rules.specs.Journals.{is_second, journal_on, is_due, byte_of}
+use Rattle.nqs_rules.specs.Journals.{journal_on, is_due, byte_of}
 use Rattle.nqs_rules.specs.World.{spool_calls}
 use Rattle.nqs_snapshot.specs.Reading.{snapshot_of}
 use Rattle.nqs_store.specs.Told.{Host}
-use Rattle.nqs_store.specs.Active.{Active, journal_of, other_of, turned_to, ready, recorded}
+use Rattle.nqs_store.specs.Active.{Active, journal_of, other_of, turned_to, ready}
 use Rattle.nqs_store.specs.Hosts.{HostCall, on, part, Runs, StopsShort as HostStops}
 use Rattle.nqs_store.specs.Plan.{puts_calls, change_calls, checkpoint_calls, due_calls, commit_calls, CommitsBy}
 use Rattle.nqs_store.specs.Images.{IsTold, TellsOneOf}
 use Rattle.nqs_store.specs.Moments.{Moments}
 use Rattle.nqs_store.specs.Commits.{AreClear, FailsFirst, LeavesHost, IsPast, calls_before, record_moment, root_calls, IsKept, IsBegun, HasOneMore, before_record, Keeping, IsAtHostGate}
-use Rattle.nqs_store.specs.Commits.{IsCutAt, IsCutAtOther, IsCutAtRoot, IsCutAtSpool, IsCutAtRecord, IsCutOn}
-use Rattle.nqs_store.specs.Changing.{Turning, Changing, IsTurned, IsTurnCut, IsChangeCut, CutOther, CutRoot, CutSpool, CutRecord}
-use Rattle.nqs_store.specs.Stores.{Tells, plain_of, history_of, active_of, fails_of}
+use Rattle.nqs_store.specs.Commits.{IsCutAt, IsCutOn}
+use Rattle.nqs_store.specs.Changing.{Turning, Changing, IsTurned, IsTurnCut, IsChangeCut}
+use Rattle.nqs_store.specs.Stores.{Tells, plain_of, history_of, active_of}
 use Rattle.nqs_store.specs.declared.store.Store.{Store}
 use Rattle.nqs_store.proofs.HostRuns.{part_own, part_other, part_append, same_or, runs_both, runs_none, length_on, moments_both, moments_weaker, moments_none, no_pending}
 use Rattle.nqs_store.proofs.HostRuns.{behind_stops, before_stops, none_stops, stops_size}
-use Rattle.nqs_store.proofs.EachDisk.{root_is_no_journal, root_apart, spool_apart, journal_apart}
+use Rattle.nqs_store.proofs.EachDisk.{root_is_no_journal, root_apart, spool_apart}
 use Rattle.nqs_store.proofs.Committed.{quiet}
 use Rattle.nqs_store.proofs.TellsNow.{told_now}
 

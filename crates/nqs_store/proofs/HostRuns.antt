@@ -1,14 +1,14 @@
 -- Runs of a host's disks, one part after another.
-use Rattle.std.proofs.Common.{◌≡◌, ◌≢◌, ◌⊎◌, inl, inr, ℕ, zero, suc, ◌+◌, ◌-◌, ◌≤◌, Bool, true, false, if◌then◌else◌, List, [], ◌∷◌, ◌++◌, map, length, take}
+use Rattle.std.proofs.Common.{◌≡◌, ◌≢◌, ◌⊎◌, inl, inr, ℕ, zero, suc, ◌+◌, ◌-◌, ◌≤◌, Bool, true, false, if◌then◌else◌, List, [], ◌∷◌, ◌++◌, length, take}
 use Rattle.std.proofs.Common.{refl, sym, ap, ◌∙◌, subst, arith, length-append}
 use Rattle.std.proofs.lemmas.List.{append-nil, take-append-le}
 use Rattle.std.proofs.lemmas.Bool.{cases_lt}
 use Rattle.std.proofs.Math.Seq.{take-append-add}
 use Rattle.nqs_types.specs.declared.world.Which.{Which}
 use Rattle.nqs_types.specs.declared.world.Which.TheVariants.{Root, First, Second, Spool}
-use Rattle.nqs_outside.specs.History.{Call, State, History, extended, fresh, content, state, moment, after, state_at, IsImage, IsQuiet, StopsShort as DiskStops}
+use Rattle.nqs_outside.specs.History.{Call, State, History, extended, fresh, state, moment, after, state_at, IsImage, StopsShort as DiskStops}
 use Rattle.nqs_outside.proofs.Histories.{state-extended, state_at-extended, after-append, goes_on}
-use Rattle.nqs_store.specs.Hosts.{HostCall, on, part, same_disk, Runs, EachPrefix, StopsShort}
+use Rattle.nqs_store.specs.Hosts.{HostCall, on, part, same_disk, Runs, StopsShort}
 use Rattle.nqs_store.specs.Commits.{IsSettled}
 use Rattle.nqs_store.specs.Moments.{Moments}
 use Rattle.nqs_store.proofs.Runs.{none_more}

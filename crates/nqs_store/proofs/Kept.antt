@@ -1,8 +1,15 @@
 -- A commit whose parts are known, of a store for which memory was taken.
-use Rattle.std.proofs.Common.{◌≡◌, ◌⊎◌, inl, inr, ℕ, Bool, true, false, IsTrue, List, [], Ok, OnOk, OnErr, Result, refl, sym, ap, subst, ◌∙◌}
+use Rattle.std.proofs.Common.{◌≡◌, ◌⊎◌, inl, inr, ℕ, Bool, true, false, IsTrue, List, [], Ok, OnOk, OnErr, IsErrOf, refl, sym, ap, subst, ◌∙◌}
+use Rattle.std.proofs.Common.{◌≤◌, ◌∷◌, not, Err, arith}
+use Rattle.std.specs.declared.result.Result.{Result}
 use Rattle.nqs_state.specs.State.{Plain}
+use Rattle.nqs_values.specs.declared.extent.Extent.{Extent}
+use Rattle.nqs_types.specs.declared.change.Change.{Change}
+use Rattle.nqs_rules.specs.Applied.{applied}
+use Rattle.nqs_rules.specs.Filled.{filled}
 use Rattle.nqs_types.specs.declared.world.Which.{Which}
-use Rattle.nqs_types.specs.declared.world.Which.TheVariants.{Spool}
+use Rattle.nqs_types.specs.declared.world.Which.TheVariants.{Root, Spool}
+use Rattle.nqs_outside.specs.Causes.{Rose}
 use Rattle.nqs_outside.specs.History.{moment, content, state}
 use Rattle.nqs_outside.specs.declared.disk.Disk as disk
 use Rattle.nqs_spool.specs.Spooled as spool
@@ -12,19 +19,30 @@ use Rattle.nqs_rules.specs.World.{spool_calls}
 use Rattle.nqs_snapshot.specs.Reading.{snapshot_of}
 use Rattle.nqs_store.specs.Told.{Host}
 use Rattle.nqs_store.specs.Live.{bytes_at}
-use Rattle.nqs_store.specs.Active.{journal_of, turned_to, ready, recorded}
-use Rattle.nqs_store.specs.Hosts.{HostCall, Runs, EachPrefix, StopsShort}
+use Rattle.nqs_store.specs.Active.{journal_of, other_of, turned_to, ready, recorded}
+use Rattle.nqs_journal.specs.Plan.{begin_calls, front_calls}
+use Rattle.nqs_journal.specs.Text.{snapshot_front}
+use Rattle.nqs_rules.specs.Journals.{byte_of}
+use Rattle.nqs_store.specs.Hosts.{on, HostCall, Runs, EachPrefix, StopsShort}
 use Rattle.nqs_store.specs.Plan.{CommitsBy, checkpoint_calls}
 use Rattle.nqs_store.specs.Images.{IsTold}
 use Rattle.nqs_store.specs.Commits.{AreClear, IsKept, IsCutAt, Keeping}
 use Rattle.nqs_store.specs.Changing.{Turning, Changing, IsTurned, IsTurnCut, IsChangeCut}
-use Rattle.nqs_store.specs.Stores.{Tells, plain_of, history_of, fails_of, is_starved, active_of}
+use Rattle.nqs_store.specs.Stores.{Tells, disk_of, plain_of, history_of, fails_of, is_starved, is_stopped, active_of, journal_in}
+use Rattle.nqs_journal.specs.Open as journal
+use Rattle.nqs_rules.specs.Journals.{journal_on}
+use Rattle.nqs_store.proofs.EachDisk.{each_of, stands_on}
 use Rattle.nqs_store.specs.declared.store.Store.{Store}
+use Rattle.nqs_values.specs.Want.{want}
+use Rattle.nqs_store.specs.declared.fault.StoreFault.{StoreFault}
+use Rattle.nqs_store.specs.declared.fault.StoreFault.TheVariants as store
+use Rattle.nqs_store.specs.Calls.{state_after, IsLeft, MayStop, KeepsChange, Records, Commits, TurnsOver, Checkpoints}
+use Rattle.nqs_store.specs.Steps.{IsTextOf}
 use Rattle.nqs_store.proofs.Results.{ok_one, ok_three, err_one, either_way}
-use Rattle.nqs_store.proofs.HostRuns.{behind_stops, runs_none, moments_none, no_pending}
+use Rattle.nqs_store.proofs.HostRuns.{none_stops, behind_stops, runs_none, moments_none, no_pending}
 use Rattle.nqs_store.proofs.Committed.{quiet}
 use Rattle.nqs_store.proofs.TellsNow.{told_now}
-use Rattle.nqs_store.proofs.Composed.{here, there, here_by, here_keeping, here_kept, here_cut, there_by, there_keeping, there_kept, there_cut, turn_cut}
+use Rattle.nqs_store.proofs.Composed.{here, there, here_by, here_keeping, here_kept, here_cut, there_by, there_keeping, there_kept, there_cut, turn_cut, turn_by, turn_keeping, idle_by, idle_keeping}
 
 module _ {D : Type 0} {g : disk.Ghosts D} {E : Type 0} (r : Result (Unit {0}) E) (old now : Store D g) (puts : List (List ℕ)) (host : Host) (later : Plain) where
   -- none of the change's calls was to fail
@@ -53,10 +71,6 @@ module _ {D : Type 0} {g : disk.Ghosts D} {E : Type 0} (r : Result (Unit {0}) E)
         (λ c. here_keeping old now puts host later not_due (λ planned run is. inl is) c tells)
         (λ c. here_keeping old now puts host later not_due (λ planned run is. inr is) c tells) made broken
 
-    pub here_active : OnOk r (active_of now ≡ recorded (active_of old)) → OnOk r (active_of now ≡ recorded (ready (active_of old)))
-    here_active = ok_one r (active_of now ≡ recorded (active_of old)) (active_of now ≡ recorded (ready (active_of old)))
-        (λ is. is ∙ ap recorded (sym (here (active_of old) not_due)))
-
     pub here_fell : (before : Plain) (which : Which)
         → IsTrue (is_starved now which) ⊎ IsChangeCut (active_of old) (fails_of old) puts (history_of old) (history_of now) before later which
         → IsTrue (is_starved now which) ⊎ IsCutAt (active_of old) (fails_of old) puts (history_of old) (history_of now) before later which
@@ -72,10 +86,6 @@ module _ {D : Type 0} {g : disk.Ghosts D} {E : Type 0} (r : Result (Unit {0}) E)
 
     pub plain_mid : (h : Host) → plain_of mid h ≡ plain_of old h
     plain_mid h = ap (λ s. map_state (bytes_at (content (g.history (spool.disk_of s)))) h) same_spool
-
-    pub there_active : OnOk r (active_of now ≡ recorded (active_of mid)) → OnOk r (active_of now ≡ recorded (ready (active_of old)))
-    there_active = ok_one r (active_of now ≡ recorded (active_of mid)) (active_of now ≡ recorded (ready (active_of old)))
-        (λ is. is ∙ ap recorded (turned ∙ sym (there (active_of old) due)))
 
     pub there_made : OnOk r (Changing (λ planned run. run ≡ planned) mid now puts host later) → OnOk r (SpoolClear mid) → OnOk r (JournalClear mid)
         → OnOk r (IsKept (active_of old) (fails_of old) puts (history_of old) (history_of now))
@@ -154,3 +164,170 @@ module _ {D : Type 0} {g : disk.Ghosts D} (yes : IsTrue g.tells) (old : Store D 
         (λ w. no_pending (state (history_of old w)) (content (history_of old w)) (quiet yes old host tells w))
         (λ images leaves. (told_now old host tells yes images leaves).0)).told,
   )
+
+-- The same by the records that contracts cite.
+
+-- of a call of the active journal that failed, or of the other: the rest of the disks is as it was
+pub stops_at : {D : Type 0} {g : disk.Ghosts D} {T E : Type 0} (old now : Store D g) (failed : Which → E) (r : Result T E) (b : Bool)
+    → OnOk r (is_stopped now ≡ false)
+    → ((which : Which) → IsErrOf r (failed which) → IsTrue (is_stopped now) × Rose (g.faults (disk_of which old)) (g.faults (disk_of which now)))
+    → now.root ≡ old.root → journal_in (not b) now ≡ journal_in (not b) old
+    → g.faults (journal.disk_of (journal_in b old)) ≤ g.faults (journal.disk_of (journal_in b now))
+    → (IsTrue g.tells → (i : ℕ) → g.fails (journal.disk_of (journal_in b now)) i ≡ g.fails (journal.disk_of (journal_in b old)) i)
+    → g.faults (spool.disk_of old.spool) ≤ g.faults (spool.disk_of now.spool)
+    → (IsTrue g.tells → (i : ℕ) → g.fails (spool.disk_of now.spool) i ≡ g.fails (spool.disk_of old.spool) i)
+    → MayStop old now failed r
+stops_at {D} {g} old now failed r b running broken root rest later fuse spool_later spool_fuse = record {
+  running = running;
+  broken = broken;
+  later = each_of b (λ w. g.faults (disk_of w old) ≤ g.faults (disk_of w now)) (le_path _ _ (ap g.faults (sym root)))
+      (subst (λ d. g.faults (disk_of (journal_on b) old) ≤ g.faults d) (sym (stands_on b now))
+      (subst (λ d. g.faults d ≤ g.faults (journal.disk_of (journal_in b now))) (sym (stands_on b old)) later))
+      (le_path _ _ (ap g.faults (stands_on (not b) old ∙ ap journal.disk_of (sym rest) ∙ sym (stands_on (not b) now)))) spool_later;
+  fuse = λ told. each_of b (λ w. (i : ℕ) → fails_of now w i ≡ fails_of old w i) (λ i. ap (λ d. g.fails d i) root)
+      (λ i. ap (λ d. g.fails d i) (stands_on b now) ∙ fuse told i ∙ ap (λ d. g.fails d i) (sym (stands_on b old)))
+      (λ i. ap (λ d. g.fails d i) (stands_on (not b) now ∙ ap journal.disk_of rest ∙ sym (stands_on (not b) old))) (spool_fuse told);
+}
+  where
+    le_path : (m n : ℕ) → m ≡ n → m ≤ n
+    le_path m n is = omega (arith, is)
+
+-- a failed call of a journal was counted by its disk
+pub rose_at : {D : Type 0} {g : disk.Ghosts D} (old now : Store D g) (b : Bool) (which : Which) → journal_on b ≡ which
+    → Rose (g.faults (journal.disk_of (journal_in b old))) (g.faults (journal.disk_of (journal_in b now)))
+    → Rose (g.faults (disk_of which old)) (g.faults (disk_of which now))
+rose_at {D} {g} old now b which is rose = subst (λ w. Rose (g.faults (disk_of w old)) (g.faults (disk_of w now))) is
+    (subst (λ d. Rose (g.faults (disk_of (journal_on b) old)) (g.faults d)) (sym (stands_on b now))
+    (subst (λ d. Rose (g.faults d) (g.faults (journal.disk_of (journal_in b now)))) (sym (stands_on b old)) rose))
+
+-- a fault that was counted behind other calls
+pub rose_on : (before mid now : ℕ) → before ≤ mid → Rose mid now → Rose before now
+rose_on before mid now later rose = omega (arith, later, rose)
+
+-- what may stop a store, behind a call that stopped none
+pub stops_since : {D : Type 0} {g : disk.Ghosts D} {T E : Type 0} (old mid now : Store D g) (failed : Which → E) (r : Result T E)
+    → ((which : Which) → g.faults (disk_of which old) ≤ g.faults (disk_of which mid))
+    → (IsTrue g.tells → (which : Which) (i : ℕ) → fails_of mid which i ≡ fails_of old which i) → MayStop mid now failed r → MayStop old now failed r
+stops_since old mid now failed r later fuse m = record {
+  running = m.running;
+  broken = λ which is. (let b = m.broken which is in (b.0, rose_on _ _ _ (later which) b.1));
+  later = λ which. omega (arith, later which, m.later which);
+  fuse = λ told which i. m.fuse told which i ∙ fuse told which i;
+}
+
+module _ {D : Type 0} {g : disk.Ghosts D} {E : Type 0} (old now : Store D g) (change : Change Extent) (puts : List (List ℕ)) (host : Host) (failed : Which → E) where
+  -- no call was made
+  pub idle_commits : (e : E) → ((w : Which) → history_of now w ≡ history_of old w)
+      → ((which : Which) → IsErrOf {T = Unit {0}} (Err e) (failed which) → ⊥) → Commits {T = Unit {0}} old now change puts host failed (Err e)
+  idle_commits e same other = record {
+    made = λ told. tt;
+    broken_off = λ told. idle_by (active_of old) (history_of old) (history_of now) puts same;
+    cut = λ told tells which is. absurd (other which is);
+    any_moment = λ told tells. idle_keeping told old host tells (history_of now) puts (state_after old change puts host) same;
+  }
+
+  -- a call of a checkpoint failed
+  pub turn_commits : (e : E) (text snapshot : List ℕ) → is_due (active_of old).records ≡ true → IsTextOf text snapshot → snapshot_of snapshot ≡ Ok host
+      → TurnsOver {T = Unit {0}} old now failed (Err e) text → Commits {T = Unit {0}} old now change puts host failed (Err e)
+  turn_commits e text snapshot due is reads t = record {
+    made = λ told. tt;
+    broken_off = λ told. turn_by old now puts host (state_after old change puts host) snapshot due (t.broken_off told snapshot host is);
+    cut = λ told tells which at. turn_fell old now puts host (state_after old change puts host) snapshot due (t.broken_off told snapshot host is) which
+        (t.cut told snapshot host is reads tells which at);
+    any_moment = λ told tells. turn_keeping old now puts host (state_after old change puts host) snapshot due (t.broken_off told snapshot host is) reads tells;
+  }
+
+  module _ (r : Result (Unit {0}) E) where
+    -- a change without a checkpoint
+    pub here_commits : is_due (active_of old).records ≡ false → Records old now change puts host failed r → Commits old now change puts host failed r
+    here_commits not_due e =
+        let later = state_after old change puts host in
+        record {
+          made = λ told. here_made r old now puts host later not_due (e.made told) (e.spool told) (e.journal told);
+          broken_off = λ told. here_broken r old now puts host later not_due (e.broken_off told);
+          cut = λ told tells which is. here_fell r old now puts host later not_due (plain_of old host) which (e.cut told tells which is);
+          any_moment = λ told tells. here_moments r old now puts host later not_due (e.made told) (e.broken_off told) tells;
+        }
+
+    pub here_keeps : (after : Change Extent) → is_due (active_of old).records ≡ false → KeepsChange old now change after puts host (recorded (active_of old)) r
+        → KeepsChange old now change after puts host (recorded (ready (active_of old))) r
+    here_keeps after not_due = subst (λ a. KeepsChange old now change after puts host (recorded a) r) (sym (here (active_of old) not_due))
+
+    -- a checkpoint and then a change
+    module _ (mid : Store D g) (text snapshot : List ℕ) (due : is_due (active_of old).records ≡ true) (is : IsTextOf text snapshot)
+        (reads : snapshot_of snapshot ≡ Ok host) (t : TurnsOver {T = Unit {0}} old mid failed (Ok tt) text)
+        (fuse : IsTrue g.tells → (w : Which) (i : ℕ) → fails_of mid w i ≡ fails_of old w i) where
+      abbrev pub mid_later : Plain
+      mid_later = state_after mid change puts host
+
+      same : plain_of mid host ≡ plain_of old host
+      same = plain_turned old mid t.spool host
+
+      tells_mid : IsTrue g.tells → Tells old host → Tells mid host
+      tells_mid told tells = t.told told snapshot host is reads tells
+
+      pub there_commits : Records mid now change puts host failed r → Commits old now change puts host failed r
+      there_commits e = record {
+        made = λ told. there_made r old now puts host mid_later mid snapshot due t.active t.spool (fuse told) (t.made told snapshot host is) (t.past told)
+            (e.made told) (e.spool told) (e.journal told);
+        broken_off = λ told. there_broken r old now puts host mid_later mid snapshot due t.active t.spool (fuse told) (t.made told snapshot host is) (t.past told)
+            (e.broken_off told);
+        cut = λ told tells which at.
+            subst (λ p. IsTrue (is_starved now which) ⊎ IsCutAt (active_of old) (fails_of old) puts (history_of old) (history_of now) (plain_of old host)
+            (applied (filled change puts) p) which) same
+            (there_fell r old now puts host mid_later mid snapshot due t.active t.spool (fuse told) (t.made told snapshot host is) (t.past told) which
+            (e.cut told (tells_mid told tells) which at));
+        any_moment = λ told tells.
+            subst (λ p. Keeping (active_of old) puts (history_of old) (history_of now) (plain_of old host) (applied (filled change puts) p)) same
+            (there_moments r old now puts host mid_later mid snapshot due t.active t.spool (fuse told) (t.made told snapshot host is) (t.past told)
+            (e.made told) (e.broken_off told) reads tells (tells_mid told tells));
+      }
+
+      pub there_keeps : (after : Change Extent) → KeepsChange mid now change after puts host (recorded (active_of mid)) r
+          → KeepsChange old now change after puts host (recorded (ready (active_of old))) r
+      there_keeps after k = record {
+        stands = k.stands;
+        shape = k.shape;
+        filled = λ told tells. k.filled told (tells_mid told tells);
+        kept = λ told tells. subst (λ p. OnOk r (plain_of now host ≡ p)) same (k.kept told (tells_mid told tells));
+        told = λ told tells. k.told told (tells_mid told tells);
+        active = ok_one r (active_of now ≡ recorded (active_of mid)) (active_of now ≡ recorded (ready (active_of old)))
+            (λ at. at ∙ ap recorded (t.active ∙ sym (there (active_of old) due))) k.active;
+        plain = λ told tells.
+            subst (λ p. OnOk r (plain_of now (applied after host) ≡ applied (filled change puts) p)) same (k.plain told (tells_mid told tells));
+      }
+
+module _ {D : Type 0} {g : disk.Ghosts D} {E : Type 0} (old now : Store D g) (failed : Which → E) (r : Result (Unit {0}) E) (snapshot : List ℕ) (host : Host) where
+  -- a checkpoint of what a text says
+  pub checkpoint_by : (text : List ℕ) → IsTextOf text snapshot → snapshot_of snapshot ≡ Ok host → TurnsOver old now failed r text
+      → Checkpoints old now failed r snapshot host
+  checkpoint_by text is reads t = record {
+    active = t.active;
+    told = λ told tells. turn_told r old now host snapshot t.spool (t.told told snapshot host is reads tells);
+    made = λ told. turn_made r old now host snapshot (t.made told snapshot host is);
+    broken_off = λ told. turn_broken r old now host snapshot (t.broken_off told snapshot host is);
+    any_moment = λ told tells. turn_moments r old now host snapshot (t.made told snapshot host is) (t.broken_off told snapshot host is) reads tells;
+  }
+
+-- and none: no call was made
+pub checkpoint_idle : {D : Type 0} {g : disk.Ghosts D} {E : Type 0} (old : Store D g) (failed : Which → E) (e : E) (snapshot : List ℕ) (host : Host)
+    → Checkpoints {T = Unit {0}} old old failed (Err e) snapshot host
+checkpoint_idle old failed e snapshot host = record {
+  active = tt;
+  told = λ told tells. tt;
+  made = λ told. tt;
+  broken_off = λ told. (
+    [],
+    none_stops (on (other_of (active_of old)) (front_calls (snapshot_front snapshot))) (on Root (begin_calls (byte_of (not old.on_second) ∷ []))) tt,
+    runs_none (history_of old) (history_of old) (λ w. refl),
+  );
+  any_moment = λ told tells. turn_idle told old host tells;
+}
+
+-- want of memory is no fault of a disk
+pub only_memory : (fault : StoreFault) → fault ≡ store.Memory want → (which : Which) → IsErrOf {T = Unit {0}} (Err fault) (store.Disk which) → ⊥
+only_memory fault is which failed = let no : ⊥ = cc in no
+
+-- nothing happened
+pub left_alone : {D : Type 0} {g : disk.Ghosts D} (old : Store D g) → IsLeft old old
+left_alone old = record { same = λ which. refl; stopped = refl; active = refl; tells = λ host tells. tells }

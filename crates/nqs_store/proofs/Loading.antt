@@ -1,7 +1,6 @@
 -- Faults of a reading.
 use Rattle.std.proofs.Common.{◌≡◌, inl, inr, ℕ, Bool, List, length, Some, refl, subst}
 use Rattle.nqs_types.specs.declared.world.Which.{Which}
-use Rattle.nqs_types.specs.declared.world.Which.TheVariants.{Spool}
 use Rattle.nqs_store.specs.Told.{Host, told_by}
 use Rattle.nqs_spool.specs.Extents.{IsBadExtent}
 use Rattle.nqs_store.specs.Live.{live}

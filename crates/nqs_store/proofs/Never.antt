@@ -2,7 +2,6 @@
 use Rattle.std.proofs.Common.{◌≡◌, inl, inr, ℕ, Bool, true, false, List, [], ◌∷◌, ◌++◌, length, Option, Some, None, Ok, Err, refl, sym, ap, subst, ◌∙◌, arith}
 use Rattle.std.proofs.lemmas.Option.{same_Some, none-some}
 use Rattle.std.specs.List.{AllByRecursion}
-use Rattle.nqs_state.specs.State.{Plain}
 use Rattle.nqs_types.specs.declared.world.Which.{Which}
 use Rattle.nqs_types.specs.declared.world.Which.TheVariants.{Root, Spool}
 use Rattle.nqs_values.specs.declared.extent.Extent.{Extent}
@@ -18,7 +17,7 @@ use Rattle.nqs_spool.specs.Extents.{IsApart, IsWithin, AreSound, IsBadExtent}
 use Rattle.nqs_spool.proofs.Lists.{all_cut, apart_cut}
 use Rattle.nqs_store.specs.Told.{Host, record_taken, told, told_from, told_by, told_behind, IsUntold, IsUntoldBehind, IsUntoldBy}
 use Rattle.nqs_store.specs.Live.{live}
-use Rattle.nqs_store.specs.Images.{IsTold, IsToldHost}
+use Rattle.nqs_store.specs.Images.{IsToldHost}
 use Rattle.nqs_store.specs.Faults.{JournalIsAt, IsHostFault, IsExtentFault, IsReadFault, IsLoadFault}
 use Rattle.nqs_store.specs.declared.fault.LoadFault.{LoadFault}
 use Rattle.nqs_store.specs.declared.fault.LoadFault.TheVariants as load

@@ -1,30 +1,21 @@
 -- What a host's disks tell, from what the root's byte, a journal and the spool do.
-use Rattle.std.proofs.Common.{◌≡◌, ◌⊎◌, inl, inr, ℕ, ◌+◌, ◌<◌, ◌≤◌, Bool, true, false, not, IsTrue, List, length, Some, refl, sym, ap, subst, ◌∙◌, arith}
-use Rattle.nqs_state.specs.State.{Plain}
+use Rattle.std.proofs.Common.{◌≡◌, inr, ℕ, Bool, not, IsTrue, List, sym, ap, subst, ◌∙◌, arith}
 use Rattle.nqs_types.specs.declared.world.Which.{Which}
 use Rattle.nqs_types.specs.declared.world.Which.TheVariants.{Root, Spool}
-use Rattle.nqs_outside.specs.History.{History, moment, content, IsQuiet}
+use Rattle.nqs_outside.specs.History.{History, content, IsQuiet}
 use Rattle.nqs_outside.specs.declared.disk.Disk as disk
-use Rattle.nqs_journal.specs.Text.{StandsAfter}
-use Rattle.nqs_journal.specs.Either.{StandsBy, front_of}
-use Rattle.nqs_journal.specs.Open as journal
-use Rattle.nqs_rules.specs.Journals.{is_second, journal_on, active}
-use Rattle.nqs_spool.specs.Extents.{AreSound}
-use Rattle.nqs_spool.specs.Spooled as spool
+use Rattle.nqs_journal.specs.Either.{StandsBy}
+use Rattle.nqs_rules.specs.Journals.{is_second, journal_on}
 use Rattle.nqs_store.specs.Told.{Host}
-use Rattle.nqs_store.specs.Live.{live}
 use Rattle.nqs_store.specs.Active.{IsActive}
 use Rattle.nqs_store.specs.Disks.{contents}
-use Rattle.nqs_store.specs.Images.{IsTold, IsToldHost}
+use Rattle.nqs_store.specs.Images.{IsToldHost}
 use Rattle.nqs_store.specs.Opens.{AreRead, AreOpened}
 use Rattle.nqs_store.specs.Faults.{IsBytesFault, IsLoadFault}
 use Rattle.nqs_store.specs.declared.fault.LoadFault.{LoadFault}
-use Rattle.nqs_store.specs.declared.fault.LoadFault.TheVariants as load
 use Rattle.nqs_store.specs.Reads.{OnlyReads, FailedToRead, OnlyReadsOne, OneFailedToRead}
 use Rattle.nqs_store.specs.Stores.{Tells, history_of, active_of, journal_in}
 use Rattle.nqs_store.specs.declared.store.Store.{Store}
-use Rattle.nqs_store.proofs.EachDisk.{each_of, history_on}
-use Rattle.nqs_store.proofs.Never.{one_told, load_not}
 use Rattle.nqs_store.proofs.TellsNow.{active_stands, active_image, told_host}
 
 -- bytes whose root names the journal tell what that journal tells

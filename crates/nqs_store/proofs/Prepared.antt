@@ -1,9 +1,12 @@
 -- A store for whose next change memory was taken is on the same disks, and tells the same.
-use Rattle.std.proofs.Common.{◌≡◌, ◌⊎◌, inl, inr, ◌∙◌, ℕ, Bool, not, IsTrue, List, Result, OnOk, OnErr, refl, sym, ap, subst}
+use Rattle.std.proofs.Common.{rules, ◌≡◌, ◌⊎◌, inl, inr, ◌∙◌, ◌≤◌, ℕ, not, IsTrue, List, OnOk, OnErr, sym, ap, subst}
+use Rattle.std.specs.declared.result.Result.{Result}
+use Rattle.nqs_types.specs.declared.change.Change.{Change}
+use Rattle.nqs_rules.specs.Applied.{applied}
+use Rattle.nqs_rules.specs.Filled.{filled}
 use Rattle.nqs_state.specs.State.{Plain}
 use Rattle.nqs_values.specs.declared.extent.Extent.{Extent}
 use Rattle.nqs_types.specs.declared.world.Which.{Which}
-use Rattle.nqs_types.specs.declared.world.Which.TheVariants.{Root}
 use Rattle.nqs_outside.specs.History.{History, IsQuiet, content}
 use Rattle.nqs_outside.specs.declared.disk.Disk as disk
 use Rattle.nqs_journal.specs.Open as journal
@@ -11,6 +14,7 @@ use Rattle.nqs_journal.specs.Either.{front_of}
 use Rattle.nqs_spool.specs.Spooled as spool
 use Rattle.nqs_rules.specs.Journals.{is_second, journal_on}
 use Rattle.nqs_rules.specs.Plain.{map_state}
+use Rattle.nqs_store.specs.Active.{Active}
 use Rattle.nqs_store.specs.Told.{Host}
 use Rattle.nqs_store.specs.Live.{live, bytes_at}
 use Rattle.nqs_store.specs.Stores.{Tells, disk_of, history_of, fails_of, is_starved, plain_of, active_of, journal_in, pick}
@@ -18,7 +22,9 @@ use Rattle.nqs_store.specs.declared.store.Store.{Store}
 use Rattle.nqs_store.specs.Hosts.{StopsShort}
 use Rattle.nqs_store.specs.Plan.{CommitsBy}
 use Rattle.nqs_store.specs.Commits.{IsKept, IsCutAt, Keeping}
+use Rattle.nqs_store.specs.Calls.{MayStop, IsLeft, KeepsChange, Commits}
 use Rattle.nqs_store.proofs.EachDisk.{each_disk}
+use Rattle.nqs_store.proofs.Kept.{stops_since}
 
 module _ {D : Type 0} {g : disk.Ghosts D} (old now : Store D g) (root : now.root ≡ old.root) (first : now.first ≡ old.first) (second : now.second ≡ old.second)
     (on : now.on_second ≡ old.on_second) (same : spool.disk_of now.spool ≡ spool.disk_of old.spool) where
@@ -83,3 +89,38 @@ module _ {D : Type 0} {g : disk.Ghosts D} (old now : Store D g) (root : now.root
         (subst (λ l. IsCutAt (active_of old) l puts (history_of old) (history_of new) (plain_of now host) (f (plain_of now host)) which) fails_path
         (subst (λ (h : Which → History). IsCutAt (active_of old) (fails_of now) puts h (history_of new) (plain_of now host) (f (plain_of now host)) which) history_path
         (subst (λ a. IsCutAt a (fails_of now) puts (history_of now) (history_of new) (plain_of now host) (f (plain_of now host)) which) active_path fell))))
+
+  -- nothing happened
+  pub is_left : now.stopped ≡ old.stopped → ((host : Host) → Tells old host → Tells now host) → IsLeft old now
+  is_left stopped tells = record { same = disks_same; stopped = stopped; active = active_path; tells = tells }
+
+  -- what the next call leaves
+  module _ {E : Type 0} (failed : Which → E) (r : Result (Unit {0}) E) (new : Store D g) where
+    pub stops_from : MayStop now new failed r → MayStop old new failed r
+    stops_from = stops_since old now new failed r (λ which. subst (λ d. g.faults d ≤ g.faults (disk_of which now)) (disks_same which) (stays which))
+        (λ told which i. ap (λ d. g.fails d i) (disks_same which))
+      where
+        stays : (which : Which) → g.faults (disk_of which now) ≤ g.faults (disk_of which now)
+        stays which = search rules
+
+    module _ (change : Change Extent) (puts : List (List ℕ)) (host : Host) (tells_now : Tells old host → Tells now host) where
+      pub commits_from : Commits now new change puts host failed r → Commits old new change puts host failed r
+      commits_from m = record {
+        made = λ told. made_from r new puts (m.made told);
+        broken_off = λ told. broken_from r new puts (m.broken_off told);
+        cut = λ told tells which is. cut_from r new puts host (applied (filled change puts)) which (m.cut told (tells_now tells) which is);
+        any_moment = λ told tells. moments_from r new puts host (applied (filled change puts)) (m.any_moment told (tells_now tells));
+      }
+
+      pub keeps_from : (after : Change Extent) (next : Active → Active) → KeepsChange now new change after puts host (next (active_of now)) r
+          → KeepsChange old new change after puts host (next (active_of old)) r
+      keeps_from after next k = record {
+        stands = k.stands;
+        shape = k.shape;
+        filled = λ told tells. k.filled told (tells_now tells);
+        kept = λ told tells. subst (λ p. OnOk r (plain_of new host ≡ p)) (plain_path host) (k.kept told (tells_now tells));
+        told = λ told tells. k.told told (tells_now tells);
+        active = subst (λ a. OnOk r (active_of new ≡ next a)) active_path k.active;
+        plain = λ told tells. subst (λ p. OnOk r (plain_of new (applied after host) ≡ applied (filled change puts) p)) (plain_path host)
+            (k.plain told (tells_now tells));
+      }

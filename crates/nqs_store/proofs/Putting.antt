@@ -2,7 +2,9 @@
 use Rattle.std.proofs.Common.{◌≡◌, inl, inr, ℕ, suc, List, [], ◌∷◌, ◌++◌, map, length, IsTrue, refl, sym, ap, subst, ◌∙◌, arith, append_assoc}
 use Rattle.std.proofs.lemmas.List.{append-nil, length-map}
 use Rattle.nqs_values.specs.declared.extent.Extent.{Extent}
-use Rattle.nqs_outside.specs.History.{Call, History, content, extended, moment, EachSince, StopsShort}
+use Rattle.std.proofs.Math.Seq.{take-length}
+use Rattle.nqs_outside.specs.History.{Call, State, History, content, state, state_at, after, fresh, extended, moment, IsImage, IsQuiet, EachSince, StopsShort}
+use Rattle.nqs_store.proofs.TellsNow.{only_image}
 use Rattle.nqs_outside.specs.declared.disk.Disk as disk
 use Rattle.nqs_outside.proofs.Histories.{goes_on}
 use Rattle.nqs_spool.specs.Extents.{Has, IsWith, Holds}
@@ -15,6 +17,14 @@ use Rattle.nqs_store.specs.Puts.{place_of}
 use Rattle.nqs_store.specs.Putting.{ArePartlyPut, ArePut}
 use Rattle.nqs_store.proofs.Runs.{none_more, each_since_both, stops_before, stops_behind}
 use Rattle.nqs_store.proofs.Extents.{with_first}
+
+-- where nothing is pending and no call is made, each image holds what was held
+pub held_idle : (h : History) (x : Extent) (script : List ℕ) → IsQuiet h → Holds (content h) x script
+    → EachSince (moment h) h (λ image. Holds image x script)
+held_idle h x script quiet held = λ t image from to leaves.
+    let now : t ≡ moment h = omega (arith, from, to) in
+    let at : state_at h t ≡ state h = ap (state_at h) now ∙ ap (after (fresh h.start)) (take-length h.calls) in
+    subst (λ b. Holds b x script) (only_image h image quiet (subst (λ (s : State). IsImage s image) at leaves)) held
 
 zeros : List (List ℕ) → List ℕ
 zeros puts = map (λ _. 0) puts

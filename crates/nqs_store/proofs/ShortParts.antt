@@ -1,5 +1,5 @@
 -- A host's scripts and outputs are short, told of its extents in one list or of each kind.
-use Rattle.std.proofs.Common.{◌≡◌, ◌∙◌, Bool, true, false, ◌&&◌, nat_le, refl, ◌++◌, map, sym}
+use Rattle.std.proofs.Common.{◌≡◌, ◌∙◌, Bool, true, false, ◌&&◌, refl, ◌++◌, map, sym}
 use Rattle.std.specs.List.{list_all}
 use Rattle.std.proofs.lemmas.List.Folds.{list_all-append, list_all-map}
 use Rattle.nqs_snapshot.specs.Sound.{HasShortParts}

@@ -1,5 +1,5 @@
 -- What a store tells is what its disks hold.
-use Rattle.std.proofs.Common.{◌≡◌, ◌∙◌, IsTrue, Bool, List, ℕ, length, refl, sym, ap, subst}
+use Rattle.std.proofs.Common.{◌≡◌, ◌∙◌, IsTrue, List, ℕ, length, sym, ap, subst}
 use Rattle.nqs_types.specs.declared.world.Which.{Which}
 use Rattle.nqs_types.specs.declared.world.Which.TheVariants.{Root, Spool}
 use Rattle.nqs_outside.specs.History.{State, History, state, content, IsImage, IsQuiet}
@@ -14,8 +14,8 @@ use Rattle.nqs_store.specs.Told.{Host}
 use Rattle.nqs_store.specs.Live.{bytes_at}
 use Rattle.nqs_store.specs.Active.{Active, IsActive, journal_of}
 use Rattle.nqs_store.specs.Stores.{history_of, plain_of, active_of, journal_in, Tells}
-use Rattle.nqs_store.specs.Images.{IsTold, IsToldHost}
-use Rattle.nqs_store.specs.Commits.{EachImage, LeavesHost}
+use Rattle.nqs_store.specs.Images.{IsToldHost}
+use Rattle.nqs_store.specs.Commits.{LeavesHost}
 use Rattle.nqs_store.specs.declared.store.Store.{Store}
 use Rattle.nqs_store.proofs.EachDisk.{stands_on}
 

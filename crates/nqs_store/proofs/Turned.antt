@@ -1,5 +1,5 @@
 -- How a checkpoint ends, from what its calls did.
-use Rattle.std.proofs.Common.{◌≡◌, ◌≢◌, ◌⊎◌, inl, inr, ℕ, ◌+◌, ◌<◌, ◌≤◌, ◌^◌, Bool, true, false, not, IsTrue, List, [], ◌∷◌, ◌++◌, length, Ok, refl, sym, ap, subst, ◌∙◌}
+use Rattle.std.proofs.Common.{◌≡◌, ◌≢◌, ◌⊎◌, inl, inr, ℕ, Bool, true, false, not, IsTrue, List, [], ◌∷◌, ◌++◌, Ok, refl, sym, ap, subst, ◌∙◌}
 use Rattle.std.proofs.Common.{arith}
 use Rattle.nqs_state.specs.State.{Plain}
 use Rattle.nqs_types.specs.declared.world.Which.{Which}
@@ -10,25 +10,22 @@ use Rattle.nqs_journal.specs.Open as journal
 use Rattle.nqs_journal.specs.Opened.{IsOpen}
 use Rattle.nqs_journal.specs.Text.{snapshot_front}
 use Rattle.nqs_journal.specs.Plan.{begin_calls, front_calls}
-use Rattle.nqs_rules.specs.Journals.{is_second, journal_on, byte_of, behind_byte, turned}
-use Rattle.nqs_spool.specs.declared.spool.Spool.{Spool as SpoolOf}
+use Rattle.nqs_rules.specs.Journals.{journal_on, byte_of, behind_byte}
 use Rattle.nqs_spool.specs.Spooled as spool
 use Rattle.nqs_snapshot.specs.Reading.{snapshot_of}
 use Rattle.nqs_store.specs.Told.{Host, told_behind}
 use Rattle.nqs_store.specs.Live.{live}
-use Rattle.nqs_store.specs.Active.{Active, other_of, turned_to}
-use Rattle.nqs_store.specs.Hosts.{HostCall, on, Runs, StopsShort as HostStops}
-use Rattle.nqs_store.specs.Plan.{checkpoint_calls}
+use Rattle.nqs_store.specs.Hosts.{on, Runs, StopsShort as HostStops}
 use Rattle.nqs_store.specs.Images.{IsTold}
 use Rattle.nqs_store.specs.Moments.{Moments}
-use Rattle.nqs_store.specs.Commits.{AreClear, LeavesHost}
-use Rattle.nqs_store.specs.Changing.{Turning, IsTurned, CutOther, CutRoot, IsTurnCut}
+use Rattle.nqs_store.specs.Commits.{AreClear}
+use Rattle.nqs_store.specs.Changing.{Turning, CutOther, CutRoot, IsTurnCut}
 use Rattle.nqs_store.specs.Steps.{IsTextOf, HasBegun, HasBegunShort}
-use Rattle.nqs_store.specs.Stores.{Tells, history_of, plain_of, active_of, fails_of, is_starved, journal_in, pick, disk_of}
+use Rattle.nqs_store.specs.Stores.{Tells, history_of, plain_of, active_of, fails_of, is_starved, journal_in, pick}
 use Rattle.nqs_store.specs.declared.store.Store.{Store}
 use Rattle.nqs_store.proofs.Runs.{cut_short}
 use Rattle.nqs_store.proofs.HostRuns.{runs_on, runs_both, moments_both, on_stops, last_stops, behind_stops}
-use Rattle.nqs_store.proofs.EachDisk.{each_of, with_disk, at_disk, but_disk, root_apart, spool_apart, journals_apart, root_is_no_journal, stands_on, history_on}
+use Rattle.nqs_store.proofs.EachDisk.{each_of, with_disk, at_disk, but_disk, root_apart, spool_apart, journals_apart, stands_on, history_on}
 use Rattle.nqs_store.proofs.TellsNow.{active_quiet}
 use Rattle.nqs_store.proofs.Turning.{root_quiet, root_names, root_pending, quiet_told, either_told, snapshot_stands, root_moments, other_moments}
 
@@ -212,3 +209,9 @@ module _ {D : Type 0} {g : disk.Ghosts D} (old now : Store D g) (before : Plain)
   root_at which is cut =
       subst (λ w. IsTrue (is_starved now w) ⊎ IsTurnCut (active_of old) (fails_of old) (history_of old) (history_of now) before w) is
       (elim cut [ inl starves ↦ inl starves | inr fell ↦ inr (inr (refl, fell)) ])
+
+-- none of the other journal's calls was to fail
+pub turned_clear : {D : Type 0} {g : disk.Ghosts D} (old : Store D g)
+    → AreClear (g.fails (journal.disk_of (journal_in (not old.on_second) old))) (moment (journal.history_of (journal_in (not old.on_second) old))) 2
+    → AreClear (fails_of old (journal_on (not old.on_second))) (moment (history_of old (journal_on (not old.on_second)))) 2
+turned_clear {D} {g} old clear = subst (λ d. AreClear (g.fails d) (moment (g.history d)) 2) (sym (stands_on (not old.on_second) old)) clear

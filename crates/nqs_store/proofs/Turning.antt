@@ -1,35 +1,30 @@
 -- What images tell while a checkpoint is made.
-use Rattle.std.proofs.Common.{◌≡◌, ◌≢◌, ◌⊎◌, inl, inr, ℕ, ◌+◌, ◌<◌, ◌≤◌, ◌^◌, Bool, true, false, not, IsTrue, if◌then◌else◌, List, [], ◌∷◌, ◌++◌, length, Some, Ok, refl, sym, ap}
+use Rattle.std.proofs.Common.{◌≡◌, ◌≢◌, ◌⊎◌, inl, inr, ℕ, ◌<◌, ◌≤◌, ◌^◌, Bool, true, false, not, IsTrue, if◌then◌else◌, List, [], ◌∷◌, length, Ok, refl, sym, ap}
 use Rattle.std.proofs.Common.{subst, ◌∙◌, arith}
-use Rattle.nqs_state.specs.State.{Plain}
 use Rattle.nqs_types.specs.declared.world.Which.{Which}
 use Rattle.nqs_types.specs.declared.world.Which.TheVariants.{Root, Spool}
-use Rattle.nqs_outside.specs.History.{Call, write, sync, State, History, fresh, content, state, moment, after, state_at, written, extended, IsImage, IsQuiet, IsExact, StopsShort}
+use Rattle.nqs_outside.specs.History.{Call, sync, State, History, fresh, content, state, after, written, extended, IsImage, IsQuiet, StopsShort}
 use Rattle.nqs_outside.specs.declared.disk.Disk as disk
 use Rattle.nqs_outside.proofs.Histories.{state-extended}
 use Rattle.nqs_spool.specs.Extents.{AreSound}
-use Rattle.nqs_journal.specs.Open as journal
 use Rattle.nqs_journal.specs.Opened.{IsOpen}
 use Rattle.nqs_journal.specs.Text.{snapshot_front}
-use Rattle.nqs_journal.specs.Plan.{begin_calls, front_calls}
+use Rattle.nqs_journal.specs.Plan.{begin_calls}
 use Rattle.nqs_journal.specs.Either.{StandsBy}
 use Rattle.nqs_rules.specs.Plain.{map_state}
-use Rattle.nqs_rules.specs.Journals.{is_second, journal_on, byte_of, behind_byte, turned}
+use Rattle.nqs_rules.specs.Journals.{is_second, journal_on, byte_of, behind_byte}
 use Rattle.nqs_snapshot.specs.Reading.{snapshot_of}
 use Rattle.nqs_store.specs.Told.{Host, told_behind}
 use Rattle.nqs_store.specs.Live.{live, bytes_at}
-use Rattle.nqs_store.specs.Active.{Active, IsActive, journal_of, other_of, turned_to, named_in}
-use Rattle.nqs_store.specs.Commits.{EachImage, LeavesHost, AreClear, FailsFirst}
-use Rattle.nqs_store.specs.Changing.{CutOther, CutRoot}
+use Rattle.nqs_store.specs.Active.{Active, IsActive, turned_to, named_in}
 use Rattle.nqs_store.specs.Hosts.{on}
 use Rattle.nqs_store.specs.Images.{IsTold}
 use Rattle.nqs_store.specs.Moments.{Moments}
-use Rattle.nqs_store.specs.Stores.{history_of, plain_of, active_of, journal_in, pick, Tells}
+use Rattle.nqs_store.specs.Stores.{history_of, plain_of, active_of, Tells}
 use Rattle.nqs_store.specs.declared.store.Store.{Store}
-use Rattle.nqs_store.proofs.Runs.{cut_short}
 use Rattle.nqs_store.proofs.HostRuns.{moments_on, no_pending}
-use Rattle.nqs_store.proofs.EachDisk.{each_of, with_disk, at_disk, but_disk, rest_of, root_apart, spool_apart, journal_apart, journals_apart, root_is_no_journal}
-use Rattle.nqs_store.proofs.TellsNow.{only_image, told_host, active_image, active_quiet}
+use Rattle.nqs_store.proofs.EachDisk.{with_disk, at_disk, but_disk, rest_of, root_apart, spool_apart, journals_apart, root_is_no_journal}
+use Rattle.nqs_store.proofs.TellsNow.{only_image, told_host, active_image}
 use Rattle.nqs_store.proofs.Committed.{named_image, stands_image, quiet}
 
 named_or : (r b : Bool) → (r ≡ b) ⊎ (r ≡ not b)

@@ -1,5 +1,5 @@
 -- What the two parts of a commit leave: a checkpoint, and the calls of the change.
-use Rattle.std.specs.Prelude.{◌≡◌, ◌⊎◌, ℕ, ◌+◌, ◌<◌, ◌≤◌, Bool, true, false, IsTrue, not, List, [], ◌∷◌, length, Ok}
+use Rattle.std.specs.Prelude.{◌≡◌, ◌⊎◌, ℕ, ◌<◌, ◌≤◌, Bool, List, [], ◌∷◌, length, Ok}
 use Rattle.nqs_state.specs.State.{Plain}
 use Rattle.nqs_types.specs.declared.world.Which.{Which}
 use Rattle.nqs_types.specs.declared.world.Which.TheVariants.{Root, Spool}
@@ -8,7 +8,7 @@ use Rattle.nqs_outside.specs.declared.disk.Disk as disk
 use Rattle.nqs_rules.specs.Journals.{turned}
 use Rattle.nqs_rules.specs.World.{spool_calls}
 use Rattle.nqs_snapshot.specs.Reading.{snapshot_of}
-use Rattle.nqs_store.specs.Active.{Active, IsActive, journal_of, other_of, turned_to, recorded, named_in}
+use Rattle.nqs_store.specs.Active.{Active, IsActive, journal_of, other_of, named_in}
 use Rattle.nqs_store.specs.Commits.{AreClear, FailsFirst, EachImage, HasOneMore, LeavesHost, IsAtHostGate}
 use Rattle.nqs_store.specs.Hosts.{HostCall, Runs}
 use Rattle.nqs_store.specs.Images.{IsTold, TellsOneOf}

@@ -9,7 +9,7 @@ use Rattle.nqs_journal.specs.Either.{StandsBy}
 use Rattle.nqs_journal.specs.Plan.{begin_calls}
 use Rattle.nqs_rules.specs.Journals.{is_due, turned, byte_of}
 use Rattle.nqs_rules.specs.World.{spool_calls}
-use Rattle.nqs_store.specs.Active.{Active, IsActive, journal_of, other_of, turned_to, ready, recorded, named_in}
+use Rattle.nqs_store.specs.Active.{Active, IsActive, journal_of, other_of, ready, recorded, named_in}
 use Rattle.nqs_store.specs.Hosts.{HostCall, StopsShort, Runs, EachPrefix, part}
 use Rattle.nqs_store.specs.Images.{IsTold, TellsOneOf}
 use Rattle.nqs_store.specs.Plan.{CommitsBy, due_calls, commit_calls}

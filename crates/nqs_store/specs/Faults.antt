@@ -4,7 +4,7 @@ use Rattle.nqs_types.specs.declared.world.Which.TheVariants.{Root, First, Second
 use Rattle.nqs_values.specs.Want.{want}
 use Rattle.nqs_values.specs.declared.extent.Extent.{Extent}
 use Rattle.nqs_journal.specs.Either.{StandsBy}
-use Rattle.nqs_rules.specs.Journals.{active, journal_on, is_second}
+use Rattle.nqs_rules.specs.Journals.{active}
 use Rattle.nqs_types.specs.declared.world.Which.{Which}
 use Rattle.nqs_journal.specs.Faults as faults
 use Rattle.nqs_journal.specs.declared.fault.JournalFault.{JournalFault}

@@ -20,3 +20,4 @@ pub mod Commits
 pub mod Moments
 pub mod Steps
 pub mod Changing
+pub mod Calls

@@ -1,5 +1,24 @@
 -- What opening a host's disks finds.
-use Rattle.std.specs.Prelude.{◌≡◌, ℕ, Bool, List, length, Some}
+use Rattle.std.specs.Prelude.{◌≡◌, ◌⊎◌, ℕ, ◌≤◌, ◌^◌, Bool, false, not, IsTrue, List, length, Some, IfOk, IfErr, IsErrOf, MatchResult}
+use Rattle.std.specs.declared.result.Result.{Result}
+use Rattle.nqs_state.specs.State.{Plain, content}
+use Rattle.nqs_state.specs.declared.state.HostState.{HostState}
+use Rattle.nqs_types.specs.declared.world.Which.{Which}
+use Rattle.nqs_types.specs.declared.world.Which.TheVariants.{Spool as SpoolDisk}
+use Rattle.nqs_values.specs.Want.{want}
+use Rattle.nqs_outside.specs.History.{content as bytes_now}
+use Rattle.nqs_rules.specs.Journals.{journal_on}
+use Rattle.nqs_store.specs.Active.{IsActive}
+use Rattle.nqs_store.specs.Disks.{disk_at, histories_of, contents}
+use Rattle.nqs_store.specs.Faults.{IsBytesFault, IsLoadFault}
+use Rattle.nqs_store.specs.Images.{IsTold, IsToldHost}
+use Rattle.nqs_store.specs.Reads.{OnlyReads, FailedToRead, OnlyReadsOne, OneFailedToRead}
+use Rattle.nqs_store.specs.Sound.{IsSoundHost}
+use Rattle.nqs_store.specs.Stores as store
+use Rattle.nqs_store.specs.declared.disks.Disks.{Disks}
+use Rattle.nqs_store.specs.declared.fault.LoadFault.{LoadFault}
+use Rattle.nqs_store.specs.declared.fault.LoadFault.TheVariants as load
+use Rattle.nqs_store.specs.declared.store.Store.{Store}
 use Rattle.nqs_outside.specs.declared.disk.Disk as disk
 use Rattle.nqs_journal.specs.Either.{front_of, IsSnapshot, StandsBy}
 use Rattle.nqs_journal.specs.Open as journals
@@ -30,3 +49,87 @@ module _ {D : Type 0} {g : disk.Ghosts D} where
     pub many : length payloads ≡ journals.count_of j
     pub records : told_by has snapshot payloads ≡ Some host
     pub spool : spool.Tells s (live host)
+
+module _ {D : Type 0} {g : disk.Ghosts D} where
+  -- The disks of a host are opened whose root names the journal on `second`, or the other; or they are handed back.
+  pub record OpensOn (second : Bool) (on_root on_active on_resting on_spool : D) (result : Result (Store D g × HostState) (LoadFault × Disks D)) : Type 0 where
+    -- the journal and the spool tell the host
+    pub opened : IsTrue g.tells → IfOk result (λ r. AreOpened (store.journal_in second r.0) r.0.spool (content r.1))
+    -- the root names the journal
+    pub named : IfOk result (λ r. r.0.on_second ≡ second)
+    -- the store isn't stopped
+    pub running : IfOk result (λ r. r.0.stopped ≡ false)
+    -- the host is sound
+    pub sound : IfOk result (λ r. IsSoundHost (content r.1))
+    -- its live extents end within 2^40 bytes, and no two meet
+    pub extents : IfOk result (λ r. (size : ℕ) × (size ≤ 2 ^ 40) × AreSound size (live (content r.1)))
+    -- a refusal says what is at fault
+    pub fault : IsTrue g.tells → IfErr result (λ e. (e.0 ≡ load.Memory want)
+        ⊎ IsBytesFault (journal_on second) (bytes_now (g.history on_active)) (bytes_now (g.history on_spool)) e.0)
+    -- a failed read was of the journal or of the spool
+    pub failed : IfErr result (λ e. (which : Which) → e.0 ≡ load.Disk which
+        → ((which ≡ journal_on second) × OneFailedToRead g.tells g.history g.fails g.faults on_active (disk_at (journal_on second) e.1))
+        ⊎ ((which ≡ SpoolDisk) × OneFailedToRead g.tells g.history g.fails g.faults on_spool e.1.spool))
+    -- the root is left alone
+    pub root : MatchResult result (λ r. r.0.root ≡ on_root) (λ e. e.1.root ≡ on_root)
+    -- the journal is only read
+    pub active : MatchResult result
+        (λ r. OnlyReadsOne g.tells g.history g.fails g.starved g.faults on_active (journals.disk_of (store.journal_in second r.0)))
+        (λ e. OnlyReadsOne g.tells g.history g.fails g.starved g.faults on_active (disk_at (journal_on second) e.1))
+    -- the other is left alone
+    pub resting : MatchResult result (λ r. journals.disk_of (store.journal_in (not second) r.0) ≡ on_resting)
+        (λ e. disk_at (journal_on (not second)) e.1 ≡ on_resting)
+    -- the spool is only read
+    pub spool : MatchResult result (λ r. OnlyReadsOne g.tells g.history g.fails g.starved g.faults on_spool (spool.disk_of r.0.spool))
+        (λ e. OnlyReadsOne g.tells g.history g.fails g.starved g.faults on_spool e.1.spool)
+
+  -- The disks of a host are opened, and the host is told; or they are handed back.
+  pub record Loads (disks : Disks D) (result : Result (Store D g × HostState) (LoadFault × Disks D)) : Type 0 where
+    -- the store tells the host
+    pub tells : IsTrue g.tells → IfOk result (λ r. store.Tells r.0 (content r.1))
+    -- its active journal is that of the disks
+    pub active : IsTrue g.tells → IfOk result (λ r. IsActive (contents (histories_of g.history disks)) (store.active_of r.0))
+    -- the host is sound
+    pub sound : IfOk result (λ r. IsSoundHost (content r.1))
+    -- whatever the disks are, its live extents end within 2^40 bytes, and no two meet
+    pub extents : IfOk result (λ r. (size : ℕ) × (size ≤ 2 ^ 40) × AreSound size (live (content r.1)))
+    -- the store isn't stopped
+    pub running : IfOk result (λ r. store.is_stopped r.0 ≡ false)
+    -- a refusal says what is at fault
+    pub fault : IsTrue g.tells → IfErr result (λ e. IsLoadFault (contents (histories_of g.history disks)) e.0)
+    -- and which read failed
+    pub failed : IfErr result (λ e. (which : Which) → e.0 ≡ load.Disk which
+        → FailedToRead g.tells g.history g.fails g.faults (λ at. disk_at at disks) (λ at. disk_at at e.1) which)
+    -- the host is the one that the bytes tell
+    pub told : IsTrue g.tells → (host : Host) → IsToldHost (contents (histories_of g.history disks)) host → IfOk result (λ r. content r.1 ≡ host)
+    -- where they tell one they are at fault nowhere
+    pub never : IsTrue g.tells → (plain : Plain) → IsTold (contents (histories_of g.history disks)) plain
+        → IfErr result (λ e. (which : Which) (place : ℕ) → e.0 ≡ load.NotNqs which place → ⊥)
+    -- the disks are only read
+    pub reads : MatchResult result
+        (λ r. OnlyReads g.tells g.history g.fails g.starved g.faults (λ at. disk_at at disks) (λ at. store.disk_of at r.0))
+        (λ e. OnlyReads g.tells g.history g.fails g.starved g.faults (λ at. disk_at at disks) (λ at. disk_at at e.1))
+
+module _ {D : Type 0} {g : disk.Ghosts D} (old now : Store D g) where
+  -- The host is told by what the disks of an open store hold now, whatever the store told before.
+  pub record Rereads (result : Result HostState LoadFault) : Type 0 where
+    -- the bytes tell the host
+    pub found : IsTrue g.tells → IfOk result (λ state. IsToldHost (contents (store.history_of old)) (content state))
+    -- a refusal says what is at fault
+    pub fault : IsTrue g.tells → IfErr result (IsLoadFault (contents (store.history_of old)))
+    -- it is the host that the store tells
+    pub told : IsTrue g.tells → (host : Host) → store.Tells old host → IfOk result (λ state. content state ≡ host)
+    -- the host is sound
+    pub sound : IfOk result (λ state. IsSoundHost (content state))
+    -- whatever the disks are, its live extents end within 2^40 bytes, and no two meet
+    pub extents : IfOk result (λ state. (size : ℕ) × (size ≤ 2 ^ 40) × AreSound size (live (content state)))
+    -- where the store tells one, they are at fault nowhere
+    pub never : IsTrue g.tells → (host : Host) → store.Tells old host → (which : Which) (place : ℕ) → IsErrOf result (load.NotNqs which place) → ⊥
+    -- which read failed
+    pub failed : (which : Which) → IsErrOf result (load.Disk which) → store.FailedToRead old now which
+    -- the disks are only read
+    pub reads : store.OnlyReads old now
+    -- the store is the same
+    pub stays : (store.is_stopped now ≡ store.is_stopped old) × (store.active_of now ≡ store.active_of old)
+    -- and tells what it told
+    pub tells : IsTrue g.tells → (host : Host) → store.Tells old host → store.Tells now host

@@ -14,6 +14,7 @@ ghost use Rattle.nqs_rules.specs.Applied.{is_promise_of};
 ghost use Rattle.nqs_rules.specs.Conf.{is_queued_in};
 ghost use Rattle.nqs_store.specs.Live.{row_part, promise_part, stage_part, file_part};
 ghost use Rattle.nqs_store.specs.Accounts.{Takes};
+ghost use Rattle.nqs_store.specs.Calls.{Frees};
 ghost use Rattle.nqs_store.specs.Frees.{part_of, goes_at_boot, stages_left, numbers_left, row_of_hand, doubled, gone};
 
 use nqs_changes::boot::may_start_again;
@@ -64,8 +65,7 @@ fn free_all<D: Disk, K: Key, V: Keyed<K> + Drop, P: Fn(&V) -> bool, F: Fn(&V) ->
 
 // The extents of the parts from this place on.
 fn free_behind<D: Disk>(spool: &mut Spool<D>, parts: &[OutPart], from: u64)
-    ensures tells { (live fewer : List Extent) → Tells spool.old live → Takes live (drop from (map part_bytes parts.now)) fewer → Tells spool.new fewer }
-    ensures same { disk_of spool.new ≡ disk_of spool.old }
+    ensures { Frees spool.old spool.new (drop from (map part_bytes parts.now)) }
 {
     let kept = from.min(parts.len() as u64) as usize;
     let (_numbered, later) = parts.split_at(kept);
@@ -106,18 +106,14 @@ fn is_queued_in(row: &Row, queue: &Name) -> bool
 }
 
 fn free_row<D: Disk>(spool: &mut Spool<D>, state: &HostState, id: &RequestId)
-    ensures tells { (live fewer : List Extent) → Tells spool.old live → Takes live (part_of row_part (find_row id.now (content state.now))) fewer
-        → Tells spool.new fewer }
-    ensures same { disk_of spool.new ≡ disk_of spool.old }
+    ensures { Frees spool.old spool.new (part_of row_part (find_row id.now (content state.now))) }
 {
     free_one(spool, state.rows.get(id), |row: &Row| row.script);
 }
 
 // The row of a handover.
 fn free_row_of_hand<D: Disk>(spool: &mut Spool<D>, state: &HostState, key: &PeerNumber)
-    ensures tells { (live fewer : List Extent) → Tells spool.old live
-        → Takes live (row_of_hand (content state.now) (find_hand key.now.peer key.now.number (content state.now))) fewer → Tells spool.new fewer }
-    ensures same { disk_of spool.new ≡ disk_of spool.old }
+    ensures { Frees spool.old spool.new (row_of_hand (content state.now) (find_hand key.now.peer key.now.number (content state.now))) }
 {
     if let Some(hand) = state.hands.get(key) {
         free_row(spool, state, &hand.id);
@@ -125,9 +121,7 @@ fn free_row_of_hand<D: Disk>(spool: &mut Spool<D>, state: &HostState, key: &Peer
 }
 
 fn free_promise<D: Disk>(spool: &mut Spool<D>, state: &HostState, key: &PeerNumber)
-    ensures tells { (live fewer : List Extent) → Tells spool.old live
-        → Takes live (part_of promise_part (find_promise key.now.peer key.now.number (content state.now))) fewer → Tells spool.new fewer }
-    ensures same { disk_of spool.new ≡ disk_of spool.old }
+    ensures { Frees spool.old spool.new (part_of promise_part (find_promise key.now.peer key.now.number (content state.now))) }
 {
     free_one(spool, state.promises.get(key), |promise: &Promise| {
         promise.row.script
@@ -136,9 +130,7 @@ fn free_promise<D: Disk>(spool: &mut Spool<D>, state: &HostState, key: &PeerNumb
 
 // A promise whose request is a row already.
 fn free_doubled<D: Disk>(spool: &mut Spool<D>, state: &HostState, key: &PeerNumber)
-    ensures tells { (live fewer : List Extent) → Tells spool.old live
-        → Takes live (doubled (content state.now) (find_promise key.now.peer key.now.number (content state.now))) fewer → Tells spool.new fewer }
-    ensures same { disk_of spool.new ≡ disk_of spool.old }
+    ensures { Frees spool.old spool.new (doubled (content state.now) (find_promise key.now.peer key.now.number (content state.now))) }
 {
     if let Some(promise) = state.promises.get(key) {
         if state.rows.has(&promise.row.id) {
@@ -149,9 +141,7 @@ fn free_doubled<D: Disk>(spool: &mut Spool<D>, state: &HostState, key: &PeerNumb
 
 // The bytes of a stage for which no number of a file is left.
 fn free_unnumbered<D: Disk>(spool: &mut Spool<D>, state: &HostState, bytes: &Extent)
-    ensures tells { (live fewer : List Extent) → Tells spool.old live
-        → Takes live (if nat_lt (content state.now).file_next last_u64 then [] else bytes.now ∷ []) fewer → Tells spool.new fewer }
-    ensures same { disk_of spool.new ≡ disk_of spool.old }
+    ensures { Frees spool.old spool.new (if nat_lt (content state.now).file_next last_u64 then [] else bytes.now ∷ []) }
 {
     if state.file_next < u64::MAX {
         return;
@@ -160,23 +150,19 @@ fn free_unnumbered<D: Disk>(spool: &mut Spool<D>, state: &HostState, bytes: &Ext
 }
 
 fn free_stage<D: Disk>(spool: &mut Spool<D>, state: &HostState, key: &PeerNumber)
-    ensures tells { (live fewer : List Extent) → Tells spool.old live
-        → Takes live (part_of stage_part (find (is_stage (peer_number key.now.peer key.now.number)) (content state.now).stages)) fewer → Tells spool.new fewer }
-    ensures same { disk_of spool.new ≡ disk_of spool.old }
+    ensures { Frees spool.old spool.new (part_of stage_part (find (is_stage (peer_number key.now.peer key.now.number)) (content state.now).stages)) }
 {
     free_one(spool, state.stages.get(key), |stage: &Stage| stage.bytes);
 }
 
 // The rows of a queue that is purged.
 fn free_purged<D: Disk>(spool: &mut Spool<D>, state: &HostState, edit: &ConfEdit)
-    ensures tells { (live fewer : List Extent) → Tells spool.old live → Takes live (gone (Change.Edited (Edit.Conf edit.now)) (content state.now)) fewer
-        → Tells spool.new fewer }
-    ensures same { disk_of spool.new ≡ disk_of spool.old }
+    ensures { Frees spool.old spool.new (gone (Change.Edited (Edit.Conf edit.now)) (content state.now)) }
 {
     match edit {
         ConfEdit::PurgeQueue { queue } => free_all(
             spool,
-            &state.rows,
+            state.rows.table(),
             |row: &Row| is_queued_in(row, queue),
             |row: &Row| row.script,
         ),
@@ -185,9 +171,7 @@ fn free_purged<D: Disk>(spool: &mut Spool<D>, state: &HostState, edit: &ConfEdit
 }
 
 fn free_edited<D: Disk>(spool: &mut Spool<D>, state: &HostState, edit: &Edit)
-    ensures tells { (live fewer : List Extent) → Tells spool.old live → Takes live (gone (Change.Edited edit.now) (content state.now)) fewer
-        → Tells spool.new fewer }
-    ensures same { disk_of spool.new ≡ disk_of spool.old }
+    ensures { Frees spool.old spool.new (gone (Change.Edited edit.now) (content state.now)) }
 {
     match edit {
         Edit::Conf(edit) => free_purged(spool, state, edit),
@@ -203,18 +187,19 @@ fn key(peer: HostId, number: u64) -> PeerNumber
 
 // The rows that go at a boot.
 fn free_at_boot<D: Disk>(spool: &mut Spool<D>, state: &HostState)
-    ensures tells { (live fewer : List Extent) → Tells spool.old live → Takes live (map row_part (filter goes_at_boot (content state.now).rows)) fewer
-        → Tells spool.new fewer }
-    ensures same { disk_of spool.new ≡ disk_of spool.old }
+    ensures { Frees spool.old spool.new (map row_part (filter goes_at_boot (content state.now).rows)) }
 {
-    free_all(spool, &state.rows, goes_at_boot, |row: &Row| row.script);
+    free_all(
+        spool,
+        state.rows.table(),
+        goes_at_boot,
+        |row: &Row| row.script,
+    );
 }
 
 // The promises to a host.
 fn free_promises_of<D: Disk>(spool: &mut Spool<D>, state: &HostState, peer: HostId)
-    ensures tells { (live fewer : List Extent) → Tells spool.old live
-        → Takes live (map promise_part (filter (is_promise_of peer) (content state.now).promises)) fewer → Tells spool.new fewer }
-    ensures same { disk_of spool.new ≡ disk_of spool.old }
+    ensures { Frees spool.old spool.new (map promise_part (filter (is_promise_of peer) (content state.now).promises)) }
 {
     free_all(
         spool,
@@ -225,9 +210,7 @@ fn free_promises_of<D: Disk>(spool: &mut Spool<D>, state: &HostState, peer: Host
 }
 
 fn free_file<D: Disk>(spool: &mut Spool<D>, state: &HostState, file: u64)
-    ensures tells { (live fewer : List Extent) → Tells spool.old live → Takes live (part_of file_part (find (is_file file) (content state.now).files)) fewer
-        → Tells spool.new fewer }
-    ensures same { disk_of spool.new ≡ disk_of spool.old }
+    ensures { Frees spool.old spool.new (part_of file_part (find (is_file file) (content state.now).files)) }
 {
     free_one(spool, state.files.get(&file), |file: &FileOut| file.bytes);
 }
@@ -235,8 +218,7 @@ fn free_file<D: Disk>(spool: &mut Spool<D>, state: &HostState, file: u64)
 /// Frees what a change takes away of the extents of a host, whose state from before the change is
 /// given, and what it doesn't take up of its own. It takes no memory.
 pub(crate) fn free_gone<D: Disk>(spool: &mut Spool<D>, state: &HostState, change: &Change)
-    ensures tells { (live fewer : List Extent) → Tells spool.old live → Takes live (gone change.now (content state.now)) fewer → Tells spool.new fewer }
-    ensures same { disk_of spool.new ≡ disk_of spool.old }
+    ensures { Frees spool.old spool.new (gone change.now (content state.now)) }
 {
     match change {
         Change::Deleted(id) => free_row(spool, state, id),

@@ -34,7 +34,7 @@ pub(crate) fn live_extents(alloc: Global, state: &HostState) -> Result<Vec<Exten
     ensures { IfOk result (λ extents. extents.items ≡ live (content state.now)) }
 {
     let mut extents = Vec::new(alloc);
-    add_parts(&mut extents, &state.rows, |row: &Row| row.script)?;
+    add_parts(&mut extents, state.rows.table(), |row: &Row| row.script)?;
     add_parts(&mut extents, &state.promises, |promise: &Promise| {
         promise.row.script
     })?;

@@ -1,19 +1,16 @@
 //! Calls of an open store that keep nothing.
 
-ghost use Rattle.std.specs.Prelude.{◌≡◌, ◌≢◌, ◌↔◌, ◌<◌, ◌≤◌, ◌+◌, ◌-◌, ◌^◌, ◌++◌, ℕ, IsTrue, IsErrOf, OnOk, OnErr, IfOk, IfErr, false, length};
+ghost use Rattle.std.specs.Prelude.{◌≡◌, ◌≢◌, ◌↔◌, ◌<◌, ◌≤◌, ◌+◌, ◌-◌, ◌++◌, ℕ, IsTrue, IsErrOf, OnOk, OnErr, IfErr, false, length};
 ghost use Rattle.std.specs.Prelude.{max, nat_le, vec_capacity};
 ghost use Rattle.nqs_values.specs.Want.{want};
-ghost use Rattle.nqs_state.specs.State.{content};
 ghost use Rattle.nqs_types.specs.declared.world.Which.{Which};
 ghost use Rattle.nqs_types.specs.declared.world.Which.TheVariants.{Spool};
 ghost use Rattle.nqs_outside.specs.History.{moment, IsWhole};
-ghost use Rattle.nqs_spool.specs.Extents.{Has, AreSound};
+ghost use Rattle.nqs_spool.specs.Extents.{Has};
 ghost use Rattle.nqs_store.specs.Told.{Host};
-ghost use Rattle.nqs_store.specs.Disks.{contents};
-ghost use Rattle.nqs_store.specs.Images.{IsToldHost};
 ghost use Rattle.nqs_store.specs.Live.{live};
-ghost use Rattle.nqs_store.specs.Sound.{IsSoundHost};
-ghost use Rattle.nqs_store.specs.Faults.{IsScriptFault, IsLoadFault};
+ghost use Rattle.nqs_store.specs.Opens.{Rereads};
+ghost use Rattle.nqs_store.specs.Faults.{IsScriptFault};
 
 use crate::fault::{LoadFault, StoreFault};
 use crate::reading::{names_second, reread_host};
@@ -66,17 +63,7 @@ impl<D: Disk> Store<D> {
     /// that fails, as in `load`.
     #[tactic(none)]
     pub fn reread(&mut self, alloc: Global) -> Result<HostState, LoadFault>
-        ensures found { IsTrue D.tells → IfOk result (λ state. IsToldHost (contents (history_of self.old)) (content state)) }
-        ensures fault { IsTrue D.tells → IfErr result (IsLoadFault (contents (history_of self.old))) }
-        ensures told { IsTrue D.tells → (host : Host) → Tells self.old host → IfOk result (λ state. content state ≡ host) }
-        ensures sound { IfOk result (λ state. IsSoundHost (content state)) }
-        // Whatever the disks are, its live extents end within 2^40 bytes, and no two meet.
-        ensures extents { IfOk result (λ state. (size : ℕ) × (size ≤ 2 ^ 40) × AreSound size (live (content state))) }
-        ensures never { IsTrue D.tells → (host : Host) → Tells self.old host → (which : Which) (place : ℕ) → IsErrOf result (LoadFault.NotNqs which place) → ⊥ }
-        ensures failed { (which : Which) → IsErrOf result (LoadFault.Disk which) → FailedToRead self.old self.new which }
-        ensures reads { OnlyReads self.old self.new }
-        ensures stays { (is_stopped self.new ≡ is_stopped self.old) × (active_of self.new ≡ active_of self.old) }
-        ensures tells { IsTrue D.tells → (host : Host) → Tells self.old host → Tells self.new host }
+        ensures { Rereads self.old self.new result }
     {
         let Ok(second) = names_second(&mut self.root) else {
             return Err(LoadFault::Disk(Which::Root));

@@ -1,78 +1,82 @@
-use Rattle.std.proofs.Common.{◌⊎◌, sym, ap, subst, ◌∙◌, IsTrue}
+use Rattle.std.proofs.Common.{refl, sym, ap, subst, ◌∙◌, Ok, Err}
 use Rattle.nqs_state.specs.State.{State, content}
 use Rattle.nqs_values.specs.declared.extent.Extent.{Extent}
-use Rattle.nqs_rules.specs.Applied.{applied}
-use Rattle.nqs_rules.specs.Filled.{filled}
 use Rattle.nqs_rules.specs.Fits.{fits}
+use Rattle.nqs_store.specs.Calls.{MayCommit, Commits, state_after}
 use Rattle.nqs_store.specs.Sound.{IsSoundHost}
-use Rattle.nqs_store.specs.Stores.{history_of, fails_of, is_starved, active_of, plain_of, Tells}
-use Rattle.nqs_store.specs.Commits.{IsCutAt, Keeping}
+use Rattle.nqs_store.specs.Stores.{plain_of, Tells}
+use Rattle.nqs_store.specs.declared.fault.StoreFault.TheVariants.{Disk}
+use Rattle.nqs_store.proofs.Kept.{idle_commits, only_memory}
 use Rattle.nqs_store.proofs.ShortExtents.{live_short}
-use Rattle.nqs_node.proofs.Nothing.{none_broken, none_told}
 use Rattle.nqs_node.proofs.Shapes.{same_fit, same_sane, same_room}
 use Rattle.nqs_node.proofs.Sites.{site_kept}
 use Rattle.nqs_back.proofs.Plans.{bare_made}
 use Rattle.nqs_node.proofs.keep.keep.Goals as goal
 
-pub returns-in-Err-clause-broken_off : goal.returns-in-Err-clause-broken_off
-returns-in-Err-clause-broken_off g c = λ yes. none_broken _ _ _
+pub returns-in-Err-clause-calls : goal.returns-in-Err-clause-calls
+returns-in-Err-clause-calls g c = idle_commits c.args.store.now c.args.store.now c.args.change c.args.puts.now (content c.args.state.now) Disk _ (λ w. refl)
+    (only_memory _ refl)
 
-pub returns-in-Err-clause-any_moment : goal.returns-in-Err-clause-any_moment
-returns-in-Err-clause-any_moment g c = λ yes told. none_told _ _ yes told _ _
-
-pub returns-in-Err-commit-clause-any_moment : goal.returns-in-Err-commit-clause-any_moment
-returns-in-Err-commit-clause-any_moment g c = λ tells told.
+pub returns-in-Err-commit-clause-makes : goal.returns-in-Err-commit-clause-makes
+returns-in-Err-commit-clause-makes g c =
     let same = c.make_room.ensures.content in
-    subst (λ (h : State Extent). Keeping (active_of c.args.store.now) c.args.puts.now (history_of c.args.store.now) (history_of c.commit.new.self) (plain_of c.args.store.now h)
-    (applied (filled c.args.change c.args.puts.now) (plain_of c.args.store.now h)))
-    same (c.commit.ensures.any_moment tells (subst (Tells c.args.store.now) (sym same) told))
+    record {
+      sound = subst IsSoundHost (sym same) c.requires.sound;
+      site = ap (λ (h : State Extent). h.site) same;
+      err = same;
+      bare = tt;
+      active = tt;
+      told = λ tells told. tt;
+      plain = λ tells told. tt;
+    }
 
-pub returns-in-Err-commit-clause-cut : goal.returns-in-Err-commit-clause-cut
-returns-in-Err-commit-clause-cut g c = λ tells told which failed.
-    let same = c.make_room.ensures.content in
-    subst (λ (h : State Extent). IsTrue (is_starved c.commit.new.self which)
-    ⊎ IsCutAt (active_of c.args.store.now) (fails_of c.args.store.now) c.args.puts.now (history_of c.args.store.now) (history_of c.commit.new.self) (plain_of c.args.store.now h)
-    (applied (filled c.args.change c.args.puts.now) (plain_of c.args.store.now h)) which)
-    same (c.in-Err-commit.ensures.cut tells (subst (Tells c.args.store.now) (sym same) told) which failed)
+pub returns-in-Err-commit-clause-calls : goal.returns-in-Err-commit-clause-calls
+returns-in-Err-commit-clause-calls g c =
+    subst (λ (h : State Extent). Commits {T = Unit {0}} c.args.store.now c.commit.new.self c.args.change c.args.puts.now h Disk (Err c.in-Err-commit.fault))
+    c.make_room.ensures.content c.in-Err-commit.ensures.calls
 
 pub commit-requires-clause-sound : goal.commit-requires-clause-sound
 commit-requires-clause-sound g c = subst IsSoundHost (sym c.make_room.ensures.content) c.requires.sound
 
+pub commit-requires-clause-may : goal.commit-requires-clause-may
+commit-requires-clause-may g c = subst (λ (h : State Extent). MayCommit h c.args.change c.args.puts.now) (sym c.make_room.ensures.content) c.requires.may
+
 pub apply-requires-clause-sane : goal.apply-requires-clause-sane
-apply-requires-clause-sane g c = same_sane c.args.change c.commit.new.change c.commit.ensures.shape ∙ c.requires.sane
+apply-requires-clause-sane g c = same_sane c.args.change c.commit.new.change c.commit.ensures.keeps.shape ∙ c.requires.sane
 
 pub apply-requires-clause-fits : goal.apply-requires-clause-fits
-apply-requires-clause-fits g c = same_fit c.args.change c.commit.new.change c.commit.ensures.shape (content c.make_room.new.self)
-    ∙ ap (fits c.args.change) c.make_room.ensures.content ∙ c.requires.fits
+apply-requires-clause-fits g c = same_fit c.args.change c.commit.new.change c.commit.ensures.keeps.shape (content c.make_room.new.self)
+    ∙ ap (fits c.args.change) c.make_room.ensures.content ∙ c.requires.may.fits
 
 pub apply-requires-clause-room : goal.apply-requires-clause-room
-apply-requires-clause-room g c = same_room c.args.change c.commit.new.change c.commit.ensures.shape c.make_room.new.self c.in-Ok.ensures.room
+apply-requires-clause-room g c = same_room c.args.change c.commit.new.change c.commit.ensures.keeps.shape c.make_room.new.self c.in-Ok.ensures.room
 
-pub returns-in-Ok-commit-clause-sound : goal.returns-in-Ok-commit-clause-sound
-returns-in-Ok-commit-clause-sound g c =
+pub returns-in-Ok-commit-clause-makes : goal.returns-in-Ok-commit-clause-makes
+returns-in-Ok-commit-clause-makes g c =
+    let change = c.commit.new.change in
     let host = content c.make_room.new.self in
-    let sound = subst IsSoundHost (sym c.make_room.ensures.content) c.requires.sound in
-    let sane = same_sane c.args.change c.commit.new.change c.commit.ensures.shape ∙ c.requires.sane in
-    let fit = same_fit c.args.change c.commit.new.change c.commit.ensures.shape host ∙ ap (fits c.args.change) c.make_room.ensures.content ∙ c.requires.fits in
-    subst IsSoundHost (sym c.apply.ensures) (record {
-      order = c.order_is_kept.ensures c.commit.new.change host sound.order sane fit;
-      consistent = c.consistent_is_kept.ensures c.commit.new.change host sound.order sound.consistent sane fit;
-      short = live_short c.commit.new.change host fit c.in-Ok-commit.ensures.stands sound.short;
-    })
-
-pub returns-in-Ok-commit-clause-site : goal.returns-in-Ok-commit-clause-site
-returns-in-Ok-commit-clause-site g c =
-    let host = content c.make_room.new.self in
-    let fit = same_fit c.args.change c.commit.new.change c.commit.ensures.shape host ∙ ap (fits c.args.change) c.make_room.ensures.content ∙ c.requires.fits in
-    ap (λ (h : State Extent). h.site) c.apply.ensures ∙ site_kept c.commit.new.change host fit ∙ ap (λ (h : State Extent). h.site) c.make_room.ensures.content
-
-pub returns-in-Ok-commit-clause-any_moment : goal.returns-in-Ok-commit-clause-any_moment
-returns-in-Ok-commit-clause-any_moment g c = λ tells told.
     let same = c.make_room.ensures.content in
-    subst (λ (h : State Extent). Keeping (active_of c.args.store.now) c.args.puts.now (history_of c.args.store.now) (history_of c.commit.new.self) (plain_of c.args.store.now h)
-    (applied (filled c.args.change c.args.puts.now) (plain_of c.args.store.now h)))
-    same (c.commit.ensures.any_moment tells (subst (Tells c.args.store.now) (sym same) told))
+    let e = c.in-Ok-commit.ensures.keeps in
+    let sound = subst IsSoundHost (sym same) c.requires.sound in
+    let sane = same_sane c.args.change change e.shape ∙ c.requires.sane in
+    let fit = same_fit c.args.change change e.shape host ∙ ap (fits c.args.change) same ∙ c.requires.may.fits in
+    record {
+      sound = subst IsSoundHost (sym c.apply.ensures) (record {
+        order = c.order_is_kept.ensures change host sound.order sane fit;
+        consistent = c.consistent_is_kept.ensures change host sound.order sound.consistent sane fit;
+        short = live_short change host fit e.stands sound.short;
+      });
+      site = ap (λ (h : State Extent). h.site) c.apply.ensures ∙ site_kept change host fit ∙ ap (λ (h : State Extent). h.site) same;
+      err = tt;
+      bare = bare_made c.args.change change (content c.args.state.now) host (content c.apply.new.state) e.shape c.apply.ensures same;
+      active = e.active;
+      told = λ tells told. subst (Tells c.commit.new.self) (sym c.apply.ensures) (e.told tells (subst (Tells c.args.store.now) (sym same) told));
+      plain = λ tells told.
+          ap (plain_of c.commit.new.self) c.apply.ensures ∙ e.plain tells (subst (Tells c.args.store.now) (sym same) told)
+          ∙ ap (state_after c.args.store.now c.args.change c.args.puts.now) same;
+    }
 
-pub returns-in-Ok-commit-clause-bare : goal.returns-in-Ok-commit-clause-bare
-returns-in-Ok-commit-clause-bare g c = bare_made c.args.change c.commit.new.change (content c.args.state.now) (content c.make_room.new.self)
-    (content c.apply.new.state) c.commit.ensures.shape c.apply.ensures c.make_room.ensures.content
+pub returns-in-Ok-commit-clause-calls : goal.returns-in-Ok-commit-clause-calls
+returns-in-Ok-commit-clause-calls g c =
+    subst (λ (h : State Extent). Commits {T = Unit {0}} c.args.store.now c.commit.new.self c.args.change c.args.puts.now h Disk (Ok tt))
+    c.make_room.ensures.content c.in-Ok-commit.ensures.calls

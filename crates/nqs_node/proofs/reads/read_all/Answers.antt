@@ -1,4 +1,4 @@
-use Rattle.std.proofs.Common.{◌+◌, [], length, drop, refl, sym, ap, subst, ◌∙◌, arith, get_or}
+use Rattle.std.proofs.Common.{IsTrue, ◌+◌, [], length, drop, refl, sym, ap, subst, ◌∙◌, arith, get_or}
 use Rattle.std.specs.List.{list_all}
 use Rattle.std.proofs.lemmas.Bool.{leb-true, le-leb}
 use Rattle.std.proofs.lemmas.List.{at_drop_more, at_drop_all}
@@ -12,19 +12,36 @@ use Rattle.nqs_store.specs.Live.{bytes_at}
 use Rattle.nqs_store.specs.Stores.{bytes_of}
 use Rattle.nqs_node.specs.Reading.{read_into, IsLiveRead, IsShortRead, sends_short, AreShort}
 use Rattle.nqs_node.proofs.Carrying.{read_short}
-use Rattle.nqs_node.proofs.Places.{all_at, reads_none, reads_then, failed_since}
+use Rattle.nqs_node.proofs.Places.{no_error, all_at, reads_none, reads_then, failed_since}
 use Rattle.nqs_node.proofs.reads.read_all.Goals as goal
 
-pub returns-in_err-read_one-clause-failed : goal.returns-in_err-read_one-clause-failed
-returns-in_err-read_one-clause-failed g c =
+pub returns-in_err-read_one-clause-into : goal.returns-in_err-read_one-clause-into
+returns-in_err-read_one-clause-into g c =
     let p = err_from_is_err_and c.from_residual.result c.from_residual.ensures.1 in
-    rw (p.1, p.2) (λ failed. failed_since _ _ _ Spool c.loop-read.invariant.reads (c.in_err-read_one.ensures.failed failed))
+    let v = c.loop-read.invariant in
+    let one = c.in_err-read_one.ensures.into in
+    rw (p.1, p.2) (record {
+      stopped = λ is. subst IsTrue v.stays.0 (one.stopped is);
+      as_many = one.as_many ∙ v.as_many;
+      alike = one.alike ∙ v.alike;
+      failed = λ failed. failed_since _ _ _ Spool v.reads (one.failed failed);
+      reads = reads_then _ _ _ v.reads one.reads;
+      stays = (one.stays.0 ∙ v.stays.0, one.stays.1 ∙ v.stays.1);
+      tells = λ yes host told. one.tells yes host (v.tells yes host told);
+    })
 
-pub returns-in_err-read_one-clause-reads : goal.returns-in_err-read_one-clause-reads
-returns-in_err-read_one-clause-reads g c = reads_then _ _ _ c.loop-read.invariant.reads c.read_one.ensures.reads
-
-pub returns-in_err-read_one-clause-tells : goal.returns-in_err-read_one-clause-tells
-returns-in_err-read_one-clause-tells g c = λ yes host told. c.read_one.ensures.tells yes host (c.loop-read.invariant.tells yes host told)
+pub returns-clause-into : goal.returns-clause-into
+returns-clause-into g c =
+    let v = c.loop-read.invariant in
+    record {
+      stopped = λ is. absurd (no_error _ _ is);
+      as_many = v.as_many;
+      alike = v.alike;
+      failed = λ is. absurd (no_error _ _ is);
+      reads = v.reads;
+      stays = v.stays;
+      tells = v.tells;
+    }
 
 pub loop-read-preserved : goal.loop-read-preserved
 loop-read-preserved g c =
@@ -48,11 +65,11 @@ loop-read-preserved g c =
           let before = sym (at_drop_more (λ rs. list_all sends_short (read_into (λ _. []) rs outputs)) reads i none c.loop-read-test.true) ∙ v.short few was in
           subst (λ os. AreShort (read_into (λ _. []) (drop (i + 1) reads) os)) (sym read.2)
           (read_short (drop (i + 1) reads) x.output read.0 script outputs before);
-      as_many = c.read_one.ensures.as_many ∙ v.as_many;
-      alike = c.read_one.ensures.alike ∙ v.alike;
-      reads = reads_then _ _ _ v.reads c.read_one.ensures.reads;
-      stays = (c.read_one.ensures.stays.0 ∙ v.stays.0, c.read_one.ensures.stays.1 ∙ v.stays.1);
-      tells = λ yes host told. c.read_one.ensures.tells yes host (v.tells yes host told);
+      as_many = c.read_one.ensures.into.as_many ∙ v.as_many;
+      alike = c.read_one.ensures.into.alike ∙ v.alike;
+      reads = reads_then _ _ _ v.reads c.read_one.ensures.into.reads;
+      stays = (c.read_one.ensures.into.stays.0 ∙ v.stays.0, c.read_one.ensures.into.stays.1 ∙ v.stays.1);
+      tells = λ yes host told. c.read_one.ensures.into.tells yes host (v.tells yes host told);
     }
 
 pub returns-clause-filled : goal.returns-clause-filled
@@ -77,7 +94,3 @@ loop-read-init g c = record {
   stays = (refl, refl);
   tells = λ yes host told. told;
 }
-
-pub returns-in_err-read_one-clause-stays : goal.returns-in_err-read_one-clause-stays
-returns-in_err-read_one-clause-stays g c =
-    (c.read_one.ensures.stays.0 ∙ c.loop-read.invariant.stays.0, c.read_one.ensures.stays.1 ∙ c.loop-read.invariant.stays.1)

@@ -22,11 +22,15 @@ loop-part-preserved g c =
           (subst (λ l. Takes so_far.0 l fewer) (next_on part_bytes (λ _. Rattle.std.proofs.Common.true) vs i v at) so_far.2);
     }
 
-pub returns-clause-tells : goal.returns-clause-tells
-returns-clause-tells g c = λ live fewer was takes.
+pub returns : goal.returns
+returns g c =
     let ps = c.args.parts.now in
     let vs = c.split_at.result.1.now in
     let first = drop_most part_bytes ps c.args.from c.min-kept.result c.min-kept.ensures ∙ ap (map part_bytes) (sym c.split_at.ensures.back) in
-    let so_far = c.loop-part.invariant.tells live fewer was (subst (λ l. Takes live l fewer) first takes) in
     let none = drop_all c.loop-part.part-index vs c.loop-part-test.false in
-    subst (Tells c.loop-part.spool) (subst (λ l. Takes so_far.0 (map part_bytes l) fewer) none so_far.2) so_far.1
+    record {
+      same = c.loop-part.invariant.same;
+      tells = λ live fewer was takes.
+          let so_far = c.loop-part.invariant.tells live fewer was (subst (λ l. Takes live l fewer) first takes) in
+          subst (Tells c.loop-part.spool) (subst (λ l. Takes so_far.0 (map part_bytes l) fewer) none so_far.2) so_far.1;
+    }

@@ -14,18 +14,18 @@ use Rattle.nqs_store.proofs.put.put_bytes.Goals as goal
 
 pub put_extents-requires : goal.put_extents-requires
 put_extents-requires g c =
-    ap length (c.deref_mut.ensures.value ∙ c.requires.text) ∙ sym (same_length c.args.change.now c.deref.result.now)
+    ap length (c.deref_mut.ensures.value ∙ c.requires.prepared.text) ∙ sym (same_length c.args.change.now c.deref.result.now)
     ∙ ap (λ x. length (spelling x)) (sym c.set_extents.ensures)
 
 pub returns-clause-done : goal.returns-clause-done
 returns-clause-done g c =
     let old = c.args.change.now in
     let xs = c.put_all.new.extents.items in
-    let put = subst (λ l. ArePut c.args.puts.now c.args.spool.now c.put_all.new.spool l xs) c.requires.list.0 c.in_ok-put_all.ensures.done in
+    let put = subst (λ l. ArePut c.args.puts.now c.args.spool.now c.put_all.new.spool l xs) c.requires.prepared.none c.in_ok-put_all.ensures.done in
     let set = c.set_extents.ensures ∙ ap (with_extents old) c.deref.ensures.value in
-    let was = c.deref_mut.ensures.value ∙ c.requires.text ∙ ap spelling (sym (ap (λ ch. with_extents ch (stored_parts old)) set ∙ with_back old xs)) in
+    let was = c.deref_mut.ensures.value ∙ c.requires.prepared.text ∙ ap spelling (sym (ap (λ ch. with_extents ch (stored_parts old)) set ∙ with_back old xs)) in
     let is = c.put_extents.ensures (stored_parts old) was in
-    let size = ap length is ∙ ap (λ ch. length (spelling ch)) set ∙ same_length old xs ∙ ap length (sym c.requires.text)
+    let size = ap length is ∙ ap (λ ch. length (spelling ch)) set ∙ same_length old xs ∙ ap length (sym c.requires.prepared.text)
     ∙ ap length (sym c.deref_mut.ensures.value) ∙ c.deref_mut.ensures.len in
     let stands = subst MayStand (sym set) (stands_kept old xs c.requires.may_stand (subst (AllByRecursion IsExtent) (sym put.is) put.small)) in
     let whole = take_at c.put_extents.new.text (drop (length c.put_extents.new.text) c.args.text.now.items) c.args.text.now.len size in

@@ -1,4 +1,4 @@
-use Rattle.std.proofs.Common.{◌≡◌, ◌∙◌, ◌++◌, Some, sym, ap, subst}
+use Rattle.std.proofs.Common.{◌≡◌, ◌∙◌, ◌++◌, Some, ap, subst}
 use Rattle.nqs_state.specs.State.{content}
 use Rattle.nqs_spool.specs.Extents.{AreSound}
 use Rattle.nqs_store.specs.Live.{live}

@@ -1,4 +1,4 @@
-use Rattle.std.proofs.Common.{◌≡◌, ◌∙◌, true, take, ◌++◌, ◌∷◌, [], ap, sym, subst, arith}
+use Rattle.std.proofs.Common.{◌≡◌, true, take, sym, subst, arith}
 use Rattle.std.specs.List.{list_all}
 use Rattle.std.proofs.lemmas.List.{take_all}
 use Rattle.nqs_changes.specs.Running.{runs_in}

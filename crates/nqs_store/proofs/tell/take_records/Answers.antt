@@ -1,9 +1,8 @@
-use Rattle.std.proofs.Common.{◌≡◌, ◌+◌, ◌∙◌, ◌++◌, ◌∷◌, [], take, drop, length, slice_get, refl, sym, ap, subst, arith, Some, None, ◌^◌}
+use Rattle.std.proofs.Common.{◌≡◌, ◌∙◌, take, slice_get, sym, ap, subst, arith, Some, ◌^◌}
 use Rattle.std.proofs.lemmas.Result.{err_from_is_err_and}
 use Rattle.std.proofs.lemmas.List.{take_all}
 use Rattle.nqs_state.specs.State.{content}
 use Rattle.nqs_store.specs.Told.{record_taken, told_from}
-use Rattle.nqs_store.specs.TellFaults.{IsRefused}
 use Rattle.nqs_store.proofs.Lists.{take-at, get_at}
 use Rattle.nqs_store.proofs.Telling.{told_more, next_within, next_is, refused_from}
 use Rattle.nqs_store.proofs.tell.take_records.Goals as goal

@@ -1,4 +1,4 @@
-use Rattle.std.proofs.Common.{◌≡◌, ◌+◌, ℕ, take, length, Some, IsTrue}
+use Rattle.std.proofs.Common.{◌≡◌, ◌+◌, take, length, Some, IsTrue}
 use Rattle.nqs_state.specs.State.{content}
 use Rattle.nqs_journal.specs.Text.{records}
 use Rattle.nqs_changes.specs.Running.{runs_only}

@@ -1,11 +1,10 @@
-use Rattle.std.proofs.Common.{◌≡◌, ◌+◌, ◌≤◌, ◌∙◌, ◌++◌, ◌∷◌, [], length, refl, sym, ap, subst, arith, Some, None, ◌^◌, length-append}
+use Rattle.std.proofs.Common.{◌∙◌, ◌++◌, ◌∷◌, length, sym, ap, arith, None, length-append}
 use Rattle.std.proofs.lemmas.Result.{err_from_is_err_and}
 use Rattle.nqs_state.specs.State.{content}
 use Rattle.nqs_journal.specs.Text.{header, records, frame}
 use Rattle.nqs_journal.proofs.Texts.{length-frame}
 use Rattle.nqs_changes.specs.Running.{runs_only}
 use Rattle.nqs_store.specs.Told.{record_taken}
-use Rattle.nqs_store.specs.TellFaults.{IsRefused, IsTakenFault}
 use Rattle.nqs_store.proofs.Telling.{told_first, bad_first, bad_later}
 use Rattle.nqs_store.proofs.tell.tell_first.Goals as goal
 

@@ -32,14 +32,14 @@ returns-in-Err-clause-any_moment g c = λ yes s told a is.
 pub returns-in-Err-begin-clause-failed : goal.returns-in-Err-begin-clause-failed
 returns-in-Err-begin-clause-failed g c = λ which is.
     subst (λ d. Rose (g.D.Disk.faults (disk_at which c.args.disks)) (g.D.Disk.faults d)) (sym (c.close.ensures which))
-    (rose_since _ _ _ (c.in-Ok.ensures.reads.later which) (c.in-Err-begin.ensures.failed which (ap Err is)))
+    (rose_since _ _ _ (c.in-Ok.ensures.reads.later which) (c.in-Err-begin.ensures.stops.broken which (ap Err is)).1)
 
 pub returns-in-Err-begin-clause-fault : goal.returns-in-Err-begin-clause-fault
 returns-in-Err-begin-clause-fault g c = λ yes which place is. absurd (c.in-Err-begin.ensures.only which place (ap Err is))
 
 pub returns-in-Err-begin-clause-memory : goal.returns-in-Err-begin-clause-memory
 returns-in-Err-begin-clause-memory g c = λ yes is which.
-    ap g.D.Disk.history (c.close.ensures which) ∙ c.in-Err-begin.ensures.memory yes (ap Err is) which ∙ c.in-Ok.ensures.reads.same yes which
+    ap g.D.Disk.history (c.close.ensures which) ∙ ap g.D.Disk.history ((c.in-Err-begin.ensures.memory (ap Err is)).same which) ∙ c.in-Ok.ensures.reads.same yes which
 
 pub returns-in-Err-begin-clause-never : goal.returns-in-Err-begin-clause-never
 returns-in-Err-begin-clause-never g c = λ yes s told which place is. c.in-Err-begin.ensures.only which place (ap Err is)
@@ -51,7 +51,7 @@ returns-in-Err-begin-clause-broken_off g c = λ yes a active.
     (broken_since a (active_of c.in-Ok.store) (sym (c.one_journal_is_active.ensures _ a (active_of c.in-Ok.store) active (c.in-Ok.ensures.active yes)))
     (failing_of g.D.Disk.fails c.args.disks) (fails_of c.in-Ok.store) (histories_of g.D.Disk.history c.args.disks) (history_of c.in-Ok.store)
     (history_of c.begin.new.store)
-    (c.in-Ok.ensures.reads.fuse yes) (c.in-Ok.ensures.reads.same yes) Boot [] (Some Boot) boot_kept (c.in-Err-begin.ensures.broken_off yes))
+    (c.in-Ok.ensures.reads.fuse yes) (c.in-Ok.ensures.reads.same yes) Boot [] (Some Boot) boot_kept (c.in-Err-begin.ensures.calls.broken_off yes))
 
 either : {A B C X Y : Type 0} → (A → X) → (B → Y) → A ⊎ B → X ⊎ (C ⊎ Y)
 either f h (inl a) = inl (f a)
@@ -69,7 +69,7 @@ returns-in-Err-begin-clause-cut g c = λ yes s is a active which failed.
     (plain_of c.in-Ok.store (content c.in-Ok.state)) s (loaded_is c.in-Ok.store (content c.in-Ok.state) is.host
     (bytes_now (g.D.Disk.history (disk_at Spool c.args.disks))) s (ap bytes_now (c.in-Ok.ensures.reads.same yes Spool))
     (c.in-Ok.ensures.told yes is.host is.is) is.bytes) which k))
-    (c.in-Err-begin.ensures.cut yes (c.in-Ok.ensures.tells yes) which (ap Err failed))
+    (c.in-Err-begin.ensures.calls.cut yes (c.in-Ok.ensures.tells yes) which (ap Err failed))
 
 pub returns-in-Err-begin-clause-any_moment : goal.returns-in-Err-begin-clause-any_moment
 returns-in-Err-begin-clause-any_moment g c = λ yes s is a active.
@@ -82,15 +82,15 @@ returns-in-Err-begin-clause-any_moment g c = λ yes s is a active.
     (plain_of c.in-Ok.store (content c.in-Ok.state)) s (loaded_is c.in-Ok.store (content c.in-Ok.state) is.host
     (bytes_now (g.D.Disk.history (disk_at Spool c.args.disks))) s (ap bytes_now (c.in-Ok.ensures.reads.same yes Spool))
     (c.in-Ok.ensures.told yes is.host is.is) is.bytes)
-    (c.begin.ensures.any_moment yes (c.in-Ok.ensures.tells yes)))
+    (c.begin.ensures.calls.any_moment yes (c.in-Ok.ensures.tells yes)))
 
 pub returns-in-Err-begin-clause-later : goal.returns-in-Err-begin-clause-later
 returns-in-Err-begin-clause-later g c = λ which.
     subst (λ d. g.D.Disk.faults (disk_at which c.args.disks) ≤ g.D.Disk.faults d) (sym (c.close.ensures which))
-    (le_trans (c.in-Ok.ensures.reads.later which) (c.begin.ensures.later which))
+    (le_trans (c.in-Ok.ensures.reads.later which) (c.begin.ensures.stops.later which))
 
 pub returns-in-Ok-begin-clause-later : goal.returns-in-Ok-begin-clause-later
-returns-in-Ok-begin-clause-later g c = λ which. le_trans (c.in-Ok.ensures.reads.later which) (c.begin.ensures.later which)
+returns-in-Ok-begin-clause-later g c = λ which. le_trans (c.in-Ok.ensures.reads.later which) (c.begin.ensures.stops.later which)
 
 pub returns-in-Ok-begin-clause-one : goal.returns-in-Ok-begin-clause-one
 returns-in-Ok-begin-clause-one g c = λ yes.
@@ -100,18 +100,18 @@ returns-in-Ok-begin-clause-one g c = λ yes.
       subst (λ (h : Which → History). IsTold (contents h) (plain_of store host)) (λ j which. c.in-Ok.ensures.reads.same yes which j)
           (told_by_reads store host yes (c.in-Ok.ensures.tells yes)),
       record {
-        is = c.in-Ok-begin.ensures.plain yes (c.in-Ok.ensures.tells yes);
-        told = c.in-Ok-begin.ensures.told yes (c.in-Ok.ensures.tells yes);
+        is = c.in-Ok-begin.ensures.makes.plain yes (c.in-Ok.ensures.tells yes);
+        told = c.in-Ok-begin.ensures.makes.told yes (c.in-Ok.ensures.tells yes);
         running = refl;
       },
     )
 
 pub returns-in-Ok-begin-clause-told : goal.returns-in-Ok-begin-clause-told
 returns-in-Ok-begin-clause-told g c = λ yes s is. record {
-  is = c.in-Ok-begin.ensures.plain yes (c.in-Ok.ensures.tells yes) ∙ ap (applied Boot)
+  is = c.in-Ok-begin.ensures.makes.plain yes (c.in-Ok.ensures.tells yes) ∙ ap (applied Boot)
       (loaded_is c.in-Ok.store (content c.in-Ok.state) is.host (bytes_now (g.D.Disk.history (disk_at Spool c.args.disks))) s
       (ap bytes_now (c.in-Ok.ensures.reads.same yes Spool)) (c.in-Ok.ensures.told yes is.host is.is) is.bytes);
-  told = c.in-Ok-begin.ensures.told yes (c.in-Ok.ensures.tells yes);
+  told = c.in-Ok-begin.ensures.makes.told yes (c.in-Ok.ensures.tells yes);
   running = refl;
 }
 
@@ -126,7 +126,7 @@ returns-in-Ok-begin-clause-made g c = λ yes a active.
     made_since a (active_of c.in-Ok.store) (sym (c.one_journal_is_active.ensures _ a (active_of c.in-Ok.store) active (c.in-Ok.ensures.active yes)))
     (failing_of g.D.Disk.fails c.args.disks) (fails_of c.in-Ok.store) (histories_of g.D.Disk.history c.args.disks) (history_of c.in-Ok.store)
     (history_of c.begin.new.store)
-    (c.in-Ok.ensures.reads.fuse yes) (c.in-Ok.ensures.reads.same yes) Boot [] (Some Boot) boot_kept (c.in-Ok-begin.ensures.made yes)
+    (c.in-Ok.ensures.reads.fuse yes) (c.in-Ok.ensures.reads.same yes) Boot [] (Some Boot) boot_kept (c.in-Ok-begin.ensures.calls.made yes)
 
 pub returns-in-Ok-begin-clause-any_moment : goal.returns-in-Ok-begin-clause-any_moment
 returns-in-Ok-begin-clause-any_moment g c = λ yes s is a active.
@@ -137,11 +137,11 @@ returns-in-Ok-begin-clause-any_moment g c = λ yes s is a active.
     (plain_of c.in-Ok.store (content c.in-Ok.state)) s (loaded_is c.in-Ok.store (content c.in-Ok.state) is.host
     (bytes_now (g.D.Disk.history (disk_at Spool c.args.disks))) s (ap bytes_now (c.in-Ok.ensures.reads.same yes Spool))
     (c.in-Ok.ensures.told yes is.host is.is) is.bytes)
-    (c.begin.ensures.any_moment yes (c.in-Ok.ensures.tells yes))
+    (c.begin.ensures.calls.any_moment yes (c.in-Ok.ensures.tells yes))
 
 pub returns-in-Ok-begin-clause-active : goal.returns-in-Ok-begin-clause-active
 returns-in-Ok-begin-clause-active g c = λ yes a active.
-    c.in-Ok-begin.ensures.active ∙ ap (λ x. recorded (ready x))
+    c.in-Ok-begin.ensures.makes.active ∙ ap (λ x. recorded (ready x))
     (sym (c.one_journal_is_active.ensures _ a (active_of c.in-Ok.store) active (c.in-Ok.ensures.active yes)))
 
 pub returns-in-Err-begin-clause-untouched : goal.returns-in-Err-begin-clause-untouched
@@ -160,4 +160,4 @@ pub returns-in-Err-clause-later : goal.returns-in-Err-clause-later
 returns-in-Err-clause-later g c = λ which. c.in-Err.ensures.reads.later which
 
 pub returns-in-Ok-begin-clause-fuse : goal.returns-in-Ok-begin-clause-fuse
-returns-in-Ok-begin-clause-fuse g c = λ yes which i. c.begin.ensures.fuse yes which i ∙ c.in-Ok.ensures.reads.fuse yes which i
+returns-in-Ok-begin-clause-fuse g c = λ yes which i. c.begin.ensures.stops.fuse yes which i ∙ c.in-Ok.ensures.reads.fuse yes which i

@@ -88,29 +88,29 @@ pub returns-in-Ok-None-clause-any_moment : goal.returns-in-Ok-None-clause-any_mo
 returns-in-Ok-None-clause-any_moment g c = λ yes s told. one_still c.args.self.now s told yes (started c.args.now s).change
 
 pub returns-in-Err-carry_out-clause-broken : goal.returns-in-Err-carry_out-clause-broken
-returns-in-Err-carry_out-clause-broken g c = λ which failed. c.in-Err-carry_out.ensures.broken which (same_error _ _ failed)
+returns-in-Err-carry_out-clause-broken g c = λ which failed. c.in-Err-carry_out.ensures.stops.broken which (same_error _ _ failed)
 
 pub returns-in-Err-carry_out-clause-memory : goal.returns-in-Err-carry_out-clause-memory
 returns-in-Err-carry_out-clause-memory g c = λ yes failed. c.in-Err-carry_out.ensures.memory yes (same_error _ _ failed)
 
 pub returns-in-Err-carry_out-clause-broken_off : goal.returns-in-Err-carry_out-clause-broken_off
 returns-in-Err-carry_out-clause-broken_off g c = λ yes s told.
-    c.in-Err-carry_out.ensures.broken_off yes (started c.args.now s) (does_next c.args.self.now s told c.args.now
+    (c.in-Err-carry_out.ensures.carries (started c.args.now s) (does_next c.args.self.now s told c.args.now
     (c.start_looks_at_no_bytes.ensures.start (bytes_of c.args.self.now) c.args.now (content_of c.args.self.now)) c.in-Ok-Some.plan
-    (next_is c.args.now (content_of c.args.self.now) c.in-Ok-Some.plan (sym c.in-Ok-Some.field-0-is ∙ c.in-Ok-Some.ensures)))
+    (next_is c.args.now (content_of c.args.self.now) c.in-Ok-Some.plan (sym c.in-Ok-Some.field-0-is ∙ c.in-Ok-Some.ensures)))).broken_off yes
 
 pub returns-in-Err-carry_out-clause-cut : goal.returns-in-Err-carry_out-clause-cut
 returns-in-Err-carry_out-clause-cut g c = λ yes s told which failed.
-    c.in-Err-carry_out.ensures.cut yes s told (started c.args.now s) (does_next c.args.self.now s told c.args.now
+    (c.in-Err-carry_out.ensures.carries (started c.args.now s) (does_next c.args.self.now s told c.args.now
     (c.start_looks_at_no_bytes.ensures.start (bytes_of c.args.self.now) c.args.now (content_of c.args.self.now)) c.in-Ok-Some.plan
-    (next_is c.args.now (content_of c.args.self.now) c.in-Ok-Some.plan (sym c.in-Ok-Some.field-0-is ∙ c.in-Ok-Some.ensures))) which (same_error _ _ failed)
+    (next_is c.args.now (content_of c.args.self.now) c.in-Ok-Some.plan (sym c.in-Ok-Some.field-0-is ∙ c.in-Ok-Some.ensures)))).cut yes s told which (same_error _ _ failed)
 
 pub returns-in-Err-carry_out-clause-any_moment : goal.returns-in-Err-carry_out-clause-any_moment
 returns-in-Err-carry_out-clause-any_moment g c = λ yes s told.
-    c.in-Err-carry_out.ensures.any_moment yes s told (started c.args.now s)
+    (c.in-Err-carry_out.ensures.carries (started c.args.now s)
     (does_next c.args.self.now s told c.args.now (c.start_looks_at_no_bytes.ensures.start (bytes_of c.args.self.now) c.args.now
     (content_of c.args.self.now)) c.in-Ok-Some.plan
-    (next_is c.args.now (content_of c.args.self.now) c.in-Ok-Some.plan (sym c.in-Ok-Some.field-0-is ∙ c.in-Ok-Some.ensures)))
+    (next_is c.args.now (content_of c.args.self.now) c.in-Ok-Some.plan (sym c.in-Ok-Some.field-0-is ∙ c.in-Ok-Some.ensures)))).any_moment yes s told
 
 pub returns-in-Ok-clause-more : goal.returns-in-Ok-clause-more
 returns-in-Ok-clause-more g c = sym (ap is_some (next_is c.args.now (content_of c.args.self.now) c.in-Ok-Some.plan
@@ -118,33 +118,33 @@ returns-in-Ok-clause-more g c = sym (ap is_some (next_is c.args.now (content_of 
 
 pub returns-in-Ok-clause-told : goal.returns-in-Ok-clause-told
 returns-in-Ok-clause-told g c = λ yes s told.
-    c.in-Ok.ensures.told yes s told (started c.args.now s) (does_next c.args.self.now s told c.args.now
+    (c.in-Ok.ensures.carries (started c.args.now s) (does_next c.args.self.now s told c.args.now
     (c.start_looks_at_no_bytes.ensures.start (bytes_of c.args.self.now) c.args.now (content_of c.args.self.now)) c.in-Ok-Some.plan
-    (next_is c.args.now (content_of c.args.self.now) c.in-Ok-Some.plan (sym c.in-Ok-Some.field-0-is ∙ c.in-Ok-Some.ensures)))
+    (next_is c.args.now (content_of c.args.self.now) c.in-Ok-Some.plan (sym c.in-Ok-Some.field-0-is ∙ c.in-Ok-Some.ensures)))).told yes s told
 
 pub returns-in-Ok-clause-outputs : goal.returns-in-Ok-clause-outputs
 returns-in-Ok-clause-outputs g c = λ yes s told.
-    c.in-Ok.ensures.outputs yes s told (started c.args.now s) (does_next c.args.self.now s told c.args.now
+    (c.in-Ok.ensures.carries (started c.args.now s) (does_next c.args.self.now s told c.args.now
     (c.start_looks_at_no_bytes.ensures.start (bytes_of c.args.self.now) c.args.now (content_of c.args.self.now)) c.in-Ok-Some.plan
-    (next_is c.args.now (content_of c.args.self.now) c.in-Ok-Some.plan (sym c.in-Ok-Some.field-0-is ∙ c.in-Ok-Some.ensures)))
+    (next_is c.args.now (content_of c.args.self.now) c.in-Ok-Some.plan (sym c.in-Ok-Some.field-0-is ∙ c.in-Ok-Some.ensures)))).outputs yes s told
 
 pub returns-in-Ok-clause-made : goal.returns-in-Ok-clause-made
 returns-in-Ok-clause-made g c = λ yes s told.
-    c.in-Ok.ensures.made yes (started c.args.now s) (does_next c.args.self.now s told c.args.now
+    (c.in-Ok.ensures.carries (started c.args.now s) (does_next c.args.self.now s told c.args.now
     (c.start_looks_at_no_bytes.ensures.start (bytes_of c.args.self.now) c.args.now (content_of c.args.self.now)) c.in-Ok-Some.plan
-    (next_is c.args.now (content_of c.args.self.now) c.in-Ok-Some.plan (sym c.in-Ok-Some.field-0-is ∙ c.in-Ok-Some.ensures)))
+    (next_is c.args.now (content_of c.args.self.now) c.in-Ok-Some.plan (sym c.in-Ok-Some.field-0-is ∙ c.in-Ok-Some.ensures)))).made yes
 
 pub returns-in-Ok-clause-active : goal.returns-in-Ok-clause-active
 returns-in-Ok-clause-active g c = λ yes s told.
-    c.in-Ok.ensures.active (started c.args.now s) (does_next c.args.self.now s told c.args.now
+    (c.in-Ok.ensures.carries (started c.args.now s) (does_next c.args.self.now s told c.args.now
     (c.start_looks_at_no_bytes.ensures.start (bytes_of c.args.self.now) c.args.now (content_of c.args.self.now)) c.in-Ok-Some.plan
-    (next_is c.args.now (content_of c.args.self.now) c.in-Ok-Some.plan (sym c.in-Ok-Some.field-0-is ∙ c.in-Ok-Some.ensures)))
+    (next_is c.args.now (content_of c.args.self.now) c.in-Ok-Some.plan (sym c.in-Ok-Some.field-0-is ∙ c.in-Ok-Some.ensures)))).active
 
 pub returns-in-Ok-clause-any_moment : goal.returns-in-Ok-clause-any_moment
 returns-in-Ok-clause-any_moment g c = λ yes s told.
-    c.in-Ok.ensures.any_moment yes s told (started c.args.now s) (does_next c.args.self.now s told c.args.now
+    (c.in-Ok.ensures.carries (started c.args.now s) (does_next c.args.self.now s told c.args.now
     (c.start_looks_at_no_bytes.ensures.start (bytes_of c.args.self.now) c.args.now (content_of c.args.self.now)) c.in-Ok-Some.plan
-    (next_is c.args.now (content_of c.args.self.now) c.in-Ok-Some.plan (sym c.in-Ok-Some.field-0-is ∙ c.in-Ok-Some.ensures)))
+    (next_is c.args.now (content_of c.args.self.now) c.in-Ok-Some.plan (sym c.in-Ok-Some.field-0-is ∙ c.in-Ok-Some.ensures)))).any_moment yes s told
 
 pub returns-in-Ok-None-clause-bare : goal.returns-in-Ok-None-clause-bare
 returns-in-Ok-None-clause-bare g c = bare_none c.args.now (content_of c.args.self.now)
@@ -197,3 +197,15 @@ returns-in-Ok-clause-short g c = λ was went.
     let same = started_bare now host (c.start_looks_at_no_bytes.ensures.start (λ _. []) now host) next.done next.picked in
     c.in-Ok.ensures.short (map_stepped (λ _. []) next.done) (does next.done plan next.is (λ _. [])) was
     (subst (λ (x : Stepped (List ℕ)). AreShort (map shown x.outputs)) same went)
+
+pub returns-in-Err-carry_out-clause-later : goal.returns-in-Err-carry_out-clause-later
+returns-in-Err-carry_out-clause-later g c = c.carry_out.ensures.stops.later
+
+pub returns-in-Err-carry_out-clause-fuse : goal.returns-in-Err-carry_out-clause-fuse
+returns-in-Err-carry_out-clause-fuse g c = c.carry_out.ensures.stops.fuse
+
+pub returns-in-Ok-clause-later : goal.returns-in-Ok-clause-later
+returns-in-Ok-clause-later g c = c.carry_out.ensures.stops.later
+
+pub returns-in-Ok-clause-fuse : goal.returns-in-Ok-clause-fuse
+returns-in-Ok-clause-fuse g c = c.carry_out.ensures.stops.fuse

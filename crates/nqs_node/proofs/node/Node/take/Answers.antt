@@ -29,45 +29,45 @@ returns-in-Err-clause-any_moment g c = λ yes s told. one_still c.args.self.now 
 
 pub returns-in-Ok-clause-told : goal.returns-in-Ok-clause-told
 returns-in-Ok-clause-told g c = λ yes s told.
-    c.carry_out.ensures.told yes s told (step c.args.event.now s) (done_here c.args.self.now s told (step c.args.event.now)
+    (c.carry_out.ensures.carries (step c.args.event.now s) (done_here c.args.self.now s told (step c.args.event.now)
     (step c.args.event.now (content_of c.args.self.now)) c.in-Ok.plan c.in-Ok.ensures
-    (c.step_looks_at_no_bytes.ensures (bytes_of c.args.self.now) c.args.event.now (content_of c.args.self.now)))
+    (c.step_looks_at_no_bytes.ensures (bytes_of c.args.self.now) c.args.event.now (content_of c.args.self.now)))).told yes s told
 
 pub returns-in-Ok-clause-outputs : goal.returns-in-Ok-clause-outputs
 returns-in-Ok-clause-outputs g c = λ yes s told.
-    c.carry_out.ensures.outputs yes s told (step c.args.event.now s) (done_here c.args.self.now s told (step c.args.event.now)
+    (c.carry_out.ensures.carries (step c.args.event.now s) (done_here c.args.self.now s told (step c.args.event.now)
     (step c.args.event.now (content_of c.args.self.now)) c.in-Ok.plan c.in-Ok.ensures
-    (c.step_looks_at_no_bytes.ensures (bytes_of c.args.self.now) c.args.event.now (content_of c.args.self.now)))
+    (c.step_looks_at_no_bytes.ensures (bytes_of c.args.self.now) c.args.event.now (content_of c.args.self.now)))).outputs yes s told
 
 pub returns-in-Ok-clause-made : goal.returns-in-Ok-clause-made
 returns-in-Ok-clause-made g c = λ yes s told.
-    c.carry_out.ensures.made yes (step c.args.event.now s) (done_here c.args.self.now s told (step c.args.event.now)
+    (c.carry_out.ensures.carries (step c.args.event.now s) (done_here c.args.self.now s told (step c.args.event.now)
     (step c.args.event.now (content_of c.args.self.now)) c.in-Ok.plan c.in-Ok.ensures
-    (c.step_looks_at_no_bytes.ensures (bytes_of c.args.self.now) c.args.event.now (content_of c.args.self.now)))
+    (c.step_looks_at_no_bytes.ensures (bytes_of c.args.self.now) c.args.event.now (content_of c.args.self.now)))).made yes
 
 pub returns-in-Ok-clause-active : goal.returns-in-Ok-clause-active
 returns-in-Ok-clause-active g c = λ yes s told.
-    c.carry_out.ensures.active (step c.args.event.now s) (done_here c.args.self.now s told (step c.args.event.now)
+    (c.carry_out.ensures.carries (step c.args.event.now s) (done_here c.args.self.now s told (step c.args.event.now)
     (step c.args.event.now (content_of c.args.self.now)) c.in-Ok.plan c.in-Ok.ensures
-    (c.step_looks_at_no_bytes.ensures (bytes_of c.args.self.now) c.args.event.now (content_of c.args.self.now)))
+    (c.step_looks_at_no_bytes.ensures (bytes_of c.args.self.now) c.args.event.now (content_of c.args.self.now)))).active
 
 pub returns-in-Ok-clause-broken_off : goal.returns-in-Ok-clause-broken_off
 returns-in-Ok-clause-broken_off g c = λ yes s told.
-    c.carry_out.ensures.broken_off yes (step c.args.event.now s) (done_here c.args.self.now s told (step c.args.event.now)
+    (c.carry_out.ensures.carries (step c.args.event.now s) (done_here c.args.self.now s told (step c.args.event.now)
     (step c.args.event.now (content_of c.args.self.now)) c.in-Ok.plan c.in-Ok.ensures
-    (c.step_looks_at_no_bytes.ensures (bytes_of c.args.self.now) c.args.event.now (content_of c.args.self.now)))
+    (c.step_looks_at_no_bytes.ensures (bytes_of c.args.self.now) c.args.event.now (content_of c.args.self.now)))).broken_off yes
 
 pub returns-in-Ok-clause-cut : goal.returns-in-Ok-clause-cut
 returns-in-Ok-clause-cut g c = λ yes s told which failed.
-    c.carry_out.ensures.cut yes s told (step c.args.event.now s) (done_here c.args.self.now s told (step c.args.event.now)
+    (c.carry_out.ensures.carries (step c.args.event.now s) (done_here c.args.self.now s told (step c.args.event.now)
     (step c.args.event.now (content_of c.args.self.now)) c.in-Ok.plan c.in-Ok.ensures
-    (c.step_looks_at_no_bytes.ensures (bytes_of c.args.self.now) c.args.event.now (content_of c.args.self.now))) which failed
+    (c.step_looks_at_no_bytes.ensures (bytes_of c.args.self.now) c.args.event.now (content_of c.args.self.now)))).cut yes s told which failed
 
 pub returns-in-Ok-clause-any_moment : goal.returns-in-Ok-clause-any_moment
 returns-in-Ok-clause-any_moment g c = λ yes s told.
-    c.carry_out.ensures.any_moment yes s told (step c.args.event.now s) (done_here c.args.self.now s told (step c.args.event.now)
+    (c.carry_out.ensures.carries (step c.args.event.now s) (done_here c.args.self.now s told (step c.args.event.now)
     (step c.args.event.now (content_of c.args.self.now)) c.in-Ok.plan c.in-Ok.ensures
-    (c.step_looks_at_no_bytes.ensures (bytes_of c.args.self.now) c.args.event.now (content_of c.args.self.now)))
+    (c.step_looks_at_no_bytes.ensures (bytes_of c.args.self.now) c.args.event.now (content_of c.args.self.now)))).any_moment yes s told
 
 pub returns-in-Ok-clause-bare : goal.returns-in-Ok-clause-bare
 returns-in-Ok-clause-bare g c =
@@ -104,3 +104,15 @@ returns-in-Ok-clause-short g c = λ was went.
     let same = c.step_looks_at_no_bytes.ensures (λ _. []) e host in
     c.carry_out.ensures.short (map_stepped (λ _. []) (step e host)) (does (step e host) c.in-Ok.plan c.in-Ok.ensures (λ _. [])) was
     (subst (λ (x : Stepped (List ℕ)). AreShort (map shown x.outputs)) same went)
+
+pub returns-in-Ok-clause-running : goal.returns-in-Ok-clause-running
+returns-in-Ok-clause-running g c = c.carry_out.ensures.stops.running
+
+pub returns-in-Ok-clause-broken : goal.returns-in-Ok-clause-broken
+returns-in-Ok-clause-broken g c = c.carry_out.ensures.stops.broken
+
+pub returns-in-Ok-clause-later : goal.returns-in-Ok-clause-later
+returns-in-Ok-clause-later g c = c.carry_out.ensures.stops.later
+
+pub returns-in-Ok-clause-fuse : goal.returns-in-Ok-clause-fuse
+returns-in-Ok-clause-fuse g c = c.carry_out.ensures.stops.fuse
