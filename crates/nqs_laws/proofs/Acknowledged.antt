@@ -34,7 +34,8 @@ use Rattle.nqs_rules.specs.Stepped.{Stepped, shown}
 use Rattle.nqs_rules.specs.World.{World, Act, new_world, boot_output, sent_by}
 use Rattle.nqs_rules.specs.Run.{happens, run, states_of}
 use Rattle.nqs_rules.proofs.RowFacts.{same_id}
-use Rattle.nqs_laws.specs.History.{Note, Saw, Kept, saws, notes, history}
+use Rattle.nqs_rules.specs.Notes.{Note, Saw, Kept, saws}
+use Rattle.nqs_laws.specs.History.{history}
 use Rattle.nqs_laws.specs.Sane.{AreSane, IsSite}
 use Rattle.nqs_laws.specs.Words.{replayed}
 use Rattle.nqs_laws.specs.Launches.{is_acknowledged, lies, was_taken_out}
@@ -348,8 +349,8 @@ run_takes site few acts sane =
 
 history-append : (a b : List Act) (w : World) → history (a ++ b) w ≡ history a w ++ history b (run a w).world
 history-append [] b w = refl
-history-append (x ∷ a) b w = ap (λ l. notes x w ++ l) (history-append a b (happens x w).world)
-    ∙ sym (append_assoc (notes x w) (history a (happens x w).world) (history b (run a (happens x w).world).world))
+history-append (x ∷ a) b w = ap (λ l. (happens x w).notes ++ l) (history-append a b (happens x w).world)
+    ∙ sym (append_assoc (happens x w).notes (history a (happens x w).world) (history b (run a (happens x w).world).world))
 
 pub stays_out : (site : List (List ℕ)) → IsSite site → (acts more : List Act) → AreSane (acts ++ more) → (x : RequestId)
     → was_taken_out x (states_of (new_world site)) (history acts (new_world site)) ≡ true

@@ -19,8 +19,9 @@ use Rattle.nqs_rules.specs.Edits.{change_at}
 use Rattle.nqs_rules.specs.Step.{step}
 use Rattle.nqs_rules.specs.Start.{start}
 use Rattle.nqs_rules.specs.Stepped.{Stepped, shown, stored_parts}
+use Rattle.nqs_rules.specs.Notes.{Why, ByEvent, ByStart, ByBoot, Saw, Kept, saws}
 use Rattle.nqs_rules.specs.World.{World, Host, Ran, Made, Act, Asks, Ends, Finishes, Fails, Writes, Leaves, Delivers, Newest}
-use Rattle.nqs_rules.specs.World.{Ticks, Clock, Fuse, Crashes, Boots, Shows, host_of, ready, no_fuses, no_calls, then_seen, then_ran, seen_output, sent_by}
+use Rattle.nqs_rules.specs.World.{Ticks, Clock, Fuse, Crashes, Boots, Shows, host_of, ready, no_fuses, no_calls, then_noted, then_ran, seen_output, sent_by}
 use Rattle.nqs_rules.specs.World.{put_host, seeing, unseen, stopped, used, emits, change_fated, makes_change, carries_out, steps, starts, all_starts, left_of}
 use Rattle.nqs_rules.specs.World.{shuts_down, halted_host, halts, takes_up, taken_by, takes, finishes, finishes_up, delivers, packet_at, last_of, newest_between}
 use Rattle.nqs_rules.specs.World.{boot_output, boots_down, boots, crashes_up, runs_now, is_less_row, is_between}
@@ -104,42 +105,42 @@ put_alike : (i : HostId) (new other : Host) (w v : World) → AreAlike new other
 put_alike i new other w v p k = record { hosts = alike_put i.0 new other p w.hosts v.hosts k.hosts; packets = k.packets; now = k.now }
 
 unseen_alike : (w v : World) → AreWorldsAlike w v → AreRunsAlike (unseen w) (unseen v)
-unseen_alike w v k = record { seen = refl; world = k }
+unseen_alike w v k = record { notes = refl; world = k }
 
 seeing_alike : (x : Seen) (w v : World) → AreWorldsAlike w v → AreRunsAlike (seeing x w) (seeing x v)
-seeing_alike x w v k = record { seen = refl; world = k }
+seeing_alike x w v k = record { notes = refl; world = k }
 
 emits_alike : (i : HostId) (os : List Output) (w v : World) → AreWorldsAlike w v → AreRunsAlike (emits i os w) (emits i os v)
 emits_alike i [] w v k = unseen_alike w v k
 emits_alike i (o ∷ os) w v k =
     let rest = emits_alike i os (record w { packets = w.packets ++ sent_by o }) (record v { packets = v.packets ++ sent_by o })
     (record { hosts = k.hosts; packets = ap (λ l. l ++ sent_by o) k.packets; now = k.now }) in
-    record { seen = λ j. seen_output i (length (k.packets j) + 1) o ++ rest.seen j; world = rest.world }
+    record { notes = λ j. saws (seen_output i (length (k.packets j) + 1) o) ++ rest.notes j; world = rest.world }
 
 module _ (i : HostId) (g h : Host) (k : AreAlike g h) where
-  change_alike : (c : Change (List ℕ)) (first : List Seen) (os : List Output) (w v : World) → AreWorldsAlike w v
-      → AreRunsAlike (makes_change i g c first os w) (makes_change i h c first os v)
-  change_alike c first os w v all =
+  change_alike : (why : Why) (c : Change (List ℕ)) (first : List Seen) (os : List Output) (w v : World) → AreWorldsAlike w v
+      → AreRunsAlike (makes_change i g why c first os w) (makes_change i h why c first os v)
+  change_alike why c first os w v all =
       let puts : List (List ℕ) = stored_parts c in
       let u : World = put_host i (used puts (applied c g.state) g) w in
       let t : World = put_host i (used puts (applied c h.state) h) v in
       let rest = emits_alike i os u t (put_alike i (used puts (applied c g.state) g) (used puts (applied c h.state) h) w v (alike_used puts c g h k) all) in
-      subst (λ f. AreRunsAlike (change_fated f i g c first os w) (makes_change i h c first os v)) (sym (made puts g k.fuses))
-      (subst (λ f. AreRunsAlike (change_fated Made i g c first os w) (change_fated f i h c first os v)) (sym (made puts h k.others))
-      (record { seen = ap (λ l. first ++ l) rest.seen; world = rest.world }))
+      subst (λ f. AreRunsAlike (change_fated f i g why c first os w) (makes_change i h why c first os v)) (sym (made puts g k.fuses))
+      (subst (λ f. AreRunsAlike (change_fated Made i g why c first os w) (change_fated f i h why c first os v)) (sym (made puts h k.others))
+      (record { notes = ap (λ l. (Kept i why c ∷ saws first) ++ l) rest.notes; world = rest.world }))
 
-  steps_alike : (x : Stepped (List ℕ)) (w v : World) → AreWorldsAlike w v → AreRunsAlike (steps i g x w) (steps i h x v)
-  steps_alike x w v all = of x.change
+  steps_alike : (why : Why) (x : Stepped (List ℕ)) (w v : World) → AreWorldsAlike w v → AreRunsAlike (steps i g why x w) (steps i h why x v)
+  steps_alike why x w v all = of x.change
     where
-      of : (o : Option (Change (List ℕ))) → AreRunsAlike (carries_out i g o (map shown x.outputs) w) (carries_out i h o (map shown x.outputs) v)
+      of : (o : Option (Change (List ℕ))) → AreRunsAlike (carries_out i g why o (map shown x.outputs) w) (carries_out i h why o (map shown x.outputs) v)
       of None = emits_alike i (map shown x.outputs) w v all
-      of (Some c) = change_alike c [] (map shown x.outputs) w v all
+      of (Some c) = change_alike why c [] (map shown x.outputs) w v all
 
 then_alike : (r q : Ran) (f k : World → Ran) → AreRunsAlike r q → ((w v : World) → AreWorldsAlike w v → AreRunsAlike (f w) (k v))
     → AreRunsAlike (then_ran r f) (then_ran q k)
 then_alike r q f k all next =
     let rest = next r.world q.world all.world in
-    record { seen = λ j. all.seen j ++ rest.seen j; world = rest.world }
+    record { notes = λ j. all.notes j ++ rest.notes j; world = rest.world }
 
 -- starts
 
@@ -150,7 +151,7 @@ start_of n i o w = elim o [
     | false ↦ unseen w
     | true ↦ elim (start w.now host.state) [
       | None ↦ unseen w
-      | Some s ↦ (let r = steps i host s w in then_seen r.seen (starts n i r.world))
+      | Some s ↦ (let r = steps i host ByStart s w in then_noted r.notes (starts n i r.world))
     ]
   ]
 ]
@@ -160,7 +161,7 @@ begin_of n i host up o w = elim up [
   | false ↦ unseen w
   | true ↦ elim o [
     | None ↦ unseen w
-    | Some s ↦ (let r = steps i host s w in then_seen r.seen (starts n i r.world))
+    | Some s ↦ (let r = steps i host ByStart s w in then_noted r.notes (starts n i r.world))
   ]
 ]
 
@@ -172,7 +173,8 @@ starts_alike (suc n) i w v k = of (host_of i w) (host_of i v) (alike_at w.hosts 
         → ((a b : World) → AreWorldsAlike a b → AreRunsAlike (starts n i a) (starts n i b)) → AreRunsAlike (begin_of n i g up o w) (begin_of n i h up o v)
     by g h p false o rest = unseen_alike w v k
     by g h p true None rest = unseen_alike w v k
-    by g h p true (Some x) rest = then_alike (steps i g x w) (steps i h x v) (starts n i) (starts n i) (steps_alike i g h p x w v k) rest
+    by g h p true (Some x) rest = then_alike (steps i g ByStart x w) (steps i h ByStart x v) (starts n i) (starts n i)
+        (steps_alike i g h p ByStart x w v k) rest
 
     of : (a b : Option Host) → BothAlike a b → ((a b : World) → AreWorldsAlike a b → AreRunsAlike (starts n i a) (starts n i b))
         → AreRunsAlike (start_of n i a w) (start_of n i b v)
@@ -225,13 +227,14 @@ halts_alike true i w v k = of (host_of i w) (host_of i v) (alike_at w.hosts v.ho
 event_alike : (i : HostId) (e : Event) (g h : Host) → AreAlike g h → (w v : World) → AreWorldsAlike w v → AreRunsAlike (takes_up i g e w) (takes_up i h e v)
 event_alike i e g h p w v k =
     let states : g.state ≡ h.state = ap (λ x. x.state) p.same in
-    let stepped : AreRunsAlike (steps i g (step e g.state) w) (steps i h (step e h.state) v) =
-    subst (λ s. AreRunsAlike (steps i g (step e g.state) w) (steps i h (step e s) v)) states (steps_alike i g h p (step e g.state) w v k) in
-    subst (λ s. AreRunsAlike (takes_up i g e w) (then_ran (then_ran (steps i h (step e h.state) v) (all_starts i)) (halts (shuts_down e s) i))) states
-    (then_alike (then_ran (steps i g (step e g.state) w) (all_starts i)) (then_ran (steps i h (step e h.state) v) (all_starts i))
+    let stepped : AreRunsAlike (steps i g (ByEvent e) (step e g.state) w) (steps i h (ByEvent e) (step e h.state) v) =
+    subst (λ s. AreRunsAlike (steps i g (ByEvent e) (step e g.state) w) (steps i h (ByEvent e) (step e s) v)) states
+    (steps_alike i g h p (ByEvent e) (step e g.state) w v k) in
+    subst (λ s. AreRunsAlike (takes_up i g e w) (then_ran (then_ran (steps i h (ByEvent e) (step e h.state) v) (all_starts i)) (halts (shuts_down e s) i)))
+    states (then_alike (then_ran (steps i g (ByEvent e) (step e g.state) w) (all_starts i)) (then_ran (steps i h (ByEvent e) (step e h.state) v) (all_starts i))
     (halts (shuts_down e g.state) i) (halts (shuts_down e g.state) i)
-    (then_alike (steps i g (step e g.state) w) (steps i h (step e h.state) v) (all_starts i) (all_starts i) stepped (all_starts_alike i))
-    (halts_alike (shuts_down e g.state) i))
+    (then_alike (steps i g (ByEvent e) (step e g.state) w) (steps i h (ByEvent e) (step e h.state) v) (all_starts i) (all_starts i) stepped
+    (all_starts_alike i)) (halts_alike (shuts_down e g.state) i))
 
 taken_alike : (i : HostId) (f k : Host → World → Ran) → ((g h : Host) → AreAlike g h → (w v : World) → AreWorldsAlike w v → AreRunsAlike (f g w) (k h v))
     → (w v : World) → AreWorldsAlike w v → AreRunsAlike (taken_by (host_of i w) i f w) (taken_by (host_of i v) i k v)
@@ -276,9 +279,9 @@ boots_alike i w v k = of (host_of i w) (host_of i v) (alike_at w.hosts v.hosts k
     down : (g h : Host) → AreAlike g h → AreRunsAlike (boots_down i g w) (boots_down i h v)
     down g h p =
         let os : Host → List Output = λ x. filter_map boot_output x.state.rows in
-        subst (λ l. AreRunsAlike (boots_down i g w) (then_ran (makes_change i h Boot (seen.Boot i ∷ []) l v) (all_starts i))) (ap (λ x. os x) p.same)
-        (then_alike (makes_change i g Boot (seen.Boot i ∷ []) (os g) w) (makes_change i h Boot (seen.Boot i ∷ []) (os g) v) (all_starts i) (all_starts i)
-        (change_alike i g h p Boot (seen.Boot i ∷ []) (os g) w v k) (all_starts_alike i))
+        subst (λ l. AreRunsAlike (boots_down i g w) (then_ran (makes_change i h ByBoot Boot (seen.Boot i ∷ []) l v) (all_starts i))) (ap (λ x. os x) p.same)
+        (then_alike (makes_change i g ByBoot Boot (seen.Boot i ∷ []) (os g) w) (makes_change i h ByBoot Boot (seen.Boot i ∷ []) (os g) v)
+        (all_starts i) (all_starts i) (change_alike i g h p ByBoot Boot (seen.Boot i ∷ []) (os g) w v k) (all_starts_alike i))
 
     by : (g h : Host) → AreAlike g h → (up : Bool) → AreRunsAlike (boot_if i g up w) (boot_if i h up v)
     by g h p true = seeing_alike (seen.Up i) w v k
@@ -304,12 +307,12 @@ happens_alike (Delivers n) none w v k = subst (λ o. AreRunsAlike (happens (Deli
 happens_alike (Newest a b) none w v k = subst (λ o. AreRunsAlike (happens (Newest a b) w) (delivers None o v))
     (ap (λ l. last_of (filter (is_between a b) l)) k.packets) (delivers_alike None (newest_between a b w) w v k)
 happens_alike (Ticks i) none w v k = takes_alike i (event.Tick w.now) (event.Tick v.now) (ap (λ now. event.Tick now) k.now) w v k
-happens_alike (Clock moment) none w v k = record { seen = refl; world = record { hosts = k.hosts; packets = k.packets; now = refl } }
+happens_alike (Clock moment) none w v k = record { notes = refl; world = record { hosts = k.hosts; packets = k.packets; now = refl } }
 happens_alike (Fuse i disk calls tear) none w v k = absurd (true≢false (sym none))
 happens_alike (Crashes i) none w v k = taken_alike i (crashes_up i) (crashes_up i) (λ g h p a b all. seeing_alike (seen.Stop i)
     (put_host i (stopped g.state g) a) (put_host i (stopped h.state h) b) (put_alike i (stopped g.state g) (stopped h.state h) a b (alike_stopped g h p) all)) w v k
 happens_alike (Boots i) none w v k = boots_alike i w v k
-happens_alike Shows none w v k = record { seen = ap (λ l. seen.Table (table l) ∷ []) (alike_states w.hosts v.hosts k.hosts); world = k }
+happens_alike Shows none w v k = record { notes = ap (λ l. Saw (seen.Table (table l)) ∷ []) (alike_states w.hosts v.hosts k.hosts); world = k }
 
 pub run_alike : (acts : List Act) (w v : World) → list_all lays_none acts ≡ true → AreWorldsAlike w v → AreRunsAlike (run acts w) (run acts v)
 run_alike [] w v none k = unseen_alike w v k
@@ -317,4 +320,4 @@ run_alike (act ∷ acts) w v none k =
     let both = and_parts (lays_none act) (list_all lays_none acts) none in
     let now = happens_alike act both.0 w v k in
     let rest = run_alike acts (happens act w).world (happens act v).world both.1 now.world in
-    record { seen = λ j. now.seen j ++ rest.seen j; world = rest.world }
+    record { notes = λ j. now.notes j ++ rest.notes j; world = rest.world }

@@ -39,7 +39,7 @@ use Rattle.nqs_rules.specs.Run.{run}
 use Rattle.nqs_rules.proofs.ListFacts.{list_all-found}
 use Rattle.nqs_rules.proofs.KeyFacts.{filter_all}
 use Rattle.nqs_rules.proofs.FindKept.{all-filter_map, all-mapped}
-use Rattle.nqs_laws.specs.History.{ByEvent}
+use Rattle.nqs_rules.specs.Notes.{ByEvent}
 use Rattle.nqs_laws.specs.Sane.{AreSane, IsSite}
 use Rattle.nqs_laws.specs.Handovers.{IsStateOf}
 use Rattle.nqs_laws.specs.AtOnce.{is_run, is_waiting, runs, waits_in, runs_on_in, NoneAt, LeavesNone, has_no_silence, tick_moment, TakesBackAll}

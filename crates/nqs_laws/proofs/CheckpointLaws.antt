@@ -1,5 +1,5 @@
 -- A change that begins with a checkpoint: what it shows and leaves.
-use Rattle.std.proofs.Common.{◌≡◌, ◌⊎◌, inl, inr, ℕ, ◌+◌, Bool, true, false, not, ◌&&◌, ◌||◌, List, ◌∷◌, Some, true≢false, refl, sym, ap, subst, ◌∙◌}
+use Rattle.std.proofs.Common.{◌≡◌, ◌⊎◌, inl, inr, ℕ, ◌+◌, Bool, true, false, not, ◌&&◌, ◌||◌, List, [], ◌∷◌, Some, true≢false, refl, sym, ap, subst, ◌∙◌}
 use Rattle.std.specs.Prelude.{if◌then◌else◌, MatchBool}
 use Rattle.std.proofs.lemmas.Bool.{and_parts, or_parts}
 use Rattle.nqs_types.specs.declared.ids.HostId.{HostId}
@@ -9,7 +9,8 @@ use Rattle.nqs_types.specs.declared.world.Seen.{Seen}
 use Rattle.nqs_rules.specs.Applied.{applied}
 use Rattle.nqs_rules.specs.Stepped.{stored_parts}
 use Rattle.nqs_rules.specs.Journals.{active, resting, is_due, torn_root, names_same}
-use Rattle.nqs_rules.specs.World.{World, Host, Fate, Made, StoppedBefore, StoppedAfter, fate, fate_of_record, host_of, put_host, then_seen, seeing, ready}
+use Rattle.nqs_rules.specs.Notes.{Why, Kept, saws}
+use Rattle.nqs_rules.specs.World.{World, Host, Fate, Made, StoppedBefore, StoppedAfter, fate, fate_of_record, host_of, put_host, then_noted, seeing, ready}
 use Rattle.nqs_rules.specs.World.{turns_over, torn_over, cut_off, recorded, wrote, used, stopped, falls_at_journal, falls_at_root, emits, change_fated, makes_change}
 use Rattle.nqs_types.specs.declared.world.Seen.TheVariants as seen
 use Rattle.nqs_laws.proofs.TwoJournals.{same_names, turned_active}
@@ -30,7 +31,7 @@ ready_due h due = ap (λ b. if b then turns_over h else h) due
 pub ready_early : (h : Host) → is_due h.records ≡ false → ready h ≡ h
 ready_early h early = ap (λ b. if b then turns_over h else h) early
 
-module _ (h : HostId) (host : Host) (c : Change (List ℕ)) (first : List Seen) (os : List Output) (w : World) where
+module _ (h : HostId) (host : Host) (why : Why) (c : Change (List ℕ)) (first : List Seen) (os : List Output) (w : World) where
   -- what a change makes where a checkpoint is due and no fuse falls in it
   module _ (due : is_due host.records ≡ true) (spared : (falls_at_journal host || falls_at_root host) ≡ false) where
     same_fate : (puts : List (List ℕ)) → fate puts host ≡ fate_of_record puts (turns_over host)
@@ -45,22 +46,23 @@ module _ (h : HostId) (host : Host) (c : Change (List ℕ)) (first : List Seen) 
         ∙ ap (λ b. if b then host else (if falls_at_root host then torn_over host else turns_over host)) both.0
         ∙ ap (λ b. if b then torn_over host else turns_over host) both.1
 
-    same_fated : (f : Fate) → change_fated f h host c first os w ≡ change_fated f h (turns_over host) c first os w
-    same_fated Made = ap (λ g. then_seen first (emits h os (put_host h (record (wrote (stored_parts c) g)
+    same_fated : (f : Fate) → change_fated f h host why c first os w ≡ change_fated f h (turns_over host) why c first os w
+    same_fated Made = ap (λ g. then_noted (Kept h why c ∷ saws first) (emits h os (put_host h (record (wrote (stored_parts c) g)
         { up = true; state = applied c host.state; told = host.state ∷ host.told }) w))) (ready_due host due)
     same_fated StoppedBefore = ap (λ g. seeing (seen.Stop h) (put_host h (stopped host.state g) w)) same_cut
-    same_fated StoppedAfter = ap (λ g. seeing (seen.Stop h) (put_host h (stopped (applied c host.state) (recorded g)) w)) (ready_due host due)
+    same_fated StoppedAfter = ap (λ g. then_noted (Kept h why c ∷ []) (seeing (seen.Stop h) (put_host h (stopped (applied c host.state) (recorded g)) w)))
+        (ready_due host due)
 
-    same_change : makes_change h host c first os w ≡ makes_change h (turns_over host) c first os w
-    same_change = ap (λ f. change_fated f h host c first os w) (same_fate (stored_parts c)) ∙ same_fated (fate_of_record (stored_parts c) (turns_over host))
+    same_change : makes_change h host why c first os w ≡ makes_change h (turns_over host) why c first os w
+    same_change = ap (λ f. change_fated f h host why c first os w) (same_fate (stored_parts c)) ∙ same_fated (fate_of_record (stored_parts c) (turns_over host))
 
-  pub shows_nothing : stops_in_checkpoint host ≡ false → makes_change h host c first os w ≡ makes_change h (ready host) c first os w
+  pub shows_nothing : stops_in_checkpoint host ≡ false → makes_change h host why c first os w ≡ makes_change h (ready host) why c first os w
   shows_nothing k = by (is_due host.records) refl
     where
-      by : (b : Bool) → is_due host.records ≡ b → makes_change h host c first os w ≡ makes_change h (ready host) c first os w
+      by : (b : Bool) → is_due host.records ≡ b → makes_change h host why c first os w ≡ makes_change h (ready host) why c first os w
       by true due = same_change due (sym (ap (λ b. b && (falls_at_journal host || falls_at_root host)) due) ∙ k)
-          ∙ ap (λ g. makes_change h g c first os w) (sym (ready_due host due))
-      by false early = ap (λ g. makes_change h g c first os w) (sym (ready_early host early))
+          ∙ ap (λ g. makes_change h g why c first os w) (sym (ready_due host due))
+      by false early = ap (λ g. makes_change h g why c first os w) (sym (ready_early host early))
 
   -- what a stop in a checkpoint leaves
   torn_tells : TellsAsBefore host (torn_over host)
@@ -81,7 +83,7 @@ module _ (h : HostId) (host : Host) (c : Change (List ℕ)) (first : List Seen) 
       by false true k = torn_tells
       by false false k = absurd (true≢false (sym k))
 
-  pub stops_as_it_was : stops_in_checkpoint host ≡ true → StopsAsItWas h host w (makes_change h host c first os w)
+  pub stops_as_it_was : stops_in_checkpoint host ≡ true → StopsAsItWas h host w (makes_change h host why c first os w)
   stops_as_it_was k =
       let both = and_parts (is_due host.records) (falls_at_journal host || falls_at_root host) k in
       let cut : cut_off host ≡ (if falls_at_journal host then host else (if falls_at_root host then torn_over host else turns_over host)) =
@@ -89,15 +91,15 @@ module _ (h : HostId) (host : Host) (c : Change (List ℕ)) (first : List Seen) 
       record {
         left = cut_off host;
         tells = subst (TellsAsBefore host) (sym cut) (cut_tells both.1);
-        is = ap (λ b. change_fated (if b then StoppedBefore else fate_of_record (stored_parts c) (ready host)) h host c first os w) k;
+        is = ap (λ b. change_fated (if b then StoppedBefore else fate_of_record (stored_parts c) (ready host)) h host why c first os w) k;
       }
 
   -- what a change that is made leaves
   module _ (there : host_of h w ≡ Some host) (made : fate (stored_parts c) host ≡ Made) where
-    leaves : (g : Host) → ready host ≡ g → Records h (applied c host.state) (active g.root) (g.records + 1) (makes_change h host c first os w).world
+    leaves : (g : Host) → ready host ≡ g → Records h (applied c host.state) (active g.root) (g.records + 1) (makes_change h host why c first os w).world
     leaves g is = record {
       host = used (stored_parts c) (applied c host.state) host;
-      there = ap (λ f. host_of h (change_fated f h host c first os w).world) made
+      there = ap (λ f. host_of h (change_fated f h host why c first os w).world) made
           ∙ (ap (host_of h) (emits_world h os (put_host h (used (stored_parts c) (applied c host.state) host) w))
           ∙ get-here h.0 (used (stored_parts c) (applied c host.state) host) host w.hosts there);
       state = refl;
@@ -105,10 +107,10 @@ module _ (h : HostId) (host : Host) (c : Change (List ℕ)) (first : List Seen) 
       count = ap (λ g. g.records + 1) is;
     }
 
-    pub leaves_one : is_due host.records ≡ true → Records h (applied c host.state) (resting host.root) 1 (makes_change h host c first os w).world
-    leaves_one due = subst (λ journal. Records h (applied c host.state) journal 1 (makes_change h host c first os w).world) (turned_active host.root)
+    pub leaves_one : is_due host.records ≡ true → Records h (applied c host.state) (resting host.root) 1 (makes_change h host why c first os w).world
+    leaves_one due = subst (λ journal. Records h (applied c host.state) journal 1 (makes_change h host why c first os w).world) (turned_active host.root)
         (leaves (turns_over host) (ready_due host due))
 
     pub leaves_more : is_due host.records ≡ false
-        → Records h (applied c host.state) (active host.root) (host.records + 1) (makes_change h host c first os w).world
+        → Records h (applied c host.state) (active host.root) (host.records + 1) (makes_change h host why c first os w).world
     leaves_more early = leaves host (ready_early host early)

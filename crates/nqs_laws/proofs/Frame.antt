@@ -2,7 +2,7 @@
 use Rattle.std.proofs.Common.{◌≡◌, ℕ, ◌+◌, Bool, true, false, cond, List, [], ◌∷◌, ◌++◌, map, filter, length, slice_get, Option, None, Some, zero, suc, refl}
 use Rattle.std.proofs.Common.{sym, ap, subst, ◌∙◌, if◌then◌else◌}
 use Rattle.std.proofs.lemmas.Bool.{and_parts}
-use Rattle.std.proofs.lemmas.List.{append_assoc, append-nil, length-append}
+use Rattle.std.proofs.lemmas.List.{append_assoc, append-nil, length-append, map-append}
 use Rattle.std.proofs.lemmas.Option.{same_Some, none-some, slice_get-map}
 use Rattle.std.specs.Option.{option_map}
 use Rattle.std.specs.List.{filter_map, flat_map, list_all}
@@ -16,15 +16,14 @@ use Rattle.nqs_rules.specs.Step.{step}
 use Rattle.nqs_rules.specs.Start.{start}
 use Rattle.nqs_rules.specs.Stepped.{Stepped, shown, stored_parts}
 use Rattle.nqs_rules.specs.World.{World, Host, Ran, Fate, Made, StoppedBefore, StoppedAfter, Act, Asks, Ends, Finishes, Fails, Writes, Leaves, Delivers, Newest}
-use Rattle.nqs_rules.specs.World.{Ticks, Clock, Fuse, Crashes, Boots, Shows, fate, host_of, put_host, then_seen, seeing, unseen, stopped, used}
+use Rattle.nqs_rules.specs.World.{Ticks, Clock, Fuse, Crashes, Boots, Shows, fate, host_of, put_host, then_noted, then_ran, seeing, unseen, stopped, used}
 use Rattle.nqs_rules.specs.World.{ready, cut_off, recorded}
-use Rattle.nqs_rules.specs.World.{seen_output, sent_by, emits, change_fated, makes_change, steps, starts, all_starts, left_of, shuts_down, halted_host, halts, takes_up}
+use Rattle.nqs_rules.specs.World.{seen_output, sent_by, emits, change_fated, makes_change, carries_out, steps, starts, all_starts, left_of, shuts_down}
+use Rattle.nqs_rules.specs.World.{halted_host, halts, takes_up}
 use Rattle.nqs_rules.specs.World.{taken_by, takes, finishes, finishes_up, delivers, packet_at, last_of, is_between, newest_between, boot_output, boots_down}
 use Rattle.nqs_rules.specs.World.{boots, crashes_up, runs_now, is_less_row, fused_host, fuses}
 use Rattle.nqs_rules.specs.Run.{states_of, happens, run}
-use Rattle.nqs_laws.specs.History.{Why, ByEvent, ByStart, ByBoot, Note, Saw, Kept, saws, kept_by, change_notes, plan_notes, step_notes, start_notes}
-use Rattle.nqs_laws.specs.History.{all_start_notes, event_notes, taken_notes, take_notes, finish_notes, finish_up_notes, deliver_notes, boot_down_notes}
-use Rattle.nqs_laws.specs.History.{boot_notes, notes, history}
+use Rattle.nqs_rules.specs.Notes.{Why, ByEvent, ByStart, ByBoot, Note, Saw, Kept, saws}
 use Rattle.nqs_laws.specs.Sane.{is_sane_act, AreSane}
 use Rattle.nqs_types.specs.declared.ids.HostId.{HostId}
 use Rattle.nqs_types.specs.declared.request.Row.{Row}
@@ -182,10 +181,15 @@ stop_states h host left w e = put_states h (stopped host.state left) w ∙ put-s
 
 -- outputs
 
-emits_seen : (h : HostId) (os : List Output) (w : World) → (emits h os w).seen ≡ seen_from h (length w.packets) os
-emits_seen h [] w = refl
-emits_seen h (o ∷ os) w = ap (λ l. seen_output h (length w.packets + 1) o ++ l)
-    (emits_seen h os (record w { packets = w.packets ++ sent_by o }) ∙ ap (λ n. seen_from h n os) (length-append w.packets (sent_by o)))
+-- things seen in two parts
+pub saws-append : (a b : List Seen) → saws (a ++ b) ≡ saws a ++ saws b
+saws-append a b = map-append Saw a b
+
+emits_notes : (h : HostId) (os : List Output) (w : World) → (emits h os w).notes ≡ saws (seen_from h (length w.packets) os)
+emits_notes h [] w = refl
+emits_notes h (o ∷ os) w = ap (λ l. saws (seen_output h (length w.packets + 1) o) ++ l)
+    (emits_notes h os (record w { packets = w.packets ++ sent_by o }) ∙ ap (λ n. saws (seen_from h n os)) (length-append w.packets (sent_by o)))
+    ∙ sym (saws-append (seen_output h (length w.packets + 1) o) (seen_from h (length w.packets + length (sent_by o)) os))
 
 pub emits_world : (h : HostId) (os : List Output) (w : World) → (emits h os w).world ≡ record w { packets = w.packets ++ sent_in os }
 emits_world h [] w = λ j. record w { packets = sym (append-nil w.packets) j }
@@ -218,22 +222,26 @@ abbrev pub world_of : Ran → World
 world_of r = r.world
 
 module _ (P : Moment → Type 0) (f : Steps P) where
-  -- what is known after something, and of what happened in it
+  -- what is known of a world, and of what was noted until then
   abbrev pub After : World → List Note → Type 0
   After w ns = P (moment w ns)
 
-  -- what happened in two parts
-  parts : (w : World) (ns a b : List Note) → After w ((ns ++ a) ++ b) → After w (ns ++ (a ++ b))
-  parts w ns a b p = subst (λ l. After w l) (append_assoc ns a b) p
+  -- what is known after something, behind such notes
+  abbrev pub Then : List Note → Ran → Type 0
+  Then ns r = After r.world (ns ++ r.notes)
 
-  nothing : (w : World) (ns : List Note) → After w ns → After w (ns ++ [])
+  -- one thing after the other
+  parts : (ns : List Note) (r : Ran) (g : World → Ran) → Then (ns ++ r.notes) (g r.world) → Then ns (then_ran r g)
+  parts ns r g p = subst (λ l. After (g r.world).world l) (append_assoc ns r.notes (g r.world).notes) p
+
+  nothing : (w : World) (ns : List Note) → After w ns → Then ns (unseen w)
   nothing w ns p = subst (λ l. After w l) (sym (append-nil ns)) p
 
   -- a change or none, and what goes out
 
-  abbrev does : HostId → Host → Option (Change (List ℕ)) → List Seen → List Output → World → Ran
-  does h host None first os w = then_seen first (emits h os w)
-  does h host (Some c) first os w = makes_change h host c first os w
+  abbrev does : HostId → Host → Why → Option (Change (List ℕ)) → List Seen → List Output → World → Ran
+  does h host why None first os w = then_noted (saws first) (emits h os w)
+  does h host why (Some c) first os w = makes_change h host why c first os w
 
   module _ (w : World) (ns : List Note) (h : HostId) (host : Host) (there : host_of h w ≡ Some host) (way : Way w.packets h host.state) (p : After w ns) where
     abbrev at : slice_get (states_of w) h.0 ≡ Some host.state
@@ -242,22 +250,26 @@ module _ (P : Moment → Type 0) (f : Steps P) where
     done : P (whole (moment w ns) h host.state way)
     done = f.made (moment w ns) h host.state at way p
 
-    fated : (x : Fate) (c : Change (List ℕ)) → change_by way ≡ Some c
-        → (let r = change_fated x h host c (first_by way) (outputs_by way) w in After r.world (ns ++ (kept_by x h (why_by way) c ++ saws r.seen)))
+    -- what is seen of the outputs, as it is noted
+    told : (v : World) → saws (first_by way ++ seen_from h (length v.packets) (outputs_by way)) ≡ saws (first_by way) ++ (emits h (outputs_by way) v).notes
+    told v = saws-append (first_by way) (seen_from h (length v.packets) (outputs_by way))
+        ∙ ap (λ l. saws (first_by way) ++ l) (sym (emits_notes h (outputs_by way) v))
+
+    fated : (x : Fate) (c : Change (List ℕ)) → change_by way ≡ Some c → Then ns (change_fated x h host (why_by way) c (first_by way) (outputs_by way) w)
     fated Made c e =
         let v : World = put_host h (used (stored_parts c) (applied c host.state) host) w in
         let states : put_state h (after_change (change_by way) host.state) (states_of w) ≡ states_of v =
         ap (λ o. put_state h (after_change o host.state) (states_of w)) e ∙ sym (put_states h (used (stored_parts c) (applied c host.state) host) w) in
         let world = emits_world h (outputs_by way) v in
-        let sights = emits_seen h (outputs_by way) v in
+        let notes = told v in
         subst P
         ((λ j. record {
           states = states j;
           packets = w.packets ++ sent_in (outputs_by way);
           notes =
-              ns ++ (kept_of h (why_by way) (e j) ++ saws (first_by way ++ sym sights j));
+              ns ++ (kept_of h (why_by way) (e j) ++ notes j);
         })
-        ∙ (λ j. moment (sym world j) (ns ++ (Kept h (why_by way) c ∷ saws (first_by way ++ (emits h (outputs_by way) v).seen)))))
+        ∙ (λ j. moment (sym world j) (ns ++ (Kept h (why_by way) c ∷ (saws (first_by way) ++ (emits h (outputs_by way) v).notes)))))
         done
     fated StoppedBefore c e =
         subst (λ l. P (record { states = l; packets = w.packets; notes = ns ++ Saw (seen.Stop h) ∷ [] })) (sym (stop_states h host (cut_off host) w there))
@@ -272,196 +284,154 @@ module _ (P : Moment → Type 0) (f : Steps P) where
         })
         (f.stopped (moment w ns) h host.state at way c e p)
 
-    pub does_kept : (o : Option (Change (List ℕ))) → change_by way ≡ o
-        → (let r = does h host o (first_by way) (outputs_by way) w in After r.world (ns ++ (plan_notes h host (why_by way) o ++ saws r.seen)))
+    pub does_kept : (o : Option (Change (List ℕ))) → change_by way ≡ o → Then ns (does h host (why_by way) o (first_by way) (outputs_by way) w)
     does_kept (Some c) e = fated (fate (stored_parts c) host) c e
     does_kept None e =
         let states : put_state h (after_change (change_by way) host.state) (states_of w) ≡ states_of w =
         ap (λ o. put_state h (after_change o host.state) (states_of w)) e ∙ put-same h.0 host.state (states_of w) at in
         let world = emits_world h (outputs_by way) w in
-        let sights = emits_seen h (outputs_by way) w in
+        let notes = told w in
         subst P
         ((λ j. record {
           states = states j;
           packets = w.packets ++ sent_in (outputs_by way);
           notes =
-              ns ++ (kept_of h (why_by way) (e j) ++ saws (first_by way ++ sym sights j));
+              ns ++ (kept_of h (why_by way) (e j) ++ notes j);
         })
-        ∙ (λ j. moment (sym world j) (ns ++ saws (first_by way ++ (emits h (outputs_by way) w).seen))))
+        ∙ (λ j. moment (sym world j) (ns ++ (saws (first_by way) ++ (emits h (outputs_by way) w).notes))))
         done
 
   -- a step
 
   pub step_kept : (w : World) (ns : List Note) (h : HostId) (host : Host) → host_of h w ≡ Some host → (e : Event) → Comes w.packets h e → After w ns
-      → (let s = step e host.state in After (steps h host s w).world (ns ++ step_notes h host (ByEvent e) s w))
+      → Then ns (steps h host (ByEvent e) (step e host.state) w)
   step_kept w ns h host there e comes p = by (step e host.state).change refl
     where
       by : (o : Option (Change (List ℕ))) → (step e host.state).change ≡ o
-          → (let s : Stepped (List ℕ) = record { change = o; outputs = (step e host.state).outputs } in
-          After (steps h host s w).world (ns ++ step_notes h host (ByEvent e) s w))
+          → Then ns (carries_out h host (ByEvent e) o (map shown (step e host.state).outputs) w)
       by None k = does_kept w ns h host there (Taken e comes) p None k
       by (Some c) k = does_kept w ns h host there (Taken e comes) p (Some c) k
 
   pub begin_kept : (w : World) (ns : List Note) (h : HostId) (host : Host) → host_of h w ≡ Some host → (x : Stepped (List ℕ)) → start w.now host.state ≡ Some x
-      → After w ns
-      → After (steps h host x w).world (ns ++ step_notes h host ByStart x w)
+      → After w ns → Then ns (steps h host ByStart x w)
   begin_kept w ns h host there x e p = by x.change refl
     where
-      by : (o : Option (Change (List ℕ))) → x.change ≡ o
-          → (let s : Stepped (List ℕ) = record { change = o; outputs = x.outputs } in After (steps h host s w).world (ns ++ step_notes h host ByStart s w))
+      by : (o : Option (Change (List ℕ))) → x.change ≡ o → Then ns (carries_out h host ByStart o (map shown x.outputs) w)
       by None k = does_kept w ns h host there (Begun w.now x e) p None k
       by (Some c) k = does_kept w ns h host there (Begun w.now x e) p (Some c) k
 
   -- starts
 
-  starts_kept : (n : ℕ) (h : HostId) (w : World) (ns : List Note) → After w ns → After (starts n h w).world (ns ++ start_notes n h w)
+  starts_kept : (n : ℕ) (h : HostId) (w : World) (ns : List Note) → After w ns → Then ns (starts n h w)
   starts_kept zero h w ns p = nothing w ns p
   starts_kept (suc n) h w ns p = of (host_of h w) refl (starts_kept n h)
     where
       by : (host : Host) → host_of h w ≡ Some host → (up : Bool) (o : Option (Stepped (List ℕ))) → start w.now host.state ≡ o
-          → ((v : World) (ms : List Note) → After v ms → After (starts n h v).world (ms ++ start_notes n h v))
-          → After (world_of (elim up [
+          → ((v : World) (ms : List Note) → After v ms → Then ms (starts n h v))
+          → Then ns (elim up [
             | false ↦ unseen w
             | true ↦ elim o [
               | None ↦ unseen w
-              | Some s ↦ (let r = steps h host s w in then_seen r.seen (starts n h r.world))
-            ]
-          ]))
-          (ns ++ elim up [
-            | false ↦ []
-            | true ↦ elim o [
-              | None ↦ []
-              | Some s ↦ step_notes h host ByStart s w ++ start_notes n h (steps h host s w).world
+              | Some s ↦ (let r = steps h host ByStart s w in then_noted r.notes (starts n h r.world))
             ]
           ])
       by host there false o e rest = nothing w ns p
       by host there true None e rest = nothing w ns p
       by host there true (Some s) e rest =
-          let v : World = (steps h host s w).world in
-          parts (starts n h v).world ns (step_notes h host ByStart s w) (start_notes n h v)
-          (rest v (ns ++ step_notes h host ByStart s w) (begin_kept w ns h host there s e p))
+          let r : Ran = steps h host ByStart s w in parts ns r (starts n h) (rest r.world (ns ++ r.notes) (begin_kept w ns h host there s e p))
 
-      of : (o : Option Host) → host_of h w ≡ o → ((v : World) (ms : List Note) → After v ms → After (starts n h v).world (ms ++ start_notes n h v))
-          → After (world_of (elim o [
+      of : (o : Option Host) → host_of h w ≡ o → ((v : World) (ms : List Note) → After v ms → Then ms (starts n h v))
+          → Then ns (elim o [
             | None ↦ unseen w
             | Some host ↦ elim host.up [
               | false ↦ unseen w
               | true ↦ elim (start w.now host.state) [
                 | None ↦ unseen w
-                | Some s ↦ (let r = steps h host s w in then_seen r.seen (starts n h r.world))
-              ]
-            ]
-          ]))
-          (ns ++ elim o [
-            | None ↦ []
-            | Some host ↦ elim host.up [
-              | false ↦ []
-              | true ↦ elim (start w.now host.state) [
-                | None ↦ []
-                | Some s ↦ step_notes h host ByStart s w ++ start_notes n h (steps h host s w).world
+                | Some s ↦ (let r = steps h host ByStart s w in then_noted r.notes (starts n h r.world))
               ]
             ]
           ])
       of None e rest = nothing w ns p
       of (Some host) e rest = by host e host.up (start w.now host.state) refl rest
 
-  all_starts_kept : (h : HostId) (w : World) (ns : List Note) → After w ns → After (all_starts h w).world (ns ++ all_start_notes h w)
+  all_starts_kept : (h : HostId) (w : World) (ns : List Note) → After w ns → Then ns (all_starts h w)
   all_starts_kept h w ns p = starts_kept (left_of (host_of h w)) h w ns p
 
   -- stops
 
-  halts_kept : (b : Bool) (h : HostId) (w : World) (ns : List Note) → After w ns → After (halts b h w).world (ns ++ saws (halts b h w).seen)
+  stop_kept : (w : World) (ns : List Note) (h : HostId) (host : Host) → host_of h w ≡ Some host → After w ns → Then ns (crashes_up h host w)
+  stop_kept w ns h host there p = subst (λ l. P (record { states = l; packets = w.packets; notes = ns ++ Saw (seen.Stop h) ∷ [] }))
+      (sym (stop_states h host host w there)) (f.idle (moment w ns) (seen.Stop h) tt p)
+
+  halts_kept : (b : Bool) (h : HostId) (w : World) (ns : List Note) → After w ns → Then ns (halts b h w)
   halts_kept false h w ns p = nothing w ns p
   halts_kept true h w ns p = of (host_of h w) refl
     where
       by : (host : Host) → host_of h w ≡ Some host → (up : Bool)
-          → (let r = if up then seeing (seen.Stop h) (put_host h (stopped host.state host) w) else unseen w in After r.world (ns ++ saws r.seen))
-      by host there true = subst (λ l. P (record { states = l; packets = w.packets; notes = ns ++ Saw (seen.Stop h) ∷ [] })) (sym (stop_states h host host w there))
-          (f.idle (moment w ns) (seen.Stop h) tt p)
+          → Then ns (if up then seeing (seen.Stop h) (put_host h (stopped host.state host) w) else unseen w)
+      by host there true = stop_kept w ns h host there p
       by host there false = nothing w ns p
 
-      of : (o : Option Host) → host_of h w ≡ o → After (halted_host h o w).world (ns ++ saws (halted_host h o w).seen)
+      of : (o : Option Host) → host_of h w ≡ o → Then ns (halted_host h o w)
       of None e = nothing w ns p
       of (Some host) e = by host e host.up
 
   -- events
 
   event_kept : (w : World) (ns : List Note) (h : HostId) (host : Host) → host_of h w ≡ Some host → (e : Event) → Comes w.packets h e → After w ns
-      → After (takes_up h host e w).world (ns ++ event_notes h host e w)
+      → Then ns (takes_up h host e w)
   event_kept w ns h host there e comes p =
-      let v : World = (steps h host (step e host.state) w).world in
-      let u : World = (all_starts h v).world in
-      let a = step_notes h host (ByEvent e) (step e host.state) w in
-      let b = all_start_notes h v in
-      let started : After u (ns ++ (a ++ b)) = parts u ns a b (all_starts_kept h v (ns ++ a) (step_kept w ns h host there e comes p)) in
-      let r = halts (shuts_down e host.state) h u in
-      parts r.world ns (a ++ b) (saws r.seen) (halts_kept (shuts_down e host.state) h u (ns ++ (a ++ b)) started)
+      let r : Ran = steps h host (ByEvent e) (step e host.state) w in
+      let u : Ran = then_ran r (all_starts h) in
+      let started : Then ns u = parts ns r (all_starts h) (all_starts_kept h r.world (ns ++ r.notes) (step_kept w ns h host there e comes p)) in
+      parts ns u (halts (shuts_down e host.state) h) (halts_kept (shuts_down e host.state) h u.world (ns ++ u.notes) started)
 
   -- a host that is down takes nothing
-  taken_kept : (w : World) (ns : List Note) (h : HostId) (g : Host → World → Ran) (k : Host → World → List Note) → After w ns
-      → ((host : Host) → host_of h w ≡ Some host → After (g host w).world (ns ++ k host w))
-      → After (taken_by (host_of h w) h g w).world (ns ++ taken_notes (host_of h w) h k w)
-  taken_kept w ns h g k p done = of (host_of h w) refl
+  taken_kept : (w : World) (ns : List Note) (h : HostId) (g : Host → World → Ran) → After w ns
+      → ((host : Host) → host_of h w ≡ Some host → Then ns (g host w)) → Then ns (taken_by (host_of h w) h g w)
+  taken_kept w ns h g p done = of (host_of h w) refl
     where
-      by : (host : Host) → host_of h w ≡ Some host → (up : Bool) → After (if up then g host w else seeing (seen.Down h) w).world
-          (ns ++ (if up then k host w else Saw (seen.Down h) ∷ []))
+      by : (host : Host) → host_of h w ≡ Some host → (up : Bool) → Then ns (if up then g host w else seeing (seen.Down h) w)
       by host there true = done host there
       by host there false = f.idle (moment w ns) (seen.Down h) tt p
 
-      of : (o : Option Host) → host_of h w ≡ o → After (taken_by o h g w).world (ns ++ taken_notes o h k w)
+      of : (o : Option Host) → host_of h w ≡ o → Then ns (taken_by o h g w)
       of None e = nothing w ns p
       of (Some host) e = by host e host.up
 
-  takes_kept : (w : World) (ns : List Note) (h : HostId) (e : Event) → Comes w.packets h e → After w ns → After (takes h e w).world (ns ++ take_notes h e w)
-  takes_kept w ns h e comes p = taken_kept w ns h (λ host. takes_up h host e) (λ host. event_notes h host e) p
-      (λ host there. event_kept w ns h host there e comes p)
+  takes_kept : (w : World) (ns : List Note) (h : HostId) (e : Event) → Comes w.packets h e → After w ns → Then ns (takes h e w)
+  takes_kept w ns h e comes p = taken_kept w ns h (λ host. takes_up h host e) p (λ host there. event_kept w ns h host there e comes p)
 
   finishes_kept : (w : World) (ns : List Note) (h : HostId) (host : Host) → host_of h w ≡ Some host → After w ns → (o : Option (ℕ × Row (List ℕ)))
-      → After (finishes h host o w).world (ns ++ finish_notes h host o w)
+      → Then ns (finishes h host o w)
   finishes_kept w ns h host there p None = f.idle (moment w ns) (seen.Idle h) tt p
   finishes_kept w ns h host there p (Some q) = event_kept w ns h host there (event.Ended w.now 0 q.1.id q.1.starts 0 [] []) refl p
 
   delivers_kept : (w : World) (ns : List Note) (k : Option ℕ) (o : Option Message) → ((m : Message) → o ≡ Some m → WasSent m w.packets) → After w ns
-      → After (delivers k o w).world (ns ++ deliver_notes k o w)
+      → Then ns (delivers k o w)
   delivers_kept w ns k None sent p = f.idle (moment w ns) (seen.NoPacket k) tt p
   delivers_kept w ns k (Some m) sent p = takes_kept w ns m.to (event.Arrived w.now m) (refl, sent m refl) p
 
-  boots_kept : (w : World) (ns : List Note) (h : HostId) → After w ns → After (boots h (host_of h w) w).world (ns ++ boot_notes h (host_of h w) w)
+  boots_kept : (w : World) (ns : List Note) (h : HostId) → After w ns → Then ns (boots h (host_of h w) w)
   boots_kept w ns h p = of (host_of h w) refl
     where
-      down : (host : Host) → host_of h w ≡ Some host → After (boots_down h host w).world (ns ++ boot_down_notes h host w)
+      down : (host : Host) → host_of h w ≡ Some host → Then ns (boots_down h host w)
       down host there =
-          let r = makes_change h host Boot (seen.Boot h ∷ []) (filter_map boot_output host.state.rows) w in
-          let a = change_notes h host ByBoot Boot ++ saws r.seen in
-          parts (all_starts h r.world).world ns a (all_start_notes h r.world)
-          (all_starts_kept h r.world (ns ++ a) (does_kept w ns h host there Booted p (Some Boot) refl))
+          let r : Ran = makes_change h host ByBoot Boot (seen.Boot h ∷ []) (filter_map boot_output host.state.rows) w in
+          parts ns r (all_starts h) (all_starts_kept h r.world (ns ++ r.notes) (does_kept w ns h host there Booted p (Some Boot) refl))
 
-      by : (host : Host) → host_of h w ≡ Some host → (up : Bool) → After (if up then seeing (seen.Up h) w else boots_down h host w).world
-          (ns ++ (if up then Saw (seen.Up h) ∷ [] else boot_down_notes h host w))
+      by : (host : Host) → host_of h w ≡ Some host → (up : Bool) → Then ns (if up then seeing (seen.Up h) w else boots_down h host w)
       by host there true = f.idle (moment w ns) (seen.Up h) tt p
       by host there false = down host there
 
-      of : (o : Option Host) → host_of h w ≡ o → After (boots h o w).world (ns ++ boot_notes h o w)
+      of : (o : Option Host) → host_of h w ≡ o → Then ns (boots h o w)
       of None e = nothing w ns p
       of (Some host) e = by host e host.up
 
-  crash_kept : (w : World) (ns : List Note) (h : HostId) → After w ns → (let r = taken_by (host_of h w) h (crashes_up h) w in After r.world (ns ++ saws r.seen))
-  crash_kept w ns h p = of (host_of h w) refl
-    where
-      by : (host : Host) → host_of h w ≡ Some host → (up : Bool) → (let r = if up then crashes_up h host w else seeing (seen.Down h) w in
-          After r.world (ns ++ saws r.seen))
-      by host there true = subst (λ l. P (record { states = l; packets = w.packets; notes = ns ++ Saw (seen.Stop h) ∷ [] })) (sym (stop_states h host host w there))
-          (f.idle (moment w ns) (seen.Stop h) tt p)
-      by host there false = f.idle (moment w ns) (seen.Down h) tt p
-
-      of : (o : Option Host) → host_of h w ≡ o → (let r = taken_by o h (crashes_up h) w in After r.world (ns ++ saws r.seen))
-      of None e = nothing w ns p
-      of (Some host) e = by host e host.up
-
-  happens_kept : (a : Act) (w : World) (ns : List Note) → is_sane_act a ≡ true → After w ns → After (happens a w).world (ns ++ notes a w)
+  happens_kept : (a : Act) (w : World) (ns : List Note) → is_sane_act a ≡ true → After w ns → Then ns (happens a w)
   happens_kept (Asks h user c) w ns sane p = takes_kept w ns h (event.Ask w.now 0 0 user c) sane p
   happens_kept (Ends h id start status output error) w ns sane p = takes_kept w ns h (event.Ended w.now 0 id start status output error) sane p
-  happens_kept (Finishes h) w ns sane p = taken_kept w ns h (finishes_up h) (finish_up_notes h) p
+  happens_kept (Finishes h) w ns sane p = taken_kept w ns h (finishes_up h) p
       (λ host there. finishes_kept w ns h host there p (best_from runs_now is_less_row 0 host.state.rows))
   happens_kept (Fails h id start) w ns sane p = takes_kept w ns h (event.Unlaunched w.now id start) refl p
   happens_kept (Writes h file) w ns sane p = takes_kept w ns h (event.Written w.now file) refl p
@@ -473,14 +443,14 @@ module _ (P : Moment → Type 0) (f : Steps P) where
   happens_kept (Fuse h disk calls tear) w ns sane p =
       nothing (fuses h disk calls tear w) ns (subst (λ l. P (record { states = l; packets = w.packets; notes = ns }))
       (sym (map-at state_in h.0 (fused_host disk calls tear) (λ s. s) (λ v. refl) w.hosts ∙ at-id h.0 (states_of w))) p)
-  happens_kept (Crashes h) w ns sane p = crash_kept w ns h p
+  happens_kept (Crashes h) w ns sane p = taken_kept w ns h (crashes_up h) p (λ host there. stop_kept w ns h host there p)
   happens_kept (Boots h) w ns sane p = boots_kept w ns h p
   happens_kept Shows w ns sane p = f.idle (moment w ns) _ tt p
 
   -- and so does each run
-  pub run_kept : (acts : List Act) (w : World) (ns : List Note) → AreSane acts → After w ns → After (run acts w).world (ns ++ history acts w)
+  pub run_kept : (acts : List Act) (w : World) (ns : List Note) → AreSane acts → After w ns → Then ns (run acts w)
   run_kept [] w ns sane p = nothing w ns p
   run_kept (a ∷ acts) w ns sane p =
       let sane_each = and_parts (is_sane_act a) (list_all is_sane_act acts) sane in
-      let v : World = (happens a w).world in
-      parts (run acts v).world ns (notes a w) (history acts v) (run_kept acts v (ns ++ notes a w) sane_each.1 (happens_kept a w ns sane_each.0 p))
+      let r : Ran = happens a w in
+      parts ns r (run acts) (run_kept acts r.world (ns ++ r.notes) sane_each.1 (happens_kept a w ns sane_each.0 p))

@@ -21,6 +21,7 @@ use Rattle.nqs_rules.specs.Edits.{change_at}
 use Rattle.nqs_rules.specs.Step.{step}
 use Rattle.nqs_rules.specs.Start.{start}
 use Rattle.nqs_rules.specs.Stepped.{Stepped, shown, stored_parts}
+use Rattle.nqs_rules.specs.Notes.{Why, ByEvent, ByStart, ByBoot}
 use Rattle.nqs_rules.specs.World.{World, Host, Ran, Fate, Made, StoppedBefore, StoppedAfter, Act, Asks, Ends, Finishes, Fails, Writes, Leaves, Delivers, Newest}
 use Rattle.nqs_rules.specs.World.{Ticks, Clock, Fuse, Crashes, Boots, Shows, fate, host_of, ready, cut_off, recorded, fused_host}
 use Rattle.nqs_rules.specs.World.{put_host, seeing, unseen, stopped, used, emits, change_fated, makes_change, carries_out, steps, starts, all_starts, left_of}
@@ -57,20 +58,21 @@ module _ (P : Host → Type 0) (f : HostFrames P) where
   emits_all : (i : HostId) (os : List Output) (w : World) → All w → All (emits i os w).world
   emits_all i os w all = subst All (sym (emits_world i os w)) all
 
-  fated_all : (x : Fate) (i : HostId) (host : Host) (c : Change (List ℕ)) (first : List Seen) (os : List Output) (w : World) → P host → All w
-      → All (change_fated x i host c first os w).world
-  fated_all Made i host c first os w p all =
+  fated_all : (x : Fate) (i : HostId) (host : Host) (why : Why) (c : Change (List ℕ)) (first : List Seen) (os : List Output) (w : World) → P host → All w
+      → All (change_fated x i host why c first os w).world
+  fated_all Made i host why c first os w p all =
       let new : Host = used (stored_parts c) (applied c host.state) host in
       emits_all i os (put_host i new w) (put_all i new w all (f.made (stored_parts c) (applied c host.state) host p))
-  fated_all StoppedBefore i host c first os w p all = put_all i (stopped host.state (cut_off host)) w all (f.before host p)
-  fated_all StoppedAfter i host c first os w p all = put_all i (stopped (applied c host.state) (recorded (ready host))) w all (f.after (applied c host.state) host p)
+  fated_all StoppedBefore i host why c first os w p all = put_all i (stopped host.state (cut_off host)) w all (f.before host p)
+  fated_all StoppedAfter i host why c first os w p all = put_all i (stopped (applied c host.state) (recorded (ready host))) w all
+      (f.after (applied c host.state) host p)
 
-  steps_all : (i : HostId) (host : Host) (x : Stepped (List ℕ)) (w : World) → P host → All w → All (steps i host x w).world
-  steps_all i host x w p all = of x.change
+  steps_all : (i : HostId) (host : Host) (why : Why) (x : Stepped (List ℕ)) (w : World) → P host → All w → All (steps i host why x w).world
+  steps_all i host why x w p all = of x.change
     where
-      of : (o : Option (Change (List ℕ))) → All (carries_out i host o (map shown x.outputs) w).world
+      of : (o : Option (Change (List ℕ))) → All (carries_out i host why o (map shown x.outputs) w).world
       of None = emits_all i (map shown x.outputs) w all
-      of (Some c) = fated_all (fate (stored_parts c) host) i host c [] (map shown x.outputs) w p all
+      of (Some c) = fated_all (fate (stored_parts c) host) i host why c [] (map shown x.outputs) w p all
 
   starts_all : (n : ℕ) (i : HostId) (w : World) → All w → All (starts n i w).world
   starts_all zero i w all = all
@@ -79,7 +81,7 @@ module _ (P : Host → Type 0) (f : HostFrames P) where
       by : (host : Host) → P host → (up : Bool) (o : Option (Stepped (List ℕ))) → ((v : World) → All v → All (starts n i v).world) → All (begins n i host up o w)
       by host p false o rest = all
       by host p true None rest = all
-      by host p true (Some x) rest = rest (steps i host x w).world (steps_all i host x w p all)
+      by host p true (Some x) rest = rest (steps i host ByStart x w).world (steps_all i host ByStart x w p all)
 
       of : (o : Option Host) → host_of i w ≡ o → ((v : World) → All v → All (starts n i v).world) → All (starts_of n i o w)
       of None is rest = all
@@ -102,8 +104,8 @@ module _ (P : Host → Type 0) (f : HostFrames P) where
 
   event_all : (i : HostId) (host : Host) (e : Event) (w : World) → P host → All w → All (takes_up i host e w).world
   event_all i host e w p all =
-      let v : World = (steps i host (step e host.state) w).world in
-      halts_all (shuts_down e host.state) i (all_starts i v).world (every_start_all i v (steps_all i host (step e host.state) w p all))
+      let v : World = (steps i host (ByEvent e) (step e host.state) w).world in
+      halts_all (shuts_down e host.state) i (all_starts i v).world (every_start_all i v (steps_all i host (ByEvent e) (step e host.state) w p all))
 
   taken_all : (i : HostId) (g : Host → World → Ran) → ((host : Host) (w : World) → P host → All w → All (g host w).world) → (w : World) → All w
       → All (taken_by (host_of i w) i g w).world
@@ -137,9 +139,9 @@ module _ (P : Host → Type 0) (f : HostFrames P) where
       by : (host : Host) → P host → (up : Bool) → All (if up then seeing (seen.Up i) w else boots_down i host w).world
       by host p true = all
       by host p false =
-          let r = makes_change i host Boot (seen.Boot i ∷ []) (filter_map boot_output host.state.rows) w in
+          let r = makes_change i host ByBoot Boot (seen.Boot i ∷ []) (filter_map boot_output host.state.rows) w in
           every_start_all i r.world
-          (fated_all (fate (stored_parts Boot) host) i host Boot (seen.Boot i ∷ []) (filter_map boot_output host.state.rows) w p all)
+          (fated_all (fate (stored_parts Boot) host) i host ByBoot Boot (seen.Boot i ∷ []) (filter_map boot_output host.state.rows) w p all)
 
       of : (o : Option Host) → host_of i w ≡ o → All (boots i o w).world
       of None is = all

@@ -24,7 +24,8 @@ use Rattle.nqs_rules.specs.Run.{run, states_of}
 use Rattle.nqs_rules.proofs.ListFacts.{list_all-found}
 use Rattle.nqs_rules.proofs.RowFacts.{row_is, same_id}
 use Rattle.nqs_rules.proofs.RowChanges.{ready_queued}
-use Rattle.nqs_laws.specs.History.{Note, Saw, Kept, saws, history}
+use Rattle.nqs_rules.specs.Notes.{Note, Saw, Kept, saws}
+use Rattle.nqs_laws.specs.History.{history}
 use Rattle.nqs_laws.specs.Sane.{AreSane, IsSite}
 use Rattle.nqs_laws.specs.Words.{replayed}
 use Rattle.nqs_laws.specs.Launches.{Launch, launched, launches, IsStarted, IsStartedIn}

@@ -20,7 +20,7 @@ use Rattle.nqs_rules.specs.Net.{Entry, entry_of}
 use Rattle.nqs_rules.proofs.KeyFacts.{distinct-added}
 use Rattle.nqs_rules.proofs.PeersOrder.{get-other}
 use Rattle.nqs_rules.proofs.RowFacts.{same_id}
-use Rattle.nqs_laws.specs.History.{Note, Saw, Kept, saws}
+use Rattle.nqs_rules.specs.Notes.{Note, Saw, Kept, saws}
 use Rattle.nqs_laws.specs.Words.{replayed}
 use Rattle.nqs_laws.specs.Licensed.{Licenses, IsLicensed}
 use Rattle.nqs_laws.specs.Launches.{Launch, launched, launches, same_launch, was_lost_again, is_launch_of, AreApart, IsStarted, IsStartedIn, AreStarted}

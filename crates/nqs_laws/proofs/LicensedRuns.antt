@@ -11,7 +11,8 @@ use Rattle.nqs_rules.specs.InOrder.{IsInOrder}
 use Rattle.nqs_rules.specs.Net.{is_table, entry_of}
 use Rattle.nqs_rules.specs.World.{Act, new_world}
 use Rattle.nqs_rules.specs.Run.{run, states_of}
-use Rattle.nqs_laws.specs.History.{Note, Saw, Kept, saws, history}
+use Rattle.nqs_rules.specs.Notes.{Note, Saw, Kept, saws}
+use Rattle.nqs_laws.specs.History.{history}
 use Rattle.nqs_laws.specs.Sane.{AreSane, IsSite}
 use Rattle.nqs_laws.specs.Words.{replayed}
 use Rattle.nqs_laws.specs.Licensed.{LiesWith, IsLicensed, AreLicensed}

@@ -32,7 +32,8 @@ use Rattle.nqs_rules.specs.Run.{run, states_of}
 use Rattle.nqs_rules.proofs.RowFacts.{same_id}
 use Rattle.nqs_rules.proofs.StartIs.{StartsRow, start_is}
 use Rattle.nqs_rules.proofs.Until.{steady}
-use Rattle.nqs_laws.specs.History.{Note, Saw, Kept, saws, history}
+use Rattle.nqs_rules.specs.Notes.{Note, Saw, Kept, saws}
+use Rattle.nqs_laws.specs.History.{history}
 use Rattle.nqs_laws.specs.Sane.{AreSane, IsSite}
 use Rattle.nqs_laws.specs.Words.{replayed}
 use Rattle.nqs_laws.specs.Launches.{is_acknowledged, lies}

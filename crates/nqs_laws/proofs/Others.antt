@@ -20,6 +20,7 @@ use Rattle.nqs_rules.specs.Applied.{applied}
 use Rattle.nqs_rules.specs.Step.{step}
 use Rattle.nqs_rules.specs.Start.{start}
 use Rattle.nqs_rules.specs.Stepped.{Stepped, shown, stored_parts}
+use Rattle.nqs_rules.specs.Notes.{Why, ByEvent, ByStart, ByBoot}
 use Rattle.nqs_rules.specs.World.{World, Host, Ran, Fate, Made, StoppedBefore, StoppedAfter, Act, Asks, Ends, Finishes, Fails, Writes, Leaves, Delivers, Newest}
 use Rattle.nqs_rules.specs.World.{Ticks, Clock, Fuse, Crashes, Boots, Shows, no_fuses, fate, host_of}
 use Rattle.nqs_rules.specs.World.{ready, cut_off, recorded}
@@ -47,19 +48,19 @@ module _ (g h : HostId) (apart : g ≡ h → ⊥) where
   emits_other : (os : List Output) (w : World) → host_of h (emits g os w).world ≡ host_of h w
   emits_other os w = ap (host_of h) (emits_world g os w)
 
-  fated_other : (f : Fate) (host : Host) (c : Change (List ℕ)) (first : List Seen) (os : List Output) (w : World)
-      → host_of h (change_fated f g host c first os w).world ≡ host_of h w
-  fated_other Made host c first os w = emits_other os (put_host g (used (stored_parts c) (applied c host.state) host) w)
+  fated_other : (f : Fate) (host : Host) (why : Why) (c : Change (List ℕ)) (first : List Seen) (os : List Output) (w : World)
+      → host_of h (change_fated f g host why c first os w).world ≡ host_of h w
+  fated_other Made host why c first os w = emits_other os (put_host g (used (stored_parts c) (applied c host.state) host) w)
       ∙ put_other (used (stored_parts c) (applied c host.state) host) w
-  fated_other StoppedBefore host c first os w = put_other (stopped host.state (cut_off host)) w
-  fated_other StoppedAfter host c first os w = put_other (stopped (applied c host.state) (recorded (ready host))) w
+  fated_other StoppedBefore host why c first os w = put_other (stopped host.state (cut_off host)) w
+  fated_other StoppedAfter host why c first os w = put_other (stopped (applied c host.state) (recorded (ready host))) w
 
-  steps_other : (host : Host) (x : Stepped (List ℕ)) (w : World) → host_of h (steps g host x w).world ≡ host_of h w
-  steps_other host x w = of x.change
+  steps_other : (host : Host) (why : Why) (x : Stepped (List ℕ)) (w : World) → host_of h (steps g host why x w).world ≡ host_of h w
+  steps_other host why x w = of x.change
     where
-      of : (o : Option (Change (List ℕ))) → host_of h (carries_out g host o (map shown x.outputs) w).world ≡ host_of h w
+      of : (o : Option (Change (List ℕ))) → host_of h (carries_out g host why o (map shown x.outputs) w).world ≡ host_of h w
       of None = emits_other (map shown x.outputs) w
-      of (Some c) = fated_other (fate (stored_parts c) host) host c [] (map shown x.outputs) w
+      of (Some c) = fated_other (fate (stored_parts c) host) host why c [] (map shown x.outputs) w
 
   starts_other : (n : ℕ) (w : World) → host_of h (starts n g w).world ≡ host_of h w
   starts_other zero w = refl
@@ -69,7 +70,7 @@ module _ (g h : HostId) (apart : g ≡ h → ⊥) where
           → host_of h (begins n g host up o w) ≡ host_of h w
       by host false o rest = refl
       by host true None rest = refl
-      by host true (Some x) rest = rest (steps g host x w).world ∙ steps_other host x w
+      by host true (Some x) rest = rest (steps g host ByStart x w).world ∙ steps_other host ByStart x w
 
       of : (o : Option Host) → ((v : World) → host_of h (starts n g v).world ≡ host_of h v) → host_of h (starts_of n g o w) ≡ host_of h w
       of None rest = refl
@@ -92,8 +93,8 @@ module _ (g h : HostId) (apart : g ≡ h → ⊥) where
 
   event_other : (host : Host) (e : Event) (w : World) → host_of h (takes_up g host e w).world ≡ host_of h w
   event_other host e w =
-      let v : World = (steps g host (step e host.state) w).world in
-      halts_other (shuts_down e host.state) (all_starts g v).world ∙ (all_starts_other v ∙ steps_other host (step e host.state) w)
+      let v : World = (steps g host (ByEvent e) (step e host.state) w).world in
+      halts_other (shuts_down e host.state) (all_starts g v).world ∙ (all_starts_other v ∙ steps_other host (ByEvent e) (step e host.state) w)
 
   taken_other : (f : Host → World → Ran) → ((host : Host) (w : World) → host_of h (f host w).world ≡ host_of h w) → (o : Option Host) (w : World)
       → host_of h (taken_by o g f w).world ≡ host_of h w
@@ -121,8 +122,8 @@ module _ (g h : HostId) (apart : g ≡ h → ⊥) where
       by : (up : Bool) → host_of h (if up then seeing (seen.Up g) w else boots_down g host w).world ≡ host_of h w
       by true = refl
       by false =
-          let r = makes_change g host Boot (seen.Boot g ∷ []) (filter_map boot_output host.state.rows) w in
-          all_starts_other r.world ∙ fated_other (fate (stored_parts Boot) host) host Boot (seen.Boot g ∷ []) (filter_map boot_output host.state.rows) w
+          let r = makes_change g host ByBoot Boot (seen.Boot g ∷ []) (filter_map boot_output host.state.rows) w in
+          all_starts_other r.world ∙ fated_other (fate (stored_parts Boot) host) host ByBoot Boot (seen.Boot g ∷ []) (filter_map boot_output host.state.rows) w
 
   crashes_other : (w : World) → host_of h (taken_by (host_of g w) g (crashes_up g) w).world ≡ host_of h w
   crashes_other w = taken_other (crashes_up g) (λ host v. put_other (stopped host.state host) v) (host_of g w) w
@@ -161,14 +162,14 @@ module _ (h : HostId) where
   safe_emits : (os : List Output) (w : World) → IsSafe h w → IsSafe h (emits h os w).world
   safe_emits os w k = record { host = k.host; there = ap (host_of h) (emits_world h os w) ∙ k.there; up = k.up; fuses = k.fuses }
 
-  steps_safe : (x : Stepped (List ℕ)) (w : World) (k : IsSafe h w) → IsSafe h (steps h k.host x w).world
-  steps_safe x w k = of x.change
+  steps_safe : (why : Why) (x : Stepped (List ℕ)) (w : World) (k : IsSafe h w) → IsSafe h (steps h k.host why x w).world
+  steps_safe why x w k = of x.change
     where
-      of : (o : Option (Change (List ℕ))) → IsSafe h (carries_out h k.host o (map shown x.outputs) w).world
+      of : (o : Option (Change (List ℕ))) → IsSafe h (carries_out h k.host why o (map shown x.outputs) w).world
       of None = safe_emits (map shown x.outputs) w k
       of (Some c) =
           let new : Host = used (stored_parts c) (applied c k.host.state) k.host in
-          subst (λ f. IsSafe h (change_fated f h k.host c [] (map shown x.outputs) w).world) (sym (made (stored_parts c) k.host k.fuses))
+          subst (λ f. IsSafe h (change_fated f h k.host why c [] (map shown x.outputs) w).world) (sym (made (stored_parts c) k.host k.fuses))
           (safe_emits (map shown x.outputs) (put_host h new w) (safe_put new k.host w k.there refl
           (still_none (stored_parts c) (applied c k.host.state) k.host k.fuses)))
 
@@ -182,7 +183,7 @@ module _ (h : HostId) where
       by host there true None rest = k
       by host there true (Some x) rest =
           let same : k.host ≡ host = same_Some k.host host (sym k.there ∙ there) in
-          rest (steps h host x w).world (subst (λ y. IsSafe h (steps h y x w).world) same (steps_safe x w k))
+          rest (steps h host ByStart x w).world (subst (λ y. IsSafe h (steps h y ByStart x w).world) same (steps_safe ByStart x w k))
 
       of : (o : Option Host) → host_of h w ≡ o → ((v : World) → IsSafe h v → IsSafe h (starts n h v).world) → IsSafe h (starts_of n h o w)
       of None there rest = k
@@ -193,10 +194,10 @@ module _ (h : HostId) where
       subst (λ o. IsSafe h (taken_by o h (λ host. takes_up h host e) w).world) (sym k.there)
       (subst (λ b. IsSafe h (if b then takes_up h k.host e w else seeing (seen.Down h) w).world) (sym k.up)
       (subst (λ b. IsSafe h (halts b h (all_starts h v).world).world) (sym (open_still k.host.state))
-      (starts_safe (left_of (host_of h v)) v (steps_safe (step e k.host.state) w k))))
+      (starts_safe (left_of (host_of h v)) v (steps_safe (ByEvent e) (step e k.host.state) w k))))
     where
       v : World
-      v = (steps h k.host (step e k.host.state) w).world
+      v = (steps h k.host (ByEvent e) (step e k.host.state) w).world
 
   -- whoever takes an event
   any_safe : (g : HostId) (e : Event) → ((s : Plain) → shuts_down e s ≡ false) → (w : World) → IsSafe h w → IsSafe h (takes g e w).world

@@ -18,7 +18,8 @@ use Rattle.nqs_rules.specs.Run.{states_of, happens, run_of}
 use Rattle.nqs_rules.proofs.BestLaws.{best_is_some}
 use Rattle.nqs_rules.proofs.ChangesOrder.{applied_order}
 use Rattle.nqs_rules.proofs.Until.{steady}
-use Rattle.nqs_laws.specs.History.{Note, history}
+use Rattle.nqs_rules.specs.Notes.{ByBoot, Note}
+use Rattle.nqs_laws.specs.History.{history}
 use Rattle.nqs_laws.specs.Rest.{receiver, if_host, runs_something, host_for}
 use Rattle.nqs_laws.specs.Sane.{is_sane_act, AreSane, IsSite}
 use Rattle.nqs_laws.proofs.Frame.{moment, state_at, Comes, Way, Taken, Booted, change_by, packet_sent, was_first}
@@ -103,7 +104,8 @@ module _ (site : List (List ℕ)) (w : World) (ns : List Note) (k : IsSound site
     where
       by : (host : Host) → host_of h w ≡ Some host → (up : Bool) → not up ≡ true → RestsNow h (if up then seeing (seen.Up h) w else boots_down h host w).world
       by host there true is_down = absurd (true≢false (sym is_down))
-      by host there false is_up = change_rests h host Boot (seen.Boot h ∷ []) (filter_map boot_output host.state.rows) w there (after h host there Booted)
+      by host there false is_up = change_rests h host ByBoot Boot (seen.Boot h ∷ []) (filter_map boot_output host.state.rows) w there
+          (after h host there Booted)
 
       of : (o : Option Host) → host_of h w ≡ o → passes (λ host. not host.up) o ≡ true → RestsNow h (boots h o w).world
       of None e is_down = absurd (true≢false (sym is_down))

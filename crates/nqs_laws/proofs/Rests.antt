@@ -10,7 +10,8 @@ use Rattle.nqs_rules.specs.Starts.{after_change}
 use Rattle.nqs_rules.specs.Step.{step}
 use Rattle.nqs_rules.specs.Start.{start}
 use Rattle.nqs_rules.specs.Stepped.{Stepped, shown, stored_parts}
-use Rattle.nqs_rules.specs.World.{World, Host, Fate, Made, StoppedBefore, StoppedAfter, fate, host_of, put_host, then_seen, seeing, unseen, stopped, used}
+use Rattle.nqs_rules.specs.Notes.{Why, ByEvent, ByStart}
+use Rattle.nqs_rules.specs.World.{World, Host, Fate, Made, StoppedBefore, StoppedAfter, fate, host_of, put_host, then_noted, seeing, unseen, stopped, used}
 use Rattle.nqs_rules.specs.World.{ready, cut_off, recorded}
 use Rattle.nqs_rules.specs.World.{emits, change_fated, makes_change, carries_out, steps, starts, all_starts, left_of, shuts_down, halted_host, halts, takes_up}
 use Rattle.nqs_rules.proofs.ChangesOrder.{applied_order}
@@ -41,27 +42,28 @@ module _ (h : HostId) (host : Host) (w : World) (there : host_of h w ≡ Some ho
   emitted : (os : List Output) (v : World) → Holds h P v → Holds h P (emits h os v).world
   emitted os v k g at up = k g (sym (ap (host_of h) (emits_world h os v)) ∙ at) up
 
-  fated : (f : Fate) (c : Change (List ℕ)) (first : List Seen) (os : List Output) → P (applied c host.state)
-      → Holds h P (change_fated f h host c first os w).world
-  fated Made c first os p =
+  fated : (f : Fate) (why : Why) (c : Change (List ℕ)) (first : List Seen) (os : List Output) → P (applied c host.state)
+      → Holds h P (change_fated f h host why c first os w).world
+  fated Made why c first os p =
       let u : Host = used (stored_parts c) (applied c host.state) host in
       emitted os (put_host h u w) (λ g at up. subst (λ g. P g.state) (same_Some u g (sym (get-here h.0 u host w.hosts there) ∙ at)) p)
-  fated StoppedBefore c first os p = λ g at up. down g (stopped host.state (cut_off host)) refl at up
-  fated StoppedAfter c first os p = λ g at up. down g (stopped (applied c host.state) (recorded (ready host))) refl at up
+  fated StoppedBefore why c first os p = λ g at up. down g (stopped host.state (cut_off host)) refl at up
+  fated StoppedAfter why c first os p = λ g at up. down g (stopped (applied c host.state) (recorded (ready host))) refl at up
 
-  carried : (o : Option (Change (List ℕ))) (os : List Output) → P (after_change o host.state) → Holds h P (carries_out h host o os w).world
-  carried None os p = emitted os w (λ g at up. subst (λ g. P g.state) (same_Some host g (sym there ∙ at)) p)
-  carried (Some c) os p = fated (fate (stored_parts c) host) c [] os p
+  carried : (why : Why) (o : Option (Change (List ℕ))) (os : List Output) → P (after_change o host.state) → Holds h P (carries_out h host why o os w).world
+  carried why None os p = emitted os w (λ g at up. subst (λ g. P g.state) (same_Some host g (sym there ∙ at)) p)
+  carried why (Some c) os p = fated (fate (stored_parts c) host) why c [] os p
 
-fated_now : (f : Fate) (h : HostId) (host : Host) (c : Change (List ℕ)) (first : List Seen) (os : List Output) (w : World)
-    → (change_fated f h host c first os w).world.now ≡ w.now
-fated_now Made h host c first os w = ap (λ v. v.now) (emits_world h os (put_host h (used (stored_parts c) (applied c host.state) host) w))
-fated_now StoppedBefore h host c first os w = refl
-fated_now StoppedAfter h host c first os w = refl
+fated_now : (f : Fate) (h : HostId) (host : Host) (why : Why) (c : Change (List ℕ)) (first : List Seen) (os : List Output) (w : World)
+    → (change_fated f h host why c first os w).world.now ≡ w.now
+fated_now Made h host why c first os w = ap (λ v. v.now) (emits_world h os (put_host h (used (stored_parts c) (applied c host.state) host) w))
+fated_now StoppedBefore h host why c first os w = refl
+fated_now StoppedAfter h host why c first os w = refl
 
-carried_now : (h : HostId) (host : Host) (o : Option (Change (List ℕ))) (os : List Output) (w : World) → (carries_out h host o os w).world.now ≡ w.now
-carried_now h host None os w = ap (λ v. v.now) (emits_world h os w)
-carried_now h host (Some c) os w = fated_now (fate (stored_parts c) host) h host c [] os w
+carried_now : (h : HostId) (host : Host) (why : Why) (o : Option (Change (List ℕ))) (os : List Output) (w : World)
+    → (carries_out h host why o os w).world.now ≡ w.now
+carried_now h host why None os w = ap (λ v. v.now) (emits_world h os w)
+carried_now h host why (Some c) os w = fated_now (fate (stored_parts c) host) h host why c [] os w
 
 -- starts
 
@@ -93,12 +95,12 @@ starts_now (suc n) h w = of (host_of h w) (starts_now n h)
           | false ↦ unseen w
           | true ↦ elim o [
             | None ↦ unseen w
-            | Some s ↦ (let r = steps h host s w in then_seen r.seen (starts n h r.world))
+            | Some s ↦ (let r = steps h host ByStart s w in then_noted r.notes (starts n h r.world))
           ]
         ])).now ≡ w.now
     by host false o rest = refl
     by host true None rest = refl
-    by host true (Some s) rest = rest (steps h host s w).world ∙ carried_now h host s.change (map shown s.outputs) w
+    by host true (Some s) rest = rest (steps h host ByStart s w).world ∙ carried_now h host ByStart s.change (map shown s.outputs) w
 
     of : (o : Option Host) → ((v : World) → (starts n h v).world.now ≡ v.now)
         → (world_of (elim o [
@@ -107,7 +109,7 @@ starts_now (suc n) h w = of (host_of h w) (starts_now n h)
             | false ↦ unseen w
             | true ↦ elim (start w.now host.state) [
               | None ↦ unseen w
-              | Some s ↦ (let r = steps h host s w in then_seen r.seen (starts n h r.world))
+              | Some s ↦ (let r = steps h host ByStart s w in then_noted r.notes (starts n h r.world))
             ]
           ]
         ])).now ≡ w.now
@@ -124,7 +126,7 @@ starts_rest (suc n) h w few = of (host_of h w) refl (starts_rest n h)
           | false ↦ unseen w
           | true ↦ elim o [
             | None ↦ unseen w
-            | Some s ↦ (let r = steps h host s w in then_seen r.seen (starts n h r.world))
+            | Some s ↦ (let r = steps h host ByStart s w in then_noted r.notes (starts n h r.world))
           ]
         ]))
     by host there false is_down o e rest = λ g at up. absurd (true≢false (sym up ∙ ap (λ v. v.up) (same_Some g host (sym at ∙ there)) ∙ is_down))
@@ -132,10 +134,10 @@ starts_rest (suc n) h w few = of (host_of h w) refl (starts_rest n h)
     by host there true is_up (Some x) e rest =
         let k = few host there is_up in
         let b = begun w.now host.state k.0 x e in
-        let v : World = (steps h host x w).world in
+        let v : World = (steps h host ByStart x w).world in
         let fewer : starts_left (after_change x.change host.state) ≤ n = (let l = b.1 in let m = k.1 in omega arith) in
-        subst (λ now. Rests h now (starts n h v).world) (carried_now h host x.change (map shown x.outputs) w)
-        (rest v (carried h host w there (λ s. IsInOrder s × (starts_left s ≤ n)) x.change (map shown x.outputs) (b.0, fewer)))
+        subst (λ now. Rests h now (starts n h v).world) (carried_now h host ByStart x.change (map shown x.outputs) w)
+        (rest v (carried h host w there (λ s. IsInOrder s × (starts_left s ≤ n)) ByStart x.change (map shown x.outputs) (b.0, fewer)))
 
     of : (o : Option Host) → host_of h w ≡ o → ((v : World) → Few h n v → Rests h v.now (starts n h v).world)
         → Rests h w.now (world_of (elim o [
@@ -144,7 +146,7 @@ starts_rest (suc n) h w few = of (host_of h w) refl (starts_rest n h)
             | false ↦ unseen w
             | true ↦ elim (start w.now host.state) [
               | None ↦ unseen w
-              | Some s ↦ (let r = steps h host s w in then_seen r.seen (starts n h r.world))
+              | Some s ↦ (let r = steps h host ByStart s w in then_noted r.notes (starts n h r.world))
             ]
           ]
         ]))
@@ -195,16 +197,16 @@ pub event_rests : (h : HostId) (host : Host) (e : Event) (w : World) → host_of
     → RestsNow h (takes_up h host e w).world
 event_rests h host e w there order =
     let s = step e host.state in
-    let v : World = (steps h host s w).world in
+    let v : World = (steps h host (ByEvent e) s w).world in
     let u : World = (all_starts h v).world in
     let b : Bool = shuts_down e host.state in
     subst (λ now. Rests h now (halts b h u).world) (sym (all_starts_now h v) ∙ sym (halts_now b h u))
-    (halts_rest b h v.now u (all_starts_rest h v (carried h host w there IsInOrder s.change (map shown s.outputs) order)))
+    (halts_rest b h v.now u (all_starts_rest h v (carried h host w there IsInOrder (ByEvent e) s.change (map shown s.outputs) order)))
 
-pub change_rests : (h : HostId) (host : Host) (c : Change (List ℕ)) (first : List Seen) (os : List Output) (w : World) → host_of h w ≡ Some host
+pub change_rests : (h : HostId) (host : Host) (why : Why) (c : Change (List ℕ)) (first : List Seen) (os : List Output) (w : World) → host_of h w ≡ Some host
     → IsInOrder (applied c host.state)
-    → RestsNow h (all_starts h (makes_change h host c first os w).world).world
-change_rests h host c first os w there order =
-    let v : World = (makes_change h host c first os w).world in
+    → RestsNow h (all_starts h (makes_change h host why c first os w).world).world
+change_rests h host why c first os w there order =
+    let v : World = (makes_change h host why c first os w).world in
     subst (λ now. Rests h now (all_starts h v).world) (sym (all_starts_now h v))
-    (all_starts_rest h v (fated h host w there IsInOrder (fate (stored_parts c) host) c first os order))
+    (all_starts_rest h v (fated h host w there IsInOrder (fate (stored_parts c) host) why c first os order))

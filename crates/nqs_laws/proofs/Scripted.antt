@@ -32,7 +32,8 @@ use Rattle.nqs_rules.proofs.ListFacts.{list_all-weaker, list_all-found}
 use Rattle.nqs_rules.proofs.KeyFacts.{all_get}
 use Rattle.nqs_rules.proofs.PeersOrder.{get-other}
 use Rattle.nqs_rules.proofs.RowFacts.{same_id}
-use Rattle.nqs_laws.specs.History.{Why, Note, Saw, Kept, saws, history}
+use Rattle.nqs_rules.specs.Notes.{Why, Note, Saw, Kept, saws}
+use Rattle.nqs_laws.specs.History.{history}
 use Rattle.nqs_laws.specs.Sane.{AreSane, IsSite}
 use Rattle.nqs_laws.specs.Words.{replayed}
 use Rattle.nqs_laws.specs.Numbers.{numbers_given, next_numbered}

@@ -40,7 +40,8 @@ use Rattle.nqs_rules.proofs.MessagesFit.{step_fits}
 use Rattle.nqs_rules.proofs.StartIs.{StartsRow, start_is}
 use Rattle.nqs_rules.proofs.Until.{steady}
 use Rattle.nqs_rules.proofs.Formatted.{formatted_order}
-use Rattle.nqs_laws.specs.History.{Note, Saw, history}
+use Rattle.nqs_rules.specs.Notes.{Note, Saw}
+use Rattle.nqs_laws.specs.History.{history}
 use Rattle.nqs_laws.specs.Words.{body_passes}
 use Rattle.nqs_laws.specs.Sane.{AreSane}
 use Rattle.nqs_laws.proofs.Frame.{Moment, moment, put_state, Comes, Way, Taken, Begun, Booted, change_by, why_by, outputs_by, sent_in, IsIdle, noted, silent}

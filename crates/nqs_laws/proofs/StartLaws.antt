@@ -34,19 +34,20 @@ use Rattle.nqs_rules.specs.Start.{moving_by, local_causes}
 use Rattle.nqs_rules.specs.Starts.{after_change}
 use Rattle.nqs_rules.specs.Step.{step}
 use Rattle.nqs_rules.specs.Stepped.{Stepped, shown}
-use Rattle.nqs_rules.specs.World.{Act, new_world, hosts_from, boot_output, sent_by, seen_output}
+use Rattle.nqs_rules.specs.World.{Act, seen_of, new_world, hosts_from, boot_output, sent_by, seen_output}
 use Rattle.nqs_rules.specs.Run.{states_of, run, run_of}
 use Rattle.nqs_rules.proofs.Chains.{each}
 use Rattle.nqs_rules.proofs.ListFacts.{list_all-weaker}
 use Rattle.nqs_rules.proofs.FindKept.{all-mapped}
 use Rattle.nqs_rules.proofs.RowFacts.{row_is, promise_is}
 use Rattle.nqs_rules.proofs.Sublists.{part_all, filter_part}
-use Rattle.nqs_laws.specs.History.{Why, ByStart, Note, saws, sights, history}
+use Rattle.nqs_rules.specs.Notes.{Why, ByStart, Note, saws, sights}
+use Rattle.nqs_laws.specs.History.{history}
 use Rattle.nqs_laws.specs.Sane.{AreSane, IsSite}
 use Rattle.nqs_laws.specs.Words.{is_counted, is_never_lost, is_carried_counted, is_carried_never_lost, body_passes, offers_pass, boots_tell}
 use Rattle.nqs_laws.proofs.Frame.{Moment, moment, put_state, Way, Taken, Begun, Booted, change_by, why_by, outputs_by, first_by, sent_in, seen_from, kept_of}
 use Rattle.nqs_laws.proofs.Frame.{IsIdle}
-use Rattle.nqs_laws.proofs.Told.{all_seen, sights-append, history_seen}
+use Rattle.nqs_laws.proofs.Told.{all_seen, sights-append}
 use Rattle.nqs_laws.proofs.RowTests.{PlainRow, IsKept, NewPasses, AllPass, change_passes}
 use Rattle.nqs_laws.proofs.Sent.{is_fine_message, is_fine_output, all-true, Begins, Launches, Prints, Holds, Moves, Opens, begins, step_fine}
 use Rattle.nqs_laws.proofs.Sound.{IsSound, Keeps, Suits, event_sane, all_sane, way_sends, get-here, runs_keep, run_sound}
@@ -318,6 +319,5 @@ tells_keeps site = record {
       (way_told site m k h s there way (length m.packets));
 }
 
-pub all_told : (site : List (List ℕ)) (acts : List Act) → IsSite site → AreSane acts → boots_tell None (run_of site acts).seen ≡ true
-all_told site acts few sane = subst (λ xs. boots_tell None xs ≡ true) (history_seen acts (new_world site))
-    (runs_keep site Tells (tells_keeps site) few.1 refl acts sane)
+pub all_told : (site : List (List ℕ)) (acts : List Act) → IsSite site → AreSane acts → boots_tell None (seen_of (run_of site acts)) ≡ true
+all_told site acts few sane = runs_keep site Tells (tells_keeps site) few.1 refl acts sane

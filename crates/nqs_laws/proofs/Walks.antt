@@ -22,7 +22,7 @@ use Rattle.nqs_types.specs.declared.edit.RowsEdit.TheVariants.{AbortQueue}
 use Rattle.nqs_types.specs.declared.ids.HostId.{HostId}
 use Rattle.nqs_types.specs.declared.message.Body.{Body}
 use Rattle.nqs_types.specs.declared.message.Body.TheVariants as body
-use Rattle.nqs_laws.specs.History.{Why, ByEvent, ByStart, ByBoot, Note, Saw, Kept}
+use Rattle.nqs_rules.specs.Notes.{Why, ByEvent, ByStart, ByBoot, Note, Saw, Kept}
 use Rattle.nqs_laws.specs.Words.{replayed}
 use Rattle.nqs_laws.specs.Licensed.{LicensesEdit, LicensesMessage, LicensesCommand, LicensesEvent, Licenses}
 use Rattle.nqs_laws.specs.Launches.{launched, launches, states_after, pending_after, AreApart, AreStarted, acknowledges, is_acknowledged, lies, was_taken_out}

@@ -21,7 +21,8 @@ use Rattle.nqs_rules.specs.Edits.{change_at}
 use Rattle.nqs_rules.specs.Applied.{applied}
 use Rattle.nqs_rules.specs.Licence.{Kind, Submit, Delete, Doom, Hold, Release, Move, Open, Back, Route, Arrive, Start, End, Again, Gone, Steps}
 use Rattle.nqs_rules.specs.Net.{Entry, entry_of}
-use Rattle.nqs_laws.specs.History.{Why, ByEvent, ByStart, ByBoot, Note, Saw, Kept, history}
+use Rattle.nqs_rules.specs.Notes.{Why, ByEvent, ByStart, ByBoot, Note, Saw, Kept}
+use Rattle.nqs_laws.specs.History.{history}
 use Rattle.nqs_laws.specs.Launches.{lies, was_taken_out}
 use Rattle.nqs_laws.specs.Licensed.{LicensesEdit, LicensesMessage, LicensesCommand, LicensesEvent, Licenses, IsLicensed}
 use Rattle.nqs_laws.specs.TakenOut.{WasDeleted, HasFinished, WasLost, WentOut}

@@ -17,11 +17,11 @@ use Rattle.nqs_rules.specs.Starts.{after_change, after_step}
 use Rattle.nqs_rules.specs.Step.{step}
 use Rattle.nqs_rules.specs.Start.{start}
 use Rattle.nqs_rules.specs.Stepped.{Stepped, shown, stored_parts}
-use Rattle.nqs_rules.specs.World.{World, Host, Fate, Made, StoppedBefore, StoppedAfter, fate, host_of, put_host, then_seen, seeing, unseen, stopped, used}
+use Rattle.nqs_rules.specs.World.{World, Host, Fate, Made, StoppedBefore, StoppedAfter, fate, host_of, put_host, then_noted, seeing, unseen, stopped, used}
 use Rattle.nqs_rules.specs.World.{ready, cut_off, recorded}
 use Rattle.nqs_rules.specs.World.{emits, change_fated, carries_out, steps, starts, all_starts, left_of, shuts_down, halts, takes_up, taken_by, takes, packet_at}
 use Rattle.nqs_types.specs.declared.world.Seen.TheVariants as seen
-use Rattle.nqs_laws.specs.History.{Note, ByEvent, ByStart, step_notes}
+use Rattle.nqs_rules.specs.Notes.{Why, Note, ByEvent, ByStart}
 use Rattle.nqs_laws.specs.Handovers.{IsStateOf}
 use Rattle.nqs_laws.specs.Sending.{Sends}
 use Rattle.nqs_laws.specs.Whole.{is_up, WasSentBetween}
@@ -59,14 +59,14 @@ module _ (h : HostId) (w : World) (host : Host) (there : host_of h w ≡ Some ho
   down : (s : Plain) (left : Host) → is_up h (put_host h (stopped s left) w) ≡ true → ⊥
   down s left up = true≢false (sym up ∙ ap (passes (λ (x : Host). x.up)) (put_there (stopped s left)))
 
-  pub steps_did : (x : Stepped (List ℕ)) → is_up h (steps h host x w).world ≡ true → Did w (steps h host x w).world h host.state x
-  steps_did x up = of x.change up
+  pub steps_did : (why : Why) (x : Stepped (List ℕ)) → is_up h (steps h host why x w).world ≡ true → Did w (steps h host why x w).world h host.state x
+  steps_did why x up = of x.change up
     where
       os : List Output
       os = map shown x.outputs
 
-      fated : (f : Fate) (c : Change (List ℕ)) → is_up h (change_fated f h host c [] os w).world ≡ true
-          → Did w (change_fated f h host c [] os w).world h host.state (record { change = Some c; outputs = x.outputs })
+      fated : (f : Fate) (c : Change (List ℕ)) → is_up h (change_fated f h host why c [] os w).world ≡ true
+          → Did w (change_fated f h host why c [] os w).world h host.state (record { change = Some c; outputs = x.outputs })
       fated Made c up =
           let new : Host = used (stored_parts c) (applied c host.state) host in
           let v : World = put_host h new w in
@@ -80,8 +80,8 @@ module _ (h : HostId) (w : World) (host : Host) (there : host_of h w ≡ Some ho
       fated StoppedBefore c up = absurd (down host.state (cut_off host) up)
       fated StoppedAfter c up = absurd (down (applied c host.state) (recorded (ready host)) up)
 
-      of : (o : Option (Change (List ℕ))) → is_up h (carries_out h host o os w).world ≡ true
-          → Did w (carries_out h host o os w).world h host.state (record { change = o; outputs = x.outputs })
+      of : (o : Option (Change (List ℕ))) → is_up h (carries_out h host why o os w).world ≡ true
+          → Did w (carries_out h host why o os w).world h host.state (record { change = o; outputs = x.outputs })
       of None up = record {
         packets = ap (λ (u : World). u.packets) (emits_world h os w);
         host = host;
@@ -92,24 +92,24 @@ module _ (h : HostId) (w : World) (host : Host) (there : host_of h w ≡ Some ho
       of (Some c) up = fated (fate (stored_parts c) host) c up
 
   -- whatever falls, packets stay, and the state is that before or that after
-  pub steps_more : (x : Stepped (List ℕ)) → More w (steps h host x w).world
-  steps_more x = of x.change
+  pub steps_more : (why : Why) (x : Stepped (List ℕ)) → More w (steps h host why x w).world
+  steps_more why x = of x.change
     where
       os : List Output
       os = map shown x.outputs
 
-      fated : (f : Fate) (c : Change (List ℕ)) → More w (change_fated f h host c [] os w).world
+      fated : (f : Fate) (c : Change (List ℕ)) → More w (change_fated f h host why c [] os w).world
       fated Made c = (sent_in os, ap (λ (u : World). u.packets) (emits_world h os (put_host h (used (stored_parts c) (applied c host.state) host) w)))
       fated StoppedBefore c = more_none w
       fated StoppedAfter c = more_none w
 
-      of : (o : Option (Change (List ℕ))) → More w (carries_out h host o os w).world
+      of : (o : Option (Change (List ℕ))) → More w (carries_out h host why o os w).world
       of None = (sent_in os, ap (λ (u : World). u.packets) (emits_world h os w))
       of (Some c) = fated (fate (stored_parts c) host) c
 
-  pub steps_state : (x : Stepped (List ℕ)) (P : Plain → Type 0) → P host.state → P (after_step x host.state) → (s : Plain)
-      → IsStateOf (steps h host x w).world h s → P s
-  steps_state x P before behind s at = of x.change behind at
+  pub steps_state : (why : Why) (x : Stepped (List ℕ)) (P : Plain → Type 0) → P host.state → P (after_step x host.state) → (s : Plain)
+      → IsStateOf (steps h host why x w).world h s → P s
+  steps_state why x P before behind s at = of x.change behind at
     where
       os : List Output
       os = map shown x.outputs
@@ -117,7 +117,7 @@ module _ (h : HostId) (w : World) (host : Host) (there : host_of h w ≡ Some ho
       at_host : (v : World) (new : Host) → host_of h v ≡ Some new → P new.state → IsStateOf v h s → P s
       at_host v new is p at = subst P (sym (state_of_host h v new s is at)) p
 
-      fated : (f : Fate) (c : Change (List ℕ)) → P (applied c host.state) → IsStateOf (change_fated f h host c [] os w).world h s → P s
+      fated : (f : Fate) (c : Change (List ℕ)) → P (applied c host.state) → IsStateOf (change_fated f h host why c [] os w).world h s → P s
       fated Made c p at =
           let new : Host = used (stored_parts c) (applied c host.state) host in
           let v : World = put_host h new w in
@@ -129,7 +129,7 @@ module _ (h : HostId) (w : World) (host : Host) (there : host_of h w ≡ Some ho
           let new : Host = stopped (applied c host.state) (recorded (ready host)) in
           at_host (put_host h new w) new (put_there new) p at
 
-      of : (o : Option (Change (List ℕ))) → P (after_change o host.state) → IsStateOf (carries_out h host o os w).world h s → P s
+      of : (o : Option (Change (List ℕ))) → P (after_change o host.state) → IsStateOf (carries_out h host why o os w).world h s → P s
       of None p at = at_host (emits h os w).world host (ap (host_of h) (emits_world h os w) ∙ there) p at
       of (Some c) p at = fated (fate (stored_parts c) host) c p at
 
@@ -141,7 +141,7 @@ begins n h host up o w = world_of (elim up [
   | false ↦ unseen w
   | true ↦ elim o [
     | None ↦ unseen w
-    | Some s ↦ (let r = steps h host s w in then_seen r.seen (starts n h r.world))
+    | Some s ↦ (let r = steps h host ByStart s w in then_noted r.notes (starts n h r.world))
   ]
 ])
 
@@ -152,7 +152,7 @@ starts_of n h o w = world_of (elim o [
     | false ↦ unseen w
     | true ↦ elim (start w.now host.state) [
       | None ↦ unseen w
-      | Some s ↦ (let r = steps h host s w in then_seen r.seen (starts n h r.world))
+      | Some s ↦ (let r = steps h host ByStart s w in then_noted r.notes (starts n h r.world))
     ]
   ]
 ])
@@ -179,7 +179,7 @@ up_before n h w up = by (is_up h w) refl
 
 -- what each start keeps, all starts keep
 module _ (site : List (List ℕ)) (h : HostId) (R : World → Type 0) (keeps : (w : World) (ns : List Note) → IsSound site (moment w ns) → (host : Host)
-    → host_of h w ≡ Some host → (x : Stepped (List ℕ)) → start w.now host.state ≡ Some x → R w → R (steps h host x w).world) where
+    → host_of h w ≡ Some host → (x : Stepped (List ℕ)) → start w.now host.state ≡ Some x → R w → R (steps h host ByStart x w).world) where
   pub starts_keep : (n : ℕ) (w : World) (ns : List Note) → IsSound site (moment w ns) → R w → R (starts n h w).world
   starts_keep zero w ns sound r = r
   starts_keep (suc n) w ns sound r = of (host_of h w) refl (starts_keep n)
@@ -188,7 +188,7 @@ module _ (site : List (List ℕ)) (h : HostId) (R : World → Type 0) (keeps : (
           → ((v : World) (ms : List Note) → IsSound site (moment v ms) → R v → R (starts n h v).world) → R (begins n h host up o w)
       by host there false o e rest = r
       by host there true None e rest = r
-      by host there true (Some x) e rest = rest (steps h host x w).world (ns ++ step_notes h host ByStart x w)
+      by host there true (Some x) e rest = rest (steps h host ByStart x w).world (ns ++ (steps h host ByStart x w).notes)
           (begin_kept (IsSound site) (steps_of (IsSound site) (sound_frames site)) w ns h host there x e sound) (keeps w ns sound host there x e r)
 
       of : (o : Option Host) → host_of h w ≡ o → ((v : World) (ms : List Note) → IsSound site (moment v ms) → R v → R (starts n h v).world)
@@ -219,15 +219,15 @@ took site w ns sound h e comes open_still up = of (host_of h w) refl up
     taken : (host : Host) → host_of h w ≡ Some host → is_up h (takes_up h host e w).world ≡ true → Took site w (takes_up h host e w).world h e
     taken host there up =
         let x : Stepped (List ℕ) = step e host.state in
-        let v : World = (steps h host x w).world in
+        let v : World = (steps h host (ByEvent e) x w).world in
         let after : (takes_up h host e w).world ≡ (all_starts h v).world =
         ended host (shuts_down e host.state) (open_still host.state) (all_starts h v).world in
         record {
           host = host;
           there = there;
           stepped = v;
-          did = steps_did h w host there x (up_before (left_of (host_of h v)) h v (sym (ap (is_up h) after) ∙ up));
-          notes = ns ++ step_notes h host (ByEvent e) x w;
+          did = steps_did h w host there (ByEvent e) x (up_before (left_of (host_of h v)) h v (sym (ap (is_up h) after) ∙ up));
+          notes = ns ++ (steps h host (ByEvent e) x w).notes;
           sound = step_kept (IsSound site) (steps_of (IsSound site) (sound_frames site)) w ns h host there e comes sound;
           then_started = after;
         }
@@ -247,8 +247,8 @@ module _ (site : List (List ℕ)) (w v : World) (h : HostId) (e : Event) (k : To
   took_more : More k.stepped v
   took_more =
       subst (More k.stepped) (sym k.then_started)
-      (starts_keep site h (More k.stepped) (λ u ns sound host there x begun more. more_more k.stepped u (steps h host x u).world more
-      (steps_more h u host there x))
+      (starts_keep site h (More k.stepped) (λ u ns sound host there x begun more. more_more k.stepped u (steps h host ByStart x u).world more
+      (steps_more h u host there ByStart x))
       (left_of (host_of h k.stepped)) k.stepped k.notes k.sound (more_none k.stepped))
 
   pub packets_stay : (n : ℕ) (m : Message) → packet_at n w ≡ Some m → packet_at n v ≡ Some m
@@ -296,8 +296,8 @@ module _ (site : List (List ℕ)) (w v : World) (h : HostId) (e : Event) (k : To
       s (subst (λ u. IsStateOf u h s) k.then_started at)
     where
       begin : (u : World) (ns : List Note) → IsSound site (moment u ns) → (host : Host) → host_of h u ≡ Some host → (x : Stepped (List ℕ))
-          → start u.now host.state ≡ Some x → ((t : Plain) → IsStateOf u h t → P t) → (t : Plain) → IsStateOf (steps h host x u).world h t → P t
+          → start u.now host.state ≡ Some x → ((t : Plain) → IsStateOf u h t → P t) → (t : Plain) → IsStateOf (steps h host ByStart x u).world h t → P t
       begin u ns sound host there x begun all =
           let at : IsStateOf u h host.state = slice_get-map state_in u.hosts h.0 ∙ ap (option_map state_in) there in
           let now : P host.state = all host.state at in
-          steps_state h u host there x P now (keeps host.state (sound.hosts h.0 host.state at).order u.now x begun now)
+          steps_state h u host there ByStart x P now (keeps host.state (sound.hosts h.0 host.state at).order u.now x begun now)

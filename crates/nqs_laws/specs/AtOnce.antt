@@ -17,7 +17,7 @@ use Rattle.nqs_types.specs.declared.edit.ConfEdit.TheVariants.{PurgeQueue}
 use Rattle.nqs_types.specs.declared.edit.RowsEdit.TheVariants.{AbortQueue}
 use Rattle.nqs_types.specs.declared.event.Command.TheVariants as command
 use Rattle.nqs_types.specs.declared.event.Event.TheVariants as event
-use Rattle.nqs_laws.specs.History.{Why, ByEvent}
+use Rattle.nqs_rules.specs.Notes.{Why, ByEvent}
 use Rattle.nqs_laws.specs.Each.{OfChange}
 use Rattle.nqs_laws.specs.Closed.{HasState}
 

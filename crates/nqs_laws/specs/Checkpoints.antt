@@ -22,7 +22,7 @@ DifferInDisks g h = record h { fuses = g.fuses; calls = g.calls; root = g.root; 
 abbrev pub TellsAsBefore : Host → Host → Type 0
 TellsAsBefore before h = ((active h.root ≡ active before.root) × (h.records ≡ before.records)) ⊎ ((active h.root ≡ resting before.root) × (h.records ≡ 0))
 
--- The host is down with the state that it had, and its disks tell what they told. Nothing is seen but the stop.
+-- The host is down with the state that it had, and its disks tell what they told. Nothing is noted but the stop.
 pub record StopsAsItWas (h : HostId) (before : Host) (w : World) (r : Ran) : Type 0 where
   pub left : Host
   pub tells : TellsAsBefore before left
@@ -58,9 +58,9 @@ pub record AreWorldsAlike (w v : World) : Type 0 where
   pub packets : w.packets ≡ v.packets
   pub now : w.now ≡ v.now
 
--- runs of which the same is seen, and which come to such worlds
+-- runs of which the same is noted, and so seen, and which come to such worlds
 pub record AreRunsAlike (r q : Ran) : Type 0 where
-  pub seen : r.seen ≡ q.seen
+  pub notes : r.notes ≡ q.notes
   pub world : AreWorldsAlike r.world q.world
 
 -- an event that lays no fuse

@@ -8,7 +8,7 @@ use Rattle.nqs_rules.specs.Edits.{change_at}
 use Rattle.nqs_types.specs.declared.ids.HostId.{HostId}
 use Rattle.nqs_types.specs.declared.ids.RequestId.{RequestId}
 use Rattle.nqs_types.specs.declared.world.Seen.TheVariants as seen
-use Rattle.nqs_laws.specs.History.{Note, Saw, Kept}
+use Rattle.nqs_rules.specs.Notes.{Note, Saw, Kept}
 use Rattle.nqs_laws.specs.Numbers.{numbers_given, next_numbered}
 
 -- the next thing that is noted is the stop of this host

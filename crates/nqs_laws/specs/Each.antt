@@ -7,7 +7,8 @@ use Rattle.nqs_rules.specs.World.{World, Act, new_world}
 use Rattle.nqs_rules.specs.Run.{run_of, states_of}
 use Rattle.nqs_types.specs.declared.ids.HostId.{HostId}
 use Rattle.nqs_types.specs.declared.change.Change.{Change}
-use Rattle.nqs_laws.specs.History.{Why, Note, Saw, Kept, history}
+use Rattle.nqs_rules.specs.Notes.{Why, Note, Saw, Kept}
+use Rattle.nqs_laws.specs.History.{history}
 use Rattle.nqs_laws.specs.Sane.{AreSane, IsSite}
 
 -- what holds in each world that a list of events on 1 to 16 hosts reaches

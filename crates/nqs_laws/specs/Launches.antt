@@ -6,7 +6,7 @@ use Rattle.nqs_state.specs.State.{Plain}
 use Rattle.nqs_rules.specs.Applied.{applied}
 use Rattle.nqs_rules.specs.Edits.{change_at}
 use Rattle.nqs_rules.specs.Net.{Entry, entry_of}
-use Rattle.nqs_laws.specs.History.{Note, Saw, Kept}
+use Rattle.nqs_rules.specs.Notes.{Note, Saw, Kept}
 use Rattle.nqs_types.specs.declared.ids.HostId.{HostId}
 use Rattle.nqs_types.specs.declared.ids.RequestId.{RequestId}
 use Rattle.nqs_types.specs.declared.event.Reply.TheVariants as reply

@@ -24,7 +24,7 @@ use Rattle.nqs_types.specs.declared.event.Command.{Command}
 use Rattle.nqs_types.specs.declared.event.Command.TheVariants as command
 use Rattle.nqs_types.specs.declared.event.Event.{Event}
 use Rattle.nqs_types.specs.declared.event.Event.TheVariants as event
-use Rattle.nqs_laws.specs.History.{Why, ByEvent, ByStart, ByBoot, Note, Saw, Kept}
+use Rattle.nqs_rules.specs.Notes.{Why, ByEvent, ByStart, ByBoot, Note, Saw, Kept}
 
 -- a purge deletes what is queued in its queue, held or not, and nothing on its way; an abort dooms what runs there; and other edits are of the named request
 abbrev pub LicensesEdit : Edit → Plain → RequestId → Kind → Type 0

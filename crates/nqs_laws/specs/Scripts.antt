@@ -15,7 +15,7 @@ use Rattle.nqs_types.specs.declared.message.Message.{Message}
 use Rattle.nqs_types.specs.declared.message.Body.TheVariants.{Offer}
 use Rattle.nqs_types.specs.declared.change.Change.{Change}
 use Rattle.nqs_types.specs.declared.change.Change.TheVariants.{Submitted}
-use Rattle.nqs_laws.specs.History.{Note, Saw, Kept}
+use Rattle.nqs_rules.specs.Notes.{Note, Saw, Kept}
 use Rattle.nqs_laws.specs.Handovers.{IsStateOf, WasSent}
 use Rattle.nqs_laws.specs.Numbers.{next_numbered}
 

@@ -9,7 +9,7 @@ use Rattle.nqs_types.specs.declared.ids.RequestId.{RequestId}
 use Rattle.nqs_types.specs.declared.ids.HostId.{HostId}
 use Rattle.nqs_types.specs.declared.change.Change.{Change}
 use Rattle.nqs_types.specs.declared.table_row.NetState.TheVariants.{Running}
-use Rattle.nqs_laws.specs.History.{Why, ByBoot}
+use Rattle.nqs_rules.specs.Notes.{Why, ByBoot}
 use Rattle.nqs_laws.specs.Launches.{lies}
 use Rattle.nqs_laws.specs.Licensed.{Licenses}
 

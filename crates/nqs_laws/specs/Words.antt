@@ -11,7 +11,7 @@ use Rattle.nqs_rules.specs.Net.{Entry}
 use Rattle.nqs_rules.specs.Sane.{is_sane_message}
 use Rattle.nqs_rules.specs.World.{World}
 use Rattle.nqs_rules.specs.Run.{states_of}
-use Rattle.nqs_laws.specs.History.{Note, Saw, Kept}
+use Rattle.nqs_rules.specs.Notes.{Note, Saw, Kept}
 use Rattle.nqs_types.specs.declared.ids.HostId.{HostId}
 use Rattle.nqs_types.specs.declared.request.Carried.{Carried}
 use Rattle.nqs_types.specs.declared.message.Message.{Message}

@@ -1,7 +1,7 @@
 //! Laws of starts and losses, over every list of events with stops at any call.
 ghost use Rattle.std.specs.Prelude.{◌≡◌, List, ℕ, None, IsTrue};
 ghost use Rattle.std.specs.List.{list_all};
-ghost use Rattle.nqs_rules.specs.World.{Act};
+ghost use Rattle.nqs_rules.specs.World.{Act, seen_of};
 ghost use Rattle.nqs_rules.specs.Run.{run_of, states_of};
 ghost use Rattle.nqs_rules.specs.Net.{entries};
 ghost use Rattle.nqs_laws.specs.Sane.{AreSane, IsSite};
@@ -28,5 +28,5 @@ pub fn only_rerunnable_requests_start_again()
 /// That a request starts again or is lost is told right behind a boot of its host, and nowhere
 /// else.
 pub fn boots_tell_what_ran()
-    ensures { (site : List (List ℕ)) (acts : List Act) → IsSite site → AreSane acts → IsTrue (boots_tell None (run_of site acts).seen) }
+    ensures { (site : List (List ℕ)) (acts : List Act) → IsSite site → AreSane acts → IsTrue (boots_tell None (seen_of (run_of site acts))) }
 {}

@@ -4,7 +4,8 @@ use Rattle.std.proofs.lemmas.List.{append_assoc, append-nil}
 use Rattle.nqs_types.specs.declared.event.Output.{Output}
 use Rattle.nqs_types.specs.declared.ids.HostId.{HostId}
 use Rattle.nqs_types.specs.declared.world.Seen.{Seen}
-use Rattle.nqs_rules.specs.World.{seen_output, sent_by}
+use Rattle.nqs_rules.specs.World.{Ran, World as Network, seen_of, seen_output, sent_by, then_ran}
+use Rattle.nqs_laws.proofs.Told.{sights-append}
 use Rattle.nqs_net.specs.Lists.{seen_from, GrowsByFront}
 
 module _ (old now : List Seen) where
@@ -23,6 +24,16 @@ module _ (old now : List Seen) where
 pub shown_before : (old mid now first all : List Seen) → mid ≡ old ++ first → GrowsByFront mid now all → GrowsByFront old now (first ++ all)
 shown_before old mid now first all was (shown, rest, grown, is) =
     (first ++ shown, rest, grown ∙ ap (λ l. l ++ shown) was ∙ append_assoc old first shown, ap (λ l. first ++ l) is ∙ sym (append_assoc first shown rest))
+
+-- of one thing after the other
+module _ (old now : List Seen) (r : Ran) (f : Network → Ran) where
+  pub more_to_run : GrowsByFront old now (seen_of r) → GrowsByFront old now (seen_of (then_ran r f))
+  more_to_run front = shown_as old now (seen_of r ++ seen_of (f r.world)) (seen_of (then_ran r f)) (sym (sights-append r.notes (f r.world).notes))
+      (more_to_show old now (seen_of r) (seen_of (f r.world)) front)
+
+  pub run_before : (mid : List Seen) → mid ≡ old ++ seen_of r → GrowsByFront mid now (seen_of (f r.world)) → GrowsByFront old now (seen_of (then_ran r f))
+  run_before mid was front = shown_as old now (seen_of r ++ seen_of (f r.world)) (seen_of (then_ran r f)) (sym (sights-append r.notes (f r.world).notes))
+      (shown_before old mid now (seen_of r) (seen_of (f r.world)) was front)
 
 -- of the outputs of a host the first
 pub first_shown : (h : HostId) (many : ℕ) (o : Output) (os all : List Output) (old now : List Seen) → all ≡ o ∷ os

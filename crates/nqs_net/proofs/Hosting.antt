@@ -18,7 +18,8 @@ use Rattle.nqs_disk.specs.contracts.mem_disk.MemDiskDisk.TheImpl.{ghosts}
 use Rattle.nqs_disk.specs.declared.mem_disk.MemDisk.{MemDisk}
 use Rattle.nqs_rules.specs.Applied.{applied}
 use Rattle.nqs_rules.specs.Stepped.{stored_parts}
-use Rattle.nqs_rules.specs.World.{fuse_of, World as Network, Host, stopped, used, halted_host, halts, crashes_up, makes_change, boot_output, unseen}
+use Rattle.nqs_rules.specs.Notes.{Saw, ByBoot}
+use Rattle.nqs_rules.specs.World.{fuse_of, World as Network, Host, seen_of, stopped, used, halted_host, halts, crashes_up, makes_change, boot_output, unseen}
 use Rattle.nqs_store.specs.Active.{IsActive, ready, recorded}
 use Rattle.nqs_store.specs.Disks.{disk_at, histories_of, failing_of}
 use Rattle.nqs_store.specs.declared.disks.Disks.{Disks}
@@ -66,7 +67,7 @@ module _ (h : HostId) (w : Network) (host : Host) (tear : Tear) (packets : List 
           subst (λ l. Turns h (IsSlot (Down down)) tear l before after w (crashes_up h host w)) (sym faces.packets)
           (put_turn h w host (stopped host.state host) faces.there (IsSlot (Down down))
           (torn_down host.tear (history_of node) down.disks.value torn_now host host.state
-          (node_found node host host.tear is torn_now.images)) tear faces.tear (seen.Stop h ∷ []) before after saw)
+          (node_found node host host.tear is torn_now.images)) tear faces.tear (Saw (seen.Stop h) ∷ []) before after saw)
 
   -- nothing is done
   pub idle_at : (P : Host → Type 0) → P host → (before : List Seen) → Turns h P tear packets before before w (unseen w)
@@ -100,9 +101,9 @@ module _ (h : HostId) (w : Network) (host : Host) (tear : Tear) (packets : List 
         → IsOneOrOther (active_in host) old (history_of node) (Some Boot) host.state → ((which : Which) (i : ℕ) → fails_of node which i ≡ fails which i)
         → (sent : List Message) (before after : List Seen) → sent ≡ packets ++ sent_in (filter_map boot_output host.state.rows)
         → after ≡ before ++ (seen.Boot h ∷ seen_from h (length packets) (filter_map boot_output host.state.rows))
-        → Turns h (IsUp boxed) tear sent before after w (makes_change h host Boot (seen.Boot h ∷ []) (filter_map boot_output host.state.rows) w)
+        → Turns h (IsUp boxed) tear sent before after w (makes_change h host ByBoot Boot (seen.Boot h ∷ []) (filter_map boot_output host.state.rows) w)
     boot_turn node boxed same_node sound tells kept goes moments same sent before after sends saw =
-        kept_turn h w host tear packets faces (seen.Boot h ∷ []) (filter_map boot_output host.state.rows) Boot fails old is.disks (history_of node)
+        kept_turn h w host tear packets faces (seen.Boot h ∷ []) (filter_map boot_output host.state.rows) ByBoot Boot fails old is.disks (history_of node)
         (IsUp boxed) kept
         (subst (λ n. IsUp n (used (stored_parts Boot) (applied Boot host.state) host)) (sym same_node)
         (kept_up host fails old is.disks node Boot (down_quiet disks host is Root) is.root (down_come disks host is) moments kept goes tells sound same))
@@ -113,7 +114,7 @@ module _ (h : HostId) (w : Network) (host : Host) (tear : Tear) (packets : List 
         → IsMade (active_in host) fails old (history_of node) (Some Boot) → active_of node ≡ recorded (ready (active_in host))
         → IsOneOrOther (active_in host) old (history_of node) (Some Boot) host.state → ((which : Which) (i : ℕ) → fails_of node which i ≡ fails which i)
         → seen.Boot h ∷ seen_from h (length packets) (filter_map boot_output host.state.rows)
-        ≡ (makes_change h host Boot (seen.Boot h ∷ []) (filter_map boot_output host.state.rows) w).seen
+        ≡ seen_of (makes_change h host ByBoot Boot (seen.Boot h ∷ []) (filter_map boot_output host.state.rows) w)
     boot_seen node sound tells kept goes moments same =
         let outs = filter_map boot_output host.state.rows in
         (boot_turn node node refl sound tells kept goes moments same (packets ++ sent_in outs) [] (seen.Boot h ∷ seen_from h (length packets) outs) refl
@@ -122,10 +123,10 @@ module _ (h : HostId) (w : Network) (host : Host) (tear : Tear) (packets : List 
     pub boot_cut : (now : Which → History) (slot : Slot) (which : Which) (starved : Bool) (before after : List Seen) → after ≡ before ++ seen.Stop h ∷ []
         → IsStopped tear now slot → starved ≡ false
         → IsTrue starved ⊎ (IsBlown (fails which) (old which) ⊎ IsCutBy (active_in host) fails old now (Some Boot) host.state which)
-        → Turns h (IsSlot slot) tear packets before after w (makes_change h host Boot (seen.Boot h ∷ []) (filter_map boot_output host.state.rows) w)
+        → Turns h (IsSlot slot) tear packets before after w (makes_change h host ByBoot Boot (seen.Boot h ∷ []) (filter_map boot_output host.state.rows) w)
     boot_cut now slot which starved before after saw torn_now fed (inl hungry) = absurd (true≢false (sym hungry ∙ fed))
     boot_cut now slot which starved before after saw torn_now fed (inr (inl blown)) =
         absurd (unblown (fuse_of which host.fuses) (old which) (fails which) (is.disks which).fuse blown)
     boot_cut now slot which starved before after saw torn_now fed (inr (inr cut)) =
-        cut_turn h w host tear packets faces (seen.Boot h ∷ []) (filter_map boot_output host.state.rows) Boot fails old is.disks now before after saw slot which
-        torn_now (down_quiet disks host is Root) is.root cut
+        cut_turn h w host tear packets faces (seen.Boot h ∷ []) (filter_map boot_output host.state.rows) ByBoot Boot fails old is.disks now before after saw
+        slot which torn_now (down_quiet disks host is Root) is.root cut

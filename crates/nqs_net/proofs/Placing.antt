@@ -8,7 +8,7 @@ use Rattle.nqs_types.specs.declared.message.Message.{Message}
 use Rattle.nqs_values.specs.declared.tear.Tear.{Tear}
 use Rattle.nqs_types.specs.declared.world.Seen.{Seen}
 use Rattle.nqs_rules.specs.Edits.{change_at}
-use Rattle.nqs_rules.specs.World.{Host, World as Network}
+use Rattle.nqs_rules.specs.World.{Host, World as Network, seen_of}
 use Rattle.nqs_laws.proofs.Frame.{put-same}
 use Rattle.nqs_net.specs.Lists.{GrowsByFront}
 use Rattle.nqs_net.specs.Followed.{disks_in, FollowEach, StandsAfter}
@@ -111,7 +111,7 @@ module _ (world : World) (h : HostId) (deed : Deed) (old new : Slot) (tear : Tea
   turned = subst (λ o. Turns h (StandsAfter tear (disks_in old) new) tear packets before after network (done_by o deed h network)) (sym place.there)
       (turns network place.host (record { there = place.there; tear = place.same; packets = stands.packets }) place.stands (sym stands.now))
 
-  pub acted_seen : after ≡ before ++ (done deed h network).seen
+  pub acted_seen : after ≡ before ++ seen_of (done deed h network)
   acted_seen = turned.seen
 
   pub acted_follow : (nexts : List Slot) → nexts ≡ insert (remove world.slots.items h.0) h.0 new → FollowEach world.tears.items world.slots.items nexts
@@ -137,10 +137,10 @@ module _ (world : World) (h : HostId) (deed : Deed) (old new : Slot) (tear : Tea
 module _ (world : World) (h : HostId) (deed : Deed) (old : Slot) (tear : Tear) (before after : List Seen) (within : h.0 < length world.slots.items)
     (here : old ≡ get_or world.slots.items h.0 old) (also : tear ≡ get_or world.tears.items h.0 tear)
     (fronts : (w : Network) (host : Host) → Faces h host tear world.packets.items w → IsSlot old host → w.now ≡ world.now
-    → GrowsByFront before after (done_at deed h host w).seen)
+    → GrowsByFront before after (seen_of (done_at deed h host w)))
     (network : Network) (stands : IsWorld world network) where
-  pub acted_front : GrowsByFront before after (done deed h network).seen
+  pub acted_front : GrowsByFront before after (seen_of (done deed h network))
   acted_front =
       let place = slot_at world.slots.items world.tears.items network.hosts h.0 old tear stands.hosts within here also in
-      subst (λ o. GrowsByFront before after (done_by o deed h network).seen) (sym place.there)
+      subst (λ o. GrowsByFront before after (seen_of (done_by o deed h network))) (sym place.there)
       (fronts network place.host (record { there = place.there; tear = place.same; packets = stands.packets }) place.stands (sym stands.now))

@@ -14,9 +14,10 @@ use Rattle.nqs_rules.specs.Measure.{starts_left}
 use Rattle.nqs_rules.specs.Plain.{map_row, map_state}
 use Rattle.nqs_rules.specs.Start.{start}
 use Rattle.nqs_rules.specs.Stepped.{Stepped, quiet, shown, stored_parts}
+use Rattle.nqs_rules.specs.Notes.{ByStart}
 use Rattle.nqs_rules.specs.World.{World as Network, Host, Ran, Fate, Made, StoppedBefore, StoppedAfter, fate, host_of, put_host}
 use Rattle.nqs_rules.specs.World.{ready, recorded, cut_off, stopped, used, change_fated}
-use Rattle.nqs_rules.specs.World.{carries_out, steps, starts, all_starts, left_of, then_seen, then_ran, unseen}
+use Rattle.nqs_rules.specs.World.{carries_out, steps, starts, all_starts, left_of, then_noted, then_ran, unseen}
 use Rattle.nqs_rules.proofs.ListFacts.{list_all-weaker}
 use Rattle.nqs_rules.proofs.FindKept.{all-mapped}
 use Rattle.nqs_rules.proofs.StateFacts.{keys_are}
@@ -57,7 +58,7 @@ module _ {E : Type 0} where
 -- the starts from a world on, by its host, by whether that is up, and by what starts
 
 abbrev by_start : ℕ → HostId → Network → Host → Option (Stepped (List ℕ)) → Ran
-by_start n h w host o = elim o [ None ↦ unseen w | Some s ↦ (let r = steps h host s w in then_seen r.seen (starts n h r.world)) ]
+by_start n h w host o = elim o [ None ↦ unseen w | Some s ↦ (let r = steps h host ByStart s w in then_noted r.notes (starts n h r.world)) ]
 
 abbrev by_up : ℕ → HostId → Network → Host → Bool → Ran
 by_up n h w host up = elim up [ false ↦ unseen w | true ↦ by_start n h w host (start w.now host.state) ]
@@ -85,7 +86,7 @@ record Lowered (h : HostId) (s : Plain) (w : Network) : Type 0 where
 
 module _ (h : HostId) (w : Network) (host : Host) (there : host_of h w ≡ Some host) (calm : IsSteady host.state) where
   fated : (f : Fate) (c : Change (List ℕ)) (os : List Output) → IsSteady (applied c host.state) → starts_left (applied c host.state) < starts_left host.state
-      → Lowered h host.state (change_fated f h host c [] os w).world
+      → Lowered h host.state (change_fated f h host ByStart c [] os w).world
   fated Made c os steady less =
       let next = used (stored_parts c) (applied c host.state) host in
       subst (λ v. Lowered h host.state v) (sym (emits_world h os (put_host h next w)))
@@ -97,10 +98,10 @@ module _ (h : HostId) (w : Network) (host : Host) (there : host_of h w ≡ Some 
       let next = stopped (applied c host.state) (recorded (ready host)) in
       record { host = next; there = get-here h.0 next host w.hosts there; fewer = inl refl }
 
-  step_lowers : (x : Stepped (List ℕ)) → start w.now host.state ≡ Some x → Lowered h host.state (steps h host x w).world
+  step_lowers : (x : Stepped (List ℕ)) → start w.now host.state ≡ Some x → Lowered h host.state (steps h host ByStart x w).world
   step_lowers x e =
       let is = start_is w.now host.state x calm e in
-      subst (λ (o : Option (Change (List ℕ))). Lowered h host.state (carries_out h host o (map shown x.outputs) w).world) (sym is.makes)
+      subst (λ (o : Option (Change (List ℕ))). Lowered h host.state (carries_out h host ByStart o (map shown x.outputs) w).world) (sym is.makes)
       (fated (fate (stored_parts is.change) host) is.change (map shown x.outputs) (stays host.state calm is.row is.found is.ready is.change is.starts)
       (lower host.state calm is.row is.found is.ready is.change is.starts))
 
@@ -134,7 +135,7 @@ enough (suc n) (suc m) h w host there calm few also = ap (by_host n h w) there �
         → IsSteady host.state → starts_left host.state ≤ n → starts_left host.state ≤ m → starts n h w ≡ starts m h w)
         → by_start n h w host o ≡ by_start m h w host o
     by None e rest = refl
-    by (Some x) e rest = ap (then_seen (steps h host x w).seen) (next (steps h host x w).world (step_lowers h w host there calm x e) rest)
+    by (Some x) e rest = ap (then_noted (steps h host ByStart x w).notes) (next (steps h host ByStart x w).world (step_lowers h w host there calm x e) rest)
 
     of : (up : Bool) → ((h : HostId) (w : Network) (host : Host) → host_of h w ≡ Some host → IsSteady host.state → starts_left host.state ≤ n
         → starts_left host.state ≤ m → starts n h w ≡ starts m h w)
@@ -150,20 +151,21 @@ module _ (h : HostId) (w : Network) (host : Host) (there : host_of h w ≡ Some 
   none_all none = none_starts (left_of (host_of h w)) h w host there none
 
   module _ (calm : IsSteady host.state) (up : host.up ≡ true) where
-    some_all : (x : Stepped (List ℕ)) → start w.now host.state ≡ Some x → all_starts h w ≡ then_ran (steps h host x w) (all_starts h)
+    some_all : (x : Stepped (List ℕ)) → start w.now host.state ≡ Some x → all_starts h w ≡ then_ran (steps h host ByStart x w) (all_starts h)
     some_all x e =
         let left = starts_left host.state in
-        let v : Network = (steps h host x w).world in
+        let v : Network = (steps h host ByStart x w).world in
         ap (λ o. starts (left_of o) h w) there
         ∙ enough left (suc left) h w host there calm (omega arith) (omega arith)
         ∙ ap (by_host left h w) there ∙ ap (by_up left h w host) up ∙ ap (by_start left h w host) e
-        ∙ ap (then_seen (steps h host x w).seen) (of (step_lowers h w host there calm x e))
+        ∙ ap (then_noted (steps h host ByStart x w).notes) (of (step_lowers h w host there calm x e))
       where
-        of : Lowered h host.state (steps h host x w).world → starts (starts_left host.state) h (steps h host x w).world ≡ all_starts h (steps h host x w).world
+        of : Lowered h host.state (steps h host ByStart x w).world
+            → starts (starts_left host.state) h (steps h host ByStart x w).world ≡ all_starts h (steps h host ByStart x w).world
         of low = which low.fewer
           where
             v : Network
-            v = (steps h host x w).world
+            v = (steps h host ByStart x w).world
 
             which : (low.host.up ≡ false) ⊎ (IsSteady low.host.state × (starts_left low.host.state < starts_left host.state))
                 → starts (starts_left host.state) h v ≡ all_starts h v
@@ -173,16 +175,16 @@ module _ (h : HostId) (w : Network) (host : Host) (there : host_of h w ≡ Some 
                 (omega arith) ∙ sym (ap (λ o. starts (left_of o) h v) low.there)
 
     -- the next start, or nothing, and then the others
-    pub next_all : all_starts h w ≡ then_ran (steps h host (started w.now host.state) w) (all_starts h)
+    pub next_all : all_starts h w ≡ then_ran (steps h host ByStart (started w.now host.state) w) (all_starts h)
     next_all = by (start w.now host.state) refl
       where
         by : (o : Option (Stepped (List ℕ))) → start w.now host.state ≡ o
-            → all_starts h w ≡ then_ran (steps h host (elim o [ None ↦ quiet | Some x ↦ x ]) w) (all_starts h)
+            → all_starts h w ≡ then_ran (steps h host ByStart (elim o [ None ↦ quiet | Some x ↦ x ]) w) (all_starts h)
         by None e = refl
         by (Some x) e = some_all x e
 
 pub ran_assoc : (r : Ran) (f g : Network → Ran) → then_ran (then_ran r f) g ≡ then_ran r (λ v. then_ran (f v) g)
-ran_assoc r f g = let last = g (f r.world).world in λ j. record { world = last.world; seen = append_assoc r.seen (f r.world).seen last.seen j }
+ran_assoc r f g = let last = g (f r.world).world in λ j. record { world = last.world; notes = append_assoc r.notes (f r.world).notes last.notes j }
 
 -- what a node may start, its host may
 pub none_of : (now : ℕ) (node : Node MemDisk ghosts) (host : Host) → IsUp node host → is_some (start now (content_of node)) ≡ false
@@ -203,24 +205,24 @@ module _ (h : HostId) (w : Network) (host : Host) (there : host_of h w ≡ Some 
   down_next (Down s) packets v at down = down_all h v at.host at.faces.there at.stands.down
 
   pub starting : (slot : Slot) (took more : Bool) (packets : List Message) (before after : List Seen)
-      → Turns h (IsSlot slot) tear packets before after w (steps h host (started w.now host.state) w)
+      → Turns h (IsSlot slot) tear packets before after w (steps h host ByStart (started w.now host.state) w)
       → (took ≡ false → IsDownSlot slot) → (took ≡ true → more ≡ false → start w.now host.state ≡ None)
       → Starts h more (IsSlot slot) tear packets before after w
   starting slot took more packets before after turn down none = record {
-    ran = steps h host (started w.now host.state) w;
+    ran = steps h host ByStart (started w.now host.state) w;
     turn = turn;
     goes_on = next_all h w host there calm up;
     last = by took down none;
   }
     where
-      idle_next : start w.now host.state ≡ None → all_starts h (steps h host (started w.now host.state) w).world
-          ≡ unseen (steps h host (started w.now host.state) w).world
-      idle_next e = subst (λ (o : Option (Stepped (List ℕ))). let v = (steps h host (elim o [ None ↦ quiet | Some x ↦ x ]) w).world in
+      idle_next : start w.now host.state ≡ None → all_starts h (steps h host ByStart (started w.now host.state) w).world
+          ≡ unseen (steps h host ByStart (started w.now host.state) w).world
+      idle_next e = subst (λ (o : Option (Stepped (List ℕ))). let v = (steps h host ByStart (elim o [ None ↦ quiet | Some x ↦ x ]) w).world in
           all_starts h v ≡ unseen v) (sym e) (none_all h w host there e)
 
       by : (took : Bool) → (took ≡ false → IsDownSlot slot) → (took ≡ true → more ≡ false → start w.now host.state ≡ None) → more ≡ false
-          → all_starts h (steps h host (started w.now host.state) w).world ≡ unseen (steps h host (started w.now host.state) w).world
-      by false down none e = down_next slot packets (steps h host (started w.now host.state) w).world turn.at (down refl)
+          → all_starts h (steps h host ByStart (started w.now host.state) w).world ≡ unseen (steps h host ByStart (started w.now host.state) w).world
+      by false down none e = down_next slot packets (steps h host ByStart (started w.now host.state) w).world turn.at (down refl)
       by true down none e = idle_next (none refl e)
 
 -- what was started so far, and one more
@@ -233,9 +235,9 @@ module _ (h : HostId) (P Q : Host → Type 0) (tear : Tear) (packets sent : List
   both_turn = turn_after h P Q tear tear packets sent a b c w r (λ _. s.ran) turn s.turn
 
   pub both_goes : all_starts h w ≡ then_ran both (all_starts h)
-  both_goes = goes ∙ ap (then_seen r.seen) s.goes_on ∙ sym (ran_assoc r (λ _. s.ran) (all_starts h))
+  both_goes = goes ∙ ap (then_noted r.notes) s.goes_on ∙ sym (ran_assoc r (λ _. s.ran) (all_starts h))
 
   pub both_last : more ≡ false → Turns h Q tear sent a c w (all_starts h w)
   both_last none =
-      subst (λ x. Turns h Q tear sent a c w x) (sym (both_goes ∙ ap (then_seen both.seen) (s.last none)
-      ∙ (λ j. record { world = s.ran.world; seen = append-nil both.seen j }))) both_turn
+      subst (λ x. Turns h Q tear sent a c w x) (sym (both_goes ∙ ap (then_noted both.notes) (s.last none)
+      ∙ (λ j. record { world = s.ran.world; notes = append-nil both.notes j }))) both_turn

@@ -19,9 +19,10 @@ use Rattle.nqs_disk.specs.declared.mem_disk.MemDisk.{MemDisk}
 use Rattle.nqs_rules.specs.Applied.{applied}
 use Rattle.nqs_rules.specs.Starts.{after_change, after_step}
 use Rattle.nqs_rules.specs.Stepped.{Stepped, shown, stored_parts}
-use Rattle.nqs_rules.specs.World.{fuse_of, World as Network, Host, Ran, Fate, Made, StoppedBefore, StoppedAfter, fate, host_of, put_host, emits, sent_by}
-use Rattle.nqs_rules.specs.World.{seen_output}
-use Rattle.nqs_rules.specs.World.{ready, recorded, cut_off, stopped, used, change_fated, makes_change, carries_out, steps, then_seen, then_ran}
+use Rattle.nqs_rules.specs.Notes.{Why, Note, Saw, Kept, saws, sights}
+use Rattle.nqs_rules.specs.World.{fuse_of, World as Network, Host, Ran, seen_of, Fate, Made, StoppedBefore, StoppedAfter, fate, host_of, put_host, emits}
+use Rattle.nqs_rules.specs.World.{sent_by, seen_output}
+use Rattle.nqs_rules.specs.World.{ready, recorded, cut_off, stopped, used, change_fated, makes_change, carries_out, steps, then_noted, then_ran}
 use Rattle.nqs_store.specs.Active.{IsActive, ready as ready_in, recorded as recorded_in}
 use Rattle.nqs_store.specs.Commits.{IsKept, IsCutAt}
 use Rattle.nqs_store.specs.Disks.{disk_at, histories_of, failing_of, contents}
@@ -34,6 +35,7 @@ use Rattle.nqs_node.specs.declared.node.Node.{Node}
 use Rattle.nqs_store.specs.Sound.{IsSoundHost}
 use Rattle.nqs_laws.proofs.PairedRuns.{put-twice}
 use Rattle.nqs_laws.proofs.Sound.{get-here}
+use Rattle.nqs_laws.proofs.Told.{all_seen, sights-append}
 use Rattle.nqs_net.specs.Lists.{sent_in, seen_from}
 use Rattle.nqs_net.specs.Pasts.{HasCome}
 use Rattle.nqs_net.specs.Worlds.{AreInTurn, AreDisks, IsUp, IsDown, IsSlot, active_in}
@@ -48,10 +50,13 @@ use Rattle.nqs_net.proofs.Coming.{come_more, come_still, used_active}
 
 -- outputs
 
-pub emits_seen : (h : HostId) (os : List Output) (w : Network) → (emits h os w).seen ≡ seen_from h (length w.packets) os
+pub emits_seen : (h : HostId) (os : List Output) (w : Network) → seen_of (emits h os w) ≡ seen_from h (length w.packets) os
 emits_seen h [] w = refl
-emits_seen h (o ∷ os) w = ap (λ l. seen_output h (length w.packets + 1) o ++ l)
-    (emits_seen h os (record w { packets = w.packets ++ sent_by o }) ∙ ap (λ n. seen_from h n os) (length-append w.packets (sent_by o)))
+emits_seen h (o ∷ os) w =
+    let first = seen_output h (length w.packets + 1) o in
+    let v : Network = record w { packets = w.packets ++ sent_by o } in
+    let rest = emits_seen h os v ∙ ap (λ n. seen_from h n os) (length-append w.packets (sent_by o)) in
+    sights-append (saws first) (emits h os v).notes ∙ (λ j. all_seen first j ++ rest j)
 
 pub emits_world : (h : HostId) (os : List Output) (w : Network) → (emits h os w).world ≡ record w { packets = w.packets ++ sent_in os }
 emits_world h [] w = λ j. record w { packets = sym (append-nil w.packets) j }
@@ -72,24 +77,25 @@ same_put h x w = record { hosts = λ host. put-twice h.0 host x w.hosts; site = 
 module _ (h : HostId) (w : Network) where
   -- a host is put at the place, and outputs go out
   module _ (host x : Host) (there : host_of h w ≡ Some host) (P : Host → Type 0) (p : P x) (tear : Tear) (same : tear ≡ x.tear) where
-    -- nothing goes out, and this is seen
-    pub put_turn : (first before after : List Seen) → after ≡ before ++ first
-        → Turns h P tear w.packets before after w (record { world = put_host h x w; seen = first })
-    put_turn first before after saw = record {
+    -- nothing goes out, and this is noted
+    pub put_turn : (notes : List Note) (before after : List Seen) → after ≡ before ++ sights notes
+        → Turns h P tear w.packets before after w (record { world = put_host h x w; notes = notes })
+    put_turn notes before after saw = record {
       at = record { host = x; stands = p; faces = record { there = get-here h.0 x host w.hosts there; tear = same; packets = refl } };
       rest = same_put h x w;
       seen = saw;
     }
 
-    pub out_turn : (os : List Output) (first before after : List Seen) (packets : List Message) → packets ≡ w.packets ++ sent_in os
-        → after ≡ before ++ (first ++ seen_from h (length w.packets) os)
-        → Turns h P tear packets before after w (then_seen first (emits h os (put_host h x w)))
-    out_turn os first before after packets sent saw =
-        subst (λ (v : Network). Turns h P tear packets before after w (record { world = v; seen = first ++ (emits h os (put_host h x w)).seen }))
+    pub out_turn : (os : List Output) (notes : List Note) (first before after : List Seen) (packets : List Message) → packets ≡ w.packets ++ sent_in os
+        → sights notes ≡ first → after ≡ before ++ (first ++ seen_from h (length w.packets) os)
+        → Turns h P tear packets before after w (then_noted notes (emits h os (put_host h x w)))
+    out_turn os notes first before after packets sent shows saw =
+        subst (λ (v : Network). Turns h P tear packets before after w (record { world = v; notes = notes ++ (emits h os (put_host h x w)).notes }))
         (sym (emits_world h os (put_host h x w))) (record {
           at = record { host = x; stands = p; faces = record { there = get-here h.0 x host w.hosts there; tear = same; packets = sent } };
           rest = record { hosts = λ y. put-twice h.0 y x w.hosts; site = refl; now = refl };
-          seen = saw ∙ ap (λ l. before ++ (first ++ l)) (sym (emits_seen h os (put_host h x w)));
+          seen = saw ∙ (λ j. before ++ (sym shows j ++ sym (emits_seen h os (put_host h x w)) j))
+              ∙ ap (λ l. before ++ l) (sym (sights-append notes (emits h os (put_host h x w)).notes));
         })
 
   -- without a change
@@ -98,7 +104,7 @@ module _ (h : HostId) (w : Network) where
       → after ≡ before ++ seen_from h (length w.packets) os
       → Turns h P tear packets before after w (emits h os w)
   idle_turn host there P p tear same os before after packets sent saw =
-      subst (λ (v : Network). Turns h P tear packets before after w (record { world = v; seen = (emits h os w).seen })) (sym (emits_world h os w)) (record {
+      subst (λ (v : Network). Turns h P tear packets before after w (record { world = v; notes = (emits h os w).notes })) (sym (emits_world h os w)) (record {
         at = record { host = host; stands = p; faces = record { there = there; tear = same; packets = sent } };
         rest = record { hosts = λ y. refl; site = refl; now = refl };
         seen = saw ∙ ap (λ l. before ++ l) (sym (emits_seen h os w));
@@ -111,7 +117,8 @@ pub turn_after : (h : HostId) (P Q : Host → Type 0) (tear also : Tear) (packet
 turn_after h P Q tear also packets sent a b c w r f one two = record {
   at = two.at;
   rest = same_after h w r.world (f r.world).world one.rest two.rest;
-  seen = two.seen ∙ ap (λ l. l ++ (f r.world).seen) one.seen ∙ append_assoc a r.seen (f r.world).seen;
+  seen = two.seen ∙ ap (λ l. l ++ seen_of (f r.world)) one.seen ∙ append_assoc a (seen_of r) (seen_of (f r.world))
+      ∙ ap (λ l. a ++ l) (sym (sights-append r.notes (f r.world).notes));
 }
 
 -- what a stop leaves
@@ -161,35 +168,36 @@ module _ (tear : Tear) (now : Which → History) (disks : Disks MemDisk) (is : I
 -- a change of a host over its disks
 
 module _ (h : HostId) (w : Network) (host : Host) (tear : Tear) (packets : List Message) (faces : Faces h host tear packets w) (first : List Seen)
-    (os : List Output) (c : Change (List ℕ))
+    (os : List Output) (why : Why) (c : Change (List ℕ))
     (fails : Which → ℕ → Bool) (old : Which → History) (disks : AreDisks host old fails) where
   -- it was kept
   pub kept_turn : (now : Which → History) (P : Host → Type 0) → IsKept (active_in host) fails (stored_parts c) old now
       → P (used (stored_parts c) (applied c host.state) host)
       → (sent : List Message) (before after : List Seen) → sent ≡ packets ++ sent_in os → after ≡ before ++ (first ++ seen_from h (length packets) os)
-      → Turns h P tear sent before after w (makes_change h host c first os w)
+      → Turns h P tear sent before after w (makes_change h host why c first os w)
   kept_turn now P kept p sent before after sends saw =
-      subst (λ (f : Fate). Turns h P tear sent before after w (change_fated f h host c first os w))
+      subst (λ (f : Fate). Turns h P tear sent before after w (change_fated f h host why c first os w))
       (sym (kept_fate host fails old disks (stored_parts c) now kept))
       (out_turn h w host (used (stored_parts c) (applied c host.state) host) faces.there P p tear
-      (faces.tear ∙ sym (ready_tear host)) os first before after sent
-      (sends ∙ ap (λ l. l ++ sent_in os) faces.packets) (saw ∙ ap (λ l. before ++ (first ++ seen_from h (length l) os)) faces.packets))
+      (faces.tear ∙ sym (ready_tear host)) os (Kept h why c ∷ saws first) first before after sent
+      (sends ∙ ap (λ l. l ++ sent_in os) faces.packets) (all_seen first) (saw ∙ ap (λ l. before ++ (first ++ seen_from h (length l) os)) faces.packets))
 
   -- it was cut off
   module _ (now : Which → History) (before after : List Seen) (saw : after ≡ before ++ seen.Stop h ∷ []) where
-    stop_turn : (slot : Slot) (x : Host) → IsSlot slot x → host.tear ≡ x.tear
-        → Turns h (IsSlot slot) tear packets before after w (record { world = put_host h x w; seen = seen.Stop h ∷ [] })
-    stop_turn slot x p same = subst (λ l. Turns h (IsSlot slot) tear l before after w (record { world = put_host h x w; seen = seen.Stop h ∷ [] }))
-        (sym faces.packets) (put_turn h w host x faces.there (IsSlot slot) p tear (faces.tear ∙ same) (seen.Stop h ∷ []) before after saw)
+    stop_turn : (notes : List Note) → after ≡ before ++ sights notes → (slot : Slot) (x : Host) → IsSlot slot x → host.tear ≡ x.tear
+        → Turns h (IsSlot slot) tear packets before after w (record { world = put_host h x w; notes = notes })
+    stop_turn notes shows slot x p same = subst (λ l. Turns h (IsSlot slot) tear l before after w (record { world = put_host h x w; notes = notes }))
+        (sym faces.packets) (put_turn h w host x faces.there (IsSlot slot) p tear (faces.tear ∙ same) notes before after shows)
 
     by_fate : (slot : Slot) → IsStopped host.tear now slot → (f : Fate) →
         ((down : _) → slot ≡ Down down → CutsTo host.state (applied c host.state) (λ which. torn host.tear (state (now which))) host f)
-        → Turns h (IsSlot slot) tear packets before after w (change_fated f h host c first os w)
+        → Turns h (IsSlot slot) tear packets before after w (change_fated f h host why c first os w)
     by_fate (Up up) is f cuts = absurd is
     by_fate (Down down) is Made cuts = absurd (cuts down refl)
-    by_fate (Down down) is StoppedBefore cuts = stop_turn (Down down) (stopped host.state (cut_off host))
+    by_fate (Down down) is StoppedBefore cuts = stop_turn (Saw (seen.Stop h) ∷ []) saw (Down down) (stopped host.state (cut_off host))
         (torn_down host.tear now down.disks.value is (cut_off host) host.state (cuts down refl)) (sym (cut_tear host))
-    by_fate (Down down) is StoppedAfter cuts = stop_turn (Down down) (stopped (applied c host.state) (recorded (ready host)))
+    by_fate (Down down) is StoppedAfter cuts = stop_turn (Kept h why c ∷ Saw (seen.Stop h) ∷ []) saw (Down down)
+        (stopped (applied c host.state) (recorded (ready host)))
         (torn_down host.tear now down.disks.value is (recorded (ready host)) (applied c host.state) (cuts down refl)) (sym (ready_tear host))
 
     images_of : (slot : Slot) → IsStopped host.tear now slot → (which : Which) → IsImage (state (now which)) (torn host.tear (state (now which)))
@@ -198,7 +206,7 @@ module _ (h : HostId) (w : Network) (host : Host) (tear : Tear) (packets : List 
 
     pub cut_turn : (slot : Slot) (which : Which) → IsStopped tear now slot → IsQuiet (old Root) → content (old Root) ≡ host.root
         → IsCutAt (active_in host) fails (stored_parts c) old now host.state (applied c host.state) which
-        → Turns h (IsSlot slot) tear packets before after w (makes_change h host c first os w)
+        → Turns h (IsSlot slot) tear packets before after w (makes_change h host why c first os w)
     cut_turn slot which is quiet holds cut =
         let here : IsStopped host.tear now slot = subst (λ t. IsStopped t now slot) faces.tear is in
         by_fate slot here (fate (stored_parts c) host) (λ down e. cut_fate host fails old disks (stored_parts c) now host.state (applied c host.state)
@@ -225,20 +233,20 @@ kept_up host fails old disks node c quiet holds past moments kept goes told soun
 
 -- a step of a host over its disks
 
-module _ (h : HostId) (w : Network) (host : Host) (tear : Tear) (packets : List Message) (faces : Faces h host tear packets w) (x : Stepped (List ℕ))
-    (fails : Which → ℕ → Bool) (old : Which → History) (disks : AreDisks host old fails) where
+module _ (h : HostId) (w : Network) (host : Host) (tear : Tear) (packets : List Message) (faces : Faces h host tear packets w) (why : Why)
+    (x : Stepped (List ℕ)) (fails : Which → ℕ → Bool) (old : Which → History) (disks : AreDisks host old fails) where
   pub made_turn : (node : Node MemDisk ghosts) → host.up ≡ true → IsQuiet (old Root) → content (old Root) ≡ host.root
       → HasCome old (active_in host) host.told host.state → IsOneOrOther (active_in host) old (history_of node) x.change host.state
       → IsMade (active_in host) fails old (history_of node) x.change → active_of node ≡ after_kept x.change (active_in host)
       → Tells node (after_step x host.state) → IsSoundHost (content_of node) → ((which : Which) (i : ℕ) → fails_of node which i ≡ fails which i)
       → (sent : List Message) (before after : List Seen) → sent ≡ packets ++ sent_in (map shown x.outputs)
       → after ≡ before ++ seen_from h (length packets) (map shown x.outputs)
-      → Turns h (IsUp node) tear sent before after w (steps h host x w)
+      → Turns h (IsUp node) tear sent before after w (steps h host why x w)
   made_turn node up quiet holds past moments made is_active tells sound same sent before after sends saw = by x.change moments made is_active tells
     where
       by : (o : Option (Change (List ℕ))) → IsOneOrOther (active_in host) old (history_of node) o host.state
           → IsMade (active_in host) fails old (history_of node) o → active_of node ≡ after_kept o (active_in host)
-          → Tells node (after_change o host.state) → Turns h (IsUp node) tear sent before after w (carries_out h host o (map shown x.outputs) w)
+          → Tells node (after_change o host.state) → Turns h (IsUp node) tear sent before after w (carries_out h host why o (map shown x.outputs) w)
       by None each idle goes told =
           idle_turn h w host faces.there (IsUp node) (record {
             up = up;
@@ -254,24 +262,24 @@ module _ (h : HostId) (w : Network) (host : Host) (tear : Tear) (packets : List 
           (sends ∙ ap (λ l. l ++ sent_in (map shown x.outputs)) faces.packets)
           (saw ∙ ap (λ l. before ++ seen_from h (length l) (map shown x.outputs)) faces.packets)
       by (Some c) each kept goes told =
-          kept_turn h w host tear packets faces [] (map shown x.outputs) c fails old disks (history_of node) (IsUp node) kept
+          kept_turn h w host tear packets faces [] (map shown x.outputs) why c fails old disks (history_of node) (IsUp node) kept
           (kept_up host fails old disks node c quiet holds past each kept goes told sound same) sent before after sends saw
 
   pub cut_step : (now : Which → History) (slot : Slot) (which : Which) (before after : List Seen) → after ≡ before ++ seen.Stop h ∷ [] → IsStopped tear now slot
       → IsQuiet (old Root) → content (old Root) ≡ host.root → IsCutBy (active_in host) fails old now x.change host.state which
-      → Turns h (IsSlot slot) tear packets before after w (steps h host x w)
+      → Turns h (IsSlot slot) tear packets before after w (steps h host why x w)
   cut_step now slot which before after saw is quiet holds cut = by x.change cut
     where
       by : (o : Option (Change (List ℕ))) → IsCutBy (active_in host) fails old now o host.state which
-          → Turns h (IsSlot slot) tear packets before after w (carries_out h host o (map shown x.outputs) w)
+          → Turns h (IsSlot slot) tear packets before after w (carries_out h host why o (map shown x.outputs) w)
       by None cut = absurd cut
-      by (Some c) cut = cut_turn h w host tear packets faces [] (map shown x.outputs) c fails old disks now before after saw slot which is quiet holds cut
+      by (Some c) cut = cut_turn h w host tear packets faces [] (map shown x.outputs) why c fails old disks now before after saw slot which is quiet holds cut
 
   -- which of the ways a failed call stops a host: the fuse's alone
   pub stopped_step : (now : Which → History) (slot : Slot) (which : Which) (starved : Bool) (before after : List Seen) → after ≡ before ++ seen.Stop h ∷ []
       → IsStopped tear now slot → starved ≡ false → IsQuiet (old Root) → content (old Root) ≡ host.root
       → IsTrue starved ⊎ (IsBlown (fails which) (old which) ⊎ IsCutBy (active_in host) fails old now x.change host.state which)
-      → Turns h (IsSlot slot) tear packets before after w (steps h host x w)
+      → Turns h (IsSlot slot) tear packets before after w (steps h host why x w)
   stopped_step now slot which starved before after saw is fed quiet holds (inl hungry) = absurd (true≢false (sym hungry ∙ fed))
   stopped_step now slot which starved before after saw is fed quiet holds (inr (inl blown)) =
       absurd (unblown (fuse_of which host.fuses) (old which) (fails which) (disks which).fuse blown)
@@ -322,32 +330,32 @@ module _ (node now : Node MemDisk ghosts) (host : Host) (is : IsUp node host) (x
   }
 
 -- what a node's call did is what the step does
-module _ (h : HostId) (w : Network) (host : Host) (tear : Tear) (packets : List Message) (faces : Faces h host tear packets w) (x : Stepped (List ℕ))
-    (fails : Which → ℕ → Bool) (old : Which → History) (node : Node MemDisk ghosts) (out : List Output) where
+module _ (h : HostId) (w : Network) (host : Host) (tear : Tear) (packets : List Message) (faces : Faces h host tear packets w) (why : Why)
+    (x : Stepped (List ℕ)) (fails : Which → ℕ → Bool) (old : Which → History) (node : Node MemDisk ghosts) (out : List Output) where
   pub took_turn : IsTaken host x fails old node out true → IsSoundHost (content_of node) → (sent : List Message) (before after : List Seen)
       → sent ≡ packets ++ sent_in out → after ≡ before ++ seen_from h (length packets) out
-      → Turns h (IsUp node) tear sent before after w (steps h host x w)
+      → Turns h (IsUp node) tear sent before after w (steps h host why x w)
   took_turn t sound sent before after sends saw =
-      made_turn h w host tear packets faces x fails old t.disks node t.up t.quiet t.root t.past t.moments t.ended.1 t.ended.3 t.ended.0 sound t.same sent before
-      after (sends ∙ ap (λ l. packets ++ sent_in l) t.ended.2) (saw ∙ ap (λ l. before ++ seen_from h (length packets) l) t.ended.2)
+      made_turn h w host tear packets faces why x fails old t.disks node t.up t.quiet t.root t.past t.moments t.ended.1 t.ended.3 t.ended.0 sound t.same sent
+      before after (sends ∙ ap (λ l. packets ++ sent_in l) t.ended.2) (saw ∙ ap (λ l. before ++ seen_from h (length packets) l) t.ended.2)
 
   -- what there is to see of the step
-  pub took_seen : IsTaken host x fails old node out true → IsSoundHost (content_of node) → seen_from h (length packets) out ≡ (steps h host x w).seen
+  pub took_seen : IsTaken host x fails old node out true → IsSoundHost (content_of node) → seen_from h (length packets) out ≡ seen_of (steps h host why x w)
   took_seen t sound = (took_turn t sound (packets ++ sent_in out) [] (seen_from h (length packets) out) refl refl).seen
 
   pub broke_turn : IsTaken host x fails old node out false → (slot : Slot) (before after : List Seen) → after ≡ before ++ seen.Stop h ∷ []
       → IsStopped tear (history_of node) slot → ((which : Which) → is_starved node which ≡ false)
-      → Turns h (IsSlot slot) tear packets before after w (steps h host x w)
+      → Turns h (IsSlot slot) tear packets before after w (steps h host why x w)
   broke_turn t slot before after saw is fed =
       let which = t.ended.0 in
-      stopped_step h w host tear packets faces x fails old t.disks (history_of node) slot which (is_starved node which) before after saw is
+      stopped_step h w host tear packets faces why x fails old t.disks (history_of node) slot which (is_starved node which) before after saw is
       (fed which) t.quiet t.root t.ended.1
 
   -- the node was closed, and its disks were torn
   pub closed_turn : IsTaken host x fails old node out false → (disks : Disks MemDisk) → ((which : Which) → disk_at which disks ≡ disk_of which node)
       → (slot : Slot) (before after : List Seen) → after ≡ before ++ seen.Stop h ∷ []
       → IsStopped tear (histories_of mem.history_of disks) slot → ((which : Which) → mem.is_starved (disk_at which disks) ≡ false)
-      → Turns h (IsSlot slot) tear packets before after w (steps h host x w)
+      → Turns h (IsSlot slot) tear packets before after w (steps h host why x w)
   closed_turn t disks closed slot before after saw is fed =
       broke_turn t slot before after saw (subst (λ (now : Which → History). IsStopped tear now slot) (λ j which. mem.history_of (closed which j)) is)
       (λ which. sym (ap mem.is_starved (closed which)) ∙ fed which)

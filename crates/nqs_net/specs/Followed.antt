@@ -8,7 +8,7 @@ use Rattle.nqs_types.specs.declared.world.Which.{Which}
 use Rattle.nqs_outside.specs.History.{Call, History, extended}
 use Rattle.nqs_disk.specs.MemDisk as mem
 use Rattle.nqs_disk.specs.declared.lack.Lack.{Lack}
-use Rattle.nqs_rules.specs.World.{Host, Ran, World as Network, all_starts}
+use Rattle.nqs_rules.specs.World.{Host, Ran, seen_of, World as Network, all_starts}
 use Rattle.nqs_store.specs.Disks.{histories_of}
 use Rattle.nqs_node.specs.Nodes.{history_of}
 use Rattle.nqs_net.specs.Lists.{GrowsByFront}
@@ -48,10 +48,10 @@ pub record StandsAfter (tear : Tear) (old : Which → History) (slot : Slot) (ho
 abbrev pub IsDone : HostId → Tear → (old : Which → History) → List Message → (before after : List Seen) → Network → Ran
     → Result Slot Lack → Type 0
 IsDone h tear old packets before after w ran result =
-    MatchResult result (λ slot. Turns h (StandsAfter tear old slot) tear packets before after w ran) (λ _. GrowsByFront before after ran.seen)
+    MatchResult result (λ slot. Turns h (StandsAfter tear old slot) tear packets before after w ran) (λ _. GrowsByFront before after (seen_of ran))
 
 -- the same of the next start of a host
 abbrev pub IsStarted : HostId → Tear → (old : Which → History) → List Message → (before after : List Seen) → Network
     → Result (Bool × Slot) Lack → Type 0
 IsStarted h tear old packets before after w result =
-    MatchResult result (λ r. Starts h r.0 (StandsAfter tear old r.1) tear packets before after w) (λ _. GrowsByFront before after (all_starts h w).seen)
+    MatchResult result (λ r. Starts h r.0 (StandsAfter tear old r.1) tear packets before after w) (λ _. GrowsByFront before after (seen_of (all_starts h w)))

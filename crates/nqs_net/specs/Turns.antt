@@ -21,7 +21,7 @@ use Rattle.nqs_disk.specs.MemDisk as mem
 use Rattle.nqs_disk.specs.Torn.{torn}
 use Rattle.nqs_disk.specs.declared.mem_disk.MemDisk.{MemDisk}
 use Rattle.nqs_rules.specs.Edits.{change_at}
-use Rattle.nqs_rules.specs.World.{Host, Ran, World as Network, host_of, all_starts, then_ran, unseen}
+use Rattle.nqs_rules.specs.World.{Host, Ran, seen_of, World as Network, host_of, all_starts, then_ran, unseen}
 use Rattle.nqs_store.specs.Disks.{histories_of, failing_of}
 use Rattle.nqs_store.specs.declared.disks.Disks.{Disks}
 use Rattle.nqs_net.specs.declared.slot.Slot.{Slot}
@@ -90,7 +90,7 @@ pub record IsSameBut (h : HostId) (w v : Network) : Type 0 where
 pub record Turns (h : HostId) (P : Host → Type 0) (tear : Tear) (packets : List Message) (before after : List Seen) (w : Network) (r : Ran) : Type 0 where
   pub at : IsAt h P tear packets r.world
   pub rest : IsSameBut h w r.world
-  pub seen : after ≡ before ++ r.seen
+  pub seen : after ≡ before ++ seen_of r
 
 -- The next start was made, if there was one: the others follow. Where there are no more, none follows.
 pub record Starts (h : HostId) (more : Bool) (P : Host → Type 0) (tear : Tear) (packets : List Message) (before after : List Seen) (w : Network) : Type 0 where

@@ -4,7 +4,7 @@ ghost use Rattle.std.specs.Prelude.{◌≡◌, ◌++◌, ◌∷◌, [], List, �
 ghost use Rattle.nqs_types.specs.declared.world.Seen.TheVariants as sight;
 ghost use Rattle.nqs_rules.specs.Net.{table};
 ghost use Rattle.nqs_rules.specs.Run.{happens, states_of};
-ghost use Rattle.nqs_rules.specs.World.{World as Network};
+ghost use Rattle.nqs_rules.specs.World.{World as Network, seen_of};
 ghost use Rattle.nqs_laws.specs.Words.{IsInOrderAll};
 ghost use Rattle.nqs_lines.specs.Acts.{act_of, is_sane_line};
 ghost use Rattle.nqs_net.specs.Lists.{GrowsByFront};
@@ -52,9 +52,9 @@ impl World {
         ensures follow { (network : Network) → IsWorld self.old network
             → OnOk result (FollowEach self.old.tears.items self.old.slots.items self.new.slots.items) }
         ensures seen { (network : Network) → IsWorld self.old network
-            → OnOk result (seen.new.items ≡ seen.old.items ++ (happens (act_of event.now) network).seen) }
+            → OnOk result (seen.new.items ≡ seen.old.items ++ seen_of (happens (act_of event.now) network)) }
         ensures front { (network : Network) → IsWorld self.old network
-            → OnErr result (GrowsByFront seen.old.items seen.new.items (happens (act_of event.now) network).seen) }
+            → OnErr result (GrowsByFront seen.old.items seen.new.items (seen_of (happens (act_of event.now) network))) }
     {
         match event {
             WorldEvent::Deliver { packet } => miss(Some(*packet), seen),
@@ -102,9 +102,9 @@ impl World {
         ensures follow { (site : List (List ℕ)) (network : Network) → IsInOrderAll site network → IsWorld self.old network
             → OnOk result (FollowEach self.old.tears.items self.old.slots.items self.new.slots.items) }
         ensures seen { (site : List (List ℕ)) (network : Network) → IsInOrderAll site network → IsWorld self.old network
-            → OnOk result (seen.new.items ≡ seen.old.items ++ (happens (act_of event.now) network).seen) }
+            → OnOk result (seen.new.items ≡ seen.old.items ++ seen_of (happens (act_of event.now) network)) }
         ensures front { (site : List (List ℕ)) (network : Network) → IsInOrderAll site network → IsWorld self.old network
-            → OnErr result (GrowsByFront seen.old.items seen.new.items (happens (act_of event.now) network).seen) }
+            → OnErr result (GrowsByFront seen.old.items seen.new.items (seen_of (happens (act_of event.now) network))) }
     {
         match deed(alloc, event, self.now, &self.packets)? {
             Some((host, deed)) => self.act(alloc, host, &deed, seen),

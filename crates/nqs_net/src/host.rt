@@ -10,6 +10,7 @@ ghost use Rattle.nqs_types.specs.declared.world.Seen.TheVariants as sight;
 ghost use Rattle.nqs_types.specs.declared.world.Which.{Which};
 ghost use Rattle.nqs_outside.specs.History.{History};
 ghost use Rattle.nqs_disk.specs.MemDisk as mem;
+ghost use Rattle.nqs_rules.specs.Notes.{ByBoot};
 ghost use Rattle.nqs_rules.specs.Plain.{map_state};
 ghost use Rattle.nqs_rules.specs.Sane.{is_sane_event};
 ghost use Rattle.nqs_rules.specs.World.{World as Network, Host, is_shutdown, shuts_down, halts, takes_up, crashes_up, makes_change, boot_output, boots_down};
@@ -131,7 +132,7 @@ fn boot_step(
     requires { (host : Host) × IsDown down.disks.value host }
     ensures { (w : Network) (host : Host) → Faces turn.me host turn.tear packets.old.items w → IsDown down.disks.value host
         → IsDone turn.me turn.tear (histories_of mem.history_of down.disks.value) packets.new.items seen.old.items seen.new.items w
-        (makes_change turn.me host Boot (sight.Boot turn.me ∷ []) (filter_map boot_output host.state.rows) w) result }
+        (makes_change turn.me host ByBoot Boot (sight.Boot turn.me ∷ []) (filter_map boot_output host.state.rows) w) result }
 {
     let mut out = Vec::new(alloc);
     match Node::boot(alloc, Box::into_inner(down.disks), &mut out) {

@@ -1,7 +1,7 @@
 //! What comes to one place of a world: its slot is taken out, changed, and put back.
 
 ghost use Rattle.std.specs.Prelude.{◌≡◌, ◌++◌, OnOk, OnErr};
-ghost use Rattle.nqs_rules.specs.World.{World as Network};
+ghost use Rattle.nqs_rules.specs.World.{World as Network, seen_of};
 ghost use Rattle.nqs_net.specs.Lists.{GrowsByFront};
 ghost use Rattle.nqs_net.specs.Followed.{FollowEach};
 ghost use Rattle.nqs_net.specs.Worlds.{IsWorld};
@@ -27,9 +27,9 @@ impl World {
         ensures world { (network : Network) → IsWorld self.old network → OnOk result (IsWorld self.new (done deed.now host network).world) }
         ensures follow { (network : Network) → IsWorld self.old network
             → OnOk result (FollowEach self.old.tears.items self.old.slots.items self.new.slots.items) }
-        ensures seen { (network : Network) → IsWorld self.old network → OnOk result (seen.new.items ≡ seen.old.items ++ (done deed.now host network).seen) }
+        ensures seen { (network : Network) → IsWorld self.old network → OnOk result (seen.new.items ≡ seen.old.items ++ seen_of (done deed.now host network)) }
         ensures front { (network : Network) → IsWorld self.old network
-            → OnErr result (GrowsByFront seen.old.items seen.new.items (done deed.now host network).seen) }
+            → OnErr result (GrowsByFront seen.old.items seen.new.items (seen_of (done deed.now host network))) }
     {
         let place = host.0 as usize;
         if self.slots.len() <= place {

@@ -8,6 +8,7 @@ ghost use Rattle.nqs_rules.specs.Sane.{is_sane_event};
 ghost use Rattle.nqs_rules.specs.Start.{start};
 ghost use Rattle.nqs_rules.specs.Step.{step};
 ghost use Rattle.nqs_rules.specs.Stepped.{Stepped};
+ghost use Rattle.nqs_rules.specs.Notes.{Why, ByEvent};
 ghost use Rattle.nqs_rules.specs.World.{World as Network, Host, steps, all_starts};
 ghost use Rattle.nqs_node.specs.Carried.{started};
 ghost use Rattle.nqs_node.specs.Nodes.{history_of, fails_of, content_of, is_stopped};
@@ -100,9 +101,9 @@ fn carry(
 ) -> Result<Slot, Lack>
     requires sound { IsSoundHost (content_of node.value) }
     requires running { took ≡ true → is_stopped node.value ≡ false }
-    ensures turn { (w : Network) (host : Host) (x : Stepped (List ℕ)) (fails : Which → ℕ → Bool) (old : Which → History)
+    ensures turn { (w : Network) (host : Host) (why : Why) (x : Stepped (List ℕ)) (fails : Which → ℕ → Bool) (old : Which → History)
         → Faces turn.me host turn.tear packets.old.items w → IsTaken host x fails old node.value out.items took
-        → IsDone turn.me turn.tear old packets.new.items seen.old.items seen.new.items w (steps turn.me host x w) result }
+        → IsDone turn.me turn.tear old packets.new.items seen.old.items seen.new.items w (steps turn.me host why x w) result }
     ensures down { took ≡ false → IfOk result IsDownSlot }
     ensures left { took ≡ true → IfOk result (λ slot. starts_in slot ≡ starts_left (content_of node.value)) }
 {
@@ -130,7 +131,7 @@ pub(crate) fn take_step(
     requires sane { IsTrue (is_sane_event (length (content_of node.value).site) event.now) }
     ensures { (w : Network) (host : Host) → Faces turn.me host turn.tear packets.old.items w → IsUp node.value host
         → IsDone turn.me turn.tear (history_of node.value) packets.new.items seen.old.items seen.new.items w
-        (steps turn.me host (step event.now host.state) w) result }
+        (steps turn.me host (ByEvent event.now) (step event.now host.state) w) result }
 {
     let mut node = node;
     let mut out = Vec::new(alloc);

@@ -29,6 +29,7 @@ pub mod Step
 pub mod Measure
 pub mod Starts
 pub mod Journals
+pub mod Notes
 pub mod World
 pub mod Net
 pub mod Run

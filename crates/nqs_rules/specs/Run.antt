@@ -2,7 +2,7 @@
 use Rattle.std.specs.Prelude.{ℕ, List, [], ◌∷◌, map, None, Some}
 use Rattle.nqs_state.specs.State.{Plain}
 use Rattle.nqs_rules.specs.World.{World, Act, Asks, Ends, Finishes, Fails, Writes, Leaves, Delivers, Newest, Ticks, Clock, Fuse, Crashes, Boots, Shows, Ran}
-use Rattle.nqs_rules.specs.World.{unseen, seeing, then_seen, host_of, takes, taken_by, finishes_up, delivers, packet_at, newest_between, fuses, crashes_up}
+use Rattle.nqs_rules.specs.World.{unseen, seeing, then_ran, host_of, takes, taken_by, finishes_up, delivers, packet_at, newest_between, fuses, crashes_up}
 use Rattle.nqs_rules.specs.World.{boots, new_world}
 use Rattle.nqs_rules.specs.Net.{table}
 use Rattle.nqs_types.specs.declared.world.Seen.TheVariants as seen
@@ -12,7 +12,7 @@ use Rattle.nqs_types.specs.declared.event.Event.TheVariants as event
 abbrev pub states_of : World → List Plain
 states_of w = map (λ h. h.state) w.hosts
 
--- what an event makes of a world, and what is seen of it
+-- what an event makes of a world, and what is noted of it
 abbrev pub happens : Act → World → Ran
 happens (Asks h user c) w = takes h (event.Ask w.now 0 0 user c) w
 happens (Ends h id start status output error) w = takes h (event.Ended w.now 0 id start status output error) w
@@ -32,7 +32,7 @@ happens Shows w = seeing (seen.Table (table (states_of w))) w
 -- a whole run
 abbrev pub run : List Act → World → Ran
 run [] w = unseen w
-run (a ∷ acts) w = let r = happens a w in then_seen r.seen (run acts r.world)
+run (a ∷ acts) w = then_ran (happens a w) (run acts)
 
 -- the run of a new network
 abbrev pub run_of : List (List ℕ) → List Act → Ran

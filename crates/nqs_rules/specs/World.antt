@@ -14,6 +14,7 @@ use Rattle.nqs_rules.specs.Stepped.{Stepped, shown, stored_parts}
 use Rattle.nqs_rules.specs.Step.{step}
 use Rattle.nqs_rules.specs.Start.{start}
 use Rattle.nqs_rules.specs.Measure.{starts_left}
+use Rattle.nqs_rules.specs.Notes.{Why, ByEvent, ByStart, ByBoot, Note, Saw, Kept, saws, sights}
 use Rattle.nqs_types.specs.declared.ids.HostId.{HostId}
 use Rattle.nqs_types.specs.declared.ids.RequestId.{RequestId}
 use Rattle.nqs_types.specs.declared.request.Row.{Row}
@@ -92,10 +93,14 @@ pub data Act : Type 0 where
   Boots : HostId → Act
   Shows : Act
 
--- a world after something, and what was seen of it
+-- a world after something, and what was noted of it
 pub record Ran : Type 0 where
   pub world : World
-  pub seen : List Seen
+  pub notes : List Note
+
+-- what was seen of it
+abbrev pub seen_of : Ran → List Seen
+seen_of r = sights r.notes
 
 -- a new world
 
@@ -143,17 +148,17 @@ host_of h w = slice_get w.hosts h.0
 abbrev pub put_host : HostId → Host → World → World
 put_host h host w = record w { hosts = change_at h.0 (λ _. host) w.hosts }
 
--- what was seen before what a run shows
-abbrev pub then_seen : List Seen → Ran → Ran
-then_seen seen r = record { world = r.world; seen = seen ++ r.seen }
+-- what was noted before what a run notes
+abbrev pub then_noted : List Note → Ran → Ran
+then_noted notes r = record { world = r.world; notes = notes ++ r.notes }
 
 -- a world of which nothing is shown
 abbrev pub unseen : World → Ran
-unseen w = record { world = w; seen = [] }
+unseen w = record { world = w; notes = [] }
 
 -- a world of which one thing is shown
 abbrev pub seeing : Seen → World → Ran
-seeing x w = record { world = w; seen = x ∷ [] }
+seeing x w = record { world = w; notes = Saw x ∷ [] }
 
 -- how a change ends: it is made, or a fuse stops the host before it is kept or after
 pub data Fate : Type 0 where
@@ -335,32 +340,34 @@ next_number w = length w.packets + 1
 -- the outputs of a host, one after the other
 abbrev pub emits : HostId → List Output → World → Ran
 emits h [] w = unseen w
-emits h (o ∷ os) w = then_seen (seen_output h (next_number w) o) (emits h os (record w { packets = w.packets ++ sent_by o }))
+emits h (o ∷ os) w = then_noted (saws (seen_output h (next_number w) o)) (emits h os (record w { packets = w.packets ++ sent_by o }))
 
 -- changes
 
 -- a host makes a change, or stops before or after it was kept
-abbrev pub change_fated : Fate → HostId → Host → Change Bytes → List Seen → List Output → World → Ran
-change_fated Made h host c first os w = then_seen first (emits h os (put_host h (used (stored_parts c) (applied c host.state) host) w))
-change_fated StoppedBefore h host c first os w = seeing (seen.Stop h) (put_host h (stopped host.state (cut_off host)) w)
-change_fated StoppedAfter h host c first os w = seeing (seen.Stop h) (put_host h (stopped (applied c host.state) (recorded (ready host))) w)
+abbrev pub change_fated : Fate → HostId → Host → Why → Change Bytes → List Seen → List Output → World → Ran
+change_fated Made h host why c first os w =
+    then_noted (Kept h why c ∷ saws first) (emits h os (put_host h (used (stored_parts c) (applied c host.state) host) w))
+change_fated StoppedBefore h host why c first os w = seeing (seen.Stop h) (put_host h (stopped host.state (cut_off host)) w)
+change_fated StoppedAfter h host why c first os w =
+    then_noted (Kept h why c ∷ []) (seeing (seen.Stop h) (put_host h (stopped (applied c host.state) (recorded (ready host))) w))
 
 -- a host makes a change, which is seen first, and then come the outputs; a stop is all that is seen of it
-abbrev pub makes_change : HostId → Host → Change Bytes → List Seen → List Output → World → Ran
-makes_change h host c first os w = change_fated (fate (stored_parts c) host) h host c first os w
+abbrev pub makes_change : HostId → Host → Why → Change Bytes → List Seen → List Output → World → Ran
+makes_change h host why c first os w = change_fated (fate (stored_parts c) host) h host why c first os w
 
 -- a host carries out a step: its change, if it has one, and then its outputs
-abbrev pub carries_out : HostId → Host → Option (Change Bytes) → List Output → World → Ran
-carries_out h host None os w = emits h os w
-carries_out h host (Some c) os w = makes_change h host c [] os w
+abbrev pub carries_out : HostId → Host → Why → Option (Change Bytes) → List Output → World → Ran
+carries_out h host why None os w = emits h os w
+carries_out h host why (Some c) os w = makes_change h host why c [] os w
 
 -- a host takes a step
-abbrev pub steps : HostId → Host → Stepped Bytes → World → Ran
-steps h host s w = carries_out h host s.change (map shown s.outputs) w
+abbrev pub steps : HostId → Host → Why → Stepped Bytes → World → Ran
+steps h host why s w = carries_out h host why s.change (map shown s.outputs) w
 
 -- one thing after the other
 abbrev pub then_ran : Ran → (World → Ran) → Ran
-then_ran r f = then_seen r.seen (f r.world)
+then_ran r f = then_noted r.notes (f r.world)
 
 -- starts
 
@@ -373,7 +380,7 @@ starts (suc n) h w = elim (host_of h w) [
     | false ↦ unseen w
     | true ↦ elim (start w.now host.state) [
       | None ↦ unseen w
-      | Some s ↦ (let r = steps h host s w in then_seen r.seen (starts n h r.world))
+      | Some s ↦ (let r = steps h host ByStart s w in then_noted r.notes (starts n h r.world))
     ]
   ]
 ]
@@ -411,7 +418,7 @@ halts true h w = halted_host h (host_of h w) w
 
 -- a host that is up takes an event, starts what may start, and stops if that was a shutdown
 abbrev pub takes_up : HostId → Host → Event → World → Ran
-takes_up h host e w = then_ran (then_ran (steps h host (step e host.state) w) (all_starts h)) (halts (shuts_down e host.state) h)
+takes_up h host e w = then_ran (then_ran (steps h host (ByEvent e) (step e host.state) w) (all_starts h)) (halts (shuts_down e host.state) h)
 
 -- a host that is up does something; of one that is down it is seen that it is down
 abbrev pub taken_by : Option Host → HostId → (Host → World → Ran) → World → Ran
@@ -483,7 +490,7 @@ boot_output r = if is_running r.state then Some (if may_start_again r then out.A
 
 -- a host that is down boots, and starts what may start
 abbrev pub boots_down : HostId → Host → World → Ran
-boots_down h host w = then_ran (makes_change h host Boot (seen.Boot h ∷ []) (filter_map boot_output host.state.rows) w) (all_starts h)
+boots_down h host w = then_ran (makes_change h host ByBoot Boot (seen.Boot h ∷ []) (filter_map boot_output host.state.rows) w) (all_starts h)
 
 -- a host boots; of one that is up it is seen that it is up
 abbrev pub boots : HostId → Option Host → World → Ran

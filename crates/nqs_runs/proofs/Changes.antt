@@ -8,7 +8,7 @@ use Rattle.nqs_laws.specs.AtOnce.{LeavesNone, TakesBackAll}
 use Rattle.nqs_laws.specs.Closed.{HasState, IsClosedBy, MayClose, ClosesOwn}
 use Rattle.nqs_laws.specs.Each.{OfChange, EachKept}
 use Rattle.nqs_laws.specs.HeldBy.{HoldsForCause}
-use Rattle.nqs_laws.specs.History.{Note, Saw, Kept}
+use Rattle.nqs_rules.specs.Notes.{Note, Saw, Kept}
 use Rattle.nqs_laws.specs.Numbers.{NumbersMove, NewAreNumbered}
 use Rattle.nqs_runs.specs.Headline.{GoesOutForAReason, ChangeKeeps}
 

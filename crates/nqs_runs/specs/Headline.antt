@@ -10,10 +10,11 @@ use Rattle.nqs_rules.specs.Net.{is_table, entries}
 use Rattle.nqs_rules.specs.Picked.{may_start}
 use Rattle.nqs_rules.specs.Applied.{applied}
 use Rattle.nqs_rules.specs.Edits.{change_at}
-use Rattle.nqs_rules.specs.World.{Act, Host, new_world, host_of}
+use Rattle.nqs_rules.specs.World.{Act, Host, seen_of, new_world, host_of}
 use Rattle.nqs_rules.specs.Run.{run_of, states_of}
 use Rattle.nqs_types.specs.declared.change.Change.{Change}
-use Rattle.nqs_laws.specs.History.{Why, Note, history, sights}
+use Rattle.nqs_rules.specs.Notes.{Why, Note, sights}
+use Rattle.nqs_laws.specs.History.{history}
 use Rattle.nqs_laws.specs.Words.{IsInOrderAll, replayed, is_counted, is_never_lost, boots_tell}
 use Rattle.nqs_laws.specs.Each.{OfChange, EachKept}
 use Rattle.nqs_laws.specs.AtOnce.{LeavesNone, TakesBackAll}
@@ -97,7 +98,7 @@ LastTakerRests site acts = (before : List Act) (last : Act) → acts ≡ before 
 
 -- The history tells what is seen, and leads to the states of the hosts, which are in order.
 pub record IsToldByHistory (site : List (List ℕ)) (acts : List Act) : Type 0 where
-  pub seen : sights (notes_of site acts) ≡ (run_of site acts).seen
+  pub seen : sights (notes_of site acts) ≡ seen_of (run_of site acts)
   pub states : replayed (notes_of site acts) (first_states site) ≡ last_states site acts
   pub order : IsInOrderAll site (run_of site acts).world
 
@@ -120,7 +121,7 @@ pub record KeepsLaunches (site : List (List ℕ)) (acts : List Act) : Type 0 whe
   pub numbered : AreStarted (first_states site) (notes_of site acts)
   pub counted : IsTrue (list_all is_counted (entries (last_states site acts)))
   pub lost : IsTrue (list_all is_never_lost (entries (last_states site acts)))
-  pub boots : IsTrue (boots_tell None (run_of site acts).seen)
+  pub boots : IsTrue (boots_tell None (seen_of (run_of site acts)))
   pub rests : LastTakerRests site acts
 
 -- the laws of a network: what it tells, its requests, their launches, and handovers, which go together and can be settled

@@ -5,7 +5,7 @@ use Rattle.std.specs.Io.KnownBytes.{Appends}
 use Rattle.nqs_types.specs.declared.world.WorldEvent.{WorldEvent}
 use Rattle.nqs_disk.specs.declared.mem_disk.MemDisk.{MemDisk}
 use Rattle.nqs_rules.specs.Net.{table}
-use Rattle.nqs_rules.specs.World.{Ran, World as Network}
+use Rattle.nqs_rules.specs.World.{Ran, seen_of, World as Network}
 use Rattle.nqs_rules.specs.Run.{run_of, states_of}
 use Rattle.nqs_rules.specs.Transcript.{transcript}
 use Rattle.nqs_store.specs.declared.disks.Disks.{Disks}
@@ -28,11 +28,11 @@ table_length network = length (table (states_of network))
 
 -- the summary of a run of so many events
 abbrev pub summary_after : ℕ → Ran → List ℕ
-summary_after events r = summary_text (summary_of nothing_seen r.seen) events (table_length r.world)
+summary_after events r = summary_text (summary_of nothing_seen (seen_of r)) events (table_length r.world)
 
 -- what is to be written of a run: its transcript, or its summary
 abbrev pub text_of : Bool → List (List ℕ) → List WorldEvent → List ℕ
-text_of false site events = transcript site (ran site events).seen
+text_of false site events = transcript site (seen_of (ran site events))
 text_of true site events = summary_after (length events) (ran site events)
 
 -- the disks gain those of the hosts, as the run leaves them

@@ -8,7 +8,7 @@ use Rattle.nqs_types.specs.declared.world.Seen.{Seen}
 use Rattle.nqs_types.specs.declared.world.WorldEvent.{WorldEvent}
 use Rattle.nqs_disk.specs.declared.lack.Lack.{Lack}
 use Rattle.nqs_disk.specs.declared.lack.Lack.TheVariants as lack
-use Rattle.nqs_rules.specs.World.{World as Network}
+use Rattle.nqs_rules.specs.World.{World as Network, seen_of}
 use Rattle.nqs_rules.specs.Transcript.{transcript}
 use Rattle.nqs_laws.specs.Sane.{IsSite}
 use Rattle.nqs_lines.specs.Acts.{is_sane_line}
@@ -26,13 +26,13 @@ HasRun site before world = IsSite site × (list_all is_sane_line before ≡ true
 -- the world after one event more, and what was seen of it
 abbrev pub GoesOn : List (List ℕ) → List WorldEvent → WorldEvent → World → List Seen → Type 0
 GoesOn site before event world seen =
-    IsWorld world (ran site (before ++ event ∷ [])).world × ((ran site (before ++ event ∷ [])).seen ≡ (ran site before).seen ++ seen)
+    IsWorld world (ran site (before ++ event ∷ [])).world × (seen_of (ran site (before ++ event ∷ [])) ≡ seen_of (ran site before) ++ seen)
 
 -- the same, and what it adds to the transcript
 abbrev pub Tells : List (List ℕ) → List WorldEvent → WorldEvent → World → List ℕ → Type 0
 Tells site before event world text =
     IsWorld world (ran site (before ++ event ∷ [])).world
-    × (transcript site (ran site (before ++ event ∷ [])).seen ≡ transcript site (ran site before).seen ++ text)
+    × (transcript site (seen_of (ran site (before ++ event ∷ []))) ≡ transcript site (seen_of (ran site before)) ++ text)
 
 -- the same, where the text had something before
 abbrev pub TellsMore : List (List ℕ) → List WorldEvent → WorldEvent → World → (old new : List ℕ) → Type 0

@@ -7,6 +7,7 @@ ghost use Rattle.std.specs.Io.KnownBytes.{Appends};
 ghost use Rattle.std.specs.List.{list_all};
 ghost use Rattle.nqs_outside.specs.Causes.{Rose};
 ghost use Rattle.nqs_rules.specs.Transcript.{transcript};
+ghost use Rattle.nqs_rules.specs.World.{seen_of};
 ghost use Rattle.nqs_laws.specs.Sane.{IsSite};
 ghost use Rattle.nqs_lines.specs.Acts.{is_sane_line};
 ghost use Rattle.nqs_types.specs.declared.world.WorldEvent.{WorldEvent};
@@ -180,7 +181,7 @@ fn count_events(
 ) -> Result<(World, Summary), Lack>
     requires site { IsSite site.now }
     requires sane { list_all is_sane_line events.now ≡ true }
-    ensures { IfOk result (λ end. IsWorld end.0 (ran site.now events.now).world × (end.1 ≡ summary_of nothing_seen (ran site.now events.now).seen)) }
+    ensures { IfOk result (λ end. IsWorld end.0 (ran site.now events.now).world × (end.1 ≡ summary_of nothing_seen (seen_of (ran site.now events.now)))) }
 {
     let mut world = World::new(alloc, site)?;
     let mut seen = Vec::new(alloc);

@@ -1,6 +1,6 @@
 -- Runs of a host whose active journal is nearly full.
 use Rattle.std.specs.Prelude.{ℕ, List, [], ◌∷◌, map, codes}
-use Rattle.nqs_rules.specs.World.{World, Act, Calls, Fuse, Crashes, Boots, Shows, new_host, new_world}
+use Rattle.nqs_rules.specs.World.{World, Act, Calls, Fuse, Crashes, Boots, Shows, seen_of, new_host, new_world}
 use Rattle.nqs_rules.specs.Run.{run}
 use Rattle.nqs_rules.specs.Transcript.{transcript}
 use Rattle.nqs_worked.specs.ScheduleWords.{host, edits, submits, one_host}
@@ -16,7 +16,7 @@ nearly_full root records = record (new_world one_host) { hosts = record (new_hos
 
 -- the transcript of a run from there
 abbrev pub told_from : List ℕ → ℕ → List Act → List ℕ
-told_from root records acts = transcript one_host (run acts (nearly_full root records)).seen
+told_from root records acts = transcript one_host (seen_of (run acts (nearly_full root records)))
 
 -- the root, how many records the active journal has, and the calls of the disks at the end of it
 abbrev pub journals_from : List ℕ → ℕ → List Act → List (List ℕ × ℕ × Calls)

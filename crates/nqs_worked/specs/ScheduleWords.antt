@@ -1,7 +1,7 @@
 -- Words for schedules.
 use Rattle.std.specs.Prelude.{ℕ, true, false, List, [], ◌∷◌, map, flat_map, codes, Option, None, Some}
 use Rattle.nqs_rules.specs.Format.{no_limits}
-use Rattle.nqs_rules.specs.World.{Act, Asks, Fuse, Boots, Shows}
+use Rattle.nqs_rules.specs.World.{Act, Asks, Fuse, Boots, Shows, seen_of}
 use Rattle.nqs_rules.specs.Run.{run_of}
 use Rattle.nqs_rules.specs.Transcript.{transcript, lines}
 use Rattle.nqs_types.specs.declared.ids.HostId.{HostId}
@@ -79,7 +79,7 @@ submits user queue = Asks (host 0) user (submission (Some queue) (job_of user) [
 
 -- the transcript of a run of a new network
 abbrev pub told : List (List ℕ) → List Act → List ℕ
-told site acts = transcript site (run_of site acts).seen
+told site acts = transcript site (seen_of (run_of site acts))
 
 -- a fuse falls in a submission with a script, and the host boots
 abbrev pub stopped_submission : Which → ℕ → Tear → List Act

@@ -1,5 +1,6 @@
 -- Hosts with two journals: how a change ends there, and what it leaves.
 use Rattle.std.specs.Prelude.{ℕ, List, [], ◌∷◌, map, flat_map, length, codes}
+use Rattle.nqs_rules.specs.Notes.{ByStart}
 use Rattle.nqs_rules.specs.World.{Host, Fuses, Calls, Fate, fate, fused, no_fuses, makes_change, new_host, new_world}
 use Rattle.nqs_worked.specs.ScheduleWords.{host, job_of, one_host}
 use Rattle.nqs_values.specs.declared.tear.Tear.{Tear}
@@ -23,7 +24,8 @@ fates_at root records tear disk =
 -- the host after a submission with a script, of which nothing goes out
 abbrev pub submitted : Host → List Host
 submitted h =
-    (makes_change (host 0) h (Submitted (codes "batch") (job_of (codes "ann")) (codes "date")) [] [] (record (new_world one_host) { hosts = h ∷ [] })).world.hosts
+    (makes_change (host 0) h ByStart (Submitted (codes "batch") (job_of (codes "ann")) (codes "date")) [] []
+    (record (new_world one_host) { hosts = h ∷ [] })).world.hosts
 
 -- the root, the number of records and the number of requests that it has then
 abbrev pub left : Host → List (List ℕ × ℕ × ℕ)

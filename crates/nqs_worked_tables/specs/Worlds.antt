@@ -1,5 +1,6 @@
 -- Hosts of a world with fuses, packets on their way, and runs whose calls of disks are counted.
 use Rattle.std.specs.Prelude.{ℕ, false, Bool, List, [], ◌∷◌, map, length, codes, Option, None, Some}
+use Rattle.nqs_rules.specs.Notes.{sights}
 use Rattle.nqs_rules.specs.World.{World, Host, Act, Asks, Ends, Fails, Writes, Leaves, Ticks, Finishes, Fuse, Crashes, Boots, Fuses, Calls, Fate, fate}
 use Rattle.nqs_rules.specs.World.{new_world, new_host}
 use Rattle.nqs_rules.specs.Run.{run, run_of}
@@ -73,7 +74,7 @@ mail = record (new_world (codes "alpha" ∷ codes "beta" ∷ codes "gamma" ∷ [
 
 -- what is seen of these events in a new world of two hosts
 abbrev pub seen_of : List Act → List Seen
-seen_of acts = (run acts (new_world two_hosts)).seen
+seen_of acts = sights (run acts (new_world two_hosts)).notes
 
 -- whether each host is up at the end of a run
 abbrev pub up_after : List Act → List Bool

@@ -11,11 +11,11 @@ use Rattle.nqs_net.proofs.Turning.{took_turn, took_seen, closed_turn, down_stopp
 use Rattle.nqs_net.proofs.turn.carry.Goals as goal
 
 pub returns-in_err-emit-clause-turn : goal.returns-in_err-emit-clause-turn
-returns-in_err-emit-clause-turn c = λ w host x fails old faces taken.
+returns-in_err-emit-clause-turn c = λ w host why x fails old faces taken.
     let p = err_from_is_err_and c.from_residual.result c.from_residual.ensures.1 in
     let took = subst (IsTaken host x fails old c.args.node.value c.args.out.items) c.if-took.true taken in
-    rw p.1 (shown_as c.args.seen.now.items c.emit.new.seen.items _ _ (took_seen c.args.turn.me w host c.args.turn.tear c.args.packets.now.items faces x fails
-    old
+    rw p.1 (shown_as c.args.seen.now.items c.emit.new.seen.items _ _ (took_seen c.args.turn.me w host c.args.turn.tear c.args.packets.now.items faces why x
+    fails old
     c.args.node.value c.args.out.items took c.requires.sound) c.in_err-emit.ensures.front)
 
 pub returns-in_err-emit-clause-down : goal.returns-in_err-emit-clause-down
@@ -41,12 +41,12 @@ pub invariant_of-result : goal.invariant_of-result
 invariant_of-result c = record { sound = c.requires.sound; running = c.requires.running c.if-took.true }
 
 pub returns-then-took-clause-turn : goal.returns-then-took-clause-turn
-returns-then-took-clause-turn c = λ w host x fails old faces taken.
+returns-then-took-clause-turn c = λ w host why x fails old faces taken.
     let node = c.args.node.value in
     let took = subst (IsTaken host x fails old node c.args.out.items) c.if-took.true taken in
     turn_follows c.args.turn.me c.args.turn.tear _ c.args.seen.now.items _ w c.args.turn.tear old _ _
     (goes (active_in host) old (history_of node) x.change host.state took.moments)
-    (took_turn c.args.turn.me w host c.args.turn.tear c.args.packets.now.items faces x fails old node c.args.out.items took c.requires.sound _
+    (took_turn c.args.turn.me w host c.args.turn.tear c.args.packets.now.items faces why x fails old node c.args.out.items took c.requires.sound _
     c.args.seen.now.items _
     c.in_ok-emit.ensures.packets c.in_ok-emit.ensures.seen)
 
@@ -54,7 +54,7 @@ pub returns-then-took-clause-down : goal.returns-then-took-clause-down
 returns-then-took-clause-down c = λ broke. absurd (true≢false (sym c.if-took.true ∙ broke))
 
 pub returns-in_err-slot-clause-turn : goal.returns-in_err-slot-clause-turn
-returns-in_err-slot-clause-turn c = λ w host x fails old faces taken.
+returns-in_err-slot-clause-turn c = λ w host why x fails old faces taken.
     let p = err_from_is_err_and c.from_residual-in_err-slot.result c.from_residual-in_err-slot.ensures.1 in
     rw p.1 (none_shown c.args.seen.now.items c.stop.new.seen.items _ c.in_err-slot.ensures.unseen)
 
@@ -64,7 +64,7 @@ returns-in_err-slot-clause-down c = λ broke.
     rw p.1 tt
 
 pub returns-clause-turn : goal.returns-clause-turn
-returns-clause-turn c = λ w host x fails old faces taken.
+returns-clause-turn c = λ w host why x fails old faces taken.
     let node = c.args.node.value in
     let broke = subst (IsTaken host x fails old node c.args.out.items) c.if-took.false taken in
     let slot = c.in_ok-slot.slot in
@@ -73,7 +73,7 @@ returns-clause-turn c = λ w host x fails old faces taken.
     turn_follows c.args.turn.me c.args.turn.tear _ c.args.seen.now.items _ w c.args.turn.tear old slot _
     (follow_closed c.args.turn.tear old node disks slot closed (goes (active_in host) old
     (history_of node) x.change host.state broke.moments) c.in_ok-slot.ensures.stopped)
-    (closed_turn c.args.turn.me w host c.args.turn.tear c.args.packets.now.items faces x fails old node c.args.out.items broke disks closed slot
+    (closed_turn c.args.turn.me w host c.args.turn.tear c.args.packets.now.items faces why x fails old node c.args.out.items broke disks closed slot
     c.args.seen.now.items _
     c.in_ok-slot.ensures.seen c.in_ok-slot.ensures.stopped c.in_ok-slot.ensures.fed)
 

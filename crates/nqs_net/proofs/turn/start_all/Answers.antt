@@ -1,8 +1,8 @@
 use Rattle.std.proofs.Common.{◌∙◌, refl, sym, ap}
 use Rattle.std.proofs.lemmas.Result.{err_from_is_err_and}
-use Rattle.nqs_rules.specs.World.{Ran, unseen, then_ran, all_starts}
+use Rattle.nqs_rules.specs.World.{seen_of, unseen, then_ran, all_starts}
 use Rattle.nqs_net.specs.Followed.{StandsAfter}
-use Rattle.nqs_net.proofs.Fronts.{shown_as, shown_before}
+use Rattle.nqs_net.proofs.Fronts.{shown_as, run_before}
 use Rattle.nqs_net.proofs.Starting.{both_turn, both_goes, both_last}
 use Rattle.nqs_net.proofs.Hosting.{idle_at}
 use Rattle.nqs_net.proofs.turn.start_all.Goals as goal
@@ -22,8 +22,8 @@ returns-in_err-more c = λ w old at now.
     let before = c.args.seen.now.items in
     let after = c.start_one.new.seen.items in
     let rest = c.in_err-more.ensures.turn v.0.world old v.1.at (v.1.rest.now ∙ now) in
-    rw p.1 (shown_as before after _ _ (ap (λ (r : Ran). r.seen) (sym v.2))
-    (shown_before before c.loop-more.seen.items after v.0.seen (all_starts c.args.turn.me v.0.world).seen v.1.seen rest))
+    rw p.1 (shown_as before after _ _ (ap seen_of (sym v.2))
+    (run_before before after v.0 (all_starts c.args.turn.me) c.loop-more.seen.items v.1.seen rest))
 
 pub returns-then-not-more : goal.returns-then-not-more
 returns-then-not-more c = λ w old at now.

@@ -1,8 +1,9 @@
 use Rattle.std.proofs.Common.{◌≡◌, ◌∙◌, false, refl, sym, ap, subst, arith}
 use Rattle.std.proofs.lemmas.Result.{err_from_is_err_and}
 use Rattle.nqs_rules.specs.Measure.{starts_left}
+use Rattle.nqs_rules.specs.Notes.{ByStart}
 use Rattle.nqs_rules.specs.Start.{start}
-use Rattle.nqs_rules.specs.World.{Ran, steps, all_starts}
+use Rattle.nqs_rules.specs.World.{seen_of, steps, all_starts}
 use Rattle.nqs_node.specs.Carried.{started}
 use Rattle.nqs_node.specs.Nodes.{history_of, fails_of, content_of, is_stopped}
 use Rattle.nqs_store.specs.Sound.{IsSoundHost}
@@ -10,7 +11,7 @@ use Rattle.nqs_net.specs.Followed.{StandsAfter}
 use Rattle.nqs_net.specs.Worlds.{IsUp}
 use Rattle.nqs_net.specs.Turns.{Turns}
 use Rattle.nqs_net.specs.Lists.{GrowsByFront}
-use Rattle.nqs_net.proofs.Fronts.{none_shown, shown_as, more_to_show}
+use Rattle.nqs_net.proofs.Fronts.{none_shown, shown_as, more_to_run}
 use Rattle.nqs_net.proofs.Following.{turn_stands, starts_follow}
 use Rattle.nqs_net.proofs.Starting.{starting, next_all, steady_up}
 use Rattle.nqs_net.proofs.turn.start_step.Goals as goal
@@ -39,12 +40,13 @@ returns-in_err-slot c =
     record {
       turn = λ w host faces is now. (let up = subst (λ n. IsUp n host) (sym c.deref_mut.ensures.value) is in
           let x = started w.now host.state in
-          let ran = steps me host x w in
-          let front : GrowsByFront before after ran.seen = subst (λ n. GrowsByFront before after (steps me host (started n host.state) w).seen) (sym now)
-          (c.in_err-slot.ensures.turn w host (started c.args.turn.now host.state) (fails_of node) (history_of node) faces
+          let ran = steps me host ByStart x w in
+          let front : GrowsByFront before after (seen_of ran) =
+          subst (λ n. GrowsByFront before after (seen_of (steps me host ByStart (started n host.state) w))) (sym now)
+          (c.in_err-slot.ensures.turn w host ByStart (started c.args.turn.now host.state) (fails_of node) (history_of node) faces
           (c.in_ok-took.ensures.taken host up c.new-out.ensures.items)) in
-          rw p.1 (shown_as before after _ _ (ap (λ (r : Ran). r.seen) (sym (next_all me w host faces.there (steady_up c.args.node.value host is) is.up)))
-          (more_to_show before after ran.seen (all_starts me ran.world).seen front)));
+          rw p.1 (shown_as before after _ _ (ap seen_of (sym (next_all me w host faces.there (steady_up c.args.node.value host is) is.up)))
+          (more_to_run before after ran (all_starts me) front)));
       fewer = rw p.1 tt;
     }
 
@@ -61,11 +63,11 @@ returns-clause-turn c = λ w host faces is now.
     let packets = c.carry.new.packets.items in
     let before = c.args.seen.now.items in
     let after = c.carry.new.seen.items in
-    let ran = steps c.args.turn.me host (started w.now host.state) w in
+    let ran = steps c.args.turn.me host ByStart (started w.now host.state) w in
     let carried : Turns c.args.turn.me (StandsAfter c.args.turn.tear (history_of node) slot) c.args.turn.tear packets before after w ran =
     subst (λ n. Turns c.args.turn.me (StandsAfter c.args.turn.tear (history_of node) slot) c.args.turn.tear packets before after w
-    (steps c.args.turn.me host (started n host.state) w)) (sym now)
-    (c.in_ok-slot.ensures.turn w host (started c.args.turn.now host.state) (fails_of node) (history_of node) faces
+    (steps c.args.turn.me host ByStart (started n host.state) w)) (sym now)
+    (c.in_ok-slot.ensures.turn w host ByStart (started c.args.turn.now host.state) (fails_of node) (history_of node) faces
     (c.in_ok-took.ensures.taken host up c.new-out.ensures.items)) in
     let turn = subst (λ n. Turns c.args.turn.me (StandsAfter c.args.turn.tear (history_of n) slot) c.args.turn.tear packets before after w ran)
     c.deref_mut.ensures.value

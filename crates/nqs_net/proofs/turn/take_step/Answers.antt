@@ -1,5 +1,6 @@
 use Rattle.std.proofs.Common.{◌≡◌, IsTrue, false, length, refl, sym, subst}
 use Rattle.std.proofs.lemmas.Result.{err_from_is_err_and}
+use Rattle.nqs_rules.specs.Notes.{ByEvent}
 use Rattle.nqs_rules.specs.Sane.{is_sane_event}
 use Rattle.nqs_rules.specs.Step.{step}
 use Rattle.nqs_rules.specs.World.{steps}
@@ -34,7 +35,7 @@ returns-in_err-slot c = λ w host faces is.
     let p = err_from_is_err_and c.from_residual-in_err-slot.result c.from_residual-in_err-slot.ensures.1 in
     let node = c.deref_mut.result.now in
     let up = subst (λ n. IsUp n host) (sym c.deref_mut.ensures.value) is in
-    rw p.1 (c.in_err-slot.ensures.turn w host (step c.args.event.now host.state) (fails_of node) (history_of node) faces
+    rw p.1 (c.in_err-slot.ensures.turn w host (ByEvent c.args.event.now) (step c.args.event.now host.state) (fails_of node) (history_of node) faces
     (c.in_ok-took.ensures.taken host up c.new-out.ensures.items))
 
 pub returns : goal.returns
@@ -44,5 +45,6 @@ returns c = λ w host faces is.
     let x = step c.args.event.now host.state in
     subst (λ n. Turns c.args.turn.me (StandsAfter c.args.turn.tear (history_of n) c.in_ok-slot.slot) c.args.turn.tear c.carry.new.packets.items
     c.args.seen.now.items
-    c.carry.new.seen.items w (steps c.args.turn.me host x w)) c.deref_mut.ensures.value
-    (c.in_ok-slot.ensures.turn w host x (fails_of node) (history_of node) faces (c.in_ok-took.ensures.taken host up c.new-out.ensures.items))
+    c.carry.new.seen.items w (steps c.args.turn.me host (ByEvent c.args.event.now) x w)) c.deref_mut.ensures.value
+    (c.in_ok-slot.ensures.turn w host (ByEvent c.args.event.now) x (fails_of node) (history_of node) faces
+    (c.in_ok-took.ensures.taken host up c.new-out.ensures.items))

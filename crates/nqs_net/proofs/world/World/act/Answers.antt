@@ -2,6 +2,7 @@ use Rattle.std.proofs.Common.{◌≡◌, ◌∙◌, ◌++◌, refl, sym, ap, sub
 use Rattle.std.specs.List.{insert}
 use Rattle.std.proofs.lemmas.List.{append-nil}
 use Rattle.std.proofs.lemmas.Result.{err_from_is_err_and}
+use Rattle.nqs_rules.specs.World.{seen_of}
 use Rattle.nqs_net.specs.Deeds.{done_by}
 use Rattle.nqs_net.specs.Worlds.{IsWorld}
 use Rattle.nqs_net.proofs.Placing.{tears_as_long, no_host, sane_at, boots_at, acted_world, acted_seen, acted_follow, acted_front}
@@ -16,7 +17,7 @@ returns-then-len-place-clause-world c = λ network stands. let world = c.args.se
 
 pub returns-then-len-place-clause-seen : goal.returns-then-len-place-clause-seen
 returns-then-len-place-clause-seen c = λ network stands. let world = c.args.self.now in
-    subst (λ o. c.args.seen.now.items ≡ c.args.seen.now.items ++ (done_by o c.args.deed.now c.args.host network).seen)
+    subst (λ o. c.args.seen.now.items ≡ c.args.seen.now.items ++ seen_of (done_by o c.args.deed.now c.args.host network))
     (sym (no_host world.slots.items world.tears.items network.hosts c.args.host.0 stands.hosts (omega (arith, world.slots.ok.0))))
     (sym (append-nil c.args.seen.now.items))
 

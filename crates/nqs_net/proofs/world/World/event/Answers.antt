@@ -1,6 +1,6 @@
 use Rattle.std.proofs.Common.{◌≡◌, ◌∙◌, ◌++◌, OnOk, OnErr, refl, sym, subst}
 use Rattle.std.proofs.lemmas.Result.{on_ok_weaker, err_from_is_err_and}
-use Rattle.nqs_rules.specs.World.{Ran}
+use Rattle.nqs_rules.specs.World.{Ran, seen_of}
 use Rattle.nqs_lines.specs.Acts.{act_of}
 use Rattle.nqs_net.specs.Lists.{GrowsByFront}
 use Rattle.nqs_net.specs.Worlds.{IsWorld}
@@ -30,7 +30,7 @@ returns-in-Some-clause-world c = λ site network order stands.
 pub returns-in-Some-clause-seen : goal.returns-in-Some-clause-seen
 returns-in-Some-clause-seen c = λ site network order stands.
     let comes = sym (c.in_ok-host.ensures network (sym stands.now) (c.deref.ensures.value ∙ stands.packets)) ∙ c.in-Some.is in
-    subst (λ (r : Ran). OnOk c.act.result (c.act.new.seen.items ≡ c.args.seen.now.items ++ r.seen))
+    subst (λ (r : Ran). OnOk c.act.result (c.act.new.seen.items ≡ c.args.seen.now.items ++ seen_of r))
     (sym (means (act_of c.args.event.now) network (c.in-Some.host, c.in-Some.deed) comes).happens) (c.act.ensures.seen network stands)
 
 pub returns-in-Some-clause-sound : goal.returns-in-Some-clause-sound
@@ -49,5 +49,5 @@ returns-in_err-host-clause-front c = λ site network order stands.
 pub returns-in-Some-clause-front : goal.returns-in-Some-clause-front
 returns-in-Some-clause-front c = λ site network order stands.
     let comes = sym (c.in_ok-host.ensures network (sym stands.now) (c.deref.ensures.value ∙ stands.packets)) ∙ c.in-Some.is in
-    subst (λ (r : Ran). OnErr c.act.result (GrowsByFront c.args.seen.now.items c.act.new.seen.items r.seen))
+    subst (λ (r : Ran). OnErr c.act.result (GrowsByFront c.args.seen.now.items c.act.new.seen.items (seen_of r)))
     (sym (means (act_of c.args.event.now) network (c.in-Some.host, c.in-Some.deed) comes).happens) (c.act.ensures.front network stands)
