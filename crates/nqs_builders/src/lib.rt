@@ -4,7 +4,7 @@
 #![tactic(auto)]
 
 use nqs_keyed::Table;
-use nqs_state::HostState;
+use nqs_state::{HostState, Rows};
 use nqs_types::{Access, Hold, HostId, Job, Kind, Limits, QueueDef, RequestId, Row, RowState};
 use nqs_values::{Bytes, Extent, Key, Keyed, ListOf, Memory, Name, Spare};
 use std::alloc::Global;
@@ -87,7 +87,7 @@ pub fn host(alloc: Global) -> HostState {
         queues: Table::new(alloc),
         complexes: Table::new(alloc),
         devices: Table::new(alloc),
-        rows: Table::new(alloc),
+        rows: Rows::new(alloc),
         hands: Table::new(alloc),
         promises: Table::new(alloc),
         peers: ListOf::new(alloc),
@@ -113,6 +113,15 @@ pub fn add<K: Key, V: Keyed<K> + Drop>(table: &mut Table<K, V>, value: V) -> Res
     table.reserve(1)?;
     if !table.has(&value.key()) {
         table.push(value);
+    }
+    Ok(())
+}
+
+/// One more request, where its id is new.
+pub fn add_row(rows: &mut Rows, row: Row) -> Result<(), Memory> {
+    rows.reserve(1)?;
+    if !rows.has(&row.id) {
+        rows.push(row);
     }
     Ok(())
 }

@@ -5,7 +5,7 @@ ghost use Rattle.nqs_state.specs.State.{content};
 ghost use Rattle.nqs_rules.specs.Format.{no_limits, new_peer, first_queue, formatted};
 
 use nqs_keyed::Table;
-use nqs_state::{HostState, PeerList};
+use nqs_state::{HostState, PeerList, Rows};
 use nqs_types::{Access, HostId, Kind, Limits, Peer, QueueDef};
 use nqs_values::{ListOf, Memory, Name, NameList, Spare};
 use std::alloc::Global;
@@ -96,7 +96,7 @@ pub fn formatted(alloc: Global, me: HostId, site: NameList) -> Result<HostState,
         queues,
         complexes: Table::new(alloc),
         devices: Table::new(alloc),
-        rows: Table::new(alloc),
+        rows: Rows::new(alloc),
         hands: Table::new(alloc),
         promises: Table::new(alloc),
         peers,

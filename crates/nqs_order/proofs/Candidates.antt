@@ -1,5 +1,6 @@
 -- A queue where no row waits isn't a candidate.
-use Rattle.std.proofs.Common.{◌≡◌, ℕ, Bool, true, false, ◌&&◌, length, filter, is_some, refl, sym, ap, ◌∙◌}
+use Rattle.std.proofs.Common.{◌≡◌, ℕ, Bool, false, ◌&&◌, length, filter, is_some, sym, ap, ◌∙◌}
+use Rattle.std.proofs.Math.Bool.{and-false}
 use Rattle.std.specs.List.{list_any}
 use Rattle.nqs_state.specs.State.{State}
 use Rattle.nqs_types.specs.declared.request.Row.{Row}
@@ -16,10 +17,6 @@ module _ {E : Type 0} (d : QueueDef) (now : ℕ) (s : State E) where
   none_eligible : list_any (is_waiting d now) s.rows ≡ false → is_some (first_eligible d now s) ≡ false
   none_eligible none = sym (is_some-best (is_eligible d now s) comes_before s.rows 0)
       ∙ none-passes (is_eligible d now s) (is_waiting d now) eligible_waits s.rows none
-
-  and-false : (b : Bool) → (b && false) ≡ false
-  and-false true = refl
-  and-false false = refl
 
   pub no_candidate : list_any (is_waiting d now) s.rows ≡ false → false ≡ is_candidate now s d
   no_candidate none = sym (ap (λ (b : Bool). d.started && is_within_limits d s && b) (none_eligible none) ∙ and-false (d.started && is_within_limits d s))

@@ -2,12 +2,7 @@ pub mod BestLemmas
 pub mod Candidates
 pub mod CountsOfRows
 pub mod FirstOfLine
-pub mod IndexLemmas
 pub mod KeyedPlaces
-pub mod LineLemmas
-pub mod LinesOfRows
-pub mod Numbers
-pub mod OrderLemmas
 pub mod PickedByIndex
 pub mod Served
 pub mod Walks

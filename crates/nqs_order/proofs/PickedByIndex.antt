@@ -1,19 +1,19 @@
 -- What is picked over an index is what the rules pick.
-use Rattle.std.proofs.Common.{◌≡◌, ℕ, Bool, true, false, ◌&&◌, [], Option, None, Some, is_some, slice_get, refl, sym, ap, ◌∙◌}
+use Rattle.std.proofs.Common.{◌≡◌, ℕ, Bool, true, false, ◌&&◌, Option, None, Some, is_some, refl, sym, ap, ◌∙◌}
+use Rattle.std.proofs.Math.Bool.{and-false}
 use Rattle.nqs_state.specs.State.{State}
+use Rattle.nqs_keyed.specs.Table.{best_from}
 use Rattle.nqs_types.specs.declared.queue.Kind.{Kind}
 use Rattle.nqs_types.specs.declared.queue.Kind.TheVariants.{Batch, Device, Pipe}
 use Rattle.nqs_types.specs.declared.queue.QueueDef.{QueueDef}
 use Rattle.nqs_types.specs.declared.request.Row.{Row}
-use Rattle.std.specs.Option.{IfSome}
 use Rattle.nqs_rules.specs.InOrder.{IsInOrder}
 use Rattle.nqs_rules.specs.Order.{is_greater, print_on}
 use Rattle.nqs_rules.specs.Order as by_rows
-use Rattle.nqs_order.specs.declared.index.Index.{Index}
-use Rattle.nqs_order.specs.Indexed.{StandsForIndex, line_of, queue_of}
-use Rattle.nqs_order.specs.ByIndex.{is_filled, is_within_limits, may_serve, first_in, first_of, first_eligible, may_start, is_candidate, next_queue, choice_for, choice_of, pick_in, pick}
-use Rattle.nqs_order.proofs.KeyedPlaces.{best_at, best_there}
-use Rattle.nqs_order.proofs.CountsOfRows.{free_device_is, kept_is, within_is}
+use Rattle.nqs_index.specs.declared.index.Index.{Index}
+use Rattle.nqs_index.specs.Indexed.{StandsForIndex, line_in}
+use Rattle.nqs_order.specs.ByIndex.{is_filled, fewer_in_batch, is_within_limits, may_serve, first_in, is_candidate, next_queue, choice_for, choice_of, pick_in, pick}
+use Rattle.nqs_order.proofs.CountsOfRows.{free_device_is, within_is}
 use Rattle.nqs_order.proofs.FirstOfLine.{first_same}
 use Rattle.nqs_order.proofs.Served.{filled, served}
 
@@ -24,27 +24,21 @@ four true f w v true filled serves = (λ j. filled refl j && w && serves refl j 
     and_true : (b : Bool) → (true && b && true && true) ≡ (true && b && true)
     and_true true = refl
     and_true false = refl
-four true f w v false filled serves = and_false (f && w && v) ∙ sym (and_false w)
-  where
-    and_false : (b : Bool) → (b && false) ≡ false
-    and_false true = refl
-    and_false false = refl
+four true f w v false filled serves = and-false (f && w && v) ∙ sym (and-false w)
 four false f w v x filled serves = refl
 
-module _ {E : Type 0} (index : Index) (s : State E) (stands : StandsForIndex index s) (order : IsInOrder s) (now : ℕ) where
-  first_is : (n : ℕ) (d : QueueDef) → slice_get s.queues n ≡ Some d → first_eligible index d now s ≡ by_rows.first_eligible d now s
-  first_is n d at = ap (first_of index d now s) (kept_is index s stands order n d at) ∙ first_same index s stands order d now
+module _ {E : Type 0} (index : Index) (s : State E) (stands : StandsForIndex index s.rows) (order : IsInOrder s) (now : ℕ) where
+  abbrev batch : Bool
+  batch = fewer_in_batch index s.global_limit s.queues
 
-  candidate_is : (n : ℕ) (d : QueueDef) → slice_get s.queues n ≡ Some d → is_candidate index now s d ≡ by_rows.is_candidate now s d
-  candidate_is n d at =
-      ap (λ o. d.started && may_start index now s d o) (kept_is index s stands order n d at)
-      ∙ four d.started (is_filled (line_of d.name [] s.rows)) (is_within_limits index (queue_of s d) d s) (may_serve d.kind index d s)
-      (is_some (first_in index (queue_of s d) d now s (line_of d.name [] s.rows)))
-      (filled index (queue_of s d) d now s (line_of d.name [] s.rows)) (served index s stands order d now)
+  candidate_is : (d : QueueDef) → is_candidate index batch now s d ≡ by_rows.is_candidate now s d
+  candidate_is d =
+      four d.started (is_filled (line_in d.name index)) (is_within_limits index d batch s) (may_serve d.kind index d s)
+      (is_some (first_in index d now s (line_in d.name index))) (filled index d now s (line_in d.name index)) (served index s stands order d now)
       ∙ (λ j. d.started && within_is index s stands order d j && is_some (first_same index s stands order d now j))
 
   next_is : next_queue index now s ≡ by_rows.next_queue now s
-  next_is = best_at (is_candidate index now s) (by_rows.is_candidate now s) is_greater 0 s.queues candidate_is
+  next_is = (λ j. best_from (λ d. candidate_is d j) is_greater 0 s.queues)
 
   choice_is : (k : Kind) (d : QueueDef) (place : ℕ) (r : Row E) → choice_for k index d now s place r ≡ by_rows.choice_for k d now s place r
   choice_is Batch d place r = refl
@@ -56,8 +50,8 @@ module _ {E : Type 0} (index : Index) (s : State E) (stands : StandsForIndex ind
   choices_are d (Some p) = choice_is d.kind d p.0 p.1
 
   pub picks_same : pick index now s ≡ by_rows.pick now s
-  picks_same = ap (pick_in index now s) next_is ∙ of (by_rows.next_queue now s) (best_there (by_rows.is_candidate now s) is_greater 0 s.queues)
+  picks_same = ap (pick_in index now s) next_is ∙ of (by_rows.next_queue now s)
     where
-      of : (o : Option (ℕ × QueueDef)) → IfSome o (λ q. (n : ℕ) × (slice_get s.queues n ≡ Some q.1)) → pick_in index now s o ≡ by_rows.pick_in now s o
-      of None there = refl
-      of (Some q) there = ap (choice_of index q.1 now s) (first_is there.0 q.1 there.1) ∙ choices_are q.1 (by_rows.first_eligible q.1 now s)
+      of : (o : Option (ℕ × QueueDef)) → pick_in index now s o ≡ by_rows.pick_in now s o
+      of None = refl
+      of (Some q) = ap (choice_of index q.1 now s) (first_same index s stands order q.1 now) ∙ choices_are q.1 (by_rows.first_eligible q.1 now s)

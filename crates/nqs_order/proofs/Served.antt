@@ -1,5 +1,5 @@
 -- A queue that has an eligible row has a line, and can do something with a row.
-use Rattle.std.proofs.Common.{◌≡◌, ℕ, ◌<◌, nat_lt, length, arith, Bool, true, false, ◌&&◌, ◌||◌, List, [], ◌∷◌, Option, None, Some, is_some, slice_get, refl, sym, ap, ◌∙◌, true≢false}
+use Rattle.std.proofs.Common.{◌≡◌, ℕ, ◌<◌, nat_lt, length, arith, Bool, true, false, ◌&&◌, ◌||◌, List, [], ◌∷◌, Option, None, Some, is_some, refl, sym, ap, ◌∙◌, true≢false}
 use Rattle.std.specs.List.{list_any}
 use Rattle.std.proofs.lemmas.Bool.{and_parts, and_from}
 use Rattle.std.proofs.lemmas.Bool.Decides.{nat_tests}
@@ -17,12 +17,11 @@ use Rattle.nqs_rules.specs.Order.{comes_before}
 use Rattle.nqs_rules.specs.Order as by_rows
 use Rattle.nqs_rules.proofs.BestLaws.{best_is_some}
 use Rattle.nqs_rules.proofs.ListFacts.{position_at}
-use Rattle.nqs_order.specs.declared.index.Index.{Index}
-use Rattle.nqs_order.specs.declared.index.QueueIndex.{QueueIndex}
-use Rattle.nqs_order.specs.declared.line.Entry.{Entry}
-use Rattle.nqs_order.specs.Indexed.{StandsForIndex, line_of, queue_of}
+use Rattle.nqs_index.specs.declared.index.Index.{Index}
+use Rattle.nqs_index.specs.declared.line.Entry.{Entry}
+use Rattle.nqs_index.specs.Indexed.{StandsForIndex, line_in}
 use Rattle.nqs_order.specs.ByIndex.{is_filled, is_free_device, free_device, has_free_device, may_serve, kind_allows, first_in}
-use Rattle.nqs_order.proofs.KeyedPlaces.{none_at}
+use Rattle.nqs_order.proofs.KeyedPlaces.{any_of}
 use Rattle.nqs_order.proofs.CountsOfRows.{kind_is}
 use Rattle.nqs_order.proofs.FirstOfLine.{first_same}
 
@@ -30,14 +29,6 @@ positive : (n : ℕ) → 0 < n → nat_lt 0 n ≡ true
 positive n some = grind (arith, nat_tests)
 
 module _ {A : Type 0} where
-  -- one that passes
-  any_of : (q : A → Bool) (xs : List A) (n : ℕ) (x : A) → slice_get xs n ≡ Some x → q x ≡ true → list_any q xs ≡ true
-  any_of q xs n x at is = of (list_any q xs) refl
-    where
-      of : (b : Bool) → list_any q xs ≡ b → b ≡ true
-      of true e = refl
-      of false e = absurd (true≢false (sym is ∙ none_at q xs n x e at))
-
   -- what follows from each that passes
   from_any : (p : A → Bool) (b : Bool) → ((x : A) → p x ≡ true → b ≡ true) → (xs : List A) → list_any p xs ≡ true → b ≡ true
   from_any p b follows [] h = absurd (true≢false (sym h))
@@ -47,8 +38,8 @@ module _ {A : Type 0} where
       of true e h rest = follows x e
       of false e h rest = rest h
 
-module _ {E : Type 0} (index : Index) (q : QueueIndex) (d : QueueDef) (now : ℕ) (s : State E) where
-  pub filled : (line : List Entry) → is_some (first_in index q d now s line) ≡ true → is_filled line ≡ true
+module _ {E : Type 0} (index : Index) (d : QueueDef) (now : ℕ) (s : State E) where
+  pub filled : (line : List Entry) → is_some (first_in index d now s line) ≡ true → is_filled line ≡ true
   filled [] h = absurd (true≢false (sym h))
   filled (e ∷ es) h = positive (length (e ∷ es)) (omega arith)
 
@@ -73,8 +64,8 @@ module _ {E : Type 0} (index : Index) (s : State E) where
           any_of (is_free_device index None s) d.devices n p.value p.at (any_forms r.job.forms p.value p.passes)
   serves Pipe d now r h = refl
 
-  module _ (stands : StandsForIndex index s) (order : IsInOrder s) (d : QueueDef) (now : ℕ) where
-    pub served : is_some (first_in index (queue_of s d) d now s (line_of d.name [] s.rows)) ≡ true → may_serve d.kind index d s ≡ true
+  module _ (stands : StandsForIndex index s.rows) (order : IsInOrder s) (d : QueueDef) (now : ℕ) where
+    pub served : is_some (first_in index d now s (line_in d.name index)) ≡ true → may_serve d.kind index d s ≡ true
     served h = from_any (by_rows.is_eligible d now s) (may_serve d.kind index d s) by s.rows
         (sym (best_is_some (by_rows.is_eligible d now s) comes_before 0 s.rows) ∙ sym (ap (λ o. is_some o) (first_same index s stands order d now)) ∙ h)
       where

@@ -1,11 +1,10 @@
 -- The scheduler's rules over an index: its counts in place of those of rows, and a queue's line in place of all rows.
-use Rattle.std.specs.Prelude.{ℕ, Bool, true, false, not, ◌&&◌, ◌||◌, ◌==◌, nat_lt, if◌then◌else◌, List, [], ◌∷◌, length, filter, position, slice_get, Option, None, Some, is_some}
+use Rattle.std.specs.Prelude.{ℕ, ◌-◌, Bool, true, not, ◌&&◌, ◌||◌, ◌==◌, nat_lt, if◌then◌else◌, List, [], ◌∷◌, length, position, slice_get, Option, None, Some, is_some}
 use Rattle.std.specs.List.{list_all, list_any}
 use Rattle.std.specs.Option.{option_map, option_and_then}
-use Rattle.nqs_values.specs.Same.{name_eq}
 use Rattle.nqs_keyed.specs.Table.{best_from}
 use Rattle.nqs_state.specs.State.{State}
-use Rattle.nqs_state.specs.Keys.{is_row, is_queue, is_complex}
+use Rattle.nqs_state.specs.Keys.{is_row}
 use Rattle.nqs_rules.specs.Tests.{passes, is_batch}
 use Rattle.nqs_rules.specs.Find.{has_name, find_device}
 use Rattle.nqs_rules.specs.Devices.{can_serve}
@@ -19,51 +18,54 @@ use Rattle.nqs_types.specs.declared.queue.QueueDef.{QueueDef}
 use Rattle.nqs_types.specs.declared.queue.ComplexDef.{ComplexDef}
 use Rattle.nqs_types.specs.declared.rule.Choice.{Choice}
 use Rattle.nqs_types.specs.declared.rule.Choice.TheVariants.{Launch, TooFar}
-use Rattle.nqs_order.specs.declared.index.Index.{Index}
-use Rattle.nqs_order.specs.declared.index.QueueIndex.{QueueIndex}
-use Rattle.nqs_order.specs.declared.line.Entry.{Entry}
+use Rattle.nqs_index.specs.declared.index.Index.{Index}
+use Rattle.nqs_index.specs.declared.line.Entry.{Entry}
+use Rattle.nqs_index.specs.declared.tally.Tally.TheVariants.{Active, Running, Owned, Printing}
+use Rattle.nqs_index.specs.Indexed.{counted_in, line_in}
 use Rattle.nqs_order.specs.Waiting.{is_waiting}
 
--- how many of a queue's active requests are the owner's
-abbrev pub owned : List ℕ → QueueIndex → ℕ
-owned owner q = length (filter (name_eq owner) q.owners)
-
 -- fewer requests of the owner are active in the queue than its user limit
-abbrev pub user_allows : QueueIndex → QueueDef → List ℕ → Bool
-user_allows q d owner = below (owned owner q) d.user_limit
+abbrev pub user_allows : Index → QueueDef → List ℕ → Bool
+user_allows index d owner = below (counted_in (Owned d.name owner) index) d.user_limit
+
+-- how many requests run in a queue, where it isn't one of the later ones
+abbrev pub running_once : Index → List ℕ → List (List ℕ) → ℕ
+running_once index q later = if has_name later q then 0 else counted_in (Running q) index
+
+-- fewer requests run in the queues of these names than a limit
+abbrev pub fewer_run : Index → ℕ → List (List ℕ) → Bool
+fewer_run index limit [] = nat_lt 0 limit
+fewer_run index limit (q ∷ qs) = nat_lt (running_once index q qs) limit && fewer_run index (limit - running_once index q qs) qs
+
+-- the queue isn't of the complex, or fewer requests run in the queues of the complex than its limit
+abbrev pub complex_allows : Index → List ℕ → ComplexDef → Bool
+complex_allows index q c = not (has_name c.queues q) || fewer_run index c.limit c.queues
+
+-- how many requests run in the queue, if it is a batch queue
+abbrev pub running_in_batch : Index → QueueDef → ℕ
+running_in_batch index d = if is_batch d.kind then counted_in (Running d.name) index else 0
+
+-- fewer requests run in the batch queues among these than a limit
+abbrev pub fewer_in_batch : Index → ℕ → List QueueDef → Bool
+fewer_in_batch index limit [] = nat_lt 0 limit
+fewer_in_batch index limit (d ∷ ds) = nat_lt (running_in_batch index d) limit && fewer_in_batch index (limit - running_in_batch index d) ds
 
 -- a line has an entry
 abbrev pub is_filled : List Entry → Bool
 is_filled line = nat_lt 0 (length line)
 
--- a number is below the complex's limit
-abbrev pub is_below : ComplexDef → ℕ → Bool
-is_below c n = nat_lt n c.limit
-
 module _ {E : Type 0} where
-  -- what is kept of a queue of the host
-  abbrev pub kept_of : Index → List ℕ → State E → Option QueueIndex
-  kept_of index name s = option_and_then (slice_get index.queues.items) (position (is_queue name) s.queues)
-
-  -- how many requests run in a complex of the host
-  abbrev pub count_of : Index → List ℕ → State E → Option ℕ
-  count_of index name s = option_and_then (slice_get index.complexes) (position (is_complex name) s.complexes)
-
-  -- the queue isn't of the complex, or fewer requests run in the complex than its limit
-  abbrev pub complex_allows : Index → List ℕ → State E → ComplexDef → Bool
-  complex_allows index q s c = not (has_name c.queues q) || passes (is_below c) (count_of index c.name s)
-
-  -- the complexes and the global limit allow another batch request
-  abbrev pub batch_allows : Index → List ℕ → State E → Bool
-  batch_allows index q s = list_all (complex_allows index q s) s.complexes && nat_lt index.batch s.global_limit
+  -- the global limit allows another batch request, and so do the complexes
+  abbrev pub batch_allows : Index → List ℕ → Bool → State E → Bool
+  batch_allows index q batch s = batch && list_all (complex_allows index q) s.complexes
 
   -- the queue's run limit, and for a batch queue those limits too
-  abbrev pub is_within_limits : Index → QueueIndex → QueueDef → State E → Bool
-  is_within_limits index q d s = nat_lt (length q.owners) d.run_limit && (not (is_batch d.kind) || batch_allows index d.name s)
+  abbrev pub is_within_limits : Index → QueueDef → Bool → State E → Bool
+  is_within_limits index d batch s = nat_lt (counted_in (Active d.name) index) d.run_limit && (not (is_batch d.kind) || batch_allows index d.name batch s)
 
   -- a device may take a request with these forms now
   abbrev pub is_free_device : Index → Option (List ℕ) → State E → List ℕ → Bool
-  is_free_device index forms s device = passes (can_serve forms) (find_device device s) && not (has_name index.printing device)
+  is_free_device index forms s device = passes (can_serve forms) (find_device device s) && not (nat_lt 0 (counted_in (Printing device) index))
 
   -- the place in the queue's list of its first device that is free and has the forms
   abbrev pub free_device : Index → QueueDef → Option (List ℕ) → State E → Option ℕ
@@ -86,8 +88,8 @@ module _ {E : Type 0} where
   kind_allows Pipe index d now s r = r.hops == 32 || is_some (destination d now s r)
 
   -- the row may start
-  abbrev pub is_eligible : Index → QueueIndex → QueueDef → ℕ → State E → Row E → Bool
-  is_eligible index q d now s r = is_waiting d now r && user_allows q d r.job.owner && kind_allows d.kind index d now s r
+  abbrev pub is_eligible : Index → QueueDef → ℕ → State E → Row E → Bool
+  is_eligible index d now s r = is_waiting d now r && user_allows index d r.job.owner && kind_allows d.kind index d now s r
 
   -- a place with a row
   abbrev pub placed_row : ℕ → Row E → ℕ × Row E
@@ -102,8 +104,8 @@ module _ {E : Type 0} where
   if_passes test p = if test p.1 then Some p else None
 
   -- the row of a request, with its place, if it may start
-  abbrev pub startable : Index → QueueIndex → QueueDef → ℕ → State E → RequestId → Option (ℕ × Row E)
-  startable index q d now s id = option_and_then (if_passes (is_eligible index q d now s)) (option_and_then (with_row s) (position (is_row id) s.rows))
+  abbrev pub startable : Index → QueueDef → ℕ → State E → RequestId → Option (ℕ × Row E)
+  startable index d now s id = option_and_then (if_passes (is_eligible index d now s)) (option_and_then (with_row s) (position (is_row id) s.rows))
 
   -- what was found, or else another one
   abbrev pub found_or : Option (ℕ × Row E) → Option (ℕ × Row E) → Option (ℕ × Row E)
@@ -111,31 +113,25 @@ module _ {E : Type 0} where
   found_or (Some p) other = Some p
 
   -- the row of the first entry whose row may start, with its place
-  abbrev pub first_in : Index → QueueIndex → QueueDef → ℕ → State E → List Entry → Option (ℕ × Row E)
-  first_in index q d now s [] = None
-  first_in index q d now s (e ∷ es) = found_or (startable index q d now s e.id) (first_in index q d now s es)
-
-  -- the same of the queue's line
-  abbrev pub first_of : Index → QueueDef → ℕ → State E → Option QueueIndex → Option (ℕ × Row E)
-  first_of index d now s None = None
-  first_of index d now s (Some q) = first_in index q d now s q.line
+  abbrev pub first_in : Index → QueueDef → ℕ → State E → List Entry → Option (ℕ × Row E)
+  first_in index d now s [] = None
+  first_in index d now s (e ∷ es) = found_or (startable index d now s e.id) (first_in index d now s es)
 
   -- the first row of a queue that may start
   abbrev pub first_eligible : Index → QueueDef → ℕ → State E → Option (ℕ × Row E)
-  first_eligible index d now s = first_of index d now s (kept_of index d.name s)
+  first_eligible index d now s = first_in index d now s (line_in d.name index)
 
-  -- the queue may start one more request, by what is kept of it
-  abbrev pub may_start : Index → ℕ → State E → QueueDef → Option QueueIndex → Bool
-  may_start index now s d None = false
-  may_start index now s d (Some q) = is_filled q.line && is_within_limits index q d s && may_serve d.kind index d s && is_some (first_in index q d now s q.line)
+  -- a queue with this line may start one more request
+  abbrev pub may_start : Index → Bool → ℕ → State E → QueueDef → List Entry → Bool
+  may_start index batch now s d line = is_filled line && is_within_limits index d batch s && may_serve d.kind index d s && is_some (first_in index d now s line)
 
   -- the queue is started, within its limits, and has an eligible row
-  abbrev pub is_candidate : Index → ℕ → State E → QueueDef → Bool
-  is_candidate index now s d = d.started && may_start index now s d (kept_of index d.name s)
+  abbrev pub is_candidate : Index → Bool → ℕ → State E → QueueDef → Bool
+  is_candidate index batch now s d = d.started && may_start index batch now s d (line_in d.name index)
 
   -- the queue that starts next
   abbrev pub next_queue : Index → ℕ → State E → Option (ℕ × QueueDef)
-  next_queue index now s = best_from (is_candidate index now s) is_greater 0 s.queues
+  next_queue index now s = best_from (is_candidate index (fewer_in_batch index s.global_limit s.queues) now s) is_greater 0 s.queues
 
   -- what is done with an eligible row
   abbrev pub choice_for : Kind → Index → QueueDef → ℕ → State E → ℕ → Row E → Option Choice

@@ -1,7 +1,5 @@
 pub mod Best
 pub mod ByIndex
-pub mod Indexed
-pub mod Keys
-pub mod Lines
+pub mod KeyOrder
 pub mod Places
 pub mod Waiting

@@ -2,86 +2,106 @@
 //! `specs/ByIndex.antt` has the rules over an index, which are those over the rows where it stands
 //! for them.
 
-ghost use Rattle.std.specs.Prelude.{◌≡◌, nat_lt, Some, is_some};
-ghost use Rattle.std.specs.List.{list_all};
+ghost use Rattle.std.specs.Prelude.{◌≡◌, Some, is_some};
 ghost use Rattle.std.specs.Option.{option_copied, option_map};
 ghost use Rattle.nqs_state.specs.State.{content};
-ghost use Rattle.nqs_rules.specs.Tests.{passes};
 ghost use Rattle.nqs_rules.specs.Devices.{has_forms, can_serve};
 ghost use Rattle.nqs_rules.specs.InOrder.{IsInOrder};
 ghost use Rattle.nqs_rules.specs.Order.{pick as pick_of_rules};
-ghost use Rattle.nqs_order.specs.Indexed.{StandsForIndex};
-ghost use Rattle.nqs_order.specs.ByIndex.{is_filled, is_below, user_allows, kept_of, complex_allows, batch_allows, is_within_limits, is_free_device, free_device, has_free_device, may_serve, kind_allows, is_eligible, startable, first_in, first_eligible, may_start, is_candidate, next_queue, choice_for, pick};
+ghost use Rattle.nqs_index.specs.Indexed.{StandsForIndex};
+ghost use Rattle.nqs_order.specs.ByIndex.{is_filled, user_allows, running_once, fewer_run, running_in_batch, fewer_in_batch, complex_allows, batch_allows, is_within_limits, is_free_device, free_device, has_free_device, may_serve, kind_allows, is_eligible, startable, first_in, first_eligible, may_start, is_candidate, next_queue, choice_for, pick};
 
 use crate::best::best_of;
 use crate::choice::{is_greater, move_to, print_on};
 use crate::eligible::is_waiting;
-use crate::index::{Index, QueueIndex};
-use crate::line::Entry;
 use nqs_devices::has_name;
+use nqs_index::{Index, Line, Tally};
 use nqs_routing::destination_in;
 use nqs_state::HostState;
 use nqs_types::{Choice, ComplexDef, DeviceDef, Kind, QueueDef, RequestId, Row};
 use nqs_values::Name;
 
-fn user_allows(kept: &QueueIndex, queue: &QueueDef, owner: &Name) -> bool
-    ensures { result ≡ user_allows kept.now queue.now owner.now }
+fn user_allows(index: &Index, queue: &QueueDef, owner: &Name) -> bool
+    ensures { result ≡ user_allows index.now queue.now owner.now }
 {
     match queue.user_limit {
-        Some(limit) => kept.owned(owner) < limit as usize,
+        Some(limit) => index.count(&Tally::Owned(queue.name, *owner)) < limit as usize,
         None => true,
     }
 }
 
-// Whether a number is below the complex's limit.
-fn is_below(complex: &ComplexDef, count: Option<usize>) -> bool
-    ensures { result ≡ passes (is_below complex.now) count }
+// How many requests run in a queue, where it isn't one of the later ones.
+fn running_once(index: &Index, queue: &Name, later: &[Name]) -> usize
+    ensures { result ≡ running_once index.now queue.now later.now }
 {
-    match count {
-        Some(count) => count < complex.limit as usize,
-        None => false,
+    if has_name(later, queue) {
+        return 0;
     }
+    index.count(&Tally::Running(*queue))
 }
 
-fn complex_allows(index: &Index, queue: &Name, state: &HostState, complex: &ComplexDef) -> bool
-    ensures { result ≡ complex_allows index.now queue.now (content state.now) complex.now }
+// Whether fewer requests run in the queues of these names than a limit.
+fn fewer_run(index: &Index, queues: &[Name], limit: usize) -> bool
+    ensures { result ≡ fewer_run index.now limit queues.now }
 {
-    !has_name(complex.queues.as_slice(), queue)
-        || is_below(complex, index.count_of(&complex.name, state))
-}
-
-fn global_allows(index: &Index, state: &HostState) -> bool
-    ensures { result ≡ nat_lt index.now.batch state.now.global_limit }
-{
-    index.batch() < state.global_limit as usize
-}
-
-fn complexes_allow(index: &Index, queue: &Name, state: &HostState) -> bool
-    ensures { result ≡ list_all (complex_allows index.now queue.now (content state.now)) state.now.complexes.items }
-{
-    let mut place = 0;
-    while place < state.complexes.len() {
-        let allowed = complex_allows(index, queue, state, state.complexes.at(place));
-        if !allowed {
+    let mut left = limit;
+    let mut rest = queues;
+    while let Some((queue, later)) = rest.split_first() {
+        let running = running_once(index, queue, later);
+        if running >= left {
             return false;
         }
-        place += 1;
+        left -= running;
+        rest = later;
     }
-    true
+    left > 0
 }
 
-fn batch_allows(index: &Index, queue: &Name, state: &HostState) -> bool
-    ensures { result ≡ batch_allows index.now queue.now (content state.now) }
+fn complex_allows(index: &Index, queue: &Name, complex: &ComplexDef) -> bool
+    ensures { result ≡ complex_allows index.now queue.now complex.now }
 {
-    complexes_allow(index, queue, state) && global_allows(index, state)
+    let queues = complex.queues.as_slice();
+    !has_name(queues, queue) || fewer_run(index, queues, complex.limit as usize)
+}
+
+fn running_in_batch(index: &Index, queue: &QueueDef) -> usize
+    ensures { result ≡ running_in_batch index.now queue.now }
+{
+    if queue.kind == Kind::Batch {
+        return index.count(&Tally::Running(queue.name));
+    }
+    0
+}
+
+// Whether fewer requests run in the batch queues of the host than its global limit.
+fn fewer_in_batch(index: &Index, state: &HostState) -> bool
+    ensures { result ≡ fewer_in_batch index.now state.now.global_limit state.now.queues.items }
+{
+    let mut left = state.global_limit as usize;
+    let mut place = 0;
+    while place < state.queues.len() {
+        let running = running_in_batch(index, state.queues.at(place));
+        if running >= left {
+            return false;
+        }
+        left -= running;
+        place += 1;
+    }
+    left > 0
+}
+
+fn batch_allows(index: &Index, queue: &Name, batch: bool, state: &HostState) -> bool
+    ensures { result ≡ batch_allows index.now queue.now batch (content state.now) }
+{
+    batch && state.complexes.all(|complex: &ComplexDef| complex_allows(index, queue, complex))
 }
 
 // A queue at its run limit is told by one count.
-fn is_within_limits(index: &Index, kept: &QueueIndex, queue: &QueueDef, state: &HostState) -> bool
-    ensures { result ≡ is_within_limits index.now kept.now queue.now (content state.now) }
+fn is_within_limits(index: &Index, queue: &QueueDef, batch: bool, state: &HostState) -> bool
+    ensures { result ≡ is_within_limits index.now queue.now batch (content state.now) }
 {
-    kept.active() < queue.run_limit as usize
-        && (queue.kind != Kind::Batch || batch_allows(index, &queue.name, state))
+    index.count(&Tally::Active(queue.name)) < queue.run_limit as usize
+        && (queue.kind != Kind::Batch || batch_allows(index, &queue.name, batch, state))
 }
 
 fn has_forms(device: &DeviceDef, forms: Option<&Name>) -> bool
@@ -103,7 +123,7 @@ fn is_free_device(index: &Index, forms: Option<&Name>, state: &HostState, device
     ensures { result ≡ is_free_device index.now (option_copied forms.entry) (content state.now) device.now }
 {
     match state.devices.get(device) {
-        Some(def) => can_serve(def, forms) && !index.prints_on(device),
+        Some(def) => can_serve(def, forms) && index.count(&Tally::Printing(*device)) == 0,
         None => false,
     }
 }
@@ -155,35 +175,27 @@ fn kind_allows(index: &Index, queue: &QueueDef, now: u64, state: &HostState, row
     }
 }
 
-fn is_eligible(
-    index: &Index,
-    kept: &QueueIndex,
-    queue: &QueueDef,
-    now: u64,
-    state: &HostState,
-    row: &Row,
-) -> bool
-    ensures { result ≡ is_eligible index.now kept.now queue.now now (content state.now) row.now }
+fn is_eligible(index: &Index, queue: &QueueDef, now: u64, state: &HostState, row: &Row) -> bool
+    ensures { result ≡ is_eligible index.now queue.now now (content state.now) row.now }
 {
     is_waiting(queue, now, row)
-        && user_allows(kept, queue, &row.job.owner)
+        && user_allows(index, queue, &row.job.owner)
         && kind_allows(index, queue, now, state, row)
 }
 
 // The row of a request, with its place, if it may start.
 fn startable<'a>(
     index: &Index,
-    kept: &QueueIndex,
     queue: &QueueDef,
     now: u64,
     state: &'a HostState,
     id: &RequestId,
 ) -> Option<(usize, &'a Row)>
-    ensures { option_map (λ p. (p.0, p.1.now)) result ≡ startable index.now kept.now queue.now now (content state.now) id.now }
+    ensures { option_map (λ p. (p.0, p.1.now)) result ≡ startable index.now queue.now now (content state.now) id.now }
 {
     let place = state.rows.place(id)?;
     let row = state.rows.at(place);
-    if is_eligible(index, kept, queue, now, state, row) {
+    if is_eligible(index, queue, now, state, row) {
         return Some((place, row));
     }
     None
@@ -192,17 +204,16 @@ fn startable<'a>(
 // The first row of a line that may start, with its place.
 fn first_in<'a>(
     index: &Index,
-    kept: &QueueIndex,
     queue: &QueueDef,
     now: u64,
     state: &'a HostState,
-    line: &[Entry],
+    line: &Line,
 ) -> Option<(usize, &'a Row)>
-    ensures { option_map (λ p. (p.0, p.1.now)) result ≡ first_in index.now kept.now queue.now now (content state.now) line.now }
+    ensures { option_map (λ p. (p.0, p.1.now)) result ≡ first_in index.now queue.now now (content state.now) line.now }
 {
     let mut place = 0;
     while place < line.len() {
-        let found = startable(index, kept, queue, now, state, &line[place].id);
+        let found = startable(index, queue, now, state, &line.at(place).id);
         if found.is_some() {
             return found;
         }
@@ -219,69 +230,54 @@ fn first_eligible<'a>(
 ) -> Option<(usize, &'a Row)>
     ensures { option_map (λ p. (p.0, p.1.now)) result ≡ first_eligible index.now queue.now now (content state.now) }
 {
-    match index.kept_of(&queue.name, state) {
-        Some(kept) => first_in(index, kept, queue, now, state, kept.line()),
-        None => None,
-    }
+    first_in(index, queue, now, state, index.line(&queue.name))
 }
 
-fn is_filled(line: &[Entry]) -> bool
+fn is_filled(line: &Line) -> bool
     ensures { result ≡ is_filled line.now }
 {
     0 < line.len()
 }
 
-fn has_eligible(
-    index: &Index,
-    kept: &QueueIndex,
-    queue: &QueueDef,
-    now: u64,
-    state: &HostState,
-) -> bool
-    ensures { result ≡ is_some (first_in index.now kept.now queue.now now (content state.now) kept.now.line) }
+fn has_eligible(index: &Index, queue: &QueueDef, now: u64, state: &HostState, line: &Line) -> bool
+    ensures { result ≡ is_some (first_in index.now queue.now now (content state.now) line.now) }
 {
-    first_in(index, kept, queue, now, state, kept.line()).is_some()
+    first_in(index, queue, now, state, line).is_some()
 }
 
 // A queue where no row waits, at its limits, or whose devices are all busy is told before its line
 // is gone over.
-fn kept_may_start(
+fn may_start(
     index: &Index,
-    kept: &QueueIndex,
-    queue: &QueueDef,
+    batch: bool,
     now: u64,
     state: &HostState,
+    queue: &QueueDef,
+    line: &Line,
 ) -> bool
-    ensures { result ≡ may_start index.now now (content state.now) queue.now (Some kept.now) }
+    ensures { result ≡ may_start index.now batch now (content state.now) queue.now line.now }
 {
-    is_filled(kept.line())
-        && is_within_limits(index, kept, queue, state)
+    is_filled(line)
+        && is_within_limits(index, queue, batch, state)
         && may_serve(index, queue, state)
-        && has_eligible(index, kept, queue, now, state)
-}
-
-fn may_start(index: &Index, now: u64, state: &HostState, queue: &QueueDef) -> bool
-    ensures { result ≡ may_start index.now now (content state.now) queue.now (kept_of index.now queue.now.name (content state.now)) }
-{
-    match index.kept_of(&queue.name, state) {
-        Some(kept) => kept_may_start(index, kept, queue, now, state),
-        None => false,
-    }
+        && has_eligible(index, queue, now, state, line)
 }
 
 // A queue that isn't started is told at once.
-fn is_candidate(index: &Index, now: u64, state: &HostState, queue: &QueueDef) -> bool
-    ensures { result ≡ is_candidate index.now now (content state.now) queue.now }
+fn is_candidate(index: &Index, batch: bool, now: u64, state: &HostState, queue: &QueueDef) -> bool
+    ensures { result ≡ is_candidate index.now batch now (content state.now) queue.now }
 {
-    queue.started && may_start(index, now, state, queue)
+    queue.started && may_start(index, batch, now, state, queue, index.line(&queue.name))
 }
 
+// What runs in batch queues is counted once, and not for each queue.
 fn next_queue<'a>(index: &Index, now: u64, state: &'a HostState) -> Option<(usize, &'a QueueDef)>
     ensures { option_map (λ p. (p.0, p.1.now)) result ≡ next_queue index.now now (content state.now) }
 {
+    let batch = fewer_in_batch(index, state);
     best_of(
         &state.queues,
-        |queue: &QueueDef| is_candidate(index, now, state, queue),
+        |queue: &QueueDef| is_candidate(index, batch, now, state, queue),
         |one: &QueueDef, other: &QueueDef| is_greater(one, other),
     )
 }
@@ -322,9 +318,9 @@ fn picked(index: &Index, state: &HostState, now: u64) -> Option<Choice>
 }
 
 /// What is started next at a moment, in seconds since 1970, as `pick` has it, told by an index that
-/// stands for the state. It takes no memory.
+/// stands for the state's rows. It takes no memory.
 pub fn pick_by(index: &Index, state: &HostState, now: u64) -> Option<Choice>
-    requires stands { StandsForIndex index.now (content state.now) }
+    requires stands { StandsForIndex index.now state.now.rows.items }
     requires order { IsInOrder (content state.now) }
     ensures { result ≡ pick_of_rules now (content state.now) }
 {

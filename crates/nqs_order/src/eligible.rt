@@ -113,7 +113,7 @@ pub(crate) fn first_row<'a>(
     ensures { option_map (λ p. (p.0, p.1.now)) result ≡ first_eligible queue.now now (content state.now) }
 {
     best_of(
-        &state.rows,
+        state.rows.table(),
         |row: &Row| is_eligible(state, queue, now, row),
         |one: &Row, other: &Row| comes_before(one, other),
     )

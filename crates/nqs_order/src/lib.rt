@@ -2,9 +2,8 @@
 //!
 //! `limits` has the limits of queues and complexes, `eligible` the first row of a queue that may start, `choice`
 //! the next start of the host, `best` the search for the best of a table.
-//! `index` keeps what may start in order, with its counts, for whoever doesn't want to look at all rows: `key` has
-//! what orders rows, `steps` the count of comparisons, `line` a queue's waiting rows, `by_index` the next start of
-//! the host, told by an index. Nothing calls it yet.
+//! `by_index` has the next start of the host, told by an index (`nqs_index`) with no look at all rows, `next` the
+//! one of both that the host's rows allow, and `laws` that the index's keys stand in the order of the rows.
 //! `nqs_rules/specs/Order.antt` has the rules.
 #![tactic(auto)]
 
@@ -12,18 +11,15 @@ mod best;
 mod by_index;
 mod choice;
 mod eligible;
-mod index;
-mod key;
+mod laws;
 mod limits;
-mod line;
-mod steps;
+mod next;
 
 pub use by_index::pick_by;
 pub use choice::pick;
 pub use eligible::{comes_before, first_eligible, is_eligible, kind_allows, user_allows};
-pub use index::{Index, QueueIndex, owners_count_rows};
-pub use key::Key;
+pub use laws::keys_order_rows;
 pub use limits::{complex_allows, global_allows, run_allows, within_limits};
-pub use line::{Entry, Line, keys_order_rows};
+pub use next::pick_next;
+pub use nqs_index::{Counter, Counters, Entry, Index, Key, Line, QueueLine, Seat, Steps, Tally};
 pub use nqs_types::Choice;
-pub use steps::Steps;

@@ -7,8 +7,7 @@ ghost use Rattle.nqs_handover.specs.Opened.{may_count_hops};
 
 use nqs_builders::{add, host, job, queue, row, text};
 use nqs_handover::{on_commit, on_inquire, on_offer, on_ready, on_tick, open_hand};
-use nqs_keyed::Table;
-use nqs_state::HostState;
+use nqs_state::{HostState, Rows};
 use nqs_types::{
     Body, Carried, Change, Dest, Hand, HostId, Kind, Output, Peer, Phase, Plan, Promise, QueueDef,
     RequestId, Row,
@@ -97,7 +96,7 @@ fn offered_row(alloc: Global) -> Row
 fn fill_rows(alloc: Global, state: &mut HostState) -> Result<(), Memory>
     ensures { OnOk result (IsTrue (may_count_hops (content state.new))) }
 {
-    let mut rows = Table::new(alloc);
+    let mut rows = Rows::new(alloc);
     rows.reserve(1)?;
     rows.push(offered_row(alloc));
     state.rows = rows;

@@ -1,6 +1,6 @@
 //! The lines as people see them, of a host with one of each thing.
 
-use nqs_builders::{add, host, queue, row};
+use nqs_builders::{add, add_row, host, queue, row};
 use nqs_lists::{show_lines, stat_lines};
 use nqs_state::HostState;
 use nqs_types::{ComplexDef, DeviceDef, Hold, QueueDef, Row};
@@ -67,7 +67,7 @@ fn fill_queues(alloc: Global, state: &mut HostState) -> Result<(), Memory> {
 
 fn fill_rows(alloc: Global, state: &mut HostState) -> Result<(), Memory> {
     add(&mut state.devices, device())?;
-    add(&mut state.rows, held_row(alloc))
+    add_row(&mut state.rows, held_row(alloc))
 }
 
 // One of each thing.

@@ -8,7 +8,7 @@ ghost use Rattle.nqs_rules.specs.InOrder.{IsInOrder};
 ghost use Rattle.nqs_plans_tests.specs.PlotHost.{plot_queue, plot_job, plot_row, plot_host, blank_host};
 
 use nqs_keyed::Table;
-use nqs_state::HostState;
+use nqs_state::{HostState, Rows};
 use nqs_step::start::start;
 use nqs_step::step::step;
 use nqs_types::{
@@ -127,7 +127,7 @@ fn host(alloc: Global, seq: u32) -> HostState
         queues: Table::new(alloc),
         complexes: Table::new(alloc),
         devices: Table::new(alloc),
-        rows: Table::new(alloc),
+        rows: Rows::new(alloc),
         hands: Table::new(alloc),
         promises: Table::new(alloc),
         peers: ListOf::new(alloc),

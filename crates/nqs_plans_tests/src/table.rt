@@ -1,6 +1,6 @@
 //! A handover of two hosts in the table: where its request lies, and the order of the rows.
 
-use nqs_builders::{add, host, row};
+use nqs_builders::{add, add_row, host, row};
 use nqs_state::HostState;
 use nqs_table::table_of;
 use nqs_types::{Hand, Hold, HostId, NetState, Phase, Promise, RequestId, Row, RowState, TableRow};
@@ -56,8 +56,8 @@ fn promise(alloc: Global, number: u64, seq: u32) -> Promise {
 
 // Two requests, and two handovers to beta of which the first is committed.
 fn fill_alpha(alloc: Global, alpha: &mut HostState) -> Result<(), Memory> {
-    add(&mut alpha.rows, known(alloc, ALPHA, 2, RowState::Running))?;
-    add(
+    add_row(&mut alpha.rows, known(alloc, ALPHA, 2, RowState::Running))?;
+    add_row(
         &mut alpha.rows,
         held(known(alloc, ALPHA, 1, RowState::Queued)),
     )?;
@@ -68,7 +68,7 @@ fn fill_alpha(alloc: Global, alpha: &mut HostState) -> Result<(), Memory> {
 // A request of its own, and a promise of each handover.
 fn fill_beta(alloc: Global, beta: &mut HostState) -> Result<(), Memory> {
     beta.me = BETA;
-    add(&mut beta.rows, known(alloc, BETA, 1, RowState::Queued))?;
+    add_row(&mut beta.rows, known(alloc, BETA, 1, RowState::Queued))?;
     add(&mut beta.promises, promise(alloc, 2, 4))?;
     add(&mut beta.promises, promise(alloc, 1, 3))
 }

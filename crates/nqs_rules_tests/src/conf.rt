@@ -1,6 +1,6 @@
 //! The refusals of edits of queues in their order, by hand.
 
-use nqs_builders::{add, host, queue, row};
+use nqs_builders::{add, add_row, host, queue, row};
 use nqs_conf::check_conf;
 use nqs_state::HostState;
 use nqs_types::{ConfEdit, Dest, HostId, Kind, NamedDest, QueueDef, Refusal};
@@ -38,7 +38,7 @@ fn fill(
     state.site = ListOf::from_vec(site.to_vec(alloc)?);
     add(&mut state.queues, queue(alloc, used))?;
     add(&mut state.queues, pipe(alloc, road, used)?)?;
-    add(&mut state.rows, row(alloc, 1, used, used))
+    add_row(&mut state.rows, row(alloc, 1, used, used))
 }
 
 fn create(queue: Name, host: Name) -> ConfEdit {

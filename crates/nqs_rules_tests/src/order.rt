@@ -1,11 +1,11 @@
 //! Which request starts next: by priority and arrival, and beside one that is held and one that is
 //! on its way.
 
-use nqs_builders::{add, host, queue, row};
+use nqs_builders::{add, add_row, host, queue, row};
 use nqs_keyed::Table;
 use nqs_order::{first_eligible, pick, within_limits};
-use nqs_state::HostState;
-use nqs_types::{Choice, Hold, QueueDef, RequestId, Row, RowState};
+use nqs_state::{HostState, Rows};
+use nqs_types::{Choice, Hold, QueueDef, Row, RowState};
 use nqs_values::{Memory, Name};
 use std::alloc::Global;
 use std::rt::HostRuntime;
@@ -55,19 +55,19 @@ fn fill_queues(alloc: Global, queues: &mut Table<Name, QueueDef>) -> Result<(), 
     add(queues, ranked_queue(alloc, jobs(), 20))
 }
 
-fn four_ranked(alloc: Global, rows: &mut Table<RequestId, Row>) -> Result<(), Memory> {
-    add(rows, ranked(alloc, low(), 63, 1))?;
-    add(rows, ranked(alloc, jobs(), 5, 2))?;
-    add(rows, ranked(alloc, jobs(), 7, 4))?;
-    add(rows, ranked(alloc, jobs(), 7, 3))
+fn four_ranked(alloc: Global, rows: &mut Rows) -> Result<(), Memory> {
+    add_row(rows, ranked(alloc, low(), 63, 1))?;
+    add_row(rows, ranked(alloc, jobs(), 5, 2))?;
+    add_row(rows, ranked(alloc, jobs(), 7, 4))?;
+    add_row(rows, ranked(alloc, jobs(), 7, 3))
 }
 
 // The first is held, and the second is on its way.
-fn two_stuck(alloc: Global, rows: &mut Table<RequestId, Row>) -> Result<(), Memory> {
-    add(rows, held(ranked(alloc, low(), 63, 1)))?;
-    add(rows, routing(ranked(alloc, jobs(), 63, 2)))?;
-    add(rows, ranked(alloc, jobs(), 63, 3))?;
-    add(rows, ranked(alloc, low(), 1, 4))
+fn two_stuck(alloc: Global, rows: &mut Rows) -> Result<(), Memory> {
+    add_row(rows, held(ranked(alloc, low(), 63, 1)))?;
+    add_row(rows, routing(ranked(alloc, jobs(), 63, 2)))?;
+    add_row(rows, ranked(alloc, jobs(), 63, 3))?;
+    add_row(rows, ranked(alloc, low(), 1, 4))
 }
 
 // The choices of a second before any request may start and of that second, and the first of each of

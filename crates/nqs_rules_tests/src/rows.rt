@@ -1,9 +1,9 @@
 //! The refusals of submissions and deletions in their order, by hand.
 
-use nqs_builders::{add, host, job, queue, row};
+use nqs_builders::{add, add_row, host, job, queue, row};
 use nqs_keyed::Table;
 use nqs_rows::{check_delete, check_submit};
-use nqs_state::HostState;
+use nqs_state::{HostState, Rows};
 use nqs_types::{HostId, Named, QueueDef, Refusal, RequestId, Row, RowState, Submission};
 use nqs_values::{ListOf, Memory, Name};
 use std::alloc::Global;
@@ -112,14 +112,9 @@ fn refused_submissions(rt: HostRuntime) -> Result<(), Fail> {
 }
 
 // As many requests as a host takes.
-fn fill_up(
-    alloc: Global,
-    rows: &mut Table<RequestId, Row>,
-    queue: Name,
-    owner: Name,
-) -> Result<(), Memory> {
+fn fill_up(alloc: Global, rows: &mut Rows, queue: Name, owner: Name) -> Result<(), Memory> {
     for seq in 1..=10_000u32 {
-        add(rows, row(alloc, seq, queue, owner))?;
+        add_row(rows, row(alloc, seq, queue, owner))?;
     }
     Ok(())
 }
@@ -176,8 +171,8 @@ fn fill_two(
     let [ann, oscar] = users;
     state.site = ListOf::from_vec(site.to_vec(alloc)?);
     state.operators = ListOf::of(alloc, oscar)?;
-    add(&mut state.rows, row(alloc, 1, ann, ann))?;
-    add(&mut state.rows, running(row(alloc, 2, ann, ann)))
+    add_row(&mut state.rows, row(alloc, 1, ann, ann))?;
+    add_row(&mut state.rows, running(row(alloc, 2, ann, ann)))
 }
 
 // A user, a request, whether it is to be killed, and the answer.

@@ -75,6 +75,62 @@ fn removal_keeps_the_order(rt: HostRuntime) -> Result<(), Fail> {
     Ok(())
 }
 
+// Five devices, of which the second left.
+fn without_second(devices: &mut Table<Name, DeviceDef>) -> Result<(), Fail> {
+    for bytes in [b"d1".as_slice(), b"d2", b"d3", b"d4", b"d5"] {
+        add(devices, device(bytes, false)?)?;
+    }
+    devices.remove_key(&name(b"d2")?);
+    Ok(())
+}
+
+// The places of the first, the second and the last.
+fn three_places(devices: &Table<Name, DeviceDef>) -> Result<[Option<usize>; 3], NameFault> {
+    let first = name(b"d1")?;
+    let second = name(b"d2")?;
+    let last = name(b"d5")?;
+    Ok([
+        devices.place(&first),
+        devices.place(&second),
+        devices.place(&last),
+    ])
+}
+
+fn places_left(alloc: Global) -> Result<[Option<usize>; 3], Fail> {
+    let mut devices = Table::new(alloc);
+    without_second(&mut devices)?;
+    Ok(three_places(&devices)?)
+}
+
+#[test]
+fn what_left_has_no_place(rt: HostRuntime) -> Result<(), Fail> {
+    let places = places_left(rt.alloc())?;
+    assert_eq!(rt; places, [Some(0), None, Some(3)]);
+    Ok(())
+}
+
+// The names once the second is there again, and the first left by its place.
+fn returned(alloc: Global, devices: &mut Table<Name, DeviceDef>) -> Result<Vec<u8>, Fail> {
+    without_second(devices)?;
+    add(devices, device(b"d2", true)?)?;
+    if devices.len() == 5 {
+        let _first = devices.remove(0);
+    }
+    Ok(names_of(alloc, devices)?)
+}
+
+fn names_returned(alloc: Global) -> Result<Vec<u8>, Fail> {
+    let mut devices = Table::new(alloc);
+    returned(alloc, &mut devices)
+}
+
+#[test]
+fn what_returns_is_last(rt: HostRuntime) -> Result<(), Fail> {
+    let names = names_returned(rt.alloc())?;
+    assert_eq!(rt; names.as_slice(), b"d3 d4 d5 d2 ".as_slice());
+    Ok(())
+}
+
 // Puts 3 behind two items, in memory that was kept.
 fn grow(spare: &mut Spare<u8>, list: &mut ListOf<u8>) -> Result<(), Memory> {
     spare.reserve(2)?;

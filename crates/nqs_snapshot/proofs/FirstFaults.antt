@@ -14,6 +14,7 @@ use Rattle.nqs_records.proofs.Numbers.{below}
 use Rattle.nqs_records.proofs.Steady.{Stays}
 use Rattle.nqs_records.proofs.FirstFaults.{both_bytes}
 use Rattle.std.proofs.lemmas.Bool.Decides.{nat_tests}
+use Rattle.nqs_values.proofs.Plain.{lt_is_true}
 use Rattle.nqs_snapshot.specs.declared.parts.Parts.{Parts}
 use Rattle.nqs_snapshot.specs.Spelling.{state_field}
 use Rattle.nqs_snapshot.specs.Sound.{is_sound}
@@ -51,14 +52,11 @@ followed bytes p n fits e less =
       is_place = omega (arith, here.1.behind);
     }
 
-before : (n m : ℕ) → n < m → nat_lt n m ≡ true
-before n m less = grind (arith, nat_tests)
-
 longer : (n : ℕ) (bytes more : List ℕ) → n < length bytes → n < length (bytes ++ more)
 longer n bytes more less = omega (arith, length-append bytes more, less)
 
 trailing_by : (bytes : List ℕ) (p : Parts) (n : ℕ) → parts_at bytes 0 ≡ Ok (p, n) → n < length bytes → whole_of bytes ≡ Err (Trailing n)
-trailing_by bytes p n e less = whole_is bytes (Ok (p, n)) e ∙ ap (λ (t : Bool). cond t (Err (Trailing n)) (Ok p)) (before n (length bytes) less)
+trailing_by bytes p n e less = whole_is bytes (Ok (p, n)) e ∙ ap (λ (t : Bool). cond t (Err (Trailing n)) (Ok p)) (lt_is_true n (length bytes) less)
 
 tells : (bytes more : List ℕ) → AreBytes bytes → Tells bytes (whole_of bytes) (whole_of (bytes ++ more))
 tells bytes more fits = by (parts_at bytes 0) refl (parts_steady bytes more 0)

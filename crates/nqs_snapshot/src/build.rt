@@ -10,7 +10,7 @@ ghost use Rattle.nqs_snapshot.specs.Blank.{with_counters};
 use crate::parts::{CounterPart, DealingPart, Parts, RequestPart, SitePart};
 use crate::tables::fill;
 use nqs_keyed::Table;
-use nqs_state::HostState;
+use nqs_state::{HostState, Rows};
 use nqs_types::HostId;
 use nqs_values::{ListOf, Spare};
 use std::alloc::{AllocError, Global};
@@ -25,7 +25,7 @@ fn blank(alloc: Global) -> HostState
         queues: Table::new(alloc),
         complexes: Table::new(alloc),
         devices: Table::new(alloc),
-        rows: Table::new(alloc),
+        rows: Rows::new(alloc),
         hands: Table::new(alloc),
         promises: Table::new(alloc),
         peers: ListOf::new(alloc),
@@ -71,7 +71,6 @@ fn fill_site(state: &mut HostState, part: SitePart) -> Result<bool, AllocError>
 
 // Whether no two requests are one, nor two handovers or promises.
 fn fill_requests(state: &mut HostState, part: RequestPart) -> Result<bool, AllocError>
-    requires rows { state.old.rows.items ≡ [] }
     requires hands { state.old.hands.items ≡ [] }
     requires promises { state.old.promises.items ≡ [] }
     ensures distinct { IfOk result (λ filled. filled ≡ are_requests_distinct part) }
@@ -82,7 +81,9 @@ fn fill_requests(state: &mut HostState, part: RequestPart) -> Result<bool, Alloc
         hands,
         promises,
     } = part;
-    let rows_differ = fill(&mut state.rows, rows)?;
+    let mut table = Table::new(state.rows.allocator());
+    let rows_differ = fill(&mut table, rows)?;
+    state.rows = Rows::from_table(table);
     let hands_differ = fill(&mut state.hands, hands)?;
     let promises_differ = fill(&mut state.promises, promises)?;
     Ok(rows_differ && hands_differ && promises_differ)

@@ -124,7 +124,7 @@ fn arrivals_differ(alloc: Global, state: &HostState) -> Result<bool, AllocError>
     ensures { IfOk result (λ differ. differ ≡ are_distinct same_number (arrivals_of (content state.now))) }
 {
     let mut numbers = Vec::new(alloc);
-    add_row_arrivals(&state.rows, &mut numbers)?;
+    add_row_arrivals(state.rows.table(), &mut numbers)?;
     add_promise_arrivals(&state.promises, &mut numbers)?;
     numbers_differ(alloc, numbers)
 }

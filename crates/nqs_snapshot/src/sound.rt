@@ -34,7 +34,7 @@ fn are_values_right(state: &HostState) -> bool
 {
     all_right(&state.queues, state)
         && all_right(&state.complexes, state)
-        && all_right(&state.rows, state)
+        && all_right(state.rows.table(), state)
         && all_right(&state.promises, state)
         && all_right(&state.hands, state)
         && are_peers_right(state)

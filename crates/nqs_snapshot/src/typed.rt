@@ -284,7 +284,7 @@ fn site_stands(state: &HostState)
 fn requests_stand(state: &HostState)
     ensures { AreTypedRequests (content state.now) }
 {
-    table_stands(&state.rows);
+    table_stands(state.rows.table());
     table_stands(&state.hands);
     table_stands(&state.promises);
 }

@@ -38,7 +38,7 @@ fn put_requests(state: &HostState, out: &mut Vec<u8>) -> Result<(), Memory>
     requires promises { AllByRecursion (λ p. IsTrue (is_sane_job p.row.job)) state.now.promises.items }
     ensures { Adds out.old.items (request_part (content state.now)) result out.new.items }
 {
-    put_table(&state.rows, out)?;
+    put_table(state.rows.table(), out)?;
     put_table(&state.hands, out)?;
     put_table(&state.promises, out)
 }

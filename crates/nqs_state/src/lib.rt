@@ -3,6 +3,8 @@
 #![tactic(auto)]
 
 mod room;
+mod rows;
 mod state;
 
+pub use rows::Rows;
 pub use state::{HostState, PeerList};

@@ -1,9 +1,10 @@
 //! All that a host holds.
 
+use crate::rows::Rows;
 use nqs_keyed::Table;
 use nqs_types::{
     ComplexDef, Dest, DeviceDef, FileOut, Hand, HostId, Peer, PeerNumber, Promise, QueueDef,
-    Refused, RequestId, Row, Stage,
+    Refused, Stage,
 };
 use nqs_values::{ListOf, Name, NameList, Spare};
 
@@ -17,7 +18,7 @@ pub struct HostState {
     pub queues: Table<Name, QueueDef>,
     pub complexes: Table<Name, ComplexDef>,
     pub devices: Table<Name, DeviceDef>,
-    pub rows: Table<RequestId, Row>,
+    pub rows: Rows,
     pub hands: Table<PeerNumber, Hand>,
     pub promises: Table<PeerNumber, Promise>,
     pub peers: PeerList,

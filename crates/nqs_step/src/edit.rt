@@ -61,7 +61,7 @@ fn add_row_kills(state: &HostState, plan: Plan, edit: &RowsEdit) -> Result<Plan,
 {
     match edit {
         RowsEdit::AbortQueue { queue } => {
-            fold_each(plan, &state.rows, |plan: Plan, row: &Row| {
+            fold_each(plan, state.rows.table(), |plan: Plan, row: &Row| {
                 kill_in(plan, row, queue)
             })
         }

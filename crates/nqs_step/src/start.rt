@@ -12,7 +12,7 @@ ghost use Rattle.nqs_rules.specs.Stepped.{plan_of};
 ghost use Rattle.nqs_step.specs.Started.{used_causes, started_row};
 
 use nqs_handover::{check_way, dest_at, offer_row};
-use nqs_order::pick;
+use nqs_order::pick_next;
 use nqs_plans::{add_kept, change_alone, refusal_number};
 use nqs_state::HostState;
 use nqs_types::{Change, Choice, Dest, LaunchOrder, Limits, Output, Plan, QueueDef, Refusal, Row};
@@ -217,7 +217,7 @@ pub fn start(alloc: Global, state: &HostState, now: u64) -> Result<Option<Plan>,
     requires { IsInOrder (content state.now) }
     ensures { IfOk result (λ plan. plan ≡ option_map plan_of (start now (content state.now))) }
 {
-    let Some(choice) = pick(state, now) else {
+    let Some(choice) = pick_next(state, now) else {
         return Ok(None);
     };
     match state.rows.get_at(row_place(choice)) {

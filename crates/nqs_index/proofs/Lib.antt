@@ -1,0 +1,7 @@
+pub mod LineLemmas
+pub mod Numbers
+pub mod OrderLemmas
+pub mod QueueLineLemmas
+pub mod SeatLemmas
+pub mod StandsLemmas
+pub mod TallyLemmas

@@ -1,0 +1,51 @@
+-- Seats of rows, as rows come, go and change.
+use Rattle.std.proofs.Common.{◌≡◌, ◌+◌, suc, Bool, true, false, List, [], ◌∷◌, ◌++◌, map, filter, find, length, Some, refl, sym, ap, ◌∙◌}
+use Rattle.std.specs.Prelude.{◌&&◌, cond}
+use Rattle.nqs_keyed.specs.Table.{change_first, without_first}
+use Rattle.nqs_types.specs.declared.request.Row.{Row}
+use Rattle.nqs_index.specs.declared.index.Index.{Index}
+use Rattle.nqs_index.specs.declared.seat.Seat.{Seat}
+use Rattle.nqs_index.specs.Indexed.{number, IsMore, Stands}
+use Rattle.nqs_index.specs.Seats.{seat_of, counts_for, waits_in, entry_of}
+use Rattle.nqs_index.specs.Tallies.{one}
+use Rattle.nqs_index.proofs.Numbers.{more_behind, more_found, more_changed}
+
+number-map : {A B : Type 0} (f : A → B) (p : B → Bool) (xs : List A) → number p (map f xs) ≡ number (λ x. p (f x)) xs
+number-map f p [] = refl
+number-map f p (x ∷ xs) = by (p (f x)) (number-map f p xs)
+  where
+    by : (b : Bool) → number p (map f xs) ≡ number (λ x. p (f x)) xs
+        → length (cond b (f x ∷ filter p (map f xs)) (filter p (map f xs))) ≡ length (cond b (x ∷ filter (λ x. p (f x)) xs) (filter (λ x. p (f x)) xs))
+    by true rest = ap suc rest
+    by false rest = rest
+
+module _ {E : Type 0} where
+  -- rows with one more, as seats with one more
+  mapped : (r : Row E) (xs ys : List (Row E)) → IsMore r xs ys → IsMore (seat_of r) (map seat_of xs) (map seat_of ys)
+  mapped r xs ys more p = number-map seat_of p ys ∙ more (λ r. p (seat_of r)) ∙ ap (λ n. n + one (p (seat_of r))) (sym (number-map seat_of p xs))
+
+  -- a row came
+  pub seat_added : (r : Row E) (rows : List (Row E)) → IsMore (seat_of r) (map seat_of rows) (map seat_of (rows ++ r ∷ []))
+  seat_added r rows = mapped r rows (rows ++ r ∷ []) (more_behind r rows)
+
+  -- a row goes
+  pub seat_gone : (t : Row E → Bool) (rows : List (Row E)) (r : Row E) → find t rows ≡ Some r
+      → IsMore (seat_of r) (map seat_of (without_first t rows)) (map seat_of rows)
+  seat_gone t rows r h = mapped r (without_first t rows) rows (more_found t rows r h)
+
+  -- a row changes
+  pub seat_changed : (t : Row E → Bool) (f : Row E → Row E) (rows : List (Row E)) (r : Row E) → find t rows ≡ Some r
+      → IsMore (seat_of (f r)) (map seat_of (without_first t rows)) (map seat_of (change_first t f rows))
+  seat_changed t f rows r h = mapped (f r) (without_first t rows) (change_first t f rows) (more_changed t f rows r h)
+
+-- seats of which as many pass each test, as others with the same one more
+pub same_more : (t : Seat) (ts us vs : List Seat) → IsMore t ts us → IsMore t ts vs → (p : Seat → Bool) → number p us ≡ number p vs
+same_more t ts us vs one other p = one p ∙ sym (other p)
+
+-- an index stands for seats of which as many pass each test
+pub same_stands : (i : Index) (us vs : List Seat) → ((p : Seat → Bool) → number p us ≡ number p vs) → Stands i us → Stands i vs
+same_stands i us vs same stands = record {
+  counts = λ k. stands.counts k ∙ same (counts_for k);
+  lines = λ q test. stands.lines q test ∙ same (λ t. waits_in q t && test (entry_of t));
+  order = stands.order;
+}

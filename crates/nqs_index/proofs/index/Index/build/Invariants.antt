@@ -1,0 +1,13 @@
+use Rattle.std.proofs.Common.{◌≤◌, ◌-◌, length, map, take}
+use Rattle.nqs_index.specs.Indexed.{Stands}
+use Rattle.nqs_index.specs.Seats.{seat_of}
+use Rattle.nqs_index.proofs.index.Index.build.Given as goal
+
+abbrev pub invariant-loop-place : goal.invariant-loop-place
+invariant-loop-place l = record {
+  within : l.place ≤ length l.rows.items;
+  stands : Stands l.index (map seat_of (take l.place l.rows.items));
+}
+
+abbrev pub decreases-loop-place : goal.decreases-loop-place
+decreases-loop-place l = length l.rows.items - l.place

@@ -1,0 +1,7 @@
+use Rattle.nqs_index.proofs.StandsLemmas.{entered}
+use Rattle.nqs_index.proofs.index.Index.enter.Goals as goal
+
+pub returns : goal.returns
+returns c ts us stands more done =
+    entered c.args.self.now (record { counters = c.count_in.new.counters; lines = c.line_up.new.lines; nobody = c.args.self.now.nobody }) c.args.seat.now ts us
+    stands more (c.count_in.ensures done) (c.line_up.ensures c.if-not-line_up.false)

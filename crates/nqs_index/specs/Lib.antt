@@ -1,0 +1,6 @@
+pub mod Indexed
+pub mod Keys
+pub mod Lines
+pub mod QueueLines
+pub mod Seats
+pub mod Tallies

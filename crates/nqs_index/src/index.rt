@@ -1,0 +1,223 @@
+//! A sorted index of a host's rows: for each queue those that wait without a hold, in the order in
+//! which they start, and how many rows are active or run, so that no limit needs a look at all of
+//! them. `specs/Indexed.antt` says what it is that stands for rows. It is kept row by row: one
+//! enters, one leaves.
+
+ghost use Rattle.std.specs.Prelude.{◌≡◌, ◌<◌, ◌≤◌, ◌+◌, ◌-◌, ◌*◌, ◌^◌, ℕ, List, [], length, slice_index_or, true, OnOk, OnErr, IfSome};
+ghost use Rattle.nqs_index.specs.declared.seat.Seat.{Seat as SeatValue};
+ghost use Rattle.nqs_index.specs.Indexed.{counted_in, line_in, lines_of, entered, IsMore, Stands, StandsForIndex};
+ghost use Rattle.nqs_index.specs.Lines.{entry_at};
+ghost use Rattle.nqs_index.specs.QueueLines.{placed_if, taken_if, entries_in};
+ghost use Rattle.nqs_index.specs.Seats.{counts_for, entry_of, waits_in, is_of_device, ones_of_active, ones_of_running};
+ghost use Rattle.nqs_index.specs.Tallies.{count_of, one};
+
+use crate::key::Key;
+use crate::line::Line;
+use crate::lines::{Lines, put, put_at, take};
+use crate::nobody::Nobody;
+use crate::seat::Seat;
+use crate::steps::Steps;
+use crate::tally::{Counters, Tally, count, lower, raise};
+use nqs_keyed::Table;
+use nqs_types::{RequestId, Row, RowState};
+use nqs_values::{Memory, Name};
+use std::alloc::Global;
+use std::sync::ledger::Ledger;
+
+/// What is kept of a host's rows.
+pub struct Index {
+    counters: Counters,
+    lines: Lines,
+    nobody: Nobody,
+}
+
+impl Drop for Index {
+    fn drop(self) {
+        let Index {
+            counters: _,
+            lines: _,
+            nobody: _,
+        } = self;
+    }
+}
+
+// A row that runs or is on its way is counted for its queue and its owner.
+fn count_active(counters: &mut Counters, seat: &Seat) -> bool
+    ensures { result ≡ true → (k : Tally) → count_of k counters.new.items ≡ count_of k counters.old.items + ones_of_active k seat.now }
+{
+    if !raise(counters, &Tally::Active(seat.queue)) {
+        return false;
+    }
+    raise(counters, &Tally::Owned(seat.queue, seat.owner))
+}
+
+// The device that a row runs on is counted, if it is on one.
+fn count_device(counters: &mut Counters, device: Option<Name>) -> bool
+    ensures { result ≡ true → (k : Tally) → count_of k counters.new.items ≡ count_of k counters.old.items + one (is_of_device k device) }
+{
+    match device {
+        Some(device) => raise(counters, &Tally::Printing(device)),
+        None => true,
+    }
+}
+
+// A row that runs is counted for its queue and its device.
+fn count_running(counters: &mut Counters, seat: &Seat) -> bool
+    ensures { result ≡ true → (k : Tally) → count_of k counters.new.items ≡ count_of k counters.old.items + ones_of_running k seat.now }
+{
+    if !raise(counters, &Tally::Running(seat.queue)) {
+        return false;
+    }
+    count_device(counters, seat.device)
+}
+
+// A row is counted under each of its tallies. False where a count can't be had.
+fn count_in(counters: &mut Counters, seat: &Seat) -> bool
+    ensures { result ≡ true → (k : Tally) → count_of k counters.new.items ≡ count_of k counters.old.items + one (counts_for k seat.now) }
+{
+    if seat.state == RowState::Queued {
+        return true;
+    }
+    if !count_active(counters, seat) {
+        return false;
+    }
+    if seat.state == RowState::Routing {
+        return true;
+    }
+    count_running(counters, seat)
+}
+
+fn count_out_device(counters: &mut Counters, device: Option<Name>)
+    ensures { (k : Tally) → count_of k counters.new.items ≡ count_of k counters.old.items - one (is_of_device k device) }
+{
+    match device {
+        Some(device) => lower(counters, &Tally::Printing(device)),
+        None => {}
+    }
+}
+
+// A row is counted no more under any of its tallies.
+fn count_out(counters: &mut Counters, seat: &Seat)
+    ensures { (k : Tally) → count_of k counters.new.items ≡ count_of k counters.old.items - one (counts_for k seat.now) }
+{
+    if seat.state == RowState::Queued {
+        return;
+    }
+    lower(counters, &Tally::Active(seat.queue));
+    lower(counters, &Tally::Owned(seat.queue, seat.owner));
+    if seat.state == RowState::Routing {
+        return;
+    }
+    lower(counters, &Tally::Running(seat.queue));
+    count_out_device(counters, seat.device);
+}
+
+// A row that waits without a hold comes into the line of its queue.
+fn line_up(lines: &mut Lines, seat: &Seat) -> bool
+    ensures { result ≡ true → (q : List ℕ) → entries_in q lines.new.items ≡ placed_if (waits_in q seat.now) (entry_of seat.now) (entries_in q lines.old.items) }
+{
+    if !seat.ready {
+        return true;
+    }
+    put(lines, &seat.queue, seat.key, seat.id)
+}
+
+fn step_out(lines: &mut Lines, seat: &Seat)
+    ensures { (q : List ℕ) → entries_in q lines.new.items ≡ taken_if (waits_in q seat.now) (entry_of seat.now) (entries_in q lines.old.items) }
+{
+    if !seat.ready {
+        return;
+    }
+    take(lines, &seat.queue, seat.key, seat.id);
+}
+
+impl Index {
+    /// An index of no rows.
+    pub fn empty(alloc: Global) -> Index
+        ensures { Stands result [] }
+    {
+        Index {
+            counters: Table::new(alloc),
+            lines: Table::new(alloc),
+            nobody: Nobody::new(alloc),
+        }
+    }
+
+    /// A row comes in. False where memory is wanting, where a count is at its end, or where there
+    /// would be more than 1,024 lines or 65,536 counters: those of names long gone stay, so that an
+    /// index that is made anew is smaller. After a false the index is of no use.
+    pub fn enter(&mut self, seat: &Seat) -> bool
+        ensures { (ts us : List SeatValue) → Stands self.old ts → IsMore seat.now ts us → result ≡ true → Stands self.new us }
+    {
+        if !line_up(&mut self.lines, seat) {
+            return false;
+        }
+        count_in(&mut self.counters, seat)
+    }
+
+    /// A row that is in goes.
+    pub fn leave(&mut self, seat: &Seat)
+        ensures { (ts us : List SeatValue) → Stands self.old us → IsMore seat.now ts us → Stands self.new ts }
+    {
+        step_out(&mut self.lines, seat);
+        count_out(&mut self.counters, seat);
+    }
+
+    /// The index of rows, where it can be had.
+    pub fn build(alloc: Global, rows: &Table<RequestId, Row>) -> Option<Index>
+        ensures { IfSome result (λ i. StandsForIndex i rows.now.items) }
+    {
+        let mut index = Index::empty(alloc);
+        let mut place = 0;
+        while place < rows.len() {
+            if !index.enter(&Seat::of(rows.at(place))) {
+                return None;
+            }
+            place += 1;
+        }
+        Some(index)
+    }
+
+    /// How many queues have a line.
+    pub fn len(&self) -> usize
+        ensures { result ≡ length (lines_of self.now) }
+    {
+        self.lines.len()
+    }
+
+    /// Puts a request into the line at a place, from 0, behind those of equal keys: twice to the
+    /// power of the comparisons is at most twice the line's length, and one. An `Err` changes no
+    /// line.
+    pub fn insert<L: Ledger>(
+        &mut self,
+        queue: usize,
+        key: Key,
+        id: RequestId,
+        steps: &mut Steps<L>,
+    ) -> Result<(), Memory>
+        requires { queue < length (lines_of self.old) }
+        ensures ok { OnOk result (lines_of self.new ≡ entered queue (entry_at key id) (lines_of self.old)) }
+        ensures err { OnErr result (lines_of self.new ≡ lines_of self.old) }
+        ensures rises { steps.old ≤ steps.new }
+        ensures cost { 2 ^ (steps.new - steps.old) ≤ 2 * length (slice_index_or (lines_of self.old) queue []) + 1 }
+    {
+        put_at(&mut self.lines, queue, key, id, steps)
+    }
+
+    /// How many rows are counted under a tally.
+    pub fn count(&self, tally: &Tally) -> usize
+        ensures { result ≡ counted_in tally.now self.now }
+    {
+        count(&self.counters, tally)
+    }
+
+    /// The rows of a queue that wait without a hold, in the order in which they start.
+    pub fn line(&self, queue: &Name) -> &Line
+        ensures { result.now ≡ line_in queue.now self.now }
+    {
+        match self.lines.get(queue) {
+            Some(line) => &line.line,
+            None => self.nobody.line(),
+        }
+    }
+}

@@ -1,0 +1,24 @@
+//! A sorted index of a host's rows: what may start, in order, and how many rows count under what
+//! a limit asks for.
+//!
+//! `key` has what orders rows, `steps` the count of comparisons, `line` a queue's waiting rows,
+//! `lines` the lines of all queues, `tally` the counts, `seat` what an index sees of a row, `index`
+//! all of it. `specs/Indexed.antt` says which index stands for which rows.
+#![tactic(auto)]
+
+mod index;
+mod key;
+mod line;
+mod lines;
+mod nobody;
+mod seat;
+mod steps;
+mod tally;
+
+pub use index::Index;
+pub use key::Key;
+pub use line::{Entry, Line};
+pub use lines::{Lines, QueueLine};
+pub use seat::Seat;
+pub use steps::Steps;
+pub use tally::{Counter, Counters, Tally};
