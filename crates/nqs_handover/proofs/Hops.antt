@@ -3,6 +3,7 @@ use Rattle.std.proofs.Common.{◌≡◌, ◌<◌, ℕ, zero, suc, Bool, true, fa
 use Rattle.std.proofs.lemmas.Bool.Decides.{nat_tests}
 use Rattle.std.proofs.lemmas.Option.{same_Some, none-some}
 use Rattle.std.specs.List.{list_all}
+use Rattle.std.proofs.lemmas.Bool.{and_parts}
 use Rattle.nqs_state.specs.State.{State}
 use Rattle.nqs_types.specs.declared.ids.RequestId.{RequestId}
 use Rattle.nqs_types.specs.declared.request.Row.{Row}
@@ -10,16 +11,12 @@ use Rattle.nqs_rules.specs.Find.{find_row}
 use Rattle.nqs_rules.proofs.ListFacts.{list_all-found}
 use Rattle.nqs_handover.specs.Opened.{may_count_hop, may_count_hops}
 
-both : (a b : Bool) → (a && b) ≡ true → (a ≡ true) × (b ≡ true)
-both true b h = (refl, h)
-both false b h = absurd (true≢false (sym h))
-
 module _ {V : Type 0} (p : V → Bool) where
   -- what holds of all holds of the one at a place
   pub list_all-at : (vs : List V) (i : ℕ) (v : V) → list_all p vs ≡ true → slice_get vs i ≡ Some v → p v ≡ true
   list_all-at [] i v h there = absurd (none-some v there)
-  list_all-at (x ∷ vs) zero v h there = subst (λ y. p y ≡ true) (same_Some x v there) (both (p x) (list_all p vs) h).0
-  list_all-at (x ∷ vs) (suc i) v h there = list_all-at vs i v (both (p x) (list_all p vs) h).1 there
+  list_all-at (x ∷ vs) zero v h there = subst (λ y. p y ≡ true) (same_Some x v there) (and_parts (p x) (list_all p vs) h).0
+  list_all-at (x ∷ vs) (suc i) v h there = list_all-at vs i v (and_parts (p x) (list_all p vs) h).1 there
 
 module _ {E : Type 0} (s : State E) (all : IsTrue (may_count_hops s)) where
   few : (r : Row E) → may_count_hop r ≡ true → r.hops < 255

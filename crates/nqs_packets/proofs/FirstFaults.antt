@@ -6,6 +6,7 @@ use Rattle.std.specs.declared.result.Result.{Result}
 use Rattle.std.proofs.lemmas.Bool.{eqb-true}
 use Rattle.std.proofs.lemmas.List.{length-drop}
 use Rattle.std.proofs.lemmas.Bool.Decides.{nat_tests}
+use Rattle.nqs_values.proofs.Plain.{lt_is_true}
 use Rattle.nqs_types.specs.declared.message.Message.{Message}
 use Rattle.nqs_codec.specs.Fields.{u8_field}
 use Rattle.nqs_records.specs.declared.fault.RecordFault.TheVariants as record_fault
@@ -179,16 +180,13 @@ kind_is (v ∷ []) fits has = absurd has
 kind_is (v ∷ k ∷ rest) fits has =
     subst (λ (n : ℕ). message_of (n ∷ k ∷ rest) ≡ Err fault.Kind) (sym has.0) (other_kind k rest (subst (λ (n : ℕ). AreBytes (n ∷ k ∷ rest)) has.0 fits) has.1)
 
-before : (n m : ℕ) → n < m → nat_lt n m ≡ true
-before n m less = grind (arith, nat_tests)
-
 trailing_of : (m : Message) (rest : List ℕ) → AreBytes (spelling m ++ rest) → MaySend m → 0 < length rest
     → message_of (spelling m ++ rest) ≡ Err (fault.Trailing (length (spelling m)))
 unfolding spelling rest_of u8_field
 trailing_of m rest fits may some =
     let tail = behind m ++ rest in
     let there = message_taken m (1 ∷ tail) rest 1 fits may refl in
-    let over = before (1 + length (behind m)) (length (1 ∷ tail)) (omega (arith, length-append (behind m) rest, some)) in
+    let over = lt_is_true (1 + length (behind m)) (length (1 ∷ tail)) (omega (arith, length-append (behind m) rest, some)) in
     version_one tail fits
     ∙ ap or_packet_fault
     (step (message_at (1 ∷ tail) 1) (λ v. cond (nat_lt v.1 (length (1 ∷ tail))) (Err (record_fault.Trailing v.1)) (Ok v.0)) _ there

@@ -3,6 +3,7 @@ use Rattle.std.proofs.Common.{◌≡◌, ◌⊎◌, inl, inr, ℕ, zero, suc, �
 use Rattle.std.proofs.Common.{nat_lt, refl, ap, sym, ◌∙◌, arith}
 use Rattle.std.proofs.lemmas.Bool.Decides.{nat_tests}
 use Rattle.std.proofs.lemmas.List.{drop_all}
+use Rattle.nqs_values.proofs.Plain.{lt_of_true, le_of_false, no_two}
 use Rattle.nqs_types.specs.declared.fault.WordsFault.{WordsFault}
 use Rattle.nqs_types.specs.declared.fault.WordsCause.TheVariants as cause
 use Rattle.nqs_types.specs.declared.event.Submission.{Submission}
@@ -26,19 +27,13 @@ at_end : (script : List ℕ) (place : ℕ) → length script ≤ place → line_
 unfolding line_kind
 at_end script place past = rw (drop_all place script past) refl
 
-is_below : (a b : ℕ) → nat_lt a b ≡ true → a < b
-is_below a b t = grind (arith, nat_tests)
-
-is_past : (a b : ℕ) → nat_lt a b ≡ false → b ≤ a
-is_past a b t = grind (arith, nat_tests)
-
 -- a line that isn't the last that is looked at begins within the script
 inside : (script : List ℕ) (place : ℕ) (k : LineKind) → line_kind (drop place script) ≡ k → (k ≡ Last → ⊥) → place < length script
 inside script place k is other = by (nat_lt place (length script)) refl
   where
     by : (t : Bool) → nat_lt place (length script) ≡ t → place < length script
-    by true e = is_below place (length script) e
-    by false e = absurd (other (sym is ∙ at_end script place (is_past place (length script) e)))
+    by true e = lt_of_true place (length script) e
+    by false e = absurd (other (sym is ∙ at_end script place (le_of_false place (length script) e)))
 
 further : (script : List ℕ) (place : ℕ) → place < length script → place < next_line script place
 unfolding next_line line_end
@@ -178,9 +173,6 @@ reads-both words script =
     (λ (command : Options). reads-map (script_options (length script) script 1 0 no_options) (merged command) (ScriptGives script) (ScriptFails script)
     (reads-script script))
 
-no_two : {P : Type 0} (a b : ℕ) → a < b → b ≤ a → P
-no_two a b less past = absurd (omega arith)
-
 reads : (words : List (List ℕ)) (script : List ℕ) → Reads (qsub_options words script) (Says words script) (Faults words script)
 unfolding qsub_options
 reads words script = by (nat_lt 32768 (length script)) refl
@@ -188,20 +180,20 @@ reads words script = by (nat_lt 32768 (length script)) refl
     by : (t : Bool) → nat_lt 32768 (length script) ≡ t → Reads (cond t (Err (fault_at 0 0 cause.ScriptTooLong)) (both_options words script)) (Says words script)
         (Faults words script)
     by true e = (
-      (λ o. ((λ h. cc), (λ h. no_two 32768 (length script) (is_below 32768 (length script) e) h.0))),
-      (λ x. ((λ h. inl (is_below 32768 (length script) e, cc)), from x)),
+      (λ o. ((λ h. cc), (λ h. no_two 32768 (length script) (lt_of_true 32768 (length script) e) h.0))),
+      (λ x. ((λ h. inl (lt_of_true 32768 (length script) e, cc)), from x)),
     )
       where
         from : (x : WordsFault) → Faults words script x → ◌≡◌ {A = Read Options} (Err (fault_at 0 0 cause.ScriptTooLong)) (Err x)
         from x (inl h) = ap (λ (y : WordsFault). Err y) (sym h.1)
-        from x (inr h) = no_two 32768 (length script) (is_below 32768 (length script) e) h.0
+        from x (inr h) = no_two 32768 (length script) (lt_of_true 32768 (length script) e) h.0
     by false e = (
-      (λ o. ((λ h. (is_past 32768 (length script) e, ((reads-both words script).0 o).0 h)), (λ h. ((reads-both words script).0 o).1 h.1))),
-      (λ x. ((λ h. inr (is_past 32768 (length script) e, ((reads-both words script).1 x).0 h)), from x)),
+      (λ o. ((λ h. (le_of_false 32768 (length script) e, ((reads-both words script).0 o).0 h)), (λ h. ((reads-both words script).0 o).1 h.1))),
+      (λ x. ((λ h. inr (le_of_false 32768 (length script) e, ((reads-both words script).1 x).0 h)), from x)),
     )
       where
         from : (x : WordsFault) → Faults words script x → both_options words script ≡ Err x
-        from x (inl h) = no_two 32768 (length script) h.0 (is_past 32768 (length script) e)
+        from x (inl h) = no_two 32768 (length script) h.0 (le_of_false 32768 (length script) e)
         from x (inr h) = ((reads-both words script).1 x).1 h.1
 
 -- ---- the laws

@@ -8,18 +8,11 @@ use Rattle.nqs_types.specs.declared.fault.WordsFault.{WordsFault}
 use Rattle.nqs_types.specs.declared.fault.WordsCause.TheVariants as cause
 use Rattle.nqs_words.specs.Values.{is_name, name_of}
 use Rattle.nqs_words.proofs.Names.{name_passes}
-use Rattle.nqs_words.proofs.Requests.{name-is, is-name, no-name}
+use Rattle.nqs_words.proofs.Requests.{name-is, is-name, no-name, named}
 use Rattle.nqs_query.specs.Words.{Read, Asked, ◌>>=◌, fault_at, with_name, names_of, or_bad_name, is_user_option, of_user, of_all, stat_of}
 use Rattle.nqs_query.specs.Spelled.{user_words, stat_words, AreNames, MayBeName, SaysStatOrFaults, ReadsStats}
 
 -- ---- names
-
-named : (word : List ℕ) → (IsName word × (name_of word ≡ Some word)) ⊎ ((IsName word → ⊥) × (name_of word ≡ None))
-named word = by (name_of word) refl
-  where
-    by : (o : Option (List ℕ)) → name_of word ≡ o → (IsName word × (name_of word ≡ Some word)) ⊎ ((IsName word → ⊥) × (name_of word ≡ None))
-    by (Some name) is = let n = name-is word name is in inl (n.0, is-name word n.0)
-    by None is = inr ((λ h. let some : ◌≡◌ {A = Option (List ℕ)} None (Some word) = sym is ∙ is-name word h in cc), is)
 
 -- names come first, then one that is none
 pub record Stops (words : List (List ℕ)) (place : ℕ) : Type 0 where

@@ -2,6 +2,8 @@
 use Rattle.std.proofs.Common.{◌≡◌, Bool, true, false, cond, not, ◌&&◌, ◌||◌, List, [], ◌∷◌, ◌++◌, map, find, Option, None, Some, refl, sym, ap, ◌∙◌, true≢false}
 use Rattle.std.proofs.Common.{inl, inr, if◌then◌else◌}
 use Rattle.std.specs.List.{list_all}
+use Rattle.std.proofs.lemmas.Bool.{and_parts}
+use Rattle.nqs_values.proofs.Plain.{or_last}
 use Rattle.nqs_rules.proofs.ListFacts.{not_true, list_all-weaker}
 use Rattle.nqs_rules.specs.Reasons.{Conditions, first_failing}
 use Rattle.nqs_reasons.specs.Chosen.{all_hold, IsFirstFailing}
@@ -24,30 +26,16 @@ module _ {V A : Type 0} (holds : V → Bool) (said : V → A) where
       by true later = later
       by false later = refl
 
--- of two tests that both pass, each does
-pub both_parts : (a b : Bool) → (a && b) ≡ true → (a ≡ true) × (b ≡ true)
-both_parts true b h = (refl, h)
-both_parts false b h = absurd (true≢false (sym h))
-
--- of two tests one of which passes, one does
-pub or_true : (a b : Bool) → b ≡ true → (a || b) ≡ true
-or_true true b h = refl
-or_true false b h = h
-
 pub and_true : (b : Bool) → (b && true) ≡ b
 and_true true = refl
 and_true false = refl
-
-pub and_false : (b : Bool) → (b && false) ≡ false
-and_false true = refl
-and_false false = refl
 
 module _ {A : Type 0} where
   -- what no failing condition tells isn't told
   pub not_told : (p : A → Bool) (cs : Conditions A) (last : A) → list_all (λ c. c.0 || not (p c.1)) cs ≡ true → p last ≡ false
       → p (first_failing cs last) ≡ false
   not_told p [] last none isnt = isnt
-  not_told p (c ∷ cs) last none isnt = by c.0 (both_parts (c.0 || not (p c.1)) _ none).0 (not_told p cs last (both_parts (c.0 || not (p c.1)) _ none).1 isnt)
+  not_told p (c ∷ cs) last none isnt = by c.0 (and_parts (c.0 || not (p c.1)) _ none).0 (not_told p cs last (and_parts (c.0 || not (p c.1)) _ none).1 isnt)
     where
       by : (b : Bool) → (b || not (p c.1)) ≡ true → p (first_failing cs last) ≡ false → p (if b then first_failing cs last else c.1) ≡ false
       by true here rest = rest
@@ -57,20 +45,20 @@ module _ {A : Type 0} where
   pub told_last : (p : A → Bool) (cs : Conditions A) (last : A) → list_all (λ c. not (p c.1)) cs ≡ true → p last ≡ true
       → p (first_failing cs last) ≡ all_hold cs
   told_last p [] last none is = is
-  told_last p (c ∷ cs) last none is = by c.0 (told_last p cs last (both_parts (not (p c.1)) _ none).1 is)
+  told_last p (c ∷ cs) last none is = by c.0 (told_last p cs last (and_parts (not (p c.1)) _ none).1 is)
     where
       by : (b : Bool) → p (first_failing cs last) ≡ all_hold cs → p (if b then first_failing cs last else c.1) ≡ (b && all_hold cs)
       by true rest = rest
-      by false rest = not_true (p c.1) (both_parts (not (p c.1)) _ none).0
+      by false rest = not_true (p c.1) (and_parts (not (p c.1)) _ none).0
 
   -- the same, where no condition tells it
   pub not_said : (p : A → Bool) (cs : Conditions A) (last : A) → list_all (λ c. not (p c.1)) cs ≡ true → p last ≡ false → p (first_failing cs last) ≡ false
   not_said p cs last none isnt =
-      not_told p cs last (list_all-weaker (λ c. not (p c.1)) (λ c. c.0 || not (p c.1)) (λ c h. or_true c.0 (not (p c.1)) h) cs none) isnt
+      not_told p cs last (list_all-weaker (λ c. not (p c.1)) (λ c. c.0 || not (p c.1)) (λ c h. or_last c.0 (not (p c.1)) h) cs none) isnt
 
   pub all_passed : (cs : Conditions A) (last : A) → all_hold cs ≡ true → first_failing cs last ≡ last
   all_passed [] last h = refl
-  all_passed (c ∷ cs) last h = ap (λ b. if b then first_failing cs last else c.1) (both_parts c.0 _ h).0 ∙ all_passed cs last (both_parts c.0 _ h).1
+  all_passed (c ∷ cs) last h = ap (λ b. if b then first_failing cs last else c.1) (and_parts c.0 _ h).0 ∙ all_passed cs last (and_parts c.0 _ h).1
 
   pub failing_first : (cs : Conditions A) (last : A) → IsFirstFailing cs last (first_failing cs last)
   failing_first [] last = inr (refl, refl)
@@ -87,5 +75,5 @@ module _ {A : Type 0} where
       passed : (front : Conditions A) → all_hold front ≡ true → first_failing (front ++ (false, answer) ∷ rest) last ≡ answer
       passed [] h = refl
       passed (c ∷ front) h =
-          ap (λ b. if b then first_failing (front ++ (false, answer) ∷ rest) last else c.1) (both_parts c.0 _ h).0 ∙ passed front (both_parts c.0 _ h).1
+          ap (λ b. if b then first_failing (front ++ (false, answer) ∷ rest) last else c.1) (and_parts c.0 _ h).0 ∙ passed front (and_parts c.0 _ h).1
   failing_only cs last answer (inr (holds, e)) = e ∙ sym (all_passed cs last holds)

@@ -8,6 +8,8 @@ use Rattle.std.proofs.lemmas.List.Folds.{find_at}
 use Rattle.std.proofs.lemmas.Map.Keys.{any_passes_from_place}
 use Rattle.std.specs.List.{list_any, position_or_len}
 use Rattle.std.specs.Option.{IfSome}
+use Rattle.std.proofs.lemmas.Bool.{and_parts}
+use Rattle.std.proofs.Math.Bool.{and-false}
 use Rattle.nqs_values.specs.Same.{name_eq, name_exact}
 use Rattle.nqs_state.specs.State.{Plain}
 use Rattle.nqs_state.specs.Keys.{is_queue}
@@ -26,7 +28,6 @@ use Rattle.nqs_rules.proofs.PickLaws.{eligible_parts, picked_is, picked_is_some}
 use Rattle.nqs_types.specs.declared.reason.Reason.TheVariants.{Next}
 use Rattle.nqs_rules.specs.Reasons.{goes_first, waits_before, count_before, reason_of}
 use Rattle.nqs_reasons.specs.Chosen.{is_next, StartsBefore, IsAtOrBefore}
-use Rattle.nqs_reasons.proofs.Failing.{both_parts, and_false}
 use Rattle.nqs_reasons.proofs.Next.{found_named, next_is, next_without, next_count, next_said}
 
 -- lists
@@ -36,7 +37,7 @@ not_again : (x : ℕ) (xs ys : List ℕ) (k n : ℕ) → are_distinct same_numbe
 not_again x xs ys k n apart is again =
     true≢false (sym (any-before (same_number x) xs ys
     (any_passes_from_place (same_number x) xs k n again (subst (λ m. same_number m n ≡ true) (sym is) (same_it n))))
-    ∙ not_true (list_any (same_number x) (xs ++ ys)) (both_parts (not (list_any (same_number x) (xs ++ ys))) _ apart).0)
+    ∙ not_true (list_any (same_number x) (xs ++ ys)) (and_parts (not (list_any (same_number x) (xs ++ ys))) _ apart).0)
 
 -- where numbers differ all, one of a front of them has one place
 distinct_places : (xs ys : List ℕ) (k l n : ℕ) → are_distinct same_number (xs ++ ys) ≡ true → slice_get xs k ≡ Some n → slice_get xs l ≡ Some n → k ≡ l
@@ -45,7 +46,7 @@ distinct_places (x ∷ xs) ys zero zero n apart at again = refl
 distinct_places (x ∷ xs) ys zero (suc l) n apart at again = absurd (not_again x xs ys l n apart (same_Some x n at) again)
 distinct_places (x ∷ xs) ys (suc k) zero n apart at again = absurd (not_again x xs ys k n apart (same_Some x n again) at)
 distinct_places (x ∷ xs) ys (suc k) (suc l) n apart at again =
-    ap suc (distinct_places xs ys k l n (both_parts (not (list_any (same_number x) (xs ++ ys))) _ apart).1 at again)
+    ap suc (distinct_places xs ys k l n (and_parts (not (list_any (same_number x) (xs ++ ys))) _ apart).1 at again)
 
 -- what none passes has no length
 none_counted : {V : Type 0} (p : V → Bool) (vs : List V) → ((k : ℕ) (v : V) → slice_get vs k ≡ Some v → p v ≡ false) → length (filter p vs) ≡ 0
@@ -99,16 +100,10 @@ as_great a b h g = numbers a.priority b.priority h g
     numbers : (p q : ℕ) → nat_lt q p ≡ false → nat_lt p q ≡ false → p ≡ q
     numbers p q h g = grind (arith, nat_tests)
 
-not_both : (a b : QueueDef) → is_greater a b ≡ true → is_greater b a ≡ false
-not_both a b h = numbers a.priority b.priority h
-  where
-    numbers : (p q : ℕ) → nat_lt q p ≡ true → nat_lt p q ≡ false
-    numbers p q h = grind (arith, nat_tests)
-
 -- a queue that may start a request has parts
 may_parts : (now : ℕ) (s : Plain) (d : QueueDef) (r : PlainRow) → (may_start now s d && is_eligible d now s r) ≡ true
     → (may_start now s d ≡ true) × (is_eligible d now s r ≡ true)
-may_parts now s d r h = both_parts (may_start now s d) (is_eligible d now s r) h
+may_parts now s d r h = and_parts (may_start now s d) (is_eligible d now s r) h
 
 module _ (now : ℕ) (s : Plain) where
   -- the next queue starts before any other that may start a request, or is that one
@@ -184,12 +179,12 @@ module _ (now : ℕ) (s : Plain) where
       ready name q = name_eq name q.queue && is_ready q && nat_le q.job.earliest now
 
       leading : (a b c : Bool) → (a && b && c) ≡ true → a ≡ true
-      leading a b c h = (both_parts a b (both_parts (a && b) c h).0).0
+      leading a b c h = (and_parts a b (and_parts (a && b) c h).0).0
 
       waits : (d : QueueDef) → find_queue r.queue s ≡ Some d → (k : ℕ) (q : PlainRow) → slice_get s.rows k ≡ Some q → goes_first d now s r q ≡ true
           → waits_before now r q ≡ true
       waits d found k q at goes =
-          let parts : (comes_before q r ≡ true) × (is_eligible d now s q ≡ true) = both_parts (comes_before q r) (is_eligible d now s q) goes in
+          let parts : (comes_before q r ≡ true) × (is_eligible d now s q ≡ true) = and_parts (comes_before q r) (is_eligible d now s q) goes in
           both_true (comes_before q r) (ready r.queue q) parts.0
           (subst (λ m. ready m q ≡ true) (name_exact d.name r.queue (found_named r.queue s d found))
           (leading (ready d.name q) (below (length (filter (is_active_of d.name q.job.owner) s.rows)) d.user_limit) (kind_allows d.kind d now s q) parts.1))
@@ -280,7 +275,7 @@ module _ (now : ℕ) (s : Plain) where
           where
             by : (b : Bool) → is_eligible d now s q ≡ b → (comes_before q r && is_eligible d now s q) ≡ false
             by true eligible = ap (λ b. b && is_eligible d now s q) (subst (λ x. comes_before q x ≡ false) same (first.first k q there eligible))
-            by false isnt = ap (λ b. comes_before q r && b) isnt ∙ and_false (comes_before q r)
+            by false isnt = ap (λ b. comes_before q r && b) isnt ∙ and-false (comes_before q r)
 
         of : IsPicked now s c → reason_of now s r ≡ Next 0
         of picked =

@@ -53,7 +53,7 @@ module _ (now : ℕ) where
   abbrev Going : ℕ → Plain → Option (Stepped (List ℕ)) → List (Stepped (List ℕ))
   Going n s o = elim o as (λ _. List (Stepped (List ℕ))) [ None ↦ [] | Some x ↦ x ∷ starts_at_most n now (after_step x s) ]
 
-  none_starts : (n : ℕ) (s : Plain) → start now s ≡ None → starts_at_most n now s ≡ []
+  pub none_starts : (n : ℕ) (s : Plain) → start now s ≡ None → starts_at_most n now s ≡ []
   none_starts zero s e = refl
   none_starts (suc n) s e = ap (Going n s) e
 
@@ -81,14 +81,17 @@ module _ (now : ℕ) where
   pub starts-none : (s : Plain) → start now s ≡ None → starts now s ≡ []
   starts-none s e = none_starts (starts_left s) s e
 
-  pub starts-some : (s : Plain) (x : Stepped (List ℕ)) → IsInOrder s → start now s ≡ Some x → starts now s ≡ x ∷ starts now (after_step x s)
-  starts-some s x order e =
-      let calm : IsSteady s = steady s order in
+  -- where one starts from a steady state, it is the first
+  pub starts-steady : (s : Plain) (x : Stepped (List ℕ)) → IsSteady s → start now s ≡ Some x → starts now s ≡ x ∷ starts now (after_step x s)
+  starts-steady s x calm e =
       let is : IsStart s x = start_is now s x calm e in
       let less : starts_left (after_step x s) < starts_left s = lowered now s x is calm in
       enough (starts_left s) (suc (starts_left s)) s calm (omega arith) (omega arith)
       ∙ ap (Going (starts_left s) s) e
       ∙ ap (λ l. x ∷ l) (enough (starts_left s) (starts_left (after_step x s)) (after_step x s) (stayed now s x is calm) (omega arith) (omega arith))
+
+  pub starts-some : (s : Plain) (x : Stepped (List ℕ)) → IsInOrder s → start now s ≡ Some x → starts now s ≡ x ∷ starts now (after_step x s)
+  starts-some s x order = starts-steady s x (steady s order)
 
   end : (n : ℕ) (s : Plain) → IsSteady s → starts_left s ≤ n → start now (after_starts (starts_at_most n now s) s) ≡ None
   end zero s calm few = idle s calm few

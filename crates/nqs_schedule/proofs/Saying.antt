@@ -7,7 +7,7 @@ use Rattle.std.proofs.lemmas.Bool.Decides.{nat_tests}
 use Rattle.nqs_values.specs.Name.{IsName}
 use Rattle.nqs_types.specs.declared.world.WorldEvent.{WorldEvent}
 use Rattle.nqs_words.specs.Values.{name_of}
-use Rattle.nqs_words.proofs.Requests.{name-is, is-name}
+use Rattle.nqs_words.proofs.Requests.{name-is, is-name, named}
 use Rattle.nqs_schedule.specs.declared.cause.Cause.{Cause}
 use Rattle.nqs_schedule.specs.declared.cause.Cause.TheVariants as cause
 use Rattle.nqs_schedule.specs.declared.words.LineWord.{LineWord}
@@ -113,13 +113,6 @@ takes site word is = reads-same {A = List ℕ} (Ok word) (λ n. n ≡ word) (IsH
     never why (inl h) = h.0 is.name
     never why (inr (inl h)) = both_ways (is_of_site site word) h.1 is.new
     never why (inr (inr h)) = few_full (length site) is.few h.2
-
-named : (word : List ℕ) → (IsName word × (name_of word ≡ Some word)) ⊎ ((IsName word → ⊥) × (name_of word ≡ None))
-named word = by (name_of word) refl
-  where
-    by : (o : Option (List ℕ)) → name_of word ≡ o → (IsName word × (name_of word ≡ Some word)) ⊎ ((IsName word → ⊥) × (name_of word ≡ None))
-    by (Some name) is = let n = name-is word name is in inl (n.0, is-name word n.0)
-    by None is = inr ((λ h. let some : ◌≡◌ {A = Option (List ℕ)} None (Some word) = sym is ∙ is-name word h in cc), is)
 
 tested_host : Bool → Bool → List ℕ → Read (List ℕ)
 tested_host t u word = cond t (Err cause.HostTwice) (cond u (Err cause.TooManyHosts) (Ok word))

@@ -3,6 +3,7 @@ use Rattle.std.proofs.Common.{◌≡◌, ◌⊎◌, inl, inr, ℕ, zero, suc, �
 use Rattle.std.proofs.Common.{Err, Bool, true, false, cond, ◌||◌, is_some, arith, nat_lt}
 use Rattle.std.specs.Prelude.{slice_get}
 use Rattle.std.proofs.lemmas.Bool.Decides.{nat_tests}
+use Rattle.nqs_values.proofs.Plain.{le_of_false}
 use Rattle.nqs_types.specs.declared.world.WorldEvent.{WorldEvent}
 use Rattle.nqs_words.specs.Values.{name_of, named_of, number_of}
 use Rattle.nqs_schedule.specs.declared.cause.Cause.{Cause}
@@ -105,9 +106,6 @@ reads-nothing ws i = by (at ws.words i)
 less_test : (n m : ℕ) → nat_lt n m ≡ true → n < m
 less_test n m h = grind (arith, nat_tests)
 
-no_less : (n m : ℕ) → nat_lt n m ≡ false → m ≤ n
-no_less n m h = grind (arith, nat_tests)
-
 reads-short : (word : LineWord) (bad : Bool) → Reads (short_enough (Some word) bad) (λ u. IsShort word.text) (IsTooLong word.text)
 reads-short word bad = by (nat_lt 16384 (length word.text)) refl
   where
@@ -122,7 +120,7 @@ reads-short word bad = by (nat_lt 16384 (length word.text)) refl
         (reads-Err {A = Unit {0}} cause.OutputTooLong)
         (λ u. ((λ x. absurd x), (λ short. absurd (long_short long short)))) (λ why. ((λ e. (long, e)), (λ h. h.1)))
     by false is =
-        let short = no_less 16384 (length word.text) is in
+        let short = le_of_false 16384 (length word.text) is in
         reads-same {A = Unit {0}} (Ok tt) (λ u. u ≡ tt) (λ u. IsShort word.text) (λ why. ⊥) (IsTooLong word.text) (reads-Ok {A = Unit {0}} tt)
         (λ u. ((λ e. short), (λ h. refl))) (λ why. ((λ x. absurd x), (λ h. absurd (long_short h.0 short))))
 

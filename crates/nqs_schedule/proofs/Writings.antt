@@ -6,6 +6,7 @@ use Rattle.std.proofs.lemmas.Bool.{eqb-true}
 use Rattle.std.proofs.lemmas.Bool.Decides.{nat_tests}
 use Rattle.std.proofs.lemmas.List.{append-nil, length-append, length-drop, take_at, drop_at}
 use Rattle.std.proofs.Math.Seq.{drop-drop}
+use Rattle.nqs_values.proofs.Plain.{lt_is_true, lt_itself}
 use Rattle.nqs_words.specs.Quoted.{Quoted, quoted, quoted_text}
 use Rattle.nqs_words.specs.Words.{is_gap, end_of, next_word}
 use Rattle.nqs_words.specs.declared.words.Gaps.TheVariants.{Spaces}
@@ -27,12 +28,6 @@ no_space b h = by (b == 32) refl
 
 space : (b : ℕ) → b ≡ 32 → (b == 32) ≡ true
 space b h = rw h refl
-
-less : (n m : ℕ) → n < m → nat_lt n m ≡ true
-less n m h = grind (arith, nat_tests)
-
-not_less : (n : ℕ) → nat_lt n n ≡ false
-not_less n = grind (arith, nat_tests)
 
 -- how many bytes stand in front that are no word's
 abbrev front_spaces : List ℕ → ℕ
@@ -86,7 +81,7 @@ word_first (b ∷ bs) more h = let others = word_first bs more (word_tail b bs h
 
 next-end : (line : List ℕ) (place : ℕ) → AreSpaces (drop place line) → next_of line place ≡ End
 unfolding next_of next_word
-next-end line place h = rw (all_spaces (drop place line) h, not_less (length (drop place line))) refl
+next-end line place h = rw (all_spaces (drop place line) h, lt_itself (length (drop place line))) refl
 
 next-start : (line : List ℕ) (place : ℕ) (gap l : List ℕ) → drop place line ≡ gap ++ l → AreSpaces gap → BeginsWord l
     → next_of line place ≡ word_there line (record { start = place + length gap; end = end_of Spaces line (place + length gap) })
@@ -94,7 +89,7 @@ unfolding next_of next_word
 next-start line place gap l is h w =
     let first : front_spaces (drop place line) ≡ length gap = ap front_spaces is ∙ spaces_first gap l h w in
     let long : length gap < length (drop place line) = omega (arith, ap length is, length-append gap l, ap length w.2) in
-    rw (first, less (length gap) (length (drop place line)) long) refl
+    rw (first, lt_is_true (length gap) (length (drop place line)) long) refl
 
 dropped : (line : List ℕ) (place : ℕ) (gap l : List ℕ) → drop place line ≡ gap ++ l → drop (place + length gap) line ≡ l
 dropped line place gap l is = sym (drop-drop (length gap) place line) ∙ (ap (drop (length gap)) is ∙ drop_at gap l (length gap) refl)
@@ -114,10 +109,10 @@ unfolding end_of
 plain-end line start text rest is h (inl none) =
     let all : drop start line ≡ text = is ∙ (ap (λ (l : List ℕ). text ++ l) none ∙ append-nil text) in
     let size : length line - start ≡ length text = sym (length-drop start line) ∙ ap length all in
-    rw (all, all_word text h, not_less (length text)) (ap (λ (n : ℕ). start + n) size)
+    rw (all, all_word text h, lt_itself (length text)) (ap (λ (n : ℕ). start + n) size)
 plain-end line start text rest is h (inr more) =
     let all : drop start line ≡ text ++ 32 ∷ more.0 = is ∙ ap (λ (l : List ℕ). text ++ l) more.1 in
-    rw (all, word_first text more.0 h, less (length text) (length (text ++ 32 ∷ more.0)) (omega (arith, length-append text (32 ∷ more.0)))) refl
+    rw (all, word_first text more.0 h, lt_is_true (length text) (length (text ++ 32 ∷ more.0)) (omega (arith, length-append text (32 ∷ more.0)))) refl
 
 no_quote : (text rest : List ℕ) → BeginsPlain text → begins_with_quote (text ++ rest) ≡ false
 no_quote [] rest h = absurd h

@@ -1,6 +1,7 @@
 -- The events that a daemon takes are sane, and right.
 use Rattle.std.proofs.Common.{◌≡◌, ℕ, List, length, refl, sym, ◌∙◌, Bool, true, false, ◌&&◌, ◌||◌, ◌==◌, IsTrue, IfSome}
 use Rattle.std.proofs.lemmas.Bool.{and_parts, and_from}
+use Rattle.nqs_values.proofs.Plain.{or_last}
 use Rattle.nqs_types.specs.declared.message.Tool.{Tool}
 use Rattle.nqs_types.specs.declared.message.Tool.TheVariants.{Qsub, Qstat, Qdel, Qmgr, Tick}
 use Rattle.nqs_types.specs.declared.message.Message.{Message}
@@ -81,10 +82,6 @@ sane_body hosts (Answer token good text) ok of_site = refl
 sane_body hosts (Ended port id start status output error) ok of_site = refl
 sane_body hosts (EndedAck id start) ok of_site = refl
 
-or_true : (a b : Bool) → b ≡ true → (a || b) ≡ true
-or_true true b k = refl
-or_true false b k = k
-
 right_by : (hosts : ℕ) (m : Message) (b : Body) → IsBody b → has_number b ≡ has_number m.body → is_of_site hosts m.from ≡ true → are_of_site hosts b ≡ true
     → IfSome (event_by m b) (λ e. IsTrue (is_right_event hosts e))
 right_by hosts m (Offer n q c s) ok same from of_site = and_from _ _ from (sym same ∙ ok.0.0)
@@ -97,7 +94,7 @@ right_by hosts m (Abort n) ok same from of_site = and_from _ _ from (sym same �
 right_by hosts m (Stage n path output) ok same from of_site = and_from _ _ from (sym same ∙ ok.0.0)
 right_by hosts m (Staged n) ok same from of_site = and_from _ _ from (sym same ∙ ok.0)
 right_by hosts m (Ask port token user tool words script) ok same from of_site = refl
-right_by hosts m (Ended port id start status output error) ok same from of_site = or_true (port == 0) (is_right_id hosts id) (and_from _ _ of_site ok.1.0)
+right_by hosts m (Ended port id start status output error) ok same from of_site = or_last (port == 0) (is_right_id hosts id) (and_from _ _ of_site ok.1.0)
 right_by hosts m (Answer token good text) ok same from of_site = tt
 right_by hosts m (EndedAck id start) ok same from of_site = tt
 

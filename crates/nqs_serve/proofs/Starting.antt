@@ -20,8 +20,8 @@ use Rattle.nqs_rules.proofs.StateFacts.{keys_are}
 use Rattle.nqs_rules.proofs.RowFacts.{row_is}
 use Rattle.nqs_rules.proofs.RowChanges.{at_most_32}
 use Rattle.nqs_rules.proofs.QueuesOrder.{queue_is}
-use Rattle.nqs_rules.proofs.StartIs.{IsSteady, IsStart, start_is}
-use Rattle.nqs_rules.proofs.Lowers.{lower, stays}
+use Rattle.nqs_rules.proofs.StartIs.{IsSteady}
+use Rattle.nqs_rules.proofs.Until.{none_starts, starts-steady}
 use Rattle.nqs_node.specs.Carried.{started}
 use Rattle.nqs_serve.specs.Steps.{said, after_next}
 
@@ -35,56 +35,13 @@ module _ {E : Type 0} where
     dests = list_all-weaker (is_queue_right s) (λ q. nat_le (length q.dests) 16) (λ q k. (queue_is s q k).few_dests) s.queues h.queues;
   }
 
-module _ (now : ℕ) (s : Plain) (x : Stepped (List ℕ)) (is : IsStart s x) (calm : IsSteady s) where
-  lowered : starts_left (after_step x s) < starts_left s
-  lowered = subst (λ o. starts_left (after_change o s) < starts_left s) (sym is.makes) (lower s calm is.row is.found is.ready is.change is.starts)
-
-  stayed : IsSteady (after_step x s)
-  stayed = subst (λ o. IsSteady (after_change o s)) (sym is.makes) (stays s calm is.row is.found is.ready is.change is.starts)
-
 module _ (now : ℕ) where
-  -- the starts from a state on, by what starts there
-  abbrev Going : ℕ → Plain → Option (Stepped (List ℕ)) → List (Stepped (List ℕ))
-  Going n s o = elim o as (λ _. List (Stepped (List ℕ))) [ None ↦ [] | Some x ↦ x ∷ starts_at_most n now (after_step x s) ]
-
-  none_starts : (n : ℕ) (s : Plain) → start now s ≡ None → starts_at_most n now s ≡ []
-  none_starts zero s e = refl
-  none_starts (suc n) s e = ap (Going n s) e
-
-  idle : (s : Plain) → IsSteady s → starts_left s ≤ 0 → start now s ≡ None
-  idle s calm few = by (start now s) refl
-    where
-      by : (o : Option (Stepped (List ℕ))) → start now s ≡ o → start now s ≡ None
-      by None e = e
-      by (Some x) e = absurd (let less : starts_left (after_step x s) < starts_left s = lowered now s x (start_is now s x calm e) calm in omega arith)
-
-  enough : (n m : ℕ) (s : Plain) → IsSteady s → starts_left s ≤ n → starts_left s ≤ m → starts_at_most n now s ≡ starts_at_most m now s
-  enough zero m s calm few also = sym (none_starts m s (idle s calm few))
-  enough (suc n) zero s calm few also = none_starts (suc n) s (idle s calm also)
-  enough (suc n) (suc m) s calm few also = by (start now s) refl (enough n m)
-    where
-      by : (o : Option (Stepped (List ℕ))) → start now s ≡ o → ((t : Plain) → IsSteady t → starts_left t ≤ n → starts_left t ≤ m
-          → starts_at_most n now t ≡ starts_at_most m now t) → Going n s o ≡ Going m s o
-      by None e rest = refl
-      by (Some x) e rest =
-          let is : IsStart s x = start_is now s x calm e in
-          let less : starts_left (after_step x s) < starts_left s = lowered now s x is calm in
-          ap (λ l. x ∷ l) (rest (after_step x s) (stayed now s x is calm) (omega arith) (omega arith))
-
-  starts_some : (s : Plain) (x : Stepped (List ℕ)) → IsSteady s → start now s ≡ Some x → starts now s ≡ x ∷ starts now (after_step x s)
-  starts_some s x calm e =
-      let is : IsStart s x = start_is now s x calm e in
-      let less : starts_left (after_step x s) < starts_left s = lowered now s x is calm in
-      enough (starts_left s) (suc (starts_left s)) s calm (omega arith) (omega arith)
-      ∙ ap (Going (starts_left s) s) e
-      ∙ ap (λ l. x ∷ l) (enough (starts_left s) (starts_left (after_step x s)) (after_step x s) (stayed now s x is calm) (omega arith) (omega arith))
-
   -- where none starts, there are no starts
   pub starts_none : (s : Plain) → is_some (start now s) ≡ false → starts now s ≡ []
   starts_none s e = by (start now s) refl e
     where
       by : (o : Option (Stepped (List ℕ))) → start now s ≡ o → is_some o ≡ false → starts now s ≡ []
-      by None is none = none_starts (starts_left s) s is
+      by None is none = none_starts now (starts_left s) s is
       by (Some x) is none = absurd (let stop : ⊥ = cc in stop)
 
   -- where one starts, it is the first
@@ -94,7 +51,7 @@ module _ (now : ℕ) where
       by : (o : Option (Stepped (List ℕ))) → start now s ≡ o → is_some o ≡ true
           → starts now s ≡ (elim o [ None ↦ quiet | Some x ↦ x ]) ∷ starts now (after_step (elim o [ None ↦ quiet | Some x ↦ x ]) s)
       by None is some = absurd (let stop : ⊥ = cc in stop)
-      by (Some x) is some = starts_some s x calm is
+      by (Some x) is some = starts-steady now s x calm is
 
 -- one start more, behind others
 pub after_more : (xs : List (Stepped (List ℕ))) (x : Stepped (List ℕ)) (s : Plain) → after_starts (xs ++ x ∷ []) s ≡ after_step x (after_starts xs s)

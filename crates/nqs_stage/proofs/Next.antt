@@ -3,6 +3,7 @@ use Rattle.std.proofs.Common.{◌≡◌, ◌∙◌, ℕ, ◌+◌, Bool, true, fa
 use Rattle.std.proofs.Common.{sym, ap, subst}
 use Rattle.std.specs.Option.{option_map}
 use Rattle.std.specs.List.{list_any}
+use Rattle.std.proofs.lemmas.Bool.{and_parts, not-true}
 use Rattle.nqs_state.specs.State.{State}
 use Rattle.nqs_types.specs.Ids.{peer_number_eq, stage_key, peer_number_exact}
 use Rattle.nqs_state.specs.Keys.{is_stage}
@@ -13,14 +14,6 @@ use Rattle.nqs_rules.specs.InOrder.{are_distinct}
 use Rattle.nqs_rules.specs.Stage.{is_stage_to, is_earlier_stage, send_stage, due_of}
 use Rattle.nqs_rules.specs.Stepped.{Pending}
 use Rattle.nqs_stage.specs.Files.{HasDistinctStages}
-
-both : (a b : Bool) → (a && b) ≡ true → (a ≡ true) × (b ≡ true)
-both true b h = (refl, h)
-both false b h = absurd (true≢false (sym h))
-
-not_true : (b : Bool) → not b ≡ true → b ≡ false
-not_true true h = absurd (true≢false (sym h))
-not_true false h = refl
 
 module _ {V : Type 0} (beats : V → V → Bool) where
   abbrev value : Option (ℕ × V) → Option V
@@ -73,8 +66,8 @@ module _ {V : Type 0} (beats : V → V → Bool) where
     best-without : (vs : List V) → are_distinct eq (map key vs) ≡ true → best_value other vs ≡ best_value t (without_first (has_key eq key k) vs)
     best-without [] h = refl
     best-without (v ∷ vs) h =
-        let parts = both (not (list_any (eq (key v)) (map key vs))) (are_distinct eq (map key vs)) h in
-        by (t v) (eq k (key v)) refl (not_true _ parts.0) (best-without vs parts.1) ∙ sym (rest_is (eq k (key v)))
+        let parts = and_parts (not (list_any (eq (key v)) (map key vs))) (are_distinct eq (map key vs)) h in
+        by (t v) (eq k (key v)) refl (not-true _ parts.0) (best-without vs parts.1) ∙ sym (rest_is (eq k (key v)))
       where
         rest_is : (c : Bool) → best_value t (if c then vs else v ∷ without_first (has_key eq key k) vs)
             ≡ (if c then best_value t vs else (if t v then better_value v (best_value t (without_first (has_key eq key k) vs)) else

@@ -5,6 +5,7 @@ use Rattle.std.specs.List.{position_or_len}
 use Rattle.std.proofs.lemmas.Bool.{and_parts, and_from, eqb-true}
 use Rattle.std.proofs.lemmas.Bool.Decides.{nat_tests}
 use Rattle.std.proofs.lemmas.List.{append-nil, length-append, take_at, drop_at}
+use Rattle.nqs_values.proofs.Plain.{lt_is_true, lt_itself, le_of_false, le_of_true}
 use Rattle.nqs_values.specs.Name.{IsName, is_digit}
 use Rattle.nqs_types.specs.declared.ids.Named.{Named}
 use Rattle.nqs_text.specs.Number.{decimal, first_other, AreDigits}
@@ -34,24 +35,18 @@ before [] rest h (inl none) = ap (position_or_len (λ b. b == 46)) none
 before [] rest h (inr p) = ap (position_or_len (λ b. b == 46)) p.1
 before (b ∷ bs) rest h at = let more = before bs rest (plain_tail b bs h) at in rw (other b (h 0 0 (omega arith))) (omega (arith, more))
 
-not_before : (n : ℕ) → nat_lt n n ≡ false
-not_before n = grind (arith, nat_tests)
-
-is_before : (n m : ℕ) → n < m → nat_lt n m ≡ true
-is_before n m h = grind (arith, nat_tests)
-
 place-plain : (front : List ℕ) → IsPlain front → place_of 46 front ≡ None
 unfolding place_of
 place-plain front h =
     let e : position_or_len (λ b. b == 46) front ≡ length front = subst (λ (l : List ℕ). position_or_len (λ b. b == 46) l ≡ length front) (append-nil front)
     (before front [] h (inl refl)) in
-    rw (e, not_before (length front)) refl
+    rw (e, lt_itself (length front)) refl
 
 place-point : (front behind : List ℕ) → IsPlain front → place_of 46 (front ++ 46 ∷ behind) ≡ Some (length front)
 unfolding place_of
 place-point front behind h =
     let e = before front (46 ∷ behind) h (inr (behind, refl)) in
-    rw (e, is_before (length front) (length (front ++ 46 ∷ behind)) (omega (arith, length-append front (46 ∷ behind)))) refl
+    rw (e, lt_is_true (length front) (length (front ++ 46 ∷ behind)) (omega (arith, length-append front (46 ∷ behind)))) refl
 
 named-plain : (front : List ℕ) → IsPlain front → named_of front ≡ of_parts (seq_of front) None
 unfolding named_of
@@ -90,9 +85,6 @@ are : (text : List ℕ) → AreDigits text → are_digits text ≡ true
 are [] h = absurd (omega (arith, h.0))
 are (b ∷ bs) h = ap is_none h.1
 
-of_le : (a b : ℕ) → nat_le a b ≡ true → a ≤ b
-of_le a b h = grind (arith, nat_tests)
-
 le : (a b : ℕ) → a ≤ b → nat_le a b ≡ true
 le a b h = grind (arith, nat_tests)
 
@@ -103,7 +95,7 @@ number-is low high text n e =
     let d = tested-Some (are_digits text && (nat_le low (decimal text) && nat_le (decimal text) high)) (decimal text) n e in
     let p = and_parts (are_digits text) (nat_le low (decimal text) && nat_le (decimal text) high) d.0 in
     let q = and_parts (nat_le low (decimal text)) (nat_le (decimal text) high) p.1 in
-    (digits_of text p.0, d.1, omega (arith, d.1, of_le low (decimal text) q.0), omega (arith, d.1, of_le (decimal text) high q.1))
+    (digits_of text p.0, d.1, omega (arith, d.1, le_of_true low (decimal text) q.0), omega (arith, d.1, le_of_true (decimal text) high q.1))
 
 pub is-number : (low high : ℕ) (text : List ℕ) (n : ℕ) → AreDigits text → n ≡ decimal text → low ≤ n → n ≤ high → number_of low high text ≡ Some n
 unfolding number_of
@@ -150,6 +142,14 @@ no-name text never = by (name_of text) refl
     by None is = refl
     by (Some n) is = absurd (never (name-is text n is).0)
 
+-- a word is a name, and read as itself, or it is none
+pub named : (word : List ℕ) → (IsName word × (name_of word ≡ Some word)) ⊎ ((IsName word → ⊥) × (name_of word ≡ None))
+named word = by (name_of word) refl
+  where
+    by : (o : Option (List ℕ)) → name_of word ≡ o → (IsName word × (name_of word ≡ Some word)) ⊎ ((IsName word → ⊥) × (name_of word ≡ None))
+    by (Some name) is = let n = name-is word name is in inl (n.0, is-name word n.0)
+    by None is = inr ((λ h. let some : ◌≡◌ {A = Option (List ℕ)} None (Some word) = sym is ∙ is-name word h in cc), is)
+
 -- ---- requests
 
 digit_not_point : (b : ℕ) → is_digit b ≡ true → b ≢ 46
@@ -170,9 +170,6 @@ all_digits : (bs : List ℕ) (d : ℕ) → length bs ≤ front_digits bs → (i 
 all_digits [] d past i less = absurd (omega (arith, less))
 all_digits (b ∷ bs) d past i less = digit_first (is_digit b) b bs d refl (all_digits bs d) past i less
 
-not_less : (n m : ℕ) → nat_lt n m ≡ false → m ≤ n
-not_less n m h = grind (arith, nat_tests)
-
 no_place : (t : Bool) (n : ℕ) → cond t (Some n) None ≡ None → t ≡ false
 no_place true n e = cc
 no_place false n e = refl
@@ -180,7 +177,7 @@ no_place false n e = refl
 others_none : (bs : List ℕ) → first_other bs ≡ None → (i d : ℕ) → i < length bs → is_digit (get_or bs i d) ≡ true
 unfolding first_other
 others_none bs h i d less =
-    all_digits bs d (not_less (front_digits bs) (length bs) (no_place (nat_lt (front_digits bs) (length bs)) (front_digits bs) h)) i less
+    all_digits bs d (le_of_false (front_digits bs) (length bs) (no_place (nat_lt (front_digits bs) (length bs)) (front_digits bs) h)) i less
 
 seq_plain : (front : List ℕ) (seq : ℕ) → IsSeq front seq → IsPlain front
 seq_plain front seq s = λ i d less. digit_not_point (get_or front i d) (others_none front s.digits.1 i d less)
