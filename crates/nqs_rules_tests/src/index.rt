@@ -1,10 +1,12 @@
 //! The line of a queue in an index: requests in the order in which they start, whatever the order in
-//! which they came in, without one that is held, and without one that left.
+//! which they came in, without one that is held, and without one that left; and that the requests of
+//! a host keep such an index, whatever is done to them.
 
-use nqs_builders::row;
+use nqs_builders::{add_row, row};
 use nqs_index::{Index, Line, Seat};
-use nqs_types::Hold;
-use nqs_values::Name;
+use nqs_state::Rows;
+use nqs_types::{Hold, HostId, RequestId, Row};
+use nqs_values::{Memory, Name};
 use std::alloc::Global;
 use std::rt::HostRuntime;
 
@@ -62,4 +64,49 @@ fn greater_priorities_first_and_then_earlier_arrivals(rt: HostRuntime) {
     let left = numbers(&index);
     drop(index);
     assert_eq!(rt; (entered, whole, left), (true, [2, 3, 1, 0], [2, 1, 0, 0]));
+}
+
+// The line of `jobs` in the index that rows keep; where they keep none, nines.
+fn kept(rows: &Rows) -> [u32; 4] {
+    match rows.index() {
+        Some(index) => numbers(index),
+        None => [9; 4],
+    }
+}
+
+fn two_come(alloc: Global, rows: &mut Rows) -> Result<(), Memory> {
+    add_row(rows, row(alloc, 1, jobs(), jobs()))?;
+    add_row(rows, row(alloc, 2, jobs(), jobs()))
+}
+
+fn request(seq: u32) -> RequestId {
+    RequestId {
+        seq,
+        host: HostId(0),
+    }
+}
+
+// The lines when the first is held, when nothing is held any more, and when the second has gone.
+fn lines_then(rows: &mut Rows) -> [[u32; 4]; 3] {
+    rows.change(&request(1), |row: &mut Row| row.hold = Hold::User);
+    let held = kept(rows);
+    rows.revise(|_id: &RequestId, row: &mut Row| {
+        row.hold = Hold::No;
+        true
+    });
+    let released = kept(rows);
+    rows.remove_key(&request(2));
+    [held, released, kept(rows)]
+}
+
+#[test]
+fn rows_keep_an_index(rt: HostRuntime) {
+    let alloc = rt.alloc();
+    let mut rows = Rows::new(alloc);
+    let come = two_come(alloc, &mut rows).is_ok();
+    let both = kept(&rows);
+    let then = lines_then(&mut rows);
+    drop(rows);
+    assert_eq!(rt; (come, both), (true, [1, 2, 0, 0]));
+    assert_eq!(rt; then, [[2, 0, 0, 0], [1, 2, 0, 0], [1, 0, 0, 0]]);
 }
