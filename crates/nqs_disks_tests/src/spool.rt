@@ -6,7 +6,7 @@ ghost use Rattle.nqs_spool.specs.Extents.{extent_at};
 
 use nqs_disk::MemDisk;
 use nqs_outside::Disk;
-use nqs_spool::{Spool, SpoolFault, bad_extent};
+use nqs_spool::{ExtentFault, LiveExtents, Spool, SpoolFault};
 use nqs_values::{Extent, Tear};
 use std::alloc::Global;
 use std::test::Fail;
@@ -263,6 +263,15 @@ const EXTENTS: [(u64, [(u64, u32); 3], Option<u64>); 9] = [
     (8, [(0, 8), (9, 0), (0, 1)], Some(9)),
 ];
 
+// The place of the first extent that a disk of so many bytes can't have, if memory is there.
+fn bad_extent(alloc: Global, extents: &[Extent], size: u64) -> Option<Option<u64>> {
+    match LiveExtents::load_sound(alloc, extents, size) {
+        Ok(_) => Some(None),
+        Err(ExtentFault::Bad(place)) => Some(Some(place)),
+        Err(ExtentFault::Memory(_)) => None,
+    }
+}
+
 #[test]
 fn first_bad_extent(rt: HostRuntime) {
     for (size, [first, second, third], bad) in &EXTENTS {
@@ -271,6 +280,6 @@ fn first_bad_extent(rt: HostRuntime) {
             at(second.0, second.1),
             at(third.0, third.1),
         ];
-        assert_eq!(rt; bad_extent(rt.alloc(), &extents, *size).ok(), Some(*bad));
+        assert_eq!(rt; bad_extent(rt.alloc(), &extents, *size), Some(*bad));
     }
 }

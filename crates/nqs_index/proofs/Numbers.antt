@@ -1,5 +1,6 @@
 -- How many of a list pass a test.
-use Rattle.std.proofs.Common.{◌≡◌, ◌+◌, ◌≤◌, Bool, true, false, ◌||◌, nat_lt, List, [], ◌∷◌, ◌++◌, length, filter, find, Some, refl, sym, ap, ◌∙◌, arith, if◌then◌else◌}
+use Rattle.std.proofs.Common.{◌≡◌, ◌+◌, ◌≤◌, Bool, true, false, ◌||◌, nat_lt, List, [], ◌∷◌, ◌++◌, length, filter, map, suc, find, Some}
+use Rattle.std.proofs.Common.{refl, sym, ap, ◌∙◌, arith, if◌then◌else◌}
 use Rattle.std.specs.Prelude.{cond}
 use Rattle.std.proofs.lemmas.Bool.{and_parts}
 use Rattle.std.proofs.lemmas.Option.{same_Some, none-some}
@@ -12,6 +13,16 @@ use Rattle.nqs_index.specs.Tallies.{one}
 counted : {A : Type 0} (b : Bool) (x : A) (xs : List A) → length (cond b (x ∷ xs) xs) ≡ length xs + one b
 counted true x xs = omega arith
 counted false x xs = omega arith
+
+-- what is counted of a list that was made of another
+pub number-map : {A B : Type 0} (f : A → B) (p : B → Bool) (xs : List A) → number p (map f xs) ≡ number (λ x. p (f x)) xs
+number-map f p [] = refl
+number-map f p (x ∷ xs) = by (p (f x)) (number-map f p xs)
+  where
+    by : (b : Bool) → number p (map f xs) ≡ number (λ x. p (f x)) xs
+        → length (cond b (f x ∷ filter p (map f xs)) (filter p (map f xs))) ≡ length (cond b (x ∷ filter (λ x. p (f x)) xs) (filter (λ x. p (f x)) xs))
+    by true rest = ap suc rest
+    by false rest = rest
 
 module _ {A : Type 0} where
   -- one more in front
@@ -56,6 +67,15 @@ module _ {A : Type 0} where
   pub number_none : (p : A → Bool) → ((x : A) → p x ≡ false) → (xs : List A) → number p xs ≡ 0
   number_none p none [] = refl
   number_none p none (x ∷ xs) = (λ j. length (cond (none x j) (x ∷ filter p xs) (filter p xs))) ∙ number_none p none xs
+
+  -- a test that passes nothing that another doesn't pass
+  pub number_under : (p q : A → Bool) → ((x : A) → p x ≡ false → q x ≡ false) → (xs : List A) → number p xs ≡ 0 → number q xs ≡ 0
+  number_under p q under [] none = refl
+  number_under p q under (x ∷ xs) none = by (p x) refl (number-cons p x xs) (number_under p q under xs)
+    where
+      by : (b : Bool) → p x ≡ b → number p (x ∷ xs) ≡ number p xs + one b → (number p xs ≡ 0 → number q xs ≡ 0) → number q (x ∷ xs) ≡ 0
+      by true e all rest = absurd (let no : ⊥ = omega (arith, none, all) in no)
+      by false e all rest = number-cons q x xs ∙ (λ j. rest (omega (arith, none, all)) j + one (under x e j))
 
   pub more_behind : (x : A) (xs : List A) → IsMore x xs (xs ++ x ∷ [])
   more_behind x [] p = number-cons p x []

@@ -1,23 +1,18 @@
 -- Seats of rows, as rows come, go and change.
-use Rattle.std.proofs.Common.{◌≡◌, ◌+◌, suc, Bool, true, false, List, [], ◌∷◌, ◌++◌, map, filter, find, length, Some, refl, sym, ap, ◌∙◌}
+use Rattle.std.proofs.Common.{◌≡◌, ◌+◌, Bool, List, [], ◌∷◌, ◌++◌, map, find, Some, sym, ap, ◌∙◌}
 use Rattle.std.specs.Prelude.{◌&&◌, cond}
+use Rattle.std.specs.List.Sorted.{IsPermutation}
+use Rattle.std.proofs.lemmas.List.Sorted.{sum_by-IsPermutation}
+use Rattle.std.proofs.lemmas.List.Sums.{length-filter}
 use Rattle.nqs_keyed.specs.Table.{change_first, without_first}
+use Rattle.nqs_types.specs.RowStates.{is_running}
 use Rattle.nqs_types.specs.declared.request.Row.{Row}
 use Rattle.nqs_index.specs.declared.index.Index.{Index}
 use Rattle.nqs_index.specs.declared.seat.Seat.{Seat}
 use Rattle.nqs_index.specs.Indexed.{number, IsMore, Stands}
 use Rattle.nqs_index.specs.Seats.{seat_of, counts_for, waits_in, entry_of}
 use Rattle.nqs_index.specs.Tallies.{one}
-use Rattle.nqs_index.proofs.Numbers.{more_behind, more_found, more_changed}
-
-number-map : {A B : Type 0} (f : A → B) (p : B → Bool) (xs : List A) → number p (map f xs) ≡ number (λ x. p (f x)) xs
-number-map f p [] = refl
-number-map f p (x ∷ xs) = by (p (f x)) (number-map f p xs)
-  where
-    by : (b : Bool) → number p (map f xs) ≡ number (λ x. p (f x)) xs
-        → length (cond b (f x ∷ filter p (map f xs)) (filter p (map f xs))) ≡ length (cond b (x ∷ filter (λ x. p (f x)) xs) (filter (λ x. p (f x)) xs))
-    by true rest = ap suc rest
-    by false rest = rest
+use Rattle.nqs_index.proofs.Numbers.{number-map, more_behind, more_found, more_changed}
 
 module _ {E : Type 0} where
   -- rows with one more, as seats with one more
@@ -47,5 +42,13 @@ pub same_stands : (i : Index) (us vs : List Seat) → ((p : Seat → Bool) → n
 same_stands i us vs same stands = record {
   counts = λ k. stands.counts k ∙ same (counts_for k);
   lines = λ q test. stands.lines q test ∙ same (λ t. waits_in q t && test (entry_of t));
+  running = λ test. stands.running test ∙ same (λ t. is_running t.state && test t.id);
   order = stands.order;
 }
+
+number_permuted : {A : Type 0} (p : A → Bool) (xs ys : List A) → IsPermutation xs ys → number p ys ≡ number p xs
+number_permuted p xs ys h = length-filter p ys ∙ sum_by-IsPermutation (λ x. cond (p x) 1 0) xs ys h ∙ sym (length-filter p xs)
+
+-- an index stands for the same seats in another order
+pub permuted : (i : Index) (us vs : List Seat) → IsPermutation us vs → Stands i vs → Stands i us
+permuted i us vs h = same_stands i vs us (λ p. number_permuted p us vs h)

@@ -1,13 +1,14 @@
 -- An index with one seat more, or less.
-use Rattle.std.proofs.Common.{◌≡◌, ℕ, ◌+◌, ◌-◌, ◌<◌, ◌≤◌, Bool, true, false, ◌&&◌, ◌||◌, nat_lt, List, [], ◌∷◌, length, map, take, zero, suc, Some, slice_get}
+use Rattle.std.proofs.Common.{◌≡◌, ℕ, ◌+◌, ◌-◌, ◌<◌, ◌≤◌, Bool, true, false, ◌&&◌, ◌||◌, nat_lt, List, [], ◌∷◌, ◌++◌, length, take, get_or, zero, suc}
 use Rattle.std.proofs.Common.{refl, sym, ap, subst, ◌∙◌, arith, if◌then◌else◌, true≢false}
 use Rattle.std.specs.List.{list_any}
 use Rattle.std.proofs.lemmas.Bool.{and_parts, and_from}
 use Rattle.std.proofs.lemmas.Bool.Decides.{nat_tests}
-use Rattle.std.proofs.lemmas.Cmp.{nat_eq_equiv}
-use Rattle.std.proofs.lemmas.Option.{same_Some, none-some}
+use Rattle.std.proofs.lemmas.List.{take_more}
 use Rattle.nqs_keyed.specs.Table.{without_first}
 use Rattle.nqs_types.specs.Ids.{id_eq, id_exact}
+use Rattle.nqs_types.specs.RowStates.{is_running}
+use Rattle.nqs_types.specs.declared.ids.RequestId.{RequestId}
 use Rattle.nqs_index.specs.declared.index.Index.{Index}
 use Rattle.nqs_index.specs.declared.line.Entry.{Entry}
 use Rattle.nqs_index.specs.declared.seat.Seat.{Seat}
@@ -15,12 +16,13 @@ use Rattle.nqs_index.specs.declared.tally.Tally.{Tally}
 use Rattle.nqs_index.specs.Keys.{is_before}
 use Rattle.nqs_index.specs.Lines.{IsInOrder, placed, same_key, is_entry}
 use Rattle.nqs_index.specs.QueueLines.{placed_if, taken_if}
-use Rattle.nqs_index.specs.Indexed.{counted_in, line_in, number, IsMore, Stands}
+use Rattle.nqs_index.specs.Indexed.{counted_in, line_in, running_in, number, IsMore, Stands}
 use Rattle.nqs_index.specs.Seats.{entry_of, waits_in, counts_for}
 use Rattle.nqs_index.specs.Tallies.{one}
 use Rattle.nqs_index.proofs.LineLemmas.{in_order, order_left}
-use Rattle.nqs_index.proofs.Numbers.{number-cons, any_number}
+use Rattle.nqs_index.proofs.Numbers.{number-cons, any_number, more_behind}
 use Rattle.nqs_index.proofs.OrderLemmas.{key_exact, key_itself}
+use Rattle.nqs_index.proofs.RunLemmas.{id_itself}
 
 -- one entry more, by each test
 number_placed : (p : Entry → Bool) (x : Entry) (es : List Entry) → number p (placed x es) ≡ number p es + one (p x)
@@ -45,20 +47,22 @@ placed_order x false es h = h
 
 module _ (i j : Index) (t : Seat) (ts us : List Seat) (stands : Stands i ts) (more : IsMore t ts us)
     (counts : (k : Tally) → counted_in k j ≡ counted_in k i + one (counts_for k t))
-    (lines : (q : List ℕ) → line_in q j ≡ placed_if (waits_in q t) (entry_of t) (line_in q i)) where
+    (lines : (q : List ℕ) → line_in q j ≡ placed_if (waits_in q t) (entry_of t) (line_in q i))
+    (runs : (test : RequestId → Bool) → number test (running_in j) ≡ number test (running_in i) + one (is_running t.state && test t.id)) where
   -- one seat more
   pub entered : Stands j us
   entered = record {
     counts = λ k. counts k ∙ ap (λ n. n + one (counts_for k t)) (stands.counts k) ∙ sym (more (counts_for k));
     lines = λ q test. ap (number test) (lines q) ∙ placed_number test (entry_of t) (waits_in q t) (line_in q i)
         ∙ ap (λ n. n + one (waits_in q t && test (entry_of t))) (stands.lines q test) ∙ sym (more (λ u. waits_in q u && test (entry_of u)));
+    running = λ test. runs test ∙ ap (λ n. n + one (is_running t.state && test t.id)) (stands.running test)
+        ∙ sym (more (λ u. is_running u.state && test u.id));
     order = λ q. subst IsInOrder (sym (lines q)) (placed_order (entry_of t) (waits_in q t) (line_in q i) (stands.order q));
   }
 
 -- an entry is itself, and no other one is it
 entry_itself : (x : Entry) → is_entry x x ≡ true
-entry_itself x = and_from (same_key x.key x.key) (id_eq x.id x.id) (key_itself x.key)
-    (and_from _ _ (nat_eq_equiv.refl x.id.seq) (nat_eq_equiv.refl x.id.host.0))
+entry_itself x = and_from (same_key x.key x.key) (id_eq x.id x.id) (key_itself x.key) (id_itself x.id)
 
 entry_exact : (x y : Entry) → is_entry x y ≡ true → x ≡ y
 entry_exact x y h =
@@ -94,7 +98,9 @@ positive n some = grind (arith, nat_tests)
 
 module _ (i j : Index) (t : Seat) (ts us : List Seat) (stands : Stands i us) (more : IsMore t ts us)
     (counts : (k : Tally) → counted_in k j ≡ counted_in k i - one (counts_for k t))
-    (lines : (q : List ℕ) → line_in q j ≡ taken_if (waits_in q t) (entry_of t) (line_in q i)) where
+    (lines : (q : List ℕ) → line_in q j ≡ taken_if (waits_in q t) (entry_of t) (line_in q i))
+    (runs : (is_running t.state ≡ true → 0 < number (id_eq t.id) (running_in i)) → (test : RequestId → Bool)
+    → number test (running_in i) ≡ number test (running_in j) + one (is_running t.state && test t.id)) where
   -- the entry of a seat that waits is in its line
   there : (q : List ℕ) → waits_in q t ≡ true → list_any (is_entry (entry_of t)) (line_in q i) ≡ true
   there q waits =
@@ -103,6 +109,14 @@ module _ (i j : Index) (t : Seat) (ts us : List Seat) (stands : Stands i us) (mo
       = stands.lines q test ∙ more (λ u. waits_in q u && test (entry_of u)) in
       let b : one (waits_in q t && test (entry_of t)) ≡ 1 = (λ k. one (waits k && entry_itself (entry_of t) k)) in
       any_number test (line_in q i) ∙ positive (number test (line_in q i)) (omega (arith, a, b))
+
+  -- a seat that runs is among those that do
+  runs_there : is_running t.state ≡ true → 0 < number (id_eq t.id) (running_in i)
+  runs_there is =
+      let a : number (id_eq t.id) (running_in i) ≡ number (λ u. is_running u.state && id_eq t.id u.id) ts + one (is_running t.state && id_eq t.id t.id)
+      = stands.running (id_eq t.id) ∙ more (λ u. is_running u.state && id_eq t.id u.id) in
+      let b : one (is_running t.state && id_eq t.id t.id) ≡ 1 = (λ k. one (is k && id_itself t.id k)) in
+      omega (arith, a, b)
 
   -- one seat less
   pub left : Stands j ts
@@ -114,19 +128,17 @@ module _ (i j : Index) (t : Seat) (ts us : List Seat) (stands : Stands i us) (mo
         let c : number test (line_in q i) ≡ number (λ u. waits_in q u && test (entry_of u)) ts + one (waits_in q t && test (entry_of t))
         = stands.lines q test ∙ more (λ u. waits_in q u && test (entry_of u)) in
         omega (arith, a, b, c);
+    running = λ test.
+        let a = runs runs_there test in
+        let b : number test (running_in i) ≡ number (λ u. is_running u.state && test u.id) ts + one (is_running t.state && test t.id)
+        = stands.running test ∙ more (λ u. is_running u.state && test u.id) in
+        omega (arith, a, b);
     order = λ q. subst IsInOrder (sym (lines q)) (taken_order (entry_of t) (waits_in q t) (line_in q i) (stands.order q));
   }
 
 -- one more of a list was gone over
-pub more_taken : {A B : Type 0} (f : A → B) (xs : List A) (n : ℕ) (x : A) → slice_get xs n ≡ Some x → IsMore (f x) (map f (take n xs)) (map f (take (n + 1) xs))
-more_taken f [] n x at p = absurd (none-some x at)
-more_taken f (y ∷ ys) zero x at p = number-cons p (f y) [] ∙ ap (λ z. number p [] + one (p (f z))) (same_Some y x at)
-more_taken f (y ∷ ys) (suc n) x at p =
-    let rest = more_taken f ys n x at p in
-    let i : number p (map f (y ∷ take (n + 1) ys)) ≡ number p (map f (take (n + 1) ys)) + one (p (f y)) = number-cons p (f y) (map f (take (n + 1) ys)) in
-    let j : number p (map f (y ∷ take n ys)) ≡ number p (map f (take n ys)) + one (p (f y)) = number-cons p (f y) (map f (take n ys)) in
-    let e : suc (n + 1) ≡ suc n + 1 = omega arith in
-    subst (λ m. number p (map f (take m (y ∷ ys))) ≡ number p (map f (take (suc n) (y ∷ ys))) + one (p (f x))) e (omega (arith, rest, i, j))
+pub more_taken : {A : Type 0} (xs : List A) (n : ℕ) (x : A) → n < length xs → x ≡ get_or xs n x → IsMore x (take n xs) (take (n + 1) xs)
+more_taken xs n x within is = subst (IsMore x (take n xs)) (ap (λ y. take n xs ++ y ∷ []) is ∙ sym (take_more xs n x within)) (more_behind x (take n xs))
 
 -- all of it was
 pub all_taken : {A : Type 0} (xs : List A) (n : ℕ) → length xs ≤ n → take n xs ≡ xs

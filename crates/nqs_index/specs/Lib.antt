@@ -2,5 +2,6 @@ pub mod Indexed
 pub mod Keys
 pub mod Lines
 pub mod QueueLines
+pub mod Runs
 pub mod Seats
 pub mod Tallies

@@ -1,13 +1,16 @@
 //! A sorted index of a host's rows: for each queue those that wait without a hold, in the order in
-//! which they start, and how many rows are active or run, so that no limit needs a look at all of
-//! them. `specs/Indexed.antt` says what it is that stands for rows. It is kept row by row: one
-//! enters, one leaves.
+//! which they start, how many rows are active or run, so that no limit needs a look at all of
+//! them, and which requests run. `specs/Indexed.antt` says what it is that stands for rows. It is
+//! kept row by row: one enters, one leaves.
 
-ghost use Rattle.std.specs.Prelude.{◌≡◌, ◌<◌, ◌≤◌, ◌+◌, ◌-◌, ◌*◌, ◌^◌, ℕ, List, [], length, slice_index_or, true, OnOk, OnErr, IfSome};
+ghost use Rattle.std.specs.Prelude.{◌≡◌, ◌<◌, ◌≤◌, ◌+◌, ◌-◌, ◌*◌, ◌^◌, ℕ, List, [], length, slice_index_or, true, OnOk, OnErr, IfSome, IfNone, Bool, ◌&&◌};
+ghost use Rattle.nqs_types.specs.Ids.{id_eq};
+ghost use Rattle.nqs_types.specs.RowStates.{is_running};
 ghost use Rattle.nqs_index.specs.declared.seat.Seat.{Seat as SeatValue};
-ghost use Rattle.nqs_index.specs.Indexed.{counted_in, line_in, lines_of, entered, IsMore, Stands, StandsForIndex};
+ghost use Rattle.nqs_index.specs.Indexed.{counted_in, line_in, lines_of, running_in, entered, number, IsMore, Stands, StandsForIndex};
 ghost use Rattle.nqs_index.specs.Lines.{entry_at};
 ghost use Rattle.nqs_index.specs.QueueLines.{placed_if, taken_if, entries_in};
+ghost use Rattle.nqs_index.specs.Runs.{ids_of, IsLeast};
 ghost use Rattle.nqs_index.specs.Seats.{counts_for, entry_of, waits_in, is_of_device, ones_of_active, ones_of_running};
 ghost use Rattle.nqs_index.specs.Tallies.{count_of, one};
 
@@ -15,7 +18,8 @@ use crate::key::Key;
 use crate::line::Line;
 use crate::lines::{Lines, put, put_at, take};
 use crate::nobody::Nobody;
-use crate::seat::Seat;
+use crate::runs::{Runs, end, least, start};
+use crate::seat::{Seat, seats_of, sort};
 use crate::steps::Steps;
 use crate::tally::{Counters, Tally, count, lower, raise};
 use nqs_keyed::Table;
@@ -29,6 +33,7 @@ pub struct Index {
     counters: Counters,
     lines: Lines,
     nobody: Nobody,
+    runs: Runs,
 }
 
 impl Drop for Index {
@@ -37,6 +42,7 @@ impl Drop for Index {
             counters: _,
             lines: _,
             nobody: _,
+            runs: _,
         } = self;
     }
 }
@@ -131,6 +137,27 @@ fn step_out(lines: &mut Lines, seat: &Seat)
     take(lines, &seat.queue, seat.key, seat.id);
 }
 
+// A row that runs is among those that do. False where it can't come in.
+fn start_run(runs: &mut Runs, seat: &Seat) -> bool
+    ensures { result ≡ true → (test : RequestId → Bool)
+        → number test (ids_of runs.new.items) ≡ number test (ids_of runs.old.items) + one (is_running seat.now.state && test seat.now.id) }
+{
+    if seat.state == RowState::Running {
+        return start(runs, &seat.id);
+    }
+    true
+}
+
+// A row that runs, and is among those that do, is so no more.
+fn end_run(runs: &mut Runs, seat: &Seat)
+    ensures { (is_running seat.now.state ≡ true → 0 < number (id_eq seat.now.id) (ids_of runs.old.items)) → (test : RequestId → Bool)
+        → number test (ids_of runs.old.items) ≡ number test (ids_of runs.new.items) + one (is_running seat.now.state && test seat.now.id) }
+{
+    if seat.state == RowState::Running {
+        end(runs, &seat.id);
+    }
+}
+
 impl Index {
     /// An index of no rows.
     pub fn empty(alloc: Global) -> Index
@@ -140,16 +167,21 @@ impl Index {
             counters: Table::new(alloc),
             lines: Table::new(alloc),
             nobody: Nobody::new(alloc),
+            runs: Table::new(alloc),
         }
     }
 
-    /// A row comes in. False where memory is wanting, where a count is at its end, or where there
-    /// would be more than 1,024 lines or 65,536 counters: those of names long gone stay, so that an
-    /// index that is made anew is smaller. After a false the index is of no use.
+    /// A row comes in. False where memory is wanting, where a count is at its end, where its
+    /// request runs already, or where there would be more than 1,024 lines or 65,536 counters: those
+    /// of names long gone stay, so that an index that is made anew is smaller. After a false the
+    /// index is of no use.
     pub fn enter(&mut self, seat: &Seat) -> bool
         ensures { (ts us : List SeatValue) → Stands self.old ts → IsMore seat.now ts us → result ≡ true → Stands self.new us }
     {
         if !line_up(&mut self.lines, seat) {
+            return false;
+        }
+        if !start_run(&mut self.runs, seat) {
             return false;
         }
         count_in(&mut self.counters, seat)
@@ -160,22 +192,33 @@ impl Index {
         ensures { (ts us : List SeatValue) → Stands self.old us → IsMore seat.now ts us → Stands self.new ts }
     {
         step_out(&mut self.lines, seat);
+        end_run(&mut self.runs, seat);
         count_out(&mut self.counters, seat);
     }
 
-    /// The index of rows, where it can be had.
-    pub fn build(alloc: Global, rows: &Table<RequestId, Row>) -> Option<Index>
-        ensures { IfSome result (λ i. StandsForIndex i rows.now.items) }
+    // The index of seats, where it can be had.
+    fn of(alloc: Global, seats: &[Seat]) -> Option<Index>
+        ensures { IfSome result (λ i. Stands i seats.now) }
     {
         let mut index = Index::empty(alloc);
         let mut place = 0;
-        while place < rows.len() {
-            if !index.enter(&Seat::of(rows.at(place))) {
+        while place < seats.len() {
+            if !index.enter(&seats[place]) {
                 return None;
             }
             place += 1;
         }
         Some(index)
+    }
+
+    /// The index of rows, where it can be had. They come in in the order in which they start, so
+    /// that each is the last of its line.
+    pub fn build(alloc: Global, rows: &Table<RequestId, Row>) -> Option<Index>
+        ensures { IfSome result (λ i. StandsForIndex i rows.now.items) }
+    {
+        let mut seats = seats_of(alloc, rows)?;
+        sort(&mut seats);
+        Index::of(alloc, &seats)
     }
 
     /// How many queues have a line.
@@ -209,6 +252,15 @@ impl Index {
         ensures { result ≡ counted_in tally.now self.now }
     {
         count(&self.counters, tally)
+    }
+
+    /// The least running request, by the host of its submission and then by its number. It takes a
+    /// look at those that run.
+    pub fn least_running(&self) -> Option<RequestId>
+        ensures some { IfSome result (λ id. IsLeast id (running_in self.now)) }
+        ensures none { IfNone result (running_in self.now ≡ []) }
+    {
+        least(&self.runs)
     }
 
     /// The rows of a queue that wait without a hold, in the order in which they start.

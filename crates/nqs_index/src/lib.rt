@@ -2,8 +2,9 @@
 //! a limit asks for.
 //!
 //! `key` has what orders rows, `steps` the count of comparisons, `line` a queue's waiting rows,
-//! `lines` the lines of all queues, `tally` the counts, `seat` what an index sees of a row, `index`
-//! all of it. `specs/Indexed.antt` says which index stands for which rows.
+//! `lines` the lines of all queues, `tally` the counts, `runs` the running requests, `seat` what an
+//! index sees of a row, `index` all of it. `specs/Indexed.antt` says which index stands for which
+//! rows.
 #![tactic(auto)]
 
 mod index;
@@ -11,6 +12,7 @@ mod key;
 mod line;
 mod lines;
 mod nobody;
+mod runs;
 mod seat;
 mod steps;
 mod tally;
@@ -19,6 +21,7 @@ pub use index::Index;
 pub use key::Key;
 pub use line::{Entry, Line};
 pub use lines::{Lines, QueueLine};
+pub use runs::{Run, Runs, is_less};
 pub use seat::Seat;
 pub use steps::Steps;
 pub use tally::{Counter, Counters, Tally};

@@ -4,8 +4,7 @@ ghost use Rattle.std.specs.Prelude.{◌≡◌, ◌++◌, ◌∷◌, [], IfOk, On
 ghost use Rattle.nqs_state.specs.State.{content};
 ghost use Rattle.nqs_types.specs.declared.event.Event.TheVariants as event;
 ghost use Rattle.nqs_disk.specs.MemDisk as mem;
-ghost use Rattle.nqs_rules.specs.Tests.{is_running};
-ghost use Rattle.nqs_rules.specs.World.{World as Network, Host, is_less_id, finishes_up};
+ghost use Rattle.nqs_rules.specs.World.{World as Network, Host, finishes_up};
 ghost use Rattle.nqs_node.specs.Nodes.{history_of, content_of, is_stopped};
 ghost use Rattle.nqs_store.specs.Disks.{histories_of};
 ghost use Rattle.nqs_store.specs.Sound.{IsSoundHost};
@@ -21,7 +20,7 @@ use crate::turn::Turn;
 use nqs_disk::{Lack, MemDisk};
 use nqs_node::Node;
 use nqs_state::HostState;
-use nqs_types::{Event, Message, RequestId, Row, RowState, Seen};
+use nqs_types::{Event, Message, RequestId, Seen};
 use nqs_values::Bytes;
 use std::alloc::Global;
 
@@ -36,30 +35,13 @@ pub enum Deed {
     Boot,
 }
 
-fn is_running(row: &Row) -> bool
-    ensures { result ≡ is_running row.now.state }
-{
-    row.state == RowState::Running
-}
-
-fn is_less(one: &Row, other: &Row) -> bool
-    ensures { result ≡ is_less_id one.now.id other.now.id }
-{
-    one.id.host.0 < other.id.host.0
-        || (one.id.host.0 == other.id.host.0 && one.id.seq < other.id.seq)
-}
-
 // The least running request, by the host of its submission and then by its number, and how often it
 // was started.
 fn least_running(state: &HostState) -> Option<(RequestId, u16)>
     ensures { result ≡ least_of (content state.now).rows }
 {
-    let least = state.rows.best(
-        |row: &Row| is_running(row),
-        |one: &Row, other: &Row| is_less(one, other),
-    );
-    match least {
-        Some((_, row)) => Some((row.id, row.starts)),
+    match state.rows.least_running() {
+        Some(row) => Some((row.id, row.starts)),
         None => None,
     }
 }

@@ -1,4 +1,4 @@
-//! Why a call of the spool failed.
+//! Why a call of the spool failed, and why a disk can't have extents.
 ghost use Rattle.std.specs.Prelude.{◌≡◌};
 ghost use Rattle.nqs_values.specs.Want.{want};
 
@@ -48,5 +48,25 @@ impl From<Failed> for SpoolFault {
 
     fn from(_: Failed) -> Self {
         SpoolFault::Disk
+    }
+}
+
+/// Why a disk can't have extents.
+#[derive(Debug, PartialEq, Eq, Error, Drop)]
+pub enum ExtentFault {
+    /// The first that runs past the disk's end or meets an earlier one begins at this place.
+    #[error("no extent of the disk: byte {0}")]
+    Bad(u64),
+    #[error("out of memory")]
+    Memory(Memory),
+}
+
+impl From<Memory> for ExtentFault {
+    ghost use Rattle.nqs_spool.specs.declared.fault.ExtentFault.TheVariants as fault;
+
+    ghost from_gives = { λ _ e. e ≡ fault.Memory want };
+
+    fn from(memory: Memory) -> Self {
+        ExtentFault::Memory(memory)
     }
 }

@@ -1,19 +1,23 @@
 //! The live extents of a disk, as a set in order of place. An empty extent isn't kept.
-ghost use Rattle.std.specs.Prelude.{◌≡◌, ◌⊎◌, ◌+◌, ◌<◌, ◌≤◌, ◌^◌, max, nat_le, ℕ, [], false, IsTrue, OnOk, OnErr, IfOk, List, vec_len};
+ghost use Rattle.std.specs.Prelude.{◌≡◌, ◌⊎◌, ◌+◌, ◌<◌, ◌≤◌, ◌^◌, max, nat_le, ℕ, [], false, IsTrue, OnOk, OnErr, IfOk, IfErr, List, vec_len};
 ghost use Rattle.std.specs.List.{AllByRecursion};
 ghost use Rattle.nqs_values.specs.declared.extent.Extent.{Extent};
 ghost use Rattle.nqs_spool.specs.Slots.{IsRow, IsRow-prop};
-ghost use Rattle.nqs_spool.specs.Extents.{past, IsClearOf, AreApart, IsLeastPlace, Has, IsWith, IsWithin, Covers};
+ghost use Rattle.nqs_spool.specs.Extents.{past, IsClearOf, AreApart, IsLeastPlace, Has, IsWith, IsWithin, AreSound, Covers};
+ghost use Rattle.nqs_spool.specs.Faults.{IsFaultOf};
 
+use crate::ExtentFault;
 use crate::tree::{Room, Tree};
 use nqs_values::{Extent, Memory};
 use std::alloc::Global;
 
-/// Each slot of the tree begins its free bytes where the one before ends; `end` is behind the last.
+/// The live extents of a disk, but those that are empty.
 #[derive(Drop)]
-pub(crate) struct LiveExtents {
+pub struct LiveExtents {
     alloc: Global,
+    // Each slot begins its free bytes where the one before ends.
     tree: Tree,
+    // Behind the last.
     end: u64,
     rooms: Vec<Room>,
     ghost row: { IsRow 0 tree end } by { IsRow-prop 0 tree end },
@@ -23,7 +27,7 @@ impl LiveExtents {
     ghost use Rattle.nqs_spool.specs.Live.{kept, slots, end_of, room_of, place_for};
 
     /// The set that is empty.
-    pub fn new(alloc: Global) -> LiveExtents
+    pub(crate) fn new(alloc: Global) -> LiveExtents
         ensures none { kept result ≡ [] }
         ensures end { end_of result ≡ 0 }
     {
@@ -35,8 +39,27 @@ impl LiveExtents {
         }
     }
 
+    /// The set of these, if each ends within so many bytes and meets no earlier one. Each costs
+    /// logarithmic time.
+    pub fn load_sound(alloc: Global, live: &[Extent], size: u64) -> Result<LiveExtents, ExtentFault>
+        ensures sound { IfOk result (λ _. AreSound size live.now) }
+        ensures covers { IfOk result (λ loaded. Covers (kept loaded) live.now) }
+        ensures end { IfOk result (λ loaded. end_of loaded ≤ size) }
+        ensures fault { IfErr result (IsFaultOf size live.now) }
+    {
+        let mut loaded = LiveExtents::new(alloc);
+        let mut rest = live;
+        'extents: while let Some((extent, more)) = rest.split_first() {
+            if !loaded.add_sound(extent, size)? {
+                return Err(ExtentFault::Bad(extent.place));
+            }
+            rest = more;
+        }
+        Ok(loaded)
+    }
+
     /// The set of these. An `Err` is want of memory, here and below.
-    pub fn load(alloc: Global, live: &[Extent]) -> Result<LiveExtents, Memory>
+    pub(crate) fn load(alloc: Global, live: &[Extent]) -> Result<LiveExtents, Memory>
         requires apart { AreApart live.now }
         requires small { AllByRecursion (λ extent. past extent < 2 ^ 64) live.now }
         ensures covers { IfOk result (λ loaded. Covers (kept loaded) live.now) }
@@ -52,7 +75,7 @@ impl LiveExtents {
     }
 
     /// Memory for so many more.
-    pub fn make_room(&mut self, count: u64) -> Result<(), Memory>
+    pub(crate) fn make_room(&mut self, count: u64) -> Result<(), Memory>
         ensures room { OnOk result (count ≤ room_of self.new) }
         ensures more { room_of self.old ≤ room_of self.new }
         ensures same { slots self.new ≡ slots self.old }
@@ -65,7 +88,7 @@ impl LiveExtents {
     }
 
     /// Memory for one.
-    pub fn take_room(&mut self) -> Result<Room, Memory>
+    pub(crate) fn take_room(&mut self) -> Result<Room, Memory>
         ensures memory { OnErr result (room_of self.old ≡ 0) }
         ensures room { room_of self.old ≤ room_of self.new + 1 }
         ensures same { slots self.new ≡ slots self.old }
@@ -78,7 +101,7 @@ impl LiveExtents {
     }
 
     /// The least place at which so many bytes meet none.
-    pub fn least_place(&self, count: u32) -> u64
+    pub(crate) fn least_place(&self, count: u32) -> u64
         requires { 0 < count }
         ensures least { IsLeastPlace (kept self.now) count result }
         ensures place { result ≡ place_for self.now count }
@@ -102,11 +125,12 @@ impl LiveExtents {
 
     /// One extent more, if it ends within so many bytes and meets none. The answer is whether it
     /// does.
-    pub fn add_sound(&mut self, extent: &Extent, size: u64) -> Result<bool, Memory>
+    pub(crate) fn add_sound(&mut self, extent: &Extent, size: u64) -> Result<bool, Memory>
         ensures sound { IfOk result (λ sound. IsTrue sound → (live more : List Extent) → IsWith live extent.now more
             → Covers (kept self.old) live → IsWithin size extent.now × IsClearOf live extent.now × Covers (kept self.new) more) }
         ensures bad { IfOk result (λ sound. sound ≡ false → (live : List Extent) → Covers (kept self.old) live
             → (size < past extent.now) ⊎ (IsClearOf live extent.now → ⊥)) }
+        ensures end { IfOk result (λ sound. IsTrue sound → end_of self.new ≤ max (end_of self.old) (past extent.now)) }
     {
         if !is_within(extent, size) {
             return Ok(false);
@@ -119,7 +143,7 @@ impl LiveExtents {
     }
 
     /// One extent more, in this memory. It takes no other.
-    pub fn insert(&mut self, room: Room, extent: Extent)
+    pub(crate) fn insert(&mut self, room: Room, extent: Extent)
         requires clear { IsClearOf (kept self.old) extent }
         requires some { 0 < extent.length }
         requires small { past extent < 2 ^ 64 }
@@ -150,7 +174,7 @@ impl LiveExtents {
     }
 
     /// Takes the extent out. It takes no memory.
-    pub fn remove(&mut self, extent: &Extent)
+    pub(crate) fn remove(&mut self, extent: &Extent)
         ensures less { Has (kept self.old) extent.now → IsWith (kept self.new) extent.now (kept self.old) }
         ensures end { end_of self.new ≤ end_of self.old }
         ensures room { room_of self.old ≤ room_of self.new }

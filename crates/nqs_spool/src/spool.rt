@@ -7,8 +7,8 @@ ghost use Rattle.nqs_values.specs.Want.{want};
 ghost use Rattle.nqs_outside.specs.Causes.{Rose};
 ghost use Rattle.nqs_outside.specs.History.{Call, content, IsQuiet, extended, moment, EachSince, StopsShort, IsExact, IsWhole};
 ghost use Rattle.nqs_spool.specs.Puts.{put_calls};
-ghost use Rattle.nqs_spool.specs.Extents.{extent_at, past, AreApart, IsLeastPlace, Has, IsWith, Holds};
-ghost use Rattle.nqs_spool.specs.Live.{end_of};
+ghost use Rattle.nqs_spool.specs.Extents.{extent_at, past, AreApart, IsLeastPlace, Has, IsWith, Holds, Covers};
+ghost use Rattle.nqs_spool.specs.Live.{kept, end_of};
 
 use crate::SpoolFault;
 use crate::live::LiveExtents;
@@ -31,6 +31,17 @@ pub struct Spool<D: Disk> {
 impl<D: Disk> Spool<D> {
     ghost use Rattle.nqs_spool.specs.Spooled.{disk_of, history_of, room_of, place_for, Tells};
 
+    /// Opens a spool whose live extents are those of the set. It makes no call of the disk.
+    pub fn open(disk: D, live: LiveExtents) -> Spool<D>
+        requires within { IsTrue D.tells → end_of live ≤ length (content (D.history disk)) }
+        requires quiet { IsTrue D.tells → IsQuiet (D.history disk) }
+        ensures tells { (extents : List Extent) → Covers (kept live) extents
+            → (IsTrue D.tells → AllByRecursion (λ extent. past extent ≤ length (content (D.history disk))) extents) → Tells result extents }
+        ensures same { disk_of result ≡ disk }
+    {
+        Spool { disk, live }
+    }
+
     /// Opens a spool whose live extents are these, in any order. It makes no call of the disk.
     /// The only fault is `Memory`, which hands the disk back.
     pub fn load(alloc: Global, disk: D, live: &[Extent]) -> Result<Spool<D>, (SpoolFault, D)>
@@ -43,7 +54,7 @@ impl<D: Disk> Spool<D> {
         ensures refused { IfErr result (λ e. (e.0 ≡ SpoolFault.Memory want) × (e.1 ≡ disk)) }
     {
         match LiveExtents::load(alloc, live) {
-            Ok(live) => Ok(Spool { disk, live }),
+            Ok(live) => Ok(Spool::open(disk, live)),
             Err(memory) => Err((SpoolFault::Memory(memory), disk)),
         }
     }

@@ -1,3 +1,4 @@
 pub mod State
 pub mod Keys
+pub mod Least
 pub mod Room

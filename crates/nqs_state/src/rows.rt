@@ -12,13 +12,14 @@ ghost use Rattle.nqs_types.specs.declared.ids.RequestId.{RequestId};
 ghost use Rattle.nqs_types.specs.declared.request.Row.{Row};
 ghost use Rattle.nqs_values.specs.declared.extent.Extent.{Extent};
 ghost use Rattle.nqs_state.specs.Keys.{is_row};
+ghost use Rattle.nqs_state.specs.Least.{runs_now, least_running};
 ghost use Rattle.nqs_index.specs.declared.seat.Seat.{Seat as SeatValue};
 ghost use Rattle.nqs_index.specs.Seats.{seat_of};
 ghost use Rattle.nqs_index.specs.Indexed.{IsMore, Stands, StandsForIndex};
 
-use nqs_index::{Index, Seat};
+use nqs_index::{Index, Seat, is_less};
 use nqs_keyed::Table;
-use nqs_types::{RequestId, Row};
+use nqs_types::{RequestId, Row, RowState};
 use std::alloc::{AllocError, Global};
 use std::marker::Model;
 
@@ -97,6 +98,55 @@ fn seat_at(table: &Table<RequestId, Row>, key: &RequestId) -> Option<Seat>
 {
     match table.get(key) {
         Some(row) => Some(Seat::of(row)),
+        None => None,
+    }
+}
+
+fn is_running(row: &Row) -> bool
+    ensures { result ≡ runs_now row.now }
+{
+    row.state == RowState::Running
+}
+
+// The least running row, found by a look at all.
+fn least_of(table: &Table<RequestId, Row>) -> Option<&Row>
+    ensures { option_copied result ≡ least_running table.now.items }
+{
+    let least = table.best(
+        |row: &Row| is_running(row),
+        |one: &Row, other: &Row| is_less(&one.id, &other.id),
+    );
+    match least {
+        Some((_, row)) => Some(row),
+        None => None,
+    }
+}
+
+// The row with this id, where it runs.
+fn running_at<'a>(table: &'a Table<RequestId, Row>, id: &RequestId) -> Option<&'a Row>
+    ensures { IfSome result (λ r. (find (is_row id.now) table.now.items ≡ Some r.now) × (runs_now r.now ≡ true)) }
+{
+    match table.get(id) {
+        Some(row) => {
+            if is_running(row) {
+                return Some(row);
+            }
+            None
+        }
+        None => None,
+    }
+}
+
+// The least running row, found by the index.
+fn least_by_index<'a>(index: &Index, table: &'a Table<RequestId, Row>) -> Option<&'a Row>
+    requires { StandsForIndex index.now table.now.items }
+    ensures { option_copied result ≡ least_running table.now.items }
+{
+    match index.least_running() {
+        Some(id) => match running_at(table, &id) {
+            Some(row) => Some(row),
+            None => least_of(table),
+        },
         None => None,
     }
 }
@@ -296,5 +346,16 @@ impl Rows {
             → option_map (λ x. (x.0, x.1.now)) result ≡ best_from p b 0 self.now.items }
     {
         self.table.best(passes, beats)
+    }
+
+    /// The first of the running rows whose request is the least, by the host of its submission and
+    /// then by its number. Where there is an index, it takes a look at those that run alone.
+    pub fn least_running(&self) -> Option<&Row>
+        ensures { option_copied result ≡ least_running self.now.items }
+    {
+        match &self.index {
+            Some(index) => least_by_index(index, &self.table),
+            None => least_of(&self.table),
+        }
     }
 }

@@ -9,7 +9,8 @@ ghost use Rattle.nqs_values.specs.declared.extent.Extent.{Extent};
 ghost use Rattle.nqs_types.specs.declared.world.Which.{Which};
 ghost use Rattle.nqs_outside.specs.History.{IsQuiet, content as bytes_now};
 ghost use Rattle.nqs_rules.specs.Journals.{is_second};
-ghost use Rattle.nqs_spool.specs.Extents.{AreSound, AreApart, past};
+ghost use Rattle.nqs_spool.specs.Extents.{AreSound, Covers, past};
+ghost use Rattle.nqs_spool.specs.Live.{kept, end_of};
 ghost use Rattle.nqs_spool.specs.Spooled.{disk_of as spool_disk, history_of as spool_history, Tells as SpoolTells};
 ghost use Rattle.nqs_journal.specs.Faults.{IsReadingFault};
 ghost use Rattle.nqs_journal.specs.Open.{disk_of as journal_disk, history_of as journal_history, is_stopped as is_journal_stopped};
@@ -28,7 +29,7 @@ use crate::live::live_extents;
 use crate::tell::{TellFault, tell};
 use nqs_journal::{Journal, JournalFault, read_either};
 use nqs_outside::{Disk, Failed};
-use nqs_spool::{Spool, SpoolFault, bad_extent};
+use nqs_spool::{ExtentFault, LiveExtents, Spool};
 use nqs_state::HostState;
 use nqs_types::Which;
 use nqs_values::{Bytes, Extent};
@@ -59,19 +60,6 @@ fn journal_fault(on: Which, fault: JournalFault) -> LoadFault
         // Only an append has these.
         JournalFault::TooLong => unreachable!(),
         JournalFault::Stopped => unreachable!(),
-    }
-}
-
-// Why a spool wasn't opened.
-fn unopened(fault: SpoolFault) -> LoadFault
-    requires { fault ≡ SpoolFault.Memory want }
-    ensures { result ≡ LoadFault.Memory want }
-{
-    match fault {
-        SpoolFault::Memory(memory) => LoadFault::Memory(memory),
-        // It is opened without bytes and without a call.
-        SpoolFault::TooLong => unreachable!(),
-        SpoolFault::Disk => unreachable!(),
     }
 }
 
@@ -109,19 +97,22 @@ fn told_host(
     }
 }
 
-// The live extents of a host, which a spool of so many bytes may have.
-fn sound_extents(alloc: Global, state: &HostState, size: u64) -> Result<Vec<Extent>, LoadFault>
-    ensures ok { IfOk result (λ extents. (extents.items ≡ live (content state.now)) × AreSound size (live (content state.now))) }
+// The set of a host's live extents, which a spool of so many bytes may have.
+fn sound_extents(alloc: Global, state: &HostState, size: u64) -> Result<LiveExtents, LoadFault>
+    ensures sound { IfOk result (λ _. AreSound size (live (content state.now))) }
+    ensures covers { IfOk result (λ extents. Covers (kept extents) (live (content state.now))) }
+    ensures end { IfOk result (λ extents. end_of extents ≤ size) }
     ensures err { IfErr result (IsExtentFault size (live (content state.now))) }
 {
     let extents = live_extents(alloc, state)?;
-    match bad_extent(alloc, &extents, size)? {
-        Some(place) => Err(LoadFault::NotNqs(Which::Spool, place)),
-        None => Ok(extents),
+    match LiveExtents::load_sound(alloc, &extents, size) {
+        Ok(extents) => Ok(extents),
+        Err(ExtentFault::Bad(place)) => Err(LoadFault::NotNqs(Which::Spool, place)),
+        Err(ExtentFault::Memory(memory)) => Err(LoadFault::Memory(memory)),
     }
 }
 
-// The host that a journal tells, with its live extents in the spool.
+// The host that a journal tells, with the set of its live extents in the spool.
 fn host_in<D: Disk>(
     alloc: Global,
     on: Which,
@@ -129,12 +120,12 @@ fn host_in<D: Disk>(
     snapshot: &[u8],
     payloads: &[Bytes],
     spool: &mut D,
-) -> Result<(HostState, Vec<Extent>), LoadFault>
+) -> Result<(HostState, LiveExtents), LoadFault>
     requires { length (front_of has snapshot.now ++ records payloads.now) ≤ 2 ^ 40 }
     ensures host { IfOk result (λ r. (told_by has snapshot.now payloads.now ≡ Some (content r.0)) × IsSoundHost (content r.0)
-        × (r.1.items ≡ live (content r.0))) }
+        × Covers (kept r.1) (live (content r.0))) }
     ensures extents { IfOk result (λ r. (size : ℕ) × (size ≤ 2 ^ 40) × AreSound size (live (content r.0))
-        × (IsTrue D.tells → size ≡ length (bytes_now (D.history spool.old)))) }
+        × (IsTrue D.tells → size ≡ length (bytes_now (D.history spool.old))) × (end_of r.1 ≤ size)) }
     ensures fault { IsTrue D.tells → IfErr result (IsReadFault on has snapshot.now payloads.now (bytes_now (D.history spool.old))) }
     ensures failed { (which : Which) → IsErrOf result (LoadFault.Disk which) → (which ≡ Which.Spool)
         × OneFailedToRead D.tells D.history D.fails D.faults spool.old spool.new }
@@ -233,27 +224,23 @@ pub(crate) fn reread_host<D: Disk>(
     }
 }
 
-// The spool with these extents, and the other journal at rest.
+// The spool with the set of its live extents, and the other journal at rest.
 fn open_rest<D: Disk>(
     alloc: Global,
     resting: D,
     spool: D,
-    extents: &[Extent],
+    extents: LiveExtents,
 ) -> Result<(Journal<D>, Spool<D>), (LoadFault, D, D)>
-    requires small { AllByRecursion (λ x. past x < 2 ^ 64) extents.now }
-    requires apart { AreApart extents.now }
-    requires within { IsTrue D.tells → AllByRecursion (λ x. past x ≤ length (bytes_now (D.history spool))) extents.now }
+    requires within { IsTrue D.tells → end_of extents ≤ length (bytes_now (D.history spool)) }
     requires quiet { IsTrue D.tells → IsQuiet (D.history spool) }
-    ensures tells { IfOk result (λ r. SpoolTells r.1 extents.now) }
+    ensures tells { IfOk result (λ r. (live : List Extent) → Covers (kept extents) live
+        → (IsTrue D.tells → AllByRecursion (λ x. past x ≤ length (bytes_now (D.history spool))) live) → SpoolTells r.1 live) }
     ensures same { MatchResult result (λ r. (journal_disk r.0 ≡ resting) × (spool_disk r.1 ≡ spool)) (λ e. (e.1 ≡ resting) × (e.2 ≡ spool)) }
     ensures fault { IfErr result (λ e. e.0 ≡ LoadFault.Memory want) }
 {
-    match Spool::load(alloc, spool, extents) {
-        Err((fault, spool)) => Err((unopened(fault), resting, spool)),
-        Ok(spool) => match Journal::rest(alloc, resting) {
-            Err((fault, resting)) => Err((unrested(fault), resting, spool.close())),
-            Ok(other) => Ok((other, spool)),
-        },
+    match Journal::rest(alloc, resting) {
+        Err((fault, resting)) => Err((unrested(fault), resting, spool)),
+        Ok(other) => Ok((other, Spool::open(spool, extents))),
     }
 }
 
@@ -288,7 +275,7 @@ pub(crate) fn open_with<D: Disk>(
         Err((fault, active)) => Err((journal_fault(on, fault), active, resting, spool)),
         Ok((journal, has)) => match host_in(alloc, on, has, &snapshot, &found, &mut spool) {
             Err(fault) => Err((fault, journal.close(), resting, spool)),
-            Ok((state, extents)) => match open_rest(alloc, resting, spool, &extents) {
+            Ok((state, extents)) => match open_rest(alloc, resting, spool, extents) {
                 Err((fault, resting, spool)) => Err((fault, journal.close(), resting, spool)),
                 Ok((other, spool)) => Ok((journal, other, spool, state)),
             },

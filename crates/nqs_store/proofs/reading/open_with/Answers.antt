@@ -2,7 +2,6 @@ use Rattle.std.proofs.Common.{◌≡◌, ◌∙◌, ◌++◌, ◌≤◌, Some, l
 use Rattle.std.specs.List.{AllByRecursion}
 use Rattle.nqs_state.specs.State.{content}
 use Rattle.nqs_outside.specs.History.{content as bytes_now}
-use Rattle.nqs_spool.specs.Spooled as spool
 use Rattle.nqs_spool.specs.Extents.{past}
 use Rattle.nqs_store.specs.Live.{live}
 use Rattle.nqs_store.specs.Told.{told_by}
@@ -10,11 +9,8 @@ use Rattle.nqs_store.proofs.reading.open_with.Goals as goal
 
 pub open_rest-requires-clause-within : goal.open_rest-requires-clause-within
 open_rest-requires-clause-within g c = λ told.
-    let e = c.in-Ok-host_in.ensures in
-    let extents = c.deref-in-Ok-host_in.ensures.value ∙ e.host.2 in
-    let size = e.extents.3 told ∙ ap (λ h. length (bytes_now h)) (sym (c.host_in.ensures.reads.same told)) in
-    subst (AllByRecursion (λ x. past x ≤ length (bytes_now (g.D.Disk.history c.host_in.new.spool)))) (sym extents)
-    (subst (λ n. AllByRecursion (λ x. past x ≤ n) (live (content c.in-Ok-host_in.state))) size e.extents.2.within)
+    let e = c.in-Ok-host_in.ensures.extents in
+    omega (arith, e.4, e.3 told, ap (λ h. length (bytes_now h)) (c.host_in.ensures.reads.same told))
 
 pub returns-in-Err-open_rest-clause-active : goal.returns-in-Err-open_rest-clause-active
 returns-in-Err-open_rest-clause-active g c =
@@ -33,7 +29,8 @@ returns-clause-opened g c = λ told.
     let host = content c.in-Ok-host_in.state in
     let front = c.deref.ensures.value ∙ t.4 ∙ ap (λ l. l ++ t.0) c.new-snapshot.ensures.items in
     let all = c.deref-in-Ok.ensures.value ∙ t.5 ∙ ap (λ l. l ++ t.1) c.new-found.ensures.items in
-    let extents = c.deref-in-Ok-host_in.ensures.value ∙ c.in-Ok-host_in.ensures.host.2 in
+    let e = c.in-Ok-host_in.ensures in
+    let size = e.extents.3 told ∙ ap (λ h. length (bytes_now h)) (sym (c.host_in.ensures.reads.same told)) in
     record {
       has = c.in-Ok.has;
       snapshot = t.0;
@@ -43,5 +40,6 @@ returns-clause-opened g c = λ told.
       many = omega (arith, c.in-Ok.ensures.counted, ap length t.5, length-append c.new-found.result.items t.1);
       records = subst (λ s. told_by c.in-Ok.has s t.1 ≡ Some host) front
           (subst (λ ps. told_by c.in-Ok.has c.deref.result.now ps ≡ Some host) all c.in-Ok-host_in.ensures.host.0);
-      spool = subst (λ xs. spool.Tells c.in-Ok-open_rest.spool xs) extents c.in-Ok-open_rest.ensures.tells;
+      spool = c.in-Ok-open_rest.ensures.tells (live host) e.host.2
+          (λ _. subst (λ n. AllByRecursion (λ x. past x ≤ n) (live host)) size e.extents.2.within);
     }

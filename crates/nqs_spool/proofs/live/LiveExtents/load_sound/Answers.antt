@@ -1,9 +1,9 @@
-use Rattle.std.proofs.Common.{[], ◌∷◌, ◌++◌, refl, sym, ap, ◌∙◌, subst, append_assoc}
+use Rattle.std.proofs.Common.{[], ◌∷◌, ◌++◌, refl, sym, ap, ◌∙◌, subst, arith, append_assoc}
 use Rattle.std.proofs.lemmas.List.{append-nil}
 use Rattle.std.specs.List.{AllByRecursion}
 use Rattle.nqs_spool.specs.Extents.{IsWithin, IsWith}
 use Rattle.nqs_spool.proofs.Lists.{all_put}
-use Rattle.nqs_spool.proofs.sound.bad_extent.Goals as goal
+use Rattle.nqs_spool.proofs.live.LiveExtents.load_sound.Goals as goal
 
 pub extents-preserved : goal.extents-preserved
 extents-preserved c =
@@ -16,4 +16,5 @@ extents-preserved c =
       whole ∙ sym (append_assoc inv.0 (x ∷ []) c.in-Some.more.now),
       all_put (IsWithin c.args.size) inv.0 [] x sound.0 (subst (AllByRecursion (IsWithin c.args.size)) (sym (append-nil inv.0)) inv.2),
       sound.2,
+      omega (arith, c.in_ok-add_sound.ensures.end c.if-not-branch.false, sound.0, inv.4),
     )
