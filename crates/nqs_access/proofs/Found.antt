@@ -3,7 +3,7 @@ use Rattle.nqs_state.specs.State.{State}
 use Rattle.nqs_state.specs.Keys.{is_queue, is_complex}
 use Rattle.nqs_types.specs.declared.queue.QueueDef.{QueueDef}
 use Rattle.nqs_types.specs.declared.queue.ComplexDef.{ComplexDef}
-use Rattle.nqs_keyed.proofs.TableLemmas.{is_some-find}
+use Rattle.nqs_base_tables.proofs.TableLemmas.{is_some-find}
 use Rattle.nqs_rules.specs.Find.{find_queue, has_queue, find_complex, has_complex}
 
 -- what is found is there, and what isn't found is not

@@ -10,9 +10,9 @@ ghost use Rattle.nqs_rules.specs.Edits.{change_queue};
 ghost use Rattle.nqs_rules.specs.Find.{find_queue};
 
 use crate::names::drop_name;
+use nqs_base::{ListOf, Name, NameList, Spare};
 use nqs_state::HostState;
 use nqs_types::{Access, AccessEdit, QueueDef};
-use nqs_values::{ListOf, Name, NameList, Spare};
 
 // The queue has another access: what any edit does that gives it that access.
 fn set_access(state: &mut HostState, queue: &Name, access: Access)

@@ -9,9 +9,9 @@ ghost use Rattle.nqs_rules.specs.Find.{has_name};
 
 use crate::names::{has_name, known_queue};
 use crate::way::admits;
+use nqs_base::Name;
 use nqs_state::HostState;
 use nqs_types::{Access, AccessEdit, QueueDef, Refusal};
-use nqs_values::Name;
 
 fn is_full(access: &Access) -> bool
     ensures { result ≡ is_full access.now }

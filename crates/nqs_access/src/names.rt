@@ -1,15 +1,15 @@
 //! Names in lists, and queues by name: what the checks and edits of several kinds share.
 ghost use Rattle.std.specs.Prelude.{◌≡◌, ◌<◌, length, position, IfSome};
-ghost use Rattle.nqs_values.specs.Same.{name_eq};
+ghost use Rattle.nqs_base.specs.Same.{name_eq};
 ghost use Rattle.nqs_state.specs.State.{content};
 ghost use Rattle.nqs_rules.specs.Access.{without_name};
 ghost use Rattle.nqs_rules.specs.Causes.{first_refusal};
 ghost use Rattle.nqs_rules.specs.Conf.{queue_causes};
 ghost use Rattle.nqs_rules.specs.Find.{has_name};
 
+use nqs_base::{Name, NameList};
 use nqs_state::HostState;
 use nqs_types::Refusal;
-use nqs_values::{Name, NameList};
 
 /// Whether the name is one of the list.
 pub fn has_name(names: &[Name], wanted: &Name) -> bool

@@ -5,9 +5,9 @@ ghost use Rattle.nqs_rules.specs.Access.{rank, is_conf_of_operators, is_device_e
 ghost use Rattle.nqs_rules.specs.Causes.{first_refusal};
 
 use crate::names::has_name;
+use nqs_base::Name;
 use nqs_state::HostState;
 use nqs_types::{Command, ConfEdit, DevicesEdit, Edit, Rank, Refusal};
-use nqs_values::Name;
 
 /// The rank of a user at this host. A manager who is an operator too is a manager.
 pub fn rank(state: &HostState, user: &Name) -> Rank

@@ -3,8 +3,8 @@ ghost use Rattle.std.specs.Prelude.{◌≡◌, ◌&&◌};
 ghost use Rattle.nqs_rules.specs.Access.{is_direct, admits, may_use};
 
 use crate::names::has_name;
+use nqs_base::Name;
 use nqs_types::{Access, Entry, QueueDef, Refusal};
-use nqs_values::Name;
 
 fn is_direct(entry: Entry) -> bool
     ensures { result ≡ is_direct entry }

@@ -6,7 +6,7 @@ ghost use Rattle.nqs_state.specs.State.{State, Plain};
 ghost use Rattle.nqs_types.specs.declared.change.Change.{Change};
 ghost use Rattle.nqs_types.specs.declared.event.Event.{Event};
 ghost use Rattle.nqs_types.specs.declared.event.Output.{Output};
-ghost use Rattle.nqs_values.specs.declared.extent.Extent.{Extent};
+ghost use Rattle.nqs_base.specs.declared.extent.Extent.{Extent};
 ghost use Rattle.nqs_rules.specs.Applied.{applied};
 ghost use Rattle.nqs_rules.specs.InOrder.{IsInOrder};
 ghost use Rattle.nqs_rules.specs.Measure.{starts_left};

@@ -2,9 +2,9 @@
 ghost use Rattle.std.specs.Prelude.{◌≤◌};
 
 use crate::stopped::Stopped;
+use nqs_base::Extent;
 use nqs_disk::MemDisk;
 use nqs_spool::Spool;
-use nqs_values::Extent;
 use std::alloc::Global;
 
 /// The longest list of bytes that is put.

@@ -1,6 +1,6 @@
 //! Why the work ended early.
 
-use nqs_values::Memory;
+use nqs_base::Memory;
 use std::alloc::AllocFailed;
 
 /// The storage refused a call. The disks are in memory and have no fuse, so memory was missing or a

@@ -3,10 +3,10 @@
 //! host is filled through a reference, and let go by `drop`.
 #![tactic(auto)]
 
-use nqs_keyed::Table;
+use nqs_base::{Bytes, Extent, Key, Keyed, ListOf, Memory, Name, Spare};
+use nqs_base_tables::Table;
 use nqs_state::{HostState, Rows};
 use nqs_types::{Access, Hold, HostId, Job, Kind, Limits, QueueDef, RequestId, Row, RowState};
-use nqs_values::{Bytes, Extent, Key, Keyed, ListOf, Memory, Name, Spare};
 use std::alloc::Global;
 
 /// No limit of processor time and none of memory.

@@ -5,7 +5,7 @@ use Rattle.std.specs.List.{list_any}
 use Rattle.nqs_state.specs.State.{State}
 use Rattle.nqs_types.specs.Ids.{peer_number_eq, peer_number_exact, stage_key}
 use Rattle.nqs_state.specs.Keys.{is_hand, is_stage, is_file}
-use Rattle.nqs_values.specs.Path.{is_path}
+use Rattle.nqs_base.specs.Path.{is_path}
 use Rattle.nqs_types.specs.declared.ids.HostId.{HostId}
 use Rattle.nqs_types.specs.declared.request.Hand.{Hand}
 use Rattle.nqs_types.specs.declared.request.Peer.{Peer}

@@ -1,7 +1,7 @@
 -- A refusal that is noted first, of a request that is queued again then.
 use Rattle.std.proofs.Common.{◌≡◌, ℕ, Bool, true, false, List, refl, ap, ◌∙◌}
 use Rattle.nqs_state.specs.State.{State}
-use Rattle.nqs_keyed.specs.Table.{change_first, without_first}
+use Rattle.nqs_base_tables.specs.Table.{change_first, without_first}
 use Rattle.nqs_state.specs.Keys.{is_row, is_hand}
 use Rattle.nqs_types.specs.declared.ids.PeerNumber.{PeerNumber}
 use Rattle.nqs_types.specs.declared.ids.Dest.{Dest}

@@ -11,10 +11,10 @@ ghost use Rattle.nqs_rules.specs.Applied.{add_file, add_stage, add_output, add_o
 ghost use Rattle.nqs_types.specs.declared.change.OutPart.{OutPart};
 
 use crate::peers::change_peer;
+use nqs_base::{Bytes, Extent, Items, Rest};
 use nqs_routing::find_peer;
 use nqs_state::HostState;
 use nqs_types::{FileOut, HostId, OutPart, Peer, RequestId, Stage};
-use nqs_values::{Bytes, Extent, Items, Rest};
 
 // A file of this host, under the next number if there is one.
 fn add_file(state: &mut HostState, part: OutPart)

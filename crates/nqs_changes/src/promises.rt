@@ -11,9 +11,9 @@ ghost use Rattle.nqs_rules.specs.Applied.{is_promise_of, promised, add_promised,
 
 use crate::peers::change_peer;
 use crate::rows::new_row;
+use nqs_base::{Extent, Name};
 use nqs_state::HostState;
 use nqs_types::{Carried, HostId, Peer, PeerNumber, Promise, Row, RowState};
-use nqs_values::{Extent, Name};
 
 /// Whether the promise is to this host.
 pub fn is_promise_of(promise: &Promise, peer: HostId) -> bool

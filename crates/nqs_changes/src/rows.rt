@@ -10,9 +10,9 @@ ghost use Rattle.nqs_rules.specs.Fits.{row_passes, runs, may_hop};
 ghost use Rattle.nqs_rules.specs.InOrder.{IsInOrder};
 ghost use Rattle.nqs_rules.specs.Applied.{new_row, submitted, is_offered_for, deleted, doomed_row, started_row, requeued_row, moved_local, held_far};
 
+use nqs_base::{Extent, ListOf, Name};
 use nqs_state::HostState;
 use nqs_types::{Carried, Hand, Hold, Job, PeerNumber, Phase, RequestId, Row, RowState};
-use nqs_values::{Extent, ListOf, Name};
 use std::alloc::Global;
 
 /// Whether the host has the request, and it runs.

@@ -1,6 +1,6 @@
 -- How the daemon ends, by how the boot and the serving did.
 use Rattle.std.proofs.Common.{◌≡◌, inl, inr, ℕ, Bool, IsTrue, List, [], Some, refl, sym, subst}
-use Rattle.nqs_values.specs.Want.{want}
+use Rattle.nqs_base.specs.Want.{want}
 use Rattle.nqs_state.specs.State.{Plain}
 use Rattle.nqs_types.specs.declared.change.Change.TheVariants.{Boot}
 use Rattle.nqs_types.specs.declared.event.Output.{Output}
@@ -46,7 +46,8 @@ unseen : (At : Plain → Type 0) (steps : List (Stepped (List ℕ))) (s : Plain)
 unseen At steps s went h broke = record { done = broke.done; left = broke.left; are = broke.are; at = tt; out = broke.out; leaves = broke.leaves }
 
 -- a run ends so where more than the state is told, of the same disks, and the host is seen no more
-pub ends_as : (P Q At : Plain → Type 0) (h k : Which → History) → ((s : Plain) → P s → Q s) → ((which : Which) → k which ≡ h which) → (so : ServeEnd) (turns : ℕ)
+pub ends_as : (P Q At : Plain → Type 0) (h k : Which → History) → ((s : Plain) → P s → Q s) → ((which : Which) → k which ≡ h which)
+    → (so : ServeEnd) (turns : ℕ)
     (bs : List Bool) (t : Turn) (more : Begun)
     → EndsWith P At h so turns bs t more → EndsWith Q Unseen k so turns bs t more
 ends_as P Q At h k f same end.Shutdown turns bs t more e = (e.0, e.1, f t.state e.2, e.3)

@@ -13,10 +13,10 @@ ghost use Rattle.nqs_cli.specs.Runs.{no_parts, BreaksOff};
 
 use crate::machine::Machine;
 use crate::parts::status_of_end;
+use nqs_base::{Memory, Name};
 use nqs_clients::{NqsStatus, ShepherdEnd, client, shepherd};
 use nqs_outside::{Sink, Source};
 use nqs_types::{HostId, RequestId};
-use nqs_values::{Memory, Name};
 use std::alloc::Global;
 
 // Adds copies of words.

@@ -1,7 +1,7 @@
 //! `nqs daemon`: a host is booted from its disks, and serves.
 
 ghost use Rattle.std.specs.Prelude.{◌≡◌, ◌⊎◌, ◌≤◌, ◌<◌, ℕ, List, IsTrue};
-ghost use Rattle.nqs_values.specs.declared.extent.Extent.{Extent};
+ghost use Rattle.nqs_base.specs.declared.extent.Extent.{Extent};
 ghost use Rattle.nqs_state.specs.State.{content};
 ghost use Rattle.nqs_rules.specs.Plain.{map_state};
 ghost use Rattle.nqs_types.specs.declared.world.Which.{Which};
@@ -15,6 +15,7 @@ ghost use Rattle.nqs_cli.specs.Runs.{Parts as Lists, IsWanting, DoesDaemon, Brea
 
 use crate::lending::{Parts, give_back, lend};
 use crate::machine::Machine;
+use nqs_base::Name;
 use nqs_clients::NqsStatus;
 use nqs_node::Node;
 use nqs_outside::{Clock, Disk, Launcher, Outlet, Printer, Wire};
@@ -22,7 +23,6 @@ use nqs_serve::{ServeEnd, serve};
 use nqs_state::HostState;
 use nqs_store::{Disks, LoadFault};
 use nqs_types::HostId;
-use nqs_values::Name;
 use std::alloc::Global;
 
 fn status_of_fault(fault: LoadFault) -> NqsStatus

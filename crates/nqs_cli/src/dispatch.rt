@@ -15,10 +15,10 @@ use crate::format::format;
 use crate::machine::Machine;
 use crate::parts::status_of_end;
 use nqs_access::place_of;
+use nqs_base::Name;
 use nqs_clients::NqsStatus;
 use nqs_outside::{Sink, Source};
 use nqs_types::{HostId, Named, RequestId};
-use nqs_values::Name;
 use nqs_words::name_of;
 use std::alloc::Global;
 

@@ -2,9 +2,9 @@
 
 use crate::dispatch::run;
 use crate::real::RealMachine;
+use nqs_base::Memory;
 use nqs_clients::NqsStatus;
 use nqs_real::{Reading, Writing, fill_streams};
-use nqs_values::Memory;
 use std::process::ExitCode;
 use std::rt::HostRuntime;
 use std::{env, io};

@@ -2,7 +2,7 @@
 
 ghost use Rattle.std.specs.Prelude.{◌≡◌, ◌⊎◌, ◌≤◌, ◌<◌, nat_lt, false, IsTrue, IfOk, IfErr, OnErr, length};
 ghost use Rattle.std.specs.List.{AllByRecursion};
-ghost use Rattle.nqs_values.specs.Name.{IsName};
+ghost use Rattle.nqs_base.specs.Name.{IsName};
 ghost use Rattle.nqs_types.specs.declared.world.Which.{Which};
 ghost use Rattle.nqs_outside.specs.Causes.{Rose};
 ghost use Rattle.nqs_outside.specs.History.{content};
@@ -14,11 +14,11 @@ ghost use Rattle.nqs_cli.specs.Runs.{Parts as Lists, IsWanting, DoesFormat, no_p
 
 use crate::machine::Machine;
 use crate::parts::status_of_end;
+use nqs_base::Name;
 use nqs_clients::NqsStatus;
 use nqs_outside::Disk;
 use nqs_store::{Disks, StoreFault};
 use nqs_types::HostId;
-use nqs_values::Name;
 use std::alloc::Global;
 
 // Whether a disk has a byte.

@@ -9,10 +9,10 @@ ghost use Rattle.nqs_outside.specs.History.{IsQuiet};
 ghost use Rattle.nqs_outside.specs.Told.{Extends};
 ghost use Rattle.nqs_store.specs.Disks.{histories_of};
 
+use nqs_base::{Memory, NameList};
 use nqs_outside::{Clock, Disk, Launcher, Outlet, Printer, Runner, Wire};
 use nqs_store::Disks;
 use nqs_types::HostId;
-use nqs_values::{Memory, NameList};
 
 /// Why a part can't be had.
 #[derive(Debug, Drop)]

@@ -8,13 +8,13 @@ ghost use Rattle.nqs_outside.specs.Told.{Extends};
 ghost use Rattle.nqs_outside.specs.Causes.{Rose};
 
 use crate::machine::{Machine, MachineEnd};
+use nqs_base::{Memory, NameList};
 use nqs_real::{
     FileDisk, FileOutlet, FilePrinter, HostLock, ShellRunner, ShepherdLauncher, SiteFault,
     SiteHost, SystemClock, UdpWire, make_host_folder, names_of, open_disks, own_program, read_site,
 };
 use nqs_store::Disks;
 use nqs_types::HostId;
-use nqs_values::{Memory, NameList};
 use std::alloc::AllocError;
 use std::fs::File;
 use std::io;

@@ -1,10 +1,10 @@
 //! Each form over a machine in memory, with its status and what it leaves.
 
 use crate::machine::{Count, MemMachine};
+use nqs_base::Memory;
 use nqs_cli::run;
 use nqs_clients::NqsStatus;
 use nqs_outside::{ListSource, MemSink};
-use nqs_values::Memory;
 use std::alloc::Global;
 use std::rt::HostRuntime;
 use std::test::Fail;

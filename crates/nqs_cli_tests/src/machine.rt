@@ -8,13 +8,13 @@ ghost use Rattle.nqs_outside.specs.History.{IsQuiet};
 ghost use Rattle.nqs_disk.specs.MemDisk.{history_of};
 ghost use Rattle.nqs_store.specs.Disks.{disk_at};
 
+use nqs_base::{Bytes, Items, Memory, Name, NameList, Tear};
 use nqs_cli::{Machine, MachineEnd};
 use nqs_disk::{Lack, MemDisk};
 use nqs_fakes::{Item, MemLauncher, MemOutlet, MemPrinter, MemRunner, MemWire};
 use nqs_outside::{Clock, RunEnd};
 use nqs_store::Disks;
 use nqs_types::HostId;
-use nqs_values::{Bytes, Items, Memory, Name, NameList, Tear};
 use std::alloc::Global;
 
 /// How many parts were handed out and came back.

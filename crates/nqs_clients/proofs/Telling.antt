@@ -3,7 +3,7 @@ use Rattle.std.proofs.Common.{◌≡◌, ℕ, List, [], ◌∷◌, subst, lit≤
 use Rattle.std.specs.declared.option.Option.{Option}
 use Rattle.nqs_types.specs.declared.ids.HostId.{HostId}
 use Rattle.nqs_types.specs.declared.ids.RequestId.{RequestId}
-use Rattle.nqs_values.specs.declared.memory.Memory as wanting
+use Rattle.nqs_base.specs.declared.memory.Memory as wanting
 use Rattle.nqs_outside.specs.Asked.{Arrival, Packet, packet, Job, ran}
 use Rattle.nqs_outside.specs.Told.{Extends}
 use Rattle.nqs_outside.specs.declared.runner.RunEnd.{RunEnd}

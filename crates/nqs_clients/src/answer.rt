@@ -1,6 +1,6 @@
 //! The answer of a host to a client.
 
-use nqs_values::Bytes;
+use nqs_base::Bytes;
 
 /// The answer of a host: whether it did what it was asked, and its text.
 #[derive(Drop)]

@@ -9,9 +9,9 @@ use crate::datagram::WaitStop;
 use crate::errand::{Errand, WordsStop, read_words};
 use crate::exchange::exchange;
 use crate::status::NqsStatus;
+use nqs_base::Name;
 use nqs_outside::{ReadStop, Sink, Source, Wire, read_whole, write_whole};
 use nqs_types::Tool;
-use nqs_values::Name;
 use std::alloc::Global;
 
 // The line that refuses a longer script.

@@ -8,10 +8,10 @@ ghost use Rattle.nqs_packets.specs.Spelling.{spelling};
 ghost use Rattle.nqs_packets.specs.Values.{MaySend};
 ghost use Rattle.nqs_clients.specs.Datagrams.{read_of, message_in, Receives, StopsFor};
 
+use nqs_base::Memory;
 use nqs_outside::{Received, Wire};
 use nqs_packets::{PacketFault, read_message, write_message};
 use nqs_types::Message;
-use nqs_values::Memory;
 use std::alloc::Global;
 
 /// The greatest length of a datagram, and one byte more, so that a longer one is none.

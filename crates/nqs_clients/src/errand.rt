@@ -4,8 +4,8 @@ ghost use Rattle.std.specs.Prelude.{◌≡◌, ◌+◌, ◌∷◌, ◌++◌, [],
 ghost use Rattle.std.specs.List.{sum_by, flat_map};
 ghost use Rattle.nqs_clients.specs.Errand.{tool_of, joined, words_of, are_short, made_of, place_of, errand_of, ReadsErrand, MayAsk};
 
+use nqs_base::{Bytes, Items, Memory, Name};
 use nqs_types::{HostId, Tool};
-use nqs_values::{Bytes, Items, Memory, Name};
 use nqs_words::name_of;
 use std::alloc::Global;
 

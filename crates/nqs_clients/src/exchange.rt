@@ -11,9 +11,9 @@ ghost use Rattle.nqs_clients.specs.Sides.{wired};
 use crate::answer::Answer;
 use crate::datagram::{WaitStop, receive_message, spelled};
 use crate::errand::Errand;
+use nqs_base::{Bytes, Memory};
 use nqs_outside::{Address, Wire};
 use nqs_types::{Body, HostId, Message};
-use nqs_values::{Bytes, Memory};
 use std::alloc::Global;
 
 // The token of the one ask.

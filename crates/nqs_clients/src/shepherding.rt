@@ -15,9 +15,9 @@ ghost use Rattle.nqs_clients.specs.Shepherd.{ended, is_ack, acknowledges, stoppe
 ghost use Rattle.nqs_clients.specs.declared.shepherding.ShepherdEnd.TheVariants.{WireFault};
 
 use crate::datagram::{WaitStop, receive_message, spelled};
+use nqs_base::{Bytes, Memory, Name};
 use nqs_outside::{Address, Failed, RunEnd, Runner, Wire};
 use nqs_types::{Body, HostId, Message, RequestId};
-use nqs_values::{Bytes, Memory, Name};
 use std::alloc::Global;
 
 // The greatest length of an output that is told.

@@ -1,6 +1,6 @@
 //! How a run of the program ends.
 
-use nqs_values::Memory;
+use nqs_base::Memory;
 
 /// How a run of the program ends. Each status has a number, with which the program exits.
 #[derive(Debug, PartialEq, Eq, Drop)]

@@ -1,10 +1,10 @@
 //! A client and a shepherd over a wire in memory, with datagrams as `docs/formats.md` has them.
 
 use crate::{NqsStatus, ShepherdEnd, client, shepherd};
+use nqs_base::{Bytes, Items, Memory, Name};
 use nqs_fakes::{Item, MemRunner, MemWire};
 use nqs_outside::{Address, ListSource, MemSink, RunEnd};
 use nqs_types::{HostId, RequestId};
-use nqs_values::{Bytes, Items, Memory, Name};
 use std::alloc::Global;
 use std::rt::HostRuntime;
 use std::test::Fail;

@@ -2,8 +2,8 @@
 use Rattle.std.proofs.Common.{◌≡◌, ℕ, ◌+◌, ◌<◌, ◌≤◌, ◌⊎◌, inl, inr, Bool, true, false, IsTrue, List, [], ◌∷◌, length, drop, refl, sym, ap, ◌∙◌, subst, arith}
 use Rattle.std.proofs.Common.{length-append, Err, slice_index, nat_lt}
 use Rattle.std.proofs.lemmas.Bool.Decides.{nat_tests}
-use Rattle.nqs_values.specs.Name.{IsFirstBad, allowed_at}
-use Rattle.nqs_values.specs.Path.{IsFirstBadOfPath, path_allowed_at, PathAllowedBelow}
+use Rattle.nqs_base.specs.Name.{IsFirstBad, allowed_at}
+use Rattle.nqs_base.specs.Path.{IsFirstBadOfPath, path_allowed_at, PathAllowedBelow}
 use Rattle.nqs_codec.specs.Fields.{short_field}
 use Rattle.nqs_codec.specs.Takes.{TakesBool, TakesName, TakesPath, IsOther, IsCutShort, IsBadLength, IsShortFault, IsShortAt, HasBadByte, HasParentAt}
 use Rattle.nqs_codec.specs.declared.fault.FieldFault.{FieldFault}

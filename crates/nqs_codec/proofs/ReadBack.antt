@@ -2,7 +2,7 @@
 use Rattle.std.proofs.Common.{◌≡◌, ℕ, ◌+◌, ◌<◌, ◌^◌, List, ◌++◌, length, drop, refl, sym, ap, ◌∙◌, Result, Ok, Err}
 use Rattle.std.proofs.lemmas.List.{drop_at}
 use Rattle.std.specs.Prelude.{⊤, true, false}
-use Rattle.nqs_values.specs.Name.{IsName}
+use Rattle.nqs_base.specs.Name.{IsName}
 use Rattle.nqs_codec.specs.Fields.{u8_field, u16_field, u32_field, u64_field, bool_field, short_field}
 use Rattle.nqs_codec.specs.Takes.{Stands, StandsNone, TakesNumber, TakesBool, TakesName}
 use Rattle.nqs_codec.specs.Laws.{IsOne, IsReadBack, HasOneAnswer}

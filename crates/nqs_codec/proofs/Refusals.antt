@@ -2,8 +2,8 @@
 use Rattle.std.proofs.Common.{◌≡◌, ℕ, ◌+◌, ◌<◌, ◌≤◌, ◌⊎◌, inl, inr, Bool, true, false, IsTrue, List, [], ◌++◌, length, drop, sym, ap, ◌∙◌, subst, arith}
 use Rattle.std.proofs.Common.{length-append, Err}
 use Rattle.std.specs.Prelude.{⊤}
-use Rattle.nqs_values.specs.Name.{IsName, IsFirstBad}
-use Rattle.nqs_values.specs.Path.{IsPath, IsFirstBadOfPath, has_parent}
+use Rattle.nqs_base.specs.Name.{IsName, IsFirstBad}
+use Rattle.nqs_base.specs.Path.{IsPath, IsFirstBadOfPath, has_parent}
 use Rattle.nqs_codec.specs.Fields.{short_field, bool_field}
 use Rattle.nqs_codec.specs.Takes.{StandsNone, TakesBool, TakesName, TakesPath, IsOther, IsCutShort, IsBadLength, IsShortFault, HasBadByte, HasParentAt}
 use Rattle.nqs_codec.specs.declared.fault.FieldFault.{FieldFault}

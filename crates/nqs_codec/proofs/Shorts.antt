@@ -2,7 +2,7 @@
 use Rattle.std.proofs.Common.{◌≡◌, ℕ, ◌+◌, ◌<◌, ◌≤◌, ◌^◌, false, List, [], ◌∷◌, ◌++◌, length, take, drop, get_or, refl, sym, ap, ◌∙◌, subst, arith}
 use Rattle.std.proofs.Common.{append_assoc}
 use Rattle.std.proofs.lemmas.List.{length-take-le, get_or-drop, take_at}
-use Rattle.nqs_values.specs.Path.{IsPath, PathAllowedBelow, has_parent}
+use Rattle.nqs_base.specs.Path.{IsPath, PathAllowedBelow, has_parent}
 use Rattle.nqs_codec.specs.Fields.{u8_field, short_field, bytes_field, u32_field}
 use Rattle.nqs_codec.specs.Takes.{Stands, StandsNone, IsShortAt, IsExtentAt}
 use Rattle.nqs_codec.proofs.Places.{part_stands, rest_is}

@@ -1,7 +1,7 @@
 -- Putting and taking undo each other.
 use Rattle.std.specs.Prelude.{◌≡◌, ℕ, ◌+◌, List, ◌++◌, length, take, drop, Ok, Err}
 use Rattle.std.specs.declared.result.Result.{Result}
-use Rattle.nqs_values.specs.declared.extent.Extent.{Extent}
+use Rattle.nqs_base.specs.declared.extent.Extent.{Extent}
 use Rattle.nqs_codec.specs.Takes.{StandsNone}
 
 -- the fields of two values, each with something behind it, are the same list only for the same value

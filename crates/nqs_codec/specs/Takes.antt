@@ -1,10 +1,10 @@
 -- What taking a field from a place answers. The cases of each definition exclude each other.
 use Rattle.std.specs.Prelude.{◌≡◌, ◌⊎◌, ℕ, ◌+◌, ◌<◌, ◌≤◌, ◌^◌, Bool, true, List, [], ◌∷◌, ◌++◌, length, take, drop, Ok, Err}
 use Rattle.std.specs.declared.result.Result.{Result}
-use Rattle.nqs_values.specs.Name.{IsName, IsFirstBad}
-use Rattle.nqs_values.specs.Path.{IsPath, IsFirstBadOfPath, PathAllowedBelow, has_parent}
-use Rattle.nqs_values.specs.declared.extent.Extent.{Extent}
-use Rattle.nqs_values.specs.declared.name.Name.{Name}
+use Rattle.nqs_base.specs.Name.{IsName, IsFirstBad}
+use Rattle.nqs_base.specs.Path.{IsPath, IsFirstBadOfPath, PathAllowedBelow, has_parent}
+use Rattle.nqs_base.specs.declared.extent.Extent.{Extent}
+use Rattle.nqs_base.specs.declared.name.Name.{Name}
 use Rattle.nqs_codec.specs.Fields.{bool_field, short_field, bytes_field}
 use Rattle.nqs_codec.specs.declared.fault.Short.{Short}
 use Rattle.nqs_codec.specs.declared.fault.FieldFault.{FieldFault}

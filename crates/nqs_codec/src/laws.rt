@@ -3,8 +3,8 @@
 //! A caller calls the function for its contract; it does nothing.
 
 ghost use Rattle.std.specs.Prelude.{◌^◌, ◌<◌, ⊤};
-ghost use Rattle.nqs_values.specs.Name.{IsName};
-ghost use Rattle.nqs_values.specs.Path.{IsPath};
+ghost use Rattle.nqs_base.specs.Name.{IsName};
+ghost use Rattle.nqs_base.specs.Path.{IsPath};
 ghost use Rattle.nqs_codec.specs.Fields.{u8_field, u16_field, u32_field, u64_field, bytes_field, short_field, bool_field};
 ghost use Rattle.nqs_codec.specs.Takes.{TakesNumber, TakesBytes, TakesBool, TakesName, TakesPath, IsLong};
 ghost use Rattle.nqs_codec.specs.Laws.{IsReadBack, IsReadInPlace};

@@ -7,7 +7,7 @@ ghost use Rattle.std.specs.Prelude.{◌≡◌, ◌+◌, ◌<◌, ◌≤◌, ◌^
 ghost use Rattle.nqs_codec.specs.Fields.{u8_field, u16_field, u32_field, u64_field, bytes_field, short_field, bool_field};
 ghost use Rattle.nqs_codec.specs.Puts.{Puts};
 
-use nqs_values::{Memory, Name};
+use nqs_base::{Memory, Name};
 
 // Puts a field that is written out.
 fn put(field: &[u8], out: &mut Vec<u8>) -> Result<(), Memory>

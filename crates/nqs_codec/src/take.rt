@@ -8,7 +8,7 @@ ghost use Rattle.nqs_codec.specs.Fields.{u8_field, u16_field, u32_field, u64_fie
 ghost use Rattle.nqs_codec.specs.Takes.{TakesNumber, TakesBytes};
 
 use crate::fault::Short;
-use nqs_values::Extent;
+use nqs_base::Extent;
 
 // What stands from the place on.
 fn rest_at(bytes: &[u8], place: u64) -> &[u8]

@@ -6,12 +6,12 @@
 //! at. No call takes memory.
 
 ghost use Rattle.std.specs.Prelude.{◌≡◌, ◌≤◌, length, IfOk, IfErr, IfSome, IfNone};
-ghost use Rattle.nqs_values.specs.Path.{is_visible, path_allowed_at, PathAllowedBelow, IsFirstBadOfPath, has_parent};
+ghost use Rattle.nqs_base.specs.Path.{is_visible, path_allowed_at, PathAllowedBelow, IsFirstBadOfPath, has_parent};
 ghost use Rattle.nqs_codec.specs.Takes.{TakesBool, TakesName, TakesPath, IsShortAt, IsShortFault};
 
 use crate::fault::FieldFault;
 use crate::take::{part_at, take_u8};
-use nqs_values::{Extent, Name, NameFault};
+use nqs_base::{Extent, Name, NameFault};
 
 /// The yes or no at the place.
 pub fn take_bool(bytes: &[u8], place: u64) -> Result<(bool, u64), FieldFault>

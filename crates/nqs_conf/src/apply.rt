@@ -14,9 +14,9 @@ ghost use Rattle.nqs_rules.specs.Tests.{is_queued};
 use crate::create::{Created, create_queue};
 use crate::dest::{created_dest, dest_list, drop_dest, meant_dest};
 use nqs_access::drop_name;
+use nqs_base::{ListOf, Name};
 use nqs_state::HostState;
 use nqs_types::{ComplexDef, ConfEdit, Kind, NamedDest, QueueDef, Row, RowState};
-use nqs_values::{ListOf, Name};
 
 fn drop_member(complex: &mut ComplexDef, queue: &Name)
     ensures { complex.new ≡ without_member queue.now complex.old }

@@ -10,9 +10,9 @@ ghost use Rattle.nqs_rules.specs.Find.{held_count, meant_dest};
 
 use crate::dest::{known_host, lists_dest, meant_dest};
 use nqs_access::known_queue;
+use nqs_base::Name;
 use nqs_state::HostState;
 use nqs_types::{ConfEdit, Kind, NamedDest, Promise, QueueDef, Refusal, Row};
-use nqs_values::Name;
 
 fn check_create(state: &HostState, queue: &Name) -> Result<(), Refusal>
     ensures { result ≡ first_refusal (create_causes queue.now (content state.now)) }

@@ -5,9 +5,9 @@ ghost use Rattle.nqs_rules.specs.Conf.{add_queue, at_most};
 ghost use Rattle.nqs_rules.specs.Find.{has_queue};
 ghost use Rattle.nqs_rules.specs.Format.{new_queue, no_limits};
 
+use nqs_base::{ListOf, Name};
 use nqs_state::HostState;
 use nqs_types::{Access, DestList, Kind, Limits, QueueDef};
-use nqs_values::{ListOf, Name};
 
 /// What of a created queue is typed.
 #[derive(Clone, Copy)]

@@ -8,9 +8,9 @@ ghost use Rattle.nqs_rules.specs.Find.{meant_dest};
 ghost use Rattle.nqs_rules.specs.Tests.{same_dest};
 
 use nqs_access::place_of;
+use nqs_base::{ListOf, Name, Spare};
 use nqs_state::HostState;
 use nqs_types::{Dest, DestList, HostId, NamedDest, QueueDef, Refusal};
-use nqs_values::{ListOf, Name, Spare};
 use std::alloc::Global;
 
 /// Whether the site has a host of this name: `NoHost` where it has none.

@@ -10,9 +10,9 @@ ghost use Rattle.nqs_rules.specs.Edits.{change_device};
 ghost use Rattle.nqs_rules.specs.Devices.{devices_causes, device_edited, without_device, devices_applied};
 
 use nqs_access::drop_name;
+use nqs_base::Name;
 use nqs_state::HostState;
 use nqs_types::{DeviceDef, DevicesEdit, QueueDef};
-use nqs_values::Name;
 
 // What an edit makes of its device.
 fn edit_device(def: &mut DeviceDef, edit: &DevicesEdit)

@@ -8,9 +8,9 @@ ghost use Rattle.nqs_rules.specs.Devices.{device_causes, idle_device_causes, dev
 
 use crate::free::is_busy;
 use nqs_access::has_name;
+use nqs_base::Name;
 use nqs_state::HostState;
 use nqs_types::{DevicesEdit, Kind, QueueDef, Refusal};
-use nqs_values::Name;
 
 fn check_device(state: &HostState, device: &Name) -> Result<(), Refusal>
     ensures { result ≡ first_refusal (device_causes device.now (content state.now)) }

@@ -5,9 +5,9 @@ ghost use Rattle.std.specs.Option.{option_copied};
 ghost use Rattle.nqs_state.specs.State.{content};
 ghost use Rattle.nqs_rules.specs.Devices.{same_name_as, has_forms, can_serve, runs_on, is_busy, is_free_device, free_device};
 
+use nqs_base::Name;
 use nqs_state::HostState;
 use nqs_types::{DeviceDef, QueueDef, Row, RowState};
-use nqs_values::Name;
 
 fn same_name_as(name: &Name, other: Option<Name>) -> bool
     ensures { result ≡ same_name_as name.now other }

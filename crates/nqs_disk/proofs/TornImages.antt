@@ -5,8 +5,8 @@ use Rattle.std.proofs.lemmas.List.{length-take, get_or-take}
 use Rattle.std.proofs.lemmas.Bool.Decides.{nat_tests}
 use Rattle.nqs_outside.specs.History.{State, covers, IsImage}
 use Rattle.nqs_outside.proofs.Coherence.{IsCoherent}
-use Rattle.nqs_values.specs.declared.tear.Tear.{Tear}
-use Rattle.nqs_values.specs.declared.tear.Tear.TheVariants.{Old, New, Mixed}
+use Rattle.nqs_base.specs.declared.tear.Tear.{Tear}
+use Rattle.nqs_base.specs.declared.tear.Tear.TheVariants.{Old, New, Mixed}
 use Rattle.nqs_disk.specs.Torn.{is_free, mixed_from, mixed, torn}
 use Rattle.nqs_disk.proofs.Mixes.{length-mixed_from, kept_byte}
 

@@ -1,8 +1,8 @@
 -- What a stop leaves, by its tear.
 use Rattle.std.specs.Prelude.{ℕ, zero, suc, ◌+◌, ◌*◌, ◌/◌, ◌%◌, ◌^◌, ◌==◌, nat_le, Bool, ◌||◌, List, [], ◌∷◌, length, take, slice_index, if◌then◌else◌}
 use Rattle.nqs_outside.specs.History.{State, covers}
-use Rattle.nqs_values.specs.declared.tear.Tear.{Tear}
-use Rattle.nqs_values.specs.declared.tear.Tear.TheVariants.{Old, New, Mixed}
+use Rattle.nqs_base.specs.declared.tear.Tear.{Tear}
+use Rattle.nqs_base.specs.declared.tear.Tear.TheVariants.{Old, New, Mixed}
 
 -- a free byte, by a number below 4
 abbrev pub pick : ℕ → ℕ → ℕ → ℕ

@@ -2,7 +2,7 @@
 ghost use Rattle.std.specs.Prelude.{◌≡◌, ◌+◌, ◌^◌, ◌≤◌, ◌++◌, [], ◌∷◌, length, vec_len, OnOk, OnErr};
 ghost use Rattle.nqs_outside.specs.History.{written, write, sync};
 
-use nqs_values::{Bytes, Memory};
+use nqs_base::{Bytes, Memory};
 
 /// The greatest length of a disk.
 pub(crate) const MOST: u64 = 1 << 40;

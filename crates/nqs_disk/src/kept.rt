@@ -7,7 +7,7 @@ ghost use Rattle.nqs_disk.specs.Lack.{full};
 use crate::calls::{MOST, overwrite};
 use crate::lack::past_the_end;
 use crate::{DiskCall, Lack};
-use nqs_values::Bytes;
+use nqs_base::Bytes;
 use std::alloc::Global;
 
 // Makes a write and keeps it. A write past the greatest length, or one for which there is no

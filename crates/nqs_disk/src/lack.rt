@@ -1,11 +1,11 @@
 //! Why a disk in memory didn't keep a call, as values that nobody can feign.
 
 ghost use Rattle.std.specs.Prelude.{◌≡◌, ◌+◌, ◌^◌, ◌<◌, length};
-ghost use Rattle.nqs_values.specs.Want.{want};
+ghost use Rattle.nqs_base.specs.Want.{want};
 ghost use Rattle.nqs_disk.specs.Lack.{full};
 ghost use Rattle.nqs_disk.specs.declared.lack.Lack.TheVariants as lack;
 
-use nqs_values::Memory;
+use nqs_base::Memory;
 use std::alloc::{AllocError, AllocFailed};
 
 /// A write would have ended past 2^40 bytes. Its field is private, and it is neither `Clone` nor

@@ -11,8 +11,8 @@ use crate::fuse::{is_blown, is_done};
 use crate::kept::{keep_sync, keep_write};
 use crate::torn::torn_bytes;
 use crate::{DiskCall, Fuse, Lack};
+use nqs_base::Tear;
 use nqs_outside::{Disk, Failed, Fused};
-use nqs_values::Tear;
 use std::alloc::Global;
 
 /// A disk in memory, of at most 2^40 bytes. A fuse has one of its calls fail, and each later one.

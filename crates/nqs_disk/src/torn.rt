@@ -7,7 +7,7 @@ ghost use Rattle.nqs_disk.specs.Torn.{torn, mixed_from, bits, pick};
 
 use crate::DiskCall;
 use crate::calls::overwrite;
-use nqs_values::{Memory, Tear};
+use nqs_base::{Memory, Tear};
 use std::alloc::Global;
 
 // The bytes after calls.

@@ -3,8 +3,8 @@
 ghost use Rattle.std.specs.Prelude.{◌≡◌, ◌<◌, ◌∷◌, [], Some, false, length, slice_index};
 ghost use Rattle.nqs_outside.specs.Told.{Extends};
 
+use nqs_base::ListOf;
 use nqs_outside::Clock;
-use nqs_values::ListOf;
 use std::alloc::Global;
 
 /// A clock that gives its moments in order, and then the last one again.

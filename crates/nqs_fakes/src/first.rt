@@ -2,7 +2,7 @@
 
 ghost use Rattle.std.specs.Prelude.{◌≡◌, ◌∷◌, [], IfSome, IfNone};
 
-use nqs_values::Items;
+use nqs_base::Items;
 
 /// The first value, which goes out of the list. Where there is none the list stays empty.
 pub(crate) fn take_first<T: Drop>(items: &mut Items<T>) -> Option<T>

@@ -8,9 +8,9 @@ ghost use Rattle.nqs_fakes.specs.Failures.{GoesAsListed};
 ghost use Rattle.nqs_fakes.specs.Launcher.{ask_of};
 
 use crate::failures::Failures;
+use nqs_base::{Bytes, Items};
 use nqs_outside::{Failed, Launcher};
 use nqs_types::{LaunchOrder, RequestId};
-use nqs_values::{Bytes, Items};
 use std::alloc::Global;
 
 /// What a launcher was asked, and whether it did it.

@@ -8,8 +8,8 @@ ghost use Rattle.nqs_fakes.specs.Failures.{GoesAsListed};
 ghost use Rattle.nqs_fakes.specs.Outlet.{filing_of};
 
 use crate::failures::Failures;
+use nqs_base::{Bytes, Items};
 use nqs_outside::{Failed, Outlet};
-use nqs_values::{Bytes, Items};
 use std::alloc::{AllocError, Global};
 
 /// A file that was to be written, and whether it was.

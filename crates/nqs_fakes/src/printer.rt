@@ -8,9 +8,9 @@ ghost use Rattle.nqs_fakes.specs.Failures.{GoesAsListed};
 ghost use Rattle.nqs_fakes.specs.Printer.{print_of};
 
 use crate::failures::Failures;
+use nqs_base::{Bytes, Items, Name};
 use nqs_outside::{Failed, Printer};
 use nqs_types::LaunchOrder;
-use nqs_values::{Bytes, Items, Name};
 use std::alloc::Global;
 
 /// What was to be printed, and whether it was.

@@ -10,9 +10,9 @@ ghost use Rattle.nqs_fakes.specs.Runner.{job_of, is_none, TakesEnd};
 
 use crate::failures::Failures;
 use crate::first::take_first;
+use nqs_base::Items;
 use nqs_outside::{Failed, RunEnd, Runner};
 use nqs_types::RequestId;
-use nqs_values::Items;
 use std::alloc::{AllocError, Global};
 
 /// A job that was to be run, and how it ended, if it was.

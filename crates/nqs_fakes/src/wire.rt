@@ -9,8 +9,8 @@ ghost use Rattle.nqs_fakes.specs.Wire.{arrival_of, packet_of, cut_to, first_of, 
 
 use crate::failures::Failures;
 use crate::first::take_first;
+use nqs_base::{Bytes, Items};
 use nqs_outside::{Address, Failed, Received, Wire};
-use nqs_values::{Bytes, Items};
 use std::alloc::{AllocError, Global};
 
 /// What comes.

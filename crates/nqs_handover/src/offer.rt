@@ -11,6 +11,7 @@ ghost use Rattle.nqs_rules.specs.Applied.{is_promise_of};
 ghost use Rattle.nqs_handover.specs.Offers.{by_number, way_causes, host_causes, into_causes};
 
 use nqs_access::may_use;
+use nqs_base::{Bytes, Memory, Name};
 use nqs_limits::over_limits;
 use nqs_plans::{
     add, change_storing, copy_bytes, copy_carried, find_peer, message, no_extent, refusal_number,
@@ -21,7 +22,6 @@ use nqs_types::{
     Body, Carried, Change, Entry, HostId, Job, PeerNumber, Plan, Promise, QueueDef, Refusal,
     RequestId,
 };
-use nqs_values::{Bytes, Memory, Name};
 use std::alloc::Global;
 
 // The number of a refusal for a request that exists.

@@ -9,10 +9,10 @@ ghost use Rattle.nqs_types.specs.declared.change.Change.TheVariants.{HandOpened}
 ghost use Rattle.nqs_plans.specs.More.{change_alone, with_more};
 ghost use Rattle.nqs_handover.specs.Opened.{may_count_hops, open_hand_at};
 
+use nqs_base::{ListOf, Memory, Name};
 use nqs_plans::{add_kept, change_alone, copy_job, find_peer, message, quiet};
 use nqs_state::HostState;
 use nqs_types::{Body, Carried, Change, Dest, HostId, Peer, Plan, Row};
-use nqs_values::{ListOf, Memory, Name};
 use std::alloc::Global;
 
 fn carried_of(row: &Row) -> Result<Carried, Memory>

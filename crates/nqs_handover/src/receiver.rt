@@ -5,10 +5,10 @@ ghost use Rattle.nqs_rules.specs.Handover.{on_commit, on_abort};
 ghost use Rattle.nqs_rules.specs.Stepped.{plan_of};
 
 use crate::offer::{has_promise, is_closed};
+use nqs_base::Memory;
 use nqs_plans::{add, change_alone, message, quiet, says};
 use nqs_state::HostState;
 use nqs_types::{Body, Change, HostId, Plan};
-use nqs_values::Memory;
 use std::alloc::Global;
 
 /// COMMIT: the promised request is this host's, and DONE goes out; again where the number is closed

@@ -6,10 +6,10 @@ ghost use Rattle.nqs_rules.specs.Find.{find_hand, find_peer};
 ghost use Rattle.nqs_rules.specs.Handover.{was_given, ready_phase, ready_without, on_ready, refused_phase, on_refused, done_phase, on_done};
 ghost use Rattle.nqs_rules.specs.Stepped.{plan_of};
 
+use nqs_base::Memory;
 use nqs_plans::{add, change_alone, find_peer, message, quiet, says};
 use nqs_state::HostState;
 use nqs_types::{Body, Change, HostId, PeerNumber, Phase, Plan};
-use nqs_values::Memory;
 use std::alloc::Global;
 
 // The phase of the handover of this number to the peer.

@@ -9,10 +9,10 @@ ghost use Rattle.nqs_handover.specs.Opened.{may_count_hops};
 ghost use Rattle.nqs_handover.specs.Silent.{silent_key};
 
 use crate::open::add_offer;
+use nqs_base::{Items, Keyed, ListOf, Memory};
 use nqs_plans::{add, change_alone, fold_each, message, quiet};
 use nqs_state::HostState;
 use nqs_types::{Body, Change, Hand, PeerNumber, Phase, Plan, Promise};
-use nqs_values::{Items, Keyed, ListOf, Memory};
 use std::alloc::Global;
 
 // The moment so many seconds later, or the last one.

@@ -14,6 +14,7 @@ ghost use Rattle.nqs_rules.specs.Fits.{is_site_host};
 ghost use Rattle.nqs_rules.specs.Applied.{is_promise_of};
 
 use nqs_access::check_access;
+use nqs_base::Name;
 use nqs_changes::promises::is_promise_of;
 use nqs_changes::rows::row_runs;
 use nqs_conf::check_conf;
@@ -24,7 +25,6 @@ use nqs_state::HostState;
 use nqs_types::{
     Change, Edit, Hand, Hold, HostId, PeerNumber, Phase, Promise, RequestId, Row, RowState,
 };
-use nqs_values::Name;
 
 /// Rows and promises that a host has at most.
 const MOST_HELD: usize = 10_000;

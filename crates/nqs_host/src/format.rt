@@ -4,10 +4,10 @@ ghost use Rattle.std.specs.Prelude.{◌≡◌, ◌∷◌, [], codes, IfOk, map};
 ghost use Rattle.nqs_state.specs.State.{content};
 ghost use Rattle.nqs_rules.specs.Format.{no_limits, new_peer, first_queue, formatted};
 
-use nqs_keyed::Table;
+use nqs_base::{ListOf, Memory, Name, NameList, Spare};
+use nqs_base_tables::Table;
 use nqs_state::{HostState, PeerList, Rows};
 use nqs_types::{Access, HostId, Kind, Limits, Peer, QueueDef};
-use nqs_values::{ListOf, Memory, Name, NameList, Spare};
 use std::alloc::Global;
 
 /// Requests that may run at once.

@@ -1,12 +1,13 @@
 -- Lines of queues: what an entry more or less, or a line more, leaves of them.
-use Rattle.std.proofs.Common.{◌≡◌, ℕ, ◌+◌, ◌<◌, Bool, true, false, not, List, [], ◌∷◌, ◌++◌, map, find, length, position, slice_get, slice_set, slice_index_or, Option, None, Some, zero, suc}
+use Rattle.std.proofs.Common.{◌≡◌, ℕ, ◌+◌, ◌<◌, Bool, true, false, not, List, [], ◌∷◌, ◌++◌, map, find, length, position, slice_get, slice_set, slice_index_or}
+use Rattle.std.proofs.Common.{Option, None, Some, zero, suc}
 use Rattle.std.proofs.Common.{option_map, refl, sym, ap, subst, ◌∙◌, arith, if◌then◌else◌}
 use Rattle.std.specs.Prelude.{cond}
 use Rattle.std.specs.List.{position_or_len}
 use Rattle.std.proofs.lemmas.Option.{same_Some, none-some}
-use Rattle.nqs_values.specs.Same.{name_eq, name_exact}
-use Rattle.nqs_keyed.specs.Table.{change_first}
-use Rattle.nqs_keyed.proofs.KeyLemmas.{changed_at, found_changed, found_other, place_is}
+use Rattle.nqs_base.specs.Same.{name_eq, name_exact}
+use Rattle.nqs_base_tables.specs.Table.{change_first}
+use Rattle.nqs_base_tables.proofs.KeyLemmas.{changed_at, found_changed, found_other, place_is}
 use Rattle.nqs_index.specs.declared.line.Entry.{Entry}
 use Rattle.nqs_index.specs.declared.lines.QueueLine.{QueueLine}
 use Rattle.nqs_index.specs.Lines.{placed, without_entry}

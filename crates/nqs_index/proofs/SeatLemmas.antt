@@ -4,7 +4,7 @@ use Rattle.std.specs.Prelude.{◌&&◌, cond}
 use Rattle.std.specs.List.Sorted.{IsPermutation}
 use Rattle.std.proofs.lemmas.List.Sorted.{sum_by-IsPermutation}
 use Rattle.std.proofs.lemmas.List.Sums.{length-filter}
-use Rattle.nqs_keyed.specs.Table.{change_first, without_first}
+use Rattle.nqs_base_tables.specs.Table.{change_first, without_first}
 use Rattle.nqs_types.specs.RowStates.{is_running}
 use Rattle.nqs_types.specs.declared.request.Row.{Row}
 use Rattle.nqs_index.specs.declared.index.Index.{Index}

@@ -5,7 +5,7 @@ use Rattle.std.specs.List.{list_any}
 use Rattle.std.proofs.lemmas.Bool.{and_parts, and_from}
 use Rattle.std.proofs.lemmas.Bool.Decides.{nat_tests}
 use Rattle.std.proofs.lemmas.List.{take_more}
-use Rattle.nqs_keyed.specs.Table.{without_first}
+use Rattle.nqs_base_tables.specs.Table.{without_first}
 use Rattle.nqs_types.specs.Ids.{id_eq, id_exact}
 use Rattle.nqs_types.specs.RowStates.{is_running}
 use Rattle.nqs_types.specs.declared.ids.RequestId.{RequestId}
@@ -80,7 +80,8 @@ number_taken p x (y ∷ ys) h = by (is_entry x y) refl (number_taken p x ys) h
     by true e rest h = number-cons p y ys ∙ ap (λ z. number p ys + one (p z)) (sym (entry_exact x y e))
     by false e rest h =
         let k = rest h in
-        let i : number p (y ∷ without_first (is_entry x) ys) ≡ number p (without_first (is_entry x) ys) + one (p y) = number-cons p y (without_first (is_entry x) ys) in
+        let i : number p (y ∷ without_first (is_entry x) ys) ≡ number p (without_first (is_entry x) ys) + one (p y) =
+        number-cons p y (without_first (is_entry x) ys) in
         let j : number p (y ∷ ys) ≡ number p ys + one (p y) = number-cons p y ys in
         omega (arith, k, i, j)
 

@@ -1,10 +1,11 @@
 -- Counters: what a change or a gain of one leaves of the counts.
-use Rattle.std.proofs.Common.{◌≡◌, ℕ, ◌+◌, ◌-◌, Bool, true, false, List, [], ◌∷◌, ◌++◌, find, Option, None, Some, is_some, option_map, refl, sym, ap, ◌∙◌, arith, if◌then◌else◌, true≢false}
+use Rattle.std.proofs.Common.{◌≡◌, ℕ, ◌+◌, ◌-◌, Bool, true, false, List, [], ◌∷◌, ◌++◌, find, Option, None, Some, is_some, option_map, refl, sym, ap, ◌∙◌}
+use Rattle.std.proofs.Common.{arith, if◌then◌else◌, true≢false}
 use Rattle.std.specs.Prelude.{cond}
 use Rattle.std.specs.List.{list_any}
-use Rattle.nqs_keyed.specs.Table.{change_first}
-use Rattle.nqs_keyed.proofs.TableLemmas.{is_some-find}
-use Rattle.nqs_keyed.proofs.KeyLemmas.{found_changed, found_other, found_behind, found_before}
+use Rattle.nqs_base_tables.specs.Table.{change_first}
+use Rattle.nqs_base_tables.proofs.TableLemmas.{is_some-find}
+use Rattle.nqs_base_tables.proofs.KeyLemmas.{found_changed, found_other, found_behind, found_before}
 use Rattle.nqs_index.specs.declared.tally.Tally.{Tally}
 use Rattle.nqs_index.specs.declared.tally.Counter.{Counter}
 use Rattle.nqs_index.specs.Tallies.{tally_eq, tally_exact, tally_equiv, is_counter, with_count, with_less, counted, count_of, one}

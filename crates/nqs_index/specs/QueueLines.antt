@@ -1,7 +1,7 @@
 -- The lines of a host's queues.
 use Rattle.std.specs.Prelude.{◌≡◌, ℕ, Bool, if◌then◌else◌, List, [], Option, None, Some, find, slice_get, slice_set}
-use Rattle.nqs_keyed.specs.Table.{has_key}
-use Rattle.nqs_values.specs.Same.{name_eq}
+use Rattle.nqs_base_tables.specs.Table.{has_key}
+use Rattle.nqs_base.specs.Same.{name_eq}
 use Rattle.nqs_index.specs.declared.line.Entry.{Entry}
 use Rattle.nqs_index.specs.declared.lines.QueueLine.{QueueLine}
 use Rattle.nqs_index.specs.Lines.{placed, without_entry}

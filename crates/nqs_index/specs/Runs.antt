@@ -3,7 +3,7 @@ use Rattle.std.specs.Prelude.{◌≡◌, ◌<◌, Bool, ◌&&◌, ◌||◌, ◌=
 use Rattle.std.specs.Option.{option_map}
 use Rattle.nqs_types.specs.Ids.{id_eq}
 use Rattle.nqs_types.specs.declared.ids.RequestId.{RequestId}
-use Rattle.nqs_keyed.specs.Table.{has_key, best_from}
+use Rattle.nqs_base_tables.specs.Table.{has_key, best_from}
 use Rattle.nqs_index.specs.declared.runs.Run.{Run}
 
 -- the order of requests: by the host of their submission, then by number

@@ -1,6 +1,6 @@
 -- What an index sees of a row.
 use Rattle.std.specs.Prelude.{ℕ, ◌+◌, Bool, false, ◌&&◌, List, Option, None, Some}
-use Rattle.nqs_values.specs.Same.{name_eq}
+use Rattle.nqs_base.specs.Same.{name_eq}
 use Rattle.nqs_types.specs.declared.request.Row.{Row}
 use Rattle.nqs_types.specs.RowStates.{is_running, is_active, is_ready}
 use Rattle.nqs_index.specs.declared.line.Entry.{Entry}

@@ -4,8 +4,8 @@ use Rattle.std.specs.Cmp.{IsEquivalence, both_ways}
 use Rattle.std.specs.Cmp.Lexicographic.{nat_list_eq_equiv}
 use Rattle.std.specs.Hash as fed
 use Rattle.std.proofs.Common.{sym, ap, ◌∙◌, true≢false}
-use Rattle.nqs_values.specs.Same.{name_eq, name_exact}
-use Rattle.nqs_keyed.specs.Table.{has_key}
+use Rattle.nqs_base.specs.Same.{name_eq, name_exact}
+use Rattle.nqs_base_tables.specs.Table.{has_key}
 use Rattle.nqs_index.specs.declared.tally.Tally.{Tally}
 use Rattle.nqs_index.specs.declared.tally.Tally.TheVariants.{Active, Running, Owned, Printing}
 use Rattle.nqs_index.specs.declared.tally.Counter.{Counter}
@@ -81,7 +81,8 @@ same_tally (Printing d) = nat_list_eq_equiv.refl d
 pub tally_equiv : IsEquivalence tally_eq
 tally_equiv = record {
   refl = same_tally;
-  symm = λ a b. both_ways (tally_eq a b) (tally_eq b a) (λ h. ap (tally_eq b) (tally_exact a b h) ∙ same_tally b) (λ h. ap (tally_eq a) (tally_exact b a h) ∙ same_tally a);
+  symm = λ a b. both_ways (tally_eq a b) (tally_eq b a) (λ h. ap (tally_eq b) (tally_exact a b h) ∙ same_tally b)
+      (λ h. ap (tally_eq a) (tally_exact b a h) ∙ same_tally a);
   congr = λ a b c h. ap (λ k. tally_eq k c) (tally_exact a b h);
 }
 

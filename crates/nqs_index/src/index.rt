@@ -22,9 +22,9 @@ use crate::runs::{Runs, end, least, start};
 use crate::seat::{Seat, seats_of, sort};
 use crate::steps::Steps;
 use crate::tally::{Counters, Tally, count, lower, raise};
-use nqs_keyed::Table;
+use nqs_base::{Memory, Name};
+use nqs_base_tables::Table;
 use nqs_types::{RequestId, Row, RowState};
-use nqs_values::{Memory, Name};
 use std::alloc::Global;
 use std::sync::ledger::Ledger;
 
@@ -172,9 +172,9 @@ impl Index {
     }
 
     /// A row comes in. False where memory is wanting, where a count is at its end, where its
-    /// request runs already, or where there would be more than 1,024 lines or 65,536 counters: those
-    /// of names long gone stay, so that an index that is made anew is smaller. After a false the
-    /// index is of no use.
+    /// request runs already, or where there would be more than 1,024 lines or 65,536 counters:
+    /// those of names long gone stay, so that an index that is made anew is smaller. After a false
+    /// the index is of no use.
     pub fn enter(&mut self, seat: &Seat) -> bool
         ensures { (ts us : List SeatValue) → Stands self.old ts → IsMore seat.now ts us → result ≡ true → Stands self.new us }
     {

@@ -2,17 +2,17 @@
 
 ghost use Rattle.std.specs.Prelude.{◌≡◌, ◌≤◌, ◌<◌, ◌+◌, ◌-◌, ◌*◌, ◌^◌, ℕ, List, length, position, slice_get, true, false, Some, IfSome, OnOk, OnErr};
 ghost use Rattle.std.specs.List.{list_any};
-ghost use Rattle.nqs_values.specs.Same.{name_eq};
-ghost use Rattle.nqs_keyed.specs.Table.{change_first};
+ghost use Rattle.nqs_base.specs.Same.{name_eq};
+ghost use Rattle.nqs_base_tables.specs.Table.{change_first};
 ghost use Rattle.nqs_index.specs.Lines.{entry_at};
 ghost use Rattle.nqs_index.specs.QueueLines.{is_line, PutsAt, with_taken, placed_if, taken_if, entries_in};
 
 use crate::key::Key;
 use crate::line::Line;
 use crate::steps::Steps;
-use nqs_keyed::Table;
+use nqs_base::{Keyed, Memory, Name};
+use nqs_base_tables::Table;
 use nqs_types::RequestId;
-use nqs_values::{Keyed, Memory, Name};
 use std::marker::Brand;
 use std::sync::ledger::{Blank, Ledger};
 

@@ -5,9 +5,9 @@ ghost use Rattle.nqs_types.specs.Ids.{id_eq};
 ghost use Rattle.nqs_index.specs.Indexed.{IsMore, number};
 ghost use Rattle.nqs_index.specs.Runs.{ids_of, is_less, least_of};
 
-use nqs_keyed::Table;
+use nqs_base::Keyed;
+use nqs_base_tables::Table;
 use nqs_types::RequestId;
-use nqs_values::Keyed;
 
 /// A request that runs.
 #[derive(Drop)]

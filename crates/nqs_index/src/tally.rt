@@ -3,11 +3,11 @@
 ghost use Rattle.std.specs.Prelude.{◌≡◌, ◌<◌, ◌+◌, ◌-◌, if◌then◌else◌, true, false};
 ghost use Rattle.std.specs.List.{list_any};
 ghost use Rattle.std.specs.Cmp.{partial_equiv_from_equiv};
-ghost use Rattle.nqs_keyed.specs.Table.{change_first};
+ghost use Rattle.nqs_base_tables.specs.Table.{change_first};
 ghost use Rattle.nqs_index.specs.Tallies.{tally_eq, tally_equiv, tally_fed, tally_fed_alike, is_counter, with_count, with_less, count_of, one};
 
-use nqs_keyed::Table;
-use nqs_values::{Key, Keyed, Name};
+use nqs_base::{Key, Keyed, Name};
+use nqs_base_tables::Table;
 use std::hash::{Hash, Hasher};
 
 /// Which rows are counted.

@@ -5,13 +5,13 @@ ghost use Rattle.nqs_outside.specs.History.{Call, content, extended, moment, Sto
 ghost use Rattle.nqs_journal.specs.Text.{header, records, frame, snapshot_front};
 ghost use Rattle.nqs_journal.specs.Either.{IsSnapshotText};
 ghost use Rattle.nqs_journal.specs.Plan.{begin_calls, front_calls};
-ghost use Rattle.nqs_values.specs.Want.{want};
+ghost use Rattle.nqs_base.specs.Want.{want};
 ghost use Rattle.nqs_journal.specs.Opened.{IsOpen};
 ghost use Rattle.nqs_journal.specs.Faults.{MatchBegin};
 
 use crate::JournalFault;
+use nqs_base::Memory;
 use nqs_outside::{Disk, Failed};
-use nqs_values::Memory;
 use std::alloc::{AllocError, Global};
 
 pub(crate) const SNAPSHOT: [u8; 16] = *b"NQS-SNAPSHOT-v1\n";

@@ -10,8 +10,8 @@ use crate::JournalFault;
 use crate::front::read_front;
 use crate::load::read_disk;
 use crate::read::read_records;
+use nqs_base::Bytes;
 use nqs_outside::Disk;
-use nqs_values::Bytes;
 use std::alloc::Global;
 
 /// What was read: whether there is a snapshot, and the place of the closed gate behind the records.

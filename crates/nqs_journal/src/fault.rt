@@ -1,9 +1,9 @@
 //! Why a call of a journal failed.
 ghost use Rattle.std.specs.Prelude.{◌≡◌};
 ghost use Rattle.nqs_journal.specs.declared.fault.JournalFault.TheVariants.{Memory};
-ghost use Rattle.nqs_values.specs.Want.{want};
+ghost use Rattle.nqs_base.specs.Want.{want};
 
-use nqs_values::Memory;
+use nqs_base::Memory;
 use std::alloc::{AllocError, AllocFailed};
 use thiserror::Error;
 

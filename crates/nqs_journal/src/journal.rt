@@ -9,15 +9,15 @@ ghost use Rattle.nqs_journal.specs.Plan.{append_calls, begin_calls, format_calls
 ghost use Rattle.nqs_journal.specs.Faults.{IsAppendFault, IsEitherLoadFault, IsLoadFault, IsReadingFault, MatchBegin};
 ghost use Rattle.nqs_journal.specs.Opened.{IsCounted, IsOpen};
 ghost use Rattle.nqs_journal.specs.Gate.{IsAtGate};
-ghost use Rattle.nqs_values.specs.Want.{want};
+ghost use Rattle.nqs_base.specs.Want.{want};
 
 use crate::JournalFault;
 use crate::begin::{snapshot_text, write_begin};
 use crate::either::{add_journal, read_either};
 use crate::load::{read_journal, read_payloads};
 use crate::write::{fill, write_behind};
+use nqs_base::Bytes;
 use nqs_outside::{Disk, Failed, Fused};
-use nqs_values::Bytes;
 use std::alloc::Global;
 
 pub(crate) const LONGEST: usize = 65_536;
@@ -283,8 +283,8 @@ impl<D: Disk> Journal<D> {
         }
     }
 
-    /// The journal of a disk that isn't used: it is stopped, so that nothing is appended until it is
-    /// begun anew. It makes no call of the disk, and a refusal gives the disk back.
+    /// The journal of a disk that isn't used: it is stopped, so that nothing is appended until it
+    /// is begun anew. It makes no call of the disk, and a refusal gives the disk back.
     pub fn rest(alloc: Global, disk: D) -> Result<Journal<D>, (JournalFault, D)>
         ensures disk { MatchResult result (λ journal. disk_of journal ≡ disk) (λ e. e.1 ≡ disk) }
         ensures only { IfErr result (λ e. e.0 ≡ JournalFault.Memory want) }

@@ -7,8 +7,8 @@ ghost use Rattle.nqs_journal.specs.Faults.{IsDiskFault, IsLoadFault, IsReadingFa
 
 use crate::JournalFault;
 use crate::read::{Reading, read_text};
+use nqs_base::Bytes;
 use nqs_outside::{Disk, Failed};
-use nqs_values::Bytes;
 use std::alloc::Global;
 
 impl From<Failed> for JournalFault {

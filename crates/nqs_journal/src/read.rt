@@ -6,7 +6,7 @@ ghost use Rattle.nqs_journal.specs.Faults.{IsReadFault, IsRecordsFault};
 
 use crate::JournalFault;
 use crate::journal::LONGEST;
-use nqs_values::Bytes;
+use nqs_base::Bytes;
 use std::alloc::Global;
 
 pub(crate) const HEADER: [u8; 16] = *b"NQS-JOURNAL-v1\n\n";

@@ -5,7 +5,7 @@ use Rattle.std.proofs.lemmas.Bool.{and_parts, leb-true}
 use Rattle.std.proofs.lemmas.Option.{same_Some}
 use Rattle.std.specs.List.{list_all}
 use Rattle.nqs_state.specs.State.{Plain}
-use Rattle.nqs_keyed.specs.Table.{without_first}
+use Rattle.nqs_base_tables.specs.Table.{without_first}
 use Rattle.nqs_state.specs.Keys.{is_row, is_hand}
 use Rattle.nqs_types.specs.declared.ids.HostId.{HostId}
 use Rattle.nqs_types.specs.declared.ids.PeerNumber.{PeerNumber}

@@ -3,7 +3,7 @@ use Rattle.std.proofs.Common.{◌≡◌, ℕ, map, Bool, true, false, List, [], 
 use Rattle.std.proofs.Common.{true≢false, if◌then◌else◌, ◌+◌, filter}
 use Rattle.std.proofs.lemmas.Bool.{and_parts}
 use Rattle.std.specs.List.{filter_map, list_all}
-use Rattle.nqs_keyed.specs.Table.{best_from}
+use Rattle.nqs_base_tables.specs.Table.{best_from}
 use Rattle.nqs_types.specs.declared.ids.HostId.{HostId}
 use Rattle.nqs_types.specs.declared.message.Message.{Message}
 use Rattle.nqs_types.specs.declared.request.Row.{Row}
@@ -23,7 +23,8 @@ use Rattle.nqs_rules.specs.Notes.{Why, ByEvent, ByStart, ByBoot, Saw, Kept, saws
 use Rattle.nqs_rules.specs.World.{World, Host, Ran, Made, Act, Asks, Ends, Finishes, Fails, Writes, Leaves, Delivers, Newest}
 use Rattle.nqs_rules.specs.World.{Ticks, Clock, Fuse, Crashes, Boots, Shows, host_of, ready, no_fuses, no_calls, then_noted, then_ran, seen_output, sent_by}
 use Rattle.nqs_rules.specs.World.{put_host, seeing, unseen, stopped, used, emits, change_fated, makes_change, carries_out, steps, starts, all_starts, left_of}
-use Rattle.nqs_rules.specs.World.{shuts_down, halted_host, halts, takes_up, taken_by, takes, finishes, finishes_up, delivers, packet_at, last_of, newest_between}
+use Rattle.nqs_rules.specs.World.{shuts_down, halted_host, halts, takes_up, taken_by, takes, finishes, finishes_up, delivers, packet_at, last_of}
+use Rattle.nqs_rules.specs.World.{newest_between}
 use Rattle.nqs_rules.specs.World.{boot_output, boots_down, boots, crashes_up, runs_now, is_less_row, is_between}
 use Rattle.nqs_rules.specs.Measure.{starts_left}
 use Rattle.nqs_rules.specs.Net.{table}
@@ -67,7 +68,8 @@ alike_states (g ∷ gs) (h ∷ hs) k = λ j. (k.0.same j).state ∷ alike_states
 ready_tear : (h : Host) → (ready h).tear ≡ h.tear
 ready_tear h = ap (λ x. x.tear) (ready_differs h)
 
-alike_used : (puts : List (List ℕ)) (c : Change (List ℕ)) (g h : Host) → AreAlike g h → AreAlike (used puts (applied c g.state) g) (used puts (applied c h.state) h)
+alike_used : (puts : List (List ℕ)) (c : Change (List ℕ)) (g h : Host) → AreAlike g h
+    → AreAlike (used puts (applied c g.state) g) (used puts (applied c h.state) h)
 alike_used puts c g h k =
     let tears : (ready g).tear ≡ (ready h).tear = ready_tear g ∙ (ap (λ x. x.tear) k.same ∙ sym (ready_tear h)) in
     record {
@@ -294,14 +296,16 @@ boots_alike i w v k = of (host_of i w) (host_of i v) (alike_at w.hosts v.hosts k
     of (Some g) (Some h) p = subst (λ up. AreRunsAlike (boot_if i g g.up w) (boot_if i h up v)) (ap (λ x. x.up) p.same) (by g h p g.up)
 
 happens_alike : (act : Act) → lays_none act ≡ true → (w v : World) → AreWorldsAlike w v → AreRunsAlike (happens act w) (happens act v)
-happens_alike (Asks i user c) none w v k = takes_alike i (event.Ask w.now 0 0 user c) (event.Ask v.now 0 0 user c) (ap (λ now. event.Ask now 0 0 user c) k.now) w v k
+happens_alike (Asks i user c) none w v k = takes_alike i (event.Ask w.now 0 0 user c) (event.Ask v.now 0 0 user c)
+    (ap (λ now. event.Ask now 0 0 user c) k.now) w v k
 happens_alike (Ends i id start status output error) none w v k = takes_alike i (event.Ended w.now 0 id start status output error)
     (event.Ended v.now 0 id start status output error) (ap (λ now. event.Ended now 0 id start status output error) k.now) w v k
 happens_alike (Finishes i) none w v k = taken_alike i (finishes_up i) (finishes_up i) (finishes_alike i) w v k
 happens_alike (Fails i id start) none w v k =
     takes_alike i (event.Unlaunched w.now id start) (event.Unlaunched v.now id start) (ap (λ now. event.Unlaunched now id start) k.now) w v k
 happens_alike (Writes i file) none w v k = takes_alike i (event.Written w.now file) (event.Written v.now file) (ap (λ now. event.Written now file) k.now) w v k
-happens_alike (Leaves i file) none w v k = takes_alike i (event.Unwritten w.now file) (event.Unwritten v.now file) (ap (λ now. event.Unwritten now file) k.now) w v k
+happens_alike (Leaves i file) none w v k = takes_alike i (event.Unwritten w.now file) (event.Unwritten v.now file)
+    (ap (λ now. event.Unwritten now file) k.now) w v k
 happens_alike (Delivers n) none w v k = subst (λ o. AreRunsAlike (happens (Delivers n) w) (delivers (Some n) o v)) (same_packet n w v k)
     (delivers_alike (Some n) (packet_at n w) w v k)
 happens_alike (Newest a b) none w v k = subst (λ o. AreRunsAlike (happens (Newest a b) w) (delivers None o v))
@@ -310,7 +314,8 @@ happens_alike (Ticks i) none w v k = takes_alike i (event.Tick w.now) (event.Tic
 happens_alike (Clock moment) none w v k = record { notes = refl; world = record { hosts = k.hosts; packets = k.packets; now = refl } }
 happens_alike (Fuse i disk calls tear) none w v k = absurd (true≢false (sym none))
 happens_alike (Crashes i) none w v k = taken_alike i (crashes_up i) (crashes_up i) (λ g h p a b all. seeing_alike (seen.Stop i)
-    (put_host i (stopped g.state g) a) (put_host i (stopped h.state h) b) (put_alike i (stopped g.state g) (stopped h.state h) a b (alike_stopped g h p) all)) w v k
+    (put_host i (stopped g.state g) a) (put_host i (stopped h.state h) b)
+    (put_alike i (stopped g.state g) (stopped h.state h) a b (alike_stopped g h p) all)) w v k
 happens_alike (Boots i) none w v k = boots_alike i w v k
 happens_alike Shows none w v k = record { notes = ap (λ l. Saw (seen.Table (table l)) ∷ []) (alike_states w.hosts v.hosts k.hosts); world = k }
 

@@ -5,7 +5,7 @@ use Rattle.std.proofs.lemmas.Cmp.{nat_list_eq_equiv}
 use Rattle.std.proofs.lemmas.Option.{same_Some, none-some}
 use Rattle.std.specs.List.{list_any}
 use Rattle.std.specs.Option.{IfSome, option_and_then}
-use Rattle.nqs_values.specs.Same.{name_eq, name_exact}
+use Rattle.nqs_base.specs.Same.{name_eq, name_exact}
 use Rattle.nqs_state.specs.State.{Plain}
 use Rattle.nqs_types.specs.declared.queue.Kind.{Kind}
 use Rattle.nqs_types.specs.declared.queue.Kind.TheVariants.{Batch, Device, Pipe}

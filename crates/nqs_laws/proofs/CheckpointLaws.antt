@@ -11,7 +11,8 @@ use Rattle.nqs_rules.specs.Stepped.{stored_parts}
 use Rattle.nqs_rules.specs.Journals.{active, resting, is_due, torn_root, names_same}
 use Rattle.nqs_rules.specs.Notes.{Why, Kept, saws}
 use Rattle.nqs_rules.specs.World.{World, Host, Fate, Made, StoppedBefore, StoppedAfter, fate, fate_of_record, host_of, put_host, then_noted, seeing, ready}
-use Rattle.nqs_rules.specs.World.{turns_over, torn_over, cut_off, recorded, wrote, used, stopped, falls_at_journal, falls_at_root, emits, change_fated, makes_change}
+use Rattle.nqs_rules.specs.World.{turns_over, torn_over, cut_off, recorded, wrote, used, stopped, falls_at_journal, falls_at_root, emits, change_fated}
+use Rattle.nqs_rules.specs.World.{makes_change}
 use Rattle.nqs_types.specs.declared.world.Seen.TheVariants as seen
 use Rattle.nqs_laws.proofs.TwoJournals.{same_names, turned_active}
 use Rattle.nqs_laws.specs.Checkpoints.{stops_in_checkpoint, DifferInDisks, TellsAsBefore, StopsAsItWas, Records}

@@ -4,7 +4,7 @@ use Rattle.std.proofs.lemmas.Bool.{and_parts, or_parts, not-true}
 use Rattle.std.proofs.lemmas.Option.{same_Some, none-some}
 use Rattle.std.specs.List.{list_any, filter_map, cons_option}
 use Rattle.std.specs.Option.{option_map, option_and_then, IfSome}
-use Rattle.nqs_keyed.specs.Table.{has_key, change_first, without_first}
+use Rattle.nqs_base_tables.specs.Table.{has_key, change_first, without_first}
 use Rattle.nqs_rules.specs.InOrder.{are_distinct}
 
 module _ {V : Type 0} where

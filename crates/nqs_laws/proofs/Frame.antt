@@ -7,7 +7,7 @@ use Rattle.std.proofs.lemmas.Option.{same_Some, none-some, slice_get-map}
 use Rattle.std.specs.Option.{option_map}
 use Rattle.std.specs.List.{filter_map, flat_map, list_all}
 use Rattle.nqs_state.specs.State.{Plain}
-use Rattle.nqs_keyed.specs.Table.{best_from}
+use Rattle.nqs_base_tables.specs.Table.{best_from}
 use Rattle.nqs_rules.specs.Edits.{change_at}
 use Rattle.nqs_rules.specs.Applied.{applied}
 use Rattle.nqs_rules.specs.Sane.{is_sane_event}

@@ -3,7 +3,7 @@ use Rattle.std.proofs.Common.{◌≡◌, ℕ, map, Bool, true, false, List, [], 
 use Rattle.std.proofs.lemmas.Option.{same_Some, none-some}
 use Rattle.std.specs.List.{filter_map}
 use Rattle.nqs_state.specs.State.{Plain}
-use Rattle.nqs_keyed.specs.Table.{best_from}
+use Rattle.nqs_base_tables.specs.Table.{best_from}
 use Rattle.nqs_types.specs.declared.ids.HostId.{HostId}
 use Rattle.nqs_types.specs.declared.message.Message.{Message}
 use Rattle.nqs_types.specs.declared.request.Row.{Row}
@@ -15,7 +15,7 @@ use Rattle.nqs_types.specs.declared.event.Output.{Output}
 use Rattle.nqs_types.specs.declared.world.Seen.{Seen}
 use Rattle.nqs_types.specs.declared.world.Seen.TheVariants as seen
 use Rattle.nqs_types.specs.declared.world.Which.{Which}
-use Rattle.nqs_values.specs.declared.tear.Tear.{Tear}
+use Rattle.nqs_base.specs.declared.tear.Tear.{Tear}
 use Rattle.nqs_rules.specs.Applied.{applied}
 use Rattle.nqs_rules.specs.Edits.{change_at}
 use Rattle.nqs_rules.specs.Step.{step}
@@ -78,7 +78,8 @@ module _ (P : Host → Type 0) (f : HostFrames P) where
   starts_all zero i w all = all
   starts_all (suc n) i w all = of (host_of i w) refl (starts_all n i)
     where
-      by : (host : Host) → P host → (up : Bool) (o : Option (Stepped (List ℕ))) → ((v : World) → All v → All (starts n i v).world) → All (begins n i host up o w)
+      by : (host : Host) → P host → (up : Bool) (o : Option (Stepped (List ℕ))) → ((v : World) → All v → All (starts n i v).world)
+          → All (begins n i host up o w)
       by host p false o rest = all
       by host p true None rest = all
       by host p true (Some x) rest = rest (steps i host ByStart x w).world (steps_all i host ByStart x w p all)

@@ -4,7 +4,7 @@ use Rattle.std.proofs.Common.{true≢false, zero, suc, refl, sym, ap, subst, ◌
 use Rattle.std.proofs.lemmas.Bool.{and_parts}
 use Rattle.std.specs.List.{list_all, AllByRecursion, filter_map, cons_option}
 use Rattle.nqs_state.specs.State.{Plain}
-use Rattle.nqs_keyed.specs.Table.{without_first}
+use Rattle.nqs_base_tables.specs.Table.{without_first}
 use Rattle.nqs_state.specs.Keys.{is_hand}
 use Rattle.nqs_types.specs.declared.ids.HostId.{HostId}
 use Rattle.nqs_types.specs.declared.ids.PeerNumber.{PeerNumber}

@@ -6,10 +6,10 @@ use Rattle.std.proofs.lemmas.Bool.Decides.{nat_tests}
 use Rattle.std.proofs.lemmas.Option.{same_Some}
 use Rattle.std.specs.Option.{option_map}
 use Rattle.std.specs.List.{list_any, list_all}
-use Rattle.nqs_values.specs.Same.{name_eq}
+use Rattle.nqs_base.specs.Same.{name_eq}
 use Rattle.nqs_types.specs.Ids.{id_eq, id_exact, peer_number_eq, peer_number_exact, hand_key}
 use Rattle.nqs_state.specs.State.{Plain}
-use Rattle.nqs_keyed.specs.Table.{without_first}
+use Rattle.nqs_base_tables.specs.Table.{without_first}
 use Rattle.nqs_state.specs.Keys.{is_row, is_hand}
 use Rattle.nqs_types.specs.declared.ids.HostId.{HostId}
 use Rattle.nqs_types.specs.declared.ids.Dest.{Dest}

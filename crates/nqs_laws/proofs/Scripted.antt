@@ -6,7 +6,7 @@ use Rattle.std.proofs.lemmas.Option.{same_Some}
 use Rattle.std.proofs.lemmas.Cmp.{nat_list_eq_equiv}
 use Rattle.std.proofs.lemmas.List.Folds.{list_all-append}
 use Rattle.std.specs.List.{list_all, AllByRecursion}
-use Rattle.nqs_values.specs.Same.{name_eq, name_exact}
+use Rattle.nqs_base.specs.Same.{name_eq, name_exact}
 use Rattle.nqs_types.specs.Ids.{id_eq, id_exact}
 use Rattle.nqs_state.specs.Keys.{is_row, is_promise}
 use Rattle.nqs_state.specs.State.{Plain}

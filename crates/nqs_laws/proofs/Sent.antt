@@ -8,9 +8,9 @@ use Rattle.std.proofs.lemmas.List.Folds.{list_all-append}
 use Rattle.std.specs.Option.{IfSome, option_map, option_and_then}
 use Rattle.std.specs.List.{list_any, list_all, flat_map}
 use Rattle.nqs_state.specs.State.{Plain}
-use Rattle.nqs_keyed.specs.Table.{best_from, better, without_first}
+use Rattle.nqs_base_tables.specs.Table.{best_from, better, without_first}
 use Rattle.nqs_state.specs.Keys.{is_row, is_stage, is_file}
-use Rattle.nqs_values.specs.Path.{is_path}
+use Rattle.nqs_base.specs.Path.{is_path}
 use Rattle.nqs_types.specs.declared.ids.HostId.{HostId}
 use Rattle.nqs_types.specs.declared.ids.RequestId.{RequestId}
 use Rattle.nqs_types.specs.declared.ids.Dest.{Dest}
@@ -63,7 +63,8 @@ use Rattle.nqs_rules.specs.Stage.{on_written, file_again, stages_from, due_outpu
 use Rattle.nqs_rules.specs.Start.{launching, printing, moving_by, moving, holding, local_causes, with_row, device_at, dest_at, started, start_by, start}
 use Rattle.nqs_rules.specs.Order.{pick}
 use Rattle.nqs_rules.specs.Applied.{next_id}
-use Rattle.nqs_rules.specs.Step.{completed, Asker, reply_to, answer_to, unless_refused, submit_to, kill, delete_meant, why_reply, runs_in_queue, kills_of, stat_causes}
+use Rattle.nqs_rules.specs.Step.{completed, Asker, reply_to, answer_to, unless_refused, submit_to, kill, delete_meant, why_reply, runs_in_queue, kills_of}
+use Rattle.nqs_rules.specs.Step.{stat_causes}
 use Rattle.nqs_rules.specs.Step.{ticked, on_allowed, on_message, is_start, ended_by, acknowledged, unlaunched_by, step}
 use Rattle.nqs_rules.specs.Text.{stat_lines}
 use Rattle.nqs_rules.specs.World.{sent_by}

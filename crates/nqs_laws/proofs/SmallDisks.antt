@@ -1,10 +1,11 @@
 -- No journal of a host has more than 4,096 records, and no root more than one byte.
-use Rattle.std.proofs.Common.{◌≡◌, ℕ, zero, suc, ◌+◌, ◌≤◌, ◌%◌, ◌==◌, Bool, true, false, not, ◌||◌, List, [], ◌∷◌, length, slice_get, Some, refl, sym, subst, arith}
+use Rattle.std.proofs.Common.{◌≡◌, ℕ, zero, suc, ◌+◌, ◌≤◌, ◌%◌, ◌==◌, Bool, true, false, not, ◌||◌, List, [], ◌∷◌, length, slice_get, Some, refl, sym, subst}
+use Rattle.std.proofs.Common.{arith}
 use Rattle.std.specs.Prelude.{if◌then◌else◌}
 use Rattle.std.proofs.lemmas.Bool.{leb-false}
 use Rattle.std.proofs.lemmas.Option.{same_Some, none-some}
-use Rattle.nqs_values.specs.declared.tear.Tear.{Tear}
-use Rattle.nqs_values.specs.declared.tear.Tear.TheVariants.{Old, New, Mixed}
+use Rattle.nqs_base.specs.declared.tear.Tear.{Tear}
+use Rattle.nqs_base.specs.declared.tear.Tear.TheVariants.{Old, New, Mixed}
 use Rattle.nqs_rules.specs.Journals.{is_due, turned, torn_root, torn_byte, names_same}
 use Rattle.nqs_rules.specs.World.{Host, Act, ready, turns_over, cut_off, recorded, used, stopped, falls_at_journal, falls_at_root, new_host}
 use Rattle.nqs_rules.specs.World.{hosts_from, new_world}
@@ -71,5 +72,6 @@ new_small site place (name ∷ names) zero h is =
     subst AreDisksSmall (same_Some (new_host site place) h is) (record { records = omega arith; root = omega arith })
 new_small site place (name ∷ names) (suc n) h is = new_small site (place + 1) names n h is
 
-pub run_small : (site : List (List ℕ)) (acts : List Act) (place : ℕ) (h : Host) → slice_get (run acts (new_world site)).world.hosts place ≡ Some h → AreDisksSmall h
+pub run_small : (site : List (List ℕ)) (acts : List Act) (place : ℕ) (h : Host) → slice_get (run acts (new_world site)).world.hosts place ≡ Some h
+    → AreDisksSmall h
 run_small site acts = run_all AreDisksSmall keeps_small acts (new_world site) (new_small site 0 site)

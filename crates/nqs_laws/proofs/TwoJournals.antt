@@ -1,8 +1,8 @@
 -- A root names one of two journals, whatever stands in it.
 use Rattle.std.proofs.Common.{◌≡◌, ◌⊎◌, inl, inr, ℕ, ◌%◌, ◌==◌, Bool, true, false, not, List, [], ◌∷◌, refl}
 use Rattle.std.specs.Prelude.{MatchBool, if◌then◌else◌}
-use Rattle.nqs_values.specs.declared.tear.Tear.{Tear}
-use Rattle.nqs_values.specs.declared.tear.Tear.TheVariants.{Old, New, Mixed}
+use Rattle.nqs_base.specs.declared.tear.Tear.{Tear}
+use Rattle.nqs_base.specs.declared.tear.Tear.TheVariants.{Old, New, Mixed}
 use Rattle.nqs_rules.specs.Journals.{is_second, journal_on, byte_of, active, resting, turned, torn_root, torn_byte, names_same, behind_byte}
 
 pub same_names : (a b : List ℕ) → MatchBool (names_same a b) (active b ≡ active a) (active b ≡ resting a)

@@ -1,7 +1,7 @@
 //! Laws of the two journals of a host: which of them a root names, before a checkpoint, behind it,
 //! and after a stop in it.
 ghost use Rattle.std.specs.Prelude.{◌≡◌, ◌⊎◌, ℕ, Bool, MatchBool, List};
-ghost use Rattle.nqs_values.specs.declared.tear.Tear.{Tear};
+ghost use Rattle.nqs_base.specs.declared.tear.Tear.{Tear};
 ghost use Rattle.nqs_rules.specs.Journals.{active, resting, turned, torn_root, names_same, behind_byte};
 
 /// Two roots name one journal where `names_same` says so, and else each names the one that rests by

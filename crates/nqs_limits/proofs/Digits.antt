@@ -1,7 +1,7 @@
 use Rattle.std.proofs.Common.{◌≡◌, ℕ, ◌+◌, ◌<◌, not, List, [], ◌∷◌, length, Some, ap, refl}
 use Rattle.std.specs.Option.{option_map}
 use Rattle.std.proofs.lemmas.List.Quantifiers.{position-Some}
-use Rattle.nqs_values.specs.Name.{is_digit}
+use Rattle.nqs_base.specs.Name.{is_digit}
 use Rattle.nqs_text.specs.Number.{first_other}
 use Rattle.nqs_limits.specs.Size.{digits_end}
 use Rattle.nqs_limits.specs.Time.{part_fault}

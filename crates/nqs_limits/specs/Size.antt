@@ -1,7 +1,7 @@
 -- Sizes as they are typed: digits and a unit, in bytes.
 use Rattle.std.specs.Prelude.{◌≡◌, ℕ, ◌*◌, ◌^◌, ◌<◌, ◌≤◌, nat_lt, List, [], length, take, drop, codes, Option, Some, None, unwrap_or, if◌then◌else◌, Ok, Err}
 use Rattle.std.specs.declared.result.Result.{Result}
-use Rattle.nqs_values.specs.Same.{name_eq}
+use Rattle.nqs_base.specs.Same.{name_eq}
 use Rattle.nqs_text.specs.Number.{decimal, first_other}
 use Rattle.nqs_text.specs.declared.number.NumberFault.{NumberFault}
 use Rattle.nqs_text.specs.declared.number.NumberFault.TheVariants.{Empty, BadByte, TooLarge}

@@ -10,9 +10,9 @@ ghost use Rattle.nqs_rules.specs.Find.{has_complex};
 ghost use Rattle.nqs_rules.specs.Limits.{is_limits_within, limits_applied, limits_causes, limits_edited, new_complex};
 
 use nqs_access::drop_name;
+use nqs_base::{ListOf, Name};
 use nqs_state::HostState;
 use nqs_types::{ComplexDef, LimitsEdit, QueueDef};
-use nqs_values::{ListOf, Name};
 
 fn user_limit_of(typed: Option<u64>) -> Option<u16>
     requires { IsTrue (at_most 10000 typed) }

@@ -7,9 +7,9 @@ ghost use Rattle.nqs_rules.specs.Causes.{cause, first_refusal};
 ghost use Rattle.nqs_rules.specs.Limits.{complex_causes, is_batch_queue, limits_causes, lists_queue};
 
 use nqs_access::{has_name, known_queue};
+use nqs_base::Name;
 use nqs_state::HostState;
 use nqs_types::{ComplexDef, Kind, LimitsEdit, QueueDef, Refusal};
-use nqs_values::Name;
 
 fn known_complex(state: &HostState, complex: &Name) -> Result<(), Refusal>
     ensures { result ≡ first_refusal (complex_causes complex.now (content state.now)) }

@@ -9,9 +9,9 @@ use Rattle.std.proofs.lemmas.List.{map-append}
 use Rattle.std.proofs.lemmas.List.Concat.{flat_map_single}
 use Rattle.std.proofs.lemmas.List.Sums.{prefix_len-le-length}
 use Rattle.std.proofs.lemmas.Option.{same_Some}
-use Rattle.nqs_keyed.specs.Table.{better, best_from}
+use Rattle.nqs_base_tables.specs.Table.{better, best_from}
 use Rattle.nqs_types.specs.declared.request.Row.{Row}
-use Rattle.nqs_keyed.proofs.TableLemmas.{drop-at}
+use Rattle.nqs_base_tables.proofs.TableLemmas.{drop-at}
 use Rattle.nqs_rules.specs.Text.{Text, words, put_in, sorted}
 use Rattle.nqs_lists.specs.Lists.{spaced}
 

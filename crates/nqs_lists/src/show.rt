@@ -8,11 +8,11 @@ ghost use Rattle.nqs_rules.specs.Text.{kind_text, queue_line, device_line, compl
 ghost use Rattle.nqs_lists.specs.Lists.{spaced};
 
 use crate::words::{copy_text, decimal, either, id_text, joined, six_words, with_names, with_word};
+use nqs_base::{Bytes, Items, Memory, Name};
 use nqs_devices::runs_on;
 use nqs_plans::fold_each;
 use nqs_state::HostState;
 use nqs_types::{ComplexDef, DeviceDef, Kind, QueueDef, Row};
-use nqs_values::{Bytes, Items, Memory, Name};
 use std::alloc::Global;
 
 fn kind_text(kind: Kind) -> &'static [u8]

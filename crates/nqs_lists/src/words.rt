@@ -5,8 +5,8 @@ ghost use Rattle.nqs_rules.specs.Handover.{name_at};
 ghost use Rattle.nqs_rules.specs.Text.{id_text, words, either};
 ghost use Rattle.nqs_lists.specs.Lists.{spaced};
 
+use nqs_base::{Bytes, ListOf, Memory, Name};
 use nqs_types::RequestId;
-use nqs_values::{Bytes, ListOf, Memory, Name};
 use std::alloc::Global;
 
 /// The decimal digits of a number.

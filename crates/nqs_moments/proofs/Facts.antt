@@ -1,6 +1,6 @@
 use Rattle.std.proofs.Common.{◌≡◌, ℕ, suc, ◌+◌, ◌-◌, ◌<◌, ◌≤◌, List, [], ◌∷◌, length, arith, refl, ap, Some, None, Option, cond, Bool, true, false, ◌/◌}
 use Rattle.std.proofs.Common.{◌%◌, ◌==◌}
-use Rattle.nqs_values.specs.Name.{is_digit}
+use Rattle.nqs_base.specs.Name.{is_digit}
 use Rattle.std.specs.Prelude.{ℤ, pos, neg_ℤ, unsigned_abs, ◌+ℤ◌, ◌-ℤ◌, ◌*ℤ◌, ◌<ℤ◌, ◌≤ℤ◌}
 use Rattle.std.proofs.Common.{zero, add-zero, subst, negsuc, ◌⊎◌, inl, inr}
 use Rattle.jiff_core.specs.Calendar.{days_of_years, days_of_months, day_count, days_from_civil}

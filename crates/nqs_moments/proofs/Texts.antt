@@ -2,7 +2,7 @@
 use Rattle.std.proofs.Common.{◌≡◌, ℕ, ◌+◌, ◌-◌, ◌*◌, ◌/◌, ◌%◌, ◌≤◌, List, [], ◌∷◌, ◌++◌, refl, ap, ◌∙◌, arith, Some, None, Option, cond, Bool, true, false}
 use Rattle.std.proofs.Common.{◌==◌}
 use Rattle.std.proofs.lemmas.Bool.Decides.{nat_tests}
-use Rattle.nqs_values.specs.Name.{is_digit}
+use Rattle.nqs_base.specs.Name.{is_digit}
 use Rattle.nqs_text.specs.Dates.{two, four, moment_text}
 use Rattle.nqs_moments.specs.Moment.{misfit, suits, moment_misfit}
 use Rattle.nqs_moments.specs.Parts.{part}

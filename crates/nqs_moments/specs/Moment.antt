@@ -3,7 +3,7 @@ use Rattle.std.specs.Prelude.{◌≡◌, ℕ, ◌+◌, ◌*◌, ◌<◌, ◌≤�
 use Rattle.std.specs.Prelude.{Ok, Err}
 use Rattle.std.specs.declared.result.Result.{Result}
 use Rattle.jiff_core.specs.Calendar.{IsDate, days_from_civil}
-use Rattle.nqs_values.specs.Name.{is_digit}
+use Rattle.nqs_base.specs.Name.{is_digit}
 use Rattle.nqs_text.specs.Dates.{moment_text}
 use Rattle.nqs_moments.specs.declared.moment.MomentFault.{MomentFault}
 use Rattle.nqs_moments.specs.declared.moment.MomentFault.TheVariants.{Form, Range}

@@ -11,8 +11,8 @@ ghost use Rattle.nqs_moments.specs.Parts.{part, IsNamed};
 
 use jiff::civil::Date;
 use jiff_core::civil;
+use nqs_base::Memory;
 use nqs_text::decimal;
-use nqs_values::Memory;
 use std::alloc::Global;
 
 /// Why bytes are no moment.

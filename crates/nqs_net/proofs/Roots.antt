@@ -9,7 +9,7 @@ use Rattle.nqs_outside.proofs.Histories.{state-extended}
 use Rattle.nqs_journal.specs.Plan.{begin_calls, append_calls}
 use Rattle.nqs_rules.specs.Journals.{is_second, byte_of, turned, is_due}
 use Rattle.nqs_rules.specs.World.{Host, turns_over, ready}
-use Rattle.nqs_tears.proofs.TornRoots.{write_turns}
+use Rattle.nqs_storage_tears.proofs.TornRoots.{write_turns}
 use Rattle.nqs_store.specs.Active.{Active, journal_of, ready as ready_in}
 use Rattle.nqs_store.specs.Commits.{IsKept}
 use Rattle.nqs_store.specs.Hosts.{on, part}

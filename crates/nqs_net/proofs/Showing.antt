@@ -4,7 +4,7 @@ use Rattle.std.proofs.Common.{arith}
 use Rattle.std.proofs.lemmas.Bool.{leb-true}
 use Rattle.nqs_state.specs.State.{Plain, content}
 use Rattle.nqs_state.specs.declared.state.HostState.{HostState}
-use Rattle.nqs_values.specs.declared.tear.Tear.{Tear}
+use Rattle.nqs_base.specs.declared.tear.Tear.{Tear}
 use Rattle.nqs_types.specs.declared.world.Which.{Which}
 use Rattle.nqs_types.specs.declared.world.Which.TheVariants.{Root, Spool}
 use Rattle.nqs_outside.specs.History.{content as bytes_now}
@@ -26,7 +26,7 @@ use Rattle.nqs_store.specs.Stores as store
 use Rattle.nqs_store.specs.declared.disks.Disks.{Disks}
 use Rattle.nqs_node.specs.Nodes.{history_of, fails_of, active_of, content_of, Tells}
 use Rattle.nqs_node.specs.declared.node.Node.{Node}
-use Rattle.nqs_table.specs.Standing.{StandsFor, StandForEach}
+use Rattle.nqs_rules_table.specs.Standing.{StandsFor, StandForEach}
 use Rattle.nqs_net.specs.Worlds.{IsUp, IsDown, IsSlot, AreSlots, active_in}
 use Rattle.nqs_net.specs.declared.slot.Slot.{Slot}
 use Rattle.nqs_net.proofs.Burns.{same_disks}

@@ -11,9 +11,9 @@ use Rattle.nqs_disk.specs.Torn.{torn}
 use Rattle.nqs_rules.specs.Journals.{is_second, active, is_due, names_same, torn_root}
 use Rattle.nqs_rules.specs.World.{Host, Fate, Made, StoppedBefore, StoppedAfter, spool_calls, keeps_gate, fuse_of, falls_at_journal, falls_at_root, turns_over}
 use Rattle.nqs_rules.specs.World.{torn_over, ready, recorded, cut_off, fate_of_record, fate}
-use Rattle.nqs_tears.specs.Roots.{turning}
-use Rattle.nqs_tears.proofs.TornGates.{torn_means}
-use Rattle.nqs_tears.proofs.TornRoots.{torn_turning}
+use Rattle.nqs_storage_tears.specs.Roots.{turning}
+use Rattle.nqs_storage_tears.proofs.TornGates.{torn_means}
+use Rattle.nqs_storage_tears.proofs.TornRoots.{torn_turning}
 use Rattle.nqs_store.specs.Active.{Active, IsActive, journal_of, turned_to, named_in, ready as ready_in, recorded as recorded_in}
 use Rattle.nqs_store.specs.Commits.{AreClear, FailsFirst, IsPast, IsKept, LeavesHost, IsAtHostGate, IsCutAtOther, IsCutAtRoot, IsCutAtRecord, IsCutAt}
 use Rattle.nqs_store.specs.Commits.{root_calls, record_moment, AreImages}

@@ -7,7 +7,7 @@ use Rattle.nqs_types.specs.declared.ids.HostId.{HostId}
 use Rattle.nqs_types.specs.declared.message.Message.{Message}
 use Rattle.nqs_types.specs.declared.change.Change.{Change}
 use Rattle.nqs_types.specs.declared.event.Output.{Output}
-use Rattle.nqs_values.specs.declared.tear.Tear.{Tear}
+use Rattle.nqs_base.specs.declared.tear.Tear.{Tear}
 use Rattle.nqs_types.specs.declared.world.Seen.{Seen}
 use Rattle.nqs_types.specs.declared.world.Seen.TheVariants as seen
 use Rattle.nqs_types.specs.declared.world.Which.{Which}

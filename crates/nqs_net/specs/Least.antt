@@ -1,7 +1,7 @@
 -- The running request that an end without a number is meant for.
 use Rattle.std.specs.Prelude.{ℕ, List, Option}
 use Rattle.std.specs.Option.{option_map}
-use Rattle.nqs_keyed.specs.Table.{best_from}
+use Rattle.nqs_base_tables.specs.Table.{best_from}
 use Rattle.nqs_types.specs.declared.ids.RequestId.{RequestId}
 use Rattle.nqs_types.specs.declared.request.Row.{Row}
 use Rattle.nqs_rules.specs.Tests.{is_running}

@@ -2,7 +2,7 @@
 use Rattle.std.specs.Prelude.{◌≡◌, ℕ, ◌+◌, ◌-◌, ◌≤◌, nat_le, Bool, true, false, List, [], ◌∷◌, Option, None, Some}
 use Rattle.nqs_types.specs.declared.world.Which.{Which}
 use Rattle.nqs_types.specs.declared.world.Which.TheVariants.{Root, First, Second, Spool}
-use Rattle.nqs_values.specs.declared.tear.Tear.{Tear}
+use Rattle.nqs_base.specs.declared.tear.Tear.{Tear}
 use Rattle.nqs_outside.specs.History.{Call, write, sync, History, content, moment}
 use Rattle.nqs_disk.specs.MemDisk as mem
 use Rattle.nqs_disk.specs.declared.mem_disk.MemDisk.{MemDisk}

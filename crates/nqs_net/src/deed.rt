@@ -17,11 +17,11 @@ ghost use Rattle.nqs_net.specs.Least.{least_of};
 use crate::host::{boot_down, crash_up, take_up};
 use crate::slot::{DownHost, Slot, UpHost};
 use crate::turn::Turn;
+use nqs_base::Bytes;
 use nqs_disk::{Lack, MemDisk};
 use nqs_node::Node;
 use nqs_state::HostState;
 use nqs_types::{Event, Message, RequestId, Seen};
-use nqs_values::Bytes;
 use std::alloc::Global;
 
 /// What comes to one host.

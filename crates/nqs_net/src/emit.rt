@@ -5,8 +5,8 @@ ghost use Rattle.nqs_types.specs.declared.world.Seen.TheVariants as sight;
 ghost use Rattle.nqs_rules.specs.World.{body_kind, body_number, seen_packet, seen_output, sent_by};
 ghost use Rattle.nqs_net.specs.Lists.{of_option, sent_in, seen_from, GrowsByFront};
 
+use nqs_base::{Bytes, Memory, Rest};
 use nqs_types::{Body, BodyKind, HostId, Message, Output, Seen};
-use nqs_values::{Bytes, Memory, Rest};
 
 fn body_kind(body: &Body) -> BodyKind
     ensures { result ≡ body_kind body.now }

@@ -6,7 +6,7 @@ ghost use Rattle.nqs_rules.specs.Net.{table};
 ghost use Rattle.nqs_rules.specs.Run.{happens, states_of};
 ghost use Rattle.nqs_rules.specs.World.{World as Network, seen_of};
 ghost use Rattle.nqs_laws.specs.Words.{IsInOrderAll};
-ghost use Rattle.nqs_lines.specs.Acts.{act_of, is_sane_line};
+ghost use Rattle.nqs_language_acts.specs.Acts.{act_of, is_sane_line};
 ghost use Rattle.nqs_net.specs.Lists.{GrowsByFront};
 ghost use Rattle.nqs_net.specs.Followed.{FollowEach};
 ghost use Rattle.nqs_net.specs.Worlds.{IsWorld};
@@ -14,9 +14,9 @@ ghost use Rattle.nqs_net.specs.Deeds.{deed_of};
 
 use crate::meaning::deed;
 use crate::world::World;
+use nqs_base::Items;
 use nqs_disk::Lack;
 use nqs_types::{Seen, WorldEvent};
-use nqs_values::Items;
 use std::alloc::Global;
 
 // There is no packet, of a number that was asked for or between two hosts.

@@ -1,7 +1,7 @@
 //! Fuses of the disks of a host.
 
 ghost use Rattle.std.specs.Prelude.{◌≡◌, ◌≢◌, ◌<◌, ◌-◌, ◌+◌, ℕ, false, max, nat_le, map};
-ghost use Rattle.nqs_values.specs.declared.tear.Tear.{Tear as Torn};
+ghost use Rattle.nqs_base.specs.declared.tear.Tear.{Tear as Torn};
 ghost use Rattle.nqs_types.specs.declared.world.Which.{Which as OneOf};
 ghost use Rattle.nqs_outside.specs.History.{moment};
 ghost use Rattle.nqs_disk.specs.MemDisk as mem;
@@ -13,11 +13,11 @@ ghost use Rattle.nqs_net.specs.Worlds.{IsUp, IsDown, IsSlot, IsWorld};
 
 use crate::slot::{DownHost, Slot, UpHost};
 use crate::world::World;
+use nqs_base::Tear;
 use nqs_disk::MemDisk;
 use nqs_outside::Fused;
 use nqs_store::Disks;
 use nqs_types::{HostId, Which};
-use nqs_values::Tear;
 
 // Makes the calls-th call from here of a disk fail, and each later one of it.
 fn fuse_disks(disks: &mut Disks<MemDisk>, which: Which, calls: u64)

@@ -4,7 +4,7 @@ ghost use Rattle.std.specs.Prelude.{◌≡◌, ◌∷◌, [], ℕ, IsTrue, List,
 ghost use Rattle.std.specs.List.{filter_map};
 ghost use Rattle.nqs_state.specs.State.{content};
 ghost use Rattle.nqs_types.specs.declared.change.Change.TheVariants.{Boot};
-ghost use Rattle.nqs_values.specs.declared.extent.Extent.{Extent};
+ghost use Rattle.nqs_base.specs.declared.extent.Extent.{Extent};
 ghost use Rattle.nqs_types.specs.declared.message.Message.{Message as Sent};
 ghost use Rattle.nqs_types.specs.declared.world.Seen.TheVariants as sight;
 ghost use Rattle.nqs_types.specs.declared.world.Which.{Which};

@@ -7,9 +7,9 @@ ghost use Rattle.nqs_net.specs.Worlds.{IsSlot, IsWorld};
 
 use crate::slot::Slot;
 use crate::world::World;
+use nqs_base::Memory;
 use nqs_disk::MemDisk;
 use nqs_store::Disks;
-use nqs_values::Memory;
 use std::alloc::Global;
 
 // The disks of a host.

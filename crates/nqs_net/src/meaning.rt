@@ -2,14 +2,14 @@
 
 ghost use Rattle.std.specs.Prelude.{◌≡◌, IfOk};
 ghost use Rattle.nqs_rules.specs.World.{Asks, Ends, World as Network};
-ghost use Rattle.nqs_lines.specs.Acts.{act_of};
+ghost use Rattle.nqs_language_acts.specs.Acts.{act_of};
 ghost use Rattle.nqs_net.specs.Deeds.{arrival, deed_of, plain_deed};
 
 use crate::deed::Deed;
 use crate::packets::{newest_between, packet_at};
-use nqs_lines::{qdel_command, qmgr_command, qstat_command, qsub_command, submit_command};
+use nqs_base::{Bytes, Memory, Name};
+use nqs_language_acts::{qdel_command, qmgr_command, qstat_command, qsub_command, submit_command};
 use nqs_types::{Command, Event, HostId, Message, RequestId, WorldEvent};
-use nqs_values::{Bytes, Memory, Name};
 use std::alloc::Global;
 
 // A host is asked by a user.

@@ -2,7 +2,7 @@
 
 ghost use Rattle.std.specs.Prelude.{◌≡◌, ◌≤◌, ◌<◌, ℕ, [], false, IsTrue, IfOk, length};
 ghost use Rattle.std.specs.List.{AllByRecursion};
-ghost use Rattle.nqs_values.specs.Name.{IsName};
+ghost use Rattle.nqs_base.specs.Name.{IsName};
 ghost use Rattle.nqs_types.specs.declared.world.Which.{Which};
 ghost use Rattle.nqs_disk.specs.MemDisk as mem;
 ghost use Rattle.nqs_rules.specs.World.{new_host, new_world};
@@ -12,11 +12,11 @@ ghost use Rattle.nqs_net.specs.Worlds.{IsUp, IsWorld};
 
 use crate::slot::{Slot, UpHost};
 use crate::world::World;
+use nqs_base::{ListOf, Name, Tear};
 use nqs_disk::{Lack, MemDisk};
 use nqs_node::Node;
 use nqs_store::{Disks, LoadFault, StoreFault, format};
 use nqs_types::HostId;
-use nqs_values::{ListOf, Name, Tear};
 use std::alloc::Global;
 
 // Four empty disks.

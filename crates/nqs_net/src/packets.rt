@@ -3,8 +3,8 @@
 ghost use Rattle.std.specs.Prelude.{◌≡◌, IfOk};
 ghost use Rattle.nqs_rules.specs.World.{World as Network, packet_at, is_between, newest_between};
 
+use nqs_base::Memory;
 use nqs_types::{HostId, Message};
-use nqs_values::Memory;
 
 fn copy(message: &Message) -> Result<Message, Memory>
     ensures { IfOk result (λ copy. copy ≡ message.now) }

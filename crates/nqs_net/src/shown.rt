@@ -10,7 +10,7 @@ ghost use Rattle.nqs_rules.specs.Net.{table};
 ghost use Rattle.nqs_rules.specs.Run.{states_of};
 ghost use Rattle.nqs_rules.specs.World.{World as Network, Host};
 ghost use Rattle.nqs_laws.specs.Words.{IsInOrderAll};
-ghost use Rattle.nqs_table.specs.Standing.{StandsFor};
+ghost use Rattle.nqs_rules_table.specs.Standing.{StandsFor};
 ghost use Rattle.nqs_store.specs.Disks.{histories_of};
 ghost use Rattle.nqs_node.specs.Nodes.{history_of};
 ghost use Rattle.nqs_net.specs.Followed.{disks_in};
@@ -18,11 +18,11 @@ ghost use Rattle.nqs_net.specs.Worlds.{IsUp, IsDown, IsSlot, IsWorld};
 
 use crate::slot::{DownHost, Slot, UpHost};
 use crate::world::World;
+use nqs_base::Memory;
+use nqs_rules_table::table_of;
 use nqs_state::HostState;
 use nqs_store::{LoadFault, read_only};
-use nqs_table::table_of;
 use nqs_types::TableRow;
-use nqs_values::Memory;
 use std::alloc::Global;
 
 // Why a host wasn't read.

@@ -10,10 +10,10 @@ ghost use Rattle.nqs_net.specs.Turns.{IsTorn, IsStopped};
 
 use crate::slot::{DownHost, Slot};
 use crate::turn::Turn;
+use nqs_base::Tear;
 use nqs_disk::{Lack, MemDisk};
 use nqs_store::Disks;
 use nqs_types::Seen;
-use nqs_values::Tear;
 use std::alloc::Global;
 
 // What a stop leaves of the disks of a host. A disk that lacked something for a call gives that

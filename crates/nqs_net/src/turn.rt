@@ -20,10 +20,10 @@ ghost use Rattle.nqs_net.specs.Turns.{IsTaken, IsDownSlot, Faces, IsAt, Turns, S
 use crate::emit::emit;
 use crate::slot::{Slot, UpHost};
 use crate::stop::stop;
+use nqs_base::{Memory, Tear};
 use nqs_disk::{Lack, MemDisk};
 use nqs_node::{Node, NodeFault};
 use nqs_types::{Event, HostId, Message, Output, Seen};
-use nqs_values::{Memory, Tear};
 use std::alloc::Global;
 
 /// Whose turn it is: a host, the tear that a stop would leave its disks with, and the moment, in

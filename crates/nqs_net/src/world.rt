@@ -1,8 +1,8 @@
 //! A world of 1 to 16 hosts.
 
 use crate::slot::Slot;
+use nqs_base::{NameList, Tear};
 use nqs_types::Message;
-use nqs_values::{NameList, Tear};
 
 /// A network of hosts: a slot and a tear for each, in the order of the site. The packets are all
 /// that were ever sent;

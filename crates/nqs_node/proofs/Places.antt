@@ -7,7 +7,7 @@ use Rattle.nqs_outside.specs.History.{moment}
 use Rattle.nqs_rules.specs.Edits.{change_at}
 use Rattle.nqs_outside.specs.declared.disk.Disk as disk
 use Rattle.nqs_types.specs.declared.world.Which.{Which}
-use Rattle.nqs_values.specs.declared.memory.Memory.{Memory}
+use Rattle.nqs_base.specs.declared.memory.Memory.{Memory}
 use Rattle.nqs_node.specs.declared.fault.NodeFault.TheVariants as node
 use Rattle.nqs_store.specs.Stores.{OnlyReads, FailedToRead}
 use Rattle.nqs_store.specs.declared.store.Store.{Store}

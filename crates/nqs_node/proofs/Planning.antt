@@ -5,7 +5,7 @@ use Rattle.std.specs.List.{AllByRecursion}
 use Rattle.std.proofs.lemmas.List.{length-map}
 use Rattle.std.proofs.lemmas.Option.{same_Some, none-some}
 use Rattle.nqs_state.specs.State.{Plain}
-use Rattle.nqs_values.specs.declared.extent.Extent.{Extent}
+use Rattle.nqs_base.specs.declared.extent.Extent.{Extent}
 use Rattle.nqs_types.specs.declared.change.OutPart.{OutPart}
 use Rattle.nqs_types.specs.declared.change.Change.{Change}
 use Rattle.nqs_types.specs.declared.change.Change.TheVariants.{Ended, Boot, HandsSilent}
@@ -23,8 +23,8 @@ use Rattle.nqs_rules.proofs.FilledLemmas.{filled-plan}
 use Rattle.nqs_rules.proofs.FitsPlain.{fits-change}
 use Rattle.nqs_store.specs.Puts.{IsShortPut}
 use Rattle.nqs_store.specs.Told.{Host}
-use Rattle.nqs_kept.specs.Offers.{takes_back_few}
-use Rattle.nqs_kept.specs.Reads.{IsLive, AreLive}
+use Rattle.nqs_host_laws.specs.Offers.{takes_back_few}
+use Rattle.nqs_host_laws.specs.Reads.{IsLive, AreLive}
 use Rattle.nqs_node.specs.Carried.{Kept, started}
 use Rattle.nqs_node.specs.Planned.{MayBeKept, IsKeptWith, MayBeDone, Does}
 use Rattle.nqs_node.specs.Reading.{read_into, AreLiveReads}

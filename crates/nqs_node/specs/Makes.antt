@@ -1,7 +1,7 @@
 -- What a call of a node leaves that keeps and makes a change.
 use Rattle.std.specs.Prelude.{◌≡◌, ◌⊎◌, ◌≤◌, ◌++◌, ℕ, false, List, IsTrue, OnOk, OnErr, IsErrOf, map, length}
 use Rattle.std.specs.declared.result.Result.{Result}
-use Rattle.nqs_values.specs.declared.extent.Extent.{Extent}
+use Rattle.nqs_base.specs.declared.extent.Extent.{Extent}
 use Rattle.nqs_types.specs.declared.change.Change.{Change}
 use Rattle.nqs_types.specs.declared.event.Output.{Output}
 use Rattle.nqs_types.specs.declared.world.Which.{Which}

@@ -2,7 +2,7 @@
 use Rattle.std.specs.Prelude.{◌≡◌, ℕ, List, Option, length, map, IsTrue, IfSome}
 use Rattle.std.specs.List.{AllByRecursion}
 use Rattle.std.specs.Option.{option_map}
-use Rattle.nqs_values.specs.declared.extent.Extent.{Extent}
+use Rattle.nqs_base.specs.declared.extent.Extent.{Extent}
 use Rattle.nqs_types.specs.declared.change.Change.{Change}
 use Rattle.nqs_types.specs.declared.event.Plan.{Plan}
 use Rattle.nqs_records.specs.Values.{IsExtent}
@@ -12,7 +12,7 @@ use Rattle.nqs_rules.specs.Sane.{is_sane_change}
 use Rattle.nqs_rules.specs.Stepped.{Stepped, puts_of, stored_parts, shown}
 use Rattle.nqs_store.specs.Puts.{IsShortPut}
 use Rattle.nqs_store.specs.Told.{Host}
-use Rattle.nqs_kept.specs.Offers.{takes_back_few}
+use Rattle.nqs_host_laws.specs.Offers.{takes_back_few}
 use Rattle.nqs_node.specs.Carried.{Kept}
 use Rattle.nqs_node.specs.Reading.{read_into, AreLiveReads}
 

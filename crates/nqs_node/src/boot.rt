@@ -7,8 +7,8 @@ ghost use Rattle.std.specs.Prelude.{◌≡◌, ◌⊎◌, ◌≤◌, ◌++◌, [
 ghost use Rattle.std.specs.List.{filter_map};
 ghost use Rattle.std.specs.Option.{option_to_list};
 ghost use Rattle.nqs_state.specs.State.{Plain, content};
-ghost use Rattle.nqs_values.specs.Want.{want};
-ghost use Rattle.nqs_values.specs.declared.extent.Extent.{Extent};
+ghost use Rattle.nqs_base.specs.Want.{want};
+ghost use Rattle.nqs_base.specs.declared.extent.Extent.{Extent};
 ghost use Rattle.nqs_types.specs.declared.world.Which.{Which};
 ghost use Rattle.nqs_types.specs.declared.change.Change.TheVariants.{Boot};
 ghost use Rattle.nqs_outside.specs.Causes.{Rose};
@@ -28,12 +28,12 @@ ghost use Rattle.nqs_node.specs.Carried.{after_kept, IsMade, IsCutBy, IsBrokenOf
 
 use crate::keep::keep;
 use crate::node::Node;
+use nqs_base::Memory;
 use nqs_changes::boot::may_start_again;
 use nqs_outside::Disk;
 use nqs_state::HostState;
 use nqs_store::{Disks, LoadFault, Store, StoreFault, one_journal_is_active};
 use nqs_types::{Change, Output, Row, RowState};
-use nqs_values::Memory;
 use std::alloc::Global;
 
 // What a boot says of a row, which is another where the request ran.
@@ -160,7 +160,8 @@ impl<D: Disk> Node<D> {
 
         // Which of them fails is the disk's to say, unless it is starved.
         ensures cut { IsTrue D.tells → (s : Plain) → IsTold (contents (histories_of D.history disks)) s
-            → (a : Active) → IsActive (contents (histories_of D.history disks)) a → IfErr result (λ e. (which : Which) → e.0 ≡ LoadFault.Disk which → IsTrue (D.starved (disk_at which e.1))
+            → (a : Active) → IsActive (contents (histories_of D.history disks)) a
+            → IfErr result (λ e. (which : Which) → e.0 ≡ LoadFault.Disk which → IsTrue (D.starved (disk_at which e.1))
             ⊎ (IsBlown (failing_of D.fails disks which) (histories_of D.history disks which)
             ⊎ IsCutBy a (failing_of D.fails disks) (histories_of D.history disks) (histories_of D.history e.1) (Some Boot) s which)) }
         ensures fuse { IsTrue D.tells → IfOk result (λ node. (which : Which) (i : ℕ) → fails_of node which i ≡ failing_of D.fails disks which i) }

@@ -2,7 +2,7 @@
 
 ghost use Rattle.std.specs.Prelude.{◌≡◌, ◌++◌, ℕ, List, false, map, IsTrue, IsErrOf, OnOk, OnErr, []};
 ghost use Rattle.std.specs.Option.{option_map};
-ghost use Rattle.nqs_values.specs.Want.{want};
+ghost use Rattle.nqs_base.specs.Want.{want};
 ghost use Rattle.nqs_rules.specs.Starts.{after_change};
 ghost use Rattle.nqs_rules.specs.Stepped.{Stepped, shown};
 ghost use Rattle.nqs_store.specs.Sound.{IsSoundHost};

@@ -2,20 +2,20 @@
 
 ghost use Rattle.std.specs.Prelude.{IsTrue, IsErrOf};
 ghost use Rattle.nqs_state.specs.State.{content};
-ghost use Rattle.nqs_values.specs.Want.{want};
+ghost use Rattle.nqs_base.specs.Want.{want};
 ghost use Rattle.nqs_rules.specs.Sane.{is_sane_change};
 ghost use Rattle.nqs_store.specs.Calls.{MayCommit, IsLeft, MayStop, Commits};
 ghost use Rattle.nqs_store.specs.Sound.{IsSoundHost};
 ghost use Rattle.nqs_store.specs.Stores.{is_stopped};
 ghost use Rattle.nqs_node.specs.Makes.{Makes};
 
+use nqs_base::Bytes;
 use nqs_host::apply;
 use nqs_outside::Disk;
 use nqs_rules::order_laws::{consistent_is_kept, order_is_kept};
 use nqs_state::HostState;
 use nqs_store::{Store, StoreFault};
 use nqs_types::Change;
-use nqs_values::Bytes;
 use std::alloc::Global;
 
 /// Keeps a change of the host, and makes it. `Memory` comes before the first call of a disk; an

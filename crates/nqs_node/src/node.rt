@@ -4,7 +4,7 @@ ghost use Rattle.std.specs.Prelude.{◌≡◌, ◌≢◌, ◌⊎◌, ◌↔◌, 
 ghost use Rattle.std.specs.Prelude.{max, nat_le, is_some};
 ghost use Rattle.std.specs.Option.{option_map};
 ghost use Rattle.nqs_state.specs.State.{Plain, content};
-ghost use Rattle.nqs_values.specs.Want.{want};
+ghost use Rattle.nqs_base.specs.Want.{want};
 ghost use Rattle.nqs_types.specs.declared.world.Which.{Which};
 ghost use Rattle.nqs_outside.specs.Causes.{Rose};
 ghost use Rattle.nqs_outside.specs.History.{moment};
@@ -24,7 +24,8 @@ ghost use Rattle.nqs_node.specs.Idle.{is_idle};
 ghost use Rattle.nqs_node.specs.Reading.{AreShort};
 
 use crate::fault::NodeFault;
-use nqs_kept::laws::{
+use nqs_base::Memory;
+use nqs_host_laws::laws::{
     few_offers_are_taken_back, outputs_read_live_extents, stored_bytes_are_short,
 };
 use nqs_outside::{Disk, Fused};
@@ -36,7 +37,6 @@ use nqs_step::start::start;
 use nqs_step::step::step;
 use nqs_store::{Disks, LoadFault, Store};
 use nqs_types::{Event, Output, Plan, Which};
-use nqs_values::Memory;
 use std::alloc::Global;
 
 /// A host over its disks.
@@ -53,7 +53,8 @@ pub struct Node<D: Disk> {
 }
 
 impl<D: Disk> Node<D> {
-    ghost use Rattle.nqs_node.specs.Nodes.{disk_of, history_of, fails_of, is_starved, active_of, content_of, bare, is_stopped, Tells, Stays, OnlyReads, FailedToRead};
+    ghost use Rattle.nqs_node.specs.Nodes.{disk_of, history_of, fails_of, is_starved, active_of, content_of, bare, is_stopped, Tells, Stays, OnlyReads};
+    ghost use Rattle.nqs_node.specs.Nodes.{FailedToRead};
 
     /// Takes an event: keeps its change, makes it, and adds to `out` what goes out. `Memory` and
     /// `Stopped` leave all as it was.
@@ -103,7 +104,8 @@ impl<D: Disk> Node<D> {
         // which only the last may have failed.
         ensures made { IsTrue D.tells → (s : Plain) → Tells self.old s
             → OnOk result (IsMade (active_of self.old) (fails_of self.old) (history_of self.old) (history_of self.new) (step event.now s).change) }
-        ensures active { IsTrue D.tells → (s : Plain) → Tells self.old s → OnOk result (active_of self.new ≡ after_kept (step event.now s).change (active_of self.old)) }
+        ensures active { IsTrue D.tells → (s : Plain) → Tells self.old s → OnOk result
+            (active_of self.new ≡ after_kept (step event.now s).change (active_of self.old)) }
         ensures broken_off { IsTrue D.tells → (s : Plain) → Tells self.old s
             → OnErr result (IsBrokenOff (active_of self.old) (history_of self.old) (history_of self.new) (step event.now s).change) }
 
@@ -196,7 +198,8 @@ impl<D: Disk> Node<D> {
         // which only the last may have failed.
         ensures made { IsTrue D.tells → (s : Plain) → Tells self.old s
             → OnOk result (IsMade (active_of self.old) (fails_of self.old) (history_of self.old) (history_of self.new) (started now s).change) }
-        ensures active { IsTrue D.tells → (s : Plain) → Tells self.old s → OnOk result (active_of self.new ≡ after_kept (started now s).change (active_of self.old)) }
+        ensures active { IsTrue D.tells → (s : Plain) → Tells self.old s → OnOk result
+            (active_of self.new ≡ after_kept (started now s).change (active_of self.old)) }
         ensures broken_off { IsTrue D.tells → (s : Plain) → Tells self.old s
             → OnErr result (IsBrokenOff (active_of self.old) (history_of self.old) (history_of self.new) (started now s).change) }
 

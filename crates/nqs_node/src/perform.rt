@@ -3,7 +3,7 @@
 ghost use Rattle.std.specs.Prelude.{◌≡◌, ◌≤◌, ℕ, Option, false, IsTrue, IsErrOf, OnOk, OnErr, IfSome, length, map, []};
 ghost use Rattle.std.specs.Option.{option_map};
 ghost use Rattle.nqs_state.specs.State.{content};
-ghost use Rattle.nqs_values.specs.Want.{want};
+ghost use Rattle.nqs_base.specs.Want.{want};
 ghost use Rattle.nqs_types.specs.declared.world.Which.{Which};
 ghost use Rattle.nqs_outside.specs.Causes.{Rose};
 ghost use Rattle.nqs_rules.specs.Starts.{after_change};
@@ -19,12 +19,12 @@ ghost use Rattle.nqs_node.specs.Reading.{read_into, AreLiveReads, AreShort};
 
 use crate::keep::keep;
 use crate::reads::read_all;
-use nqs_kept::laws::fitting_changes_may_stand;
+use nqs_base::Bytes;
+use nqs_host_laws::laws::fitting_changes_may_stand;
 use nqs_outside::Disk;
 use nqs_state::HostState;
 use nqs_store::{Store, StoreFault};
 use nqs_types::{Change, Output, PlanRead};
-use nqs_values::Bytes;
 use std::alloc::Global;
 
 /// Reads the bytes of the outputs, keeps the change and makes it. What fails before the first

@@ -10,10 +10,10 @@ ghost use Rattle.nqs_store.specs.Told.{Host};
 ghost use Rattle.nqs_node.specs.Makes.{ReadsInto};
 ghost use Rattle.nqs_node.specs.Reading.{read_into, IsLiveRead, AreLiveReads, IsShortRead, AreShort};
 
+use nqs_base::Bytes;
 use nqs_outside::Disk;
 use nqs_store::{Store, StoreFault};
 use nqs_types::{Body, Output, PlanRead};
-use nqs_values::Bytes;
 use std::alloc::Global;
 
 fn send_with(body: &mut Body, read: Bytes)

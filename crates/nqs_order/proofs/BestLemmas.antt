@@ -2,8 +2,8 @@
 use Rattle.std.proofs.Common.{true≢false, ◌≡◌, ℕ, ◌+◌, ◌-◌, ◌<◌, ◌||◌, Bool, true, false, List, [], ◌∷◌, drop, Option, None, Some, is_some, slice_get, sym}
 use Rattle.std.proofs.Common.{refl, ap, ◌∙◌, arith, if◌then◌else◌}
 use Rattle.std.specs.List.{list_any}
-use Rattle.nqs_keyed.specs.Table.{better, best_from}
-use Rattle.nqs_keyed.proofs.TableLemmas.{drop-at}
+use Rattle.nqs_base_tables.specs.Table.{better, best_from}
+use Rattle.nqs_base_tables.proofs.TableLemmas.{drop-at}
 use Rattle.nqs_order.specs.Best.{is_beaten, with_value}
 
 module _ {V : Type 0} (test : V → Bool) (beats : V → V → Bool) where

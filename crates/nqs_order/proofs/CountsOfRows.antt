@@ -1,12 +1,13 @@
 -- What an index counts, as counts of rows: limits and devices.
-use Rattle.std.proofs.Common.{◌≡◌, ℕ, ◌+◌, ◌-◌, Bool, true, false, not, ◌&&◌, ◌||◌, nat_lt, List, [], ◌∷◌, length, map, filter, find, position, Option, None, Some, is_some, refl, sym, ap, ◌∙◌, arith, if◌then◌else◌}
+use Rattle.std.proofs.Common.{◌≡◌, ℕ, ◌+◌, ◌-◌, Bool, true, false, not, ◌&&◌, ◌||◌, nat_lt, List, [], ◌∷◌, length, map, filter, find, position, Option, None}
+use Rattle.std.proofs.Common.{Some, is_some, refl, sym, ap, ◌∙◌, arith, if◌then◌else◌}
 use Rattle.std.specs.Prelude.{cond}
 use Rattle.std.proofs.lemmas.Bool.{and_parts, not-true}
 use Rattle.std.proofs.lemmas.Bool.Decides.{nat_tests}
 use Rattle.std.proofs.Math.Bool.{and_comm, and-false}
 use Rattle.std.specs.Cmp.Lexicographic.{nat_list_eq_equiv}
 use Rattle.std.specs.List.{list_any, list_all}
-use Rattle.nqs_values.specs.Same.{name_eq, name_exact}
+use Rattle.nqs_base.specs.Same.{name_eq, name_exact}
 use Rattle.nqs_state.specs.State.{State}
 use Rattle.nqs_state.specs.Keys.{is_queue}
 use Rattle.nqs_types.specs.declared.request.Row.{Row}
@@ -33,7 +34,8 @@ use Rattle.nqs_index.specs.Indexed.{counted_in, number, StandsForIndex}
 use Rattle.nqs_index.specs.Seats.{seat_of, is_on, counts_for}
 use Rattle.nqs_index.specs.Tallies.{one}
 use Rattle.nqs_index.proofs.Numbers.{any_number, number_split, number_none}
-use Rattle.nqs_order.specs.ByIndex.{user_allows, running_once, fewer_run, running_in_batch, fewer_in_batch, complex_allows, is_within_limits, free_device, kind_allows, is_eligible}
+use Rattle.nqs_order.specs.ByIndex.{user_allows, running_once, fewer_run, running_in_batch, fewer_in_batch, complex_allows, is_within_limits, free_device}
+use Rattle.nqs_order.specs.ByIndex.{kind_allows, is_eligible}
 use Rattle.nqs_order.specs.Waiting.{is_waiting}
 use Rattle.nqs_order.proofs.BestLemmas.{none-passes}
 

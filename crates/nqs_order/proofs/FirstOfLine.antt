@@ -1,12 +1,13 @@
 -- The first entry of a line whose row may start is the entry of the first eligible row.
-use Rattle.std.proofs.Common.{◌≡◌, ℕ, Bool, true, false, not, ◌&&◌, ◌||◌, ◌==◌, nat_lt, List, [], ◌∷◌, map, position, Option, None, Some, is_some, slice_get, refl, sym, ap, subst, ◌∙◌, arith, if◌then◌else◌, true≢false}
+use Rattle.std.proofs.Common.{◌≡◌, ℕ, Bool, true, false, not, ◌&&◌, ◌||◌, ◌==◌, nat_lt, List, [], ◌∷◌, map, position, Option, None, Some, is_some, slice_get}
+use Rattle.std.proofs.Common.{refl, sym, ap, subst, ◌∙◌, arith, if◌then◌else◌, true≢false}
 use Rattle.std.specs.List.{list_any, AllByRecursion, position_or_len}
 use Rattle.std.specs.Option.{IfSome, option_map, option_and_then}
 use Rattle.std.proofs.lemmas.Bool.{or_parts, or_from}
 use Rattle.std.proofs.Math.Bool.{and-false}
 use Rattle.std.proofs.lemmas.Bool.Decides.{nat_tests}
 use Rattle.std.proofs.lemmas.Option.{same_Some, none-some}
-use Rattle.nqs_values.specs.Same.{name_eq, number_exact}
+use Rattle.nqs_base.specs.Same.{name_eq, number_exact}
 use Rattle.nqs_types.specs.Ids.{id_eq, id_exact}
 use Rattle.nqs_types.specs.declared.request.Row.{Row}
 use Rattle.nqs_types.specs.declared.request.RowState.{RowState}
@@ -15,7 +16,7 @@ use Rattle.nqs_types.specs.declared.request.Hold.{Hold}
 use Rattle.nqs_types.specs.declared.request.Hold.TheVariants.{No, User, System}
 use Rattle.nqs_types.specs.declared.request.Promise.{Promise}
 use Rattle.nqs_types.specs.declared.queue.QueueDef.{QueueDef}
-use Rattle.nqs_keyed.specs.Table.{has_key, best_from}
+use Rattle.nqs_base_tables.specs.Table.{has_key, best_from}
 use Rattle.nqs_state.specs.State.{State}
 use Rattle.nqs_state.specs.Keys.{is_row}
 use Rattle.nqs_rules.specs.Tests.{is_queued, is_unheld, is_ready}

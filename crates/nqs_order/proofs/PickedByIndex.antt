@@ -2,7 +2,7 @@
 use Rattle.std.proofs.Common.{◌≡◌, ℕ, Bool, true, false, ◌&&◌, Option, None, Some, is_some, refl, sym, ap, ◌∙◌}
 use Rattle.std.proofs.Math.Bool.{and-false}
 use Rattle.nqs_state.specs.State.{State}
-use Rattle.nqs_keyed.specs.Table.{best_from}
+use Rattle.nqs_base_tables.specs.Table.{best_from}
 use Rattle.nqs_types.specs.declared.queue.Kind.{Kind}
 use Rattle.nqs_types.specs.declared.queue.Kind.TheVariants.{Batch, Device, Pipe}
 use Rattle.nqs_types.specs.declared.queue.QueueDef.{QueueDef}
@@ -12,7 +12,8 @@ use Rattle.nqs_rules.specs.Order.{is_greater, print_on}
 use Rattle.nqs_rules.specs.Order as by_rows
 use Rattle.nqs_index.specs.declared.index.Index.{Index}
 use Rattle.nqs_index.specs.Indexed.{StandsForIndex, line_in}
-use Rattle.nqs_order.specs.ByIndex.{is_filled, fewer_in_batch, is_within_limits, may_serve, first_in, is_candidate, next_queue, choice_for, choice_of, pick_in, pick}
+use Rattle.nqs_order.specs.ByIndex.{is_filled, fewer_in_batch, is_within_limits, may_serve, first_in, is_candidate, next_queue, choice_for, choice_of, pick_in}
+use Rattle.nqs_order.specs.ByIndex.{pick}
 use Rattle.nqs_order.proofs.CountsOfRows.{free_device_is, within_is}
 use Rattle.nqs_order.proofs.FirstOfLine.{first_same}
 use Rattle.nqs_order.proofs.Served.{filled, served}

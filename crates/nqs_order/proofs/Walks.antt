@@ -1,8 +1,9 @@
 -- Walks over queues and over a line, as far as they have come.
-use Rattle.std.proofs.Common.{◌≡◌, ℕ, ◌+◌, ◌-◌, ◌<◌, ◌≤◌, true, false, ◌&&◌, nat_lt, List, ◌∷◌, drop, Option, None, Some, is_some, slice_get, refl, sym, ap, ◌∙◌, arith, true≢false}
+use Rattle.std.proofs.Common.{◌≡◌, ℕ, ◌+◌, ◌-◌, ◌<◌, ◌≤◌, true, false, ◌&&◌, nat_lt, List, ◌∷◌, drop, Option, None, Some, is_some, slice_get, refl, sym, ap}
+use Rattle.std.proofs.Common.{◌∙◌, arith, true≢false}
 use Rattle.std.specs.Option.{option_map}
 use Rattle.std.proofs.lemmas.Bool.Decides.{nat_tests}
-use Rattle.nqs_keyed.proofs.TableLemmas.{drop-at}
+use Rattle.nqs_base_tables.proofs.TableLemmas.{drop-at}
 use Rattle.nqs_state.specs.State.{State}
 use Rattle.nqs_types.specs.declared.queue.QueueDef.{QueueDef}
 use Rattle.nqs_types.specs.declared.request.Row.{Row}

@@ -1,6 +1,6 @@
 -- One step of the search for the best.
 use Rattle.std.specs.Prelude.{ℕ, Bool, false, if◌then◌else◌, Option, None, Some}
-use Rattle.nqs_keyed.specs.Table.{better}
+use Rattle.nqs_base_tables.specs.Table.{better}
 
 -- the best so far beats the value
 abbrev pub is_beaten : {V : Type 0} → (V → V → Bool) → V → Option (ℕ × V) → Bool

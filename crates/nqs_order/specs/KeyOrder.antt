@@ -1,6 +1,6 @@
 -- The order of keys, and that of the rows that have them.
 use Rattle.std.specs.Prelude.{◌≡◌}
-use Rattle.nqs_values.specs.declared.extent.Extent.{Extent}
+use Rattle.nqs_base.specs.declared.extent.Extent.{Extent}
 use Rattle.nqs_types.specs.declared.request.Row.{Row}
 use Rattle.nqs_rules.specs.Order.{comes_before}
 use Rattle.nqs_index.specs.Keys.{key_of, is_before}

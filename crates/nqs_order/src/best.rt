@@ -3,11 +3,11 @@
 ghost use Rattle.std.specs.Prelude.{◌≡◌, Bool, Option, Some};
 ghost use Rattle.std.specs.Option.{option_map};
 ghost use Rattle.std.specs.Fn.{FnReturnsAt, FnReturnsAtPair};
-ghost use Rattle.nqs_keyed.specs.Table.{best_from};
+ghost use Rattle.nqs_base_tables.specs.Table.{best_from};
 ghost use Rattle.nqs_order.specs.Best.{is_beaten, with_value};
 
-use nqs_keyed::Table;
-use nqs_values::{Key, Keyed};
+use nqs_base::{Key, Keyed};
+use nqs_base_tables::Table;
 
 // Whether the best so far beats the value.
 fn is_beaten<V, B: Fn(&V, &V) -> bool>(value: &V, best: Option<(usize, &V)>, beats: &B) -> bool

@@ -9,17 +9,19 @@ ghost use Rattle.nqs_rules.specs.Devices.{has_forms, can_serve};
 ghost use Rattle.nqs_rules.specs.InOrder.{IsInOrder};
 ghost use Rattle.nqs_rules.specs.Order.{pick as pick_of_rules};
 ghost use Rattle.nqs_index.specs.Indexed.{StandsForIndex};
-ghost use Rattle.nqs_order.specs.ByIndex.{is_filled, user_allows, running_once, fewer_run, running_in_batch, fewer_in_batch, complex_allows, batch_allows, is_within_limits, is_free_device, free_device, has_free_device, may_serve, kind_allows, is_eligible, startable, first_in, first_eligible, may_start, is_candidate, next_queue, choice_for, pick};
+ghost use Rattle.nqs_order.specs.ByIndex.{is_filled, user_allows, running_once, fewer_run, running_in_batch, fewer_in_batch, complex_allows, batch_allows};
+ghost use Rattle.nqs_order.specs.ByIndex.{is_within_limits, is_free_device, free_device, has_free_device, may_serve, kind_allows, is_eligible, startable};
+ghost use Rattle.nqs_order.specs.ByIndex.{first_in, first_eligible, may_start, is_candidate, next_queue, choice_for, pick};
 
 use crate::best::best_of;
 use crate::choice::{is_greater, move_to, print_on};
 use crate::eligible::is_waiting;
+use nqs_base::Name;
 use nqs_devices::has_name;
 use nqs_index::{Index, Line, Tally};
 use nqs_routing::destination_in;
 use nqs_state::HostState;
 use nqs_types::{Choice, ComplexDef, DeviceDef, Kind, QueueDef, RequestId, Row};
-use nqs_values::Name;
 
 fn user_allows(index: &Index, queue: &QueueDef, owner: &Name) -> bool
     ensures { result ≡ user_allows index.now queue.now owner.now }

@@ -10,11 +10,11 @@ ghost use Rattle.nqs_order.specs.Places.{first_place};
 
 use crate::best::best_of;
 use crate::limits::is_active_in;
+use nqs_base::Name;
 use nqs_devices::free_device;
 use nqs_routing::destination_in;
 use nqs_state::HostState;
 use nqs_types::{Hold, Kind, QueueDef, Row, RowState};
-use nqs_values::Name;
 
 fn is_active_of(row: &Row, queue: &Name, owner: &Name) -> bool
     ensures { result ≡ is_active_of queue.now owner.now row.now }

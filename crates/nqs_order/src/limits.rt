@@ -8,10 +8,10 @@ ghost use Rattle.nqs_rules.specs.Limits.{is_batch_queue};
 ghost use Rattle.nqs_rules.specs.Order.{is_active_in, runs_in, runs_in_batch, complex_allows, batch_allows, is_within_limits};
 ghost use Rattle.nqs_order.specs.Places.{is_place_within};
 
+use nqs_base::Name;
 use nqs_devices::has_name;
 use nqs_state::HostState;
 use nqs_types::{ComplexDef, Kind, QueueDef, Row, RowState};
-use nqs_values::Name;
 
 // Whether the row is of the queue, and runs or is on its way.
 pub(crate) fn is_active_in(row: &Row, queue: &Name) -> bool

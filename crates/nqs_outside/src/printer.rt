@@ -6,8 +6,8 @@ ghost use Rattle.nqs_outside.specs.Causes.{HasCause};
 ghost use Rattle.nqs_outside.specs.Told.{Extends};
 
 use crate::source::Failed;
+use nqs_base::Name;
 use nqs_types::LaunchOrder;
-use nqs_values::Name;
 
 /// What feeds devices.
 pub trait Printer {

@@ -6,8 +6,8 @@ ghost use Rattle.nqs_outside.specs.Causes.{HasCause};
 ghost use Rattle.nqs_outside.specs.Told.{Extends};
 
 use crate::source::Failed;
+use nqs_base::Bytes;
 use nqs_types::RequestId;
-use nqs_values::Bytes;
 
 /// How a job ended: its exit status, its output, and its error output.
 #[derive(Drop)]

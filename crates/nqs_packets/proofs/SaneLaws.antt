@@ -4,7 +4,7 @@ use Rattle.std.proofs.Common.{refl, arith}
 use Rattle.std.specs.List.{list_all}
 use Rattle.std.proofs.lemmas.Bool.{and_parts, and_from}
 use Rattle.std.proofs.lemmas.Bool.Decides.{nat_tests}
-use Rattle.nqs_values.specs.Path.{IsPath, is_path, is_visible, has_parent, begins_with_slash, PathAllowedBelow}
+use Rattle.nqs_base.specs.Path.{IsPath, is_path, is_visible, has_parent, begins_with_slash, PathAllowedBelow}
 use Rattle.nqs_types.specs.declared.request.Job.{Job}
 use Rattle.nqs_types.specs.declared.request.Carried.{Carried}
 use Rattle.nqs_types.specs.declared.message.Body.{Body}

@@ -1,7 +1,7 @@
 -- Which bytes have which first fault, apart from how they are read.
 use Rattle.std.specs.Prelude.{◌≡◌, ◌≢◌, ◌↔◌, ℕ, ◌<◌, false, List, [], ◌∷◌, ◌++◌, length, Err}
 use Rattle.nqs_types.specs.declared.message.Message.{Message}
-use Rattle.nqs_values.specs.Want.{want}
+use Rattle.nqs_base.specs.Want.{want}
 use Rattle.nqs_records.specs.Changes.{AreBytes}
 use Rattle.nqs_packets.specs.declared.fault.PacketFault.TheVariants as fault
 use Rattle.nqs_packets.specs.Spelling.{spelling}

@@ -1,7 +1,7 @@
 -- The messages that may be sent.
 use Rattle.std.specs.Prelude.{ℕ, List, length, IsTrue}
-use Rattle.nqs_values.specs.Name.{IsName}
-use Rattle.nqs_values.specs.Path.{IsPath}
+use Rattle.nqs_base.specs.Name.{IsName}
+use Rattle.nqs_base.specs.Path.{IsPath}
 use Rattle.nqs_types.specs.declared.message.Body.{Body}
 use Rattle.nqs_types.specs.declared.message.Body.TheVariants.{Offer, Ready, Refused, Commit, Done, Inquire, Abort, Stage, Staged, Ask, Answer, Ended, EndedAck}
 use Rattle.nqs_types.specs.declared.message.Message.{Message}

@@ -3,8 +3,8 @@
 ghost use Rattle.std.specs.Prelude.{◌≡◌};
 ghost use Rattle.nqs_packets.specs.Reading.{as_packet_fault};
 
+use nqs_base::Memory;
 use nqs_records::RecordFault;
-use nqs_values::Memory;
 
 /// The first thing that is wrong with bytes that are no datagram. Places are counted from 0.
 #[derive(Debug, PartialEq, Eq, Drop)]

@@ -8,9 +8,9 @@ ghost use Rattle.nqs_records.specs.Fields.{u16_at, u32_at};
 ghost use Rattle.nqs_records.specs.Values.{is_at_most};
 ghost use Rattle.nqs_packets.specs.Parts.{number_at, cause_at, run_at, bytes_at, is_any, tool_at, is_word_count, words_at};
 
+use nqs_base::{Bytes, Items};
 use nqs_records::{RecordFault, read_u8, read_u16, read_u32, read_u64};
 use nqs_types::Tool;
-use nqs_values::{Bytes, Items};
 use std::alloc::Global;
 
 #[tactic(auto, unfolding(crate::specs::Parts::number_at))]

@@ -3,7 +3,7 @@
 
 ghost use Rattle.std.specs.Prelude.{◌≡◌, ◌∷◌, [], ◌<◌, ◌^◌, length, flat_map};
 ghost use Rattle.std.specs.List.{AllByRecursion};
-ghost use Rattle.nqs_values.specs.Path.{IsPath};
+ghost use Rattle.nqs_base.specs.Path.{IsPath};
 ghost use Rattle.nqs_codec.specs.Fields.{u8_field, u16_field, u64_field, bytes_field, short_field, bool_field};
 ghost use Rattle.nqs_codec.specs.Takes.{IsLong};
 ghost use Rattle.nqs_records.specs.Adds.{Adds};
@@ -11,10 +11,10 @@ ghost use Rattle.nqs_records.specs.Spelling.{fields, id_field, carried_field};
 ghost use Rattle.nqs_records.specs.Values.{IsCarried};
 ghost use Rattle.nqs_packets.specs.Spelling.{tool_number, words_field};
 
+use nqs_base::{Bytes, Memory, Name};
 use nqs_codec::{put_bool, put_bytes, put_name, put_path, put_u8, put_u16, put_u64};
 use nqs_records::{put_carried, put_id};
 use nqs_types::{Carried, RequestId, Tool};
-use nqs_values::{Bytes, Memory, Name};
 
 #[tactic(auto, using(crate::proofs::Joined::joined))]
 pub(crate) fn put_number(number: u64, out: &mut Vec<u8>) -> Result<(), Memory>

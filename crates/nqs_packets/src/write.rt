@@ -11,9 +11,9 @@ ghost use Rattle.nqs_packets.specs.Values.{IsBody, MaySend};
 use crate::put::{
     put_answer, put_ask, put_ended, put_ended_ack, put_number, put_offer, put_refused, put_stage,
 };
+use nqs_base::Memory;
 use nqs_codec::put_u8;
 use nqs_types::{Body, Message};
-use nqs_values::Memory;
 use std::alloc::Global;
 
 fn kind_of(body: &Body) -> u8

@@ -3,9 +3,9 @@
 
 use crate::packets::{MESSAGES, fault};
 use Fault::{Here, Is};
+use nqs_base::Memory;
 use nqs_packets::PacketFault;
 use nqs_packets::PacketFault::{BadField, Kind, Short, Trailing, Version};
-use nqs_values::Memory;
 use std::alloc::Global;
 use std::rt::HostRuntime;
 use std::test::Fail;
@@ -61,9 +61,9 @@ type Run = (usize, usize, Fault);
 /// other byte may be so. In a name or a path each byte may be wrong by itself: no letter, digit or
 /// other sign that stands there is any of these three.
 const TURNED: [[&[Run]; 3]; 13] = [
-    // OFFER: the number at 4, the queue at 12, the request at 18 and 22, its name at 23 and owner at
-    // 25, the priority at 29, rerun at 38, three values that may be missing from 39 on, two paths at
-    // 42 and 47, join at 52, starts at 53, lost at 55, hops at 57, the script at 58.
+    // OFFER: the number at 4, the queue at 12, the request at 18 and 22, its name at 23 and owner
+    // at 25, the priority at 29, rerun at 38, three values that may be missing from 39 on, two
+    // paths at 42 and 47, join at 52, starts at 53, lost at 55, hops at 57, the script at 58.
     [
         &[
             (0, 0, Is(Version)),
@@ -160,9 +160,9 @@ const TURNED: [[&[Run]; 3]; 13] = [
     ],
     // STAGED
     [NUMBER, ENDS, ENDS],
-    // ASK: the user at 14, the tool at 18, the count at 19, two words at 21 and 27, the script at 38.
-    // Without words the first one is the script. The first word without bytes is followed by one of
-    // 2d6b0000 bytes, the second one by a script of 372e616c.
+    // ASK: the user at 14, the tool at 18, the count at 19, two words at 21 and 27, the script at
+    // 38. Without words the first one is the script. The first word without bytes is followed by
+    // one of 2d6b0000 bytes, the second one by a script of 372e616c.
     [
         &[
             (0, 0, Is(Version)),

@@ -4,7 +4,7 @@ use Rattle.std.specs.Prelude.{flat_map, fold}
 use Rattle.std.proofs.lemmas.List.{map-append, length-map}
 use Rattle.nqs_rules.specs.Stepped.{Stepped, Pending, output_of, read_at, reads_from, plan_of}
 use Rattle.nqs_plans.specs.More.{also, with_more}
-use Rattle.nqs_values.specs.declared.extent.Extent.{Extent}
+use Rattle.nqs_base.specs.declared.extent.Extent.{Extent}
 use Rattle.nqs_types.specs.declared.event.Plan.{Plan}
 
 pub reads-append : (n : ℕ) (ps qs : List (Pending Extent)) → reads_from n (ps ++ qs) ≡ reads_from n ps ++ reads_from (n + length ps) qs

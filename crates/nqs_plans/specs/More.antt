@@ -1,7 +1,7 @@
 -- Plans as they grow.
 use Rattle.std.specs.Prelude.{ℕ, List, [], ◌++◌, map, length, Some}
 use Rattle.nqs_rules.specs.Stepped.{Stepped, Pending, output_of, reads_from}
-use Rattle.nqs_values.specs.declared.extent.Extent.{Extent}
+use Rattle.nqs_base.specs.declared.extent.Extent.{Extent}
 use Rattle.nqs_types.specs.declared.change.Change.{Change}
 use Rattle.nqs_types.specs.declared.event.Plan.{Plan}
 

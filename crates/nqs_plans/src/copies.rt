@@ -1,8 +1,8 @@
 //! Copies of what a plan holds.
 ghost use Rattle.std.specs.Prelude.{◌≡◌, IfOk};
 
+use nqs_base::{Bytes, ListOf, Memory};
 use nqs_types::{Carried, Job};
-use nqs_values::{Bytes, ListOf, Memory};
 use std::alloc::Global;
 
 /// The same bytes.

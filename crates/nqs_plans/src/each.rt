@@ -3,8 +3,8 @@ ghost use Rattle.std.specs.Prelude.{◌≡◌, fold, IfOk};
 ghost use Rattle.std.specs.Borrow.{Bor};
 ghost use Rattle.std.specs.Fn.{AnyResult};
 
-use nqs_keyed::Table;
-use nqs_values::{Key, Keyed, Memory};
+use nqs_base::{Key, Keyed, Memory};
+use nqs_base_tables::Table;
 
 /// What the function makes of a start and the values of the table, in order, where each call is
 /// given what the last one made. The first want of memory ends it.

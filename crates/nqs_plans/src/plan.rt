@@ -1,12 +1,12 @@
 //! The shapes of plans.
 ghost use Rattle.std.specs.Prelude.{◌≡◌, ◌∷◌, [], Some, IfOk};
-ghost use Rattle.nqs_values.specs.declared.extent.Extent.{Extent};
+ghost use Rattle.nqs_base.specs.declared.extent.Extent.{Extent};
 ghost use Rattle.nqs_rules.specs.Stepped.{plan_of, quiet, says, message, ready, no_extent};
 ghost use Rattle.nqs_plans.specs.More.{change_alone, with_more};
 
+use nqs_base::{Bytes, Extent, Items, ListOf, Memory};
 use nqs_state::HostState;
 use nqs_types::{Body, Change, HostId, Message, Output, Plan, PlanRead};
-use nqs_values::{Bytes, Extent, Items, ListOf, Memory};
 use std::alloc::Global;
 
 /// The extent that stands in a planned change until the bytes are stored.

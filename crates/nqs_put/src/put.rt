@@ -5,8 +5,8 @@ ghost use Rattle.std.specs.Fmt.{decimal};
 ghost use Rattle.nqs_rules.specs.Text.{id_text, named_text};
 ghost use Rattle.nqs_rules.specs.Transcript.{host_text};
 
+use nqs_base::{Memory, Name};
 use nqs_types::{HostId, Named, RequestId};
-use nqs_values::{Memory, Name};
 use std::alloc::Global;
 
 /// Appends bytes.

@@ -1,7 +1,7 @@
 -- Words and keywords at a place of a line, and values behind keywords.
 use Rattle.std.specs.Prelude.{ℕ, ◌+◌, ◌-◌, ◌≤◌, nat_lt, List, length, codes, Option, Some, None, option_map, if◌then◌else◌, Ok, Err, unwrap_or, slice_range}
 use Rattle.std.specs.declared.result.Result.{Result}
-use Rattle.nqs_values.specs.Same.{name_eq}
+use Rattle.nqs_base.specs.Same.{name_eq}
 use Rattle.nqs_types.specs.declared.ids.Named.{Named}
 use Rattle.nqs_types.specs.declared.fault.GrammarFault.{GrammarFault}
 use Rattle.nqs_types.specs.declared.fault.GrammarFault.TheVariants as fault

@@ -8,8 +8,8 @@ ghost use Rattle.nqs_qmgr.specs.Heads.{word_at, name_at, request_at, nothing_aft
 ghost use Rattle.nqs_qmgr.specs.Heads.{FitsLine};
 
 use crate::value::{Amount, limit_of};
+use nqs_base::Name;
 use nqs_types::{GrammarFault, Named, NamedDest};
-use nqs_values::Name;
 use nqs_words::{
     Gaps, Keyword, NoKeyword, NotNamed, Word, dest_of, keyword_of, name_of, named_of, next_word,
     number_of, place_of,

@@ -14,8 +14,8 @@ use crate::head::{
 };
 use crate::options::{Settings, no_settings, options};
 use crate::value::Amount;
+use nqs_base::Name;
 use nqs_types::{GrammarFault, Named, NamedDest};
-use nqs_values::Name;
 use nqs_words::Keyword;
 
 /// `KEYWORD`

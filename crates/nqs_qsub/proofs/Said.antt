@@ -3,7 +3,7 @@ use Rattle.std.proofs.Common.{◌≡◌, ◌⊎◌, inl, inr, ℕ, zero, suc, �
 use Rattle.std.proofs.Common.{nat_lt, refl, ap, sym, ◌∙◌, arith}
 use Rattle.std.proofs.lemmas.Bool.Decides.{nat_tests}
 use Rattle.std.proofs.lemmas.List.{drop_all}
-use Rattle.nqs_values.proofs.Plain.{lt_of_true, le_of_false, no_two}
+use Rattle.nqs_base.proofs.Plain.{lt_of_true, le_of_false, no_two}
 use Rattle.nqs_types.specs.declared.fault.WordsFault.{WordsFault}
 use Rattle.nqs_types.specs.declared.fault.WordsCause.TheVariants as cause
 use Rattle.nqs_types.specs.declared.event.Submission.{Submission}

@@ -1,8 +1,8 @@
 -- The options of qsub: what each says, and which may not stand together.
 use Rattle.std.specs.Prelude.{ℕ, zero, suc, ◌+◌, Bool, true, false, List, codes, Option, Some, None, is_some, if◌then◌else◌, Ok, Err}
 use Rattle.std.specs.declared.result.Result.{Result}
-use Rattle.nqs_values.specs.Same.{name_eq}
-use Rattle.nqs_values.specs.Path.{is_path}
+use Rattle.nqs_base.specs.Same.{name_eq}
+use Rattle.nqs_base.specs.Path.{is_path}
 use Rattle.nqs_types.specs.declared.fault.WordsCause.{WordsCause}
 use Rattle.nqs_types.specs.declared.fault.WordsCause.TheVariants as cause
 use Rattle.nqs_words.specs.Values.{name_of, number_of}

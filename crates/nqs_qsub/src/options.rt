@@ -1,7 +1,7 @@
 //! The options of qsub, and what their values say.
 
 ghost use Rattle.std.specs.Prelude.{◌≡◌};
-ghost use Rattle.nqs_values.specs.Path.{is_path};
+ghost use Rattle.nqs_base.specs.Path.{is_path};
 ghost use Rattle.nqs_words.specs.Values.{number_of};
 ghost use Rattle.nqs_qsub.specs.declared.token.Place.TheVariants.{InCommand};
 ghost use Rattle.nqs_qsub.specs.declared.options.Flag.TheVariants as flag;
@@ -9,8 +9,8 @@ ghost use Rattle.nqs_qsub.specs.Options.{flag_of, no_options, is_given, is_both,
 
 use crate::path::is_path;
 use crate::token::Place;
+use nqs_base::Name;
 use nqs_types::WordsCause;
-use nqs_values::Name;
 use nqs_words::{moment_of, name_of, number_of, size_of, time_of};
 
 /// An option of qsub.

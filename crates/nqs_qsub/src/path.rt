@@ -2,7 +2,7 @@
 
 ghost use Rattle.std.specs.Prelude.{◌≡◌};
 ghost use Rattle.std.specs.List.{list_all};
-ghost use Rattle.nqs_values.specs.Path.{is_visible, begins_with_slash, has_parent, is_path};
+ghost use Rattle.nqs_base.specs.Path.{is_visible, begins_with_slash, has_parent, is_path};
 
 fn is_visible(byte: u8) -> bool
     ensures { result ≡ is_visible byte }

@@ -6,8 +6,8 @@ ghost use Rattle.nqs_qsub.specs.Options.{fresh, valued, takes_value, with_value,
 
 use crate::options::{Flag, Options, flag_of, fresh, marked, takes_value, valued};
 use crate::token::{Source, Token, fault_at, next_token, text_of};
+use nqs_base::Bytes;
 use nqs_types::{WordsCause, WordsFault};
-use nqs_values::Bytes;
 
 /// What was read up to a place.
 #[derive(Clone, Copy)]

@@ -11,8 +11,8 @@ use crate::options::{Options, no_options};
 use crate::reading::read_words;
 use crate::script::script_options;
 use crate::token::{Place, Source, fault_at, text_of};
+use nqs_base::{Bytes, Memory, Name};
 use nqs_types::{Job, Limits, Submission, WordsCause, WordsFault};
-use nqs_values::{Bytes, Memory, Name};
 use std::alloc::Global;
 
 fn has_error(options: &Options) -> bool

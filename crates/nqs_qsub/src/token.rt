@@ -6,8 +6,8 @@ ghost use Rattle.nqs_qsub.specs.declared.token.Source.TheVariants.{Command, Scri
 ghost use Rattle.nqs_qsub.specs.declared.token.Place.TheVariants.{InCommand, InScript};
 ghost use Rattle.nqs_qsub.specs.Tokens.{fault_at, next_token, text_of};
 
+use nqs_base::Bytes;
 use nqs_types::{WordsCause, WordsFault};
-use nqs_values::Bytes;
 use nqs_words::{Gaps, Word, next_word};
 
 /// Where words come from.

@@ -1,7 +1,7 @@
 -- Words of qdel are read as they are written.
 use Rattle.std.proofs.Common.{◌≡◌, ◌≢◌, inl, inr, ℕ, ◌+◌, List, [], ◌∷◌, ◌++◌, length, refl, ap, sym, subst, ◌∙◌, Result, Ok, Err, Bool, true, false, cond}
 use Rattle.std.specs.Prelude.{codes}
-use Rattle.nqs_values.specs.Same.{name_exact}
+use Rattle.nqs_base.specs.Same.{name_exact}
 use Rattle.nqs_types.specs.declared.ids.Named.{Named}
 use Rattle.nqs_types.specs.declared.event.Command.{Command}
 use Rattle.nqs_types.specs.declared.event.Command.TheVariants as command

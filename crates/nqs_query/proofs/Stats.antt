@@ -2,8 +2,8 @@
 use Rattle.std.proofs.Common.{◌≡◌, ◌≢◌, ◌⊎◌, inl, inr, ℕ, ◌+◌, List, [], ◌∷◌, ◌++◌, length, arith, refl, ap, sym, subst, ◌∙◌, Some, None, Option, Result, Ok}
 use Rattle.std.proofs.Common.{Err, Bool, true, false, cond}
 use Rattle.std.specs.Prelude.{codes}
-use Rattle.nqs_values.specs.Same.{name_eq, name_exact}
-use Rattle.nqs_values.specs.Name.{IsName}
+use Rattle.nqs_base.specs.Same.{name_eq, name_exact}
+use Rattle.nqs_base.specs.Name.{IsName}
 use Rattle.nqs_types.specs.declared.fault.WordsFault.{WordsFault}
 use Rattle.nqs_types.specs.declared.fault.WordsCause.TheVariants as cause
 use Rattle.nqs_words.specs.Values.{is_name, name_of}

@@ -2,8 +2,8 @@
 use Rattle.std.specs.Prelude.{◌≡◌, ℕ, ◌+◌, Bool, true, false, nat_le, List, [], ◌∷◌, drop, codes, Option, Some, None, if◌then◌else◌, Ok, Err}
 use Rattle.std.specs.declared.result.Result.{Result}
 use Rattle.std.specs.Global.{Vec}
-use Rattle.nqs_values.specs.Same.{name_eq}
-use Rattle.nqs_values.specs.declared.name.Name.{Name}
+use Rattle.nqs_base.specs.Same.{name_eq}
+use Rattle.nqs_base.specs.declared.name.Name.{Name}
 use Rattle.nqs_query.specs.declared.words.NotNames.{NotNames}
 use Rattle.nqs_query.specs.declared.words.NotNames.TheVariants.{Bad, Memory}
 use Rattle.nqs_types.specs.declared.ids.Named.{Named}

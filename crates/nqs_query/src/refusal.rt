@@ -5,9 +5,9 @@ ghost use Rattle.nqs_rules.specs.Text.{named_text};
 ghost use Rattle.nqs_rules.specs.Transcript.{refusal_text};
 ghost use Rattle.nqs_types.specs.declared.refusal.Refusal.TheVariants.{NoRequest, QueueInUse};
 
+use nqs_base::{Memory, Name};
 use nqs_put::{put_about, put_decimal, put_named, put_text};
 use nqs_types::{Named, Refusal};
-use nqs_values::{Memory, Name};
 use std::alloc::Global;
 
 // A text and a name.

@@ -7,10 +7,10 @@ ghost use Rattle.nqs_query.specs.Replies.{reply_line};
 ghost use Rattle.nqs_types.specs.declared.event.Reply.TheVariants as reply;
 
 use crate::refusal::put_refusal;
+use nqs_base::{Bytes, Memory, Name};
 use nqs_plans::refusal_number;
 use nqs_put::{put_decimal, put_id, put_line_end, put_text};
 use nqs_types::{GrammarFault, Refusal, Reply, RequestId, WordsCause, WordsFault};
-use nqs_values::{Bytes, Memory, Name};
 use std::alloc::Global;
 
 // `Bad line at PLACE: CAUSE`

@@ -8,10 +8,10 @@ ghost use Rattle.nqs_words.specs.Values.{named_of};
 ghost use Rattle.nqs_query.specs.declared.words.NotNames.TheVariants.{Memory};
 ghost use Rattle.nqs_query.specs.Words.{word_number, fault_at, ReadsNames, ReadsQueues, user_word, of_user, of_all, is_user_option, Stats, ReadsStat};
 ghost use Rattle.nqs_query.specs.Words.{named_or_fault, nothing_more, request_from, is_kill_option, delete_of};
-ghost use Rattle.nqs_values.specs.Want.{want};
+ghost use Rattle.nqs_base.specs.Want.{want};
 
+use nqs_base::{Bytes, Memory, Name, NameList};
 use nqs_types::{Command, Named, WordsCause, WordsFault};
-use nqs_values::{Bytes, Memory, Name, NameList};
 use nqs_words::{NotNamed, name_of, named_of};
 use std::alloc::{AllocFailed, Global};
 

@@ -6,7 +6,7 @@ use Rattle.std.proofs.lemmas.Bool.{or_parts, or_from, false_from_ne_true}
 use Rattle.std.proofs.lemmas.Option.{same_Some, none-some}
 use Rattle.std.specs.List.{list_any}
 use Rattle.std.specs.Option.{IfSome}
-use Rattle.nqs_keyed.specs.Table.{change_first, without_first, better, best_from}
+use Rattle.nqs_base_tables.specs.Table.{change_first, without_first, better, best_from}
 use Rattle.nqs_rules.specs.Edits.{change_at}
 
 module _ {V : Type 0} where

@@ -4,8 +4,8 @@ ghost use Rattle.std.specs.Prelude.{◌≡◌, IfOk, string_bytes};
 ghost use Rattle.nqs_real.specs.Names.{name_at, request_text};
 
 use crate::site::SiteHost;
+use nqs_base::Name;
 use nqs_types::{HostId, RequestId};
-use nqs_values::Name;
 use std::fs::{DirBuilder, File, OpenOptions};
 use std::io::ErrorKind;
 use std::os::unix::fs::{DirBuilderExt, OpenOptionsExt};

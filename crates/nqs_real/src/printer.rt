@@ -6,9 +6,9 @@ use crate::counted::counted;
 use crate::folder::{make_folder, name_text, request_text};
 use crate::put::put_file;
 use crate::site::SiteHost;
+use nqs_base::Name;
 use nqs_outside::{Failed, Printer};
 use nqs_types::LaunchOrder;
-use nqs_values::Name;
 use std::io;
 use std::rt::HostRuntime;
 

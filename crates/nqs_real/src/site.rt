@@ -6,8 +6,8 @@
 
 ghost use Rattle.std.specs.Prelude.{◌≡◌, ◌≤◌, length, map, IfOk};
 
+use nqs_base::{Memory, Name, NameList};
 use nqs_text::read_u64;
-use nqs_values::{Memory, Name, NameList};
 use std::alloc::{AllocError, Global};
 use std::net::Ipv4Addr;
 

@@ -5,11 +5,11 @@ use crate::{
     SiteHost, SystemClock, UdpWire, fill_streams, make_host_folder, names_of, open_disks,
     own_program, read_site,
 };
+use nqs_base::Name;
 use nqs_outside::{
     Address, Clock, Disk, Failed, Launcher, Outlet, Printer, Received, RunEnd, Runner, Wire,
 };
 use nqs_types::{HostId, LaunchOrder, Limits, RequestId};
-use nqs_values::Name;
 use std::os::unix::fs::PermissionsExt;
 use std::rt::HostRuntime;
 use std::test::Fail;

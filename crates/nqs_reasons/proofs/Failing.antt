@@ -3,7 +3,7 @@ use Rattle.std.proofs.Common.{◌≡◌, Bool, true, false, cond, not, ◌&&◌,
 use Rattle.std.proofs.Common.{inl, inr, if◌then◌else◌}
 use Rattle.std.specs.List.{list_all}
 use Rattle.std.proofs.lemmas.Bool.{and_parts}
-use Rattle.nqs_values.proofs.Plain.{or_last}
+use Rattle.nqs_base.proofs.Plain.{or_last}
 use Rattle.nqs_rules.proofs.ListFacts.{not_true, list_all-weaker}
 use Rattle.nqs_rules.specs.Reasons.{Conditions, first_failing}
 use Rattle.nqs_reasons.specs.Chosen.{all_hold, IsFirstFailing}

@@ -5,13 +5,13 @@ use Rattle.std.proofs.Common.{if◌then◌else◌}
 use Rattle.std.proofs.lemmas.Bool.Decides.{nat_tests}
 use Rattle.std.specs.List.{list_any, list_all, position_or_len}
 use Rattle.std.proofs.lemmas.Option.{slice_get_cases}
-use Rattle.nqs_values.specs.Same.{number_exact}
+use Rattle.nqs_base.specs.Same.{number_exact}
 use Rattle.std.proofs.lemmas.List.Folds.{list_all-append, list_all-map}
 use Rattle.std.proofs.Math.Bool.{and-false}
-use Rattle.nqs_values.proofs.Plain.{or_last}
+use Rattle.nqs_base.proofs.Plain.{or_last}
 use Rattle.nqs_state.specs.State.{Plain}
 use Rattle.nqs_state.specs.Keys.{is_queue}
-use Rattle.nqs_keyed.proofs.TableLemmas.{is_some-find}
+use Rattle.nqs_base_tables.proofs.TableLemmas.{is_some-find}
 use Rattle.nqs_types.specs.declared.ids.Dest.{Dest}
 use Rattle.nqs_types.specs.declared.ids.HostId.{HostId}
 use Rattle.nqs_types.specs.declared.request.Refused.{Refused as Refusal}

@@ -1,7 +1,7 @@
 -- What a reason means for what the scheduler starts.
 use Rattle.std.specs.Prelude.{◌≡◌, ◌⊎◌, ℕ, ◌<◌, Bool, true, false, ◌∷◌, ◌++◌, slice_get, Some}
 use Rattle.std.specs.List.{list_all}
-use Rattle.nqs_values.specs.Same.{name_eq}
+use Rattle.nqs_base.specs.Same.{name_eq}
 use Rattle.nqs_state.specs.State.{Plain}
 use Rattle.nqs_rules.specs.Order.{is_greater, comes_before}
 use Rattle.nqs_rules.specs.Picked.{PlainRow, row_place}

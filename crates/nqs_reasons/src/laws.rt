@@ -3,7 +3,7 @@
 ghost use Rattle.std.specs.Prelude.{◌≡◌, ◌≢◌, ℕ, ◌≤◌, ◌&&◌, Bool, true, false, List, slice_get, Option, None, Some, IfSome, is_some};
 ghost use Rattle.std.specs.List.{list_any};
 ghost use Rattle.nqs_state.specs.State.{State, Plain};
-ghost use Rattle.nqs_values.specs.declared.extent.Extent.{Extent};
+ghost use Rattle.nqs_base.specs.declared.extent.Extent.{Extent};
 ghost use Rattle.nqs_types.specs.declared.ids.Dest.{Dest};
 ghost use Rattle.nqs_types.specs.declared.request.Row.{Row};
 ghost use Rattle.nqs_types.specs.declared.queue.QueueDef.{QueueDef};

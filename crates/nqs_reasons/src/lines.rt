@@ -12,10 +12,10 @@ ghost use Rattle.nqs_types.specs.declared.reason.Reason.TheVariants.{NoDestinati
 use crate::answers::answer;
 use crate::text::{put_answer, put_count, put_reason};
 use crate::told::{count_before, reason};
+use nqs_base::{Bytes, Items, ListOf, Memory, Name};
 use nqs_put::{put_host, put_id, put_text};
 use nqs_state::HostState;
 use nqs_types::{Dest, DestAnswer, Reason, Row, RowState};
-use nqs_values::{Bytes, Items, ListOf, Memory, Name};
 use std::alloc::Global;
 
 // `Request ID: REASON.`

@@ -5,10 +5,10 @@ ghost use Rattle.std.specs.Fmt.{decimal};
 ghost use Rattle.std.specs.Option.{option_copied};
 ghost use Rattle.nqs_rules.specs.Why.{when_text, limit_text, forms_text, next_text, reason_text, answer_text};
 
+use nqs_base::{Memory, Name};
 use nqs_moments::{PrintFault, print_moment};
 use nqs_put::{put_about, put_decimal, put_text};
 use nqs_types::{DestAnswer, Reason};
-use nqs_values::{Memory, Name};
 use std::alloc::Global;
 
 // A moment as its date, and past the last day that has one as its seconds since 1970.

@@ -10,10 +10,10 @@ ghost use Rattle.nqs_rules.specs.Reasons.{count_before};
 ghost use Rattle.nqs_types.specs.declared.reason.Reason.TheVariants.{ComplexLimit};
 
 use crate::before::{goes_first, waits_before};
+use nqs_base::Name;
 use nqs_order::{complex_allows, global_allows, kind_allows, run_allows, user_allows};
 use nqs_state::HostState;
 use nqs_types::{ComplexDef, Hold, Kind, QueueDef, Reason, Row, RowState};
-use nqs_values::Name;
 
 fn state_reason(state: RowState) -> Reason
     ensures { result ≡ state_reason state }

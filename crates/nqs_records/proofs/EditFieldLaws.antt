@@ -3,7 +3,7 @@ use Rattle.std.proofs.Common.{◌≡◌, ℕ, ◌<◌, ◌^◌, Bool, true, fals
 use Rattle.std.proofs.Common.{sym, ap, arith}
 use Rattle.std.proofs.lemmas.Bool.{eqb-true}
 use Rattle.std.proofs.lemmas.Bool.Decides.{nat_tests}
-use Rattle.nqs_values.specs.Name.{IsName}
+use Rattle.nqs_base.specs.Name.{IsName}
 use Rattle.nqs_rules.specs.Conf.{is_wait}
 use Rattle.nqs_codec.specs.Fields.{u64_field, short_field}
 use Rattle.nqs_records.specs.Fields.{name_at}

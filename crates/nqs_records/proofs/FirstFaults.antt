@@ -6,7 +6,7 @@ use Rattle.std.specs.declared.result.Result.{Result}
 use Rattle.std.proofs.lemmas.List.{length-drop}
 use Rattle.std.proofs.lemmas.Bool.Decides.{nat_tests}
 use Rattle.nqs_codec.specs.Fields.{u8_field}
-use Rattle.nqs_values.specs.Want.{want}
+use Rattle.nqs_base.specs.Want.{want}
 use Rattle.nqs_records.specs.declared.fault.RecordFault.{RecordFault}
 use Rattle.nqs_records.specs.declared.fault.RecordFault.TheVariants.{Short, Kind, BadField, Trailing, Memory}
 use Rattle.nqs_records.specs.Reading.{◌>>=◌, Read}

@@ -1,7 +1,7 @@
 -- The laws of what records are made of.
 use Rattle.std.proofs.Common.{ℕ, ◌<◌, ◌^◌, ◌==◌, IsTrue, refl, arith}
 use Rattle.std.proofs.lemmas.Bool.Decides.{nat_tests}
-use Rattle.nqs_values.specs.Name.{IsName}
+use Rattle.nqs_base.specs.Name.{IsName}
 use Rattle.nqs_types.specs.declared.ids.HostId.{HostId}
 use Rattle.nqs_codec.specs.Fields.{u8_field, u32_field, short_field}
 use Rattle.nqs_records.specs.Reading.{within, counted}

@@ -6,7 +6,7 @@ use Rattle.nqs_records.specs.Reading.{Read, is_memory, Answers}
 use Rattle.nqs_records.specs.KindTable.{HostChange}
 use Rattle.nqs_records.specs.Kinds.{change_at, record_of}
 use Rattle.nqs_records.specs.Changes.{AreBytes, MayStand, spelling, ReadsTheSpelling, IsSpelledBy, SpellsNone}
-use Rattle.nqs_values.specs.Want.{want}
+use Rattle.nqs_base.specs.Want.{want}
 use Rattle.nqs_records.specs.declared.fault.RecordFault.{RecordFault}
 use Rattle.nqs_records.specs.declared.fault.RecordFault.TheVariants.{Short, Kind, BadField, Trailing, Memory}
 use Rattle.nqs_records.proofs.IsRead.{bound}

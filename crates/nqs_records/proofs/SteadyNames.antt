@@ -2,8 +2,8 @@
 use Rattle.std.proofs.Common.{◌≡◌, ℕ, zero, suc, ◌+◌, ◌<◌, ◌≤◌, Bool, true, false, cond, ◌&&◌, nat_lt, nat_le, List, [], ◌∷◌, ◌++◌, length, drop, take, Option}
 use Rattle.std.proofs.Common.{Some, None, option_map, refl, sym, ap, ◌∙◌, subst, arith, length-append, Result, Ok, Err}
 use Rattle.std.proofs.lemmas.List.{length-drop, take-append-le}
-use Rattle.nqs_values.specs.Name.{allowed_at}
-use Rattle.nqs_values.specs.Path.{path_allowed_at, has_parent}
+use Rattle.nqs_base.specs.Name.{allowed_at}
+use Rattle.nqs_base.specs.Path.{path_allowed_at, has_parent}
 use Rattle.nqs_codec.specs.declared.fault.FieldFault.{FieldFault}
 use Rattle.nqs_codec.specs.declared.fault.FieldFault.TheVariants as field
 use Rattle.nqs_records.specs.declared.fault.RecordFault.TheVariants.{BadField}

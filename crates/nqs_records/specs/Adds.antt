@@ -1,7 +1,7 @@
 -- What is added at the end of a list.
 use Rattle.std.specs.Prelude.{◌≡◌, ℕ, List, ◌++◌, OnOk}
 use Rattle.std.specs.declared.result.Result.{Result}
-use Rattle.nqs_values.specs.declared.memory.Memory.{Memory}
+use Rattle.nqs_base.specs.declared.memory.Memory.{Memory}
 
 -- after Ok the field stands behind what was there
 abbrev pub Adds : List ℕ → List ℕ → Result (Unit {0}) Memory → List ℕ → Type 0

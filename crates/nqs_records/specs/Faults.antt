@@ -1,7 +1,7 @@
 -- Which bytes have which first fault, apart from how they are read.
 use Rattle.std.specs.Prelude.{◌≡◌, ◌≢◌, ◌↔◌, ℕ, ◌<◌, Bool, false, List, [], ◌∷◌, ◌++◌, length, Err}
-use Rattle.nqs_values.specs.declared.extent.Extent.{Extent}
-use Rattle.nqs_values.specs.Want.{want}
+use Rattle.nqs_base.specs.declared.extent.Extent.{Extent}
+use Rattle.nqs_base.specs.Want.{want}
 use Rattle.nqs_types.specs.declared.change.Change.{Change}
 use Rattle.nqs_records.specs.Tables.{has_code}
 use Rattle.nqs_records.specs.KindTable.{kinds}

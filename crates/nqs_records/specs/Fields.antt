@@ -3,8 +3,8 @@ use Rattle.std.specs.Prelude.{ℕ, suc, ◌+◌, Bool, true, false, ◌&&◌, �
 use Rattle.std.specs.Prelude.{option_map, if◌then◌else◌, Ok, Err}
 use Rattle.std.specs.Int.{w16, w32, w64, from_be_bytes}
 use Rattle.std.specs.declared.result.Result.{Result}
-use Rattle.nqs_values.specs.Name.{allowed_at}
-use Rattle.nqs_values.specs.Path.{path_allowed_at, has_parent}
+use Rattle.nqs_base.specs.Name.{allowed_at}
+use Rattle.nqs_base.specs.Path.{path_allowed_at, has_parent}
 use Rattle.nqs_codec.specs.declared.fault.Short.{Short}
 use Rattle.nqs_codec.specs.declared.fault.FieldFault.{FieldFault}
 use Rattle.nqs_codec.specs.declared.fault.FieldFault.TheVariants as field

@@ -1,8 +1,8 @@
 -- What stands behind the kind of a record: fields, each with its values, their limits, their spelling and its reading.
 use Rattle.std.specs.Prelude.{ℕ, IsTrue, List, ◌++◌, Option}
-use Rattle.nqs_values.specs.Name.{IsName}
-use Rattle.nqs_values.specs.Path.{IsPath}
-use Rattle.nqs_values.specs.declared.extent.Extent.{Extent}
+use Rattle.nqs_base.specs.Name.{IsName}
+use Rattle.nqs_base.specs.Path.{IsPath}
+use Rattle.nqs_base.specs.declared.extent.Extent.{Extent}
 use Rattle.nqs_types.specs.declared.ids.HostId.{HostId}
 use Rattle.nqs_types.specs.declared.ids.RequestId.{RequestId}
 use Rattle.nqs_types.specs.declared.ids.PeerNumber.{PeerNumber}

@@ -11,8 +11,8 @@ use crate::edit_parts::{
 use crate::fault::RecordFault;
 use crate::field::read_name;
 use crate::part::read_opt_u64;
+use nqs_base::Name;
 use nqs_types::{Named, NamedDest};
-use nqs_values::Name;
 
 // No argument: the bytes are for the contract alone.
 #[tactic(auto, unfolding(crate::specs::Tables::values_at))]

@@ -1,13 +1,13 @@
 //! The extents of a change, put into its record once they are known.
 
 ghost use Rattle.std.specs.Prelude.{◌≡◌, ◌+◌, ◌≤◌, ◌++◌, ℕ, List, length, flat_map};
-ghost use Rattle.nqs_values.specs.declared.extent.Extent.{Extent};
+ghost use Rattle.nqs_base.specs.declared.extent.Extent.{Extent};
 ghost use Rattle.nqs_records.specs.Spelling.{extent_field, part_field};
 ghost use Rattle.nqs_records.specs.Changes.{spelling};
 ghost use Rattle.nqs_records.specs.Extents.{parts_with, with_extents};
 
+use nqs_base::Extent;
 use nqs_types::{Change, OutPart};
-use nqs_values::Extent;
 
 /// Bytes of an extent.
 const EXTENT: usize = 12;

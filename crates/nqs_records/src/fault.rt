@@ -2,9 +2,9 @@
 
 ghost use Rattle.std.specs.Prelude.{◌≡◌};
 ghost use Rattle.nqs_records.specs.declared.fault.RecordFault.TheVariants as fault;
-ghost use Rattle.nqs_values.specs.Want.{want};
+ghost use Rattle.nqs_base.specs.Want.{want};
 
-use nqs_values::Memory;
+use nqs_base::Memory;
 use std::alloc::{AllocError, AllocFailed};
 
 /// The first thing that is wrong with bytes that are no record. Places are counted from 0.

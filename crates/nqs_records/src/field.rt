@@ -4,8 +4,8 @@ ghost use Rattle.std.specs.Prelude.{◌≡◌};
 ghost use Rattle.nqs_records.specs.Fields.{u8_at, u16_at, u32_at, u64_at, bool_at, name_at, as_fault};
 
 use crate::fault::RecordFault;
+use nqs_base::Name;
 use nqs_codec::{FieldFault, Short, take_bool, take_name, take_u8, take_u16, take_u32, take_u64};
-use nqs_values::Name;
 
 pub(crate) fn as_fault(fault: FieldFault) -> RecordFault
     ensures { result ≡ as_fault fault }

@@ -10,8 +10,8 @@ use crate::fault::RecordFault;
 use crate::field::{read_name, read_u8};
 use crate::job::read_u8_at_most;
 use crate::part::{read_hand, read_part};
+use nqs_base::{Items, ListOf, NameList};
 use nqs_types::{HostId, OutPart, PeerNumber};
-use nqs_values::{Items, ListOf, NameList};
 use std::alloc::Global;
 
 fn repeat_names(

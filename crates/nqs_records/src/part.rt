@@ -8,9 +8,9 @@ ghost use Rattle.nqs_records.specs.Parts.{host_at, seq_at, id_at, extent_at, par
 
 use crate::fault::RecordFault;
 use crate::field::{as_fault, read_bool, read_name, read_u8, read_u32, read_u64};
+use nqs_base::{Bytes, Extent, Name};
 use nqs_codec::take_path;
 use nqs_types::{HostId, OutPart, PeerNumber, RequestId};
-use nqs_values::{Bytes, Extent, Name};
 use std::alloc::Global;
 
 /// The number of eight bytes at the place, or nothing.

@@ -8,8 +8,8 @@ use crate::put_shapes::{
     put_with_names, put_with_number, put_with_number_and_name, put_with_request,
     put_with_request_and_name, put_with_request_and_number,
 };
+use nqs_base::Memory;
 use nqs_types::{AccessEdit, ConfEdit, DevicesEdit, Edit, LimitsEdit, RowsEdit};
-use nqs_values::Memory;
 
 #[tactic(auto, unfolding(crate::specs::EditSpelling::conf_field))]
 fn put_conf(edit: ConfEdit, out: &mut Vec<u8>) -> Result<(), Memory>

@@ -4,7 +4,7 @@
 ghost use Rattle.std.specs.Prelude.{◌≡◌, ◌∷◌, ◌++◌, []};
 ghost use Rattle.std.specs.Prelude.{◌<◌, length, IsTrue};
 ghost use Rattle.std.specs.List.{AllByRecursion};
-ghost use Rattle.nqs_values.specs.Path.{IsPath};
+ghost use Rattle.nqs_base.specs.Path.{IsPath};
 ghost use Rattle.nqs_codec.specs.Fields.{u8_field, u64_field, short_field};
 ghost use Rattle.nqs_records.specs.Adds.{Adds};
 ghost use Rattle.nqs_records.specs.Spelling.{fields, opt_field, list_field, id_field, extent_field, job_field, carried_field, part_field, hand_field};
@@ -12,9 +12,9 @@ ghost use Rattle.nqs_records.specs.Values.{IsJob, IsCarried, IsPart};
 
 use crate::put_lists::{put_hands, put_names, put_parts};
 use crate::put_parts::{put_carried, put_extent, put_id, put_job, put_opt_name};
+use nqs_base::{Extent, Memory, Name};
 use nqs_codec::{put_name, put_path, put_u8, put_u64};
 use nqs_types::{Carried, HostId, Job, OutPart, PeerNumber, RequestId};
-use nqs_values::{Extent, Memory, Name};
 
 #[tactic(auto, using(crate::proofs::Joined::joined))]
 pub(crate) fn put_with_id(kind: u8, id: RequestId, out: &mut Vec<u8>) -> Result<(), Memory>

@@ -8,9 +8,9 @@ ghost use Rattle.nqs_records.specs.Spelling.{list_field, part_field, hand_field}
 ghost use Rattle.nqs_records.specs.Values.{IsPart};
 
 use crate::put_parts::{put_hand, put_part};
+use nqs_base::{Memory, Name};
 use nqs_codec::{put_name, put_u8};
 use nqs_types::{OutPart, PeerNumber};
-use nqs_values::{Memory, Name};
 
 fn put_each_name(items: &[Name], out: &mut Vec<u8>) -> Result<(), Memory>
     ensures { Adds out.old.items (flat_map short_field items.now) result out.new.items }

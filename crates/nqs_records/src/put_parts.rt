@@ -6,9 +6,9 @@ ghost use Rattle.nqs_records.specs.Adds.{Adds};
 ghost use Rattle.nqs_records.specs.Spelling.{fields, opt_field, id_field, extent_field, job_field, carried_field, part_field, hand_field};
 ghost use Rattle.nqs_records.specs.Values.{IsJob, IsCarried, IsPart};
 
+use nqs_base::{Extent, Memory, Name};
 use nqs_codec::{put_bool, put_name, put_path, put_u8, put_u16, put_u32, put_u64};
 use nqs_types::{Carried, Job, OutPart, PeerNumber, RequestId};
-use nqs_values::{Extent, Memory, Name};
 
 /// Puts a number of eight bytes that may be left out.
 #[tactic(auto, using(crate::proofs::Joined::joined))]

@@ -7,9 +7,9 @@ ghost use Rattle.nqs_records.specs.Adds.{Adds};
 ghost use Rattle.nqs_records.specs.Spelling.{fields, opt_field, flag_field, dest_field, named_field};
 
 use crate::put_parts::put_opt_u64;
+use nqs_base::{Memory, Name};
 use nqs_codec::{put_bool, put_name, put_u8, put_u32, put_u64};
 use nqs_types::{Named, NamedDest};
-use nqs_values::{Memory, Name};
 
 // A flag: the number 1, or nothing.
 #[tactic(auto, unfolding(crate::specs::Spelling::flag_field))]

@@ -6,7 +6,7 @@ ghost use Rattle.nqs_records.specs.Kinds.{record_of};
 ghost use Rattle.nqs_records.specs.Changes.{ReadsTheSpelling, IsSpelledBy, SpellsNone, WhatMayStandIsSane};
 ghost use Rattle.nqs_records.specs.Faults.{FirstFaults};
 ghost use Rattle.nqs_records.specs.declared.fault.RecordFault.TheVariants.{Memory};
-ghost use Rattle.nqs_values.specs.Want.{want};
+ghost use Rattle.nqs_base.specs.Want.{want};
 
 use crate::fault::RecordFault;
 use crate::field::read_u8;

@@ -14,9 +14,9 @@ use crate::put_kinds::{
     put_refused_local, put_site, put_stage_got, put_started, put_submitted, put_with_hand,
     put_with_id,
 };
+use nqs_base::Memory;
 use nqs_codec::{put_u8, put_u64};
 use nqs_types::{Change, Edit};
-use nqs_values::Memory;
 use std::alloc::Global;
 
 #[tactic(auto, using(crate::proofs::Joined::joined))]

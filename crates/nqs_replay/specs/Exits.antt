@@ -1,9 +1,9 @@
 -- The code with which the program exits.
 use Rattle.std.specs.Prelude.{◌≡◌, ℕ, List, []}
-use Rattle.nqs_runs.specs.Numbers.{number_of}
-use Rattle.nqs_runs.specs.Replay.{Drained, Left, Ends, IsComplete}
-use Rattle.nqs_runs.specs.Sunk.{Sunk}
-use Rattle.nqs_runs.specs.declared.status.Status.{Status}
+use Rattle.nqs_network_runs.specs.Numbers.{number_of}
+use Rattle.nqs_network_runs.specs.Replay.{Drained, Left, Ends, IsComplete}
+use Rattle.nqs_network_runs.specs.Sunk.{Sunk}
+use Rattle.nqs_network_runs.specs.declared.status.Status.{Status}
 
 -- it is the number of how a run of these words ended
 abbrev pub Exits : List (List ℕ) → Drained → Sunk → ℕ → Type 0

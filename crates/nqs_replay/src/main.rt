@@ -5,19 +5,19 @@
 
 ghost use Rattle.std.specs.Prelude.{◌≡◌, ℕ, IfOk, drop, map, string_bytes};
 ghost use Rattle.std.specs.Process.{exit_status};
-ghost use Rattle.nqs_runs.specs.Numbers.{number_of};
-ghost use Rattle.nqs_runs.specs.Replay.{drained};
-ghost use Rattle.nqs_runs.specs.Sunk.{sunk};
+ghost use Rattle.nqs_network_runs.specs.Numbers.{number_of};
+ghost use Rattle.nqs_network_runs.specs.Replay.{drained};
+ghost use Rattle.nqs_network_runs.specs.Sunk.{sunk};
 ghost use Rattle.nqs_replay.specs.Exits.{Exits};
 
 mod real;
 #[cfg(test)]
 mod tests;
 
+use nqs_base::Memory;
+use nqs_network_runs::replay::replay;
+use nqs_network_runs::status::Status;
 use nqs_outside::{Sink, Source};
-use nqs_runs::replay::replay;
-use nqs_runs::status::Status;
-use nqs_values::Memory;
 use real::{Reading, Writing};
 use std::alloc::Global;
 use std::env::Args;

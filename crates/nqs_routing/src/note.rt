@@ -8,10 +8,10 @@ ghost use Rattle.nqs_rules.specs.Edits.{change_row, change_peer};
 ghost use Rattle.nqs_rules.specs.Routing.{dests_of, dests_for, is_present, with_refusal, all_refused, held_where, refusal_noted};
 
 use crate::dests::{find_peer, was_refused};
-use nqs_keyed::Table;
+use nqs_base::Name;
+use nqs_base_tables::Table;
 use nqs_state::HostState;
 use nqs_types::{Dest, Hold, HostId, Peer, QueueDef, Refused, RefusedList, RequestId, Row};
-use nqs_values::Name;
 
 // The destinations of a queue.
 fn dests_of<'a>(queues: &'a Table<Name, QueueDef>, queue: &Name) -> &'a [Dest]

@@ -8,9 +8,9 @@ ghost use Rattle.nqs_rules.specs.Rows.{doomed_in, change_meant, rows_causes, row
 ghost use Rattle.nqs_rows.specs.OneRow.{row_edited};
 
 use crate::meant::meant_request;
+use nqs_base::{ListOf, Name};
 use nqs_state::HostState;
 use nqs_types::{Hold, Named, RequestId, Row, RowState, RowsEdit};
-use nqs_values::{ListOf, Name};
 use std::alloc::Global;
 
 // What an edit makes of its request's row.

@@ -12,9 +12,9 @@ ghost use Rattle.nqs_rows.specs.OneRow.{row_causes};
 use crate::entry::check_job;
 use crate::meant::meant_row;
 use nqs_access::rank;
+use nqs_base::Name;
 use nqs_state::HostState;
 use nqs_types::{Entry, Hold, Kind, Named, QueueDef, Rank, Refusal, Row, RowState, RowsEdit};
-use nqs_values::Name;
 
 fn is_plain_user(state: &HostState, user: &Name) -> bool
     ensures { result ≡ is_plain_user (rank user.now (content state.now)) }

@@ -6,9 +6,9 @@ ghost use Rattle.nqs_rules.specs.Causes.{cause, first_refusal};
 ghost use Rattle.nqs_rules.specs.Rows.{is_host_full, numbers_used, queue_entry_causes, submit_causes_at, submit_causes};
 
 use crate::entry::check_job;
+use nqs_base::Name;
 use nqs_state::HostState;
 use nqs_types::{Entry, Job, QueueDef, Refusal, Submission};
-use nqs_values::Name;
 
 fn is_host_full(state: &HostState) -> bool
     ensures { result ≡ is_host_full (content state.now) }

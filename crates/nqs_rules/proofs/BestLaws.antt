@@ -4,7 +4,7 @@ use Rattle.std.proofs.Common.{sym, ap, subst, ◌∙◌, arith, if◌then◌else
 use Rattle.std.proofs.lemmas.Option.{same_Some, none-some}
 use Rattle.std.specs.List.{list_any}
 use Rattle.std.specs.Option.{IfSome}
-use Rattle.nqs_keyed.specs.Table.{better, best_from}
+use Rattle.nqs_base_tables.specs.Table.{better, best_from}
 
 module _ {V : Type 0} (test : V → Bool) (beats : V → V → Bool) where
   -- what holds of each value that passes, with its place

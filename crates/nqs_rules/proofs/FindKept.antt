@@ -3,7 +3,7 @@ use Rattle.std.proofs.Common.{◌≡◌, Bool, true, false, cond, List, [], ◌�
 use Rattle.std.proofs.lemmas.Bool.{and_parts, and_from}
 use Rattle.std.specs.List.{list_all, filter_map, cons_option}
 use Rattle.std.specs.Option.{IfSome}
-use Rattle.nqs_keyed.specs.Table.{change_first}
+use Rattle.nqs_base_tables.specs.Table.{change_first}
 use Rattle.nqs_rules.specs.Tests.{passes}
 
 module _ {V : Type 0} (t p : V → Bool) where

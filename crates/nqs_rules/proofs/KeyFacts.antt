@@ -6,7 +6,7 @@ use Rattle.std.proofs.lemmas.List.Folds.{list_any-append, list_all-append}
 use Rattle.std.proofs.lemmas.List.{append-nil}
 use Rattle.std.proofs.lemmas.Option.{same_Some, none-some}
 use Rattle.std.specs.List.{list_any, list_all}
-use Rattle.nqs_keyed.specs.Table.{has_key, change_first, without_first}
+use Rattle.nqs_base_tables.specs.Table.{has_key, change_first, without_first}
 use Rattle.nqs_rules.specs.InOrder.{are_distinct}
 use Rattle.nqs_rules.specs.Tests.{passes}
 use Rattle.nqs_rules.proofs.ListFacts.{map-changed}

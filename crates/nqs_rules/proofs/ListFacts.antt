@@ -6,7 +6,7 @@ use Rattle.std.proofs.lemmas.Bool.Decides.{nat_tests}
 use Rattle.std.proofs.lemmas.Option.{same_Some, none-some}
 use Rattle.std.proofs.lemmas.List.Sums.{sum-map, sum_by-cons}
 use Rattle.std.specs.List.{list_any, list_all, position_or_len}
-use Rattle.nqs_keyed.specs.Table.{has_key, change_first}
+use Rattle.nqs_base_tables.specs.Table.{has_key, change_first}
 use Rattle.nqs_rules.specs.InOrder.{are_distinct}
 
 pub not_true : (b : Bool) → not b ≡ true → b ≡ false

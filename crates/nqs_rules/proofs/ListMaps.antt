@@ -3,7 +3,7 @@ use Rattle.std.proofs.Common.{◌≡◌, ℕ, ◌+◌, Bool, true, false, cond, 
 use Rattle.std.proofs.Common.{option_map, refl, sym, ap, ◌∙◌, if◌then◌else◌}
 use Rattle.std.proofs.lemmas.List.{length-map, map-append}
 use Rattle.std.specs.List.{filter_map, cons_option, list_any}
-use Rattle.nqs_keyed.specs.Table.{change_first, without_first, better, best_from}
+use Rattle.nqs_base_tables.specs.Table.{change_first, without_first, better, best_from}
 
 -- what is done behind a test may be done in each of its branches
 pub if-map : {V W : Type 0} (m : V → W) (b : Bool) (x y : V) → (if b then m x else m y) ≡ m (if b then x else y)

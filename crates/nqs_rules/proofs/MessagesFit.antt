@@ -8,8 +8,8 @@ use Rattle.std.proofs.lemmas.List.{length-append}
 use Rattle.std.specs.List.{list_any, list_all}
 use Rattle.nqs_state.specs.State.{State}
 use Rattle.nqs_state.specs.Keys.{is_row, is_file, is_stage}
-use Rattle.nqs_keyed.specs.Table.{without_first}
-use Rattle.nqs_values.specs.Path.{is_path}
+use Rattle.nqs_base_tables.specs.Table.{without_first}
+use Rattle.nqs_base.specs.Path.{is_path}
 use Rattle.nqs_types.specs.declared.ids.HostId.{HostId}
 use Rattle.nqs_types.specs.declared.ids.RequestId.{RequestId}
 use Rattle.nqs_types.specs.declared.request.Job.{Job}

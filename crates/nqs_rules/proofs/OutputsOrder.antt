@@ -5,11 +5,11 @@ use Rattle.std.proofs.lemmas.Bool.{and_parts, and_from, le-leb, ltb-true, lt-ltb
 use Rattle.std.proofs.lemmas.List.{map-append}
 use Rattle.std.specs.List.{list_any, list_all}
 use Rattle.nqs_state.specs.State.{State}
-use Rattle.nqs_values.specs.Same.{number_exact}
+use Rattle.nqs_base.specs.Same.{number_exact}
 use Rattle.nqs_types.specs.Ids.{peer_number_eq, peer_number_exact, stage_key}
-use Rattle.nqs_keyed.specs.Table.{without_first}
+use Rattle.nqs_base_tables.specs.Table.{without_first}
 use Rattle.nqs_state.specs.Keys.{is_stage, is_file}
-use Rattle.nqs_values.specs.Path.{is_path}
+use Rattle.nqs_base.specs.Path.{is_path}
 use Rattle.nqs_types.specs.declared.ids.HostId.{HostId}
 use Rattle.nqs_types.specs.declared.ids.RequestId.{RequestId}
 use Rattle.nqs_types.specs.declared.ids.PeerNumber.{PeerNumber}

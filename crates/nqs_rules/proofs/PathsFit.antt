@@ -7,8 +7,8 @@ use Rattle.std.proofs.lemmas.List.Folds.{list_all-append}
 use Rattle.std.specs.List.{list_any, list_all, onto_first}
 use Rattle.std.specs.Fmt.{decimal}
 use Rattle.std.proofs.lemmas.Fmt.{decimal_by_steps, length-decimal-le}
-use Rattle.nqs_values.specs.Same.{name_exact}
-use Rattle.nqs_values.specs.Path.{is_visible, begins_with_slash, is_parent, components, has_parent, is_path}
+use Rattle.nqs_base.specs.Same.{name_exact}
+use Rattle.nqs_base.specs.Path.{is_visible, begins_with_slash, is_parent, components, has_parent, is_path}
 use Rattle.nqs_types.specs.declared.request.Job.{Job}
 use Rattle.nqs_rules.specs.Tests.{last_seq}
 use Rattle.nqs_rules.specs.Sane.{is_name_byte, is_sane_name, is_path_or_none, is_asked_job, is_sane_job}

@@ -5,9 +5,9 @@ use Rattle.std.proofs.lemmas.Bool.{and_parts, and_from, leb-true, le-leb, ltb-tr
 use Rattle.std.proofs.lemmas.List.{map-append, length-append, append_assoc}
 use Rattle.std.specs.List.{list_any, list_all}
 use Rattle.nqs_state.specs.State.{State}
-use Rattle.nqs_values.specs.Same.{number_exact}
+use Rattle.nqs_base.specs.Same.{number_exact}
 use Rattle.nqs_types.specs.Ids.{peer_number_eq, peer_number_exact, promise_key}
-use Rattle.nqs_keyed.specs.Table.{without_first}
+use Rattle.nqs_base_tables.specs.Table.{without_first}
 use Rattle.nqs_state.specs.Keys.{is_promise}
 use Rattle.nqs_types.specs.declared.ids.HostId.{HostId}
 use Rattle.nqs_types.specs.declared.ids.PeerNumber.{PeerNumber}
@@ -15,7 +15,7 @@ use Rattle.nqs_types.specs.declared.request.Hand.{Hand}
 use Rattle.nqs_types.specs.declared.request.Promise.{Promise}
 use Rattle.nqs_types.specs.declared.request.Peer.{Peer}
 use Rattle.nqs_types.specs.declared.request.Stage.{Stage}
-use Rattle.nqs_values.specs.Path.{is_path}
+use Rattle.nqs_base.specs.Path.{is_path}
 use Rattle.nqs_rules.specs.Tests.{passes, same_host}
 use Rattle.nqs_rules.specs.Routing.{close}
 use Rattle.nqs_rules.specs.Applied.{drop_promise, is_promise_of}

@@ -5,8 +5,8 @@ use Rattle.std.proofs.lemmas.Bool.{and_parts, and_from, leb-true, le-leb, ltb-tr
 use Rattle.std.proofs.lemmas.List.{map-append, length-append, length-map}
 use Rattle.std.specs.List.{list_all}
 use Rattle.nqs_state.specs.State.{State}
-use Rattle.nqs_values.specs.Same.{name_eq, name_exact}
-use Rattle.nqs_keyed.specs.Table.{without_first}
+use Rattle.nqs_base.specs.Same.{name_eq, name_exact}
+use Rattle.nqs_base_tables.specs.Table.{without_first}
 use Rattle.nqs_state.specs.Keys.{is_queue}
 use Rattle.nqs_types.specs.declared.request.Row.{Row}
 use Rattle.nqs_types.specs.declared.request.Promise.{Promise}

@@ -1,7 +1,7 @@
 -- A reason looks at no stored part, and what is told of a request neither.
 use Rattle.std.proofs.Common.{◌≡◌, ℕ, not, ◌&&◌, ◌||◌, nat_lt, nat_le, List, [], ◌∷◌, ◌++◌, map, length, filter, find, position, Option, None, Some, is_some}
 use Rattle.std.proofs.Common.{refl, ap, ◌∙◌, unwrap_or, if◌then◌else◌}
-use Rattle.nqs_values.specs.Same.{name_eq}
+use Rattle.nqs_base.specs.Same.{name_eq}
 use Rattle.nqs_state.specs.State.{State}
 use Rattle.nqs_types.specs.declared.ids.HostId.{HostId}
 use Rattle.nqs_types.specs.declared.ids.Dest.{Dest}

@@ -7,7 +7,7 @@ use Rattle.std.proofs.lemmas.Cmp.{nat_eq_equiv, nat_list_eq_equiv}
 use Rattle.std.proofs.lemmas.Option.{same_Some, none-some}
 use Rattle.std.specs.List.{list_any, list_all}
 use Rattle.std.specs.Option.{IfSome, option_and_then}
-use Rattle.nqs_values.specs.Same.{name_eq, name_exact}
+use Rattle.nqs_base.specs.Same.{name_eq, name_exact}
 use Rattle.nqs_types.specs.Ids.{id_eq, id_exact}
 use Rattle.nqs_state.specs.Keys.{is_row, is_device}
 use Rattle.nqs_state.specs.State.{Plain}

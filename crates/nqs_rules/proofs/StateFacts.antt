@@ -1,7 +1,7 @@
 -- The tests of a state in order, part by part.
 use Rattle.std.proofs.Common.{◌≡◌, ℕ, Bool, true, ◌==◌, nat_le, List, [], ◌∷◌, map, length, Option, None, Some, refl, ◌∙◌}
 use Rattle.nqs_state.specs.State.{State}
-use Rattle.nqs_values.specs.Same.{name_eq}
+use Rattle.nqs_base.specs.Same.{name_eq}
 use Rattle.nqs_types.specs.Ids.{id_eq, peer_number_eq, hand_key, promise_key, stage_key}
 use Rattle.nqs_rules.specs.Tests.{last_u64, last_seq}
 use Rattle.nqs_rules.specs.Conf.{is_wait}

@@ -29,7 +29,8 @@ use Rattle.nqs_rules.specs.Fits.{edit_causes}
 use Rattle.nqs_rules.specs.Stepped.{Stepped, Pending, map_pending, map_stepped, makes, ready}
 use Rattle.nqs_rules.specs.Text.{stat_lines}
 use Rattle.nqs_rules.specs.Step.{Asker, reply_to, answer_to, unless_refused, submit_to, on_submit, kill, delete_meant, on_delete, runs_in_queue, kills_of}
-use Rattle.nqs_rules.specs.Step.{on_edit, stat_causes, on_stat, why_reply, ticked, then_reply, on_allowed, is_start, ended_by, then_ack, acknowledged, unlaunched_by, step}
+use Rattle.nqs_rules.specs.Step.{on_edit, stat_causes, on_stat, why_reply, ticked, then_reply, on_allowed, is_start, ended_by, then_ack, acknowledged}
+use Rattle.nqs_rules.specs.Step.{unlaunched_by, step}
 use Rattle.nqs_rules.specs.Plain.{map_row, map_state}
 use Rattle.nqs_rules.proofs.ListMaps.{map-mapped, map-filter}
 use Rattle.nqs_rules.proofs.FoundPlain.{held_count-map, find_row-map, meant_row-map, named_causes-map}

@@ -3,7 +3,7 @@ use Rattle.std.specs.Prelude.{ℕ, ◌+◌, ◌-◌, Bool, true, false, not, ◌
 use Rattle.std.specs.List.{filter_map}
 use Rattle.nqs_types.specs.Ids.{id_eq}
 use Rattle.nqs_state.specs.State.{State}
-use Rattle.nqs_keyed.specs.Table.{change_first, without_first}
+use Rattle.nqs_base_tables.specs.Table.{change_first, without_first}
 use Rattle.nqs_state.specs.Keys.{is_hand, is_promise, is_stage, is_file}
 use Rattle.nqs_rules.specs.Tests.{is_running, is_offered, same_host, last_u64}
 use Rattle.nqs_rules.specs.Format.{formatted}

@@ -1,9 +1,9 @@
 -- Devices, the forms that they have, and their edits.
 use Rattle.std.specs.Prelude.{ℕ, Bool, true, false, not, ◌&&◌, nat_le, List, [], ◌∷◌, ◌++◌, map, length, position, Option, None, Some}
 use Rattle.std.specs.List.{list_any}
-use Rattle.nqs_values.specs.Same.{name_eq}
+use Rattle.nqs_base.specs.Same.{name_eq}
 use Rattle.nqs_state.specs.State.{State}
-use Rattle.nqs_keyed.specs.Table.{without_first}
+use Rattle.nqs_base_tables.specs.Table.{without_first}
 use Rattle.nqs_state.specs.Keys.{is_device}
 use Rattle.nqs_rules.specs.Tests.{passes, is_running, is_device_kind}
 use Rattle.nqs_rules.specs.Causes.{Cause, cause}

@@ -1,7 +1,7 @@
 -- Changes of one queue, complex, device, row or peer, and what stands in all.
 use Rattle.std.specs.Prelude.{ℕ, zero, suc, List, [], ◌∷◌}
 use Rattle.nqs_state.specs.State.{State}
-use Rattle.nqs_keyed.specs.Table.{change_first, without_first}
+use Rattle.nqs_base_tables.specs.Table.{change_first, without_first}
 use Rattle.nqs_state.specs.Keys.{is_queue, is_complex, is_device, is_row}
 use Rattle.nqs_types.specs.declared.ids.HostId.{HostId}
 use Rattle.nqs_types.specs.declared.ids.RequestId.{RequestId}

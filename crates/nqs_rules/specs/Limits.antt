@@ -1,7 +1,7 @@
 -- Resource limits, complexes, and the edits of both.
 use Rattle.std.specs.Prelude.{ℕ, Bool, true, false, not, nat_lt, nat_le, List, [], ◌∷◌, ◌++◌, length, Option, Some, Result}
 use Rattle.nqs_state.specs.State.{State}
-use Rattle.nqs_keyed.specs.Table.{without_first}
+use Rattle.nqs_base_tables.specs.Table.{without_first}
 use Rattle.nqs_state.specs.Keys.{is_complex}
 use Rattle.nqs_rules.specs.Tests.{passes, is_batch}
 use Rattle.nqs_rules.specs.Causes.{Cause, cause, first_refusal}

@@ -1,9 +1,9 @@
 -- The scheduler: which request of which queue starts next.
 use Rattle.std.specs.Prelude.{ℕ, Bool, true, not, ◌&&◌, ◌||◌, ◌==◌, nat_lt, nat_le, if◌then◌else◌, List, filter, length, Option, None, Some, is_some}
 use Rattle.std.specs.List.{list_all}
-use Rattle.nqs_values.specs.Same.{name_eq}
+use Rattle.nqs_base.specs.Same.{name_eq}
 use Rattle.nqs_state.specs.State.{State}
-use Rattle.nqs_keyed.specs.Table.{best_from}
+use Rattle.nqs_base_tables.specs.Table.{best_from}
 use Rattle.nqs_rules.specs.Tests.{passes, is_running, is_active, is_ready, is_batch, same_host}
 use Rattle.nqs_rules.specs.Find.{has_name, find_queue}
 use Rattle.nqs_rules.specs.Limits.{is_batch_queue}

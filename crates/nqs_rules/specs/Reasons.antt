@@ -2,7 +2,7 @@
 -- First comes what a command or a moment ends. Then come the limits from the narrowest to the widest: what ends under one leaves room under the wider ones too.
 -- Devices and destinations come at last.
 use Rattle.std.specs.Prelude.{ℕ, Bool, ◌&&◌, nat_lt, nat_le, if◌then◌else◌, List, [], ◌∷◌, ◌++◌, map, filter, length, Option, None, Some, unwrap_or}
-use Rattle.nqs_values.specs.Same.{name_eq}
+use Rattle.nqs_base.specs.Same.{name_eq}
 use Rattle.nqs_state.specs.State.{State}
 use Rattle.nqs_rules.specs.Tests.{is_queued, is_unheld, is_ready}
 use Rattle.nqs_rules.specs.Find.{find_queue}

@@ -1,6 +1,6 @@
 -- Requests: submissions, deletions and the edits of single requests.
 use Rattle.std.specs.Prelude.{ℕ, ◌+◌, Bool, true, not, ◌&&◌, ◌||◌, nat_le, if◌then◌else◌, List, [], ◌∷◌, ◌++◌, map, Option, None, Some}
-use Rattle.nqs_values.specs.Same.{name_eq}
+use Rattle.nqs_base.specs.Same.{name_eq}
 use Rattle.nqs_state.specs.State.{State}
 use Rattle.nqs_rules.specs.Tests.{passes, is_running, is_routing, is_unheld, is_pipe, last_u64, last_seq}
 use Rattle.nqs_rules.specs.Causes.{Cause, cause}

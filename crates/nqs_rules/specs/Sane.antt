@@ -1,7 +1,7 @@
 -- Values within their limits: what the readers of records, words and datagrams make sure of.
 use Rattle.std.specs.Prelude.{ℕ, Bool, true, not, ◌&&◌, ◌==◌, nat_le, nat_lt, List, [], ◌∷◌, length}
 use Rattle.std.specs.List.{list_all, list_any}
-use Rattle.nqs_values.specs.Path.{is_visible, is_path}
+use Rattle.nqs_base.specs.Path.{is_visible, is_path}
 use Rattle.nqs_rules.specs.Tests.{last_seq}
 use Rattle.nqs_rules.specs.Conf.{is_conf_within}
 use Rattle.nqs_rules.specs.Limits.{is_limits_within}

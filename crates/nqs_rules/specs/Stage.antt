@@ -2,7 +2,7 @@
 use Rattle.std.specs.Prelude.{ℕ, ◌+◌, Bool, nat_lt, nat_le, if◌then◌else◌, List, [], ◌∷◌, ◌++◌, map, Option, None, Some}
 use Rattle.std.specs.List.{list_any}
 use Rattle.nqs_state.specs.State.{State}
-use Rattle.nqs_keyed.specs.Table.{best_from, without_first}
+use Rattle.nqs_base_tables.specs.Table.{best_from, without_first}
 use Rattle.nqs_state.specs.Keys.{is_stage, is_file}
 use Rattle.nqs_rules.specs.Tests.{passes, same_host, last_u64}
 use Rattle.nqs_rules.specs.Find.{find_peer, has_stage, peer_number, host_at}

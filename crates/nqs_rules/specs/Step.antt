@@ -1,7 +1,7 @@
 -- What a host does at an event.
 use Rattle.std.specs.Prelude.{ℕ, ◌+◌, Bool, not, ◌&&◌, ◌==◌, if◌then◌else◌, List, [], ◌∷◌, ◌++◌, map, filter, Option, None, Some, Result, Ok, Err}
 use Rattle.std.specs.Fmt.{decimal}
-use Rattle.nqs_values.specs.Same.{name_eq}
+use Rattle.nqs_base.specs.Same.{name_eq}
 use Rattle.nqs_state.specs.State.{State}
 use Rattle.nqs_rules.specs.Tests.{is_running}
 use Rattle.nqs_rules.specs.Causes.{Cause, cause, first_refusal}

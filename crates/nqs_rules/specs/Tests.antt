@@ -1,7 +1,7 @@
 -- Tests on small values.
 pub use Rattle.nqs_types.specs.RowStates.{is_queued, is_routing, is_running, is_active, is_unheld, is_ready}
 use Rattle.std.specs.Prelude.{ℕ, Bool, true, false, ◌&&◌, ◌==◌, Option, Some, None}
-use Rattle.nqs_values.specs.Same.{name_eq}
+use Rattle.nqs_base.specs.Same.{name_eq}
 use Rattle.nqs_types.specs.declared.ids.HostId.{HostId}
 use Rattle.nqs_types.specs.declared.ids.Dest.{Dest}
 use Rattle.nqs_types.specs.declared.request.Phase.{Phase}

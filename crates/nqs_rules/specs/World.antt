@@ -1,9 +1,10 @@
 -- A network of hosts as a pure machine of events. There is no byte of a disk in it: a stop is told by the count of device calls.
-use Rattle.std.specs.Prelude.{ℕ, zero, suc, ◌+◌, ◌-◌, ◌%◌, Bool, true, false, not, ◌&&◌, ◌||◌, ◌==◌, nat_le, nat_lt, max, if◌then◌else◌, List, [], ◌∷◌, ◌++◌, map}
+use Rattle.std.specs.Prelude.{ℕ, zero, suc, ◌+◌, ◌-◌, ◌%◌, Bool, true, false, not, ◌&&◌, ◌||◌, ◌==◌, nat_le, nat_lt, max, if◌then◌else◌, List, [], ◌∷◌, ◌++◌}
+use Rattle.std.specs.Prelude.{map}
 use Rattle.std.specs.Prelude.{filter, length, slice_get, Option, None, Some, is_ok}
 use Rattle.std.specs.List.{filter_map}
 use Rattle.nqs_state.specs.State.{Plain}
-use Rattle.nqs_keyed.specs.Table.{best_from}
+use Rattle.nqs_base_tables.specs.Table.{best_from}
 use Rattle.nqs_rules.specs.Tests.{is_running, same_host}
 use Rattle.nqs_rules.specs.Edits.{change_at}
 use Rattle.nqs_rules.specs.Access.{rank, may_command}
@@ -18,8 +19,8 @@ use Rattle.nqs_rules.specs.Notes.{Why, ByEvent, ByStart, ByBoot, Note, Saw, Kept
 use Rattle.nqs_types.specs.declared.ids.HostId.{HostId}
 use Rattle.nqs_types.specs.declared.ids.RequestId.{RequestId}
 use Rattle.nqs_types.specs.declared.request.Row.{Row}
-use Rattle.nqs_values.specs.declared.tear.Tear.{Tear}
-use Rattle.nqs_values.specs.declared.tear.Tear.TheVariants.{Old, New, Mixed}
+use Rattle.nqs_base.specs.declared.tear.Tear.{Tear}
+use Rattle.nqs_base.specs.declared.tear.Tear.TheVariants.{Old, New, Mixed}
 use Rattle.nqs_types.specs.declared.world.Which.{Which}
 use Rattle.nqs_types.specs.declared.world.Which.TheVariants.{Root, First, Second, Spool}
 use Rattle.nqs_types.specs.declared.world.Seen.{Seen}

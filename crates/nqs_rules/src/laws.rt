@@ -2,7 +2,7 @@
 //! bytes themselves does.
 ghost use Rattle.std.specs.Prelude.{◌≡◌, ℕ, List, map, Some};
 ghost use Rattle.nqs_state.specs.State.{State};
-ghost use Rattle.nqs_values.specs.declared.extent.Extent.{Extent};
+ghost use Rattle.nqs_base.specs.declared.extent.Extent.{Extent};
 ghost use Rattle.nqs_types.specs.declared.change.Change.{Change};
 ghost use Rattle.nqs_types.specs.declared.event.Event.{Event};
 ghost use Rattle.nqs_rules.specs.Applied.{applied};

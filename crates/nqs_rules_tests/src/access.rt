@@ -1,9 +1,9 @@
 //! The way into a queue, by hand.
 
 use nqs_access::may_use;
+use nqs_base::{ListOf, Memory, Name};
 use nqs_builders::queue;
 use nqs_types::{Access, Entry, QueueDef, Refusal};
-use nqs_values::{ListOf, Memory, Name};
 use std::alloc::Global;
 use std::test::Fail;
 

@@ -1,10 +1,10 @@
 //! The refusals of edits of queues in their order, by hand.
 
+use nqs_base::{ListOf, Memory, Name};
 use nqs_builders::{add, add_row, host, queue, row};
 use nqs_conf::check_conf;
 use nqs_state::HostState;
 use nqs_types::{ConfEdit, Dest, HostId, Kind, NamedDest, QueueDef, Refusal};
-use nqs_values::{ListOf, Memory, Name};
 use std::alloc::Global;
 use std::test::Fail;
 

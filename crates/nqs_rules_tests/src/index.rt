@@ -1,12 +1,12 @@
-//! The line of a queue in an index: requests in the order in which they start, whatever the order in
-//! which they came in, without one that is held, and without one that left; and that the requests of
-//! a host keep such an index, whatever is done to them.
+//! The line of a queue in an index: requests in the order in which they start, whatever the order
+//! in which they came in, without one that is held, and without one that left; and that the
+//! requests of a host keep such an index, whatever is done to them.
 
+use nqs_base::{Memory, Name};
 use nqs_builders::{add_row, row};
 use nqs_index::{Index, Line, Seat};
 use nqs_state::Rows;
 use nqs_types::{Hold, HostId, RequestId, Row};
-use nqs_values::{Memory, Name};
 use std::alloc::Global;
 use std::rt::HostRuntime;
 

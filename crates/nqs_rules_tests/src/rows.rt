@@ -1,11 +1,11 @@
 //! The refusals of submissions and deletions in their order, by hand.
 
+use nqs_base::{ListOf, Memory, Name};
+use nqs_base_tables::Table;
 use nqs_builders::{add, add_row, host, job, queue, row};
-use nqs_keyed::Table;
 use nqs_rows::{check_delete, check_submit};
 use nqs_state::{HostState, Rows};
 use nqs_types::{HostId, Named, QueueDef, Refusal, RequestId, Row, RowState, Submission};
-use nqs_values::{ListOf, Memory, Name};
 use std::alloc::Global;
 use std::test::Fail;
 

@@ -1,10 +1,10 @@
 //! The containers and the room of a host's state, each call once.
 
+use nqs_base::{Items, ListOf, Memory, Name, NameFault, Spare};
+use nqs_base_tables::Table;
 use nqs_builders::{NOTHING, add, host, job};
-use nqs_keyed::Table;
 use nqs_state::HostState;
 use nqs_types::{Change, DeviceDef};
-use nqs_values::{Items, ListOf, Memory, Name, NameFault, Spare};
 use std::alloc::Global;
 use std::test::Fail;
 

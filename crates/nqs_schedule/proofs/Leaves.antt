@@ -4,13 +4,13 @@ use Rattle.std.proofs.Common.{Err, Bool, true, false, cond, arith, nat_lt, take-
 use Rattle.std.specs.Prelude.{codes}
 use Rattle.std.specs.List.{position}
 use Rattle.std.proofs.lemmas.Bool.Decides.{nat_tests}
-use Rattle.nqs_values.proofs.Plain.{lt_is_true, lt_of_true}
-use Rattle.nqs_values.specs.Same.{name_eq, name_exact}
+use Rattle.nqs_base.proofs.Plain.{lt_is_true, lt_of_true}
+use Rattle.nqs_base.specs.Same.{name_eq, name_exact}
 use Rattle.nqs_types.specs.declared.ids.HostId.{HostId}
 use Rattle.nqs_types.specs.declared.ids.RequestId.{RequestId}
 use Rattle.nqs_types.specs.declared.ids.Named.{Named}
-use Rattle.nqs_values.specs.declared.tear.Tear.{Tear}
-use Rattle.nqs_values.specs.declared.tear.Tear.TheVariants as tear
+use Rattle.nqs_base.specs.declared.tear.Tear.{Tear}
+use Rattle.nqs_base.specs.declared.tear.Tear.TheVariants as tear
 use Rattle.nqs_types.specs.declared.world.Which.{Which}
 use Rattle.nqs_types.specs.declared.world.Which.TheVariants as which
 use Rattle.nqs_words.specs.Values.{name_of, named_of, number_of}

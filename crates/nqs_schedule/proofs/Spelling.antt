@@ -3,7 +3,7 @@ use Rattle.std.proofs.Common.{◌≡◌, ◌⊎◌, inl, inr, ℕ, zero, suc, �
 use Rattle.std.proofs.Common.{Err, Bool, true, false, cond, ◌||◌, is_some, arith, nat_lt}
 use Rattle.std.specs.Prelude.{slice_get}
 use Rattle.std.proofs.lemmas.Bool.Decides.{nat_tests}
-use Rattle.nqs_values.proofs.Plain.{le_of_false}
+use Rattle.nqs_base.proofs.Plain.{le_of_false}
 use Rattle.nqs_types.specs.declared.world.WorldEvent.{WorldEvent}
 use Rattle.nqs_words.specs.Values.{name_of, named_of, number_of}
 use Rattle.nqs_schedule.specs.declared.cause.Cause.{Cause}

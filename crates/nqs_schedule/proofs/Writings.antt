@@ -6,7 +6,7 @@ use Rattle.std.proofs.lemmas.Bool.{eqb-true}
 use Rattle.std.proofs.lemmas.Bool.Decides.{nat_tests}
 use Rattle.std.proofs.lemmas.List.{append-nil, length-append, length-drop, take_at, drop_at}
 use Rattle.std.proofs.Math.Seq.{drop-drop}
-use Rattle.nqs_values.proofs.Plain.{lt_is_true, lt_itself}
+use Rattle.nqs_base.proofs.Plain.{lt_is_true, lt_itself}
 use Rattle.nqs_words.specs.Quoted.{Quoted, quoted, quoted_text}
 use Rattle.nqs_words.specs.Words.{is_gap, end_of, next_word}
 use Rattle.nqs_words.specs.declared.words.Gaps.TheVariants.{Spaces}

@@ -1,8 +1,8 @@
 -- What the words of a line say, or their first fault, apart from how they are read.
 use Rattle.std.specs.Prelude.{◌≡◌, ◌≢◌, ◌⊎◌, ◌↔◌, ◌<◌, ◌≤◌, ℕ, Bool, true, false, List, [], ◌∷◌, ◌++◌, length, is_some, Ok, Err}
 use Rattle.std.specs.List.{position}
-use Rattle.nqs_values.specs.Same.{name_eq}
-use Rattle.nqs_values.specs.Name.{IsName}
+use Rattle.nqs_base.specs.Same.{name_eq}
+use Rattle.nqs_base.specs.Name.{IsName}
 use Rattle.nqs_schedule.specs.declared.cause.Cause.{Cause}
 use Rattle.nqs_schedule.specs.declared.cause.Cause.TheVariants as cause
 use Rattle.nqs_schedule.specs.declared.words.LineWords.{LineWords}

@@ -3,7 +3,7 @@ use Rattle.std.specs.Prelude.{◌≡◌, ℕ, Bool, true, false, ◌&&◌, ◌==
 use Rattle.std.specs.Prelude.{Err, slice_get}
 use Rattle.std.specs.List.{position}
 use Rattle.std.specs.declared.result.Result.{Result}
-use Rattle.nqs_values.specs.Same.{name_eq}
+use Rattle.nqs_base.specs.Same.{name_eq}
 use Rattle.nqs_words.specs.Values.{name_of}
 use Rattle.nqs_schedule.specs.declared.cause.Cause.TheVariants as cause
 use Rattle.nqs_schedule.specs.declared.words.LineWord.{LineWord}

@@ -1,13 +1,13 @@
 -- Which words spell which event, and the first fault of words that spell none, apart from how they are read.
 use Rattle.std.specs.Prelude.{◌≡◌, ◌≢◌, ◌⊎◌, ◌↔◌, ◌<◌, ◌≤◌, ℕ, ◌+◌, Bool, true, false, List, [], ◌∷◌, ◌++◌, length, codes, Some, Ok, Err}
 use Rattle.std.specs.List.{position}
-use Rattle.nqs_values.specs.Same.{name_eq}
-use Rattle.nqs_values.specs.Name.{IsName}
+use Rattle.nqs_base.specs.Same.{name_eq}
+use Rattle.nqs_base.specs.Name.{IsName}
 use Rattle.nqs_types.specs.declared.ids.HostId.{HostId}
 use Rattle.nqs_types.specs.declared.ids.RequestId.{RequestId}
 use Rattle.nqs_types.specs.declared.ids.Named.{Named}
-use Rattle.nqs_values.specs.declared.tear.Tear.{Tear}
-use Rattle.nqs_values.specs.declared.tear.Tear.TheVariants as tear
+use Rattle.nqs_base.specs.declared.tear.Tear.{Tear}
+use Rattle.nqs_base.specs.declared.tear.Tear.TheVariants as tear
 use Rattle.nqs_types.specs.declared.world.Which.{Which}
 use Rattle.nqs_types.specs.declared.world.Which.TheVariants as which
 use Rattle.nqs_types.specs.declared.world.WorldEvent.{WorldEvent}

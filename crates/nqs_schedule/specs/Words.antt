@@ -2,14 +2,14 @@
 use Rattle.std.specs.Prelude.{ℕ, Bool, ◌||◌, nat_lt, List, length, take, drop, codes, Option, Some, None, is_some, if◌then◌else◌, Ok, Err, slice_get}
 use Rattle.std.specs.List.{position}
 use Rattle.std.specs.declared.result.Result.{Result}
-use Rattle.nqs_values.specs.Same.{name_eq}
+use Rattle.nqs_base.specs.Same.{name_eq}
 use Rattle.nqs_types.specs.declared.ids.HostId.{HostId}
 use Rattle.nqs_types.specs.declared.ids.RequestId.{RequestId}
 use Rattle.nqs_types.specs.declared.ids.Named.{Named}
 use Rattle.nqs_types.specs.declared.world.Which.{Which}
 use Rattle.nqs_types.specs.declared.world.Which.TheVariants as which
-use Rattle.nqs_values.specs.declared.tear.Tear.{Tear}
-use Rattle.nqs_values.specs.declared.tear.Tear.TheVariants as tear
+use Rattle.nqs_base.specs.declared.tear.Tear.{Tear}
+use Rattle.nqs_base.specs.declared.tear.Tear.TheVariants as tear
 use Rattle.nqs_words.specs.Values.{name_of, named_of, number_of}
 use Rattle.nqs_words.specs.declared.values.NotNamed.{NotNamed}
 use Rattle.nqs_schedule.specs.declared.cause.Cause.{Cause}

@@ -8,9 +8,9 @@ ghost use Rattle.nqs_schedule.specs.Generated.{host_name, root_line, qsub, link_
 ghost use Rattle.nqs_schedule.specs.Generated.{drawn_from, generator_of, booted, generated, generated_site};
 
 use crate::reader::Schedule;
+use nqs_base::{Bytes, Items, Memory, Name, NameList};
 use nqs_query::{put_decimal, put_text};
 use nqs_types::{HostId, WorldEvent};
-use nqs_values::{Bytes, Items, Memory, Name, NameList};
 use nqs_words::name_of;
 use rand_core::SeedableRng;
 use rand_core::utils::NextWord;

@@ -5,8 +5,8 @@ ghost use Rattle.nqs_schedule.specs.Events.{bytes_at, words_behind, text_of_word
 
 use crate::plan::Plan;
 use crate::words::{LineWord, LineWords};
+use nqs_base::{Bytes, Items, Memory};
 use nqs_types::WorldEvent;
-use nqs_values::{Bytes, Items, Memory};
 use std::alloc::Global;
 
 fn copied(alloc: Global, bytes: &[u8]) -> Result<Bytes, Memory>

@@ -4,15 +4,15 @@ ghost use Rattle.std.specs.Prelude.{◌≡◌};
 ghost use Rattle.nqs_schedule.specs.declared.line.ReadError.TheVariants.{Memory};
 ghost use Rattle.nqs_schedule.specs.Says.{further_host, hosts_of, hosts_say, Answers, is_remark, is_hosts, event_says, verb_says, words_say, line_says};
 ghost use Rattle.nqs_words.specs.Values.{name_of};
-ghost use Rattle.nqs_values.specs.Want.{want};
+ghost use Rattle.nqs_base.specs.Want.{want};
 
 use crate::cause::Cause;
 use crate::event::event_of;
 use crate::plan::{Verb, plan_of, verb_of};
 use crate::values::{is_host, text_there};
 use crate::words::{LineWords, line_words};
+use nqs_base::{Memory, Name, NameList};
 use nqs_types::WorldEvent;
-use nqs_values::{Memory, Name, NameList};
 use nqs_words::name_of;
 use std::alloc::{AllocFailed, Global};
 

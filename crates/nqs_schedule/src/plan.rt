@@ -11,8 +11,8 @@ use crate::values::{
     text_there,
 };
 use crate::words::LineWords;
+use nqs_base::Name;
 use nqs_types::{HostId, RequestId, WorldEvent};
-use nqs_values::Name;
 
 /// The first word of a line.
 #[derive(Clone, Copy)]

@@ -5,12 +5,12 @@ ghost use Rattle.std.specs.Prelude.{◌≡◌, ◌≢◌, ◌<◌, ◌≤◌, le
 ghost use Rattle.nqs_schedule.specs.declared.reader.ScheduleFault.TheVariants.{Memory};
 ghost use Rattle.nqs_schedule.specs.Taking.{state_of, TakesLine};
 ghost use Rattle.nqs_schedule.specs.Schedule.{ReadsSchedule};
-ghost use Rattle.nqs_values.specs.Want.{want};
+ghost use Rattle.nqs_base.specs.Want.{want};
 
 use crate::cause::Cause;
 use crate::line::{ReadError, Says, line_says};
+use nqs_base::{Items, Memory, Name, NameList};
 use nqs_types::WorldEvent;
-use nqs_values::{Items, Memory, Name, NameList};
 use std::alloc::{AllocError, AllocFailed, Global};
 
 /// The first bad line.

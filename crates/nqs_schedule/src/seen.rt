@@ -7,9 +7,9 @@ ghost use Rattle.nqs_rules.specs.Text.{id_text, net_text, words};
 ghost use Rattle.nqs_rules.specs.Transcript.{host_text, kind_name, no_packet, start_words, table_line, seen_text};
 ghost use Rattle.nqs_schedule.specs.Seen.{row_line, seen_line};
 
+use nqs_base::{Memory, Name};
 use nqs_query::{print_reply, put_decimal, put_host, put_id, put_line_end, put_text, put_word};
 use nqs_types::{BodyKind, HostId, NetState, RequestId, Seen, TableRow};
-use nqs_values::{Memory, Name};
 use std::alloc::Global;
 
 fn put_host_word(site: &[Name], host: HostId, out: &mut Vec<u8>) -> Result<(), Memory>

@@ -5,9 +5,9 @@ ghost use Rattle.std.specs.Prelude.{◌≡◌, ◌++◌, OnOk};
 ghost use Rattle.nqs_schedule.specs.Summary.{is_submitted_reply, is_submitted, is_launch, is_ended, is_packet, is_stop, more, nothing_seen, counted};
 ghost use Rattle.nqs_schedule.specs.Summary.{summary_of, count_line, summary_text};
 
+use nqs_base::Memory;
 use nqs_query::{put_decimal, put_line_end, put_text};
 use nqs_types::{Reply, Seen};
-use nqs_values::Memory;
 use std::alloc::Global;
 
 /// How many things of each kind were seen. A count stays at 18,446,744,073,709,551,615.

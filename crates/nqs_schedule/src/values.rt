@@ -3,14 +3,14 @@
 
 ghost use Rattle.std.specs.Prelude.{◌≡◌, ◌<◌, ◌≤◌, Some, is_some, IfOk, IfSome, codes, length, take, drop};
 ghost use Rattle.std.specs.List.{position};
-ghost use Rattle.nqs_values.specs.Same.{name_eq};
+ghost use Rattle.nqs_base.specs.Same.{name_eq};
 ghost use Rattle.nqs_schedule.specs.Words.{no_word, text_there, name_at, number_at, host_of, host_at, request_at, disk_of, disk_at, mixed_of, as_mixed};
 ghost use Rattle.nqs_schedule.specs.Words.{tear_of, tear_at, output_at, nothing_at, all_good};
 
 use crate::cause::Cause;
 use crate::words::LineWords;
+use nqs_base::{Name, Tear};
 use nqs_types::{HostId, RequestId, Which};
-use nqs_values::{Name, Tear};
 use nqs_words::{name_of, named_of, number_of};
 
 // Why there is no further word.

@@ -6,7 +6,7 @@ ghost use Rattle.std.specs.Prelude.{◌≡◌, ◌+◌, ◌≤◌, length, IfOk}
 ghost use Rattle.nqs_words.specs.Words.{Fits};
 ghost use Rattle.nqs_schedule.specs.Lines.{is_over, begins_with_quote, quoted_word, word_there, next_of, line_words, NextFits};
 
-use nqs_values::{Bytes, Items, Memory};
+use nqs_base::{Bytes, Items, Memory};
 use nqs_words::{Gaps, QuoteFault, Word, next_word, read_quoted};
 use std::alloc::Global;
 

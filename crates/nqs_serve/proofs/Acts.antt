@@ -108,7 +108,8 @@ module _ (here : Here) where
   stops_then xs ys t u leads = stops_append here t xs ys ∙ ap (λ w. stops here t xs ++ stops here w ys) leads
 
 -- a receive when nothing waits
-pub ran_received : (here : Here) (s : Plain) (a : Arrival) (e : Option Event) (was now : Telling) → e ≡ event_in here a → Grew here (received a ∷ []) none_begun was now
+pub ran_received : (here : Here) (s : Plain) (a : Arrival) (e : Option Event) (was now : Telling) → e ≡ event_in here a
+    → Grew here (received a ∷ []) none_begun was now
     → Ran here (received a ∷ []) (idle s) (turn s (option_to_list e)) none_begun was now
 ran_received here s a e was now is grew = record { run = (refl, tt); leads = ap (λ (o : Option Event). turn s (option_to_list o)) (sym is); grew = grew }
 
@@ -167,11 +168,13 @@ pub took_back : (here : Here) (acts : List Act) (start : Turn) (u : Plain) (e : 
     → Ran here (acts ++ took m os ∷ []) start (turn (after_event m e u) (map event_back new)) none_begun a c
 took_back here acts start u e x queue rest new m os a b c split is grown same ran grew =
     let waits : map event_back queue ≡ e ∷ map event_back rest = ap (map event_back) split ∙ ap (λ v. v ∷ map event_back rest) (sym is) in
-    let first : Ran here acts start (turn u (e ∷ map event_back rest)) none_begun a b = subst (λ (w : List Event). Ran here acts start (turn u w) none_begun a b) waits ran in
+    let first : Ran here acts start (turn u (e ∷ map event_back rest)) none_begun a b =
+    subst (λ (w : List Event). Ran here acts start (turn u w) none_begun a b) waits ran in
     let waits_then : map event_back rest ++ come_back os ≡ map event_back new =
     sym (map-append event_back rest (brought_back os)) ∙ ap (map event_back) (sym grown) in
     subst (λ (w : List Event). Ran here (acts ++ took m os ∷ []) start (turn (after_event m e u) w) none_begun a c) waits_then
-    (ran_then here acts (took m os ∷ []) start (turn u (e ∷ map event_back rest)) _ none_begun a b c first (ran_took here u e (map event_back rest) m os b c same grew))
+    (ran_then here acts (took m os ∷ []) start (turn u (e ∷ map event_back rest)) _ none_begun a b c first
+    (ran_took here u e (map event_back rest) m os b c same grew))
 
 -- the next one was cut off
 pub cut_back : (here : Here) (acts : List Act) (start : Turn) (u : Plain) (e : Event) (x : Comeback) (queue rest : List Comeback) (m : ℕ)
@@ -181,8 +184,10 @@ pub cut_back : (here : Here) (acts : List Act) (start : Turn) (u : Plain) (e : E
     → Ran here (acts ++ []) start (turn u (e ∷ map event_back rest)) (begun m os) a c
 cut_back here acts start u e x queue rest m os a b c split is ran grew =
     let waits : map event_back queue ≡ e ∷ map event_back rest = ap (map event_back) split ∙ ap (λ v. v ∷ map event_back rest) (sym is) in
-    let first : Ran here acts start (turn u (e ∷ map event_back rest)) none_begun a b = subst (λ (w : List Event). Ran here acts start (turn u w) none_begun a b) waits ran in
-    ran_then here acts [] start (turn u (e ∷ map event_back rest)) _ (begun m os) a b c first (ran_cut here (turn u (e ∷ map event_back rest)) (begun m os) b c grew)
+    let first : Ran here acts start (turn u (e ∷ map event_back rest)) none_begun a b =
+    subst (λ (w : List Event). Ran here acts start (turn u w) none_begun a b) waits ran in
+    ran_then here acts [] start (turn u (e ∷ map event_back rest)) _ (begun m os) a b c first
+    (ran_cut here (turn u (e ∷ map event_back rest)) (begun m os) b c grew)
 
 -- a receive asks nothing else
 pub received_grew : (here : Here) (arrival : Arrival) (r0 r1 : Option (List Arrival)) (s0 s1 : Option (List Packet)) (a : Option (List Asked))
@@ -210,7 +215,8 @@ ran_turn here arrival m os acts s e old back v more t0 t1 t2 t3 some empty grown
     let third : Ran here acts (turn (after_event m e s) (come_back os)) v more t2 t3 =
     subst (λ (q : List Comeback). Ran here acts (turn (after_event m e s) (map event_back q)) v more t2 t3) back_is rest in
     ran_then here (received arrival ∷ took m os ∷ []) acts (idle s) _ v more t0 t2 t3
-    (ran_then here (received arrival ∷ []) (took m os ∷ []) (idle s) (turn s (e ∷ [])) _ none_begun t0 t1 t2 (ran_received here s arrival (Some e) t0 t1 some came)
+    (ran_then here (received arrival ∷ []) (took m os ∷ []) (idle s) (turn s (e ∷ [])) _ none_begun t0 t1 t2
+    (ran_received here s arrival (Some e) t0 t1 some came)
     (ran_took here s e [] m os t1 t2 same took_it))
     third
 

@@ -1,7 +1,7 @@
 -- Which receives stopped, and how a run ends after another.
 use Rattle.std.proofs.Common.{◌≡◌, ℕ, ◌<◌, List, [], ◌∷◌, ◌++◌, refl, ap, sym, ◌∙◌, Bool, false, true, length, length-append, append_assoc, arith, Err, IsErrOf}
-use Rattle.nqs_values.specs.Want.{want}
-use Rattle.nqs_values.specs.declared.memory.Memory.{Memory}
+use Rattle.nqs_base.specs.Want.{want}
+use Rattle.nqs_base.specs.declared.memory.Memory.{Memory}
 use Rattle.nqs_outside.specs.declared.disk.Disk as disk
 use Rattle.nqs_state.specs.State.{Plain}
 use Rattle.nqs_node.specs.declared.node.Node.{Node}

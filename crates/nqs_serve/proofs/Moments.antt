@@ -265,14 +265,16 @@ through_cut_back here a b c old mid now start acts u e x queue rest m split is l
     (waits_are e x queue rest split is)) two)
 
 -- the event that a receive brought was cut off
-pub through_cut_turn : (here : Here) (a b : Active) (old now : Which → History) (arrival : Arrival) (m : ℕ) (s : Plain) (e : Event) → Some e ≡ event_in here arrival
+pub through_cut_turn : (here : Here) (a b : Active) (old now : Which → History) (arrival : Arrival) (m : ℕ) (s : Plain) (e : Event)
+    → Some e ≡ event_in here arrival
     → TellsTo a b old now (IsWithin m e s) → TellsTo a b old now (IsPassed here (idle s) (received arrival ∷ []) (m ∷ []))
 through_cut_turn here a b old now arrival m s e some =
     through_as a b old now (IsWithin m e s) (IsPassed here (idle s) (received arrival ∷ []) (m ∷ []))
     (λ u within. (received arrival ∷ [], [], refl, inr (e, [], m, [], ap option_to_list (sym some), refl, within)))
 
 -- a receive, its event, and those that came back of it
-pub through_turn : (here : Here) (a b c : Active) (old mid now : Which → History) (arrival : Arrival) (m : ℕ) (os : List Outcome) (acts : List Act) (s : Plain) (e : Event)
+pub through_turn : (here : Here) (a b c : Active) (old mid now : Which → History) (arrival : Arrival) (m : ℕ) (os : List Outcome) (acts : List Act) (s : Plain)
+    (e : Event)
     (was back : List Comeback) (more : List ℕ)
     → Some e ≡ event_in here arrival → was ≡ [] → back ≡ was ++ brought_back os
     → TellsTo a b old mid (IsWithin m e s) → TellsTo b c mid now (IsPassed here (turn (after_event m e s) (map event_back back)) acts more)

@@ -7,7 +7,7 @@ use Rattle.std.specs.List.{list_any, list_all, flat_map}
 use Rattle.std.specs.Option.{IfSome}
 use Rattle.nqs_state.specs.State.{Plain}
 use Rattle.nqs_state.specs.Keys.{is_row, is_stage, is_file}
-use Rattle.nqs_keyed.specs.Table.{best_from, better, without_first}
+use Rattle.nqs_base_tables.specs.Table.{best_from, better, without_first}
 use Rattle.nqs_types.specs.declared.ids.HostId.{HostId}
 use Rattle.nqs_types.specs.declared.ids.RequestId.{RequestId}
 use Rattle.nqs_types.specs.declared.ids.Dest.{Dest}

@@ -1,7 +1,7 @@
 -- The events that a daemon takes are sane, and right.
 use Rattle.std.proofs.Common.{◌≡◌, ℕ, List, length, refl, sym, ◌∙◌, Bool, true, false, ◌&&◌, ◌||◌, ◌==◌, IsTrue, IfSome}
 use Rattle.std.proofs.lemmas.Bool.{and_parts, and_from}
-use Rattle.nqs_values.proofs.Plain.{or_last}
+use Rattle.nqs_base.proofs.Plain.{or_last}
 use Rattle.nqs_types.specs.declared.message.Tool.{Tool}
 use Rattle.nqs_types.specs.declared.message.Tool.TheVariants.{Qsub, Qstat, Qdel, Qmgr, Tick}
 use Rattle.nqs_types.specs.declared.message.Message.{Message}
@@ -13,7 +13,7 @@ use Rattle.nqs_rules.specs.Tests.{same_host}
 use Rattle.nqs_rules.specs.Sane.{is_of_site, is_sane_body, is_sane_message, is_sane_command, is_sane_event}
 use Rattle.nqs_records.proofs.SaneLaws.{path_sane, carried_sane}
 use Rattle.nqs_packets.specs.Values.{IsBody, MaySend}
-use Rattle.nqs_lines.specs.Laws.{SubmissionsAreSane, EditsAreSane, ListsAreSane, DeletionsAreSane}
+use Rattle.nqs_language_acts.specs.Laws.{SubmissionsAreSane, EditsAreSane, ListsAreSane, DeletionsAreSane}
 use Rattle.nqs_back.specs.Back.{comes_back}
 use Rattle.nqs_serve.specs.Events.{Here, line_in, command_of, are_of_site, is_for, event_by, event_of, at_moment}
 use Rattle.nqs_serve.specs.Runs.{event_back}

@@ -1,5 +1,6 @@
 -- How a datagram is sorted: in one way, and as an event where the daemon takes one.
-use Rattle.std.proofs.Common.{◌≡◌, ◌↔◌, ℕ, ◌<◌, ◌≤◌, ◌&&◌, nat_le, Bool, true, false, IsTrue, IfSome, List, length, Option, None, Some, Ok, Err, refl, sym, ap, subst, ◌∙◌, arith}
+use Rattle.std.proofs.Common.{◌≡◌, ◌↔◌, ℕ, ◌<◌, ◌≤◌, ◌&&◌, nat_le, Bool, true, false, IsTrue, IfSome, List, length, Option, None, Some, Ok, Err, refl, sym, ap}
+use Rattle.std.proofs.Common.{subst, ◌∙◌, arith}
 use Rattle.std.specs.Prelude.{if◌then◌else◌}
 use Rattle.std.specs.Option.{option_map}
 use Rattle.std.specs.declared.result.Result.{Result}
@@ -48,7 +49,8 @@ said_at_zero here (Err fault) = refl
 pub at_zero : (here : Here) (bytes : List ℕ) → option_map (at_moment 0) (event_in here (came bytes)) ≡ event_in here (came bytes)
 at_zero here bytes = by (is_whole bytes)
   where
-    by : (b : Bool) → option_map (at_moment 0) (if b then event_said here (message_of bytes) else None) ≡ (if b then event_said here (message_of bytes) else None)
+    by : (b : Bool) → option_map (at_moment 0) (if b then event_said here (message_of bytes) else None)
+        ≡ (if b then event_said here (message_of bytes) else None)
     by true = said_at_zero here (message_of bytes)
     by false = refl
 
@@ -162,14 +164,16 @@ event_is now (Some x) e is = let same : at_moment now x ≡ e = cc in ap Event s
 
 sorted_is : (here : Here) (now : ℕ) (bytes : List ℕ) (s : Sorted) → IsSorted here now bytes s → sorted here now bytes ≡ s
 sorted_is here now bytes (Ignored TooLong) long =
-    ap (λ (b : Bool). if b then read_sorted here now (message_of bytes) else Ignored TooLong) (let e : is_whole bytes ≡ false = grind (arith, nat_tests, long) in e)
+    ap (λ (b : Bool). if b then read_sorted here now (message_of bytes) else Ignored TooLong)
+    (let e : is_whole bytes ≡ false = grind (arith, nat_tests, long) in e)
 sorted_is here now bytes (Ignored (Unread fault)) is = is_read here now bytes is.0 (Err fault) is.1
 sorted_is here now bytes (Ignored NotHere) (short, (m, read, away)) = is_read here now bytes short (Ok m) read
     ∙ ap (λ (b : Bool). if b then (if is_known here m then event_sorted now (event_of m) else Ignored Stranger) else Ignored NotHere) away
 sorted_is here now bytes (Ignored Stranger) (short, (m, read, (a, unknown))) = is_known_sorted here now bytes short m read a false unknown
 sorted_is here now bytes (Ignored NotAsked) (short, (m, read, (a, known, said))) = is_known_sorted here now bytes short m read a true known
     ∙ ap (event_sorted now) (said_none m m.body said)
-sorted_is here now bytes (Event e) (short, (m, read, (a, known, is))) = is_known_sorted here now bytes short m read a true known ∙ event_is now (event_of m) e is
+sorted_is here now bytes (Event e) (short, (m, read, (a, known, is))) = is_known_sorted here now bytes short m read a true known
+    ∙ event_is now (event_of m) e is
 
 pub sorted_one_way : SortedOneWay
 sorted_one_way here now bytes s = ((λ is. sym (sorted_is here now bytes s is)), (λ (e : s ≡ sorted here now bytes). rw e (is_sorted here now bytes)))

@@ -20,7 +20,7 @@ use Rattle.nqs_rules.specs.World.{shuts_down}
 use Rattle.nqs_outside.specs.Asked.{Arrival, came, quiet}
 use Rattle.nqs_qmgr.specs.Lines.{qmgr_line}
 use Rattle.nqs_query.specs.Words.{stat_of, delete_of}
-use Rattle.nqs_lines.specs.Acts.{of_line, of_words, listed as asks_list, qsub_command}
+use Rattle.nqs_language_acts.specs.Acts.{of_line, of_words, listed as asks_list, qsub_command}
 use Rattle.nqs_packets.specs.Reading.{message_of}
 use Rattle.nqs_packets.specs.declared.fault.PacketFault.{PacketFault}
 

@@ -1,6 +1,6 @@
 -- A node whose disks tell a state.
 use Rattle.std.specs.Prelude.{◌≡◌, ℕ, List, IsTrue}
-use Rattle.nqs_values.specs.declared.extent.Extent.{Extent}
+use Rattle.nqs_base.specs.declared.extent.Extent.{Extent}
 use Rattle.nqs_state.specs.State.{Plain}
 use Rattle.nqs_rules.specs.Plain.{map_state}
 use Rattle.nqs_outside.specs.declared.disk.Disk as disk

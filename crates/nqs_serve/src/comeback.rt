@@ -3,8 +3,8 @@
 ghost use Rattle.std.specs.Prelude.{◌≡◌, if◌then◌else◌};
 ghost use Rattle.nqs_serve.specs.Runs.{comeback_of, event_back};
 
+use nqs_base::Bytes;
 use nqs_types::{Event, Output, RequestId};
-use nqs_values::Bytes;
 use std::alloc::Global;
 
 /// What comes back of what went out: the start of a request, or the number of a file.

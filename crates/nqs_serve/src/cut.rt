@@ -1,6 +1,6 @@
 //! Why an event was cut off.
 
-use nqs_values::Memory;
+use nqs_base::Memory;
 
 /// Why an event was cut off.
 #[derive(Debug, PartialEq, Eq, Drop)]

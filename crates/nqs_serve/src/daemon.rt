@@ -18,10 +18,10 @@ use crate::cut::Cut;
 use crate::event::shuts_down;
 use crate::receive::{Missed, receive};
 use crate::take::{take_back, take_event};
+use nqs_base::Memory;
 use nqs_node::Node;
 use nqs_outside::{Clock, Disk, Launcher, Outlet, Printer, Wire};
 use nqs_types::{HostId, Output};
-use nqs_values::Memory;
 use std::alloc::Global;
 
 /// Why the daemon ended.

@@ -2,7 +2,7 @@
 
 ghost use Rattle.std.specs.Prelude.{◌≡◌, ℕ, List, IfOk, IfSome, IsTrue, length};
 ghost use Rattle.nqs_state.specs.State.{content};
-ghost use Rattle.nqs_values.specs.declared.extent.Extent.{Extent};
+ghost use Rattle.nqs_base.specs.declared.extent.Extent.{Extent};
 ghost use Rattle.nqs_rules.specs.Plain.{map_state};
 ghost use Rattle.nqs_rules.specs.Sane.{is_sane_event};
 ghost use Rattle.nqs_rules.specs.World.{is_shutdown, shuts_down};
@@ -12,10 +12,10 @@ ghost use Rattle.nqs_serve.specs.Sends.{is_right_event};
 
 use crate::sort::{Sorted, sort_datagram};
 use nqs_access::{may_command, rank};
-use nqs_lines::{qdel_command, qmgr_command, qstat_command, qsub_command};
+use nqs_base::{Bytes, Memory, Name};
+use nqs_language_acts::{qdel_command, qmgr_command, qstat_command, qsub_command};
 use nqs_state::HostState;
 use nqs_types::{Body, Command, Event, HostId, Message, RequestId, Tool};
-use nqs_values::{Bytes, Memory, Name};
 use std::alloc::Global;
 
 // The line of qmgr, which is its one word.

@@ -14,11 +14,11 @@ ghost use Rattle.nqs_rules.specs.Transcript.{reply_text};
 
 use crate::said::may_be_sent;
 use crate::text::cut_text;
+use nqs_base::{Bytes, Memory, Name};
 use nqs_outside::Address;
 use nqs_packets::write_message;
 use nqs_query::print_reply;
 use nqs_types::{Body, HostId, Message, Output, Reply, RequestId};
-use nqs_values::{Bytes, Memory, Name};
 use std::alloc::Global;
 
 /// A datagram, and where it goes.

@@ -1,7 +1,7 @@
 //! A receive, and the event that it brought.
 
 ghost use Rattle.std.specs.Prelude.{◌≡◌, ◌≤◌, ◌∷◌, [], IfOk, IsErrOf, IfSome, IsTrue, length};
-ghost use Rattle.nqs_values.specs.Want.{want};
+ghost use Rattle.nqs_base.specs.Want.{want};
 ghost use Rattle.nqs_outside.specs.Causes.{Rose};
 ghost use Rattle.nqs_outside.specs.Told.{Extends};
 ghost use Rattle.nqs_outside.specs.Asked.{Arrival};
@@ -10,9 +10,9 @@ ghost use Rattle.nqs_serve.specs.Events.{Here, event_in};
 ghost use Rattle.nqs_serve.specs.Sends.{is_right_event};
 
 use crate::event::event_in;
+use nqs_base::{Memory, Name};
 use nqs_outside::{Received, Wire};
 use nqs_types::{Event, HostId};
-use nqs_values::{Memory, Name};
 use std::alloc::Global;
 
 /// Why a receive brought nothing.

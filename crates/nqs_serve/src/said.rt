@@ -4,16 +4,16 @@
 //! them: a caller cites one by calling it.
 
 ghost use Rattle.std.specs.Prelude.{◌≡◌, IsTrue, nat_le};
-ghost use Rattle.nqs_values.specs.Name.{IsName};
+ghost use Rattle.nqs_base.specs.Name.{IsName};
 ghost use Rattle.nqs_records.specs.Values.{IsU8, IsU64, IsOpt};
 ghost use Rattle.nqs_node.specs.Reading.{carries_short};
 ghost use Rattle.nqs_packets.specs.Messages.{IsTypedJob, IsSaid};
 ghost use Rattle.nqs_packets.specs.Values.{IsNumber, MaySend};
 ghost use Rattle.nqs_serve.specs.Sends.{has_number, is_right_message};
 
+use nqs_base::Name;
 use nqs_packets::what_is_sane_may_be_sent;
 use nqs_types::{Body, Job, Message};
-use nqs_values::Name;
 
 fn number_is_typed(number: u64)
     requires { IsTrue (nat_le 1 number) }

@@ -11,10 +11,10 @@ ghost use Rattle.nqs_serve.specs.Sends.{is_right_event};
 ghost use Rattle.nqs_serve.specs.Sorted.{is_here, is_known, event_sorted, message_sorted, HasFault, IsSorted, taken_of, IfEvent};
 
 use crate::event::{are_of_site, event_of, set_moment};
-use nqs_lines::laws::{edits_are_sane, lists_and_deletions_are_sane, submissions_are_sane};
+use nqs_base::{Memory, Name};
+use nqs_language_acts::laws::{edits_are_sane, lists_and_deletions_are_sane, submissions_are_sane};
 use nqs_packets::{PacketFault, read_message};
 use nqs_types::{Event, HostId, Message};
-use nqs_values::{Memory, Name};
 use std::alloc::Global;
 
 /// Why a datagram is no event. The first of these that holds is the cause.

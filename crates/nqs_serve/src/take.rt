@@ -1,9 +1,10 @@
 //! A node takes an event and starts what may start, and then what goes out is carried out.
 
-ghost use Rattle.std.specs.Prelude.{◌≡◌, ◌≤◌, ◌<◌, ◌+◌, ◌∷◌, ◌++◌, [], false, ℕ, List, IsTrue, OnOk, OnErr, IfOk, IsErrOf, MatchResult, take, length, map, is_some};
+ghost use Rattle.std.specs.Prelude.{◌≡◌, ◌≤◌, ◌<◌, ◌+◌, ◌∷◌, ◌++◌, [], false, ℕ, List, IsTrue, OnOk, OnErr, IfOk, IsErrOf, MatchResult, take, length, map};
+ghost use Rattle.std.specs.Prelude.{is_some};
 ghost use Rattle.std.specs.Prelude.{vec_capacity};
 ghost use Rattle.std.specs.List.{flat_map};
-ghost use Rattle.nqs_values.specs.Want.{want};
+ghost use Rattle.nqs_base.specs.Want.{want};
 ghost use Rattle.nqs_state.specs.State.{Plain};
 ghost use Rattle.nqs_types.specs.declared.event.Event.{Event as Happening};
 ghost use Rattle.nqs_types.specs.declared.event.Output.{Output as Out};
@@ -36,10 +37,10 @@ use crate::comeback::{Comeback, event_back};
 use crate::cut::Cut;
 use crate::event::set_moment;
 use crate::letter::{Letter, add_letters};
+use nqs_base::{Memory, Name};
 use nqs_node::{Node, NodeFault};
 use nqs_outside::{Clock, Disk, Launcher, Outlet, Printer, Wire};
 use nqs_types::{Event, HostId, Output};
-use nqs_values::{Memory, Name};
 use std::alloc::Global;
 
 // Takes an event.
@@ -67,7 +68,8 @@ fn take<D: Disk>(
     ensures unsaid { OnErr result (out.new.items ≡ out.old.items) }
     ensures unmade { OnErr result (content_of node.new ≡ content_of node.old) }
     ensures active { (s : Plain) → Knows node.old s → OnOk result (active_of node.new ≡ after_kept (step event.now s).change (active_of node.old)) }
-    ensures moments { (s : Plain) → Knows node.old s → IsOneOrOther (active_of node.old) (history_of node.old) (history_of node.new) (step event.now s).change s }
+    ensures moments { (s : Plain) → Knows node.old s → IsOneOrOther (active_of node.old) (history_of node.old) (history_of node.new)
+        (step event.now s).change s }
     ensures no_more { IsTrue (comes_back event.now) → OnOk result (starts_left (content_of node.new) ≤ starts_left (content_of node.old)) }
     ensures none_back { IsTrue (comes_back event.now) → OnOk result (comebacks out.new.items ≡ comebacks out.old.items) }
     ensures later { (which : Which) → D.faults (disk_of which node.old) ≤ D.faults (disk_of which node.new) }
@@ -354,7 +356,8 @@ pub(crate) fn take_back<D: Disk, W: Wire, L: Launcher, P: Printer, O: Outlet, C:
         × Ran here acts (turn s (map event_back back.old.items)) (idle u) none_begun
         (telling (W.received wire.old) (W.sent wire.old) (L.asked launcher.old) (P.prints printer.old) (O.filings outlet.old) (C.given clock.old))
         (telling (W.received wire.new) (W.sent wire.new) (L.asked launcher.new) (P.prints printer.new) (O.filings outlet.new) (C.given clock.new))
-        × TellsTo (active_of node.old) (active_of node.new) (history_of node.old) (history_of node.new) (IsPassed here (turn s (map event_back back.old.items)) acts [])) }
+        × TellsTo (active_of node.old) (active_of node.new) (history_of node.old) (history_of node.new)
+        (IsPassed here (turn s (map event_back back.old.items)) acts [])) }
     ensures cut { (s : Plain) (here : Here) → Knows node.old s → here ≡ record { me = me; site = (content_of node.old).site }
         → OnErr result ((acts : List Act) × (t : Turn) × (more : Begun) × (arrivals acts ≡ [])
         × (IsErrOf result (Cut.Memory want) → (u : Plain) × Knows node.new u × IsCutAt t more u)
@@ -362,7 +365,8 @@ pub(crate) fn take_back<D: Disk, W: Wire, L: Launcher, P: Printer, O: Outlet, C:
         × Ran here acts (turn s (map event_back back.old.items)) t more
         (telling (W.received wire.old) (W.sent wire.old) (L.asked launcher.old) (P.prints printer.old) (O.filings outlet.old) (C.given clock.old))
         (telling (W.received wire.new) (W.sent wire.new) (L.asked launcher.new) (P.prints printer.new) (O.filings outlet.new) (C.given clock.new))
-        × TellsThroughout (active_of node.old) (history_of node.old) (history_of node.new) (IsPassed here (turn s (map event_back back.old.items)) acts more.moments)) }
+        × TellsThroughout (active_of node.old) (history_of node.old) (history_of node.new)
+        (IsPassed here (turn s (map event_back back.old.items)) acts more.moments)) }
     ensures later { (which : Which) → D.faults (disk_of which node.old) ≤ D.faults (disk_of which node.new) }
     ensures broken { IsErrOf result Cut.Disk → IsTrue (is_stopped node.new)
         × ((which : Which) × Rose (D.faults (disk_of which node.old)) (D.faults (disk_of which node.new))) }

@@ -3,7 +3,7 @@
 ghost use Rattle.std.specs.Prelude.{◌≡◌, ◌≤◌, OnOk, take, length};
 ghost use Rattle.nqs_serve.specs.Letters.{whole_lines, cut_text};
 
-use nqs_values::Memory;
+use nqs_base::Memory;
 
 /// The longest text of an answer that isn't cut.
 const LONGEST: usize = 48_000;

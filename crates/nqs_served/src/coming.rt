@@ -4,8 +4,8 @@
 //! nothing. Other events come back of what went out: `finish`, which is the end of a print, `fail`,
 //! `written` and `unwritten`.
 
+use nqs_base::{Bytes, Items, Name};
 use nqs_types::{HostId, RequestId, WorldEvent};
-use nqs_values::{Bytes, Items, Name};
 
 /// The words of an ask.
 #[derive(Clone, Copy)]

@@ -4,8 +4,8 @@
 use crate::coming::{Ask, Ended, Words};
 use crate::text::put;
 use crate::trouble::Trouble;
+use nqs_base::{Bytes, Memory, Name};
 use nqs_types::{HostId, RequestId};
-use nqs_values::{Bytes, Memory, Name};
 
 // What is wrong with bytes that a length can't tell.
 const TOO_LONG: &str = "bytes are too long for a datagram";

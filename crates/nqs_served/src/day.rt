@@ -7,10 +7,10 @@ use crate::text::put_text;
 use crate::told::tell;
 use crate::transcript::add_replayed;
 use crate::trouble::Trouble;
+use nqs_base::Memory;
 use nqs_schedule::read_schedule;
 use nqs_serve::ServeEnd;
 use nqs_types::{HostId, Which};
-use nqs_values::Memory;
 use std::alloc::Global;
 
 /// What comes to the daemon of the host `alpha`, and which calls fail.

@@ -12,15 +12,15 @@ ghost use Rattle.nqs_net.specs.Props.{IsSoundHost-prop};
 
 use crate::outside::Outside;
 use crate::trouble::Trouble;
+use nqs_base::{Items, Name};
 use nqs_disk::MemDisk;
 use nqs_node::Node;
+use nqs_rules_table::table_of;
 use nqs_schedule::print_seen;
 use nqs_serve::{ServeEnd, serve};
 use nqs_state::HostState;
 use nqs_store::{Disks, format};
-use nqs_table::table_of;
 use nqs_types::{HostId, Seen, Which};
-use nqs_values::{Items, Name};
 use std::alloc::Global;
 
 fn empty_disks(alloc: Global) -> Disks<MemDisk>

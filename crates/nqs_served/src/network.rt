@@ -9,9 +9,9 @@ use crate::text::put;
 use crate::told::tell;
 use crate::transcript::add_replayed;
 use crate::trouble::Trouble;
+use nqs_base::Bytes;
 use nqs_schedule::read_schedule;
 use nqs_types::{HostId, WorldEvent};
-use nqs_values::Bytes;
 use std::alloc::Global;
 
 // DONE comes twice, and the output is sent twice.

@@ -3,9 +3,9 @@
 use crate::coming::{Ask, Coming, Ended, coming_of};
 use crate::datagrams::{put_acknowledgement, put_ask, put_ended, put_front};
 use crate::trouble::Trouble;
+use nqs_base::{Bytes, Items, ListOf, Memory};
 use nqs_fakes::{Item, ListClock, MemLauncher, MemOutlet, MemPrinter, MemWire};
 use nqs_types::WorldEvent;
-use nqs_values::{Bytes, Items, ListOf, Memory};
 use std::alloc::Global;
 
 /// The numbers of the calls that fail, from 1 on.

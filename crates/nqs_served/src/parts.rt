@@ -1,7 +1,7 @@
 //! What is seen of a run, by kinds.
 
 use crate::text::{put, put_each};
-use nqs_values::{Bytes, Items, Memory};
+use nqs_base::{Bytes, Items, Memory};
 use std::alloc::Global;
 
 /// The lines of each kind, in order, as they stand in a transcript.

@@ -4,11 +4,11 @@ use crate::host::{alpha, beta};
 use crate::outside::{Failing, NONE, outside_of};
 use crate::text::{put, put_quoted, put_sent, put_text};
 use crate::trouble::Trouble;
+use nqs_base::{Bytes, Items, Memory};
 use nqs_clients::{NqsStatus, ShepherdEnd, client, shepherd};
 use nqs_fakes::{MemRunner, MemWire};
 use nqs_outside::{MemSink, MemSource, RunEnd};
 use nqs_types::{HostId, RequestId};
-use nqs_values::{Bytes, Items, Memory};
 use std::alloc::Global;
 
 // The acknowledgement of the first start of the request 7 of host 1, and that of a request 7 of

@@ -1,9 +1,9 @@
 //! How bytes, numbers, hosts and datagrams are printed.
 
+use nqs_base::Memory;
 use nqs_fakes::Sent;
 use nqs_outside::Address;
 use nqs_types::HostId;
-use nqs_values::Memory;
 use std::alloc::{AllocError, Global};
 
 /// Adds bytes.

@@ -4,10 +4,10 @@ use crate::datagrams::text_of;
 use crate::outside::Outside;
 use crate::parts::Parts;
 use crate::text::{name_of, put, put_each, put_numbers, put_quoted, put_text};
+use nqs_base::{Bytes, Memory};
 use nqs_fakes::{FileWritten, LauncherCall, Printed, Sent};
 use nqs_outside::Address;
 use nqs_types::{HostId, RequestId};
-use nqs_values::{Bytes, Memory};
 use std::alloc::Global;
 
 // The kinds of datagrams between hosts, from 1 on.

@@ -3,10 +3,10 @@
 use crate::parts::Parts;
 use crate::text::put;
 use crate::trouble::Trouble;
+use nqs_base::Memory;
+use nqs_network_runs::replay::replay;
+use nqs_network_runs::status::Status;
 use nqs_outside::{ListSource, MemSink};
-use nqs_runs::replay::replay;
-use nqs_runs::status::Status;
-use nqs_values::Memory;
 use std::alloc::Global;
 
 // Adds what stands behind the third space.

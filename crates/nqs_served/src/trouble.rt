@@ -1,8 +1,8 @@
 //! Why days can't be printed.
 
+use nqs_base::Memory;
 use nqs_schedule::ScheduleFault;
 use nqs_store::{LoadFault, StoreFault};
-use nqs_values::Memory;
 use std::alloc::{AllocError, AllocFailed};
 
 /// Why days can't be printed. No day here is to bring one.

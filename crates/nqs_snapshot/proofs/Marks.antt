@@ -8,7 +8,7 @@ use Rattle.nqs_types.specs.declared.ids.HostId.{HostId}
 use Rattle.nqs_types.specs.declared.request.Promise.{Promise}
 use Rattle.nqs_rules.specs.Tests.{same_host}
 use Rattle.nqs_rules.specs.InOrder.{are_distinct, same_number}
-use Rattle.nqs_keyed.proofs.TableLemmas.{drop-at}
+use Rattle.nqs_base_tables.proofs.TableLemmas.{drop-at}
 
 -- the mark of the value at the place goes behind those before
 pub one_more : {M V K : Type 0} (key : M → K) (of : V → K) (marks next : List M) (items : List V) (i : ℕ) (v : V) (m : M) → slice_get items i ≡ Some v

@@ -2,8 +2,8 @@
 use Rattle.std.proofs.Common.{◌≡◌, ℕ, zero, suc, ◌<◌, ◌^◌, IsTrue, List, Option, Some, None, refl, arith}
 use Rattle.std.specs.Prelude.{⊤, [], ◌∷◌}
 use Rattle.std.proofs.lemmas.Bool.Decides.{nat_tests}
-use Rattle.nqs_values.specs.Name.{IsName}
-use Rattle.nqs_values.specs.declared.extent.Extent.{Extent}
+use Rattle.nqs_base.specs.Name.{IsName}
+use Rattle.nqs_base.specs.declared.extent.Extent.{Extent}
 use Rattle.nqs_types.specs.declared.request.Hold.{Hold}
 use Rattle.nqs_types.specs.declared.request.Hold.TheVariants.{No, User, System}
 use Rattle.nqs_types.specs.declared.request.RowState.{RowState}
@@ -33,7 +33,8 @@ use Rattle.nqs_snapshot.specs.Spelling.{promise_field, peer_field, stage_field, 
 use Rattle.nqs_snapshot.specs.Values.{IsMany, IsAccess, IsLimits, IsDest, IsQueue, IsComplex, IsDevice, IsRefused, IsRow, IsHand}
 use Rattle.nqs_snapshot.specs.Values.{IsPromise, IsPeer, IsStage, IsFile}
 use Rattle.nqs_snapshot.specs.Readings.{many_at, kind_of, hold_of, row_state_of, phase_of, kind_at, hold_at, row_state_at, phase_at, access_of, access_at}
-use Rattle.nqs_snapshot.specs.Readings.{limits_at, dest_at, settings_of, settings_at, queue_of, queue_at, complex_at, device_at, refused_at, course_of, course_at}
+use Rattle.nqs_snapshot.specs.Readings.{limits_at, dest_at, settings_of, settings_at, queue_of, queue_at, complex_at, device_at, refused_at, course_of}
+use Rattle.nqs_snapshot.specs.Readings.{course_at}
 use Rattle.nqs_snapshot.specs.Readings.{row_of, row_at, hand_at, promise_at, peer_at, stage_at, file_at}
 
 pub many_law : {A : Type 0} {IsA : A → Type 0} {f : A → List ℕ} {r : Reading A} → IsRead IsA f r → IsRead (IsMany IsA) (many_field f) (many_at r)

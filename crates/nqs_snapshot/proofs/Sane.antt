@@ -2,8 +2,8 @@
 use Rattle.std.proofs.Common.{◌≡◌, Bool, true, IsTrue, List, [], ◌∷◌}
 use Rattle.std.proofs.lemmas.Bool.{and_parts, and_from}
 use Rattle.std.specs.List.{list_all, AllByRecursion}
-use Rattle.nqs_values.specs.declared.extent.Extent.{Extent}
-use Rattle.nqs_values.specs.Path.{is_path}
+use Rattle.nqs_base.specs.declared.extent.Extent.{Extent}
+use Rattle.nqs_base.specs.Path.{is_path}
 use Rattle.nqs_state.specs.State.{State}
 use Rattle.nqs_types.specs.declared.request.Row.{Row}
 use Rattle.nqs_types.specs.declared.request.Promise.{Promise}

@@ -1,8 +1,8 @@
 -- What the whole list is read as, and what an answer tells.
 use Rattle.std.proofs.Common.{◌≡◌, ◌≢◌, ℕ, Bool, true, false, cond, List, refl, sym, ap, ◌∙◌, subst, Ok, Err, IfOk, IfErr}
 use Rattle.std.specs.declared.result.Result.{Result}
-use Rattle.nqs_values.specs.Want.{want}
-use Rattle.nqs_values.specs.declared.extent.Extent.{Extent}
+use Rattle.nqs_base.specs.Want.{want}
+use Rattle.nqs_base.specs.declared.extent.Extent.{Extent}
 use Rattle.nqs_state.specs.State.{State, content}
 use Rattle.nqs_state.specs.declared.state.HostState.{HostState}
 use Rattle.nqs_records.specs.declared.fault.RecordFault.{RecordFault}

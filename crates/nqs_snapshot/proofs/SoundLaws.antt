@@ -2,7 +2,7 @@
 use Rattle.std.proofs.Common.{◌≡◌, Bool, true, ◌&&◌, List, [], ◌∷◌}
 use Rattle.std.proofs.lemmas.Bool.{and_parts, and_from}
 use Rattle.std.specs.List.{list_all}
-use Rattle.nqs_values.specs.declared.extent.Extent.{Extent}
+use Rattle.nqs_base.specs.declared.extent.Extent.{Extent}
 use Rattle.nqs_types.specs.Ids.{id_eq}
 use Rattle.nqs_state.specs.State.{State}
 use Rattle.nqs_rules.specs.Tests.{same_host}

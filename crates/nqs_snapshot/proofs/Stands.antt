@@ -2,7 +2,7 @@
 use Rattle.std.proofs.Common.{◌≡◌, ℕ, zero, suc, ◌<◌, true, not, ◌==◌, nat_le, List, [], ◌∷◌, length, slice_index, arith}
 use Rattle.std.proofs.lemmas.Bool.{and_parts, and_from, leb-true, not-true}
 use Rattle.std.specs.List.{list_all}
-use Rattle.nqs_values.specs.Path.{is_visible, PathAllowedBelow, has_parent, begins_with_slash, IsPath, is_path}
+use Rattle.nqs_base.specs.Path.{is_visible, PathAllowedBelow, has_parent, begins_with_slash, IsPath, is_path}
 use Rattle.nqs_rules.proofs.Chains.{each}
 
 seen_at : (bs : List ℕ) → list_all is_visible bs ≡ true → (i : ℕ) → i < length bs → is_visible (slice_index bs i) ≡ true

@@ -1,7 +1,7 @@
 -- Bytes are read as a state exactly where they are its spelling.
 use Rattle.std.proofs.Common.{◌≡◌, ℕ, ◌+◌, Bool, true, false, cond, nat_lt, List, [], ◌∷◌, ◌++◌, length, refl, sym, ap, ◌∙◌, subst, arith}
 use Rattle.std.proofs.Common.{append-nil, Ok, Err}
-use Rattle.nqs_values.specs.declared.extent.Extent.{Extent}
+use Rattle.nqs_base.specs.declared.extent.Extent.{Extent}
 use Rattle.nqs_state.specs.State.{State}
 use Rattle.nqs_codec.specs.Fields.{u8_field, u16_field, u32_field, u64_field, short_field}
 use Rattle.nqs_records.specs.declared.fault.RecordFault.{RecordFault}
@@ -9,7 +9,7 @@ use Rattle.nqs_records.specs.declared.fault.RecordFault.TheVariants.{Trailing}
 use Rattle.nqs_records.specs.Changes.{AreBytes}
 use Rattle.nqs_records.specs.Spelling.{fields, opt_field}
 use Rattle.nqs_records.specs.Values.{IsU16, IsU32, IsU64, IsOpt, IsHost}
-use Rattle.nqs_values.specs.Name.{IsName}
+use Rattle.nqs_base.specs.Name.{IsName}
 use Rattle.nqs_records.proofs.IsRead.{IsRead, bound}
 use Rattle.nqs_records.proofs.Numbers.{not_below, u16_read, u32_read, u64_read}
 use Rattle.nqs_records.proofs.Named.{name_read}

@@ -1,8 +1,8 @@
 -- States whose tables are still to be filled.
 use Rattle.std.specs.Prelude.{◌≡◌, Bool, ◌&&◌, [], map}
-use Rattle.nqs_values.specs.Same.{name_eq}
+use Rattle.nqs_base.specs.Same.{name_eq}
 use Rattle.nqs_types.specs.Ids.{id_eq, peer_number_eq, hand_key, promise_key, stage_key}
-use Rattle.nqs_values.specs.declared.extent.Extent.{Extent}
+use Rattle.nqs_base.specs.declared.extent.Extent.{Extent}
 use Rattle.nqs_state.specs.State.{State}
 use Rattle.nqs_rules.specs.InOrder.{are_distinct, same_number}
 use Rattle.nqs_snapshot.specs.declared.parts.SitePart.{SitePart}

@@ -1,7 +1,7 @@
 -- Which bytes have which first fault, apart from how they are read.
 use Rattle.std.specs.Prelude.{◌≡◌, ◌≢◌, ◌↔◌, ◌⊎◌, ℕ, ◌<◌, false, List, ◌++◌, length, Err}
-use Rattle.nqs_values.specs.declared.extent.Extent.{Extent}
-use Rattle.nqs_values.specs.Want.{want}
+use Rattle.nqs_base.specs.declared.extent.Extent.{Extent}
+use Rattle.nqs_base.specs.Want.{want}
 use Rattle.nqs_state.specs.State.{State}
 use Rattle.nqs_records.specs.Changes.{AreBytes}
 use Rattle.nqs_records.specs.declared.fault.RecordFault.TheVariants.{Short, Kind, BadField, Trailing, Memory}

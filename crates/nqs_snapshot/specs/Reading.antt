@@ -1,6 +1,6 @@
 -- What bytes are read as: the parts of a state one behind the other, then the state, where it is sound and nothing follows.
 use Rattle.std.specs.Prelude.{ℕ, nat_lt, List, length, if◌then◌else◌, Option, Ok, Err}
-use Rattle.nqs_values.specs.declared.extent.Extent.{Extent}
+use Rattle.nqs_base.specs.declared.extent.Extent.{Extent}
 use Rattle.nqs_state.specs.State.{State}
 use Rattle.nqs_records.specs.declared.fault.RecordFault.TheVariants.{BadField, Trailing}
 use Rattle.nqs_records.specs.Reading.{◌>>=◌, Read, Reading, mapped, both}

@@ -1,7 +1,7 @@
 -- What their types say of the values of a state: names are names, numbers fit, and lists can be counted.
 use Rattle.std.specs.Prelude.{IsTrue}
-use Rattle.nqs_values.specs.Name.{IsName}
-use Rattle.nqs_values.specs.declared.extent.Extent.{Extent}
+use Rattle.nqs_base.specs.Name.{IsName}
+use Rattle.nqs_base.specs.declared.extent.Extent.{Extent}
 use Rattle.nqs_types.specs.declared.ids.Dest.{Dest}
 use Rattle.nqs_types.specs.declared.request.Job.{Job}
 use Rattle.nqs_types.specs.declared.request.Refused.{Refused}

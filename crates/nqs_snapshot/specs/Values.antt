@@ -1,8 +1,8 @@
 -- The values that may stand in a snapshot: those that have a field.
 use Rattle.std.specs.Prelude.{IsTrue, List}
-use Rattle.nqs_values.specs.Name.{IsName}
-use Rattle.nqs_values.specs.Path.{IsPath}
-use Rattle.nqs_values.specs.declared.extent.Extent.{Extent}
+use Rattle.nqs_base.specs.Name.{IsName}
+use Rattle.nqs_base.specs.Path.{IsPath}
+use Rattle.nqs_base.specs.declared.extent.Extent.{Extent}
 use Rattle.nqs_types.specs.declared.ids.Dest.{Dest}
 use Rattle.nqs_types.specs.declared.request.Limits.{Limits}
 use Rattle.nqs_types.specs.declared.request.Refused.{Refused}

@@ -9,10 +9,10 @@ ghost use Rattle.nqs_snapshot.specs.Blank.{with_counters};
 
 use crate::parts::{CounterPart, DealingPart, Parts, RequestPart, SitePart};
 use crate::tables::fill;
-use nqs_keyed::Table;
+use nqs_base::{ListOf, Spare};
+use nqs_base_tables::Table;
 use nqs_state::{HostState, Rows};
 use nqs_types::HostId;
-use nqs_values::{ListOf, Spare};
 use std::alloc::{AllocError, Global};
 
 // A state whose tables are empty.

@@ -9,10 +9,10 @@ ghost use Rattle.nqs_rules.specs.InOrder.{are_distinct, same_number, arrivals_of
 ghost use Rattle.nqs_snapshot.specs.Sound.{are_numbers_distinct};
 
 use crate::tables::fill;
-use nqs_keyed::Table;
+use nqs_base::{Items, Keyed};
+use nqs_base_tables::Table;
 use nqs_state::HostState;
 use nqs_types::{Hand, PeerNumber, Phase, Promise, RequestId, Row};
-use nqs_values::{Items, Keyed};
 use std::alloc::{AllocError, Global};
 
 // A number under itself.

@@ -5,9 +5,9 @@ ghost use Rattle.std.specs.List.{AllByRecursion};
 ghost use Rattle.nqs_records.specs.Adds.{Adds};
 ghost use Rattle.nqs_snapshot.specs.Spelling.{many_field};
 
+use nqs_base::{Key, Keyed, Memory};
+use nqs_base_tables::Table;
 use nqs_codec::put_u64;
-use nqs_keyed::Table;
-use nqs_values::{Key, Keyed, Memory};
 
 /// A value that is put at the end of a list of bytes. After `Memory` a part of it may stand there.
 pub(crate) trait Put {

@@ -4,7 +4,7 @@
 
 ghost use Rattle.std.specs.Prelude.{◌≡◌, codes, [], ◌∷◌, length, Err};
 ghost use Rattle.nqs_records.specs.declared.fault.RecordFault.TheVariants.{Short};
-ghost use Rattle.nqs_values.specs.declared.extent.Extent.{Extent};
+ghost use Rattle.nqs_base.specs.declared.extent.Extent.{Extent};
 ghost use Rattle.nqs_state.specs.State.{State};
 ghost use Rattle.nqs_rules.specs.Find.{host_at};
 ghost use Rattle.nqs_rules.specs.Format.{formatted};

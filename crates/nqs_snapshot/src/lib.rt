@@ -7,11 +7,11 @@
 //!
 //! Fields are read in order, and the first fault is the answer: as in records, a value that is not
 //! all there is `Short`, one past its limits (`specs/Values.antt`) is `BadField` at its first byte,
-//! and what stands behind a whole state is `Trailing`. A state that reads and from which no host may
-//! go on, since it isn't in order or isn't consistent (`specs/Sound.antt`), is `BadField(0)`.
+//! and what stands behind a whole state is `Trailing`. A state that reads and from which no host
+//! may go on, since it isn't in order or isn't consistent (`specs/Sound.antt`), is `BadField(0)`.
 //!
-//! Keys are looked for in the tables that are filled, and so are arrivals, promises and offers: what
-//! a read costs grows with the length of the bytes, and not with its square.
+//! Keys are looked for in the tables that are filled, and so are arrivals, promises and offers:
+//! what a read costs grows with the length of the bytes, and not with its square.
 #![tactic(auto)]
 
 mod build;

@@ -4,8 +4,8 @@ ghost use Rattle.std.specs.Prelude.{◌≡◌};
 ghost use Rattle.nqs_records.specs.Reading.{Reading, Answers, repeated};
 ghost use Rattle.nqs_snapshot.specs.Readings.{many_at};
 
+use nqs_base::{Items, ListOf};
 use nqs_records::{RecordFault, read_u64};
-use nqs_values::{Items, ListOf};
 use std::alloc::Global;
 
 /// A value that is read at a place of bytes, with the place behind it.

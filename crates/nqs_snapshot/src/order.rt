@@ -2,17 +2,17 @@
 
 ghost use Rattle.std.specs.Prelude.{◌≡◌, Bool};
 ghost use Rattle.std.specs.List.{AllByRecursion, list_all};
-ghost use Rattle.nqs_values.specs.declared.extent.Extent.{Extent};
+ghost use Rattle.nqs_base.specs.declared.extent.Extent.{Extent};
 ghost use Rattle.nqs_state.specs.State.{State, content};
 ghost use Rattle.nqs_rules.specs.Conf.{is_wait};
 ghost use Rattle.nqs_rules.specs.Fits.{is_site_host};
 ghost use Rattle.nqs_rules.specs.InOrder.{is_default_there, is_site_right, are_lists_short, are_parameters_right, is_peer_right};
 
 use crate::field::Put;
-use nqs_keyed::Table;
+use nqs_base::{Key, Keyed};
+use nqs_base_tables::Table;
 use nqs_state::HostState;
 use nqs_types::{HostId, Peer};
-use nqs_values::{Key, Keyed};
 
 /// The greatest number of a request.
 pub(crate) const LAST_SEQ: u32 = 4_294_967_294;

@@ -4,10 +4,10 @@ ghost use Rattle.nqs_records.specs.Reading.{Answers};
 ghost use Rattle.nqs_snapshot.specs.Reading.{site_at, requests_at, dealings_at, counters_at, parts_at};
 
 use crate::lists::{read_list, read_many};
+use nqs_base::{Items, Name, NameList};
 use nqs_records::{RecordFault, read_host, read_opt_name, read_u16, read_u32, read_u64};
 use nqs_state::PeerList;
 use nqs_types::{ComplexDef, DeviceDef, FileOut, Hand, HostId, Promise, QueueDef, Row, Stage};
-use nqs_values::{Items, Name, NameList};
 use std::alloc::Global;
 
 /// Who the host is, and its queues, complexes and devices.

@@ -5,14 +5,14 @@ ghost use Rattle.std.specs.Prelude.{⊤, ◌≡◌, ◌∷◌, [], ◌≤◌, le
 ghost use Rattle.nqs_codec.specs.Fields.{short_field};
 ghost use Rattle.nqs_records.specs.Adds.{Adds};
 ghost use Rattle.nqs_rules.specs.Sane.{is_sane_job};
-ghost use Rattle.nqs_values.specs.Path.{is_path};
+ghost use Rattle.nqs_base.specs.Path.{is_path};
 ghost use Rattle.nqs_snapshot.specs.Spelling.{phase_number, hand_field, promise_field, peer_field, stage_field, file_field};
 
 use crate::field::Put;
+use nqs_base::{Bytes, Memory};
 use nqs_codec::{put_name, put_path, put_u8, put_u64};
 use nqs_records::{put_extent, put_id};
 use nqs_types::{FileOut, Hand, Peer, Phase, Promise, Stage};
-use nqs_values::{Bytes, Memory};
 
 fn phase_number(phase: Phase) -> u8
     ensures { result ≡ phase_number phase }

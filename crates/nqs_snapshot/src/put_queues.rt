@@ -7,10 +7,10 @@ ghost use Rattle.nqs_records.specs.Spelling.{fields, opt_field};
 ghost use Rattle.nqs_snapshot.specs.Spelling.{kind_number, access_field, limits_field, dest_field, settings_field, queue_field, complex_field, device_field};
 
 use crate::field::{Put, put_list};
+use nqs_base::{Memory, Name};
 use nqs_codec::{put_bool, put_name, put_u8, put_u16};
 use nqs_records::put_opt_u64;
 use nqs_types::{Access, ComplexDef, Dest, DeviceDef, Kind, Limits, QueueDef};
-use nqs_values::{Memory, Name};
 
 fn kind_number(kind: Kind) -> u8
     ensures { result ≡ kind_number kind }

@@ -6,16 +6,16 @@ ghost use Rattle.nqs_records.specs.Adds.{Adds};
 ghost use Rattle.nqs_records.specs.Spelling.{fields, opt_field, job_field};
 ghost use Rattle.nqs_records.specs.Values.{IsJob, IsOpt, IsU64};
 ghost use Rattle.nqs_rules.specs.Sane.{is_sane_job};
-ghost use Rattle.nqs_values.specs.Name.{IsName};
+ghost use Rattle.nqs_base.specs.Name.{IsName};
 ghost use Rattle.nqs_snapshot.specs.Spelling.{state_number, hold_number, refused_field, course_field, row_field};
 
 use crate::field::{Put, put_list};
 use crate::put_queues::put_dest;
 use crate::typed::job_stands;
+use nqs_base::{Memory, Name};
 use nqs_codec::{put_bool, put_name, put_u8, put_u16, put_u64};
 use nqs_records::{put_extent, put_id, put_job, put_opt_name};
 use nqs_types::{Hold, Job, Refused, Row, RowState};
-use nqs_values::{Memory, Name};
 
 fn state_number(state: RowState) -> u8
     ensures { result ≡ state_number state }

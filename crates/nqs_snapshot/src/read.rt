@@ -1,7 +1,7 @@
 //! A whole state, read.
 
 ghost use Rattle.std.specs.Prelude.{◌≢◌, IfOk, IfErr};
-ghost use Rattle.nqs_values.specs.Want.{want};
+ghost use Rattle.nqs_base.specs.Want.{want};
 ghost use Rattle.nqs_state.specs.State.{content};
 ghost use Rattle.nqs_records.specs.Reading.{Answers};
 ghost use Rattle.nqs_records.specs.declared.fault.RecordFault.TheVariants.{Memory};

@@ -6,11 +6,11 @@ ghost use Rattle.nqs_records.specs.Fields.{u16_at, name_at, opt_at};
 ghost use Rattle.nqs_snapshot.specs.Readings.{many_at, kind_of, kind_at, access_at, limits_at, dest_at, settings_at, queue_at, complex_at, device_at};
 
 use crate::lists::{Read, read_list};
+use nqs_base::Name;
 use nqs_records::{
     RecordFault, read_bool, read_host, read_name, read_opt_u64, read_u8_at_most, read_u16,
 };
 use nqs_types::{Access, ComplexDef, Dest, DeviceDef, Kind, Limits, QueueDef};
-use nqs_values::Name;
 use std::alloc::Global;
 
 // A queue, but for its lists.

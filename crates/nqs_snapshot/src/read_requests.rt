@@ -6,12 +6,12 @@ ghost use Rattle.nqs_snapshot.specs.Readings.{row_state_of, row_state_at, hold_o
 
 use crate::lists::{Read, read_list};
 use crate::read_queues::read_dest;
+use nqs_base::Name;
 use nqs_records::{
     RecordFault, read_bool, read_extent, read_id, read_job, read_name, read_opt_name, read_u8,
     read_u8_at_most, read_u16, read_u64,
 };
 use nqs_types::{Hold, Refused, Row, RowState};
-use nqs_values::Name;
 use std::alloc::Global;
 
 // Where a request stands.

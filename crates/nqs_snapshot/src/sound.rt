@@ -3,7 +3,7 @@
 ghost use Rattle.std.specs.Prelude.{◌≡◌, ◌&&◌, IsTrue, IfOk};
 ghost use Rattle.std.specs.List.{AllByRecursion};
 ghost use Rattle.nqs_state.specs.State.{content};
-ghost use Rattle.nqs_values.specs.Path.{is_path};
+ghost use Rattle.nqs_base.specs.Path.{is_path};
 ghost use Rattle.nqs_rules.specs.Sane.{is_sane_job};
 ghost use Rattle.nqs_snapshot.specs.Values.{MayStand};
 ghost use Rattle.nqs_snapshot.specs.Sound.{are_bounds_right, are_values_right, is_right, is_consistent};

@@ -3,8 +3,8 @@
 ghost use Rattle.std.specs.Prelude.{◌≡◌, true, map, [], IfOk};
 ghost use Rattle.nqs_rules.specs.InOrder.{are_distinct};
 
-use nqs_keyed::Table;
-use nqs_values::{Items, Key, Keyed};
+use nqs_base::{Items, Key, Keyed};
+use nqs_base_tables::Table;
 use std::alloc::AllocError;
 
 /// Fills an empty table with values, unless two of them have one key: whether it did.

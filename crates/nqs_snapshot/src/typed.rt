@@ -3,7 +3,7 @@
 
 ghost use Rattle.std.specs.List.{AllByRecursion};
 ghost use Rattle.nqs_state.specs.State.{content};
-ghost use Rattle.nqs_values.specs.Name.{IsName};
+ghost use Rattle.nqs_base.specs.Name.{IsName};
 ghost use Rattle.nqs_rules.specs.InOrder.{IsInOrder};
 ghost use Rattle.nqs_records.specs.Values.{IsU8, IsU16, IsU32, IsU64, IsOpt};
 ghost use Rattle.nqs_snapshot.specs.Values.{IsMany, IsAccess, IsLimits, IsComplex, IsDevice, IsPeer, MayStand, MayStandCounters};
@@ -11,13 +11,13 @@ ghost use Rattle.nqs_snapshot.specs.Typed.{IsTypedDest, AreTypedSettings, IsType
 ghost use Rattle.nqs_snapshot.specs.Typed.{IsTypedHand, IsTypedPromise, IsTypedStage, IsTypedFile, IsTypedSite, AreTypedRequests, AreTypedDealings};
 ghost use Rattle.nqs_snapshot.specs.Sound.{HasShortParts};
 
-use nqs_keyed::Table;
+use nqs_base::{Key, Keyed, Name};
+use nqs_base_tables::Table;
 use nqs_state::HostState;
 use nqs_types::{
     Access, ComplexDef, Dest, DeviceDef, FileOut, Hand, Job, Limits, Peer, Promise, QueueDef,
     Refused, Row, Stage,
 };
-use nqs_values::{Key, Keyed, Name};
 
 fn byte_stands(byte: u8)
     ensures { IsU8 byte }

@@ -6,7 +6,7 @@ ghost use Rattle.nqs_codec.specs.Puts.{Puts};
 ghost use Rattle.nqs_records.specs.Adds.{Adds};
 ghost use Rattle.nqs_rules.specs.InOrder.{IsInOrder, IsConsistent};
 ghost use Rattle.nqs_rules.specs.Sane.{is_sane_job};
-ghost use Rattle.nqs_values.specs.Path.{is_path};
+ghost use Rattle.nqs_base.specs.Path.{is_path};
 ghost use Rattle.nqs_state.specs.State.{content};
 ghost use Rattle.nqs_snapshot.specs.Spelling.{site_part, request_part, dealing_part, counter_part, state_field};
 ghost use Rattle.nqs_snapshot.specs.Values.{MayStand};
@@ -15,10 +15,10 @@ ghost use Rattle.nqs_snapshot.specs.Sound.{HasShortParts};
 
 use crate::field::{put_list, put_table};
 use crate::typed::state_stands;
+use nqs_base::Memory;
 use nqs_codec::{put_u8, put_u16, put_u32, put_u64};
 use nqs_records::put_opt_name;
 use nqs_state::HostState;
-use nqs_values::Memory;
 use std::alloc::Global;
 
 #[tactic(auto, using(crate::proofs::Joined::joined), unfolding(crate::specs::Spelling::site_part))]
@@ -89,8 +89,8 @@ fn spelling_reads_back(state: &HostState, spelling: &[u8])
         → snapshot_of (state_field (content state.now)) ≡ Ok (content state.now) }
 {}
 
-/// Adds the one spelling of a state in order. `Memory` leaves the list as it was. What is written of
-/// a consistent state with short scripts and outputs reads back as it.
+/// Adds the one spelling of a state in order. `Memory` leaves the list as it was. What is written
+/// of a consistent state with short scripts and outputs reads back as it.
 pub fn write_state(alloc: Global, state: &HostState, out: &mut Vec<u8>) -> Result<(), Memory>
     requires { IsInOrder (content state.now) }
     ensures written { Puts out.old.items (state_field (content state.now)) result out.new.items }

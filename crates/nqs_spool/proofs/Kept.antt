@@ -4,7 +4,7 @@ use Rattle.std.proofs.lemmas.Bool.{true≢false}
 use Rattle.std.proofs.lemmas.Bool.Decides.{nat_tests}
 use Rattle.std.specs.Prelude.{IsTrue}
 use Rattle.std.specs.Option.{unwrap_or}
-use Rattle.nqs_values.specs.declared.extent.Extent.{Extent}
+use Rattle.nqs_base.specs.declared.extent.Extent.{Extent}
 use Rattle.nqs_spool.specs.declared.slot.Slot.{Slot}
 use Rattle.nqs_spool.specs.Slots.{gap_of, end_of, IsRow, set_from, slot_at, ended, first_fit, lies_between, is_free, inserted, begun_at, removed}
 use Rattle.nqs_spool.specs.Slots.{begun_if_empty, left_by}

@@ -1,7 +1,7 @@
 -- Lists with an extent more or less.
 use Rattle.std.proofs.Common.{◌≡◌, ◌⊎◌, inl, inr, ℕ, ◌<◌, List, [], ◌∷◌, ◌++◌, refl, sym, ap, arith, subst}
 use Rattle.std.specs.List.{AllByRecursion}
-use Rattle.nqs_values.specs.declared.extent.Extent.{Extent}
+use Rattle.nqs_base.specs.declared.extent.Extent.{Extent}
 use Rattle.nqs_spool.specs.Extents.{extent_at, IsApart, IsClearOf, AreApart, IsLeastPlace, Has, IsWith, Covers}
 use Rattle.nqs_spool.proofs.Rows.{lt_cases}
 

@@ -1,6 +1,6 @@
 -- What a put leaves of a spool.
 use Rattle.std.proofs.Common.{◌≡◌, ◌==◌, Bool, false, ℕ, ◌<◌, ◌≤◌, IsTrue, List, [], ◌∷◌, length, refl, sym, ap, ◌∙◌, subst, arith}
-use Rattle.nqs_values.specs.declared.extent.Extent.{Extent}
+use Rattle.nqs_base.specs.declared.extent.Extent.{Extent}
 use Rattle.nqs_outside.specs.History.{Call, History, extended, content, moment, EachSince, BreaksOff}
 use Rattle.nqs_outside.specs.declared.disk.Disk as disk
 use Rattle.nqs_spool.specs.Puts.{written_through, put_calls}

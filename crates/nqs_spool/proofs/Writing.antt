@@ -3,7 +3,7 @@ use Rattle.std.proofs.Common.{◌≡◌, inl, inr, ℕ, zero, suc, ◌+◌, ◌<
 use Rattle.std.proofs.Common.{arith, append_assoc, length-append}
 use Rattle.std.proofs.lemmas.List.{length-take, take_at, drop_at}
 use Rattle.std.proofs.Math.Seq.{take-length}
-use Rattle.nqs_values.specs.declared.extent.Extent.{Extent}
+use Rattle.nqs_base.specs.declared.extent.Extent.{Extent}
 use Rattle.nqs_outside.specs.History.{State, Call, write, step, after, fresh, written, made, covers, IsImage, History, extended, state, content, moment}
 use Rattle.nqs_outside.specs.History.{state_at, IsQuiet, EachSince, BreaksOff}
 use Rattle.nqs_outside.proofs.Histories.{state-extended, length-written, content-after}

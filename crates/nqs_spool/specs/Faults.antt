@@ -1,6 +1,6 @@
 -- What the faults of extents say.
 use Rattle.std.specs.Prelude.{ℕ, List}
-use Rattle.nqs_values.specs.declared.extent.Extent.{Extent}
+use Rattle.nqs_base.specs.declared.extent.Extent.{Extent}
 use Rattle.nqs_spool.specs.Extents.{IsBadExtent}
 use Rattle.nqs_spool.specs.declared.fault.ExtentFault.{ExtentFault}
 use Rattle.nqs_spool.specs.declared.fault.ExtentFault.TheVariants.{Bad, Memory}

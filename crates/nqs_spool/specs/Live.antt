@@ -4,7 +4,7 @@ use Rattle.nqs_spool.specs.Extents.{extents_of}
 use Rattle.nqs_spool.specs.Slots.{first_fit}
 use Rattle.nqs_spool.specs.declared.slot.Slot.{Slot}
 use Rattle.nqs_spool.specs.declared.live.LiveExtents.{LiveExtents}
-use Rattle.nqs_values.specs.declared.extent.Extent.{Extent}
+use Rattle.nqs_base.specs.declared.extent.Extent.{Extent}
 
 -- the extents in order of place, none of which is empty
 abbrev pub kept : LiveExtents → List Extent

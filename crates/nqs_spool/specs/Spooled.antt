@@ -3,7 +3,7 @@ use Rattle.std.specs.Prelude.{ℕ, ◌≤◌, IsTrue, List, [], ◌∷◌, lengt
 use Rattle.std.specs.List.{AllByRecursion}
 use Rattle.nqs_outside.specs.History.{History, content, IsQuiet}
 use Rattle.nqs_outside.specs.declared.disk.Disk as disk
-use Rattle.nqs_values.specs.declared.extent.Extent.{Extent}
+use Rattle.nqs_base.specs.declared.extent.Extent.{Extent}
 use Rattle.nqs_spool.specs.Extents.{past, Covers}
 use Rattle.nqs_spool.specs.Live as live
 use Rattle.nqs_spool.specs.declared.spool.Spool.{Spool}

@@ -1,9 +1,9 @@
 //! Why a call of the spool failed, and why a disk can't have extents.
 ghost use Rattle.std.specs.Prelude.{◌≡◌};
-ghost use Rattle.nqs_values.specs.Want.{want};
+ghost use Rattle.nqs_base.specs.Want.{want};
 
+use nqs_base::Memory;
 use nqs_outside::Failed;
-use nqs_values::Memory;
 use std::alloc::AllocError;
 use thiserror::Error;
 

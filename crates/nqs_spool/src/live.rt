@@ -1,14 +1,14 @@
 //! The live extents of a disk, as a set in order of place. An empty extent isn't kept.
 ghost use Rattle.std.specs.Prelude.{◌≡◌, ◌⊎◌, ◌+◌, ◌<◌, ◌≤◌, ◌^◌, max, nat_le, ℕ, [], false, IsTrue, OnOk, OnErr, IfOk, IfErr, List, vec_len};
 ghost use Rattle.std.specs.List.{AllByRecursion};
-ghost use Rattle.nqs_values.specs.declared.extent.Extent.{Extent};
+ghost use Rattle.nqs_base.specs.declared.extent.Extent.{Extent};
 ghost use Rattle.nqs_spool.specs.Slots.{IsRow, IsRow-prop};
 ghost use Rattle.nqs_spool.specs.Extents.{past, IsClearOf, AreApart, IsLeastPlace, Has, IsWith, IsWithin, AreSound, Covers};
 ghost use Rattle.nqs_spool.specs.Faults.{IsFaultOf};
 
 use crate::ExtentFault;
 use crate::tree::{Room, Tree};
-use nqs_values::{Extent, Memory};
+use nqs_base::{Extent, Memory};
 use std::alloc::Global;
 
 /// The live extents of a disk, but those that are empty.

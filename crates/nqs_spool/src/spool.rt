@@ -2,8 +2,8 @@
 ghost use Rattle.std.specs.Prelude.{◌≡◌, ◌⊎◌, ◌↔◌, ◌-◌, ◌+◌, ◌<◌, ◌≤◌, ◌^◌, ◌++◌, [], ◌∷◌, max, nat_le, false, List, ℕ, IsTrue, IsErrOf, OnOk, OnErr, IfOk};
 ghost use Rattle.std.specs.Prelude.{IfErr, MatchResult, length, vec_capacity};
 ghost use Rattle.std.specs.List.{AllByRecursion};
-ghost use Rattle.nqs_values.specs.declared.extent.Extent.{Extent};
-ghost use Rattle.nqs_values.specs.Want.{want};
+ghost use Rattle.nqs_base.specs.declared.extent.Extent.{Extent};
+ghost use Rattle.nqs_base.specs.Want.{want};
 ghost use Rattle.nqs_outside.specs.Causes.{Rose};
 ghost use Rattle.nqs_outside.specs.History.{Call, content, IsQuiet, extended, moment, EachSince, StopsShort, IsExact, IsWhole};
 ghost use Rattle.nqs_spool.specs.Puts.{put_calls};
@@ -13,8 +13,8 @@ ghost use Rattle.nqs_spool.specs.Live.{kept, end_of};
 use crate::SpoolFault;
 use crate::live::LiveExtents;
 use crate::write::{append_read, write_through};
+use nqs_base::{Extent, Memory};
 use nqs_outside::{Disk, Failed, Fused};
-use nqs_values::{Extent, Memory};
 use std::alloc::Global;
 
 const LONGEST: usize = 32_768;

@@ -4,7 +4,7 @@ ghost use Rattle.std.specs.Prelude.{vec_capacity};
 ghost use Rattle.nqs_outside.specs.Causes.{Rose};
 ghost use Rattle.nqs_outside.specs.History.{Call, content, extended, moment, StopsShort, IsExact};
 ghost use Rattle.nqs_spool.specs.Puts.{written_through};
-ghost use Rattle.nqs_values.specs.Want.{want};
+ghost use Rattle.nqs_base.specs.Want.{want};
 
 use crate::SpoolFault;
 use nqs_outside::{Disk, Failed};

@@ -7,7 +7,7 @@ use Rattle.std.proofs.lemmas.Bool.{and_parts, not-true}
 use Rattle.nqs_state.specs.State.{State}
 use Rattle.nqs_types.specs.Ids.{peer_number_eq, stage_key, peer_number_exact}
 use Rattle.nqs_state.specs.Keys.{is_stage}
-use Rattle.nqs_keyed.specs.Table.{better, best_from, without_first, has_key}
+use Rattle.nqs_base_tables.specs.Table.{better, best_from, without_first, has_key}
 use Rattle.nqs_types.specs.declared.ids.PeerNumber.{PeerNumber}
 use Rattle.nqs_types.specs.declared.request.Stage.{Stage}
 use Rattle.nqs_rules.specs.InOrder.{are_distinct}

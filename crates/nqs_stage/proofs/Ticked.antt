@@ -3,7 +3,7 @@ use Rattle.std.proofs.Common.{◌≡◌, ◌∙◌, [], ◌∷◌, map}
 use Rattle.std.specs.Prelude.{fold}
 use Rattle.std.proofs.lemmas.List.Concat.{flat_map_single}
 use Rattle.nqs_state.specs.State.{State}
-use Rattle.nqs_values.specs.declared.extent.Extent.{Extent}
+use Rattle.nqs_base.specs.declared.extent.Extent.{Extent}
 use Rattle.nqs_types.specs.declared.event.Plan.{Plan}
 use Rattle.nqs_rules.specs.Stage.{file_again, stages_from, due_outputs}
 use Rattle.nqs_plans.specs.More.{with_more}

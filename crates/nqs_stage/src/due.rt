@@ -2,16 +2,16 @@
 ghost use Rattle.std.specs.Prelude.{◌≡◌, ◌≤◌, ◌&&◌, ◌∷◌, [], not, length, Some, IfOk};
 ghost use Rattle.nqs_state.specs.State.{content};
 ghost use Rattle.nqs_state.specs.Keys.{is_stage};
-ghost use Rattle.nqs_keyed.specs.Table.{without_first};
+ghost use Rattle.nqs_base_tables.specs.Table.{without_first};
 ghost use Rattle.nqs_rules.specs.Stage.{is_stage_to, is_earlier_stage, send_stage, due_of, file_again, stages_from, due_outputs};
 ghost use Rattle.nqs_rules.specs.Stepped.{plan_of, says};
 ghost use Rattle.nqs_plans.specs.More.{with_more};
 ghost use Rattle.nqs_stage.specs.Files.{HasDistinctStages};
 
+use nqs_base::{Keyed, ListOf, Memory};
 use nqs_plans::{add_kept, copy_bytes, fold_each, message, quiet};
 use nqs_state::HostState;
 use nqs_types::{Body, FileOut, HostId, Output, PeerNumber, Plan, Stage};
-use nqs_values::{Keyed, ListOf, Memory};
 use std::alloc::Global;
 
 // The plan, and a stage again.

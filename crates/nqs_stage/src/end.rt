@@ -7,17 +7,17 @@ ghost use Rattle.nqs_rules.specs.Stage.{goes_here, stage_counter, first_number, 
 ghost use Rattle.nqs_rules.specs.Stage.{parts_sent, on_end};
 ghost use Rattle.nqs_rules.specs.Stepped.{map_part, no_extent, part_bytes, plan_of, ready, says};
 ghost use Rattle.nqs_types.specs.declared.event.Output.TheVariants as event;
-ghost use Rattle.nqs_values.specs.declared.extent.Extent.{Extent};
+ghost use Rattle.nqs_base.specs.declared.extent.Extent.{Extent};
 ghost use Rattle.nqs_types.specs.declared.message.Body.TheVariants as body;
 ghost use Rattle.nqs_plans.specs.More.{with_more};
 ghost use Rattle.nqs_stage.specs.Files.{ending};
 
 use crate::due::is_stage_to;
 use crate::part::{Part, keep_numbered, parts_of};
+use nqs_base::{Bytes, Items, Memory, Rest};
 use nqs_plans::{add, copy_bytes, find_peer, message, no_extent, quiet};
 use nqs_state::HostState;
 use nqs_types::{Body, Change, HostId, OutPart, Output, Plan, RequestId, Row, Stage};
-use nqs_values::{Bytes, Items, Memory, Rest};
 use std::alloc::Global;
 
 // Whether outputs of the request are files of this host.

@@ -4,10 +4,10 @@ ghost use Rattle.nqs_state.specs.State.{content};
 ghost use Rattle.nqs_rules.specs.Stepped.{plan_of};
 ghost use Rattle.nqs_stage.specs.Files.{on_file};
 
+use nqs_base::Memory;
 use nqs_plans::{change_alone, quiet};
 use nqs_state::HostState;
 use nqs_types::{Change, Plan};
-use nqs_values::Memory;
 use std::alloc::Global;
 
 /// A file that was written goes. One that wasn't stays, and is asked for again at the next tick. It

@@ -10,12 +10,12 @@ ghost use Rattle.nqs_types.specs.declared.event.Output.TheVariants.{File};
 ghost use Rattle.nqs_stage.specs.Files.{HasDistinctStages};
 
 use crate::due::add_next;
+use nqs_base::{Bytes, ListOf, Memory};
 use nqs_plans::{
     add, change_alone, change_storing, copy_bytes, find_peer, message, no_extent, quiet, says,
 };
 use nqs_state::HostState;
 use nqs_types::{Body, Change, HostId, Output, PeerNumber, Plan};
-use nqs_values::{Bytes, ListOf, Memory};
 use std::alloc::Global;
 
 // Whether the stage of this number was taken from the peer before.

@@ -5,7 +5,7 @@ use Rattle.std.specs.Prelude.{cond}
 use Rattle.std.specs.Option.{option_map}
 use Rattle.std.proofs.lemmas.Bool.Decides.{nat_tests}
 use Rattle.std.proofs.lemmas.Option.{same_Some, none-some}
-use Rattle.nqs_keyed.specs.Table.{better, best_from}
+use Rattle.nqs_base_tables.specs.Table.{better, best_from}
 use Rattle.nqs_types.specs.Ids.{id_eq, id_exact}
 use Rattle.nqs_types.specs.RowStates.{is_running}
 use Rattle.nqs_types.specs.declared.ids.RequestId.{RequestId}

@@ -3,7 +3,7 @@ use Rattle.std.proofs.Common.{◌≡◌, Bool, true, false, List, [], ◌∷◌,
 use Rattle.std.specs.Prelude.{cond}
 use Rattle.std.specs.Option.{IfSome}
 use Rattle.std.proofs.lemmas.Option.{same_Some, none-some}
-use Rattle.nqs_keyed.specs.Table.{change_first, without_first}
+use Rattle.nqs_base_tables.specs.Table.{change_first, without_first}
 use Rattle.nqs_types.specs.Ids.{id_eq}
 use Rattle.nqs_types.specs.declared.ids.RequestId.{RequestId}
 use Rattle.nqs_types.specs.declared.request.Row.{Row}
@@ -73,7 +73,8 @@ module _ {E : Type 0} where
             let passes : is_row id w ≡ true = ap (id_eq id) (keeps r w ran) ∙ found_passes (is_row id) rows r f in (
               w,
               ap (find (is_row id)) is ∙ found_new (is_row id) w passes rows r f,
-              subst (λ l. IsMore (seat_of w) (map seat_of (without_first (is_row id) rows)) (map seat_of l)) (sym is) (seat_changed (is_row id) (λ _. w) rows r f),
+              subst (λ l. IsMore (seat_of w) (map seat_of (without_first (is_row id) rows)) (map seat_of l)) (sym is)
+                  (seat_changed (is_row id) (λ _. w) rows r f),
             )
 
     -- it is still there

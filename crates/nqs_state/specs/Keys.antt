@@ -1,8 +1,8 @@
 -- Tests by key: the one queue, row, hand .. that is meant.
 use Rattle.std.specs.Prelude.{ℕ, Bool, ◌==◌, List}
-use Rattle.nqs_values.specs.Same.{name_eq}
+use Rattle.nqs_base.specs.Same.{name_eq}
 use Rattle.nqs_types.specs.Ids.{id_eq, peer_number_eq, hand_key, promise_key, stage_key}
-use Rattle.nqs_keyed.specs.Table.{has_key}
+use Rattle.nqs_base_tables.specs.Table.{has_key}
 use Rattle.nqs_types.specs.declared.ids.RequestId.{RequestId}
 use Rattle.nqs_types.specs.declared.ids.PeerNumber.{PeerNumber}
 use Rattle.nqs_types.specs.declared.queue.QueueDef.{QueueDef}

@@ -1,7 +1,7 @@
 -- All that a host holds, as plain lists and numbers.
 use Rattle.std.specs.Prelude.{ℕ, List, Option}
 use Rattle.nqs_types.specs.declared.ids.HostId.{HostId}
-use Rattle.nqs_values.specs.declared.extent.Extent.{Extent}
+use Rattle.nqs_base.specs.declared.extent.Extent.{Extent}
 use Rattle.nqs_types.specs.declared.queue.QueueDef.{QueueDef}
 use Rattle.nqs_types.specs.declared.queue.ComplexDef.{ComplexDef}
 use Rattle.nqs_types.specs.declared.queue.DeviceDef.{DeviceDef}

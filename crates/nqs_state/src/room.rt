@@ -9,10 +9,10 @@ ghost use Rattle.nqs_state.specs.Room.{devices_of, members_of, refusals_of, hand
 ghost use Rattle.nqs_types.specs.declared.ids.PeerNumber.{PeerNumber};
 
 use crate::state::HostState;
+use nqs_base::{Memory, Name};
 use nqs_types::{
     Access, AccessEdit, Change, ConfEdit, DevicesEdit, Edit, LimitsEdit, PeerNumber, RequestId,
 };
-use nqs_values::{Memory, Name};
 
 impl HostState {
     // How many users the queue's list has.

@@ -7,18 +7,18 @@ ghost use Rattle.std.specs.Option.{option_copied, option_map};
 ghost use Rattle.std.specs.List.{filter_map, list_all, list_any};
 ghost use Rattle.std.specs.Fn.{FnOnceReturnsAtMut, FnReturnsAt, FnReturnsAtPair};
 ghost use Rattle.std.specs.Map.Calls.{CalledAtPair};
-ghost use Rattle.nqs_keyed.specs.Table.{change_first, without_first, best_from};
+ghost use Rattle.nqs_base_tables.specs.Table.{change_first, without_first, best_from};
 ghost use Rattle.nqs_types.specs.declared.ids.RequestId.{RequestId};
 ghost use Rattle.nqs_types.specs.declared.request.Row.{Row};
-ghost use Rattle.nqs_values.specs.declared.extent.Extent.{Extent};
+ghost use Rattle.nqs_base.specs.declared.extent.Extent.{Extent};
 ghost use Rattle.nqs_state.specs.Keys.{is_row};
 ghost use Rattle.nqs_state.specs.Least.{runs_now, least_running};
 ghost use Rattle.nqs_index.specs.declared.seat.Seat.{Seat as SeatValue};
 ghost use Rattle.nqs_index.specs.Seats.{seat_of};
 ghost use Rattle.nqs_index.specs.Indexed.{IsMore, Stands, StandsForIndex};
 
+use nqs_base_tables::Table;
 use nqs_index::{Index, Seat, is_less};
-use nqs_keyed::Table;
 use nqs_types::{RequestId, Row, RowState};
 use std::alloc::{AllocError, Global};
 use std::marker::Model;
@@ -39,10 +39,10 @@ impl Drop for Rows {
 
 impl Model for Rows {
     ghost use Rattle.std.specs.Prelude.{IfSome};
-    ghost use Rattle.nqs_keyed.specs.Table.{Roomy};
+    ghost use Rattle.nqs_base_tables.specs.Table.{Roomy};
     ghost use Rattle.nqs_index.specs.Indexed.{StandsForIndex};
     ghost use Rattle.nqs_types.specs.declared.request.Row.{Row};
-    ghost use Rattle.nqs_values.specs.declared.extent.Extent.{Extent};
+    ghost use Rattle.nqs_base.specs.declared.extent.Extent.{Extent};
 
     ghost Value = { Roomy (Row Extent) };
 

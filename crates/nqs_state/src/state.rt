@@ -1,12 +1,12 @@
 //! All that a host holds.
 
 use crate::rows::Rows;
-use nqs_keyed::Table;
+use nqs_base::{ListOf, Name, NameList, Spare};
+use nqs_base_tables::Table;
 use nqs_types::{
     ComplexDef, Dest, DeviceDef, FileOut, Hand, HostId, Peer, PeerNumber, Promise, QueueDef,
     Refused, Stage,
 };
-use nqs_values::{ListOf, Name, NameList, Spare};
 
 /// What a host knows of each host of its site, in the site's order.
 pub type PeerList = ListOf<Peer>;

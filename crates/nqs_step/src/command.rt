@@ -15,6 +15,7 @@ use crate::edit::on_edit;
 use crate::reply::{Asker, answer, refuse, reply_to};
 use crate::submit::on_submit;
 use nqs_access::{known_queue, may_command, rank};
+use nqs_base::{Memory, Name};
 use nqs_handover::on_tick;
 use nqs_lists::{show_lines, stat_lines};
 use nqs_plans::add;
@@ -23,7 +24,6 @@ use nqs_rows::meant_row;
 use nqs_stage::add_due_stages;
 use nqs_state::HostState;
 use nqs_types::{Command, Named, Plan, Refusal, Reply, Row};
-use nqs_values::{Memory, Name};
 use std::alloc::Global;
 
 // The first of the queues that isn't there, as a refusal.

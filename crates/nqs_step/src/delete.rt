@@ -8,11 +8,11 @@ ghost use Rattle.nqs_rules.specs.Stepped.{plan_of};
 ghost use Rattle.nqs_step.specs.Asked.{asked};
 
 use crate::reply::{Asker, refuse, reply_to};
+use nqs_base::{Memory, Name};
 use nqs_plans::{add, change_alone};
 use nqs_rows::{check_delete, meant_row};
 use nqs_state::HostState;
 use nqs_types::{Change, Named, Output, Plan, Refusal, Reply, Row, RowState};
-use nqs_values::{Memory, Name};
 use std::alloc::Global;
 
 // A running request is told to end, and another one goes.

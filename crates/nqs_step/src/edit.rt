@@ -12,6 +12,7 @@ ghost use Rattle.nqs_step.specs.Asked.{asked, kill_in};
 
 use crate::reply::{Asker, refuse, reply_to};
 use nqs_access::check_access;
+use nqs_base::{Memory, Name};
 use nqs_conf::check_conf;
 use nqs_devices::check_devices;
 use nqs_limits::check_limits;
@@ -19,7 +20,6 @@ use nqs_plans::{add, change_alone, fold_each};
 use nqs_rows::check_rows;
 use nqs_state::HostState;
 use nqs_types::{Change, Edit, Output, Plan, Refusal, Reply, Row, RowState, RowsEdit};
-use nqs_values::{Memory, Name};
 use std::alloc::Global;
 
 // Whether the edit may be made, or why not.

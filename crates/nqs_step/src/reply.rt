@@ -2,12 +2,12 @@
 ghost use Rattle.std.specs.Prelude.{◌≡◌, IfOk};
 ghost use Rattle.nqs_rules.specs.Step.{reply_to, answer_to, refuse};
 ghost use Rattle.nqs_rules.specs.Stepped.{plan_of, ready};
-ghost use Rattle.nqs_values.specs.declared.extent.Extent.{Extent};
+ghost use Rattle.nqs_base.specs.declared.extent.Extent.{Extent};
 ghost use Rattle.nqs_step.specs.Asked.{asked};
 
+use nqs_base::Memory;
 use nqs_plans::says;
 use nqs_types::{Output, Plan, Refusal, Reply};
-use nqs_values::Memory;
 use std::alloc::Global;
 
 /// Where a reply goes: the port, 0 for none, and the token of what was asked.

@@ -11,12 +11,12 @@ ghost use Rattle.nqs_rules.specs.Start.{limits_of, order_of, launching, printing
 ghost use Rattle.nqs_rules.specs.Stepped.{plan_of};
 ghost use Rattle.nqs_step.specs.Started.{used_causes, started_row};
 
+use nqs_base::{ListOf, Memory, Name};
 use nqs_handover::{check_way, dest_at, offer_row};
 use nqs_order::pick_next;
 use nqs_plans::{add_kept, change_alone, refusal_number};
 use nqs_state::HostState;
 use nqs_types::{Change, Choice, Dest, LaunchOrder, Limits, Output, Plan, QueueDef, Refusal, Row};
-use nqs_values::{ListOf, Memory, Name};
 use std::alloc::Global;
 
 // The request's limits, and where it states none the queue's.

@@ -9,12 +9,12 @@ ghost use Rattle.nqs_plans.specs.More.{with_more};
 
 use crate::command::{on_command, ticked};
 use crate::reply::Asker;
+use nqs_base::{Bytes, Memory};
 use nqs_handover::{on_abort, on_commit, on_done, on_inquire, on_offer, on_ready, on_refused};
 use nqs_plans::{add, change_alone, quiet};
 use nqs_stage::{on_end, on_file, on_stage, on_staged};
 use nqs_state::HostState;
 use nqs_types::{Body, Change, Event, HostId, Output, Plan, RequestId, Row, RowState};
-use nqs_values::{Bytes, Memory};
 use std::alloc::Global;
 
 // A datagram of another host. One of a client changes nothing here.

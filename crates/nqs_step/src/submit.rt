@@ -6,11 +6,11 @@ ghost use Rattle.nqs_rules.specs.Stepped.{plan_of};
 ghost use Rattle.nqs_step.specs.Asked.{asked};
 
 use crate::reply::{Asker, refuse, reply_to};
+use nqs_base::{Bytes, ListOf, Memory, Name};
 use nqs_plans::{add, change_storing, copy_bytes, no_extent};
 use nqs_rows::check_submit;
 use nqs_state::HostState;
 use nqs_types::{Change, Job, Plan, Refusal, Reply, RequestId, Submission};
-use nqs_values::{Bytes, ListOf, Memory, Name};
 use std::alloc::Global;
 
 // The path, or the default one where it is empty: NAME.oSEQ or NAME.eSEQ.

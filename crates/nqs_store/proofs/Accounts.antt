@@ -3,9 +3,9 @@ use Rattle.std.proofs.Common.{◌≡◌, ℕ, ◌+◌, Bool, true, false, cond, 
 use Rattle.std.proofs.Common.{Some, None, refl, sym, ap, subst, ◌∙◌, append_assoc}
 use Rattle.std.specs.List.{filter_map, cons_option}
 use Rattle.std.proofs.lemmas.List.{map-append}
-use Rattle.nqs_keyed.specs.Table.{change_first, without_first}
+use Rattle.nqs_base_tables.specs.Table.{change_first, without_first}
 use Rattle.nqs_state.specs.Keys.{is_row, is_promise, is_stage, is_file}
-use Rattle.nqs_values.specs.declared.extent.Extent.{Extent}
+use Rattle.nqs_base.specs.declared.extent.Extent.{Extent}
 use Rattle.nqs_types.specs.declared.ids.HostId.{HostId}
 use Rattle.nqs_types.specs.declared.ids.RequestId.{RequestId}
 use Rattle.nqs_types.specs.declared.ids.PeerNumber.{PeerNumber}
@@ -108,7 +108,7 @@ held-part true r = refl
 held-part false r = refl
 
 doomed-part : (q : List ℕ) (r : Row Extent) → row_part (doomed_in q r) ≡ row_part r
-doomed-part q r = by (is_running r.state && Rattle.nqs_values.specs.Same.name_eq q r.queue)
+doomed-part q r = by (is_running r.state && Rattle.nqs_base.specs.Same.name_eq q r.queue)
   where
     by : (b : Bool) → row_part (if b then record r { doomed = true } else r) ≡ r.script
     by true = refl

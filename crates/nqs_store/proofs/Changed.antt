@@ -10,8 +10,9 @@ use Rattle.nqs_store.specs.declared.fault.StoreFault.TheVariants as store
 use Rattle.nqs_types.specs.declared.world.Which.{Which}
 use Rattle.nqs_types.specs.declared.world.Which.TheVariants.{Root, First, Second, Spool}
 use Rattle.nqs_types.specs.declared.change.Change.{Change}
-use Rattle.nqs_values.specs.declared.extent.Extent.{Extent}
-use Rattle.nqs_outside.specs.History.{Call, History, fresh, content, extended, state, moment, after, state_at, IsImage, MayLeave, EachSince, StopsShort, IsExact, IsQuiet}
+use Rattle.nqs_base.specs.declared.extent.Extent.{Extent}
+use Rattle.nqs_outside.specs.History.{Call, History, fresh, content, extended, state, moment, after, state_at, IsImage, MayLeave, EachSince, StopsShort}
+use Rattle.nqs_outside.specs.History.{IsExact, IsQuiet}
 use Rattle.nqs_outside.specs.declared.disk.Disk as disk
 use Rattle.nqs_spool.specs.Spooled as spool
 use Rattle.nqs_spool.specs.declared.spool.Spool.{Spool as SpoolOf}
@@ -41,7 +42,8 @@ use Rattle.nqs_store.specs.declared.store.Store.{Store}
 use Rattle.nqs_store.proofs.TellsNow.{only_image, active_image}
 use Rattle.nqs_store.proofs.EachDisk.{each_of, with_disk, but_disk, journal_apart, stands_on, history_on}
 use Rattle.nqs_store.proofs.Runs.{cut_short, never_short}
-use Rattle.nqs_store.proofs.HostRuns.{part_own, part_other, part_append, same_or, runs_on, runs_both, moments_both, moments_weaker, on_stops, last_stops, behind_stops}
+use Rattle.nqs_store.proofs.HostRuns.{part_own, part_other, part_append, same_or, runs_on, runs_both, moments_both, moments_weaker, on_stops, last_stops}
+use Rattle.nqs_store.proofs.HostRuns.{behind_stops}
 use Rattle.nqs_store.proofs.Committed.{Keeps, IsPut, told_before, named_image, stands_image, append_moments, put_moments}
 
 pub spool_rest : (old now : Which → History) → now Root ≡ old Root → now First ≡ old First → now Second ≡ old Second → (w : Which) → w ≢ Spool
@@ -88,7 +90,8 @@ module _ {D : Type 0} {g : disk.Ghosts D} (old now : Store D g) (puts : List (Li
     many = put.many;
     stands = on_stops Spool (puts_calls put.places puts) put.calls (on x (append_calls 0 [])) put.short;
     made = runs_on o n Spool put.calls put.made rest;
-    at = λ is_told. moments_weaker o (on Spool put.calls) _ _ (λ images is. inl is) (put_moments told old host is_told (n Spool) put.calls put.made (kept is_told));
+    at = λ is_told. moments_weaker o (on Spool put.calls) _ _ (λ images is. inl is)
+        (put_moments told old host is_told (n Spool) put.calls put.made (kept is_told));
     one_more = λ is_told same. absurd (none (ap (λ r. length (part x r)) same));
   }
     where
@@ -203,7 +206,8 @@ module _ {D : Type 0} {g : disk.Ghosts D} (old now : Store D g) (puts : List (Li
                 after = λ image leaves. (
                   is_told.is,
                   subst (λ b. StandsAfter (front_of is_told.has is_told.snapshot) b (is_told.payloads ++ text ∷ []))
-                      (only_image (journal.history_of (journal_in old.on_second now)) image opened.quiet (subst (λ h. IsImage (state h) image) journal_now leaves))
+                      (only_image (journal.history_of (journal_in old.on_second now)) image opened.quiet
+                      (subst (λ h. IsImage (state h) image) journal_now leaves))
                       opened.stands,
                 );
               };
@@ -288,7 +292,8 @@ module _ {D : Type 0} {g : disk.Ghosts D} (old now : Store D g) (puts : List (Li
           made : (calls : List Call) → n' ≡ extended o' calls → n x ≡ extended (o x) calls
           made calls did = journal_now' ∙ did ∙ ap (λ h. extended h calls) (sym (history_on old.on_second old))
 
-          exact : IsExact (fails_of old x) (is_starved old x) (is_starved now x) (o x) (n x) (append_calls (journal.gate_of (journal_in old.on_second old)) text)
+          exact : IsExact (fails_of old x) (is_starved old x) (is_starved now x) (o x) (n x)
+              (append_calls (journal.gate_of (journal_in old.on_second old)) text)
           exact =
               let nd = journal.disk_of (journal_in old.on_second now) in
               let plan = append_calls (journal.gate_of (journal_in old.on_second old)) text in
@@ -369,7 +374,8 @@ module _ {D : Type 0} {g : disk.Ghosts D} (old now : Store D g) where
     spool = spooled;
   }
 
-  pub journal_clear : {n : ℕ} → AreClear (g.fails (journal.disk_of (journal_in old.on_second old))) (moment (journal.history_of (journal_in old.on_second old))) n
+  pub journal_clear : {n : ℕ} → AreClear (g.fails (journal.disk_of (journal_in old.on_second old)))
+      (moment (journal.history_of (journal_in old.on_second old))) n
       → AreClear (fails_of old (journal_on old.on_second)) (moment (history_of old (journal_on old.on_second))) n
   journal_clear {n} clear = subst (λ d. AreClear (g.fails d) (moment (g.history d)) n) (sym (stands_on old.on_second old)) clear
 

@@ -2,7 +2,7 @@
 use Rattle.std.proofs.Common.{◌≡◌, ◌≢◌, inl, inr, ℕ, ◌≤◌, Bool, true, false, IsTrue, if◌then◌else◌, List, [], ◌∷◌, ◌++◌, map, length, Some, None, refl, sym, ap}
 use Rattle.std.proofs.Common.{subst, ◌∙◌}
 use Rattle.std.specs.List.{AllByRecursion}
-use Rattle.nqs_values.specs.declared.extent.Extent.{Extent}
+use Rattle.nqs_base.specs.declared.extent.Extent.{Extent}
 use Rattle.nqs_types.specs.declared.change.Change.{Change}
 use Rattle.nqs_types.specs.declared.change.Change.TheVariants.{Site, Submitted, Deleted, Doomed, Started, Ended, Unlaunched, Boot, Edited, HandOpened}
 use Rattle.nqs_types.specs.declared.change.Change.TheVariants.{HandCommitted, HandRefused, HandsSilent, HandDone, Promised, Accepted, Dropped, MovedLocal}
@@ -233,7 +233,8 @@ module _ {D : Type 0} {g : disk.Ghosts D} (tells_all : IsTrue g.tells) (old : St
         (λ v other. rest_of Spool (spool.history_of mid) (history_of old) (λ h. (state h).ranges ≡ [])
         (λ u. no_pending (state (history_of old u)) (content (history_of old u)) (quiet u))
         (no_pending (state (spool.history_of mid)) bytes (put_tells.quiet tells_all)) v)
-        (λ t images from to leaves others. one_of images (but Root (λ is. let no : ⊥ = cc in no) images (others Root (root_apart old.on_second))) (subst (λ h. IsImage (state h) (images Spool)) (at_disk Spool (spool.history_of mid) (history_of old)) (others Spool (spool_apart old.on_second)))
+        (λ t images from to leaves others. one_of images (but Root (λ is. let no : ⊥ = cc in no) images (others Root (root_apart old.on_second)))
+        (subst (λ h. IsImage (state h) (images Spool)) (at_disk Spool (spool.history_of mid) (history_of old)) (others Spool (spool_apart old.on_second)))
         (any t (images (journal_on old.on_second)) (subst (λ h. moment h ≤ t) same from) to leaves))
       where
         but : (v : Which) → v ≢ Spool → (images : Which → List ℕ)

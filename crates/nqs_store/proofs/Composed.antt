@@ -1,5 +1,6 @@
 -- A commit from its two parts: a checkpoint, where one is due, and the calls of the change.
-use Rattle.std.proofs.Common.{◌≡◌, ◌≢◌, inl, inr, ℕ, ◌+◌, ◌≤◌, Bool, true, false, not, IsTrue, if◌then◌else◌, List, [], ◌∷◌, ◌++◌, length, map, Ok, refl, sym, ap}
+use Rattle.std.proofs.Common.{◌≡◌, ◌≢◌, inl, inr, ℕ, ◌+◌, ◌≤◌, Bool, true, false, not, IsTrue, if◌then◌else◌, List, [], ◌∷◌, ◌++◌, length, map, Ok, refl, sym}
+use Rattle.std.proofs.Common.{ap}
 use Rattle.std.proofs.Common.{subst, ◌∙◌, arith, length-append}
 use Rattle.std.proofs.lemmas.List.{length-map, append-nil}
 use Rattle.nqs_state.specs.State.{Plain}
@@ -18,12 +19,14 @@ use Rattle.nqs_store.specs.Hosts.{HostCall, on, part, Runs, StopsShort as HostSt
 use Rattle.nqs_store.specs.Plan.{puts_calls, change_calls, checkpoint_calls, due_calls, commit_calls, CommitsBy}
 use Rattle.nqs_store.specs.Images.{IsTold, TellsOneOf}
 use Rattle.nqs_store.specs.Moments.{Moments}
-use Rattle.nqs_store.specs.Commits.{AreClear, FailsFirst, LeavesHost, IsPast, calls_before, record_moment, root_calls, IsKept, IsBegun, HasOneMore, before_record, Keeping, IsAtHostGate}
+use Rattle.nqs_store.specs.Commits.{AreClear, FailsFirst, LeavesHost, IsPast, calls_before, record_moment, root_calls, IsKept, IsBegun, HasOneMore}
+use Rattle.nqs_store.specs.Commits.{before_record, Keeping, IsAtHostGate}
 use Rattle.nqs_store.specs.Commits.{IsCutAt, IsCutOn}
 use Rattle.nqs_store.specs.Changing.{Turning, Changing, IsTurned, IsTurnCut, IsChangeCut}
 use Rattle.nqs_store.specs.Stores.{Tells, plain_of, history_of, active_of}
 use Rattle.nqs_store.specs.declared.store.Store.{Store}
-use Rattle.nqs_store.proofs.HostRuns.{part_own, part_other, part_append, same_or, runs_both, runs_none, length_on, moments_both, moments_weaker, moments_none, no_pending}
+use Rattle.nqs_store.proofs.HostRuns.{part_own, part_other, part_append, same_or, runs_both, runs_none, length_on, moments_both, moments_weaker, moments_none}
+use Rattle.nqs_store.proofs.HostRuns.{no_pending}
 use Rattle.nqs_store.proofs.HostRuns.{behind_stops, before_stops, none_stops, stops_size}
 use Rattle.nqs_store.proofs.EachDisk.{root_is_no_journal, root_apart, spool_apart}
 use Rattle.nqs_store.proofs.Committed.{quiet}
@@ -60,7 +63,8 @@ module _ (a : Active) (not_due : is_due a.records ≡ false) where
   here_past fails old = record { other = λ due. absurd (true_false (sym due ∙ not_due)); root = λ due. absurd (true_false (sym due ∙ not_due)) }
 
   pub here_moment : (old : Which → History) → record_moment a old ≡ moment (old (journal_of a))
-  here_moment old = (λ j. moment (old (journal_of (here j))) + here_before j) ∙ (let none : moment (old (journal_of a)) + 0 ≡ moment (old (journal_of a)) = omega arith in none)
+  here_moment old = (λ j. moment (old (journal_of (here j))) + here_before j)
+      ∙ (let none : moment (old (journal_of a)) + 0 ≡ moment (old (journal_of a)) = omega arith in none)
 
 -- where one is due
 module _ (a : Active) (due : is_due a.records ≡ true) where

@@ -3,8 +3,8 @@ use Rattle.std.proofs.Common.{◌≡◌, inl, inr, Bool, true, false, cond, not,
 use Rattle.std.proofs.Common.{append_assoc}
 use Rattle.std.proofs.lemmas.List.{append-nil}
 use Rattle.std.specs.List.{AllByRecursion}
-use Rattle.nqs_keyed.specs.Table.{without_first}
-use Rattle.nqs_values.specs.declared.extent.Extent.{Extent}
+use Rattle.nqs_base_tables.specs.Table.{without_first}
+use Rattle.nqs_base.specs.declared.extent.Extent.{Extent}
 use Rattle.nqs_spool.specs.Extents.{Has, IsWith, AreApart, IsClearOf}
 use Rattle.nqs_spool.proofs.Lists.{has_put, has_cut, apart_put, apart_cut, all_without}
 use Rattle.nqs_store.specs.Accounts.{Adds, Takes, IsRearranged}

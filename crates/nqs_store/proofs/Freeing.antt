@@ -2,9 +2,9 @@
 use Rattle.std.proofs.Common.{◌≡◌, ℕ, zero, suc, ◌+◌, ◌<◌, ◌≤◌, min, get_or, Bool, true, false, cond, List, [], ◌∷◌, ◌++◌, map, filter, take, drop, length}
 use Rattle.std.proofs.Common.{slice_get, slice_set, Some, refl, sym, ap, subst, ◌∙◌, arith}
 use Rattle.std.proofs.lemmas.Option.{same_Some, none-some}
-use Rattle.nqs_values.specs.declared.extent.Extent.{Extent}
+use Rattle.nqs_base.specs.declared.extent.Extent.{Extent}
 use Rattle.nqs_types.specs.declared.change.OutPart.{OutPart}
-use Rattle.nqs_keyed.proofs.TableLemmas.{drop-at}
+use Rattle.nqs_base_tables.proofs.TableLemmas.{drop-at}
 use Rattle.nqs_types.specs.declared.ids.HostId.{HostId}
 use Rattle.nqs_types.specs.declared.ids.RequestId.{RequestId}
 use Rattle.nqs_types.specs.declared.request.Carried.{Carried}

@@ -3,7 +3,7 @@ use Rattle.std.proofs.Common.{◌≡◌, ◌⊎◌, inl, inr, ℕ, Bool, true, f
 use Rattle.std.proofs.Common.{◌≤◌, ◌∷◌, not, Err, arith}
 use Rattle.std.specs.declared.result.Result.{Result}
 use Rattle.nqs_state.specs.State.{Plain}
-use Rattle.nqs_values.specs.declared.extent.Extent.{Extent}
+use Rattle.nqs_base.specs.declared.extent.Extent.{Extent}
 use Rattle.nqs_types.specs.declared.change.Change.{Change}
 use Rattle.nqs_rules.specs.Applied.{applied}
 use Rattle.nqs_rules.specs.Filled.{filled}
@@ -33,7 +33,7 @@ use Rattle.nqs_journal.specs.Open as journal
 use Rattle.nqs_rules.specs.Journals.{journal_on}
 use Rattle.nqs_store.proofs.EachDisk.{each_of, stands_on}
 use Rattle.nqs_store.specs.declared.store.Store.{Store}
-use Rattle.nqs_values.specs.Want.{want}
+use Rattle.nqs_base.specs.Want.{want}
 use Rattle.nqs_store.specs.declared.fault.StoreFault.{StoreFault}
 use Rattle.nqs_store.specs.declared.fault.StoreFault.TheVariants as store
 use Rattle.nqs_store.specs.Calls.{state_after, IsLeft, MayStop, KeepsChange, Records, Commits, TurnsOver, Checkpoints}
@@ -42,9 +42,11 @@ use Rattle.nqs_store.proofs.Results.{ok_one, ok_three, err_one, either_way}
 use Rattle.nqs_store.proofs.HostRuns.{none_stops, behind_stops, runs_none, moments_none, no_pending}
 use Rattle.nqs_store.proofs.Committed.{quiet}
 use Rattle.nqs_store.proofs.TellsNow.{told_now}
-use Rattle.nqs_store.proofs.Composed.{here, there, here_by, here_keeping, here_kept, here_cut, there_by, there_keeping, there_kept, there_cut, turn_cut, turn_by, turn_keeping, idle_by, idle_keeping}
+use Rattle.nqs_store.proofs.Composed.{here, there, here_by, here_keeping, here_kept, here_cut, there_by, there_keeping, there_kept, there_cut, turn_cut}
+use Rattle.nqs_store.proofs.Composed.{turn_by, turn_keeping, idle_by, idle_keeping}
 
-module _ {D : Type 0} {g : disk.Ghosts D} {E : Type 0} (r : Result (Unit {0}) E) (old now : Store D g) (puts : List (List ℕ)) (host : Host) (later : Plain) where
+module _ {D : Type 0} {g : disk.Ghosts D} {E : Type 0} (r : Result (Unit {0}) E) (old now : Store D g) (puts : List (List ℕ)) (host : Host)
+    (later : Plain) where
   -- none of the change's calls was to fail
   abbrev pub SpoolClear : Store D g → Type 0
   SpoolClear store = AreClear (fails_of store Spool) (moment (history_of store Spool)) (spool_calls puts)
@@ -60,13 +62,15 @@ module _ {D : Type 0} {g : disk.Ghosts D} {E : Type 0} (r : Result (Unit {0}) E)
         (IsKept (active_of old) (fails_of old) puts (history_of old) (history_of now))
         (λ c s j. here_kept old now puts host later not_due (fails_of old) c s j)
 
-    pub here_broken : OnErr r (Changing StopsShort old now puts host later) → OnErr r (CommitsBy StopsShort (active_of old) puts (history_of old) (history_of now))
+    pub here_broken : OnErr r (Changing StopsShort old now puts host later)
+        → OnErr r (CommitsBy StopsShort (active_of old) puts (history_of old) (history_of now))
     here_broken = err_one r (Changing StopsShort old now puts host later) (CommitsBy StopsShort (active_of old) puts (history_of old) (history_of now))
         (λ c. here_by old now puts host later not_due c)
 
     pub here_moments : OnOk r (Changing (λ planned run. run ≡ planned) old now puts host later) → OnErr r (Changing StopsShort old now puts host later)
         → Tells old host → Keeping (active_of old) puts (history_of old) (history_of now) (plain_of old host) later
-    here_moments made broken tells = either_way r (Changing (λ planned run. run ≡ planned) old now puts host later) (Changing StopsShort old now puts host later)
+    here_moments made broken tells = either_way r (Changing (λ planned run. run ≡ planned) old now puts host later)
+        (Changing StopsShort old now puts host later)
         (Keeping (active_of old) puts (history_of old) (history_of now) (plain_of old host) later)
         (λ c. here_keeping old now puts host later not_due (λ planned run is. inl is) c tells)
         (λ c. here_keeping old now puts host later not_due (λ planned run is. inr is) c tells) made broken
@@ -95,9 +99,11 @@ module _ {D : Type 0} {g : disk.Ghosts D} {E : Type 0} (r : Result (Unit {0}) E)
         (subst (λ f. AreClear (f Spool) (moment (history_of mid Spool)) (spool_calls puts)) fails_path s)
         (subst (λ f. AreClear (f (journal_of (active_of mid))) (moment (history_of mid (journal_of (active_of mid)))) 4) fails_path j))
 
-    pub there_broken : OnErr r (Changing StopsShort mid now puts host later) → OnErr r (CommitsBy StopsShort (active_of old) puts (history_of old) (history_of now))
+    pub there_broken : OnErr r (Changing StopsShort mid now puts host later)
+        → OnErr r (CommitsBy StopsShort (active_of old) puts (history_of old) (history_of now))
     there_broken = err_one r (Changing StopsShort mid now puts host later) (CommitsBy StopsShort (active_of old) puts (history_of old) (history_of now))
-        (λ c. there_by old mid now puts host later snapshot due turned t (λ planned run short. behind_stops (checkpoint_calls (active_of old) snapshot) planned run short) c)
+        (λ c. there_by old mid now puts host later snapshot due turned t (λ planned run short. behind_stops
+        (checkpoint_calls (active_of old) snapshot) planned run short) c)
 
     pub there_moments : OnOk r (Changing (λ planned run. run ≡ planned) mid now puts host later) → OnErr r (Changing StopsShort mid now puts host later)
         → snapshot_of snapshot ≡ Ok host → Tells old host → Tells mid host
@@ -156,7 +162,8 @@ module _ {D : Type 0} {g : disk.Ghosts D} {E : Type 0} (r : Result (Unit {0}) E)
 
 -- and none
 module _ {D : Type 0} {g : disk.Ghosts D} (yes : IsTrue g.tells) (old : Store D g) (host : Host) (tells : Tells old host) where
-  pub turn_idle : (run : List HostCall) × Runs (history_of old) (history_of old) run × EachPrefix (history_of old) run (λ images. IsTold images (plain_of old host))
+  pub turn_idle : (run : List HostCall) × Runs (history_of old) (history_of old) run
+      × EachPrefix (history_of old) run (λ images. IsTold images (plain_of old host))
   turn_idle = (
     [],
     runs_none (history_of old) (history_of old) (λ w. refl),
@@ -215,7 +222,8 @@ stops_since old mid now failed r later fuse m = record {
   fuse = λ told which i. m.fuse told which i ∙ fuse told which i;
 }
 
-module _ {D : Type 0} {g : disk.Ghosts D} {E : Type 0} (old now : Store D g) (change : Change Extent) (puts : List (List ℕ)) (host : Host) (failed : Which → E) where
+module _ {D : Type 0} {g : disk.Ghosts D} {E : Type 0} (old now : Store D g) (change : Change Extent) (puts : List (List ℕ)) (host : Host)
+    (failed : Which → E) where
   -- no call was made
   pub idle_commits : (e : E) → ((w : Which) → history_of now w ≡ history_of old w)
       → ((which : Which) → IsErrOf {T = Unit {0}} (Err e) (failed which) → ⊥) → Commits {T = Unit {0}} old now change puts host failed (Err e)
@@ -270,7 +278,8 @@ module _ {D : Type 0} {g : disk.Ghosts D} {E : Type 0} (old now : Store D g) (ch
       there_commits e = record {
         made = λ told. there_made r old now puts host mid_later mid snapshot due t.active t.spool (fuse told) (t.made told snapshot host is) (t.past told)
             (e.made told) (e.spool told) (e.journal told);
-        broken_off = λ told. there_broken r old now puts host mid_later mid snapshot due t.active t.spool (fuse told) (t.made told snapshot host is) (t.past told)
+        broken_off = λ told. there_broken r old now puts host mid_later mid snapshot due t.active t.spool (fuse told) (t.made told snapshot host is)
+            (t.past told)
             (e.broken_off told);
         cut = λ told tells which at.
             subst (λ p. IsTrue (is_starved now which) ⊎ IsCutAt (active_of old) (fails_of old) puts (history_of old) (history_of now) (plain_of old host)
@@ -297,7 +306,8 @@ module _ {D : Type 0} {g : disk.Ghosts D} {E : Type 0} (old now : Store D g) (ch
             subst (λ p. OnOk r (plain_of now (applied after host) ≡ applied (filled change puts) p)) same (k.plain told (tells_mid told tells));
       }
 
-module _ {D : Type 0} {g : disk.Ghosts D} {E : Type 0} (old now : Store D g) (failed : Which → E) (r : Result (Unit {0}) E) (snapshot : List ℕ) (host : Host) where
+module _ {D : Type 0} {g : disk.Ghosts D} {E : Type 0} (old now : Store D g) (failed : Which → E) (r : Result (Unit {0}) E) (snapshot : List ℕ)
+    (host : Host) where
   -- a checkpoint of what a text says
   pub checkpoint_by : (text : List ℕ) → IsTextOf text snapshot → snapshot_of snapshot ≡ Ok host → TurnsOver old now failed r text
       → Checkpoints old now failed r snapshot host

@@ -2,7 +2,7 @@
 use Rattle.std.proofs.Common.{◌≡◌, ◌⊎◌, inl, inr, ℕ, Bool, not, IsTrue, List, Result, Ok, Err, IfOk, IfErr, MatchResult, sym, ap, subst, ◌∙◌}
 use Rattle.nqs_state.specs.State.{content}
 use Rattle.nqs_state.specs.declared.state.HostState.{HostState}
-use Rattle.nqs_values.specs.Want.{want}
+use Rattle.nqs_base.specs.Want.{want}
 use Rattle.nqs_types.specs.declared.world.Which.{Which}
 use Rattle.nqs_types.specs.declared.world.Which.TheVariants.{Root, Spool}
 use Rattle.nqs_outside.specs.History.{IsQuiet, content as bytes_now}

@@ -1,6 +1,6 @@
 -- A host whose extents hold the same bytes in two spools is the same plain state in both.
 use Rattle.std.proofs.Common.{◌≡◌, inl, inr, ℕ, List, [], ◌∷◌, ◌++◌, map, refl, ap}
-use Rattle.nqs_values.specs.declared.extent.Extent.{Extent}
+use Rattle.nqs_base.specs.declared.extent.Extent.{Extent}
 use Rattle.nqs_rules.specs.Plain.{map_row, map_promise, map_stage, map_file, map_state}
 use Rattle.nqs_spool.specs.Extents.{Has}
 use Rattle.nqs_store.specs.Told.{Host}

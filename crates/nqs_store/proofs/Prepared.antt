@@ -5,7 +5,7 @@ use Rattle.nqs_types.specs.declared.change.Change.{Change}
 use Rattle.nqs_rules.specs.Applied.{applied}
 use Rattle.nqs_rules.specs.Filled.{filled}
 use Rattle.nqs_state.specs.State.{Plain}
-use Rattle.nqs_values.specs.declared.extent.Extent.{Extent}
+use Rattle.nqs_base.specs.declared.extent.Extent.{Extent}
 use Rattle.nqs_types.specs.declared.world.Which.{Which}
 use Rattle.nqs_outside.specs.History.{History, IsQuiet, content}
 use Rattle.nqs_outside.specs.declared.disk.Disk as disk
@@ -75,7 +75,8 @@ module _ {D : Type 0} {g : disk.Ghosts D} (old now : Store D g) (root : now.root
     broken_from is = subst (λ (h : Which → History). OnErr r (CommitsBy StopsShort (active_of old) puts h (history_of new))) history_path
         (subst (λ a. OnErr r (CommitsBy StopsShort a puts (history_of now) (history_of new))) active_path is)
 
-    pub moments_from : (host : Host) (f : Plain → Plain) → Keeping (active_of now) puts (history_of now) (history_of new) (plain_of now host) (f (plain_of now host))
+    pub moments_from : (host : Host) (f : Plain → Plain) → Keeping (active_of now) puts (history_of now) (history_of new) (plain_of now host)
+        (f (plain_of now host))
         → Keeping (active_of old) puts (history_of old) (history_of new) (plain_of old host) (f (plain_of old host))
     moments_from host f is = subst (λ p. Keeping (active_of old) puts (history_of old) (history_of new) p (f p)) (plain_path host)
         (subst (λ (h : Which → History). Keeping (active_of old) puts h (history_of new) (plain_of now host) (f (plain_of now host))) history_path
@@ -83,11 +84,14 @@ module _ {D : Type 0} {g : disk.Ghosts D} (old now : Store D g) (root : now.root
 
     pub cut_from : (host : Host) (f : Plain → Plain) (which : Which) → IsTrue (is_starved new which)
         ⊎ IsCutAt (active_of now) (fails_of now) puts (history_of now) (history_of new) (plain_of now host) (f (plain_of now host)) which
-        → IsTrue (is_starved new which) ⊎ IsCutAt (active_of old) (fails_of old) puts (history_of old) (history_of new) (plain_of old host) (f (plain_of old host)) which
+        → IsTrue (is_starved new which) ⊎ IsCutAt (active_of old) (fails_of old) puts (history_of old) (history_of new) (plain_of old host)
+        (f (plain_of old host)) which
     cut_from host f which (inl starves) = inl starves
-    cut_from host f which (inr fell) = inr (subst (λ p. IsCutAt (active_of old) (fails_of old) puts (history_of old) (history_of new) p (f p) which) (plain_path host)
+    cut_from host f which (inr fell) = inr (subst (λ p. IsCutAt (active_of old) (fails_of old) puts (history_of old) (history_of new) p (f p) which)
+        (plain_path host)
         (subst (λ l. IsCutAt (active_of old) l puts (history_of old) (history_of new) (plain_of now host) (f (plain_of now host)) which) fails_path
-        (subst (λ (h : Which → History). IsCutAt (active_of old) (fails_of now) puts h (history_of new) (plain_of now host) (f (plain_of now host)) which) history_path
+        (subst (λ (h : Which → History). IsCutAt (active_of old) (fails_of now) puts h (history_of new) (plain_of now host)
+        (f (plain_of now host)) which) history_path
         (subst (λ a. IsCutAt a (fails_of now) puts (history_of now) (history_of new) (plain_of now host) (f (plain_of now host)) which) active_path fell))))
 
   -- nothing happened

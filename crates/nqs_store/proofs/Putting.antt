@@ -1,7 +1,7 @@
 -- Bytes put into a spool, one list after another.
 use Rattle.std.proofs.Common.{◌≡◌, inl, inr, ℕ, suc, List, [], ◌∷◌, ◌++◌, map, length, IsTrue, refl, sym, ap, subst, ◌∙◌, arith, append_assoc}
 use Rattle.std.proofs.lemmas.List.{append-nil, length-map}
-use Rattle.nqs_values.specs.declared.extent.Extent.{Extent}
+use Rattle.nqs_base.specs.declared.extent.Extent.{Extent}
 use Rattle.std.proofs.Math.Seq.{take-length}
 use Rattle.nqs_outside.specs.History.{Call, State, History, content, state, state_at, after, fresh, extended, moment, IsImage, IsQuiet, EachSince, StopsShort}
 use Rattle.nqs_store.proofs.TellsNow.{only_image}

@@ -1,6 +1,6 @@
 -- What a store tells when its root, one of its journals and its spool were read again.
 use Rattle.std.proofs.Common.{◌≡◌, ◌∙◌, ℕ, Bool, true, false, not, if◌then◌else◌, List, sym, ap, subst}
-use Rattle.nqs_values.specs.declared.extent.Extent.{Extent}
+use Rattle.nqs_base.specs.declared.extent.Extent.{Extent}
 use Rattle.nqs_types.specs.declared.world.Which.{Which}
 use Rattle.nqs_types.specs.declared.world.Which.TheVariants.{Root}
 use Rattle.nqs_outside.specs.History.{content, IsQuiet}

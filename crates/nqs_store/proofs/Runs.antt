@@ -5,7 +5,7 @@ use Rattle.std.proofs.lemmas.List.{append-nil, take-append-le, drop_at}
 use Rattle.nqs_outside.specs.History.{Call, write, sync, failed, fresh, History, extended, moment, after, state_at, IsImage, EachSince, StopsShort, answered}
 use Rattle.nqs_outside.specs.History.{IsExact}
 use Rattle.std.proofs.lemmas.Bool.{cases_lt}
-use Rattle.nqs_values.specs.Want.{want}
+use Rattle.nqs_base.specs.Want.{want}
 use Rattle.nqs_journal.specs.Plan.{append_calls}
 use Rattle.nqs_spool.specs.Puts.{put_calls}
 use Rattle.nqs_spool.specs.declared.fault.SpoolFault.{SpoolFault}

@@ -1,8 +1,9 @@
 -- What records tell, one after the other.
-use Rattle.std.proofs.Common.{◌≡◌, inl, inr, ℕ, ◌+◌, ◌≤◌, Bool, true, false, not, ◌||◌, IsTrue, List, [], ◌∷◌, ◌++◌, take, drop, take-append-drop, length, length-append, slice_get, Option, Some}
+use Rattle.std.proofs.Common.{◌≡◌, inl, inr, ℕ, ◌+◌, ◌≤◌, Bool, true, false, not, ◌||◌, IsTrue, List, [], ◌∷◌, ◌++◌, take, drop, take-append-drop, length}
+use Rattle.std.proofs.Common.{length-append, slice_get, Option, Some}
 use Rattle.std.proofs.Common.{None, Ok, Err, is_some, refl, sym, ap, subst, ◌∙◌, arith, append_assoc}
 use Rattle.std.proofs.lemmas.Option.{none-some}
-use Rattle.nqs_keyed.proofs.TableLemmas.{drop-at}
+use Rattle.nqs_base_tables.proofs.TableLemmas.{drop-at}
 use Rattle.nqs_journal.specs.Text.{header, snapshot_front, records, frame}
 use Rattle.nqs_journal.proofs.Texts.{length-frame}
 use Rattle.nqs_journal.proofs.Fronts.{length-front}
@@ -11,7 +12,7 @@ use Rattle.nqs_records.specs.declared.fault.RecordFault.{RecordFault}
 use Rattle.nqs_snapshot.specs.Reading.{snapshot_of}
 use Rattle.std.specs.List.{list_any}
 use Rattle.std.proofs.lemmas.List.Folds.{list_any-append}
-use Rattle.nqs_values.specs.declared.extent.Extent.{Extent}
+use Rattle.nqs_base.specs.declared.extent.Extent.{Extent}
 use Rattle.nqs_types.specs.Ids.{id_eq}
 use Rattle.nqs_types.specs.declared.ids.RequestId.{RequestId}
 use Rattle.nqs_types.specs.declared.request.Row.{Row}
@@ -98,7 +99,8 @@ module _ (payloads : List (List ℕ)) (i : ℕ) (payload : List ℕ) (at : slice
 
 -- a record that isn't taken
 pub refused_from : (host : Host) (place : ℕ) (payloads : List (List ℕ)) (i : ℕ) (payload slice : List ℕ) (now : Host) (at : ℕ) (fault : TellFault)
-    → slice ≡ payload → slice_get payloads i ≡ Some payload → told_from (Some host) (take i payloads) ≡ Some now → at ≡ place + length (records (take i payloads))
+    → slice ≡ payload → slice_get payloads i ≡ Some payload → told_from (Some host) (take i payloads) ≡ Some now
+    → at ≡ place + length (records (take i payloads))
     → IsRefused at (record_taken slice (Some now) ≡ None) fault → IsTakenFault host place payloads fault
 refused_from host place payloads i payload slice now at (Untold found) same is tells stands bad = record {
   before = take i payloads;

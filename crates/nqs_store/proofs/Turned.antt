@@ -54,12 +54,14 @@ module _ {D : Type 0} {g : disk.Ghosts D} (old now : Store D g) (text snapshot :
   spool_same : n Spool ≡ o Spool
   spool_same = ap spool.history_of same_spool
 
-  other_did : (calls : List Call) → journal.history_of (journal_in (not old.on_second) now) ≡ extended (journal.history_of (journal_in (not old.on_second) old)) calls
+  other_did : (calls : List Call) → journal.history_of (journal_in (not old.on_second) now)
+      ≡ extended (journal.history_of (journal_in (not old.on_second) old)) calls
       → n y ≡ extended (o y) calls
   other_did calls did = history_on (not old.on_second) now ∙ did ∙ ap (λ h. extended h calls) (sym (history_on (not old.on_second) old))
 
   -- a call of the other journal failed
-  module _ (yes : IsTrue g.tells) (root : n Root ≡ o Root) (short : HasBegunShort (journal_in (not old.on_second) old) (journal_in (not old.on_second) now) text) where
+  module _ (yes : IsTrue g.tells) (root : n Root ≡ o Root) (short : HasBegunShort (journal_in (not old.on_second) old)
+      (journal_in (not old.on_second) now) text) where
     other_run : (calls : List Call) → n y ≡ extended (o y) calls → Runs o n (on y calls)
     other_run calls did = runs_on o n y calls did (each_of old.on_second (λ w. w ≢ y → n w ≡ o w) (λ other. root) (λ other. active_same)
         (λ other. absurd (other refl)) (λ other. spool_same))
@@ -102,7 +104,8 @@ module _ {D : Type 0} {g : disk.Ghosts D} (old now : Store D g) (text snapshot :
   -- the other journal begins with the snapshot
   module _ (yes : IsTrue g.tells) (begun : HasBegun (journal_in (not old.on_second) old) (journal_in (not old.on_second) now) text) where
     other_made : n y ≡ extended (o y) (front_calls (snapshot_front snapshot))
-    other_made = other_did (front_calls (snapshot_front snapshot)) (begun.made yes ∙ ap (extended (journal.history_of (journal_in (not old.on_second) old))) front_is)
+    other_made = other_did (front_calls (snapshot_front snapshot)) (begun.made yes
+        ∙ ap (extended (journal.history_of (journal_in (not old.on_second) old))) front_is)
 
     opened : IsOpen (n y) (snapshot_front snapshot) (journal.gate_of (journal_in (not old.on_second) now)) []
     opened =

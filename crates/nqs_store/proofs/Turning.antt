@@ -1,5 +1,6 @@
 -- What images tell while a checkpoint is made.
-use Rattle.std.proofs.Common.{◌≡◌, ◌≢◌, ◌⊎◌, inl, inr, ℕ, ◌<◌, ◌≤◌, ◌^◌, Bool, true, false, not, IsTrue, if◌then◌else◌, List, [], ◌∷◌, length, Ok, refl, sym, ap}
+use Rattle.std.proofs.Common.{◌≡◌, ◌≢◌, ◌⊎◌, inl, inr, ℕ, ◌<◌, ◌≤◌, ◌^◌, Bool, true, false, not, IsTrue, if◌then◌else◌, List, [], ◌∷◌, length, Ok, refl, sym}
+use Rattle.std.proofs.Common.{ap}
 use Rattle.std.proofs.Common.{subst, ◌∙◌, arith}
 use Rattle.nqs_types.specs.declared.world.Which.{Which}
 use Rattle.nqs_types.specs.declared.world.Which.TheVariants.{Root, Spool}
@@ -82,7 +83,12 @@ root_pending h k b calls quiet made short some =
     by (call ∷ next ∷ []) short some = last short.1
       where
         last : StopsShort (sync true ∷ []) (next ∷ [])
-            → after (fresh (content h)) (call ∷ next ∷ []) ≡ record { synced = content h; content = written (content h) 0 (byte_of b ∷ []); ranges = (0, 1) ∷ [] }
+            → after (fresh (content h)) (call ∷ next ∷ []) ≡ record {
+              synced = content h;
+              content = written (content h) 0 (byte_of b ∷ []);
+              ranges =
+                  (0, 1) ∷ [];
+            }
         last (inl is) = λ j. after (fresh (content h)) (short.0 j ∷ is j ∷ [])
         last (inr is) = absurd is.1
     by (call ∷ next ∷ more ∷ calls) short some = absurd short.1.1
@@ -159,7 +165,8 @@ module _ {D : Type 0} {g : disk.Ghosts D} (yes : IsTrue g.tells) (old : Store D 
       snapshot_stands image leaves = subst (λ b. StandsBy b true snapshot []) (only_image next image opened.quiet leaves) (small, opened.stands)
 
       -- moments of the root's calls
-      pub root_moments : (k : History) (calls : List Call) → k ≡ extended (mid Root) calls → Moments mid (on Root calls) (λ images. IsTold images (plain_of old host))
+      pub root_moments : (k : History) (calls : List Call) → k ≡ extended (mid Root) calls
+          → Moments mid (on Root calls) (λ images. IsTold images (plain_of old host))
       root_moments k calls did = moments_on mid k Root calls _ did
           (λ w other. rest_of (journal_on (not old.on_second)) next (history_of old) (λ h. (state h).ranges ≡ [])
           (λ u. no_pending (state (history_of old u)) (content (history_of old u)) (quiet yes old host is_told u))
@@ -168,7 +175,8 @@ module _ {D : Type 0} {g : disk.Ghosts D} (yes : IsTrue g.tells) (old : Store D 
           (but (journal_on old.on_second) (journals_apart old.on_second) images (others (journal_on old.on_second) (root_is_no_journal old.on_second)))
           (but Spool (spool_apart (not old.on_second)) images (others Spool (λ is. let no : ⊥ = cc in no)))
           (snapshot_stands (images (journal_on (not old.on_second))) (subst (λ h. IsImage (state h) (images (journal_on (not old.on_second))))
-          (at_disk (journal_on (not old.on_second)) next (history_of old)) (others (journal_on (not old.on_second)) (root_is_no_journal (not old.on_second)))))).0)
+          (at_disk (journal_on (not old.on_second)) next (history_of old))
+          (others (journal_on (not old.on_second)) (root_is_no_journal (not old.on_second)))))).0)
         where
           but : (v : Which) → v ≢ journal_on (not old.on_second) → (images : Which → List ℕ) → IsImage (state (mid v)) (images v)
               → IsImage (state (history_of old v)) (images v)

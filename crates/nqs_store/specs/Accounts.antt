@@ -1,6 +1,6 @@
 -- Lists of extents, with more or fewer.
 use Rattle.std.specs.Prelude.{◌≡◌, ◌↔◌, List, [], ◌∷◌}
-use Rattle.nqs_values.specs.declared.extent.Extent.{Extent}
+use Rattle.nqs_base.specs.declared.extent.Extent.{Extent}
 use Rattle.nqs_spool.specs.Extents.{Has, IsWith, AreApart}
 
 -- the extents are put in somewhere, one after the other

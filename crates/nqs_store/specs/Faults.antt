@@ -1,8 +1,8 @@
 -- What the faults of a store say.
 use Rattle.std.specs.Prelude.{◌≡◌, ◌⊎◌, ℕ, Bool, List, length, Some}
 use Rattle.nqs_types.specs.declared.world.Which.TheVariants.{Root, First, Second, Spool}
-use Rattle.nqs_values.specs.Want.{want}
-use Rattle.nqs_values.specs.declared.extent.Extent.{Extent}
+use Rattle.nqs_base.specs.Want.{want}
+use Rattle.nqs_base.specs.declared.extent.Extent.{Extent}
 use Rattle.nqs_journal.specs.Either.{StandsBy}
 use Rattle.nqs_rules.specs.Journals.{active}
 use Rattle.nqs_types.specs.declared.world.Which.{Which}

@@ -1,6 +1,6 @@
 -- The extents that a host has.
 use Rattle.std.specs.Prelude.{ℕ, List, ◌++◌, map, take, drop}
-use Rattle.nqs_values.specs.declared.extent.Extent.{Extent}
+use Rattle.nqs_base.specs.declared.extent.Extent.{Extent}
 use Rattle.nqs_types.specs.declared.request.Row.{Row}
 use Rattle.nqs_types.specs.declared.request.Promise.{Promise}
 use Rattle.nqs_types.specs.declared.request.Stage.{Stage}

@@ -5,7 +5,7 @@ use Rattle.nqs_state.specs.State.{Plain, content}
 use Rattle.nqs_state.specs.declared.state.HostState.{HostState}
 use Rattle.nqs_types.specs.declared.world.Which.{Which}
 use Rattle.nqs_types.specs.declared.world.Which.TheVariants.{Spool as SpoolDisk}
-use Rattle.nqs_values.specs.Want.{want}
+use Rattle.nqs_base.specs.Want.{want}
 use Rattle.nqs_outside.specs.History.{content as bytes_now}
 use Rattle.nqs_rules.specs.Journals.{journal_on}
 use Rattle.nqs_store.specs.Active.{IsActive}

@@ -1,6 +1,6 @@
 -- Bytes to be stored.
 use Rattle.std.specs.Prelude.{ℕ, ◌≤◌, List, [], ◌∷◌, length}
-use Rattle.nqs_values.specs.declared.extent.Extent.{Extent}
+use Rattle.nqs_base.specs.declared.extent.Extent.{Extent}
 use Rattle.nqs_spool.specs.Extents.{Holds}
 
 -- they are no more than an extent may have

@@ -1,7 +1,7 @@
 -- What putting bytes into a spool leaves.
 use Rattle.std.specs.Prelude.{◌≡◌, ℕ, IsTrue, List, [], ◌++◌, map, length, Ok}
 use Rattle.std.specs.List.{AllByRecursion}
-use Rattle.nqs_values.specs.declared.extent.Extent.{Extent}
+use Rattle.nqs_base.specs.declared.extent.Extent.{Extent}
 use Rattle.nqs_outside.specs.History.{Call, History, content, extended, StopsShort}
 use Rattle.nqs_outside.specs.declared.disk.Disk as disk
 use Rattle.nqs_spool.specs.Spooled.{history_of, Tells}

@@ -1,7 +1,7 @@
 -- Hosts in order.
 use Rattle.std.specs.Prelude.{◌≡◌, Bool, true, nat_le}
 use Rattle.std.specs.List.{list_all}
-use Rattle.nqs_values.specs.declared.extent.Extent.{Extent}
+use Rattle.nqs_base.specs.declared.extent.Extent.{Extent}
 use Rattle.nqs_rules.specs.InOrder.{IsInOrder, IsConsistent}
 use Rattle.nqs_store.specs.Live.{live}
 use Rattle.nqs_store.specs.Told.{Host}

@@ -68,7 +68,8 @@ module _ {D T E : Type 0} (tells : Bool) (history : D → History) (fails : D �
     -- none of them was to fail
     pub clear : IsTrue tells → OnOk result (AreClear (fails old) (moment (history old)) 2)
     -- the first of them were made, of which only the last may have failed
-    pub broken : IsTrue tells → OnErr result ((calls : List Call) × (history now ≡ extended (history old) calls) × StopsShort (begin_calls (byte_of second ∷ [])) calls)
+    pub broken : IsTrue tells → OnErr result ((calls : List Call) × (history now ≡ extended (history old) calls)
+        × StopsShort (begin_calls (byte_of second ∷ [])) calls)
     -- which of them failed is the disk's to say
     pub exact : IsTrue tells → IsExact (fails old) (starves old) (starves now) (history old) (history now) (begin_calls (byte_of second ∷ []))
     -- which calls are to fail stays

@@ -1,7 +1,7 @@
 -- What a store tells.
 use Rattle.std.specs.Prelude.{◌≡◌, ℕ, Bool, false, true, not, List, length, Some}
 use Rattle.nqs_state.specs.State.{Plain}
-use Rattle.nqs_values.specs.declared.extent.Extent.{Extent}
+use Rattle.nqs_base.specs.declared.extent.Extent.{Extent}
 use Rattle.nqs_types.specs.declared.world.Which.{Which}
 use Rattle.nqs_types.specs.declared.world.Which.TheVariants.{Root, First, Second, Spool}
 use Rattle.nqs_rules.specs.Plain.{map_state}

@@ -15,12 +15,12 @@ ghost use Rattle.nqs_store.specs.Steps.{IsTextOf, Names};
 
 use crate::fault::StoreFault;
 use crate::store::Store;
+use nqs_base::Memory;
 use nqs_journal::{Journal, snapshot_text};
 use nqs_outside::{Disk, Failed};
 use nqs_snapshot::write_state;
 use nqs_state::HostState;
 use nqs_types::Which;
-use nqs_values::Memory;
 use std::alloc::Global;
 
 /// The text of a journal that begins with this host, and has no record. What it says is read back.

@@ -1,7 +1,7 @@
 //! Keeping a change of a host.
 
 ghost use Rattle.std.specs.Prelude.{◌≡◌, ◌↔◌, false, IsTrue, IsErrOf, IfErr, vec_capacity};
-ghost use Rattle.nqs_values.specs.Want.{want};
+ghost use Rattle.nqs_base.specs.Want.{want};
 ghost use Rattle.nqs_state.specs.State.{content};
 ghost use Rattle.nqs_rules.specs.Journals.{is_due};
 ghost use Rattle.nqs_snapshot.specs.Spelling.{state_field};
@@ -17,10 +17,10 @@ use crate::free::free_gone;
 use crate::put::{prepared, put_bytes};
 use crate::record::append_to;
 use crate::store::Store;
+use nqs_base::{Bytes, Extent};
 use nqs_outside::Disk;
 use nqs_state::HostState;
 use nqs_types::{Change, Which};
-use nqs_values::{Bytes, Extent};
 use std::alloc::Global;
 
 /// With so many records of the active journal a checkpoint is due.
@@ -63,7 +63,8 @@ impl<D: Disk> Store<D> {
         }
     }
 
-    // Keeps a change: behind a checkpoint, where one is due. Memory for the change was taken before.
+    // Keeps a change: behind a checkpoint, where one is due. Memory for the change was taken
+    // before.
     fn keep(
         &mut self,
         alloc: Global,

@@ -1,10 +1,10 @@
 //! Why a call of the store failed.
 
 ghost use Rattle.std.specs.Prelude.{◌≡◌};
-ghost use Rattle.nqs_values.specs.Want.{want};
+ghost use Rattle.nqs_base.specs.Want.{want};
 
+use nqs_base::Memory;
 use nqs_types::Which;
-use nqs_values::Memory;
 use std::alloc::AllocError;
 use thiserror::Error;
 

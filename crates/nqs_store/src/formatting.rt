@@ -1,7 +1,7 @@
 //! The disks of a host that is formatted.
 
 ghost use Rattle.std.specs.Prelude.{◌≡◌, ◌⊎◌, ◌≤◌, ℕ, List, IsTrue, IsErrOf, OnOk, IfOk, IfErr, length, vec_len, ◌++◌, ◌∷◌, [], Ok};
-ghost use Rattle.nqs_values.specs.Want.{want};
+ghost use Rattle.nqs_base.specs.Want.{want};
 ghost use Rattle.nqs_outside.specs.Causes.{Rose};
 ghost use Rattle.nqs_outside.specs.History.{Call, extended, StopsShort};
 ghost use Rattle.nqs_journal.specs.Text.{header, records};
@@ -13,11 +13,11 @@ ghost use Rattle.nqs_types.specs.declared.change.Change.{Change};
 
 use crate::disks::Disks;
 use crate::fault::StoreFault;
+use nqs_base::{ListOf, Name};
 use nqs_journal::{JournalFault, format_with};
 use nqs_outside::Disk;
 use nqs_records::write_change;
 use nqs_types::{Change, HostId, Which};
-use nqs_values::{ListOf, Name};
 use std::alloc::Global;
 
 // The record of a change. The limits of its values keep it short.

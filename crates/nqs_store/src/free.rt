@@ -4,7 +4,7 @@ ghost use Rattle.std.specs.Prelude.{◌≡◌, nat_lt, if◌then◌else◌, Bool
 ghost use Rattle.std.specs.Option.{option_copied};
 ghost use Rattle.std.specs.Fn.{FnReturnsAt};
 ghost use Rattle.nqs_state.specs.State.{content};
-ghost use Rattle.nqs_values.specs.declared.extent.Extent.{Extent};
+ghost use Rattle.nqs_base.specs.declared.extent.Extent.{Extent};
 ghost use Rattle.nqs_spool.specs.Spooled.{disk_of, Tells};
 ghost use Rattle.nqs_state.specs.Keys.{is_stage, is_file};
 ghost use Rattle.nqs_rules.specs.Tests.{last_u64};
@@ -17,8 +17,9 @@ ghost use Rattle.nqs_store.specs.Accounts.{Takes};
 ghost use Rattle.nqs_store.specs.Calls.{Frees};
 ghost use Rattle.nqs_store.specs.Frees.{part_of, goes_at_boot, stages_left, numbers_left, row_of_hand, doubled, gone};
 
+use nqs_base::{Extent, Key, Keyed, Name};
+use nqs_base_tables::Table;
 use nqs_changes::boot::may_start_again;
-use nqs_keyed::Table;
 use nqs_outside::Disk;
 use nqs_routing::find_peer;
 use nqs_spool::Spool;
@@ -27,7 +28,6 @@ use nqs_types::{
     Change, ConfEdit, Edit, FileOut, HostId, OutPart, PeerNumber, Promise, RequestId, Row,
     RowState, Stage,
 };
-use nqs_values::{Extent, Key, Keyed, Name};
 
 // The extent of a value, if there is one.
 fn free_one<D: Disk, V, F: Fn(&V) -> Extent>(spool: &mut Spool<D>, found: Option<&V>, part: F)

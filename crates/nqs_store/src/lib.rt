@@ -1,10 +1,11 @@
 //! The durable state of a host: a journal of its changes, and a spool of its scripts and outputs.
 //!
-//! A change is one record of the active journal, which the first byte of the disk `root` names: that
-//! on `second`, where it is odd, or that on `first`. Its scripts and outputs stand in extents of the
-//! disk `spool`, which the record names. The host that a journal tells (`specs/Told.antt`) begins
-//! with the record that formats it, or with a snapshot; each other record is a change that fits what
-//! those before it tell. Its extents (`specs/Live.antt`) end within the spool, and no two meet.
+//! A change is one record of the active journal, which the first byte of the disk `root` names:
+//! that on `second`, where it is odd, or that on `first`. Its scripts and outputs stand in extents
+//! of the disk `spool`, which the record names. The host that a journal tells (`specs/Told.antt`)
+//! begins with the record that formats it, or with a snapshot; each other record is a change that
+//! fits what those before it tell. Its extents (`specs/Live.antt`) end within the spool, and no two
+//! meet.
 //!
 //! A change is kept by `commit.rt`: its bytes go to the spool (`put.rt`), then its record to the
 //! journal (`record.rt`), and then the extents that it takes away are free (`free.rt`). Where the

@@ -3,13 +3,13 @@
 ghost use Rattle.std.specs.Prelude.{◌≡◌, ◌++◌, map, OnOk, IfOk};
 ghost use Rattle.std.specs.Fn.{FnReturnsAt};
 ghost use Rattle.nqs_state.specs.State.{content};
-ghost use Rattle.nqs_values.specs.declared.extent.Extent.{Extent};
+ghost use Rattle.nqs_base.specs.declared.extent.Extent.{Extent};
 ghost use Rattle.nqs_store.specs.Live.{live};
 
-use nqs_keyed::Table;
+use nqs_base::{Extent, Key, Keyed, Memory};
+use nqs_base_tables::Table;
 use nqs_state::HostState;
 use nqs_types::{FileOut, Promise, Row, Stage};
-use nqs_values::{Extent, Key, Keyed, Memory};
 use std::alloc::Global;
 
 // The extents of a table, behind those that are there.

@@ -2,7 +2,7 @@
 
 ghost use Rattle.std.specs.Prelude.{◌≡◌, ◌≢◌, ◌↔◌, ◌<◌, ◌≤◌, ◌+◌, ◌-◌, ◌++◌, ℕ, IsTrue, IsErrOf, OnOk, OnErr, IfErr, false, length};
 ghost use Rattle.std.specs.Prelude.{max, nat_le, vec_capacity};
-ghost use Rattle.nqs_values.specs.Want.{want};
+ghost use Rattle.nqs_base.specs.Want.{want};
 ghost use Rattle.nqs_types.specs.declared.world.Which.{Which};
 ghost use Rattle.nqs_types.specs.declared.world.Which.TheVariants.{Spool};
 ghost use Rattle.nqs_outside.specs.History.{moment, IsWhole};
@@ -15,11 +15,11 @@ ghost use Rattle.nqs_store.specs.Faults.{IsScriptFault};
 use crate::fault::{LoadFault, StoreFault};
 use crate::reading::{names_second, reread_host};
 use crate::store::Store;
+use nqs_base::Extent;
 use nqs_outside::{Disk, Fused};
 use nqs_spool::SpoolFault;
 use nqs_state::HostState;
 use nqs_types::Which;
-use nqs_values::Extent;
 use std::alloc::Global;
 
 impl<D: Disk> Store<D> {
@@ -80,8 +80,8 @@ impl<D: Fused> Store<D> {
     ghost use Rattle.nqs_store.specs.Stores.{disk_of, history_of, fails_of, ends_of, is_starved, is_stopped, active_of, Tells};
 
     /// Makes the calls-th write or sync from here of the disk fail, and each later call of it, and
-    /// no other of that disk. It changes nothing else. Where a call of that disk was made from which
-    /// on each one is to fail, that stays so.
+    /// no other of that disk. It changes nothing else. Where a call of that disk was made from
+    /// which on each one is to fail, that stays so.
     pub fn fuse(&mut self, which: Which, calls: u64)
         ensures same { (disk : Which) → history_of self.new disk ≡ history_of self.old disk }
         ensures set { IsTrue D.tells → ((i : ℕ) → i < moment (history_of self.old which) → fails_of self.old which i ≡ false)

@@ -2,8 +2,8 @@
 
 ghost use Rattle.std.specs.Prelude.{◌≡◌, ◌+◌, ◌<◌, ◌≤◌, [], List, IsTrue, OnOk, OnErr, IfOk, IfErr, drop, length, vec_len, vec_capacity};
 ghost use Rattle.std.specs.List.{AllByRecursion};
-ghost use Rattle.nqs_values.specs.Want.{want};
-ghost use Rattle.nqs_values.specs.declared.extent.Extent.{Extent};
+ghost use Rattle.nqs_base.specs.Want.{want};
+ghost use Rattle.nqs_base.specs.declared.extent.Extent.{Extent};
 ghost use Rattle.nqs_outside.specs.History.{Call, extended};
 ghost use Rattle.nqs_spool.specs.Spooled.{disk_of, history_of, room_of, Tells};
 ghost use Rattle.nqs_rules.specs.Stepped.{stored_parts};
@@ -15,11 +15,11 @@ ghost use Rattle.nqs_records.specs.Extents.{first_or, parts_with, with_extents};
 
 use crate::fault::StoreFault;
 use crate::formatting::{read_back, written};
+use nqs_base::{Bytes, Extent, Items};
 use nqs_outside::{Disk, Failed};
 use nqs_records::put_extents;
 use nqs_spool::Spool;
 use nqs_types::{Change, OutPart};
-use nqs_values::{Bytes, Extent, Items};
 use std::alloc::Global;
 
 /// Puts each list of bytes, at most 32,768 of them, and adds its extent. Room was made for them in

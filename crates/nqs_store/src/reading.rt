@@ -4,8 +4,8 @@
 ghost use Rattle.std.specs.Prelude.{◌≡◌, ◌⊎◌, ◌<◌, ◌≤◌, ◌^◌, ◌++◌, ℕ, List, false, Some, IsTrue, IsErrOf, IfOk, IfErr, OnErr, MatchResult, length};
 ghost use Rattle.std.specs.List.{AllByRecursion};
 ghost use Rattle.nqs_state.specs.State.{content};
-ghost use Rattle.nqs_values.specs.Want.{want};
-ghost use Rattle.nqs_values.specs.declared.extent.Extent.{Extent};
+ghost use Rattle.nqs_base.specs.Want.{want};
+ghost use Rattle.nqs_base.specs.declared.extent.Extent.{Extent};
 ghost use Rattle.nqs_types.specs.declared.world.Which.{Which};
 ghost use Rattle.nqs_outside.specs.History.{IsQuiet, content as bytes_now};
 ghost use Rattle.nqs_rules.specs.Journals.{is_second};
@@ -27,12 +27,12 @@ ghost use Rattle.nqs_store.specs.Reads.{OnlyReadsOne, OneFailedToRead};
 use crate::fault::LoadFault;
 use crate::live::live_extents;
 use crate::tell::{TellFault, tell};
+use nqs_base::{Bytes, Extent};
 use nqs_journal::{Journal, JournalFault, read_either};
 use nqs_outside::{Disk, Failed};
 use nqs_spool::{ExtentFault, LiveExtents, Spool};
 use nqs_state::HostState;
 use nqs_types::Which;
-use nqs_values::{Bytes, Extent};
 use std::alloc::Global;
 
 /// Whether the root names the journal on `second`: its first byte is odd.

@@ -51,7 +51,8 @@ pub fn read_only<D: Disk>(alloc: Global, disks: &mut Disks<D>) -> Result<HostSta
         → FailedToRead D.tells D.history D.fails D.faults (λ at. disk_at at disks.old) (λ at. disk_at at disks.new) which }
 
     // The host is the one that the bytes tell, and where they tell one they are at fault nowhere.
-    ensures host { IsTrue D.tells → (host : Host) → IsToldHost (contents (histories_of D.history disks.old)) host → IfOk result (λ state. content state ≡ host) }
+    ensures host { IsTrue D.tells → (host : Host) → IsToldHost (contents (histories_of D.history disks.old)) host
+        → IfOk result (λ state. content state ≡ host) }
     ensures never { IsTrue D.tells → (plain : Plain) → IsTold (contents (histories_of D.history disks.old)) plain
         → (which : Which) (place : ℕ) → IsErrOf result (LoadFault.NotNqs which place) → ⊥ }
 

@@ -1,9 +1,10 @@
 //! The host that a journal tells: its records are changes, of which each fits what those before it
 //! tell. The first one formats the host, or a snapshot stands in its place.
 //!
-//! Only a start makes a request run, and a boot leaves none running. So those that run in a snapshot
-//! and those that started since, or since the last boot, are kept beside the host, and a boot looks at these alone: a journal is told in
-//! the time of its records, however many of them are boots.
+//! Only a start makes a request run, and a boot leaves none running. So those that run in a
+//! snapshot and those that started since, or since the last boot, are kept beside the host, and a
+//! boot looks at these alone: a journal is told in the time of its records, however many of them
+//! are boots.
 
 ghost use Rattle.std.specs.Prelude.{◌≡◌, ◌≤◌, ◌^◌, ◌+◌, ◌++◌, [], length, IfOk, IfErr, OnOk, Ok, Err, Some, None, true, false, IsTrue};
 ghost use Rattle.nqs_state.specs.State.{content};
@@ -16,7 +17,7 @@ ghost use Rattle.nqs_changes.specs.Running.{runs_in, runs_only, may_run};
 ghost use Rattle.nqs_journal.specs.Text.{header, snapshot_front, records};
 ghost use Rattle.nqs_journal.specs.Either.{front_of};
 ghost use Rattle.nqs_snapshot.specs.Reading.{snapshot_of};
-ghost use Rattle.nqs_values.specs.declared.extent.Extent.{Extent};
+ghost use Rattle.nqs_base.specs.declared.extent.Extent.{Extent};
 ghost use Rattle.nqs_types.specs.declared.request.Row.{Row as RowOf};
 ghost use Rattle.nqs_records.specs.Kinds.{record_of};
 ghost use Rattle.nqs_records.specs.Changes.{MayStand};
@@ -24,15 +25,15 @@ ghost use Rattle.nqs_records.specs.declared.fault.RecordFault.{RecordFault};
 ghost use Rattle.nqs_store.specs.Told.{record_taken, told, told_from, told_by};
 ghost use Rattle.nqs_store.specs.Sound.{IsSoundHost};
 ghost use Rattle.nqs_store.specs.TellFaults.{IsRefused, IsTakenFault, IsTellFault};
-ghost use Rattle.nqs_values.specs.Want.{want};
+ghost use Rattle.nqs_base.specs.Want.{want};
 
+use nqs_base::{Bytes, Memory};
 use nqs_changes::boot::boot_running;
 use nqs_host::{apply, fits, formatted};
 use nqs_records::{RecordFault, read_change};
 use nqs_snapshot::read_state;
 use nqs_state::HostState;
 use nqs_types::{Change, RequestId, Row, RowState};
-use nqs_values::{Bytes, Memory};
 use std::alloc::Global;
 
 /// Bytes of a journal's header.

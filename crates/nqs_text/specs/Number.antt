@@ -2,7 +2,7 @@
 use Rattle.std.specs.Prelude.{◌≡◌, ℕ, ◌+◌, ◌-◌, ◌*◌, ◌^◌, ◌<◌, ◌≤◌, not, List, [], ◌∷◌, length, Option, Some, None, Ok, Err}
 use Rattle.std.specs.List.{position}
 use Rattle.std.specs.declared.result.Result.{Result}
-use Rattle.nqs_values.specs.Name.{is_digit}
+use Rattle.nqs_base.specs.Name.{is_digit}
 use Rattle.nqs_text.specs.declared.number.NumberFault.{NumberFault}
 use Rattle.nqs_text.specs.declared.number.NumberFault.TheVariants.{Empty, BadByte, TooLarge}
 

@@ -1,7 +1,7 @@
 //! Plain numbers: one or more decimal digits; leading zeros are allowed.
 
 ghost use Rattle.std.specs.Prelude.{◌≡◌, ◌^◌, ◌≤◌, MatchOption};
-ghost use Rattle.nqs_values.specs.Name.{is_digit};
+ghost use Rattle.nqs_base.specs.Name.{is_digit};
 ghost use Rattle.nqs_text.specs.Number.{decimal, first_other, ReadsNumber};
 
 /// Why bytes are no number.

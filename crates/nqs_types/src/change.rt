@@ -3,7 +3,7 @@
 use crate::edit::Edit;
 use crate::ids::{HostId, PeerNumber, RequestId};
 use crate::request::{Carried, Job};
-use nqs_values::{Bytes, Extent, Items, ListOf, Name, NameList};
+use nqs_base::{Bytes, Extent, Items, ListOf, Name, NameList};
 
 /// One output of a job: the path that it goes to, and its bytes.
 #[derive(Drop)]

@@ -2,7 +2,7 @@
 //! `docs/rules.md` has who may make each of them and what it does.
 
 use crate::ids::{Named, NamedDest};
-use nqs_values::Name;
+use nqs_base::Name;
 
 /// Edits of queues and of the host's parameters.
 #[derive(Clone, Copy)]

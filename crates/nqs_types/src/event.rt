@@ -9,7 +9,7 @@ use crate::ids::{Named, RequestId};
 use crate::message::Message;
 use crate::refusal::Refusal;
 use crate::request::{Job, Limits};
-use nqs_values::{Bytes, Extent, Items, ListOf, Name, NameList};
+use nqs_base::{Bytes, Extent, Items, ListOf, Name, NameList};
 
 /// A request to be made. Without a queue it goes to the host's default queue.
 #[derive(Drop)]

@@ -1,6 +1,6 @@
 //! How hosts, requests, handovers and destinations are named.
 
-use nqs_values::Name;
+use nqs_base::Name;
 
 /// A host, by its place in the site's list, from 0.
 #[derive(Clone, Copy, Debug, PartialEq, Eq, Hash)]

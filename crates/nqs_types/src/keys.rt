@@ -3,7 +3,7 @@
 use crate::ids::{PeerNumber, RequestId};
 use crate::queue::{ComplexDef, DeviceDef, QueueDef};
 use crate::request::{FileOut, Hand, Promise, Row, Stage};
-use nqs_values::{Key, Keyed, Name};
+use nqs_base::{Key, Keyed, Name};
 
 impl Key for RequestId {
     ghost use Rattle.nqs_types.specs.Ids.{id_exact};

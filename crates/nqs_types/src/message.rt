@@ -5,7 +5,7 @@ ghost use Rattle.nqs_types.specs.declared.message.Body.TheVariants.{Offer, Stage
 
 use crate::ids::{HostId, RequestId};
 use crate::request::Carried;
-use nqs_values::{Bytes, Items, Name};
+use nqs_base::{Bytes, Items, Name};
 use std::alloc::AllocError;
 
 /// A command of a client.

@@ -2,7 +2,7 @@
 
 use crate::ids::Dest;
 use crate::request::Limits;
-use nqs_values::{ListOf, Name, NameList};
+use nqs_base::{ListOf, Name, NameList};
 
 /// The destinations of a pipe queue, in the order in which they are tried.
 pub type DestList = ListOf<Dest>;

@@ -1,6 +1,6 @@
 //! What is told of a request that doesn't start, and of a destination of its queue.
 
-use nqs_values::Name;
+use nqs_base::Name;
 
 /// Why a request doesn't start at a moment (docs/rules.md, "Why a request waits"). The cases stand
 /// in the order in which they are told, but that a queue of one kind has the conditions of that

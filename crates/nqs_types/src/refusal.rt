@@ -1,7 +1,7 @@
 //! Why a command, an offer or a local move is refused.
 
 use crate::ids::Named;
-use nqs_values::Name;
+use nqs_base::Name;
 use std::fmt;
 
 /// A refusal, one variant a number, from 1 to 33 in this order.

@@ -2,7 +2,7 @@
 ghost use Rattle.std.specs.Prelude.{◌≡◌};
 
 use crate::ids::{Dest, HostId, RequestId};
-use nqs_values::{Bytes, Extent, ListOf, Name};
+use nqs_base::{Bytes, Extent, ListOf, Name};
 use std::alloc::AllocError;
 
 /// What a request or a queue limits: seconds of processor time, and bytes of memory.

@@ -1,7 +1,7 @@
 //! The rows of the network table, which `show` prints.
 
 use crate::ids::{HostId, RequestId};
-use nqs_values::Name;
+use nqs_base::Name;
 
 /// The state of a request in the network table.
 #[derive(Clone, Copy, Debug, PartialEq, Eq)]

@@ -4,7 +4,7 @@ use crate::event::Reply;
 use crate::ids::{HostId, RequestId};
 use crate::message::BodyKind;
 use crate::table_row::TableRow;
-use nqs_values::{Bytes, Items, Name, Tear};
+use nqs_base::{Bytes, Items, Name, Tear};
 
 /// A disk of a host.
 #[derive(Clone, Copy, Debug, PartialEq, Eq)]

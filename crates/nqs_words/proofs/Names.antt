@@ -4,10 +4,10 @@ use Rattle.std.proofs.lemmas.Bool.{and_parts, and_from}
 use Rattle.std.proofs.lemmas.List.Sums.{AllPass-from_list_all}
 use Rattle.std.specs.List.{list_all}
 use Rattle.std.proofs.lemmas.Bool.Decides.{nat_tests}
-use Rattle.nqs_values.specs.Name.{IsName, AllowedBelow, is_letter}
-use Rattle.nqs_values.specs.NameRead.{ReadsName}
-use Rattle.nqs_values.specs.declared.name.NameFault.{NameFault}
-use Rattle.nqs_values.specs.declared.name.NameFault.TheVariants.{Empty, Long, BadByte}
+use Rattle.nqs_base.specs.Name.{IsName, AllowedBelow, is_letter}
+use Rattle.nqs_base.specs.NameRead.{ReadsName}
+use Rattle.nqs_base.specs.declared.name.NameFault.{NameFault}
+use Rattle.nqs_base.specs.declared.name.NameFault.TheVariants.{Empty, Long, BadByte}
 use Rattle.nqs_words.specs.Values.{is_name, is_name_byte, begins_as_name, name_of}
 
 passes : (bs : List ℕ) → ((i : ℕ) → i < length bs → IsTrue (is_name_byte (get_or bs i 0))) → list_all is_name_byte bs ≡ true

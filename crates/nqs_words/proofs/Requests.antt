@@ -5,8 +5,8 @@ use Rattle.std.specs.List.{position_or_len}
 use Rattle.std.proofs.lemmas.Bool.{and_parts, and_from, eqb-true}
 use Rattle.std.proofs.lemmas.Bool.Decides.{nat_tests}
 use Rattle.std.proofs.lemmas.List.{append-nil, length-append, take_at, drop_at}
-use Rattle.nqs_values.proofs.Plain.{lt_is_true, lt_itself, le_of_false, le_of_true}
-use Rattle.nqs_values.specs.Name.{IsName, is_digit}
+use Rattle.nqs_base.proofs.Plain.{lt_is_true, lt_itself, le_of_false, le_of_true}
+use Rattle.nqs_base.specs.Name.{IsName, is_digit}
 use Rattle.nqs_types.specs.declared.ids.Named.{Named}
 use Rattle.nqs_text.specs.Number.{decimal, first_other, AreDigits}
 use Rattle.nqs_words.specs.Values.{is_name, name_of, are_digits, number_of, begins_with_zero, seq_of, place_of, with_host, of_parts, split_named, named_of}

@@ -4,7 +4,7 @@ use Rattle.std.proofs.Common.{nat_lt}
 use Rattle.std.specs.Prelude.{ℤ, pos, negsuc, ◌+ℤ◌, ◌*ℤ◌}
 use Rattle.std.proofs.lemmas.Bool.{and_parts, and_from}
 use Rattle.std.proofs.lemmas.Bool.Decides.{nat_tests}
-use Rattle.nqs_values.proofs.Plain.{lt_of_true, le_of_true}
+use Rattle.nqs_base.proofs.Plain.{lt_of_true, le_of_true}
 use Rattle.jiff_core.specs.Calendar.{IsDate, days_in_month, days_from_civil}
 use Rattle.jiff_core.proofs.SignedLemmas.{signed_arith}
 use Rattle.nqs_moments.specs.Moment.{IsSecond, ReadsMoment}

@@ -1,7 +1,7 @@
 -- How requests are written, apart from how they are read.
 use Rattle.std.specs.Prelude.{◌≡◌, ◌≢◌, ◌⊎◌, ◌↔◌, ◌≤◌, ℕ, false, List, [], ◌∷◌, ◌++◌, All, Ok, Err}
 use Rattle.std.specs.declared.result.Result.{Result}
-use Rattle.nqs_values.specs.Name.{IsName}
+use Rattle.nqs_base.specs.Name.{IsName}
 use Rattle.nqs_types.specs.declared.ids.Named.{Named}
 use Rattle.nqs_text.specs.Number.{decimal, AreDigits}
 use Rattle.nqs_words.specs.Values.{begins_with_zero, named_of}

@@ -3,7 +3,7 @@ use Rattle.std.specs.Prelude.{ℕ, ◌+◌, Bool, false, ◌&&◌, ◌||◌, ◌
 use Rattle.std.specs.Prelude.{Err}
 use Rattle.std.specs.List.{position, list_all}
 use Rattle.std.specs.declared.result.Result.{Result}
-use Rattle.nqs_values.specs.Name.{is_letter, is_digit}
+use Rattle.nqs_base.specs.Name.{is_letter, is_digit}
 use Rattle.nqs_types.specs.declared.ids.Named.{Named}
 use Rattle.nqs_types.specs.declared.ids.NamedDest.{NamedDest}
 use Rattle.nqs_text.specs.Number.{decimal, first_other}

@@ -5,9 +5,9 @@
 ghost use Rattle.std.specs.Prelude.{◌≡◌, ◌≤◌, length, IfOk};
 ghost use Rattle.nqs_words.specs.Quoted.{step_of, escape_of, ReadsQuoted};
 ghost use Rattle.nqs_words.specs.declared.quoted.QuoteFault.TheVariants.{Memory};
-ghost use Rattle.nqs_values.specs.Want.{want};
+ghost use Rattle.nqs_base.specs.Want.{want};
 
-use nqs_values::Memory;
+use nqs_base::Memory;
 use std::alloc::{AllocFailed, Global};
 
 /// What stands first within quotes.

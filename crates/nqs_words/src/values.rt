@@ -3,9 +3,9 @@
 ghost use Rattle.std.specs.Prelude.{◌≡◌, ◌<◌, ◌≤◌, length, IfSome};
 ghost use Rattle.nqs_words.specs.Values.{name_of, number_of, seq_of, begins_with_zero, place_of, split_named, named_of, split_dest, dest_of};
 
+use nqs_base::Name;
 use nqs_text::read_u64;
 use nqs_types::{Named, NamedDest};
-use nqs_values::Name;
 
 /// Why a word is no request.
 #[derive(Clone, Copy, PartialEq, Eq)]

@@ -4,8 +4,8 @@ use Rattle.nqs_rules.specs.World.{World, Act, Calls, Fuse, Crashes, Boots, Shows
 use Rattle.nqs_rules.specs.Run.{run}
 use Rattle.nqs_rules.specs.Transcript.{transcript}
 use Rattle.nqs_worked.specs.ScheduleWords.{host, edits, submits, one_host}
-use Rattle.nqs_values.specs.declared.tear.Tear.{Tear}
-use Rattle.nqs_values.specs.declared.tear.Tear.TheVariants.{Old, New}
+use Rattle.nqs_base.specs.declared.tear.Tear.{Tear}
+use Rattle.nqs_base.specs.declared.tear.Tear.TheVariants.{Old, New}
 use Rattle.nqs_types.specs.declared.world.Which.TheVariants.{Root, First, Second}
 use Rattle.nqs_types.specs.declared.edit.Edit.TheVariants.{Conf}
 use Rattle.nqs_types.specs.declared.edit.ConfEdit.TheVariants.{StartQueue}

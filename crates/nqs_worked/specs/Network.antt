@@ -2,7 +2,7 @@
 use Rattle.std.specs.Prelude.{true, false, List, [], ◌∷◌, ◌++◌, codes, None, Some}
 use Rattle.nqs_rules.specs.World.{Act, Asks, Ends, Writes, Delivers, Ticks, Clock, Fuse, Crashes, Boots, Shows}
 use Rattle.nqs_worked.specs.ScheduleWords.{host, request, named, typed, job_of, submission}
-use Rattle.nqs_values.specs.declared.tear.Tear.TheVariants.{New}
+use Rattle.nqs_base.specs.declared.tear.Tear.TheVariants.{New}
 use Rattle.nqs_types.specs.declared.world.Which.TheVariants.{First}
 use Rattle.nqs_types.specs.declared.event.Command.TheVariants.{Edit, Delete}
 use Rattle.nqs_types.specs.declared.edit.Edit.TheVariants.{Conf, Access, Devices, Rows}

@@ -2,7 +2,7 @@
 use Rattle.std.specs.Prelude.{false, List, [], ◌∷◌, codes, None, Some}
 use Rattle.nqs_rules.specs.World.{Act, Asks, Ends, Writes, Delivers, Ticks, Fuse, Crashes, Boots, Shows}
 use Rattle.nqs_worked.specs.ScheduleWords.{host, request, named, typed, job_of, submission, unread_words}
-use Rattle.nqs_values.specs.declared.tear.Tear.TheVariants.{Old, New}
+use Rattle.nqs_base.specs.declared.tear.Tear.TheVariants.{Old, New}
 use Rattle.nqs_types.specs.declared.world.Which.TheVariants.{First}
 use Rattle.nqs_types.specs.declared.fault.GrammarFault.TheVariants.{Ambiguous}
 use Rattle.nqs_types.specs.declared.fault.WordsCause.TheVariants.{BadNumber, Both}

@@ -11,8 +11,8 @@ use Rattle.nqs_types.specs.declared.ids.NamedDest.{NamedDest}
 use Rattle.nqs_types.specs.declared.request.Job.{Job}
 use Rattle.nqs_types.specs.declared.fault.WordsCause.{WordsCause}
 use Rattle.nqs_types.specs.declared.fault.WordsFault.{WordsFault}
-use Rattle.nqs_values.specs.declared.tear.Tear.{Tear}
-use Rattle.nqs_values.specs.declared.tear.Tear.TheVariants.{Old, New, Mixed}
+use Rattle.nqs_base.specs.declared.tear.Tear.{Tear}
+use Rattle.nqs_base.specs.declared.tear.Tear.TheVariants.{Old, New, Mixed}
 use Rattle.nqs_types.specs.declared.world.Which.{Which}
 use Rattle.nqs_types.specs.declared.event.Command.{Command}
 use Rattle.nqs_types.specs.declared.event.Command.TheVariants.{Submit, Edit as EditOf, UnreadWords}

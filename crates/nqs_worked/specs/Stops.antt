@@ -2,7 +2,7 @@
 use Rattle.std.specs.Prelude.{true, false, List, [], ◌∷◌, codes, Some}
 use Rattle.nqs_rules.specs.World.{Act, Asks, Ends, Finishes, Fails, Writes, Leaves, Ticks, Clock, Fuse, Crashes, Boots, Shows}
 use Rattle.nqs_worked.specs.ScheduleWords.{host, request, job_of, submission, edits, submits}
-use Rattle.nqs_values.specs.declared.tear.Tear.TheVariants.{Old, New}
+use Rattle.nqs_base.specs.declared.tear.Tear.TheVariants.{Old, New}
 use Rattle.nqs_types.specs.declared.world.Which.TheVariants.{Root, First, Second, Spool}
 use Rattle.nqs_types.specs.declared.event.Command.TheVariants.{Shutdown}
 use Rattle.nqs_types.specs.declared.edit.Edit.TheVariants.{Conf}

@@ -1,6 +1,6 @@
 //! Runs of a host whose active journal is nearly full, so that changes begin with checkpoints.
 ghost use Rattle.std.specs.Prelude.{◌≡◌, codes, [], ◌∷◌};
-ghost use Rattle.nqs_values.specs.declared.tear.Tear.TheVariants.{Old, New, Mixed};
+ghost use Rattle.nqs_base.specs.declared.tear.Tear.TheVariants.{Old, New, Mixed};
 ghost use Rattle.nqs_rules.specs.Transcript.{lines};
 ghost use Rattle.nqs_worked.specs.Checkpoints.{told_from, journals_from, stop_at_the_root, boot_stops_twice, start_turns_over, fuse_waits};
 
@@ -64,7 +64,8 @@ pub fn start_turns_over()
     ensures left { journals_from [] 4094 start_turns_over ≡ (1 ∷ [], 2, record { root = 0; first = 0; second = 8; spool = 0 }) ∷ [] }
 {}
 
-/// A fuse on the disk of the journal that rests waits for the next checkpoint and goes on behind it.
+/// A fuse on the disk of the journal that rests waits for the next checkpoint and goes on behind
+/// it.
 pub fn fuse_waits()
     ensures told { told_from (1 ∷ []) 4095 fuse_waits ≡ lines (
         codes "Request 1.alpha submitted to queue: batch."

@@ -13,7 +13,7 @@ ghost use Rattle.nqs_types.specs.declared.edit.DevicesEdit.TheVariants.{CreateDe
 ghost use Rattle.nqs_types.specs.declared.edit.RowsEdit.TheVariants.{HoldRequest, ReleaseRequest, MoveRequest, ModifyRequest};
 ghost use Rattle.nqs_types.specs.declared.queue.Access.TheVariants.{Users};
 ghost use Rattle.nqs_types.specs.declared.rule.Entry.TheVariants.{Direct, FromPipe};
-ghost use Rattle.nqs_values.specs.declared.tear.Tear.TheVariants.{Old, New, Mixed};
+ghost use Rattle.nqs_base.specs.declared.tear.Tear.TheVariants.{Old, New, Mixed};
 ghost use Rattle.nqs_types.specs.declared.refusal.Refusal.TheVariants.{Disabled, PipeOnly, NoAccess, OverCpu, OverMemory, TooMany, NumbersUsed, RequestExists};
 ghost use Rattle.nqs_types.specs.declared.refusal.Refusal.TheVariants.{HostFull};
 ghost use Rattle.nqs_types.specs.declared.request.RowState.TheVariants.{Queued, Running};
@@ -34,7 +34,7 @@ ghost use Rattle.nqs_rules.specs.Tests.{last_u64, last_seq};
 ghost use Rattle.nqs_rules.specs.Format.{first_queue, new_peer};
 ghost use Rattle.nqs_rules.specs.Causes.{first_refusal};
 ghost use Rattle.nqs_rules.specs.Find.{peer_number};
-ghost use Rattle.nqs_values.specs.Path.{is_path};
+ghost use Rattle.nqs_base.specs.Path.{is_path};
 ghost use Rattle.nqs_rules.specs.Access.{may_use};
 ghost use Rattle.nqs_rules.specs.Conf.{is_conf_within};
 ghost use Rattle.nqs_rules.specs.Limits.{over_limits, is_limits_within};

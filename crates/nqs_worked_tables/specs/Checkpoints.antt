@@ -3,8 +3,8 @@ use Rattle.std.specs.Prelude.{ℕ, List, [], ◌∷◌, map, flat_map, length, c
 use Rattle.nqs_rules.specs.Notes.{ByStart}
 use Rattle.nqs_rules.specs.World.{Host, Fuses, Calls, Fate, fate, fused, no_fuses, makes_change, new_host, new_world}
 use Rattle.nqs_worked.specs.ScheduleWords.{host, job_of, one_host}
-use Rattle.nqs_values.specs.declared.tear.Tear.{Tear}
-use Rattle.nqs_values.specs.declared.tear.Tear.TheVariants.{Old, New, Mixed}
+use Rattle.nqs_base.specs.declared.tear.Tear.{Tear}
+use Rattle.nqs_base.specs.declared.tear.Tear.TheVariants.{Old, New, Mixed}
 use Rattle.nqs_types.specs.declared.world.Which.{Which}
 use Rattle.nqs_types.specs.declared.change.Change.TheVariants.{Submitted}
 

@@ -5,8 +5,8 @@ use Rattle.nqs_rules.specs.World.{World, Host, Act, Asks, Ends, Fails, Writes, L
 use Rattle.nqs_rules.specs.World.{new_world, new_host}
 use Rattle.nqs_rules.specs.Run.{run, run_of}
 use Rattle.nqs_worked.specs.ScheduleWords.{host, request, typed, job_of, submission, edits, one_host, two_hosts}
-use Rattle.nqs_values.specs.declared.tear.Tear.{Tear}
-use Rattle.nqs_values.specs.declared.tear.Tear.TheVariants.{Old, New}
+use Rattle.nqs_base.specs.declared.tear.Tear.{Tear}
+use Rattle.nqs_base.specs.declared.tear.Tear.TheVariants.{Old, New}
 use Rattle.nqs_types.specs.declared.world.Which.TheVariants.{First}
 use Rattle.nqs_types.specs.declared.world.Seen.{Seen}
 use Rattle.nqs_types.specs.declared.message.Message.{Message}

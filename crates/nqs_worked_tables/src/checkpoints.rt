@@ -1,7 +1,7 @@
 //! Checkpoints: which journal a root names, where a fuse falls in a change that begins with a
 //! checkpoint, and what a stop leaves there of root, records and requests.
 ghost use Rattle.std.specs.Prelude.{◌≡◌, codes, [], ◌∷◌, ◌++◌, map, replicate, true, false, Some};
-ghost use Rattle.nqs_values.specs.declared.tear.Tear.TheVariants.{Old, New, Mixed};
+ghost use Rattle.nqs_base.specs.declared.tear.Tear.TheVariants.{Old, New, Mixed};
 ghost use Rattle.nqs_types.specs.declared.world.Which.TheVariants.{Root, First, Second, Spool};
 ghost use Rattle.nqs_rules.specs.Format.{formatted};
 ghost use Rattle.nqs_rules.specs.Journals.{is_second, active, resting, turned, is_due, torn_root, names_same};
@@ -35,8 +35,9 @@ pub fn roots_are_torn()
         ≡ (4 ∷ 9 ∷ []) ∷ (1 ∷ 9 ∷ []) ∷ (4 ∷ 9 ∷ []) ∷ (1 ∷ 9 ∷ []) ∷ (7 ∷ 9 ∷ []) ∷ (255 ∷ 9 ∷ []) ∷ [] }
 {}
 
-/// How a change ends that begins with a checkpoint: the other journal's disk has two calls of it and
-/// then four of the record, root two, the spool two; the disk of the journal that was active none.
+/// How a change ends that begins with a checkpoint: the other journal's disk has two calls of it
+/// and then four of the record, root two, the spool two; the disk of the journal that was active
+/// none.
 pub fn fuses_fall_in_checkpoints()
     ensures second { map (λ tear. fates_at [] 4096 tear Second) six_tears
         ≡ (replicate 6 StoppedBefore ++ Made ∷ []) ∷ (replicate 4 StoppedBefore ++ StoppedAfter ∷ StoppedAfter ∷ Made ∷ [])

@@ -1,7 +1,7 @@
 //! The world: how many calls each change makes, where fuses fall, which packet is meant, and what
 //! is seen of hosts that are up and down.
 ghost use Rattle.std.specs.Prelude.{◌≡◌, codes, [], ◌∷◌, ◌++◌, map, replicate, true, false, None, Some};
-ghost use Rattle.nqs_values.specs.declared.tear.Tear.TheVariants.{Old, New, Mixed};
+ghost use Rattle.nqs_base.specs.declared.tear.Tear.TheVariants.{Old, New, Mixed};
 ghost use Rattle.nqs_types.specs.declared.world.Which.TheVariants.{Root, First, Second, Spool};
 ghost use Rattle.nqs_types.specs.declared.world.Seen.TheVariants as seen;
 ghost use Rattle.nqs_types.specs.declared.message.Body.TheVariants as body;

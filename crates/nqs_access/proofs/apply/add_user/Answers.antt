@@ -2,7 +2,7 @@ use Rattle.std.proofs.Common.{ap, sym, ◌≡◌, ◌∙◌}
 use Rattle.std.proofs.lemmas.Option.{same_Some}
 use Rattle.nqs_state.specs.State.{content}
 use Rattle.nqs_types.specs.declared.queue.Access.TheVariants.{All}
-use Rattle.nqs_keyed.proofs.TableLemmas.{change_first-none, change_first-same}
+use Rattle.nqs_base_tables.proofs.TableLemmas.{change_first-none, change_first-same}
 use Rattle.nqs_rules.specs.Access.{with_user}
 use Rattle.nqs_access.proofs.apply.add_user.Goals as goal
 

@@ -2,7 +2,7 @@ use Rattle.std.proofs.Common.{rules, ap, not, Bool, ◌∙◌}
 use Rattle.std.specs.List.{list_any}
 use Rattle.nqs_state.specs.State.{content}
 use Rattle.nqs_state.specs.Keys.{is_promise}
-use Rattle.nqs_values.specs.declared.extent.Extent.{Extent}
+use Rattle.nqs_base.specs.declared.extent.Extent.{Extent}
 use Rattle.nqs_types.specs.declared.request.Promise.{Promise}
 use Rattle.nqs_rules.specs.Applied.{is_promise_of}
 use Rattle.nqs_changes.proofs.Fresh.{none_filtered}

@@ -28,7 +28,11 @@ returns-in-Err g c =
     (g.C.Clock.given c.args.clock.now) in
     not_booted g.D.Disk.tells c.args.me c.args.names.now c.args.turns was now c.in-Err.fault c.status_of_fault.result c.status_of_fault.ensures (refl, refl)
     c.in-Err.ensures.failed
-    (λ yes. ((λ a named. (c.in-Err.ensures.broken_off yes a named, λ s there. c.in-Err.ensures.any_moment yes s there a named), c.in-Err.ensures.untouched yes)))
+    (λ yes. ((
+      λ a named. (c.in-Err.ensures.broken_off yes a named, λ s there. c.in-Err.ensures.any_moment yes s there a named),
+      c.in-Err.ensures.untouched
+          yes,
+    )))
     c.in-Err.ensures.fault c.in-Err.ensures.memory
 
 pub returns-then-not-is_here : goal.returns-then-not-is_here
@@ -49,7 +53,8 @@ returns-then-not-is_here g c = (
         (
           named.0,
           named.1,
-          boot_alone named.0 _ (history_of c.in-Ok.node) (histories_of g.D.Disk.history c.close.result) one.0 (λ which. ap g.D.Disk.history (c.close.ensures which))
+          boot_alone named.0 _ (history_of c.in-Ok.node) (histories_of g.D.Disk.history c.close.result) one.0
+              (λ which. ap g.D.Disk.history (c.close.ensures which))
               (c.in-Ok.ensures.any_moment yes one.0 one.1 named.0 named.1),
         ),
       ),
@@ -77,9 +82,11 @@ returns g c =
     let run = c.serve-end.ensures.run yes u one.2 in
     let here = ap here_of one.2.is in
     let moved = subst (λ (h : Here). Ran h run.0 (idle u) run.1 run.2 (telling_of was) (telling_of now)
-    × EndsWith (Tells c.serve-end.new.node) (IsAt c.serve-end.new.node) (history_of c.serve-end.new.node) c.serve-end.result c.args.turns (stops h (idle u) run.0) run.1 run.2)
+    × EndsWith (Tells c.serve-end.new.node) (IsAt c.serve-end.new.node) (history_of c.serve-end.new.node) c.serve-end.result c.args.turns
+    (stops h (idle u) run.0) run.1 run.2)
     here (run.3, run.4) in
-    let passes = subst (λ (h : Here). TellsThroughout (active_of c.in-Ok.node) (history_of c.in-Ok.node) (history_of c.serve-end.new.node) (IsPassed h (idle u) run.0 run.2.moments))
+    let passes = subst (λ (h : Here). TellsThroughout (active_of c.in-Ok.node) (history_of c.in-Ok.node) (history_of c.serve-end.new.node)
+    (IsPassed h (idle u) run.0 run.2.moments))
     here run.5 in (
       s,
       one.1,
@@ -89,7 +96,8 @@ returns g c =
         run.1,
         run.2,
         moved.0,
-        ends_as (Tells c.serve-end.new.node) (Leaves now.disks) (IsAt c.serve-end.new.node) (history_of c.serve-end.new.node) (histories_of g.D.Disk.history c.close-in-Ok.result)
+        ends_as (Tells c.serve-end.new.node) (Leaves now.disks) (IsAt c.serve-end.new.node) (history_of c.serve-end.new.node)
+            (histories_of g.D.Disk.history c.close-in-Ok.result)
             (λ t told. leaves c.serve-end.new.node t (histories_of g.D.Disk.history c.close-in-Ok.result) yes told
             (λ which. ap g.D.Disk.history (c.close-in-Ok.ensures which)))
             (λ which. ap g.D.Disk.history (c.close-in-Ok.ensures which))

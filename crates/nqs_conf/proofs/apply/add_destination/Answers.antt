@@ -1,7 +1,7 @@
 use Rattle.std.proofs.Common.{rules, ap, sym, refl, ◌≡◌, ◌∙◌, Some}
 use Rattle.std.proofs.lemmas.Option.{same_Some}
 use Rattle.nqs_state.specs.State.{content}
-use Rattle.nqs_keyed.proofs.TableLemmas.{change_first-none, change_first-same}
+use Rattle.nqs_base_tables.proofs.TableLemmas.{change_first-none, change_first-same}
 use Rattle.nqs_rules.specs.Conf.{with_dest}
 use Rattle.nqs_rules.specs.Find.{meant_dest}
 use Rattle.nqs_conf.proofs.apply.add_destination.Goals as goal

@@ -1,6 +1,6 @@
 use Rattle.std.proofs.Common.{rules, ap, sym, refl, ◌≡◌, ◌∙◌, Some}
 use Rattle.nqs_state.specs.State.{content}
-use Rattle.nqs_keyed.proofs.TableLemmas.{change_first-same}
+use Rattle.nqs_base_tables.proofs.TableLemmas.{change_first-same}
 use Rattle.nqs_rules.specs.Conf.{without_dest}
 use Rattle.nqs_rules.specs.Find.{meant_dest}
 use Rattle.nqs_conf.proofs.apply.remove_destination.Goals as goal

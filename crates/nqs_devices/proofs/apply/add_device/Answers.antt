@@ -1,7 +1,7 @@
 use Rattle.std.proofs.Common.{rules, ap, sym, ◌≡◌, ◌∙◌}
 use Rattle.std.proofs.lemmas.Option.{same_Some}
 use Rattle.nqs_state.specs.State.{content}
-use Rattle.nqs_keyed.proofs.TableLemmas.{change_first-none}
+use Rattle.nqs_base_tables.proofs.TableLemmas.{change_first-none}
 use Rattle.nqs_rules.specs.Devices.{with_device}
 use Rattle.nqs_devices.proofs.apply.add_device.Goals as goal
 

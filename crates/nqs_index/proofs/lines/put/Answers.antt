@@ -1,5 +1,5 @@
 use Rattle.std.proofs.Common.{◌∙◌, ap}
-use Rattle.nqs_values.specs.Same.{name_eq}
+use Rattle.nqs_base.specs.Same.{name_eq}
 use Rattle.nqs_index.specs.Lines.{entry_at}
 use Rattle.nqs_index.specs.QueueLines.{placed_if}
 use Rattle.nqs_index.proofs.QueueLineLemmas.{entries_placed}

@@ -2,7 +2,7 @@ use Rattle.std.proofs.Common.{rules, ap, sym, ◌≡◌, ◌∙◌}
 use Rattle.std.proofs.lemmas.Option.{same_Some}
 use Rattle.nqs_state.specs.State.{content}
 use Rattle.nqs_types.specs.declared.edit.LimitsEdit.TheVariants.{AddQueue}
-use Rattle.nqs_keyed.proofs.TableLemmas.{change_first-none}
+use Rattle.nqs_base_tables.proofs.TableLemmas.{change_first-none}
 use Rattle.nqs_rules.specs.Limits.{complex_edited}
 use Rattle.nqs_limits.proofs.apply.add_queue.Goals as goal
 

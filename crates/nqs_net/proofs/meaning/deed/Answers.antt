@@ -3,7 +3,7 @@ use Rattle.nqs_types.specs.declared.event.Command.{Command}
 use Rattle.nqs_types.specs.declared.ids.HostId.{HostId}
 use Rattle.nqs_types.specs.declared.world.WorldEvent.{WorldEvent}
 use Rattle.nqs_rules.specs.World.{Asks, World as Network}
-use Rattle.nqs_lines.specs.Acts.{act_of, qsub_command}
+use Rattle.nqs_language_acts.specs.Acts.{act_of, qsub_command}
 use Rattle.nqs_net.specs.Deeds.{deed_of}
 use Rattle.nqs_net.proofs.meaning.deed.Goals as goal
 

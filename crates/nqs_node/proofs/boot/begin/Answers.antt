@@ -11,7 +11,8 @@ pub returns-in-Err-clause-calls : goal.returns-in-Err-clause-calls
 returns-in-Err-clause-calls g c = idle_commits c.args.store.now c.args.store.now Boot [] (content c.args.state.now) Disk _ (λ w. refl) (loads_memory _ refl)
 
 pub returns-in-Err-reserve-clause-calls : goal.returns-in-Err-reserve-clause-calls
-returns-in-Err-reserve-clause-calls g c = idle_commits c.args.store.now c.args.store.now Boot [] (content c.args.state.now) Disk _ (λ w. refl) (loads_memory _ refl)
+returns-in-Err-reserve-clause-calls g c = idle_commits c.args.store.now c.args.store.now Boot [] (content c.args.state.now) Disk _ (λ w. refl)
+    (loads_memory _ refl)
 
 pub returns-in-Err-clause-memory : goal.returns-in-Err-clause-memory
 returns-in-Err-clause-memory g c = λ is. left_alone c.args.store.now

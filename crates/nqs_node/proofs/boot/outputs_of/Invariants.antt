@@ -1,6 +1,6 @@
 use Rattle.std.proofs.Common.{◌≡◌, ℕ, List, map, take}
 use Rattle.std.specs.List.{filter_map}
-use Rattle.nqs_values.specs.declared.extent.Extent.{Extent}
+use Rattle.nqs_base.specs.declared.extent.Extent.{Extent}
 use Rattle.nqs_rules.specs.Plain.{map_row}
 use Rattle.nqs_rules.specs.World.{boot_output}
 use Rattle.nqs_node.proofs.boot.outputs_of.Given as goal

@@ -1,6 +1,6 @@
 use Rattle.std.proofs.Common.{refl, sym, ap, subst, ◌∙◌, Ok, Err}
 use Rattle.nqs_state.specs.State.{State, content}
-use Rattle.nqs_values.specs.declared.extent.Extent.{Extent}
+use Rattle.nqs_base.specs.declared.extent.Extent.{Extent}
 use Rattle.nqs_rules.specs.Fits.{fits}
 use Rattle.nqs_store.specs.Calls.{MayCommit, Commits, state_after}
 use Rattle.nqs_store.specs.Sound.{IsSoundHost}

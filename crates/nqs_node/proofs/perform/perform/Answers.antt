@@ -3,7 +3,7 @@ use Rattle.std.proofs.Math.Nat.{le_trans}
 use Rattle.std.proofs.lemmas.Result.{on_ok_weaker, on_err_weaker}
 use Rattle.nqs_state.specs.State.{content}
 use Rattle.nqs_types.specs.declared.change.Change.{Change}
-use Rattle.nqs_values.specs.declared.extent.Extent.{Extent}
+use Rattle.nqs_base.specs.declared.extent.Extent.{Extent}
 use Rattle.nqs_rules.specs.Starts.{after_change}
 use Rattle.nqs_store.specs.Active.{ready, recorded}
 use Rattle.nqs_store.specs.Stores.{disk_of, history_of, fails_of, is_starved, active_of, plain_of}
@@ -111,12 +111,15 @@ pub returns-in-None-clause-calls : goal.returns-in-None-clause-calls
 returns-in-None-clause-calls g c = λ kept with. record {
   plain =
       λ yes told. same_plain c.args.store.now c.read_all.new.store (c.read_all.ensures.into.reads.same yes) (content c.args.state.now)
-      ∙ ap (λ (k : Kept). after_change k (plain_of c.args.store.now (content c.args.state.now))) (none_kept c.args.change c.args.puts.now kept c.in-None.is with);
+      ∙ ap (λ (k : Kept). after_change k (plain_of c.args.store.now (content c.args.state.now)))
+      (none_kept c.args.change c.args.puts.now kept c.in-None.is with);
   made =
-      λ yes. subst (λ (k : Kept). IsMade (active_of c.args.store.now) (fails_of c.args.store.now) (history_of c.args.store.now) (history_of c.read_all.new.store) k)
+      λ yes. subst (λ (k : Kept). IsMade (active_of c.args.store.now) (fails_of c.args.store.now) (history_of c.args.store.now)
+      (history_of c.read_all.new.store) k)
       (none_kept c.args.change c.args.puts.now kept c.in-None.is with) (c.read_all.ensures.into.reads.same yes);
   active =
-      c.read_all.ensures.into.stays.1 ∙ ap (λ (k : Kept). after_kept k (active_of c.args.store.now)) (none_kept c.args.change c.args.puts.now kept c.in-None.is with);
+      c.read_all.ensures.into.stays.1 ∙ ap (λ (k : Kept). after_kept k (active_of c.args.store.now))
+      (none_kept c.args.change c.args.puts.now kept c.in-None.is with);
   broken_off = λ yes. tt;
   cut = λ yes told which is. absurd (no_error _ _ is);
   any_moment =
@@ -127,15 +130,18 @@ returns-in-None-clause-calls g c = λ kept with. record {
 pub returns-in-Some-clause-calls : goal.returns-in-Some-clause-calls
 returns-in-Some-clause-calls g c = λ kept with. record {
   plain =
-      λ yes told. on_ok_weaker c.keep.result (plain_since (active_of c.args.store.now) (active_of c.read_all.new.store) c.read_all.ensures.into.stays.1 (fails_of c.args.store.now) (fails_of c.read_all.new.store) (history_of c.args.store.now)
+      λ yes told. on_ok_weaker c.keep.result (plain_since (active_of c.args.store.now) (active_of c.read_all.new.store) c.read_all.ensures.into.stays.1
+      (fails_of c.args.store.now) (fails_of c.read_all.new.store) (history_of c.args.store.now)
       (history_of c.read_all.new.store) (history_of c.keep.new.store) (c.read_all.ensures.into.reads.fuse yes)
       (c.read_all.ensures.into.reads.same yes) c.in-Some.change c.args.puts.now kept
       (some_kept c.args.change c.in-Some.change c.args.puts.now kept c.in-Some.is with)
       (plain_of c.read_all.new.store (content c.args.state.now)) (plain_of c.args.store.now (content c.args.state.now))
       (same_plain c.args.store.now c.read_all.new.store (c.read_all.ensures.into.reads.same yes) (content c.args.state.now))
-      (plain_of c.keep.new.store (content c.keep.new.state))) (c.keep.ensures.makes.plain yes (c.read_all.ensures.into.tells yes (content c.args.state.now) told));
+      (plain_of c.keep.new.store (content c.keep.new.state))) (c.keep.ensures.makes.plain yes
+      (c.read_all.ensures.into.tells yes (content c.args.state.now) told));
   made =
-      λ yes. on_ok_weaker c.keep.result (made_since (active_of c.args.store.now) (active_of c.read_all.new.store) c.read_all.ensures.into.stays.1 (fails_of c.args.store.now) (fails_of c.read_all.new.store) (history_of c.args.store.now)
+      λ yes. on_ok_weaker c.keep.result (made_since (active_of c.args.store.now) (active_of c.read_all.new.store) c.read_all.ensures.into.stays.1
+      (fails_of c.args.store.now) (fails_of c.read_all.new.store) (history_of c.args.store.now)
       (history_of c.read_all.new.store) (history_of c.keep.new.store) (c.read_all.ensures.into.reads.fuse yes)
       (c.read_all.ensures.into.reads.same yes) c.in-Some.change c.args.puts.now kept
       (some_kept c.args.change c.in-Some.change c.args.puts.now kept c.in-Some.is with)) (c.keep.ensures.calls.made yes);
@@ -145,19 +151,22 @@ returns-in-Some-clause-calls g c = λ kept with. record {
       ∙ ap (λ (k : Kept). after_kept k (active_of c.args.store.now)) (some_kept c.args.change c.in-Some.change c.args.puts.now kept c.in-Some.is with).is)
       c.keep.ensures.makes.active;
   broken_off =
-      λ yes. on_err_weaker c.keep.result (broken_since (active_of c.args.store.now) (active_of c.read_all.new.store) c.read_all.ensures.into.stays.1 (fails_of c.args.store.now) (fails_of c.read_all.new.store) (history_of c.args.store.now)
+      λ yes. on_err_weaker c.keep.result (broken_since (active_of c.args.store.now) (active_of c.read_all.new.store) c.read_all.ensures.into.stays.1
+      (fails_of c.args.store.now) (fails_of c.read_all.new.store) (history_of c.args.store.now)
       (history_of c.read_all.new.store) (history_of c.keep.new.store) (c.read_all.ensures.into.reads.fuse yes)
       (c.read_all.ensures.into.reads.same yes) c.in-Some.change c.args.puts.now kept
       (some_kept c.args.change c.in-Some.change c.args.puts.now kept c.in-Some.is with)) (c.keep.ensures.calls.broken_off yes);
   cut =
-      λ yes told which failed. either (cut_since (active_of c.args.store.now) (active_of c.read_all.new.store) c.read_all.ensures.into.stays.1 (fails_of c.args.store.now) (fails_of c.read_all.new.store) (history_of c.args.store.now) (history_of c.read_all.new.store)
+      λ yes told which failed. either (cut_since (active_of c.args.store.now) (active_of c.read_all.new.store) c.read_all.ensures.into.stays.1
+      (fails_of c.args.store.now) (fails_of c.read_all.new.store) (history_of c.args.store.now) (history_of c.read_all.new.store)
       (history_of c.keep.new.store) (c.read_all.ensures.into.reads.fuse yes) (c.read_all.ensures.into.reads.same yes) c.in-Some.change c.args.puts.now kept
       (some_kept c.args.change c.in-Some.change c.args.puts.now kept c.in-Some.is with)
       (plain_of c.read_all.new.store (content c.args.state.now)) (plain_of c.args.store.now (content c.args.state.now))
       (same_plain c.args.store.now c.read_all.new.store (c.read_all.ensures.into.reads.same yes) (content c.args.state.now)) which)
       (c.keep.ensures.calls.cut yes (c.read_all.ensures.into.tells yes (content c.args.state.now) told) which failed);
   any_moment =
-      λ yes told. moments_since (active_of c.args.store.now) (active_of c.read_all.new.store) c.read_all.ensures.into.stays.1 (fails_of c.args.store.now) (fails_of c.read_all.new.store) (history_of c.args.store.now) (history_of c.read_all.new.store)
+      λ yes told. moments_since (active_of c.args.store.now) (active_of c.read_all.new.store) c.read_all.ensures.into.stays.1 (fails_of c.args.store.now)
+      (fails_of c.read_all.new.store) (history_of c.args.store.now) (history_of c.read_all.new.store)
       (history_of c.keep.new.store) (c.read_all.ensures.into.reads.fuse yes) (c.read_all.ensures.into.reads.same yes) c.in-Some.change c.args.puts.now kept
       (some_kept c.args.change c.in-Some.change c.args.puts.now kept c.in-Some.is with)
       (plain_of c.read_all.new.store (content c.args.state.now)) (plain_of c.args.store.now (content c.args.state.now))

@@ -1,7 +1,7 @@
 use Rattle.std.proofs.Common.{◌≡◌, ◌≤◌, Bool, length, drop}
 use Rattle.std.specs.Option.{option_map}
 use Rattle.std.specs.Fn.{FnReturnsAt, FnReturnsAtPair}
-use Rattle.nqs_keyed.specs.Table.{best_from}
+use Rattle.nqs_base_tables.specs.Table.{best_from}
 use Rattle.nqs_order.proofs.best.best_of.Given as goal
 
 abbrev pub invariant-loop-place : goal.invariant-loop-place

@@ -1,5 +1,5 @@
 use Rattle.std.proofs.Common.{◌≡◌, ◌∙◌, ap, rules}
-use Rattle.nqs_keyed.specs.Table.{best_from}
+use Rattle.nqs_base_tables.specs.Table.{best_from}
 use Rattle.nqs_state.specs.State.{content}
 use Rattle.nqs_rules.specs.Order.{is_greater}
 use Rattle.nqs_order.specs.ByIndex.{is_candidate}

@@ -1,5 +1,5 @@
 use Rattle.std.proofs.Common.{◌≡◌, ◌∙◌, ◌+◌, drop, fold, IfOk, sym, ap, subst}
-use Rattle.nqs_keyed.proofs.TableLemmas.{drop-at}
+use Rattle.nqs_base_tables.proofs.TableLemmas.{drop-at}
 use Rattle.nqs_plans.proofs.each.fold_each.Goals as goal
 
 pub loop-place-preserved : goal.loop-place-preserved

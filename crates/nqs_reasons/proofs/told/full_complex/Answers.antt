@@ -1,7 +1,7 @@
 use Rattle.std.proofs.Common.{◌≡◌, ◌+◌, ◌∙◌, Bool, true, false, cond, not, find, drop, Some, sym, ap}
 use Rattle.nqs_types.specs.declared.queue.ComplexDef.{ComplexDef}
 use Rattle.nqs_state.specs.State.{content}
-use Rattle.nqs_keyed.proofs.TableLemmas.{drop-at}
+use Rattle.nqs_base_tables.proofs.TableLemmas.{drop-at}
 use Rattle.nqs_rules.specs.Order.{complex_allows}
 use Rattle.nqs_reasons.proofs.told.full_complex.Goals as goal
 

@@ -1,5 +1,5 @@
 use Rattle.std.proofs.Common.{◌≡◌, ℕ, List, ◌∷◌, ◌++◌, ◌+◌, flat_map, drop, ◌∙◌, length, length-append, sym, ap, arith, append_assoc}
-use Rattle.nqs_values.specs.declared.extent.Extent.{Extent}
+use Rattle.nqs_base.specs.declared.extent.Extent.{Extent}
 use Rattle.nqs_types.specs.declared.change.OutPart.{OutPart}
 use Rattle.nqs_codec.specs.Fields.{short_field}
 use Rattle.nqs_records.specs.Spelling.{extent_field, part_field}

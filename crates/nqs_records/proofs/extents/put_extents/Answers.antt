@@ -8,7 +8,7 @@ use Rattle.nqs_records.proofs.PutBack.{ended_ends, length-parts_with}
 use Rattle.nqs_records.proofs.extents.put_extents.Goals as goal
 
 -- a list with an extent at its end has twelve bytes
-twelve : (n : ℕ) (bytes front : List ℕ) (e : Rattle.nqs_values.specs.declared.extent.Extent.Extent) → n ≡ length bytes → bytes ≡ front ++ extent_field e ++ []
+twelve : (n : ℕ) (bytes front : List ℕ) (e : Rattle.nqs_base.specs.declared.extent.Extent.Extent) → n ≡ length bytes → bytes ≡ front ++ extent_field e ++ []
     → 12 ≤ n
 twelve n bytes front e size is = omega (
   arith,

@@ -1,7 +1,7 @@
 use Rattle.std.proofs.Common.{rules, ap, sym, ◌≡◌, ◌∙◌, ◌++◌, ◌∷◌, [], filter}
 use Rattle.std.proofs.lemmas.Option.{same_Some}
 use Rattle.nqs_state.specs.State.{content}
-use Rattle.nqs_keyed.proofs.TableLemmas.{change_first-none}
+use Rattle.nqs_base_tables.proofs.TableLemmas.{change_first-none}
 use Rattle.nqs_rules.specs.Routing.{dests_for, is_present, with_refusal, all_refused, held_where, refusal_noted}
 use Rattle.nqs_routing.proofs.note.note_refusal.Goals as goal
 

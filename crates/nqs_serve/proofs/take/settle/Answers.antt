@@ -85,13 +85,15 @@ loop-cut-preserved g c =
           let at : List (List ℕ) → Here = λ names. record { me = c.args.me; site = names } in
           let is_here : at c.as_slice-site.result.now ≡ here =
           ap at (c.as_slice-site.ensures ∙ ap (λ h. h.site) c.state.ensures ∙ did.site ∙ c.loop-cut.invariant.site) ∙ sym same in
-          let front = ready_front here c.loop-cut.out.items _ c.start.new.out.items c.loop-cut.letters.items grown (c.loop-cut.invariant.ready s here knows same ready) in
+          let front = ready_front here c.loop-cut.out.items _ c.start.new.out.items c.loop-cut.letters.items grown
+          (c.loop-cut.invariant.ready s here knows same ready) in
           ready_all c.deref.ensures.value is_here front spelled.spelled;
       moments = λ s knows.
           let before = c.loop-cut.invariant.told s knows in
           let u = after_starts before.0 s in
           through_then _ _ _ _ _ _ (IsBetween now s) (c.loop-cut.invariant.moments s knows)
-          (through_made _ _ _ _ (started now u).change u (IsBetween now s) (did.active u before.2) (did.moments u before.2) (before.0, starts now u, before.1, refl)
+          (through_made _ _ _ _ (started now u).change u (IsBetween now s) (did.active u before.2) (did.moments u before.2)
+          (before.0, starts now u, before.1, refl)
           (between_next now s before.0 (steady_known c.loop-cut.node u before.2 c.loop-cut.invariant.sound) before.1));
       fewer = omega (arith, c.loop-cut.invariant.fewer, did.fewer c.in-Ok-true.field-0-test, did.one_back);
       later = λ which. omega (arith, c.loop-cut.invariant.later which, did.later which);
@@ -119,7 +121,8 @@ returns-in-Err-spell-clause-moments g c = λ s knows.
     let u = after_starts before.0 s in (
       active_of c.start.new.node,
       through_then _ _ _ _ _ _ (IsBetween now s) (c.loop-cut.invariant.moments s knows)
-          (through_made _ _ _ _ (started now u).change u (IsBetween now s) (did.active u before.2) (did.moments u before.2) (before.0, starts now u, before.1, refl)
+          (through_made _ _ _ _ (started now u).change u (IsBetween now s) (did.active u before.2) (did.moments u before.2)
+          (before.0, starts now u, before.1, refl)
           (between_next now s before.0 (steady_known c.loop-cut.node u before.2 c.loop-cut.invariant.sound) before.1)),
     )
 
@@ -190,7 +193,8 @@ returns-in-Ok-false-clause-moments g c = λ s knows.
     let before = c.loop-cut.invariant.told s knows in
     let u = after_starts before.0 s in
     through_then _ _ _ _ _ _ (IsBetween now s) (c.loop-cut.invariant.moments s knows)
-    (through_made _ _ _ _ (started now u).change u (IsBetween now s) (c.in-Ok-false.ensures.active u before.2) (c.in-Ok-false.ensures.moments u before.2) (before.0, starts now u, before.1, refl)
+    (through_made _ _ _ _ (started now u).change u (IsBetween now s) (c.in-Ok-false.ensures.active u before.2) (c.in-Ok-false.ensures.moments u before.2)
+    (before.0, starts now u, before.1, refl)
     (between_next now s before.0 (steady_known c.loop-cut.node u before.2 c.loop-cut.invariant.sound) before.1))
 
 pub returns-in-Err-clause-moments : goal.returns-in-Err-clause-moments

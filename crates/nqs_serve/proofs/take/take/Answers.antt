@@ -13,7 +13,11 @@ pub returns-in-Err-Disk-clause-moments : goal.returns-in-Err-Disk-clause-moments
 returns-in-Err-Disk-clause-moments g c = λ s knows. c.in-Err-Disk.ensures.any_moment knows.0 s knows.1
 
 pub returns-in-Err-Memory-clause-memory : goal.returns-in-Err-Memory-clause-memory
-returns-in-Err-Memory-clause-memory g c = λ s knows failed. (knows.0, (c.in-Err-Memory.ensures.memory knows.0 (ap Err c.in-Err-Memory.field-0-is)).tells s knows.1)
+returns-in-Err-Memory-clause-memory g c = λ s knows failed. (
+  knows.0,
+  (c.in-Err-Memory.ensures.memory knows.0
+      (ap Err c.in-Err-Memory.field-0-is)).tells s knows.1,
+)
 
 pub returns-in-Err-Disk-clause-broken : goal.returns-in-Err-Disk-clause-broken
 returns-in-Err-Disk-clause-broken g c = λ failed.

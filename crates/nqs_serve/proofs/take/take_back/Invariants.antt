@@ -24,7 +24,8 @@ invariant-loop-alloc g l = record {
       (g.O.Outlet.filings l.fn.outlet) (g.C.Clock.given l.fn.clock))
       (telling (g.W.Wire.received l.wire) (g.W.Wire.sent l.wire) (g.L.Launcher.asked l.launcher) (g.P.Printer.prints l.printer) (g.O.Outlet.filings l.outlet)
       (g.C.Clock.given l.clock))
-      × TellsTo (active_of l.fn.node) (active_of l.node) (history_of l.fn.node) (history_of l.node) (IsPassed here (turn s (map event_back l.fn.back.items)) acts []);
+      × TellsTo (active_of l.fn.node) (active_of l.node) (history_of l.fn.node) (history_of l.node)
+      (IsPassed here (turn s (map event_back l.fn.back.items)) acts []);
 }
 
 -- each event that came back is one less, and each start that may bring one back lowers how many there may still be

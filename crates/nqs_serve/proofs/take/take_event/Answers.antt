@@ -42,7 +42,8 @@ returns-in-Err-Disk-clause-cut g c = λ s here knows same.
       carried.0,
       λ failed. absurd (disk_is_no_memory _ failed),
       λ failed.
-          subst (λ (l : List Output). Broke (IsAt c.take_whole.new.node) (calls now e s) s l (history_of c.take_whole.new.node)) (sym (carried.1 ∙ c.deref.ensures.value))
+          subst (λ (l : List Output). Broke (IsAt c.take_whole.new.node) (calls now e s) s l (history_of c.take_whole.new.node))
+          (sym (carried.1 ∙ c.deref.ensures.value))
           (c.in-Err-Disk.ensures.broke s e knows c.set_moment.ensures (ap Err c.in-Err-Disk.field-0-is)),
       cut_grew here now carried.0 _ _ c.carry.ensures.received carried.3 carried.4 carried.5 carried.6 c.now-now.ensures,
       c.in-Err-Disk.ensures.moments s e knows c.set_moment.ensures,

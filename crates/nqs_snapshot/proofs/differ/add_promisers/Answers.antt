@@ -5,7 +5,8 @@ use Rattle.nqs_snapshot.proofs.differ.add_promisers.Goals as goal
 pub loop-place-preserved : goal.loop-place-preserved
 loop-place-preserved c = (
   c.loop-place.invariant.0
-      ∙ one_more (λ n. n.0) (λ p. p.peer.0) c.loop-place.numbers.items _ c.args.promises.now.items c.loop-place.place c.at.result.now _ c.at.ensures c.in_ok-push.ensures.items
+      ∙ one_more (λ n. n.0) (λ p. p.peer.0) c.loop-place.numbers.items _ c.args.promises.now.items c.loop-place.place c.at.result.now _ c.at.ensures
+      c.in_ok-push.ensures.items
       c.from.ensures,
   omega (arith, c.loop-place-test.true, c.len.ensures),
 )

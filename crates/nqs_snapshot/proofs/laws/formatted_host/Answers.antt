@@ -8,7 +8,8 @@ use Rattle.nqs_snapshot.specs.Reading.{site_at, parts_at, whole_of, snapshot_of}
 use Rattle.nqs_snapshot.proofs.laws.formatted_host.Goals as goal
 
 pub returns-clause-bytes : goal.returns-clause-bytes
-unfolding u8_field u16_field u32_field u64_field short_field bool_field many_field access_field limits_field settings_field queue_field peer_field site_part request_part dealing_part counter_part state_field
+unfolding u8_field u16_field u32_field u64_field short_field bool_field many_field access_field limits_field settings_field queue_field peer_field site_part
+    request_part dealing_part counter_part state_field
 returns-clause-bytes c = refl
 
 pub returns-clause-length : goal.returns-clause-length

@@ -1,7 +1,7 @@
 use Rattle.std.proofs.Common.{◌≡◌, ◌+◌, true, false, ◌&&◌, drop, ap, subst, sym, ◌∙◌, arith}
 use Rattle.std.specs.List.{AllByRecursion, list_all}
 use Rattle.nqs_state.specs.State.{content}
-use Rattle.nqs_keyed.proofs.TableLemmas.{drop-at, list_all-drop}
+use Rattle.nqs_base_tables.proofs.TableLemmas.{drop-at, list_all-drop}
 use Rattle.nqs_snapshot.proofs.order.all_right.Goals as goal
 
 pub returns-then-not-is_right : goal.returns-then-not-is_right

@@ -1,5 +1,5 @@
 use Rattle.std.proofs.Common.{◌≡◌, length}
-use Rattle.nqs_values.specs.Same.{name_eq}
+use Rattle.nqs_base.specs.Same.{name_eq}
 use Rattle.nqs_rules.specs.InOrder.{are_distinct}
 use Rattle.nqs_snapshot.proofs.order_queues.differ.Given as goal
 

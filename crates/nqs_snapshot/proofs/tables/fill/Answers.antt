@@ -1,7 +1,7 @@
 use Rattle.std.proofs.Common.{◌≡◌, true, false, ◌∷◌, ◌++◌, [], map, length, ap, sym, ◌∙◌, append_assoc, arith}
 use Rattle.std.specs.Vec.Iter.{into_iter_items}
 use Rattle.std.specs.List.{list_any}
-use Rattle.nqs_keyed.specs.Table.{has_key}
+use Rattle.nqs_base_tables.specs.Table.{has_key}
 use Rattle.nqs_rules.specs.InOrder.{are_distinct}
 use Rattle.nqs_snapshot.proofs.Distinct.{comes_twice, comes_once}
 use Rattle.nqs_snapshot.proofs.tables.fill.Goals as goal

@@ -1,5 +1,5 @@
 use Rattle.std.proofs.Common.{nat_le, [], ◌∷◌}
-use Rattle.nqs_values.specs.Path.{is_path}
+use Rattle.nqs_base.specs.Path.{is_path}
 use Rattle.nqs_rules.proofs.Chains.{each}
 use Rattle.nqs_snapshot.proofs.Stands.{path_stands}
 use Rattle.nqs_snapshot.proofs.typed.job_stands.Goals as goal

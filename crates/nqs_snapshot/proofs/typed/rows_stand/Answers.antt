@@ -1,6 +1,6 @@
 use Rattle.std.proofs.Common.{subst, sym, arith}
 use Rattle.std.specs.List.{AllByRecursion}
-use Rattle.nqs_keyed.proofs.TableLemmas.{drop-at}
+use Rattle.nqs_base_tables.proofs.TableLemmas.{drop-at}
 use Rattle.nqs_snapshot.proofs.typed.rows_stand.Goals as goal
 
 pub loop-place-preserved : goal.loop-place-preserved

@@ -1,6 +1,6 @@
 use Rattle.std.proofs.Common.{◌≡◌, Bool, List, map, filter, drop}
 use Rattle.std.specs.Fn.{FnReturnsAt}
-use Rattle.nqs_values.specs.declared.extent.Extent.{Extent}
+use Rattle.nqs_base.specs.declared.extent.Extent.{Extent}
 use Rattle.nqs_spool.specs.Spooled.{disk_of, Tells}
 use Rattle.nqs_store.specs.Accounts.{Takes}
 use Rattle.nqs_store.proofs.free.free_all.Given as goal

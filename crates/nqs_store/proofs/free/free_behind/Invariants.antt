@@ -1,5 +1,5 @@
 use Rattle.std.proofs.Common.{◌≡◌, List, map, drop}
-use Rattle.nqs_values.specs.declared.extent.Extent.{Extent}
+use Rattle.nqs_base.specs.declared.extent.Extent.{Extent}
 use Rattle.nqs_spool.specs.Spooled.{disk_of, Tells}
 use Rattle.nqs_rules.specs.Stepped.{part_bytes}
 use Rattle.nqs_store.specs.Accounts.{Takes}

@@ -5,7 +5,7 @@ use Rattle.nqs_store.specs.Puts.{IsShortPut}
 use Rattle.std.specs.Bool.{if◌then◌else◌}
 use Rattle.std.specs.Result.{is_ok}
 use Rattle.std.proofs.lemmas.Result.{on_ok_weaker, on_err_weaker}
-use Rattle.nqs_values.specs.declared.extent.Extent.{Extent}
+use Rattle.nqs_base.specs.declared.extent.Extent.{Extent}
 use Rattle.nqs_outside.specs.History.{moment, extended}
 use Rattle.nqs_records.specs.Values.{IsExtent}
 use Rattle.nqs_spool.specs.Puts.{put_calls}
@@ -131,5 +131,6 @@ returns-in-Ok-clause-done g t c =
     (λ told. e.made told ∙ ap (λ (x : Extent). extended (history_of old) (put_calls x.place put)) (sym e.extent)) in
     let small : IsExtent x = search rules in
     let pushed = c.push.ensures.items ∙ ap (λ r. if is_ok r then c.args.extents.now.items ++ x ∷ [] else c.args.extents.now.items) c.unwrap.ensures in
-    on_ok_weaker c.put_all.result (more_put old mid c.put_all.new.spool x put e.tells e.stored c.args.puts.now later c.args.extents.now.items _ _ is pushed small
+    on_ok_weaker c.put_all.result (more_put old mid c.put_all.new.spool x put e.tells e.stored c.args.puts.now later c.args.extents.now.items _ _ is pushed
+    small
     made c.put_all.ensures.puts.still) c.put_all.ensures.done

@@ -14,7 +14,8 @@ loop-place-preserved c =
     let row = c.at.result.now in
     let p = runs_in c.keep_if_running.new.running.items in
     subst (λ l. list_all p l ≡ true) (sym (take-at rows i row c.at.ensures))
-    (all-added p (take i rows) row (list_all-weaker (runs_in c.loop-place.running.items) p (λ r. c.in_ok-keep_if_running.ensures.others r) (take i rows) c.loop-place.invariant)
+    (all-added p (take i rows) row (list_all-weaker (runs_in c.loop-place.running.items) p (λ r. c.in_ok-keep_if_running.ensures.others r)
+    (take i rows) c.loop-place.invariant)
     c.in_ok-keep_if_running.ensures.only)
 
 pub returns : goal.returns

@@ -1,6 +1,6 @@
 use Rattle.std.proofs.Common.{refl}
 use Rattle.std.specs.Fmt.{digits}
-use Rattle.nqs_values.specs.Path.{has_parent}
+use Rattle.nqs_base.specs.Path.{has_parent}
 use Rattle.nqs_worked.proofs.definitions.states_are_in_order.Goals as goal
 
 pub returns-clause-one : goal.returns-clause-one

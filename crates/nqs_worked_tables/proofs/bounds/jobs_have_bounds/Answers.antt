@@ -1,6 +1,6 @@
 use Rattle.std.proofs.Common.{refl}
 use Rattle.std.specs.Fmt.{digits}
-use Rattle.nqs_values.specs.Path.{has_parent}
+use Rattle.nqs_base.specs.Path.{has_parent}
 use Rattle.nqs_worked_tables.proofs.bounds.jobs_have_bounds.Goals as goal
 
 pub returns-clause-kept : goal.returns-clause-kept

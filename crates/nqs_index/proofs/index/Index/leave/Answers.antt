@@ -4,6 +4,12 @@ use Rattle.nqs_index.proofs.index.Index.leave.Goals as goal
 
 pub returns : goal.returns
 returns c ts us stands more =
-    let new : Index = record { counters = c.count_out.new.counters; lines = c.step_out.new.lines; nobody = c.args.self.now.nobody; runs = c.end_run.new.runs } in
+    let new : Index = record {
+      counters = c.count_out.new.counters;
+      lines = c.step_out.new.lines;
+      nobody = c.args.self.now.nobody;
+      runs =
+          c.end_run.new.runs;
+    } in
     left c.args.self.now new c.args.seat.now ts us
     stands more c.count_out.ensures c.step_out.ensures c.end_run.ensures

@@ -1,7 +1,7 @@
 use Rattle.std.proofs.Common.{◌≡◌, ◌∙◌, ◌++◌, OnOk, OnErr, refl, sym, subst}
 use Rattle.std.proofs.lemmas.Result.{on_ok_weaker, err_from_is_err_and}
 use Rattle.nqs_rules.specs.World.{Ran, seen_of}
-use Rattle.nqs_lines.specs.Acts.{act_of}
+use Rattle.nqs_language_acts.specs.Acts.{act_of}
 use Rattle.nqs_net.specs.Lists.{GrowsByFront}
 use Rattle.nqs_net.specs.Worlds.{IsWorld}
 use Rattle.nqs_net.proofs.Fronts.{none_shown}

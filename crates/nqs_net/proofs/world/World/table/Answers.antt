@@ -2,7 +2,7 @@ use Rattle.std.proofs.Common.{◌≡◌, suc, ◌+◌, ◌∷◌, ◌++◌, [], 
 use Rattle.std.proofs.Math.Seq.{map-set_same}
 use Rattle.std.proofs.lemmas.List.{take_all}
 use Rattle.nqs_rules.specs.Run.{states_of}
-use Rattle.nqs_table.specs.Standing.{StandForEach}
+use Rattle.nqs_rules_table.specs.Standing.{StandForEach}
 use Rattle.nqs_net.specs.Followed.{disks_in}
 use Rattle.nqs_net.proofs.Following.{on_ok_of, disks_back}
 use Rattle.nqs_net.proofs.Showing.{at_place, as_many, stand_more, as_many_stand, few_hosts}

@@ -1,7 +1,7 @@
 use Rattle.std.proofs.Common.{◌≡◌, List, map, take}
-use Rattle.nqs_values.specs.declared.tear.Tear.{Tear}
+use Rattle.nqs_base.specs.declared.tear.Tear.{Tear}
 use Rattle.nqs_rules.specs.World.{Host}
-use Rattle.nqs_table.specs.Standing.{StandForEach}
+use Rattle.nqs_rules_table.specs.Standing.{StandForEach}
 use Rattle.nqs_net.specs.Followed.{disks_in}
 use Rattle.nqs_net.specs.Worlds.{AreSlots}
 use Rattle.nqs_net.proofs.world.World.table.Given as goal

@@ -20,7 +20,8 @@ use Rattle.nqs_node.proofs.Booting.{boot_kept, quiet_one, told_by_reads, loaded_
 use Rattle.nqs_node.proofs.node.Node.boot.Goals as goal
 
 pub returns-in-Err-clause-broken_off : goal.returns-in-Err-clause-broken_off
-returns-in-Err-clause-broken_off g c = λ yes a is. still_broken_off a (histories_of g.D.Disk.history c.args.disks) (histories_of g.D.Disk.history c.in-Err.disks)
+returns-in-Err-clause-broken_off g c = λ yes a is. still_broken_off a (histories_of g.D.Disk.history c.args.disks)
+    (histories_of g.D.Disk.history c.in-Err.disks)
     (c.in-Err.ensures.reads.same yes) (Some Boot)
 
 pub returns-in-Err-clause-any_moment : goal.returns-in-Err-clause-any_moment
@@ -39,7 +40,8 @@ returns-in-Err-begin-clause-fault g c = λ yes which place is. absurd (c.in-Err-
 
 pub returns-in-Err-begin-clause-memory : goal.returns-in-Err-begin-clause-memory
 returns-in-Err-begin-clause-memory g c = λ yes is which.
-    ap g.D.Disk.history (c.close.ensures which) ∙ ap g.D.Disk.history ((c.in-Err-begin.ensures.memory (ap Err is)).same which) ∙ c.in-Ok.ensures.reads.same yes which
+    ap g.D.Disk.history (c.close.ensures which) ∙ ap g.D.Disk.history ((c.in-Err-begin.ensures.memory (ap Err is)).same which)
+    ∙ c.in-Ok.ensures.reads.same yes which
 
 pub returns-in-Err-begin-clause-never : goal.returns-in-Err-begin-clause-never
 returns-in-Err-begin-clause-never g c = λ yes s told which place is. c.in-Err-begin.ensures.only which place (ap Err is)

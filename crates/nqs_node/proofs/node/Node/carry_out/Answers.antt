@@ -64,7 +64,8 @@ returns-in-Err-Memory-clause-carries g c = λ done does.
       broken_off = calls.broken_off;
       cut = λ yes s told which is. absurd (node_memory _ which is);
       any_moment = λ yes s told.
-          subst (λ (p : Plain). IsOneOrOther (active_of c.args.self.now) (history_of c.args.self.now) (store.history_of c.perform.new.store) done.change p) told.is
+          subst (λ (p : Plain). IsOneOrOther (active_of c.args.self.now) (history_of c.args.self.now)
+          (store.history_of c.perform.new.store) done.change p) told.is
           (calls.any_moment yes told.told);
     }
 
@@ -91,12 +92,14 @@ returns-in-Err-Disk-clause-carries g c = λ done does.
       active = tt;
       broken_off = calls.broken_off;
       cut = λ yes s told which failed.
-          subst (λ (p : Plain). IsTrue (store.is_starved c.perform.new.store which) ⊎ (IsBlown (fails_of c.args.self.now which) (history_of c.args.self.now which)
+          subst (λ (p : Plain). IsTrue (store.is_starved c.perform.new.store which)
+          ⊎ (IsBlown (fails_of c.args.self.now which) (history_of c.args.self.now which)
           ⊎ IsCutBy (active_of c.args.self.now) (fails_of c.args.self.now) (history_of c.args.self.now) (store.history_of c.perform.new.store) done.change p
           which)) told.is
           (calls.cut yes told.told which (ap Err (c.in-Err-Disk.field-0-is ∙ ap fault.Disk (node_disk c.in-Err-Disk.which which failed))));
       any_moment = λ yes s told.
-          subst (λ (p : Plain). IsOneOrOther (active_of c.args.self.now) (history_of c.args.self.now) (store.history_of c.perform.new.store) done.change p) told.is
+          subst (λ (p : Plain). IsOneOrOther (active_of c.args.self.now) (history_of c.args.self.now)
+          (store.history_of c.perform.new.store) done.change p) told.is
           (calls.any_moment yes told.told);
     }
 
@@ -146,6 +149,7 @@ returns-clause-carries g c = λ done does.
       broken_off = λ yes. tt;
       cut = λ yes s told which is. absurd (no_error _ _ is);
       any_moment = λ yes s told.
-          subst (λ (p : Plain). IsOneOrOther (active_of c.args.self.now) (history_of c.args.self.now) (store.history_of c.perform.new.store) done.change p) told.is
+          subst (λ (p : Plain). IsOneOrOther (active_of c.args.self.now) (history_of c.args.self.now)
+          (store.history_of c.perform.new.store) done.change p) told.is
           (calls.any_moment yes told.told);
     }

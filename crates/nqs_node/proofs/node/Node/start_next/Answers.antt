@@ -6,8 +6,8 @@ use Rattle.nqs_rules.specs.Sane.{is_sane_change}
 use Rattle.nqs_rules.specs.Starts.{after_step}
 use Rattle.nqs_rules.specs.Stepped.{Stepped, map_stepped, shown, puts_of}
 use Rattle.nqs_store.specs.Puts.{IsShortPut}
-use Rattle.nqs_kept.specs.Offers.{takes_back_few}
-use Rattle.nqs_kept.specs.Reads.{AreLive}
+use Rattle.nqs_host_laws.specs.Offers.{takes_back_few}
+use Rattle.nqs_host_laws.specs.Reads.{AreLive}
 use Rattle.nqs_node.specs.Carried.{started, after_kept, IsMade}
 use Rattle.nqs_node.specs.Nodes.{history_of, fails_of, active_of, content_of, bytes_of, Tells}
 use Rattle.nqs_node.specs.Reading.{AreShort}
@@ -37,7 +37,8 @@ carry_out-requires-clause-may g c =
     (at_next (λ x. AreLive host x.outputs) now host plan next (c.outputs_read_live_extents.ensures.start now host order))
 
 pub returns-in-Err-clause-broken_off : goal.returns-in-Err-clause-broken_off
-returns-in-Err-clause-broken_off g c = λ yes s told. still_broken_off (active_of c.args.self.now) (history_of c.args.self.now) (history_of c.args.self.now) (λ which. refl)
+returns-in-Err-clause-broken_off g c = λ yes s told. still_broken_off (active_of c.args.self.now) (history_of c.args.self.now) (history_of c.args.self.now)
+    (λ which. refl)
     (started c.args.now s).change
 
 pub returns-in-Err-clause-any_moment : goal.returns-in-Err-clause-any_moment
@@ -74,7 +75,8 @@ returns-in-Ok-None-clause-made g c = λ yes s told.
     let still = quiet_next c.args.self.now s told c.args.now (c.start_looks_at_no_bytes.ensures.start (bytes_of c.args.self.now) c.args.now
     (content_of c.args.self.now))
     (none_next c.args.now (content_of c.args.self.now) (sym c.in-Ok-None.field-0-is ∙ c.in-Ok-None.ensures)) in
-    subst (λ (x : Stepped (List ℕ)). IsMade (active_of c.args.self.now) (fails_of c.args.self.now) (history_of c.args.self.now) (history_of c.args.self.now) x.change) (sym still)
+    subst (λ (x : Stepped (List ℕ)). IsMade (active_of c.args.self.now) (fails_of c.args.self.now) (history_of c.args.self.now)
+    (history_of c.args.self.now) x.change) (sym still)
     (λ which. refl)
 
 pub returns-in-Ok-None-clause-active : goal.returns-in-Ok-None-clause-active
@@ -103,7 +105,8 @@ pub returns-in-Err-carry_out-clause-cut : goal.returns-in-Err-carry_out-clause-c
 returns-in-Err-carry_out-clause-cut g c = λ yes s told which failed.
     (c.in-Err-carry_out.ensures.carries (started c.args.now s) (does_next c.args.self.now s told c.args.now
     (c.start_looks_at_no_bytes.ensures.start (bytes_of c.args.self.now) c.args.now (content_of c.args.self.now)) c.in-Ok-Some.plan
-    (next_is c.args.now (content_of c.args.self.now) c.in-Ok-Some.plan (sym c.in-Ok-Some.field-0-is ∙ c.in-Ok-Some.ensures)))).cut yes s told which (same_error _ _ failed)
+    (next_is c.args.now (content_of c.args.self.now) c.in-Ok-Some.plan (sym c.in-Ok-Some.field-0-is ∙ c.in-Ok-Some.ensures)))).cut yes s told which
+    (same_error _ _ failed)
 
 pub returns-in-Err-carry_out-clause-any_moment : goal.returns-in-Err-carry_out-clause-any_moment
 returns-in-Err-carry_out-clause-any_moment g c = λ yes s told.

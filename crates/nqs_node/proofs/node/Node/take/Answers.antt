@@ -21,7 +21,8 @@ carry_out-requires-clause-may g c =
     (c.outputs_read_live_extents.ensures.step e host order)
 
 pub returns-in-Err-clause-broken_off : goal.returns-in-Err-clause-broken_off
-returns-in-Err-clause-broken_off g c = λ yes s told. still_broken_off (active_of c.args.self.now) (history_of c.args.self.now) (history_of c.args.self.now) (λ which. refl)
+returns-in-Err-clause-broken_off g c = λ yes s told. still_broken_off (active_of c.args.self.now) (history_of c.args.self.now) (history_of c.args.self.now)
+    (λ which. refl)
     (step c.args.event.now s).change
 
 pub returns-in-Err-clause-any_moment : goal.returns-in-Err-clause-any_moment

@@ -1,6 +1,6 @@
 use Rattle.std.proofs.Common.{◌≡◌, ◌≤◌, List, ◌++◌, length}
 use Rattle.std.specs.List.{AllByRecursion}
-use Rattle.nqs_values.specs.declared.extent.Extent.{Extent}
+use Rattle.nqs_base.specs.declared.extent.Extent.{Extent}
 use Rattle.nqs_spool.specs.Extents.{IsWithin, Covers}
 use Rattle.nqs_spool.specs.Live.{kept, end_of}
 use Rattle.nqs_spool.proofs.live.LiveExtents.load_sound.Given as goal

@@ -1,7 +1,7 @@
 use Rattle.std.proofs.Common.{◌∙◌, ap, sym, find, map}
 use Rattle.std.specs.Fn.{FnOnceReturnsAtMut}
-use Rattle.nqs_keyed.specs.Table.{change_first, without_first}
-use Rattle.nqs_keyed.proofs.TableLemmas.{change_first-none}
+use Rattle.nqs_base_tables.specs.Table.{change_first, without_first}
+use Rattle.nqs_base_tables.proofs.TableLemmas.{change_first-none}
 use Rattle.nqs_index.specs.Seats.{seat_of}
 use Rattle.nqs_state.specs.Keys.{is_row}
 use Rattle.nqs_state.proofs.RowLemmas.{no_row, gone, still_there, changed}

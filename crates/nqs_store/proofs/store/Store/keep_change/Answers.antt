@@ -15,7 +15,8 @@ use Rattle.nqs_store.specs.Putting.{ArePutFor}
 use Rattle.nqs_store.specs.Stores.{Tells, plain_of, history_of}
 use Rattle.nqs_store.proofs.Filled.{shape_kept}
 use Rattle.nqs_store.proofs.Committed.{IsPut, plain_kept, told_after, spool_image, put_tells, filled_now, plain_now, records_now, account, spool_tells}
-use Rattle.nqs_store.proofs.Changed.{tells_later, spool_rest, spool_failed, journal_failed, all_done, cut_spool, cut_record, same_which, spool_at, record_at, record_clear}
+use Rattle.nqs_store.proofs.Changed.{tells_later, spool_rest, spool_failed, journal_failed, all_done, cut_spool, cut_record, same_which, spool_at, record_at}
+use Rattle.nqs_store.proofs.Changed.{record_clear}
 use Rattle.nqs_store.proofs.EachDisk.{journal_kept}
 use Rattle.nqs_store.specs.declared.fault.StoreFault.TheVariants.{Disk}
 use Rattle.nqs_store.proofs.Kept.{stops_at, rose_at}
@@ -37,7 +38,8 @@ put_of g c told tells = record {
   many = c.requires.may.as_many;
   done = done_of g c;
   still = λ x script has holds. c.in-Ok.ensures.puts.still told (live (content c.args.state.now)) tells.spool x script has holds;
-  kept = λ t image from to leaves x script has holds. c.in-Ok.ensures.puts.kept told (live (content c.args.state.now)) tells.spool x script has holds t image from to
+  kept = λ t image from to leaves x script has holds. c.in-Ok.ensures.puts.kept told
+      (live (content c.args.state.now)) tells.spool x script has holds t image from to
       leaves;
 }
 
@@ -125,7 +127,8 @@ returns-in-Ok-append_to-clause-keeps g c =
       stands = c.in-Ok.ensures.done.stands;
       shape = shape_of g k;
       filled = λ told tells.
-          subst (λ d. map_change (bytes_at (content_of (g.D.Disk.history d))) c.put_bytes.new.change ≡ filled c.args.change.now c.args.puts.now) (sym freed.same)
+          subst (λ d. map_change (bytes_at (content_of (g.D.Disk.history d))) c.put_bytes.new.change ≡ filled c.args.change.now c.args.puts.now)
+          (sym freed.same)
           (filled_now told o host tells (put_of g k told tells));
       kept = λ told tells.
           subst (λ d. map_state (bytes_at (content_of (g.D.Disk.history d))) host ≡ plain_of o host) (sym freed.same)

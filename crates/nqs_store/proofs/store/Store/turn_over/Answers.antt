@@ -27,7 +27,8 @@ returns-in-Err-name_journal-clause-turns g c = record {
   past = λ told. tt;
   broken_off = λ told snapshot host is.
       let broken = c.in-Err-name_journal.ensures.broken told in
-      root_failed c.args.self.now _ c.args.text.now snapshot host is c.begin_other.ensures.rest refl told c.in-Ok.ensures.begins.done broken.0 broken.1 broken.2;
+      root_failed c.args.self.now _ c.args.text.now snapshot host is c.begin_other.ensures.rest refl told c.in-Ok.ensures.begins.done broken.0 broken.1
+      broken.2;
   cut = λ told snapshot host is reads tells which at.
       let broken = c.in-Err-name_journal.ensures.broken told in
       root_at c.args.self.now _ _ which (same_which Root which at)

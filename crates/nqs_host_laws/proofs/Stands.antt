@@ -1,0 +1,144 @@
+-- What of a change that fits a host in order stands in a record since it is found there: hosts and requests. And paths.
+use Rattle.std.proofs.Common.{◌≡◌, ℕ, zero, suc, ◌<◌, Bool, true, not, ◌==◌, nat_le, nat_lt, IsTrue, List, [], ◌∷◌, map, find, length, slice_index, Option}
+use Rattle.std.proofs.Common.{None, Some, is_ok, true≢false, refl, sym, subst, arith}
+use Rattle.std.proofs.lemmas.Bool.{and_parts, and_from, leb-true, le-leb, ltb-true, lt-ltb, not-true}
+use Rattle.std.specs.List.{list_all, AllByRecursion}
+use Rattle.nqs_types.specs.Ids.{id_exact, peer_number_eq, peer_number_exact, hand_key, promise_key, stage_key}
+use Rattle.nqs_state.specs.Keys.{is_row, is_promise, is_stage}
+use Rattle.nqs_base_tables.specs.Table.{has_key}
+use Rattle.nqs_base.specs.Path.{is_visible, PathAllowedBelow, has_parent, begins_with_slash, IsPath, is_path}
+use Rattle.nqs_state.specs.State.{State}
+use Rattle.nqs_base.specs.declared.extent.Extent.{Extent}
+use Rattle.nqs_types.specs.declared.ids.HostId.{HostId}
+use Rattle.nqs_types.specs.declared.ids.Named.{Named}
+use Rattle.nqs_types.specs.declared.ids.PeerNumber.{PeerNumber}
+use Rattle.nqs_types.specs.declared.ids.RequestId.{RequestId}
+use Rattle.nqs_types.specs.declared.change.OutPart.{OutPart}
+use Rattle.nqs_types.specs.declared.request.Hand.{Hand}
+use Rattle.nqs_types.specs.declared.request.Peer.{Peer}
+use Rattle.nqs_types.specs.declared.request.Row.{Row}
+use Rattle.nqs_rules.specs.Tests.{passes}
+use Rattle.nqs_rules.specs.Causes.{Cause, first_refusal}
+use Rattle.nqs_rules.specs.Find.{peer_number, request_of, host_named, find_row, row_of, meant_row, has_promise, has_stage, find_peer}
+use Rattle.nqs_rules.specs.Rows.{named_causes}
+use Rattle.nqs_rules.specs.Fits.{is_site_host, row_passes, hand_passes, is_offered_hand, are_offered}
+use Rattle.nqs_rules.specs.InOrder.{IsInOrder, is_row_right, is_hand_given, is_hand_right, is_promise_open, is_promise_right, is_stage_given, is_stage_right}
+use Rattle.nqs_rules.specs.Sane.{is_sane_id, has_path}
+use Rattle.nqs_rules.specs.Stepped.{part_bytes}
+use Rattle.nqs_rules.proofs.Chains.{each}
+use Rattle.nqs_rules.proofs.KeyFacts.{found_any}
+use Rattle.nqs_rules.proofs.ListFacts.{found_passes, list_all-found}
+use Rattle.nqs_rules.proofs.RowFacts.{row_is, promise_is}
+use Rattle.nqs_rules.proofs.RowsOrder.{hand_is}
+use Rattle.nqs_rules.proofs.StateFacts.{sites_are}
+use Rattle.nqs_records.specs.Values.{is_seq, is_at_most, IsU8, IsHost, IsId, IsExtent, IsPart, IsHand}
+use Rattle.nqs_host_laws.specs.Offers.{HasNumber}
+use Rattle.nqs_host_laws.proofs.FewHands.{known_below}
+
+-- numbers
+
+pub starts_few : (n : ℕ) → nat_lt n 65535 ≡ true → IsTrue (is_at_most 65534 n)
+starts_few n h = let less = ltb-true n 65535 h in le-leb n 65534 (omega (arith, less))
+
+pub counts_few : (n : ℕ) → nat_le n 255 ≡ true → IsU8 n
+counts_few n h = let few = leb-true n 255 h in omega (arith, few)
+
+-- paths
+
+seen_at : (bs : List ℕ) → list_all is_visible bs ≡ true → (i : ℕ) → i < length bs → is_visible (slice_index bs i) ≡ true
+seen_at [] all i less = absurd (omega arith)
+seen_at (b ∷ bs) all zero less = (and_parts (is_visible b) (list_all is_visible bs) all).0
+seen_at (b ∷ bs) all (suc i) less = seen_at bs (and_parts (is_visible b) (list_all is_visible bs) all).1 i (omega (arith, less))
+
+allowed_below : (p : List ℕ) → list_all is_visible p ≡ true → not (begins_with_slash p) ≡ true → PathAllowedBelow p (length p)
+allowed_below [] all first i less = absurd (omega arith)
+allowed_below (b ∷ bs) all first zero less = and_from (is_visible b) (not (b == 47)) (seen_at (b ∷ bs) all 0 less) first
+allowed_below (b ∷ bs) all first (suc i) less = seen_at (b ∷ bs) all (suc i) less
+
+pub path_stands : (p : List ℕ) → is_path p ≡ true → IsPath p
+path_stands p h =
+    let k = each (nat_le 1 (length p)) (nat_le (length p) 255 ∷ list_all is_visible p ∷ not (begins_with_slash p) ∷ not (has_parent p) ∷ []) h in
+    record {
+      some = leb-true 1 (length p) k.0;
+      few = leb-true (length p) 255 k.1.0;
+      allowed = allowed_below p k.1.1.0 k.1.1.1.0;
+      below =
+          not-true (has_parent p) k.1.1.1.1.0;
+    }
+
+pub parts_stand : (parts : List (OutPart Extent)) → list_all has_path parts ≡ true → AllByRecursion IsExtent (map part_bytes parts)
+    → AllByRecursion IsPart parts
+parts_stand [] paths extents = tt
+parts_stand (p ∷ ps) paths extents = let k = and_parts (is_path p.path) (list_all has_path ps) paths in
+    ((path_stands p.path k.0, extents.0), parts_stand ps k.1 extents.1)
+
+module _ {E : Type 0} (s : State E) (h : IsInOrder s) where
+  -- hosts
+
+  pub site_host : (host : HostId) → is_site_host host s ≡ true → IsHost host
+  site_host host inside =
+      let below = ltb-true host.0 (length s.site) inside in
+      let few = leb-true (length s.site) 16 (sites_are s h.site).few in
+      lt-ltb host.0 16 (omega (arith, below, few))
+
+  pub peer_host : (test : Peer → Bool) (peer : HostId) → passes test (find_peer peer s) ≡ true → IsHost peer
+  peer_host test peer known = lt-ltb peer.0 16 (known_below s h test peer known)
+
+  -- the host of what is found by a host's number
+  keyed_host : {V : Type 0} (key : V → PeerNumber) (right : V → Bool) → ((v : V) → right v ≡ true → IsHost (key v).peer) → (vs : List V)
+      → list_all right vs ≡ true → (k : PeerNumber) (test : V → Bool) → passes test (find (has_key peer_number_eq key k) vs) ≡ true → IsHost k.peer
+  keyed_host key right known vs all k test found = by (find (has_key peer_number_eq key k) vs) refl found
+    where
+      by : (o : Option _) → find (has_key peer_number_eq key k) vs ≡ o → passes test o ≡ true → IsHost k.peer
+      by None e p = absurd (true≢false (sym p))
+      by (Some v) e p =
+          let same = peer_number_exact k (key v) (found_passes (has_key peer_number_eq key k) vs v e) in
+          subst (λ n. IsHost n.peer) (sym same) (known v (list_all-found right (has_key peer_number_eq key k) vs v all e))
+
+  pub hand_host : (test : Hand → Bool) (peer : HostId) (number : ℕ) → hand_passes test peer number s ≡ true → IsHost peer
+  hand_host test peer number = keyed_host hand_key (is_hand_right s) (λ x k. peer_host (is_hand_given x.number) x.peer (hand_is s x k).given) s.hands h.hands
+      (peer_number peer number) test
+
+  pub promise_host : (peer : HostId) (number : ℕ) → has_promise peer number s ≡ true → IsHost peer
+  promise_host peer number there =
+      keyed_host promise_key (is_promise_right s) (λ p k. peer_host (is_promise_open p.number) p.peer (promise_is s p k).opens) s.promises h.promises
+      (peer_number peer number) (λ _. true)
+      (found_any (is_promise (peer_number peer number)) s.promises there)
+
+  pub stage_host : (peer : HostId) (number : ℕ) → has_stage peer number s ≡ true → IsHost peer
+  stage_host peer number there =
+      keyed_host stage_key (is_stage_right s) (λ t k. peer_host (is_stage_given t.number) t.peer
+      (and_parts (is_path t.path) (passes (is_stage_given t.number) (find_peer t.peer s)) k).1) s.stages h.stages (peer_number peer number) (λ _. true)
+      (found_any (is_stage (peer_number peer number)) s.stages there)
+
+  pub hands_are : (ks : List PeerNumber) → are_offered ks s ≡ true → AllByRecursion HasNumber ks → AllByRecursion IsHand ks
+  hands_are [] offered numbers = tt
+  hands_are (k ∷ ks) offered numbers =
+      let p = and_parts (hand_passes is_offered_hand k.peer k.number s) (are_offered ks s) offered in
+      ((hand_host is_offered_hand k.peer k.number p.0, numbers.0), hands_are ks p.1 numbers.1)
+
+  -- requests
+
+  found_id : (id : RequestId) (r : Row E) → find_row id s ≡ Some r → IsId id
+  found_id id r found =
+      let right = (row_is s r (list_all-found (is_row_right s) (is_row id) s.rows r h.rows found)).id in
+      let p = and_parts (is_site_host r.id.host s) (is_sane_id r.id) right in
+      subst IsId (sym (id_exact id r.id (found_passes (is_row id) s.rows r found))) (p.1, site_host r.id.host p.0)
+
+  pub row_id : (test : Row E → Bool) (id : RequestId) → row_passes test id s ≡ true → IsId id
+  row_id test id there = by (find_row id s) refl there
+    where
+      by : (o : Option (Row E)) → find_row id s ≡ o → passes test o ≡ true → IsId id
+      by None e p = absurd (true≢false (sym p))
+      by (Some r) e p = found_id id r e
+
+  pub named_seq : (id : Named) (f : Row E → List Cause) → is_ok (first_refusal (named_causes id f (meant_row id s))) ≡ true → IsTrue (is_seq id.seq)
+  named_seq id f fits = by (host_named id.host s) fits
+    where
+      at : (r : RequestId) (o : Option (Row E)) → find_row r s ≡ o → is_ok (first_refusal (named_causes id f o)) ≡ true → IsTrue (is_seq r.seq)
+      at r None e p = absurd (true≢false (sym p))
+      at r (Some x) e p = (found_id r x e).0
+
+      by : (o : Option HostId) → is_ok (first_refusal (named_causes id f (row_of (request_of id.seq o) s))) ≡ true → IsTrue (is_seq id.seq)
+      by None p = absurd (true≢false (sym p))
+      by (Some host) p = at (record { seq = id.seq; host = host }) (find_row (record { seq = id.seq; host = host }) s) refl p

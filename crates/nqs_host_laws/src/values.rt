@@ -1,0 +1,91 @@
+//! What its type says of each value of a change: names are names, and numbers fit. It reads the
+//! values and does nothing else.
+
+ghost use Rattle.std.specs.Prelude.{IsTrue};
+ghost use Rattle.std.specs.List.{AllByRecursion};
+ghost use Rattle.nqs_base.specs.Name.{IsName};
+ghost use Rattle.nqs_rules.specs.Sane.{is_sane_job, is_sane_carried};
+ghost use Rattle.nqs_records.specs.Values.{IsU8, IsU64, IsOpt, IsHost, IsJob, IsCarried};
+ghost use Rattle.nqs_records.specs.EditValues.{IsDest};
+ghost use Rattle.nqs_host_laws.specs.Offers.{HasNumber};
+
+use nqs_base::Name;
+use nqs_types::{Carried, Job, NamedDest, PeerNumber};
+
+pub(crate) fn name_stands(name: &Name)
+    ensures { IsName name.now }
+{
+    let _ = name.as_bytes();
+}
+
+pub(crate) fn maybe_name_stands(name: &Option<Name>)
+    ensures { IsOpt IsName name.now }
+{
+    match name {
+        Some(name) => name_stands(name),
+        None => {}
+    }
+}
+
+pub(crate) fn byte_stands(byte: u8)
+    ensures { IsU8 byte }
+{}
+
+pub(crate) fn number_stands(number: u64)
+    ensures { IsU64 number }
+{}
+
+pub(crate) fn maybe_number_stands(number: &Option<u64>)
+    ensures { IsOpt IsU64 number.now }
+{
+    match number {
+        Some(number) => number_stands(*number),
+        None => {}
+    }
+}
+
+pub(crate) fn dest_stands(dest: &NamedDest)
+    ensures { IsDest dest.now }
+{
+    name_stands(&dest.queue);
+    name_stands(&dest.host);
+}
+
+pub(crate) fn maybe_dest_stands(dest: &Option<NamedDest>)
+    ensures { IsOpt IsDest dest.now }
+{
+    match dest {
+        Some(dest) => dest_stands(dest),
+        None => {}
+    }
+}
+
+pub(crate) fn job_stands(job: &Job)
+    requires { IsTrue (is_sane_job job.now) }
+    ensures { IsJob job.now }
+{
+    name_stands(&job.name);
+    name_stands(&job.owner);
+    number_stands(job.earliest);
+    maybe_number_stands(&job.limits.cpu);
+    maybe_number_stands(&job.limits.memory);
+    maybe_name_stands(&job.forms);
+}
+
+pub(crate) fn carried_stands(carried: &Carried)
+    requires sane { IsTrue (is_sane_carried carried.now) }
+    requires host { IsHost carried.now.id.host }
+    ensures { IsCarried carried.now }
+{
+    job_stands(&carried.job);
+}
+
+pub(crate) fn hands_stand(hands: &[PeerNumber])
+    ensures { AllByRecursion HasNumber hands.now }
+{
+    let mut rest = hands;
+    while let Some((hand, more)) = rest.split_first() {
+        number_stands(hand.number);
+        rest = more;
+    }
+}

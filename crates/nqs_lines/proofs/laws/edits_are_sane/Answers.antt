@@ -1,5 +1,0 @@
-use Rattle.nqs_lines.proofs.Edits.{edits_are_sane}
-use Rattle.nqs_lines.proofs.laws.edits_are_sane.Goals as goal
-
-pub returns : goal.returns
-returns c = edits_are_sane

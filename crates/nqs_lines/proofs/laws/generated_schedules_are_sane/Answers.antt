@@ -1,5 +1,0 @@
-use Rattle.nqs_lines.proofs.Generated.{generated_schedules_are_sane}
-use Rattle.nqs_lines.proofs.laws.generated_schedules_are_sane.Goals as goal
-
-pub returns : goal.returns
-returns c = generated_schedules_are_sane

@@ -1,5 +1,0 @@
-use Rattle.nqs_lines.proofs.Questions.{lists_are_sane, deletions_are_sane}
-use Rattle.nqs_lines.proofs.laws.lists_and_deletions_are_sane.Goals as goal
-
-pub returns : goal.returns
-returns c = record { lists = lists_are_sane; deletions = deletions_are_sane }

@@ -1,6 +1,0 @@
-use Rattle.nqs_lines.proofs.Schedules.{sites_are_right}
-use Rattle.nqs_lines.proofs.Generated.{generated_sites_are_right}
-use Rattle.nqs_lines.proofs.laws.sites_are_right.Goals as goal
-
-pub returns : goal.returns
-returns c = record { read = sites_are_right; generated = generated_sites_are_right }

@@ -1,5 +1,0 @@
-use Rattle.nqs_tears.proofs.TornGates.{torn_gate}
-use Rattle.nqs_tears.proofs.gates_are_torn.Goals as goal
-
-pub returns : goal.returns
-returns c = torn_gate
