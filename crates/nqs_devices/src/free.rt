@@ -27,7 +27,9 @@ fn has_forms(device: &DeviceDef, forms: Option<&Name>) -> bool
     }
 }
 
-fn can_serve(device: &DeviceDef, forms: Option<&Name>) -> bool
+/// Whether the device is enabled and has the forms, where forms are asked for. Whether it is busy
+/// isn't asked.
+pub fn can_serve(device: &DeviceDef, forms: Option<&Name>) -> bool
     ensures { result ≡ can_serve (option_copied forms.entry) device.now }
 {
     device.enabled && has_forms(device, forms)

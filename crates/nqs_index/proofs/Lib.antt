@@ -1,6 +1,8 @@
+pub mod ClassLemmas
 pub mod LineLemmas
 pub mod Numbers
 pub mod OrderLemmas
+pub mod PlaceLemmas
 pub mod QueueLineLemmas
 pub mod RunLemmas
 pub mod SeatLemmas

@@ -7,7 +7,7 @@ use Rattle.std.proofs.lemmas.Option.{same_Some, none-some}
 use Rattle.std.proofs.lemmas.Bool.Decides.{nat_tests}
 use Rattle.std.specs.List.{list_any, list_all}
 use Rattle.nqs_base_tables.specs.Table.{change_first, without_first}
-use Rattle.nqs_index.specs.Indexed.{number, IsMore}
+use Rattle.nqs_index.specs.Numbers.{number, IsMore}
 use Rattle.nqs_index.specs.Tallies.{one}
 
 counted : {A : Type 0} (b : Bool) (x : A) (xs : List A) → length (cond b (x ∷ xs) xs) ≡ length xs + one b

@@ -1,128 +1,147 @@
--- Lines of queues: what an entry more or less, or a line more, leaves of them.
-use Rattle.std.proofs.Common.{◌≡◌, ℕ, ◌+◌, ◌<◌, Bool, true, false, not, List, [], ◌∷◌, ◌++◌, map, find, length, position, slice_get, slice_set, slice_index_or}
-use Rattle.std.proofs.Common.{Option, None, Some, zero, suc}
-use Rattle.std.proofs.Common.{option_map, refl, sym, ap, subst, ◌∙◌, arith, if◌then◌else◌}
+-- The lines of queues: what an entry more or less, or a queue more, leaves of them.
+use Rattle.std.proofs.Common.{◌≡◌, ℕ, ◌<◌, map, slice_set, slice_index_or, Bool, true, false, List, [], ◌∷◌, ◌++◌, find, length, position, slice_get, Option}
+use Rattle.std.proofs.Common.{None, Some}
+use Rattle.std.proofs.Common.{option_map, refl, sym, ap, subst, ◌∙◌, if◌then◌else◌, IfSome}
 use Rattle.std.specs.Prelude.{cond}
-use Rattle.std.specs.List.{position_or_len}
-use Rattle.std.proofs.lemmas.Option.{same_Some, none-some}
+use Rattle.std.proofs.lemmas.Option.{same_Some}
 use Rattle.nqs_base.specs.Same.{name_eq, name_exact}
-use Rattle.nqs_base_tables.specs.Table.{change_first}
+use Rattle.nqs_base_tables.specs.Table.{Roomy, change_first}
 use Rattle.nqs_base_tables.proofs.KeyLemmas.{changed_at, found_changed, found_other, place_is}
+use Rattle.nqs_index.specs.declared.classes.ClassLine.{ClassLine}
+use Rattle.nqs_index.specs.declared.lines.QueueLines.{QueueLines}
 use Rattle.nqs_index.specs.declared.line.Entry.{Entry}
-use Rattle.nqs_index.specs.declared.lines.QueueLine.{QueueLine}
-use Rattle.nqs_index.specs.Lines.{placed, without_entry}
-use Rattle.nqs_index.specs.QueueLines.{is_line, items_of, entries_in, with_placed, with_taken, placed_if, taken_if}
+use Rattle.nqs_index.specs.Classes.{with_placed, PutsAt, Stays}
+use Rattle.nqs_index.specs.Indexed.{lists_of, entered_at, entered}
+use Rattle.nqs_index.specs.Lines.{placed}
+use Rattle.nqs_index.specs.QueueLines.{is_queue, lines_for, classes_under, with_classes, BecomesAt}
+use Rattle.nqs_index.proofs.PlaceLemmas.{item_at, found_at, change_same, set_twice, set_same, image_get, image_of, image_is, images_set}
 
--- what stands at a place
-pub line_at : (ls : List QueueLine) (i : ℕ) → i < length ls → (l : QueueLine) × (slice_get ls i ≡ Some l)
-line_at [] i lt = absurd (let no : ⊥ = omega arith in no)
-line_at (x ∷ ls) zero lt = (x, refl)
-line_at (x ∷ ls) (suc i) lt = line_at ls i (omega arith)
-
-pub line_of : (ls : List QueueLine) (i : ℕ) → i < length (map (λ (l : QueueLine). l.line) ls) → (l : QueueLine) × (slice_get ls i ≡ Some l)
-line_of [] i lt = absurd (let no : ⊥ = omega arith in no)
-line_of (x ∷ ls) zero lt = (x, refl)
-line_of (x ∷ ls) (suc i) lt = line_of ls i (omega arith)
-
--- a write behind another one
-pub set_twice : (ls : List QueueLine) (i : ℕ) (a b : QueueLine) → slice_set (slice_set ls i a) i b ≡ slice_set ls i b
-set_twice [] i a b = refl
-set_twice (x ∷ ls) zero a b = refl
-set_twice (x ∷ ls) (suc i) a b = ap (λ l. x ∷ l) (set_twice ls i a b)
-
--- a write of what is there
-pub set_same : (ls : List QueueLine) (i : ℕ) (l : QueueLine) → slice_get ls i ≡ Some l → slice_set ls i l ≡ ls
-set_same [] i l at = refl
-set_same (x ∷ ls) zero l at = ap (λ y. y ∷ ls) (sym (same_Some x l at))
-set_same (x ∷ ls) (suc i) l at = ap (λ k. x ∷ k) (set_same ls i l at)
-
--- a line that takes another's place under its name leaves the name
-pub name_kept : (ls : List QueueLine) (i : ℕ) (v w x : QueueLine) → slice_get ls i ≡ Some v → slice_get ls i ≡ Some w → x.name ≡ v.name
-    → slice_get (map (λ (l : QueueLine). l.name) (slice_set ls i x)) i ≡ Some w.name
-name_kept [] i v w x at there same = absurd (none-some v at)
-name_kept (y ∷ ls) zero v w x at there same = ap Some (same ∙ ap (λ (l : QueueLine). l.name) (sym (same_Some y v at) ∙ same_Some y w there))
-name_kept (y ∷ ls) (suc i) v w x at there same = name_kept ls i v w x at there same
-
--- the entries of the line at a place
-pub index_is : (ls : List QueueLine) (i : ℕ) (l : QueueLine) → slice_get ls i ≡ Some l → slice_index_or (map (λ (l : QueueLine). l.line) ls) i [] ≡ l.line
-index_is [] i l at = absurd (none-some l at)
-index_is (x ∷ ls) zero l at = ap (λ (l : QueueLine). l.line) (same_Some x l at)
-index_is (x ∷ ls) (suc i) l at = index_is ls i l at
-
--- an entry more, in the list of lines
-pub lines_entered : (x : Entry) (ls : List QueueLine) (i : ℕ) (l : QueueLine) → slice_get ls i ≡ Some l
-    → map (λ (l : QueueLine). l.line) (slice_set ls i (with_placed x l))
-    ≡ slice_set (map (λ (l : QueueLine). l.line) ls) i (placed x (slice_index_or (map (λ (l : QueueLine). l.line) ls) i []))
-lines_entered x [] i l at = absurd (none-some l at)
-lines_entered x (y ∷ ls) zero l at = ap (λ (l : QueueLine). placed x l.line ∷ map (λ (l : QueueLine). l.line) ls) (sym (same_Some y l at))
-lines_entered x (y ∷ ls) (suc i) l at = ap (λ k. y.line ∷ k) (lines_entered x ls i l at)
-
--- the entries of a queue after a change of one's line
-changed : (g : QueueLine → QueueLine) → ((l : QueueLine) → (g l).name ≡ l.name) → (q queue : List ℕ) (ls : List QueueLine)
-    → entries_in q (change_first (is_line queue) g ls) ≡ (if name_eq q queue then items_of (option_map g (find (is_line q) ls)) else entries_in q ls)
-changed g keeps q queue ls = by (name_eq q queue) refl
+-- the lines of a queue after a change of one queue's
+changed : (k : Roomy ClassLine) (q queue : List ℕ) (ls : List QueueLines)
+    → classes_under q (change_first (is_queue queue) (with_classes k) ls)
+    ≡ (if name_eq q queue then lines_for (option_map (with_classes k) (find (is_queue q) ls)) else classes_under q ls)
+changed k q queue ls = by (name_eq q queue) refl
   where
     by : (b : Bool) → name_eq q queue ≡ b
-        → entries_in q (change_first (is_line queue) g ls) ≡ (if b then items_of (option_map g (find (is_line q) ls)) else entries_in q ls)
+        → classes_under q (change_first (is_queue queue) (with_classes k) ls)
+        ≡ (if b then lines_for (option_map (with_classes k) (find (is_queue q) ls)) else classes_under q ls)
     by true e =
         let same = name_exact q queue e in
-        ap (λ q. entries_in q (change_first (is_line queue) g ls)) same
-        ∙ ap items_of (found_changed (is_line queue) g (λ l. ap (name_eq queue) (keeps l)) ls)
-        ∙ ap (λ q. items_of (option_map g (find (is_line q) ls))) (sym same)
-    by false e = ap items_of (found_other name_eq (λ (l : QueueLine). l.name) name_exact g keeps q queue ls e)
+        ap (λ q. classes_under q (change_first (is_queue queue) (with_classes k) ls)) same
+        ∙ ap lines_for (found_changed (is_queue queue) (with_classes k) (λ l. refl) ls)
+        ∙ ap (λ q. lines_for (option_map (with_classes k) (find (is_queue q) ls))) (sym same)
+    by false e = ap lines_for (found_other name_eq (λ (l : QueueLines). l.name) name_exact (with_classes k) (λ l. refl) q queue ls e)
 
--- a line without the entry
-pub entries_taken : (x : Entry) (q queue : List ℕ) (ls : List QueueLine)
-    → entries_in q (change_first (is_line queue) (with_taken x) ls) ≡ taken_if (name_eq q queue) x (entries_in q ls)
-entries_taken x q queue ls = changed (with_taken x) (λ l. refl) q queue ls
-    ∙ ap (λ es. if name_eq q queue then es else entries_in q ls) (of (find (is_line q) ls))
-  where
-    of : (o : Option QueueLine) → items_of (option_map (with_taken x) o) ≡ without_entry x (items_of o)
-    of None = refl
-    of (Some l) = refl
-
-found_at : (test : QueueLine → Bool) (ls : List QueueLine) (l : QueueLine) → slice_get ls (position_or_len test ls) ≡ Some l → find test ls ≡ Some l
-found_at test [] l at = absurd (none-some l at)
-found_at test (x ∷ ls) l at = by (found_at test ls l) (test x) at
-  where
-    by : (slice_get ls (position_or_len test ls) ≡ Some l → find test ls ≡ Some l) → (b : Bool)
-        → slice_get (x ∷ ls) (cond (not b) (1 + position_or_len test ls) 0) ≡ Some l → cond b (Some x) (find test ls) ≡ Some l
-    by rest true at = at
-    by rest false at =
-        let e : suc (position_or_len test ls) ≡ 1 + position_or_len test ls = omega arith in
-        rest (subst (λ m. slice_get (x ∷ ls) m ≡ Some l) (sym e) at)
-
--- a line with one entry more, found by its place
-module _ (x : Entry) (queue : List ℕ) (ls new : List QueueLine) (i : ℕ) (at : position (is_line queue) ls ≡ Some i) (within : i < length ls)
-    (put : (l : QueueLine) → slice_get ls i ≡ Some l → new ≡ slice_set ls i (with_placed x l)) where
-  there : find (is_line queue) ls ≡ Some (line_at ls i within).0
-  there = found_at (is_line queue) ls (line_at ls i within).0 (ap (slice_get ls) (place_is (is_line queue) ls i at) ∙ (line_at ls i within).1)
-
-  new_is : new ≡ change_first (is_line queue) (with_placed x) ls
-  new_is = put (line_at ls i within).0 (line_at ls i within).1
-      ∙ changed_at (is_line queue) (with_placed x) ls i (line_at ls i within).0 at (line_at ls i within).1
-
-  pub entries_placed : (q : List ℕ) → entries_in q new ≡ placed_if (name_eq q queue) x (entries_in q ls)
-  entries_placed q = ap (entries_in q) new_is ∙ changed (with_placed x) (λ l. refl) q queue ls ∙ by (name_eq q queue) refl
+module _ (f : List ClassLine → List ClassLine) (queue : List ℕ) (ls : List QueueLines) where
+  -- a queue whose lines became others
+  became : (k : Roomy ClassLine) (v : QueueLines) → find (is_queue queue) ls ≡ Some v → k.items ≡ f v.classes.items → (q : List ℕ)
+      → classes_under q (change_first (is_queue queue) (with_classes k) ls) ≡ (if name_eq q queue then f (classes_under q ls) else classes_under q ls)
+  became k v there is q = changed k q queue ls ∙ by (name_eq q queue) refl
     where
-      here : name_eq q queue ≡ true → find (is_line q) ls ≡ Some (line_at ls i within).0
-      here e = ap (λ q. find (is_line q) ls) (name_exact q queue e) ∙ there
+      here : name_eq q queue ≡ true → find (is_queue q) ls ≡ Some v
+      here e = ap (λ q. find (is_queue q) ls) (name_exact q queue e) ∙ there
 
       by : (b : Bool) → name_eq q queue ≡ b
-          → (if b then items_of (option_map (with_placed x) (find (is_line q) ls)) else entries_in q ls) ≡ placed_if b x (entries_in q ls)
-      by true e = ap (λ o. items_of (option_map (with_placed x) o)) (here e) ∙ ap (λ o. placed x (items_of o)) (sym (here e))
+          → (if b then lines_for (option_map (with_classes k) (find (is_queue q) ls)) else classes_under q ls)
+          ≡ (if b then f (classes_under q ls) else classes_under q ls)
+      by true e = ap (λ o. lines_for (option_map (with_classes k) o)) (here e) ∙ is ∙ ap (λ o. f (lines_for o)) (sym (here e))
       by false e = refl
 
--- a line that is new and empty
-pub entries_added : (x : QueueLine) → x.line ≡ [] → (q : List ℕ) (ls : List QueueLine) → entries_in q (ls ++ x ∷ []) ≡ entries_in q ls
-entries_added x none q [] = by (name_eq q x.name)
+  -- one that is found by its place
+  pub became_at : (new : List QueueLines) (i : ℕ) → position (is_queue queue) ls ≡ Some i → i < length ls
+      → BecomesAt i (λ old new. new ≡ f old) ls new → (q : List ℕ)
+      → classes_under q new ≡ (if name_eq q queue then f (classes_under q ls) else classes_under q ls)
+  became_at new i at within becomes q =
+      let v = item_at ls i within in
+      let k = becomes v.0 v.1 in
+      let there = found_at (is_queue queue) ls v.0 (ap (slice_get ls) (place_is (is_queue queue) ls i at) ∙ v.1) in
+      ap (classes_under q) (k.2 ∙ changed_at (is_queue queue) (with_classes k.0) ls i v.0 at v.1) ∙ became k.0 v.0 there k.1 q
+
+  -- one that is found by its name, if there is one
+  pub became_named : (new : List QueueLines) (Ran : QueueLines → QueueLines → Type 0)
+      → ((v w : QueueLines) → Ran v w → (w.name ≡ v.name) × (w.classes.items ≡ f v.classes.items)) → f [] ≡ []
+      → ((find (is_queue queue) ls ≡ None) → new ≡ ls)
+      → IfSome (find (is_queue queue) ls) (λ v. (w : QueueLines) × Ran v w × (new ≡ change_first (is_queue queue) (λ _. w) ls)) → (q : List ℕ)
+      → classes_under q new ≡ (if name_eq q queue then f (classes_under q ls) else classes_under q ls)
+  became_named new Ran says none same made q = by (find (is_queue queue) ls) refl made
+    where
+      nothing : find (is_queue queue) ls ≡ None → (b : Bool) → name_eq q queue ≡ b
+          → classes_under q ls ≡ (if b then f (classes_under q ls) else classes_under q ls)
+      nothing e true is =
+          let empty : classes_under q ls ≡ [] = ap (λ q. classes_under q ls) (name_exact q queue is) ∙ ap lines_for e in
+          empty ∙ sym none ∙ ap f (sym empty)
+      nothing e false is = refl
+
+      by : (o : Option QueueLines) → find (is_queue queue) ls ≡ o
+          → IfSome o (λ v. (w : QueueLines) × Ran v w × (new ≡ change_first (is_queue queue) (λ _. w) ls))
+          → classes_under q new ≡ (if name_eq q queue then f (classes_under q ls) else classes_under q ls)
+      by None e m = ap (classes_under q) (same e) ∙ nothing e (name_eq q queue) refl
+      by (Some v) e (w, ran, is) =
+          let made = says v w ran in
+          ap (classes_under q) (is ∙ change_same (is_queue queue) (with_classes w.classes) w v ls e (λ j. record { name = made.0 j; classes = w.classes }))
+          ∙ became w.classes v e made.1 q
+
+-- a queue that is new and has no lines
+pub classes_added : (x : QueueLines) → x.classes.items ≡ [] → (q : List ℕ) (ls : List QueueLines) → classes_under q (ls ++ x ∷ []) ≡ classes_under q ls
+classes_added x none q [] = by (name_eq q x.name)
   where
-    by : (b : Bool) → items_of (cond b (Some x) None) ≡ []
+    by : (b : Bool) → lines_for (cond b (Some x) None) ≡ []
     by true = none
     by false = refl
-entries_added x none q (l ∷ ls) = by (name_eq q l.name) (entries_added x none q ls)
+classes_added x none q (l ∷ ls) = by (name_eq q l.name) (classes_added x none q ls)
   where
-    by : (b : Bool) → entries_in q (ls ++ x ∷ []) ≡ entries_in q ls
-        → items_of (cond b (Some l) (find (is_line q) (ls ++ x ∷ []))) ≡ items_of (cond b (Some l) (find (is_line q) ls))
+    by : (b : Bool) → classes_under q (ls ++ x ∷ []) ≡ classes_under q ls
+        → lines_for (cond b (Some l) (find (is_queue q) (ls ++ x ∷ []))) ≡ lines_for (cond b (Some l) (find (is_queue q) ls))
     by true rest = refl
     by false rest = rest
+
+-- a queue was lent, an empty one in its place, and came back with other lines
+module _ (ls mid new : List QueueLines) (i : ℕ) (l e : QueueLines) (k : Roomy ClassLine) (out : slice_get ls i ≡ Some l) (lent : mid ≡ slice_set ls i e)
+    (back : new ≡ slice_set mid i (with_classes k l)) where
+  pub lent_back : (Rule : List ClassLine → List ClassLine → Type 0) → Rule l.classes.items k.items → BecomesAt i Rule ls new
+  lent_back Rule is v at =
+      let same : l ≡ v = same_Some l v (sym out ∙ at) in (
+        k,
+        subst (λ (q : QueueLines). Rule q.classes.items k.items) same is,
+        back ∙ ap (λ m. slice_set m i (with_classes k l)) lent ∙ set_twice ls i e (with_classes k l)
+            ∙ ap (λ (q : QueueLines). slice_set ls i (with_classes k q)) same,
+      )
+
+-- the lines of a queue, as lists
+abbrev listed : QueueLines → List (List Entry)
+listed q = lists_of q.classes.items
+
+-- the line at a place of the queue at a place
+module _ (ls : List QueueLines) (queue class : ℕ) (queue_within : queue < length (map listed ls))
+    (class_within : class < length (slice_index_or (map listed ls) queue [])) where
+  pub queue_at : (q : QueueLines) × (slice_get ls queue ≡ Some q)
+  queue_at = image_of listed ls queue queue_within
+
+  queue_is : slice_index_or (map listed ls) queue [] ≡ listed queue_at.0
+  queue_is = image_is listed [] ls queue queue_at.0 queue_at.1
+
+  pub line_at : (l : ClassLine) × (slice_get queue_at.0.classes.items class ≡ Some l)
+  line_at = image_of (λ (l : ClassLine). l.line) queue_at.0.classes.items class (subst (λ k. class < length k) queue_is class_within)
+
+  pub line_is : slice_index_or (slice_index_or (map listed ls) queue []) class [] ≡ line_at.0.line
+  line_is = ap (λ k. slice_index_or k class []) queue_is ∙ image_is (λ (l : ClassLine). l.line) [] queue_at.0.classes.items class line_at.0 line_at.1
+
+  -- an entry more in it
+  pub lines_entered : (x : Entry) (new : List QueueLines) → BecomesAt queue (PutsAt class x) ls new → map listed new ≡ entered queue class x (map listed ls)
+  lines_entered x new becomes =
+      let q = queue_at.0 in
+      let k = becomes q queue_at.1 in
+      let inner : lists_of k.0.items ≡ entered_at class x (listed q) =
+      ap lists_of (k.1 line_at.0 line_at.1)
+      ∙ images_set (λ (l : ClassLine). l.line) q.classes.items class (with_placed x line_at.0)
+      ∙ ap (λ es. slice_set (listed q) class (placed x es)) (sym (image_is (λ (l : ClassLine). l.line) [] q.classes.items class line_at.0 line_at.1)) in
+      ap (map listed) k.2 ∙ images_set listed ls queue (with_classes k.0 q) ∙ (λ j. slice_set (map listed ls) queue (inner j))
+      ∙ ap (λ m. slice_set (map listed ls) queue (entered_at class x m)) (sym queue_is)
+
+  -- no change
+  pub lines_stay : (new : List QueueLines) → BecomesAt queue Stays ls new → map listed new ≡ map listed ls
+  lines_stay new becomes =
+      let q = queue_at.0 in
+      let k = becomes q queue_at.1 in
+      ap (map listed) k.2 ∙ images_set listed ls queue (with_classes k.0 q) ∙ (λ j. slice_set (map listed ls) queue (lists_of (k.1 j)))
+      ∙ set_same (map listed ls) queue (listed q) (image_get listed ls queue q queue_at.1)

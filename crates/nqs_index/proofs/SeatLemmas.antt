@@ -9,7 +9,8 @@ use Rattle.nqs_types.specs.RowStates.{is_running}
 use Rattle.nqs_types.specs.declared.request.Row.{Row}
 use Rattle.nqs_index.specs.declared.index.Index.{Index}
 use Rattle.nqs_index.specs.declared.seat.Seat.{Seat}
-use Rattle.nqs_index.specs.Indexed.{number, IsMore, Stands}
+use Rattle.nqs_index.specs.Indexed.{Stands}
+use Rattle.nqs_index.specs.Numbers.{number, IsMore}
 use Rattle.nqs_index.specs.Seats.{seat_of, counts_for, waits_in, entry_of}
 use Rattle.nqs_index.specs.Tallies.{one}
 use Rattle.nqs_index.proofs.Numbers.{number-map, more_behind, more_found, more_changed}
@@ -41,9 +42,11 @@ same_more t ts us vs one other p = one p ∙ sym (other p)
 pub same_stands : (i : Index) (us vs : List Seat) → ((p : Seat → Bool) → number p us ≡ number p vs) → Stands i us → Stands i vs
 same_stands i us vs same stands = record {
   counts = λ k. stands.counts k ∙ same (counts_for k);
-  lines = λ q test. stands.lines q test ∙ same (λ t. waits_in q t && test (entry_of t));
+  lines = λ q test. stands.lines q test ∙ same (λ t. waits_in q t && test t.class (entry_of t));
   running = λ test. stands.running test ∙ same (λ t. is_running t.state && test t.id);
   order = stands.order;
+  filled = stands.filled;
+  apart = stands.apart;
 }
 
 number_permuted : {A : Type 0} (p : A → Bool) (xs ys : List A) → IsPermutation xs ys → number p ys ≡ number p xs

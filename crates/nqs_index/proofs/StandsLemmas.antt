@@ -1,115 +1,87 @@
 -- An index with one seat more, or less.
-use Rattle.std.proofs.Common.{◌≡◌, ℕ, ◌+◌, ◌-◌, ◌<◌, ◌≤◌, Bool, true, false, ◌&&◌, ◌||◌, nat_lt, List, [], ◌∷◌, ◌++◌, length, take, get_or, zero, suc}
-use Rattle.std.proofs.Common.{refl, sym, ap, subst, ◌∙◌, arith, if◌then◌else◌, true≢false}
-use Rattle.std.specs.List.{list_any}
-use Rattle.std.proofs.lemmas.Bool.{and_parts, and_from}
-use Rattle.std.proofs.lemmas.Bool.Decides.{nat_tests}
+use Rattle.std.proofs.Common.{◌≡◌, ℕ, ◌+◌, ◌-◌, ◌<◌, ◌≤◌, Bool, true, false, ◌&&◌, List, [], ◌∷◌, ◌++◌, length, take, get_or, zero, suc}
+use Rattle.std.proofs.Common.{refl, sym, ap, subst, ◌∙◌, arith}
 use Rattle.std.proofs.lemmas.List.{take_more}
-use Rattle.nqs_base_tables.specs.Table.{without_first}
-use Rattle.nqs_types.specs.Ids.{id_eq, id_exact}
+use Rattle.nqs_types.specs.Ids.{id_eq}
 use Rattle.nqs_types.specs.RowStates.{is_running}
 use Rattle.nqs_types.specs.declared.ids.RequestId.{RequestId}
+use Rattle.nqs_index.specs.declared.class.Class.{Class}
+use Rattle.nqs_index.specs.declared.classes.ClassLine.{ClassLine}
 use Rattle.nqs_index.specs.declared.index.Index.{Index}
 use Rattle.nqs_index.specs.declared.line.Entry.{Entry}
 use Rattle.nqs_index.specs.declared.seat.Seat.{Seat}
 use Rattle.nqs_index.specs.declared.tally.Tally.{Tally}
-use Rattle.nqs_index.specs.Keys.{is_before}
-use Rattle.nqs_index.specs.Lines.{IsInOrder, placed, same_key, is_entry}
-use Rattle.nqs_index.specs.QueueLines.{placed_if, taken_if}
-use Rattle.nqs_index.specs.Indexed.{counted_in, line_in, running_in, number, IsMore, Stands}
+use Rattle.nqs_index.specs.Lines.{is_entry}
+use Rattle.nqs_index.specs.Classes.{class_eq, number_in, AreInOrder, AreFilled, AreApart, entered_in, taken_from}
+use Rattle.nqs_index.specs.QueueLines.{entered_if, taken_if}
+use Rattle.nqs_index.specs.Indexed.{counted_in, classes_in, running_in, Stands}
+use Rattle.nqs_index.specs.Numbers.{number, IsMore}
 use Rattle.nqs_index.specs.Seats.{entry_of, waits_in, counts_for}
 use Rattle.nqs_index.specs.Tallies.{one}
-use Rattle.nqs_index.proofs.LineLemmas.{in_order, order_left}
-use Rattle.nqs_index.proofs.Numbers.{number-cons, any_number, more_behind}
-use Rattle.nqs_index.proofs.OrderLemmas.{key_exact, key_itself}
+use Rattle.nqs_index.proofs.ClassLemmas.{class_itself, entry_itself, number_entered, order_entered, filled_entered, apart_entered}
+use Rattle.nqs_index.proofs.ClassLemmas.{number_left, order_left_in, filled_left, apart_left}
+use Rattle.nqs_index.proofs.Numbers.{more_behind}
 use Rattle.nqs_index.proofs.RunLemmas.{id_itself}
 
--- one entry more, by each test
-number_placed : (p : Entry → Bool) (x : Entry) (es : List Entry) → number p (placed x es) ≡ number p es + one (p x)
-number_placed p x [] = number-cons p x []
-number_placed p x (y ∷ ys) = by (is_before x.key y.key) (number_placed p x ys)
-  where
-    by : (b : Bool) → number p (placed x ys) ≡ number p ys + one (p x)
-        → number p (if b then x ∷ y ∷ ys else y ∷ placed x ys) ≡ number p (y ∷ ys) + one (p x)
-    by true rest = number-cons p x (y ∷ ys)
-    by false rest =
-        let i : number p (y ∷ placed x ys) ≡ number p (placed x ys) + one (p y) = number-cons p y (placed x ys) in
-        let j : number p (y ∷ ys) ≡ number p ys + one (p y) = number-cons p y ys in
-        omega (arith, rest, i, j)
+entered_number : (test : Class → Entry → Bool) (c : Class) (x : Entry) (b : Bool) (ls : List ClassLine)
+    → number_in test (entered_if b c x ls) ≡ number_in test ls + one (b && test c x)
+entered_number test c x true ls = number_entered c x test ls
+entered_number test c x false ls = omega arith
 
-placed_number : (p : Entry → Bool) (x : Entry) (b : Bool) (es : List Entry) → number p (placed_if b x es) ≡ number p es + one (b && p x)
-placed_number p x true es = number_placed p x es
-placed_number p x false es = omega arith
-
-placed_order : (x : Entry) (b : Bool) (es : List Entry) → IsInOrder es → IsInOrder (placed_if b x es)
-placed_order x true es h = in_order x es h
-placed_order x false es h = h
+-- what is kept of lines by an entry more is kept where there may be one
+entered_keeps : (P : List ClassLine → Type 0) (c : Class) (x : Entry) → ((ls : List ClassLine) → P ls → P (entered_in c x ls)) → (b : Bool)
+    (ls : List ClassLine) → P ls → P (entered_if b c x ls)
+entered_keeps P c x keeps true ls h = keeps ls h
+entered_keeps P c x keeps false ls h = h
 
 module _ (i j : Index) (t : Seat) (ts us : List Seat) (stands : Stands i ts) (more : IsMore t ts us)
     (counts : (k : Tally) → counted_in k j ≡ counted_in k i + one (counts_for k t))
-    (lines : (q : List ℕ) → line_in q j ≡ placed_if (waits_in q t) (entry_of t) (line_in q i))
+    (lines : (q : List ℕ) → classes_in q j ≡ entered_if (waits_in q t) t.class (entry_of t) (classes_in q i))
     (runs : (test : RequestId → Bool) → number test (running_in j) ≡ number test (running_in i) + one (is_running t.state && test t.id)) where
   -- one seat more
   pub entered : Stands j us
   entered = record {
     counts = λ k. counts k ∙ ap (λ n. n + one (counts_for k t)) (stands.counts k) ∙ sym (more (counts_for k));
-    lines = λ q test. ap (number test) (lines q) ∙ placed_number test (entry_of t) (waits_in q t) (line_in q i)
-        ∙ ap (λ n. n + one (waits_in q t && test (entry_of t))) (stands.lines q test) ∙ sym (more (λ u. waits_in q u && test (entry_of u)));
+    lines = λ q test. ap (number_in test) (lines q) ∙ entered_number test t.class (entry_of t) (waits_in q t) (classes_in q i)
+        ∙ ap (λ n. n + one (waits_in q t && test t.class (entry_of t))) (stands.lines q test)
+        ∙ sym (more (λ u. waits_in q u && test u.class (entry_of u)));
     running = λ test. runs test ∙ ap (λ n. n + one (is_running t.state && test t.id)) (stands.running test)
         ∙ sym (more (λ u. is_running u.state && test u.id));
-    order = λ q. subst IsInOrder (sym (lines q)) (placed_order (entry_of t) (waits_in q t) (line_in q i) (stands.order q));
+    order = kept AreInOrder (order_entered t.class (entry_of t)) stands.order;
+    filled = kept AreFilled (filled_entered t.class (entry_of t)) stands.filled;
+    apart = kept AreApart (apart_entered t.class (entry_of t)) stands.apart;
   }
+    where
+      kept : (P : List ClassLine → Type 0) → ((ls : List ClassLine) → P ls → P (entered_in t.class (entry_of t) ls)) → ((q : List ℕ) → P (classes_in q i))
+          → (q : List ℕ) → P (classes_in q j)
+      kept P keeps all q = subst P (sym (lines q)) (entered_keeps P t.class (entry_of t) keeps (waits_in q t) (classes_in q i) (all q))
 
--- an entry is itself, and no other one is it
-entry_itself : (x : Entry) → is_entry x x ≡ true
-entry_itself x = and_from (same_key x.key x.key) (id_eq x.id x.id) (key_itself x.key) (id_itself x.id)
+left_number : (test : Class → Entry → Bool) (c : Class) (x : Entry) (b : Bool) (ls : List ClassLine) → AreApart ls
+    → (b ≡ true → 0 < number_in (λ k e. class_eq c k && is_entry x e) ls) → number_in test ls ≡ number_in test (taken_if b c x ls) + one (b && test c x)
+left_number test c x true ls apart some = number_left c x test ls apart (some refl)
+left_number test c x false ls apart some = omega arith
 
-entry_exact : (x y : Entry) → is_entry x y ≡ true → x ≡ y
-entry_exact x y h =
-    let p = and_parts (same_key x.key y.key) (id_eq x.id y.id) h in
-    (λ j. record { key = key_exact x.key y.key p.0 j; id = id_exact x.id y.id p.1 j })
-
--- one entry less, by each test
-number_taken : (p : Entry → Bool) (x : Entry) (es : List Entry) → list_any (is_entry x) es ≡ true
-    → number p es ≡ number p (without_first (is_entry x) es) + one (p x)
-number_taken p x [] h = absurd (true≢false (sym h))
-number_taken p x (y ∷ ys) h = by (is_entry x y) refl (number_taken p x ys) h
-  where
-    by : (b : Bool) → is_entry x y ≡ b → (list_any (is_entry x) ys ≡ true → number p ys ≡ number p (without_first (is_entry x) ys) + one (p x))
-        → (b || list_any (is_entry x) ys) ≡ true → number p (y ∷ ys) ≡ number p (if b then ys else y ∷ without_first (is_entry x) ys) + one (p x)
-    by true e rest h = number-cons p y ys ∙ ap (λ z. number p ys + one (p z)) (sym (entry_exact x y e))
-    by false e rest h =
-        let k = rest h in
-        let i : number p (y ∷ without_first (is_entry x) ys) ≡ number p (without_first (is_entry x) ys) + one (p y) =
-        number-cons p y (without_first (is_entry x) ys) in
-        let j : number p (y ∷ ys) ≡ number p ys + one (p y) = number-cons p y ys in
-        omega (arith, k, i, j)
-
-taken_number : (p : Entry → Bool) (x : Entry) (b : Bool) (es : List Entry) → (b ≡ true → list_any (is_entry x) es ≡ true)
-    → number p es ≡ number p (taken_if b x es) + one (b && p x)
-taken_number p x true es there = number_taken p x es (there refl)
-taken_number p x false es there = omega arith
-
-taken_order : (x : Entry) (b : Bool) (es : List Entry) → IsInOrder es → IsInOrder (taken_if b x es)
-taken_order x true es h = order_left x es h
-taken_order x false es h = h
-
-positive : (n : ℕ) → 0 < n → nat_lt 0 n ≡ true
-positive n some = grind (arith, nat_tests)
+-- what is kept of lines by an entry less is kept where there may be one
+left_keeps : (P : List ClassLine → Type 0) (c : Class) (x : Entry) → ((ls : List ClassLine) → P ls → P (taken_from c x ls)) → (b : Bool)
+    (ls : List ClassLine) → P ls → P (taken_if b c x ls)
+left_keeps P c x keeps true ls h = keeps ls h
+left_keeps P c x keeps false ls h = h
 
 module _ (i j : Index) (t : Seat) (ts us : List Seat) (stands : Stands i us) (more : IsMore t ts us)
     (counts : (k : Tally) → counted_in k j ≡ counted_in k i - one (counts_for k t))
-    (lines : (q : List ℕ) → line_in q j ≡ taken_if (waits_in q t) (entry_of t) (line_in q i))
+    (lines : (q : List ℕ) → classes_in q j ≡ taken_if (waits_in q t) t.class (entry_of t) (classes_in q i))
     (runs : (is_running t.state ≡ true → 0 < number (id_eq t.id) (running_in i)) → (test : RequestId → Bool)
     → number test (running_in i) ≡ number test (running_in j) + one (is_running t.state && test t.id)) where
-  -- the entry of a seat that waits is in its line
-  there : (q : List ℕ) → waits_in q t ≡ true → list_any (is_entry (entry_of t)) (line_in q i) ≡ true
+  -- the entry of a seat that waits is in the line of its class
+  there : (q : List ℕ) → waits_in q t ≡ true → 0 < number_in (λ k e. class_eq t.class k && is_entry (entry_of t) e) (classes_in q i)
   there q waits =
-      let test = is_entry (entry_of t) in
-      let a : number test (line_in q i) ≡ number (λ u. waits_in q u && test (entry_of u)) ts + one (waits_in q t && test (entry_of t))
-      = stands.lines q test ∙ more (λ u. waits_in q u && test (entry_of u)) in
-      let b : one (waits_in q t && test (entry_of t)) ≡ 1 = (λ k. one (waits k && entry_itself (entry_of t) k)) in
-      any_number test (line_in q i) ∙ positive (number test (line_in q i)) (omega (arith, a, b))
+      let test = λ (k : Class) (e : Entry). class_eq t.class k && is_entry (entry_of t) e in
+      let a : number_in test (classes_in q i)
+      ≡ number (λ u. waits_in q u && test u.class (entry_of u)) ts + one (waits_in q t && (class_eq t.class t.class && is_entry (entry_of t) (entry_of t)))
+      = stands.lines q test ∙ more (λ u. waits_in q u && test u.class (entry_of u)) in
+      let b : one (waits_in q t && (class_eq t.class t.class && is_entry (entry_of t) (entry_of t))) ≡ 1
+      = (λ k. one (waits k && (class_itself t.class k && entry_itself (entry_of t) k))) in
+      omega (arith, a, b)
 
   -- a seat that runs is among those that do
   runs_there : is_running t.state ≡ true → 0 < number (id_eq t.id) (running_in i)
@@ -124,18 +96,25 @@ module _ (i j : Index) (t : Seat) (ts us : List Seat) (stands : Stands i us) (mo
   left = record {
     counts = λ k. let a = counts k in let b = stands.counts k in let c = more (counts_for k) in omega (arith, a, b, c);
     lines = λ q test.
-        let a : number test (line_in q j) ≡ number test (taken_if (waits_in q t) (entry_of t) (line_in q i)) = ap (number test) (lines q) in
-        let b = taken_number test (entry_of t) (waits_in q t) (line_in q i) (there q) in
-        let c : number test (line_in q i) ≡ number (λ u. waits_in q u && test (entry_of u)) ts + one (waits_in q t && test (entry_of t))
-        = stands.lines q test ∙ more (λ u. waits_in q u && test (entry_of u)) in
+        let a : number_in test (classes_in q j) ≡ number_in test (taken_if (waits_in q t) t.class (entry_of t) (classes_in q i)) =
+        ap (number_in test) (lines q) in
+        let b = left_number test t.class (entry_of t) (waits_in q t) (classes_in q i) (stands.apart q) (there q) in
+        let c : number_in test (classes_in q i) ≡ number (λ u. waits_in q u && test u.class (entry_of u)) ts + one (waits_in q t && test t.class (entry_of t))
+        = stands.lines q test ∙ more (λ u. waits_in q u && test u.class (entry_of u)) in
         omega (arith, a, b, c);
     running = λ test.
         let a = runs runs_there test in
         let b : number test (running_in i) ≡ number (λ u. is_running u.state && test u.id) ts + one (is_running t.state && test t.id)
         = stands.running test ∙ more (λ u. is_running u.state && test u.id) in
         omega (arith, a, b);
-    order = λ q. subst IsInOrder (sym (lines q)) (taken_order (entry_of t) (waits_in q t) (line_in q i) (stands.order q));
+    order = kept AreInOrder (order_left_in t.class (entry_of t)) stands.order;
+    filled = kept AreFilled (filled_left t.class (entry_of t)) stands.filled;
+    apart = kept AreApart (apart_left t.class (entry_of t)) stands.apart;
   }
+    where
+      kept : (P : List ClassLine → Type 0) → ((ls : List ClassLine) → P ls → P (taken_from t.class (entry_of t) ls)) → ((q : List ℕ) → P (classes_in q i))
+          → (q : List ℕ) → P (classes_in q j)
+      kept P keeps all q = subst P (sym (lines q)) (left_keeps P t.class (entry_of t) keeps (waits_in q t) (classes_in q i) (all q))
 
 -- one more of a list was gone over
 pub more_taken : {A : Type 0} (xs : List A) (n : ℕ) (x : A) → n < length xs → x ≡ get_or xs n x → IsMore x (take n xs) (take (n + 1) xs)

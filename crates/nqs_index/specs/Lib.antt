@@ -1,6 +1,8 @@
+pub mod Classes
 pub mod Indexed
 pub mod Keys
 pub mod Lines
+pub mod Numbers
 pub mod QueueLines
 pub mod Runs
 pub mod Seats

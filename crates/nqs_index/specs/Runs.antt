@@ -7,8 +7,8 @@ use Rattle.nqs_base_tables.specs.Table.{has_key, best_from}
 use Rattle.nqs_index.specs.declared.runs.Run.{Run}
 
 -- the order of requests: by the host of their submission, then by number
-abbrev pub is_less : RequestId → RequestId → Bool
-is_less a b = nat_lt a.host.0 b.host.0 || (a.host.0 == b.host.0 && nat_lt a.seq b.seq)
+abbrev pub is_less_id : RequestId → RequestId → Bool
+is_less_id a b = nat_lt a.host.0 b.host.0 || (a.host.0 == b.host.0 && nat_lt a.seq b.seq)
 
 -- whether a run is this request's
 abbrev pub is_run : RequestId → Run → Bool
@@ -20,8 +20,8 @@ ids_of = map (λ r. r.id)
 
 -- the least of the requests that run
 abbrev pub least_of : List Run → Option RequestId
-least_of runs = option_map (λ p. p.1.id) (best_from (λ _. true) (λ a b. is_less a.id b.id) 0 runs)
+least_of runs = option_map (λ p. p.1.id) (best_from (λ _. true) (λ a b. is_less_id a.id b.id) 0 runs)
 
 -- a request is among these, and none of them is less
 abbrev pub IsLeast : RequestId → List RequestId → Type 0
-IsLeast id ids = (0 < length (filter (id_eq id) ids)) × (length (filter (λ other. is_less other id) ids) ≡ 0)
+IsLeast id ids = (0 < length (filter (id_eq id) ids)) × (length (filter (λ other. is_less_id other id) ids) ≡ 0)

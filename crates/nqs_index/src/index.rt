@@ -7,15 +7,15 @@ ghost use Rattle.std.specs.Prelude.{◌≡◌, ◌<◌, ◌≤◌, ◌+◌, ◌-
 ghost use Rattle.nqs_types.specs.Ids.{id_eq};
 ghost use Rattle.nqs_types.specs.RowStates.{is_running};
 ghost use Rattle.nqs_index.specs.declared.seat.Seat.{Seat as SeatValue};
-ghost use Rattle.nqs_index.specs.Indexed.{counted_in, line_in, lines_of, running_in, entered, number, IsMore, Stands, StandsForIndex};
+ghost use Rattle.nqs_index.specs.Indexed.{counted_in, classes_in, lines_of, running_in, entered, number, IsMore, Stands, StandsForIndex};
 ghost use Rattle.nqs_index.specs.Lines.{entry_at};
-ghost use Rattle.nqs_index.specs.QueueLines.{placed_if, taken_if, entries_in};
+ghost use Rattle.nqs_index.specs.QueueLines.{classes_under, entered_if, taken_if};
 ghost use Rattle.nqs_index.specs.Runs.{ids_of, IsLeast};
 ghost use Rattle.nqs_index.specs.Seats.{counts_for, entry_of, waits_in, is_of_device, ones_of_active, ones_of_running};
 ghost use Rattle.nqs_index.specs.Tallies.{count_of, one};
 
+use crate::classes::Classes;
 use crate::key::Key;
-use crate::line::Line;
 use crate::lines::{Lines, put, put_at, take};
 use crate::nobody::Nobody;
 use crate::runs::{Runs, end, least, start};
@@ -54,7 +54,7 @@ fn count_active(counters: &mut Counters, seat: &Seat) -> bool
     if !raise(counters, &Tally::Active(seat.queue)) {
         return false;
     }
-    raise(counters, &Tally::Owned(seat.queue, seat.owner))
+    raise(counters, &Tally::Owned(seat.queue, seat.class.owner))
 }
 
 // The device that a row runs on is counted, if it is on one.
@@ -110,7 +110,7 @@ fn count_out(counters: &mut Counters, seat: &Seat)
         return;
     }
     lower(counters, &Tally::Active(seat.queue));
-    lower(counters, &Tally::Owned(seat.queue, seat.owner));
+    lower(counters, &Tally::Owned(seat.queue, seat.class.owner));
     if seat.state == RowState::Routing {
         return;
     }
@@ -118,23 +118,25 @@ fn count_out(counters: &mut Counters, seat: &Seat)
     count_out_device(counters, seat.device);
 }
 
-// A row that waits without a hold comes into the line of its queue.
+// A row that waits without a hold comes into the line of its queue and class.
 fn line_up(lines: &mut Lines, seat: &Seat) -> bool
-    ensures { result ≡ true → (q : List ℕ) → entries_in q lines.new.items ≡ placed_if (waits_in q seat.now) (entry_of seat.now) (entries_in q lines.old.items) }
+    ensures { result ≡ true → (q : List ℕ) → classes_under q lines.new.items
+        ≡ entered_if (waits_in q seat.now) seat.now.class (entry_of seat.now) (classes_under q lines.old.items) }
 {
     if !seat.ready {
         return true;
     }
-    put(lines, &seat.queue, seat.key, seat.id)
+    put(lines, &seat.queue, &seat.class, seat.key, seat.id)
 }
 
 fn step_out(lines: &mut Lines, seat: &Seat)
-    ensures { (q : List ℕ) → entries_in q lines.new.items ≡ taken_if (waits_in q seat.now) (entry_of seat.now) (entries_in q lines.old.items) }
+    ensures { (q : List ℕ) → classes_under q lines.new.items ≡ taken_if (waits_in q seat.now) seat.now.class (entry_of seat.now)
+        (classes_under q lines.old.items) }
 {
     if !seat.ready {
         return;
     }
-    take(lines, &seat.queue, seat.key, seat.id);
+    take(lines, &seat.queue, &seat.class, seat.key, seat.id);
 }
 
 // A row that runs is among those that do. False where it can't come in.
@@ -172,9 +174,9 @@ impl Index {
     }
 
     /// A row comes in. False where memory is wanting, where a count is at its end, where its
-    /// request runs already, or where there would be more than 1,024 lines or 65,536 counters:
-    /// those of names long gone stay, so that an index that is made anew is smaller. After a false
-    /// the index is of no use.
+    /// request runs already, or where there would be more than 1,024 queues or 65,536 counters:
+    /// those of names long gone stay, so that an index that is made anew is smaller. A class goes
+    /// with the last of its waiting requests. After a false the index is of no use.
     pub fn enter(&mut self, seat: &Seat) -> bool
         ensures { (ts us : List SeatValue) → Stands self.old ts → IsMore seat.now ts us → result ≡ true → Stands self.new us }
     {
@@ -221,30 +223,32 @@ impl Index {
         Index::of(alloc, &seats)
     }
 
-    /// How many queues have a line.
+    /// How many queues have lines, or had some.
     pub fn len(&self) -> usize
         ensures { result ≡ length (lines_of self.now) }
     {
         self.lines.len()
     }
 
-    /// Puts a request into the line at a place, from 0, behind those of equal keys: twice to the
-    /// power of the comparisons is at most twice the line's length, and one. An `Err` changes no
-    /// line.
+    /// Puts a request into the line of the class at a place of the queue at a place, both from 0,
+    /// behind those of equal keys: twice to the power of the comparisons is at most twice the
+    /// line's length, and one. An `Err` changes no line.
     pub fn insert<L: Ledger>(
         &mut self,
         queue: usize,
+        class: usize,
         key: Key,
         id: RequestId,
         steps: &mut Steps<L>,
     ) -> Result<(), Memory>
-        requires { queue < length (lines_of self.old) }
-        ensures ok { OnOk result (lines_of self.new ≡ entered queue (entry_at key id) (lines_of self.old)) }
+        requires queue { queue < length (lines_of self.old) }
+        requires class { class < length (slice_index_or (lines_of self.old) queue []) }
+        ensures ok { OnOk result (lines_of self.new ≡ entered queue class (entry_at key id) (lines_of self.old)) }
         ensures err { OnErr result (lines_of self.new ≡ lines_of self.old) }
         ensures rises { steps.old ≤ steps.new }
-        ensures cost { 2 ^ (steps.new - steps.old) ≤ 2 * length (slice_index_or (lines_of self.old) queue []) + 1 }
+        ensures cost { 2 ^ (steps.new - steps.old) ≤ 2 * length (slice_index_or (slice_index_or (lines_of self.old) queue []) class []) + 1 }
     {
-        put_at(&mut self.lines, queue, key, id, steps)
+        put_at(&mut self.lines, queue, class, key, id, steps)
     }
 
     /// How many rows are counted under a tally.
@@ -263,13 +267,14 @@ impl Index {
         least(&self.runs)
     }
 
-    /// The rows of a queue that wait without a hold, in the order in which they start.
-    pub fn line(&self, queue: &Name) -> &Line
-        ensures { result.now ≡ line_in queue.now self.now }
+    /// The rows of a queue that wait without a hold: the lines of their classes, in no order of
+    /// classes, each in the order in which its rows start. No line is empty, and no class has two.
+    pub fn classes(&self, queue: &Name) -> &Classes
+        ensures { result.now.items ≡ classes_in queue.now self.now }
     {
         match self.lines.get(queue) {
-            Some(line) => &line.line,
-            None => self.nobody.line(),
+            Some(lines) => &lines.classes,
+            None => self.nobody.classes(),
         }
     }
 }

@@ -1,29 +1,30 @@
-//! The line of a queue where nobody ever waited.
+//! The lines of a queue where nobody waits.
 
 ghost use Rattle.std.specs.Prelude.{◌≡◌, []};
 
-use crate::line::Line;
+use crate::classes::Classes;
+use nqs_base_tables::Table;
 use std::alloc::Global;
 
-/// A line without entries, which stays so.
+/// A queue without classes, which stays so.
 #[derive(Drop)]
 pub struct Nobody {
-    line: Line,
-    ghost none: { line ≡ [] },
+    classes: Classes,
+    ghost none: { classes.items ≡ [] },
 }
 
 impl Nobody {
     /// It takes no memory.
     pub fn new(alloc: Global) -> Nobody {
         Nobody {
-            line: Line::new(alloc),
+            classes: Table::new(alloc),
         }
     }
 
-    /// The line.
-    pub fn line(&self) -> &Line
-        ensures { result.now ≡ [] }
+    /// No classes.
+    pub fn classes(&self) -> &Classes
+        ensures { result.now.items ≡ [] }
     {
-        &self.line
+        &self.classes
     }
 }

@@ -2,8 +2,8 @@
 
 ghost use Rattle.std.specs.Prelude.{◌≡◌, ◌<◌, true};
 ghost use Rattle.nqs_types.specs.Ids.{id_eq};
-ghost use Rattle.nqs_index.specs.Indexed.{IsMore, number};
-ghost use Rattle.nqs_index.specs.Runs.{ids_of, is_less, least_of};
+ghost use Rattle.nqs_index.specs.Numbers.{IsMore, number};
+ghost use Rattle.nqs_index.specs.Runs.{ids_of, is_less_id, least_of};
 
 use nqs_base::Keyed;
 use nqs_base_tables::Table;
@@ -49,7 +49,7 @@ pub(crate) fn end(runs: &mut Runs, id: &RequestId)
 
 /// Whether a request is less than another, by the host of its submission and then by its number.
 pub fn is_less(one: &RequestId, other: &RequestId) -> bool
-    ensures { result ≡ is_less one.now other.now }
+    ensures { result ≡ is_less_id one.now other.now }
 {
     one.host.0 < other.host.0 || (one.host.0 == other.host.0 && one.seq < other.seq)
 }

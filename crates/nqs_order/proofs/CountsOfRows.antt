@@ -11,29 +11,27 @@ use Rattle.nqs_base.specs.Same.{name_eq, name_exact}
 use Rattle.nqs_state.specs.State.{State}
 use Rattle.nqs_state.specs.Keys.{is_queue}
 use Rattle.nqs_types.specs.declared.request.Row.{Row}
-use Rattle.nqs_types.specs.declared.request.RowState.{RowState}
-use Rattle.nqs_types.specs.declared.request.RowState.TheVariants.{Queued, Routing, Running}
 use Rattle.nqs_types.specs.declared.queue.Kind.{Kind}
 use Rattle.nqs_types.specs.declared.queue.Kind.TheVariants.{Batch, Device, Pipe}
 use Rattle.nqs_types.specs.declared.queue.QueueDef.{QueueDef}
 use Rattle.nqs_types.specs.declared.queue.ComplexDef.{ComplexDef}
-use Rattle.nqs_rules.specs.Tests.{passes, is_active, is_running, is_batch}
+use Rattle.nqs_rules.specs.Tests.{passes, is_running, is_batch}
 use Rattle.nqs_rules.specs.Find.{has_name, find_device}
 use Rattle.nqs_rules.specs.Limits.{is_batch_queue}
-use Rattle.nqs_rules.specs.Devices.{same_name_as, can_serve, is_busy, runs_on}
+use Rattle.nqs_rules.specs.Devices.{can_serve, is_busy, runs_on}
 use Rattle.nqs_rules.specs.Devices as devices_by_rows
 use Rattle.nqs_rules.specs.InOrder.{IsInOrder, are_distinct}
 use Rattle.nqs_rules.specs.Order.{below, is_active_in, is_active_of, runs_in_batch}
 use Rattle.nqs_rules.specs.Order as by_rows
-use Rattle.nqs_rules.proofs.ListMaps.{count-map, list_any-map}
+use Rattle.nqs_rules.proofs.ListMaps.{list_any-map}
 use Rattle.nqs_rules.proofs.StateFacts.{keys_are}
 use Rattle.nqs_index.specs.declared.index.Index.{Index}
 use Rattle.nqs_index.specs.declared.tally.Tally.{Tally}
 use Rattle.nqs_index.specs.declared.tally.Tally.TheVariants.{Active, Owned, Printing}
 use Rattle.nqs_index.specs.Indexed.{counted_in, number, StandsForIndex}
-use Rattle.nqs_index.specs.Seats.{seat_of, is_on, counts_for}
+use Rattle.nqs_index.specs.Seats.{seat_of, counts_for}
 use Rattle.nqs_index.specs.Tallies.{one}
-use Rattle.nqs_index.proofs.Numbers.{any_number, number_split, number_none}
+use Rattle.nqs_index.proofs.Numbers.{number-map, any_number, number_split, number_none}
 use Rattle.nqs_order.specs.ByIndex.{user_allows, running_once, fewer_run, running_in_batch, fewer_in_batch, complex_allows, is_within_limits, free_device}
 use Rattle.nqs_order.specs.ByIndex.{kind_allows, is_eligible}
 use Rattle.nqs_order.specs.Waiting.{is_waiting}
@@ -109,10 +107,6 @@ batch_found q (d ∷ ds) distinct = by (name_eq q d.name) refl (batch_found q ds
     by false e rest =
         (λ j. (is_batch d.kind && (name_turned d.name q ∙ e) j) || has_batch ds q) ∙ false_or (is_batch d.kind) (has_batch ds q) ∙ rest
 
-device_same : (d : List ℕ) (o : Option (List ℕ)) → is_on d o ≡ same_name_as d o
-device_same d None = refl
-device_same d (Some e) = refl
-
 module _ {E : Type 0} where
   -- whether a row counts under a tally, in the words of the rules
   abbrev counts : Tally → Row E → Bool
@@ -125,11 +119,11 @@ module _ {E : Type 0} where
   counts_same (Active q) r = refl
   counts_same (Tally.Running q) r = refl
   counts_same (Owned q o) r = refl
-  counts_same (Printing d) r = ap (λ b. is_running r.state && b) (device_same d r.device)
+  counts_same (Printing d) r = refl
 
 module _ {E : Type 0} (index : Index) (s : State E) (stands : StandsForIndex index s.rows) where
   count_is : (tally : Tally) → counted_in tally index ≡ number (counts tally) s.rows
-  count_is tally = stands.counts tally ∙ count-map seat_of (counts_for tally) s.rows ∙ (λ j. number (λ (r : Row E). counts_same tally r j) s.rows)
+  count_is tally = stands.counts tally ∙ number-map seat_of (counts_for tally) s.rows ∙ (λ j. number (λ (r : Row E). counts_same tally r j) s.rows)
 
   users_are : (d : QueueDef) (owner : List ℕ) → user_allows index d owner ≡ below (length (filter (is_active_of d.name owner) s.rows)) d.user_limit
   users_are d owner = ap (λ n. below n d.user_limit) (count_is (Owned d.name owner))

@@ -1,6 +1,7 @@
 pub mod BestLemmas
 pub mod Candidates
 pub mod CountsOfRows
+pub mod FirstOfClasses
 pub mod FirstOfLine
 pub mod KeyedPlaces
 pub mod PickedByIndex

@@ -1,6 +1,7 @@
 -- What is picked over an index is what the rules pick.
 use Rattle.std.proofs.Common.{◌≡◌, ℕ, Bool, true, false, ◌&&◌, Option, None, Some, is_some, refl, sym, ap, ◌∙◌}
 use Rattle.std.proofs.Math.Bool.{and-false}
+use Rattle.std.specs.List.{list_any}
 use Rattle.nqs_state.specs.State.{State}
 use Rattle.nqs_base_tables.specs.Table.{best_from}
 use Rattle.nqs_types.specs.declared.queue.Kind.{Kind}
@@ -8,14 +9,15 @@ use Rattle.nqs_types.specs.declared.queue.Kind.TheVariants.{Batch, Device, Pipe}
 use Rattle.nqs_types.specs.declared.queue.QueueDef.{QueueDef}
 use Rattle.nqs_types.specs.declared.request.Row.{Row}
 use Rattle.nqs_rules.specs.InOrder.{IsInOrder}
-use Rattle.nqs_rules.specs.Order.{is_greater, print_on}
+use Rattle.nqs_rules.specs.Order.{is_greater, comes_before, print_on}
 use Rattle.nqs_rules.specs.Order as by_rows
+use Rattle.nqs_rules.proofs.BestLaws.{best_is_some}
 use Rattle.nqs_index.specs.declared.index.Index.{Index}
-use Rattle.nqs_index.specs.Indexed.{StandsForIndex, line_in}
-use Rattle.nqs_order.specs.ByIndex.{is_filled, fewer_in_batch, is_within_limits, may_serve, first_in, is_candidate, next_queue, choice_for, choice_of, pick_in}
-use Rattle.nqs_order.specs.ByIndex.{pick}
+use Rattle.nqs_index.specs.Indexed.{StandsForIndex, classes_in}
+use Rattle.nqs_order.specs.ByIndex.{is_filled, fewer_in_batch, is_within_limits, may_serve, has_eligible, is_candidate, next_queue, choice_for, choice_of}
+use Rattle.nqs_order.specs.ByIndex.{pick_in, pick}
 use Rattle.nqs_order.proofs.CountsOfRows.{free_device_is, within_is}
-use Rattle.nqs_order.proofs.FirstOfLine.{first_same}
+use Rattle.nqs_order.proofs.FirstOfClasses.{has_same, first_same}
 use Rattle.nqs_order.proofs.Served.{filled, served}
 
 -- what follows from the last of four need not be looked at
@@ -34,9 +36,12 @@ module _ {E : Type 0} (index : Index) (s : State E) (stands : StandsForIndex ind
 
   candidate_is : (d : QueueDef) → is_candidate index batch now s d ≡ by_rows.is_candidate now s d
   candidate_is d =
-      four d.started (is_filled (line_in d.name index)) (is_within_limits index d batch s) (may_serve d.kind index d s)
-      (is_some (first_in index d now s (line_in d.name index))) (filled index d now s (line_in d.name index)) (served index s stands order d now)
-      ∙ (λ j. d.started && within_is index s stands order d j && is_some (first_same index s stands order d now j))
+      four d.started (is_filled (classes_in d.name index)) (is_within_limits index d batch s) (may_serve d.kind index d s)
+      (has_eligible index d now s (classes_in d.name index)) (filled index d now s (classes_in d.name index)) (served index s stands order d now)
+      ∙ (λ j. d.started && within_is index s stands order d j && (has_same index s stands order d now ∙ some d) j)
+    where
+      some : (d : QueueDef) → list_any (by_rows.is_eligible d now s) s.rows ≡ is_some (by_rows.first_eligible d now s)
+      some d = sym (best_is_some (by_rows.is_eligible d now s) comes_before 0 s.rows)
 
   next_is : next_queue index now s ≡ by_rows.next_queue now s
   next_is = (λ j. best_from (λ d. candidate_is d j) is_greater 0 s.queues)

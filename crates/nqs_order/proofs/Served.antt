@@ -1,5 +1,5 @@
--- A queue that has an eligible row has a line, and can do something with a row.
-use Rattle.std.proofs.Common.{◌≡◌, ℕ, ◌<◌, nat_lt, length, arith, Bool, true, false, ◌&&◌, ◌||◌, List, [], ◌∷◌, Option, None, Some, is_some, refl, sym, ap, ◌∙◌}
+-- A queue that has an eligible row has a class, and can do something with a row.
+use Rattle.std.proofs.Common.{◌≡◌, ℕ, ◌<◌, nat_lt, length, arith, Bool, true, false, ◌&&◌, ◌||◌, List, [], ◌∷◌, Option, None, Some, is_some, refl, sym, ◌∙◌}
 use Rattle.std.proofs.Common.{true≢false}
 use Rattle.std.specs.List.{list_any}
 use Rattle.std.proofs.lemmas.Bool.{and_parts, and_from}
@@ -14,17 +14,15 @@ use Rattle.nqs_rules.specs.Tests.{passes}
 use Rattle.nqs_rules.specs.Find.{find_device}
 use Rattle.nqs_rules.specs.Devices.{has_forms, can_serve}
 use Rattle.nqs_rules.specs.InOrder.{IsInOrder}
-use Rattle.nqs_rules.specs.Order.{comes_before}
 use Rattle.nqs_rules.specs.Order as by_rows
-use Rattle.nqs_rules.proofs.BestLaws.{best_is_some}
 use Rattle.nqs_rules.proofs.ListFacts.{position_at}
 use Rattle.nqs_index.specs.declared.index.Index.{Index}
-use Rattle.nqs_index.specs.declared.line.Entry.{Entry}
-use Rattle.nqs_index.specs.Indexed.{StandsForIndex, line_in}
-use Rattle.nqs_order.specs.ByIndex.{is_filled, is_free_device, free_device, has_free_device, may_serve, kind_allows, first_in}
+use Rattle.nqs_index.specs.declared.classes.ClassLine.{ClassLine}
+use Rattle.nqs_index.specs.Indexed.{StandsForIndex, classes_in}
+use Rattle.nqs_order.specs.ByIndex.{is_filled, is_free_device, free_device, has_free_device, may_serve, kind_allows, has_eligible}
 use Rattle.nqs_order.proofs.KeyedPlaces.{any_of}
 use Rattle.nqs_order.proofs.CountsOfRows.{kind_is}
-use Rattle.nqs_order.proofs.FirstOfLine.{first_same}
+use Rattle.nqs_order.proofs.FirstOfClasses.{has_same}
 
 positive : (n : ℕ) → 0 < n → nat_lt 0 n ≡ true
 positive n some = grind (arith, nat_tests)
@@ -40,9 +38,9 @@ module _ {A : Type 0} where
       of false e h rest = rest h
 
 module _ {E : Type 0} (index : Index) (d : QueueDef) (now : ℕ) (s : State E) where
-  pub filled : (line : List Entry) → is_some (first_in index d now s line) ≡ true → is_filled line ≡ true
+  pub filled : (ls : List ClassLine) → has_eligible index d now s ls ≡ true → is_filled ls ≡ true
   filled [] h = absurd (true≢false (sym h))
-  filled (e ∷ es) h = positive (length (e ∷ es)) (omega arith)
+  filled (l ∷ ls) h = positive (length (l ∷ ls)) (omega arith)
 
 module _ {E : Type 0} (index : Index) (s : State E) where
   any_forms : (forms : Option (List ℕ)) (device : List ℕ) → is_free_device index forms s device ≡ true → is_free_device index None s device ≡ true
@@ -66,9 +64,8 @@ module _ {E : Type 0} (index : Index) (s : State E) where
   serves Pipe d now r h = refl
 
   module _ (stands : StandsForIndex index s.rows) (order : IsInOrder s) (d : QueueDef) (now : ℕ) where
-    pub served : is_some (first_in index d now s (line_in d.name index)) ≡ true → may_serve d.kind index d s ≡ true
-    served h = from_any (by_rows.is_eligible d now s) (may_serve d.kind index d s) by s.rows
-        (sym (best_is_some (by_rows.is_eligible d now s) comes_before 0 s.rows) ∙ sym (ap (λ o. is_some o) (first_same index s stands order d now)) ∙ h)
+    pub served : has_eligible index d now s (classes_in d.name index) ≡ true → may_serve d.kind index d s ≡ true
+    served h = from_any (by_rows.is_eligible d now s) (may_serve d.kind index d s) by s.rows (sym (has_same index s stands order d now) ∙ h)
       where
         by : (r : Row E) → by_rows.is_eligible d now s r ≡ true → may_serve d.kind index d s ≡ true
         by r e = serves d.kind d now r (kind_is index s stands d.kind d now r ∙ (and_parts _ (by_rows.kind_allows d.kind d now s r) e).1)

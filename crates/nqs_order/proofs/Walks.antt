@@ -1,5 +1,6 @@
--- Walks over queues and over a line, as far as they have come.
-use Rattle.std.proofs.Common.{◌≡◌, ℕ, ◌+◌, ◌-◌, ◌<◌, ◌≤◌, true, false, ◌&&◌, nat_lt, List, ◌∷◌, drop, Option, None, Some, is_some, slice_get, refl, sym, ap}
+-- Walks over queues, over a line and over classes, as far as they have come.
+use Rattle.std.proofs.Common.{◌≡◌, ℕ, ◌+◌, ◌-◌, ◌<◌, ◌≤◌, Bool, true, false, ◌&&◌, nat_lt, List, ◌∷◌, drop, Option, None, Some, is_some, slice_get, refl, sym}
+use Rattle.std.proofs.Common.{ap}
 use Rattle.std.proofs.Common.{◌∙◌, arith, true≢false}
 use Rattle.std.specs.Option.{option_map}
 use Rattle.std.proofs.lemmas.Bool.Decides.{nat_tests}
@@ -9,7 +10,8 @@ use Rattle.nqs_types.specs.declared.queue.QueueDef.{QueueDef}
 use Rattle.nqs_types.specs.declared.request.Row.{Row}
 use Rattle.nqs_index.specs.declared.index.Index.{Index}
 use Rattle.nqs_index.specs.declared.line.Entry.{Entry}
-use Rattle.nqs_order.specs.ByIndex.{running_once, fewer_run, running_in_batch, fewer_in_batch, startable, found_or, first_in}
+use Rattle.nqs_index.specs.declared.classes.ClassLine.{ClassLine}
+use Rattle.nqs_order.specs.ByIndex.{running_once, fewer_run, running_in_batch, fewer_in_batch, startable, found_or, first_in, better_of, first_among}
 
 less_than : (m n left : ℕ) → n ≡ m → n < left → nat_lt m left ≡ true
 less_than m n left is less = grind (arith, nat_tests)
@@ -63,3 +65,11 @@ module _ {E : Type 0} (index : Index) (d : QueueDef) (now : ℕ) (s : State E) (
         of : (o : Option (ℕ × X)) → is_some o ≡ true → option_map f o ≡ found_or (option_map f o) rest
         of None h = absurd (true≢false (sym h))
         of (Some p) h = refl
+
+module _ {E : Type 0} (index : Index) (d : QueueDef) (now : ℕ) (s : State E) (any_open : Bool) (ls : List ClassLine) (i : ℕ) (l : ClassLine)
+    (at : slice_get ls i ≡ Some l) where
+  -- one more class was looked at
+  pub among_on : (best next : Option (ℕ × Row E)) → next ≡ better_of index d now s any_open best l
+      → first_among index d now s any_open next (drop (i + 1) ls) ≡ first_among index d now s any_open best (drop i ls)
+  among_on best next is = ap (λ b. first_among index d now s any_open b (drop (i + 1) ls)) is
+      ∙ sym (ap (first_among index d now s any_open best) (drop-at ls i l at))

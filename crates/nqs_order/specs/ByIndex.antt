@@ -1,17 +1,18 @@
--- The scheduler's rules over an index: its counts in place of those of rows, and a queue's line in place of all rows.
-use Rattle.std.specs.Prelude.{ℕ, ◌-◌, Bool, true, not, ◌&&◌, ◌||◌, ◌==◌, nat_lt, if◌then◌else◌, List, [], ◌∷◌, length, position, slice_get, Option, None, Some}
-use Rattle.std.specs.Prelude.{is_some}
+-- The scheduler's rules over an index: its counts in place of those of rows, and a queue's classes in place of all rows.
+use Rattle.std.specs.Prelude.{ℕ, ◌-◌, Bool, true, false, not, ◌&&◌, ◌||◌, ◌==◌, nat_lt, nat_le, if◌then◌else◌, List, [], ◌∷◌, length, position, slice_get}
+use Rattle.std.specs.Prelude.{Option, None, Some, is_some}
 use Rattle.std.specs.List.{list_all, list_any}
 use Rattle.std.specs.Option.{option_map, option_and_then}
 use Rattle.nqs_base_tables.specs.Table.{best_from}
 use Rattle.nqs_state.specs.State.{State}
 use Rattle.nqs_state.specs.Keys.{is_row}
-use Rattle.nqs_rules.specs.Tests.{passes, is_batch}
+use Rattle.nqs_rules.specs.Tests.{passes, is_batch, same_host}
 use Rattle.nqs_rules.specs.Find.{has_name, find_device}
 use Rattle.nqs_rules.specs.Devices.{can_serve}
-use Rattle.nqs_rules.specs.Routing.{destination}
+use Rattle.nqs_rules.specs.Routing.{is_reachable, destination}
 use Rattle.nqs_rules.specs.Order.{below, is_greater, print_on, move_to}
 use Rattle.nqs_types.specs.declared.ids.RequestId.{RequestId}
+use Rattle.nqs_types.specs.declared.ids.Dest.{Dest}
 use Rattle.nqs_types.specs.declared.request.Row.{Row}
 use Rattle.nqs_types.specs.declared.queue.Kind.{Kind}
 use Rattle.nqs_types.specs.declared.queue.Kind.TheVariants.{Batch, Device, Pipe}
@@ -20,9 +21,13 @@ use Rattle.nqs_types.specs.declared.queue.ComplexDef.{ComplexDef}
 use Rattle.nqs_types.specs.declared.rule.Choice.{Choice}
 use Rattle.nqs_types.specs.declared.rule.Choice.TheVariants.{Launch, TooFar}
 use Rattle.nqs_index.specs.declared.index.Index.{Index}
+use Rattle.nqs_index.specs.declared.key.Key.{Key}
 use Rattle.nqs_index.specs.declared.line.Entry.{Entry}
+use Rattle.nqs_index.specs.declared.class.Class.{Class}
+use Rattle.nqs_index.specs.declared.classes.ClassLine.{ClassLine}
 use Rattle.nqs_index.specs.declared.tally.Tally.TheVariants.{Active, Running, Owned, Printing}
-use Rattle.nqs_index.specs.Indexed.{counted_in, line_in}
+use Rattle.nqs_index.specs.Indexed.{counted_in, classes_in}
+use Rattle.nqs_index.specs.Keys.{is_before, key_of}
 use Rattle.nqs_order.specs.Waiting.{is_waiting}
 
 -- fewer requests of the owner are active in the queue than its user limit
@@ -51,9 +56,9 @@ abbrev pub fewer_in_batch : Index → ℕ → List QueueDef → Bool
 fewer_in_batch index limit [] = nat_lt 0 limit
 fewer_in_batch index limit (d ∷ ds) = nat_lt (running_in_batch index d) limit && fewer_in_batch index (limit - running_in_batch index d) ds
 
--- a line has an entry
-abbrev pub is_filled : List Entry → Bool
-is_filled line = nat_lt 0 (length line)
+-- there is a class
+abbrev pub is_filled : List ClassLine → Bool
+is_filled ls = nat_lt 0 (length ls)
 
 module _ {E : Type 0} where
   -- the global limit allows another batch request, and so do the complexes
@@ -118,17 +123,73 @@ module _ {E : Type 0} where
   first_in index d now s [] = None
   first_in index d now s (e ∷ es) = found_or (startable index d now s e.id) (first_in index d now s es)
 
-  -- the first row of a queue that may start
-  abbrev pub first_eligible : Index → QueueDef → ℕ → State E → Option (ℕ × Row E)
-  first_eligible index d now s = first_in index d now s (line_in d.name index)
+  -- a destination may be tried by a request that none has refused
+  abbrev pub is_open : ℕ → State E → Dest → Bool
+  is_open now s dest = same_host s.me dest.host || is_reachable now dest.host s
 
-  -- a queue with this line may start one more request
-  abbrev pub may_start : Index → Bool → ℕ → State E → QueueDef → List Entry → Bool
-  may_start index batch now s d line = is_filled line && is_within_limits index d batch s && may_serve d.kind index d s && is_some (first_in index d now s line)
+  -- a destination of the queue is open, where it is a pipe queue
+  abbrev pub has_open : Kind → QueueDef → ℕ → State E → Bool
+  has_open Batch d now s = false
+  has_open Device d now s = false
+  has_open Pipe d now s = list_any (is_open now s) d.dests
+
+  -- the queue can do something with requests of the class, as far as that is told without one
+  abbrev pub class_served : Kind → Index → QueueDef → State E → Bool → Class → Bool
+  class_served Batch index d s any_open c = true
+  class_served Device index d s any_open c = is_some (free_device index d c.forms s)
+  class_served Pipe index d s any_open c = c.far || any_open
+
+  -- requests of the class may start, as far as that is told without one
+  abbrev pub class_allows : Index → QueueDef → ℕ → State E → Bool → Class → Bool
+  class_allows index d now s any_open c = nat_le c.earliest now && user_allows index d c.owner && class_served d.kind index d s any_open c
+
+  -- the first row of a class that may start, with its place
+  abbrev pub first_of : Index → QueueDef → ℕ → State E → Bool → ClassLine → Option (ℕ × Row E)
+  first_of index d now s any_open l = if class_allows index d now s any_open l.class then first_in index d now s l.line else None
+
+  -- a row of this key comes before the best so far
+  abbrev pub leads : Option (ℕ × Row E) → Key → Bool
+  leads None k = true
+  leads (Some p) k = is_before k (key_of p.1)
+
+  -- the one that comes first of the best row so far and another
+  abbrev pub earlier : Option (ℕ × Row E) → Option (ℕ × Row E) → Option (ℕ × Row E)
+  earlier best None = best
+  earlier best (Some p) = if leads best (key_of p.1) then Some p else best
+
+  -- a line's first entry comes before the best row so far
+  abbrev pub is_ahead : Option (ℕ × Row E) → List Entry → Bool
+  is_ahead best [] = false
+  is_ahead best (e ∷ es) = leads best e.key
+
+  -- the best row, with one more class: it is passed over where its first entry doesn't come before the best so far
+  abbrev pub better_of : Index → QueueDef → ℕ → State E → Bool → Option (ℕ × Row E) → ClassLine → Option (ℕ × Row E)
+  better_of index d now s any_open best l = if is_ahead best l.line then earlier best (first_of index d now s any_open l) else best
+
+  -- the best row, with some more classes
+  abbrev pub first_among : Index → QueueDef → ℕ → State E → Bool → Option (ℕ × Row E) → List ClassLine → Option (ℕ × Row E)
+  first_among index d now s any_open best [] = best
+  first_among index d now s any_open best (l ∷ ls) = first_among index d now s any_open (better_of index d now s any_open best l) ls
+
+  -- the first row of a queue that may start: the one of the first rows of its classes that comes before the others
+  abbrev pub first_eligible : Index → QueueDef → ℕ → State E → Option (ℕ × Row E)
+  first_eligible index d now s = first_among index d now s (has_open d.kind d now s) None (classes_in d.name index)
+
+  -- a class has a row that may start
+  abbrev pub has_first : Index → QueueDef → ℕ → State E → Bool → ClassLine → Bool
+  has_first index d now s any_open l = is_some (first_of index d now s any_open l)
+
+  -- one of these classes has a row that may start
+  abbrev pub has_eligible : Index → QueueDef → ℕ → State E → List ClassLine → Bool
+  has_eligible index d now s ls = list_any (has_first index d now s (has_open d.kind d now s)) ls
+
+  -- a queue with these classes may start one more request
+  abbrev pub may_start : Index → Bool → ℕ → State E → QueueDef → List ClassLine → Bool
+  may_start index batch now s d ls = is_filled ls && is_within_limits index d batch s && may_serve d.kind index d s && has_eligible index d now s ls
 
   -- the queue is started, within its limits, and has an eligible row
   abbrev pub is_candidate : Index → Bool → ℕ → State E → QueueDef → Bool
-  is_candidate index batch now s d = d.started && may_start index batch now s d (line_in d.name index)
+  is_candidate index batch now s d = d.started && may_start index batch now s d (classes_in d.name index)
 
   -- the queue that starts next
   abbrev pub next_queue : Index → ℕ → State E → Option (ℕ × QueueDef)

@@ -1,27 +1,32 @@
 //! What is started next, told by an index: no look goes over all rows.
-//! `specs/ByIndex.antt` has the rules over an index, which are those over the rows where it stands
-//! for them.
+//! The requests of a queue that wait stand in classes: what is asked of all of a class is asked
+//! once. `specs/ByIndex.antt` has the rules over an index, which are those over the rows where it
+//! stands for them.
 
-ghost use Rattle.std.specs.Prelude.{◌≡◌, Some, is_some};
+ghost use Rattle.std.specs.Prelude.{◌≡◌, ◌<◌, None};
+ghost use Rattle.std.specs.List.{list_any};
 ghost use Rattle.std.specs.Option.{option_copied, option_map};
 ghost use Rattle.nqs_state.specs.State.{content};
-ghost use Rattle.nqs_rules.specs.Devices.{has_forms, can_serve};
 ghost use Rattle.nqs_rules.specs.InOrder.{IsInOrder};
 ghost use Rattle.nqs_rules.specs.Order.{pick as pick_of_rules};
 ghost use Rattle.nqs_index.specs.Indexed.{StandsForIndex};
+ghost use Rattle.nqs_index.specs.Keys.{is_before};
 ghost use Rattle.nqs_order.specs.ByIndex.{is_filled, user_allows, running_once, fewer_run, running_in_batch, fewer_in_batch, complex_allows, batch_allows};
 ghost use Rattle.nqs_order.specs.ByIndex.{is_within_limits, is_free_device, free_device, has_free_device, may_serve, kind_allows, is_eligible, startable};
-ghost use Rattle.nqs_order.specs.ByIndex.{first_in, first_eligible, may_start, is_candidate, next_queue, choice_for, pick};
+ghost use Rattle.nqs_order.specs.ByIndex.{first_in, is_open, has_open, class_served, class_allows, first_of, leads, earlier, is_ahead, better_of};
+ghost use Rattle.nqs_order.specs.ByIndex.{first_among, first_eligible, has_first, has_eligible, may_start, is_candidate, next_queue, choice_for, pick};
 
 use crate::best::best_of;
 use crate::choice::{is_greater, move_to, print_on};
 use crate::eligible::is_waiting;
 use nqs_base::Name;
-use nqs_devices::has_name;
-use nqs_index::{Index, Line, Tally};
-use nqs_routing::destination_in;
+use nqs_devices::{can_serve, has_name};
+use nqs_index::{Class, ClassLine, Classes, Index, Key, Line, Steps, Tally};
+use nqs_routing::{destination_in, is_reachable};
 use nqs_state::HostState;
-use nqs_types::{Choice, ComplexDef, DeviceDef, Kind, QueueDef, RequestId, Row};
+use nqs_types::{Choice, ComplexDef, Dest, Kind, QueueDef, RequestId, Row};
+use std::marker::Brand;
+use std::sync::ledger::{Blank, Ledger};
 
 fn user_allows(index: &Index, queue: &QueueDef, owner: &Name) -> bool
     ensures { result ≡ user_allows index.now queue.now owner.now }
@@ -104,21 +109,6 @@ fn is_within_limits(index: &Index, queue: &QueueDef, batch: bool, state: &HostSt
 {
     index.count(&Tally::Active(queue.name)) < queue.run_limit as usize
         && (queue.kind != Kind::Batch || batch_allows(index, &queue.name, batch, state))
-}
-
-fn has_forms(device: &DeviceDef, forms: Option<&Name>) -> bool
-    ensures { result ≡ has_forms (option_copied forms.entry) device.now }
-{
-    match forms {
-        Some(forms) => *forms == device.forms,
-        None => true,
-    }
-}
-
-fn can_serve(device: &DeviceDef, forms: Option<&Name>) -> bool
-    ensures { result ≡ can_serve (option_copied forms.entry) device.now }
-{
-    device.enabled && has_forms(device, forms)
 }
 
 fn is_free_device(index: &Index, forms: Option<&Name>, state: &HostState, device: &Name) -> bool
@@ -224,6 +214,179 @@ fn first_in<'a>(
     None
 }
 
+// Whether a request that no destination has refused may be moved to this one.
+fn is_open(state: &HostState, now: u64, dest: &Dest) -> bool
+    ensures { result ≡ is_open now (content state.now) dest.now }
+{
+    state.me == dest.host || is_reachable(state, now, dest.host)
+}
+
+fn has_open_dest(queue: &QueueDef, now: u64, state: &HostState) -> bool
+    ensures { result ≡ list_any (is_open now (content state.now)) queue.now.dests }
+{
+    queue
+        .dests
+        .as_slice()
+        .iter()
+        .any(|dest| is_open(state, now, dest))
+}
+
+// Whether a destination of the queue is open, where it is a pipe queue.
+fn has_open(queue: &QueueDef, now: u64, state: &HostState) -> bool
+    ensures { result ≡ has_open queue.now.kind queue.now now (content state.now) }
+{
+    match queue.kind {
+        Kind::Batch => false,
+        Kind::Device => false,
+        Kind::Pipe => has_open_dest(queue, now, state),
+    }
+}
+
+// Whether the queue can do something with requests of the class.
+fn class_served(
+    index: &Index,
+    queue: &QueueDef,
+    state: &HostState,
+    any_open: bool,
+    class: &Class,
+) -> bool
+    ensures { result ≡ class_served queue.now.kind index.now queue.now (content state.now) any_open class.now }
+{
+    match queue.kind {
+        Kind::Batch => true,
+        Kind::Device => free_device(index, queue, class.forms.as_ref(), state).is_some(),
+        Kind::Pipe => class.far || any_open,
+    }
+}
+
+// What costs least is asked first.
+fn class_allows(
+    index: &Index,
+    queue: &QueueDef,
+    now: u64,
+    state: &HostState,
+    any_open: bool,
+    class: &Class,
+) -> bool
+    ensures { result ≡ class_allows index.now queue.now now (content state.now) any_open class.now }
+{
+    class.earliest <= now
+        && user_allows(index, queue, &class.owner)
+        && class_served(index, queue, state, any_open, class)
+}
+
+// The first row of a class that may start, with its place.
+fn first_of<'a>(
+    index: &Index,
+    queue: &QueueDef,
+    now: u64,
+    state: &'a HostState,
+    any_open: bool,
+    line: &ClassLine,
+) -> Option<(usize, &'a Row)>
+    ensures { option_map (λ p. (p.0, p.1.now)) result ≡ first_of index.now queue.now now (content state.now) any_open line.now }
+{
+    if class_allows(index, queue, now, state, any_open, &line.class) {
+        return first_in(index, queue, now, state, &line.line);
+    }
+    None
+}
+
+fn counted_before<L: Ledger>(key: &Key, other: &Key, blank: Blank) -> bool
+    requires name { blank.name ≡ L.name }
+    requires parts { blank.parts ≡ L.parts }
+    requires some { 0 < L.parts }
+    ensures { result ≡ is_before key.now other.now }
+{
+    let mut steps = Steps::<L>::new(blank);
+    key.compare(other, &mut steps).is_lt()
+}
+
+fn is_before(key: &Key, other: &Key) -> bool
+    ensures { result ≡ is_before key.now other.now }
+{
+    counted_before::<Brand>(key, other, Blank::new(1))
+}
+
+// Whether a row of this key comes before the best so far.
+fn leads(best: Option<(usize, &Row)>, key: &Key) -> bool
+    ensures { result ≡ leads (option_map (λ p. (p.0, p.1.now)) best.entry) key.now }
+{
+    match best {
+        Some((_, row)) => is_before(key, &Key::of(row)),
+        None => true,
+    }
+}
+
+// The one that comes first of the best row so far and another.
+fn earlier<'a>(
+    best: Option<(usize, &'a Row)>,
+    other: Option<(usize, &'a Row)>,
+) -> Option<(usize, &'a Row)>
+    ensures { option_map (λ p. (p.0, p.1.now)) result
+        ≡ earlier (option_map (λ p. (p.0, p.1.now)) best.entry) (option_map (λ p. (p.0, p.1.now)) other.entry) }
+{
+    match other {
+        Some((place, row)) => {
+            if leads(best, &Key::of(row)) {
+                return Some((place, row));
+            }
+            best
+        }
+        None => best,
+    }
+}
+
+// Whether the first entry of a line comes before the best row so far.
+fn is_ahead(best: Option<(usize, &Row)>, line: &Line) -> bool
+    ensures { result ≡ is_ahead (option_map (λ p. (p.0, p.1.now)) best.entry) line.now }
+{
+    if line.len() == 0 {
+        return false;
+    }
+    leads(best, &line.at(0).key)
+}
+
+// The best row, with one more class.
+fn better_of<'a>(
+    index: &Index,
+    queue: &QueueDef,
+    now: u64,
+    state: &'a HostState,
+    any_open: bool,
+    best: Option<(usize, &'a Row)>,
+    line: &ClassLine,
+) -> Option<(usize, &'a Row)>
+    ensures { option_map (λ p. (p.0, p.1.now)) result
+        ≡ better_of index.now queue.now now (content state.now) any_open (option_map (λ p. (p.0, p.1.now)) best.entry) line.now }
+{
+    if is_ahead(best, &line.line) {
+        return earlier(best, first_of(index, queue, now, state, any_open, line));
+    }
+    best
+}
+
+// The best row of some classes.
+fn first_among<'a>(
+    index: &Index,
+    queue: &QueueDef,
+    now: u64,
+    state: &'a HostState,
+    any_open: bool,
+    classes: &Classes,
+) -> Option<(usize, &'a Row)>
+    ensures { option_map (λ p. (p.0, p.1.now)) result ≡ first_among index.now queue.now now (content state.now) any_open None classes.now.items }
+{
+    let mut best: Option<(usize, &'a Row)> = None;
+    let mut place = 0;
+    while place < classes.len() {
+        best = better_of(index, queue, now, state, any_open, best, classes.at(place));
+        place += 1;
+    }
+    best
+}
+
+// The row that starts first of those of a queue that may start, with its place.
 fn first_eligible<'a>(
     index: &Index,
     queue: &QueueDef,
@@ -232,44 +395,87 @@ fn first_eligible<'a>(
 ) -> Option<(usize, &'a Row)>
     ensures { option_map (λ p. (p.0, p.1.now)) result ≡ first_eligible index.now queue.now now (content state.now) }
 {
-    first_in(index, queue, now, state, index.line(&queue.name))
+    let any_open = has_open(queue, now, state);
+    first_among(
+        index,
+        queue,
+        now,
+        state,
+        any_open,
+        index.classes(&queue.name),
+    )
 }
 
-fn is_filled(line: &Line) -> bool
-    ensures { result ≡ is_filled line.now }
+fn is_filled(classes: &Classes) -> bool
+    ensures { result ≡ is_filled classes.now.items }
 {
-    0 < line.len()
+    0 < classes.len()
 }
 
-fn has_eligible(index: &Index, queue: &QueueDef, now: u64, state: &HostState, line: &Line) -> bool
-    ensures { result ≡ is_some (first_in index.now queue.now now (content state.now) line.now) }
+// Whether a class has a row that may start.
+fn has_first(
+    index: &Index,
+    queue: &QueueDef,
+    now: u64,
+    state: &HostState,
+    any_open: bool,
+    line: &ClassLine,
+) -> bool
+    ensures { result ≡ has_first index.now queue.now now (content state.now) any_open line.now }
 {
-    first_in(index, queue, now, state, line).is_some()
+    first_of(index, queue, now, state, any_open, line).is_some()
 }
 
-// A queue where no row waits, at its limits, or whose devices are all busy is told before its line
-// is gone over.
+// Whether one of the classes has a row that may start. It looks no further than the first one.
+fn any_first(
+    index: &Index,
+    queue: &QueueDef,
+    now: u64,
+    state: &HostState,
+    any_open: bool,
+    classes: &Classes,
+) -> bool
+    ensures { result ≡ list_any (has_first index.now queue.now now (content state.now) any_open) classes.now.items }
+{
+    classes.any(|line: &ClassLine| has_first(index, queue, now, state, any_open, line))
+}
+
+fn has_eligible(
+    index: &Index,
+    queue: &QueueDef,
+    now: u64,
+    state: &HostState,
+    classes: &Classes,
+) -> bool
+    ensures { result ≡ has_eligible index.now queue.now now (content state.now) classes.now.items }
+{
+    let any_open = has_open(queue, now, state);
+    any_first(index, queue, now, state, any_open, classes)
+}
+
+// A queue where no row waits, at its limits, or whose devices are all busy is told before its
+// classes are gone over.
 fn may_start(
     index: &Index,
     batch: bool,
     now: u64,
     state: &HostState,
     queue: &QueueDef,
-    line: &Line,
+    classes: &Classes,
 ) -> bool
-    ensures { result ≡ may_start index.now batch now (content state.now) queue.now line.now }
+    ensures { result ≡ may_start index.now batch now (content state.now) queue.now classes.now.items }
 {
-    is_filled(line)
+    is_filled(classes)
         && is_within_limits(index, queue, batch, state)
         && may_serve(index, queue, state)
-        && has_eligible(index, queue, now, state, line)
+        && has_eligible(index, queue, now, state, classes)
 }
 
 // A queue that isn't started is told at once.
 fn is_candidate(index: &Index, batch: bool, now: u64, state: &HostState, queue: &QueueDef) -> bool
     ensures { result ≡ is_candidate index.now batch now (content state.now) queue.now }
 {
-    queue.started && may_start(index, batch, now, state, queue, index.line(&queue.name))
+    queue.started && may_start(index, batch, now, state, queue, index.classes(&queue.name))
 }
 
 // What runs in batch queues is counted once, and not for each queue.

@@ -22,5 +22,7 @@ pub use eligible::{comes_before, first_eligible, is_eligible, kind_allows, user_
 pub use laws::keys_order_rows;
 pub use limits::{complex_allows, global_allows, run_allows, within_limits};
 pub use next::pick_next;
-pub use nqs_index::{Counter, Counters, Entry, Index, Key, Line, QueueLine, Seat, Steps, Tally};
+pub use nqs_index::{
+    Class, ClassLine, Counter, Counters, Entry, Index, Key, Line, QueueLines, Seat, Steps, Tally,
+};
 pub use nqs_types::Choice;

@@ -36,8 +36,9 @@ pub fn find_peer(state: &HostState, peer: HostId) -> Option<&Peer>
     state.peers.as_slice().get(peer.0 as usize)
 }
 
-// Whether a handover to the host may be opened at this moment.
-fn is_reachable(state: &HostState, now: u64, peer: HostId) -> bool
+/// Whether a handover to the host may be opened at this moment, in seconds since 1970: none to it
+/// is open, there is a number for one, and it isn't waited for.
+pub fn is_reachable(state: &HostState, now: u64, peer: HostId) -> bool
     ensures { result ≡ is_reachable now peer (content state.now) }
 {
     match find_peer(state, peer) {

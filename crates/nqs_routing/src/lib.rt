@@ -10,5 +10,5 @@
 mod dests;
 mod note;
 
-pub use dests::{destination, destination_in, find_peer};
+pub use dests::{destination, destination_in, find_peer, is_reachable};
 pub use note::{note_refusal, note_silence};

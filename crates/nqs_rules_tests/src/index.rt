@@ -1,6 +1,6 @@
-//! The line of a queue in an index: requests in the order in which they start, whatever the order
-//! in which they came in, without one that is held, and without one that left; and that the
-//! requests of a host keep such an index, whatever is done to them.
+//! The lines of a queue in an index: requests of a class in the order in which they start, whatever
+//! the order in which they came in, without one that is held, and without one that left; a line for
+//! each class; and that the requests of a host keep such an index, whatever is done to them.
 
 use nqs_base::{Memory, Name};
 use nqs_builders::{add_row, row};
@@ -35,15 +35,22 @@ fn number_at(line: &Line, place: usize) -> u32 {
     }
 }
 
-// The first four numbers of the line of `jobs`.
-fn numbers(index: &Index) -> [u32; 4] {
-    let line = index.line(&jobs());
+fn four_of(line: &Line) -> [u32; 4] {
     [
         number_at(line, 0),
         number_at(line, 1),
         number_at(line, 2),
         number_at(line, 3),
     ]
+}
+
+// The first four numbers of the line of `jobs`, whose requests are all of one class.
+fn numbers(index: &Index) -> [u32; 4] {
+    let classes = index.classes(&jobs());
+    if classes.len() == 1 {
+        return four_of(&classes.at(0).line);
+    }
+    [0; 4]
 }
 
 // Priorities 5, 63 and 63 with arrivals 1, 3 and 2, and one that is held.
@@ -64,6 +71,49 @@ fn greater_priorities_first_and_then_earlier_arrivals(rt: HostRuntime) {
     let left = numbers(&index);
     drop(index);
     assert_eq!(rt; (entered, whole, left), (true, [2, 3, 1, 0], [2, 1, 0, 0]));
+}
+
+fn earlier(alloc: Global, arrival: u32, earliest: u64) -> Seat {
+    let mut row = row(alloc, arrival, jobs(), jobs());
+    row.job.earliest = earliest;
+    row.arrival = u64::from(arrival);
+    Seat::of(&row)
+}
+
+// Two of one class around one of another.
+fn three_enter(alloc: Global, index: &mut Index) -> bool {
+    index.enter(&earlier(alloc, 1, 7))
+        && index.enter(&earlier(alloc, 2, 8))
+        && index.enter(&earlier(alloc, 3, 7))
+}
+
+// How many requests wait in each of the first two classes of `jobs`.
+fn lengths(index: &Index) -> [usize; 2] {
+    let classes = index.classes(&jobs());
+    let mut lengths = [0; 2];
+    for place in 0..2 {
+        if place < classes.len() {
+            lengths[place] = classes.at(place).line.len();
+        }
+    }
+    lengths
+}
+
+#[test]
+fn a_class_lasts_as_long_as_a_request_of_it_waits(rt: HostRuntime) {
+    let alloc = rt.alloc();
+    let mut index = Index::empty(alloc);
+    let entered = three_enter(alloc, &mut index);
+    let whole = lengths(&index);
+    index.leave(&earlier(alloc, 1, 7));
+    let fewer = lengths(&index);
+    index.leave(&earlier(alloc, 3, 7));
+    let left = lengths(&index);
+    drop(index);
+    assert_eq!(rt;
+        (entered, whole, fewer, left),
+        (true, [2, 1], [1, 1], [1, 0])
+    );
 }
 
 // The line of `jobs` in the index that rows keep; where they keep none, nines.

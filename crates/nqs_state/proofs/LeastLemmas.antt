@@ -12,7 +12,7 @@ use Rattle.nqs_types.specs.declared.ids.RequestId.{RequestId}
 use Rattle.nqs_types.specs.declared.request.Row.{Row}
 use Rattle.nqs_index.specs.declared.index.Index.{Index}
 use Rattle.nqs_index.specs.Indexed.{number, running_in, StandsForIndex}
-use Rattle.nqs_index.specs.Runs.{is_less, IsLeast}
+use Rattle.nqs_index.specs.Runs.{is_less_id, IsLeast}
 use Rattle.nqs_index.specs.Seats.{seat_of}
 use Rattle.nqs_index.specs.Tallies.{one}
 use Rattle.nqs_index.proofs.Numbers.{number-cons, number-map}
@@ -20,7 +20,7 @@ use Rattle.nqs_state.specs.Keys.{is_row}
 use Rattle.nqs_state.specs.Least.{runs_now, is_less_row, least_running}
 
 -- of two requests that aren't one, one is less
-less_other : (a b : RequestId) → id_eq b a ≡ false → is_less a b ≡ false → is_less b a ≡ true
+less_other : (a b : RequestId) → id_eq b a ≡ false → is_less_id a b ≡ false → is_less_id b a ≡ true
 less_other a b other isnt = grind (arith, nat_tests)
 
 none_of : (b : Bool) (n : ℕ) → n + one b ≡ 0 → (n ≡ 0) × (b ≡ false)
@@ -62,38 +62,38 @@ module _ {E : Type 0} where
       by false e is rest = rest is
 
   -- a running row that is found by its request, where none that runs is less, is the least
-  found_least : (id : RequestId) (n : ℕ) (rows : List (Row E)) (r : Row E) → number (λ r. runs_now r && is_less r.id id) rows ≡ 0
+  found_least : (id : RequestId) (n : ℕ) (rows : List (Row E)) (r : Row E) → number (λ r. runs_now r && is_less_id r.id id) rows ≡ 0
       → find (is_row id) rows ≡ Some r → runs_now r ≡ true → option_map (λ (p : ℕ × Row E). p.1) (best_from runs_now is_less_row n rows) ≡ Some r
   found_least id n [] r none found runs = absurd (none-some r found)
   found_least id n (v ∷ vs) r none found runs =
-      let parts = apart (λ r. runs_now r && is_less r.id id) v vs none in
+      let parts = apart (λ r. runs_now r && is_less_id r.id id) v vs none in
       by (id_eq id v.id) refl found parts.1 (best_from runs_now is_less_row (n + 1) vs)
-      (best_fails (λ r. is_less r.id id) (n + 1) vs parts.0) (λ there. found_least id (n + 1) vs r parts.0 there runs)
+      (best_fails (λ r. is_less_id r.id id) (n + 1) vs parts.0) (λ there. found_least id (n + 1) vs r parts.0 there runs)
     where
       -- it is the first row
-      first : (o : Option (ℕ × Row E)) → id ≡ v.id → IfSome o (λ p. is_less p.1.id id ≡ false)
+      first : (o : Option (ℕ × Row E)) → id ≡ v.id → IfSome o (λ p. is_less_id p.1.id id ≡ false)
           → option_map (λ (p : ℕ × Row E). p.1) (better is_less_row (n, v) o) ≡ Some v
       first None same none = refl
-      first (Some y) same isnt = (λ j. option_map (λ (p : ℕ × Row E). p.1) (if is_less y.1.id (sym same j) then Some y else Some (n, v)))
+      first (Some y) same isnt = (λ j. option_map (λ (p : ℕ × Row E). p.1) (if is_less_id y.1.id (sym same j) then Some y else Some (n, v)))
           ∙ (λ j. option_map (λ (p : ℕ × Row E). p.1) (if isnt j then Some y else Some (n, v)))
 
       -- it is a later one, and less than the first
-      later : (o : Option (ℕ × Row E)) → is_less r.id v.id ≡ true → option_map (λ (p : ℕ × Row E). p.1) o ≡ Some r
+      later : (o : Option (ℕ × Row E)) → is_less_id r.id v.id ≡ true → option_map (λ (p : ℕ × Row E). p.1) o ≡ Some r
           → option_map (λ (p : ℕ × Row E). p.1) (better is_less_row (n, v) o) ≡ Some r
       later None less is = absurd (none-some r is)
       later (Some y) less is =
           let same : y.1 ≡ r = same_Some y.1 r is in
-          (λ j. option_map (λ (p : ℕ × Row E). p.1) (if is_less (same j).id v.id then Some y else Some (n, v)))
+          (λ j. option_map (λ (p : ℕ × Row E). p.1) (if is_less_id (same j).id v.id then Some y else Some (n, v)))
           ∙ (λ j. option_map (λ (p : ℕ × Row E). p.1) (if less j then Some y else Some (n, v))) ∙ is
 
-      behind : (b : Bool) → runs_now v ≡ b → id_eq id v.id ≡ false → id ≡ r.id → (b && is_less v.id id) ≡ false → (o : Option (ℕ × Row E))
+      behind : (b : Bool) → runs_now v ≡ b → id_eq id v.id ≡ false → id ≡ r.id → (b && is_less_id v.id id) ≡ false → (o : Option (ℕ × Row E))
           → option_map (λ (p : ℕ × Row E). p.1) o ≡ Some r
           → option_map (λ (p : ℕ × Row E). p.1) (if b then better is_less_row (n, v) o else o) ≡ Some r
-      behind true e other same isnt o is = later o (ap (λ i. is_less i v.id) (sym same) ∙ less_other v.id id other isnt) is
+      behind true e other same isnt o is = later o (ap (λ i. is_less_id i v.id) (sym same) ∙ less_other v.id id other isnt) is
       behind false e other same isnt o is = is
 
-      by : (b : Bool) → id_eq id v.id ≡ b → cond b (Some v) (find (is_row id) vs) ≡ Some r → (runs_now v && is_less v.id id) ≡ false
-          → (o : Option (ℕ × Row E)) → IfSome o (λ p. is_less p.1.id id ≡ false)
+      by : (b : Bool) → id_eq id v.id ≡ b → cond b (Some v) (find (is_row id) vs) ≡ Some r → (runs_now v && is_less_id v.id id) ≡ false
+          → (o : Option (ℕ × Row E)) → IfSome o (λ p. is_less_id p.1.id id ≡ false)
           → (find (is_row id) vs ≡ Some r → option_map (λ (p : ℕ × Row E). p.1) o ≡ Some r)
           → option_map (λ (p : ℕ × Row E). p.1) (if runs_now v then better is_less_row (n, v) o else o) ≡ Some r
       by true e is isnt o none rest =
@@ -108,7 +108,7 @@ module _ {E : Type 0} where
     running_rows test = stands.running test ∙ number-map seat_of (λ t. is_running t.state && test t.id) rows
 
     pub by_index : (id : RequestId) (r : Row E) → IsLeast id (running_in i) → find (is_row id) rows ≡ Some r → runs_now r ≡ true → Some r ≡ least_running rows
-    by_index id r least found runs = sym (found_least id 0 rows r (sym (running_rows (λ other. is_less other id)) ∙ least.1) found runs)
+    by_index id r least found runs = sym (found_least id 0 rows r (sym (running_rows (λ other. is_less_id other id)) ∙ least.1) found runs)
 
     pub none_by_index : running_in i ≡ [] → None ≡ least_running rows
     none_by_index none = by (best_from runs_now is_less_row 0 rows)

@@ -1,8 +1,8 @@
 use Rattle.std.proofs.Common.{◌∙◌, ap}
-use Rattle.nqs_index.specs.QueueLines.{entries_in}
-use Rattle.nqs_index.proofs.QueueLineLemmas.{entries_added}
+use Rattle.nqs_index.specs.QueueLines.{classes_under}
+use Rattle.nqs_index.proofs.QueueLineLemmas.{classes_added}
 use Rattle.nqs_index.proofs.lines.add.Goals as goal
 
-pub returns-clause-entries : goal.returns-clause-entries
-returns-clause-entries c q =
-    ap (entries_in q) c.push.ensures.items ∙ entries_added _ c.new-line.ensures q c.reserve.new.self.items ∙ ap (entries_in q) c.reserve.ensures.items
+pub returns-clause-classes : goal.returns-clause-classes
+returns-clause-classes c q =
+    ap (classes_under q) c.push.ensures.items ∙ classes_added _ c.new-classes.ensures q c.reserve.new.self.items ∙ ap (classes_under q) c.reserve.ensures.items

@@ -1,38 +1,32 @@
-use Rattle.std.proofs.Common.{◌∙◌, refl, ap, sym, slice_set}
-use Rattle.std.proofs.lemmas.Option.{same_Some}
+use Rattle.std.proofs.Common.{refl}
+use Rattle.nqs_index.specs.declared.lines.QueueLines.{QueueLines}
+use Rattle.nqs_index.specs.Lines.{entry_at}
+use Rattle.nqs_index.proofs.PlaceLemmas.{key_kept, image_get}
+use Rattle.nqs_index.proofs.QueueLineLemmas.{lent_back}
 use Rattle.std.proofs.lemmas.Result.{on_ok_weaker, on_err_weaker}
-use Rattle.nqs_index.specs.declared.lines.QueueLine.{QueueLine}
-use Rattle.nqs_index.specs.Lines.{placed, entry_at}
-use Rattle.nqs_index.proofs.QueueLineLemmas.{set_twice, set_same, name_kept}
+use Rattle.nqs_index.specs.Classes.{PutsAt, Stays}
 use Rattle.nqs_index.proofs.lines.put_at.Goals as goal
+
+pub exchange-requires-clause-same : goal.exchange-requires-clause-same
+exchange-requires-clause-same g c = image_get (λ (q : QueueLines). q.name) c.args.lines.now.items c.args.queue c.at.result.now c.at.ensures
 
 pub exchange-requires-2-clause-same : goal.exchange-requires-2-clause-same
 exchange-requires-2-clause-same g c =
-    let empty : QueueLine = record { name = c.at.result.now.name; line = c.new.result } in
+    let empty : QueueLines = record { name = c.at.result.now.name; classes = c.new.result } in
     rw c.exchange.ensures.items
-    (name_kept c.args.lines.now.items c.args.place c.at.result.now c.exchange.new.value empty c.at.ensures c.exchange.ensures.out refl)
+    (key_kept (λ (q : QueueLines). q.name) c.args.lines.now.items c.args.queue c.at.result.now c.exchange.new.value empty c.at.ensures c.exchange.ensures.out
+    refl)
 
 pub returns-clause-ok : goal.returns-clause-ok
-returns-clause-ok g c =
-    let x = entry_at c.args.key c.args.id in
-    let ls = c.args.lines.now.items in
-    let l = c.exchange.new.value in
-    on_ok_weaker c.insert-put.result
-    (λ is v at. c.exchange-2.ensures.items
-    ∙ ap (λ k. slice_set k c.args.place (record { name = l.name; line = c.insert-put.new.self })) c.exchange.ensures.items
-    ∙ set_twice ls c.args.place _ _
-    ∙ (λ j. slice_set ls c.args.place (record { name = l.name; line = is j }))
-    ∙ ap (λ (w : QueueLine). slice_set ls c.args.place (record { name = w.name; line = placed x w.line })) (same_Some l v (sym c.exchange.ensures.out ∙ at)))
-    c.insert-put.ensures.ok
+returns-clause-ok g c = on_ok_weaker c.put_at-put.result
+    (λ is. lent_back c.args.lines.now.items c.exchange.new.self.items c.exchange-2.new.self.items c.args.queue c.exchange.new.value
+    (record { name = c.at.result.now.name; classes = c.new.result }) c.put_at-put.new.classes c.exchange.ensures.out c.exchange.ensures.items
+    c.exchange-2.ensures.items (PutsAt c.args.class (entry_at c.args.key c.args.id)) is)
+    c.put_at-put.ensures.ok
 
 pub returns-clause-err : goal.returns-clause-err
-returns-clause-err g c =
-    let ls = c.args.lines.now.items in
-    let l = c.exchange.new.value in
-    on_err_weaker c.insert-put.result
-    (λ is. c.exchange-2.ensures.items
-    ∙ ap (λ k. slice_set k c.args.place (record { name = l.name; line = c.insert-put.new.self })) c.exchange.ensures.items
-    ∙ set_twice ls c.args.place _ _
-    ∙ (λ j. slice_set ls c.args.place (record { name = l.name; line = is j }))
-    ∙ set_same ls c.args.place l c.exchange.ensures.out)
-    c.insert-put.ensures.err
+returns-clause-err g c = on_err_weaker c.put_at-put.result
+    (λ is. lent_back c.args.lines.now.items c.exchange.new.self.items c.exchange-2.new.self.items c.args.queue c.exchange.new.value
+    (record { name = c.at.result.now.name; classes = c.new.result }) c.put_at-put.new.classes c.exchange.ensures.out c.exchange.ensures.items
+    c.exchange-2.ensures.items Stays is)
+    c.put_at-put.ensures.err

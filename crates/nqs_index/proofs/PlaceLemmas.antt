@@ -1,0 +1,81 @@
+-- Lists: what stands at a place, and what a write there leaves.
+use Rattle.std.proofs.Common.{◌≡◌, ℕ, ◌+◌, ◌<◌, Bool, true, false, not, List, [], ◌∷◌, map, find, length, slice_get, slice_set, slice_index_or, Some}
+use Rattle.std.proofs.Common.{zero, suc, refl, sym, ap, subst, ◌∙◌, arith, if◌then◌else◌}
+use Rattle.std.specs.Prelude.{cond}
+use Rattle.std.specs.List.{position_or_len}
+use Rattle.std.proofs.lemmas.Option.{same_Some, none-some}
+use Rattle.nqs_base_tables.specs.Table.{change_first}
+
+module _ {V : Type 0} where
+  -- what stands at a place
+  pub item_at : (vs : List V) (i : ℕ) → i < length vs → (v : V) × (slice_get vs i ≡ Some v)
+  item_at [] i lt = absurd (let no : ⊥ = omega arith in no)
+  item_at (x ∷ vs) zero lt = (x, refl)
+  item_at (x ∷ vs) (suc i) lt = item_at vs i (omega arith)
+
+  -- a write behind another one
+  pub set_twice : (vs : List V) (i : ℕ) (a b : V) → slice_set (slice_set vs i a) i b ≡ slice_set vs i b
+  set_twice [] i a b = refl
+  set_twice (x ∷ vs) zero a b = refl
+  set_twice (x ∷ vs) (suc i) a b = ap (λ l. x ∷ l) (set_twice vs i a b)
+
+  -- a write of what is there
+  pub set_same : (vs : List V) (i : ℕ) (v : V) → slice_get vs i ≡ Some v → slice_set vs i v ≡ vs
+  set_same [] i v at = refl
+  set_same (x ∷ vs) zero v at = ap (λ y. y ∷ vs) (sym (same_Some x v at))
+  set_same (x ∷ vs) (suc i) v at = ap (λ k. x ∷ k) (set_same vs i v at)
+
+  -- what stands at the first place that passes is found
+  pub found_at : (test : V → Bool) (vs : List V) (v : V) → slice_get vs (position_or_len test vs) ≡ Some v → find test vs ≡ Some v
+  found_at test [] v at = absurd (none-some v at)
+  found_at test (x ∷ vs) v at = by (found_at test vs v) (test x) at
+    where
+      by : (slice_get vs (position_or_len test vs) ≡ Some v → find test vs ≡ Some v) → (b : Bool)
+          → slice_get (x ∷ vs) (cond (not b) (1 + position_or_len test vs) 0) ≡ Some v → cond b (Some x) (find test vs) ≡ Some v
+      by rest true at = at
+      by rest false at =
+          let e : suc (position_or_len test vs) ≡ 1 + position_or_len test vs = omega arith in
+          rest (subst (λ m. slice_get (x ∷ vs) m ≡ Some v) (sym e) at)
+
+  -- a value in place of the one that is found, as a change of that one
+  pub change_same : (test : V → Bool) (g : V → V) (w v : V) (vs : List V) → find test vs ≡ Some v → w ≡ g v
+      → change_first test (λ _. w) vs ≡ change_first test g vs
+  change_same test g w v [] h is = refl
+  change_same test g w v (x ∷ vs) h is = by (test x) h (change_same test g w v vs)
+    where
+      by : (b : Bool) → cond b (Some x) (find test vs) ≡ Some v → (find test vs ≡ Some v → w ≡ g v → change_first test (λ _. w) vs ≡ change_first test g vs)
+          → (if b then w ∷ vs else x ∷ change_first test (λ _. w) vs) ≡ (if b then g x ∷ vs else x ∷ change_first test g vs)
+      by true h rest = ap (λ y. y ∷ vs) (is ∙ ap g (sym (same_Some x v h)))
+      by false h rest = ap (λ k. x ∷ k) (rest h is)
+
+module _ {A V : Type 0} (f : V → A) where
+  -- a value that takes another's place under its key leaves the key
+  pub key_kept : (vs : List V) (i : ℕ) (v w x : V) → slice_get vs i ≡ Some v → slice_get vs i ≡ Some w → f x ≡ f v
+      → slice_get (map f (slice_set vs i x)) i ≡ Some (f w)
+  key_kept [] i v w x at there same = absurd (none-some v at)
+  key_kept (y ∷ vs) zero v w x at there same = ap Some (same ∙ ap f (sym (same_Some y v at) ∙ same_Some y w there))
+  key_kept (y ∷ vs) (suc i) v w x at there same = key_kept vs i v w x at there same
+
+  -- the image of what stands at a place stands there among the images
+  pub image_get : (vs : List V) (i : ℕ) (v : V) → slice_get vs i ≡ Some v → slice_get (map f vs) i ≡ Some (f v)
+  image_get [] i v at = absurd (none-some v at)
+  image_get (x ∷ vs) zero v at = ap (λ y. Some (f y)) (same_Some x v at)
+  image_get (x ∷ vs) (suc i) v at = image_get vs i v at
+
+  -- what stands at a place of a list of images
+  pub image_of : (vs : List V) (i : ℕ) → i < length (map f vs) → (v : V) × (slice_get vs i ≡ Some v)
+  image_of [] i lt = absurd (let no : ⊥ = omega arith in no)
+  image_of (x ∷ vs) zero lt = (x, refl)
+  image_of (x ∷ vs) (suc i) lt = image_of vs i (omega arith)
+
+  -- the image of what stands at a place
+  pub image_is : (none : A) (vs : List V) (i : ℕ) (v : V) → slice_get vs i ≡ Some v → slice_index_or (map f vs) i none ≡ f v
+  image_is none [] i v at = absurd (none-some v at)
+  image_is none (x ∷ vs) zero v at = ap f (same_Some x v at)
+  image_is none (x ∷ vs) (suc i) v at = image_is none vs i v at
+
+  -- a write among the images
+  pub images_set : (vs : List V) (i : ℕ) (w : V) → map f (slice_set vs i w) ≡ slice_set (map f vs) i (f w)
+  images_set [] i w = refl
+  images_set (x ∷ vs) zero w = refl
+  images_set (x ∷ vs) (suc i) w = ap (λ k. f x ∷ k) (images_set vs i w)

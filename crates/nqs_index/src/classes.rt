@@ -1,0 +1,166 @@
+//! The lines of a queue, one for each class of its waiting requests.
+
+ghost use Rattle.std.specs.Prelude.{◌≡◌, ◌≤◌, ◌<◌, ◌+◌, ◌-◌, ◌*◌, ◌^◌, [], ◌∷◌, ◌++◌, length, position, slice_get, true, false, Some, IfSome, OnOk, OnErr};
+ghost use Rattle.std.specs.List.{list_any};
+ghost use Rattle.nqs_index.specs.Lines.{entry_at};
+ghost use Rattle.nqs_index.specs.Classes.{is_class, new_line, with_taken, with_class, entered_in, taken_from, is_left_empty, PutsAt};
+
+use crate::class::Class;
+use crate::key::Key;
+use crate::line::Line;
+use crate::steps::Steps;
+use nqs_base::{Keyed, Memory};
+use nqs_base_tables::Table;
+use nqs_types::RequestId;
+use std::marker::Brand;
+use std::sync::ledger::{Blank, Ledger};
+
+/// The waiting requests of a class, in the order in which they start.
+pub struct ClassLine {
+    pub class: Class,
+    pub line: Line,
+}
+
+impl Drop for ClassLine {
+    fn drop(self) {
+        let ClassLine { class: _, line: _ } = self;
+    }
+}
+
+impl Keyed<Class> for ClassLine {
+    ghost key_of = { λ l. l.class };
+
+    fn key(&self) -> Class {
+        self.class
+    }
+}
+
+/// The lines of a queue, each found by its class.
+pub type Classes = Table<Class, ClassLine>;
+
+/// Puts an entry into the line at a place, with the bound on comparisons that `Line::insert` has.
+/// An `Err` changes no line.
+pub(crate) fn put_at<L: Ledger>(
+    classes: &mut Classes,
+    place: usize,
+    key: Key,
+    id: RequestId,
+    steps: &mut Steps<L>,
+) -> Result<(), Memory>
+    requires { place < length classes.old.items }
+    ensures ok { OnOk result (PutsAt place (entry_at key id) classes.old.items classes.new.items) }
+    ensures err { OnErr result (classes.new.items ≡ classes.old.items) }
+    ensures rises { steps.old ≤ steps.new }
+    ensures cost { (l : _) → slice_get classes.old.items place ≡ Some l → 2 ^ (steps.new - steps.old) ≤ 2 * length l.line + 1 }
+{
+    let mut line = ClassLine {
+        class: classes.at(place).class,
+        line: Line::new(classes.allocator()),
+    };
+    classes.exchange(place, &mut line);
+    let put = line.line.insert(key, id, steps);
+    classes.exchange(place, &mut line);
+    put
+}
+
+fn counted_put<L: Ledger>(
+    classes: &mut Classes,
+    place: usize,
+    key: Key,
+    id: RequestId,
+    blank: Blank,
+) -> bool
+    requires within { place < length classes.old.items }
+    requires name { blank.name ≡ L.name }
+    requires parts { blank.parts ≡ L.parts }
+    requires some { 0 < L.parts }
+    ensures { result ≡ true → PutsAt place (entry_at key id) classes.old.items classes.new.items }
+{
+    let mut steps = Steps::<L>::new(blank);
+    put_at(classes, place, key, id, &mut steps).is_ok()
+}
+
+// Puts an entry into the line at a place. False where memory is wanting.
+fn put_here(classes: &mut Classes, place: usize, key: Key, id: RequestId) -> bool
+    requires { place < length classes.old.items }
+    ensures { result ≡ true → PutsAt place (entry_at key id) classes.old.items classes.new.items }
+{
+    counted_put::<Brand>(classes, place, key, id, Blank::new(1))
+}
+
+// A class that has no line gets an empty one, and its place is told. None where memory is wanting.
+fn add(classes: &mut Classes, class: &Class) -> Option<usize>
+    requires { list_any (is_class class.now) classes.old.items ≡ false }
+    ensures items { IfSome result (λ i. classes.new.items ≡ classes.old.items ++ new_line class.now ∷ []) }
+    ensures place { IfSome result (λ i. position (is_class class.now) classes.new.items ≡ Some i) }
+    ensures within { IfSome result (λ i. i < length classes.new.items) }
+{
+    let Ok(()) = classes.reserve(1) else {
+        return None;
+    };
+    let line = Line::new(classes.allocator());
+    classes.push(ClassLine {
+        class: *class,
+        line,
+    });
+    classes.place(class)
+}
+
+// The place of a class's line, which is made where there is none.
+fn place_of(classes: &mut Classes, class: &Class) -> Option<usize>
+    ensures items { IfSome result (λ i. classes.new.items ≡ with_class class.now classes.old.items) }
+    ensures place { IfSome result (λ i. position (is_class class.now) classes.new.items ≡ Some i) }
+    ensures within { IfSome result (λ i. i < length classes.new.items) }
+{
+    if !classes.has(class) {
+        return add(classes, class);
+    }
+    classes.place(class)
+}
+
+/// Puts an entry into the line of a class, which is made where there is none. False where memory is
+/// wanting.
+pub(crate) fn put(classes: &mut Classes, class: &Class, key: Key, id: RequestId) -> bool
+    ensures { result ≡ true → classes.new.items ≡ entered_in class.now (entry_at key id) classes.old.items }
+{
+    match place_of(classes, class) {
+        Some(place) => put_here(classes, place, key, id),
+        None => false,
+    }
+}
+
+fn counted_take<L: Ledger>(line: &mut ClassLine, key: Key, id: RequestId, blank: Blank)
+    requires name { blank.name ≡ L.name }
+    requires parts { blank.parts ≡ L.parts }
+    requires some { 0 < L.parts }
+    ensures { line.new ≡ with_taken (entry_at key id) line.old }
+{
+    let mut steps = Steps::<L>::new(blank);
+    line.line.take(key, id, &mut steps);
+}
+
+fn take_one(line: &mut ClassLine, key: Key, id: RequestId)
+    ensures { line.new ≡ with_taken (entry_at key id) line.old }
+{
+    counted_take::<Brand>(line, key, id, Blank::new(1));
+}
+
+// Whether a class has a line without an entry.
+fn is_left_empty(classes: &Classes, class: &Class) -> bool
+    ensures { result ≡ is_left_empty class.now classes.now.items }
+{
+    match classes.get(class) {
+        Some(line) => line.line.len() == 0,
+        None => false,
+    }
+}
+
+/// Takes an entry out of the line of a class, if it is there. A line that gets empty goes.
+pub(crate) fn take(classes: &mut Classes, class: &Class, key: Key, id: RequestId)
+    ensures { classes.new.items ≡ taken_from class.now (entry_at key id) classes.old.items }
+{
+    classes.change(class, |line: &mut ClassLine| take_one(line, key, id));
+    if is_left_empty(classes, class) {
+        classes.remove_key(class);
+    }
+}
