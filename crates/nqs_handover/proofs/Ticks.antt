@@ -34,7 +34,7 @@ module _ {E : Type 0} (now : ℕ) (s : State E) where
 module _ (now : ℕ) (s : State Extent) where
   -- the silent offers are taken back, and nothing goes out
   abbrev silenced : Stepped Extent
-  silenced = record { change = silence now s.retry_wait (silent_hands now s); outputs = [] }
+  silenced = record { change = silence now s.retry_wait (silent_hands now s); outputs = []; halts = false }
 
   abbrev with_hand : Plan → Hand → Plan
   with_hand q h = with_more q (repeat_hand now s h)

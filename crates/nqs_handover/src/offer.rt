@@ -11,11 +11,10 @@ ghost use Rattle.nqs_rules.specs.Applied.{is_promise_of};
 ghost use Rattle.nqs_handover.specs.Offers.{by_number, way_causes, host_causes, into_causes};
 
 use nqs_access::may_use;
-use nqs_base::{Bytes, Memory, Name};
+use nqs_base::{Bytes, ListOf, Memory, Name};
 use nqs_limits::over_limits;
 use nqs_plans::{
-    add, change_storing, copy_bytes, copy_carried, find_peer, message, no_extent, refusal_number,
-    says,
+    add, change_storing, copy_carried, find_peer, message, no_extent, refusal_number, says,
 };
 use nqs_state::HostState;
 use nqs_types::{
@@ -23,6 +22,7 @@ use nqs_types::{
     RequestId,
 };
 use std::alloc::Global;
+use std::mem::replace;
 
 // The number of a refusal for a request that exists.
 const EXISTS: u8 = 33;
@@ -132,7 +132,14 @@ fn check_offer(state: &HostState, peer: HostId, queue: &Name, carried: &Carried)
     }
 }
 
-// The offered request is promised.
+// The bytes, in place of which none are left.
+fn take_bytes(alloc: Global, bytes: &mut Bytes) -> Bytes
+    ensures { result ≡ bytes.old }
+{
+    replace(bytes, ListOf::new(alloc))
+}
+
+// The offered request is promised. Its script is taken and not copied.
 fn promise(
     alloc: Global,
     state: &HostState,
@@ -140,9 +147,9 @@ fn promise(
     number: u64,
     queue: &Name,
     carried: &Carried,
-    script: &Bytes,
+    script: &mut Bytes,
 ) -> Result<Plan, Memory>
-    ensures { IfOk result (λ plan. plan ≡ plan_of (makes (Promised peer number queue.now carried.now script.now)
+    ensures { IfOk result (λ plan. plan ≡ plan_of (makes (Promised peer number queue.now carried.now script.old)
         (send_ready (content state.now) peer number ∷ []))) }
 {
     let promised = Change::Promised {
@@ -152,12 +159,13 @@ fn promise(
         carried: copy_carried(carried)?,
         script: no_extent(),
     };
-    let plan = change_storing(alloc, promised, copy_bytes(script)?)?;
+    let plan = change_storing(alloc, promised, take_bytes(alloc, script))?;
     add(plan, message(state, peer, Body::Ready { number }))
 }
 
 /// OFFER: the request is promised and READY goes out, or REFUSED with the number of the first
-/// refusal. DONE goes out where the number is closed, and READY where it is promised already.
+/// refusal. DONE goes out where the number is closed, and READY where it is promised already. The
+/// script of a request that is promised is taken out of `script`; what is left there isn't told.
 pub fn on_offer(
     alloc: Global,
     state: &HostState,
@@ -165,9 +173,9 @@ pub fn on_offer(
     number: u64,
     queue: &Name,
     carried: &Carried,
-    script: &Bytes,
+    script: &mut Bytes,
 ) -> Result<Plan, Memory>
-    ensures { IfOk result (λ plan. plan ≡ plan_of (on_offer peer number queue.now carried.now script.now (content state.now))) }
+    ensures { IfOk result (λ plan. plan ≡ plan_of (on_offer peer number queue.now carried.now script.old (content state.now))) }
 {
     if is_closed(state, peer, number) {
         return says(alloc, message(state, peer, Body::Done { number }));

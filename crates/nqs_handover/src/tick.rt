@@ -1,5 +1,5 @@
 //! What a tick says again, and which offers it takes back.
-ghost use Rattle.std.specs.Prelude.{◌≡◌, ◌∷◌, ◌++◌, [], IfOk, IsTrue};
+ghost use Rattle.std.specs.Prelude.{◌≡◌, ◌∷◌, ◌++◌, [], false, IfOk, IsTrue};
 ghost use Rattle.nqs_rules.specs.Find.{find_row};
 ghost use Rattle.nqs_state.specs.State.{content};
 ghost use Rattle.nqs_rules.specs.Handover.{later, is_silent, silent_hands, repeat_offer, repeat_phase, repeat_hand, send_inquire, silence, on_tick};
@@ -58,7 +58,12 @@ fn silent_hands(alloc: Global, state: &HostState, now: u64) -> Result<ListOf<Pee
 
 // The silent offers are taken back, if there are any.
 fn silence(alloc: Global, state: &HostState, now: u64) -> Result<Plan, Memory>
-    ensures { IfOk result (λ plan. plan ≡ plan_of (record { change = silence now state.now.retry_wait (silent_hands now (content state.now)); outputs = [] })) }
+    ensures { IfOk result (λ plan. plan ≡ plan_of (record {
+      change = silence now state.now.retry_wait (silent_hands now (content state.now));
+      outputs =
+          [];
+      halts = false;
+    })) }
 {
     let hands = silent_hands(alloc, state, now)?;
     if hands.len() == 0 {

@@ -156,7 +156,7 @@ fn said_again(plan: &Result<Plan, Memory>) -> (Word, Word, Word) {
 }
 
 fn offered(alloc: Global, state: &HostState) -> Result<Answer, Memory> {
-    let script = text(alloc, b"w")?;
+    let mut script = text(alloc, b"w")?;
     let carried = Carried {
         id: RequestId { seq: 5, host: BETA },
         job: job(alloc, batch()),
@@ -164,7 +164,7 @@ fn offered(alloc: Global, state: &HostState) -> Result<Answer, Memory> {
         lost: 0,
         hops: 1,
     };
-    let plan = on_offer(alloc, state, BETA, 4, &batch(), &carried, &script);
+    let plan = on_offer(alloc, state, BETA, 4, &batch(), &carried, &mut script);
     Ok(answer(&plan))
 }
 

@@ -239,7 +239,7 @@ fn submitted(plan: &Plan) -> [bool; 3] {
 }
 
 // What is seen of the plan of a submission, which takes number 12.
-fn plan_submission(alloc: Global, state: &HostState, event: &Event) -> Option<[bool; 3]>
+fn plan_submission(alloc: Global, state: &HostState, event: &mut Event) -> Option<[bool; 3]>
     requires { IsInOrder (content state.now) }
 {
     let plan = step(alloc, state, event);
@@ -249,7 +249,7 @@ fn plan_submission(alloc: Global, state: &HostState, event: &Event) -> Option<[b
 fn submit_there(
     alloc: Global,
     state: &mut HostState,
-    event: &Event,
+    event: &mut Event,
 ) -> Result<Option<[bool; 3]>, Memory>
     requires { content state.old ≡ blank_host 11 }
 {
@@ -257,7 +257,7 @@ fn submit_there(
     Ok(plan_submission(alloc, state, event))
 }
 
-fn submit(alloc: Global, event: &Event) -> Result<Option<[bool; 3]>, Memory> {
+fn submit(alloc: Global, event: &mut Event) -> Result<Option<[bool; 3]>, Memory> {
     let mut state = host(alloc, 11);
     let seen = submit_there(alloc, &mut state, event);
     drop(state);
@@ -266,8 +266,8 @@ fn submit(alloc: Global, event: &Event) -> Result<Option<[bool; 3]>, Memory> {
 
 // What is seen of a submission with this script.
 fn submit_script(alloc: Global, script: Bytes) -> Result<Option<[bool; 3]>, Memory> {
-    let event = submission(alloc, script);
-    submit(alloc, &event)
+    let mut event = submission(alloc, script);
+    submit(alloc, &mut event)
 }
 
 #[test]
@@ -316,8 +316,8 @@ fn deletion() -> Event {
 fn plan_deletion(alloc: Global, state: &HostState) -> Option<Deletion>
     requires { IsInOrder (content state.now) }
 {
-    let event = deletion();
-    let plan = step(alloc, state, &event);
+    let mut event = deletion();
+    let plan = step(alloc, state, &mut event);
     plan.as_ref().ok().map(deleted)
 }
 

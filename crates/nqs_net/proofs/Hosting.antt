@@ -19,7 +19,8 @@ use Rattle.nqs_disk.specs.declared.mem_disk.MemDisk.{MemDisk}
 use Rattle.nqs_rules.specs.Applied.{applied}
 use Rattle.nqs_rules.specs.Stepped.{stored_parts}
 use Rattle.nqs_rules.specs.Notes.{Saw, ByBoot}
-use Rattle.nqs_rules.specs.World.{fuse_of, World as Network, Host, seen_of, stopped, used, halted_host, halts, crashes_up, makes_change, boot_output, unseen}
+use Rattle.nqs_rules.specs.World.{fuse_of, World as Network, Host, Ran, seen_of, stopped, used, all_starts, halted_host, halts, crashes_up, makes_change}
+use Rattle.nqs_rules.specs.World.{boot_output, unseen}
 use Rattle.nqs_store.specs.Active.{IsActive, ready, recorded}
 use Rattle.nqs_store.specs.Disks.{disk_at, histories_of, failing_of}
 use Rattle.nqs_store.specs.declared.disks.Disks.{Disks}
@@ -36,6 +37,7 @@ use Rattle.nqs_net.specs.declared.slot.Slot.TheVariants.{Up, Down}
 use Rattle.nqs_net.proofs.Fates.{unblown}
 use Rattle.nqs_net.proofs.Stops.{AreFound}
 use Rattle.nqs_net.proofs.Coming.{node_tells, down_quiet, down_come}
+use Rattle.nqs_net.proofs.Starting.{down_all}
 use Rattle.nqs_net.proofs.Turning.{put_turn, torn_down, kept_up, kept_turn, cut_turn, same_self}
 
 -- what a node tells is found in what a stop leaves of its disks
@@ -86,6 +88,17 @@ module _ (h : HostId) (w : Network) (host : Host) (tear : Tear) (packets : List 
       by : (b : Bool) → b ≡ false → if◌then◌else◌ b (crashes_up h host w) (unseen w) ≡ unseen w
       by true e = absurd (true≢false e)
       by false e = refl
+
+  -- nothing starts there, so it doesn't matter whether it is to halt
+  pub down_either : host.up ≡ false → (b d : Bool) → halts b h (all_starts h w).world ≡ halts d h (all_starts h w).world
+  down_either down b d = still b ∙ sym (still d)
+    where
+      by : (b : Bool) → halts b h w ≡ unseen w
+      by false = refl
+      by true = down_halts down
+
+      still : (b : Bool) → halts b h (all_starts h w).world ≡ unseen w
+      still b = ap (λ (r : Ran). halts b h r.world) (down_all h w host faces.there down) ∙ by b
 
   -- the boot of a host that is down
 

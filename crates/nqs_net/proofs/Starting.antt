@@ -1,30 +1,21 @@
 -- Starts of a host go on until there is none, and a host that stops starts nothing.
-use Rattle.std.proofs.Common.{◌≡◌, ◌⊎◌, inl, inr, ℕ, zero, suc, ◌<◌, ◌≤◌, nat_le, Bool, true, false, true≢false, option_map, List, [], length, map, Option}
+use Rattle.std.proofs.Common.{◌≡◌, ◌⊎◌, inl, inr, ℕ, zero, suc, ◌<◌, ◌≤◌, Bool, true, false, true≢false, option_map, List, [], map, Option}
 use Rattle.std.proofs.Common.{None, Some, is_some, refl, sym, ap, subst, ◌∙◌, arith}
 use Rattle.std.proofs.lemmas.List.{append_assoc, append-nil}
-use Rattle.std.proofs.lemmas.Simd.{map-map}
-use Rattle.nqs_state.specs.State.{State, Plain}
-use Rattle.nqs_types.specs.Ids.{id_eq}
+use Rattle.nqs_state.specs.State.{Plain}
 use Rattle.nqs_types.specs.declared.ids.HostId.{HostId}
 use Rattle.nqs_types.specs.declared.change.Change.{Change}
 use Rattle.nqs_types.specs.declared.event.Output.{Output}
 use Rattle.nqs_rules.specs.Applied.{applied}
-use Rattle.nqs_rules.specs.InOrder.{IsInOrder, are_distinct, is_row_right, is_queue_right}
 use Rattle.nqs_rules.specs.Measure.{starts_left}
-use Rattle.nqs_rules.specs.Plain.{map_row, map_state}
 use Rattle.nqs_rules.specs.Start.{start}
 use Rattle.nqs_rules.specs.Stepped.{Stepped, quiet, shown, stored_parts}
 use Rattle.nqs_rules.specs.Notes.{ByStart}
 use Rattle.nqs_rules.specs.World.{World as Network, Host, Ran, Fate, Made, StoppedBefore, StoppedAfter, fate, host_of, put_host}
 use Rattle.nqs_rules.specs.World.{ready, recorded, cut_off, stopped, used, change_fated}
 use Rattle.nqs_rules.specs.World.{carries_out, steps, starts, all_starts, left_of, then_noted, then_ran, unseen}
-use Rattle.nqs_rules.proofs.ListFacts.{list_all-weaker}
-use Rattle.nqs_rules.proofs.FindKept.{all-mapped}
-use Rattle.nqs_rules.proofs.StateFacts.{keys_are}
-use Rattle.nqs_rules.proofs.RowFacts.{row_is}
-use Rattle.nqs_rules.proofs.RowChanges.{at_most_32}
-use Rattle.nqs_rules.proofs.QueuesOrder.{queue_is}
 use Rattle.nqs_rules.proofs.StartIs.{IsSteady, start_is}
+use Rattle.nqs_rules.proofs.StartFits.{steady_plain}
 use Rattle.nqs_rules.proofs.Lowers.{lower, stays}
 use Rattle.nqs_laws.proofs.Sound.{get-here}
 use Rattle.nqs_node.specs.Carried.{started}
@@ -44,16 +35,6 @@ use Rattle.nqs_net.specs.Worlds.{IsUp, IsSlot}
 use Rattle.nqs_net.specs.Turns.{IsDownSlot, IsAt, Turns, Starts}
 use Rattle.nqs_net.specs.declared.slot.Slot.{Slot}
 use Rattle.nqs_net.specs.declared.slot.Slot.TheVariants.{Up, Down}
-
-module _ {E : Type 0} where
-  -- a state in order is steady, whatever bytes are put for its scripts
-  pub steady_plain : (f : E → List ℕ) (s : State E) → IsInOrder s → IsSteady (map_state f s)
-  steady_plain f s h = record {
-    ids = ap (are_distinct id_eq) (map-map (λ r. r.id) (map_row f) s.rows) ∙ (keys_are s h.keys).rows;
-    names = (keys_are s h.keys).queues;
-    hops = all-mapped (is_row_right s) (λ r. nat_le r.hops 32) (map_row f) (λ r k. at_most_32 r (row_is s r k).hop) s.rows h.rows;
-    dests = list_all-weaker (is_queue_right s) (λ q. nat_le (length q.dests) 16) (λ q k. (queue_is s q k).few_dests) s.queues h.queues;
-  }
 
 -- the starts from a world on, by its host, by whether that is up, and by what starts
 

@@ -50,6 +50,12 @@ abbrev pub IsDone : HostId → Tear → (old : Which → History) → List Messa
 IsDone h tear old packets before after w ran result =
     MatchResult result (λ slot. Turns h (StandsAfter tear old slot) tear packets before after w ran) (λ _. GrowsByFront before after (seen_of ran))
 
+-- the same of a step of a host, of which is answered too whether the host is to halt
+abbrev pub IsStepDone : HostId → Tear → (old : Which → History) → List Message → (before after : List Seen) → Network → Ran
+    → Result (Bool × Slot) Lack → Type 0
+IsStepDone h tear old packets before after w ran result =
+    MatchResult result (λ r. Turns h (StandsAfter tear old r.1) tear packets before after w ran) (λ _. GrowsByFront before after (seen_of ran))
+
 -- the same of the next start of a host
 abbrev pub IsStarted : HostId → Tear → (old : Which → History) → List Message → (before after : List Seen) → Network
     → Result (Bool × Slot) Lack → Type 0

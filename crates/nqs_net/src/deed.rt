@@ -85,8 +85,8 @@ fn finish_up(
 {
     match least_running(node.state()) {
         Some((id, start)) => {
-            let event = ended(alloc, turn.now, id, start);
-            take_up(alloc, turn, node, &event, packets, seen)
+            let mut event = ended(alloc, turn.now, id, start);
+            take_up(alloc, turn, node, &mut event, packets, seen)
         }
         None => stay(
             Slot::Up(UpHost { node }),
@@ -100,15 +100,15 @@ fn do_up(
     alloc: Global,
     turn: Turn,
     node: Box<Node<MemDisk>>,
-    deed: &Deed,
+    deed: &mut Deed,
     packets: &mut Vec<Message>,
     seen: &mut Vec<Seen>,
 ) -> Result<Slot, Lack>
     requires sound { IsSoundHost (content_of node.value) }
     requires running { is_stopped node.value ≡ false }
-    requires sane { IsSaneFor (length (content_of node.value).site) deed.now }
+    requires sane { IsSaneFor (length (content_of node.value).site) deed.old }
     ensures { (w : Network) (host : Host) → Faces turn.me host turn.tear packets.old.items w → IsUp node.value host → w.now ≡ turn.now
-        → IsDone turn.me turn.tear (history_of node.value) packets.new.items seen.old.items seen.new.items w (done_up deed.now turn.me host w) result }
+        → IsDone turn.me turn.tear (history_of node.value) packets.new.items seen.old.items seen.new.items w (done_up deed.old turn.me host w) result }
 {
     match deed {
         Deed::Take(event) => take_up(alloc, turn, node, event, packets, seen),
@@ -142,14 +142,14 @@ pub(crate) fn do_at(
     alloc: Global,
     turn: Turn,
     slot: Slot,
-    deed: &Deed,
+    deed: &mut Deed,
     packets: &mut Vec<Message>,
     seen: &mut Vec<Seen>,
 ) -> Result<Slot, Lack>
-    requires sane { IsSaneAt deed.now slot }
+    requires sane { IsSaneAt deed.old slot }
     requires boots { MayBoot slot }
     ensures { (w : Network) (host : Host) → Faces turn.me host turn.tear packets.old.items w → IsSlot slot host → w.now ≡ turn.now
-        → IsDone turn.me turn.tear (disks_in slot) packets.new.items seen.old.items seen.new.items w (done_at deed.now turn.me host w) result }
+        → IsDone turn.me turn.tear (disks_in slot) packets.new.items seen.old.items seen.new.items w (done_at deed.old turn.me host w) result }
 {
     match slot {
         Slot::Up(up) => do_up(alloc, turn, up.node, deed, packets, seen),

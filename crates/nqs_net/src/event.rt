@@ -107,7 +107,7 @@ impl World {
             → OnErr result (GrowsByFront seen.old.items seen.new.items (seen_of (happens (act_of event.now) network))) }
     {
         match deed(alloc, event, self.now, &self.packets)? {
-            Some((host, deed)) => self.act(alloc, host, &deed, seen),
+            Some((host, mut deed)) => self.act(alloc, host, &mut deed, seen),
             None => self.other(alloc, event, seen),
         }
     }

@@ -1,19 +1,16 @@
 //! What comes to a host, with the starts that follow: an event, a boot or a stop.
 
-ghost use Rattle.std.specs.Prelude.{◌≡◌, ◌∷◌, [], ℕ, IsTrue, List, false, length};
+ghost use Rattle.std.specs.Prelude.{◌≡◌, ◌∷◌, [], IsTrue, List, false, length};
 ghost use Rattle.std.specs.List.{filter_map};
-ghost use Rattle.nqs_state.specs.State.{content};
 ghost use Rattle.nqs_types.specs.declared.change.Change.TheVariants.{Boot};
-ghost use Rattle.nqs_base.specs.declared.extent.Extent.{Extent};
 ghost use Rattle.nqs_types.specs.declared.message.Message.{Message as Sent};
 ghost use Rattle.nqs_types.specs.declared.world.Seen.TheVariants as sight;
 ghost use Rattle.nqs_types.specs.declared.world.Which.{Which};
 ghost use Rattle.nqs_outside.specs.History.{History};
 ghost use Rattle.nqs_disk.specs.MemDisk as mem;
 ghost use Rattle.nqs_rules.specs.Notes.{ByBoot};
-ghost use Rattle.nqs_rules.specs.Plain.{map_state};
 ghost use Rattle.nqs_rules.specs.Sane.{is_sane_event};
-ghost use Rattle.nqs_rules.specs.World.{World as Network, Host, is_shutdown, shuts_down, halts, takes_up, crashes_up, makes_change, boot_output, boots_down};
+ghost use Rattle.nqs_rules.specs.World.{World as Network, Host, halts, takes_up, crashes_up, makes_change, boot_output, boots_down};
 ghost use Rattle.nqs_node.specs.Nodes.{history_of, content_of, is_stopped};
 ghost use Rattle.nqs_store.specs.Disks.{histories_of};
 ghost use Rattle.nqs_store.specs.Sound.{IsSoundHost};
@@ -25,40 +22,11 @@ use crate::emit::emit;
 use crate::slot::{DownHost, Slot, UpHost};
 use crate::stop::stop;
 use crate::turn::{Turn, start_all, take_step};
-use nqs_access::{may_command, rank};
 use nqs_disk::{Lack, MemDisk};
 use nqs_node::Node;
-use nqs_state::HostState;
 use nqs_store::LoadFault;
-use nqs_types::{Command, Event, Message, Seen};
+use nqs_types::{Event, Message, Seen};
 use std::alloc::Global;
-
-fn is_shutdown(command: &Command) -> bool
-    ensures { result ≡ is_shutdown command.now }
-{
-    match command {
-        Command::Shutdown => true,
-        _ => false,
-    }
-}
-
-// Whether an event is a shutdown that is answered Done.
-#[tactic(none)]
-fn shuts_down(event: &Event, state: &HostState) -> bool
-    ensures { (bytes : Extent → List ℕ) → result ≡ shuts_down event.now (map_state bytes (content state.now)) }
-{
-    match event {
-        Event::Ask { user, command, .. } => {
-            is_shutdown(command) && may_command(rank(state, user), command).is_ok()
-        }
-        Event::Arrived { .. } => false,
-        Event::Ended { .. } => false,
-        Event::Unlaunched { .. } => false,
-        Event::Written { .. } => false,
-        Event::Unwritten { .. } => false,
-        Event::Tick { .. } => false,
-    }
-}
 
 /// A host that is up stops.
 #[tactic(none)]
@@ -76,7 +44,7 @@ pub(crate) fn crash_up(
     Ok(slot)
 }
 
-// A host stops after a shutdown, if it didn't before.
+// A host that is to halt stops, if it didn't before.
 #[tactic(none)]
 fn halt(
     alloc: Global,
@@ -97,26 +65,25 @@ fn halt(
     }
 }
 
-/// A host that is up takes an event, and starts what may start then. A shutdown stops it.
+/// A host that is up takes an event, and starts what may start then. A step that halts stops it.
 #[tactic(none)]
 pub(crate) fn take_up(
     alloc: Global,
     turn: Turn,
     node: Box<Node<MemDisk>>,
-    event: &Event,
+    event: &mut Event,
     packets: &mut Vec<Message>,
     seen: &mut Vec<Seen>,
 ) -> Result<Slot, Lack>
     requires sound { IsSoundHost (content_of node.value) }
     requires running { is_stopped node.value ≡ false }
-    requires sane { IsTrue (is_sane_event (length (content_of node.value).site) event.now) }
+    requires sane { IsTrue (is_sane_event (length (content_of node.value).site) event.old) }
     ensures { (w : Network) (host : Host) → Faces turn.me host turn.tear packets.old.items w → IsUp node.value host → w.now ≡ turn.now
-        → IsDone turn.me turn.tear (history_of node.value) packets.new.items seen.old.items seen.new.items w (takes_up turn.me host event.now w) result }
+        → IsDone turn.me turn.tear (history_of node.value) packets.new.items seen.old.items seen.new.items w (takes_up turn.me host event.old w) result }
 {
-    let stops = shuts_down(event, node.state());
-    let taken = take_step(alloc, turn, node, event, packets, seen)?;
+    let (halts, taken) = take_step(alloc, turn, node, event, packets, seen)?;
     let begun = start_all(alloc, turn, taken, packets, seen)?;
-    let left = halt(alloc, turn, stops, begun, seen)?;
+    let left = halt(alloc, turn, halts, begun, seen)?;
     Ok(left)
 }
 

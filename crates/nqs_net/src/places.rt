@@ -20,16 +20,16 @@ impl World {
         &mut self,
         alloc: Global,
         host: HostId,
-        deed: &Deed,
+        deed: &mut Deed,
         seen: &mut Vec<Seen>,
     ) -> Result<(), Lack>
-        requires ready { IsReady self.old deed.now }
-        ensures world { (network : Network) → IsWorld self.old network → OnOk result (IsWorld self.new (done deed.now host network).world) }
+        requires ready { IsReady self.old deed.old }
+        ensures world { (network : Network) → IsWorld self.old network → OnOk result (IsWorld self.new (done deed.old host network).world) }
         ensures follow { (network : Network) → IsWorld self.old network
             → OnOk result (FollowEach self.old.tears.items self.old.slots.items self.new.slots.items) }
-        ensures seen { (network : Network) → IsWorld self.old network → OnOk result (seen.new.items ≡ seen.old.items ++ seen_of (done deed.now host network)) }
+        ensures seen { (network : Network) → IsWorld self.old network → OnOk result (seen.new.items ≡ seen.old.items ++ seen_of (done deed.old host network)) }
         ensures front { (network : Network) → IsWorld self.old network
-            → OnErr result (GrowsByFront seen.old.items seen.new.items (seen_of (done deed.now host network))) }
+            → OnErr result (GrowsByFront seen.old.items seen.new.items (seen_of (done deed.old host network))) }
     {
         let place = host.0 as usize;
         if self.slots.len() <= place {

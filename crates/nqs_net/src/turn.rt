@@ -1,6 +1,6 @@
 //! What a host does that is up: it takes an event, and starts what may start.
 
-ghost use Rattle.std.specs.Prelude.{◌≡◌, ◌<◌, [], IsTrue, IfOk, List, ℕ, Bool, true, false, None, length};
+ghost use Rattle.std.specs.Prelude.{◌≡◌, ◌⊎◌, ◌<◌, [], IsTrue, IfOk, List, ℕ, Bool, true, false, None, length};
 ghost use Rattle.nqs_types.specs.declared.world.Which.{Which};
 ghost use Rattle.nqs_outside.specs.History.{History};
 ghost use Rattle.nqs_rules.specs.Measure.{starts_left};
@@ -13,7 +13,7 @@ ghost use Rattle.nqs_rules.specs.World.{World as Network, Host, steps, all_start
 ghost use Rattle.nqs_node.specs.Carried.{started};
 ghost use Rattle.nqs_node.specs.Nodes.{history_of, fails_of, content_of, is_stopped};
 ghost use Rattle.nqs_store.specs.Sound.{IsSoundHost};
-ghost use Rattle.nqs_net.specs.Followed.{StandsAfter, IsDone, IsStarted};
+ghost use Rattle.nqs_net.specs.Followed.{StandsAfter, IsDone, IsStepDone, IsStarted};
 ghost use Rattle.nqs_net.specs.Worlds.{IsUp};
 ghost use Rattle.nqs_net.specs.Turns.{IsTaken, IsDownSlot, Faces, IsAt, Turns, Starts, starts_in};
 
@@ -35,25 +35,27 @@ pub(crate) struct Turn {
     pub now: u64,
 }
 
-// Takes an event: `false` where a failed call of a disk stopped the node.
+// Takes an event: whether no failed call of a disk stopped the node, and whether the host halts
+// then.
 #[tactic(none)]
 fn take_event(
     alloc: Global,
     node: &mut Node<MemDisk>,
-    event: &Event,
+    event: &mut Event,
     out: &mut Vec<Output>,
-) -> Result<bool, Memory>
+) -> Result<(bool, bool), Memory>
     requires sound { IsSoundHost (content_of node.old) }
     requires running { is_stopped node.old ≡ false }
-    requires sane { IsTrue (is_sane_event (length (content_of node.old).site) event.now) }
+    requires sane { IsTrue (is_sane_event (length (content_of node.old).site) event.old) }
     ensures sound { IsSoundHost (content_of node.new) }
-    ensures running { IfOk result (λ took. took ≡ true → is_stopped node.new ≡ false) }
+    ensures running { IfOk result (λ r. r.0 ≡ true → is_stopped node.new ≡ false) }
     ensures taken { (host : Host) → IsUp node.old host → out.old.items ≡ []
-        → IfOk result (IsTaken host (step event.now host.state) (fails_of node.old) (history_of node.old) node.new out.new.items) }
+        → IfOk result (λ r. IsTaken host (step event.old host.state) (fails_of node.old) (history_of node.old) node.new out.new.items r.0) }
+    ensures halts { (host : Host) → IsUp node.old host → IfOk result (λ r. r.0 ≡ true → r.1 ≡ (step event.old host.state).halts) }
 {
     match node.take(alloc, event, out) {
-        Ok(()) => Ok(true),
-        Err(NodeFault::Disk(_)) => Ok(false),
+        Ok(halts) => Ok((true, halts)),
+        Err(NodeFault::Disk(_)) => Ok((false, false)),
         Err(NodeFault::Memory(memory)) => Err(memory),
         // It isn't stopped.
         Err(NodeFault::Stopped) => unreachable!(),
@@ -116,28 +118,30 @@ fn carry(
     Ok(slot)
 }
 
-/// A host takes an event: its step goes out, or stops the host.
+/// A host takes an event: its step goes out, or stops the host. Answers whether the host is to halt,
+/// where it is still up.
 #[tactic(none)]
 pub(crate) fn take_step(
     alloc: Global,
     turn: Turn,
     node: Box<Node<MemDisk>>,
-    event: &Event,
+    event: &mut Event,
     packets: &mut Vec<Message>,
     seen: &mut Vec<Seen>,
-) -> Result<Slot, Lack>
+) -> Result<(bool, Slot), Lack>
     requires sound { IsSoundHost (content_of node.value) }
     requires running { is_stopped node.value ≡ false }
-    requires sane { IsTrue (is_sane_event (length (content_of node.value).site) event.now) }
-    ensures { (w : Network) (host : Host) → Faces turn.me host turn.tear packets.old.items w → IsUp node.value host
-        → IsDone turn.me turn.tear (history_of node.value) packets.new.items seen.old.items seen.new.items w
-        (steps turn.me host (ByEvent event.now) (step event.now host.state) w) result }
+    requires sane { IsTrue (is_sane_event (length (content_of node.value).site) event.old) }
+    ensures turn { (w : Network) (host : Host) → Faces turn.me host turn.tear packets.old.items w → IsUp node.value host
+        → IsStepDone turn.me turn.tear (history_of node.value) packets.new.items seen.old.items seen.new.items w
+        (steps turn.me host (ByEvent event.old) (step event.old host.state) w) result }
+    ensures halts { (host : Host) → IsUp node.value host → IfOk result (λ r. (r.0 ≡ (step event.old host.state).halts) ⊎ IsDownSlot r.1) }
 {
     let mut node = node;
     let mut out = Vec::new(alloc);
-    let took = take_event(alloc, &mut *node, event, &mut out)?;
+    let (took, halts) = take_event(alloc, &mut *node, event, &mut out)?;
     let slot = carry(alloc, turn, node, took, out, packets, seen)?;
-    Ok(slot)
+    Ok((halts, slot))
 }
 
 // Makes the next start of a host, if one may start: `false` where no other may follow.

@@ -9,3 +9,4 @@ pub mod Resting
 pub mod Booting
 pub mod Bare
 pub mod Carrying
+pub mod Still

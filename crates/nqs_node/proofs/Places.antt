@@ -2,7 +2,7 @@
 use Rattle.std.proofs.Common.{Err, Ok, IsErrOf, false, IsTrue}
 use Rattle.std.proofs.Common.{◌≡◌, ℕ, zero, suc, ◌<◌, ◌≤◌, List, [], ◌∷◌, Bool, length, get_or, slice_set, refl, sym, ap, subst, ◌∙◌, arith}
 use Rattle.std.specs.List.{AllByRecursion}
-use Rattle.nqs_outside.specs.Causes.{Rose}
+use Rattle.nqs_outside.proofs.Roses.{rose_since}
 use Rattle.nqs_outside.specs.History.{moment}
 use Rattle.nqs_rules.specs.Edits.{change_at}
 use Rattle.nqs_outside.specs.declared.disk.Disk as disk
@@ -26,9 +26,6 @@ pub all_at : {V : Type 0} (P : V → Type 0) (vs : List V) (i : ℕ) (d : V) →
 all_at P [] i d all lt = absurd (omega (arith, lt))
 all_at P (v ∷ vs) zero d all lt = all.0
 all_at P (v ∷ vs) (suc i) d all lt = all_at P vs i d all.1 (omega (arith, lt))
-
-pub rose_since : (a b c : ℕ) → a ≤ b → Rose b c → Rose a c
-rose_since a b c later rose = omega (arith, later, rose)
 
 -- a store that is only read, once and again
 
@@ -60,8 +57,14 @@ no_error x e is = let no : ⊥ = cc in no
 pub not_both : (b : Bool) → IsTrue b → b ≡ false → ⊥
 not_both b is isnt = let never : ⊥ = cc in never
 
-pub node_memory : (memory : Memory) (which : Which) → IsErrOf {T = Unit {0}} (Err (node.Memory memory)) (node.Disk which) → ⊥
+pub at_most_itself : (n : ℕ) → n ≤ n
+at_most_itself n = omega arith
+
+pub node_memory : {T : Type 0} (memory : Memory) (which : Which) → IsErrOf {T = T} (Err (node.Memory memory)) (node.Disk which) → ⊥
 node_memory memory which is = let no : ⊥ = cc in no
 
-pub node_disk : (w which : Which) → IsErrOf {T = Unit {0}} (Err (node.Disk w)) (node.Disk which) → w ≡ which
+pub node_stopped : {T : Type 0} (which : Which) → IsErrOf {T = T} (Err node.Stopped) (node.Disk which) → ⊥
+node_stopped which is = let no : ⊥ = cc in no
+
+pub node_disk : {T : Type 0} (w which : Which) → IsErrOf {T = T} (Err (node.Disk w)) (node.Disk which) → w ≡ which
 node_disk w which is = cc

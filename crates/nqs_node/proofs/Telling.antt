@@ -1,17 +1,20 @@
--- What a node tells, where nothing happened to it.
-use Rattle.std.proofs.Common.{◌≡◌, ℕ, IsTrue, false, List, Option, option_map, Some, None, refl, sym, ap, subst, ◌∙◌}
+-- What a node tells, where nothing happened to it, and whether what it tells halts.
+use Rattle.std.proofs.Common.{◌≡◌, ℕ, IsTrue, false, List, [], Option, option_map, Some, None, refl, sym, ap, subst, ◌∙◌}
 use Rattle.nqs_state.specs.State.{Plain}
 use Rattle.nqs_types.specs.declared.change.Change.{Change}
 use Rattle.nqs_base.specs.declared.extent.Extent.{Extent}
 use Rattle.nqs_types.specs.declared.world.Which.{Which}
+use Rattle.nqs_types.specs.declared.event.Event.{Event}
 use Rattle.nqs_types.specs.declared.event.Plan.{Plan}
 use Rattle.nqs_rules.specs.Start.{start}
+use Rattle.nqs_rules.specs.Step.{step}
 use Rattle.nqs_rules.specs.Stepped.{Stepped, quiet, map_stepped, plan_of}
+use Rattle.nqs_rules.proofs.StepPlain.{step-map}
 use Rattle.nqs_outside.specs.declared.disk.Disk as disk
 use Rattle.nqs_store.specs.Stores as store
 use Rattle.nqs_store.specs.Told.{Host}
 use Rattle.nqs_node.specs.Carried.{Kept, started, IsOneOrOther}
-use Rattle.nqs_node.specs.Nodes.{history_of, active_of, content_of, bytes_of, plain_of, is_stopped, Tells}
+use Rattle.nqs_node.specs.Nodes.{history_of, active_of, content_of, bytes_of, plain_of, bare, is_stopped, Tells}
 use Rattle.nqs_node.specs.Planned.{IsKeptWith, Does}
 use Rattle.nqs_node.specs.declared.node.Node.{Node}
 use Rattle.nqs_node.proofs.Performing.{still_one, same_plain}
@@ -34,6 +37,13 @@ module _ {D : Type 0} {g : disk.Ghosts D} (old : Node D g) (s : Plain) (told : T
   pub one_still : IsTrue g.tells → (kept : Kept) → IsOneOrOther (active_of old) (history_of old) (history_of old) kept s
   one_still telling kept = subst (λ (p : Plain). IsOneOrOther (active_of old) (history_of old) (history_of old) kept p) told.is
       (still_one old.store old.store (λ which. refl) (content_of old) telling told.told kept)
+
+  -- a step without the stored bytes halts where one of what is told does
+  pub halts_told : (e : Event) → (step e (bare old)).halts ≡ (step e s).halts
+  halts_told e =
+      ap (λ (x : Stepped (List ℕ)). x.halts) (step-map {E = Extent} {F = List ℕ} (λ _. []) e (content_of old))
+      ∙ sym (ap (λ (x : Stepped (List ℕ)). x.halts) (step-map (bytes_of old) e (content_of old)))
+      ∙ ap (λ (t : Plain). (step e t).halts) told.is
 
   -- the plan of what is done at a host does what is done at the plain state
   pub done_here : (F : Plain → Stepped (List ℕ)) (done : Stepped Extent) (plan : Plan) → plan ≡ plan_of done

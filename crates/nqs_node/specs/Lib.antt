@@ -4,3 +4,4 @@ pub mod Idle
 pub mod Reading
 pub mod Planned
 pub mod Makes
+pub mod Boots

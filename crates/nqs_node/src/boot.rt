@@ -11,20 +11,16 @@ ghost use Rattle.nqs_base.specs.Want.{want};
 ghost use Rattle.nqs_base.specs.declared.extent.Extent.{Extent};
 ghost use Rattle.nqs_types.specs.declared.world.Which.{Which};
 ghost use Rattle.nqs_types.specs.declared.change.Change.TheVariants.{Boot};
-ghost use Rattle.nqs_outside.specs.Causes.{Rose};
 ghost use Rattle.nqs_outside.specs.History.{IsQuiet};
-ghost use Rattle.nqs_rules.specs.Applied.{applied};
 ghost use Rattle.nqs_rules.specs.World.{boot_output};
 ghost use Rattle.nqs_rules.specs.Plain.{map_row, map_state};
 ghost use Rattle.nqs_store.specs.Calls.{IsLeft, MayStop, Commits};
 ghost use Rattle.nqs_store.specs.Stores.{is_stopped as is_store_stopped};
-ghost use Rattle.nqs_store.specs.Active.{Active, IsActive};
-ghost use Rattle.nqs_store.specs.Disks.{disk_at, histories_of, failing_of, contents};
-ghost use Rattle.nqs_store.specs.Faults.{IsLoadFault};
+ghost use Rattle.nqs_store.specs.Disks.{histories_of, contents};
 ghost use Rattle.nqs_store.specs.Images.{IsTold};
 ghost use Rattle.nqs_store.specs.Sound.{IsSoundHost};
+ghost use Rattle.nqs_node.specs.Boots.{Booted, Unbooted};
 ghost use Rattle.nqs_node.specs.Makes.{Makes};
-ghost use Rattle.nqs_node.specs.Carried.{after_kept, IsMade, IsCutBy, IsBrokenOff, IsOneOrOther, IsBlown};
 
 use crate::keep::keep;
 use crate::node::Node;
@@ -110,8 +106,6 @@ fn begin<D: Disk>(
 }
 
 impl<D: Disk> Node<D> {
-    ghost use Rattle.nqs_node.specs.Nodes.{disk_of, history_of, fails_of, active_of, content_of, is_stopped, Tells};
-
     /// Boots a host from its disks, on which nothing is pending: what ran there starts again or is
     /// lost, which is one record of its journal. It adds to `out` what is said of each such
     /// request, in the order of rows. A refusal hands the disks back; `Memory` comes before the
@@ -122,59 +116,12 @@ impl<D: Disk> Node<D> {
         out: &mut Vec<Output>,
     ) -> Result<Node<D>, (LoadFault, Disks<D>)>
         requires quiet { IsTrue D.tells → (which : Which) → IsQuiet (histories_of D.history disks which) }
-        ensures sound { IfOk result (λ node. IsSoundHost (content_of node)) }
-        ensures running { IfOk result (λ node. is_stopped node ≡ false) }
         ensures unsaid { OnErr result (out.new.items ≡ out.old.items) }
-        ensures failed { IfErr result (λ e. (which : Which) → e.0 ≡ LoadFault.Disk which
-            → Rose (D.faults (disk_at which disks)) (D.faults (disk_at which e.1))) }
-        ensures fault { IsTrue D.tells → IfErr result (λ e. (which : Which) (place : ℕ) → e.0 ≡ LoadFault.NotNqs which place
-            → IsLoadFault (contents (histories_of D.history disks)) e.0) }
-        ensures memory { IsTrue D.tells → IfErr result (λ e. e.0 ≡ LoadFault.Memory want → (which : Which)
-            → histories_of D.history e.1 which ≡ histories_of D.history disks which) }
-
-        // Disks that tell a host are booted, and tell the state after the boot. Others are not
-        // booted.
-        ensures one { IsTrue D.tells → IfOk result (λ node. (s : Plain)
-            × IsTold (contents (histories_of D.history disks)) s × Tells node (applied Boot s)) }
-        ensures never { IsTrue D.tells → (s : Plain)
-            → IsTold (contents (histories_of D.history disks)) s
-            → IfErr result (λ e. (which : Which) (place : ℕ) → e.0 ≡ LoadFault.NotNqs which place → ⊥) }
-        ensures told { IsTrue D.tells → (s : Plain)
-            → IsTold (contents (histories_of D.history disks)) s
-            → IfOk result (λ node. Tells node (applied Boot s)) }
         ensures outputs { IsTrue D.tells → (s : Plain)
             → IsTold (contents (histories_of D.history disks)) s
             → OnOk result (out.new.items ≡ out.old.items ++ filter_map boot_output s.rows) }
-
-        // The calls that it makes: at Ok just those of one record, behind those of a checkpoint
-        // where one is due, else a part of them, of which only the last may have failed.
-        ensures made { IsTrue D.tells → (a : Active) → IsActive (contents (histories_of D.history disks)) a
-            → IfOk result (λ node. IsMade a (failing_of D.fails disks) (histories_of D.history disks) (history_of node) (Some Boot)) }
-        ensures broken_off { IsTrue D.tells → (a : Active) → IsActive (contents (histories_of D.history disks)) a
-            → IfErr result (λ e. IsBrokenOff a (histories_of D.history disks) (histories_of D.history e.1) (Some Boot)) }
-        // Disks that name no journal are left as they are.
-        ensures untouched { IsTrue D.tells → ((a : Active) → IsActive (contents (histories_of D.history disks)) a → ⊥)
-            → IfErr result (λ e. (which : Which) → histories_of D.history e.1 which ≡ histories_of D.history disks which) }
-        ensures active { IsTrue D.tells → (a : Active) → IsActive (contents (histories_of D.history disks)) a
-            → IfOk result (λ node. active_of node ≡ after_kept (Some Boot) a) }
-
-        // Which of them fails is the disk's to say, unless it is starved.
-        ensures cut { IsTrue D.tells → (s : Plain) → IsTold (contents (histories_of D.history disks)) s
-            → (a : Active) → IsActive (contents (histories_of D.history disks)) a
-            → IfErr result (λ e. (which : Which) → e.0 ≡ LoadFault.Disk which → IsTrue (D.starved (disk_at which e.1))
-            ⊎ (IsBlown (failing_of D.fails disks which) (histories_of D.history disks which)
-            ⊎ IsCutBy a (failing_of D.fails disks) (histories_of D.history disks) (histories_of D.history e.1) (Some Boot) s which)) }
-        ensures fuse { IsTrue D.tells → IfOk result (λ node. (which : Which) (i : ℕ) → fails_of node which i ≡ failing_of D.fails disks which i) }
-        ensures later { MatchResult result
-            (λ node. (which : Which) → D.faults (disk_at which disks) ≤ D.faults (disk_of which node))
-            (λ e. (which : Which) → D.faults (disk_at which disks) ≤ D.faults (disk_at which e.1)) }
-
-        // At each moment, whatever images the disks may leave, they tell the state before the boot
-        // or the one after it.
-        ensures any_moment { IsTrue D.tells → (s : Plain) → IsTold (contents (histories_of D.history disks)) s
-            → (a : Active) → IsActive (contents (histories_of D.history disks)) a → MatchResult result
-            (λ node. IsOneOrOther a (histories_of D.history disks) (history_of node) (Some Boot) s)
-            (λ e. IsOneOrOther a (histories_of D.history disks) (histories_of D.history e.1) (Some Boot) s) }
+        ensures booted { IfOk result (Booted disks) }
+        ensures unbooted { IfErr result (λ e. Unbooted D.tells D.history D.fails D.starved D.faults disks e.0 e.1) }
     {
         match Store::load(alloc, disks) {
             Err((fault, disks)) => Err((fault, disks)),

@@ -1,6 +1,6 @@
 //! A node carries out a plan.
 
-ghost use Rattle.std.specs.Prelude.{◌≡◌, ◌++◌, ℕ, List, false, map, IsTrue, IsErrOf, OnOk, OnErr, []};
+ghost use Rattle.std.specs.Prelude.{◌≡◌, ◌++◌, ℕ, List, false, map, IsTrue, IsErrOf, IfOk, OnOk, OnErr, []};
 ghost use Rattle.std.specs.Option.{option_map};
 ghost use Rattle.nqs_base.specs.Want.{want};
 ghost use Rattle.nqs_rules.specs.Starts.{after_change};
@@ -23,18 +23,20 @@ impl<D: Disk> Node<D> {
     ghost use Rattle.nqs_node.specs.Nodes.{content_of, bytes_of, is_stopped, Stays};
 
     // Carries out a plan of this host: reads, keeps and makes it, and adds to `out` what goes out.
+    // Answers whether the plan halts its host.
     pub(crate) fn carry_out(
         &mut self,
         alloc: Global,
         plan: Plan,
         out: &mut Vec<Output>,
-    ) -> Result<(), NodeFault>
+    ) -> Result<bool, NodeFault>
         requires sound { IsSoundHost (content_of self.old) }
         requires running { is_stopped self.old ≡ false }
         requires may { MayBeDone (content_of self.old) plan }
         ensures sound { IsSoundHost (content_of self.new) }
         ensures site { (content_of self.new).site ≡ (content_of self.old).site }
         ensures stopped { IsErrOf result NodeFault.Stopped → ⊥ }
+        ensures halts { IfOk result (λ halts. halts ≡ plan.halts) }
         ensures stops { MayStop self.old self.new result }
         ensures unsaid { OnErr result (out.new.items ≡ out.old.items) }
         ensures unmade { OnErr result (content_of self.new ≡ content_of self.old) }
@@ -49,6 +51,7 @@ impl<D: Disk> Node<D> {
         match out.reserve(plan.outputs.len()) {
             Err(refused) => Err(NodeFault::Memory(refused.into())),
             Ok(()) => {
+                let halts = plan.halts;
                 let (change, puts, outputs, reads) = plan.into_parts();
                 let mut outputs = outputs.into_vec();
                 // What fails from here on leaves the node stopped, but for want of memory.
@@ -74,7 +77,7 @@ impl<D: Disk> Node<D> {
                     Ok(()) => {
                         self.stopped = false;
                         out.append(&mut outputs).unwrap();
-                        Ok(())
+                        Ok(halts)
                     }
                 }
             }

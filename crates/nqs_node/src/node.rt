@@ -19,7 +19,7 @@ ghost use Rattle.nqs_store.specs.Sound.{IsSoundHost};
 ghost use Rattle.nqs_store.specs.Stores.{is_stopped as is_store_stopped};
 ghost use Rattle.nqs_back.specs.Back.{comebacks, comes_back};
 ghost use Rattle.nqs_back.specs.Bare.{emptied, without_bytes};
-ghost use Rattle.nqs_node.specs.Carried.{started, after_kept, IsMade, IsCutBy, IsBrokenOff, IsOneOrOther, IsBlown};
+ghost use Rattle.nqs_node.specs.Carried.{started};
 ghost use Rattle.nqs_node.specs.Idle.{is_idle};
 ghost use Rattle.nqs_node.specs.Reading.{AreShort};
 
@@ -55,70 +55,51 @@ pub struct Node<D: Disk> {
 impl<D: Disk> Node<D> {
     ghost use Rattle.nqs_node.specs.Nodes.{disk_of, history_of, fails_of, is_starved, active_of, content_of, bare, is_stopped, Tells, Stays, OnlyReads};
     ghost use Rattle.nqs_node.specs.Nodes.{FailedToRead};
+    ghost use Rattle.nqs_node.specs.Makes.{MayStop, Carries};
 
-    /// Takes an event: keeps its change, makes it, and adds to `out` what goes out. `Memory` and
-    /// `Stopped` leave all as it was.
+    /// Takes an event: keeps its change, makes it, and adds to `out` what goes out. Answers whether
+    /// the host halts: then it is to stop when all that may start has started. `Memory` and
+    /// `Stopped` leave all as it was, but for the event: what is to be stored was moved out of it,
+    /// so that it can't be taken once more.
     pub fn take(
         &mut self,
         alloc: Global,
-        event: &Event,
+        event: &mut Event,
         out: &mut Vec<Output>,
-    ) -> Result<(), NodeFault>
+    ) -> Result<bool, NodeFault>
         requires sound { IsSoundHost (content_of self.old) }
-        requires sane { IsTrue (is_sane_event (length (content_of self.old).site) event.now) }
+        requires sane { IsTrue (is_sane_event (length (content_of self.old).site) event.old) }
         ensures sound { IsSoundHost (content_of self.new) }
         ensures site { (content_of self.new).site ≡ (content_of self.old).site }
         ensures stopped { IsErrOf result NodeFault.Stopped ↔ IsTrue (is_stopped self.old) }
         ensures refused { IsErrOf result NodeFault.Stopped → (self.new ≡ self.old) × (out.new ≡ out.old) }
-        ensures running { OnOk result (is_stopped self.new ≡ false) }
-        ensures broken { (which : Which) → IsErrOf result (NodeFault.Disk which) → IsTrue (is_stopped self.new)
-            × Rose (D.faults (disk_of which self.old)) (D.faults (disk_of which self.new)) }
+        ensures stops { MayStop self.old self.new result }
         ensures unsaid { OnErr result (out.new.items ≡ out.old.items) }
-        // No disk's count of faults falls.
-        ensures later { (which : Which) → D.faults (disk_of which self.old) ≤ D.faults (disk_of which self.new) }
         ensures memory { IsTrue D.tells → IsErrOf result (NodeFault.Memory want) → Stays self.old self.new }
         ensures unmade { OnErr result (content_of self.new ≡ content_of self.old) }
 
         // Over whatever disks: at Ok its state is that after the step, and what goes out is the
         // step's, but for the bytes that are kept.
-        ensures bare { OnOk result (bare self.new ≡ emptied (after_step (step event.now (bare self.old)) (bare self.old))) }
+        ensures bare { OnOk result (bare self.new ≡ emptied (after_step (step event.old (bare self.old)) (bare self.old))) }
         ensures alike { OnOk result (map without_bytes out.new.items
-            ≡ map without_bytes out.old.items ++ map without_bytes (map shown (step event.now (bare self.old)).outputs)) }
+            ≡ map without_bytes out.old.items ++ map without_bytes (map shown (step event.old (bare self.old)).outputs)) }
+
+        // It halts where its step does.
+        ensures halts { IfOk result (λ halts. halts ≡ (step event.old (bare self.old)).halts) }
 
         // Whatever the disks are, what is sent carries no more than may be sent, where what the
         // step sends does without its bytes.
-        ensures short { AreShort out.old.items → AreShort (map shown (step event.now (bare self.old)).outputs) → OnOk result (AreShort out.new.items) }
+        ensures short { AreShort out.old.items → AreShort (map shown (step event.old (bare self.old)).outputs) → OnOk result (AreShort out.new.items) }
 
         // After an event that came back no more may start than before, and nothing goes out of
         // which another comes back.
-        ensures no_more { IsTrue (comes_back event.now) → OnOk result (starts_left (content_of self.new) ≤ starts_left (content_of self.old)) }
-        ensures none_back { IsTrue (comes_back event.now) → OnOk result (comebacks out.new.items ≡ comebacks out.old.items) }
+        ensures no_more { IsTrue (comes_back event.old) → OnOk result (starts_left (content_of self.new) ≤ starts_left (content_of self.old)) }
+        ensures none_back { IsTrue (comes_back event.old) → OnOk result (comebacks out.new.items ≡ comebacks out.old.items) }
 
-        // At Ok its state is that after the step, and its disks tell it; what goes out is the
-        // step's.
-        ensures told { IsTrue D.tells → (s : Plain) → Tells self.old s → OnOk result (Tells self.new (after_step (step event.now s) s)) }
-        ensures outputs { IsTrue D.tells → (s : Plain) → Tells self.old s
-            → OnOk result (out.new.items ≡ out.old.items ++ map shown (step event.now s).outputs) }
-
-        // The calls that it makes: at Ok just those of the change's commit, else a part of them, of
-        // which only the last may have failed.
-        ensures made { IsTrue D.tells → (s : Plain) → Tells self.old s
-            → OnOk result (IsMade (active_of self.old) (fails_of self.old) (history_of self.old) (history_of self.new) (step event.now s).change) }
-        ensures active { IsTrue D.tells → (s : Plain) → Tells self.old s → OnOk result
-            (active_of self.new ≡ after_kept (step event.now s).change (active_of self.old)) }
-        ensures broken_off { IsTrue D.tells → (s : Plain) → Tells self.old s
-            → OnErr result (IsBrokenOff (active_of self.old) (history_of self.old) (history_of self.new) (step event.now s).change) }
-
-        // Which of them fails is the disk's to say, unless it is starved.
-        ensures cut { IsTrue D.tells → (s : Plain) → Tells self.old s → (which : Which) → IsErrOf result (NodeFault.Disk which)
-            → IsTrue (is_starved self.new which) ⊎ (IsBlown (fails_of self.old which) (history_of self.old which)
-            ⊎ IsCutBy (active_of self.old) (fails_of self.old) (history_of self.old) (history_of self.new) (step event.now s).change s which) }
-        ensures fuse { IsTrue D.tells → (which : Which) (i : ℕ) → fails_of self.new which i ≡ fails_of self.old which i }
-
-        // At each moment, whatever images the disks may leave, they tell the state before the step
-        // or the one after it.
-        ensures any_moment { IsTrue D.tells → (s : Plain) → Tells self.old s
-            → IsOneOrOther (active_of self.old) (history_of self.old) (history_of self.new) (step event.now s).change s }
+        // At Ok its disks tell the state after the step, and what goes out is the step's; just the
+        // calls of its change's commit were made, or a part of them; at each moment, whatever images
+        // the disks may leave, they tell the state before the step or the one after it.
+        ensures carries { (s : Plain) → Tells self.old s → Carries self.old self.new out.old.items out.new.items (step event.old s) result }
     {
         if self.stopped {
             return Err(NodeFault::Stopped);
@@ -160,12 +141,8 @@ impl<D: Disk> Node<D> {
         ensures site { (content_of self.new).site ≡ (content_of self.old).site }
         ensures stopped { IsErrOf result NodeFault.Stopped ↔ IsTrue (is_stopped self.old) }
         ensures refused { IsErrOf result NodeFault.Stopped → (self.new ≡ self.old) × (out.new ≡ out.old) }
-        ensures running { OnOk result (is_stopped self.new ≡ false) }
-        ensures broken { (which : Which) → IsErrOf result (NodeFault.Disk which) → IsTrue (is_stopped self.new)
-            × Rose (D.faults (disk_of which self.old)) (D.faults (disk_of which self.new)) }
+        ensures stops { MayStop self.old self.new result }
         ensures unsaid { OnErr result (out.new.items ≡ out.old.items) }
-        // No disk's count of faults falls.
-        ensures later { (which : Which) → D.faults (disk_of which self.old) ≤ D.faults (disk_of which self.new) }
         ensures memory { IsTrue D.tells → IsErrOf result (NodeFault.Memory want) → Stays self.old self.new }
         ensures unmade { OnErr result (content_of self.new ≡ content_of self.old) }
 
@@ -189,30 +166,9 @@ impl<D: Disk> Node<D> {
         ensures fewer { IfOk result (λ more. IsTrue more → starts_left (content_of self.new) < starts_left (content_of self.old)) }
         ensures one_back { OnOk result (comebacks out.new.items ≤ comebacks out.old.items + 1) }
 
-        // At Ok its state is that after the start, and its disks tell it; what goes out is the
-        // start's.
-        ensures told { IsTrue D.tells → (s : Plain) → Tells self.old s → OnOk result (Tells self.new (after_step (started now s) s)) }
-        ensures outputs { IsTrue D.tells → (s : Plain) → Tells self.old s → OnOk result (out.new.items ≡ out.old.items ++ map shown (started now s).outputs) }
-
-        // The calls that it makes: at Ok just those of the change's commit, else a part of them, of
-        // which only the last may have failed.
-        ensures made { IsTrue D.tells → (s : Plain) → Tells self.old s
-            → OnOk result (IsMade (active_of self.old) (fails_of self.old) (history_of self.old) (history_of self.new) (started now s).change) }
-        ensures active { IsTrue D.tells → (s : Plain) → Tells self.old s → OnOk result
-            (active_of self.new ≡ after_kept (started now s).change (active_of self.old)) }
-        ensures broken_off { IsTrue D.tells → (s : Plain) → Tells self.old s
-            → OnErr result (IsBrokenOff (active_of self.old) (history_of self.old) (history_of self.new) (started now s).change) }
-
-        // Which of them fails is the disk's to say, unless it is starved.
-        ensures cut { IsTrue D.tells → (s : Plain) → Tells self.old s → (which : Which) → IsErrOf result (NodeFault.Disk which)
-            → IsTrue (is_starved self.new which) ⊎ (IsBlown (fails_of self.old which) (history_of self.old which)
-            ⊎ IsCutBy (active_of self.old) (fails_of self.old) (history_of self.old) (history_of self.new) (started now s).change s which) }
-        ensures fuse { IsTrue D.tells → (which : Which) (i : ℕ) → fails_of self.new which i ≡ fails_of self.old which i }
-
-        // At each moment, whatever images the disks may leave, they tell the state before the start
-        // or the one after it.
-        ensures any_moment { IsTrue D.tells → (s : Plain) → Tells self.old s
-            → IsOneOrOther (active_of self.old) (history_of self.old) (history_of self.new) (started now s).change s }
+        // At Ok its disks tell the state after the start, and what goes out is the start's; and so
+        // on, as above.
+        ensures carries { (s : Plain) → Tells self.old s → Carries self.old self.new out.old.items out.new.items (started now s) result }
     {
         if self.stopped {
             return Err(NodeFault::Stopped);
@@ -230,7 +186,7 @@ impl<D: Disk> Node<D> {
             }
             Ok(Some(plan)) => match self.carry_out(alloc, plan, out) {
                 Err(fault) => Err(fault),
-                Ok(()) => Ok(true),
+                Ok(_) => Ok(true),
             },
         }
     }

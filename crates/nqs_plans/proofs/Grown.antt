@@ -16,7 +16,7 @@ reads-append n (p ∷ ps) qs =
 
 -- nothing more
 pub more-none : (p : Plan) → with_more p [] ≡ p
-more-none p = (λ j. record { change = p.change; puts = p.puts; outputs = append-nil p.outputs j; reads = append-nil p.reads j })
+more-none p = (λ j. record { change = p.change; puts = p.puts; outputs = append-nil p.outputs j; reads = append-nil p.reads j; halts = p.halts })
 
 -- more, and more behind it
 pub more-both : (p : Plan) (ps qs : List (Pending Extent)) → with_more (with_more p ps) qs ≡ with_more p (ps ++ qs)
@@ -30,7 +30,7 @@ more-both p ps qs =
     append_assoc p.reads (reads_from (length p.outputs) ps) (reads_from (length (p.outputs ++ map output_of ps)) qs)
     ∙ ap (λ n. p.reads ++ (reads_from (length p.outputs) ps ++ reads_from n qs)) count
     ∙ ap (λ l. p.reads ++ l) (sym (reads-append (length p.outputs) ps qs)) in
-    (λ j. record { change = p.change; puts = p.puts; outputs = outputs j; reads = reads j })
+    (λ j. record { change = p.change; puts = p.puts; outputs = outputs j; reads = reads j; halts = p.halts })
 
 -- the plan of a step with more is that of the step, with more
 pub plan-also : (x : Stepped Extent) (ps : List (Pending Extent)) → with_more (plan_of x) ps ≡ plan_of (also x ps)
@@ -38,7 +38,7 @@ plan-also x ps =
     let outputs : map output_of x.outputs ++ map output_of ps ≡ map output_of (x.outputs ++ ps) = sym (map-append output_of x.outputs ps) in
     let reads : reads_from 0 x.outputs ++ reads_from (length (map output_of x.outputs)) ps ≡ reads_from 0 (x.outputs ++ ps) =
     ap (λ n. reads_from 0 x.outputs ++ reads_from n ps) (length-map x.outputs output_of ∙ omega arith) ∙ sym (reads-append 0 x.outputs ps) in
-    (λ j. record { change = (plan_of x).change; puts = (plan_of x).puts; outputs = outputs j; reads = reads j })
+    (λ j. record { change = (plan_of x).change; puts = (plan_of x).puts; outputs = outputs j; reads = reads j; halts = x.halts })
 
 -- what is added for one value after the other
 pub folded-more : {V : Type 0} (g : V → List (Pending Extent)) (p : Plan) (vs : List V) → fold (λ q v. with_more q (g v)) p vs ≡ with_more p (flat_map g vs)

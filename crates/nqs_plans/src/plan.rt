@@ -28,6 +28,7 @@ pub fn quiet(alloc: Global) -> Plan
         puts: Items::new(alloc),
         outputs: Items::new(alloc),
         reads: ListOf::new(alloc),
+        halts: false,
     }
 }
 
@@ -40,6 +41,7 @@ pub fn change_alone(alloc: Global, change: Change) -> Plan
         puts: Items::new(alloc),
         outputs: Items::new(alloc),
         reads: ListOf::new(alloc),
+        halts: false,
     }
 }
 

@@ -5,6 +5,7 @@ use Rattle.nqs_base.specs.Same.{name_eq}
 use Rattle.nqs_state.specs.State.{State}
 use Rattle.nqs_base_tables.specs.Table.{without_first}
 use Rattle.nqs_state.specs.Keys.{is_device}
+pub use Rattle.nqs_index.specs.Seats.{same_name_as}
 use Rattle.nqs_rules.specs.Tests.{passes, is_running, is_device_kind}
 use Rattle.nqs_rules.specs.Causes.{Cause, cause}
 use Rattle.nqs_rules.specs.Find.{has_name, has_queue, find_queue, has_device, find_device}
@@ -16,10 +17,6 @@ use Rattle.nqs_types.specs.declared.queue.DeviceDef.{DeviceDef}
 use Rattle.nqs_types.specs.declared.refusal.Refusal.TheVariants.{NoQueue, NoDevice, DeviceExists, DeviceBusy, WrongKind, IsMember, NotMember, TooMany}
 use Rattle.nqs_types.specs.declared.edit.DevicesEdit.{DevicesEdit}
 use Rattle.nqs_types.specs.declared.edit.DevicesEdit.TheVariants.{CreateDevice, DeleteDevice, EnableDevice, DisableDevice, SetForms, AddDevice, RemoveDevice}
-
--- whether there is a name, and it is this one
-abbrev pub same_name_as : List ℕ → Option (List ℕ) → Bool
-same_name_as name other = passes (name_eq name) other
 
 -- the device has these forms, where forms are asked for
 abbrev pub has_forms : Option (List ℕ) → DeviceDef → Bool

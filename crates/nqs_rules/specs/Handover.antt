@@ -1,5 +1,5 @@
 -- The rules of the handover, one definition a row of the table of steps.
-use Rattle.std.specs.Prelude.{ℕ, ◌+◌, Bool, not, ◌&&◌, ◌||◌, nat_lt, nat_le, min, if◌then◌else◌, List, [], ◌∷◌, ◌++◌, map, filter, flat_map, Option, None, Some}
+use Rattle.std.specs.Prelude.{ℕ, ◌+◌, Bool, false, not, ◌&&◌, ◌||◌, nat_lt, nat_le, min, if◌then◌else◌, List, [], ◌∷◌, ◌++◌, map, filter, flat_map, Option, None, Some}
 use Rattle.std.specs.Prelude.{Result, Ok, Err, slice_get, unwrap_or}
 use Rattle.nqs_state.specs.State.{State}
 use Rattle.nqs_types.specs.declared.ids.Named.{Named}
@@ -235,4 +235,4 @@ silence now wait (k ∷ ks) = Some (HandsSilent (later now wait) (k ∷ ks))
 module _ {E : Type 0} where
   -- silent offers are taken back, the other hands said again, and each promise asked for
   abbrev pub on_tick : ℕ → State E → Stepped E
-  on_tick now s = record { change = silence now s.retry_wait (silent_hands now s); outputs = repeated_hands now s ++ inquiries s }
+  on_tick now s = record { change = silence now s.retry_wait (silent_hands now s); outputs = repeated_hands now s ++ inquiries s; halts = false }

@@ -26,6 +26,7 @@ pub mod Reasons
 pub mod Answers
 pub mod Why
 pub mod Step
+pub mod Shutdowns
 pub mod Measure
 pub mod Starts
 pub mod Journals

@@ -1,13 +1,13 @@
 -- The network table: where each request lies, over the plain states of all hosts at once. No journal, message, hand number or phase is in it.
 use Rattle.std.specs.Prelude.{ℕ, ◌+◌, Bool, if◌then◌else◌, List, [], ◌∷◌, ◌++◌, map, filter, find, slice_get, Option, None, Some}
 use Rattle.nqs_types.specs.Ids.{id_eq}
+use Rattle.nqs_index.specs.Runs.{is_less_id}
 use Rattle.nqs_state.specs.State.{Plain}
 use Rattle.nqs_rules.specs.Tests.{passes}
 use Rattle.nqs_rules.specs.Find.{find_hand, host_at}
 use Rattle.nqs_rules.specs.Fits.{is_committed_hand}
 use Rattle.nqs_rules.specs.InOrder.{are_distinct}
 use Rattle.nqs_rules.specs.Text.{seen_state}
-use Rattle.nqs_rules.specs.World.{is_less_id}
 use Rattle.nqs_types.specs.declared.ids.HostId.{HostId}
 use Rattle.nqs_types.specs.declared.ids.RequestId.{RequestId}
 use Rattle.nqs_types.specs.declared.request.Row.{Row}

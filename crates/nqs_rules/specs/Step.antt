@@ -1,5 +1,5 @@
 -- What a host does at an event.
-use Rattle.std.specs.Prelude.{ℕ, ◌+◌, Bool, not, ◌&&◌, ◌==◌, if◌then◌else◌, List, [], ◌∷◌, ◌++◌, map, filter, Option, None, Some, Result, Ok, Err}
+use Rattle.std.specs.Prelude.{ℕ, ◌+◌, Bool, true, false, not, ◌&&◌, ◌==◌, if◌then◌else◌, List, [], ◌∷◌, ◌++◌, map, filter, Option, None, Some, Result, Ok, Err}
 use Rattle.std.specs.Fmt.{decimal}
 use Rattle.nqs_base.specs.Same.{name_eq}
 use Rattle.nqs_state.specs.State.{State}
@@ -145,11 +145,15 @@ module _ {E : Type 0} where
 
   -- what a host does at a tick
   abbrev pub ticked : ℕ → State E → Stepped E
-  ticked now s = record { change = (on_tick now s).change; outputs = (on_tick now s).outputs ++ due_outputs s }
+  ticked now s = record { change = (on_tick now s).change; outputs = (on_tick now s).outputs ++ due_outputs s; halts = false }
 
   -- a step, and the reply that it is done
   abbrev pub then_reply : Asker → Stepped E → Stepped E
-  then_reply a done = record { change = done.change; outputs = done.outputs ++ reply_to a reply.Done ∷ [] }
+  then_reply a done = record { change = done.change; outputs = done.outputs ++ reply_to a reply.Done ∷ []; halts = done.halts }
+
+  -- a shutdown that its user may give: it is answered, and then the host halts
+  abbrev pub halting : Asker → Stepped E
+  halting a = record { change = None; outputs = reply_to a reply.Done ∷ []; halts = true }
 
   -- a command that its user may give
   abbrev pub on_allowed : ℕ → Asker → List ℕ → Command → State E → Stepped E
@@ -159,7 +163,7 @@ module _ {E : Type 0} where
   on_allowed now a user (command.Delete id forced) s = on_delete a user id forced s
   on_allowed now a user (command.Show code) s = answer_to a (reply.Lines (show_lines code s))
   on_allowed now a user (command.Why id) s = answer_to a (why_reply now id s (meant_row id s))
-  on_allowed now a user command.Shutdown s = answer_to a reply.Done
+  on_allowed now a user command.Shutdown s = halting a
   on_allowed now a user command.Tick s = then_reply a (ticked now s)
   on_allowed now a user (command.UnreadLine fault) s = answer_to a (reply.UnreadLine fault)
   on_allowed now a user (command.UnreadWords fault) s = answer_to a (reply.UnreadWords fault)
@@ -198,7 +202,7 @@ module _ {E : Type 0} where
 
   -- a step, and that word
   abbrev pub then_ack : ℕ → RequestId → ℕ → Stepped E → Stepped E
-  then_ack port id start done = record { change = done.change; outputs = done.outputs ++ acknowledged port id start }
+  then_ack port id start done = record { change = done.change; outputs = done.outputs ++ acknowledged port id start; halts = done.halts }
 
   -- the end of a start that was none
   abbrev pub unlaunched_by : Option (Row E) → RequestId → ℕ → Stepped E

@@ -1,5 +1,5 @@
--- What one step of a host does: at most one change, and what goes out.
-use Rattle.std.specs.Prelude.{ℕ, ◌+◌, List, [], ◌∷◌, ◌++◌, map, Option, None, Some}
+-- What one step of a host does: at most one change, what goes out, and whether the host halts.
+use Rattle.std.specs.Prelude.{ℕ, ◌+◌, Bool, false, List, [], ◌∷◌, ◌++◌, map, Option, None, Some}
 use Rattle.std.specs.Option.{option_map}
 use Rattle.nqs_base.specs.declared.extent.Extent.{Extent}
 use Rattle.nqs_types.specs.declared.ids.HostId.{HostId}
@@ -89,14 +89,16 @@ shown (o, Some bytes) = with_bytes bytes o
 abbrev pub map_pending : {E F : Type 0} → (E → F) → Pending E → Pending F
 map_pending f p = (p.0, option_map f p.1)
 
--- E is what stands for the bytes that the spool keeps; bytes to be stored are the bytes themselves
+-- E is what stands for the bytes that the spool keeps; bytes to be stored are the bytes themselves. A host that halts stops when
+-- all that may start has started.
 pub record Stepped (E : Type 0) : Type 0 where
   pub change : Option (Change (List ℕ))
   pub outputs : List (Pending E)
+  pub halts : Bool
 
 -- a step with what the bytes of its outputs are read of mapped
 abbrev pub map_stepped : {E F : Type 0} → (E → F) → Stepped E → Stepped F
-map_stepped f s = record { change = s.change; outputs = map (map_pending f) s.outputs }
+map_stepped f s = record { change = s.change; outputs = map (map_pending f) s.outputs; halts = s.halts }
 
 -- the plan of a step
 
@@ -123,29 +125,30 @@ reads_from n (p ∷ ps) = read_at n p.1 ++ reads_from (n + 1) ps
 abbrev pub output_of : Pending Extent → Output
 output_of p = p.0
 
--- The change without extents, the bytes to be stored in their order, the outputs, and what is to be read for them.
+-- The change without extents, the bytes to be stored in their order, the outputs, what is to be read for them, and whether the
+-- host halts.
 abbrev pub plan_of : Stepped Extent → Plan
 plan_of s = record {
   change = option_map (map_change (λ _. no_extent)) s.change;
   puts = puts_of s.change;
   outputs = map output_of s.outputs;
-  reads =
-      reads_from 0 s.outputs;
+  reads = reads_from 0 s.outputs;
+  halts = s.halts;
 }
 
 -- small steps
 
 -- nothing happens
 abbrev pub quiet : {E : Type 0} → Stepped E
-quiet = record { change = None; outputs = [] }
+quiet = record { change = None; outputs = []; halts = false }
 
 -- something goes out
 abbrev pub says : {E : Type 0} → List (Pending E) → Stepped E
-says outputs = record { change = None; outputs = outputs }
+says outputs = record { change = None; outputs = outputs; halts = false }
 
 -- a step that makes a change and gives outputs
 abbrev pub makes : {E : Type 0} → Change (List ℕ) → List (Pending E) → Stepped E
-makes change outputs = record { change = Some change; outputs = outputs }
+makes change outputs = record { change = Some change; outputs = outputs; halts = false }
 
 -- a message to a host, as an output
 abbrev pub message : HostId → HostId → Body → Output

@@ -1,13 +1,13 @@
 -- A network of hosts as a pure machine of events. There is no byte of a disk in it: a stop is told by the count of device calls.
 use Rattle.std.specs.Prelude.{ℕ, zero, suc, ◌+◌, ◌-◌, ◌%◌, Bool, true, false, not, ◌&&◌, ◌||◌, ◌==◌, nat_le, nat_lt, max, if◌then◌else◌, List, [], ◌∷◌, ◌++◌}
 use Rattle.std.specs.Prelude.{map}
-use Rattle.std.specs.Prelude.{filter, length, slice_get, Option, None, Some, is_ok}
+use Rattle.std.specs.Prelude.{filter, length, slice_get, Option, None, Some}
 use Rattle.std.specs.List.{filter_map}
+pub use Rattle.nqs_index.specs.Runs.{is_less_id}
 use Rattle.nqs_state.specs.State.{Plain}
 use Rattle.nqs_base_tables.specs.Table.{best_from}
 use Rattle.nqs_rules.specs.Tests.{is_running, same_host}
 use Rattle.nqs_rules.specs.Edits.{change_at}
-use Rattle.nqs_rules.specs.Access.{rank, may_command}
 use Rattle.nqs_rules.specs.Applied.{applied, may_start_again}
 use Rattle.nqs_rules.specs.Format.{formatted}
 use Rattle.nqs_rules.specs.Journals.{active, resting, turned, is_due, torn_root, names_same}
@@ -33,7 +33,6 @@ use Rattle.nqs_types.specs.declared.message.BodyKind.TheVariants as kind
 use Rattle.nqs_types.specs.declared.change.Change.{Change}
 use Rattle.nqs_types.specs.declared.change.Change.TheVariants.{Boot}
 use Rattle.nqs_types.specs.declared.event.Command.{Command}
-use Rattle.nqs_types.specs.declared.event.Command.TheVariants as command
 use Rattle.nqs_types.specs.declared.event.Event.{Event}
 use Rattle.nqs_types.specs.declared.event.Event.TheVariants as event
 use Rattle.nqs_types.specs.declared.event.Output.{Output}
@@ -397,16 +396,6 @@ all_starts h w = starts (left_of (host_of h w)) h w
 
 -- events that a host takes
 
--- whether a command is a shutdown
-abbrev pub is_shutdown : Command → Bool
-is_shutdown command.Shutdown = true
-is_shutdown _ = false
-
--- a shutdown that is answered Done
-abbrev pub shuts_down : Event → Plain → Bool
-shuts_down (event.Ask _ _ _ user c) s = is_shutdown c && is_ok (may_command (rank user s) c)
-shuts_down _ s = false
-
 -- a host stops, if it is up
 abbrev pub halted_host : HostId → Option Host → World → Ran
 halted_host h None w = unseen w
@@ -417,9 +406,9 @@ abbrev pub halts : Bool → HostId → World → Ran
 halts false h w = unseen w
 halts true h w = halted_host h (host_of h w) w
 
--- a host that is up takes an event, starts what may start, and stops if that was a shutdown
+-- a host that is up takes an event, starts what may start, and stops if its step halts
 abbrev pub takes_up : HostId → Host → Event → World → Ran
-takes_up h host e w = then_ran (then_ran (steps h host (ByEvent e) (step e host.state) w) (all_starts h)) (halts (shuts_down e host.state) h)
+takes_up h host e w = then_ran (then_ran (steps h host (ByEvent e) (step e host.state) w) (all_starts h)) (halts (step e host.state).halts h)
 
 -- a host that is up does something; of one that is down it is seen that it is down
 abbrev pub taken_by : Option Host → HostId → (Host → World → Ran) → World → Ran
@@ -431,10 +420,6 @@ abbrev pub takes : HostId → Event → World → Ran
 takes h e w = taken_by (host_of h w) h (λ host. takes_up h host e) w
 
 -- the least running request of a host, by the host of its submission and then by its number
-
--- the order of requests: by host, then by number
-abbrev pub is_less_id : RequestId → RequestId → Bool
-is_less_id a b = nat_lt a.host.0 b.host.0 || (a.host.0 == b.host.0 && nat_lt a.seq b.seq)
 
 -- whether a request runs
 abbrev pub runs_now : Row Bytes → Bool

@@ -1,13 +1,14 @@
 //! Laws of changes and steps: a host that keeps extents of its spool does what one that keeps the
 //! bytes themselves does.
 ghost use Rattle.std.specs.Prelude.{◌≡◌, ℕ, List, map, Some};
-ghost use Rattle.nqs_state.specs.State.{State};
+ghost use Rattle.nqs_state.specs.State.{State, Plain};
 ghost use Rattle.nqs_base.specs.declared.extent.Extent.{Extent};
 ghost use Rattle.nqs_types.specs.declared.change.Change.{Change};
 ghost use Rattle.nqs_types.specs.declared.event.Event.{Event};
 ghost use Rattle.nqs_rules.specs.Applied.{applied};
 ghost use Rattle.nqs_rules.specs.Filled.{filled};
 ghost use Rattle.nqs_rules.specs.Fits.{fits};
+ghost use Rattle.nqs_rules.specs.Shutdowns.{shuts_down};
 ghost use Rattle.nqs_rules.specs.Plain.{map_state};
 ghost use Rattle.nqs_rules.specs.Step.{step};
 ghost use Rattle.nqs_rules.specs.Stepped.{Stepped, plan_of, map_change, map_stepped, no_extent, stored_parts};
@@ -27,6 +28,11 @@ pub fn fits_looks_at_no_bytes()
 /// A step hands stored bytes on, and does nothing else by them.
 pub fn step_looks_at_no_bytes()
     ensures { (f : Extent → List ℕ) (e : Event) (s : State Extent) → step e (map_state f s) ≡ map_stepped f (step e s) }
+{}
+
+/// A step halts its host exactly where it is a shutdown that its user may give.
+pub fn only_granted_shutdowns_halt()
+    ensures { (e : Event) (s : Plain) → (step e s).halts ≡ shuts_down e s }
 {}
 
 /// Whatever extents are put into a planned change: with the bytes that the plan has for it, or with

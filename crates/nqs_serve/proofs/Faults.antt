@@ -1,17 +1,11 @@
 -- Faults of one call in a longer one.
-use Rattle.std.proofs.Common.{◌≡◌, ℕ, ◌≤◌, Ok, Err, IsErrOf, OnOk, IfOk, MatchResult, ap, arith}
+use Rattle.std.proofs.Common.{◌≡◌, Ok, Err, IsErrOf, OnOk, IfOk, MatchResult, ap}
 use Rattle.std.specs.declared.result.Result.{Result}
-use Rattle.nqs_outside.specs.Causes.{Rose}
+pub use Rattle.nqs_outside.proofs.Roses.{rose_since as rose_behind}
 
 -- the same error, of another answer
 pub same_error : {T U E : Type 0} (d e : E) → IsErrOf {T = T} (Err d) e → IsErrOf {T = U} (Err d) e
 same_error d e is = let same : d ≡ e = cc in ap Err same
-
-pub rose_behind : (a b c : ℕ) → a ≤ b → Rose b c → Rose a c
-rose_behind a b c le rose = omega (arith, le, rose)
-
-pub rose_before : (a b c : ℕ) → Rose a b → b ≤ c → Rose a c
-rose_before a b c rose le = omega (arith, rose, le)
 
 -- what follows from what an Ok says
 pub on_ok : {T E P Q : Type 0} (r : Result T E) → (P → Q) → OnOk r P → OnOk r Q

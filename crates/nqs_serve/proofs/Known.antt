@@ -12,7 +12,7 @@ use Rattle.nqs_node.specs.Nodes.{content_of, bytes_of}
 use Rattle.nqs_store.specs.Sound.{IsSoundHost}
 use Rattle.nqs_rules.proofs.StartIs.{IsSteady}
 use Rattle.nqs_serve.specs.Nodes.{Knows, IsAt}
-use Rattle.nqs_serve.proofs.Starting.{steady_plain}
+use Rattle.nqs_rules.proofs.StartFits.{steady_plain}
 
 module _ {D : Type 0} {g : disk.Ghosts D} where
   pub steady_known : (node : Node D g) (s : Plain) → Knows node s → IsSoundHost (content_of node) → IsSteady s

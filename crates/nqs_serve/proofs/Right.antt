@@ -3,11 +3,11 @@ use Rattle.std.proofs.Common.{◌≡◌, ℕ, ◌+◌, Bool, true, false, ◌&&�
 use Rattle.std.proofs.Common.{Result, Ok, Err, true≢false, refl, sym, subst, ◌∙◌, arith, if◌then◌else◌}
 use Rattle.std.proofs.lemmas.Bool.{and_parts, and_from, lt-ltb, eqb-true}
 use Rattle.std.proofs.lemmas.List.Folds.{list_all-append}
-use Rattle.std.specs.List.{list_any, list_all, flat_map}
+use Rattle.std.specs.List.{list_any, list_all}
 use Rattle.std.specs.Option.{IfSome}
 use Rattle.nqs_state.specs.State.{Plain}
 use Rattle.nqs_state.specs.Keys.{is_row, is_stage, is_file}
-use Rattle.nqs_base_tables.specs.Table.{best_from, better, without_first}
+use Rattle.nqs_base_tables.specs.Table.{best_from, without_first}
 use Rattle.nqs_types.specs.declared.ids.HostId.{HostId}
 use Rattle.nqs_types.specs.declared.ids.RequestId.{RequestId}
 use Rattle.nqs_types.specs.declared.ids.Dest.{Dest}
@@ -60,7 +60,7 @@ use Rattle.nqs_rules.proofs.RowsOrder.{hand_is}
 use Rattle.nqs_rules.proofs.StateFacts.{sites_are}
 use Rattle.nqs_rules.proofs.Sublists.{part_all, without_part}
 use Rattle.nqs_laws.proofs.RowTests.{PlainRow}
-use Rattle.nqs_laws.proofs.Sent.{all-true, Begins, Launches, Prints, Holds, Moves, Opens, begins}
+use Rattle.nqs_laws.proofs.Sent.{all-flat, all-true, best_passes, Begins, Launches, Prints, Holds, Moves, Opens, begins}
 use Rattle.nqs_serve.specs.Sends.{has_number, is_right_id, is_right_event}
 
 -- what is sent goes to a host of the site under a number, and what is acknowledged is a request of the site
@@ -68,28 +68,6 @@ abbrev pub is_told : ℕ → Output → Bool
 is_told hosts (out.Send m) = is_of_site hosts m.to && has_number m.body
 is_told hosts (out.Ack port id start) = is_right_id hosts id
 is_told hosts o = true
-
-all-flat : {V W : Type 0} (p : V → Bool) (q : W → Bool) (g : V → List W) → ((v : V) → p v ≡ true → list_all q (g v) ≡ true) → (vs : List V)
-    → list_all p vs ≡ true → list_all q (flat_map g vs) ≡ true
-all-flat p q g f [] h = refl
-all-flat p q g f (v ∷ vs) h = let k = and_parts (p v) (list_all p vs) h in
-    list_all-append q (g v) (flat_map g vs) ∙ and_from (list_all q (g v)) (list_all q (flat_map g vs)) (f v k.0) (all-flat p q g f vs k.1)
-
--- the best of a list passes what all pass
-best_passes : {V : Type 0} (p test : V → Bool) (beats : V → V → Bool) (n : ℕ) (vs : List V) → list_all p vs ≡ true
-    → IfSome (best_from test beats n vs) (λ q. p q.1 ≡ true)
-best_passes p test beats n [] h = tt
-best_passes {V} p test beats n (v ∷ vs) h = let k = and_parts (p v) (list_all p vs) h in
-    by (test v) k.0 (best_from test beats (n + 1) vs) (best_passes p test beats (n + 1) vs k.1)
-  where
-    of : (b : Bool) (y : ℕ × V) → p v ≡ true → p y.1 ≡ true → IfSome (if b then Some y else Some (n, v)) (λ q. p q.1 ≡ true)
-    of true y a c = c
-    of false y a c = a
-
-    by : (b : Bool) → p v ≡ true → (o : Option (ℕ × V)) → IfSome o (λ q. p q.1 ≡ true) → IfSome (if b then better beats (n, v) o else o) (λ q. p q.1 ≡ true)
-    by true a None c = a
-    by true a (Some y) c = of (beats y.1 v) y a c
-    by false a o c = c
 
 module _ (s : Plain) (h : IsInOrder s) where
   abbrev hosts : ℕ

@@ -9,6 +9,8 @@ use Rattle.nqs_types.specs.declared.message.Body.{Body}
 use Rattle.nqs_types.specs.declared.message.Body.TheVariants.{Offer, Ready, Refused, Commit, Done, Inquire, Abort, Stage, Staged, Ask, Answer, Ended, EndedAck}
 use Rattle.nqs_types.specs.declared.event.Event.{Event}
 use Rattle.nqs_types.specs.declared.event.Event.TheVariants as event
+use Rattle.nqs_state.specs.State.{Plain}
+use Rattle.nqs_rules.specs.Shutdowns.{shuts_down}
 use Rattle.nqs_rules.specs.Tests.{same_host}
 use Rattle.nqs_rules.specs.Sane.{is_of_site, is_sane_body, is_sane_message, is_sane_command, is_sane_event}
 use Rattle.nqs_records.proofs.SaneLaws.{path_sane, carried_sane}
@@ -39,6 +41,15 @@ comes_at m (event.Unlaunched now id start) = refl
 comes_at m (event.Written now file) = refl
 comes_at m (event.Unwritten now file) = refl
 comes_at m (event.Tick now) = refl
+
+pub shuts_at : (m : ℕ) (e : Event) (s : Plain) → shuts_down (at_moment m e) s ≡ shuts_down e s
+shuts_at m (event.Ask now port token user c) s = refl
+shuts_at m (event.Arrived now message) s = refl
+shuts_at m (event.Ended now port id start status output error) s = refl
+shuts_at m (event.Unlaunched now id start) s = refl
+shuts_at m (event.Written now file) s = refl
+shuts_at m (event.Unwritten now file) s = refl
+shuts_at m (event.Tick now) s = refl
 
 pub sane_back : (hosts : ℕ) (x : Comeback) → is_sane_event hosts (event_back x) ≡ true
 sane_back hosts (comeback.Unlaunched id start) = refl

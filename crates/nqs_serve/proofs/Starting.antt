@@ -1,39 +1,19 @@
 -- Starts go on until there is none, whatever bytes are put for scripts.
-use Rattle.std.proofs.Common.{◌≡◌, ℕ, ◌<◌, ◌≤◌, true, nat_le, List, [], ◌∷◌, ◌++◌, length, Option, None, Some, is_some, zero, suc, refl, sym, ap, subst, ◌∙◌}
-use Rattle.std.proofs.Common.{arith, Bool, false, append_assoc}
-use Rattle.std.proofs.lemmas.Simd.{map-map}
+use Rattle.std.proofs.Common.{◌≡◌, ℕ, true, List, [], ◌∷◌, ◌++◌, Option, None, Some, is_some, refl, sym, ap, ◌∙◌}
+use Rattle.std.proofs.Common.{Bool, false, append_assoc}
 use Rattle.std.proofs.lemmas.List.{append-nil}
 use Rattle.std.proofs.lemmas.Grind.{flat_map-append}
 use Rattle.std.specs.List.{flat_map}
-use Rattle.nqs_state.specs.State.{State, Plain}
-use Rattle.nqs_types.specs.Ids.{id_eq}
+use Rattle.nqs_state.specs.State.{Plain}
 use Rattle.nqs_types.specs.declared.event.Output.{Output}
-use Rattle.nqs_rules.specs.Plain.{map_row, map_state}
 use Rattle.nqs_rules.specs.Start.{start}
 use Rattle.nqs_rules.specs.Stepped.{Stepped, quiet}
 use Rattle.nqs_rules.specs.Measure.{starts_left}
-use Rattle.nqs_rules.specs.InOrder.{IsInOrder, are_distinct, is_row_right, is_queue_right}
-use Rattle.nqs_rules.specs.Starts.{after_change, after_step, starts_at_most, starts, after_starts}
-use Rattle.nqs_rules.proofs.ListFacts.{list_all-weaker}
-use Rattle.nqs_rules.proofs.FindKept.{all-mapped}
-use Rattle.nqs_rules.proofs.StateFacts.{keys_are}
-use Rattle.nqs_rules.proofs.RowFacts.{row_is}
-use Rattle.nqs_rules.proofs.RowChanges.{at_most_32}
-use Rattle.nqs_rules.proofs.QueuesOrder.{queue_is}
+use Rattle.nqs_rules.specs.Starts.{after_step, starts, after_starts}
 use Rattle.nqs_rules.proofs.StartIs.{IsSteady}
 use Rattle.nqs_rules.proofs.Until.{none_starts, starts-steady}
 use Rattle.nqs_node.specs.Carried.{started}
 use Rattle.nqs_serve.specs.Steps.{said, after_next}
-
-module _ {E : Type 0} where
-  -- a state in order is steady, whatever bytes are put for its scripts
-  pub steady_plain : (f : E → List ℕ) (s : State E) → IsInOrder s → IsSteady (map_state f s)
-  steady_plain f s h = record {
-    ids = ap (are_distinct id_eq) (map-map (λ r. r.id) (map_row f) s.rows) ∙ (keys_are s h.keys).rows;
-    names = (keys_are s h.keys).queues;
-    hops = all-mapped (is_row_right s) (λ r. nat_le r.hops 32) (map_row f) (λ r k. at_most_32 r (row_is s r k).hop) s.rows h.rows;
-    dests = list_all-weaker (is_queue_right s) (λ q. nat_le (length q.dests) 16) (λ q k. (queue_is s q k).few_dests) s.queues h.queues;
-  }
 
 module _ (now : ℕ) where
   -- where none starts, there are no starts

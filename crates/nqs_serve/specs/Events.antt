@@ -16,7 +16,7 @@ use Rattle.nqs_types.specs.declared.event.Event.{Event}
 use Rattle.nqs_types.specs.declared.event.Event.TheVariants as event
 use Rattle.nqs_rules.specs.Tests.{same_host}
 use Rattle.nqs_rules.specs.Sane.{is_of_site}
-use Rattle.nqs_rules.specs.World.{shuts_down}
+use Rattle.nqs_rules.specs.Shutdowns.{shuts_down}
 use Rattle.nqs_outside.specs.Asked.{Arrival, came, quiet}
 use Rattle.nqs_qmgr.specs.Lines.{qmgr_line}
 use Rattle.nqs_query.specs.Words.{stat_of, delete_of}
@@ -89,7 +89,7 @@ at_moment m (event.Written now file) = event.Written m file
 at_moment m (event.Unwritten now file) = event.Unwritten m file
 at_moment m (event.Tick now) = event.Tick m
 
--- it is a shutdown that is answered Done
+-- it is a shutdown that its user may give
 abbrev pub stops_by : Option Event → Plain → Bool
 stops_by None s = false
 stops_by (Some e) s = shuts_down e s

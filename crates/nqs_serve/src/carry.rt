@@ -1,6 +1,7 @@
 //! What goes out is carried out, in order.
 
-ghost use Rattle.std.specs.Prelude.{◌≡◌, ◌≤◌, ◌+◌, ◌∷◌, ◌++◌, [], List, map, length, vec_capacity};
+ghost use Rattle.std.specs.Prelude.{◌≡◌, ◌≤◌, ◌+◌, ◌∷◌, ◌++◌, [], List, map, length};
+ghost use Rattle.std.specs.VecDeque.{deque_capacity};
 ghost use Rattle.std.specs.Option.{option_to_list};
 ghost use Rattle.nqs_outside.specs.Told.{Extends};
 ghost use Rattle.nqs_back.specs.Back.{comebacks};
@@ -12,6 +13,7 @@ use crate::comeback::{Comeback, comeback_of};
 use crate::letter::Letter;
 use nqs_outside::{Launcher, Outlet, Printer, Wire};
 use nqs_types::Output;
+use std::collections::VecDeque;
 
 // Sends a datagram, if there is one. A failed send is a loss.
 fn send<W: Wire>(wire: &mut W, letter: &Option<Letter>)
@@ -58,13 +60,13 @@ fn ask<L: Launcher, P: Printer, O: Outlet>(
 }
 
 // Notes what comes back.
-fn note(output: &Output, ok: bool, back: &mut Vec<Comeback>)
-    requires { length back.old.items + 1 ≤ vec_capacity back.old }
+fn note(output: &Output, ok: bool, back: &mut VecDeque<Comeback>)
+    requires { length back.old.items + 1 ≤ deque_capacity back.old }
     ensures noted { back.new.items ≡ back.old.items ++ option_to_list (comeback_of output.now ok) }
-    ensures room { vec_capacity back.old ≤ vec_capacity back.new }
+    ensures room { deque_capacity back.old ≤ deque_capacity back.new }
 {
     if let Some(comeback) = comeback_of(output, ok) {
-        back.push(comeback).unwrap();
+        back.push_back(comeback).unwrap();
     }
 }
 
@@ -76,9 +78,9 @@ fn carry_one<W: Wire, L: Launcher, P: Printer, O: Outlet>(
     outlet: &mut O,
     output: &Output,
     letter: &Option<Letter>,
-    back: &mut Vec<Comeback>,
+    back: &mut VecDeque<Comeback>,
 ) -> bool
-    requires { length back.old.items + 1 ≤ vec_capacity back.old }
+    requires { length back.old.items + 1 ≤ deque_capacity back.old }
     ensures sent { Extends (W.sent wire.old) (W.sent wire.new) (packets_in letter.now) }
     ensures received { Extends (W.received wire.old) (W.received wire.new) [] }
     ensures later { W.receive_faults wire.old ≤ W.receive_faults wire.new }
@@ -87,7 +89,7 @@ fn carry_one<W: Wire, L: Launcher, P: Printer, O: Outlet>(
     ensures filings { Extends (O.filings outlet.old) (O.filings outlet.new) (filings_by output.now result) }
     ensures noted { back.new.items ≡ back.old.items ++ option_to_list (comeback_of output.now result) }
     ensures few { length back.new.items ≤ length back.old.items + comebacks (output.now ∷ []) }
-    ensures room { vec_capacity back.old ≤ vec_capacity back.new }
+    ensures room { deque_capacity back.old ≤ deque_capacity back.new }
 {
     send(wire, letter);
     let ok = ask(launcher, printer, outlet, output);
@@ -104,9 +106,9 @@ pub(crate) fn carry<W: Wire, L: Launcher, P: Printer, O: Outlet>(
     outlet: &mut O,
     outputs: &[Output],
     letters: &[Option<Letter>],
-    back: &mut Vec<Comeback>,
+    back: &mut VecDeque<Comeback>,
 )
-    requires room { length back.old.items + length outputs.now ≤ vec_capacity back.old }
+    requires room { length back.old.items + length outputs.now ≤ deque_capacity back.old }
     requires many { length letters.now ≡ length outputs.now }
     ensures carried { (here : Here) → letters.now ≡ map (letter_of here) outputs.now → (outcomes : List Outcome) × (outputs_in outcomes ≡ outputs.now)
         × (back.new.items ≡ back.old.items ++ brought_back outcomes)

@@ -15,7 +15,6 @@ ghost use Rattle.nqs_serve.specs.Moments.{TellsTo, TellsThroughout, IsPassed};
 
 use crate::comeback::Comeback;
 use crate::cut::Cut;
-use crate::event::shuts_down;
 use crate::receive::{Missed, receive};
 use crate::take::{take_back, take_event};
 use nqs_base::Memory;
@@ -23,6 +22,7 @@ use nqs_node::Node;
 use nqs_outside::{Clock, Disk, Launcher, Outlet, Printer, Wire};
 use nqs_types::{HostId, Output};
 use std::alloc::Global;
+use std::collections::VecDeque;
 
 /// Why the daemon ended.
 #[derive(Debug, PartialEq, Eq, Drop)]
@@ -73,11 +73,11 @@ fn end_of(fault: Fault) -> ServeEnd
 struct Room {
     buf: Vec<u8>,
     out: Vec<Output>,
-    back: Vec<Comeback>,
+    back: VecDeque<Comeback>,
 }
 
-// One turn: a receive, the event that it brought, and those that come back of it. True: a shutdown
-// was answered Done.
+// One turn: a receive, the event that it brought, and those that come back of it. True: the host is
+// to stop now.
 fn turn<D: Disk, W: Wire, L: Launcher, P: Printer, O: Outlet, C: Clock>(
     alloc: Global,
     me: HostId,
@@ -121,7 +121,6 @@ fn turn<D: Disk, W: Wire, L: Launcher, P: Printer, O: Outlet, C: Clock>(
         Err(Missed::Wire) => return Err(Fault::Wire),
         Err(Missed::Memory(memory)) => return Err(Fault::Memory(memory)),
     };
-    let stop = shuts_down(&event, node.state());
     room.back.clear();
     let out = &mut room.out;
     let back = &mut room.back;
@@ -129,15 +128,16 @@ fn turn<D: Disk, W: Wire, L: Launcher, P: Printer, O: Outlet, C: Clock>(
         alloc, me, node, wire, launcher, printer, outlet, clock, &mut event, out, back,
     );
     drop(event);
-    if let Err(cut) = taken {
-        return Err(fault_of(cut));
-    }
+    let halts = match taken {
+        Err(cut) => return Err(fault_of(cut)),
+        Ok(halts) => halts,
+    };
     if let Err(cut) = take_back(
         alloc, me, node, wire, launcher, printer, outlet, clock, out, back,
     ) {
         return Err(fault_of(cut));
     }
-    Ok(stop)
+    Ok(halts)
 }
 
 // Turns until one stops, or there is none left.
@@ -225,7 +225,7 @@ pub fn serve<D: Disk, W: Wire, L: Launcher, P: Printer, O: Outlet, C: Clock>(
     let mut room = Room {
         buf,
         out: Vec::new(alloc),
-        back: Vec::new(alloc),
+        back: VecDeque::new(alloc),
     };
     let me = node.state().me;
     turns_in(

@@ -1,20 +1,14 @@
 //! The event that a datagram is.
 
-ghost use Rattle.std.specs.Prelude.{◌≡◌, ℕ, List, IfOk, IfSome, IsTrue, length};
-ghost use Rattle.nqs_state.specs.State.{content};
-ghost use Rattle.nqs_base.specs.declared.extent.Extent.{Extent};
-ghost use Rattle.nqs_rules.specs.Plain.{map_state};
+ghost use Rattle.std.specs.Prelude.{◌≡◌, IfOk, IfSome, IsTrue, length};
 ghost use Rattle.nqs_rules.specs.Sane.{is_sane_event};
-ghost use Rattle.nqs_rules.specs.World.{is_shutdown, shuts_down};
 ghost use Rattle.nqs_outside.specs.Asked.{came};
 ghost use Rattle.nqs_serve.specs.Events.{Here, line_in, command_of, are_of_site, event_by, event_of, event_in, at_moment};
 ghost use Rattle.nqs_serve.specs.Sends.{is_right_event};
 
 use crate::sort::{Sorted, sort_datagram};
-use nqs_access::{may_command, rank};
 use nqs_base::{Bytes, Memory, Name};
 use nqs_language_acts::{qdel_command, qmgr_command, qstat_command, qsub_command};
-use nqs_state::HostState;
 use nqs_types::{Body, Command, Event, HostId, Message, RequestId, Tool};
 use std::alloc::Global;
 
@@ -152,32 +146,5 @@ pub(crate) fn set_moment(event: &mut Event, moment: u64)
         Event::Written { now, .. } => *now = moment,
         Event::Unwritten { now, .. } => *now = moment,
         Event::Tick { now } => *now = moment,
-    }
-}
-
-fn is_shutdown(command: &Command) -> bool
-    ensures { result ≡ is_shutdown command.now }
-{
-    match command {
-        Command::Shutdown => true,
-        _ => false,
-    }
-}
-
-/// Whether an event is a shutdown that is answered Done.
-#[tactic(none)]
-pub(crate) fn shuts_down(event: &Event, state: &HostState) -> bool
-    ensures { (bytes : Extent → List ℕ) → result ≡ shuts_down event.now (map_state bytes (content state.now)) }
-{
-    match event {
-        Event::Ask { user, command, .. } => {
-            is_shutdown(command) && may_command(rank(state, user), command).is_ok()
-        }
-        Event::Arrived { .. } => false,
-        Event::Ended { .. } => false,
-        Event::Unlaunched { .. } => false,
-        Event::Written { .. } => false,
-        Event::Unwritten { .. } => false,
-        Event::Tick { .. } => false,
     }
 }

@@ -2,7 +2,7 @@
 
 ghost use Rattle.std.specs.Prelude.{◌≡◌, ◌≤◌, ◌<◌, ◌+◌, ◌∷◌, ◌++◌, [], false, ℕ, List, IsTrue, OnOk, OnErr, IfOk, IsErrOf, MatchResult, take, length, map};
 ghost use Rattle.std.specs.Prelude.{is_some};
-ghost use Rattle.std.specs.Prelude.{vec_capacity};
+ghost use Rattle.std.specs.VecDeque.{deque_capacity};
 ghost use Rattle.std.specs.List.{flat_map};
 ghost use Rattle.nqs_base.specs.Want.{want};
 ghost use Rattle.nqs_state.specs.State.{Plain};
@@ -11,6 +11,7 @@ ghost use Rattle.nqs_types.specs.declared.event.Output.{Output as Out};
 ghost use Rattle.nqs_types.specs.declared.world.Which.{Which};
 ghost use Rattle.nqs_rules.specs.Measure.{starts_left};
 ghost use Rattle.nqs_rules.specs.Sane.{is_sane_event};
+ghost use Rattle.nqs_rules.specs.Shutdowns.{shuts_down};
 ghost use Rattle.nqs_rules.specs.Start.{start};
 ghost use Rattle.nqs_rules.specs.Starts.{starts, after_starts, after_step};
 ghost use Rattle.nqs_rules.specs.Step.{step};
@@ -42,18 +43,19 @@ use nqs_node::{Node, NodeFault};
 use nqs_outside::{Clock, Disk, Launcher, Outlet, Printer, Wire};
 use nqs_types::{Event, HostId, Output};
 use std::alloc::Global;
+use std::collections::VecDeque;
 
-// Takes an event.
+// Takes an event. Answers whether the host is to stop after it.
 fn take<D: Disk>(
     alloc: Global,
     node: &mut Node<D>,
-    event: &Event,
+    event: &mut Event,
     out: &mut Vec<Output>,
-) -> Result<(), Cut>
+) -> Result<bool, Cut>
     requires sound { IsSoundHost (content_of node.old) }
     requires running { is_stopped node.old ≡ false }
-    requires sane { IsTrue (is_sane_event (length (content_of node.old).site) event.now) }
-    requires right { IsTrue (is_right_event (length (content_of node.old).site) event.now) }
+    requires sane { IsTrue (is_sane_event (length (content_of node.old).site) event.old) }
+    requires right { IsTrue (is_right_event (length (content_of node.old).site) event.old) }
     requires said { AreRight 16 out.old.items }
     requires short { AreShort out.old.items }
     ensures sound { IsSoundHost (content_of node.new) }
@@ -62,22 +64,23 @@ fn take<D: Disk>(
     ensures right { OnOk result (AreRight 16 out.new.items) }
     ensures short { OnOk result (AreShort out.new.items) }
     ensures told { (s : Plain) → Knows node.old s
-        → OnOk result (Knows node.new (after_step (step event.now s) s) × (out.new.items ≡ out.old.items ++ said (step event.now s))) }
+        → OnOk result (Knows node.new (after_step (step event.old s) s) × (out.new.items ≡ out.old.items ++ said (step event.old s))) }
+    ensures halts { (s : Plain) → Knows node.old s → IfOk result (λ halts. halts ≡ shuts_down event.old s) }
     ensures memory { (s : Plain) → Knows node.old s → IsErrOf result (Cut.Memory want) → Knows node.new s }
     ensures longer { length out.old.items ≤ length out.new.items }
     ensures unsaid { OnErr result (out.new.items ≡ out.old.items) }
     ensures unmade { OnErr result (content_of node.new ≡ content_of node.old) }
-    ensures active { (s : Plain) → Knows node.old s → OnOk result (active_of node.new ≡ after_kept (step event.now s).change (active_of node.old)) }
+    ensures active { (s : Plain) → Knows node.old s → OnOk result (active_of node.new ≡ after_kept (step event.old s).change (active_of node.old)) }
     ensures moments { (s : Plain) → Knows node.old s → IsOneOrOther (active_of node.old) (history_of node.old) (history_of node.new)
-        (step event.now s).change s }
-    ensures no_more { IsTrue (comes_back event.now) → OnOk result (starts_left (content_of node.new) ≤ starts_left (content_of node.old)) }
-    ensures none_back { IsTrue (comes_back event.now) → OnOk result (comebacks out.new.items ≡ comebacks out.old.items) }
+        (step event.old s).change s }
+    ensures no_more { IsTrue (comes_back event.old) → OnOk result (starts_left (content_of node.new) ≤ starts_left (content_of node.old)) }
+    ensures none_back { IsTrue (comes_back event.old) → OnOk result (comebacks out.new.items ≡ comebacks out.old.items) }
     ensures later { (which : Which) → D.faults (disk_of which node.old) ≤ D.faults (disk_of which node.new) }
     ensures broken { IsErrOf result Cut.Disk → IsTrue (is_stopped node.new)
         × ((which : Which) × Rose (D.faults (disk_of which node.old)) (D.faults (disk_of which node.new))) }
 {
     match node.take(alloc, event, out) {
-        Ok(()) => Ok(()),
+        Ok(halts) => Ok(halts),
         Err(NodeFault::Memory(memory)) => Err(Cut::Memory(memory)),
         Err(NodeFault::Disk(_)) => Err(Cut::Disk),
         Err(NodeFault::Stopped) => unreachable!(),
@@ -131,7 +134,7 @@ fn spell(
     site: &[Name],
     out: &[Output],
     letters: &mut Vec<Option<Letter>>,
-    back: &mut Vec<Comeback>,
+    back: &mut VecDeque<Comeback>,
 ) -> Result<(), Memory>
     requires host { IsHost me }
     requires right { AreRight 16 out.now }
@@ -140,7 +143,7 @@ fn spell(
     ensures many { OnOk result (length letters.new.items ≡ length out.now) }
     ensures spelled { AreReady (record { me = me; site = site.now }) (take (length letters.old.items) out.now) letters.old.items
         → OnOk result (AreReady (record { me = me; site = site.now }) out.now letters.new.items) }
-    ensures room { OnOk result (length back.new.items + length out.now ≤ vec_capacity back.new) }
+    ensures room { OnOk result (length back.new.items + length out.now ≤ deque_capacity back.new) }
     ensures behind { back.new.items ≡ back.old.items }
 {
     match back.reserve(out.len()) {
@@ -157,7 +160,7 @@ fn settle<D: Disk>(
     now: u64,
     out: &mut Vec<Output>,
     letters: &mut Vec<Option<Letter>>,
-    back: &mut Vec<Comeback>,
+    back: &mut VecDeque<Comeback>,
 ) -> Result<(), Cut>
     requires sound { IsSoundHost (content_of node.old) }
     requires running { is_stopped node.old ≡ false }
@@ -165,14 +168,14 @@ fn settle<D: Disk>(
     requires said { AreRight 16 out.old.items }
     requires short { AreShort out.old.items }
     requires many { length letters.old.items ≡ length out.old.items }
-    requires room { length back.old.items + length out.old.items ≤ vec_capacity back.old }
+    requires room { length back.old.items + length out.old.items ≤ deque_capacity back.old }
     ensures sound { IsSoundHost (content_of node.new) }
     ensures site { (content_of node.new).site ≡ (content_of node.old).site }
     ensures running { OnOk result (is_stopped node.new ≡ false) }
     ensures many { UnlessMemory result (length letters.new.items ≡ length out.new.items) }
     ensures ready { (s : Plain) (here : Here) → Knows node.old s → here ≡ record { me = me; site = (content_of node.old).site }
         → AreReady here out.old.items letters.old.items → UnlessMemory result (AreReady here out.new.items letters.new.items) }
-    ensures room { UnlessMemory result (length back.new.items + length out.new.items ≤ vec_capacity back.new) }
+    ensures room { UnlessMemory result (length back.new.items + length out.new.items ≤ deque_capacity back.new) }
     ensures behind { back.new.items ≡ back.old.items }
     ensures told { (s : Plain) → Knows node.old s
         → OnOk result (Knows node.new (after_starts (starts now s) s) × (out.new.items ≡ out.old.items ++ flat_map said (starts now s))) }
@@ -202,22 +205,22 @@ fn settle<D: Disk>(
 }
 
 // Takes an event and starts what may start after it. Nothing goes out yet, but what each call says
-// is spelled before the next one is made.
+// is spelled before the next one is made. Answers whether the host is to stop now.
 fn take_whole<D: Disk>(
     alloc: Global,
     me: HostId,
     node: &mut Node<D>,
-    event: &Event,
+    event: &mut Event,
     now: u64,
     out: &mut Vec<Output>,
     letters: &mut Vec<Option<Letter>>,
-    back: &mut Vec<Comeback>,
-) -> Result<(), Cut>
+    back: &mut VecDeque<Comeback>,
+) -> Result<bool, Cut>
     requires sound { IsSoundHost (content_of node.old) }
     requires running { is_stopped node.old ≡ false }
     requires host { IsHost me }
-    requires sane { IsTrue (is_sane_event (length (content_of node.old).site) event.now) }
-    requires right { IsTrue (is_right_event (length (content_of node.old).site) event.now) }
+    requires sane { IsTrue (is_sane_event (length (content_of node.old).site) event.old) }
+    requires right { IsTrue (is_right_event (length (content_of node.old).site) event.old) }
     requires silent { out.old.items ≡ [] }
     requires blank { letters.old.items ≡ [] }
     ensures sound { IsSoundHost (content_of node.new) }
@@ -226,36 +229,42 @@ fn take_whole<D: Disk>(
     ensures many { UnlessMemory result (length letters.new.items ≡ length out.new.items) }
     ensures ready { (s : Plain) (here : Here) → Knows node.old s → here ≡ record { me = me; site = (content_of node.old).site }
         → UnlessMemory result (AreReady here out.new.items letters.new.items) }
-    ensures room { UnlessMemory result (length back.new.items + length out.new.items ≤ vec_capacity back.new) }
+    ensures room { UnlessMemory result (length back.new.items + length out.new.items ≤ deque_capacity back.new) }
     ensures behind { back.new.items ≡ back.old.items }
-    ensures told { (s : Plain) (e : Happening) → Knows node.old s → event.now ≡ at_moment now e
+    ensures told { (s : Plain) (e : Happening) → Knows node.old s → event.old ≡ at_moment now e
         → OnOk result (Knows node.new (after_event now e s) × (out.new.items ≡ outputs now e s)) }
-    ensures memory { (s : Plain) (e : Happening) → Knows node.old s → event.now ≡ at_moment now e → IsErrOf result (Cut.Memory want)
+    ensures halts { (s : Plain) → Knows node.old s → IfOk result (λ halts. halts ≡ shuts_down event.old s) }
+    ensures memory { (s : Plain) (e : Happening) → Knows node.old s → event.old ≡ at_moment now e → IsErrOf result (Cut.Memory want)
         → (u : Plain) × Knows node.new u × IsWithin now e s u }
-    ensures broke { (s : Plain) (e : Happening) → Knows node.old s → event.now ≡ at_moment now e → IsErrOf result Cut.Disk
+    ensures broke { (s : Plain) (e : Happening) → Knows node.old s → event.old ≡ at_moment now e → IsErrOf result Cut.Disk
         → Broke (IsAt node.new) (calls now e s) s out.new.items (history_of node.new) }
-    ensures moments { (s : Plain) (e : Happening) → Knows node.old s → event.now ≡ at_moment now e → MatchResult result
+    ensures moments { (s : Plain) (e : Happening) → Knows node.old s → event.old ≡ at_moment now e → MatchResult result
         (λ _. TellsTo (active_of node.old) (active_of node.new) (history_of node.old) (history_of node.new) (IsWithin now e s))
         (λ _. TellsThroughout (active_of node.old) (history_of node.old) (history_of node.new) (IsWithin now e s)) }
-    ensures fewer { IsTrue (comes_back event.now)
+    ensures fewer { IsTrue (comes_back event.old)
         → OnOk result (starts_left (content_of node.new) + comebacks out.new.items ≤ starts_left (content_of node.old)) }
     ensures later { (which : Which) → D.faults (disk_of which node.old) ≤ D.faults (disk_of which node.new) }
     ensures broken { IsErrOf result Cut.Disk → IsTrue (is_stopped node.new)
         × ((which : Which) × Rose (D.faults (disk_of which node.old)) (D.faults (disk_of which node.new))) }
 {
-    if let Err(cut) = take(alloc, node, event, out) {
-        return Err(cut);
-    }
+    let halts = match take(alloc, node, event, out) {
+        Err(cut) => return Err(cut),
+        Ok(halts) => halts,
+    };
     let site = node.state().site.as_slice();
-    match spell(alloc, me, site, out, letters, back) {
-        Err(memory) => Err(Cut::Memory(memory)),
-        Ok(()) => settle(alloc, me, node, now, out, letters, back),
+    if let Err(memory) = spell(alloc, me, site, out, letters, back) {
+        return Err(Cut::Memory(memory));
+    }
+    match settle(alloc, me, node, now, out, letters, back) {
+        Err(cut) => Err(cut),
+        Ok(()) => Ok(halts),
     }
 }
 
 /// Takes an event, and carries out what goes out of it and of the starts after it. What comes back
 /// of that waits behind what is in `back`. Before all is kept and spelled nothing goes out; where a
-/// call of a disk fails, what the calls before it say does, and nothing else.
+/// call of a disk fails, what the calls before it say does, and nothing else. Answers whether the
+/// host is to stop now.
 pub(crate) fn take_event<D: Disk, W: Wire, L: Launcher, P: Printer, O: Outlet, C: Clock>(
     alloc: Global,
     me: HostId,
@@ -267,8 +276,8 @@ pub(crate) fn take_event<D: Disk, W: Wire, L: Launcher, P: Printer, O: Outlet, C
     clock: &mut C,
     event: &mut Event,
     out: &mut Vec<Output>,
-    back: &mut Vec<Comeback>,
-) -> Result<(), Cut>
+    back: &mut VecDeque<Comeback>,
+) -> Result<bool, Cut>
     requires sound { IsSoundHost (content_of node.old) }
     requires running { is_stopped node.old ≡ false }
     requires host { IsHost me }
@@ -284,6 +293,7 @@ pub(crate) fn take_event<D: Disk, W: Wire, L: Launcher, P: Printer, O: Outlet, C
         (telling (W.received wire.old) (W.sent wire.old) (L.asked launcher.old) (P.prints printer.old) (O.filings outlet.old) (C.given clock.old))
         (telling (W.received wire.new) (W.sent wire.new) (L.asked launcher.new) (P.prints printer.new) (O.filings outlet.new) (C.given clock.new))
         × TellsTo (active_of node.old) (active_of node.new) (history_of node.old) (history_of node.new) (IsWithin m event.old s)) }
+    ensures halts { (s : Plain) → Knows node.old s → IfOk result (λ halts. halts ≡ shuts_down event.old s) }
     ensures cut { (s : Plain) (here : Here) → Knows node.old s → here ≡ record { me = me; site = (content_of node.old).site }
         → OnErr result ((m : ℕ) × (outcomes : List Outcome)
         × (IsErrOf result (Cut.Memory want) → (outcomes ≡ []) × ((u : Plain) × Knows node.new u × IsWithin m event.old s u))
@@ -309,15 +319,15 @@ pub(crate) fn take_event<D: Disk, W: Wire, L: Launcher, P: Printer, O: Outlet, C
             carry(wire, launcher, printer, outlet, out, &letters, back);
             Err(Cut::Disk)
         }
-        Ok(()) => {
+        Ok(halts) => {
             carry(wire, launcher, printer, outlet, out, &letters, back);
-            Ok(())
+            Ok(halts)
         }
     }
 }
 
 // Whether something waits.
-fn waits(back: &Vec<Comeback>) -> bool
+fn waits(back: &VecDeque<Comeback>) -> bool
     ensures some { IsTrue result → 0 < length back.now.items }
     ensures none { result ≡ false → back.now.items ≡ [] }
 {
@@ -325,11 +335,14 @@ fn waits(back: &Vec<Comeback>) -> bool
 }
 
 // Takes the first of what waits.
-fn first(back: &mut Vec<Comeback>) -> Comeback
+fn first(back: &mut VecDeque<Comeback>) -> Comeback
     requires { 0 < length back.old.items }
     ensures { back.old.items ≡ result ∷ back.new.items }
 {
-    back.remove(0)
+    match back.pop_front() {
+        Some(comeback) => comeback,
+        None => unreachable!(),
+    }
 }
 
 /// Takes what waits, one after the other, until nothing does.
@@ -343,7 +356,7 @@ pub(crate) fn take_back<D: Disk, W: Wire, L: Launcher, P: Printer, O: Outlet, C:
     outlet: &mut O,
     clock: &mut C,
     out: &mut Vec<Output>,
-    back: &mut Vec<Comeback>,
+    back: &mut VecDeque<Comeback>,
 ) -> Result<(), Cut>
     requires sound { IsSoundHost (content_of node.old) }
     requires running { is_stopped node.old ≡ false }

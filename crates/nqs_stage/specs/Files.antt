@@ -1,5 +1,5 @@
 -- What the calls on outputs say beside the rules.
-use Rattle.std.specs.Prelude.{◌≡◌, ℕ, Bool, true, if◌then◌else◌, List, map, Some}
+use Rattle.std.specs.Prelude.{◌≡◌, ℕ, Bool, true, false, if◌then◌else◌, List, map, Some}
 use Rattle.nqs_state.specs.State.{State}
 use Rattle.nqs_types.specs.Ids.{peer_number_eq, stage_key}
 use Rattle.nqs_rules.specs.InOrder.{are_distinct}
@@ -16,6 +16,7 @@ ending id parts p = record {
   puts = map part_bytes parts;
   outputs = p.outputs;
   reads = p.reads;
+  halts = false;
 }
 
 module _ {E : Type 0} where

@@ -194,6 +194,7 @@ fn ending(alloc: Global, plan: Plan, id: RequestId, parts: Vec<Part>) -> Result<
         puts,
         outputs: said,
         reads,
+        halts: false,
     })
 }
 

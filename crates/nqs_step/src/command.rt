@@ -4,7 +4,7 @@ ghost use Rattle.nqs_state.specs.State.{content};
 ghost use Rattle.nqs_rules.specs.Causes.{first_refusal};
 ghost use Rattle.nqs_rules.specs.Find.{meant_row};
 ghost use Rattle.nqs_rules.specs.InOrder.{IsInOrder};
-ghost use Rattle.nqs_rules.specs.Step.{answer_to, stat_causes, on_stat, show_lines, why_reply, ticked, then_reply, on_allowed, on_command};
+ghost use Rattle.nqs_rules.specs.Step.{answer_to, stat_causes, on_stat, show_lines, why_reply, ticked, then_reply, halting, on_allowed, on_command};
 ghost use Rattle.nqs_rules.specs.Stepped.{plan_of};
 ghost use Rattle.nqs_rules.specs.Why.{why_lines};
 ghost use Rattle.nqs_types.specs.declared.event.Reply.TheVariants.{Lines};
@@ -110,6 +110,15 @@ fn on_why(
     }
 }
 
+// A shutdown that its user may give.
+fn on_shutdown(alloc: Global, asker: Asker) -> Result<Plan, Memory>
+    ensures { IfOk result (λ plan. plan ≡ plan_of (halting (asked asker))) }
+{
+    let mut plan = answer(alloc, asker, Reply::Done)?;
+    plan.halts = true;
+    Ok(plan)
+}
+
 // A command that its user may give.
 fn on_allowed(
     alloc: Global,
@@ -129,7 +138,7 @@ fn on_allowed(
         Command::Delete { id, kill } => on_delete(alloc, state, asker, user, id, *kill),
         Command::Show(code) => on_show(alloc, state, asker, *code),
         Command::Why(id) => on_why(alloc, state, now, asker, id),
-        Command::Shutdown => answer(alloc, asker, Reply::Done),
+        Command::Shutdown => on_shutdown(alloc, asker),
         Command::Tick => on_tick_command(alloc, state, asker, now),
         Command::UnreadLine(fault) => answer(alloc, asker, Reply::UnreadLine(*fault)),
         Command::UnreadWords(fault) => answer(alloc, asker, Reply::UnreadWords(*fault)),

@@ -18,9 +18,14 @@ use nqs_types::{Body, Change, Event, HostId, Output, Plan, RequestId, Row, RowSt
 use std::alloc::Global;
 
 // A datagram of another host. One of a client changes nothing here.
-fn on_message(alloc: Global, state: &HostState, peer: HostId, body: &Body) -> Result<Plan, Memory>
+fn on_message(
+    alloc: Global,
+    state: &HostState,
+    peer: HostId,
+    body: &mut Body,
+) -> Result<Plan, Memory>
     requires { IsInOrder (content state.now) }
-    ensures { IfOk result (λ plan. plan ≡ plan_of (on_message peer body.now (content state.now))) }
+    ensures { IfOk result (λ plan. plan ≡ plan_of (on_message peer body.old (content state.now))) }
 {
     match body {
         Body::Offer {
@@ -122,10 +127,11 @@ fn unlaunched_by(
     }
 }
 
-/// What the host does at an event: the plan of its rule.
-pub fn step(alloc: Global, state: &HostState, event: &Event) -> Result<Plan, Memory>
+/// What the host does at an event: the plan of its rule. The script of an offer that is taken moves
+/// from the event into the plan, so that the event can't be taken once more.
+pub fn step(alloc: Global, state: &HostState, event: &mut Event) -> Result<Plan, Memory>
     requires { IsInOrder (content state.now) }
-    ensures { IfOk result (λ plan. plan ≡ plan_of (step event.now (content state.now))) }
+    ensures { IfOk result (λ plan. plan ≡ plan_of (step event.old (content state.now))) }
 {
     match event {
         Event::Ask {
@@ -141,7 +147,7 @@ pub fn step(alloc: Global, state: &HostState, event: &Event) -> Result<Plan, Mem
             };
             on_command(alloc, state, *now, asker, user, command)
         }
-        Event::Arrived { message, .. } => on_message(alloc, state, message.from, &message.body),
+        Event::Arrived { message, .. } => on_message(alloc, state, message.from, &mut message.body),
         Event::Ended {
             port,
             id,

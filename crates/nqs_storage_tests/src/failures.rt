@@ -106,10 +106,10 @@ fn told(alloc: Global, disks: Disks<MemDisk>, tear: Tear) -> Told {
     }
 }
 
-// An event is taken while a disk fails, and then once more.
-fn cut(alloc: Global, node: Node<MemDisk>, event: &Event, which: Which, tear: Tear) -> Cut
+// An event is taken while a disk fails, and then a tick.
+fn cut(alloc: Global, node: Node<MemDisk>, event: &mut Event, which: Which, tear: Tear) -> Cut
     requires sound { IsSoundHost (content_of node) }
-    requires sane { IsTrue (is_sane_event (length (content_of node).site) event.now) }
+    requires sane { IsTrue (is_sane_event (length (content_of node).site) event.old) }
 {
     let mut node = node;
     let mut out = Vec::new(alloc);
@@ -118,7 +118,8 @@ fn cut(alloc: Global, node: Node<MemDisk>, event: &Event, which: Which, tear: Te
         _ => false,
     };
     let stopped = node.is_stopped();
-    let again = match node.take(alloc, event, &mut out) {
+    let mut tick = Event::Tick { now: 100 };
+    let again = match node.take(alloc, &mut tick, &mut out) {
         Err(NodeFault::Stopped) => true,
         _ => false,
     };
@@ -192,11 +193,11 @@ fn submission_of(
     requires { IsSoundHost (content_of node) }
 {
     if is_empty {
-        let event = asked(empty_submission(alloc));
-        return Some(cut(alloc, node, &event, which, tear));
+        let mut event = asked(empty_submission(alloc));
+        return Some(cut(alloc, node, &mut event, which, tear));
     }
     match submission(alloc) {
-        Ok(command) => Some(cut(alloc, node, &asked(command), which, tear)),
+        Ok(command) => Some(cut(alloc, node, &mut asked(command), which, tear)),
         Err(_) => {
             let _ = node.close();
             None
@@ -277,7 +278,7 @@ fn end_of(alloc: Global, node: Node<MemDisk>, tear: Tear) -> Cut
     let mut node = node;
     let mut out = Vec::new(alloc);
     let _ = node.start_next(alloc, 100, &mut out);
-    cut(alloc, node, &ended(alloc), Which::First, tear)
+    cut(alloc, node, &mut ended(alloc), Which::First, tear)
 }
 
 // The boot makes four calls, and so does the start.

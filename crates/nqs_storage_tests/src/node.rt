@@ -96,14 +96,14 @@ fn ask(alloc: Global, node: &mut Node<MemDisk>, command: Command, out: &mut Vec<
     requires sane { IsTrue (is_sane_command command) }
     ensures { IsSoundHost (content_of node.new) }
 {
-    let event = Event::Ask {
+    let mut event = Event::Ask {
         now: 100,
         port: 7,
         token: 1,
         user: root(),
         command,
     };
-    node.take(alloc, &event, out).is_ok()
+    node.take(alloc, &mut event, out).is_ok()
 }
 
 pub(crate) fn submit(alloc: Global, node: &mut Node<MemDisk>, out: &mut Vec<Output>) -> bool

@@ -165,13 +165,15 @@ pub struct PlanRead {
 }
 
 /// What one step is to do: at most one change, whose extents aren't chosen yet, the lists of bytes
-/// to be stored for them in order, what goes out, and the outputs whose bytes are still to be read
-/// from the spool.
+/// to be stored for them in order, what goes out, the outputs whose bytes are still to be read from
+/// the spool, and whether the host halts.
 pub struct Plan {
     pub change: Option<Change>,
     pub puts: Items<Bytes>,
     pub outputs: Items<Output>,
     pub reads: ListOf<PlanRead>,
+    /// Whether the host stops when all that may start has started.
+    pub halts: bool,
 }
 
 // Written out, so that a plan is let go by a call, and not change by change in each function that
@@ -183,13 +185,14 @@ impl Drop for Plan {
             puts: _,
             outputs: _,
             reads: _,
+            halts: _,
         } = self;
     }
 }
 
 impl Plan {
     /// Takes the plan apart: the change, the bytes to be stored, what goes out, and what is to be
-    /// read.
+    /// read. Whether the host halts is asked before.
     pub fn into_parts(
         self,
     ) -> (
@@ -205,6 +208,7 @@ impl Plan {
             puts,
             outputs,
             reads,
+            halts: _,
         } = self;
         (change, puts, outputs, reads)
     }

@@ -52,6 +52,10 @@ ask user c s = step (event.Ask 60 9 77 user c) s
 abbrev pub only_replies : Reply → Done
 only_replies r = says (ready (out.Reply 9 77 r) ∷ [])
 
+-- the same, and the host halts
+abbrev pub only_replies_and_halts : Reply → Done
+only_replies_and_halts r = record (only_replies r) { halts = true }
+
 -- a reply to it and then these, with a change
 abbrev pub makes_and_replies : Change (List ℕ) → Reply → List Output → Done
 makes_and_replies c r os = makes c (ready (out.Reply 9 77 r) ∷ map ready os)

@@ -24,7 +24,8 @@ ghost use Rattle.nqs_worked.specs.ScheduleWords.{host, request, named, submissio
 ghost use Rattle.nqs_worked.specs.Definitions.{fresh, queued, carried, far_carried};
 ghost use Rattle.nqs_worked_tables.specs.Bounds.{part};
 ghost use Rattle.nqs_worked_tables.specs.Refusals.{full_house};
-ghost use Rattle.nqs_worked_tables.specs.Steps.{party, arrive, only_says, makes_and_says, ask, only_replies, makes_and_replies, sim, two_at_work, guests};
+ghost use Rattle.nqs_worked_tables.specs.Steps.{party, arrive, only_says, makes_and_says, ask, only_replies, only_replies_and_halts, makes_and_replies, sim};
+ghost use Rattle.nqs_worked_tables.specs.Steps.{two_at_work, guests};
 ghost use Rattle.nqs_worked_tables.specs.Steps.{free_guests, joining, ends};
 
 /// An OFFER: closed numbers first, then promises, then refusals.
@@ -142,7 +143,8 @@ pub fn commands_are_answered()
         ≡ only_replies (reply.Refused (NoQueue (codes "x"))) ∷ only_replies (reply.Refused IsMember) ∷ [] }
     ensures edit { ask (codes "root") (command.Edit (Limits (SetGlobalLimit 3))) fresh ≡ makes_and_replies (Edited (Limits (SetGlobalLimit 3))) reply.Done [] }
     ensures shutdown { map (λ user. ask user command.Shutdown full_house) (codes "root" ∷ codes "mia" ∷ codes "op" ∷ codes "ann" ∷ [])
-        ≡ only_replies reply.Done ∷ only_replies reply.Done ∷ only_replies (reply.Refused NotManager) ∷ only_replies (reply.Refused NotManager) ∷ [] }
+        ≡ only_replies_and_halts reply.Done ∷ only_replies_and_halts reply.Done
+        ∷ only_replies (reply.Refused NotManager) ∷ only_replies (reply.Refused NotManager) ∷ [] }
     ensures tick { ask (codes "ann") command.Tick fresh ≡ only_replies reply.Done }
     ensures stat { map (λ qs. ask (codes "ann") (command.Stat None qs) fresh) ((codes "batch" ∷ []) ∷ (codes "batch" ∷ codes "x" ∷ codes "y" ∷ []) ∷ [])
         ≡ only_replies (reply.Lines (codes "0 requests." ∷ [])) ∷ only_replies (reply.Refused (NoQueue (codes "x"))) ∷ [] }

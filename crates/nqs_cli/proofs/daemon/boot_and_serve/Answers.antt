@@ -27,19 +27,19 @@ returns-in-Err g c =
     (g.L.Launcher.asked c.args.launcher.now) (g.P.Printer.prints c.args.printer.now) (g.O.Outlet.filings c.args.outlet.now)
     (g.C.Clock.given c.args.clock.now) in
     not_booted g.D.Disk.tells c.args.me c.args.names.now c.args.turns was now c.in-Err.fault c.status_of_fault.result c.status_of_fault.ensures (refl, refl)
-    c.in-Err.ensures.failed
+    c.in-Err.ensures.unbooted.failed
     (λ yes. ((
-      λ a named. (c.in-Err.ensures.broken_off yes a named, λ s there. c.in-Err.ensures.any_moment yes s there a named),
-      c.in-Err.ensures.untouched
+      λ a named. (c.in-Err.ensures.unbooted.broken_off yes a named, λ s there. c.in-Err.ensures.unbooted.any_moment yes s there a named),
+      c.in-Err.ensures.unbooted.untouched
           yes,
     )))
-    c.in-Err.ensures.fault c.in-Err.ensures.memory
+    c.in-Err.ensures.unbooted.fault c.in-Err.ensures.unbooted.memory
 
 pub returns-then-not-is_here : goal.returns-then-not-is_here
 returns-then-not-is_here g c = (
   (refl, refl),
   λ yes.
-      let one = c.in-Ok.ensures.one yes in
+      let one = c.in-Ok.ensures.booted.one yes in
       let named = active_told _ one.0 one.1 in
       let same : c.is_here.result ≡ is_here c.args.me c.args.names.now one.0 =
       c.is_here.ensures (bytes_of c.in-Ok.node) ∙ ap (λ h. is_here c.args.me c.args.names.now (map_state (bytes_of c.in-Ok.node) h)) c.state.ensures
@@ -55,7 +55,7 @@ returns-then-not-is_here g c = (
           named.1,
           boot_alone named.0 _ (history_of c.in-Ok.node) (histories_of g.D.Disk.history c.close.result) one.0
               (λ which. ap g.D.Disk.history (c.close.ensures which))
-              (c.in-Ok.ensures.any_moment yes one.0 one.1 named.0 named.1),
+              (c.in-Ok.ensures.booted.any_moment yes one.0 one.1 named.0 named.1),
         ),
       ),
 )
@@ -72,7 +72,7 @@ returns g c =
     (g.C.Clock.given c.serve-end.new.clock) in
     has_served g.D.Disk.tells c.args.me c.args.names.now c.args.turns was now c.serve-end.result c.status_of_serve.result c.status_of_serve.ensures
     (λ yes.
-    let one = c.in-Ok.ensures.one yes in
+    let one = c.in-Ok.ensures.booted.one yes in
     let named = active_told _ one.0 one.1 in
     let s = one.0 in
     let u = applied Boot s in
@@ -107,7 +107,7 @@ returns g c =
           named.1,
           since_boot named.0 (active_of c.in-Ok.node) _ (history_of c.in-Ok.node) (history_of c.serve-end.new.node)
               (histories_of g.D.Disk.history c.close-in-Ok.result) s run.0 run.2.moments (λ which. ap g.D.Disk.history (c.close-in-Ok.ensures which))
-              (c.in-Ok.ensures.active yes named.0 named.1) (c.in-Ok.ensures.any_moment yes s one.1 named.0 named.1) passes,
+              (c.in-Ok.ensures.booted.active yes named.0 named.1) (c.in-Ok.ensures.booted.any_moment yes s one.1 named.0 named.1) passes,
         ),
       ),
     ))
@@ -115,5 +115,5 @@ returns g c =
     (λ is. let rose = (c.serve-end.ensures.disk_fault is).1 in (
       rose.0,
       subst (λ d. Rose (g.D.Disk.faults (disk_at rose.0 c.args.disks)) (g.D.Disk.faults d)) (sym (c.close-in-Ok.ensures rose.0))
-          (omega (arith, c.in-Ok.ensures.later rose.0, rose.1)),
+          (omega (arith, c.in-Ok.ensures.booted.later rose.0, rose.1)),
     ))

@@ -2,7 +2,7 @@ use Rattle.std.proofs.Common.{◌∙◌, Err, inl, inr, sym, ap, subst}
 use Rattle.nqs_types.specs.declared.world.Which.TheVariants.{Root, First, Second, Spool}
 use Rattle.nqs_store.specs.declared.fault.StoreFault.{StoreFault}
 use Rattle.nqs_store.specs.declared.fault.StoreFault.TheVariants as store
-use Rattle.nqs_node.proofs.Places.{rose_since}
+use Rattle.nqs_outside.proofs.Roses.{rose_since}
 use Rattle.nqs_cli.specs.Formats.{Formats}
 use Rattle.nqs_cli.specs.Parts.{disks_told}
 use Rattle.nqs_cli.proofs.format.format_empty.Goals as goal

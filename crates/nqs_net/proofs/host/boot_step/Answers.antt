@@ -40,18 +40,18 @@ returns-in_err-emit-in-Ok c = λ w host faces is.
     let mid = c.push.new.self.items in
     let after = c.emit.new.seen.items in
     let out = c.in-Ok.ensures.outputs refl host.state down.tells ∙ ap (λ l. l ++ outs) c.new-out.ensures.items in
-    let saw = boot_seen me w host c.args.turn.tear packets faces c.into_inner.result down c.in-Ok.node c.in-Ok.ensures.sound
-    (c.in-Ok.ensures.told refl host.state down.tells) (c.in-Ok.ensures.made refl (active_in host) down.active)
-    (c.in-Ok.ensures.active refl (active_in host) down.active) (c.in-Ok.ensures.any_moment refl host.state down.tells (active_in host) down.active)
-    (c.in-Ok.ensures.fuse refl) in
+    let saw = boot_seen me w host c.args.turn.tear packets faces c.into_inner.result down c.in-Ok.node c.in-Ok.ensures.booted.sound
+    (c.in-Ok.ensures.booted.told refl host.state down.tells) (c.in-Ok.ensures.booted.made refl (active_in host) down.active)
+    (c.in-Ok.ensures.booted.active refl (active_in host) down.active) (c.in-Ok.ensures.booted.any_moment refl host.state down.tells (active_in host) down.active)
+    (c.in-Ok.ensures.booted.fuse refl) in
     let front = subst (λ l. GrowsByFront mid after (seen_from me (length packets) l)) out c.in_err-emit-in-Ok.ensures.front in
     rw p.1 (shown_as before after _ _ saw (shown_before before mid after (seen.Boot me ∷ [])
     (seen_from me (length packets) outs) c.in_ok-push-in-Ok.ensures.items front))
 
 pub invariant_of-result : goal.invariant_of-result
 invariant_of-result c = record {
-  sound = subst (λ n. IsSoundHost (content_of n)) (sym c.in_ok-node-in-Ok.ensures.ok) c.in-Ok.ensures.sound;
-  running = subst (λ n. is_stopped n ≡ false) (sym c.in_ok-node-in-Ok.ensures.ok) c.in-Ok.ensures.running;
+  sound = subst (λ n. IsSoundHost (content_of n)) (sym c.in_ok-node-in-Ok.ensures.ok) c.in-Ok.ensures.booted.sound;
+  running = subst (λ n. is_stopped n ≡ false) (sym c.in_ok-node-in-Ok.ensures.ok) c.in-Ok.ensures.booted.running;
 }
 
 pub returns-in-Ok : goal.returns-in-Ok
@@ -63,14 +63,14 @@ returns-in-Ok c = λ w host faces is.
     let out = c.in-Ok.ensures.outputs refl host.state down.tells ∙ ap (λ l. l ++ outs) c.new-out.ensures.items in
     let boxed = c.in_ok-node-in-Ok.ensures.ok in
     let went = goes (active_in host) (histories_of mem.history_of c.into_inner.result) (history_of c.in-Ok.node) (Some Boot) host.state
-    (c.in-Ok.ensures.any_moment refl host.state down.tells (active_in host) down.active) in
+    (c.in-Ok.ensures.booted.any_moment refl host.state down.tells (active_in host) down.active) in
     let follows = subst (λ n. GoOn (histories_of mem.history_of c.into_inner.result) (history_of n)) (sym boxed) went in
     turn_follows c.args.turn.me c.args.turn.tear _ before _ w c.args.turn.tear (histories_of mem.history_of c.args.down.disks.value) _ _
     (subst (λ d. GoOn (histories_of mem.history_of d) (history_of c.in_ok-node-in-Ok.node.value)) c.into_inner.ensures follows)
-    (boot_turn c.args.turn.me w host c.args.turn.tear packets faces c.into_inner.result down c.in-Ok.node _ c.in_ok-node-in-Ok.ensures.ok c.in-Ok.ensures.sound
-    (c.in-Ok.ensures.told refl host.state down.tells) (c.in-Ok.ensures.made refl (active_in host) down.active)
-    (c.in-Ok.ensures.active refl (active_in host) down.active) (c.in-Ok.ensures.any_moment refl host.state down.tells (active_in host) down.active)
-    (c.in-Ok.ensures.fuse refl)
+    (boot_turn c.args.turn.me w host c.args.turn.tear packets faces c.into_inner.result down c.in-Ok.node _ c.in_ok-node-in-Ok.ensures.ok c.in-Ok.ensures.booted.sound
+    (c.in-Ok.ensures.booted.told refl host.state down.tells) (c.in-Ok.ensures.booted.made refl (active_in host) down.active)
+    (c.in-Ok.ensures.booted.active refl (active_in host) down.active) (c.in-Ok.ensures.booted.any_moment refl host.state down.tells (active_in host) down.active)
+    (c.in-Ok.ensures.booted.fuse refl)
     _ before _ (c.in_ok-emit-in-Ok.ensures.packets ∙ ap (λ l. packets ++ sent_in l) out)
     (c.in_ok-emit-in-Ok.ensures.seen ∙ ap (λ l. l ++ seen_from c.args.turn.me (length packets) c.boot.new.out.items) c.in_ok-push-in-Ok.ensures.items
     ∙ append_assoc before (seen.Boot c.args.turn.me ∷ []) (seen_from c.args.turn.me (length packets) c.boot.new.out.items)
@@ -92,7 +92,7 @@ returns-in-Err-Disk-default c = λ w host faces is.
     let broke = c.in-Err-Disk-default in
     let stop = c.in_ok-slot-in-Err-Disk-default in
     let went = broke_off (active_in host) (histories_of mem.history_of c.into_inner.result) (histories_of mem.history_of broke.disks) (Some Boot)
-    (broke.ensures.broken_off refl (active_in host) down.active) in
+    (broke.ensures.unbooted.broken_off refl (active_in host) down.active) in
     let follows = follow_stopped c.args.turn.tear (histories_of mem.history_of c.into_inner.result)
     (histories_of mem.history_of broke.disks) stop.slot went stop.ensures.stopped in
     turn_follows c.args.turn.me c.args.turn.tear c.args.packets.now.items c.args.seen.now.items _ w c.args.turn.tear
@@ -101,7 +101,7 @@ returns-in-Err-Disk-default c = λ w host faces is.
     (boot_cut c.args.turn.me w host c.args.turn.tear c.args.packets.now.items faces c.into_inner.result down
     (histories_of mem.history_of broke.disks) stop.slot broke.field-0-0-0 (mem.is_starved (disk_at broke.field-0-0-0 broke.disks)) c.args.seen.now.items _
     stop.ensures.seen stop.ensures.stopped (stop.ensures.fed broke.field-0-0-0)
-    (broke.ensures.cut refl host.state down.tells (active_in host) down.active broke.field-0-0-0 broke.field-0-0-is))
+    (broke.ensures.unbooted.cut refl host.state down.tells (active_in host) down.active broke.field-0-0-0 broke.field-0-0-is))
 
 pub unreachable-unreachable : goal.unreachable-unreachable
 unreachable-unreachable c = c.unreachable.type_inv
@@ -111,7 +111,7 @@ unreachable-requires c =
     let (host, is) = c.requires in
     let down = subst (λ d. IsDown d host) (sym c.into_inner.ensures) is in
     let broke = c.in-Err-NotNqs-default in
-    broke.ensures.never refl host.state down.tells broke.field-0-0-0 broke.field-0-0-1 broke.field-0-0-is
+    broke.ensures.unbooted.never refl host.state down.tells broke.field-0-0-0 broke.field-0-0-1 broke.field-0-0-is
 
 pub returns-in-Err-Memory-default : goal.returns-in-Err-Memory-default
 returns-in-Err-Memory-default c = λ w host faces is. none_shown c.args.seen.now.items c.args.seen.now.items _ refl

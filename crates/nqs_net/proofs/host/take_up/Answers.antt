@@ -1,17 +1,22 @@
-use Rattle.std.proofs.Common.{◌∙◌, ap, subst}
+use Rattle.std.proofs.Common.{◌≡◌, ◌⊎◌, inl, inr, Bool, List, ◌∙◌, ap, subst}
 use Rattle.std.proofs.lemmas.Result.{err_from_is_err_and}
 use Rattle.nqs_types.specs.declared.event.Event.{Event}
 use Rattle.nqs_types.specs.declared.ids.HostId.{HostId}
+use Rattle.nqs_types.specs.declared.message.Message.{Message}
+use Rattle.nqs_types.specs.declared.world.Which.{Which}
+use Rattle.nqs_base.specs.declared.tear.Tear.{Tear}
+use Rattle.nqs_outside.specs.History.{History}
 use Rattle.nqs_rules.specs.Notes.{ByEvent}
-use Rattle.nqs_rules.specs.Plain.{map_state}
 use Rattle.nqs_rules.specs.Step.{step}
-use Rattle.nqs_rules.specs.World.{Host, Ran, seen_of, World as Network, steps, all_starts, halts, shuts_down, then_ran}
-use Rattle.nqs_store.specs.Stores.{bytes_of}
-use Rattle.nqs_node.specs.Nodes.{history_of, content_of}
+use Rattle.nqs_rules.specs.World.{Host, Ran, seen_of, World as Network, steps, all_starts, halts, then_ran}
+use Rattle.nqs_node.specs.Nodes.{history_of}
 use Rattle.nqs_net.specs.Followed.{StandsAfter}
-use Rattle.nqs_net.specs.Turns.{Turns}
+use Rattle.nqs_net.specs.Turns.{IsAt, IsDownSlot, Turns}
 use Rattle.nqs_net.specs.Lists.{GrowsByFront}
+use Rattle.nqs_net.specs.declared.slot.Slot.{Slot}
+use Rattle.nqs_net.specs.declared.slot.Slot.TheVariants.{Up, Down}
 use Rattle.nqs_net.proofs.Fronts.{more_to_run, run_before}
+use Rattle.nqs_net.proofs.Hosting.{down_either}
 use Rattle.nqs_net.proofs.Turning.{turn_after}
 use Rattle.nqs_net.proofs.host.take_up.Goals as goal
 
@@ -32,17 +37,26 @@ module _ (me : HostId) (host : Host) (event : Event) (w : Network) where
   abbrev begun : Ran
   begun = then_ran stepped (all_starts me)
 
-pub returns-in_err-taken : goal.returns-in_err-taken
-returns-in_err-taken c = λ w host faces is now.
+  -- it halts as its step does, or the step has stopped it
+  as_meant : (tear : Tear) (old : Which → History) (packets : List Message) (slot : Slot) (b : Bool)
+      → IsAt me (StandsAfter tear old slot) tear packets stepped.world → (b ≡ (step event host.state).halts) ⊎ IsDownSlot slot
+      → halts b me begun.world ≡ halts (step event host.state).halts me begun.world
+  as_meant tear old packets slot b at (inl same) = ap (λ d. halts d me begun.world) same
+  as_meant tear old packets (Up up) b at (inr down) = absurd down
+  as_meant tear old packets (Down left) b at (inr down) =
+      down_either me stepped.world at.host tear packets at.faces at.stands.stands.down b (step event host.state).halts
+
+pub returns-in_err-halts : goal.returns-in_err-halts
+returns-in_err-halts c = λ w host faces is now.
     let p = err_from_is_err_and c.from_residual.result c.from_residual.ensures.1 in
     let me = c.args.turn.me in
     let event = c.args.event.now in
     let before = c.args.seen.now.items in
     let after = c.take_step.new.seen.items in
-    let step = stepped me host event w in
+    let did = stepped me host event w in
     let all = begun me host event w in
-    rw p.1 (more_to_run before after all (halts (shuts_down event host.state) me)
-    (more_to_run before after step (all_starts me) (c.in_err-taken.ensures w host faces is)))
+    rw p.1 (more_to_run before after all (halts (step event host.state).halts me)
+    (more_to_run before after did (all_starts me) (c.in_err-halts.ensures.turn w host faces is)))
 
 pub returns-in_err-begun : goal.returns-in_err-begun
 returns-in_err-begun c = λ w host faces is now.
@@ -51,12 +65,12 @@ returns-in_err-begun c = λ w host faces is now.
     let event = c.args.event.now in
     let before = c.args.seen.now.items in
     let after = c.start_all.new.seen.items in
-    let step = stepped me host event w in
+    let did = stepped me host event w in
     let all = begun me host event w in
-    let one = c.in_ok-taken.ensures w host faces is in
-    let two = c.in_err-begun.ensures step.world (history_of c.args.node.value) one.at (one.rest.now ∙ now) in
-    rw p.1 (more_to_run before after all (halts (shuts_down event host.state) me)
-    (run_before before after step (all_starts me) c.take_step.new.seen.items one.seen two))
+    let one = c.in_ok-halts.ensures.turn w host faces is in
+    let two = c.in_err-begun.ensures did.world (history_of c.args.node.value) one.at (one.rest.now ∙ now) in
+    rw p.1 (more_to_run before after all (halts (step event host.state).halts me)
+    (run_before before after did (all_starts me) c.take_step.new.seen.items one.seen two))
 
 pub returns-in_err-left : goal.returns-in_err-left
 returns-in_err-left c = λ w host faces is now.
@@ -67,31 +81,27 @@ returns-in_err-left c = λ w host faces is now.
     let before = c.args.seen.now.items in
     let mid = c.start_all.new.seen.items in
     let after = c.halt.new.seen.items in
-    let step = stepped me host event w in
+    let did = stepped me host event w in
     let all = begun me host event w in
-    let one = c.in_ok-taken.ensures w host faces is in
-    let two = c.in_ok-begun.ensures step.world old one.at (one.rest.now ∙ now) in
-    let both = turn_after me _ _ c.args.turn.tear c.args.turn.tear _ _ _ _ _ w step (all_starts me) one two in
-    let stops = c.shuts_down-stops.ensures (bytes_of c.args.node.value.store)
-    ∙ ap (λ s. shuts_down event (map_state (bytes_of c.args.node.value.store) s)) (c.state.ensures ∙ ap content_of c.deref.ensures)
-    ∙ ap (shuts_down event) is.tells.is in
-    let three = subst (λ b. GrowsByFront mid after (seen_of (halts b me all.world))) stops (c.in_err-left.ensures all.world _ old both.at) in
-    rw p.1 (run_before before after all (halts (shuts_down event host.state) me) mid both.seen three)
+    let one = c.in_ok-halts.ensures.turn w host faces is in
+    let two = c.in_ok-begun.ensures did.world old one.at (one.rest.now ∙ now) in
+    let both = turn_after me _ _ c.args.turn.tear c.args.turn.tear _ _ _ _ _ w did (all_starts me) one two in
+    let meant = as_meant me host event w c.args.turn.tear old _ c.in_ok-halts.taken c.in_ok-halts.halts one.at (c.in_ok-halts.ensures.halts host is) in
+    let three = subst (λ (r : Ran). GrowsByFront mid after (seen_of r)) meant (c.in_err-left.ensures all.world _ old both.at) in
+    rw p.1 (run_before before after all (halts (step event host.state).halts me) mid both.seen three)
 
 pub returns : goal.returns
 returns c = λ w host faces is now.
     let me = c.args.turn.me in
     let event = c.args.event.now in
     let old = history_of c.args.node.value in
-    let step = stepped me host event w in
+    let did = stepped me host event w in
     let all = begun me host event w in
-    let one = c.in_ok-taken.ensures w host faces is in
-    let two = c.in_ok-begun.ensures step.world old one.at (one.rest.now ∙ now) in
-    let both = turn_after me _ _ c.args.turn.tear c.args.turn.tear _ _ _ _ _ w step (all_starts me) one two in
+    let one = c.in_ok-halts.ensures.turn w host faces is in
+    let two = c.in_ok-begun.ensures did.world old one.at (one.rest.now ∙ now) in
+    let both = turn_after me _ _ c.args.turn.tear c.args.turn.tear _ _ _ _ _ w did (all_starts me) one two in
     let three = c.in_ok-left.ensures all.world _ old both.at in
-    let stops = c.shuts_down-stops.ensures (bytes_of c.args.node.value.store)
-    ∙ ap (λ s. shuts_down event (map_state (bytes_of c.args.node.value.store) s)) (c.state.ensures ∙ ap content_of c.deref.ensures)
-    ∙ ap (shuts_down event) is.tells.is in
-    turn_after me _ _ c.args.turn.tear c.args.turn.tear _ _ _ _ _ w all (halts (shuts_down event host.state) me) both
-    (subst (λ b. Turns me (StandsAfter c.args.turn.tear old c.in_ok-left.left) c.args.turn.tear c.start_all.new.packets.items c.start_all.new.seen.items
-    c.halt.new.seen.items all.world (halts b me all.world)) stops three)
+    let meant = as_meant me host event w c.args.turn.tear old _ c.in_ok-halts.taken c.in_ok-halts.halts one.at (c.in_ok-halts.ensures.halts host is) in
+    turn_after me _ _ c.args.turn.tear c.args.turn.tear _ _ _ _ _ w all (halts (step event host.state).halts me) both
+    (subst (λ (r : Ran). Turns me (StandsAfter c.args.turn.tear old c.in_ok-left.left) c.args.turn.tear c.start_all.new.packets.items c.start_all.new.seen.items
+    c.halt.new.seen.items all.world r) meant three)

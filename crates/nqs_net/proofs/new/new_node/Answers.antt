@@ -36,7 +36,7 @@ unbooted-requires-clause-starved c = λ which e.
       boot_starved me site c.new_disks-disks.result disks c.new_disks-disks.ensures.histories c.new_disks-disks.ensures.fuses c.format.ensures.root
           c.format.ensures.second c.format.ensures.spool
           _ (c.in-Ok.ensures.made refl) (c.format.ensures.fuse refl) which (histories_of mem.history_of left) (mem.is_starved (disk_at which left))
-          (c.in-Err-boot.ensures.cut refl (formatted me site) told formatted_active active which e),
+          (c.in-Err-boot.ensures.unbooted.cut refl (formatted me site) told formatted_active active which e),
     )
 
 pub unbooted-requires-clause-told : goal.unbooted-requires-clause-told
@@ -44,7 +44,7 @@ unbooted-requires-clause-told c = λ which place e.
     let me = c.args.me in
     let site = c.args.site.now in
     let empty = ap mem.history_of c.format.ensures.root ∙ c.new_disks-disks.ensures.histories Root in
-    c.in-Err-boot.ensures.never refl (formatted me site) (formatted_told me site c.format.new.disks empty (c.in-Ok.ensures.told refl)) which place e
+    c.in-Err-boot.ensures.unbooted.never refl (formatted me site) (formatted_told me site c.format.new.disks empty (c.in-Ok.ensures.told refl)) which place e
 
 pub returns-clause-up : goal.returns-clause-up
 returns-clause-up c =
@@ -58,6 +58,6 @@ returns-clause-up c =
     subst (λ n. IsUp n (new_host site me.0)) (sym c.in_ok-new-in-Ok-boot.ensures.ok)
     (booted me site c.new_disks-disks.result disks c.new_disks-disks.ensures.histories c.new_disks-disks.ensures.fuses c.format.ensures.root
     c.format.ensures.second c.format.ensures.spool
-    _ (c.in-Ok.ensures.made refl) (c.format.ensures.fuse refl) is c.in-Ok-boot.node (c.in-Ok-boot.ensures.told refl (formatted me site) told)
-    c.in-Ok-boot.ensures.sound (c.in-Ok-boot.ensures.active refl formatted_active active) (c.in-Ok-boot.ensures.made refl formatted_active active)
-    (c.in-Ok-boot.ensures.any_moment refl (formatted me site) told formatted_active active) (c.in-Ok-boot.ensures.fuse refl))
+    _ (c.in-Ok.ensures.made refl) (c.format.ensures.fuse refl) is c.in-Ok-boot.node (c.in-Ok-boot.ensures.booted.told refl (formatted me site) told)
+    c.in-Ok-boot.ensures.booted.sound (c.in-Ok-boot.ensures.booted.active refl formatted_active active) (c.in-Ok-boot.ensures.booted.made refl formatted_active active)
+    (c.in-Ok-boot.ensures.booted.any_moment refl (formatted me site) told formatted_active active) (c.in-Ok-boot.ensures.booted.fuse refl))

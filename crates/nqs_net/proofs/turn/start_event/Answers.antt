@@ -8,17 +8,17 @@ use Rattle.nqs_net.proofs.turn.start_event.Goals as goal
 pub returns-in-Ok-clause-taken : goal.returns-in-Ok-clause-taken
 returns-in-Ok-clause-taken c = λ host is empty.
     let x = started c.args.now host.state in
-    took_step c.args.node.now c.start_next.new.self host is x c.start_next.new.out.items (c.in-Ok.ensures.any_moment refl host.state is.tells)
-    (c.in-Ok.ensures.fuse refl)
-    (c.in-Ok.ensures.told refl host.state is.tells) (c.in-Ok.ensures.made refl host.state is.tells)
-    (c.in-Ok.ensures.outputs refl host.state is.tells ∙ ap (λ l. l ++ map shown x.outputs) empty) (c.in-Ok.ensures.active refl host.state is.tells)
+    let did = c.in-Ok.ensures.carries host.state is.tells in
+    took_step c.args.node.now c.start_next.new.self host is x c.start_next.new.out.items (did.any_moment refl host.state is.tells)
+    (c.in-Ok.ensures.stops.fuse refl)
+    (did.told refl host.state is.tells) (did.made refl) (did.outputs refl host.state is.tells ∙ ap (λ l. l ++ map shown x.outputs) empty) did.active
 
 pub returns-in-Err-Disk-clause-taken : goal.returns-in-Err-Disk-clause-taken
 returns-in-Err-Disk-clause-taken c = λ host is empty.
+    let did = c.in-Err-Disk.ensures.carries host.state is.tells in
     broke_step c.args.node.now c.start_next.new.self host is (started c.args.now host.state) c.start_next.new.out.items
-    (c.in-Err-Disk.ensures.any_moment refl host.state is.tells)
-    (c.in-Err-Disk.ensures.fuse refl) c.in-Err-Disk.field-0-0
-    (c.in-Err-Disk.ensures.cut refl host.state is.tells c.in-Err-Disk.field-0-0 (ap Err c.in-Err-Disk.field-0-is))
+    (did.any_moment refl host.state is.tells) (c.in-Err-Disk.ensures.stops.fuse refl) c.in-Err-Disk.field-0-0
+    (did.cut refl host.state is.tells c.in-Err-Disk.field-0-0 (ap Err c.in-Err-Disk.field-0-is))
 
 pub returns-in-Ok-clause-last : goal.returns-in-Ok-clause-last
 returns-in-Ok-clause-last c = λ host is took none. none_of c.args.now c.args.node.now host is (sym c.in-Ok.ensures.more ∙ none)
@@ -36,7 +36,7 @@ pub returns-in-Err-Disk-clause-last : goal.returns-in-Err-Disk-clause-last
 returns-in-Err-Disk-clause-last c = λ host is took none. absurd (true≢false (sym took))
 
 pub returns-in-Ok-clause-running : goal.returns-in-Ok-clause-running
-returns-in-Ok-clause-running c = λ took. c.in-Ok.ensures.running
+returns-in-Ok-clause-running c = λ took. c.in-Ok.ensures.stops.running
 
 pub returns-in-Ok-clause-fewer : goal.returns-in-Ok-clause-fewer
 returns-in-Ok-clause-fewer c = λ more. (refl, c.in-Ok.ensures.fewer more)

@@ -1,4 +1,4 @@
-use Rattle.std.proofs.Common.{◌≡◌, IsTrue, false, length, refl, sym, subst}
+use Rattle.std.proofs.Common.{◌≡◌, ◌⊎◌, inl, inr, Bool, IsTrue, true, false, length, refl, sym, subst}
 use Rattle.std.proofs.lemmas.Result.{err_from_is_err_and}
 use Rattle.nqs_rules.specs.Notes.{ByEvent}
 use Rattle.nqs_rules.specs.Sane.{is_sane_event}
@@ -23,23 +23,39 @@ take_event-requires-clause-sane c = subst (λ n. IsTrue (is_sane_event (length (
     (sym c.deref_mut.ensures.value) c.requires.sane
 
 pub returns-in_err-took : goal.returns-in_err-took
-returns-in_err-took c = λ w host faces is.
+returns-in_err-took c =
     let p = err_from_is_err_and c.from_residual.result c.from_residual.ensures.1 in
-    rw p.1 (none_shown c.args.seen.now.items c.args.seen.now.items _ refl)
+    record {
+      turn = λ w host faces is. rw p.1 (none_shown c.args.seen.now.items c.args.seen.now.items _ refl);
+      halts = λ host is. rw p.1 tt;
+    }
 
 pub carry-requires : goal.carry-requires
 carry-requires c = record { sound = c.in_ok-took.ensures.sound; running = c.in_ok-took.ensures.running }
 
 pub returns-in_err-slot : goal.returns-in_err-slot
-returns-in_err-slot c = λ w host faces is.
+returns-in_err-slot c =
     let p = err_from_is_err_and c.from_residual-in_err-slot.result c.from_residual-in_err-slot.ensures.1 in
     let node = c.deref_mut.result.now in
-    let up = subst (λ n. IsUp n host) (sym c.deref_mut.ensures.value) is in
-    rw p.1 (c.in_err-slot.ensures.turn w host (ByEvent c.args.event.now) (step c.args.event.now host.state) (fails_of node) (history_of node) faces
-    (c.in_ok-took.ensures.taken host up c.new-out.ensures.items))
+    record {
+      turn = λ w host faces is. (let up = subst (λ n. IsUp n host) (sym c.deref_mut.ensures.value) is in
+          rw p.1 (c.in_err-slot.ensures.turn w host (ByEvent c.args.event.now) (step c.args.event.now host.state) (fails_of node) (history_of node) faces
+          (c.in_ok-took.ensures.taken host up c.new-out.ensures.items)));
+      halts = λ host is. rw p.1 tt;
+    }
 
-pub returns : goal.returns
-returns c = λ w host faces is.
+-- whether the step came to an end
+by_end : {P Q : Type 0} (took : Bool) → (took ≡ true → P) → (took ≡ false → Q) → P ⊎ Q
+by_end true ended broke = inl (ended refl)
+by_end false ended broke = inr (broke refl)
+
+pub returns-clause-halts : goal.returns-clause-halts
+returns-clause-halts c = λ host is.
+    let up = subst (λ n. IsUp n host) (sym c.deref_mut.ensures.value) is in
+    by_end c.in_ok-took.took (c.in_ok-took.ensures.halts host up) c.in_ok-slot.ensures.down
+
+pub returns-clause-turn : goal.returns-clause-turn
+returns-clause-turn c = λ w host faces is.
     let node = c.deref_mut.result.now in
     let up = subst (λ n. IsUp n host) (sym c.deref_mut.ensures.value) is in
     let x = step c.args.event.now host.state in

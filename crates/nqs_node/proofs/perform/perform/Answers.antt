@@ -14,7 +14,8 @@ use Rattle.nqs_node.specs.Carried.{Kept, after_kept, IsMade, IsCutBy, IsBlown}
 use Rattle.nqs_node.proofs.Carrying.{reads_short}
 use Rattle.nqs_node.proofs.Performing.{still_broken_off, still_one, same_plain, none_kept, some_kept, made_since, broken_since, cut_since, moments_since}
 use Rattle.nqs_node.proofs.Performing.{read_failed}
-use Rattle.nqs_node.proofs.Places.{no_error, not_both, rose_since}
+use Rattle.nqs_outside.proofs.Roses.{rose_since}
+use Rattle.nqs_node.proofs.Places.{no_error, not_both}
 use Rattle.nqs_node.proofs.Performing.{plain_since}
 use Rattle.nqs_node.proofs.perform.perform.Goals as goal
 

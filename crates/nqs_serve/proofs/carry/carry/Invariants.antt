@@ -1,4 +1,5 @@
-use Rattle.std.proofs.Common.{◌≡◌, ◌≤◌, ◌+◌, ◌++◌, [], List, map, take, length, vec_capacity}
+use Rattle.std.proofs.Common.{◌≡◌, ◌≤◌, ◌+◌, ◌++◌, [], List, map, take, length}
+use Rattle.std.specs.VecDeque.{deque_capacity}
 use Rattle.nqs_outside.specs.Told.{Extends}
 use Rattle.nqs_back.specs.Back.{comebacks}
 use Rattle.nqs_serve.specs.Events.{Here}
@@ -15,7 +16,7 @@ invariant-loop-place g l = record {
       × Extends (g.P.Printer.prints l.fn.printer) (g.P.Printer.prints l.printer) (prints os)
       × Extends (g.O.Outlet.filings l.fn.outlet) (g.O.Outlet.filings l.outlet) (filings os);
   few : length l.back.items ≤ length l.fn.back.items + comebacks (take l.place l.outputs);
-  room : length l.back.items + length l.outputs ≤ vec_capacity l.back + l.place;
+  room : length l.back.items + length l.outputs ≤ deque_capacity l.back + l.place;
   received : Extends (g.W.Wire.received l.fn.wire) (g.W.Wire.received l.wire) [];
   later : g.W.Wire.receive_faults l.fn.wire ≤ g.W.Wire.receive_faults l.wire;
 }

@@ -1,9 +1,7 @@
 use Rattle.std.proofs.Common.{◌≡◌, ℕ, refl, ap, sym, subst, ◌∙◌, [], ◌∷◌, List, length, arith, inl, inr, Some, None, Err, IsTrue, IfSome}
 use Rattle.std.specs.Option.{option_to_list}
-use Rattle.nqs_rules.specs.Plain.{map_state}
 use Rattle.nqs_rules.specs.Sane.{is_sane_event}
-use Rattle.nqs_rules.specs.World.{shuts_down}
-use Rattle.nqs_node.specs.Nodes.{active_of, bytes_of}
+use Rattle.nqs_node.specs.Nodes.{active_of}
 use Rattle.nqs_serve.specs.Events.{Here, event_in, stops_by}
 use Rattle.nqs_serve.specs.Steps.{after_event}
 use Rattle.nqs_serve.specs.Runs.{received, took, turn, idle, none_begun, begun}
@@ -101,8 +99,8 @@ returns-in-Err-take_back-clause-err g c = λ s here knows same.
     let at : List (List ℕ) → Here = λ names. record { me = c.args.me; site = names } in
     let is_here : at c.as_slice-site.result.now ≡ here = ap at (c.as_slice-site.ensures ∙ ap (λ h. h.site) c.state.ensures) ∙ sym same in
     let some : Some e ≡ event_in here came.0 = sym c.in-Ok-Some.field-0-is ∙ came.1 ∙ ap (λ h. event_in h came.0) is_here in
-    let ok = c.in_default.ensures.ok s here knows same in
-    let cut = c.in-Err-take_back.ensures.cut (after_event ok.0 e s) here ok.3 (same ∙ ap at (sym c.in_default.ensures.site)) in
+    let ok = c.in-Ok.ensures.ok s here knows same in
+    let cut = c.in-Err-take_back.ensures.cut (after_event ok.0 e s) here ok.3 (same ∙ ap at (sym c.in-Ok.ensures.site)) in
     let acts = received came.0 ∷ took ok.0 ok.1 ∷ cut.0 in
     let one = turn_stops here s came.0 ok.0 ok.1 cut.0 cut.3 in
     let bs = stops here (idle s) acts in (
@@ -127,13 +125,13 @@ pub returns-in-Err-take_back-clause-disk_fault : goal.returns-in-Err-take_back-c
 returns-in-Err-take_back-clause-disk_fault g c = λ failed.
     let is_disk = disk_cut c.in-Err-take_back.cut (sym c.fault_of-in-Err-take_back.ensures ∙ same_fault _ _ failed) in
     let broke = c.in-Err-take_back.ensures.broken (ap Err is_disk) in
-    (broke.0, (broke.1.0, rose_behind _ _ _ (c.in_default.ensures.later broke.1.0) broke.1.1))
+    (broke.0, (broke.1.0, rose_behind _ _ _ (c.in-Ok.ensures.later broke.1.0) broke.1.1))
 
 pub returns-in-Err-take_back-clause-later : goal.returns-in-Err-take_back-clause-later
-returns-in-Err-take_back-clause-later g c = λ which. omega (arith, c.in_default.ensures.later which, c.in-Err-take_back.ensures.later which)
+returns-in-Err-take_back-clause-later g c = λ which. omega (arith, c.in-Ok.ensures.later which, c.in-Err-take_back.ensures.later which)
 
 pub returns-clause-later : goal.returns-clause-later
-returns-clause-later g c = λ which. omega (arith, c.in_default.ensures.later which, c.in_default-take_back.ensures.later which)
+returns-clause-later g c = λ which. omega (arith, c.in-Ok.ensures.later which, c.in_default.ensures.later which)
 
 pub returns-clause-ok : goal.returns-clause-ok
 returns-clause-ok g c = λ s here knows same.
@@ -142,15 +140,12 @@ returns-clause-ok g c = λ s here knows same.
     let at : List (List ℕ) → Here = λ names. record { me = c.args.me; site = names } in
     let is_here : at c.as_slice-site.result.now ≡ here = ap at (c.as_slice-site.ensures ∙ ap (λ h. h.site) c.state.ensures) ∙ sym same in
     let some : Some e ≡ event_in here came.0 = sym c.in-Ok-Some.field-0-is ∙ came.1 ∙ ap (λ h. event_in h came.0) is_here in
-    let ok = c.in_default.ensures.ok s here knows same in
-    let rest = c.in_default-take_back.ensures.ok (after_event ok.0 e s) here ok.3 (same ∙ ap at (sym c.in_default.ensures.site)) in
-    let bytes = bytes_of c.args.node.now in
-    let stop : c.shuts_down-stop.result ≡ shuts_down e s = c.shuts_down-stop.ensures bytes ∙ ap (λ h. shuts_down e (map_state bytes h)) c.state-2.ensures
-    ∙ ap (shuts_down e) knows.1.is in (
+    let ok = c.in-Ok.ensures.ok s here knows same in
+    let rest = c.in_default.ensures.ok (after_event ok.0 e s) here ok.3 (same ∙ ap at (sym c.in-Ok.ensures.site)) in (
       received came.0 ∷ took ok.0 ok.1 ∷ rest.0,
       rest.1,
       rest.3,
-      turn_stops here s came.0 ok.0 ok.1 rest.0 rest.2 ∙ ap (λ o. stops_by o s ∷ []) (sym some) ∙ ap (λ b. b ∷ []) (sym stop),
+      turn_stops here s came.0 ok.0 ok.1 rest.0 rest.2 ∙ ap (λ o. stops_by o s ∷ []) (sym some) ∙ ap (λ b. b ∷ []) (sym (c.in-Ok.ensures.halts s knows)),
       ran_turn here came.0 ok.0 ok.1 rest.0 s e c.clear.new.self.items _ (idle rest.1) none_begun _ _ _ _ some c.clear.ensures.items ok.2 ok.4
           (received_grew here came.0 _ _ _ _ _ _ _ _ came.2 c.receive.ensures.sent) ok.5 rest.4,
       through_turn here _ _ _ _ _ _ came.0 ok.0 ok.1 rest.0 s e c.clear.new.self.items _ [] some c.clear.ensures.items ok.2 ok.6 rest.5,

@@ -1,4 +1,5 @@
-use Rattle.std.proofs.Common.{◌≡◌, refl, sym, ap, subst, ◌∙◌, ◌++◌, ◌∷◌, [], List, ◌+◌, ◌≤◌, ℕ, length, map, vec_capacity, is_some, true, false, arith}
+use Rattle.std.proofs.Common.{◌≡◌, refl, sym, ap, subst, ◌∙◌, ◌++◌, ◌∷◌, [], List, ◌+◌, ◌≤◌, ℕ, length, map, is_some, true, false, arith}
+use Rattle.std.specs.VecDeque.{deque_capacity}
 use Rattle.std.specs.List.{flat_map, list_all}
 use Rattle.std.proofs.lemmas.List.{append-nil}
 use Rattle.nqs_types.specs.declared.event.Output.{Output}
@@ -144,7 +145,7 @@ returns-in-Err-clause-many g c =
 
 pub returns-in-Err-clause-room : goal.returns-in-Err-clause-room
 returns-in-Err-clause-room g c =
-    let room : length c.loop-cut.back.items + length c.start.new.out.items ≤ vec_capacity c.loop-cut.back =
+    let room : length c.loop-cut.back.items + length c.start.new.out.items ≤ deque_capacity c.loop-cut.back =
     omega (arith, c.loop-cut.invariant.room, ap (λ (l : List Output). length l) c.in-Err.ensures.unsaid) in
     unless_memory c.in-Err.cut _ room
 

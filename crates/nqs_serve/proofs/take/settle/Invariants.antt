@@ -1,4 +1,5 @@
-use Rattle.std.proofs.Common.{◌≡◌, ◌≤◌, ◌+◌, ◌++◌, ℕ, List, length, vec_capacity, false}
+use Rattle.std.proofs.Common.{◌≡◌, ◌≤◌, ◌+◌, ◌++◌, ℕ, List, length, false}
+use Rattle.std.specs.VecDeque.{deque_capacity}
 use Rattle.std.specs.List.{flat_map}
 use Rattle.nqs_state.specs.State.{Plain}
 use Rattle.nqs_types.specs.declared.world.Which.{Which}
@@ -29,7 +30,7 @@ invariant-loop-cut g l = record {
       × Knows l.node (after_starts xs s) × (l.out.items ≡ l.fn.out.items ++ flat_map said xs);
   moments : (s : Plain) → Knows l.fn.node s → TellsTo (active_of l.fn.node) (active_of l.node) (history_of l.fn.node) (history_of l.node) (IsBetween l.now s);
   many : length l.letters.items ≡ length l.out.items;
-  room : length l.back.items + length l.out.items ≤ vec_capacity l.back;
+  room : length l.back.items + length l.out.items ≤ deque_capacity l.back;
   behind : l.back.items ≡ l.fn.back.items;
   ready : (s : Plain) (here : Here) → Knows l.fn.node s → here ≡ record { me = l.me; site = (content_of l.fn.node).site }
       → AreReady here l.fn.out.items l.fn.letters.items → AreReady here l.out.items l.letters.items;

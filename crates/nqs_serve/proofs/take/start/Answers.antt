@@ -8,16 +8,18 @@ pub returns-in-Ok-clause-more : goal.returns-in-Ok-clause-more
 returns-in-Ok-clause-more g c = λ s knows. c.in-Ok.ensures.more ∙ sym (start_known c.args.now c.args.node.now s knows)
 
 pub returns-in-Ok-clause-told : goal.returns-in-Ok-clause-told
-returns-in-Ok-clause-told g c = λ s knows. ((knows.0, c.in-Ok.ensures.told knows.0 s knows.1), c.in-Ok.ensures.outputs knows.0 s knows.1)
+returns-in-Ok-clause-told g c = λ s knows.
+    let did = c.in-Ok.ensures.carries s knows.1 in
+    ((knows.0, did.told knows.0 s knows.1), did.outputs knows.0 s knows.1)
 
 pub returns-in-Ok-clause-moments : goal.returns-in-Ok-clause-moments
-returns-in-Ok-clause-moments g c = λ s knows. c.in-Ok.ensures.any_moment knows.0 s knows.1
+returns-in-Ok-clause-moments g c = λ s knows. (c.in-Ok.ensures.carries s knows.1).any_moment knows.0 s knows.1
 
 pub returns-in-Err-Memory-clause-moments : goal.returns-in-Err-Memory-clause-moments
-returns-in-Err-Memory-clause-moments g c = λ s knows. c.in-Err-Memory.ensures.any_moment knows.0 s knows.1
+returns-in-Err-Memory-clause-moments g c = λ s knows. (c.in-Err-Memory.ensures.carries s knows.1).any_moment knows.0 s knows.1
 
 pub returns-in-Err-Disk-clause-moments : goal.returns-in-Err-Disk-clause-moments
-returns-in-Err-Disk-clause-moments g c = λ s knows. c.in-Err-Disk.ensures.any_moment knows.0 s knows.1
+returns-in-Err-Disk-clause-moments g c = λ s knows. (c.in-Err-Disk.ensures.carries s knows.1).any_moment knows.0 s knows.1
 
 pub returns-in-Err-Memory-clause-memory : goal.returns-in-Err-Memory-clause-memory
 returns-in-Err-Memory-clause-memory g c = λ s knows failed. (
@@ -28,7 +30,7 @@ returns-in-Err-Memory-clause-memory g c = λ s knows failed. (
 
 pub returns-in-Err-Disk-clause-broken : goal.returns-in-Err-Disk-clause-broken
 returns-in-Err-Disk-clause-broken g c = λ failed.
-    let broken = c.in-Err-Disk.ensures.broken c.in-Err-Disk.field-0-0 (ap Err c.in-Err-Disk.field-0-is) in
+    let broken = c.in-Err-Disk.ensures.stops.broken c.in-Err-Disk.field-0-0 (ap Err c.in-Err-Disk.field-0-is) in
     (broken.0, (c.in-Err-Disk.field-0-0, broken.1))
 
 pub returns-in-Ok-clause-right : goal.returns-in-Ok-clause-right
@@ -39,7 +41,19 @@ pub returns-in-Ok-clause-short : goal.returns-in-Ok-clause-short
 returns-in-Ok-clause-short g c = c.in-Ok.ensures.short c.requires.short (start_short (content_of c.args.node.now) c.requires.sound.order c.args.now)
 
 pub returns-in-Ok-clause-active : goal.returns-in-Ok-clause-active
-returns-in-Ok-clause-active g c = λ s knows. c.in-Ok.ensures.active knows.0 s knows.1
+returns-in-Ok-clause-active g c = λ s knows. (c.in-Ok.ensures.carries s knows.1).active
 
 pub returns-in-Ok-clause-longer : goal.returns-in-Ok-clause-longer
 returns-in-Ok-clause-longer g c = alike_longer _ _ _ c.in-Ok.ensures.alike
+
+pub returns-in-Ok-clause-later : goal.returns-in-Ok-clause-later
+returns-in-Ok-clause-later g c = c.in-Ok.ensures.stops.later
+
+pub returns-in-Err-Memory-clause-later : goal.returns-in-Err-Memory-clause-later
+returns-in-Err-Memory-clause-later g c = c.in-Err-Memory.ensures.stops.later
+
+pub returns-in-Err-Disk-clause-later : goal.returns-in-Err-Disk-clause-later
+returns-in-Err-Disk-clause-later g c = c.in-Err-Disk.ensures.stops.later
+
+pub returns-in-Ok-clause-running : goal.returns-in-Ok-clause-running
+returns-in-Ok-clause-running g c = c.in-Ok.ensures.stops.running

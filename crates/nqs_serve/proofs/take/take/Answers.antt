@@ -1,16 +1,23 @@
-use Rattle.std.proofs.Common.{Err, ap}
+use Rattle.std.proofs.Common.{Err, ap, ◌∙◌}
+use Rattle.nqs_rules.proofs.StepHalts.{step-halts}
 use Rattle.nqs_node.specs.Nodes.{content_of}
+use Rattle.nqs_node.proofs.Telling.{halts_told}
 use Rattle.nqs_serve.proofs.Sendable.{alike_right, alike_longer, step_right, step_short}
 use Rattle.nqs_serve.proofs.take.take.Goals as goal
 
+pub returns-in-Ok-clause-told : goal.returns-in-Ok-clause-told
+returns-in-Ok-clause-told g c = λ s knows.
+    let did = c.in-Ok.ensures.carries s knows.1 in
+    ((knows.0, did.told knows.0 s knows.1), did.outputs knows.0 s knows.1)
+
 pub returns-in-Ok-clause-moments : goal.returns-in-Ok-clause-moments
-returns-in-Ok-clause-moments g c = λ s knows. c.in-Ok.ensures.any_moment knows.0 s knows.1
+returns-in-Ok-clause-moments g c = λ s knows. (c.in-Ok.ensures.carries s knows.1).any_moment knows.0 s knows.1
 
 pub returns-in-Err-Memory-clause-moments : goal.returns-in-Err-Memory-clause-moments
-returns-in-Err-Memory-clause-moments g c = λ s knows. c.in-Err-Memory.ensures.any_moment knows.0 s knows.1
+returns-in-Err-Memory-clause-moments g c = λ s knows. (c.in-Err-Memory.ensures.carries s knows.1).any_moment knows.0 s knows.1
 
 pub returns-in-Err-Disk-clause-moments : goal.returns-in-Err-Disk-clause-moments
-returns-in-Err-Disk-clause-moments g c = λ s knows. c.in-Err-Disk.ensures.any_moment knows.0 s knows.1
+returns-in-Err-Disk-clause-moments g c = λ s knows. (c.in-Err-Disk.ensures.carries s knows.1).any_moment knows.0 s knows.1
 
 pub returns-in-Err-Memory-clause-memory : goal.returns-in-Err-Memory-clause-memory
 returns-in-Err-Memory-clause-memory g c = λ s knows failed. (
@@ -21,7 +28,7 @@ returns-in-Err-Memory-clause-memory g c = λ s knows failed. (
 
 pub returns-in-Err-Disk-clause-broken : goal.returns-in-Err-Disk-clause-broken
 returns-in-Err-Disk-clause-broken g c = λ failed.
-    let broken = c.in-Err-Disk.ensures.broken c.in-Err-Disk.field-0-0 (ap Err c.in-Err-Disk.field-0-is) in
+    let broken = c.in-Err-Disk.ensures.stops.broken c.in-Err-Disk.field-0-0 (ap Err c.in-Err-Disk.field-0-is) in
     (broken.0, (c.in-Err-Disk.field-0-0, broken.1))
 
 pub returns-in-Ok-clause-right : goal.returns-in-Ok-clause-right
@@ -33,7 +40,23 @@ returns-in-Ok-clause-short g c =
     c.in-Ok.ensures.short c.requires.short (step_short (content_of c.args.node.now) c.requires.sound.order c.args.event.now c.requires.sane)
 
 pub returns-in-Ok-clause-active : goal.returns-in-Ok-clause-active
-returns-in-Ok-clause-active g c = λ s knows. c.in-Ok.ensures.active knows.0 s knows.1
+returns-in-Ok-clause-active g c = λ s knows. (c.in-Ok.ensures.carries s knows.1).active
 
 pub returns-in-Ok-clause-longer : goal.returns-in-Ok-clause-longer
 returns-in-Ok-clause-longer g c = alike_longer _ _ _ c.in-Ok.ensures.alike
+
+pub returns-in-Ok-clause-later : goal.returns-in-Ok-clause-later
+returns-in-Ok-clause-later g c = c.in-Ok.ensures.stops.later
+
+pub returns-in-Err-Memory-clause-later : goal.returns-in-Err-Memory-clause-later
+returns-in-Err-Memory-clause-later g c = c.in-Err-Memory.ensures.stops.later
+
+pub returns-in-Err-Disk-clause-later : goal.returns-in-Err-Disk-clause-later
+returns-in-Err-Disk-clause-later g c = c.in-Err-Disk.ensures.stops.later
+
+pub returns-in-Ok-clause-running : goal.returns-in-Ok-clause-running
+returns-in-Ok-clause-running g c = c.in-Ok.ensures.stops.running
+
+pub returns-in-Ok-clause-halts : goal.returns-in-Ok-clause-halts
+returns-in-Ok-clause-halts g c = λ s knows.
+    c.in-Ok.ensures.halts ∙ halts_told c.args.node.now s knows.1 c.args.event.now ∙ step-halts c.args.event.now s

@@ -8,7 +8,7 @@ use Rattle.nqs_serve.specs.Moments.{IsPassed}
 use Rattle.nqs_serve.specs.Runs.{took, turn, event_back, begun}
 use Rattle.nqs_serve.specs.declared.comeback.Comeback.{Comeback}
 use Rattle.nqs_serve.proofs.Acts.{arrivals_append, ran_none, ran_empty, took_back, cut_back}
-use Rattle.nqs_serve.proofs.Faults.{rose_behind}
+use Rattle.nqs_serve.proofs.Faults.{same_error, rose_behind}
 use Rattle.nqs_serve.proofs.Moments.{through_none, through_took_back, through_cut_back}
 use Rattle.nqs_serve.proofs.Sane.{sane_back, right_back, is_back}
 use Rattle.nqs_serve.specs.Sends.{is_right_event}
@@ -52,8 +52,8 @@ returns-in-Err-clause-cut g c = λ s here knows same.
       turn before.1 (e ∷ map event_back rest),
       begun cut.0 cut.1,
       arrivals_append before.0 [] ∙ ap (λ l. l ++ []) before.2,
-      λ failed. let known = cut.2 failed in (known.1.0, known.1.1, inr (e, map event_back rest, cut.0, refl, ap (begun cut.0) known.0, known.1.2)),
-      λ failed. (e, map event_back rest, cut.0, cut.1, refl, refl, cut.3 failed),
+      λ failed. let known = cut.2 (same_error _ _ failed) in (known.1.0, known.1.1, inr (e, map event_back rest, cut.0, refl, ap (begun cut.0) known.0, known.1.2)),
+      λ failed. (e, map event_back rest, cut.0, cut.1, refl, refl, cut.3 (same_error _ _ failed)),
       cut_back here before.0 _ before.1 e x c.loop-alloc.back.items rest cut.0 cut.1 _ _ _ split c.event_back-event.ensures before.4 cut.4,
       (
         cut.5.0,
@@ -64,7 +64,7 @@ returns-in-Err-clause-cut g c = λ s here knows same.
 
 pub returns-in-Err-clause-broken : goal.returns-in-Err-clause-broken
 returns-in-Err-clause-broken g c = λ failed.
-    let broke = c.in-Err.ensures.broken failed in
+    let broke = c.in-Err.ensures.broken (same_error _ _ failed) in
     (broke.0, (broke.1.0, rose_behind _ _ _ (c.loop-alloc.invariant.later broke.1.0) broke.1.1))
 
 pub loop-alloc-smaller : goal.loop-alloc-smaller

@@ -1,6 +1,7 @@
 use Rattle.std.proofs.Common.{◌≡◌, refl, ap, sym, subst, ◌∙◌, ◌++◌, [], List, length, map, Err, arith}
 use Rattle.nqs_types.specs.declared.event.Output.{Output}
 use Rattle.nqs_rules.specs.Sane.{is_sane_event}
+use Rattle.nqs_rules.specs.Shutdowns.{shuts_down}
 use Rattle.nqs_back.specs.Back.{comebacks, comes_back}
 use Rattle.nqs_node.specs.Nodes.{content_of, history_of}
 use Rattle.nqs_serve.specs.Ends.{Broke}
@@ -11,7 +12,7 @@ use Rattle.nqs_serve.specs.Runs.{brought_back}
 use Rattle.nqs_serve.specs.declared.comeback.Comeback.{Comeback}
 use Rattle.nqs_serve.proofs.Acts.{clock_grew, cut_grew, took_grew}
 use Rattle.nqs_serve.proofs.Ending.{unless_disk, memory_is_no_disk, disk_is_no_memory}
-use Rattle.nqs_serve.proofs.Sane.{sane_at, right_at, comes_at}
+use Rattle.nqs_serve.proofs.Sane.{sane_at, right_at, comes_at, shuts_at}
 use Rattle.nqs_serve.specs.Sends.{is_right_event}
 use Rattle.nqs_serve.proofs.take.take_event.Goals as goal
 
@@ -94,3 +95,7 @@ pub take_whole-requires-clause-right : goal.take_whole-requires-clause-right
 take_whole-requires-clause-right g c =
     let hosts = length (content_of c.args.node.now).site in
     ap (is_right_event hosts) c.set_moment.ensures ∙ right_at hosts c.now-now.result c.args.event.now ∙ c.requires.right
+
+pub returns-clause-halts : goal.returns-clause-halts
+returns-clause-halts g c = λ s knows.
+    c.in-Ok.ensures.halts s knows ∙ ap (λ e. shuts_down e s) c.set_moment.ensures ∙ shuts_at c.now-now.result c.args.event.now s

@@ -1,4 +1,5 @@
-use Rattle.std.proofs.Common.{◌≡◌, ℕ, ◌≤◌, ◌+◌, refl, ap, sym, subst, ◌∙◌, ◌++◌, ◌∷◌, List, length, map, vec_capacity, arith, inl, inr, []}
+use Rattle.std.proofs.Common.{◌≡◌, ℕ, ◌≤◌, ◌+◌, refl, ap, sym, subst, ◌∙◌, ◌++◌, ◌∷◌, List, length, map, arith, inl, inr, []}
+use Rattle.std.specs.VecDeque.{deque_capacity}
 use Rattle.std.specs.List.{flat_map, list_all}
 use Rattle.nqs_types.specs.declared.event.Event.{Event}
 use Rattle.nqs_types.specs.declared.event.Output.{Output}
@@ -18,7 +19,7 @@ use Rattle.nqs_serve.specs.Nodes.{Knows}
 use Rattle.nqs_serve.specs.Sends.{is_right_output}
 use Rattle.nqs_serve.specs.Steps.{said, stepped, calls}
 use Rattle.nqs_serve.proofs.Ending.{unless_memory}
-use Rattle.nqs_serve.proofs.Faults.{rose_behind, on_ok, on_both}
+use Rattle.nqs_serve.proofs.Faults.{same_error, rose_behind}
 use Rattle.nqs_serve.proofs.Known.{at_known}
 use Rattle.nqs_serve.proofs.Lists.{ready_front, ready_all}
 use Rattle.nqs_serve.proofs.Moments.{through_change, through_made, through_then, through_as, at_last}
@@ -31,19 +32,19 @@ pub take-requires-clause-short : goal.take-requires-clause-short
 take-requires-clause-short g c = ap (list_all sends_short) c.requires.silent
 
 pub spell-requires-clause-right : goal.spell-requires-clause-right
-spell-requires-clause-right g c = ap (list_all (is_right_output 16)) c.deref.ensures.value ∙ c.in_default.ensures.right
+spell-requires-clause-right g c = ap (list_all (is_right_output 16)) c.deref.ensures.value ∙ c.in-Ok.ensures.right
 
 pub spell-requires-clause-short : goal.spell-requires-clause-short
-spell-requires-clause-short g c = ap (list_all sends_short) c.deref.ensures.value ∙ c.in_default.ensures.short
+spell-requires-clause-short g c = ap (list_all sends_short) c.deref.ensures.value ∙ c.in-Ok.ensures.short
 
 pub spell-requires-clause-fits : goal.spell-requires-clause-fits
 spell-requires-clause-fits g c = omega (arith, ap (λ l. length l) c.requires.blank)
 
 pub settle-requires-clause-many : goal.settle-requires-clause-many
-settle-requires-clause-many g c = c.in-Ok.ensures.many ∙ ap (λ (l : List Output). length l) c.deref.ensures.value
+settle-requires-clause-many g c = c.in_default.ensures.many ∙ ap (λ (l : List Output). length l) c.deref.ensures.value
 
 pub settle-requires-clause-room : goal.settle-requires-clause-room
-settle-requires-clause-room g c = omega (arith, c.in-Ok.ensures.room, ap (λ (l : List Output). length l) c.deref.ensures.value)
+settle-requires-clause-room g c = omega (arith, c.in_default.ensures.room, ap (λ (l : List Output). length l) c.deref.ensures.value)
 
 -- the call that takes the event failed
 
@@ -53,8 +54,8 @@ returns-in-Err-clause-many g c = unless_memory c.in-Err.cut _
 
 pub returns-in-Err-clause-room : goal.returns-in-Err-clause-room
 returns-in-Err-clause-room g c =
-    let room : length c.args.back.now.items + length c.take.new.out.items ≤ vec_capacity c.args.back.now =
-    omega (arith, ap (λ (l : List Output). length l) (c.in-Err.ensures.unsaid ∙ c.requires.silent), c.args.back.now.ok.0, c.args.back.now.ok.1) in
+    let room : length c.args.back.now.items + length c.take.new.out.items ≤ deque_capacity c.args.back.now =
+    omega (arith, ap (λ (l : List Output). length l) (c.in-Err.ensures.unsaid ∙ c.requires.silent), c.args.back.now.ok.0, c.args.back.now.small.1) in
     unless_memory c.in-Err.cut _ room
 
 pub returns-in-Err-clause-ready : goal.returns-in-Err-clause-ready
@@ -88,7 +89,7 @@ returns-in-Err-clause-moments g c = λ s e knows same.
 pub returns-in-Err-spell-clause-memory : goal.returns-in-Err-spell-clause-memory
 returns-in-Err-spell-clause-memory g c = λ s e knows same failed.
     let now = c.args.now in
-    let first = c.in_default.ensures.told s knows in (
+    let first = c.in-Ok.ensures.told s knows in (
       stepped now e s,
       subst (λ v. Knows c.take.new.node (after_step (step v s) s)) same first.0,
       inr ([], starts now (stepped now e s), refl, refl),
@@ -100,53 +101,68 @@ returns-in-Err-spell-clause-moments g c = λ s e knows same.
     let u = stepped now e s in
     let stepped_is : after_step (step c.args.event.now s) s ≡ u = ap (λ v. after_step (step v s) s) same in (
       active_of c.take.new.node,
-      through_made _ _ _ _ (step c.args.event.now s).change s (IsWithin now e s) (c.in_default.ensures.active s knows)
-          (c.in_default.ensures.moments s knows) (inl refl) (inr ([], starts now u, refl, stepped_is)),
+      through_made _ _ _ _ (step c.args.event.now s).change s (IsWithin now e s) (c.in-Ok.ensures.active s knows)
+          (c.in-Ok.ensures.moments s knows) (inl refl) (inr ([], starts now u, refl, stepped_is)),
     )
 
 -- it was taken
 
-pub returns-in-Ok-clause-ready : goal.returns-in-Ok-clause-ready
-returns-in-Ok-clause-ready g c = λ s here knows same.
-    let first = c.in_default.ensures.told s knows in
+pub returns-in-Err-settle-clause-ready : goal.returns-in-Err-settle-clause-ready
+returns-in-Err-settle-clause-ready g c = λ s here knows same.
+    let first = c.in-Ok.ensures.told s knows in
     let at : List (List ℕ) → Here = λ names. record { me = c.args.me; site = names } in
     let is_here : at c.as_slice-site.result.now ≡ here =
-    ap at (c.as_slice-site.ensures ∙ ap (λ h. h.site) c.state.ensures ∙ c.in_default.ensures.site) ∙ sym same in
+    ap at (c.as_slice-site.ensures ∙ ap (λ h. h.site) c.state.ensures ∙ c.in-Ok.ensures.site) ∙ sym same in
     let before = c.requires.blank ∙ sym (ap (map (letter_of here)) c.requires.silent) in
     let front = ready_front here c.args.out.now.items _ c.take.new.out.items c.args.letters.now.items first.1 before in
-    c.settle.ensures.ready _ here first.0 (same ∙ ap at (sym c.in_default.ensures.site))
-    (ready_all c.deref.ensures.value is_here front c.in-Ok.ensures.spelled)
+    c.in-Err-settle.ensures.ready _ here first.0 (same ∙ ap at (sym c.in-Ok.ensures.site))
+    (ready_all c.deref.ensures.value is_here front c.in_default.ensures.spelled)
 
-pub returns-in-Ok-clause-behind : goal.returns-in-Ok-clause-behind
-returns-in-Ok-clause-behind g c = c.settle.ensures.behind ∙ c.in-Ok.ensures.behind
+pub returns-in-Ok-settle-clause-ready : goal.returns-in-Ok-settle-clause-ready
+returns-in-Ok-settle-clause-ready g c = λ s here knows same.
+    let first = c.in-Ok.ensures.told s knows in
+    let at : List (List ℕ) → Here = λ names. record { me = c.args.me; site = names } in
+    let is_here : at c.as_slice-site.result.now ≡ here =
+    ap at (c.as_slice-site.ensures ∙ ap (λ h. h.site) c.state.ensures ∙ c.in-Ok.ensures.site) ∙ sym same in
+    let before = c.requires.blank ∙ sym (ap (map (letter_of here)) c.requires.silent) in
+    let front = ready_front here c.args.out.now.items _ c.take.new.out.items c.args.letters.now.items first.1 before in
+    c.in-Ok-settle.ensures.ready _ here first.0 (same ∙ ap at (sym c.in-Ok.ensures.site))
+    (ready_all c.deref.ensures.value is_here front c.in_default.ensures.spelled)
 
-pub returns-in-Ok-clause-told : goal.returns-in-Ok-clause-told
-returns-in-Ok-clause-told g c = λ s e knows same.
+pub returns-in-Err-settle-clause-behind : goal.returns-in-Err-settle-clause-behind
+returns-in-Err-settle-clause-behind g c = c.in-Err-settle.ensures.behind ∙ c.in_default.ensures.behind
+
+pub returns-in-Ok-settle-clause-behind : goal.returns-in-Ok-settle-clause-behind
+returns-in-Ok-settle-clause-behind g c = c.in-Ok-settle.ensures.behind ∙ c.in_default.ensures.behind
+
+pub returns-in-Ok-settle-clause-told : goal.returns-in-Ok-settle-clause-told
+returns-in-Ok-settle-clause-told g c = λ s e knows same.
     let u = stepped c.args.now e s in
-    let first = c.in_default.ensures.told s knows in
+    let first = c.in-Ok.ensures.told s knows in
     let taken : Knows c.take.new.node u = subst (λ v. Knows c.take.new.node (after_step (step v s) s)) same first.0 in
     let went : c.take.new.out.items ≡ said (step (at_moment c.args.now e) s) =
     first.1 ∙ ap (λ v. c.args.out.now.items ++ said (step v s)) same
     ∙ ap (λ (l : List Output). l ++ said (step (at_moment c.args.now e) s)) c.requires.silent in
-    on_ok c.settle.result (λ done. (done.0, done.1 ∙ ap (λ (l : List Output). l ++ flat_map said (starts c.args.now u)) went)) (c.settle.ensures.told u taken)
+    let done = c.in-Ok-settle.ensures.told u taken in
+    (done.0, done.1 ∙ ap (λ (l : List Output). l ++ flat_map said (starts c.args.now u)) went)
 
-pub returns-in-Ok-clause-memory : goal.returns-in-Ok-clause-memory
-returns-in-Ok-clause-memory g c = λ s e knows same failed.
+pub returns-in-Err-settle-clause-memory : goal.returns-in-Err-settle-clause-memory
+returns-in-Err-settle-clause-memory g c = λ s e knows same failed.
     let u = stepped c.args.now e s in
-    let first = c.in_default.ensures.told s knows in
+    let first = c.in-Ok.ensures.told s knows in
     let taken : Knows c.take.new.node u = subst (λ v. Knows c.take.new.node (after_step (step v s) s)) same first.0 in
-    let part = c.settle.ensures.memory u taken failed in
+    let part = c.in-Err-settle.ensures.memory u taken (same_error _ _ failed) in
     (after_starts part.0 u, part.3, inr (part.0, part.1, part.2, refl))
 
-pub returns-in-Ok-clause-broke : goal.returns-in-Ok-clause-broke
-returns-in-Ok-clause-broke g c = λ s e knows same failed.
+pub returns-in-Err-settle-clause-broke : goal.returns-in-Err-settle-clause-broke
+returns-in-Err-settle-clause-broke g c = λ s e knows same failed.
     let u = stepped c.args.now e s in
     let x = step (at_moment c.args.now e) s in
-    let first = c.in_default.ensures.told s knows in
+    let first = c.in-Ok.ensures.told s knows in
     let taken : Knows c.take.new.node u = subst (λ v. Knows c.take.new.node (after_step (step v s) s)) same first.0 in
     let went : c.take.new.out.items ≡ said x =
     first.1 ∙ ap (λ v. c.args.out.now.items ++ said (step v s)) same ∙ ap (λ (l : List Output). l ++ said x) c.requires.silent in
-    let rest = c.settle.ensures.broke u taken failed in
+    let rest = c.in-Err-settle.ensures.broke u taken (same_error _ _ failed) in
     record {
       done = x ∷ rest.2.done;
       left = rest.2.left;
@@ -156,30 +172,37 @@ returns-in-Ok-clause-broke g c = λ s e knows same failed.
       leaves = rest.2.leaves;
     }
 
-pub returns-in-Ok-clause-moments : goal.returns-in-Ok-clause-moments
-returns-in-Ok-clause-moments g c = λ s e knows same.
+pub returns-in-Err-settle-clause-moments : goal.returns-in-Err-settle-clause-moments
+returns-in-Err-settle-clause-moments g c = λ s e knows same.
     let now = c.args.now in
     let u = stepped now e s in
-    let first = c.in_default.ensures.told s knows in
+    let first = c.in-Ok.ensures.told s knows in
     let stepped_is : after_step (step c.args.event.now s) s ≡ u = ap (λ v. after_step (step v s) s) same in
     let taken : Knows c.take.new.node u = subst (Knows c.take.new.node) stepped_is first.0 in
-    let front = through_made _ _ _ _ (step c.args.event.now s).change s (IsWithin now e s) (c.in_default.ensures.active s knows)
-    (c.in_default.ensures.moments s knows)
+    let front = through_made _ _ _ _ (step c.args.event.now s).change s (IsWithin now e s) (c.in-Ok.ensures.active s knows) (c.in-Ok.ensures.moments s knows)
     (inl refl) (inr ([], starts now u, refl, stepped_is)) in
-    on_both c.settle.result
-    (λ back. through_then _ _ _ _ _ _ (IsWithin now e s) front (through_as _ _ _ _ (IsBetween now u) (IsWithin now e s) (λ v between. inr between) back))
-    (λ back. (
+    let back = c.in-Err-settle.ensures.moments u taken in (
       back.0,
       through_then _ _ _ _ _ _ (IsWithin now e s) front (through_as _ _ _ _ (IsBetween now u) (IsWithin now e s) (λ v between. inr between) back.1),
-    ))
-    (c.settle.ensures.moments u taken)
+    )
 
-pub returns-in-Ok-clause-fewer : goal.returns-in-Ok-clause-fewer
-returns-in-Ok-clause-fewer g c = λ back. on_ok c.settle.result
-    (λ less. omega (arith, less, c.in_default.ensures.no_more back, c.in_default.ensures.none_back back, ap comebacks c.requires.silent))
-    c.settle.ensures.fewer
+pub returns-in-Ok-settle-clause-moments : goal.returns-in-Ok-settle-clause-moments
+returns-in-Ok-settle-clause-moments g c = λ s e knows same.
+    let now = c.args.now in
+    let u = stepped now e s in
+    let first = c.in-Ok.ensures.told s knows in
+    let stepped_is : after_step (step c.args.event.now s) s ≡ u = ap (λ v. after_step (step v s) s) same in
+    let taken : Knows c.take.new.node u = subst (Knows c.take.new.node) stepped_is first.0 in
+    let front = through_made _ _ _ _ (step c.args.event.now s).change s (IsWithin now e s) (c.in-Ok.ensures.active s knows) (c.in-Ok.ensures.moments s knows)
+    (inl refl) (inr ([], starts now u, refl, stepped_is)) in
+    through_then _ _ _ _ _ _ (IsWithin now e s) front
+    (through_as _ _ _ _ (IsBetween now u) (IsWithin now e s) (λ v between. inr between) (c.in-Ok-settle.ensures.moments u taken))
 
-pub returns-in-Ok-clause-broken : goal.returns-in-Ok-clause-broken
-returns-in-Ok-clause-broken g c = λ failed.
-    let broke = c.settle.ensures.broken failed in
-    (broke.0, (broke.1.0, rose_behind _ _ _ (c.in_default.ensures.later broke.1.0) broke.1.1))
+pub returns-in-Ok-settle-clause-fewer : goal.returns-in-Ok-settle-clause-fewer
+returns-in-Ok-settle-clause-fewer g c = λ back.
+    omega (arith, c.in-Ok-settle.ensures.fewer, c.in-Ok.ensures.no_more back, c.in-Ok.ensures.none_back back, ap comebacks c.requires.silent)
+
+pub returns-in-Err-settle-clause-broken : goal.returns-in-Err-settle-clause-broken
+returns-in-Err-settle-clause-broken g c = λ failed.
+    let broke = c.in-Err-settle.ensures.broken (same_error _ _ failed) in
+    (broke.0, (broke.1.0, rose_behind _ _ _ (c.in-Ok.ensures.later broke.1.0) broke.1.1))

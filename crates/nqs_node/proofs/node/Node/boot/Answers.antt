@@ -14,107 +14,121 @@ use Rattle.nqs_store.specs.Disks.{disk_at, histories_of, failing_of, contents}
 use Rattle.nqs_store.specs.Images.{IsTold}
 use Rattle.nqs_store.specs.Stores.{history_of, fails_of, active_of, bytes_of, plain_of}
 use Rattle.nqs_node.specs.Carried.{IsBrokenOff, IsCutBy, IsOneOrOther}
-use Rattle.nqs_node.proofs.Places.{rose_since}
+use Rattle.nqs_outside.proofs.Roses.{rose_since}
 use Rattle.nqs_node.proofs.Performing.{still_broken_off, made_since, broken_since, cut_since, moments_since}
 use Rattle.nqs_node.proofs.Booting.{boot_kept, quiet_one, told_by_reads, loaded_is}
 use Rattle.nqs_node.proofs.node.Node.boot.Goals as goal
 
-pub returns-in-Err-clause-broken_off : goal.returns-in-Err-clause-broken_off
-returns-in-Err-clause-broken_off g c = λ yes a is. still_broken_off a (histories_of g.D.Disk.history c.args.disks)
-    (histories_of g.D.Disk.history c.in-Err.disks)
-    (c.in-Err.ensures.reads.same yes) (Some Boot)
-
-pub returns-in-Err-clause-any_moment : goal.returns-in-Err-clause-any_moment
-returns-in-Err-clause-any_moment g c = λ yes s told a is.
-    let old = histories_of g.D.Disk.history c.args.disks in
-    subst (λ (h : Which → History). IsOneOrOther a old h (Some Boot) s) (λ j which. sym (c.in-Err.ensures.reads.same yes which) j)
-    (quiet_one a old (c.requires.quiet yes) s told (Some Boot))
-
-pub returns-in-Err-begin-clause-failed : goal.returns-in-Err-begin-clause-failed
-returns-in-Err-begin-clause-failed g c = λ which is.
-    subst (λ d. Rose (g.D.Disk.faults (disk_at which c.args.disks)) (g.D.Disk.faults d)) (sym (c.close.ensures which))
-    (rose_since _ _ _ (c.in-Ok.ensures.reads.later which) (c.in-Err-begin.ensures.stops.broken which (ap Err is)).1)
-
-pub returns-in-Err-begin-clause-fault : goal.returns-in-Err-begin-clause-fault
-returns-in-Err-begin-clause-fault g c = λ yes which place is. absurd (c.in-Err-begin.ensures.only which place (ap Err is))
-
-pub returns-in-Err-begin-clause-memory : goal.returns-in-Err-begin-clause-memory
-returns-in-Err-begin-clause-memory g c = λ yes is which.
-    ap g.D.Disk.history (c.close.ensures which) ∙ ap g.D.Disk.history ((c.in-Err-begin.ensures.memory (ap Err is)).same which)
-    ∙ c.in-Ok.ensures.reads.same yes which
-
-pub returns-in-Err-begin-clause-never : goal.returns-in-Err-begin-clause-never
-returns-in-Err-begin-clause-never g c = λ yes s told which place is. c.in-Err-begin.ensures.only which place (ap Err is)
-
-pub returns-in-Err-begin-clause-broken_off : goal.returns-in-Err-begin-clause-broken_off
-returns-in-Err-begin-clause-broken_off g c = λ yes a active.
-    subst (λ (h : Which → History). IsBrokenOff a (histories_of g.D.Disk.history c.args.disks) h (Some Boot))
-    (λ j which. g.D.Disk.history (sym (c.close.ensures which) j))
-    (broken_since a (active_of c.in-Ok.store) (sym (c.one_journal_is_active.ensures _ a (active_of c.in-Ok.store) active (c.in-Ok.ensures.active yes)))
-    (failing_of g.D.Disk.fails c.args.disks) (fails_of c.in-Ok.store) (histories_of g.D.Disk.history c.args.disks) (history_of c.in-Ok.store)
-    (history_of c.begin.new.store)
-    (c.in-Ok.ensures.reads.fuse yes) (c.in-Ok.ensures.reads.same yes) Boot [] (Some Boot) boot_kept (c.in-Err-begin.ensures.calls.broken_off yes))
+pub returns-in-Err-clause-unbooted : goal.returns-in-Err-clause-unbooted
+returns-in-Err-clause-unbooted g c = record {
+  failed = λ which is. (c.in-Err.ensures.failed which is).rose;
+  fault = λ yes which place is. c.in-Err.ensures.fault yes;
+  never = c.in-Err.ensures.never;
+  memory = λ yes is which. c.in-Err.ensures.reads.same yes which;
+  broken_off = λ yes a is. still_broken_off a (histories_of g.D.Disk.history c.args.disks)
+      (histories_of g.D.Disk.history c.in-Err.disks)
+      (c.in-Err.ensures.reads.same yes) (Some Boot);
+  untouched = λ yes none which. c.in-Err.ensures.reads.same yes which;
+  cut = λ yes s told a is which failed. inr (inl ((c.in-Err.ensures.failed which failed).blown yes));
+  later = λ which. c.in-Err.ensures.reads.later which;
+  any_moment = λ yes s told a is.
+      let old = histories_of g.D.Disk.history c.args.disks in
+      subst (λ (h : Which → History). IsOneOrOther a old h (Some Boot) s) (λ j which. sym (c.in-Err.ensures.reads.same yes which) j)
+      (quiet_one a old (c.requires.quiet yes) s told (Some Boot));
+}
 
 either : {A B C X Y : Type 0} → (A → X) → (B → Y) → A ⊎ B → X ⊎ (C ⊎ Y)
 either f h (inl a) = inl (f a)
 either f h (inr b) = inr (inr (h b))
 
-pub returns-in-Err-begin-clause-cut : goal.returns-in-Err-begin-clause-cut
-returns-in-Err-begin-clause-cut g c = λ yes s is a active which failed.
-    either (subst (λ d. IsTrue (g.D.Disk.starved d)) (sym (c.close.ensures which)))
-    (λ k. subst (λ (h : Which → History). IsCutBy a (failing_of g.D.Disk.fails c.args.disks) (histories_of g.D.Disk.history c.args.disks) h (Some Boot) s which)
-    (λ j which. g.D.Disk.history (sym (c.close.ensures which) j))
-    (cut_since a (active_of c.in-Ok.store) (sym (c.one_journal_is_active.ensures _ a (active_of c.in-Ok.store) active (c.in-Ok.ensures.active yes)))
-    (failing_of g.D.Disk.fails c.args.disks) (fails_of c.in-Ok.store) (histories_of g.D.Disk.history c.args.disks) (history_of c.in-Ok.store)
-    (history_of c.begin.new.store)
-    (c.in-Ok.ensures.reads.fuse yes) (c.in-Ok.ensures.reads.same yes) Boot [] (Some Boot) boot_kept
-    (plain_of c.in-Ok.store (content c.in-Ok.state)) s (loaded_is c.in-Ok.store (content c.in-Ok.state) is.host
-    (bytes_now (g.D.Disk.history (disk_at Spool c.args.disks))) s (ap bytes_now (c.in-Ok.ensures.reads.same yes Spool))
-    (c.in-Ok.ensures.told yes is.host is.is) is.bytes) which k))
-    (c.in-Err-begin.ensures.calls.cut yes (c.in-Ok.ensures.tells yes) which (ap Err failed))
+pub returns-in-Err-begin-clause-unbooted : goal.returns-in-Err-begin-clause-unbooted
+returns-in-Err-begin-clause-unbooted g c = record {
+  failed = λ which is.
+      subst (λ d. Rose (g.D.Disk.faults (disk_at which c.args.disks)) (g.D.Disk.faults d)) (sym (c.close.ensures which))
+      (rose_since _ _ _ (c.in-Ok.ensures.reads.later which) (c.in-Err-begin.ensures.stops.broken which (ap Err is)).1);
+  fault = λ yes which place is. absurd (c.in-Err-begin.ensures.only which place (ap Err is));
+  never = λ yes s told which place is. c.in-Err-begin.ensures.only which place (ap Err is);
+  memory = λ yes is which.
+      ap g.D.Disk.history (c.close.ensures which) ∙ ap g.D.Disk.history ((c.in-Err-begin.ensures.memory (ap Err is)).same which)
+      ∙ c.in-Ok.ensures.reads.same yes which;
+  broken_off = λ yes a active.
+      subst (λ (h : Which → History). IsBrokenOff a (histories_of g.D.Disk.history c.args.disks) h (Some Boot))
+      (λ j which. g.D.Disk.history (sym (c.close.ensures which) j))
+      (broken_since a (active_of c.in-Ok.store) (sym (c.one_journal_is_active.ensures _ a (active_of c.in-Ok.store) active (c.in-Ok.ensures.active yes)))
+      (failing_of g.D.Disk.fails c.args.disks) (fails_of c.in-Ok.store) (histories_of g.D.Disk.history c.args.disks) (history_of c.in-Ok.store)
+      (history_of c.begin.new.store)
+      (c.in-Ok.ensures.reads.fuse yes) (c.in-Ok.ensures.reads.same yes) Boot [] (Some Boot) boot_kept (c.in-Err-begin.ensures.calls.broken_off yes));
+  untouched = λ yes none. absurd (none (active_of c.in-Ok.store) (c.in-Ok.ensures.active yes));
+  cut = λ yes s is a active which failed.
+      either (subst (λ d. IsTrue (g.D.Disk.starved d)) (sym (c.close.ensures which)))
+      (λ k. subst (λ (h : Which → History). IsCutBy a (failing_of g.D.Disk.fails c.args.disks) (histories_of g.D.Disk.history c.args.disks) h (Some Boot) s which)
+      (λ j which. g.D.Disk.history (sym (c.close.ensures which) j))
+      (cut_since a (active_of c.in-Ok.store) (sym (c.one_journal_is_active.ensures _ a (active_of c.in-Ok.store) active (c.in-Ok.ensures.active yes)))
+      (failing_of g.D.Disk.fails c.args.disks) (fails_of c.in-Ok.store) (histories_of g.D.Disk.history c.args.disks) (history_of c.in-Ok.store)
+      (history_of c.begin.new.store)
+      (c.in-Ok.ensures.reads.fuse yes) (c.in-Ok.ensures.reads.same yes) Boot [] (Some Boot) boot_kept
+      (plain_of c.in-Ok.store (content c.in-Ok.state)) s (loaded_is c.in-Ok.store (content c.in-Ok.state) is.host
+      (bytes_now (g.D.Disk.history (disk_at Spool c.args.disks))) s (ap bytes_now (c.in-Ok.ensures.reads.same yes Spool))
+      (c.in-Ok.ensures.told yes is.host is.is) is.bytes) which k))
+      (c.in-Err-begin.ensures.calls.cut yes (c.in-Ok.ensures.tells yes) which (ap Err failed));
+  later = λ which.
+      subst (λ d. g.D.Disk.faults (disk_at which c.args.disks) ≤ g.D.Disk.faults d) (sym (c.close.ensures which))
+      (le_trans (c.in-Ok.ensures.reads.later which) (c.begin.ensures.stops.later which));
+  any_moment = λ yes s is a active.
+      subst (λ (h : Which → History). IsOneOrOther a (histories_of g.D.Disk.history c.args.disks) h (Some Boot) s)
+      (λ j which. g.D.Disk.history (sym (c.close.ensures which) j))
+      (moments_since a (active_of c.in-Ok.store) (sym (c.one_journal_is_active.ensures _ a (active_of c.in-Ok.store) active (c.in-Ok.ensures.active yes)))
+      (failing_of g.D.Disk.fails c.args.disks) (fails_of c.in-Ok.store) (histories_of g.D.Disk.history c.args.disks) (history_of c.in-Ok.store)
+      (history_of c.begin.new.store)
+      (c.in-Ok.ensures.reads.fuse yes) (c.in-Ok.ensures.reads.same yes) Boot [] (Some Boot) boot_kept
+      (plain_of c.in-Ok.store (content c.in-Ok.state)) s (loaded_is c.in-Ok.store (content c.in-Ok.state) is.host
+      (bytes_now (g.D.Disk.history (disk_at Spool c.args.disks))) s (ap bytes_now (c.in-Ok.ensures.reads.same yes Spool))
+      (c.in-Ok.ensures.told yes is.host is.is) is.bytes)
+      (c.begin.ensures.calls.any_moment yes (c.in-Ok.ensures.tells yes)));
+}
 
-pub returns-in-Err-begin-clause-any_moment : goal.returns-in-Err-begin-clause-any_moment
-returns-in-Err-begin-clause-any_moment g c = λ yes s is a active.
-    subst (λ (h : Which → History). IsOneOrOther a (histories_of g.D.Disk.history c.args.disks) h (Some Boot) s)
-    (λ j which. g.D.Disk.history (sym (c.close.ensures which) j))
-    (moments_since a (active_of c.in-Ok.store) (sym (c.one_journal_is_active.ensures _ a (active_of c.in-Ok.store) active (c.in-Ok.ensures.active yes)))
-    (failing_of g.D.Disk.fails c.args.disks) (fails_of c.in-Ok.store) (histories_of g.D.Disk.history c.args.disks) (history_of c.in-Ok.store)
-    (history_of c.begin.new.store)
-    (c.in-Ok.ensures.reads.fuse yes) (c.in-Ok.ensures.reads.same yes) Boot [] (Some Boot) boot_kept
-    (plain_of c.in-Ok.store (content c.in-Ok.state)) s (loaded_is c.in-Ok.store (content c.in-Ok.state) is.host
-    (bytes_now (g.D.Disk.history (disk_at Spool c.args.disks))) s (ap bytes_now (c.in-Ok.ensures.reads.same yes Spool))
-    (c.in-Ok.ensures.told yes is.host is.is) is.bytes)
-    (c.begin.ensures.calls.any_moment yes (c.in-Ok.ensures.tells yes)))
-
-pub returns-in-Err-begin-clause-later : goal.returns-in-Err-begin-clause-later
-returns-in-Err-begin-clause-later g c = λ which.
-    subst (λ d. g.D.Disk.faults (disk_at which c.args.disks) ≤ g.D.Disk.faults d) (sym (c.close.ensures which))
-    (le_trans (c.in-Ok.ensures.reads.later which) (c.begin.ensures.stops.later which))
-
-pub returns-in-Ok-begin-clause-later : goal.returns-in-Ok-begin-clause-later
-returns-in-Ok-begin-clause-later g c = λ which. le_trans (c.in-Ok.ensures.reads.later which) (c.begin.ensures.stops.later which)
-
-pub returns-in-Ok-begin-clause-one : goal.returns-in-Ok-begin-clause-one
-returns-in-Ok-begin-clause-one g c = λ yes.
-    let store = c.in-Ok.store in
-    let host = content c.in-Ok.state in (
-      plain_of store host,
-      subst (λ (h : Which → History). IsTold (contents h) (plain_of store host)) (λ j which. c.in-Ok.ensures.reads.same yes which j)
-          (told_by_reads store host yes (c.in-Ok.ensures.tells yes)),
-      record {
-        is = c.in-Ok-begin.ensures.makes.plain yes (c.in-Ok.ensures.tells yes);
-        told = c.in-Ok-begin.ensures.makes.told yes (c.in-Ok.ensures.tells yes);
-        running = refl;
-      },
-    )
-
-pub returns-in-Ok-begin-clause-told : goal.returns-in-Ok-begin-clause-told
-returns-in-Ok-begin-clause-told g c = λ yes s is. record {
-  is = c.in-Ok-begin.ensures.makes.plain yes (c.in-Ok.ensures.tells yes) ∙ ap (applied Boot)
-      (loaded_is c.in-Ok.store (content c.in-Ok.state) is.host (bytes_now (g.D.Disk.history (disk_at Spool c.args.disks))) s
-      (ap bytes_now (c.in-Ok.ensures.reads.same yes Spool)) (c.in-Ok.ensures.told yes is.host is.is) is.bytes);
-  told = c.in-Ok-begin.ensures.makes.told yes (c.in-Ok.ensures.tells yes);
+pub returns-in-Ok-begin-clause-booted : goal.returns-in-Ok-begin-clause-booted
+returns-in-Ok-begin-clause-booted g c = record {
+  sound = c.in-Ok-begin.ensures.makes.sound;
   running = refl;
+  one = λ yes.
+      let store = c.in-Ok.store in
+      let host = content c.in-Ok.state in (
+        plain_of store host,
+        subst (λ (h : Which → History). IsTold (contents h) (plain_of store host)) (λ j which. c.in-Ok.ensures.reads.same yes which j)
+            (told_by_reads store host yes (c.in-Ok.ensures.tells yes)),
+        record {
+          is = c.in-Ok-begin.ensures.makes.plain yes (c.in-Ok.ensures.tells yes);
+          told = c.in-Ok-begin.ensures.makes.told yes (c.in-Ok.ensures.tells yes);
+          running = refl;
+        },
+      );
+  told = λ yes s is. record {
+    is = c.in-Ok-begin.ensures.makes.plain yes (c.in-Ok.ensures.tells yes) ∙ ap (applied Boot)
+        (loaded_is c.in-Ok.store (content c.in-Ok.state) is.host (bytes_now (g.D.Disk.history (disk_at Spool c.args.disks))) s
+        (ap bytes_now (c.in-Ok.ensures.reads.same yes Spool)) (c.in-Ok.ensures.told yes is.host is.is) is.bytes);
+    told = c.in-Ok-begin.ensures.makes.told yes (c.in-Ok.ensures.tells yes);
+    running = refl;
+  };
+  made = λ yes a active.
+      made_since a (active_of c.in-Ok.store) (sym (c.one_journal_is_active.ensures _ a (active_of c.in-Ok.store) active (c.in-Ok.ensures.active yes)))
+      (failing_of g.D.Disk.fails c.args.disks) (fails_of c.in-Ok.store) (histories_of g.D.Disk.history c.args.disks) (history_of c.in-Ok.store)
+      (history_of c.begin.new.store)
+      (c.in-Ok.ensures.reads.fuse yes) (c.in-Ok.ensures.reads.same yes) Boot [] (Some Boot) boot_kept (c.in-Ok-begin.ensures.calls.made yes);
+  active = λ yes a active.
+      c.in-Ok-begin.ensures.makes.active ∙ ap (λ x. recorded (ready x))
+      (sym (c.one_journal_is_active.ensures _ a (active_of c.in-Ok.store) active (c.in-Ok.ensures.active yes)));
+  fuse = λ yes which i. c.begin.ensures.stops.fuse yes which i ∙ c.in-Ok.ensures.reads.fuse yes which i;
+  later = λ which. le_trans (c.in-Ok.ensures.reads.later which) (c.begin.ensures.stops.later which);
+  any_moment = λ yes s is a active.
+      moments_since a (active_of c.in-Ok.store) (sym (c.one_journal_is_active.ensures _ a (active_of c.in-Ok.store) active (c.in-Ok.ensures.active yes)))
+      (failing_of g.D.Disk.fails c.args.disks) (fails_of c.in-Ok.store) (histories_of g.D.Disk.history c.args.disks) (history_of c.in-Ok.store)
+      (history_of c.begin.new.store)
+      (c.in-Ok.ensures.reads.fuse yes) (c.in-Ok.ensures.reads.same yes) Boot [] (Some Boot) boot_kept
+      (plain_of c.in-Ok.store (content c.in-Ok.state)) s (loaded_is c.in-Ok.store (content c.in-Ok.state) is.host
+      (bytes_now (g.D.Disk.history (disk_at Spool c.args.disks))) s (ap bytes_now (c.in-Ok.ensures.reads.same yes Spool))
+      (c.in-Ok.ensures.told yes is.host is.is) is.bytes)
+      (c.begin.ensures.calls.any_moment yes (c.in-Ok.ensures.tells yes));
 }
 
 pub returns-in-Ok-begin-clause-outputs : goal.returns-in-Ok-begin-clause-outputs
@@ -122,44 +136,3 @@ returns-in-Ok-begin-clause-outputs g c = λ yes s is.
     c.in-Ok-begin.ensures.outputs (bytes_of c.in-Ok.store) ∙ ap (λ (p : Plain). c.args.out.now.items ++ filter_map boot_output p.rows)
     (loaded_is c.in-Ok.store (content c.in-Ok.state) is.host (bytes_now (g.D.Disk.history (disk_at Spool c.args.disks))) s
     (ap bytes_now (c.in-Ok.ensures.reads.same yes Spool)) (c.in-Ok.ensures.told yes is.host is.is) is.bytes)
-
-pub returns-in-Ok-begin-clause-made : goal.returns-in-Ok-begin-clause-made
-returns-in-Ok-begin-clause-made g c = λ yes a active.
-    made_since a (active_of c.in-Ok.store) (sym (c.one_journal_is_active.ensures _ a (active_of c.in-Ok.store) active (c.in-Ok.ensures.active yes)))
-    (failing_of g.D.Disk.fails c.args.disks) (fails_of c.in-Ok.store) (histories_of g.D.Disk.history c.args.disks) (history_of c.in-Ok.store)
-    (history_of c.begin.new.store)
-    (c.in-Ok.ensures.reads.fuse yes) (c.in-Ok.ensures.reads.same yes) Boot [] (Some Boot) boot_kept (c.in-Ok-begin.ensures.calls.made yes)
-
-pub returns-in-Ok-begin-clause-any_moment : goal.returns-in-Ok-begin-clause-any_moment
-returns-in-Ok-begin-clause-any_moment g c = λ yes s is a active.
-    moments_since a (active_of c.in-Ok.store) (sym (c.one_journal_is_active.ensures _ a (active_of c.in-Ok.store) active (c.in-Ok.ensures.active yes)))
-    (failing_of g.D.Disk.fails c.args.disks) (fails_of c.in-Ok.store) (histories_of g.D.Disk.history c.args.disks) (history_of c.in-Ok.store)
-    (history_of c.begin.new.store)
-    (c.in-Ok.ensures.reads.fuse yes) (c.in-Ok.ensures.reads.same yes) Boot [] (Some Boot) boot_kept
-    (plain_of c.in-Ok.store (content c.in-Ok.state)) s (loaded_is c.in-Ok.store (content c.in-Ok.state) is.host
-    (bytes_now (g.D.Disk.history (disk_at Spool c.args.disks))) s (ap bytes_now (c.in-Ok.ensures.reads.same yes Spool))
-    (c.in-Ok.ensures.told yes is.host is.is) is.bytes)
-    (c.begin.ensures.calls.any_moment yes (c.in-Ok.ensures.tells yes))
-
-pub returns-in-Ok-begin-clause-active : goal.returns-in-Ok-begin-clause-active
-returns-in-Ok-begin-clause-active g c = λ yes a active.
-    c.in-Ok-begin.ensures.makes.active ∙ ap (λ x. recorded (ready x))
-    (sym (c.one_journal_is_active.ensures _ a (active_of c.in-Ok.store) active (c.in-Ok.ensures.active yes)))
-
-pub returns-in-Err-begin-clause-untouched : goal.returns-in-Err-begin-clause-untouched
-returns-in-Err-begin-clause-untouched g c = λ yes none. absurd (none (active_of c.in-Ok.store) (c.in-Ok.ensures.active yes))
-
-pub returns-in-Err-clause-failed : goal.returns-in-Err-clause-failed
-returns-in-Err-clause-failed g c = λ which is. (c.in-Err.ensures.failed which is).rose
-
-pub returns-in-Err-clause-memory : goal.returns-in-Err-clause-memory
-returns-in-Err-clause-memory g c = λ yes is which. c.in-Err.ensures.reads.same yes which
-
-pub returns-in-Err-clause-untouched : goal.returns-in-Err-clause-untouched
-returns-in-Err-clause-untouched g c = λ yes none which. c.in-Err.ensures.reads.same yes which
-
-pub returns-in-Err-clause-later : goal.returns-in-Err-clause-later
-returns-in-Err-clause-later g c = λ which. c.in-Err.ensures.reads.later which
-
-pub returns-in-Ok-begin-clause-fuse : goal.returns-in-Ok-begin-clause-fuse
-returns-in-Ok-begin-clause-fuse g c = λ yes which i. c.begin.ensures.stops.fuse yes which i ∙ c.in-Ok.ensures.reads.fuse yes which i

@@ -13,15 +13,13 @@ use Rattle.nqs_node.specs.Nodes.{history_of, fails_of, active_of, content_of, by
 use Rattle.nqs_node.specs.Reading.{AreShort}
 use Rattle.nqs_back.proofs.Plans.{bare_step, alike_step, fewer_left, one_back}
 use Rattle.nqs_node.proofs.Bare.{picked_bare, started_bare, bare_none, alike_none}
-use Rattle.nqs_node.proofs.Performing.{still_broken_off}
+use Rattle.nqs_node.specs.declared.fault.NodeFault.TheVariants as node
+use Rattle.nqs_node.proofs.Places.{no_error, node_memory, node_stopped}
+use Rattle.nqs_node.proofs.Still.{same_error, stops_still, carries_still, stops_again, carries_again, carries_true, stops_true}
 use Rattle.nqs_node.proofs.Planning.{next_is, at_next, none_next, may_be_done, does}
 use Rattle.nqs_node.proofs.Resting.{none_found}
 use Rattle.nqs_node.proofs.Telling.{tells_still, one_still, does_next, quiet_next}
 use Rattle.nqs_node.proofs.node.Node.start_next.Goals as goal
-
--- the same error, of another answer
-same_error : {T U E : Type 0} (d e : E) → IsErrOf {T = T} (Err d) e → IsErrOf {T = U} (Err d) e
-same_error d e is = let same : d ≡ e = cc in ap Err same
 
 pub carry_out-requires-clause-may : goal.carry_out-requires-clause-may
 carry_out-requires-clause-may g c =
@@ -36,13 +34,54 @@ carry_out-requires-clause-may g c =
     (at_next (λ x. AllByRecursion IsShortPut (puts_of x.change)) now host plan next (c.stored_bytes_are_short.ensures.start now host order))
     (at_next (λ x. AreLive host x.outputs) now host plan next (c.outputs_read_live_extents.ensures.start now host order))
 
-pub returns-in-Err-clause-broken_off : goal.returns-in-Err-clause-broken_off
-returns-in-Err-clause-broken_off g c = λ yes s told. still_broken_off (active_of c.args.self.now) (history_of c.args.self.now) (history_of c.args.self.now)
-    (λ which. refl)
-    (started c.args.now s).change
+pub returns-then-self-clause-stops : goal.returns-then-self-clause-stops
+returns-then-self-clause-stops g c = stops_still c.args.self.now node.Stopped node_stopped
 
-pub returns-in-Err-clause-any_moment : goal.returns-in-Err-clause-any_moment
-returns-in-Err-clause-any_moment g c = λ yes s told. one_still c.args.self.now s told yes (started c.args.now s).change
+pub returns-then-self-clause-carries : goal.returns-then-self-clause-carries
+returns-then-self-clause-carries g c = λ s told. carries_still c.args.self.now node.Stopped node_stopped _ _ (started c.args.now s)
+
+pub returns-in-Err-clause-stops : goal.returns-in-Err-clause-stops
+returns-in-Err-clause-stops g c = stops_still c.args.self.now _ (node_memory c.in-Err.memory)
+
+pub returns-in-Err-clause-carries : goal.returns-in-Err-clause-carries
+returns-in-Err-clause-carries g c = λ s told. carries_still c.args.self.now _ (node_memory c.in-Err.memory) _ _ (started c.args.now s)
+
+pub returns-in-Ok-None-clause-carries : goal.returns-in-Ok-None-clause-carries
+returns-in-Ok-None-clause-carries g c = λ s told.
+    let still = quiet_next c.args.self.now s told c.args.now (c.start_looks_at_no_bytes.ensures.start (bytes_of c.args.self.now) c.args.now
+    (content_of c.args.self.now))
+    (none_next c.args.now (content_of c.args.self.now) (sym c.in-Ok-None.field-0-is ∙ c.in-Ok-None.ensures)) in
+    record {
+      told = λ yes t tells. tells_still c.args.self.now (after_step (started c.args.now s) t) (subst (λ (x : Stepped (List ℕ)). Tells c.args.self.now
+          (after_step x t)) (sym still) tells) _ refl (λ which. refl) (λ host keeps. keeps) tells.running;
+      outputs = λ yes t tells.
+          sym (append-nil c.args.out.now.items) ∙ ap (λ (x : Stepped (List ℕ)). c.args.out.now.items ++ map shown x.outputs) (sym still);
+      made = λ yes. subst (λ (x : Stepped (List ℕ)). IsMade (active_of c.args.self.now) (fails_of c.args.self.now) (history_of c.args.self.now)
+          (history_of c.args.self.now) x.change) (sym still)
+          (λ which. refl);
+      active = ap (λ (x : Stepped (List ℕ)). after_kept x.change (active_of c.args.self.now)) (sym still);
+      broken_off = λ yes. tt;
+      cut = λ yes t tells which is. absurd (no_error _ _ is);
+      any_moment = λ yes t tells. one_still c.args.self.now t tells yes (started c.args.now s).change;
+    }
+
+pub returns-in-Ok-clause-stops : goal.returns-in-Ok-clause-stops
+returns-in-Ok-clause-stops g c = stops_true c.args.self.now _ c.in-Ok.ensures.stops
+
+pub returns-in-Err-carry_out-clause-stops : goal.returns-in-Err-carry_out-clause-stops
+returns-in-Err-carry_out-clause-stops g c = stops_again c.args.self.now _ _ c.in-Err-carry_out.ensures.stops
+
+pub returns-in-Err-carry_out-clause-carries : goal.returns-in-Err-carry_out-clause-carries
+returns-in-Err-carry_out-clause-carries g c = λ s told. carries_again c.args.self.now _ _ _ (started c.args.now s) _
+    (c.in-Err-carry_out.ensures.carries (started c.args.now s) (does_next c.args.self.now s told c.args.now
+    (c.start_looks_at_no_bytes.ensures.start (bytes_of c.args.self.now) c.args.now (content_of c.args.self.now)) c.in-Ok-Some.plan
+    (next_is c.args.now (content_of c.args.self.now) c.in-Ok-Some.plan (sym c.in-Ok-Some.field-0-is ∙ c.in-Ok-Some.ensures))))
+
+pub returns-in-Ok-clause-carries : goal.returns-in-Ok-clause-carries
+returns-in-Ok-clause-carries g c = λ s told. carries_true c.args.self.now _ _ _ (started c.args.now s)
+    (c.in-Ok.ensures.carries (started c.args.now s) (does_next c.args.self.now s told c.args.now
+    (c.start_looks_at_no_bytes.ensures.start (bytes_of c.args.self.now) c.args.now (content_of c.args.self.now)) c.in-Ok-Some.plan
+    (next_is c.args.now (content_of c.args.self.now) c.in-Ok-Some.plan (sym c.in-Ok-Some.field-0-is ∙ c.in-Ok-Some.ensures))))
 
 pub invariant_of-self : goal.invariant_of-self
 invariant_of-self g c =
@@ -55,99 +94,12 @@ invariant_of-self g c =
 pub returns-in-Ok-None-clause-more : goal.returns-in-Ok-None-clause-more
 returns-in-Ok-None-clause-more g c = sym (ap is_some (none_next c.args.now (content_of c.args.self.now) (sym c.in-Ok-None.field-0-is ∙ c.in-Ok-None.ensures)))
 
-pub returns-in-Ok-None-clause-told : goal.returns-in-Ok-None-clause-told
-returns-in-Ok-None-clause-told g c = λ yes s told.
-    let still = quiet_next c.args.self.now s told c.args.now (c.start_looks_at_no_bytes.ensures.start (bytes_of c.args.self.now) c.args.now
-    (content_of c.args.self.now))
-    (none_next c.args.now (content_of c.args.self.now) (sym c.in-Ok-None.field-0-is ∙ c.in-Ok-None.ensures)) in
-    tells_still c.args.self.now (after_step (started c.args.now s) s) (subst (λ (x : Stepped (List ℕ)). Tells c.args.self.now (after_step x s))
-    (sym still) told) _ refl (λ which. refl) (λ host tells. tells) told.running
-
-pub returns-in-Ok-None-clause-outputs : goal.returns-in-Ok-None-clause-outputs
-returns-in-Ok-None-clause-outputs g c = λ yes s told.
-    let still = quiet_next c.args.self.now s told c.args.now (c.start_looks_at_no_bytes.ensures.start (bytes_of c.args.self.now) c.args.now
-    (content_of c.args.self.now))
-    (none_next c.args.now (content_of c.args.self.now) (sym c.in-Ok-None.field-0-is ∙ c.in-Ok-None.ensures)) in
-    sym (append-nil c.args.out.now.items) ∙ ap (λ (x : Stepped (List ℕ)). c.args.out.now.items ++ map shown x.outputs) (sym still)
-
-pub returns-in-Ok-None-clause-made : goal.returns-in-Ok-None-clause-made
-returns-in-Ok-None-clause-made g c = λ yes s told.
-    let still = quiet_next c.args.self.now s told c.args.now (c.start_looks_at_no_bytes.ensures.start (bytes_of c.args.self.now) c.args.now
-    (content_of c.args.self.now))
-    (none_next c.args.now (content_of c.args.self.now) (sym c.in-Ok-None.field-0-is ∙ c.in-Ok-None.ensures)) in
-    subst (λ (x : Stepped (List ℕ)). IsMade (active_of c.args.self.now) (fails_of c.args.self.now) (history_of c.args.self.now)
-    (history_of c.args.self.now) x.change) (sym still)
-    (λ which. refl)
-
-pub returns-in-Ok-None-clause-active : goal.returns-in-Ok-None-clause-active
-returns-in-Ok-None-clause-active g c = λ yes s told.
-    let still = quiet_next c.args.self.now s told c.args.now (c.start_looks_at_no_bytes.ensures.start (bytes_of c.args.self.now) c.args.now
-    (content_of c.args.self.now))
-    (none_next c.args.now (content_of c.args.self.now) (sym c.in-Ok-None.field-0-is ∙ c.in-Ok-None.ensures)) in
-    ap (λ (x : Stepped (List ℕ)). after_kept x.change (active_of c.args.self.now)) (sym still)
-
-pub returns-in-Ok-None-clause-any_moment : goal.returns-in-Ok-None-clause-any_moment
-returns-in-Ok-None-clause-any_moment g c = λ yes s told. one_still c.args.self.now s told yes (started c.args.now s).change
-
-pub returns-in-Err-carry_out-clause-broken : goal.returns-in-Err-carry_out-clause-broken
-returns-in-Err-carry_out-clause-broken g c = λ which failed. c.in-Err-carry_out.ensures.stops.broken which (same_error _ _ failed)
-
 pub returns-in-Err-carry_out-clause-memory : goal.returns-in-Err-carry_out-clause-memory
 returns-in-Err-carry_out-clause-memory g c = λ yes failed. c.in-Err-carry_out.ensures.memory yes (same_error _ _ failed)
-
-pub returns-in-Err-carry_out-clause-broken_off : goal.returns-in-Err-carry_out-clause-broken_off
-returns-in-Err-carry_out-clause-broken_off g c = λ yes s told.
-    (c.in-Err-carry_out.ensures.carries (started c.args.now s) (does_next c.args.self.now s told c.args.now
-    (c.start_looks_at_no_bytes.ensures.start (bytes_of c.args.self.now) c.args.now (content_of c.args.self.now)) c.in-Ok-Some.plan
-    (next_is c.args.now (content_of c.args.self.now) c.in-Ok-Some.plan (sym c.in-Ok-Some.field-0-is ∙ c.in-Ok-Some.ensures)))).broken_off yes
-
-pub returns-in-Err-carry_out-clause-cut : goal.returns-in-Err-carry_out-clause-cut
-returns-in-Err-carry_out-clause-cut g c = λ yes s told which failed.
-    (c.in-Err-carry_out.ensures.carries (started c.args.now s) (does_next c.args.self.now s told c.args.now
-    (c.start_looks_at_no_bytes.ensures.start (bytes_of c.args.self.now) c.args.now (content_of c.args.self.now)) c.in-Ok-Some.plan
-    (next_is c.args.now (content_of c.args.self.now) c.in-Ok-Some.plan (sym c.in-Ok-Some.field-0-is ∙ c.in-Ok-Some.ensures)))).cut yes s told which
-    (same_error _ _ failed)
-
-pub returns-in-Err-carry_out-clause-any_moment : goal.returns-in-Err-carry_out-clause-any_moment
-returns-in-Err-carry_out-clause-any_moment g c = λ yes s told.
-    (c.in-Err-carry_out.ensures.carries (started c.args.now s)
-    (does_next c.args.self.now s told c.args.now (c.start_looks_at_no_bytes.ensures.start (bytes_of c.args.self.now) c.args.now
-    (content_of c.args.self.now)) c.in-Ok-Some.plan
-    (next_is c.args.now (content_of c.args.self.now) c.in-Ok-Some.plan (sym c.in-Ok-Some.field-0-is ∙ c.in-Ok-Some.ensures)))).any_moment yes s told
 
 pub returns-in-Ok-clause-more : goal.returns-in-Ok-clause-more
 returns-in-Ok-clause-more g c = sym (ap is_some (next_is c.args.now (content_of c.args.self.now) c.in-Ok-Some.plan
     (sym c.in-Ok-Some.field-0-is ∙ c.in-Ok-Some.ensures)).picked)
-
-pub returns-in-Ok-clause-told : goal.returns-in-Ok-clause-told
-returns-in-Ok-clause-told g c = λ yes s told.
-    (c.in-Ok.ensures.carries (started c.args.now s) (does_next c.args.self.now s told c.args.now
-    (c.start_looks_at_no_bytes.ensures.start (bytes_of c.args.self.now) c.args.now (content_of c.args.self.now)) c.in-Ok-Some.plan
-    (next_is c.args.now (content_of c.args.self.now) c.in-Ok-Some.plan (sym c.in-Ok-Some.field-0-is ∙ c.in-Ok-Some.ensures)))).told yes s told
-
-pub returns-in-Ok-clause-outputs : goal.returns-in-Ok-clause-outputs
-returns-in-Ok-clause-outputs g c = λ yes s told.
-    (c.in-Ok.ensures.carries (started c.args.now s) (does_next c.args.self.now s told c.args.now
-    (c.start_looks_at_no_bytes.ensures.start (bytes_of c.args.self.now) c.args.now (content_of c.args.self.now)) c.in-Ok-Some.plan
-    (next_is c.args.now (content_of c.args.self.now) c.in-Ok-Some.plan (sym c.in-Ok-Some.field-0-is ∙ c.in-Ok-Some.ensures)))).outputs yes s told
-
-pub returns-in-Ok-clause-made : goal.returns-in-Ok-clause-made
-returns-in-Ok-clause-made g c = λ yes s told.
-    (c.in-Ok.ensures.carries (started c.args.now s) (does_next c.args.self.now s told c.args.now
-    (c.start_looks_at_no_bytes.ensures.start (bytes_of c.args.self.now) c.args.now (content_of c.args.self.now)) c.in-Ok-Some.plan
-    (next_is c.args.now (content_of c.args.self.now) c.in-Ok-Some.plan (sym c.in-Ok-Some.field-0-is ∙ c.in-Ok-Some.ensures)))).made yes
-
-pub returns-in-Ok-clause-active : goal.returns-in-Ok-clause-active
-returns-in-Ok-clause-active g c = λ yes s told.
-    (c.in-Ok.ensures.carries (started c.args.now s) (does_next c.args.self.now s told c.args.now
-    (c.start_looks_at_no_bytes.ensures.start (bytes_of c.args.self.now) c.args.now (content_of c.args.self.now)) c.in-Ok-Some.plan
-    (next_is c.args.now (content_of c.args.self.now) c.in-Ok-Some.plan (sym c.in-Ok-Some.field-0-is ∙ c.in-Ok-Some.ensures)))).active
-
-pub returns-in-Ok-clause-any_moment : goal.returns-in-Ok-clause-any_moment
-returns-in-Ok-clause-any_moment g c = λ yes s told.
-    (c.in-Ok.ensures.carries (started c.args.now s) (does_next c.args.self.now s told c.args.now
-    (c.start_looks_at_no_bytes.ensures.start (bytes_of c.args.self.now) c.args.now (content_of c.args.self.now)) c.in-Ok-Some.plan
-    (next_is c.args.now (content_of c.args.self.now) c.in-Ok-Some.plan (sym c.in-Ok-Some.field-0-is ∙ c.in-Ok-Some.ensures)))).any_moment yes s told
 
 pub returns-in-Ok-None-clause-bare : goal.returns-in-Ok-None-clause-bare
 returns-in-Ok-None-clause-bare g c = bare_none c.args.now (content_of c.args.self.now)
@@ -200,15 +152,3 @@ returns-in-Ok-clause-short g c = λ was went.
     let same = started_bare now host (c.start_looks_at_no_bytes.ensures.start (λ _. []) now host) next.done next.picked in
     c.in-Ok.ensures.short (map_stepped (λ _. []) next.done) (does next.done plan next.is (λ _. [])) was
     (subst (λ (x : Stepped (List ℕ)). AreShort (map shown x.outputs)) same went)
-
-pub returns-in-Err-carry_out-clause-later : goal.returns-in-Err-carry_out-clause-later
-returns-in-Err-carry_out-clause-later g c = c.carry_out.ensures.stops.later
-
-pub returns-in-Err-carry_out-clause-fuse : goal.returns-in-Err-carry_out-clause-fuse
-returns-in-Err-carry_out-clause-fuse g c = c.carry_out.ensures.stops.fuse
-
-pub returns-in-Ok-clause-later : goal.returns-in-Ok-clause-later
-returns-in-Ok-clause-later g c = c.carry_out.ensures.stops.later
-
-pub returns-in-Ok-clause-fuse : goal.returns-in-Ok-clause-fuse
-returns-in-Ok-clause-fuse g c = c.carry_out.ensures.stops.fuse

@@ -1,13 +1,16 @@
-use Rattle.std.proofs.Common.{ℕ, List, [], map, refl, subst}
-use Rattle.std.proofs.lemmas.Result.{on_ok_weaker}
+use Rattle.std.proofs.Common.{◌≡◌, ℕ, List, [], map, refl, sym, ap, subst, ◌∙◌}
+use Rattle.std.proofs.lemmas.Result.{on_ok_weaker, IfOk-weaker}
 use Rattle.nqs_rules.specs.Step.{step}
 use Rattle.nqs_rules.specs.Stepped.{Stepped, map_stepped, shown}
-use Rattle.nqs_node.specs.Nodes.{history_of, active_of, content_of, bytes_of}
+use Rattle.nqs_types.specs.declared.event.Plan.{Plan}
+use Rattle.nqs_node.specs.Nodes.{content_of, bytes_of, bare}
 use Rattle.nqs_node.specs.Reading.{AreShort}
 use Rattle.nqs_back.proofs.Plans.{bare_step, alike_step, no_more_left, none_back}
-use Rattle.nqs_node.proofs.Performing.{still_broken_off}
+use Rattle.nqs_node.specs.declared.fault.NodeFault.TheVariants as node
+use Rattle.nqs_node.proofs.Places.{node_memory, node_stopped}
+use Rattle.nqs_node.proofs.Still.{stops_still, carries_still}
 use Rattle.nqs_node.proofs.Planning.{may_be_done, does}
-use Rattle.nqs_node.proofs.Telling.{one_still, done_here}
+use Rattle.nqs_node.proofs.Telling.{done_here}
 use Rattle.nqs_node.proofs.node.Node.take.Goals as goal
 
 pub carry_out-requires-clause-may : goal.carry_out-requires-clause-may
@@ -20,55 +23,26 @@ carry_out-requires-clause-may g c =
     (c.few_offers_are_taken_back.ensures.step e host order sane) (c.stored_bytes_are_short.ensures.step e host order sane)
     (c.outputs_read_live_extents.ensures.step e host order)
 
-pub returns-in-Err-clause-broken_off : goal.returns-in-Err-clause-broken_off
-returns-in-Err-clause-broken_off g c = λ yes s told. still_broken_off (active_of c.args.self.now) (history_of c.args.self.now) (history_of c.args.self.now)
-    (λ which. refl)
-    (step c.args.event.now s).change
+pub returns-then-self-clause-stops : goal.returns-then-self-clause-stops
+returns-then-self-clause-stops g c = stops_still c.args.self.now node.Stopped node_stopped
 
-pub returns-in-Err-clause-any_moment : goal.returns-in-Err-clause-any_moment
-returns-in-Err-clause-any_moment g c = λ yes s told. one_still c.args.self.now s told yes (step c.args.event.now s).change
+pub returns-then-self-clause-carries : goal.returns-then-self-clause-carries
+returns-then-self-clause-carries g c = λ s told. carries_still c.args.self.now node.Stopped node_stopped _ _ (step c.args.event.now s)
 
-pub returns-in-Ok-clause-told : goal.returns-in-Ok-clause-told
-returns-in-Ok-clause-told g c = λ yes s told.
-    (c.carry_out.ensures.carries (step c.args.event.now s) (done_here c.args.self.now s told (step c.args.event.now)
+pub returns-in-Err-clause-stops : goal.returns-in-Err-clause-stops
+returns-in-Err-clause-stops g c = stops_still c.args.self.now _ (node_memory c.in-Err.memory)
+
+pub returns-in-Err-clause-carries : goal.returns-in-Err-clause-carries
+returns-in-Err-clause-carries g c = λ s told. carries_still c.args.self.now _ (node_memory c.in-Err.memory) _ _ (step c.args.event.now s)
+
+pub returns-in-Ok-clause-stops : goal.returns-in-Ok-clause-stops
+returns-in-Ok-clause-stops g c = c.carry_out.ensures.stops
+
+pub returns-in-Ok-clause-carries : goal.returns-in-Ok-clause-carries
+returns-in-Ok-clause-carries g c = λ s told.
+    c.carry_out.ensures.carries (step c.args.event.now s) (done_here c.args.self.now s told (step c.args.event.now)
     (step c.args.event.now (content_of c.args.self.now)) c.in-Ok.plan c.in-Ok.ensures
-    (c.step_looks_at_no_bytes.ensures (bytes_of c.args.self.now) c.args.event.now (content_of c.args.self.now)))).told yes s told
-
-pub returns-in-Ok-clause-outputs : goal.returns-in-Ok-clause-outputs
-returns-in-Ok-clause-outputs g c = λ yes s told.
-    (c.carry_out.ensures.carries (step c.args.event.now s) (done_here c.args.self.now s told (step c.args.event.now)
-    (step c.args.event.now (content_of c.args.self.now)) c.in-Ok.plan c.in-Ok.ensures
-    (c.step_looks_at_no_bytes.ensures (bytes_of c.args.self.now) c.args.event.now (content_of c.args.self.now)))).outputs yes s told
-
-pub returns-in-Ok-clause-made : goal.returns-in-Ok-clause-made
-returns-in-Ok-clause-made g c = λ yes s told.
-    (c.carry_out.ensures.carries (step c.args.event.now s) (done_here c.args.self.now s told (step c.args.event.now)
-    (step c.args.event.now (content_of c.args.self.now)) c.in-Ok.plan c.in-Ok.ensures
-    (c.step_looks_at_no_bytes.ensures (bytes_of c.args.self.now) c.args.event.now (content_of c.args.self.now)))).made yes
-
-pub returns-in-Ok-clause-active : goal.returns-in-Ok-clause-active
-returns-in-Ok-clause-active g c = λ yes s told.
-    (c.carry_out.ensures.carries (step c.args.event.now s) (done_here c.args.self.now s told (step c.args.event.now)
-    (step c.args.event.now (content_of c.args.self.now)) c.in-Ok.plan c.in-Ok.ensures
-    (c.step_looks_at_no_bytes.ensures (bytes_of c.args.self.now) c.args.event.now (content_of c.args.self.now)))).active
-
-pub returns-in-Ok-clause-broken_off : goal.returns-in-Ok-clause-broken_off
-returns-in-Ok-clause-broken_off g c = λ yes s told.
-    (c.carry_out.ensures.carries (step c.args.event.now s) (done_here c.args.self.now s told (step c.args.event.now)
-    (step c.args.event.now (content_of c.args.self.now)) c.in-Ok.plan c.in-Ok.ensures
-    (c.step_looks_at_no_bytes.ensures (bytes_of c.args.self.now) c.args.event.now (content_of c.args.self.now)))).broken_off yes
-
-pub returns-in-Ok-clause-cut : goal.returns-in-Ok-clause-cut
-returns-in-Ok-clause-cut g c = λ yes s told which failed.
-    (c.carry_out.ensures.carries (step c.args.event.now s) (done_here c.args.self.now s told (step c.args.event.now)
-    (step c.args.event.now (content_of c.args.self.now)) c.in-Ok.plan c.in-Ok.ensures
-    (c.step_looks_at_no_bytes.ensures (bytes_of c.args.self.now) c.args.event.now (content_of c.args.self.now)))).cut yes s told which failed
-
-pub returns-in-Ok-clause-any_moment : goal.returns-in-Ok-clause-any_moment
-returns-in-Ok-clause-any_moment g c = λ yes s told.
-    (c.carry_out.ensures.carries (step c.args.event.now s) (done_here c.args.self.now s told (step c.args.event.now)
-    (step c.args.event.now (content_of c.args.self.now)) c.in-Ok.plan c.in-Ok.ensures
-    (c.step_looks_at_no_bytes.ensures (bytes_of c.args.self.now) c.args.event.now (content_of c.args.self.now)))).any_moment yes s told
+    (c.step_looks_at_no_bytes.ensures (bytes_of c.args.self.now) c.args.event.now (content_of c.args.self.now)))
 
 pub returns-in-Ok-clause-bare : goal.returns-in-Ok-clause-bare
 returns-in-Ok-clause-bare g c =
@@ -82,6 +56,13 @@ returns-in-Ok-clause-alike g c =
     (step c.args.event.now (content_of c.args.self.now)) c.in-Ok.plan c.in-Ok.ensures
     (c.step_looks_at_no_bytes.ensures (λ _. []) c.args.event.now (content_of c.args.self.now)) c.args.out.now.items c.carry_out.new.out.items)
     c.carry_out.ensures.alike
+
+pub returns-in-Ok-clause-halts : goal.returns-in-Ok-clause-halts
+returns-in-Ok-clause-halts g c =
+    IfOk-weaker c.carry_out.result (λ halts. halts ≡ c.in-Ok.plan.halts) (λ halts. halts ≡ (step c.args.event.now (bare c.args.self.now)).halts)
+    (λ halts is. is ∙ ap (λ (p : Plan). p.halts) c.in-Ok.ensures
+    ∙ sym (ap (λ (x : Stepped (List ℕ)). x.halts) (c.step_looks_at_no_bytes.ensures (λ _. []) c.args.event.now (content_of c.args.self.now))))
+    c.carry_out.ensures.halts
 
 pub returns-in-Ok-clause-no_more : goal.returns-in-Ok-clause-no_more
 returns-in-Ok-clause-no_more g c = λ back.
@@ -105,15 +86,3 @@ returns-in-Ok-clause-short g c = λ was went.
     let same = c.step_looks_at_no_bytes.ensures (λ _. []) e host in
     c.carry_out.ensures.short (map_stepped (λ _. []) (step e host)) (does (step e host) c.in-Ok.plan c.in-Ok.ensures (λ _. [])) was
     (subst (λ (x : Stepped (List ℕ)). AreShort (map shown x.outputs)) same went)
-
-pub returns-in-Ok-clause-running : goal.returns-in-Ok-clause-running
-returns-in-Ok-clause-running g c = c.carry_out.ensures.stops.running
-
-pub returns-in-Ok-clause-broken : goal.returns-in-Ok-clause-broken
-returns-in-Ok-clause-broken g c = c.carry_out.ensures.stops.broken
-
-pub returns-in-Ok-clause-later : goal.returns-in-Ok-clause-later
-returns-in-Ok-clause-later g c = c.carry_out.ensures.stops.later
-
-pub returns-in-Ok-clause-fuse : goal.returns-in-Ok-clause-fuse
-returns-in-Ok-clause-fuse g c = c.carry_out.ensures.stops.fuse
