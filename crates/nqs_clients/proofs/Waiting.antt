@@ -8,6 +8,7 @@ use Rattle.std.proofs.lemmas.List.{append-nil, replicate-append-replicate}
 use Rattle.std.proofs.lemmas.List.Folds.{list_any-append}
 use Rattle.nqs_outside.specs.Asked.{Arrival, Packet}
 use Rattle.nqs_outside.specs.Causes.{Rose}
+use Rattle.nqs_outside.proofs.Roses.{rose_since}
 use Rattle.nqs_outside.specs.Told.{Extends}
 use Rattle.nqs_outside.proofs.Told.{extends_none, extends_then, extends_same}
 use Rattle.nqs_clients.specs.Datagrams.{Receives, StopsFor}
@@ -86,12 +87,9 @@ stops_later {A} before mid now (Ok answer) first then = omega (arith, first, the
 stops_later {A} before mid now (Err stop.Fault) first then = omega (arith, first, then.0)
 stops_later {A} before mid now (Err (stop.Memory memory)) first then = omega (arith, first, then)
 
-pub rose_later : (before mid now : ℕ) → before ≤ mid → Rose mid now → Rose before now
-rose_later before mid now first then = grind (arith, first, then)
-
 pub stops_then : {A : Type 0} (before mid now : ℕ) (result : Result A WaitStop) → before ≤ mid → StopsFor mid now result → StopsFor before now result
 stops_then {A} before mid now (Ok answer) first then = omega (arith, first, then)
-stops_then {A} before mid now (Err stop.Fault) first then = (omega (arith, first, then.0), rose_later before mid now first then.1)
+stops_then {A} before mid now (Err stop.Fault) first then = (omega (arith, first, then.0), rose_since before mid now first then.1)
 stops_then {A} before mid now (Err (stop.Memory memory)) first then = omega (arith, first, then)
 
 pub fault_of : (before now : ℕ) (why : WaitStop) → StopsFor {A = Bool} before now (Err why) → stopped why ≡ WireFault → Rose before now

@@ -1,12 +1,12 @@
 -- What of a change that fits a host in order stands in a record since it is found there: hosts and requests. And paths.
-use Rattle.std.proofs.Common.{◌≡◌, ℕ, zero, suc, ◌<◌, Bool, true, not, ◌==◌, nat_le, nat_lt, IsTrue, List, [], ◌∷◌, map, find, length, slice_index, Option}
+use Rattle.std.proofs.Common.{◌≡◌, ℕ, Bool, true, nat_le, IsTrue, List, [], ◌∷◌, map, find, length, Option}
 use Rattle.std.proofs.Common.{None, Some, is_ok, true≢false, refl, sym, subst, arith}
-use Rattle.std.proofs.lemmas.Bool.{and_parts, and_from, leb-true, le-leb, ltb-true, lt-ltb, not-true}
+use Rattle.std.proofs.lemmas.Bool.{and_parts, leb-true, ltb-true, lt-ltb}
 use Rattle.std.specs.List.{list_all, AllByRecursion}
 use Rattle.nqs_types.specs.Ids.{id_exact, peer_number_eq, peer_number_exact, hand_key, promise_key, stage_key}
 use Rattle.nqs_state.specs.Keys.{is_row, is_promise, is_stage}
 use Rattle.nqs_base_tables.specs.Table.{has_key}
-use Rattle.nqs_base.specs.Path.{is_visible, PathAllowedBelow, has_parent, begins_with_slash, IsPath, is_path}
+use Rattle.nqs_base.specs.Path.{is_path}
 use Rattle.nqs_state.specs.State.{State}
 use Rattle.nqs_base.specs.declared.extent.Extent.{Extent}
 use Rattle.nqs_types.specs.declared.ids.HostId.{HostId}
@@ -25,46 +25,22 @@ use Rattle.nqs_rules.specs.Fits.{is_site_host, row_passes, hand_passes, is_offer
 use Rattle.nqs_rules.specs.InOrder.{IsInOrder, is_row_right, is_hand_given, is_hand_right, is_promise_open, is_promise_right, is_stage_given, is_stage_right}
 use Rattle.nqs_rules.specs.Sane.{is_sane_id, has_path}
 use Rattle.nqs_rules.specs.Stepped.{part_bytes}
-use Rattle.nqs_rules.proofs.Chains.{each}
 use Rattle.nqs_rules.proofs.KeyFacts.{found_any}
+use Rattle.nqs_rules.proofs.PathStands.{path_stands}
 use Rattle.nqs_rules.proofs.ListFacts.{found_passes, list_all-found}
 use Rattle.nqs_rules.proofs.RowFacts.{row_is, promise_is}
 use Rattle.nqs_rules.proofs.RowsOrder.{hand_is}
 use Rattle.nqs_rules.proofs.StateFacts.{sites_are}
-use Rattle.nqs_records.specs.Values.{is_seq, is_at_most, IsU8, IsHost, IsId, IsExtent, IsPart, IsHand}
+use Rattle.nqs_records.specs.Values.{is_seq, IsU8, IsHost, IsId, IsExtent, IsPart, IsHand}
 use Rattle.nqs_host_laws.specs.Offers.{HasNumber}
 use Rattle.nqs_host_laws.proofs.FewHands.{known_below}
 
 -- numbers
 
-pub starts_few : (n : ℕ) → nat_lt n 65535 ≡ true → IsTrue (is_at_most 65534 n)
-starts_few n h = let less = ltb-true n 65535 h in le-leb n 65534 (omega (arith, less))
-
 pub counts_few : (n : ℕ) → nat_le n 255 ≡ true → IsU8 n
 counts_few n h = let few = leb-true n 255 h in omega (arith, few)
 
 -- paths
-
-seen_at : (bs : List ℕ) → list_all is_visible bs ≡ true → (i : ℕ) → i < length bs → is_visible (slice_index bs i) ≡ true
-seen_at [] all i less = absurd (omega arith)
-seen_at (b ∷ bs) all zero less = (and_parts (is_visible b) (list_all is_visible bs) all).0
-seen_at (b ∷ bs) all (suc i) less = seen_at bs (and_parts (is_visible b) (list_all is_visible bs) all).1 i (omega (arith, less))
-
-allowed_below : (p : List ℕ) → list_all is_visible p ≡ true → not (begins_with_slash p) ≡ true → PathAllowedBelow p (length p)
-allowed_below [] all first i less = absurd (omega arith)
-allowed_below (b ∷ bs) all first zero less = and_from (is_visible b) (not (b == 47)) (seen_at (b ∷ bs) all 0 less) first
-allowed_below (b ∷ bs) all first (suc i) less = seen_at (b ∷ bs) all (suc i) less
-
-pub path_stands : (p : List ℕ) → is_path p ≡ true → IsPath p
-path_stands p h =
-    let k = each (nat_le 1 (length p)) (nat_le (length p) 255 ∷ list_all is_visible p ∷ not (begins_with_slash p) ∷ not (has_parent p) ∷ []) h in
-    record {
-      some = leb-true 1 (length p) k.0;
-      few = leb-true (length p) 255 k.1.0;
-      allowed = allowed_below p k.1.1.0 k.1.1.1.0;
-      below =
-          not-true (has_parent p) k.1.1.1.1.0;
-    }
 
 pub parts_stand : (parts : List (OutPart Extent)) → list_all has_path parts ≡ true → AllByRecursion IsExtent (map part_bytes parts)
     → AllByRecursion IsPart parts

@@ -23,7 +23,7 @@ use Rattle.nqs_rules.specs.Notes.{Why, ByEvent, ByStart, ByBoot, Saw, Kept, saws
 use Rattle.nqs_rules.specs.World.{World, Host, Ran, Made, Act, Asks, Ends, Finishes, Fails, Writes, Leaves, Delivers, Newest}
 use Rattle.nqs_rules.specs.World.{Ticks, Clock, Fuse, Crashes, Boots, Shows, host_of, ready, no_fuses, no_calls, then_noted, then_ran, seen_output, sent_by}
 use Rattle.nqs_rules.specs.World.{put_host, seeing, unseen, stopped, used, emits, change_fated, makes_change, carries_out, steps, starts, all_starts, left_of}
-use Rattle.nqs_rules.specs.World.{shuts_down, halted_host, halts, takes_up, taken_by, takes, finishes, finishes_up, delivers, packet_at, last_of}
+use Rattle.nqs_rules.specs.World.{halted_host, halts, takes_up, taken_by, takes, finishes, finishes_up, delivers, packet_at, last_of}
 use Rattle.nqs_rules.specs.World.{newest_between}
 use Rattle.nqs_rules.specs.World.{boot_output, boots_down, boots, crashes_up, runs_now, is_less_row, is_between}
 use Rattle.nqs_rules.specs.Measure.{starts_left}
@@ -232,11 +232,11 @@ event_alike i e g h p w v k =
     let stepped : AreRunsAlike (steps i g (ByEvent e) (step e g.state) w) (steps i h (ByEvent e) (step e h.state) v) =
     subst (λ s. AreRunsAlike (steps i g (ByEvent e) (step e g.state) w) (steps i h (ByEvent e) (step e s) v)) states
     (steps_alike i g h p (ByEvent e) (step e g.state) w v k) in
-    subst (λ s. AreRunsAlike (takes_up i g e w) (then_ran (then_ran (steps i h (ByEvent e) (step e h.state) v) (all_starts i)) (halts (shuts_down e s) i)))
+    subst (λ s. AreRunsAlike (takes_up i g e w) (then_ran (then_ran (steps i h (ByEvent e) (step e h.state) v) (all_starts i)) (halts (step e s).halts i)))
     states (then_alike (then_ran (steps i g (ByEvent e) (step e g.state) w) (all_starts i)) (then_ran (steps i h (ByEvent e) (step e h.state) v) (all_starts i))
-    (halts (shuts_down e g.state) i) (halts (shuts_down e g.state) i)
+    (halts (step e g.state).halts i) (halts (step e g.state).halts i)
     (then_alike (steps i g (ByEvent e) (step e g.state) w) (steps i h (ByEvent e) (step e h.state) v) (all_starts i) (all_starts i) stepped
-    (all_starts_alike i)) (halts_alike (shuts_down e g.state) i))
+    (all_starts_alike i)) (halts_alike (step e g.state).halts i))
 
 taken_alike : (i : HostId) (f k : Host → World → Ran) → ((g h : Host) → AreAlike g h → (w v : World) → AreWorldsAlike w v → AreRunsAlike (f g w) (k h v))
     → (w v : World) → AreWorldsAlike w v → AreRunsAlike (taken_by (host_of i w) i f w) (taken_by (host_of i v) i k v)

@@ -29,6 +29,7 @@ use Rattle.nqs_laws.proofs.After.{Request}
 use Rattle.nqs_laws.proofs.Pair.{Offer, NoOffer, Open, Given}
 use Rattle.nqs_laws.proofs.Views.{Pledging, offered, promise_of, IsLone, host_exact, host_same}
 use Rattle.nqs_laws.proofs.Paired.{At, given_offer, committed_hand}
+use Rattle.nqs_laws.proofs.Spoken.{all-both}
 use Rattle.nqs_laws.proofs.Tabled.{Place, Nowhere, Sits, Arrives, Table, IsTabled, IsPlaced, row_in, claim_in, claim, sits_here, arrives_here, row_of_sits}
 use Rattle.nqs_laws.proofs.Tabled.{claim_of_arrives}
 
@@ -51,10 +52,6 @@ every P (v ∷ vs) f = (f 0 v refl, every P vs (λ i w at. f (suc i) w at))
 every_map : {V W : Type 0} (P : W → Type 0) (g : V → W) (vs : List V) → AllByRecursion (λ v. P (g v)) vs → AllByRecursion P (map g vs)
 every_map P g [] all = tt
 every_map P g (v ∷ vs) all = (all.0, every_map P g vs all.1)
-
-every_both : {V : Type 0} (P : V → Type 0) (a b : List V) → AllByRecursion P a → AllByRecursion P b → AllByRecursion P (a ++ b)
-every_both P [] b p q = q
-every_both P (x ∷ a) b p q = (p.0, every_both P a b p.1 q)
 
 every_kept : {V : Type 0} (P : V → Type 0) (keep : V → Bool) (vs : List V) → ((i : ℕ) (v : V) → slice_get vs i ≡ Some v → keep v ≡ true → P v)
     → AllByRecursion P (filter keep vs)
@@ -126,7 +123,7 @@ module _ (states : List Plain) (table : Table) (told : IsTabled states table) (o
         mapped (p ∷ ps) all = ((ap entry_at all.0, ap host_of_place all.0), mapped ps all.1)
 
     pub host_entries : AllByRecursion IsOf (entries_at states h s)
-    host_entries = every_both IsOf (map (row_entry h) s.rows) (map (promise_entry h) (arriving states h s)) rows_of promises_of
+    host_entries = all-both IsOf (map (row_entry h) s.rows) (map (promise_entry h) (arriving states h s)) rows_of promises_of
 
     -- no two of one request
 
@@ -220,8 +217,8 @@ module _ (states : List Plain) (table : Table) (told : IsTabled states table) (o
       let es = entries_at states h s in
       let fs = entries_from (place + 1) states rest in
       record {
-        right = every_both IsEntry es fs (weaker (λ (e : Entry). IsEntry e × (host_of_place (table e.id) ≡ place)) IsEntry (λ e k. k.0) es own) later.right;
-        behind = λ n below. every_both (λ (e : Entry). n < host_of_place (table e.id)) es fs
+        right = all-both IsEntry es fs (weaker (λ (e : Entry). IsEntry e × (host_of_place (table e.id) ≡ place)) IsEntry (λ e k. k.0) es own) later.right;
+        behind = λ n below. all-both (λ (e : Entry). n < host_of_place (table e.id)) es fs
             (weaker (λ (e : Entry). IsEntry e × (host_of_place (table e.id) ≡ place)) (λ (e : Entry). n < host_of_place (table e.id))
             (λ e k. (let f = k.1 in omega (arith, f, below))) es own) (later.behind n (omega arith));
         distinct = ap (are_distinct id_eq) (map-append (λ (e : Entry). e.id) es fs)

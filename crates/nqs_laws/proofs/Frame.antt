@@ -18,7 +18,7 @@ use Rattle.nqs_rules.specs.Stepped.{Stepped, shown, stored_parts}
 use Rattle.nqs_rules.specs.World.{World, Host, Ran, Fate, Made, StoppedBefore, StoppedAfter, Act, Asks, Ends, Finishes, Fails, Writes, Leaves, Delivers, Newest}
 use Rattle.nqs_rules.specs.World.{Ticks, Clock, Fuse, Crashes, Boots, Shows, fate, host_of, put_host, then_noted, then_ran, seeing, unseen, stopped, used}
 use Rattle.nqs_rules.specs.World.{ready, cut_off, recorded}
-use Rattle.nqs_rules.specs.World.{seen_output, sent_by, emits, change_fated, makes_change, carries_out, steps, starts, all_starts, left_of, shuts_down}
+use Rattle.nqs_rules.specs.World.{seen_output, sent_by, emits, change_fated, makes_change, carries_out, steps, starts, all_starts, left_of}
 use Rattle.nqs_rules.specs.World.{halted_host, halts, takes_up}
 use Rattle.nqs_rules.specs.World.{taken_by, takes, finishes, finishes_up, delivers, packet_at, last_of, is_between, newest_between, boot_output, boots_down}
 use Rattle.nqs_rules.specs.World.{boots, crashes_up, runs_now, is_less_row, fused_host, fuses}
@@ -384,7 +384,7 @@ module _ (P : Moment → Type 0) (f : Steps P) where
       let r : Ran = steps h host (ByEvent e) (step e host.state) w in
       let u : Ran = then_ran r (all_starts h) in
       let started : Then ns u = parts ns r (all_starts h) (all_starts_kept h r.world (ns ++ r.notes) (step_kept w ns h host there e comes p)) in
-      parts ns u (halts (shuts_down e host.state) h) (halts_kept (shuts_down e host.state) h u.world (ns ++ u.notes) started)
+      parts ns u (halts (step e host.state).halts h) (halts_kept (step e host.state).halts h u.world (ns ++ u.notes) started)
 
   -- a host that is down takes nothing
   taken_kept : (w : World) (ns : List Note) (h : HostId) (g : Host → World → Ran) → After w ns

@@ -25,7 +25,7 @@ use Rattle.nqs_rules.specs.Notes.{Why, ByEvent, ByStart, ByBoot}
 use Rattle.nqs_rules.specs.World.{World, Host, Ran, Fate, Made, StoppedBefore, StoppedAfter, Act, Asks, Ends, Finishes, Fails, Writes, Leaves, Delivers, Newest}
 use Rattle.nqs_rules.specs.World.{Ticks, Clock, Fuse, Crashes, Boots, Shows, fate, host_of, ready, cut_off, recorded, fused_host}
 use Rattle.nqs_rules.specs.World.{put_host, seeing, unseen, stopped, used, emits, change_fated, makes_change, carries_out, steps, starts, all_starts, left_of}
-use Rattle.nqs_rules.specs.World.{shuts_down, halted_host, halts, takes_up, taken_by, takes, finishes, finishes_up, delivers, packet_at, newest_between}
+use Rattle.nqs_rules.specs.World.{halted_host, halts, takes_up, taken_by, takes, finishes, finishes_up, delivers, packet_at, newest_between}
 use Rattle.nqs_rules.specs.World.{boot_output, boots_down, boots, crashes_up, runs_now, is_less_row}
 use Rattle.nqs_rules.specs.Run.{happens, run}
 use Rattle.nqs_laws.proofs.Frame.{emits_world}
@@ -106,7 +106,7 @@ module _ (P : Host → Type 0) (f : HostFrames P) where
   event_all : (i : HostId) (host : Host) (e : Event) (w : World) → P host → All w → All (takes_up i host e w).world
   event_all i host e w p all =
       let v : World = (steps i host (ByEvent e) (step e host.state) w).world in
-      halts_all (shuts_down e host.state) i (all_starts i v).world (every_start_all i v (steps_all i host (ByEvent e) (step e host.state) w p all))
+      halts_all (step e host.state).halts i (all_starts i v).world (every_start_all i v (steps_all i host (ByEvent e) (step e host.state) w p all))
 
   taken_all : (i : HostId) (g : Host → World → Ran) → ((host : Host) (w : World) → P host → All w → All (g host w).world) → (w : World) → All w
       → All (taken_by (host_of i w) i g w).world

@@ -25,8 +25,9 @@ use Rattle.nqs_rules.specs.World.{World, Host, Ran, Fate, Made, StoppedBefore, S
 use Rattle.nqs_rules.specs.World.{Ticks, Clock, Fuse, Crashes, Boots, Shows, no_fuses, fate, host_of}
 use Rattle.nqs_rules.specs.World.{ready, cut_off, recorded}
 use Rattle.nqs_rules.specs.World.{put_host, seeing, unseen, stopped, used, emits, change_fated, makes_change, carries_out, steps, starts, all_starts, left_of}
-use Rattle.nqs_rules.specs.World.{shuts_down, halted_host, halts, takes_up, taken_by, takes, finishes, finishes_up, delivers, packet_at, newest_between}
+use Rattle.nqs_rules.specs.World.{halted_host, halts, takes_up, taken_by, takes, finishes, finishes_up, delivers, packet_at, newest_between}
 use Rattle.nqs_rules.specs.World.{boot_output, boots_down, boots, crashes_up, runs_now, is_less_row, fused_host}
+use Rattle.nqs_rules.proofs.StepHalts.{step-halts}
 use Rattle.nqs_rules.proofs.PeersOrder.{get-other}
 use Rattle.nqs_laws.specs.Whole.{after, IsSafe, taker, receiver}
 use Rattle.nqs_laws.proofs.Frame.{emits_world}
@@ -94,7 +95,7 @@ module _ (g h : HostId) (apart : g ≡ h → ⊥) where
   event_other : (host : Host) (e : Event) (w : World) → host_of h (takes_up g host e w).world ≡ host_of h w
   event_other host e w =
       let v : World = (steps g host (ByEvent e) (step e host.state) w).world in
-      halts_other (shuts_down e host.state) (all_starts g v).world ∙ (all_starts_other v ∙ steps_other host (ByEvent e) (step e host.state) w)
+      halts_other (step e host.state).halts (all_starts g v).world ∙ (all_starts_other v ∙ steps_other host (ByEvent e) (step e host.state) w)
 
   taken_other : (f : Host → World → Ran) → ((host : Host) (w : World) → host_of h (f host w).world ≡ host_of h w) → (o : Option Host) (w : World)
       → host_of h (taken_by o g f w).world ≡ host_of h w
@@ -189,7 +190,7 @@ module _ (h : HostId) where
       of None there rest = k
       of (Some host) there rest = by host there host.up (start w.now host.state) rest
 
-  takes_safe : (e : Event) → ((s : Plain) → shuts_down e s ≡ false) → (w : World) → IsSafe h w → IsSafe h (takes h e w).world
+  takes_safe : (e : Event) → ((s : Plain) → (step e s).halts ≡ false) → (w : World) → IsSafe h w → IsSafe h (takes h e w).world
   takes_safe e open_still w k =
       subst (λ o. IsSafe h (taken_by o h (λ host. takes_up h host e) w).world) (sym k.there)
       (subst (λ b. IsSafe h (if b then takes_up h k.host e w else seeing (seen.Down h) w).world) (sym k.up)
@@ -200,7 +201,7 @@ module _ (h : HostId) where
       v = (steps h k.host (ByEvent e) (step e k.host.state) w).world
 
   -- whoever takes an event
-  any_safe : (g : HostId) (e : Event) → ((s : Plain) → shuts_down e s ≡ false) → (w : World) → IsSafe h w → IsSafe h (takes g e w).world
+  any_safe : (g : HostId) (e : Event) → ((s : Plain) → (step e s).halts ≡ false) → (w : World) → IsSafe h w → IsSafe h (takes g e w).world
   any_safe g e open_still w k = by (host_cases g h)
     where
       by : (g ≡ h) ⊎ (g ≡ h → ⊥) → IsSafe h (takes g e w).world
@@ -215,4 +216,4 @@ module _ (h : HostId) where
     where
       of : (o : Option Message) → IsSafe h (delivers (Some n) o w).world
       of None = k
-      of (Some m) = any_safe m.to (event.Arrived w.now m) (λ s. refl) w k
+      of (Some m) = any_safe m.to (event.Arrived w.now m) (step-halts (event.Arrived w.now m)) w k

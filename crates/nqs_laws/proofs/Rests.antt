@@ -13,7 +13,7 @@ use Rattle.nqs_rules.specs.Stepped.{Stepped, shown, stored_parts}
 use Rattle.nqs_rules.specs.Notes.{Why, ByEvent, ByStart}
 use Rattle.nqs_rules.specs.World.{World, Host, Fate, Made, StoppedBefore, StoppedAfter, fate, host_of, put_host, then_noted, seeing, unseen, stopped, used}
 use Rattle.nqs_rules.specs.World.{ready, cut_off, recorded}
-use Rattle.nqs_rules.specs.World.{emits, change_fated, makes_change, carries_out, steps, starts, all_starts, left_of, shuts_down, halted_host, halts, takes_up}
+use Rattle.nqs_rules.specs.World.{emits, change_fated, makes_change, carries_out, steps, starts, all_starts, left_of, halted_host, halts, takes_up}
 use Rattle.nqs_rules.proofs.ChangesOrder.{applied_order}
 use Rattle.nqs_rules.proofs.StartIs.{start_is}
 use Rattle.nqs_rules.proofs.Until.{steady, start_lowers}
@@ -199,7 +199,7 @@ event_rests h host e w there order =
     let s = step e host.state in
     let v : World = (steps h host (ByEvent e) s w).world in
     let u : World = (all_starts h v).world in
-    let b : Bool = shuts_down e host.state in
+    let b : Bool = (step e host.state).halts in
     subst (λ now. Rests h now (halts b h u).world) (sym (all_starts_now h v) ∙ sym (halts_now b h u))
     (halts_rest b h v.now u (all_starts_rest h v (carried h host w there IsInOrder (ByEvent e) s.change (map shown s.outputs) order)))
 

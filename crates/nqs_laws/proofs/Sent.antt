@@ -86,7 +86,7 @@ use Rattle.nqs_laws.proofs.Sides.{AreShort}
 
 -- small facts
 
-all-flat : {V W : Type 0} (p : V → Bool) (q : W → Bool) (g : V → List W) → ((v : V) → p v ≡ true → list_all q (g v) ≡ true) → (vs : List V)
+pub all-flat : {V W : Type 0} (p : V → Bool) (q : W → Bool) (g : V → List W) → ((v : V) → p v ≡ true → list_all q (g v) ≡ true) → (vs : List V)
     → list_all p vs ≡ true → list_all q (flat_map g vs) ≡ true
 all-flat p q g f [] h = refl
 all-flat p q g f (v ∷ vs) h = let k = and_parts (p v) (list_all p vs) h in
@@ -97,7 +97,7 @@ all-true [] = refl
 all-true (v ∷ vs) = all-true vs
 
 -- the best of a list passes what all pass
-best_passes : {V : Type 0} (p test : V → Bool) (beats : V → V → Bool) (n : ℕ) (vs : List V) → list_all p vs ≡ true
+pub best_passes : {V : Type 0} (p test : V → Bool) (beats : V → V → Bool) (n : ℕ) (vs : List V) → list_all p vs ≡ true
     → IfSome (best_from test beats n vs) (λ q. p q.1 ≡ true)
 best_passes p test beats n [] h = tt
 best_passes {V} p test beats n (v ∷ vs) h = let k = and_parts (p v) (list_all p vs) h in

@@ -127,7 +127,7 @@ local_true states pairs x s at local u v uat vat =
 
 -- small facts
 
-all-both : {V : Type 0} (P : V → Type 0) (a b : List V) → AllByRecursion P a → AllByRecursion P b → AllByRecursion P (a ++ b)
+pub all-both : {V : Type 0} (P : V → Type 0) (a b : List V) → AllByRecursion P a → AllByRecursion P b → AllByRecursion P (a ++ b)
 all-both P [] b p q = q
 all-both P (x ∷ a) b p q = (p.0, all-both P a b p.1 q)
 

@@ -1,7 +1,7 @@
 -- What two hosts have of one another, and what a change of one of them makes of it.
 use Rattle.std.proofs.Common.{◌≡◌, ℕ, ◌⊎◌, inl, inr, Bool, true, false, cond, not, ◌||◌, List, [], ◌∷◌, map, find, slice_get, Option, None, Some, true≢false}
 use Rattle.std.proofs.Common.{zero, suc, refl, sym, ap, ◌∙◌}
-use Rattle.std.proofs.lemmas.Bool.{and_parts, eqb-true, eq-eqb, not-true, false_from_ne_true}
+use Rattle.std.proofs.lemmas.Bool.{and_parts, eq-eqb, not-true, false_from_ne_true}
 use Rattle.std.proofs.lemmas.Option.{same_Some, none-some}
 use Rattle.std.specs.List.{list_any}
 use Rattle.nqs_types.specs.Ids.{peer_number_exact, hand_key, promise_key}
@@ -24,6 +24,7 @@ use Rattle.nqs_rules.specs.InOrder.{IsInOrder, are_distinct, is_routing_row, is_
 use Rattle.nqs_rules.proofs.Chains.{implied}
 use Rattle.nqs_rules.proofs.ListFacts.{found_passes, list_all-found}
 use Rattle.nqs_rules.proofs.RowsOrder.{hand_is}
+pub use Rattle.nqs_rules.proofs.PeersOrder.{same_host_exact as host_exact}
 use Rattle.nqs_laws.specs.Loads.{offered_load, kept_load}
 use Rattle.nqs_laws.proofs.RowTests.{PlainRow}
 use Rattle.nqs_laws.proofs.Pair.{Offer, NoOffer, Open, Given, Pledge, NoPledge, Pledged, Pair, Move, Stays, Offers, Withdraws, Commits, Finishes, Pledges}
@@ -134,9 +135,6 @@ target_pair a s b t t' Commits k = absurd k.is
 target_pair a s b t t' Finishes k = absurd k.is
 
 -- hosts
-
-pub host_exact : (a b : HostId) → same_host a b ≡ true → a ≡ b
-host_exact a b e = λ j. record { 0 = eqb-true a.0 b.0 e j }
 
 pub host_same : (a : HostId) → same_host a a ≡ true
 host_same a = eq-eqb a.0 a.0 refl

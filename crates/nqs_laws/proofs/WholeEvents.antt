@@ -19,7 +19,7 @@ use Rattle.nqs_rules.specs.Start.{start}
 use Rattle.nqs_rules.specs.Stepped.{Stepped, shown, stored_parts}
 use Rattle.nqs_rules.specs.World.{World, Host, Fate, Made, StoppedBefore, StoppedAfter, fate, host_of, put_host, then_noted, seeing, unseen, stopped, used}
 use Rattle.nqs_rules.specs.World.{ready, cut_off, recorded}
-use Rattle.nqs_rules.specs.World.{emits, change_fated, carries_out, steps, starts, all_starts, left_of, shuts_down, halts, takes_up, taken_by, takes, packet_at}
+use Rattle.nqs_rules.specs.World.{emits, change_fated, carries_out, steps, starts, all_starts, left_of, halts, takes_up, taken_by, takes, packet_at}
 use Rattle.nqs_types.specs.declared.world.Seen.TheVariants as seen
 use Rattle.nqs_rules.specs.Notes.{Why, Note, ByEvent, ByStart}
 use Rattle.nqs_laws.specs.Handovers.{IsStateOf}
@@ -66,7 +66,7 @@ module _ (h : HostId) (w : World) (host : Host) (there : host_of h w ≡ Some ho
       os = map shown x.outputs
 
       fated : (f : Fate) (c : Change (List ℕ)) → is_up h (change_fated f h host why c [] os w).world ≡ true
-          → Did w (change_fated f h host why c [] os w).world h host.state (record { change = Some c; outputs = x.outputs })
+          → Did w (change_fated f h host why c [] os w).world h host.state (record { change = Some c; outputs = x.outputs; halts = x.halts })
       fated Made c up =
           let new : Host = used (stored_parts c) (applied c host.state) host in
           let v : World = put_host h new w in
@@ -81,7 +81,7 @@ module _ (h : HostId) (w : World) (host : Host) (there : host_of h w ≡ Some ho
       fated StoppedAfter c up = absurd (down (applied c host.state) (recorded (ready host)) up)
 
       of : (o : Option (Change (List ℕ))) → is_up h (carries_out h host why o os w).world ≡ true
-          → Did w (carries_out h host why o os w).world h host.state (record { change = o; outputs = x.outputs })
+          → Did w (carries_out h host why o os w).world h host.state (record { change = o; outputs = x.outputs; halts = x.halts })
       of None up = record {
         packets = ap (λ (u : World). u.packets) (emits_world h os w);
         host = host;
@@ -209,7 +209,7 @@ pub record Took (site : List (List ℕ)) (w v : World) (h : HostId) (e : Event) 
   pub then_started : v ≡ (all_starts h stepped).world
 
 pub took : (site : List (List ℕ)) (w : World) (ns : List Note) → IsSound site (moment w ns) → (h : HostId) (e : Event) → Comes w.packets h e
-    → ((s : Plain) → shuts_down e s ≡ false) → is_up h (takes h e w).world ≡ true → Took site w (takes h e w).world h e
+    → ((s : Plain) → (step e s).halts ≡ false) → is_up h (takes h e w).world ≡ true → Took site w (takes h e w).world h e
 took site w ns sound h e comes open_still up = of (host_of h w) refl up
   where
     ended : (host : Host) → (b : Bool) → b ≡ false → (v : World) → (halts b h v).world ≡ v
@@ -221,7 +221,7 @@ took site w ns sound h e comes open_still up = of (host_of h w) refl up
         let x : Stepped (List ℕ) = step e host.state in
         let v : World = (steps h host (ByEvent e) x w).world in
         let after : (takes_up h host e w).world ≡ (all_starts h v).world =
-        ended host (shuts_down e host.state) (open_still host.state) (all_starts h v).world in
+        ended host (step e host.state).halts (open_still host.state) (all_starts h v).world in
         record {
           host = host;
           there = there;

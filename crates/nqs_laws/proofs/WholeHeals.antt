@@ -30,6 +30,7 @@ use Rattle.nqs_rules.specs.Stepped.{Stepped}
 use Rattle.nqs_rules.specs.World.{World, Act, Ticks, Delivers, new_world, takes, delivers, packet_at}
 use Rattle.nqs_rules.specs.Run.{run, states_of}
 use Rattle.nqs_rules.proofs.KeyFacts.{all_get}
+use Rattle.nqs_rules.proofs.StepHalts.{step-halts}
 use Rattle.nqs_rules.proofs.StartIs.{IsStart, StartsRow, start_is}
 use Rattle.nqs_rules.proofs.Until.{steady}
 use Rattle.nqs_laws.specs.History.{history}
@@ -52,7 +53,7 @@ begun_is : (P : Plain → Type 0) (s : Plain) → IsInOrder s → (now : ℕ) (x
     → ((r : _) (c : Change (List ℕ)) → StartsRow s r c → P (applied c s)) → P (after_step x s)
 begun_is P s order now x begun each =
     let k : IsStart s x = start_is now s x (steady s order) begun in
-    subst (λ o. P (after_step (record { change = o; outputs = x.outputs }) s)) (sym k.makes) (each k.row k.change k.starts)
+    subst (λ o. P (after_step (record { change = o; outputs = x.outputs; halts = x.halts }) s)) (sym k.makes) (each k.row k.change k.starts)
 
 no_promise_kept : (from : HostId) (n : ℕ) (s : Plain) → IsInOrder s → (now : ℕ) (x : Stepped (List ℕ)) → start now s ≡ Some x → has_promise from n s ≡ false
     → has_promise from n (after_step x s) ≡ false
@@ -138,7 +139,7 @@ module _ (site : List (List ℕ)) (few : IsSite site) where
   arrived w r k m at up =
       let same : after (Delivers k) w ≡ (takes m.to (event.Arrived w.now m) w).world = ap (λ o. (delivers (Some k) o w).world) at in
       subst (λ v. Took site w v m.to (event.Arrived w.now m)) (sym same)
-      (took site w (history r.acts (new_world site)) (sound w r) m.to (event.Arrived w.now m) (refl, packet_sent k w m at) (λ s. refl)
+      (took site w (history r.acts (new_world site)) (sound w r) m.to (event.Arrived w.now m) (refl, packet_sent k w m at) (step-halts (event.Arrived w.now m))
       (ap (is_up m.to) (sym same) ∙ up))
 
   here : (w v : World) (h : HostId) (e : Event) (k : Took site w v h e) → IsStateOf w h k.host.state

@@ -1,7 +1,8 @@
 -- Fronts of a text, counts that rose, and runs that lacked something.
-use Rattle.std.proofs.Common.{◌≡◌, ◌≤◌, ◌⊎◌, inl, inr, Err, ℕ, List, [], ◌++◌, take, drop, sym, ap, ◌∙◌, append_assoc, take-append-drop, arith}
+use Rattle.std.proofs.Common.{◌≡◌, ◌≤◌, ◌⊎◌, inl, inr, Err, ℕ, List, [], ◌++◌, take, drop, sym, ap, ◌∙◌, append_assoc, take-append-drop}
 use Rattle.std.proofs.lemmas.List.{append-nil}
 use Rattle.nqs_outside.specs.Causes.{Rose}
+use Rattle.nqs_outside.proofs.Roses.{rose_since}
 use Rattle.nqs_disk.specs.declared.lack.Lack.{Lack}
 use Rattle.nqs_disk.specs.declared.lack.Lack.TheVariants as lack
 use Rattle.nqs_rules.specs.World.{World as Network}
@@ -22,9 +23,6 @@ front_within whole before piece n front =
     let parted : before ++ piece ≡ (before ++ take n piece) ++ drop n piece = ap (λ (l : List ℕ). before ++ l) (sym (take-append-drop n piece))
     ∙ sym (append_assoc before (take n piece) (drop n piece)) in
     (drop n piece ++ front.0, front.1 ∙ ap (λ (l : List ℕ). l ++ front.0) parted ∙ append_assoc (before ++ take n piece) (drop n piece) front.0)
-
-rose_since : (a b c : ℕ) → a ≤ b → Rose b c → Rose a c
-rose_since a b c later rose = omega (arith, later, rose)
 
 -- what rose after a while rose since its beginning
 pub failed_since : (a b c x y z : ℕ) → a ≤ b → x ≤ y → Rose b c ⊎ Rose y z → Rose a c ⊎ Rose x z

@@ -5,3 +5,4 @@ pub mod Coherence
 pub mod Exact
 pub mod Known
 pub mod Told
+pub mod Roses

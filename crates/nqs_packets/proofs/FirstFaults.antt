@@ -3,7 +3,7 @@ use Rattle.std.proofs.Common.{◌≡◌, ◌≢◌, ℕ, ◌+◌, ◌<◌, Bool,
 use Rattle.std.proofs.Common.{length-append, ne_eqb, Ok, Err}
 use Rattle.std.specs.Prelude.{⊤}
 use Rattle.std.specs.declared.result.Result.{Result}
-use Rattle.std.proofs.lemmas.Bool.{eqb-true}
+use Rattle.std.proofs.lemmas.Bool.{eqb-true, ltb-true}
 use Rattle.std.proofs.lemmas.List.{length-drop}
 use Rattle.std.proofs.lemmas.Bool.Decides.{nat_tests}
 use Rattle.nqs_base.proofs.Plain.{lt_is_true}
@@ -14,7 +14,7 @@ use Rattle.nqs_records.specs.Reading.{◌>>=◌, Read, numbered}
 use Rattle.nqs_records.specs.Fields.{u8_at, number_at}
 use Rattle.nqs_records.specs.Parts.{host_at}
 use Rattle.nqs_records.specs.Changes.{AreBytes}
-use Rattle.nqs_records.proofs.Numbers.{below, u8_read}
+use Rattle.nqs_records.proofs.Numbers.{u8_read}
 use Rattle.nqs_packets.specs.declared.fault.PacketFault.{PacketFault}
 use Rattle.nqs_packets.specs.declared.fault.PacketFault.TheVariants as fault
 use Rattle.nqs_packets.specs.Bodies.{bodies, no_body}
@@ -135,7 +135,7 @@ rest_tells tail fits fields = by (message_at (1 ∷ tail) 1) refl fields
   where
     told : (v : Message × ℕ) → message_at (1 ∷ tail) 1 ≡ Ok v → (t : Bool) → nat_lt v.1 (length (1 ∷ tail)) ≡ t
         → Tells (1 ∷ tail) (or_packet_fault (cond t (Err (record_fault.Trailing v.1)) (Ok v.0)))
-    told v e true is = followed tail v.0 v.1 fits e (below v.1 (length (1 ∷ tail)) is)
+    told v e true is = followed tail v.0 v.1 fits e (ltb-true v.1 (length (1 ∷ tail)) is)
     told v e false is = tt
 
     by : (r : Read (Message × ℕ)) → message_at (1 ∷ tail) 1 ≡ r → IsField (1 ∷ tail) r

@@ -2,7 +2,7 @@
 use Rattle.std.proofs.Common.{◌≡◌, ℕ, zero, suc, ◌+◌, ◌<◌, ◌≤◌, ◌^◌, Bool, true, false, cond, nat_lt, nat_le, IsTrue, List, ◌++◌, length, take, drop, refl, sym}
 use Rattle.std.proofs.Common.{ap, ◌∙◌, subst, arith, length-append, take_at, length-take-le, Ok, Err}
 use Rattle.std.specs.Prelude.{⊤}
-use Rattle.std.proofs.lemmas.Bool.{and_parts}
+use Rattle.std.proofs.lemmas.Bool.{and_parts, ltb-false}
 use Rattle.std.proofs.lemmas.Bool.Decides.{nat_tests}
 use Rattle.nqs_types.specs.declared.message.Tool.{Tool}
 use Rattle.nqs_types.specs.declared.message.Tool.TheVariants.{Qsub, Qstat, Qdel, Qmgr, Tick}
@@ -15,7 +15,7 @@ use Rattle.nqs_records.specs.declared.fault.RecordFault.TheVariants.{BadField, S
 use Rattle.nqs_records.specs.Reading.{Reading, Read, mapped, within}
 use Rattle.nqs_records.specs.Values.{is_at_most}
 use Rattle.nqs_records.proofs.IsRead.{IsRead, bound}
-use Rattle.nqs_records.proofs.Numbers.{not_below, u8_read, u16_read, u32_read, u64_read}
+use Rattle.nqs_records.proofs.Numbers.{u8_read, u16_read, u32_read, u64_read}
 use Rattle.nqs_records.proofs.Chains.{Found, bind, same_Ok, both_read, within_read, counted_read}
 use Rattle.nqs_packets.specs.Parts.{is_number, number_at, cause_at, run_at, bytes_at, is_any, is_tool, tool_of, tool_at, is_word_count, words_at}
 use Rattle.nqs_packets.specs.Spelling.{tool_number, words_field}
@@ -86,7 +86,7 @@ run_read count = record {
   found = λ bytes place value next fits e.
       let rest = drop place bytes in
       let p = unread (nat_lt (length rest) count) (Short (length bytes)) (take count rest, place + count) (value, next) e in
-      let long = not_below (length rest) count p.0 in
+      let long = ltb-false (length rest) count p.0 in
       subst (Found (λ (l : List ℕ). length l ≡ count) (λ l. l) bytes place) p.1
       (length-take-le count rest long, part_stands bytes place count (take count rest) refl long);
   taken = λ bytes rest place value fits is_value is.

@@ -1,17 +1,16 @@
 -- What is read is sane for the rules, and what is sane may be sent.
-use Rattle.std.proofs.Common.{◌≡◌, ℕ, zero, suc, ◌<◌, ◌≤◌, ◌^◌, Bool, true, false, not, ◌&&◌, ◌==◌, nat_le, nat_lt, IsTrue, List, [], ◌∷◌, length, slice_index}
+use Rattle.std.proofs.Common.{◌≡◌, ℕ, ◌<◌, ◌^◌, true, ◌&&◌, ◌==◌, nat_le, nat_lt, List, length}
 use Rattle.std.proofs.Common.{refl, arith}
-use Rattle.std.specs.List.{list_all}
-use Rattle.std.proofs.lemmas.Bool.{and_parts, and_from}
-use Rattle.std.proofs.lemmas.Bool.Decides.{nat_tests}
-use Rattle.nqs_base.specs.Path.{IsPath, is_path, is_visible, has_parent, begins_with_slash, PathAllowedBelow}
+use Rattle.std.proofs.lemmas.Bool.{and_parts, and_from, leb-true}
+use Rattle.nqs_base.specs.Path.{is_path}
 use Rattle.nqs_types.specs.declared.request.Job.{Job}
 use Rattle.nqs_types.specs.declared.request.Carried.{Carried}
 use Rattle.nqs_types.specs.declared.message.Body.{Body}
 use Rattle.nqs_types.specs.declared.message.Body.TheVariants.{Offer, Ready, Refused, Commit, Done, Inquire, Abort, Stage, Staged, Ask, Answer, Ended, EndedAck}
 use Rattle.nqs_rules.specs.Sane.{is_of_site, is_offer_refusal, is_sane_id, is_sane_job, is_sane_carried, is_short_script, is_sane_body}
-use Rattle.nqs_records.specs.Values.{is_at_most, IsJob, IsCarried, IsHost}
-use Rattle.nqs_records.proofs.SaneLaws.{path_sane, carried_sane}
+use Rattle.nqs_records.specs.Values.{IsJob, IsCarried, IsHost}
+use Rattle.nqs_rules.proofs.PathStands.{path_stands}
+use Rattle.nqs_records.proofs.SaneLaws.{starts_few, path_sane, carried_sane}
 use Rattle.nqs_packets.specs.Values.{IsShort, IsBody}
 use Rattle.nqs_packets.specs.Messages.{offers_of_site, WhatIsReadIsSane, is_short_body, WhatIsReadIsShort, IsTypedJob, IsSaid, WhatIsSaneMaySend}
 use Rattle.nqs_packets.proofs.Spelled.{is_spelled}
@@ -56,47 +55,14 @@ what_is_read_is_short bytes m fits is = body_short m.body (is_spelled bytes m fi
 
 -- ---- the other way
 
-all_seen : (bs : List ℕ) → list_all is_visible bs ≡ true → (i : ℕ) → i < length bs → IsTrue (is_visible (slice_index bs i))
-all_seen [] all i less = absurd (omega (arith, less))
-all_seen (b ∷ bs) all zero less = (and_parts (is_visible b) (list_all is_visible bs) all).0
-all_seen (b ∷ bs) all (suc i) less = all_seen bs (and_parts (is_visible b) (list_all is_visible bs) all).1 i (omega (arith, less))
-
-allowed : (p : List ℕ) → list_all is_visible p ≡ true → not (begins_with_slash p) ≡ true → PathAllowedBelow p (length p)
-allowed [] all first i less = absurd (omega (arith, less))
-allowed (b ∷ bs) all first zero less = and_from _ _ (all_seen (b ∷ bs) all 0 less) first
-allowed (b ∷ bs) all first (suc i) less = all_seen (b ∷ bs) all (suc i) less
-
-is_none : (t : Bool) → not t ≡ true → t ≡ false
-is_none true is = cc
-is_none false is = refl
-
-at_least : (m n : ℕ) → nat_le m n ≡ true → m ≤ n
-at_least m n is = grind (arith, nat_tests)
-
-path_is : (p : List ℕ) → is_path p ≡ true → IsPath p
-path_is p is =
-    let a = and_parts (nat_le 1 (length p) && nat_le (length p) 255 && list_all is_visible p && not (begins_with_slash p)) (not (has_parent p)) is in
-    let b = and_parts (nat_le 1 (length p) && nat_le (length p) 255 && list_all is_visible p) (not (begins_with_slash p)) a.0 in
-    let c = and_parts (nat_le 1 (length p) && nat_le (length p) 255) (list_all is_visible p) b.0 in
-    let d = and_parts (nat_le 1 (length p)) (nat_le (length p) 255) c.0 in
-    record {
-      some = at_least 1 (length p) d.0;
-      few = at_least (length p) 255 d.1;
-      allowed = allowed p c.1 b.1;
-      below = is_none (has_parent p) a.1;
-    }
-
 short_is : (limit : ℕ) (l : List ℕ) → limit < 2 ^ 32 → nat_le (length l) limit ≡ true → IsShort limit l
-short_is limit l small is = let few = at_least (length l) limit is in (is, omega (arith, few, small))
+short_is limit l small is = let few = leb-true (length l) limit is in (is, omega (arith, few, small))
 
 job_is : (j : Job) → IsTypedJob j → is_sane_job j ≡ true → IsJob j
 job_is j typed sane =
     let a = and_parts (nat_le j.priority 63 && is_path j.out) (is_path j.err) sane in
     let b = and_parts (nat_le j.priority 63) (is_path j.out) a.0 in
-    (typed.0, typed.1, b.0, typed.2, tt, typed.3, typed.4, typed.5, path_is j.out b.1, path_is j.err a.1, tt)
-
-starts_are : (n : ℕ) → nat_lt n 65535 ≡ true → IsTrue (is_at_most 65534 n)
-starts_are n is = grind (arith, nat_tests)
+    (typed.0, typed.1, b.0, typed.2, tt, typed.3, typed.4, typed.5, path_stands j.out b.1, path_stands j.err a.1, tt)
 
 carried_is : (c : Carried) → IsTypedJob c.job → IsHost c.id.host → is_sane_carried c ≡ true → IsCarried c
 carried_is c typed host sane =
@@ -104,7 +70,7 @@ carried_is c typed host sane =
     let b = and_parts (is_sane_id c.id && is_sane_job c.job && nat_lt c.starts 65535) (c.lost == c.starts) a.0 in
     let d = and_parts (is_sane_id c.id && is_sane_job c.job) (nat_lt c.starts 65535) b.0 in
     let e = and_parts (is_sane_id c.id) (is_sane_job c.job) d.0 in
-    ((e.0, host), job_is c.job typed e.1, starts_are c.starts d.1, b.1, a.1)
+    ((e.0, host), job_is c.job typed e.1, starts_few c.starts d.1, b.1, a.1)
 
 body_is : (b : Body) → IsSaid b → is_sane_body 16 b ≡ true → IsBody b
 body_is (Offer n q c s) said sane =
@@ -120,7 +86,7 @@ body_is (Inquire n) said sane = said
 body_is (Abort n) said sane = said
 body_is (Stage n path output) said sane =
     let x = and_parts (nat_le 1 n && is_path path) (is_short_script output) sane in
-    (said, path_is path (and_parts (nat_le 1 n) (is_path path) x.0).1, short_is 32768 output (omega arith) x.1)
+    (said, path_stands path (and_parts (nat_le 1 n) (is_path path) x.0).1, short_is 32768 output (omega arith) x.1)
 body_is (Staged n) said sane = said
 body_is (Ask port token user tool words script) said sane = absurd said
 body_is (Answer token good text) said sane = absurd said

@@ -2,7 +2,7 @@
 use Rattle.std.proofs.Common.{◌≡◌, ℕ, ◌+◌, Bool, true, false, cond, ◌==◌, nat_lt, List, [], ◌++◌, length, drop, refl, sym, ap, ◌∙◌, subst, arith, append-nil}
 use Rattle.std.proofs.Common.{Ok, Err, IfOk, IfErr}
 use Rattle.std.specs.declared.result.Result.{Result}
-use Rattle.std.proofs.lemmas.Bool.{eqb-true}
+use Rattle.std.proofs.lemmas.Bool.{eqb-true, ltb-false}
 use Rattle.nqs_types.specs.declared.message.Message.{Message}
 use Rattle.nqs_codec.specs.Fields.{u8_field}
 use Rattle.nqs_codec.proofs.Places.{rest_is}
@@ -12,7 +12,7 @@ use Rattle.nqs_records.specs.Reading.{Read}
 use Rattle.nqs_records.specs.Fields.{u8_at}
 use Rattle.nqs_records.specs.Changes.{AreBytes}
 use Rattle.nqs_records.proofs.IsRead.{bound}
-use Rattle.nqs_records.proofs.Numbers.{not_below, u8_read}
+use Rattle.nqs_records.proofs.Numbers.{u8_read}
 use Rattle.nqs_records.proofs.Chains.{bind}
 use Rattle.nqs_records.proofs.Spelled.{nothing_left, none_behind}
 use Rattle.nqs_packets.specs.declared.fault.PacketFault.{PacketFault}
@@ -41,7 +41,7 @@ rest_spelled bytes place m fits e =
     let v = bound (message_at bytes place) (λ v. cond (nat_lt v.1 (length bytes)) (Err (Trailing v.1)) (Ok v.0)) m e in
     let end = whole (nat_lt v.0.1 (length bytes)) (Trailing v.0.1) v.0.0 m v.2 in
     let here = message_found bytes place v.0.0 v.0.1 fits v.1 in
-    let left = nothing_left v.0.1 bytes (not_below v.0.1 (length bytes) end.0) in
+    let left = nothing_left v.0.1 bytes (ltb-false v.0.1 (length bytes) end.0) in
     let text = here.1.text ∙ ap (λ (l : List ℕ). behind v.0.0 ++ l) left ∙ append-nil (behind v.0.0) in
     (text ∙ ap behind end.1, subst MaySend end.1 here.0)
 

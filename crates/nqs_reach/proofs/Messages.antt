@@ -45,8 +45,8 @@ use Rattle.nqs_rules.specs.Stage.{is_stage_to, is_got, has_left, send_staged, on
 use Rattle.nqs_rules.specs.Starts.{after_step}
 use Rattle.nqs_rules.specs.Step.{on_message}
 use Rattle.nqs_rules.specs.Stepped.{Stepped, quiet, says, makes, ready}
-use Rattle.nqs_rules.proofs.KeyFacts.{any-before, any-without_other, any-changed, none_found, gone_without, find-changed, find-without_other}
-use Rattle.nqs_rules.proofs.KeyFacts.{find-changed_other}
+use Rattle.nqs_rules.proofs.KeyFacts.{any-before, any-without_other, any-changed, none_found, gone_without, found_changed, find-without_other}
+use Rattle.nqs_rules.proofs.KeyFacts.{found_other}
 use Rattle.nqs_rules.proofs.ListFacts.{found_passes}
 use Rattle.nqs_rules.proofs.RowChanges.{noted_kept}
 use Rattle.nqs_rules.proofs.RowFacts.{same_it, same_id}
@@ -318,11 +318,11 @@ module _ {E : Type 0} where
               → lasting q ≡ lasting r
           stays id r q found there true e =
               let is : id ≡ h.id = id_exact id h.id e in
-              let changed : find (is_row h.id) rows ≡ Some (waits r) = find-changed (is_row h.id) waits (λ v. ap (id_eq h.id) (same_request v)) s.rows
+              let changed : find (is_row h.id) rows ≡ Some (waits r) = found_changed (is_row h.id) waits (λ v. ap (id_eq h.id) (same_request v)) s.rows
               ∙ ap (option_map waits) (ap (λ i. find (is_row i) s.rows) (sym is) ∙ found) in
               ap lasting (same_Some q (waits r) (sym there ∙ ap (λ i. find (is_row i) rows) is ∙ changed)) ∙ same_job r
           stays id r q found there false e = same_row (find_row id s) (find (is_row id) rows)
-              (find-changed_other id_eq (λ r. r.id) id_exact same_id waits same_request id h.id s.rows e) r q found there
+              (found_other id_eq (λ r. r.id) id_exact waits same_request id h.id s.rows e) r q found there
 
           queued : (r : Row E) → runs (waits r) ≡ false
           queued r = noted_kept (λ y. is_running y.state) (λ y l. refl) (λ y. refl) (dests_for r s) (record { queue = h.queue; host = h.peer }) refusal

@@ -1,6 +1,7 @@
 -- Which bytes have which first fault.
 use Rattle.std.proofs.Common.{◌≡◌, ℕ, zero, suc, ◌+◌, ◌<◌, Bool, true, false, cond, nat_lt, List, [], ◌∷◌, ◌++◌, length, drop, refl, sym, ap, ◌∙◌, subst, arith}
 use Rattle.std.proofs.Common.{length-append, Ok, Err}
+use Rattle.std.proofs.lemmas.Bool.{ltb-true}
 use Rattle.std.specs.Prelude.{⊤}
 use Rattle.std.specs.declared.result.Result.{Result}
 use Rattle.std.proofs.lemmas.List.{length-drop}
@@ -17,7 +18,7 @@ use Rattle.nqs_records.specs.KindTable.{HostChange, kinds}
 use Rattle.nqs_records.specs.Kinds.{no_kind, change_at, record_of}
 use Rattle.nqs_records.specs.Changes.{AreBytes, spelling}
 use Rattle.nqs_records.specs.Faults.{is_kind, HasOtherKind, IsFollowed, IsCut, SpellsNoneWith, IsFinal, FirstFaults}
-use Rattle.nqs_records.proofs.Numbers.{below, u8_read}
+use Rattle.nqs_records.proofs.Numbers.{u8_read}
 use Rattle.nqs_records.proofs.KindLaws.{change_found, change_taken}
 use Rattle.nqs_records.proofs.Spelled.{reads_the_spelling}
 use Rattle.nqs_records.proofs.Steady.{Stays}
@@ -94,7 +95,7 @@ whole_tells bytes more fits stays = by (change_at bytes 0) refl stays
     told : (c : HostChange) (n : ℕ) → change_at bytes 0 ≡ Ok (c, n) → change_at (bytes ++ more) 0 ≡ Ok (c, n) → (t : Bool) → nat_lt n (length bytes) ≡ t
         → Tells bytes (cond t (Err (Trailing n)) (Ok c)) (record_of (bytes ++ more))
     told c n e f true is =
-        let less = below n (length bytes) is in
+        let less = ltb-true n (length bytes) is in
         (followed bytes c n fits e less, trailing_by (bytes ++ more) c n f (longer n bytes more less))
     told c n e f false is = tt
 

@@ -2,7 +2,7 @@
 use Rattle.std.proofs.Common.{◌≡◌, ℕ, zero, suc, ◌+◌, ◌<◌, ◌≤◌, ◌⊎◌, inl, inr, Bool, true, false, cond, ◌&&◌, ◌==◌, nat_lt, nat_le, IsTrue, List, [], ◌∷◌}
 use Rattle.std.proofs.Common.{length, take, drop, slice_index, Option, Some, None, option_map, refl, sym, ap, ◌∙◌, subst, arith, Result, Ok, Err}
 use Rattle.std.specs.Prelude.{⊤}
-use Rattle.std.proofs.lemmas.Bool.{eqb-true}
+use Rattle.std.proofs.lemmas.Bool.{eqb-true, ltb-true, ltb-false}
 use Rattle.std.proofs.lemmas.Bool.Decides.{nat_tests}
 use Rattle.nqs_base.specs.Name.{IsName, allowed_at}
 use Rattle.nqs_base.specs.Path.{IsPath, path_allowed_at, has_parent}
@@ -21,7 +21,6 @@ use Rattle.nqs_codec.proofs.ReadBack.{bool_back, name_back, read_back}
 use Rattle.nqs_records.specs.Reading.{◌>>=◌}
 use Rattle.nqs_records.specs.Fields.{bool_of, bool_at, short_of, first_bad, named, pathed, name_of, path_of, name_at, path_at, or_fault, as_fault}
 use Rattle.nqs_records.proofs.IsRead.{IsRead, fault_read, fault_same}
-use Rattle.nqs_records.proofs.Numbers.{below, not_below}
 
 behind : (bytes : List ℕ) (place b : ℕ) (rest : List ℕ) → drop place bytes ≡ b ∷ rest → rest ≡ drop (place + 1) bytes
 behind bytes place b rest is = sym (rest_is bytes place (b ∷ []) rest is)
@@ -127,10 +126,10 @@ short_answer most bytes place = by (drop place bytes) refl
     told count rest is false short is_bad is_short = (refl, subst (IsBadLength most) (sym is) (bad_count count most is_bad))
     told count rest is true true is_good is_short =
         let g = good_count count most is_good in
-        (refl, subst (IsCutShort most) (sym is) (g.0, g.1, below (length rest) count is_short))
+        (refl, subst (IsCutShort most) (sym is) (g.0, g.1, ltb-true (length rest) count is_short))
     told count rest is true false is_good is_long =
         let g = good_count count most is_good in
-        there count rest is g.0 g.1 (not_below (length rest) count is_long)
+        there count rest is g.0 g.1 (ltb-false (length rest) count is_long)
 
     by : (l : List ℕ) → drop place bytes ≡ l → ShortAnswer most bytes place (short_of most (length bytes) place l)
     by [] is = (refl, subst (IsCutShort most) (sym is) tt)

@@ -1,7 +1,7 @@
 -- Numbers: what is read at a place is what is taken from there.
 use Rattle.std.proofs.Common.{◌≡◌, ℕ, ◌+◌, ◌<◌, ◌≤◌, ◌^◌, Bool, true, false, cond, nat_lt, List, [], ◌∷◌, length, take, drop, slice_index, refl, arith, Result}
 use Rattle.std.proofs.Common.{Ok, Err}
-use Rattle.std.proofs.lemmas.Bool.Decides.{nat_tests}
+use Rattle.std.proofs.lemmas.Bool.{ltb-true, ltb-false}
 use Rattle.std.specs.Int.{w16, w32, w64, from_be_bytes}
 use Rattle.nqs_codec.specs.Fields.{u8_field, u16_field, u32_field, u64_field}
 use Rattle.nqs_codec.specs.Takes.{StandsNone, TakesNumber}
@@ -13,12 +13,6 @@ use Rattle.nqs_records.specs.Fields.{number_at, u8_at, u16_at, u32_at, u64_at, o
 use Rattle.nqs_records.specs.Changes.{AreBytes}
 use Rattle.nqs_records.proofs.IsRead.{IsRead, short_read, short_same}
 
-pub below : (m n : ℕ) → nat_lt m n ≡ true → m < n
-below m n is = grind (arith, nat_tests)
-
-pub not_below : (m n : ℕ) → nat_lt m n ≡ false → n ≤ m
-not_below m n is = grind (arith, nat_tests)
-
 module _ (size limit : ℕ) (number : List ℕ → ℕ) (field : ℕ → List ℕ)
     (none : (bytes : List ℕ) (place : ℕ) → length (drop place bytes) < size → StandsNone (λ n. n < limit) field bytes place)
     (some : (bytes : List ℕ) (place : ℕ) → AreBytes bytes → size ≤ length (drop place bytes)
@@ -29,8 +23,8 @@ module _ (size limit : ℕ) (number : List ℕ → ℕ) (field : ℕ → List �
     where
       by : (short : Bool) → nat_lt (length (drop place bytes)) size ≡ short
           → TakesNumber limit field bytes place (cond short (Err (record { 0 = length bytes })) (Ok (number (take size (drop place bytes)), place + size)))
-      by true is = (refl, none bytes place (below (length (drop place bytes)) size is))
-      by false is = some bytes place fits (not_below (length (drop place bytes)) size is)
+      by true is = (refl, none bytes place (ltb-true (length (drop place bytes)) size is))
+      by false is = some bytes place fits (ltb-false (length (drop place bytes)) size is)
 
 one_byte : (l : List ℕ) → 1 ≤ length l → slice_index (take 1 l) 0 ∷ [] ≡ take 1 l
 one_byte [] long = absurd (omega (arith, long))

@@ -1,6 +1,7 @@
 -- Bytes are read as a change exactly where they are its spelling.
 use Rattle.std.proofs.Common.{◌≡◌, ◌≢◌, ℕ, zero, suc, ◌+◌, ◌≤◌, Bool, true, false, cond, nat_lt, List, [], ◌∷◌, ◌++◌, length, drop, refl, sym, ap, ◌∙◌, subst}
 use Rattle.std.proofs.Common.{arith, append-nil, Ok, Err, IfOk, IfErr}
+use Rattle.std.proofs.lemmas.Bool.{ltb-false}
 use Rattle.std.proofs.lemmas.Bool.Decides.{nat_tests}
 use Rattle.nqs_records.specs.Reading.{Read, is_memory, Answers}
 use Rattle.nqs_records.specs.KindTable.{HostChange}
@@ -10,7 +11,6 @@ use Rattle.nqs_base.specs.Want.{want}
 use Rattle.nqs_records.specs.declared.fault.RecordFault.{RecordFault}
 use Rattle.nqs_records.specs.declared.fault.RecordFault.TheVariants.{Short, Kind, BadField, Trailing, Memory}
 use Rattle.nqs_records.proofs.IsRead.{bound}
-use Rattle.nqs_records.proofs.Numbers.{not_below}
 use Rattle.nqs_records.proofs.Chains.{bind}
 use Rattle.nqs_records.proofs.KindLaws.{change_found, change_taken}
 
@@ -33,7 +33,7 @@ is_spelled bytes c fits e =
     let v = bound (change_at bytes 0) (λ v. cond (nat_lt v.1 (length bytes)) (Err (Trailing v.1)) (Ok v.0)) c e in
     let end = whole (nat_lt v.0.1 (length bytes)) (Trailing v.0.1) v.0.0 c v.2 in
     let here = change_found bytes 0 v.0.0 v.0.1 fits v.1 in
-    let left = nothing_left v.0.1 bytes (not_below v.0.1 (length bytes) end.0) in
+    let left = nothing_left v.0.1 bytes (ltb-false v.0.1 (length bytes) end.0) in
     let text = here.1.text ∙ ap (λ (l : List ℕ). spelling v.0.0 ++ l) left ∙ append-nil (spelling v.0.0) in
     (text ∙ ap spelling end.1, subst MayStand end.1 here.0)
 

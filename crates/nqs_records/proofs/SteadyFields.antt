@@ -1,12 +1,12 @@
 -- Single fields are read the same whatever follows.
 use Rattle.std.proofs.Common.{◌≡◌, ℕ, ◌+◌, ◌<◌, ◌≤◌, Bool, true, false, cond, ◌==◌, nat_lt, List, [], ◌∷◌, ◌++◌, length, drop, take, refl, sym, ap, ◌∙◌, subst}
 use Rattle.std.proofs.Common.{arith, length-append, Ok, Err}
+use Rattle.std.proofs.lemmas.Bool.{ltb-true, ltb-false}
 use Rattle.std.proofs.lemmas.List.{length-drop, take-append-le, drop-append-le}
 use Rattle.std.proofs.lemmas.Bool.Decides.{nat_tests}
 use Rattle.nqs_codec.specs.declared.fault.FieldFault.TheVariants as field
 use Rattle.nqs_records.specs.Reading.{Reading, if_there}
 use Rattle.nqs_records.specs.Fields.{or_short, or_fault, number_at, u8_at, u16_at, u32_at, u64_at, bool_of, bool_at, opt_at}
-use Rattle.nqs_records.proofs.Numbers.{below, not_below}
 use Rattle.nqs_records.proofs.Steady.{Stays, IsSteady, TakesSome, then, there_steady}
 
 -- ---- bytes behind a place
@@ -37,7 +37,7 @@ number_steady size number some bytes more place = by (nat_lt (length (drop place
         (Ok (number (take size (drop place (bytes ++ more))), place + size))))
     by true is = refl
     by false is =
-        let enough = not_below (length (drop place bytes)) size is in
+        let enough = ltb-false (length (drop place bytes)) size is in
         let here = drop-append-le place bytes more (omega (arith, long_enough bytes place size some enough)) in
         let test =
         ap (λ (l : List ℕ). nat_lt (length l) size) here ∙ ap (λ (n : ℕ). nat_lt n size) (length-append (drop place bytes) more)
@@ -54,39 +54,39 @@ number_some size number some bytes place v e = by (nat_lt (length (drop place by
     by : (t : Bool) → nat_lt (length (drop place bytes)) size ≡ t
         → or_short (cond t (Err (record { 0 = length bytes })) (Ok (number (take size (drop place bytes)), place + size))) ≡ Ok v → place < length bytes
     by true is f = cc
-    by false is f = long_enough bytes place size some (not_below (length (drop place bytes)) size is)
+    by false is f = long_enough bytes place size some (ltb-false (length (drop place bytes)) size is)
 
 pub u8_steady : IsSteady u8_at
 unfolding u8_at
-u8_steady = number_steady 1 _ (below 0 1 refl)
+u8_steady = number_steady 1 _ (ltb-true 0 1 refl)
 
 pub u16_steady : IsSteady u16_at
 unfolding u16_at
-u16_steady = number_steady 2 _ (below 0 2 refl)
+u16_steady = number_steady 2 _ (ltb-true 0 2 refl)
 
 pub u32_steady : IsSteady u32_at
 unfolding u32_at
-u32_steady = number_steady 4 _ (below 0 4 refl)
+u32_steady = number_steady 4 _ (ltb-true 0 4 refl)
 
 pub u64_steady : IsSteady u64_at
 unfolding u64_at
-u64_steady = number_steady 8 _ (below 0 8 refl)
+u64_steady = number_steady 8 _ (ltb-true 0 8 refl)
 
 pub u8_some : TakesSome u8_at
 unfolding u8_at
-u8_some = number_some 1 _ (below 0 1 refl)
+u8_some = number_some 1 _ (ltb-true 0 1 refl)
 
 pub u16_some : TakesSome u16_at
 unfolding u16_at
-u16_some = number_some 2 _ (below 0 2 refl)
+u16_some = number_some 2 _ (ltb-true 0 2 refl)
 
 pub u32_some : TakesSome u32_at
 unfolding u32_at
-u32_some = number_some 4 _ (below 0 4 refl)
+u32_some = number_some 4 _ (ltb-true 0 4 refl)
 
 pub u64_some : TakesSome u64_at
 unfolding u64_at
-u64_some = number_some 8 _ (below 0 8 refl)
+u64_some = number_some 8 _ (ltb-true 0 8 refl)
 
 -- ---- yes and no
 

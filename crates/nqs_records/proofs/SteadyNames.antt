@@ -1,6 +1,7 @@
 -- Names and paths are read the same whatever follows.
 use Rattle.std.proofs.Common.{◌≡◌, ℕ, zero, suc, ◌+◌, ◌<◌, ◌≤◌, Bool, true, false, cond, ◌&&◌, nat_lt, nat_le, List, [], ◌∷◌, ◌++◌, length, drop, take, Option}
 use Rattle.std.proofs.Common.{Some, None, option_map, refl, sym, ap, ◌∙◌, subst, arith, length-append, Result, Ok, Err}
+use Rattle.std.proofs.lemmas.Bool.{ltb-false}
 use Rattle.std.proofs.lemmas.List.{length-drop, take-append-le}
 use Rattle.nqs_base.specs.Name.{allowed_at}
 use Rattle.nqs_base.specs.Path.{path_allowed_at, has_parent}
@@ -9,7 +10,6 @@ use Rattle.nqs_codec.specs.declared.fault.FieldFault.TheVariants as field
 use Rattle.nqs_records.specs.declared.fault.RecordFault.TheVariants.{BadField}
 use Rattle.nqs_records.specs.Reading.{◌>>=◌}
 use Rattle.nqs_records.specs.Fields.{or_fault, short_of, first_bad, named, pathed, name_of, path_of, name_at, path_at}
-use Rattle.nqs_records.proofs.Numbers.{not_below}
 use Rattle.nqs_records.proofs.Steady.{Stays, IsSteady}
 use Rattle.nqs_records.proofs.SteadyFields.{some_behind, behind, same_test}
 
@@ -49,7 +49,7 @@ short_steady most bytes more place = by (drop place bytes) refl
     told count rest some false short is = (some, refl)
     told count rest some true true is = refl
     told count rest some true false is =
-        let enough = not_below (length rest) count is in
+        let enough = ltb-false (length rest) count is in
         let test = ap (λ (n : ℕ). nat_lt n count) (length-append rest more) ∙ same_test (length rest) (length more) count is in
         ap (λ (t : Bool). or_fault (cond t (Err (field.Short (length (bytes ++ more)))) (Ok (take count (rest ++ more))))) test
         ∙ ap (λ (l : List ℕ). Ok l) (take-append-le count rest more enough)

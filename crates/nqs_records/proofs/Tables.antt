@@ -2,7 +2,7 @@
 use Rattle.std.proofs.Common.{◌≡◌, ℕ, ◌+◌, ◌^◌, Bool, true, false, cond, ◌==◌, nat_lt, List, [], ◌∷◌, ◌++◌, length, drop, refl, sym, ap, ◌∙◌, subst, arith}
 use Rattle.std.proofs.Common.{length-append, append_assoc, Ok}
 use Rattle.std.specs.List.{AllByRecursion}
-use Rattle.std.proofs.lemmas.Bool.{eqb-true}
+use Rattle.std.proofs.lemmas.Bool.{eqb-true, ltb-true}
 use Rattle.nqs_codec.specs.Fields.{u8_field}
 use Rattle.nqs_codec.specs.Takes.{Stands}
 use Rattle.nqs_codec.proofs.Places.{rest_is}
@@ -12,7 +12,7 @@ use Rattle.nqs_records.specs.Fields.{u8_at}
 use Rattle.nqs_records.specs.Tables.{Values, values_field, values_at, are_sound, Row, Entry, IsEntry, entry_field, row_at, by_code}
 use Rattle.nqs_records.specs.Changes.{AreBytes}
 use Rattle.nqs_records.proofs.IsRead.{IsRead, bound}
-use Rattle.nqs_records.proofs.Numbers.{below, u8_read}
+use Rattle.nqs_records.proofs.Numbers.{u8_read}
 use Rattle.nqs_records.proofs.Chains.{Found, bind}
 use Rattle.nqs_records.proofs.Numbered.{Finds, finds}
 use Rattle.nqs_records.proofs.ShapeLaws.{FieldsAreRead, shape_law}
@@ -88,7 +88,7 @@ module _ {F : Type 0} {ValueOf : F → Type 0} {A : Type 0} (Is : (f : F) → Va
         let there = (shape_law Is field read is_sound law n.shape made.1).taken bytes rest start n.values fits is_value
         (rest_is bytes place front (back ++ rest) text) in
         let end : start + length back ≡ place + length (front ++ back) = omega (arith, length-append front back) in
-        bind (u8_at bytes place) _ (n.code, start) _ (u8_read.taken bytes (back ++ rest) place n.code fits (below n.code (2 ^ 8) made.2) text)
+        bind (u8_at bytes place) _ (n.code, start) _ (u8_read.taken bytes (back ++ rest) place n.code fits (ltb-true n.code (2 ^ 8) made.2) text)
         (made.0 (other place) bytes start (start + length back) there ∙ ap (λ (m : ℕ). Ok (value, m)) end)
 
     pub table_law : IsRead (λ a. IsEntry Is (entry_of a)) (λ a. entry_field field (entry_of a)) (coded_by read rows other)

@@ -1,5 +1,5 @@
 -- Tests that hold together.
-use Rattle.std.proofs.Common.{◌≡◌, Bool, true, false, not, ◌&&◌, ◌||◌, List, [], ◌∷◌, sym, ◌∙◌, true≢false}
+use Rattle.std.proofs.Common.{◌≡◌, ℕ, zero, suc, Bool, true, false, not, ◌&&◌, ◌||◌, List, [], ◌∷◌, slice_set, sym, ◌∙◌, true≢false}
 use Rattle.std.proofs.lemmas.Bool.{and_parts, and_from}
 
 abbrev pub Each : List Bool → Type 0
@@ -17,6 +17,20 @@ each b (c ∷ cs) h = let rest = each (b && c) cs h in let two = and_parts b c r
 pub chained : (b : Bool) (cs : List Bool) → Each (b ∷ cs) → chain b cs ≡ true
 chained b [] h = h.0
 chained b (c ∷ cs) h = chained (b && c) cs (and_from b c h.0 h.1.0, h.1.1)
+
+abbrev pub all_of : List Bool → Bool
+all_of [] = true
+all_of (b ∷ bs) = chain b bs
+
+set_each : (bs : List Bool) (n : ℕ) {c : Bool} → c ≡ true → Each bs → Each (slice_set bs n c)
+set_each [] n e h = tt
+set_each (b ∷ bs) zero e h = (e, h.1)
+set_each (b ∷ bs) (suc n) e h = (h.0, set_each bs n e h.1)
+
+-- another test stands in the place of one, and holds too
+pub replaced : (b : Bool) (bs : List Bool) (n : ℕ) {c : Bool} → c ≡ true → chain b bs ≡ true → all_of (slice_set (b ∷ bs) n c) ≡ true
+replaced b bs zero {c = c} e h = chained c bs (e, (each b bs h).1)
+replaced b bs (suc n) {c = c} e h = let p = each b bs h in chained b (slice_set bs n c) (p.0, set_each bs n e p.1)
 
 -- a test implies another, where one of them is asked for
 pub imply : (b c d : Bool) → (c ≡ true → d ≡ true) → (not b || c) ≡ true → (not b || d) ≡ true

@@ -28,8 +28,9 @@ use Rattle.nqs_rules.proofs.ListMaps.{list_any-map}
 use Rattle.nqs_rules.proofs.KeyFacts.{all-both, filter_all, all-added, any-before, any-changed, any-without_other, all_from_none, distinct-added}
 use Rattle.nqs_rules.proofs.KeyFacts.{length_changed, turned}
 use Rattle.nqs_rules.proofs.FindKept.{all-mapped, map-kept}
-use Rattle.nqs_rules.proofs.StateFacts.{parameters_kept, default_kept, parameters_are, parameters_right, short_are, short_right, keys_are, keys_right}
-use Rattle.nqs_rules.proofs.RowFacts.{same_name, Keeps, row_is, row_kept_by, promise_is, promise_right, rows_kept, promises_kept}
+use Rattle.nqs_rules.proofs.StateFacts.{parameters_kept, default_kept, parameters_are, parameters_right, short_are, short_with, keys_are, keys_with}
+use Rattle.nqs_rules.proofs.SameBut.{with_conf, with_more_conf}
+use Rattle.nqs_rules.proofs.RowFacts.{same_name, row_is, row_kept_by, promise_is, promise_right}
 use Rattle.nqs_rules.proofs.RowChanges.{waits, queued_is}
 use Rattle.nqs_rules.proofs.QueuesOrder.{complex_kept, queue_is, queue_right}
 
@@ -40,46 +41,9 @@ module _ {E : Type 0} where
   with_complexes : (s : State E) (cs : List ComplexDef) → IsInOrder s → nat_le (length cs) 64 ≡ true → are_distinct name_eq (map (λ c. c.name) cs) ≡ true
       → list_all (is_complex_right s) cs ≡ true → IsInOrder (record s { complexes = cs })
   with_complexes s cs h few names right =
-      let keys = keys_are s h.keys in
-      let short = short_are s h.short in
       let t : State E = record s { complexes = cs } in
-      let keeps : Keeps s t = record { me = refl; site = refl; seq = omega arith; arrivals = omega arith; queues = λ q k. k; devices = λ d k. k } in
-      record {
-        site = h.site;
-        parameters = parameters_kept s t refl (λ q k. k) h.parameters;
-        short = short_right t (record {
-          queues = short.queues;
-          complexes = few;
-          devices = short.devices;
-          managers = short.managers;
-          operators =
-              short.operators;
-          held = short.held;
-        });
-        keys = keys_right t (record {
-          queues = keys.queues;
-          complexes = names;
-          devices = keys.devices;
-          rows = keys.rows;
-          hands = keys.hands;
-          promises =
-              keys.promises;
-          stages = keys.stages;
-          files = keys.files;
-        });
-        arrivals = h.arrivals;
-        queues = h.queues;
-        complexes = right;
-        rows = rows_kept s t keeps s.rows h.rows;
-        promises = promises_kept s t keeps refl s.promises h.promises;
-        promisers = h.promisers;
-        hands = h.hands;
-        few = h.few;
-        offers = h.offers;
-        peers = h.peers;
-        stages = h.stages;
-        files = h.files;
-      }
+      with_more_conf s t h (record { me = refl; site = refl; seq = omega arith; arrivals = omega arith; queues = λ q k. k; devices = λ d k. k })
+      (parameters_kept s t refl (λ q k. k) h.parameters) (short_with s 1 few h.short) (keys_with s 1 names h.keys) h.queues right
 
   pub complex_changed : (s : State E) (c : List ℕ) (f : ComplexDef → ComplexDef) → IsInOrder s → ((d : ComplexDef) → (f d).name ≡ d.name)
       → ((d : ComplexDef) → is_complex_right s d ≡ true → is_complex_right s (f d) ≡ true) → IsInOrder (change_complex c f s)
@@ -117,46 +81,10 @@ module _ {E : Type 0} where
   with_devices : (s : State E) (ds : List DeviceDef) → IsInOrder s → nat_le (length ds) 64 ≡ true → are_distinct name_eq (map (λ d. d.name) ds) ≡ true
       → ((n : List ℕ) → has_device n s ≡ true → list_any (is_device n) ds ≡ true) → IsInOrder (record s { devices = ds })
   with_devices s ds h few names there =
-      let keys = keys_are s h.keys in
-      let short = short_are s h.short in
       let t : State E = record s { devices = ds } in
-      let keeps : Keeps s t = record { me = refl; site = refl; seq = omega arith; arrivals = omega arith; queues = λ q k. k; devices = there } in
-      record {
-        site = h.site;
-        parameters = parameters_kept s t refl (λ q k. k) h.parameters;
-        short = short_right t (record {
-          queues = short.queues;
-          complexes = short.complexes;
-          devices = few;
-          managers = short.managers;
-          operators =
-              short.operators;
-          held = short.held;
-        });
-        keys = keys_right t (record {
-          queues = keys.queues;
-          complexes = keys.complexes;
-          devices = names;
-          rows = keys.rows;
-          hands = keys.hands;
-          promises =
-              keys.promises;
-          stages = keys.stages;
-          files = keys.files;
-        });
-        arrivals = h.arrivals;
-        queues = list_all-weaker (is_queue_right s) (is_queue_right t) queue s.queues h.queues;
-        complexes = h.complexes;
-        rows = rows_kept s t keeps s.rows h.rows;
-        promises = promises_kept s t keeps refl s.promises h.promises;
-        promisers = h.promisers;
-        hands = h.hands;
-        few = h.few;
-        offers = h.offers;
-        peers = h.peers;
-        stages = h.stages;
-        files = h.files;
-      }
+      with_more_conf s t h (record { me = refl; site = refl; seq = omega arith; arrivals = omega arith; queues = λ q k. k; devices = there })
+      (parameters_kept s t refl (λ q k. k) h.parameters) (short_with s 2 few h.short) (keys_with s 2 names h.keys)
+      (list_all-weaker (is_queue_right s) (is_queue_right t) queue s.queues h.queues) h.complexes
     where
       queue : (d : QueueDef) → is_queue_right s d ≡ true → is_queue_right (record s { devices = ds }) d ≡ true
       queue d k =
@@ -201,51 +129,22 @@ module _ {E : Type 0} where
       let keys = keys_are s h.keys in
       let short = short_are s h.short in
       let t : State E = devices_applied (DeleteDevice d) s in
+      let qs = map (without_device d) s.queues in
       let part = without_part (is_device d) s.devices in
       let fewer = part_length part in
       let few = leb-true (length s.devices) 64 short.devices in
-      let names : (n : List ℕ) → list_any (λ q. name_eq n q.name) (map (without_device d) s.queues) ≡ list_any (λ q. name_eq n q.name) s.queues =
-      λ n. list_any-map (without_device d) (λ q. name_eq n q.name) s.queues in
-      let there_queue : (n : List ℕ) → has_queue n s ≡ true → has_queue n t ≡ true = λ n k. names n ∙ k in
-      record {
-        site = h.site;
-        parameters = parameters_kept s t refl there_queue h.parameters;
-        short = short_right t (record {
-          queues = ap (λ n. nat_le n 256) (length-map s.queues (without_device d))
-              ∙ short.queues;
-          complexes = short.complexes;
-          devices = le-leb (length (without_first (is_device d) s.devices)) 64
-              (omega (arith, fewer, few));
-          managers = short.managers;
-          operators = short.operators;
-          held = short.held;
-        });
-        keys = keys_right t (record {
-          queues = ap (are_distinct name_eq) (map-kept (λ q. q.name) (without_device d) (λ q. refl) s.queues)
-              ∙ keys.queues;
-          complexes = keys.complexes;
-          devices = part_distinct name_eq (map_part (λ x. x.name) part) keys.devices;
-          rows = keys.rows;
-          hands =
-              keys.hands;
-          promises = keys.promises;
-          stages = keys.stages;
-          files = keys.files;
-        });
-        arrivals = h.arrivals;
-        queues = all-mapped (is_queue_right s) (is_queue_right t) (without_device d) queue s.queues h.queues;
-        complexes = list_all-weaker (is_complex_right s) (is_complex_right t) (complex_kept s t there_queue) s.complexes h.complexes;
-        rows = all-both (is_row_right s) (λ r. not (runs_on d r)) (is_row_right t) (λ r k e. row r k (not-true _ e)) s.rows h.rows
-            (all_from_none (λ r. not (runs_on d r)) (runs_on d) (λ r e. not_from_false _ e) s.rows free);
-        promises = list_all-weaker (is_promise_right s) (is_promise_right t) promise s.promises h.promises;
-        promisers = h.promisers;
-        hands = h.hands;
-        few = h.few;
-        offers = h.offers;
-        peers = h.peers;
-        stages = h.stages;
-        files = h.files;
-      }
+      let there_queue : (n : List ℕ) → has_queue n s ≡ true → has_queue n t ≡ true =
+      λ n k. list_any-map (without_device d) (λ q. name_eq n q.name) s.queues ∙ k in
+      with_conf s t h (parameters_kept s t refl there_queue h.parameters)
+      (short_with (record s { queues = qs }) 2 (le-leb (length t.devices) 64 (omega (arith, fewer, few)))
+      (short_with s 0 (ap (λ n. nat_le n 256) (length-map s.queues (without_device d)) ∙ short.queues) h.short))
+      (keys_with (record s { queues = qs }) 2 (part_distinct name_eq (map_part (λ x. x.name) part) keys.devices)
+      (keys_with s 0 (ap (are_distinct name_eq) (map-kept (λ q. q.name) (without_device d) (λ q. refl) s.queues) ∙ keys.queues) h.keys))
+      (all-mapped (is_queue_right s) (is_queue_right t) (without_device d) queue s.queues h.queues)
+      (list_all-weaker (is_complex_right s) (is_complex_right t) (complex_kept s t there_queue) s.complexes h.complexes)
+      (all-both (is_row_right s) (λ r. not (runs_on d r)) (is_row_right t) (λ r k e. row r k (not-true _ e)) s.rows h.rows
+      (all_from_none (λ r. not (runs_on d r)) (runs_on d) (λ r e. not_from_false _ e) s.rows free))
+      (list_all-weaker (is_promise_right s) (is_promise_right t) promise s.promises h.promises)
     where
       there : (n : List ℕ) → name_eq d n ≡ false → has_device n s ≡ true → has_device n (devices_applied (DeleteDevice d) s) ≡ true
       there n other k = any-without_other name_eq (λ x. x.name) name_exact same_name n d s.devices (turned name_eq name_exact same_name d n other) ∙ k
@@ -300,35 +199,10 @@ module _ {E : Type 0} where
   pub with_staff : (s : State E) (managers operators : List (List ℕ)) → IsInOrder s → nat_le (length managers) 256 ≡ true → nat_le (length operators) 256 ≡ true
       → IsInOrder (record s { managers = managers; operators = operators })
   with_staff s managers operators h few_managers few_operators =
-      let short = short_are s h.short in
       let t : State E = record s { managers = managers; operators = operators } in
-      let keeps : Keeps s t = record { me = refl; site = refl; seq = omega arith; arrivals = omega arith; queues = λ q k. k; devices = λ d k. k } in
-      record {
-        site = h.site;
-        parameters = parameters_kept s t refl (λ q k. k) h.parameters;
-        short = short_right t (record {
-          queues = short.queues;
-          complexes = short.complexes;
-          devices = short.devices;
-          managers = few_managers;
-          operators =
-              few_operators;
-          held = short.held;
-        });
-        keys = h.keys;
-        arrivals = h.arrivals;
-        queues = h.queues;
-        complexes = h.complexes;
-        rows = rows_kept s t keeps s.rows h.rows;
-        promises = promises_kept s t keeps refl s.promises h.promises;
-        promisers = h.promisers;
-        hands = h.hands;
-        few = h.few;
-        offers = h.offers;
-        peers = h.peers;
-        stages = h.stages;
-        files = h.files;
-      }
+      with_more_conf s t h (record { me = refl; site = refl; seq = omega arith; arrivals = omega arith; queues = λ q k. k; devices = λ d k. k })
+      (parameters_kept s t refl (λ q k. k) h.parameters)
+      (short_with (record s { managers = managers }) 4 few_operators (short_with s 3 few_managers h.short)) h.keys h.queues h.complexes
 
   -- other parameters within their limits
   pub with_parameters : (s : State E) (queue : Option (List ℕ)) (limit patience wait : ℕ) → IsInOrder s → is_default_there queue s ≡ true
@@ -337,32 +211,14 @@ module _ {E : Type 0} where
   with_parameters s queue limit patience wait h there few patient waiting =
       let p = parameters_are s h.parameters in
       let t : State E = record s { default_queue = queue; global_limit = limit; patience = patience; retry_wait = wait } in
-      let keeps : Keeps s t = record { me = refl; site = refl; seq = omega arith; arrivals = omega arith; queues = λ q k. k; devices = λ d k. k } in
-      record {
-        site = h.site;
-        parameters = parameters_right t (record {
-          limit = few;
-          patience = patient;
-          wait = waiting;
-          seq = p.seq;
-          arrivals = p.arrivals;
-          file_some =
-              p.file_some;
-          file = p.file;
-          queue = default_kept s t (λ q k. k) queue there;
-        });
-        short = h.short;
-        keys = h.keys;
-        arrivals = h.arrivals;
-        queues = h.queues;
-        complexes = h.complexes;
-        rows = rows_kept s t keeps s.rows h.rows;
-        promises = promises_kept s t keeps refl s.promises h.promises;
-        promisers = h.promisers;
-        hands = h.hands;
-        few = h.few;
-        offers = h.offers;
-        peers = h.peers;
-        stages = h.stages;
-        files = h.files;
-      }
+      with_more_conf s t h (record { me = refl; site = refl; seq = omega arith; arrivals = omega arith; queues = λ q k. k; devices = λ d k. k })
+      (parameters_right t (record {
+        limit = few;
+        patience = patient;
+        wait = waiting;
+        seq = p.seq;
+        arrivals = p.arrivals;
+        file_some = p.file_some;
+        file = p.file;
+        queue = default_kept s t (λ q k. k) queue there;
+      })) h.short h.keys h.queues h.complexes

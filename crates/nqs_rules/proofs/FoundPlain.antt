@@ -17,7 +17,8 @@ use Rattle.nqs_rules.specs.Rows.{named_causes}
 use Rattle.nqs_rules.specs.Applied.{is_promise_of}
 use Rattle.nqs_rules.specs.Fits.{row_passes}
 use Rattle.nqs_rules.specs.Plain.{map_row, map_promise, map_stage, map_file, map_state}
-use Rattle.nqs_rules.proofs.ListMaps.{find-map, list_any-map, count-map}
+use Rattle.nqs_index.proofs.Numbers.{number-map}
+use Rattle.nqs_rules.proofs.ListMaps.{find-map, list_any-map}
 
 pub passes-map : {V W : Type 0} (m : V → W) (test : W → Bool) (o : Option V) → passes test (option_map m o) ≡ passes (λ v. test (m v)) o
 passes-map m test None = refl
@@ -46,13 +47,13 @@ module _ {E F : Type 0} (f : E → F) where
   held_count-map s = (λ j. length-map s.rows (map_row f) j + length-map s.promises (map_promise f) j)
 
   pub held_in-map : (q : List ℕ) (s : State E) → held_in q (map_state f s) ≡ held_in q s
-  held_in-map q s = (λ j. count-map (map_row f) (row_in q) s.rows j + count-map (map_promise f) (promise_in q) s.promises j)
+  held_in-map q s = (λ j. number-map (map_row f) (row_in q) s.rows j + number-map (map_promise f) (promise_in q) s.promises j)
 
   -- rows, and promises of other hosts
   pub offered_count-map : (peer : HostId) (s : State E)
       → length (map_state f s).rows + length (filter (λ p. not (is_promise_of peer p)) (map_state f s).promises)
       ≡ length s.rows + length (filter (λ p. not (is_promise_of peer p)) s.promises)
-  offered_count-map peer s = (λ j. length-map s.rows (map_row f) j + count-map (map_promise f) (λ p. not (is_promise_of peer p)) s.promises j)
+  offered_count-map peer s = (λ j. length-map s.rows (map_row f) j + number-map (map_promise f) (λ p. not (is_promise_of peer p)) s.promises j)
 
   pub is_busy-map : (device : List ℕ) (s : State E) → is_busy device (map_state f s) ≡ is_busy device s
   is_busy-map device s = list_any-map (map_row f) (runs_on device) s.rows

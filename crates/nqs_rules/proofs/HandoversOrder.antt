@@ -34,7 +34,7 @@ use Rattle.nqs_rules.proofs.Chains.{each, implied}
 use Rattle.nqs_rules.proofs.Sublists.{filter_part}
 use Rattle.nqs_rules.proofs.ListFacts.{found_passes, list_all-found, list_all-weaker}
 use Rattle.nqs_rules.proofs.ListMaps.{list_any-map}
-use Rattle.nqs_rules.proofs.KeyFacts.{all_get, place_below, any_found, none_found, find-changed, find-without_other, gone_without, all_from_none, key_gone}
+use Rattle.nqs_rules.proofs.KeyFacts.{all_get, place_below, any_found, none_found, found_changed, find-without_other, gone_without, all_from_none, key_gone}
 use Rattle.nqs_rules.proofs.KeyFacts.{key_gone_behind, length_without}
 use Rattle.nqs_rules.proofs.StateFacts.{sites_are, parameters_are, short_are, keys_are}
 use Rattle.nqs_rules.proofs.RowFacts.{same_it, same_peer_number, Keeps, row_kept, IsRow, row_is, IsPromise, promise_is, promise_right}
@@ -162,7 +162,7 @@ module _ {E : Type 0} where
         id = ap (is_id_right s) key ∙ right.id;
         given = ap (passes (is_hand_given number)) (get-changed peer.0 f s.peers ∙ ap (option_map f) p.1)
             ∙ given_next number (ap (nat_le 1) (sym same) ∙ counts);
-        stands = ap (passes is_routing_row) (find-changed (is_row id) routing_row (λ q. refl) s.rows ∙ ap (option_map routing_row) r.1);
+        stands = ap (passes is_routing_row) (found_changed (is_row id) routing_row (λ q. refl) s.rows ∙ ap (option_map routing_row) r.1);
       })) free unrouted refl
 
   -- promises

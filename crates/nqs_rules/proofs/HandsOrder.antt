@@ -24,8 +24,9 @@ use Rattle.nqs_rules.proofs.Chains.{differ}
 use Rattle.nqs_rules.proofs.Sublists.{IsPart, skip, keep, whole, without_part, filter_parts, map_part, part_length, part_all, part_distinct}
 use Rattle.nqs_rules.proofs.ListFacts.{list_all-weaker, list_all-changed, map-changed, list_all-found}
 use Rattle.nqs_rules.proofs.KeyFacts.{all-both, all-added, all_from_none, distinct-added, turned}
-use Rattle.nqs_rules.proofs.StateFacts.{parameters_kept, keys_are, keys_right}
-use Rattle.nqs_rules.proofs.RowFacts.{same_id, same_it, same_peer_number, Keeps, rows_kept, promises_kept}
+use Rattle.nqs_rules.proofs.StateFacts.{keys_are}
+use Rattle.nqs_rules.proofs.SameBut.{with_hands}
+use Rattle.nqs_rules.proofs.RowFacts.{same_id, same_it, same_peer_number}
 use Rattle.nqs_rules.proofs.RowsOrder.{is_no_offer_of, hand_is, hand_right}
 
 -- offers
@@ -155,38 +156,10 @@ none_counted peer (x ∷ hs) none = let p = or_parts (is_hand_to peer x) (list_a
 module _ {E : Type 0} where
   -- fewer hands
   pub hands_part : (s : State E) (hands : List Hand) → IsPart hands s.hands → IsInOrder s → IsInOrder (record s { hands = hands })
-  hands_part s hands part h =
-      let keys = keys_are s h.keys in
-      let t : State E = record s { hands = hands } in
-      let keeps : Keeps s t = record { me = refl; site = refl; seq = omega arith; arrivals = omega arith; queues = λ q k. k; devices = λ d k. k } in
-      record {
-        site = h.site;
-        parameters = parameters_kept s t refl (λ q k. k) h.parameters;
-        short = h.short;
-        keys = keys_right t (record {
-          queues = keys.queues;
-          complexes = keys.complexes;
-          devices = keys.devices;
-          rows = keys.rows;
-          hands =
-              part_distinct peer_number_eq (map_part hand_key part) keys.hands;
-          promises = keys.promises;
-          stages = keys.stages;
-          files = keys.files;
-        });
-        arrivals = h.arrivals;
-        queues = h.queues;
-        complexes = h.complexes;
-        rows = rows_kept s t keeps s.rows h.rows;
-        promises = promises_kept s t keeps refl s.promises h.promises;
-        promisers = h.promisers;
-        hands = part_all (is_hand_right s) part h.hands;
-        few = list_all-weaker (has_few_hands s) (has_few_hands t) fewer hands (part_all (has_few_hands s) part h.few);
-        offers = part_distinct id_eq (map_part (λ x. x.id) (filter_parts is_offered_hand part)) h.offers;
-        peers = h.peers;
-        stages = h.stages;
-        files = h.files;
-      }
+  hands_part s hands part h = with_hands s hands h (part_distinct peer_number_eq (map_part hand_key part) (keys_are s h.keys).hands)
+      (part_all (is_hand_right s) part h.hands)
+      (list_all-weaker (has_few_hands s) (has_few_hands (record s { hands = hands })) fewer hands (part_all (has_few_hands s) part h.few))
+      (part_distinct id_eq (map_part (λ x. x.id) (filter_parts is_offered_hand part)) h.offers)
     where
       fewer : (x : Hand) → has_few_hands s x ≡ true → has_few_hands (record s { hands = hands }) x ≡ true
       fewer x k =
@@ -200,40 +173,14 @@ module _ {E : Type 0} where
   -- a hand is committed
   pub hand_changed : (s : State E) (k : PeerNumber) → IsInOrder s → IsInOrder (record s { hands = change_first (is_hand k) committed s.hands })
   hand_changed s k h =
-      let keys = keys_are s h.keys in
       let t : State E = record s { hands = change_first (is_hand k) committed s.hands } in
-      let keeps : Keeps s t = record { me = refl; site = refl; seq = omega arith; arrivals = omega arith; queues = λ q k. k; devices = λ d k. k } in
-      record {
-        site = h.site;
-        parameters = parameters_kept s t refl (λ q k. k) h.parameters;
-        short = h.short;
-        keys = keys_right t (record {
-          queues = keys.queues;
-          complexes = keys.complexes;
-          devices = keys.devices;
-          rows = keys.rows;
-          hands =
-              ap (are_distinct peer_number_eq) (map-changed hand_key (is_hand k) committed (λ x. refl) s.hands)
-              ∙ keys.hands;
-          promises = keys.promises;
-          stages = keys.stages;
-          files = keys.files;
-        });
-        arrivals = h.arrivals;
-        queues = h.queues;
-        complexes = h.complexes;
-        rows = rows_kept s t keeps s.rows h.rows;
-        promises = promises_kept s t keeps refl s.promises h.promises;
-        promisers = h.promisers;
-        hands = list_all-changed (is_hand_right s) (is_hand k) committed s.hands h.hands
-            (λ x found. right x (list_all-found (is_hand_right s) (is_hand k) s.hands x h.hands found));
-        few = list_all-changed (has_few_hands t) (is_hand k) committed s.hands (list_all-weaker (has_few_hands s) (has_few_hands t) fewer s.hands h.few)
-            (λ x found. fewer x (list_all-found (has_few_hands s) (is_hand k) s.hands x h.few found));
-        offers = part_distinct id_eq (committed_offers (is_hand k) s.hands) h.offers;
-        peers = h.peers;
-        stages = h.stages;
-        files = h.files;
-      }
+      with_hands s (change_first (is_hand k) committed s.hands) h
+      (ap (are_distinct peer_number_eq) (map-changed hand_key (is_hand k) committed (λ x. refl) s.hands) ∙ (keys_are s h.keys).hands)
+      (list_all-changed (is_hand_right s) (is_hand k) committed s.hands h.hands
+      (λ x found. right x (list_all-found (is_hand_right s) (is_hand k) s.hands x h.hands found)))
+      (list_all-changed (has_few_hands t) (is_hand k) committed s.hands (list_all-weaker (has_few_hands s) (has_few_hands t) fewer s.hands h.few)
+      (λ x found. fewer x (list_all-found (has_few_hands s) (is_hand k) s.hands x h.few found)))
+      (part_distinct id_eq (committed_offers (is_hand k) s.hands) h.offers)
     where
       fewer : (x : Hand) → has_few_hands s x ≡ true → has_few_hands (record s { hands = change_first (is_hand k) committed s.hands }) x ≡ true
       fewer x q = ap (λ n. nat_le n 8) (few_changed (is_hand k) x.peer s.hands) ∙ q
@@ -245,41 +192,15 @@ module _ {E : Type 0} where
   pub hand_added : (s : State E) (x : Hand) → IsInOrder s → is_hand_right s x ≡ true → list_any (is_hand_to x.peer) s.hands ≡ false
       → list_all (is_no_offer_of x.id) s.hands ≡ true → is_offered x.phase ≡ true → IsInOrder (record s { hands = s.hands ++ x ∷ [] })
   hand_added s x h right new unoffered offered =
-      let keys = keys_are s h.keys in
       let t : State E = record s { hands = s.hands ++ x ∷ [] } in
-      let keeps : Keeps s t = record { me = refl; site = refl; seq = omega arith; arrivals = omega arith; queues = λ q k. k; devices = λ d k. k } in
-      record {
-        site = h.site;
-        parameters = parameters_kept s t refl (λ q k. k) h.parameters;
-        short = h.short;
-        keys = keys_right t (record {
-          queues = keys.queues;
-          complexes = keys.complexes;
-          devices = keys.devices;
-          rows = keys.rows;
-          hands =
-              ap (are_distinct peer_number_eq) (map-append hand_key s.hands (x ∷ []))
-              ∙ distinct-added peer_number_eq peer_number_exact same_peer_number (map hand_key s.hands) (hand_key x) (key_new s.hands new) keys.hands;
-          promises =
-              keys.promises;
-          stages = keys.stages;
-          files = keys.files;
-        });
-        arrivals = h.arrivals;
-        queues = h.queues;
-        complexes = h.complexes;
-        rows = rows_kept s t keeps s.rows h.rows;
-        promises = promises_kept s t keeps refl s.promises h.promises;
-        promisers = h.promisers;
-        hands = all-added (is_hand_right s) s.hands x h.hands right;
-        few = all-added (has_few_hands t) s.hands x (all-both (has_few_hands s) (λ y. not (is_hand_to x.peer y)) (has_few_hands t)
-            (λ y few other. few_old y few (not-true (is_hand_to x.peer y) other)) s.hands h.few
-            (all_from_none (λ y. not (is_hand_to x.peer y)) (is_hand_to x.peer) (λ y e. not_from_false (is_hand_to x.peer y) e) s.hands new)) few_new;
-        offers = ap (are_distinct id_eq) offers_more ∙ distinct-added id_eq id_exact same_id (offered_ids s) x.id (offer_new s.hands unoffered) h.offers;
-        peers = h.peers;
-        stages = h.stages;
-        files = h.files;
-      }
+      with_hands s (s.hands ++ x ∷ []) h
+      (ap (are_distinct peer_number_eq) (map-append hand_key s.hands (x ∷ []))
+      ∙ distinct-added peer_number_eq peer_number_exact same_peer_number (map hand_key s.hands) (hand_key x) (key_new s.hands new) (keys_are s h.keys).hands)
+      (all-added (is_hand_right s) s.hands x h.hands right)
+      (all-added (has_few_hands t) s.hands x (all-both (has_few_hands s) (λ y. not (is_hand_to x.peer y)) (has_few_hands t)
+      (λ y few other. few_old y few (not-true (is_hand_to x.peer y) other)) s.hands h.few
+      (all_from_none (λ y. not (is_hand_to x.peer y)) (is_hand_to x.peer) (λ y e. not_from_false (is_hand_to x.peer y) e) s.hands new)) few_new)
+      (ap (are_distinct id_eq) offers_more ∙ distinct-added id_eq id_exact same_id (offered_ids s) x.id (offer_new s.hands unoffered) h.offers)
     where
       key_new : (hs : List Hand) → list_any (is_hand_to x.peer) hs ≡ false → list_any (peer_number_eq (hand_key x)) (map hand_key hs) ≡ false
       key_new [] none = refl

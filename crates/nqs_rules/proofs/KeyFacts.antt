@@ -1,12 +1,13 @@
 -- Lists of values under keys: what a change, a loss or a gain of one value leaves of the others, and of the keys.
-use Rattle.std.proofs.Common.{◌≡◌, ℕ, ◌+◌, ◌≤◌, Bool, true, false, cond, not, ◌&&◌, ◌||◌, List, [], ◌∷◌, ◌++◌, map, filter, find, length, slice_get, ◌<◌, None}
-use Rattle.std.proofs.Common.{Some, option_map, true≢false, zero, suc, refl, sym, ap, subst, ◌∙◌, arith, if◌then◌else◌}
+use Rattle.std.proofs.Common.{◌≡◌, ℕ, ◌+◌, ◌≤◌, Bool, true, false, cond, not, ◌&&◌, ◌||◌, List, [], ◌∷◌, ◌++◌, map, filter, find, length, slice_get, ◌<◌}
+use Rattle.std.proofs.Common.{Some, true≢false, zero, suc, refl, sym, ap, subst, ◌∙◌, arith, if◌then◌else◌}
 use Rattle.std.proofs.lemmas.Bool.{and_parts, and_from, or_parts, or_from, or_left, not-true, not_from_false, false_from_ne_true}
 use Rattle.std.proofs.lemmas.List.Folds.{list_any-append, list_all-append}
 use Rattle.std.proofs.lemmas.List.{append-nil}
 use Rattle.std.proofs.lemmas.Option.{same_Some, none-some}
 use Rattle.std.specs.List.{list_any, list_all}
 use Rattle.nqs_base_tables.specs.Table.{has_key, change_first, without_first}
+pub use Rattle.nqs_base_tables.proofs.KeyLemmas.{none_found, found_changed, found_other}
 use Rattle.nqs_rules.specs.InOrder.{are_distinct}
 use Rattle.nqs_rules.specs.Tests.{passes}
 use Rattle.nqs_rules.proofs.ListFacts.{map-changed}
@@ -39,10 +40,6 @@ module _ {V : Type 0} where
       by true rest h = refl
       by false rest h = rest h
 
-  pub none_found : (t : V → Bool) (vs : List V) → list_any t vs ≡ false → find t vs ≡ None
-  none_found t [] h = refl
-  none_found t (x ∷ vs) h = let p = or_parts (t x) (list_any t vs) h in (λ j. cond (p.0 j) (Some x) (find t vs)) ∙ none_found t vs p.1
-
   -- what stands at a place
   pub all_get : (p : V → Bool) (vs : List V) (n : ℕ) (v : V) → list_all p vs ≡ true → slice_get vs n ≡ Some v → p v ≡ true
   all_get p [] n v all e = absurd (none-some v e)
@@ -53,16 +50,6 @@ module _ {V : Type 0} where
   place_below [] n v e = absurd (none-some v e)
   place_below (x ∷ vs) zero v e = omega arith
   place_below (x ∷ vs) (suc n) v e = let k = place_below vs n v e in omega (arith, k)
-
-  -- the one that changes is found changed
-  pub find-changed : (t : V → Bool) (g : V → V) → ((v : V) → t (g v) ≡ t v) → (vs : List V) → find t (change_first t g vs) ≡ option_map g (find t vs)
-  find-changed t g same [] = refl
-  find-changed t g same (x ∷ vs) = by (t x) refl (find-changed t g same vs)
-    where
-      by : (b : Bool) → t x ≡ b → find t (change_first t g vs) ≡ option_map g (find t vs)
-          → find t (if b then g x ∷ vs else x ∷ change_first t g vs) ≡ option_map g (cond b (Some x) (find t vs))
-      by true e rest = ap (λ b. cond b (Some (g x)) (find t vs)) (same x ∙ e)
-      by false e rest = ap (λ b. cond b (Some x) (find t (change_first t g vs))) e ∙ rest
 
   -- where one goes that was there
   pub length_without : (t : V → Bool) (vs : List V) → list_any t vs ≡ true → length vs ≡ length (without_first t vs) + 1
@@ -150,10 +137,6 @@ module _ {K : Type 0} (eq : K → K → Bool) (exact : (a b : K) → eq a b ≡ 
 
 module _ {K V : Type 0} (eq : K → K → Bool) (key : V → K) (exact : (a b : K) → eq a b ≡ true → a ≡ b) (same : (a : K) → eq a a ≡ true) where
   -- the others are found as before
-
-  other_key : (k id : K) (v : V) → eq k id ≡ false → eq id (key v) ≡ true → eq k (key v) ≡ false
-  other_key k id v other h = ap (eq k) (sym (exact id (key v) h)) ∙ other
-
   pub find-without_other : (k id : K) (vs : List V) → eq k id ≡ false → find (has_key eq key k) (without_first (has_key eq key id) vs)
       ≡ find (has_key eq key k) vs
   find-without_other k id [] other = refl
@@ -161,20 +144,7 @@ module _ {K V : Type 0} (eq : K → K → Bool) (key : V → K) (exact : (a b : 
     where
       by : (b : Bool) → eq id (key x) ≡ b → find (has_key eq key k) (without_first (has_key eq key id) vs) ≡ find (has_key eq key k) vs
           → find (has_key eq key k) (if b then vs else x ∷ without_first (has_key eq key id) vs) ≡ cond (eq k (key x)) (Some x) (find (has_key eq key k) vs)
-      by true e rest = ap (λ b. cond b (Some x) (find (has_key eq key k) vs)) (sym (other_key k id x other e))
-      by false e rest = ap (λ o. cond (eq k (key x)) (Some x) o) rest
-
-  pub find-changed_other : (g : V → V) → ((v : V) → key (g v) ≡ key v) → (k id : K) (vs : List V) → eq k id ≡ false
-      → find (has_key eq key k) (change_first (has_key eq key id) g vs) ≡ find (has_key eq key k) vs
-  find-changed_other g keeps k id [] other = refl
-  find-changed_other g keeps k id (x ∷ vs) other = by (eq id (key x)) refl (find-changed_other g keeps k id vs other)
-    where
-      by : (b : Bool) → eq id (key x) ≡ b → find (has_key eq key k) (change_first (has_key eq key id) g vs) ≡ find (has_key eq key k) vs
-          → find (has_key eq key k) (if b then g x ∷ vs else x ∷ change_first (has_key eq key id) g vs)
-          ≡ cond (eq k (key x)) (Some x) (find (has_key eq key k) vs)
-      by true e rest =
-          let no = other_key k id x other e in
-          (λ j. cond ((ap (eq k) (keeps x) ∙ no) j) (Some (g x)) (find (has_key eq key k) vs)) ∙ (λ j. cond (sym no j) (Some x) (find (has_key eq key k) vs))
+      by true e rest = ap (λ b. cond b (Some x) (find (has_key eq key k) vs)) (sym (ap (eq k) (sym (exact id (key x) e)) ∙ other))
       by false e rest = ap (λ o. cond (eq k (key x)) (Some x) o) rest
 
   pub any-without_other : (k id : K) (vs : List V) → eq k id ≡ false → list_any (has_key eq key k) (without_first (has_key eq key id) vs)
@@ -184,7 +154,7 @@ module _ {K V : Type 0} (eq : K → K → Bool) (key : V → K) (exact : (a b : 
     where
       by : (b : Bool) → eq id (key x) ≡ b → list_any (has_key eq key k) (without_first (has_key eq key id) vs) ≡ list_any (has_key eq key k) vs
           → list_any (has_key eq key k) (if b then vs else x ∷ without_first (has_key eq key id) vs) ≡ (eq k (key x) || list_any (has_key eq key k) vs)
-      by true e rest = ap (λ b. b || list_any (has_key eq key k) vs) (sym (other_key k id x other e))
+      by true e rest = ap (λ b. b || list_any (has_key eq key k) vs) (sym (ap (eq k) (sym (exact id (key x) e)) ∙ other))
       by false e rest = ap (λ o. eq k (key x) || o) rest
 
   pub any-changed : (test : V → Bool) (g : V → V) → ((v : V) → key (g v) ≡ key v) → (k : K) (vs : List V)

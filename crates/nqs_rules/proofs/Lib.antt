@@ -7,6 +7,7 @@ pub mod ReasonsPlain
 pub mod OutputsPlain
 pub mod MessagesPlain
 pub mod StepPlain
+pub mod StepHalts
 pub mod StartPlain
 pub mod FilledLemmas
 pub mod BestLaws
@@ -20,6 +21,7 @@ pub mod Sublists
 pub mod KeyFacts
 pub mod RowFacts
 pub mod StateFacts
+pub mod SameBut
 pub mod RowsOrder
 pub mod RowChanges
 pub mod FindKept
@@ -38,6 +40,7 @@ pub mod OutputsKept
 pub mod Consistent
 pub mod ConsistentOrder
 pub mod ChangesConsistent
+pub mod PathStands
 pub mod PathsFit
 pub mod StepFits
 pub mod MessagesFit

@@ -67,10 +67,6 @@ module _ {V W : Type 0} (m : V → W) where
   list_any-map t [] = refl
   list_any-map t (v ∷ vs) = ap (λ b. t (m v) || b) (list_any-map t vs)
 
-  -- a count of what a test finds
-  pub count-map : (t : W → Bool) (vs : List V) → length (filter t (map m vs)) ≡ length (filter (λ v. t (m v)) vs)
-  count-map t vs = (λ j. length (sym (map-filter t vs) j)) ∙ length-map (filter (λ v. t (m v)) vs) m
-
   -- the image of a value at a place
   abbrev pub at_place : ℕ × V → ℕ × W
   at_place p = (p.0, m p.1)

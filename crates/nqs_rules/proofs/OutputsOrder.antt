@@ -27,8 +27,9 @@ use Rattle.nqs_rules.proofs.Sublists.{without_part, map_part, part_all, part_dis
 use Rattle.nqs_rules.proofs.ListFacts.{list_all-weaker}
 use Rattle.nqs_rules.proofs.ListMaps.{list_any-map}
 use Rattle.nqs_rules.proofs.KeyFacts.{all_get, all-added, none_from_all, distinct-added}
-use Rattle.nqs_rules.proofs.StateFacts.{default_kept, parameters_kept, parameters_are, parameters_right, keys_are, keys_right}
-use Rattle.nqs_rules.proofs.RowFacts.{same_it, same_peer_number, Keeps, rows_kept, promises_kept}
+use Rattle.nqs_rules.proofs.StateFacts.{parameters_are, keys_are}
+use Rattle.nqs_rules.proofs.SameBut.{with_outputs}
+use Rattle.nqs_rules.proofs.RowFacts.{same_it, same_peer_number}
 use Rattle.nqs_rules.proofs.PeersOrder.{given_more, peer_counted}
 
 pub get-changed : {V : Type 0} (n : ℕ) (f : V → V) (vs : List V) → slice_get (change_at n f vs) n ≡ option_map f (slice_get vs n)
@@ -47,123 +48,37 @@ module _ {E : Type 0} where
   pub files_part : (s : State E) (n : ℕ) → IsInOrder s → IsInOrder (record s { files = without_first (is_file n) s.files })
   files_part s n h =
       let keys = keys_are s h.keys in
+      let p = parameters_are s h.parameters in
       let part = without_part (is_file n) s.files in
-      let t : State E = record s { files = without_first (is_file n) s.files } in
-      let keeps : Keeps s t = record { me = refl; site = refl; seq = omega arith; arrivals = omega arith; queues = λ q k. k; devices = λ d k. k } in
-      record {
-        site = h.site;
-        parameters = parameters_kept s t refl (λ q k. k) h.parameters;
-        short = h.short;
-        keys = keys_right t (record {
-          queues = keys.queues;
-          complexes = keys.complexes;
-          devices = keys.devices;
-          rows = keys.rows;
-          hands = keys.hands;
-          promises =
-              keys.promises;
-          stages = keys.stages;
-          files = part_distinct same_number (map_part (λ f. f.number) part) keys.files;
-        });
-        arrivals = h.arrivals;
-        queues = h.queues;
-        complexes = h.complexes;
-        rows = rows_kept s t keeps s.rows h.rows;
-        promises = promises_kept s t keeps refl s.promises h.promises;
-        promisers = h.promisers;
-        hands = h.hands;
-        few = h.few;
-        offers = h.offers;
-        peers = h.peers;
-        stages = h.stages;
-        files = part_all (is_file_right s) part h.files;
-      }
+      with_outputs s s.stages (without_first (is_file n) s.files) s.file_next h p.file_some p.file keys.stages
+      (part_distinct same_number (map_part (λ f. f.number) part) keys.files) h.stages (part_all (is_file_right s) part h.files)
+
+  -- other stages
+  with_stages : (s : State E) (stages : List (Stage E)) → IsInOrder s → are_distinct peer_number_eq (map stage_key stages) ≡ true
+      → list_all (is_stage_right s) stages ≡ true → IsInOrder (record s { stages = stages })
+  with_stages s stages h distinct right = let p = parameters_are s h.parameters in
+      with_outputs s stages s.files s.file_next h p.file_some p.file distinct (keys_are s h.keys).files right h.files
 
   pub stages_part : (s : State E) (k : PeerNumber) → IsInOrder s → IsInOrder (record s { stages = without_first (is_stage k) s.stages })
   stages_part s k h =
-      let keys = keys_are s h.keys in
       let part = without_part (is_stage k) s.stages in
-      let t : State E = record s { stages = without_first (is_stage k) s.stages } in
-      let keeps : Keeps s t = record { me = refl; site = refl; seq = omega arith; arrivals = omega arith; queues = λ q k. k; devices = λ d k. k } in
-      record {
-        site = h.site;
-        parameters = parameters_kept s t refl (λ q k. k) h.parameters;
-        short = h.short;
-        keys = keys_right t (record {
-          queues = keys.queues;
-          complexes = keys.complexes;
-          devices = keys.devices;
-          rows = keys.rows;
-          hands = keys.hands;
-          promises =
-              keys.promises;
-          stages = part_distinct peer_number_eq (map_part stage_key part) keys.stages;
-          files = keys.files;
-        });
-        arrivals = h.arrivals;
-        queues = h.queues;
-        complexes = h.complexes;
-        rows = rows_kept s t keeps s.rows h.rows;
-        promises = promises_kept s t keeps refl s.promises h.promises;
-        promisers = h.promisers;
-        hands = h.hands;
-        few = h.few;
-        offers = h.offers;
-        peers = h.peers;
-        stages = part_all (is_stage_right s) part h.stages;
-        files = h.files;
-      }
+      with_stages s (without_first (is_stage k) s.stages) h (part_distinct peer_number_eq (map_part stage_key part) (keys_are s h.keys).stages)
+      (part_all (is_stage_right s) part h.stages)
 
   file_numbered : (s : State E) (part : OutPart E) → IsInOrder s → is_path part.path ≡ true → nat_lt s.file_next last_u64 ≡ true
       → IsInOrder (record s { files = s.files ++ record { number = s.file_next; path = part.path; bytes = part.bytes } ∷ []; file_next = s.file_next + 1 })
   file_numbered s part h path left =
       let keys = keys_are s h.keys in
-      let p = parameters_are s h.parameters in
+      let some = (parameters_are s h.parameters).file_some in
       let below = ltb-true s.file_next last_u64 left in
       let f : FileOut E = record { number = s.file_next; path = part.path; bytes = part.bytes } in
       let t : State E = record s { files = s.files ++ f ∷ []; file_next = s.file_next + 1 } in
-      let keeps : Keeps s t = record { me = refl; site = refl; seq = omega arith; arrivals = omega arith; queues = λ q k. k; devices = λ d k. k } in
-      record {
-        site = h.site;
-        parameters = parameters_right t (record {
-          limit = p.limit;
-          patience = p.patience;
-          wait = p.wait;
-          seq = p.seq;
-          arrivals = p.arrivals;
-          file_some =
-              le-leb 1 (s.file_next + 1) (omega arith);
-          file = le-leb (s.file_next + 1) last_u64 (omega (arith, below));
-          queue =
-              default_kept s t (λ q k. k) s.default_queue p.queue;
-        });
-        short = h.short;
-        keys = keys_right t (record {
-          queues = keys.queues;
-          complexes = keys.complexes;
-          devices = keys.devices;
-          rows = keys.rows;
-          hands = keys.hands;
-          promises =
-              keys.promises;
-          stages = keys.stages;
-          files = ap (are_distinct same_number) (map-append (λ x. x.number) s.files (f ∷ []))
-              ∙ distinct-added same_number number_exact same_it (map (λ x. x.number) s.files) s.file_next new keys.files;
-        });
-        arrivals = h.arrivals;
-        queues = h.queues;
-        complexes = h.complexes;
-        rows = rows_kept s t keeps s.rows h.rows;
-        promises = promises_kept s t keeps refl s.promises h.promises;
-        promisers = h.promisers;
-        hands = h.hands;
-        few = h.few;
-        offers = h.offers;
-        peers = h.peers;
-        stages = h.stages;
-        files = all-added (is_file_right t) s.files f (list_all-weaker (is_file_right s) (is_file_right t) old s.files h.files)
-            (and_from (is_path part.path) (is_given s.file_next (s.file_next + 1)) path (given_next s.file_next p.file_some));
-      }
+      with_outputs s s.stages (s.files ++ f ∷ []) (s.file_next + 1) h (le-leb 1 (s.file_next + 1) (omega arith))
+      (le-leb (s.file_next + 1) last_u64 (omega (arith, below))) keys.stages
+      (ap (are_distinct same_number) (map-append (λ x. x.number) s.files (f ∷ []))
+      ∙ distinct-added same_number number_exact same_it (map (λ x. x.number) s.files) s.file_next new keys.files) h.stages
+      (all-added (is_file_right t) s.files f (list_all-weaker (is_file_right s) (is_file_right t) old s.files h.files)
+      (and_from (is_path part.path) (is_given s.file_next (s.file_next + 1)) path (given_next s.file_next some)))
     where
       old : (x : FileOut E) → is_file_right s x ≡ true → (is_path x.path && is_given x.number (s.file_next + 1)) ≡ true
       old x k = let q = and_parts (is_path x.path) (is_given x.number s.file_next) k in
@@ -187,38 +102,10 @@ module _ {E : Type 0} where
   with_stage : (s : State E) (x : Stage E) → IsInOrder s → is_stage_right s x ≡ true → list_any (peer_number_eq (stage_key x)) (map stage_key s.stages) ≡ false
       → IsInOrder (record s { stages = s.stages ++ x ∷ [] })
   with_stage s x h right new =
-      let keys = keys_are s h.keys in
-      let t : State E = record s { stages = s.stages ++ x ∷ [] } in
-      let keeps : Keeps s t = record { me = refl; site = refl; seq = omega arith; arrivals = omega arith; queues = λ q k. k; devices = λ d k. k } in
-      record {
-        site = h.site;
-        parameters = parameters_kept s t refl (λ q k. k) h.parameters;
-        short = h.short;
-        keys = keys_right t (record {
-          queues = keys.queues;
-          complexes = keys.complexes;
-          devices = keys.devices;
-          rows = keys.rows;
-          hands = keys.hands;
-          promises =
-              keys.promises;
-          stages = ap (are_distinct peer_number_eq) (map-append stage_key s.stages (x ∷ []))
-              ∙ distinct-added peer_number_eq peer_number_exact same_peer_number (map stage_key s.stages) (stage_key x) new keys.stages;
-          files = keys.files;
-        });
-        arrivals = h.arrivals;
-        queues = h.queues;
-        complexes = h.complexes;
-        rows = rows_kept s t keeps s.rows h.rows;
-        promises = promises_kept s t keeps refl s.promises h.promises;
-        promisers = h.promisers;
-        hands = h.hands;
-        few = h.few;
-        offers = h.offers;
-        peers = h.peers;
-        stages = all-added (is_stage_right s) s.stages x h.stages right;
-        files = h.files;
-      }
+      with_stages s (s.stages ++ x ∷ []) h
+      (ap (are_distinct peer_number_eq) (map-append stage_key s.stages (x ∷ []))
+      ∙ distinct-added peer_number_eq peer_number_exact same_peer_number (map stage_key s.stages) (stage_key x) new (keys_are s h.keys).stages)
+      (all-added (is_stage_right s) s.stages x h.stages right)
 
   stage_numbered : (s : State E) (host : HostId) (part : OutPart E) (p : Peer) → IsInOrder s → is_path part.path ≡ true → find_peer host s ≡ Some p
       → IsInOrder (record (change_peer host stage_counted s) {

@@ -1,5 +1,5 @@
 -- What goes out of a state and of what it is mapped to: stored parts go out mapped, and nothing else differs.
-use Rattle.std.proofs.Common.{◌≡◌, ℕ, ◌+◌, List, [], ◌∷◌, ◌++◌, map, Option, None, Some, option_map, refl, sym, ap, ◌∙◌, if◌then◌else◌}
+use Rattle.std.proofs.Common.{◌≡◌, ℕ, ◌+◌, false, List, [], ◌∷◌, ◌++◌, map, Option, None, Some, option_map, refl, sym, ap, ◌∙◌, if◌then◌else◌}
 use Rattle.std.proofs.lemmas.List.{map-append}
 use Rattle.nqs_state.specs.State.{State}
 use Rattle.nqs_base_tables.specs.Table.{best_from}
@@ -90,7 +90,7 @@ module _ {E F : Type 0} (f : E → F) where
 
   pub ticked-map : (now : ℕ) (s : State E) → ticked now (map_state f s) ≡ map_stepped f (ticked now s)
   ticked-map now s =
-      ap (λ l. record { change = silence now s.retry_wait (silent_hands now s); outputs = l })
+      ap (λ l. record { change = silence now s.retry_wait (silent_hands now s); outputs = l; halts = false })
       ((λ j. tick_outputs-map now s j ++ due_outputs-map s j) ∙ sym (map-append (map_pending f) (on_tick now s).outputs (due_outputs s)))
 
   -- a job ends
@@ -98,6 +98,6 @@ module _ {E F : Type 0} (f : E → F) where
       → on_end status (map_row f r) output error (map_state f s) ≡ map_stepped f (on_end status r output error s)
   on_end-map status r output error s = ap (λ l. record {
     change = (on_end status r output error s).change;
-    outputs =
-        (out.Ended r.id r.starts status, None) ∷ l;
+    outputs = (out.Ended r.id r.starts status, None) ∷ l;
+    halts = false;
   }) (parts_sent-map s r.id (kept_parts s r output error))

@@ -26,8 +26,9 @@ use Rattle.nqs_rules.specs.InOrder.{is_promise_open, is_hand_right, is_promise_r
 use Rattle.nqs_rules.proofs.Sublists.{IsPart, without_part, map_part, part_behind, part_length, part_all, part_distinct}
 use Rattle.nqs_rules.proofs.ListFacts.{list_all-weaker}
 use Rattle.nqs_rules.proofs.KeyFacts.{all-both, all-added, distinct-added}
-use Rattle.nqs_rules.proofs.StateFacts.{parameters_kept, sites_are, sites_right, short_are, short_right, keys_are, keys_right}
-use Rattle.nqs_rules.proofs.RowFacts.{same_it, same_peer_number, Keeps, promise_is, promise_right, row_kept, rows_kept, promises_kept}
+use Rattle.nqs_rules.proofs.StateFacts.{parameters_kept, sites_are, sites_right, short_are, keys_are}
+use Rattle.nqs_rules.proofs.SameBut.{with_requests}
+use Rattle.nqs_rules.proofs.RowFacts.{same_it, same_peer_number, Keeps, promise_is, promise_right, row_kept, rows_kept}
 use Rattle.nqs_rules.proofs.RowsOrder.{hand_is, hand_right}
 
 module _ {V : Type 0} where
@@ -168,48 +169,13 @@ module _ {E : Type 0} where
   pub promises_part : (s : State E) (ps : List (Promise E)) → IsPart ps s.promises → IsInOrder s → IsInOrder (record s { promises = ps })
   promises_part s ps part h =
       let keys = keys_are s h.keys in
-      let short = short_are s h.short in
-      let t : State E = record s { promises = ps } in
       let few = part_length part in
-      let held : nat_le (length s.rows + length s.promises) 10000 ≡ true = short.held in
-      let keeps : Keeps s t = record { me = refl; site = refl; seq = omega arith; arrivals = omega arith; queues = λ q k. k; devices = λ d k. k } in
-      record {
-        site = h.site;
-        parameters = parameters_kept s t refl (λ q k. k) h.parameters;
-        short = short_right t (record {
-          queues = short.queues;
-          complexes = short.complexes;
-          devices = short.devices;
-          managers = short.managers;
-          operators =
-              short.operators;
-          held = le-leb (length s.rows + length ps) 10000
-              (let k = leb-true (length s.rows + length s.promises) 10000 held in omega (arith, few, k));
-        });
-        keys = keys_right t (record {
-          queues = keys.queues;
-          complexes = keys.complexes;
-          devices = keys.devices;
-          rows = keys.rows;
-          hands = keys.hands;
-          promises =
-              part_distinct peer_number_eq (map_part promise_key part) keys.promises;
-          stages = keys.stages;
-          files = keys.files;
-        });
-        arrivals = part_distinct same_number (part_behind (map (λ r. r.arrival) s.rows) (map_part (λ p. p.row.arrival) part)) h.arrivals;
-        queues = h.queues;
-        complexes = h.complexes;
-        rows = rows_kept s t keeps s.rows h.rows;
-        promises = promises_kept s t keeps refl ps (part_all (is_promise_right s) part h.promises);
-        promisers = part_distinct same_host (map_part (λ p. p.peer) part) h.promisers;
-        hands = h.hands;
-        few = h.few;
-        offers = h.offers;
-        peers = h.peers;
-        stages = h.stages;
-        files = h.files;
-      }
+      let held : nat_le (length s.rows + length s.promises) 10000 ≡ true = (short_are s h.short).held in
+      with_requests s s.rows ps h
+      (le-leb (length s.rows + length ps) 10000 (let k = leb-true (length s.rows + length s.promises) 10000 held in omega (arith, few, k))) keys.rows
+      (part_distinct peer_number_eq (map_part promise_key part) keys.promises)
+      (part_distinct same_number (part_behind (map (λ r. r.arrival) s.rows) (map_part (λ p. p.row.arrival) part)) h.arrivals)
+      (part_distinct same_host (map_part (λ p. p.peer) part) h.promisers) h.rows (part_all (is_promise_right s) part h.promises) h.hands
 
   pub promise_dropped : (s : State E) (k : PeerNumber) → IsInOrder s → IsInOrder (drop_promise k s)
   promise_dropped s k h = promises_part s (without_first (is_promise k) s.promises) (without_part (is_promise k) s.promises) h
@@ -220,52 +186,18 @@ module _ {E : Type 0} where
       → IsInOrder (record s { promises = s.promises ++ p ∷ [] })
   promise_added s p h right others new few =
       let keys = keys_are s h.keys in
-      let short = short_are s h.short in
-      let t : State E = record s { promises = s.promises ++ p ∷ [] } in
       let held : nat_lt (length s.rows + length s.promises) 10000 ≡ true = few in
       let below = ltb-true (length s.rows + length s.promises) 10000 held in
       let grown : length (s.promises ++ p ∷ []) ≡ length s.promises + length (p ∷ []) = length-append s.promises (p ∷ []) in
       let one : length (p ∷ []) ≡ 1 = refl in
-      let keeps : Keeps s t = record { me = refl; site = refl; seq = omega arith; arrivals = omega arith; queues = λ q k. k; devices = λ d k. k } in
-      record {
-        site = h.site;
-        parameters = parameters_kept s t refl (λ q k. k) h.parameters;
-        short = short_right t (record {
-          queues = short.queues;
-          complexes = short.complexes;
-          devices = short.devices;
-          managers = short.managers;
-          operators =
-              short.operators;
-          held = le-leb (length s.rows + length (s.promises ++ p ∷ [])) 10000 (omega (arith, grown, one, below));
-        });
-        keys = keys_right t (record {
-          queues = keys.queues;
-          complexes = keys.complexes;
-          devices = keys.devices;
-          rows = keys.rows;
-          hands = keys.hands;
-          promises =
-              ap (are_distinct peer_number_eq) (map-append promise_key s.promises (p ∷ []))
-              ∙ distinct-added peer_number_eq peer_number_exact same_peer_number (map promise_key s.promises) (promise_key p)
-              (no_key s.promises others) keys.promises;
-          stages = keys.stages;
-          files = keys.files;
-        });
-        arrivals = arrivals;
-        queues = h.queues;
-        complexes = h.complexes;
-        rows = rows_kept s t keeps s.rows h.rows;
-        promises = promises_kept s t keeps refl (s.promises ++ p ∷ []) (all-added (is_promise_right s) s.promises p h.promises right);
-        promisers = ap (are_distinct same_host) (map-append (λ q. q.peer) s.promises (p ∷ []))
-            ∙ distinct-added same_host same_host_exact (λ a. same_it a.0) (promisers s) p.peer (no_peer s.promises others) h.promisers;
-        hands = h.hands;
-        few = h.few;
-        offers = h.offers;
-        peers = h.peers;
-        stages = h.stages;
-        files = h.files;
-      }
+      with_requests s s.rows (s.promises ++ p ∷ []) h (le-leb (length s.rows + length (s.promises ++ p ∷ [])) 10000
+      (omega (arith, grown, one, below))) keys.rows
+      (ap (are_distinct peer_number_eq) (map-append promise_key s.promises (p ∷ []))
+      ∙ distinct-added peer_number_eq peer_number_exact same_peer_number (map promise_key s.promises) (promise_key p)
+      (no_key s.promises others) keys.promises) arrivals
+      (ap (are_distinct same_host) (map-append (λ q. q.peer) s.promises (p ∷ []))
+      ∙ distinct-added same_host same_host_exact (λ a. same_it a.0) (promisers s) p.peer (no_peer s.promises others) h.promisers) h.rows
+      (all-added (is_promise_right s) s.promises p h.promises right) h.hands
     where
       no_key : (ps : List (Promise E)) → list_all (λ q. not (is_promise_of p.peer q)) ps ≡ true
           → list_any (peer_number_eq (promise_key p)) (map promise_key ps) ≡ false

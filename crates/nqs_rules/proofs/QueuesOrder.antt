@@ -3,10 +3,10 @@ use Rattle.std.proofs.Common.{◌≡◌, ℕ, ◌+◌, ◌≤◌, Bool, true, fa
 use Rattle.std.proofs.Common.{refl, ap, ◌∙◌, arith, if◌then◌else◌}
 use Rattle.std.proofs.lemmas.Bool.{and_parts, and_from, leb-true, le-leb, ltb-true, ltb-false, not-true}
 use Rattle.std.proofs.lemmas.List.{map-append, length-append, length-map}
-use Rattle.std.specs.List.{list_all}
+use Rattle.std.specs.List.{list_any, list_all}
 use Rattle.nqs_state.specs.State.{State}
 use Rattle.nqs_base.specs.Same.{name_eq, name_exact}
-use Rattle.nqs_base_tables.specs.Table.{without_first}
+use Rattle.nqs_base_tables.specs.Table.{change_first}
 use Rattle.nqs_state.specs.Keys.{is_queue}
 use Rattle.nqs_types.specs.declared.request.Row.{Row}
 use Rattle.nqs_types.specs.declared.request.Promise.{Promise}
@@ -26,8 +26,9 @@ use Rattle.nqs_rules.proofs.ListMaps.{list_any-map}
 use Rattle.nqs_rules.proofs.KeyFacts.{all-both, none_passes, filter_all, all-added, any-before, any-changed, any-without_other, distinct-added, length_changed}
 use Rattle.nqs_rules.proofs.KeyFacts.{turned}
 use Rattle.nqs_rules.proofs.FindKept.{all-mapped, map-kept}
-use Rattle.nqs_rules.proofs.StateFacts.{parameters_kept, parameters_are, parameters_right, short_are, short_right, keys_are, keys_right}
-use Rattle.nqs_rules.proofs.RowFacts.{same_name, Keeps, row_is, row_kept_by, promise_is, promise_right, rows_kept, promises_kept}
+use Rattle.nqs_rules.proofs.StateFacts.{parameters_kept, parameters_are, parameters_right, short_are, short_with, keys_are, keys_with}
+use Rattle.nqs_rules.proofs.SameBut.{with_conf, with_more_conf}
+use Rattle.nqs_rules.proofs.RowFacts.{same_name, row_is, row_kept_by, promise_is, promise_right}
 
 module _ {E : Type 0} where
   pub record IsQueue (s : State E) (d : QueueDef) : Type 0 where
@@ -74,105 +75,39 @@ module _ {E : Type 0} where
       and_from (nat_le c.limit 10000) (list_all (λ q. has_queue q t) c.queues) p.0
       (list_all-weaker (λ q. has_queue q s) (λ q. has_queue q t) queues c.queues p.1)
 
+  -- other queues, where each name that was there still is
+  with_queues : (s : State E) (queues : List QueueDef) → IsInOrder s → nat_le (length queues) 256 ≡ true
+      → are_distinct name_eq (map (λ d. d.name) queues) ≡ true → list_all (is_queue_right s) queues ≡ true
+      → ((n : List ℕ) → has_queue n s ≡ true → list_any (is_queue n) queues ≡ true) → IsInOrder (record s { queues = queues })
+  with_queues s queues h few names right there =
+      let t : State E = record s { queues = queues } in
+      with_more_conf s t h (record { me = refl; site = refl; seq = omega arith; arrivals = omega arith; queues = there; devices = λ d k. k })
+      (parameters_kept s t refl there h.parameters) (short_with s 0 few h.short) (keys_with s 0 names h.keys) right
+      (list_all-weaker (is_complex_right s) (is_complex_right t) (complex_kept s t there) s.complexes h.complexes)
+
   -- one queue changes, and keeps its name
   pub queue_changed : (s : State E) (q : List ℕ) (f : QueueDef → QueueDef) → IsInOrder s → ((d : QueueDef) → (f d).name ≡ d.name)
       → ((d : QueueDef) → find (is_queue q) s.queues ≡ Some d → is_queue_right s d ≡ true → is_queue_right s (f d) ≡ true) → IsInOrder (change_queue q f s)
   queue_changed s q f h names right =
-      let keys = keys_are s h.keys in
-      let short = short_are s h.short in
-      let t : State E = change_queue q f s in
-      let there : (n : List ℕ) → has_queue n s ≡ true → has_queue n t ≡ true =
-      λ n k. any-changed name_eq (λ d. d.name) name_exact same_name (is_queue q) f names n s.queues ∙ k in
-      let keeps : Keeps s t = record { me = refl; site = refl; seq = omega arith; arrivals = omega arith; queues = there; devices = λ d k. k } in
-      record {
-        site = h.site;
-        parameters = parameters_kept s t refl there h.parameters;
-        short = short_right t (record {
-          queues = ap (λ n. nat_le n 256) (length_changed (is_queue q) f s.queues)
-              ∙ short.queues;
-          complexes = short.complexes;
-          devices = short.devices;
-          managers = short.managers;
-          operators = short.operators;
-          held = short.held;
-        });
-        keys = keys_right t (record {
-          queues = ap (are_distinct name_eq) (map-changed (λ d. d.name) (is_queue q) f names s.queues)
-              ∙ keys.queues;
-          complexes = keys.complexes;
-          devices = keys.devices;
-          rows = keys.rows;
-          hands = keys.hands;
-          promises = keys.promises;
-          stages =
-              keys.stages;
-          files = keys.files;
-        });
-        arrivals = h.arrivals;
-        queues = list_all-changed (is_queue_right s) (is_queue q) f s.queues h.queues
-            (λ d found. right d found (list_all-found (is_queue_right s) (is_queue q) s.queues d h.queues found));
-        complexes = list_all-weaker (is_complex_right s) (is_complex_right t) (complex_kept s t there) s.complexes h.complexes;
-        rows = rows_kept s t keeps s.rows h.rows;
-        promises = promises_kept s t keeps refl s.promises h.promises;
-        promisers = h.promisers;
-        hands = h.hands;
-        few = h.few;
-        offers = h.offers;
-        peers = h.peers;
-        stages = h.stages;
-        files = h.files;
-      }
+      with_queues s (change_first (is_queue q) f s.queues) h
+      (ap (λ n. nat_le n 256) (length_changed (is_queue q) f s.queues) ∙ (short_are s h.short).queues)
+      (ap (are_distinct name_eq) (map-changed (λ d. d.name) (is_queue q) f names s.queues) ∙ (keys_are s h.keys).queues)
+      (list_all-changed (is_queue_right s) (is_queue q) f s.queues h.queues
+      (λ d found. right d found (list_all-found (is_queue_right s) (is_queue q) s.queues d h.queues found)))
+      (λ n k. any-changed name_eq (λ d. d.name) name_exact same_name (is_queue q) f names n s.queues ∙ k)
 
   -- one queue more
   pub queue_added : (s : State E) (d : QueueDef) → IsInOrder s → is_queue_right s d ≡ true → has_queue d.name s ≡ false → nat_lt (length s.queues) 256 ≡ true
       → IsInOrder (add_queue d s)
   queue_added s d h right new few =
-      let keys = keys_are s h.keys in
-      let short = short_are s h.short in
-      let t : State E = add_queue d s in
-      let there : (n : List ℕ) → has_queue n s ≡ true → has_queue n t ≡ true = λ n k. any-before (is_queue n) s.queues (d ∷ []) k in
-      let keeps : Keeps s t = record { me = refl; site = refl; seq = omega arith; arrivals = omega arith; queues = there; devices = λ d k. k } in
       let grown : length (s.queues ++ d ∷ []) ≡ length s.queues + length (d ∷ []) = length-append s.queues (d ∷ []) in
       let one : length (d ∷ []) ≡ 1 = refl in
       let below = ltb-true (length s.queues) 256 few in
-      record {
-        site = h.site;
-        parameters = parameters_kept s t refl there h.parameters;
-        short = short_right t (record {
-          queues = le-leb (length (s.queues ++ d ∷ [])) 256 (omega (arith, grown, one, below));
-          complexes =
-              short.complexes;
-          devices = short.devices;
-          managers = short.managers;
-          operators = short.operators;
-          held = short.held;
-        });
-        keys = keys_right t (record {
-          queues = ap (are_distinct name_eq) (map-append (λ d. d.name) s.queues (d ∷ []))
-              ∙ distinct-added name_eq name_exact same_name (map (λ d. d.name) s.queues) d.name
-              (list_any-map (λ d. d.name) (name_eq d.name) s.queues ∙ new) keys.queues;
-          complexes = keys.complexes;
-          devices = keys.devices;
-          rows =
-              keys.rows;
-          hands = keys.hands;
-          promises = keys.promises;
-          stages = keys.stages;
-          files = keys.files;
-        });
-        arrivals = h.arrivals;
-        queues = all-added (is_queue_right s) s.queues d h.queues right;
-        complexes = list_all-weaker (is_complex_right s) (is_complex_right t) (complex_kept s t there) s.complexes h.complexes;
-        rows = rows_kept s t keeps s.rows h.rows;
-        promises = promises_kept s t keeps refl s.promises h.promises;
-        promisers = h.promisers;
-        hands = h.hands;
-        few = h.few;
-        offers = h.offers;
-        peers = h.peers;
-        stages = h.stages;
-        files = h.files;
-      }
+      with_queues s (s.queues ++ d ∷ []) h (le-leb (length (s.queues ++ d ∷ [])) 256 (omega (arith, grown, one, below)))
+      (ap (are_distinct name_eq) (map-append (λ d. d.name) s.queues (d ∷ []))
+      ∙ distinct-added name_eq name_exact same_name (map (λ d. d.name) s.queues) d.name
+      (list_any-map (λ d. d.name) (name_eq d.name) s.queues ∙ new) (keys_are s h.keys).queues)
+      (all-added (is_queue_right s) s.queues d h.queues right) (λ n k. any-before (is_queue n) s.queues (d ∷ []) k)
 
   -- a queue that nothing is in goes, from the complexes and as the default one too
   pub queue_deleted : (s : State E) (q : List ℕ) → IsInOrder s → nat_lt 0 (held_in q s) ≡ false → IsInOrder (conf_applied (DeleteQueue q) s)
@@ -185,56 +120,27 @@ module _ {E : Type 0} where
       let fewer = part_length part in
       let few = leb-true (length s.queues) 256 short.queues in
       let held : length (filter (row_in q) s.rows) + length (filter (promise_in q) s.promises) ≤ 0 = ltb-false 0 (held_in q s) empty in
-      record {
-        site = h.site;
-        parameters = parameters_right t (record {
-          limit = p.limit;
-          patience = p.patience;
-          wait = p.wait;
-          seq = p.seq;
-          arrivals = p.arrivals;
-          file_some =
-              p.file_some;
-          file = p.file;
-          queue = default_there s.default_queue p.queue;
-        });
-        short = short_right t (record {
-          queues = le-leb (length (without_first (is_queue q) s.queues)) 256 (omega (arith, fewer, few));
-          complexes =
-              ap (λ n. nat_le n 64) (length-map s.complexes (without_member q))
-              ∙ short.complexes;
-          devices = short.devices;
-          managers = short.managers;
-          operators = short.operators;
-          held = short.held;
-        });
-        keys = keys_right t (record {
-          queues = part_distinct name_eq (map_part (λ d. d.name) part) keys.queues;
-          complexes =
-              ap (are_distinct name_eq) (map-kept (λ c. c.name) (without_member q) (λ c. refl) s.complexes)
-              ∙ keys.complexes;
-          devices = keys.devices;
-          rows = keys.rows;
-          hands = keys.hands;
-          promises = keys.promises;
-          stages = keys.stages;
-          files =
-              keys.files;
-        });
-        arrivals = h.arrivals;
-        queues = part_all (is_queue_right s) part h.queues;
-        complexes = all-mapped (is_complex_right s) (is_complex_right t) (without_member q) complex s.complexes h.complexes;
-        rows = all-both (is_row_right s) (λ r. not (row_in q r)) (is_row_right t) row s.rows h.rows (none_passes (row_in q) s.rows (omega (arith, held)));
-        promises = all-both (is_promise_right s) (λ p. not (promise_in q p)) (is_promise_right t) promise s.promises h.promises
-            (none_passes (promise_in q) s.promises (omega (arith, held)));
-        promisers = h.promisers;
-        hands = h.hands;
-        few = h.few;
-        offers = h.offers;
-        peers = h.peers;
-        stages = h.stages;
-        files = h.files;
-      }
+      with_conf s t h
+      (parameters_right t (record {
+        limit = p.limit;
+        patience = p.patience;
+        wait = p.wait;
+        seq = p.seq;
+        arrivals = p.arrivals;
+        file_some = p.file_some;
+        file = p.file;
+        queue = default_there s.default_queue p.queue;
+      }))
+      (short_with (record s { queues = t.queues }) 1 (ap (λ n. nat_le n 64) (length-map s.complexes (without_member q)) ∙ short.complexes)
+      (short_with s 0 (le-leb (length t.queues) 256 (omega (arith, fewer, few))) h.short))
+      (keys_with (record s { queues = t.queues }) 1
+      (ap (are_distinct name_eq) (map-kept (λ c. c.name) (without_member q) (λ c. refl) s.complexes) ∙ keys.complexes)
+      (keys_with s 0 (part_distinct name_eq (map_part (λ d. d.name) part) keys.queues) h.keys))
+      (part_all (is_queue_right s) part h.queues)
+      (all-mapped (is_complex_right s) (is_complex_right t) (without_member q) complex s.complexes h.complexes)
+      (all-both (is_row_right s) (λ r. not (row_in q r)) (is_row_right t) row s.rows h.rows (none_passes (row_in q) s.rows (omega (arith, held))))
+      (all-both (is_promise_right s) (λ p. not (promise_in q p)) (is_promise_right t) promise s.promises h.promises
+      (none_passes (promise_in q) s.promises (omega (arith, held))))
     where
       there : (n : List ℕ) → name_eq q n ≡ false → has_queue n s ≡ true → has_queue n (conf_applied (DeleteQueue q) s) ≡ true
       there n other k = any-without_other name_eq (λ d. d.name) name_exact same_name n q s.queues (turned name_eq name_exact same_name q n other) ∙ k

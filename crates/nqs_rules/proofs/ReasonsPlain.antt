@@ -17,7 +17,7 @@ use Rattle.nqs_rules.specs.Routing.{refuses}
 use Rattle.nqs_rules.specs.Devices.{can_serve}
 use Rattle.nqs_rules.specs.Order.{below, is_active_in, is_active_of, runs_in, runs_in_batch, complex_allows, kind_allows, is_eligible, comes_before}
 use Rattle.nqs_rules.specs.Plain.{map_row, map_state}
-use Rattle.nqs_rules.proofs.ListMaps.{count-map}
+use Rattle.nqs_index.proofs.Numbers.{number-map}
 use Rattle.nqs_rules.proofs.FoundPlain.{is_busy-map}
 use Rattle.nqs_types.specs.declared.reason.Reason.TheVariants.{QueueStopped, UserLimit, RunLimit, ComplexLimit, GlobalLimit, NoDevice, Next}
 use Rattle.nqs_types.specs.declared.reason.DestAnswer.TheVariants.{MayBeTried}
@@ -28,7 +28,7 @@ use Rattle.nqs_rules.specs.Why.{reason_line, dest_lines, before_lines, why_lines
 
 module _ {E F : Type 0} (f : E → F) (now : ℕ) (s : State E) where
   complex_allows-map : (q : List ℕ) (c : ComplexDef) → complex_allows q (map_state f s) c ≡ complex_allows q s c
-  complex_allows-map q c = ap (λ n. not (has_name c.queues q) || nat_lt n c.limit) (count-map (map_row f) (runs_in c) s.rows)
+  complex_allows-map q c = ap (λ n. not (has_name c.queues q) || nat_lt n c.limit) (number-map (map_row f) (runs_in c) s.rows)
 
   kind_allows-map : (k : Kind) (d : QueueDef) (r : Row E) → kind_allows k d now (map_state f s) (map_row f r) ≡ kind_allows k d now s r
   kind_allows-map Batch d r = refl
@@ -38,24 +38,24 @@ module _ {E F : Type 0} (f : E → F) (now : ℕ) (s : State E) where
 
   eligible-map : (d : QueueDef) (r : Row E) → is_eligible d now (map_state f s) (map_row f r) ≡ is_eligible d now s r
   eligible-map d r = (λ j. name_eq d.name r.queue && is_ready r && nat_le r.job.earliest now
-      && below (count-map (map_row f) (is_active_of d.name r.job.owner) s.rows j) d.user_limit && kind_allows-map d.kind d r j)
+      && below (number-map (map_row f) (is_active_of d.name r.job.owner) s.rows j) d.user_limit && kind_allows-map d.kind d r j)
 
   module _ (d : QueueDef) (r : Row E) where
     kind_conditions-map : (k : Kind) → kind_conditions k d now (map_state f s) (map_row f r) ≡ kind_conditions k d now s r
     kind_conditions-map Batch = (λ j. map (λ c. (complex_allows-map d.name c j, ComplexLimit c.name c.limit)) s.complexes
-        ++ (nat_lt (count-map (map_row f) (runs_in_batch (map_state f s)) s.rows j) s.global_limit, GlobalLimit s.global_limit) ∷ [])
+        ++ (nat_lt (number-map (map_row f) (runs_in_batch (map_state f s)) s.rows j) s.global_limit, GlobalLimit s.global_limit) ∷ [])
     kind_conditions-map Device = (λ j. (kind_allows-map Device d r j, NoDevice r.job.forms) ∷ [])
     kind_conditions-map Pipe = refl
 
     conditions-map : conditions d now (map_state f s) (map_row f r) ≡ conditions d now s r
     conditions-map = (λ j. row_conditions now r
         ++ ((d.started, QueueStopped)
-        ∷ (below (count-map (map_row f) (is_active_of d.name r.job.owner) s.rows j) d.user_limit, UserLimit (unwrap_or d.user_limit 0))
-        ∷ (nat_lt (count-map (map_row f) (is_active_in d.name) s.rows j) d.run_limit, RunLimit d.run_limit) ∷ kind_conditions-map d.kind j))
+        ∷ (below (number-map (map_row f) (is_active_of d.name r.job.owner) s.rows j) d.user_limit, UserLimit (unwrap_or d.user_limit 0))
+        ∷ (nat_lt (number-map (map_row f) (is_active_in d.name) s.rows j) d.run_limit, RunLimit d.run_limit) ∷ kind_conditions-map d.kind j))
 
     next-map : next_in d now (map_state f s) (map_row f r) ≡ next_in d now s r
     next-map =
-        ap Next (count-map (map_row f) (goes_first d now (map_state f s) (map_row f r)) s.rows
+        ap Next (number-map (map_row f) (goes_first d now (map_state f s) (map_row f r)) s.rows
         ∙ (λ j. length (filter (λ other. comes_before other r && eligible-map d other j) s.rows)))
 
   pub reason-map : (r : Row E) → reason_of now (map_state f s) (map_row f r) ≡ reason_of now s r
@@ -66,7 +66,7 @@ module _ {E F : Type 0} (f : E → F) (now : ℕ) (s : State E) where
       of (Some d) = (λ j. first_failing (conditions-map d r j) (next-map d r j))
 
   pub count_before-map : (r : Row E) → count_before now (map_state f s) (map_row f r) ≡ count_before now s r
-  count_before-map r = count-map (map_row f) (waits_before now (map_row f r)) s.rows
+  count_before-map r = number-map (map_row f) (waits_before now (map_row f r)) s.rows
 
   peer_conditions-map : (o : Option Peer) (host : HostId) → peer_conditions o host now (map_state f s) ≡ peer_conditions o host now s
   peer_conditions-map None host = refl

@@ -29,7 +29,8 @@ use Rattle.nqs_rules.proofs.ListMaps.{list_any-map}
 use Rattle.nqs_rules.proofs.KeyFacts.{none_from_all, distinct-renamed}
 use Rattle.nqs_rules.proofs.FindKept.{find-filter_kept, find-filter_map_kept, find-map_kept, find-changed_kept, all-filter_map, all-mapped, map-kept}
 use Rattle.nqs_rules.proofs.StateFacts.{default_kept, parameters_are, parameters_right, short_are, keys_are}
-use Rattle.nqs_rules.proofs.RowFacts.{same_it, Keeps, row_is, promise_is, rows_kept, promises_kept}
+use Rattle.nqs_rules.proofs.RowFacts.{same_it, row_is, promise_is}
+use Rattle.nqs_rules.proofs.SameBut.{with_more_conf}
 use Rattle.nqs_rules.proofs.RowsOrder.{is_no_offer_of, with_rows, no_offer, still_stand, changed_with, others_stand, others_found}
 use Rattle.nqs_rules.proofs.RowChanges.{queued_is, routing_is, running_is, doomed_in_right, booted_right, released_right}
 
@@ -124,36 +125,18 @@ module _ {E : Type 0} where
       → IsInOrder (record s { seq = seq; arrivals = arrivals })
   counted s seq arrivals h more few later last =
       let t : State E = record s { seq = seq; arrivals = arrivals } in
-      let keeps : Keeps s t = record { me = refl; site = refl; seq = more; arrivals = later; queues = λ q k. k; devices = λ d k. k } in
       let p = parameters_are s h.parameters in
-      record {
-        site = h.site;
-        parameters = parameters_right t (record {
-          limit = p.limit;
-          patience = p.patience;
-          wait = p.wait;
-          seq = le-leb seq last_seq few;
-          arrivals =
-              le-leb arrivals last_u64 last;
-          file_some = p.file_some;
-          file = p.file;
-          queue = default_kept s t (λ q k. k) s.default_queue p.queue;
-        });
-        short = h.short;
-        keys = h.keys;
-        arrivals = h.arrivals;
-        queues = h.queues;
-        complexes = h.complexes;
-        rows = rows_kept s t keeps s.rows h.rows;
-        promises = promises_kept s t keeps refl s.promises h.promises;
-        promisers = h.promisers;
-        hands = h.hands;
-        few = h.few;
-        offers = h.offers;
-        peers = h.peers;
-        stages = h.stages;
-        files = h.files;
-      }
+      with_more_conf s t h (record { me = refl; site = refl; seq = more; arrivals = later; queues = λ q k. k; devices = λ d k. k })
+      (parameters_right t (record {
+        limit = p.limit;
+        patience = p.patience;
+        wait = p.wait;
+        seq = le-leb seq last_seq few;
+        arrivals = le-leb arrivals last_u64 last;
+        file_some = p.file_some;
+        file = p.file;
+        queue = default_kept s t (λ q k. k) s.default_queue p.queue;
+      })) h.short h.keys h.queues h.complexes
 
   pub arrival_given : (s : State E) → IsInOrder s → not (arrivals_used s) ≡ true → IsInOrder (next_arrival s)
   arrival_given s h some =

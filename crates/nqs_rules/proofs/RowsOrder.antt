@@ -22,10 +22,11 @@ use Rattle.nqs_rules.proofs.Chains.{each, chained, imply, implied, not_both}
 use Rattle.nqs_rules.proofs.Sublists.{without_part, map_part, part_before, part_length, part_all, part_distinct}
 use Rattle.nqs_rules.proofs.ListFacts.{list_all-found, list_all-weaker, list_all-changed, map-changed}
 use Rattle.nqs_rules.proofs.ListMaps.{list_any-map}
-use Rattle.nqs_rules.proofs.KeyFacts.{all-both, all-added, find-before, turned, distinct-added, distinct-between, find-without_other, find-changed_other}
+use Rattle.nqs_rules.proofs.KeyFacts.{all-both, all-added, find-before, turned, distinct-added, distinct-between, find-without_other, found_other}
 use Rattle.nqs_rules.proofs.KeyFacts.{length_changed}
-use Rattle.nqs_rules.proofs.StateFacts.{parameters_kept, short_are, short_right, keys_are, keys_right}
-use Rattle.nqs_rules.proofs.RowFacts.{same_id, same_it, Keeps, rows_kept, promises_kept}
+use Rattle.nqs_rules.proofs.StateFacts.{short_are, keys_are}
+use Rattle.nqs_rules.proofs.SameBut.{with_requests}
+use Rattle.nqs_rules.proofs.RowFacts.{same_id, same_it}
 
 abbrev pub is_no_offer_of : RequestId → Hand → Bool
 is_no_offer_of id h = not (is_offered_for id h)
@@ -55,47 +56,10 @@ module _ {E : Type 0} where
       → are_distinct same_number (map (λ r. r.arrival) rows ++ map (λ p. p.row.arrival) s.promises) ≡ true
       → list_all (stands rows) s.hands ≡ true → IsInOrder (record s { rows = rows })
   with_rows s rows h few right ids arrivals offers =
-      let short = short_are s h.short in
-      let keys = keys_are s h.keys in
       let t = record s { rows = rows } in
-      let keeps : Keeps s t = record { me = refl; site = refl; seq = omega arith; arrivals = omega arith; queues = λ q k. k; devices = λ d k. k } in
-      record {
-        site = h.site;
-        parameters = parameters_kept s t refl (λ q k. k) h.parameters;
-        short = short_right t (record {
-          queues = short.queues;
-          complexes = short.complexes;
-          devices = short.devices;
-          managers = short.managers;
-          operators =
-              short.operators;
-          held = few;
-        });
-        keys = keys_right t (record {
-          queues = keys.queues;
-          complexes = keys.complexes;
-          devices = keys.devices;
-          rows = ids;
-          hands = keys.hands;
-          promises =
-              keys.promises;
-          stages = keys.stages;
-          files = keys.files;
-        });
-        arrivals = arrivals;
-        queues = h.queues;
-        complexes = h.complexes;
-        rows = rows_kept s t keeps rows right;
-        promises = promises_kept s t keeps refl s.promises h.promises;
-        promisers = h.promisers;
-        hands = all-both (is_hand_right s) (stands rows) (is_hand_right t)
-            (λ x k stay. let p = hand_is s x k in hand_right t x (record { id = p.id; given = p.given; stands = stay })) s.hands h.hands offers;
-        few = h.few;
-        offers = h.offers;
-        peers = h.peers;
-        stages = h.stages;
-        files = h.files;
-      }
+      with_requests s rows s.promises h few ids (keys_are s h.keys).promises arrivals h.promisers right h.promises
+      (all-both (is_hand_right s) (stands rows) (is_hand_right t)
+      (λ x k stay. let p = hand_is s x k in hand_right t x (record { id = p.id; given = p.given; stands = stay })) s.hands h.hands offers)
 
   -- a row that isn't on its way has no offer
   pub no_offer : (s : State E) (id : RequestId) → IsInOrder s → (r : Row E) → find_row id s ≡ Some r → is_routing r.state ≡ false
@@ -151,7 +115,7 @@ module _ {E : Type 0} where
         (ap (are_distinct id_eq) (map-changed (λ r. r.id) (is_row id) f ids s.rows) ∙ (keys_are s h.keys).rows) arrivals offers
 
     pub others_found : (k : RequestId) → id_eq k id ≡ false → find (is_row k) (change_first (is_row id) f s.rows) ≡ find (is_row k) s.rows
-    others_found k other = find-changed_other id_eq (λ r. r.id) id_exact same_id f ids k id s.rows other
+    others_found k other = found_other id_eq (λ r. r.id) id_exact f ids k id s.rows other
 
     -- the arrival stays too, and the row has no offer
     pub row_changed : ((r : Row E) → (f r).arrival ≡ r.arrival) → list_all (is_no_offer_of id) s.hands ≡ true → IsInOrder (change_row id f s)

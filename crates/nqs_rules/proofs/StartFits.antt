@@ -21,7 +21,7 @@ use Rattle.nqs_rules.proofs.StepFits.{Fitting}
 
 module _ {E : Type 0} where
   -- a state in order is steady, whatever bytes are put for its scripts
-  steady_plain : (f : E → List ℕ) (s : State E) → IsInOrder s → IsSteady (map_state f s)
+  pub steady_plain : (f : E → List ℕ) (s : State E) → IsInOrder s → IsSteady (map_state f s)
   steady_plain f s h = record {
     ids = ap (are_distinct id_eq) (map-map (λ r. r.id) (map_row f) s.rows) ∙ (keys_are s h.keys).rows;
     names = (keys_are s h.keys).queues;

@@ -29,7 +29,8 @@ use Rattle.nqs_rules.specs.Stepped.{Stepped, map_stepped}
 use Rattle.nqs_rules.specs.Start.{launching, printing, local_causes, moving_by, moving, holding, with_row, device_at, dest_at, started, start_by, start}
 use Rattle.nqs_rules.specs.Measure.{starts_of, starts_left}
 use Rattle.nqs_rules.specs.Plain.{map_row, map_state}
-use Rattle.nqs_rules.proofs.ListMaps.{count-map, best_from-map, at_place}
+use Rattle.nqs_index.proofs.Numbers.{number-map}
+use Rattle.nqs_rules.proofs.ListMaps.{best_from-map, at_place}
 use Rattle.nqs_rules.proofs.FoundPlain.{is_busy-map}
 
 is_some-option_map : {V W : Type 0} (m : V → W) (o : Option V) → is_some (option_map m o) ≡ is_some o
@@ -40,13 +41,13 @@ module _ {E F : Type 0} (f : E → F) where
   -- limits
 
   complex_allows-map : (q : List ℕ) (s : State E) (c : ComplexDef) → complex_allows q (map_state f s) c ≡ complex_allows q s c
-  complex_allows-map q s c = ap (λ n. not (has_name c.queues q) || nat_lt n c.limit) (count-map (map_row f) (runs_in c) s.rows)
+  complex_allows-map q s c = ap (λ n. not (has_name c.queues q) || nat_lt n c.limit) (number-map (map_row f) (runs_in c) s.rows)
 
   within-map : (d : QueueDef) (s : State E) → is_within_limits d (map_state f s) ≡ is_within_limits d s
-  within-map d s = (λ j. nat_lt (count-map (map_row f) (is_active_in d.name) s.rows j) d.run_limit
+  within-map d s = (λ j. nat_lt (number-map (map_row f) (is_active_in d.name) s.rows j) d.run_limit
       && (not (is_batch d.kind)
       || (list_all (λ c. complex_allows-map d.name s c j) s.complexes && nat_lt
-      (count-map (map_row f) (runs_in_batch (map_state f s)) s.rows j) s.global_limit)))
+      (number-map (map_row f) (runs_in_batch (map_state f s)) s.rows j) s.global_limit)))
 
   -- eligible rows, and queues that have one
 
@@ -60,7 +61,7 @@ module _ {E F : Type 0} (f : E → F) where
 
   eligible-map : (d : QueueDef) (now : ℕ) (s : State E) (r : Row E) → is_eligible d now (map_state f s) (map_row f r) ≡ is_eligible d now s r
   eligible-map d now s r = (λ j. name_eq d.name r.queue && is_ready r && nat_le r.job.earliest now
-      && below (count-map (map_row f) (is_active_of d.name r.job.owner) s.rows j) d.user_limit && kind_allows-map d.kind d now s r j)
+      && below (number-map (map_row f) (is_active_of d.name r.job.owner) s.rows j) d.user_limit && kind_allows-map d.kind d now s r j)
 
   first_eligible-map : (d : QueueDef) (now : ℕ) (s : State E) → first_eligible d now (map_state f s)
       ≡ option_map (at_place (map_row f)) (first_eligible d now s)

@@ -1,5 +1,5 @@
 -- The tests of a state in order, part by part.
-use Rattle.std.proofs.Common.{◌≡◌, ℕ, Bool, true, ◌==◌, nat_le, List, [], ◌∷◌, map, length, Option, None, Some, refl, ◌∙◌}
+use Rattle.std.proofs.Common.{◌≡◌, ℕ, Bool, true, ◌==◌, nat_le, List, [], ◌∷◌, map, length, slice_set, Option, None, Some, refl, ◌∙◌}
 use Rattle.nqs_state.specs.State.{State}
 use Rattle.nqs_base.specs.Same.{name_eq}
 use Rattle.nqs_types.specs.Ids.{id_eq, peer_number_eq, hand_key, promise_key, stage_key}
@@ -8,7 +8,7 @@ use Rattle.nqs_rules.specs.Conf.{is_wait}
 use Rattle.nqs_rules.specs.Find.{held_count, has_queue}
 use Rattle.nqs_rules.specs.Fits.{is_site_host}
 use Rattle.nqs_rules.specs.InOrder.{are_distinct, same_number, is_default_there, are_keys_distinct, is_site_right, are_lists_short, are_parameters_right}
-use Rattle.nqs_rules.proofs.Chains.{each, chained}
+use Rattle.nqs_rules.proofs.Chains.{all_of, each, chained, replaced}
 
 module _ {E : Type 0} where
   pub record IsSite (s : State E) : Type 0 where
@@ -92,6 +92,11 @@ module _ {E : Type 0} where
   pub short_right : (s : State E) → IsShort s → are_lists_short s ≡ true
   short_right s h = chained (nat_le (length s.queues) 256) (short_tests s) (h.queues, (h.complexes, (h.devices, (h.managers, (h.operators, (h.held, tt))))))
 
+  -- another test in the place of one: 0 of queues, 1 of complexes, 2 of devices, 3 of managers, 4 of operators, 5 of what is held
+  pub short_with : (s : State E) (n : ℕ) {c : Bool} → c ≡ true → are_lists_short s ≡ true
+      → all_of (slice_set (nat_le (length s.queues) 256 ∷ short_tests s) n c) ≡ true
+  short_with s = replaced (nat_le (length s.queues) 256) (short_tests s)
+
   pub record IsKeyed (s : State E) : Type 0 where
     pub queues : are_distinct name_eq (map (λ q. q.name) s.queues) ≡ true
     pub complexes : are_distinct name_eq (map (λ c. c.name) s.complexes) ≡ true
@@ -125,6 +130,11 @@ module _ {E : Type 0} where
   pub keys_right : (s : State E) → IsKeyed s → are_keys_distinct s ≡ true
   keys_right s h = chained (are_distinct name_eq (map (λ q. q.name) s.queues)) (keys_tests s)
       (h.queues, (h.complexes, (h.devices, (h.rows, (h.hands, (h.promises, (h.stages, (h.files, tt))))))))
+
+  -- another test in the place of one: 0 of queues, 1 of complexes, 2 of devices, 3 of rows, 4 of hands, 5 of promises, 6 of stages, 7 of files
+  pub keys_with : (s : State E) (n : ℕ) {c : Bool} → c ≡ true → are_keys_distinct s ≡ true
+      → all_of (slice_set (are_distinct name_eq (map (λ q. q.name) s.queues) ∷ keys_tests s) n c) ≡ true
+  keys_with s = replaced (are_distinct name_eq (map (λ q. q.name) s.queues)) (keys_tests s)
 
   -- the host's parameters, where its default queue stays
 

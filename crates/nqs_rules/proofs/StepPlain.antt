@@ -94,10 +94,10 @@ module _ {E F : Type 0} (f : E → F) where
 
   behind-map : (done : Stepped E) (more : List (Pending E)) → record {
     change = done.change;
-    outputs =
-        map (map_pending f) done.outputs ++ map (map_pending f) more;
-  } ≡ map_stepped f (record { change = done.change; outputs = done.outputs ++ more })
-  behind-map done more = ap (λ l. record { change = done.change; outputs = l }) (sym (map-append (map_pending f) done.outputs more))
+    outputs = map (map_pending f) done.outputs ++ map (map_pending f) more;
+    halts = done.halts;
+  } ≡ map_stepped f (record { change = done.change; outputs = done.outputs ++ more; halts = done.halts })
+  behind-map done more = ap (λ l. record { change = done.change; outputs = l; halts = done.halts }) (sym (map-append (map_pending f) done.outputs more))
 
   on_allowed-map : (now : ℕ) (a : Asker) (user : List ℕ) (c : Command) (s : State E)
       → on_allowed now a user c (map_state f s) ≡ map_stepped f (on_allowed now a user c s)
@@ -140,8 +140,8 @@ module _ {E F : Type 0} (f : E → F) where
       ∙ ended-map (find_row id s) start status output error s)
       ∙ ap (λ l. record {
         change = (ended_by (find_row id s) start status output error s).change;
-        outputs =
-            map (map_pending f) (ended_by (find_row id s) start status output error s).outputs ++ l;
+        outputs = map (map_pending f) (ended_by (find_row id s) start status output error s).outputs ++ l;
+        halts = (ended_by (find_row id s) start status output error s).halts;
       }) (acknowledged-map port id start)
       ∙ behind-map (ended_by (find_row id s) start status output error s) (acknowledged port id start)
   step-map (event.Unlaunched now id start) s = ap (λ o. unlaunched_by o id start) (find_row-map f id s) ∙ unlaunched-map (find_row id s) id start

@@ -2,17 +2,14 @@
 use Rattle.std.proofs.Common.{◌≡◌, Bool, true, false, not, ◌&&◌, ◌||◌, List, [], ◌∷◌, ◌++◌, map, refl, sym, ap, ◌∙◌}
 use Rattle.std.proofs.lemmas.List.{map-append}
 use Rattle.std.specs.List.{list_any}
+use Rattle.nqs_base.proofs.Plain.{or_last}
 use Rattle.nqs_base_tables.specs.Table.{has_key}
 use Rattle.nqs_rules.specs.InOrder.{are_distinct}
 use Rattle.nqs_rules.proofs.KeyFacts.{distinct-added}
 
-or_later : (b c : Bool) → c ≡ true → (b || c) ≡ true
-or_later true c is = refl
-or_later false c is = is
-
 any_there : {K : Type 0} (t : K → Bool) (xs : List K) (k : K) (rest : List K) → t k ≡ true → list_any t (xs ++ k ∷ rest) ≡ true
 any_there t [] k rest is = ap (λ b. b || list_any t rest) is
-any_there t (x ∷ xs) k rest is = or_later (t x) (list_any t (xs ++ k ∷ rest)) (any_there t xs k rest is)
+any_there t (x ∷ xs) k rest is = or_last (t x) (list_any t (xs ++ k ∷ rest)) (any_there t xs k rest is)
 
 no_and : (b c : Bool) → c ≡ false → (b && c) ≡ false
 no_and true c is = is

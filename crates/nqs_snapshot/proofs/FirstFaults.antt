@@ -1,6 +1,7 @@
 -- Which bytes have which first fault.
 use Rattle.std.proofs.Common.{◌≡◌, ◌⊎◌, inl, inr, ℕ, ◌+◌, ◌<◌, Bool, true, false, cond, nat_lt, List, [], ◌++◌, length, refl, sym, ap, ◌∙◌, subst, arith}
 use Rattle.std.proofs.Common.{length-append, drop, Ok, Err}
+use Rattle.std.proofs.lemmas.Bool.{ltb-true}
 use Rattle.std.proofs.lemmas.List.{length-drop}
 use Rattle.std.specs.Prelude.{⊤}
 use Rattle.nqs_base.specs.Want.{want}
@@ -10,7 +11,6 @@ use Rattle.nqs_records.specs.declared.fault.RecordFault.{RecordFault}
 use Rattle.nqs_records.specs.declared.fault.RecordFault.TheVariants.{Short, Kind, BadField, Trailing, Memory}
 use Rattle.nqs_records.specs.Reading.{◌>>=◌, Read}
 use Rattle.nqs_records.specs.Changes.{AreBytes}
-use Rattle.nqs_records.proofs.Numbers.{below}
 use Rattle.nqs_records.proofs.Steady.{Stays}
 use Rattle.nqs_records.proofs.FirstFaults.{both_bytes}
 use Rattle.std.proofs.lemmas.Bool.Decides.{nat_tests}
@@ -64,7 +64,7 @@ tells bytes more fits = by (parts_at bytes 0) refl (parts_steady bytes more 0)
     told : (p : Parts) (n : ℕ) → parts_at bytes 0 ≡ Ok (p, n) → parts_at (bytes ++ more) 0 ≡ Ok (p, n) → (t : Bool) → nat_lt n (length bytes) ≡ t
         → Tells bytes (cond t (Err (Trailing n)) (Ok p)) (whole_of (bytes ++ more))
     told p n e f true is =
-        let less = below n (length bytes) is in
+        let less = ltb-true n (length bytes) is in
         (followed bytes p n fits e less, trailing_by (bytes ++ more) p n f (longer n bytes more less))
     told p n e f false is = tt
 

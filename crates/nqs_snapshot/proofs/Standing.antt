@@ -35,7 +35,7 @@ use Rattle.nqs_records.specs.Values.{IsHost, IsId}
 use Rattle.nqs_snapshot.specs.Values.{IsMany, IsDest, IsQueue, IsRefused, IsRow, IsHand, IsPromise, IsStage, IsFile, MayStand}
 use Rattle.nqs_snapshot.specs.Typed.{IsTypedDest, IsTypedQueue, IsTypedRefused, IsTypedRow, IsTypedHand, IsTypedPromise, IsTypedStage, IsTypedFile, IsTyped}
 use Rattle.nqs_snapshot.specs.Sound.{HasShortParts}
-use Rattle.nqs_snapshot.proofs.Stands.{path_stands}
+use Rattle.nqs_rules.proofs.PathStands.{path_stands}
 
 -- what each is that passes two tests
 each_both : {V : Type 0} (P R : V → Type 0) (p q : V → Bool) → ((v : V) → P v → p v ≡ true → q v ≡ true → R v) → (vs : List V) → AllByRecursion P vs

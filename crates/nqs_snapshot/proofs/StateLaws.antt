@@ -1,6 +1,7 @@
 -- Bytes are read as a state exactly where they are its spelling.
 use Rattle.std.proofs.Common.{◌≡◌, ℕ, ◌+◌, Bool, true, false, cond, nat_lt, List, [], ◌∷◌, ◌++◌, length, refl, sym, ap, ◌∙◌, subst, arith}
 use Rattle.std.proofs.Common.{append-nil, Ok, Err}
+use Rattle.std.proofs.lemmas.Bool.{ltb-false}
 use Rattle.nqs_base.specs.declared.extent.Extent.{Extent}
 use Rattle.nqs_state.specs.State.{State}
 use Rattle.nqs_codec.specs.Fields.{u8_field, u16_field, u32_field, u64_field, short_field}
@@ -11,7 +12,7 @@ use Rattle.nqs_records.specs.Spelling.{fields, opt_field}
 use Rattle.nqs_records.specs.Values.{IsU16, IsU32, IsU64, IsOpt, IsHost}
 use Rattle.nqs_base.specs.Name.{IsName}
 use Rattle.nqs_records.proofs.IsRead.{IsRead, bound}
-use Rattle.nqs_records.proofs.Numbers.{not_below, u16_read, u32_read, u64_read}
+use Rattle.nqs_records.proofs.Numbers.{u16_read, u32_read, u64_read}
 use Rattle.nqs_records.proofs.Named.{name_read}
 use Rattle.nqs_records.proofs.Chains.{bind, both_read, mapped_read, last_read, opt_read}
 use Rattle.nqs_records.proofs.PartLaws.{host_law}
@@ -146,7 +147,7 @@ whole_spelled bytes p fits e =
     let v = bound (parts_at bytes 0) (λ v. cond (nat_lt v.1 (length bytes)) (Err (Trailing v.1)) (Ok v.0)) p e in
     let end = whole (nat_lt v.0.1 (length bytes)) (Trailing v.0.1) v.0.0 p v.2 in
     let here = parts_law.found bytes 0 v.0.0 v.0.1 fits v.1 in
-    let left = nothing_left v.0.1 bytes (not_below v.0.1 (length bytes) end.0) in
+    let left = nothing_left v.0.1 bytes (ltb-false v.0.1 (length bytes) end.0) in
     let text = here.1.text ∙ ap (λ (l : List ℕ). state_field (state_of v.0.0) ++ l) left ∙ append-nil (state_field (state_of v.0.0)) in
     (text ∙ ap (λ (q : Parts). state_field (state_of q)) end.1, subst (λ (q : Parts). MayStand (state_of q)) end.1 here.0)
 

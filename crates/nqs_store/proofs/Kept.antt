@@ -10,6 +10,7 @@ use Rattle.nqs_rules.specs.Filled.{filled}
 use Rattle.nqs_types.specs.declared.world.Which.{Which}
 use Rattle.nqs_types.specs.declared.world.Which.TheVariants.{Root, Spool}
 use Rattle.nqs_outside.specs.Causes.{Rose}
+use Rattle.nqs_outside.proofs.Roses.{rose_since}
 use Rattle.nqs_outside.specs.History.{moment, content, state}
 use Rattle.nqs_outside.specs.declared.disk.Disk as disk
 use Rattle.nqs_spool.specs.Spooled as spool
@@ -207,17 +208,13 @@ rose_at {D} {g} old now b which is rose = subst (λ w. Rose (g.faults (disk_of w
     (subst (λ d. Rose (g.faults (disk_of (journal_on b) old)) (g.faults d)) (sym (stands_on b now))
     (subst (λ d. Rose (g.faults d) (g.faults (journal.disk_of (journal_in b now)))) (sym (stands_on b old)) rose))
 
--- a fault that was counted behind other calls
-pub rose_on : (before mid now : ℕ) → before ≤ mid → Rose mid now → Rose before now
-rose_on before mid now later rose = omega (arith, later, rose)
-
 -- what may stop a store, behind a call that stopped none
 pub stops_since : {D : Type 0} {g : disk.Ghosts D} {T E : Type 0} (old mid now : Store D g) (failed : Which → E) (r : Result T E)
     → ((which : Which) → g.faults (disk_of which old) ≤ g.faults (disk_of which mid))
     → (IsTrue g.tells → (which : Which) (i : ℕ) → fails_of mid which i ≡ fails_of old which i) → MayStop mid now failed r → MayStop old now failed r
 stops_since old mid now failed r later fuse m = record {
   running = m.running;
-  broken = λ which is. (let b = m.broken which is in (b.0, rose_on _ _ _ (later which) b.1));
+  broken = λ which is. (let b = m.broken which is in (b.0, rose_since _ _ _ (later which) b.1));
   later = λ which. omega (arith, later which, m.later which);
   fuse = λ told which i. m.fuse told which i ∙ fuse told which i;
 }

@@ -2,8 +2,7 @@
 use Rattle.std.proofs.Common.{◌≡◌, ◌≢◌, ◌⊎◌, inl, inr, ℕ, zero, suc, ◌+◌, ◌<◌, ◌≤◌, List, [], ◌∷◌, ◌++◌, length, take, drop, get_or, All, arith, refl, ap, sym}
 use Rattle.std.proofs.Common.{subst, ◌∙◌, append_assoc, Some, None, Option, Result, Ok, Err, Bool, true, false, cond, not, ◌&&◌, ◌==◌, nat_lt, nat_le, is_none}
 use Rattle.std.specs.List.{position_or_len}
-use Rattle.std.proofs.lemmas.Bool.{and_parts, and_from, eqb-true}
-use Rattle.std.proofs.lemmas.Bool.Decides.{nat_tests}
+use Rattle.std.proofs.lemmas.Bool.{and_parts, and_from, eqb-true, le-leb}
 use Rattle.std.proofs.lemmas.List.{append-nil, length-append, take_at, drop_at}
 use Rattle.nqs_base.proofs.Plain.{lt_is_true, lt_itself, le_of_false, le_of_true}
 use Rattle.nqs_base.specs.Name.{IsName, is_digit}
@@ -85,9 +84,6 @@ are : (text : List ℕ) → AreDigits text → are_digits text ≡ true
 are [] h = absurd (omega (arith, h.0))
 are (b ∷ bs) h = ap is_none h.1
 
-le : (a b : ℕ) → a ≤ b → nat_le a b ≡ true
-le a b h = grind (arith, nat_tests)
-
 -- a number within two bounds
 pub number-is : (low high : ℕ) (text : List ℕ) (n : ℕ) → number_of low high text ≡ Some n → AreDigits text × (n ≡ decimal text) × (low ≤ n) × (n ≤ high)
 unfolding number_of
@@ -101,7 +97,8 @@ pub is-number : (low high : ℕ) (text : List ℕ) (n : ℕ) → AreDigits text 
 unfolding number_of
 is-number low high text n digits is above below =
     let fits : (are_digits text && (nat_le low (decimal text) && nat_le (decimal text) high)) ≡ true =
-    and_from _ _ (are text digits) (and_from _ _ (le low (decimal text) (omega (arith, above, is))) (le (decimal text) high (omega (arith, below, is)))) in
+    and_from _ _ (are text digits) (and_from _ _ (le-leb low (decimal text) (omega (arith, above, is)))
+    (le-leb (decimal text) high (omega (arith, below, is)))) in
     rw fits (ap (λ (m : ℕ). Some m) (sym is))
 
 pub seq-is : (text : List ℕ) (seq : ℕ) → seq_of text ≡ Some seq → IsSeq text seq

@@ -1,9 +1,8 @@
 -- The moment of a text as a function says what reading a moment does.
-use Rattle.std.proofs.Common.{◌≡◌, ℕ, ◌+◌, ◌*◌, ◌<◌, ◌≤◌, List, sym, ap, refl, arith, Some, None, Option, Ok, Err, Bool, true, false, cond, ◌&&◌, nat_le}
+use Rattle.std.proofs.Common.{◌≡◌, ℕ, ◌+◌, ◌*◌, ◌<◌, List, sym, ap, refl, arith, Some, None, Option, Ok, Err, Bool, true, false, cond, ◌&&◌, nat_le}
 use Rattle.std.proofs.Common.{nat_lt}
 use Rattle.std.specs.Prelude.{ℤ, pos, negsuc, ◌+ℤ◌, ◌*ℤ◌}
-use Rattle.std.proofs.lemmas.Bool.{and_parts, and_from}
-use Rattle.std.proofs.lemmas.Bool.Decides.{nat_tests}
+use Rattle.std.proofs.lemmas.Bool.{and_parts, and_from, le-leb, lt-ltb}
 use Rattle.nqs_base.proofs.Plain.{lt_of_true, le_of_true}
 use Rattle.jiff_core.specs.Calendar.{IsDate, days_in_month, days_from_civil}
 use Rattle.jiff_core.proofs.SignedLemmas.{signed_arith}
@@ -14,20 +13,14 @@ use Rattle.nqs_moments.specs.declared.moment.MomentFault.TheVariants.{Form, Rang
 use Rattle.nqs_moments.proofs.Moments.{moment_formed, moment_named, named_moment}
 use Rattle.nqs_words.specs.Moments.{is_date, is_time, seconds_to, natural, second_of, moment_of}
 
-le : (a b : ℕ) → a ≤ b → nat_le a b ≡ true
-le a b h = grind (arith, nat_tests)
-
-lt : (a b : ℕ) → a < b → nat_lt a b ≡ true
-lt a b h = grind (arith, nat_tests)
-
 dated : (year month day : ℕ) → IsDate (pos year) (pos month) (pos day) → is_date year month day ≡ true
 dated year month day d =
-    and_from _ _ (and_from _ _ (le year 9999 (omega (arith, signed_arith, d)))
-    (and_from _ _ (le 1 month (omega (arith, signed_arith, d))) (le month 12 (omega (arith, signed_arith, d)))))
-    (and_from _ _ (le 1 day (omega (arith, signed_arith, d))) (le day (days_in_month (pos year) month) (omega (arith, signed_arith, d))))
+    and_from _ _ (and_from _ _ (le-leb year 9999 (omega (arith, signed_arith, d)))
+    (and_from _ _ (le-leb 1 month (omega (arith, signed_arith, d))) (le-leb month 12 (omega (arith, signed_arith, d)))))
+    (and_from _ _ (le-leb 1 day (omega (arith, signed_arith, d))) (le-leb day (days_in_month (pos year) month) (omega (arith, signed_arith, d))))
 
 timed : (hour minute second : ℕ) → hour < 24 → minute < 60 → second < 60 → is_time hour minute second ≡ true
-timed hour minute second h m s = and_from _ _ (lt hour 24 h) (and_from _ _ (lt minute 60 m) (lt second 60 s))
+timed hour minute second h m s = and_from _ _ (lt-ltb hour 24 h) (and_from _ _ (lt-ltb minute 60 m) (lt-ltb second 60 s))
 
 date_of : (year month day : ℕ) → is_date year month day ≡ true → IsDate (pos year) (pos month) (pos day)
 date_of year month day t =

@@ -2,7 +2,8 @@ use Rattle.std.proofs.Common.{arith}
 use Rattle.nqs_outside.specs.Asked.{packet}
 use Rattle.nqs_outside.specs.declared.wire.Address.TheVariants.{Host}
 use Rattle.nqs_clients.specs.Shepherd.{acknowledges}
-use Rattle.nqs_clients.proofs.Waiting.{waiting_first, waiting_more, waits_told, waits_stopped, waits_none, stops_later, fault_of, rose_later}
+use Rattle.nqs_clients.proofs.Waiting.{waiting_first, waiting_more, waits_told, waits_stopped, waits_none, stops_later, fault_of}
+use Rattle.nqs_outside.proofs.Roses.{rose_since}
 use Rattle.nqs_clients.proofs.shepherding.tell.Goals as goal
 
 pub loop-turn-init : goal.loop-turn-init
@@ -31,7 +32,7 @@ returns-in-Err-clause-later g c = stops_later _ _ _ _ c.loop-turn.invariant.late
 
 pub returns-in-Err-clause-fault : goal.returns-in-Err-clause-fault
 returns-in-Err-clause-fault g c = rw c.end_of.ensures (λ same.
-    rose_later _ _ _ c.loop-turn.invariant.later (fault_of _ _ c.in-Err.stop c.in-Err.ensures.cause same))
+    rose_since _ _ _ c.loop-turn.invariant.later (fault_of _ _ c.in-Err.stop c.in-Err.ensures.cause same))
 
 pub loop-turn-preserved : goal.loop-turn-preserved
 loop-turn-preserved g c = record {

@@ -10,7 +10,8 @@ use Rattle.nqs_rules.specs.Sane.{has_path}
 use Rattle.nqs_rules.specs.Fits.{runs, is_idle, may_hop, row_passes, device_fits, is_offered_hand, is_committed_hand, is_next, is_open_number, is_new_stage}
 use Rattle.nqs_rules.specs.Fits.{is_site_host, is_unknown, offer_full}
 use Rattle.nqs_rules.proofs.Chains.{each}
-use Rattle.nqs_host_laws.proofs.Stands.{path_stands, parts_stand, counts_few, site_host, peer_host, hand_host, promise_host, stage_host, hands_are, row_id}
+use Rattle.nqs_rules.proofs.PathStands.{path_stands}
+use Rattle.nqs_host_laws.proofs.Stands.{parts_stand, counts_few, site_host, peer_host, hand_host, promise_host, stage_host, hands_are, row_id}
 use Rattle.nqs_host_laws.proofs.laws.fitting_changes_may_stand.Goals as goal
 
 pub carried_stands-requires-clause-host : goal.carried_stands-requires-clause-host

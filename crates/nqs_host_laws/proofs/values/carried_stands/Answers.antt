@@ -1,7 +1,7 @@
 use Rattle.std.proofs.Common.{nat_le, nat_lt, ◌==◌, [], ◌∷◌}
 use Rattle.nqs_rules.specs.Sane.{is_sane_id, is_sane_job}
 use Rattle.nqs_rules.proofs.Chains.{each}
-use Rattle.nqs_host_laws.proofs.Stands.{starts_few}
+use Rattle.nqs_records.proofs.SaneLaws.{starts_few}
 use Rattle.nqs_host_laws.proofs.values.carried_stands.Goals as goal
 
 pub returns : goal.returns

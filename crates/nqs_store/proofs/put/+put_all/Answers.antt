@@ -11,7 +11,7 @@ use Rattle.nqs_records.specs.Values.{IsExtent}
 use Rattle.nqs_spool.specs.Puts.{put_calls}
 use Rattle.nqs_spool.specs.Spooled.{disk_of, history_of, place_for}
 use Rattle.nqs_store.proofs.Extents.{with_first}
-use Rattle.nqs_store.proofs.Kept.{rose_on}
+use Rattle.nqs_outside.proofs.Roses.{rose_since}
 use Rattle.nqs_store.proofs.Putting.{held_idle, none_put, first_broken, later_broken, more_put, kept_on}
 use Rattle.nqs_store.proofs.Runs.{none_clear, all_clear, later_fails, first_fails, failing, is_disk, one_clear}
 use Rattle.nqs_store.proofs.put.+put_all.Goals as goal
@@ -100,7 +100,7 @@ returns-in-Ok-clause-puts g t c =
     (λ told. e.made told ∙ ap (λ (x : Extent). extended (history_of old) (put_calls x.place put)) (sym e.extent)) in
     let clear = λ (told : IsTrue g.D.Disk.tells). one_clear (g.D.Disk.fails (disk_of old)) (moment (history_of old)) put (e.due told) in
     record {
-      fault = on_err_weaker c.put_all.result (λ rose. rose_on _ _ _ e.later rose) l.fault;
+      fault = on_err_weaker c.put_all.result (λ rose. rose_since _ _ _ e.later rose) l.fault;
       later = omega (arith, e.later, l.later);
       broken = λ told. on_err_weaker c.put_all.result
           (later_broken (history_of old) (history_of mid) (history_of c.put_all.new.spool) _ _ _ x.place is (made told)) (l.broken told);
