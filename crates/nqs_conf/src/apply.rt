@@ -150,7 +150,7 @@ fn create_pipe_queue(state: &mut HostState, created: Created, destination: &Opti
 }
 
 /// Makes an edit that `check_conf` lets through, after `HostState::make_room` made room for it. It
-/// takes no memory and can't fail. `within`: a priority is at most 63, a run limit at most 10,000,
+/// needs no memory and can't fail. `within`: a priority is at most 63, a run limit at most 10,000,
 /// a wait 1 to 86,400 seconds; so they fit the numbers of a queue. `site` holds of each state in
 /// order: at most 16 hosts.
 pub fn apply_conf(state: &mut HostState, edit: ConfEdit)

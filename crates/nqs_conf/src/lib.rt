@@ -1,7 +1,7 @@
 //! The edits of queues and of a host's parameters.
 //!
 //! Each call is the rule of its name in `nqs_rules` (specs/Conf.antt); `docs/rules.md` says them in
-//! words. No call takes memory.
+//! words. No call needs memory.
 #![tactic(auto)]
 
 mod apply;

@@ -41,7 +41,8 @@ fn apply_edit(state: &mut HostState, edit: Edit)
     }
 }
 
-/// Makes a change that fits the state, after room was made for it. It takes no memory.
+/// Makes a change that fits the state, after room was made for it. It needs no memory: an index for
+/// which there is none is given up.
 pub fn apply(state: &mut HostState, change: Change)
     requires order { IsInOrder (content state.old) }
     requires sane { IsTrue (is_sane_change change) }

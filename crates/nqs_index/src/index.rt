@@ -1,7 +1,7 @@
-//! A sorted index of a host's rows: for each queue those that wait without a hold, in the order in
-//! which they start, how many rows are active or run, so that no limit needs a look at all of
-//! them, and which requests run. `specs/Indexed.antt` says what it is that stands for rows. It is
-//! kept row by row: one enters, one leaves.
+//! A sorted index of a host's rows: for each queue those that wait without a hold, by classes, and
+//! of each class in the order in which they start; how many rows are active or run, so that no
+//! limit needs a look at all of them, and which requests run. `specs/Indexed.antt` says what it is
+//! that stands for rows. It is kept row by row: one enters, one leaves.
 
 ghost use Rattle.std.specs.Prelude.{◌≡◌, ◌<◌, ◌≤◌, ◌+◌, ◌-◌, ◌*◌, ◌^◌, ℕ, List, [], length, slice_index_or, true, OnOk, OnErr, IfSome, IfNone, Bool, ◌&&◌};
 ghost use Rattle.nqs_types.specs.Ids.{id_eq};
@@ -232,7 +232,8 @@ impl Index {
 
     /// Puts a request into the line of the class at a place of the queue at a place, both from 0,
     /// behind those of equal keys: twice to the power of the comparisons is at most twice the
-    /// line's length, and one. An `Err` changes no line.
+    /// line's length, and one. An `Err` changes no line. It touches no count: an index that is to
+    /// stand for rows takes them by `enter`.
     pub fn insert<L: Ledger>(
         &mut self,
         queue: usize,

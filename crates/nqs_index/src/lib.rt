@@ -2,9 +2,10 @@
 //! a limit asks for.
 //!
 //! `key` has what orders rows, `steps` the count of comparisons, `class` what waiting rows of a
-//! queue have in common, `line` the waiting rows of a class, `classes` the lines of a queue, `lines`
-//! those of all queues, `tally` the counts, `runs` the running requests, `seat` what an index sees
-//! of a row, `index` all of it. `specs/Indexed.antt` says which index stands for which rows.
+//! queue have in common, `line` the waiting rows of a class, `classes` the lines of a queue,
+//! `lines` those of all queues, `tally` the counts, `runs` the running requests, `seat` what an
+//! index sees of a row, `index` all of it. `specs/Indexed.antt` says which index stands for which
+//! rows.
 #![tactic(auto)]
 
 mod class;

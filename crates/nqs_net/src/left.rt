@@ -25,7 +25,7 @@ fn left_by(slot: Slot) -> Disks<MemDisk>
 impl World {
     /// The disks of the hosts, in the order of the site. Whatever images they may leave tell the
     /// states of the hosts. Their calls are those that kept each change since the host was new or
-    /// last stopped, and nothing else.
+    /// last stopped, and nothing else. At `Err` memory was wanting, and the disks are gone.
     pub fn close(self, alloc: Global) -> Result<Vec<Disks<MemDisk>>, Memory>
         ensures { (network : Network) → IsWorld self network → IfOk result (λ disks. AreLeft disks.items network.hosts) }
     {

@@ -117,7 +117,8 @@ fn new_node(alloc: Global, me: HostId, site: &[Name]) -> Result<Box<Node<MemDisk
 }
 
 impl World {
-    /// Formats and boots each host, at moment 0.
+    /// Formats and boots each host, at moment 0. An `Err` is what was lacking: memory, or room on a
+    /// disk.
     pub fn new(alloc: Global, site: &[Name]) -> Result<World, Lack>
         requires some { 1 ≤ length site.now }
         requires few { length site.now ≤ 16 }

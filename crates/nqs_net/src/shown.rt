@@ -78,7 +78,7 @@ fn read(alloc: Global, slot: &mut Slot) -> Result<HostState, Memory>
 
 impl World {
     /// The rows of the network's table, by host and then by request, as the disks of the hosts tell
-    /// them. No call of a disk is made.
+    /// them. No write or sync is made. After an `Err` the world is used no more.
     pub fn table(&mut self, alloc: Global) -> Result<Vec<TableRow>, Memory>
         requires sound { (site : List (List ℕ)) × (network : Network) × IsInOrderAll site network × IsWorld self.old network }
         ensures world { (network : Network) → IsWorld self.old network → OnOk result (IsWorld self.new network) }

@@ -118,8 +118,8 @@ fn carry(
     Ok(slot)
 }
 
-/// A host takes an event: its step goes out, or stops the host. Answers whether the host is to halt,
-/// where it is still up.
+/// A host takes an event: its step goes out, or stops the host. Answers whether the host is to
+/// halt, where it is still up.
 #[tactic(none)]
 pub(crate) fn take_step(
     alloc: Global,

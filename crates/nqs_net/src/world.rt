@@ -5,8 +5,7 @@ use nqs_base::{NameList, Tear};
 use nqs_types::Message;
 
 /// A network of hosts: a slot and a tear for each, in the order of the site. The packets are all
-/// that were ever sent;
-/// `now` is the moment, in seconds since 1970.
+/// that were ever sent; `now` is the moment, in seconds since 1970.
 #[derive(Drop)]
 pub struct World {
     pub site: NameList,

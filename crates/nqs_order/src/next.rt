@@ -11,7 +11,8 @@ use nqs_state::HostState;
 use nqs_types::Choice;
 
 /// What is started next at a moment, in seconds since 1970, as `pick` has it. It looks over all
-/// rows only where they have no index, which may be so while memory is wanting.
+/// rows only where they have no index, which may be so while memory is wanting, or after too many
+/// names.
 pub fn pick_next(state: &HostState, now: u64) -> Option<Choice>
     requires { IsInOrder (content state.now) }
     ensures { result ≡ pick now (content state.now) }

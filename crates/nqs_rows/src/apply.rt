@@ -79,7 +79,7 @@ fn abort_queue(state: &mut HostState, queue: &Name)
     });
 }
 
-/// Makes an edit of requests that `check_rows` lets through. It takes no memory and can't fail. A
+/// Makes an edit of requests that `check_rows` lets through. It needs no memory and can't fail. A
 /// moved request keeps its hold, and a released one may be tried by every destination again.
 /// `within`: a priority is at most 63. `site` holds of each state in order: at most 16 hosts.
 pub fn apply_rows(state: &mut HostState, edit: RowsEdit)

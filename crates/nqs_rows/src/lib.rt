@@ -1,8 +1,9 @@
 //! Requests: whether a submission, a deletion or an edit of one is refused, and what the edits make
 //! of a state.
 //!
-//! `entry` has the way of a job into a queue, `meant` the request that is typed. `nqs_rules/specs/Rows.antt` has the
-//! rules; `docs/rules.md` says them in words. No call takes memory.
+//! `entry` has the way of a job into a queue, `meant` the request that is typed.
+//! `nqs_rules/specs/Rows.antt` has the rules; `docs/rules.md` says them in words. No call needs
+//! memory.
 #![tactic(auto)]
 
 mod apply;

@@ -1,4 +1,5 @@
-//! All that a host holds, and the room that it has for what comes. `docs/rules.md` says what each
+//! All that a host holds, and the room that it has for what comes. `state` has the parts, `rows`
+//! the requests with their index, `room` the memory for a change. `docs/rules.md` says what each
 //! part is for.
 #![tactic(auto)]
 

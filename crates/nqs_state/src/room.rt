@@ -1,5 +1,5 @@
-//! Room for a change, made before the change is written anywhere, so that making it takes no
-//! memory.
+//! Room for a change, made before the change is written anywhere, so that making it can't fail for
+//! want of memory.
 
 ghost use Rattle.std.specs.Prelude.{◌≡◌, ℕ, ◌<◌, ◌≤◌, OnOk, find};
 ghost use Rattle.nqs_state.specs.State.{content};

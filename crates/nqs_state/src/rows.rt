@@ -1,6 +1,6 @@
 //! The requests of a host: a table of them, which is changed by the calls here alone, and beside it
-//! an index that stands for the rows. The index is only for speed: where it can't be had for want
-//! of memory there is none, and no call fails for that.
+//! an index that stands for the rows. The index is only for speed: where it can't be had, for want
+//! of memory or since it has too many names, there is none, and no call fails for that.
 ghost use Rattle.std.specs.Prelude.{◌≡◌, ℕ, ◌+◌, ◌≤◌, ◌<◌, [], ◌∷◌, ◌++◌, length, map, position, find, Some, None, OnOk, IfSome, Bool};
 ghost use Rattle.std.specs.Prelude.{List, Option, Contains, filter, if◌then◌else◌, slice_get, true, false};
 ghost use Rattle.std.specs.Option.{option_copied, option_map};
@@ -196,8 +196,8 @@ impl Rows {
         self.index.as_ref()
     }
 
-    /// Makes room for more rows, and an index where there is none and memory allows: that takes as
-    /// long as a look at all rows without one.
+    /// Makes room for more rows, and an index where there is none and memory allows, for which all
+    /// rows are sorted. An `Err` leaves the rows as they were.
     pub fn reserve(&mut self, additional: usize) -> Result<(), AllocError>
         ensures items { self.new.items ≡ self.old.items }
         ensures ok { OnOk result (additional ≤ self.new.spare) }
