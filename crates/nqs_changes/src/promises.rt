@@ -7,20 +7,14 @@ ghost use Rattle.nqs_rules.specs.Tests.{last_u64};
 ghost use Rattle.nqs_rules.specs.Find.{find_promise, has_promise};
 ghost use Rattle.nqs_rules.specs.Routing.{close};
 ghost use Rattle.nqs_rules.specs.Edits.{change_peer};
-ghost use Rattle.nqs_rules.specs.Applied.{is_promise_of, promised, add_promised, requeued_row, accepted, dropped};
+ghost use Rattle.nqs_rules.specs.Applied.{promised, add_promised, requeued_row, accepted, dropped};
 
 use crate::peers::change_peer;
 use crate::rows::new_row;
 use nqs_base::{Extent, Name};
+use nqs_routing::is_promise_of;
 use nqs_state::HostState;
 use nqs_types::{Carried, HostId, Peer, PeerNumber, Promise, Row, RowState};
-
-/// Whether the promise is to this host.
-pub fn is_promise_of(promise: &Promise, peer: HostId) -> bool
-    ensures { result ≡ is_promise_of peer promise.now }
-{
-    peer == promise.peer
-}
 
 // Each number of the host up to this one is closed.
 fn close(state: &mut HostState, peer: HostId, number: u64)

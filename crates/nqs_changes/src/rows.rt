@@ -8,11 +8,12 @@ ghost use Rattle.nqs_rules.specs.Edits.{change_row, drop_row};
 ghost use Rattle.nqs_rules.specs.Rows.{next_arrival};
 ghost use Rattle.nqs_rules.specs.Fits.{row_passes, runs, may_hop};
 ghost use Rattle.nqs_rules.specs.InOrder.{IsInOrder};
-ghost use Rattle.nqs_rules.specs.Applied.{new_row, submitted, is_offered_for, deleted, doomed_row, started_row, requeued_row, moved_local, held_far};
+ghost use Rattle.nqs_rules.specs.Applied.{new_row, submitted, deleted, doomed_row, started_row, requeued_row, moved_local, held_far};
 
 use nqs_base::{Extent, ListOf, Name};
+use nqs_routing::is_offered_for;
 use nqs_state::HostState;
-use nqs_types::{Carried, Hand, Hold, Job, PeerNumber, Phase, RequestId, Row, RowState};
+use nqs_types::{Carried, Hand, Hold, Job, PeerNumber, RequestId, Row, RowState};
 use std::alloc::Global;
 
 /// Whether the host has the request, and it runs.
@@ -83,12 +84,6 @@ pub fn dropped(state: &mut HostState, id: RequestId)
     ensures { content state.new ≡ drop_row id (content state.old) }
 {
     state.rows.remove_key(&id);
-}
-
-fn is_offered_for(hand: &Hand, id: RequestId) -> bool
-    ensures { result ≡ is_offered_for id hand.now }
-{
-    hand.phase == Phase::Offered && id == hand.id
 }
 
 /// A request goes, and an offer of it.

@@ -2,33 +2,25 @@
 ghost use Rattle.std.specs.Prelude.{◌≡◌, ◌∷◌, ◌++◌, [], ◌||◌, IfOk};
 ghost use Rattle.nqs_state.specs.State.{content};
 ghost use Rattle.nqs_rules.specs.Causes.{first_refusal};
-ghost use Rattle.nqs_rules.specs.Find.{has_row, has_promise, find_peer};
-ghost use Rattle.nqs_rules.specs.Fits.{offer_full};
+ghost use Rattle.nqs_rules.specs.Find.{has_row, find_peer};
 ghost use Rattle.nqs_rules.specs.Handover.{closes, is_not_given_here, offer_causes, on_offer, send_ready};
 ghost use Rattle.nqs_types.specs.declared.change.Change.TheVariants.{Promised};
 ghost use Rattle.nqs_rules.specs.Stepped.{plan_of, makes};
-ghost use Rattle.nqs_rules.specs.Applied.{is_promise_of};
 ghost use Rattle.nqs_handover.specs.Offers.{by_number, way_causes, host_causes, into_causes};
 
 use nqs_access::may_use;
 use nqs_base::{Bytes, ListOf, Memory, Name};
 use nqs_limits::over_limits;
-use nqs_plans::{
-    add, change_storing, copy_carried, find_peer, message, no_extent, refusal_number, says,
-};
+use nqs_plans::{add, change_storing, copy_carried, message, no_extent, refusal_number, says};
+use nqs_routing::{find_peer, has_promise};
+use nqs_rows::{check_arrivals, offer_full};
 use nqs_state::HostState;
-use nqs_types::{
-    Body, Carried, Change, Entry, HostId, Job, PeerNumber, Plan, Promise, QueueDef, Refusal,
-    RequestId,
-};
+use nqs_types::{Body, Carried, Change, Entry, HostId, Job, Plan, QueueDef, Refusal, RequestId};
 use std::alloc::Global;
 use std::mem::replace;
 
 // The number of a refusal for a request that exists.
 const EXISTS: u8 = 33;
-
-// Rows and promises that a host has at most.
-const MOST_HELD: usize = 10_000;
 
 // Whether the number of a handover from the peer is closed.
 pub(crate) fn is_closed(state: &HostState, peer: HostId, number: u64) -> bool
@@ -40,35 +32,11 @@ pub(crate) fn is_closed(state: &HostState, peer: HostId, number: u64) -> bool
     }
 }
 
-// Whether this number was promised to the peer.
-pub(crate) fn has_promise(state: &HostState, peer: HostId, number: u64) -> bool
-    ensures { result ≡ has_promise peer number (content state.now) }
-{
-    state.promises.has(&PeerNumber { peer, number })
-}
-
 // Whether the request is of this host, with a number that it didn't give yet.
 fn is_not_given_here(state: &HostState, id: RequestId) -> bool
     ensures { result ≡ is_not_given_here id (content state.now) }
 {
     state.me == id.host && state.seq < id.seq
-}
-
-fn is_promise_of(promise: &Promise, peer: HostId) -> bool
-    ensures { result ≡ is_promise_of peer promise.now }
-{
-    peer == promise.peer
-}
-
-// Whether the host has no room for one more request. A promise that the offer replaces isn't
-// counted.
-fn is_full(state: &HostState, peer: HostId) -> bool
-    ensures { result ≡ offer_full peer (content state.now) }
-{
-    let others = state
-        .promises
-        .count(|promise: &Promise| !is_promise_of(promise, peer));
-    others >= MOST_HELD.saturating_sub(state.rows.len())
 }
 
 /// Whether a job may come into the queue from a pipe queue: the first refusal of the way in and of
@@ -83,13 +51,10 @@ pub fn check_way(queue: &QueueDef, job: &Job) -> Result<(), Refusal>
 fn check_host(state: &HostState, peer: HostId) -> Result<(), Refusal>
     ensures { result ≡ first_refusal (host_causes peer (content state.now)) }
 {
-    if is_full(state, peer) {
+    if offer_full(state, peer) {
         return Err(Refusal::HostFull);
     }
-    if state.arrivals == u64::MAX {
-        return Err(Refusal::NumbersUsed);
-    }
-    Ok(())
+    check_arrivals(state)
 }
 
 fn check_found(state: &HostState, peer: HostId, queue: &QueueDef, job: &Job) -> Result<(), Refusal>

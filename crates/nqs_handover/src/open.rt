@@ -10,7 +10,8 @@ ghost use Rattle.nqs_plans.specs.More.{change_alone, with_more};
 ghost use Rattle.nqs_handover.specs.Opened.{may_count_hops, open_hand_at};
 
 use nqs_base::{ListOf, Memory, Name};
-use nqs_plans::{add_kept, change_alone, copy_job, find_peer, message, quiet};
+use nqs_plans::{add_kept, change_alone, copy_job, message, quiet};
+use nqs_routing::find_peer;
 use nqs_state::HostState;
 use nqs_types::{Body, Carried, Change, Dest, HostId, Peer, Plan, Row};
 use std::alloc::Global;

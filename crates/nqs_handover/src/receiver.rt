@@ -4,9 +4,10 @@ ghost use Rattle.nqs_state.specs.State.{content};
 ghost use Rattle.nqs_rules.specs.Handover.{on_commit, on_abort};
 ghost use Rattle.nqs_rules.specs.Stepped.{plan_of};
 
-use crate::offer::{has_promise, is_closed};
+use crate::offer::is_closed;
 use nqs_base::Memory;
 use nqs_plans::{add, change_alone, message, quiet, says};
+use nqs_routing::has_promise;
 use nqs_state::HostState;
 use nqs_types::{Body, Change, HostId, Plan};
 use std::alloc::Global;

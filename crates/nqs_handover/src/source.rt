@@ -7,7 +7,8 @@ ghost use Rattle.nqs_rules.specs.Handover.{was_given, ready_phase, ready_without
 ghost use Rattle.nqs_rules.specs.Stepped.{plan_of};
 
 use nqs_base::Memory;
-use nqs_plans::{add, change_alone, find_peer, message, quiet, says};
+use nqs_plans::{add, change_alone, message, quiet, says};
+use nqs_routing::find_peer;
 use nqs_state::HostState;
 use nqs_types::{Body, Change, HostId, PeerNumber, Phase, Plan};
 use std::alloc::Global;

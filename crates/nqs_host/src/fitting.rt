@@ -11,23 +11,18 @@ ghost use Rattle.nqs_rules.specs.Find.{find_peer, held_count, has_promise};
 ghost use Rattle.nqs_rules.specs.Routing.{is_hand_to};
 ghost use Rattle.nqs_rules.specs.Rows.{arrivals_used, is_host_full};
 ghost use Rattle.nqs_rules.specs.Fits.{is_site_host};
-ghost use Rattle.nqs_rules.specs.Applied.{is_promise_of};
 
 use nqs_access::check_access;
 use nqs_base::Name;
-use nqs_changes::promises::is_promise_of;
 use nqs_changes::rows::row_runs;
 use nqs_conf::check_conf;
 use nqs_devices::{check_devices, is_busy};
 use nqs_limits::check_limits;
-use nqs_rows::check_rows;
+use nqs_routing::{find_peer, has_hand_to, has_promise};
+use nqs_rows::{arrivals_used, check_rows, is_host_full, offer_full};
 use nqs_state::HostState;
-use nqs_types::{
-    Change, Edit, Hand, Hold, HostId, PeerNumber, Phase, Promise, RequestId, Row, RowState,
-};
+use nqs_types::{Change, Edit, Hold, HostId, PeerNumber, Phase, RequestId, Row, RowState};
 
-/// Rows and promises that a host has at most.
-const MOST_HELD: usize = 10_000;
 /// Hops that a request may have before one more.
 const MOST_HOPS: u8 = 32;
 
@@ -94,7 +89,7 @@ fn are_offered(state: &HostState, keys: &[PeerNumber]) -> bool
 fn is_next(state: &HostState, peer: HostId, number: u64) -> bool
     ensures { result ≡ passes (is_next number) (find_peer peer (content state.now)) }
 {
-    match state.peers.as_slice().get(peer.0 as usize) {
+    match find_peer(state, peer) {
         Some(known) => known.next == number && known.next < u64::MAX,
         None => false,
     }
@@ -103,7 +98,7 @@ fn is_next(state: &HostState, peer: HostId, number: u64) -> bool
 fn is_open_number(state: &HostState, peer: HostId, number: u64) -> bool
     ensures { result ≡ passes (is_open_number number) (find_peer peer (content state.now)) }
 {
-    match state.peers.as_slice().get(peer.0 as usize) {
+    match find_peer(state, peer) {
         Some(known) => !(number <= known.closed),
         None => false,
     }
@@ -112,61 +107,17 @@ fn is_open_number(state: &HostState, peer: HostId, number: u64) -> bool
 fn is_new_stage(state: &HostState, peer: HostId, number: u64) -> bool
     ensures { result ≡ passes (is_new_stage number) (find_peer peer (content state.now)) }
 {
-    match state.peers.as_slice().get(peer.0 as usize) {
+    match find_peer(state, peer) {
         Some(known) => known.stage_got < number,
         None => false,
     }
 }
 
-fn is_hand_to(hand: &Hand, peer: HostId) -> bool
-    ensures { result ≡ is_hand_to peer hand.now }
-{
-    peer == hand.peer
-}
-
-fn has_hand_to(state: &HostState, peer: HostId) -> bool
-    ensures { result ≡ list_any (is_hand_to peer) state.now.hands.items }
-{
-    state.hands.any(|hand: &Hand| is_hand_to(hand, peer))
-}
-
-fn has_promise(state: &HostState, peer: HostId, number: u64) -> bool
-    ensures { result ≡ has_promise peer number (content state.now) }
-{
-    state.promises.has(&PeerNumber { peer, number })
-}
-
-fn arrivals_used(state: &HostState) -> bool
-    ensures { result ≡ arrivals_used (content state.now) }
-{
-    u64::MAX <= state.arrivals
-}
-
-fn is_full(state: &HostState) -> bool
-    requires { held_count (content state.now) ≤ 10000 }
-    ensures { result ≡ is_host_full (content state.now) }
-{
-    MOST_HELD <= state.rows.len() + state.promises.len()
-}
-
-// Whether the host would have too many with one more of this peer, in place of an older promise to
-// it.
-fn offer_full(state: &HostState, peer: HostId) -> bool
-    requires { held_count (content state.now) ≤ 10000 }
-    ensures { result ≡ offer_full peer (content state.now) }
-{
-    let others = state
-        .promises
-        .count(|promise: &Promise| !is_promise_of(promise, peer));
-    MOST_HELD <= state.rows.len() + others
-}
-
 fn submission_fits(state: &HostState, queue: &Name) -> bool
-    requires { held_count (content state.now) ≤ 10000 }
     ensures { result ≡ (has_queue queue.now (content state.now) && not (is_host_full (content state.now)) && nat_lt state.now.seq last_seq
         && not (arrivals_used (content state.now))) }
 {
-    state.queues.has(queue) && !is_full(state) && state.seq < LAST_SEQ && !arrivals_used(state)
+    state.queues.has(queue) && !is_host_full(state) && state.seq < LAST_SEQ && !arrivals_used(state)
 }
 
 fn device_fits(state: &HostState, device: &Option<Name>) -> bool
@@ -194,7 +145,6 @@ fn is_unknown(state: &HostState, id: &RequestId) -> bool
 }
 
 fn promise_fits(state: &HostState, peer: HostId, number: u64, queue: &Name, id: &RequestId) -> bool
-    requires { held_count (content state.now) ≤ 10000 }
     ensures { result ≡ (has_queue queue.now (content state.now) && passes (is_open_number number) (find_peer peer (content state.now))
         && not (has_promise peer number (content state.now))
         && is_site_host id.now.host (content state.now) && is_unknown id.now (content state.now) && not (offer_full peer (content state.now))

@@ -13,5 +13,4 @@ mod plan;
 pub use copies::{copy_bytes, copy_carried, copy_job};
 pub use each::fold_each;
 pub use look::refusal_number;
-pub use nqs_routing::find_peer;
 pub use plan::{add, add_kept, change_alone, change_storing, message, no_extent, quiet, says};

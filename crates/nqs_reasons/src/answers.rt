@@ -1,42 +1,22 @@
 //! What a destination of a pipe queue last answered, or why it isn't asked.
 
 ghost use Rattle.std.specs.Prelude.{◌≡◌, find, Some};
-ghost use Rattle.std.specs.List.{list_any};
 ghost use Rattle.std.specs.Option.{option_copied};
 ghost use Rattle.nqs_state.specs.State.{content};
-ghost use Rattle.nqs_rules.specs.Routing.{is_hand_to, refuses};
+ghost use Rattle.nqs_rules.specs.Routing.{refuses};
 ghost use Rattle.nqs_rules.specs.Reasons.{first_failing};
 ghost use Rattle.nqs_rules.specs.Answers.{peer_conditions, host_conditions, answer_of};
 ghost use Rattle.nqs_types.specs.declared.reason.DestAnswer.TheVariants.{MayBeTried};
 
-use nqs_routing::find_peer;
+use nqs_routing::{find_peer, has_hand_to, refuses};
 use nqs_state::HostState;
-use nqs_types::{Dest, DestAnswer, Hand, HostId, Peer, Refused, Row};
-
-fn refuses(refused: &Refused, dest: &Dest) -> bool
-    ensures { result ≡ refuses dest.now refused.now }
-{
-    *dest == refused.dest
-}
+use nqs_types::{Dest, DestAnswer, HostId, Peer, Refused, Row};
 
 // The refusal of the destination, if it is one of these.
 fn refusal_of<'a>(refused: &'a [Refused], dest: &Dest) -> Option<&'a Refused>
     ensures { option_copied result ≡ find (refuses dest.now) refused.now }
 {
     refused.iter().find(|refused| refuses(refused, dest))
-}
-
-fn is_hand_to(hand: &Hand, peer: HostId) -> bool
-    ensures { result ≡ is_hand_to peer hand.now }
-{
-    peer == hand.peer
-}
-
-// Whether a handover to the host is open.
-fn is_handing(state: &HostState, host: HostId) -> bool
-    ensures { result ≡ list_any (is_hand_to host) state.now.hands.items }
-{
-    state.hands.any(|hand: &Hand| is_hand_to(hand, host))
 }
 
 // What is said of a host of which this is known.
@@ -46,7 +26,7 @@ fn of_peer(state: &HostState, host: HostId, known: &Peer, now: u64) -> DestAnswe
     if known.next == u64::MAX {
         return DestAnswer::NoNumberLeft;
     }
-    if is_handing(state, host) {
+    if has_hand_to(state, host) {
         return DestAnswer::HandingOver;
     }
     if now < known.wait {

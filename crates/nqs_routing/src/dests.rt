@@ -4,13 +4,15 @@ ghost use Rattle.std.specs.Prelude.{◌≡◌};
 ghost use Rattle.std.specs.Option.{option_copied};
 ghost use Rattle.nqs_state.specs.State.{content};
 ghost use Rattle.nqs_rules.specs.Find.{find_peer};
-ghost use Rattle.nqs_rules.specs.Routing.{is_hand_to, refuses, was_refused, is_reachable, may_try, destination};
+ghost use Rattle.nqs_rules.specs.Routing.{refuses, was_refused, is_reachable, may_try, destination};
 ghost use Rattle.nqs_routing.specs.Destination.{destination_of};
 
+use crate::hands::has_hand_to;
 use nqs_state::HostState;
-use nqs_types::{Dest, Hand, HostId, Peer, QueueDef, Refused, Row};
+use nqs_types::{Dest, HostId, Peer, QueueDef, Refused, Row};
 
-fn refuses(refused: &Refused, dest: &Dest) -> bool
+/// Whether the refusal is of this destination.
+pub fn refuses(refused: &Refused, dest: &Dest) -> bool
     ensures { result ≡ refuses dest.now refused.now }
 {
     *dest == refused.dest
@@ -21,12 +23,6 @@ pub(crate) fn was_refused(refused: &[Refused], dest: &Dest) -> bool
     ensures { result ≡ was_refused dest.now refused.now }
 {
     refused.iter().any(|refused| refuses(refused, dest))
-}
-
-fn is_hand_to(hand: &Hand, peer: HostId) -> bool
-    ensures { result ≡ is_hand_to peer hand.now }
-{
-    peer == hand.peer
 }
 
 /// What is known of a host. There is nothing where it isn't of the site.
@@ -42,11 +38,7 @@ pub fn is_reachable(state: &HostState, now: u64, peer: HostId) -> bool
     ensures { result ≡ is_reachable now peer (content state.now) }
 {
     match find_peer(state, peer) {
-        Some(known) => {
-            !state.hands.any(|hand: &Hand| is_hand_to(hand, peer))
-                && known.next < u64::MAX
-                && known.wait <= now
-        }
+        Some(known) => { !has_hand_to(state, peer) && known.next < u64::MAX && known.wait <= now }
         None => false,
     }
 }

@@ -1,5 +1,5 @@
 //! Routing: which destination of a pipe queue is tried for a request, and what a refusal or a
-//! silence leaves.
+//! silence leaves; and what a host knows of the handovers and promises with another.
 //!
 //! A destination that refused a request isn't tried again for it, and one on another host only
 //! while no handover to that host is open and the host isn't waited for.
@@ -8,7 +8,9 @@
 #![tactic(auto)]
 
 mod dests;
+mod hands;
 mod note;
 
-pub use dests::{destination, destination_in, find_peer, is_reachable};
+pub use dests::{destination, destination_in, find_peer, is_reachable, refuses};
+pub use hands::{has_hand_to, has_promise, is_offered_for, is_promise_of};
 pub use note::{note_refusal, note_silence};

@@ -11,6 +11,7 @@ ghost use Rattle.nqs_rows.specs.OneRow.{row_causes};
 
 use crate::entry::check_job;
 use crate::meant::meant_row;
+use crate::room::check_arrivals;
 use nqs_access::rank;
 use nqs_base::Name;
 use nqs_state::HostState;
@@ -79,15 +80,6 @@ fn check_release(row: &Row, id: &Named) -> Result<(), Refusal>
 {
     if row.hold == Hold::No {
         return Err(Refusal::NotHeld(*id));
-    }
-    Ok(())
-}
-
-fn check_arrivals(state: &HostState) -> Result<(), Refusal>
-    ensures { result ≡ first_refusal (cause (arrivals_used (content state.now)) Refusal.NumbersUsed ∷ []) }
-{
-    if state.arrivals == u64::MAX {
-        return Err(Refusal::NumbersUsed);
     }
     Ok(())
 }

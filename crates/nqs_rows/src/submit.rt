@@ -6,16 +6,10 @@ ghost use Rattle.nqs_rules.specs.Causes.{cause, first_refusal};
 ghost use Rattle.nqs_rules.specs.Rows.{is_host_full, numbers_used, queue_entry_causes, submit_causes_at, submit_causes};
 
 use crate::entry::check_job;
+use crate::room::{arrivals_used, is_host_full};
 use nqs_base::Name;
 use nqs_state::HostState;
 use nqs_types::{Entry, Job, QueueDef, Refusal, Submission};
-
-fn is_host_full(state: &HostState) -> bool
-    ensures { result ≡ is_host_full (content state.now) }
-{
-    let left = 10000usize.saturating_sub(state.rows.len());
-    state.promises.len() >= left
-}
 
 // Whether the host has room and numbers for one more request.
 fn check_host(state: &HostState) -> Result<(), Refusal>
@@ -25,7 +19,7 @@ fn check_host(state: &HostState) -> Result<(), Refusal>
     if is_host_full(state) {
         return Err(Refusal::HostFull);
     }
-    if state.seq >= 4294967294 || state.arrivals == u64::MAX {
+    if state.seq >= 4294967294 || arrivals_used(state) {
         return Err(Refusal::NumbersUsed);
     }
     Ok(())

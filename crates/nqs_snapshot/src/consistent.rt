@@ -2,13 +2,13 @@
 
 ghost use Rattle.std.specs.Prelude.{◌≡◌};
 ghost use Rattle.nqs_state.specs.State.{content};
-ghost use Rattle.nqs_rules.specs.Applied.{is_offered_for};
 ghost use Rattle.nqs_rules.specs.InOrder.{is_doom_right, is_hold_right, has_hand, is_promise_free};
 ghost use Rattle.nqs_snapshot.specs.Sound.{is_consistent};
 
 use crate::order_requests::is_id_given;
+use nqs_routing::is_offered_for;
 use nqs_state::HostState;
-use nqs_types::{Hand, Hold, Phase, Promise, RequestId, Row, RowState};
+use nqs_types::{Hand, Hold, Promise, Row, RowState};
 
 fn is_doom_right(row: &Row) -> bool
     ensures { result ≡ is_doom_right row.now }
@@ -20,12 +20,6 @@ fn is_hold_right(row: &Row) -> bool
     ensures { result ≡ is_hold_right row.now }
 {
     row.state == RowState::Queued || row.hold == Hold::No
-}
-
-fn is_offered_for(hand: &Hand, id: RequestId) -> bool
-    ensures { result ≡ is_offered_for id hand.now }
-{
-    hand.phase == Phase::Offered && id == hand.id
 }
 
 fn has_hand(row: &Row, state: &HostState) -> bool

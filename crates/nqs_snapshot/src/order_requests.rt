@@ -10,6 +10,7 @@ ghost use Rattle.nqs_rules.specs.InOrder.{is_device_there, is_count_right, is_ho
 ghost use Rattle.nqs_rules.specs.InOrder.{is_file_right};
 
 use crate::order::{LAST_SEQ, Right, is_site_host};
+use nqs_routing::find_peer;
 use nqs_state::HostState;
 use nqs_types::{FileOut, Hand, HostId, Phase, Promise, Refused, RequestId, Row, RowState, Stage};
 
@@ -83,7 +84,7 @@ impl Right for Row {
 fn is_open(peer: HostId, number: u64, state: &HostState) -> bool
     ensures { result ≡ passes (is_promise_open number) (find_peer peer (content state.now)) }
 {
-    match state.peers.as_slice().get(peer.0 as usize) {
+    match find_peer(state, peer) {
         Some(known) => !(number <= known.closed),
         None => false,
     }
@@ -109,7 +110,7 @@ fn is_given(number: u64, next: u64) -> bool
 fn is_hand_given(hand: &Hand, state: &HostState) -> bool
     ensures { result ≡ passes (is_hand_given hand.now.number) (find_peer hand.now.peer (content state.now)) }
 {
-    match state.peers.as_slice().get(hand.peer.0 as usize) {
+    match find_peer(state, hand.peer) {
         Some(known) => is_given(hand.number, known.next),
         None => false,
     }
@@ -137,7 +138,7 @@ impl Right for Hand {
 fn is_stage_given(peer: HostId, number: u64, state: &HostState) -> bool
     ensures { result ≡ passes (is_stage_given number) (find_peer peer (content state.now)) }
 {
-    match state.peers.as_slice().get(peer.0 as usize) {
+    match find_peer(state, peer) {
         Some(known) => is_given(number, known.stage_next),
         None => false,
     }

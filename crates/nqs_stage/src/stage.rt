@@ -11,9 +11,8 @@ ghost use Rattle.nqs_stage.specs.Files.{HasDistinctStages};
 
 use crate::due::add_next;
 use nqs_base::{Bytes, ListOf, Memory};
-use nqs_plans::{
-    add, change_alone, change_storing, copy_bytes, find_peer, message, no_extent, quiet, says,
-};
+use nqs_plans::{add, change_alone, change_storing, copy_bytes, message, no_extent, quiet, says};
+use nqs_routing::find_peer;
 use nqs_state::HostState;
 use nqs_types::{Body, Change, HostId, Output, PeerNumber, Plan};
 use std::alloc::Global;

@@ -15,6 +15,7 @@ use nqs_base::{ListOf, Memory, Name};
 use nqs_handover::{check_way, dest_at, offer_row};
 use nqs_order::pick_next;
 use nqs_plans::{add_kept, change_alone, refusal_number};
+use nqs_rows::check_arrivals;
 use nqs_state::HostState;
 use nqs_types::{Change, Choice, Dest, LaunchOrder, Limits, Output, Plan, QueueDef, Refusal, Row};
 use std::alloc::Global;
@@ -104,16 +105,6 @@ fn device_at<'a>(state: &'a HostState, row: &Row, place: usize) -> Option<&'a Na
         Some(queue) => queue.devices.as_slice().get(place),
         None => None,
     }
-}
-
-// Whether an arrival number is left.
-fn check_arrivals(state: &HostState) -> Result<(), Refusal>
-    ensures { result ≡ first_refusal (used_causes (content state.now)) }
-{
-    if state.arrivals == u64::MAX {
-        return Err(Refusal::NumbersUsed);
-    }
-    Ok(())
 }
 
 // The way of the row into a queue of this host.
