@@ -1,10 +1,11 @@
 -- Each tear gives an image.
-use Rattle.std.proofs.Common.{◌≡◌, ℕ, ◌+◌, ◌<◌, ◌≤◌, ◌%◌, ◌==◌, nat_le, Bool, true, false, ◌||◌, length, get_or, take, refl, ap, ◌∙◌, arith}
+use Rattle.std.proofs.Common.{◌≡◌, ℕ, ◌+◌, ◌<◌, ◌≤◌, ◌%◌, ◌==◌, nat_le, Bool, true, false, ◌||◌, List, length, get_or, take, refl, ap, ◌∙◌, arith}
 use Rattle.std.specs.Prelude.{if◌then◌else◌}
 use Rattle.std.proofs.lemmas.List.{length-take, get_or-take}
 use Rattle.std.proofs.lemmas.Bool.Decides.{nat_tests}
-use Rattle.nqs_outside.specs.History.{State, covers, IsImage}
-use Rattle.nqs_outside.proofs.Coherence.{IsCoherent}
+use Rattle.nqs_outside.specs.History.{State, fresh, covers, IsImage}
+use Rattle.nqs_outside.proofs.Coherence.{IsCoherent, fresh_coherent}
+use Rattle.nqs_outside.proofs.Images.{fresh_image}
 use Rattle.nqs_base.specs.declared.tear.Tear.{Tear}
 use Rattle.nqs_base.specs.declared.tear.Tear.TheVariants.{Old, New, Mixed}
 use Rattle.nqs_disk.specs.Torn.{is_free, mixed_from, mixed, torn}
@@ -42,3 +43,7 @@ pub torn_is_image : (tear : Tear) (s : State) → IsCoherent s → IsImage s (to
 torn_is_image Old s coherent = record { no_shorter = omega arith; no_longer = coherent.longer; same = λ i lt free. refl }
 torn_is_image New s coherent = record { no_shorter = coherent.longer; no_longer = omega arith; same = coherent.same }
 torn_is_image (Mixed n) s coherent = mixed_image n s coherent
+
+-- where nothing is pending, each tear leaves the bytes as they are
+pub rested : (tear : Tear) (bytes : List ℕ) → torn tear (fresh bytes) ≡ bytes
+rested tear bytes = fresh_image bytes (torn tear (fresh bytes)) (torn_is_image tear (fresh bytes) (fresh_coherent bytes))
