@@ -58,7 +58,8 @@ law : (n : ℕ) (rs : List Run) → LeastOf rs (best_from (λ (_ : Run). true) (
 law n [] = refl
 law n (r ∷ rs) = by (best_from (λ (_ : Run). true) (λ a b. is_less_id a.id b.id) (n + 1) rs) (law (n + 1) rs)
   where
-    one_more : (id : RequestId) → number (λ o. is_less_id o id) (ids_of rs) ≡ 0 → is_less_id r.id id ≡ false → number (λ o. is_less_id o id) (r.id ∷ ids_of rs) ≡ 0
+    one_more : (id : RequestId) → number (λ o. is_less_id o id) (ids_of rs) ≡ 0 → is_less_id r.id id ≡ false
+        → number (λ o. is_less_id o id) (r.id ∷ ids_of rs) ≡ 0
     one_more id none isnt = number-cons (λ o. is_less_id o id) r.id (ids_of rs) ∙ (λ j. none j + one (isnt j))
 
     of : (y : ℕ × Run) → IsLeast y.1.id (ids_of rs) → (b : Bool) → is_less_id y.1.id r.id ≡ b → LeastOf (r ∷ rs) (if b then Some y else Some (n, r))

@@ -66,7 +66,8 @@ pub(crate) fn add_next(
     gone: &PeerNumber,
 ) -> Result<Plan, Memory>
     requires { HasDistinctStages (content state.now) }
-    ensures { IfOk result (λ more. more ≡ with_more plan (due_of (content state.now) gone.now.peer (without_first (is_stage gone.now) state.now.stages.items))) }
+    ensures { IfOk result (λ more.
+        more ≡ with_more plan (due_of (content state.now) gone.now.peer (without_first (is_stage gone.now) state.now.stages.items))) }
 {
     let due = state.stages.best(
         |stage: &Stage| is_other(stage, gone.peer, gone),

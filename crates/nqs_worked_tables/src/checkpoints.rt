@@ -88,8 +88,9 @@ pub fn stops_leave_journals()
     ensures not_yet { map (λ k. left (journaled [] 4095 (only First k) New)) (2 ∷ 3 ∷ []) ++ left (journaled (3 ∷ []) 4095 (only Second 4) Old) ∷ []
         ≡ (([], 4095, 0) ∷ []) ∷ (([], 4096, 1) ∷ []) ∷ ((3 ∷ [], 4095, 0) ∷ []) ∷ [] }
     ensures first_decides { map (λ fuses. left (journaled [] 4096 fuses New))
-        (record no_fuses { root = Some 1; second = Some 2 } ∷ record no_fuses { root = Some 2; spool = Some 1 } ∷ record no_fuses { root = Some 2; second = Some 5 }
-        ∷ record no_fuses { second = Some 5; spool = Some 2 } ∷ record no_fuses { second = Some 5; spool = Some 3 } ∷ [])
+        (record no_fuses { root = Some 1; second = Some 2 } ∷ record no_fuses { root = Some 2; spool = Some 1 }
+        ∷ record no_fuses { root = Some 2; second = Some 5 } ∷ record no_fuses { second = Some 5; spool = Some 2 }
+        ∷ record no_fuses { second = Some 5; spool = Some 3 } ∷ [])
         ≡ (([], 4096, 0) ∷ []) ∷ ((1 ∷ [], 0, 0) ∷ []) ∷ ((1 ∷ [], 0, 0) ∷ []) ∷ ((1 ∷ [], 0, 0) ∷ []) ∷ ((1 ∷ [], 1, 1) ∷ []) ∷ [] }
 {}
 

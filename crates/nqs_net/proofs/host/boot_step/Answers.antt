@@ -42,7 +42,8 @@ returns-in_err-emit-in-Ok c = λ w host faces is.
     let out = c.in-Ok.ensures.outputs refl host.state down.tells ∙ ap (λ l. l ++ outs) c.new-out.ensures.items in
     let saw = boot_seen me w host c.args.turn.tear packets faces c.into_inner.result down c.in-Ok.node c.in-Ok.ensures.booted.sound
     (c.in-Ok.ensures.booted.told refl host.state down.tells) (c.in-Ok.ensures.booted.made refl (active_in host) down.active)
-    (c.in-Ok.ensures.booted.active refl (active_in host) down.active) (c.in-Ok.ensures.booted.any_moment refl host.state down.tells (active_in host) down.active)
+    (c.in-Ok.ensures.booted.active refl (active_in host) down.active)
+    (c.in-Ok.ensures.booted.any_moment refl host.state down.tells (active_in host) down.active)
     (c.in-Ok.ensures.booted.fuse refl) in
     let front = subst (λ l. GrowsByFront mid after (seen_from me (length packets) l)) out c.in_err-emit-in-Ok.ensures.front in
     rw p.1 (shown_as before after _ _ saw (shown_before before mid after (seen.Boot me ∷ [])
@@ -67,9 +68,11 @@ returns-in-Ok c = λ w host faces is.
     let follows = subst (λ n. GoOn (histories_of mem.history_of c.into_inner.result) (history_of n)) (sym boxed) went in
     turn_follows c.args.turn.me c.args.turn.tear _ before _ w c.args.turn.tear (histories_of mem.history_of c.args.down.disks.value) _ _
     (subst (λ d. GoOn (histories_of mem.history_of d) (history_of c.in_ok-node-in-Ok.node.value)) c.into_inner.ensures follows)
-    (boot_turn c.args.turn.me w host c.args.turn.tear packets faces c.into_inner.result down c.in-Ok.node _ c.in_ok-node-in-Ok.ensures.ok c.in-Ok.ensures.booted.sound
+    (boot_turn c.args.turn.me w host c.args.turn.tear packets faces c.into_inner.result down c.in-Ok.node _ c.in_ok-node-in-Ok.ensures.ok
+    c.in-Ok.ensures.booted.sound
     (c.in-Ok.ensures.booted.told refl host.state down.tells) (c.in-Ok.ensures.booted.made refl (active_in host) down.active)
-    (c.in-Ok.ensures.booted.active refl (active_in host) down.active) (c.in-Ok.ensures.booted.any_moment refl host.state down.tells (active_in host) down.active)
+    (c.in-Ok.ensures.booted.active refl (active_in host) down.active)
+    (c.in-Ok.ensures.booted.any_moment refl host.state down.tells (active_in host) down.active)
     (c.in-Ok.ensures.booted.fuse refl)
     _ before _ (c.in_ok-emit-in-Ok.ensures.packets ∙ ap (λ l. packets ++ sent_in l) out)
     (c.in_ok-emit-in-Ok.ensures.seen ∙ ap (λ l. l ++ seen_from c.args.turn.me (length packets) c.boot.new.out.items) c.in_ok-push-in-Ok.ensures.items

@@ -59,5 +59,6 @@ returns-clause-up c =
     (booted me site c.new_disks-disks.result disks c.new_disks-disks.ensures.histories c.new_disks-disks.ensures.fuses c.format.ensures.root
     c.format.ensures.second c.format.ensures.spool
     _ (c.in-Ok.ensures.made refl) (c.format.ensures.fuse refl) is c.in-Ok-boot.node (c.in-Ok-boot.ensures.booted.told refl (formatted me site) told)
-    c.in-Ok-boot.ensures.booted.sound (c.in-Ok-boot.ensures.booted.active refl formatted_active active) (c.in-Ok-boot.ensures.booted.made refl formatted_active active)
+    c.in-Ok-boot.ensures.booted.sound (c.in-Ok-boot.ensures.booted.active refl formatted_active active)
+    (c.in-Ok-boot.ensures.booted.made refl formatted_active active)
     (c.in-Ok-boot.ensures.booted.any_moment refl (formatted me site) told formatted_active active) (c.in-Ok-boot.ensures.booted.fuse refl))

@@ -97,7 +97,8 @@ returns g c =
     let i = c.loop-event.event-index in
     let all : take i c.args.events.now ≡ c.args.events.now = take_all i c.args.events.now
     (omega (arith, c.loop-event-test.false, c.loop-event.auto.event-index-end)) in
-    let rest = subst (Appends (g.K.Sink.taken c.loop-event.out) (g.K.Sink.taken c.write_whole.new.sink)) c.deref.ensures.value c.in_ok-write_whole.ensures.ok in (
+    let rest = subst (Appends (g.K.Sink.taken c.loop-event.out) (g.K.Sink.taken c.write_whole.new.sink)) c.deref.ensures.value
+    c.in_ok-write_whole.ensures.ok in (
       subst (λ (events : List WorldEvent). Appends (g.K.Sink.taken c.args.out.now) (g.K.Sink.taken c.write_whole.new.sink) (text_of false site events)) all
           (written_whole _ _ _ (text_of false site (take i c.args.events.now)) c.loop-event.text.items c.loop-event.invariant.written rest),
       subst (λ (events : List WorldEvent). IsWorld c.loop-event.world (ran site events).world) all c.loop-event.invariant.world,
