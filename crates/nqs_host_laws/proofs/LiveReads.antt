@@ -15,18 +15,10 @@ use Rattle.nqs_rules.specs.Stepped.{Stepped, Pending, map_pending, map_stepped}
 use Rattle.nqs_rules.proofs.StepPlain.{step-map}
 use Rattle.nqs_rules.proofs.StartPlain.{start-map}
 use Rattle.nqs_spool.specs.Extents.{Has}
+use Rattle.nqs_spool.proofs.Lists.{has_left, has_right}
 use Rattle.nqs_store.specs.Told.{Host}
 use Rattle.nqs_store.specs.Live.{row_part, promise_part, stage_part, file_part, output_parts, live}
 use Rattle.nqs_host_laws.specs.Reads.{IsLive, AreLive}
-
-has_left : (front back : List Extent) (x : Extent) → Has front x → Has (front ++ back) x
-has_left [] back x h = absurd h
-has_left (y ∷ front) back x (inl e) = inl e
-has_left (y ∷ front) back x (inr h) = inr (has_left front back x h)
-
-has_right : (front back : List Extent) (x : Extent) → Has back x → Has (front ++ back) x
-has_right [] back x h = h
-has_right (y ∷ front) back x h = inr (has_right front back x h)
 
 module _ (host : Host) where
   -- a live extent of the host

@@ -8,6 +8,7 @@ use Rattle.nqs_base.specs.Same.{name_eq}
 use Rattle.nqs_types.specs.Ids.{id_eq, id_exact}
 use Rattle.nqs_state.specs.State.{Plain}
 use Rattle.nqs_base_tables.specs.Table.{change_first, without_first}
+use Rattle.nqs_base_tables.proofs.TableLemmas.{without_first-none, change_first-none}
 use Rattle.nqs_state.specs.Keys.{is_row}
 use Rattle.nqs_types.specs.declared.ids.PeerNumber.{PeerNumber}
 use Rattle.nqs_types.specs.declared.ids.RequestId.{RequestId}
@@ -49,7 +50,7 @@ use Rattle.nqs_rules.proofs.RowChanges.{noted_kept}
 use Rattle.nqs_rules.proofs.StateFacts.{keys_are}
 use Rattle.nqs_rules.proofs.OutputsKept.{file_keeps, outputs_keep}
 use Rattle.nqs_laws.proofs.RowTests.{PlainRow}
-use Rattle.nqs_laws.proofs.Found.{only, first_of_two, without-none, change-none, find-added, find-without, find-changed, find-mapped, find-filtered}
+use Rattle.nqs_laws.proofs.Found.{only, first_of_two, find-added, find-without, find-changed, find-mapped, find-filtered}
 use Rattle.nqs_laws.proofs.Found.{find-filter_mapped}
 
 abbrev pub Request : Type 0
@@ -144,7 +145,7 @@ without_found id x rows d = of (find (is_row id) rows) refl
     none e false same = refl
 
     of : (o : Option PlainRow) → find (is_row id) rows ≡ o → find (is_row x) (without_first (is_row id) rows) ≡ without_at id x (find (is_row x) rows)
-    of None e = ap (find (is_row x)) (without-none (is_row id) rows e) ∙ none e (id_eq x id) refl
+    of None e = ap (find (is_row x)) (without_first-none (is_row id) rows e) ∙ none e (id_eq x id) refl
     of (Some r) e = find-without id_eq (λ (r : PlainRow). r.id) id_exact same_id (is_row id) r x rows e d
         ∙ ap (λ i. if id_eq x i then None else find (is_row x) rows) (sym (id_of id rows r e))
 
@@ -163,7 +164,7 @@ changed_found id f keeps x rows d = of (find (is_row id) rows) refl
     some r e false same = refl
 
     of : (o : Option PlainRow) → find (is_row id) rows ≡ o → find (is_row x) (change_first (is_row id) f rows) ≡ changed_at id f x (find (is_row x) rows)
-    of None e = ap (find (is_row x)) (change-none (is_row id) f rows e) ∙ none e (id_eq x id) refl
+    of None e = ap (find (is_row x)) (change_first-none (is_row id) f rows e) ∙ none e (id_eq x id) refl
     of (Some r) e =
         find-changed id_eq (λ (r : PlainRow). r.id) id_exact same_id f keeps (is_row id) r x rows e d
         ∙ (ap (λ i. if id_eq x i then Some (f r) else find (is_row x) rows) (sym (id_of id rows r e)) ∙ some r e (id_eq x id) refl)

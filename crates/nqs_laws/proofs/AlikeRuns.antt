@@ -65,7 +65,7 @@ alike_states (g ∷ gs) (h ∷ hs) k = λ j. (k.0.same j).state ∷ alike_states
 
 -- one change
 
-ready_tear : (h : Host) → (ready h).tear ≡ h.tear
+pub ready_tear : (h : Host) → (ready h).tear ≡ h.tear
 ready_tear h = ap (λ x. x.tear) (ready_differs h)
 
 alike_used : (puts : List (List ℕ)) (c : Change (List ℕ)) (g h : Host) → AreAlike g h

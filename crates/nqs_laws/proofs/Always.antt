@@ -9,7 +9,7 @@ use Rattle.nqs_laws.specs.Sane.{AreSane, IsSite}
 use Rattle.nqs_laws.specs.Words.{IsRight, IsInOrderAll}
 use Rattle.nqs_laws.proofs.Sound.{IsHost, run_sound}
 
-host_right : (site : List (List ℕ)) (place : ℕ) (s : Plain) → IsHost site place s → IsRight site place s
+pub host_right : (site : List (List ℕ)) (place : ℕ) (s : Plain) → IsHost site place s → IsRight site place s
 host_right site place s h = record {
   me = λ j. (h.head j).0;
   names = λ j. (h.head j).1;

@@ -18,23 +18,6 @@ module _ {V : Type 0} where
   first_of_two None o = o
   first_of_two (Some v) o = Some v
 
-  pub without-none : (u : V → Bool) (vs : List V) → find u vs ≡ None → without_first u vs ≡ vs
-  without-none u [] e = refl
-  without-none u (v ∷ vs) e = by (u v) e (without-none u vs)
-    where
-      by : (b : Bool) → cond b (Some v) (find u vs) ≡ None → (find u vs ≡ None → without_first u vs ≡ vs) → (if b then vs else v ∷ without_first u vs) ≡ v ∷ vs
-      by true e rest = absurd (none-some v (sym e))
-      by false e rest = ap (λ l. v ∷ l) (rest e)
-
-  pub change-none : (u : V → Bool) (g : V → V) (vs : List V) → find u vs ≡ None → change_first u g vs ≡ vs
-  change-none u g [] e = refl
-  change-none u g (v ∷ vs) e = by (u v) e (change-none u g vs)
-    where
-      by : (b : Bool) → cond b (Some v) (find u vs) ≡ None → (find u vs ≡ None → change_first u g vs ≡ vs)
-          → (if b then g v ∷ vs else v ∷ change_first u g vs) ≡ v ∷ vs
-      by true e rest = absurd (none-some v (sym e))
-      by false e rest = ap (λ l. v ∷ l) (rest e)
-
   pub find-added : (t : V → Bool) (vs : List V) (y : V) → find t (vs ++ y ∷ []) ≡ first_of_two (find t vs) (if t y then Some y else None)
   find-added t [] y = by (t y)
     where

@@ -53,6 +53,7 @@ use Rattle.nqs_laws.proofs.Sent.{is_fine_message, is_fine_output, all-true, Begi
 use Rattle.nqs_laws.proofs.Sound.{IsSound, Keeps, Suits, event_sane, all_sane, way_sends, get-here, runs_keep, run_sound}
 use Rattle.nqs_laws.proofs.NewRows.{row_passes, carried_passes}
 use Rattle.nqs_rules.proofs.PeersOrder.{get-other}
+use Rattle.nqs_laws.proofs.Views.{host_same}
 
 -- all entries
 
@@ -266,9 +267,6 @@ start_untold now s x (Opens r dest found is) = subst (λ (y : Stepped (List ℕ)
     by None = refl
     by (Some p) = refl
 
-same_place : (h : HostId) → same_host h h ≡ true
-same_place h = eq-eqb h.0 h.0 refl
-
 boot_tells : (h : HostId) (n : ℕ) (rows : List PlainRow) → boots_tell (Some h) (seen_from h n (filter_map boot_output rows)) ≡ true
 boot_tells h n [] = refl
 boot_tells h n (r ∷ rows) = by (is_running r.state) (may_start_again r) (λ k. boot_tells h k rows)
@@ -276,8 +274,8 @@ boot_tells h n (r ∷ rows) = by (is_running r.state) (may_start_again r) (λ k.
     by : (b c : Bool) → ((k : ℕ) → boots_tell (Some h) (seen_from h k (filter_map boot_output rows)) ≡ true)
         → boots_tell (Some h) (seen_from h n (cons_option (if b then Some (if c then out.Again r.id else out.Lost r.id) else None)
         (filter_map boot_output rows))) ≡ true
-    by true true told = and_from (same_host h h) _ (same_place h) (told (n + 0))
-    by true false told = and_from (same_host h h) _ (same_place h) (told (n + 0))
+    by true true told = and_from (same_host h h) _ (host_same h) (told (n + 0))
+    by true false told = and_from (same_host h h) _ (host_same h) (told (n + 0))
     by false c told = told n
 
 abbrev Tells : Moment → Type 0

@@ -1,5 +1,5 @@
 -- Packets that arrive: the newest of two hosts, and why each is within its limits.
-use Rattle.std.proofs.Common.{◌≡◌, ℕ, zero, suc, ◌<◌, Bool, true, false, cond, List, [], ◌∷◌, length, drop, filter, get_or, slice_get, Some}
+use Rattle.std.proofs.Common.{◌≡◌, ℕ, zero, suc, ◌<◌, Bool, true, false, cond, List, [], ◌∷◌, length, drop, filter, get_or, Some}
 use Rattle.std.proofs.Common.{sym, ap, subst, ◌∙◌, arith}
 use Rattle.std.proofs.lemmas.Bool.{and_parts}
 use Rattle.std.proofs.lemmas.Option.{same_Some, none-some}
@@ -7,6 +7,7 @@ use Rattle.std.specs.List.{list_all}
 use Rattle.nqs_types.specs.declared.ids.HostId.{HostId}
 use Rattle.nqs_types.specs.declared.message.Message.{Message}
 use Rattle.nqs_rules.specs.World.{World as Network, last_of, packet_at, is_between, newest_between}
+use Rattle.nqs_rules.proofs.KeyFacts.{all_get}
 
 module _ {A : Type 0} where
   last_more : (x m : A) (ys : List A) → last_of ys ≡ Some m → last_of (x ∷ ys) ≡ Some m
@@ -30,11 +31,6 @@ module _ {A : Type 0} where
     none_from (x ∷ xs) zero m within here fails none = ap (λ b. cond b (x ∷ filter t xs) (filter t xs)) (ap t (sym here) ∙ fails) ∙ none
     none_from (x ∷ xs) (suc n) m within here fails none = none_from xs n m (omega (arith, within)) here fails none
 
-    all_at : (l : List A) (n : ℕ) (m : A) → list_all t l ≡ true → slice_get l n ≡ Some m → t m ≡ true
-    all_at [] n m all e = absurd (none-some m e)
-    all_at (x ∷ xs) zero m all e = subst (λ y. t y ≡ true) (same_Some x m e) (and_parts (t x) (list_all t xs) all).0
-    all_at (x ∷ xs) (suc n) m all e = all_at xs n m (and_parts (t x) (list_all t xs) all).1 e
-
     all_last : (p : A → Bool) (l : List A) (m : A) → list_all t l ≡ true → last_of (filter p l) ≡ Some m → t m ≡ true
     all_last p [] m all e = absurd (none-some m e)
     all_last p (x ∷ xs) m all e = by (p x) (filter p xs) e (all_last p xs m (and_parts (t x) (list_all t xs) all).1)
@@ -46,7 +42,7 @@ module _ {A : Type 0} where
 
 pub numbered_sane : (t : Message → Bool) (k : ℕ) (w : Network) (m : Message) → list_all t w.packets ≡ true → packet_at k w ≡ Some m → t m ≡ true
 numbered_sane t zero w m all e = absurd (none-some m e)
-numbered_sane t (suc k) w m all e = all_at t w.packets k m all e
+numbered_sane t (suc k) w m all e = all_get t w.packets k m all e
 
 pub newest_sane : (t : Message → Bool) (a b : HostId) (w : Network) (m : Message) → list_all t w.packets ≡ true → newest_between a b w ≡ Some m → t m ≡ true
 newest_sane t a b w m all e = all_last t (is_between a b) w.packets m all e

@@ -16,9 +16,10 @@ use Rattle.nqs_store.specs.Active.{Active, journal_of, other_of, turned_to, read
 use Rattle.nqs_store.specs.Commits.{AreClear, IsPast, IsKept, record_moment}
 use Rattle.nqs_store.specs.Hosts.{HostCall, same_disk, on, part}
 use Rattle.nqs_store.specs.Plan.{puts_calls, checkpoint_calls, due_calls, commit_calls}
+use Rattle.nqs_store.proofs.HostRuns.{part_own, part_other, part_append}
 use Rattle.nqs_net.specs.Worlds.{calls_of, IsFuse, AreInTurn, IsDisk, AreDisks, active_in}
 use Rattle.nqs_net.proofs.Fates.{clear_falls}
-use Rattle.nqs_net.proofs.Parts.{part_more, part_same, part_other, root_other, spool_other, journal_not_root, journal_not_spool, ran, ran_more, ran_still}
+use Rattle.nqs_net.proofs.Parts.{root_other, spool_other, journal_not_root, journal_not_spool, ran, ran_more, ran_still}
 use Rattle.nqs_net.proofs.Parts.{ran_same}
 use Rattle.nqs_net.proofs.Parts.{ran_other, moment_more}
 
@@ -134,12 +135,6 @@ ready_active host = ready_by host (is_due host.records)
 
 -- where a checkpoint is due, and where none is
 
-pub due_ready : (host : Host) → is_due host.records ≡ true → ready host ≡ turns_over host
-due_ready host due = ap (λ b. if b then turns_over host else host) due
-
-pub idle_ready : (host : Host) → is_due host.records ≡ false → ready host ≡ host
-idle_ready host idle = ap (λ b. if b then turns_over host else host) idle
-
 -- the disks after a checkpoint, where one was due
 module _ (host : Host) (fails : Which → ℕ → Bool) (old : Which → History) (disks : AreDisks host old fails) (snapshot : List ℕ) where
   abbrev here : Active
@@ -183,20 +178,20 @@ module _ (a : Active) (snapshot : List ℕ) where
 
   pub spool_due : (b : Bool) → part Spool (if b then checkpoint_calls a snapshot else []) ≡ []
   spool_due false = refl
-  spool_due true = part_more Spool (on (other_of a) front_part) (on Root byte_part)
+  spool_due true = part_append Spool (on (other_of a) front_part) (on Root byte_part)
       ∙ ap (λ l. l ++ []) (part_other Spool (other_of a) front_part (spool_other (not a.second)))
 
   pub root_due : (b : Bool) → part Root (if b then checkpoint_calls a snapshot else []) ≡ (if b then byte_part else [])
   root_due false = refl
-  root_due true = part_more Root (on (other_of a) front_part) (on Root byte_part)
+  root_due true = part_append Root (on (other_of a) front_part) (on Root byte_part)
       ∙ ap (λ l. l ++ byte_part) (part_other Root (other_of a) front_part (root_other (not a.second)))
 
   -- of the journal that the record goes to
   pub journal_due : (b : Bool) → length (part (journal_of (if b then turned_to a else a)) (if b then checkpoint_calls a snapshot else []))
       ≡ (if b then 2 else 0)
   journal_due false = refl
-  journal_due true = ap length (part_more (other_of a) (on (other_of a) front_part) (on Root byte_part)
-      ∙ ap (λ l. l ++ part (other_of a) (on Root byte_part)) (part_same (other_of a) front_part)
+  journal_due true = ap length (part_append (other_of a) (on (other_of a) front_part) (on Root byte_part)
+      ∙ ap (λ l. l ++ part (other_of a) (on Root byte_part)) (part_own (other_of a) front_part)
       ∙ ap (λ l. front_part ++ l) (part_other (other_of a) Root byte_part (journal_not_root (not a.second))))
 
 module _ (old : Which → History) (a : Active) (snapshot : List ℕ) where

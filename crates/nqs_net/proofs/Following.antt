@@ -9,7 +9,7 @@ use Rattle.nqs_types.specs.declared.message.Message.{Message}
 use Rattle.nqs_types.specs.declared.world.Seen.{Seen}
 use Rattle.nqs_types.specs.declared.world.Which.{Which}
 use Rattle.nqs_base.specs.declared.tear.Tear.{Tear}
-use Rattle.nqs_outside.specs.History.{Call, History, extended}
+use Rattle.nqs_outside.specs.History.{History, extended}
 use Rattle.nqs_disk.specs.MemDisk as mem
 use Rattle.nqs_disk.specs.contracts.mem_disk.MemDiskDisk.TheImpl.{ghosts}
 use Rattle.nqs_disk.specs.declared.lack.Lack.{Lack}
@@ -20,6 +20,7 @@ use Rattle.nqs_store.specs.Disks.{disk_at, histories_of}
 use Rattle.nqs_store.specs.declared.disks.Disks.{Disks}
 use Rattle.nqs_store.specs.Hosts.{HostCall, Runs, part}
 use Rattle.nqs_state.specs.State.{Plain}
+use Rattle.nqs_store.proofs.Runs.{none_more}
 use Rattle.nqs_node.specs.Carried.{IsOneOrOther, IsBrokenOff}
 use Rattle.nqs_node.specs.Nodes.{disk_of, history_of}
 use Rattle.nqs_node.specs.declared.node.Node.{Node}
@@ -36,11 +37,8 @@ on_ok_of (Err e) p = tt
 
 -- disks
 
-no_more : (h : History) → h ≡ extended h []
-no_more h = ap (λ (l : List Call). let e : History = record { start = h.start; calls = l } in e) (sym (append-nil h.calls))
-
 pub still : (old now : Which → History) → ((which : Which) → now which ≡ old which) → GoOn old now
-still old now same = λ which. ([], same which ∙ no_more (old which))
+still old now same = λ which. ([], same which ∙ none_more (old which))
 
 pub by_run : (old now : Which → History) (run : List HostCall) → Runs old now run → GoOn old now
 by_run old now run runs = λ which. (part which run, runs which)

@@ -5,11 +5,12 @@ use Rattle.std.specs.List.{list_all}
 use Rattle.nqs_state.specs.State.{Plain}
 use Rattle.nqs_rules.specs.Run.{happens}
 use Rattle.nqs_rules.specs.World.{Act, World as Network}
-use Rattle.nqs_rules.proofs.Chains.{each, chained}
+use Rattle.nqs_rules.proofs.Chains.{each}
 use Rattle.nqs_laws.specs.Sane.{is_sane_act}
 use Rattle.nqs_laws.specs.Words.{IsRight, IsInOrderAll}
 use Rattle.nqs_laws.proofs.Frame.{moment, steps_of, run_kept}
 use Rattle.nqs_laws.proofs.Sound.{IsHost, IsSound, sound_frames}
+use Rattle.nqs_laws.proofs.Always.{host_right}
 
 module _ (site : List (List ℕ)) where
   -- the two forms of a host in order
@@ -28,20 +29,6 @@ module _ (site : List (List ℕ)) where
         outputs = record { stages = parts.1.1.0; files = parts.1.1.1.0 };
       }
 
-  right_of_host : (place : ℕ) (s : Plain) → IsHost site place s → IsRight site place s
-  right_of_host place s host = record {
-    me = λ j. (host.head j).0;
-    names = λ j. (host.head j).1;
-    order = record {
-      order = host.order;
-      parts = chained (list_all (λ r. nat_le (length r.script) 32768) s.rows)
-          (list_all (λ p. nat_le (length p.row.script) 32768) s.promises ∷ list_all (λ t. nat_le (length t.bytes) 32768) s.stages
-          ∷ list_all (λ f. nat_le (length f.bytes) 32768) s.files ∷ [])
-          (host.scripts.rows, (host.scripts.promises, (host.outputs.stages, (host.outputs.files, tt))));
-    };
-    consistent = host.calm;
-  }
-
   pub order_kept : (w : Network) (a : Act) → is_sane_act a ≡ true → IsInOrderAll site w → IsInOrderAll site (happens a w).world
   order_kept w a sane order =
       let first : IsSound site (moment w []) = record {
@@ -51,4 +38,4 @@ module _ (site : List (List ℕ)) where
             order.packets;
       } in
       let next = run_kept (IsSound site) (steps_of (IsSound site) (sound_frames site)) (a ∷ []) w [] (and_from (is_sane_act a) true sane refl) first in
-      record { hosts = λ place s at. right_of_host place s (next.hosts place s at); count = next.count; packets = next.packets }
+      record { hosts = λ place s at. host_right site place s (next.hosts place s at); count = next.count; packets = next.packets }

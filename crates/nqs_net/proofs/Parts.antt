@@ -1,39 +1,12 @@
 -- The parts of a run, and the disks after it.
-use Rattle.std.proofs.Common.{◌≡◌, ◌+◌, Bool, true, false, List, [], ◌∷◌, ◌++◌, length, refl, sym, ap, ◌∙◌}
-use Rattle.std.specs.Prelude.{if◌then◌else◌}
+use Rattle.std.proofs.Common.{◌≡◌, ◌+◌, Bool, true, false, List, [], ◌++◌, length, refl, sym, ap, ◌∙◌}
 use Rattle.std.proofs.lemmas.List.{append_assoc, append-nil, length-append}
 use Rattle.nqs_types.specs.declared.world.Which.{Which}
-use Rattle.nqs_types.specs.declared.world.Which.TheVariants.{Root, First, Second, Spool}
+use Rattle.nqs_types.specs.declared.world.Which.TheVariants.{Root, Spool}
 use Rattle.nqs_outside.specs.History.{Call, History, moment, extended}
 use Rattle.nqs_rules.specs.Journals.{journal_on}
 use Rattle.nqs_store.specs.Hosts.{HostCall, same_disk, on, part}
-
-pub part_more : (which : Which) (xs ys : List HostCall) → part which (xs ++ ys) ≡ part which xs ++ part which ys
-part_more which [] ys = refl
-part_more which (call ∷ xs) ys = by (same_disk which call.0) (part_more which xs ys)
-  where
-    by : (b : Bool) → part which (xs ++ ys) ≡ part which xs ++ part which ys
-        → (if b then call.1 ∷ part which (xs ++ ys) else part which (xs ++ ys)) ≡ (if b then call.1 ∷ part which xs else part which xs) ++ part which ys
-    by true rest = ap (λ l. call.1 ∷ l) rest
-    by false rest = rest
-
-same_itself : (which : Which) → same_disk which which ≡ true
-same_itself Root = refl
-same_itself First = refl
-same_itself Second = refl
-same_itself Spool = refl
-
--- of calls of one disk, its part is all
-pub part_same : (which : Which) (calls : List Call) → part which (on which calls) ≡ calls
-part_same which [] = refl
-part_same which (call ∷ calls) = ap (λ b. if b then call ∷ part which (on which calls) else part which (on which calls)) (same_itself which)
-    ∙ ap (λ l. call ∷ l) (part_same which calls)
-
--- and that of another is none
-pub part_other : (which disk : Which) (calls : List Call) → same_disk which disk ≡ false → part which (on disk calls) ≡ []
-part_other which disk [] other = refl
-part_other which disk (call ∷ calls) other = ap (λ b. if b then call ∷ part which (on disk calls) else part which (on disk calls)) other
-    ∙ part_other which disk calls other
+use Rattle.nqs_store.proofs.HostRuns.{part_own, part_other, part_append}
 
 -- a journal stands on neither of the other disks
 
@@ -58,7 +31,7 @@ abbrev pub ran : (Which → History) → List HostCall → Which → History
 ran old run which = extended (old which) (part which run)
 
 pub ran_more : (old : Which → History) (xs ys : List HostCall) (which : Which) → ran old (xs ++ ys) which ≡ ran (ran old xs) ys which
-ran_more old xs ys which = ap (extended (old which)) (part_more which xs ys) ∙ (let h = old which in
+ran_more old xs ys which = ap (extended (old which)) (part_append which xs ys) ∙ (let h = old which in
     let e : extended h (part which xs ++ part which ys) ≡ extended (extended h (part which xs)) (part which ys) =
     λ j. record { start = h.start; calls = sym (append_assoc h.calls (part which xs) (part which ys)) j } in e)
 
@@ -75,7 +48,7 @@ ran_still old run which none = ap (extended (old which)) none ∙ none_more (old
 -- calls of one disk
 
 pub ran_same : (old : Which → History) (which : Which) (calls : List Call) → ran old (on which calls) which ≡ extended (old which) calls
-ran_same old which calls = ap (extended (old which)) (part_same which calls)
+ran_same old which calls = ap (extended (old which)) (part_own which calls)
 
 pub ran_other : (old : Which → History) (which disk : Which) (calls : List Call) → same_disk which disk ≡ false → ran old (on disk calls) which ≡ old which
 ran_other old which disk calls other = ran_still old (on disk calls) which (part_other which disk calls other)

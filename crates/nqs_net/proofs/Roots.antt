@@ -14,8 +14,9 @@ use Rattle.nqs_store.specs.Active.{Active, journal_of, ready as ready_in}
 use Rattle.nqs_store.specs.Commits.{IsKept}
 use Rattle.nqs_store.specs.Hosts.{on, part}
 use Rattle.nqs_store.specs.Plan.{puts_calls, due_calls, commit_calls}
+use Rattle.nqs_store.proofs.HostRuns.{part_other, part_append}
 use Rattle.nqs_net.specs.Worlds.{active_in}
-use Rattle.nqs_net.proofs.Parts.{part_more, part_other, root_other}
+use Rattle.nqs_net.proofs.Parts.{root_other}
 use Rattle.nqs_net.proofs.Burns.{root_due}
 
 -- the root that a host has behind a checkpoint, where one was due
@@ -41,8 +42,8 @@ root_part a snapshot places puts gate payload =
     let due = due_calls a snapshot in
     let spool = on Spool (puts_calls places puts) in
     let record_calls = on (journal_of (ready_in a)) (append_calls gate payload) in
-    part_more Root due (spool ++ record_calls)
-    ∙ ap (λ l. part Root due ++ l) (part_more Root spool record_calls
+    part_append Root due (spool ++ record_calls)
+    ∙ ap (λ l. part Root due ++ l) (part_append Root spool record_calls
     ∙ ap (λ l. l ++ part Root record_calls) (part_other Root Spool (puts_calls places puts) refl)
     ∙ part_other Root (journal_of (ready_in a)) (append_calls gate payload) (root_other (ready_in a).second))
     ∙ append-nil (part Root due) ∙ root_due a snapshot (is_due a.records)

@@ -11,6 +11,7 @@ use Rattle.nqs_disk.specs.Torn.{torn}
 use Rattle.nqs_rules.specs.Journals.{is_second, active, is_due, names_same, torn_root}
 use Rattle.nqs_rules.specs.World.{Host, Fate, Made, StoppedBefore, StoppedAfter, spool_calls, keeps_gate, fuse_of, falls_at_journal, falls_at_root, turns_over}
 use Rattle.nqs_rules.specs.World.{torn_over, ready, recorded, cut_off, fate_of_record, fate}
+use Rattle.nqs_laws.proofs.AlikeRuns.{ready_tear}
 use Rattle.nqs_storage_tears.specs.Roots.{turning}
 use Rattle.nqs_storage_tears.proofs.TornGates.{torn_means}
 use Rattle.nqs_storage_tears.proofs.TornRoots.{torn_turning}
@@ -26,13 +27,6 @@ use Rattle.nqs_net.proofs.Fates.{root_fate, root_cut}
 use Rattle.nqs_net.proofs.Roots.{ready_root, root_after}
 
 -- the tear stays
-
-pub ready_tear : (host : Host) → (ready host).tear ≡ host.tear
-ready_tear host = by (is_due host.records)
-  where
-    by : (b : Bool) → (if b then turns_over host else host).tear ≡ host.tear
-    by true = refl
-    by false = refl
 
 pub cut_tear : (host : Host) → (cut_off host).tear ≡ host.tear
 cut_tear host = by (not (is_due host.records) || falls_at_journal host) (falls_at_root host)

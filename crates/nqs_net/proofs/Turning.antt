@@ -36,6 +36,7 @@ use Rattle.nqs_store.specs.Sound.{IsSoundHost}
 use Rattle.nqs_laws.proofs.PairedRuns.{put-twice}
 use Rattle.nqs_laws.proofs.Sound.{get-here}
 use Rattle.nqs_laws.proofs.Told.{all_seen, sights-append}
+use Rattle.nqs_laws.proofs.AlikeRuns.{ready_tear}
 use Rattle.nqs_net.specs.Lists.{sent_in, seen_from}
 use Rattle.nqs_net.specs.Pasts.{HasCome}
 use Rattle.nqs_net.specs.Worlds.{AreInTurn, AreDisks, IsUp, IsDown, IsSlot, active_in}
@@ -45,7 +46,7 @@ use Rattle.nqs_net.specs.declared.slot.Slot.TheVariants.{Up, Down}
 use Rattle.nqs_net.proofs.Fates.{unblown}
 use Rattle.nqs_net.proofs.Burns.{kept_disks, same_disks}
 use Rattle.nqs_net.proofs.Roots.{kept_root}
-use Rattle.nqs_net.proofs.Stops.{AreFound, CutsTo, ready_tear, cut_tear, kept_fate, cut_fate}
+use Rattle.nqs_net.proofs.Stops.{AreFound, CutsTo, cut_tear, kept_fate, cut_fate}
 use Rattle.nqs_net.proofs.Coming.{come_more, come_still, used_active}
 
 -- outputs

@@ -17,16 +17,12 @@ use Rattle.nqs_schedule.specs.declared.summary.Summary.{Summary}
 use Rattle.std.specs.declared.result.Result.{Result}
 use Rattle.std.specs.Prelude.{Ok, Err, OnOk}
 use Rattle.std.proofs.lemmas.Bool.{and_parts}
+use Rattle.nqs_laws.proofs.Closing.{run-append}
 use Rattle.nqs_net.specs.Worlds.{IsWorld}
 use Rattle.nqs_net.specs.declared.world.World.{World}
 use Rattle.nqs_network_runs.specs.Running.{ran, text_of}
 use Rattle.nqs_network_runs.specs.Writing.{GoesOn, Tells}
 use Rattle.nqs_network_runs.specs.Sunk.{BeginsWith}
-
--- events that happen after others
-run_world : (acts more : List Act) (w : Network) → (run (acts ++ more) w).world ≡ (run more (run acts w).world).world
-run_world [] more w = refl
-run_world (a ∷ acts) more w = run_world acts more (happens a w).world
 
 run_seen : (acts more : List Act) (w : Network) → seen_of (run (acts ++ more) w) ≡ seen_of (run acts w) ++ seen_of (run more (run acts w).world)
 run_seen [] more w = refl
@@ -43,7 +39,7 @@ ran_split site before more = ap (λ (acts : List Act). run acts (new_world site)
 pub ran_world : (site : List (List ℕ)) (before : List WorldEvent) (event : WorldEvent)
     → (ran site (before ++ event ∷ [])).world ≡ (happens (act_of event) (ran site before).world).world
 ran_world site before event = ap (λ (r : Ran). r.world) (ran_split site before (event ∷ []))
-    ∙ run_world (map act_of before) (act_of event ∷ []) (new_world site)
+    ∙ run-append (map act_of before) (act_of event ∷ []) (new_world site)
 
 seen_after : (site : List (List ℕ)) (before more : List WorldEvent) → seen_of (ran site (before ++ more))
     ≡ seen_of (ran site before) ++ seen_of (run (map act_of more) (ran site before).world)

@@ -2,11 +2,9 @@
 use Rattle.std.proofs.Common.{◌≡◌, ℕ, ◌+◌, Bool, true, false, not, ◌&&◌, ◌||◌, ◌==◌, nat_lt, nat_le, List, [], ◌∷◌, map, Option, None, Some, is_some}
 use Rattle.std.proofs.Common.{slice_get, refl, sym, ap, ◌∙◌, arith, if◌then◌else◌, true≢false}
 use Rattle.std.specs.List.{list_any, position_or_len}
-use Rattle.std.specs.Option.{IfSome, option_eq, option_map, option_and_then}
-use Rattle.std.specs.Cmp.Lexicographic.{nat_list_eq_equiv}
-use Rattle.std.proofs.lemmas.Bool.{and_parts, and_from, or_parts, or_from}
-use Rattle.std.proofs.Math.Bool.{beq, and-false}
-use Rattle.std.proofs.lemmas.Cmp.{nat_eq_equiv}
+use Rattle.std.specs.Option.{IfSome, option_map, option_and_then}
+use Rattle.std.proofs.lemmas.Bool.{and_parts, or_parts, or_from}
+use Rattle.std.proofs.Math.Bool.{and-false}
 use Rattle.std.proofs.lemmas.Bool.Decides.{nat_tests}
 use Rattle.std.proofs.lemmas.Option.{same_Some}
 use Rattle.nqs_base.specs.Same.{name_eq, number_exact}
@@ -35,12 +33,13 @@ use Rattle.nqs_index.specs.Lines.{IsInOrder}
 use Rattle.nqs_index.specs.Seats.{seat_of, entry_of, waits_in}
 use Rattle.nqs_index.specs.declared.class.Class.{Class}
 use Rattle.nqs_index.specs.declared.classes.ClassLine.{ClassLine}
-use Rattle.nqs_index.specs.Classes.{class_eq, class_of, number_in, AreInOrder}
+use Rattle.nqs_index.specs.Classes.{class_of, number_in, AreInOrder}
 use Rattle.nqs_index.specs.Indexed.{classes_in, StandsForIndex}
 use Rattle.nqs_order.specs.ByIndex.{user_allows, is_eligible, kind_allows, startable, first_in, is_open, has_open, class_served, class_allows, first_of, leads}
 use Rattle.nqs_order.specs.ByIndex.{earlier, is_ahead, better_of, first_among, first_eligible, has_first, has_eligible, with_row, if_passes}
 use Rattle.nqs_index.proofs.Numbers.{number-map, any_number}
 use Rattle.nqs_index.proofs.OrderLemmas.{before, order_is, key_itself, once, chain, before_itself, before_once, before_chain}
+use Rattle.nqs_index.proofs.ClassLemmas.{class_itself}
 use Rattle.nqs_order.proofs.BestLemmas.{none-passes}
 use Rattle.nqs_order.proofs.KeyedPlaces.{any_at, any_false, any_of, none_at, distinct_front, place_again, position_again}
 use Rattle.nqs_order.proofs.CountsOfRows.{eligible_is}
@@ -53,18 +52,6 @@ tied_arrivals a b one two = numbers a.priority b.priority a.arrival b.arrival on
     numbers p q m n h g = grind (arith, nat_tests)
 
 -- classes
-
-class_itself : (c : Class) → class_eq c c ≡ true
-class_itself c = and_from (name_eq c.owner c.owner) _ (nat_list_eq_equiv.refl c.owner)
-    (and_from (option_eq name_eq c.forms c.forms) _ (forms c.forms) (and_from (c.earliest == c.earliest) _ (nat_eq_equiv.refl c.earliest) (flag c.far)))
-  where
-    forms : (o : Option (List ℕ)) → option_eq name_eq o o ≡ true
-    forms None = refl
-    forms (Some f) = nat_list_eq_equiv.refl f
-
-    flag : (b : Bool) → beq b b ≡ true
-    flag true = refl
-    flag false = refl
 
 -- an entry of some classes passes a test
 abbrev any_in : (Class → Entry → Bool) → List ClassLine → Bool

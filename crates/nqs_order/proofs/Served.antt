@@ -1,9 +1,8 @@
 -- A queue that has an eligible row has a class, and can do something with a row.
-use Rattle.std.proofs.Common.{◌≡◌, ℕ, ◌<◌, nat_lt, length, arith, Bool, true, false, ◌&&◌, ◌||◌, List, [], ◌∷◌, Option, None, Some, is_some, refl, sym, ◌∙◌}
+use Rattle.std.proofs.Common.{◌≡◌, ℕ, length, arith, Bool, true, false, ◌&&◌, ◌||◌, List, [], ◌∷◌, Option, None, Some, is_some, refl, sym, ◌∙◌}
 use Rattle.std.proofs.Common.{true≢false}
 use Rattle.std.specs.List.{list_any}
-use Rattle.std.proofs.lemmas.Bool.{and_parts, and_from}
-use Rattle.std.proofs.lemmas.Bool.Decides.{nat_tests}
+use Rattle.std.proofs.lemmas.Bool.{and_parts, and_from, lt-ltb}
 use Rattle.nqs_state.specs.State.{State}
 use Rattle.nqs_types.specs.declared.request.Row.{Row}
 use Rattle.nqs_types.specs.declared.queue.Kind.{Kind}
@@ -24,9 +23,6 @@ use Rattle.nqs_order.proofs.KeyedPlaces.{any_of}
 use Rattle.nqs_order.proofs.CountsOfRows.{kind_is}
 use Rattle.nqs_order.proofs.FirstOfClasses.{has_same}
 
-positive : (n : ℕ) → 0 < n → nat_lt 0 n ≡ true
-positive n some = grind (arith, nat_tests)
-
 module _ {A : Type 0} where
   -- what follows from each that passes
   from_any : (p : A → Bool) (b : Bool) → ((x : A) → p x ≡ true → b ≡ true) → (xs : List A) → list_any p xs ≡ true → b ≡ true
@@ -40,7 +36,7 @@ module _ {A : Type 0} where
 module _ {E : Type 0} (index : Index) (d : QueueDef) (now : ℕ) (s : State E) where
   pub filled : (ls : List ClassLine) → has_eligible index d now s ls ≡ true → is_filled ls ≡ true
   filled [] h = absurd (true≢false (sym h))
-  filled (l ∷ ls) h = positive (length (l ∷ ls)) (omega arith)
+  filled (l ∷ ls) h = lt-ltb 0 (length (l ∷ ls)) (omega arith)
 
 module _ {E : Type 0} (index : Index) (s : State E) where
   any_forms : (forms : Option (List ℕ)) (device : List ℕ) → is_free_device index forms s device ≡ true → is_free_device index None s device ≡ true

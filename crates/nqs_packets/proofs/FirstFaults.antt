@@ -3,10 +3,9 @@ use Rattle.std.proofs.Common.{◌≡◌, ◌≢◌, ℕ, ◌+◌, ◌<◌, Bool,
 use Rattle.std.proofs.Common.{length-append, ne_eqb, Ok, Err}
 use Rattle.std.specs.Prelude.{⊤}
 use Rattle.std.specs.declared.result.Result.{Result}
-use Rattle.std.proofs.lemmas.Bool.{eqb-true, ltb-true}
+use Rattle.std.proofs.lemmas.Bool.{eqb-true, ltb-true, lt-ltb}
 use Rattle.std.proofs.lemmas.List.{length-drop}
 use Rattle.std.proofs.lemmas.Bool.Decides.{nat_tests}
-use Rattle.nqs_base.proofs.Plain.{lt_is_true}
 use Rattle.nqs_types.specs.declared.message.Message.{Message}
 use Rattle.nqs_codec.specs.Fields.{u8_field}
 use Rattle.nqs_records.specs.declared.fault.RecordFault.TheVariants as record_fault
@@ -15,6 +14,7 @@ use Rattle.nqs_records.specs.Fields.{u8_at, number_at}
 use Rattle.nqs_records.specs.Parts.{host_at}
 use Rattle.nqs_records.specs.Changes.{AreBytes}
 use Rattle.nqs_records.proofs.Numbers.{u8_read}
+use Rattle.nqs_records.proofs.FirstFaults.{step, u8_first}
 use Rattle.nqs_packets.specs.declared.fault.PacketFault.{PacketFault}
 use Rattle.nqs_packets.specs.declared.fault.PacketFault.TheVariants as fault
 use Rattle.nqs_packets.specs.Bodies.{bodies, no_body}
@@ -26,15 +26,8 @@ use Rattle.nqs_packets.proofs.MessageLaws.{behind, message_found, message_taken}
 use Rattle.nqs_packets.proofs.Fields.{IsField, then, host_fields}
 use Rattle.nqs_packets.proofs.Bodies.{body_fields}
 
-step : {E A B : Type 0} (r : Result A E) (f : A → Result B E) (a : A) → r ≡ Ok a → (r >>= f) ≡ f a
-step r f a e = ap (λ x. x >>= f) e
-
 stop : {E A B : Type 0} (r : Result A E) (f : A → Result B E) (x : E) → r ≡ Err x → (r >>= f) ≡ Err x
 stop r f x e = ap (λ y. y >>= f) e
-
-u8_first : (b : ℕ) (rest : List ℕ) → AreBytes (b ∷ rest) → u8_at (b ∷ rest) 0 ≡ Ok (b, 1)
-unfolding u8_field
-u8_first b rest fits = u8_read.taken (b ∷ rest) rest 0 b fits (fits 0) refl
 
 u8_second : (v k : ℕ) (rest : List ℕ) → AreBytes (v ∷ k ∷ rest) → u8_at (v ∷ k ∷ rest) 1 ≡ Ok (k, 2)
 unfolding u8_field
@@ -186,7 +179,7 @@ unfolding spelling rest_of u8_field
 trailing_of m rest fits may some =
     let tail = behind m ++ rest in
     let there = message_taken m (1 ∷ tail) rest 1 fits may refl in
-    let over = lt_is_true (1 + length (behind m)) (length (1 ∷ tail)) (omega (arith, length-append (behind m) rest, some)) in
+    let over = lt-ltb (1 + length (behind m)) (length (1 ∷ tail)) (omega (arith, length-append (behind m) rest, some)) in
     version_one tail fits
     ∙ ap or_packet_fault
     (step (message_at (1 ∷ tail) 1) (λ v. cond (nat_lt v.1 (length (1 ∷ tail))) (Err (record_fault.Trailing v.1)) (Ok v.0)) _ there

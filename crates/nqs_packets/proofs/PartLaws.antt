@@ -8,15 +8,16 @@ use Rattle.nqs_types.specs.declared.message.Tool.{Tool}
 use Rattle.nqs_types.specs.declared.message.Tool.TheVariants.{Qsub, Qstat, Qdel, Qmgr, Tick}
 use Rattle.nqs_rules.specs.Sane.{is_offer_refusal}
 use Rattle.nqs_codec.specs.Fields.{u8_field, u32_field, u64_field, bytes_field}
-use Rattle.nqs_codec.specs.Takes.{Stands, IsLong}
+use Rattle.nqs_codec.specs.Takes.{IsLong}
 use Rattle.nqs_codec.proofs.Places.{part_stands}
 use Rattle.nqs_records.specs.declared.fault.RecordFault.{RecordFault}
 use Rattle.nqs_records.specs.declared.fault.RecordFault.TheVariants.{BadField, Short}
-use Rattle.nqs_records.specs.Reading.{Reading, Read, mapped, within}
+use Rattle.nqs_records.specs.Reading.{Reading, Read, within}
 use Rattle.nqs_records.specs.Values.{is_at_most}
 use Rattle.nqs_records.proofs.IsRead.{IsRead, bound}
 use Rattle.nqs_records.proofs.Numbers.{u8_read, u16_read, u32_read, u64_read}
-use Rattle.nqs_records.proofs.Chains.{Found, bind, same_Ok, both_read, within_read, counted_read}
+use Rattle.nqs_records.proofs.Chains.{Found, bind, both_read, within_read, counted_read, mapped_where}
+use Rattle.nqs_records.proofs.ShapeLaws.{same_read}
 use Rattle.nqs_packets.specs.Parts.{is_number, number_at, cause_at, run_at, bytes_at, is_any, is_tool, tool_of, tool_at, is_word_count, words_at}
 use Rattle.nqs_packets.specs.Spelling.{tool_number, words_field}
 use Rattle.nqs_packets.specs.Values.{IsNumber, IsCause, IsShort, AreWords}
@@ -36,29 +37,6 @@ tested_read {A} {IsA} {f} {r} test one = record {
       subst (Found (λ (v : A). IsTrue (test v) × IsA v) f bytes place) p.1 ((p.0, here.0), here.1);
   taken = λ bytes rest place value fits is_value is.
       bind (r bytes place) _ _ _ (one.taken bytes rest place value fits is_value.1 is) (rw is_value.0 refl);
-}
-
--- what is made of a value and gives it back
-made_read : {A B : Type 0} {IsA : A → Type 0} {fa : A → List ℕ} {ra : Reading A} (IsB : B → Type 0) (fb : B → List ℕ) (make : A → B) (part : B → A)
-    → ((b : B) → make (part b) ≡ b) → ((a : A) → IsA a → IsB (make a)) → ((b : B) → IsB b → IsA (part b)) → ((a : A) → IsA a → fb (make a) ≡ fa a)
-    → IsRead IsA fa ra → IsRead IsB fb (mapped make ra)
-made_read {A} {B} {IsA} {fa} {ra} IsB fb make part again to from spelled one = record {
-  found = λ bytes place value next fits e.
-      let a = bound (ra bytes place) (λ a. Ok (make a.0, a.1)) (value, next) e in
-      let here = one.found bytes place a.0.0 a.0.1 fits a.1 in
-      subst (Found IsB fb bytes place) (same_Ok (make a.0.0, a.0.1) (value, next) a.2)
-      (to a.0.0 here.0, subst (λ (l : List ℕ). Stands bytes place l a.0.1) (sym (spelled a.0.0 here.0)) here.1);
-  taken = λ bytes rest place value fits is_value is.
-      let same : fb value ≡ fa (part value) = ap fb (sym (again value)) ∙ spelled (part value) (from value is_value) in
-      let here = one.taken bytes rest place (part value) fits (from value is_value) (is ∙ ap (λ (l : List ℕ). l ++ rest) same) in
-      bind (ra bytes place) _ _ _ here (λ j. Ok (again value j, place + length (sym same j)));
-}
-
-weaker_read : {A : Type 0} {IsA IsB : A → Type 0} {f : A → List ℕ} {r : Reading A} → ((a : A) → IsA a → IsB a) → ((a : A) → IsB a → IsA a) → IsRead IsA f r
-    → IsRead IsB f r
-weaker_read to from one = record {
-  found = λ bytes place value next fits e. let here = one.found bytes place value next fits e in (to value here.0, here.1);
-  taken = λ bytes rest place value fits is_value is. one.taken bytes rest place value fits (from value is_value) is;
 }
 
 -- ---- numbers
@@ -99,7 +77,7 @@ run_read count = record {
 bytes_law : (test : ℕ → Bool) → IsRead (λ (l : List ℕ). IsTrue (test (length l)) × IsLong l) bytes_field (bytes_at test)
 unfolding bytes_at bytes_field
 bytes_law test =
-    made_read (λ (l : List ℕ). IsTrue (test (length l)) × IsLong l) bytes_field (λ v. v.1) (λ l. (length l, l)) (λ l. refl)
+    mapped_where (λ (l : List ℕ). IsTrue (test (length l)) × IsLong l) bytes_field (λ v. v.1) (λ l. (length l, l)) (λ l. refl)
     (λ v is. subst (λ (n : ℕ). IsTrue (test n) × (n < 2 ^ 32)) (sym is.1) is.0)
     (λ l is. (is, refl))
     (λ v is. ap (λ (n : ℕ). u32_field n ++ v.1) is.1)
@@ -109,7 +87,7 @@ pub short_law : (limit : ℕ) → IsRead (IsShort limit) bytes_field (bytes_at (
 short_law limit = bytes_law (is_at_most limit)
 
 pub long_law : IsRead IsLong bytes_field (bytes_at is_any)
-long_law = weaker_read (λ l is. is.1) (λ l is. (refl, is)) (bytes_law is_any)
+long_law = same_read (λ l is. is.1) (λ l is. (refl, is)) (bytes_law is_any)
 
 -- ---- commands of clients
 
@@ -145,7 +123,7 @@ tool_small n is = let p = tool_range n is in omega (arith, p.1)
 pub tool_law : IsRead (λ _. ⊤) (λ t. u8_field (tool_number t)) tool_at
 unfolding tool_at
 tool_law =
-    made_read (λ _. ⊤) (λ t. u8_field (tool_number t)) tool_of tool_number again
+    mapped_where (λ _. ⊤) (λ t. u8_field (tool_number t)) tool_of tool_number again
     (λ n is. tt)
     (λ t _. number_fits t)
     (λ n is. let p = tool_range n is in ap u8_field (tool_back n p.0 p.1))

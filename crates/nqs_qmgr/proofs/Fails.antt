@@ -2,7 +2,8 @@
 use Rattle.std.proofs.Common.{◌≡◌, ◌↔◌, ◌⊎◌, inl, inr, ℕ, ◌+◌, ◌<◌, ◌≤◌, List, length, slice_range, Some, None, Option, Result, Ok, Err, Bool, true, false}
 use Rattle.std.proofs.Common.{cond, nat_lt, refl, ap, sym, ◌∙◌, arith}
 use Rattle.std.proofs.lemmas.Bool.Decides.{nat_tests}
-use Rattle.nqs_base.proofs.Plain.{lt_of_true, le_of_false, no_two}
+use Rattle.std.proofs.lemmas.Bool.{ltb-true, ltb-false}
+use Rattle.nqs_base.proofs.Plain.{no_two}
 use Rattle.nqs_types.specs.declared.ids.Named.{Named}
 use Rattle.nqs_types.specs.declared.fault.GrammarFault.{GrammarFault}
 use Rattle.nqs_types.specs.declared.fault.GrammarFault.TheVariants as fault
@@ -183,15 +184,15 @@ fails-bare {B} head g G fails f = by (nat_lt head.stem head.word.end) refl
   where
     by : (t : Bool) → nat_lt head.stem head.word.end ≡ t → ((cond t (Err (fault.Extra head.word.start)) (Ok head.word.end) >>= g) ≡ Err f) ↔
         (ValueTooMany head f ⊎ (HasNoValue head × G f))
-    by true is = ((λ e. inl (lt_of_true head.stem head.word.end is, cc)), from)
+    by true is = ((λ e. inl (ltb-true head.stem head.word.end is, cc)), from)
       where
         from : ValueTooMany head f ⊎ (HasNoValue head × G f) → ◌≡◌ {A = Read B} (Err (fault.Extra head.word.start)) (Err f)
         from (inl h) = ap (λ (y : GrammarFault). Err y) (sym h.1)
-        from (inr h) = no_two head.stem head.word.end (lt_of_true head.stem head.word.end is) h.0
-    by false is = ((λ e. inr (le_of_false head.stem head.word.end is, (fails f).0 e)), from)
+        from (inr h) = no_two head.stem head.word.end (ltb-true head.stem head.word.end is) h.0
+    by false is = ((λ e. inr (ltb-false head.stem head.word.end is, (fails f).0 e)), from)
       where
         from : ValueTooMany head f ⊎ (HasNoValue head × G f) → g head.word.end ≡ Err f
-        from (inl h) = no_two head.stem head.word.end h.0 (le_of_false head.stem head.word.end is)
+        from (inl h) = no_two head.stem head.word.end h.0 (ltb-false head.stem head.word.end is)
         from (inr h) = (fails f).1 h.1
 
 pub fails-valued : {A : Type 0} (read : List ℕ → Option A) (bad : ℕ → GrammarFault) (line : List ℕ) (head : Head)
@@ -206,7 +207,7 @@ fails-valued {A} read bad line head f = by (nat_lt head.stem head.word.end) refl
         ≡ Err f) ↔ NoValue read bad line head f
     by true is = (
       (λ e. inr (
-        lt_of_true head.stem head.word.end is,
+        ltb-true head.stem head.word.end is,
         (fails-or_fault (read (slice_range line (head.stem + 1) head.word.end))
             (bad (head.stem + 1)) f).0 e,
       )),
@@ -214,10 +215,10 @@ fails-valued {A} read bad line head f = by (nat_lt head.stem head.word.end) refl
     )
       where
         from : NoValue read bad line head f → g (head.stem + 1) ≡ Err f
-        from (inl h) = no_two head.stem head.word.end (lt_of_true head.stem head.word.end is) h.0
+        from (inl h) = no_two head.stem head.word.end (ltb-true head.stem head.word.end is) h.0
         from (inr h) = (fails-or_fault (read (slice_range line (head.stem + 1) head.word.end)) (bad (head.stem + 1)) f).1 h.1
-    by false is = ((λ e. inl (le_of_false head.stem head.word.end is, cc)), from)
+    by false is = ((λ e. inl (ltb-false head.stem head.word.end is, cc)), from)
       where
         from : NoValue read bad line head f → ◌≡◌ {A = Read A} (Err (fault.Missing head.word.end)) (Err f)
         from (inl h) = ap (λ (y : GrammarFault). Err y) (sym h.1)
-        from (inr h) = no_two head.stem head.word.end h.0 (le_of_false head.stem head.word.end is)
+        from (inr h) = no_two head.stem head.word.end h.0 (ltb-false head.stem head.word.end is)

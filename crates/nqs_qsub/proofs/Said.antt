@@ -3,7 +3,8 @@ use Rattle.std.proofs.Common.{◌≡◌, ◌⊎◌, inl, inr, ℕ, zero, suc, �
 use Rattle.std.proofs.Common.{nat_lt, refl, ap, sym, ◌∙◌, arith}
 use Rattle.std.proofs.lemmas.Bool.Decides.{nat_tests}
 use Rattle.std.proofs.lemmas.List.{drop_all}
-use Rattle.nqs_base.proofs.Plain.{lt_of_true, le_of_false, no_two}
+use Rattle.std.proofs.lemmas.Bool.{ltb-true, ltb-false}
+use Rattle.nqs_base.proofs.Plain.{no_two}
 use Rattle.nqs_types.specs.declared.fault.WordsFault.{WordsFault}
 use Rattle.nqs_types.specs.declared.fault.WordsCause.TheVariants as cause
 use Rattle.nqs_types.specs.declared.event.Submission.{Submission}
@@ -32,8 +33,8 @@ inside : (script : List ℕ) (place : ℕ) (k : LineKind) → line_kind (drop pl
 inside script place k is other = by (nat_lt place (length script)) refl
   where
     by : (t : Bool) → nat_lt place (length script) ≡ t → place < length script
-    by true e = lt_of_true place (length script) e
-    by false e = absurd (other (sym is ∙ at_end script place (le_of_false place (length script) e)))
+    by true e = ltb-true place (length script) e
+    by false e = absurd (other (sym is ∙ at_end script place (ltb-false place (length script) e)))
 
 further : (script : List ℕ) (place : ℕ) → place < length script → place < next_line script place
 unfolding next_line line_end
@@ -180,20 +181,20 @@ reads words script = by (nat_lt 32768 (length script)) refl
     by : (t : Bool) → nat_lt 32768 (length script) ≡ t → Reads (cond t (Err (fault_at 0 0 cause.ScriptTooLong)) (both_options words script)) (Says words script)
         (Faults words script)
     by true e = (
-      (λ o. ((λ h. cc), (λ h. no_two 32768 (length script) (lt_of_true 32768 (length script) e) h.0))),
-      (λ x. ((λ h. inl (lt_of_true 32768 (length script) e, cc)), from x)),
+      (λ o. ((λ h. cc), (λ h. no_two 32768 (length script) (ltb-true 32768 (length script) e) h.0))),
+      (λ x. ((λ h. inl (ltb-true 32768 (length script) e, cc)), from x)),
     )
       where
         from : (x : WordsFault) → Faults words script x → ◌≡◌ {A = Read Options} (Err (fault_at 0 0 cause.ScriptTooLong)) (Err x)
         from x (inl h) = ap (λ (y : WordsFault). Err y) (sym h.1)
-        from x (inr h) = no_two 32768 (length script) (lt_of_true 32768 (length script) e) h.0
+        from x (inr h) = no_two 32768 (length script) (ltb-true 32768 (length script) e) h.0
     by false e = (
-      (λ o. ((λ h. (le_of_false 32768 (length script) e, ((reads-both words script).0 o).0 h)), (λ h. ((reads-both words script).0 o).1 h.1))),
-      (λ x. ((λ h. inr (le_of_false 32768 (length script) e, ((reads-both words script).1 x).0 h)), from x)),
+      (λ o. ((λ h. (ltb-false 32768 (length script) e, ((reads-both words script).0 o).0 h)), (λ h. ((reads-both words script).0 o).1 h.1))),
+      (λ x. ((λ h. inr (ltb-false 32768 (length script) e, ((reads-both words script).1 x).0 h)), from x)),
     )
       where
         from : (x : WordsFault) → Faults words script x → both_options words script ≡ Err x
-        from x (inl h) = no_two 32768 (length script) h.0 (le_of_false 32768 (length script) e)
+        from x (inl h) = no_two 32768 (length script) h.0 (ltb-false 32768 (length script) e)
         from x (inr h) = ((reads-both words script).1 x).1 h.1
 
 -- ---- the laws

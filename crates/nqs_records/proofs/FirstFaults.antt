@@ -1,11 +1,10 @@
 -- Which bytes have which first fault.
 use Rattle.std.proofs.Common.{◌≡◌, ℕ, zero, suc, ◌+◌, ◌<◌, Bool, true, false, cond, nat_lt, List, [], ◌∷◌, ◌++◌, length, drop, refl, sym, ap, ◌∙◌, subst, arith}
 use Rattle.std.proofs.Common.{length-append, Ok, Err}
-use Rattle.std.proofs.lemmas.Bool.{ltb-true}
+use Rattle.std.proofs.lemmas.Bool.{ltb-true, lt-ltb}
 use Rattle.std.specs.Prelude.{⊤}
 use Rattle.std.specs.declared.result.Result.{Result}
 use Rattle.std.proofs.lemmas.List.{length-drop}
-use Rattle.std.proofs.lemmas.Bool.Decides.{nat_tests}
 use Rattle.nqs_codec.specs.Fields.{u8_field}
 use Rattle.nqs_base.specs.Want.{want}
 use Rattle.nqs_records.specs.declared.fault.RecordFault.{RecordFault}
@@ -25,12 +24,12 @@ use Rattle.nqs_records.proofs.Steady.{Stays}
 use Rattle.nqs_records.proofs.SteadyFields.{u8_steady}
 use Rattle.nqs_records.proofs.SteadyKinds.{kind_steady, kind_none}
 
-step : {E A B : Type 0} (r : Result A E) (f : A → Result B E) (a : A) → r ≡ Ok a → (r >>= f) ≡ f a
+pub step : {E A B : Type 0} (r : Result A E) (f : A → Result B E) (a : A) → r ≡ Ok a → (r >>= f) ≡ f a
 step r f a e = ap (λ x. x >>= f) e
 
 -- ---- the first byte
 
-u8_first : (b : ℕ) (rest : List ℕ) → AreBytes (b ∷ rest) → u8_at (b ∷ rest) 0 ≡ Ok (b, 1)
+pub u8_first : (b : ℕ) (rest : List ℕ) → AreBytes (b ∷ rest) → u8_at (b ∷ rest) 0 ≡ Ok (b, 1)
 unfolding u8_field
 u8_first b rest fits = u8_read.taken (b ∷ rest) rest 0 b fits (fits 0) refl
 
@@ -79,14 +78,11 @@ followed bytes c n fits e less =
       is_place = omega (arith, here.1.behind);
     }
 
-before : (n m : ℕ) → n < m → nat_lt n m ≡ true
-before n m less = grind (arith, nat_tests)
-
 longer : (n : ℕ) (bytes more : List ℕ) → n < length bytes → n < length (bytes ++ more)
 longer n bytes more less = omega (arith, length-append bytes more, less)
 
 trailing_by : (bytes : List ℕ) (c : HostChange) (n : ℕ) → change_at bytes 0 ≡ Ok (c, n) → n < length bytes → record_of bytes ≡ Err (Trailing n)
-trailing_by bytes c n e less = record_is bytes (Ok (c, n)) e ∙ ap (λ (t : Bool). cond t (Err (Trailing n)) (Ok c)) (before n (length bytes) less)
+trailing_by bytes c n e less = record_is bytes (Ok (c, n)) e ∙ ap (λ (t : Bool). cond t (Err (Trailing n)) (Ok c)) (lt-ltb n (length bytes) less)
 
 whole_tells : (bytes more : List ℕ) → AreBytes bytes → Stays bytes (change_at bytes 0) (change_at (bytes ++ more) 0)
     → Tells bytes (record_of bytes) (record_of (bytes ++ more))

@@ -23,13 +23,13 @@ seq_fits n is = grind (arith, nat_tests)
 length_fits : (n : ℕ) → IsTrue (is_at_most 32768 n) → n < 2 ^ 32
 length_fits n is = grind (arith, nat_tests)
 
-priority_fits : (n : ℕ) → IsTrue (is_at_most 63 n) → n < 2 ^ 8
+pub priority_fits : (n : ℕ) → IsTrue (is_at_most 63 n) → n < 2 ^ 8
 priority_fits n is = grind (arith, nat_tests)
 
-hops_fit : (n : ℕ) → IsTrue (is_at_most 32 n) → n < 2 ^ 8
+pub hops_fit : (n : ℕ) → IsTrue (is_at_most 32 n) → n < 2 ^ 8
 hops_fit n is = grind (arith, nat_tests)
 
-two_fit : (n : ℕ) → IsTrue (is_at_most 2 n) → n < 2 ^ 8
+pub two_fit : (n : ℕ) → IsTrue (is_at_most 2 n) → n < 2 ^ 8
 two_fit n is = grind (arith, nat_tests)
 
 starts_fit : (n : ℕ) → IsTrue (is_at_most 65534 n) → n < 2 ^ 16

@@ -19,7 +19,7 @@ nothing = record {
   taken = λ bytes rest place value fits is_value is. λ j. Ok (tt, plus_zero place j);
 }
 
-same_read : {A : Type 0} {IsA IsB : A → Type 0} {f : A → List ℕ} {r : Reading A} → ((a : A) → IsA a → IsB a) → ((a : A) → IsB a → IsA a)
+pub same_read : {A : Type 0} {IsA IsB : A → Type 0} {f : A → List ℕ} {r : Reading A} → ((a : A) → IsA a → IsB a) → ((a : A) → IsB a → IsA a)
     → IsRead IsA f r → IsRead IsB f r
 same_read {A} {IsA} {IsB} {f} {r} to from one = record {
   found = λ bytes place value next fits e. let here = one.found bytes place value next fits e in (to value here.0, here.1);

@@ -4,7 +4,7 @@ use Rattle.std.proofs.Common.{Err, Bool, true, false, cond, arith, nat_lt, take-
 use Rattle.std.specs.Prelude.{codes}
 use Rattle.std.specs.List.{position}
 use Rattle.std.proofs.lemmas.Bool.Decides.{nat_tests}
-use Rattle.nqs_base.proofs.Plain.{lt_is_true, lt_of_true}
+use Rattle.std.proofs.lemmas.Bool.{lt-ltb, ltb-true}
 use Rattle.nqs_base.specs.Same.{name_eq, name_exact}
 use Rattle.nqs_types.specs.declared.ids.HostId.{HostId}
 use Rattle.nqs_types.specs.declared.ids.RequestId.{RequestId}
@@ -46,7 +46,7 @@ untested {A} false a c why e = sym (refused {A = A} c why e)
 placed : (o : Option ℕ) (h : HostId) → as_host o ≡ Ok h → (o ≡ Some h.0) × (h.0 < 16)
 placed (Some i) h e =
     let t = tested (nat_lt i 16) (record { 0 = i }) h cause.NoSuchHost e in
-    let less : i < 16 = lt_of_true i 16 t.0 in
+    let less : i < 16 = ltb-true i 16 t.0 in
     let same : i ≡ h.0 = ap (λ (x : HostId). x.0) t.1 in
     (ap (λ (n : ℕ). Some n) same, subst (λ (n : ℕ). n < 16) same less)
 placed None h e = absurd (apart h cause.NoSuchHost (sym e))
@@ -58,7 +58,7 @@ unplaced None why e = sym (refused {A = HostId} cause.NoSuchHost why e)
 pub reads-place : (site : List (List ℕ)) (n : List ℕ) → Reads (host_of site n) (IsPlace site n) (NoPlace site n)
 unfolding host_of
 reads-place site n = reads-one (as_host (position (name_eq n) site)) (IsPlace site n) cause.NoSuchHost
-    (λ h. (placed (position (name_eq n) site) h, (λ p. let less = lt_is_true h.0 16 p.1 in rw p.0 (rw less refl))))
+    (λ h. (placed (position (name_eq n) site) h, (λ p. let less = lt-ltb h.0 16 p.1 in rw p.0 (rw less refl))))
     (unplaced (position (name_eq n) site))
 
 pub reads-host : (site : List (List ℕ)) (word : List ℕ) → Reads (or_cause (name_of word) cause.BadName >>= host_of site) (IsHost site word) (NoHost site word)

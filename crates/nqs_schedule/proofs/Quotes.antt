@@ -105,10 +105,10 @@ abbrev rest_in : Quoted → List ℕ
 rest_in None = []
 rest_in (Some p) = p.1
 
-line_rest : (n : ℕ) (bytes : List ℕ) → IsLine bytes → IsLine (drop n bytes)
-line_rest zero bytes is = is
-line_rest (suc n) [] is = is
-line_rest (suc n) (b ∷ bs) is = line_rest n bs (λ i d less. is (suc i) d (omega arith))
+pub line-drop : (n : ℕ) (bytes : List ℕ) → IsLine bytes → IsLine (drop n bytes)
+line-drop zero bytes is = is
+line-drop (suc n) [] is = is
+line-drop (suc n) (b ∷ bs) is = line-drop n bs (λ i d less. is (suc i) d (omega arith))
 
 parsed : (n : ℕ) (bytes word rest : List ℕ) → IsLine bytes → quoted n bytes ≡ Some (word, rest) → bytes ≡ quoted_text word ++ rest
 unfolding quoted SaysStep
@@ -130,7 +130,7 @@ parsed (suc n) bytes word rest is e = by (parsed n) (step_of bytes) (step_says b
         let w : [] ≡ word = ap word_in h in
         let r : drop 1 bytes ≡ rest = ap rest_in h in
         says ∙ (λ j. quoted_text (w j) ++ r j)
-    by others (Byte b taken) says h = joined b taken (quoted n (drop taken bytes)) (λ w r g. others (drop taken bytes) w r (line_rest taken bytes is) g) says h
+    by others (Byte b taken) says h = joined b taken (quoted n (drop taken bytes)) (λ w r g. others (drop taken bytes) w r (line-drop taken bytes is) g) says h
 
 pub was_quoted : ReadWasQuoted
 was_quoted bytes word rest is e = parsed (length bytes) bytes word rest is e

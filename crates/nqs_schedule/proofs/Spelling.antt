@@ -2,8 +2,7 @@
 use Rattle.std.proofs.Common.{◌≡◌, ◌⊎◌, inl, inr, ℕ, zero, suc, ◌<◌, ◌≤◌, List, [], ◌∷◌, length, map, drop, refl, ap, sym, subst, ◌∙◌, Some, None, Option, Ok}
 use Rattle.std.proofs.Common.{Err, Bool, true, false, cond, ◌||◌, is_some, arith, nat_lt}
 use Rattle.std.specs.Prelude.{slice_get}
-use Rattle.std.proofs.lemmas.Bool.Decides.{nat_tests}
-use Rattle.nqs_base.proofs.Plain.{le_of_false}
+use Rattle.std.proofs.lemmas.Bool.{ltb-true, ltb-false}
 use Rattle.nqs_types.specs.declared.world.WorldEvent.{WorldEvent}
 use Rattle.nqs_words.specs.Values.{name_of, named_of, number_of}
 use Rattle.nqs_schedule.specs.declared.cause.Cause.{Cause}
@@ -103,9 +102,6 @@ reads-nothing ws i = by (at ws.words i)
 
 -- ---- outputs
 
-less_test : (n m : ℕ) → nat_lt n m ≡ true → n < m
-less_test n m h = grind (arith, nat_tests)
-
 reads-short : (word : LineWord) (bad : Bool) → Reads (short_enough (Some word) bad) (λ u. IsShort word.text) (IsTooLong word.text)
 reads-short word bad = by (nat_lt 16384 (length word.text)) refl
   where
@@ -115,12 +111,12 @@ reads-short word bad = by (nat_lt 16384 (length word.text)) refl
     by : (t : Bool) → nat_lt 16384 (length word.text) ≡ t → Reads {A = Unit {0}} (cond t (Err cause.OutputTooLong) (Ok tt)) (λ u. IsShort word.text)
         (IsTooLong word.text)
     by true is =
-        let long = less_test 16384 (length word.text) is in
+        let long = ltb-true 16384 (length word.text) is in
         reads-same {A = Unit {0}} (Err cause.OutputTooLong) (λ u. ⊥) (λ u. IsShort word.text) (λ why. why ≡ cause.OutputTooLong) (IsTooLong word.text)
         (reads-Err {A = Unit {0}} cause.OutputTooLong)
         (λ u. ((λ x. absurd x), (λ short. absurd (long_short long short)))) (λ why. ((λ e. (long, e)), (λ h. h.1)))
     by false is =
-        let short = le_of_false 16384 (length word.text) is in
+        let short = ltb-false 16384 (length word.text) is in
         reads-same {A = Unit {0}} (Ok tt) (λ u. u ≡ tt) (λ u. IsShort word.text) (λ why. ⊥) (IsTooLong word.text) (reads-Ok {A = Unit {0}} tt)
         (λ u. ((λ e. short), (λ h. refl))) (λ why. ((λ x. absurd x), (λ h. absurd (long_short h.0 short))))
 

@@ -2,11 +2,11 @@
 use Rattle.std.proofs.Common.{◌≡◌, ◌≢◌, ◌⊎◌, inl, inr, ℕ, zero, suc, ◌+◌, ◌-◌, ◌<◌, ◌≤◌, List, [], ◌∷◌, ◌++◌, length, take, drop, map, All, refl, ap, sym}
 use Rattle.std.proofs.Common.{subst, ◌∙◌, Some, None, Bool, true, false, cond, not, ◌==◌, arith, nat_lt, slice_range}
 use Rattle.std.specs.List.{position_or_len}
-use Rattle.std.proofs.lemmas.Bool.{eqb-true}
+use Rattle.std.proofs.lemmas.Bool.{eqb-true, lt-ltb}
 use Rattle.std.proofs.lemmas.Bool.Decides.{nat_tests}
 use Rattle.std.proofs.lemmas.List.{append-nil, length-append, length-drop, take_at, drop_at}
 use Rattle.std.proofs.Math.Seq.{drop-drop}
-use Rattle.nqs_base.proofs.Plain.{lt_is_true, lt_itself}
+use Rattle.nqs_base.proofs.Plain.{lt_itself}
 use Rattle.nqs_words.specs.Quoted.{Quoted, quoted, quoted_text}
 use Rattle.nqs_words.specs.Words.{is_gap, end_of, next_word}
 use Rattle.nqs_words.specs.declared.words.Gaps.TheVariants.{Spaces}
@@ -15,7 +15,7 @@ use Rattle.nqs_schedule.specs.Events.{text_of_word}
 use Rattle.nqs_schedule.specs.Lines.{is_over, begins_with_quote, by_quoted, quoted_word, word_there, next_of, words_from}
 use Rattle.nqs_schedule.specs.Schedule.{IsLine}
 use Rattle.nqs_schedule.specs.Written.{AreSpaces, BeginsPlain, IsPlain, Writes, EndsWord, BeginsWith, BeginsBadly, Holds, SplitsLines}
-use Rattle.nqs_schedule.proofs.Quotes.{reads_back, was_quoted}
+use Rattle.nqs_schedule.proofs.Quotes.{reads_back, was_quoted, line-drop}
 
 -- ---- spaces in front
 
@@ -36,11 +36,6 @@ front_spaces l = position_or_len (λ b. not (is_gap Spaces b)) l
 -- how many bytes stand in front that are a word's
 abbrev front_word : List ℕ → ℕ
 front_word l = position_or_len (is_gap Spaces) l
-
-line-drop : (n : ℕ) (line : List ℕ) → IsLine line → IsLine (drop n line)
-line-drop zero line is = is
-line-drop (suc n) [] is = is
-line-drop (suc n) (b ∷ bs) is = line-drop n bs (λ i d lt. is (suc i) d (omega (arith, lt)))
 
 -- what begins with another byte than a space
 abbrev BeginsWord : List ℕ → Type 0
@@ -89,7 +84,7 @@ unfolding next_of next_word
 next-start line place gap l is h w =
     let first : front_spaces (drop place line) ≡ length gap = ap front_spaces is ∙ spaces_first gap l h w in
     let long : length gap < length (drop place line) = omega (arith, ap length is, length-append gap l, ap length w.2) in
-    rw (first, lt_is_true (length gap) (length (drop place line)) long) refl
+    rw (first, lt-ltb (length gap) (length (drop place line)) long) refl
 
 dropped : (line : List ℕ) (place : ℕ) (gap l : List ℕ) → drop place line ≡ gap ++ l → drop (place + length gap) line ≡ l
 dropped line place gap l is = sym (drop-drop (length gap) place line) ∙ (ap (drop (length gap)) is ∙ drop_at gap l (length gap) refl)
@@ -112,7 +107,7 @@ plain-end line start text rest is h (inl none) =
     rw (all, all_word text h, lt_itself (length text)) (ap (λ (n : ℕ). start + n) size)
 plain-end line start text rest is h (inr more) =
     let all : drop start line ≡ text ++ 32 ∷ more.0 = is ∙ ap (λ (l : List ℕ). text ++ l) more.1 in
-    rw (all, word_first text more.0 h, lt_is_true (length text) (length (text ++ 32 ∷ more.0)) (omega (arith, length-append text (32 ∷ more.0)))) refl
+    rw (all, word_first text more.0 h, lt-ltb (length text) (length (text ++ 32 ∷ more.0)) (omega (arith, length-append text (32 ∷ more.0)))) refl
 
 no_quote : (text rest : List ℕ) → BeginsPlain text → begins_with_quote (text ++ rest) ≡ false
 no_quote [] rest h = absurd h

@@ -1,5 +1,5 @@
 -- Moments of a run after those of another.
-use Rattle.std.proofs.Common.{◌≡◌, inl, inr, ℕ, zero, suc, ◌+◌, ◌-◌, is_some, Bool, true, false, if◌then◌else◌, Option, None, Some, List}
+use Rattle.std.proofs.Common.{◌≡◌, inl, inr, ℕ, zero, suc, ◌+◌, ◌-◌, is_some, Bool, true, false, Option, None, Some, List}
 use Rattle.std.proofs.Common.{[], ◌∷◌, ◌++◌, take, length, map, refl, sym, ap, ◌∙◌, subst, arith, append_assoc, length-append}
 use Rattle.std.proofs.lemmas.Bool.Decides.{leb_tells}
 use Rattle.std.proofs.lemmas.List.{append-nil, take-append-le}
@@ -15,14 +15,15 @@ use Rattle.nqs_rules.specs.Starts.{after_change, after_starts, after_step, start
 use Rattle.nqs_rules.specs.Stepped.{Stepped, stored_parts}
 use Rattle.nqs_rules.proofs.StartIs.{IsSteady}
 use Rattle.nqs_outside.specs.Asked.{Arrival}
-use Rattle.nqs_outside.specs.History.{Call, History, extended, state, after as after_calls, IsImage}
+use Rattle.nqs_outside.specs.History.{History, extended, state, after as after_calls, IsImage}
 use Rattle.nqs_outside.specs.declared.disk.Disk as disk
 use Rattle.nqs_outside.proofs.Histories.{after-append, state-extended, goes_on}
 use Rattle.nqs_store.specs.Active.{Active, ready, recorded}
 use Rattle.nqs_store.specs.Commits.{EachImage, Keeping}
-use Rattle.nqs_store.specs.Hosts.{HostCall, same_disk, part, Runs, EachPrefix}
+use Rattle.nqs_store.specs.Hosts.{HostCall, part, Runs, EachPrefix}
 use Rattle.nqs_store.specs.Images.{IsTold, TellsOneOf}
 use Rattle.nqs_store.proofs.Runs.{none_more}
+use Rattle.nqs_store.proofs.HostRuns.{part_append}
 use Rattle.nqs_node.specs.Carried.{Kept, after_kept, IsOneOrOther, started}
 use Rattle.nqs_node.specs.Nodes.{active_of, content_of, history_of}
 use Rattle.nqs_node.specs.declared.node.Node.{Node}
@@ -39,26 +40,17 @@ use Rattle.nqs_serve.proofs.Starting.{one_start, none_started, after_more}
 
 -- calls of the disks, one list after the other
 
-part-append : (which : Which) (xs ys : List HostCall) → part which (xs ++ ys) ≡ part which xs ++ part which ys
-part-append which [] ys = refl
-part-append which (call ∷ xs) ys = by (same_disk which call.0) (part-append which xs ys)
-  where
-    by : (b : Bool) → part which (xs ++ ys) ≡ part which xs ++ part which ys
-        → (if b then call.1 ∷ part which (xs ++ ys) else part which (xs ++ ys)) ≡ (if b then call.1 ∷ part which xs else part which xs) ++ part which ys
-    by true e = ap (λ (l : List Call). call.1 ∷ l) e
-    by false e = e
-
 module _ (old mid now : Which → History) (xs ys : List HostCall) (one : Runs old mid xs) (two : Runs mid now ys) where
   runs_then : Runs old now (xs ++ ys)
   runs_then which = goes_on (old which) (mid which) (now which) (part which xs) (part which ys) (one which) (two which)
-      ∙ ap (extended (old which)) (sym (part-append which xs ys))
+      ∙ ap (extended (old which)) (sym (part_append which xs ys))
 
   -- what the disks may leave after some of the later calls
   later_state : (which : Which) (n : ℕ) → after_calls (state (old which)) (part which (take (length xs + n) (xs ++ ys))) ≡ after_calls (state (mid which))
       (part which (take n ys))
   later_state which n =
       ap (λ (l : List HostCall). after_calls (state (old which)) (part which l)) (take-append-add xs ys n)
-      ∙ ap (after_calls (state (old which))) (part-append which xs (take n ys))
+      ∙ ap (after_calls (state (old which))) (part_append which xs (take n ys))
       ∙ after-append (state (old which)) (part which xs) (part which (take n ys))
       ∙ ap (λ s. after_calls s (part which (take n ys))) (sym (ap state (one which) ∙ state-extended (old which) (part which xs)))
 

@@ -1,7 +1,7 @@
 -- Which bytes have which first fault.
 use Rattle.std.proofs.Common.{◌≡◌, ◌⊎◌, inl, inr, ℕ, ◌+◌, ◌<◌, Bool, true, false, cond, nat_lt, List, [], ◌++◌, length, refl, sym, ap, ◌∙◌, subst, arith}
 use Rattle.std.proofs.Common.{length-append, drop, Ok, Err}
-use Rattle.std.proofs.lemmas.Bool.{ltb-true}
+use Rattle.std.proofs.lemmas.Bool.{ltb-true, lt-ltb}
 use Rattle.std.proofs.lemmas.List.{length-drop}
 use Rattle.std.specs.Prelude.{⊤}
 use Rattle.nqs_base.specs.Want.{want}
@@ -14,7 +14,6 @@ use Rattle.nqs_records.specs.Changes.{AreBytes}
 use Rattle.nqs_records.proofs.Steady.{Stays}
 use Rattle.nqs_records.proofs.FirstFaults.{both_bytes}
 use Rattle.std.proofs.lemmas.Bool.Decides.{nat_tests}
-use Rattle.nqs_base.proofs.Plain.{lt_is_true}
 use Rattle.nqs_snapshot.specs.declared.parts.Parts.{Parts}
 use Rattle.nqs_snapshot.specs.Spelling.{state_field}
 use Rattle.nqs_snapshot.specs.Sound.{is_sound}
@@ -56,7 +55,7 @@ longer : (n : ℕ) (bytes more : List ℕ) → n < length bytes → n < length (
 longer n bytes more less = omega (arith, length-append bytes more, less)
 
 trailing_by : (bytes : List ℕ) (p : Parts) (n : ℕ) → parts_at bytes 0 ≡ Ok (p, n) → n < length bytes → whole_of bytes ≡ Err (Trailing n)
-trailing_by bytes p n e less = whole_is bytes (Ok (p, n)) e ∙ ap (λ (t : Bool). cond t (Err (Trailing n)) (Ok p)) (lt_is_true n (length bytes) less)
+trailing_by bytes p n e less = whole_is bytes (Ok (p, n)) e ∙ ap (λ (t : Bool). cond t (Err (Trailing n)) (Ok p)) (lt-ltb n (length bytes) less)
 
 tells : (bytes more : List ℕ) → AreBytes bytes → Tells bytes (whole_of bytes) (whole_of (bytes ++ more))
 tells bytes more fits = by (parts_at bytes 0) refl (parts_steady bytes more 0)

@@ -24,7 +24,7 @@ use Rattle.nqs_records.proofs.IsRead.{IsRead}
 use Rattle.nqs_records.proofs.Numbers.{u8_read, u16_read, u64_read}
 use Rattle.nqs_records.proofs.Named.{bool_read, name_read, path_read}
 use Rattle.nqs_records.proofs.Chains.{both_read, mapped_read, mapped_where, within_read, last_read, opt_read, counted_read}
-use Rattle.nqs_records.proofs.PartLaws.{host_law, id_law, extent_law, job_law}
+use Rattle.nqs_records.proofs.PartLaws.{host_law, id_law, extent_law, job_law, priority_fits, hops_fit, two_fit}
 use Rattle.nqs_snapshot.specs.declared.read_queues.Settings.{Settings}
 use Rattle.nqs_snapshot.specs.declared.read_requests.Course.{Course}
 use Rattle.nqs_snapshot.specs.Spelling.{many_field, kind_number, hold_number, state_number, phase_number, access_field, limits_field, dest_field}
@@ -43,17 +43,8 @@ many_law one = counted_read u64_read one
 
 -- ---- what may be one of several
 
-two_fit : (n : ℕ) → IsTrue (is_at_most 2 n) → n < 2 ^ 8
-two_fit n is = grind (arith, nat_tests)
-
 one_fits : (n : ℕ) → IsTrue (is_at_most 1 n) → n < 2 ^ 8
 one_fits n is = grind (arith, nat_tests)
-
-priority_fits : (n : ℕ) → IsTrue (is_at_most 63 n) → n < 2 ^ 8
-priority_fits n is = grind (arith, nat_tests)
-
-hops_fit : (n : ℕ) → IsTrue (is_at_most 32 n) → n < 2 ^ 8
-hops_fit n is = grind (arith, nat_tests)
 
 more_than_two : (n : ℕ) → IsTrue (is_at_most 2 (suc (suc (suc n)))) → ⊥
 more_than_two n is = grind (arith, nat_tests)

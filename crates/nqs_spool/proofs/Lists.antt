@@ -22,6 +22,16 @@ pub has_all : (P : Extent → Type 0) (live : List Extent) → ((x : Extent) →
 has_all P [] each = tt
 has_all P (y ∷ live) each = (each y (inl refl), has_all P live (λ x has. each x (inr has)))
 
+-- what a list has, a longer one has
+pub has_left : (front back : List Extent) (x : Extent) → Has front x → Has (front ++ back) x
+has_left [] back x has = absurd has
+has_left (y ∷ front) back x (inl is) = inl is
+has_left (y ∷ front) back x (inr has) = inr (has_left front back x has)
+
+pub has_right : (front back : List Extent) (x : Extent) → Has back x → Has (front ++ back) x
+has_right [] back x has = has
+has_right (y ∷ front) back x has = inr (has_right front back x has)
+
 pub has_put : (front back : List Extent) (x y : Extent) → (y ≡ x) ⊎ Has (front ++ back) y → Has (front ++ x ∷ back) y
 has_put [] back x y has = has
 has_put (z ∷ front) back x y (inl is) = inr (has_put front back x y (inl is))

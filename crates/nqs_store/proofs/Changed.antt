@@ -53,7 +53,7 @@ spool_rest old now root first second First other = first
 spool_rest old now root first second Second other = second
 spool_rest old now root first second Spool other = absurd (other refl)
 
-part_apart : (v w : Which) (calls : List Call) → v ≢ w → part v (on w calls) ≡ []
+pub part_apart : (v w : Which) (calls : List Call) → v ≢ w → part v (on w calls) ≡ []
 part_apart v w calls other = elim (same_or v w) [ inl is ↦ absurd (other is) | inr apart ↦ part_other v w calls apart.1 ]
 
 -- the journal's part of a change's calls

@@ -1,6 +1,6 @@
 -- A commit from its two parts: a checkpoint, where one is due, and the calls of the change.
 use Rattle.std.proofs.Common.{◌≡◌, ◌≢◌, inl, inr, ℕ, ◌+◌, ◌≤◌, Bool, true, false, not, IsTrue, if◌then◌else◌, List, [], ◌∷◌, ◌++◌, length, map, Ok, refl, sym}
-use Rattle.std.proofs.Common.{ap}
+use Rattle.std.proofs.Common.{ap, true≢false}
 use Rattle.std.proofs.Common.{subst, ◌∙◌, arith, length-append}
 use Rattle.std.proofs.lemmas.List.{length-map, append-nil}
 use Rattle.nqs_state.specs.State.{Plain}
@@ -25,15 +25,13 @@ use Rattle.nqs_store.specs.Commits.{IsCutAt, IsCutOn}
 use Rattle.nqs_store.specs.Changing.{Turning, Changing, IsTurned, IsTurnCut, IsChangeCut}
 use Rattle.nqs_store.specs.Stores.{Tells, plain_of, history_of, active_of}
 use Rattle.nqs_store.specs.declared.store.Store.{Store}
-use Rattle.nqs_store.proofs.HostRuns.{part_own, part_other, part_append, same_or, runs_both, runs_none, length_on, moments_both, moments_weaker, moments_none}
+use Rattle.nqs_store.proofs.HostRuns.{part_own, part_append, runs_both, runs_none, length_on, moments_both, moments_weaker, moments_none}
 use Rattle.nqs_store.proofs.HostRuns.{no_pending}
 use Rattle.nqs_store.proofs.HostRuns.{behind_stops, before_stops, none_stops, stops_size}
 use Rattle.nqs_store.proofs.EachDisk.{root_is_no_journal, root_apart, spool_apart}
 use Rattle.nqs_store.proofs.Committed.{quiet}
 use Rattle.nqs_store.proofs.TellsNow.{told_now}
-
-true_false : true ≡ false → ⊥
-true_false is = absurd (let no : ⊥ = cc in no)
+use Rattle.nqs_store.proofs.Changed.{part_apart}
 
 -- where no checkpoint is due
 module _ (a : Active) (not_due : is_due a.records ≡ false) where
@@ -60,7 +58,7 @@ module _ (a : Active) (not_due : is_due a.records ≡ false) where
       ∙ ap (λ (l : List Call). let e : History = record { start = old.start; calls = l } in e) (append-nil old.calls))
 
   pub here_past : (fails : Which → ℕ → Bool) (old : Which → History) → IsPast a fails old
-  here_past fails old = record { other = λ due. absurd (true_false (sym due ∙ not_due)); root = λ due. absurd (true_false (sym due ∙ not_due)) }
+  here_past fails old = record { other = λ due. absurd (true≢false (sym due ∙ not_due)); root = λ due. absurd (true≢false (sym due ∙ not_due)) }
 
   pub here_moment : (old : Which → History) → record_moment a old ≡ moment (old (journal_of a))
   here_moment old = (λ j. moment (old (journal_of (here j))) + here_before j)
@@ -84,9 +82,6 @@ module _ (a : Active) (due : is_due a.records ≡ true) where
 
   pub there_moment : (old : Which → History) → record_moment a old ≡ moment (old (other_of a)) + 2
   there_moment old = ap (λ (b : Bool). moment (old (journal_of (if b then turned_to a else a))) + (if b then 2 else 0)) due
-
-apart : (v w : Which) (calls : List Call) → v ≢ w → part v (on w calls) ≡ []
-apart v w calls other = elim (same_or v w) [ inl is ↦ absurd (other is) | inr far ↦ part_other v w calls far.1 ]
 
 -- a change's calls are four or more
 many_calls : (a : Active) (places : List ℕ) (puts : List (List ℕ)) (gate : ℕ) (payload : List ℕ) → 4 ≤ length (change_calls a places puts gate payload)
@@ -378,7 +373,7 @@ module _ {D : Type 0} {g : disk.Ghosts D} where
       ap moment (checkpoint_run Spool),
       length-append ((history_of old Spool).calls) (part Spool (checkpoint_calls b snapshot)),
       ap length (part_append Spool (on (other_of b) (front_calls (snapshot_front snapshot))) (on Root (begin_calls (byte_of (not b.second) ∷ [])))),
-      ap length (apart Spool (other_of b) (front_calls (snapshot_front snapshot)) (spool_apart (not b.second))),
+      ap length (part_apart Spool (other_of b) (front_calls (snapshot_front snapshot)) (spool_apart (not b.second))),
     )
 
     -- the journal that the record goes to made two
@@ -392,7 +387,7 @@ module _ {D : Type 0} {g : disk.Ghosts D} where
           (part (other_of b) (on (other_of b) (front_calls (snapshot_front snapshot))))
           (part (other_of b) (on Root (begin_calls (byte_of (not b.second) ∷ [])))),
       ap length (part_own (other_of b) (front_calls (snapshot_front snapshot))),
-      ap length (apart (other_of b) Root (begin_calls (byte_of (not b.second) ∷ [])) (root_is_no_journal (not b.second))),
+      ap length (part_apart (other_of b) Root (begin_calls (byte_of (not b.second) ∷ [])) (root_is_no_journal (not b.second))),
       there_moment b due (history_of old),
     )
 
@@ -400,7 +395,7 @@ module _ {D : Type 0} {g : disk.Ghosts D} where
     mid_root : history_of mid Root ≡ extended (history_of old Root) (root_calls b)
     mid_root = checkpoint_run Root ∙ ap (extended (history_of old Root))
         (part_append Root (on (other_of b) (front_calls (snapshot_front snapshot))) (on Root (begin_calls (byte_of (not b.second) ∷ [])))
-        ∙ (λ j. apart Root (other_of b) (front_calls (snapshot_front snapshot)) (root_apart (not b.second)) j
+        ∙ (λ j. part_apart Root (other_of b) (front_calls (snapshot_front snapshot)) (root_apart (not b.second)) j
         ++ part_own Root (begin_calls (byte_of (not b.second) ∷ [])) j)
         ∙ sym (ap (λ (d : Bool). if d then begin_calls (byte_of (not b.second) ∷ []) else []) due))
 

@@ -1,5 +1,5 @@
 -- A change whose extents were filled in.
-use Rattle.std.proofs.Common.{◌≡◌, ℕ, suc, List, [], ◌∷◌, map, drop, length, IsTrue, refl, sym, ap, subst, ◌∙◌, arith}
+use Rattle.std.proofs.Common.{◌≡◌, ℕ, List, [], ◌∷◌, map, drop, length, IsTrue, refl, sym, ap, subst, ◌∙◌, arith}
 use Rattle.std.specs.List.{AllByRecursion}
 use Rattle.std.proofs.lemmas.List.{length-map}
 use Rattle.nqs_state.specs.State.{State}
@@ -15,6 +15,7 @@ use Rattle.nqs_rules.specs.Stepped.{map_change, map_part, part_bytes, stored_par
 use Rattle.nqs_records.specs.Values.{IsExtent, IsPart, is_at_most}
 use Rattle.nqs_records.specs.Changes.{MayStand}
 use Rattle.nqs_records.specs.Extents.{first_or, parts_with, with_extents}
+use Rattle.nqs_records.proofs.PutBack.{length-parts_with}
 
 -- a list with as many as another
 abbrev AsMany : {A B : Type 0} → List A → List B → Type 0
@@ -24,10 +25,6 @@ abbrev none : {E : Type 0} → E → Extent
 none x = no_extent
 
 -- parts
-
-length-parts : (parts : List (OutPart Extent)) (xs : List Extent) → length (parts_with parts xs) ≡ length parts
-length-parts [] xs = refl
-length-parts (part ∷ parts) xs = ap suc (length-parts parts (drop 1 xs))
 
 parts_back : (parts : List (OutPart Extent)) (xs : List Extent) → parts_with (parts_with parts xs) (map part_bytes parts) ≡ parts
 parts_back [] xs = refl
@@ -173,7 +170,7 @@ stands_kept (Ended id parts) xs right fine = (
   right.0,
   (
     subst (λ n. IsTrue (is_at_most 2 n))
-        (sym (length-parts parts xs)) right.1.0,
+        (sym (length-parts_with parts xs)) right.1.0,
     parts_stand parts xs right.1.1 fine,
   ),
 )

@@ -1,5 +1,6 @@
 pub mod Lists
 pub mod Formatted
+pub mod LeftAlone
 pub mod HostRuns
 pub mod EachDisk
 pub mod Telling

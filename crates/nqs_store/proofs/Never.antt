@@ -1,7 +1,6 @@
 -- Bytes that tell a host are at fault nowhere.
 use Rattle.std.proofs.Common.{◌≡◌, inl, inr, ℕ, Bool, true, false, List, [], ◌∷◌, ◌++◌, length, Option, Some, None, Ok, Err, refl, sym, ap, subst, ◌∙◌, arith}
 use Rattle.std.proofs.lemmas.Option.{same_Some, none-some}
-use Rattle.std.specs.List.{AllByRecursion}
 use Rattle.nqs_types.specs.declared.world.Which.{Which}
 use Rattle.nqs_types.specs.declared.world.Which.TheVariants.{Root, Spool}
 use Rattle.nqs_base.specs.declared.extent.Extent.{Extent}
@@ -14,7 +13,7 @@ use Rattle.nqs_records.specs.Reading.{Read}
 use Rattle.nqs_snapshot.specs.Reading.{snapshot_of}
 use Rattle.nqs_rules.specs.Journals.{active}
 use Rattle.nqs_spool.specs.Extents.{IsApart, IsWithin, AreSound, IsBadExtent}
-use Rattle.nqs_spool.proofs.Lists.{all_cut, apart_cut}
+use Rattle.nqs_spool.proofs.Lists.{all_cut, apart_cut, all_front}
 use Rattle.nqs_store.specs.Told.{Host, record_taken, told, told_from, told_by, told_behind, IsUntold, IsUntoldBehind, IsUntoldBy}
 use Rattle.nqs_store.specs.Live.{live}
 use Rattle.nqs_store.specs.Images.{IsToldHost}
@@ -52,10 +51,6 @@ untold_by_not : (has : Bool) (snapshot : List ℕ) (payloads : List (List ℕ)) 
     → IsUntoldBy has snapshot payloads place → ⊥
 untold_by_not false snapshot payloads place host tells bad = untold_not payloads place host tells bad
 untold_by_not true snapshot payloads place host tells bad = behind_not (snapshot_of snapshot) snapshot payloads place host tells bad
-
-all_front : (P : Extent → Type 0) (front back : List Extent) → AllByRecursion P (front ++ back) → AllByRecursion P front
-all_front P [] back all = tt
-all_front P (x ∷ front) back all = (all.0, all_front P front back all.1)
 
 bad_not : (size : ℕ) (extents : List Extent) (place : ℕ) → AreSound size extents → IsBadExtent size extents place → ⊥
 bad_not size extents place sound bad =

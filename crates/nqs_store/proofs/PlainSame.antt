@@ -3,17 +3,9 @@ use Rattle.std.proofs.Common.{◌≡◌, inl, inr, ℕ, List, [], ◌∷◌, ◌
 use Rattle.nqs_base.specs.declared.extent.Extent.{Extent}
 use Rattle.nqs_rules.specs.Plain.{map_row, map_promise, map_stage, map_file, map_state}
 use Rattle.nqs_spool.specs.Extents.{Has}
+use Rattle.nqs_spool.proofs.Lists.{has_left, has_right}
 use Rattle.nqs_store.specs.Told.{Host}
 use Rattle.nqs_store.specs.Live.{live, row_part, promise_part, stage_part, file_part}
-
-has_front : (xs ys : List Extent) (x : Extent) → Has xs x → Has (xs ++ ys) x
-has_front [] ys x has = absurd has
-has_front (y ∷ xs) ys x (inl is) = inl is
-has_front (y ∷ xs) ys x (inr has) = inr (has_front xs ys x has)
-
-has_back : (xs ys : List Extent) (x : Extent) → Has ys x → Has (xs ++ ys) x
-has_back [] ys x has = has
-has_back (y ∷ xs) ys x has = inr (has_back xs ys x has)
 
 module _ (f h : Extent → List ℕ) where
   map_same : {V W : Type 0} (part : V → Extent) (m n : V → W) → ((v : V) → f (part v) ≡ h (part v) → m v ≡ n v) → (vs : List V)
@@ -28,12 +20,12 @@ module _ (f h : Extent → List ℕ) where
       let st = map stage_part s.stages in
       let fs = map file_part s.files in
       let rows = map_same row_part (map_row f) (map_row h) (λ v is. ap (λ b. record (map_row f v) { script = b }) is) s.rows
-      (λ x has. same x (has_front rs (ps ++ (st ++ fs)) x has)) in
+      (λ x has. same x (has_left rs (ps ++ (st ++ fs)) x has)) in
       let promises = map_same promise_part (map_promise f) (map_promise h)
       (λ v is. ap (λ b. record (map_promise f v) { row = record (map_row f v.row) { script = b } }) is) s.promises
-      (λ x has. same x (has_back rs (ps ++ (st ++ fs)) x (has_front ps (st ++ fs) x has))) in
+      (λ x has. same x (has_right rs (ps ++ (st ++ fs)) x (has_left ps (st ++ fs) x has))) in
       let stages = map_same stage_part (map_stage f) (map_stage h) (λ v is. ap (λ b. record (map_stage f v) { bytes = b }) is) s.stages
-      (λ x has. same x (has_back rs (ps ++ (st ++ fs)) x (has_back ps (st ++ fs) x (has_front st fs x has)))) in
+      (λ x has. same x (has_right rs (ps ++ (st ++ fs)) x (has_right ps (st ++ fs) x (has_left st fs x has)))) in
       let files = map_same file_part (map_file f) (map_file h) (λ v is. ap (λ b. record (map_file f v) { bytes = b }) is) s.files
-      (λ x has. same x (has_back rs (ps ++ (st ++ fs)) x (has_back ps (st ++ fs) x (has_back st fs x has)))) in
+      (λ x has. same x (has_right rs (ps ++ (st ++ fs)) x (has_right ps (st ++ fs) x (has_right st fs x has)))) in
       λ j. record (map_state f s) { rows = rows j; promises = promises j; stages = stages j; files = files j }

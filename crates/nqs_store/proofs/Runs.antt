@@ -1,6 +1,6 @@
 -- Calls of one disk, one part after another.
 use Rattle.std.proofs.Common.{◌≡◌, ◌⊎◌, inl, inr, ℕ, suc, ◌+◌, ◌-◌, ◌<◌, ◌≤◌, Bool, true, false, List, [], ◌∷◌, ◌++◌, take, drop, length, if◌then◌else◌, IsTrue}
-use Rattle.std.proofs.Common.{refl, sym, ap, subst, ◌∙◌, arith, length-append}
+use Rattle.std.proofs.Common.{refl, sym, ap, subst, ◌∙◌, arith, length-append, true≢false}
 use Rattle.std.proofs.lemmas.List.{append-nil, take-append-le, drop_at}
 use Rattle.nqs_outside.specs.History.{Call, write, sync, failed, fresh, History, extended, moment, after, state_at, IsImage, EachSince, StopsShort, answered}
 use Rattle.nqs_outside.specs.History.{IsExact}
@@ -73,11 +73,8 @@ abbrev is_ok : Call → Bool
 is_ok (write place bytes ok) = ok
 is_ok (sync ok) = ok
 
-true_false : true ≡ false → ⊥
-true_false is = absurd (let no : ⊥ = cc in no)
-
 one_ok : (call p : Call) (calls : List Call) → AllOk (call ∷ calls) → call ≡ failed p → ⊥
-one_ok call p calls all is = true_false (sym (first_ok call calls all) ∙ ap is_ok is ∙ not_ok p)
+one_ok call p calls all is = true≢false (sym (first_ok call calls all) ∙ ap is_ok is ∙ not_ok p)
   where
     first_ok : (call : Call) (calls : List Call) → AllOk (call ∷ calls) → is_ok call ≡ true
     first_ok (write place bytes ok) calls all = all.0

@@ -35,12 +35,13 @@ use Rattle.nqs_types.specs.declared.edit.DevicesEdit.TheVariants.{CreateDevice, 
 use Rattle.nqs_types.specs.declared.edit.RowsEdit.{RowsEdit}
 use Rattle.nqs_types.specs.declared.edit.RowsEdit.TheVariants.{AbortQueue, HoldRequest, ReleaseRequest, MoveRequest, ModifyRequest}
 use Rattle.nqs_codec.specs.Fields.{u8_field, u16_field, u32_field, u64_field, short_field, bool_field}
-use Rattle.nqs_records.specs.Spelling.{opt_field, list_field, id_field, extent_field, job_field, carried_field, part_field, hand_field}
+use Rattle.nqs_records.specs.Spelling.{opt_field, list_field, id_field, job_field, carried_field, part_field, hand_field}
 use Rattle.nqs_records.specs.EditSpelling.{one_if, flag_field, dest_field, named_field, conf_field, limits_field, access_field, devices_field, rows_field}
 use Rattle.nqs_records.specs.EditSpelling.{edit_field}
 use Rattle.nqs_records.specs.Values.{is_site_count, IsOpt, IsJob, IsCarried, IsPart, IsHand}
 use Rattle.nqs_records.specs.EditValues.{IsDest, IsNamed, IsConfEdit, IsLimitsEdit, IsAccessEdit, IsDevicesEdit, IsRowsEdit, IsEdit}
 use Rattle.nqs_records.specs.Changes.{spelling, MayStand}
+use Rattle.nqs_records.proofs.PutBack.{length-extent}
 
 -- how long each kind of field is
 
@@ -84,10 +85,6 @@ flag b = opt_number (one_if b)
 length-id : (id : RequestId) → length (id_field id) ≡ 5
 unfolding id_field
 length-id id = simp length-append (omega (arith, length-u32 id.seq, length-u8 id.host.0))
-
-length-extent : (e : Extent) → length (extent_field e) ≡ 12
-unfolding extent_field
-length-extent e = simp length-append (omega (arith, length-u64 e.place, length-u32 e.length))
 
 length-hand : (h : PeerNumber) → length (hand_field h) ≡ 9
 unfolding hand_field

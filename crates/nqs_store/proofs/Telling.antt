@@ -166,10 +166,6 @@ pub bad_snapshot : (snapshot : List ℕ) (payloads : List (List ℕ)) (fault : T
 bad_snapshot snapshot payloads (Untold place) bad = subst (λ r. IsUntoldBehind r snapshot payloads place) (sym bad.1.1) bad.0
 bad_snapshot snapshot payloads (Memory memory) bad = tt
 
--- where the records of such a journal begin
-pub front_size : (snapshot : List ℕ) → length (snapshot_front snapshot) ≡ 24 + length snapshot
-front_size snapshot = length-front snapshot
-
 pub bad_behind : (snapshot : List ℕ) (payloads : List (List ℕ)) (host : Host) (place : ℕ) (fault : TellFault) → snapshot_of snapshot ≡ Ok host
     → place ≡ 24 + length snapshot → IsTakenFault host place payloads fault → IsTellFault true snapshot payloads fault
 bad_behind snapshot payloads host place (Untold at) reads stands bad = subst (λ r. IsUntoldBehind r snapshot payloads at) (sym reads) (record {
@@ -179,7 +175,7 @@ bad_behind snapshot payloads host place (Untold at) reads stands bad = subst (λ
   is = bad.is;
   so_far = bad.so_far;
   bad = bad.bad;
-  at = omega (arith, bad.stands, stands, length-append (snapshot_front snapshot) (records bad.before), front_size snapshot);
+  at = omega (arith, bad.stands, stands, length-append (snapshot_front snapshot) (records bad.before), length-front snapshot);
 })
 bad_behind snapshot payloads host place (Memory memory) reads stands bad = tt
 

@@ -2,9 +2,9 @@
 use Rattle.std.proofs.Common.{◌≡◌, ◌≢◌, ◌⊎◌, inl, inr, ℕ, zero, suc, ◌+◌, ◌<◌, ◌≤◌, List, [], ◌∷◌, ◌++◌, length, take, drop, get_or, All, arith, refl, ap, sym}
 use Rattle.std.proofs.Common.{subst, ◌∙◌, append_assoc, Some, None, Option, Result, Ok, Err, Bool, true, false, cond, not, ◌&&◌, ◌==◌, nat_lt, nat_le, is_none}
 use Rattle.std.specs.List.{position_or_len}
-use Rattle.std.proofs.lemmas.Bool.{and_parts, and_from, eqb-true, le-leb}
+use Rattle.std.proofs.lemmas.Bool.{and_parts, and_from, eqb-true, le-leb, lt-ltb, ltb-false, leb-true}
 use Rattle.std.proofs.lemmas.List.{append-nil, length-append, take_at, drop_at}
-use Rattle.nqs_base.proofs.Plain.{lt_is_true, lt_itself, le_of_false, le_of_true}
+use Rattle.nqs_base.proofs.Plain.{lt_itself}
 use Rattle.nqs_base.specs.Name.{IsName, is_digit}
 use Rattle.nqs_types.specs.declared.ids.Named.{Named}
 use Rattle.nqs_text.specs.Number.{decimal, first_other, AreDigits}
@@ -45,7 +45,7 @@ place-point : (front behind : List ℕ) → IsPlain front → place_of 46 (front
 unfolding place_of
 place-point front behind h =
     let e = before front (46 ∷ behind) h (inr (behind, refl)) in
-    rw (e, lt_is_true (length front) (length (front ++ 46 ∷ behind)) (omega (arith, length-append front (46 ∷ behind)))) refl
+    rw (e, lt-ltb (length front) (length (front ++ 46 ∷ behind)) (omega (arith, length-append front (46 ∷ behind)))) refl
 
 named-plain : (front : List ℕ) → IsPlain front → named_of front ≡ of_parts (seq_of front) None
 unfolding named_of
@@ -91,7 +91,7 @@ number-is low high text n e =
     let d = tested-Some (are_digits text && (nat_le low (decimal text) && nat_le (decimal text) high)) (decimal text) n e in
     let p = and_parts (are_digits text) (nat_le low (decimal text) && nat_le (decimal text) high) d.0 in
     let q = and_parts (nat_le low (decimal text)) (nat_le (decimal text) high) p.1 in
-    (digits_of text p.0, d.1, omega (arith, d.1, le_of_true low (decimal text) q.0), omega (arith, d.1, le_of_true (decimal text) high q.1))
+    (digits_of text p.0, d.1, omega (arith, d.1, leb-true low (decimal text) q.0), omega (arith, d.1, leb-true (decimal text) high q.1))
 
 pub is-number : (low high : ℕ) (text : List ℕ) (n : ℕ) → AreDigits text → n ≡ decimal text → low ≤ n → n ≤ high → number_of low high text ≡ Some n
 unfolding number_of
@@ -174,7 +174,7 @@ no_place false n e = refl
 others_none : (bs : List ℕ) → first_other bs ≡ None → (i d : ℕ) → i < length bs → is_digit (get_or bs i d) ≡ true
 unfolding first_other
 others_none bs h i d less =
-    all_digits bs d (le_of_false (front_digits bs) (length bs) (no_place (nat_lt (front_digits bs) (length bs)) (front_digits bs) h)) i less
+    all_digits bs d (ltb-false (front_digits bs) (length bs) (no_place (nat_lt (front_digits bs) (length bs)) (front_digits bs) h)) i less
 
 seq_plain : (front : List ℕ) (seq : ℕ) → IsSeq front seq → IsPlain front
 seq_plain front seq s = λ i d less. digit_not_point (get_or front i d) (others_none front s.digits.1 i d less)

@@ -2,8 +2,7 @@
 use Rattle.std.proofs.Common.{◌≡◌, ℕ, ◌+◌, ◌*◌, ◌<◌, List, sym, ap, refl, arith, Some, None, Option, Ok, Err, Bool, true, false, cond, ◌&&◌, nat_le}
 use Rattle.std.proofs.Common.{nat_lt}
 use Rattle.std.specs.Prelude.{ℤ, pos, negsuc, ◌+ℤ◌, ◌*ℤ◌}
-use Rattle.std.proofs.lemmas.Bool.{and_parts, and_from, le-leb, lt-ltb}
-use Rattle.nqs_base.proofs.Plain.{lt_of_true, le_of_true}
+use Rattle.std.proofs.lemmas.Bool.{and_parts, and_from, le-leb, lt-ltb, ltb-true, leb-true}
 use Rattle.jiff_core.specs.Calendar.{IsDate, days_in_month, days_from_civil}
 use Rattle.jiff_core.proofs.SignedLemmas.{signed_arith}
 use Rattle.nqs_moments.specs.Moment.{IsSecond, ReadsMoment}
@@ -28,11 +27,11 @@ date_of year month day t =
     let q = and_parts (nat_le year 9999) (nat_le 1 month && nat_le month 12) p.0 in
     let m = and_parts (nat_le 1 month) (nat_le month 12) q.1 in
     let d = and_parts (nat_le 1 day) (nat_le day (days_in_month (pos year) month)) p.1 in
-    let years = le_of_true year 9999 q.0 in
-    let low_month = le_of_true 1 month m.0 in
-    let high_month = le_of_true month 12 m.1 in
-    let low_day = le_of_true 1 day d.0 in
-    let high_day = le_of_true day (days_in_month (pos year) month) d.1 in (
+    let years = leb-true year 9999 q.0 in
+    let low_month = leb-true 1 month m.0 in
+    let high_month = leb-true month 12 m.1 in
+    let low_day = leb-true 1 day d.0 in
+    let high_day = leb-true day (days_in_month (pos year) month) d.1 in (
       (omega (arith, signed_arith), omega (arith, signed_arith)),
       (omega (arith, signed_arith), omega (arith, signed_arith)),
       (omega (arith, signed_arith), omega (arith, signed_arith)),
@@ -67,9 +66,9 @@ said_second year month day hour minute second moment e = by (is_date year month 
         let r = and_parts (nat_lt minute 60) (nat_lt second 60) q.1 in
         record {
           date = date_of year month day p.0;
-          hours = lt_of_true hour 24 q.0;
-          minutes = lt_of_true minute 60 r.0;
-          seconds = lt_of_true second 60 r.1;
+          hours = ltb-true hour 24 q.0;
+          minutes = ltb-true minute 60 r.0;
+          seconds = ltb-true second 60 r.1;
           counted =
               counted count h;
         }

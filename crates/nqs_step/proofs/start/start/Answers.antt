@@ -1,7 +1,8 @@
 use Rattle.std.proofs.Common.{◌≡◌, ◌∙◌, Some, slice_get, sym, ap}
 use Rattle.nqs_state.specs.State.{content}
 use Rattle.nqs_rules.specs.Picked.{row_place}
-use Rattle.nqs_step.proofs.Orderly.{hop_left, start_left}
+use Rattle.nqs_handover.proofs.Hops.{hops_at}
+use Rattle.nqs_step.proofs.Orderly.{start_left, hops_left}
 use Rattle.nqs_step.proofs.Picks.{picked_ready}
 use Rattle.nqs_step.proofs.start.start.Goals as goal
 
@@ -14,4 +15,6 @@ start_row-requires-clause-starts c =
     start_left s c.requires (row_place choice) row there (picked_ready c.args.now s choice row (sym c.in-Some.ensures) there)
 
 pub start_row-requires-clause-hops : goal.start_row-requires-clause-hops
-start_row-requires-clause-hops c = hop_left (content c.args.state.now) c.requires c.row_place.result c.in-Some-get_at.row.now (sym c.in-Some-get_at.ensures)
+start_row-requires-clause-hops c =
+    hops_at (content c.args.state.now) (hops_left (content c.args.state.now) c.requires) c.row_place.result c.in-Some-get_at.row.now
+    (sym c.in-Some-get_at.ensures)

@@ -2,7 +2,8 @@ use Rattle.std.proofs.Common.{arith, length-append}
 use Rattle.std.proofs.lemmas.Result.{err_from_is_err_and}
 use Rattle.nqs_state.specs.State.{content}
 use Rattle.nqs_journal.specs.Text.{snapshot_front, records}
-use Rattle.nqs_store.proofs.Telling.{told_snapshot, bad_snapshot, bad_behind, front_size}
+use Rattle.nqs_journal.proofs.Fronts.{length-front}
+use Rattle.nqs_store.proofs.Telling.{told_snapshot, bad_snapshot, bad_behind}
 use Rattle.nqs_store.proofs.tell.tell_behind.Goals as goal
 
 pub returns-in_err-state-clause-err : goal.returns-in_err-state-clause-err
@@ -12,7 +13,7 @@ returns-in_err-state-clause-err c =
 
 pub take_records-requires-clause-short : goal.take_records-requires-clause-short
 take_records-requires-clause-short c =
-    omega (arith, c.requires, length-append (snapshot_front c.args.snapshot.now) (records c.args.payloads.now), front_size c.args.snapshot.now)
+    omega (arith, c.requires, length-append (snapshot_front c.args.snapshot.now) (records c.args.payloads.now), length-front c.args.snapshot.now)
 
 pub returns-in_err-take_records-clause-err : goal.returns-in_err-take_records-clause-err
 returns-in_err-take_records-clause-err c =
