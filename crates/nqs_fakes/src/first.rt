@@ -1,17 +1,14 @@
-//! The first of a list of values, taken out.
+//! The first of the values that wait, taken out.
 
 ghost use Rattle.std.specs.Prelude.{◌≡◌, ◌∷◌, [], IfSome, IfNone};
 
-use nqs_base::Items;
+use std::collections::VecDeque;
 
-/// The first value, which goes out of the list. Where there is none the list stays empty.
-pub(crate) fn take_first<T: Drop>(items: &mut Items<T>) -> Option<T>
-    ensures some { IfSome result (λ x. items.old ≡ x ∷ items.new) }
-    ensures none { IfNone result (items.old ≡ []) }
-    ensures empty { IfNone result (items.new ≡ []) }
+/// The first value, which goes out. Where there is none, none waits afterwards either.
+pub(crate) fn take_first<T: Drop>(waiting: &mut VecDeque<T>) -> Option<T>
+    ensures some { IfSome result (λ x. waiting.old.items ≡ x ∷ waiting.new.items) }
+    ensures none { IfNone result (waiting.old.items ≡ []) }
+    ensures empty { IfNone result (waiting.new.items ≡ []) }
 {
-    if items.as_slice().is_empty() {
-        return None;
-    }
-    items.take_first()
+    waiting.pop_front()
 }

@@ -14,6 +14,7 @@ use nqs_base::Items;
 use nqs_outside::{Failed, RunEnd, Runner};
 use nqs_types::RequestId;
 use std::alloc::{AllocError, Global};
+use std::collections::VecDeque;
 
 /// A job that was to be run, and how it ended, if it was.
 #[derive(Drop)]
@@ -26,7 +27,7 @@ pub struct JobRun {
 /// A runner that keeps the jobs that it was to run. It answers its ends in order, and then fails.
 #[derive(Drop)]
 pub struct MemRunner {
-    ends: Items<RunEnd>,
+    ends: VecDeque<RunEnd>,
     kept: Items<JobRun>,
     calls: Failures,
     starved: bool,
@@ -60,13 +61,13 @@ impl MemRunner {
     /// leaves the ends.
     pub fn new(alloc: Global, ends: Items<RunEnd>, failing: Vec<u64>) -> MemRunner
         ensures runs { runs_of result ≡ Some [] }
-        ensures ends { result.ends ≡ ends }
+        ensures ends { result.ends.items ≡ ends }
         ensures numbers { result.calls.numbers.items ≡ failing.items }
         ensures calls { result.calls.calls ≡ 0 }
         ensures faults { result.calls.faults ≡ 0 }
     {
         MemRunner {
-            ends,
+            ends: VecDeque::from(ends.into_vec()),
             kept: Items::new(alloc),
             calls: Failures::new(failing),
             starved: false,
@@ -74,10 +75,10 @@ impl MemRunner {
     }
 
     /// The ends that it has still to answer.
-    pub fn ends(&self) -> &[RunEnd]
+    pub fn ends(&self) -> &VecDeque<RunEnd>
         ensures { result.now ≡ self.now.ends }
     {
-        self.ends.as_slice()
+        &self.ends
     }
 
     /// The jobs that were to be run.
@@ -99,8 +100,8 @@ impl MemRunner {
     fn take_end(&mut self) -> Result<RunEnd, Failed>
         ensures runs { runs_of self.new ≡ runs_of self.old }
         ensures cause { HasCause self.old.calls.faults self.new.calls.faults result }
-        ensures ends { TakesEnd self.old.ends self.new.ends result }
-        ensures due { is_err result ≡ (fails_next self.old.calls || is_none self.old.ends) }
+        ensures ends { TakesEnd self.old.ends.items self.new.ends.items result }
+        ensures due { is_err result ≡ (fails_next self.old.calls || is_none self.old.ends.items) }
         ensures numbers { self.new.calls.numbers.items ≡ self.old.calls.numbers.items }
         ensures calls { self.new.calls.calls ≡ next self.old.calls.calls }
     {
@@ -135,8 +136,8 @@ impl Runner for MemRunner {
     fn run(&mut self, id: RequestId, start: u16) -> Result<RunEnd, Failed>
         ensures runs { Extends (runs_of self.old) (runs_of self.new) (ran id start (end_of result) ∷ []) }
         ensures cause { HasCause self.old.calls.faults self.new.calls.faults result }
-        ensures ends { TakesEnd self.old.ends self.new.ends result }
-        ensures due { is_err result ≡ (fails_next self.old.calls || is_none self.old.ends) }
+        ensures ends { TakesEnd self.old.ends.items self.new.ends.items result }
+        ensures due { is_err result ≡ (fails_next self.old.calls || is_none self.old.ends.items) }
         ensures numbers { self.new.calls.numbers.items ≡ self.old.calls.numbers.items }
         ensures calls { self.new.calls.calls ≡ next self.old.calls.calls }
     {

@@ -12,6 +12,7 @@ use crate::first::take_first;
 use nqs_base::{Bytes, Items};
 use nqs_outside::{Address, Failed, Received, Wire};
 use std::alloc::{AllocError, Global};
+use std::collections::VecDeque;
 
 /// What comes.
 #[derive(Drop)]
@@ -31,7 +32,7 @@ pub struct Sent {
 #[derive(Drop)]
 pub struct MemWire {
     alloc: Global,
-    script: Items<Item>,
+    script: VecDeque<Item>,
     received: Items<Item>,
     sent: Items<Sent>,
     receives: Failures,
@@ -68,9 +69,9 @@ fn item_of(alloc: Global, answer: Received, buf: &[u8]) -> Result<Item, AllocErr
 }
 
 // The first item of a script, and that nothing comes where there is none.
-fn take_item(script: &mut Items<Item>) -> Item
-    ensures item { (room : ℕ) → cut_to room result ≡ first_of room script.old }
-    ensures rest { script.new ≡ rest_of script.old }
+fn take_item(script: &mut VecDeque<Item>) -> Item
+    ensures item { (room : ℕ) → cut_to room result ≡ first_of room script.old.items }
+    ensures rest { script.new.items ≡ rest_of script.old.items }
 {
     match take_first(script) {
         Some(item) => item,
@@ -91,7 +92,7 @@ impl MemWire {
     ) -> MemWire
         ensures received { received_of result ≡ Some [] }
         ensures sent { sent_of result ≡ Some [] }
-        ensures script { result.script ≡ script }
+        ensures script { result.script.items ≡ script }
         ensures receives { result.receives.numbers.items ≡ failing_receives.items }
         ensures sends { result.sends.numbers.items ≡ failing_sends.items }
         ensures calls { (result.receives.calls ≡ 0) × (result.sends.calls ≡ 0) }
@@ -99,7 +100,7 @@ impl MemWire {
     {
         MemWire {
             alloc,
-            script,
+            script: VecDeque::from(script.into_vec()),
             received: Items::new(alloc),
             sent: Items::new(alloc),
             receives: Failures::new(failing_receives),
@@ -109,10 +110,10 @@ impl MemWire {
     }
 
     /// What is still to come.
-    pub fn script(&self) -> &[Item]
+    pub fn script(&self) -> &VecDeque<Item>
         ensures { result.now ≡ self.now.script }
     {
-        self.script.as_slice()
+        &self.script
     }
 
     /// What came.
@@ -193,8 +194,8 @@ impl Wire for MemWire {
         ensures sends { Extends (sent_of self.old) (sent_of self.new) [] }
         ensures cause { HasCause self.old.receives.faults self.new.receives.faults result }
         ensures send_faults { self.old.sends.faults ≤ self.new.sends.faults }
-        ensures first { IfOk result (λ r. arrival r buf.new ≡ first_of (length buf.old) self.old.script) }
-        ensures rest { OnOk result (self.new.script ≡ rest_of self.old.script) }
+        ensures first { IfOk result (λ r. arrival r buf.new ≡ first_of (length buf.old) self.old.script.items) }
+        ensures rest { OnOk result (self.new.script.items ≡ rest_of self.old.script.items) }
         ensures left { OnErr result (self.new.script ≡ self.old.script) }
         ensures listed { GoesAsListed self.old.receives self.new.receives result }
         ensures unsent { self.new.sends ≡ self.old.sends }
