@@ -10,7 +10,6 @@ ghost use Rattle.nqs_network_runs.specs.Replay.{drained};
 ghost use Rattle.nqs_network_runs.specs.Sunk.{sunk};
 ghost use Rattle.nqs_replay.specs.Exits.{Exits};
 
-mod real;
 #[cfg(test)]
 mod tests;
 
@@ -18,7 +17,7 @@ use nqs_base::Memory;
 use nqs_network_runs::replay::replay;
 use nqs_network_runs::status::Status;
 use nqs_outside::{Sink, Source};
-use real::{Reading, Writing};
+use nqs_real::{Reading, Writing};
 use std::alloc::Global;
 use std::env::Args;
 use std::process::ExitCode;
