@@ -4,7 +4,7 @@ use Rattle.std.proofs.Common.{refl, sym, ap, subst, ◌∙◌, arith}
 use Rattle.std.specs.List.{list_any}
 use Rattle.std.proofs.lemmas.Bool.{and_parts}
 use Rattle.std.proofs.lemmas.List.{append-nil}
-use Rattle.std.proofs.lemmas.List.Sums.{sum-map, sum_by-cons}
+use Rattle.nqs_base.proofs.Plain.{sum_cons}
 use Rattle.nqs_state.specs.State.{Plain}
 use Rattle.nqs_state.specs.Keys.{is_row, is_file}
 use Rattle.nqs_base_tables.specs.Table.{without_first}
@@ -22,9 +22,6 @@ use Rattle.nqs_rules.specs.Starts.{after_step}
 use Rattle.nqs_rules.specs.Step.{is_start, ended_by, then_ack, unlaunched_by, step}
 use Rattle.nqs_rules.specs.Stepped.{Stepped, Pending, quiet, makes, ready, shown}
 use Rattle.nqs_back.specs.Back.{comebacks, has_none, comes_back}
-
-sum_cons : {V : Type 0} (w : V → ℕ) (v : V) (vs : List V) → sum (map w (v ∷ vs)) ≡ w v + sum (map w vs)
-sum_cons w v vs = sum-map w (v ∷ vs) ∙ sum_by-cons w v vs ∙ ap (λ n. w v + n) (sym (sum-map w vs))
 
 -- without one there is no more in sum
 sum_dropped : {V : Type 0} (test : V → Bool) (w : V → ℕ) (vs : List V) → sum (map w (without_first test vs)) ≤ sum (map w vs)

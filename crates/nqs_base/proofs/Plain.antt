@@ -1,18 +1,14 @@
--- Small facts of numbers and tests, for the proofs of all crates.
-use Rattle.std.proofs.Common.{◌≡◌, ℕ, ◌<◌, ◌≤◌, nat_lt, nat_le, Bool, true, false, ◌||◌, refl, arith}
+-- Small facts of numbers, tests and lists, for the proofs of all crates.
+use Rattle.std.proofs.Common.{◌≡◌, ℕ, zero, suc, ◌+◌, ◌<◌, ◌≤◌, nat_lt, Bool, true, false, cond, List, [], ◌∷◌, ◌++◌, map, length, take, drop, find, sum}
+use Rattle.std.proofs.Common.{get_or, slice_get, Option, None, Some, is_some, option_map, Err, IsErrOf, IsTrue, refl, sym, ap, ◌∙◌, arith, length-append}
+use Rattle.std.specs.List.{list_all, AllByRecursion}
+use Rattle.std.proofs.lemmas.Bool.{and_from}
 use Rattle.std.proofs.lemmas.Bool.Decides.{nat_tests}
+use Rattle.std.proofs.lemmas.Option.{same_Some, none-some}
+use Rattle.std.proofs.lemmas.List.{drop-drop, drop_at}
+use Rattle.std.proofs.lemmas.List.Sums.{sum-map, sum_by-cons}
 
-pub lt_is_true : (a b : ℕ) → a < b → nat_lt a b ≡ true
-lt_is_true a b h = grind (arith, nat_tests)
-
-pub lt_of_true : (a b : ℕ) → nat_lt a b ≡ true → a < b
-lt_of_true a b h = grind (arith, nat_tests)
-
-pub le_of_false : (a b : ℕ) → nat_lt a b ≡ false → b ≤ a
-le_of_false a b h = grind (arith, nat_tests)
-
-pub le_of_true : (a b : ℕ) → nat_le a b ≡ true → a ≤ b
-le_of_true a b h = grind (arith, nat_tests)
+-- ---- numbers and tests
 
 -- no number is below itself
 pub lt_itself : (a : ℕ) → nat_lt a a ≡ false
@@ -22,6 +18,72 @@ lt_itself a = grind (arith, nat_tests)
 pub no_two : {P : Type 0} (a b : ℕ) → a < b → b ≤ a → P
 no_two a b less past = absurd (omega arith)
 
-pub or_last : (a b : Bool) → b ≡ true → (a || b) ≡ true
-or_last true b h = refl
-or_last false b h = h
+-- a test that passes doesn't fail
+pub refuted : (test : Bool) → IsTrue test → test ≡ false → ⊥
+refuted true is not = let never : ⊥ = cc in never
+refuted false is not = let never : ⊥ = cc in never
+
+-- ---- options and results
+
+-- a value stands there where the one stands that it is made of
+pub is_some-option_map : {V W : Type 0} (m : V → W) (o : Option V) → is_some (option_map m o) ≡ is_some o
+is_some-option_map m None = refl
+is_some-option_map m (Some v) = refl
+
+-- the same error, of another answer
+pub same_error : {T U E : Type 0} (d e : E) → IsErrOf {T = T} (Err d) e → IsErrOf {T = U} (Err d) e
+same_error d e is = let same : d ≡ e = cc in ap Err same
+
+-- ---- lists
+
+-- a place of a list is one of a longer list
+pub longer : (n : ℕ) (bytes more : List ℕ) → n < length bytes → n < length (bytes ++ more)
+longer n bytes more less = omega (arith, length-append bytes more, less)
+
+-- bytes of a list are bytes of its front
+pub taken : (n : ℕ) (bytes : List ℕ) → ((i : ℕ) → get_or bytes i 0 < 256) → (i : ℕ) → get_or (take n bytes) i 0 < 256
+taken zero bytes fits i = omega arith
+taken (suc n) [] fits i = omega arith
+taken (suc n) (b ∷ bytes) fits zero = fits zero
+taken (suc n) (b ∷ bytes) fits (suc i) = taken n bytes (λ j. fits (suc j)) i
+
+-- what follows a part that stands at a place
+pub rest_behind : (bytes : List ℕ) (place : ℕ) (field rest : List ℕ) → drop place bytes ≡ field ++ rest → drop (place + length field) bytes ≡ rest
+rest_behind bytes place field rest is =
+    sym (drop-drop (length field) place bytes)
+    ∙ ap (λ (l : List ℕ). drop (length field) l) is
+    ∙ drop_at field rest (length field) refl
+
+-- what stands at a place
+pub item_at : {V : Type 0} (vs : List V) (i : ℕ) → i < length vs → (v : V) × (slice_get vs i ≡ Some v)
+item_at [] i lt = absurd (let no : ⊥ = omega arith in no)
+item_at (x ∷ vs) zero lt = (x, refl)
+item_at (x ∷ vs) (suc i) lt = item_at vs i (omega arith)
+
+-- what is found passes the test
+pub found_passes : {V : Type 0} (test : V → Bool) (vs : List V) (v : V) → find test vs ≡ Some v → test v ≡ true
+found_passes test [] v h = absurd (none-some v h)
+found_passes test (x ∷ vs) v h = by (test x) refl (found_passes test vs v) h
+  where
+    by : (b : Bool) → test x ≡ b → (find test vs ≡ Some v → test v ≡ true) → cond b (Some x) (find test vs) ≡ Some v → test v ≡ true
+    by true e rest h = ap test (sym (same_Some x v h)) ∙ e
+    by false e rest h = rest h
+
+-- all pass what each passes
+pub all-true : {V : Type 0} (vs : List V) → list_all (λ _. true) vs ≡ true
+all-true [] = refl
+all-true (v ∷ vs) = all-true vs
+
+-- all pass what the one at each place passes
+pub all_places : {V : Type 0} (p : V → Bool) (vs : List V) → ((n : ℕ) (v : V) → slice_get vs n ≡ Some v → p v ≡ true) → list_all p vs ≡ true
+all_places p [] h = refl
+all_places p (v ∷ vs) h = and_from (p v) (list_all p vs) (h 0 v refl) (all_places p vs (λ n w e. h (suc n) w e))
+
+-- what follows from what each has, each has
+pub all_weaker : {V : Type 0} (P Q : V → Type 0) → ((v : V) → P v → Q v) → (vs : List V) → AllByRecursion P vs → AllByRecursion Q vs
+all_weaker P Q f [] all = tt
+all_weaker P Q f (v ∷ vs) all = (f v all.0, all_weaker P Q f vs all.1)
+
+-- a sum, its first part aside
+pub sum_cons : {V : Type 0} (w : V → ℕ) (v : V) (vs : List V) → sum (map w (v ∷ vs)) ≡ w v + sum (map w vs)
+sum_cons w v vs = sum-map w (v ∷ vs) ∙ sum_by-cons w v vs ∙ ap (λ n. w v + n) (sym (sum-map w vs))

@@ -4,6 +4,7 @@ use Rattle.std.proofs.Common.{length-append, Err, slice_index, nat_lt}
 use Rattle.std.proofs.lemmas.Bool.Decides.{nat_tests}
 use Rattle.nqs_base.specs.Name.{IsFirstBad, allowed_at}
 use Rattle.nqs_base.specs.Path.{IsFirstBadOfPath, path_allowed_at, PathAllowedBelow}
+use Rattle.nqs_base.proofs.Plain.{refuted}
 use Rattle.nqs_codec.specs.Fields.{short_field}
 use Rattle.nqs_codec.specs.Takes.{TakesBool, TakesName, TakesPath, IsOther, IsCutShort, IsBadLength, IsShortFault, IsShortAt, HasBadByte, HasParentAt}
 use Rattle.nqs_codec.specs.declared.fault.FieldFault.{FieldFault}
@@ -53,10 +54,6 @@ short_fault most bytes place (Short e) (Short f) a b = same_end e f (length byte
 short_fault most bytes place (Short e) (Bad f) a b = absurd (cut_or_bad most (drop place bytes) a.1 b.1)
 short_fault most bytes place (Bad e) (Short f) a b = absurd (cut_or_bad most (drop place bytes) b.1 a.1)
 short_fault most bytes place (Bad e) (Bad f) a b = same_place e f place a.0 b.0
-
-refuted : (test : Bool) → IsTrue test → test ≡ false → ⊥
-refuted true is not = let never : ⊥ = cc in never
-refuted false is not = let never : ⊥ = cc in never
 
 first_same : (allowed : ℕ → ℕ → Bool) (value : List ℕ) (i j : ℕ) → ((k : ℕ) → k < i → IsTrue (allowed k (slice_index value k)))
     → ((k : ℕ) → k < j → IsTrue (allowed k (slice_index value k))) → allowed i (slice_index value i) ≡ false → allowed j (slice_index value j) ≡ false → i ≡ j

@@ -3,10 +3,10 @@ use Rattle.std.proofs.Common.{◌≡◌, ℕ, ◌+◌, List, ◌++◌, length, t
 use Rattle.std.proofs.lemmas.List.{drop_at}
 use Rattle.nqs_base.specs.Path.{IsPath}
 use Rattle.nqs_base.specs.declared.extent.Extent.{Extent}
+use Rattle.nqs_base.proofs.Plain.{rest_behind}
 use Rattle.nqs_codec.specs.Fields.{bytes_field, short_field}
 use Rattle.nqs_codec.specs.Takes.{Stands, StandsNone, TakesBytes, TakesPath, IsLong, IsExtentAt, extent_bytes}
 use Rattle.nqs_codec.specs.Laws.{IsOne, IsReadInPlace, HasOneAnswer, extent_of}
-use Rattle.nqs_codec.proofs.Places.{rest_is}
 use Rattle.nqs_codec.proofs.One.{one_bytes, one_short}
 use Rattle.nqs_codec.proofs.Shorts.{short_lies, bytes_lie}
 use Rattle.nqs_codec.proofs.ReadBack.{same_short}
@@ -47,7 +47,7 @@ module _ {E : Type 0} (head : ℕ) (IsValue : List ℕ → Type 0) (field : List
   read_in_place = record {
     taken = taken;
     in_place = λ bytes rest value place is. lies bytes place value rest is;
-    left = λ bytes rest value place is. rest_is bytes place (field value) rest is;
+    left = λ bytes rest value place is. rest_behind bytes place (field value) rest is;
     put_taken = λ front rest value answer is_value takes. taken (front ++ (field value ++ rest)) rest (length front) value answer is_value
         (drop_at front (field value ++ rest) (length front) refl) takes;
     refused = refused;

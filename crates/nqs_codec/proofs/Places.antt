@@ -1,15 +1,9 @@
 -- What stands at a place.
-use Rattle.std.proofs.Common.{◌≡◌, ℕ, zero, suc, ◌+◌, ◌<◌, ◌≤◌, List, [], ◌∷◌, ◌++◌, length, take, drop, get_or, refl, sym, ap, ◌∙◌, arith, length-append}
+use Rattle.std.proofs.Common.{◌≡◌, ℕ, ◌+◌, ◌<◌, ◌≤◌, List, ◌++◌, length, take, drop, get_or, sym, ap, ◌∙◌, arith, length-append}
 use Rattle.std.proofs.Common.{take-append-drop, subst}
-use Rattle.std.proofs.lemmas.List.{drop-drop, get_or-drop, length-take-le, drop_at}
+use Rattle.std.proofs.lemmas.List.{drop-drop, get_or-drop, length-take-le}
+use Rattle.nqs_base.proofs.Plain.{taken}
 use Rattle.nqs_codec.specs.Takes.{Stands, StandsNone}
-
--- bytes of a list are bytes of each part
-taken : (n : ℕ) (bytes : List ℕ) → ((i : ℕ) → get_or bytes i 0 < 256) → (i : ℕ) → get_or (take n bytes) i 0 < 256
-taken zero bytes fits i = omega arith
-taken (suc n) [] fits i = omega arith
-taken (suc n) (b ∷ bytes) fits zero = fits zero
-taken (suc n) (b ∷ bytes) fits (suc i) = taken n bytes (λ j. fits (suc j)) i
 
 pub part_fits : (bytes : List ℕ) (place n : ℕ) → ((i : ℕ) → get_or bytes i 0 < 256) → (i : ℕ) → get_or (take n (drop place bytes)) i 0 < 256
 part_fits bytes place n fits = taken n (drop place bytes) (λ i. subst (λ (b : ℕ). b < 256) (sym (get_or-drop place bytes i 0)) (fits (place + i)))
@@ -24,13 +18,6 @@ part_stands bytes place n field is long = record {
       ∙ ap (λ (l : List ℕ). field ++ l) (drop-drop n place bytes);
   behind = ap (λ (k : ℕ). place + k) (sym (ap length is ∙ length-take-le n (drop place bytes) long));
 }
-
--- what follows a field that stands
-pub rest_is : (bytes : List ℕ) (place : ℕ) (field rest : List ℕ) → drop place bytes ≡ field ++ rest → drop (place + length field) bytes ≡ rest
-rest_is bytes place field rest is =
-    sym (drop-drop (length field) place bytes)
-    ∙ ap (λ (l : List ℕ). drop (length field) l) is
-    ∙ drop_at field rest (length field) refl
 
 -- fields longer than what is left
 pub none_stands : {A : Type 0} (IsValue : A → Type 0) (field : A → List ℕ) (bytes : List ℕ) (place : ℕ)

@@ -3,11 +3,11 @@ use Rattle.std.proofs.Common.{◌≡◌, ℕ, ◌+◌, ◌<◌, ◌^◌, List, �
 use Rattle.std.proofs.lemmas.List.{drop_at}
 use Rattle.std.specs.Prelude.{⊤, true, false}
 use Rattle.nqs_base.specs.Name.{IsName}
+use Rattle.nqs_base.proofs.Plain.{rest_behind}
 use Rattle.nqs_codec.specs.Fields.{u8_field, u16_field, u32_field, u64_field, bool_field, short_field}
 use Rattle.nqs_codec.specs.Takes.{Stands, StandsNone, TakesNumber, TakesBool, TakesName}
 use Rattle.nqs_codec.specs.Laws.{IsOne, IsReadBack, HasOneAnswer}
 use Rattle.nqs_codec.specs.declared.fault.Short.{Short}
-use Rattle.nqs_codec.proofs.Places.{rest_is}
 use Rattle.nqs_codec.proofs.One.{one_u8, one_u16, one_u32, one_u64, one_short}
 use Rattle.nqs_codec.proofs.Faults.{bool_fault, name_fault}
 use Rattle.nqs_codec.proofs.Refusals.{refused_bool, refused_name}
@@ -40,7 +40,7 @@ module _ {A E : Type 0} (IsValue : A → Type 0) (field : A → List ℕ) (Takes
   pub read_back : IsReadBack IsValue field Takes
   read_back = record {
     taken = taken;
-    left = λ bytes rest place value is. rest_is bytes place (field value) rest is;
+    left = λ bytes rest place value is. rest_behind bytes place (field value) rest is;
     put_taken = λ front rest value answer is_value takes. taken (front ++ (field value ++ rest)) rest (length front) value answer is_value
         (drop_at front (field value ++ rest) (length front) refl) takes;
     refused = refused;

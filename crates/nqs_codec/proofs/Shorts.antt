@@ -3,9 +3,10 @@ use Rattle.std.proofs.Common.{◌≡◌, ℕ, ◌+◌, ◌<◌, ◌≤◌, ◌^�
 use Rattle.std.proofs.Common.{append_assoc}
 use Rattle.std.proofs.lemmas.List.{length-take-le, get_or-drop, take_at}
 use Rattle.nqs_base.specs.Path.{IsPath, PathAllowedBelow, has_parent}
+use Rattle.nqs_base.proofs.Plain.{rest_behind}
 use Rattle.nqs_codec.specs.Fields.{u8_field, short_field, bytes_field, u32_field}
 use Rattle.nqs_codec.specs.Takes.{Stands, StandsNone, IsShortAt, IsExtentAt}
-use Rattle.nqs_codec.proofs.Places.{part_stands, rest_is}
+use Rattle.nqs_codec.proofs.Places.{part_stands}
 use Rattle.nqs_codec.proofs.Lengths.{two_stand}
 
 pub byte_there : (bytes : List ℕ) (place n next : ℕ) → Stands bytes place (u8_field n) next → (drop place bytes ≡ n ∷ drop next bytes) × (next ≡ place + 1)
@@ -38,7 +39,7 @@ short_stands most bytes place n start part stands is long some few =
 pub value_lies : (bytes : List ℕ) (place : ℕ) (head value rest : List ℕ) → drop place bytes ≡ (head ++ value) ++ rest
     → take (length value) (drop (place + length head) bytes) ≡ value
 value_lies bytes place head value rest is =
-    ap (λ (l : List ℕ). take (length value) l) (rest_is bytes place head (value ++ rest) (is ∙ append_assoc head value rest))
+    ap (λ (l : List ℕ). take (length value) l) (rest_behind bytes place head (value ++ rest) (is ∙ append_assoc head value rest))
     ∙ take_at value rest (length value) refl
 
 pub short_lies : (bytes : List ℕ) (place : ℕ) (value rest : List ℕ) → drop place bytes ≡ short_field value ++ rest

@@ -1,8 +1,9 @@
 -- Each tear gives an image.
-use Rattle.std.proofs.Common.{◌≡◌, ℕ, ◌+◌, ◌<◌, ◌≤◌, ◌%◌, ◌==◌, nat_le, Bool, true, false, ◌||◌, List, length, get_or, take, refl, ap, ◌∙◌, arith}
+use Rattle.std.proofs.Common.{◌≡◌, ℕ, ◌+◌, ◌<◌, ◌≤◌, ◌%◌, ◌==◌, nat_le, Bool, true, false, List, length, get_or, take, refl, ap, ◌∙◌, arith}
 use Rattle.std.specs.Prelude.{if◌then◌else◌}
 use Rattle.std.proofs.lemmas.List.{length-take, get_or-take}
 use Rattle.std.proofs.lemmas.Bool.Decides.{nat_tests}
+use Rattle.std.proofs.lemmas.Bool.{or_from}
 use Rattle.nqs_outside.specs.History.{State, fresh, covers, IsImage}
 use Rattle.nqs_outside.proofs.Coherence.{IsCoherent, fresh_coherent}
 use Rattle.nqs_outside.proofs.Images.{fresh_image}
@@ -15,9 +16,6 @@ use Rattle.nqs_disk.proofs.Mixes.{length-mixed_from, kept_byte}
 chosen_between : (b : Bool) (short long : ℕ) → short ≤ long → (short ≤ (if b then long else short)) × ((if b then long else short) ≤ long)
 chosen_between true short long le = (le, omega arith)
 chosen_between false short long le = (omega arith, le)
-
-not_past : (a b : Bool) → a ≡ false → b ≡ false → (a || b) ≡ false
-not_past a b e f = ap (λ x. x || b) e ∙ f
 
 below_end : (n i : ℕ) → i < n → nat_le n i ≡ false
 below_end n i lt = grind (arith, nat_tests)
@@ -34,7 +32,7 @@ mixed_image n s coherent =
       same = λ i lt free.
           get_or-take m whole i 0 (omega (arith, lt, between.0))
           ∙ kept_byte (is_free s) n s.synced s.content 0 0 i (omega (arith, lt, coherent.longer))
-          (not_past (covers s.ranges (0 + i)) (nat_le (length s.synced) (0 + i)) (ap (covers s.ranges) (let e : 0 + i ≡ i = omega arith in e) ∙ free)
+          (or_from (covers s.ranges (0 + i)) (nat_le (length s.synced) (0 + i)) (ap (covers s.ranges) (let e : 0 + i ≡ i = omega arith in e) ∙ free)
           (below_end (length s.synced) (0 + i) (omega (arith, lt))))
           ∙ ap (λ (k : ℕ). get_or s.synced k 0) (let e : 0 + i ≡ i = omega arith in e);
     }

@@ -1,5 +1,5 @@
 -- The lines of a queue's classes, with an entry more, and with one less.
-use Rattle.std.proofs.Common.{◌≡◌, ℕ, ◌+◌, ◌<◌, ◌==◌, nat_lt, Bool, true, false, ◌&&◌, ◌||◌, List, [], ◌∷◌, ◌++◌, length, find, Some, position}
+use Rattle.std.proofs.Common.{◌≡◌, ℕ, ◌+◌, ◌<◌, ◌==◌, Bool, true, false, ◌&&◌, ◌||◌, List, [], ◌∷◌, ◌++◌, length, find, Some, position}
 use Rattle.std.proofs.Common.{refl, sym, ap, ◌∙◌, arith, if◌then◌else◌, true≢false}
 use Rattle.std.specs.Prelude.{cond}
 use Rattle.std.specs.List.{list_any}
@@ -7,10 +7,11 @@ use Rattle.std.specs.Option.{option_eq}
 use Rattle.std.specs.Cmp.{bool_eq_equiv}
 use Rattle.std.specs.Cmp.Lexicographic.{nat_list_eq_equiv, options_equiv}
 use Rattle.std.proofs.Math.Bool.{beq}
-use Rattle.std.proofs.lemmas.Bool.{and_parts, and_from, or_parts}
+use Rattle.std.proofs.lemmas.Bool.{and_parts, and_from, or_parts, lt-ltb}
 use Rattle.std.proofs.lemmas.Bool.Decides.{nat_tests}
 use Rattle.std.proofs.lemmas.Cmp.{nat_eq_equiv}
 use Rattle.nqs_base.specs.Same.{name_eq}
+use Rattle.nqs_base.proofs.Plain.{item_at}
 use Rattle.nqs_base_tables.specs.Table.{change_first, without_first}
 use Rattle.nqs_base_tables.proofs.KeyLemmas.{changed_at}
 use Rattle.nqs_types.specs.Ids.{id_eq, id_exact}
@@ -26,7 +27,6 @@ use Rattle.nqs_index.specs.Tallies.{one}
 use Rattle.nqs_index.proofs.LineLemmas.{in_order, order_left}
 use Rattle.nqs_index.proofs.Numbers.{number-cons, any_number, number_none}
 use Rattle.nqs_index.proofs.OrderLemmas.{key_exact, key_itself}
-use Rattle.nqs_index.proofs.PlaceLemmas.{item_at}
 use Rattle.nqs_index.proofs.RunLemmas.{id_itself}
 
 -- a class is itself
@@ -89,9 +89,6 @@ number_taken p x (y ∷ ys) h = by (is_entry x y) refl (number_taken p x ys) h
         number-cons p y (without_first (is_entry x) ys) in
         let j : number p (y ∷ ys) ≡ number p ys + one (p y) = number-cons p y ys in
         omega (arith, k, i, j)
-
-positive : (n : ℕ) → 0 < n → nat_lt 0 n ≡ true
-positive n some = grind (arith, nat_tests)
 
 module _ (c : Class) (x : Entry) where
   -- one entry more, by each test
@@ -201,7 +198,7 @@ module _ (c : Class) (x : Entry) where
       here e =
           let i : number (λ y. class_eq c l.class && is_entry x y) l.line ≡ number (is_entry x) l.line = (λ j. number (λ y. e j && is_entry x y) l.line) in
           let j = none_in ls (ap (λ k. list_any (is_class k) ls) (class_exact c l.class e) ∙ apart.0) in
-          any_number (is_entry x) l.line ∙ positive (number (is_entry x) l.line) (omega (arith, i, j, some))
+          any_number (is_entry x) l.line ∙ lt-ltb 0 (number (is_entry x) l.line) (omega (arith, i, j, some))
 
       by : (b : Bool) → class_eq c l.class ≡ b
           → (0 < number_in (λ k e. class_eq c k && is_entry x e) ls → number_in test ls ≡ number_in test (taken_from c x ls) + one (test c x))

@@ -7,12 +7,6 @@ use Rattle.std.proofs.lemmas.Option.{same_Some, none-some}
 use Rattle.nqs_base_tables.specs.Table.{change_first}
 
 module _ {V : Type 0} where
-  -- what stands at a place
-  pub item_at : (vs : List V) (i : ℕ) → i < length vs → (v : V) × (slice_get vs i ≡ Some v)
-  item_at [] i lt = absurd (let no : ⊥ = omega arith in no)
-  item_at (x ∷ vs) zero lt = (x, refl)
-  item_at (x ∷ vs) (suc i) lt = item_at vs i (omega arith)
-
   -- a write behind another one
   pub set_twice : (vs : List V) (i : ℕ) (a b : V) → slice_set (slice_set vs i a) i b ≡ slice_set vs i b
   set_twice [] i a b = refl

@@ -5,6 +5,7 @@ use Rattle.std.proofs.Common.{option_map, refl, sym, ap, subst, ◌∙◌, if◌
 use Rattle.std.specs.Prelude.{cond}
 use Rattle.std.proofs.lemmas.Option.{same_Some}
 use Rattle.nqs_base.specs.Same.{name_eq, name_exact}
+use Rattle.nqs_base.proofs.Plain.{item_at}
 use Rattle.nqs_base_tables.specs.Table.{Roomy, change_first}
 use Rattle.nqs_base_tables.proofs.KeyLemmas.{changed_at, found_changed, found_other, place_is}
 use Rattle.nqs_index.specs.declared.classes.ClassLine.{ClassLine}
@@ -14,7 +15,7 @@ use Rattle.nqs_index.specs.Classes.{with_placed, PutsAt, Stays}
 use Rattle.nqs_index.specs.Indexed.{lists_of, entered_at, entered}
 use Rattle.nqs_index.specs.Lines.{placed}
 use Rattle.nqs_index.specs.QueueLines.{is_queue, lines_for, classes_under, with_classes, BecomesAt}
-use Rattle.nqs_index.proofs.PlaceLemmas.{item_at, found_at, change_same, set_twice, set_same, image_get, image_of, image_is, images_set}
+use Rattle.nqs_index.proofs.PlaceLemmas.{found_at, change_same, set_twice, set_same, image_get, image_of, image_is, images_set}
 
 -- the lines of a queue after a change of one queue's
 changed : (k : Roomy ClassLine) (q queue : List ℕ) (ls : List QueueLines)

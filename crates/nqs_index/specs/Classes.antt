@@ -5,6 +5,7 @@ use Rattle.std.specs.List.{list_any}
 use Rattle.std.specs.Option.{option_eq}
 use Rattle.std.proofs.Common.{sym, true≢false}
 use Rattle.std.proofs.Math.Bool.{beq}
+use Rattle.std.proofs.lemmas.Bool.{and_parts}
 use Rattle.nqs_base.specs.Same.{name_eq, name_exact, number_exact}
 use Rattle.nqs_base_tables.specs.Table.{has_key}
 use Rattle.nqs_types.specs.declared.request.Row.{Row}
@@ -17,10 +18,6 @@ use Rattle.nqs_index.specs.Numbers.{number}
 -- whether two classes are one
 abbrev pub class_eq : Class → Class → Bool
 class_eq a b = name_eq a.owner b.owner && (option_eq name_eq a.forms b.forms && (a.earliest == b.earliest && beq a.far b.far))
-
-both : (x y : Bool) → (x && y) ≡ true → (x ≡ true) × (y ≡ true)
-both true y h = (λ _. true, h)
-both false y h = absurd (true≢false (sym h))
 
 forms_exact : (a b : Option (List ℕ)) → option_eq name_eq a b ≡ true → a ≡ b
 forms_exact None None h = (λ _. None)
@@ -37,9 +34,9 @@ flag_exact false false h = (λ _. false)
 -- classes that compare alike are one
 pub class_exact : (a b : Class) → class_eq a b ≡ true → a ≡ b
 class_exact a b h =
-    let p = both (name_eq a.owner b.owner) (option_eq name_eq a.forms b.forms && (a.earliest == b.earliest && beq a.far b.far)) h in
-    let q = both (option_eq name_eq a.forms b.forms) (a.earliest == b.earliest && beq a.far b.far) p.1 in
-    let r = both (a.earliest == b.earliest) (beq a.far b.far) q.1 in
+    let p = and_parts (name_eq a.owner b.owner) (option_eq name_eq a.forms b.forms && (a.earliest == b.earliest && beq a.far b.far)) h in
+    let q = and_parts (option_eq name_eq a.forms b.forms) (a.earliest == b.earliest && beq a.far b.far) p.1 in
+    let r = and_parts (a.earliest == b.earliest) (beq a.far b.far) q.1 in
     (λ j. record {
       owner = name_exact a.owner b.owner p.0 j;
       forms = forms_exact a.forms b.forms q.0 j;

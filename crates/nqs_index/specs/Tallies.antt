@@ -4,6 +4,7 @@ use Rattle.std.specs.Cmp.{IsEquivalence, both_ways}
 use Rattle.std.specs.Cmp.Lexicographic.{nat_list_eq_equiv}
 use Rattle.std.specs.Hash as fed
 use Rattle.std.proofs.Common.{sym, ap, ◌∙◌, true≢false}
+use Rattle.std.proofs.lemmas.Bool.{and_parts, and_from}
 use Rattle.nqs_base.specs.Same.{name_eq, name_exact}
 use Rattle.nqs_base_tables.specs.Table.{has_key}
 use Rattle.nqs_index.specs.declared.tally.Tally.{Tally}
@@ -43,16 +44,12 @@ count_of tally counters = counted (find (is_counter tally) counters)
 abbrev pub one : Bool → ℕ
 one b = if b then 1 else 0
 
-both : (x y : Bool) → (x && y) ≡ true → (x ≡ true) × (y ≡ true)
-both true y h = (λ _. true, h)
-both false y h = absurd (true≢false (sym h))
-
 -- tallies that compare alike are one
 pub tally_exact : (a b : Tally) → tally_eq a b ≡ true → a ≡ b
 tally_exact (Active q) (Active r) h = (λ j. Active (name_exact q r h j))
 tally_exact (Running q) (Running r) h = (λ j. Running (name_exact q r h j))
 tally_exact (Owned q o) (Owned r p) h =
-    let e = both (name_eq q r) (name_eq o p) h in
+    let e = and_parts (name_eq q r) (name_eq o p) h in
     (λ j. Owned (name_exact q r e.0 j) (name_exact o p e.1 j))
 tally_exact (Printing d) (Printing e) h = (λ j. Printing (name_exact d e h j))
 tally_exact (Active _) (Running _) h = absurd (true≢false (sym h))
@@ -68,13 +65,10 @@ tally_exact (Printing _) (Active _) h = absurd (true≢false (sym h))
 tally_exact (Printing _) (Running _) h = absurd (true≢false (sym h))
 tally_exact (Printing _) (Owned _ _) h = absurd (true≢false (sym h))
 
-both_hold : (x y : Bool) → x ≡ true → y ≡ true → (x && y) ≡ true
-both_hold x y h g = (λ j. h j && g j)
-
 same_tally : (k : Tally) → tally_eq k k ≡ true
 same_tally (Active q) = nat_list_eq_equiv.refl q
 same_tally (Running q) = nat_list_eq_equiv.refl q
-same_tally (Owned q o) = both_hold (name_eq q q) (name_eq o o) (nat_list_eq_equiv.refl q) (nat_list_eq_equiv.refl o)
+same_tally (Owned q o) = and_from (name_eq q q) (name_eq o o) (nat_list_eq_equiv.refl q) (nat_list_eq_equiv.refl o)
 same_tally (Printing d) = nat_list_eq_equiv.refl d
 
 -- each tally compares alike with itself, and those that do so are one

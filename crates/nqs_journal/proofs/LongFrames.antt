@@ -4,8 +4,8 @@ use Rattle.std.proofs.Common.{length-append, length-drop, take-append-drop}
 use Rattle.std.proofs.lemmas.List.{take_at, drop_at, length-take}
 use Rattle.std.proofs.lemmas.Nat.{be_bytes_8, from_be_bytes-to_be_bytes_8}
 use Rattle.std.specs.Int.{w64, to_be_bytes, from_be_bytes}
+use Rattle.nqs_base.proofs.Plain.{taken}
 use Rattle.nqs_journal.specs.Either.{long_frame, IsNoSnapshot}
-use Rattle.nqs_journal.proofs.Frames.{taken}
 
 pub length-long_frame : (snapshot : List ℕ) → length (long_frame snapshot) ≡ 8 + length snapshot
 unfolding long_frame

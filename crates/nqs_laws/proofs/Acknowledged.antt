@@ -5,6 +5,7 @@ use Rattle.std.proofs.lemmas.Bool.{and_parts, and_from, or_left, not-true}
 use Rattle.std.proofs.lemmas.Option.{same_Some, none-some}
 use Rattle.std.proofs.lemmas.List.{append_assoc}
 use Rattle.std.specs.List.{list_all, filter_map, cons_option}
+use Rattle.nqs_base.proofs.Plain.{all-true}
 use Rattle.nqs_types.specs.Ids.{id_eq, id_exact}
 use Rattle.nqs_state.specs.State.{Plain}
 use Rattle.nqs_types.specs.declared.ids.HostId.{HostId}
@@ -42,7 +43,7 @@ use Rattle.nqs_laws.specs.Launches.{is_acknowledged, lies, was_taken_out}
 use Rattle.nqs_laws.proofs.Frame.{Moment, put_state, put-same, Way, Taken, Begun, Booted, change_by, why_by, seen_from, kept_of, IsIdle}
 use Rattle.nqs_laws.proofs.Told.{at-value}
 use Rattle.nqs_laws.proofs.RowTests.{PlainRow}
-use Rattle.nqs_laws.proofs.Sent.{is_fine_output, all-true, Begins, Launches, Prints, Holds, Moves, Opens, begins, step_fine}
+use Rattle.nqs_laws.proofs.Sent.{is_fine_output, Begins, Launches, Prints, Holds, Moves, Opens, begins, step_fine}
 use Rattle.nqs_laws.proofs.Sound.{IsSound, Keeps, Suits, event_sane, all_sane, get-here, runs_keep}
 use Rattle.nqs_laws.proofs.After.{Request}
 use Rattle.nqs_laws.proofs.Paired.{At}

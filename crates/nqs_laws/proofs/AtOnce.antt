@@ -5,6 +5,7 @@ use Rattle.std.proofs.lemmas.Option.{same_Some, none-some}
 use Rattle.std.specs.Option.{IfSome}
 use Rattle.std.specs.List.{list_all}
 use Rattle.nqs_base.specs.Same.{name_eq}
+use Rattle.nqs_base.proofs.Plain.{all-true}
 use Rattle.nqs_state.specs.State.{Plain}
 use Rattle.nqs_state.specs.Keys.{is_row}
 use Rattle.nqs_types.specs.declared.ids.HostId.{HostId}
@@ -46,7 +47,6 @@ use Rattle.nqs_laws.specs.AtOnce.{is_run, is_waiting, runs, waits_in, runs_on_in
 use Rattle.nqs_laws.proofs.Frame.{Moment, silent, Way, Taken, Begun, Booted, change_by, why_by}
 use Rattle.nqs_laws.proofs.Told.{at-value}
 use Rattle.nqs_laws.proofs.RowTests.{PlainRow}
-use Rattle.nqs_laws.proofs.Sent.{all-true}
 use Rattle.nqs_laws.proofs.Sound.{IsSound, Suits, some-if, sound_frames, run_sound, get-here}
 use Rattle.nqs_laws.proofs.Makes.{Follows, step_makes}
 use Rattle.nqs_laws.proofs.After.{Request}

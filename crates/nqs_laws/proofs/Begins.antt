@@ -6,6 +6,7 @@ use Rattle.std.proofs.lemmas.Option.{same_Some, none-some}
 use Rattle.std.specs.List.{list_any}
 use Rattle.std.specs.Option.{IfSome, option_and_then}
 use Rattle.nqs_base.specs.Same.{name_eq, name_exact}
+use Rattle.nqs_base.proofs.Plain.{is_some-option_map}
 use Rattle.nqs_state.specs.State.{Plain}
 use Rattle.nqs_types.specs.declared.queue.Kind.{Kind}
 use Rattle.nqs_types.specs.declared.queue.Kind.TheVariants.{Batch, Device, Pipe}
@@ -49,10 +50,6 @@ listed Pipe d now s place r = by (r.hops == 32) (destination d now s r) refl
     by false None e = tt
     by false (Some n) e = at n (is_local n d s) (ap is_some (position_at (may_try now s r) d.dests n e).at)
 
-mapped : {A B : Type 0} (f : A → B) (o : Option A) → is_some (option_map f o) ≡ is_some o
-mapped f None = refl
-mapped f (Some a) = refl
-
 module _ (now : ℕ) (s : Plain) (steady : IsSteady s) (c : Choice) (p : IsPicked now s c) where
   abbrev d : QueueDef
   d = p.queue
@@ -77,11 +74,11 @@ module _ (now : ℕ) (s : Plain) (steady : IsSteady s) (c : Choice) (p : IsPicke
   of_row f e = ap (λ o. is_some (option_and_then f o)) p.first.at ∙ e
 
   at_device : (device : ℕ) → is_some (slice_get d.devices device) ≡ true → is_some (option_map (λ n. printing n r s) (device_at device r s)) ≡ true
-  at_device device e = mapped (λ n. printing n r s) (device_at device r s) ∙ ap (λ o. is_some (option_and_then (λ q. slice_get q.devices device) o)) queue_found
+  at_device device e = is_some-option_map (λ n. printing n r s) (device_at device r s) ∙ ap (λ o. is_some (option_and_then (λ q. slice_get q.devices device) o)) queue_found
       ∙ e
 
   at_dest : (f : _ → Stepped (List ℕ)) (dest : ℕ) → is_some (slice_get d.dests dest) ≡ true → is_some (option_map f (dest_at dest r s)) ≡ true
-  at_dest f dest e = mapped f (dest_at dest r s) ∙ ap (λ o. is_some (option_and_then (λ q. slice_get q.dests dest) o)) queue_found ∙ e
+  at_dest f dest e = is_some-option_map f (dest_at dest r s) ∙ ap (λ o. is_some (option_and_then (λ q. slice_get q.dests dest) o)) queue_found ∙ e
 
 begins : (now : ℕ) (s : Plain) → IsSteady s → (c : Choice) → IsPicked now s c → is_some (started c now s) ≡ true
 begins now s steady (Launch row) p = of_row now s steady (Launch row) p (λ q. Some (launching q s)) refl

@@ -3,6 +3,7 @@ use Rattle.std.proofs.Common.{◌≡◌, ℕ, ◌⊎◌, inl, inr, ◌+◌, ◌-
 use Rattle.std.proofs.Common.{sym, ap, subst, ◌∙◌, arith, if◌then◌else◌}
 use Rattle.std.proofs.lemmas.Bool.{eqb-true, leb-true, leb-false}
 use Rattle.std.proofs.lemmas.Option.{same_Some}
+use Rattle.nqs_base.proofs.Plain.{item_at}
 use Rattle.nqs_state.specs.State.{Plain}
 use Rattle.nqs_types.specs.declared.ids.HostId.{HostId}
 use Rattle.nqs_types.specs.declared.ids.PeerNumber.{PeerNumber}
@@ -31,7 +32,7 @@ use Rattle.nqs_laws.proofs.Paired.{At, IsOne, pledge_at}
 use Rattle.nqs_laws.proofs.PairedRuns.{silent_or_one}
 use Rattle.nqs_laws.proofs.Guarded.{way_guards}
 use Rattle.nqs_laws.proofs.TabledRuns.{IsNet}
-use Rattle.nqs_laws.proofs.HandoverLaws.{value_at, closed_up, closed_down, no_hand}
+use Rattle.nqs_laws.proofs.HandoverLaws.{closed_up, closed_down, no_hand}
 use Rattle.nqs_laws.proofs.LicensedRuns.{IsHistory, history_keeps}
 
 -- what each move makes of the last closed number
@@ -82,7 +83,7 @@ sender_at site m sound h t at a n closed = of (find_peer a t) refl closed
         let peers : length t.peers ≡ length t.site = eqb-true (length t.peers) (length t.site) (sites_are t host.order.site).peers in
         let sites : length t.site ≡ length site = ap length (λ j. (host.head j).1) in
         let count = sound.count in
-        value_at m.states a.0 (omega (arith, below, peers, sites, count))
+        item_at m.states a.0 (omega (arith, below, peers, sites, count))
 
 -- one kept change
 module _ (site : List (List ℕ)) (first : List Plain) (m : Moment) (sound : IsSound site m) (k : IsHistory first m) (h : HostId) (s : Plain)
@@ -107,11 +108,11 @@ module _ (site : List (List ℕ)) (first : List Plain) (m : Moment) (sound : IsS
 
   still_at : (a : HostId) (u : Plain) → At m.states a u → (v : Plain) × At then_moment.states a v
   still_at a u at = let below = place_below m.states a.0 u at in let was = sound.count in let now = then_sound.count in
-      value_at then_moment.states a.0 (omega (arith, below, was, now))
+      item_at then_moment.states a.0 (omega (arith, below, was, now))
 
   was_at : (a : HostId) (v : Plain) → At then_moment.states a v → (u : Plain) × At m.states a u
   was_at a v at = let below = place_below then_moment.states a.0 v at in let was = sound.count in let now = then_sound.count in
-      value_at m.states a.0 (omega (arith, below, was, now))
+      item_at m.states a.0 (omega (arith, below, was, now))
 
   closed_after : (a : HostId) → closed_of a then_state ≡ closed_then (pledged s a) (closed_of a s) (from_move c a)
   closed_after a = of (silent_or_one c)
@@ -228,7 +229,7 @@ own_closed site first m sound k h s there way c is suits peer number load x ends
     let sites : length s.site ≡ length site = ap length (λ j. (host.head j).1) in
     let now = then_sound site first m sound k h s there way c is suits in
     let count = now.count in
-    let v = value_at (silent m h s (why_by way) c).states peer.0 (omega (arith, below, peers, sites, count)) in
+    let v = item_at (silent m h s (why_by way) c).states peer.0 (omega (arith, below, peers, sites, count)) in
     let move : from_move c peer ≡ x = moves ∙ ap (λ b. if b then x else Stays) (host_same peer) in
     let last : closed_of peer (applied c s) ≡ number = closed_after site first m sound k h s there way c is suits peer
     ∙ (ap (closed_then (pledged s peer) (closed_of peer s)) move ∙ (ends (pledged s peer) (closed_of peer s)

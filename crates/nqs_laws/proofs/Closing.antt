@@ -5,6 +5,7 @@ use Rattle.std.proofs.lemmas.Bool.{and_parts, or_right, eqb-true}
 use Rattle.std.proofs.lemmas.Option.{same_Some, none-some}
 use Rattle.std.proofs.lemmas.List.Folds.{list_all-append}
 use Rattle.std.specs.List.{list_all}
+use Rattle.nqs_base.proofs.Plain.{item_at}
 use Rattle.nqs_state.specs.State.{Plain}
 use Rattle.nqs_types.specs.declared.ids.HostId.{HostId}
 use Rattle.nqs_types.specs.declared.request.Peer.{Peer}
@@ -30,7 +31,7 @@ use Rattle.nqs_laws.proofs.Paired.{At, IsTrueWord, IsPaired, pledge_at}
 use Rattle.nqs_laws.proofs.Targets.{sender_known, promise_at}
 use Rattle.nqs_laws.proofs.PairedRuns.{change_words, paired_keeps}
 use Rattle.nqs_laws.proofs.TabledRuns.{IsNet, run_net}
-use Rattle.nqs_laws.proofs.HandoverLaws.{value_at, closed_up, closed_down, taken_up}
+use Rattle.nqs_laws.proofs.HandoverLaws.{closed_up, closed_down, taken_up}
 
 pub record IsClosing (said : Message) (m : Moment) : Type 0 where
   pub paired : IsPaired m.states m.packets
@@ -110,7 +111,7 @@ module _ (site : List (List ℕ)) (few : IsSite site) (acts more : List Act) (sa
         let peers : length t.peers ≡ length t.site = eqb-true (length t.peers) (length t.site) (sites_are t host.order.site).peers in
         let sites : length t.site ≡ length site = ap length (λ j. (host.head j).1) in
         let count = end_sound.count in
-        value_at end.states a.0 (omega (arith, below, peers, sites, count))
+        item_at end.states a.0 (omega (arith, below, peers, sites, count))
 
     known : (o : Option Peer) → closes n o ≡ true → (p : Peer) × (o ≡ Some p)
     known None k = absurd (true≢false (sym k))

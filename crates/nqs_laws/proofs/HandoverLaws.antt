@@ -1,10 +1,11 @@
 -- Handovers in every world that a run reaches.
-use Rattle.std.proofs.Common.{◌≡◌, ℕ, ◌+◌, ◌<◌, ◌≤◌, Bool, true, false, ◌||◌, ◌==◌, nat_le, nat_lt, List, [], ◌∷◌, length, slice_get, Option, None, Some}
+use Rattle.std.proofs.Common.{◌≡◌, ℕ, ◌+◌, ◌<◌, ◌≤◌, Bool, true, false, ◌||◌, ◌==◌, nat_le, nat_lt, List, length, slice_get, Option, None, Some}
 use Rattle.std.proofs.Common.{is_some, zero, suc, true≢false, refl, sym, ap, subst, ◌∙◌, arith, if◌then◌else◌}
 use Rattle.std.proofs.lemmas.Bool.{and_parts, or_left, or_right, or_from, eqb-true, eq-eqb, leb-true, leb-false, ltb-true, le-leb, lt-ltb, not-true}
 use Rattle.std.proofs.lemmas.Bool.{false_from_ne_true}
 use Rattle.std.proofs.lemmas.Option.{none-some, same_Some}
 use Rattle.std.specs.Option.{option_map, option_and_then}
+use Rattle.nqs_base.proofs.Plain.{item_at}
 use Rattle.nqs_types.specs.Ids.{id_eq}
 use Rattle.nqs_state.specs.Keys.{is_row, is_hand, is_promise}
 use Rattle.nqs_state.specs.State.{Plain}
@@ -49,12 +50,6 @@ use Rattle.nqs_laws.proofs.TabledRuns.{IsNet}
 use Rattle.nqs_laws.proofs.Away.{IsAway, is_away}
 use Rattle.nqs_laws.proofs.LicensedRuns.{IsHistory, run_history}
 
--- a value at each place of a list
-pub value_at : {V : Type 0} (vs : List V) (n : ℕ) → n < length vs → (v : V) × (slice_get vs n ≡ Some v)
-value_at [] n below = absurd (omega arith)
-value_at (v ∷ vs) zero below = (v, refl)
-value_at (v ∷ vs) (suc n) below = value_at vs n (omega arith)
-
 -- a handover that is found
 hand_is : (phase : Phase) (test : Hand → Bool) → ((y : Hand) → test y ≡ true → y.phase ≡ phase) → (to : HostId) (n : ℕ) (s : Plain)
     → passes test (find_hand to n s) ≡ true → HasHand phase to n s
@@ -86,7 +81,7 @@ module _ (site : List (List ℕ)) (m : Moment) (sound : IsSound site m) (net : I
       let below = place_below m.states a.0 s sat in
       let peers : length t.peers ≡ length t.site = eqb-true (length t.peers) (length t.site) (sites_are t host.order.site).peers in
       let sites : length t.site ≡ length site = ap length (λ j. (host.head j).1) in
-      value_at t.peers a.0 (let count = sound.count in omega (arith, below, peers, sites, count))
+      item_at t.peers a.0 (let count = sound.count in omega (arith, below, peers, sites, count))
 
   module _ (a b : HostId) (s t : Plain) (sat : At m.states a s) (tat : At m.states b t) where
     order_s : IsInOrder s

@@ -1,6 +1,7 @@
 -- A handover has the last number that its host gave to the peer.
 use Rattle.std.proofs.Common.{◌≡◌, ℕ, ◌+◌, true, length, Option, None, Some, is_some, true≢false, refl, sym, ap, subst, ◌∙◌, arith, List}
 use Rattle.std.proofs.lemmas.Bool.{eqb-true, eq-eqb}
+use Rattle.nqs_base.proofs.Plain.{item_at}
 use Rattle.nqs_state.specs.Keys.{is_hand}
 use Rattle.nqs_state.specs.State.{Plain}
 use Rattle.nqs_types.specs.declared.ids.HostId.{HostId}
@@ -26,7 +27,6 @@ use Rattle.nqs_laws.proofs.Views.{IsLone, offered, peer_field, next_field, next_
 use Rattle.nqs_laws.proofs.Targets.{KeptPeer, known_peer}
 use Rattle.nqs_laws.proofs.Paired.{At, open_offer, given_offer}
 use Rattle.nqs_laws.proofs.TabledRuns.{IsNet, run_net}
-use Rattle.nqs_laws.proofs.HandoverLaws.{value_at}
 
 last_given : (site : List (List ℕ)) (m : Moment) → IsSound site m → IsNet m → (a b : HostId) (s : Plain) → At m.states a s → (n : ℕ)
     → is_some (find_hand b n s) ≡ true → is_last_given n (find_peer b s) ≡ true
@@ -55,7 +55,7 @@ last_given site m sound net a b s at n there = of (find_hand b n s) refl there
             let peers : length s.peers ≡ length s.site = eqb-true (length s.peers) (length s.site) (sites_are s host.order.site).peers in
             let sites : length s.site ≡ length site = ap length (λ j. (host.head j).1) in
             let count = sound.count in
-            value_at m.states b.0 (omega (arith, below, peers, sites, count))
+            item_at m.states b.0 (omega (arith, below, peers, sites, count))
 
         ok : OfferOk (offered s b) (next_of b s) (pledged t.0 a) (closed_of a t.0)
         ok = (net.paired.pairs a b s t.0 at t.1).offer

@@ -3,6 +3,7 @@ use Rattle.std.proofs.Common.{◌≡◌, ℕ, ◌+◌, Bool, true, false, List, 
 use Rattle.std.proofs.Common.{refl, sym, ap, subst, if◌then◌else◌}
 use Rattle.std.proofs.lemmas.Bool.{and_parts}
 use Rattle.std.specs.List.{list_all, filter_map, cons_option}
+use Rattle.nqs_base.proofs.Plain.{all-true}
 use Rattle.nqs_state.specs.State.{Plain}
 use Rattle.nqs_types.specs.declared.ids.HostId.{HostId}
 use Rattle.nqs_types.specs.declared.request.Peer.{Peer}
@@ -28,7 +29,7 @@ use Rattle.nqs_rules.specs.Notes.{Saw, saws}
 use Rattle.nqs_laws.specs.Launches.{launched, launches, IsStarted, IsStartedIn}
 use Rattle.nqs_laws.proofs.Frame.{Moment, Way, Taken, Begun, Booted, change_by, outputs_by, first_by, seen_from, IsIdle}
 use Rattle.nqs_laws.proofs.RowTests.{PlainRow}
-use Rattle.nqs_laws.proofs.Sent.{is_fine_output, all-true, Begins, Launches, Prints, Holds, Moves, Opens, begins, step_fine}
+use Rattle.nqs_laws.proofs.Sent.{is_fine_output, Begins, Launches, Prints, Holds, Moves, Opens, begins, step_fine}
 use Rattle.nqs_laws.proofs.Sound.{IsSound, event_sane, all_sane}
 
 -- what is seen of a step of a host, behind so many packets

@@ -11,6 +11,7 @@ use Rattle.nqs_state.specs.State.{Plain}
 use Rattle.nqs_base_tables.specs.Table.{best_from, better, without_first}
 use Rattle.nqs_state.specs.Keys.{is_row, is_stage, is_file}
 use Rattle.nqs_base.specs.Path.{is_path}
+use Rattle.nqs_base.proofs.Plain.{all-true}
 use Rattle.nqs_types.specs.declared.ids.HostId.{HostId}
 use Rattle.nqs_types.specs.declared.ids.RequestId.{RequestId}
 use Rattle.nqs_types.specs.declared.ids.Dest.{Dest}
@@ -91,10 +92,6 @@ pub all-flat : {V W : Type 0} (p : V → Bool) (q : W → Bool) (g : V → List 
 all-flat p q g f [] h = refl
 all-flat p q g f (v ∷ vs) h = let k = and_parts (p v) (list_all p vs) h in
     list_all-append q (g v) (flat_map g vs) ∙ and_from (list_all q (g v)) (list_all q (flat_map g vs)) (f v k.0) (all-flat p q g f vs k.1)
-
-pub all-true : {V : Type 0} (vs : List V) → list_all (λ v. true) vs ≡ true
-all-true [] = refl
-all-true (v ∷ vs) = all-true vs
 
 -- the best of a list passes what all pass
 pub best_passes : {V : Type 0} (p test : V → Bool) (beats : V → V → Bool) (n : ℕ) (vs : List V) → list_all p vs ≡ true

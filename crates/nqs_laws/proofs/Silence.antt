@@ -4,6 +4,7 @@ use Rattle.std.proofs.Common.{true≢false, zero, suc, refl, sym, ap, ◌∙◌,
 use Rattle.std.proofs.lemmas.Bool.{and_parts, and_from, or_left, or_right, not-true, not_from_false}
 use Rattle.std.proofs.lemmas.Option.{same_Some, none-some}
 use Rattle.std.specs.List.{list_any, list_all}
+use Rattle.nqs_base.proofs.Plain.{all_places}
 use Rattle.nqs_types.specs.Ids.{peer_number_eq, peer_number_exact, hand_key}
 use Rattle.nqs_state.specs.State.{Plain}
 use Rattle.nqs_base_tables.specs.Table.{without_first}
@@ -23,10 +24,6 @@ use Rattle.nqs_rules.proofs.Sublists.{part_all, without_part, map_part, part_dis
 use Rattle.nqs_laws.specs.AtOnce.{has_no_silence}
 
 -- lists
-
-all_of : {V : Type 0} (p : V → Bool) (vs : List V) → ((i : ℕ) (v : V) → slice_get vs i ≡ Some v → p v ≡ true) → list_all p vs ≡ true
-all_of p [] f = refl
-all_of p (v ∷ vs) f = and_from (p v) (list_all p vs) (f 0 v refl) (all_of p vs (λ i w at. f (suc i) w at))
 
 listed : (t q : Hand → Bool) (ys : List Hand) (i : ℕ) (y : Hand) → slice_get ys i ≡ Some y → t y ≡ true → q y ≡ true → list_any q (filter t ys) ≡ true
 listed t q [] i y at e k = absurd (none-some y at)
@@ -113,7 +110,7 @@ module _ (silent : Hand → Bool) where
           (uncovered k ks (without_first (is_hand k) s.hands) (part_all (is_covered (k ∷ ks)) (without_part (is_hand k) s.hands) cover) (none_left k s.hands d))
 
   all_covered : (ys : List Hand) → list_all (is_covered (map (λ (h : Hand). peer_number h.peer h.number) (filter silent ys))) ys ≡ true
-  all_covered ys = all_of (is_covered (map (λ (h : Hand). peer_number h.peer h.number) (filter silent ys))) ys (λ i y at. by i y at (silent y) refl)
+  all_covered ys = all_places (is_covered (map (λ (h : Hand). peer_number h.peer h.number) (filter silent ys))) ys (λ i y at. by i y at (silent y) refl)
     where
       by : (i : ℕ) (y : Hand) → slice_get ys i ≡ Some y → (b : Bool) → silent y ≡ b
           → (not b || list_any (λ k. is_hand k y) (map (λ (h : Hand). peer_number h.peer h.number) (filter silent ys))) ≡ true

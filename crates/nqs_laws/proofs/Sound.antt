@@ -6,6 +6,7 @@ use Rattle.std.proofs.lemmas.Option.{same_Some, none-some}
 use Rattle.std.proofs.lemmas.List.Folds.{list_all-append}
 use Rattle.std.specs.Option.{IfSome}
 use Rattle.std.specs.List.{list_all, filter_map, cons_option}
+use Rattle.nqs_base.proofs.Plain.{all-true}
 use Rattle.nqs_state.specs.State.{Plain}
 use Rattle.nqs_types.specs.declared.ids.HostId.{HostId}
 use Rattle.nqs_types.specs.declared.request.Carried.{Carried}
@@ -48,7 +49,7 @@ use Rattle.nqs_laws.proofs.Frame.{Moment, moment, put_state, Comes, Way, Taken, 
 use Rattle.nqs_laws.proofs.Frame.{whole, cut, Frames, Steps, steps_of, run_kept}
 use Rattle.nqs_laws.proofs.RowTests.{PlainRow, IsKept, NewPasses, AllPass, change_passes}
 use Rattle.nqs_laws.proofs.Sides.{head, head_kept, AreShort, short_kept}
-use Rattle.nqs_laws.proofs.Sent.{is_short_change, is_fine_message, all-true, all_sent, step_fine, start_sends, step_stores}
+use Rattle.nqs_laws.proofs.Sent.{is_short_change, is_fine_message, all_sent, step_fine, start_sends, step_stores}
 
 abbrev pub is_script_short : PlainRow → Bool
 is_script_short r = is_short_script r.script

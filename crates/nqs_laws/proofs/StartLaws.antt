@@ -5,6 +5,7 @@ use Rattle.std.proofs.lemmas.Bool.{and_parts, and_from, or_left, eqb-true, eq-eq
 use Rattle.std.proofs.lemmas.Option.{same_Some, none-some}
 use Rattle.std.proofs.lemmas.List.Folds.{list_all-append}
 use Rattle.std.specs.List.{list_all, filter_map, cons_option}
+use Rattle.nqs_base.proofs.Plain.{all-true}
 use Rattle.nqs_state.specs.State.{Plain}
 use Rattle.nqs_types.specs.declared.ids.HostId.{HostId}
 use Rattle.nqs_types.specs.declared.request.RowState.{RowState}
@@ -49,7 +50,7 @@ use Rattle.nqs_laws.proofs.Frame.{Moment, moment, put_state, Way, Taken, Begun, 
 use Rattle.nqs_laws.proofs.Frame.{IsIdle}
 use Rattle.nqs_laws.proofs.Told.{all_seen, sights-append}
 use Rattle.nqs_laws.proofs.RowTests.{PlainRow, IsKept, NewPasses, AllPass, change_passes}
-use Rattle.nqs_laws.proofs.Sent.{is_fine_message, is_fine_output, all-true, Begins, Launches, Prints, Holds, Moves, Opens, begins, step_fine}
+use Rattle.nqs_laws.proofs.Sent.{is_fine_message, is_fine_output, Begins, Launches, Prints, Holds, Moves, Opens, begins, step_fine}
 use Rattle.nqs_laws.proofs.Sound.{IsSound, Keeps, Suits, event_sane, all_sane, way_sends, get-here, runs_keep, run_sound}
 use Rattle.nqs_laws.proofs.NewRows.{row_passes, carried_passes}
 use Rattle.nqs_rules.proofs.PeersOrder.{get-other}

@@ -4,6 +4,7 @@ use Rattle.std.proofs.Common.{subst, ◌∙◌, arith, if◌then◌else◌}
 use Rattle.std.proofs.lemmas.Bool.{and_parts, and_from, ltb-true, false_from_ne_true}
 use Rattle.std.proofs.lemmas.List.Folds.{list_all-append}
 use Rattle.std.specs.List.{list_all}
+use Rattle.nqs_base.proofs.Plain.{item_at}
 use Rattle.nqs_state.specs.Keys.{is_hand}
 use Rattle.nqs_state.specs.State.{Plain}
 use Rattle.nqs_types.specs.declared.ids.HostId.{HostId}
@@ -41,7 +42,7 @@ use Rattle.nqs_laws.specs.Whole.{after, is_up, IfUpAfter, IsSentBetween, WasSent
 use Rattle.nqs_laws.proofs.Frame.{moment, packet_sent, state_at}
 use Rattle.nqs_laws.proofs.Sound.{IsSound, run_sound}
 use Rattle.nqs_laws.proofs.Found.{first_of_two, find-added}
-use Rattle.nqs_laws.proofs.HandoverLaws.{value_at, all_in_step, all_true}
+use Rattle.nqs_laws.proofs.HandoverLaws.{all_in_step, all_true}
 use Rattle.nqs_laws.proofs.Closing.{run-append}
 use Rattle.nqs_laws.proofs.HealLaws.{asks, commits, inquiry, commit, commit_leaves, abort_leaves, done_leaves}
 use Rattle.nqs_laws.proofs.WholeEvents.{Took, took, state_of_host, packets_stay, sent_now, holds_after}
@@ -127,7 +128,7 @@ module _ (site : List (List ℕ)) (few : IsSite site) where
       (all_get (is_sane_message (length site)) w.packets sent.0 m fact.packets sent.1)).0 in
       let below = ltb-true m.from.0 (length site) of_site in
       let count = fact.count in
-      value_at (states_of w) m.from.0 (omega (arith, below, count))
+      item_at (states_of w) m.from.0 (omega (arith, below, count))
 
   -- a tick that leaves its host up
   ticked : (w : World) → Reached site w → (h : HostId) → is_up h (after (Ticks h) w) ≡ true → Took site w (after (Ticks h) w) h (event.Tick w.now)

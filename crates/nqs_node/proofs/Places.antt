@@ -1,6 +1,6 @@
 -- Lists by places, and reads from a store that hasn't changed.
-use Rattle.std.proofs.Common.{Err, Ok, IsErrOf, false, IsTrue}
-use Rattle.std.proofs.Common.{◌≡◌, ℕ, zero, suc, ◌<◌, ◌≤◌, List, [], ◌∷◌, Bool, length, get_or, slice_set, refl, sym, ap, subst, ◌∙◌, arith}
+use Rattle.std.proofs.Common.{Err, Ok, IsErrOf}
+use Rattle.std.proofs.Common.{◌≡◌, ℕ, zero, suc, ◌<◌, ◌≤◌, List, [], ◌∷◌, length, get_or, slice_set, refl, sym, ap, subst, ◌∙◌, arith}
 use Rattle.std.specs.List.{AllByRecursion}
 use Rattle.nqs_outside.proofs.Roses.{rose_since}
 use Rattle.nqs_outside.specs.History.{moment}
@@ -8,6 +8,7 @@ use Rattle.nqs_rules.specs.Edits.{change_at}
 use Rattle.nqs_outside.specs.declared.disk.Disk as disk
 use Rattle.nqs_types.specs.declared.world.Which.{Which}
 use Rattle.nqs_base.specs.declared.memory.Memory.{Memory}
+pub use Rattle.nqs_base.proofs.Plain.{refuted as not_both}
 use Rattle.nqs_node.specs.declared.fault.NodeFault.TheVariants as node
 use Rattle.nqs_store.specs.Stores.{OnlyReads, FailedToRead}
 use Rattle.nqs_store.specs.declared.store.Store.{Store}
@@ -53,9 +54,6 @@ module _ {D : Type 0} {g : disk.Ghosts D} where
 
 pub no_error : {T E : Type 0} (x : T) (e : E) → IsErrOf {T = T} {E = E} (Ok x) e → ⊥
 no_error x e is = let no : ⊥ = cc in no
-
-pub not_both : (b : Bool) → IsTrue b → b ≡ false → ⊥
-not_both b is isnt = let never : ⊥ = cc in never
 
 pub at_most_itself : (n : ℕ) → n ≤ n
 at_most_itself n = omega arith

@@ -1,5 +1,6 @@
 -- What a call of a node leaves that made no call of a disk and answers an error.
-use Rattle.std.proofs.Common.{◌≡◌, ℕ, List, IsErrOf, Ok, Err, refl, ap}
+use Rattle.std.proofs.Common.{ℕ, List, IsErrOf, Ok, Err, refl}
+pub use Rattle.nqs_base.proofs.Plain.{same_error}
 use Rattle.nqs_types.specs.declared.event.Output.{Output}
 use Rattle.nqs_types.specs.declared.world.Which.{Which}
 use Rattle.nqs_outside.specs.declared.disk.Disk as disk
@@ -12,10 +13,6 @@ use Rattle.nqs_node.specs.declared.node.Node.{Node}
 use Rattle.nqs_node.proofs.Performing.{still_broken_off}
 use Rattle.nqs_node.proofs.Places.{no_error, at_most_itself}
 use Rattle.nqs_node.proofs.Telling.{one_still}
-
--- the same error, of another answer
-pub same_error : {T U E : Type 0} (d e : E) → IsErrOf {T = T} (Err d) e → IsErrOf {T = U} (Err d) e
-same_error d e is = let same : d ≡ e = cc in ap Err same
 
 module _ {D : Type 0} {g : disk.Ghosts D} {T : Type 0} (old : Node D g) (e : NodeFault) (no : (which : Which) → IsErrOf {T = T} (Err e) (node.Disk which) → ⊥)
   where

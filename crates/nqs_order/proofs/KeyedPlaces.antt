@@ -10,6 +10,7 @@ use Rattle.std.proofs.lemmas.Option.{same_Some, none-some}
 use Rattle.nqs_base_tables.specs.Table.{has_key}
 use Rattle.nqs_rules.specs.InOrder.{are_distinct}
 use Rattle.nqs_rules.proofs.KeyFacts.{place_below}
+use Rattle.nqs_rules.proofs.ListFacts.{other_key}
 
 module _ {A : Type 0} where
   -- tests that answer alike at each place answer alike of the list
@@ -43,11 +44,6 @@ module _ {A : Type 0} where
 
 -- a value whose key no other has stands first under its key
 module _ {K V : Type 0} (eq : K → K → Bool) (key : V → K) (exact : (a b : K) → eq a b ≡ true → a ≡ b) (same : (a : K) → eq a a ≡ true) where
-  other : (k : K) (vs : List V) (i : ℕ) (v : V) → list_any (eq k) (map key vs) ≡ false → slice_get vs i ≡ Some v → eq k (key v) ≡ false
-  other k [] i v none at = absurd (none-some v at)
-  other k (x ∷ vs) zero v none at = ap (λ y. eq k (key y)) (sym (same_Some x v at)) ∙ (or_parts (eq k (key x)) (list_any (eq k) (map key vs)) none).0
-  other k (x ∷ vs) (suc i) v none at = other k vs i v (or_parts (eq k (key x)) (list_any (eq k) (map key vs)) none).1 at
-
   pub place_again : (vs : List V) (i : ℕ) (v : V) → are_distinct eq (map key vs) ≡ true → slice_get vs i ≡ Some v
       → position_or_len (has_key eq key (key v)) vs ≡ i
   place_again [] i v distinct at = absurd (none-some v at)
@@ -61,7 +57,7 @@ module _ {K V : Type 0} (eq : K → K → Bool) (key : V → K) (exact : (a b : 
           → cond (not b) (1 + position_or_len (has_key eq key (key v)) vs) 0 ≡ suc i
       by true e d rest =
           let alike : key v ≡ key x = exact (key v) (key x) e in
-          absurd (true≢false (sym (same (key x)) ∙ ap (eq (key x)) (sym alike) ∙ other (key x) vs i v (not-true _ d.0) at))
+          absurd (true≢false (sym (same (key x)) ∙ ap (eq (key x)) (sym alike) ∙ other_key eq key (key x) vs i v (not-true _ d.0) at))
       by false e d rest = let k = rest d.1 in omega (arith, k)
 
   pub position_again : (vs : List V) (i : ℕ) (v : V) → are_distinct eq (map key vs) ≡ true → slice_get vs i ≡ Some v

@@ -1,12 +1,12 @@
 -- A message behind the version is read as it is spelled.
 use Rattle.std.proofs.Common.{◌≡◌, ℕ, ◌+◌, ◌<◌, ◌^◌, true, cond, List, [], ◌∷◌, ◌++◌, length, drop, refl, sym, ap, ◌∙◌, subst, arith, length-append}
 use Rattle.std.proofs.Common.{append_assoc, append-nil, Ok, Err}
+use Rattle.nqs_base.proofs.Plain.{rest_behind}
 use Rattle.nqs_types.specs.declared.message.Body.{Body}
 use Rattle.nqs_types.specs.declared.message.Body.TheVariants.{Offer, Ready, Refused, Commit, Done, Inquire, Abort, Stage, Staged, Ask, Answer, Ended, EndedAck}
 use Rattle.nqs_types.specs.declared.message.Message.{Message}
 use Rattle.nqs_codec.specs.Fields.{u8_field}
 use Rattle.nqs_codec.specs.Takes.{Stands}
-use Rattle.nqs_codec.proofs.Places.{rest_is}
 use Rattle.nqs_codec.proofs.Lengths.{two_stand}
 use Rattle.nqs_records.specs.declared.fault.RecordFault.TheVariants.{Kind}
 use Rattle.nqs_records.specs.Reading.{numbered}
@@ -98,9 +98,9 @@ message_taken m bytes rest place fits ok is =
     let t = u8_field m.to.0 in
     let b = body_field m.body in
     let at_kind = is ∙ append_assoc k (f ++ (t ++ (b ++ []))) rest in
-    let at_from = rest_is bytes place k _ at_kind ∙ append_assoc f (t ++ (b ++ [])) rest in
-    let at_to = rest_is bytes (place + length k) f _ at_from ∙ append_assoc t (b ++ []) rest in
-    let at_body = rest_is bytes (place + length k + length f) t _ at_to ∙ ap (λ (l : List ℕ). l ++ rest) (append-nil b) in
+    let at_from = rest_behind bytes place k _ at_kind ∙ append_assoc f (t ++ (b ++ [])) rest in
+    let at_to = rest_behind bytes (place + length k) f _ at_from ∙ append_assoc t (b ++ []) rest in
+    let at_body = rest_behind bytes (place + length k + length f) t _ at_to ∙ ap (λ (l : List ℕ). l ++ rest) (append-nil b) in
     bind (kind_at bytes place) _ _ _ (kind_taken m.body bytes _ place fits at_kind)
     (bind (host_at bytes (place + length k)) _ _ _ (host_law.taken bytes _ (place + length k) m.from fits ok.0 at_from)
     (bind (host_at bytes (place + length k + length f)) _ _ _ (host_law.taken bytes _ (place + length k + length f) m.to fits ok.1 at_to)

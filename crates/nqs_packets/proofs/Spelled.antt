@@ -3,9 +3,9 @@ use Rattle.std.proofs.Common.{◌≡◌, ℕ, ◌+◌, Bool, true, false, cond, 
 use Rattle.std.proofs.Common.{Ok, Err, IfOk, IfErr}
 use Rattle.std.specs.declared.result.Result.{Result}
 use Rattle.std.proofs.lemmas.Bool.{eqb-true, ltb-false}
+use Rattle.nqs_base.proofs.Plain.{rest_behind}
 use Rattle.nqs_types.specs.declared.message.Message.{Message}
 use Rattle.nqs_codec.specs.Fields.{u8_field}
-use Rattle.nqs_codec.proofs.Places.{rest_is}
 use Rattle.nqs_records.specs.declared.fault.RecordFault.{RecordFault}
 use Rattle.nqs_records.specs.declared.fault.RecordFault.TheVariants.{Trailing}
 use Rattle.nqs_records.specs.Reading.{Read}
@@ -57,7 +57,7 @@ is_spelled bytes m fits e =
 pub spelled_is : (bytes : List ℕ) (m : Message) → AreBytes bytes → bytes ≡ spelling m → MaySend m → message_of bytes ≡ Ok m
 unfolding message_of rest_of spelling u8_field
 spelled_is bytes m fits is ok =
-    let next = rest_is bytes 0 (u8_field 1) (behind m) is in
+    let next = rest_behind bytes 0 (u8_field 1) (behind m) is in
     let there = message_taken m bytes [] 1 fits ok (next ∙ sym (append-nil (behind m))) in
     let rest : rest_of bytes 1 ≡ Ok m = bind (message_at bytes 1) _ _ _ there
     (rw (none_behind (1 + length (behind m)) (length bytes) (omega (arith, ap length is))) refl) in

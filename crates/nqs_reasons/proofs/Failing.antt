@@ -2,8 +2,7 @@
 use Rattle.std.proofs.Common.{◌≡◌, Bool, true, false, cond, not, ◌&&◌, ◌||◌, List, [], ◌∷◌, ◌++◌, map, find, Option, None, Some, refl, sym, ap, ◌∙◌, true≢false}
 use Rattle.std.proofs.Common.{inl, inr, if◌then◌else◌}
 use Rattle.std.specs.List.{list_all}
-use Rattle.std.proofs.lemmas.Bool.{and_parts}
-use Rattle.nqs_base.proofs.Plain.{or_last}
+use Rattle.std.proofs.lemmas.Bool.{and_parts, or_right}
 use Rattle.nqs_rules.proofs.ListFacts.{not_true, list_all-weaker}
 use Rattle.nqs_rules.specs.Reasons.{Conditions, first_failing}
 use Rattle.nqs_reasons.specs.Chosen.{all_hold, IsFirstFailing}
@@ -54,7 +53,7 @@ module _ {A : Type 0} where
   -- the same, where no condition tells it
   pub not_said : (p : A → Bool) (cs : Conditions A) (last : A) → list_all (λ c. not (p c.1)) cs ≡ true → p last ≡ false → p (first_failing cs last) ≡ false
   not_said p cs last none isnt =
-      not_told p cs last (list_all-weaker (λ c. not (p c.1)) (λ c. c.0 || not (p c.1)) (λ c h. or_last c.0 (not (p c.1)) h) cs none) isnt
+      not_told p cs last (list_all-weaker (λ c. not (p c.1)) (λ c. c.0 || not (p c.1)) (λ c h. or_right c.0 (not (p c.1)) h) cs none) isnt
 
   pub all_passed : (cs : Conditions A) (last : A) → all_hold cs ≡ true → first_failing cs last ≡ last
   all_passed [] last h = refl

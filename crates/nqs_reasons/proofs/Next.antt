@@ -5,6 +5,7 @@ use Rattle.std.specs.List.{list_all}
 use Rattle.std.proofs.lemmas.List.Folds.{list_all-append, list_all-map}
 use Rattle.std.proofs.lemmas.Map.Keys.{any_passes_from_place}
 use Rattle.nqs_base.specs.Same.{name_eq, name_exact}
+use Rattle.nqs_base.proofs.Plain.{all-true}
 use Rattle.nqs_state.specs.State.{State, Plain}
 use Rattle.nqs_state.specs.Keys.{is_queue}
 use Rattle.nqs_types.specs.declared.request.RowState.{RowState}
@@ -48,10 +49,6 @@ found_named q s d found =
     let e : q ≡ d.name = name_exact q d.name (found_passes (is_queue q) s.queues d found) in
     subst (λ n. name_eq d.name n ≡ true) (sym e) (same_name d.name)
 
-all_true : {V : Type 0} (vs : List V) → list_all (λ _. true) vs ≡ true
-all_true [] = refl
-all_true (v ∷ vs) = all_true vs
-
 -- the reason is one that a condition has
 abbrev is_of_condition : Reason → Bool
 is_of_condition (Next count) = false
@@ -89,7 +86,7 @@ module _ (d : QueueDef) (now : ℕ) (s : Plain) (r : PlainRow) where
   kind_not : (k : Kind) → list_all (λ c. is_of_condition c.1) (kind_conditions k d now s r) ≡ true
   kind_not Batch =
       list_all-append (λ c. is_of_condition c.1) (map (complex_condition d s) s.complexes) (global_condition s ∷ [])
-      ∙ ap (λ b. b && true) (list_all-map (λ c. is_of_condition c.1) (complex_condition d s) s.complexes ∙ all_true s.complexes)
+      ∙ ap (λ b. b && true) (list_all-map (λ c. is_of_condition c.1) (complex_condition d s) s.complexes ∙ all-true s.complexes)
   kind_not Device = refl
   kind_not Pipe = refl
 

@@ -2,7 +2,7 @@
 use Rattle.std.proofs.Common.{◌≡◌, ◌≢◌, ◌⊎◌, ℕ, ◌<◌, ◌≤◌, ◌==◌, Bool, true, false, ◌&&◌, ◌||◌, nat_lt, nat_le, not, List, [], ◌∷◌, ◌++◌, map, filter, length}
 use Rattle.std.proofs.Common.{find, slice_get, Option, None, Some, is_some, zero, suc, inl, inr, refl, sym, ap, subst, ◌∙◌, true≢false, arith, option_map, cond}
 use Rattle.std.proofs.lemmas.Bool.Decides.{nat_tests}
-use Rattle.std.proofs.lemmas.Bool.{cases_lt}
+use Rattle.std.proofs.lemmas.Bool.{cases_lt, and_from}
 use Rattle.std.proofs.lemmas.Option.{same_Some, none-some, slice_get-map, IfSome_then}
 use Rattle.std.proofs.lemmas.List.Folds.{find_at}
 use Rattle.std.proofs.lemmas.Map.Keys.{any_passes_from_place}
@@ -57,10 +57,6 @@ none_counted p (v ∷ vs) none = ap (λ b. length (cond b (v ∷ filter p vs) (f
 other_fails : (a b : Bool) → (a && b) ≡ false → b ≡ true → a ≡ false
 other_fails true b h is = absurd (true≢false (sym is ∙ h))
 other_fails false b h is = refl
-
-both_true : (a b : Bool) → a ≡ true → b ≡ true → (a && b) ≡ true
-both_true true b h is = is
-both_true false b h is = absurd (true≢false (sym h))
 
 -- rows
 
@@ -185,7 +181,7 @@ module _ (now : ℕ) (s : Plain) where
           → waits_before now r q ≡ true
       waits d found k q at goes =
           let parts : (comes_before q r ≡ true) × (is_eligible d now s q ≡ true) = and_parts (comes_before q r) (is_eligible d now s q) goes in
-          both_true (comes_before q r) (ready r.queue q) parts.0
+          and_from (comes_before q r) (ready r.queue q) parts.0
           (subst (λ m. ready m q ≡ true) (name_exact d.name r.queue (found_named r.queue s d found))
           (leading (ready d.name q) (below (length (filter (is_active_of d.name q.job.owner) s.rows)) d.user_limit) (kind_allows d.kind d now s q) parts.1))
 
@@ -287,7 +283,7 @@ module _ (now : ℕ) (s : Plain) where
             (found_again name_eq (λ q. q.name) name_exact same_name s.queues picked.queue_place picked.queue (keys_are s order.keys).queues picked.next.at) in
             next_said picked.queue now s r found
             (next_is picked.queue now s r (row_place c) at found
-            ∙ both_true (may_start now s picked.queue) (is_eligible picked.queue now s r) picked.next.may eligible)
+            ∙ and_from (may_start now s picked.queue) (is_eligible picked.queue now s r) picked.next.may eligible)
             ∙ ap Next (none_counted (goes_first picked.queue now s r) s.rows (none picked.queue picked.row picked.first same))
 
     pub others_wait : (c : Choice) (place : ℕ) (r : PlainRow) → pick now s ≡ Some c → slice_get s.rows place ≡ Some r → is_next (reason_of now s r) ≡ false

@@ -8,7 +8,7 @@ use Rattle.std.proofs.lemmas.Option.{slice_get_cases}
 use Rattle.nqs_base.specs.Same.{number_exact}
 use Rattle.std.proofs.lemmas.List.Folds.{list_all-append, list_all-map}
 use Rattle.std.proofs.Math.Bool.{and-false}
-use Rattle.nqs_base.proofs.Plain.{or_last}
+use Rattle.std.proofs.lemmas.Bool.{or_right}
 use Rattle.nqs_state.specs.State.{Plain}
 use Rattle.nqs_state.specs.Keys.{is_queue}
 use Rattle.nqs_base_tables.proofs.TableLemmas.{is_some-find}
@@ -111,14 +111,14 @@ hold_not No = refl
 
 any_or : {V : Type 0} (p : V → Bool) (vs : List V) → list_all (λ v. p v || true) vs ≡ true
 any_or p [] = refl
-any_or p (v ∷ vs) = (λ j. or_last (p v) true refl j && any_or p vs j)
+any_or p (v ∷ vs) = (λ j. or_right (p v) true refl j && any_or p vs j)
 
 module _ (d : QueueDef) (now : ℕ) (s : Plain) (r : PlainRow) where
   kind_not : (k : Kind) → kind_allows k d now s r ≡ true → list_all (λ c. c.0 || not (is_no_destination c.1)) (kind_conditions k d now s r) ≡ true
   kind_not Batch allows =
       list_all-append (λ c. c.0 || not (is_no_destination c.1)) (map (complex_condition d s) s.complexes) (global_condition s ∷ [])
       ∙ (λ j. (list_all-map (λ c. c.0 || not (is_no_destination c.1)) (complex_condition d s) s.complexes ∙ any_or (complex_allows d.name s) s.complexes) j
-      && (or_last (nat_lt (length (filter (runs_in_batch s) s.rows)) s.global_limit) true refl j && true))
+      && (or_right (nat_lt (length (filter (runs_in_batch s) s.rows)) s.global_limit) true refl j && true))
   kind_not Device allows = ap (λ b. (b || true) && true) allows
   kind_not Pipe allows = ap (λ b. (b || false) && true) allows
 
@@ -127,12 +127,12 @@ module _ (d : QueueDef) (now : ℕ) (s : Plain) (r : PlainRow) where
       → is_no_destination (first_failing (conditions d now s r) (next_in d now s r)) ≡ false
   allowed_not kind =
       not_told is_no_destination (conditions d now s r) (next_in d now s r)
-      (λ j. or_last (is_queued r.state) (not (is_no_destination (state_reason r.state))) (state_not r.state) j
-      && (or_last (is_unheld r.hold) (not (is_no_destination (hold_reason r.hold))) (hold_not r.hold) j
-      && (or_last (nat_le r.job.earliest now) true refl j
-      && (or_last d.started true refl j
-      && (or_last (below (length (filter (is_active_of d.name r.job.owner) s.rows)) d.user_limit) true refl j
-      && (or_last (nat_lt (length (filter (is_active_in d.name) s.rows)) d.run_limit) true refl j && kind j))))))
+      (λ j. or_right (is_queued r.state) (not (is_no_destination (state_reason r.state))) (state_not r.state) j
+      && (or_right (is_unheld r.hold) (not (is_no_destination (hold_reason r.hold))) (hold_not r.hold) j
+      && (or_right (nat_le r.job.earliest now) true refl j
+      && (or_right d.started true refl j
+      && (or_right (below (length (filter (is_active_of d.name r.job.owner) s.rows)) d.user_limit) true refl j
+      && (or_right (nat_lt (length (filter (is_active_in d.name) s.rows)) d.run_limit) true refl j && kind j))))))
       refl
 
   -- none of the destinations may be tried of a request that has this reason
@@ -148,7 +148,7 @@ module _ (d : QueueDef) (now : ℕ) (s : Plain) (r : PlainRow) where
       of Device is fails =
           absurd (true≢false (sym told
           ∙ allowed_not (ap (λ k. list_all (λ c. c.0 || not (is_no_destination c.1)) (kind_conditions k d now s r)) is
-          ∙ ap (λ b. b && true) (or_last (kind_allows Device d now s r) true refl))))
+          ∙ ap (λ b. b && true) (or_right (kind_allows Device d now s r) true refl))))
       of Pipe is fails = sym (some_place (may_try now s r) d.dests) ∙ either (r.hops == 32) (is_some (destination d now s r)) fails
 
       by : (b : Bool) → kind_allows d.kind d now s r ≡ b → list_any (may_try now s r) d.dests ≡ false

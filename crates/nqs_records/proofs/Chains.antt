@@ -3,9 +3,9 @@ use Rattle.std.proofs.Common.{◌≡◌, ℕ, zero, suc, ◌+◌, Bool, true, fa
 use Rattle.std.proofs.Common.{◌∙◌, subst, arith, length-append, append_assoc, append-nil, Result, Ok, Err}
 use Rattle.std.specs.Prelude.{flat_map}
 use Rattle.std.specs.List.{AllByRecursion}
+use Rattle.nqs_base.proofs.Plain.{rest_behind}
 use Rattle.nqs_codec.specs.Fields.{bool_field}
 use Rattle.nqs_codec.specs.Takes.{Stands}
-use Rattle.nqs_codec.proofs.Places.{rest_is}
 use Rattle.nqs_codec.proofs.Lengths.{two_stand}
 use Rattle.nqs_records.specs.Reading.{Read, Reading, ◌>>=◌, mapped, both, within, repeated, counted, if_there}
 use Rattle.nqs_records.specs.Fields.{bool_at, opt_at}
@@ -45,7 +45,7 @@ both_read {A} {B} {IsA} {IsB} {fa} {fb} {ra} {rb} one other = record {
       let back = fb value.0 value.1 in
       let text = is ∙ append_assoc front back rest in
       let here = one.taken bytes (back ++ rest) place value.0 fits is_value.0 text in
-      let there = (other value.0 is_value.0).taken bytes rest (place + length front) value.1 fits is_value.1 (rest_is bytes place front (back ++ rest) text) in
+      let there = (other value.0 is_value.0).taken bytes rest (place + length front) value.1 fits is_value.1 (rest_behind bytes place front (back ++ rest) text) in
       bind (ra bytes place) _ _ _ here (bind (rb value.0 bytes (place + length front)) _ _ _ there (ap (λ (n : ℕ). Ok (value, n)) (longer place front back)));
 }
 
@@ -112,7 +112,7 @@ opt_taken {A} {IsA} {f} {r} one bytes rest place None fits is_value is = bind (b
 opt_taken {A} {IsA} {f} {r} one bytes rest place (Some a) fits is_value is =
     let text = is ∙ append_assoc (bool_field true) (f a) rest in
     let start = place + length (bool_field true) in
-    let there = one.taken bytes rest start a fits is_value (rest_is bytes place (bool_field true) (f a ++ rest) text) in
+    let there = one.taken bytes rest start a fits is_value (rest_behind bytes place (bool_field true) (f a ++ rest) text) in
     bind (bool_at bytes place) _ _ _ (bool_read.taken bytes (f a ++ rest) place true fits tt text)
     (bind (r bytes start) _ _ _ there (ap (λ (n : ℕ). Ok (Some a, n)) (longer place (bool_field true) (f a))))
 
@@ -152,7 +152,7 @@ repeated_taken {A} {IsA} {f} {r} one [] bytes rest place fits all is = ap (λ (n
 repeated_taken {A} {IsA} {f} {r} one (x ∷ xs) bytes rest place fits all is =
     let text = is ∙ append_assoc (f x) (flat_map f xs) rest in
     let start = place + length (f x) in
-    let there = repeated_taken one xs bytes rest start fits all.1 (rest_is bytes place (f x) (flat_map f xs ++ rest) text) in
+    let there = repeated_taken one xs bytes rest start fits all.1 (rest_behind bytes place (f x) (flat_map f xs ++ rest) text) in
     bind (r bytes place) _ _ _ (one.taken bytes (flat_map f xs ++ rest) place x fits all.0 text)
     (bind (repeated (length xs) r bytes start) _ _ _ there (ap (λ (n : ℕ). Ok (x ∷ xs, n)) (longer place (f x) (flat_map f xs))))
 
@@ -170,7 +170,7 @@ counted_read {A} {IsN} {fn} {rn} {IsA} {f} {r} count one = record {
   taken = λ bytes rest place value fits is_value is.
       let front = fn (length value) in
       let text = is ∙ append_assoc front (flat_map f value) rest in
-      let there = repeated_taken one value bytes rest (place + length front) fits is_value.1 (rest_is bytes place front (flat_map f value ++ rest) text) in
+      let there = repeated_taken one value bytes rest (place + length front) fits is_value.1 (rest_behind bytes place front (flat_map f value ++ rest) text) in
       bind (rn bytes place) _ _ _ (count.taken bytes (flat_map f value ++ rest) place (length value) fits is_value.0 text)
       (there ∙ ap (λ (n : ℕ). Ok (value, n)) (longer place front (flat_map f value)));
 }

@@ -7,6 +7,7 @@ use Rattle.std.specs.declared.result.Result.{Result}
 use Rattle.std.proofs.lemmas.List.{length-drop}
 use Rattle.nqs_codec.specs.Fields.{u8_field}
 use Rattle.nqs_base.specs.Want.{want}
+use Rattle.nqs_base.proofs.Plain.{longer}
 use Rattle.nqs_records.specs.declared.fault.RecordFault.{RecordFault}
 use Rattle.nqs_records.specs.declared.fault.RecordFault.TheVariants.{Short, Kind, BadField, Trailing, Memory}
 use Rattle.nqs_records.specs.Reading.{◌>>=◌, Read}
@@ -77,9 +78,6 @@ followed bytes c n fits e less =
       text = here.1.text;
       is_place = omega (arith, here.1.behind);
     }
-
-longer : (n : ℕ) (bytes more : List ℕ) → n < length bytes → n < length (bytes ++ more)
-longer n bytes more less = omega (arith, length-append bytes more, less)
 
 trailing_by : (bytes : List ℕ) (c : HostChange) (n : ℕ) → change_at bytes 0 ≡ Ok (c, n) → n < length bytes → record_of bytes ≡ Err (Trailing n)
 trailing_by bytes c n e less = record_is bytes (Ok (c, n)) e ∙ ap (λ (t : Bool). cond t (Err (Trailing n)) (Ok c)) (lt-ltb n (length bytes) less)

@@ -12,7 +12,7 @@ use Rattle.nqs_codec.specs.Laws.{IsReadBack}
 use Rattle.nqs_codec.specs.declared.fault.FieldFault.{FieldFault}
 use Rattle.nqs_codec.specs.declared.fault.FieldFault.TheVariants.{Short, Bad}
 use Rattle.nqs_base.specs.declared.extent.Extent.{Extent}
-use Rattle.nqs_codec.proofs.Places.{rest_is}
+use Rattle.nqs_base.proofs.Plain.{rest_behind}
 use Rattle.nqs_codec.proofs.Shorts.{short_stands}
 use Rattle.nqs_codec.proofs.One.{one_short}
 use Rattle.nqs_codec.proofs.Refusals.{refused_path}
@@ -23,7 +23,7 @@ use Rattle.nqs_records.specs.Fields.{bool_of, bool_at, short_of, first_bad, name
 use Rattle.nqs_records.proofs.IsRead.{IsRead, fault_read, fault_same}
 
 behind : (bytes : List ℕ) (place b : ℕ) (rest : List ℕ) → drop place bytes ≡ b ∷ rest → rest ≡ drop (place + 1) bytes
-behind bytes place b rest is = sym (rest_is bytes place (b ∷ []) rest is)
+behind bytes place b rest is = sym (rest_behind bytes place (b ∷ []) rest is)
 
 -- ---- yes and no
 

@@ -1,8 +1,8 @@
 -- What may stand in a record is sane for the rules.
-use Rattle.std.proofs.Common.{◌≡◌, ℕ, zero, suc, ◌<◌, Bool, true, false, not, ◌&&◌, ◌==◌, nat_le, nat_lt, IsTrue, List, [], ◌∷◌, length, slice_index}
+use Rattle.std.proofs.Common.{◌≡◌, ℕ, zero, suc, ◌<◌, true, not, ◌&&◌, ◌==◌, nat_le, nat_lt, IsTrue, List, [], ◌∷◌, length, slice_index}
 use Rattle.std.proofs.Common.{Option, Some, None, refl, arith}
 use Rattle.std.specs.List.{list_all, AllByRecursion}
-use Rattle.std.proofs.lemmas.Bool.{and_parts, and_from, le-leb}
+use Rattle.std.proofs.lemmas.Bool.{and_parts, and_from, le-leb, not_from_false}
 use Rattle.std.proofs.lemmas.Bool.Decides.{nat_tests}
 use Rattle.nqs_base.specs.Path.{IsPath, is_path, is_visible, has_parent}
 use Rattle.nqs_base.specs.declared.extent.Extent.{Extent}
@@ -40,17 +40,13 @@ seen (b ∷ bs) all = and_from (is_visible b) (list_all is_visible bs) (all 0 (o
 pub starts_few : (n : ℕ) → nat_lt n 65535 ≡ true → IsTrue (is_at_most 65534 n)
 starts_few n few = grind (arith, nat_tests)
 
-is_not : (t : Bool) → t ≡ false → not t ≡ true
-is_not true is = cc
-is_not false is = refl
-
 pub path_sane : (p : List ℕ) → IsPath p → is_path p ≡ true
 path_sane [] path = absurd (omega (arith, path.some))
 path_sane (b ∷ bs) path =
     let first = and_parts (is_visible b) (not (b == 47)) (path.allowed 0 path.some) in
     let all = seen (b ∷ bs) visible in
     and_from _ _ (and_from _ _ (and_from _ _ (and_from _ _ (le-leb 1 (length (b ∷ bs)) path.some) (le-leb (length (b ∷ bs)) 255 path.few)) all) first.1)
-    (is_not (has_parent (b ∷ bs)) path.below)
+    (not_from_false (has_parent (b ∷ bs)) path.below)
   where
     visible : (i : ℕ) → i < length (b ∷ bs) → IsTrue (is_visible (slice_index (b ∷ bs) i))
     visible zero less = (and_parts (is_visible b) (not (b == 47)) (path.allowed 0 path.some)).0

@@ -3,9 +3,9 @@ use Rattle.std.proofs.Common.{◌≡◌, ℕ, ◌+◌, ◌^◌, Bool, true, fals
 use Rattle.std.proofs.Common.{length-append, append_assoc, Ok}
 use Rattle.std.specs.List.{AllByRecursion}
 use Rattle.std.proofs.lemmas.Bool.{eqb-true, ltb-true}
+use Rattle.nqs_base.proofs.Plain.{rest_behind}
 use Rattle.nqs_codec.specs.Fields.{u8_field}
 use Rattle.nqs_codec.specs.Takes.{Stands}
-use Rattle.nqs_codec.proofs.Places.{rest_is}
 use Rattle.nqs_codec.proofs.Lengths.{two_stand}
 use Rattle.nqs_records.specs.Reading.{Reading, ◌>>=◌}
 use Rattle.nqs_records.specs.Fields.{u8_at}
@@ -86,7 +86,7 @@ module _ {F : Type 0} {ValueOf : F → Type 0} {A : Type 0} (Is : (f : F) → Va
         let text = is ∙ append_assoc front back rest in
         let start = place + length front in
         let there = (shape_law Is field read is_sound law n.shape made.1).taken bytes rest start n.values fits is_value
-        (rest_is bytes place front (back ++ rest) text) in
+        (rest_behind bytes place front (back ++ rest) text) in
         let end : start + length back ≡ place + length (front ++ back) = omega (arith, length-append front back) in
         bind (u8_at bytes place) _ (n.code, start) _ (u8_read.taken bytes (back ++ rest) place n.code fits (ltb-true n.code (2 ^ 8) made.2) text)
         (made.0 (other place) bytes start (start + length back) there ∙ ap (λ (m : ℕ). Ok (value, m)) end)

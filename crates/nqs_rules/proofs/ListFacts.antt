@@ -4,8 +4,9 @@ use Rattle.std.proofs.Common.{slice_get, true≢false, zero, suc, refl, sym, ap,
 use Rattle.std.proofs.lemmas.Bool.{and_parts, and_from, or_parts, false_from_ne_true, not_from_true}
 use Rattle.std.proofs.lemmas.Bool.Decides.{nat_tests}
 use Rattle.std.proofs.lemmas.Option.{same_Some, none-some}
-use Rattle.std.proofs.lemmas.List.Sums.{sum-map, sum_by-cons}
 use Rattle.std.specs.List.{list_any, list_all, position_or_len}
+use Rattle.nqs_base.proofs.Plain.{sum_cons}
+pub use Rattle.nqs_base.proofs.Plain.{found_passes}
 use Rattle.nqs_base_tables.specs.Table.{has_key, change_first}
 use Rattle.nqs_rules.specs.InOrder.{are_distinct}
 
@@ -13,14 +14,6 @@ pub not_true : (b : Bool) → not b ≡ true → b ≡ false
 not_true b h = false_from_ne_true b (λ t. true≢false (sym h ∙ not_from_true b t))
 
 module _ {V : Type 0} where
-  pub found_passes : (test : V → Bool) (vs : List V) (v : V) → find test vs ≡ Some v → test v ≡ true
-  found_passes test [] v h = absurd (none-some v h)
-  found_passes test (x ∷ vs) v h = by (test x) refl (found_passes test vs v) h
-    where
-      by : (b : Bool) → test x ≡ b → (find test vs ≡ Some v → test v ≡ true) → cond b (Some x) (find test vs) ≡ Some v → test v ≡ true
-      by true e rest h = ap test (sym (same_Some x v h)) ∙ e
-      by false e rest h = rest h
-
   -- what all pass, the one that is found passes
   pub list_all-found : (p test : V → Bool) (vs : List V) (v : V) → list_all p vs ≡ true → find test vs ≡ Some v → p v ≡ true
   list_all-found p test [] v all h = absurd (none-some v h)
@@ -57,9 +50,6 @@ module _ {V : Type 0} where
       by false rest = ap (λ l. key x ∷ l) rest
 
   -- a sum, where one value is changed
-
-  sum_cons : (w : V → ℕ) (v : V) (vs : List V) → sum (map w (v ∷ vs)) ≡ w v + sum (map w vs)
-  sum_cons w v vs = sum-map w (v ∷ vs) ∙ sum_by-cons w v vs ∙ ap (λ n. w v + n) (sym (sum-map w vs))
 
   pub sum-changed : (test : V → Bool) (g : V → V) (w : V → ℕ) (vs : List V) (v : V) → find test vs ≡ Some v
       → sum (map w (change_first test g vs)) + w v ≡ sum (map w vs) + w (g v)
@@ -136,13 +126,16 @@ module _ {V : Type 0} where
       by true e h = subst (IsAt p vs) (same_Some (position_or_len p vs) n h) (below_length p vs (grind (arith, nat_tests)))
       by false e h = absurd (none-some n h)
 
+-- no value has a key that is like none of the keys
+pub other_key : {K V : Type 0} (eq : K → K → Bool) (key : V → K) (k : K) (vs : List V) (i : ℕ) (v : V) → list_any (eq k) (map key vs) ≡ false
+    → slice_get vs i ≡ Some v → eq k (key v) ≡ false
+other_key eq key k [] i v none at = absurd (none-some v at)
+other_key eq key k (x ∷ vs) zero v none at =
+    ap (λ y. eq k (key y)) (sym (same_Some x v at)) ∙ (or_parts (eq k (key x)) (list_any (eq k) (map key vs)) none).0
+other_key eq key k (x ∷ vs) (suc i) v none at = other_key eq key k vs i v (or_parts (eq k (key x)) (list_any (eq k) (map key vs)) none).1 at
+
 -- what stands at a place is found by its key, where no two keys are alike
 module _ {K V : Type 0} (eq : K → K → Bool) (key : V → K) (exact : (a b : K) → eq a b ≡ true → a ≡ b) (same : (a : K) → eq a a ≡ true) where
-  other : (k : K) (vs : List V) (i : ℕ) (v : V) → list_any (eq k) (map key vs) ≡ false → slice_get vs i ≡ Some v → eq k (key v) ≡ false
-  other k [] i v none at = absurd (none-some v at)
-  other k (x ∷ vs) zero v none at = ap (λ y. eq k (key y)) (sym (same_Some x v at)) ∙ (or_parts (eq k (key x)) (list_any (eq k) (map key vs)) none).0
-  other k (x ∷ vs) (suc i) v none at = other k vs i v (or_parts (eq k (key x)) (list_any (eq k) (map key vs)) none).1 at
-
   pub found_again : (vs : List V) (i : ℕ) (v : V) → are_distinct eq (map key vs) ≡ true → slice_get vs i ≡ Some v → find (has_key eq key (key v)) vs ≡ Some v
   found_again [] i v distinct at = absurd (none-some v at)
   found_again (x ∷ vs) zero v distinct at =
@@ -155,5 +148,5 @@ module _ {K V : Type 0} (eq : K → K → Bool) (key : V → K) (exact : (a b : 
           → (are_distinct eq (map key vs) ≡ true → find (has_key eq key (key v)) vs ≡ Some v) → cond b (Some x) (find (has_key eq key (key v)) vs) ≡ Some v
       by true e d rest =
           let alike : key v ≡ key x = exact (key v) (key x) e in
-          absurd (true≢false (sym (same (key x)) ∙ ap (eq (key x)) (sym alike) ∙ other (key x) vs i v (not_true (list_any (eq (key x)) (map key vs)) d.0) at))
+          absurd (true≢false (sym (same (key x)) ∙ ap (eq (key x)) (sym alike) ∙ other_key eq key (key x) vs i v (not_true (list_any (eq (key x)) (map key vs)) d.0) at))
       by false e d rest = rest d.1

@@ -5,12 +5,12 @@ use Rattle.std.proofs.lemmas.Bool.{and_from, leb-true, le-leb}
 use Rattle.std.specs.List.{list_all}
 use Rattle.nqs_state.specs.State.{State}
 use Rattle.nqs_base.specs.Same.{name_eq}
-use Rattle.nqs_types.specs.Ids.{id_eq, peer_number_eq}
+use Rattle.nqs_types.specs.Ids.{peer_number_eq}
 use Rattle.std.proofs.lemmas.Cmp.{nat_eq_equiv, nat_list_eq_equiv}
 use Rattle.nqs_types.specs.declared.ids.PeerNumber.{PeerNumber}
-use Rattle.nqs_types.specs.declared.ids.RequestId.{RequestId}
 use Rattle.nqs_types.specs.declared.request.Row.{Row}
 use Rattle.nqs_types.specs.declared.request.Promise.{Promise}
+pub use Rattle.nqs_index.proofs.RunLemmas.{id_itself as same_id}
 use Rattle.nqs_rules.specs.Tests.{passes, is_queued, same_host}
 use Rattle.nqs_rules.specs.Find.{has_queue, has_device, find_peer}
 use Rattle.nqs_rules.specs.Sane.{is_sane_job, is_sane_id}
@@ -127,9 +127,6 @@ module _ {E : Type 0} where
 
 pub same_it : (n : ℕ) → (n == n) ≡ true
 same_it n = nat_eq_equiv.refl n
-
-pub same_id : (i : RequestId) → id_eq i i ≡ true
-same_id i = and_from (i.seq == i.seq) (i.host.0 == i.host.0) (same_it i.seq) (same_it i.host.0)
 
 pub same_name : (n : List ℕ) → name_eq n n ≡ true
 same_name n = nat_list_eq_equiv.refl n

@@ -6,6 +6,7 @@ use Rattle.std.specs.List.{list_all}
 use Rattle.std.proofs.lemmas.Simd.{map-map}
 use Rattle.std.proofs.lemmas.Option.{slice_get-map}
 use Rattle.nqs_base.specs.Same.{name_eq}
+use Rattle.nqs_base.proofs.Plain.{is_some-option_map}
 use Rattle.nqs_state.specs.State.{State}
 use Rattle.nqs_base_tables.specs.Table.{best_from}
 use Rattle.nqs_types.specs.declared.ids.Dest.{Dest}
@@ -32,10 +33,6 @@ use Rattle.nqs_rules.specs.Plain.{map_row, map_state}
 use Rattle.nqs_index.proofs.Numbers.{number-map}
 use Rattle.nqs_rules.proofs.ListMaps.{best_from-map, at_place}
 use Rattle.nqs_rules.proofs.FoundPlain.{is_busy-map}
-
-is_some-option_map : {V W : Type 0} (m : V → W) (o : Option V) → is_some (option_map m o) ≡ is_some o
-is_some-option_map m None = refl
-is_some-option_map m (Some v) = refl
 
 module _ {E F : Type 0} (f : E → F) where
   -- limits

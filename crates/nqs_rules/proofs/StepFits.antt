@@ -1,9 +1,10 @@
 -- What a step makes fits its state: commands.
 use Rattle.std.proofs.Common.{◌≡◌, ℕ, ◌+◌, Bool, true, false, not, ◌&&◌, ◌||◌, nat_lt, nat_le, List, [], ◌∷◌, filter, slice_get, Option, None, Some, Result, Ok}
-use Rattle.std.proofs.Common.{Err, is_ok, suc, refl, sym, ap, ◌∙◌, arith, if◌then◌else◌}
-use Rattle.std.proofs.lemmas.Bool.{and_parts, and_from, or_parts, or_right, leb-false, lt-ltb, not-false, not_from_false}
+use Rattle.std.proofs.Common.{Err, is_ok, refl, sym, ap, ◌∙◌, arith, if◌then◌else◌}
+use Rattle.std.proofs.lemmas.Bool.{and_parts, or_parts, or_right, leb-false, lt-ltb, not-false, not_from_false}
 use Rattle.std.specs.List.{list_all}
 use Rattle.std.specs.Option.{IfSome}
+use Rattle.nqs_base.proofs.Plain.{all_places}
 use Rattle.nqs_state.specs.State.{State}
 use Rattle.nqs_types.specs.Ids.{id_exact, peer_number_eq, peer_number_exact, hand_key}
 use Rattle.nqs_state.specs.Keys.{is_row}
@@ -41,11 +42,6 @@ use Rattle.nqs_rules.proofs.StateFacts.{keys_are}
 use Rattle.nqs_rules.proofs.RowFacts.{same_peer_number}
 use Rattle.nqs_rules.proofs.ConfOrder.{Allows, none_holds, causes_behind}
 use Rattle.nqs_rules.proofs.PathsFit.{completed_sane}
-
--- what is so at each place
-all_places : {V : Type 0} (p : V → Bool) (vs : List V) → ((n : ℕ) (v : V) → slice_get vs n ≡ Some v → p v ≡ true) → list_all p vs ≡ true
-all_places p [] h = refl
-all_places p (v ∷ vs) h = and_from (p v) (list_all p vs) (h 0 v refl) (all_places p vs (λ n w e. h (suc n) w e))
 
 module _ {E : Type 0} where
   -- a change, if there is one, fits and is within its limits

@@ -4,9 +4,9 @@ use Rattle.std.proofs.Common.{subst, ◌∙◌, Some, None, Bool, true, false, c
 use Rattle.std.specs.List.{position_or_len}
 use Rattle.std.proofs.lemmas.Bool.{eqb-true, lt-ltb}
 use Rattle.std.proofs.lemmas.Bool.Decides.{nat_tests}
-use Rattle.std.proofs.lemmas.List.{append-nil, length-append, length-drop, take_at, drop_at}
+use Rattle.std.proofs.lemmas.List.{append-nil, length-append, length-drop, take_at}
 use Rattle.std.proofs.Math.Seq.{drop-drop}
-use Rattle.nqs_base.proofs.Plain.{lt_itself}
+use Rattle.nqs_base.proofs.Plain.{lt_itself, rest_behind}
 use Rattle.nqs_words.specs.Quoted.{Quoted, quoted, quoted_text}
 use Rattle.nqs_words.specs.Words.{is_gap, end_of, next_word}
 use Rattle.nqs_words.specs.declared.words.Gaps.TheVariants.{Spaces}
@@ -86,9 +86,6 @@ next-start line place gap l is h w =
     let long : length gap < length (drop place line) = omega (arith, ap length is, length-append gap l, ap length w.2) in
     rw (first, lt-ltb (length gap) (length (drop place line)) long) refl
 
-dropped : (line : List ℕ) (place : ℕ) (gap l : List ℕ) → drop place line ≡ gap ++ l → drop (place + length gap) line ≡ l
-dropped line place gap l is = sym (drop-drop (length gap) place line) ∙ (ap (drop (length gap)) is ∙ drop_at gap l (length gap) refl)
-
 over-is : (rest : List ℕ) → EndsWord rest → is_over rest ≡ true
 over-is rest (inl e) = ap is_over e
 over-is rest (inr e) = ap is_over e.1
@@ -148,7 +145,7 @@ word-next : (line : List ℕ) (place : ℕ) (gap text word rest : List ℕ) → 
 unfolding word_there
 word-next line place gap text word rest is spaces (inl plain) over =
     let start = place + length gap in
-    let there = dropped line place gap (text ++ rest) is in
+    let there = rest_behind line place gap (text ++ rest) is in
     next-start line place gap (text ++ rest) is spaces (begins text plain.0)
     ∙ (plain-word line start text rest there plain.0 over ∙ (λ j. Found (record { text = sym plain.1 j; end = start + length text })))
   where
@@ -158,7 +155,7 @@ word-next line place gap text word rest is spaces (inl plain) over =
 word-next line place gap text word rest is spaces (inr written) over =
     let start = place + length gap in
     let all : drop place line ≡ gap ++ ((34 ∷ quoted_text word) ++ rest) = is ∙ ap (λ (t : List ℕ). gap ++ (t ++ rest)) written in
-    let there = dropped line place gap ((34 ∷ quoted_text word) ++ rest) all in
+    let there = rest_behind line place gap ((34 ∷ quoted_text word) ++ rest) all in
     let quote : begins_with_quote (drop start line) ≡ true = ap begins_with_quote there in
     next-start line place gap ((34 ∷ quoted_text word) ++ rest) all spaces (34, quoted_text word ++ rest, refl, (λ e. let h : 34 ≡ 32 = e in omega (arith, h)))
     ∙ (ap (λ (t : Bool). cond t (quoted_word line start) (Found (record {
@@ -172,7 +169,7 @@ bad-next : (line : List ℕ) (place : ℕ) → IsLine line → (h : BeginsBadly 
 unfolding word_there quoted_word
 bad-next line place is h =
     let start = place + length h.gap in
-    let there = dropped line place h.gap (34 ∷ h.rest) h.written in
+    let there = rest_behind line place h.gap (34 ∷ h.rest) h.written in
     let quote : begins_with_quote (drop start line) ≡ true = ap begins_with_quote there in
     let next = behind line start h.rest there in
     next-start line place h.gap (34 ∷ h.rest) h.written h.spaces (34, h.rest, refl, (λ e. let x : 34 ≡ 32 = e in omega (arith, x)))
@@ -184,7 +181,7 @@ bad-next line place is h =
     ∙ (ap (λ (l : List ℕ). by_quoted line (quoted (length l) l)) next ∙ by (quoted (length h.rest) h.rest) refl))
   where
     rest_is : IsLine h.rest
-    rest_is = subst IsLine (behind line (place + length h.gap) h.rest (dropped line place h.gap (34 ∷ h.rest) h.written))
+    rest_is = subst IsLine (behind line (place + length h.gap) h.rest (rest_behind line place h.gap (34 ∷ h.rest) h.written))
         (line-drop (place + length h.gap + 1) line is)
 
     over : (p : List ℕ × List ℕ) (t : Bool) → is_over p.1 ≡ t → h.rest ≡ quoted_text p.0 ++ p.1
@@ -217,7 +214,7 @@ held (suc n) line place [] true is less h = rw (bad-next line place is h) (refl,
 held (suc n) line place (word ∷ words) bad is less h =
     let b = h.1 in
     let end = place + length b.gap + length b.text in
-    let there = dropped line (place + length b.gap) b.text h.0 (dropped line place b.gap (b.text ++ h.0) b.written) in
+    let there = rest_behind line (place + length b.gap) b.text h.0 (rest_behind line place b.gap (b.text ++ h.0) b.written) in
     let shorter : length (drop end line) ≤ n = omega (
       arith,
       less,
@@ -361,7 +358,7 @@ holds (suc n) line is short = by (holds n) (begins line is)
     line_rest : (h : (word : List ℕ) × (rest : List ℕ) × BeginsWith line word rest) → IsLine h.1
     line_rest h =
         let b = h.2 in
-        subst IsLine (dropped line (0 + length b.gap) b.text h.1 (dropped line 0 b.gap (b.text ++ h.1) b.written))
+        subst IsLine (rest_behind line (0 + length b.gap) b.text h.1 (rest_behind line 0 b.gap (b.text ++ h.1) b.written))
         (line-drop (0 + length b.gap + length b.text) line is)
 
     by : ((rest : List ℕ) → IsLine rest → length rest ≤ n → (words : List (List ℕ)) × (bad : Bool) × Holds rest words bad) → Begins line

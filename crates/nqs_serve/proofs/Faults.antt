@@ -1,11 +1,8 @@
 -- Faults of one call in a longer one.
-use Rattle.std.proofs.Common.{◌≡◌, Ok, Err, IsErrOf, OnOk, IfOk, MatchResult, ap}
+use Rattle.std.proofs.Common.{◌≡◌, Ok, Err, IsErrOf, OnOk, IfOk, MatchResult}
 use Rattle.std.specs.declared.result.Result.{Result}
+pub use Rattle.nqs_base.proofs.Plain.{same_error}
 pub use Rattle.nqs_outside.proofs.Roses.{rose_since as rose_behind}
-
--- the same error, of another answer
-pub same_error : {T U E : Type 0} (d e : E) → IsErrOf {T = T} (Err d) e → IsErrOf {T = U} (Err d) e
-same_error d e is = let same : d ≡ e = cc in ap Err same
 
 -- what follows from what an Ok says
 pub on_ok : {T E P Q : Type 0} (r : Result T E) → (P → Q) → OnOk r P → OnOk r Q

@@ -1,7 +1,6 @@
 -- The events that a daemon takes are sane, and right.
 use Rattle.std.proofs.Common.{◌≡◌, ℕ, List, length, refl, sym, ◌∙◌, Bool, true, false, ◌&&◌, ◌||◌, ◌==◌, IsTrue, IfSome}
-use Rattle.std.proofs.lemmas.Bool.{and_parts, and_from}
-use Rattle.nqs_base.proofs.Plain.{or_last}
+use Rattle.std.proofs.lemmas.Bool.{and_parts, and_from, or_right}
 use Rattle.nqs_types.specs.declared.message.Tool.{Tool}
 use Rattle.nqs_types.specs.declared.message.Tool.TheVariants.{Qsub, Qstat, Qdel, Qmgr, Tick}
 use Rattle.nqs_types.specs.declared.message.Message.{Message}
@@ -105,7 +104,7 @@ right_by hosts m (Abort n) ok same from of_site = and_from _ _ from (sym same �
 right_by hosts m (Stage n path output) ok same from of_site = and_from _ _ from (sym same ∙ ok.0.0)
 right_by hosts m (Staged n) ok same from of_site = and_from _ _ from (sym same ∙ ok.0)
 right_by hosts m (Ask port token user tool words script) ok same from of_site = refl
-right_by hosts m (Ended port id start status output error) ok same from of_site = or_last (port == 0) (is_right_id hosts id) (and_from _ _ of_site ok.1.0)
+right_by hosts m (Ended port id start status output error) ok same from of_site = or_right (port == 0) (is_right_id hosts id) (and_from _ _ of_site ok.1.0)
 right_by hosts m (Answer token good text) ok same from of_site = tt
 right_by hosts m (EndedAck id start) ok same from of_site = tt
 

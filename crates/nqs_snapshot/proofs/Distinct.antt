@@ -2,18 +2,14 @@
 use Rattle.std.proofs.Common.{◌≡◌, Bool, true, false, not, ◌&&◌, ◌||◌, List, [], ◌∷◌, ◌++◌, map, refl, sym, ap, ◌∙◌}
 use Rattle.std.proofs.lemmas.List.{map-append}
 use Rattle.std.specs.List.{list_any}
-use Rattle.nqs_base.proofs.Plain.{or_last}
+use Rattle.std.proofs.lemmas.Bool.{or_right, and_right}
 use Rattle.nqs_base_tables.specs.Table.{has_key}
 use Rattle.nqs_rules.specs.InOrder.{are_distinct}
 use Rattle.nqs_rules.proofs.KeyFacts.{distinct-added}
 
 any_there : {K : Type 0} (t : K → Bool) (xs : List K) (k : K) (rest : List K) → t k ≡ true → list_any t (xs ++ k ∷ rest) ≡ true
 any_there t [] k rest is = ap (λ b. b || list_any t rest) is
-any_there t (x ∷ xs) k rest is = or_last (t x) (list_any t (xs ++ k ∷ rest)) (any_there t xs k rest is)
-
-no_and : (b c : Bool) → c ≡ false → (b && c) ≡ false
-no_and true c is = is
-no_and false c is = refl
+any_there t (x ∷ xs) k rest is = or_right (t x) (list_any t (xs ++ k ∷ rest)) (any_there t xs k rest is)
 
 module _ {K V : Type 0} (eq : K → K → Bool) (key : V → K) (exact : (a b : K) → eq a b ≡ true → a ≡ b) (same : (a : K) → eq a a ≡ true) where
   -- a value is found by its key exactly where the key is among the keys
@@ -30,7 +26,7 @@ module _ {K V : Type 0} (eq : K → K → Bool) (key : V → K) (exact : (a b : 
       by later true is h =
           let one : x ≡ k = sym (exact k x is) in
           ap (λ b. not b && are_distinct eq (xs ++ k ∷ rest)) (any_there (eq x) xs k rest (ap (eq x) (sym one) ∙ same x))
-      by later false is h = no_and (not (list_any (eq x) (xs ++ k ∷ rest))) (are_distinct eq (xs ++ k ∷ rest)) (later h)
+      by later false is h = and_right (not (list_any (eq x) (xs ++ k ∷ rest))) (are_distinct eq (xs ++ k ∷ rest)) (later h)
 
   -- a key that was there comes twice
   pub comes_twice : (front : List V) (v : V) (rest : List V) → list_any (has_key eq key (key v)) front ≡ true

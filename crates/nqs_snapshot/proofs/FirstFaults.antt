@@ -14,6 +14,7 @@ use Rattle.nqs_records.specs.Changes.{AreBytes}
 use Rattle.nqs_records.proofs.Steady.{Stays}
 use Rattle.nqs_records.proofs.FirstFaults.{both_bytes}
 use Rattle.std.proofs.lemmas.Bool.Decides.{nat_tests}
+use Rattle.nqs_base.proofs.Plain.{longer}
 use Rattle.nqs_snapshot.specs.declared.parts.Parts.{Parts}
 use Rattle.nqs_snapshot.specs.Spelling.{state_field}
 use Rattle.nqs_snapshot.specs.Sound.{is_sound}
@@ -50,9 +51,6 @@ followed bytes p n fits e less =
       text = here.1.text;
       is_place = omega (arith, here.1.behind);
     }
-
-longer : (n : ℕ) (bytes more : List ℕ) → n < length bytes → n < length (bytes ++ more)
-longer n bytes more less = omega (arith, length-append bytes more, less)
 
 trailing_by : (bytes : List ℕ) (p : Parts) (n : ℕ) → parts_at bytes 0 ≡ Ok (p, n) → n < length bytes → whole_of bytes ≡ Err (Trailing n)
 trailing_by bytes p n e less = whole_is bytes (Ok (p, n)) e ∙ ap (λ (t : Bool). cond t (Err (Trailing n)) (Ok p)) (lt-ltb n (length bytes) less)

@@ -4,6 +4,7 @@ use Rattle.std.proofs.lemmas.Bool.{and_parts, and_from}
 use Rattle.std.specs.List.{list_all, AllByRecursion}
 use Rattle.nqs_base.specs.declared.extent.Extent.{Extent}
 use Rattle.nqs_base.specs.Path.{is_path}
+use Rattle.nqs_base.proofs.Plain.{all_weaker}
 use Rattle.nqs_state.specs.State.{State}
 use Rattle.nqs_types.specs.declared.request.Row.{Row}
 use Rattle.nqs_types.specs.declared.request.Promise.{Promise}
@@ -45,19 +46,15 @@ module _ (s : State Extent) (h : IsInOrder s) where
 job_sane : (j : Job) → IsJob j → IsTrue (is_sane_job j)
 job_sane j is = and_from _ _ (and_from _ _ is.2 (path_sane j.out is.8)) (path_sane j.err is.9)
 
-pub each_so : {V : Type 0} (P Q : V → Type 0) → ((v : V) → P v → Q v) → (vs : List V) → AllByRecursion P vs → AllByRecursion Q vs
-each_so P Q to [] all = tt
-each_so P Q to (v ∷ vs) all = (to v all.0, each_so P Q to vs all.1)
-
 module _ (s : State Extent) (h : MayStand s) where
   pub rows_stand : AllByRecursion (λ (r : Row Extent). IsTrue (is_sane_job r.job)) s.rows
-  rows_stand = each_so IsRow (λ (r : Row Extent). IsTrue (is_sane_job r.job)) (λ r k. job_sane r.job k.1) s.rows h.1.0.1
+  rows_stand = all_weaker IsRow (λ (r : Row Extent). IsTrue (is_sane_job r.job)) (λ r k. job_sane r.job k.1) s.rows h.1.0.1
 
   pub promises_stand : AllByRecursion (λ (p : Promise Extent). IsTrue (is_sane_job p.row.job)) s.promises
-  promises_stand = each_so IsPromise (λ (p : Promise Extent). IsTrue (is_sane_job p.row.job)) (λ p k. job_sane p.row.job k.2.1) s.promises h.1.2.1
+  promises_stand = all_weaker IsPromise (λ (p : Promise Extent). IsTrue (is_sane_job p.row.job)) (λ p k. job_sane p.row.job k.2.1) s.promises h.1.2.1
 
   pub stages_stand : AllByRecursion (λ (t : Stage Extent). IsTrue (is_path t.path)) s.stages
-  stages_stand = each_so IsStage (λ (t : Stage Extent). IsTrue (is_path t.path)) (λ t k. path_sane t.path k.2) s.stages h.2.1.1
+  stages_stand = all_weaker IsStage (λ (t : Stage Extent). IsTrue (is_path t.path)) (λ t k. path_sane t.path k.2) s.stages h.2.1.1
 
   pub files_stand : AllByRecursion (λ (f : FileOut Extent). IsTrue (is_path f.path)) s.files
-  files_stand = each_so IsFile (λ (f : FileOut Extent). IsTrue (is_path f.path)) (λ f k. path_sane f.path k.1) s.files h.2.2.1
+  files_stand = all_weaker IsFile (λ (f : FileOut Extent). IsTrue (is_path f.path)) (λ f k. path_sane f.path k.1) s.files h.2.2.1

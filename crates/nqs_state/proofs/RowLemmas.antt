@@ -3,6 +3,7 @@ use Rattle.std.proofs.Common.{◌≡◌, Bool, true, false, List, [], ◌∷◌,
 use Rattle.std.specs.Prelude.{cond}
 use Rattle.std.specs.Option.{IfSome}
 use Rattle.std.proofs.lemmas.Option.{same_Some, none-some}
+use Rattle.nqs_base.proofs.Plain.{found_passes}
 use Rattle.nqs_base_tables.specs.Table.{change_first, without_first}
 use Rattle.nqs_types.specs.Ids.{id_eq}
 use Rattle.nqs_types.specs.declared.ids.RequestId.{RequestId}
@@ -14,14 +15,6 @@ use Rattle.nqs_index.proofs.SeatLemmas.{seat_gone, seat_changed}
 use Rattle.nqs_state.specs.Keys.{is_row}
 
 module _ {V : Type 0} (test : V → Bool) where
-  found_passes : (vs : List V) (v : V) → find test vs ≡ Some v → test v ≡ true
-  found_passes [] v h = absurd (none-some v h)
-  found_passes (x ∷ vs) v h = by (test x) refl h (found_passes vs v)
-    where
-      by : (b : Bool) → test x ≡ b → cond b (Some x) (find test vs) ≡ Some v → (find test vs ≡ Some v → test v ≡ true) → test v ≡ true
-      by true e h rest = ap test (sym (same_Some x v h)) ∙ e
-      by false e h rest = rest h
-
   -- what takes the place of the one that is found is found
   found_new : (w : V) → test w ≡ true → (vs : List V) (v : V) → find test vs ≡ Some v → find test (change_first test (λ _. w) vs) ≡ Some w
   found_new w passes [] v h = absurd (none-some v h)
