@@ -29,7 +29,7 @@ impl<V> Model for Held<V> {
 
 impl<V> Held<V> {
     /// The value.
-    pub fn get(&self) -> &V
+    pub(crate) fn get(&self) -> &V
         ensures { result.now ≡ self.now }
     {
         match self.room.as_ref() {
@@ -39,7 +39,7 @@ impl<V> Held<V> {
     }
 
     /// Takes the value out, and lets the room go.
-    pub fn into_inner(self) -> V
+    pub(crate) fn into_inner(self) -> V
         ensures { result ≡ self }
     {
         let Held { room } = self;
@@ -47,7 +47,7 @@ impl<V> Held<V> {
     }
 
     /// Exchanges the value for another.
-    pub fn exchange(&mut self, value: &mut V)
+    pub(crate) fn exchange(&mut self, value: &mut V)
         ensures inside { self.new ≡ value.old }
         ensures out { value.new ≡ self.old }
     {
@@ -58,7 +58,7 @@ impl<V> Held<V> {
     }
 
     /// Changes the value.
-    pub fn change<F: FnOnce(&mut V)>(&mut self, f: F)
+    pub(crate) fn change<F: FnOnce(&mut V)>(&mut self, f: F)
         requires { F.IsAlwaysCallable f }
         ensures { FnOnceReturnsAtMut F.FnOnce f self.old tt self.new }
     {
@@ -69,7 +69,7 @@ impl<V> Held<V> {
     }
 
     /// Changes the value, and answers what the change does.
-    pub fn ask<K, F: FnMut(&K, &mut V) -> bool>(&mut self, key: &K, f: &mut F) -> bool
+    pub(crate) fn ask<K, F: FnMut(&K, &mut V) -> bool>(&mut self, key: &K, f: &mut F) -> bool
         requires { (s : F) (x y : _) → F.pre s x y }
         ensures { CalledAtPair F.FnMut f.old key.now self.old result self.new f.new }
     {
@@ -82,7 +82,7 @@ impl<V> Held<V> {
 
 impl<V: Drop> Held<V> {
     /// Puts a value into its room.
-    pub fn fill(mut room: Room<V>, value: V) -> Self
+    pub(crate) fn fill(mut room: Room<V>, value: V) -> Self
         ensures { result ≡ value }
     {
         let _empty = Box::replace(&mut room, Some(value));

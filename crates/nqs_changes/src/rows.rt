@@ -27,7 +27,7 @@ pub fn row_runs(state: &HostState, id: &RequestId) -> bool
 }
 
 /// The row that a request makes where it comes in.
-pub fn new_row(carried: Carried, queue: Name, arrival: u64, script: Extent, alloc: Global) -> Row
+pub(crate) fn new_row(carried: Carried, queue: Name, arrival: u64, script: Extent, alloc: Global) -> Row
     ensures { result ≡ new_row carried queue arrival script }
 {
     let Carried {
@@ -115,7 +115,7 @@ pub fn started(state: &mut HostState, id: RequestId, device: Option<Name>)
 }
 
 /// A request waits in its queue again.
-pub fn requeued(state: &mut HostState, id: RequestId)
+pub(crate) fn requeued(state: &mut HostState, id: RequestId)
     ensures { content state.new ≡ change_row id requeued_row (content state.old) }
 {
     state

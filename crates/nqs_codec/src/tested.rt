@@ -6,12 +6,12 @@
 //! at. No call takes memory.
 
 ghost use Rattle.std.specs.Prelude.{◌≡◌, ◌≤◌, length, IfOk, IfErr, IfSome, IfNone};
-ghost use Rattle.nqs_base.specs.Path.{is_visible, path_allowed_at, PathAllowedBelow, IsFirstBadOfPath, has_parent};
+ghost use Rattle.nqs_base.specs.Path.{path_allowed_at, PathAllowedBelow, IsFirstBadOfPath};
 ghost use Rattle.nqs_codec.specs.Takes.{TakesBool, TakesName, TakesPath, IsShortAt, IsShortFault};
 
 use crate::fault::FieldFault;
 use crate::take::{part_at, take_u8};
-use nqs_base::{Extent, Name, NameFault};
+use nqs_base::{Extent, Name, NameFault, has_parent, is_visible};
 
 /// The yes or no at the place.
 pub fn take_bool(bytes: &[u8], place: u64) -> Result<(bool, u64), FieldFault>
@@ -61,12 +61,6 @@ pub fn take_name(bytes: &[u8], place: u64) -> Result<(Name, u64), FieldFault>
     }
 }
 
-fn is_visible(byte: u8) -> bool
-    ensures { result ≡ is_visible byte }
-{
-    byte.is_ascii_graphic()
-}
-
 fn may_begin_path(byte: u8) -> bool
     ensures { result ≡ path_allowed_at 0 byte }
 {
@@ -89,12 +83,6 @@ fn first_bad(path: &[u8]) -> Option<usize>
         }
     }
     None
-}
-
-fn has_parent(path: &[u8]) -> bool
-    ensures { result ≡ has_parent path.now }
-{
-    path.split(|b| *b == b'/').any(|c| c == b"..".as_slice())
 }
 
 /// Where the path lies that stands at the place. A component `..` is `Bad` at the place of the

@@ -15,14 +15,14 @@ pub struct Nobody {
 
 impl Nobody {
     /// It takes no memory.
-    pub fn new(alloc: Global) -> Nobody {
+    pub(crate) fn new(alloc: Global) -> Nobody {
         Nobody {
             classes: Table::new(alloc),
         }
     }
 
     /// No classes.
-    pub fn classes(&self) -> &Classes
+    pub(crate) fn classes(&self) -> &Classes
         ensures { result.now.items ≡ [] }
     {
         &self.classes

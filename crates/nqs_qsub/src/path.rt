@@ -2,13 +2,9 @@
 
 ghost use Rattle.std.specs.Prelude.{◌≡◌};
 ghost use Rattle.std.specs.List.{list_all};
-ghost use Rattle.nqs_base.specs.Path.{is_visible, begins_with_slash, has_parent, is_path};
+ghost use Rattle.nqs_base.specs.Path.{is_visible, begins_with_slash, is_path};
 
-fn is_visible(byte: u8) -> bool
-    ensures { result ≡ is_visible byte }
-{
-    byte.is_ascii_graphic()
-}
+use nqs_base::{has_parent, is_visible};
 
 fn all_visible(path: &[u8]) -> bool
     ensures { result ≡ list_all is_visible path.now }
@@ -23,12 +19,6 @@ fn begins_with_slash(path: &[u8]) -> bool
         Some((byte, _)) => *byte == b'/',
         None => false,
     }
-}
-
-fn has_parent(path: &[u8]) -> bool
-    ensures { result ≡ has_parent path.now }
-{
-    path.split(|b| *b == b'/').any(|c| c == b"..".as_slice())
 }
 
 /// Is it a path below the folder that it starts from: 1 to 255 bytes that are seen, no `/` in front

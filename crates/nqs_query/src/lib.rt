@@ -11,6 +11,5 @@ mod words;
 
 pub use laws::words_as_written;
 pub use nqs_put::{put_decimal, put_host, put_id, put_line_end, put_named, put_text, put_word};
-pub use refusal::put_refusal;
 pub use reply::print_reply;
 pub use words::{NotNames, read_qdel, read_qstat};

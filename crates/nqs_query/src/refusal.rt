@@ -49,7 +49,7 @@ fn put_in_use(alloc: Global, queue: &Name, count: u64, out: &mut Vec<u8>) -> Res
 }
 
 /// Appends the text of a refusal, without its number.
-pub fn put_refusal(alloc: Global, refusal: &Refusal, out: &mut Vec<u8>) -> Result<(), Memory>
+pub(crate) fn put_refusal(alloc: Global, refusal: &Refusal, out: &mut Vec<u8>) -> Result<(), Memory>
     ensures { OnOk result (out.new.items ≡ out.old.items ++ refusal_text refusal.now) }
 {
     match refusal {

@@ -12,14 +12,14 @@ pub(crate) struct Slot {
 
 impl Slot {
     /// How many bytes before the extent are free.
-    pub fn gap(&self) -> u64
+    pub(crate) fn gap(&self) -> u64
         ensures { result ≡ gap_of self.now }
     {
         self.place.saturating_sub(self.from)
     }
 
     /// The same extent, with the free bytes before it from here on.
-    pub fn set_from(self, from: Option<u64>) -> Slot
+    pub(crate) fn set_from(self, from: Option<u64>) -> Slot
         ensures { result ≡ set_from from self }
     {
         match from {

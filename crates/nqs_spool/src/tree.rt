@@ -52,7 +52,7 @@ pub(crate) struct Room {
 
 impl Room {
     /// Room for one slot. An `Err` is want of memory.
-    pub fn new(alloc: Global) -> Result<Room, AllocError> {
+    pub(crate) fn new(alloc: Global) -> Result<Room, AllocError> {
         let left = Box::new(alloc, Tree::new())?;
         let right = Box::new(alloc, Tree::new())?;
         Ok(Room { left, right })
@@ -69,7 +69,7 @@ pub(crate) struct Freed {
 
 impl Tree {
     /// The tree without slots.
-    pub fn new() -> Tree
+    pub(crate) fn new() -> Tree
         ensures { result ≡ [] }
     {
         Tree { node: Node::Leaf }
@@ -85,7 +85,7 @@ impl Tree {
     }
 
     /// How many slots stand one below the other at most.
-    pub fn height(&self) -> u8 {
+    pub(crate) fn height(&self) -> u8 {
         match &self.node {
             Node::Leaf => 0,
             Node::Fork(_, _, _, height, _) => *height,
@@ -109,7 +109,7 @@ impl Tree {
     }
 
     /// Where the first free bytes begin that are so many.
-    pub fn first_fit(&self, count: u64, end: u64) -> u64
+    pub(crate) fn first_fit(&self, count: u64, end: u64) -> u64
         requires { 0 < count }
         ensures { result ≡ first_fit count end self.now }
     {
@@ -129,7 +129,7 @@ impl Tree {
 
     /// Whether the bytes from the place on to `past` are free, where those behind all slots are
     /// from `end` to `limit`.
-    pub fn is_free(&self, place: u64, past: u64, end: u64, limit: u64) -> bool
+    pub(crate) fn is_free(&self, place: u64, past: u64, end: u64, limit: u64) -> bool
         requires { IsSomeRow self.now }
         ensures { result ≡ is_free place past end limit self.now }
     {
@@ -157,7 +157,7 @@ fn lies_between(place: u64, past: u64, from: u64, to: u64) -> bool
 
 impl Tree {
     /// One extent more. Answers where it ends, if it is the last.
-    pub fn insert(&mut self, room: Room, end: u64, place: u64, length: u32) -> Option<u64>
+    pub(crate) fn insert(&mut self, room: Room, end: u64, place: u64, length: u32) -> Option<u64>
         requires row { IsSomeRow self.old }
         requires small { place + length < 2 ^ 64 }
         ensures slots { self.new ≡ inserted place length end self.old }
@@ -193,7 +193,7 @@ impl Tree {
 
     /// Takes the extent at the place out, if there is one. The free bytes before it join those
     /// behind it.
-    pub fn remove(&mut self, place: u64) -> Freed
+    pub(crate) fn remove(&mut self, place: u64) -> Freed
         requires { IsSomeRow self.old }
         ensures slots { self.new ≡ removed place self.old }
         ensures from { result.from ≡ left_by place self.old }

@@ -2,7 +2,7 @@ use Rattle.std.proofs.Common.{rules, tests, ◌==◌}
 use Rattle.std.proofs.lemmas.Iterator.Search.{any_from_yields_List}
 use Rattle.std.proofs.lemmas.Iterator.Splits.{YieldsList-from_slice_split}
 use Rattle.nqs_base.specs.Path.{is_parent, has_parent}
-use Rattle.nqs_qsub.proofs.path.has_parent.Goals as goal
+use Rattle.nqs_base.proofs.path.has_parent.Goals as goal
 
 pub returns : goal.returns
 unfolding has_parent
