@@ -132,6 +132,16 @@ module _ {D : Type 0} {g : disk.Ghosts D} {T E : Type 0} (old now : Store D g) (
     -- which calls are to fail stays
     pub fuse : IsTrue g.tells → (which : Which) (i : ℕ) → fails_of now which i ≡ fails_of old which i
 
+module _ {D : Type 0} {g : disk.Ghosts D} (old : Store D g) (host : Host) where
+  -- a change of the host may be kept in an open store, for which memory was taken
+  pub record MayKeep (extents : List Extent) (capacity : ℕ) (record_text : List ℕ) (change : Change Extent) (puts : List (List ℕ)) : Type 0 where
+    -- the store isn't stopped
+    pub running : is_stopped old ≡ false
+    -- the change may be kept at the host, with these bytes
+    pub may : MayCommit host change puts
+    -- memory was taken
+    pub prepared : IsPrepared (spool.room_of old.spool) extents capacity record_text change puts
+
 module _ {D : Type 0} {g : disk.Ghosts D} (old now : Store D g) where
   -- for want of memory nothing happened: no call was made, and what was told is told
   pub record IsLeft : Type 0 where

@@ -21,3 +21,4 @@ pub mod Moments
 pub mod Steps
 pub mod Changing
 pub mod Calls
+pub mod PutCalls

@@ -1,5 +1,6 @@
 -- What one call of a journal, or of the root, leaves.
-use Rattle.std.specs.Prelude.{◌≡◌, ℕ, ◌+◌, ◌≤◌, ◌<◌, ◌^◌, Bool, false, IsTrue, List, [], ◌∷◌, ◌++◌, length, OnOk, OnErr}
+use Rattle.std.specs.Prelude.{◌≡◌, ℕ, ◌+◌, ◌≤◌, ◌<◌, ◌^◌, Bool, false, IsTrue, List, [], ◌∷◌, ◌++◌, length, Ok, IfOk, OnOk, OnErr}
+use Rattle.std.specs.Global.{Vec}
 use Rattle.std.specs.declared.result.Result.{Result}
 use Rattle.nqs_rules.specs.Journals.{byte_of}
 use Rattle.nqs_outside.specs.Causes.{Rose}
@@ -7,15 +8,28 @@ use Rattle.nqs_outside.specs.History.{Call, History, extended, moment, state_at,
 use Rattle.nqs_outside.specs.declared.disk.Disk as disk
 use Rattle.nqs_journal.specs.Text.{StandsAfter, snapshot_front}
 use Rattle.nqs_journal.specs.Plan.{append_calls, begin_calls}
+use Rattle.nqs_journal.specs.Either.{IsSnapshotText}
 use Rattle.nqs_journal.specs.Gate.{IsAtGate}
 use Rattle.nqs_journal.specs.Open.{disk_of, gate_of, count_of, is_stopped, history_of, Tells, BeforeOrAfter}
 use Rattle.nqs_journal.specs.declared.journal.Journal.{Journal}
+use Rattle.nqs_snapshot.specs.Reading.{snapshot_of}
 use Rattle.nqs_store.specs.Commits.{AreClear}
+use Rattle.nqs_store.specs.Told.{Host}
 
 -- the text of a journal that begins with a snapshot, which is no longer than a list in memory
 pub record IsTextOf (text snapshot : List ℕ) : Type 0 where
   pub small : length snapshot < 2 ^ 64
   pub is : text ≡ snapshot_front snapshot ++ 0 ∷ []
+
+module _ {E : Type 0} where
+  -- The text of a journal is written that begins with this snapshot of a host, and has no record.
+  pub record WritesCheckpoint (snapshot : List ℕ) (host : Host) (result : Result (Vec ℕ) E) : Type 0 where
+    -- it begins with the snapshot
+    pub text : IfOk result (λ text. IsTextOf text.items snapshot)
+    -- a journal may begin so
+    pub begins : IfOk result (λ text. IsSnapshotText text.items)
+    -- the snapshot is read as the host
+    pub reads : OnOk result (snapshot_of snapshot ≡ Ok host)
 
 module _ {D : Type 0} {g : disk.Ghosts D} where
   -- The journal begins anew with this text.

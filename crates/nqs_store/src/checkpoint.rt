@@ -1,17 +1,16 @@
 //! A checkpoint: the other journal begins anew with the host, and then the root's first byte names
 //! it.
 
-ghost use Rattle.std.specs.Prelude.{◌≡◌, false, not, IfOk, OnOk, IfErr, Ok};
+ghost use Rattle.std.specs.Prelude.{◌≡◌, not, IfErr};
 ghost use Rattle.nqs_state.specs.State.{content};
 ghost use Rattle.nqs_journal.specs.Either.{IsSnapshotText};
 ghost use Rattle.nqs_rules.specs.Journals.{journal_on, byte_of};
 ghost use Rattle.nqs_snapshot.specs.Spelling.{state_field};
-ghost use Rattle.nqs_snapshot.specs.Reading.{snapshot_of};
 ghost use Rattle.nqs_store.specs.Sound.{IsSoundHost};
 ghost use Rattle.nqs_store.specs.Calls.{Begins, MayStop, TurnsOver};
 ghost use Rattle.nqs_store.specs.Faults.{IsDisk};
 ghost use Rattle.nqs_store.specs.Stores.{pick};
-ghost use Rattle.nqs_store.specs.Steps.{IsTextOf, Names};
+ghost use Rattle.nqs_store.specs.Steps.{WritesCheckpoint, Names};
 
 use crate::fault::StoreFault;
 use crate::store::Store;
@@ -26,9 +25,7 @@ use std::alloc::Global;
 /// The text of a journal that begins with this host, and has no record. What it says is read back.
 pub(crate) fn checkpoint_text(alloc: Global, state: &HostState) -> Result<Vec<u8>, Memory>
     requires sound { IsSoundHost (content state.now) }
-    ensures text { IfOk result (λ text. IsTextOf text.items (state_field (content state.now))) }
-    ensures begins { IfOk result (λ text. IsSnapshotText text.items) }
-    ensures reads { OnOk result (snapshot_of (state_field (content state.now)) ≡ Ok (content state.now)) }
+    ensures { WritesCheckpoint (state_field (content state.now)) (content state.now) result }
 {
     let mut snapshot = Vec::new(alloc);
     write_state(alloc, state, &mut snapshot)?;
@@ -40,13 +37,6 @@ pub(crate) fn journal_disk(second: bool) -> Which
     ensures { result ≡ journal_on second }
 {
     if second { Which::Second } else { Which::First }
-}
-
-fn begin_anew<D: Disk>(journal: &mut Journal<D>, text: &[u8]) -> Result<(), Failed>
-    requires begins { IsSnapshotText text.now }
-    ensures { Begins journal.old journal.new text.now result }
-{
-    journal.begin_anew(text)
 }
 
 // The other journal begins with this text, where the active one is that on `second` or isn't.
@@ -61,9 +51,9 @@ fn begin_other<D: Disk>(
     ensures rest { pick on_second first.new second.new ≡ pick on_second first.old second.old }
 {
     if on_second {
-        begin_anew(first, text)
+        first.begin_anew(text)
     } else {
-        begin_anew(second, text)
+        second.begin_anew(text)
     }
 }
 

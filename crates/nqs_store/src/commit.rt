@@ -5,9 +5,8 @@ ghost use Rattle.nqs_base.specs.Want.{want};
 ghost use Rattle.nqs_state.specs.State.{content};
 ghost use Rattle.nqs_rules.specs.Journals.{is_due};
 ghost use Rattle.nqs_snapshot.specs.Spelling.{state_field};
-ghost use Rattle.nqs_spool.specs.Spooled.{room_of};
 ghost use Rattle.nqs_store.specs.Active.{ready, recorded};
-ghost use Rattle.nqs_store.specs.Calls.{MayCommit, IsPrepared, IsLeft, MayStop, KeepsChange, Records, Commits, Checkpoints};
+ghost use Rattle.nqs_store.specs.Calls.{MayCommit, MayKeep, IsLeft, MayStop, KeepsChange, Records, Commits, Checkpoints};
 ghost use Rattle.nqs_store.specs.Faults.{IsDisk};
 ghost use Rattle.nqs_store.specs.Sound.{IsSoundHost};
 
@@ -39,9 +38,7 @@ impl<D: Disk> Store<D> {
         extents: &mut Vec<Extent>,
         text: &mut Vec<u8>,
     ) -> Result<(), StoreFault>
-        requires running { is_stopped self.old ≡ false }
-        requires may { MayCommit (content state.now) change.old puts.now }
-        requires prepared { IsPrepared (room_of self.old.spool) extents.old.items (vec_capacity extents.old) text.old.items change.old puts.now }
+        requires { MayKeep self.old (content state.now) extents.old.items (vec_capacity extents.old) text.old.items change.old puts.now }
         ensures only { IfErr result IsDisk }
         ensures stops { MayStop self.old self.new StoreFault.Disk result }
         ensures keeps { KeepsChange self.old self.new change.old change.new puts.now (content state.now) (recorded (active_of self.old)) result }
@@ -74,10 +71,8 @@ impl<D: Disk> Store<D> {
         extents: &mut Vec<Extent>,
         text: &mut Vec<u8>,
     ) -> Result<(), StoreFault>
-        requires running { is_stopped self.old ≡ false }
         requires sound { IsSoundHost (content state.now) }
-        requires may { MayCommit (content state.now) change.old puts.now }
-        requires prepared { IsPrepared (room_of self.old.spool) extents.old.items (vec_capacity extents.old) text.old.items change.old puts.now }
+        requires may { MayKeep self.old (content state.now) extents.old.items (vec_capacity extents.old) text.old.items change.old puts.now }
         ensures only { IsErrOf result StoreFault.Stopped → ⊥ }
         ensures memory { IsErrOf result (StoreFault.Memory want) → (self.new ≡ self.old) × (change.new ≡ change.old) }
         ensures stops { MayStop self.old self.new StoreFault.Disk result }

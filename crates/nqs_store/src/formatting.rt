@@ -1,6 +1,6 @@
 //! The disks of a host that is formatted.
 
-ghost use Rattle.std.specs.Prelude.{◌≡◌, ◌⊎◌, ◌≤◌, ℕ, List, IsTrue, IsErrOf, OnOk, IfOk, IfErr, length, vec_len, ◌++◌, ◌∷◌, [], Ok};
+ghost use Rattle.std.specs.Prelude.{◌≡◌, ◌⊎◌, ◌≤◌, ℕ, List, IsTrue, IsErrOf, OnOk, IfErr, ◌++◌, ◌∷◌, [], Ok};
 ghost use Rattle.nqs_base.specs.Want.{want};
 ghost use Rattle.nqs_outside.specs.Causes.{Rose};
 ghost use Rattle.nqs_outside.specs.History.{Call, extended, StopsShort};
@@ -9,6 +9,7 @@ ghost use Rattle.nqs_journal.specs.Plan.{begin_calls};
 ghost use Rattle.nqs_records.specs.Changes.{MayStand, spelling};
 ghost use Rattle.nqs_records.specs.Kinds.{record_of};
 ghost use Rattle.nqs_store.specs.Formatted.{IsFormatted};
+ghost use Rattle.nqs_store.specs.PutCalls.{WritesChange};
 ghost use Rattle.nqs_types.specs.declared.change.Change.{Change};
 
 use crate::disks::Disks;
@@ -23,9 +24,7 @@ use std::alloc::Global;
 // The record of a change. The limits of its values keep it short.
 pub(crate) fn written(alloc: Global, change: &Change) -> Result<Vec<u8>, StoreFault>
     requires { MayStand change.now }
-    ensures text { IfOk result (λ text. text.items ≡ spelling change.now) }
-    ensures short { IfOk result (λ text. vec_len text ≤ 65536) }
-    ensures fault { IfErr result (λ fault. fault ≡ StoreFault.Memory want) }
+    ensures { WritesChange change.now result }
 {
     let mut text = Vec::new(alloc);
     write_change(alloc, change, &mut text)?;

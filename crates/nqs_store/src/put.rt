@@ -1,17 +1,10 @@
 //! The bytes of a change, put into the spool before its record is written.
 
-ghost use Rattle.std.specs.Prelude.{◌≡◌, ◌+◌, ◌<◌, ◌≤◌, [], List, IsTrue, OnOk, OnErr, IfOk, IfErr, drop, length, vec_len, vec_capacity};
-ghost use Rattle.std.specs.List.{AllByRecursion};
-ghost use Rattle.nqs_base.specs.Want.{want};
-ghost use Rattle.nqs_base.specs.declared.extent.Extent.{Extent};
-ghost use Rattle.nqs_outside.specs.History.{Call, extended};
-ghost use Rattle.nqs_spool.specs.Spooled.{disk_of, history_of, room_of, Tells};
-ghost use Rattle.nqs_rules.specs.Stepped.{stored_parts};
-ghost use Rattle.nqs_records.specs.Changes.{MayStand, spelling};
-ghost use Rattle.nqs_store.specs.Calls.{IsPrepared, Puts};
-ghost use Rattle.nqs_store.specs.Puts.{IsShortPut};
-ghost use Rattle.nqs_store.specs.Putting.{ArePut, ArePutFor};
+ghost use Rattle.std.specs.Prelude.{◌≡◌, drop, length, vec_capacity};
+ghost use Rattle.nqs_spool.specs.Spooled.{room_of};
+ghost use Rattle.nqs_records.specs.Changes.{MayStand};
 ghost use Rattle.nqs_records.specs.Extents.{first_or, parts_with, with_extents};
+ghost use Rattle.nqs_store.specs.PutCalls.{MayPut, MayPutFor, PutsAll, PutsFor, Prepares};
 
 use crate::fault::StoreFault;
 use crate::formatting::{read_back, written};
@@ -29,13 +22,8 @@ pub(crate) fn put_all<D: Disk>(
     puts: &[Bytes],
     extents: &mut Vec<Extent>,
 ) -> Result<(), Failed>
-    requires room { length puts.now ≤ room_of spool.old }
-    requires list { length extents.old.items + length puts.now ≤ vec_capacity extents.old }
-    requires short { AllByRecursion IsShortPut puts.now }
-    ensures puts { Puts spool.old spool.new puts.now result }
-    ensures grown { IsTrue D.tells → (calls : List Call) × (history_of spool.new ≡ extended (history_of spool.old) calls) }
-    // At Ok the new ones are live, and hold the bytes.
-    ensures done { OnOk result (ArePut puts.now spool.old spool.new extents.old.items extents.new.items) }
+    requires { MayPut (room_of spool.old) (length extents.old.items) (vec_capacity extents.old) puts.now }
+    ensures { PutsAll spool.old spool.new puts.now extents.old.items extents.new.items result }
 {
     let Some((put, later)) = puts.split_first() else {
         return Ok(());
@@ -93,12 +81,7 @@ pub(crate) fn prepared<D: Disk>(
     puts: &[Bytes],
 ) -> Result<(Vec<u8>, Vec<Extent>), StoreFault>
     requires { MayStand change.now }
-    ensures text { IfOk result (λ r. (r.0.items ≡ spelling change.now) × (vec_len r.0 ≤ 65536)) }
-    ensures extents { IfOk result (λ r. (r.1.items ≡ []) × (length puts.now ≤ vec_capacity r.1)) }
-    ensures room { OnOk result (length puts.now ≤ room_of spool.new) }
-    ensures fault { IfErr result (λ fault. fault ≡ StoreFault.Memory want) }
-    ensures same { disk_of spool.new ≡ disk_of spool.old }
-    ensures tells { (live : List Extent) → Tells spool.old live → Tells spool.new live }
+    ensures { Prepares spool.old spool.new change.now puts.now result }
 {
     let text = written(alloc, change)?;
     spool.make_room(puts.len() as u64)?;
@@ -116,14 +99,8 @@ pub(crate) fn put_bytes<D: Disk>(
     extents: &mut Vec<Extent>,
     text: &mut Vec<u8>,
 ) -> Result<(), Failed>
-    requires may_stand { MayStand change.old }
-    requires as_many { length puts.now ≡ length (stored_parts change.old) }
-    requires short { AllByRecursion IsShortPut puts.now }
-    requires prepared { IsPrepared (room_of spool.old) extents.old.items (vec_capacity extents.old) text.old.items change.old puts.now }
-    ensures puts { Puts spool.old spool.new puts.now result }
-    ensures unchanged { OnErr result (change.new ≡ change.old) }
-    ensures size { OnOk result (length text.new.items ≡ length text.old.items) }
-    ensures done { OnOk result (ArePutFor change.old change.new puts.now text.new.items spool.old spool.new) }
+    requires { MayPutFor (room_of spool.old) extents.old.items (vec_capacity extents.old) text.old.items change.old puts.now }
+    ensures { PutsFor spool.old spool.new change.old change.new puts.now text.old.items text.new.items result }
 {
     put_all(spool, puts, extents)?;
     set_extents(alloc, change, extents);

@@ -3,7 +3,7 @@ use Rattle.nqs_records.specs.Changes.{spelling}
 use Rattle.nqs_store.proofs.Short.{short_spelling}
 use Rattle.nqs_store.proofs.formatting.written.Goals as goal
 
-pub returns-clause-short : goal.returns-clause-short
-returns-clause-short c =
+pub returns : goal.returns
+returns c =
     let is = c.in_ok-write_change.ensures ∙ ap (λ (l : List ℕ). l ++ spelling c.args.change.now) c.new-text.ensures.items in
-    omega (arith, short_spelling c.args.change.now c.requires, ap length is, c.write_change.new.out.ok.0)
+    record { text = is; short = omega (arith, short_spelling c.args.change.now c.requires, ap length is, c.write_change.new.out.ok.0); fault = tt }

@@ -16,23 +16,24 @@ use Rattle.nqs_store.proofs.Putting.{held_idle, none_put, first_broken, later_br
 use Rattle.nqs_store.proofs.Runs.{none_clear, all_clear, later_fails, first_fails, failing, is_disk, one_clear}
 use Rattle.nqs_store.proofs.put.+put_all.Goals as goal
 
-pub returns-in_default-clause-done : goal.returns-in_default-clause-done
-returns-in_default-clause-done g t c = none_put c.args.spool.now c.args.puts.now c.args.extents.now.items c.in_default.ensures.cases
-
-pub returns-in_default-clause-puts : goal.returns-in_default-clause-puts
-returns-in_default-clause-puts g t c = record {
-  fault = tt;
-  later = search rules;
-  broken = λ told. tt;
-  due = λ told. none_clear (g.D.Disk.fails (disk_of c.args.spool.now)) (moment (history_of c.args.spool.now)) c.args.puts.now c.in_default.ensures.cases;
-  failing = λ told. tt;
-  fuse = λ told i. refl;
-  kept = λ told live tells x script has holds. held_idle (history_of c.args.spool.now) x script (tells.quiet told) holds;
-  still = λ told live tells x script has holds. holds;
+pub returns-in_default : goal.returns-in_default
+returns-in_default g t c = record {
+  puts = record {
+    fault = tt;
+    later = search rules;
+    broken = λ told. tt;
+    due = λ told. none_clear (g.D.Disk.fails (disk_of c.args.spool.now)) (moment (history_of c.args.spool.now)) c.args.puts.now c.in_default.ensures.cases;
+    failing = λ told. tt;
+    fuse = λ told i. refl;
+    kept = λ told live tells x script has holds. held_idle (history_of c.args.spool.now) x script (tells.quiet told) holds;
+    still = λ told live tells x script has holds. holds;
+  };
+  grown = search rules;
+  done = none_put c.args.spool.now c.args.puts.now c.args.extents.now.items c.in_default.ensures.cases;
 }
 
-pub returns-in-Err-clause-puts : goal.returns-in-Err-clause-puts
-returns-in-Err-clause-puts g t c =
+pub returns-in-Err : goal.returns-in-Err
+returns-in-Err g t c =
     let old = c.args.spool.now in
     let put = c.as_slice.result.now in
     let later = c.in-Some.later.now in
@@ -43,19 +44,23 @@ returns-in-Err-clause-puts g t c =
     let fault = is_disk c.in-Err.field-0 (λ is. absurd (omega (arith, short, e.too_long.0 (ap Err is))))
     (λ is. absurd (omega (arith, c.requires.room, size, e.memory (ap Err is)))) in
     record {
-      fault = e.disk (ap Err fault);
-      later = e.later;
-      broken = λ told. (let b = e.broken told (ap Err fault) in
-          first_broken (history_of old) (history_of c.put.new.self) _ put later is (place_for old put, b.0, b.1, b.2));
-      due = λ told. tt;
-      failing = λ told.
-          let b = e.broken told (ap Err fault) in
-          let one = failing _ _ _ (history_of old) (history_of c.put.new.self) (place_for old put) put b.0 b.1 b.2
-          (e.exact told short (λ is. absurd (omega (arith, c.requires.room, size, e.memory is)))) in
-          rw is (first_fails (g.D.Disk.fails (disk_of old)) (moment (history_of old)) put later (g.D.Disk.starved (disk_of c.put.new.self)) one);
-      fuse = e.fuse;
-      kept = e.kept;
-      still = e.still;
+      puts = record {
+        fault = e.disk (ap Err fault);
+        later = e.later;
+        broken = λ told. (let b = e.broken told (ap Err fault) in
+            first_broken (history_of old) (history_of c.put.new.self) _ put later is (place_for old put, b.0, b.1, b.2));
+        due = λ told. tt;
+        failing = λ told.
+            let b = e.broken told (ap Err fault) in
+            let one = failing _ _ _ (history_of old) (history_of c.put.new.self) (place_for old put) put b.0 b.1 b.2
+            (e.exact told short (λ is. absurd (omega (arith, c.requires.room, size, e.memory is)))) in
+            rw is (first_fails (g.D.Disk.fails (disk_of old)) (moment (history_of old)) put later (g.D.Disk.starved (disk_of c.put.new.self)) one);
+        fuse = e.fuse;
+        kept = e.kept;
+        still = e.still;
+      };
+      grown = search rules;
+      done = tt;
     }
 
 pub put_all-requires : goal.put_all-requires
@@ -68,26 +73,24 @@ put_all-requires g t c = λ κs within.
       less,
       (
         within,
-        (
-          omega (arith, c.requires.room, is.1, c.put.ensures.room),
-          (
-            omega (
-              arith,
-              c.requires.list,
-              is.1,
-              ap length pushed,
-              length-append c.args.extents.now.items
-                  (c.in-Ok.extent ∷ []),
-              c.push.ensures.capacity,
-            ),
-            (subst (AllByRecursion IsShortPut) is.0 c.requires.short).1,
-          ),
-        ),
+        record {
+          room = omega (arith, c.requires.room, is.1, c.put.ensures.room);
+          list = omega (
+            arith,
+            c.requires.list,
+            is.1,
+            ap length pushed,
+            length-append c.args.extents.now.items
+                (c.in-Ok.extent ∷ []),
+            c.push.ensures.capacity,
+          );
+          short = (subst (AllByRecursion IsShortPut) is.0 c.requires.short).1;
+        },
       ),
     )
 
-pub returns-in-Ok-clause-puts : goal.returns-in-Ok-clause-puts
-returns-in-Ok-clause-puts g t c =
+pub returns-in-Ok : goal.returns-in-Ok
+returns-in-Ok g t c =
     let old = c.args.spool.now in
     let mid = c.put.new.self in
     let put = c.as_slice.result.now in
@@ -99,38 +102,28 @@ returns-in-Ok-clause-puts g t c =
     let made : IsTrue g.D.Disk.tells → history_of mid ≡ extended (history_of old) (put_calls x.place put) =
     (λ told. e.made told ∙ ap (λ (x : Extent). extended (history_of old) (put_calls x.place put)) (sym e.extent)) in
     let clear = λ (told : IsTrue g.D.Disk.tells). one_clear (g.D.Disk.fails (disk_of old)) (moment (history_of old)) put (e.due told) in
-    record {
-      fault = on_err_weaker c.put_all.result (λ rose. rose_since _ _ _ e.later rose) l.fault;
-      later = omega (arith, e.later, l.later);
-      broken = λ told. on_err_weaker c.put_all.result
-          (later_broken (history_of old) (history_of mid) (history_of c.put_all.new.spool) _ _ _ x.place is (made told)) (l.broken told);
-      due = λ told. on_ok_weaker c.put_all.result (λ rest. rw is (all_clear (history_of old) (history_of mid) (g.D.Disk.fails (disk_of old))
-          (g.D.Disk.fails (disk_of mid)) x.place put later (made told) (e.fuse told) (clear told) rest)) (l.due told);
-      failing = λ told. on_err_weaker c.put_all.result (λ rest. rw is (later_fails (history_of old) (history_of mid) (g.D.Disk.fails (disk_of old))
-          (g.D.Disk.fails (disk_of mid)) x.place put later (made told) (e.fuse told) (clear told) (g.D.Disk.starved (disk_of c.put_all.new.spool)) rest))
-          (l.failing told);
-      fuse = λ told i. l.fuse told i ∙ e.fuse told i;
-      kept = λ told live tells y script has holds.
-          kept_on old mid c.put_all.new.spool x _ e.tells e.stored live y script _ tells has (c.put_all.ensures.grown told).1
-          (e.kept told live tells y script has holds) (e.still told live tells y script has holds)
-          (λ more tells' has' holds'. l.kept told more tells' y script has' holds');
-      still = λ told live tells y script has holds.
-          l.still told (x ∷ live) (e.tells live (x ∷ live) tells (with_first x live)) y script (inr has) (e.still told live tells y script has holds);
-    }
-
-pub returns-in-Ok-clause-done : goal.returns-in-Ok-clause-done
-returns-in-Ok-clause-done g t c =
-    let old = c.args.spool.now in
-    let mid = c.put.new.self in
-    let put = c.as_slice.result.now in
-    let later = c.in-Some.later.now in
-    let x = c.in-Ok.extent in
-    let e = c.in-Ok.ensures in
-    let is : c.args.puts.now ≡ put ∷ later = c.in-Some.ensures.cases.0 ∙ ap (λ l. l ∷ later) (sym c.as_slice.ensures) in
-    let made : IsTrue g.D.Disk.tells → history_of mid ≡ extended (history_of old) (put_calls x.place put) =
-    (λ told. e.made told ∙ ap (λ (x : Extent). extended (history_of old) (put_calls x.place put)) (sym e.extent)) in
     let small : IsExtent x = search rules in
     let pushed = c.push.ensures.items ∙ ap (λ r. if is_ok r then c.args.extents.now.items ++ x ∷ [] else c.args.extents.now.items) c.unwrap.ensures in
-    on_ok_weaker c.put_all.result (more_put old mid c.put_all.new.spool x put e.tells e.stored c.args.puts.now later c.args.extents.now.items _ _ is pushed
-    small
-    made c.put_all.ensures.puts.still) c.put_all.ensures.done
+    record {
+      puts = record {
+        fault = on_err_weaker c.put_all.result (λ rose. rose_since _ _ _ e.later rose) l.fault;
+        later = omega (arith, e.later, l.later);
+        broken = λ told. on_err_weaker c.put_all.result
+            (later_broken (history_of old) (history_of mid) (history_of c.put_all.new.spool) _ _ _ x.place is (made told)) (l.broken told);
+        due = λ told. on_ok_weaker c.put_all.result (λ rest. rw is (all_clear (history_of old) (history_of mid) (g.D.Disk.fails (disk_of old))
+            (g.D.Disk.fails (disk_of mid)) x.place put later (made told) (e.fuse told) (clear told) rest)) (l.due told);
+        failing = λ told. on_err_weaker c.put_all.result (λ rest. rw is (later_fails (history_of old) (history_of mid) (g.D.Disk.fails (disk_of old))
+            (g.D.Disk.fails (disk_of mid)) x.place put later (made told) (e.fuse told) (clear told) (g.D.Disk.starved (disk_of c.put_all.new.spool)) rest))
+            (l.failing told);
+        fuse = λ told i. l.fuse told i ∙ e.fuse told i;
+        kept = λ told live tells y script has holds.
+            kept_on old mid c.put_all.new.spool x _ e.tells e.stored live y script _ tells has (c.put_all.ensures.grown told).1
+            (e.kept told live tells y script has holds) (e.still told live tells y script has holds)
+            (λ more tells' has' holds'. l.kept told more tells' y script has' holds');
+        still = λ told live tells y script has holds.
+            l.still told (x ∷ live) (e.tells live (x ∷ live) tells (with_first x live)) y script (inr has) (e.still told live tells y script has holds);
+      };
+      grown = search rules;
+      done = on_ok_weaker c.put_all.result (more_put old mid c.put_all.new.spool x put e.tells e.stored c.args.puts.now later c.args.extents.now.items _ _ is
+          pushed small made c.put_all.ensures.puts.still) c.put_all.ensures.done;
+    }

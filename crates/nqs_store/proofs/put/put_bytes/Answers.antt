@@ -1,4 +1,4 @@
-use Rattle.std.proofs.Common.{◌∙◌, length, sym, ap, subst}
+use Rattle.std.proofs.Common.{rules, ◌∙◌, length, sym, ap, subst}
 use Rattle.nqs_records.specs.Changes.{MayStand, spelling}
 use Rattle.nqs_records.specs.Kinds.{record_of}
 use Rattle.nqs_records.specs.Extents.{with_extents}
@@ -17,8 +17,8 @@ put_extents-requires g c =
     ap length (c.deref_mut.ensures.value ∙ c.requires.prepared.text) ∙ sym (same_length c.args.change.now c.deref.result.now)
     ∙ ap (λ x. length (spelling x)) (sym c.set_extents.ensures)
 
-pub returns-clause-done : goal.returns-clause-done
-returns-clause-done g c =
+pub returns : goal.returns
+returns g c =
     let old = c.args.change.now in
     let xs = c.put_all.new.extents.items in
     let put = subst (λ l. ArePut c.args.puts.now c.args.spool.now c.put_all.new.spool l xs) c.requires.prepared.none c.in_ok-put_all.ensures.done in
@@ -30,9 +30,14 @@ returns-clause-done g c =
     let stands = subst MayStand (sym set) (stands_kept old xs c.requires.may_stand (subst (AllByRecursion IsExtent) (sym put.is) put.small)) in
     let whole = take_at c.put_extents.new.text (drop (length c.put_extents.new.text) c.args.text.now.items) c.args.text.now.len size in
     record {
-      extents = xs;
-      are_put = put;
-      change = set;
-      stands = stands;
-      read = ap record_of (sym c.deref-2.ensures.value) ∙ c.read_back.ensures stands (c.deref-2.ensures.value ∙ whole ∙ is);
+      puts = search rules;
+      unchanged = tt;
+      size = search rules;
+      done = record {
+        extents = xs;
+        are_put = put;
+        change = set;
+        stands = stands;
+        read = ap record_of (sym c.deref-2.ensures.value) ∙ c.read_back.ensures stands (c.deref-2.ensures.value ∙ whole ∙ is);
+      };
     }
