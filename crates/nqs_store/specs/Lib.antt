@@ -3,6 +3,7 @@ pub mod Told
 pub mod Live
 pub mod Sound
 pub mod TellFaults
+pub mod Telling
 pub mod Disks
 pub mod Stores
 pub mod Faults

@@ -6,25 +6,16 @@
 //! boot looks at these alone: a journal is told in the time of its records, however many of them
 //! are boots.
 
-ghost use Rattle.std.specs.Prelude.{◌≡◌, ◌≤◌, ◌^◌, ◌+◌, ◌++◌, [], length, IfOk, IfErr, OnOk, Ok, Err, Some, None, true, false, IsTrue};
+ghost use Rattle.std.specs.Prelude.{◌≡◌, ◌≤◌, ◌^◌, ◌+◌, ◌++◌, [], length, IfOk, OnOk, None, true, false, IsTrue};
 ghost use Rattle.nqs_state.specs.State.{content};
-ghost use Rattle.nqs_state.specs.Room.{HasRoom};
-ghost use Rattle.nqs_rules.specs.InOrder.{IsInOrder};
-ghost use Rattle.nqs_rules.specs.Sane.{is_sane_change};
-ghost use Rattle.nqs_rules.specs.Fits.{fits};
-ghost use Rattle.nqs_rules.specs.Applied.{applied};
-ghost use Rattle.nqs_changes.specs.Running.{runs_in, runs_only, may_run};
+ghost use Rattle.nqs_changes.specs.Running.{runs_in, runs_only};
 ghost use Rattle.nqs_journal.specs.Text.{header, snapshot_front, records};
 ghost use Rattle.nqs_journal.specs.Either.{front_of};
-ghost use Rattle.nqs_snapshot.specs.Reading.{snapshot_of};
 ghost use Rattle.nqs_base.specs.declared.extent.Extent.{Extent};
 ghost use Rattle.nqs_types.specs.declared.request.Row.{Row as RowOf};
-ghost use Rattle.nqs_records.specs.Kinds.{record_of};
-ghost use Rattle.nqs_records.specs.Changes.{MayStand};
-ghost use Rattle.nqs_records.specs.declared.fault.RecordFault.{RecordFault};
-ghost use Rattle.nqs_store.specs.Told.{record_taken, told, told_from, told_by};
-ghost use Rattle.nqs_store.specs.Sound.{IsSoundHost};
-ghost use Rattle.nqs_store.specs.TellFaults.{IsRefused, IsTakenFault, IsTellFault};
+ghost use Rattle.nqs_store.specs.Told.{record_taken, told, told_by};
+ghost use Rattle.nqs_store.specs.TellFaults.{IsRefused, IsTellFault};
+ghost use Rattle.nqs_store.specs.Telling.{ReadsChange, ReadsSnapshot, TellsHost, IsSoFar, MayMake, MakesChange, TakesRecord, TakesEach};
 ghost use Rattle.nqs_base.specs.Want.{want};
 
 use nqs_base::{Bytes, Memory};
@@ -63,8 +54,7 @@ impl From<Memory> for TellFault {
 
 // The change of the record whose gate stands at the place.
 fn change_of(alloc: Global, place: u64, payload: &[u8]) -> Result<Change, TellFault>
-    ensures ok { IfOk result (λ change. (record_of payload.now ≡ Ok change) × MayStand change) }
-    ensures err { IfErr result (IsRefused place ((fault : RecordFault) × (record_of payload.now ≡ Err fault))) }
+    ensures { ReadsChange place payload.now result }
 {
     match read_change(alloc, payload) {
         Ok(change) => Ok(change),
@@ -75,9 +65,8 @@ fn change_of(alloc: Global, place: u64, payload: &[u8]) -> Result<Change, TellFa
 
 // The host that is formatted by the first record.
 fn first_host(alloc: Global, payload: &[u8]) -> Result<HostState, TellFault>
-    ensures ok { IfOk result (λ state. (record_taken payload.now None ≡ Some (content state)) × IsSoundHost (content state)
-        × IsTrue (runs_only [] (content state))) }
-    ensures err { IfErr result (IsRefused 16 (record_taken payload.now None ≡ None)) }
+    ensures told { TellsHost (record_taken payload.now None) (IsRefused 16 (record_taken payload.now None ≡ None)) result }
+    ensures none { IfOk result (λ state. IsTrue (runs_only [] (content state))) }
 {
     match change_of(alloc, HEADER, payload)? {
         Change::Site { me, site } => Ok(formatted(alloc, me, site)?),
@@ -92,13 +81,8 @@ fn make_change(
     running: &mut Vec<RequestId>,
     change: Change,
 ) -> Result<(), Memory>
-    requires order { IsInOrder (content state.old) }
-    requires only { IsTrue (runs_only running.old.items (content state.old)) }
-    requires sane { IsTrue (is_sane_change change) }
-    requires fits { IsTrue (fits change (content state.old)) }
-    requires room { HasRoom change state.old }
-    ensures made { OnOk result (content state.new ≡ applied change (content state.old)) }
-    ensures running { OnOk result (running.new.items ≡ may_run change running.old.items) }
+    requires { MayMake state.old running.old.items change }
+    ensures { MakesChange change (content state.old) running.old.items (content state.new) running.new.items result }
 {
     match change {
         Change::Boot => {
@@ -126,12 +110,8 @@ fn take_record(
     place: u64,
     payload: &[u8],
 ) -> Result<(), TellFault>
-    requires sound { IsSoundHost (content state.old) }
-    requires only { IsTrue (runs_only running.old.items (content state.old)) }
-    ensures ok { OnOk result (record_taken payload.now (Some (content state.old)) ≡ Some (content state.new)) }
-    ensures sound { OnOk result (IsSoundHost (content state.new)) }
-    ensures only { OnOk result (IsTrue (runs_only running.new.items (content state.new))) }
-    ensures err { IfErr result (IsRefused place (record_taken payload.now (Some (content state.old)) ≡ None)) }
+    requires { IsSoFar (content state.old) running.old.items }
+    ensures { TakesRecord place payload.now (content state.old) (content state.new) running.new.items result }
 {
     let change = change_of(alloc, place, payload)?;
     if !fits(state, &change) {
@@ -166,8 +146,7 @@ fn running_of(alloc: Global, state: &HostState) -> Result<Vec<RequestId>, Memory
 
 // The host that a snapshot is read as.
 fn snapshot_host(alloc: Global, snapshot: &[u8]) -> Result<HostState, TellFault>
-    ensures ok { IfOk result (λ state. (snapshot_of snapshot.now ≡ Ok (content state)) × IsSoundHost (content state)) }
-    ensures err { IfErr result (IsRefused 24 ((fault : RecordFault) × (snapshot_of snapshot.now ≡ Err fault))) }
+    ensures { ReadsSnapshot snapshot.now result }
 {
     match read_state(alloc, snapshot) {
         Ok(state) => Ok(state),
@@ -184,12 +163,9 @@ fn take_records(
     place: u64,
     payloads: &[Bytes],
 ) -> Result<(), TellFault>
-    requires sound { IsSoundHost (content state.old) }
-    requires only { IsTrue (runs_only running.old.items (content state.old)) }
+    requires so_far { IsSoFar (content state.old) running.old.items }
     requires short { place + length (records payloads.now) ≤ 2 ^ 40 }
-    ensures ok { OnOk result (told_from (Some (content state.old)) payloads.now ≡ Some (content state.new)) }
-    ensures sound { OnOk result (IsSoundHost (content state.new)) }
-    ensures err { IfErr result (IsTakenFault (content state.old) place payloads.now) }
+    ensures { TakesEach place payloads.now (content state.old) (content state.new) running.new.items result }
 {
     let mut at = place;
     for payload in payloads {
@@ -202,8 +178,7 @@ fn take_records(
 // The host that records tell behind the header.
 fn tell_first(alloc: Global, payloads: &[Bytes]) -> Result<HostState, TellFault>
     requires { length (header ++ records payloads.now) ≤ 2 ^ 40 }
-    ensures ok { IfOk result (λ state. (told payloads.now ≡ Some (content state)) × IsSoundHost (content state)) }
-    ensures err { IfErr result (IsTellFault false [] payloads.now) }
+    ensures { TellsHost (told payloads.now) (IsTellFault false [] payloads.now) result }
 {
     let Some((first, later)) = payloads.split_first() else {
         return Err(TellFault::Untold(HEADER));
@@ -218,8 +193,7 @@ fn tell_first(alloc: Global, payloads: &[Bytes]) -> Result<HostState, TellFault>
 // The host that records tell behind a snapshot.
 fn tell_behind(alloc: Global, snapshot: &[u8], payloads: &[Bytes]) -> Result<HostState, TellFault>
     requires { length (snapshot_front snapshot.now ++ records payloads.now) ≤ 2 ^ 40 }
-    ensures ok { IfOk result (λ state. (told_by true snapshot.now payloads.now ≡ Some (content state)) × IsSoundHost (content state)) }
-    ensures err { IfErr result (IsTellFault true snapshot.now payloads.now) }
+    ensures { TellsHost (told_by true snapshot.now payloads.now) (IsTellFault true snapshot.now payloads.now) result }
 {
     let mut state = snapshot_host(alloc, snapshot)?;
     let mut running = running_of(alloc, &state)?;
@@ -236,8 +210,7 @@ pub(crate) fn tell(
     payloads: &[Bytes],
 ) -> Result<HostState, TellFault>
     requires { length (front_of has snapshot.now ++ records payloads.now) ≤ 2 ^ 40 }
-    ensures ok { IfOk result (λ state. (told_by has snapshot.now payloads.now ≡ Some (content state)) × IsSoundHost (content state)) }
-    ensures err { IfErr result (IsTellFault has snapshot.now payloads.now) }
+    ensures { TellsHost (told_by has snapshot.now payloads.now) (IsTellFault has snapshot.now payloads.now) result }
 {
     if has {
         tell_behind(alloc, snapshot, payloads)

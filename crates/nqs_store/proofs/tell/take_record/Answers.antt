@@ -1,4 +1,4 @@
-use Rattle.std.proofs.Common.{◌∙◌, ap, sym, subst, true, ◌≡◌}
+use Rattle.std.proofs.Common.{rules, ◌∙◌, ap, sym, subst, true, ◌≡◌}
 use Rattle.nqs_state.specs.State.{content}
 use Rattle.nqs_rules.specs.Applied.{applied}
 use Rattle.nqs_rules.specs.Fits.{fits}
@@ -11,24 +11,30 @@ use Rattle.nqs_store.specs.Sound.{IsSoundHost}
 use Rattle.nqs_store.proofs.ShortExtents.{live_short}
 use Rattle.nqs_store.proofs.tell.take_record.Goals as goal
 
-pub make_change-requires-clause-sane : goal.make_change-requires-clause-sane
-make_change-requires-clause-sane c = what_may_stand_is_sane c.in_ok-change.change c.in_ok-change.ensures.ok.1
+pub make_change-requires : goal.make_change-requires
+make_change-requires c = record {
+  order = search rules;
+  only = search rules;
+  sane = what_may_stand_is_sane c.in_ok-change.change c.in_ok-change.ensures.ok.1;
+  fits = search rules;
+  room = search rules;
+}
 
-pub returns-clause-sound : goal.returns-clause-sound
-returns-clause-sound c =
+pub returns : goal.returns
+returns c =
     let s = content c.args.state.now in
     let change = c.in_ok-change.change in
     let fit : fits change s ≡ true = sym c.fits.ensures ∙ c.if-not-fits.false in
     let now = c.in_ok-make_change.ensures.made ∙ ap (applied change) c.make_room.ensures.content in
-    subst IsSoundHost (sym now) (record {
-      order = applied_order change s c.requires.sound.order (what_may_stand_is_sane change c.in_ok-change.ensures.ok.1) fit;
-      consistent = applied_consistent s c.requires.sound.order c.requires.sound.consistent change fit;
-      short = live_short change s fit c.in_ok-change.ensures.ok.1 c.requires.sound.short;
-    })
-
-pub returns-clause-only : goal.returns-clause-only
-returns-clause-only c =
-    let s = content c.args.state.now in
-    let change = c.in_ok-change.change in
-    let now = c.in_ok-make_change.ensures.made ∙ ap (applied change) c.make_room.ensures.content in
-    (λ j. runs_only (c.in_ok-make_change.ensures.running j) (now j)) ∙ what_may_run change c.args.running.now.items s c.requires.only
+    record {
+      ok = search rules;
+      so_far = record {
+        sound = subst IsSoundHost (sym now) (record {
+          order = applied_order change s c.requires.sound.order (what_may_stand_is_sane change c.in_ok-change.ensures.ok.1) fit;
+          consistent = applied_consistent s c.requires.sound.order c.requires.sound.consistent change fit;
+          short = live_short change s fit c.in_ok-change.ensures.ok.1 c.requires.sound.short;
+        });
+        only = (λ j. runs_only (c.in_ok-make_change.ensures.running j) (now j)) ∙ what_may_run change c.args.running.now.items s c.requires.only;
+      };
+      err = tt;
+    }

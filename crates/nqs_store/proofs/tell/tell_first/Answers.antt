@@ -8,11 +8,14 @@ use Rattle.nqs_store.specs.Told.{record_taken}
 use Rattle.nqs_store.proofs.Telling.{told_first, bad_first, bad_later}
 use Rattle.nqs_store.proofs.tell.tell_first.Goals as goal
 
-pub returns-in_err-state-clause-err : goal.returns-in_err-state-clause-err
-returns-in_err-state-clause-err c =
+pub returns-in_err-state : goal.returns-in_err-state
+returns-in_err-state c =
     let p = err_from_is_err_and c.from_residual.result c.from_residual.ensures.1 in
-    rw (p.1, p.2) (bad_first c.args.payloads.now c.in-Some.first.now _ c.in-Some.later.now _ c.as_slice.ensures c.in-Some.ensures.cases.0
-    c.in_err-state.ensures.err)
+    record {
+      ok = rw p.1 tt;
+      err = rw (p.1, p.2) (bad_first c.args.payloads.now c.in-Some.first.now _ c.in-Some.later.now _ c.as_slice.ensures c.in-Some.ensures.cases.0
+          c.in_err-state.ensures.told.err);
+    }
 
 pub take_records-requires-clause-short : goal.take_records-requires-clause-short
 take_records-requires-clause-short c =
@@ -28,23 +31,33 @@ take_records-requires-clause-short c =
       c.len.ensures,
     )
 
-pub take_records-requires-clause-only : goal.take_records-requires-clause-only
-take_records-requires-clause-only c =
-    ap (λ l. runs_only l (content c.in_ok-state.state)) c.new-running.ensures.items ∙ c.in_ok-state.ensures.ok.2
+pub take_records-requires-clause-so_far : goal.take_records-requires-clause-so_far
+take_records-requires-clause-so_far c = record {
+  sound = c.in_ok-state.ensures.told.ok.1;
+  only = ap (λ l. runs_only l (content c.in_ok-state.state)) c.new-running.ensures.items ∙ c.in_ok-state.ensures.none;
+}
 
-pub returns-in_err-take_records-clause-err : goal.returns-in_err-take_records-clause-err
-returns-in_err-take_records-clause-err c =
+pub returns-in_err-take_records : goal.returns-in_err-take_records
+returns-in_err-take_records c =
     let p = err_from_is_err_and c.from_residual-in_err-take_records.result c.from_residual-in_err-take_records.ensures.1 in
     let first = c.in-Some.first.now in
     let host = content c.in_ok-state.state in
-    rw (p.1, p.2) (bad_later c.args.payloads.now first c.in-Some.later.now host _ _ c.in-Some.ensures.cases.0
-    (ap (λ q. record_taken q None) (sym c.as_slice.ensures) ∙ c.in_ok-state.ensures.ok.0) (omega (arith, c.len.ensures)) c.in_err-take_records.ensures.err)
+    record {
+      ok = rw p.1 tt;
+      err = rw (p.1, p.2) (bad_later c.args.payloads.now first c.in-Some.later.now host _ _ c.in-Some.ensures.cases.0
+          (ap (λ q. record_taken q None) (sym c.as_slice.ensures) ∙ c.in_ok-state.ensures.told.ok.0) (omega (arith, c.len.ensures))
+          c.in_err-take_records.ensures.err);
+    }
 
-pub returns-clause-ok : goal.returns-clause-ok
-returns-clause-ok c =
+pub returns : goal.returns
+returns c =
     let first = c.in-Some.first.now in
-    let host = content c.in_ok-state.state in (
-      told_first c.args.payloads.now first c.in-Some.later.now host _ c.in-Some.ensures.cases.0
-          (ap (λ q. record_taken q None) (sym c.as_slice.ensures) ∙ c.in_ok-state.ensures.ok.0) c.in_ok-take_records.ensures.ok,
-      c.in_ok-take_records.ensures.sound,
-    )
+    let host = content c.in_ok-state.state in
+    record {
+      ok = (
+        told_first c.args.payloads.now first c.in-Some.later.now host _ c.in-Some.ensures.cases.0
+            (ap (λ q. record_taken q None) (sym c.as_slice.ensures) ∙ c.in_ok-state.ensures.told.ok.0) c.in_ok-take_records.ensures.ok,
+        c.in_ok-take_records.ensures.so_far.sound,
+      );
+      err = tt;
+    }
