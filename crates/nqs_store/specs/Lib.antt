@@ -17,6 +17,7 @@ pub mod Putting
 pub mod Images
 pub mod Reads
 pub mod Opens
+pub mod Readings
 pub mod Commits
 pub mod Moments
 pub mod Steps

@@ -1,6 +1,8 @@
 -- What opening a host's disks finds.
 use Rattle.std.specs.Prelude.{◌≡◌, ◌⊎◌, ℕ, ◌≤◌, ◌^◌, Bool, false, not, IsTrue, List, length, Some, IfOk, IfErr, IsErrOf, MatchResult}
 use Rattle.std.specs.declared.result.Result.{Result}
+use Rattle.std.specs.List.{AllByRecursion}
+use Rattle.nqs_base.specs.declared.extent.Extent.{Extent}
 use Rattle.nqs_state.specs.State.{Plain, content}
 use Rattle.nqs_state.specs.declared.state.HostState.{HostState}
 use Rattle.nqs_types.specs.declared.world.Which.{Which}
@@ -23,7 +25,9 @@ use Rattle.nqs_outside.specs.declared.disk.Disk as disk
 use Rattle.nqs_journal.specs.Either.{front_of, IsSnapshot, StandsBy}
 use Rattle.nqs_journal.specs.Open as journals
 use Rattle.nqs_journal.specs.declared.journal.Journal.{Journal}
-use Rattle.nqs_spool.specs.Extents.{AreSound}
+use Rattle.nqs_spool.specs.Extents.{AreSound, Covers, past}
+use Rattle.nqs_spool.specs.Live.{kept}
+use Rattle.nqs_spool.specs.declared.live.LiveExtents.{LiveExtents}
 use Rattle.nqs_spool.specs.Spooled as spool
 use Rattle.nqs_spool.specs.declared.spool.Spool.{Spool}
 use Rattle.nqs_store.specs.Told.{Host, told_by}
@@ -49,6 +53,45 @@ module _ {D : Type 0} {g : disk.Ghosts D} where
     pub many : length payloads ≡ journals.count_of j
     pub records : told_by has snapshot payloads ≡ Some host
     pub spool : spool.Tells s (live host)
+
+  -- A spool is opened with the set of its live extents, and the other journal is laid at rest; or their disks are handed back.
+  pub record LaysAtRest (on_resting on_spool : D) (extents : LiveExtents) (result : Result (Journal D g × Spool D g) (LoadFault × D × D)) : Type 0 where
+    -- the spool tells the extents whose set it is
+    pub tells : IfOk result (λ r. (live : List Extent) → Covers (kept extents) live
+        → (IsTrue g.tells → AllByRecursion (λ x. past x ≤ length (bytes_now (g.history on_spool))) live) → spool.Tells r.1 live)
+    -- the disks are left alone
+    pub same : MatchResult result (λ r. (journals.disk_of r.0 ≡ on_resting) × (spool.disk_of r.1 ≡ on_spool))
+        (λ e. (e.1 ≡ on_resting) × (e.2 ≡ on_spool))
+    -- only memory may be wanting
+    pub fault : IfErr result (λ e. e.0 ≡ load.Memory want)
+
+  -- A journal, which stands on this disk, and a spool are opened, the other journal is laid at rest, and the host is told; or their disks
+  -- are handed back.
+  pub record OpensWith (on : Which) (on_active on_resting on_spool : D)
+      (result : Result (Journal D g × Journal D g × Spool D g × HostState) (LoadFault × D × D × D)) : Type 0 where
+    -- the journal and the spool tell the host
+    pub opened : IsTrue g.tells → IfOk result (λ r. AreOpened r.0 r.2 (content r.3))
+    -- the journal runs
+    pub running : IfOk result (λ r. journals.is_stopped r.0 ≡ false)
+    -- the host is sound
+    pub sound : IfOk result (λ r. IsSoundHost (content r.3))
+    -- its live extents end within 2^40 bytes, and no two meet
+    pub extents : IfOk result (λ r. (size : ℕ) × (size ≤ 2 ^ 40) × AreSound size (live (content r.3)))
+    -- a refusal says what is at fault
+    pub fault : IsTrue g.tells → IfErr result (λ e. (e.0 ≡ load.Memory want)
+        ⊎ IsBytesFault on (bytes_now (g.history on_active)) (bytes_now (g.history on_spool)) e.0)
+    -- a failed read was of the journal or of the spool
+    pub failed : IfErr result (λ e. (which : Which) → e.0 ≡ load.Disk which
+        → ((which ≡ on) × OneFailedToRead g.tells g.history g.fails g.faults on_active e.1)
+        ⊎ ((which ≡ SpoolDisk) × OneFailedToRead g.tells g.history g.fails g.faults on_spool e.3))
+    -- the journal is only read
+    pub active : MatchResult result (λ r. OnlyReadsOne g.tells g.history g.fails g.starved g.faults on_active (journals.disk_of r.0))
+        (λ e. OnlyReadsOne g.tells g.history g.fails g.starved g.faults on_active e.1)
+    -- the other is left alone
+    pub resting : MatchResult result (λ r. journals.disk_of r.1 ≡ on_resting) (λ e. e.2 ≡ on_resting)
+    -- the spool is only read
+    pub spool : MatchResult result (λ r. OnlyReadsOne g.tells g.history g.fails g.starved g.faults on_spool (spool.disk_of r.2))
+        (λ e. OnlyReadsOne g.tells g.history g.fails g.starved g.faults on_spool e.3)
 
 module _ {D : Type 0} {g : disk.Ghosts D} where
   -- The disks of a host are opened whose root names the journal on `second`, or the other; or they are handed back.

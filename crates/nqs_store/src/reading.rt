@@ -1,28 +1,21 @@
 //! A host read from its disks: the root's first byte, which names the active journal, that journal
 //! in either form, and the live extents in the spool.
 
-ghost use Rattle.std.specs.Prelude.{◌≡◌, ◌⊎◌, ◌<◌, ◌≤◌, ◌^◌, ◌++◌, ℕ, List, false, Some, IsTrue, IsErrOf, IfOk, IfErr, OnErr, MatchResult, length};
-ghost use Rattle.std.specs.List.{AllByRecursion};
+ghost use Rattle.std.specs.Prelude.{◌≡◌, ◌≤◌, ◌^◌, ◌++◌, List, IsTrue, length};
 ghost use Rattle.nqs_state.specs.State.{content};
 ghost use Rattle.nqs_base.specs.Want.{want};
 ghost use Rattle.nqs_base.specs.declared.extent.Extent.{Extent};
-ghost use Rattle.nqs_types.specs.declared.world.Which.{Which};
 ghost use Rattle.nqs_outside.specs.History.{IsQuiet, content as bytes_now};
-ghost use Rattle.nqs_rules.specs.Journals.{is_second};
-ghost use Rattle.nqs_spool.specs.Extents.{AreSound, Covers, past};
-ghost use Rattle.nqs_spool.specs.Live.{kept, end_of};
-ghost use Rattle.nqs_spool.specs.Spooled.{disk_of as spool_disk, history_of as spool_history, Tells as SpoolTells};
+ghost use Rattle.nqs_spool.specs.Live.{end_of};
+ghost use Rattle.nqs_spool.specs.Spooled.{disk_of as spool_disk, Tells as SpoolTells};
 ghost use Rattle.nqs_journal.specs.Faults.{IsReadingFault};
-ghost use Rattle.nqs_journal.specs.Open.{disk_of as journal_disk, history_of as journal_history, is_stopped as is_journal_stopped};
-ghost use Rattle.nqs_journal.specs.Open.{count_of as journal_count, Tells as JournalTells};
 ghost use Rattle.nqs_journal.specs.Text.{records};
 ghost use Rattle.nqs_journal.specs.Either.{front_of};
 ghost use Rattle.nqs_store.specs.Told.{told_by};
-ghost use Rattle.nqs_store.specs.Live.{live};
-ghost use Rattle.nqs_store.specs.Sound.{IsSoundHost};
-ghost use Rattle.nqs_store.specs.Opens.{AreRead, AreOpened};
-ghost use Rattle.nqs_store.specs.Faults.{JournalIsAt, IsHostFault, IsExtentFault, IsReadFault, IsBytesFault};
-ghost use Rattle.nqs_store.specs.Reads.{OnlyReadsOne, OneFailedToRead};
+ghost use Rattle.nqs_store.specs.Faults.{JournalIsAt, IsHostFault};
+ghost use Rattle.nqs_store.specs.Telling.{TellsHost};
+ghost use Rattle.nqs_store.specs.Opens.{LaysAtRest, OpensWith};
+ghost use Rattle.nqs_store.specs.Readings.{BuildsExtents, ReadsRoot, ReadsHost, FindsHost, RereadsHost};
 
 use crate::fault::LoadFault;
 use crate::live::live_extents;
@@ -37,9 +30,7 @@ use std::alloc::Global;
 
 /// Whether the root names the journal on `second`: its first byte is odd.
 pub(crate) fn names_second<D: Disk>(root: &mut D) -> Result<bool, Failed>
-    ensures names { IsTrue D.tells → IfOk result (λ second. second ≡ is_second (bytes_now (D.history root.old))) }
-    ensures failed { OnErr result (OneFailedToRead D.tells D.history D.fails D.faults root.old root.new) }
-    ensures reads { OnlyReadsOne D.tells D.history D.fails D.starved D.faults root.old root.new }
+    ensures { ReadsRoot D.tells D.history D.fails D.starved D.faults root.old root.new result }
 {
     let mut byte = [0u8; 1];
     match root.read_at(0, &mut byte) {
@@ -87,8 +78,7 @@ fn told_host(
     payloads: &[Bytes],
 ) -> Result<HostState, LoadFault>
     requires { length (front_of has snapshot.now ++ records payloads.now) ≤ 2 ^ 40 }
-    ensures ok { IfOk result (λ state. (told_by has snapshot.now payloads.now ≡ Some (content state)) × IsSoundHost (content state)) }
-    ensures err { IfErr result (IsHostFault on has snapshot.now payloads.now) }
+    ensures { TellsHost (told_by has snapshot.now payloads.now) (IsHostFault on has snapshot.now payloads.now) result }
 {
     match tell(alloc, has, snapshot, payloads) {
         Ok(state) => Ok(state),
@@ -99,10 +89,7 @@ fn told_host(
 
 // The set of a host's live extents, which a spool of so many bytes may have.
 fn sound_extents(alloc: Global, state: &HostState, size: u64) -> Result<LiveExtents, LoadFault>
-    ensures sound { IfOk result (λ _. AreSound size (live (content state.now))) }
-    ensures covers { IfOk result (λ extents. Covers (kept extents) (live (content state.now))) }
-    ensures end { IfOk result (λ extents. end_of extents ≤ size) }
-    ensures err { IfErr result (IsExtentFault size (live (content state.now))) }
+    ensures { BuildsExtents size (content state.now) result }
 {
     let extents = live_extents(alloc, state)?;
     match LiveExtents::load_sound(alloc, &extents, size) {
@@ -122,14 +109,7 @@ fn host_in<D: Disk>(
     spool: &mut D,
 ) -> Result<(HostState, LiveExtents), LoadFault>
     requires { length (front_of has snapshot.now ++ records payloads.now) ≤ 2 ^ 40 }
-    ensures host { IfOk result (λ r. (told_by has snapshot.now payloads.now ≡ Some (content r.0)) × IsSoundHost (content r.0)
-        × Covers (kept r.1) (live (content r.0))) }
-    ensures extents { IfOk result (λ r. (size : ℕ) × (size ≤ 2 ^ 40) × AreSound size (live (content r.0))
-        × (IsTrue D.tells → size ≡ length (bytes_now (D.history spool.old))) × (end_of r.1 ≤ size)) }
-    ensures fault { IsTrue D.tells → IfErr result (IsReadFault on has snapshot.now payloads.now (bytes_now (D.history spool.old))) }
-    ensures failed { (which : Which) → IsErrOf result (LoadFault.Disk which) → (which ≡ Which.Spool)
-        × OneFailedToRead D.tells D.history D.fails D.faults spool.old spool.new }
-    ensures reads { OnlyReadsOne D.tells D.history D.fails D.starved D.faults spool.old spool.new }
+    ensures { ReadsHost D.tells D.history D.fails D.starved D.faults on has snapshot.now payloads.now spool.old spool.new result }
 {
     let state = told_host(alloc, on, has, snapshot, payloads)?;
     let Ok(size) = spool.len() else {
@@ -147,23 +127,17 @@ fn host_with<D: Disk>(
     snapshot: &[u8],
     payloads: &[Bytes],
     spool: &mut Spool<D>,
-) -> Result<HostState, LoadFault>
+) -> Result<(HostState, LiveExtents), LoadFault>
     requires { length (front_of has snapshot.now ++ records payloads.now) ≤ 2 ^ 40 }
-    ensures host { IfOk result (λ state. (told_by has snapshot.now payloads.now ≡ Some (content state)) × IsSoundHost (content state)) }
-    ensures extents { IfOk result (λ state. (size : ℕ) × (size ≤ 2 ^ 40) × AreSound size (live (content state))
-        × (IsTrue D.tells → size ≡ length (bytes_now (spool_history spool.old)))) }
-    ensures fault { IsTrue D.tells → IfErr result (IsReadFault on has snapshot.now payloads.now (bytes_now (spool_history spool.old))) }
-    ensures failed { (which : Which) → IsErrOf result (LoadFault.Disk which) → (which ≡ Which.Spool)
-        × OneFailedToRead D.tells D.history D.fails D.faults (spool_disk spool.old) (spool_disk spool.new) }
-    ensures reads { OnlyReadsOne D.tells D.history D.fails D.starved D.faults (spool_disk spool.old) (spool_disk spool.new) }
+    ensures read { ReadsHost D.tells D.history D.fails D.starved D.faults on has snapshot.now payloads.now (spool_disk spool.old) (spool_disk spool.new) result }
     ensures tells { (live : List Extent) → SpoolTells spool.old live → SpoolTells spool.new live }
 {
     let state = told_host(alloc, on, has, snapshot, payloads)?;
     let Ok(size) = spool.length() else {
         return Err(LoadFault::Disk(Which::Spool));
     };
-    sound_extents(alloc, &state, size)?;
-    Ok(state)
+    let extents = sound_extents(alloc, &state, size)?;
+    Ok((state, extents))
 }
 
 /// The host that the journal on this disk and the spool tell.
@@ -173,15 +147,7 @@ pub(crate) fn read_host<D: Disk>(
     active: &mut D,
     spool: &mut D,
 ) -> Result<HostState, LoadFault>
-    ensures found { IsTrue D.tells → IfOk result (λ state. AreRead (bytes_now (D.history active.old)) (bytes_now (D.history spool.old)) (content state)) }
-    ensures sound { IfOk result (λ state. IsSoundHost (content state)) }
-    ensures extents { IfOk result (λ state. (size : ℕ) × (size ≤ 2 ^ 40) × AreSound size (live (content state))) }
-    ensures fault { IsTrue D.tells → IfErr result (IsBytesFault on (bytes_now (D.history active.old)) (bytes_now (D.history spool.old))) }
-    ensures failed { (which : Which) → IsErrOf result (LoadFault.Disk which)
-        → ((which ≡ on) × OneFailedToRead D.tells D.history D.fails D.faults active.old active.new)
-        ⊎ ((which ≡ Which.Spool) × OneFailedToRead D.tells D.history D.fails D.faults spool.old spool.new) }
-    ensures active { OnlyReadsOne D.tells D.history D.fails D.starved D.faults active.old active.new }
-    ensures spool { OnlyReadsOne D.tells D.history D.fails D.starved D.faults spool.old spool.new }
+    ensures { FindsHost D.tells D.history D.fails D.starved D.faults on active.old active.new spool.old spool.new result }
 {
     let mut snapshot = Vec::new(alloc);
     let mut found = Vec::new(alloc);
@@ -201,26 +167,16 @@ pub(crate) fn reread_host<D: Disk>(
     journal: &mut Journal<D>,
     spool: &mut Spool<D>,
 ) -> Result<HostState, LoadFault>
-    ensures found { IsTrue D.tells
-        → IfOk result (λ state. AreRead (bytes_now (journal_history journal.old)) (bytes_now (spool_history spool.old)) (content state)) }
-    ensures sound { IfOk result (λ state. IsSoundHost (content state)) }
-    ensures extents { IfOk result (λ state. (size : ℕ) × (size ≤ 2 ^ 40) × AreSound size (live (content state))) }
-    ensures fault { IsTrue D.tells → IfErr result (IsBytesFault on (bytes_now (journal_history journal.old)) (bytes_now (spool_history spool.old))) }
-    ensures failed { (which : Which) → IsErrOf result (LoadFault.Disk which)
-        → ((which ≡ on) × OneFailedToRead D.tells D.history D.fails D.faults (journal_disk journal.old) (journal_disk journal.new))
-        ⊎ ((which ≡ Which.Spool) × OneFailedToRead D.tells D.history D.fails D.faults (spool_disk spool.old) (spool_disk spool.new)) }
-    ensures active { OnlyReadsOne D.tells D.history D.fails D.starved D.faults (journal_disk journal.old) (journal_disk journal.new) }
-    ensures spool { OnlyReadsOne D.tells D.history D.fails D.starved D.faults (spool_disk spool.old) (spool_disk spool.new) }
-    ensures stays { (is_journal_stopped journal.new ≡ is_journal_stopped journal.old) × (journal_count journal.new ≡ journal_count journal.old) }
-    ensures tells { IsTrue D.tells → (front : List ℕ) (payloads : List (List ℕ)) → JournalTells journal.old front payloads
-        → JournalTells journal.new front payloads }
-    ensures kept { (live : List Extent) → SpoolTells spool.old live → SpoolTells spool.new live }
+    ensures { RereadsHost on journal.old journal.new spool.old spool.new result }
 {
     let mut snapshot = Vec::new(alloc);
     let mut found = Vec::new(alloc);
     match journal.reread_either(alloc, &mut snapshot, &mut found) {
         Err(fault) => Err(journal_fault(on, fault)),
-        Ok(has) => host_with(alloc, on, has, &snapshot, &found, spool),
+        Ok(has) => {
+            let (state, _extents) = host_with(alloc, on, has, &snapshot, &found, spool)?;
+            Ok(state)
+        }
     }
 }
 
@@ -231,12 +187,8 @@ fn open_rest<D: Disk>(
     spool: D,
     extents: LiveExtents,
 ) -> Result<(Journal<D>, Spool<D>), (LoadFault, D, D)>
-    requires within { IsTrue D.tells → end_of extents ≤ length (bytes_now (D.history spool)) }
-    requires quiet { IsTrue D.tells → IsQuiet (D.history spool) }
-    ensures tells { IfOk result (λ r. (live : List Extent) → Covers (kept extents) live
-        → (IsTrue D.tells → AllByRecursion (λ x. past x ≤ length (bytes_now (D.history spool))) live) → SpoolTells r.1 live) }
-    ensures same { MatchResult result (λ r. (journal_disk r.0 ≡ resting) × (spool_disk r.1 ≡ spool)) (λ e. (e.1 ≡ resting) × (e.2 ≡ spool)) }
-    ensures fault { IfErr result (λ e. e.0 ≡ LoadFault.Memory want) }
+    requires { IsTrue D.tells → (end_of extents ≤ length (bytes_now (D.history spool))) × IsQuiet (D.history spool) }
+    ensures { LaysAtRest resting spool extents result }
 {
     match Journal::rest(alloc, resting) {
         Err((fault, resting)) => Err((unrested(fault), resting, spool)),
@@ -254,20 +206,7 @@ pub(crate) fn open_with<D: Disk>(
     mut spool: D,
 ) -> Result<(Journal<D>, Journal<D>, Spool<D>, HostState), (LoadFault, D, D, D)>
     requires { IsTrue D.tells → IsQuiet (D.history active) × IsQuiet (D.history spool) }
-    ensures opened { IsTrue D.tells → IfOk result (λ r. AreOpened r.0 r.2 (content r.3)) }
-    ensures running { IfOk result (λ r. is_journal_stopped r.0 ≡ false) }
-    ensures sound { IfOk result (λ r. IsSoundHost (content r.3)) }
-    ensures extents { IfOk result (λ r. (size : ℕ) × (size ≤ 2 ^ 40) × AreSound size (live (content r.3))) }
-    ensures fault { IsTrue D.tells → IfErr result (λ e. (e.0 ≡ LoadFault.Memory want)
-        ⊎ IsBytesFault on (bytes_now (D.history active)) (bytes_now (D.history spool)) e.0) }
-    ensures failed { IfErr result (λ e. (which : Which) → e.0 ≡ LoadFault.Disk which
-        → ((which ≡ on) × OneFailedToRead D.tells D.history D.fails D.faults active e.1)
-        ⊎ ((which ≡ Which.Spool) × OneFailedToRead D.tells D.history D.fails D.faults spool e.3)) }
-    ensures active { MatchResult result (λ r. OnlyReadsOne D.tells D.history D.fails D.starved D.faults active (journal_disk r.0))
-        (λ e. OnlyReadsOne D.tells D.history D.fails D.starved D.faults active e.1) }
-    ensures resting { MatchResult result (λ r. journal_disk r.1 ≡ resting) (λ e. e.2 ≡ resting) }
-    ensures spool { MatchResult result (λ r. OnlyReadsOne D.tells D.history D.fails D.starved D.faults spool (spool_disk r.2))
-        (λ e. OnlyReadsOne D.tells D.history D.fails D.starved D.faults spool e.3) }
+    ensures { OpensWith on active resting spool result }
 {
     let mut snapshot = Vec::new(alloc);
     let mut found = Vec::new(alloc);

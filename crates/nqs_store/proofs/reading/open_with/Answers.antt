@@ -1,45 +1,66 @@
-use Rattle.std.proofs.Common.{◌≡◌, ◌∙◌, ◌++◌, ◌≤◌, Some, length, sym, ap, subst, arith, length-append}
+use Rattle.std.proofs.Common.{rules, ◌≡◌, ◌∙◌, ◌++◌, ◌≤◌, Some, length, sym, ap, subst, arith, length-append}
 use Rattle.std.specs.List.{AllByRecursion}
 use Rattle.nqs_state.specs.State.{content}
-use Rattle.nqs_outside.specs.History.{content as bytes_now}
+use Rattle.nqs_outside.specs.History.{IsQuiet, content as bytes_now}
 use Rattle.nqs_spool.specs.Extents.{past}
 use Rattle.nqs_store.specs.Live.{live}
 use Rattle.nqs_store.specs.Told.{told_by}
 use Rattle.nqs_store.proofs.reading.open_with.Goals as goal
 
-pub open_rest-requires-clause-within : goal.open_rest-requires-clause-within
-open_rest-requires-clause-within g c = λ told.
+pub open_rest-requires : goal.open_rest-requires
+open_rest-requires g c = λ told.
     let e = c.in-Ok-host_in.ensures.extents in
-    omega (arith, e.4, e.3 told, ap (λ h. length (bytes_now h)) (c.host_in.ensures.reads.same told))
+    let same = c.host_in.ensures.reads.same told in
+    (omega (arith, e.4, e.3 told, ap (λ h. length (bytes_now h)) same), subst IsQuiet (sym same) (c.requires told).1)
 
-pub returns-in-Err-open_rest-clause-active : goal.returns-in-Err-open_rest-clause-active
-returns-in-Err-open_rest-clause-active g c =
+pub returns-in-Err-open_rest : goal.returns-in-Err-open_rest
+returns-in-Err-open_rest g c =
     let back = c.close-in-Err-open_rest.ensures in
     let e = c.in-Ok.ensures in
     record {
-      same = λ told. ap g.D.Disk.history back ∙ e.same told;
-      fuse = λ told i. ap (λ d. g.D.Disk.fails d i) back ∙ e.fuse told i;
-      starved = λ told. ap g.D.Disk.starved back ∙ e.starved told;
-      later = omega (arith, ap g.D.Disk.faults back, e.later);
+      opened = λ told. tt;
+      running = tt;
+      sound = tt;
+      extents = tt;
+      fault = search rules;
+      failed = search rules;
+      active = record {
+        same = λ told. ap g.D.Disk.history back ∙ e.same told;
+        fuse = λ told i. ap (λ d. g.D.Disk.fails d i) back ∙ e.fuse told i;
+        starved = λ told. ap g.D.Disk.starved back ∙ e.starved told;
+        later = omega (arith, ap g.D.Disk.faults back, e.later);
+      };
+      resting = search rules;
+      spool = search rules;
     }
 
-pub returns-clause-opened : goal.returns-clause-opened
-returns-clause-opened g c = λ told.
-    let t = c.in-Ok.ensures.tells told in
-    let host = content c.in-Ok-host_in.state in
-    let front = c.deref.ensures.value ∙ t.4 ∙ ap (λ l. l ++ t.0) c.new-snapshot.ensures.items in
-    let all = c.deref-in-Ok.ensures.value ∙ t.5 ∙ ap (λ l. l ++ t.1) c.new-found.ensures.items in
-    let e = c.in-Ok-host_in.ensures in
-    let size = e.extents.3 told ∙ ap (λ h. length (bytes_now h)) (sym (c.host_in.ensures.reads.same told)) in
-    record {
-      has = c.in-Ok.has;
-      snapshot = t.0;
-      payloads = t.1;
-      is = t.2;
-      journal = t.3;
-      many = omega (arith, c.in-Ok.ensures.counted, ap length t.5, length-append c.new-found.result.items t.1);
-      records = subst (λ s. told_by c.in-Ok.has s t.1 ≡ Some host) front
-          (subst (λ ps. told_by c.in-Ok.has c.deref.result.now ps ≡ Some host) all c.in-Ok-host_in.ensures.host.0);
-      spool = c.in-Ok-open_rest.ensures.tells (live host) e.host.2
-          (λ _. subst (λ n. AllByRecursion (λ x. past x ≤ n) (live host)) size e.extents.2.within);
-    }
+pub returns : goal.returns
+returns g c = record {
+  opened = λ told.
+      let t = c.in-Ok.ensures.tells told in
+      let host = content c.in-Ok-host_in.state in
+      let front = c.deref.ensures.value ∙ t.4 ∙ ap (λ l. l ++ t.0) c.new-snapshot.ensures.items in
+      let all = c.deref-in-Ok.ensures.value ∙ t.5 ∙ ap (λ l. l ++ t.1) c.new-found.ensures.items in
+      let e = c.in-Ok-host_in.ensures in
+      let size = e.extents.3 told ∙ ap (λ h. length (bytes_now h)) (sym (c.host_in.ensures.reads.same told)) in
+      record {
+        has = c.in-Ok.has;
+        snapshot = t.0;
+        payloads = t.1;
+        is = t.2;
+        journal = t.3;
+        many = omega (arith, c.in-Ok.ensures.counted, ap length t.5, length-append c.new-found.result.items t.1);
+        records = subst (λ s. told_by c.in-Ok.has s t.1 ≡ Some host) front
+            (subst (λ ps. told_by c.in-Ok.has c.deref.result.now ps ≡ Some host) all c.in-Ok-host_in.ensures.host.0);
+        spool = c.in-Ok-open_rest.ensures.tells (live host) e.host.2
+            (λ _. subst (λ n. AllByRecursion (λ x. past x ≤ n) (live host)) size e.extents.2.within);
+      };
+  running = search rules;
+  sound = search rules;
+  extents = search rules;
+  fault = λ told. tt;
+  failed = tt;
+  active = search rules;
+  resting = search rules;
+  spool = search rules;
+}

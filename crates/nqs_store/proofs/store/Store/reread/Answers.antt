@@ -52,29 +52,29 @@ returns-then-second g c = record {
   found =
       λ told.
       told_end (contents (history_of c.args.self.now)) true (sym c.if-second.true ∙ c.in-Ok.ensures.names told)
-      c.reread_host.result (c.reread_host.ensures.found told);
+      c.reread_host.result (c.reread_host.ensures.host.found told);
   fault =
       λ told.
       fault_end (contents (history_of c.args.self.now)) true (sym c.if-second.true ∙ c.in-Ok.ensures.names told)
-      c.reread_host.result (c.reread_host.ensures.fault told);
+      c.reread_host.result (c.reread_host.ensures.host.fault told);
   told =
       λ told host tells.
       host_end (contents (history_of c.args.self.now)) true (sym c.if-second.true ∙ c.in-Ok.ensures.names told)
-      c.reread_host.result (c.reread_host.ensures.found told) host (tells_read c.args.self.now host told tells);
-  sound = c.reread_host.ensures.sound;
-  extents = c.reread_host.ensures.extents;
+      c.reread_host.result (c.reread_host.ensures.host.found told) host (tells_read c.args.self.now host told tells);
+  sound = c.reread_host.ensures.host.sound;
+  extents = c.reread_host.ensures.host.extents;
   never =
       λ told host tells which place is.
       never_end (contents (history_of c.args.self.now)) true (sym c.if-second.true ∙ c.in-Ok.ensures.names told)
-      c.reread_host.result (c.reread_host.ensures.fault told) host (tells_read c.args.self.now host told tells) which place is;
+      c.reread_host.result (c.reread_host.ensures.host.fault told) host (tells_read c.args.self.now host told tells) which place is;
   failed =
-      λ which is. elim (c.reread_host.ensures.failed which is) [
+      λ which is. elim (c.reread_host.ensures.host.failed which is) [
         | inl at ↦ failed_at _ _ _ g.D.Disk.starved _ _ _ Second which at.0 at.1
         | inr at ↦ failed_at _ _ _ g.D.Disk.starved _ _ _ Spool which at.0 at.1
       ];
   reads =
       each_reads _ _ _ _ _ _ _
-      (each_disk _ c.in-Ok.ensures.reads (one_same _ _ _ _ _ _ _ refl) c.reread_host.ensures.active c.reread_host.ensures.spool);
+      (each_disk _ c.in-Ok.ensures.reads (one_same _ _ _ _ _ _ _ refl) c.reread_host.ensures.host.active c.reread_host.ensures.host.spool);
   stays = (
     refl,
     active_again c.args.self.now c.args.self.now.first c.reread_host.new.journal (either_one _ refl c.reread_host.ensures.stays.1),
@@ -82,7 +82,7 @@ returns-then-second g c = record {
   tells =
       λ told.
       tells_again c.args.self.now c.names_second.new.root c.args.self.now.first c.reread_host.new.journal c.reread_host.new.spool _
-      (each_disk _ (c.in-Ok.ensures.reads.same told) refl (c.reread_host.ensures.active.same told) (c.reread_host.ensures.spool.same told))
+      (each_disk _ (c.in-Ok.ensures.reads.same told) refl (c.reread_host.ensures.host.active.same told) (c.reread_host.ensures.host.spool.same told))
       (either_one _ (λ front payloads is. is) (c.reread_host.ensures.tells told)) (either_one _ refl c.reread_host.ensures.stays.1) c.reread_host.ensures.kept;
 }
 
@@ -91,29 +91,29 @@ returns-else-second g c = record {
   found =
       λ told.
       told_end (contents (history_of c.args.self.now)) false (sym c.if-second.false ∙ c.in-Ok.ensures.names told)
-      c.reread_host-else-second.result (c.reread_host-else-second.ensures.found told);
+      c.reread_host-else-second.result (c.reread_host-else-second.ensures.host.found told);
   fault =
       λ told.
       fault_end (contents (history_of c.args.self.now)) false (sym c.if-second.false ∙ c.in-Ok.ensures.names told)
-      c.reread_host-else-second.result (c.reread_host-else-second.ensures.fault told);
+      c.reread_host-else-second.result (c.reread_host-else-second.ensures.host.fault told);
   told =
       λ told host tells.
       host_end (contents (history_of c.args.self.now)) false (sym c.if-second.false ∙ c.in-Ok.ensures.names told)
-      c.reread_host-else-second.result (c.reread_host-else-second.ensures.found told) host (tells_read c.args.self.now host told tells);
-  sound = c.reread_host-else-second.ensures.sound;
-  extents = c.reread_host-else-second.ensures.extents;
+      c.reread_host-else-second.result (c.reread_host-else-second.ensures.host.found told) host (tells_read c.args.self.now host told tells);
+  sound = c.reread_host-else-second.ensures.host.sound;
+  extents = c.reread_host-else-second.ensures.host.extents;
   never =
       λ told host tells which place is.
       never_end (contents (history_of c.args.self.now)) false (sym c.if-second.false ∙ c.in-Ok.ensures.names told)
-      c.reread_host-else-second.result (c.reread_host-else-second.ensures.fault told) host (tells_read c.args.self.now host told tells) which place is;
+      c.reread_host-else-second.result (c.reread_host-else-second.ensures.host.fault told) host (tells_read c.args.self.now host told tells) which place is;
   failed =
-      λ which is. elim (c.reread_host-else-second.ensures.failed which is) [
+      λ which is. elim (c.reread_host-else-second.ensures.host.failed which is) [
         | inl at ↦ failed_at _ _ _ g.D.Disk.starved _ _ _ First which at.0 at.1
         | inr at ↦ failed_at _ _ _ g.D.Disk.starved _ _ _ Spool which at.0 at.1
       ];
   reads =
       each_reads _ _ _ _ _ _ _
-      (each_disk _ c.in-Ok.ensures.reads c.reread_host-else-second.ensures.active (one_same _ _ _ _ _ _ _ refl) c.reread_host-else-second.ensures.spool);
+      (each_disk _ c.in-Ok.ensures.reads c.reread_host-else-second.ensures.host.active (one_same _ _ _ _ _ _ _ refl) c.reread_host-else-second.ensures.host.spool);
   stays = (
     refl,
     active_again c.args.self.now c.reread_host-else-second.new.journal c.args.self.now.second (either_one _ c.reread_host-else-second.ensures.stays.1 refl),
@@ -121,8 +121,8 @@ returns-else-second g c = record {
   tells =
       λ told.
       tells_again c.args.self.now c.names_second.new.root c.reread_host-else-second.new.journal c.args.self.now.second c.reread_host-else-second.new.spool _
-      (each_disk _ (c.in-Ok.ensures.reads.same told) (c.reread_host-else-second.ensures.active.same told) refl
-      (c.reread_host-else-second.ensures.spool.same told))
+      (each_disk _ (c.in-Ok.ensures.reads.same told) (c.reread_host-else-second.ensures.host.active.same told) refl
+      (c.reread_host-else-second.ensures.host.spool.same told))
       (either_one _ (c.reread_host-else-second.ensures.tells told) (λ front payloads is. is)) (either_one _ c.reread_host-else-second.ensures.stays.1 refl)
       c.reread_host-else-second.ensures.kept;
 }
