@@ -1,15 +1,11 @@
-//! The event that a datagram is.
+//! The event that a message is, and its moment.
 
-ghost use Rattle.std.specs.Prelude.{◌≡◌, IfOk, IfSome, IsTrue, length};
-ghost use Rattle.nqs_rules.specs.Sane.{is_sane_event};
-ghost use Rattle.nqs_outside.specs.Asked.{came};
-ghost use Rattle.nqs_serve.specs.Events.{Here, line_in, command_of, are_of_site, event_by, event_of, event_in, at_moment};
-ghost use Rattle.nqs_serve.specs.Sends.{is_right_event};
+ghost use Rattle.std.specs.Prelude.{◌≡◌, IfOk};
+ghost use Rattle.nqs_serve.specs.Events.{line_in, command_of, are_of_site, event_by, event_of, at_moment};
 
-use crate::sort::{Sorted, sort_datagram};
 use nqs_base::{Bytes, Memory, Name};
 use nqs_language_acts::{qdel_command, qmgr_command, qstat_command, qsub_command};
-use nqs_types::{Body, Command, Event, HostId, Message, RequestId, Tool};
+use nqs_types::{Body, Command, Event, Message, RequestId, Tool};
 use std::alloc::Global;
 
 // The line of qmgr, which is its one word.
@@ -113,24 +109,6 @@ pub(crate) fn event_of(alloc: Global, message: Message) -> Result<Option<Event>,
             now: 0,
             message: Message { from, to, body },
         })),
-    }
-}
-
-/// The event that a datagram is, with the moment 0, if it is one.
-pub(crate) fn event_in(
-    alloc: Global,
-    me: HostId,
-    site: &[Name],
-    bytes: &[u8],
-) -> Result<Option<Event>, Memory>
-    ensures event { IfOk result (λ event. event ≡ event_in (record { me = me; site = site.now }) (came bytes.now)) }
-    ensures sane { IfOk result (λ event. IfSome event (λ e. IsTrue (is_sane_event (length site.now) e))) }
-    ensures right { IfOk result (λ event. IfSome event (λ e. IsTrue (is_right_event (length site.now) e))) }
-{
-    match sort_datagram(alloc, site, me, 0, bytes) {
-        Ok(Sorted::Event(event)) => Ok(Some(event)),
-        Ok(Sorted::Ignored(_)) => Ok(None),
-        Err(memory) => Err(memory),
     }
 }
 

@@ -4,12 +4,12 @@ ghost use Rattle.std.specs.Prelude.{◌≡◌, ◌≤◌, ◌∷◌, [], IfOk, I
 ghost use Rattle.nqs_base.specs.Want.{want};
 ghost use Rattle.nqs_outside.specs.Causes.{Rose};
 ghost use Rattle.nqs_outside.specs.Told.{Extends};
-ghost use Rattle.nqs_outside.specs.Asked.{Arrival};
+ghost use Rattle.nqs_outside.specs.Asked.{Arrival, came};
 ghost use Rattle.nqs_rules.specs.Sane.{is_sane_event};
 ghost use Rattle.nqs_serve.specs.Events.{Here, event_in};
 ghost use Rattle.nqs_serve.specs.Sends.{is_right_event};
 
-use crate::event::event_in;
+use crate::sort::{Sorted, sort_datagram};
 use nqs_base::{Memory, Name};
 use nqs_outside::{Received, Wire};
 use nqs_types::{Event, HostId};
@@ -21,6 +21,24 @@ pub(crate) enum Missed {
     /// A call of the wire failed.
     Wire,
     Memory(Memory),
+}
+
+// The event that a datagram is, with the moment 0, if it is one.
+fn event_in(
+    alloc: Global,
+    me: HostId,
+    site: &[Name],
+    bytes: &[u8],
+) -> Result<Option<Event>, Memory>
+    ensures event { IfOk result (λ event. event ≡ event_in (record { me = me; site = site.now }) (came bytes.now)) }
+    ensures sane { IfOk result (λ event. IfSome event (λ e. IsTrue (is_sane_event (length site.now) e))) }
+    ensures right { IfOk result (λ event. IfSome event (λ e. IsTrue (is_right_event (length site.now) e))) }
+{
+    match sort_datagram(alloc, site, me, 0, bytes) {
+        Ok(Sorted::Event(event)) => Ok(Some(event)),
+        Ok(Sorted::Ignored(_)) => Ok(None),
+        Err(memory) => Err(memory),
+    }
 }
 
 /// The event that a receive brought, if it brought one.
