@@ -7,7 +7,7 @@ use Rattle.nqs_store.specs.Disks.{disk_at}
 use Rattle.nqs_store.specs.declared.disks.Disks.{Disks}
 
 -- a new disk
-abbrev empty : History
+abbrev pub empty : History
 empty = record { start = []; calls = [] }
 
 module _ {D : Type 0} (history : D → History) where
