@@ -115,8 +115,8 @@ impl<D: Disk> Node<D> {
         }
     }
 
-    // The plan of what is started next. It goes over the rows only where it isn't known that
-    // nothing may start.
+    // The plan of what is started next. It asks the index for the next start only where it isn't
+    // known that nothing may start.
     fn look(&self, alloc: Global, now: u64) -> Result<Option<Plan>, Memory>
         requires { IsSoundHost (content_of self.now) }
         ensures { IfOk result (λ plan. plan ≡ option_map plan_of (start now (content_of self.now))) }

@@ -66,6 +66,8 @@ pub(crate) fn perform<D: Disk>(
     ensures calls { (kept : Kept) → IsKeptWith change puts.now kept
         → Performs store.old store.new (content state.old) (content state.new) kept StoreFault.Disk result }
 {
+    // The bytes that go out are read before the change is kept: a read that fails must leave the
+    // change unmade, and once it is kept the extents that it frees may be written anew.
     match read_all(alloc, store, reads, outputs) {
         Err(fault) => Err(fault),
         Ok(()) => match change {
