@@ -92,6 +92,9 @@ active_told images s told = (
 pub loads_memory : (fault : LoadFault) → fault ≡ load.Memory want → (which : Which) → IsErrOf {T = Unit {0}} (Err fault) (load.Disk which) → ⊥
 loads_memory fault is which failed = let no : ⊥ = cc in no
 
+pub disk_memory : (w : Which) → IsErrOf {T = Unit {0}} (Err (load.Disk w)) (load.Memory want) → ⊥
+disk_memory w failed = let no : ⊥ = cc in no
+
 pub at_disk : (fault : StoreFault) (w : Which) → fault ≡ store.Disk w → (which : Which) → IsErrOf {T = Unit {0}} (Err (load.Disk w)) (load.Disk which)
     → IsErrOf {T = Unit {0}} (Err fault) (store.Disk which)
 at_disk fault w is which failed = let same : w ≡ which = cc in ap Err (is ∙ ap store.Disk same)
@@ -99,10 +102,10 @@ at_disk fault w is which failed = let same : w ≡ which = cc in ap Err (is ∙ 
 module _ {D : Type 0} {g : disk.Ghosts D} (old now : Store D g) where
   module _ (fault : StoreFault) (told : LoadFault)
       (to : (which : Which) → IsErrOf {T = Unit {0}} (Err told) (load.Disk which) → IsErrOf {T = Unit {0}} (Err fault) (store.Disk which)) where
-    pub load_stops : MayStop {T = Unit {0}} old now store.Disk (Err fault) → MayStop {T = Unit {0}} old now load.Disk (Err told)
+    load_stops : MayStop {T = Unit {0}} old now store.Disk (Err fault) → MayStop {T = Unit {0}} old now load.Disk (Err told)
     load_stops m = record { running = tt; broken = λ which is. m.broken which (to which is); later = m.later; fuse = m.fuse }
 
-    pub load_commits : (change : Change Extent) (puts : List (List ℕ)) (host : Host)
+    load_commits : (change : Change Extent) (puts : List (List ℕ)) (host : Host)
         → Commits {T = Unit {0}} old now change puts host store.Disk (Err fault) → Commits {T = Unit {0}} old now change puts host load.Disk (Err told)
     load_commits change puts host m = record {
       made = λ yes. tt;
@@ -112,9 +115,10 @@ module _ {D : Type 0} {g : disk.Ghosts D} (old now : Store D g) where
     }
 
     pub load_makes : (before after : Host) (change : Change Extent) (puts : List (List ℕ))
-        → Makes {T = Unit {0}} {E = StoreFault} old now before after change puts (Err fault)
-        → Makes {T = Unit {0}} {E = LoadFault} old now before after change puts (Err told)
-    load_makes before after change puts m = record {
+        → (IsErrOf {T = Unit {0}} (Err told) (load.Memory want) → IsErrOf {T = Unit {0}} (Err fault) (store.Memory want))
+        → Makes {T = Unit {0}} old now before after change puts store.Disk (store.Memory want) (Err fault)
+        → Makes {T = Unit {0}} old now before after change puts load.Disk (load.Memory want) (Err told)
+    load_makes before after change puts short m = record {
       sound = m.sound;
       site = m.site;
       err = m.err;
@@ -122,12 +126,15 @@ module _ {D : Type 0} {g : disk.Ghosts D} (old now : Store D g) where
       active = tt;
       told = λ yes tells. tt;
       plain = λ yes tells. tt;
+      memory = λ is. m.memory (short is);
+      stops = load_stops m.stops;
+      calls = load_commits change puts before m.calls;
     }
 
-  pub booted_stops : MayStop {T = Unit {0}} old now store.Disk (Ok tt) → MayStop {T = Unit {0}} old now load.Disk (Ok tt)
+  booted_stops : MayStop {T = Unit {0}} old now store.Disk (Ok tt) → MayStop {T = Unit {0}} old now load.Disk (Ok tt)
   booted_stops m = record { running = m.running; broken = λ which is. absurd (let no : ⊥ = cc in no); later = m.later; fuse = m.fuse }
 
-  pub booted_commits : (change : Change Extent) (puts : List (List ℕ)) (host : Host)
+  booted_commits : (change : Change Extent) (puts : List (List ℕ)) (host : Host)
       → Commits {T = Unit {0}} old now change puts host store.Disk (Ok tt) → Commits {T = Unit {0}} old now change puts host load.Disk (Ok tt)
   booted_commits change puts host m = record {
     made = m.made;
@@ -137,8 +144,8 @@ module _ {D : Type 0} {g : disk.Ghosts D} (old now : Store D g) where
   }
 
   pub booted_makes : (before after : Host) (change : Change Extent) (puts : List (List ℕ))
-      → Makes {T = Unit {0}} {E = StoreFault} old now before after change puts (Ok tt)
-      → Makes {T = Unit {0}} {E = LoadFault} old now before after change puts (Ok tt)
+      → Makes {T = Unit {0}} old now before after change puts store.Disk (store.Memory want) (Ok tt)
+      → Makes {T = Unit {0}} old now before after change puts load.Disk (load.Memory want) (Ok tt)
   booted_makes before after change puts m = record {
     sound = m.sound;
     site = m.site;
@@ -147,4 +154,7 @@ module _ {D : Type 0} {g : disk.Ghosts D} (old now : Store D g) where
     active = m.active;
     told = m.told;
     plain = m.plain;
+    memory = λ is. absurd (let no : ⊥ = cc in no);
+    stops = booted_stops m.stops;
+    calls = booted_commits change puts before m.calls;
   }

@@ -1,8 +1,11 @@
 -- What is told where no call is made.
-use Rattle.std.proofs.Common.{◌≡◌, inl, inr, ℕ, Bool, true, false, not, List, [], ◌∷◌, ◌++◌, map, IsTrue, None, Some, sym, ap, subst}
+use Rattle.std.proofs.Common.{◌≡◌, inl, inr, ℕ, Bool, true, false, not, List, [], ◌∷◌, ◌++◌, map, IsTrue, IsErrOf, Err, None, Some, refl, sym, ap, subst}
+use Rattle.std.proofs.Common.{arith}
 use Rattle.std.proofs.lemmas.List.{length-map}
 use Rattle.std.proofs.Math.Seq.{take-nil}
 use Rattle.nqs_state.specs.State.{Plain}
+use Rattle.nqs_base.specs.declared.extent.Extent.{Extent}
+use Rattle.nqs_types.specs.declared.change.Change.{Change}
 use Rattle.nqs_types.specs.declared.world.Which.{Which}
 use Rattle.nqs_types.specs.declared.world.Which.TheVariants.{First, Second, Spool}
 use Rattle.nqs_outside.specs.History.{State, History, state, after, IsImage, IsQuiet}
@@ -13,6 +16,7 @@ use Rattle.nqs_rules.specs.Journals.{journal_on}
 use Rattle.nqs_rules.specs.Stepped.{stored_parts}
 use Rattle.nqs_store.specs.Active.{Active, journal_of, ready}
 use Rattle.nqs_store.specs.Commits.{EachImage, Keeping}
+use Rattle.nqs_store.specs.Sound.{IsSoundHost}
 use Rattle.nqs_store.specs.Told.{Host}
 use Rattle.nqs_store.specs.Stores.{history_of, plain_of, Tells}
 use Rattle.nqs_store.specs.declared.store.Store.{Store}
@@ -20,9 +24,11 @@ use Rattle.nqs_store.specs.Images.{IsTold}
 use Rattle.nqs_store.specs.Hosts.{HostCall, Runs, StopsShort, on, part}
 use Rattle.nqs_store.specs.Plan.{CommitsBy, due_calls, puts_calls, change_calls, commit_calls}
 use Rattle.nqs_store.proofs.EachDisk.{each_disk}
+use Rattle.nqs_store.proofs.Kept.{idle_commits, left_alone}
 use Rattle.nqs_store.proofs.Runs.{none_more}
 use Rattle.nqs_store.proofs.TellsNow.{told_now, active_quiet}
 use Rattle.nqs_node.specs.Carried.{Kept, IsOneOrOther}
+use Rattle.nqs_node.specs.Makes.{Makes}
 
 -- no call of a commit was made
 
@@ -96,3 +102,20 @@ module _ {D : Type 0} {g : disk.Ghosts D} (store : Store D g) (host : Host) (yes
 
   pub told_images : EachImage (history_of store) (λ images. IsTold images (plain_of store host))
   told_images images leaves = (told_now store host tells yes images leaves).0
+
+-- An error came before the first call of a change, and it's none of a disk.
+pub makes_none : {D E : Type 0} {g : disk.Ghosts D} (store : Store D g) (host : Host) → IsSoundHost host → (change : Change Extent) (puts : List (List ℕ))
+    (failed : Which → E) (refused e : E) → ((which : Which) → IsErrOf {T = Unit {0}} (Err e) (failed which) → ⊥)
+    → Makes {T = Unit {0}} store store host host change puts failed refused (Err e)
+makes_none store host sound change puts failed refused e none = record {
+  sound = sound;
+  site = refl;
+  err = refl;
+  bare = tt;
+  active = tt;
+  told = λ yes tells. tt;
+  plain = λ yes tells. tt;
+  memory = λ is. left_alone store;
+  stops = record { running = tt; broken = λ which is. absurd (none which is); later = λ which. omega arith; fuse = λ yes which i. refl };
+  calls = idle_commits store store change puts host failed e (λ which. refl) none;
+}

@@ -1,21 +1,47 @@
--- What a call of a node leaves that made no call of a disk and answers an error.
-use Rattle.std.proofs.Common.{ℕ, List, IsErrOf, Ok, Err, refl}
-pub use Rattle.nqs_base.proofs.Plain.{same_error}
+-- What a call of a node leaves that made no call of a disk and answers an error; and what is left, whatever is answered at Ok.
+use Rattle.std.proofs.Common.{◌≡◌, ◌↔◌, ℕ, List, IsTrue, IsErrOf, Ok, Err, false, refl}
+use Rattle.std.specs.Global.{Vec}
+use Rattle.std.specs.declared.result.Result.{Result}
+use Rattle.nqs_state.specs.State.{Plain}
+use Rattle.nqs_base.specs.Want.{want}
+use Rattle.nqs_base.specs.declared.memory.Memory.{Memory}
 use Rattle.nqs_types.specs.declared.event.Output.{Output}
 use Rattle.nqs_types.specs.declared.world.Which.{Which}
 use Rattle.nqs_outside.specs.declared.disk.Disk as disk
 use Rattle.nqs_rules.specs.Stepped.{Stepped}
-use Rattle.nqs_node.specs.Makes.{MayStop, Carries}
-use Rattle.nqs_node.specs.Nodes.{history_of, active_of}
+use Rattle.nqs_store.specs.Sound.{IsSoundHost}
+use Rattle.nqs_node.specs.Leaves.{MayStop, Leaves, Carries, TakesStep}
+use Rattle.nqs_node.specs.Nodes.{history_of, active_of, content_of, is_stopped, Stays}
 use Rattle.nqs_node.specs.declared.fault.NodeFault.{NodeFault}
 use Rattle.nqs_node.specs.declared.fault.NodeFault.TheVariants as node
 use Rattle.nqs_node.specs.declared.node.Node.{Node}
 use Rattle.nqs_node.proofs.Performing.{still_broken_off}
-use Rattle.nqs_node.proofs.Places.{no_error, at_most_itself}
+use Rattle.nqs_node.proofs.Places.{no_error, not_both, at_most_itself, node_memory, node_stopped}
 use Rattle.nqs_node.proofs.Telling.{one_still}
 
-module _ {D : Type 0} {g : disk.Ghosts D} {T : Type 0} (old : Node D g) (e : NodeFault) (no : (which : Which) → IsErrOf {T = T} (Err e) (node.Disk which) → ⊥)
-  where
+-- want of memory isn't a refusal
+pub memory_no_refusal : {T : Type 0} (memory : Memory) → IsErrOf {T = T} (Err (node.Memory memory)) node.Stopped → ⊥
+memory_no_refusal memory is = let no : ⊥ = cc in no
+
+-- nor is it a failed call of a disk
+pub disk_no_memory : {T : Type 0} (which : Which) → IsErrOf {T = T} (Err (node.Disk which)) (node.Memory want) → ⊥
+disk_no_memory which is = let no : ⊥ = cc in no
+
+-- no failed call of a disk is one
+pub disk_no_refusal : {T : Type 0} (which : Which) → IsErrOf {T = T} (Err (node.Disk which)) node.Stopped → ⊥
+disk_no_refusal which is = let no : ⊥ = cc in no
+
+-- a node that isn't stopped refuses nothing
+pub no_refusal : {D T : Type 0} {g : disk.Ghosts D} {r : Result T NodeFault} (old : Node D g) → is_stopped old ≡ false → (IsErrOf r node.Stopped → ⊥)
+    → IsErrOf r node.Stopped ↔ IsTrue (is_stopped old)
+no_refusal old running none = (λ is. absurd (none is), λ yes. absurd (not_both _ yes running))
+
+-- nothing happened
+pub stays_still : {D : Type 0} {g : disk.Ghosts D} (old : Node D g) → Stays old old
+stays_still old = record { state = refl; running = refl; active = refl; same = λ which. refl; tells = λ s told. told }
+
+module _ {D : Type 0} {g : disk.Ghosts D} {T : Type 0} (old : Node D g) where
+  module _ (e : NodeFault) (no : (which : Which) → IsErrOf {T = T} (Err e) (node.Disk which) → ⊥) where
     pub stops_still : MayStop {T = T} old old (Err e)
     stops_still = record {
       running = tt;
@@ -35,34 +61,54 @@ module _ {D : Type 0} {g : disk.Ghosts D} {T : Type 0} (old : Node D g) (e : Nod
       any_moment = λ yes s told. one_still old s told yes done.change;
     }
 
--- an error leaves the same, of whatever answer it is
-pub stops_again : {D T U : Type 0} {g : disk.Ghosts D} (old now : Node D g) (e : NodeFault) → MayStop {T = T} old now (Err e) → MayStop {T = U} old now (Err e)
-stops_again old now e k = record { running = tt; broken = λ which is. k.broken which (same_error e _ is); later = k.later; fuse = k.fuse }
+    pub takes_still : (said says : List Output) (step : Plain → Stepped (List ℕ)) → TakesStep {T = T} old old said says step (Err e)
+    takes_still said says step = record { bare = tt; alike = tt; short = λ was went. tt; carries = λ s told. carries_still said says (step s) }
 
-pub carries_again : {D T U : Type 0} {g : disk.Ghosts D} (old now : Node D g) (said says : List Output) (done : Stepped (List ℕ)) (e : NodeFault)
-    → Carries {T = T} old now said says done (Err e) → Carries {T = U} old now said says done (Err e)
-carries_again old now said says done e k = record {
-  told = λ yes s told. tt;
-  outputs = λ yes s told. tt;
-  made = λ yes. tt;
-  active = tt;
-  broken_off = k.broken_off;
-  cut = λ yes s told which is. k.cut yes s told which (same_error e _ is);
-  any_moment = k.any_moment;
-}
+    leaves_still : IsSoundHost (content_of old) → (out : Vec Output) → IsErrOf {T = T} (Err e) node.Stopped ↔ IsTrue (is_stopped old)
+        → Leaves {T = T} old old out out (Err e)
+    leaves_still sound out stopped = record {
+      sound = sound;
+      site = refl;
+      stopped = stopped;
+      refused = λ is. (refl, refl);
+      stops = stops_still;
+      unsaid = refl;
+      memory = λ yes is. stays_still old;
+      unmade = refl;
+    }
 
--- what was carried out, with another answer
-pub carries_true : {D T U : Type 0} {g : disk.Ghosts D} {x : T} {y : U} (old now : Node D g) (said says : List Output) (done : Stepped (List ℕ))
-    → Carries {T = T} old now said says done (Ok x) → Carries {T = U} old now said says done (Ok y)
-carries_true old now said says done k = record {
-  told = k.told;
-  outputs = k.outputs;
-  made = k.made;
-  active = k.active;
-  broken_off = λ yes. tt;
-  cut = λ yes s told which is. absurd (no_error _ _ is);
-  any_moment = k.any_moment;
-}
+  -- it was stopped
+  pub refuses_still : IsSoundHost (content_of old) → (out : Vec Output) → IsTrue (is_stopped old) → Leaves {T = T} old old out out (Err node.Stopped)
+  refuses_still sound out stopped = leaves_still node.Stopped node_stopped sound out (λ is. stopped, λ is. refl)
 
-pub stops_true : {D T U : Type 0} {g : disk.Ghosts D} {x : T} {y : U} (old now : Node D g) → MayStop {T = T} old now (Ok x) → MayStop {T = U} old now (Ok y)
-stops_true old now k = record { running = k.running; broken = λ which is. absurd (no_error _ _ is); later = k.later; fuse = k.fuse }
+  -- memory was wanting
+  pub wants_still : IsSoundHost (content_of old) → (out : Vec Output) → is_stopped old ≡ false → (memory : Memory)
+      → Leaves {T = T} old old out out (Err (node.Memory memory))
+  wants_still sound out running memory =
+      leaves_still (node.Memory memory) (node_memory memory) sound out (no_refusal old running (memory_no_refusal memory))
+
+module _ {D T U : Type 0} {g : disk.Ghosts D} {x : T} {y : U} (old now : Node D g) where
+  -- what was carried out, with another answer
+  pub carries_true : (said says : List Output) (done : Stepped (List ℕ)) → Carries {T = T} old now said says done (Ok x)
+      → Carries {T = U} old now said says done (Ok y)
+  carries_true said says done k = record {
+    told = k.told;
+    outputs = k.outputs;
+    made = k.made;
+    active = k.active;
+    broken_off = λ yes. tt;
+    cut = λ yes s told which is. absurd (no_error _ _ is);
+    any_moment = k.any_moment;
+  }
+
+  pub leaves_true : (said says : Vec Output) → Leaves {T = T} old now said says (Ok x) → Leaves {T = U} old now said says (Ok y)
+  leaves_true said says k = record {
+    sound = k.sound;
+    site = k.site;
+    stopped = (λ is. absurd (no_error _ _ is), λ yes. absurd (no_error _ _ (k.stopped.1 yes)));
+    refused = λ is. absurd (no_error _ _ is);
+    stops = record { running = k.stops.running; broken = λ which is. absurd (no_error _ _ is); later = k.stops.later; fuse = k.stops.fuse };
+    unsaid = tt;
+    memory = λ yes is. absurd (no_error _ _ is);
+    unmade = tt;
+  }

@@ -2,6 +2,8 @@ pub mod Nodes
 pub mod Carried
 pub mod Idle
 pub mod Reading
+pub mod Fills
 pub mod Planned
 pub mod Makes
+pub mod Leaves
 pub mod Boots

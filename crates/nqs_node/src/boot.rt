@@ -3,7 +3,7 @@
 //! The boot is one change like any other: what is said of it is made first, then it is kept, and
 //! then made.
 
-ghost use Rattle.std.specs.Prelude.{◌≡◌, ◌⊎◌, ◌≤◌, ◌++◌, [], ℕ, List, IsTrue, IsErrOf, OnOk, OnErr, IfOk, IfErr, MatchResult, false, Some};
+ghost use Rattle.std.specs.Prelude.{◌≡◌, ◌++◌, [], ℕ, List, IsTrue, IsErrOf, OnOk, OnErr, IfOk, IfErr, false, Some};
 ghost use Rattle.std.specs.List.{filter_map};
 ghost use Rattle.std.specs.Option.{option_to_list};
 ghost use Rattle.nqs_state.specs.State.{Plain, content};
@@ -14,7 +14,6 @@ ghost use Rattle.nqs_types.specs.declared.change.Change.TheVariants.{Boot};
 ghost use Rattle.nqs_outside.specs.History.{IsQuiet};
 ghost use Rattle.nqs_rules.specs.World.{boot_output};
 ghost use Rattle.nqs_rules.specs.Plain.{map_row, map_state};
-ghost use Rattle.nqs_store.specs.Calls.{IsLeft, MayStop, Commits};
 ghost use Rattle.nqs_store.specs.Stores.{is_stopped as is_store_stopped};
 ghost use Rattle.nqs_store.specs.Disks.{histories_of, contents};
 ghost use Rattle.nqs_store.specs.Images.{IsTold};
@@ -81,11 +80,8 @@ fn begin<D: Disk>(
     requires running { is_store_stopped store.old ≡ false }
     ensures unsaid { OnErr result (out.new.items ≡ out.old.items) }
     ensures only { (which : Which) (place : ℕ) → IsErrOf result (LoadFault.NotNqs which place) → ⊥ }
-    ensures memory { IsErrOf result (LoadFault.Memory want) → IsLeft store.old store.new }
     ensures outputs { (f : Extent → List ℕ) → OnOk result (out.new.items ≡ out.old.items ++ filter_map boot_output (map_state f (content state.old)).rows) }
-    ensures stops { MayStop store.old store.new LoadFault.Disk result }
-    ensures makes { Makes store.old store.new (content state.old) (content state.new) Boot [] result }
-    ensures calls { Commits store.old store.new Boot [] (content state.old) LoadFault.Disk result }
+    ensures makes { Makes store.old store.new (content state.old) (content state.new) Boot [] LoadFault.Disk (LoadFault.Memory want) result }
 {
     match outputs_of(alloc, state) {
         Err(memory) => Err(LoadFault::Memory(memory)),
@@ -117,8 +113,7 @@ impl<D: Disk> Node<D> {
     ) -> Result<Node<D>, (LoadFault, Disks<D>)>
         requires quiet { IsTrue D.tells → (which : Which) → IsQuiet (histories_of D.history disks which) }
         ensures unsaid { OnErr result (out.new.items ≡ out.old.items) }
-        ensures outputs { IsTrue D.tells → (s : Plain)
-            → IsTold (contents (histories_of D.history disks)) s
+        ensures outputs { IsTrue D.tells → (s : Plain) → IsTold (contents (histories_of D.history disks)) s
             → OnOk result (out.new.items ≡ out.old.items ++ filter_map boot_output s.rows) }
         ensures booted { IfOk result (Booted disks) }
         ensures unbooted { IfErr result (λ e. Unbooted D.tells D.history D.fails D.starved D.faults disks e.0 e.1) }

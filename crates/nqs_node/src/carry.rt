@@ -1,15 +1,9 @@
 //! A node carries out a plan.
 
-ghost use Rattle.std.specs.Prelude.{◌≡◌, ◌++◌, ℕ, List, false, map, IsTrue, IsErrOf, IfOk, OnOk, OnErr, []};
-ghost use Rattle.std.specs.Option.{option_map};
-ghost use Rattle.nqs_base.specs.Want.{want};
-ghost use Rattle.nqs_rules.specs.Starts.{after_change};
-ghost use Rattle.nqs_rules.specs.Stepped.{Stepped, shown};
+ghost use Rattle.std.specs.Prelude.{◌≡◌, false, IfOk};
 ghost use Rattle.nqs_store.specs.Sound.{IsSoundHost};
-ghost use Rattle.nqs_back.specs.Bare.{emptied, blank, without_bytes};
-ghost use Rattle.nqs_node.specs.Makes.{MayStop, Carries};
-ghost use Rattle.nqs_node.specs.Planned.{MayBeDone, Does};
-ghost use Rattle.nqs_node.specs.Reading.{AreShort};
+ghost use Rattle.nqs_node.specs.Leaves.{Leaves, CarriesOut};
+ghost use Rattle.nqs_node.specs.Planned.{MayBeDone};
 
 use crate::fault::NodeFault;
 use crate::node::Node;
@@ -20,7 +14,7 @@ use nqs_types::{Output, Plan};
 use std::alloc::Global;
 
 impl<D: Disk> Node<D> {
-    ghost use Rattle.nqs_node.specs.Nodes.{content_of, bytes_of, is_stopped, Stays};
+    ghost use Rattle.nqs_node.specs.Nodes.{content_of, is_stopped};
 
     // Carries out a plan of this host: reads, keeps and makes it, and adds to `out` what goes out.
     // Answers whether the plan halts its host.
@@ -33,20 +27,9 @@ impl<D: Disk> Node<D> {
         requires sound { IsSoundHost (content_of self.old) }
         requires running { is_stopped self.old ≡ false }
         requires may { MayBeDone (content_of self.old) plan }
-        ensures sound { IsSoundHost (content_of self.new) }
-        ensures site { (content_of self.new).site ≡ (content_of self.old).site }
-        ensures stopped { IsErrOf result NodeFault.Stopped → ⊥ }
+        ensures leaves { Leaves self.old self.new out.old out.new result }
         ensures halts { IfOk result (λ halts. halts ≡ plan.halts) }
-        ensures stops { MayStop self.old self.new result }
-        ensures unsaid { OnErr result (out.new.items ≡ out.old.items) }
-        ensures unmade { OnErr result (content_of self.new ≡ content_of self.old) }
-        ensures bare { OnOk result (emptied (content_of self.new) ≡ after_change (option_map blank plan.change) (emptied (content_of self.old))) }
-        ensures short { (done : Stepped (List ℕ)) → Does (λ _. []) plan done → AreShort out.old.items → AreShort (map shown done.outputs)
-            → OnOk result (AreShort out.new.items) }
-        ensures alike { OnOk result (map without_bytes out.new.items ≡ map without_bytes out.old.items ++ map without_bytes plan.outputs) }
-        ensures memory { IsTrue D.tells → IsErrOf result (NodeFault.Memory want) → Stays self.old self.new }
-        ensures carries { (done : Stepped (List ℕ)) → Does (bytes_of self.old) plan done
-            → Carries self.old self.new out.old.items out.new.items done result }
+        ensures carries { CarriesOut self.old self.new out.old.items out.new.items plan result }
     {
         match out.reserve(plan.outputs.len()) {
             Err(refused) => Err(NodeFault::Memory(refused.into())),

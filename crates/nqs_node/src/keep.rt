@@ -4,7 +4,7 @@ ghost use Rattle.std.specs.Prelude.{IsTrue, IsErrOf};
 ghost use Rattle.nqs_state.specs.State.{content};
 ghost use Rattle.nqs_base.specs.Want.{want};
 ghost use Rattle.nqs_rules.specs.Sane.{is_sane_change};
-ghost use Rattle.nqs_store.specs.Calls.{MayCommit, IsLeft, MayStop, Commits};
+ghost use Rattle.nqs_store.specs.Calls.{MayCommit};
 ghost use Rattle.nqs_store.specs.Sound.{IsSoundHost};
 ghost use Rattle.nqs_store.specs.Stores.{is_stopped};
 ghost use Rattle.nqs_node.specs.Makes.{Makes};
@@ -31,10 +31,7 @@ pub(crate) fn keep<D: Disk>(
     requires sane { IsTrue (is_sane_change change) }
     requires may { MayCommit (content state.old) change puts.now }
     ensures stopped { IsErrOf result StoreFault.Stopped → IsTrue (is_stopped store.old) }
-    ensures memory { IsErrOf result (StoreFault.Memory want) → IsLeft store.old store.new }
-    ensures stops { MayStop store.old store.new StoreFault.Disk result }
-    ensures makes { Makes store.old store.new (content state.old) (content state.new) change puts.now result }
-    ensures calls { Commits store.old store.new change puts.now (content state.old) StoreFault.Disk result }
+    ensures makes { Makes store.old store.new (content state.old) (content state.new) change puts.now StoreFault.Disk (StoreFault.Memory want) result }
 {
     match state.make_room(&change) {
         Err(memory) => Err(StoreFault::Memory(memory)),

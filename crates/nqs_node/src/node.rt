@@ -1,27 +1,22 @@
 //! A node: a host's state, and the store that keeps it.
 
-ghost use Rattle.std.specs.Prelude.{◌≡◌, ◌≢◌, ◌⊎◌, ◌↔◌, ◌<◌, ◌≤◌, ◌+◌, ◌-◌, ◌++◌, ℕ, Bool, List, IsTrue, IsErrOf, OnOk, OnErr, IfOk, IfErr, false, length, map};
+ghost use Rattle.std.specs.Prelude.{◌≡◌, ◌≢◌, ◌<◌, ◌≤◌, ◌+◌, ◌-◌, ℕ, IsTrue, IsErrOf, OnOk, IfOk, false, length};
 ghost use Rattle.std.specs.Prelude.{max, nat_le, is_some};
 ghost use Rattle.std.specs.Option.{option_map};
 ghost use Rattle.nqs_state.specs.State.{Plain, content};
-ghost use Rattle.nqs_base.specs.Want.{want};
 ghost use Rattle.nqs_types.specs.declared.world.Which.{Which};
-ghost use Rattle.nqs_outside.specs.Causes.{Rose};
 ghost use Rattle.nqs_outside.specs.History.{moment};
 ghost use Rattle.nqs_rules.specs.Measure.{starts_left};
 ghost use Rattle.nqs_rules.specs.Sane.{is_sane_event};
 ghost use Rattle.nqs_rules.specs.Start.{start};
-ghost use Rattle.nqs_rules.specs.Starts.{after_step};
 ghost use Rattle.nqs_rules.specs.Step.{step};
-ghost use Rattle.nqs_rules.specs.Stepped.{plan_of, shown};
+ghost use Rattle.nqs_rules.specs.Stepped.{plan_of};
 ghost use Rattle.nqs_store.specs.Disks.{disk_at};
 ghost use Rattle.nqs_store.specs.Sound.{IsSoundHost};
 ghost use Rattle.nqs_store.specs.Stores.{is_stopped as is_store_stopped};
 ghost use Rattle.nqs_back.specs.Back.{comebacks, comes_back};
-ghost use Rattle.nqs_back.specs.Bare.{emptied, without_bytes};
 ghost use Rattle.nqs_node.specs.Carried.{started};
 ghost use Rattle.nqs_node.specs.Idle.{is_idle};
-ghost use Rattle.nqs_node.specs.Reading.{AreShort};
 
 use crate::fault::NodeFault;
 use nqs_base::Memory;
@@ -53,9 +48,9 @@ pub struct Node<D: Disk> {
 }
 
 impl<D: Disk> Node<D> {
-    ghost use Rattle.nqs_node.specs.Nodes.{disk_of, history_of, fails_of, is_starved, active_of, content_of, bare, is_stopped, Tells, Stays, OnlyReads};
+    ghost use Rattle.nqs_node.specs.Nodes.{disk_of, history_of, fails_of, active_of, content_of, bare, is_stopped, Tells, OnlyReads};
     ghost use Rattle.nqs_node.specs.Nodes.{FailedToRead};
-    ghost use Rattle.nqs_node.specs.Makes.{MayStop, Carries};
+    ghost use Rattle.nqs_node.specs.Leaves.{Leaves, TakesStep};
 
     /// Takes an event: keeps its change, makes it, and adds to `out` what goes out. Answers whether
     /// the host halts: then it is to stop when all that may start has started. `Memory` and
@@ -69,37 +64,16 @@ impl<D: Disk> Node<D> {
     ) -> Result<bool, NodeFault>
         requires sound { IsSoundHost (content_of self.old) }
         requires sane { IsTrue (is_sane_event (length (content_of self.old).site) event.old) }
-        ensures sound { IsSoundHost (content_of self.new) }
-        ensures site { (content_of self.new).site ≡ (content_of self.old).site }
-        ensures stopped { IsErrOf result NodeFault.Stopped ↔ IsTrue (is_stopped self.old) }
-        ensures refused { IsErrOf result NodeFault.Stopped → (self.new ≡ self.old) × (out.new ≡ out.old) }
-        ensures stops { MayStop self.old self.new result }
-        ensures unsaid { OnErr result (out.new.items ≡ out.old.items) }
-        ensures memory { IsTrue D.tells → IsErrOf result (NodeFault.Memory want) → Stays self.old self.new }
-        ensures unmade { OnErr result (content_of self.new ≡ content_of self.old) }
-
-        // Over whatever disks: at Ok its state is that after the step, and what goes out is the
-        // step's, but for the bytes that are kept.
-        ensures bare { OnOk result (bare self.new ≡ emptied (after_step (step event.old (bare self.old)) (bare self.old))) }
-        ensures alike { OnOk result (map without_bytes out.new.items
-            ≡ map without_bytes out.old.items ++ map without_bytes (map shown (step event.old (bare self.old)).outputs)) }
+        ensures leaves { Leaves self.old self.new out.old out.new result }
+        ensures takes { TakesStep self.old self.new out.old.items out.new.items (step event.old) result }
 
         // It halts where its step does.
         ensures halts { IfOk result (λ halts. halts ≡ (step event.old (bare self.old)).halts) }
-
-        // Whatever the disks are, what is sent carries no more than may be sent, where what the
-        // step sends does without its bytes.
-        ensures short { AreShort out.old.items → AreShort (map shown (step event.old (bare self.old)).outputs) → OnOk result (AreShort out.new.items) }
 
         // After an event that came back no more may start than before, and nothing goes out of
         // which another comes back.
         ensures no_more { IsTrue (comes_back event.old) → OnOk result (starts_left (content_of self.new) ≤ starts_left (content_of self.old)) }
         ensures none_back { IsTrue (comes_back event.old) → OnOk result (comebacks out.new.items ≡ comebacks out.old.items) }
-
-        // At Ok its disks tell the state after the step, and what goes out is the step's; just the
-        // calls of its change's commit were made, or a part of them; at each moment, whatever images
-        // the disks may leave, they tell the state before the step or the one after it.
-        ensures carries { (s : Plain) → Tells self.old s → Carries self.old self.new out.old.items out.new.items (step event.old s) result }
     {
         if self.stopped {
             return Err(NodeFault::Stopped);
@@ -137,14 +111,8 @@ impl<D: Disk> Node<D> {
         out: &mut Vec<Output>,
     ) -> Result<bool, NodeFault>
         requires sound { IsSoundHost (content_of self.old) }
-        ensures sound { IsSoundHost (content_of self.new) }
-        ensures site { (content_of self.new).site ≡ (content_of self.old).site }
-        ensures stopped { IsErrOf result NodeFault.Stopped ↔ IsTrue (is_stopped self.old) }
-        ensures refused { IsErrOf result NodeFault.Stopped → (self.new ≡ self.old) × (out.new ≡ out.old) }
-        ensures stops { MayStop self.old self.new result }
-        ensures unsaid { OnErr result (out.new.items ≡ out.old.items) }
-        ensures memory { IsTrue D.tells → IsErrOf result (NodeFault.Memory want) → Stays self.old self.new }
-        ensures unmade { OnErr result (content_of self.new ≡ content_of self.old) }
+        ensures leaves { Leaves self.old self.new out.old out.new result }
+        ensures takes { TakesStep self.old self.new out.old.items out.new.items (started now) result }
 
         // It is false exactly where none may start.
         ensures more { IfOk result (λ more. more ≡ is_some (start now (content_of self.old))) }
@@ -152,23 +120,9 @@ impl<D: Disk> Node<D> {
         // Where none may start, nothing happens.
         ensures idle { IfOk result (λ more. more ≡ false → (content_of self.new ≡ content_of self.old) × (out.new.items ≡ out.old.items)) }
 
-        // Over whatever disks: at Ok its state is that after the start, and what goes out is the
-        // start's, but for the bytes that are kept.
-        ensures bare { OnOk result (bare self.new ≡ emptied (after_step (started now (bare self.old)) (bare self.old))) }
-        ensures alike { OnOk result (map without_bytes out.new.items
-            ≡ map without_bytes out.old.items ++ map without_bytes (map shown (started now (bare self.old)).outputs)) }
-
-        // Whatever the disks are, what is sent carries no more than may be sent, where what the
-        // start sends does without its bytes.
-        ensures short { AreShort out.old.items → AreShort (map shown (started now (bare self.old)).outputs) → OnOk result (AreShort out.new.items) }
-
         // Each start lowers how many there may still be, and of each at most one event comes back.
         ensures fewer { IfOk result (λ more. IsTrue more → starts_left (content_of self.new) < starts_left (content_of self.old)) }
         ensures one_back { OnOk result (comebacks out.new.items ≤ comebacks out.old.items + 1) }
-
-        // At Ok its disks tell the state after the start, and what goes out is the start's; and so
-        // on, as above.
-        ensures carries { (s : Plain) → Tells self.old s → Carries self.old self.new out.old.items out.new.items (started now s) result }
     {
         if self.stopped {
             return Err(NodeFault::Stopped);
@@ -227,7 +181,7 @@ impl<D: Disk> Node<D> {
 }
 
 impl<D: Fused> Node<D> {
-    ghost use Rattle.nqs_node.specs.Nodes.{disk_of, history_of, fails_of, is_starved, active_of, content_of, is_stopped, Tells};
+    ghost use Rattle.nqs_node.specs.Nodes.{disk_of, history_of, fails_of, active_of, content_of, is_stopped, Tells};
 
     /// Makes the calls-th write or sync from here of the disk fail, and each later call of it. It
     /// changes nothing else.

@@ -1,14 +1,9 @@
 //! The bytes of outputs are read from the spool, before anything is kept.
 
-ghost use Rattle.std.specs.Prelude.{◌≡◌, ◌<◌, ◌≤◌, ℕ, IsTrue, OnOk, IfErr, length, [], List};
-ghost use Rattle.std.specs.List.{AllByRecursion};
+ghost use Rattle.std.specs.Prelude.{◌≡◌, length};
 ghost use Rattle.nqs_rules.specs.Edits.{change_at};
 ghost use Rattle.nqs_rules.specs.Stepped.{sent_with, with_bytes};
-ghost use Rattle.nqs_store.specs.Faults.{IsScriptFault};
-ghost use Rattle.nqs_store.specs.Stores.{bytes_of, Tells};
-ghost use Rattle.nqs_store.specs.Told.{Host};
-ghost use Rattle.nqs_node.specs.Makes.{ReadsInto};
-ghost use Rattle.nqs_node.specs.Reading.{read_into, IsLiveRead, AreLiveReads, IsShortRead, AreShort};
+ghost use Rattle.nqs_node.specs.Fills.{FillsOne, Fills, ReadsSpool};
 
 use nqs_base::Bytes;
 use nqs_outside::Disk;
@@ -56,13 +51,8 @@ fn read_one<D: Disk>(
     read: &PlanRead,
     outputs: &mut Vec<Output>,
 ) -> Result<(), StoreFault>
-    ensures only { IfErr result IsScriptFault }
-    ensures filled { IsTrue D.tells → (host : Host) → Tells store.old host → IsLiveRead host read.now
-        → OnOk result (outputs.new.items ≡ change_at read.now.output (with_bytes (bytes_of store.old read.now.extent)) outputs.old.items) }
-    // Whatever the disk is, no more bytes are read than the extent has.
-    ensures few { OnOk result ((bytes : List ℕ) × (length bytes ≤ read.now.extent.length)
-        × (outputs.new.items ≡ change_at read.now.output (with_bytes bytes) outputs.old.items)) }
-    ensures into { ReadsInto store.old store.new outputs.old.items outputs.new.items result }
+    ensures spool { ReadsSpool store.old store.new result }
+    ensures fills { FillsOne store.old read.now outputs.old.items outputs.new.items result }
 {
     let mut bytes = Vec::new(alloc);
     match store.script(&read.extent, &mut bytes) {
@@ -82,12 +72,8 @@ pub(crate) fn read_all<D: Disk>(
     reads: &[PlanRead],
     outputs: &mut Vec<Output>,
 ) -> Result<(), StoreFault>
-    ensures only { IfErr result IsScriptFault }
-    ensures filled { IsTrue D.tells → (host : Host) → Tells store.old host → AreLiveReads host reads.now
-        → OnOk result (outputs.new.items ≡ read_into (bytes_of store.old) reads.now outputs.old.items) }
-    ensures short { AllByRecursion IsShortRead reads.now → AreShort (read_into (λ _. []) reads.now outputs.old.items)
-        → OnOk result (AreShort outputs.new.items) }
-    ensures into { ReadsInto store.old store.new outputs.old.items outputs.new.items result }
+    ensures spool { ReadsSpool store.old store.new result }
+    ensures fills { Fills store.old reads.now outputs.old.items outputs.new.items result }
 {
     for read in reads {
         read_one(alloc, store, read, outputs)?;

@@ -1,21 +1,30 @@
 use Rattle.std.proofs.Common.{refl, sym, ap, subst, ◌∙◌, Ok, Err}
 use Rattle.nqs_state.specs.State.{State, content}
+use Rattle.nqs_base.specs.Want.{want}
 use Rattle.nqs_base.specs.declared.extent.Extent.{Extent}
 use Rattle.nqs_rules.specs.Fits.{fits}
 use Rattle.nqs_store.specs.Calls.{MayCommit, Commits, state_after}
 use Rattle.nqs_store.specs.Sound.{IsSoundHost}
 use Rattle.nqs_store.specs.Stores.{plain_of, Tells}
-use Rattle.nqs_store.specs.declared.fault.StoreFault.TheVariants.{Disk}
-use Rattle.nqs_store.proofs.Kept.{idle_commits, only_memory}
+use Rattle.nqs_store.specs.declared.fault.StoreFault.TheVariants.{Disk, Memory}
+use Rattle.nqs_store.proofs.Kept.{only_memory}
 use Rattle.nqs_store.proofs.ShortExtents.{live_short}
+use Rattle.nqs_node.specs.Makes.{Makes}
+use Rattle.nqs_node.proofs.Nothing.{makes_none}
+use Rattle.nqs_node.proofs.Places.{no_error}
 use Rattle.nqs_node.proofs.Shapes.{same_fit, same_sane, same_room}
 use Rattle.nqs_node.proofs.Sites.{site_kept}
 use Rattle.nqs_back.proofs.Plans.{bare_made}
 use Rattle.nqs_node.proofs.keep.keep.Goals as goal
 
-pub returns-in-Err-clause-calls : goal.returns-in-Err-clause-calls
-returns-in-Err-clause-calls g c = idle_commits c.args.store.now c.args.store.now c.args.change c.args.puts.now (content c.args.state.now) Disk _ (λ w. refl)
-    (only_memory _ refl)
+pub returns-in-Err-clause-makes : goal.returns-in-Err-clause-makes
+returns-in-Err-clause-makes g c =
+    let store = c.args.store.now in
+    let host = content c.args.state.now in
+    let fault = Memory c.in-Err.memory in
+    subst (λ (h : State Extent). Makes {T = Unit {0}} store store host h c.args.change c.args.puts.now Disk (Memory want) (Err fault))
+    (sym c.make_room.ensures.content)
+    (makes_none store host c.requires.sound c.args.change c.args.puts.now Disk (Memory want) fault (only_memory fault refl))
 
 pub returns-in-Err-commit-clause-makes : goal.returns-in-Err-commit-clause-makes
 returns-in-Err-commit-clause-makes g c =
@@ -28,12 +37,11 @@ returns-in-Err-commit-clause-makes g c =
       active = tt;
       told = λ tells told. tt;
       plain = λ tells told. tt;
+      memory = λ is. (c.in-Err-commit.ensures.memory is).0;
+      stops = c.in-Err-commit.ensures.stops;
+      calls = subst (λ (h : State Extent). Commits {T = Unit {0}} c.args.store.now c.commit.new.self c.args.change c.args.puts.now h Disk
+          (Err c.in-Err-commit.fault)) same c.in-Err-commit.ensures.calls;
     }
-
-pub returns-in-Err-commit-clause-calls : goal.returns-in-Err-commit-clause-calls
-returns-in-Err-commit-clause-calls g c =
-    subst (λ (h : State Extent). Commits {T = Unit {0}} c.args.store.now c.commit.new.self c.args.change c.args.puts.now h Disk (Err c.in-Err-commit.fault))
-    c.make_room.ensures.content c.in-Err-commit.ensures.calls
 
 pub commit-requires-clause-sound : goal.commit-requires-clause-sound
 commit-requires-clause-sound g c = subst IsSoundHost (sym c.make_room.ensures.content) c.requires.sound
@@ -74,9 +82,8 @@ returns-in-Ok-commit-clause-makes g c =
       plain = λ tells told.
           ap (plain_of c.commit.new.self) c.apply.ensures ∙ e.plain tells (subst (Tells c.args.store.now) (sym same) told)
           ∙ ap (state_after c.args.store.now c.args.change c.args.puts.now) same;
+      memory = λ is. absurd (no_error _ _ is);
+      stops = c.in-Ok-commit.ensures.stops;
+      calls = subst (λ (h : State Extent). Commits {T = Unit {0}} c.args.store.now c.commit.new.self c.args.change c.args.puts.now h Disk (Ok tt))
+          same c.in-Ok-commit.ensures.calls;
     }
-
-pub returns-in-Ok-commit-clause-calls : goal.returns-in-Ok-commit-clause-calls
-returns-in-Ok-commit-clause-calls g c =
-    subst (λ (h : State Extent). Commits {T = Unit {0}} c.args.store.now c.commit.new.self c.args.change c.args.puts.now h Disk (Ok tt))
-    c.make_room.ensures.content c.in-Ok-commit.ensures.calls

@@ -15,28 +15,38 @@ use Rattle.nqs_node.proofs.Carrying.{read_short}
 use Rattle.nqs_node.proofs.Places.{no_error, all_at, reads_none, reads_then, failed_since}
 use Rattle.nqs_node.proofs.reads.read_all.Goals as goal
 
-pub returns-in_err-read_one-clause-into : goal.returns-in_err-read_one-clause-into
-returns-in_err-read_one-clause-into g c =
+pub returns-in_err-read_one-clause-spool : goal.returns-in_err-read_one-clause-spool
+returns-in_err-read_one-clause-spool g c =
     let p = err_from_is_err_and c.from_residual.result c.from_residual.ensures.1 in
     let v = c.loop-read.invariant in
-    let one = c.in_err-read_one.ensures.into in
+    let one = c.in_err-read_one.ensures.spool in
     rw (p.1, p.2) (record {
+      only = one.only;
       stopped = λ is. subst IsTrue v.stays.0 (one.stopped is);
-      as_many = one.as_many ∙ v.as_many;
-      alike = one.alike ∙ v.alike;
       failed = λ failed. failed_since _ _ _ Spool v.reads (one.failed failed);
       reads = reads_then _ _ _ v.reads one.reads;
       stays = (one.stays.0 ∙ v.stays.0, one.stays.1 ∙ v.stays.1);
       tells = λ yes host told. one.tells yes host (v.tells yes host told);
     })
 
-pub returns-clause-into : goal.returns-clause-into
-returns-clause-into g c =
+pub returns-in_err-read_one-clause-fills : goal.returns-in_err-read_one-clause-fills
+returns-in_err-read_one-clause-fills g c =
+    let p = err_from_is_err_and c.from_residual.result c.from_residual.ensures.1 in
+    let v = c.loop-read.invariant in
+    let one = c.in_err-read_one.ensures.fills in
+    rw (p.1, p.2) (record {
+      as_many = one.as_many ∙ v.as_many;
+      alike = one.alike ∙ v.alike;
+      filled = λ yes host told live. tt;
+      short = λ few was. tt;
+    })
+
+pub returns-clause-spool : goal.returns-clause-spool
+returns-clause-spool g c =
     let v = c.loop-read.invariant in
     record {
+      only = tt;
       stopped = λ is. absurd (no_error _ _ is);
-      as_many = v.as_many;
-      alike = v.alike;
       failed = λ is. absurd (no_error _ _ is);
       reads = v.reads;
       stays = v.stays;
@@ -54,35 +64,38 @@ loop-read-preserved g c =
     let outputs = c.loop-read.outputs.items in
     record {
       filled = λ yes host told all.
-          let read = c.in_ok-read_one.ensures.filled yes host (v.tells yes host told) (all_at (IsLiveRead host) reads i none all c.loop-read-test.true) in
+          let read = c.in_ok-read_one.ensures.fills.filled yes host (v.tells yes host told) (all_at (IsLiveRead host) reads i none all c.loop-read-test.true) in
           let bytes = ap (λ (h : History). bytes_at (content h) x.extent) (v.reads.same yes Spool) in
           ap (read_into f (drop (i + 1) reads)) (read ∙ ap (λ b. change_at x.output (with_bytes b) outputs) bytes)
           ∙ sym (at_drop_more (λ rs. read_into f rs outputs) reads i none c.loop-read-test.true) ∙ v.filled yes host told all;
       short = λ few was.
-          let read = c.in_ok-read_one.ensures.few in
+          let read = c.in_ok-read_one.ensures.fills.few in
           let small = leb-true x.extent.length 32768 (all_at IsShortRead reads i none few c.loop-read-test.true) in
           let script = le-leb (length read.0) 32768 (omega (arith, read.1, small)) in
           let before = sym (at_drop_more (λ rs. list_all sends_short (read_into (λ _. []) rs outputs)) reads i none c.loop-read-test.true) ∙ v.short few was in
           subst (λ os. AreShort (read_into (λ _. []) (drop (i + 1) reads) os)) (sym read.2)
           (read_short (drop (i + 1) reads) x.output read.0 script outputs before);
-      as_many = c.read_one.ensures.into.as_many ∙ v.as_many;
-      alike = c.read_one.ensures.into.alike ∙ v.alike;
-      reads = reads_then _ _ _ v.reads c.read_one.ensures.into.reads;
-      stays = (c.read_one.ensures.into.stays.0 ∙ v.stays.0, c.read_one.ensures.into.stays.1 ∙ v.stays.1);
-      tells = λ yes host told. c.read_one.ensures.into.tells yes host (v.tells yes host told);
+      as_many = c.read_one.ensures.fills.as_many ∙ v.as_many;
+      alike = c.read_one.ensures.fills.alike ∙ v.alike;
+      reads = reads_then _ _ _ v.reads c.read_one.ensures.spool.reads;
+      stays = (c.read_one.ensures.spool.stays.0 ∙ v.stays.0, c.read_one.ensures.spool.stays.1 ∙ v.stays.1);
+      tells = λ yes host told. c.read_one.ensures.spool.tells yes host (v.tells yes host told);
     }
 
-pub returns-clause-filled : goal.returns-clause-filled
-returns-clause-filled g c = λ yes host told all.
+pub returns-clause-fills : goal.returns-clause-fills
+returns-clause-fills g c =
+    let v = c.loop-read.invariant in
     let f = bytes_of c.args.store.now in
-    sym (at_drop_all (λ rs. read_into f rs c.loop-read.outputs.items) c.args.reads.now c.loop-read.read-index c.loop-read-test.false)
-    ∙ c.loop-read.invariant.filled yes host told all
-
-pub returns-clause-short : goal.returns-clause-short
-returns-clause-short g c = λ few was.
     let outputs = c.loop-read.outputs.items in
-    sym (at_drop_all (λ rs. list_all sends_short (read_into (λ _. []) rs outputs)) c.args.reads.now c.loop-read.read-index c.loop-read-test.false)
-    ∙ c.loop-read.invariant.short few was
+    record {
+      as_many = v.as_many;
+      alike = v.alike;
+      filled = λ yes host told all.
+          sym (at_drop_all (λ rs. read_into f rs outputs) c.args.reads.now c.loop-read.read-index c.loop-read-test.false) ∙ v.filled yes host told all;
+      short = λ few was.
+          sym (at_drop_all (λ rs. list_all sends_short (read_into (λ _. []) rs outputs)) c.args.reads.now c.loop-read.read-index c.loop-read-test.false)
+          ∙ v.short few was;
+    }
 
 pub loop-read-init : goal.loop-read-init
 loop-read-init g c = record {

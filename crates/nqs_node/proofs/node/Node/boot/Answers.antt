@@ -45,11 +45,11 @@ pub returns-in-Err-begin-clause-unbooted : goal.returns-in-Err-begin-clause-unbo
 returns-in-Err-begin-clause-unbooted g c = record {
   failed = λ which is.
       subst (λ d. Rose (g.D.Disk.faults (disk_at which c.args.disks)) (g.D.Disk.faults d)) (sym (c.close.ensures which))
-      (rose_since _ _ _ (c.in-Ok.ensures.reads.later which) (c.in-Err-begin.ensures.stops.broken which (ap Err is)).1);
+      (rose_since _ _ _ (c.in-Ok.ensures.reads.later which) (c.in-Err-begin.ensures.makes.stops.broken which (ap Err is)).1);
   fault = λ yes which place is. absurd (c.in-Err-begin.ensures.only which place (ap Err is));
   never = λ yes s told which place is. c.in-Err-begin.ensures.only which place (ap Err is);
   memory = λ yes is which.
-      ap g.D.Disk.history (c.close.ensures which) ∙ ap g.D.Disk.history ((c.in-Err-begin.ensures.memory (ap Err is)).same which)
+      ap g.D.Disk.history (c.close.ensures which) ∙ ap g.D.Disk.history ((c.in-Err-begin.ensures.makes.memory (ap Err is)).same which)
       ∙ c.in-Ok.ensures.reads.same yes which;
   broken_off = λ yes a active.
       subst (λ (h : Which → History). IsBrokenOff a (histories_of g.D.Disk.history c.args.disks) h (Some Boot))
@@ -57,7 +57,7 @@ returns-in-Err-begin-clause-unbooted g c = record {
       (broken_since a (active_of c.in-Ok.store) (sym (c.one_journal_is_active.ensures _ a (active_of c.in-Ok.store) active (c.in-Ok.ensures.active yes)))
       (failing_of g.D.Disk.fails c.args.disks) (fails_of c.in-Ok.store) (histories_of g.D.Disk.history c.args.disks) (history_of c.in-Ok.store)
       (history_of c.begin.new.store)
-      (c.in-Ok.ensures.reads.fuse yes) (c.in-Ok.ensures.reads.same yes) Boot [] (Some Boot) boot_kept (c.in-Err-begin.ensures.calls.broken_off yes));
+      (c.in-Ok.ensures.reads.fuse yes) (c.in-Ok.ensures.reads.same yes) Boot [] (Some Boot) boot_kept (c.in-Err-begin.ensures.makes.calls.broken_off yes));
   untouched = λ yes none. absurd (none (active_of c.in-Ok.store) (c.in-Ok.ensures.active yes));
   cut = λ yes s is a active which failed.
       either (subst (λ d. IsTrue (g.D.Disk.starved d)) (sym (c.close.ensures which)))
@@ -70,10 +70,10 @@ returns-in-Err-begin-clause-unbooted g c = record {
       (plain_of c.in-Ok.store (content c.in-Ok.state)) s (loaded_is c.in-Ok.store (content c.in-Ok.state) is.host
       (bytes_now (g.D.Disk.history (disk_at Spool c.args.disks))) s (ap bytes_now (c.in-Ok.ensures.reads.same yes Spool))
       (c.in-Ok.ensures.told yes is.host is.is) is.bytes) which k))
-      (c.in-Err-begin.ensures.calls.cut yes (c.in-Ok.ensures.tells yes) which (ap Err failed));
+      (c.in-Err-begin.ensures.makes.calls.cut yes (c.in-Ok.ensures.tells yes) which (ap Err failed));
   later = λ which.
       subst (λ d. g.D.Disk.faults (disk_at which c.args.disks) ≤ g.D.Disk.faults d) (sym (c.close.ensures which))
-      (le_trans (c.in-Ok.ensures.reads.later which) (c.begin.ensures.stops.later which));
+      (le_trans (c.in-Ok.ensures.reads.later which) (c.begin.ensures.makes.stops.later which));
   any_moment = λ yes s is a active.
       subst (λ (h : Which → History). IsOneOrOther a (histories_of g.D.Disk.history c.args.disks) h (Some Boot) s)
       (λ j which. g.D.Disk.history (sym (c.close.ensures which) j))
@@ -84,7 +84,7 @@ returns-in-Err-begin-clause-unbooted g c = record {
       (plain_of c.in-Ok.store (content c.in-Ok.state)) s (loaded_is c.in-Ok.store (content c.in-Ok.state) is.host
       (bytes_now (g.D.Disk.history (disk_at Spool c.args.disks))) s (ap bytes_now (c.in-Ok.ensures.reads.same yes Spool))
       (c.in-Ok.ensures.told yes is.host is.is) is.bytes)
-      (c.begin.ensures.calls.any_moment yes (c.in-Ok.ensures.tells yes)));
+      (c.begin.ensures.makes.calls.any_moment yes (c.in-Ok.ensures.tells yes)));
 }
 
 pub returns-in-Ok-begin-clause-booted : goal.returns-in-Ok-begin-clause-booted
@@ -114,12 +114,12 @@ returns-in-Ok-begin-clause-booted g c = record {
       made_since a (active_of c.in-Ok.store) (sym (c.one_journal_is_active.ensures _ a (active_of c.in-Ok.store) active (c.in-Ok.ensures.active yes)))
       (failing_of g.D.Disk.fails c.args.disks) (fails_of c.in-Ok.store) (histories_of g.D.Disk.history c.args.disks) (history_of c.in-Ok.store)
       (history_of c.begin.new.store)
-      (c.in-Ok.ensures.reads.fuse yes) (c.in-Ok.ensures.reads.same yes) Boot [] (Some Boot) boot_kept (c.in-Ok-begin.ensures.calls.made yes);
+      (c.in-Ok.ensures.reads.fuse yes) (c.in-Ok.ensures.reads.same yes) Boot [] (Some Boot) boot_kept (c.in-Ok-begin.ensures.makes.calls.made yes);
   active = λ yes a active.
       c.in-Ok-begin.ensures.makes.active ∙ ap (λ x. recorded (ready x))
       (sym (c.one_journal_is_active.ensures _ a (active_of c.in-Ok.store) active (c.in-Ok.ensures.active yes)));
-  fuse = λ yes which i. c.begin.ensures.stops.fuse yes which i ∙ c.in-Ok.ensures.reads.fuse yes which i;
-  later = λ which. le_trans (c.in-Ok.ensures.reads.later which) (c.begin.ensures.stops.later which);
+  fuse = λ yes which i. c.begin.ensures.makes.stops.fuse yes which i ∙ c.in-Ok.ensures.reads.fuse yes which i;
+  later = λ which. le_trans (c.in-Ok.ensures.reads.later which) (c.begin.ensures.makes.stops.later which);
   any_moment = λ yes s is a active.
       moments_since a (active_of c.in-Ok.store) (sym (c.one_journal_is_active.ensures _ a (active_of c.in-Ok.store) active (c.in-Ok.ensures.active yes)))
       (failing_of g.D.Disk.fails c.args.disks) (fails_of c.in-Ok.store) (histories_of g.D.Disk.history c.args.disks) (history_of c.in-Ok.store)
@@ -128,7 +128,7 @@ returns-in-Ok-begin-clause-booted g c = record {
       (plain_of c.in-Ok.store (content c.in-Ok.state)) s (loaded_is c.in-Ok.store (content c.in-Ok.state) is.host
       (bytes_now (g.D.Disk.history (disk_at Spool c.args.disks))) s (ap bytes_now (c.in-Ok.ensures.reads.same yes Spool))
       (c.in-Ok.ensures.told yes is.host is.is) is.bytes)
-      (c.begin.ensures.calls.any_moment yes (c.in-Ok.ensures.tells yes));
+      (c.begin.ensures.makes.calls.any_moment yes (c.in-Ok.ensures.tells yes));
 }
 
 pub returns-in-Ok-begin-clause-outputs : goal.returns-in-Ok-begin-clause-outputs

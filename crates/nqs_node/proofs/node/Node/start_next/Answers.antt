@@ -1,4 +1,4 @@
-use Rattle.std.proofs.Common.{◌≡◌, ◌++◌, IsTrue, IsErrOf, Err, IfSome, List, [], ℕ, is_some, map, refl, sym, ap, subst, ◌∙◌}
+use Rattle.std.proofs.Common.{◌++◌, IsTrue, IfSome, List, [], ℕ, is_some, map, refl, sym, ap, subst, ◌∙◌}
 use Rattle.std.specs.List.{AllByRecursion}
 use Rattle.std.proofs.lemmas.List.{append-nil}
 use Rattle.nqs_rules.specs.Fits.{fits}
@@ -14,8 +14,8 @@ use Rattle.nqs_node.specs.Reading.{AreShort}
 use Rattle.nqs_back.proofs.Plans.{bare_step, alike_step, fewer_left, one_back}
 use Rattle.nqs_node.proofs.Bare.{picked_bare, started_bare, bare_none, alike_none}
 use Rattle.nqs_node.specs.declared.fault.NodeFault.TheVariants as node
-use Rattle.nqs_node.proofs.Places.{no_error, node_memory, node_stopped}
-use Rattle.nqs_node.proofs.Still.{same_error, stops_still, carries_still, stops_again, carries_again, carries_true, stops_true}
+use Rattle.nqs_node.proofs.Places.{no_error, at_most_itself, node_memory, node_stopped}
+use Rattle.nqs_node.proofs.Still.{no_refusal, takes_still, refuses_still, wants_still, carries_true, leaves_true}
 use Rattle.nqs_node.proofs.Planning.{next_is, at_next, none_next, may_be_done, does}
 use Rattle.nqs_node.proofs.Resting.{none_found}
 use Rattle.nqs_node.proofs.Telling.{tells_still, one_still, does_next, quiet_next}
@@ -34,54 +34,100 @@ carry_out-requires-clause-may g c =
     (at_next (λ x. AllByRecursion IsShortPut (puts_of x.change)) now host plan next (c.stored_bytes_are_short.ensures.start now host order))
     (at_next (λ x. AreLive host x.outputs) now host plan next (c.outputs_read_live_extents.ensures.start now host order))
 
-pub returns-then-self-clause-stops : goal.returns-then-self-clause-stops
-returns-then-self-clause-stops g c = stops_still c.args.self.now node.Stopped node_stopped
+pub returns-then-self-clause-leaves : goal.returns-then-self-clause-leaves
+returns-then-self-clause-leaves g c = refuses_still c.args.self.now c.requires.sound c.args.out.now c.if-self.true
 
-pub returns-then-self-clause-carries : goal.returns-then-self-clause-carries
-returns-then-self-clause-carries g c = λ s told. carries_still c.args.self.now node.Stopped node_stopped _ _ (started c.args.now s)
+pub returns-then-self-clause-takes : goal.returns-then-self-clause-takes
+returns-then-self-clause-takes g c = takes_still c.args.self.now node.Stopped node_stopped _ _ (started c.args.now)
 
-pub returns-in-Err-clause-stops : goal.returns-in-Err-clause-stops
-returns-in-Err-clause-stops g c = stops_still c.args.self.now _ (node_memory c.in-Err.memory)
+pub returns-in-Err-clause-leaves : goal.returns-in-Err-clause-leaves
+returns-in-Err-clause-leaves g c = wants_still c.args.self.now c.requires.sound c.args.out.now c.if-self.false c.in-Err.memory
 
-pub returns-in-Err-clause-carries : goal.returns-in-Err-clause-carries
-returns-in-Err-clause-carries g c = λ s told. carries_still c.args.self.now _ (node_memory c.in-Err.memory) _ _ (started c.args.now s)
+pub returns-in-Err-clause-takes : goal.returns-in-Err-clause-takes
+returns-in-Err-clause-takes g c = takes_still c.args.self.now _ (node_memory c.in-Err.memory) _ _ (started c.args.now)
 
-pub returns-in-Ok-None-clause-carries : goal.returns-in-Ok-None-clause-carries
-returns-in-Ok-None-clause-carries g c = λ s told.
-    let still = quiet_next c.args.self.now s told c.args.now (c.start_looks_at_no_bytes.ensures.start (bytes_of c.args.self.now) c.args.now
-    (content_of c.args.self.now))
-    (none_next c.args.now (content_of c.args.self.now) (sym c.in-Ok-None.field-0-is ∙ c.in-Ok-None.ensures)) in
+pub returns-in-Ok-None-clause-leaves : goal.returns-in-Ok-None-clause-leaves
+returns-in-Ok-None-clause-leaves g c = record {
+  sound = c.requires.sound;
+  site = refl;
+  stopped = no_refusal c.args.self.now c.if-self.false (no_error _ _);
+  refused = λ is. absurd (no_error _ _ is);
+  stops = record {
+    running = c.if-self.false;
+    broken = λ which is. absurd (no_error _ _ is);
+    later = λ which. at_most_itself _;
+    fuse = λ yes which i. refl;
+  };
+  unsaid = tt;
+  memory = λ yes is. absurd (no_error _ _ is);
+  unmade = tt;
+}
+
+pub returns-in-Ok-None-clause-takes : goal.returns-in-Ok-None-clause-takes
+returns-in-Ok-None-clause-takes g c =
+    let old = c.args.self.now in
+    let host = content_of old in
+    let none = none_next c.args.now host (sym c.in-Ok-None.field-0-is ∙ c.in-Ok-None.ensures) in
+    let same = c.start_looks_at_no_bytes.ensures.start (λ _. []) c.args.now host in
     record {
-      told = λ yes t tells. tells_still c.args.self.now (after_step (started c.args.now s) t) (subst (λ (x : Stepped (List ℕ)). Tells c.args.self.now
-          (after_step x t)) (sym still) tells) _ refl (λ which. refl) (λ host keeps. keeps) tells.running;
-      outputs = λ yes t tells.
-          sym (append-nil c.args.out.now.items) ∙ ap (λ (x : Stepped (List ℕ)). c.args.out.now.items ++ map shown x.outputs) (sym still);
-      made = λ yes. subst (λ (x : Stepped (List ℕ)). IsMade (active_of c.args.self.now) (fails_of c.args.self.now) (history_of c.args.self.now)
-          (history_of c.args.self.now) x.change) (sym still)
-          (λ which. refl);
-      active = ap (λ (x : Stepped (List ℕ)). after_kept x.change (active_of c.args.self.now)) (sym still);
-      broken_off = λ yes. tt;
-      cut = λ yes t tells which is. absurd (no_error _ _ is);
-      any_moment = λ yes t tells. one_still c.args.self.now t tells yes (started c.args.now s).change;
+      bare = bare_none c.args.now host same none;
+      alike = alike_none c.args.now host same none c.args.out.now.items;
+      short = λ was went. was;
+      carries = λ s told.
+          let still = quiet_next old s told c.args.now (c.start_looks_at_no_bytes.ensures.start (bytes_of old) c.args.now host) none in
+          record {
+            told = λ yes t tells. tells_still old (after_step (started c.args.now s) t) (subst (λ (x : Stepped (List ℕ)). Tells old (after_step x t))
+                (sym still) tells) _ refl (λ which. refl) (λ host keeps. keeps) tells.running;
+            outputs = λ yes t tells.
+                sym (append-nil c.args.out.now.items) ∙ ap (λ (x : Stepped (List ℕ)). c.args.out.now.items ++ map shown x.outputs) (sym still);
+            made = λ yes. subst (λ (x : Stepped (List ℕ)). IsMade (active_of old) (fails_of old) (history_of old) (history_of old) x.change) (sym still)
+                (λ which. refl);
+            active = ap (λ (x : Stepped (List ℕ)). after_kept x.change (active_of old)) (sym still);
+            broken_off = λ yes. tt;
+            cut = λ yes t tells which is. absurd (no_error _ _ is);
+            any_moment = λ yes t tells. one_still old t tells yes (started c.args.now s).change;
+          };
     }
 
-pub returns-in-Ok-clause-stops : goal.returns-in-Ok-clause-stops
-returns-in-Ok-clause-stops g c = stops_true c.args.self.now _ c.in-Ok.ensures.stops
+pub returns-in-Err-carry_out-clause-leaves : goal.returns-in-Err-carry_out-clause-leaves
+returns-in-Err-carry_out-clause-leaves g c = c.in-Err-carry_out.ensures.leaves
 
-pub returns-in-Err-carry_out-clause-stops : goal.returns-in-Err-carry_out-clause-stops
-returns-in-Err-carry_out-clause-stops g c = stops_again c.args.self.now _ _ c.in-Err-carry_out.ensures.stops
+pub returns-in-Err-carry_out-clause-takes : goal.returns-in-Err-carry_out-clause-takes
+returns-in-Err-carry_out-clause-takes g c =
+    let old = c.args.self.now in
+    let host = content_of old in
+    let next = next_is c.args.now host c.in-Ok-Some.plan (sym c.in-Ok-Some.field-0-is ∙ c.in-Ok-Some.ensures) in
+    record {
+      bare = tt;
+      alike = tt;
+      short = λ was went. tt;
+      carries = λ s told.
+          c.in-Err-carry_out.ensures.carries.carries (started c.args.now s) (does_next old s told c.args.now
+          (c.start_looks_at_no_bytes.ensures.start (bytes_of old) c.args.now host) c.in-Ok-Some.plan next);
+    }
 
-pub returns-in-Err-carry_out-clause-carries : goal.returns-in-Err-carry_out-clause-carries
-returns-in-Err-carry_out-clause-carries g c = λ s told. carries_again c.args.self.now _ _ _ (started c.args.now s) _
-    (c.in-Err-carry_out.ensures.carries (started c.args.now s) (does_next c.args.self.now s told c.args.now
-    (c.start_looks_at_no_bytes.ensures.start (bytes_of c.args.self.now) c.args.now (content_of c.args.self.now)) c.in-Ok-Some.plan
-    (next_is c.args.now (content_of c.args.self.now) c.in-Ok-Some.plan (sym c.in-Ok-Some.field-0-is ∙ c.in-Ok-Some.ensures))))
+pub returns-in-Ok-clause-leaves : goal.returns-in-Ok-clause-leaves
+returns-in-Ok-clause-leaves g c = leaves_true c.args.self.now _ _ _ c.in-Ok.ensures.leaves
 
-pub returns-in-Ok-clause-carries : goal.returns-in-Ok-clause-carries
-returns-in-Ok-clause-carries g c = λ s told. carries_true c.args.self.now _ _ _ (started c.args.now s)
-    (c.in-Ok.ensures.carries (started c.args.now s) (does_next c.args.self.now s told c.args.now
-    (c.start_looks_at_no_bytes.ensures.start (bytes_of c.args.self.now) c.args.now (content_of c.args.self.now)) c.in-Ok-Some.plan
-    (next_is c.args.now (content_of c.args.self.now) c.in-Ok-Some.plan (sym c.in-Ok-Some.field-0-is ∙ c.in-Ok-Some.ensures))))
+pub returns-in-Ok-clause-takes : goal.returns-in-Ok-clause-takes
+returns-in-Ok-clause-takes g c =
+    let old = c.args.self.now in
+    let host = content_of old in
+    let now = c.args.now in
+    let plan = c.in-Ok-Some.plan in
+    let next = next_is now host plan (sym c.in-Ok-Some.field-0-is ∙ c.in-Ok-Some.ensures) in
+    let same = started_bare now host (c.start_looks_at_no_bytes.ensures.start (λ _. []) now host) next.done next.picked in
+    let carried = c.in-Ok.ensures.carries in
+    record {
+      bare = bare_step host (content_of c.carry_out.new.self) (started now) next.done plan next.is same carried.bare;
+      alike = alike_step host (started now) next.done plan next.is same c.args.out.now.items c.carry_out.new.out.items carried.alike;
+      short = λ was went.
+          carried.short (map_stepped (λ _. []) next.done) (does next.done plan next.is (λ _. [])) was
+          (subst (λ (x : Stepped (List ℕ)). AreShort (map shown x.outputs)) same went);
+      carries = λ s told.
+          carries_true old _ _ _ (started now s) (carried.carries (started now s) (does_next old s told now
+          (c.start_looks_at_no_bytes.ensures.start (bytes_of old) now host) plan next));
+    }
 
 pub invariant_of-self : goal.invariant_of-self
 invariant_of-self g c =
@@ -94,36 +140,9 @@ invariant_of-self g c =
 pub returns-in-Ok-None-clause-more : goal.returns-in-Ok-None-clause-more
 returns-in-Ok-None-clause-more g c = sym (ap is_some (none_next c.args.now (content_of c.args.self.now) (sym c.in-Ok-None.field-0-is ∙ c.in-Ok-None.ensures)))
 
-pub returns-in-Err-carry_out-clause-memory : goal.returns-in-Err-carry_out-clause-memory
-returns-in-Err-carry_out-clause-memory g c = λ yes failed. c.in-Err-carry_out.ensures.memory yes (same_error _ _ failed)
-
 pub returns-in-Ok-clause-more : goal.returns-in-Ok-clause-more
 returns-in-Ok-clause-more g c = sym (ap is_some (next_is c.args.now (content_of c.args.self.now) c.in-Ok-Some.plan
     (sym c.in-Ok-Some.field-0-is ∙ c.in-Ok-Some.ensures)).picked)
-
-pub returns-in-Ok-None-clause-bare : goal.returns-in-Ok-None-clause-bare
-returns-in-Ok-None-clause-bare g c = bare_none c.args.now (content_of c.args.self.now)
-    (c.start_looks_at_no_bytes.ensures.start (λ _. []) c.args.now (content_of c.args.self.now))
-    (none_next c.args.now (content_of c.args.self.now) (sym c.in-Ok-None.field-0-is ∙ c.in-Ok-None.ensures))
-
-pub returns-in-Ok-None-clause-alike : goal.returns-in-Ok-None-clause-alike
-returns-in-Ok-None-clause-alike g c = alike_none c.args.now (content_of c.args.self.now)
-    (c.start_looks_at_no_bytes.ensures.start (λ _. []) c.args.now (content_of c.args.self.now))
-    (none_next c.args.now (content_of c.args.self.now) (sym c.in-Ok-None.field-0-is ∙ c.in-Ok-None.ensures)) c.args.out.now.items
-
-pub returns-in-Ok-clause-bare : goal.returns-in-Ok-clause-bare
-returns-in-Ok-clause-bare g c =
-    let next = next_is c.args.now (content_of c.args.self.now) c.in-Ok-Some.plan (sym c.in-Ok-Some.field-0-is ∙ c.in-Ok-Some.ensures) in
-    bare_step (content_of c.args.self.now) (content_of c.carry_out.new.self) (started c.args.now) next.done c.in-Ok-Some.plan next.is
-    (started_bare c.args.now (content_of c.args.self.now) (c.start_looks_at_no_bytes.ensures.start (λ _. []) c.args.now
-    (content_of c.args.self.now)) next.done next.picked) c.in-Ok.ensures.bare
-
-pub returns-in-Ok-clause-alike : goal.returns-in-Ok-clause-alike
-returns-in-Ok-clause-alike g c =
-    let next = next_is c.args.now (content_of c.args.self.now) c.in-Ok-Some.plan (sym c.in-Ok-Some.field-0-is ∙ c.in-Ok-Some.ensures) in
-    alike_step (content_of c.args.self.now) (started c.args.now) next.done c.in-Ok-Some.plan next.is
-    (started_bare c.args.now (content_of c.args.self.now) (c.start_looks_at_no_bytes.ensures.start (λ _. []) c.args.now
-    (content_of c.args.self.now)) next.done next.picked) c.args.out.now.items c.carry_out.new.out.items c.in-Ok.ensures.alike
 
 pub returns-in-Ok-clause-fewer : goal.returns-in-Ok-clause-fewer
 returns-in-Ok-clause-fewer g c = λ more.
@@ -132,7 +151,7 @@ returns-in-Ok-clause-fewer g c = λ more.
     (picked_bare c.args.now (content_of c.args.self.now) (c.start_looks_at_no_bytes.ensures.start (λ _. []) c.args.now
     (content_of c.args.self.now)) next.done next.picked)
     (bare_step (content_of c.args.self.now) (content_of c.carry_out.new.self)
-    (λ _. map_stepped (λ _. []) next.done) next.done c.in-Ok-Some.plan next.is refl c.in-Ok.ensures.bare)
+    (λ _. map_stepped (λ _. []) next.done) next.done c.in-Ok-Some.plan next.is refl c.in-Ok.ensures.carries.bare)
 
 pub returns-in-Ok-clause-one_back : goal.returns-in-Ok-clause-one_back
 returns-in-Ok-clause-one_back g c =
@@ -141,14 +160,4 @@ returns-in-Ok-clause-one_back g c =
     (picked_bare c.args.now (content_of c.args.self.now) (c.start_looks_at_no_bytes.ensures.start (λ _. []) c.args.now
     (content_of c.args.self.now)) next.done next.picked) c.args.out.now.items c.carry_out.new.out.items
     (alike_step (content_of c.args.self.now) (λ _. map_stepped (λ _. []) next.done) next.done c.in-Ok-Some.plan next.is refl c.args.out.now.items
-    c.carry_out.new.out.items c.in-Ok.ensures.alike)
-
-pub returns-in-Ok-clause-short : goal.returns-in-Ok-clause-short
-returns-in-Ok-clause-short g c = λ was went.
-    let now = c.args.now in
-    let host = content_of c.args.self.now in
-    let plan = c.in-Ok-Some.plan in
-    let next = next_is now host plan (sym c.in-Ok-Some.field-0-is ∙ c.in-Ok-Some.ensures) in
-    let same = started_bare now host (c.start_looks_at_no_bytes.ensures.start (λ _. []) now host) next.done next.picked in
-    c.in-Ok.ensures.short (map_stepped (λ _. []) next.done) (does next.done plan next.is (λ _. [])) was
-    (subst (λ (x : Stepped (List ℕ)). AreShort (map shown x.outputs)) same went)
+    c.carry_out.new.out.items c.in-Ok.ensures.carries.alike)

@@ -1,4 +1,4 @@
-use Rattle.std.proofs.Common.{◌≡◌, ℕ, List, [], map, refl, sym, ap, subst, ◌∙◌}
+use Rattle.std.proofs.Common.{◌≡◌, ℕ, List, [], map, sym, ap, subst, ◌∙◌}
 use Rattle.std.proofs.lemmas.Result.{on_ok_weaker, IfOk-weaker}
 use Rattle.nqs_rules.specs.Step.{step}
 use Rattle.nqs_rules.specs.Stepped.{Stepped, map_stepped, shown}
@@ -8,7 +8,7 @@ use Rattle.nqs_node.specs.Reading.{AreShort}
 use Rattle.nqs_back.proofs.Plans.{bare_step, alike_step, no_more_left, none_back}
 use Rattle.nqs_node.specs.declared.fault.NodeFault.TheVariants as node
 use Rattle.nqs_node.proofs.Places.{node_memory, node_stopped}
-use Rattle.nqs_node.proofs.Still.{stops_still, carries_still}
+use Rattle.nqs_node.proofs.Still.{takes_still, refuses_still, wants_still}
 use Rattle.nqs_node.proofs.Planning.{may_be_done, does}
 use Rattle.nqs_node.proofs.Telling.{done_here}
 use Rattle.nqs_node.proofs.node.Node.take.Goals as goal
@@ -23,39 +23,39 @@ carry_out-requires-clause-may g c =
     (c.few_offers_are_taken_back.ensures.step e host order sane) (c.stored_bytes_are_short.ensures.step e host order sane)
     (c.outputs_read_live_extents.ensures.step e host order)
 
-pub returns-then-self-clause-stops : goal.returns-then-self-clause-stops
-returns-then-self-clause-stops g c = stops_still c.args.self.now node.Stopped node_stopped
+pub returns-then-self-clause-leaves : goal.returns-then-self-clause-leaves
+returns-then-self-clause-leaves g c = refuses_still c.args.self.now c.requires.sound c.args.out.now c.if-self.true
 
-pub returns-then-self-clause-carries : goal.returns-then-self-clause-carries
-returns-then-self-clause-carries g c = λ s told. carries_still c.args.self.now node.Stopped node_stopped _ _ (step c.args.event.now s)
+pub returns-then-self-clause-takes : goal.returns-then-self-clause-takes
+returns-then-self-clause-takes g c = takes_still c.args.self.now node.Stopped node_stopped _ _ (step c.args.event.now)
 
-pub returns-in-Err-clause-stops : goal.returns-in-Err-clause-stops
-returns-in-Err-clause-stops g c = stops_still c.args.self.now _ (node_memory c.in-Err.memory)
+pub returns-in-Err-clause-leaves : goal.returns-in-Err-clause-leaves
+returns-in-Err-clause-leaves g c = wants_still c.args.self.now c.requires.sound c.args.out.now c.if-self.false c.in-Err.memory
 
-pub returns-in-Err-clause-carries : goal.returns-in-Err-clause-carries
-returns-in-Err-clause-carries g c = λ s told. carries_still c.args.self.now _ (node_memory c.in-Err.memory) _ _ (step c.args.event.now s)
+pub returns-in-Err-clause-takes : goal.returns-in-Err-clause-takes
+returns-in-Err-clause-takes g c = takes_still c.args.self.now _ (node_memory c.in-Err.memory) _ _ (step c.args.event.now)
 
-pub returns-in-Ok-clause-stops : goal.returns-in-Ok-clause-stops
-returns-in-Ok-clause-stops g c = c.carry_out.ensures.stops
+pub returns-in-Ok-clause-leaves : goal.returns-in-Ok-clause-leaves
+returns-in-Ok-clause-leaves g c = c.carry_out.ensures.leaves
 
-pub returns-in-Ok-clause-carries : goal.returns-in-Ok-clause-carries
-returns-in-Ok-clause-carries g c = λ s told.
-    c.carry_out.ensures.carries (step c.args.event.now s) (done_here c.args.self.now s told (step c.args.event.now)
-    (step c.args.event.now (content_of c.args.self.now)) c.in-Ok.plan c.in-Ok.ensures
-    (c.step_looks_at_no_bytes.ensures (bytes_of c.args.self.now) c.args.event.now (content_of c.args.self.now)))
-
-pub returns-in-Ok-clause-bare : goal.returns-in-Ok-clause-bare
-returns-in-Ok-clause-bare g c =
-    on_ok_weaker c.carry_out.result (bare_step (content_of c.args.self.now) (content_of c.carry_out.new.self) (step c.args.event.now)
-    (step c.args.event.now (content_of c.args.self.now)) c.in-Ok.plan c.in-Ok.ensures
-    (c.step_looks_at_no_bytes.ensures (λ _. []) c.args.event.now (content_of c.args.self.now))) c.carry_out.ensures.bare
-
-pub returns-in-Ok-clause-alike : goal.returns-in-Ok-clause-alike
-returns-in-Ok-clause-alike g c =
-    on_ok_weaker c.carry_out.result (alike_step (content_of c.args.self.now) (step c.args.event.now)
-    (step c.args.event.now (content_of c.args.self.now)) c.in-Ok.plan c.in-Ok.ensures
-    (c.step_looks_at_no_bytes.ensures (λ _. []) c.args.event.now (content_of c.args.self.now)) c.args.out.now.items c.carry_out.new.out.items)
-    c.carry_out.ensures.alike
+pub returns-in-Ok-clause-takes : goal.returns-in-Ok-clause-takes
+returns-in-Ok-clause-takes g c =
+    let old = c.args.self.now in
+    let host = content_of old in
+    let same = c.step_looks_at_no_bytes.ensures (λ _. []) c.args.event.now host in
+    let carried = c.carry_out.ensures.carries in
+    record {
+      bare = on_ok_weaker c.carry_out.result (bare_step host (content_of c.carry_out.new.self) (step c.args.event.now) (step c.args.event.now host)
+          c.in-Ok.plan c.in-Ok.ensures same) carried.bare;
+      alike = on_ok_weaker c.carry_out.result (alike_step host (step c.args.event.now) (step c.args.event.now host) c.in-Ok.plan c.in-Ok.ensures same
+          c.args.out.now.items c.carry_out.new.out.items) carried.alike;
+      short = λ was went.
+          carried.short (map_stepped (λ _. []) (step c.args.event.now host)) (does (step c.args.event.now host) c.in-Ok.plan c.in-Ok.ensures (λ _. [])) was
+          (subst (λ (x : Stepped (List ℕ)). AreShort (map shown x.outputs)) same went);
+      carries = λ s told.
+          carried.carries (step c.args.event.now s) (done_here old s told (step c.args.event.now) (step c.args.event.now host) c.in-Ok.plan c.in-Ok.ensures
+          (c.step_looks_at_no_bytes.ensures (bytes_of old) c.args.event.now host));
+    }
 
 pub returns-in-Ok-clause-halts : goal.returns-in-Ok-clause-halts
 returns-in-Ok-clause-halts g c =
@@ -69,7 +69,7 @@ returns-in-Ok-clause-no_more g c = λ back.
     on_ok_weaker c.carry_out.result (λ made. no_more_left (content_of c.args.self.now) (content_of c.carry_out.new.self) c.args.event.now back
     (bare_step (content_of c.args.self.now) (content_of c.carry_out.new.self) (step c.args.event.now)
     (step c.args.event.now (content_of c.args.self.now)) c.in-Ok.plan c.in-Ok.ensures
-    (c.step_looks_at_no_bytes.ensures (λ _. []) c.args.event.now (content_of c.args.self.now)) made)) c.carry_out.ensures.bare
+    (c.step_looks_at_no_bytes.ensures (λ _. []) c.args.event.now (content_of c.args.self.now)) made)) c.carry_out.ensures.carries.bare
 
 pub returns-in-Ok-clause-none_back : goal.returns-in-Ok-clause-none_back
 returns-in-Ok-clause-none_back g c = λ back.
@@ -77,12 +77,4 @@ returns-in-Ok-clause-none_back g c = λ back.
     (content_of c.carry_out.new.self) c.args.event.now back c.args.out.now.items c.carry_out.new.out.items
     (alike_step (content_of c.args.self.now) (step c.args.event.now) (step c.args.event.now (content_of c.args.self.now)) c.in-Ok.plan c.in-Ok.ensures
     (c.step_looks_at_no_bytes.ensures (λ _. []) c.args.event.now (content_of c.args.self.now)) c.args.out.now.items c.carry_out.new.out.items said))
-    c.carry_out.ensures.alike
-
-pub returns-in-Ok-clause-short : goal.returns-in-Ok-clause-short
-returns-in-Ok-clause-short g c = λ was went.
-    let e = c.args.event.now in
-    let host = content_of c.args.self.now in
-    let same = c.step_looks_at_no_bytes.ensures (λ _. []) e host in
-    c.carry_out.ensures.short (map_stepped (λ _. []) (step e host)) (does (step e host) c.in-Ok.plan c.in-Ok.ensures (λ _. [])) was
-    (subst (λ (x : Stepped (List ℕ)). AreShort (map shown x.outputs)) same went)
+    c.carry_out.ensures.carries.alike
