@@ -7,7 +7,7 @@ ghost use Rattle.nqs_base.specs.Want.{want};
 ghost use Rattle.nqs_base.specs.declared.extent.Extent.{Extent};
 ghost use Rattle.nqs_outside.specs.History.{IsQuiet, content as bytes_now};
 ghost use Rattle.nqs_spool.specs.Live.{end_of};
-ghost use Rattle.nqs_spool.specs.Spooled.{disk_of as spool_disk, Tells as SpoolTells};
+ghost use Rattle.nqs_spool.specs.Spooled.{disk_of, Tells as SpoolTells};
 ghost use Rattle.nqs_journal.specs.Faults.{IsReadingFault};
 ghost use Rattle.nqs_journal.specs.Text.{records};
 ghost use Rattle.nqs_journal.specs.Either.{front_of};
@@ -129,7 +129,7 @@ fn host_with<D: Disk>(
     spool: &mut Spool<D>,
 ) -> Result<(HostState, LiveExtents), LoadFault>
     requires { length (front_of has snapshot.now ++ records payloads.now) ≤ 2 ^ 40 }
-    ensures read { ReadsHost D.tells D.history D.fails D.starved D.faults on has snapshot.now payloads.now (spool_disk spool.old) (spool_disk spool.new) result }
+    ensures read { ReadsHost D.tells D.history D.fails D.starved D.faults on has snapshot.now payloads.now (disk_of spool.old) (disk_of spool.new) result }
     ensures tells { (live : List Extent) → SpoolTells spool.old live → SpoolTells spool.new live }
 {
     let state = told_host(alloc, on, has, snapshot, payloads)?;

@@ -113,7 +113,8 @@ returns-else-second g c = record {
       ];
   reads =
       each_reads _ _ _ _ _ _ _
-      (each_disk _ c.in-Ok.ensures.reads c.reread_host-else-second.ensures.host.active (one_same _ _ _ _ _ _ _ refl) c.reread_host-else-second.ensures.host.spool);
+      (each_disk _ c.in-Ok.ensures.reads c.reread_host-else-second.ensures.host.active (one_same _ _ _ _ _ _ _ refl)
+      c.reread_host-else-second.ensures.host.spool);
   stays = (
     refl,
     active_again c.args.self.now c.reread_host-else-second.new.journal c.args.self.now.second (either_one _ c.reread_host-else-second.ensures.stays.1 refl),
