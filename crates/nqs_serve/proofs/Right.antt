@@ -5,6 +5,7 @@ use Rattle.std.proofs.lemmas.Bool.{and_parts, and_from, lt-ltb, eqb-true}
 use Rattle.std.proofs.lemmas.List.Folds.{list_all-append}
 use Rattle.std.specs.List.{list_any, list_all}
 use Rattle.std.specs.Option.{IfSome}
+use Rattle.nqs_base.proofs.Plain.{all-true}
 use Rattle.nqs_state.specs.State.{Plain}
 use Rattle.nqs_state.specs.Keys.{is_row, is_stage, is_file}
 use Rattle.nqs_base_tables.specs.Table.{best_from, without_first}
@@ -60,7 +61,7 @@ use Rattle.nqs_rules.proofs.RowsOrder.{hand_is}
 use Rattle.nqs_rules.proofs.StateFacts.{sites_are}
 use Rattle.nqs_rules.proofs.Sublists.{part_all, without_part}
 use Rattle.nqs_laws.proofs.RowTests.{PlainRow}
-use Rattle.nqs_laws.proofs.Sent.{all-flat, all-true, best_passes, Begins, Launches, Prints, Holds, Moves, Opens, begins}
+use Rattle.nqs_laws.proofs.Sent.{all-flat, best_passes, Begins, Launches, Prints, Holds, Moves, Opens, begins}
 use Rattle.nqs_serve.specs.Sends.{has_number, is_right_id, is_right_event}
 
 -- what is sent goes to a host of the site under a number, and what is acknowledged is a request of the site

@@ -5,6 +5,7 @@ use Rattle.std.specs.Option.{IfSome}
 use Rattle.std.proofs.lemmas.Bool.{and_parts, and_from, ltb-true, lt-ltb, leb-true}
 use Rattle.std.proofs.lemmas.List.{length-append, length-map}
 use Rattle.std.proofs.lemmas.List.Folds.{list_all-append}
+use Rattle.nqs_base.proofs.Plain.{all-true}
 use Rattle.nqs_base.specs.declared.extent.Extent.{Extent}
 use Rattle.nqs_types.specs.declared.ids.HostId.{HostId}
 use Rattle.nqs_types.specs.declared.message.Message.{Message}
@@ -34,7 +35,7 @@ use Rattle.nqs_laws.specs.Words.{body_passes}
 use Rattle.nqs_laws.proofs.Frame.{sent_in}
 use Rattle.nqs_laws.proofs.RowTests.{AllPass}
 use Rattle.nqs_laws.proofs.Sides.{AreShort}
-use Rattle.nqs_laws.proofs.Sent.{all-true, is_fine_message, all_sent, step_fine, start_sends}
+use Rattle.nqs_laws.proofs.Sent.{is_fine_message, all_sent, step_fine, start_sends}
 use Rattle.nqs_back.specs.Bare.{emptied, without_bytes}
 use Rattle.nqs_node.specs.Carried.{started}
 use Rattle.nqs_node.specs.Reading.{carries_short, sends_short, AreShort as AreShortOutputs}

@@ -39,6 +39,13 @@ pub(crate) fn journal_disk(second: bool) -> Which
     if second { Which::Second } else { Which::First }
 }
 
+fn begin_anew<D: Disk>(journal: &mut Journal<D>, text: &[u8]) -> Result<(), Failed>
+    requires begins { IsSnapshotText text.now }
+    ensures { Begins journal.old journal.new text.now result }
+{
+    journal.begin_anew(text)
+}
+
 // The other journal begins with this text, where the active one is that on `second` or isn't.
 fn begin_other<D: Disk>(
     on_second: bool,
@@ -51,9 +58,9 @@ fn begin_other<D: Disk>(
     ensures rest { pick on_second first.new second.new ≡ pick on_second first.old second.old }
 {
     if on_second {
-        first.begin_anew(text)
+        begin_anew(first, text)
     } else {
-        second.begin_anew(text)
+        begin_anew(second, text)
     }
 }
 

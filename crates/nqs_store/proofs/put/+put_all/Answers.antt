@@ -11,6 +11,7 @@ use Rattle.nqs_records.specs.Values.{IsExtent}
 use Rattle.nqs_spool.specs.Puts.{put_calls}
 use Rattle.nqs_spool.specs.Spooled.{disk_of, history_of, place_for}
 use Rattle.nqs_store.proofs.Extents.{with_first}
+use Rattle.nqs_outside.proofs.Histories.{goes_on}
 use Rattle.nqs_outside.proofs.Roses.{rose_since}
 use Rattle.nqs_store.proofs.Putting.{held_idle, none_put, first_broken, later_broken, more_put, kept_on}
 use Rattle.nqs_store.proofs.Runs.{none_clear, all_clear, later_fails, first_fails, failing, is_disk, one_clear}
@@ -123,7 +124,8 @@ returns-in-Ok g t c =
         still = λ told live tells y script has holds.
             l.still told (x ∷ live) (e.tells live (x ∷ live) tells (with_first x live)) y script (inr has) (e.still told live tells y script has holds);
       };
-      grown = search rules;
+      grown = λ told. (put_calls x.place put ++ (c.put_all.ensures.grown told).0, goes_on (history_of old) (history_of mid) (history_of c.put_all.new.spool) _ _
+          (made told) (c.put_all.ensures.grown told).1);
       done = on_ok_weaker c.put_all.result (more_put old mid c.put_all.new.spool x put e.tells e.stored c.args.puts.now later c.args.extents.now.items _ _ is
           pushed small made c.put_all.ensures.puts.still) c.put_all.ensures.done;
     }

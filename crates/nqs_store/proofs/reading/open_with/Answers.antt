@@ -60,7 +60,12 @@ returns g c = record {
   extents = search rules;
   fault = λ told. tt;
   failed = tt;
-  active = search rules;
+  active = record {
+    same = λ told. c.in-Ok.ensures.same told;
+    fuse = λ told i. c.in-Ok.ensures.fuse told i;
+    starved = λ told. c.in-Ok.ensures.starved told;
+    later = omega (arith, c.in-Ok.ensures.later);
+  };
   resting = search rules;
   spool = search rules;
 }
