@@ -27,7 +27,13 @@ pub fn row_runs(state: &HostState, id: &RequestId) -> bool
 }
 
 /// The row that a request makes where it comes in.
-pub(crate) fn new_row(carried: Carried, queue: Name, arrival: u64, script: Extent, alloc: Global) -> Row
+pub(crate) fn new_row(
+    carried: Carried,
+    queue: Name,
+    arrival: u64,
+    script: Extent,
+    alloc: Global,
+) -> Row
     ensures { result ≡ new_row carried queue arrival script }
 {
     let Carried {

@@ -24,12 +24,7 @@ pub(crate) enum Missed {
 }
 
 // The event that a datagram is, with the moment 0, if it is one.
-fn event_in(
-    alloc: Global,
-    me: HostId,
-    site: &[Name],
-    bytes: &[u8],
-) -> Result<Option<Event>, Memory>
+fn event_in(alloc: Global, me: HostId, site: &[Name], bytes: &[u8]) -> Result<Option<Event>, Memory>
     ensures event { IfOk result (λ event. event ≡ event_in (record { me = me; site = site.now }) (came bytes.now)) }
     ensures sane { IfOk result (λ event. IfSome event (λ e. IsTrue (is_sane_event (length site.now) e))) }
     ensures right { IfOk result (λ event. IfSome event (λ e. IsTrue (is_right_event (length site.now) e))) }

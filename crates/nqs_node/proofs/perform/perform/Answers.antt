@@ -136,19 +136,19 @@ returns-in-Some-clause-performs g c =
           record {
             plain = λ yes told.
                 on_ok_weaker c.keep.result (plain_since (active_of old) (active_of mid) spool.stays.1 (fails_of old) (fails_of mid) (history_of old)
-                    (history_of mid) (history_of now)
+                (history_of mid) (history_of now)
                 (spool.reads.fuse yes) (spool.reads.same yes) change c.args.puts.now kept some (plain_of mid host) (plain_of old host)
                 (same_plain old mid (spool.reads.same yes) host) (plain_of now (content c.keep.new.state))) (makes.plain yes (spool.tells yes host told));
             made = λ yes.
                 on_ok_weaker c.keep.result (made_since (active_of old) (active_of mid) spool.stays.1 (fails_of old) (fails_of mid) (history_of old)
-                    (history_of mid) (history_of now)
+                (history_of mid) (history_of now)
                 (spool.reads.fuse yes) (spool.reads.same yes) change c.args.puts.now kept some) (makes.calls.made yes);
             active =
                 on_ok_weaker c.keep.result (λ turned.
                 turned ∙ ap (λ x. recorded (ready x)) spool.stays.1 ∙ ap (λ (k : Kept). after_kept k (active_of old)) some.is) makes.active;
             broken_off = λ yes.
                 on_err_weaker c.keep.result (broken_since (active_of old) (active_of mid) spool.stays.1 (fails_of old) (fails_of mid) (history_of old)
-                    (history_of mid) (history_of now)
+                (history_of mid) (history_of now)
                 (spool.reads.fuse yes) (spool.reads.same yes) change c.args.puts.now kept some) (makes.calls.broken_off yes);
             cut = λ yes told which failed.
                 either (cut_since (active_of old) (active_of mid) spool.stays.1 (fails_of old) (fails_of mid) (history_of old) (history_of mid) (history_of now)

@@ -36,7 +36,7 @@ returns-in-Ok-clause-fills g c = record {
   alike = ap (map without_bytes) c.fill_at.ensures.filled ∙ filled_alike c.args.read.now.output c.from_vec.result c.args.outputs.now.items;
   filled = λ yes host told live.
       let read = c.from_vec.ensures ∙ c.in-Ok.ensures.bytes yes host told live
-          ∙ ap (λ l. l ++ bytes_of c.args.store.now c.args.read.now.extent) c.new-bytes.ensures.items in
+      ∙ ap (λ l. l ++ bytes_of c.args.store.now c.args.read.now.extent) c.new-bytes.ensures.items in
       c.fill_at.ensures.filled ∙ ap (λ b. change_at c.args.read.now.output (with_bytes b) c.args.outputs.now.items) read;
   few = (
     c.from_vec.result,

@@ -124,8 +124,11 @@ returns-in-Ok g t c =
         still = λ told live tells y script has holds.
             l.still told (x ∷ live) (e.tells live (x ∷ live) tells (with_first x live)) y script (inr has) (e.still told live tells y script has holds);
       };
-      grown = λ told. (put_calls x.place put ++ (c.put_all.ensures.grown told).0, goes_on (history_of old) (history_of mid) (history_of c.put_all.new.spool) _ _
-          (made told) (c.put_all.ensures.grown told).1);
+      grown = λ told. (
+        put_calls x.place put ++ (c.put_all.ensures.grown told).0,
+        goes_on (history_of old) (history_of mid) (history_of c.put_all.new.spool) _ _
+            (made told) (c.put_all.ensures.grown told).1,
+      );
       done = on_ok_weaker c.put_all.result (more_put old mid c.put_all.new.spool x put e.tells e.stored c.args.puts.now later c.args.extents.now.items _ _ is
           pushed small made c.put_all.ensures.puts.still) c.put_all.ensures.done;
     }

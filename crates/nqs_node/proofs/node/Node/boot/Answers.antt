@@ -62,7 +62,7 @@ returns-in-Err-begin-clause-unbooted g c = record {
   cut = λ yes s is a active which failed.
       either (subst (λ d. IsTrue (g.D.Disk.starved d)) (sym (c.close.ensures which)))
       (λ k. subst (λ (h : Which → History). IsCutBy a (failing_of g.D.Disk.fails c.args.disks) (histories_of g.D.Disk.history c.args.disks) h
-          (Some Boot) s which)
+      (Some Boot) s which)
       (λ j which. g.D.Disk.history (sym (c.close.ensures which) j))
       (cut_since a (active_of c.in-Ok.store) (sym (c.one_journal_is_active.ensures _ a (active_of c.in-Ok.store) active (c.in-Ok.ensures.active yes)))
       (failing_of g.D.Disk.fails c.args.disks) (fails_of c.in-Ok.store) (histories_of g.D.Disk.history c.args.disks) (history_of c.in-Ok.store)
