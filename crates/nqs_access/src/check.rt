@@ -7,9 +7,9 @@ ghost use Rattle.nqs_rules.specs.Access.{access_causes, add_name_causes, lists_u
 ghost use Rattle.nqs_rules.specs.Causes.{cause, first_refusal};
 ghost use Rattle.nqs_rules.specs.Find.{has_name};
 
-use crate::names::{has_name, known_queue};
+use crate::names::known_queue;
 use crate::way::admits;
-use nqs_base::Name;
+use nqs_base::{Name, has_name};
 use nqs_state::HostState;
 use nqs_types::{Access, AccessEdit, QueueDef, Refusal};
 

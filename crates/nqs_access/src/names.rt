@@ -5,18 +5,10 @@ ghost use Rattle.nqs_state.specs.State.{content};
 ghost use Rattle.nqs_rules.specs.Access.{without_name};
 ghost use Rattle.nqs_rules.specs.Causes.{first_refusal};
 ghost use Rattle.nqs_rules.specs.Conf.{queue_causes};
-ghost use Rattle.nqs_rules.specs.Find.{has_name};
 
 use nqs_base::{Name, NameList};
 use nqs_state::HostState;
 use nqs_types::Refusal;
-
-/// Whether the name is one of the list.
-pub fn has_name(names: &[Name], wanted: &Name) -> bool
-    ensures { result ≡ has_name names.now wanted.now }
-{
-    names.iter().any(|name| *wanted == *name)
-}
 
 /// The place of the name in the list, from 0: the first, if it stands there more than once.
 pub fn place_of(names: &[Name], wanted: &Name) -> Option<usize>

@@ -4,8 +4,7 @@ ghost use Rattle.nqs_state.specs.State.{content};
 ghost use Rattle.nqs_rules.specs.Access.{rank, is_conf_of_operators, is_device_edit_of_operators, is_of_operators, rank_causes, may_command};
 ghost use Rattle.nqs_rules.specs.Causes.{first_refusal};
 
-use crate::names::has_name;
-use nqs_base::Name;
+use nqs_base::{Name, has_name};
 use nqs_state::HostState;
 use nqs_types::{Command, ConfEdit, DevicesEdit, Edit, Rank, Refusal};
 

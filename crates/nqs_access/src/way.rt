@@ -2,8 +2,7 @@
 ghost use Rattle.std.specs.Prelude.{◌≡◌, ◌&&◌};
 ghost use Rattle.nqs_rules.specs.Access.{is_direct, admits, may_use};
 
-use crate::names::has_name;
-use nqs_base::Name;
+use nqs_base::{Name, has_name};
 use nqs_types::{Access, Entry, QueueDef, Refusal};
 
 fn is_direct(entry: Entry) -> bool

@@ -4,12 +4,14 @@
 //! bytes.
 
 ghost use Rattle.std.specs.Prelude.{◌≡◌, ℕ, List, length, take, nat_eq};
+ghost use Rattle.std.specs.List.{list_any, AllByRecursion};
 ghost use Rattle.std.specs.Cmp.{partial_equiv_from_equiv};
 ghost use Rattle.std.specs.Cmp.Lexicographic.{pointwise, nat_list_eq_equiv};
 ghost use Rattle.std.specs.Cmp.Rules.{hashing};
 ghost use Rattle.std.specs.Hash as fed;
 ghost use Rattle.std.proofs.Common.{rules};
 ghost use Rattle.nqs_base.specs.Name.{IsName, padded, allowed_at};
+ghost use Rattle.nqs_base.specs.Same.{name_eq};
 
 use crate::list::ListOf;
 use std::hash::{Hash, Hasher};
@@ -120,5 +122,28 @@ impl Hash for Name {
 
     fn hash<H: Hasher>(&self, state: &mut H) {
         self.as_bytes().hash(state);
+    }
+}
+
+/// Whether the name is one of the list.
+pub fn has_name(names: &[Name], wanted: &Name) -> bool
+    ensures { result ≡ list_any (name_eq wanted.now) names.now }
+{
+    names.iter().any(|name| *wanted == *name)
+}
+
+/// Reads the name, whose type says that it is one: for callers that need its contract.
+pub fn name_stands(name: &Name)
+    ensures { IsName name.now }
+{
+    let _ = name.as_bytes();
+}
+
+/// The same of each name of a list.
+pub fn names_stand(names: &[Name])
+    ensures { AllByRecursion IsName names.now }
+{
+    for name in names {
+        name_stands(name);
     }
 }

@@ -14,7 +14,7 @@ ghost use Rattle.nqs_cli.specs.Runs.{Parts as Lists, IsWanting, DoesFormat, no_p
 
 use crate::machine::Machine;
 use crate::parts::status_of_end;
-use nqs_base::Name;
+use nqs_base::{Name, names_stand};
 use nqs_clients::NqsStatus;
 use nqs_outside::Disk;
 use nqs_store::{Disks, StoreFault};
@@ -49,15 +49,6 @@ fn have_bytes<D: Disk>(disks: &mut Disks<D>) -> Result<bool, NqsStatus>
     let second = has_bytes(&mut disks.second)?;
     let spool = has_bytes(&mut disks.spool)?;
     Ok(root || first || second || spool)
-}
-
-// Reads each name, whose type says that it is one: for callers, who call it for its contract.
-fn names_stand(site: &[Name])
-    ensures { AllByRecursion IsName site.now }
-{
-    for name in site {
-        let _ = name.as_bytes();
-    }
 }
 
 fn format_empty<D: Disk>(

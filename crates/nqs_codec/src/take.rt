@@ -10,8 +10,8 @@ ghost use Rattle.nqs_codec.specs.Takes.{TakesNumber, TakesBytes};
 use crate::fault::Short;
 use nqs_base::Extent;
 
-// What stands from the place on.
-fn rest_at(bytes: &[u8], place: u64) -> &[u8]
+/// What stands from the place on.
+pub fn rest_at(bytes: &[u8], place: u64) -> &[u8]
     ensures { result.now ≡ drop place bytes.now }
 {
     let start = place.min(bytes.len() as u64) as usize;

@@ -7,8 +7,7 @@ ghost use Rattle.nqs_rules.specs.Find.{has_device};
 ghost use Rattle.nqs_rules.specs.Devices.{device_causes, idle_device_causes, devices_causes, is_device_queue, lists_device};
 
 use crate::free::is_busy;
-use nqs_access::has_name;
-use nqs_base::Name;
+use nqs_base::{Name, has_name};
 use nqs_state::HostState;
 use nqs_types::{DevicesEdit, Kind, QueueDef, Refusal};
 

@@ -11,4 +11,3 @@ mod free;
 pub use apply::apply_devices;
 pub use check::check_devices;
 pub use free::{can_serve, free_device, is_busy, runs_on};
-pub use nqs_access::has_name;

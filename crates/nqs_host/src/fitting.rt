@@ -21,18 +21,12 @@ use nqs_limits::check_limits;
 use nqs_routing::{find_peer, has_hand_to, has_promise};
 use nqs_rows::{arrivals_used, check_rows, is_host_full, offer_full};
 use nqs_state::HostState;
-use nqs_types::{Change, Edit, Hold, HostId, PeerNumber, Phase, RequestId, Row, RowState};
+use nqs_types::{Change, Edit, HostId, PeerNumber, Phase, RequestId, Row, RowState};
 
 /// Hops that a request may have before one more.
 const MOST_HOPS: u8 = 32;
 
 const LAST_SEQ: u32 = 4_294_967_294;
-
-fn is_ready(row: &Row) -> bool
-    ensures { result ≡ is_ready row.now }
-{
-    row.state == RowState::Queued && row.hold == Hold::No
-}
 
 fn row_is_idle(state: &HostState, id: &RequestId) -> bool
     ensures { result ≡ row_passes is_idle id.now (content state.now) }
@@ -47,7 +41,7 @@ fn row_is_ready(state: &HostState, id: &RequestId) -> bool
     ensures { result ≡ row_passes is_ready id.now (content state.now) }
 {
     match state.rows.get(id) {
-        Some(row) => is_ready(row),
+        Some(row) => row.is_ready(),
         None => false,
     }
 }
@@ -56,7 +50,7 @@ fn row_may_hop(state: &HostState, id: &RequestId) -> bool
     ensures { result ≡ row_passes may_hop id.now (content state.now) }
 {
     match state.rows.get(id) {
-        Some(row) => is_ready(row) && row.hops < MOST_HOPS,
+        Some(row) => row.is_ready() && row.hops < MOST_HOPS,
         None => false,
     }
 }

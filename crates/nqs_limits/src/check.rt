@@ -6,8 +6,8 @@ ghost use Rattle.nqs_types.specs.declared.refusal.Refusal.TheVariants as refusal
 ghost use Rattle.nqs_rules.specs.Causes.{cause, first_refusal};
 ghost use Rattle.nqs_rules.specs.Limits.{complex_causes, is_batch_queue, limits_causes, lists_queue};
 
-use nqs_access::{has_name, known_queue};
-use nqs_base::Name;
+use nqs_access::known_queue;
+use nqs_base::{Name, has_name};
 use nqs_state::HostState;
 use nqs_types::{ComplexDef, Kind, LimitsEdit, QueueDef, Refusal};
 

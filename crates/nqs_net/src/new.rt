@@ -12,7 +12,7 @@ ghost use Rattle.nqs_net.specs.Worlds.{IsUp, IsWorld};
 
 use crate::slot::{Slot, UpHost};
 use crate::world::World;
-use nqs_base::{ListOf, Name, Tear};
+use nqs_base::{ListOf, Name, Tear, names_stand};
 use nqs_disk::{Lack, MemDisk};
 use nqs_node::Node;
 use nqs_store::{Disks, LoadFault, StoreFault, format};
@@ -55,15 +55,6 @@ fn lack_of(disks: Disks<MemDisk>) -> Lack
         Some(lack) => lack,
         // One of them lacked something.
         None => unreachable!(),
-    }
-}
-
-// Reads each name, whose type says that it is one: for callers, who call it for its contract.
-fn names_stand(site: &[Name])
-    ensures { AllByRecursion IsName site.now }
-{
-    for name in site {
-        let _ = name.as_bytes();
     }
 }
 

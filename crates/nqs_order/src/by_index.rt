@@ -19,8 +19,8 @@ ghost use Rattle.nqs_order.specs.ByIndex.{first_among, first_eligible, has_first
 use crate::best::best_of;
 use crate::choice::{is_greater, move_to, print_on};
 use crate::eligible::is_waiting;
-use nqs_base::Name;
-use nqs_devices::{can_serve, has_name};
+use nqs_base::{Name, has_name};
+use nqs_devices::can_serve;
 use nqs_index::{Class, ClassLine, Classes, Index, Key, Line, Steps, Tally};
 use nqs_routing::{destination_in, is_reachable};
 use nqs_state::HostState;

@@ -8,8 +8,7 @@ ghost use Rattle.nqs_rules.specs.Limits.{is_batch_queue};
 ghost use Rattle.nqs_rules.specs.Order.{is_active_in, runs_in, runs_in_batch, complex_allows, batch_allows, is_within_limits};
 ghost use Rattle.nqs_order.specs.Places.{is_place_within};
 
-use nqs_base::Name;
-use nqs_devices::has_name;
+use nqs_base::{Name, has_name};
 use nqs_state::HostState;
 use nqs_types::{ComplexDef, Kind, QueueDef, Row, RowState};
 

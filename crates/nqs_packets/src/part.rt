@@ -1,7 +1,7 @@
 //! Fields that records don't have: numbers from 1 on, causes of refusals, bytes, and the words of
 //! commands.
 
-ghost use Rattle.std.specs.Prelude.{◌≡◌, drop};
+ghost use Rattle.std.specs.Prelude.{◌≡◌};
 ghost use Rattle.nqs_rules.specs.Sane.{is_offer_refusal};
 ghost use Rattle.nqs_records.specs.Reading.{Answers, repeated, within};
 ghost use Rattle.nqs_records.specs.Fields.{u16_at, u32_at};
@@ -9,6 +9,7 @@ ghost use Rattle.nqs_records.specs.Values.{is_at_most};
 ghost use Rattle.nqs_packets.specs.Parts.{number_at, cause_at, run_at, bytes_at, is_any, tool_at, is_word_count, words_at};
 
 use nqs_base::{Bytes, Items};
+use nqs_codec::rest_at;
 use nqs_records::{RecordFault, read_u8, read_u16, read_u32, read_u64};
 use nqs_types::Tool;
 use std::alloc::Global;
@@ -48,14 +49,6 @@ pub(crate) fn read_cause(bytes: &[u8], place: u64) -> Result<(u8, u64), RecordFa
     } else {
         Err(RecordFault::BadField(place))
     }
-}
-
-// What stands from the place on.
-fn rest_at(bytes: &[u8], place: u64) -> &[u8]
-    ensures { result.now ≡ drop place bytes.now }
-{
-    let start = place.min(bytes.len() as u64) as usize;
-    &bytes[start..]
 }
 
 #[tactic(auto, unfolding(crate::specs::Parts::run_at))]

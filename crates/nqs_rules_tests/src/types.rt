@@ -177,7 +177,7 @@ fn lists(rt: HostRuntime) {
 fn counted(alloc: Global, items: &mut Items<ListOf<u8>>) -> Result<(usize, Option<usize>), Memory> {
     items.push(ListOf::new(alloc))?;
     let copies = items.clone()?.len();
-    Ok((copies, items.take_first().map(|first| first.len())))
+    Ok((copies, items.as_slice().first().map(|first| first.len())))
 }
 
 fn list_of_lists(alloc: Global) -> Result<(usize, Option<usize>), Memory> {

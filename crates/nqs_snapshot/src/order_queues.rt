@@ -5,19 +5,13 @@ ghost use Rattle.std.specs.List.{list_all};
 ghost use Rattle.nqs_base.specs.Same.{name_eq};
 ghost use Rattle.nqs_state.specs.State.{content};
 ghost use Rattle.nqs_rules.specs.Conf.{at_most};
-ghost use Rattle.nqs_rules.specs.Find.{has_name, has_queue, has_device};
+ghost use Rattle.nqs_rules.specs.Find.{has_queue, has_device};
 ghost use Rattle.nqs_rules.specs.InOrder.{are_distinct, is_user_list_short, is_dest_right, is_queue_right, is_complex_right};
 
 use crate::order::{Right, is_site_host};
-use nqs_base::Name;
+use nqs_base::{Name, has_name};
 use nqs_state::HostState;
 use nqs_types::{Access, ComplexDef, Dest, QueueDef};
-
-fn has_name(names: &[Name], wanted: &Name) -> bool
-    ensures { result ≡ has_name names.now wanted.now }
-{
-    names.iter().any(|name| *wanted == *name)
-}
 
 // Whether no two names are one: of a short list.
 fn differ(names: &[Name]) -> bool

@@ -123,6 +123,17 @@ pub struct Row<E: Copy + Drop = Extent> {
     pub script: E,
 }
 
+impl<E: Copy + Drop> Row<E> {
+    ghost use Rattle.nqs_types.specs.RowStates.{is_ready};
+
+    /// Whether it is queued and not held.
+    pub fn is_ready(&self) -> bool
+        ensures { result ≡ is_ready self.now }
+    {
+        self.state == RowState::Queued && self.hold == Hold::No
+    }
+}
+
 // Written out, so that a request is let go by a call, and not field by field in each function that
 // owns one.
 impl<E: Copy + Drop> Drop for Row<E> {
