@@ -11,7 +11,9 @@ ghost use Rattle.nqs_rules.specs.Fits.{edit_fits};
 ghost use Rattle.nqs_rules.specs.InOrder.{IsInOrder};
 ghost use Rattle.nqs_records.specs.EditValues.{IsConfEdit, IsLimitsEdit, IsAccessEdit, IsDevicesEdit, IsRowsEdit, IsEdit};
 
-use crate::values::{dest_stands, maybe_dest_stands, maybe_number_stands, name_stands};
+use crate::values::{dest_stands, maybe_dest_stands};
+use nqs_base::name_stands;
+use nqs_records::maybe_number_stands;
 use nqs_state::HostState;
 use nqs_types::{AccessEdit, ConfEdit, DevicesEdit, Edit, LimitsEdit, RowsEdit};
 

@@ -3,46 +3,14 @@
 
 ghost use Rattle.std.specs.Prelude.{IsTrue};
 ghost use Rattle.std.specs.List.{AllByRecursion};
-ghost use Rattle.nqs_base.specs.Name.{IsName};
 ghost use Rattle.nqs_rules.specs.Sane.{is_sane_job, is_sane_carried};
-ghost use Rattle.nqs_records.specs.Values.{IsU8, IsU64, IsOpt, IsHost, IsJob, IsCarried};
+ghost use Rattle.nqs_records.specs.Values.{IsOpt, IsHost, IsJob, IsCarried};
 ghost use Rattle.nqs_records.specs.EditValues.{IsDest};
 ghost use Rattle.nqs_host_laws.specs.Offers.{HasNumber};
 
-use nqs_base::Name;
+use nqs_base::name_stands;
+use nqs_records::{maybe_name_stands, maybe_number_stands, number_stands};
 use nqs_types::{Carried, Job, NamedDest, PeerNumber};
-
-pub(crate) fn name_stands(name: &Name)
-    ensures { IsName name.now }
-{
-    let _ = name.as_bytes();
-}
-
-pub(crate) fn maybe_name_stands(name: &Option<Name>)
-    ensures { IsOpt IsName name.now }
-{
-    match name {
-        Some(name) => name_stands(name),
-        None => {}
-    }
-}
-
-pub(crate) fn byte_stands(byte: u8)
-    ensures { IsU8 byte }
-{}
-
-pub(crate) fn number_stands(number: u64)
-    ensures { IsU64 number }
-{}
-
-pub(crate) fn maybe_number_stands(number: &Option<u64>)
-    ensures { IsOpt IsU64 number.now }
-{
-    match number {
-        Some(number) => number_stands(*number),
-        None => {}
-    }
-}
 
 pub(crate) fn dest_stands(dest: &NamedDest)
     ensures { IsDest dest.now }

@@ -44,7 +44,7 @@ use Rattle.nqs_laws.proofs.Frame.{Moment, put_state, put-same, Way, Taken, Begun
 use Rattle.nqs_laws.proofs.Told.{at-value}
 use Rattle.nqs_laws.proofs.RowTests.{PlainRow}
 use Rattle.nqs_laws.proofs.Sent.{is_fine_output, Begins, Launches, Prints, Holds, Moves, Opens, begins, step_fine}
-use Rattle.nqs_laws.proofs.Sound.{IsSound, Keeps, Suits, event_sane, all_sane, get-here, runs_keep}
+use Rattle.nqs_laws.proofs.Sound.{IsSound, Keeps, Suits, me_is, event_sane, all_sane, get-here, runs_keep}
 use Rattle.nqs_laws.proofs.After.{Request}
 use Rattle.nqs_laws.proofs.Paired.{At}
 use Rattle.nqs_laws.proofs.TabledRuns.{new_net}
@@ -270,15 +270,13 @@ module _ (site : List (List ℕ)) (first : List Plain) (m : Moment) (sound : IsS
     then_there : At then_states h (applied submission s)
     then_there = get-here h.0 (applied submission s) s m.states there
 
-    me_is : s.me ≡ h
-    me_is = λ j. ((sound.hosts h.0 s there).head j).0
-
     lies_now : lies (next_id s) then_states ≡ true
     lies_now = new_lies site first m sound history h s there way submission is suits refl
 
     given_now : IsGiven (next_id s) then_states
     given_now u at =
-        let same : applied submission s ≡ u = same_Some (applied submission s) u (sym then_there ∙ ((λ j. slice_get then_states (sym me_is j).0) ∙ at)) in
+        let mine : h ≡ s.me = sym (me_is site m sound h s there) in
+        let same : applied submission s ≡ u = same_Some (applied submission s) u (sym then_there ∙ ((λ j. slice_get then_states (mine j).0) ∙ at)) in
         let a : u.seq ≡ s.seq + 1 = ap (λ (v : Plain). v.seq) (sym same) ∙ seq_after submission s suits.fit in
         omega (arith, a)
 

@@ -74,8 +74,8 @@ module _ (now : ℕ) (s : Plain) (steady : IsSteady s) (c : Choice) (p : IsPicke
   of_row f e = ap (λ o. is_some (option_and_then f o)) p.first.at ∙ e
 
   at_device : (device : ℕ) → is_some (slice_get d.devices device) ≡ true → is_some (option_map (λ n. printing n r s) (device_at device r s)) ≡ true
-  at_device device e = is_some-option_map (λ n. printing n r s) (device_at device r s) ∙ ap (λ o. is_some (option_and_then (λ q. slice_get q.devices device) o)) queue_found
-      ∙ e
+  at_device device e = is_some-option_map (λ n. printing n r s) (device_at device r s)
+      ∙ ap (λ o. is_some (option_and_then (λ q. slice_get q.devices device) o)) queue_found ∙ e
 
   at_dest : (f : _ → Stepped (List ℕ)) (dest : ℕ) → is_some (slice_get d.dests dest) ≡ true → is_some (option_map f (dest_at dest r s)) ≡ true
   at_dest f dest e = is_some-option_map f (dest_at dest r s) ∙ ap (λ o. is_some (option_and_then (λ q. slice_get q.dests dest) o)) queue_found ∙ e

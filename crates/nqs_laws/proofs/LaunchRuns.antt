@@ -26,7 +26,7 @@ use Rattle.nqs_laws.specs.Licensed.{Licenses, IsLicensed}
 use Rattle.nqs_laws.specs.Launches.{Launch, launched, launches, same_launch, was_lost_again, is_launch_of, AreApart, IsStarted, IsStartedIn, AreStarted}
 use Rattle.nqs_laws.proofs.Frame.{Moment, put_state, Way, change_by, why_by}
 use Rattle.nqs_laws.proofs.Told.{replayed-append, nothing_kept, at-value}
-use Rattle.nqs_laws.proofs.Sound.{IsSound, Suits, get-here}
+use Rattle.nqs_laws.proofs.Sound.{IsSound, Suits, me_is, get-here}
 use Rattle.nqs_laws.proofs.After.{Request}
 use Rattle.nqs_laws.proofs.Paired.{At}
 use Rattle.nqs_laws.proofs.Advance.{seq_grows}
@@ -186,12 +186,9 @@ module _ (site : List (List ℕ)) (first : List Plain) (m : Moment) (sound : IsS
           omega (arith, a, b, d)
       by false e = given u (sym (get-other h.0 x.host.0 (λ _. applied c s) m.states (λ here. true≢false (sym (eq-eqb h.0 x.host.0 here) ∙ e))) ∙ at)
 
-  me_is : s.me ≡ h
-  me_is = λ j. ((sound.hosts h.0 s there).head j).0
-
   pub never_new : (x : Request) → IsGiven x m.states → x ≡ next_id s → ⊥
   never_new x given e =
-      let host : x.host ≡ h = (λ j. (e j).host) ∙ me_is in
+      let host : x.host ≡ h = (λ j. (e j).host) ∙ me_is site m sound h s there in
       let a : x.seq ≤ s.seq = given s ((λ j. slice_get m.states (host j).0) ∙ there) in
       let b : x.seq ≡ s.seq + 1 = λ j. (e j).seq in
       omega (arith, a, b)

@@ -45,7 +45,7 @@ use Rattle.nqs_laws.proofs.Frame.{Moment, moment, put_state, silent, Way, change
 use Rattle.nqs_laws.proofs.Told.{at-value}
 use Rattle.nqs_laws.proofs.RowTests.{PlainRow, IsKept, AllPass, change_passes}
 use Rattle.nqs_laws.proofs.Sent.{is_fine_message}
-use Rattle.nqs_laws.proofs.Sound.{IsSound, Keeps, Suits, sound_frames, way_sends, get-here, runs_keep}
+use Rattle.nqs_laws.proofs.Sound.{IsSound, Keeps, Suits, sound_frames, me_is, way_sends, get-here, runs_keep}
 use Rattle.nqs_laws.proofs.NewRows.{row_passes, carried_passes}
 use Rattle.nqs_laws.proofs.After.{Request, id_of, submitted_row, row_after}
 use Rattle.nqs_laws.proofs.Found.{first_of_two}
@@ -138,9 +138,6 @@ weaker_offers t v f xs k = list_all-weaker (offers_pass t) (offers_pass v) (λ x
 
 module _ (site : List (List ℕ)) (m : Moment) (k : IsSound site m) (p : IsNumbered m) (h : HostId) (s : Plain) (there : At m.states h s)
     (way : Way m.packets h s) where
-  me_is : s.me ≡ h
-  me_is = λ j. ((k.hosts h.0 s there).head j).0
-
   module _ (u : Plain) (more : s.seq ≤ u.seq) where
     abbrev later : List Plain
     later = put_state h u m.states
@@ -190,7 +187,7 @@ module _ (site : List (List ℕ)) (m : Moment) (k : IsSound site m) (p : IsNumbe
     new_numbered queue job script e =
         let number : (applied c s).seq ≡ s.seq + 1 = ap (λ d. (applied d s).seq) e in
         let last : last_given s.me after ≡ (applied c s).seq = last_at after s.me.0 (applied c s)
-        (ap (λ (i : HostId). slice_get after i.0) me_is ∙ get-here h.0 (applied c s) s m.states there) in
+        (ap (λ (i : HostId). slice_get after i.0) (me_is site m k h s there) ∙ get-here h.0 (applied c s) s m.states there) in
         and_from (nat_le 1 (s.seq + 1)) (nat_le (s.seq + 1) (last_given s.me after)) (le-leb 1 (s.seq + 1) (omega arith))
         (le-leb (s.seq + 1) (last_given s.me after) (omega (arith, number, last)))
 

@@ -213,9 +213,6 @@ module _ (site : List (List ℕ)) (m : Moment) (sound : IsSound site m) (k : IsP
       of (Some c) e = change_paired way c e (suits c e)
 
   -- what is said of the states before is said of those after, where nothing changed
-  me_is : s.me ≡ h
-  me_is = λ j. (host.head j).0
-
   here_after : (way : Way m.packets h s) → At (states_after way) h (after way)
   here_after way = get-here h.0 (after way) s m.states there
 

@@ -136,6 +136,9 @@ module _ (site : List (List ℕ)) (m : Moment) (k : IsSound site m) (h : HostId)
   abbrev host : IsHost site h.0 s
   host = k.hosts h.0 s there
 
+  pub me_is : s.me ≡ h
+  me_is = λ j. (host.head j).0
+
   pub all_sane : list_all (is_sane_message (length s.site)) m.packets ≡ true
   all_sane = ap (λ l. list_all (is_sane_message (length l)) m.packets) (site_is site h.0 s host) ∙ k.packets
 

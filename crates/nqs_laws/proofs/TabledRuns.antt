@@ -33,7 +33,7 @@ use Rattle.nqs_laws.specs.Sane.{AreSane, IsSite}
 use Rattle.nqs_laws.specs.Loads.{Load, kept_load}
 use Rattle.nqs_laws.proofs.Frame.{Moment, moment, put_state, put-same, Way, change_by}
 use Rattle.nqs_laws.proofs.Sides.{head_kept}
-use Rattle.nqs_laws.proofs.Sound.{IsSound, Keeps, Suits, host_kept, runs_keep}
+use Rattle.nqs_laws.proofs.Sound.{IsSound, Keeps, Suits, me_is, host_kept, runs_keep}
 use Rattle.nqs_laws.proofs.RowTests.{PlainRow}
 use Rattle.nqs_laws.proofs.After.{Request}
 use Rattle.nqs_laws.proofs.Makes.{HasHand}
@@ -99,9 +99,6 @@ module _ (site : List (List ℕ)) (m : Moment) (sound : IsSound site m) (paired 
       let sites : length s.site ≡ length site = ap length (λ j. (host.head j).1) in
       state_below m.states peer.0 (let count = sound.count in omega (arith, below, peers, sites, count))
 
-  me_here : s.me ≡ h
-  me_here = λ j. ((sound.hosts h.0 s there).head j).0
-
   module _ (table : Table) (told : IsTabled m.states table) (way : Way m.packets h s) (c : Change (List ℕ)) (is : change_by way ≡ Some c)
       (suits : Suits s c) where
     guards_of : IsOne c → GuardsOf m.states h s c
@@ -110,7 +107,7 @@ module _ (site : List (List ℕ)) (m : Moment) (sound : IsSound site m) (paired 
     in_host : IsOne c → IsInHost c → IsTabled (put_state h (applied c s) m.states) (row_table h (applied c s) table)
     in_host one inside =
         let host = sound.hosts h.0 s there in
-        host_tabled m.states m.packets paired h s there me_here host.order host.calm table told c suits.fit one inside
+        host_tabled m.states m.packets paired h s there (me_is site m sound h s there) host.order host.calm table told c suits.fit one inside
         (host_kept site h.0 s host c suits.fit suits.sane suits.short).order (λ j. (head_kept c s suits.fit j).0) (guards_of one)
 
   offer_phase : (y : Hand) → is_offered_hand y ≡ true → y.phase ≡ Offered
@@ -174,7 +171,7 @@ module _ (site : List (List ℕ)) (m : Moment) (sound : IsSound site m) (paired 
     advance (HandsSilent until ks) is suits =
         let host = sound.hosts h.0 s there in
         plain_advance (HandsSilent until ks) (λ x. refl)
-        (silent_tabled until ks m.states m.packets h s there me_here host.order host.calm
+        (silent_tabled until ks m.states m.packets h s there (me_is site m sound h s there) host.order host.calm
         (list_all-weaker _ (λ l. not_committed (find_hand l.peer l.number s))
         (λ l. offer_or_none (find_hand l.peer l.number s)) ks suits.fit) paired table told)
     advance (Submitted queue job script) is suits = plain_advance (Submitted queue job script) (λ x. refl)

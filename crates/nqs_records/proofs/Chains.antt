@@ -45,7 +45,8 @@ both_read {A} {B} {IsA} {IsB} {fa} {fb} {ra} {rb} one other = record {
       let back = fb value.0 value.1 in
       let text = is ∙ append_assoc front back rest in
       let here = one.taken bytes (back ++ rest) place value.0 fits is_value.0 text in
-      let there = (other value.0 is_value.0).taken bytes rest (place + length front) value.1 fits is_value.1 (rest_behind bytes place front (back ++ rest) text) in
+      let behind = rest_behind bytes place front (back ++ rest) text in
+      let there = (other value.0 is_value.0).taken bytes rest (place + length front) value.1 fits is_value.1 behind in
       bind (ra bytes place) _ _ _ here (bind (rb value.0 bytes (place + length front)) _ _ _ there (ap (λ (n : ℕ). Ok (value, n)) (longer place front back)));
 }
 

@@ -49,6 +49,7 @@ mod put_parts;
 mod put_shapes;
 mod read;
 mod request_kinds;
+mod values;
 mod write;
 
 pub use extents::put_extents;
@@ -58,4 +59,8 @@ pub use job::{read_carried, read_job, read_u8_at_most};
 pub use part::{read_extent, read_host, read_id, read_opt_name, read_opt_u64, read_path};
 pub use put_parts::{put_carried, put_extent, put_id, put_job, put_opt_name, put_opt_u64};
 pub use read::{first_faults, read_change, reads_the_spelling, what_may_stand_is_sane};
+pub use values::{
+    byte_stands, maybe_name_stands, maybe_number_stands, middle_number_stands, number_stands,
+    short_number_stands,
+};
 pub use write::write_change;

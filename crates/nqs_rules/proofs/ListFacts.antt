@@ -148,5 +148,6 @@ module _ {K V : Type 0} (eq : K → K → Bool) (key : V → K) (exact : (a b : 
           → (are_distinct eq (map key vs) ≡ true → find (has_key eq key (key v)) vs ≡ Some v) → cond b (Some x) (find (has_key eq key (key v)) vs) ≡ Some v
       by true e d rest =
           let alike : key v ≡ key x = exact (key v) (key x) e in
-          absurd (true≢false (sym (same (key x)) ∙ ap (eq (key x)) (sym alike) ∙ other_key eq key (key x) vs i v (not_true (list_any (eq (key x)) (map key vs)) d.0) at))
+          let other = other_key eq key (key x) vs i v (not_true (list_any (eq (key x)) (map key vs)) d.0) at in
+          absurd (true≢false (sym (same (key x)) ∙ ap (eq (key x)) (sym alike) ∙ other))
       by false e d rest = rest d.1

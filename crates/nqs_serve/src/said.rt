@@ -1,18 +1,17 @@
 //! What a host says may be sent, where the script or output that it carries is short enough.
 //!
 //! The names and numbers of a message are those of its types. The functions that tell it only read
-//! them: a caller cites one by calling it.
+//! them: a caller cites one by calling it (`nqs_records/src/values.rt` has the others).
 
 ghost use Rattle.std.specs.Prelude.{◌≡◌, IsTrue, nat_le};
-ghost use Rattle.nqs_base.specs.Name.{IsName};
-ghost use Rattle.nqs_records.specs.Values.{IsU8, IsU64, IsOpt};
 ghost use Rattle.nqs_node.specs.Reading.{carries_short};
 ghost use Rattle.nqs_packets.specs.Messages.{IsTypedJob, IsSaid};
 ghost use Rattle.nqs_packets.specs.Values.{IsNumber, MaySend};
 ghost use Rattle.nqs_serve.specs.Sends.{has_number, is_right_message};
 
-use nqs_base::Name;
+use nqs_base::name_stands;
 use nqs_packets::what_is_sane_may_be_sent;
+use nqs_records::{byte_stands, maybe_name_stands, maybe_number_stands};
 use nqs_types::{Body, Job, Message};
 
 fn number_is_typed(number: u64)
@@ -20,43 +19,15 @@ fn number_is_typed(number: u64)
     ensures { IsNumber number }
 {}
 
-fn cause_is_typed(cause: u8)
-    ensures { IsU8 cause }
-{}
-
-fn name_is_typed(name: &Name)
-    ensures { IsName name.now }
-{
-    let _bytes = name.as_bytes();
-}
-
-fn forms_are_typed(forms: &Option<Name>)
-    ensures { IsOpt IsName forms.now }
-{
-    match forms {
-        None => {}
-        Some(name) => name_is_typed(name),
-    }
-}
-
-fn limit_is_typed(limit: Option<u64>)
-    ensures { IsOpt IsU64 limit }
-{
-    match limit {
-        None => {}
-        Some(_) => {}
-    }
-}
-
 fn job_is_typed(job: &Job)
     ensures { IsTypedJob job.now }
 {
     let _earliest = job.earliest;
-    name_is_typed(&job.name);
-    name_is_typed(&job.owner);
-    limit_is_typed(job.limits.cpu);
-    limit_is_typed(job.limits.memory);
-    forms_are_typed(&job.forms);
+    name_stands(&job.name);
+    name_stands(&job.owner);
+    maybe_number_stands(&job.limits.cpu);
+    maybe_number_stands(&job.limits.memory);
+    maybe_name_stands(&job.forms);
 }
 
 fn body_is_typed(body: &Body)
@@ -71,13 +42,13 @@ fn body_is_typed(body: &Body)
             ..
         } => {
             number_is_typed(*number);
-            name_is_typed(queue);
+            name_stands(queue);
             job_is_typed(&carried.job);
         }
         Body::Ready { number } => number_is_typed(*number),
         Body::Refused { number, cause } => {
             number_is_typed(*number);
-            cause_is_typed(*cause);
+            byte_stands(*cause);
         }
         Body::Commit { number } => number_is_typed(*number),
         Body::Done { number } => number_is_typed(*number),

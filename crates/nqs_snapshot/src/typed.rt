@@ -5,65 +5,29 @@ ghost use Rattle.std.specs.List.{AllByRecursion};
 ghost use Rattle.nqs_state.specs.State.{content};
 ghost use Rattle.nqs_base.specs.Name.{IsName};
 ghost use Rattle.nqs_rules.specs.InOrder.{IsInOrder};
-ghost use Rattle.nqs_records.specs.Values.{IsU8, IsU16, IsU32, IsU64, IsOpt};
+ghost use Rattle.nqs_records.specs.Values.{IsU16, IsOpt};
 ghost use Rattle.nqs_snapshot.specs.Values.{IsMany, IsAccess, IsLimits, IsComplex, IsDevice, IsPeer, MayStand, MayStandCounters};
 ghost use Rattle.nqs_snapshot.specs.Typed.{IsTypedDest, AreTypedSettings, IsTypedQueue, IsTypedJob, IsTypedRefused, IsTypedCourse, IsTypedRow};
 ghost use Rattle.nqs_snapshot.specs.Typed.{IsTypedHand, IsTypedPromise, IsTypedStage, IsTypedFile, IsTypedSite, AreTypedRequests, AreTypedDealings};
 ghost use Rattle.nqs_snapshot.specs.Sound.{HasShortParts};
 
-use nqs_base::{Key, Keyed, Name};
+use nqs_base::{Key, Keyed, Name, name_stands};
 use nqs_base_tables::Table;
+use nqs_records::{
+    byte_stands, maybe_name_stands, maybe_number_stands, middle_number_stands, number_stands,
+    short_number_stands,
+};
 use nqs_state::HostState;
 use nqs_types::{
     Access, ComplexDef, Dest, DeviceDef, FileOut, Hand, Job, Limits, Peer, Promise, QueueDef,
     Refused, Row, Stage,
 };
 
-fn byte_stands(byte: u8)
-    ensures { IsU8 byte }
-{}
-
-fn short_number_stands(number: u16)
-    ensures { IsU16 number }
-{}
-
 fn maybe_short_number_stands(number: &Option<u16>)
     ensures { IsOpt IsU16 number.now }
 {
     match number {
         Some(number) => short_number_stands(*number),
-        None => {}
-    }
-}
-
-fn middle_number_stands(number: u32)
-    ensures { IsU32 number }
-{}
-
-fn number_stands(number: u64)
-    ensures { IsU64 number }
-{}
-
-fn maybe_number_stands(number: &Option<u64>)
-    ensures { IsOpt IsU64 number.now }
-{
-    match number {
-        Some(number) => number_stands(*number),
-        None => {}
-    }
-}
-
-fn name_stands(name: &Name)
-    ensures { IsName name.now }
-{
-    let _ = name.as_bytes();
-}
-
-fn maybe_name_stands(name: &Option<Name>)
-    ensures { IsOpt IsName name.now }
-{
-    match name {
-        Some(name) => name_stands(name),
         None => {}
     }
 }
