@@ -16,16 +16,12 @@ use Rattle.nqs_types.specs.declared.edit.DevicesEdit.{DevicesEdit}
 use Rattle.nqs_types.specs.declared.edit.DevicesEdit.TheVariants.{CreateDevice, DeleteDevice, EnableDevice, DisableDevice, SetForms, AddDevice, RemoveDevice}
 use Rattle.nqs_types.specs.declared.edit.RowsEdit.{RowsEdit}
 use Rattle.nqs_types.specs.declared.edit.RowsEdit.TheVariants.{AbortQueue, HoldRequest, ReleaseRequest, MoveRequest, ModifyRequest}
-use Rattle.nqs_records.specs.Tables.{Values, Row, Entry}
+use Rattle.nqs_records.specs.Tables.{Values, Row, Entry, shape_of}
 use Rattle.nqs_records.specs.EditFields.{Field, ValueOf, eight_bytes, at_most, a_wait, a_flag, a_name, maybe, a_dest, a_named}
 
 -- a code, the fields behind it, and the edit that their values make
 abbrev pub row : (code : ℕ) (shape : List Field) → (Values ValueOf shape → Edit) → Row ValueOf Edit
 row code shape make = record { code = code; shape = shape; make = make }
-
--- a code, the fields behind it, and their values
-abbrev pub entry : (code : ℕ) (shape : List Field) → Values ValueOf shape → Entry ValueOf
-entry code shape values = record { code = code; shape = shape; values = values }
 
 -- what creates a batch or a device queue: its name, priority and run limit where given, and whether it is for pipe queues alone
 abbrev pub created : List Field
@@ -115,66 +111,70 @@ edits =
 
 -- ---- each edit's code and values
 
+-- a code and the values of the fields that its row has
+abbrev pub entry : (code : ℕ) → Values ValueOf (shape_of edits code) → Entry ValueOf
+entry code values = record { code = code; shape = shape_of edits code; values = values }
+
 -- the code and the values of an edit of queues and of the host's parameters
 abbrev pub conf_entry : ConfEdit → Entry ValueOf
-conf_entry (CreateBatchQueue queue priority run_limit pipe_only) = entry 1 created (queue, (priority, (run_limit, pipe_only)))
-conf_entry (CreateDeviceQueue queue priority run_limit pipe_only) = entry 2 created (queue, (priority, (run_limit, pipe_only)))
-conf_entry (CreatePipeQueue queue priority run_limit pipe_only destination) = entry 3 pipe_created (queue, (priority, (run_limit, (pipe_only, destination))))
-conf_entry (DeleteQueue queue) = entry 4 (a_name ∷ []) queue
-conf_entry (EnableQueue queue) = entry 5 (a_name ∷ []) queue
-conf_entry (DisableQueue queue) = entry 6 (a_name ∷ []) queue
-conf_entry (StartQueue queue) = entry 7 (a_name ∷ []) queue
-conf_entry (StopQueue queue) = entry 8 (a_name ∷ []) queue
-conf_entry (PurgeQueue queue) = entry 9 (a_name ∷ []) queue
-conf_entry (SetPriority priority queue) = entry 11 (at_most 63 ∷ a_name ∷ []) (priority, queue)
-conf_entry (SetRunLimit limit queue) = entry 12 (at_most 10000 ∷ a_name ∷ []) (limit, queue)
-conf_entry (AddDestination destination queue) = entry 16 (a_dest ∷ a_name ∷ []) (destination, queue)
-conf_entry (RemoveDestination destination queue) = entry 17 (a_dest ∷ a_name ∷ []) (destination, queue)
-conf_entry (SetDefaultQueue queue) = entry 39 (a_name ∷ []) queue
-conf_entry SetNoDefaultQueue = entry 40 [] tt
-conf_entry (SetPatience seconds) = entry 41 (a_wait ∷ []) seconds
-conf_entry (SetRetryWait seconds) = entry 42 (a_wait ∷ []) seconds
+conf_entry (CreateBatchQueue queue priority run_limit pipe_only) = entry 1 (queue, (priority, (run_limit, pipe_only)))
+conf_entry (CreateDeviceQueue queue priority run_limit pipe_only) = entry 2 (queue, (priority, (run_limit, pipe_only)))
+conf_entry (CreatePipeQueue queue priority run_limit pipe_only destination) = entry 3 (queue, (priority, (run_limit, (pipe_only, destination))))
+conf_entry (DeleteQueue queue) = entry 4 queue
+conf_entry (EnableQueue queue) = entry 5 queue
+conf_entry (DisableQueue queue) = entry 6 queue
+conf_entry (StartQueue queue) = entry 7 queue
+conf_entry (StopQueue queue) = entry 8 queue
+conf_entry (PurgeQueue queue) = entry 9 queue
+conf_entry (SetPriority priority queue) = entry 11 (priority, queue)
+conf_entry (SetRunLimit limit queue) = entry 12 (limit, queue)
+conf_entry (AddDestination destination queue) = entry 16 (destination, queue)
+conf_entry (RemoveDestination destination queue) = entry 17 (destination, queue)
+conf_entry (SetDefaultQueue queue) = entry 39 queue
+conf_entry SetNoDefaultQueue = entry 40 tt
+conf_entry (SetPatience seconds) = entry 41 seconds
+conf_entry (SetRetryWait seconds) = entry 42 seconds
 
 -- the code and the values of an edit of limits and complexes
 abbrev pub limits_entry : LimitsEdit → Entry ValueOf
-limits_entry (SetUserLimit limit queue) = entry 13 (maybe (at_most 10000) ∷ a_name ∷ []) (limit, queue)
-limits_entry (SetCpuLimit limit queue) = entry 14 (maybe eight_bytes ∷ a_name ∷ []) (limit, queue)
-limits_entry (SetMemoryLimit limit queue) = entry 15 (maybe eight_bytes ∷ a_name ∷ []) (limit, queue)
-limits_entry (CreateComplex complex) = entry 18 (a_name ∷ []) complex
-limits_entry (DeleteComplex complex) = entry 19 (a_name ∷ []) complex
-limits_entry (AddQueue queue complex) = entry 20 (a_name ∷ a_name ∷ []) (queue, complex)
-limits_entry (RemoveQueue queue complex) = entry 21 (a_name ∷ a_name ∷ []) (queue, complex)
-limits_entry (SetComplexLimit limit complex) = entry 22 (at_most 10000 ∷ a_name ∷ []) (limit, complex)
-limits_entry (SetGlobalLimit limit) = entry 23 (at_most 10000 ∷ []) limit
+limits_entry (SetUserLimit limit queue) = entry 13 (limit, queue)
+limits_entry (SetCpuLimit limit queue) = entry 14 (limit, queue)
+limits_entry (SetMemoryLimit limit queue) = entry 15 (limit, queue)
+limits_entry (CreateComplex complex) = entry 18 complex
+limits_entry (DeleteComplex complex) = entry 19 complex
+limits_entry (AddQueue queue complex) = entry 20 (queue, complex)
+limits_entry (RemoveQueue queue complex) = entry 21 (queue, complex)
+limits_entry (SetComplexLimit limit complex) = entry 22 (limit, complex)
+limits_entry (SetGlobalLimit limit) = entry 23 limit
 
 -- the code and the values of an edit of who may do what
 abbrev pub access_entry : AccessEdit → Entry ValueOf
-access_entry (SetUnrestrictedAccess queue) = entry 31 (a_name ∷ []) queue
-access_entry (SetNoAccess queue) = entry 32 (a_name ∷ []) queue
-access_entry (AddUser user queue) = entry 33 (a_name ∷ a_name ∷ []) (user, queue)
-access_entry (RemoveUser user queue) = entry 34 (a_name ∷ a_name ∷ []) (user, queue)
-access_entry (AddManager user) = entry 35 (a_name ∷ []) user
-access_entry (RemoveManager user) = entry 36 (a_name ∷ []) user
-access_entry (AddOperator user) = entry 37 (a_name ∷ []) user
-access_entry (RemoveOperator user) = entry 38 (a_name ∷ []) user
+access_entry (SetUnrestrictedAccess queue) = entry 31 queue
+access_entry (SetNoAccess queue) = entry 32 queue
+access_entry (AddUser user queue) = entry 33 (user, queue)
+access_entry (RemoveUser user queue) = entry 34 (user, queue)
+access_entry (AddManager user) = entry 35 user
+access_entry (RemoveManager user) = entry 36 user
+access_entry (AddOperator user) = entry 37 user
+access_entry (RemoveOperator user) = entry 38 user
 
 -- the code and the values of an edit of devices
 abbrev pub devices_entry : DevicesEdit → Entry ValueOf
-devices_entry (CreateDevice device forms) = entry 24 (a_name ∷ a_name ∷ []) (device, forms)
-devices_entry (DeleteDevice device) = entry 25 (a_name ∷ []) device
-devices_entry (EnableDevice device) = entry 26 (a_name ∷ []) device
-devices_entry (DisableDevice device) = entry 27 (a_name ∷ []) device
-devices_entry (SetForms forms device) = entry 28 (a_name ∷ a_name ∷ []) (forms, device)
-devices_entry (AddDevice device queue) = entry 29 (a_name ∷ a_name ∷ []) (device, queue)
-devices_entry (RemoveDevice device queue) = entry 30 (a_name ∷ a_name ∷ []) (device, queue)
+devices_entry (CreateDevice device forms) = entry 24 (device, forms)
+devices_entry (DeleteDevice device) = entry 25 device
+devices_entry (EnableDevice device) = entry 26 device
+devices_entry (DisableDevice device) = entry 27 device
+devices_entry (SetForms forms device) = entry 28 (forms, device)
+devices_entry (AddDevice device queue) = entry 29 (device, queue)
+devices_entry (RemoveDevice device queue) = entry 30 (device, queue)
 
 -- the code and the values of an edit of requests
 abbrev pub rows_entry : RowsEdit → Entry ValueOf
-rows_entry (AbortQueue queue) = entry 10 (a_name ∷ []) queue
-rows_entry (HoldRequest request) = entry 43 (a_named ∷ []) request
-rows_entry (ReleaseRequest request) = entry 44 (a_named ∷ []) request
-rows_entry (MoveRequest request queue) = entry 45 (a_named ∷ a_name ∷ []) (request, queue)
-rows_entry (ModifyRequest request priority) = entry 46 (a_named ∷ at_most 63 ∷ []) (request, priority)
+rows_entry (AbortQueue queue) = entry 10 queue
+rows_entry (HoldRequest request) = entry 43 request
+rows_entry (ReleaseRequest request) = entry 44 request
+rows_entry (MoveRequest request queue) = entry 45 (request, queue)
+rows_entry (ModifyRequest request priority) = entry 46 (request, priority)
 
 -- the code and the values of an edit
 abbrev pub edit_entry : Edit → Entry ValueOf

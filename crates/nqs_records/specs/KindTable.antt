@@ -5,7 +5,7 @@ use Rattle.nqs_types.specs.declared.change.Change.{Change}
 use Rattle.nqs_types.specs.declared.change.Change.TheVariants.{Site, Submitted, Deleted, Doomed, Started, Ended, Unlaunched, Boot, Edited, HandOpened}
 use Rattle.nqs_types.specs.declared.change.Change.TheVariants.{HandCommitted, HandRefused, HandsSilent, HandDone, Promised, Accepted, Dropped, MovedLocal}
 use Rattle.nqs_types.specs.declared.change.Change.TheVariants.{RefusedLocal, HeldFar, StageGot, StageGone, FileGone}
-use Rattle.nqs_records.specs.Tables.{Values, Row, Entry}
+use Rattle.nqs_records.specs.Tables.{Values, Row, Entry, shape_of}
 use Rattle.nqs_records.specs.KindFields.{Field, ValueOf, one_byte, eight_bytes, a_name, a_path, maybe, a_host, an_id, an_extent, a_job, a_carried, a_site}
 use Rattle.nqs_records.specs.KindFields.{an_edit, outputs, handovers}
 
@@ -16,10 +16,6 @@ HostChange = Change Extent
 -- a kind's number, the fields behind it, and the change that their values make
 abbrev pub row : (code : ℕ) (shape : List Field) → (Values ValueOf shape → HostChange) → Row ValueOf HostChange
 row code shape make = record { code = code; shape = shape; make = make }
-
--- a kind's number, the fields behind it, and their values
-abbrev pub entry : (code : ℕ) (shape : List Field) → Values ValueOf shape → Entry ValueOf
-entry code shape values = record { code = code; shape = shape; values = values }
 
 -- ---- the table
 
@@ -63,29 +59,33 @@ kinds =
 
 -- ---- each change's number and values
 
+-- a kind's number and the values of the fields that its row has
+abbrev pub entry : (code : ℕ) → Values ValueOf (shape_of kinds code) → Entry ValueOf
+entry code values = record { code = code; shape = shape_of kinds code; values = values }
+
 -- the kind's number of a change, and its values
 abbrev pub kind_entry : HostChange → Entry ValueOf
-kind_entry (Site me site) = entry 1 (a_site ∷ []) (me, site)
-kind_entry (Submitted queue job script) = entry 2 (a_name ∷ a_job ∷ an_extent ∷ []) (queue, (job, script))
-kind_entry (Deleted id) = entry 3 (an_id ∷ []) id
-kind_entry (Doomed id) = entry 4 (an_id ∷ []) id
-kind_entry (Started id device) = entry 5 (an_id ∷ maybe a_name ∷ []) (id, device)
-kind_entry (Ended id parts) = entry 6 (an_id ∷ outputs ∷ []) (id, parts)
-kind_entry (Unlaunched id) = entry 7 (an_id ∷ []) id
-kind_entry Boot = entry 8 [] tt
-kind_entry (Edited edit) = entry 9 (an_edit ∷ []) edit
-kind_entry (HandOpened peer number id queue since) = entry 10 (a_host ∷ eight_bytes ∷ an_id ∷ a_name ∷ eight_bytes ∷ []) (peer, (number, (id, (queue, since))))
-kind_entry (HandCommitted peer number) = entry 11 (a_host ∷ eight_bytes ∷ []) (peer, number)
-kind_entry (HandRefused peer number cause) = entry 12 (a_host ∷ eight_bytes ∷ one_byte ∷ []) (peer, (number, cause))
-kind_entry (HandsSilent until hands) = entry 13 (eight_bytes ∷ handovers ∷ []) (until, hands)
-kind_entry (HandDone peer number) = entry 14 (a_host ∷ eight_bytes ∷ []) (peer, number)
+kind_entry (Site me site) = entry 1 (me, site)
+kind_entry (Submitted queue job script) = entry 2 (queue, (job, script))
+kind_entry (Deleted id) = entry 3 id
+kind_entry (Doomed id) = entry 4 id
+kind_entry (Started id device) = entry 5 (id, device)
+kind_entry (Ended id parts) = entry 6 (id, parts)
+kind_entry (Unlaunched id) = entry 7 id
+kind_entry Boot = entry 8 tt
+kind_entry (Edited edit) = entry 9 edit
+kind_entry (HandOpened peer number id queue since) = entry 10 (peer, (number, (id, (queue, since))))
+kind_entry (HandCommitted peer number) = entry 11 (peer, number)
+kind_entry (HandRefused peer number cause) = entry 12 (peer, (number, cause))
+kind_entry (HandsSilent until hands) = entry 13 (until, hands)
+kind_entry (HandDone peer number) = entry 14 (peer, number)
 kind_entry (Promised peer number queue carried script) =
-    entry 15 (a_host ∷ eight_bytes ∷ a_name ∷ a_carried ∷ an_extent ∷ []) (peer, (number, (queue, (carried, script))))
-kind_entry (Accepted peer number) = entry 16 (a_host ∷ eight_bytes ∷ []) (peer, number)
-kind_entry (Dropped peer number) = entry 17 (a_host ∷ eight_bytes ∷ []) (peer, number)
-kind_entry (MovedLocal id queue) = entry 18 (an_id ∷ a_name ∷ []) (id, queue)
-kind_entry (RefusedLocal id queue cause) = entry 19 (an_id ∷ a_name ∷ one_byte ∷ []) (id, (queue, cause))
-kind_entry (HeldFar id) = entry 20 (an_id ∷ []) id
-kind_entry (StageGot peer number path bytes) = entry 21 (a_host ∷ eight_bytes ∷ a_path ∷ an_extent ∷ []) (peer, (number, (path, bytes)))
-kind_entry (StageGone peer number) = entry 22 (a_host ∷ eight_bytes ∷ []) (peer, number)
-kind_entry (FileGone file) = entry 23 (eight_bytes ∷ []) file
+    entry 15 (peer, (number, (queue, (carried, script))))
+kind_entry (Accepted peer number) = entry 16 (peer, number)
+kind_entry (Dropped peer number) = entry 17 (peer, number)
+kind_entry (MovedLocal id queue) = entry 18 (id, queue)
+kind_entry (RefusedLocal id queue cause) = entry 19 (id, (queue, cause))
+kind_entry (HeldFar id) = entry 20 id
+kind_entry (StageGot peer number path bytes) = entry 21 (peer, (number, (path, bytes)))
+kind_entry (StageGone peer number) = entry 22 (peer, number)
+kind_entry (FileGone file) = entry 23 file

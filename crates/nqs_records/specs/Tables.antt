@@ -69,6 +69,11 @@ abbrev pub by_code : {F : Type 0} {ValueOf : F → Type 0} {A : Type 0} → ((f 
 by_code {F} {ValueOf} {A} read [] code other = other
 by_code {F} {ValueOf} {A} read (r ∷ rs) code other = if r.code == code then row_at read r else by_code read rs code other
 
+-- the fields behind a code: those of its row, none where it has no row
+abbrev pub shape_of : {F : Type 0} {ValueOf : F → Type 0} {A : Type 0} → List (Row ValueOf A) → ℕ → List F
+shape_of {F} {ValueOf} {A} [] code = []
+shape_of {F} {ValueOf} {A} (r ∷ rs) code = if r.code == code then r.shape else shape_of rs code
+
 -- whether some row has this code
 abbrev pub has_code : {F : Type 0} {ValueOf : F → Type 0} {A : Type 0} → List (Row ValueOf A) → ℕ → Bool
 has_code {F} {ValueOf} {A} [] code = false
