@@ -1,5 +1,5 @@
 -- The edits by their codes: what stands behind each code, and what it makes. Codes are looked up, so that some may be left out.
-use Rattle.std.specs.Prelude.{ℕ, List, [], ◌∷◌}
+use Rattle.std.specs.Prelude.{ℕ, List, [], ◌∷◌, ◌++◌}
 use Rattle.nqs_types.specs.declared.edit.Edit.{Edit}
 use Rattle.nqs_types.specs.declared.edit.Edit.TheVariants.{Conf, Limits as LimitsOf, Access as AccessOf, Devices as DevicesOf, Rows as RowsOf}
 use Rattle.nqs_types.specs.declared.edit.ConfEdit.{ConfEdit}
@@ -31,11 +31,11 @@ created = a_name ∷ maybe (at_most 63) ∷ maybe (at_most 10000) ∷ a_flag ∷
 abbrev pub pipe_created : List Field
 pipe_created = a_name ∷ maybe (at_most 63) ∷ maybe (at_most 10000) ∷ a_flag ∷ maybe a_dest ∷ []
 
--- ---- the table
+-- ---- the table, in parts
 
 -- the edits of requests
-unfoldable pub rows_edits : List (Row ValueOf Edit)
-rows_edits =
+abbrev pub rows_part : List (Row ValueOf Edit)
+rows_part =
     row 10 (a_name ∷ []) (λ queue. RowsOf (AbortQueue queue))
     ∷ row 43 (a_named ∷ []) (λ request. RowsOf (HoldRequest request))
     ∷ row 44 (a_named ∷ []) (λ request. RowsOf (ReleaseRequest request))
@@ -43,9 +43,9 @@ rows_edits =
     ∷ row 46 (a_named ∷ at_most 63 ∷ []) (λ v. RowsOf (ModifyRequest v.0 v.1))
     ∷ []
 
--- the edits of devices, and then the others
-unfoldable pub devices_edits : List (Row ValueOf Edit)
-devices_edits =
+-- the edits of devices
+abbrev pub devices_part : List (Row ValueOf Edit)
+devices_part =
     row 24 (a_name ∷ a_name ∷ []) (λ v. DevicesOf (CreateDevice v.0 v.1))
     ∷ row 25 (a_name ∷ []) (λ device. DevicesOf (DeleteDevice device))
     ∷ row 26 (a_name ∷ []) (λ device. DevicesOf (EnableDevice device))
@@ -53,11 +53,11 @@ devices_edits =
     ∷ row 28 (a_name ∷ a_name ∷ []) (λ v. DevicesOf (SetForms v.0 v.1))
     ∷ row 29 (a_name ∷ a_name ∷ []) (λ v. DevicesOf (AddDevice v.0 v.1))
     ∷ row 30 (a_name ∷ a_name ∷ []) (λ v. DevicesOf (RemoveDevice v.0 v.1))
-    ∷ rows_edits
+    ∷ []
 
--- the edits of who may do what, and then the others
-unfoldable pub access_edits : List (Row ValueOf Edit)
-access_edits =
+-- the edits of who may do what
+abbrev pub access_part : List (Row ValueOf Edit)
+access_part =
     row 31 (a_name ∷ []) (λ queue. AccessOf (SetUnrestrictedAccess queue))
     ∷ row 32 (a_name ∷ []) (λ queue. AccessOf (SetNoAccess queue))
     ∷ row 33 (a_name ∷ a_name ∷ []) (λ v. AccessOf (AddUser v.0 v.1))
@@ -66,11 +66,11 @@ access_edits =
     ∷ row 36 (a_name ∷ []) (λ user. AccessOf (RemoveManager user))
     ∷ row 37 (a_name ∷ []) (λ user. AccessOf (AddOperator user))
     ∷ row 38 (a_name ∷ []) (λ user. AccessOf (RemoveOperator user))
-    ∷ devices_edits
+    ∷ []
 
--- the edits of limits and complexes, and then the others
-unfoldable pub limits_edits : List (Row ValueOf Edit)
-limits_edits =
+-- the edits of limits and complexes
+abbrev pub limits_part : List (Row ValueOf Edit)
+limits_part =
     row 13 (maybe (at_most 10000) ∷ a_name ∷ []) (λ v. LimitsOf (SetUserLimit v.0 v.1))
     ∷ row 14 (maybe eight_bytes ∷ a_name ∷ []) (λ v. LimitsOf (SetCpuLimit v.0 v.1))
     ∷ row 15 (maybe eight_bytes ∷ a_name ∷ []) (λ v. LimitsOf (SetMemoryLimit v.0 v.1))
@@ -80,11 +80,11 @@ limits_edits =
     ∷ row 21 (a_name ∷ a_name ∷ []) (λ v. LimitsOf (RemoveQueue v.0 v.1))
     ∷ row 22 (at_most 10000 ∷ a_name ∷ []) (λ v. LimitsOf (SetComplexLimit v.0 v.1))
     ∷ row 23 (at_most 10000 ∷ []) (λ limit. LimitsOf (SetGlobalLimit limit))
-    ∷ access_edits
+    ∷ []
 
--- the edits of a queue's settings and of the host's parameters, and then the others
-unfoldable pub setting_edits : List (Row ValueOf Edit)
-setting_edits =
+-- the edits of a queue's settings and of the host's parameters
+abbrev pub setting_part : List (Row ValueOf Edit)
+setting_part =
     row 11 (at_most 63 ∷ a_name ∷ []) (λ v. Conf (SetPriority v.0 v.1))
     ∷ row 12 (at_most 10000 ∷ a_name ∷ []) (λ v. Conf (SetRunLimit v.0 v.1))
     ∷ row 16 (a_dest ∷ a_name ∷ []) (λ v. Conf (AddDestination v.0 v.1))
@@ -93,11 +93,11 @@ setting_edits =
     ∷ row 40 [] (λ _. Conf SetNoDefaultQueue)
     ∷ row 41 (a_wait ∷ []) (λ seconds. Conf (SetPatience seconds))
     ∷ row 42 (a_wait ∷ []) (λ seconds. Conf (SetRetryWait seconds))
-    ∷ limits_edits
+    ∷ []
 
--- all edits: those of queues, and then the others
-unfoldable pub edits : List (Row ValueOf Edit)
-edits =
+-- the edits of queues
+abbrev pub queue_part : List (Row ValueOf Edit)
+queue_part =
     row 1 created (λ v. Conf (CreateBatchQueue v.0 v.1.0 v.1.1.0 v.1.1.1))
     ∷ row 2 created (λ v. Conf (CreateDeviceQueue v.0 v.1.0 v.1.1.0 v.1.1.1))
     ∷ row 3 pipe_created (λ v. Conf (CreatePipeQueue v.0 v.1.0 v.1.1.0 v.1.1.1.0 v.1.1.1.1))
@@ -107,13 +107,43 @@ edits =
     ∷ row 7 (a_name ∷ []) (λ queue. Conf (StartQueue queue))
     ∷ row 8 (a_name ∷ []) (λ queue. Conf (StopQueue queue))
     ∷ row 9 (a_name ∷ []) (λ queue. Conf (PurgeQueue queue))
-    ∷ setting_edits
+    ∷ []
+
+-- all edits
+abbrev pub rows : List (Row ValueOf Edit)
+rows = queue_part ++ setting_part ++ limits_part ++ access_part ++ devices_part ++ rows_part
+
+-- ---- what is left of the table from each part on, as it is looked up part by part
+
+-- the last part
+unfoldable pub rows_edits : List (Row ValueOf Edit)
+rows_edits = rows_part
+
+-- from the edits of devices on
+unfoldable pub devices_edits : List (Row ValueOf Edit)
+devices_edits = devices_part ++ rows_edits
+
+-- from those of who may do what on
+unfoldable pub access_edits : List (Row ValueOf Edit)
+access_edits = access_part ++ devices_edits
+
+-- from those of limits and complexes on
+unfoldable pub limits_edits : List (Row ValueOf Edit)
+limits_edits = limits_part ++ access_edits
+
+-- from those of settings and parameters on
+unfoldable pub setting_edits : List (Row ValueOf Edit)
+setting_edits = setting_part ++ limits_edits
+
+-- all of it
+unfoldable pub edits : List (Row ValueOf Edit)
+edits = queue_part ++ setting_edits
 
 -- ---- each edit's code and values
 
 -- a code and the values of the fields that its row has
-abbrev pub entry : (code : ℕ) → Values ValueOf (shape_of edits code) → Entry ValueOf
-entry code values = record { code = code; shape = shape_of edits code; values = values }
+abbrev pub entry : (code : ℕ) → Values ValueOf (shape_of rows code) → Entry ValueOf
+entry code values = record { code = code; shape = shape_of rows code; values = values }
 
 -- the code and the values of an edit of queues and of the host's parameters
 abbrev pub conf_entry : ConfEdit → Entry ValueOf

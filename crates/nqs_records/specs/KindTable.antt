@@ -1,5 +1,5 @@
 -- The kinds of record by their numbers: what stands behind each number, and the change that it makes.
-use Rattle.std.specs.Prelude.{ℕ, List, [], ◌∷◌}
+use Rattle.std.specs.Prelude.{ℕ, List, [], ◌∷◌, ◌++◌}
 use Rattle.nqs_base.specs.declared.extent.Extent.{Extent}
 use Rattle.nqs_types.specs.declared.change.Change.{Change}
 use Rattle.nqs_types.specs.declared.change.Change.TheVariants.{Site, Submitted, Deleted, Doomed, Started, Ended, Unlaunched, Boot, Edited, HandOpened}
@@ -17,20 +17,20 @@ HostChange = Change Extent
 abbrev pub row : (code : ℕ) (shape : List Field) → (Values ValueOf shape → HostChange) → Row ValueOf HostChange
 row code shape make = record { code = code; shape = shape; make = make }
 
--- ---- the table
+-- ---- the table, in parts
 
 -- changes of the host itself, and of its files
-unfoldable pub host_kinds : List (Row ValueOf HostChange)
-host_kinds =
+abbrev pub host_part : List (Row ValueOf HostChange)
+host_part =
     row 1 (a_site ∷ []) (λ v. Site v.0 v.1)
     ∷ row 8 [] (λ _. Boot)
     ∷ row 9 (an_edit ∷ []) (λ edit. Edited edit)
     ∷ row 23 (eight_bytes ∷ []) (λ file. FileGone file)
     ∷ []
 
--- changes of handovers and stages, and then the others
-unfoldable pub hand_kinds : List (Row ValueOf HostChange)
-hand_kinds =
+-- changes of handovers and stages
+abbrev pub hand_part : List (Row ValueOf HostChange)
+hand_part =
     row 10 (a_host ∷ eight_bytes ∷ an_id ∷ a_name ∷ eight_bytes ∷ []) (λ v. HandOpened v.0 v.1.0 v.1.1.0 v.1.1.1.0 v.1.1.1.1)
     ∷ row 11 (a_host ∷ eight_bytes ∷ []) (λ v. HandCommitted v.0 v.1)
     ∷ row 12 (a_host ∷ eight_bytes ∷ one_byte ∷ []) (λ v. HandRefused v.0 v.1.0 v.1.1)
@@ -41,11 +41,11 @@ hand_kinds =
     ∷ row 17 (a_host ∷ eight_bytes ∷ []) (λ v. Dropped v.0 v.1)
     ∷ row 21 (a_host ∷ eight_bytes ∷ a_path ∷ an_extent ∷ []) (λ v. StageGot v.0 v.1.0 v.1.1.0 v.1.1.1)
     ∷ row 22 (a_host ∷ eight_bytes ∷ []) (λ v. StageGone v.0 v.1)
-    ∷ host_kinds
+    ∷ []
 
--- all kinds: changes of requests, and then the others
-unfoldable pub kinds : List (Row ValueOf HostChange)
-kinds =
+-- changes of requests
+abbrev pub request_part : List (Row ValueOf HostChange)
+request_part =
     row 2 (a_name ∷ a_job ∷ an_extent ∷ []) (λ v. Submitted v.0 v.1.0 v.1.1)
     ∷ row 3 (an_id ∷ []) (λ id. Deleted id)
     ∷ row 4 (an_id ∷ []) (λ id. Doomed id)
@@ -55,13 +55,31 @@ kinds =
     ∷ row 18 (an_id ∷ a_name ∷ []) (λ v. MovedLocal v.0 v.1)
     ∷ row 19 (an_id ∷ a_name ∷ one_byte ∷ []) (λ v. RefusedLocal v.0 v.1.0 v.1.1)
     ∷ row 20 (an_id ∷ []) (λ id. HeldFar id)
-    ∷ hand_kinds
+    ∷ []
+
+-- all kinds
+abbrev pub rows : List (Row ValueOf HostChange)
+rows = request_part ++ hand_part ++ host_part
+
+-- ---- what is left of the table from each part on, as it is looked up part by part
+
+-- the last part
+unfoldable pub host_kinds : List (Row ValueOf HostChange)
+host_kinds = host_part
+
+-- from the changes of handovers and stages on
+unfoldable pub hand_kinds : List (Row ValueOf HostChange)
+hand_kinds = hand_part ++ host_kinds
+
+-- all of it
+unfoldable pub kinds : List (Row ValueOf HostChange)
+kinds = request_part ++ hand_kinds
 
 -- ---- each change's number and values
 
 -- a kind's number and the values of the fields that its row has
-abbrev pub entry : (code : ℕ) → Values ValueOf (shape_of kinds code) → Entry ValueOf
-entry code values = record { code = code; shape = shape_of kinds code; values = values }
+abbrev pub entry : (code : ℕ) → Values ValueOf (shape_of rows code) → Entry ValueOf
+entry code values = record { code = code; shape = shape_of rows code; values = values }
 
 -- the kind's number of a change, and its values
 abbrev pub kind_entry : HostChange → Entry ValueOf
