@@ -28,7 +28,7 @@ fn new_journal(alloc: Global) -> Result<Journal<MemDisk>, Stopped> {
 }
 
 /// Appends so many payloads of 100 bytes to a new journal.
-pub fn append_payloads(alloc: Global, count: u64) -> Result<(), Stopped> {
+pub(crate) fn append_payloads(alloc: Global, count: u64) -> Result<(), Stopped> {
     let mut journal = new_journal(alloc)?;
     for _ in 0..count {
         let Ok(()) = journal.append(&PAYLOAD) else {

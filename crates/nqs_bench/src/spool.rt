@@ -42,7 +42,7 @@ fn filled(alloc: Global, live: u64) -> Result<(Spool<MemDisk>, Vec<Extent>), Sto
 }
 
 /// Keeps so many extents live, and so often frees the one that was put first and puts another.
-pub fn put_and_free(alloc: Global, count: u64, live: u64) -> Result<(), Stopped> {
+pub(crate) fn put_and_free(alloc: Global, count: u64, live: u64) -> Result<(), Stopped> {
     let (mut spool, mut extents) = filled(alloc, live)?;
     for turn in 0..count {
         let Some(oldest) = extents.get_mut((turn % live.max(1)) as usize) else {

@@ -6,7 +6,7 @@ use std::alloc::AllocFailed;
 /// The storage refused a call. The disks are in memory and have no fuse, so memory was missing or a
 /// disk was full.
 #[derive(Drop)]
-pub struct Stopped;
+pub(crate) struct Stopped;
 
 impl From<Memory> for Stopped {
     fn from(_: Memory) -> Stopped {

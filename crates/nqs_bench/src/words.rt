@@ -3,7 +3,7 @@ use nqs_text::read_u64;
 use std::env::Args;
 
 /// What is to be done, and how often.
-pub enum Work {
+pub(crate) enum Work {
     /// So many appends.
     Journal(u64),
     /// So many puts and frees, and the extents that are live at each.
@@ -16,7 +16,7 @@ fn number(word: Option<String>) -> Option<u64> {
 }
 
 /// The work that the words name, the program's own name first.
-pub fn work_of(words: Args) -> Option<Work> {
+pub(crate) fn work_of(words: Args) -> Option<Work> {
     let mut words = words.skip(1);
     let kind = words.next()?;
     let count = number(words.next())?;

@@ -54,7 +54,7 @@ fn play<K: Sink>(
 }
 
 // Runs the schedule that the source gives.
-fn play_read<S: Source, K: Sink>(
+fn drain<S: Source, K: Sink>(
     alloc: Global,
     summary: bool,
     schedule: &mut S,
@@ -101,7 +101,7 @@ fn play_generated<K: Sink>(
 }
 
 // Runs what the words ask for.
-fn play_asked<S: Source, K: Sink>(
+fn obey<S: Source, K: Sink>(
     alloc: Global,
     words: &[String],
     schedule: &mut S,
@@ -113,7 +113,7 @@ fn play_asked<S: Source, K: Sink>(
 {
     match read_words(alloc, words) {
         Ok(ask) => match ask.generation {
-            None => play_read(alloc, ask.summary, schedule, out, left),
+            None => drain(alloc, ask.summary, schedule, out, left),
             Some(generation) => play_generated(alloc, ask.summary, generation, out, left),
         },
         Err(WordsStop::BadWords) => Status::BadWords,
@@ -143,5 +143,5 @@ pub fn replay<S: Source, K: Sink>(
     ensures laws { HoldAlways (map (λ s. string_bytes s) words.now) (drained S.left S.faults schedule.old schedule.new) }
 {
     runs_keep_the_laws();
-    play_asked(alloc, words, schedule, out, left)
+    obey(alloc, words, schedule, out, left)
 }

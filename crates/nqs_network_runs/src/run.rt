@@ -7,15 +7,16 @@ ghost use Rattle.std.specs.Io.KnownBytes.{Appends};
 ghost use Rattle.std.specs.List.{list_all};
 ghost use Rattle.nqs_outside.specs.Causes.{Rose};
 ghost use Rattle.nqs_rules.specs.Transcript.{transcript};
-ghost use Rattle.nqs_rules.specs.World.{seen_of};
+ghost use Rattle.nqs_rules.specs.World.{World as Network, seen_of};
 ghost use Rattle.nqs_laws.specs.Sane.{IsSite};
+ghost use Rattle.nqs_laws.specs.Words.{IsInOrderAll};
 ghost use Rattle.nqs_language_acts.specs.Acts.{is_sane_line};
 ghost use Rattle.nqs_types.specs.declared.world.WorldEvent.{WorldEvent};
-ghost use Rattle.nqs_schedule.specs.Summary.{nothing_seen, summary_of};
+ghost use Rattle.nqs_schedule.specs.Summary.{nothing_seen, summary_of, summary_text};
 ghost use Rattle.nqs_net.specs.Worlds.{IsWorld};
 ghost use Rattle.nqs_network_runs.specs.Sunk.{Sunk, sunk};
-ghost use Rattle.nqs_network_runs.specs.Running.{ran, text_of, summary_after, Runs};
-ghost use Rattle.nqs_network_runs.specs.Writing.{HasRun, GoesOn, TellsMore, HasWritten, Writes, stop_of};
+ghost use Rattle.nqs_network_runs.specs.Running.{ran, text_of, table_length, Runs};
+ghost use Rattle.nqs_network_runs.specs.Writing.{HasRun, TellsMore, HasWritten, Writes, stop_of};
 ghost use Rattle.nqs_base.specs.Want.{want};
 
 use crate::status::Status;
@@ -125,7 +126,7 @@ fn write_piece<K: Sink>(out: &mut K, text: &mut Vec<u8>) -> Result<(), Failed>
 }
 
 // Runs the events and writes their transcript.
-fn run_told<K: Sink>(
+fn transcribe<K: Sink>(
     alloc: Global,
     site: &[Name],
     events: &[WorldEvent],
@@ -144,24 +145,6 @@ fn run_told<K: Sink>(
     }
     write_whole(out, &text)?;
     Ok(world)
-}
-
-// Takes an event. `seen` becomes what is seen of it.
-fn happen(
-    alloc: Global,
-    world: &mut World,
-    event: &WorldEvent,
-    seen: &mut Vec<Seen>,
-) -> Result<(), Lack>
-    requires sane { IsTrue (is_sane_line event.now) }
-    requires sound { (site : List (List ℕ)) × (before : List WorldEvent) × HasRun site before world.old }
-    ensures { (site : List (List ℕ)) (before : List WorldEvent) → HasRun site before world.old
-        → OnOk result (GoesOn site before event.now world.new seen.new.items) }
-{
-    acts_are_sane();
-    hosts_stay_in_order();
-    seen.clear();
-    world.event(alloc, event, seen)
 }
 
 // Counts what was seen.
@@ -183,39 +166,39 @@ fn count_events(
     requires sane { list_all is_sane_line events.now ≡ true }
     ensures { IfOk result (λ end. IsWorld end.0 (ran site.now events.now).world × (end.1 ≡ summary_of nothing_seen (seen_of (ran site.now events.now)))) }
 {
+    acts_are_sane();
+    hosts_stay_in_order();
     let mut world = World::new(alloc, site)?;
     let mut seen = Vec::new(alloc);
     let mut summary = Summary::new();
     for event in events {
-        happen(alloc, &mut world, event, &mut seen)?;
+        seen.clear();
+        world.event(alloc, event, &mut seen)?;
         count_all(&mut summary, &seen);
     }
     Ok((world, summary))
 }
 
-// Runs the events. The text is their summary.
-fn summarize(alloc: Global, site: &[Name], events: &[WorldEvent]) -> Result<(World, Vec<u8>), Lack>
-    requires site { IsSite site.now }
-    requires sane { list_all is_sane_line events.now ≡ true }
-    ensures { IfOk result (λ end. IsWorld end.0 (ran site.now events.now).world × (end.1.items ≡ text_of true site.now events.now)) }
+// The text of the summary of a run of so many events, where this was counted.
+fn text_of_summary(
+    alloc: Global,
+    world: &mut World,
+    summary: &Summary,
+    events: u64,
+) -> Result<Vec<u8>, Memory>
+    requires sound { (site : List (List ℕ)) × (network : Network) × IsInOrderAll site network × IsWorld world.old network }
+    ensures world { (network : Network) → IsWorld world.old network → OnOk result (IsWorld world.new network) }
+    ensures text { (network : Network) → IsWorld world.old network
+        → IfOk result (λ text. text.items ≡ summary_text summary.now events (table_length network)) }
 {
-    acts_are_sane();
-    hosts_stay_in_order();
-    let (mut world, summary) = count_events(alloc, site, events)?;
     let rows = world.table(alloc)?;
     let mut text = Vec::new(alloc);
-    print_summary(
-        alloc,
-        &summary,
-        events.len() as u64,
-        rows.len() as u64,
-        &mut text,
-    )?;
-    Ok((world, text))
+    print_summary(alloc, summary, events, rows.len() as u64, &mut text)?;
+    Ok(text)
 }
 
 // Runs the events and writes their summary.
-fn run_summed<K: Sink>(
+fn summarize<K: Sink>(
     alloc: Global,
     site: &[Name],
     events: &[WorldEvent],
@@ -225,7 +208,10 @@ fn run_summed<K: Sink>(
     requires sane { list_all is_sane_line events.now ≡ true }
     ensures { Writes (text_of true site.now events.now) (ran site.now events.now).world (sunk K.taken K.faults K.stalls out.old out.new) result }
 {
-    let (world, text) = summarize(alloc, site, events)?;
+    acts_are_sane();
+    hosts_stay_in_order();
+    let (mut world, summary) = count_events(alloc, site, events)?;
+    let text = text_of_summary(alloc, &mut world, &summary, events.len() as u64)?;
     write_whole(out, &text)?;
     Ok(world)
 }
@@ -266,8 +252,8 @@ pub(crate) fn run<K: Sink>(
     ensures { Runs summary site.now events.now (sunk K.taken K.faults K.stalls out.old out.new) left.old.items left.new.items result }
 {
     if summary {
-        finish(alloc, run_summed(alloc, site, events, out), left)
+        finish(alloc, summarize(alloc, site, events, out), left)
     } else {
-        finish(alloc, run_told(alloc, site, events, out), left)
+        finish(alloc, transcribe(alloc, site, events, out), left)
     }
 }

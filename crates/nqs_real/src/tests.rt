@@ -16,10 +16,10 @@ use std::test::Fail;
 use std::{fs, io, process};
 
 /// The first host of the tests' sites.
-pub const HOST: HostId = HostId(0);
+pub(crate) const HOST: HostId = HostId(0);
 
 /// A folder that is this test's alone, below the one where it runs.
-pub fn fresh_folder(rt: &HostRuntime, name: &str) -> io::Result<String> {
+pub(crate) fn fresh_folder(rt: &HostRuntime, name: &str) -> io::Result<String> {
     let dir = format!(in rt.alloc(); "real-{name}-{}", process::id(rt.process()))?;
     let _ = fs::remove_dir_all(rt, &dir);
     fs::create_dir(rt, &dir)?;
@@ -32,7 +32,7 @@ fn has_text(rt: &HostRuntime, folder: &str, path: &str, text: &str) -> io::Resul
 }
 
 /// A site of the host alpha, at a port that was free just now.
-pub fn site_of_alpha(rt: &HostRuntime) -> Result<Vec<SiteHost>, Fail> {
+pub(crate) fn site_of_alpha(rt: &HostRuntime) -> Result<Vec<SiteHost>, Fail> {
     let port = UdpWire::of_client(*rt, &[], 1)?.1;
     let text = format!(in rt.alloc(); "alpha 127.0.0.1 {port}\n")?;
     Ok(read_site(rt.alloc(), text.as_bytes())?)

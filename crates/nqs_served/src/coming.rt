@@ -9,7 +9,7 @@ use nqs_types::{HostId, RequestId, WorldEvent};
 
 /// The words of an ask.
 #[derive(Clone, Copy)]
-pub enum Words<'a> {
+pub(crate) enum Words<'a> {
     /// A line of qmgr, which is its one word.
     Line(&'a Bytes),
     List(&'a [Bytes]),
@@ -17,7 +17,7 @@ pub enum Words<'a> {
 
 /// What a user asks a host for, by the number of a tool.
 #[derive(Clone, Copy)]
-pub struct Ask<'a> {
+pub(crate) struct Ask<'a> {
     pub host: HostId,
     pub user: &'a Name,
     pub tool: u8,
@@ -27,7 +27,7 @@ pub struct Ask<'a> {
 
 /// What a shepherd tells its host of the end of a job.
 #[derive(Clone, Copy)]
-pub struct Ended<'a> {
+pub(crate) struct Ended<'a> {
     pub host: HostId,
     pub id: RequestId,
     pub start: u16,
@@ -38,7 +38,7 @@ pub struct Ended<'a> {
 
 /// What an event is to the daemon of its host.
 #[derive(Clone, Copy)]
-pub enum Coming<'a> {
+pub(crate) enum Coming<'a> {
     Ask(Ask<'a>),
     Ended(Ended<'a>),
     /// A receive brings nothing.
@@ -110,7 +110,7 @@ fn other_of(event: &WorldEvent) -> Coming<'_> {
 }
 
 /// What an event is.
-pub fn coming_of(event: &WorldEvent) -> Coming<'_> {
+pub(crate) fn coming_of(event: &WorldEvent) -> Coming<'_> {
     match event {
         WorldEvent::Qsub {
             host,

@@ -50,7 +50,7 @@ fn put_words(words: Words<'_>, out: &mut Vec<u8>) -> Result<(), Trouble> {
 }
 
 /// What a user asks a host for, with a token.
-pub fn put_ask(ask: Ask<'_>, token: u64, out: &mut Vec<u8>) -> Result<(), Trouble> {
+pub(crate) fn put_ask(ask: Ask<'_>, token: u64, out: &mut Vec<u8>) -> Result<(), Trouble> {
     put(&[1, 10, ask.host.0, ask.host.0, 0, 9], out)?;
     put(&token.to_be_bytes(), out)?;
     put_name(ask.user, out)?;
@@ -60,7 +60,7 @@ pub fn put_ask(ask: Ask<'_>, token: u64, out: &mut Vec<u8>) -> Result<(), Troubl
 }
 
 /// What an answer begins with: up to its token.
-pub fn put_front(host: HostId, token: u64, out: &mut Vec<u8>) -> Result<(), Memory> {
+pub(crate) fn put_front(host: HostId, token: u64, out: &mut Vec<u8>) -> Result<(), Memory> {
     put(&[1, 11, host.0, host.0], out)?;
     put(&token.to_be_bytes(), out)
 }
@@ -73,7 +73,7 @@ fn put_start(id: RequestId, start: u16, out: &mut Vec<u8>) -> Result<(), Memory>
 }
 
 /// What a shepherd tells its host of the end of a job.
-pub fn put_ended(ended: Ended<'_>, out: &mut Vec<u8>) -> Result<(), Trouble> {
+pub(crate) fn put_ended(ended: Ended<'_>, out: &mut Vec<u8>) -> Result<(), Trouble> {
     put(&[1, 12, ended.host.0, ended.host.0, 0, 10], out)?;
     put_start(ended.id, ended.start, out)?;
     out.push(ended.status)?;
@@ -82,14 +82,14 @@ pub fn put_ended(ended: Ended<'_>, out: &mut Vec<u8>) -> Result<(), Trouble> {
 }
 
 /// Its acknowledgement.
-pub fn put_acknowledgement(ended: Ended<'_>, out: &mut Vec<u8>) -> Result<(), Memory> {
+pub(crate) fn put_acknowledgement(ended: Ended<'_>, out: &mut Vec<u8>) -> Result<(), Memory> {
     put(&[1, 13, ended.host.0, ended.host.0], out)?;
     put_start(ended.id, ended.start, out)
 }
 
 /// The text of an answer that begins so, if it is spelled as it is to be. Its flag tells refusals
 /// and faults.
-pub fn text_of<'a>(datagram: &'a [u8], front: &[u8]) -> Option<&'a [u8]> {
+pub(crate) fn text_of<'a>(datagram: &'a [u8], front: &[u8]) -> Option<&'a [u8]> {
     let rest = datagram.strip_prefix(front)?;
     if rest.len() < 5 {
         return None;

@@ -15,7 +15,7 @@ use std::alloc::Global;
 
 /// What comes to the daemon of the host `alpha`, and which calls fail.
 #[derive(Clone, Copy)]
-pub struct Day {
+pub(crate) struct Day {
     pub title: &'static str,
     pub failing: Failing,
     /// The disk and the number of its call that fails.
@@ -133,7 +133,7 @@ fn run(alloc: Global, day: &Day, parts: &mut Parts, out: &mut Vec<u8>) -> Result
 }
 
 /// Prints what is seen of a day.
-pub fn put_day(alloc: Global, day: &Day, out: &mut Vec<u8>) -> Result<(), Trouble> {
+pub(crate) fn put_day(alloc: Global, day: &Day, out: &mut Vec<u8>) -> Result<(), Trouble> {
     let mut parts = Parts::new(alloc);
     run(alloc, day, &mut parts, out)?;
     put_both(&parts, &parts, out)?;
@@ -141,7 +141,7 @@ pub fn put_day(alloc: Global, day: &Day, out: &mut Vec<u8>) -> Result<(), Troubl
 }
 
 /// Prints what is seen of a day beside what its schedule tells.
-pub fn put_compared(alloc: Global, day: &Day, out: &mut Vec<u8>) -> Result<(), Trouble> {
+pub(crate) fn put_compared(alloc: Global, day: &Day, out: &mut Vec<u8>) -> Result<(), Trouble> {
     let mut parts = Parts::new(alloc);
     run(alloc, day, &mut parts, out)?;
     let mut replayed = Parts::new(alloc);

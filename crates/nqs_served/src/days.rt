@@ -275,7 +275,7 @@ fn put_alone(alloc: Global, out: &mut Vec<u8>) -> Result<(), Trouble> {
 
 /// Prints what is seen of each day. A change makes four calls of the disk first: those of the edit
 /// are 1 to 4, of the submission 5 to 8, of the start 9 to 12. The script makes two of the spool.
-pub fn put_days(alloc: Global, out: &mut Vec<u8>) -> Result<(), Trouble> {
+pub(crate) fn put_days(alloc: Global, out: &mut Vec<u8>) -> Result<(), Trouble> {
     put_compared(alloc, &WHOLE, out)?;
     for day in &DAYS {
         put_day(alloc, day, out)?;

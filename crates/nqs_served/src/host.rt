@@ -35,7 +35,7 @@ fn empty_disks(alloc: Global) -> Disks<MemDisk>
 }
 
 /// The name of the first host.
-pub fn alpha() -> Name {
+pub(crate) fn alpha() -> Name {
     match Name::read(b"alpha") {
         Ok(name) => name,
         Err(_) => unreachable!(),
@@ -43,7 +43,7 @@ pub fn alpha() -> Name {
 }
 
 /// The name of the second host.
-pub fn beta() -> Name {
+pub(crate) fn beta() -> Name {
     match Name::read(b"beta") {
         Ok(name) => name,
         Err(_) => unreachable!(),
@@ -113,7 +113,7 @@ fn serve_node(
 }
 
 /// Whether a daemon made all its turns, as it is to.
-pub fn uses_its_turns(end: ServeEnd) -> Result<(), Trouble> {
+pub(crate) fn uses_its_turns(end: ServeEnd) -> Result<(), Trouble> {
     match end {
         ServeEnd::TurnsUsed => Ok(()),
         ServeEnd::Memory(memory) => Err(Trouble::Memory(memory)),
@@ -124,7 +124,7 @@ pub fn uses_its_turns(end: ServeEnd) -> Result<(), Trouble> {
 }
 
 /// A host that is served.
-pub struct Host {
+pub(crate) struct Host {
     node: Box<Node<MemDisk>>,
     ghost sound: { IsSoundHost (content_of node.value) } by { IsSoundHost-prop (content_of node.value) },
 }
@@ -145,14 +145,14 @@ impl Host {
     }
 
     /// The host of a site of one, after its boot.
-    pub fn alone(alloc: Global) -> Result<Host, Trouble> {
+    pub(crate) fn alone(alloc: Global) -> Result<Host, Trouble> {
         let disks = formatted(alloc)?;
         Host::of_disks(alloc, disks)
     }
 
     /// The same, and the call of this number of a disk behind the boot fails alone. A boot makes
     /// four calls of the disk first, and none of the others.
-    pub fn failing_once(alloc: Global, which: Which, call: u64) -> Result<Host, Trouble> {
+    pub(crate) fn failing_once(alloc: Global, which: Which, call: u64) -> Result<Host, Trouble> {
         let mut disks = formatted(alloc)?;
         let made = if which == Which::First { 4 } else { 0 };
         fail_once(&mut disks, which, call.saturating_add(made));
@@ -160,7 +160,7 @@ impl Host {
     }
 
     /// A host of a site of two, after its boot.
-    pub fn of_two(alloc: Global, me: HostId) -> Result<Host, Trouble>
+    pub(crate) fn of_two(alloc: Global, me: HostId) -> Result<Host, Trouble>
         requires { me.0 < 2 }
     {
         let disks = formatted_of_two(alloc, me)?;
@@ -168,7 +168,7 @@ impl Host {
     }
 
     /// The call of this number of a disk fails, and each later one.
-    pub fn fuse(&mut self, fuse: Option<(Which, u64)>) {
+    pub(crate) fn fuse(&mut self, fuse: Option<(Which, u64)>) {
         match fuse {
             Some((which, calls)) => self.node.fuse(which, calls),
             None => {}
@@ -176,12 +176,12 @@ impl Host {
     }
 
     /// Whether a disk failed.
-    pub fn is_stopped(&self) -> bool {
+    pub(crate) fn is_stopped(&self) -> bool {
         self.node.is_stopped()
     }
 
     /// Serves the outside for so many turns.
-    pub fn serve(&mut self, alloc: Global, outside: &mut Outside, turns: u64) -> ServeEnd {
+    pub(crate) fn serve(&mut self, alloc: Global, outside: &mut Outside, turns: u64) -> ServeEnd {
         if self.node.is_stopped() {
             return ServeEnd::DiskFault;
         }
@@ -189,7 +189,7 @@ impl Host {
     }
 
     /// The state that its disks tell.
-    pub fn state(&mut self, alloc: Global) -> Result<HostState, Trouble> {
+    pub(crate) fn state(&mut self, alloc: Global) -> Result<HostState, Trouble> {
         match self.node.reread(alloc) {
             Ok(state) => Ok(state),
             Err(fault) => Err(fault.into()),
@@ -198,7 +198,11 @@ impl Host {
 }
 
 /// Adds the table of these states.
-pub fn put_table(alloc: Global, states: &[HostState], out: &mut Vec<u8>) -> Result<(), Trouble> {
+pub(crate) fn put_table(
+    alloc: Global,
+    states: &[HostState],
+    out: &mut Vec<u8>,
+) -> Result<(), Trouble> {
     if states.len() > 256 {
         return Err(Trouble::Unexpected("a site has more than 256 hosts"));
     }

@@ -34,7 +34,7 @@ fn serve_all(alloc: Global, outside: &mut Outside) -> Result<(), Trouble> {
 }
 
 /// Prints what the daemon sends for literal datagrams.
-pub fn put_literal(alloc: Global, out: &mut Vec<u8>) -> Result<(), Trouble> {
+pub(crate) fn put_literal(alloc: Global, out: &mut Vec<u8>) -> Result<(), Trouble> {
     put(b"\n== literal datagrams\n", out)?;
     let mut outside = outside_of(alloc, &NONE, &DATAGRAMS)?;
     serve_all(alloc, &mut outside)?;

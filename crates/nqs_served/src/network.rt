@@ -144,7 +144,7 @@ impl Net {
 }
 
 /// Prints what is seen of two daemons beside what their schedule tells.
-pub fn put_network(alloc: Global, out: &mut Vec<u8>) -> Result<(), Trouble> {
+pub(crate) fn put_network(alloc: Global, out: &mut Vec<u8>) -> Result<(), Trouble> {
     put(b"\n== a request goes to another host\n", out)?;
     let mut net = Net::new(alloc)?;
     net.run(SCHEDULE)?;

@@ -10,7 +10,7 @@ use std::alloc::Global;
 
 /// The numbers of the calls that fail, from 1 on.
 #[derive(Clone, Copy)]
-pub struct Failing {
+pub(crate) struct Failing {
     pub receives: &'static [u64],
     pub sends: &'static [u64],
     pub launches: &'static [u64],
@@ -19,7 +19,7 @@ pub struct Failing {
 }
 
 /// No call fails.
-pub const NONE: Failing = Failing {
+pub(crate) const NONE: Failing = Failing {
     receives: &[],
     sends: &[],
     launches: &[],
@@ -28,7 +28,7 @@ pub const NONE: Failing = Failing {
 };
 
 /// What the daemon is given, and what it is to send back.
-pub struct Outside {
+pub(crate) struct Outside {
     pub wire: MemWire,
     pub launcher: MemLauncher,
     pub printer: MemPrinter,
@@ -53,7 +53,7 @@ impl Drop for Outside {
 }
 
 /// What comes to a daemon.
-pub struct Arrivals {
+pub(crate) struct Arrivals {
     alloc: Global,
     token: u64,
     now: u64,
@@ -88,7 +88,7 @@ impl Drop for Arrivals {
 
 impl Arrivals {
     /// Nothing comes, and no call fails. What is asked for first gets this token.
-    pub fn new(alloc: Global, token: u64) -> Arrivals {
+    pub(crate) fn new(alloc: Global, token: u64) -> Arrivals {
         Arrivals {
             alloc,
             token,
@@ -105,7 +105,7 @@ impl Arrivals {
     }
 
     /// These calls fail too.
-    pub fn fail(&mut self, failing: &Failing) -> Result<(), Memory> {
+    pub(crate) fn fail(&mut self, failing: &Failing) -> Result<(), Memory> {
         self.receives.extend_from_slice(failing.receives)?;
         self.sends.extend_from_slice(failing.sends)?;
         self.launches.extend_from_slice(failing.launches)?;
@@ -115,20 +115,20 @@ impl Arrivals {
     }
 
     /// An event comes to the daemon: it is taken at this moment.
-    pub fn add_event(&mut self) -> Result<(), Memory> {
+    pub(crate) fn add_event(&mut self) -> Result<(), Memory> {
         self.moments.push(self.now)?;
         Ok(())
     }
 
     /// A receive brings this. What is sent for it begins so.
-    pub fn add_datagram(&mut self, datagram: Bytes, front: Bytes) -> Result<(), Memory> {
+    pub(crate) fn add_datagram(&mut self, datagram: Bytes, front: Bytes) -> Result<(), Memory> {
         self.fronts.push(front)?;
         self.script.push(Item::Datagram(datagram))?;
         self.add_event()
     }
 
     /// A receive brings nothing.
-    pub fn add_quiet(&mut self) -> Result<(), Memory> {
+    pub(crate) fn add_quiet(&mut self) -> Result<(), Memory> {
         self.script.push(Item::Quiet)?;
         self.add_event()
     }
@@ -154,7 +154,7 @@ impl Arrivals {
     }
 
     /// What comes to the daemon by an event of a schedule.
-    pub fn add(&mut self, event: &WorldEvent) -> Result<(), Trouble> {
+    pub(crate) fn add(&mut self, event: &WorldEvent) -> Result<(), Trouble> {
         match coming_of(event) {
             Coming::Ask(ask) => self.add_ask(ask),
             Coming::Ended(ended) => self.add_ended(ended),
@@ -202,7 +202,7 @@ impl Arrivals {
     }
 
     /// The outside to which this comes.
-    pub fn into_outside(self) -> Result<Outside, Trouble> {
+    pub(crate) fn into_outside(self) -> Result<Outside, Trouble> {
         let clock = self.clock()?;
         Ok(self.with_clock(clock))
     }
@@ -222,7 +222,11 @@ fn fill(alloc: Global, comes: &[&[u8]], arrivals: &mut Arrivals) -> Result<(), M
 }
 
 /// The outside to which these datagrams come. Where there are no bytes nothing comes.
-pub fn outside_of(alloc: Global, failing: &Failing, comes: &[&[u8]]) -> Result<Outside, Trouble> {
+pub(crate) fn outside_of(
+    alloc: Global,
+    failing: &Failing,
+    comes: &[&[u8]],
+) -> Result<Outside, Trouble> {
     let mut arrivals = Arrivals::new(alloc, 0);
     arrivals.fail(failing)?;
     fill(alloc, comes, &mut arrivals)?;

@@ -5,7 +5,7 @@ use nqs_base::{Bytes, Items, Memory};
 use std::alloc::Global;
 
 /// The lines of each kind, in order, as they stand in a transcript.
-pub struct Parts {
+pub(crate) struct Parts {
     pub replies: Vec<u8>,
     /// `launch` and `kill`.
     pub jobs: Vec<u8>,
@@ -41,7 +41,7 @@ impl Drop for Parts {
 
 impl Parts {
     /// No line.
-    pub fn new(alloc: Global) -> Parts {
+    pub(crate) fn new(alloc: Global) -> Parts {
         Parts {
             replies: Vec::new(alloc),
             jobs: Vec::new(alloc),
@@ -75,7 +75,7 @@ fn put_pair(title: &[u8], schedule: &[u8], daemon: &[u8], out: &mut Vec<u8>) -> 
 
 /// Prints the parts that have lines, of a schedule's run and of the daemons: once where they are
 /// the same, else both.
-pub fn put_both(schedule: &Parts, daemon: &Parts, out: &mut Vec<u8>) -> Result<(), Memory> {
+pub(crate) fn put_both(schedule: &Parts, daemon: &Parts, out: &mut Vec<u8>) -> Result<(), Memory> {
     put_pair(b"replies", &schedule.replies, &daemon.replies, out)?;
     put_pair(b"jobs", &schedule.jobs, &daemon.jobs, out)?;
     put_pair(b"prints", &schedule.prints, &daemon.prints, out)?;

@@ -138,7 +138,7 @@ fn put_row(alloc: Global, row: &Row, out: &mut Vec<u8>) -> Result<(), Trouble> {
 }
 
 /// Prints what is seen of shepherds.
-pub fn put_shepherds(alloc: Global, out: &mut Vec<u8>) -> Result<(), Trouble> {
+pub(crate) fn put_shepherds(alloc: Global, out: &mut Vec<u8>) -> Result<(), Trouble> {
     for row in &ROWS {
         put_row(alloc, row, out)?;
     }
@@ -290,7 +290,7 @@ fn put_asking(alloc: Global, asking: &Asking, out: &mut Vec<u8>) -> Result<(), T
 }
 
 /// Prints what is seen of clients that get three answers, of which the last is their own.
-pub fn put_client(alloc: Global, out: &mut Vec<u8>) -> Result<(), Trouble> {
+pub(crate) fn put_client(alloc: Global, out: &mut Vec<u8>) -> Result<(), Trouble> {
     for asking in &ASKINGS {
         put_asking(alloc, asking, out)?;
     }

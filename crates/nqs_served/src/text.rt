@@ -7,13 +7,13 @@ use nqs_types::HostId;
 use std::alloc::{AllocError, Global};
 
 /// Adds bytes.
-pub fn put(bytes: &[u8], out: &mut Vec<u8>) -> Result<(), Memory> {
+pub(crate) fn put(bytes: &[u8], out: &mut Vec<u8>) -> Result<(), Memory> {
     out.extend_from_slice(bytes)?;
     Ok(())
 }
 
 /// Adds several lists of bytes.
-pub fn put_each(pieces: &[&[u8]], out: &mut Vec<u8>) -> Result<(), Memory> {
+pub(crate) fn put_each(pieces: &[&[u8]], out: &mut Vec<u8>) -> Result<(), Memory> {
     for piece in pieces {
         out.extend_from_slice(piece)?;
     }
@@ -21,13 +21,13 @@ pub fn put_each(pieces: &[&[u8]], out: &mut Vec<u8>) -> Result<(), Memory> {
 }
 
 /// Adds a text for which there was memory.
-pub fn put_text(text: Result<String, AllocError>, out: &mut Vec<u8>) -> Result<(), Memory> {
+pub(crate) fn put_text(text: Result<String, AllocError>, out: &mut Vec<u8>) -> Result<(), Memory> {
     let text = text?;
     put(text.as_bytes(), out)
 }
 
 /// Adds bytes in quotes, with `\n` for a line feed.
-pub fn put_quoted(bytes: &[u8], out: &mut Vec<u8>) -> Result<(), Memory> {
+pub(crate) fn put_quoted(bytes: &[u8], out: &mut Vec<u8>) -> Result<(), Memory> {
     out.push(b'"')?;
     for byte in bytes {
         if *byte == b'\n' {
@@ -41,7 +41,7 @@ pub fn put_quoted(bytes: &[u8], out: &mut Vec<u8>) -> Result<(), Memory> {
 }
 
 /// Adds a line of bytes as numbers, each behind a space.
-pub fn put_numbers(alloc: Global, bytes: &[u8], out: &mut Vec<u8>) -> Result<(), Memory> {
+pub(crate) fn put_numbers(alloc: Global, bytes: &[u8], out: &mut Vec<u8>) -> Result<(), Memory> {
     for byte in bytes {
         put_text(format!(in alloc; " {byte}"), out)?;
     }
@@ -49,7 +49,7 @@ pub fn put_numbers(alloc: Global, bytes: &[u8], out: &mut Vec<u8>) -> Result<(),
 }
 
 /// The name of a host.
-pub fn name_of(host: HostId) -> &'static str {
+pub(crate) fn name_of(host: HostId) -> &'static str {
     if host.0 == 0 { "alpha" } else { "beta" }
 }
 
@@ -61,7 +61,7 @@ fn put_address(alloc: Global, address: Address, out: &mut Vec<u8>) -> Result<(),
 }
 
 /// Prints datagrams that were to be sent, byte by byte.
-pub fn put_sent(alloc: Global, sent: &[Sent], out: &mut Vec<u8>) -> Result<(), Memory> {
+pub(crate) fn put_sent(alloc: Global, sent: &[Sent], out: &mut Vec<u8>) -> Result<(), Memory> {
     for sent in sent {
         put_address(alloc, sent.to, out)?;
         put_numbers(alloc, sent.bytes.as_slice(), out)?;

@@ -178,7 +178,7 @@ fn add_file(alloc: Global, file: &FileWritten, parts: &mut Parts) -> Result<(), 
 }
 
 /// Adds what the daemon of a host asked of its outside.
-pub fn tell(
+pub(crate) fn tell(
     alloc: Global,
     host: HostId,
     outside: &Outside,

@@ -89,7 +89,11 @@ fn replay_into(alloc: Global, schedule: &[u8], sink: &mut MemSink) -> Status {
 }
 
 /// Adds what the run of a schedule tells.
-pub fn add_replayed(alloc: Global, schedule: &[u8], parts: &mut Parts) -> Result<(), Trouble> {
+pub(crate) fn add_replayed(
+    alloc: Global,
+    schedule: &[u8],
+    parts: &mut Parts,
+) -> Result<(), Trouble> {
     let mut sink = MemSink::new(alloc, 100, Vec::new(alloc));
     match replay_into(alloc, schedule, &mut sink) {
         Status::Done => {}

@@ -7,7 +7,7 @@ use std::alloc::{AllocError, AllocFailed};
 
 /// Why days can't be printed. No day here is to bring one.
 #[derive(Drop)]
-pub enum Trouble {
+pub(crate) enum Trouble {
     Memory(Memory),
     /// What a day is not to bring.
     Unexpected(&'static str),
@@ -15,7 +15,7 @@ pub enum Trouble {
 
 impl Trouble {
     /// What went wrong.
-    pub fn text(&self) -> &'static str {
+    pub(crate) fn text(&self) -> &'static str {
         match self {
             Trouble::Memory(_) => "out of memory",
             Trouble::Unexpected(text) => *text,

@@ -20,7 +20,7 @@ fn free_ports(rt: &HostRuntime) -> io::Result<(u16, u16)> {
 }
 
 /// Makes the folder, with its file `site` for the hosts `alpha` and `beta`.
-pub fn make_site(rt: &HostRuntime) -> io::Result<String> {
+pub(crate) fn make_site(rt: &HostRuntime) -> io::Result<String> {
     let alloc = rt.alloc();
     let dir = format!(in alloc; "site-{}", std::process::id(rt.process()))?;
     fs::create_dir_all(rt, dir.as_str())?;

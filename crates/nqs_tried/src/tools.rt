@@ -8,7 +8,7 @@ use std::{env, fs, io, thread};
 
 /// What a tool wrote, and the number it ended with.
 #[derive(Drop)]
-pub struct Told {
+pub(crate) struct Told {
     pub text: String,
     pub number: i32,
 }
@@ -40,19 +40,24 @@ fn run_with(rt: &HostRuntime, words: &[&str], input: Stdio) -> io::Result<Told> 
 }
 
 /// Runs a tool with nothing on its standard input.
-pub fn run(rt: &HostRuntime, words: &[&str]) -> io::Result<Told> {
+pub(crate) fn run(rt: &HostRuntime, words: &[&str]) -> io::Result<Told> {
     run_with(rt, words, Stdio::null())
 }
 
 /// Runs a tool with a script on its standard input, by a file in the site's folder.
-pub fn run_on(rt: &HostRuntime, dir: &str, script: &str, words: &[&str]) -> io::Result<Told> {
+pub(crate) fn run_on(
+    rt: &HostRuntime,
+    dir: &str,
+    script: &str,
+    words: &[&str],
+) -> io::Result<Told> {
     let path = format!(in rt.alloc(); "{dir}/script")?;
     fs::write(rt, path.as_str(), script.as_bytes())?;
     run_with(rt, words, Stdio::from(File::open(rt, path.as_str())?))
 }
 
 /// Starts the daemon of a host, for 20,000 turns, and waits until it answers.
-pub fn start_daemon(rt: &HostRuntime, dir: &str, host: &str) -> io::Result<Child> {
+pub(crate) fn start_daemon(rt: &HostRuntime, dir: &str, host: &str) -> io::Result<Child> {
     let child = command(rt, &["daemon", dir, host, "20000"])?
         .stdin(Stdio::null())
         .stdout(Stdio::null())
@@ -68,7 +73,7 @@ pub fn start_daemon(rt: &HostRuntime, dir: &str, host: &str) -> io::Result<Child
 }
 
 /// Asks `qstat` until the host has no request: whether that came within 10,000 times.
-pub fn waits_for_none(rt: &HostRuntime, dir: &str, host: &str) -> io::Result<bool> {
+pub(crate) fn waits_for_none(rt: &HostRuntime, dir: &str, host: &str) -> io::Result<bool> {
     for _ in 0..10_000 {
         let told = run(rt, &["qstat", dir, host, "root"])?;
         if told.text.as_str() == "0 requests.\n" {
@@ -81,7 +86,7 @@ pub fn waits_for_none(rt: &HostRuntime, dir: &str, host: &str) -> io::Result<boo
 
 /// The output at a path of a host, for which the host is told to tick until it is there, at most
 /// 1,000 times.
-pub fn output_of(rt: &HostRuntime, dir: &str, host: &str, path: &str) -> io::Result<String> {
+pub(crate) fn output_of(rt: &HostRuntime, dir: &str, host: &str, path: &str) -> io::Result<String> {
     let place = format!(in rt.alloc(); "{dir}/{host}/output/{path}")?;
     for _ in 0..1000 {
         if let Ok(text) = fs::read_to_string(rt, place.as_str()) {

@@ -98,7 +98,7 @@ fn try_daemons(rt: &HostRuntime, dir: &str) -> io::Result<()> {
 }
 
 /// Tries a site of two hosts, and removes its folder.
-pub fn try_site(rt: &HostRuntime) -> io::Result<()> {
+pub(crate) fn try_site(rt: &HostRuntime) -> io::Result<()> {
     let dir = make_site(rt)?;
     format_hosts(rt, &dir)?;
     try_daemons(rt, &dir)?;

@@ -1,30 +1,28 @@
-use Rattle.std.proofs.Common.{◌≡◌, ◌++◌, ◌∙◌, ap, length, map, arith}
-use Rattle.nqs_schedule.specs.Summary.{summary_text}
+use Rattle.std.proofs.Common.{◌≡◌, true, [], take, length, map, refl, sym, subst, ◌∙◌}
+use Rattle.std.proofs.lemmas.Result.{err_from_is_err_and}
+use Rattle.std.specs.Io.KnownBytes.{Appends}
+use Rattle.nqs_outside.proofs.Known.{Appends-none}
 use Rattle.nqs_language_acts.specs.Acts.{act_of}
-use Rattle.nqs_network_runs.specs.Running.{ran}
+use Rattle.nqs_schedule.specs.Summary.{summary_text}
+use Rattle.nqs_network_runs.specs.Running.{ran, text_of, table_length}
+use Rattle.nqs_network_runs.proofs.Fronts.{front_of, lacked}
 use Rattle.nqs_network_runs.proofs.run.summarize.Goals as goal
 
-pub table-requires : goal.table-requires
-table-requires c =
+pub returns-in_err-world : goal.returns-in_err-world
+returns-in_err-world g c =
+    let p = err_from_is_err_and c.from_residual.result c.from_residual.ensures.1 in
+    let text = text_of true c.args.site.now c.args.events.now in
+    rw (p.1, p.2) (lacked text (ran c.args.site.now c.args.events.now).world _ _ ([], (text, refl), Appends-none (g.K.Sink.taken c.args.out.now)))
+
+pub text_of_summary-requires : goal.text_of_summary-requires
+text_of_summary-requires g c =
     let site = c.args.site.now in
-    let events = c.args.events.now in record {
+    let events = c.args.events.now in
+    record {
       sound = (
         site,
         (ran site events).world,
-        c.hosts_stay_in_order.ensures site (map act_of events) c.requires.site
-            (c.acts_are_sane.ensures events c.requires.sane),
+        c.hosts_stay_in_order.ensures site (map act_of events) c.requires.site (c.acts_are_sane.ensures events c.requires.sane),
         c.in_ok-world.ensures.0,
       );
     }
-
-pub returns : goal.returns
-returns c =
-    let events = length c.args.events.now in
-    let network = (ran c.args.site.now c.args.events.now).world in
-    let counted = c.in_ok-world.ensures in
-    let count : c.len.result ≡ length c.in_ok-rows.rows.items = omega (arith, c.len.ensures, c.in_ok-rows.rows.ok.0) in
-    let rows = count ∙ ap length (c.in_ok-rows.ensures.rows network counted.0) in (
-      c.in_ok-rows.ensures.world network counted.0,
-      c.in_ok-print_summary.ensures
-          ∙ (λ j. c.new-text.ensures.items j ++ summary_text (counted.1 j) events (rows j)),
-    )

@@ -10,7 +10,7 @@ use Rattle.nqs_network_runs.specs.Writing.{HasWritten}
 use Rattle.nqs_network_runs.proofs.Runs.{sane_before, begins_before, told_there, world_there}
 use Rattle.nqs_network_runs.proofs.Fronts.{failed_since, lacked}
 use Rattle.nqs_network_runs.proofs.Pieces.{written_on, written_then, written_front, written_part, written_whole}
-use Rattle.nqs_network_runs.proofs.run.run_told.Goals as goal
+use Rattle.nqs_network_runs.proofs.run.transcribe.Goals as goal
 
 pub tell-requires-clause-sound : goal.tell-requires-clause-sound
 tell-requires-clause-sound g c =

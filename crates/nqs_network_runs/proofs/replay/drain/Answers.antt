@@ -1,5 +1,5 @@
 use Rattle.nqs_network_runs.proofs.Playing.{ends_read}
-use Rattle.nqs_network_runs.proofs.replay.play_read.Goals as goal
+use Rattle.nqs_network_runs.proofs.replay.drain.Goals as goal
 
 pub returns-in-Ok : goal.returns-in-Ok
 returns-in-Ok g c =

@@ -2,7 +2,7 @@ use Rattle.std.proofs.Common.{◌≤◌, false, take}
 use Rattle.nqs_net.specs.Worlds.{IsWorld}
 use Rattle.nqs_network_runs.specs.Running.{ran, text_of}
 use Rattle.nqs_network_runs.specs.Writing.{HasWritten}
-use Rattle.nqs_network_runs.proofs.run.run_told.Given as goal
+use Rattle.nqs_network_runs.proofs.run.transcribe.Given as goal
 
 abbrev pub invariant-loop-event : goal.invariant-loop-event
 invariant-loop-event g l = record {
