@@ -7,6 +7,7 @@ use Rattle.std.proofs.lemmas.List.{map-append}
 use Rattle.std.proofs.lemmas.List.Folds.{list_any-append}
 use Rattle.std.specs.List.{list_any, AllByRecursion}
 use Rattle.nqs_types.specs.Ids.{id_eq, id_exact}
+use Rattle.nqs_base.proofs.Plain.{all_weaker}
 use Rattle.nqs_state.specs.State.{Plain}
 use Rattle.nqs_state.specs.Keys.{is_row}
 use Rattle.nqs_types.specs.declared.ids.HostId.{HostId}
@@ -217,21 +218,17 @@ module _ (states : List Plain) (table : Table) (told : IsTabled states table) (o
       let es = entries_at states h s in
       let fs = entries_from (place + 1) states rest in
       record {
-        right = all-both IsEntry es fs (weaker (λ (e : Entry). IsEntry e × (host_of_place (table e.id) ≡ place)) IsEntry (λ e k. k.0) es own) later.right;
+        right = all-both IsEntry es fs (all_weaker (λ (e : Entry). IsEntry e × (host_of_place (table e.id) ≡ place)) IsEntry (λ e k. k.0) es own) later.right;
         behind = λ n below. all-both (λ (e : Entry). n < host_of_place (table e.id)) es fs
-            (weaker (λ (e : Entry). IsEntry e × (host_of_place (table e.id) ≡ place)) (λ (e : Entry). n < host_of_place (table e.id))
+            (all_weaker (λ (e : Entry). IsEntry e × (host_of_place (table e.id) ≡ place)) (λ (e : Entry). n < host_of_place (table e.id))
             (λ e k. (let f = k.1 in omega (arith, f, below))) es own) (later.behind n (omega arith));
         distinct = ap (are_distinct id_eq) (map-append (λ (e : Entry). e.id) es fs)
             ∙ distinct_both (map (λ (e : Entry). e.id) es) (map (λ (e : Entry). e.id) fs) (host_distinct h s at) later.distinct
             (every_map (λ x. list_any (id_eq x) (map (λ (e : Entry). e.id) fs) ≡ false) (λ (e : Entry). e.id) es
-            (weaker (λ (e : Entry). IsEntry e × (host_of_place (table e.id) ≡ place))
+            (all_weaker (λ (e : Entry). IsEntry e × (host_of_place (table e.id) ≡ place))
             (λ (e : Entry). list_any (id_eq e.id) (map (λ (e : Entry). e.id) fs) ≡ false)
             (λ e k. far_off e.id place k.1 fs (later.behind place (omega arith))) es own));
       }
-    where
-      weaker : {V : Type 0} (P Q : V → Type 0) → ((v : V) → P v → Q v) → (vs : List V) → AllByRecursion P vs → AllByRecursion Q vs
-      weaker P Q f [] p = tt
-      weaker P Q f (v ∷ vs) p = (f v p.0, weaker P Q f vs p.1)
 
   all_listed : Listed 0 (entries states)
   all_listed = listed 0 states (λ n s there. (let z : 0 + n ≡ n = omega arith in ap (slice_get states) z ∙ there))

@@ -24,6 +24,7 @@ use Rattle.nqs_store.specs.Images.{IsTold}
 use Rattle.nqs_store.specs.Hosts.{HostCall, Runs, StopsShort, on, part}
 use Rattle.nqs_store.specs.Plan.{CommitsBy, due_calls, puts_calls, change_calls, commit_calls}
 use Rattle.nqs_store.proofs.EachDisk.{each_disk}
+use Rattle.nqs_store.proofs.HostRuns.{none_stops}
 use Rattle.nqs_store.proofs.Kept.{idle_commits, left_alone}
 use Rattle.nqs_store.proofs.Runs.{none_more}
 use Rattle.nqs_store.proofs.TellsNow.{told_now, active_quiet}
@@ -32,15 +33,11 @@ use Rattle.nqs_node.specs.Makes.{Makes}
 
 -- no call of a commit was made
 
-begun : (xs ys : List HostCall) → StopsShort ys [] → StopsShort (xs ++ ys) []
-begun [] ys short = short
-begun (x ∷ xs) ys short = tt
-
 none_begun : (a : Active) (snapshot places : List ℕ) (puts : List (List ℕ)) (gate : ℕ) (payload : List ℕ)
     → StopsShort (commit_calls a snapshot places puts gate payload) []
 none_begun a snapshot places puts gate payload =
-    begun (due_calls a snapshot) (change_calls (ready a) places puts gate payload)
-    (begun (on Spool (puts_calls places puts)) (on (journal_of (ready a)) (append_calls gate payload)) tt)
+    none_stops (due_calls a snapshot) (change_calls (ready a) places puts gate payload)
+    (none_stops (on Spool (puts_calls places puts)) (on (journal_of (ready a)) (append_calls gate payload)) tt)
 
 none_runs : (old : Which → History) → Runs old old []
 none_runs old which = none_more (old which)

@@ -45,11 +45,12 @@ use Rattle.nqs_order.proofs.KeyedPlaces.{any_at, any_false, any_of, none_at, dis
 use Rattle.nqs_order.proofs.CountsOfRows.{eligible_is}
 use Rattle.nqs_order.proofs.FirstOfLine.{is_of, led, row_of, is_wrong, is_better, IsThere, told, passed_over, first_least, first_there, first_some}
 
+-- neither of two comes before the other, by priority and then by arrival: then both arrived at once
+pub tied : (p q m n : ℕ) → (nat_lt q p || (p == q && nat_lt m n)) ≡ false → (nat_lt p q || (q == p && nat_lt n m)) ≡ false → m ≡ n
+tied p q m n h g = grind (arith, nat_tests)
+
 tied_arrivals : (a b : Key) → before a b ≡ false → before b a ≡ false → a.arrival ≡ b.arrival
-tied_arrivals a b one two = numbers a.priority b.priority a.arrival b.arrival one two
-  where
-    numbers : (p q m n : ℕ) → (nat_lt q p || (p == q && nat_lt m n)) ≡ false → (nat_lt p q || (q == p && nat_lt n m)) ≡ false → m ≡ n
-    numbers p q m n h g = grind (arith, nat_tests)
+tied_arrivals a b one two = tied a.priority b.priority a.arrival b.arrival one two
 
 -- classes
 

@@ -27,6 +27,7 @@ use Rattle.nqs_rules.proofs.StateFacts.{keys_are}
 use Rattle.nqs_rules.proofs.PickLaws.{eligible_parts, picked_is, picked_is_some}
 use Rattle.nqs_types.specs.declared.reason.Reason.TheVariants.{Next}
 use Rattle.nqs_rules.specs.Reasons.{goes_first, waits_before, count_before, reason_of}
+use Rattle.nqs_order.proofs.FirstOfClasses.{tied}
 use Rattle.nqs_reasons.specs.Chosen.{is_next, StartsBefore, IsAtOrBefore}
 use Rattle.nqs_reasons.proofs.Next.{found_named, next_is, next_without, next_count, next_said}
 
@@ -62,10 +63,7 @@ other_fails false b h is = refl
 
 -- two rows neither of which comes before the other have one priority and one arrival
 as_early : (a b : PlainRow) → comes_before a b ≡ false → comes_before b a ≡ false → a.arrival ≡ b.arrival
-as_early a b h g = numbers a.job.priority b.job.priority a.arrival b.arrival h g
-  where
-    numbers : (p q m n : ℕ) → (nat_lt q p || (p == q && nat_lt m n)) ≡ false → (nat_lt p q || (q == p && nat_lt n m)) ≡ false → m ≡ n
-    numbers p q m n h g = grind (arith, nat_tests)
+as_early a b h g = tied a.job.priority b.job.priority a.arrival b.arrival h g
 
 module _ (now : ℕ) (s : Plain) (order : IsInOrder s) where
   -- rows of one arrival stand at one place
