@@ -28,32 +28,32 @@ use Rattle.nqs_records.proofs.Tables.{IsMade, IsRow, IsTable, IsNever, table_law
 
 -- ---- each edit is made by the row of its code: one line for all of them
 
-conf_made : (e : ConfEdit) → IsMade value_at is_sound edits (conf_entry e) (Conf e)
+conf_made : (e : ConfEdit) → IsMade value_at edits (conf_entry e) (Conf e)
 unfolding edits setting_edits
 conf_made SetNoDefaultQueue = (λ other bytes start end h. bind (values_at value_at [] bytes start) _ _ _ h refl, refl, refl)
 conf_made e = (λ other bytes start end h. bind (values_at value_at (conf_entry e).shape bytes start) _ _ _ h refl, refl, refl)
 
-limits_made : (e : LimitsEdit) → IsMade value_at is_sound edits (limits_entry e) (LimitsOf e)
+limits_made : (e : LimitsEdit) → IsMade value_at edits (limits_entry e) (LimitsOf e)
 unfolding edits setting_edits limits_edits
 limits_made (CreateComplex complex) = (λ other bytes start end h. bind (values_at value_at (a_name ∷ []) bytes start) _ _ _ h refl, refl, refl)
 limits_made e = (λ other bytes start end h. bind (values_at value_at (limits_entry e).shape bytes start) _ _ _ h refl, refl, refl)
 
-access_made : (e : AccessEdit) → IsMade value_at is_sound edits (access_entry e) (AccessOf e)
+access_made : (e : AccessEdit) → IsMade value_at edits (access_entry e) (AccessOf e)
 unfolding edits setting_edits limits_edits access_edits
 access_made (AddManager user) = (λ other bytes start end h. bind (values_at value_at (a_name ∷ []) bytes start) _ _ _ h refl, refl, refl)
 access_made e = (λ other bytes start end h. bind (values_at value_at (access_entry e).shape bytes start) _ _ _ h refl, refl, refl)
 
-devices_made : (e : DevicesEdit) → IsMade value_at is_sound edits (devices_entry e) (DevicesOf e)
+devices_made : (e : DevicesEdit) → IsMade value_at edits (devices_entry e) (DevicesOf e)
 unfolding edits setting_edits limits_edits access_edits devices_edits
 devices_made (DeleteDevice device) = (λ other bytes start end h. bind (values_at value_at (a_name ∷ []) bytes start) _ _ _ h refl, refl, refl)
 devices_made e = (λ other bytes start end h. bind (values_at value_at (devices_entry e).shape bytes start) _ _ _ h refl, refl, refl)
 
-rows_made : (e : RowsEdit) → IsMade value_at is_sound edits (rows_entry e) (RowsOf e)
+rows_made : (e : RowsEdit) → IsMade value_at edits (rows_entry e) (RowsOf e)
 unfolding edits setting_edits limits_edits access_edits devices_edits rows_edits
 rows_made (AbortQueue queue) = (λ other bytes start end h. bind (values_at value_at (a_name ∷ []) bytes start) _ _ _ h refl, refl, refl)
 rows_made e = (λ other bytes start end h. bind (values_at value_at (rows_entry e).shape bytes start) _ _ _ h refl, refl, refl)
 
-edit_made : (e : Edit) → IsMade value_at is_sound edits (edit_entry e) e
+edit_made : (e : Edit) → IsMade value_at edits (edit_entry e) e
 edit_made (Conf e) = conf_made e
 edit_made (LimitsOf e) = limits_made e
 edit_made (AccessOf e) = access_made e
@@ -69,7 +69,7 @@ edits_rows = search rules
 no_edit : (at : ℕ) → IsNever (bad_at {A = Edit} at)
 no_edit at bytes place v e = cc
 
-edits_agree : IsTable value_at is_sound edit_entry edits
+pub edits_agree : IsTable value_at is_sound edit_entry edits
 edits_agree = record { all_rows = edits_rows; all_made = edit_made }
 
 -- ---- spellings and limits by cases are those of the entries
@@ -99,7 +99,7 @@ unfolding rows_field
 rows_spelled (AbortQueue queue) = refl
 rows_spelled e = refl
 
-spelled : (e : Edit) → edit_field e ≡ entry_field value_field (edit_entry e)
+pub spelled : (e : Edit) → edit_field e ≡ entry_field value_field (edit_entry e)
 unfolding edit_field
 spelled (Conf e) = conf_spelled e
 spelled (LimitsOf e) = limits_spelled e
@@ -127,7 +127,7 @@ rows_limited : (e : RowsEdit) → IsRowsEdit e ≡ IsEntry IsValue (rows_entry e
 rows_limited (AbortQueue queue) = refl
 rows_limited e = refl
 
-limited : (e : Edit) → IsEdit e ≡ IsEntry IsValue (edit_entry e)
+pub limited : (e : Edit) → IsEdit e ≡ IsEntry IsValue (edit_entry e)
 limited (Conf e) = conf_limited e
 limited (LimitsOf e) = limits_limited e
 limited (AccessOf e) = access_limited e

@@ -13,7 +13,7 @@ use Rattle.nqs_records.proofs.KindFieldLaws.{is_any, kind_fields_are_read}
 use Rattle.nqs_records.proofs.Tables.{IsMade, IsRow, IsTable, IsNever, table_law, named}
 
 -- each change is made by the row of its kind: one line for all of them
-kind_made : (c : HostChange) → IsMade value_at is_any kinds (kind_entry c) c
+kind_made : (c : HostChange) → IsMade value_at kinds (kind_entry c) c
 unfolding kinds hand_kinds host_kinds
 kind_made Boot = (λ other bytes start end h. bind (values_at value_at [] bytes start) _ _ _ h refl, refl, refl)
 kind_made c = (λ other bytes start end h. bind (values_at value_at (kind_entry c).shape bytes start) _ _ _ h refl, refl, refl)
@@ -26,15 +26,15 @@ kinds_rows = search rules
 no_change : (at : ℕ) → IsNever no_kind
 no_change at bytes place v e = cc
 
-kinds_agree : IsTable value_at is_any kind_entry kinds
+pub kinds_agree : IsTable value_at is_any kind_entry kinds
 kinds_agree = record { all_rows = kinds_rows; all_made = kind_made }
 
-spelled : (c : HostChange) → spelling c ≡ entry_field value_field (kind_entry c)
+pub spelled : (c : HostChange) → spelling c ≡ entry_field value_field (kind_entry c)
 unfolding spelling
 spelled Boot = refl
 spelled c = refl
 
-limited : (c : HostChange) → MayStand c ≡ IsEntry IsValue (kind_entry c)
+pub limited : (c : HostChange) → MayStand c ≡ IsEntry IsValue (kind_entry c)
 limited Boot = refl
 limited c = refl
 

@@ -27,7 +27,7 @@ same_read {A} {IsA} {IsB} {f} {r} to from one = record {
 }
 
 -- each value is within its limits, one behind the other
-abbrev AreNested : {F : Type 0} {ValueOf : F → Type 0} → ((f : F) → ValueOf f → Type 0) → (s : List F) → Values ValueOf s → Type 0
+abbrev pub AreNested : {F : Type 0} {ValueOf : F → Type 0} → ((f : F) → ValueOf f → Type 0) → (s : List F) → Values ValueOf s → Type 0
 AreNested {F} {ValueOf} Is [] v = ⊤
 AreNested {F} {ValueOf} Is (f ∷ []) v = Is f v
 AreNested {F} {ValueOf} Is (f ∷ g ∷ fs) v = Is f v.0 × AreNested Is (g ∷ fs) v.1
@@ -40,7 +40,7 @@ flat Is (f ∷ g ∷ h ∷ []) v is = (is.0, is.1.0, is.1.1)
 flat Is (f ∷ g ∷ h ∷ i ∷ []) v is = (is.0, is.1.0, is.1.1.0, is.1.1.1)
 flat Is (f ∷ g ∷ h ∷ i ∷ j ∷ fs) v is = (is.0, is.1.0, is.1.1.0, is.1.1.1.0, flat Is (j ∷ fs) v.1.1.1.1 is.1.1.1.1)
 
-nested : {F : Type 0} {ValueOf : F → Type 0} (Is : (f : F) → ValueOf f → Type 0) (s : List F) (v : Values ValueOf s) → AreValues Is s v → AreNested Is s v
+pub nested : {F : Type 0} {ValueOf : F → Type 0} (Is : (f : F) → ValueOf f → Type 0) (s : List F) (v : Values ValueOf s) → AreValues Is s v → AreNested Is s v
 nested Is [] v is = is
 nested Is (f ∷ []) v is = is
 nested Is (f ∷ g ∷ []) v is = is

@@ -9,7 +9,7 @@ use Rattle.nqs_codec.specs.Takes.{Stands}
 use Rattle.nqs_codec.proofs.Lengths.{two_stand}
 use Rattle.nqs_records.specs.Reading.{Reading, ◌>>=◌}
 use Rattle.nqs_records.specs.Fields.{u8_at}
-use Rattle.nqs_records.specs.Tables.{Values, values_field, values_at, are_sound, Row, Entry, IsEntry, entry_field, row_at, by_code}
+use Rattle.nqs_records.specs.Tables.{Values, values_field, values_at, are_sound, Row, Entry, IsEntry, entry_field, row_at, by_code, shape_of}
 use Rattle.nqs_records.specs.Changes.{AreBytes}
 use Rattle.nqs_records.proofs.IsRead.{IsRead, bound}
 use Rattle.nqs_records.proofs.Numbers.{u8_read}
@@ -22,19 +22,28 @@ abbrev pub IsRow : {F : Type 0} {ValueOf : F → Type 0} {A : Type 0} → (F →
 IsRow {F} {ValueOf} {A} is_sound entry_of r =
     ((v : Values ValueOf r.shape) → entry_of (r.make v) ≡ record { code = r.code; shape = r.shape; values = v }) × (are_sound is_sound r.shape ≡ true)
 
--- a value's code is that of a row which makes the value again
-abbrev pub IsMade : {F : Type 0} {ValueOf : F → Type 0} {A : Type 0} → ((f : F) → Reading (ValueOf f)) → (F → Bool) → List (Row ValueOf A) → Entry ValueOf → A
-    → Type 0
-IsMade {F} {ValueOf} {A} read is_sound rows n a = (
+-- a value's fields are those of its code, and the row of its code makes the value again
+abbrev pub IsMade : {F : Type 0} {ValueOf : F → Type 0} {A : Type 0} → ((f : F) → Reading (ValueOf f)) → List (Row ValueOf A) → Entry ValueOf → A → Type 0
+IsMade {F} {ValueOf} {A} read rows n a = (
     (other : Reading A) (bytes : List ℕ) (start end : ℕ) → values_at read n.shape bytes start ≡ Ok (n.values, end)
     → by_code read rows n.code other bytes start ≡ Ok (a, end)
-    ) × (are_sound is_sound n.shape ≡ true) × (nat_lt n.code (2 ^ 8) ≡ true)
+    ) × (n.shape ≡ shape_of rows n.code) × (nat_lt n.code (2 ^ 8) ≡ true)
+
+-- what holds of no fields and of those of each row holds of the fields behind each code
+pub each_shape : {F : Type 0} {ValueOf : F → Type 0} {A : Type 0} (P : List F → Type 0) (Q : Row ValueOf A → Type 0) → P []
+    → ((r : Row ValueOf A) → Q r → P r.shape) → (rows : List (Row ValueOf A)) (code : ℕ) → AllByRecursion Q rows → P (shape_of rows code)
+each_shape P Q none each [] code all = none
+each_shape P Q none each (r ∷ rs) code all = by (r.code == code) (each_shape P Q none each rs code all.1)
+  where
+    by : (t : Bool) → P (shape_of rs code) → P (cond t r.shape (shape_of rs code))
+    by true later = each r all.0
+    by false later = later
 
 -- a table whose rows and entries agree
 pub record IsTable {F : Type 0} {ValueOf : F → Type 0} {A : Type 0} (read : (f : F) → Reading (ValueOf f)) (is_sound : F → Bool)
     (entry_of : A → Entry ValueOf) (rows : List (Row ValueOf A)) : Type 0 where
   pub all_rows : AllByRecursion (IsRow is_sound entry_of) rows
-  pub all_made : (a : A) → IsMade read is_sound rows (entry_of a) a
+  pub all_made : (a : A) → IsMade read rows (entry_of a) a
 
 -- a code, and what it announces
 abbrev pub coded_by : {F : Type 0} {ValueOf : F → Type 0} {A : Type 0} → ((f : F) → Reading (ValueOf f)) → List (Row ValueOf A) → (ℕ → Reading A) → Reading A
@@ -83,9 +92,11 @@ module _ {F : Type 0} {ValueOf : F → Type 0} {A : Type 0} (Is : (f : F) → Va
         let front = u8_field n.code in
         let back = values_field field n.shape n.values in
         let made = table.all_made value in
+        let sound = subst (λ s. are_sound is_sound s ≡ true) (sym made.1)
+        (each_shape (λ s. are_sound is_sound s ≡ true) (IsRow is_sound entry_of) refl (λ r is. is.1) rows n.code table.all_rows) in
         let text = is ∙ append_assoc front back rest in
         let start = place + length front in
-        let there = (shape_law Is field read is_sound law n.shape made.1).taken bytes rest start n.values fits is_value
+        let there = (shape_law Is field read is_sound law n.shape sound).taken bytes rest start n.values fits is_value
         (rest_behind bytes place front (back ++ rest) text) in
         let end : start + length back ≡ place + length (front ++ back) = omega (arith, length-append front back) in
         bind (u8_at bytes place) _ (n.code, start) _ (u8_read.taken bytes (back ++ rest) place n.code fits (ltb-true n.code (2 ^ 8) made.2) text)
