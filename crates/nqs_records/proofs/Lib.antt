@@ -23,3 +23,7 @@ pub mod SteadyTables
 pub mod SteadyEdits
 pub mod SteadyKinds
 pub mod FirstFaults
+pub mod ShortFields
+pub mod ShortTables
+pub mod ShortEdits
+pub mod ShortKinds

@@ -9,8 +9,9 @@
 //! (8 bytes), which may be left out.
 //!
 //! Each table has a row for each code: the fields behind it, and what their values make. How it is
-//! read, spelled and bounded follows from its fields (`specs/EditFields.antt`, `KindFields.antt`,
-//! `Tables.antt`). Codes are looked up, so that some may be left out. A new edit is
+//! read, spelled and bounded, and how long it is at most, follows from its fields
+//! (`specs/EditFields.antt`, `KindFields.antt`, `Tables.antt`; `proofs/ShortTables.antt`). Codes
+//! are looked up, so that some may be left out. A new edit is
 //!
 //! - a row of `specs/EditTable.antt`, and the line of `conf_entry` or its like that spells it;
 //! - an arm in `src/edit_kinds.rt` or `src/edit_others.rt`, beside those of its part of the table;

@@ -21,7 +21,6 @@ pub mod Accounts
 pub mod ShortExtents
 pub mod ShortParts
 pub mod Lengths
-pub mod Short
 pub mod PlainSame
 pub mod Committed
 pub mod Changed

@@ -1,6 +1,6 @@
 use Rattle.std.proofs.Common.{◌++◌, ◌∙◌, ℕ, List, length, ap, arith}
 use Rattle.nqs_records.specs.Changes.{spelling}
-use Rattle.nqs_store.proofs.Short.{short_spelling}
+use Rattle.nqs_records.proofs.ShortKinds.{short_spelling}
 use Rattle.nqs_store.proofs.formatting.written.Goals as goal
 
 pub returns : goal.returns
