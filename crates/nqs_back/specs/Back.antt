@@ -21,7 +21,8 @@ abbrev pub has_none : List ℕ → Bool
 has_none [] = true
 has_none (b ∷ bytes) = false
 
--- The event comes back of an output: a file was written or not, a job couldn't be launched, or it ended and left nothing, and nobody waits for an answer.
+-- The event comes back of an output: a file was written or not, a job couldn't be launched, or it
+-- ended and left nothing, and nobody waits for an answer.
 abbrev pub comes_back : Event → Bool
 comes_back (event.Ended now port id start status output error) = port == 0 && has_none output && has_none error
 comes_back (event.Unlaunched now id start) = true

@@ -1,4 +1,5 @@
--- What reading a name answers. The four cases exclude each other, and one of them holds of any bytes.
+-- What reading a name answers. The four cases exclude each other, and one of them holds of any
+-- bytes.
 use Rattle.std.specs.Prelude.{◌≡◌, ℕ, ◌<◌, ◌≤◌, List, [], length, Ok, Err}
 use Rattle.std.specs.declared.result.Result.{Result}
 use Rattle.nqs_base.specs.declared.name.Name.{Name}

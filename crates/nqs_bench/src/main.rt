@@ -1,11 +1,11 @@
 //! Work on the storage of one host, for the scripts of `bench/` to time. It writes nothing where
 //! all goes well.
 //!
-//! `nqs_bench journal COUNT` appends so many payloads of 100 bytes to a journal on a disk in memory.
-//! `nqs_bench spool COUNT LIVE` keeps so many extents live on a disk in memory, and so often frees the one that was
-//! put first and puts another in its place in the order. The disks keep all their calls.
-//! The status is 0, or 2 where the words aren't one of these, or 6 where memory is missing
-//! or a disk is full.
+//! `nqs_bench journal COUNT` appends so many payloads of 100 bytes to a journal on a disk in
+//! memory. `nqs_bench spool COUNT LIVE` keeps so many extents live on a disk in memory, and so
+//! often frees the one that was put first and puts another in its place in the order. The disks
+//! keep all their calls. The status is 0, or 2 where the words aren't one of these, or 6 where
+//! memory is missing or a disk is full.
 #![tactic(auto)]
 
 mod journal;

@@ -89,21 +89,24 @@ is_here me names s = same_host me s.me && pointwise name_eq s.site names
 abbrev pub IsPassedSince : Plain → List Act → List ℕ → Plain → Type 0
 IsPassedSince s acts more u = (u ≡ s) ⊎ IsPassed (here_of s) (idle (applied Boot s)) acts more u
 
--- The disks told this host of this site. It was booted, and served until so an end: a run of the daemon from the state after the boot.
+-- The disks told this host of this site. It was booted, and served until so an end: a run of the
+-- daemon from the state after the boot.
 abbrev pub HasServed : Bool → HostId → List (List ℕ) → ℕ → Outside → Outside → ServeEnd → Type 0
 HasServed tells me names turns was now end = IsTrue tells → (s : Plain) × IsThere was.disks s × (is_here me names s ≡ true)
     × ((acts : List Act) × (t : Turn) × (more : Begun) × Ran (here_of s) acts (idle (applied Boot s)) t more (telling_of was) (telling_of now)
     × EndsWith (Leaves now.disks) Unseen now.disks.histories end turns (stops (here_of s) (idle (applied Boot s)) acts) t more
     × ((a : Active) × IsNamed was.disks a × TellsThroughout a was.disks.histories now.disks.histories (IsPassedSince s acts more.moments)))
 
--- The disks tell no host, or another, which was booted: it runs nothing, and what ran there starts again or is lost.
+-- The disks tell no host, or another, which was booted: it runs nothing, and what ran there starts
+-- again or is lost.
 abbrev pub IsNotOurs : HostId → List (List ℕ) → DisksTold → DisksTold → Type 0
 IsNotOurs me names was now =
     ((which : Which) × (place : ℕ) × IsLoadFault (contents was.histories) (NotNqs which place))
     ⊎ ((s : Plain) × IsThere was s × (is_here me names s ≡ false) × Leaves now (applied Boot s)
     × ((a : Active) × IsNamed was a × IsOneOrOther a was.histories now.histories (Some Boot) s))
 
--- The boot failed: at each moment a stop would have left the host before it or after it. Disks that name no journal are as they were.
+-- The boot failed: at each moment a stop would have left the host before it or after it. Disks that
+-- name no journal are as they were.
 abbrev pub HasFailed : DisksTold → DisksTold → Type 0
 HasFailed was now = ((a : Active) → IsNamed was a → IsBrokenOff a was.histories now.histories (Some Boot)
     × ((s : Plain) → IsThere was s → IsOneOrOther a was.histories now.histories (Some Boot) s))

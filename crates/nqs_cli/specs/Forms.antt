@@ -64,7 +64,8 @@ by_tool tool more =
     else (if bytes_eq tool (codes "tick") then tick_of more
     else (if is_tool tool then client_of more else None))))
 
--- what all the words ask for: the first one names it, DIR and HOST follow, and what stands behind them counts
+-- what all the words ask for: the first one names it, DIR and HOST follow, and what stands behind
+-- them counts
 unfoldable pub form_of : Words → Option Form
 form_of [] = None
 form_of (tool ∷ []) = None

@@ -1,4 +1,5 @@
--- What the program does: which parts were handed over and came back, what was done with them between, and the status.
+-- What the program does: which parts were handed over and came back, what was done with them
+-- between, and the status.
 use Rattle.std.specs.Prelude.{◌≡◌, ◌⊎◌, ℕ, ◌<◌, ◌&&◌, nat_le, Bool, if◌then◌else◌, List, [], ◌∷◌, length, take, reverse}
 use Rattle.std.specs.List.{flat_map}
 use Rattle.std.specs.Option.{option_map}

@@ -13,9 +13,11 @@ use nqs_words::{named_of, number_of};
 pub enum Form {
     /// `format DIR HOST`: makes the host's disks.
     Format,
-    /// `daemon DIR HOST TURNS`: serves for so many turns, each of which is a datagram or a quiet second.
+    /// `daemon DIR HOST TURNS`: serves for so many turns, each of which is a datagram or a quiet
+    /// second.
     Daemon(u64),
-    /// `qsub|qstat|qdel|qmgr DIR HOST USER [WORD]..` and `tick DIR HOST USER`: asks the host's daemon.
+    /// `qsub|qstat|qdel|qmgr DIR HOST USER [WORD]..` and `tick DIR HOST USER`: asks the host's
+    /// daemon.
     Client,
     /// `shepherd DIR HOST ID START`: runs the job of this start, and tells the daemon its end.
     Shepherd(Named, u16),

@@ -1,8 +1,8 @@
 //! The program `nqs`: its words, the machine that lends it the outside part by part, and what it
 //! does with them.
 //!
-//! `run` picks by the words what is done: a host is formatted, or serves; a client asks; a shepherd tends a job. Every part
-//! that the machine lent goes back to it, whatever the status.
+//! `run` picks by the words what is done: a host is formatted, or serves; a client asks; a shepherd
+//! tends a job. Every part that the machine lent goes back to it, whatever the status.
 #![tactic(auto)]
 
 mod asking;

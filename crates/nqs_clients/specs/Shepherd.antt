@@ -18,7 +18,8 @@ use Rattle.nqs_clients.specs.declared.datagram.WaitStop.TheVariants as stop
 use Rattle.nqs_clients.specs.declared.shepherding.ShepherdEnd.{ShepherdEnd}
 use Rattle.nqs_clients.specs.declared.shepherding.ShepherdEnd.TheVariants.{Told, NoAnswer, WireFault, Memory}
 
--- what is told of a job that ended so: its outputs as far as their first 16,384 bytes, and status 127 where it was not run
+-- what is told of a job that ended so: its outputs as far as their first 16,384 bytes, and status
+-- 127 where it was not run
 abbrev pub ended : ℕ → RequestId → ℕ → Option RunEnd → Body
 ended port id start (Some end) = Ended port id start end.status (take 16384 end.out) (take 16384 end.err)
 ended port id start None = Ended port id start 127 [] []
@@ -47,7 +48,8 @@ abbrev pub receives : List Arrival → ShepherdEnd → ℕ
 receives arrivals WireFault = length arrivals + 1
 receives arrivals _ = length arrivals
 
--- The wait ended so, by what came: with the first acknowledgement, or after ten receives that brought none.
+-- The wait ended so, by what came: with the first acknowledgement, or after ten receives that
+-- brought none.
 abbrev pub EndsBy : (Arrival → Bool) → List Arrival → ShepherdEnd → Type 0
 EndsBy test arrivals Told = (before : List Arrival) × (last : Arrival) × (arrivals ≡ before ++ last ∷ []) × (length arrivals ≤ 10)
     × (list_any test before ≡ false) × (test last ≡ true)

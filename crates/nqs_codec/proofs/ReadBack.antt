@@ -1,4 +1,5 @@
--- Putting and taking undo each other: from what an answer says, from refusals, and from fields that are one value's.
+-- Putting and taking undo each other: from what an answer says, from refusals, and from fields that
+-- are one value's.
 use Rattle.std.proofs.Common.{◌≡◌, ℕ, ◌+◌, ◌<◌, ◌^◌, List, ◌++◌, length, drop, refl, sym, ap, ◌∙◌, Result, Ok, Err}
 use Rattle.std.proofs.lemmas.List.{drop_at}
 use Rattle.std.specs.Prelude.{⊤, true, false}

@@ -4,7 +4,8 @@ use Rattle.std.specs.declared.result.Result.{Result}
 use Rattle.nqs_base.specs.declared.extent.Extent.{Extent}
 use Rattle.nqs_codec.specs.Takes.{StandsNone}
 
--- the fields of two values, each with something behind it, are the same list only for the same value
+-- the fields of two values, each with something behind it, are the same list only for the same
+-- value
 abbrev pub IsOne : {A : Type 0} → (A → Type 0) → (A → List ℕ) → Type 0
 IsOne {A} IsValue field = (value other : A) (rest more : List ℕ) → IsValue value → IsValue other → field value ++ rest ≡ field other ++ more
     → (value ≡ other) × (rest ≡ more)
@@ -14,7 +15,8 @@ abbrev pub HasOneAnswer : {A E : Type 0} → (List ℕ → ℕ → Result (A × 
 HasOneAnswer {A} {E} Takes = (bytes : List ℕ) (place : ℕ) (answer other : Result (A × ℕ) E) → Takes bytes place answer → Takes bytes place other
     → answer ≡ other
 
--- A value's field that stands at a place is taken from there, and what is behind it is left; a refusal says that none stands there.
+-- A value's field that stands at a place is taken from there, and what is behind it is left; a
+-- refusal says that none stands there.
 pub record IsReadBack {A E : Type 0} (IsValue : A → Type 0) (field : A → List ℕ) (Takes : List ℕ → ℕ → Result (A × ℕ) E → Type 0) : Type 0 where
   pub taken : (bytes rest : List ℕ) (place : ℕ) (value : A) (answer : Result (A × ℕ) E) → IsValue value → drop place bytes ≡ field value ++ rest
       → Takes bytes place answer → answer ≡ Ok (value, place + length (field value))

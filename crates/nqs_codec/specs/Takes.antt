@@ -99,7 +99,8 @@ pub record HasParentAt (bytes : List ℕ) (place at : ℕ) : Type 0 where
   pub parent : has_parent value ≡ true
   pub is_place : at ≡ place
 
--- the extent of a path; or too few bytes; or a length or a byte that no path has, or a component `..`
+-- the extent of a path; or too few bytes; or a length or a byte that no path has, or a component
+-- `..`
 abbrev pub TakesPath : List ℕ → ℕ → Result (Extent × ℕ) FieldFault → Type 0
 TakesPath bytes place (Ok (extent, next)) =
     IsPath (extent_bytes bytes extent) × Stands bytes place (short_field (extent_bytes bytes extent)) next × IsExtentAt bytes (place + 1) extent

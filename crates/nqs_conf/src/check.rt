@@ -143,14 +143,14 @@ fn check_remove_destination(
 }
 
 /// Whether the edit may be made: `Ok`, or the first of these that holds. A creation: `NoHost` of
-/// its destination,
-/// `QueueExists`, `TooMany` at 256 queues. A deletion: `NoQueue`, `QueueInUse` with the number of its requests and
-/// promises. A destination that is added: `NoQueue`, `NoHost`, `WrongKind` for all but pipe queues,
-/// `DestExists`,
-/// `TooMany` at 16; one that is removed: `NoQueue`, `WrongKind`, `NoDest`, also for an unknown host. The other edits of
-/// a queue: `NoQueue`. Those of parameters are never refused.
+/// its destination, `QueueExists`, `TooMany` at 256 queues. A deletion: `NoQueue`, `QueueInUse`
+/// with the number of its requests and promises. A destination that is added: `NoQueue`, `NoHost`,
+/// `WrongKind` for all but pipe queues, `DestExists`, `TooMany` at 16; one that is removed:
+/// `NoQueue`, `WrongKind`, `NoDest`, also for an unknown host. The other edits of a queue:
+/// `NoQueue`. Those of parameters are never refused.
 ///
-/// `site` and `held` hold of each state in order: at most 16 hosts, and at most 10,000 requests and promises.
+/// `site` and `held` hold of each state in order: at most 16 hosts, and at most 10,000 requests and
+/// promises.
 pub fn check_conf(state: &HostState, edit: &ConfEdit) -> Result<(), Refusal>
     requires site { length state.now.site ≤ 16 }
     requires held { held_count (content state.now) ≤ 10000 }

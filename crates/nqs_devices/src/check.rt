@@ -87,10 +87,10 @@ fn check_remove(state: &HostState, device: &Name, queue: &Name) -> Result<(), Re
 }
 
 /// Whether an edit of devices may be made: `Ok`, or the first of these that holds. A device that is
-/// created:
-/// `DeviceExists`, `TooMany` at 64; one that is named: `NoDevice`; one that is deleted or gets other forms: then
-/// `DeviceBusy`. A device that is added to a queue: `NoDevice`, `NoQueue`, `WrongKind` for all but device queues,
-/// `IsMember`; one that is removed from it: `NoQueue`, `NotMember`. A busy device may be disabled, and removed.
+/// created: `DeviceExists`, `TooMany` at 64; one that is named: `NoDevice`; one that is deleted or
+/// gets other forms: then `DeviceBusy`. A device that is added to a queue: `NoDevice`, `NoQueue`,
+/// `WrongKind` for all but device queues, `IsMember`; one that is removed from it: `NoQueue`,
+/// `NotMember`. A busy device may be disabled, and removed.
 pub fn check_devices(state: &HostState, edit: &DevicesEdit) -> Result<(), Refusal>
     ensures { result ≡ first_refusal (devices_causes edit.now (content state.now)) }
 {

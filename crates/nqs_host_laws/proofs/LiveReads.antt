@@ -1,4 +1,5 @@
--- What goes out reads live extents: a step hands stored parts on and makes none, so it does the same where each part carries the proof that it lives.
+-- What goes out reads live extents: a step hands stored parts on and makes none, so it does the
+-- same where each part carries the proof that it lives.
 use Rattle.std.proofs.Common.{◌≡◌, inl, inr, ℕ, List, [], ◌∷◌, ◌++◌, map, Option, None, Some, option_map, refl, sym, ap, subst, ◌∙◌}
 use Rattle.std.specs.Option.{IfSome}
 use Rattle.nqs_state.specs.State.{State}

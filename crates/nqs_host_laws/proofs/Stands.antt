@@ -1,4 +1,5 @@
--- What of a change that fits a host in order stands in a record since it is found there: hosts and requests. And paths.
+-- What of a change that fits a host in order stands in a record since it is found there: hosts and
+-- requests. And paths.
 use Rattle.std.proofs.Common.{◌≡◌, ℕ, Bool, true, nat_le, IsTrue, List, [], ◌∷◌, map, find, length, Option}
 use Rattle.std.proofs.Common.{None, Some, is_ok, true≢false, refl, sym, subst, arith}
 use Rattle.std.proofs.lemmas.Bool.{and_parts, leb-true, ltb-true, lt-ltb}

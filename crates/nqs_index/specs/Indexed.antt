@@ -46,9 +46,10 @@ entered_at class x lines = slice_set lines class (placed x (slice_index_or lines
 abbrev pub entered : ℕ → ℕ → Entry → List (List (List Entry)) → List (List (List Entry))
 entered queue class x lines = slice_set lines queue (entered_at class x (slice_index_or lines queue []))
 
--- Each count is that of the seats that it counts. The lines of a queue's classes have just the entries of those that wait in it, each
--- in the line of its class: by each test as many of the ones pass as of the others. Each line is in order and has an entry, and no
--- class has two. The running requests are those of the seats that run.
+-- Each count is that of the seats that it counts. The lines of a queue's classes have just the
+-- entries of those that wait in it, each in the line of its class: by each test as many of the ones
+-- pass as of the others. Each line is in order and has an entry, and no class has two. The running
+-- requests are those of the seats that run.
 pub record Stands (index : Index) (ts : List Seat) : Type 0 where
   pub counts : (tally : Tally) → counted_in tally index ≡ number (counts_for tally) ts
   pub lines : (queue : List ℕ) (test : Class → Entry → Bool) → number_in test (classes_in queue index)

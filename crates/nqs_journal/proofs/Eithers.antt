@@ -1,4 +1,5 @@
--- Bytes stand by one form for one snapshot, or none, and one list of payloads, and are then at fault nowhere.
+-- Bytes stand by one form for one snapshot, or none, and one list of payloads, and are then at
+-- fault nowhere.
 use Rattle.std.proofs.Common.{◌≡◌, inl, inr, ℕ, ◌+◌, ◌≤◌, Bool, false, true, List, [], ◌∷◌, ◌++◌, length, take, refl, sym, ap, ◌∙◌, arith, append_assoc}
 use Rattle.std.proofs.lemmas.List.{take-append-le}
 use Rattle.nqs_journal.specs.Text.{header, records, StandsFor}

@@ -1,4 +1,5 @@
--- What the bytes of a journal stand for by either form: the first, or the one that begins with a snapshot.
+-- What the bytes of a journal stand for by either form: the first, or the one that begins with a
+-- snapshot.
 use Rattle.std.specs.Prelude.{◌≡◌, ◌≢◌, ◌⊎◌, ℕ, ◌+◌, ◌<◌, ◌^◌, Bool, false, true, List, [], ◌∷◌, ◌++◌, length, take, codes}
 use Rattle.std.specs.Int.{to_be_bytes, w64}
 use Rattle.nqs_journal.specs.Text.{header, snapshot_front, StandsAfter, LeavesRecordsAfter}

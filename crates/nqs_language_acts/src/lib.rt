@@ -1,8 +1,8 @@
 //! What the lines of a schedule ask of a network: their words read as commands, with laws of what
 //! may come of it.
 //!
-//! `specs/Acts.antt` has the act that each event of a schedule asks for, `specs/Laws.antt` that whatever is read is
-//! within the limits of the rules.
+//! `specs/Acts.antt` has the act that each event of a schedule asks for, `specs/Laws.antt` that
+//! whatever is read is within the limits of the rules.
 #![tactic(auto)]
 
 mod commands;

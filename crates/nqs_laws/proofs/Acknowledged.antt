@@ -1,4 +1,5 @@
--- An acknowledged request lies somewhere until it is taken out, and what was taken out never comes back.
+-- An acknowledged request lies somewhere until it is taken out, and what was taken out never comes
+-- back.
 use Rattle.std.proofs.Common.{◌≡◌, ℕ, ◌+◌, Bool, true, false, not, ◌&&◌, ◌||◌, List, [], ◌∷◌, ◌++◌, map, length, slice_get, Option, None, Some, is_some, Result}
 use Rattle.std.proofs.Common.{Ok, Err, true≢false, refl, sym, ap, subst, ◌∙◌, arith, if◌then◌else◌}
 use Rattle.std.proofs.lemmas.Bool.{and_parts, and_from, or_left, not-true}

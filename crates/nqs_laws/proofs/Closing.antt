@@ -1,4 +1,5 @@
--- What a message would say stays true, however the run goes on: a closed number stays closed, and a taken one taken.
+-- What a message would say stays true, however the run goes on: a closed number stays closed, and a
+-- taken one taken.
 use Rattle.std.proofs.Common.{◌≡◌, ℕ, true, List, [], ◌∷◌, ◌++◌, ◌||◌, Bool, false, length, slice_get, Option, None, Some, zero, suc, true≢false, refl, sym, ap}
 use Rattle.std.proofs.Common.{subst, ◌∙◌, arith}
 use Rattle.std.proofs.lemmas.Bool.{and_parts, or_right, eqb-true}

@@ -1,4 +1,5 @@
--- Each change takes each request by one step of its entry at most, of a kind that its cause licenses.
+-- Each change takes each request by one step of its entry at most, of a kind that its cause
+-- licenses.
 use Rattle.std.proofs.Common.{◌≡◌, ℕ, ◌+◌, ◌⊎◌, inl, inr, Bool, true, false, cond, not, ◌&&◌, ◌||◌, List, [], ◌∷◌, filter, slice_get, Option, None, Some}
 use Rattle.std.proofs.Common.{true≢false, suc, refl, sym, ap, subst, ◌∙◌, if◌then◌else◌}
 use Rattle.std.proofs.lemmas.Bool.{and_parts, and_from, or_left, or_right, not-true}

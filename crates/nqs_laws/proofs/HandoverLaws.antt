@@ -262,7 +262,8 @@ module _ (site : List (List ℕ)) (m : Moment) (sound : IsSound site m) (net : I
       of b h = tt
 
   module _ (away : IsAway m) where
-    -- an open offer finds its request at its receiver neither as a row nor as one that is still to come
+    -- an open offer finds its request at its receiver neither as a row nor as one that is still to
+    -- come
     pub offer_is_new : (a b : HostId) (s t : Plain) → At m.states a s → At m.states b t → (n : ℕ) (c : Carried) (queue script : List ℕ) → is_open b n s ≡ true
         → load_of b n s ≡ Some (sent_load queue c script) → (has_row c.id t || is_not_given_here c.id t) ≡ false
     offer_is_new a b s t sat tat n c queue script is carried = or_from (has_row c.id t) (is_not_given_here c.id t) (false_from_ne_true (has_row c.id t) no_row)

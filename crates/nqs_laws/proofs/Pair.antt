@@ -1,4 +1,5 @@
--- An ordered pair of hosts: the source's offer and its counter, the receiver's promise and its closed number.
+-- An ordered pair of hosts: the source's offer and its counter, the receiver's promise and its
+-- closed number.
 use Rattle.std.proofs.Common.{◌≡◌, ℕ, ◌+◌, ◌-◌, ◌<◌, ◌≤◌, List, arith}
 use Rattle.nqs_types.specs.declared.ids.RequestId.{RequestId}
 use Rattle.nqs_laws.specs.Loads.{Load}

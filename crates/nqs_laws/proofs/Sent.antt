@@ -128,7 +128,8 @@ refusal_of p (c ∷ cs) r h e = let k = and_parts (p c.refusal || not c.holds) (
 abbrev pub is_fine_message : ℕ → (Carried → Bool) → Message → Bool
 is_fine_message hosts test m = is_sane_message hosts m && body_passes test m.body
 
--- an output that sends nothing beyond the limits, acknowledges what it may, and is neither a start nor what a boot tells
+-- an output that sends nothing beyond the limits, acknowledges what it may, and is neither a start
+-- nor what a boot tells
 abbrev pub is_fine_output : ℕ → (Carried → Bool) → (RequestId → Bool) → Output → Bool
 is_fine_output hosts test may (out.Send m) = is_fine_message hosts test m
 is_fine_output hosts test may (out.Reply port token (reply.Submitted id queue)) = may id

@@ -1,4 +1,5 @@
--- A change makes no row appear but a submitted or an accepted one, and spares a row that is on its way.
+-- A change makes no row appear but a submitted or an accepted one, and spares a row that is on its
+-- way.
 use Rattle.std.proofs.Common.{◌≡◌, ℕ, ◌+◌, ◌⊎◌, inl, inr, Bool, true, false, not, ◌&&◌, ◌||◌, nat_lt, List, [], ◌∷◌, Option, None, Some, true≢false, refl, sym}
 use Rattle.std.proofs.Common.{ap, ◌∙◌, if◌then◌else◌}
 use Rattle.std.proofs.lemmas.Bool.{and_parts, false_from_ne_true}

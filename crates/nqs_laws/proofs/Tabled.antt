@@ -20,7 +20,8 @@ use Rattle.nqs_laws.proofs.Pair.{Drops, moved, May}
 use Rattle.nqs_laws.proofs.Views.{Pledging, offered, pledge_seen, promise_of, next_of, closed_of, IsSource, IsTarget, host_exact, host_same, host_other}
 use Rattle.nqs_laws.proofs.Paired.{At, IsPaired, Turn, Guards, Was, was, PairTurn, pair_turn}
 
--- where a request is: as a row of a host, or as a promise of a host to another that has committed it
+-- where a request is: as a row of a host, or as a promise of a host to another that has committed
+-- it
 pub data Place : Type 0 where
   Nowhere : Place
   Sits : HostId → PlainRow → Place

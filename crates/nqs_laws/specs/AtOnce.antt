@@ -48,7 +48,8 @@ runs_on_in q e = is_run e.state && name_eq q e.queue && not e.doomed
 abbrev pub NoneAt : (Entry → Bool) → HostId → List Plain → Type 0
 NoneAt test h states = (x : RequestId) (e : Entry) → entry_of x states ≡ Some e → e.host ≡ h → test e ≡ false
 
--- A boot leaves none running on its host, a purge none waiting in its queue, an abort none running from its queue that isn't doomed.
+-- A boot leaves none running on its host, a purge none waiting in its queue, an abort none running
+-- from its queue that isn't doomed.
 abbrev pub LeavesNone : OfChange
 LeavesNone states h why Boot = NoneAt runs h (change_at h.0 (applied Boot) states)
 LeavesNone states h why (Edited (Conf (PurgeQueue q))) = NoneAt (waits_in q) h (change_at h.0 (applied (Edited (Conf (PurgeQueue q)))) states)

@@ -29,7 +29,8 @@ OfEachPacket holds = InEachWorld (λ w. (m : Message) → WasSent w m → (s t :
 abbrev pub is_next_open : ℕ → Option Peer → Bool
 is_next_open n p = passes (λ peer. n == peer.closed + 1) p
 
--- The source of a handover gave the number of the message: the sender of an offer, a commit or an abort, the receiver of the others.
+-- The source of a handover gave the number of the message: the sender of an offer, a commit or an
+-- abort, the receiver of the others.
 abbrev pub HasGivenNumber : Body → HostId → HostId → Plain → Plain → Type 0
 HasGivenNumber (body.Offer n queue c script) from to s t = was_given n (find_peer to s) ≡ true
 HasGivenNumber (body.Ready n) from to s t = was_given n (find_peer from t) ≡ true
@@ -48,6 +49,7 @@ PromisesAreNext from to s t = (n : ℕ) → has_promise from n t ≡ true → is
 abbrev pub PromisesAgree : OfPair
 PromisesAgree from to s t = (n : ℕ) → is_open to n s ≡ true → has_promise from n t ≡ true → promised_load from n t ≡ load_of to n s
 
--- What is promised under the number of a committed handover is for its errand: its request, into its queue.
+-- What is promised under the number of a committed handover is for its errand: its request, into
+-- its queue.
 abbrev pub PromisesAreMeant : OfPair
 PromisesAreMeant from to s t = (n : ℕ) → is_committed_to to n s ≡ true → has_promise from n t ≡ true → promised_errand from n t ≡ handed_errand to n s

@@ -12,17 +12,18 @@ use Rattle.nqs_rules.specs.World.{Host, World, Ran, falls_at_journal, falls_at_r
 abbrev pub stops_in_checkpoint : Host → Bool
 stops_in_checkpoint h = is_due h.records && (falls_at_journal h || falls_at_root h)
 
--- Hosts that differ at most in their disks: in the root, in the number of records, in the calls that were made, and in those left
--- until a fuse.
+-- Hosts that differ at most in their disks: in the root, in the number of records, in the calls
+-- that were made, and in those left until a fuse.
 abbrev pub DifferInDisks : Host → Host → Type 0
 DifferInDisks g h = record h { fuses = g.fuses; calls = g.calls; root = g.root; records = g.records } ≡ g
 
--- The disks tell what they told before: by the journal that was active then, with all its records, or by the one that was resting,
--- to which a checkpoint went and which has no record.
+-- The disks tell what they told before: by the journal that was active then, with all its records,
+-- or by the one that was resting, to which a checkpoint went and which has no record.
 abbrev pub TellsAsBefore : Host → Host → Type 0
 TellsAsBefore before h = ((active h.root ≡ active before.root) × (h.records ≡ before.records)) ⊎ ((active h.root ≡ resting before.root) × (h.records ≡ 0))
 
--- The host is down with the state that it had, and its disks tell what they told. Nothing is noted but the stop.
+-- The host is down with the state that it had, and its disks tell what they told. Nothing is noted
+-- but the stop.
 pub record StopsAsItWas (h : HostId) (before : Host) (w : World) (r : Ran) : Type 0 where
   pub left : Host
   pub tells : TellsAsBefore before left

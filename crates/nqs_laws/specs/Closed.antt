@@ -1,4 +1,5 @@
--- How the numbers of handovers are closed. A number is closed at a receiver where `is_closed_for` says so.
+-- How the numbers of handovers are closed. A number is closed at a receiver where `is_closed_for`
+-- says so.
 use Rattle.std.specs.Prelude.{◌≡◌, ◌<◌, ℕ, true, false, List, Some, is_some, slice_get}
 use Rattle.nqs_state.specs.State.{Plain}
 use Rattle.nqs_rules.specs.Applied.{applied}
@@ -20,8 +21,8 @@ IsClosedBy c from n t = (is_closed_for from n t ≡ false) × (is_closed_for fro
 abbrev pub HasNoHand : List Plain → HostId → HostId → ℕ → Type 0
 HasNoHand states from to n = (s : Plain) → HasState states from s → is_some (find_hand to n s) ≡ false
 
--- the numbers that a change may close: a promise that is accepted or dropped closes its own, a new promise earlier ones that
--- have no handover, and no other change any
+-- the numbers that a change may close: a promise that is accepted or dropped closes its own, a new
+-- promise earlier ones that have no handover, and no other change any
 abbrev pub MayClose : Change (List ℕ) → List Plain → HostId → HostId → ℕ → Type 0
 MayClose (Accepted peer number) states h from n = (from ≡ peer) × (n ≡ number)
 MayClose (Dropped peer number) states h from n = (from ≡ peer) × (n ≡ number)

@@ -24,7 +24,8 @@ AsRunsGoOn holds = (site : List (List ℕ)) (acts more : List Act) → IsSite si
 abbrev pub InEachRun : (List Plain → List Note → Type 0) → Type 0
 InEachRun holds = (site : List (List ℕ)) (acts : List Act) → IsSite site → AreSane acts → holds (states_of (new_world site)) (history acts (new_world site))
 
--- something said of a kept change: of the states of all hosts before it, the host that keeps it, its cause, and itself
+-- something said of a kept change: of the states of all hosts before it, the host that keeps it,
+-- its cause, and itself
 abbrev pub OfChange : Type 1
 OfChange = List Plain → HostId → Why → Change (List ℕ) → Type 0
 

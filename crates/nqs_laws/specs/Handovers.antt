@@ -42,14 +42,16 @@ is_taken_for from n t = has_promise from n t || is_closed_for from n t
 abbrev pub is_last_given : ℕ → Option Peer → Bool
 is_last_given n p = passes (λ peer. peer.next == n + 1) p
 
--- What a host in state s has of its handovers to another goes with what that one, in state t, has of them.
+-- What a host in state s has of its handovers to another goes with what that one, in state t, has
+-- of them.
 pub record AreInStep (from to : HostId) (s t : Plain) : Type 0 where
   pub offered : (n : ℕ) → is_open to n s ≡ true → is_closed_for from n t ≡ false
   pub given : (n : ℕ) → is_committed_to to n s ≡ true → is_taken_for from n t ≡ true
   pub promised : (n : ℕ) → has_promise from n t ≡ true → is_closed_for from n t ≡ false
   pub numbered : (n : ℕ) → is_taken_for from n t ≡ true → was_given n (find_peer to s) ≡ true
 
--- What a message said once, of its sender in state s and its receiver in state t, is true at every later moment.
+-- What a message said once, of its sender in state s and its receiver in state t, is true at every
+-- later moment.
 abbrev pub IsTrueOf : Body → HostId → HostId → Plain → Plain → Type 0
 IsTrueOf (body.Offer n queue c script) from to s t = is_open to n s ≡ true → load_of to n s ≡ Some (sent_load queue c script)
 IsTrueOf (body.Ready n) from to s t = is_taken_for to n s ≡ true

@@ -57,7 +57,8 @@ AreApart x states pending [] = Unit {0}
 AreApart x states pending (n ∷ ns) = (is_launch_of x (launched n) ≡ true → pending ≡ false)
     × AreApart x (states_after states n) (pending_after x states pending n) ns
 
--- A launch by a host is of a request that lies with it and runs, and has the number of its starts: once more than it was lost, and 1 where it isn't rerunnable.
+-- A launch by a host is of a request that lies with it and runs, and has the number of its starts:
+-- once more than it was lost, and 1 where it isn't rerunnable.
 pub record IsStarted (states : List Plain) (h : HostId) (l : Launch) : Type 0 where
   pub entry : Entry
   pub lies : entry_of l.0 states ≡ Some entry

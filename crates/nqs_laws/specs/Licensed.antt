@@ -26,7 +26,8 @@ use Rattle.nqs_types.specs.declared.event.Event.{Event}
 use Rattle.nqs_types.specs.declared.event.Event.TheVariants as event
 use Rattle.nqs_rules.specs.Notes.{Why, ByEvent, ByStart, ByBoot, Note, Saw, Kept}
 
--- a purge deletes what is queued in its queue, held or not, and nothing on its way; an abort dooms what runs there; and other edits are of the named request
+-- a purge deletes what is queued in its queue, held or not, and nothing on its way; an abort dooms
+-- what runs there; and other edits are of the named request
 abbrev pub LicensesEdit : Edit → Plain → RequestId → Kind → Type 0
 LicensesEdit (Conf (PurgeQueue q)) s x Delete = passes (is_queued_in q) (find_row x s) ≡ true
 LicensesEdit (RowsOf (AbortQueue q)) s x Doom = passes (row_in q) (find_row x s) ≡ true
@@ -43,7 +44,8 @@ IsHanded peer n s x = passes (λ y. id_eq x y.id) (find_hand peer n s) ≡ true
 abbrev pub IsPromised : HostId → ℕ → Plain → RequestId → Type 0
 IsPromised peer n s x = passes (λ p. id_eq x p.row.id) (find_promise peer n s) ≡ true
 
--- a message of a peer: what was handed to it goes there or comes back, what was promised to it arrives
+-- a message of a peer: what was handed to it goes there or comes back, what was promised to it
+-- arrives
 abbrev pub LicensesMessage : Body → HostId → Plain → RequestId → Kind → Type 0
 LicensesMessage (body.Ready n) peer s x Route = IsHanded peer n s x
 LicensesMessage (body.Inquire n) peer s x Route = IsHanded peer n s x
@@ -56,7 +58,8 @@ abbrev pub LicensesTick : ℕ → Plain → RequestId → Kind → Type 0
 LicensesTick now s x Back = list_any (λ y. is_silent now s y && id_eq x y.id) s.hands ≡ true
 LicensesTick now s x k = ⊥
 
--- a command: a submission makes the next request, a deletion takes the one it names, edits and ticks do as above
+-- a command: a submission makes the next request, a deletion takes the one it names, edits and
+-- ticks do as above
 abbrev pub LicensesCommand : ℕ → Command → Plain → RequestId → Kind → Type 0
 LicensesCommand now (command.Submit sub) s x Submit = x ≡ next_id s
 LicensesCommand now (command.Delete id forced) s x Delete = meant_request id s ≡ Some x
@@ -108,7 +111,8 @@ LiesWith h (Some e) = e.host ≡ h
 abbrev pub IsLicensed : Why → Plain → RequestId → Option Entry → Option Entry → Type 0
 IsLicensed why s x a b = (b ≡ a) ⊎ ((k : Kind) × Licenses why s x k × Steps k a b × LiesWith s.me a)
 
--- After each kept change no request lies in two places, and the change has taken each request by a licensed step at most.
+-- After each kept change no request lies in two places, and the change has taken each request by a
+-- licensed step at most.
 abbrev pub AreLicensed : List Plain → List Note → Type 0
 AreLicensed states [] = Unit {0}
 AreLicensed states (Saw x ∷ ns) = AreLicensed states ns

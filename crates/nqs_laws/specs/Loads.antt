@@ -11,7 +11,8 @@ use Rattle.nqs_types.specs.declared.request.Row.{Row}
 use Rattle.nqs_types.specs.declared.request.Hand.{Hand}
 use Rattle.nqs_types.specs.declared.request.Promise.{Promise}
 
--- the request as its receiver gets it (its job, its starts, losses and hops), the queue that it goes to, and its script
+-- the request as its receiver gets it (its job, its starts, losses and hops), the queue that it
+-- goes to, and its script
 pub record Load : Type 0 where
   pub carried : Carried
   pub queue : List ℕ

@@ -46,7 +46,8 @@ pub record NumbersMove (states : List Plain) (h : HostId) (c : Change (List ℕ)
   pub own : last_given h (change_at h.0 (applied c) states) ≡ last_given h states + numbers_given c
   pub others : (g : HostId) → (g ≡ h → ⊥) → last_given g (change_at h.0 (applied c) states) ≡ last_given g states
 
--- A request comes in by a change that gives a number, and has that number; such a change brings in its request.
+-- A request comes in by a change that gives a number, and has that number; such a change brings in
+-- its request.
 pub record NewAreNumbered (states : List Plain) (h : HostId) (c : Change (List ℕ)) : Type 0 where
   pub new : (x : RequestId) → lies x states ≡ false → lies x (change_at h.0 (applied c) states) ≡ true → (numbers_given c ≡ 1) × (x ≡ next_numbered h states)
   pub given : numbers_given c ≡ 1 → (lies (next_numbered h states) states ≡ false) × (lies (next_numbered h states) (change_at h.0 (applied c) states) ≡ true)

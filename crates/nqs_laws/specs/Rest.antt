@@ -20,8 +20,8 @@ if_host test h w = if passes test (host_of h w) then Some h else None
 abbrev pub runs_something : Host → Bool
 runs_something host = list_any runs_now host.state.rows
 
--- The host that an event is for, if it is one behind which come starts: one that a host takes, or a boot of a host that is
--- down. No host takes a finish where nothing runs.
+-- The host that an event is for, if it is one behind which come starts: one that a host takes, or a
+-- boot of a host that is down. No host takes a finish where nothing runs.
 abbrev pub host_for : Act → World → Option HostId
 host_for (Asks h user c) w = Some h
 host_for (Ends h id start status output error) w = Some h

@@ -4,7 +4,8 @@ use Rattle.std.specs.List.{list_all}
 use Rattle.nqs_rules.specs.Sane.{is_sane_command, is_short_output}
 use Rattle.nqs_rules.specs.World.{Act, Asks, Ends}
 
--- What is asked is within its limits, and so are the outputs of a job that ends. Of a packet nothing is asked: it was sent before.
+-- What is asked is within its limits, and so are the outputs of a job that ends. Of a packet
+-- nothing is asked: it was sent before.
 abbrev pub is_sane_act : Act → Bool
 is_sane_act (Asks _ _ c) = is_sane_command c
 is_sane_act (Ends _ _ _ _ output error) = is_short_output output && is_short_output error

@@ -29,7 +29,8 @@ submitted_script x states (Kept h why c ∷ ns) = by c (submitted_script x (chan
     by (Submitted queue job script) rest = if id_eq x (next_numbered h states) then Some script else rest
     by c rest = rest
 
--- Each row, each promise and each offer that was ever sent has the script that was submitted with its request.
+-- Each row, each promise and each offer that was ever sent has the script that was submitted with
+-- its request.
 pub record AreKept (first : List Plain) (notes : List Note) (w : World) : Type 0 where
   pub rows : (h : HostId) (s : Plain) → IsStateOf w h s → (x : RequestId) (r : Row (List ℕ)) → find_row x s ≡ Some r
       → submitted_script x first notes ≡ Some r.script

@@ -21,7 +21,8 @@ WasDeleted why s x a = Licenses why s x Delete × IsIdle a.state
 abbrev pub HasFinished : Why → Plain → RequestId → Entry → Type 0
 HasFinished why s x a = Licenses why s x End × (a.state ≡ Running)
 
--- a boot found it running, and it may not start again: it isn't rerunnable, its job was told to end, or it has no start left
+-- a boot found it running, and it may not start again: it isn't rerunnable, its job was told to
+-- end, or it has no start left
 abbrev pub WasLost : Why → Entry → Type 0
 WasLost why a = (why ≡ ByBoot) × (a.state ≡ Running) × (MayStartAgain a → ⊥)
 

@@ -65,13 +65,15 @@ WasSentBetween earlier later m = (number : ℕ) × IsSentBetween earlier later n
 abbrev pub HoldsAt : World → HostId → (Plain → Type 0) → Type 0
 HoldsAt w h holds = (s : Plain) → IsStateOf w h s → holds s
 
--- a message of this kind was sent between both worlds, and for each that was this holds of its number
+-- a message of this kind was sent between both worlds, and for each that was this holds of its
+-- number
 pub record SendsThen (earlier later : World) (kind : Message → Type 0) (holds : ℕ → Type 0) : Type 0 where
   pub sends : (number : ℕ) × (m : Message) × IsSentBetween earlier later number m × kind m
   pub each : (number : ℕ) (m : Message) → IsSentBetween earlier later number m → kind m → holds number
 
--- A matter of a host with another, which three events settle: a tick, by which the host asks; the arrival of what was asked,
--- which is answered; and the arrival of the answer. Each event leaves its host up, so that no fuse falls within it.
+-- A matter of a host with another, which three events settle: a tick, by which the host asks; the
+-- arrival of what was asked, which is answered; and the arrival of the answer. Each event leaves
+-- its host up, so that no fuse falls within it.
 module _ (host other : HostId) (asked answered : Message → Type 0) (settled : Plain → Type 0) where
   -- the arrival of this answer settles the matter
   abbrev pub IsSettledBy : World → ℕ → Type 0
@@ -81,7 +83,8 @@ module _ (host other : HostId) (asked answered : Message → Type 0) (settled : 
   abbrev pub IsAnsweredTo : World → ℕ → Type 0
   IsAnsweredTo w question = IfUpAfter (Delivers question) other w (λ v. SendsThen w v answered (IsSettledBy v))
 
-  -- a tick of the host sends a question, each such question is answered, and each such answer settles the matter
+  -- a tick of the host sends a question, each such question is answered, and each such answer
+  -- settles the matter
   abbrev pub IsSettledInThree : World → Type 0
   IsSettledInThree w = IfUpAfter (Ticks host) host w (λ v. SendsThen w v asked (IsAnsweredTo v))
 

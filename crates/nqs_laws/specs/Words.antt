@@ -70,8 +70,8 @@ body_passes test _ = true
 abbrev pub offers_pass : (Carried → Bool) → Message → Bool
 offers_pass test m = body_passes test m.body
 
--- An `again` or a `lost` stands right behind the boot of its host, or behind another such line. The host is that of the boot
--- before, if only such lines came since.
+-- An `again` or a `lost` stands right behind the boot of its host, or behind another such line. The
+-- host is that of the boot before, if only such lines came since.
 abbrev pub boots_tell : Option HostId → List Seen → Bool
 boots_tell h [] = true
 boots_tell h (seen.Boot g ∷ xs) = boots_tell (Some g) xs

@@ -20,7 +20,8 @@ part_fault place (b ∷ bs) = option_map (λ i. place + i) (first_other (b ∷ b
 abbrev pub later_fault : ℕ → List ℕ → Option ℕ
 later_fault place part = option_or (part_fault place part) (if nat_le 60 (decimal part) then Some place else None)
 
--- what is wrong with one or two later parts from a place on, where the first of them ends at this colon
+-- what is wrong with one or two later parts from a place on, where the first of them ends at this
+-- colon
 abbrev pub later_faults : Option ℕ → ℕ → List ℕ → Option ℕ
 later_faults None place bytes = later_fault place bytes
 later_faults (Some colon) place bytes = option_or (later_fault place (take colon bytes)) (later_fault (place + colon + 1) (drop (colon + 1) bytes))

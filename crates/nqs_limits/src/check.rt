@@ -95,9 +95,8 @@ fn check_remove_queue(state: &HostState, queue: &Name, complex: &Name) -> Result
 
 /// Whether the edit may be made: `Ok`, or the first of these that holds. A limit of a queue:
 /// `NoQueue`. A complex that is created: `ComplexExists`, `TooMany` at 64; one that is named:
-/// `NoComplex`. A queue that is added to it: then
-/// `NoQueue`, `WrongKind` for all but batch queues, `IsMember`; one that is removed: `NotMember`. The global limit is
-/// never refused.
+/// `NoComplex`. A queue that is added to it: then `NoQueue`, `WrongKind` for all but batch queues,
+/// `IsMember`; one that is removed: `NotMember`. The global limit is never refused.
 pub fn check_limits(state: &HostState, edit: &LimitsEdit) -> Result<(), Refusal>
     ensures { result ≡ first_refusal (limits_causes edit.now (content state.now)) }
 {

@@ -14,9 +14,8 @@ fn is_over(limit: Option<u64>, stated: Option<u64>) -> bool
 }
 
 /// Whether the limits that a request states, in seconds of a processor and bytes of memory, are
-/// within its queue's:
-/// `OverCpu` or `OverMemory`, the first that holds. The queue's limit itself is within it. A limit that isn't stated
-/// is within any, and a queue without one allows all.
+/// within its queue's: `OverCpu` or `OverMemory`, the first that holds. The queue's limit itself is
+/// within it. A limit that isn't stated is within any, and a queue without one allows all.
 pub fn over_limits(queue: &QueueDef, limits: &Limits) -> Result<(), Refusal>
     ensures { result ≡ over_limits queue.now limits.now }
 {

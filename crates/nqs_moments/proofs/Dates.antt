@@ -10,7 +10,8 @@ use Rattle.jiff_core.proofs.SignedLemmas.{signed_arith}
 use Rattle.nqs_text.specs.Dates.{year_days, month_days, year_of, month_of, second_text, day_text, date_text}
 use Rattle.nqs_moments.specs.Laws.{DateIsMoment}
 
--- a year, and days counted from its first, are the day that is counted from the first of another year, and fall into that year
+-- a year, and days counted from its first, are the day that is counted from the first of another
+-- year, and fall into that year
 record IsInYear (first last days : ℕ) (y : ℕ × ℕ) : Type 0 where
   pub low : first ≤ y.0
   pub high : y.0 ≤ last

@@ -29,7 +29,8 @@ moment_form = codes "0000-00-00T00:00:00"
 abbrev pub moment_misfit : List ℕ → Option ℕ
 moment_misfit bytes = misfit moment_form 0 bytes
 
--- the second since 1970 of a civil date and time; none is before it, since a moment is a natural number
+-- the second since 1970 of a civil date and time; none is before it, since a moment is a natural
+-- number
 pub record IsSecond (year month day hour minute second moment : ℕ) : Type 0 where
   pub date : IsDate (pos year) (pos month) (pos day)
   pub hours : hour < 24

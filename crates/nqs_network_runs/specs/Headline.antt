@@ -48,12 +48,14 @@ first_states site = states_of (new_world site)
 abbrev pub last_states : List (List ℕ) → List Act → List Plain
 last_states site acts = states_of (run_of site acts).world
 
--- an acknowledged request lies in the network until it is deleted, ends or is lost by a boot, and not longer
+-- an acknowledged request lies in the network until it is deleted, ends or is lost by a boot, and
+-- not longer
 abbrev pub AcknowledgedStay : List (List ℕ) → List Act → Type 0
 AcknowledgedStay site acts = (x : RequestId) → is_acknowledged x (notes_of site acts) ≡ true
     → lies x (last_states site acts) ≡ not (was_taken_out x (first_states site) (notes_of site acts))
 
--- a request that was deleted, has ended or was lost by then lies nowhere afterwards, acknowledged or not
+-- a request that was deleted, has ended or was lost by then lies nowhere afterwards, acknowledged
+-- or not
 abbrev pub TakenOutStayOut : List (List ℕ) → List Act → Type 0
 TakenOutStayOut site acts = (before after : List Act) → acts ≡ before ++ after → (x : RequestId)
     → was_taken_out x (first_states site) (notes_of site before) ≡ true → lies x (last_states site acts) ≡ false
@@ -63,17 +65,20 @@ abbrev pub NoOtherLies : List (List ℕ) → List Act → Type 0
 NoOtherLies site acts = (x : RequestId) → lies x (last_states site acts) ≡ true
     → (is_acknowledged x (notes_of site acts) || was_cut_off x (first_states site) (notes_of site acts)) ≡ true
 
--- a change takes a request out because it was deleted, has finished, or was running at a stop and may not start again
+-- a change takes a request out because it was deleted, has finished, or was running at a stop and
+-- may not start again
 abbrev pub GoesOutForAReason : OfChange
 GoesOutForAReason states h why c = (x : RequestId) → lies x states ≡ true → lies x (change_at h.0 (applied c) states) ≡ false → WentOut x states h why c
 
--- A change closes the number of the promise that it ends, and no others but those that it may close.
+-- A change closes the number of the promise that it ends, and no others but those that it may
+-- close.
 abbrev pub ClosesNumbers : OfChange
 ClosesNumbers states h why c = (t : Plain) → HasState states h t
     → ClosesOwn c t × ((from : HostId) (number : ℕ) → IsClosedBy c from number t → MayClose c states h from number)
 
--- What holds of each change that a host keeps: it gives numbers to new requests alone, does to all at once what it does to many,
--- holds for a cause, takes out for a reason, and closes numbers of its own promises.
+-- What holds of each change that a host keeps: it gives numbers to new requests alone, does to all
+-- at once what it does to many, holds for a cause, takes out for a reason, and closes numbers of
+-- its own promises.
 pub record ChangeKeeps (states : List Plain) (h : HostId) (why : Why) (c : Change (List ℕ)) : Type 0 where
   pub numbers : NumbersMove states h c
   pub new : NewAreNumbered states h c
@@ -87,7 +92,8 @@ pub record ChangeKeeps (states : List Plain) (h : HostId) (why : Why) (c : Chang
 abbrev pub StartsNothing : ℕ → Host → Type 0
 StartsNothing now host = list_any (may_start now host.state) host.state.queues ≡ false
 
--- the host that took this event in the world after those before, or booted by it, has nothing left to start after all of these, if it is up
+-- the host that took this event in the world after those before, or booted by it, has nothing left
+-- to start after all of these, if it is up
 abbrev pub RestsAfter : List (List ℕ) → List Act → Act → List Act → Type 0
 RestsAfter site before last acts = (h : HostId) → host_for last (run_of site before).world ≡ Some h
     → (host : Host) → host_of h (run_of site acts).world ≡ Some host → host.up ≡ true → StartsNothing (run_of site acts).world.now host
@@ -102,8 +108,8 @@ pub record IsToldByHistory (site : List (List ℕ)) (acts : List Act) : Type 0 w
   pub states : replayed (notes_of site acts) (first_states site) ≡ last_states site acts
   pub order : IsInOrderAll site (run_of site acts).world
 
--- No request lies in two places, and each change was licensed. What is acknowledged stays, with its script, nothing else comes,
--- and what went out stays out.
+-- No request lies in two places, and each change was licensed. What is acknowledged stays, with its
+-- script, nothing else comes, and what went out stays out.
 pub record KeepsRequests (site : List (List ℕ)) (acts : List Act) : Type 0 where
   pub place : IsTrue (is_table (last_states site acts))
   pub licensed : AreLicensed (first_states site) (notes_of site acts)
@@ -114,7 +120,8 @@ pub record KeepsRequests (site : List (List ℕ)) (acts : List Act) : Type 0 whe
   pub given : AreNumbered (run_of site acts).world
   pub scripts : AreKept (first_states site) (notes_of site acts) (run_of site acts).world
 
--- No launch comes twice, and those of one request are parted by a loss, which boots alone tell. What may start has started.
+-- No launch comes twice, and those of one request are parted by a loss, which boots alone tell.
+-- What may start has started.
 pub record KeepsLaunches (site : List (List ℕ)) (acts : List Act) : Type 0 where
   pub once : IsTrue (are_distinct same_launch (launches (notes_of site acts)))
   pub apart : (x : RequestId) → AreApart x (first_states site) false (notes_of site acts)
@@ -124,7 +131,8 @@ pub record KeepsLaunches (site : List (List ℕ)) (acts : List Act) : Type 0 whe
   pub boots : IsTrue (boots_tell None (seen_of (run_of site acts)))
   pub rests : LastTakerRests site acts
 
--- the laws of a network: what it tells, its requests, their launches, and handovers, which go together and can be settled
+-- the laws of a network: what it tells, its requests, their launches, and handovers, which go
+-- together and can be settled
 pub record KeepsTheLaws (site : List (List ℕ)) (acts : List Act) : Type 0 where
   pub told : IsToldByHistory site acts
   pub requests : KeepsRequests site acts

@@ -14,8 +14,9 @@ use Rattle.nqs_laws.specs.Handovers.{IsStateOf, WasSent, is_open, is_committed_t
 use Rattle.nqs_laws.specs.Sending.{word}
 use Rattle.nqs_laws.specs.Whole.{IsVerdict, IsSettledInThree}
 
--- What a source of handovers, in state s, and a receiver, in state t, have of them goes together: in step, one number behind
--- the last that is closed, the same load while it is open, and the same errand once it is committed.
+-- What a source of handovers, in state s, and a receiver, in state t, have of them goes together:
+-- in step, one number behind the last that is closed, the same load while it is open, and the same
+-- errand once it is committed.
 pub record PairKeeps (from to : HostId) (s t : Plain) : Type 0 where
   pub step : AreInStep from to s t
   pub next : PromisesAreNext from to s t
@@ -27,13 +28,15 @@ pub record PacketKeeps (m : Message) (s t : Plain) : Type 0 where
   pub stays : IsTrueOf m.body m.from m.to s t
   pub number : HasGivenNumber m.body m.from m.to s t
 
--- An open offer finds no request of its own at its receiver, and a commit finds none among the rows.
+-- An open offer finds no request of its own at its receiver, and a commit finds none among the
+-- rows.
 pub record FindsNone (m : Message) (s t : Plain) : Type 0 where
   pub offered : (number : ℕ) (queue : List ℕ) (c : Carried) (script : List ℕ) → m.body ≡ Offer number queue c script → is_open m.to number s ≡ true
       → (has_row c.id t || is_not_given_here c.id t) ≡ false
   pub committed : (number : ℕ) (p : Promise (List ℕ)) → m.body ≡ Commit number → find_promise m.from number t ≡ Some p → has_row p.row.id t ≡ false
 
--- each two hosts, each packet that was ever sent, and each handover of a host, which has the last number that the host gave
+-- each two hosts, each packet that was ever sent, and each handover of a host, which has the last
+-- number that the host gave
 pub record KeepsHandovers (w : World) : Type 0 where
   pub pairs : (from to : HostId) (s t : Plain) → IsStateOf w from s → IsStateOf w to t → PairKeeps from to s t
   pub packets : (m : Message) → WasSent w m → (s t : Plain) → IsStateOf w m.from s → IsStateOf w m.to t → PacketKeeps m s t
@@ -41,7 +44,8 @@ pub record KeepsHandovers (w : World) : Type 0 where
   pub last : (host to : HostId) (number : ℕ) (s : Plain) → IsStateOf w host s → is_some (find_hand to number s) ≡ true
       → is_last_given number (find_peer to s) ≡ true
 
--- Three events settle each promise, and each handover that is committed: a tick of its host, the arrival of what this asked, and that of the answer.
+-- Three events settle each promise, and each handover that is committed: a tick of its host, the
+-- arrival of what this asked, and that of the answer.
 pub record SettlesHandovers (w : World) : Type 0 where
   pub promises : (host from : HostId) (number : ℕ) (s : Plain) → IsStateOf w host s → has_promise from number s ≡ true
       → IsSettledInThree host from (λ m. m ≡ word host from (Inquire number)) (IsVerdict from host number) (λ t. has_promise from number t ≡ false) w

@@ -1,4 +1,5 @@
--- How a run of the program ends, by its status: what was read, what was written, and which disks are left.
+-- How a run of the program ends, by its status: what was read, what was written, and which disks
+-- are left.
 use Rattle.std.specs.Prelude.{◌≡◌, ℕ, ◌≤◌, ◌⊎◌, Bool, List, [], length, Option, Some, None}
 use Rattle.std.specs.Io.KnownBytes.{Appends, Consumes, IsAtEnd}
 use Rattle.nqs_outside.specs.Causes.{Rose}
@@ -19,7 +20,8 @@ use Rattle.nqs_network_runs.specs.Running.{text_of, bad_line_text, AddsDisks, Ru
 abbrev pub Left : Type 0
 Left = List (Disks MemDisk)
 
--- the text that is to be written for an input: that of its run, or the line that names its first bad line
+-- the text that is to be written for an input: that of its run, or the line that names its first
+-- bad line
 abbrev pub IsTextOf : Bool → List ℕ → List ℕ → Type 0
 IsTextOf summary input text =
     ((state : State) × IsSchedule input state × (text ≡ text_of summary state.site state.events))

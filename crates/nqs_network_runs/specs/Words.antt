@@ -66,7 +66,8 @@ abbrev pub without_fault : Kinds → Option Ask → Option Ask
 without_fault [] ask = ask
 without_fault (k ∷ ks) ask = None
 
--- what words ask for, where they are in form: `clap` finds no fault in them, and the values of the options are in form
+-- what words ask for, where they are in form: `clap` finds no fault in them, and the values of the
+-- options are in form
 unfoldable pub asked : List Text → Option Ask
 asked words = without_fault (fault_of replay_app words)
     (asked_of (value_of (codes "summary") words) (value_of (codes "generate") words) (value_of (codes "hosts") words) (value_of (codes "events") words))

@@ -88,7 +88,8 @@ summary_of_two_hosts =
     codes "table 0" ∷
     []
 
--- a stop at the third call of a submission to the journal, which an image with all that was written keeps
+-- a stop at the third call of a submission to the journal, which an image with all that was written
+-- keeps
 abbrev pub stopped_submission : List (List ℕ)
 stopped_submission =
     codes "fuse alpha first 3 new" ∷

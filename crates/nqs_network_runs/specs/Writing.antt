@@ -19,7 +19,8 @@ use Rattle.nqs_network_runs.specs.declared.run.RunStop.TheVariants as stop
 use Rattle.nqs_network_runs.specs.Sunk.{Sunk, SinkFailed, WritesFront}
 use Rattle.nqs_network_runs.specs.Running.{ran}
 
--- the world stands for the network after these events, which are within their limits, on a site of 1 to 16 hosts
+-- the world stands for the network after these events, which are within their limits, on a site of
+-- 1 to 16 hosts
 abbrev pub HasRun : List (List ℕ) → List WorldEvent → World → Type 0
 HasRun site before world = IsSite site × (list_all is_sane_line before ≡ true) × IsWorld world (ran site before).world
 
@@ -47,7 +48,8 @@ abbrev pub stop_of : Lack → RunStop
 stop_of (lack.Memory want) = stop.Memory want
 stop_of (lack.Full full) = stop.Full full
 
--- the whole text was written, and the world stands for the network; or a front of the text was written
+-- the whole text was written, and the world stands for the network; or a front of the text was
+-- written
 abbrev pub Writes : List ℕ → Network → Sunk → Result World RunStop → Type 0
 Writes text network sink (Ok world) = Appends sink.old sink.new text × IsWorld world network
 Writes text network sink (Err stop.Sink) = SinkFailed sink × WritesFront sink text

@@ -33,7 +33,8 @@ pub struct Ask {
     pub generation: Option<Generation>,
 }
 
-/// `clap` was refused an allocation while it read the words: made of an error of `clap` that says so, and of nothing else.
+/// `clap` was refused an allocation while it read the words: made of an error of `clap` that says
+/// so, and of nothing else.
 #[derive(PartialEq, Eq, Drop)]
 pub struct Unparsed {
     refused: (),

@@ -1,4 +1,5 @@
--- What is sent carries no more than was read for it, and no extent of a sound host is longer than what may be sent.
+-- What is sent carries no more than was read for it, and no extent of a sound host is longer than
+-- what may be sent.
 use Rattle.std.proofs.Common.{◌≡◌, ℕ, zero, suc, true, List, [], ◌∷◌, ◌++◌, refl, ◌∙◌}
 use Rattle.std.specs.List.{AllByRecursion, list_all}
 use Rattle.std.proofs.lemmas.Bool.{and_parts, and_from}

@@ -56,7 +56,8 @@ none_broken a puts old =
       made = none_runs old;
     }
 
--- A change is to be kept, and no call of its commit was made yet: quiet disks that tell a state still tell it.
+-- A change is to be kept, and no call of its commit was made yet: quiet disks that tell a state
+-- still tell it.
 none_made : (a : Active) (puts : List (List ℕ)) (old : Which → History) (before later : Plain) → ((which : Which) → IsQuiet (old which))
     → EachImage old (λ images. IsTold images before) → Keeping a puts old old before later
 none_made a puts old before later quiet told =

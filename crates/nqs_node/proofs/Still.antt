@@ -1,4 +1,5 @@
--- What a call of a node leaves that made no call of a disk and answers an error; and what is left, whatever is answered at Ok.
+-- What a call of a node leaves that made no call of a disk and answers an error; and what is left,
+-- whatever is answered at Ok.
 use Rattle.std.proofs.Common.{◌≡◌, ◌↔◌, ℕ, List, IsTrue, IsErrOf, Ok, Err, false, refl}
 use Rattle.std.specs.Global.{Vec}
 use Rattle.std.specs.declared.result.Result.{Result}

@@ -31,7 +31,8 @@ module _ {D : Type 0} {g : disk.Ghosts D} (old : Disks D) where
     pub one : IsTrue g.tells → (s : Plain) × IsTold (contents (histories_of g.history old)) s × Tells node (applied Boot s)
     -- whichever state they told
     pub told : IsTrue g.tells → (s : Plain) → IsTold (contents (histories_of g.history old)) s → Tells node (applied Boot s)
-    -- just the calls of one record were made, behind those of a checkpoint where one is due, and none was to fail
+    -- just the calls of one record were made, behind those of a checkpoint where one is due, and
+    -- none was to fail
     pub made : IsTrue g.tells → (a : Active) → IsActive (contents (histories_of g.history old)) a
         → IsMade a (failing_of g.fails old) (histories_of g.history old) (history_of node) (Some Boot)
     -- the active journal goes on by it
@@ -40,7 +41,8 @@ module _ {D : Type 0} {g : disk.Ghosts D} (old : Disks D) where
     pub fuse : IsTrue g.tells → (which : Which) (i : ℕ) → fails_of node which i ≡ failing_of g.fails old which i
     -- no disk's count of faults falls
     pub later : (which : Which) → g.faults (disk_at which old) ≤ g.faults (disk_of which node)
-    -- at each moment, whatever images the disks may leave, they tell the state before the boot or the one after it
+    -- at each moment, whatever images the disks may leave, they tell the state before the boot or
+    -- the one after it
     pub any_moment : IsTrue g.tells → (s : Plain) → IsTold (contents (histories_of g.history old)) s
         → (a : Active) → IsActive (contents (histories_of g.history old)) a
         → IsOneOrOther a (histories_of g.history old) (history_of node) (Some Boot) s
@@ -70,7 +72,8 @@ module _ {D : Type 0} (tells : Bool) (history : D → History) (fails : D → �
         ⊎ IsCutBy a (failing_of fails old) (histories_of history old) (histories_of history now) (Some Boot) s which)
     -- no disk's count of faults falls
     pub later : (which : Which) → faults (disk_at which old) ≤ faults (disk_at which now)
-    -- at each moment, whatever images the disks may leave, they tell the state before the boot or the one after it
+    -- at each moment, whatever images the disks may leave, they tell the state before the boot or
+    -- the one after it
     pub any_moment : IsTrue tells → (s : Plain) → IsTold (contents (histories_of history old)) s
         → (a : Active) → IsActive (contents (histories_of history old)) a
         → IsOneOrOther a (histories_of history old) (histories_of history now) (Some Boot) s

@@ -27,7 +27,8 @@ after_kept None a = a
 after_kept (Some c) a = recorded (ready a)
 
 module _ (a : Active) (fails : Which → ℕ → Bool) (old now : Which → History) where
-  -- Just the calls of its commit were made, and none of them was to fail. Where there is no change there is no call.
+  -- Just the calls of its commit were made, and none of them was to fail. Where there is no change
+  -- there is no call.
   abbrev pub IsMade : Kept → Type 0
   IsMade None = (which : Which) → now which ≡ old which
   IsMade (Some c) = IsKept a fails (stored_parts c) old now
@@ -42,8 +43,8 @@ abbrev pub IsBrokenOff : Active → (old now : Which → History) → Kept → T
 IsBrokenOff a old now None = (which : Which) → now which ≡ old which
 IsBrokenOff a old now (Some c) = CommitsBy StopsShort a (stored_parts c) old now
 
--- At each moment, whatever images the disks may leave, they tell the state before the change or the one after it. Where there
--- is no change there is no call.
+-- At each moment, whatever images the disks may leave, they tell the state before the change or the
+-- one after it. Where there is no change there is no call.
 abbrev pub IsOneOrOther : Active → (old now : Which → History) → Kept → Plain → Type 0
 IsOneOrOther a old now None before = ((which : Which) → now which ≡ old which) × EachImage old (λ images. IsTold images before)
 IsOneOrOther a old now (Some c) before = Keeping a (stored_parts c) old now before (applied c before)

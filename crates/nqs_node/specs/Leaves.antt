@@ -72,7 +72,8 @@ module _ {D : Type 0} {g : disk.Ghosts D} {T : Type 0} (old now : Node D g) (sai
     pub cut : IsTrue g.tells → (s : Plain) → nodes.Tells old s → (which : Which) → IsErrOf result (node.Disk which)
         → IsTrue (nodes.is_starved now which) ⊎ (IsBlown (nodes.fails_of old which) (nodes.history_of old which)
         ⊎ IsCutBy (nodes.active_of old) (nodes.fails_of old) (nodes.history_of old) (nodes.history_of now) done.change s which)
-    -- at each moment, whatever images the disks may leave, they tell the state before it or the one after it
+    -- at each moment, whatever images the disks may leave, they tell the state before it or the one
+    -- after it
     pub any_moment : IsTrue g.tells → (s : Plain) → nodes.Tells old s
         → IsOneOrOther (nodes.active_of old) (nodes.history_of old) (nodes.history_of now) done.change s
 
@@ -82,7 +83,8 @@ module _ {D : Type 0} {g : disk.Ghosts D} {T : Type 0} (old now : Node D g) (sai
     pub bare : OnOk result (nodes.bare now ≡ after_change (option_map blank plan.change) (nodes.bare old))
     -- and what goes out are the outputs, but for these bytes
     pub alike : OnOk result (map without_bytes says ≡ map without_bytes said ++ map without_bytes plan.outputs)
-    -- whatever the disks are, what is sent is short, where what the plan does is so without its bytes
+    -- whatever the disks are, what is sent is short, where what the plan does is so without its
+    -- bytes
     pub short : (done : Stepped (List ℕ)) → Does (λ _. []) plan done → AreShort said → AreShort (map shown done.outputs) → OnOk result (AreShort says)
     -- it does what the plan does
     pub carries : (done : Stepped (List ℕ)) → Does (nodes.bytes_of old) plan done → Carries done result
@@ -93,9 +95,10 @@ module _ {D : Type 0} {g : disk.Ghosts D} {T : Type 0} (old now : Node D g) (sai
     pub bare : OnOk result (nodes.bare now ≡ emptied (after_step (step (nodes.bare old)) (nodes.bare old)))
     -- and what goes out is the step's, but for these bytes
     pub alike : OnOk result (map without_bytes says ≡ map without_bytes said ++ map without_bytes (map shown (step (nodes.bare old)).outputs))
-    -- whatever the disks are, what is sent carries no more than may be sent, where what the step sends does without its bytes
+    -- whatever the disks are, what is sent carries no more than may be sent, where what the step
+    -- sends does without its bytes
     pub short : AreShort said → AreShort (map shown (step (nodes.bare old)).outputs) → OnOk result (AreShort says)
-    -- At Ok its disks tell the state after the step, and what goes out is the step's; just the calls of its change's commit were
-    -- made, or a part of them; at each moment, whatever images the disks may leave, they tell the state before the step or the one
-    -- after it.
+    -- At Ok its disks tell the state after the step, and what goes out is the step's; just the
+    -- calls of its change's commit were made, or a part of them; at each moment, whatever images
+    -- the disks may leave, they tell the state before the step or the one after it.
     pub carries : (s : Plain) → nodes.Tells old s → Carries (step s) result

@@ -23,7 +23,8 @@ use Rattle.nqs_node.specs.Carried.{Kept, after_kept, IsMade, IsCutBy, IsBrokenOf
 use Rattle.nqs_node.specs.Planned.{IsKeptWith}
 
 module _ {D : Type 0} {g : disk.Ghosts D} {T E : Type 0} (old now : Store D g) (before after : Host) where
-  -- A change of a host is kept and made, or a fault leaves the host as it was: a failed call of a disk, or want of memory.
+  -- A change of a host is kept and made, or a fault leaves the host as it was: a failed call of a
+  -- disk, or want of memory.
   pub record Makes (change : Change Extent) (puts : List (List ℕ)) (failed : Which → E) (refused : E) (result : Result T E) : Type 0 where
     -- the host is sound
     pub sound : IsSoundHost after
@@ -47,7 +48,8 @@ module _ {D : Type 0} {g : disk.Ghosts D} {T E : Type 0} (old now : Store D g) (
     pub calls : Commits old now change puts before failed result
 
 module _ {D : Type 0} {g : disk.Ghosts D} {T : Type 0} (old now : Store D g) (before after : Host) where
-  -- What is to be kept, if a change is, was kept and made, behind reads of the spool; or a call failed.
+  -- What is to be kept, if a change is, was kept and made, behind reads of the spool; or a call
+  -- failed.
   pub record Keeps (kept : Kept) (result : Result T StoreFault) : Type 0 where
     -- with all bytes, it is the state after it
     pub plain : IsTrue g.tells → Tells old before → OnOk result (plain_of now after ≡ after_change kept (plain_of old before))
@@ -61,10 +63,12 @@ module _ {D : Type 0} {g : disk.Ghosts D} {T : Type 0} (old now : Store D g) (be
     pub cut : IsTrue g.tells → Tells old before → (which : Which) → IsErrOf result (fault.Disk which) → IsTrue (is_starved now which)
         ⊎ (IsBlown (fails_of old which) (history_of old which)
         ⊎ IsCutBy (active_of old) (fails_of old) (history_of old) (history_of now) kept (plain_of old before) which)
-    -- at each moment, whatever images the disks may leave, they tell the state before it or the one after it
+    -- at each moment, whatever images the disks may leave, they tell the state before it or the one
+    -- after it
     pub any_moment : IsTrue g.tells → Tells old before → IsOneOrOther (active_of old) (history_of old) (history_of now) kept (plain_of old before)
 
-  -- The change of a plan, if there is one, is kept and made behind reads of the spool; or a call failed, and the host is as it was.
+  -- The change of a plan, if there is one, is kept and made behind reads of the spool; or a call
+  -- failed, and the host is as it was.
   pub record Performs (change : Option (Change Extent)) (puts : List (List ℕ)) (result : Result T StoreFault) : Type 0 where
     -- the host is sound
     pub sound : IsSoundHost after

@@ -57,7 +57,8 @@ module _ {D : Type 0} {g : disk.Ghosts D} where
     pub told : store.Tells node.store (content_of node)
     pub running : is_stopped node ≡ false
 
-  -- Nothing happened to it: its state and its active journal stay, its disks made no counted call, and it tells what it told.
+  -- Nothing happened to it: its state and its active journal stay, its disks made no counted call,
+  -- and it tells what it told.
   pub record Stays (old now : Node D g) : Type 0 where
     pub state : content_of now ≡ content_of old
     pub running : is_stopped now ≡ is_stopped old

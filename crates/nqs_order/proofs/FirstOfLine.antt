@@ -1,4 +1,5 @@
--- The first entry of a line whose row may start: no entry of the line that may start comes before its row.
+-- The first entry of a line whose row may start: no entry of the line that may start comes before
+-- its row.
 use Rattle.std.proofs.Common.{◌≡◌, ℕ, Bool, true, false, not, ◌&&◌, ◌||◌, List, [], ◌∷◌, position, Option, None, Some, is_some, slice_get, refl, sym, ap, subst}
 use Rattle.std.proofs.Common.{◌∙◌}
 use Rattle.std.proofs.Common.{if◌then◌else◌, true≢false}

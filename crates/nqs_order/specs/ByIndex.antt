@@ -1,4 +1,5 @@
--- The scheduler's rules over an index: its counts in place of those of rows, and a queue's classes in place of all rows.
+-- The scheduler's rules over an index: its counts in place of those of rows, and a queue's classes
+-- in place of all rows.
 use Rattle.std.specs.Prelude.{ℕ, ◌-◌, Bool, true, false, not, ◌&&◌, ◌||◌, ◌==◌, nat_lt, nat_le, if◌then◌else◌, List, [], ◌∷◌, length, position, slice_get}
 use Rattle.std.specs.Prelude.{Option, None, Some, is_some}
 use Rattle.std.specs.List.{list_all, list_any}
@@ -162,7 +163,8 @@ module _ {E : Type 0} where
   is_ahead best [] = false
   is_ahead best (e ∷ es) = leads best e.key
 
-  -- the best row, with one more class: it is passed over where its first entry doesn't come before the best so far
+  -- the best row, with one more class: it is passed over where its first entry doesn't come before
+  -- the best so far
   abbrev pub better_of : Index → QueueDef → ℕ → State E → Bool → Option (ℕ × Row E) → ClassLine → Option (ℕ × Row E)
   better_of index d now s any_open best l = if is_ahead best l.line then earlier best (first_of index d now s any_open l) else best
 
@@ -171,7 +173,8 @@ module _ {E : Type 0} where
   first_among index d now s any_open best [] = best
   first_among index d now s any_open best (l ∷ ls) = first_among index d now s any_open (better_of index d now s any_open best l) ls
 
-  -- the first row of a queue that may start: the one of the first rows of its classes that comes before the others
+  -- the first row of a queue that may start: the one of the first rows of its classes that comes
+  -- before the others
   abbrev pub first_eligible : Index → QueueDef → ℕ → State E → Option (ℕ × Row E)
   first_eligible index d now s = first_among index d now s (has_open d.kind d now s) None (classes_in d.name index)
 

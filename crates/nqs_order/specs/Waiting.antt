@@ -1,4 +1,5 @@
--- The part of a row's eligibility that is told by the row and its queue's name alone, in the order in which it is looked at.
+-- The part of a row's eligibility that is told by the row and its queue's name alone, in the order
+-- in which it is looked at.
 use Rattle.std.specs.Prelude.{ℕ, Bool, ◌&&◌, nat_le}
 use Rattle.nqs_base.specs.Same.{name_eq}
 use Rattle.nqs_types.specs.declared.request.Row.{Row}

@@ -9,7 +9,8 @@ use Rattle.nqs_records.specs.Fields.{u8_at, u16_at, u64_at, bool_at, name_at, pa
 use Rattle.nqs_records.specs.Parts.{id_at, carried_at}
 use Rattle.nqs_packets.specs.Parts.{is_any, number_at, cause_at, bytes_at, tool_at, words_at}
 
--- an offer of a request: the handover's number, the queue that it is for, what is carried, and its script
+-- an offer of a request: the handover's number, the queue that it is for, what is carried, and its
+-- script
 unfoldable pub offer_at : Reading Body
 offer_at =
     mapped (λ v. Offer v.0 v.1.0 v.1.1.0 v.1.1.1)

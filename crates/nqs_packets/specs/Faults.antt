@@ -28,7 +28,8 @@ pub record IsFollowed (bytes : List ℕ) (place : ℕ) : Type 0 where
   pub text : bytes ≡ spelling message ++ rest
   pub is_place : place ≡ length (spelling message)
 
--- Each fault beside that of a field comes exactly where bytes are so; bytes that end too early are short at their end.
+-- Each fault beside that of a field comes exactly where bytes are so; bytes that end too early are
+-- short at their end.
 pub record HasFirstFaults (bytes : List ℕ) : Type 0 where
   pub version : message_of bytes ≡ Err fault.Version ↔ HasOtherVersion bytes
   pub kind : message_of bytes ≡ Err fault.Kind ↔ HasOtherKind bytes

@@ -20,7 +20,8 @@ IsSpelledBy bytes message = (bytes ≡ spelling message) × MaySend message
 abbrev pub SpellsNone : List ℕ → Type 0
 SpellsNone bytes = (message : Message) → MaySend message → bytes ≡ spelling message → ⊥
 
--- What is read is what was spelled: bytes are read as a message exactly where they are its spelling and it may be sent.
+-- What is read is what was spelled: bytes are read as a message exactly where they are its spelling
+-- and it may be sent.
 abbrev pub ReadsTheSpelling : Type 0
 ReadsTheSpelling = (bytes : List ℕ) (message : Message) → AreBytes bytes → message_of bytes ≡ Ok message ↔ (bytes ≡ spelling message) × MaySend message
 
@@ -53,7 +54,8 @@ WhatIsReadIsShort = (bytes : List ℕ) (message : Message) → AreBytes bytes �
 abbrev pub IsTypedJob : Job → Type 0
 IsTypedJob j = IsName j.name × IsName j.owner × IsU64 j.earliest × IsOpt IsU64 j.limits.cpu × IsOpt IsU64 j.limits.memory × IsOpt IsName j.forms
 
--- what a host says to a host: its number is from 1 on, its names and numbers are as the code's types have them
+-- what a host says to a host: its number is from 1 on, its names and numbers are as the code's
+-- types have them
 abbrev pub IsSaid : Body → Type 0
 IsSaid (Offer number queue carried script) = IsNumber number × IsName queue × IsTypedJob carried.job
 IsSaid (Ready number) = IsNumber number

@@ -32,7 +32,8 @@ use Rattle.nqs_qmgr.specs.Faults.{Misstands, Misgiven, NoOption, FaultsBehind, F
 use Rattle.nqs_qmgr.specs.Law.{SharesWords, place_of, IsAt, NoCommandBeginsSo}
 use Rattle.nqs_qmgr.proofs.Faulted.{never_both}
 
--- the fault is that the line ends too early, or each line with the same words up to some word has it
+-- the fault is that the line ends too early, or each line with the same words up to some word has
+-- it
 abbrev Decided : (List ℕ → Type 0) → List ℕ → ℕ → GrammarFault → Type 0
 Decided R line place f = (f ≡ fault.Missing (length line)) ⊎ ((word : Word) × (place ≤ word.end)
     × (IsAt f word × ((other : List ℕ) → SharesWords line other word.end → R other)))

@@ -1,4 +1,5 @@
--- Each shape has the faults that the grammar says of it, and each line one command or one first fault.
+-- Each shape has the faults that the grammar says of it, and each line one command or one first
+-- fault.
 use Rattle.std.proofs.Common.{◌≡◌, ◌⊎◌, inl, inr, ℕ, zero, suc, ◌<◌, List, [], ◌∷◌, arith, refl, ap, sym, subst, Some, None, Option, Result, Ok, Err, Bool}
 use Rattle.std.proofs.Common.{true, false, is_some}
 use Rattle.nqs_types.specs.declared.ids.Named.{Named}

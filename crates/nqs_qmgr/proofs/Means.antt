@@ -1,4 +1,5 @@
--- What a reading means: which values it gives, as a relation. Readings are joined as their relations are.
+-- What a reading means: which values it gives, as a relation. Readings are joined as their
+-- relations are.
 use Rattle.std.proofs.Common.{◌≡◌, ◌↔◌, ℕ, Some, None, Option, Ok, Err, refl, ap, sym, subst}
 use Rattle.nqs_types.specs.declared.fault.GrammarFault.{GrammarFault}
 use Rattle.nqs_qmgr.specs.Read.{Read, ◌>>=◌, or_fault}

@@ -1,5 +1,5 @@
--- The first fault of a line, apart from how lines are read: up to its place the words stand as a line of the
--- table has them, and the word there isn't what that line wants next.
+-- The first fault of a line, apart from how lines are read: up to its place the words stand as a
+-- line of the table has them, and the word there isn't what that line wants next.
 use Rattle.std.specs.Prelude.{◌≡◌, ◌⊎◌, ℕ, ◌+◌, ◌<◌, true, false, List, [], ◌∷◌, length, Option, Some, None, is_some, Err, slice_range}
 use Rattle.nqs_types.specs.declared.ids.Named.{Named}
 use Rattle.nqs_types.specs.declared.ids.NamedDest.{NamedDest}

@@ -46,7 +46,8 @@ OneFault = (line : List ℕ) (f g : GrammarFault) → Faults line f → Faults l
 abbrev pub Telling : Type 0
 Telling = Result Keyword NoKeyword × (Result Keyword NoKeyword × Shape)
 
--- what the keywords of a line tell, written in full: among the verbs, and among the second ones of the verb
+-- what the keywords of a line tell, written in full: among the verbs, and among the second ones of
+-- the verb
 abbrev pub told_by : Line → Telling
 told_by l = (keyword_of verbs (spelling l.verb), (keyword_of (nouns l.verb) (spelling l.noun), shape_of l.verb l.noun))
 
@@ -83,8 +84,8 @@ place_of (fault.BadNumber place) = place
 abbrev pub IsAt : GrammarFault → Word → Type 0
 IsAt f word = (word.start ≤ place_of f) × (place_of f ≤ word.end)
 
--- a fault other than a missing word is at a word, and whatever follows that word, the line has this fault: no
--- command begins with these words
+-- a fault other than a missing word is at a word, and whatever follows that word, the line has this
+-- fault: no command begins with these words
 abbrev pub NoCommandBeginsSo : Type 0
 NoCommandBeginsSo = (line : List ℕ) (f : GrammarFault) → Faults line f
     → (f ≡ fault.Missing (length line))

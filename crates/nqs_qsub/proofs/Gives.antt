@@ -1,4 +1,5 @@
--- What a reading gives and which faults it has, as two relations. Readings are joined as their relations are.
+-- What a reading gives and which faults it has, as two relations. Readings are joined as their
+-- relations are.
 use Rattle.std.proofs.Common.{◌≡◌, ◌↔◌, ◌⊎◌, inl, inr, ℕ, ◌+◌, List, Some, None, Option, Result, Ok, Err, Bool, true, false, cond, refl, ap, sym, ◌∙◌}
 use Rattle.nqs_types.specs.declared.fault.WordsFault.{WordsFault}
 use Rattle.nqs_types.specs.declared.fault.WordsCause.{WordsCause}

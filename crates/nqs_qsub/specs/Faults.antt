@@ -1,5 +1,5 @@
--- The first fault of a submission, apart from how it is read: the words before it give options, and the word at
--- its place doesn't give one more.
+-- The first fault of a submission, apart from how it is read: the words before it give options, and
+-- the word at its place doesn't give one more.
 use Rattle.std.specs.Prelude.{◌≡◌, ◌⊎◌, ℕ, ◌+◌, ◌≤◌, ◌<◌, true, false, List, [], ◌∷◌, length, take, drop, Some, None, Err}
 use Rattle.nqs_types.specs.declared.fault.WordsFault.{WordsFault}
 use Rattle.nqs_types.specs.declared.fault.WordsCause.{WordsCause}

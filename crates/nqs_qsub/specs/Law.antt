@@ -1,4 +1,5 @@
--- What is read is what the grammar has, and the fault that is answered is the submission's first one.
+-- What is read is what the grammar has, and the fault that is answered is the submission's first
+-- one.
 use Rattle.std.specs.Prelude.{◌≡◌, ◌↔◌, ◌⊎◌, ℕ, List, Ok, Err}
 use Rattle.std.specs.declared.result.Result.{Result}
 use Rattle.nqs_types.specs.declared.fault.WordsFault.{WordsFault}

@@ -50,7 +50,8 @@ abbrev pub path_text : List (List ℕ) → List ℕ → Option Place → List �
 path_text words script (Some at) = text_of words script at
 path_text words script None = []
 
--- the job that the options ask for; without them it is named `STDIN`, has priority 31 and is rerunnable
+-- the job that the options ask for; without them it is named `STDIN`, has priority 31 and is
+-- rerunnable
 abbrev pub job : List ℕ → List (List ℕ) → List ℕ → Options → Job
 job user words script o =
     record {

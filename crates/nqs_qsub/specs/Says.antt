@@ -29,7 +29,8 @@ GivesValue source words text n token o f p =
     × ((value : Token) × (next_token source words text token.after ≡ Some value)
     × ((more : Options) × (valued o f (text_of words text value.at) value.at ≡ Ok more) × (p ≡ record { options = more; number = n + 2; place = value.after })))
 
--- an option stands next, from the word of number n on; behind it there are these options and that place
+-- an option stands next, from the word of number n on; behind it there are these options and that
+-- place
 abbrev pub GivesOption : Source → List (List ℕ) → List ℕ → ℕ → ℕ → Options → Progress → Type 0
 GivesOption source words text n place o p =
     (token : Token) × (next_token source words text place ≡ Some token)
@@ -47,7 +48,8 @@ WordsGive source words text place o all = (steps : List Progress) × GiveOptions
 
 -- ---- lines of the script
 
--- a line that begins at the place, and isn't the last that is looked at: a remark, or one of words behind its mark
+-- a line that begins at the place, and isn't the last that is looked at: a remark, or one of words
+-- behind its mark
 abbrev pub LineGives : List ℕ → ℕ → Options → Options → Type 0
 LineGives script place o more =
     ((line_kind (drop place script) ≡ Remark) × (more ≡ o))
@@ -64,7 +66,8 @@ ScriptGives script all = (lines : List Options) × GiveLines script 0 no_options
 
 -- ---- submissions
 
--- the command's words and the script give these options: the command's where it has one, else the script's
+-- the command's words and the script give these options: the command's where it has one, else the
+-- script's
 abbrev pub Says : List (List ℕ) → List ℕ → Options → Type 0
 Says words script o =
     (length script ≤ 32768) × ((command : Options) × WordsGive Command words [] 0 no_options command

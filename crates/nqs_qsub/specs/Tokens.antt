@@ -40,7 +40,8 @@ located {A} line number (Err cause) = Err (fault_at line number cause)
 abbrev pub word_token : Word → Token
 word_token word = record { at = InScript word; after = word.end }
 
--- the next word from a place on: of the command's words, or of the front of a script up to a line's end
+-- the next word from a place on: of the command's words, or of the front of a script up to a line's
+-- end
 unfoldable pub next_token : Source → List (List ℕ) → List ℕ → ℕ → Option Token
 next_token Command words text place = if nat_lt place (length words) then Some (record { at = InCommand place; after = place + 1 }) else None
 next_token Script words text place = if nat_le place (length text) then option_map word_token (next_word SpacesAndTabs text place) else None

@@ -1,7 +1,7 @@
 //! The words of qstat and qdel.
 //!
-//! `qstat [-u USER] [QUEUE]..` and `qdel [-k] SEQ.HOST`: the option comes first. specs/Words.antt has the
-//! definitions.
+//! `qstat [-u USER] [QUEUE]..` and `qdel [-k] SEQ.HOST`: the option comes first. specs/Words.antt
+//! has the definitions.
 
 ghost use Rattle.std.specs.Prelude.{◌≡◌, ◌+◌, ◌≤◌, [], drop, length, IfOk};
 ghost use Rattle.nqs_words.specs.Values.{named_of};

@@ -1,4 +1,5 @@
--- What messages make of a state, one after the other: what is out of a peer's reach stays so, settings and running requests stay.
+-- What messages make of a state, one after the other: what is out of a peer's reach stays so,
+-- settings and running requests stay.
 use Rattle.std.proofs.Common.{◌≡◌, ℕ, Bool, true, false, not, ◌||◌, List, [], ◌∷◌, ◌++◌, map, filter, find, Some, true≢false, refl, sym, ap, subst, ◌∙◌, arith}
 use Rattle.std.proofs.Common.{cond, if◌then◌else◌}
 use Rattle.std.proofs.lemmas.Bool.{and_parts, or_parts, or_from, not-true, not-false, not_from_false, not_from_true}

@@ -78,7 +78,8 @@ module _ {E : Type 0} where
 
   -- what stays, and what may differ
 
-  -- the host, its site, its queues, its people, its parameters and the number of its last request stand as they stood
+  -- the host, its site, its queues, its people, its parameters and the number of its last request
+  -- stand as they stood
   pub record KeepsSettings (s t : State E) : Type 0 where
     pub me : t.me ≡ s.me
     pub site : t.site ≡ s.site
@@ -93,7 +94,8 @@ module _ {E : Type 0} where
     pub retry_wait : t.retry_wait ≡ s.retry_wait
     pub seq : t.seq ≡ s.seq
 
-  -- t is s but for what is the peer's, rows that may be touched, files added behind, and two counters, which don't fall
+  -- t is s but for what is the peer's, rows that may be touched, files added behind, and two
+  -- counters, which don't fall
   pub record IsWithin (peer : HostId) (may_touch : RequestId → Bool) (s t : State E) : Type 0 where
     pub settings : KeepsSettings s t
     pub hands : hands_beside peer t ≡ hands_beside peer s
@@ -109,7 +111,8 @@ module _ {E : Type 0} where
   abbrev pub IsWithinReach : HostId → State E → State E → Type 0
   IsWithinReach peer s t = IsWithin peer (is_in_reach peer s) s t
 
-  -- what any number of messages of a peer may make of a state: rows may come in of requests that the host didn't have
+  -- what any number of messages of a peer may make of a state: rows may come in of requests that
+  -- the host didn't have
   abbrev pub IsWithinReachInTheEnd : HostId → State E → State E → Type 0
   IsWithinReachInTheEnd peer s t = IsWithin peer (is_in_reach_or_new peer s) s t
 

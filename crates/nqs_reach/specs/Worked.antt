@@ -102,7 +102,8 @@ busy = record (row (request 2 alpha) (codes "batch") 2) { state = Running; start
 abbrev pub elsewhere : Row (List ℕ)
 elsewhere = record (row (request 3 alpha) (codes "link") 3) { state = Routing }
 
--- Alpha: a request is offered to beta and one to gamma, one runs, one was given to beta; a promise, a stage to each, and a file.
+-- Alpha: a request is offered to beta and one to gamma, one runs, one was given to beta; a promise,
+-- a stage to each, and a file.
 abbrev pub small : Plain
 small = record (formatted alpha (codes "alpha" ∷ codes "beta" ∷ codes "gamma" ∷ [])) {
   queues = record (new_queue (codes "batch") Batch None None false []) { enabled = true; started = true } ∷ link ∷ [];

@@ -43,9 +43,8 @@ pub(crate) fn end_processes(rt: &HostRuntime, numbers: &[String]) -> io::Result<
 }
 
 /// Ends each process of the session that this process leads, whatever signals it ignores. `kill`
-/// ends the leader's group at once,
-/// `pkill` then what has a group of its own. A process that began a session of its own is not found:
-/// `crate::leftovers` finds it.
+/// ends the leader's group at once, `pkill` then what has a group of its own. A process that began
+/// a session of its own is not found: `crate::leftovers` finds it.
 pub(crate) fn end_session(rt: &HostRuntime, leader: u32) -> io::Result<()> {
     let group = format!(in rt.alloc(); "-{leader}")?;
     let ended = run_quietly(rt, "kill", &["-KILL", "--", group.as_str()]);

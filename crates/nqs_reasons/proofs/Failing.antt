@@ -13,7 +13,8 @@ module _ {V A : Type 0} (holds : V → Bool) (said : V → A) where
   said_of None other = other
   said_of (Some v) other = said v
 
-  -- a condition for each value of a list: the first that fails is that of the first value that doesn't hold
+  -- a condition for each value of a list: the first that fails is that of the first value that
+  -- doesn't hold
   pub failing-each : (vs : List V) (rest : Conditions A) (last : A)
       → said_of (find (λ v. not (holds v)) vs) (first_failing rest last) ≡ first_failing (map (λ v. (holds v, said v)) vs ++ rest) last
   failing-each [] rest last = refl

@@ -106,7 +106,8 @@ module _ (d : QueueDef) (now : ℕ) (s : Plain) (r : PlainRow) where
   abbrev run : Bool
   run = nat_lt (length (filter (is_active_in d.name) s.rows)) d.run_limit
 
-  -- each condition holds exactly where the queue may start a request and this one is eligible, but for its queue
+  -- each condition holds exactly where the queue may start a request and this one is eligible, but
+  -- for its queue
   all_conditions : all_hold (conditions d now s r)
       ≡ ((d.started && is_within_limits d s) && (is_ready r && nat_le r.job.earliest now && user && kind_allows d.kind d now s r))
   all_conditions =

@@ -27,16 +27,19 @@ may_be_tried _ = false
 abbrev pub all_hold : {A : Type 0} → Conditions A → Bool
 all_hold cs = list_all (λ c. c.0) cs
 
--- the answer is told of a condition that fails, and all before it hold; or all hold, and it is the last answer
+-- the answer is told of a condition that fails, and all before it hold; or all hold, and it is the
+-- last answer
 abbrev pub IsFirstFailing : {A : Type 0} → Conditions A → A → A → Type 0
 IsFirstFailing {A} cs last answer =
     ((front rest : Conditions A) × (cs ≡ front ++ (false, answer) ∷ rest) × (all_hold front ≡ true)) ⊎ ((all_hold cs ≡ true) × (answer ≡ last))
 
--- the queue at one place is started before the one at another: it is greater, or as great and created before
+-- the queue at one place is started before the one at another: it is greater, or as great and
+-- created before
 abbrev pub StartsBefore : ℕ → QueueDef → ℕ → QueueDef → Type 0
 StartsBefore k p l q = (is_greater p q ≡ true) ⊎ ((p.priority ≡ q.priority) × (k < l))
 
--- a choice is of the row at a place, or of one before it: of a queue that is started before its queue, or of its queue a row that comes before it
+-- a choice is of the row at a place, or of one before it: of a queue that is started before its
+-- queue, or of its queue a row that comes before it
 pub record IsAtOrBefore (s : Plain) (place : ℕ) (r : PlainRow) (c : Choice) : Type 0 where
   pub own_place : ℕ
   pub own : QueueDef

@@ -1,4 +1,5 @@
--- Chains of readings: each keeps that what is found stands there, and that what stands there is found.
+-- Chains of readings: each keeps that what is found stands there, and that what stands there is
+-- found.
 use Rattle.std.proofs.Common.{◌≡◌, ℕ, zero, suc, ◌+◌, Bool, true, false, cond, IsTrue, List, [], ◌∷◌, ◌++◌, length, drop, Option, Some, None, refl, sym, ap}
 use Rattle.std.proofs.Common.{◌∙◌, subst, arith, length-append, append_assoc, append-nil, Result, Ok, Err}
 use Rattle.std.specs.Prelude.{flat_map}

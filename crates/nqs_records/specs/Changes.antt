@@ -23,7 +23,8 @@ MayStand change = IsEntry IsValue (kind_entry change)
 abbrev pub AreBytes : List ℕ → Type 0
 AreBytes bytes = (i : ℕ) → get_or bytes i 0 < 256
 
--- What is read is what was spelled: bytes are read as a change exactly where they are its spelling and it may stand.
+-- What is read is what was spelled: bytes are read as a change exactly where they are its spelling
+-- and it may stand.
 abbrev pub ReadsTheSpelling : Type 0
 ReadsTheSpelling = (bytes : List ℕ) (change : Change Extent) → AreBytes bytes → record_of bytes ≡ Ok change ↔ (bytes ≡ spelling change) × MayStand change
 

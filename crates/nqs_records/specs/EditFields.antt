@@ -1,4 +1,5 @@
--- What stands behind the code of an edit: fields, each with its values, their limits, their spelling and its reading.
+-- What stands behind the code of an edit: fields, each with its values, their limits, their
+-- spelling and its reading.
 use Rattle.std.specs.Prelude.{ℕ, Bool, true, nat_le, IsTrue, List, Option}
 use Rattle.nqs_base.specs.Name.{IsName}
 use Rattle.nqs_types.specs.declared.ids.Named.{Named}

@@ -1,4 +1,5 @@
--- The one spelling of each edit: its code, and its values, as the table of edits has them. Each goes by cases, of which one is written out.
+-- The one spelling of each edit: its code, and its values, as the table of edits has them. Each
+-- goes by cases, of which one is written out.
 use Rattle.std.specs.Prelude.{ℕ, List}
 use Rattle.nqs_types.specs.declared.edit.Edit.{Edit}
 use Rattle.nqs_types.specs.declared.edit.Edit.TheVariants.{Conf, Limits as LimitsOf, Access as AccessOf, Devices as DevicesOf, Rows as RowsOf}

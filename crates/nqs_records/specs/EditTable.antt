@@ -1,4 +1,5 @@
--- The edits by their codes: what stands behind each code, and what it makes. Codes are looked up, so that some may be left out.
+-- The edits by their codes: what stands behind each code, and what it makes. Codes are looked up,
+-- so that some may be left out.
 use Rattle.std.specs.Prelude.{ℕ, List, [], ◌∷◌, ◌++◌}
 use Rattle.nqs_types.specs.declared.edit.Edit.{Edit}
 use Rattle.nqs_types.specs.declared.edit.Edit.TheVariants.{Conf, Limits as LimitsOf, Access as AccessOf, Devices as DevicesOf, Rows as RowsOf}
@@ -23,7 +24,8 @@ use Rattle.nqs_records.specs.EditFields.{Field, ValueOf, eight_bytes, at_most, a
 abbrev pub row : (code : ℕ) (shape : List Field) → (Values ValueOf shape → Edit) → Row ValueOf Edit
 row code shape make = record { code = code; shape = shape; make = make }
 
--- what creates a batch or a device queue: its name, priority and run limit where given, and whether it is for pipe queues alone
+-- what creates a batch or a device queue: its name, priority and run limit where given, and whether
+-- it is for pipe queues alone
 abbrev pub created : List Field
 created = a_name ∷ maybe (at_most 63) ∷ maybe (at_most 10000) ∷ a_flag ∷ []
 

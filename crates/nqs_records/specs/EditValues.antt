@@ -1,4 +1,5 @@
--- The edits that may stand in a record: their values are within the limits of the table of edits. Each goes by cases, of which one is written out.
+-- The edits that may stand in a record: their values are within the limits of the table of edits.
+-- Each goes by cases, of which one is written out.
 use Rattle.nqs_types.specs.declared.edit.Edit.{Edit}
 use Rattle.nqs_types.specs.declared.edit.Edit.TheVariants.{Conf, Limits as LimitsOf, Access as AccessOf, Devices as DevicesOf, Rows as RowsOf}
 use Rattle.nqs_types.specs.declared.edit.ConfEdit.{ConfEdit}

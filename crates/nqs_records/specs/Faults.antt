@@ -49,7 +49,8 @@ IsFinal (BadField place) = Unit {0}
 IsFinal (Trailing place) = Unit {0}
 IsFinal (Memory memory) = ⊥
 
--- Another kind and a change that is followed are told exactly. Short is told at the end, of each change cut off too. A fault else is final.
+-- Another kind and a change that is followed are told exactly. Short is told at the end, of each
+-- change cut off too. A fault else is final.
 pub record HasFirstFaults (bytes : List ℕ) : Type 0 where
   pub kind : (place : ℕ) → record_of bytes ≡ Err (Kind place) ↔ (place ≡ 0) × HasOtherKind bytes
   pub trailing : (place : ℕ) → record_of bytes ≡ Err (Trailing place) ↔ IsFollowed bytes place

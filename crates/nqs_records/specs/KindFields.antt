@@ -1,4 +1,5 @@
--- What stands behind the kind of a record: fields, each with its values, their limits, their spelling and its reading.
+-- What stands behind the kind of a record: fields, each with its values, their limits, their
+-- spelling and its reading.
 use Rattle.std.specs.Prelude.{ℕ, IsTrue, List, ◌++◌, Option}
 use Rattle.nqs_base.specs.Name.{IsName}
 use Rattle.nqs_base.specs.Path.{IsPath}

@@ -1,4 +1,5 @@
--- The kinds of record by their numbers: what stands behind each number, and the change that it makes.
+-- The kinds of record by their numbers: what stands behind each number, and the change that it
+-- makes.
 use Rattle.std.specs.Prelude.{ℕ, List, [], ◌∷◌, ◌++◌}
 use Rattle.nqs_base.specs.declared.extent.Extent.{Extent}
 use Rattle.nqs_types.specs.declared.change.Change.{Change}

@@ -1,4 +1,5 @@
--- Readings: a value that stands at a place of bytes and the place behind it, or the first fault from the left.
+-- Readings: a value that stands at a place of bytes and the place behind it, or the first fault
+-- from the left.
 use Rattle.std.specs.Prelude.{◌≡◌, ℕ, zero, suc, Bool, true, false, List, [], ◌∷◌, Option, Some, None, if◌then◌else◌, Ok, Err}
 use Rattle.std.specs.declared.result.Result.{Result}
 use Rattle.nqs_records.specs.declared.fault.RecordFault.{RecordFault}

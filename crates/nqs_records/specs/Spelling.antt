@@ -1,4 +1,5 @@
--- The one spelling of each value. Fields stand one behind the other, and numbers with their highest byte first.
+-- The one spelling of each value. Fields stand one behind the other, and numbers with their highest
+-- byte first.
 use Rattle.std.specs.Prelude.{ℕ, Bool, true, false, List, [], ◌∷◌, ◌++◌, length, flat_map, Option, Some, None}
 use Rattle.nqs_codec.specs.Fields.{u8_field, u16_field, u32_field, u64_field, short_field, bool_field}
 use Rattle.nqs_types.specs.declared.ids.RequestId.{RequestId}

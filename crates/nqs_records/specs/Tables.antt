@@ -1,4 +1,5 @@
--- Tables of codes: which fields stand behind each code, and what their values make. Codes are looked up, so that some may be left out.
+-- Tables of codes: which fields stand behind each code, and what their values make. Codes are
+-- looked up, so that some may be left out.
 use Rattle.std.specs.Prelude.{ℕ, Bool, ◌&&◌, true, false, ◌==◌, List, [], ◌∷◌, ◌++◌, if◌then◌else◌}
 use Rattle.nqs_codec.specs.Fields.{u8_field}
 use Rattle.nqs_records.specs.Reading.{Reading, mapped, both}

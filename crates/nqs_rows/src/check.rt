@@ -146,10 +146,10 @@ fn check_abort(state: &HostState, queue: &Name) -> Result<(), Refusal>
 
 /// Whether an edit of requests may be made: `Ok`, or the first of these that holds. An abort:
 /// `NoQueue`, `WrongKind` for a pipe queue. The others: `NoRequest`, and then a hold:
-/// `RequestRouting`, `RequestRunning`, `IsHeld`; a release:
-/// `NotHeld`; a move: `NoQueue`, `RequestRouting`, `RequestRunning`, the way of its owner and of its limits into that
-/// queue as from a pipe queue, `NumbersUsed`; a new priority: `RequestRouting`, `RequestRunning`.
-/// `site` holds of each state in order: at most 16 hosts.
+/// `RequestRouting`, `RequestRunning`, `IsHeld`; a release: `NotHeld`; a move: `NoQueue`,
+/// `RequestRouting`, `RequestRunning`, the way of its owner and of its limits into that queue as
+/// from a pipe queue, `NumbersUsed`; a new priority: `RequestRouting`, `RequestRunning`. `site`
+/// holds of each state in order: at most 16 hosts.
 pub fn check_rows(state: &HostState, edit: &RowsEdit) -> Result<(), Refusal>
     requires site { length state.now.site ≤ 16 }
     ensures { result ≡ first_refusal (rows_causes edit.now (content state.now)) }

@@ -1,4 +1,5 @@
--- The best of a list: it passes and stands at its place, nothing that passes beats it, and it beats all before it that pass.
+-- The best of a list: it passes and stands at its place, nothing that passes beats it, and it beats
+-- all before it that pass.
 use Rattle.std.proofs.Common.{◌≡◌, ℕ, ◌+◌, ◌<◌, Bool, true, false, ◌||◌, List, [], ◌∷◌, Option, None, Some, slice_get, is_some, true≢false, zero, suc, refl}
 use Rattle.std.proofs.Common.{sym, ap, subst, ◌∙◌, arith, if◌then◌else◌}
 use Rattle.std.proofs.lemmas.Option.{same_Some, none-some}

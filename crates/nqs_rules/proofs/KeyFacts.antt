@@ -1,4 +1,5 @@
--- Lists of values under keys: what a change, a loss or a gain of one value leaves of the others, and of the keys.
+-- Lists of values under keys: what a change, a loss or a gain of one value leaves of the others,
+-- and of the keys.
 use Rattle.std.proofs.Common.{◌≡◌, ℕ, ◌+◌, ◌≤◌, Bool, true, false, cond, not, ◌&&◌, ◌||◌, List, [], ◌∷◌, ◌++◌, map, filter, find, length, slice_get, ◌<◌}
 use Rattle.std.proofs.Common.{Some, true≢false, zero, suc, refl, sym, ap, subst, ◌∙◌, arith, if◌then◌else◌}
 use Rattle.std.proofs.lemmas.Bool.{and_parts, and_from, or_parts, or_from, or_left, not-true, not_from_false, false_from_ne_true}

@@ -1,4 +1,5 @@
--- Each start lowers the number of starts that there may still be, and leaves what the starts rest on.
+-- Each start lowers the number of starts that there may still be, and leaves what the starts rest
+-- on.
 use Rattle.std.proofs.Common.{◌≡◌, ℕ, ◌+◌, ◌-◌, ◌*◌, ◌<◌, ◌≤◌, Bool, true, false, not, ◌||◌, nat_lt, nat_le, List, [], ◌∷◌, ◌++◌, map, filter, find, slice_get}
 use Rattle.std.proofs.Common.{length, sum, Option, None, Some, zero, suc, refl, sym, ap, subst, ◌∙◌, arith, if◌then◌else◌}
 use Rattle.std.proofs.lemmas.Bool.{and_parts, and_from, and_right, or_parts, or_left, or_right, eqb-true, not_from_true, not_from_false}

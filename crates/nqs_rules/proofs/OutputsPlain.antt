@@ -1,4 +1,5 @@
--- What goes out of a state and of what it is mapped to: stored parts go out mapped, and nothing else differs.
+-- What goes out of a state and of what it is mapped to: stored parts go out mapped, and nothing
+-- else differs.
 use Rattle.std.proofs.Common.{◌≡◌, ℕ, ◌+◌, false, List, [], ◌∷◌, ◌++◌, map, Option, None, Some, option_map, refl, sym, ap, ◌∙◌, if◌then◌else◌}
 use Rattle.std.proofs.lemmas.List.{map-append}
 use Rattle.nqs_state.specs.State.{State}

@@ -45,7 +45,8 @@ use Rattle.nqs_rules.proofs.ConfOrder.{none_holds, causes_behind}
 use Rattle.nqs_rules.proofs.RowFacts.{same_id}
 use Rattle.nqs_rules.proofs.PickLaws.{eligible_parts, picked_is}
 
--- what of the order of a state the starts rest on: ids and names are distinct, hops and destinations few
+-- what of the order of a state the starts rest on: ids and names are distinct, hops and
+-- destinations few
 pub record IsSteady (s : Plain) : Type 0 where
   pub ids : are_distinct id_eq (map (λ r. r.id) s.rows) ≡ true
   pub names : are_distinct name_eq (map (λ q. q.name) s.queues) ≡ true

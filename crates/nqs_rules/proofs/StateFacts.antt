@@ -92,7 +92,8 @@ module _ {E : Type 0} where
   pub short_right : (s : State E) → IsShort s → are_lists_short s ≡ true
   short_right s h = chained (nat_le (length s.queues) 256) (short_tests s) (h.queues, (h.complexes, (h.devices, (h.managers, (h.operators, (h.held, tt))))))
 
-  -- another test in the place of one: 0 of queues, 1 of complexes, 2 of devices, 3 of managers, 4 of operators, 5 of what is held
+  -- another test in the place of one: 0 of queues, 1 of complexes, 2 of devices, 3 of managers, 4
+  -- of operators, 5 of what is held
   pub short_with : (s : State E) (n : ℕ) {c : Bool} → c ≡ true → are_lists_short s ≡ true
       → all_of (slice_set (nat_le (length s.queues) 256 ∷ short_tests s) n c) ≡ true
   short_with s = replaced (nat_le (length s.queues) 256) (short_tests s)
@@ -131,7 +132,8 @@ module _ {E : Type 0} where
   keys_right s h = chained (are_distinct name_eq (map (λ q. q.name) s.queues)) (keys_tests s)
       (h.queues, (h.complexes, (h.devices, (h.rows, (h.hands, (h.promises, (h.stages, (h.files, tt))))))))
 
-  -- another test in the place of one: 0 of queues, 1 of complexes, 2 of devices, 3 of rows, 4 of hands, 5 of promises, 6 of stages, 7 of files
+  -- another test in the place of one: 0 of queues, 1 of complexes, 2 of devices, 3 of rows, 4 of
+  -- hands, 5 of promises, 6 of stages, 7 of files
   pub keys_with : (s : State E) (n : ℕ) {c : Bool} → c ≡ true → are_keys_distinct s ≡ true
       → all_of (slice_set (are_distinct name_eq (map (λ q. q.name) s.queues) ∷ keys_tests s) n c) ≡ true
   keys_with s = replaced (are_distinct name_eq (map (λ q. q.name) s.queues)) (keys_tests s)

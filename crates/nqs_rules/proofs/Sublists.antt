@@ -1,4 +1,5 @@
--- Parts of lists in their order: what stays of a list where some of it goes, and what holds of such a part.
+-- Parts of lists in their order: what stays of a list where some of it goes, and what holds of such
+-- a part.
 use Rattle.std.proofs.Common.{◌≡◌, ◌≤◌, Bool, true, false, cond, not, List, [], ◌∷◌, ◌++◌, map, filter, length, Option, None, Some, refl, sym, subst, arith}
 use Rattle.std.proofs.Common.{if◌then◌else◌}
 use Rattle.std.proofs.lemmas.Bool.{and_parts, and_from, or_parts, or_from, not-true, not_from_false}

@@ -174,7 +174,8 @@ module _ {E : Type 0} where
   hand_refused k refusal (Some h) s = change_row h.id (λ r. refusal_noted (dests_for r s) (record { queue = h.queue; host = h.peer }) refusal (requeued_row r))
       (drop_hand k s)
 
-  -- the peer was silent: the hand goes, the request waits again, and the peer isn't tried until then
+  -- the peer was silent: the hand goes, the request waits again, and the peer isn't tried until
+  -- then
   abbrev pub hand_silent : ℕ → PeerNumber → Option Hand → State E → State E
   hand_silent until k None s = s
   hand_silent until k (Some h) s = change_peer k.peer (λ p. record p { wait = until }) (change_row h.id requeued_row (drop_hand k s))
@@ -190,7 +191,8 @@ module _ {E : Type 0} where
   abbrev pub is_promise_of : HostId → Promise E → Bool
   is_promise_of peer p = same_host peer p.peer
 
-  -- A promise goes behind the others, in place of an older one of that peer. The numbers before its own are closed.
+  -- A promise goes behind the others, in place of an older one of that peer. The numbers before its
+  -- own are closed.
   abbrev pub promised : HostId → ℕ → List ℕ → Carried → E → State E → State E
   promised peer number queue c script s = record (change_peer peer (close (number - 1)) s) {
     promises = filter (λ p. not (is_promise_of peer p)) s.promises ++ record { peer = peer; number = number; row = new_row c queue (s.arrivals + 1) script }

@@ -14,7 +14,8 @@ use Rattle.nqs_types.specs.declared.queue.QueueDef.{QueueDef}
 abbrev pub no_limits : Limits
 no_limits = record { cpu = None; memory = None }
 
--- a created queue: disabled and stopped, with priority 31 and run limit 1 unless stated, for everybody
+-- a created queue: disabled and stopped, with priority 31 and run limit 1 unless stated, for
+-- everybody
 abbrev pub new_queue : List ℕ → Kind → Option ℕ → Option ℕ → Bool → List Dest → QueueDef
 new_queue name kind priority run_limit pipe_only dests = record {
   name = name;

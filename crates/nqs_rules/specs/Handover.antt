@@ -228,7 +228,8 @@ module _ {E : Type 0} where
   abbrev pub inquiries : State E → List (Pending E)
   inquiries s = map (send_inquire s) s.promises
 
--- the change that takes back the hands whose peers are silent, and waits before it tries them anew; none where there is no such hand
+-- the change that takes back the hands whose peers are silent, and waits before it tries them anew;
+-- none where there is no such hand
 abbrev pub silence : ℕ → ℕ → List PeerNumber → Option (Change (List ℕ))
 silence now wait [] = None
 silence now wait (k ∷ ks) = Some (HandsSilent (later now wait) (k ∷ ks))

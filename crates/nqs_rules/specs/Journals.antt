@@ -1,4 +1,5 @@
--- A host's two journals: which of them is active, when a checkpoint turns over to the other, and what a stop leaves of it.
+-- A host's two journals: which of them is active, when a checkpoint turns over to the other, and
+-- what a stop leaves of it.
 use Rattle.std.specs.Prelude.{ℕ, zero, suc, ◌%◌, ◌==◌, nat_le, Bool, true, false, not, if◌then◌else◌, List, [], ◌∷◌}
 use Rattle.nqs_types.specs.declared.world.Which.{Which}
 use Rattle.nqs_types.specs.declared.world.Which.TheVariants.{First, Second}

@@ -11,7 +11,8 @@ module _ {E : Type 0} where
   abbrev pub untried : Row E → State E → List Dest
   untried r s = filter (λ d. not (was_refused d r.refused)) (dests_for r s)
 
-  -- A ready row may move so often as its hops allow, and before each move be refused by each of 16 destinations.
+  -- A ready row may move so often as its hops allow, and before each move be refused by each of 16
+  -- destinations.
   abbrev pub starts_of : State E → Row E → ℕ
   starts_of s r = if is_ready r then (33 - r.hops) * 17 + length (untried r s) else 0
 

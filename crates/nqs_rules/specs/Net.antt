@@ -1,4 +1,5 @@
--- The network table: where each request lies, over the plain states of all hosts at once. No journal, message, hand number or phase is in it.
+-- The network table: where each request lies, over the plain states of all hosts at once. No
+-- journal, message, hand number or phase is in it.
 use Rattle.std.specs.Prelude.{ℕ, ◌+◌, Bool, if◌then◌else◌, List, [], ◌∷◌, ◌++◌, map, filter, find, slice_get, Option, None, Some}
 use Rattle.nqs_types.specs.Ids.{id_eq}
 use Rattle.nqs_index.specs.Runs.{is_less_id}
@@ -63,7 +64,8 @@ is_arriving states h p = passes (is_committed_at h p.number) (slice_get states p
 abbrev pub arriving : List Plain → HostId → Plain → List (Promise (List ℕ))
 arriving states h s = filter (is_arriving states h) s.promises
 
--- A request lies with a host where the host has a row of it, or a promise that its sender has committed.
+-- A request lies with a host where the host has a row of it, or a promise that its sender has
+-- committed.
 abbrev pub entries_at : List Plain → HostId → Plain → List Entry
 entries_at states h s = map (row_entry h) s.rows ++ map (promise_entry h) (arriving states h s)
 

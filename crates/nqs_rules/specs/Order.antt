@@ -52,12 +52,13 @@ module _ {E : Type 0} where
   abbrev pub batch_allows : List ℕ → State E → Bool
   batch_allows q s = list_all (complex_allows q s) s.complexes && nat_lt (length (filter (runs_in_batch s) s.rows)) s.global_limit
 
-  -- The queue has fewer active requests than its run limit. For a batch queue each complex of it, and all batch queues
-  -- together, have fewer running ones than their limits too.
+  -- The queue has fewer active requests than its run limit. For a batch queue each complex of it,
+  -- and all batch queues together, have fewer running ones than their limits too.
   abbrev pub is_within_limits : QueueDef → State E → Bool
   is_within_limits d s = nat_lt (length (filter (is_active_in d.name) s.rows)) d.run_limit && (not (is_batch d.kind) || batch_allows d.name s)
 
-  -- The queue can do something with the row: a device is free for it, or a destination may be tried, or it has come too far.
+  -- The queue can do something with the row: a device is free for it, or a destination may be
+  -- tried, or it has come too far.
   abbrev pub kind_allows : Kind → QueueDef → ℕ → State E → Row E → Bool
   kind_allows Batch d now s r = true
   kind_allows Device d now s r = is_some (free_device d r.job.forms s)

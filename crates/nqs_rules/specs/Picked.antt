@@ -26,7 +26,8 @@ pub record IsFirstRow (d : QueueDef) (now : ℕ) (s : Plain) (place : ℕ) (r : 
   pub eligible : is_eligible d now s r ≡ true
   pub first : (k : ℕ) (q : PlainRow) → slice_get s.rows k ≡ Some q → is_eligible d now s q ≡ true → comes_before q r ≡ false
 
--- the queue at a place may start a row, no queue that may is greater, and none that may is as great and was created before
+-- the queue at a place may start a row, no queue that may is greater, and none that may is as great
+-- and was created before
 pub record IsNextQueue (now : ℕ) (s : Plain) (place : ℕ) (d : QueueDef) : Type 0 where
   pub at : slice_get s.queues place ≡ Some d
   pub may : may_start now s d ≡ true

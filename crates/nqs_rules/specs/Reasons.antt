@@ -1,6 +1,6 @@
--- Why a request doesn't start: the first condition of the scheduler's rule that fails.
--- First comes what a command or a moment ends. Then come the limits from the narrowest to the widest: what ends under one leaves room under the wider ones too.
--- Devices and destinations come at last.
+-- Why a request doesn't start: the first condition of the scheduler's rule that fails. First comes
+-- what a command or a moment ends. Then come the limits from the narrowest to the widest: what ends
+-- under one leaves room under the wider ones too. Devices and destinations come at last.
 use Rattle.std.specs.Prelude.{ℕ, Bool, ◌&&◌, nat_lt, nat_le, if◌then◌else◌, List, [], ◌∷◌, ◌++◌, map, filter, length, Option, None, Some, unwrap_or}
 use Rattle.nqs_base.specs.Same.{name_eq}
 use Rattle.nqs_state.specs.State.{State}
@@ -47,7 +47,8 @@ module _ {E : Type 0} where
   row_conditions now r =
       (is_queued r.state, state_reason r.state) ∷ (is_unheld r.hold, hold_reason r.hold) ∷ (nat_le r.job.earliest now, NotBefore r.job.earliest) ∷ []
 
-  -- of its queue: it is started, and has fewer active requests of the owner than the user limit, and of all owners than the run limit
+  -- of its queue: it is started, and has fewer active requests of the owner than the user limit,
+  -- and of all owners than the run limit
   abbrev pub queue_conditions : QueueDef → State E → Row E → Conditions Reason
   queue_conditions d s r =
       (d.started, QueueStopped) ∷ (below (length (filter (is_active_of d.name r.job.owner) s.rows)) d.user_limit, UserLimit (unwrap_or d.user_limit 0))
@@ -61,7 +62,8 @@ module _ {E : Type 0} where
   abbrev pub global_condition : State E → Bool × Reason
   global_condition s = (nat_lt (length (filter (runs_in_batch s) s.rows)) s.global_limit, GlobalLimit s.global_limit)
 
-  -- of the kind of queue: complexes in order of creation and the global limit, a free device, a destination that may be tried
+  -- of the kind of queue: complexes in order of creation and the global limit, a free device, a
+  -- destination that may be tried
   abbrev pub kind_conditions : Kind → QueueDef → ℕ → State E → Row E → Conditions Reason
   kind_conditions Batch d now s r = map (complex_condition d s) s.complexes ++ global_condition s ∷ []
   kind_conditions Device d now s r = (kind_allows Device d now s r, NoDevice r.job.forms) ∷ []
@@ -88,7 +90,8 @@ module _ {E : Type 0} where
   abbrev pub reason_of : ℕ → State E → Row E → Reason
   reason_of now s r = reason_in (find_queue r.queue s) now s r
 
-  -- another request comes before this one, and waits in the same queue: it is ready, and its earliest start has come
+  -- another request comes before this one, and waits in the same queue: it is ready, and its
+  -- earliest start has come
   abbrev pub waits_before : ℕ → Row E → Row E → Bool
   waits_before now r other = comes_before other r && (name_eq r.queue other.queue && is_ready other && nat_le other.job.earliest now)
 

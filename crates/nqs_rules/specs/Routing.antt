@@ -81,7 +81,8 @@ module _ {E : Type 0} where
   held_where true r = record r { hold = System }
   held_where false r = r
 
-  -- A refusal is noted, and refusals by no present destination go. Where each destination has refused, the system holds the request.
+  -- A refusal is noted, and refusals by no present destination go. Where each destination has
+  -- refused, the system holds the request.
   abbrev pub refusal_noted : List Dest → Dest → ℕ → Row E → Row E
   refusal_noted dests dest refusal r =
       let refused = with_refusal dests dest refusal r.refused in

@@ -1,4 +1,5 @@
--- Outputs of jobs: into files of this host, or in stages to the host where the request was submitted.
+-- Outputs of jobs: into files of this host, or in stages to the host where the request was
+-- submitted.
 use Rattle.std.specs.Prelude.{ℕ, ◌+◌, Bool, nat_lt, nat_le, if◌then◌else◌, List, [], ◌∷◌, ◌++◌, map, Option, None, Some}
 use Rattle.std.specs.List.{list_any}
 use Rattle.nqs_state.specs.State.{State}

@@ -68,7 +68,8 @@ module _ {E : Type 0} where
   abbrev pub holding : Row E → Stepped E
   holding r = makes (HeldFar r.id) []
 
-  -- the row at a place of the list of rows, and its queue's device or destination at a place of that list
+  -- the row at a place of the list of rows, and its queue's device or destination at a place of
+  -- that list
 
   -- what is done with the request at a place
   abbrev pub with_row : ℕ → State E → (Row E → Option (Stepped E)) → Option (Stepped E)

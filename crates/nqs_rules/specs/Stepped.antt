@@ -89,8 +89,8 @@ shown (o, Some bytes) = with_bytes bytes o
 abbrev pub map_pending : {E F : Type 0} → (E → F) → Pending E → Pending F
 map_pending f p = (p.0, option_map f p.1)
 
--- E is what stands for the bytes that the spool keeps; bytes to be stored are the bytes themselves. A host that halts stops when
--- all that may start has started.
+-- E is what stands for the bytes that the spool keeps; bytes to be stored are the bytes themselves.
+-- A host that halts stops when all that may start has started.
 pub record Stepped (E : Type 0) : Type 0 where
   pub change : Option (Change (List ℕ))
   pub outputs : List (Pending E)
@@ -125,8 +125,8 @@ reads_from n (p ∷ ps) = read_at n p.1 ++ reads_from (n + 1) ps
 abbrev pub output_of : Pending Extent → Output
 output_of p = p.0
 
--- The change without extents, the bytes to be stored in their order, the outputs, what is to be read for them, and whether the
--- host halts.
+-- The change without extents, the bytes to be stored in their order, the outputs, what is to be
+-- read for them, and whether the host halts.
 abbrev pub plan_of : Stepped Extent → Plan
 plan_of s = record {
   change = option_map (map_change (λ _. no_extent)) s.change;

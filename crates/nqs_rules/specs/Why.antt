@@ -1,4 +1,5 @@
--- Why a request doesn't run, as it is told: the texts of reasons, and of the answers of destinations.
+-- Why a request doesn't run, as it is told: the texts of reasons, and of the answers of
+-- destinations.
 use Rattle.std.specs.Prelude.{ℕ, ◌==◌, nat_le, if◌then◌else◌, List, [], ◌∷◌, ◌++◌, map, codes, Option, None, Some}
 use Rattle.std.specs.Fmt.{decimal}
 use Rattle.nqs_text.specs.Dates.{date_text}
@@ -87,7 +88,8 @@ abbrev pub before_lines : RowState → ℕ → List Text
 before_lines state count = if is_queued state then (codes "Requests that wait before it: " ++ decimal count ++ codes ".") ∷ [] else []
 
 module _ {E : Type 0} where
-  -- what is told of a request at a moment: its reason, its destinations, and how many wait before it
+  -- what is told of a request at a moment: its reason, its destinations, and how many wait before
+  -- it
   abbrev pub why_lines : ℕ → State E → Row E → List Text
   why_lines now s r =
       reason_line s.site r.id r.queue (reason_of now s r) ∷ dest_lines s.site (reason_of now s r) (find_queue r.queue s) (answer_of now s r)

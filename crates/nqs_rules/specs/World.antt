@@ -1,4 +1,5 @@
--- A network of hosts as a pure machine of events. There is no byte of a disk in it: a stop is told by the count of device calls.
+-- A network of hosts as a pure machine of events. There is no byte of a disk in it: a stop is told
+-- by the count of device calls.
 use Rattle.std.specs.Prelude.{ℕ, zero, suc, ◌+◌, ◌-◌, ◌%◌, Bool, true, false, not, ◌&&◌, ◌||◌, ◌==◌, nat_le, nat_lt, max, if◌then◌else◌, List, [], ◌∷◌, ◌++◌}
 use Rattle.std.specs.Prelude.{map}
 use Rattle.std.specs.Prelude.{filter, length, slice_get, Option, None, Some}
@@ -56,9 +57,10 @@ pub record Calls : Type 0 where
   pub second : ℕ
   pub spool : ℕ
 
--- A host: whether it is up, its state, the states that its disks told before since they were new or last became the image
--- of a stop, the last of them first, what its next stop leaves of a write, its fuses, how many calls its disks have made,
--- what its disk `root` holds, which names the active journal, and how many records that journal has.
+-- A host: whether it is up, its state, the states that its disks told before since they were new or
+-- last became the image of a stop, the last of them first, what its next stop leaves of a write,
+-- its fuses, how many calls its disks have made, what its disk `root` holds, which names the active
+-- journal, and how many records that journal has.
 pub record Host : Type 0 where
   pub up : Bool
   pub state : Plain
@@ -116,7 +118,8 @@ no_calls = record { root = 0; first = 0; second = 0; spool = 0 }
 abbrev pub new_calls : Calls
 new_calls = record no_calls { first = 6 }
 
--- a host that was formatted and booted, each of which is one record, and by which its state stayed the same
+-- a host that was formatted and booted, each of which is one record, and by which its state stayed
+-- the same
 abbrev pub new_host : List Bytes → ℕ → Host
 new_host site place = let s = formatted (record { 0 = place }) site in record {
   up = true;
@@ -218,8 +221,8 @@ called Spool n c = record c { spool = c.spool + n }
 abbrev pub calling : Which → ℕ → Host → Host
 calling disk n h = record h { fuses = burnt_at disk n h.fuses; calls = called disk n h.calls }
 
--- A host that made a checkpoint: two calls of the other journal's disk and two of the root. The other journal is active, without
--- a record.
+-- A host that made a checkpoint: two calls of the other journal's disk and two of the root. The
+-- other journal is active, without a record.
 abbrev pub turns_over : Host → Host
 turns_over h = record (calling Root 2 (calling (resting h.root) 2 h)) { root = turned h.root; records = 0 }
 
@@ -235,7 +238,8 @@ falls_at_journal h = falls (fuse_of (resting h.root) h.fuses) 2
 abbrev pub falls_at_root : Host → Bool
 falls_at_root h = falls h.fuses.root 2
 
--- how a change without a checkpoint ends: the spool's calls come first, then the four of the active journal
+-- how a change without a checkpoint ends: the spool's calls come first, then the four of the active
+-- journal
 abbrev pub fate_of_record : List Bytes → Host → Fate
 fate_of_record puts h =
     let fuse = fuse_of (active h.root) h.fuses in
@@ -246,7 +250,8 @@ fate_of_record puts h =
 abbrev pub fate : List Bytes → Host → Fate
 fate puts h = if is_due h.records && (falls_at_journal h || falls_at_root h) then StoppedBefore else fate_of_record puts (ready h)
 
--- A host whose root was torn in a checkpoint. Where it names the other journal, that one has no record.
+-- A host whose root was torn in a checkpoint. Where it names the other journal, that one has no
+-- record.
 abbrev pub torn_over : Host → Host
 torn_over h = record h { root = torn_root h.tear h.root; records = if names_same h.root (torn_root h.tear h.root) then h.records else 0 }
 
@@ -271,7 +276,8 @@ stopped s h = record {
   records = h.records;
 }
 
--- a host that made the calls of a change, of which the spool's two for each list of bytes and the journal's four
+-- a host that made the calls of a change, of which the spool's two for each list of bytes and the
+-- journal's four
 abbrev pub wrote : List Bytes → Host → Host
 wrote puts h = recorded (calling (active h.root) 4 (calling Spool (spool_calls puts) h))
 
@@ -352,7 +358,8 @@ change_fated StoppedBefore h host why c first os w = seeing (seen.Stop h) (put_h
 change_fated StoppedAfter h host why c first os w =
     then_noted (Kept h why c ∷ []) (seeing (seen.Stop h) (put_host h (stopped (applied c host.state) (recorded (ready host))) w))
 
--- a host makes a change, which is seen first, and then come the outputs; a stop is all that is seen of it
+-- a host makes a change, which is seen first, and then come the outputs; a stop is all that is seen
+-- of it
 abbrev pub makes_change : HostId → Host → Why → Change Bytes → List Seen → List Output → World → Ran
 makes_change h host why c first os w = change_fated (fate (stored_parts c) host) h host why c first os w
 

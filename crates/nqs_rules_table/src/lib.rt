@@ -1,8 +1,8 @@
 //! The table of a network, made of the states of its hosts: where each request lies.
 //!
-//! `rows` has the rows of one host. Each call is the rule of its name in `nqs_rules` (specs/Net.antt), on the plain
-//! states that the hosts' states stand for: what a script says isn't in the table, so no spool is
-//! read.
+//! `rows` has the rows of one host. Each call is the rule of its name in `nqs_rules`
+//! (specs/Net.antt), on the plain states that the hosts' states stand for: what a script says isn't
+//! in the table, so no spool is read.
 #![tactic(auto)]
 
 mod rows;

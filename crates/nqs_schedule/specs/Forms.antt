@@ -11,7 +11,8 @@ use Rattle.nqs_schedule.specs.declared.cause.Cause.TheVariants as cause
 use Rattle.nqs_schedule.specs.declared.plan.Verb.{Verb}
 use Rattle.nqs_schedule.specs.declared.plan.Verb.TheVariants as verb
 
--- what may stand from a word of a line on, by the kind of that word, and the event that all of them make
+-- what may stand from a word of a line on, by the kind of that word, and the event that all of them
+-- make
 pub data Form : Type 0 where
   -- no such line, for this cause
   never : Cause → Form

@@ -83,7 +83,8 @@ generator_of seed = pcg32_of_seed (pcg32_seed 16 seed)
 abbrev pub booted : ℕ → List WorldEvent
 booted i = event.Boot (host i) ∷ []
 
--- the whole schedule: each host is set up, the events are drawn, each host is booted, and the table is shown
+-- the whole schedule: each host is set up, the events are drawn, each host is booted, and the table
+-- is shown
 unfoldable pub generated : ℕ → ℕ → ℕ → List WorldEvent
 generated seed hosts events = ((for_hosts (set_up hosts) hosts ++ drawn_from hosts 1 (generator_of seed) events) ++ for_hosts booted hosts) ++ event.Show ∷ []
 

@@ -76,7 +76,8 @@ NamesSite is_open v = (v ≡ verb.Hosts) × (is_open ≡ true)
 abbrev pub FirstFaults : List (List ℕ) → Bool → Bool → Verb → List (List ℕ) → Cause → Type 0
 FirstFaults site is_open bad v more why = (NamesSite is_open v × HostsFault bad more why) ⊎ ((NamesSite is_open v → ⊥) × Faults site bad (form_of v) more why)
 
--- no word is a bad quote at most; the first word is no verb; or it is one and the others are at fault
+-- no word is a bad quote at most; the first word is no verb; or it is one and the others are at
+-- fault
 abbrev pub WordsFault : List (List ℕ) → Bool → Bool → List (List ℕ) → Cause → Type 0
 WordsFault site is_open bad [] why = HasBadQuote bad why
 WordsFault site is_open bad (word ∷ more) why =

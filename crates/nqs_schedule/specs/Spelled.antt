@@ -1,4 +1,5 @@
--- Which words spell which event, and the first fault of words that spell none, apart from how they are read.
+-- Which words spell which event, and the first fault of words that spell none, apart from how they
+-- are read.
 use Rattle.std.specs.Prelude.{◌≡◌, ◌≢◌, ◌⊎◌, ◌↔◌, ◌<◌, ◌≤◌, ℕ, ◌+◌, Bool, true, false, List, [], ◌∷◌, ◌++◌, length, codes, Some, Ok, Err}
 use Rattle.std.specs.List.{position}
 use Rattle.nqs_base.specs.Same.{name_eq}
@@ -193,7 +194,8 @@ abbrev pub as_event : Read WorldEvent → Read Says
 as_event (Ok e) = Ok (Event e)
 as_event (Err why) = Err why
 
--- the line of a verb says the event that its words spell, and is bad by their first fault; each is just one of these
+-- the line of a verb says the event that its words spell, and is bad by their first fault; each is
+-- just one of these
 abbrev pub ReadsEvents : Type 0
 ReadsEvents = (site : List (List ℕ)) (line : List ℕ) (ws : LineWords) (v : Verb) (answer : Read WorldEvent)
     → event_says site line ws v ≡ as_event answer ↔ SpellsOrFaults site (qmgr_text line ws) ws.bad (form_of v) (words_behind ws 1) answer

@@ -12,7 +12,8 @@ use Rattle.nqs_schedule.specs.Schedule.{State, after}
 abbrev pub state_of : Reading → State
 state_of r = record { site = r.site; events = r.events; is_open = r.is_open }
 
--- a line that says something adds it; a bad one is named by its number, with the cause; memory may be wanting
+-- a line that says something adds it; a bad one is named by its number, with the cause; memory may
+-- be wanting
 abbrev pub TakesLine : State → List ℕ → ℕ → Result (Unit {0}) ScheduleFault → State → Type 0
 TakesLine old line number (Ok done) new = (says : Says) × (line_says old.site old.is_open line ≡ Ok says) × (new ≡ after old says)
 TakesLine old line number (Err (Bad fault)) new = (fault.line ≡ number) × (line_says old.site old.is_open line ≡ Err fault.cause)

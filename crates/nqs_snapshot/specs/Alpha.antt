@@ -5,7 +5,8 @@ use Rattle.std.specs.Prelude.{ℕ, List, [], ◌∷◌, ◌++◌}
 abbrev pub eight : ℕ → List ℕ
 eight n = 0x00 ∷ 0x00 ∷ 0x00 ∷ 0x00 ∷ 0x00 ∷ 0x00 ∷ 0x00 ∷ n ∷ []
 
--- batch: a batch queue that is enabled and stopped, for all; priority 31, run limit 1, no other limit, no destination, no device
+-- batch: a batch queue that is enabled and stopped, for all; priority 31, run limit 1, no other
+-- limit, no destination, no device
 abbrev pub batch_queue : List ℕ
 batch_queue =
     (0x05 ∷ 0x62 ∷ 0x61 ∷ 0x74 ∷ 0x63 ∷ 0x68 ∷ 0x00 ∷ 0x01 ∷ 0x00 ∷ 0x00 ∷ 0x1f ∷ 0x00 ∷ 0x01 ∷ 0x00 ∷ 0x00 ∷ 0x00 ∷ 0x00 ∷ [])
@@ -15,8 +16,9 @@ batch_queue =
 abbrev pub first_peer : List ℕ
 first_peer = eight 1 ++ eight 0 ++ eight 0 ++ eight 1 ++ eight 0
 
--- Host 0; one host, alpha; one queue; no complex, device, request, handover or promise; one peer; no stage or file; the manager root; no operator;
--- the default queue batch, 64 requests at once, 60 and 300 seconds; nothing given yet, and the next file 1.
+-- Host 0; one host, alpha; one queue; no complex, device, request, handover or promise; one peer;
+-- no stage or file; the manager root; no operator; the default queue batch, 64 requests at once, 60
+-- and 300 seconds; nothing given yet, and the next file 1.
 abbrev pub alpha_snapshot : List ℕ
 alpha_snapshot =
     (0x00 ∷ []) ++ eight 1 ++ (0x05 ∷ 0x61 ∷ 0x6c ∷ 0x70 ∷ 0x68 ∷ 0x61 ∷ [])

@@ -39,7 +39,8 @@ pub record IsUnsound (bytes : List ℕ) : Type 0 where
 abbrev pub SpellsNoneWith : List ℕ → Type 0
 SpellsNoneWith bytes = (more : List ℕ) (s : State Extent) → AreBytes more → MayStand s → bytes ++ more ≡ state_field s → ⊥
 
--- Short is told at the end, of each state cut off too; what follows a state, and a state that isn't in order, are told exactly. A bad field else is final.
+-- Short is told at the end, of each state cut off too; what follows a state, and a state that isn't
+-- in order, are told exactly. A bad field else is final.
 pub record HasFirstFaults (bytes : List ℕ) : Type 0 where
   pub short : (end : ℕ) → snapshot_of bytes ≡ Err (Short end) → end ≡ length bytes
   pub cut : IsCut bytes → snapshot_of bytes ≡ Err (Short (length bytes))

@@ -1,4 +1,5 @@
--- Writing and reading undo each other: a state in order has one spelling, and only that is read as it.
+-- Writing and reading undo each other: a state in order has one spelling, and only that is read as
+-- it.
 use Rattle.std.specs.Prelude.{◌≡◌, ◌↔◌, ℕ, List, Ok, Err}
 use Rattle.std.specs.declared.result.Result.{Result}
 use Rattle.nqs_base.specs.declared.extent.Extent.{Extent}

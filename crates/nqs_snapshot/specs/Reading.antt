@@ -1,4 +1,5 @@
--- What bytes are read as: the parts of a state one behind the other, then the state, where it is sound and nothing follows.
+-- What bytes are read as: the parts of a state one behind the other, then the state, where it is
+-- sound and nothing follows.
 use Rattle.std.specs.Prelude.{ℕ, nat_lt, List, length, if◌then◌else◌, Option, Ok, Err}
 use Rattle.nqs_base.specs.declared.extent.Extent.{Extent}
 use Rattle.nqs_state.specs.State.{State}

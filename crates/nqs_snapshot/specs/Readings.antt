@@ -1,4 +1,5 @@
--- Readings of the values of a snapshot, at a place of the bytes: the value and the place behind it, or the first fault from the left.
+-- Readings of the values of a snapshot, at a place of the bytes: the value and the place behind it,
+-- or the first fault from the left.
 use Rattle.std.specs.Prelude.{ℕ, Bool, ◌==◌, if◌then◌else◌, List, Option, Some, None}
 use Rattle.nqs_base.specs.declared.extent.Extent.{Extent}
 use Rattle.nqs_types.specs.declared.ids.RequestId.{RequestId}

@@ -1,4 +1,5 @@
--- The one spelling of a whole state: its fields one behind the other, in the field forms of journal records.
+-- The one spelling of a whole state: its fields one behind the other, in the field forms of journal
+-- records.
 use Rattle.std.specs.Prelude.{ℕ, List, [], ◌∷◌, ◌++◌, length, flat_map}
 use Rattle.nqs_codec.specs.Fields.{u8_field, u16_field, u32_field, u64_field, short_field, bool_field}
 use Rattle.nqs_base.specs.declared.extent.Extent.{Extent}
@@ -98,7 +99,8 @@ device_field d = fields (short_field d.name ∷ short_field d.forms ∷ bool_fie
 unfoldable pub refused_field : Refused → List ℕ
 refused_field r = fields (dest_field r.dest ∷ u8_field r.cause ∷ [])
 
--- where a request stands: its queue, how far it is, who holds it, its arrival, its counts, its device
+-- where a request stands: its queue, how far it is, who holds it, its arrival, its counts, its
+-- device
 unfoldable pub course_field : Row Extent → List ℕ
 course_field r = fields (
     short_field r.queue ∷ u8_field (state_number r.state) ∷ u8_field (hold_number r.hold) ∷ u64_field r.arrival ∷ bool_field r.doomed

@@ -1,4 +1,5 @@
--- What their types say of the values of a state: names are names, numbers fit, and lists can be counted.
+-- What their types say of the values of a state: names are names, numbers fit, and lists can be
+-- counted.
 use Rattle.std.specs.Prelude.{IsTrue}
 use Rattle.nqs_base.specs.Name.{IsName}
 use Rattle.nqs_base.specs.declared.extent.Extent.{Extent}

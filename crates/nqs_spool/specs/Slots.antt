@@ -16,7 +16,8 @@ abbrev pub widest_of : List Slot → ℕ
 widest_of [] = 0
 widest_of (slot ∷ slots) = max (gap_of slot) (widest_of slots)
 
--- Extents that aren't empty, in order of place, none of which meets another: each begins its free bytes where the one before ends.
+-- Extents that aren't empty, in order of place, none of which meets another: each begins its free
+-- bytes where the one before ends.
 abbrev pub IsRow : ℕ → List Slot → ℕ → Type 0
 IsRow from [] end = from ≡ end
 IsRow from (slot ∷ slots) end = (slot.from ≡ from) × (from ≤ slot.place) × (0 < slot.length) × IsRow (end_of slot) slots end

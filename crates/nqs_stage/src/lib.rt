@@ -1,9 +1,10 @@
 //! Outputs of jobs: into files of this host, or in stages to the host where the request was
 //! submitted.
 //!
-//! `part` has what of a job's outputs is kept, `end` the end of a job, `stage` stages that come and that arrived,
-//! `file` files that were written, `due` what is sent again. Each call is the rule of its name in `nqs_rules` (specs/Stage.antt);
-//! `docs/rules.md` says them in words. No call changes the state, and one fails for want of memory alone.
+//! `part` has what of a job's outputs is kept, `end` the end of a job, `stage` stages that come and
+//! that arrived, `file` files that were written, `due` what is sent again. Each call is the rule of
+//! its name in `nqs_rules` (specs/Stage.antt); `docs/rules.md` says them in words. No call changes
+//! the state, and one fails for want of memory alone.
 #![tactic(auto)]
 
 mod due;

@@ -11,7 +11,8 @@ module _ {E : Type 0} where
   abbrev pub runs_now : Row E → Bool
   runs_now r = is_running r.state
 
-  -- whether a row's request is less than another's, by the host of its submission and then by its number
+  -- whether a row's request is less than another's, by the host of its submission and then by its
+  -- number
   abbrev pub is_less_row : Row E → Row E → Bool
   is_less_row a b = is_less_id a.id b.id
 

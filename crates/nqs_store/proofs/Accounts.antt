@@ -1,4 +1,5 @@
--- The extents of a host after a change are those from before it, with the change's own, and without what it takes away.
+-- The extents of a host after a change are those from before it, with the change's own, and without
+-- what it takes away.
 use Rattle.std.proofs.Common.{◌≡◌, ℕ, ◌+◌, Bool, true, false, cond, not, ◌&&◌, nat_lt, IsTrue, if◌then◌else◌, List, [], ◌∷◌, ◌++◌, map, filter, find, Option}
 use Rattle.std.proofs.Common.{Some, None, refl, sym, ap, subst, ◌∙◌, append_assoc}
 use Rattle.std.specs.List.{filter_map, cons_option}

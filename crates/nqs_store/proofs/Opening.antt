@@ -71,7 +71,8 @@ module _ {D : Type 0} (tells : Bool) (history : D → History) (fails : D → �
   failed_at old now w which at is = subst (FailedToRead tells history fails faults old now) (sym at) (one_failed old now w is)
 
 module _ {D : Type 0} {g : disk.Ghosts D} (store : Store D g) where
-  -- a store over an open journal and an open spool, whose root names that journal, tells what they tell
+  -- a store over an open journal and an open spool, whose root names that journal, tells what they
+  -- tell
   pub opened_tells : (host : Host) → AreOpened (journal_in store.on_second store) store.spool host
       → is_second (content (history_of store Root)) ≡ store.on_second
       → IsQuiet (history_of store Root) → IsQuiet (history_of store (journal_on (not store.on_second))) → Tells store host

@@ -1,4 +1,5 @@
--- What a reading of a host's disks answers, from what the reading of the journal that the root names does.
+-- What a reading of a host's disks answers, from what the reading of the journal that the root
+-- names does.
 use Rattle.std.proofs.Common.{◌≡◌, ℕ, Bool, List, Result, Ok, Err, IfOk, IfErr, IsErrOf}
 use Rattle.nqs_state.specs.State.{content}
 use Rattle.nqs_state.specs.declared.state.HostState.{HostState}

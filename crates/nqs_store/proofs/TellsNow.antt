@@ -40,7 +40,8 @@ module _ {D : Type 0} {g : disk.Ghosts D} (store : Store D g) (host : Host) (tel
 
   module _ (images : Which → List ℕ) (named : is_second (images Root) ≡ store.on_second)
       (stands : StandsBy (images (journal_on store.on_second)) tells.has tells.snapshot tells.payloads) where
-    -- images whose root names the active journal, and in which it stands for the same, tell it where the spool's does
+    -- images whose root names the active journal, and in which it stands for the same, tell it
+    -- where the spool's does
     pub told_host : Rattle.nqs_spool.specs.Extents.AreSound (length (images Spool)) (Rattle.nqs_store.specs.Live.live host) → IsToldHost images host
     told_host sound = record {
       has = tells.has;

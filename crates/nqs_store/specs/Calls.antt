@@ -1,4 +1,5 @@
--- The contracts of calls that write a store's disks. What several of them leave is one record of facts, which each of them cites.
+-- The contracts of calls that write a store's disks. What several of them leave is one record of
+-- facts, which each of them cites.
 use Rattle.std.specs.Prelude.{◌≡◌, ◌⊎◌, ℕ, ◌≤◌, false, IsTrue, List, [], length, Ok, OnOk, OnErr, IsErrOf}
 use Rattle.std.specs.declared.result.Result.{Result}
 use Rattle.std.specs.List.{AllByRecursion}
@@ -47,7 +48,8 @@ pub record MayCommit (host : Host) (change : Change Extent) (puts : List (List �
   -- each of them is short enough for an extent
   pub short : AllByRecursion IsShortPut puts
 
--- memory was taken for all that keeping a change takes: room in the spool, a list of extents, and the text of its record
+-- memory was taken for all that keeping a change takes: room in the spool, a list of extents, and
+-- the text of its record
 pub record IsPrepared (free : ℕ) (extents : List Extent) (capacity : ℕ) (record_text : List ℕ) (change : Change Extent) (puts : List (List ℕ)) : Type 0 where
   -- there is room in the spool
   pub room : length puts ≤ free
@@ -191,12 +193,14 @@ module _ {D : Type 0} {g : disk.Ghosts D} {T E : Type 0} (old now : Store D g) w
       pub made : IsTrue g.tells → OnOk result (IsKept (active_of old) (fails_of old) puts (history_of old) (history_of now))
       -- the first of them were made, of which only the last may have failed
       pub broken_off : IsTrue g.tells → OnErr result (CommitsBy StopsShort (active_of old) puts (history_of old) (history_of now))
-      -- Which of them failed is the disk's to say, unless it is starved. Before the third call of the record the change isn't kept; from it
-      -- on the gate decides. Where it is a call of the root, the byte that the root then has names the active journal.
+      -- Which of them failed is the disk's to say, unless it is starved. Before the third call of
+      -- the record the change isn't kept; from it on the gate decides. Where it is a call of the
+      -- root, the byte that the root then has names the active journal.
       pub cut : IsTrue g.tells → Tells old host → (which : Which) → IsErrOf result (failed which) → IsTrue (is_starved now which)
           ⊎ IsCutAt (active_of old) (fails_of old) puts (history_of old) (history_of now) (plain_of old host) (state_after old change puts host) which
-      -- At each moment of them, whatever images the disks may leave, they tell the state before or the state after, with all bytes; and after
-      -- the last of them the active journal has one record more.
+      -- At each moment of them, whatever images the disks may leave, they tell the state before or
+      -- the state after, with all bytes; and after the last of them the active journal has one
+      -- record more.
       pub any_moment : IsTrue g.tells → Tells old host
           → Keeping (active_of old) puts (history_of old) (history_of now) (plain_of old host) (state_after old change puts host)
 
@@ -222,7 +226,8 @@ module _ {D : Type 0} {g : disk.Ghosts D} {T E : Type 0} (old now : Store D g) w
           → (which : Which) → IsErrOf result (failed which) → IsTrue (is_starved now which)
           ⊎ IsTurnCut (active_of old) (fails_of old) (history_of old) (history_of now) (plain_of old host) which
 
-    -- A checkpoint of the host is made: two calls of the other journal's disk and two of the root, or the first of them.
+    -- A checkpoint of the host is made: two calls of the other journal's disk and two of the root,
+    -- or the first of them.
     pub record Checkpoints (snapshot : List ℕ) (host : Host) : Type 0 where
       -- the other journal is the active one
       pub active : OnOk result (active_of now ≡ turned_to (active_of old))

@@ -19,15 +19,16 @@ use Rattle.nqs_store.specs.Told.{Host}
 use Rattle.nqs_store.specs.declared.store.Store.{Store}
 
 module _ {D : Type 0} {g : disk.Ghosts D} (Stands : List HostCall → List HostCall → Type 0) (old now : Store D g) where
-  -- The calls of a checkpoint were made, as far as it says. At each moment of them the images tell the state.
+  -- The calls of a checkpoint were made, as far as it says. At each moment of them the images tell
+  -- the state.
   pub record Turning (snapshot : List ℕ) (host : Host) : Type 0 where
     pub run : List HostCall
     pub stands : Stands (checkpoint_calls (active_of old) snapshot) run
     pub made : Runs (history_of old) (history_of now) run
     pub at : snapshot_of snapshot ≡ Ok host → Tells old host → Moments (history_of old) run (λ images. IsTold images (plain_of old host))
 
-  -- The calls of a change were made, as far as it says. At each moment of them the images tell the state before or the one after; and
-  -- where all were made, the journal has one record more.
+  -- The calls of a change were made, as far as it says. At each moment of them the images tell the
+  -- state before or the one after; and where all were made, the journal has one record more.
   pub record Changing (puts : List (List ℕ)) (host : Host) (later : Plain) : Type 0 where
     pub places : List ℕ
     pub gate : ℕ

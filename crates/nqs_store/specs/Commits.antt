@@ -60,8 +60,8 @@ IsBegun planned run = (run ≡ planned) ⊎ StopsShort planned run
 abbrev pub IsSettled : (Which → History) → List HostCall → Which → Type 0
 IsSettled old calls which = (after (state (old which)) (part which calls)).ranges ≡ []
 
--- A journal has one record more: each image that it might leave stood by one of the forms for some payloads, and each that it may
--- leave now stands for these and one more.
+-- A journal has one record more: each image that it might leave stood by one of the forms for some
+-- payloads, and each that it may leave now stands for these and one more.
 pub record HasOneMore (was now : History) : Type 0 where
   pub has : Bool
   pub snapshot : List ℕ
@@ -70,13 +70,15 @@ pub record HasOneMore (was now : History) : Type 0 where
   pub before : (image : List ℕ) → IsImage (state was) image → StandsBy image has snapshot payloads
   pub after : (image : List ℕ) → IsImage (state now) image → StandsBy image has snapshot (payloads ++ payload ∷ [])
 
--- what the journal that a change's record goes to did before that record: what it did before, and the calls of a checkpoint
+-- what the journal that a change's record goes to did before that record: what it did before, and
+-- the calls of a checkpoint
 abbrev pub before_record : Active → List ℕ → (Which → History) → History
 before_record a snapshot old = extended (old (journal_of (ready a))) (part (journal_of (ready a)) (due_calls a snapshot))
 
--- A change is kept, or was begun to be: the calls of its commit were made in their order over all disks, or the first of them.
--- At each moment of them whatever images the disks may leave tell the state before the change or the one after it, and at most
--- one of the disks has writes pending. Where all were made, the journal has one record more.
+-- A change is kept, or was begun to be: the calls of its commit were made in their order over all
+-- disks, or the first of them. At each moment of them whatever images the disks may leave tell the
+-- state before the change or the one after it, and at most one of the disks has writes pending.
+-- Where all were made, the journal has one record more.
 pub record Keeping (a : Active) (puts : List (List ℕ)) (old now : Which → History) (before later : Plain) : Type 0 where
   pub snapshot : List ℕ
   pub places : List ℕ
@@ -114,8 +116,8 @@ module _ (a : Active) (fails : Which → ℕ → Bool) (puts : List (List ℕ)) 
     pub root : now Root ≡ old Root
     pub told : LeavesHost now before a
 
-  -- A call of a checkpoint failed, by which the root is turned over. Only its first byte is pending, and whichever journal it names
-  -- tells the state before the change.
+  -- A call of a checkpoint failed, by which the root is turned over. Only its first byte is
+  -- pending, and whichever journal it names tells the state before the change.
   pub record IsCutAtRoot : Type 0 where
     pub due : IsTrue (is_due a.records)
     pub other : AreClear (fails (other_of a)) (moment (old (other_of a))) 2
@@ -132,7 +134,8 @@ module _ (a : Active) (fails : Which → ℕ → Bool) (puts : List (List ℕ)) 
     pub root : now Root ≡ extended (old Root) (root_calls a)
     pub told : LeavesHost now before (ready a)
 
-  -- A call of the active journal failed. The first two write the record, the third and the fourth its gate.
+  -- A call of the active journal failed. The first two write the record, the third and the fourth
+  -- its gate.
   pub record IsCutAtRecord : Type 0 where
     pub past : IsPast a fails old
     pub spool : AreClear (fails Spool) (moment (old Spool)) (spool_calls puts)

@@ -25,7 +25,8 @@ JournalIsAt which journal.TooLong fault = ⊥
 JournalIsAt which journal.Stopped fault = ⊥
 JournalIsAt which (journal.Memory memory) fault = fault ≡ load.Memory want
 
--- why a snapshot, if there is one, and records tell no host, on the disk that they stand on; want of memory is free
+-- why a snapshot, if there is one, and records tell no host, on the disk that they stand on; want
+-- of memory is free
 abbrev pub IsHostFault : Which → Bool → List ℕ → List (List ℕ) → LoadFault → Type 0
 IsHostFault on has snapshot payloads (load.Disk which) = ⊥
 IsHostFault on has snapshot payloads (load.NotNqs which place) = (which ≡ on) × IsUntoldBy has snapshot payloads place
@@ -49,15 +50,16 @@ IsReadFault on has snapshot payloads spool (load.NotNqs which place) =
     ((which ≡ on) × IsUntoldBy has snapshot payloads place) ⊎ ((which ≡ Spool) × IsSpoolFault has snapshot payloads spool place)
 IsReadFault on has snapshot payloads spool (load.Memory memory) = Unit {0}
 
--- why the bytes of a journal on this disk, and those of a spool, are no host's: the journal has neither form from this place on, or what
--- it stands for is at fault
+-- why the bytes of a journal on this disk, and those of a spool, are no host's: the journal has
+-- neither form from this place on, or what it stands for is at fault
 abbrev pub IsBytesFault : Which → (journal spool : List ℕ) → LoadFault → Type 0
 IsBytesFault on bytes spool fault =
     ((journal : JournalFault) × faults.IsEitherLoadFault bytes journal × JournalIsAt on journal fault)
     ⊎ ((has : Bool) × (snapshot : List ℕ) × (payloads : List (List ℕ)) × StandsBy bytes has snapshot payloads
     × IsReadFault on has snapshot payloads spool fault)
 
--- Why the bytes of a host's disks are no host's: the root can't be read, or the journal that it names and the spool are at fault.
+-- Why the bytes of a host's disks are no host's: the root can't be read, or the journal that it
+-- names and the spool are at fault.
 abbrev pub IsLoadFault : (bytes : Which → List ℕ) → LoadFault → Type 0
 IsLoadFault bytes fault =
     ((fault ≡ load.Disk Root) ⊎ (fault ≡ load.Memory want))

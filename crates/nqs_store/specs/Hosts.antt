@@ -43,7 +43,8 @@ EachMoment old now P = (run : List HostCall) × Runs old now run × EachPrefix o
 abbrev pub failed_on : HostCall → HostCall
 failed_on call = (call.0, failed call.1)
 
--- A prefix of the planned calls was made, of which only the last may have failed, and not all were made and answered Ok.
+-- A prefix of the planned calls was made, of which only the last may have failed, and not all were
+-- made and answered Ok.
 abbrev pub StopsShort : List HostCall → List HostCall → Type 0
 StopsShort [] calls = ⊥
 StopsShort (plan ∷ planned) [] = Unit {0}

@@ -10,7 +10,8 @@ use Rattle.nqs_store.specs.Told.{Host, told_by}
 use Rattle.nqs_spool.specs.Extents.{AreSound}
 use Rattle.nqs_store.specs.Live.{live, bytes_at}
 
--- The journal that the root names tells this host by one of its forms, and its live extents are sound in the spool.
+-- The journal that the root names tells this host by one of its forms, and its live extents are
+-- sound in the spool.
 pub record IsToldHost (images : Which → List ℕ) (host : Host) : Type 0 where
   pub has : Bool
   pub snapshot : List ℕ

@@ -54,7 +54,8 @@ module _ {D : Type 0} {g : disk.Ghosts D} where
     pub records : told_by has snapshot payloads ≡ Some host
     pub spool : spool.Tells s (live host)
 
-  -- A spool is opened with the set of its live extents, and the other journal is laid at rest; or their disks are handed back.
+  -- A spool is opened with the set of its live extents, and the other journal is laid at rest; or
+  -- their disks are handed back.
   pub record LaysAtRest (on_resting on_spool : D) (extents : LiveExtents) (result : Result (Journal D g × Spool D g) (LoadFault × D × D)) : Type 0 where
     -- the spool tells the extents whose set it is
     pub tells : IfOk result (λ r. (live : List Extent) → Covers (kept extents) live
@@ -65,8 +66,8 @@ module _ {D : Type 0} {g : disk.Ghosts D} where
     -- only memory may be wanting
     pub fault : IfErr result (λ e. e.0 ≡ load.Memory want)
 
-  -- A journal, which stands on this disk, and a spool are opened, the other journal is laid at rest, and the host is told; or their disks
-  -- are handed back.
+  -- A journal, which stands on this disk, and a spool are opened, the other journal is laid at
+  -- rest, and the host is told; or their disks are handed back.
   pub record OpensWith (on : Which) (on_active on_resting on_spool : D)
       (result : Result (Journal D g × Journal D g × Spool D g × HostState) (LoadFault × D × D × D)) : Type 0 where
     -- the journal and the spool tell the host
@@ -94,7 +95,8 @@ module _ {D : Type 0} {g : disk.Ghosts D} where
         (λ e. OnlyReadsOne g.tells g.history g.fails g.starved g.faults on_spool e.3)
 
 module _ {D : Type 0} {g : disk.Ghosts D} where
-  -- The disks of a host are opened whose root names the journal on `second`, or the other; or they are handed back.
+  -- The disks of a host are opened whose root names the journal on `second`, or the other; or they
+  -- are handed back.
   pub record OpensOn (second : Bool) (on_root on_active on_resting on_spool : D) (result : Result (Store D g × HostState) (LoadFault × Disks D)) : Type 0 where
     -- the journal and the spool tell the host
     pub opened : IsTrue g.tells → IfOk result (λ r. AreOpened (store.journal_in second r.0) r.0.spool (content r.1))

@@ -17,7 +17,8 @@ puts_calls [] puts = []
 puts_calls (place ∷ places) [] = []
 puts_calls (place ∷ places) (put ∷ puts) = put_calls place put ++ puts_calls places puts
 
--- A checkpoint: the other journal's text, which begins with the snapshot, and then the root's byte, which names that journal.
+-- A checkpoint: the other journal's text, which begins with the snapshot, and then the root's byte,
+-- which names that journal.
 abbrev pub checkpoint_calls : Active → List ℕ → List HostCall
 checkpoint_calls a snapshot = on (other_of a) (front_calls (snapshot_front snapshot)) ++ on Root (begin_calls (byte_of (not a.second) ∷ []))
 
@@ -33,7 +34,8 @@ change_calls a places puts gate payload = on Spool (puts_calls places puts) ++ o
 abbrev pub commit_calls : Active → List ℕ → List ℕ → List (List ℕ) → ℕ → List ℕ → List HostCall
 commit_calls a snapshot places puts gate payload = due_calls a snapshot ++ change_calls (ready a) places puts gate payload
 
--- Some run leads from what the disks did before to what they did now, and stands so to the calls of a commit of these bytes.
+-- Some run leads from what the disks did before to what they did now, and stands so to the calls of
+-- a commit of these bytes.
 pub record CommitsBy (Stands : List HostCall → List HostCall → Type 0) (a : Active) (puts : List (List ℕ)) (old now : Which → History) : Type 0 where
   pub snapshot : List ℕ
   pub places : List ℕ

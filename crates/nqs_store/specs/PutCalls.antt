@@ -27,7 +27,8 @@ pub record WritesChange (change : Change Extent) (result : Result (Vec ℕ) Stor
   -- only memory may be wanting
   pub fault : IfErr result (λ fault. fault ≡ store.Memory want)
 
--- Bytes may be put into a spool that has room for so many lists of them, and their extents into a list of so many.
+-- Bytes may be put into a spool that has room for so many lists of them, and their extents into a
+-- list of so many.
 pub record MayPut (free listed capacity : ℕ) (puts : List (List ℕ)) : Type 0 where
   -- there is room in the spool
   pub room : length puts ≤ free
@@ -48,7 +49,8 @@ pub record MayPutFor (free : ℕ) (extents : List Extent) (capacity : ℕ) (reco
   pub prepared : IsPrepared free extents capacity record_text change puts
 
 module _ {D : Type 0} {g : disk.Ghosts D} (old now : Spool D g) where
-  -- Memory is taken for all that keeping a change takes, and its record is written. No call is made.
+  -- Memory is taken for all that keeping a change takes, and its record is written. No call is
+  -- made.
   pub record Prepares (change : Change Extent) (puts : List (List ℕ)) (result : Result (Vec ℕ × Vec Extent) StoreFault) : Type 0 where
     -- the record spells the change, and is short enough
     pub text : IfOk result (λ r. (r.0.items ≡ spelling change) × (vec_len r.0 ≤ 65536))

@@ -47,7 +47,8 @@ module _ {D E : Type 0} (tells : Bool) (history : D → History) (fails : D → 
     pub reads : OnlyReadsOne tells history fails starves faults old now
 
 module _ {D : Type 0} (tells : Bool) (history : D → History) (fails : D → ℕ → Bool) (starves : D → Bool) (faults : D → ℕ) where
-  -- The host that a snapshot, if there is one, and records of a journal on this disk tell, with the set of its live extents in a spool.
+  -- The host that a snapshot, if there is one, and records of a journal on this disk tell, with the
+  -- set of its live extents in a spool.
   pub record ReadsHost (on : Which) (has : Bool) (snapshot : List ℕ) (payloads : List (List ℕ)) (old now : D)
       (result : Result (HostState × LiveExtents) LoadFault) : Type 0 where
     -- the host is told, and sound, and the set is that of its extents

@@ -75,7 +75,8 @@ module _ {D : Type 0} {g : disk.Ghosts D} where
         (λ image. StandsAfter front image payloads) (λ image. StandsAfter front image (payloads ++ text ∷ []))
 
 module _ {D T E : Type 0} (tells : Bool) (history : D → History) (fails : D → ℕ → Bool) (starves : D → Bool) (faults : D → ℕ) where
-  -- The first byte of a root names a journal, or one of the two calls failed that write and sync it.
+  -- The first byte of a root names a journal, or one of the two calls failed that write and sync
+  -- it.
   pub record Names (second : Bool) (old now : D) (result : Result T E) : Type 0 where
     -- both were made
     pub made : IsTrue tells → OnOk result (history now ≡ extended (history old) (begin_calls (byte_of second ∷ [])))

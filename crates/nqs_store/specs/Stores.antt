@@ -47,8 +47,8 @@ module _ {D : Type 0} {g : disk.Ghosts D} where
   abbrev pub active_of : Store D g → Active
   active_of store = record { second = store.on_second; records = journal.count_of (journal_in store.on_second store) }
 
-  -- The root names the active journal, whose records tell this host, and its live extents are those of the spool. Nothing is
-  -- pending on any of the disks.
+  -- The root names the active journal, whose records tell this host, and its live extents are those
+  -- of the spool. Nothing is pending on any of the disks.
   pub record Tells (store : Store D g) (host : Host) : Type 0 where
     pub has : Bool
     pub snapshot : List ℕ

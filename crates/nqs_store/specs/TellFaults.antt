@@ -10,7 +10,8 @@ abbrev pub IsRefused : ℕ → Type 0 → TellFault → Type 0
 IsRefused place Bad (Untold at) = (at ≡ place) × Bad
 IsRefused place Bad (Memory memory) = Unit {0}
 
--- The first record that doesn't fit what a host and those before it tell. Of the first of them the gate stands at the place.
+-- The first record that doesn't fit what a host and those before it tell. Of the first of them the
+-- gate stands at the place.
 pub record IsBadFrom (host : Host) (place : ℕ) (payloads : List (List ℕ)) (at : ℕ) : Type 0 where
   pub before : List (List ℕ)
   pub payload : List ℕ

@@ -45,12 +45,14 @@ abbrev pub told_behind : Read Host → List (List ℕ) → Option Host
 told_behind (Ok host) payloads = told_from (Some host) payloads
 told_behind (Err fault) payloads = None
 
--- the host that a journal of either form tells, as it begins with a snapshot or not, if it tells one
+-- the host that a journal of either form tells, as it begins with a snapshot or not, if it tells
+-- one
 abbrev pub told_by : Bool → List ℕ → List (List ℕ) → Option Host
 told_by false snapshot payloads = told payloads
 told_by true snapshot payloads = told_behind (snapshot_of snapshot) payloads
 
--- The first record that is no change or doesn't fit what those before it tell. Its gate stands at the place.
+-- The first record that is no change or doesn't fit what those before it tell. Its gate stands at
+-- the place.
 pub record IsBadRecord (payloads : List (List ℕ)) (place : ℕ) : Type 0 where
   pub before : List (List ℕ)
   pub payload : List ℕ
@@ -64,7 +66,8 @@ pub record IsBadRecord (payloads : List (List ℕ)) (place : ℕ) : Type 0 where
 abbrev pub IsUntold : List (List ℕ) → ℕ → Type 0
 IsUntold payloads place = ((payloads ≡ []) × (place ≡ 16)) ⊎ IsBadRecord payloads place
 
--- The first record that is no change or doesn't fit what a host and those before it tell. Its gate stands at the place behind a front.
+-- The first record that is no change or doesn't fit what a host and those before it tell. Its gate
+-- stands at the place behind a front.
 pub record IsBadRecordBehind (front : List ℕ) (host : Host) (payloads : List (List ℕ)) (place : ℕ) : Type 0 where
   pub before : List (List ℕ)
   pub payload : List ℕ
@@ -74,7 +77,8 @@ pub record IsBadRecordBehind (front : List ℕ) (host : Host) (payloads : List (
   pub bad : record_taken payload (told_from (Some host) before) ≡ None
   pub at : place ≡ length (front ++ records before)
 
--- why a snapshot and the payloads behind it tell no host: it is no spelling of one, or a record is bad
+-- why a snapshot and the payloads behind it tell no host: it is no spelling of one, or a record is
+-- bad
 abbrev pub IsUntoldBehind : Read Host → List ℕ → List (List ℕ) → ℕ → Type 0
 IsUntoldBehind (Ok host) snapshot payloads place = IsBadRecordBehind (snapshot_front snapshot) host payloads place
 IsUntoldBehind (Err fault) snapshot payloads place = place ≡ 24

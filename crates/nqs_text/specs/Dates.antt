@@ -31,12 +31,14 @@ month_days year month =
     if month == 2 then (if is_leap year then 29 else 28)
     else (if (month == 4) || (month == 6) || (month == 9) || (month == 11) then 30 else 31)
 
--- days counted from the first of a year: the year that they fall into, among so many from there on, and the days left of it
+-- days counted from the first of a year: the year that they fall into, among so many from there on,
+-- and the days left of it
 unfoldable pub year_of : ℕ → ℕ → ℕ → ℕ × ℕ
 year_of zero year days = (year, days)
 year_of (suc n) year days = if nat_lt days (year_days year) then (year, days) else year_of n (year + 1) (days - year_days year)
 
--- days counted from the first of a month of a year: the month that they fall into, among so many from there on, and the days left of it
+-- days counted from the first of a month of a year: the month that they fall into, among so many
+-- from there on, and the days left of it
 unfoldable pub month_of : ℕ → ℕ → ℕ → ℕ → ℕ × ℕ
 month_of zero year month days = (month, days)
 month_of (suc n) year month days =

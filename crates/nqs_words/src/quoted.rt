@@ -1,6 +1,6 @@
 //! Quoted words. A word that begins with a quote ends at the next quote that isn't escaped; within
-//! it `\n`,
-//! `\"` and `\\` stand for a line feed, a quote and a backslash, and no other byte may follow a backslash.
+//! it `\n`, `\"` and `\\` stand for a line feed, a quote and a backslash, and no other byte may
+//! follow a backslash.
 
 ghost use Rattle.std.specs.Prelude.{◌≡◌, ◌≤◌, length, IfOk};
 ghost use Rattle.nqs_words.specs.Quoted.{step_of, escape_of, ReadsQuoted};

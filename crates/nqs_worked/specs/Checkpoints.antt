@@ -22,7 +22,8 @@ told_from root records acts = transcript one_host (seen_of (run acts (nearly_ful
 abbrev pub journals_from : List ℕ → ℕ → List Act → List (List ℕ × ℕ × Calls)
 journals_from root records acts = map (λ h. (h.root, h.records, h.calls)) (run acts (nearly_full root records)).world.hosts
 
--- A stop falls in the root's write of a checkpoint, the host boots, and then the disk of the journal that was the active one is fused.
+-- A stop falls in the root's write of a checkpoint, the host boots, and then the disk of the
+-- journal that was the active one is fused.
 abbrev pub stop_at_the_root : Tear → List Act
 stop_at_the_root tear =
     submits (codes "ann") (codes "batch")
@@ -34,7 +35,8 @@ stop_at_the_root tear =
     ∷ Shows
     ∷ []
 
--- a boot is stopped in its checkpoint, and again: at a sync of the other journal, then at one of the root
+-- a boot is stopped in its checkpoint, and again: at a sync of the other journal, then at one of
+-- the root
 abbrev pub boot_stops_twice : Tear → Tear → List Act
 boot_stops_twice first second =
     submits (codes "ann") (codes "batch")
@@ -47,7 +49,8 @@ boot_stops_twice first second =
     ∷ Shows
     ∷ []
 
--- the start of a request begins with a checkpoint, in which a stop falls; what ran nowhere is started behind the boot
+-- the start of a request begins with a checkpoint, in which a stop falls; what ran nowhere is
+-- started behind the boot
 abbrev pub start_turns_over : List Act
 start_turns_over =
     edits (Conf (StartQueue (codes "batch")))
@@ -57,7 +60,8 @@ start_turns_over =
     ∷ Shows
     ∷ []
 
--- The fuse of a journal that rests waits until a checkpoint comes to its disk, whose two calls it outlasts, and the next record.
+-- The fuse of a journal that rests waits until a checkpoint comes to its disk, whose two calls it
+-- outlasts, and the next record.
 abbrev pub fuse_waits : List Act
 fuse_waits =
     Fuse (host 0) First 7 New

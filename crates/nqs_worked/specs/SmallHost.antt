@@ -11,7 +11,8 @@ use Rattle.nqs_types.specs.declared.edit.AccessEdit.TheVariants.{SetUnrestricted
 use Rattle.nqs_types.specs.declared.edit.DevicesEdit.TheVariants.{CreateDevice, EnableDevice, AddDevice}
 use Rattle.nqs_types.specs.declared.edit.RowsEdit.TheVariants.{AbortQueue, HoldRequest, ReleaseRequest, MoveRequest, ModifyRequest}
 
--- an owner has so many requests running as the queue allows, and who waits for that keeps back no one
+-- an owner has so many requests running as the queue allows, and who waits for that keeps back no
+-- one
 abbrev pub owner_has_a_limit : List Act
 owner_has_a_limit =
     edits (Conf (SetRunLimit 5 (codes "batch")))
@@ -67,7 +68,8 @@ all_batch_queues_have_a_limit =
     ∷ edits (Limits (SetGlobalLimit 2))
     ∷ []
 
--- a running request is told to end by a deletion with kill or by an abort of its queue, again each time, and is lost with its host
+-- a running request is told to end by a deletion with kill or by an abort of its queue, again each
+-- time, and is lost with its host
 abbrev pub jobs_are_told_to_end : List Act
 jobs_are_told_to_end =
     edits (Conf (SetRunLimit 2 (codes "batch")))
@@ -123,7 +125,8 @@ requests_are_held_and_moved =
     ∷ Asks (host 0) (codes "ann") (Stat None [])
     ∷ []
 
--- a request with an earliest start waits for it, keeps back no one, and starts at the first event then
+-- a request with an earliest start waits for it, keeps back no one, and starts at the first event
+-- then
 abbrev pub request_waits_for_its_start : List Act
 request_waits_for_its_start =
     edits (Conf (StartQueue (codes "batch")))
@@ -158,7 +161,8 @@ pipe_queue_tries_the_next =
     ∷ Shows
     ∷ []
 
--- the queue of greatest priority starts first, among equals the first created, and one that can't start keeps back no one
+-- the queue of greatest priority starts first, among equals the first created, and one that can't
+-- start keeps back no one
 abbrev pub queues_have_priorities : List Act
 queues_have_priorities =
     edits (Conf (CreateBatchQueue (codes "night") None None false))

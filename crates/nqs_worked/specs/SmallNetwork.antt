@@ -116,7 +116,8 @@ stages_repeat =
     ∷ Ticks (host 0)
     ∷ []
 
--- an offer without an answer is taken back, the peer is waited for, and the next offer has the next number
+-- an offer without an answer is taken back, the peer is waited for, and the next offer has the next
+-- number
 abbrev pub peer_is_silent : List Act
 peer_is_silent =
     edits (Conf (CreatePipeQueue (codes "link") None None false (Some (typed (codes "batch") (codes "beta")))))
@@ -208,7 +209,8 @@ request_comes_back =
     ∷ Delivers 1
     ∷ []
 
--- a queue with a promise is in use, and a request that its own host gave up may be promised and lie elsewhere
+-- a queue with a promise is in use, and a request that its own host gave up may be promised and lie
+-- elsewhere
 abbrev pub promises_count_for_a_queue : List Act
 promises_count_for_a_queue =
     edits (Conf (CreatePipeQueue (codes "link") None None false (Some (typed (codes "batch") (codes "beta")))))

@@ -96,7 +96,8 @@ rows_come_back_in_order =
     ∷ Shows
     ∷ []
 
--- each output that has bytes takes two calls of the spool, and a call that isn't made counts for no fuse
+-- each output that has bytes takes two calls of the spool, and a call that isn't made counts for no
+-- fuse
 abbrev pub outputs_meet_fuses : List Act
 outputs_meet_fuses =
     edits (Conf (StartQueue (codes "batch")))
@@ -114,7 +115,8 @@ outputs_meet_fuses =
     ∷ Shows
     ∷ []
 
--- a later fuse replaces the count of its disk and the tear of its host, a stop takes all fuses away, and one of 0 is one of 1
+-- a later fuse replaces the count of its disk and the tear of its host, a stop takes all fuses
+-- away, and one of 0 is one of 1
 abbrev pub fuses_are_replaced : List Act
 fuses_are_replaced =
     Fuse (host 0) First 1 Old

@@ -12,7 +12,8 @@ use Rattle.nqs_types.specs.declared.edit.RowsEdit.TheVariants.{HoldRequest}
 abbrev pub asks_why : List ℕ → ℕ → Act
 asks_why user seq = Asks (host 0) user (Why (named seq (codes "alpha")))
 
--- one host: a stopped queue, a run limit, a hold, an earliest start, a user limit, a moment at which nothing hinders, and no request
+-- one host: a stopped queue, a run limit, a hold, an earliest start, a user limit, a moment at
+-- which nothing hinders, and no request
 abbrev pub a_host_says_why : List Act
 a_host_says_why =
     submits (codes "ann") (codes "batch")

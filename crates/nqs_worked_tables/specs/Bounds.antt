@@ -1,4 +1,5 @@
--- Values at their bounds: edits, jobs, requests on their way, changes, commands, datagrams and events.
+-- Values at their bounds: edits, jobs, requests on their way, changes, commands, datagrams and
+-- events.
 use Rattle.std.specs.Prelude.{ℕ, true, false, List, [], ◌∷◌, replicate, codes, None, Some}
 use Rattle.nqs_worked.specs.ScheduleWords.{host, request, named, typed, job_of, bad_words}
 use Rattle.nqs_worked.specs.Definitions.{far_carried}

@@ -8,7 +8,8 @@ use Rattle.nqs_base.specs.declared.tear.Tear.TheVariants.{Old, New, Mixed}
 use Rattle.nqs_types.specs.declared.world.Which.{Which}
 use Rattle.nqs_types.specs.declared.change.Change.TheVariants.{Submitted}
 
--- a host whose root is this, and whose active journal has so many records, with these fuses and this tear
+-- a host whose root is this, and whose active journal has so many records, with these fuses and
+-- this tear
 abbrev pub journaled : List ℕ → ℕ → Fuses → Tear → Host
 journaled root records fuses tear = record (new_host one_host 0) { tear = tear; fuses = fuses; root = root; records = records }
 

@@ -1,4 +1,5 @@
--- States in which something is to be started: limits at their bounds, rows and queues in each order, devices and destinations.
+-- States in which something is to be started: limits at their bounds, rows and queues in each
+-- order, devices and destinations.
 use Rattle.std.specs.Prelude.{ℕ, true, false, Bool, List, [], ◌∷◌, map, codes, Option, None, Some}
 use Rattle.nqs_state.specs.State.{Plain}
 use Rattle.nqs_rules.specs.Format.{first_queue, new_queue, new_peer}
@@ -25,7 +26,8 @@ night = new_queue (codes "night") Batch None None false []
 abbrev pub runs : ℕ → List ℕ → Row (List ℕ)
 runs seq q = record (in_queue q (queued seq)) { state = Running; starts = 1 }
 
--- Two requests run in the queue batch, one on its way counts for it, and one waits; one runs in night, and two in a device queue.
+-- Two requests run in the queue batch, one on its way counts for it, and one waits; one runs in
+-- night, and two in a device queue.
 abbrev pub loaded : Plain
 loaded = record fresh {
   queues = first_queue ∷ night ∷ printer ∷ link ∷ [];
@@ -95,7 +97,8 @@ ready_queue name priority = record (new_queue name Batch (Some priority) None fa
 abbrev pub device : List ℕ → List ℕ → Bool → DeviceDef
 device name forms enabled = record { name = name; forms = forms; enabled = enabled }
 
--- a device queue with five devices: one is busy, one is disabled, one isn't there, two are free with other forms
+-- a device queue with five devices: one is busy, one is disabled, one isn't there, two are free
+-- with other forms
 abbrev pub five_devices : QueueDef
 five_devices = record printer { started = true; devices = codes "busy" ∷ codes "off" ∷ codes "gone" ∷ codes "red" ∷ codes "blue" ∷ [] }
 
@@ -122,7 +125,8 @@ to place = record { queue = codes "batch"; host = host place }
 abbrev pub fork : QueueDef
 fork = record link { started = true; dests = to 1 ∷ to 2 ∷ to 0 ∷ [] }
 
--- a host among three that has the fork, with what it knows of the second host and what is on its way
+-- a host among three that has the fork, with what it knows of the second host and what is on its
+-- way
 abbrev pub crossing : Peer → List Hand → Plain
 crossing p hands = record fresh {
   site = codes "alpha" ∷ codes "beta" ∷ codes "gamma" ∷ [];

@@ -69,6 +69,7 @@ promising = record (route (queued 1) (record new_peer { closed = 4 }) []) { prom
 abbrev pub promised : ℕ → Change (List ℕ)
 promised n = Promised (host 1) n (codes "batch") far_carried []
 
--- the host is so full that the next promise is one too many, unless it takes the place of another one
+-- the host is so full that the next promise is one too many, unless it takes the place of another
+-- one
 abbrev pub full_for : ℕ → ℕ → Bool
 full_for peer n = fitting (Promised (host peer) 9 (codes "batch") far_carried []) (crowded n)

@@ -54,7 +54,8 @@ queue_bounds =
 abbrev pub complex : ℕ → List (List ℕ) → ComplexDef
 complex limit queues = record (new_complex (codes "c")) { limit = limit; queues = queues }
 
--- a host of two that has given 9 numbers and 9 arrivals, with a link, a device, and this row as its only one
+-- a host of two that has given 9 numbers and 9 arrivals, with a link, a device, and this row as its
+-- only one
 abbrev pub home : Row (List ℕ) → Plain
 home r = record with_link { devices = new_device (codes "laser") (codes "plain") ∷ []; rows = r ∷ []; seq = 9; arrivals = 9 }
 
@@ -119,7 +120,8 @@ promise_bounds =
 abbrev pub hand : ℕ → ℕ → RequestId → Phase → Hand
 hand to number id phase = record { peer = host to; number = number; id = id; queue = codes "batch"; since = 0; phase = phase }
 
--- a host on whose way is its request 1, that runs its request 2, and whose next handover to the other one is 3
+-- a host on whose way is its request 1, that runs its request 2, and whose next handover to the
+-- other one is 3
 abbrev pub handing : Plain
 handing = record (home (on_the_way 1)) {
   rows = on_the_way 1 ∷ record (started 1 0) { id = request 2 0 } ∷ record (queued 3) { hops = 1 }
@@ -144,7 +146,8 @@ with_hands n = record fresh { hands = replicate n (hand 1 1 (request 8 0) Commit
 abbrev pub staging : Plain
 staging = record fresh { peers = new_peer ∷ record new_peer { stage_next = 3 } ∷ []; file_next = 3 }
 
--- lists of everything that has a key, each key once: names that differ, numbers that differ or whose hosts differ
+-- lists of everything that has a key, each key once: names that differ, numbers that differ or
+-- whose hosts differ
 abbrev pub apart : Plain
 apart = record fresh {
   queues = first_queue ∷ record first_queue { name = codes "bat" } ∷ record first_queue { name = codes "batch2" } ∷ [];

@@ -35,7 +35,8 @@ told s r = reason_of 50 (record s { rows = s.rows ++ r ∷ [] }) r
 abbrev pub complex : List ℕ → ℕ → ComplexDef
 complex name limit = record { name = name; limit = limit; queues = codes "night" ∷ codes "batch" ∷ [] }
 
--- a host where a request of ann's and one of bob's run in the queue batch, which is started or not and has these limits, as two complexes and the host have
+-- a host where a request of ann's and one of bob's run in the queue batch, which is started or not
+-- and has these limits, as two complexes and the host have
 abbrev pub busy : Bool → Option ℕ → ℕ → ℕ → ℕ → ℕ → Plain
 busy started user run one two global = record fresh {
   queues = record first_queue { started = started; user_limit = user; run_limit = run } ∷ [];
@@ -52,7 +53,8 @@ without_queue = record fresh { queues = [] }
 abbrev pub device : List ℕ → List ℕ → Bool → DeviceDef
 device name forms enabled = record { name = name; forms = forms; enabled = enabled }
 
--- A host where a request of ann's is printed by the device queue lp on the device ink. The queue is started or not, has these limits and these devices.
+-- A host where a request of ann's is printed by the device queue lp on the device ink. The queue is
+-- started or not, has these limits and these devices.
 abbrev pub printing : Bool → Option ℕ → ℕ → List (List ℕ) → Plain
 printing started user run devices = record fresh {
   queues = record first_queue { name = codes "lp"; kind = Device; started = started; user_limit = user; run_limit = run; devices = devices } ∷ [];
@@ -66,7 +68,8 @@ printing started user run devices = record fresh {
 abbrev pub to_print : Option (List ℕ) → Row (List ℕ)
 to_print forms = record (queued 9) { queue = codes "lp"; job = record (job_of (codes "ann")) { forms = forms } }
 
--- A host whose pipe queue link has a destination on the other host, to which a request of ann's is on its way. The queue is started or not, with these limits.
+-- A host whose pipe queue link has a destination on the other host, to which a request of ann's is
+-- on its way. The queue is started or not, with these limits.
 abbrev pub moving : Bool → Option ℕ → ℕ → Plain
 moving started user run = record fresh {
   queues = record link { started = started; user_limit = user; run_limit = run } ∷ [];
@@ -108,7 +111,8 @@ of_bob priority arrival = record (ranked priority arrival) { job = record (job_o
 abbrev pub hand : Hand
 hand = record { peer = host 1; number = 1; id = request 1 0; queue = codes "batch"; since = 7; phase = Committed }
 
--- What a destination answered a request at the moment 50, in a host with these handovers that knows this of the other one. These destinations refused it by 19.
+-- What a destination answered a request at the moment 50, in a host with these handovers that knows
+-- this of the other one. These destinations refused it by 19.
 abbrev pub answered : Peer → List Hand → List Dest → Dest → DestAnswer
 answered p hands refused dest =
     let r = record (queued 9) { refused = map (λ d. record { dest = d; cause = 19 }) refused } in
@@ -118,7 +122,8 @@ answered p hands refused dest =
 abbrev pub asked : Plain → Row (List ℕ) → List (List ℕ)
 asked s r = why_lines 50 (record s { rows = s.rows ++ r ∷ [] }) r
 
--- The host of `moving`, whose queue link has two destinations: one on the other host, which is being handed a request, and one here.
+-- The host of `moving`, whose queue link has two destinations: one on the other host, which is
+-- being handed a request, and one here.
 abbrev pub parting : Plain
 parting = record (moving true None 2) { queues = record link { started = true; run_limit = 2; dests = far ∷ near ∷ [] } ∷ [] }
 

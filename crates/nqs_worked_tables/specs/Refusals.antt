@@ -47,14 +47,16 @@ printer = record (new_queue (codes "lp") Device None None false []) { devices = 
 abbrev pub in_queue : List ℕ → Row (List ℕ) → Row (List ℕ)
 in_queue q r = record r { queue = q }
 
--- requests of four kinds: the first is queued, the second prints, the third is on its way, the user holds the fourth, the system the fifth
+-- requests of four kinds: the first is queued, the second prints, the third is on its way, the user
+-- holds the fourth, the system the fifth
 abbrev pub of_each_kind : List (Row (List ℕ))
 of_each_kind =
     queued 1 ∷ record (in_queue (codes "lp") (queued 2)) { state = Running; starts = 1; device = Some (codes "laser") }
     ∷ record (in_queue (codes "link") (queued 3)) { state = Routing }
     ∷ record (queued 4) { hold = User } ∷ record (queued 5) { hold = System } ∷ []
 
--- a host with a queue of each kind, a complex, a device that is busy and one that isn't, and requests of each kind
+-- a host with a queue of each kind, a complex, a device that is busy and one that isn't, and
+-- requests of each kind
 abbrev pub full_house : Plain
 full_house = record fresh {
   queues = first_queue ∷ printer ∷ link ∷ [];
@@ -108,7 +110,8 @@ holding = record full_house {
 abbrev pub without_root : Plain
 without_root = record full_house { managers = codes "mia" ∷ [] }
 
--- a queue that refuses for everything that is left of: disabled, pipe-only, no access, a cpu limit, a memory limit
+-- a queue that refuses for everything that is left of: disabled, pipe-only, no access, a cpu limit,
+-- a memory limit
 abbrev pub strict : QueueDef
 strict = record first_queue { enabled = false; pipe_only = true; access = Users []; limits = record { cpu = Some 5; memory = Some 5 } }
 
@@ -159,7 +162,8 @@ moved_to r s = first_refusal (local_causes (codes "batch") s r)
 abbrev pub deleted_by : List ℕ → ℕ → List Answer
 deleted_by user seq = map (λ kill. first_refusal (delete_causes user (named seq (codes "alpha")) kill full_house)) (false ∷ true ∷ [])
 
--- the requests of the full house as they are typed, one that isn't there, and one of an unknown host
+-- the requests of the full house as they are typed, one that isn't there, and one of an unknown
+-- host
 abbrev pub typed_requests : List Named
 typed_requests =
     named 1 (codes "alpha") ∷ named 2 (codes "alpha") ∷ named 3 (codes "alpha") ∷ named 4 (codes "alpha") ∷ named 5 (codes "alpha") ∷ named 6 (codes "alpha")

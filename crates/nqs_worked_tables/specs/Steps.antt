@@ -22,8 +22,9 @@ use Rattle.nqs_types.specs.declared.event.Event.TheVariants as event
 abbrev pub Done : Type 0
 Done = Stepped (List ℕ)
 
--- A host among three that has a handover to each of the others, the first offered, the second committed, and a promise of each. Its next number for
--- the second host is 2, for the third 5; up to 2 and 8 it has closed what they number; it took the second's stages up to 6.
+-- A host among three that has a handover to each of the others, the first offered, the second
+-- committed, and a promise of each. Its next number for the second host is 2, for the third 5; up
+-- to 2 and 8 it has closed what they number; it took the second's stages up to 6.
 abbrev pub party : Plain
 party = record busy {
   peers = new_peer ∷ record new_peer { next = 2; closed = 2; stage_next = 9; stage_got = 6 } ∷ record new_peer { next = 5; closed = 8; stage_next = 3 } ∷ [];
@@ -64,7 +65,8 @@ makes_and_replies c r os = makes c (ready (out.Reply 9 77 r) ∷ map ready os)
 abbrev pub sim : Job
 sim = record (job_of (codes "ann")) { name = codes "sim" }
 
--- two requests that run in one queue, one that waits there, one that is on its way from there, and one that runs in another queue
+-- two requests that run in one queue, one that waits there, one that is on its way from there, and
+-- one that runs in another queue
 abbrev pub two_at_work : Plain
 two_at_work = record full_house {
   rows =

@@ -1,4 +1,5 @@
--- What is seen, in all its kinds, requests in all their states, and the bytes of one transcript by hand.
+-- What is seen, in all its kinds, requests in all their states, and the bytes of one transcript by
+-- hand.
 use Rattle.std.specs.Prelude.{ℕ, true, List, [], ◌∷◌, map, codes, Option, None, Some}
 use Rattle.nqs_state.specs.State.{Plain}
 use Rattle.nqs_rules.specs.Format.{first_queue}

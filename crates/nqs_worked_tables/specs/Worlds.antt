@@ -22,7 +22,8 @@ calls first spool = record { root = 0; first = first; second = 0; spool = spool 
 abbrev pub calls_after : List (List ℕ) → List Act → List Calls
 calls_after site acts = map (λ h. h.calls) (run_of site acts).world.hosts
 
--- how many requests each state had that the disks of the first host told before, the last state first
+-- how many requests each state had that the disks of the first host told before, the last state
+-- first
 abbrev pub told_after : List Act → List (List ℕ)
 told_after acts = map (λ h. map (λ s. length s.rows) h.told) (run_of one_host acts).world.hosts
 

@@ -29,7 +29,8 @@ loop-event-preserved c =
     let more : take (i + 1) events ≡ before ++ event ∷ [] = take_more events i event c.loop-event-test.true
     ∙ ap (λ (e : WorldEvent). before ++ e ∷ []) (sym c.event-item.is) in
     let network = (ran site before).world in
-    let order = c.hosts_stay_in_order.ensures site (map act_of before) c.requires.site (c.acts_are_sane.ensures before (sane_before events i c.requires.sane)) in
+    let sane = sane_before events i c.requires.sane in
+    let order = c.hosts_stay_in_order.ensures site (map act_of before) c.requires.site (c.acts_are_sane.ensures before sane) in
     let on = went_on site before event c.event.new.self _ c.event.new.seen.items (c.in_ok-event.ensures.world site network order c.loop-event.invariant.world)
     (c.in_ok-event.ensures.seen site network order c.loop-event.invariant.world) c.clear.ensures.items in
     record {

@@ -6,7 +6,8 @@ use Rattle.nqs_store.specs.Told.{told_from}
 use Rattle.nqs_store.specs.Sound.{IsSoundHost}
 use Rattle.nqs_store.proofs.tell.take_records.Given as goal
 
--- the records so far make the host, no other requests than these run there, and the next gate stands behind them
+-- the records so far make the host, no other requests than these run there, and the next gate
+-- stands behind them
 abbrev pub invariant-loop-payload : goal.invariant-loop-payload
 invariant-loop-payload l = (told_from (Some (content l.initial.state)) (take l.payload-index l.payloads) ≡ Some (content l.state))
     × IsSoundHost (content l.state)
