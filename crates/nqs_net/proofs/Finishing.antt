@@ -27,7 +27,8 @@ use Rattle.nqs_net.specs.Least.{start_of, least_of}
 use Rattle.nqs_net.specs.Followed.{disks_in, StandsAfter, IsDone}
 use Rattle.nqs_net.specs.Worlds.{IsUp, IsSlot}
 use Rattle.nqs_net.specs.declared.slot.Slot.{Slot}
-use Rattle.nqs_net.specs.Turns.{Faces, Turns}
+use Rattle.nqs_net.specs.declared.turn.Turn.{Turn}
+use Rattle.nqs_net.specs.Turns.{Faces, IsTurnOf, Turns}
 use Rattle.nqs_net.proofs.Following.{follow_self}
 use Rattle.nqs_net.proofs.Fronts.{none_shown}
 
@@ -69,11 +70,12 @@ stay_turn h w host tear packets faces P p x before after saw = record {
   seen = saw;
 }
 
-pub stayed : (r : Result Slot Lack) (slot : Slot) (x : Seen) (before after : List Seen) → IfOk r (λ new. new ≡ slot) → OnOk r (after ≡ before ++ x ∷ [])
-    → OnErr r (after ≡ before)
-    → (h : HostId) (w : Network) (host : Host) (tear : Tear) (packets : List Message) → Faces h host tear packets w → IsSlot slot host
-    → IsDone h tear (disks_in slot) packets before after w (seeing x w) r
-stayed (Ok new) slot x before after same saw unseen h w host tear packets faces is =
-    stay_turn h w host tear packets faces (StandsAfter tear (disks_in slot) new)
-    (subst (λ s. StandsAfter tear (disks_in slot) s host) (sym same) (record { stands = is; follows = follow_self tear slot })) x before after saw
-stayed (Err e) slot x before after same saw unseen h w host tear packets faces is = none_shown before after (x ∷ []) unseen
+pub stayed : (before after : Turn) (r : Result Slot Lack) (slot : Slot) (x : Seen) → after.packets.now ≡ before.packets.now → IfOk r (λ new. new ≡ slot)
+    → OnOk r (after.seen.now.items ≡ before.seen.now.items ++ x ∷ []) → OnErr r (after.seen.now.items ≡ before.seen.now.items)
+    → (w : Network) (host : Host) → IsTurnOf before host w → IsSlot slot host → IsDone before after (disks_in slot) w (seeing x w) r
+stayed before after (Ok new) slot x sent same saw unseen w host faces is =
+    let there = subst (λ (l : List Message). Faces before.me host before.tear l w) (sym (ap (λ v. v.items) sent)) faces in
+    stay_turn before.me w host before.tear after.packets.now.items there (StandsAfter before.tear (disks_in slot) new)
+    (subst (λ s. StandsAfter before.tear (disks_in slot) s host) (sym same) (record { stands = is; follows = follow_self before.tear slot })) x
+    before.seen.now.items after.seen.now.items saw
+stayed before after (Err e) slot x sent same saw unseen w host faces is = none_shown before.seen.now.items after.seen.now.items (x ∷ []) unseen

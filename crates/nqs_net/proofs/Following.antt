@@ -14,7 +14,7 @@ use Rattle.nqs_disk.specs.MemDisk as mem
 use Rattle.nqs_disk.specs.contracts.mem_disk.MemDiskDisk.TheImpl.{ghosts}
 use Rattle.nqs_disk.specs.declared.lack.Lack.{Lack}
 use Rattle.nqs_disk.specs.declared.mem_disk.MemDisk.{MemDisk}
-use Rattle.nqs_rules.specs.World.{Host, Ran, World as Network}
+use Rattle.nqs_rules.specs.World.{Host, Ran, World as Network, all_starts, halts}
 use Rattle.nqs_store.specs.Active.{Active}
 use Rattle.nqs_store.specs.Disks.{disk_at, histories_of}
 use Rattle.nqs_store.specs.declared.disks.Disks.{Disks}
@@ -24,11 +24,12 @@ use Rattle.nqs_store.proofs.Runs.{none_more}
 use Rattle.nqs_node.specs.Carried.{IsOneOrOther, IsBrokenOff}
 use Rattle.nqs_node.specs.Nodes.{disk_of, history_of}
 use Rattle.nqs_node.specs.declared.node.Node.{Node}
-use Rattle.nqs_net.specs.Followed.{GoOn, disks_in, Follows, FollowEach, StandsAfter, IsDone, IsStarted}
-use Rattle.nqs_net.specs.Turns.{IsStopped, Turns, Starts}
+use Rattle.nqs_net.specs.Followed.{GoOn, disks_in, Follows, FollowEach, StandsAfter, IsTurnAt, IsTurned, IsDone, IsStarted}
+use Rattle.nqs_net.specs.Turns.{IsStopped, IsSameTurn, Turns, Starts}
 use Rattle.nqs_net.specs.Worlds.{IsSlot}
 use Rattle.nqs_net.specs.declared.slot.Slot.{Slot}
 use Rattle.nqs_net.specs.declared.slot.Slot.TheVariants.{Up, Down}
+use Rattle.nqs_net.specs.declared.turn.Turn.{Turn}
 
 -- what holds, holds of each answer
 pub on_ok_of : {T E P : Type 0} (r : Result T E) → P → OnOk r P
@@ -132,29 +133,78 @@ module _ (h : HostId) (tear : Tear) (packets : List Message) (before after : Lis
 
 -- what is answered
 
-pub done_on : (h : HostId) (tear : Tear) (old mid : Which → History) (packets : List Message) (before after : List Seen) (w : Network) (ran : Ran)
-    (result : Result Slot Lack)
-    → GoOn old mid → IsDone h tear mid packets before after w ran result → IsDone h tear old packets before after w ran result
-done_on h tear old mid packets before after w ran (Ok slot) one done = turn_on h tear packets before after w tear old slot mid ran one done
-done_on h tear old mid packets before after w ran (Err e) one done = done
+module _ (before after : Turn) where
+  pub done_on : (old mid : Which → History) (w : Network) (ran : Ran) (result : Result Slot Lack) → GoOn old mid → IsDone before after mid w ran result
+      → IsDone before after old w ran result
+  done_on old mid w ran (Ok slot) one done =
+      turn_on before.me before.tear after.packets.now.items before.seen.now.items after.seen.now.items w before.tear old slot mid ran one done
+  done_on old mid w ran (Err e) one done = done
 
-pub started_on : (h : HostId) (tear : Tear) (old mid : Which → History) (packets : List Message) (before after : List Seen) (w : Network)
-    (result : Result (Bool × Slot) Lack)
-    → GoOn old mid → IsStarted h tear mid packets before after w result → IsStarted h tear old packets before after w result
-started_on h tear old mid packets before after w (Ok r) one started = starts_on h tear packets before after w tear old r.1 mid r.0 one started
-started_on h tear old mid packets before after w (Err e) one started = started
+  pub started_on : (old mid : Which → History) (w : Network) (result : Result (Bool × Slot) Lack) → GoOn old mid → IsStarted before after mid w result
+      → IsStarted before after old w result
+  started_on old mid w (Ok r) one started =
+      starts_on before.me before.tear after.packets.now.items before.seen.now.items after.seen.now.items w before.tear old r.1 mid r.0 one started
+  started_on old mid w (Err e) one started = started
 
--- what makes the same of a network
-pub done_as : (h : HostId) (tear : Tear) (old : Which → History) (packets : List Message) (before after : List Seen) (w : Network) (x y : Ran)
-    (result : Result Slot Lack) → x ≡ y
-    → IsDone h tear old packets before after w x result → IsDone h tear old packets before after w y result
-done_as h tear old packets before after w x y result same done = subst (λ r. IsDone h tear old packets before after w r result) same done
+  -- what makes the same of a network
+  pub done_as : (old : Which → History) (w : Network) (x y : Ran) (result : Result Slot Lack) → x ≡ y → IsDone before after old w x result
+      → IsDone before after old w y result
+  done_as old w x y result same done = subst (λ r. IsDone before after old w r result) same done
 
--- where the disks were the same
-pub done_from : (h : HostId) (tear : Tear) (old other : Which → History) (packets : List Message) (before after : List Seen) (w : Network) (x : Ran)
-    (result : Result Slot Lack) → old ≡ other
-    → IsDone h tear old packets before after w x result → IsDone h tear other packets before after w x result
-done_from h tear old other packets before after w x result same done = subst (λ o. IsDone h tear o packets before after w x result) same done
+  -- where the disks were the same
+  pub done_from : (old other : Which → History) (w : Network) (x : Ran) (result : Result Slot Lack) → old ≡ other → IsDone before after old w x result
+      → IsDone before after other w x result
+  done_from old other w x result same done = subst (λ o. IsDone before after o w x result) same done
+
+-- a turn that sent nothing
+pub turn_packets : (before after : Turn) (old : Which → History) (w : Network) (ran : Ran) (slot : Slot) → after.packets.now ≡ before.packets.now
+    → Turns before.me (StandsAfter before.tear old slot) before.tear before.packets.now.items before.seen.now.items after.seen.now.items w ran
+    → IsTurned before after old w ran slot
+turn_packets before after old w ran slot same turn = subst (λ (l : List Message). Turns before.me (StandsAfter before.tear old slot) before.tear l
+    before.seen.now.items after.seen.now.items w ran) (sym (ap (λ v. v.items) same)) turn
+
+-- a turn that goes on
+
+pub same_turn : (a : Turn) → IsSameTurn a a
+same_turn a = record { me = refl; tear = refl; now = refl; packets = refl; seen = refl }
+
+pub same_on : (a b c : Turn) → IsSameTurn a b → IsSameTurn b c → IsSameTurn a c
+same_on a b c one two = record {
+  me = two.me ∙ one.me;
+  tear = two.tear ∙ one.tear;
+  now = two.now ∙ one.now;
+  packets = two.packets ∙ one.packets;
+  seen = two.seen ∙ one.seen;
+}
+
+-- the turn of one, with the lists of another
+abbrev pub later : (a b : Turn) → Turn
+later a b = record { me = a.me; tear = a.tear; now = a.now; packets = b.packets; seen = b.seen }
+
+-- what holds of a turn, of the one before it where that went on
+pub as_before : (a b : Turn) (P : Turn → Type 0) → IsSameTurn a b → P b → P (later a b)
+as_before a b P same holds = subst P (λ j. record { me = same.me j; tear = same.tear j; now = same.now j; packets = b.packets; seen = b.seen }) holds
+
+-- the next start of a host in a turn that went on
+pub next_then : (a b c : Turn) (slot : Slot) (result : Result (Bool × Slot) Lack) → IsSameTurn a b
+    → ((w : Network) (old : Which → History) → IsTurnAt b old slot w → w.now ≡ b.now → IsStarted b c old w result)
+    → (w : Network) (old : Which → History) → IsTurnAt (later a b) old slot w → w.now ≡ a.now → IsStarted (later a b) c old w result
+next_then a b c slot result same holds = as_before a b (λ t. (w : Network) (old : Which → History) → IsTurnAt t old slot w → w.now ≡ t.now
+    → IsStarted t c old w result) same holds
+
+-- whether it halts
+pub halts_then : (a b c : Turn) (stops : Bool) (slot : Slot) (result : Result Slot Lack) → IsSameTurn a b
+    → ((w : Network) (old : Which → History) → IsTurnAt b old slot w → IsDone b c old w (halts stops b.me w) result)
+    → (w : Network) (old : Which → History) → IsTurnAt (later a b) old slot w → IsDone (later a b) c old w (halts stops a.me w) result
+halts_then a b c stops slot result same holds = as_before a b (λ t. (w : Network) (old : Which → History) → IsTurnAt t old slot w
+    → IsDone t c old w (halts stops t.me w) result) same holds
+
+-- all its starts
+pub starts_then : (a b c : Turn) (slot : Slot) (result : Result Slot Lack) → IsSameTurn a b
+    → ((w : Network) (old : Which → History) → IsTurnAt b old slot w → w.now ≡ b.now → IsDone b c old w (all_starts b.me w) result)
+    → (w : Network) (old : Which → History) → IsTurnAt (later a b) old slot w → w.now ≡ a.now → IsDone (later a b) c old w (all_starts a.me w) result
+starts_then a b c slot result same holds = as_before a b (λ t. (w : Network) (old : Which → History) → IsTurnAt t old slot w → w.now ≡ t.now
+    → IsDone t c old w (all_starts t.me w) result) same holds
 
 -- the slots of a world
 

@@ -26,6 +26,7 @@ use Rattle.nqs_store.specs.Disks.{histories_of, failing_of}
 use Rattle.nqs_store.specs.declared.disks.Disks.{Disks}
 use Rattle.nqs_net.specs.declared.slot.Slot.{Slot}
 use Rattle.nqs_net.specs.declared.slot.Slot.TheVariants.{Up, Down}
+use Rattle.nqs_net.specs.declared.turn.Turn.{Turn}
 
 -- The disks after a stop: what the tear leaves of them, before any call and with no fuse.
 pub record IsTorn (tear : Tear) (now : Which → History) (left : Disks MemDisk) : Type 0 where
@@ -73,6 +74,18 @@ pub record Faces (h : HostId) (host : Host) (by : Tear) (sent : List Message) (w
   pub there : host_of h w ≡ Some host
   pub tear : by ≡ host.tear
   pub packets : sent ≡ w.packets
+
+-- it is this host's turn
+abbrev pub IsTurnOf : Turn → Host → Network → Type 0
+IsTurnOf turn host w = Faces turn.me host turn.tear turn.packets.now.items w
+
+-- the same turn later: its host, tear and moment are the same, and so are the lists that it adds to
+pub record IsSameTurn (old new : Turn) : Type 0 where
+  pub me : new.me ≡ old.me
+  pub tear : new.tear ≡ old.tear
+  pub now : new.now ≡ old.now
+  pub packets : new.packets.ghost_name ≡ old.packets.ghost_name
+  pub seen : new.seen.ghost_name ≡ old.seen.ghost_name
 
 -- there is a host at the place, and it has P
 pub record IsAt (h : HostId) (P : Host → Type 0) (tear : Tear) (packets : List Message) (w : Network) : Type 0 where

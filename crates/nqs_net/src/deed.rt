@@ -10,7 +10,7 @@ ghost use Rattle.nqs_store.specs.Disks.{histories_of};
 ghost use Rattle.nqs_store.specs.Sound.{IsSoundHost};
 ghost use Rattle.nqs_net.specs.Followed.{disks_in, IsDone};
 ghost use Rattle.nqs_net.specs.Worlds.{IsUp, IsDown, IsSlot};
-ghost use Rattle.nqs_net.specs.Turns.{Faces};
+ghost use Rattle.nqs_net.specs.Turns.{IsTurnOf, IsSameTurn};
 ghost use Rattle.nqs_net.specs.Deeds.{done_up, done_down, done_at, IsSaneFor, IsSaneAt, MayBoot};
 ghost use Rattle.nqs_net.specs.Least.{least_of};
 
@@ -21,7 +21,7 @@ use nqs_base::Bytes;
 use nqs_disk::{Lack, MemDisk};
 use nqs_node::Node;
 use nqs_state::HostState;
-use nqs_types::{Event, Message, RequestId, Seen};
+use nqs_types::{Event, RequestId, Seen};
 use std::alloc::Global;
 
 /// What comes to one host.
@@ -47,12 +47,14 @@ fn least_running(state: &HostState) -> Option<(RequestId, u16)>
 }
 
 // A host stays as it is, and this is seen.
-fn stay(slot: Slot, sight: Seen, seen: &mut Vec<Seen>) -> Result<Slot, Lack>
-    ensures same { IfOk result (λ new. new ≡ slot) }
-    ensures seen { OnOk result (seen.new.items ≡ seen.old.items ++ sight ∷ []) }
-    ensures unseen { OnErr result (seen.new.items ≡ seen.old.items) }
+fn stay(slot: Slot, sight: Seen, turn: &mut Turn<'_>) -> Result<Slot, Lack>
+    ensures same { IsSameTurn turn.old turn.new }
+    ensures packets { turn.new.packets.now ≡ turn.old.packets.now }
+    ensures stays { IfOk result (λ new. new ≡ slot) }
+    ensures seen { OnOk result (turn.new.seen.now.items ≡ turn.old.seen.now.items ++ sight ∷ []) }
+    ensures unseen { OnErr result (turn.new.seen.now.items ≡ turn.old.seen.now.items) }
 {
-    seen.push(sight)?;
+    turn.seen.push(sight)?;
     Ok(slot)
 }
 
@@ -71,88 +73,74 @@ fn ended(alloc: Global, now: u64, id: RequestId, start: u16) -> Event
 }
 
 // The least running request of a host that is up ends.
-fn finish_up(
-    alloc: Global,
-    turn: Turn,
-    node: Box<Node<MemDisk>>,
-    packets: &mut Vec<Message>,
-    seen: &mut Vec<Seen>,
-) -> Result<Slot, Lack>
+fn finish_up(alloc: Global, turn: &mut Turn<'_>, node: Box<Node<MemDisk>>) -> Result<Slot, Lack>
     requires sound { IsSoundHost (content_of node.value) }
     requires running { is_stopped node.value ≡ false }
-    ensures { (w : Network) (host : Host) → Faces turn.me host turn.tear packets.old.items w → IsUp node.value host → w.now ≡ turn.now
-        → IsDone turn.me turn.tear (history_of node.value) packets.new.items seen.old.items seen.new.items w (finishes_up turn.me host w) result }
+    ensures same { IsSameTurn turn.old turn.new }
+    ensures turn { (w : Network) (host : Host) → IsTurnOf turn.old host w → IsUp node.value host → w.now ≡ turn.old.now
+        → IsDone turn.old turn.new (history_of node.value) w (finishes_up turn.old.me host w) result }
 {
     match least_running(node.state()) {
         Some((id, start)) => {
             let mut event = ended(alloc, turn.now, id, start);
-            take_up(alloc, turn, node, &mut event, packets, seen)
+            take_up(alloc, turn, node, &mut event)
         }
         None => stay(
             Slot::Up(UpHost { node }),
             Seen::Idle { host: turn.me },
-            seen,
+            turn,
         ),
     }
 }
 
 fn do_up(
     alloc: Global,
-    turn: Turn,
+    turn: &mut Turn<'_>,
     node: Box<Node<MemDisk>>,
     deed: &mut Deed,
-    packets: &mut Vec<Message>,
-    seen: &mut Vec<Seen>,
 ) -> Result<Slot, Lack>
     requires sound { IsSoundHost (content_of node.value) }
     requires running { is_stopped node.value ≡ false }
     requires sane { IsSaneFor (length (content_of node.value).site) deed.old }
-    ensures { (w : Network) (host : Host) → Faces turn.me host turn.tear packets.old.items w → IsUp node.value host → w.now ≡ turn.now
-        → IsDone turn.me turn.tear (history_of node.value) packets.new.items seen.old.items seen.new.items w (done_up deed.old turn.me host w) result }
+    ensures same { IsSameTurn turn.old turn.new }
+    ensures turn { (w : Network) (host : Host) → IsTurnOf turn.old host w → IsUp node.value host → w.now ≡ turn.old.now
+        → IsDone turn.old turn.new (history_of node.value) w (done_up deed.old turn.old.me host w) result }
 {
     match deed {
-        Deed::Take(event) => take_up(alloc, turn, node, event, packets, seen),
-        Deed::Finish => finish_up(alloc, turn, node, packets, seen),
-        Deed::Crash => crash_up(alloc, turn, node, seen),
-        Deed::Boot => stay(Slot::Up(UpHost { node }), Seen::Up { host: turn.me }, seen),
+        Deed::Take(event) => take_up(alloc, turn, node, event),
+        Deed::Finish => finish_up(alloc, turn, node),
+        Deed::Crash => crash_up(alloc, turn, node),
+        Deed::Boot => stay(Slot::Up(UpHost { node }), Seen::Up { host: turn.me }, turn),
     }
 }
 
-fn do_down(
-    alloc: Global,
-    turn: Turn,
-    down: DownHost,
-    deed: &Deed,
-    packets: &mut Vec<Message>,
-    seen: &mut Vec<Seen>,
-) -> Result<Slot, Lack>
+fn do_down(alloc: Global, turn: &mut Turn<'_>, down: DownHost, deed: &Deed) -> Result<Slot, Lack>
     requires { (host : Host) × IsDown down.disks.value host }
-    ensures { (w : Network) (host : Host) → Faces turn.me host turn.tear packets.old.items w → IsDown down.disks.value host → w.now ≡ turn.now
-        → IsDone turn.me turn.tear (histories_of mem.history_of down.disks.value) packets.new.items seen.old.items seen.new.items w
-        (done_down deed.now turn.me host w) result }
+    ensures same { IsSameTurn turn.old turn.new }
+    ensures turn { (w : Network) (host : Host) → IsTurnOf turn.old host w → IsDown down.disks.value host → w.now ≡ turn.old.now
+        → IsDone turn.old turn.new (histories_of mem.history_of down.disks.value) w (done_down deed.now turn.old.me host w) result }
 {
     match deed {
-        Deed::Boot => boot_down(alloc, turn, down, packets, seen),
-        _ => stay(Slot::Down(down), Seen::Down { host: turn.me }, seen),
+        Deed::Boot => boot_down(alloc, turn, down),
+        _ => stay(Slot::Down(down), Seen::Down { host: turn.me }, turn),
     }
 }
 
 /// What comes to a host: one that is down only boots.
 pub(crate) fn do_at(
     alloc: Global,
-    turn: Turn,
+    turn: &mut Turn<'_>,
     slot: Slot,
     deed: &mut Deed,
-    packets: &mut Vec<Message>,
-    seen: &mut Vec<Seen>,
 ) -> Result<Slot, Lack>
     requires sane { IsSaneAt deed.old slot }
     requires boots { MayBoot slot }
-    ensures { (w : Network) (host : Host) → Faces turn.me host turn.tear packets.old.items w → IsSlot slot host → w.now ≡ turn.now
-        → IsDone turn.me turn.tear (disks_in slot) packets.new.items seen.old.items seen.new.items w (done_at deed.old turn.me host w) result }
+    ensures same { IsSameTurn turn.old turn.new }
+    ensures turn { (w : Network) (host : Host) → IsTurnOf turn.old host w → IsSlot slot host → w.now ≡ turn.old.now
+        → IsDone turn.old turn.new (disks_in slot) w (done_at deed.old turn.old.me host w) result }
 {
     match slot {
-        Slot::Up(up) => do_up(alloc, turn, up.node, deed, packets, seen),
-        Slot::Down(down) => do_down(alloc, turn, down, deed, packets, seen),
+        Slot::Up(up) => do_up(alloc, turn, up.node, deed),
+        Slot::Down(down) => do_down(alloc, turn, down, deed),
     }
 }

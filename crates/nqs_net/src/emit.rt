@@ -4,7 +4,9 @@ ghost use Rattle.std.specs.Prelude.{◌≡◌, ◌+◌, ◌++◌, OnOk, OnErr, L
 ghost use Rattle.nqs_types.specs.declared.world.Seen.TheVariants as sight;
 ghost use Rattle.nqs_rules.specs.World.{body_kind, body_number, seen_packet, seen_output, sent_by};
 ghost use Rattle.nqs_net.specs.Lists.{of_option, sent_in, seen_from, GrowsByFront};
+ghost use Rattle.nqs_net.specs.Turns.{IsSameTurn};
 
+use crate::turn::Turn;
 use nqs_base::{Bytes, Memory, Rest};
 use nqs_types::{Body, BodyKind, HostId, Message, Output, Seen};
 
@@ -162,35 +164,31 @@ fn push_some<T: Drop>(list: &mut Vec<T>, value: Option<T>) -> Result<(), Memory>
 }
 
 // One output goes out.
-fn emit_one(
-    me: HostId,
-    output: Output,
-    packets: &mut Vec<Message>,
-    seen: &mut Vec<Seen>,
-) -> Result<(), Memory>
-    ensures packets { OnOk result (packets.new.items ≡ packets.old.items ++ sent_by output) }
-    ensures seen { OnOk result (seen.new.items ≡ seen.old.items ++ seen_output me (length packets.old.items + 1) output) }
-    ensures front { OnErr result (GrowsByFront seen.old.items seen.new.items (seen_output me (length packets.old.items + 1) output)) }
+fn emit_one(turn: &mut Turn<'_>, output: Output) -> Result<(), Memory>
+    ensures same { IsSameTurn turn.old turn.new }
+    ensures packets { OnOk result (turn.new.packets.now.items ≡ turn.old.packets.now.items ++ sent_by output) }
+    ensures seen { let shown = seen_output turn.old.me (length turn.old.packets.now.items + 1) output in
+        OnOk result (turn.new.seen.now.items ≡ turn.old.seen.now.items ++ shown) }
+    ensures front { let shown = seen_output turn.old.me (length turn.old.packets.now.items + 1) output in
+        OnErr result (GrowsByFront turn.old.seen.now.items turn.new.seen.now.items shown) }
 {
-    let (sight, message) = shown(me, packets.len() as u64 + 1, output);
-    push_some(seen, sight)?;
-    push_some(packets, message)
+    let (sight, message) = shown(turn.me, turn.packets.len() as u64 + 1, output);
+    push_some(turn.seen, sight)?;
+    push_some(turn.packets, message)
 }
 
 /// The outputs of a host go out, one after the other.
-pub(crate) fn emit(
-    me: HostId,
-    outputs: Vec<Output>,
-    packets: &mut Vec<Message>,
-    seen: &mut Vec<Seen>,
-) -> Result<(), Memory>
-    ensures packets { OnOk result (packets.new.items ≡ packets.old.items ++ sent_in outputs.items) }
-    ensures seen { OnOk result (seen.new.items ≡ seen.old.items ++ seen_from me (length packets.old.items) outputs.items) }
-    ensures front { OnErr result (GrowsByFront seen.old.items seen.new.items (seen_from me (length packets.old.items) outputs.items)) }
+pub(crate) fn emit(turn: &mut Turn<'_>, outputs: Vec<Output>) -> Result<(), Memory>
+    ensures same { IsSameTurn turn.old turn.new }
+    ensures packets { OnOk result (turn.new.packets.now.items ≡ turn.old.packets.now.items ++ sent_in outputs.items) }
+    ensures seen { let shown = seen_from turn.old.me (length turn.old.packets.now.items) outputs.items in
+        OnOk result (turn.new.seen.now.items ≡ turn.old.seen.now.items ++ shown) }
+    ensures front { let shown = seen_from turn.old.me (length turn.old.packets.now.items) outputs.items in
+        OnErr result (GrowsByFront turn.old.seen.now.items turn.new.seen.now.items shown) }
 {
     let mut rest = Rest::from_vec(outputs);
     while let Some(output) = rest.take_first() {
-        emit_one(me, output, packets, seen)?;
+        emit_one(turn, output)?;
     }
     Ok(())
 }

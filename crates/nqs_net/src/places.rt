@@ -37,12 +37,14 @@ impl World {
         }
         let tear = self.tears[place];
         let slot = self.slots.remove(place);
-        let turn = Turn {
+        let mut turn = Turn {
             me: host,
             tear,
             now: self.now,
+            packets: &mut self.packets,
+            seen,
         };
-        let slot = do_at(alloc, turn, slot, deed, &mut self.packets, seen)?;
+        let slot = do_at(alloc, &mut turn, slot, deed)?;
         self.slots.insert(place, slot)?;
         Ok(())
     }

@@ -6,7 +6,7 @@ ghost use Rattle.nqs_types.specs.declared.world.Seen.TheVariants as sight;
 ghost use Rattle.nqs_outside.specs.History.{IsImage, state};
 ghost use Rattle.nqs_disk.specs.MemDisk as mem;
 ghost use Rattle.nqs_store.specs.Disks.{disk_at, histories_of};
-ghost use Rattle.nqs_net.specs.Turns.{IsTorn, IsStopped};
+ghost use Rattle.nqs_net.specs.Turns.{IsSameTurn, IsTorn, IsStopped};
 
 use crate::slot::{DownHost, Slot};
 use crate::turn::Turn;
@@ -32,19 +32,16 @@ fn torn(disks: Disks<MemDisk>, tear: Tear) -> Result<Disks<MemDisk>, Lack>
 
 /// Stops a host, which is all that is seen. Where a disk lacked something for a call the answer is
 /// that, as the host couldn't go on, and didn't stop by a fuse.
-pub(crate) fn stop(
-    alloc: Global,
-    turn: Turn,
-    disks: Disks<MemDisk>,
-    seen: &mut Vec<Seen>,
-) -> Result<Slot, Lack>
+pub(crate) fn stop(alloc: Global, turn: &mut Turn<'_>, disks: Disks<MemDisk>) -> Result<Slot, Lack>
+    ensures same { IsSameTurn turn.old turn.new }
+    ensures packets { turn.new.packets.now ≡ turn.old.packets.now }
     ensures fed { IfOk result (λ _. (which : Which) → mem.is_starved (disk_at which disks) ≡ false) }
-    ensures stopped { IfOk result (IsStopped turn.tear (histories_of mem.history_of disks)) }
-    ensures seen { OnOk result (seen.new.items ≡ seen.old.items ++ sight.Stop turn.me ∷ []) }
-    ensures unseen { OnErr result (seen.new.items ≡ seen.old.items) }
+    ensures stopped { IfOk result (IsStopped turn.old.tear (histories_of mem.history_of disks)) }
+    ensures seen { OnOk result (turn.new.seen.now.items ≡ turn.old.seen.now.items ++ sight.Stop turn.old.me ∷ []) }
+    ensures unseen { OnErr result (turn.new.seen.now.items ≡ turn.old.seen.now.items) }
 {
     let disks = torn(disks, turn.tear)?;
     let disks = Box::new(alloc, disks)?;
-    seen.push(Seen::Stop { host: turn.me })?;
+    turn.seen.push(Seen::Stop { host: turn.me })?;
     Ok(Slot::Down(DownHost { disks }))
 }

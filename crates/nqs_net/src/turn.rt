@@ -13,9 +13,9 @@ ghost use Rattle.nqs_rules.specs.World.{World as Network, Host, steps, all_start
 ghost use Rattle.nqs_node.specs.Carried.{started};
 ghost use Rattle.nqs_node.specs.Nodes.{history_of, fails_of, content_of, is_stopped};
 ghost use Rattle.nqs_store.specs.Sound.{IsSoundHost};
-ghost use Rattle.nqs_net.specs.Followed.{StandsAfter, IsDone, IsStepDone, IsStarted};
+ghost use Rattle.nqs_net.specs.Followed.{IsTurnAt, IsDone, IsStepDone, IsStarted};
 ghost use Rattle.nqs_net.specs.Worlds.{IsUp};
-ghost use Rattle.nqs_net.specs.Turns.{IsTaken, IsDownSlot, Faces, IsAt, Turns, Starts, starts_in};
+ghost use Rattle.nqs_net.specs.Turns.{IsTurnOf, IsSameTurn, IsTaken, IsDownSlot, starts_in};
 
 use crate::emit::emit;
 use crate::slot::{Slot, UpHost};
@@ -26,13 +26,17 @@ use nqs_node::{Node, NodeFault};
 use nqs_types::{Event, HostId, Message, Output, Seen};
 use std::alloc::Global;
 
-/// Whose turn it is: a host, the tear that a stop would leave its disks with, and the moment, in
-/// seconds since 1970.
-#[derive(Clone, Copy)]
-pub(crate) struct Turn {
+/// Whose turn it is, and what it adds to: a host, the tear that a stop would leave its disks with,
+/// the moment, in seconds since 1970, and two lists of the world.
+#[derive(Drop)]
+pub(crate) struct Turn<'a> {
     pub me: HostId,
     pub tear: Tear,
     pub now: u64,
+    /// The packets that were sent, in the order of their numbers.
+    pub packets: &'a mut Vec<Message>,
+    /// What is seen.
+    pub seen: &'a mut Vec<Seen>,
 }
 
 // Takes an event: whether no failed call of a disk stopped the node, and whether the host halts
@@ -94,27 +98,26 @@ fn start_event(
 #[tactic(none)]
 fn carry(
     alloc: Global,
-    turn: Turn,
+    turn: &mut Turn<'_>,
     node: Box<Node<MemDisk>>,
     took: bool,
     out: Vec<Output>,
-    packets: &mut Vec<Message>,
-    seen: &mut Vec<Seen>,
 ) -> Result<Slot, Lack>
     requires sound { IsSoundHost (content_of node.value) }
     requires running { took ≡ true → is_stopped node.value ≡ false }
+    ensures same { IsSameTurn turn.old turn.new }
     ensures turn { (w : Network) (host : Host) (why : Why) (x : Stepped (List ℕ)) (fails : Which → ℕ → Bool) (old : Which → History)
-        → Faces turn.me host turn.tear packets.old.items w → IsTaken host x fails old node.value out.items took
-        → IsDone turn.me turn.tear old packets.new.items seen.old.items seen.new.items w (steps turn.me host why x w) result }
+        → IsTurnOf turn.old host w → IsTaken host x fails old node.value out.items took
+        → IsDone turn.old turn.new old w (steps turn.old.me host why x w) result }
     ensures down { took ≡ false → IfOk result IsDownSlot }
     ensures left { took ≡ true → IfOk result (λ slot. starts_in slot ≡ starts_left (content_of node.value)) }
 {
     if took {
-        emit(turn.me, out, packets, seen)?;
+        emit(turn, out)?;
         return Ok(Slot::Up(UpHost { node }));
     }
     let disks = Box::into_inner(node).close();
-    let slot = stop(alloc, turn, disks, seen)?;
+    let slot = stop(alloc, turn, disks)?;
     Ok(slot)
 }
 
@@ -123,24 +126,22 @@ fn carry(
 #[tactic(none)]
 pub(crate) fn take_step(
     alloc: Global,
-    turn: Turn,
+    turn: &mut Turn<'_>,
     node: Box<Node<MemDisk>>,
     event: &mut Event,
-    packets: &mut Vec<Message>,
-    seen: &mut Vec<Seen>,
 ) -> Result<(bool, Slot), Lack>
     requires sound { IsSoundHost (content_of node.value) }
     requires running { is_stopped node.value ≡ false }
     requires sane { IsTrue (is_sane_event (length (content_of node.value).site) event.old) }
-    ensures turn { (w : Network) (host : Host) → Faces turn.me host turn.tear packets.old.items w → IsUp node.value host
-        → IsStepDone turn.me turn.tear (history_of node.value) packets.new.items seen.old.items seen.new.items w
-        (steps turn.me host (ByEvent event.old) (step event.old host.state) w) result }
+    ensures same { IsSameTurn turn.old turn.new }
+    ensures turn { (w : Network) (host : Host) → IsTurnOf turn.old host w → IsUp node.value host
+        → IsStepDone turn.old turn.new (history_of node.value) w (steps turn.old.me host (ByEvent event.old) (step event.old host.state) w) result }
     ensures halts { (host : Host) → IsUp node.value host → IfOk result (λ r. (r.0 ≡ (step event.old host.state).halts) ⊎ IsDownSlot r.1) }
 {
     let mut node = node;
     let mut out = Vec::new(alloc);
     let (took, halts) = take_event(alloc, &mut *node, event, &mut out)?;
-    let slot = carry(alloc, turn, node, took, out, packets, seen)?;
+    let slot = carry(alloc, turn, node, took, out)?;
     Ok((halts, slot))
 }
 
@@ -148,58 +149,46 @@ pub(crate) fn take_step(
 #[tactic(none)]
 fn start_step(
     alloc: Global,
-    turn: Turn,
+    turn: &mut Turn<'_>,
     node: Box<Node<MemDisk>>,
-    packets: &mut Vec<Message>,
-    seen: &mut Vec<Seen>,
 ) -> Result<(bool, Slot), Lack>
     requires sound { IsSoundHost (content_of node.value) }
     requires running { is_stopped node.value ≡ false }
-    ensures turn { (w : Network) (host : Host) → Faces turn.me host turn.tear packets.old.items w → IsUp node.value host → w.now ≡ turn.now
-        → IsStarted turn.me turn.tear (history_of node.value) packets.new.items seen.old.items seen.new.items w result }
+    ensures same { IsSameTurn turn.old turn.new }
+    ensures turn { (w : Network) (host : Host) → IsTurnOf turn.old host w → IsUp node.value host → w.now ≡ turn.old.now
+        → IsStarted turn.old turn.new (history_of node.value) w result }
     ensures fewer { IfOk result (λ r. r.0 ≡ true → starts_in r.1 < starts_left (content_of node.value)) }
 {
     let mut node = node;
     let mut out = Vec::new(alloc);
     let (took, more) = start_event(alloc, &mut *node, turn.now, &mut out)?;
-    let slot = carry(alloc, turn, node, took, out, packets, seen)?;
+    let slot = carry(alloc, turn, node, took, out)?;
     Ok((more, slot))
 }
 
 // The same of a slot. A host that is down starts nothing.
 #[tactic(none)]
-fn start_one(
-    alloc: Global,
-    turn: Turn,
-    slot: Slot,
-    packets: &mut Vec<Message>,
-    seen: &mut Vec<Seen>,
-) -> Result<(bool, Slot), Lack>
-    ensures turn { (w : Network) (old : Which → History) → IsAt turn.me (StandsAfter turn.tear old slot) turn.tear packets.old.items w
-        → w.now ≡ turn.now → IsStarted turn.me turn.tear old packets.new.items seen.old.items seen.new.items w result }
+fn start_one(alloc: Global, turn: &mut Turn<'_>, slot: Slot) -> Result<(bool, Slot), Lack>
+    ensures same { IsSameTurn turn.old turn.new }
+    ensures turn { (w : Network) (old : Which → History) → IsTurnAt turn.old old slot w → w.now ≡ turn.old.now → IsStarted turn.old turn.new old w result }
     ensures fewer { IfOk result (λ r. r.0 ≡ true → starts_in r.1 < starts_in slot) }
 {
     match slot {
         Slot::Down(down) => Ok((false, Slot::Down(down))),
-        Slot::Up(up) => start_step(alloc, turn, up.node, packets, seen),
+        Slot::Up(up) => start_step(alloc, turn, up.node),
     }
 }
 
 /// A host starts what may start, one after the other. Each start leaves fewer to start, so it ends.
 #[tactic(none)]
-pub(crate) fn start_all(
-    alloc: Global,
-    turn: Turn,
-    first: Slot,
-    packets: &mut Vec<Message>,
-    seen: &mut Vec<Seen>,
-) -> Result<Slot, Lack>
-    ensures { (w : Network) (old : Which → History) → IsAt turn.me (StandsAfter turn.tear old first) turn.tear packets.old.items w → w.now ≡ turn.now
-        → IsDone turn.me turn.tear old packets.new.items seen.old.items seen.new.items w (all_starts turn.me w) result }
+pub(crate) fn start_all(alloc: Global, turn: &mut Turn<'_>, first: Slot) -> Result<Slot, Lack>
+    ensures same { IsSameTurn turn.old turn.new }
+    ensures turn { (w : Network) (old : Which → History) → IsTurnAt turn.old old first w → w.now ≡ turn.old.now
+        → IsDone turn.old turn.new old w (all_starts turn.old.me w) result }
 {
     let mut slot = first;
     loop {
-        let (more, next) = start_one(alloc, turn, slot, packets, seen)?;
+        let (more, next) = start_one(alloc, turn, slot)?;
         if !more {
             return Ok(next);
         }

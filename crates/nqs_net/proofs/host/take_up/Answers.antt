@@ -1,4 +1,4 @@
-use Rattle.std.proofs.Common.{◌≡◌, ◌⊎◌, inl, inr, Bool, List, ◌∙◌, ap, subst}
+use Rattle.std.proofs.Common.{◌≡◌, ◌⊎◌, inl, inr, Bool, List, Ok, Err, ◌∙◌, ap, subst}
 use Rattle.std.proofs.lemmas.Result.{err_from_is_err_and}
 use Rattle.nqs_types.specs.declared.event.Event.{Event}
 use Rattle.nqs_types.specs.declared.ids.HostId.{HostId}
@@ -10,11 +10,12 @@ use Rattle.nqs_rules.specs.Notes.{ByEvent}
 use Rattle.nqs_rules.specs.Step.{step}
 use Rattle.nqs_rules.specs.World.{Host, Ran, seen_of, World as Network, steps, all_starts, halts, then_ran}
 use Rattle.nqs_node.specs.Nodes.{history_of}
-use Rattle.nqs_net.specs.Followed.{StandsAfter}
-use Rattle.nqs_net.specs.Turns.{IsAt, IsDownSlot, Turns}
+use Rattle.nqs_net.specs.Followed.{StandsAfter, IsTurned}
+use Rattle.nqs_net.specs.Turns.{IsAt, IsDownSlot}
 use Rattle.nqs_net.specs.Lists.{GrowsByFront}
 use Rattle.nqs_net.specs.declared.slot.Slot.{Slot}
 use Rattle.nqs_net.specs.declared.slot.Slot.TheVariants.{Up, Down}
+use Rattle.nqs_net.proofs.Following.{same_on, later, starts_then, halts_then}
 use Rattle.nqs_net.proofs.Fronts.{more_to_run, run_before}
 use Rattle.nqs_net.proofs.Hosting.{down_either}
 use Rattle.nqs_net.proofs.Turning.{turn_after}
@@ -47,61 +48,88 @@ module _ (me : HostId) (host : Host) (event : Event) (w : Network) where
       down_either me stepped.world at.host tear packets at.faces at.stands.stands.down b (step event host.state).halts
 
 pub returns-in_err-halts : goal.returns-in_err-halts
-returns-in_err-halts c = λ w host faces is now.
+returns-in_err-halts c =
     let p = err_from_is_err_and c.from_residual.result c.from_residual.ensures.1 in
-    let me = c.args.turn.me in
+    let turn = c.args.turn.now in
+    let me = turn.me in
     let event = c.args.event.now in
-    let before = c.args.seen.now.items in
-    let after = c.take_step.new.seen.items in
-    let did = stepped me host event w in
-    let all = begun me host event w in
-    rw p.1 (more_to_run before after all (halts (step event host.state).halts me)
-    (more_to_run before after did (all_starts me) (c.in_err-halts.ensures.turn w host faces is)))
+    let before = turn.seen.now.items in
+    let after = c.take_step.new.turn.seen.now.items in
+    record {
+      same = c.in_err-halts.ensures.same;
+      turn = λ w host faces is now.
+          rw p.1 (more_to_run before after (begun me host event w) (halts (step event host.state).halts me)
+          (more_to_run before after (stepped me host event w) (all_starts me) (c.in_err-halts.ensures.turn w host faces is)));
+    }
 
-pub returns-in_err-begun : goal.returns-in_err-begun
-returns-in_err-begun c = λ w host faces is now.
+pub returns-in_err-begun-clause-same : goal.returns-in_err-begun-clause-same
+returns-in_err-begun-clause-same c =
+    same_on c.args.turn.now c.take_step.new.turn c.start_all.new.turn c.in_ok-halts.ensures.same c.in_err-begun.ensures.same
+
+pub returns-in_err-begun-clause-turn : goal.returns-in_err-begun-clause-turn
+returns-in_err-begun-clause-turn c = λ w host faces is now.
     let p = err_from_is_err_and c.from_residual-in_err-begun.result c.from_residual-in_err-begun.ensures.1 in
-    let me = c.args.turn.me in
+    let turn = c.args.turn.now in
+    let mid = c.take_step.new.turn in
+    let after = c.start_all.new.turn in
+    let me = turn.me in
     let event = c.args.event.now in
-    let before = c.args.seen.now.items in
-    let after = c.start_all.new.seen.items in
     let did = stepped me host event w in
-    let all = begun me host event w in
     let one = c.in_ok-halts.ensures.turn w host faces is in
-    let two = c.in_err-begun.ensures did.world (history_of c.args.node.value) one.at (one.rest.now ∙ now) in
-    rw p.1 (more_to_run before after all (halts (step event host.state).halts me)
-    (run_before before after did (all_starts me) c.take_step.new.seen.items one.seen two))
+    let two = starts_then turn mid after c.in_ok-halts.taken (Err c.in_err-begun.field-0) c.in_ok-halts.ensures.same c.in_err-begun.ensures.turn
+    did.world (history_of c.args.node.value) one.at (one.rest.now ∙ now) in
+    rw p.1 (more_to_run turn.seen.now.items after.seen.now.items (begun me host event w) (halts (step event host.state).halts me)
+    (run_before turn.seen.now.items after.seen.now.items did (all_starts me) mid.seen.now.items one.seen two))
 
-pub returns-in_err-left : goal.returns-in_err-left
-returns-in_err-left c = λ w host faces is now.
+pub returns-in_err-left-clause-same : goal.returns-in_err-left-clause-same
+returns-in_err-left-clause-same c = same_on c.args.turn.now c.start_all.new.turn c.halt.new.turn
+    (same_on c.args.turn.now c.take_step.new.turn c.start_all.new.turn c.in_ok-halts.ensures.same c.in_ok-begun.ensures.same) c.in_err-left.ensures.same
+
+pub returns-in_err-left-clause-turn : goal.returns-in_err-left-clause-turn
+returns-in_err-left-clause-turn c = λ w host faces is now.
     let p = err_from_is_err_and c.from_residual-in_err-left.result c.from_residual-in_err-left.ensures.1 in
-    let me = c.args.turn.me in
+    let turn = c.args.turn.now in
+    let mid = c.take_step.new.turn in
+    let next = c.start_all.new.turn in
+    let after = c.halt.new.turn in
+    let me = turn.me in
     let event = c.args.event.now in
     let old = history_of c.args.node.value in
-    let before = c.args.seen.now.items in
-    let mid = c.start_all.new.seen.items in
-    let after = c.halt.new.seen.items in
     let did = stepped me host event w in
     let all = begun me host event w in
     let one = c.in_ok-halts.ensures.turn w host faces is in
-    let two = c.in_ok-begun.ensures did.world old one.at (one.rest.now ∙ now) in
-    let both = turn_after me _ _ c.args.turn.tear c.args.turn.tear _ _ _ _ _ w did (all_starts me) one two in
-    let meant = as_meant me host event w c.args.turn.tear old _ c.in_ok-halts.taken c.in_ok-halts.halts one.at (c.in_ok-halts.ensures.halts host is) in
-    let three = subst (λ (r : Ran). GrowsByFront mid after (seen_of r)) meant (c.in_err-left.ensures all.world _ old both.at) in
-    rw p.1 (run_before before after all (halts (step event host.state).halts me) mid both.seen three)
+    let two = starts_then turn mid next c.in_ok-halts.taken (Ok c.in_ok-begun.begun) c.in_ok-halts.ensures.same c.in_ok-begun.ensures.turn
+    did.world old one.at (one.rest.now ∙ now) in
+    let both = turn_after me _ _ turn.tear turn.tear _ _ _ _ _ w did (all_starts me) one two in
+    let meant = as_meant me host event w turn.tear old _ c.in_ok-halts.taken c.in_ok-halts.halts one.at (c.in_ok-halts.ensures.halts host is) in
+    let same = same_on turn mid next c.in_ok-halts.ensures.same c.in_ok-begun.ensures.same in
+    let three = halts_then turn next after c.in_ok-halts.halts c.in_ok-begun.begun (Err c.in_err-left.field-0) same c.in_err-left.ensures.turn
+    all.world old both.at in
+    let front = subst (λ (r : Ran). GrowsByFront next.seen.now.items after.seen.now.items (seen_of r)) meant three in
+    rw p.1 (run_before turn.seen.now.items after.seen.now.items all (halts (step event host.state).halts me) next.seen.now.items both.seen front)
 
-pub returns : goal.returns
-returns c = λ w host faces is now.
-    let me = c.args.turn.me in
+pub returns-clause-same : goal.returns-clause-same
+returns-clause-same c = same_on c.args.turn.now c.start_all.new.turn c.halt.new.turn
+    (same_on c.args.turn.now c.take_step.new.turn c.start_all.new.turn c.in_ok-halts.ensures.same c.in_ok-begun.ensures.same) c.in_ok-left.ensures.same
+
+pub returns-clause-turn : goal.returns-clause-turn
+returns-clause-turn c = λ w host faces is now.
+    let turn = c.args.turn.now in
+    let mid = c.take_step.new.turn in
+    let next = c.start_all.new.turn in
+    let after = c.halt.new.turn in
+    let me = turn.me in
     let event = c.args.event.now in
     let old = history_of c.args.node.value in
     let did = stepped me host event w in
     let all = begun me host event w in
     let one = c.in_ok-halts.ensures.turn w host faces is in
-    let two = c.in_ok-begun.ensures did.world old one.at (one.rest.now ∙ now) in
-    let both = turn_after me _ _ c.args.turn.tear c.args.turn.tear _ _ _ _ _ w did (all_starts me) one two in
-    let three = c.in_ok-left.ensures all.world _ old both.at in
-    let meant = as_meant me host event w c.args.turn.tear old _ c.in_ok-halts.taken c.in_ok-halts.halts one.at (c.in_ok-halts.ensures.halts host is) in
-    turn_after me _ _ c.args.turn.tear c.args.turn.tear _ _ _ _ _ w all (halts (step event host.state).halts me) both
-    (subst (λ (r : Ran). Turns me (StandsAfter c.args.turn.tear old c.in_ok-left.left) c.args.turn.tear c.start_all.new.packets.items c.start_all.new.seen.items
-    c.halt.new.seen.items all.world r) meant three)
+    let two = starts_then turn mid next c.in_ok-halts.taken (Ok c.in_ok-begun.begun) c.in_ok-halts.ensures.same c.in_ok-begun.ensures.turn
+    did.world old one.at (one.rest.now ∙ now) in
+    let both = turn_after me _ _ turn.tear turn.tear _ _ _ _ _ w did (all_starts me) one two in
+    let meant = as_meant me host event w turn.tear old _ c.in_ok-halts.taken c.in_ok-halts.halts one.at (c.in_ok-halts.ensures.halts host is) in
+    let same = same_on turn mid next c.in_ok-halts.ensures.same c.in_ok-begun.ensures.same in
+    let three = halts_then turn next after c.in_ok-halts.halts c.in_ok-begun.begun (Ok c.in_ok-left.left) same c.in_ok-left.ensures.turn
+    all.world old both.at in
+    turn_after me _ _ turn.tear turn.tear _ _ _ _ _ w all (halts (step event host.state).halts me) both
+    (subst (λ (r : Ran). IsTurned (later turn next) after old all.world r c.in_ok-left.left) meant three)

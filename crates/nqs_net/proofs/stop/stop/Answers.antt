@@ -11,5 +11,5 @@ invariant_of-result c = record {
 }
 
 pub returns-clause-stopped : goal.returns-clause-stopped
-returns-clause-stopped c = subst (IsTorn c.args.turn.tear (histories_of mem.history_of c.args.disks))
+returns-clause-stopped c = subst (IsTorn c.args.turn.now.tear (histories_of mem.history_of c.args.disks))
     (sym c.in_ok-disks-2.ensures.ok) c.in_ok-disks.ensures.torn

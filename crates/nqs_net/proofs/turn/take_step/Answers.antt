@@ -6,10 +6,10 @@ use Rattle.nqs_rules.specs.Step.{step}
 use Rattle.nqs_rules.specs.World.{steps}
 use Rattle.nqs_node.specs.Nodes.{history_of, fails_of, content_of, is_stopped}
 use Rattle.nqs_store.specs.Sound.{IsSoundHost}
-use Rattle.nqs_net.specs.Followed.{StandsAfter}
-use Rattle.nqs_net.specs.Turns.{Turns}
+use Rattle.nqs_net.specs.Followed.{IsTurned}
 use Rattle.nqs_net.specs.Worlds.{IsUp}
 use Rattle.nqs_net.proofs.Fronts.{none_shown}
+use Rattle.nqs_net.proofs.Following.{same_turn}
 use Rattle.nqs_net.proofs.turn.take_step.Goals as goal
 
 pub take_event-requires-clause-sound : goal.take_event-requires-clause-sound
@@ -25,8 +25,10 @@ take_event-requires-clause-sane c = subst (λ n. IsTrue (is_sane_event (length (
 pub returns-in_err-took : goal.returns-in_err-took
 returns-in_err-took c =
     let p = err_from_is_err_and c.from_residual.result c.from_residual.ensures.1 in
+    let seen = c.args.turn.now.seen.now.items in
     record {
-      turn = λ w host faces is. rw p.1 (none_shown c.args.seen.now.items c.args.seen.now.items _ refl);
+      same = same_turn c.args.turn.now;
+      turn = λ w host faces is. rw p.1 (none_shown seen seen _ refl);
       halts = λ host is. rw p.1 tt;
     }
 
@@ -38,6 +40,7 @@ returns-in_err-slot c =
     let p = err_from_is_err_and c.from_residual-in_err-slot.result c.from_residual-in_err-slot.ensures.1 in
     let node = c.deref_mut.result.now in
     record {
+      same = c.in_err-slot.ensures.same;
       turn = λ w host faces is. (let up = subst (λ n. IsUp n host) (sym c.deref_mut.ensures.value) is in
           rw p.1 (c.in_err-slot.ensures.turn w host (ByEvent c.args.event.now) (step c.args.event.now host.state) (fails_of node) (history_of node) faces
           (c.in_ok-took.ensures.taken host up c.new-out.ensures.items)));
@@ -49,6 +52,9 @@ by_end : {P Q : Type 0} (took : Bool) → (took ≡ true → P) → (took ≡ fa
 by_end true ended broke = inl (ended refl)
 by_end false ended broke = inr (broke refl)
 
+pub returns-clause-same : goal.returns-clause-same
+returns-clause-same c = c.in_ok-slot.ensures.same
+
 pub returns-clause-halts : goal.returns-clause-halts
 returns-clause-halts c = λ host is.
     let up = subst (λ n. IsUp n host) (sym c.deref_mut.ensures.value) is in
@@ -59,8 +65,7 @@ returns-clause-turn c = λ w host faces is.
     let node = c.deref_mut.result.now in
     let up = subst (λ n. IsUp n host) (sym c.deref_mut.ensures.value) is in
     let x = step c.args.event.now host.state in
-    subst (λ n. Turns c.args.turn.me (StandsAfter c.args.turn.tear (history_of n) c.in_ok-slot.slot) c.args.turn.tear c.carry.new.packets.items
-    c.args.seen.now.items
-    c.carry.new.seen.items w (steps c.args.turn.me host (ByEvent c.args.event.now) x w)) c.deref_mut.ensures.value
+    subst (λ n. IsTurned c.args.turn.now c.carry.new.turn (history_of n) w (steps c.args.turn.now.me host (ByEvent c.args.event.now) x w) c.in_ok-slot.slot)
+    c.deref_mut.ensures.value
     (c.in_ok-slot.ensures.turn w host (ByEvent c.args.event.now) x (fails_of node) (history_of node) faces
     (c.in_ok-took.ensures.taken host up c.new-out.ensures.items))

@@ -45,34 +45,34 @@ do_at-requires c = let world = c.args.self.now in record {
 
 pub returns-clause-world : goal.returns-clause-world
 returns-clause-world c = λ network stands. let world = c.args.self.now in
-    acted_world world c.args.host c.args.deed.now c.remove-slot.result c.in_ok-slot.slot c.index-tear.result.now c.do_at.new.packets.items c.args.seen.now.items
-    c.do_at.new.seen.items (omega (arith, world.slots.ok.0))
-    c.remove-slot.ensures.value c.index-tear.ensures c.in_ok-slot.ensures network stands _ refl refl refl refl
+    acted_world world c.args.host c.args.deed.now c.remove-slot.result c.in_ok-slot.slot c.index-tear.result.now c.do_at.new.turn.packets.now.items c.args.seen.now.items
+    c.do_at.new.turn.seen.now.items (omega (arith, world.slots.ok.0))
+    c.remove-slot.ensures.value c.index-tear.ensures c.in_ok-slot.ensures.turn network stands _ refl refl refl refl
     (c.in_ok-insert.ensures.items ∙ ap (λ l. insert l c.args.host.0 c.in_ok-slot.slot) c.remove-slot.ensures.items)
 
 pub returns-clause-seen : goal.returns-clause-seen
 returns-clause-seen c = λ network stands. let world = c.args.self.now in
-    acted_seen world c.args.host c.args.deed.now c.remove-slot.result c.in_ok-slot.slot c.index-tear.result.now c.do_at.new.packets.items c.args.seen.now.items
-    c.do_at.new.seen.items (omega (arith, world.slots.ok.0))
-    c.remove-slot.ensures.value c.index-tear.ensures c.in_ok-slot.ensures network stands
+    acted_seen world c.args.host c.args.deed.now c.remove-slot.result c.in_ok-slot.slot c.index-tear.result.now c.do_at.new.turn.packets.now.items c.args.seen.now.items
+    c.do_at.new.turn.seen.now.items (omega (arith, world.slots.ok.0))
+    c.remove-slot.ensures.value c.index-tear.ensures c.in_ok-slot.ensures.turn network stands
 
 pub returns-clause-follow : goal.returns-clause-follow
 returns-clause-follow c = λ network stands. let world = c.args.self.now in
-    acted_follow world c.args.host c.args.deed.now c.remove-slot.result c.in_ok-slot.slot c.index-tear.result.now c.do_at.new.packets.items
-    c.args.seen.now.items c.do_at.new.seen.items (omega (arith, world.slots.ok.0))
-    c.remove-slot.ensures.value c.index-tear.ensures c.in_ok-slot.ensures network stands _
+    acted_follow world c.args.host c.args.deed.now c.remove-slot.result c.in_ok-slot.slot c.index-tear.result.now c.do_at.new.turn.packets.now.items
+    c.args.seen.now.items c.do_at.new.turn.seen.now.items (omega (arith, world.slots.ok.0))
+    c.remove-slot.ensures.value c.index-tear.ensures c.in_ok-slot.ensures.turn network stands _
     (c.in_ok-insert.ensures.items ∙ ap (λ l. insert l c.args.host.0 c.in_ok-slot.slot) c.remove-slot.ensures.items)
 
 pub returns-in_err-slot-clause-front : goal.returns-in_err-slot-clause-front
 returns-in_err-slot-clause-front c = λ network stands. let world = c.args.self.now in
     let p = err_from_is_err_and c.from_residual.result c.from_residual.ensures.1 in
-    rw p.1 (acted_front world c.args.host c.args.deed.now c.remove-slot.result c.index-tear.result.now c.args.seen.now.items c.do_at.new.seen.items
-    (omega (arith, world.slots.ok.0)) c.remove-slot.ensures.value c.index-tear.ensures c.in_err-slot.ensures network stands)
+    rw p.1 (acted_front world c.args.host c.args.deed.now c.remove-slot.result c.index-tear.result.now c.args.seen.now.items c.do_at.new.turn.seen.now.items
+    (omega (arith, world.slots.ok.0)) c.remove-slot.ensures.value c.index-tear.ensures c.in_err-slot.ensures.turn network stands)
 
 pub returns-in_err-insert-clause-front : goal.returns-in_err-insert-clause-front
 returns-in_err-insert-clause-front c = λ network stands. let world = c.args.self.now in
     let p = err_from_is_err_and c.from_residual-in_err-insert.result c.from_residual-in_err-insert.ensures.1 in
-    let saw = acted_seen world c.args.host c.args.deed.now c.remove-slot.result c.in_ok-slot.slot c.index-tear.result.now c.do_at.new.packets.items
-    c.args.seen.now.items c.do_at.new.seen.items (omega (arith, world.slots.ok.0))
-    c.remove-slot.ensures.value c.index-tear.ensures c.in_ok-slot.ensures network stands in
-    rw p.1 (all_shown c.args.seen.now.items c.do_at.new.seen.items _ saw)
+    let saw = acted_seen world c.args.host c.args.deed.now c.remove-slot.result c.in_ok-slot.slot c.index-tear.result.now c.do_at.new.turn.packets.now.items
+    c.args.seen.now.items c.do_at.new.turn.seen.now.items (omega (arith, world.slots.ok.0))
+    c.remove-slot.ensures.value c.index-tear.ensures c.in_ok-slot.ensures.turn network stands in
+    rw p.1 (all_shown c.args.seen.now.items c.do_at.new.turn.seen.now.items _ saw)
