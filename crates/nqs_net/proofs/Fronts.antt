@@ -25,6 +25,10 @@ pub shown_before : (old mid now first all : List Seen) → mid ≡ old ++ first 
 shown_before old mid now first all was (shown, rest, grown, is) =
     (first ++ shown, rest, grown ∙ ap (λ l. l ++ shown) was ∙ append_assoc old first shown, ap (λ l. first ++ l) is ∙ sym (append_assoc first shown rest))
 
+-- what a loan left is what was behind it
+pub left_as : (P : List Seen → Type 0) (now left : List Seen) → left ≡ now → P now → P left
+left_as P now left same holds = rw same holds
+
 -- of one thing after the other
 module _ (old now : List Seen) (r : Ran) (f : Network → Ran) where
   pub more_to_run : GrowsByFront old now (seen_of r) → GrowsByFront old now (seen_of (then_ran r f))

@@ -3,10 +3,11 @@ use Rattle.std.specs.List.{insert}
 use Rattle.std.proofs.lemmas.List.{append-nil}
 use Rattle.std.proofs.lemmas.Result.{err_from_is_err_and}
 use Rattle.nqs_rules.specs.World.{seen_of}
-use Rattle.nqs_net.specs.Deeds.{done_by}
+use Rattle.nqs_net.specs.Deeds.{done, done_by}
+use Rattle.nqs_net.specs.Lists.{GrowsByFront}
 use Rattle.nqs_net.specs.Worlds.{IsWorld}
 use Rattle.nqs_net.proofs.Placing.{tears_as_long, no_host, sane_at, boots_at, acted_world, acted_seen, acted_follow, acted_front}
-use Rattle.nqs_net.proofs.Fronts.{all_shown}
+use Rattle.nqs_net.proofs.Fronts.{all_shown, left_as}
 use Rattle.nqs_net.proofs.Following.{follow_selves}
 use Rattle.nqs_net.proofs.world.World.act.Goals as goal
 
@@ -45,16 +46,17 @@ do_at-requires c = let world = c.args.self.now in record {
 
 pub returns-clause-world : goal.returns-clause-world
 returns-clause-world c = λ network stands. let world = c.args.self.now in
-    acted_world world c.args.host c.args.deed.now c.remove-slot.result c.in_ok-slot.slot c.index-tear.result.now c.do_at.new.turn.packets.now.items c.args.seen.now.items
-    c.do_at.new.turn.seen.now.items (omega (arith, world.slots.ok.0))
+    acted_world world c.args.host c.args.deed.now c.remove-slot.result c.in_ok-slot.slot c.index-tear.result.now c.do_at.new.turn.packets.now.items
+    c.args.seen.now.items c.do_at.new.turn.seen.now.items (omega (arith, world.slots.ok.0))
     c.remove-slot.ensures.value c.index-tear.ensures c.in_ok-slot.ensures.turn network stands _ refl refl refl refl
     (c.in_ok-insert.ensures.items ∙ ap (λ l. insert l c.args.host.0 c.in_ok-slot.slot) c.remove-slot.ensures.items)
 
 pub returns-clause-seen : goal.returns-clause-seen
 returns-clause-seen c = λ network stands. let world = c.args.self.now in
-    acted_seen world c.args.host c.args.deed.now c.remove-slot.result c.in_ok-slot.slot c.index-tear.result.now c.do_at.new.turn.packets.now.items c.args.seen.now.items
-    c.do_at.new.turn.seen.now.items (omega (arith, world.slots.ok.0))
-    c.remove-slot.ensures.value c.index-tear.ensures c.in_ok-slot.ensures.turn network stands
+    let saw = acted_seen world c.args.host c.args.deed.now c.remove-slot.result c.in_ok-slot.slot c.index-tear.result.now c.do_at.new.turn.packets.now.items
+    c.args.seen.now.items c.do_at.new.turn.seen.now.items (omega (arith, world.slots.ok.0))
+    c.remove-slot.ensures.value c.index-tear.ensures c.in_ok-slot.ensures.turn network stands in
+    left_as (λ l. l ≡ c.args.seen.now.items ++ seen_of (done c.args.deed.now c.args.host network)) c.do_at.new.turn.seen.now.items _ (grind arith) saw
 
 pub returns-clause-follow : goal.returns-clause-follow
 returns-clause-follow c = λ network stands. let world = c.args.self.now in
@@ -66,13 +68,18 @@ returns-clause-follow c = λ network stands. let world = c.args.self.now in
 pub returns-in_err-slot-clause-front : goal.returns-in_err-slot-clause-front
 returns-in_err-slot-clause-front c = λ network stands. let world = c.args.self.now in
     let p = err_from_is_err_and c.from_residual.result c.from_residual.ensures.1 in
-    rw p.1 (acted_front world c.args.host c.args.deed.now c.remove-slot.result c.index-tear.result.now c.args.seen.now.items c.do_at.new.turn.seen.now.items
-    (omega (arith, world.slots.ok.0)) c.remove-slot.ensures.value c.index-tear.ensures c.in_err-slot.ensures.turn network stands)
+    let before = c.args.seen.now.items in
+    let after = c.do_at.new.turn.seen.now.items in
+    let front = acted_front world c.args.host c.args.deed.now c.remove-slot.result c.index-tear.result.now before after
+    (omega (arith, world.slots.ok.0)) c.remove-slot.ensures.value c.index-tear.ensures c.in_err-slot.ensures.turn network stands in
+    rw p.1 (left_as (λ l. GrowsByFront before l (seen_of (done c.args.deed.now c.args.host network))) after _ (grind arith) front)
 
 pub returns-in_err-insert-clause-front : goal.returns-in_err-insert-clause-front
 returns-in_err-insert-clause-front c = λ network stands. let world = c.args.self.now in
     let p = err_from_is_err_and c.from_residual-in_err-insert.result c.from_residual-in_err-insert.ensures.1 in
+    let before = c.args.seen.now.items in
+    let after = c.do_at.new.turn.seen.now.items in
     let saw = acted_seen world c.args.host c.args.deed.now c.remove-slot.result c.in_ok-slot.slot c.index-tear.result.now c.do_at.new.turn.packets.now.items
-    c.args.seen.now.items c.do_at.new.turn.seen.now.items (omega (arith, world.slots.ok.0))
+    before after (omega (arith, world.slots.ok.0))
     c.remove-slot.ensures.value c.index-tear.ensures c.in_ok-slot.ensures.turn network stands in
-    rw p.1 (all_shown c.args.seen.now.items c.do_at.new.turn.seen.now.items _ saw)
+    rw p.1 (left_as (λ l. GrowsByFront before l (seen_of (done c.args.deed.now c.args.host network))) after _ (grind arith) (all_shown before after _ saw))
