@@ -42,7 +42,7 @@ returns-in_err-begun c =
       turn = λ w host faces is now.
           let did = booted turn.me host w in
           let one = c.in_ok-booted.ensures.turn w host faces is in
-          let two = starts_then turn mid after c.in_ok-booted.booted (Err c.in_err-begun.field-0) c.in_ok-booted.ensures.same c.in_err-begun.ensures.turn
+          let two = starts_then turn mid after c.in_ok-booted.booted (Err c.in_err-begun.field-0.0) c.in_ok-booted.ensures.same c.in_err-begun.ensures.turn
           did.world (histories_of mem.history_of c.args.down.disks.value) one.at (one.rest.now ∙ now) in
           rw p.1 (run_before turn.seen.now.items after.seen.now.items did (all_starts turn.me) mid.seen.now.items one.seen two);
     }

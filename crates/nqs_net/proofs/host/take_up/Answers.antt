@@ -76,7 +76,7 @@ returns-in_err-begun-clause-turn c = λ w host faces is now.
     let event = c.args.event.now in
     let did = stepped me host event w in
     let one = c.in_ok-halts.ensures.turn w host faces is in
-    let two = starts_then turn mid after c.in_ok-halts.taken (Err c.in_err-begun.field-0) c.in_ok-halts.ensures.same c.in_err-begun.ensures.turn
+    let two = starts_then turn mid after c.in_ok-halts.taken (Err c.in_err-begun.field-0.0) c.in_ok-halts.ensures.same c.in_err-begun.ensures.turn
     did.world (history_of c.args.node.value) one.at (one.rest.now ∙ now) in
     rw p.1 (more_to_run turn.seen.now.items after.seen.now.items (begun me host event w) (halts (step event host.state).halts me)
     (run_before turn.seen.now.items after.seen.now.items did (all_starts me) mid.seen.now.items one.seen two))
@@ -103,7 +103,7 @@ returns-in_err-left-clause-turn c = λ w host faces is now.
     let both = turn_after me _ _ turn.tear turn.tear _ _ _ _ _ w did (all_starts me) one two in
     let meant = as_meant me host event w turn.tear old _ c.in_ok-halts.taken c.in_ok-halts.halts one.at (c.in_ok-halts.ensures.halts host is) in
     let same = same_on turn mid next c.in_ok-halts.ensures.same c.in_ok-begun.ensures.same in
-    let three = halts_then turn next after c.in_ok-halts.halts c.in_ok-begun.begun (Err c.in_err-left.field-0) same c.in_err-left.ensures.turn
+    let three = halts_then turn next after c.in_ok-halts.halts c.in_ok-begun.begun (Err c.in_err-left.field-0.0) same c.in_err-left.ensures.turn
     all.world old both.at in
     let front = subst (λ (r : Ran). GrowsByFront next.seen.now.items after.seen.now.items (seen_of r)) meant three in
     rw p.1 (run_before turn.seen.now.items after.seen.now.items all (halts (step event host.state).halts me) next.seen.now.items both.seen front)
