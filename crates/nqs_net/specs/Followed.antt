@@ -54,8 +54,8 @@ IsTurned before after old w ran slot = Turns before.me (StandsAfter before.tear 
 abbrev pub IsFrontSeen : (before after : Turn) → Ran → Type 0
 IsFrontSeen before after ran = GrowsByFront before.seen.now.items after.seen.now.items (seen_of ran)
 
--- What a call answers that does something at a place. At Ok it was done, and the disks there follow those; at an Err a front of
--- what there is to see of it was seen.
+-- What a call answers that does something at a place. At Ok it was done, and the disks there follow
+-- those; at an Err a front of what there is to see of it was seen.
 abbrev pub IsDone : (before after : Turn) → (old : Which → History) → Network → Ran → Result Slot Lack → Type 0
 IsDone before after old w ran result = MatchResult result (IsTurned before after old w ran) (λ _. IsFrontSeen before after ran)
 

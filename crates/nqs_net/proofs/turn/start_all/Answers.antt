@@ -31,8 +31,8 @@ returns-in_err-more-clause-turn c = λ w old at now.
     let mid = c.loop-more.turn in
     let after = c.start_one.new.turn in
     let v = c.loop-more.invariant.started w old at now in
-    let rest = next_then turn mid after c.loop-more.slot (Err c.in_err-more.field-0.0) c.loop-more.invariant.same c.in_err-more.ensures.turn v.0.world old v.1.at
-    (v.1.rest.now ∙ now) in
+    let rest = next_then turn mid after c.loop-more.slot (Err c.in_err-more.field-0.0) c.loop-more.invariant.same c.in_err-more.ensures.turn v.0.world old
+    v.1.at (v.1.rest.now ∙ now) in
     rw p.1 (shown_as before after.seen.now.items _ _ (ap seen_of (sym v.2))
     (run_before before after.seen.now.items v.0 (all_starts turn.me) mid.seen.now.items v.1.seen rest))
 
