@@ -45,7 +45,8 @@ not_booted deed.Finish h host w other = refl
 not_booted deed.Crash h host w other = refl
 not_booted deed.Boot h host w other = absurd (other refl)
 
--- What comes to a host by an event is what happens then, and is within its limits where the event is and the network is in order.
+-- What comes to a host by an event is what happens then, and is within its limits where the event
+-- is and the network is in order.
 pub record Means (a : Act) (w : Network) (p : HostId × Deed) : Type 0 where
   pub happens : happens a w ≡ done p.1 p.0 w
   pub sane : is_sane_act a ≡ true → (site : List (List ℕ)) → IsInOrderAll site w → IsSaneFor (length site) p.1

@@ -24,7 +24,8 @@ abbrev pub disks_in : Slot → Which → History
 disks_in (Up up) = history_of up.node.value
 disks_in (Down down) = histories_of mem.history_of down.disks.value
 
--- The disks of a host went on. Where it stopped, they went on to some last calls, and are now what the tear left of these.
+-- The disks of a host went on. Where it stopped, they went on to some last calls, and are now what
+-- the tear left of these.
 abbrev pub Follows : Tear → (Which → History) → Slot → Type 0
 Follows tear old (Up up) = GoOn old (history_of up.node.value)
 Follows tear old (Down down) =

@@ -11,9 +11,10 @@ use Rattle.nqs_store.specs.declared.disks.Disks.{Disks}
 use Rattle.nqs_net.specs.Pasts.{HasCome}
 use Rattle.nqs_net.specs.Worlds.{AreDisks, active_in}
 
--- Whatever images a host's disks may leave tell its state, and its active journal. Its root and its calls of them are as the
--- network says, and the calls are those that kept one change after the other, from one state that the network says it told to
--- the next. At each moment of them the images told the state before a change or the one after it.
+-- Whatever images a host's disks may leave tell its state, and its active journal. Its root and its
+-- calls of them are as the network says, and the calls are those that kept one change after the
+-- other, from one state that the network says it told to the next. At each moment of them the
+-- images told the state before a change or the one after it.
 pub record IsLeft (left : Disks MemDisk) (host : Host) : Type 0 where
   pub told : LeavesHost (histories_of mem.history_of left) host.state (active_in host)
   pub root : content (histories_of mem.history_of left Root) ≡ host.root

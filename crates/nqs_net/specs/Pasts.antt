@@ -1,4 +1,5 @@
--- What the disks of a host did since they were new, or since a stop tore them: one change after the other was kept.
+-- What the disks of a host did since they were new, or since a stop tore them: one change after the
+-- other was kept.
 use Rattle.std.specs.Prelude.{◌≡◌, ℕ, ◌≤◌, List, [], ◌∷◌, map}
 use Rattle.nqs_state.specs.State.{Plain}
 use Rattle.nqs_types.specs.declared.change.Change.{Change}
@@ -21,7 +22,8 @@ pub record Point : Type 0 where
 abbrev pub point : (Which → History) → Active → Plain → Point
 point now a s = record { histories = now; active = a; state = s }
 
--- whatever images the disks may leave then tell the state, and name the active journal, which has as many records
+-- whatever images the disks may leave then tell the state, and name the active journal, which has
+-- as many records
 abbrev pub IsTelling : Point → Type 0
 IsTelling now = LeavesHost now.histories now.state now.active
 
@@ -33,9 +35,10 @@ pub record IsFirst (now : Point) : Type 0 where
   pub spool : moment (now.histories Spool) ≡ 0
   pub told : IsTelling now
 
--- A change was kept, by just the calls of its commit, which begin with those of a checkpoint where one was due. The journal that
--- is active then has one record more. Whatever images the disks may leave at a moment of these calls tell the state before the
--- change or the one after it, and after the last of them the one after it.
+-- A change was kept, by just the calls of its commit, which begin with those of a checkpoint where
+-- one was due. The journal that is active then has one record more. Whatever images the disks may
+-- leave at a moment of these calls tell the state before the change or the one after it, and after
+-- the last of them the one after it.
 pub record IsNext (was now : Point) : Type 0 where
   pub change : Change (List ℕ)
   pub made : now.state ≡ applied change was.state
@@ -50,7 +53,7 @@ abbrev pub Leads : List Point → Point → Type 0
 Leads [] now = IsFirst now
 Leads (was ∷ points) now = IsNext was now × Leads points was
 
--- So the disks came from their first calls to what they did now, with this active journal, and the host through just these
--- states, the last of them first, to this one.
+-- So the disks came from their first calls to what they did now, with this active journal, and the
+-- host through just these states, the last of them first, to this one.
 abbrev pub HasCome : (Which → History) → Active → List Plain → Plain → Type 0
 HasCome now a states s = (points : List Point) × (map (λ (p : Point). p.state) points ≡ states) × Leads points (point now a s)

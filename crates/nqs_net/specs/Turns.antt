@@ -49,15 +49,17 @@ abbrev pub starts_in : Slot → ℕ
 starts_in (Up up) = starts_left (content_of up.node.value)
 starts_in (Down down) = 0
 
--- what a call of a node did for a step, by whether it was made: else a failed call of a disk stopped the node
+-- what a call of a node did for a step, by whether it was made: else a failed call of a disk
+-- stopped the node
 abbrev pub Ended : Host → Stepped (List ℕ) → (Which → ℕ → Bool) → (Which → History) → Node MemDisk ghosts → List Output → Bool → Type 0
 Ended host x fails old node out true = Tells node (after_step x host.state) × IsMade (active_in host) fails old (history_of node) x.change
     × (out ≡ map shown x.outputs) × (active_of node ≡ after_kept x.change (active_in host))
 Ended host x fails old node out false = (which : Which) × (IsTrue (is_starved node which)
     ⊎ (IsBlown (fails which) (old which) ⊎ IsCutBy (active_in host) fails old (history_of node) x.change host.state which))
 
--- A node whose disks had done this, with these calls to fail, was to take a step of this host. Its root held what the host says.
--- Until its last call, whatever images the disks may leave tell the state before the step or the one after it.
+-- A node whose disks had done this, with these calls to fail, was to take a step of this host. Its
+-- root held what the host says. Until its last call, whatever images the disks may leave tell the
+-- state before the step or the one after it.
 pub record IsTaken (host : Host) (x : Stepped (List ℕ)) (fails : Which → ℕ → Bool) (old : Which → History) (node : Node MemDisk ghosts) (out : List Output)
     (took : Bool) : Type 0 where
   pub up : host.up ≡ true
@@ -99,13 +101,15 @@ pub record IsSameBut (h : HostId) (w v : Network) : Type 0 where
   pub site : v.site ≡ w.site
   pub now : v.now ≡ w.now
 
--- What was done at a place: the host there has P now, the others are as they were, and just what was done was seen.
+-- What was done at a place: the host there has P now, the others are as they were, and just what
+-- was done was seen.
 pub record Turns (h : HostId) (P : Host → Type 0) (tear : Tear) (packets : List Message) (before after : List Seen) (w : Network) (r : Ran) : Type 0 where
   pub at : IsAt h P tear packets r.world
   pub rest : IsSameBut h w r.world
   pub seen : after ≡ before ++ seen_of r
 
--- The next start was made, if there was one: the others follow. Where there are no more, none follows.
+-- The next start was made, if there was one: the others follow. Where there are no more, none
+-- follows.
 pub record Starts (h : HostId) (more : Bool) (P : Host → Type 0) (tear : Tear) (packets : List Message) (before after : List Seen) (w : Network) : Type 0 where
   pub ran : Ran
   pub turn : Turns h P tear packets before after w ran

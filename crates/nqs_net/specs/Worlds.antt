@@ -53,8 +53,9 @@ pub record IsDisk (left : Option ℕ) (made : ℕ) (h : History) (fails : ℕ �
 abbrev pub AreDisks : Host → (Which → History) → (Which → ℕ → Bool) → Type 0
 AreDisks host histories fails = (which : Which) → IsDisk (fuse_of which host.fuses) (calls_of which host.calls) (histories which) (fails which)
 
--- A node that is up. Its root holds what the host says, and its active journal is the host's. At each moment since its disks
--- were new or torn, whatever images they may leave then tell the state before the change that is being kept or the one after it.
+-- A node that is up. Its root holds what the host says, and its active journal is the host's. At
+-- each moment since its disks were new or torn, whatever images they may leave then tell the state
+-- before the change that is being kept or the one after it.
 pub record IsUp (node : Node MemDisk ghosts) (host : Host) : Type 0 where
   pub up : host.up ≡ true
   pub tells : Tells node host.state

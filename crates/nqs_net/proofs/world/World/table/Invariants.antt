@@ -6,7 +6,8 @@ use Rattle.nqs_net.specs.Followed.{disks_in}
 use Rattle.nqs_net.specs.Worlds.{AreSlots}
 use Rattle.nqs_net.proofs.world.World.table.Given as goal
 
--- the disks are as they were, the slots stand for the hosts that they stood for, and the states so far for theirs
+-- the disks are as they were, the slots stand for the hosts that they stood for, and the states so
+-- far for theirs
 abbrev pub invariant-loop-slot : goal.invariant-loop-slot
 invariant-loop-slot l = record {
   disks : map disks_in l.slot-items ≡ map disks_in l.fn.self.slots.items;
