@@ -81,3 +81,11 @@ memory_is_no_disk memory is = cc
 
 pub disk_is_no_memory : {T : Type 0} (memory : Memory) → IsErrOf {T = T} (Err cut.Disk) (cut.Memory memory) → ⊥
 disk_is_no_memory memory is = cc
+
+-- nor is one of the wire, or want of memory, of a turn
+
+pub wire_no_disk : {T : Type 0} → IsErrOf {T = T} (Err fault.Wire) fault.Disk → ⊥
+wire_no_disk is = cc
+
+pub memory_no_disk : {T : Type 0} (memory : Memory) → IsErrOf {T = T} (Err (fault.Memory memory)) fault.Disk → ⊥
+memory_no_disk memory is = cc

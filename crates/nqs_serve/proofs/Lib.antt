@@ -10,6 +10,7 @@ mod Right
 mod Sendable
 mod Ending
 mod Known
+mod Leaving
 pub mod Moments
 mod Sorting
 mod Sampled

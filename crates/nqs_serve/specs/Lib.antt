@@ -6,5 +6,6 @@ pub mod Runs
 pub mod Ends
 pub mod Moments
 pub mod Nodes
+pub mod Leaves
 pub mod Sorted
 pub mod Samples

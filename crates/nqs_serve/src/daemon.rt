@@ -1,6 +1,6 @@
 //! The daemon's loop.
 
-ghost use Rattle.std.specs.Prelude.{◌≡◌, ◌⊎◌, ◌≤◌, ◌<◌, ◌+◌, ◌∷◌, ◌++◌, [], false, ℕ, Bool, List, IsTrue, OnOk, OnErr, IfOk, IfErr, IsErrOf, length};
+ghost use Rattle.std.specs.Prelude.{◌≡◌, ◌≤◌, ◌∷◌, [], false, List, IsTrue, IfOk, IfErr, IsErrOf};
 ghost use Rattle.nqs_state.specs.State.{Plain};
 ghost use Rattle.nqs_types.specs.declared.world.Which.{Which};
 ghost use Rattle.nqs_outside.specs.Causes.{Rose};
@@ -10,6 +10,7 @@ ghost use Rattle.nqs_store.specs.Sound.{IsSoundHost};
 ghost use Rattle.nqs_serve.specs.Events.{Here};
 ghost use Rattle.nqs_serve.specs.Runs.{Act, Turn, idle, telling, Ran, Begun, none_begun};
 ghost use Rattle.nqs_serve.specs.Nodes.{Knows, here_of};
+ghost use Rattle.nqs_serve.specs.Leaves.{Leaves};
 ghost use Rattle.nqs_serve.specs.Ends.{Ends, stops, fault_of, end_of};
 ghost use Rattle.nqs_serve.specs.Moments.{TellsTo, TellsThroughout, IsPassed};
 
@@ -92,9 +93,7 @@ fn turn<D: Disk, W: Wire, L: Launcher, P: Printer, O: Outlet, C: Clock>(
     requires sound { IsSoundHost (content_of node.old) }
     requires running { is_stopped node.old ≡ false }
     requires host { IsHost me }
-    ensures sound { IsSoundHost (content_of node.new) }
-    ensures site { (content_of node.new).site ≡ (content_of node.old).site }
-    ensures running { OnOk result (is_stopped node.new ≡ false) }
+    ensures leaves { Leaves node.old node.new Fault.Disk result }
     ensures ok { (s : Plain) (here : Here) → Knows node.old s → here ≡ record { me = me; site = (content_of node.old).site }
         → IfOk result (λ stop. (acts : List Act) × (u : Plain) × Knows node.new u × (stops here (idle s) acts ≡ stop ∷ [])
         × Ran here acts (idle s) (idle u) none_begun
@@ -109,9 +108,6 @@ fn turn<D: Disk, W: Wire, L: Launcher, P: Printer, O: Outlet, C: Clock>(
         × Ends (end_of fault) 1 (stops here (idle s) acts) t more node.new
         × TellsThroughout (active_of node.old) (history_of node.old) (history_of node.new) (IsPassed here (idle s) acts more.moments)) }
     ensures wire_fault { IsErrOf result Fault.Wire → Rose (W.receive_faults wire.old) (W.receive_faults wire.new) }
-    ensures disk_fault { IsErrOf result Fault.Disk → IsTrue (is_stopped node.new)
-        × ((which : Which) × Rose (D.faults (disk_of which node.old)) (D.faults (disk_of which node.new))) }
-    ensures later { (which : Which) → D.faults (disk_of which node.old) ≤ D.faults (disk_of which node.new) }
     ensures wire { W.receive_faults wire.old ≤ W.receive_faults wire.new }
 {
     let site = node.state().site.as_slice();

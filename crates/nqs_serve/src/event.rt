@@ -1,7 +1,7 @@
 //! The event that a message is, and its moment.
 
 ghost use Rattle.std.specs.Prelude.{◌≡◌, IfOk};
-ghost use Rattle.nqs_serve.specs.Events.{line_in, command_of, are_of_site, event_by, event_of, at_moment};
+ghost use Rattle.nqs_serve.specs.Events.{line_in, command_of, are_of_site, event_of, at_moment};
 
 use nqs_base::{Bytes, Memory, Name};
 use nqs_language_acts::{qdel_command, qmgr_command, qstat_command, qsub_command};

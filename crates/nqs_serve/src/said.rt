@@ -3,7 +3,7 @@
 //! The names and numbers of a message are those of its types. The functions that tell it only read
 //! them: a caller cites one by calling it (`nqs_records/src/values.rt` has the others).
 
-ghost use Rattle.std.specs.Prelude.{◌≡◌, IsTrue, nat_le};
+ghost use Rattle.std.specs.Prelude.{IsTrue, nat_le};
 ghost use Rattle.nqs_node.specs.Reading.{carries_short};
 ghost use Rattle.nqs_packets.specs.Messages.{IsTypedJob, IsSaid};
 ghost use Rattle.nqs_packets.specs.Values.{IsNumber, MaySend};

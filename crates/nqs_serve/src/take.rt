@@ -8,24 +8,23 @@ ghost use Rattle.nqs_base.specs.Want.{want};
 ghost use Rattle.nqs_state.specs.State.{Plain};
 ghost use Rattle.nqs_types.specs.declared.event.Event.{Event as Happening};
 ghost use Rattle.nqs_types.specs.declared.event.Output.{Output as Out};
-ghost use Rattle.nqs_types.specs.declared.world.Which.{Which};
 ghost use Rattle.nqs_rules.specs.Measure.{starts_left};
 ghost use Rattle.nqs_rules.specs.Sane.{is_sane_event};
 ghost use Rattle.nqs_rules.specs.Shutdowns.{shuts_down};
 ghost use Rattle.nqs_rules.specs.Start.{start};
-ghost use Rattle.nqs_rules.specs.Starts.{starts, after_starts, after_step};
+ghost use Rattle.nqs_rules.specs.Starts.{starts, after_starts};
 ghost use Rattle.nqs_rules.specs.Step.{step};
 ghost use Rattle.nqs_rules.specs.Stepped.{Stepped};
-ghost use Rattle.nqs_outside.specs.Causes.{Rose};
 ghost use Rattle.nqs_back.specs.Back.{comebacks, comes_back};
-ghost use Rattle.nqs_node.specs.Carried.{started, after_kept, IsOneOrOther};
-ghost use Rattle.nqs_node.specs.Nodes.{active_of, content_of, disk_of, history_of, is_stopped};
+ghost use Rattle.nqs_node.specs.Carried.{started};
+ghost use Rattle.nqs_node.specs.Nodes.{active_of, content_of, history_of, is_stopped};
 ghost use Rattle.nqs_node.specs.Reading.{AreShort};
 ghost use Rattle.nqs_records.specs.Values.{IsHost};
 ghost use Rattle.nqs_store.specs.Sound.{IsSoundHost};
 ghost use Rattle.nqs_serve.specs.Events.{Here, at_moment};
+ghost use Rattle.nqs_serve.specs.Leaves.{Leaves, TakesStep};
 ghost use Rattle.nqs_serve.specs.Letters.{AreReady};
-ghost use Rattle.nqs_serve.specs.Steps.{said, stepped, after_event, outputs, calls};
+ghost use Rattle.nqs_serve.specs.Steps.{said, after_event, outputs, calls};
 ghost use Rattle.nqs_serve.specs.Runs.{Act, took, Outcome, Turn, turn, idle, outputs_in, brought_back, event_back, arrivals, telling, Grew, Ran};
 ghost use Rattle.nqs_serve.specs.Runs.{Begun, none_begun, begun};
 ghost use Rattle.nqs_serve.specs.Nodes.{Knows, IsAt};
@@ -58,26 +57,11 @@ fn take<D: Disk>(
     requires right { IsTrue (is_right_event (length (content_of node.old).site) event.old) }
     requires said { AreRight 16 out.old.items }
     requires short { AreShort out.old.items }
-    ensures sound { IsSoundHost (content_of node.new) }
-    ensures site { (content_of node.new).site ≡ (content_of node.old).site }
-    ensures running { OnOk result (is_stopped node.new ≡ false) }
-    ensures right { OnOk result (AreRight 16 out.new.items) }
-    ensures short { OnOk result (AreShort out.new.items) }
-    ensures told { (s : Plain) → Knows node.old s
-        → OnOk result (Knows node.new (after_step (step event.old s) s) × (out.new.items ≡ out.old.items ++ said (step event.old s))) }
+    ensures leaves { Leaves node.old node.new Cut.Disk result }
+    ensures takes { TakesStep node.old node.new out.old.items out.new.items (step event.old) result }
     ensures halts { (s : Plain) → Knows node.old s → IfOk result (λ halts. halts ≡ shuts_down event.old s) }
-    ensures memory { (s : Plain) → Knows node.old s → IsErrOf result (Cut.Memory want) → Knows node.new s }
-    ensures longer { length out.old.items ≤ length out.new.items }
-    ensures unsaid { OnErr result (out.new.items ≡ out.old.items) }
-    ensures unmade { OnErr result (content_of node.new ≡ content_of node.old) }
-    ensures active { (s : Plain) → Knows node.old s → OnOk result (active_of node.new ≡ after_kept (step event.old s).change (active_of node.old)) }
-    ensures moments { (s : Plain) → Knows node.old s → IsOneOrOther (active_of node.old) (history_of node.old) (history_of node.new)
-        (step event.old s).change s }
     ensures no_more { IsTrue (comes_back event.old) → OnOk result (starts_left (content_of node.new) ≤ starts_left (content_of node.old)) }
     ensures none_back { IsTrue (comes_back event.old) → OnOk result (comebacks out.new.items ≡ comebacks out.old.items) }
-    ensures later { (which : Which) → D.faults (disk_of which node.old) ≤ D.faults (disk_of which node.new) }
-    ensures broken { IsErrOf result Cut.Disk → IsTrue (is_stopped node.new)
-        × ((which : Which) × Rose (D.faults (disk_of which node.old)) (D.faults (disk_of which node.new))) }
 {
     match node.take(alloc, event, out) {
         Ok(halts) => Ok(halts),
@@ -98,26 +82,12 @@ fn start<D: Disk>(
     requires running { is_stopped node.old ≡ false }
     requires said { AreRight 16 out.old.items }
     requires short { AreShort out.old.items }
-    ensures sound { IsSoundHost (content_of node.new) }
-    ensures site { (content_of node.new).site ≡ (content_of node.old).site }
-    ensures running { OnOk result (is_stopped node.new ≡ false) }
-    ensures right { OnOk result (AreRight 16 out.new.items) }
-    ensures short { OnOk result (AreShort out.new.items) }
+    ensures leaves { Leaves node.old node.new Cut.Disk result }
+    ensures takes { TakesStep node.old node.new out.old.items out.new.items (started now) result }
     ensures more { (s : Plain) → Knows node.old s → IfOk result (λ more. more ≡ is_some (start now s)) }
-    ensures told { (s : Plain) → Knows node.old s
-        → OnOk result (Knows node.new (after_step (started now s) s) × (out.new.items ≡ out.old.items ++ said (started now s))) }
-    ensures memory { (s : Plain) → Knows node.old s → IsErrOf result (Cut.Memory want) → Knows node.new s }
-    ensures longer { length out.old.items ≤ length out.new.items }
-    ensures unsaid { OnErr result (out.new.items ≡ out.old.items) }
-    ensures unmade { OnErr result (content_of node.new ≡ content_of node.old) }
-    ensures active { (s : Plain) → Knows node.old s → OnOk result (active_of node.new ≡ after_kept (started now s).change (active_of node.old)) }
-    ensures moments { (s : Plain) → Knows node.old s → IsOneOrOther (active_of node.old) (history_of node.old) (history_of node.new) (started now s).change s }
     ensures idle { IfOk result (λ more. more ≡ false → (content_of node.new ≡ content_of node.old) × (out.new.items ≡ out.old.items)) }
     ensures fewer { IfOk result (λ more. IsTrue more → starts_left (content_of node.new) < starts_left (content_of node.old)) }
     ensures one_back { OnOk result (comebacks out.new.items ≤ comebacks out.old.items + 1) }
-    ensures later { (which : Which) → D.faults (disk_of which node.old) ≤ D.faults (disk_of which node.new) }
-    ensures broken { IsErrOf result Cut.Disk → IsTrue (is_stopped node.new)
-        × ((which : Which) × Rose (D.faults (disk_of which node.old)) (D.faults (disk_of which node.new))) }
 {
     match node.start_next(alloc, now, out) {
         Ok(more) => Ok(more),
@@ -169,9 +139,7 @@ fn settle<D: Disk>(
     requires short { AreShort out.old.items }
     requires many { length letters.old.items ≡ length out.old.items }
     requires room { length back.old.items + length out.old.items ≤ deque_capacity back.old }
-    ensures sound { IsSoundHost (content_of node.new) }
-    ensures site { (content_of node.new).site ≡ (content_of node.old).site }
-    ensures running { OnOk result (is_stopped node.new ≡ false) }
+    ensures leaves { Leaves node.old node.new Cut.Disk result }
     ensures many { UnlessMemory result (length letters.new.items ≡ length out.new.items) }
     ensures ready { (s : Plain) (here : Here) → Knows node.old s → here ≡ record { me = me; site = (content_of node.old).site }
         → AreReady here out.old.items letters.old.items → UnlessMemory result (AreReady here out.new.items letters.new.items) }
@@ -187,9 +155,6 @@ fn settle<D: Disk>(
         (λ _. TellsTo (active_of node.old) (active_of node.new) (history_of node.old) (history_of node.new) (IsBetween now s))
         (λ _. TellsThroughout (active_of node.old) (history_of node.old) (history_of node.new) (IsBetween now s)) }
     ensures fewer { OnOk result (starts_left (content_of node.new) + comebacks out.new.items ≤ starts_left (content_of node.old) + comebacks out.old.items) }
-    ensures later { (which : Which) → D.faults (disk_of which node.old) ≤ D.faults (disk_of which node.new) }
-    ensures broken { IsErrOf result Cut.Disk → IsTrue (is_stopped node.new)
-        × ((which : Which) × Rose (D.faults (disk_of which node.old)) (D.faults (disk_of which node.new))) }
 {
     loop {
         match start(alloc, node, now, out) {
@@ -223,9 +188,7 @@ fn take_whole<D: Disk>(
     requires right { IsTrue (is_right_event (length (content_of node.old).site) event.old) }
     requires silent { out.old.items ≡ [] }
     requires blank { letters.old.items ≡ [] }
-    ensures sound { IsSoundHost (content_of node.new) }
-    ensures site { (content_of node.new).site ≡ (content_of node.old).site }
-    ensures running { OnOk result (is_stopped node.new ≡ false) }
+    ensures leaves { Leaves node.old node.new Cut.Disk result }
     ensures many { UnlessMemory result (length letters.new.items ≡ length out.new.items) }
     ensures ready { (s : Plain) (here : Here) → Knows node.old s → here ≡ record { me = me; site = (content_of node.old).site }
         → UnlessMemory result (AreReady here out.new.items letters.new.items) }
@@ -243,9 +206,6 @@ fn take_whole<D: Disk>(
         (λ _. TellsThroughout (active_of node.old) (history_of node.old) (history_of node.new) (IsWithin now e s)) }
     ensures fewer { IsTrue (comes_back event.old)
         → OnOk result (starts_left (content_of node.new) + comebacks out.new.items ≤ starts_left (content_of node.old)) }
-    ensures later { (which : Which) → D.faults (disk_of which node.old) ≤ D.faults (disk_of which node.new) }
-    ensures broken { IsErrOf result Cut.Disk → IsTrue (is_stopped node.new)
-        × ((which : Which) × Rose (D.faults (disk_of which node.old)) (D.faults (disk_of which node.new))) }
 {
     let halts = match take(alloc, node, event, out) {
         Err(cut) => return Err(cut),
@@ -283,9 +243,7 @@ pub(crate) fn take_event<D: Disk, W: Wire, L: Launcher, P: Printer, O: Outlet, C
     requires host { IsHost me }
     requires sane { IsTrue (is_sane_event (length (content_of node.old).site) event.old) }
     requires right { IsTrue (is_right_event (length (content_of node.old).site) event.old) }
-    ensures sound { IsSoundHost (content_of node.new) }
-    ensures site { (content_of node.new).site ≡ (content_of node.old).site }
-    ensures running { OnOk result (is_stopped node.new ≡ false) }
+    ensures leaves { Leaves node.old node.new Cut.Disk result }
     ensures ok { (s : Plain) (here : Here) → Knows node.old s → here ≡ record { me = me; site = (content_of node.old).site }
         → OnOk result ((m : ℕ) × (outcomes : List Outcome) × (back.new.items ≡ back.old.items ++ brought_back outcomes)
         × Knows node.new (after_event m event.old s) × (outputs_in outcomes ≡ outputs m event.old s)
@@ -304,9 +262,6 @@ pub(crate) fn take_event<D: Disk, W: Wire, L: Launcher, P: Printer, O: Outlet, C
         × TellsThroughout (active_of node.old) (history_of node.old) (history_of node.new) (IsWithin m event.old s)) }
     ensures fewer { IsTrue (comes_back event.old)
         → OnOk result (starts_left (content_of node.new) + length back.new.items ≤ starts_left (content_of node.old) + length back.old.items) }
-    ensures later { (which : Which) → D.faults (disk_of which node.old) ≤ D.faults (disk_of which node.new) }
-    ensures broken { IsErrOf result Cut.Disk → IsTrue (is_stopped node.new)
-        × ((which : Which) × Rose (D.faults (disk_of which node.old)) (D.faults (disk_of which node.new))) }
     ensures wire { W.receive_faults wire.old ≤ W.receive_faults wire.new }
 {
     out.clear();
@@ -361,9 +316,7 @@ pub(crate) fn take_back<D: Disk, W: Wire, L: Launcher, P: Printer, O: Outlet, C:
     requires sound { IsSoundHost (content_of node.old) }
     requires running { is_stopped node.old ≡ false }
     requires host { IsHost me }
-    ensures sound { IsSoundHost (content_of node.new) }
-    ensures site { (content_of node.new).site ≡ (content_of node.old).site }
-    ensures running { OnOk result (is_stopped node.new ≡ false) }
+    ensures leaves { Leaves node.old node.new Cut.Disk result }
     ensures ok { (s : Plain) (here : Here) → Knows node.old s → here ≡ record { me = me; site = (content_of node.old).site }
         → OnOk result ((acts : List Act) × (u : Plain) × (arrivals acts ≡ []) × Knows node.new u
         × Ran here acts (turn s (map event_back back.old.items)) (idle u) none_begun
@@ -380,9 +333,6 @@ pub(crate) fn take_back<D: Disk, W: Wire, L: Launcher, P: Printer, O: Outlet, C:
         (telling (W.received wire.new) (W.sent wire.new) (L.asked launcher.new) (P.prints printer.new) (O.filings outlet.new) (C.given clock.new))
         × TellsThroughout (active_of node.old) (history_of node.old) (history_of node.new)
         (IsPassed here (turn s (map event_back back.old.items)) acts more.moments)) }
-    ensures later { (which : Which) → D.faults (disk_of which node.old) ≤ D.faults (disk_of which node.new) }
-    ensures broken { IsErrOf result Cut.Disk → IsTrue (is_stopped node.new)
-        × ((which : Which) × Rose (D.faults (disk_of which node.old)) (D.faults (disk_of which node.new))) }
     ensures wire { W.receive_faults wire.old ≤ W.receive_faults wire.new }
 {
     while waits(back) {

@@ -8,8 +8,8 @@ use Rattle.nqs_serve.specs.Runs.{received, took, turn, idle, none_begun, begun}
 use Rattle.nqs_serve.specs.Ends.{Ends, Receives, stops, end_of}
 use Rattle.nqs_serve.specs.Moments.{IsPassed}
 use Rattle.nqs_serve.proofs.Acts.{ran_received, ran_cut, ran_then, received_grew, missed_grew, ran_turn, turn_stops}
-use Rattle.nqs_serve.proofs.Ending.{one_receive, cut_ends, disk_cut}
-use Rattle.nqs_serve.proofs.Faults.{rose_behind, same_fault}
+use Rattle.nqs_serve.proofs.Ending.{one_receive, cut_ends, disk_cut, wire_no_disk, memory_no_disk}
+use Rattle.nqs_serve.proofs.Leaving.{none_left, then_left, left_as, left_by, no_error}
 use Rattle.nqs_serve.proofs.Moments.{through_none, through_cut_turn, through_turn}
 use Rattle.nqs_serve.specs.Sends.{is_right_event}
 use Rattle.nqs_serve.proofs.daemon.turn.Goals as goal
@@ -100,7 +100,7 @@ returns-in-Err-take_back-clause-err g c = λ s here knows same.
     let is_here : at c.as_slice-site.result.now ≡ here = ap at (c.as_slice-site.ensures ∙ ap (λ h. h.site) c.state.ensures) ∙ sym same in
     let some : Some e ≡ event_in here came.0 = sym c.in-Ok-Some.field-0-is ∙ came.1 ∙ ap (λ h. event_in h came.0) is_here in
     let ok = c.in-Ok.ensures.ok s here knows same in
-    let cut = c.in-Err-take_back.ensures.cut (after_event ok.0 e s) here ok.3 (same ∙ ap at (sym c.in-Ok.ensures.site)) in
+    let cut = c.in-Err-take_back.ensures.cut (after_event ok.0 e s) here ok.3 (same ∙ ap at (sym c.in-Ok.ensures.leaves.site)) in
     let acts = received came.0 ∷ took ok.0 ok.1 ∷ cut.0 in
     let one = turn_stops here s came.0 ok.0 ok.1 cut.0 cut.3 in
     let bs = stops here (idle s) acts in (
@@ -117,21 +117,27 @@ returns-in-Err-take_back-clause-err g c = λ s here knows same.
       (cut.7.0, through_turn here _ _ _ _ _ _ came.0 ok.0 ok.1 cut.0 s e c.clear.new.self.items _ cut.2.moments some c.clear.ensures.items ok.2 ok.6 cut.7.1),
     )
 
-pub returns-in-Err-clause-disk_fault : goal.returns-in-Err-clause-disk_fault
-returns-in-Err-clause-disk_fault g c = λ failed.
-    c.in-Err.ensures.broken (ap Err (disk_cut c.in-Err.cut (sym c.fault_of.ensures ∙ same_fault _ _ failed)))
+-- what each way out leaves
 
-pub returns-in-Err-take_back-clause-disk_fault : goal.returns-in-Err-take_back-clause-disk_fault
-returns-in-Err-take_back-clause-disk_fault g c = λ failed.
-    let is_disk = disk_cut c.in-Err-take_back.cut (sym c.fault_of-in-Err-take_back.ensures ∙ same_fault _ _ failed) in
-    let broke = c.in-Err-take_back.ensures.broken (ap Err is_disk) in
-    (broke.0, (broke.1.0, rose_behind _ _ _ (c.in-Ok.ensures.later broke.1.0) broke.1.1))
+pub returns-in-Ok-None-clause-leaves : goal.returns-in-Ok-None-clause-leaves
+returns-in-Ok-None-clause-leaves g c = none_left _ _ _ (no_error _ _) c.requires.sound c.requires.running
 
-pub returns-in-Err-take_back-clause-later : goal.returns-in-Err-take_back-clause-later
-returns-in-Err-take_back-clause-later g c = λ which. omega (arith, c.in-Ok.ensures.later which, c.in-Err-take_back.ensures.later which)
+pub returns-in-Err-Wire-clause-leaves : goal.returns-in-Err-Wire-clause-leaves
+returns-in-Err-Wire-clause-leaves g c = none_left _ _ _ wire_no_disk c.requires.sound c.requires.running
 
-pub returns-clause-later : goal.returns-clause-later
-returns-clause-later g c = λ which. omega (arith, c.in-Ok.ensures.later which, c.in_default.ensures.later which)
+pub returns-in-Err-Memory-clause-leaves : goal.returns-in-Err-Memory-clause-leaves
+returns-in-Err-Memory-clause-leaves g c = none_left _ _ _ (memory_no_disk _) c.requires.sound c.requires.running
+
+pub returns-in-Err-clause-leaves : goal.returns-in-Err-clause-leaves
+returns-in-Err-clause-leaves g c = left_by _ _ _ _ _ _ (λ is. disk_cut c.in-Err.cut (sym c.fault_of.ensures ∙ is)) c.in-Err.ensures.leaves
+
+pub returns-in-Err-take_back-clause-leaves : goal.returns-in-Err-take_back-clause-leaves
+returns-in-Err-take_back-clause-leaves g c =
+    left_by _ _ _ _ _ _ (λ is. disk_cut c.in-Err-take_back.cut (sym c.fault_of-in-Err-take_back.ensures ∙ is))
+    (then_left _ _ _ _ _ _ c.in-Ok.ensures.leaves c.in-Err-take_back.ensures.leaves)
+
+pub returns-clause-leaves : goal.returns-clause-leaves
+returns-clause-leaves g c = left_as _ _ _ _ _ _ (no_error _ _) (then_left _ _ _ _ _ _ c.in-Ok.ensures.leaves c.in_default.ensures.leaves)
 
 pub returns-clause-ok : goal.returns-clause-ok
 returns-clause-ok g c = λ s here knows same.
@@ -141,7 +147,7 @@ returns-clause-ok g c = λ s here knows same.
     let is_here : at c.as_slice-site.result.now ≡ here = ap at (c.as_slice-site.ensures ∙ ap (λ h. h.site) c.state.ensures) ∙ sym same in
     let some : Some e ≡ event_in here came.0 = sym c.in-Ok-Some.field-0-is ∙ came.1 ∙ ap (λ h. event_in h came.0) is_here in
     let ok = c.in-Ok.ensures.ok s here knows same in
-    let rest = c.in_default.ensures.ok (after_event ok.0 e s) here ok.3 (same ∙ ap at (sym c.in-Ok.ensures.site)) in (
+    let rest = c.in_default.ensures.ok (after_event ok.0 e s) here ok.3 (same ∙ ap at (sym c.in-Ok.ensures.leaves.site)) in (
       received came.0 ∷ took ok.0 ok.1 ∷ rest.0,
       rest.1,
       rest.3,

@@ -7,15 +7,13 @@ use Rattle.nqs_serve.specs.Moments.{IsPassed}
 use Rattle.nqs_serve.proofs.Acts.{ran_none, ran_then, stops_then}
 use Rattle.nqs_serve.proofs.Ending.{none_both, ends_then, wire_end, disk_end}
 use Rattle.nqs_serve.proofs.Faults.{rose_behind}
+use Rattle.nqs_serve.proofs.Leaving.{none_left, then_left, both_left, no_error}
 use Rattle.nqs_serve.proofs.Moments.{through_none, through_run}
 use Rattle.nqs_serve.proofs.daemon.turns_in.Goals as goal
 
 pub loop-left-init : goal.loop-left-init
 loop-left-init g c = record {
-  sound = c.requires.sound;
-  site = refl;
-  running = c.requires.running;
-  later = λ which. omega arith;
+  leaves = none_left _ _ _ (no_error _ _) c.requires.sound c.requires.running;
   wire = omega arith;
   ran = λ s here knows same.
       ([], s, refl, omega arith, knows, ran_none here _ _, through_none c.args.node.now s (IsPassed here (idle s) [] []) knows ([], [], refl, inl refl));
@@ -25,7 +23,7 @@ pub returns-in-Ok-true-clause-run : goal.returns-in-Ok-true-clause-run
 returns-in-Ok-true-clause-run g c = λ s here knows same.
     let before = c.loop-left.invariant.ran s here knows same in
     let at : List (List ℕ) → Here = λ names. record { me = c.args.me; site = names } in
-    let ok = c.in-Ok-true.ensures.ok before.1 here before.4 (same ∙ ap at (sym c.loop-left.invariant.site)) in
+    let ok = c.in-Ok-true.ensures.ok before.1 here before.4 (same ∙ ap at (sym c.loop-left.invariant.leaves.site)) in
     let xs = stops here (idle s) before.0 in
     let all : stops here (idle s) (before.0 ++ ok.0) ≡ xs ++ true ∷ [] =
     stops_then here before.0 ok.0 (idle s) (idle before.1) before.5.leads
@@ -59,7 +57,7 @@ pub returns-in-Err-clause-run : goal.returns-in-Err-clause-run
 returns-in-Err-clause-run g c = λ s here knows same.
     let before = c.loop-left.invariant.ran s here knows same in
     let at : List (List ℕ) → Here = λ names. record { me = c.args.me; site = names } in
-    let err = c.in-Err.ensures.err before.1 here before.4 (same ∙ ap at (sym c.loop-left.invariant.site)) in
+    let err = c.in-Err.ensures.err before.1 here before.4 (same ∙ ap at (sym c.loop-left.invariant.leaves.site)) in
     let xs = stops here (idle s) before.0 in
     let all = stops_then here before.0 err.0 (idle s) (idle before.1) before.5.leads in
     let ends = ends_then c.in-Err.fault c.args.turns xs (stops here (idle before.1) err.0) err.1 err.2 c.turn.new.node before.2
@@ -79,20 +77,16 @@ returns-in-Err-clause-wire_fault g c = λ is.
 
 pub returns-in-Err-clause-disk_fault : goal.returns-in-Err-clause-disk_fault
 returns-in-Err-clause-disk_fault g c = λ is.
-    let broke = c.in-Err.ensures.disk_fault (ap Err (disk_end c.in-Err.fault (sym c.end_of.ensures ∙ is))) in
-    (broke.0, (broke.1.0, rose_behind _ _ _ (c.loop-left.invariant.later broke.1.0) broke.1.1))
+    (then_left _ _ _ _ _ _ c.loop-left.invariant.leaves c.in-Err.ensures.leaves).broken (ap Err (disk_end c.in-Err.fault (sym c.end_of.ensures ∙ is)))
 
 pub loop-left-preserved : goal.loop-left-preserved
 loop-left-preserved g c = record {
-  sound = c.in-Ok-false.ensures.sound;
-  site = c.in-Ok-false.ensures.site ∙ c.loop-left.invariant.site;
-  running = c.in-Ok-false.ensures.running;
-  later = λ which. omega (arith, c.loop-left.invariant.later which, c.in-Ok-false.ensures.later which);
+  leaves = both_left _ _ _ _ _ _ _ c.loop-left.invariant.leaves c.in-Ok-false.ensures.leaves;
   wire = omega (arith, c.loop-left.invariant.wire, c.in-Ok-false.ensures.wire);
   ran = λ s here knows same.
       let before = c.loop-left.invariant.ran s here knows same in
       let at : List (List ℕ) → Here = λ names. record { me = c.args.me; site = names } in
-      let ok = c.in-Ok-false.ensures.ok before.1 here before.4 (same ∙ ap at (sym c.loop-left.invariant.site)) in
+      let ok = c.in-Ok-false.ensures.ok before.1 here before.4 (same ∙ ap at (sym c.loop-left.invariant.leaves.site)) in
       let xs = stops here (idle s) before.0 in
       let all : stops here (idle s) (before.0 ++ ok.0) ≡ xs ++ false ∷ [] =
       stops_then here before.0 ok.0 (idle s) (idle before.1) before.5.leads

@@ -20,9 +20,10 @@ use Rattle.nqs_serve.specs.Letters.{letter_of}
 use Rattle.nqs_serve.specs.Sends.{is_right_output}
 use Rattle.nqs_serve.specs.Nodes.{Knows}
 use Rattle.nqs_serve.specs.Steps.{said}
-use Rattle.nqs_serve.proofs.Ending.{unless_memory}
-use Rattle.nqs_serve.proofs.Faults.{same_error, rose_behind}
+use Rattle.nqs_serve.proofs.Ending.{unless_memory, memory_is_no_disk}
+use Rattle.nqs_serve.proofs.Faults.{same_error}
 use Rattle.nqs_serve.proofs.Known.{steady_known, at_known}
+use Rattle.nqs_serve.proofs.Leaving.{none_left, then_left, both_left, left_as, left_by, no_error}
 use Rattle.nqs_serve.proofs.Lists.{ready_front, ready_all}
 use Rattle.nqs_serve.proofs.Moments.{through_none, through_change, through_made, through_then, between_next, at_last}
 use Rattle.nqs_serve.proofs.Starting.{one_start, last_start, none_started, after_more, said_more, next_started}
@@ -30,9 +31,7 @@ use Rattle.nqs_serve.proofs.take.settle.Goals as goal
 
 pub loop-cut-init : goal.loop-cut-init
 loop-cut-init g c = record {
-  sound = c.requires.sound;
-  site = refl;
-  running = c.requires.running;
+  leaves = none_left _ _ _ (no_error _ _) c.requires.sound c.requires.running;
   right = c.requires.said;
   short = c.requires.short;
   told = λ s knows. ([], refl, knows, sym (append-nil c.args.out.now.items));
@@ -42,18 +41,17 @@ loop-cut-init g c = record {
   ready = λ s here knows same ready. ready;
   moments = λ s knows. through_none c.args.node.now s (IsBetween c.args.now s) knows ([], starts c.args.now s, refl, refl);
   fewer = omega arith;
-  later = λ which. omega arith;
 }
 
 pub spell-requires-clause-right : goal.spell-requires-clause-right
-spell-requires-clause-right g c = ap (list_all (is_right_output 16)) c.deref.ensures.value ∙ c.in-Ok-true.ensures.right
+spell-requires-clause-right g c = ap (list_all (is_right_output 16)) c.deref.ensures.value ∙ c.in-Ok-true.ensures.takes.right
 
 pub spell-requires-clause-short : goal.spell-requires-clause-short
-spell-requires-clause-short g c = ap (list_all sends_short) c.deref.ensures.value ∙ c.in-Ok-true.ensures.short
+spell-requires-clause-short g c = ap (list_all sends_short) c.deref.ensures.value ∙ c.in-Ok-true.ensures.takes.short
 
 pub spell-requires-clause-fits : goal.spell-requires-clause-fits
 spell-requires-clause-fits g c =
-    omega (arith, c.loop-cut.invariant.many, c.in-Ok-true.ensures.longer, ap (λ (l : List Output). length l) c.deref.ensures.value)
+    omega (arith, c.loop-cut.invariant.many, c.in-Ok-true.ensures.takes.longer, ap (λ (l : List Output). length l) c.deref.ensures.value)
 
 pub loop-cut-preserved : goal.loop-cut-preserved
 loop-cut-preserved g c =
@@ -61,19 +59,17 @@ loop-cut-preserved g c =
     let did = c.in-Ok-true.ensures in
     let spelled = c.in_default.ensures in
     record {
-      sound = did.sound;
-      site = did.site ∙ c.loop-cut.invariant.site;
-      running = did.running;
-      right = did.right;
-      short = did.short;
+      leaves = both_left _ _ _ _ _ _ _ c.loop-cut.invariant.leaves did.leaves;
+      right = did.takes.right;
+      short = did.takes.short;
       told = λ s knows.
           let before = c.loop-cut.invariant.told s knows in
           let u = after_starts before.0 s in
           let x = started now u in
           let some : is_some (start now u) ≡ true = sym (did.more u before.2) ∙ c.in-Ok-true.field-0-test in
-          let after = did.told u before.2 in (
+          let after = did.takes.told u before.2 in (
             before.0 ++ x ∷ [],
-            one_start now s before.0 (steady_known c.loop-cut.node u before.2 c.loop-cut.invariant.sound) before.1 some,
+            one_start now s before.0 (steady_known c.loop-cut.node u before.2 c.loop-cut.invariant.leaves.sound) before.1 some,
             subst (λ v. Knows c.start.new.node v) (sym (after_more before.0 x s)) after.0,
             after.1 ∙ ap (λ (l : List Output). l ++ said x) before.3 ∙ said_more c.args.out.now.items before.0 x,
           );
@@ -82,10 +78,10 @@ loop-cut-preserved g c =
       behind = spelled.behind ∙ c.loop-cut.invariant.behind;
       ready = λ s here knows same ready.
           let before = c.loop-cut.invariant.told s knows in
-          let grown = (did.told (after_starts before.0 s) before.2).1 in
+          let grown = (did.takes.told (after_starts before.0 s) before.2).1 in
           let at : List (List ℕ) → Here = λ names. record { me = c.args.me; site = names } in
           let is_here : at c.as_slice-site.result.now ≡ here =
-          ap at (c.as_slice-site.ensures ∙ ap (λ h. h.site) c.state.ensures ∙ did.site ∙ c.loop-cut.invariant.site) ∙ sym same in
+          ap at (c.as_slice-site.ensures ∙ ap (λ h. h.site) c.state.ensures ∙ did.leaves.site ∙ c.loop-cut.invariant.leaves.site) ∙ sym same in
           let front = ready_front here c.loop-cut.out.items _ c.start.new.out.items c.loop-cut.letters.items grown
           (c.loop-cut.invariant.ready s here knows same ready) in
           ready_all c.deref.ensures.value is_here front spelled.spelled;
@@ -93,11 +89,10 @@ loop-cut-preserved g c =
           let before = c.loop-cut.invariant.told s knows in
           let u = after_starts before.0 s in
           through_then _ _ _ _ _ _ (IsBetween now s) (c.loop-cut.invariant.moments s knows)
-          (through_made _ _ _ _ (started now u).change u (IsBetween now s) (did.active u before.2) (did.moments u before.2)
+          (through_made _ _ _ _ (started now u).change u (IsBetween now s) (did.takes.active u before.2) (did.takes.moments u before.2)
           (before.0, starts now u, before.1, refl)
-          (between_next now s before.0 (steady_known c.loop-cut.node u before.2 c.loop-cut.invariant.sound) before.1));
+          (between_next now s before.0 (steady_known c.loop-cut.node u before.2 c.loop-cut.invariant.leaves.sound) before.1));
       fewer = omega (arith, c.loop-cut.invariant.fewer, did.fewer c.in-Ok-true.field-0-test, did.one_back);
-      later = λ which. omega (arith, c.loop-cut.invariant.later which, did.later which);
     }
 
 pub returns-in-Err-spell-clause-memory : goal.returns-in-Err-spell-clause-memory
@@ -110,8 +105,8 @@ returns-in-Err-spell-clause-memory g c = λ s knows failed.
     let some : is_some (start now u) ≡ true = sym (did.more u before.2) ∙ c.in-Ok-true.field-0-test in (
       before.0 ++ x ∷ [],
       starts now (after_starts (before.0 ++ x ∷ []) s),
-      one_start now s before.0 (steady_known c.loop-cut.node u before.2 c.loop-cut.invariant.sound) before.1 some,
-      subst (λ v. Knows c.start.new.node v) (sym (after_more before.0 x s)) (did.told u before.2).0,
+      one_start now s before.0 (steady_known c.loop-cut.node u before.2 c.loop-cut.invariant.leaves.sound) before.1 some,
+      subst (λ v. Knows c.start.new.node v) (sym (after_more before.0 x s)) (did.takes.told u before.2).0,
     )
 
 pub returns-in-Err-spell-clause-moments : goal.returns-in-Err-spell-clause-moments
@@ -122,9 +117,9 @@ returns-in-Err-spell-clause-moments g c = λ s knows.
     let u = after_starts before.0 s in (
       active_of c.start.new.node,
       through_then _ _ _ _ _ _ (IsBetween now s) (c.loop-cut.invariant.moments s knows)
-          (through_made _ _ _ _ (started now u).change u (IsBetween now s) (did.active u before.2) (did.moments u before.2)
+          (through_made _ _ _ _ (started now u).change u (IsBetween now s) (did.takes.active u before.2) (did.takes.moments u before.2)
           (before.0, starts now u, before.1, refl)
-          (between_next now s before.0 (steady_known c.loop-cut.node u before.2 c.loop-cut.invariant.sound) before.1)),
+          (between_next now s before.0 (steady_known c.loop-cut.node u before.2 c.loop-cut.invariant.leaves.sound) before.1)),
     )
 
 pub returns-in-Ok-false-clause-many : goal.returns-in-Ok-false-clause-many
@@ -141,34 +136,34 @@ returns-in-Ok-false-clause-ready g c = λ s here knows same ready.
 
 pub returns-in-Err-clause-many : goal.returns-in-Err-clause-many
 returns-in-Err-clause-many g c =
-    unless_memory c.in-Err.cut _ (c.loop-cut.invariant.many ∙ sym (ap (λ (l : List Output). length l) c.in-Err.ensures.unsaid))
+    unless_memory c.in-Err.cut _ (c.loop-cut.invariant.many ∙ sym (ap (λ (l : List Output). length l) c.in-Err.ensures.takes.unsaid))
 
 pub returns-in-Err-clause-room : goal.returns-in-Err-clause-room
 returns-in-Err-clause-room g c =
     let room : length c.loop-cut.back.items + length c.start.new.out.items ≤ deque_capacity c.loop-cut.back =
-    omega (arith, c.loop-cut.invariant.room, ap (λ (l : List Output). length l) c.in-Err.ensures.unsaid) in
+    omega (arith, c.loop-cut.invariant.room, ap (λ (l : List Output). length l) c.in-Err.ensures.takes.unsaid) in
     unless_memory c.in-Err.cut _ room
 
 pub returns-in-Err-clause-ready : goal.returns-in-Err-clause-ready
 returns-in-Err-clause-ready g c = λ s here knows same ready.
-    unless_memory c.in-Err.cut _ (c.loop-cut.invariant.ready s here knows same ready ∙ ap (map (letter_of here)) (sym c.in-Err.ensures.unsaid))
+    unless_memory c.in-Err.cut _ (c.loop-cut.invariant.ready s here knows same ready ∙ ap (map (letter_of here)) (sym c.in-Err.ensures.takes.unsaid))
 
 pub returns-in-Err-clause-broke : goal.returns-in-Err-clause-broke
 returns-in-Err-clause-broke g c = λ s knows failed.
     let now = c.args.now in
     let before = c.loop-cut.invariant.told s knows in
     let u = after_starts before.0 s in
-    let next = next_started now u (steady_known c.loop-cut.node u before.2 c.loop-cut.invariant.sound) in (
+    let next = next_started now u (steady_known c.loop-cut.node u before.2 c.loop-cut.invariant.leaves.sound) in (
       flat_map said before.0,
-      c.in-Err.ensures.unsaid ∙ before.3,
+      c.in-Err.ensures.takes.unsaid ∙ before.3,
       record {
         done = before.0;
         left = starts now u;
         are = before.1;
-        at = at_known c.loop-cut.node c.start.new.node u before.2 c.in-Err.ensures.unmade;
+        at = at_known c.loop-cut.node c.start.new.node u before.2 c.in-Err.ensures.takes.unmade;
         out = refl;
         leaves = subst (λ (v : Plain). EachImage (history_of c.start.new.node) (TellsOneOf u v)) (sym next)
-            (at_last _ _ _ (started now u).change u (c.in-Err.ensures.moments u before.2));
+            (at_last _ _ _ (started now u).change u (c.in-Err.ensures.takes.moments u before.2));
       },
     )
 
@@ -181,7 +176,7 @@ returns-in-Ok-false-clause-told g c = λ s knows.
     let none : is_some (start now u) ≡ false = sym (did.more u before.2) ∙ c.in-Ok-false.field-0-test in
     let all = last_start now s before.0 before.1 none in
     let still = none_started now u none in
-    let after = did.told u before.2 in (
+    let after = did.takes.told u before.2 in (
       subst (λ v. Knows c.start.new.node v) (ap (λ (x : Stepped (List ℕ)). after_step x u) still
           ∙ ap (λ (xs : List (Stepped (List ℕ))). after_starts xs s) (sym all)) after.0,
       after.1 ∙ ap (λ (x : Stepped (List ℕ)). c.loop-cut.out.items ++ said x) still ∙ append-nil c.loop-cut.out.items ∙ before.3
@@ -191,12 +186,12 @@ returns-in-Ok-false-clause-told g c = λ s knows.
 pub returns-in-Ok-false-clause-moments : goal.returns-in-Ok-false-clause-moments
 returns-in-Ok-false-clause-moments g c = λ s knows.
     let now = c.args.now in
+    let did = c.in-Ok-false.ensures.takes in
     let before = c.loop-cut.invariant.told s knows in
     let u = after_starts before.0 s in
     through_then _ _ _ _ _ _ (IsBetween now s) (c.loop-cut.invariant.moments s knows)
-    (through_made _ _ _ _ (started now u).change u (IsBetween now s) (c.in-Ok-false.ensures.active u before.2) (c.in-Ok-false.ensures.moments u before.2)
-    (before.0, starts now u, before.1, refl)
-    (between_next now s before.0 (steady_known c.loop-cut.node u before.2 c.loop-cut.invariant.sound) before.1))
+    (through_made _ _ _ _ (started now u).change u (IsBetween now s) (did.active u before.2) (did.moments u before.2) (before.0, starts now u, before.1, refl)
+    (between_next now s before.0 (steady_known c.loop-cut.node u before.2 c.loop-cut.invariant.leaves.sound) before.1))
 
 pub returns-in-Err-clause-moments : goal.returns-in-Err-clause-moments
 returns-in-Err-clause-moments g c = λ s knows.
@@ -205,8 +200,8 @@ returns-in-Err-clause-moments g c = λ s knows.
     let u = after_starts before.0 s in (
       after_kept (started now u).change (active_of c.loop-cut.node),
       through_then _ _ _ _ _ _ (IsBetween now s) (c.loop-cut.invariant.moments s knows)
-          (through_change _ _ _ (started now u).change u (IsBetween now s) (c.in-Err.ensures.moments u before.2) (before.0, starts now u, before.1, refl)
-          (between_next now s before.0 (steady_known c.loop-cut.node u before.2 c.loop-cut.invariant.sound) before.1)),
+          (through_change _ _ _ (started now u).change u (IsBetween now s) (c.in-Err.ensures.takes.moments u before.2) (before.0, starts now u, before.1, refl)
+          (between_next now s before.0 (steady_known c.loop-cut.node u before.2 c.loop-cut.invariant.leaves.sound) before.1)),
     )
 
 pub returns-in-Ok-false-clause-fewer : goal.returns-in-Ok-false-clause-fewer
@@ -218,9 +213,14 @@ pub returns-in-Err-clause-memory : goal.returns-in-Err-clause-memory
 returns-in-Err-clause-memory g c = λ s knows failed.
     let before = c.loop-cut.invariant.told s knows in
     let u = after_starts before.0 s in
-    (before.0, starts c.args.now u, before.1, c.in-Err.ensures.memory u before.2 (same_error _ _ failed))
+    (before.0, starts c.args.now u, before.1, c.in-Err.ensures.takes.memory u before.2 (same_error _ _ failed))
 
-pub returns-in-Err-clause-broken : goal.returns-in-Err-clause-broken
-returns-in-Err-clause-broken g c = λ failed.
-    let broke = c.in-Err.ensures.broken (same_error _ _ failed) in
-    (broke.0, (broke.1.0, rose_behind _ _ _ (c.loop-cut.invariant.later broke.1.0) broke.1.1))
+pub returns-in-Err-clause-leaves : goal.returns-in-Err-clause-leaves
+returns-in-Err-clause-leaves g c = then_left _ _ _ _ _ _ c.loop-cut.invariant.leaves (left_by _ _ _ _ _ _ (λ is. is) c.in-Err.ensures.leaves)
+
+pub returns-in-Err-spell-clause-leaves : goal.returns-in-Err-spell-clause-leaves
+returns-in-Err-spell-clause-leaves g c =
+    left_as _ _ _ _ _ _ (memory_is_no_disk _) (then_left _ _ _ _ _ _ c.loop-cut.invariant.leaves c.in-Ok-true.ensures.leaves)
+
+pub returns-in-Ok-false-clause-leaves : goal.returns-in-Ok-false-clause-leaves
+returns-in-Ok-false-clause-leaves g c = both_left _ _ _ _ _ _ _ c.loop-cut.invariant.leaves c.in-Ok-false.ensures.leaves

@@ -1,29 +1,27 @@
-use Rattle.std.proofs.Common.{◌≡◌, ◌≤◌, ◌+◌, ◌++◌, ℕ, List, length, false}
+use Rattle.std.proofs.Common.{◌≡◌, ◌≤◌, ◌+◌, ◌++◌, ℕ, List, length, Ok}
 use Rattle.std.specs.VecDeque.{deque_capacity}
 use Rattle.std.specs.List.{flat_map}
 use Rattle.nqs_state.specs.State.{Plain}
-use Rattle.nqs_types.specs.declared.world.Which.{Which}
 use Rattle.nqs_rules.specs.Measure.{starts_left}
 use Rattle.nqs_rules.specs.Starts.{starts, after_starts}
 use Rattle.nqs_rules.specs.Stepped.{Stepped}
 use Rattle.nqs_back.specs.Back.{comebacks}
-use Rattle.nqs_node.specs.Nodes.{active_of, content_of, disk_of, history_of, is_stopped}
+use Rattle.nqs_node.specs.Nodes.{active_of, content_of, history_of}
 use Rattle.nqs_node.specs.Reading.{AreShort}
-use Rattle.nqs_store.specs.Sound.{IsSoundHost}
 use Rattle.nqs_serve.specs.Ends.{IsBetween}
 use Rattle.nqs_serve.specs.Events.{Here}
+use Rattle.nqs_serve.specs.Leaves.{Leaves}
 use Rattle.nqs_serve.specs.Letters.{AreReady}
 use Rattle.nqs_serve.specs.Moments.{TellsTo}
 use Rattle.nqs_serve.specs.Nodes.{Knows}
 use Rattle.nqs_serve.specs.Sends.{AreRight}
 use Rattle.nqs_serve.specs.Steps.{said}
+use Rattle.nqs_serve.specs.declared.cut.Cut.TheVariants as cut
 use Rattle.nqs_serve.proofs.take.settle.Given as goal
 
 abbrev pub invariant-loop-cut : goal.invariant-loop-cut
 invariant-loop-cut g l = record {
-  sound : IsSoundHost (content_of l.node);
-  site : (content_of l.node).site ≡ (content_of l.fn.node).site;
-  running : is_stopped l.node ≡ false;
+  leaves : Leaves l.fn.node l.node cut.Disk (Ok (tt {0}));
   right : AreRight 16 l.out.items;
   short : AreShort l.out.items;
   told : (s : Plain) → Knows l.fn.node s → (xs : List (Stepped (List ℕ))) × (starts l.now s ≡ xs ++ starts l.now (after_starts xs s))
@@ -35,7 +33,6 @@ invariant-loop-cut g l = record {
   ready : (s : Plain) (here : Here) → Knows l.fn.node s → here ≡ record { me = l.me; site = (content_of l.fn.node).site }
       → AreReady here l.fn.out.items l.fn.letters.items → AreReady here l.out.items l.letters.items;
   fewer : starts_left (content_of l.node) + comebacks l.out.items ≤ starts_left (content_of l.fn.node) + comebacks l.fn.out.items;
-  later : (which : Which) → g.D.Disk.faults (disk_of which l.fn.node) ≤ g.D.Disk.faults (disk_of which l.node);
 }
 
 abbrev pub decreases-loop-cut : goal.decreases-loop-cut

@@ -8,7 +8,8 @@ use Rattle.nqs_serve.specs.Moments.{IsPassed}
 use Rattle.nqs_serve.specs.Runs.{took, turn, event_back, begun}
 use Rattle.nqs_serve.specs.declared.comeback.Comeback.{Comeback}
 use Rattle.nqs_serve.proofs.Acts.{arrivals_append, ran_none, ran_empty, took_back, cut_back}
-use Rattle.nqs_serve.proofs.Faults.{same_error, rose_behind}
+use Rattle.nqs_serve.proofs.Faults.{same_error}
+use Rattle.nqs_serve.proofs.Leaving.{none_left, then_left, both_left, left_by, no_error}
 use Rattle.nqs_serve.proofs.Moments.{through_none, through_took_back, through_cut_back}
 use Rattle.nqs_serve.proofs.Sane.{sane_back, right_back, is_back}
 use Rattle.nqs_serve.specs.Sends.{is_right_event}
@@ -16,10 +17,7 @@ use Rattle.nqs_serve.proofs.take.take_back.Goals as goal
 
 pub loop-alloc-init : goal.loop-alloc-init
 loop-alloc-init g c = record {
-  sound = c.requires.sound;
-  site = refl;
-  running = c.requires.running;
-  later = λ which. omega arith;
+  leaves = none_left _ _ _ (no_error _ _) c.requires.sound c.requires.running;
   wire = omega arith;
   ran = λ s here knows same.
       let start = turn s (map event_back c.args.back.now.items) in
@@ -36,8 +34,8 @@ take_event-taken-requires-clause-right g c =
     let hosts = length (content_of c.loop-alloc.node).site in
     ap (is_right_event hosts) c.event_back-event.ensures ∙ right_back hosts c.first.result
 
-pub returns-in-Err-clause-later : goal.returns-in-Err-clause-later
-returns-in-Err-clause-later g c = λ which. omega (arith, c.loop-alloc.invariant.later which, c.take_event-taken.ensures.later which)
+pub returns-in-Err-clause-leaves : goal.returns-in-Err-clause-leaves
+returns-in-Err-clause-leaves g c = then_left _ _ _ _ _ _ c.loop-alloc.invariant.leaves (left_by _ _ _ _ _ _ (λ is. is) c.in-Err.ensures.leaves)
 
 pub returns-in-Err-clause-cut : goal.returns-in-Err-clause-cut
 returns-in-Err-clause-cut g c = λ s here knows same.
@@ -47,7 +45,7 @@ returns-in-Err-clause-cut g c = λ s here knows same.
     let split : c.loop-alloc.back.items ≡ x ∷ rest = c.first.ensures in
     let before = c.loop-alloc.invariant.ran s here knows same in
     let at : List (List ℕ) → Here = λ names. record { me = c.args.me; site = names } in
-    let cut = c.in-Err.ensures.cut before.1 here before.3 (same ∙ ap at (sym c.loop-alloc.invariant.site)) in (
+    let cut = c.in-Err.ensures.cut before.1 here before.3 (same ∙ ap at (sym c.loop-alloc.invariant.leaves.site)) in (
       before.0 ++ [],
       turn before.1 (e ∷ map event_back rest),
       begun cut.0 cut.1,
@@ -63,11 +61,6 @@ returns-in-Err-clause-cut g c = λ s here knows same.
       ),
     )
 
-pub returns-in-Err-clause-broken : goal.returns-in-Err-clause-broken
-returns-in-Err-clause-broken g c = λ failed.
-    let broke = c.in-Err.ensures.broken (same_error _ _ failed) in
-    (broke.0, (broke.1.0, rose_behind _ _ _ (c.loop-alloc.invariant.later broke.1.0) broke.1.1))
-
 pub loop-alloc-smaller : goal.loop-alloc-smaller
 loop-alloc-smaller g c =
     let split : c.loop-alloc.back.items ≡ c.first.result ∷ c.first.new.back.items = c.first.ensures in
@@ -81,15 +74,12 @@ loop-alloc-preserved g c =
     let rest = c.first.new.back.items in
     let split : c.loop-alloc.back.items ≡ x ∷ rest = c.first.ensures in
     record {
-      sound = c.in_default.ensures.sound;
-      site = c.in_default.ensures.site ∙ c.loop-alloc.invariant.site;
-      running = c.in_default.ensures.running;
-      later = λ which. omega (arith, c.loop-alloc.invariant.later which, c.in_default.ensures.later which);
+      leaves = both_left _ _ _ _ _ _ _ c.loop-alloc.invariant.leaves c.in_default.ensures.leaves;
       wire = omega (arith, c.loop-alloc.invariant.wire, c.in_default.ensures.wire);
       ran = λ s here knows same.
           let before = c.loop-alloc.invariant.ran s here knows same in
           let at : List (List ℕ) → Here = λ names. record { me = c.args.me; site = names } in
-          let ok = c.in_default.ensures.ok before.1 here before.3 (same ∙ ap at (sym c.loop-alloc.invariant.site)) in (
+          let ok = c.in_default.ensures.ok before.1 here before.3 (same ∙ ap at (sym c.loop-alloc.invariant.leaves.site)) in (
             before.0 ++ took ok.0 ok.1 ∷ [],
             after_event ok.0 e before.1,
             arrivals_append before.0 (took ok.0 ok.1 ∷ []) ∙ ap (λ l. l ++ []) before.2,
@@ -105,3 +95,6 @@ returns-clause-ok g c = λ s here knows same.
     let empty = c.waits.ensures.none c.loop-alloc-test.false in
     let before = c.loop-alloc.invariant.ran s here knows same in
     (before.0, before.1, before.2, before.3, ran_empty here before.0 _ before.1 c.loop-alloc.back.items _ _ empty before.4, before.5)
+
+pub returns-clause-leaves : goal.returns-clause-leaves
+returns-clause-leaves g c = c.loop-alloc.invariant.leaves

@@ -1,21 +1,18 @@
-use Rattle.std.proofs.Common.{◌≡◌, ◌≤◌, ◌+◌, [], List, map, length, false}
+use Rattle.std.proofs.Common.{◌≡◌, ◌≤◌, ◌+◌, [], List, map, length, Ok}
 use Rattle.nqs_state.specs.State.{Plain}
-use Rattle.nqs_types.specs.declared.world.Which.{Which}
 use Rattle.nqs_rules.specs.Measure.{starts_left}
-use Rattle.nqs_node.specs.Nodes.{active_of, content_of, disk_of, history_of, is_stopped}
-use Rattle.nqs_store.specs.Sound.{IsSoundHost}
+use Rattle.nqs_node.specs.Nodes.{active_of, content_of, history_of}
 use Rattle.nqs_serve.specs.Events.{Here}
+use Rattle.nqs_serve.specs.Leaves.{Leaves}
 use Rattle.nqs_serve.specs.Moments.{TellsTo, IsPassed}
 use Rattle.nqs_serve.specs.Nodes.{Knows}
 use Rattle.nqs_serve.specs.Runs.{Act, arrivals, turn, event_back, telling, none_begun, Ran}
+use Rattle.nqs_serve.specs.declared.cut.Cut.TheVariants as cut
 use Rattle.nqs_serve.proofs.take.take_back.Given as goal
 
 abbrev pub invariant-loop-alloc : goal.invariant-loop-alloc
 invariant-loop-alloc g l = record {
-  sound : IsSoundHost (content_of l.node);
-  site : (content_of l.node).site ≡ (content_of l.fn.node).site;
-  running : is_stopped l.node ≡ false;
-  later : (which : Which) → g.D.Disk.faults (disk_of which l.fn.node) ≤ g.D.Disk.faults (disk_of which l.node);
+  leaves : Leaves l.fn.node l.node cut.Disk (Ok (tt {0}));
   wire : g.W.Wire.receive_faults l.fn.wire ≤ g.W.Wire.receive_faults l.wire;
   ran : (s : Plain) (here : Here) → Knows l.fn.node s → here ≡ record { me = l.me; site = (content_of l.fn.node).site }
       → (acts : List Act) × (u : Plain) × (arrivals acts ≡ []) × Knows l.node u

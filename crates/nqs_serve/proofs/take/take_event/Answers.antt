@@ -12,6 +12,7 @@ use Rattle.nqs_serve.specs.Runs.{brought_back}
 use Rattle.nqs_serve.specs.declared.comeback.Comeback.{Comeback}
 use Rattle.nqs_serve.proofs.Acts.{clock_grew, cut_grew, took_grew}
 use Rattle.nqs_serve.proofs.Ending.{unless_disk, memory_is_no_disk, disk_is_no_memory}
+use Rattle.nqs_serve.proofs.Leaving.{left_by}
 use Rattle.nqs_serve.proofs.Sane.{sane_at, right_at, comes_at, shuts_at}
 use Rattle.nqs_serve.specs.Sends.{is_right_event}
 use Rattle.nqs_serve.proofs.take.take_event.Goals as goal
@@ -99,3 +100,9 @@ take_whole-requires-clause-right g c =
 pub returns-clause-halts : goal.returns-clause-halts
 returns-clause-halts g c = λ s knows.
     c.in-Ok.ensures.halts s knows ∙ ap (λ e. shuts_down e s) c.set_moment.ensures ∙ shuts_at c.now-now.result c.args.event.now s
+
+pub returns-in-Err-Memory-clause-leaves : goal.returns-in-Err-Memory-clause-leaves
+returns-in-Err-Memory-clause-leaves g c = left_by _ _ _ _ _ _ (λ is. c.in-Err-Memory.field-0-is ∙ is) c.in-Err-Memory.ensures.leaves
+
+pub returns-in-Err-Disk-clause-leaves : goal.returns-in-Err-Disk-clause-leaves
+returns-in-Err-Disk-clause-leaves g c = left_by _ _ _ _ _ _ (λ is. c.in-Err-Disk.field-0-is) c.in-Err-Disk.ensures.leaves

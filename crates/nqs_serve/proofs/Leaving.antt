@@ -1,0 +1,142 @@
+-- What calls leave of a node, one after the other, and what a call of the node leaves itself.
+use Rattle.std.proofs.Common.{◌≡◌, ◌∙◌, ℕ, false, List, length, map, IsErrOf, Ok, Err, refl, ap, arith}
+use Rattle.std.specs.Global.{Vec}
+use Rattle.std.specs.declared.result.Result.{Result}
+use Rattle.nqs_base.specs.Want.{want}
+use Rattle.nqs_state.specs.State.{Plain}
+use Rattle.nqs_types.specs.declared.event.Output.{Output}
+use Rattle.nqs_types.specs.declared.world.Which.{Which}
+use Rattle.nqs_outside.specs.declared.disk.Disk as disk
+use Rattle.nqs_rules.specs.Stepped.{Stepped, shown}
+use Rattle.nqs_store.specs.Sound.{IsSoundHost}
+use Rattle.nqs_node.specs.Leaves as nodes
+use Rattle.nqs_node.specs.Nodes.{bare, content_of, is_stopped}
+use Rattle.nqs_node.specs.Reading.{AreShort}
+use Rattle.nqs_node.specs.declared.fault.NodeFault.{NodeFault}
+use Rattle.nqs_node.specs.declared.fault.NodeFault.TheVariants as node
+use Rattle.nqs_node.specs.declared.node.Node.{Node}
+use Rattle.nqs_node.proofs.Places.{on_ok}
+pub use Rattle.nqs_node.proofs.Places.{no_error}
+use Rattle.nqs_serve.specs.Leaves.{Leaves, TakesStep}
+use Rattle.nqs_serve.specs.Sends.{AreRight}
+use Rattle.nqs_serve.specs.declared.cut.Cut.{Cut}
+use Rattle.nqs_serve.specs.declared.cut.Cut.TheVariants as cut
+use Rattle.nqs_serve.proofs.Faults.{rose_behind, same_fault}
+use Rattle.nqs_serve.proofs.Sendable.{alike_right, alike_longer}
+
+-- nothing happened
+pub none_left : {D T E : Type 0} {g : disk.Ghosts D} (node : Node D g) (failed : E) (result : Result T E) → (IsErrOf result failed → ⊥)
+    → IsSoundHost (content_of node) → is_stopped node ≡ false → Leaves node node failed result
+none_left node failed result none sound running = record {
+  sound = sound;
+  site = refl;
+  running = on_ok result running;
+  later = λ which. omega arith;
+  broken = λ is. absurd (none is);
+}
+
+-- one call after another that went well
+pub then_left : {D T U E : Type 0} {g : disk.Ghosts D} (a b c : Node D g) (failed : E) (x : T) (result : Result U E) → Leaves a b failed (Ok x)
+    → Leaves b c failed result → Leaves a c failed result
+then_left a b c failed x result one two = record {
+  sound = two.sound;
+  site = two.site ∙ one.site;
+  running = two.running;
+  later = λ which. omega (arith, one.later which, two.later which);
+  broken = λ is. let broke = two.broken is in (broke.0, (broke.1.0, rose_behind _ _ _ (one.later broke.1.0) broke.1.1));
+}
+
+-- it went well, and what is answered isn't that a call of a disk failed
+pub left_as : {D T U E F : Type 0} {g : disk.Ghosts D} (a b : Node D g) (failed : E) (lost : F) (x : T) (result : Result U F)
+    → (IsErrOf result lost → ⊥) → Leaves a b failed (Ok x) → Leaves a b lost result
+left_as a b failed lost x result none left = record {
+  sound = left.sound;
+  site = left.site;
+  running = on_ok result left.running;
+  later = left.later;
+  broken = λ is. absurd (none is);
+}
+
+-- it failed, and the error that is answered is that of a disk only where this one is
+pub left_by : {D T U E F : Type 0} {g : disk.Ghosts D} (a b : Node D g) (failed e : E) (lost k : F) → (k ≡ lost → e ≡ failed)
+    → Leaves {T = T} a b failed (Err e) → Leaves {T = U} a b lost (Err k)
+left_by a b failed e lost k is_disk left = record {
+  sound = left.sound;
+  site = left.site;
+  running = tt;
+  later = left.later;
+  broken = λ is. left.broken (ap Err (is_disk (same_fault k lost is)));
+}
+
+-- one call after another, of which both went well
+pub both_left : {D T U V E : Type 0} {g : disk.Ghosts D} (a b c : Node D g) (failed : E) (x : T) (y : U) (z : V) → Leaves a b failed (Ok x)
+    → Leaves b c failed (Ok y) → Leaves a c failed (Ok z)
+both_left a b c failed x y z one two = left_as a c failed failed y (Ok z) (no_error z failed) (then_left a b c failed x (Ok y) one two)
+
+-- a fault of the node cuts an event off by this
+abbrev pub Cuts : NodeFault → Cut → Type 0
+Cuts e cut.Disk = (which : Which) × (e ≡ node.Disk which)
+Cuts e (cut.Memory memory) = e ≡ node.Memory memory
+
+cut_disk : (e : NodeFault) (k : Cut) → Cuts e k → k ≡ cut.Disk → (which : Which) × (e ≡ node.Disk which)
+cut_disk e cut.Disk cuts is = cuts
+cut_disk e (cut.Memory memory) cuts is = absurd (let no : ⊥ = cc in no)
+
+cut_memory : (e : NodeFault) (k : Cut) → Cuts e k → k ≡ cut.Memory want → e ≡ node.Memory want
+cut_memory e cut.Disk cuts is = cc
+cut_memory e (cut.Memory memory) cuts is = cc
+
+-- what a call of the node leaves that went well, or that a fault cut off
+
+module _ {D T : Type 0} {g : disk.Ghosts D} (old now : Node D g) where
+  pub ok_left : (was says : Vec Output) (x : T) → nodes.Leaves old now was says (Ok x) → Leaves old now cut.Disk (Ok x)
+  ok_left was says x left = record {
+    sound = left.sound;
+    site = left.site;
+    running = left.stops.running;
+    later = left.stops.later;
+    broken = λ is. absurd (no_error x cut.Disk is);
+  }
+
+  pub cut_left : (was says : Vec Output) (e : NodeFault) (k : Cut) → Cuts e k → nodes.Leaves {T = T} old now was says (Err e)
+      → Leaves {T = T} old now cut.Disk (Err k)
+  cut_left was says e k cuts left = record {
+    sound = left.sound;
+    site = left.site;
+    running = tt;
+    later = left.stops.later;
+    broken = λ is.
+        let which = cut_disk e k cuts (same_fault k cut.Disk is) in
+        let broken = left.stops.broken which.0 (ap Err which.1) in
+        (broken.0, (which.0, broken.1));
+  }
+
+  pub ok_taken : (was says : List Output) (step : Plain → Stepped (List ℕ)) (x : T) → AreRight 16 was → AreShort was
+      → AreRight 16 (map shown (step (bare old)).outputs) → AreShort (map shown (step (bare old)).outputs)
+      → nodes.TakesStep old now was says step (Ok x) → TakesStep old now was says step (Ok x)
+  ok_taken was says step x was_right was_short right short takes = record {
+    right = alike_right 16 _ _ _ takes.alike was_right right;
+    short = takes.short was_short short;
+    told = λ s knows. let did = takes.carries s knows.1 in ((knows.0, did.told knows.0 s knows.1), did.outputs knows.0 s knows.1);
+    memory = λ s knows is. absurd (no_error x (cut.Memory want) is);
+    longer = alike_longer _ _ _ takes.alike;
+    unsaid = tt;
+    unmade = tt;
+    active = λ s knows. (takes.carries s knows.1).active;
+    moments = λ s knows. (takes.carries s knows.1).any_moment knows.0 s knows.1;
+  }
+
+  pub cut_taken : (was says : Vec Output) (step : Plain → Stepped (List ℕ)) (e : NodeFault) (k : Cut) → Cuts e k
+      → nodes.Leaves {T = T} old now was says (Err e)
+      → nodes.TakesStep {T = T} old now was.items says.items step (Err e) → TakesStep {T = T} old now was.items says.items step (Err k)
+  cut_taken was says step e k cuts left takes = record {
+    right = tt;
+    short = tt;
+    told = λ s knows. tt;
+    memory = λ s knows is. (knows.0, (left.memory knows.0 (ap Err (cut_memory e k cuts (same_fault k (cut.Memory want) is)))).tells s knows.1);
+    longer = omega (arith, ap (λ (l : List Output). length l) left.unsaid);
+    unsaid = left.unsaid;
+    unmade = left.unmade;
+    active = λ s knows. tt;
+    moments = λ s knows. (takes.carries s knows.1).any_moment knows.0 s knows.1;
+  }
