@@ -3,7 +3,7 @@
 //!
 //! A turn is a receive, the event that it brought, and the events that come back of what went out.
 //! `specs/Runs.antt` says what a run is, `specs/Events.antt` which event a datagram is,
-//! `specs/Sorted.antt` why one is none,
+//! `specs/Sorted.antt` why one is none, `specs/Leaves.antt` what a call leaves of its node,
 //! `specs/Ends.antt` how a run ends.
 #![tactic(auto)]
 
