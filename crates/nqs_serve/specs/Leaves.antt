@@ -1,4 +1,4 @@
--- What a call of the daemon leaves of its node: of the host and its disks, and of a step that it took.
+-- What a call of the daemon leaves of its node: of its host and disks, and of a step that it took.
 use Rattle.std.specs.Prelude.{◌≡◌, ◌≤◌, ◌++◌, ℕ, false, List, IsTrue, OnOk, OnErr, IsErrOf, length}
 use Rattle.std.specs.declared.result.Result.{Result}
 use Rattle.nqs_base.specs.Want.{want}
@@ -54,6 +54,7 @@ module _ {D : Type 0} {g : disk.Ghosts D} {T : Type 0} (old now : Node D g) (was
     pub unmade : OnErr result (nodes.content_of now ≡ nodes.content_of old)
     -- at Ok the active journal goes on by the step's change
     pub active : (s : Plain) → Knows old s → OnOk result (nodes.active_of now ≡ after_kept (step s).change (nodes.active_of old))
-    -- at each moment, whatever images the disks may leave, they tell the state before the step or the one after it
+    -- at each moment, whatever images the disks may leave, they tell the state before the step or
+    -- the one after it
     pub moments : (s : Plain) → Knows old s
         → IsOneOrOther (nodes.active_of old) (nodes.history_of old) (nodes.history_of now) (step s).change s
