@@ -64,7 +64,8 @@ use Rattle.nqs_laws.proofs.RowTests.{PlainRow}
 use Rattle.nqs_laws.proofs.Sent.{all-flat, best_passes, Begins, Launches, Prints, Holds, Moves, Opens, begins}
 use Rattle.nqs_serve.specs.Sends.{has_number, is_right_id, is_right_event}
 
--- what is sent goes to a host of the site under a number, and what is acknowledged is a request of the site
+-- what is sent goes to a host of the site under a number, and what is acknowledged is a request of
+-- the site
 abbrev pub is_told : ℕ → Output → Bool
 is_told hosts (out.Send m) = is_of_site hosts m.to && has_number m.body
 is_told hosts (out.Ack port id start) = is_right_id hosts id

@@ -51,7 +51,8 @@ IsBetween m before s = (xs ys : List (Stepped (List ℕ))) × (starts m before �
 abbrev pub IsWithin : ℕ → Event → Plain → Plain → Type 0
 IsWithin m e before s = (s ≡ before) ⊎ IsBetween m (stepped m e before) s
 
--- the state before the next event is told; or nothing went out of that event, and one on the way to the state after it is
+-- the state before the next event is told; or nothing went out of that event, and one on the way to
+-- the state after it is
 abbrev pub IsCutAt : Turn → Begun → Plain → Type 0
 IsCutAt t more s = ((more ≡ none_begun) × (s ≡ t.state))
     ⊎ ((e : Event) × (es : List Event) × (m : ℕ) × (t.waits ≡ e ∷ es) × (more ≡ begun m []) × IsWithin m e t.state s)
@@ -66,8 +67,9 @@ abbrev pub UnlessMemory : {T : Type 0} → Result T Cut → Type 0 → Type 0
 UnlessMemory (Ok x) P = P
 UnlessMemory (Err k) P = UnlessWant k P
 
--- Of calls that do this from a state on, the first answered Ok and the next one failed: the host is at the state after those that
--- answered, what went out is just what they say, and whatever images the disks may leave tell that state or the one after the next call.
+-- Of calls that do this from a state on, the first answered Ok and the next one failed: the host is
+-- at the state after those that answered, what went out is just what they say, and whatever images
+-- the disks may leave tell that state or the one after the next call.
 pub record Broke (At : Plain → Type 0) (steps : List (Stepped (List ℕ))) (s : Plain) (went : List Output) (now : Which → History) : Type 0 where
   pub done : List (Stepped (List ℕ))
   pub left : List (Stepped (List ℕ))
@@ -91,8 +93,8 @@ pub record Receives (turns : ℕ) (bs : List Bool) : Type 0 where
   pub at_most_one : length last ≤ 1
   pub few : length bs ≤ turns
 
--- How a run ends. One predicate has the states that are told at its end, one those that the host is at, and these are the histories
--- of its disks then.
+-- How a run ends. One predicate has the states that are told at its end, one those that the host is
+-- at, and these are the histories of its disks then.
 abbrev pub EndsWith : (Told At : Plain → Type 0) → (Which → History) → ServeEnd → ℕ → List Bool → Turn → Begun → Type 0
 -- the last receive brought such a shutdown, and none before it did
 EndsWith Told At now Shutdown turns bs t more = (t.waits ≡ []) × (more ≡ none_begun) × Told t.state

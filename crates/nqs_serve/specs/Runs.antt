@@ -1,4 +1,5 @@
--- A run of the daemon: what came, and each event that was taken, with what the outside answered to what went out.
+-- A run of the daemon: what came, and each event that was taken, with what the outside answered to
+-- what went out.
 use Rattle.std.specs.Prelude.{◌≡◌, ℕ, Bool, if◌then◌else◌, List, [], ◌∷◌, ◌++◌, map}
 use Rattle.std.specs.List.{flat_map}
 use Rattle.std.specs.Option.{option_to_list}
@@ -68,7 +69,8 @@ abbrev pub filings_by : Output → Bool → List Filing
 filings_by (out.File file path bytes) ok = filed path bytes ok ∷ []
 filings_by _ ok = []
 
--- what comes back of it: a launch or a print that failed, a print that succeeded, a file that was written or was not
+-- what comes back of it: a launch or a print that failed, a print that succeeded, a file that was
+-- written or was not
 abbrev pub comeback_of : Output → Bool → Option Comeback
 comeback_of (out.Launch order _) ok = if ok then None else Some (Unlaunched order.id order.start)
 comeback_of (out.Print _ order _) ok = Some (if ok then Printed order.id order.start else Unlaunched order.id order.start)
@@ -183,11 +185,13 @@ pub record Telling : Type 0 where
   pub filings : Option (List Filing)
   pub given : Option (List ℕ)
 
--- what the wire tells of receives and sends, then what the launcher, the printer, the outlet and the clock tell
+-- what the wire tells of receives and sends, then what the launcher, the printer, the outlet and
+-- the clock tell
 abbrev pub telling : Option (List Arrival) → Option (List Packet) → Option (List Asked) → Option (List Print) → Option (List Filing) → Option (List ℕ) → Telling
 telling r s a p f c = record { received = r; sent = s; asked = a; prints = p; filings = f; given = c }
 
--- what was done of an event that was cut off: the moment at which it was to be taken, and what of it was carried out
+-- what was done of an event that was cut off: the moment at which it was to be taken, and what of
+-- it was carried out
 pub record Begun : Type 0 where
   pub moments : List ℕ
   pub outcomes : List Outcome
@@ -204,7 +208,8 @@ begun m outcomes = record { moments = m ∷ []; outcomes = outcomes }
 abbrev pub carried : List Act → Begun → List Outcome
 carried acts more = outcomes acts ++ more.outcomes
 
--- What the outside tells grew by just what these acts, and then an event that was cut off, ask of it.
+-- What the outside tells grew by just what these acts, and then an event that was cut off, ask of
+-- it.
 pub record Grew (here : Here) (acts : List Act) (more : Begun) (was now : Telling) : Type 0 where
   pub received : Extends was.received now.received (arrivals acts)
   pub sent : Extends was.sent now.sent (packets here (carried acts more))
@@ -213,7 +218,8 @@ pub record Grew (here : Here) (acts : List Act) (more : Begun) (was now : Tellin
   pub filings : Extends was.filings now.filings (filings (carried acts more))
   pub given : Extends was.given now.given (moments acts ++ more.moments)
 
--- The acts lead from one turn to another. They, and what was done of an event that was cut off, are just what the outside saw.
+-- The acts lead from one turn to another. They, and what was done of an event that was cut off, are
+-- just what the outside saw.
 pub record Ran (here : Here) (acts : List Act) (start finish : Turn) (more : Begun) (was now : Telling) : Type 0 where
   pub run : IsRun here start acts
   pub leads : after here start acts ≡ finish
@@ -235,7 +241,8 @@ folded_outputs s es [] = []
 folded_outputs s [] (m ∷ ms) = []
 folded_outputs s (e ∷ es) (m ∷ ms) = outputs m e s ++ folded_outputs (after_event m e s) es ms
 
--- where nothing came back, a run that leaves nothing waiting is the fold of the step and its starts over the events in what was received
+-- where nothing came back, a run that leaves nothing waiting is the fold of the step and its starts
+-- over the events in what was received
 abbrev pub RunsAreFolds : Type 0
 RunsAreFolds = (here : Here) (s : Plain) (acts : List Act) → IsRun here (idle s) acts → brought_back (outcomes acts) ≡ []
     → (after here (idle s) acts).waits ≡ []

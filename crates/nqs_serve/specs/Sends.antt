@@ -1,4 +1,5 @@
--- What a host of a site of so many may send, apart from how long the script or output is that it carries.
+-- What a host of a site of so many may send, apart from how long the script or output is that it
+-- carries.
 use Rattle.std.specs.Prelude.{◌≡◌, ℕ, Bool, true, false, ◌&&◌, ◌||◌, ◌==◌, nat_le, List, []}
 use Rattle.std.specs.List.{list_all}
 use Rattle.nqs_types.specs.declared.ids.RequestId.{RequestId}
@@ -47,7 +48,8 @@ is_right_output hosts _ = true
 abbrev pub AreRight : ℕ → List Output → Type 0
 AreRight hosts outputs = list_all (is_right_output hosts) outputs ≡ true
 
--- a message comes from a host of the site under a number, and who waits for an answer names a request of the site
+-- a message comes from a host of the site under a number, and who waits for an answer names a
+-- request of the site
 abbrev pub is_right_event : ℕ → Event → Bool
 is_right_event hosts (event.Arrived _ m) = is_of_site hosts m.from && has_number m.body
 is_right_event hosts (event.Ended _ port id _ _ _ _) = port == 0 || is_right_id hosts id

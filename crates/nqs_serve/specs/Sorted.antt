@@ -36,7 +36,8 @@ is_said_back _ = false
 abbrev pub Reads : List ℕ → (Message → Type 0) → Type 0
 Reads bytes P = (length bytes ≤ 49152) × ((m : Message) × (message_of bytes ≡ Ok m) × P m)
 
--- How a datagram is sorted at a moment: the causes in order, each where none before it holds, and else the event of its message.
+-- How a datagram is sorted at a moment: the causes in order, each where none before it holds, and
+-- else the event of its message.
 abbrev pub IsSorted : Here → ℕ → List ℕ → Sorted → Type 0
 IsSorted here now bytes (Ignored TooLong) = 49152 < length bytes
 IsSorted here now bytes (Ignored (Unread fault)) = (length bytes ≤ 49152) × (message_of bytes ≡ Err fault)

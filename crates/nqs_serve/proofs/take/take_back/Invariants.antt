@@ -25,6 +25,7 @@ invariant-loop-alloc g l = record {
       (IsPassed here (turn s (map event_back l.fn.back.items)) acts []);
 }
 
--- each event that came back is one less, and each start that may bring one back lowers how many there may still be
+-- each event that came back is one less, and each start that may bring one back lowers how many
+-- there may still be
 abbrev pub decreases-loop-alloc : goal.decreases-loop-alloc
 decreases-loop-alloc g l = starts_left (content_of l.node) + length l.back.items
