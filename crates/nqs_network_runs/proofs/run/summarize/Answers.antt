@@ -26,3 +26,20 @@ text_of_summary-requires g c =
         c.in_ok-world.ensures.0,
       );
     }
+
+pub returns-in_err-text : goal.returns-in_err-text
+returns-in_err-text g c =
+    let p = err_from_is_err_and c.from_residual-in_err-text.result c.from_residual-in_err-text.ensures.1 in
+    rw (p.1, p.2) ([], (text_of true c.args.site.now c.args.events.now, refl), Appends-none (g.K.Sink.taken c.args.out.now))
+
+pub returns-in_err-write_whole : goal.returns-in_err-write_whole
+returns-in_err-write_whole g c =
+    let p = err_from_is_err_and c.from_residual-in_err-write_whole.result c.from_residual-in_err-write_whole.ensures.1 in
+    let events = c.args.events.now in
+    let network = (ran c.args.site.now events).world in
+    let text = text_of true c.args.site.now events in
+    let counted = c.in_ok-world.ensures in
+    let piece : c.deref.result.now ≡ text = c.deref.ensures.value ∙ c.in_ok-text.ensures.text network counted.0
+    ∙ (λ j. summary_text (counted.1 j) (length events) (table_length network)) in
+    let stop = c.in_err-write_whole.ensures in
+    rw (p.1, p.2) (stop.fault, (take stop.err.0 c.deref.result.now, front_of text c.deref.result.now stop.err.0 piece, stop.err.2))

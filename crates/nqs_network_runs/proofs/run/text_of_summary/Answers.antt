@@ -7,6 +7,6 @@ returns-clause-world c = c.in_ok-rows.ensures.world
 
 pub returns-clause-text : goal.returns-clause-text
 returns-clause-text c = λ network is.
-    let count : c.len.result ≡ length c.in_ok-rows.rows.items = c.len.ensures in
+    let count : c.len.result ≡ length c.in_ok-rows.rows.items = omega (arith, c.len.ensures, c.in_ok-rows.rows.ok.0) in
     let rows = count ∙ ap length (c.in_ok-rows.ensures.rows network is) in
     c.in_ok-print_summary.ensures ∙ (λ j. c.new-text.ensures.items j ++ summary_text c.args.summary.now c.args.events (rows j))
