@@ -1,13 +1,16 @@
 //! Kinds of record, put at the end of a list: the kind's number and its fields. After `Memory` a
 //! part may stand there.
 
-ghost use Rattle.std.specs.Prelude.{◌≡◌, ◌∷◌, ◌++◌, []};
+ghost use Rattle.std.specs.Prelude.{◌≡◌, ◌∷◌, []};
 ghost use Rattle.std.specs.Prelude.{◌<◌, length, IsTrue};
 ghost use Rattle.std.specs.List.{AllByRecursion};
 ghost use Rattle.nqs_base.specs.Path.{IsPath};
-ghost use Rattle.nqs_codec.specs.Fields.{u8_field, u64_field, short_field};
+ghost use Rattle.nqs_codec.specs.Fields.{u8_field, u64_field};
+ghost use Rattle.nqs_types.specs.declared.change.Change.TheVariants.{Site, Submitted, Started, Ended, HandOpened, HandRefused, HandsSilent, Promised};
+ghost use Rattle.nqs_types.specs.declared.change.Change.TheVariants.{MovedLocal, RefusedLocal, StageGot};
 ghost use Rattle.nqs_records.specs.Adds.{Adds};
-ghost use Rattle.nqs_records.specs.Spelling.{fields, opt_field, list_field, id_field, extent_field, job_field, carried_field, part_field, hand_field};
+ghost use Rattle.nqs_records.specs.Changes.{spelling};
+ghost use Rattle.nqs_records.specs.Spelling.{fields, id_field};
 ghost use Rattle.nqs_records.specs.Values.{IsJob, IsCarried, IsPart};
 
 use crate::put_lists::{put_hands, put_names, put_parts};
@@ -38,17 +41,17 @@ pub(crate) fn put_with_hand(
     put_u64(number, out)
 }
 
-#[tactic(auto, using(crate::proofs::Joined::joined))]
+#[tactic(auto, using(crate::proofs::Joined::joined), unfolding(crate::specs::Changes::spelling))]
 pub(crate) fn put_site(me: HostId, site: &[Name], out: &mut Vec<u8>) -> Result<(), Memory>
     requires { length site.now < 256 }
-    ensures { Adds out.old.items (fields (u8_field 1 ∷ (u8_field me.0 ++ list_field short_field site.now) ∷ [])) result out.new.items }
+    ensures { Adds out.old.items (spelling (Site me site.now)) result out.new.items }
 {
     put_u8(1, out)?;
     put_u8(me.0, out)?;
     put_names(site, out)
 }
 
-#[tactic(auto, using(crate::proofs::Joined::joined))]
+#[tactic(auto, using(crate::proofs::Joined::joined), unfolding(crate::specs::Changes::spelling))]
 pub(crate) fn put_submitted(
     queue: &Name,
     job: &Job,
@@ -56,7 +59,7 @@ pub(crate) fn put_submitted(
     out: &mut Vec<u8>,
 ) -> Result<(), Memory>
     requires { IsJob job.now }
-    ensures { Adds out.old.items (fields (u8_field 2 ∷ short_field queue.now ∷ job_field job.now ∷ extent_field script ∷ [])) result out.new.items }
+    ensures { Adds out.old.items (spelling (Submitted queue.now job.now script)) result out.new.items }
 {
     put_u8(2, out)?;
     put_name(queue, out)?;
@@ -64,31 +67,31 @@ pub(crate) fn put_submitted(
     put_extent(script, out)
 }
 
-#[tactic(auto, using(crate::proofs::Joined::joined))]
+#[tactic(auto, using(crate::proofs::Joined::joined), unfolding(crate::specs::Changes::spelling))]
 pub(crate) fn put_started(
     id: RequestId,
     device: &Option<Name>,
     out: &mut Vec<u8>,
 ) -> Result<(), Memory>
-    ensures { Adds out.old.items (fields (u8_field 5 ∷ id_field id ∷ opt_field short_field device.now ∷ [])) result out.new.items }
+    ensures { Adds out.old.items (spelling (Started id device.now)) result out.new.items }
 {
     put_u8(5, out)?;
     put_id(id, out)?;
     put_opt_name(device, out)
 }
 
-#[tactic(auto, using(crate::proofs::Joined::joined))]
+#[tactic(auto, using(crate::proofs::Joined::joined), unfolding(crate::specs::Changes::spelling))]
 pub(crate) fn put_ended(id: RequestId, outputs: &[OutPart], out: &mut Vec<u8>) -> Result<(), Memory>
     requires all { AllByRecursion IsPart outputs.now }
     requires few { length outputs.now < 256 }
-    ensures { Adds out.old.items (fields (u8_field 6 ∷ id_field id ∷ list_field part_field outputs.now ∷ [])) result out.new.items }
+    ensures { Adds out.old.items (spelling (Ended id outputs.now)) result out.new.items }
 {
     put_u8(6, out)?;
     put_id(id, out)?;
     put_parts(outputs, out)
 }
 
-#[tactic(auto, using(crate::proofs::Joined::joined))]
+#[tactic(auto, using(crate::proofs::Joined::joined), unfolding(crate::specs::Changes::spelling))]
 pub(crate) fn put_hand_opened(
     peer: HostId,
     number: u64,
@@ -97,8 +100,7 @@ pub(crate) fn put_hand_opened(
     since: u64,
     out: &mut Vec<u8>,
 ) -> Result<(), Memory>
-    ensures { Adds out.old.items (fields (u8_field 10 ∷ u8_field peer.0 ∷ u64_field number ∷ id_field id ∷ short_field queue.now ∷ u64_field since ∷ [])) result
-        out.new.items }
+    ensures { Adds out.old.items (spelling (HandOpened peer number id queue.now since)) result out.new.items }
 {
     put_u8(10, out)?;
     put_u8(peer.0, out)?;
@@ -108,14 +110,14 @@ pub(crate) fn put_hand_opened(
     put_u64(since, out)
 }
 
-#[tactic(auto, using(crate::proofs::Joined::joined))]
+#[tactic(auto, using(crate::proofs::Joined::joined), unfolding(crate::specs::Changes::spelling))]
 pub(crate) fn put_hand_refused(
     peer: HostId,
     number: u64,
     cause: u8,
     out: &mut Vec<u8>,
 ) -> Result<(), Memory>
-    ensures { Adds out.old.items (fields (u8_field 12 ∷ u8_field peer.0 ∷ u64_field number ∷ u8_field cause ∷ [])) result out.new.items }
+    ensures { Adds out.old.items (spelling (HandRefused peer number cause)) result out.new.items }
 {
     put_u8(12, out)?;
     put_u8(peer.0, out)?;
@@ -123,21 +125,21 @@ pub(crate) fn put_hand_refused(
     put_u8(cause, out)
 }
 
-#[tactic(auto, using(crate::proofs::Joined::joined))]
+#[tactic(auto, using(crate::proofs::Joined::joined), unfolding(crate::specs::Changes::spelling))]
 pub(crate) fn put_hands_silent(
     until: u64,
     hands: &[PeerNumber],
     out: &mut Vec<u8>,
 ) -> Result<(), Memory>
     requires { length hands.now < 256 }
-    ensures { Adds out.old.items (fields (u8_field 13 ∷ u64_field until ∷ list_field hand_field hands.now ∷ [])) result out.new.items }
+    ensures { Adds out.old.items (spelling (HandsSilent until hands.now)) result out.new.items }
 {
     put_u8(13, out)?;
     put_u64(until, out)?;
     put_hands(hands, out)
 }
 
-#[tactic(auto, using(crate::proofs::Joined::joined))]
+#[tactic(auto, using(crate::proofs::Joined::joined), unfolding(crate::specs::Changes::spelling))]
 pub(crate) fn put_promised(
     peer: HostId,
     number: u64,
@@ -147,8 +149,7 @@ pub(crate) fn put_promised(
     out: &mut Vec<u8>,
 ) -> Result<(), Memory>
     requires { IsCarried carried.now }
-    ensures { Adds out.old.items (fields (u8_field 15 ∷ u8_field peer.0 ∷ u64_field number ∷ short_field queue.now ∷ carried_field carried.now
-        ∷ extent_field script ∷ [])) result out.new.items }
+    ensures { Adds out.old.items (spelling (Promised peer number queue.now carried.now script)) result out.new.items }
 {
     put_u8(15, out)?;
     put_u8(peer.0, out)?;
@@ -158,23 +159,23 @@ pub(crate) fn put_promised(
     put_extent(script, out)
 }
 
-#[tactic(auto, using(crate::proofs::Joined::joined))]
+#[tactic(auto, using(crate::proofs::Joined::joined), unfolding(crate::specs::Changes::spelling))]
 pub(crate) fn put_moved_local(id: RequestId, queue: &Name, out: &mut Vec<u8>) -> Result<(), Memory>
-    ensures { Adds out.old.items (fields (u8_field 18 ∷ id_field id ∷ short_field queue.now ∷ [])) result out.new.items }
+    ensures { Adds out.old.items (spelling (MovedLocal id queue.now)) result out.new.items }
 {
     put_u8(18, out)?;
     put_id(id, out)?;
     put_name(queue, out)
 }
 
-#[tactic(auto, using(crate::proofs::Joined::joined))]
+#[tactic(auto, using(crate::proofs::Joined::joined), unfolding(crate::specs::Changes::spelling))]
 pub(crate) fn put_refused_local(
     id: RequestId,
     queue: &Name,
     cause: u8,
     out: &mut Vec<u8>,
 ) -> Result<(), Memory>
-    ensures { Adds out.old.items (fields (u8_field 19 ∷ id_field id ∷ short_field queue.now ∷ u8_field cause ∷ [])) result out.new.items }
+    ensures { Adds out.old.items (spelling (RefusedLocal id queue.now cause)) result out.new.items }
 {
     put_u8(19, out)?;
     put_id(id, out)?;
@@ -182,7 +183,7 @@ pub(crate) fn put_refused_local(
     put_u8(cause, out)
 }
 
-#[tactic(auto, using(crate::proofs::Joined::joined))]
+#[tactic(auto, using(crate::proofs::Joined::joined), unfolding(crate::specs::Changes::spelling))]
 pub(crate) fn put_stage_got(
     peer: HostId,
     number: u64,
@@ -191,8 +192,7 @@ pub(crate) fn put_stage_got(
     out: &mut Vec<u8>,
 ) -> Result<(), Memory>
     requires { IsPath path.now }
-    ensures { Adds out.old.items (fields (u8_field 21 ∷ u8_field peer.0 ∷ u64_field number ∷ short_field path.now ∷ extent_field bytes ∷ [])) result
-        out.new.items }
+    ensures { Adds out.old.items (spelling (StageGot peer number path.now bytes)) result out.new.items }
 {
     put_u8(21, out)?;
     put_u8(peer.0, out)?;

@@ -3,10 +3,7 @@
 ghost use Rattle.nqs_codec.specs.Puts.{Puts};
 ghost use Rattle.nqs_records.specs.Adds.{Adds};
 ghost use Rattle.nqs_records.specs.Changes.{MayStand, spelling};
-ghost use Rattle.std.specs.Prelude.{◌∷◌, []};
-ghost use Rattle.nqs_codec.specs.Fields.{u8_field, u64_field};
-ghost use Rattle.nqs_records.specs.Spelling.{fields};
-ghost use Rattle.nqs_records.specs.EditSpelling.{edit_field};
+ghost use Rattle.nqs_types.specs.declared.change.Change.TheVariants.{Boot, Edited, FileGone};
 
 use crate::put_edits::put_edit;
 use crate::put_kinds::{
@@ -19,25 +16,25 @@ use nqs_codec::{put_u8, put_u64};
 use nqs_types::{Change, Edit};
 use std::alloc::Global;
 
-#[tactic(auto, using(crate::proofs::Joined::joined))]
+#[tactic(auto, using(crate::proofs::Joined::joined), unfolding(crate::specs::Changes::spelling))]
 fn put_edited(edit: Edit, out: &mut Vec<u8>) -> Result<(), Memory>
-    ensures { Adds out.old.items (fields (u8_field 9 ∷ edit_field edit ∷ [])) result out.new.items }
+    ensures { Adds out.old.items (spelling (Edited edit)) result out.new.items }
 {
     put_u8(9, out)?;
     put_edit(edit, out)
 }
 
-#[tactic(auto, using(crate::proofs::Joined::joined))]
+#[tactic(auto, using(crate::proofs::Joined::joined), unfolding(crate::specs::Changes::spelling))]
 fn put_file_gone(file: u64, out: &mut Vec<u8>) -> Result<(), Memory>
-    ensures { Adds out.old.items (fields (u8_field 23 ∷ u64_field file ∷ [])) result out.new.items }
+    ensures { Adds out.old.items (spelling (FileGone file)) result out.new.items }
 {
     put_u8(23, out)?;
     put_u64(file, out)
 }
 
-#[tactic(auto, using(crate::proofs::Joined::joined))]
+#[tactic(auto, using(crate::proofs::Joined::joined), unfolding(crate::specs::Changes::spelling))]
 fn put_boot(out: &mut Vec<u8>) -> Result<(), Memory>
-    ensures { Adds out.old.items (fields (u8_field 8 ∷ [])) result out.new.items }
+    ensures { Adds out.old.items (spelling Boot) result out.new.items }
 {
     put_u8(8, out)
 }
