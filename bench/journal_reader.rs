@@ -1,10 +1,12 @@
 // A plain reader of a host's active journal, the yardstick of bench/checkpoints for a boot.
 //
-//     journal_reader FOLDER TIMES   reads the journal that FOLDER/root names so many times, and prints the requests, the records
-//                                   behind the snapshot, the bytes, and the least time in seconds that a reading took
+//     journal_reader FOLDER TIMES   reads the journal that FOLDER/root names so many times, and
+//                                   prints the requests, the records behind the snapshot, the
+//                                   bytes, and the least time in seconds that a reading took
 //
-// It reads the bytes from the file, spells out the snapshot into a list of requests with a table of their numbers, and makes
-// each record behind it. It knows the records of submissions, deletions, boots, and of edits of one name, and trusts the bytes.
+// It reads the bytes from the file, spells out the snapshot into a list of requests with a table of
+// their numbers, and makes each record behind it. It knows the records of submissions, deletions,
+// boots, and of edits of one name, and trusts the bytes.
 use std::collections::HashMap;
 use std::env;
 use std::fs;
@@ -160,7 +162,8 @@ struct Host {
     arrivals: u64,
 }
 
-// The rest of a snapshot, of which a host without complexes, devices, handovers and outputs has but counts.
+// The rest of a snapshot, of which a host without complexes, devices, handovers and outputs has but
+// counts.
 fn host(fields: &mut Fields) -> Host {
     let _me = fields.number(1);
     let _site = fields.list(Fields::name);

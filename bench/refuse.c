@@ -2,8 +2,9 @@
  *
  *     REFUSED=N LD_PRELOAD=refuse.so PROGRAM ..
  *
- * The Nth request that the program makes from the start of its `main` on, counted from 1, is answered that there is no memory. At its
- * end the program writes how many there were to the file COUNTED, if that is set. */
+ * The Nth request that the program makes from the start of its `main` on, counted from 1, is
+ * answered that there is no memory. At its end the program writes how many there were to the file
+ * COUNTED, if that is set. */
 #include <errno.h>
 #include <stdio.h>
 #include <stdlib.h>

@@ -1,9 +1,11 @@
-// The yardstick of bench/storage: the same work on the storage of a host as `nqs_bench` does, in plain Rust.
+// The yardstick of bench/storage: the same work on the storage of a host as `nqs_bench` does, in
+// plain Rust.
 //
-// A disk in memory keeps its bytes and all its calls with the bytes written. The journal appends a record by four
-// calls: length, payload and the next gate; a sync; the record's own gate; a sync. The spool puts a list of bytes at
-// the least place where it meets no live extent, which it finds in a balanced tree of what is live: each node knows
-// the end of its part and the widest gap within it.
+// A disk in memory keeps its bytes and all its calls with the bytes written. The journal appends a
+// record by four calls: length, payload and the next gate; a sync; the record's own gate; a sync.
+// The spool puts a list of bytes at the least place where it meets no live extent, which it finds
+// in a balanced tree of what is live: each node knows the end of its part and the widest gap within
+// it.
 use std::env;
 use std::process::exit;
 
@@ -63,7 +65,8 @@ struct Extent {
     length: u64,
 }
 
-// A treap of extents by place. `start` and `end` are those of the part below, `gap` the widest free range within it.
+// A treap of extents by place. `start` and `end` are those of the part below, `gap` the widest free
+// range within it.
 struct Node {
     extent: Extent,
     rank: u64,
@@ -127,7 +130,8 @@ fn join(left: Tree, right: Tree) -> Tree {
     }
 }
 
-// The least place from `from` on, within the part or right behind it, where so many bytes meet no extent.
+// The least place from `from` on, within the part or right behind it, where so many bytes meet no
+// extent.
 fn least_place(tree: &Tree, from: u64, length: u64) -> u64 {
     let Some(node) = tree else { return from };
     if node.start - from >= length {

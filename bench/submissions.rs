@@ -1,9 +1,13 @@
-// A client that stays and its yardstick, for bench/daemon and bench/checkpoints; each prints how many it made a second.
+// A client that stays and its yardstick, for bench/daemon and bench/checkpoints; each prints how
+// many it made a second.
 //
-//     submissions ask PORT COUNT       submits the script `date` by ann to the daemon at this port, one after the other
+//     submissions ask PORT COUNT       submits the script `date` by ann to the daemon at this port,
+//                                      one after the other
 //     submissions edits PORT COUNT     disables the queue `batch` by root, so many times
-//     submissions turnover PORT COUNT  deletes the oldest request and submits one, in turn, so many of both; behind `ask`
-//     submissions plain FOLDER COUNT   the writes and syncs of such a submission: its script, its record, and its gate
+//     submissions turnover PORT COUNT  deletes the oldest request and submits one, in turn, so many
+//                                      of both; behind `ask`
+//     submissions plain FOLDER COUNT   the writes and syncs of such a submission: its script, its
+//                                      record, and its gate
 use std::env;
 use std::fs::File;
 use std::io::Result;
