@@ -9,7 +9,6 @@ ghost use Rattle.nqs_rules.specs.Conf.{is_queued_in, without_member};
 ghost use Rattle.nqs_rules.specs.Edits.{change_queue};
 ghost use Rattle.nqs_rules.specs.Find.{has_queue};
 ghost use Rattle.nqs_rules.specs.Format.{new_queue};
-ghost use Rattle.nqs_rules.specs.Tests.{is_queued};
 
 use crate::create::{Created, create_queue};
 use crate::dest::{created_dest, dest_list, drop_dest, meant_dest};
@@ -47,20 +46,11 @@ fn delete_queue(state: &mut HostState, queue: &Name)
     state.default_queue = default_without(state.default_queue, queue);
 }
 
-fn is_queued(state: RowState) -> bool
-    ensures { result ≡ is_queued state }
-{
-    match state {
-        RowState::Queued => true,
-        RowState::Routing => false,
-        RowState::Running => false,
-    }
-}
-
-fn is_queued_in(row: &Row, queue: &Name) -> bool
+/// Whether the request is queued in this queue, held or not: a purge of the queue takes it away.
+pub fn is_queued_in(row: &Row, queue: &Name) -> bool
     ensures { result ≡ is_queued_in queue.now row.now }
 {
-    is_queued(row.state) && *queue == row.queue
+    row.state == RowState::Queued && *queue == row.queue
 }
 
 fn purge_queue(state: &mut HostState, queue: &Name)

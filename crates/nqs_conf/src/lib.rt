@@ -9,5 +9,5 @@ mod check;
 mod create;
 mod dest;
 
-pub use apply::apply_conf;
+pub use apply::{apply_conf, is_queued_in};
 pub use check::check_conf;

@@ -16,13 +16,7 @@ use nqs_limits::apply_limits;
 use nqs_routing::note_refusal;
 use nqs_rows::apply_rows;
 use nqs_state::HostState;
-use nqs_types::{Change, Dest, Edit, Hand, HostId, PeerNumber, Phase};
-
-fn key(peer: HostId, number: u64) -> PeerNumber
-    ensures { result ≡ record { peer = peer; number = number } }
-{
-    PeerNumber { peer, number }
-}
+use nqs_types::{Change, Dest, Edit, Hand, PeerNumber, Phase};
 
 // Makes an edit that isn't refused.
 fn apply_edit(state: &mut HostState, edit: Edit)
@@ -79,23 +73,27 @@ pub fn apply(state: &mut HostState, change: Change)
             };
             hands::opened(state, hand)
         }
-        Change::HandCommitted { peer, number } => hands::committed(state, &key(peer, number)),
+        Change::HandCommitted { peer, number } => {
+            hands::committed(state, &PeerNumber { peer, number })
+        }
         Change::HandRefused {
             peer,
             number,
             cause,
-        } => hands::refused(state, &key(peer, number), cause),
+        } => hands::refused(state, &PeerNumber { peer, number }, cause),
         Change::HandsSilent { until, hands } => hands::all_silent(state, hands.as_slice(), until),
-        Change::HandDone { peer, number } => hands::done(state, &key(peer, number)),
+        Change::HandDone { peer, number } => hands::done(state, &PeerNumber { peer, number }),
         Change::Promised {
             peer,
             number,
             queue,
             carried,
             script,
-        } => promises::promised(state, key(peer, number), queue, carried, script),
-        Change::Accepted { peer, number } => promises::accepted(state, &key(peer, number)),
-        Change::Dropped { peer, number } => promises::dropped(state, &key(peer, number)),
+        } => promises::promised(state, PeerNumber { peer, number }, queue, carried, script),
+        Change::Accepted { peer, number } => {
+            promises::accepted(state, &PeerNumber { peer, number })
+        }
+        Change::Dropped { peer, number } => promises::dropped(state, &PeerNumber { peer, number }),
         Change::MovedLocal { id, queue } => rows::moved(state, id, queue),
         Change::RefusedLocal { id, queue, cause } => {
             let host = state.me;
@@ -108,7 +106,7 @@ pub fn apply(state: &mut HostState, change: Change)
             path,
             bytes,
         } => outputs::stage_got(state, peer, number, path, bytes),
-        Change::StageGone { peer, number } => state.stages.remove_key(&key(peer, number)),
+        Change::StageGone { peer, number } => state.stages.remove_key(&PeerNumber { peer, number }),
         Change::FileGone { file } => state.files.remove_key(&file),
     }
 }

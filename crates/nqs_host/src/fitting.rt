@@ -18,7 +18,7 @@ use nqs_changes::rows::row_runs;
 use nqs_conf::check_conf;
 use nqs_devices::{check_devices, is_busy};
 use nqs_limits::check_limits;
-use nqs_routing::{find_peer, has_hand_to, has_promise};
+use nqs_routing::{find_peer, has_hand_to, has_promise, is_open_number};
 use nqs_rows::{arrivals_used, check_rows, is_host_full, offer_full};
 use nqs_state::HostState;
 use nqs_types::{Change, Edit, HostId, PeerNumber, Phase, RequestId, Row, RowState};
@@ -85,15 +85,6 @@ fn is_next(state: &HostState, peer: HostId, number: u64) -> bool
 {
     match find_peer(state, peer) {
         Some(known) => known.next == number && known.next < u64::MAX,
-        None => false,
-    }
-}
-
-fn is_open_number(state: &HostState, peer: HostId, number: u64) -> bool
-    ensures { result ≡ passes (is_open_number number) (find_peer peer (content state.now)) }
-{
-    match find_peer(state, peer) {
-        Some(known) => !(number <= known.closed),
         None => false,
     }
 }

@@ -1,15 +1,13 @@
 //! Which destination is tried.
 
 ghost use Rattle.std.specs.Prelude.{◌≡◌};
-ghost use Rattle.std.specs.Option.{option_copied};
 ghost use Rattle.nqs_state.specs.State.{content};
-ghost use Rattle.nqs_rules.specs.Find.{find_peer};
 ghost use Rattle.nqs_rules.specs.Routing.{refuses, was_refused, is_reachable, may_try, destination};
 ghost use Rattle.nqs_routing.specs.Destination.{destination_of};
 
-use crate::hands::has_hand_to;
+use crate::hands::{find_peer, has_hand_to};
 use nqs_state::HostState;
-use nqs_types::{Dest, HostId, Peer, QueueDef, Refused, Row};
+use nqs_types::{Dest, HostId, QueueDef, Refused, Row};
 
 /// Whether the refusal is of this destination.
 pub fn refuses(refused: &Refused, dest: &Dest) -> bool
@@ -23,13 +21,6 @@ pub(crate) fn was_refused(refused: &[Refused], dest: &Dest) -> bool
     ensures { result ≡ was_refused dest.now refused.now }
 {
     refused.iter().any(|refused| refuses(refused, dest))
-}
-
-/// What is known of a host. There is nothing where it isn't of the site.
-pub fn find_peer(state: &HostState, peer: HostId) -> Option<&Peer>
-    ensures { option_copied result ≡ find_peer peer (content state.now) }
-{
-    state.peers.as_slice().get(peer.0 as usize)
 }
 
 /// Whether a handover to the host may be opened at this moment, in seconds since 1970: none to it

@@ -1,14 +1,34 @@
-//! Handovers and promises, by the host that they are with.
+//! What is known of a host, and the handovers and promises with it.
 
 ghost use Rattle.std.specs.Prelude.{◌≡◌};
 ghost use Rattle.std.specs.List.{list_any};
+ghost use Rattle.std.specs.Option.{option_copied};
 ghost use Rattle.nqs_state.specs.State.{content};
-ghost use Rattle.nqs_rules.specs.Find.{has_promise};
+ghost use Rattle.nqs_rules.specs.Tests.{passes};
+ghost use Rattle.nqs_rules.specs.Find.{find_peer, has_promise};
+ghost use Rattle.nqs_rules.specs.Fits.{is_open_number};
 ghost use Rattle.nqs_rules.specs.Routing.{is_hand_to};
 ghost use Rattle.nqs_rules.specs.Applied.{is_offered_for, is_promise_of};
 
 use nqs_state::HostState;
-use nqs_types::{Hand, HostId, PeerNumber, Phase, Promise, RequestId};
+use nqs_types::{Hand, HostId, Peer, PeerNumber, Phase, Promise, RequestId};
+
+/// What is known of a host. There is nothing where it isn't of the site.
+pub fn find_peer(state: &HostState, peer: HostId) -> Option<&Peer>
+    ensures { option_copied result ≡ find_peer peer (content state.now) }
+{
+    state.peers.as_slice().get(peer.0 as usize)
+}
+
+/// Whether the host is of the site and this number of a handover from it isn't closed.
+pub fn is_open_number(state: &HostState, peer: HostId, number: u64) -> bool
+    ensures { result ≡ passes (is_open_number number) (find_peer peer (content state.now)) }
+{
+    match find_peer(state, peer) {
+        Some(known) => !(number <= known.closed),
+        None => false,
+    }
+}
 
 fn is_hand_to(hand: &Hand, peer: HostId) -> bool
     ensures { result ≡ is_hand_to peer hand.now }

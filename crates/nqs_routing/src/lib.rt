@@ -11,6 +11,8 @@ mod dests;
 mod hands;
 mod note;
 
-pub use dests::{destination, destination_in, find_peer, is_reachable, refuses};
-pub use hands::{has_hand_to, has_promise, is_offered_for, is_promise_of};
+pub use dests::{destination, destination_in, is_reachable, refuses};
+pub use hands::{
+    find_peer, has_hand_to, has_promise, is_offered_for, is_open_number, is_promise_of,
+};
 pub use note::{note_refusal, note_silence};

@@ -7,7 +7,8 @@ ghost use Rattle.nqs_state.specs.Room.{refusals_of};
 ghost use Rattle.nqs_rules.specs.Edits.{change_row, change_peer};
 ghost use Rattle.nqs_rules.specs.Routing.{dests_of, dests_for, is_present, with_refusal, all_refused, held_where, refusal_noted};
 
-use crate::dests::{find_peer, was_refused};
+use crate::dests::was_refused;
+use crate::hands::find_peer;
 use nqs_base::Name;
 use nqs_base_tables::Table;
 use nqs_state::HostState;

@@ -5,12 +5,12 @@ ghost use Rattle.std.specs.List.{list_all};
 ghost use Rattle.nqs_state.specs.State.{content};
 ghost use Rattle.nqs_rules.specs.Find.{find_peer, find_row};
 ghost use Rattle.nqs_rules.specs.Tests.{passes};
-ghost use Rattle.nqs_rules.specs.InOrder.{is_given, is_hand_given, is_stage_given, is_promise_open, is_routing_row, is_refused_right, is_id_right, is_id_given};
+ghost use Rattle.nqs_rules.specs.InOrder.{is_given, is_hand_given, is_stage_given, is_routing_row, is_refused_right, is_id_right, is_id_given};
 ghost use Rattle.nqs_rules.specs.InOrder.{is_device_there, is_count_right, is_hop_right, is_row_right, is_promise_right, is_hand_right, is_stage_right};
 ghost use Rattle.nqs_rules.specs.InOrder.{is_file_right};
 
 use crate::order::{LAST_SEQ, Right, is_site_host};
-use nqs_routing::find_peer;
+use nqs_routing::{find_peer, is_open_number};
 use nqs_state::HostState;
 use nqs_types::{FileOut, Hand, HostId, Phase, Promise, Refused, RequestId, Row, RowState, Stage};
 
@@ -81,15 +81,6 @@ impl Right for Row {
     }
 }
 
-fn is_open(peer: HostId, number: u64, state: &HostState) -> bool
-    ensures { result ≡ passes (is_promise_open number) (find_peer peer (content state.now)) }
-{
-    match find_peer(state, peer) {
-        Some(known) => !(number <= known.closed),
-        None => false,
-    }
-}
-
 impl Right for Promise {
     ghost right = { is_promise_right };
 
@@ -97,7 +88,7 @@ impl Right for Promise {
         self.row.is_right(state)
             && self.row.state == RowState::Queued
             && 1 <= self.number
-            && is_open(self.peer, self.number, state)
+            && is_open_number(state, self.peer, self.number)
     }
 }
 

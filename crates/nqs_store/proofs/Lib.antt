@@ -31,3 +31,4 @@ pub mod Prepared
 pub mod Rooms
 pub mod Results
 pub mod Kept
+pub mod Records

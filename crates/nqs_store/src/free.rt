@@ -11,17 +11,17 @@ ghost use Rattle.nqs_rules.specs.Tests.{last_u64};
 ghost use Rattle.nqs_rules.specs.Find.{peer_number, find_row, find_hand, find_promise, find_peer};
 ghost use Rattle.nqs_rules.specs.Stepped.{part_bytes};
 ghost use Rattle.nqs_rules.specs.Applied.{is_promise_of};
-ghost use Rattle.nqs_rules.specs.Conf.{is_queued_in};
 ghost use Rattle.nqs_store.specs.Live.{row_part, promise_part, stage_part, file_part};
 ghost use Rattle.nqs_store.specs.Accounts.{Takes};
 ghost use Rattle.nqs_store.specs.Calls.{Frees};
 ghost use Rattle.nqs_store.specs.Frees.{part_of, goes_at_boot, stages_left, numbers_left, row_of_hand, doubled, gone};
 
-use nqs_base::{Extent, Key, Keyed, Name};
+use nqs_base::{Extent, Key, Keyed};
 use nqs_base_tables::Table;
 use nqs_changes::boot::may_start_again;
+use nqs_conf::is_queued_in;
 use nqs_outside::Disk;
-use nqs_routing::find_peer;
+use nqs_routing::{find_peer, is_promise_of};
 use nqs_spool::Spool;
 use nqs_state::HostState;
 use nqs_types::{
@@ -99,12 +99,6 @@ fn goes_at_boot(row: &Row) -> bool
     row.state == RowState::Running && !may_start_again(row)
 }
 
-fn is_queued_in(row: &Row, queue: &Name) -> bool
-    ensures { result ≡ is_queued_in queue.now row.now }
-{
-    row.state == RowState::Queued && *queue == row.queue
-}
-
 fn free_row<D: Disk>(spool: &mut Spool<D>, state: &HostState, id: &RequestId)
     ensures { Frees spool.old spool.new (part_of row_part (find_row id.now (content state.now))) }
 {
@@ -112,27 +106,29 @@ fn free_row<D: Disk>(spool: &mut Spool<D>, state: &HostState, id: &RequestId)
 }
 
 // The row of a handover.
-fn free_row_of_hand<D: Disk>(spool: &mut Spool<D>, state: &HostState, key: &PeerNumber)
-    ensures { Frees spool.old spool.new (row_of_hand (content state.now) (find_hand key.now.peer key.now.number (content state.now))) }
+fn free_row_of_hand<D: Disk>(spool: &mut Spool<D>, state: &HostState, peer: HostId, number: u64)
+    ensures { Frees spool.old spool.new (row_of_hand (content state.now) (find_hand peer number (content state.now))) }
 {
-    if let Some(hand) = state.hands.get(key) {
+    if let Some(hand) = state.hands.get(&PeerNumber { peer, number }) {
         free_row(spool, state, &hand.id);
     }
 }
 
-fn free_promise<D: Disk>(spool: &mut Spool<D>, state: &HostState, key: &PeerNumber)
-    ensures { Frees spool.old spool.new (part_of promise_part (find_promise key.now.peer key.now.number (content state.now))) }
+fn free_promise<D: Disk>(spool: &mut Spool<D>, state: &HostState, peer: HostId, number: u64)
+    ensures { Frees spool.old spool.new (part_of promise_part (find_promise peer number (content state.now))) }
 {
-    free_one(spool, state.promises.get(key), |promise: &Promise| {
-        promise.row.script
-    });
+    free_one(
+        spool,
+        state.promises.get(&PeerNumber { peer, number }),
+        |promise: &Promise| promise.row.script,
+    );
 }
 
 // A promise whose request is a row already.
-fn free_doubled<D: Disk>(spool: &mut Spool<D>, state: &HostState, key: &PeerNumber)
-    ensures { Frees spool.old spool.new (doubled (content state.now) (find_promise key.now.peer key.now.number (content state.now))) }
+fn free_doubled<D: Disk>(spool: &mut Spool<D>, state: &HostState, peer: HostId, number: u64)
+    ensures { Frees spool.old spool.new (doubled (content state.now) (find_promise peer number (content state.now))) }
 {
-    if let Some(promise) = state.promises.get(key) {
+    if let Some(promise) = state.promises.get(&PeerNumber { peer, number }) {
         if state.rows.has(&promise.row.id) {
             spool.free(&promise.row.script);
         }
@@ -149,10 +145,14 @@ fn free_unnumbered<D: Disk>(spool: &mut Spool<D>, state: &HostState, bytes: &Ext
     spool.free(bytes);
 }
 
-fn free_stage<D: Disk>(spool: &mut Spool<D>, state: &HostState, key: &PeerNumber)
-    ensures { Frees spool.old spool.new (part_of stage_part (find (is_stage (peer_number key.now.peer key.now.number)) (content state.now).stages)) }
+fn free_stage<D: Disk>(spool: &mut Spool<D>, state: &HostState, peer: HostId, number: u64)
+    ensures { Frees spool.old spool.new (part_of stage_part (find (is_stage (peer_number peer number)) (content state.now).stages)) }
 {
-    free_one(spool, state.stages.get(key), |stage: &Stage| stage.bytes);
+    free_one(
+        spool,
+        state.stages.get(&PeerNumber { peer, number }),
+        |stage: &Stage| stage.bytes,
+    );
 }
 
 // The rows of a queue that is purged.
@@ -179,12 +179,6 @@ fn free_edited<D: Disk>(spool: &mut Spool<D>, state: &HostState, edit: &Edit)
     }
 }
 
-fn key(peer: HostId, number: u64) -> PeerNumber
-    ensures { result ≡ record { peer = peer; number = number } }
-{
-    PeerNumber { peer, number }
-}
-
 // The rows that go at a boot.
 fn free_at_boot<D: Disk>(spool: &mut Spool<D>, state: &HostState)
     ensures { Frees spool.old spool.new (map row_part (filter goes_at_boot (content state.now).rows)) }
@@ -204,7 +198,7 @@ fn free_promises_of<D: Disk>(spool: &mut Spool<D>, state: &HostState, peer: Host
     free_all(
         spool,
         &state.promises,
-        |promise: &Promise| peer == promise.peer,
+        |promise: &Promise| is_promise_of(promise, peer),
         |promise: &Promise| promise.row.script,
     );
 }
@@ -229,14 +223,12 @@ pub(crate) fn free_gone<D: Disk>(spool: &mut Spool<D>, state: &HostState, change
         Change::Unlaunched(id) => free_row(spool, state, id),
         Change::Boot => free_at_boot(spool, state),
         Change::Edited(edit) => free_edited(spool, state, edit),
-        Change::HandCommitted { peer, number } => {
-            free_row_of_hand(spool, state, &key(*peer, *number))
-        }
+        Change::HandCommitted { peer, number } => free_row_of_hand(spool, state, *peer, *number),
         Change::Promised { peer, .. } => free_promises_of(spool, state, *peer),
-        Change::Accepted { peer, number } => free_doubled(spool, state, &key(*peer, *number)),
-        Change::Dropped { peer, number } => free_promise(spool, state, &key(*peer, *number)),
+        Change::Accepted { peer, number } => free_doubled(spool, state, *peer, *number),
+        Change::Dropped { peer, number } => free_promise(spool, state, *peer, *number),
         Change::StageGot { bytes, .. } => free_unnumbered(spool, state, bytes),
-        Change::StageGone { peer, number } => free_stage(spool, state, &key(*peer, *number)),
+        Change::StageGone { peer, number } => free_stage(spool, state, *peer, *number),
         Change::FileGone { file } => free_file(spool, state, *file),
         _ => {}
     }

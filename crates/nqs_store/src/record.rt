@@ -8,19 +8,8 @@ ghost use Rattle.nqs_store.specs.Stores.{pick};
 use nqs_journal::Journal;
 use nqs_outside::{Disk, Failed};
 
-// Appends a record, at most 65,536 bytes of it. After a fault the journal is stopped.
-fn append_record<D: Disk>(journal: &mut Journal<D>, text: &[u8]) -> Result<(), Failed>
-    requires short { length text.now ≤ 65536 }
-    requires running { is_stopped journal.old ≡ false }
-    ensures { Appends journal.old journal.new text.now result }
-{
-    match journal.append(text) {
-        Ok(()) => Ok(()),
-        Err(_) => Err(Failed),
-    }
-}
-
-/// Appends it to the journal on `second`, or to the other, and leaves the one that it isn't.
+/// Appends a record, at most 65,536 bytes of it, to the journal on `second`, or to the other, and
+/// leaves the one that it isn't. After a fault the journal is stopped.
 pub(crate) fn append_to<D: Disk>(
     on_second: bool,
     first: &mut Journal<D>,
@@ -33,8 +22,14 @@ pub(crate) fn append_to<D: Disk>(
     ensures rest { pick (not on_second) first.new second.new ≡ pick (not on_second) first.old second.old }
 {
     if on_second {
-        append_record(second, text)
+        match second.append(text) {
+            Ok(()) => Ok(()),
+            Err(_) => Err(Failed),
+        }
     } else {
-        append_record(first, text)
+        match first.append(text) {
+            Ok(()) => Ok(()),
+            Err(_) => Err(Failed),
+        }
     }
 }

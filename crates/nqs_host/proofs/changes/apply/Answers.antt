@@ -1,4 +1,4 @@
-use Rattle.std.proofs.Common.{sym, subst, IsTrue, ◌<◌}
+use Rattle.std.proofs.Common.{subst, IsTrue}
 use Rattle.nqs_state.specs.State.{content}
 use Rattle.nqs_rules.specs.Fits.{fits}
 use Rattle.nqs_host.proofs.PromiseFits.{promise_number, promise_arrival}
@@ -9,7 +9,7 @@ promised-requires-clause-number c =
     let s = content c.args.state.now in
     let p = c.in-Promised in
     let fit = subst (λ x. IsTrue (fits x s)) p.is c.requires.fits in
-    subst (λ k. 0 < k.number) (sym c.key-in-Promised.ensures) (promise_number s p.peer p.number p.queue p.carried p.script fit)
+    promise_number s p.peer p.number p.queue p.carried p.script fit
 
 pub promised-requires-clause-arrival : goal.promised-requires-clause-arrival
 promised-requires-clause-arrival c =
