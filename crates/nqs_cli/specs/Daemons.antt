@@ -1,4 +1,5 @@
--- What `nqs daemon` does with the parts of a host: it boots the host, and serves.
+-- What `nqs daemon` does with the parts of a host: it reads the disks, and where they are those of
+-- this host it boots the host, and serves.
 use Rattle.std.specs.Prelude.{◌≡◌, ◌⊎◌, ℕ, ◌&&◌, Bool, true, false, IsTrue, List, [], ◌∷◌}
 use Rattle.std.specs.declared.option.Option.{Option}
 use Rattle.std.specs.declared.option.Option.TheVariants.{Some}
@@ -97,16 +98,14 @@ HasServed tells me names turns was now end = IsTrue tells → (s : Plain) × IsT
     × EndsWith (Leaves now.disks) Unseen now.disks.histories end turns (stops (here_of s) (idle (applied Boot s)) acts) t more
     × ((a : Active) × IsNamed was.disks a × TellsThroughout a was.disks.histories now.disks.histories (IsPassedSince s acts more.moments)))
 
--- The disks tell no host, or another, which was booted: it runs nothing, and what ran there starts
--- again or is lost.
+-- The disks tell no host, or another: they are left as they are.
 abbrev pub IsNotOurs : HostId → List (List ℕ) → DisksTold → DisksTold → Type 0
-IsNotOurs me names was now =
-    ((which : Which) × (place : ℕ) × IsLoadFault (contents was.histories) (NotNqs which place))
-    ⊎ ((s : Plain) × IsThere was s × (is_here me names s ≡ false) × Leaves now (applied Boot s)
-    × ((a : Active) × IsNamed was a × IsOneOrOther a was.histories now.histories (Some Boot) s))
+IsNotOurs me names was now = AreSame was.histories now.histories
+    × (((which : Which) × (place : ℕ) × IsLoadFault (contents was.histories) (NotNqs which place))
+    ⊎ ((s : Plain) × IsThere was s × (is_here me names s ≡ false)))
 
--- The boot failed: at each moment a stop would have left the host before it or after it. Disks that
--- name no journal are as they were.
+-- The reading or the boot failed: at each moment a stop would have left the host before the boot or
+-- after it. Disks that name no journal are as they were.
 abbrev pub HasFailed : DisksTold → DisksTold → Type 0
 HasFailed was now = ((a : Active) → IsNamed was a → IsBrokenOff a was.histories now.histories (Some Boot)
     × ((s : Plain) → IsThere was s → IsOneOrOther a was.histories now.histories (Some Boot) s))

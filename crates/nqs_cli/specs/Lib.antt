@@ -2,5 +2,6 @@ pub mod Forms
 pub mod Parts
 pub mod Formats
 pub mod Daemons
+pub mod Checks
 pub mod Runs
 pub mod Ends
