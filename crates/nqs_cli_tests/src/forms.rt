@@ -87,6 +87,34 @@ fn serves(rt: HostRuntime) -> Result<(), Fail> {
     Ok(())
 }
 
+// Disks of another host, or of a site with other hosts, are refused and hold what they held. Those
+// of the host itself hold more behind its boot.
+#[test]
+fn refuses_disks_of_another_host(rt: HostRuntime) -> Result<(), Fail> {
+    let alloc = rt.alloc();
+    let mut machine = MemMachine::new(alloc, &[], 0)?;
+    let formatted = ends(alloc, &mut machine, "format two alpha")?;
+    let before = machine.held();
+    let host = ends(alloc, &mut machine, "daemon two beta 0")?;
+    let site = ends(alloc, &mut machine, "daemon D alpha 0")?;
+    let after = machine.held();
+    let own = ends(alloc, &mut machine, "daemon two alpha 0")?;
+    let booted = machine.held();
+    drop(machine);
+    assert_eq!(rt;
+        [formatted, host, site, own],
+        [
+            ended(0, 0, 1),
+            ended(3, 0, 7),
+            ended(3, 0, 13),
+            ended(10, 0, 19)
+        ]
+    );
+    assert!(rt; after == before);
+    assert!(rt; booted != before);
+    Ok(())
+}
+
 // Words that are in no form, and a host that isn't of the site, ask for no part.
 #[test]
 fn refuses_words(rt: HostRuntime) -> Result<(), Fail> {

@@ -1,7 +1,8 @@
-//! A machine in memory. Its site is `alpha` alone, whose disks stay from one run to the next; the
-//! other parts are new each time.
+//! A machine in memory. Its site is `alpha` alone, and `alpha` and `beta` in the folder `two`. All
+//! hosts have the same disks, which stay from one run to the next; the other parts are new each
+//! time.
 
-ghost use Rattle.std.specs.Prelude.{◌≡◌, ◌≤◌, ◌<◌, ◌∷◌, [], false, IfOk, OnOk, IsErrOf, None, length};
+ghost use Rattle.std.specs.Prelude.{◌≡◌, ◌≤◌, ◌<◌, ◌+◌, ◌∷◌, [], false, IfOk, OnOk, IsErrOf, None, length};
 ghost use Rattle.nqs_types.specs.declared.world.Which.{Which};
 ghost use Rattle.nqs_outside.specs.Causes.{Rose};
 ghost use Rattle.nqs_outside.specs.History.{IsQuiet};
@@ -12,7 +13,7 @@ use nqs_base::{Bytes, Items, Memory, Name, NameList, Tear};
 use nqs_cli::{Machine, MachineEnd};
 use nqs_disk::{Lack, MemDisk};
 use nqs_fakes::{Item, MemLauncher, MemOutlet, MemPrinter, MemRunner, MemWire};
-use nqs_outside::{Clock, RunEnd};
+use nqs_outside::{Clock, Disk, RunEnd};
 use nqs_store::Disks;
 use nqs_types::HostId;
 use std::alloc::Global;
@@ -23,6 +24,9 @@ pub struct Count {
     pub lent: u64,
     pub back: u64,
 }
+
+/// What a disk holds: how many bytes, and the first 200 of them.
+pub type Held = (u64, [u8; 200]);
 
 /// The machine. It tells nothing, as a real one.
 #[derive(Drop)]
@@ -36,6 +40,16 @@ pub struct MemMachine {
     faults: u64,
     /// The wire that came back last.
     pub wire: Option<MemWire>,
+}
+
+// What a disk holds. One that can't be read holds more than any.
+fn held(disk: &mut MemDisk) -> Held {
+    let mut front = [0; 200];
+    let count = match (disk.len(), disk.read_at(0, &mut front)) {
+        (Ok(count), Ok(_)) => count,
+        _ => u64::MAX,
+    };
+    (count, front)
 }
 
 // Disks without bytes.
@@ -96,6 +110,19 @@ impl MemMachine {
         self.count
     }
 
+    /// What the disks hold that came back: `root`, `first`, `second` and `spool`.
+    pub fn held(&mut self) -> [Held; 4] {
+        match &mut self.disks {
+            Some(disks) => [
+                held(&mut disks.root),
+                held(&mut disks.first),
+                held(&mut disks.second),
+                held(&mut disks.spool),
+            ],
+            None => [(0, [0; 200]); 4],
+        }
+    }
+
     // Counts a fault.
     fn fail(&mut self) -> MachineEnd
         ensures later { self.old.faults ≤ self.new.faults }
@@ -138,16 +165,35 @@ fn alpha() -> Name {
     }
 }
 
-// The names of the site.
-fn names(alloc: Global) -> Result<NameList, MachineEnd>
-    ensures one { IfOk result (λ names. length names ≡ 1) }
+fn beta() -> Name {
+    match Name::read(b"beta") {
+        Ok(name) => name,
+        Err(_) => unreachable!(),
+    }
+}
+
+fn add(names: &mut NameList, name: Name) -> Result<(), MachineEnd>
+    ensures more { OnOk result (length names.new ≡ length names.old + 1) }
+    ensures only { IsErrOf result MachineEnd.Failed → ⊥ }
+{
+    match names.push(name) {
+        Ok(()) => Ok(()),
+        Err(refused) => Err(MachineEnd::Memory(refused.into())),
+    }
+}
+
+// The names of the site in a folder.
+fn names(alloc: Global, dir: &str) -> Result<NameList, MachineEnd>
+    ensures some { IfOk result (λ names. 1 ≤ length names) }
+    ensures few { IfOk result (λ names. length names ≤ 2) }
     ensures only { IsErrOf result MachineEnd.Failed → ⊥ }
 {
     let mut names = NameList::new(alloc);
-    match names.push(alpha()) {
-        Ok(()) => Ok(names),
-        Err(refused) => Err(MachineEnd::Memory(refused.into())),
+    add(&mut names, alpha())?;
+    if dir == "two" {
+        add(&mut names, beta())?;
     }
+    Ok(names)
 }
 
 /// A clock that stands still. It tells nothing.
@@ -187,9 +233,9 @@ impl Machine for MemMachine {
 
     ghost faults = { λ machine. machine.faults };
 
-    fn site(&mut self, _dir: &str) -> Result<NameList, MachineEnd> {
+    fn site(&mut self, dir: &str) -> Result<NameList, MachineEnd> {
         self.ask()?;
-        names(self.alloc)
+        names(self.alloc, dir)
     }
 
     fn disks(&mut self, _dir: &str, _host: HostId) -> Result<Disks<MemDisk>, MachineEnd> {
