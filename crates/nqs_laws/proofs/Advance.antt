@@ -56,7 +56,7 @@ use Rattle.nqs_laws.proofs.Turns.{to_move, from_move, deleted_move, offers_by, s
 use Rattle.nqs_laws.proofs.Targets.{targets, silent_target, fewer, lone_kept}
 use Rattle.nqs_laws.proofs.Paired.{At, IsPaired, Turn, GuardsOf, IsOne, turn_paired}
 use Rattle.nqs_laws.proofs.PairedRuns.{one_side, put-twice, silent_guards}
-use Rattle.nqs_laws.proofs.Tabled.{Place, Nowhere, Sits, Arrives, row_in, Table, IsTabled, IsHeldMove, updated, placed_at, rows_tabled}
+use Rattle.nqs_laws.proofs.Tabled.{Place, Nowhere, Sits, Arrives, row_in, Table, IsTabled, IsHeldMove, held_or, updated, placed_at, rows_tabled}
 
 -- the last number given grows
 
@@ -188,13 +188,9 @@ host_new c s x k new = absurd new
 held_to : (c : Change (List ℕ)) (s : Plain) (b : HostId) → IsInHost c → IsHeldMove (to_move c s b)
 held_to (Deleted id) s b k = of (find _ s.hands)
   where
-    by : (z : Bool) → IsHeldMove (if z then Withdraws else Stays)
-    by true = tt
-    by false = tt
-
     of : (x : Option Hand) → IsHeldMove (deleted_move id x)
     of None = tt
-    of (Some y) = by _
+    of (Some y) = held_or _ Withdraws tt
 held_to (HandOpened peer number id queue since) s b k = by (same_host b peer) (find_row id s)
   where
     by : (z : Bool) (o : Option PlainRow) → IsHeldMove (if z then offers_by queue o else Stays)
@@ -202,30 +198,14 @@ held_to (HandOpened peer number id queue since) s b k = by (same_host b peer) (f
     by true (Some r) = tt
     by false o = tt
 held_to (HandCommitted peer number) s b k = absurd k
-held_to (HandRefused peer number refusal) s b k = by (same_host b peer)
-  where
-    by : (z : Bool) → IsHeldMove (if z then Withdraws else Stays)
-    by true = tt
-    by false = tt
-held_to (HandDone peer number) s b k = by (same_host b peer)
-  where
-    by : (z : Bool) → IsHeldMove (if z then Finishes else Stays)
-    by true = tt
-    by false = tt
+held_to (HandRefused peer number refusal) s b k = held_or (same_host b peer) Withdraws tt
+held_to (HandDone peer number) s b k = held_or (same_host b peer) Finishes tt
 held_to c s b k = tt
 
 held_from : (c : Change (List ℕ)) (a : HostId) → IsInHost c → IsHeldMove (from_move c a)
-held_from (Promised peer number queue c script) a k = by (same_host a peer)
-  where
-    by : (z : Bool) → IsHeldMove (if z then Pledges number (sent_load queue c script) else Stays)
-    by true = tt
-    by false = tt
+held_from (Promised peer number queue c script) a k = held_or (same_host a peer) (Pledges number (sent_load queue c script)) tt
 held_from (Accepted peer number) a k = absurd k
-held_from (Dropped peer number) a k = by (same_host a peer)
-  where
-    by : (z : Bool) → IsHeldMove (if z then Drops else Stays)
-    by true = tt
-    by false = tt
+held_from (Dropped peer number) a k = held_or (same_host a peer) Drops tt
 held_from c a k = tt
 
 module _ (states : List Plain) (packets : List Message) (paired : IsPaired states packets) (h : HostId) (s : Plain) (there : At states h s) (me : s.me ≡ h)
@@ -331,7 +311,7 @@ silent_tabled until (n ∷ ks) states packets h s there me o calm fit k table to
         let new : (x : Request) → find_row x s ≡ None → (find_row x u ≡ None)
         ⊎ (x ≡ next_id s) = λ x none. inl (silent_found x until n (Some y) s (keys_are s o.keys).rows ∙ gone x none) in
         let o' = silent_one s o n y e opens until in
-        let first = rows_tabled states packets k h s u there to from turn guards table told (omega arith) (λ b. held (same_host b n.peer)) (λ a. tt)
+        let first = rows_tabled states packets k h s u there to from turn guards table told (omega arith) (λ b. held_or (same_host b n.peer) Withdraws tt) (λ a. tt)
         (row_grows states packets k h s there me o calm table told u new) (fresh_row states packets k h s there me o calm table told u o' refl new) in
         let rest_told = again (put_state h u states) packets h u (get-here h.0 u s states there) me o' (silent_calm_one s o calm n y e opens until)
         (list_all-weaker (λ l. not_committed (find_hand l.peer l.number s)) (λ l. not_committed (find (is_hand l) (without_first (is_hand n) s.hands)))
@@ -340,9 +320,5 @@ silent_tabled until (n ∷ ks) states packets h s there me o calm fit k table to
         (λ x. updated_twice h (find_row x u) (find_row x z) (table x))
         (subst (λ l. IsTabled l (row_table h z (row_table h u table))) (put-twice h.0 z u states) rest_told)
       where
-        held : (c : Bool) → IsHeldMove (if c then Withdraws else Stays)
-        held true = tt
-        held false = tt
-
         gone : (x : Request) → find_row x s ≡ None → changed_at y.id requeued_row x (find_row x s) ≡ None
         gone x none = ap (changed_at y.id requeued_row x) none ∙ changed_none y.id requeued_row x

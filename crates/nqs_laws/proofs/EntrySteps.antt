@@ -132,12 +132,8 @@ module _ (h : HostId) (s : Plain) (me : s.me ≡ h) (o : IsInOrder s) (calm : Is
   )
 
   undoomed_row : (x : Request) (r : PlainRow) → find_row x s ≡ Some r → is_routing r.state ≡ true → r.doomed ≡ false
-  undoomed_row x r found routes = not-true r.doomed (right (is_running r.state) (not r.doomed) (ap is_running (routing_is r.state routes))
-      (list_all-found is_doom_right _ s.rows r calm.doomed found))
-    where
-      right : (b c : Bool) → b ≡ false → (b || c) ≡ true → c ≡ true
-      right true c f g = absurd (true≢false f)
-      right false c f g = g
+  undoomed_row x r found routes = not-true r.doomed (subst (λ (b : Bool). (b || not r.doomed) ≡ true)
+      (ap is_running (routing_is r.state routes)) (list_all-found is_doom_right _ s.rows r calm.doomed found))
 
   -- what a change makes of an entry
   pub entry_step : (hands : list_all (is_away h) s.hands ≡ true) (c : Change (List ℕ)) → fits c s ≡ true → (x : Request) (t t' : Place)

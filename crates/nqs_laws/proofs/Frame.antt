@@ -5,7 +5,7 @@ use Rattle.std.proofs.lemmas.Bool.{and_parts}
 use Rattle.std.proofs.lemmas.List.{append_assoc, append-nil, length-append, map-append}
 use Rattle.std.proofs.lemmas.Option.{same_Some, none-some, slice_get-map}
 use Rattle.std.specs.Option.{option_map}
-use Rattle.std.specs.List.{filter_map, flat_map, list_all}
+use Rattle.std.specs.List.{filter_map, list_all}
 use Rattle.nqs_state.specs.State.{Plain}
 use Rattle.nqs_base_tables.specs.Table.{best_from}
 use Rattle.nqs_rules.specs.Edits.{change_at}
@@ -24,6 +24,7 @@ use Rattle.nqs_rules.specs.World.{taken_by, takes, finishes, finishes_up, delive
 use Rattle.nqs_rules.specs.World.{boots, crashes_up, runs_now, is_less_row, fused_host, fuses}
 use Rattle.nqs_rules.specs.Run.{states_of, happens, run}
 use Rattle.nqs_rules.specs.Notes.{Why, ByEvent, ByStart, ByBoot, Note, Saw, Kept, saws}
+pub use Rattle.nqs_laws.specs.Outputs.{sent_in, seen_from}
 use Rattle.nqs_laws.specs.Sane.{is_sane_act, AreSane}
 use Rattle.nqs_types.specs.declared.ids.HostId.{HostId}
 use Rattle.nqs_types.specs.declared.request.Row.{Row}
@@ -86,14 +87,6 @@ why_by Booted = ByBoot
 abbrev pub kept_of : HostId → Why → Option (Change (List ℕ)) → List Note
 kept_of h why None = []
 kept_of h why (Some c) = Kept h why c ∷ []
-
--- what is seen of outputs, behind so many packets
-abbrev pub seen_from : HostId → ℕ → List Output → List Seen
-seen_from h n [] = []
-seen_from h n (o ∷ os) = seen_output h (n + 1) o ++ seen_from h (n + length (sent_by o)) os
-
-abbrev pub sent_in : List Output → List Message
-sent_in os = flat_map sent_by os
 
 -- what nothing is done for
 abbrev pub IsIdle : Seen → Type 0
@@ -185,7 +178,7 @@ stop_states h host left w e = put_states h (stopped host.state left) w ∙ put-s
 pub saws-append : (a b : List Seen) → saws (a ++ b) ≡ saws a ++ saws b
 saws-append a b = map-append Saw a b
 
-emits_notes : (h : HostId) (os : List Output) (w : World) → (emits h os w).notes ≡ saws (seen_from h (length w.packets) os)
+pub emits_notes : (h : HostId) (os : List Output) (w : World) → (emits h os w).notes ≡ saws (seen_from h (length w.packets) os)
 emits_notes h [] w = refl
 emits_notes h (o ∷ os) w = ap (λ l. saws (seen_output h (length w.packets + 1) o) ++ l)
     (emits_notes h os (record w { packets = w.packets ++ sent_by o }) ∙ ap (λ n. saws (seen_from h n os)) (length-append w.packets (sent_by o)))

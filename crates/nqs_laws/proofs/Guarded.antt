@@ -44,6 +44,12 @@ use Rattle.nqs_laws.proofs.Views.{phase_seen, offer_seen, offered, pledged, clos
 use Rattle.nqs_laws.proofs.Turns.{to_move, from_move, deleted_move, offers_by, IsQuiet}
 use Rattle.nqs_laws.proofs.Paired.{At, HoldsFor, IsPaired, IsOne, GuardsOf, open_offer, given_offer, pledge_at, no_pledge}
 
+-- what is seen of an offered hand
+pub open_seen : (s : Plain) (y : Hand) (p : Phase) → is_offered p ≡ true → (r : PlainRow) → find_row y.id s ≡ Some r
+    → phase_seen p y (find_row y.id s) ≡ Open y.number (offered_load y.queue r)
+open_seen s y Offered is r row = ap (phase_seen Offered y) row
+open_seen s y Committed is r row = absurd (true≢false (sym is))
+
 module _ (states : List Plain) (packets : List Message) (k : IsPaired states packets) (h : HostId) (s : Plain) (there : At states h s) (o : IsInOrder s) where
   lone : IsLone s.hands
   lone = k.lone h s there
@@ -67,12 +73,7 @@ module _ (states : List Plain) (packets : List Message) (k : IsPaired states pac
       by : (b : HostId) (y : Hand) → find (is_hand_to b) s.hands ≡ Some y → is_offered y.phase ≡ true → MayWithdraw (offered s b)
       by b y e opens =
           let r = routing_of s o (is_hand_to b) y e opens in
-          subst MayWithdraw (sym (ap (λ x. offer_seen x s) e ∙ phase y.phase refl opens r.0 r.1)) tt
-        where
-          phase : (p : Phase) → y.phase ≡ p → is_offered p ≡ true → (r : PlainRow) → find_row y.id s ≡ Some r
-              → phase_seen p y (find_row y.id s) ≡ Open y.number (offered_load y.queue r)
-          phase Offered f g r row = ap (phase_seen Offered y) row
-          phase Committed f g r row = absurd (true≢false (sym g))
+          subst MayWithdraw (sym (ap (λ x. offer_seen x s) e ∙ open_seen s y y.phase opens r.0 r.1)) tt
 
       if_may : (b : HostId) (t : Plain) (y : Hand) → find (is_hand_to b) s.hands ≡ Some y → (c : Bool) → is_offered_for id y ≡ c
           → May (pair_of h s b t) (if c then Withdraws else Stays)

@@ -30,7 +30,7 @@ use Rattle.nqs_laws.proofs.Views.{host_same, hand_to_peer, hand_number, promise_
 use Rattle.nqs_laws.proofs.Turns.{to_move, from_move, sources}
 use Rattle.nqs_laws.proofs.Targets.{targets, lone_kept, promise_at}
 use Rattle.nqs_laws.proofs.Paired.{At, IsPaired, Turn, GuardsOf, IsOne, Was, was}
-use Rattle.nqs_laws.proofs.Tabled.{Place, Nowhere, Sits, Arrives, row_in, claim_in, claim, Table, IsTabled, IsPlaced, IsHeldMove, sits_here, arrives_here}
+use Rattle.nqs_laws.proofs.Tabled.{Place, Nowhere, Sits, Arrives, row_in, claim_in, claim, Table, IsTabled, IsPlaced, IsHeldMove, held_or, sits_here, arrives_here}
 use Rattle.nqs_laws.proofs.Tabled.{row_of_sits, row_elsewhere, claim_of_arrives, claim_stays, given_before, still_placed, row_before}
 
 -- the table with another place of one request
@@ -197,10 +197,6 @@ module _ (states : List Plain) (packets : List Message) (paired : IsPaired state
         held a b true e far = subst (λ z. IsHeldMove (if z then Commits else Stays)) (sym (other_pair (same_host a h) (same_host b peer) true true far e)) tt
         held a b false e far = tt
 
-        nothing : (c : Bool) → IsHeldMove (if c then Stays else Stays)
-        nothing true = tt
-        nothing false = tt
-
         claims : (a b : HostId) (u' v' : Plain) → At (put_state h (applied (HandCommitted peer number) s) states) a u'
             → At (put_state h (applied (HandCommitted peer number) s) states) b v' → (x : Request)
             → claim (offered u' b) (promise_of a v') x ≡ claim_in a b (put_place hand.hand.id (Arrives h peer promise.0.row) table x)
@@ -238,7 +234,7 @@ module _ (states : List Plain) (packets : List Message) (paired : IsPaired state
             by false e =
                 claim_stays states packets paired h s (applied (HandCommitted peer number) s) there (to_move (HandCommitted peer number) s)
                 (from_move (HandCommitted peer number)) turn guards a b u' v' w y
-                (held a b (same_host a h) refl e) (nothing (same_host b h)) x
+                (held a b (same_host a h) refl e) (held_or (same_host b h) Stays tt) x
                 ∙ (told.claims a b w.state y.state w.at y.at x ∙ else_claim a b e x (id_eq x hand.hand.id) refl)
 
         given_at : (x : Request) → table x ≡ Nowhere → (c : Bool) → id_eq x hand.hand.id ≡ c → (if c then Arrives h peer promise.0.row else table x) ≡ Nowhere
@@ -392,10 +388,6 @@ module _ (states : List Plain) (packets : List Message) (paired : IsPaired state
             other_first false d f g = refl
         held a b false e far = tt
 
-        nothing : (c : Bool) → IsHeldMove (if c then Stays else Stays)
-        nothing true = tt
-        nothing false = tt
-
         claims : (a b : HostId) (u' v' : Plain) → At (put_state h (applied (Accepted peer number) s) states) a u'
             → At (put_state h (applied (Accepted peer number) s) states) b v' → (x : Request)
             → claim (offered u' b) (promise_of a v') x ≡ claim_in a b (put_place pledge.0.row.id (Sits h (requeued_row pledge.0.row)) table x)
@@ -431,7 +423,7 @@ module _ (states : List Plain) (packets : List Message) (paired : IsPaired state
             by false e =
                 claim_stays states packets paired h s (applied (Accepted peer number) s) there (to_move (Accepted peer number) s)
                 (from_move (Accepted peer number)) accepting guards a b u' v' w y
-                (nothing (same_host a h)) (held a b (same_host b h) refl e) x
+                (held_or (same_host a h) Stays tt) (held a b (same_host b h) refl e) x
                 ∙ (told.claims a b w.state y.state w.at y.at x ∙ else_claim a b e x (id_eq x pledge.0.row.id) refl)
 
         given_at : (x : Request) → table x ≡ Nowhere → (c : Bool) → id_eq x pledge.0.row.id ≡ c

@@ -25,9 +25,6 @@ use Rattle.nqs_types.specs.declared.change.Change.{Change}
 use Rattle.nqs_types.specs.declared.change.Change.TheVariants.{Submitted, Deleted, Doomed, Started, Ended, Unlaunched, Boot, Edited, HandOpened, HandCommitted}
 use Rattle.nqs_types.specs.declared.change.Change.TheVariants.{HandRefused, HandsSilent, Accepted, MovedLocal, RefusedLocal, HeldFar}
 use Rattle.nqs_types.specs.declared.message.Message.{Message}
-use Rattle.nqs_types.specs.declared.message.Body.{Body}
-use Rattle.nqs_types.specs.declared.message.Body.TheVariants as body
-use Rattle.nqs_types.specs.declared.event.Command.{Command}
 use Rattle.nqs_types.specs.declared.event.Command.TheVariants as command
 use Rattle.nqs_types.specs.declared.event.Event.{Event}
 use Rattle.nqs_types.specs.declared.event.Event.TheVariants as event
@@ -46,7 +43,7 @@ use Rattle.nqs_laws.specs.HeldBy.{is_systems, is_held, has_cause, HoldsForCause}
 use Rattle.nqs_laws.proofs.Frame.{Way, Taken, Begun, Booted, change_by}
 use Rattle.nqs_laws.proofs.RowTests.{PlainRow}
 use Rattle.nqs_laws.proofs.Sound.{some-if}
-use Rattle.nqs_laws.proofs.Makes.{Answers, Obeys, Follows, step_makes}
+use Rattle.nqs_laws.proofs.Makes.{Follows, step_makes, is_new_or_far, follows_other}
 use Rattle.nqs_laws.proofs.After.{Request, meant_after, edit_after, back_row, committed_after, refused_after, silent_after, silents_after, accepted_after}
 use Rattle.nqs_laws.proofs.After.{submitted_row, after, row_after}
 use Rattle.nqs_laws.proofs.Found.{only, first_of_two}
@@ -59,41 +56,18 @@ abbrev is_far : Change (List ℕ) → Bool
 is_far (HeldFar id) = true
 is_far c = false
 
+far_or_new : (c : Change (List ℕ)) → is_far c ≡ true → is_new_or_far c ≡ true
+far_or_new (HeldFar id) k = refl
+far_or_new c k = absurd (true≢false (sym k))
+
 module _ (s : Plain) (ch : Change (List ℕ)) (far : is_far ch ≡ true) where
   not_far : (d : Change (List ℕ)) → is_far d ≡ false → ch ≡ d → ⊥
   not_far d none is = true≢false (sym far ∙ (ap is_far is ∙ none))
 
-  answers_near : (b : Body) (peer : HostId) → Answers b peer s ch → ⊥
-  answers_near (body.Offer n queue c script) peer f = not_far _ refl f.0
-  answers_near (body.Ready n) peer f = not_far _ refl f.0
-  answers_near (body.Refused n refusal) peer f = not_far _ refl f.0
-  answers_near (body.Commit n) peer f = not_far _ refl f.0
-  answers_near (body.Done n) peer f = not_far _ refl f.0
-  answers_near (body.Inquire n) peer f = not_far _ refl f.0
-  answers_near (body.Abort n) peer f = not_far _ refl f.0
-  answers_near (body.Stage n path bytes) peer f = not_far _ refl f.1
-  answers_near (body.Staged n) peer f = not_far _ refl f
-  answers_near b peer f = f
-
-  obeys_near : (now : ℕ) (c : Command) → Obeys now c s ch → ⊥
-  obeys_near now (command.Submit sub) f = not_far _ refl f.1
-  obeys_near now (command.Edit e) f = not_far _ refl f
-  obeys_near now (command.Delete id forced) f = by (is_running f.row.state) f.is
-    where
-      by : (b : Bool) → ch ≡ (if b then Doomed f.row.id else Deleted f.row.id) → ⊥
-      by true is = not_far _ refl is
-      by false is = not_far _ refl is
-  obeys_near now command.Tick f = not_far _ refl f.1
-  obeys_near now c f = f
-
   follows_near : (e : Event) → Follows e s ch → ⊥
-  follows_near (event.Ask now port token user c) f = obeys_near now c f
-  follows_near (event.Arrived now x) f = answers_near x.body x.from f
-  follows_near (event.Ended now port id start status output error) f = not_far _ refl f.4
-  follows_near (event.Unlaunched now id start) f = not_far _ refl f.3
-  follows_near (event.Written now file) f = not_far _ refl f
-  follows_near (event.Unwritten now file) f = f
-  follows_near (event.Tick now) f = not_far _ refl f.1
+  follows_near (event.Ask now port token user (command.Submit sub)) f = not_far _ refl f.1
+  follows_near (event.Ask now port token user c) f = follows_other s ch (far_or_new ch far) (event.Ask now port token user c) tt f
+  follows_near e f = follows_other s ch (far_or_new ch far) e tt f
 
 -- a row after a change: held by the system where it was before, or where it passes
 

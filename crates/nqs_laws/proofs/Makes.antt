@@ -1,5 +1,5 @@
 -- Which change an event makes.
-use Rattle.std.proofs.Common.{◌≡◌, ℕ, ◌+◌, Bool, true, false, List, [], ◌∷◌, Option, None, Some, Result, Ok, Err, refl, sym, ap, if◌then◌else◌}
+use Rattle.std.proofs.Common.{◌≡◌, ℕ, ◌+◌, Bool, true, false, List, [], ◌∷◌, Option, None, Some, Result, Ok, Err, true≢false, refl, sym, ap, ◌∙◌, if◌then◌else◌}
 use Rattle.std.specs.Option.{IfSome}
 use Rattle.std.specs.List.{list_any}
 use Rattle.nqs_state.specs.State.{Plain}
@@ -17,7 +17,7 @@ use Rattle.nqs_types.specs.declared.refusal.Refusal.{Refusal}
 use Rattle.nqs_types.specs.declared.change.OutPart.{OutPart}
 use Rattle.nqs_types.specs.declared.change.Change.{Change}
 use Rattle.nqs_types.specs.declared.change.Change.TheVariants.{Submitted, Deleted, Doomed, Ended, Unlaunched, Edited, HandCommitted, HandRefused, HandsSilent}
-use Rattle.nqs_types.specs.declared.change.Change.TheVariants.{HandDone, Promised, Accepted, Dropped, StageGot, StageGone, FileGone}
+use Rattle.nqs_types.specs.declared.change.Change.TheVariants.{HandDone, Promised, Accepted, Dropped, HeldFar, StageGot, StageGone, FileGone}
 use Rattle.nqs_types.specs.declared.message.Body.{Body}
 use Rattle.nqs_types.specs.declared.message.Body.TheVariants as body
 use Rattle.nqs_types.specs.declared.event.Submission.{Submission}
@@ -260,3 +260,55 @@ module _ (s : Plain) where
       by false = tt
   step_makes (event.Unwritten now file) = tt
   step_makes (event.Tick now) = silenced now s.retry_wait (silent_hands now s)
+
+-- no other event makes a request, or holds one that came too far
+
+-- it isn't a submission
+abbrev IsNoSubmission : Command → Type 0
+IsNoSubmission (command.Submit sub) = ⊥
+IsNoSubmission c = Unit {0}
+
+abbrev pub BringsNone : Event → Type 0
+BringsNone (event.Ask now port token user c) = IsNoSubmission c
+BringsNone e = Unit {0}
+
+abbrev pub is_new_or_far : Change (List ℕ) → Bool
+is_new_or_far (Submitted queue job script) = true
+is_new_or_far (HeldFar id) = true
+is_new_or_far c = false
+
+module _ (s : Plain) (ch : Change (List ℕ)) (new_or_far : is_new_or_far ch ≡ true) where
+  not_other : (d : Change (List ℕ)) → is_new_or_far d ≡ false → ch ≡ d → ⊥
+  not_other d other is = true≢false (sym new_or_far ∙ (ap is_new_or_far is ∙ other))
+
+  answers_other : (b : Body) (peer : HostId) → Answers b peer s ch → ⊥
+  answers_other (body.Offer n queue c script) peer f = not_other _ refl f.0
+  answers_other (body.Ready n) peer f = not_other _ refl f.0
+  answers_other (body.Refused n refusal) peer f = not_other _ refl f.0
+  answers_other (body.Commit n) peer f = not_other _ refl f.0
+  answers_other (body.Done n) peer f = not_other _ refl f.0
+  answers_other (body.Inquire n) peer f = not_other _ refl f.0
+  answers_other (body.Abort n) peer f = not_other _ refl f.0
+  answers_other (body.Stage n path bytes) peer f = not_other _ refl f.1
+  answers_other (body.Staged n) peer f = not_other _ refl f
+  answers_other b peer f = f
+
+  obeys_other : (now : ℕ) (c : Command) → IsNoSubmission c → Obeys now c s ch → ⊥
+  obeys_other now (command.Submit sub) none f = none
+  obeys_other now (command.Edit e) none f = not_other _ refl f
+  obeys_other now (command.Delete id forced) none f = by (is_running f.row.state) f.is
+    where
+      by : (b : Bool) → ch ≡ (if b then Doomed f.row.id else Deleted f.row.id) → ⊥
+      by true is = not_other _ refl is
+      by false is = not_other _ refl is
+  obeys_other now command.Tick none f = not_other _ refl f.1
+  obeys_other now c none f = f
+
+  pub follows_other : (e : Event) → BringsNone e → Follows e s ch → ⊥
+  follows_other (event.Ask now port token user c) none f = obeys_other now c none f
+  follows_other (event.Arrived now x) none f = answers_other x.body x.from f
+  follows_other (event.Ended now port id start status output error) none f = not_other _ refl f.4
+  follows_other (event.Unlaunched now id start) none f = not_other _ refl f.3
+  follows_other (event.Written now file) none f = not_other _ refl f
+  follows_other (event.Unwritten now file) none f = f
+  follows_other (event.Tick now) none f = not_other _ refl f.1

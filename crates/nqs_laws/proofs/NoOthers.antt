@@ -1,6 +1,6 @@
 -- What lies anywhere was acknowledged, or a stop cut its submission off.
 use Rattle.std.proofs.Common.{◌≡◌, ℕ, ◌⊎◌, inl, inr, Bool, true, false, ◌&&◌, ◌||◌, ◌==◌, List, [], ◌∷◌, ◌++◌, map, length, Option, None, Some, is_some, Result}
-use Rattle.std.proofs.Common.{Ok, Err, true≢false, refl, sym, ap, subst, ◌∙◌, arith, if◌then◌else◌}
+use Rattle.std.proofs.Common.{Ok, Err, true≢false, refl, sym, ap, subst, ◌∙◌, arith}
 use Rattle.std.proofs.lemmas.Bool.{and_from, or_left, or_right, eq-eqb}
 use Rattle.std.proofs.lemmas.Option.{same_Some, none-some}
 use Rattle.std.proofs.lemmas.List.{append_assoc}
@@ -9,16 +9,13 @@ use Rattle.nqs_state.specs.State.{Plain}
 use Rattle.nqs_types.specs.declared.ids.HostId.{HostId}
 use Rattle.nqs_types.specs.declared.refusal.Refusal.{Refusal}
 use Rattle.nqs_types.specs.declared.change.Change.{Change}
-use Rattle.nqs_types.specs.declared.change.Change.TheVariants.{Submitted, Deleted, Doomed, Boot}
-use Rattle.nqs_types.specs.declared.message.Body.{Body}
-use Rattle.nqs_types.specs.declared.message.Body.TheVariants as body
+use Rattle.nqs_types.specs.declared.change.Change.TheVariants.{Submitted, Boot}
 use Rattle.nqs_types.specs.declared.event.Submission.{Submission}
-use Rattle.nqs_types.specs.declared.event.Command.{Command}
 use Rattle.nqs_types.specs.declared.event.Command.TheVariants as command
 use Rattle.nqs_types.specs.declared.event.Event.{Event}
 use Rattle.nqs_types.specs.declared.event.Event.TheVariants as event
 use Rattle.nqs_types.specs.declared.world.Seen.TheVariants as seen
-use Rattle.nqs_rules.specs.Tests.{is_running, same_host}
+use Rattle.nqs_rules.specs.Tests.{same_host}
 use Rattle.nqs_rules.specs.Causes.{first_refusal}
 use Rattle.nqs_rules.specs.Access.{rank, may_command}
 use Rattle.nqs_rules.specs.Edits.{change_at}
@@ -42,7 +39,7 @@ use Rattle.nqs_laws.specs.CutOff.{stops_now, was_cut_off}
 use Rattle.nqs_laws.proofs.Frame.{Moment, put_state, put-same, silent, cut, Way, Taken, Begun, Booted, change_by, why_by, seen_from, kept_of}
 use Rattle.nqs_laws.proofs.Sound.{IsSound, KeepsStops, Suits, some-if, sound_frames, new_sound, stops_keep}
 use Rattle.nqs_laws.proofs.RowTests.{PlainRow}
-use Rattle.nqs_laws.proofs.Makes.{Answers, Obeys, Follows, step_makes}
+use Rattle.nqs_laws.proofs.Makes.{Follows, step_makes, BringsNone, is_new_or_far, follows_other}
 use Rattle.nqs_laws.proofs.After.{Request}
 use Rattle.nqs_laws.proofs.Views.{host_same}
 use Rattle.nqs_laws.proofs.Paired.{At}
@@ -56,50 +53,16 @@ use Rattle.nqs_laws.proofs.Numbered.{came, next_is}
 
 -- which change gives a number
 
--- a submission
-abbrev IsNoSubmission : Command → Type 0
-IsNoSubmission (command.Submit sub) = ⊥
-IsNoSubmission c = Unit {0}
-
-abbrev BringsNone : Event → Type 0
-BringsNone (event.Ask now port token user c) = IsNoSubmission c
-BringsNone e = Unit {0}
-
 module _ (s : Plain) (ch : Change (List ℕ)) (gives : numbers_given ch ≡ 1) where
   no_number : (d : Change (List ℕ)) → numbers_given d ≡ 0 → ch ≡ d → ⊥
   no_number d none is = let e : numbers_given ch ≡ numbers_given d = ap numbers_given is in absurd (omega (arith, e, none, gives))
 
-  answers_none : (b : Body) (peer : HostId) → Answers b peer s ch → ⊥
-  answers_none (body.Offer n queue c script) peer f = no_number _ refl f.0
-  answers_none (body.Ready n) peer f = no_number _ refl f.0
-  answers_none (body.Refused n refusal) peer f = no_number _ refl f.0
-  answers_none (body.Commit n) peer f = no_number _ refl f.0
-  answers_none (body.Done n) peer f = no_number _ refl f.0
-  answers_none (body.Inquire n) peer f = no_number _ refl f.0
-  answers_none (body.Abort n) peer f = no_number _ refl f.0
-  answers_none (body.Stage n path bytes) peer f = no_number _ refl f.1
-  answers_none (body.Staged n) peer f = no_number _ refl f
-  answers_none b peer f = f
-
-  obeys_none : (now : ℕ) (c : Command) → IsNoSubmission c → Obeys now c s ch → ⊥
-  obeys_none now (command.Submit sub) none f = none
-  obeys_none now (command.Edit e) none f = no_number _ refl f
-  obeys_none now (command.Delete id forced) none f = by (is_running f.row.state) f.is
-    where
-      by : (b : Bool) → ch ≡ (if b then Doomed f.row.id else Deleted f.row.id) → ⊥
-      by true is = no_number _ refl is
-      by false is = no_number _ refl is
-  obeys_none now command.Tick none f = no_number _ refl f.1
-  obeys_none now c none f = f
-
   follows_none : (e : Event) → BringsNone e → Follows e s ch → ⊥
-  follows_none (event.Ask now port token user c) none f = obeys_none now c none f
-  follows_none (event.Arrived now x) none f = answers_none x.body x.from f
-  follows_none (event.Ended now port id start status output error) none f = no_number _ refl f.4
-  follows_none (event.Unlaunched now id start) none f = no_number _ refl f.3
-  follows_none (event.Written now file) none f = no_number _ refl f
-  follows_none (event.Unwritten now file) none f = f
-  follows_none (event.Tick now) none f = no_number _ refl f.1
+  follows_none e none f = follows_other s ch (of ch gives) e none f
+    where
+      of : (d : Change (List ℕ)) → numbers_given d ≡ 1 → is_new_or_far d ≡ true
+      of (Submitted queue job script) k = refl
+      of d k = absurd (omega (arith, k))
 
   starts_none : (r : PlainRow) (d : Change (List ℕ)) → StartsRow s r d → ch ≡ d → ⊥
   starts_none r (Submitted queue job script) starts is = starts

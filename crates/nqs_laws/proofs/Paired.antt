@@ -27,6 +27,7 @@ use Rattle.nqs_rules.proofs.ListFacts.{found_passes}
 use Rattle.nqs_rules.proofs.StateFacts.{keys_are}
 use Rattle.nqs_rules.proofs.PeersOrder.{get-other}
 use Rattle.nqs_rules.proofs.RowFacts.{same_peer_number}
+pub use Rattle.nqs_laws.specs.Closed.{HasState as At}
 use Rattle.nqs_laws.proofs.Frame.{put_state, WasSent}
 use Rattle.nqs_laws.proofs.Sound.{get-here}
 use Rattle.nqs_laws.specs.Loads.{Load, offered_load, kept_load, sent_load}
@@ -50,9 +51,6 @@ HoldsFor out back (body.Done n) = Holds back (DoneOf n)
 HoldsFor out back (body.Inquire n) = Holds back (ReadyFor n)
 HoldsFor out back (body.Abort n) = Holds out (AbortOf n)
 HoldsFor out back b = Unit {0}
-
-abbrev pub At : List Plain → HostId → Plain → Type 0
-At states a s = slice_get states a.0 ≡ Some s
 
 -- what holds of a message in these states
 abbrev pub IsTrueWord : List Plain → Message → Type 0
@@ -129,6 +127,27 @@ module _ (states : List Plain) (packets : List Message) (h : HostId) (s s' : Pla
     pub may : May p move
 
   module _ (guards : Guards states h s to from) where
+    still : (c : Bool) (m : Move) → m ≡ Stays → (if c then m else Stays) ≡ Stays
+    still true m e = e
+    still false m e = refl
+
+    module _ (a b : HostId) (u' v' : Plain) (x : Was a u') (y : Was b v') where
+      source_may : (c : Bool) → same_host a h ≡ c → May (pair_of a x.state b y.state) (if c then to b else Stays)
+      source_may true e =
+          let here : a ≡ h = host_exact a h e in
+          let same : x.state ≡ s = same_Some x.state s (sym x.at ∙ (ap (λ (i : HostId). slice_get states i.0) here ∙ there)) in
+          subst (λ i. May (pair_of i x.state b y.state) (to b)) (sym here)
+          (subst (λ v. May (pair_of h v b y.state) (to b)) (sym same) (guards.to_peers b y.state y.at))
+      source_may false e = tt
+
+      target_may : (c : Bool) → same_host b h ≡ c → May (pair_of a x.state b y.state) (if c then from a else Stays)
+      target_may true e =
+          let here : b ≡ h = host_exact b h e in
+          let same : y.state ≡ s = same_Some y.state s (sym y.at ∙ (ap (λ (i : HostId). slice_get states i.0) here ∙ there)) in
+          subst (λ i. May (pair_of a x.state i y.state) (from a)) (sym here)
+          (subst (λ v. May (pair_of a x.state h v) (from a)) (sym same) (guards.from_peers a x.state x.at))
+      target_may false e = tt
+
     moved_pair : (a b : HostId) (u' v' : Plain) (x : Was a u') (y : Was b v') → Moved (pair_of a u' b v') (pair_of a x.state b y.state)
     moved_pair a b u' v' x y = by turn.side
       where
@@ -136,36 +155,16 @@ module _ (states : List Plain) (packets : List Message) (h : HostId) (s s' : Pla
         both = source_pair a x.state u' b v' (here_or a (to b)) (x.source b)
             ∙ ap (λ p. moved p (here_or a (to b))) (target_pair a x.state b y.state v' (here_or b (from a)) (y.target a))
 
-        still : (c : Bool) (m : Move) → m ≡ Stays → (if c then m else Stays) ≡ Stays
-        still true m e = e
-        still false m e = refl
-
-        source_may : (c : Bool) → same_host a h ≡ c → May (pair_of a x.state b y.state) (if c then to b else Stays)
-        source_may true e =
-            let here : a ≡ h = host_exact a h e in
-            let same : x.state ≡ s = same_Some x.state s (sym x.at ∙ (ap (λ (i : HostId). slice_get states i.0) here ∙ there)) in
-            subst (λ i. May (pair_of i x.state b y.state) (to b)) (sym here)
-            (subst (λ v. May (pair_of h v b y.state) (to b)) (sym same) (guards.to_peers b y.state y.at))
-        source_may false e = tt
-
-        target_may : (c : Bool) → same_host b h ≡ c → May (pair_of a x.state b y.state) (if c then from a else Stays)
-        target_may true e =
-            let here : b ≡ h = host_exact b h e in
-            let same : y.state ≡ s = same_Some y.state s (sym y.at ∙ (ap (λ (i : HostId). slice_get states i.0) here ∙ there)) in
-            subst (λ i. May (pair_of a x.state i y.state) (from a)) (sym here)
-            (subst (λ v. May (pair_of a x.state h v) (from a)) (sym same) (guards.from_peers a x.state x.at))
-        target_may false e = tt
-
         by : ((a : HostId) → from a ≡ Stays) ⊎ ((b : HostId) → to b ≡ Stays) → Moved (pair_of a u' b v') (pair_of a x.state b y.state)
         by (inl e) = record {
           move = here_or a (to b);
           is = both ∙ ap (λ m. moved (moved (pair_of a x.state b y.state) m) (here_or a (to b))) (still (same_host b h) (from a) (e a));
-          may = source_may (same_host a h) refl;
+          may = source_may a b u' v' x y (same_host a h) refl;
         }
         by (inr e) = record {
           move = here_or b (from a);
           is = both ∙ ap (λ m. moved (moved (pair_of a x.state b y.state) (here_or b (from a))) m) (still (same_host a h) (to b) (e b));
-          may = target_may (same_host b h) refl;
+          may = target_may a b u' v' x y (same_host b h) refl;
         }
 
     -- a pair moves on one side
@@ -177,34 +176,14 @@ module _ (states : List Plain) (packets : List Message) (h : HostId) (s s' : Pla
     pub pair_turn : (a b : HostId) (u' v' : Plain) (x : Was a u') (y : Was b v') → PairTurn a b u' v' x y
     pair_turn a b u' v' x y = by turn.side
       where
-        still : (c : Bool) (m : Move) → m ≡ Stays → (if c then m else Stays) ≡ Stays
-        still true m e = e
-        still false m e = refl
-
-        source_may : (c : Bool) → same_host a h ≡ c → May (pair_of a x.state b y.state) (if c then to b else Stays)
-        source_may true e =
-            let here : a ≡ h = host_exact a h e in
-            let same : x.state ≡ s = same_Some x.state s (sym x.at ∙ (ap (λ (i : HostId). slice_get states i.0) here ∙ there)) in
-            subst (λ i. May (pair_of i x.state b y.state) (to b)) (sym here)
-            (subst (λ v. May (pair_of h v b y.state) (to b)) (sym same) (guards.to_peers b y.state y.at))
-        source_may false e = tt
-
-        target_may : (c : Bool) → same_host b h ≡ c → May (pair_of a x.state b y.state) (if c then from a else Stays)
-        target_may true e =
-            let here : b ≡ h = host_exact b h e in
-            let same : y.state ≡ s = same_Some y.state s (sym y.at ∙ (ap (λ (i : HostId). slice_get states i.0) here ∙ there)) in
-            subst (λ i. May (pair_of a x.state i y.state) (from a)) (sym here)
-            (subst (λ v. May (pair_of a x.state h v) (from a)) (sym same) (guards.from_peers a x.state x.at))
-        target_may false e = tt
-
         by : ((a : HostId) → from a ≡ Stays) ⊎ ((b : HostId) → to b ≡ Stays) → PairTurn a b u' v' x y
-        by (inl e) = inl (here_or a (to b), x.source b, (y.target a).stays (still (same_host b h) (from a) (e a)), source_may (same_host a h) refl, refl)
+        by (inl e) = inl (here_or a (to b), x.source b, (y.target a).stays (still (same_host b h) (from a) (e a)), source_may a b u' v' x y (same_host a h) refl, refl)
         by (inr e) = inr (
           here_or b (from a),
           subst (λ m. offered u' b ≡ (moved (pair (offered x.state b) NoPledge (next_of b x.state) 0) m).offer) (still (same_host a h) (to b) (e b))
               (x.source b).offer,
           y.target a,
-          target_may (same_host b h) refl,
+          target_may a b u' v' x y (same_host b h) refl,
           refl,
         )
 

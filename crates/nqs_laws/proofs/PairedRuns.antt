@@ -1,6 +1,6 @@
 -- What holds of each pair of hosts and of each message holds at every moment of a run.
 use Rattle.std.proofs.Common.{◌≡◌, ℕ, ◌<◌, ◌⊎◌, inl, inr, Bool, true, false, if◌then◌else◌, List, [], ◌∷◌, ◌++◌, map, find, slice_get, Option, None, Some}
-use Rattle.std.proofs.Common.{true≢false, zero, suc, refl, sym, ap, subst, ◌∙◌}
+use Rattle.std.proofs.Common.{zero, suc, refl, sym, ap, subst, ◌∙◌}
 use Rattle.std.proofs.lemmas.Bool.{and_parts}
 use Rattle.std.specs.List.{list_all, AllByRecursion, filter_map, cons_option}
 use Rattle.nqs_state.specs.State.{Plain}
@@ -46,7 +46,7 @@ use Rattle.nqs_laws.proofs.Views.{IsLone, phase_seen, offer_seen, offered, pair_
 use Rattle.nqs_laws.proofs.Turns.{to_move, from_move, sources, silent_source}
 use Rattle.nqs_laws.proofs.Targets.{targets, silent_target, fewer, lone_kept}
 use Rattle.nqs_laws.proofs.Paired.{At, HoldsFor, IsTrueWord, IsPaired, Turn, Guards, IsOne, turn_paired, more_words}
-use Rattle.nqs_laws.proofs.Guarded.{way_guards}
+use Rattle.nqs_laws.proofs.Guarded.{open_seen, way_guards}
 use Rattle.nqs_laws.proofs.Spoken.{Local, local_true, LocalOut, step_spoken, begun_spoken}
 
 -- one part of a change moves: the source's or the receiver's
@@ -76,16 +76,11 @@ pub silent_guards : (until : ℕ) (states : List Plain) (packets : List Message)
     → Guards states h s (λ b. if same_host b n.peer then Withdraws else Stays) (λ a. Stays)
 silent_guards until states packets h s there o k n y e opens = record { to_peers = λ b t at. may b t (same_host b n.peer) refl; from_peers = λ a v at. tt }
   where
-    phase : (p : Phase) → y.phase ≡ p → is_offered p ≡ true → (r : PlainRow) → find_row y.id s ≡ Some r
-        → phase_seen p y (find_row y.id s) ≡ Open y.number (offered_load y.queue r)
-    phase Offered g z r row = ap (phase_seen Offered y) row
-    phase Committed g z r row = absurd (true≢false (sym z))
-
     may : (b : HostId) (t : Plain) (c : Bool) → same_host b n.peer ≡ c → May (pair_of h s b t) (if c then Withdraws else Stays)
     may b t true f =
         let r = routing_of s o (is_hand n) y e opens in
         let seen : offered s n.peer ≡ phase_seen y.phase y (find_row y.id s) = ap (λ x. offer_seen x s) (hand_to_peer s (k.lone h s there) n y e) in
-        subst MayWithdraw (sym (ap (offered s) (host_exact b n.peer f) ∙ (seen ∙ phase y.phase refl opens r.0 r.1))) tt
+        subst MayWithdraw (sym (ap (offered s) (host_exact b n.peer f) ∙ (seen ∙ open_seen s y y.phase opens r.0 r.1))) tt
     may b t false f = tt
 
 -- silent offers are taken back one after the other

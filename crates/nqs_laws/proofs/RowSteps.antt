@@ -145,11 +145,7 @@ module _ (h : HostId) where
 
     -- a row without a hold where it isn't queued
     unheld : is_queued r.state ≡ false → is_unheld r.hold ≡ true
-    unheld k = right (is_queued r.state) (is_unheld r.hold) k (list_all-found is_hold_right (is_row x) s.rows r calm.held found)
-      where
-        right : (b c : Bool) → b ≡ false → (b || c) ≡ true → c ≡ true
-        right true c f g = absurd (true≢false f)
-        right false c f g = g
+    unheld k = subst (λ (b : Bool). (b || is_unheld r.hold) ≡ true) k (list_all-found is_hold_right (is_row x) s.rows r calm.held found)
 
     unrouted_hold : (st : RowState) → r.state ≡ st → is_queued st ≡ false → is_unheld r.hold ≡ true
     unrouted_hold st e k = unheld (ap is_queued e ∙ k)

@@ -20,6 +20,7 @@ use Rattle.nqs_types.specs.declared.ids.PeerNumber.{PeerNumber}
 use Rattle.nqs_types.specs.declared.request.Job.{Job}
 use Rattle.nqs_types.specs.declared.request.Hand.{Hand}
 use Rattle.nqs_types.specs.declared.request.Peer.{Peer}
+use Rattle.nqs_types.specs.declared.request.Promise.{Promise}
 use Rattle.nqs_types.specs.declared.request.Stage.{Stage}
 use Rattle.nqs_types.specs.declared.request.Carried.{Carried}
 use Rattle.nqs_types.specs.declared.request.Phase.{Phase}
@@ -68,15 +69,16 @@ use Rattle.nqs_rules.specs.Step.{completed, Asker, reply_to, answer_to, unless_r
 use Rattle.nqs_rules.specs.Step.{stat_causes}
 use Rattle.nqs_rules.specs.Step.{ticked, on_allowed, on_message, is_start, ended_by, acknowledged, unlaunched_by, step}
 use Rattle.nqs_rules.specs.Text.{stat_lines}
-use Rattle.nqs_rules.specs.World.{sent_by}
-use Rattle.nqs_rules.specs.InOrder.{IsInOrder, is_row_right, is_hand_right, is_hand_given, is_stage_right, is_stage_given, is_peer_right, is_routing_row}
+use Rattle.nqs_rules.specs.World.{sent_by, body_number}
+use Rattle.nqs_rules.specs.InOrder.{IsInOrder, is_row_right, is_promise_right, is_promise_open, is_hand_right, is_hand_given, is_stage_right, is_stage_given}
+use Rattle.nqs_rules.specs.InOrder.{is_given, is_peer_right, is_routing_row}
 use Rattle.nqs_rules.proofs.Chains.{each, chained, implied}
-use Rattle.nqs_rules.proofs.ListFacts.{list_all-found, found_again}
-use Rattle.nqs_rules.proofs.KeyFacts.{all_get, all-both}
+use Rattle.nqs_rules.proofs.ListFacts.{list_all-found, list_all-weaker, found_again}
+use Rattle.nqs_rules.proofs.KeyFacts.{all_get, all-both, place_below}
 use Rattle.nqs_rules.proofs.FindKept.{all-mapped}
 use Rattle.nqs_rules.proofs.Sublists.{part_all, without_part}
 use Rattle.nqs_rules.proofs.StateFacts.{sites_are, keys_are}
-use Rattle.nqs_rules.proofs.RowFacts.{row_is, same_id}
+use Rattle.nqs_rules.proofs.RowFacts.{row_is, promise_is, same_id}
 use Rattle.nqs_rules.proofs.RowsOrder.{hand_is}
 use Rattle.nqs_rules.proofs.RowChanges.{waits, few_hops, routing_is, ready_queued}
 use Rattle.nqs_types.specs.Ids.{id_eq, id_exact}
@@ -128,21 +130,62 @@ refusal_of p (c ∷ cs) r h e = let k = and_parts (p c.refusal || not c.holds) (
 abbrev pub is_fine_message : ℕ → (Carried → Bool) → Message → Bool
 is_fine_message hosts test m = is_sane_message hosts m && body_passes test m.body
 
--- an output that sends nothing beyond the limits, acknowledges what it may, and is neither a start
--- nor what a boot tells
-abbrev pub is_fine_output : ℕ → (Carried → Bool) → (RequestId → Bool) → Output → Bool
-is_fine_output hosts test may (out.Send m) = is_fine_message hosts test m
-is_fine_output hosts test may (out.Reply port token (reply.Submitted id queue)) = may id
-is_fine_output hosts test may (out.Launch order bytes) = false
-is_fine_output hosts test may (out.Print device order bytes) = false
-is_fine_output hosts test may (out.Again id) = false
-is_fine_output hosts test may (out.Lost id) = false
-is_fine_output hosts test may o = true
+-- what is sent is within the limits, and goes to whom its number may go; who waits for an answer to
+-- an end may get it
+abbrev pub is_good_output : ℕ → (Carried → Bool) → (HostId → ℕ → Bool) → (RequestId → Bool) → Output → Bool
+is_good_output hosts test goes acks (out.Send m) = is_fine_message hosts test m && goes m.to (body_number m.body)
+is_good_output hosts test goes acks (out.Ack port id start) = acks id
+is_good_output hosts test goes acks o = true
 
-fine_sent : (hosts : ℕ) (test : Carried → Bool) (may : RequestId → Bool) (o : Output) → is_fine_output hosts test may o ≡ true
-    → list_all (is_fine_message hosts test) (sent_by o) ≡ true
-fine_sent hosts test may (out.Send m) k = and_from (is_fine_message hosts test m) true k refl
-fine_sent hosts test may o k = refl
+-- it acknowledges what it may, and is neither a start nor what a boot tells
+abbrev is_plain_output : (RequestId → Bool) → Output → Bool
+is_plain_output may (out.Reply port token (reply.Submitted id queue)) = may id
+is_plain_output may (out.Launch order bytes) = false
+is_plain_output may (out.Print device order bytes) = false
+is_plain_output may (out.Again id) = false
+is_plain_output may (out.Lost id) = false
+is_plain_output may o = true
+
+-- what a step may put out
+abbrev pub is_step_output : ℕ → (Carried → Bool) → (RequestId → Bool) → (HostId → ℕ → Bool) → (RequestId → Bool) → Output → Bool
+is_step_output hosts test may goes acks o = is_good_output hosts test goes acks o && is_plain_output may o
+
+abbrev anywhere : HostId → ℕ → Bool
+anywhere peer n = true
+
+abbrev anyone : RequestId → Bool
+anyone id = true
+
+-- the same, wherever it goes
+abbrev pub is_fine_output : ℕ → (Carried → Bool) → (RequestId → Bool) → Output → Bool
+is_fine_output hosts test may o = is_step_output hosts test may anywhere anyone o
+
+-- an answer may go where the event came from
+abbrev pub GoesBack : (HostId → ℕ → Bool) → (RequestId → Bool) → Event → Type 0
+GoesBack goes acks (event.Arrived now m) = goes m.from (body_number m.body) ≡ true
+GoesBack goes acks (event.Ended now port id start status output error) = (port == 0) ≡ false → acks id ≡ true
+GoesBack goes acks e = Unit {0}
+
+goes_anywhere : (e : Event) → GoesBack anywhere anyone e
+goes_anywhere (event.Arrived now m) = refl
+goes_anywhere (event.Ended now port id start status output error) = λ e. refl
+goes_anywhere e = tt
+
+pub all_good : (hosts : ℕ) (test : Carried → Bool) (may : RequestId → Bool) (goes : HostId → ℕ → Bool) (acks : RequestId → Bool) (os : List Output)
+    → list_all (is_step_output hosts test may goes acks) os ≡ true → list_all (is_good_output hosts test goes acks) os ≡ true
+all_good hosts test may goes acks os k = list_all-weaker (is_step_output hosts test may goes acks) (is_good_output hosts test goes acks)
+    (λ o p. (and_parts (is_good_output hosts test goes acks o) (is_plain_output may o) p).0) os k
+
+fine_sent : (hosts : ℕ) (test : Carried → Bool) (goes : HostId → ℕ → Bool) (acks : RequestId → Bool) (o : Output)
+    → is_good_output hosts test goes acks o ≡ true → list_all (is_fine_message hosts test) (sent_by o) ≡ true
+fine_sent hosts test goes acks (out.Send m) k = and_from (is_fine_message hosts test m) true
+    (and_parts (is_fine_message hosts test m) (goes m.to (body_number m.body)) k).0 refl
+fine_sent hosts test goes acks o k = refl
+
+-- a number that was given isn't 0
+given_some : (next : Peer → ℕ) (n : ℕ) (o : Option Peer) → passes (λ p. is_given n (next p)) o ≡ true → nat_le 1 n ≡ true
+given_some next n None k = absurd (true≢false (sym k))
+given_some next n (Some p) k = (and_parts (nat_le 1 n) (nat_lt n (next p)) k).0
 
 -- what is stored is short
 abbrev pub is_short_change : Change (List ℕ) → Bool
@@ -150,6 +193,10 @@ is_short_change c = list_all is_short_script (stored_parts c)
 
 abbrev IsShortChange : Option (Change (List ℕ)) → Type 0
 IsShortChange o = IfSome o (λ c. is_short_change c ≡ true)
+
+pub mapped : {V W : Type 0} (x : W) (g : V → W) (o : Option V) → option_map g o ≡ Some x → (v : V) × (g v ≡ x)
+mapped x g None e = absurd (none-some x e)
+mapped x g (Some v) e = (v, same_Some (g v) x e)
 
 -- what a start begins with
 pub data Begins (now : ℕ) (s : Plain) (x : Stepped (List ℕ)) : Type 0 where
@@ -178,33 +225,48 @@ module _ (s : Plain) (h : IsInOrder s) where
           at None there e = absurd (none-some x e)
           at (Some r) there e = k r (row_again place r there) e
 
-      mapped : {V : Type 0} (g : V → Stepped (List ℕ)) (o : Option V) → option_map g o ≡ Some x → (v : V) × (g v ≡ x)
-      mapped g None e = absurd (none-some x e)
-      mapped g (Some v) e = (v, same_Some (g v) x e)
-
       by : (c : Choice) → started c now s ≡ Some x → Begins now s x
       by (Launch place) e = row place (λ r. Some (launching r s)) (λ r found e. Launches r found (same_Some (launching r s) x e)) e
       by (Print place device) e = row place (λ r. option_map (λ d. printing d r s) (device_at device r s))
-          (λ r found e. let k = mapped (λ d. printing d r s) (device_at device r s) e in Prints r k.0 found k.1) e
+          (λ r found e. let k = mapped x (λ d. printing d r s) (device_at device r s) e in Prints r k.0 found k.1) e
       by (TooFar place) e = row place (λ r. Some (holding r)) (λ r found e. Holds r found (same_Some (holding r) x e)) e
       by (Local place dest) e = row place (λ r. option_map (λ d. moving d s r) (dest_at dest r s))
-          (λ r found e. let k = mapped (λ d. moving d s r) (dest_at dest r s) e in Moves r k.0 found k.1) e
+          (λ r found e. let k = mapped x (λ d. moving d s r) (dest_at dest r s) e in Moves r k.0 found k.1) e
       by (HandTo place dest) e = row place (λ r. option_map (λ d. open_hand d now s r) (dest_at dest r s))
-          (λ r found e. let k = mapped (λ d. open_hand d now s r) (dest_at dest r s) e in Opens r k.0 found k.1) e
+          (λ r found e. let k = mapped x (λ d. open_hand d now s r) (dest_at dest r s) e in Opens r k.0 found k.1) e
 
       of : (o : Option Choice) → start_by o now s ≡ Some x → Begins now s x
       of None e = absurd (none-some x e)
       of (Some c) e = by c e
 
+  -- of a host something is known exactly where it is of the site
+  known_near : (host : HostId) (p : Peer) → find_peer host s ≡ Some p → is_of_site hosts host ≡ true
+  known_near host p found = lt-ltb host.0 hosts (omega (arith, place_below s.peers host.0 p found, eqb-true (length s.peers) hosts (sites_are s h.site).peers))
+
+  passes_near : (test : Peer → Bool) (host : HostId) → passes test (find_peer host s) ≡ true → is_of_site hosts host ≡ true
+  passes_near test host = by (find_peer host s) refl
+    where
+      by : (o : Option Peer) → find_peer host s ≡ o → passes test o ≡ true → is_of_site hosts host ≡ true
+      by None found k = absurd (true≢false (sym k))
+      by (Some p) found k = known_near host p found
+
+  -- what is submitted may be acknowledged
+  abbrev pub MaySubmit : (RequestId → Bool) → Option (Change (List ℕ)) → Type 0
+  MaySubmit may o = (queue : List ℕ) (job : Job) (script : List ℕ) → o ≡ Some (Submitted queue job script) → may (next_id s) ≡ true
+
   module _ (test : Carried → Bool) where
+    good_sent : (goes : HostId → ℕ → Bool) (acks : RequestId → Bool) (os : List Output) → list_all (is_good_output hosts test goes acks) os ≡ true
+        → list_all (is_fine_message hosts test) (sent_in os) ≡ true
+    good_sent goes acks [] k = refl
+    good_sent goes acks (o ∷ os) k =
+        let q = and_parts (is_good_output hosts test goes acks o) (list_all (is_good_output hosts test goes acks) os) k in
+        list_all-append (is_fine_message hosts test) (sent_by o) (sent_in os)
+        ∙ and_from (list_all (is_fine_message hosts test) (sent_by o)) (list_all (is_fine_message hosts test) (sent_in os))
+        (fine_sent hosts test goes acks o q.0) (good_sent goes acks os q.1)
+
     pub all_sent : (may : RequestId → Bool) (os : List Output) → list_all (is_fine_output hosts test may) os ≡ true
         → list_all (is_fine_message hosts test) (sent_in os) ≡ true
-    all_sent may [] k = refl
-    all_sent may (o ∷ os) k =
-        let q = and_parts (is_fine_output hosts test may o) (list_all (is_fine_output hosts test may) os) k in
-        list_all-append (is_fine_message hosts test) (sent_by o) (sent_in os)
-        ∙ and_from (list_all (is_fine_message hosts test) (sent_by o)) (list_all (is_fine_message hosts test) (sent_in os)) (fine_sent hosts test may o q.0)
-        (all_sent may os q.1)
+    all_sent may os k = good_sent anywhere anyone os (all_good hosts test may anywhere anyone os k)
 
     -- a message that offers nothing
     sane_alone : (peer : HostId) (b : Body) → is_sane_body hosts b ≡ true → body_passes test b ≡ true
@@ -212,12 +274,14 @@ module _ (s : Plain) (h : IsInOrder s) where
     sane_alone peer b k f = and_from (is_sane_message hosts (record { from = s.me; to = peer; body = b })) (body_passes test b)
         (and_from (is_of_site hosts s.me) (is_sane_body hosts b) (sites_are s h.site).me k) f
 
-  module _ (test : Carried → Bool) (may : RequestId → Bool) (scripts : AllPass (λ r. is_short_script r.script) s) (outputs : AreShort s)
+  module _ (test : Carried → Bool) (may : RequestId → Bool) (goes : HostId → ℕ → Bool) (acks : RequestId → Bool)
+      (near : (peer : HostId) (n : ℕ) → is_of_site hosts peer ≡ true → nat_le 1 n ≡ true → goes peer n ≡ true)
+      (scripts : AllPass (λ r. is_short_script r.script) s) (outputs : AreShort s)
       (carries : list_all (λ (r : PlainRow). test (carried_of r)) s.rows ≡ true) where
-    abbrev pub is_fine : Pending (List ℕ) → Bool
-    is_fine p = is_fine_output hosts test may (shown p)
+    abbrev is_fine : Pending (List ℕ) → Bool
+    is_fine p = is_step_output hosts test may goes acks (shown p)
 
-    abbrev pub AreFine : List (Pending (List ℕ)) → Type 0
+    abbrev AreFine : List (Pending (List ℕ)) → Type 0
     AreFine ps = list_all is_fine ps ≡ true
 
     joined : (ps qs : List (Pending (List ℕ))) → AreFine ps → AreFine qs → AreFine (ps ++ qs)
@@ -226,8 +290,12 @@ module _ (s : Plain) (h : IsInOrder s) where
     one : (p : Pending (List ℕ)) → is_fine p ≡ true → AreFine (p ∷ [])
     one p k = and_from (is_fine p) true k refl
 
-    sends : (peer : HostId) (b : Body) → is_sane_body hosts b ≡ true → body_passes test b ≡ true → is_fine (ready (message s.me peer b)) ≡ true
-    sends peer b k f = sane_alone test peer b k f
+    sends : (peer : HostId) (b : Body) → is_sane_body hosts b ≡ true → body_passes test b ≡ true → goes peer (body_number b) ≡ true
+        → is_fine (ready (message s.me peer b)) ≡ true
+    sends peer b k f to =
+        let m : Message = record { from = s.me; to = peer; body = b } in
+        and_from (is_fine_message hosts test m && goes peer (body_number b)) true
+        (and_from (is_fine_message hosts test m) (goes peer (body_number b)) (sane_alone test peer b k f) to) refl
 
     -- offers
 
@@ -252,13 +320,14 @@ module _ (s : Plain) (h : IsInOrder s) where
           id.0,
         )
 
-    offers_fine : (peer : HostId) (n : ℕ) (queue : List ℕ) (r : PlainRow) → nat_le 1 n ≡ true → is_row_right s r ≡ true → is_running r.state ≡ false
-        → nat_lt r.hops 32 ≡ true → is_short_script r.script ≡ true → test (carried_of r) ≡ true → is_fine (offer s.me peer n queue r) ≡ true
-    offers_fine peer n queue r some right idle hops short fine =
+    offers_fine : (peer : HostId) (n : ℕ) (queue : List ℕ) (r : PlainRow) → is_of_site hosts peer ≡ true → nat_le 1 n ≡ true → is_row_right s r ≡ true
+        → is_running r.state ≡ false → nat_lt r.hops 32 ≡ true → is_short_script r.script ≡ true → test (carried_of r) ≡ true
+        → is_fine (offer s.me peer n queue r) ≡ true
+    offers_fine peer n queue r site some right idle hops short fine =
         let c = carried_fine r right idle hops in
         let b : Body = body.Offer n queue (carried_of r) r.script in
-        sane_alone test peer b (chained (nat_le 1 n) (is_sane_carried (carried_of r) ∷ is_of_site hosts r.id.host ∷ is_short_script r.script ∷ [])
-        (some, (c.0, (c.1, (short, tt))))) fine
+        sends peer b (chained (nat_le 1 n) (is_sane_carried (carried_of r) ∷ is_of_site hosts r.id.host ∷ is_short_script r.script ∷ [])
+        (some, (c.0, (c.1, (short, tt))))) fine (near peer n site some)
 
     row_right_at : (id : RequestId) (r : PlainRow) → find_row id s ≡ Some r
         → (is_row_right s r ≡ true) × (is_short_script r.script ≡ true) × (test (carried_of r) ≡ true)
@@ -272,17 +341,15 @@ module _ (s : Plain) (h : IsInOrder s) where
     -- stages
 
     abbrev is_stage_fine : Stage (List ℕ) → Bool
-    is_stage_fine t = nat_le 1 t.number && is_path t.path && nat_le (length t.bytes) 32768
+    is_stage_fine t = is_of_site hosts t.peer && (nat_le 1 t.number && is_path t.path && nat_le (length t.bytes) 32768)
 
     stages_fine : list_all is_stage_fine s.stages ≡ true
     stages_fine = all-both (is_stage_right s) (λ t. nat_le (length t.bytes) 32768) is_stage_fine (λ t a b.
         let k = and_parts (is_path t.path) (passes (is_stage_given t.number) (find_peer t.peer s)) a in
-        and_from (nat_le 1 t.number && is_path t.path) (nat_le (length t.bytes) 32768)
-        (and_from (nat_le 1 t.number) (is_path t.path) (some t.number (find_peer t.peer s) k.1) k.0) b) s.stages h.stages outputs.stages
-      where
-        some : (n : ℕ) (o : Option Peer) → passes (is_stage_given n) o ≡ true → nat_le 1 n ≡ true
-        some n None k = absurd (true≢false (sym k))
-        some n (Some p) k = (and_parts (nat_le 1 n) (nat_lt n p.stage_next) k).0
+        and_from (is_of_site hosts t.peer) (nat_le 1 t.number && is_path t.path && nat_le (length t.bytes) 32768)
+        (passes_near (is_stage_given t.number) t.peer k.1)
+        (chained (nat_le 1 t.number) (is_path t.path ∷ nat_le (length t.bytes) 32768 ∷ [])
+        (given_some (λ p. p.stage_next) t.number (find_peer t.peer s) k.1, (k.0, (b, tt))))) s.stages h.stages outputs.stages
 
     due_fine : (peer : HostId) (stages : List (Stage (List ℕ))) → list_all is_stage_fine stages ≡ true → AreFine (due_of s peer stages)
     due_fine peer stages k = of (best_from (is_stage_to peer) is_earlier_stage 0 stages)
@@ -292,8 +359,9 @@ module _ (s : Plain) (h : IsInOrder s) where
         of None k = refl
         of (Some q) k =
             let b : Body = body.Stage q.1.number q.1.path q.1.bytes in
+            let p = and_parts (is_of_site hosts q.1.peer) (is_sane_body hosts b) k in
             one (message s.me q.1.peer (body.Stage q.1.number q.1.path []), Some q.1.bytes)
-            (sane_alone test q.1.peer b k refl)
+            (sends q.1.peer b p.1 refl (near q.1.peer q.1.number p.0 (each (nat_le 1 q.1.number) (is_path q.1.path ∷ is_short_script q.1.bytes ∷ []) p.1).0))
 
     due_outputs_fine : AreFine (due_outputs s)
     due_outputs_fine = joined (stages_from 0 s s.site) (map file_again s.files) (all_stages 0 s.site)
@@ -309,33 +377,37 @@ module _ (s : Plain) (h : IsInOrder s) where
     hand_fine : (now : ℕ) (x : Hand) → is_hand_right s x ≡ true → AreFine (repeat_hand now s x)
     hand_fine now x right = by (is_silent now s x)
       where
-        some : (o : Option Peer) → passes (is_hand_given x.number) o ≡ true → nat_le 1 x.number ≡ true
-        some None k = absurd (true≢false (sym k))
-        some (Some p) k = (and_parts (nat_le 1 x.number) (nat_lt x.number p.next) k).0
+        site : is_of_site hosts x.peer ≡ true
+        site = passes_near (is_hand_given x.number) x.peer (hand_is s x right).given
+
+        some : nat_le 1 x.number ≡ true
+        some = given_some (λ p. p.next) x.number (find_peer x.peer s) (hand_is s x right).given
 
         again : (o : Option PlainRow) → find_row x.id s ≡ o → passes is_routing_row o ≡ true → AreFine (repeat_offer s x o)
         again None found routes = refl
         again (Some r) found routes =
             let k = row_right_at x.id r found in
             one (offer s.me x.peer x.number x.queue r)
-            (offers_fine x.peer x.number x.queue r (some (find_peer x.peer s) (hand_is s x right).given) k.0 (ap is_running (routing_is r.state routes))
-            (few_hops r routes (row_is s r k.0).hop) k.1 k.2)
+            (offers_fine x.peer x.number x.queue r site some k.0 (ap is_running (routing_is r.state routes)) (few_hops r routes (row_is s r k.0).hop) k.1 k.2)
 
         of : (p : Phase) → x.phase ≡ p → AreFine (repeat_phase p s x)
         of Offered e = again (find_row x.id s) refl (implied (is_offered x.phase) (passes is_routing_row (find_row x.id s)) (hand_is s x right).stands
             (ap is_offered e))
-        of Committed e = one (send_commit s x.peer x.number) (sends x.peer (body.Commit x.number) refl refl)
+        of Committed e = one (send_commit s x.peer x.number) (sends x.peer (body.Commit x.number) refl refl (near x.peer x.number site some))
 
         by : (b : Bool) → AreFine (if b then [] else repeat_phase x.phase s x)
         by true = refl
         by false = of x.phase refl
 
+    inquiry_fine : (p : Promise (List ℕ)) → is_promise_right s p ≡ true → is_fine (send_inquire s p) ≡ true
+    inquiry_fine p right = let k = promise_is s p right in
+        sends p.peer (body.Inquire p.number) refl refl (near p.peer p.number (passes_near (is_promise_open p.number) p.peer k.opens) k.some)
+
     tick_fine : (now : ℕ) → AreFine (ticked now s).outputs
     tick_fine now =
         joined (repeated_hands now s ++ inquiries s) (due_outputs s)
         (joined (repeated_hands now s) (inquiries s) (all-flat (is_hand_right s) is_fine (repeat_hand now s) (hand_fine now) s.hands h.hands)
-        (all-mapped (λ p. true) is_fine (send_inquire s) (λ p k. sends p.peer (body.Inquire p.number) refl refl) s.promises (all-true s.promises)))
-        due_outputs_fine
+        (all-mapped (is_promise_right s) is_fine (send_inquire s) inquiry_fine s.promises h.promises)) due_outputs_fine
 
     -- messages
 
@@ -352,31 +424,31 @@ module _ (s : Plain) (h : IsInOrder s) where
         of None e = rw e refl
         of (Some d) e = rw e (and_from (not (d.pipe_only && false)) true (direct d.pipe_only) refl)
 
-    offer_outputs : (peer : HostId) (n : ℕ) (queue : List ℕ) (c : Carried) (script : List ℕ) → nat_le 1 n ≡ true
+    offer_outputs : (peer : HostId) (n : ℕ) (queue : List ℕ) (c : Carried) (script : List ℕ) → nat_le 1 n ≡ true → goes peer n ≡ true
         → AreFine (on_offer peer n queue c script s).outputs
-    offer_outputs peer n queue c script some = by (closes n (find_peer peer s)) (has_promise peer n s)
+    offer_outputs peer n queue c script some back = by (closes n (find_peer peer s)) (has_promise peer n s)
       where
         made : (o : Result (Unit {0}) Refusal) → first_refusal (offer_causes peer queue c s) ≡ o → AreFine (offer_by o peer n queue c script s).outputs
         made (Err r) e = one (send_refused s peer n (refusal_number r)) (sends peer (body.Refused n (refusal_number r))
-            (and_from (nat_le 1 n) (is_offer_refusal (refusal_number r)) some (refusal_fine peer queue c r e)) refl)
-        made (Ok u) e = one (send_ready s peer n) (sends peer (body.Ready n) refl refl)
+            (and_from (nat_le 1 n) (is_offer_refusal (refusal_number r)) some (refusal_fine peer queue c r e)) refl back)
+        made (Ok u) e = one (send_ready s peer n) (sends peer (body.Ready n) refl refl back)
 
         by : (a b : Bool) → AreFine (if a then says (send_done s peer n ∷ []) else
             (if b then says (send_ready s peer n ∷ []) else offer_by (first_refusal (offer_causes peer queue c s)) peer n queue c script s)).outputs
-        by true b = one (send_done s peer n) (sends peer (body.Done n) refl refl)
-        by false true = one (send_ready s peer n) (sends peer (body.Ready n) refl refl)
+        by true b = one (send_done s peer n) (sends peer (body.Done n) refl refl back)
+        by false true = one (send_ready s peer n) (sends peer (body.Ready n) refl refl back)
         by false false = made (first_refusal (offer_causes peer queue c s)) refl
 
-    ready_outputs : (peer : HostId) (n : ℕ) → AreFine (on_ready peer n s).outputs
-    ready_outputs peer n = of (find_hand peer n s)
+    ready_outputs : (peer : HostId) (n : ℕ) → goes peer n ≡ true → AreFine (on_ready peer n s).outputs
+    ready_outputs peer n back = of (find_hand peer n s)
       where
         missing : (b : Bool) → AreFine (if b then says (send_abort s peer n ∷ []) else quiet).outputs
-        missing true = one (send_abort s peer n) (sends peer (body.Abort n) refl refl)
+        missing true = one (send_abort s peer n) (sends peer (body.Abort n) refl refl back)
         missing false = refl
 
         by : (p : Phase) → AreFine (ready_phase p peer n s).outputs
-        by Offered = one (send_commit s peer n) (sends peer (body.Commit n) refl refl)
-        by Committed = one (send_commit s peer n) (sends peer (body.Commit n) refl refl)
+        by Offered = one (send_commit s peer n) (sends peer (body.Commit n) refl refl back)
+        by Committed = one (send_commit s peer n) (sends peer (body.Commit n) refl refl back)
 
         of : (o : Option Hand) → AreFine (ready_with o peer n s).outputs
         of None = missing (was_given n (find_peer peer s))
@@ -404,13 +476,13 @@ module _ (s : Plain) (h : IsInOrder s) where
         of None = refl
         of (Some x) = by x.phase
 
-    commit_outputs : (peer : HostId) (n : ℕ) → AreFine (on_commit peer n s).outputs
-    commit_outputs peer n = by (has_promise peer n s) (closes n (find_peer peer s))
+    commit_outputs : (peer : HostId) (n : ℕ) → goes peer n ≡ true → AreFine (on_commit peer n s).outputs
+    commit_outputs peer n back = by (has_promise peer n s) (closes n (find_peer peer s))
       where
         by : (a b : Bool) → AreFine (if a then makes (Accepted peer n) (send_done s peer n ∷ []) else
             (if b then says (send_done s peer n ∷ []) else quiet)).outputs
-        by true b = one (send_done s peer n) (sends peer (body.Done n) refl refl)
-        by false true = one (send_done s peer n) (sends peer (body.Done n) refl refl)
+        by true b = one (send_done s peer n) (sends peer (body.Done n) refl refl back)
+        by false true = one (send_done s peer n) (sends peer (body.Done n) refl refl back)
         by false false = refl
 
     abort_outputs : (peer : HostId) (n : ℕ) → AreFine (on_abort peer n s).outputs
@@ -420,16 +492,16 @@ module _ (s : Plain) (h : IsInOrder s) where
         by true = refl
         by false = refl
 
-    stage_outputs : (peer : HostId) (n : ℕ) (path bytes : List ℕ) → AreFine (on_stage peer n path bytes s).outputs
-    stage_outputs peer n path bytes = by (passes (is_got n) (find_peer peer s)) (has_left s.file_next 0)
+    stage_outputs : (peer : HostId) (n : ℕ) (path bytes : List ℕ) → goes peer n ≡ true → AreFine (on_stage peer n path bytes s).outputs
+    stage_outputs peer n path bytes back = by (passes (is_got n) (find_peer peer s)) (has_left s.file_next 0)
       where
         by : (a b : Bool)
             → AreFine (if a then says (send_staged s peer n ∷ []) else (if b then
             makes (StageGot peer n path bytes) (send_staged s peer n ∷ ready (out.File s.file_next path bytes) ∷ []) else
             makes (StageGot peer n path []) (send_staged s peer n ∷ []))).outputs
-        by true b = one (send_staged s peer n) (sends peer (body.Staged n) refl refl)
-        by false true = and_from (is_fine (send_staged s peer n)) true (sends peer (body.Staged n) refl refl) refl
-        by false false = one (send_staged s peer n) (sends peer (body.Staged n) refl refl)
+        by true b = one (send_staged s peer n) (sends peer (body.Staged n) refl refl back)
+        by false true = and_from (is_fine (send_staged s peer n)) true (sends peer (body.Staged n) refl refl back) refl
+        by false false = one (send_staged s peer n) (sends peer (body.Staged n) refl refl back)
 
     staged_outputs : (peer : HostId) (n : ℕ) → AreFine (on_staged peer n s).outputs
     staged_outputs peer n = by (has_stage peer n s)
@@ -442,18 +514,18 @@ module _ (s : Plain) (h : IsInOrder s) where
         by true = due_fine peer (without_first (is_stage (peer_number peer n)) s.stages) left
         by false = refl
 
-    message_outputs : (peer : HostId) (b : Body) → is_sane_body hosts b ≡ true → AreFine (on_message peer b s).outputs
-    message_outputs peer (body.Offer n queue c script) k = offer_outputs peer n queue c script
-        (each (nat_le 1 n) (is_sane_carried c ∷ is_of_site hosts c.id.host ∷ is_short_script script ∷ []) k).0
-    message_outputs peer (body.Ready n) k = ready_outputs peer n
-    message_outputs peer (body.Refused n refusal) k = refused_outputs peer n refusal
-    message_outputs peer (body.Commit n) k = commit_outputs peer n
-    message_outputs peer (body.Done n) k = done_outputs peer n
-    message_outputs peer (body.Inquire n) k = ready_outputs peer n
-    message_outputs peer (body.Abort n) k = abort_outputs peer n
-    message_outputs peer (body.Stage n path bytes) k = stage_outputs peer n path bytes
-    message_outputs peer (body.Staged n) k = staged_outputs peer n
-    message_outputs peer b k = refl
+    message_outputs : (peer : HostId) (b : Body) → is_sane_body hosts b ≡ true → goes peer (body_number b) ≡ true → AreFine (on_message peer b s).outputs
+    message_outputs peer (body.Offer n queue c script) k back = offer_outputs peer n queue c script
+        (each (nat_le 1 n) (is_sane_carried c ∷ is_of_site hosts c.id.host ∷ is_short_script script ∷ []) k).0 back
+    message_outputs peer (body.Ready n) k back = ready_outputs peer n back
+    message_outputs peer (body.Refused n refusal) k back = refused_outputs peer n refusal
+    message_outputs peer (body.Commit n) k back = commit_outputs peer n back
+    message_outputs peer (body.Done n) k back = done_outputs peer n
+    message_outputs peer (body.Inquire n) k back = ready_outputs peer n back
+    message_outputs peer (body.Abort n) k back = abort_outputs peer n
+    message_outputs peer (body.Stage n path bytes) k back = stage_outputs peer n path bytes back
+    message_outputs peer (body.Staged n) k back = staged_outputs peer n
+    message_outputs peer b k back = refl
 
     -- commands
 
@@ -468,16 +540,12 @@ module _ (s : Plain) (h : IsInOrder s) where
     edit_outputs (RowsOf (AbortQueue q)) = kills_fine (filter (runs_in_queue q) s.rows)
     edit_outputs e = refl
 
-    -- what is submitted may be acknowledged
-    abbrev pub MaySubmit : Option (Change (List ℕ)) → Type 0
-    MaySubmit o = (queue : List ℕ) (job : Job) (script : List ℕ) → o ≡ Some (Submitted queue job script) → may (next_id s) ≡ true
-
-    submit_outputs : (a : Asker) (o : Option (List ℕ)) (sub : _) → MaySubmit (submit_to a sub s o).change → AreFine (submit_to a sub s o).outputs
+    submit_outputs : (a : Asker) (o : Option (List ℕ)) (sub : _) → MaySubmit may (submit_to a sub s o).change → AreFine (submit_to a sub s o).outputs
     submit_outputs a None sub submits = refl
     submit_outputs a (Some q) sub submits = and_from (may (next_id s)) true (submits q (completed (s.seq + 1) sub.job) sub.script refl) refl
 
-    unless_submits : (a : Asker) (o : Result (Unit {0}) Refusal) (done : Stepped (List ℕ)) → MaySubmit (unless_refused a o done).change
-        → (MaySubmit done.change → AreFine done.outputs) → AreFine (unless_refused a o done).outputs
+    unless_submits : (a : Asker) (o : Result (Unit {0}) Refusal) (done : Stepped (List ℕ)) → MaySubmit may (unless_refused a o done).change
+        → (MaySubmit may done.change → AreFine done.outputs) → AreFine (unless_refused a o done).outputs
     unless_submits a (Err r) done submits k = refl
     unless_submits a (Ok u) done submits k = k submits
 
@@ -494,7 +562,7 @@ module _ (s : Plain) (h : IsInOrder s) where
     why_outputs now a id None = refl
     why_outputs now a id (Some r) = refl
 
-    command_outputs : (now : ℕ) (a : Asker) (user : List ℕ) (c : Command) → MaySubmit (on_allowed now a user c s).change
+    command_outputs : (now : ℕ) (a : Asker) (user : List ℕ) (c : Command) → MaySubmit may (on_allowed now a user c s).change
         → AreFine (on_allowed now a user c s).outputs
     command_outputs now a user (command.Submit sub) submits = unless_submits a (first_refusal (submit_causes sub s))
         (submit_to a sub s (queue_meant sub.queue s.default_queue)) submits (submit_outputs a (queue_meant sub.queue s.default_queue) sub)
@@ -559,8 +627,9 @@ module _ (s : Plain) (h : IsInOrder s) where
     stored_fine parts k = all-mapped is_part_fine is_short_script part_bytes
         (λ part p. (and_parts (is_path part.path) (is_short_script part.bytes) p).1) parts k
 
-    parts_outputs : (id : RequestId) (parts : List Part) → list_all is_part_fine parts ≡ true → AreFine (parts_sent s id parts)
-    parts_outputs id parts k = by (goes_here s id) (has_stage_to id.host s)
+    parts_outputs : (id : RequestId) (parts : List Part) → is_of_site hosts id.host ≡ true → list_all is_part_fine parts ≡ true
+        → AreFine (parts_sent s id parts)
+    parts_outputs id parts site k = by (goes_here s id) (has_stage_to id.host s)
       where
         files : (n : ℕ) (ps : List Part) → AreFine (files_written n ps)
         files n [] = refl
@@ -576,8 +645,9 @@ module _ (s : Plain) (h : IsInOrder s) where
             let q = (and_parts (is_part_fine p) (list_all is_part_fine ps) k).0 in
             let number : ℕ = stage_counter (find_peer id.host s) in
             let b : Body = body.Stage number p.path p.bytes in
+            let some = counter (find_peer id.host s) refl in
             one (ready (message s.me id.host b)) (sends id.host b (let k = and_parts (is_path p.path) (is_short_script p.bytes) q in
-            chained (nat_le 1 number) (is_path p.path ∷ is_short_script p.bytes ∷ []) (counter (find_peer id.host s) refl, (k.0, (k.1, tt)))) refl)
+            chained (nat_le 1 number) (is_path p.path ∷ is_short_script p.bytes ∷ []) (some, (k.0, (k.1, tt)))) refl (near id.host number site some))
 
         by : (a b : Bool) → AreFine (if a then files_written s.file_next parts else
             (if b then [] else stage_sent s.me id.host (if a then s.file_next else stage_counter (find_peer id.host s)) parts))
@@ -591,8 +661,11 @@ module _ (s : Plain) (h : IsInOrder s) where
       where
         by : (r : PlainRow) → find_row id s ≡ Some r → (c : Bool) → (let d : Stepped (List ℕ) = if c then on_end status r output error s else quiet in
             AreFine d.outputs × IsShortChange d.change)
-        by r found true = let k = kept_fine r output error (row_right_at id r found).0 a b in
-            (parts_outputs r.id (kept_parts s r output error) k, stored_fine (kept_parts s r output error) k)
+        by r found true =
+            let right = (row_right_at id r found).0 in
+            let k = kept_fine r output error right a b in
+            let site = (and_parts (is_of_site hosts r.id.host) (is_sane_id r.id) (row_is s r right).id).0 in
+            (parts_outputs r.id (kept_parts s r output error) site k, stored_fine (kept_parts s r output error) k)
         by r found false = (refl, tt)
 
         of : (o : Option PlainRow) → find_row id s ≡ o → AreFine (ended_by o start status output error s).outputs
@@ -600,12 +673,12 @@ module _ (s : Plain) (h : IsInOrder s) where
         of None found = (refl, tt)
         of (Some r) found = by r found (is_start start r)
 
-    acks_fine : (port : ℕ) (id : RequestId) (start : ℕ) → AreFine (acknowledged port id start)
+    acks_fine : (port : ℕ) (id : RequestId) (start : ℕ) → ((port == 0) ≡ false → acks id ≡ true) → AreFine (acknowledged port id start)
     acks_fine port id start = by (port == 0)
       where
-        by : (b : Bool) → AreFine (if b then [] else ready (out.Ack port id start) ∷ [])
-        by true = refl
-        by false = refl
+        by : (b : Bool) → (b ≡ false → acks id ≡ true) → AreFine (if b then [] else ready (out.Ack port id start) ∷ [])
+        by true back = refl
+        by false back = one (ready (out.Ack port id start)) (and_from (acks id) true (back refl) refl)
 
     unlaunched_outputs : (o : Option PlainRow) (id : RequestId) (start : ℕ) → AreFine (unlaunched_by o id start).outputs
     unlaunched_outputs None id start = refl
@@ -622,37 +695,38 @@ module _ (s : Plain) (h : IsInOrder s) where
         by true = refl
         by false = refl
 
-    -- what an event makes a host send is within its limits
-    pub step_fine : (e : Event) → is_sane_event hosts e ≡ true → MaySubmit (step e s).change
-        → list_all (is_fine_output hosts test may) (map shown (step e s).outputs) ≡ true
-    step_fine e k submits = all-mapped is_fine (is_fine_output hosts test may) shown (λ p q. q) (step e s).outputs (fine e k submits)
+    -- what an event makes a host send is within its limits, and goes where it may
+    pub step_good : (e : Event) → is_sane_event hosts e ≡ true → GoesBack goes acks e → MaySubmit may (step e s).change
+        → list_all (is_step_output hosts test may goes acks) (map shown (step e s).outputs) ≡ true
+    step_good e k back submits = all-mapped is_fine (is_step_output hosts test may goes acks) shown (λ p q. q) (step e s).outputs (fine e k back submits)
       where
-        fine : (e : Event) → is_sane_event hosts e ≡ true → MaySubmit (step e s).change → AreFine (step e s).outputs
-        fine (event.Ask now port token user c) k submits = unless_submits (record { port = port; token = token }) (may_command (rank user s) c)
+        fine : (e : Event) → is_sane_event hosts e ≡ true → GoesBack goes acks e → MaySubmit may (step e s).change → AreFine (step e s).outputs
+        fine (event.Ask now port token user c) k back submits = unless_submits (record { port = port; token = token }) (may_command (rank user s) c)
             (on_allowed now (record { port = port; token = token }) user c s) submits (command_outputs now (record { port = port; token = token }) user c)
-        fine (event.Arrived now m) k submits = message_outputs m.from m.body (and_parts (is_of_site hosts m.from) (is_sane_body hosts m.body) k).1
-        fine (event.Ended now port id start status output error) k submits =
+        fine (event.Arrived now m) k back submits = message_outputs m.from m.body (and_parts (is_of_site hosts m.from) (is_sane_body hosts m.body) k).1 back
+        fine (event.Ended now port id start status output error) k back submits =
             let p = and_parts (is_short_output output) (is_short_output error) k in
             joined (ended_by (find_row id s) start status output error s).outputs (acknowledged port id start)
-            (ended_outputs id start status output error p.0 p.1).0 (acks_fine port id start)
-        fine (event.Unlaunched now id start) k submits = unlaunched_outputs (find_row id s) id start
-        fine (event.Written now file) k submits = written_outputs file
-        fine (event.Unwritten now file) k submits = refl
-        fine (event.Tick now) k submits = tick_fine now
+            (ended_outputs id start status output error p.0 p.1).0 (acks_fine port id start back)
+        fine (event.Unlaunched now id start) k back submits = unlaunched_outputs (find_row id s) id start
+        fine (event.Written now file) k back submits = written_outputs file
+        fine (event.Unwritten now file) k back submits = refl
+        fine (event.Tick now) k back submits = tick_fine now
 
-    pub start_sends : (now : ℕ) (x : Stepped (List ℕ)) → start now s ≡ Some x → ((c : Change (List ℕ)) → x.change ≡ Some c → fits c s ≡ true)
-        → list_all (is_fine_message hosts test) (sent_in (map shown x.outputs)) ≡ true
-    start_sends now x e fit = of (begins now x e)
+    -- and so does what goes out of a start
+    pub start_good : (now : ℕ) (x : Stepped (List ℕ)) → start now s ≡ Some x → ((c : Change (List ℕ)) → x.change ≡ Some c → fits c s ≡ true)
+        → list_all (is_good_output hosts test goes acks) (map shown x.outputs) ≡ true
+    start_good now x e fit = of (begins now x e)
       where
-        IsSent : Stepped (List ℕ) → Type 0
-        IsSent y = list_all (is_fine_message hosts test) (sent_in (map shown y.outputs)) ≡ true
+        IsGood : Stepped (List ℕ) → Type 0
+        IsGood y = list_all (is_good_output hosts test goes acks) (map shown y.outputs) ≡ true
 
-        moved : (o : Result (Unit {0}) Refusal) (queue : List ℕ) (r : PlainRow) → IsSent (moving_by o queue r)
+        moved : (o : Result (Unit {0}) Refusal) (queue : List ℕ) (r : PlainRow) → IsGood (moving_by o queue r)
         moved (Ok u) queue r = refl
         moved (Err refusal) queue r = refl
 
         opened : (r : PlainRow) (dest : Dest) → find_row r.id s ≡ Some r → (o : Option Peer) → find_peer dest.host s ≡ o → opened_with o dest now s r ≡ x
-            → IsSent (opened_with o dest now s r)
+            → IsGood (opened_with o dest now s r)
         opened r dest found None known e = refl
         opened r dest found (Some p) known e =
             let fitting = fit (HandOpened dest.host p.next r.id dest.queue now) (sym (ap (λ (y : Stepped (List ℕ)). y.change) e)) in
@@ -660,17 +734,34 @@ module _ (s : Plain) (h : IsInOrder s) where
             (each (row_passes (may_hop {E = List ℕ}) r.id s) (passes (is_next p.next) (find_peer dest.host s)
             ∷ not (list_any (is_hand_to dest.host) s.hands) ∷ []) fitting).0 in
             let k = row_right_at r.id r found in
-            fine_sent hosts test may (shown (offer s.me dest.host p.next dest.queue r))
-            (offers_fine dest.host p.next dest.queue r (and_parts (nat_le 1 p.next) (nat_le 1 p.stage_next)
+            all_good hosts test may goes acks (shown (offer s.me dest.host p.next dest.queue r) ∷ [])
+            (one (offer s.me dest.host p.next dest.queue r)
+            (offers_fine dest.host p.next dest.queue r (known_near dest.host p known) (and_parts (nat_le 1 p.next) (nat_le 1 p.stage_next)
             (all_get is_peer_right s.peers dest.host.0 p h.peers known)).0 k.0
-            (ap is_running (ready_queued r (and_parts (is_ready r) (nat_lt r.hops 32) hop).0)) (and_parts (is_ready r) (nat_lt r.hops 32) hop).1 k.1 k.2)
+            (ap is_running (ready_queued r (and_parts (is_ready r) (nat_lt r.hops 32) hop).0)) (and_parts (is_ready r) (nat_lt r.hops 32) hop).1 k.1 k.2))
 
-        of : Begins now s x → IsSent x
-        of (Launches r found is) = subst IsSent is refl
-        of (Prints r device found is) = subst IsSent is refl
-        of (Holds r found is) = subst IsSent is refl
-        of (Moves r dest found is) = subst IsSent is (moved (first_refusal (local_causes dest.queue s r)) dest.queue r)
-        of (Opens r dest found is) = subst IsSent is (opened r dest found (find_peer dest.host s) refl is)
+        of : Begins now s x → IsGood x
+        of (Launches r found is) = subst IsGood is refl
+        of (Prints r device found is) = subst IsGood is refl
+        of (Holds r found is) = subst IsGood is refl
+        of (Moves r dest found is) = subst IsGood is (moved (first_refusal (local_causes dest.queue s r)) dest.queue r)
+        of (Opens r dest found is) = subst IsGood is (opened r dest found (find_peer dest.host s) refl is)
+
+  module _ (test : Carried → Bool) (may : RequestId → Bool) (scripts : AllPass (λ r. is_short_script r.script) s) (outputs : AreShort s)
+      (carries : list_all (λ (r : PlainRow). test (carried_of r)) s.rows ≡ true) where
+    -- what an event makes a host send is within its limits
+    pub step_fine : (e : Event) → is_sane_event hosts e ≡ true → MaySubmit may (step e s).change
+        → list_all (is_fine_output hosts test may) (map shown (step e s).outputs) ≡ true
+    step_fine e k submits = step_good test may anywhere anyone (λ peer n site some. refl) scripts outputs carries e k (goes_anywhere e) submits
+
+    pub start_sends : (now : ℕ) (x : Stepped (List ℕ)) → start now s ≡ Some x → ((c : Change (List ℕ)) → x.change ≡ Some c → fits c s ≡ true)
+        → list_all (is_fine_message hosts test) (sent_in (map shown x.outputs)) ≡ true
+    start_sends now x e fit = good_sent test anywhere anyone (map shown x.outputs)
+        (start_good test may anywhere anyone (λ peer n site some. refl) scripts outputs carries now x e fit)
+
+    silenced : (now : ℕ) (ks : List PeerNumber) → IsShortChange (silence now s.retry_wait ks)
+    silenced now [] = tt
+    silenced now (k ∷ ks) = refl
 
     -- what an event makes a host store is short
     pub step_stores : (e : Event) → is_sane_event hosts e ≡ true → IsShortChange (step e s).change
@@ -698,10 +789,6 @@ module _ (s : Plain) (h : IsInOrder s) where
             by true = refl
             by false = refl
 
-        silenced : (ks : List PeerNumber) → IsShortChange (silence now s.retry_wait ks)
-        silenced [] = tt
-        silenced (k ∷ ks) = refl
-
         allowed : (c : Command) → is_sane_command c ≡ true → IsShortChange (on_allowed now a user c s).change
         allowed (command.Submit sub) k = unless_short a (first_refusal (submit_causes sub s)) (submit_to a sub s (queue_meant sub.queue s.default_queue))
             (submitted (queue_meant sub.queue s.default_queue) sub k)
@@ -712,7 +799,7 @@ module _ (s : Plain) (h : IsInOrder s) where
         allowed (command.Show code) k = tt
         allowed (command.Why id) k = tt
         allowed command.Shutdown k = tt
-        allowed command.Tick k = silenced (silent_hands now s)
+        allowed command.Tick k = silenced now (silent_hands now s)
         allowed (command.UnreadLine fault) k = tt
         allowed (command.UnreadWords fault) k = tt
     step_stores (event.Arrived now m) k = of m.body (and_parts (is_of_site hosts m.from) (is_sane_body hosts m.body) k).1
@@ -791,7 +878,7 @@ module _ (s : Plain) (h : IsInOrder s) where
         of (body.Staged n) k = gone (has_stage m.from n s) n
         of b k = tt
     step_stores (event.Ended now port id start status output error) k = let p = and_parts (is_short_output output) (is_short_output error) k in
-        (ended_outputs id start status output error p.0 p.1).1
+        (ended_outputs test may anywhere anyone (λ peer n site some. refl) scripts outputs carries id start status output error p.0 p.1).1
     step_stores (event.Unlaunched now id start) k = of (find_row id s)
       where
         by : (b : Bool) → IsShortChange (if b then makes {E = List ℕ} (Unlaunched id) (ready (out.Unlaunched id start) ∷ []) else quiet).change
@@ -807,8 +894,4 @@ module _ (s : Plain) (h : IsInOrder s) where
         by true = refl
         by false = tt
     step_stores (event.Unwritten now file) k = tt
-    step_stores (event.Tick now) k = silenced (silent_hands now s)
-      where
-        silenced : (ks : List PeerNumber) → IsShortChange (silence now s.retry_wait ks)
-        silenced [] = tt
-        silenced (k ∷ ks) = refl
+    step_stores (event.Tick now) k = silenced now (silent_hands now s)

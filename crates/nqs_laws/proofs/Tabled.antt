@@ -71,6 +71,10 @@ IsHeldMove Commits = ⊥
 IsHeldMove Accepts = ⊥
 IsHeldMove m = Unit {0}
 
+pub held_or : (c : Bool) (m : Move) → IsHeldMove m → IsHeldMove (if c then m else Stays)
+held_or true m k = k
+held_or false m k = tt
+
 source_claim : (o o' : Offer) (q : Option Pledging) (next closed : ℕ) (m : Move) → IsSource m → IsHeldMove m → Ok (pair o (pledge_seen q) next closed)
     → May (pair o (pledge_seen q) next closed) m
     → o' ≡ (moved (pair o NoPledge next 0) m).offer → (x : Request) → claim o' q x ≡ claim o q x
@@ -214,24 +218,17 @@ module _ (states : List Plain) (packets : List Message) (paired : IsPaired state
         by false e = told.given x u' (sym (get-other h.0 x.host.0 (λ _. s') states (λ same. true≢false (sym (ap (λ n. n == h.0) (sym same) ∙ host_same h) ∙ e)))
             ∙ at) below
 
+    at_still : (g : HostId) (u : Plain) → At states g u → (v : Plain) × At (put_state h s' states) g v
+    at_still g u at = by (same_host g h) refl
+      where
+        by : (c : Bool) → same_host g h ≡ c → (v : Plain) × At (put_state h s' states) g v
+        by true e = (s', ap (λ (i : HostId). slice_get (put_state h s' states) i.0) (host_exact g h e) ∙ get-here h.0 s' s states there)
+        by false e = (u, get-other h.0 g.0 (λ _. s') states (λ same. true≢false (sym (ap (λ n. n == h.0) (sym same) ∙ host_same h) ∙ e)) ∙ at)
+
     pub still_placed : (t : Place) → IsPlaced states t → IsPlaced (put_state h s' states) t
     still_placed Nowhere p = tt
     still_placed (Sits g r) p = at_still g p.0 p.1
-      where
-        at_still : (g : HostId) (u : Plain) → At states g u → (v : Plain) × At (put_state h s' states) g v
-        at_still g u at = by (same_host g h) refl
-          where
-            by : (c : Bool) → same_host g h ≡ c → (v : Plain) × At (put_state h s' states) g v
-            by true e = (s', ap (λ (i : HostId). slice_get (put_state h s' states) i.0) (host_exact g h e) ∙ get-here h.0 s' s states there)
-            by false e = (u, get-other h.0 g.0 (λ _. s') states (λ same. true≢false (sym (ap (λ n. n == h.0) (sym same) ∙ host_same h) ∙ e)) ∙ at)
     still_placed (Arrives a b r) p = (let x = at_still a p.0 p.2 in let y = at_still b p.1 p.3 in (x.0, y.0, x.1, y.1))
-      where
-        at_still : (g : HostId) (u : Plain) → At states g u → (v : Plain) × At (put_state h s' states) g v
-        at_still g u at = by (same_host g h) refl
-          where
-            by : (c : Bool) → same_host g h ≡ c → (v : Plain) × At (put_state h s' states) g v
-            by true e = (s', ap (λ (i : HostId). slice_get (put_state h s' states) i.0) (host_exact g h e) ∙ get-here h.0 s' s states there)
-            by false e = (u, get-other h.0 g.0 (λ _. s') states (λ same. true≢false (sym (ap (λ n. n == h.0) (sym same) ∙ host_same h) ∙ e)) ∙ at)
 
     -- rows of other hosts
     pub row_before : (g : HostId) (u' : Plain) → At (put_state h s' states) g u' → same_host g h ≡ false → (x : Request) → find_row x u' ≡ row_in g (table x)
@@ -249,43 +246,35 @@ module _ (states : List Plain) (packets : List Message) (paired : IsPaired state
       abbrev pub after_rows : Table
       after_rows x = updated h (find_row x s') (table x)
 
-      held_or : (c : Bool) (m : Move) → IsHeldMove m → IsHeldMove (if c then m else Stays)
-      held_or true m k = k
-      held_or false m k = tt
+      placed_row : (o : Option PlainRow) → o ≡ row_in h (placed_at h o)
+      placed_row None = refl
+      placed_row (Some r) = sym (row_of_sits h r)
+
+      placed_elsewhere : (g : HostId) → same_host g h ≡ false → (o : Option PlainRow) → None ≡ row_in g (placed_at h o)
+      placed_elsewhere g far None = refl
+      placed_elsewhere g far (Some r) = sym (row_elsewhere g h r far)
+
+      placed_now : (o : Option PlainRow) → IsPlaced (put_state h s' states) (placed_at h o)
+      placed_now None = tt
+      placed_now (Some r) = (s', get-here h.0 s' s states there)
 
       here : (x : Request) (t : Place) → table x ≡ t → find_row x s' ≡ row_in h (updated h (find_row x s') t)
-      here x Nowhere e = of (find_row x s')
-        where
-          of : (o : Option PlainRow) → o ≡ row_in h (placed_at h o)
-          of None = refl
-          of (Some r) = sym (row_of_sits h r)
+      here x Nowhere e = placed_row (find_row x s')
       here x (Sits g r) e = by (same_host g h) refl
         where
-          of : (o : Option PlainRow) → o ≡ row_in h (placed_at h o)
-          of None = refl
-          of (Some r) = sym (row_of_sits h r)
-
           by : (c : Bool) → same_host g h ≡ c → find_row x s' ≡ row_in h (if c then placed_at h (find_row x s') else Sits g r)
-          by true f = of (find_row x s')
+          by true f = placed_row (find_row x s')
           by false f =
               let far : same_host h g ≡ false = host_other h g (λ same. true≢false (sym (ap (same_host g) same ∙ host_same g) ∙ f)) in
               grows x (told.rows h s there x ∙ (ap (row_in h) e ∙ row_elsewhere h g r far)) (λ none. let no : ⊥ = cc in no) ∙ sym (row_elsewhere h g r far)
       here x (Arrives a b r) e = grows x (told.rows h s there x ∙ ap (row_in h) e) (λ none. let no : ⊥ = cc in no)
 
       elsewhere : (g : HostId) → same_host g h ≡ false → (o : Option PlainRow) (t : Place) → row_in g t ≡ row_in g (updated h o t)
-      elsewhere g far o Nowhere = of o
-        where
-          of : (o : Option PlainRow) → None ≡ row_in g (placed_at h o)
-          of None = refl
-          of (Some r) = sym (row_elsewhere g h r far)
+      elsewhere g far o Nowhere = placed_elsewhere g far o
       elsewhere g far o (Sits k r) = by (same_host k h) refl
         where
-          of : (o : Option PlainRow) → None ≡ row_in g (placed_at h o)
-          of None = refl
-          of (Some r) = sym (row_elsewhere g h r far)
-
           by : (c : Bool) → same_host k h ≡ c → row_in g (Sits k r) ≡ row_in g (if c then placed_at h o else Sits k r)
-          by true f = row_elsewhere g k r (ap (same_host g) (host_exact k h f) ∙ far) ∙ of o
+          by true f = row_elsewhere g k r (ap (same_host g) (host_exact k h f) ∙ far) ∙ placed_elsewhere g far o
           by false f = refl
       elsewhere g far o (Arrives a b r) = refl
 
@@ -301,19 +290,11 @@ module _ (states : List Plain) (packets : List Message) (paired : IsPaired state
       same_claim a b o (Arrives c d r) = refl
 
       place_after : (x : Request) (t : Place) → IsPlaced states t → IsPlaced (put_state h s' states) (updated h (find_row x s') t)
-      place_after x Nowhere p = of (find_row x s')
-        where
-          of : (o : Option PlainRow) → IsPlaced (put_state h s' states) (placed_at h o)
-          of None = tt
-          of (Some r) = (s', get-here h.0 s' s states there)
+      place_after x Nowhere p = placed_now (find_row x s')
       place_after x (Sits g r) p = by (same_host g h)
         where
-          of : (o : Option PlainRow) → IsPlaced (put_state h s' states) (placed_at h o)
-          of None = tt
-          of (Some r) = (s', get-here h.0 s' s states there)
-
           by : (c : Bool) → IsPlaced (put_state h s' states) (if c then placed_at h (find_row x s') else Sits g r)
-          by true = of (find_row x s')
+          by true = placed_now (find_row x s')
           by false = still_placed (Sits g r) p
       place_after x (Arrives a b r) p = still_placed (Arrives a b r) p
 

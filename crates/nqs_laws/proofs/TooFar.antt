@@ -28,6 +28,7 @@ use Rattle.nqs_rules.specs.Stepped.{Stepped}
 use Rattle.nqs_rules.proofs.ListFacts.{found_again}
 use Rattle.nqs_rules.proofs.StartIs.{IsSteady}
 use Rattle.nqs_rules.proofs.PickLaws.{picked_is}
+use Rattle.nqs_laws.proofs.Sent.{mapped}
 use Rattle.nqs_laws.proofs.RowTests.{PlainRow}
 
 -- a choice of a row that came too far
@@ -66,10 +67,6 @@ module _ (now : ℕ) (s : Plain) (st : IsSteady s) (x : Stepped (List ℕ)) (id 
       at None there e = absurd (none-some x e)
       at (Some r) there e = k r there e
 
-  mapped : {V : Type 0} (g : V → Stepped (List ℕ)) (o : Option V) → option_map g o ≡ Some x → (v : V) × (g v ≡ x)
-  mapped g None e = absurd (none-some x e)
-  mapped g (Some v) e = (v, same_Some (g v) x e)
-
   moved_far : (o : Result (Unit {0}) Refusal) (q : List ℕ) (r : PlainRow) → moving_by o q r ≡ x → IsFar
   moved_far (Ok u) q r is = absurd (let f = other_change (moving_by (Ok u) q r) (MovedLocal r.id q) refl is in let no : ⊥ = cc in no)
   moved_far (Err refusal) q r is = absurd (let f = other_change (moving_by (Err refusal) q r) _ refl is in let no : ⊥ = cc in no)
@@ -84,7 +81,7 @@ module _ (now : ℕ) (s : Plain) (st : IsSteady s) (x : Stepped (List ℕ)) (id 
       (λ r at e. absurd (let f = other_change (launching r s) (Started r.id None) refl (same_Some _ x e) in let no : ⊥ = cc in no)) e
   picked_far (choice.Print place device) p e =
       row_done place (λ r. option_map (λ d. printing d r s) (device_at device r s))
-      (λ r at e. let k = mapped (λ d. printing d r s) (device_at device r s) e in
+      (λ r at e. let k = mapped x (λ d. printing d r s) (device_at device r s) e in
       absurd (let f = other_change (printing k.0 r s) (Started r.id (Some k.0)) refl k.1 in let no : ⊥ = cc in no)) e
   picked_far (choice.TooFar place) p e =
       row_done place (λ r. Some (holding r)) (λ r at e.
@@ -99,10 +96,10 @@ module _ (now : ℕ) (s : Plain) (st : IsSteady s) (x : Stepped (List ℕ)) (id 
       )) e
   picked_far (choice.Local place dest) p e =
       row_done place (λ r. option_map (λ d. moving d s r) (dest_at dest r s))
-      (λ r at e. let k = mapped (λ d. moving d s r) (dest_at dest r s) e in moved_far (first_refusal (local_causes k.0.queue s r)) k.0.queue r k.1) e
+      (λ r at e. let k = mapped x (λ d. moving d s r) (dest_at dest r s) e in moved_far (first_refusal (local_causes k.0.queue s r)) k.0.queue r k.1) e
   picked_far (choice.Hand place dest) p e =
       row_done place (λ r. option_map (λ d. open_hand d now s r) (dest_at dest r s))
-      (λ r at e. let k = mapped (λ d. open_hand d now s r) (dest_at dest r s) e in opened_far r k.0 (find_peer k.0.host s) k.1) e
+      (λ r at e. let k = mapped x (λ d. open_hand d now s r) (dest_at dest r s) e in opened_far r k.0 (find_peer k.0.host s) k.1) e
 
   -- what is held came too far
   pub holds_far : start now s ≡ Some x → IsFar

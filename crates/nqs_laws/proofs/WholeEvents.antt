@@ -242,6 +242,11 @@ took site w ns sound h e comes open_still up = of (host_of h w) refl up
     of None k up = absurd (true≢false (sym up ∙ ap (passes (λ (x : Host). x.up)) k))
     of (Some host) k up = by host k host.up refl up
 
+get_first : {V : Type 0} (a b : List V) (n : ℕ) (m : V) → slice_get a n ≡ Some m → slice_get (a ++ b) n ≡ Some m
+get_first [] b n m e = absurd (none-some m e)
+get_first (x ∷ a) b zero m e = e
+get_first (x ∷ a) b (suc n) m e = get_first a b n m e
+
 module _ (site : List (List ℕ)) (w v : World) (h : HostId) (e : Event) (k : Took site w v h e) where
   -- packets that were sent stay
   took_more : More k.stepped v
@@ -257,11 +262,6 @@ module _ (site : List (List ℕ)) (w v : World) (h : HostId) (e : Event) (k : To
       ap (λ l. slice_get l n) (took_more.1 ∙ ap (λ l. l ++ took_more.0) k.did.packets)
       ∙ get_first (w.packets ++ sent_in (map shown (step _ k.host.state).outputs)) took_more.0 n m
       (get_first w.packets (sent_in (map shown (step _ k.host.state).outputs)) n m e)
-    where
-      get_first : {V : Type 0} (a b : List V) (n : ℕ) (m : V) → slice_get a n ≡ Some m → slice_get (a ++ b) n ≡ Some m
-      get_first [] b n m e = absurd (none-some m e)
-      get_first (x ∷ a) b zero m e = e
-      get_first (x ∷ a) b (suc n) m e = get_first a b n m e
 
   -- what its step sends is sent
   pub sent_now : (m : Message) → Sends (step e k.host.state) m → WasSentBetween w v m
@@ -273,7 +273,7 @@ module _ (site : List (List ℕ)) (w v : World) (h : HostId) (e : Event) (k : To
         record {
           fresh = omega arith;
           there = ap (λ l. slice_get l (length w.packets + sends.0)) all ∙
-              (get_second w.packets (os ++ took_more.0) sends.0 (length w.packets + sends.0) refl ∙ get_in os took_more.0 sends.0 m sends.1);
+              (get_second w.packets (os ++ took_more.0) sends.0 (length w.packets + sends.0) refl ∙ get_first os took_more.0 sends.0 m sends.1);
         },
       )
     where
@@ -281,11 +281,6 @@ module _ (site : List (List ℕ)) (w v : World) (h : HostId) (e : Event) (k : To
       get_second [] b n k e = let same : k ≡ n = omega (arith, e) in ap (slice_get b) same
       get_second (x ∷ a) b n zero e = absurd (omega (arith, e))
       get_second (x ∷ a) b n (suc k) e = get_second a b n k (omega (arith, e))
-
-      get_in : {V : Type 0} (a b : List V) (n : ℕ) (m : V) → slice_get a n ≡ Some m → slice_get (a ++ b) n ≡ Some m
-      get_in [] b n m e = absurd (none-some m e)
-      get_in (x ∷ a) b zero m e = e
-      get_in (x ∷ a) b (suc n) m e = get_in a b n m e
 
   -- what its step leaves, and each start keeps, is so afterwards
   pub holds_after : (P : Plain → Type 0) → ((s : Plain) → IsInOrder s → (now : ℕ) (x : Stepped (List ℕ)) → start now s ≡ Some x → P s → P (after_step x s))

@@ -18,3 +18,4 @@ pub mod HeldBy
 pub mod TakenOut
 pub mod Rest
 pub mod Checkpoints
+pub mod Outputs
