@@ -17,6 +17,7 @@ use Rattle.nqs_words.specs.declared.keywords.NoKeyword.{NoKeyword}
 use Rattle.nqs_words.specs.declared.keywords.NoKeyword.TheVariants.{Unknown, Ambiguous}
 use Rattle.nqs_words.specs.declared.values.NotNamed.{NotNamed}
 use Rattle.nqs_words.specs.declared.values.NotNamed.TheVariants.{BadNumber, BadName}
+use Rattle.nqs_words.proofs.Readings.{failed, fail, bind, reads-or_fault}
 use Rattle.nqs_qmgr.specs.declared.head.Head.{Head}
 use Rattle.nqs_qmgr.specs.Read.{Read, ◌>>=◌, or_fault}
 use Rattle.nqs_qmgr.specs.Heads.{word_text, word_at, name_at, or_not_named, request_at, nothing_more, nothing_after, stem_of, chosen, head_of, head_at, bare}
@@ -28,18 +29,6 @@ use Rattle.nqs_qmgr.proofs.Said.{means-word}
 
 abbrev pub Fails : {A : Type 0} → Read A → (GrammarFault → Type 0) → Type 0
 Fails {A} r F = (f : GrammarFault) → (r ≡ Err f) ↔ F f
-
--- ---- steps
-
-pub failed : {A B : Type 0} (r : Read A) (g : A → Read B) (f : GrammarFault) → (r >>= g) ≡ Err f → (r ≡ Err f) ⊎ ((a : A) × (r ≡ Ok a) × (g a ≡ Err f))
-failed (Ok a) g f e = inr (a, refl, e)
-failed {A} (Err x) g f e = let same : x ≡ f = cc in inl (ap (λ (y : GrammarFault). Err y) same)
-
-pub fail : {A B : Type 0} (r : Read A) (g : A → Read B) (f : GrammarFault) → r ≡ Err f → (r >>= g) ≡ Err f
-fail r g f e = rw e refl
-
-pub fail_behind : {A B : Type 0} (r : Read A) (g : A → Read B) (a : A) (f : GrammarFault) → r ≡ Ok a → g a ≡ Err f → (r >>= g) ≡ Err f
-fail_behind r g a f e h = rw e h
 
 -- ---- joined relations
 
@@ -53,7 +42,7 @@ fails-bind {A} {B} r g P F G means fails behind f = ((λ e. to (failed r g f e))
 
     from : F f ⊎ ((a : A) × P a × G a f) → (r >>= g) ≡ Err f
     from (inl h) = fail r g f ((fails f).1 h)
-    from (inr t) = fail_behind r g t.0 f ((means t.0).1 t.1) ((behind t.0 f).1 t.2)
+    from (inr t) = bind r g t.0 (Err f) ((means t.0).1 t.1) ((behind t.0 f).1 t.2)
 
 -- a value that only decides whether the reading goes on
 pub fails-then : {A B : Type 0} (r : Read A) (g : A → Read B) (P : A → Type 0) (F G : GrammarFault → Type 0)
@@ -66,7 +55,7 @@ fails-then {A} {B} r g P F G means fails behind f = ((λ e. to (failed r g f e))
 
     from : F f ⊎ (((a : A) × P a) × G f) → (r >>= g) ≡ Err f
     from (inl h) = fail r g f ((fails f).1 h)
-    from (inr t) = fail_behind r g t.0.0 f ((means t.0.0).1 t.0.1) ((behind t.0.0 f).1 t.1)
+    from (inr t) = bind r g t.0.0 (Err f) ((means t.0.0).1 t.0.1) ((behind t.0.0 f).1 t.1)
 
 -- a value with the place behind it
 pub fails-after : {A B : Type 0} (r : Read (A × ℕ)) (g : A × ℕ → Read B) (P : A × ℕ → Type 0) (F : GrammarFault → Type 0) (G : ℕ → GrammarFault → Type 0)
@@ -80,7 +69,7 @@ fails-after {A} {B} r g P F G means fails behind f = ((λ e. to (failed r g f e)
 
     from : F f ⊎ ((after : ℕ) × ((a : A) × P (a, after)) × G after f) → (r >>= g) ≡ Err f
     from (inl h) = fail r g f ((fails f).1 h)
-    from (inr t) = fail_behind r g (t.1.0, t.0) f ((means (t.1.0, t.0)).1 t.1.1) ((behind (t.1.0, t.0) f).1 t.2)
+    from (inr t) = bind r g (t.1.0, t.0) (Err f) ((means (t.1.0, t.0)).1 t.1.1) ((behind (t.1.0, t.0) f).1 t.2)
 
 -- what is made of the value at the end fails nowhere
 pub fails-map : {A B : Type 0} (r : Read A) (h : A → B) (F : GrammarFault → Type 0) → Fails r F → Fails (r >>= (λ a. Ok (h a))) F
@@ -95,13 +84,9 @@ fails-map {A} {B} r h F fails f = ((λ e. to (failed r g f e)), λ x. fail r g f
 
 -- ---- words
 
-pub fails-or_fault : {A : Type 0} (o : Option A) (x : GrammarFault) → Fails (or_fault o x) (λ (f : GrammarFault). (o ≡ None) × (f ≡ x))
-fails-or_fault {A} (Some a) x f = ((λ e. cc), (λ h. let no = h.0 in cc))
-fails-or_fault {A} None x f = ((λ e. (refl, cc)), (λ h. ap (λ (y : GrammarFault). Err y) (sym h.1)))
-
 pub fails-word : (line : List ℕ) (place : ℕ) → Fails (word_at line place) (NoWord line place)
 unfolding word_at
-fails-word line place = fails-or_fault (next_word SpacesAndTabs line place) (fault.Missing (length line))
+fails-word line place = (reads-or_fault (next_word SpacesAndTabs line place) (fault.Missing (length line))).1
 
 pub fails-end : (line : List ℕ) (place : ℕ) → Fails (nothing_after line place) (WordTooMany line place)
 unfolding nothing_after
@@ -120,7 +105,7 @@ fails-name line place =
     (means-word line place) (fails-word line place)
     (λ (word : Word). fails-map (or_fault (name_of (word_text line word)) (fault.BadName word.start)) (λ (name : List ℕ). (name, word.end))
     (λ (f : GrammarFault). (name_of (word_text line word) ≡ None) × (f ≡ fault.BadName word.start))
-    (fails-or_fault (name_of (word_text line word)) (fault.BadName word.start)))
+    (reads-or_fault (name_of (word_text line word)) (fault.BadName word.start)).1)
 
 unread : (place : ℕ) (why : NotNamed) → or_not_named place (Err why) ≡ Err (unread_request why place)
 unread place BadNumber = refl
@@ -208,15 +193,14 @@ fails-valued {A} read bad line head f = by (nat_lt head.stem head.word.end) refl
     by true is = (
       (λ e. inr (
         ltb-true head.stem head.word.end is,
-        (fails-or_fault (read (slice_range line (head.stem + 1) head.word.end))
-            (bad (head.stem + 1)) f).0 e,
+        ((reads-or_fault (read (slice_range line (head.stem + 1) head.word.end)) (bad (head.stem + 1))).1 f).0 e,
       )),
       from,
     )
       where
         from : NoValue read bad line head f → g (head.stem + 1) ≡ Err f
         from (inl h) = no_two head.stem head.word.end (ltb-true head.stem head.word.end is) h.0
-        from (inr h) = (fails-or_fault (read (slice_range line (head.stem + 1) head.word.end)) (bad (head.stem + 1)) f).1 h.1
+        from (inr h) = ((reads-or_fault (read (slice_range line (head.stem + 1) head.word.end)) (bad (head.stem + 1))).1 f).1 h.1
     by false is = ((λ e. inl (ltb-false head.stem head.word.end is, cc)), from)
       where
         from : NoValue read bad line head f → ◌≡◌ {A = Read A} (Err (fault.Missing head.word.end)) (Err f)

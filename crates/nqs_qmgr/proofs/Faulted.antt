@@ -14,6 +14,8 @@ use Rattle.nqs_words.specs.declared.words.Word.{Word}
 use Rattle.nqs_words.specs.declared.words.Gaps.TheVariants.{SpacesAndTabs}
 use Rattle.nqs_words.specs.declared.keyword.Keyword.{Keyword}
 use Rattle.nqs_words.specs.declared.keyword.Keyword.TheVariants as k
+use Rattle.nqs_words.proofs.Missing.{missing}
+use Rattle.nqs_words.proofs.Readings.{failed}
 use Rattle.nqs_qmgr.specs.declared.head.Head.{Head}
 use Rattle.nqs_qmgr.specs.declared.options.Settings.{Settings}
 use Rattle.nqs_qmgr.specs.Read.{Read, ◌>>=◌}
@@ -29,8 +31,8 @@ use Rattle.nqs_qmgr.specs.Faults.{a_setting, some_options, Misgiven, FaultsBehin
 use Rattle.nqs_qmgr.specs.Faults.{Faults}
 use Rattle.nqs_qmgr.specs.Law.{FindsTheFault, SaysOrFaults, NeverBoth, OneCommand, OneFault, Answers}
 use Rattle.nqs_qmgr.proofs.Said.{means-name, means-request, head_of-Ok, head_of-has, means-head, means-valued}
-use Rattle.nqs_qmgr.proofs.Shapes.{means-option, missing, left, fewer, reads_said}
-use Rattle.nqs_qmgr.proofs.Fails.{Fails, failed, fails-bind, fails-then, fails-after, fails-map, fails-end, fails-name, fails-request, fails-head_of}
+use Rattle.nqs_qmgr.proofs.Shapes.{means-option, left, fewer, reads_said}
+use Rattle.nqs_qmgr.proofs.Fails.{Fails, fails-bind, fails-then, fails-after, fails-map, fails-end, fails-name, fails-request, fails-head_of}
 use Rattle.nqs_qmgr.proofs.Fails.{fails-head, fails-bare, fails-valued}
 
 -- ---- what stands behind a keyword

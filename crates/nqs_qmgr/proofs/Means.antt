@@ -1,32 +1,13 @@
 -- What a reading means: which values it gives, as a relation. Readings are joined as their
 -- relations are.
-use Rattle.std.proofs.Common.{◌≡◌, ◌↔◌, ℕ, Some, None, Option, Ok, Err, refl, ap, sym, subst}
-use Rattle.nqs_types.specs.declared.fault.GrammarFault.{GrammarFault}
-use Rattle.nqs_qmgr.specs.Read.{Read, ◌>>=◌, or_fault}
+use Rattle.std.proofs.Common.{◌≡◌, ◌↔◌, ℕ, Ok, refl, ap, sym, subst}
+use Rattle.nqs_words.proofs.Readings.{given, bound, bind}
+use Rattle.nqs_qmgr.specs.Read.{Read, ◌>>=◌}
 
 abbrev pub Means : {A : Type 0} → Read A → (A → Type 0) → Type 0
 Means {A} r P = (a : A) → (r ≡ Ok a) ↔ P a
 
--- ---- steps
-
-pub bound : {A B : Type 0} (r : Read A) (f : A → Read B) (b : B) → (r >>= f) ≡ Ok b → (a : A) × (r ≡ Ok a) × (f a ≡ Ok b)
-bound (Ok a) f b e = (a, refl, e)
-bound (Err x) f b e = cc
-
-pub bind : {A B : Type 0} (r : Read A) (f : A → Read B) (a : A) (b : B) → r ≡ Ok a → f a ≡ Ok b → (r >>= f) ≡ Ok b
-bind r f a b e g = rw e g
-
-pub or_fault-Ok : {A : Type 0} (o : Option A) (x : GrammarFault) (a : A) → or_fault o x ≡ Ok a → o ≡ Some a
-or_fault-Ok (Some b) x a e = cc
-or_fault-Ok None x a e = cc
-
-pub or_fault-Some : {A : Type 0} (o : Option A) (x : GrammarFault) (a : A) → o ≡ Some a → or_fault o x ≡ Ok a
-or_fault-Some o x a e = rw e refl
-
 -- ---- joined relations
-
-given : {A : Type 0} (a b : A) → ◌≡◌ {A = Read A} (Ok a) (Ok b) → b ≡ a
-given a b e = cc
 
 pub means-Ok : {A : Type 0} (a : A) → Means (Ok a) (λ (b : A). b ≡ a)
 means-Ok {A} a b = (given a b, λ e. ap (λ (c : A). Ok c) (sym e))
@@ -35,7 +16,7 @@ pub means-bind : {A B : Type 0} (r : Read A) (f : A → Read B) (P : A → Type 
     → Means r P → ((a : A) → Means (f a) (Q a)) → Means (r >>= f) (λ (b : B). (a : A) × P a × Q a b)
 means-bind r f P Q hr hf b = (
   (λ e. let t = bound r f b e in (t.0, (hr t.0).0 t.1, (hf t.0 b).0 t.2)),
-  (λ h. bind r f h.0 b ((hr h.0).1 h.1) ((hf h.0 b).1 h.2)),
+  (λ h. bind r f h.0 (Ok b) ((hr h.0).1 h.1) ((hf h.0 b).1 h.2)),
 )
 
 -- a value, made into another
@@ -47,7 +28,7 @@ pub means-then : {B : Type 0} (r : Read (Unit {0})) (s : Unit {0} → Read B) (P
     → Means r (λ (u : Unit {0}). P) → Means (s tt) Q → Means (r >>= s) (λ (b : B). P × Q b)
 means-then r s P Q hr hs b = (
   (λ e. let t = bound r s b e in ((hr t.0).0 t.1, (hs b).0 t.2)),
-  (λ h. bind r s tt b ((hr tt).1 h.0) ((hs b).1 h.1)),
+  (λ h. bind r s tt (Ok b) ((hr tt).1 h.0) ((hs b).1 h.1)),
 )
 
 -- a value with the place behind it, and the end there
@@ -60,7 +41,7 @@ means-last {A} r end P E hr he a = (
       let d = bound (end b.0.1) (g b.0) a b.2 in
       let same = given b.0.0 a d.2 in
       (b.0.1, subst (λ (x : A). P (x, b.0.1)) (sym same) ((hr b.0).0 b.1), (he b.0.1 d.0).0 d.1)),
-  (λ h. bind r f (a, h.0) a ((hr (a, h.0)).1 h.1) (bind (end h.0) (g (a, h.0)) tt a ((he h.0 tt).1 h.2) refl)),
+  (λ h. bind r f (a, h.0) (Ok a) ((hr (a, h.0)).1 h.1) (bind (end h.0) (g (a, h.0)) tt (Ok a) ((he h.0 tt).1 h.2) refl)),
 )
   where
     g : A × ℕ → Unit {0} → Read A
@@ -79,7 +60,7 @@ means-pair-after {A} {B} r s P Q hr hs z = (
       let d = bound (s b.0.1) (g b.0) z b.2 in
       let same = given {A = A × B} (b.0.0, d.0) z d.2 in
       subst (λ (x : A × B). (after : ℕ) × P (x.0, after) × Q after x.1) (sym same) (b.0.1, (hr b.0).0 b.1, (hs b.0.1 d.0).0 d.1)),
-  (λ h. bind r f (z.0, h.0) z ((hr (z.0, h.0)).1 h.1) (bind (s h.0) (g (z.0, h.0)) z.1 z ((hs h.0 z.1).1 h.2) refl)),
+  (λ h. bind r f (z.0, h.0) (Ok z) ((hr (z.0, h.0)).1 h.1) (bind (s h.0) (g (z.0, h.0)) z.1 (Ok z) ((hs h.0 z.1).1 h.2) refl)),
 )
   where
     g : A × ℕ → B → Read (A × B)
@@ -97,7 +78,7 @@ means-pair {A} {B} r s P Q hr hs z = (
       let d = bound s (g b.0) z b.2 in
       let same = given {A = A × B} (b.0, d.0) z d.2 in
       subst (λ (x : A × B). P x.0 × Q x.1) (sym same) ((hr b.0).0 b.1, (hs d.0).0 d.1)),
-  (λ h. bind r f z.0 z ((hr z.0).1 h.0) (bind s (g z.0) z.1 z ((hs z.1).1 h.1) refl)),
+  (λ h. bind r f z.0 (Ok z) ((hr z.0).1 h.0) (bind s (g z.0) z.1 (Ok z) ((hs z.1).1 h.1) refl)),
 )
   where
     g : A → B → Read (A × B)
@@ -115,7 +96,7 @@ means-ended {A} r end P E hr he a = (
       let d = bound end (g b.0) a b.2 in
       let same = given b.0 a d.2 in
       (subst P (sym same) ((hr b.0).0 b.1), (he d.0).0 d.1)),
-  (λ h. bind r f a a ((hr a).1 h.0) (bind end (g a) tt a ((he tt).1 h.1) refl)),
+  (λ h. bind r f a (Ok a) ((hr a).1 h.0) (bind end (g a) tt (Ok a) ((he tt).1 h.1) refl)),
 )
   where
     g : A → Unit {0} → Read A

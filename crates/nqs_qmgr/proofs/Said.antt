@@ -14,22 +14,19 @@ use Rattle.nqs_words.specs.declared.keywords.NoKeyword.{NoKeyword}
 use Rattle.nqs_words.specs.declared.keywords.NoKeyword.TheVariants.{Unknown, Ambiguous}
 use Rattle.nqs_words.specs.declared.values.NotNamed.{NotNamed}
 use Rattle.nqs_words.specs.declared.values.NotNamed.TheVariants.{BadNumber, BadName}
+use Rattle.nqs_words.proofs.Readings.{bound, bind, reads-or_fault}
 use Rattle.nqs_qmgr.specs.declared.head.Head.{Head}
 use Rattle.nqs_qmgr.specs.Read.{Read, ◌>>=◌, or_fault}
 use Rattle.nqs_qmgr.specs.Heads.{word_text, word_at, name_at, or_not_named, request_at, nothing_more, nothing_after, last_name, stem_of, chosen, head_of}
 use Rattle.nqs_qmgr.specs.Heads.{head_at, bare, value_at, valued}
 use Rattle.nqs_qmgr.specs.Says.{HasHead, HasNoValue, Given, Ends, NameIs, RequestIs, LastName}
-use Rattle.nqs_qmgr.proofs.Means.{Means, bound, bind, or_fault-Ok, or_fault-Some, means-last}
+use Rattle.nqs_qmgr.proofs.Means.{Means, means-last}
 
 -- ---- words
 
 pub means-word : (line : List ℕ) (place : ℕ) → Means (word_at line place) (λ (word : Word). next_word SpacesAndTabs line place ≡ Some word)
 unfolding word_at
-means-word line place word = (
-  or_fault-Ok (next_word SpacesAndTabs line place) (fault.Missing (length line)) word,
-  or_fault-Some (next_word SpacesAndTabs line place)
-      (fault.Missing (length line)) word,
-)
+means-word line place = (reads-or_fault (next_word SpacesAndTabs line place) (fault.Missing (length line))).0
 
 pub means-end : (line : List ℕ) (place : ℕ) → Means (nothing_after line place) (λ (u : Unit {0}). Ends line place)
 unfolding nothing_after
@@ -48,12 +45,12 @@ means-name line place p = (
   (λ e.
       let d = bound (word_at line place) f p e in
       let n = bound (or_fault (name_of (word_text line d.0)) (fault.BadName d.0.start)) (g d.0) p d.2 in
-      let named = or_fault-Ok (name_of (word_text line d.0)) (fault.BadName d.0.start) n.0 n.1 in
+      let named = ((reads-or_fault (name_of (word_text line d.0)) (fault.BadName d.0.start)).0 n.0).0 n.1 in
       let same = named_pair n.0 d.0.end p n.2 in
       (d.0, (means-word line place d.0).0 d.1, named ∙ ap (λ (x : List ℕ). Some x) same.0, same.1)),
-  (λ h. bind (word_at line place) f h.0 p ((means-word line place h.0).1 h.1)
-      (bind (or_fault (name_of (word_text line h.0)) (fault.BadName h.0.start)) (g h.0) p.0 p
-      (or_fault-Some (name_of (word_text line h.0)) (fault.BadName h.0.start) p.0 h.2)
+  (λ h. bind (word_at line place) f h.0 (Ok p) ((means-word line place h.0).1 h.1)
+      (bind (or_fault (name_of (word_text line h.0)) (fault.BadName h.0.start)) (g h.0) p.0 (Ok p)
+      (((reads-or_fault (name_of (word_text line h.0)) (fault.BadName h.0.start)).0 p.0).1 h.2)
       (ap (λ (n : ℕ). Ok (p.0, n)) (sym h.3)))),
 )
   where
@@ -77,8 +74,8 @@ means-request line place p = (
       let named = named-Ok d.0.start (named_of (word_text line d.0)) n.0 n.1 in
       let same = named_pair n.0 d.0.end p n.2 in
       (d.0, (means-word line place d.0).0 d.1, named ∙ ap (λ (x : Named). Ok x) same.0, same.1)),
-  (λ h. bind (word_at line place) f h.0 p ((means-word line place h.0).1 h.1)
-      (bind (or_not_named h.0.start (named_of (word_text line h.0))) (g h.0) p.0 p (ap (or_not_named h.0.start) h.2)
+  (λ h. bind (word_at line place) f h.0 (Ok p) ((means-word line place h.0).1 h.1)
+      (bind (or_not_named h.0.start (named_of (word_text line h.0))) (g h.0) p.0 (Ok p) (ap (or_not_named h.0.start) h.2)
       (ap (λ (n : ℕ). Ok (p.0, n)) (sym h.3)))),
 )
   where
@@ -120,7 +117,7 @@ pub means-head : (ks : List Keyword) (line : List ℕ) (place : ℕ) → Means (
 unfolding head_at
 means-head ks line place head = (
   (λ e. let b = bound (word_at line place) (head_of ks line) head e in head_of-Ok ks line place b.0 head ((means-word line place b.0).0 b.1) b.2),
-  (λ h. bind (word_at line place) (head_of ks line) head.word head ((means-word line place head.word).1 h.next) (head_of-has ks line place head h)),
+  (λ h. bind (word_at line place) (head_of ks line) head.word (Ok head) ((means-word line place head.word).1 h.next) (head_of-has ks line place head h)),
 )
 
 tested : {A : Type 0} (t : Bool) (x : GrammarFault) (a b : A) → cond t (Err x) (Ok a) ≡ Ok b → (t ≡ false) × (b ≡ a)
@@ -163,10 +160,10 @@ means-valued {A} read bad line head a = (
   (λ e.
       let b = bound (value_at head) f a e in
       let v = value_at-Ok head b.0 b.1 in
-      let r = or_fault-Ok (read (slice_range line b.0 head.word.end)) (bad b.0) a b.2 in
+      let r = ((reads-or_fault (read (slice_range line b.0 head.word.end)) (bad b.0)).0 a).0 b.2 in
       (v.0, ap (λ (q : ℕ). read (slice_range line q head.word.end)) v.1 ∙ r)),
-  (λ h. bind (value_at head) f (head.stem + 1) a (value_at-has head h.0) (or_fault-Some (read (slice_range line (head.stem + 1) head.word.end))
-      (bad (head.stem + 1)) a h.1)),
+  (λ h. bind (value_at head) f (head.stem + 1) (Ok a) (value_at-has head h.0)
+      (((reads-or_fault (read (slice_range line (head.stem + 1) head.word.end)) (bad (head.stem + 1))).0 a).1 h.1)),
 )
   where
     f : ℕ → Read A

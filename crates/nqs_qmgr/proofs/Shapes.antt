@@ -12,6 +12,8 @@ use Rattle.nqs_words.specs.declared.words.Word.{Word}
 use Rattle.nqs_words.specs.declared.words.Gaps.TheVariants.{SpacesAndTabs}
 use Rattle.nqs_words.specs.declared.keyword.Keyword.{Keyword}
 use Rattle.nqs_words.specs.declared.keyword.Keyword.TheVariants as k
+use Rattle.nqs_words.proofs.Missing.{missing, missing_one}
+use Rattle.nqs_words.proofs.Readings.{bound}
 use Rattle.nqs_qmgr.specs.declared.head.Head.{Head}
 use Rattle.nqs_qmgr.specs.declared.options.Settings.{Settings}
 use Rattle.nqs_qmgr.specs.Read.{Read, ◌>>=◌}
@@ -24,7 +26,7 @@ use Rattle.nqs_qmgr.specs.Lines.{read_request_and_priority, read_name_and_forms,
 use Rattle.nqs_qmgr.specs.Says.{HasHead, HasNoValue, Given, Ends, NameIs, RequestIs, LastName, Alone, OneName, ValueAlone, ValueAndName, LastValue, RequestThen}
 use Rattle.nqs_qmgr.specs.Says.{NameThen, OneRequest, GivesOption, GiveOptions, Options, HasShape, AfterVerb}
 use Rattle.nqs_qmgr.specs.Law.{ReadsWhatIsSaid}
-use Rattle.nqs_qmgr.proofs.Means.{Means, bound, means-bind, means-map, means-then, means-last, means-pair, means-pair-after, means-ended, means-Ok}
+use Rattle.nqs_qmgr.proofs.Means.{Means, means-bind, means-map, means-then, means-last, means-pair, means-pair-after, means-ended, means-Ok}
 use Rattle.nqs_qmgr.proofs.Said.{means-end, means-name, means-request, means-last_name, head_of-Ok, head_of-has, means-head, means-bare, means-valued}
 
 -- ---- shapes without options
@@ -131,25 +133,16 @@ means-option line head s k.Destination =
     (means-valued dest_of fault.BadName line head))
 means-option line head s _ = λ (more : Settings). (λ e. cc, λ h. absurd h)
 
-unfoldable pub missing : Bool → ℕ
-missing true = 0
-missing false = 1
-
 -- how many options aren't given
 abbrev pub left : Settings → ℕ
 left s = missing (is_some s.priority) + missing (is_some s.run_limit) + missing s.pipe_only + missing (is_some s.destination)
 
-given_one : (b : Bool) → b ≡ false → missing b ≡ 1
-unfolding missing
-given_one true e = cc
-given_one false e = refl
-
 pub fewer : (line : List ℕ) (head : Head) (s : Settings) (keyword : Keyword) (more : Settings) → GivesOption line head s keyword more → left more + 1 ≡ left s
 unfolding missing
-fewer line head s k.Priority more h = let e = ap left h.1.2 in let g = given_one (is_some s.priority) h.0 in omega arith
-fewer line head s k.RunLimit more h = let e = ap left h.1.2 in let g = given_one (is_some s.run_limit) h.0 in omega arith
-fewer line head s k.PipeOnly more h = let e = ap left h.1.1 in let g = given_one s.pipe_only h.0 in omega arith
-fewer line head s k.Destination more h = let e = ap left h.1.2 in let g = given_one (is_some s.destination) h.0 in omega arith
+fewer line head s k.Priority more h = let e = ap left h.1.2 in let g = missing_one (is_some s.priority) h.0 in omega arith
+fewer line head s k.RunLimit more h = let e = ap left h.1.2 in let g = missing_one (is_some s.run_limit) h.0 in omega arith
+fewer line head s k.PipeOnly more h = let e = ap left h.1.1 in let g = missing_one s.pipe_only h.0 in omega arith
+fewer line head s k.Destination more h = let e = ap left h.1.2 in let g = missing_one (is_some s.destination) h.0 in omega arith
 fewer line head s _ more h = absurd h
 
 abbrev Rest : ℕ → List Keyword → List ℕ → Settings → Word → Read Settings

@@ -2,3 +2,5 @@ pub mod Names
 pub mod Steps
 pub mod Seconds
 pub mod Requests
+pub mod Readings
+pub mod Missing

@@ -234,6 +234,9 @@ read text = by_front (front_of text)
     by_front : (front : List ℕ) × (rest : List ℕ) × IsFront text front rest → IsRequestOrNot text (named_of text)
     by_front (front, rest, f) = by (seq_of front) refl (parts text front rest f)
       where
+        none : seq_of front ≡ None → (seq : ℕ) → IsSeq front seq → ⊥
+        none is seq s = let e : ◌≡◌ {A = Option ℕ} None (Some seq) = sym is ∙ is-seq front seq s in cc
+
         named : (seq : ℕ) (behind : List ℕ) → IsSeq front seq → rest ≡ 46 ∷ behind → (o : Option (List ℕ)) → name_of behind ≡ o
             → IsRequestOrNot text (with_host seq o)
         named seq behind s at (Some name) is =
@@ -255,14 +258,8 @@ read text = by_front (front_of text)
 
         by : (o : Option ℕ) → seq_of front ≡ o → ((rest ≡ []) × (named_of text ≡ of_parts (seq_of front) None))
             ⊎ ((behind : List ℕ) × (rest ≡ 46 ∷ behind) × (named_of text ≡ of_parts (seq_of front) (name_of behind))) → IsRequestOrNot text (named_of text)
-        by None is (inl p) = subst (IsRequestOrNot text) (sym (p.1 ∙ ap (λ (o : Option ℕ). of_parts o None) is)) (front, rest, f, none)
-          where
-            none : (seq : ℕ) → IsSeq front seq → ⊥
-            none seq s = let e : ◌≡◌ {A = Option ℕ} None (Some seq) = sym is ∙ is-seq front seq s in cc
-        by None is (inr p) = subst (IsRequestOrNot text) (sym (p.2 ∙ ap (λ (o : Option ℕ). of_parts o (name_of p.0)) is)) (front, rest, f, none)
-          where
-            none : (seq : ℕ) → IsSeq front seq → ⊥
-            none seq s = let e : ◌≡◌ {A = Option ℕ} None (Some seq) = sym is ∙ is-seq front seq s in cc
+        by None is (inl p) = subst (IsRequestOrNot text) (sym (p.1 ∙ ap (λ (o : Option ℕ). of_parts o None) is)) (front, rest, f, none is)
+        by None is (inr p) = subst (IsRequestOrNot text) (sym (p.2 ∙ ap (λ (o : Option ℕ). of_parts o (name_of p.0)) is)) (front, rest, f, none is)
         by (Some seq) is (inl p) = subst (IsRequestOrNot text) (sym (p.1 ∙ ap (λ (o : Option ℕ). of_parts o None) is))
             (front, rest, seq, f, seq-is front seq is, unnamed)
           where

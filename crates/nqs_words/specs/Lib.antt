@@ -1,4 +1,5 @@
 pub mod Words
+pub mod Reads
 pub mod Keywords
 pub mod Values
 pub mod Quoted
