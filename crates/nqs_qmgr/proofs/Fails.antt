@@ -1,7 +1,6 @@
 -- Which faults a reading has, as a relation. Readings are joined as their relations are.
-use Rattle.std.proofs.Common.{◌≡◌, ◌↔◌, ◌⊎◌, inl, inr, ℕ, ◌+◌, ◌<◌, ◌≤◌, List, length, slice_range, Some, None, Option, Result, Ok, Err, Bool, true, false}
-use Rattle.std.proofs.Common.{cond, nat_lt, refl, ap, sym, ◌∙◌, arith}
-use Rattle.std.proofs.lemmas.Bool.Decides.{nat_tests}
+use Rattle.std.proofs.Common.{◌≡◌, ◌↔◌, ◌⊎◌, inl, inr, ℕ, ◌+◌, List, length, slice_range, Some, None, Option, Result, Ok, Err, Bool, true, false}
+use Rattle.std.proofs.Common.{cond, nat_lt, refl, ap, sym, ◌∙◌}
 use Rattle.std.proofs.lemmas.Bool.{ltb-true, ltb-false}
 use Rattle.nqs_base.proofs.Plain.{no_two}
 use Rattle.nqs_types.specs.declared.ids.Named.{Named}

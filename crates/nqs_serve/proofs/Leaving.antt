@@ -7,6 +7,7 @@ use Rattle.nqs_state.specs.State.{Plain}
 use Rattle.nqs_types.specs.declared.event.Output.{Output}
 use Rattle.nqs_types.specs.declared.world.Which.{Which}
 use Rattle.nqs_outside.specs.declared.disk.Disk as disk
+use Rattle.nqs_outside.proofs.Roses.{rose_since}
 use Rattle.nqs_rules.specs.Stepped.{Stepped, shown}
 use Rattle.nqs_store.specs.Sound.{IsSoundHost}
 use Rattle.nqs_node.specs.Leaves as nodes
@@ -17,12 +18,14 @@ use Rattle.nqs_node.specs.declared.fault.NodeFault.TheVariants as node
 use Rattle.nqs_node.specs.declared.node.Node.{Node}
 use Rattle.nqs_node.proofs.Places.{on_ok}
 pub use Rattle.nqs_node.proofs.Places.{no_error}
-use Rattle.nqs_serve.specs.Leaves.{Leaves, TakesStep}
+use Rattle.nqs_serve.specs.Leaves.{Cuts, Leaves, TakesStep}
 use Rattle.nqs_serve.specs.Sends.{AreRight}
 use Rattle.nqs_serve.specs.declared.cut.Cut.{Cut}
 use Rattle.nqs_serve.specs.declared.cut.Cut.TheVariants as cut
-use Rattle.nqs_serve.proofs.Faults.{rose_behind, same_fault}
 use Rattle.nqs_serve.proofs.Sendable.{alike_right, alike_longer}
+
+same_fault : {T E : Type 0} (d e : E) → IsErrOf {T = T} (Err d) e → d ≡ e
+same_fault d e is = cc
 
 -- nothing happened
 pub none_left : {D T E : Type 0} {g : disk.Ghosts D} (node : Node D g) (failed : E) (result : Result T E) → (IsErrOf result failed → ⊥)
@@ -43,7 +46,7 @@ then_left a b c failed x result one two = record {
   site = two.site ∙ one.site;
   running = two.running;
   later = λ which. omega (arith, one.later which, two.later which);
-  broken = λ is. let broke = two.broken is in (broke.0, (broke.1.0, rose_behind _ _ _ (one.later broke.1.0) broke.1.1));
+  broken = λ is. let broke = two.broken is in (broke.0, (broke.1.0, rose_since _ _ _ (one.later broke.1.0) broke.1.1));
 }
 
 -- it went well, and what is answered isn't that a call of a disk failed
@@ -72,11 +75,6 @@ left_by a b failed e lost k is_disk left = record {
 pub both_left : {D T U V E : Type 0} {g : disk.Ghosts D} (a b c : Node D g) (failed : E) (x : T) (y : U) (z : V) → Leaves a b failed (Ok x)
     → Leaves b c failed (Ok y) → Leaves a c failed (Ok z)
 both_left a b c failed x y z one two = left_as a c failed failed y (Ok z) (no_error z failed) (then_left a b c failed x (Ok y) one two)
-
--- a fault of the node cuts an event off by this
-abbrev pub Cuts : NodeFault → Cut → Type 0
-Cuts e cut.Disk = (which : Which) × (e ≡ node.Disk which)
-Cuts e (cut.Memory memory) = e ≡ node.Memory memory
 
 cut_disk : (e : NodeFault) (k : Cut) → Cuts e k → k ≡ cut.Disk → (which : Which) × (e ≡ node.Disk which)
 cut_disk e cut.Disk cuts is = cuts

@@ -1,12 +1,10 @@
 mod Starting
 mod Lines
 mod Lists
-mod Faults
 mod Sane
 pub mod Acts
 pub mod Folds
 mod Emptied
-mod Right
 mod Sendable
 mod Ending
 mod Known

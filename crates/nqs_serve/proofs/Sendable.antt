@@ -1,5 +1,5 @@
 -- What goes out of a node is right, whatever bytes its disks give.
-use Rattle.std.proofs.Common.{◌≡◌, ℕ, ◌≤◌, Bool, true, ◌&&◌, nat_le, List, [], ◌∷◌, ◌++◌, map, length, Option, None, Some, refl, sym, ap, subst, ◌∙◌, arith}
+use Rattle.std.proofs.Common.{◌≡◌, ℕ, ◌≤◌, Bool, true, ◌&&◌, ◌||◌, nat_le, List, [], ◌∷◌, ◌++◌, map, length, Option, None, Some, refl, sym, ap, subst, ◌∙◌, arith}
 use Rattle.std.specs.List.{list_all}
 use Rattle.std.specs.Option.{IfSome}
 use Rattle.std.proofs.lemmas.Bool.{and_parts, and_from, ltb-true, lt-ltb, leb-true}
@@ -14,6 +14,7 @@ use Rattle.nqs_types.specs.declared.message.Body.TheVariants.{Offer, Refused, St
 use Rattle.nqs_types.specs.declared.change.Change.{Change}
 use Rattle.nqs_types.specs.declared.request.Carried.{Carried}
 use Rattle.nqs_types.specs.declared.event.Event.{Event}
+use Rattle.nqs_types.specs.declared.event.Event.TheVariants as event
 use Rattle.nqs_types.specs.declared.event.Output.{Output}
 use Rattle.nqs_types.specs.declared.event.Output.TheVariants as out
 use Rattle.nqs_state.specs.State.{State, Plain}
@@ -24,7 +25,7 @@ use Rattle.nqs_rules.specs.Sane.{is_of_site, is_short_script, is_sane_id, is_san
 use Rattle.nqs_rules.specs.Start.{start}
 use Rattle.nqs_rules.specs.Step.{step}
 use Rattle.nqs_rules.specs.Stepped.{Stepped, quiet, shown, sent_with}
-use Rattle.nqs_rules.specs.World.{sent_by}
+use Rattle.nqs_rules.specs.World.{sent_by, body_number}
 use Rattle.nqs_rules.proofs.FindKept.{all-mapped}
 use Rattle.nqs_rules.proofs.ListFacts.{list_all-weaker}
 use Rattle.nqs_rules.proofs.StartFits.{start_fits}
@@ -35,13 +36,12 @@ use Rattle.nqs_laws.specs.Words.{body_passes}
 use Rattle.nqs_laws.proofs.Frame.{sent_in}
 use Rattle.nqs_laws.proofs.RowTests.{AllPass}
 use Rattle.nqs_laws.proofs.Sides.{AreShort}
-use Rattle.nqs_laws.proofs.Sent.{is_fine_message, all_sent, step_fine, start_sends}
+use Rattle.nqs_laws.proofs.Sent.{is_fine_message, is_good_output, GoesBack, all_good, all_sent, step_good, start_good, step_fine, start_sends}
 use Rattle.nqs_back.specs.Bare.{emptied, without_bytes}
 use Rattle.nqs_node.specs.Carried.{started}
 use Rattle.nqs_node.specs.Reading.{carries_short, sends_short, AreShort as AreShortOutputs}
-use Rattle.nqs_serve.specs.Sends.{has_number, bare, is_right_message, is_right_output, AreRight, is_right_event}
+use Rattle.nqs_serve.specs.Sends.{has_number, is_right_id, bare, is_right_message, is_right_output, AreRight, is_right_event}
 use Rattle.nqs_serve.proofs.Emptied.{order_stays}
-use Rattle.nqs_serve.proofs.Right.{is_told, step_told, start_told}
 
 -- what went out stays, and more may have come
 pub alike_longer : (was now went : List Output) → map without_bytes now ≡ map without_bytes was ++ map without_bytes went → length was ≤ length now
@@ -115,22 +115,30 @@ module _ (hosts : ℕ) where
       (sym (list_all-append (is_fine_message hosts any) (sent_by o) (sent_in os)) ∙ sane) in
       and_from (sends_short o) (list_all sends_short os) (short_one o k.0) (shorts os k.1)
 
-  right : (o : Output) → is_told hosts o ≡ true → list_all (is_fine_message hosts any) (sent_by o) ≡ true → is_right_output hosts o ≡ true
-  right (out.Send m) told sane =
-      let k = and_parts (is_sane_message hosts m) (body_passes any m.body) (and_parts (is_fine_message hosts any m) true sane).0 in
-      let q = and_parts (is_of_site hosts m.from) (is_sane_body hosts m.body) k.0 in
-      and_from (is_of_site hosts m.to && has_number m.body) (is_sane_message hosts (bare m)) told
-      (and_from (is_of_site hosts m.from) (is_sane_body hosts (sent_with [] m.body)) q.0 (sane_bare m.body q.1))
-  right (out.Ack port id n) told sane = told
-  right o told sane = refl
+  -- to a host of the site, under a number from 1 on
+  abbrev goes : HostId → ℕ → Bool
+  goes to n = is_of_site hosts to && nat_le 1 n
 
-  rights : (os : List Output) → list_all (is_told hosts) os ≡ true → list_all (is_fine_message hosts any) (sent_in os) ≡ true → AreRight hosts os
-  rights [] told sane = refl
-  rights (o ∷ os) told sane =
-      let t = and_parts (is_told hosts o) (list_all (is_told hosts) os) told in
-      let k = and_parts (list_all (is_fine_message hosts any) (sent_by o)) (list_all (is_fine_message hosts any) (sent_in os))
-      (sym (list_all-append (is_fine_message hosts any) (sent_by o) (sent_in os)) ∙ sane) in
-      and_from (is_right_output hosts o) (list_all (is_right_output hosts) os) (right o t.0 k.0) (rights os t.1 k.1)
+  goes_near : (to : HostId) (n : ℕ) → is_of_site hosts to ≡ true → nat_le 1 n ≡ true → goes to n ≡ true
+  goes_near to n site some = and_from (is_of_site hosts to) (nat_le 1 n) site some
+
+  goes_back : (e : Event) → is_right_event hosts e ≡ true → GoesBack goes (is_right_id hosts) e
+  goes_back (event.Arrived now m) k = k
+  goes_back (event.Ended now port id start status output error) k = λ e. subst (λ (b : Bool). (b || is_right_id hosts id) ≡ true) e k
+  goes_back e k = tt
+
+  right : (o : Output) → is_good_output hosts any goes (is_right_id hosts) o ≡ true → is_right_output hosts o ≡ true
+  right (out.Send m) good =
+      let k = and_parts (is_fine_message hosts any m) (goes m.to (body_number m.body)) good in
+      let sane = (and_parts (is_sane_message hosts m) (body_passes any m.body) k.0).0 in
+      let q = and_parts (is_of_site hosts m.from) (is_sane_body hosts m.body) sane in
+      and_from (is_of_site hosts m.to && has_number m.body) (is_sane_message hosts (bare m)) k.1
+      (and_from (is_of_site hosts m.from) (is_sane_body hosts (sent_with [] m.body)) q.0 (sane_bare m.body q.1))
+  right (out.Ack port id n) good = good
+  right o good = refl
+
+  rights : (os : List Output) → list_all (is_good_output hosts any goes (is_right_id hosts)) os ≡ true → AreRight hosts os
+  rights os good = list_all-weaker (is_good_output hosts any goes (is_right_id hosts)) (is_right_output hosts) right os good
 
 -- a site has few hosts
 module _ (hosts : ℕ) (few : hosts ≤ 16) where
@@ -197,7 +205,10 @@ module _ (host : State Extent) (order : IsInOrder host) where
   -- what goes out of an event
   pub step_right : (e : Event) → is_sane_event hosts e ≡ true → is_right_event hosts e ≡ true → AreRight 16 (map shown (step e s).outputs)
   step_right e sane right =
-      wider hosts few (map shown (step e s).outputs) (rights hosts (map shown (step e s).outputs) (step_told s stays e right) (step_sane e sane))
+      let os = map shown (step e s).outputs in
+      wider hosts few os (rights hosts os (all_good hosts any (λ id. true) (goes hosts) (is_right_id hosts) os
+      (step_good s stays any (λ id. true) (goes hosts) (is_right_id hosts) (goes_near hosts) scripts short (all-true s.rows) e sane (goes_back hosts e right)
+      (λ queue job script submits. refl))))
 
   pub step_short : (e : Event) → is_sane_event hosts e ≡ true → AreShortOutputs (map shown (step e s).outputs)
   step_short e sane = shorts hosts (map shown (step e s).outputs) (step_sane e sane)
@@ -217,7 +228,8 @@ module _ (host : State Extent) (order : IsInOrder host) where
       by : (o : Option (Stepped (List ℕ))) → start now s ≡ o
           → (let x : Stepped (List ℕ) = elim o [ None ↦ quiet | Some y ↦ y ] in AreRight hosts (map shown x.outputs))
       by None e = refl
-      by (Some x) e = rights hosts (map shown x.outputs) (start_told s stays now x e) (start_sane now x e)
+      by (Some x) e = rights hosts (map shown x.outputs)
+          (start_good s stays any (λ id. true) (goes hosts) (is_right_id hosts) (goes_near hosts) scripts short (all-true s.rows) now x e (fit now x e))
 
   pub start_short : (now : ℕ) → AreShortOutputs (map shown (started now s).outputs)
   start_short now = by (start now s) refl

@@ -13,12 +13,19 @@ use Rattle.nqs_store.specs.Sound.{IsSoundHost}
 use Rattle.nqs_node.specs.Carried.{after_kept, IsOneOrOther}
 use Rattle.nqs_node.specs.Nodes as nodes
 use Rattle.nqs_node.specs.Reading.{AreShort}
+use Rattle.nqs_node.specs.declared.fault.NodeFault.{NodeFault}
+use Rattle.nqs_node.specs.declared.fault.NodeFault.TheVariants as node
 use Rattle.nqs_node.specs.declared.node.Node.{Node}
 use Rattle.nqs_serve.specs.Nodes.{Knows}
 use Rattle.nqs_serve.specs.Sends.{AreRight}
 use Rattle.nqs_serve.specs.Steps.{said}
 use Rattle.nqs_serve.specs.declared.cut.Cut.{Cut}
 use Rattle.nqs_serve.specs.declared.cut.Cut.TheVariants as cut
+
+-- a fault of the node cuts an event off by this
+abbrev pub Cuts : NodeFault → Cut → Type 0
+Cuts fault cut.Disk = (which : Which) × (fault ≡ node.Disk which)
+Cuts fault (cut.Memory memory) = fault ≡ node.Memory memory
 
 module _ {D T E : Type 0} {g : disk.Ghosts D} (old now : Node D g) where
   -- what a call leaves, whatever it was to do, where this error is that a call of a disk failed

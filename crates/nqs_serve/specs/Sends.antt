@@ -5,26 +5,17 @@ use Rattle.std.specs.List.{list_all}
 use Rattle.nqs_types.specs.declared.ids.RequestId.{RequestId}
 use Rattle.nqs_types.specs.declared.message.Message.{Message}
 use Rattle.nqs_types.specs.declared.message.Body.{Body}
-use Rattle.nqs_types.specs.declared.message.Body.TheVariants.{Offer, Ready, Refused, Commit, Done, Inquire, Abort, Stage, Staged}
 use Rattle.nqs_types.specs.declared.event.Event.{Event}
 use Rattle.nqs_types.specs.declared.event.Event.TheVariants as event
 use Rattle.nqs_types.specs.declared.event.Output.{Output}
 use Rattle.nqs_types.specs.declared.event.Output.TheVariants as out
 use Rattle.nqs_rules.specs.Sane.{is_of_site, is_sane_id, is_sane_message}
 use Rattle.nqs_rules.specs.Stepped.{sent_with}
+use Rattle.nqs_rules.specs.World.{body_number}
 
 -- what a host says to a host, under a number from 1 on
 abbrev pub has_number : Body → Bool
-has_number (Offer n _ _ _) = nat_le 1 n
-has_number (Ready n) = nat_le 1 n
-has_number (Refused n _) = nat_le 1 n
-has_number (Commit n) = nat_le 1 n
-has_number (Done n) = nat_le 1 n
-has_number (Inquire n) = nat_le 1 n
-has_number (Abort n) = nat_le 1 n
-has_number (Stage n _ _) = nat_le 1 n
-has_number (Staged n) = nat_le 1 n
-has_number _ = false
+has_number b = nat_le 1 (body_number b)
 
 -- a request of a host of the site
 abbrev pub is_right_id : ℕ → RequestId → Bool

@@ -22,7 +22,7 @@ ghost use Rattle.nqs_node.specs.Reading.{AreShort};
 ghost use Rattle.nqs_records.specs.Values.{IsHost};
 ghost use Rattle.nqs_store.specs.Sound.{IsSoundHost};
 ghost use Rattle.nqs_serve.specs.Events.{Here, at_moment};
-ghost use Rattle.nqs_serve.specs.Leaves.{Leaves, TakesStep};
+ghost use Rattle.nqs_serve.specs.Leaves.{Cuts, Leaves, TakesStep};
 ghost use Rattle.nqs_serve.specs.Letters.{AreReady};
 ghost use Rattle.nqs_serve.specs.Steps.{said, after_event, outputs, calls};
 ghost use Rattle.nqs_serve.specs.Runs.{Act, took, Outcome, Turn, turn, idle, outputs_in, brought_back, event_back, arrivals, telling, Grew, Ran};
@@ -43,6 +43,18 @@ use nqs_outside::{Clock, Disk, Launcher, Outlet, Printer, Wire};
 use nqs_types::{Event, HostId, Output};
 use std::alloc::Global;
 use std::collections::VecDeque;
+
+// By what this fault of a node that isn't stopped cuts an event off.
+fn cut_by(fault: NodeFault) -> Cut
+    requires { fault ≡ NodeFault.Stopped → ⊥ }
+    ensures { Cuts fault result }
+{
+    match fault {
+        NodeFault::Memory(memory) => Cut::Memory(memory),
+        NodeFault::Disk(_) => Cut::Disk,
+        NodeFault::Stopped => unreachable!(),
+    }
+}
 
 // Takes an event. Answers whether the host is to stop after it.
 fn take<D: Disk>(
@@ -65,9 +77,7 @@ fn take<D: Disk>(
 {
     match node.take(alloc, event, out) {
         Ok(halts) => Ok(halts),
-        Err(NodeFault::Memory(memory)) => Err(Cut::Memory(memory)),
-        Err(NodeFault::Disk(_)) => Err(Cut::Disk),
-        Err(NodeFault::Stopped) => unreachable!(),
+        Err(fault) => Err(cut_by(fault)),
     }
 }
 
@@ -91,9 +101,7 @@ fn start<D: Disk>(
 {
     match node.start_next(alloc, now, out) {
         Ok(more) => Ok(more),
-        Err(NodeFault::Memory(memory)) => Err(Cut::Memory(memory)),
-        Err(NodeFault::Disk(_)) => Err(Cut::Disk),
-        Err(NodeFault::Stopped) => unreachable!(),
+        Err(fault) => Err(cut_by(fault)),
     }
 }
 

@@ -6,7 +6,7 @@ use Rattle.nqs_serve.specs.Ends.{Ends, NoneStops, stops, end_of}
 use Rattle.nqs_serve.specs.Moments.{IsPassed}
 use Rattle.nqs_serve.proofs.Acts.{ran_none, ran_then, stops_then}
 use Rattle.nqs_serve.proofs.Ending.{none_both, ends_then, wire_end, disk_end}
-use Rattle.nqs_serve.proofs.Faults.{rose_behind}
+use Rattle.nqs_outside.proofs.Roses.{rose_since}
 use Rattle.nqs_serve.proofs.Leaving.{none_left, then_left, both_left, no_error}
 use Rattle.nqs_serve.proofs.Moments.{through_none, through_run}
 use Rattle.nqs_serve.proofs.daemon.turns_in.Goals as goal
@@ -73,7 +73,7 @@ returns-in-Err-clause-run g c = λ s here knows same.
 
 pub returns-in-Err-clause-wire_fault : goal.returns-in-Err-clause-wire_fault
 returns-in-Err-clause-wire_fault g c = λ is.
-    rose_behind _ _ _ c.loop-left.invariant.wire (c.in-Err.ensures.wire_fault (ap Err (wire_end c.in-Err.fault (sym c.end_of.ensures ∙ is))))
+    rose_since _ _ _ c.loop-left.invariant.wire (c.in-Err.ensures.wire_fault (ap Err (wire_end c.in-Err.fault (sym c.end_of.ensures ∙ is))))
 
 pub returns-in-Err-clause-disk_fault : goal.returns-in-Err-clause-disk_fault
 returns-in-Err-clause-disk_fault g c = λ is.

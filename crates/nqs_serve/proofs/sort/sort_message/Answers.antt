@@ -1,6 +1,6 @@
 use Rattle.std.proofs.Common.{sym, ◌∙◌}
+use Rattle.std.proofs.lemmas.Result.{IfOk-weaker}
 use Rattle.nqs_serve.specs.Events.{Here}
-use Rattle.nqs_serve.proofs.Faults.{if_ok}
 use Rattle.nqs_serve.proofs.Sorting.{elsewhere_sorted, stranger_sorted, known_sorted}
 use Rattle.nqs_serve.proofs.sort.sort_message.Goals as goal
 
@@ -18,5 +18,5 @@ returns-then-not-is_known c =
 pub returns-else-not-is_known : goal.returns-else-not-is_known
 returns-else-not-is_known c =
     let here : Here = record { me = c.args.me; site = c.args.site.now } in
-    if_ok c.sort_event.result (λ s is. known_sorted here c.args.now c.args.message s is
+    IfOk-weaker c.sort_event.result _ _ (λ s is. known_sorted here c.args.now c.args.message s is
     (sym (c.is_here.ensures c.args.site.now) ∙ c.if-not-is_here.false) (sym (c.is_known.ensures c.args.me) ∙ c.if-not-is_known.false)) c.sort_event.ensures

@@ -21,7 +21,7 @@ use Rattle.nqs_serve.specs.Sends.{is_right_output}
 use Rattle.nqs_serve.specs.Nodes.{Knows}
 use Rattle.nqs_serve.specs.Steps.{said}
 use Rattle.nqs_serve.proofs.Ending.{unless_memory, memory_is_no_disk}
-use Rattle.nqs_serve.proofs.Faults.{same_error}
+use Rattle.nqs_base.proofs.Plain.{same_error}
 use Rattle.nqs_serve.proofs.Known.{steady_known, at_known}
 use Rattle.nqs_serve.proofs.Leaving.{none_left, then_left, both_left, left_as, left_by, no_error}
 use Rattle.nqs_serve.proofs.Lists.{ready_front, ready_all}

@@ -21,19 +21,11 @@ pub returns-in-Ok-clause-halts : goal.returns-in-Ok-clause-halts
 returns-in-Ok-clause-halts g c = λ s knows.
     c.in-Ok.ensures.halts ∙ halts_told c.args.node.now s knows.1 c.args.event.now ∙ step-halts c.args.event.now s
 
-pub returns-in-Err-Memory-clause-leaves : goal.returns-in-Err-Memory-clause-leaves
-returns-in-Err-Memory-clause-leaves g c = cut_left _ _ _ _ _ _ c.in-Err-Memory.field-0-is c.in-Err-Memory.ensures.leaves
+pub cut_by-requires : goal.cut_by-requires
+cut_by-requires g c = λ is. not_both _ (c.in-Err.ensures.leaves.stopped.0 (ap Err is)) c.requires.running
 
-pub returns-in-Err-Memory-clause-takes : goal.returns-in-Err-Memory-clause-takes
-returns-in-Err-Memory-clause-takes g c =
-    cut_taken _ _ _ _ _ _ _ c.in-Err-Memory.field-0-is c.in-Err-Memory.ensures.leaves c.in-Err-Memory.ensures.takes
+pub returns-in-Err-clause-leaves : goal.returns-in-Err-clause-leaves
+returns-in-Err-clause-leaves g c = cut_left _ _ _ _ _ _ c.cut_by.ensures c.in-Err.ensures.leaves
 
-pub returns-in-Err-Disk-clause-leaves : goal.returns-in-Err-Disk-clause-leaves
-returns-in-Err-Disk-clause-leaves g c = cut_left _ _ _ _ _ _ (c.in-Err-Disk.field-0-0, c.in-Err-Disk.field-0-is) c.in-Err-Disk.ensures.leaves
-
-pub returns-in-Err-Disk-clause-takes : goal.returns-in-Err-Disk-clause-takes
-returns-in-Err-Disk-clause-takes g c =
-    cut_taken _ _ _ _ _ _ _ (c.in-Err-Disk.field-0-0, c.in-Err-Disk.field-0-is) c.in-Err-Disk.ensures.leaves c.in-Err-Disk.ensures.takes
-
-pub unreachable-requires : goal.unreachable-requires
-unreachable-requires g c = not_both _ (c.in-Err-Stopped.ensures.leaves.stopped.0 (ap Err c.in-Err-Stopped.field-0-is)) c.requires.running
+pub returns-in-Err-clause-takes : goal.returns-in-Err-clause-takes
+returns-in-Err-clause-takes g c = cut_taken _ _ _ _ _ _ _ c.cut_by.ensures c.in-Err.ensures.leaves c.in-Err.ensures.takes

@@ -8,7 +8,7 @@ use Rattle.nqs_serve.specs.Moments.{IsPassed}
 use Rattle.nqs_serve.specs.Runs.{took, turn, event_back, begun}
 use Rattle.nqs_serve.specs.declared.comeback.Comeback.{Comeback}
 use Rattle.nqs_serve.proofs.Acts.{arrivals_append, ran_none, ran_empty, took_back, cut_back}
-use Rattle.nqs_serve.proofs.Faults.{same_error}
+use Rattle.nqs_base.proofs.Plain.{same_error}
 use Rattle.nqs_serve.proofs.Leaving.{none_left, then_left, both_left, left_by, no_error}
 use Rattle.nqs_serve.proofs.Moments.{through_none, through_took_back, through_cut_back}
 use Rattle.nqs_serve.proofs.Sane.{sane_back, right_back, is_back}
