@@ -30,7 +30,8 @@ use Rattle.nqs_laws.proofs.Views.{host_same, hand_to_peer, hand_number, promise_
 use Rattle.nqs_laws.proofs.Turns.{to_move, from_move, sources}
 use Rattle.nqs_laws.proofs.Targets.{targets, lone_kept, promise_at}
 use Rattle.nqs_laws.proofs.Paired.{At, IsPaired, Turn, GuardsOf, IsOne, Was, was}
-use Rattle.nqs_laws.proofs.Tabled.{Place, Nowhere, Sits, Arrives, row_in, claim_in, claim, Table, IsTabled, IsPlaced, IsHeldMove, held_or, sits_here, arrives_here}
+use Rattle.nqs_laws.proofs.Tabled.{Place, Nowhere, Sits, Arrives, row_in, claim_in, claim, Table, IsTabled, IsPlaced, IsHeldMove, held_or}
+use Rattle.nqs_laws.proofs.Tabled.{sits_here, arrives_here}
 use Rattle.nqs_laws.proofs.Tabled.{row_of_sits, row_elsewhere, claim_of_arrives, claim_stays, given_before, still_placed, row_before}
 
 -- the table with another place of one request

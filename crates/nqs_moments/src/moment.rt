@@ -1,6 +1,7 @@
 //! Moments: seconds since the first of 1970 in UTC, written `YYYY-MM-DDTHH:MM:SS`.
 //!
-//! The dates are jiff's, the seconds of the day are counted here. There are no leap seconds.
+//! The dates are those of jiff_core, the core of jiff; the seconds of the day are counted here.
+//! There are no leap seconds.
 
 ghost use Rattle.std.specs.Prelude.{◌≡◌, ◌+◌, ◌^◌, ◌<◌, ◌≤◌, ◌≤ℤ◌, ◌++◌, ℕ, length, pos, None, MatchOption, OnOk};
 ghost use Rattle.std.specs.Prelude.{◌%◌};
@@ -9,8 +10,7 @@ ghost use Rattle.nqs_text.specs.Dates.{moment_text, date_text};
 ghost use Rattle.nqs_moments.specs.Moment.{misfit, suits, moment_misfit, ReadsMoment, IsSecond, PrintsMoment};
 ghost use Rattle.nqs_moments.specs.Parts.{part, IsNamed};
 
-use jiff::civil::Date;
-use jiff_core::civil;
+use jiff_core::civil::Date;
 use nqs_base::Memory;
 use nqs_text::decimal;
 use std::alloc::Global;
@@ -69,7 +69,7 @@ fn second_of(year: u64, month: u64, day: u64, hour: u64, minute: u64, second: u6
     let Ok(date) = Date::new(year as i16, month as i8, day as i8) else {
         return None;
     };
-    let days = date.to_plain().to_unix_epoch_day();
+    let days = date.to_unix_epoch_day();
     if days < 0 {
         return None;
     }
@@ -156,12 +156,12 @@ fn text_of(year: u64, month: u64, day: u64, hour: u64, minute: u64, second: u64)
 }
 
 // The date with that day number.
-fn date_of(days: u64) -> civil::Date
+fn date_of(days: u64) -> Date
     requires { days ≤ 2932896 }
     ensures day { epoch_day result ≡ pos days }
     ensures year { (pos 1970 ≤ℤ result.year) × (result.year ≤ℤ pos 9999) }
 {
-    match civil::Date::from_unix_epoch_day(days as i64) {
+    match Date::from_unix_epoch_day(days as i64) {
         Ok(date) => date,
         Err(_) => unreachable!(),
     }

@@ -5,8 +5,7 @@ ghost use Rattle.nqs_types.specs.declared.world.Which.{Which};
 ghost use Rattle.nqs_disk.specs.MemDisk as mem;
 ghost use Rattle.nqs_node.specs.Nodes.{content_of, is_stopped};
 ghost use Rattle.nqs_store.specs.Disks.{histories_of};
-ghost use Rattle.nqs_store.specs.Sound.{IsSoundHost};
-ghost use Rattle.nqs_net.specs.Props.{IsSoundHost-prop};
+ghost use Rattle.nqs_store.specs.Sound.{IsSoundHost, IsSoundHost-prop};
 
 use nqs_disk::MemDisk;
 use nqs_node::Node;

@@ -6,9 +6,8 @@ ghost use Rattle.nqs_types.specs.declared.world.Which.{Which as OneOf};
 ghost use Rattle.nqs_outside.specs.History.{IsQuiet};
 ghost use Rattle.nqs_disk.specs.MemDisk.{history_of as history_of_disk};
 ghost use Rattle.nqs_store.specs.Disks.{disk_at};
-ghost use Rattle.nqs_store.specs.Sound.{IsSoundHost};
+ghost use Rattle.nqs_store.specs.Sound.{IsSoundHost, IsSoundHost-prop};
 ghost use Rattle.nqs_node.specs.Nodes.{content_of, is_stopped};
-ghost use Rattle.nqs_net.specs.Props.{IsSoundHost-prop};
 
 use crate::outside::Outside;
 use crate::trouble::Trouble;
