@@ -1,5 +1,4 @@
 pub mod Lists
-pub mod Props
 pub mod Pasts
 pub mod Worlds
 pub mod Turns
