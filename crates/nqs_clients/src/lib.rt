@@ -14,6 +14,3 @@ mod status;
 pub use asking::client;
 pub use shepherding::{ShepherdEnd, shepherd};
 pub use status::NqsStatus;
-
-#[cfg(test)]
-mod tests;

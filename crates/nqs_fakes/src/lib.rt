@@ -19,6 +19,3 @@ pub use outlet::{FileWritten, MemOutlet};
 pub use printer::{MemPrinter, Printed};
 pub use runner::{JobRun, MemRunner};
 pub use wire::{Item, MemWire, Sent};
-
-#[cfg(test)]
-mod tests;

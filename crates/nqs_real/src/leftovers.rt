@@ -55,7 +55,7 @@ fn is_mark(entry: &[u8], mark: &Mark) -> bool
 }
 
 /// Is the mark an entry of this environment, whose entries are parted by NULs?
-pub(crate) fn is_marked(environ: &[u8], mark: &Mark) -> bool
+pub fn is_marked(environ: &[u8], mark: &Mark) -> bool
     ensures { result ≡ is_marked mark.now environ.now }
 {
     environ
@@ -136,7 +136,7 @@ pub(crate) fn put_mark(command: &mut Command, place: &str) -> Result<(), AllocEr
 
 /// Ends what is left of the job with this folder, but for this process. It fails as `end_jobs`
 /// does.
-pub(crate) fn end_job(rt: &HostRuntime, place: &str) -> io::Result<()> {
+pub fn end_job(rt: &HostRuntime, place: &str) -> io::Result<()> {
     end_marked(rt, &Mark::Is(format!(in rt.alloc(); "{JOB}={place}")?))
 }
 

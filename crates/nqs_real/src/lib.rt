@@ -9,8 +9,6 @@ mod counted;
 mod disk;
 mod folder;
 mod launcher;
-#[cfg(test)]
-mod leftover_tests;
 mod leftovers;
 mod order;
 mod outlet;
@@ -20,14 +18,13 @@ mod put;
 mod runner;
 mod site;
 mod streams;
-#[cfg(test)]
-mod tests;
 mod wire;
 
 pub use clock::SystemClock;
 pub use disk::{FileDisk, HostDisks, open_disks};
 pub use folder::{HostLock, make_host_folder};
 pub use launcher::{ShepherdLauncher, own_program};
+pub use leftovers::{Mark, end_job, is_marked};
 pub use outlet::FileOutlet;
 pub use printer::FilePrinter;
 pub use runner::ShellRunner;

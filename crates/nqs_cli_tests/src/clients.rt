@@ -1,7 +1,7 @@
 //! A client and a shepherd over a wire in memory, with datagrams as `docs/formats.md` has them.
 
-use crate::{NqsStatus, ShepherdEnd, client, shepherd};
 use nqs_base::{Bytes, Items, Memory, Name};
+use nqs_clients::{NqsStatus, ShepherdEnd, client, shepherd};
 use nqs_fakes::{Item, MemRunner, MemWire};
 use nqs_outside::{Address, ListSource, MemSink, RunEnd};
 use nqs_types::{HostId, RequestId};

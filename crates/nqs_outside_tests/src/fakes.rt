@@ -1,7 +1,7 @@
 //! Each fake once: none is starved, and the calls fail that are to fail.
 
-use crate::{Item, ListClock, MemLauncher, MemOutlet, MemPrinter, MemRunner, MemWire};
 use nqs_base::{Bytes, Items, ListOf, Memory, Name};
+use nqs_fakes::{Item, ListClock, MemLauncher, MemOutlet, MemPrinter, MemRunner, MemWire};
 use nqs_outside::{Address, Clock, Launcher, Outlet, Printer, Received, RunEnd, Runner, Wire};
 use nqs_types::{HostId, LaunchOrder, Limits, RequestId};
 use std::alloc::Global;

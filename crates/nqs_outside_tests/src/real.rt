@@ -1,13 +1,13 @@
 //! The adapters over the real system: files, a socket on loopback, shells.
 
-use crate::{
-    FileDisk, FileOutlet, FilePrinter, HostLock, ShellRunner, ShepherdLauncher, SiteFault,
-    SiteHost, SystemClock, UdpWire, fill_streams, make_host_folder, names_of, open_disks,
-    own_program, read_site,
-};
 use nqs_base::Name;
 use nqs_outside::{
     Address, Clock, Disk, Failed, Launcher, Outlet, Printer, Received, RunEnd, Runner, Wire,
+};
+use nqs_real::{
+    FileDisk, FileOutlet, FilePrinter, HostLock, ShellRunner, ShepherdLauncher, SiteFault,
+    SiteHost, SystemClock, UdpWire, fill_streams, make_host_folder, names_of, open_disks,
+    own_program, read_site,
 };
 use nqs_types::{HostId, LaunchOrder, Limits, RequestId};
 use std::os::unix::fs::PermissionsExt;

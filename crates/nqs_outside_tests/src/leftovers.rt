@@ -1,8 +1,7 @@
 //! What is left of jobs, over processes of the real system: who is ended, and who is left alone.
 
-use crate::leftovers::{Mark, end_job, is_marked};
-use crate::tests::{HOST, fresh_folder, site_of_alpha};
-use crate::{ShepherdLauncher, SiteHost};
+use crate::real::{HOST, fresh_folder, site_of_alpha};
+use nqs_real::{Mark, ShepherdLauncher, SiteHost, end_job, is_marked};
 use std::alloc::AllocError;
 use std::os::unix::process::ExitStatusExt;
 use std::process::{Child, Command};
