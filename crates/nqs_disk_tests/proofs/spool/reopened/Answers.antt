@@ -1,5 +1,5 @@
 use Rattle.std.proofs.Common.{arith}
-use Rattle.nqs_storage_tests.proofs.spool.reopened.Goals as goal
+use Rattle.nqs_disk_tests.proofs.spool.reopened.Goals as goal
 
 pub load-requires-clause-apart : goal.load-requires-clause-apart
 load-requires-clause-apart c = rw (c.at.ensures, c.at-2.ensures) ((omega arith, tt), (tt, tt))
