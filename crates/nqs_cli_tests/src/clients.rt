@@ -10,30 +10,30 @@ use std::rt::HostRuntime;
 use std::test::Fail;
 
 // An ASK of qstat, from port 9, with the token 5, for ann.
-const ASK: [u8; 25] = [
+static ASK: [u8; 25] = [
     1, 10, 0, 0, 0, 9, 0, 0, 0, 0, 0, 0, 0, 5, 3, b'a', b'n', b'n', 2, 0, 0, 0, 0, 0, 0,
 ];
 
 // An ANSWER with the token 5, another with the token 6, and one that refuses.
-const ANSWER: [u8; 20] = [
+static ANSWER: [u8; 20] = [
     1, 11, 0, 0, 0, 0, 0, 0, 0, 0, 0, 5, 1, 0, 0, 0, 3, b'o', b'k', 10,
 ];
 
-const OTHER_ANSWER: [u8; 20] = [
+static OTHER_ANSWER: [u8; 20] = [
     1, 11, 0, 0, 0, 0, 0, 0, 0, 0, 0, 6, 1, 0, 0, 0, 3, b'n', b'o', 10,
 ];
 
-const REFUSAL: [u8; 20] = [
+static REFUSAL: [u8; 20] = [
     1, 11, 0, 0, 0, 0, 0, 0, 0, 0, 0, 5, 0, 0, 0, 0, 3, b'n', b'o', 10,
 ];
 
 // An ENDEDACK of the first start of the request 7 of this host, and one of its second.
-const ACK: [u8; 11] = [1, 13, 0, 0, 0, 0, 0, 7, 0, 0, 1];
+static ACK: [u8; 11] = [1, 13, 0, 0, 0, 0, 0, 7, 0, 0, 1];
 
-const OTHER_ACK: [u8; 11] = [1, 13, 0, 0, 0, 0, 0, 7, 0, 0, 2];
+static OTHER_ACK: [u8; 11] = [1, 13, 0, 0, 0, 0, 0, 7, 0, 0, 2];
 
 // The ENDED of the first, with status 3, the output `42` and no error output.
-const ENDED: [u8; 24] = [
+static ENDED: [u8; 24] = [
     1, 12, 0, 0, 0, 9, 0, 0, 0, 7, 0, 0, 1, 3, 0, 0, 0, 2, b'4', b'2', 0, 0, 0, 0,
 ];
 

@@ -11,11 +11,11 @@ use std::test::Fail;
 
 // An ANSWER with the token 5 and the text `ok`, and an ENDEDACK of the first start of the request
 // 7.
-const ANSWER: [u8; 20] = [
+static ANSWER: [u8; 20] = [
     1, 11, 0, 0, 0, 0, 0, 0, 0, 0, 0, 5, 1, 0, 0, 0, 3, b'o', b'k', 10,
 ];
 
-const ACK: [u8; 11] = [1, 13, 0, 0, 0, 0, 0, 7, 0, 0, 1];
+static ACK: [u8; 11] = [1, 13, 0, 0, 0, 0, 0, 7, 0, 0, 1];
 
 // How the program ends, and what it writes.
 #[derive(Clone, Copy, Debug, PartialEq, Eq)]

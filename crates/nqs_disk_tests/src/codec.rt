@@ -7,7 +7,7 @@ use std::rt::HostRuntime;
 use std::test::Fail;
 
 // A field of each kind, in the order of the table below.
-const FIELDS: [u8; 38] = [
+static FIELDS: [u8; 38] = [
     7, 1, 2, 1, 2, 3, 4, 0, 0, 0, 1, 0, 0, 0, 2, 0, 0, 0, 2, 9, 8, 3, b'h', b'-', b'1', 5, b'a',
     b'/', b'.', b'b', b'/', 1, 0, 0, 0, 0, 0, 0,
 ];
@@ -82,7 +82,7 @@ fn finds_the_end(rt: HostRuntime) {
 }
 
 // Bytes that are no name, and why.
-const NAMES: [(&[u8], FieldFault); 6] = [
+static NAMES: [(&[u8], FieldFault); 6] = [
     (b"", FieldFault::Short(0)),
     (&[0], FieldFault::Bad(0)),
     (&[16], FieldFault::Bad(0)),
@@ -92,7 +92,7 @@ const NAMES: [(&[u8], FieldFault); 6] = [
 ];
 
 // Bytes that are no path, and why.
-const PATHS: [(&[u8], FieldFault); 7] = [
+static PATHS: [(&[u8], FieldFault); 7] = [
     (b"", FieldFault::Short(0)),
     (&[0], FieldFault::Bad(0)),
     (&[3, b'/', b'a'], FieldFault::Short(3)),

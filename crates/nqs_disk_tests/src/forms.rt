@@ -23,7 +23,7 @@ struct Form {
 const LONG: [u8; 300] = [7; 300];
 
 /// The first form, and the second with snapshots of 0, 1 and 300 bytes.
-const FORMS: [Form; 4] = [
+static FORMS: [Form; 4] = [
     Form {
         has_snapshot: false,
         header: b"NQS-JOURNAL-v1\n\n",
@@ -46,10 +46,10 @@ const FORMS: [Form; 4] = [
     },
 ];
 
-const PAYLOADS: [&[u8]; 2] = [b"first", b"second"];
+static PAYLOADS: [&[u8]; 2] = [b"first", b"second"];
 
 /// Records of none, the first, and both payloads, with the closed gate.
-const RECORDS: [&[u8]; 3] = [
+static RECORDS: [&[u8]; 3] = [
     b"\0",
     b"\x01\0\0\0\x05first\0",
     b"\x01\0\0\0\x05first\x01\0\0\0\x06second\0",
@@ -146,7 +146,7 @@ fn refuses_what_is_cut_short(rt: HostRuntime) -> Result<(), Fail> {
 }
 
 /// Bytes that stand for nothing, and the place at which they are refused.
-const REFUSED: [(&[u8], u64); 12] = [
+static REFUSED: [(&[u8], u64); 12] = [
     (b"nQS-JOURNAL-v1\n\n\0", 0),
     (b"nQS-SNAPSHOT-v1\n\0\0\0\0\0\0\0\0\0", 0),
     // The fifth byte tells the headers apart.
@@ -314,7 +314,7 @@ fn loads(alloc: Global, left: u64) -> Result<[bool; 2], Fail> {
 }
 
 /// What is found where the first, second, third, fourth and no read fails: each reading makes two.
-const FOUND: [[bool; 2]; 5] = [
+static FOUND: [[bool; 2]; 5] = [
     [false, false],
     [false, false],
     [true, false],

@@ -16,7 +16,7 @@ const SECOND: &[u8] = b"second";
 
 /// A tear, and the payloads that are found after a stop in each call of an append of the second
 /// one.
-const LEFT: [(Tear, [usize; 4]); 4] = [
+static LEFT: [(Tear, [usize; 4]); 4] = [
     (Tear::Old, [1, 1, 1, 1]),
     (Tear::New, [1, 1, 2, 2]),
     // Each pending byte is the new one.
@@ -134,7 +134,7 @@ fn appends_after_a_stop(rt: HostRuntime) -> Result<(), Fail> {
 
 /// A tear, and what a load finds after a stop in each of the two calls of a format: a journal
 /// without payloads, or bytes that are none from a place on.
-const FORMATTED: [(Tear, [Option<u64>; 2]); 6] = [
+static FORMATTED: [(Tear, [Option<u64>; 2]); 6] = [
     // Nothing was synced, so the disk is empty.
     (Tear::Old, [Some(0), Some(0)]),
     (Tear::New, [None, None]),
@@ -176,7 +176,7 @@ fn stops_within_a_format(rt: HostRuntime) -> Result<(), Fail> {
 
 /// The journal of host alpha in the site of alpha alone, byte by byte: header, gate, length, the
 /// record of the site, gate.
-const ALPHA: [u8; 31] = *b"NQS-JOURNAL-v1\n\n\x01\0\0\0\x09\x01\0\x01\x05alpha\0";
+static ALPHA: [u8; 31] = *b"NQS-JOURNAL-v1\n\n\x01\0\0\0\x09\x01\0\x01\x05alpha\0";
 
 pub(crate) fn disk_of(alloc: Global, bytes: &[u8]) -> Result<MemDisk, Fail> {
     let mut disk = MemDisk::new(alloc);

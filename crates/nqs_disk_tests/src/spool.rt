@@ -101,7 +101,7 @@ fn lengths(rt: HostRuntime) -> Result<(), Fail> {
 
 /// A tear, what it leaves of `gone` and `live` where a put of `new` over `gone` fails, in its write
 /// or in its sync, and what of `live` where a put of `more` behind it does.
-const LEFT: [(Tear, &[u8], &[u8]); 4] = [
+static LEFT: [(Tear, &[u8], &[u8]); 4] = [
     (Tear::Old, b"gonelive", b"live"),
     (Tear::New, b"newelive", b"livemore"),
     // Each pending byte is the old one, and so is the length.
@@ -249,7 +249,7 @@ fn stops(rt: HostRuntime) {
 
 /// The bytes of a disk, the places and lengths of extents on it, and the place of the first that it
 /// can't have.
-const EXTENTS: [(u64, [(u64, u32); 3], Option<u64>); 9] = [
+static EXTENTS: [(u64, [(u64, u32); 3], Option<u64>); 9] = [
     (0, [(0, 0), (0, 0), (0, 0)], None),
     (10, [(4, 2), (0, 4), (6, 4)], None),
     (9, [(4, 2), (0, 4), (6, 4)], Some(6)),

@@ -107,7 +107,7 @@ fn shows(alloc: Global, state: &HostState, code: u8, place: usize, text: &[u8]) 
 }
 
 // The number of a list of qmgr, the place of a line, and the line.
-const LINES: [(u8, usize, &[u8]); 8] = [
+static LINES: [(u8, usize, &[u8]); 8] = [
     (48, 0, b"batch batch enabled stopped 31 2"),
     (49, 0, b"ann batch enabled free"),
     (50, 0, b"ann 3 batch"),

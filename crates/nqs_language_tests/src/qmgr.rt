@@ -129,7 +129,7 @@ fn fault(line: &[u8]) -> Option<GrammarFault> {
 }
 
 /// A line of each kind, and its number.
-const LINES: [(&[u8], u8); 55] = [
+static LINES: [(&[u8], u8); 55] = [
     (b"create batch_queue q priority=5 run_limit=3 pipeonly", 1),
     (b"create device_queue q", 2),
     (b"create pipe_queue q destination=a@b", 3),
@@ -287,7 +287,7 @@ fn reads_values(rt: HostRuntime) {
 }
 
 /// A line, and its fault.
-const BAD: [(&[u8], GrammarFault); 33] = [
+static BAD: [(&[u8], GrammarFault); 33] = [
     (b"st queue batch", GrammarFault::Ambiguous(0)),
     (b"frob x", GrammarFault::UnknownWord(0)),
     (b"s", GrammarFault::UnknownWord(0)),

@@ -124,7 +124,7 @@ fn takes_the_command_before_the_script(rt: HostRuntime) {
 }
 
 /// Words of a command, their fault, and which of them has it.
-const BAD_WORDS: [(&[u8], WordsCause, u32); 8] = [
+static BAD_WORDS: [(&[u8], WordsCause, u32); 8] = [
     (b"-p 64", WordsCause::BadNumber, 2),
     (b"-x", WordsCause::Unknown, 1),
     (b"-p", WordsCause::Missing, 1),
@@ -143,7 +143,7 @@ fn finds_faults_of_the_command(rt: HostRuntime) {
 }
 
 /// A script behind a command, and its fault, with the line and the word.
-const SCRIPTS: [(&[u8], Found); 5] = [
+static SCRIPTS: [(&[u8], Found); 5] = [
     (b"#@$ -p 64", Some((WordsCause::BadNumber, 1, 2))),
     (
         b"#\n#@$ -q a\n#@$\t-nr -q b\n",

@@ -86,7 +86,7 @@ fn reads_words_of_qstat(rt: HostRuntime) {
 }
 
 /// Words of `qstat`, and their fault.
-const STAT_WORDS: [(&[u8], Option<(WordsCause, u32)>); 5] = [
+static STAT_WORDS: [(&[u8], Option<(WordsCause, u32)>); 5] = [
     (b"", None),
     (b"-u", Some((WordsCause::Missing, 1))),
     (b"-u 9", Some((WordsCause::BadName, 2))),
@@ -118,7 +118,7 @@ fn reads_words_of_qdel(rt: HostRuntime) {
 }
 
 /// Words of `qdel`, and their fault.
-const DELETE_WORDS: [(&[u8], WordsCause, u32); 6] = [
+static DELETE_WORDS: [(&[u8], WordsCause, u32); 6] = [
     (b"", WordsCause::Missing, 1),
     (b"-k", WordsCause::Missing, 2),
     (b"07.alpha", WordsCause::BadNumber, 1),

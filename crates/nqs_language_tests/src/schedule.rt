@@ -31,7 +31,7 @@ fn counts(alloc: Global, text: &[u8]) -> Option<(usize, usize)> {
 }
 
 /// A schedule, and how many hosts and events it has.
-const READ: [(&[u8], (usize, usize)); 10] = [
+static READ: [(&[u8], (usize, usize)); 10] = [
     (b"", (1, 0)),
     (b"# x\n\n   \nsubmit ann sim\nshow\n", (1, 2)),
     (b"hosts alpha beta\nqsub beta ann \"a\\n\" -p 5\n", (2, 1)),
@@ -52,7 +52,7 @@ fn reads_lines(rt: HostRuntime) {
 }
 
 /// A schedule, the number of its first bad line, and why that is bad.
-const BAD: [(&[u8], u64, Cause); 18] = [
+static BAD: [(&[u8], u64, Cause); 18] = [
     (b"submit ann sim\nsho", 2, Cause::Unended),
     (b"#\n\nfrob\n#", 3, Cause::UnknownWord),
     (b"show\n#", 2, Cause::Unended),

@@ -12,7 +12,7 @@ use std::{env, fs, io, thread};
 
 // An environment, whether it is that of a process of the job `/s/a/jobs/1.a.1`, and whether that of
 // one of a job in `/s/a/jobs`.
-const ENVIRONMENTS: [(&[u8], bool, bool); 15] = [
+static ENVIRONMENTS: [(&[u8], bool, bool); 15] = [
     (b"NQS_JOB=/s/a/jobs/1.a.1\0", true, true),
     (b"NQS_JOB=/s/a/jobs/1.a.1", true, true),
     (b"A=b\0NQS_JOB=/s/a/jobs/1.a.1\0C=d\0", true, true),
@@ -44,7 +44,7 @@ fn an_entry_is_the_mark(rt: HostRuntime) -> Result<(), Fail> {
 // Sleeping processes, each with a variable, and a value that has this in front of the path of the
 // folder `jobs` and that behind it. The first is of the job 1.alpha.1, the second of another job of
 // the host, the others of none.
-const SLEEPERS: [(&str, &str, &str); 6] = [
+static SLEEPERS: [(&str, &str, &str); 6] = [
     ("NQS_JOB", "", "/1.alpha.1"),
     ("NQS_JOB", "", "/1.alpha.12"),
     ("NQS_JOB", "", "2/1.alpha.1"),

@@ -39,7 +39,7 @@ pub(crate) fn site_of_alpha(rt: &HostRuntime) -> Result<Vec<SiteHost>, Fail> {
 }
 
 // Site files, and how many hosts they have.
-const SITES: [(&[u8], Option<usize>); 15] = [
+static SITES: [(&[u8], Option<usize>); 15] = [
     (b"alpha 127.0.0.1 7001\n", Some(1)),
     (b"alpha 10.0.0.1 1\nbeta-2 255.255.255.255 65535\n", Some(2)),
     (b"", None),
@@ -173,7 +173,7 @@ fn mode_at(rt: &HostRuntime, folder: &str, path: &str) -> io::Result<u32> {
 }
 
 // Paths below the folder of a host, and their modes: nobody but the owner has rights.
-const MODES: [(&str, u32); 9] = [
+static MODES: [(&str, u32); 9] = [
     ("lock", 0o600),
     ("first", 0o600),
     ("spool", 0o600),
@@ -265,7 +265,7 @@ struct Script {
     out: &'static [u8],
 }
 
-const SCRIPTS: [Script; 9] = [
+static SCRIPTS: [Script; 9] = [
     Script {
         text: b"echo 42; echo $NQS_REQUEST $NQS_START $NQS_HOST $NQS_QUEUE $NQS_USER; exit 3",
         kills: false,

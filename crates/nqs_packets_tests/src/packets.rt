@@ -15,7 +15,7 @@ const OFFER: &[u8] = b"\x01\x01\x00\x01\x00\x00\x00\x00\x00\x00\x00\x02\x05batch
 const ASK: &[u8] = b"\x01\x0a\x00\x00\x00\x09\x00\x00\x00\x00\x00\x00\x00\x05\x03ann\x03\
 \x00\x02\x00\x00\x00\x02-k\x00\x00\x00\x077.alpha\x00\x00\x00\x00";
 
-pub(crate) const MESSAGES: [&[u8]; 13] = [
+pub(crate) static MESSAGES: [&[u8]; 13] = [
     OFFER,
     b"\x01\x02\x01\x00\xff\xff\xff\xff\xff\xff\xff\xff",
     b"\x01\x03\x01\x00\x00\x00\x00\x00\x00\x00\x00\x01\x21",
@@ -125,7 +125,7 @@ pub(crate) fn fault(alloc: Global, bytes: &[u8]) -> Option<PacketFault> {
 }
 
 // Bytes that are no datagram, and their first fault.
-const FAULTS: [(&[u8], PacketFault); 16] = [
+static FAULTS: [(&[u8], PacketFault); 16] = [
     (b"", PacketFault::Short(0)),
     (
         b"\x01\x05\x01\x00\x00\x00\x00\x00\x00\x00\x00",

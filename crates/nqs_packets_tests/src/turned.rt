@@ -28,7 +28,7 @@ fn what_is_cut_off_is_short(rt: HostRuntime) {
 }
 
 /// What a byte is turned to.
-const VALUES: [u8; 3] = [0, 0x7f, 0xff];
+static VALUES: [u8; 3] = [0, 0x7f, 0xff];
 
 // Whether that byte behind the datagram is found there.
 fn is_followed(alloc: Global, bytes: &[u8], value: u8) -> Result<bool, Memory> {
@@ -60,7 +60,7 @@ type Run = (usize, usize, Fault);
 /// For each of the datagrams the runs of bytes that give a fault where they are 0, 7f and ff. Each
 /// other byte may be so. In a name or a path each byte may be wrong by itself: no letter, digit or
 /// other sign that stands there is any of these three.
-const TURNED: [[&[Run]; 3]; 13] = [
+static TURNED: [[&[Run]; 3]; 13] = [
     // OFFER: the number at 4, the queue at 12, the request at 18 and 22, its name at 23 and owner
     // at 25, the priority at 29, rerun at 38, three values that may be missing from 39 on, two
     // paths at 42 and 47, join at 52, starts at 53, lost at 55, hops at 57, the script at 58.

@@ -3,7 +3,7 @@
 use nqs_limits::{read_size, read_time};
 use nqs_text::NumberFault;
 
-const TIMES: [(&[u8], Result<u64, NumberFault>); 18] = [
+static TIMES: [(&[u8], Result<u64, NumberFault>); 18] = [
     (b"90", Ok(90)),
     (b"1:30", Ok(90)),
     (b"1:30:00", Ok(5_400)),
@@ -31,7 +31,7 @@ fn times(rt: HostRuntime) {
     }
 }
 
-const SIZES: [(&[u8], Result<u64, NumberFault>); 12] = [
+static SIZES: [(&[u8], Result<u64, NumberFault>); 12] = [
     (b"0b", Ok(0)),
     (b"007kb", Ok(7_168)),
     (b"64mb", Ok(67_108_864)),

@@ -32,7 +32,7 @@ fn names_of(alloc: Global, table: &Table<Name, DeviceDef>) -> Result<Vec<u8>, Me
 }
 
 // Bytes, and why they are no name, if they are none.
-const NAMES: [(&[u8], Option<NameFault>); 6] = [
+static NAMES: [(&[u8], Option<NameFault>); 6] = [
     (b"a", None),
     (b"abcdefghij-1_45", None),
     (b"", Some(NameFault::Empty)),

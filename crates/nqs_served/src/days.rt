@@ -8,7 +8,7 @@ use std::alloc::Global;
 
 // The print is the least request, so `finish` is its end. The fourth call of the launcher fails,
 // and the third file.
-const WHOLE: Day = Day {
+static WHOLE: Day = Day {
     title: "a day, beside its schedule",
     failing: Failing {
         launches: &[4],
@@ -210,7 +210,7 @@ qstat alpha ann
     rounds: &[9],
 };
 
-const DAYS: [Day; 11] = [
+static DAYS: [Day; 11] = [
     JOB,
     FIRST_RECEIVE,
     RECEIVE,
@@ -225,7 +225,7 @@ const DAYS: [Day; 11] = [
 ];
 
 // What a failed launch brings back is one change more, when the submission is answered.
-const LATE: Day = Day {
+static LATE: Day = Day {
     title: "the launch fails, and the disk first at its call",
     fuse: Some((Which::First, 13)),
     ..LAUNCH

@@ -26,7 +26,7 @@ const LIST: &[u8] = &[
     1, 10, 0, 0, 0, 9, 0, 0, 0, 0, 0, 0, 0, 5, 3, b'a', b'n', b'n', 2, 0, 0, 0, 0, 0, 0,
 ];
 
-const DATAGRAMS: [&[u8]; 4] = [START, SUBMIT, ENDED, LIST];
+static DATAGRAMS: [&[u8]; 4] = [START, SUBMIT, ENDED, LIST];
 
 fn serve_all(alloc: Global, outside: &mut Outside) -> Result<(), Trouble> {
     let mut host = Host::alone(alloc)?;

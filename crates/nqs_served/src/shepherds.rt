@@ -28,7 +28,7 @@ struct Row {
     comes: &'static [&'static [u8]],
 }
 
-const ROWS: [Row; 6] = [
+static ROWS: [Row; 6] = [
     Row {
         title: "a failed send is made up for by the next one",
         failing: Failing {
@@ -146,7 +146,7 @@ pub(crate) fn put_shepherds(alloc: Global, out: &mut Vec<u8>) -> Result<(), Trou
 }
 
 // The answer of host 0, one of host 1 with another token, and that of host 1.
-const ANSWERS: [&[u8]; 3] = [
+static ANSWERS: [&[u8]; 3] = [
     &[
         1, 11, 0, 0, 0, 0, 0, 0, 0, 0, 0, 5, 1, 0, 0, 0, 3, b'n', b'o', 10,
     ],
@@ -187,7 +187,7 @@ const SUBMITTED: Asking = Asking {
 
 // Nothing is sent or written where the input fails, nothing written where the wire does, and a
 // front of the answer where the output does.
-const ASKINGS: [Asking; 10] = [
+static ASKINGS: [Asking; 10] = [
     ASKED,
     Asking {
         title: "its send fails",

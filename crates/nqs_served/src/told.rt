@@ -11,7 +11,7 @@ use nqs_types::{HostId, RequestId};
 use std::alloc::Global;
 
 // The kinds of datagrams between hosts, from 1 on.
-const KINDS: [&str; 9] = [
+static KINDS: [&str; 9] = [
     "OFFER", "READY", "REFUSED", "COMMIT", "DONE", "INQUIRE", "ABORT", "STAGE", "STAGED",
 ];
 

@@ -35,7 +35,7 @@ enum Kind {
     Reply,
 }
 
-const WORDS: [(&[u8], Kind); 8] = [
+static WORDS: [(&[u8], Kind); 8] = [
     (b"launch ", Kind::Job),
     (b"kill ", Kind::Job),
     (b"print ", Kind::Print),

@@ -26,7 +26,7 @@ use std::alloc::Global;
 use std::rt::HostRuntime;
 
 /// A tear, and whether a change is told after a failure of each of the four calls of its record.
-const KEPT: [(Tear, [bool; 4]); 4] = [
+static KEPT: [(Tear, [bool; 4]); 4] = [
     (Tear::Old, [false; 4]),
     (Tear::New, [false, false, true, true]),
     // Each pending byte is the new one.

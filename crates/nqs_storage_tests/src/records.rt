@@ -13,7 +13,7 @@ const SUBMITTED: &[u8] = b"\x02\x01b\x01j\x02me\x3f\x00\x00\x00\x00\x00\x00\x01\
 \x01\x00\x00\x00\x00\x00\x00\x00\x09\x00\x01\x03a4x\x01o\x03d/e\x00\
 \x00\x00\x00\x00\x00\x00\x00\x07\x00\x00\x80\x00";
 
-const RECORDS: [&[u8]; 14] = [
+static RECORDS: [&[u8]; 14] = [
     SITE,
     SUBMITTED,
     b"\x03\x00\x00\x00\x01\x0f",
@@ -128,7 +128,7 @@ fn fault(alloc: Global, bytes: &[u8]) -> Option<(u8, u64)> {
 }
 
 // Bytes that are no record: the kind and the place of their first fault.
-const FAULTS: [(&[u8], u8, u64); 17] = [
+static FAULTS: [(&[u8], u8, u64); 17] = [
     (b"", SHORT, 0),
     (b"\x00", KIND, 0),
     (b"\x18", KIND, 0),
@@ -156,7 +156,7 @@ fn finds_the_first_fault(rt: HostRuntime) {
 }
 
 // Values past their limits.
-const PAST_LIMITS: [(&[u8], u8, u64); 8] = [
+static PAST_LIMITS: [(&[u8], u8, u64); 8] = [
     (b"\x09\x00", FIELD, 1),
     (b"\x09\x2f\x01b", FIELD, 1),
     (b"\x09\x0b\x00\x00\x00\x00\x00\x00\x00\x40\x01b", FIELD, 2),
@@ -193,7 +193,7 @@ fn finds_values_past_their_limits(rt: HostRuntime) {
 }
 
 // The records of new queues, and whether these are for pipe queues alone.
-const CREATED: [(&[u8], bool); 6] = [
+static CREATED: [(&[u8], bool); 6] = [
     (b"\x09\x01\x01b\x00\x00\x00", false),
     (
         b"\x09\x01\x01b\x00\x00\x01\x00\x00\x00\x00\x00\x00\x00\x01",
@@ -239,7 +239,7 @@ fn reads_new_queues(rt: HostRuntime) {
 }
 
 // Flags that are neither left out nor the number 1.
-const NO_FLAGS: [(&[u8], u8, u64); 7] = [
+static NO_FLAGS: [(&[u8], u8, u64); 7] = [
     (b"\x09\x01\x01b\x00\x00\x02", FIELD, 6),
     (b"\x09\x01\x01b\x00\x00\x01", SHORT, 7),
     (
