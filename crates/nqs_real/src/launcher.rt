@@ -152,11 +152,11 @@ impl ShepherdLauncher {
         )
     }
 
-    fn spawn(&self, place: &str, id: RequestId, start: u16) -> io::Result<Child> {
+    // The words of `setpriv` that start the shepherd.
+    fn add_words(&self, command: &mut Command, id: RequestId, start: u16) -> io::Result<()> {
         let host = host_text(&self.site, self.host)?;
         let request = request_text(&self.rt, &self.site, id)?;
         let start = format!(in self.rt.alloc(); "{start}")?;
-        let mut command = Command::new(self.rt.alloc(), "setpriv")?;
         let words = [
             "--pdeathsig",
             "KILL",
@@ -167,9 +167,25 @@ impl ShepherdLauncher {
             request.as_str(),
             start.as_str(),
         ];
-        add_words(&mut command, &words)?;
-        put_mark(&mut command, place)?;
-        start_quietly(&self.rt, &mut command)
+        add_words(command, &words)?;
+        Ok(())
+    }
+
+    fn spawn_by(
+        &self,
+        command: &mut Command,
+        place: &str,
+        id: RequestId,
+        start: u16,
+    ) -> io::Result<Child> {
+        self.add_words(command, id, start)?;
+        put_mark(command, place)?;
+        start_quietly(&self.rt, command)
+    }
+
+    fn spawn(&self, place: &str, id: RequestId, start: u16) -> io::Result<Child> {
+        let mut command = Command::new(self.rt.alloc(), "setpriv")?;
+        self.spawn_by(&mut command, place, id, start)
     }
 
     fn begin(&mut self, order: &LaunchOrder, script: &[u8]) -> io::Result<()>

@@ -83,18 +83,28 @@ fn environ_of(rt: &HostRuntime, number: u32) -> io::Result<Vec<u8>> {
     }
 }
 
+// Adds the number of a process by the name of a file of `/proc`, if it has this mark and is not this
+// process.
+fn add_marked(
+    rt: &HostRuntime,
+    name: &str,
+    mark: &Mark,
+    found: &mut Vec<String>,
+) -> io::Result<()> {
+    let Some(number) = process_number(name) else {
+        return Ok(());
+    };
+    if number != process::id(rt.process()) && is_marked(&environ_of(rt, number)?, mark) {
+        found.push(format!(in rt.alloc(); "{number}")?)?;
+    }
+    Ok(())
+}
+
 // The numbers of the processes with this mark, but for this process.
 fn look(rt: &HostRuntime, mark: &Mark) -> io::Result<Vec<String>> {
-    let own = process::id(rt.process());
     let mut found = Vec::new(rt.alloc());
     for entry in fs::read_dir(rt, "/proc")? {
-        let entry = entry?;
-        let Some(number) = process_number(entry.file_name()) else {
-            continue;
-        };
-        if number != own && is_marked(&environ_of(rt, number)?, mark) {
-            found.push(format!(in rt.alloc(); "{number}")?)?;
-        }
+        add_marked(rt, entry?.file_name(), mark, &mut found)?;
     }
     Ok(found)
 }

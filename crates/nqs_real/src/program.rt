@@ -22,24 +22,35 @@ pub(crate) fn start_quietly(rt: &HostRuntime, command: &mut Command) -> io::Resu
         .spawn(rt)
 }
 
-// Runs a program with these words, whose three streams are `/dev/null`, to its end. How it ended is
-// not looked at.
+// Runs a program whose three streams are `/dev/null` to its end. How it ended is not looked at.
+fn run_to_its_end(rt: &HostRuntime, command: &mut Command) -> io::Result<()> {
+    start_quietly(rt, command)?.wait()?;
+    Ok(())
+}
+
+fn run_with(rt: &HostRuntime, command: &mut Command, words: &[&str]) -> io::Result<()> {
+    add_words(command, words)?;
+    run_to_its_end(rt, command)
+}
+
+// The same, of a program with these words.
 fn run_quietly(rt: &HostRuntime, program: &str, words: &[&str]) -> io::Result<()> {
     let mut command = Command::new(rt.alloc(), program)?;
-    add_words(&mut command, words)?;
-    start_quietly(rt, &mut command)?.wait()?;
-    Ok(())
+    run_with(rt, &mut command, words)
+}
+
+fn end_by(rt: &HostRuntime, command: &mut Command, numbers: &[String]) -> io::Result<()> {
+    add_words(command, &["-KILL", "--"])?;
+    for number in numbers {
+        command.arg(number.as_str())?;
+    }
+    run_to_its_end(rt, command)
 }
 
 /// Sends SIGKILL to the processes with these numbers. One that has ended is passed over.
 pub(crate) fn end_processes(rt: &HostRuntime, numbers: &[String]) -> io::Result<()> {
     let mut command = Command::new(rt.alloc(), "kill")?;
-    add_words(&mut command, &["-KILL", "--"])?;
-    for number in numbers {
-        command.arg(number.as_str())?;
-    }
-    start_quietly(rt, &mut command)?.wait()?;
-    Ok(())
+    end_by(rt, &mut command, numbers)
 }
 
 /// Ends each process of the session that this process leads, whatever signals it ignores. `kill`

@@ -53,6 +53,20 @@ fn sync_at(rt: &HostRuntime, folder: &str, path: &str, place: usize) -> io::Resu
     }
 }
 
+fn make_folders(rt: &HostRuntime, folder: &str, path: &str) -> io::Result<()> {
+    for end in 0..path.len() {
+        make_at(rt, folder, path, end)?;
+    }
+    Ok(())
+}
+
+fn sync_folders(rt: &HostRuntime, folder: &str, path: &str) -> io::Result<()> {
+    for end in 0..path.len() {
+        sync_at(rt, folder, path, end)?;
+    }
+    sync_folder(rt, folder)
+}
+
 fn folder_at(path: &str, place: usize) -> Option<&str> {
     match path.split_at_checked(place) {
         Some((front, rest)) if rest.starts_with('/') => Some(front),
@@ -71,14 +85,8 @@ pub(crate) fn put_file(
 ) -> io::Result<()> {
     let path = path_text(path)?;
     let new = format!(in rt.alloc(); "{folder}.new")?;
-    let place = format!(in rt.alloc(); "{folder}/{path}")?;
     write_new(rt, &new, bytes)?;
-    for end in 0..path.len() {
-        make_at(rt, folder, path, end)?;
-    }
-    rename(rt, &new, &place)?;
-    for end in 0..path.len() {
-        sync_at(rt, folder, path, end)?;
-    }
-    sync_folder(rt, folder)
+    make_folders(rt, folder, path)?;
+    rename(rt, &new, &format!(in rt.alloc(); "{folder}/{path}")?)?;
+    sync_folders(rt, folder, path)
 }

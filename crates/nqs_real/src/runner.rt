@@ -150,15 +150,27 @@ impl ShellRunner {
             .spawn(&self.rt)
     }
 
-    fn begin(&self, place: &str, name: &str, id: RequestId, start: u16) -> io::Result<Child> {
+    // Starts the job by this command, which has no words yet.
+    fn spawn_job(
+        &self,
+        command: &mut Command,
+        place: &str,
+        name: &str,
+        id: RequestId,
+        start: u16,
+    ) -> io::Result<Child> {
         let path = format!(in self.rt.alloc(); "{place}/order")?;
         let text = fs::read_to_string(&self.rt, &path)?;
         let order = read_order(&text)?;
+        self.add_words(command, name, &order)?;
+        self.set_names(command, id, start, &order)?;
+        put_mark(command, place)?;
+        self.spawn(command, place)
+    }
+
+    fn begin(&self, place: &str, name: &str, id: RequestId, start: u16) -> io::Result<Child> {
         let mut command = Command::new(self.rt.alloc(), "setpriv")?;
-        self.add_words(&mut command, name, &order)?;
-        self.set_names(&mut command, id, start, &order)?;
-        put_mark(&mut command, place)?;
-        self.spawn(&mut command, place)
+        self.spawn_job(&mut command, place, name, id, start)
     }
 
     // How the job ended. One that outlives the last look is an `Err`.
