@@ -134,7 +134,7 @@ fn appends_after_a_stop(rt: HostRuntime) -> Result<(), Fail> {
 
 /// A tear, and what a load finds after a stop in each of the two calls of a format: a journal
 /// without payloads, or bytes that are none from a place on.
-static FORMATTED: [(Tear, [Option<u64>; 2]); 6] = [
+const FORMATTED: [(Tear, [Option<u64>; 2]); 6] = [
     // Nothing was synced, so the disk is empty.
     (Tear::Old, [Some(0), Some(0)]),
     (Tear::New, [None, None]),

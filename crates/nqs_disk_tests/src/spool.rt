@@ -249,7 +249,7 @@ fn stops(rt: HostRuntime) {
 
 /// The bytes of a disk, the places and lengths of extents on it, and the place of the first that it
 /// can't have.
-static EXTENTS: [(u64, [(u64, u32); 3], Option<u64>); 9] = [
+const EXTENTS: [(u64, [(u64, u32); 3], Option<u64>); 9] = [
     (0, [(0, 0), (0, 0), (0, 0)], None),
     (10, [(4, 2), (0, 4), (6, 4)], None),
     (9, [(4, 2), (0, 4), (6, 4)], Some(6)),

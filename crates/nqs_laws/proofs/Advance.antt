@@ -312,7 +312,7 @@ silent_tabled until (n ∷ ks) states packets h s there me o calm fit k table to
         ⊎ (x ≡ next_id s) = λ x none. inl (silent_found x until n (Some y) s (keys_are s o.keys).rows ∙ gone x none) in
         let o' = silent_one s o n y e opens until in
         let first = rows_tabled states packets k h s u there to from turn guards table told (omega arith)
-          (λ b. held_or (same_host b n.peer) Withdraws tt) (λ a. tt)
+        (λ b. held_or (same_host b n.peer) Withdraws tt) (λ a. tt)
         (row_grows states packets k h s there me o calm table told u new) (fresh_row states packets k h s there me o calm table told u o' refl new) in
         let rest_told = again (put_state h u states) packets h u (get-here h.0 u s states there) me o' (silent_calm_one s o calm n y e opens until)
         (list_all-weaker (λ l. not_committed (find_hand l.peer l.number s)) (λ l. not_committed (find (is_hand l) (without_first (is_hand n) s.hands)))

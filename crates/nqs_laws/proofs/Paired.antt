@@ -182,7 +182,8 @@ module _ (states : List Plain) (packets : List Message) (h : HostId) (s s' : Pla
           x.source b,
           (y.target a).stays (still (same_host b h) (from a) (e a)),
           source_may a b u' v' x y (same_host a h) refl,
-          refl)
+          refl,
+        )
         by (inr e) = inr (
           here_or b (from a),
           subst (λ m. offered u' b ≡ (moved (pair (offered x.state b) NoPledge (next_of b x.state) 0) m).offer) (still (same_host a h) (to b) (e b))
