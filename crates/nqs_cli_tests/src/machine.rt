@@ -29,7 +29,6 @@ pub struct Count {
 pub type Held = (u64, [u8; 200]);
 
 /// The machine. It tells nothing, as a real one.
-#[derive(Drop)]
 pub struct MemMachine {
     alloc: Global,
     disks: Option<Disks<MemDisk>>,
@@ -40,6 +39,22 @@ pub struct MemMachine {
     faults: u64,
     /// The wire that came back last.
     pub wire: Option<MemWire>,
+}
+
+// Written out, so that a machine is let go by one call.
+impl Drop for MemMachine {
+    fn drop(self) {
+        let MemMachine {
+            alloc: _,
+            disks: _,
+            arrivals: _,
+            count: _,
+            failing: _,
+            asked: _,
+            faults: _,
+            wire: _,
+        } = self;
+    }
 }
 
 // What a disk holds. One that can't be read holds more than any.
