@@ -1,5 +1,5 @@
 -- Small facts of numbers, tests and lists, for the proofs of all crates.
-use Rattle.std.proofs.Common.{◌≡◌, ℕ, zero, suc, ◌+◌, ◌<◌, ◌≤◌, nat_lt, Bool, true, false, cond, List, [], ◌∷◌, ◌++◌, map, length, take, drop, find, sum}
+use Rattle.std.proofs.Common.{◌≡◌, ℕ, zero, suc, ◌+◌, ◌<◌, ◌≤◌, nat_lt, Bool, true, false, ◌&&◌, cond, List, [], ◌∷◌, ◌++◌, map, length, take, drop, find, sum}
 use Rattle.std.proofs.Common.{get_or, slice_get, Option, None, Some, is_some, option_map, Err, IsErrOf, IsTrue, refl, sym, ap, ◌∙◌, arith, length-append}
 use Rattle.std.specs.List.{list_all, AllByRecursion}
 use Rattle.std.proofs.lemmas.Bool.{and_from}
@@ -22,6 +22,11 @@ no_two a b less past = absurd (omega arith)
 pub refuted : (test : Bool) → IsTrue test → test ≡ false → ⊥
 refuted true is not = let never : ⊥ = cc in never
 refuted false is not = let never : ⊥ = cc in never
+
+-- of two tests that don't both pass, one of which does, the other doesn't
+pub other_fails : (a b : Bool) → (a && b) ≡ false → b ≡ true → a ≡ false
+other_fails true b h is = sym is ∙ h
+other_fails false b h is = refl
 
 -- ---- options and results
 

@@ -1,4 +1,4 @@
--- How the daemon ends, by how the check, the boot and the serving did.
+-- How the daemon ends, by how the loading, the boot and the serving did.
 use Rattle.std.proofs.Common.{◌≡◌, inl, inr, ℕ, Bool, IsTrue, List, [], Some, refl, sym, subst}
 use Rattle.nqs_base.specs.Want.{want}
 use Rattle.nqs_state.specs.State.{Plain}
@@ -32,8 +32,7 @@ use Rattle.nqs_serve.specs.declared.daemon.ServeEnd.{ServeEnd}
 use Rattle.nqs_serve.specs.declared.daemon.ServeEnd.TheVariants as end
 use Rattle.nqs_clients.specs.declared.status.NqsStatus.{NqsStatus}
 use Rattle.nqs_clients.specs.declared.status.NqsStatus.TheVariants as nqs
-use Rattle.nqs_cli.specs.Checks.{IsRefused}
-use Rattle.nqs_cli.specs.Daemons.{Outside, outside, Unseen, IsThere, IsUnasked, HasFailed, IsPassedSince, HasServed, HasDiskFault, Daemons, here_of}
+use Rattle.nqs_cli.specs.Daemons.{Outside, Unseen, IsUnasked, HasFailed, IsPassedSince, HasServed, HasDiskFault, Daemons, here_of}
 use Rattle.nqs_cli.specs.Ends.{status_of_fault, status_of_serve}
 use Rattle.nqs_cli.specs.Formats.{AreSame}
 use Rattle.nqs_cli.specs.Parts.{DisksTold}
@@ -76,10 +75,6 @@ since_boot a b old mid new now s acts more same active boot run =
 
 -- disks that were only read
 
--- what they told they tell
-pub there_since : (was now : DisksTold) → AreSame was.histories now.histories → (s : Plain) → IsThere was s → IsThere now s
-there_since was now same s there = subst (λ (h : Which → History). IsTold (contents h) s) (λ j which. sym (same which) j) there
-
 -- no call of the boot was made on them
 pub unbegun : (was now : DisksTold) → ((which : Which) → IsQuiet (was.histories which)) → AreSame was.histories now.histories → HasFailed was now
 unbegun was now quiet same = (
@@ -91,44 +86,22 @@ unbegun was now quiet same = (
   λ none. same,
 )
 
--- a boot failed on them then
-pub failed_since : (was read now : DisksTold) → AreSame was.histories read.histories → HasFailed read now → HasFailed was now
-failed_since was read now same failed =
-    subst (λ (h : Which → History). HasFailed (record { histories = h; faults = read.faults }) now) (λ j which. same which j) failed
-
--- the check
-
--- why the disks could not be read, or are no host's
-pub unread : (tells : Bool) (me : HostId) (names : List (List ℕ)) (was now : DisksTold) (fault : LoadFault) (status : NqsStatus)
-    → status ≡ status_of_fault fault → (IsTrue tells → AreSame was.histories now.histories)
-    → ((which : Which) → fault ≡ load.Disk which → Rose (was.faults which) (now.faults which))
-    → (IsTrue tells → IsLoadFault (contents was.histories) fault)
-    → IsRefused tells me names was now status
-unread tells me names was now (load.Disk which) status is same failed why =
-    subst (IsRefused tells me names was now) (sym is) ((which, failed which refl), same)
-unread tells me names was now (load.NotNqs which place) status is same failed why =
-    subst (IsRefused tells me names was now) (sym is) (λ yes. (same yes, inl (which, place, why yes)))
-unread tells me names was now (load.Memory memory) status is same failed why = subst (IsRefused tells me names was now) (sym is) same
-
 -- how the daemon ends
 
 module _ (tells : Bool) (me : HostId) (names : List (List ℕ)) (turns : ℕ) (was now : Outside) where
-  -- the disks were not taken for this host's
-  pub refused : (status : NqsStatus) → IsUnasked was now → (IsTrue tells → (which : Which) → IsQuiet (was.disks.histories which))
-      → IsRefused tells me names was.disks now.disks status → Daemons tells me names turns was now status
-  refused nqs.DiskFault unasked quiet why = (why.0, inr (unasked, λ yes. unbegun was.disks now.disks (quiet yes) (why.1 yes)))
-  refused (nqs.Memory memory) unasked quiet why = inr (unasked, why)
-  refused nqs.NotNqs unasked quiet why = (unasked, why)
-  refused nqs.Done unasked quiet why = absurd why
-  refused nqs.Refused unasked quiet why = absurd why
-  refused nqs.BadWords unasked quiet why = absurd why
-  refused nqs.ReadFault unasked quiet why = absurd why
-  refused nqs.WriteFault unasked quiet why = absurd why
-  refused nqs.NoAnswer unasked quiet why = absurd why
-  refused nqs.WireFault unasked quiet why = absurd why
-  refused nqs.TurnsUsed unasked quiet why = absurd why
-  refused nqs.MachineFault unasked quiet why = absurd why
-  refused nqs.Exists unasked quiet why = absurd why
+  -- the disks could not be read, or tell no host
+  pub not_loaded : (fault : LoadFault) (status : NqsStatus) → status ≡ status_of_fault fault → IsUnasked was now
+      → (IsTrue tells → (which : Which) → IsQuiet (was.disks.histories which)) → (IsTrue tells → AreSame was.disks.histories now.disks.histories)
+      → ((which : Which) → fault ≡ load.Disk which → Rose (was.disks.faults which) (now.disks.faults which))
+      → (IsTrue tells → IsLoadFault (contents was.disks.histories) fault)
+      → Daemons tells me names turns was now status
+  not_loaded (load.Disk which) status is unasked quiet same failed why =
+      subst (Daemons tells me names turns was now) (sym is)
+      ((which, failed which refl), inr (unasked, λ yes. unbegun was.disks now.disks (quiet yes) (same yes)))
+  not_loaded (load.NotNqs which place) status is unasked quiet same failed why =
+      subst (Daemons tells me names turns was now) (sym is) (unasked, λ yes. (same yes, inl (which, place, why yes)))
+  not_loaded (load.Memory memory) status is unasked quiet same failed why =
+      subst (Daemons tells me names turns was now) (sym is) (inr (unasked, same))
 
   -- the host could not be booted
   pub not_booted : (fault : LoadFault) (status : NqsStatus) → status ≡ status_of_fault fault → IsUnasked was now
@@ -153,11 +126,3 @@ module _ (tells : Bool) (me : HostId) (names : List (List ℕ)) (turns : ℕ) (w
   has_served end.WireFault status is served wire disk = subst (Daemons tells me names turns was now) (sym is) (served, wire refl)
   has_served end.DiskFault status is served wire disk = subst (Daemons tells me names turns was now) (sym is) (disk refl, inl served)
   has_served (end.Memory memory) status is served wire disk = subst (Daemons tells me names turns was now) (sym is) (inl served)
-
-  -- it served from disks that were only read before
-  pub served_since : (read : DisksTold) (so : ServeEnd) → (IsTrue tells → AreSame was.disks.histories read.histories)
-      → HasServed tells me names turns (outside read was.wire was.asked was.prints was.filings was.given) now so → HasServed tells me names turns was now so
-  served_since read so same served = λ yes.
-      subst (λ (h : Which → History). HasServed tells me names turns
-      (outside (record { histories = h; faults = read.faults }) was.wire was.asked was.prints was.filings was.given) now so)
-      (λ j which. same yes which j) served yes

@@ -2,7 +2,7 @@
 use Rattle.std.proofs.Common.{◌≡◌, ◌≤◌, inl, inr, ℕ, Bool, List, Option, None, Some, refl, sym, subst, arith}
 use Rattle.nqs_types.specs.declared.ids.HostId.{HostId}
 use Rattle.nqs_outside.specs.Causes.{Rose}
-use Rattle.nqs_clients.specs.Sides.{Fed, Sunk}
+use Rattle.nqs_outside.specs.Streams.{Fed, Sunk}
 use Rattle.nqs_clients.specs.declared.status.NqsStatus.{NqsStatus}
 use Rattle.nqs_clients.specs.declared.status.NqsStatus.TheVariants.{Done, Refused, BadWords, NotNqs, ReadFault, WriteFault, Memory, NoAnswer, WireFault}
 use Rattle.nqs_clients.specs.declared.status.NqsStatus.TheVariants.{DiskFault, TurnsUsed, MachineFault, Exists}

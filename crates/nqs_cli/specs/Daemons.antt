@@ -1,4 +1,4 @@
--- What `nqs daemon` does with the parts of a host: it reads the disks, and where they are those of
+-- What `nqs daemon` does with the parts of a host: it loads the disks, and where they are those of
 -- this host it boots the host, and serves.
 use Rattle.std.specs.Prelude.{◌≡◌, ◌⊎◌, ℕ, ◌&&◌, Bool, true, false, IsTrue, List, [], ◌∷◌}
 use Rattle.std.specs.declared.option.Option.{Option}
@@ -85,6 +85,10 @@ here_of s = record { me = s.me; site = s.site }
 -- it is this host of this site
 abbrev pub is_here : HostId → List (List ℕ) → Plain → Bool
 is_here me names s = same_host me s.me && pointwise name_eq s.site names
+
+-- they tell this host of this site
+abbrev pub IsHere : Bool → HostId → List (List ℕ) → DisksTold → Type 0
+IsHere tells me names d = IsTrue tells → (s : Plain) × IsThere d s × (is_here me names s ≡ true)
 
 -- a state that the disks pass: the one before the boot, or one that the run from the boot on passes
 abbrev pub IsPassedSince : Plain → List Act → List ℕ → Plain → Type 0

@@ -2,6 +2,5 @@ pub mod Forms
 pub mod Parts
 pub mod Formats
 pub mod Daemons
-pub mod Checks
 pub mod Runs
 pub mod Ends

@@ -12,10 +12,11 @@ use Rattle.nqs_rules.specs.Find.{host_at}
 use Rattle.nqs_words.specs.Values.{name_of}
 use Rattle.nqs_outside.specs.Asked.{Job}
 use Rattle.nqs_outside.specs.Causes.{Rose}
+use Rattle.nqs_outside.specs.Streams.{Fed, Sunk, IsUnread}
 use Rattle.nqs_clients.specs.Client as client
 use Rattle.nqs_clients.specs.Errand.{place_of}
 use Rattle.nqs_clients.specs.Shepherd.{Shepherds}
-use Rattle.nqs_clients.specs.Sides.{Wired, Fed, Sunk, IsUnread, IsUnwritten}
+use Rattle.nqs_clients.specs.Sides.{Wired, IsUnwritten}
 use Rattle.nqs_clients.specs.declared.shepherding.ShepherdEnd.{ShepherdEnd}
 use Rattle.nqs_clients.specs.declared.shepherding.ShepherdEnd.TheVariants as shepherd
 use Rattle.nqs_clients.specs.declared.status.NqsStatus.{NqsStatus}

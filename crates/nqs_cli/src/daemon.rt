@@ -10,9 +10,10 @@ ghost use Rattle.nqs_types.specs.declared.world.Which.{Which};
 ghost use Rattle.nqs_outside.specs.History.{IsQuiet};
 ghost use Rattle.nqs_outside.specs.Told.{Extends};
 ghost use Rattle.nqs_store.specs.Disks.{histories_of};
-ghost use Rattle.nqs_cli.specs.Parts.{DisksTold, disks_told, wire_told};
-ghost use Rattle.nqs_cli.specs.Checks.{ChecksHost, IsChecked};
-ghost use Rattle.nqs_cli.specs.Daemons.{Outside, outside, Daemons, is_here, daemon_parts};
+ghost use Rattle.nqs_store.specs.declared.disks.Disks.{Disks};
+ghost use Rattle.nqs_node.specs.Boots.{IsLoaded};
+ghost use Rattle.nqs_cli.specs.Parts.{disks_told, wire_told};
+ghost use Rattle.nqs_cli.specs.Daemons.{Outside, outside, Daemons, IsHere, is_here, daemon_parts};
 ghost use Rattle.nqs_cli.specs.Ends.{status_of_fault, status_of_serve};
 ghost use Rattle.nqs_cli.specs.Runs.{Parts as Lists, IsWanting, DoesDaemon, BreaksOff};
 
@@ -24,7 +25,7 @@ use nqs_node::Node;
 use nqs_outside::{Clock, Disk, Launcher, Outlet, Printer, Wire};
 use nqs_serve::{ServeEnd, serve};
 use nqs_state::HostState;
-use nqs_store::{Disks, LoadFault, read_only};
+use nqs_store::{Disks, LoadFault, Store};
 use nqs_types::HostId;
 use std::alloc::Global;
 
@@ -57,31 +58,12 @@ fn is_here(me: HostId, names: &[Name], state: &HostState) -> bool
     me.0 == state.me.0 && state.site.as_slice() == names
 }
 
-// Whether the disks are this host's, by a reading that writes nothing; if not, the status says why.
-// What was read is let go.
-fn check_host<D: Disk>(
-    alloc: Global,
-    me: HostId,
-    names: &[Name],
-    disks: &mut Disks<D>,
-) -> Result<(), NqsStatus>
-    ensures { ChecksHost D.tells me names.now (disks_told D.history D.faults disks.old) (disks_told D.history D.faults disks.new) result }
-{
-    match read_only(alloc, disks) {
-        Err(fault) => Err(status_of_fault(fault)),
-        Ok(state) => {
-            if !is_here(me, names, &state) {
-                return Err(NqsStatus::NotNqs);
-            }
-            Ok(())
-        }
-    }
-}
-
-// Boots the host from its disks, which were checked, and serves; the disks come back.
+// Boots the host that was loaded from its disks, which is this one, and serves; the disks come
+// back.
 fn boot_and_serve<D: Disk + Drop, W: Wire, L: Launcher, P: Printer, O: Outlet, C: Clock>(
     alloc: Global,
-    disks: Disks<D>,
+    store: Store<D>,
+    state: HostState,
     wire: &mut W,
     launcher: &mut L,
     printer: &mut P,
@@ -89,17 +71,18 @@ fn boot_and_serve<D: Disk + Drop, W: Wire, L: Launcher, P: Printer, O: Outlet, C
     clock: &mut C,
     turns: u64,
 ) -> (NqsStatus, Disks<D>)
-    requires quiet { IsTrue D.tells → (which : Which) → IsQuiet (histories_of D.history disks which) }
-    ensures { (me : HostId) (names : List (List ℕ)) (was : DisksTold) → IsChecked D.tells me names was (disks_told D.history D.faults disks)
+    requires loaded { (disks : Disks D) × IsLoaded disks store state }
+    ensures { (me : HostId) (names : List (List ℕ)) (disks : Disks D) → IsLoaded disks store state
+        → IsHere D.tells me names (disks_told D.history D.faults disks)
         → Daemons D.tells me names turns
-        (outside was (wire_told W.received W.sent W.receive_faults W.send_faults wire.old)
+        (outside (disks_told D.history D.faults disks) (wire_told W.received W.sent W.receive_faults W.send_faults wire.old)
         (L.asked launcher.old) (P.prints printer.old) (O.filings outlet.old) (C.given clock.old))
         (outside (disks_told D.history D.faults result.1) (wire_told W.received W.sent W.receive_faults W.send_faults wire.new)
         (L.asked launcher.new) (P.prints printer.new) (O.filings outlet.new) (C.given clock.new))
         result.0 }
 {
     let mut said = Vec::new(alloc);
-    match Node::boot(alloc, disks, &mut said) {
+    match Node::boot_loaded(alloc, store, state, &mut said) {
         Err((fault, disks)) => (status_of_fault(fault), disks),
         Ok(mut node) => {
             let end = serve(
@@ -111,11 +94,11 @@ fn boot_and_serve<D: Disk + Drop, W: Wire, L: Launcher, P: Printer, O: Outlet, C
 }
 
 // Serves where the disks are this host's; the disks come back.
-fn check_and_serve<D: Disk + Drop, W: Wire, L: Launcher, P: Printer, O: Outlet, C: Clock>(
+fn load_and_serve<D: Disk + Drop, W: Wire, L: Launcher, P: Printer, O: Outlet, C: Clock>(
     alloc: Global,
     me: HostId,
     names: &[Name],
-    mut disks: Disks<D>,
+    disks: Disks<D>,
     wire: &mut W,
     launcher: &mut L,
     printer: &mut P,
@@ -131,11 +114,19 @@ fn check_and_serve<D: Disk + Drop, W: Wire, L: Launcher, P: Printer, O: Outlet, 
         (L.asked launcher.new) (P.prints printer.new) (O.filings outlet.new) (C.given clock.new))
         result.0 }
 {
-    // First the check, which only reads, then the boot, which keeps a record: on another host's
-    // disks that would be a restart of it, and what runs there would start again or be lost.
-    match check_host(alloc, me, names, &mut disks) {
-        Err(status) => (status, disks),
-        Ok(()) => boot_and_serve(alloc, disks, wire, launcher, printer, outlet, clock, turns),
+    // The look comes behind the loading, which writes nothing, and before the boot, which keeps a
+    // record: on another host's disks that would be a restart of it, and what runs there would
+    // start again or be lost.
+    match Store::load(alloc, disks) {
+        Err((fault, disks)) => (status_of_fault(fault), disks),
+        Ok((store, state)) => {
+            if !is_here(me, names, &state) {
+                return (NqsStatus::NotNqs, store.close());
+            }
+            boot_and_serve(
+                alloc, store, state, wire, launcher, printer, outlet, clock, turns,
+            )
+        }
     }
 }
 
@@ -163,7 +154,7 @@ fn serve_with<M: Machine>(
         mut outlet,
         mut clock,
     } = parts;
-    let (status, disks) = check_and_serve(
+    let (status, disks) = load_and_serve(
         alloc,
         me,
         names,

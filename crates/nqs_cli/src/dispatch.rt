@@ -3,7 +3,7 @@
 ghost use Rattle.std.specs.Prelude.{◌≡◌, ◌⊎◌, ◌≤◌, ◌<◌, List, Some, true, length, map, string_bytes, IfSome};
 ghost use Rattle.nqs_rules.specs.Sane.{is_of_site, is_sane_id};
 ghost use Rattle.nqs_outside.specs.Told.{Extends};
-ghost use Rattle.nqs_clients.specs.Sides.{fed, sunk};
+ghost use Rattle.nqs_outside.specs.Streams.{fed, sunk};
 ghost use Rattle.nqs_cli.specs.Parts.{Lent};
 ghost use Rattle.nqs_cli.specs.Runs.{Parts as Lists, IsWanting, Tends, Asks, BreaksOff, DoesOrWants, Runs, RunsAt, RunsForm, RunsWords, host_of, host_named};
 ghost use Rattle.nqs_cli.specs.Runs.{request_named};

@@ -1,7 +1,8 @@
 -- How a client ends by parts.
 use Rattle.std.proofs.Common.{ℕ, false, inl}
+use Rattle.nqs_outside.specs.Streams.{Fed, Sunk}
 use Rattle.nqs_clients.specs.Client.{EndsWriting, EndsFor, IsTooLong, too_long_text}
-use Rattle.nqs_clients.specs.Sides.{Wired, Fed, Sunk}
+use Rattle.nqs_clients.specs.Sides.{Wired}
 use Rattle.nqs_clients.specs.declared.errand.Errand.{Errand}
 use Rattle.nqs_clients.specs.declared.status.NqsStatus.{NqsStatus}
 use Rattle.nqs_clients.specs.declared.status.NqsStatus.TheVariants as status

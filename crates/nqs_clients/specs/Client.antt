@@ -6,6 +6,7 @@ use Rattle.std.specs.declared.result.Result.{Result}
 use Rattle.nqs_outside.specs.declared.whole.ReadStop.{ReadStop}
 use Rattle.nqs_outside.specs.declared.whole.ReadStop.TheVariants.{Fault, TooLong, Memory}
 use Rattle.nqs_outside.specs.Causes.{Rose}
+use Rattle.nqs_outside.specs.Streams.{Fed, IsUnread, Sunk}
 use Rattle.nqs_types.specs.declared.event.Reply.TheVariants.{UnreadWords}
 use Rattle.nqs_types.specs.declared.fault.WordsFault.{WordsFault}
 use Rattle.nqs_types.specs.declared.fault.WordsCause.TheVariants.{ScriptTooLong}
@@ -14,7 +15,7 @@ use Rattle.nqs_types.specs.declared.message.Tool.TheVariants.{Qsub}
 use Rattle.nqs_rules.specs.Transcript.{reply_text}
 use Rattle.nqs_clients.specs.Errand.{errand_of}
 use Rattle.nqs_clients.specs.Exchange.{Exchanges}
-use Rattle.nqs_clients.specs.Sides.{Wired, IsSilent, Fed, IsUnread, ReadsScript, ReadsTooMuch, Sunk, IsUnwritten, Writes, FailsWriting}
+use Rattle.nqs_clients.specs.Sides.{Wired, IsSilent, ReadsScript, ReadsTooMuch, IsUnwritten, Writes, FailsWriting}
 use Rattle.nqs_clients.specs.declared.answer.Answer.{Answer}
 use Rattle.nqs_clients.specs.declared.datagram.WaitStop.TheVariants as stop
 use Rattle.nqs_clients.specs.declared.errand.Errand.{Errand}

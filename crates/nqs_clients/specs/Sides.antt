@@ -1,9 +1,9 @@
--- What the client's wire, source and sink tell, before and after.
-use Rattle.std.specs.Prelude.{◌≡◌, ℕ, ◌≤◌, ◌⊎◌, List, length, take}
+-- What the client's wire tells, before and after, and what was read and written.
+use Rattle.std.specs.Prelude.{◌≡◌, ℕ, ◌≤◌, List, length, take}
 use Rattle.std.specs.declared.option.Option.{Option}
 use Rattle.std.specs.Io.KnownBytes.{Appends, Consumes, IsAtEnd}
 use Rattle.nqs_outside.specs.Asked.{Arrival, Packet}
-use Rattle.nqs_outside.specs.Causes.{Rose}
+use Rattle.nqs_outside.specs.Streams.{Fed, Sunk, SinkFailed}
 
 -- what a wire has received and sent, and its counts of faults
 pub record Wired : Type 0 where
@@ -35,21 +35,6 @@ abbrev pub IsSilent : Wired → Type 0
 IsSilent wire = (wire.received_now ≡ wire.received) × (wire.sent_now ≡ wire.sent) × (wire.receive_faults_now ≡ wire.receive_faults)
     × (wire.send_faults_now ≡ wire.send_faults)
 
--- what a source has left, and its count of faults
-pub record Fed : Type 0 where
-  pub left : Option (List ℕ)
-  pub left_now : Option (List ℕ)
-  pub faults : ℕ
-  pub faults_now : ℕ
-
--- what a source tells of itself before and after, by its two ways to tell it
-abbrev pub fed : {S : Type 0} → (S → Option (List ℕ)) → (S → ℕ) → S → S → Fed
-fed left faults old new = record { left = left old; left_now = left new; faults = faults old; faults_now = faults new }
-
--- no byte of the source was asked for
-abbrev pub IsUnread : Fed → Type 0
-IsUnread source = (source.left_now ≡ source.left) × (source.faults_now ≡ source.faults)
-
 -- the source was read to its end, and this is what it gave
 abbrev pub ReadsScript : Fed → List ℕ → Type 0
 ReadsScript source script = Consumes source.left source.left_now script × IsAtEnd source.left_now × (length script ≤ 32768)
@@ -57,20 +42,6 @@ ReadsScript source script = Consumes source.left source.left_now script × IsAtE
 -- one byte more than the longest script was read
 abbrev pub ReadsTooMuch : Fed → Type 0
 ReadsTooMuch source = (bytes : List ℕ) × Consumes source.left source.left_now bytes × (length bytes ≡ 32769)
-
--- what a sink has taken, and its counts
-pub record Sunk : Type 0 where
-  pub taken : Option (List ℕ)
-  pub taken_now : Option (List ℕ)
-  pub faults : ℕ
-  pub faults_now : ℕ
-  pub stalls : ℕ
-  pub stalls_now : ℕ
-
--- what a sink tells of itself before and after, by its three ways to tell it
-abbrev pub sunk : {K : Type 0} → (K → Option (List ℕ)) → (K → ℕ) → (K → ℕ) → K → K → Sunk
-sunk taken faults stalls old new =
-    record { taken = taken old; taken_now = taken new; faults = faults old; faults_now = faults new; stalls = stalls old; stalls_now = stalls new }
 
 -- nothing was written
 abbrev pub IsUnwritten : Sunk → Type 0
@@ -83,4 +54,4 @@ Writes sink text = Appends sink.taken sink.taken_now text
 -- a front of the text was written, and the sink failed, or took nothing of a piece that isn't empty
 abbrev pub FailsWriting : Sunk → List ℕ → Type 0
 FailsWriting sink text =
-    ((n : ℕ) × (n ≤ length text) × Writes sink (take n text)) × (Rose sink.faults sink.faults_now ⊎ Rose sink.stalls sink.stalls_now)
+    ((n : ℕ) × (n ≤ length text) × Writes sink (take n text)) × SinkFailed sink

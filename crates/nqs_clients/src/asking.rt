@@ -1,9 +1,10 @@
 //! The client of the commands: it asks the host what its words say, and writes the answer.
 
 ghost use Rattle.std.specs.Prelude.{◌≡◌, ◌≤◌, length, map, string_bytes};
+ghost use Rattle.nqs_outside.specs.Streams.{fed, sunk};
 ghost use Rattle.nqs_clients.specs.Client.{EndsAsking, EndsFor, Ends, EndsWriting, TakesScript};
 ghost use Rattle.nqs_clients.specs.Errand.{MayAsk};
-ghost use Rattle.nqs_clients.specs.Sides.{wired, fed, sunk};
+ghost use Rattle.nqs_clients.specs.Sides.{wired};
 
 use crate::datagram::WaitStop;
 use crate::errand::{Errand, WordsStop, read_words};

@@ -1,15 +1,9 @@
 -- What a stop leaves, by its tear.
-use Rattle.std.specs.Prelude.{ℕ, zero, suc, ◌+◌, ◌*◌, ◌/◌, ◌%◌, ◌^◌, ◌==◌, nat_le, Bool, ◌||◌, List, [], ◌∷◌, length, take, slice_index, if◌then◌else◌}
+use Rattle.std.specs.Prelude.{ℕ, ◌+◌, ◌*◌, ◌/◌, ◌%◌, ◌^◌, ◌==◌, nat_le, Bool, ◌||◌, List, [], ◌∷◌, length, take, slice_index, if◌then◌else◌}
 use Rattle.nqs_outside.specs.History.{State, covers}
+use Rattle.nqs_base.specs.Tears.{torn_byte}
 use Rattle.nqs_base.specs.declared.tear.Tear.{Tear}
 use Rattle.nqs_base.specs.declared.tear.Tear.TheVariants.{Old, New, Mixed}
-
--- a free byte, by a number below 4
-abbrev pub pick : ℕ → ℕ → ℕ → ℕ
-pick zero old new = old
-pick (suc zero) old new = new
-pick (suc (suc zero)) old new = 7
-pick (suc (suc (suc more))) old new = 255
 
 -- the two bits of n for the i-th free byte
 abbrev pub bits : ℕ → ℕ → ℕ
@@ -23,7 +17,7 @@ is_free s place = covers s.ranges place || nat_le (length s.synced) place
 abbrev pub mixed_from : (ℕ → Bool) → ℕ → List ℕ → ℕ → ℕ → List ℕ → List ℕ
 mixed_from free n synced place i [] = []
 mixed_from free n synced place i (new ∷ content) =
-    (if free place then pick (bits n i) (slice_index synced place) new else slice_index synced place)
+    (if free place then torn_byte (bits n i) (slice_index synced place) new else slice_index synced place)
     ∷ mixed_from free n synced (place + 1) (if free place then i + 1 else i) content
 
 -- what is left where a stop mixes old bytes with new ones

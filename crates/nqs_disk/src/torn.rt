@@ -3,7 +3,8 @@ ghost use Rattle.std.specs.Prelude.{◌≡◌, ◌+◌, ◌^◌, ◌≤◌, ◌<
 ghost use Rattle.std.specs.Prelude.{if◌then◌else◌, ◌%◌, ◌==◌};
 ghost use Rattle.nqs_outside.specs.History.{State, after, fresh, made, is_sound, covers};
 ghost use Rattle.nqs_disk.specs.Calls.{call_of, calls_of, is_synced, has_no_sync, touches};
-ghost use Rattle.nqs_disk.specs.Torn.{torn, mixed_from, bits, pick};
+ghost use Rattle.nqs_base.specs.Tears.{torn_byte};
+ghost use Rattle.nqs_disk.specs.Torn.{torn, mixed_from, bits};
 
 use crate::DiskCall;
 use crate::calls::overwrite;
@@ -74,7 +75,7 @@ fn is_touched(calls: &[DiskCall], place: usize) -> bool
 }
 
 fn picked(n: u64, i: usize, old: u8, new: u8) -> u8
-    ensures { result ≡ pick (bits n i) old new }
+    ensures { result ≡ torn_byte (bits n i) old new }
 {
     match (n >> (2 * (i % 32))) % 4 {
         0 => old,
@@ -97,7 +98,7 @@ fn old_byte(synced: &[u8], place: usize) -> u8
 }
 
 fn chosen(is_free: bool, n: u64, i: usize, old: u8, new: u8) -> u8
-    ensures { result ≡ (if is_free then pick (bits n i) old new else old) }
+    ensures { result ≡ (if is_free then torn_byte (bits n i) old new else old) }
 {
     if is_free { picked(n, i, old, new) } else { old }
 }

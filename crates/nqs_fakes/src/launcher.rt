@@ -29,12 +29,24 @@ pub enum LauncherCall {
 }
 
 /// A launcher that keeps what it was asked.
-#[derive(Drop)]
 pub struct MemLauncher {
     alloc: Global,
     kept: Items<LauncherCall>,
     calls: Failures,
     starved: bool,
+}
+
+// Written out, so that it is let go by a call, and not field by field in each function that owns
+// one.
+impl Drop for MemLauncher {
+    fn drop(self) {
+        let MemLauncher {
+            alloc: _,
+            kept: _,
+            calls: _,
+            starved: _,
+        } = self;
+    }
 }
 
 impl MemLauncher {

@@ -30,12 +30,24 @@ fn file_of(alloc: Global, path: &[u8], bytes: &[u8], ok: bool) -> Result<FileWri
 
 /// An outlet that keeps the files that it was to write, those that are written in place of others
 /// too.
-#[derive(Drop)]
 pub struct MemOutlet {
     alloc: Global,
     kept: Items<FileWritten>,
     calls: Failures,
     starved: bool,
+}
+
+// Written out, so that it is let go by a call, and not field by field in each function that owns
+// one.
+impl Drop for MemOutlet {
+    fn drop(self) {
+        let MemOutlet {
+            alloc: _,
+            kept: _,
+            calls: _,
+            starved: _,
+        } = self;
+    }
 }
 
 impl MemOutlet {

@@ -23,12 +23,24 @@ pub struct Printed {
 }
 
 /// A printer that keeps what it was to print.
-#[derive(Drop)]
 pub struct MemPrinter {
     alloc: Global,
     kept: Items<Printed>,
     calls: Failures,
     starved: bool,
+}
+
+// Written out, so that it is let go by a call, and not field by field in each function that owns
+// one.
+impl Drop for MemPrinter {
+    fn drop(self) {
+        let MemPrinter {
+            alloc: _,
+            kept: _,
+            calls: _,
+            starved: _,
+        } = self;
+    }
 }
 
 impl MemPrinter {

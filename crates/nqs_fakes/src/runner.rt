@@ -25,12 +25,24 @@ pub struct JobRun {
 }
 
 /// A runner that keeps the jobs that it was to run. It answers its ends in order, and then fails.
-#[derive(Drop)]
 pub struct MemRunner {
     ends: VecDeque<RunEnd>,
     kept: Items<JobRun>,
     calls: Failures,
     starved: bool,
+}
+
+// Written out, so that it is let go by a call, and not field by field in each function that owns
+// one.
+impl Drop for MemRunner {
+    fn drop(self) {
+        let MemRunner {
+            ends: _,
+            kept: _,
+            calls: _,
+            starved: _,
+        } = self;
+    }
 }
 
 fn copy_of(end: &RunEnd) -> Result<RunEnd, AllocError>

@@ -29,7 +29,6 @@ pub struct Sent {
 }
 
 /// A wire in memory. The items of its script come in order, and then nothing.
-#[derive(Drop)]
 pub struct MemWire {
     alloc: Global,
     script: VecDeque<Item>,
@@ -38,6 +37,22 @@ pub struct MemWire {
     receives: Failures,
     sends: Failures,
     starved: bool,
+}
+
+// Written out, so that it is let go by a call, and not field by field in each function that owns
+// one.
+impl Drop for MemWire {
+    fn drop(self) {
+        let MemWire {
+            alloc: _,
+            script: _,
+            received: _,
+            sent: _,
+            receives: _,
+            sends: _,
+            starved: _,
+        } = self;
+    }
 }
 
 // Fills the front of the buffer.

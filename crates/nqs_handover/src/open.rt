@@ -105,8 +105,7 @@ pub fn dest_at<'a>(state: &'a HostState, row: &Row, place: usize) -> Option<&'a 
 }
 
 /// Offers a row, by its place among the host's rows, to the destination at a place of its queue's
-/// list, as
-/// `offer_row` does. Nothing happens where there is no such row or destination.
+/// list, as `offer_row` does. Nothing happens where there is no such row or destination.
 pub fn open_hand(
     alloc: Global,
     state: &HostState,

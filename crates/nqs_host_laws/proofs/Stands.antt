@@ -1,8 +1,8 @@
 -- What of a change that fits a host in order stands in a record since it is found there: hosts and
 -- requests. And paths.
-use Rattle.std.proofs.Common.{◌≡◌, ℕ, Bool, true, nat_le, IsTrue, List, [], ◌∷◌, map, find, length, Option}
+use Rattle.std.proofs.Common.{◌≡◌, ℕ, Bool, true, nat_le, IsTrue, List, [], ◌∷◌, map, find, Option}
 use Rattle.std.proofs.Common.{None, Some, is_ok, true≢false, refl, sym, subst, arith}
-use Rattle.std.proofs.lemmas.Bool.{and_parts, leb-true, ltb-true, lt-ltb}
+use Rattle.std.proofs.lemmas.Bool.{and_parts, leb-true, lt-ltb}
 use Rattle.std.specs.List.{list_all, AllByRecursion}
 use Rattle.nqs_types.specs.Ids.{id_exact, peer_number_eq, peer_number_exact, hand_key, promise_key, stage_key}
 use Rattle.nqs_state.specs.Keys.{is_row, is_promise, is_stage}
@@ -31,7 +31,7 @@ use Rattle.nqs_rules.proofs.PathStands.{path_stands}
 use Rattle.nqs_rules.proofs.ListFacts.{found_passes, list_all-found}
 use Rattle.nqs_rules.proofs.RowFacts.{row_is, promise_is}
 use Rattle.nqs_rules.proofs.RowsOrder.{hand_is}
-use Rattle.nqs_rules.proofs.StateFacts.{sites_are}
+use Rattle.nqs_rules.proofs.StateFacts.{host_below}
 use Rattle.nqs_records.specs.Values.{is_seq, IsU8, IsHost, IsId, IsExtent, IsPart, IsHand}
 use Rattle.nqs_host_laws.specs.Offers.{HasNumber}
 use Rattle.nqs_host_laws.proofs.FewHands.{known_below}
@@ -51,12 +51,6 @@ parts_stand (p ∷ ps) paths extents = let k = and_parts (is_path p.path) (list_
 
 module _ {E : Type 0} (s : State E) (h : IsInOrder s) where
   -- hosts
-
-  pub site_host : (host : HostId) → is_site_host host s ≡ true → IsHost host
-  site_host host inside =
-      let below = ltb-true host.0 (length s.site) inside in
-      let few = leb-true (length s.site) 16 (sites_are s h.site).few in
-      lt-ltb host.0 16 (omega (arith, below, few))
 
   pub peer_host : (test : Peer → Bool) (peer : HostId) → passes test (find_peer peer s) ≡ true → IsHost peer
   peer_host test peer known = lt-ltb peer.0 16 (known_below s h test peer known)
@@ -100,7 +94,7 @@ module _ {E : Type 0} (s : State E) (h : IsInOrder s) where
   found_id id r found =
       let right = (row_is s r (list_all-found (is_row_right s) (is_row id) s.rows r h.rows found)).id in
       let p = and_parts (is_site_host r.id.host s) (is_sane_id r.id) right in
-      subst IsId (sym (id_exact id r.id (found_passes (is_row id) s.rows r found))) (p.1, site_host r.id.host p.0)
+      subst IsId (sym (id_exact id r.id (found_passes (is_row id) s.rows r found))) (p.1, host_below s r.id.host h.site p.0)
 
   pub row_id : (test : Row E → Bool) (id : RequestId) → row_passes test id s ≡ true → IsId id
   row_id test id there = by (find_row id s) refl there

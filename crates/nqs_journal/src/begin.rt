@@ -10,6 +10,7 @@ ghost use Rattle.nqs_journal.specs.Opened.{IsOpen};
 ghost use Rattle.nqs_journal.specs.Faults.{MatchBegin};
 
 use crate::JournalFault;
+use crate::read::HEADER;
 use nqs_base::Memory;
 use nqs_outside::{Disk, Failed};
 use std::alloc::{AllocError, Global};
@@ -56,8 +57,6 @@ pub(crate) fn write_begin<D: Disk>(disk: &mut D, text: &[u8]) -> Result<(), Fail
     disk.sync()?;
     Ok(())
 }
-
-const HEADER: [u8; 16] = *b"NQS-JOURNAL-v1\n\n";
 
 // The header, an open gate, the payload, and a closed gate.
 #[tactic(auto, unfolding(crate::specs::Text::frame))]

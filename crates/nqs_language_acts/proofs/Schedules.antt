@@ -21,7 +21,7 @@ use Rattle.nqs_schedule.specs.declared.plan.Plan.{Plan}
 use Rattle.nqs_schedule.specs.declared.line.Says.{Says}
 use Rattle.nqs_schedule.specs.declared.line.Says.TheVariants.{Nothing, Hosts, Event}
 use Rattle.nqs_schedule.specs.Lines.{line_words}
-use Rattle.nqs_schedule.specs.Words.{Read, or_cause, text_there, name_at, number_at, host_at, request_at, disk_at, tear_at, short_enough, output_at, nothing_at}
+use Rattle.nqs_schedule.specs.Words.{Read, or_fault, text_there, name_at, number_at, host_at, request_at, disk_at, tear_at, short_enough, output_at, nothing_at}
 use Rattle.nqs_schedule.specs.Words.{all_good}
 use Rattle.nqs_schedule.specs.Plans.{verb_of, submit_plan, qsub_plan, qmgr_plan, qstat_plan, qdel_plan, end_plan, one_host, fail_plan, host_and_file}
 use Rattle.nqs_schedule.specs.Plans.{deliver_plan, newest_plan, clock_plan, fuse_plan, show_plan, plan_of}
@@ -159,7 +159,7 @@ verb_right site is_open line ws v = by (is_hosts v && is_open)
 first_right : (site : List (List ℕ)) (is_open : Bool) (line : List ℕ) (ws : LineWords) (word : Option LineWord)
     → IfOk (first_says site is_open line ws word) SaysRight
 first_right site is_open line ws None = unless SaysRight ws.bad cause.BadQuote (Ok Nothing) (λ good. tt)
-first_right site is_open line ws (Some word) = each_step SaysRight (or_cause (verb_of word.text) cause.UnknownWord) _
+first_right site is_open line ws (Some word) = each_step SaysRight (or_fault (verb_of word.text) cause.UnknownWord) _
     (λ v is. verb_right site is_open line ws v)
 
 line_right : (site : List (List ℕ)) (is_open : Bool) (line : List ℕ) → IfOk (line_says site is_open line) SaysRight

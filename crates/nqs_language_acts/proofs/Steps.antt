@@ -1,6 +1,6 @@
 -- What holds of all that a reading gives.
 use Rattle.std.proofs.Common.{◌≡◌, Bool, true, false, cond, refl, Result, Ok, Err, IfOk}
-use Rattle.nqs_qsub.specs.Tokens.{◌>>=◌}
+use Rattle.nqs_base.specs.Reads.{◌>>=◌}
 
 -- of the second of two steps
 pub each_step : {A B E : Type 0} (P : B → Type 0) (r : Result A E) (f : A → Result B E) → ((a : A) → r ≡ Ok a → IfOk (f a) P) → IfOk (r >>= f) P

@@ -1,11 +1,9 @@
 -- Where something is picked, something is started.
 use Rattle.std.proofs.Common.{◌≡◌, ℕ, Bool, true, false, ◌==◌, slice_get, List, Option, None, Some, is_some, option_map, true≢false, refl, sym, ap, subst, ◌∙◌}
 use Rattle.std.proofs.Common.{if◌then◌else◌}
-use Rattle.std.proofs.lemmas.Cmp.{nat_list_eq_equiv}
 use Rattle.std.proofs.lemmas.Option.{same_Some, none-some}
 use Rattle.std.specs.List.{list_any}
 use Rattle.std.specs.Option.{IfSome, option_and_then}
-use Rattle.nqs_base.specs.Same.{name_eq, name_exact}
 use Rattle.nqs_base.proofs.Plain.{is_some-option_map}
 use Rattle.nqs_state.specs.State.{Plain}
 use Rattle.nqs_types.specs.declared.queue.Kind.{Kind}
@@ -13,7 +11,6 @@ use Rattle.nqs_types.specs.declared.queue.Kind.TheVariants.{Batch, Device, Pipe}
 use Rattle.nqs_types.specs.declared.queue.QueueDef.{QueueDef}
 use Rattle.nqs_types.specs.declared.rule.Choice.{Choice}
 use Rattle.nqs_types.specs.declared.rule.Choice.TheVariants.{Launch, Print, TooFar, Local, Hand}
-use Rattle.nqs_rules.specs.Find.{find_queue}
 use Rattle.nqs_rules.specs.Devices.{is_free_device, free_device}
 use Rattle.nqs_rules.specs.Routing.{may_try, destination}
 use Rattle.nqs_rules.specs.Handover.{open_hand}
@@ -21,9 +18,9 @@ use Rattle.nqs_rules.specs.Order.{is_local, print_on, move_to, choice_for, pick}
 use Rattle.nqs_rules.specs.Picked.{PlainRow, may_start, row_place, IsPicked}
 use Rattle.nqs_rules.specs.Start.{launching, printing, moving, holding, device_at, dest_at, with_row, started, start_by, start}
 use Rattle.nqs_rules.specs.Stepped.{Stepped}
-use Rattle.nqs_rules.proofs.ListFacts.{found_again, position_at}
-use Rattle.nqs_rules.proofs.PickLaws.{eligible_parts, picked_is, picked_is_some}
-use Rattle.nqs_rules.proofs.StartIs.{IsSteady}
+use Rattle.nqs_rules.proofs.ListFacts.{position_at}
+use Rattle.nqs_rules.proofs.PickLaws.{picked_is, picked_is_some}
+use Rattle.nqs_rules.proofs.StartIs.{IsSteady, queue_found}
 
 -- the device or destination that a choice names is one of the queue's list
 abbrev IsListed : QueueDef → Choice → Type 0
@@ -57,11 +54,6 @@ module _ (now : ℕ) (s : Plain) (steady : IsSteady s) (c : Choice) (p : IsPicke
   abbrev r : PlainRow
   r = p.row
 
-  queue_found : find_queue r.queue s ≡ Some d
-  queue_found =
-      subst (λ n. find_queue n s ≡ Some d) (name_exact d.name r.queue (eligible_parts d now s r p.first.eligible).0)
-      (found_again name_eq (λ q. q.name) name_exact nat_list_eq_equiv.refl s.queues p.queue_place d steady.names p.next.at)
-
   is_listed : IsListed d c
   is_listed = of (choice_for d.kind d now s (row_place c) r) (listed d.kind d now s (row_place c) r) p.way
     where
@@ -75,10 +67,10 @@ module _ (now : ℕ) (s : Plain) (steady : IsSteady s) (c : Choice) (p : IsPicke
 
   at_device : (device : ℕ) → is_some (slice_get d.devices device) ≡ true → is_some (option_map (λ n. printing n r s) (device_at device r s)) ≡ true
   at_device device e = is_some-option_map (λ n. printing n r s) (device_at device r s)
-      ∙ ap (λ o. is_some (option_and_then (λ q. slice_get q.devices device) o)) queue_found ∙ e
+      ∙ ap (λ o. is_some (option_and_then (λ q. slice_get q.devices device) o)) (queue_found now s steady c p) ∙ e
 
   at_dest : (f : _ → Stepped (List ℕ)) (dest : ℕ) → is_some (slice_get d.dests dest) ≡ true → is_some (option_map f (dest_at dest r s)) ≡ true
-  at_dest f dest e = is_some-option_map f (dest_at dest r s) ∙ ap (λ o. is_some (option_and_then (λ q. slice_get q.dests dest) o)) queue_found ∙ e
+  at_dest f dest e = is_some-option_map f (dest_at dest r s) ∙ ap (λ o. is_some (option_and_then (λ q. slice_get q.dests dest) o)) (queue_found now s steady c p) ∙ e
 
 begins : (now : ℕ) (s : Plain) → IsSteady s → (c : Choice) → IsPicked now s c → is_some (started c now s) ≡ true
 begins now s steady (Launch row) p = of_row now s steady (Launch row) p (λ q. Some (launching q s)) refl

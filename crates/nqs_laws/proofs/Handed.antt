@@ -3,6 +3,7 @@ use Rattle.std.proofs.Common.{◌≡◌, ℕ, ◌<◌, ◌≤◌, inl, inr, Bool
 use Rattle.std.proofs.Common.{ap, subst, ◌∙◌, arith, if◌then◌else◌}
 use Rattle.std.proofs.lemmas.Bool.{and_parts, eq-eqb}
 use Rattle.std.proofs.lemmas.Option.{same_Some}
+use Rattle.nqs_base.proofs.Plain.{other_fails}
 use Rattle.nqs_types.specs.Ids.{id_eq, id_exact}
 use Rattle.nqs_state.specs.State.{Plain}
 use Rattle.nqs_state.specs.Keys.{is_hand}
@@ -382,11 +383,7 @@ module _ (states : List Plain) (packets : List Message) (paired : IsPaired state
 
         held : (a b : HostId) (c : Bool) → same_host b h ≡ c → (same_host a peer && same_host b h) ≡ false
             → IsHeldMove (if c then (if same_host a peer then Accepts else Stays) else Stays)
-        held a b true e far = subst (λ z. IsHeldMove (if z then Accepts else Stays)) (sym (other_first (same_host a peer) (same_host b h) far e)) tt
-          where
-            other_first : (c d : Bool) → (c && d) ≡ false → d ≡ true → c ≡ false
-            other_first true d f g = absurd (true≢false (sym g ∙ f))
-            other_first false d f g = refl
+        held a b true e far = subst (λ z. IsHeldMove (if z then Accepts else Stays)) (sym (other_fails (same_host a peer) (same_host b h) far e)) tt
         held a b false e far = tt
 
         claims : (a b : HostId) (u' v' : Plain) → At (put_state h (applied (Accepted peer number) s) states) a u'

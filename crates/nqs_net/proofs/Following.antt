@@ -1,6 +1,6 @@
 -- Disks that go on, one thing after the other.
 use Rattle.std.proofs.Common.{◌≡◌, inl, inr, ℕ, zero, suc, ◌<◌, Bool, List, [], ◌∷◌, ◌++◌, map, take, drop, length, get_or, Option, None, Some, Result, Ok, Err}
-use Rattle.std.proofs.Common.{OnOk, refl, sym, ap, subst, ◌∙◌, arith}
+use Rattle.std.proofs.Common.{refl, sym, ap, subst, ◌∙◌, arith}
 use Rattle.std.specs.List.{insert, remove}
 use Rattle.std.proofs.lemmas.List.{append_assoc, append-nil, length-map, take_all, drop_all}
 use Rattle.nqs_types.specs.declared.change.Change.{Change}
@@ -30,11 +30,6 @@ use Rattle.nqs_net.specs.Worlds.{IsSlot}
 use Rattle.nqs_net.specs.declared.slot.Slot.{Slot}
 use Rattle.nqs_net.specs.declared.slot.Slot.TheVariants.{Up, Down}
 use Rattle.nqs_net.specs.declared.turn.Turn.{Turn}
-
--- what holds, holds of each answer
-pub on_ok_of : {T E P : Type 0} (r : Result T E) → P → OnOk r P
-on_ok_of (Ok x) p = p
-on_ok_of (Err e) p = tt
 
 -- disks
 

@@ -6,7 +6,8 @@ use Rattle.nqs_types.specs.declared.ids.HostId.{HostId}
 use Rattle.nqs_types.specs.declared.world.Seen.{Seen}
 use Rattle.nqs_rules.specs.World.{Ran, World as Network, seen_of, seen_output, sent_by, then_ran}
 use Rattle.nqs_laws.proofs.Told.{sights-append}
-use Rattle.nqs_net.specs.Lists.{seen_from, GrowsByFront}
+use Rattle.nqs_laws.specs.Outputs.{seen_from}
+use Rattle.nqs_net.specs.Lists.{GrowsByFront}
 
 module _ (old now : List Seen) where
   pub none_shown : (all : List Seen) → now ≡ old → GrowsByFront old now all

@@ -29,7 +29,7 @@ use Rattle.nqs_store.proofs.TellsNow.{only_image}
 use Rattle.nqs_node.specs.Carried.{IsMade, IsCutBy, IsBlown, IsOneOrOther}
 use Rattle.nqs_node.specs.Nodes.{disk_of, history_of, fails_of, active_of, content_of, Tells}
 use Rattle.nqs_node.specs.declared.node.Node.{Node}
-use Rattle.nqs_net.specs.Lists.{sent_in, seen_from}
+use Rattle.nqs_laws.specs.Outputs.{sent_in, seen_from}
 use Rattle.nqs_net.specs.Worlds.{IsUp, IsDown, IsSlot, active_in}
 use Rattle.nqs_net.specs.Turns.{IsStopped, Faces, Turns}
 use Rattle.nqs_net.specs.declared.slot.Slot.{Slot}

@@ -19,7 +19,8 @@ use Rattle.nqs_rules.proofs.StartFits.{steady_plain}
 use Rattle.nqs_rules.proofs.Lowers.{lower, stays}
 use Rattle.nqs_laws.proofs.Sound.{get-here}
 use Rattle.nqs_node.specs.Carried.{started}
-use Rattle.nqs_net.proofs.Turning.{emits_world, turn_after}
+use Rattle.nqs_laws.proofs.Frame.{emits_world}
+use Rattle.nqs_net.proofs.Turning.{turn_after}
 use Rattle.nqs_base.specs.declared.extent.Extent.{Extent}
 use Rattle.nqs_types.specs.declared.message.Message.{Message}
 use Rattle.nqs_base.specs.declared.tear.Tear.{Tear}

@@ -1,7 +1,7 @@
 -- What a step of a host makes of a network.
 use Rattle.std.proofs.Common.{◌≡◌, ◌⊎◌, inl, inr, IsTrue, true≢false, ℕ, ◌+◌, Bool, true, false, List, [], ◌∷◌, ◌++◌, length, map, Option, None, Some, refl}
 use Rattle.std.proofs.Common.{sym, ap, subst, ◌∙◌}
-use Rattle.std.proofs.lemmas.List.{append_assoc, append-nil, length-append}
+use Rattle.std.proofs.lemmas.List.{append_assoc}
 use Rattle.nqs_state.specs.State.{Plain}
 use Rattle.nqs_types.specs.declared.ids.HostId.{HostId}
 use Rattle.nqs_types.specs.declared.message.Message.{Message}
@@ -21,7 +21,6 @@ use Rattle.nqs_rules.specs.Starts.{after_change, after_step}
 use Rattle.nqs_rules.specs.Stepped.{Stepped, shown, stored_parts}
 use Rattle.nqs_rules.specs.Notes.{Why, Note, Saw, Kept, saws, sights}
 use Rattle.nqs_rules.specs.World.{fuse_of, World as Network, Host, Ran, seen_of, Fate, Made, StoppedBefore, StoppedAfter, fate, host_of, put_host, emits}
-use Rattle.nqs_rules.specs.World.{sent_by, seen_output}
 use Rattle.nqs_rules.specs.World.{ready, recorded, cut_off, stopped, used, change_fated, makes_change, carries_out, steps, then_noted, then_ran}
 use Rattle.nqs_store.specs.Active.{IsActive, ready as ready_in, recorded as recorded_in}
 use Rattle.nqs_store.specs.Commits.{IsKept, IsCutAt}
@@ -33,11 +32,12 @@ use Rattle.nqs_node.specs.Nodes.{disk_of, history_of, fails_of, is_starved, acti
 use Rattle.nqs_disk.specs.contracts.mem_disk.MemDiskDisk.TheImpl.{ghosts}
 use Rattle.nqs_node.specs.declared.node.Node.{Node}
 use Rattle.nqs_store.specs.Sound.{IsSoundHost}
+use Rattle.nqs_laws.proofs.Frame.{emits_notes, emits_world}
 use Rattle.nqs_laws.proofs.PairedRuns.{put-twice}
 use Rattle.nqs_laws.proofs.Sound.{get-here}
 use Rattle.nqs_laws.proofs.Told.{all_seen, sights-append}
 use Rattle.nqs_laws.proofs.AlikeRuns.{ready_tear}
-use Rattle.nqs_net.specs.Lists.{sent_in, seen_from}
+use Rattle.nqs_laws.specs.Outputs.{sent_in, seen_from}
 use Rattle.nqs_net.specs.Pasts.{HasCome}
 use Rattle.nqs_net.specs.Worlds.{AreInTurn, AreDisks, IsUp, IsDown, IsSlot, active_in}
 use Rattle.nqs_net.specs.Turns.{IsTorn, IsStopped, IsTaken, IsDownSlot, Faces, IsSameBut, Turns}
@@ -52,17 +52,7 @@ use Rattle.nqs_net.proofs.Coming.{come_more, come_still, used_active}
 -- outputs
 
 pub emits_seen : (h : HostId) (os : List Output) (w : Network) → seen_of (emits h os w) ≡ seen_from h (length w.packets) os
-emits_seen h [] w = refl
-emits_seen h (o ∷ os) w =
-    let first = seen_output h (length w.packets + 1) o in
-    let v : Network = record w { packets = w.packets ++ sent_by o } in
-    let rest = emits_seen h os v ∙ ap (λ n. seen_from h n os) (length-append w.packets (sent_by o)) in
-    sights-append (saws first) (emits h os v).notes ∙ (λ j. all_seen first j ++ rest j)
-
-pub emits_world : (h : HostId) (os : List Output) (w : Network) → (emits h os w).world ≡ record w { packets = w.packets ++ sent_in os }
-emits_world h [] w = λ j. record w { packets = sym (append-nil w.packets) j }
-emits_world h (o ∷ os) w = emits_world h os (record w { packets = w.packets ++ sent_by o })
-    ∙ (λ j. record w { packets = append_assoc w.packets (sent_by o) (sent_in os) j })
+emits_seen h os w = ap sights (emits_notes h os w) ∙ all_seen (seen_from h (length w.packets) os)
 
 -- what is the same but for a place
 

@@ -3,7 +3,9 @@
 ghost use Rattle.std.specs.Prelude.{◌≡◌, ◌+◌, ◌++◌, OnOk, OnErr, List, [], ◌∷◌, length};
 ghost use Rattle.nqs_types.specs.declared.world.Seen.TheVariants as sight;
 ghost use Rattle.nqs_rules.specs.World.{body_kind, body_number, seen_packet, seen_output, sent_by};
-ghost use Rattle.nqs_net.specs.Lists.{of_option, sent_in, seen_from, GrowsByFront};
+ghost use Rattle.std.specs.Option.{option_to_list};
+ghost use Rattle.nqs_laws.specs.Outputs.{sent_in, seen_from};
+ghost use Rattle.nqs_net.specs.Lists.{GrowsByFront};
 ghost use Rattle.nqs_net.specs.Turns.{IsSameTurn};
 
 use crate::turn::Turn;
@@ -63,8 +65,8 @@ fn seen_packet(packet: u64, message: &Message) -> Seen
 
 // A packet is seen, and goes out.
 fn sent(packet: u64, message: Message) -> (Option<Seen>, Option<Message>)
-    ensures seen { of_option result.0 ≡ seen_packet packet message ∷ [] }
-    ensures sent { of_option result.1 ≡ message ∷ [] }
+    ensures seen { option_to_list result.0 ≡ seen_packet packet message ∷ [] }
+    ensures sent { option_to_list result.1 ≡ message ∷ [] }
 {
     let sight = seen_packet(packet, &message);
     (Some(sight), Some(message))
@@ -85,8 +87,8 @@ fn file_seen(host: HostId, file: u64, path: Bytes, bytes: Bytes) -> Seen
 
 // What is seen of an output, where a packet that it sends has this number, and the packet.
 fn shown(me: HostId, packet: u64, output: Output) -> (Option<Seen>, Option<Message>)
-    ensures seen { of_option result.0 ≡ seen_output me packet output }
-    ensures sent { of_option result.1 ≡ sent_by output }
+    ensures seen { option_to_list result.0 ≡ seen_output me packet output }
+    ensures sent { option_to_list result.1 ≡ sent_by output }
 {
     match output {
         Output::Reply { reply, .. } => (Some(Seen::Reply(reply)), None),
@@ -151,7 +153,7 @@ fn shown(me: HostId, packet: u64, output: Output) -> (Option<Seen>, Option<Messa
 
 // Adds what there is.
 fn push_some<T: Drop>(list: &mut Vec<T>, value: Option<T>) -> Result<(), Memory>
-    ensures added { OnOk result (list.new.items ≡ list.old.items ++ of_option value) }
+    ensures added { OnOk result (list.new.items ≡ list.old.items ++ option_to_list value) }
     ensures refused { OnErr result (list.new.items ≡ list.old.items) }
 {
     match value {

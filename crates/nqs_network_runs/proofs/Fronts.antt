@@ -3,10 +3,11 @@ use Rattle.std.proofs.Common.{◌≡◌, ◌≤◌, ◌⊎◌, inl, inr, Err, �
 use Rattle.std.proofs.lemmas.List.{append-nil}
 use Rattle.nqs_outside.specs.Causes.{Rose}
 use Rattle.nqs_outside.proofs.Roses.{rose_since}
+use Rattle.nqs_outside.specs.Streams.{Sunk}
 use Rattle.nqs_disk.specs.declared.lack.Lack.{Lack}
 use Rattle.nqs_disk.specs.declared.lack.Lack.TheVariants as lack
 use Rattle.nqs_rules.specs.World.{World as Network}
-use Rattle.nqs_network_runs.specs.Sunk.{Sunk, BeginsWith, WritesFront}
+use Rattle.nqs_network_runs.specs.Fronts.{BeginsWith, WritesFront}
 use Rattle.nqs_network_runs.specs.Writing.{Writes, stop_of}
 
 -- a text begins with each of its fronts

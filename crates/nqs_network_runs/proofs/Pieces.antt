@@ -2,7 +2,7 @@
 use Rattle.std.proofs.Common.{◌≡◌, ℕ, List, [], ◌++◌, take, Option, refl, sym, ap, subst, ◌∙◌, append_assoc}
 use Rattle.std.specs.Io.KnownBytes.{Appends}
 use Rattle.nqs_outside.proofs.Known.{Appends-none, Appends-then}
-use Rattle.nqs_network_runs.specs.Sunk.{BeginsWith}
+use Rattle.nqs_network_runs.specs.Fronts.{BeginsWith}
 use Rattle.nqs_network_runs.specs.Writing.{HasWritten}
 use Rattle.nqs_network_runs.proofs.Fronts.{front_within}
 

@@ -1,6 +1,7 @@
 -- What comes of events and of a bad line is what comes of the input.
 use Rattle.std.proofs.Common.{◌≡◌, ℕ, Bool, List, refl, subst, inl, inr, Option, Some, None}
 use Rattle.nqs_types.specs.declared.world.WorldEvent.{WorldEvent}
+use Rattle.nqs_outside.specs.Streams.{Sunk, Fed}
 use Rattle.nqs_schedule.specs.declared.cause.Cause.{Cause}
 use Rattle.nqs_schedule.specs.Schedule.{State, IsSchedule, IsFirstBad}
 use Rattle.nqs_network_runs.specs.declared.status.Status.{Status}
@@ -9,9 +10,8 @@ use Rattle.nqs_network_runs.specs.declared.words.Generation.{Generation}
 use Rattle.nqs_network_runs.specs.declared.words.Ask.{Ask}
 use Rattle.nqs_network_runs.specs.declared.words.Unparsed.{Unparsed}
 use Rattle.nqs_network_runs.specs.Words.{asked}
-use Rattle.nqs_network_runs.specs.Sunk.{Sunk}
 use Rattle.nqs_network_runs.specs.Running.{text_of, bad_line_text, Runs, Reports}
-use Rattle.nqs_network_runs.specs.Replay.{Left, Plays, Drained, Reads, EndsRead, EndsBy, Ends}
+use Rattle.nqs_network_runs.specs.Replay.{Left, Plays, Reads, EndsRead, EndsBy, Ends}
 
 pub runs_same : (summary : Bool) (site other : List (List ℕ)) (events others : List WorldEvent) (sink : Sunk) (old new : Left) (result : Status) → site ≡ other
     → events ≡ others → Runs summary site events sink old new result → Runs summary other others sink old new result
@@ -51,7 +51,7 @@ reports summary input line cause sink left status.ReadFault bad reported = absur
 reports summary input line cause sink left status.TooLong bad reported = absurd reported
 
 -- what comes of an input that was read whole is how a run that reads ends
-pub ends_read : (summary : Bool) (input : List ℕ) (source : Drained) (sink : Sunk) (old new : Left) (result : Status) → Reads source input
+pub ends_read : (summary : Bool) (input : List ℕ) (source : Fed) (sink : Sunk) (old new : Left) (result : Status) → Reads source input
     → Plays summary input sink old new result → EndsRead summary source sink old new result
 ends_read summary input source sink old new status.Done reads plays = (input, reads, plays)
 ends_read summary input source sink old new status.BadSchedule reads plays = (input, reads, plays)
@@ -63,18 +63,18 @@ ends_read summary input source sink old new status.BadWords reads plays = absurd
 ends_read summary input source sink old new status.ReadFault reads plays = absurd plays
 ends_read summary input source sink old new status.TooLong reads plays = absurd plays
 
-words_are_good : (summary : Bool) (generation : Option Generation) (source : Drained) (sink : Sunk) (old new : Left)
+words_are_good : (summary : Bool) (generation : Option Generation) (source : Fed) (sink : Sunk) (old new : Left)
     → EndsBy summary generation source sink old new status.BadWords → ⊥
 words_are_good summary None source sink old new ends = ends
 words_are_good summary (Some g) source sink old new ends = ends.1
 
-words_were_read : (summary : Bool) (generation : Option Generation) (source : Drained) (sink : Sunk) (old new : Left) (refused : Unparsed)
+words_were_read : (summary : Bool) (generation : Option Generation) (source : Fed) (sink : Sunk) (old new : Left) (refused : Unparsed)
     → EndsBy summary generation source sink old new (status.Unparsed refused) → ⊥
 words_were_read summary None source sink old new refused ends = ends
 words_were_read summary (Some g) source sink old new refused ends = ends.1
 
 -- what comes of what is asked is how the program ends
-pub ends : (words : List (List ℕ)) (ask : Ask) (source : Drained) (sink : Sunk) (old new : Left) (result : Status) → asked words ≡ Some ask
+pub ends : (words : List (List ℕ)) (ask : Ask) (source : Fed) (sink : Sunk) (old new : Left) (result : Status) → asked words ≡ Some ask
     → EndsBy ask.summary ask.generation source sink old new result → Ends words source sink old new result
 ends words ask source sink old new status.Done is by = (ask, is, by)
 ends words ask source sink old new status.BadSchedule is by = (ask, is, by)

@@ -22,7 +22,7 @@ use Rattle.nqs_net.specs.Worlds.{IsWorld}
 use Rattle.nqs_net.specs.declared.world.World.{World}
 use Rattle.nqs_network_runs.specs.Running.{ran, text_of}
 use Rattle.nqs_network_runs.specs.Writing.{GoesOn, Tells}
-use Rattle.nqs_network_runs.specs.Sunk.{BeginsWith}
+use Rattle.nqs_network_runs.specs.Fronts.{BeginsWith}
 
 run_seen : (acts more : List Act) (w : Network) → seen_of (run (acts ++ more) w) ≡ seen_of (run acts w) ++ seen_of (run more (run acts w).world)
 run_seen [] more w = refl

@@ -13,6 +13,7 @@ use Rattle.nqs_rules.specs.Edits.{change_at}
 use Rattle.nqs_rules.specs.World.{Act, Host, seen_of, new_world, host_of}
 use Rattle.nqs_rules.specs.Run.{run_of, states_of}
 use Rattle.nqs_types.specs.declared.change.Change.{Change}
+use Rattle.nqs_outside.specs.Streams.{Fed}
 use Rattle.nqs_rules.specs.Notes.{Why, Note, sights}
 use Rattle.nqs_laws.specs.History.{history}
 use Rattle.nqs_laws.specs.Words.{IsInOrderAll, replayed, is_counted, is_never_lost, boots_tell}
@@ -34,7 +35,7 @@ use Rattle.nqs_network_runs.specs.Network.{KeepsHandovers, SettlesHandovers}
 use Rattle.nqs_network_runs.specs.declared.words.Generation.{Generation}
 use Rattle.nqs_network_runs.specs.declared.words.Ask.{Ask}
 use Rattle.nqs_network_runs.specs.Words.{asked}
-use Rattle.nqs_network_runs.specs.Replay.{Drained, Reads}
+use Rattle.nqs_network_runs.specs.Replay.{Reads}
 
 -- what happened in these events, from a new network of the site on
 abbrev pub notes_of : List (List ℕ) → List Act → List Note
@@ -141,24 +142,24 @@ pub record KeepsTheLaws (site : List (List ℕ)) (acts : List Act) : Type 0 wher
   pub settled : SettlesHandovers (run_of site acts).world
 
 -- the schedule that the source gave
-abbrev pub IsRead : Drained → List (List ℕ) → List WorldEvent → Type 0
+abbrev pub IsRead : Fed → List (List ℕ) → List WorldEvent → Type 0
 IsRead source site events =
     (input : List ℕ) × (state : State) × Reads source input × IsSchedule input state × (site ≡ state.site) × (events ≡ state.events)
 
 -- or that a seed gives
-abbrev pub IsAskedBy : Option Generation → Drained → List (List ℕ) → List WorldEvent → Type 0
+abbrev pub IsAskedBy : Option Generation → Fed → List (List ℕ) → List WorldEvent → Type 0
 IsAskedBy None source site events = IsRead source site events
 IsAskedBy (Some g) source site events = (site ≡ generated_site g.hosts) × (events ≡ generated g.seed g.hosts g.events)
 
 -- the site and the events that are asked for
-abbrev pub IsAsked : List (List ℕ) → Drained → List (List ℕ) → List WorldEvent → Type 0
+abbrev pub IsAsked : List (List ℕ) → Fed → List (List ℕ) → List WorldEvent → Type 0
 IsAsked words source site events = (ask : Ask) × (asked words ≡ Some ask) × IsAskedBy ask.generation source site events
 
 -- after so many events of them the laws hold
-abbrev pub HoldAlways : List (List ℕ) → Drained → Type 0
+abbrev pub HoldAlways : List (List ℕ) → Fed → Type 0
 HoldAlways words source = (site : List (List ℕ)) (events : List WorldEvent) → IsAsked words source site events
     → (n : ℕ) → KeepsTheLaws site (map act_of (take n events))
 
 -- whatever the words and the source are
 abbrev pub RunsKeepTheLaws : Type 0
-RunsKeepTheLaws = (words : List (List ℕ)) (source : Drained) → HoldAlways words source
+RunsKeepTheLaws = (words : List (List ℕ)) (source : Fed) → HoldAlways words source

@@ -3,6 +3,7 @@
 use Rattle.std.specs.Prelude.{◌≡◌, ℕ, ◌≤◌, ◌⊎◌, Bool, List, [], length, Option, Some, None}
 use Rattle.std.specs.Io.KnownBytes.{Appends, Consumes, IsAtEnd}
 use Rattle.nqs_outside.specs.Causes.{Rose}
+use Rattle.nqs_outside.specs.Streams.{Fed, IsUnread, Sunk, SinkFailed}
 use Rattle.nqs_disk.specs.declared.mem_disk.MemDisk.{MemDisk}
 use Rattle.nqs_store.specs.declared.disks.Disks.{Disks}
 use Rattle.nqs_schedule.specs.declared.cause.Cause.{Cause}
@@ -13,7 +14,7 @@ use Rattle.nqs_network_runs.specs.declared.status.Status.TheVariants as status
 use Rattle.nqs_network_runs.specs.declared.words.Generation.{Generation}
 use Rattle.nqs_network_runs.specs.declared.words.Ask.{Ask}
 use Rattle.nqs_network_runs.specs.Words.{asked}
-use Rattle.nqs_network_runs.specs.Sunk.{Sunk, SinkFailed, WritesFront}
+use Rattle.nqs_network_runs.specs.Fronts.{WritesFront}
 use Rattle.nqs_network_runs.specs.Running.{text_of, bad_line_text, AddsDisks, Runs, ran}
 
 -- the disks that the hosts of runs have left
@@ -33,14 +34,14 @@ WritesFrontOf summary input sink = (text : List ℕ) × IsTextOf summary input t
 
 -- nothing was written
 abbrev pub WritesNothing : Sunk → Type 0
-WritesNothing sink = Appends sink.old sink.new []
+WritesNothing sink = Appends sink.taken sink.taken_now []
 
 -- what comes of an input that was read whole
 abbrev pub Plays : Bool → List ℕ → Sunk → Left → Left → Status → Type 0
-Plays summary input sink old new status.Done = (state : State) × IsSchedule input state × Appends sink.old sink.new (text_of summary state.site state.events)
-    × AddsDisks (ran state.site state.events).world old new
+Plays summary input sink old new status.Done = (state : State) × IsSchedule input state
+    × Appends sink.taken sink.taken_now (text_of summary state.site state.events) × AddsDisks (ran state.site state.events).world old new
 Plays summary input sink old new status.BadSchedule = (number : ℕ) × (cause : Cause) × IsFirstBad input number cause
-    × Appends sink.old sink.new (bad_line_text number cause) × (new ≡ old)
+    × Appends sink.taken sink.taken_now (bad_line_text number cause) × (new ≡ old)
 Plays summary input sink old new status.WriteFault = SinkFailed sink × WritesFrontOf summary input sink × (new ≡ old)
 Plays summary input sink old new (status.Memory want) = (WritesNothing sink ⊎ WritesFrontOf summary input sink) × (new ≡ old)
 Plays summary input sink old new (status.DiskFull full) = WritesFrontOf summary input sink × (new ≡ old)
@@ -49,37 +50,21 @@ Plays summary input sink old new status.ReadFault = ⊥
 Plays summary input sink old new status.TooLong = ⊥
 Plays summary input sink old new (status.Unparsed refused) = ⊥
 
--- what a source has left and its count of faults, before and after
-pub record Drained : Type 0 where
-  pub old : Option (List ℕ)
-  pub new : Option (List ℕ)
-  pub faults_before : ℕ
-  pub faults_now : ℕ
-
--- what a source tells of itself before and after, by its two ways to tell it
-abbrev pub drained : {S : Type 0} → (S → Option (List ℕ)) → (S → ℕ) → S → S → Drained
-drained left faults old new =
-    record { old = left old; new = left new; faults_before = faults old; faults_now = faults new }
-
 -- the source was read to its end, and this is what it gave
-abbrev pub Reads : Drained → List ℕ → Type 0
-Reads source input = Consumes source.old source.new input × IsAtEnd source.new × (length input ≤ 16777216)
+abbrev pub Reads : Fed → List ℕ → Type 0
+Reads source input = Consumes source.left source.left_now input × IsAtEnd source.left_now × (length input ≤ 16777216)
 
 -- one byte more than the longest schedule was read
-abbrev pub ReadsTooMuch : Drained → Type 0
-ReadsTooMuch source = (bytes : List ℕ) × Consumes source.old source.new bytes × (length bytes ≡ 16777217)
-
--- no byte of the source was asked for
-abbrev pub IsUnread : Drained → Type 0
-IsUnread source = (source.new ≡ source.old) × (source.faults_now ≡ source.faults_before)
+abbrev pub ReadsTooMuch : Fed → Type 0
+ReadsTooMuch source = (bytes : List ℕ) × Consumes source.left source.left_now bytes × (length bytes ≡ 16777217)
 
 -- nothing was written, and no disk was added
 abbrev pub IsUntouched : Sunk → Left → Left → Type 0
 IsUntouched sink old new = WritesNothing sink × (new ≡ old)
 
 -- how a run of the schedule that the source gives ends
-abbrev pub EndsRead : Bool → Drained → Sunk → Left → Left → Status → Type 0
-EndsRead summary source sink old new status.ReadFault = Rose source.faults_before source.faults_now × IsUntouched sink old new
+abbrev pub EndsRead : Bool → Fed → Sunk → Left → Left → Status → Type 0
+EndsRead summary source sink old new status.ReadFault = Rose source.faults source.faults_now × IsUntouched sink old new
 EndsRead summary source sink old new status.TooLong = ReadsTooMuch source × IsUntouched sink old new
 EndsRead summary source sink old new status.Done = (input : List ℕ) × Reads source input × Plays summary input sink old new status.Done
 EndsRead summary source sink old new status.BadSchedule = (input : List ℕ) × Reads source input × Plays summary input sink old new status.BadSchedule
@@ -91,21 +76,21 @@ EndsRead summary source sink old new status.BadWords = ⊥
 EndsRead summary source sink old new (status.Unparsed refused) = ⊥
 
 -- how a run of a generated schedule ends; the source is left unread
-abbrev pub EndsGenerated : Bool → Generation → Drained → Sunk → Left → Left → Status → Type 0
+abbrev pub EndsGenerated : Bool → Generation → Fed → Sunk → Left → Left → Status → Type 0
 EndsGenerated summary g source sink old new result = IsUnread source × Runs summary (generated_site g.hosts)
     (generated g.seed g.hosts g.events) sink old new result
 
 -- by what is asked
-abbrev pub EndsBy : Bool → Option Generation → Drained → Sunk → Left → Left → Status → Type 0
+abbrev pub EndsBy : Bool → Option Generation → Fed → Sunk → Left → Left → Status → Type 0
 EndsBy summary None source sink old new result = EndsRead summary source sink old new result
 EndsBy summary (Some g) source sink old new result = EndsGenerated summary g source sink old new result
 
 -- the words ask for something, and so it ends
-abbrev pub EndsAsked : List (List ℕ) → Drained → Sunk → Left → Left → Status → Type 0
+abbrev pub EndsAsked : List (List ℕ) → Fed → Sunk → Left → Left → Status → Type 0
 EndsAsked words source sink old new result = (ask : Ask) × (asked words ≡ Some ask) × EndsBy ask.summary ask.generation source sink old new result
 
 -- how the program ends, with what it has read and written
-abbrev pub Ends : List (List ℕ) → Drained → Sunk → Left → Left → Status → Type 0
+abbrev pub Ends : List (List ℕ) → Fed → Sunk → Left → Left → Status → Type 0
 Ends words source sink old new status.BadWords = (asked words ≡ None) × IsUnread source × IsUntouched sink old new
 Ends words source sink old new (status.Unparsed refused) = IsUnread source × IsUntouched sink old new
 Ends words source sink old new (status.Memory want) = (IsUnread source × IsUntouched sink old new) ⊎ EndsAsked words source sink old new (status.Memory want)
@@ -117,12 +102,12 @@ Ends words source sink old new status.WriteFault = EndsAsked words source sink o
 Ends words source sink old new status.TooLong = EndsAsked words source sink old new status.TooLong
 
 -- a schedule that isn't too long is there, and the source did not fail
-abbrev pub IsReadable : Drained → Type 0
-IsReadable source = (input : List ℕ) × (state : State) × (source.old ≡ Some input) × (length input ≤ 16777216) × IsSchedule input state
-    × (Rose source.faults_before source.faults_now → ⊥)
+abbrev pub IsReadable : Fed → Type 0
+IsReadable source = (input : List ℕ) × (state : State) × (source.left ≡ Some input) × (length input ≤ 16777216) × IsSchedule input state
+    × (Rose source.faults source.faults_now → ⊥)
 
 -- there is a schedule: that of a seed, or one that can be read
-abbrev pub HasSchedule : Option Generation → Drained → Type 0
+abbrev pub HasSchedule : Option Generation → Fed → Type 0
 HasSchedule None source = IsReadable source
 HasSchedule (Some g) source = Unit {0}
 
@@ -139,6 +124,6 @@ IsLacking status.WriteFault = ⊥
 IsLacking status.TooLong = ⊥
 
 -- with words in form, a schedule, and no fault, the program is done, or something was lacking
-abbrev pub IsComplete : List (List ℕ) → Drained → Sunk → Status → Type 0
+abbrev pub IsComplete : List (List ℕ) → Fed → Sunk → Status → Type 0
 IsComplete words source sink result =
     (ask : Ask) → asked words ≡ Some ask → HasSchedule ask.generation source → (SinkFailed sink → ⊥) → (result ≡ status.Done) ⊎ IsLacking result

@@ -3,6 +3,7 @@ use Rattle.std.specs.Prelude.{◌≡◌, ℕ, Bool, true, false, List, [], ◌++
 use Rattle.std.specs.Fmt.{decimal}
 use Rattle.std.specs.Io.KnownBytes.{Appends}
 use Rattle.nqs_types.specs.declared.world.WorldEvent.{WorldEvent}
+use Rattle.nqs_outside.specs.Streams.{Sunk, SinkFailed}
 use Rattle.nqs_disk.specs.declared.mem_disk.MemDisk.{MemDisk}
 use Rattle.nqs_rules.specs.Net.{table}
 use Rattle.nqs_rules.specs.World.{Ran, seen_of, World as Network}
@@ -16,7 +17,7 @@ use Rattle.nqs_language_acts.specs.Acts.{act_of}
 use Rattle.nqs_net.specs.Left.{AreLeft}
 use Rattle.nqs_network_runs.specs.declared.status.Status.{Status}
 use Rattle.nqs_network_runs.specs.declared.status.Status.TheVariants as status
-use Rattle.nqs_network_runs.specs.Sunk.{Sunk, SinkFailed, WritesFront}
+use Rattle.nqs_network_runs.specs.Fronts.{WritesFront}
 
 -- the run of a new network of these hosts
 abbrev pub ran : List (List ℕ) → List WorldEvent → Ran
@@ -41,7 +42,7 @@ AddsDisks network old new = (disks : List (Disks MemDisk)) × (new ≡ old ++ di
 
 -- the whole text of a run was written, or a front of it
 abbrev pub Runs : Bool → List (List ℕ) → List WorldEvent → Sunk → List (Disks MemDisk) → List (Disks MemDisk) → Status → Type 0
-Runs summary site events sink old new status.Done = Appends sink.old sink.new (text_of summary site events) × AddsDisks (ran site events).world old new
+Runs summary site events sink old new status.Done = Appends sink.taken sink.taken_now (text_of summary site events) × AddsDisks (ran site events).world old new
 Runs summary site events sink old new status.WriteFault = SinkFailed sink × WritesFront sink (text_of summary site events) × (new ≡ old)
 Runs summary site events sink old new (status.Memory want) = WritesFront sink (text_of summary site events) × (new ≡ old)
 Runs summary site events sink old new (status.DiskFull full) = WritesFront sink (text_of summary site events) × (new ≡ old)
@@ -73,9 +74,9 @@ bad_line_text number why = codes "bad line " ++ decimal number ++ codes ": " ++ 
 
 -- the line that names a bad line was written, or a front of it
 abbrev pub Reports : ℕ → Cause → Sunk → Status → Type 0
-Reports line why sink status.BadSchedule = Appends sink.old sink.new (bad_line_text line why)
+Reports line why sink status.BadSchedule = Appends sink.taken sink.taken_now (bad_line_text line why)
 Reports line why sink status.WriteFault = SinkFailed sink × WritesFront sink (bad_line_text line why)
-Reports line why sink (status.Memory want) = Appends sink.old sink.new []
+Reports line why sink (status.Memory want) = Appends sink.taken sink.taken_now []
 Reports line why sink status.Done = ⊥
 Reports line why sink status.BadWords = ⊥
 Reports line why sink status.ReadFault = ⊥

@@ -6,6 +6,7 @@ use Rattle.std.specs.List.{list_all}
 use Rattle.std.specs.Io.KnownBytes.{Appends}
 use Rattle.nqs_types.specs.declared.world.Seen.{Seen}
 use Rattle.nqs_types.specs.declared.world.WorldEvent.{WorldEvent}
+use Rattle.nqs_outside.specs.Streams.{Sunk, SinkFailed}
 use Rattle.nqs_disk.specs.declared.lack.Lack.{Lack}
 use Rattle.nqs_disk.specs.declared.lack.Lack.TheVariants as lack
 use Rattle.nqs_rules.specs.World.{World as Network, seen_of}
@@ -16,7 +17,7 @@ use Rattle.nqs_net.specs.Worlds.{IsWorld}
 use Rattle.nqs_net.specs.declared.world.World.{World}
 use Rattle.nqs_network_runs.specs.declared.run.RunStop.{RunStop}
 use Rattle.nqs_network_runs.specs.declared.run.RunStop.TheVariants as stop
-use Rattle.nqs_network_runs.specs.Sunk.{Sunk, SinkFailed, WritesFront}
+use Rattle.nqs_network_runs.specs.Fronts.{WritesFront}
 use Rattle.nqs_network_runs.specs.Running.{ran}
 
 -- the world stands for the network after these events, which are within their limits, on a site of
@@ -51,7 +52,7 @@ stop_of (lack.Full full) = stop.Full full
 -- the whole text was written, and the world stands for the network; or a front of the text was
 -- written
 abbrev pub Writes : List ℕ → Network → Sunk → Result World RunStop → Type 0
-Writes text network sink (Ok world) = Appends sink.old sink.new text × IsWorld world network
+Writes text network sink (Ok world) = Appends sink.taken sink.taken_now text × IsWorld world network
 Writes text network sink (Err stop.Sink) = SinkFailed sink × WritesFront sink text
 Writes text network sink (Err (stop.Memory want)) = WritesFront sink text
 Writes text network sink (Err (stop.Full full)) = WritesFront sink text

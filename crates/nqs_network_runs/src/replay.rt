@@ -2,12 +2,12 @@
 
 ghost use Rattle.std.specs.Prelude.{◌≡◌, ◌<◌, ◌≤◌, true, length, map, string_bytes};
 ghost use Rattle.std.specs.List.{list_all};
+ghost use Rattle.nqs_outside.specs.Streams.{sunk, fed};
 ghost use Rattle.nqs_laws.specs.Sane.{IsSite};
 ghost use Rattle.nqs_language_acts.specs.Acts.{is_sane_line};
 ghost use Rattle.nqs_schedule.specs.Generated.{generated, generated_site};
-ghost use Rattle.nqs_network_runs.specs.Sunk.{sunk};
 ghost use Rattle.nqs_network_runs.specs.Running.{Runs};
-ghost use Rattle.nqs_network_runs.specs.Replay.{drained, Plays, EndsRead, Ends, IsComplete};
+ghost use Rattle.nqs_network_runs.specs.Replay.{Plays, EndsRead, Ends, IsComplete};
 ghost use Rattle.nqs_network_runs.specs.Headline.{HoldAlways};
 
 use crate::laws::runs_keep_the_laws;
@@ -61,7 +61,7 @@ fn drain<S: Source, K: Sink>(
     out: &mut K,
     left: &mut Vec<Disks<MemDisk>>,
 ) -> Status
-    ensures { EndsRead summary (drained S.left S.faults schedule.old schedule.new)
+    ensures { EndsRead summary (fed S.left S.faults schedule.old schedule.new)
         (sunk K.taken K.faults K.stalls out.old out.new) left.old.items left.new.items result }
 {
     match read_whole(alloc, schedule, MAX_SCHEDULE) {
@@ -108,7 +108,7 @@ fn obey<S: Source, K: Sink>(
     out: &mut K,
     left: &mut Vec<Disks<MemDisk>>,
 ) -> Status
-    ensures { Ends (map (λ s. string_bytes s) words.now) (drained S.left S.faults schedule.old schedule.new)
+    ensures { Ends (map (λ s. string_bytes s) words.now) (fed S.left S.faults schedule.old schedule.new)
         (sunk K.taken K.faults K.stalls out.old out.new) left.old.items left.new.items result }
 {
     match read_words(alloc, words) {
@@ -136,11 +136,11 @@ pub fn replay<S: Source, K: Sink>(
     out: &mut K,
     left: &mut Vec<Disks<MemDisk>>,
 ) -> Status
-    ensures end { Ends (map (λ s. string_bytes s) words.now) (drained S.left S.faults schedule.old schedule.new)
+    ensures end { Ends (map (λ s. string_bytes s) words.now) (fed S.left S.faults schedule.old schedule.new)
         (sunk K.taken K.faults K.stalls out.old out.new) left.old.items left.new.items result }
-    ensures complete { IsComplete (map (λ s. string_bytes s) words.now) (drained S.left S.faults schedule.old schedule.new)
+    ensures complete { IsComplete (map (λ s. string_bytes s) words.now) (fed S.left S.faults schedule.old schedule.new)
         (sunk K.taken K.faults K.stalls out.old out.new) result }
-    ensures laws { HoldAlways (map (λ s. string_bytes s) words.now) (drained S.left S.faults schedule.old schedule.new) }
+    ensures laws { HoldAlways (map (λ s. string_bytes s) words.now) (fed S.left S.faults schedule.old schedule.new) }
 {
     runs_keep_the_laws();
     obey(alloc, words, schedule, out, left)

@@ -1,8 +1,8 @@
 //! The line that names the first bad line of a schedule.
 
 ghost use Rattle.std.specs.Prelude.{◌≡◌, ◌++◌, OnOk};
+ghost use Rattle.nqs_outside.specs.Streams.{sunk};
 ghost use Rattle.nqs_network_runs.specs.Running.{cause_text, bad_line_text, Reports};
-ghost use Rattle.nqs_network_runs.specs.Sunk.{sunk};
 
 use crate::status::Status;
 use nqs_base::Memory;

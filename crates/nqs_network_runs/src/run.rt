@@ -6,6 +6,7 @@ ghost use Rattle.std.specs.Prelude.{◌≡◌, ◌⊎◌, ◌≤◌, ◌++◌, L
 ghost use Rattle.std.specs.Io.KnownBytes.{Appends};
 ghost use Rattle.std.specs.List.{list_all};
 ghost use Rattle.nqs_outside.specs.Causes.{Rose};
+ghost use Rattle.nqs_outside.specs.Streams.{Sunk, sunk};
 ghost use Rattle.nqs_rules.specs.Transcript.{transcript};
 ghost use Rattle.nqs_rules.specs.World.{World as Network, seen_of};
 ghost use Rattle.nqs_laws.specs.Sane.{IsSite};
@@ -14,7 +15,6 @@ ghost use Rattle.nqs_language_acts.specs.Acts.{is_sane_line};
 ghost use Rattle.nqs_types.specs.declared.world.WorldEvent.{WorldEvent};
 ghost use Rattle.nqs_schedule.specs.Summary.{nothing_seen, summary_of, summary_text};
 ghost use Rattle.nqs_net.specs.Worlds.{IsWorld};
-ghost use Rattle.nqs_network_runs.specs.Sunk.{Sunk, sunk};
 ghost use Rattle.nqs_network_runs.specs.Running.{ran, text_of, table_length, Runs};
 ghost use Rattle.nqs_network_runs.specs.Writing.{HasRun, TellsMore, HasWritten, Writes, stop_of};
 ghost use Rattle.nqs_base.specs.Want.{want};

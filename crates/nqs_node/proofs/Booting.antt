@@ -4,7 +4,8 @@ use Rattle.std.specs.List.{filter_map, cons_option}
 use Rattle.std.specs.Option.{option_to_list}
 use Rattle.std.proofs.lemmas.List.{map-append}
 use Rattle.std.proofs.lemmas.List.Elements.{filter_map-append}
-use Rattle.nqs_state.specs.State.{Plain}
+use Rattle.nqs_state.specs.State.{Plain, content as host_of}
+use Rattle.nqs_state.specs.declared.state.HostState.{HostState}
 use Rattle.nqs_base.specs.declared.extent.Extent.{Extent}
 use Rattle.nqs_types.specs.declared.request.Row.{Row}
 use Rattle.nqs_types.specs.declared.event.Output.{Output}
@@ -15,6 +16,7 @@ use Rattle.std.proofs.Common.{Ok, Err, IsErrOf}
 use Rattle.nqs_base.specs.Want.{want}
 use Rattle.nqs_types.specs.declared.change.Change.{Change}
 use Rattle.nqs_store.specs.Calls.{MayStop, Commits}
+use Rattle.nqs_store.specs.declared.disks.Disks.{Disks}
 use Rattle.nqs_store.specs.declared.fault.LoadFault.{LoadFault}
 use Rattle.nqs_store.specs.declared.fault.LoadFault.TheVariants as load
 use Rattle.nqs_store.specs.declared.fault.StoreFault.{StoreFault}
@@ -26,13 +28,14 @@ use Rattle.nqs_rules.specs.Plain.{map_row, map_state}
 use Rattle.nqs_rules.specs.Journals.{is_second}
 use Rattle.nqs_rules.specs.World.{boot_output}
 use Rattle.nqs_store.specs.Active.{Active, IsActive}
-use Rattle.nqs_store.specs.Disks.{contents}
+use Rattle.nqs_store.specs.Disks.{histories_of, contents}
 use Rattle.nqs_store.specs.Images.{IsTold}
 use Rattle.nqs_store.specs.Live.{bytes_at}
 use Rattle.nqs_store.specs.Stores.{history_of, plain_of, Tells}
 use Rattle.nqs_store.specs.Told.{Host}
 use Rattle.nqs_store.specs.declared.store.Store.{Store}
 use Rattle.nqs_store.proofs.Lists.{take-at}
+use Rattle.nqs_node.specs.Boots.{IsLoaded}
 use Rattle.nqs_node.specs.Carried.{Kept, IsOneOrOther}
 use Rattle.nqs_store.proofs.TellsNow.{only_image}
 use Rattle.nqs_node.proofs.Nothing.{none_one, all_quiet, told_images}
@@ -74,6 +77,13 @@ pub told_by_reads : {D : Type 0} {g : disk.Ghosts D} (store : Store D g) (host :
 told_by_reads store host telling tells =
     told_images store host telling tells (contents (history_of store))
     (λ which. own_image (history_of store which) (all_quiet store host telling tells which))
+
+-- the disks tell the host that was loaded from them
+pub told_when_loaded : {D : Type 0} {g : disk.Ghosts D} (disks : Disks D) (store : Store D g) (state : HostState) → IsTrue g.tells
+    → IsLoaded disks store state → IsTold (contents (histories_of g.history disks)) (plain_of store (host_of state))
+told_when_loaded {g = g} disks store state telling loaded =
+    subst (λ (h : Which → History). IsTold (contents h) (plain_of store (host_of state))) (λ j which. loaded.reads.same telling which j)
+    (told_by_reads store (host_of state) telling (loaded.tells telling))
 
 -- the host that was opened is the one that the disks tell
 pub loaded_is : {D : Type 0} {g : disk.Ghosts D} (store : Store D g) (host told : Host) (bytes : List ℕ) (s : Plain) → content (history_of store Spool) ≡ bytes

@@ -60,9 +60,6 @@ on_ok (Err e) p = tt
 pub no_error : {T E : Type 0} (x : T) (e : E) → IsErrOf {T = T} {E = E} (Ok x) e → ⊥
 no_error x e is = let no : ⊥ = cc in no
 
-pub at_most_itself : (n : ℕ) → n ≤ n
-at_most_itself n = omega arith
-
 pub node_memory : {T : Type 0} (memory : Memory) (which : Which) → IsErrOf {T = T} (Err (node.Memory memory)) (node.Disk which) → ⊥
 node_memory memory which is = let no : ⊥ = cc in no
 

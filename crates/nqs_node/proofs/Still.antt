@@ -1,6 +1,6 @@
 -- What a call of a node leaves that made no call of a disk and answers an error; and what is left,
 -- whatever is answered at Ok.
-use Rattle.std.proofs.Common.{◌≡◌, ◌↔◌, ℕ, List, IsTrue, IsErrOf, Ok, Err, false, refl}
+use Rattle.std.proofs.Common.{◌≡◌, ◌↔◌, ℕ, List, IsTrue, IsErrOf, Ok, Err, false, refl, le_refl}
 use Rattle.std.specs.Global.{Vec}
 use Rattle.std.specs.declared.result.Result.{Result}
 use Rattle.nqs_state.specs.State.{Plain}
@@ -17,7 +17,7 @@ use Rattle.nqs_node.specs.declared.fault.NodeFault.{NodeFault}
 use Rattle.nqs_node.specs.declared.fault.NodeFault.TheVariants as node
 use Rattle.nqs_node.specs.declared.node.Node.{Node}
 use Rattle.nqs_node.proofs.Performing.{still_broken_off}
-use Rattle.nqs_node.proofs.Places.{no_error, not_both, at_most_itself, node_memory, node_stopped}
+use Rattle.nqs_node.proofs.Places.{no_error, not_both, node_memory, node_stopped}
 use Rattle.nqs_node.proofs.Telling.{one_still}
 
 -- want of memory isn't a refusal
@@ -47,7 +47,7 @@ module _ {D : Type 0} {g : disk.Ghosts D} {T : Type 0} (old : Node D g) where
     stops_still = record {
       running = tt;
       broken = λ which is. absurd (no which is);
-      later = λ which. at_most_itself _;
+      later = λ which. le_refl _;
       fuse = λ yes which i. refl;
     }
 

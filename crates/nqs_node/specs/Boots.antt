@@ -1,5 +1,5 @@
 -- What a boot of a host leaves: a node, or the disks that came back.
-use Rattle.std.specs.Prelude.{◌≡◌, ◌⊎◌, ◌≤◌, ℕ, Bool, false, IsTrue, Some}
+use Rattle.std.specs.Prelude.{◌≡◌, ◌⊎◌, ◌≤◌, ℕ, Bool, false, IsTrue, Ok, Some}
 use Rattle.nqs_base.specs.Want.{want}
 use Rattle.nqs_types.specs.declared.change.Change.TheVariants.{Boot}
 use Rattle.nqs_types.specs.declared.world.Which.{Which}
@@ -8,19 +8,26 @@ use Rattle.nqs_outside.specs.History.{History}
 use Rattle.nqs_outside.specs.declared.disk.Disk as disk
 use Rattle.nqs_rules.specs.Applied.{applied}
 use Rattle.nqs_state.specs.State.{Plain}
+use Rattle.nqs_state.specs.declared.state.HostState.{HostState}
 use Rattle.nqs_store.specs.Active.{Active, IsActive}
 use Rattle.nqs_store.specs.Disks.{disk_at, histories_of, failing_of, contents}
 use Rattle.nqs_store.specs.Faults.{IsLoadFault}
 use Rattle.nqs_store.specs.Images.{IsTold}
+use Rattle.nqs_store.specs.Opens.{Loads}
 use Rattle.nqs_store.specs.Sound.{IsSoundHost}
 use Rattle.nqs_store.specs.declared.disks.Disks.{Disks}
 use Rattle.nqs_store.specs.declared.fault.LoadFault.{LoadFault}
 use Rattle.nqs_store.specs.declared.fault.LoadFault.TheVariants as load
+use Rattle.nqs_store.specs.declared.store.Store.{Store}
 use Rattle.nqs_node.specs.Carried.{after_kept, IsMade, IsCutBy, IsBrokenOff, IsOneOrOther, IsBlown}
 use Rattle.nqs_node.specs.Nodes.{disk_of, history_of, fails_of, active_of, content_of, is_stopped, Tells}
 use Rattle.nqs_node.specs.declared.node.Node.{Node}
 
 module _ {D : Type 0} {g : disk.Ghosts D} (old : Disks D) where
+  -- The disks were loaded: they gave this store and this host.
+  abbrev pub IsLoaded : Store D g → HostState → Type 0
+  IsLoaded store state = Loads old (Ok (store, state))
+
   -- The disks told a host, whose boot is kept and made.
   pub record Booted (node : Node D g) : Type 0 where
     -- the host is sound

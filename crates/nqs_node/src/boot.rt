@@ -1,4 +1,4 @@
-//! A node is booted from the disks of its host.
+//! A node is booted from the disks of its host, or from what was loaded of them.
 //!
 //! The boot is one change like any other: what is said of it is made first, then it is kept, and
 //! then made.
@@ -18,7 +18,8 @@ ghost use Rattle.nqs_store.specs.Stores.{is_stopped as is_store_stopped};
 ghost use Rattle.nqs_store.specs.Disks.{histories_of, contents};
 ghost use Rattle.nqs_store.specs.Images.{IsTold};
 ghost use Rattle.nqs_store.specs.Sound.{IsSoundHost};
-ghost use Rattle.nqs_node.specs.Boots.{Booted, Unbooted};
+ghost use Rattle.nqs_store.specs.declared.disks.Disks.{Disks};
+ghost use Rattle.nqs_node.specs.Boots.{IsLoaded, Booted, Unbooted};
 ghost use Rattle.nqs_node.specs.Makes.{Makes};
 
 use crate::keep::keep;
@@ -102,10 +103,37 @@ fn begin<D: Disk>(
 }
 
 impl<D: Disk> Node<D> {
-    /// Boots a host from its disks, on which nothing is pending: what ran there starts again or is
-    /// lost, which is one record of its journal. It adds to `out` what is said of each such
-    /// request, in the order of rows. A refusal hands the disks back; `Memory` comes before the
-    /// first write.
+    /// Boots a host that was loaded from its disks: what ran there starts again or is lost, which
+    /// is one record of its journal. It adds to `out` what is said of each such request, in the
+    /// order of rows. A refusal hands the disks back; `Memory` comes before the first write.
+    pub fn boot_loaded(
+        alloc: Global,
+        mut store: Store<D>,
+        mut state: HostState,
+        out: &mut Vec<Output>,
+    ) -> Result<Node<D>, (LoadFault, Disks<D>)>
+        requires sound { IsSoundHost (content state) }
+        requires running { is_store_stopped store ≡ false }
+        ensures unsaid { OnErr result (out.new.items ≡ out.old.items) }
+        ensures outputs { IsTrue D.tells → (disks : Disks D) → IsLoaded disks store state → (s : Plain) → IsTold (contents (histories_of D.history disks)) s
+            → OnOk result (out.new.items ≡ out.old.items ++ filter_map boot_output s.rows) }
+        ensures booted { (disks : Disks D) → IsLoaded disks store state → IfOk result (Booted disks) }
+        ensures unbooted { (disks : Disks D) → IsLoaded disks store state
+            → IfErr result (λ e. Unbooted D.tells D.history D.fails D.starved D.faults disks e.0 e.1) }
+    {
+        one_journal_is_active();
+        match begin(alloc, &mut store, &mut state, out) {
+            Err(fault) => Err((fault, store.close())),
+            Ok(()) => Ok(Node {
+                store,
+                state,
+                stopped: false,
+                idle: None,
+            }),
+        }
+    }
+
+    /// Loads a host from its disks, on which nothing is pending, and boots it.
     pub fn boot(
         alloc: Global,
         disks: Disks<D>,
@@ -120,18 +148,7 @@ impl<D: Disk> Node<D> {
     {
         match Store::load(alloc, disks) {
             Err((fault, disks)) => Err((fault, disks)),
-            Ok((mut store, mut state)) => {
-                one_journal_is_active();
-                match begin(alloc, &mut store, &mut state, out) {
-                    Err(fault) => Err((fault, store.close())),
-                    Ok(()) => Ok(Node {
-                        store,
-                        state,
-                        stopped: false,
-                        idle: None,
-                    }),
-                }
-            }
+            Ok((store, state)) => Self::boot_loaded(alloc, store, state, out),
         }
     }
 }

@@ -3,3 +3,4 @@ pub mod History
 pub mod Memory
 pub mod Told
 pub mod Asked
+pub mod Streams

@@ -1,5 +1,6 @@
 -- Each kind of datagram is read as it is spelled: one line a kind.
 use Rattle.std.proofs.Common.{◌≡◌, ℕ, ◌+◌, List, [], ◌++◌, length, drop, refl, Ok}
+use Rattle.nqs_base.proofs.Readings.{bind}
 use Rattle.nqs_types.specs.declared.message.Body.{Body}
 use Rattle.nqs_types.specs.declared.message.Body.TheVariants.{Offer, Ready, Refused, Commit, Done, Inquire, Abort, Stage, Staged, Ask, Answer, Ended, EndedAck}
 use Rattle.nqs_codec.specs.Fields.{u8_field, u64_field}
@@ -8,7 +9,7 @@ use Rattle.nqs_records.specs.Changes.{AreBytes}
 use Rattle.nqs_records.proofs.IsRead.{IsRead}
 use Rattle.nqs_records.proofs.Numbers.{u8_read, u16_read, u64_read}
 use Rattle.nqs_records.proofs.Named.{bool_read, name_read, path_read}
-use Rattle.nqs_records.proofs.Chains.{bind, both_read, last_read}
+use Rattle.nqs_records.proofs.Chains.{both_read, last_read}
 use Rattle.nqs_records.proofs.PartLaws.{id_law, carried_law}
 use Rattle.nqs_records.proofs.Numbered.{AllFind, finds}
 use Rattle.nqs_packets.specs.Bodies.{bodies, no_body, offer_at, ready_at, refused_at, commit_at, done_at, inquire_at, abort_at, stage_at, staged_at, ask_at}

@@ -1,6 +1,7 @@
 -- A message behind the version is read as it is spelled.
 use Rattle.std.proofs.Common.{◌≡◌, ℕ, ◌+◌, ◌<◌, ◌^◌, true, cond, List, [], ◌∷◌, ◌++◌, length, drop, refl, sym, ap, ◌∙◌, subst, arith, length-append}
 use Rattle.std.proofs.Common.{append_assoc, append-nil, Ok, Err}
+use Rattle.nqs_base.proofs.Readings.{given, bound, bind}
 use Rattle.nqs_base.proofs.Plain.{rest_behind}
 use Rattle.nqs_types.specs.declared.message.Body.{Body}
 use Rattle.nqs_types.specs.declared.message.Body.TheVariants.{Offer, Ready, Refused, Commit, Done, Inquire, Abort, Stage, Staged, Ask, Answer, Ended, EndedAck}
@@ -14,10 +15,9 @@ use Rattle.nqs_records.specs.Fields.{u8_at}
 use Rattle.nqs_records.specs.Parts.{host_at}
 use Rattle.nqs_records.specs.Spelling.{fields}
 use Rattle.nqs_records.specs.Changes.{AreBytes}
-use Rattle.nqs_records.proofs.IsRead.{bound}
 use Rattle.nqs_records.proofs.Numbers.{u8_read}
 use Rattle.nqs_records.proofs.Numbered.{numbered_finds}
-use Rattle.nqs_records.proofs.Chains.{Found, bind, same_Ok}
+use Rattle.nqs_records.proofs.Chains.{Found}
 use Rattle.nqs_records.proofs.PartLaws.{host_law}
 use Rattle.nqs_packets.specs.Bodies.{bodies, no_body}
 use Rattle.nqs_packets.specs.Spelling.{kind_of, body_field}
@@ -61,7 +61,7 @@ message_found bytes place m next fits e =
     (sym tag.1 ∙ sym (append-nil (body_field b.0.0))) body.stands in
     let ends = two_stand bytes k.0.1 f.0.1 b.0.1 (u8_field f.0.0.0) _ from.1 (two_stand bytes f.0.1 t.0.1 b.0.1 (u8_field t.0.0.0) _ to.1 last) in
     let all = two_stand bytes place k.0.1 b.0.1 (u8_field (kind_of b.0.0)) _ (subst (λ (n : ℕ). Stands bytes place (u8_field n) k.0.1) (sym tag.0) kind) ends in
-    subst (Found MaySend behind bytes place) (same_Ok (record { from = f.0.0; to = t.0.0; body = b.0.0 }, b.0.1) (m, next) b.2)
+    subst (Found MaySend behind bytes place) (sym (given (record { from = f.0.0; to = t.0.0; body = b.0.0 }, b.0.1) (m, next) b.2))
     ((from.0, to.0, body.is_value), all)
 
 kind_small : (b : Body) → (kind_of b < 2 ^ 8) × (is_kind (kind_of b) ≡ true)

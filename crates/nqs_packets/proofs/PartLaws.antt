@@ -4,6 +4,7 @@ use Rattle.std.proofs.Common.{ap, ◌∙◌, subst, arith, length-append, take_a
 use Rattle.std.specs.Prelude.{⊤}
 use Rattle.std.proofs.lemmas.Bool.{and_parts, ltb-false}
 use Rattle.std.proofs.lemmas.Bool.Decides.{nat_tests}
+use Rattle.nqs_base.proofs.Readings.{bound, bind}
 use Rattle.nqs_types.specs.declared.message.Tool.{Tool}
 use Rattle.nqs_types.specs.declared.message.Tool.TheVariants.{Qsub, Qstat, Qdel, Qmgr, Tick}
 use Rattle.nqs_rules.specs.Sane.{is_offer_refusal}
@@ -14,9 +15,9 @@ use Rattle.nqs_records.specs.declared.fault.RecordFault.{RecordFault}
 use Rattle.nqs_records.specs.declared.fault.RecordFault.TheVariants.{BadField, Short}
 use Rattle.nqs_records.specs.Reading.{Reading, Read, within}
 use Rattle.nqs_records.specs.Values.{is_at_most}
-use Rattle.nqs_records.proofs.IsRead.{IsRead, bound}
+use Rattle.nqs_records.proofs.IsRead.{IsRead}
 use Rattle.nqs_records.proofs.Numbers.{u8_read, u16_read, u32_read, u64_read}
-use Rattle.nqs_records.proofs.Chains.{Found, bind, both_read, within_read, counted_read, mapped_where}
+use Rattle.nqs_records.proofs.Chains.{Found, both_read, within_read, counted_read, mapped_where}
 use Rattle.nqs_records.proofs.ShapeLaws.{same_read}
 use Rattle.nqs_packets.specs.Parts.{is_number, number_at, cause_at, run_at, bytes_at, is_any, is_tool, tool_of, tool_at, is_word_count, words_at}
 use Rattle.nqs_packets.specs.Spelling.{tool_number, words_field}

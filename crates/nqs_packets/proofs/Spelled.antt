@@ -3,6 +3,7 @@ use Rattle.std.proofs.Common.{◌≡◌, ℕ, ◌+◌, Bool, true, false, cond, 
 use Rattle.std.proofs.Common.{Ok, Err, IfOk, IfErr}
 use Rattle.std.specs.declared.result.Result.{Result}
 use Rattle.std.proofs.lemmas.Bool.{eqb-true, ltb-false}
+use Rattle.nqs_base.proofs.Readings.{bound, bind}
 use Rattle.nqs_base.proofs.Plain.{rest_behind}
 use Rattle.nqs_types.specs.declared.message.Message.{Message}
 use Rattle.nqs_codec.specs.Fields.{u8_field}
@@ -11,9 +12,7 @@ use Rattle.nqs_records.specs.declared.fault.RecordFault.TheVariants.{Trailing}
 use Rattle.nqs_records.specs.Reading.{Read}
 use Rattle.nqs_records.specs.Fields.{u8_at}
 use Rattle.nqs_records.specs.Changes.{AreBytes}
-use Rattle.nqs_records.proofs.IsRead.{bound}
 use Rattle.nqs_records.proofs.Numbers.{u8_read}
-use Rattle.nqs_records.proofs.Chains.{bind}
 use Rattle.nqs_records.proofs.Spelled.{nothing_left, none_behind}
 use Rattle.nqs_packets.specs.declared.fault.PacketFault.{PacketFault}
 use Rattle.nqs_packets.specs.declared.fault.PacketFault.TheVariants.{Version}

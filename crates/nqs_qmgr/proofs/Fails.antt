@@ -2,6 +2,7 @@
 use Rattle.std.proofs.Common.{◌≡◌, ◌↔◌, ◌⊎◌, inl, inr, ℕ, ◌+◌, List, length, slice_range, Some, None, Option, Result, Ok, Err, Bool, true, false}
 use Rattle.std.proofs.Common.{cond, nat_lt, refl, ap, sym, ◌∙◌}
 use Rattle.std.proofs.lemmas.Bool.{ltb-true, ltb-false}
+use Rattle.nqs_base.proofs.Readings.{failed, fail, bind, reads-or_fault}
 use Rattle.nqs_base.proofs.Plain.{no_two}
 use Rattle.nqs_types.specs.declared.ids.Named.{Named}
 use Rattle.nqs_types.specs.declared.fault.GrammarFault.{GrammarFault}
@@ -16,7 +17,6 @@ use Rattle.nqs_words.specs.declared.keywords.NoKeyword.{NoKeyword}
 use Rattle.nqs_words.specs.declared.keywords.NoKeyword.TheVariants.{Unknown, Ambiguous}
 use Rattle.nqs_words.specs.declared.values.NotNamed.{NotNamed}
 use Rattle.nqs_words.specs.declared.values.NotNamed.TheVariants.{BadNumber, BadName}
-use Rattle.nqs_words.proofs.Readings.{failed, fail, bind, reads-or_fault}
 use Rattle.nqs_qmgr.specs.declared.head.Head.{Head}
 use Rattle.nqs_qmgr.specs.Read.{Read, ◌>>=◌, or_fault}
 use Rattle.nqs_qmgr.specs.Heads.{word_text, word_at, name_at, or_not_named, request_at, nothing_more, nothing_after, stem_of, chosen, head_of, head_at, bare}

@@ -2,6 +2,7 @@
 -- fault.
 use Rattle.std.proofs.Common.{◌≡◌, ◌⊎◌, inl, inr, ℕ, zero, suc, ◌<◌, List, [], ◌∷◌, arith, refl, ap, sym, subst, Some, None, Option, Result, Ok, Err, Bool}
 use Rattle.std.proofs.Common.{true, false, is_some}
+use Rattle.nqs_base.proofs.Readings.{failed}
 use Rattle.nqs_types.specs.declared.ids.Named.{Named}
 use Rattle.nqs_types.specs.declared.ids.NamedDest.{NamedDest}
 use Rattle.nqs_types.specs.declared.event.Command.{Command}
@@ -15,7 +16,6 @@ use Rattle.nqs_words.specs.declared.words.Gaps.TheVariants.{SpacesAndTabs}
 use Rattle.nqs_words.specs.declared.keyword.Keyword.{Keyword}
 use Rattle.nqs_words.specs.declared.keyword.Keyword.TheVariants as k
 use Rattle.nqs_words.proofs.Missing.{missing}
-use Rattle.nqs_words.proofs.Readings.{failed}
 use Rattle.nqs_qmgr.specs.declared.head.Head.{Head}
 use Rattle.nqs_qmgr.specs.declared.options.Settings.{Settings}
 use Rattle.nqs_qmgr.specs.Read.{Read, ◌>>=◌}

@@ -1,7 +1,7 @@
 -- What a reading means: which values it gives, as a relation. Readings are joined as their
 -- relations are.
 use Rattle.std.proofs.Common.{◌≡◌, ◌↔◌, ℕ, Ok, refl, ap, sym, subst}
-use Rattle.nqs_words.proofs.Readings.{given, bound, bind}
+use Rattle.nqs_base.proofs.Readings.{given, bound, bind}
 use Rattle.nqs_qmgr.specs.Read.{Read, ◌>>=◌}
 
 abbrev pub Means : {A : Type 0} → Read A → (A → Type 0) → Type 0

@@ -1,6 +1,7 @@
 use Rattle.std.proofs.Common.{◌≡◌, ℕ, ◌+◌, ◌<◌, List, length, arith, refl, ap, ◌∙◌, sym, subst, Some, None, Option, Result, Ok, Err, cond, Bool, true, false}
 use Rattle.std.proofs.Common.{nat_lt, slice_range}
 use Rattle.std.proofs.lemmas.Bool.Decides.{nat_tests}
+use Rattle.nqs_base.proofs.Readings.{bound, bind, reads-or_fault}
 use Rattle.nqs_types.specs.declared.ids.Named.{Named}
 use Rattle.nqs_types.specs.declared.fault.GrammarFault.{GrammarFault}
 use Rattle.nqs_types.specs.declared.fault.GrammarFault.TheVariants as fault
@@ -14,7 +15,6 @@ use Rattle.nqs_words.specs.declared.keywords.NoKeyword.{NoKeyword}
 use Rattle.nqs_words.specs.declared.keywords.NoKeyword.TheVariants.{Unknown, Ambiguous}
 use Rattle.nqs_words.specs.declared.values.NotNamed.{NotNamed}
 use Rattle.nqs_words.specs.declared.values.NotNamed.TheVariants.{BadNumber, BadName}
-use Rattle.nqs_words.proofs.Readings.{bound, bind, reads-or_fault}
 use Rattle.nqs_qmgr.specs.declared.head.Head.{Head}
 use Rattle.nqs_qmgr.specs.Read.{Read, ◌>>=◌, or_fault}
 use Rattle.nqs_qmgr.specs.Heads.{word_text, word_at, name_at, or_not_named, request_at, nothing_more, nothing_after, last_name, stem_of, chosen, head_of}

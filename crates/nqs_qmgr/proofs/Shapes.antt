@@ -1,5 +1,6 @@
 -- Each shape means what the grammar says of it.
 use Rattle.std.proofs.Common.{◌≡◌, ℕ, zero, suc, ◌+◌, ◌<◌, List, [], ◌∷◌, arith, refl, ap, sym, subst, Some, None, Option, Ok, Bool, true, false, is_some}
+use Rattle.nqs_base.proofs.Readings.{bound}
 use Rattle.nqs_types.specs.declared.ids.Named.{Named}
 use Rattle.nqs_types.specs.declared.ids.NamedDest.{NamedDest}
 use Rattle.nqs_types.specs.declared.event.Command.{Command}
@@ -13,7 +14,6 @@ use Rattle.nqs_words.specs.declared.words.Gaps.TheVariants.{SpacesAndTabs}
 use Rattle.nqs_words.specs.declared.keyword.Keyword.{Keyword}
 use Rattle.nqs_words.specs.declared.keyword.Keyword.TheVariants as k
 use Rattle.nqs_words.proofs.Missing.{missing, missing_one}
-use Rattle.nqs_words.proofs.Readings.{bound}
 use Rattle.nqs_qmgr.specs.declared.head.Head.{Head}
 use Rattle.nqs_qmgr.specs.declared.options.Settings.{Settings}
 use Rattle.nqs_qmgr.specs.Read.{Read, ◌>>=◌}

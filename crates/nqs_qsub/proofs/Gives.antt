@@ -1,6 +1,6 @@
--- What a reading gives and which faults it has, as two relations. Readings are joined as their
--- relations are.
-use Rattle.std.proofs.Common.{◌≡◌, ◌↔◌, ◌⊎◌, inl, inr, ℕ, ◌+◌, List, Some, None, Option, Result, Ok, Err, Bool, true, false, cond, refl, ap, sym, ◌∙◌}
+-- What the words of an option give and which faults they have, as two relations.
+use Rattle.std.proofs.Common.{◌≡◌, ◌⊎◌, inl, inr, ℕ, ◌+◌, List, Some, None, Result, Ok, Err, Bool, true, false, cond, refl, ap, sym, ◌∙◌}
+use Rattle.nqs_base.proofs.Readings.{Reads, given, refused, reads-bind, reads-map, reads-or_fault}
 use Rattle.nqs_types.specs.declared.fault.WordsFault.{WordsFault}
 use Rattle.nqs_types.specs.declared.fault.WordsCause.{WordsCause}
 use Rattle.nqs_types.specs.declared.fault.WordsCause.TheVariants as cause
@@ -14,87 +14,17 @@ use Rattle.nqs_qsub.specs.Options.{flag_of, is_given, is_both, fresh, takes_valu
 use Rattle.nqs_qsub.specs.Says.{MayStand, GivesMark, GivesValue}
 use Rattle.nqs_qsub.specs.Faults.{NoValue, Misgiven}
 
--- the reading gives just these values, and has just these faults
-abbrev pub Reads : {A : Type 0} → Read A → (A → Type 0) → (WordsFault → Type 0) → Type 0
-Reads {A} r P F = ((a : A) → (r ≡ Ok a) ↔ P a) × ((f : WordsFault) → (r ≡ Err f) ↔ F f)
-
--- ---- steps
-
-pub bound : {A B : Type 0} (r : Read A) (g : A → Read B) (b : B) → (r >>= g) ≡ Ok b → (a : A) × (r ≡ Ok a) × (g a ≡ Ok b)
-bound (Ok a) g b e = (a, refl, e)
-bound (Err x) g b e = cc
-
-pub failed : {A B : Type 0} (r : Read A) (g : A → Read B) (f : WordsFault) → (r >>= g) ≡ Err f → (r ≡ Err f) ⊎ ((a : A) × (r ≡ Ok a) × (g a ≡ Err f))
-failed (Ok a) g f e = inr (a, refl, e)
-failed {A} (Err x) g f e = let same : x ≡ f = cc in inl (ap (λ (y : WordsFault). Err y) same)
-
-bind : {A B : Type 0} (r : Read A) (g : A → Read B) (a : A) (s : Read B) → r ≡ Ok a → g a ≡ s → (r >>= g) ≡ s
-bind r g a s e h = rw e h
-
-fail : {A B : Type 0} (r : Read A) (g : A → Read B) (f : WordsFault) → r ≡ Err f → (r >>= g) ≡ Err f
-fail r g f e = rw e refl
-
--- ---- joined relations
-
-pub reads-bind : {A B : Type 0} (r : Read A) (g : A → Read B) (P : A → Type 0) (F : WordsFault → Type 0) (Q : A → B → Type 0) (G : A → WordsFault → Type 0)
-    → Reads r P F → ((a : A) → Reads (g a) (Q a) (G a)) → Reads (r >>= g) (λ (b : B). (a : A) × P a × Q a b) (λ (f : WordsFault). F f ⊎ ((a : A) × P a × G a f))
-reads-bind {A} {B} r g P F Q G first next = (
-  (λ b. (
-    (λ e. let t = bound r g b e in (t.0, (first.0 t.0).0 t.1, ((next t.0).0 b).0 t.2)),
-    (λ h. bind r g h.0 (Ok b) ((first.0 h.0).1 h.1) (((next h.0).0 b).1 h.2)),
-  )),
-  (λ f. ((λ e. to f (failed r g f e)), from f)),
-)
-  where
-    to : (f : WordsFault) → (r ≡ Err f) ⊎ ((a : A) × (r ≡ Ok a) × (g a ≡ Err f)) → F f ⊎ ((a : A) × P a × G a f)
-    to f (inl e) = inl ((first.1 f).0 e)
-    to f (inr t) = inr (t.0, (first.0 t.0).0 t.1, ((next t.0).1 f).0 t.2)
-
-    from : (f : WordsFault) → F f ⊎ ((a : A) × P a × G a f) → (r >>= g) ≡ Err f
-    from f (inl h) = fail r g f ((first.1 f).1 h)
-    from f (inr t) = bind r g t.0 (Err f) ((first.0 t.0).1 t.1) (((next t.0).1 f).1 t.2)
-
-given : {A : Type 0} (a b : A) → ◌≡◌ {A = Read A} (Ok a) (Ok b) → b ≡ a
-given a b e = cc
-
--- a value, made into another
-pub reads-map : {A B : Type 0} (r : Read A) (h : A → B) (P : A → Type 0) (F : WordsFault → Type 0) → Reads r P F
-    → Reads (r >>= (λ a. Ok (h a))) (λ (b : B). (a : A) × P a × (b ≡ h a)) F
-reads-map {A} {B} r h P F first = (
-  (λ b. (
-    (λ e. let t = bound r g b e in (t.0, (first.0 t.0).0 t.1, given (h t.0) b t.2)),
-    (λ t. bind r g t.0 (Ok b) ((first.0 t.0).1 t.1) (ap (λ (c : B). Ok c) (sym t.2))),
-  )),
-  (λ f. ((λ e. to f (failed r g f e)), (λ x. fail r g f ((first.1 f).1 x)))),
-)
-  where
-    g : A → Read B
-    g a = Ok (h a)
-
-    to : (f : WordsFault) → (r ≡ Err f) ⊎ ((a : A) × (r ≡ Ok a) × (g a ≡ Err f)) → F f
-    to f (inl e) = (first.1 f).0 e
-    to f (inr t) = let no = t.2 in cc
-
--- ---- parts of words
-
-pub reads-or_fault : {A : Type 0} (o : Option A) (x : WordsFault) → Reads (or_fault o x) (λ (a : A). o ≡ Some a) (λ (f : WordsFault). (o ≡ None) × (f ≡ x))
-reads-or_fault {A} (Some c) x = ((λ a. ((λ e. cc), (λ e. cc))), (λ f. ((λ e. cc), (λ h. let no = h.0 in cc))))
-reads-or_fault {A} None x = ((λ a. ((λ e. cc), (λ e. cc))), (λ f. ((λ e. (refl, cc)), (λ h. ap (λ (y : WordsFault). Err y) (sym h.1)))))
-
 pub reads-located : {A : Type 0} (line n : ℕ) (r : Result A WordsCause) → Reads (located line n r) (λ (a : A). r ≡ Ok a)
     (λ (f : WordsFault). (why : WordsCause) × (r ≡ Err why) × (f ≡ fault_at line n why))
 reads-located {A} line n (Ok c) = ((λ a. ((λ e. cc), (λ e. cc))), (λ f. ((λ e. cc), (λ h. let no = h.1 in cc))))
 reads-located {A} line n (Err why) = (
   (λ a. ((λ e. cc), (λ e. cc))),
   (λ f. (
-    (λ e. (why, refl, given_fault (fault_at line n why) f e)),
+    (λ e. (why, refl, refused {A = A} (fault_at line n why) f e)),
     (λ h. let same : why ≡ h.0 = let e = h.1 in cc in
         ap (λ (y : WordsCause). Err (fault_at line n y)) same ∙ ap (λ (y : WordsFault). Err y) (sym h.2)),
   )),
 )
-  where
-    given_fault : (x f : WordsFault) → ◌≡◌ {A = Read A} (Err x) (Err f) → f ≡ x
-    given_fault x f e = cc
 
 -- an option's value
 reads-value : (source : Source) (words : List (List ℕ)) (text : List ℕ) (line n : ℕ) (token : Token) (o : Options) (f : Flag)

@@ -4,6 +4,7 @@ use Rattle.std.proofs.Common.{nat_lt, refl, ap, sym, ◌∙◌, arith}
 use Rattle.std.proofs.lemmas.Bool.Decides.{nat_tests}
 use Rattle.std.proofs.lemmas.List.{drop_all}
 use Rattle.std.proofs.lemmas.Bool.{ltb-true, ltb-false}
+use Rattle.nqs_base.proofs.Readings.{Reads, bound, failed, reads-bind, reads-map}
 use Rattle.nqs_base.proofs.Plain.{no_two}
 use Rattle.nqs_types.specs.declared.fault.WordsFault.{WordsFault}
 use Rattle.nqs_types.specs.declared.fault.WordsCause.TheVariants as cause
@@ -19,7 +20,6 @@ use Rattle.nqs_qsub.specs.Qsub.{merged, both_options, qsub_options, ReadsQsub}
 use Rattle.nqs_qsub.specs.Says.{WordsGive, LineGives, GiveLines, ScriptGives, Says}
 use Rattle.nqs_qsub.specs.Faults.{WordsFail, FaultsBelow, ScriptFails, Faults}
 use Rattle.nqs_qsub.specs.Law.{ReadsWhatIsSaid, FindsTheFault, SaysOrFaults, NeverBoth, OneFault, Answers}
-use Rattle.nqs_qsub.proofs.Gives.{Reads, bound, failed, reads-bind, reads-map}
 use Rattle.nqs_qsub.proofs.Words.{reads-words}
 
 -- ---- lines

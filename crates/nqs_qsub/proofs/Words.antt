@@ -1,12 +1,14 @@
 -- Options one behind another: at most eleven, as each may stand once.
-use Rattle.std.proofs.Common.{◌≡◌, ◌⊎◌, inl, inr, ℕ, zero, suc, ◌+◌, ◌<◌, ◌≤◌, List, [], ◌∷◌, Some, None, Option, Ok, Err, Bool, true, false, is_some, refl, ap}
+use Rattle.std.proofs.Common.{◌≡◌, ◌⊎◌, inl, inr, ℕ, zero, suc, ◌+◌, ◌<◌, List, [], ◌∷◌, Some, None, Option, Ok, Err, true, false, is_some, refl, ap}
 use Rattle.std.proofs.Common.{sym, ◌∙◌, arith}
+use Rattle.nqs_base.proofs.Readings.{Reads, bound, failed}
 use Rattle.nqs_types.specs.declared.fault.WordsFault.{WordsFault}
 use Rattle.nqs_types.specs.declared.fault.WordsCause.{WordsCause}
 use Rattle.nqs_types.specs.declared.fault.WordsCause.TheVariants as cause
 use Rattle.nqs_words.specs.Values.{name_of, number_of}
 use Rattle.nqs_words.specs.Amounts.{time_of, size_of}
 use Rattle.nqs_words.specs.Moments.{moment_of}
+use Rattle.nqs_words.proofs.Missing.{missing, missing_one, at_most_one}
 use Rattle.nqs_qsub.specs.declared.token.Source.{Source}
 use Rattle.nqs_qsub.specs.declared.token.Place.{Place}
 use Rattle.nqs_qsub.specs.declared.token.Token.{Token}
@@ -18,29 +20,15 @@ use Rattle.nqs_qsub.specs.Tokens.{Read, ◌>>=◌, next_token, text_of}
 use Rattle.nqs_qsub.specs.Options.{is_given, takes_value, marked, given, path_at, valued, one_option, per_token, read_words}
 use Rattle.nqs_qsub.specs.Says.{GivesMark, GivesValue, GivesOption, GiveOptions, WordsGive}
 use Rattle.nqs_qsub.specs.Faults.{FaultsBehind, WordsFail}
-use Rattle.nqs_qsub.proofs.Gives.{Reads, bound, failed, reads-option}
+use Rattle.nqs_qsub.proofs.Gives.{reads-option}
 
 -- ---- how many options aren't given
-
-pub missing : Bool → ℕ
-missing true = 0
-missing false = 1
 
 abbrev pub left : Options → ℕ
 left o =
     missing (is_some o.queue) + missing (is_some o.priority) + missing (is_some o.job_name) + missing (is_some o.earliest) + missing (is_some o.out)
     + missing (is_some o.error)
     + missing o.join + missing o.no_rerun + missing (is_some o.cpu) + missing (is_some o.memory) + missing (is_some o.forms)
-
-missing_one : (b : Bool) → b ≡ false → missing b ≡ 1
-unfolding missing
-missing_one true e = cc
-missing_one false e = refl
-
-at_most_one : (b : Bool) → missing b ≤ 1
-unfolding missing
-at_most_one true = omega arith
-at_most_one false = omega arith
 
 pub few : (o : Options) → left o < 12
 few o =

@@ -1,6 +1,7 @@
 -- Words of the command and of a script's line, one after another.
 use Rattle.std.specs.Prelude.{ℕ, ◌+◌, ◌&&◌, nat_lt, nat_le, List, [], length, get_or, slice_range, Option, Some, None, option_map, if◌then◌else◌, Ok, Err}
 use Rattle.std.specs.declared.result.Result.{Result}
+pub use Rattle.nqs_base.specs.Reads.{◌>>=◌, or_fault}
 use Rattle.nqs_types.specs.declared.fault.WordsFault.{WordsFault}
 use Rattle.nqs_types.specs.declared.fault.WordsCause.{WordsCause}
 use Rattle.nqs_words.specs.Words.{next_word}
@@ -15,17 +16,6 @@ use Rattle.nqs_qsub.specs.declared.token.Token.{Token}
 -- what a part of the words gives, or the first fault
 abbrev pub Read : Type 0 → Type 0
 Read A = Result A WordsFault
-
-infixl 10 ◌>>=◌
--- one step and then the next, where the first succeeds
-abbrev pub ◌>>=◌ : {A B E : Type 0} → Result A E → (A → Result B E) → Result B E
-◌>>=◌ {A} {B} {E} (Ok a) f = f a
-◌>>=◌ {A} {B} {E} (Err e) f = Err e
-
--- what stands there, or the fault
-abbrev pub or_fault : {A E : Type 0} → Option A → E → Result A E
-or_fault {A} {E} (Some a) e = Ok a
-or_fault {A} {E} None e = Err e
 
 -- a fault of a word, by its line and its number in it
 abbrev pub fault_at : ℕ → ℕ → WordsCause → WordsFault

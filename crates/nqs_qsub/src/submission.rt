@@ -1,6 +1,5 @@
 //! A submission from its words and its script. The command's word wins over the script's; a
-//! command's `-e` or
-//! `-eo` sets aside both of the script's.
+//! command's `-e` or `-eo` sets aside both of the script's.
 
 ghost use Rattle.std.specs.Prelude.{◌≡◌, ◌≤◌, length, codes, IfOk};
 ghost use Rattle.nqs_qsub.specs.Tokens.{fault_at};

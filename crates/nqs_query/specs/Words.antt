@@ -2,6 +2,7 @@
 use Rattle.std.specs.Prelude.{◌≡◌, ℕ, ◌+◌, Bool, true, false, nat_le, List, [], ◌∷◌, drop, codes, Option, Some, None, if◌then◌else◌, Ok, Err}
 use Rattle.std.specs.declared.result.Result.{Result}
 use Rattle.std.specs.Global.{Vec}
+pub use Rattle.nqs_base.specs.Reads.{◌>>=◌}
 use Rattle.nqs_base.specs.Same.{name_eq}
 use Rattle.nqs_base.specs.declared.name.Name.{Name}
 use Rattle.nqs_query.specs.declared.words.NotNames.{NotNames}
@@ -19,12 +20,6 @@ use Rattle.nqs_words.specs.declared.values.NotNamed.TheVariants.{BadNumber, BadN
 -- what words give, or the first fault
 abbrev pub Read : Type 0 → Type 0
 Read A = Result A WordsFault
-
-infixl 10 ◌>>=◌
--- one step and then the next, where the first succeeds
-abbrev pub ◌>>=◌ : {A B : Type 0} → Read A → (A → Read B) → Read B
-◌>>=◌ {A} {B} (Ok a) f = f a
-◌>>=◌ {A} {B} (Err e) f = Err e
 
 -- the number of a word; the last 32 bits have goes for all that are further behind
 abbrev pub word_number : ℕ → ℕ

@@ -1,5 +1,5 @@
 -- What one message makes of a state: it stays within reach of its sender.
-use Rattle.std.proofs.Common.{◌≡◌, ℕ, ◌+◌, ◌-◌, ◌≤◌, Bool, true, false, not, ◌||◌, ◌==◌, nat_lt, List, [], ◌∷◌, ◌++◌, map, filter, find, Option, None, Some}
+use Rattle.std.proofs.Common.{◌≡◌, ℕ, ◌+◌, ◌-◌, ◌≤◌, Bool, true, false, not, ◌||◌, ◌==◌, nat_lt, List, [], ◌∷◌, ◌++◌, map, filter, find, Option, None, Some, le_refl}
 use Rattle.std.proofs.Common.{option_map, Result, Ok, Err, true≢false, refl, sym, ap, subst, ◌∙◌, arith, if◌then◌else◌}
 use Rattle.std.proofs.lemmas.Bool.{and_parts, and_from, or_parts, or_from, or_left, or_right, not_from_true, false_from_ne_true}
 use Rattle.std.proofs.lemmas.List.{append-nil}
@@ -166,9 +166,6 @@ module _ {E : Type 0} where
     reached_gone : (id : RequestId) → is_in_reach peer s id ≡ true → list_any (is_row id) (rows_beside (is_in_reach peer s) s) ≡ false
     reached_gone id h = kept_none (λ r. not (is_in_reach peer s r.id)) (is_row id) (touched (is_in_reach peer s) id h) s.rows
 
-    no_more : (a : ℕ) → a ≤ a
-    no_more a = omega arith
-
     -- changes of rows and of handovers to the peer
     hands_within : (rows : List (Row E)) (hands : List Hand) → filter (λ r. not (is_in_reach peer s r.id)) rows ≡ rows_beside (is_in_reach peer s) s
         → filter (λ h. not (is_hand_to peer h)) hands ≡ hands_beside peer s → IsWithinReach peer s (record s { rows = rows; hands = hands })
@@ -180,8 +177,8 @@ module _ {E : Type 0} where
       stages = refl;
       rows = same_rows;
       files = ([], sym (append-nil s.files));
-      arrivals = no_more s.arrivals;
-      file_next = no_more s.file_next;
+      arrivals = le_refl s.arrivals;
+      file_next = le_refl s.file_next;
     }
 
     -- changes of rows, of promises of the peer, and of what is known of it
@@ -198,7 +195,7 @@ module _ {E : Type 0} where
       rows = same_rows;
       files = ([], sym (append-nil s.files));
       arrivals = more;
-      file_next = no_more s.file_next;
+      file_next = le_refl s.file_next;
     }
 
     -- files added, and changes of what is known of the peer
@@ -212,7 +209,7 @@ module _ {E : Type 0} where
       stages = refl;
       rows = refl;
       files = (added, refl);
-      arrivals = no_more s.arrivals;
+      arrivals = le_refl s.arrivals;
       file_next = more;
     }
 
@@ -383,7 +380,7 @@ module _ {E : Type 0} where
     promise_gone : Reached peer s (dropped (peer_number peer n) s)
     promise_gone = record {
       within = promises_within s.rows (without_first (is_promise (peer_number peer n)) s.promises) (close n) s.arrivals refl promises_without
-          (no_more s.arrivals);
+          (le_refl s.arrivals);
       out = λ id has out. still_out id out;
       left = λ id has. or_left (has_row id s) (list_any (is_given_to peer id) s.hands) has;
       came = λ id none new. new;
@@ -413,7 +410,7 @@ module _ {E : Type 0} where
         by false = record {
           within = promises_within (s.rows ++ requeued_row p.row ∷ []) promises (close n) s.arrivals
               (kept_added (λ r. not (is_in_reach peer s r.id)) s.rows (requeued_row p.row) (not_from_true (is_in_reach peer s p.row.id) reaches))
-              promises_without (no_more s.arrivals);
+              promises_without (le_refl s.arrivals);
           out = λ id has out. still_out id out;
           left = λ id has. or_left (list_any (is_row id) (s.rows ++ requeued_row p.row ∷ [])) (list_any (is_given_to peer id) s.hands)
               (any-before (is_row id) s.rows (requeued_row p.row ∷ []) has);
@@ -441,7 +438,7 @@ module _ {E : Type 0} where
         by : (b : Bool) → Reached peer s (if b then record t { files = s.files ++ file ∷ []; file_next = s.file_next + 1 } else t)
         by true = calm (record t { files = s.files ++ file ∷ []; file_next = s.file_next + 1 })
             (files_within noted (file ∷ []) (s.file_next + 1) (omega arith)) refl refl refl
-        by false = calm t (promises_within s.rows s.promises noted s.arrivals refl refl (no_more s.arrivals)) refl refl refl
+        by false = calm t (promises_within s.rows s.promises noted s.arrivals refl refl (le_refl s.arrivals)) refl refl refl
 
     -- a stage was taken
     stage_gone : Reached peer s (record s { stages = without_first (is_stage (peer_number peer n)) s.stages })
@@ -453,8 +450,8 @@ module _ {E : Type 0} where
       stages = stages_without;
       rows = refl;
       files = ([], sym (append-nil s.files));
-      arrivals = no_more s.arrivals;
-      file_next = no_more s.file_next;
+      arrivals = le_refl s.arrivals;
+      file_next = le_refl s.file_next;
     }) refl refl refl
 
 -- by the message

@@ -77,8 +77,7 @@ pub fn make_host_folder(
 }
 
 /// The folder `jobs` of a host, below this folder, as a path from the root without links. The
-/// host's folder is there; the folder
-/// `jobs` need not be.
+/// host's folder is there; the folder `jobs` need not be.
 pub(crate) fn jobs_path(rt: &HostRuntime, folder: &str) -> io::Result<String> {
     let folder = fs::canonicalize(rt, folder)?;
     Ok(format!(in rt.alloc(); "{}/jobs", folder.as_str())?)

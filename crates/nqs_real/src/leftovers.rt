@@ -144,14 +144,14 @@ pub(crate) fn put_mark(command: &mut Command, place: &str) -> Result<(), AllocEr
     Ok(())
 }
 
-/// Ends what is left of the job with this folder, but for this process. It fails as `end_jobs`
-/// does.
+/// Ends what is left of the job with this folder, but for this process. Where there is some left
+/// after twenty looks, in about a second and a half, it fails with `TimedOut`.
 pub fn end_job(rt: &HostRuntime, place: &str) -> io::Result<()> {
     end_marked(rt, &Mark::Is(format!(in rt.alloc(); "{JOB}={place}")?))
 }
 
-/// Ends what is left of each job whose folder is in this one, but for this process. Where there is
-/// some left after twenty looks, in about a second and a half, it fails with `TimedOut`.
+/// Ends what is left of each job whose folder is in this one, but for this process. It fails as
+/// `end_job` does.
 pub(crate) fn end_jobs(rt: &HostRuntime, jobs: &str) -> io::Result<()> {
     end_marked(rt, &Mark::Begins(format!(in rt.alloc(); "{JOB}={jobs}/")?))
 }

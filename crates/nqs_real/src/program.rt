@@ -28,17 +28,19 @@ fn run_to_its_end(rt: &HostRuntime, command: &mut Command) -> io::Result<()> {
     Ok(())
 }
 
+// The same, with these words.
 fn run_with(rt: &HostRuntime, command: &mut Command, words: &[&str]) -> io::Result<()> {
     add_words(command, words)?;
     run_to_its_end(rt, command)
 }
 
-// The same, of a program with these words.
+// The same, of the program with this name.
 fn run_quietly(rt: &HostRuntime, program: &str, words: &[&str]) -> io::Result<()> {
     let mut command = Command::new(rt.alloc(), program)?;
     run_with(rt, &mut command, words)
 }
 
+// The same, of `kill`: SIGKILL to the processes with these numbers.
 fn end_by(rt: &HostRuntime, command: &mut Command, numbers: &[String]) -> io::Result<()> {
     add_words(command, &["-KILL", "--"])?;
     for number in numbers {

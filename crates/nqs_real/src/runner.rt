@@ -35,8 +35,8 @@ const SHELL: &str = "umask 077; . \"$0\"";
 
 /// Runs the script of a job by `/bin/sh`, in a session of its own, looks every 1 to 20 milliseconds
 /// whether it has ended or is to be killed, and then ends what is left of the job and removes its
-/// files. Trusted: the programs `setpriv`, `setsid`,
-/// `prlimit`, `sh`, `kill` and `pkill`, and that no job changes the files of the folder `jobs`.
+/// files. Trusted: the programs `setpriv`, `setsid`, `prlimit`, `sh`, `kill` and `pkill`, and that
+/// no job changes the files of the folder `jobs`.
 #[derive(Drop)]
 pub struct ShellRunner {
     rt: HostRuntime,
@@ -191,7 +191,7 @@ impl ShellRunner {
         Err(io::Error::from(ErrorKind::TimedOut))
     }
 
-    // Whatever comes, nothing of the job is left, in its session or in another.
+    // Whatever comes, what is found of the job is ended, in its session or in another.
     fn finish(&self, child: &mut Child, place: &str) -> io::Result<ExitStatus> {
         let ended = self.watch(child, place);
         let _ = end_session(&self.rt, child.id());

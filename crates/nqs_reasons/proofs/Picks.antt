@@ -11,6 +11,7 @@ use Rattle.std.specs.Option.{IfSome}
 use Rattle.std.proofs.lemmas.Bool.{and_parts}
 use Rattle.std.proofs.Math.Bool.{and-false}
 use Rattle.nqs_base.specs.Same.{name_eq, name_exact}
+use Rattle.nqs_base.proofs.Plain.{other_fails}
 use Rattle.nqs_state.specs.State.{Plain}
 use Rattle.nqs_state.specs.Keys.{is_queue}
 use Rattle.nqs_types.specs.declared.queue.QueueDef.{QueueDef}
@@ -53,11 +54,6 @@ distinct_places (x ∷ xs) ys (suc k) (suc l) n apart at again =
 none_counted : {V : Type 0} (p : V → Bool) (vs : List V) → ((k : ℕ) (v : V) → slice_get vs k ≡ Some v → p v ≡ false) → length (filter p vs) ≡ 0
 none_counted p [] none = refl
 none_counted p (v ∷ vs) none = ap (λ b. length (cond b (v ∷ filter p vs) (filter p vs))) (none zero v refl) ∙ none_counted p vs (λ k u at. none (suc k) u at)
-
--- of two tests that don't both pass, one of which does, the other doesn't
-other_fails : (a b : Bool) → (a && b) ≡ false → b ≡ true → a ≡ false
-other_fails true b h is = absurd (true≢false (sym is ∙ h))
-other_fails false b h is = refl
 
 -- rows
 

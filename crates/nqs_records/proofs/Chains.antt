@@ -1,28 +1,23 @@
 -- Chains of readings: each keeps that what is found stands there, and that what stands there is
 -- found.
 use Rattle.std.proofs.Common.{◌≡◌, ℕ, zero, suc, ◌+◌, Bool, true, false, cond, IsTrue, List, [], ◌∷◌, ◌++◌, length, drop, Option, Some, None, refl, sym, ap}
-use Rattle.std.proofs.Common.{◌∙◌, subst, arith, length-append, append_assoc, append-nil, Result, Ok, Err}
+use Rattle.std.proofs.Common.{◌∙◌, subst, arith, length-append, append_assoc, append-nil, Ok, Err}
 use Rattle.std.specs.Prelude.{flat_map}
 use Rattle.std.specs.List.{AllByRecursion}
+use Rattle.nqs_base.proofs.Readings.{given, bound, bind}
 use Rattle.nqs_base.proofs.Plain.{rest_behind}
 use Rattle.nqs_codec.specs.Fields.{bool_field}
 use Rattle.nqs_codec.specs.Takes.{Stands}
 use Rattle.nqs_codec.proofs.Lengths.{two_stand}
-use Rattle.nqs_records.specs.Reading.{Read, Reading, ◌>>=◌, mapped, both, within, repeated, counted, if_there}
+use Rattle.nqs_records.specs.Reading.{Reading, ◌>>=◌, mapped, both, within, repeated, counted, if_there}
 use Rattle.nqs_records.specs.Fields.{bool_at, opt_at}
 use Rattle.nqs_records.specs.Values.{IsOpt, IsList}
 use Rattle.nqs_records.specs.Spelling.{opt_field}
 use Rattle.nqs_records.specs.Changes.{AreBytes}
 use Rattle.nqs_records.specs.declared.fault.RecordFault.{RecordFault}
 use Rattle.nqs_records.specs.declared.fault.RecordFault.TheVariants.{BadField}
-use Rattle.nqs_records.proofs.IsRead.{IsRead, bound}
+use Rattle.nqs_records.proofs.IsRead.{IsRead}
 use Rattle.nqs_records.proofs.Named.{bool_read}
-
-pub bind : {E A B : Type 0} (r : Result A E) (f : A → Result B E) (a : A) (b : B) → r ≡ Ok a → f a ≡ Ok b → (r >>= f) ≡ Ok b
-bind r f a b e g = rw e g
-
-pub same_Ok : {A : Type 0} (a b : A) → ◌≡◌ {A = Read A} (Ok a) (Ok b) → a ≡ b
-same_Ok a b e = cc
 
 -- what a reading found
 abbrev pub Found : {A : Type 0} → (A → Type 0) → (A → List ℕ) → List ℕ → ℕ → A × ℕ → Type 0
@@ -39,7 +34,7 @@ both_read {A} {B} {IsA} {IsB} {fa} {fb} {ra} {rb} one other = record {
       let b = bound (rb a.0.0 bytes a.0.1) (λ b. Ok ((a.0.0, b.0), b.1)) (value, next) a.2 in
       let here = one.found bytes place a.0.0 a.0.1 fits a.1 in
       let there = (other a.0.0 here.0).found bytes a.0.1 b.0.0 b.0.1 fits b.1 in
-      subst (Found (λ (v : A × B). IsA v.0 × IsB v.0 v.1) (λ v. fa v.0 ++ fb v.0 v.1) bytes place) (same_Ok ((a.0.0, b.0.0), b.0.1) (value, next) b.2)
+      subst (Found (λ (v : A × B). IsA v.0 × IsB v.0 v.1) (λ v. fa v.0 ++ fb v.0 v.1) bytes place) (sym (given ((a.0.0, b.0.0), b.0.1) (value, next) b.2))
       ((here.0, there.0), two_stand bytes place a.0.1 b.0.1 (fa a.0.0) (fb a.0.0 b.0.0) here.1 there.1);
   taken = λ bytes rest place value fits is_value is.
       let front = fa value.0 in
@@ -59,7 +54,7 @@ mapped_where {A} {B} {IsA} {fa} {ra} IsB fb make part again to from spelled one 
   found = λ bytes place value next fits e.
       let a = bound (ra bytes place) (λ a. Ok (make a.0, a.1)) (value, next) e in
       let here = one.found bytes place a.0.0 a.0.1 fits a.1 in
-      subst (Found IsB fb bytes place) (same_Ok (make a.0.0, a.0.1) (value, next) a.2)
+      subst (Found IsB fb bytes place) (sym (given (make a.0.0, a.0.1) (value, next) a.2))
       (to a.0.0 here.0, subst (λ (l : List ℕ). Stands bytes place l a.0.1) (sym (spelled a.0.0 here.0)) here.1);
   taken = λ bytes rest place value fits is_value is.
       let same : fb value ≡ fa (part value) = ap fb (sym (again value)) ∙ spelled (part value) (from value is_value) in
@@ -98,11 +93,11 @@ there_found : {A : Type 0} {IsA : A → Type 0} {f : A → List ℕ} {r : Readin
     → (is_there : Bool) (start : ℕ) → Stands bytes place (bool_field is_there) start
     → (value : Option A) (next : ℕ) → if_there is_there r bytes start ≡ Ok (value, next) → Found (IsOpt IsA) (opt_field f) bytes place (value, next)
 there_found {A} {IsA} {f} {r} one bytes place fits false start stands value next e =
-    subst (Found (IsOpt IsA) (opt_field f) bytes place) (same_Ok (None, start) (value, next) e) (tt, stands)
+    subst (Found (IsOpt IsA) (opt_field f) bytes place) (sym (given (None, start) (value, next) e)) (tt, stands)
 there_found {A} {IsA} {f} {r} one bytes place fits true start stands value next e =
     let a = bound (r bytes start) (λ a. Ok (Some a.0, a.1)) (value, next) e in
     let here = one.found bytes start a.0.0 a.0.1 fits a.1 in
-    subst (Found (IsOpt IsA) (opt_field f) bytes place) (same_Ok (Some a.0.0, a.0.1) (value, next) a.2)
+    subst (Found (IsOpt IsA) (opt_field f) bytes place) (sym (given (Some a.0.0, a.0.1) (value, next) a.2))
     (here.0, two_stand bytes place start a.0.1 (bool_field true) (f a.0.0) stands here.1)
 
 opt_taken : {A : Type 0} {IsA : A → Type 0} {f : A → List ℕ} {r : Reading A} → IsRead IsA f r → (bytes rest : List ℕ) (place : ℕ) (value : Option A)
@@ -137,13 +132,13 @@ repeated_found : {A : Type 0} {IsA : A → Type 0} {f : A → List ℕ} {r : Rea
     → repeated n r bytes place ≡ Ok (value, next) → Found (AreSo IsA n) (flat_map f) bytes place (value, next)
 unfolding repeated
 repeated_found {A} {IsA} {f} {r} one zero bytes place value next fits e =
-    subst (Found (AreSo IsA 0) (flat_map f) bytes place) (same_Ok ([], place) (value, next) e) ((refl, tt), record { text = refl; behind = omega arith })
+    subst (Found (AreSo IsA 0) (flat_map f) bytes place) (sym (given ([], place) (value, next) e)) ((refl, tt), record { text = refl; behind = omega arith })
 repeated_found {A} {IsA} {f} {r} one (suc n) bytes place value next fits e =
     let x = bound (r bytes place) (λ x. repeated n r bytes x.1 >>= (λ xs. Ok (x.0 ∷ xs.0, xs.1))) (value, next) e in
     let xs = bound (repeated n r bytes x.0.1) (λ xs. Ok (x.0.0 ∷ xs.0, xs.1)) (value, next) x.2 in
     let here = one.found bytes place x.0.0 x.0.1 fits x.1 in
     let there = repeated_found one n bytes x.0.1 xs.0.0 xs.0.1 fits xs.1 in
-    subst (Found (AreSo IsA (suc n)) (flat_map f) bytes place) (same_Ok (x.0.0 ∷ xs.0.0, xs.0.1) (value, next) xs.2)
+    subst (Found (AreSo IsA (suc n)) (flat_map f) bytes place) (sym (given (x.0.0 ∷ xs.0.0, xs.0.1) (value, next) xs.2))
     ((ap (λ (k : ℕ). suc k) there.0.0, (here.0, there.0.1)), two_stand bytes place x.0.1 xs.0.1 (f x.0.0) (flat_map f xs.0.0) here.1 there.1)
 
 repeated_taken : {A : Type 0} {IsA : A → Type 0} {f : A → List ℕ} {r : Reading A} → IsRead IsA f r → (value : List A) (bytes rest : List ℕ) (place : ℕ)

@@ -1,6 +1,7 @@
 -- Each edit is read as it is spelled: the table's rows and the entries of edits agree.
 use Rattle.std.proofs.Common.{rules, ◌≡◌, ℕ, [], ◌∷◌, refl}
 use Rattle.std.specs.List.{AllByRecursion}
+use Rattle.nqs_base.proofs.Readings.{bind}
 use Rattle.nqs_types.specs.declared.edit.Edit.{Edit}
 use Rattle.nqs_types.specs.declared.edit.Edit.TheVariants.{Conf, Limits as LimitsOf, Access as AccessOf, Devices as DevicesOf, Rows as RowsOf}
 use Rattle.nqs_types.specs.declared.edit.ConfEdit.{ConfEdit}
@@ -22,7 +23,6 @@ use Rattle.nqs_records.specs.EditSpelling.{edit_field, conf_field, limits_field,
 use Rattle.nqs_records.specs.EditValues.{IsEdit, IsConfEdit, IsLimitsEdit, IsAccessEdit, IsDevicesEdit, IsRowsEdit}
 use Rattle.nqs_records.specs.Edits.{edit_at}
 use Rattle.nqs_records.proofs.IsRead.{IsRead}
-use Rattle.nqs_records.proofs.Chains.{bind}
 use Rattle.nqs_records.proofs.EditFieldLaws.{edit_fields_are_read}
 use Rattle.nqs_records.proofs.Tables.{IsMade, IsRow, IsTable, IsNever, table_law, named}
 

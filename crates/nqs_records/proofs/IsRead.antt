@@ -1,10 +1,10 @@
 -- What it is to be read: what is found stands there, and what stands there is found.
-use Rattle.std.proofs.Common.{◌≡◌, ℕ, ◌+◌, List, ◌++◌, length, drop, ap, subst, Result, Ok, Err, refl}
+use Rattle.std.proofs.Common.{◌≡◌, ℕ, ◌+◌, List, ◌++◌, length, drop, ap, subst, Result, Ok, Err}
 use Rattle.nqs_codec.specs.Takes.{Stands}
 use Rattle.nqs_codec.specs.Laws.{IsReadBack}
 use Rattle.nqs_codec.specs.declared.fault.Short.{Short}
 use Rattle.nqs_codec.specs.declared.fault.FieldFault.{FieldFault}
-use Rattle.nqs_records.specs.Reading.{Reading, ◌>>=◌}
+use Rattle.nqs_records.specs.Reading.{Reading}
 use Rattle.nqs_records.specs.Fields.{or_short, or_fault}
 use Rattle.nqs_records.specs.Changes.{AreBytes}
 
@@ -13,10 +13,6 @@ pub record IsRead {A : Type 0} (IsValue : A → Type 0) (field : A → List ℕ)
       → IsValue value × Stands bytes place (field value) next
   pub taken : (bytes rest : List ℕ) (place : ℕ) (value : A) → AreBytes bytes → IsValue value → drop place bytes ≡ field value ++ rest
       → reading bytes place ≡ Ok (value, place + length (field value))
-
-pub bound : {E A B : Type 0} (r : Result A E) (f : A → Result B E) (b : B) → (r >>= f) ≡ Ok b → (a : A) × (r ≡ Ok a) × (f a ≡ Ok b)
-bound (Ok a) f b e = (a, refl, e)
-bound (Err x) f b e = cc
 
 short_Ok : {A : Type 0} (r : Result A Short) (a : A) → or_short r ≡ Ok a → r ≡ Ok a
 short_Ok (Ok b) a e = cc

@@ -1,6 +1,7 @@
 -- Each kind of record is read as it is spelled: the table's rows and the entries of changes agree.
 use Rattle.std.proofs.Common.{rules, ◌≡◌, ℕ, ◌+◌, List, [], ◌++◌, length, drop, refl, Ok}
 use Rattle.std.specs.List.{AllByRecursion}
+use Rattle.nqs_base.proofs.Readings.{bind}
 use Rattle.nqs_types.specs.declared.change.Change.TheVariants.{Boot}
 use Rattle.nqs_records.specs.Tables.{values_at, IsEntry, entry_field}
 use Rattle.nqs_records.specs.KindFields.{IsValue, value_field, value_at}
@@ -8,7 +9,7 @@ use Rattle.nqs_records.specs.KindTable.{HostChange, kinds, hand_kinds, host_kind
 use Rattle.nqs_records.specs.Kinds.{no_kind, change_at}
 use Rattle.nqs_records.specs.Changes.{AreBytes, MayStand, spelling}
 use Rattle.nqs_records.proofs.IsRead.{IsRead}
-use Rattle.nqs_records.proofs.Chains.{Found, bind}
+use Rattle.nqs_records.proofs.Chains.{Found}
 use Rattle.nqs_records.proofs.KindFieldLaws.{is_any, kind_fields_are_read}
 use Rattle.nqs_records.proofs.Tables.{IsMade, IsRow, IsTable, IsNever, table_law, named}
 

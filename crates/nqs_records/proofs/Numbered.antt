@@ -2,12 +2,12 @@
 use Rattle.std.proofs.Common.{◌≡◌, ℕ, zero, suc, ◌+◌, List, [], ◌∷◌, ◌++◌, sym, ap, ◌∙◌, subst, arith}
 use Rattle.std.proofs.Common.{Ok}
 use Rattle.std.specs.Prelude.{⊤}
+use Rattle.nqs_base.proofs.Readings.{given, bound}
 use Rattle.nqs_codec.specs.Fields.{u8_field}
 use Rattle.nqs_codec.specs.Takes.{Stands}
 use Rattle.nqs_records.specs.Reading.{Read, Reading, mapped, nth_of, numbered}
 use Rattle.nqs_records.specs.Changes.{AreBytes}
-use Rattle.nqs_records.proofs.IsRead.{IsRead, bound}
-use Rattle.nqs_records.proofs.Chains.{same_Ok}
+use Rattle.nqs_records.proofs.IsRead.{IsRead}
 
 -- behind the number the rest of the value's spelling stands
 pub record IsOfKind {A : Type 0} (IsValue : A → Type 0) (spelling : A → List ℕ) (k : ℕ) (bytes : List ℕ) (place : ℕ) (value : A) (next : ℕ) : Type 0 where
@@ -27,7 +27,7 @@ AllFind {A} IsValue spelling k [] = ⊤
 AllFind {A} IsValue spelling k (r ∷ rs) = Finds IsValue spelling k r × AllFind IsValue spelling (suc k) rs
 
 pub same_pair : {A : Type 0} (a b : A) (m n : ℕ) → ◌≡◌ {A = Read (A × ℕ)} (Ok (a, m)) (Ok (b, n)) → (a ≡ b) × (m ≡ n)
-same_pair a b m n e = let p = same_Ok (a, m) (b, n) e in (ap (λ v. v.0) p, ap (λ v. v.1) p)
+same_pair a b m n e = let p = sym (given (a, m) (b, n) e) in (ap (λ v. v.0) p, ap (λ v. v.1) p)
 
 pub finds : {A T : Type 0} {IsT : T → Type 0} {f : T → List ℕ} {r : Reading T} {IsValue : A → Type 0} {spelling : A → List ℕ} (k : ℕ) (make : T → A)
     → ((t : T) → IsT t → IsValue (make t)) → ((t : T) → spelling (make t) ≡ u8_field k ++ f t) → IsRead IsT f r → Finds IsValue spelling k (mapped make r)

@@ -1,12 +1,13 @@
 -- Fields one behind the other are read as they are spelled, where each of them is.
-use Rattle.std.proofs.Common.{◌≡◌, ℕ, ◌+◌, Bool, true, List, [], ◌∷◌, drop, ap, arith, Ok}
+use Rattle.std.proofs.Common.{◌≡◌, ℕ, ◌+◌, Bool, true, List, [], ◌∷◌, drop, ap, sym, arith, Ok}
 use Rattle.std.specs.Prelude.{⊤}
 use Rattle.std.proofs.lemmas.Bool.{and_parts}
+use Rattle.nqs_base.proofs.Readings.{given}
 use Rattle.nqs_records.specs.Reading.{Reading}
 use Rattle.nqs_records.specs.Parts.{nothing_at}
 use Rattle.nqs_records.specs.Tables.{Values, AreValues, values_field, values_at, are_sound}
 use Rattle.nqs_records.proofs.IsRead.{IsRead}
-use Rattle.nqs_records.proofs.Chains.{same_Ok, both_read, last_read}
+use Rattle.nqs_records.proofs.Chains.{both_read, last_read}
 
 plus_zero : (n : ℕ) → n ≡ n + 0
 plus_zero n = omega arith
@@ -14,7 +15,7 @@ plus_zero n = omega arith
 nothing : IsRead (λ _. ⊤) (λ _. []) nothing_at
 nothing = record {
   found = λ bytes place value next fits e.
-      let same : place ≡ next = ap (λ v. v.1) (same_Ok (tt, place) (value, next) e) in
+      let same : place ≡ next = ap (λ v. v.1) (sym (given (tt, place) (value, next) e)) in
       (tt, record { text = λ j. drop (same j) bytes; behind = omega (arith, same) });
   taken = λ bytes rest place value fits is_value is. λ j. Ok (tt, plus_zero place j);
 }

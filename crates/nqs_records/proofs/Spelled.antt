@@ -3,6 +3,7 @@ use Rattle.std.proofs.Common.{◌≡◌, ◌≢◌, ℕ, zero, suc, ◌+◌, ◌
 use Rattle.std.proofs.Common.{arith, append-nil, Ok, Err, IfOk, IfErr}
 use Rattle.std.proofs.lemmas.Bool.{ltb-false}
 use Rattle.std.proofs.lemmas.Bool.Decides.{nat_tests}
+use Rattle.nqs_base.proofs.Readings.{bound, bind}
 use Rattle.nqs_records.specs.Reading.{Read, is_memory, Answers}
 use Rattle.nqs_records.specs.KindTable.{HostChange}
 use Rattle.nqs_records.specs.Kinds.{change_at, record_of}
@@ -10,8 +11,6 @@ use Rattle.nqs_records.specs.Changes.{AreBytes, MayStand, spelling, ReadsTheSpel
 use Rattle.nqs_base.specs.Want.{want}
 use Rattle.nqs_records.specs.declared.fault.RecordFault.{RecordFault}
 use Rattle.nqs_records.specs.declared.fault.RecordFault.TheVariants.{Short, Kind, BadField, Trailing, Memory}
-use Rattle.nqs_records.proofs.IsRead.{bound}
-use Rattle.nqs_records.proofs.Chains.{bind}
 use Rattle.nqs_records.proofs.KindLaws.{change_found, change_taken}
 
 pub nothing_left : (n : ℕ) (l : List ℕ) → length l ≤ n → drop n l ≡ []

@@ -3,6 +3,7 @@ use Rattle.std.proofs.Common.{◌≡◌, ℕ, ◌+◌, ◌^◌, Bool, true, fals
 use Rattle.std.proofs.Common.{length-append, append_assoc, Ok}
 use Rattle.std.specs.List.{AllByRecursion}
 use Rattle.std.proofs.lemmas.Bool.{eqb-true, ltb-true}
+use Rattle.nqs_base.proofs.Readings.{bound, bind}
 use Rattle.nqs_base.proofs.Plain.{rest_behind}
 use Rattle.nqs_codec.specs.Fields.{u8_field}
 use Rattle.nqs_codec.specs.Takes.{Stands}
@@ -11,9 +12,9 @@ use Rattle.nqs_records.specs.Reading.{Reading, ◌>>=◌}
 use Rattle.nqs_records.specs.Fields.{u8_at}
 use Rattle.nqs_records.specs.Tables.{Values, values_field, values_at, are_sound, Row, Entry, IsEntry, entry_field, row_at, by_code, shape_of}
 use Rattle.nqs_records.specs.Changes.{AreBytes}
-use Rattle.nqs_records.proofs.IsRead.{IsRead, bound}
+use Rattle.nqs_records.proofs.IsRead.{IsRead}
 use Rattle.nqs_records.proofs.Numbers.{u8_read}
-use Rattle.nqs_records.proofs.Chains.{Found, bind}
+use Rattle.nqs_records.proofs.Chains.{Found}
 use Rattle.nqs_records.proofs.Numbered.{Finds, finds}
 use Rattle.nqs_records.proofs.ShapeLaws.{FieldsAreRead, shape_law}
 

@@ -2,14 +2,9 @@
 -- from the left.
 use Rattle.std.specs.Prelude.{◌≡◌, ℕ, zero, suc, Bool, true, false, List, [], ◌∷◌, Option, Some, None, if◌then◌else◌, Ok, Err}
 use Rattle.std.specs.declared.result.Result.{Result}
+pub use Rattle.nqs_base.specs.Reads.{◌>>=◌}
 use Rattle.nqs_records.specs.declared.fault.RecordFault.{RecordFault}
 use Rattle.nqs_records.specs.declared.fault.RecordFault.TheVariants.{BadField, Memory}
-
-infixl 10 ◌>>=◌
--- what follows a value, unless there is a fault
-abbrev pub ◌>>=◌ : {E A B : Type 0} → Result A E → (A → Result B E) → Result B E
-◌>>=◌ {E} {A} {B} (Ok a) f = f a
-◌>>=◌ {E} {A} {B} (Err e) f = Err e
 
 -- a value, or a fault
 abbrev pub Read : Type 0 → Type 0

@@ -5,9 +5,8 @@
 
 ghost use Rattle.std.specs.Prelude.{◌≡◌, ℕ, IfOk, drop, map, string_bytes};
 ghost use Rattle.std.specs.Process.{exit_status};
+ghost use Rattle.nqs_outside.specs.Streams.{sunk, fed};
 ghost use Rattle.nqs_network_runs.specs.Numbers.{number_of};
-ghost use Rattle.nqs_network_runs.specs.Replay.{drained};
-ghost use Rattle.nqs_network_runs.specs.Sunk.{sunk};
 ghost use Rattle.nqs_replay.specs.Exits.{Exits};
 
 #[cfg(test)]
@@ -76,7 +75,7 @@ fn replay_over<S: Source, K: Sink>(
     source: &mut S,
     sink: &mut K,
 ) -> ExitCode
-    ensures { Exits (map (λ s. string_bytes s) words.now) (drained S.left S.faults source.old source.new) (sunk K.taken K.faults K.stalls sink.old sink.new)
+    ensures { Exits (map (λ s. string_bytes s) words.now) (fed S.left S.faults source.old source.new) (sunk K.taken K.faults K.stalls sink.old sink.new)
         (exit_status result) }
 {
     let mut left = Vec::new(rt.alloc());

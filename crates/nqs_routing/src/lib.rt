@@ -3,8 +3,8 @@
 //!
 //! A destination that refused a request isn't tried again for it, and one on another host only
 //! while no handover to that host is open and the host isn't waited for.
-//! `nqs_rules/specs/Routing.antt` has the rules;
-//! `docs/rules.md` says them in words. No call takes memory.
+//! `nqs_rules/specs/Routing.antt` has the rules; `docs/rules.md` says them in words. No call takes
+//! memory.
 #![tactic(auto)]
 
 mod dests;

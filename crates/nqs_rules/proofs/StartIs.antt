@@ -110,6 +110,12 @@ way_is Pipe d now s place r = by (r.hops == 32) refl (destination d now s r) ref
 below_32 : (n : ℕ) → nat_le n 32 ≡ true → (n == 32) ≡ false → nat_lt n 32 ≡ true
 below_32 n few other = grind (arith, nat_tests)
 
+-- the queue of a picked row is the one that its name finds
+pub queue_found : (now : ℕ) (s : Plain) → IsSteady s → (c : Choice) (p : IsPicked now s c) → find_queue p.row.queue s ≡ Some p.queue
+queue_found now s steady c p =
+    subst (λ n. find_queue n s ≡ Some p.queue) (name_exact p.queue.name p.row.queue (eligible_parts p.queue now s p.row p.first.eligible).0)
+    (found_again name_eq (λ q. q.name) name_exact nat_list_eq_equiv.refl s.queues p.queue_place p.queue steady.names p.next.at)
+
 module _ (now : ℕ) (s : Plain) (steady : IsSteady s) (x : Stepped (List ℕ)) (c : Choice) (p : IsPicked now s c) where
   abbrev d : QueueDef
   d = p.queue
@@ -117,15 +123,10 @@ module _ (now : ℕ) (s : Plain) (steady : IsSteady s) (x : Stepped (List ℕ)) 
   abbrev r : PlainRow
   r = p.row
 
-  -- the picked row, and its queue, are those that their names find
+  -- the picked row is the one that its number finds
 
   row_found : find_row r.id s ≡ Some r
   row_found = found_again id_eq (λ q. q.id) id_exact same_id s.rows (row_place c) r steady.ids p.first.at
-
-  queue_found : find_queue r.queue s ≡ Some d
-  queue_found =
-      subst (λ n. find_queue n s ≡ Some d) (name_exact d.name r.queue (eligible_parts d now s r p.first.eligible).0)
-      (found_again name_eq (λ q. q.name) name_exact nat_list_eq_equiv.refl s.queues p.queue_place d steady.names p.next.at)
 
   begins : (change : Change (List ℕ)) (y : Stepped (List ℕ)) → y.change ≡ Some change → y ≡ x → StartsRow s r change
       → (fits change s ≡ true) × (is_sane_change change ≡ true) → IsStart s x
@@ -158,7 +159,7 @@ module _ (now : ℕ) (s : Plain) (steady : IsSteady s) (x : Stepped (List ℕ)) 
   free : (device : ℕ) (n : List ℕ) → free_device d r.job.forms s ≡ Some device → device_at device r s ≡ Some n → device_fits (Some n) s ≡ true
   free device n chosen at =
       let tried : IsAt (is_free_device r.job.forms s) d.devices device = position_at (is_free_device r.job.forms s) d.devices device chosen in
-      let is : tried.value ≡ n = same_Some tried.value n (sym tried.at ∙ ap (option_and_then (λ q. slice_get q.devices device)) (sym queue_found) ∙ at) in
+      let is : tried.value ≡ n = same_Some tried.value n (sym tried.at ∙ ap (option_and_then (λ q. slice_get q.devices device)) (sym (queue_found now s steady c p)) ∙ at) in
       let parts = and_parts (passes (can_serve r.job.forms) (find_device tried.value s)) (not (is_busy tried.value s)) tried.passes in
       ap (λ m. has_device m s && not (is_busy m s)) (sym is) ∙ and_from (has_device tried.value s) (not (is_busy tried.value s))
       (known tried.value (find_device tried.value s) refl parts.0) parts.1
@@ -189,7 +190,7 @@ module _ (now : ℕ) (s : Plain) (steady : IsSteady s) (x : Stepped (List ℕ)) 
 
     gone : (f : PlainRow → Dest → Stepped (List ℕ)) → with_row (row_place c) s (λ q. option_map (f q) (dest_at dest q s)) ≡ Some x → f r tried.value ≡ x
     gone f e =
-        let there : dest_at dest r s ≡ Some tried.value = ap (option_and_then (λ q. slice_get q.dests dest)) queue_found ∙ tried.at in
+        let there : dest_at dest r s ≡ Some tried.value = ap (option_and_then (λ q. slice_get q.dests dest)) (queue_found now s steady c p) ∙ tried.at in
         same_Some (f r tried.value) x (ap (option_map (f r)) (sym there) ∙ done (λ q. option_map (f q) (dest_at dest q s)) e)
 
     untried : is_local dest d s ≡ true → IsUntried s r tried.value.queue
@@ -198,7 +199,7 @@ module _ (now : ℕ) (s : Plain) (steady : IsSteady s) (x : Stepped (List ℕ)) 
         record {
           place = dest;
           dest = tried.value;
-          at = ap (λ o. slice_get (dests_of o) dest) queue_found ∙ tried.at;
+          at = ap (λ o. slice_get (dests_of o) dest) (queue_found now s steady c p) ∙ tried.at;
           new = not_true (was_refused tried.value r.refused) may.0;
           is = λ j. record { queue = tried.value.queue; host = record { 0 = host_is j } };
         }

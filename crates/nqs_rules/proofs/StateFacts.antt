@@ -1,7 +1,9 @@
 -- The tests of a state in order, part by part.
-use Rattle.std.proofs.Common.{◌≡◌, ℕ, Bool, true, ◌==◌, nat_le, List, [], ◌∷◌, map, length, slice_set, Option, None, Some, refl, ◌∙◌}
+use Rattle.std.proofs.Common.{◌≡◌, ℕ, Bool, true, ◌==◌, nat_le, nat_lt, List, [], ◌∷◌, map, length, slice_set, Option, None, Some, refl, ◌∙◌, arith}
+use Rattle.std.proofs.lemmas.Bool.Decides.{nat_tests}
 use Rattle.nqs_state.specs.State.{State}
 use Rattle.nqs_base.specs.Same.{name_eq}
+use Rattle.nqs_types.specs.declared.ids.HostId.{HostId}
 use Rattle.nqs_types.specs.Ids.{id_eq, peer_number_eq, hand_key, promise_key, stage_key}
 use Rattle.nqs_rules.specs.Tests.{last_u64, last_seq}
 use Rattle.nqs_rules.specs.Conf.{is_wait}
@@ -9,6 +11,9 @@ use Rattle.nqs_rules.specs.Find.{held_count, has_queue}
 use Rattle.nqs_rules.specs.Fits.{is_site_host}
 use Rattle.nqs_rules.specs.InOrder.{are_distinct, same_number, is_default_there, are_keys_distinct, is_site_right, are_lists_short, are_parameters_right}
 use Rattle.nqs_rules.proofs.Chains.{all_of, each, chained, replaced}
+
+lower : (n m : ℕ) → nat_lt n m ≡ true → nat_le m 16 ≡ true → nat_lt n 16 ≡ true
+lower n m less few = grind (arith, nat_tests)
 
 module _ {E : Type 0} where
   pub record IsSite (s : State E) : Type 0 where
@@ -29,6 +34,10 @@ module _ {E : Type 0} where
         me = p.1.1.0;
         peers = p.1.1.1.0;
       }
+
+  -- a host of the site is one of sixteen
+  pub host_below : (s : State E) (host : HostId) → is_site_right s ≡ true → is_site_host host s ≡ true → nat_lt host.0 16 ≡ true
+  host_below s host right inside = lower host.0 (length s.site) inside (sites_are s right).few
 
   pub sites_right : (s : State E) → IsSite s → is_site_right s ≡ true
   sites_right s h = chained (nat_le 1 (length s.site)) (sites_tests s) (h.some, (h.few, (h.me, (h.peers, tt))))

@@ -1,8 +1,9 @@
 -- A host's two journals: which of them is active, when a checkpoint turns over to the other, and
 -- what a stop leaves of it.
-use Rattle.std.specs.Prelude.{ℕ, zero, suc, ◌%◌, ◌==◌, nat_le, Bool, true, false, not, if◌then◌else◌, List, [], ◌∷◌}
+use Rattle.std.specs.Prelude.{ℕ, ◌%◌, ◌==◌, nat_le, Bool, true, false, not, if◌then◌else◌, List, [], ◌∷◌}
 use Rattle.nqs_types.specs.declared.world.Which.{Which}
 use Rattle.nqs_types.specs.declared.world.Which.TheVariants.{First, Second}
+pub use Rattle.nqs_base.specs.Tears.{torn_byte}
 use Rattle.nqs_base.specs.declared.tear.Tear.{Tear}
 use Rattle.nqs_base.specs.declared.tear.Tear.TheVariants.{Old, New, Mixed}
 
@@ -41,13 +42,6 @@ turned root = byte_of (not (is_second root)) ∷ behind_byte root
 -- with so many records in the active journal a change begins with a checkpoint
 abbrev pub is_due : ℕ → Bool
 is_due records = nat_le 4096 records
-
--- what a tear makes of a byte, by a number below 4: the old one, the new one, 7 or 255
-abbrev pub torn_byte : ℕ → ℕ → ℕ → ℕ
-torn_byte zero old new = old
-torn_byte (suc zero) old new = new
-torn_byte (suc (suc zero)) old new = 7
-torn_byte (suc (suc (suc more))) old new = 255
 
 -- what a tear leaves of a root whose new byte isn't synced
 abbrev pub torn_root : Tear → List ℕ → List ℕ

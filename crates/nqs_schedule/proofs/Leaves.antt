@@ -5,6 +5,7 @@ use Rattle.std.specs.Prelude.{codes}
 use Rattle.std.specs.List.{position}
 use Rattle.std.proofs.lemmas.Bool.Decides.{nat_tests}
 use Rattle.std.proofs.lemmas.Bool.{lt-ltb, ltb-true}
+use Rattle.nqs_base.proofs.Readings.{Reads, given, refused, reads-bind, reads-map}
 use Rattle.nqs_base.specs.Same.{name_eq, name_exact}
 use Rattle.nqs_types.specs.declared.ids.HostId.{HostId}
 use Rattle.nqs_types.specs.declared.ids.RequestId.{RequestId}
@@ -19,29 +20,29 @@ use Rattle.nqs_words.specs.Spelled.{IsRequest}
 use Rattle.nqs_words.proofs.Requests.{name-is, is-name, number-is, is-number, requests_are_read}
 use Rattle.nqs_schedule.specs.declared.cause.Cause.{Cause}
 use Rattle.nqs_schedule.specs.declared.cause.Cause.TheVariants as cause
-use Rattle.nqs_schedule.specs.Words.{Read, ◌>>=◌, or_cause, as_host, host_of, or_bad_request, disk_of, mixed_of, tear_of}
+use Rattle.nqs_schedule.specs.Words.{Read, ◌>>=◌, or_fault, as_host, host_of, or_bad_request, disk_of, mixed_of, tear_of}
 use Rattle.nqs_schedule.specs.Forms.{last_number}
 use Rattle.nqs_schedule.specs.Spelled.{IsNone, IsNameWord, NoName, IsNumber, NoNumber, IsPlace, NoPlace, IsHost, NoHost, IsId, NoId, disk_text, IsDisk, NoDisk}
 use Rattle.nqs_schedule.specs.Spelled.{IsMixed, IsTear, NoTear}
-use Rattle.nqs_schedule.proofs.Readings.{Reads, given, refused, apart, reads-Ok, reads-Err, reads-bind, reads-map, reads-one, reads-cause, reads-same}
+use Rattle.nqs_schedule.proofs.Readings.{apart, reads-Ok, reads-Err, reads-one, reads-cause, reads-same}
 
-pub reads-name : (word : List ℕ) → Reads (or_cause (name_of word) cause.BadName) (IsNameWord word) (NoName word)
+pub reads-name : (word : List ℕ) → Reads (or_fault (name_of word) cause.BadName) (IsNameWord word) (NoName word)
 reads-name word = reads-cause (name_of word) (IsNameWord word) cause.BadName
     (λ n. ((λ e. name-is word n e), (λ h. is-name word h.0 ∙ ap (λ (m : List ℕ). Some m) (sym h.1))))
 
-pub reads-number : (low high : ℕ) (word : List ℕ) → Reads (or_cause (number_of low high word) cause.BadNumber) (IsNumber low high word) (NoNumber low high word)
+pub reads-number : (low high : ℕ) (word : List ℕ) → Reads (or_fault (number_of low high word) cause.BadNumber) (IsNumber low high word) (NoNumber low high word)
 reads-number low high word = reads-cause (number_of low high word) (IsNumber low high word) cause.BadNumber
     (λ n. ((λ e. number-is low high word n e), (λ h. is-number low high word n h.0 h.1 h.2 h.3)))
 
 -- ---- hosts
 
 tested : {A : Type 0} (t : Bool) (a b : A) (c : Cause) → cond t (Ok a) (Err c) ≡ Ok b → (t ≡ true) × (a ≡ b)
-tested true a b c e = (refl, given a b e)
+tested true a b c e = (refl, sym (given a b e))
 tested false a b c e = absurd (apart b c (sym e))
 
 untested : {A : Type 0} (t : Bool) (a : A) (c why : Cause) → cond t (Ok a) (Err c) ≡ Err why → why ≡ c
 untested true a c why e = absurd (apart a why e)
-untested {A} false a c why e = sym (refused {A = A} c why e)
+untested {A} false a c why e = refused {A = A} c why e
 
 placed : (o : Option ℕ) (h : HostId) → as_host o ≡ Ok h → (o ≡ Some h.0) × (h.0 < 16)
 placed (Some i) h e =
@@ -53,7 +54,7 @@ placed None h e = absurd (apart h cause.NoSuchHost (sym e))
 
 unplaced : (o : Option ℕ) (why : Cause) → as_host o ≡ Err why → why ≡ cause.NoSuchHost
 unplaced (Some i) why e = untested {A = HostId} (nat_lt i 16) (record { 0 = i }) cause.NoSuchHost why e
-unplaced None why e = sym (refused {A = HostId} cause.NoSuchHost why e)
+unplaced None why e = refused {A = HostId} cause.NoSuchHost why e
 
 pub reads-place : (site : List (List ℕ)) (n : List ℕ) → Reads (host_of site n) (IsPlace site n) (NoPlace site n)
 unfolding host_of
@@ -61,19 +62,19 @@ reads-place site n = reads-one (as_host (position (name_eq n) site)) (IsPlace si
     (λ h. (placed (position (name_eq n) site) h, (λ p. let less = lt-ltb h.0 16 p.1 in rw p.0 (rw less refl))))
     (unplaced (position (name_eq n) site))
 
-pub reads-host : (site : List (List ℕ)) (word : List ℕ) → Reads (or_cause (name_of word) cause.BadName >>= host_of site) (IsHost site word) (NoHost site word)
-reads-host site word = reads-bind (or_cause (name_of word) cause.BadName) (host_of site) (IsNameWord word) (NoName word) (IsPlace site) (NoPlace site)
+pub reads-host : (site : List (List ℕ)) (word : List ℕ) → Reads (or_fault (name_of word) cause.BadName >>= host_of site) (IsHost site word) (NoHost site word)
+reads-host site word = reads-bind (or_fault (name_of word) cause.BadName) (host_of site) (IsNameWord word) (NoName word) (IsPlace site) (NoPlace site)
     (reads-name word) (reads-place site)
 
 -- ---- requests
 
 one_request : (r : Result Named NotNamed) (id : Named) → or_bad_request r ≡ Ok id → r ≡ Ok id
-one_request (Ok j) id e = ap (λ (n : Named). Ok n) (given j id e)
+one_request (Ok j) id e = ap (λ (n : Named). Ok n) (sym (given j id e))
 one_request (Err x) id e = absurd (apart id cause.BadRequest (sym e))
 
 no_request : (r : Result Named NotNamed) (why : Cause) → or_bad_request r ≡ Err why → why ≡ cause.BadRequest
 no_request (Ok j) why e = absurd (apart j why e)
-no_request (Err x) why e = sym (refused {A = Named} cause.BadRequest why e)
+no_request (Err x) why e = refused {A = Named} cause.BadRequest why e
 
 reads-request : (word : List ℕ) → Reads (or_bad_request (named_of word)) (IsRequest word) (IsNone (IsRequest word) cause.BadRequest)
 reads-request word = reads-one (or_bad_request (named_of word)) (IsRequest word) cause.BadRequest
@@ -124,13 +125,13 @@ is-disk word which.First e = rw e refl
 is-disk word which.Second e = rw e refl
 is-disk word which.Spool e = rw e refl
 
-pub reads-disk : (word : List ℕ) → Reads (or_cause (disk_of word) cause.UnknownWord) (IsDisk word) (NoDisk word)
+pub reads-disk : (word : List ℕ) → Reads (or_fault (disk_of word) cause.UnknownWord) (IsDisk word) (NoDisk word)
 reads-disk word = reads-cause (disk_of word) (IsDisk word) cause.UnknownWord (λ d. (disk-is word d, is-disk word d))
 
 -- ---- tears
 
 abbrev number_tear : List ℕ → Read Tear
-number_tear digits = or_cause (number_of 0 last_number digits) cause.BadNumber >>= (λ n. Ok (tear.Mixed n))
+number_tear digits = or_fault (number_of 0 last_number digits) cause.BadNumber >>= (λ n. Ok (tear.Mixed n))
 
 abbrev first_byte : List ℕ → ℕ
 first_byte l = get_or l 0 0
@@ -192,7 +193,7 @@ reads-mixed digits =
     subst (λ (m : Read Tear). Reads m (IsTear word) (NoTear word)) (sym (tear-mixed digits))
     (reads-same (number_tear digits) (λ t. (n : ℕ) × IsNumber 0 last_number digits n × (t ≡ tear.Mixed n)) (IsTear word) (NoNumber 0 last_number digits)
     (NoTear word)
-    (reads-map (or_cause (number_of 0 last_number digits) cause.BadNumber) (λ (n : ℕ). tear.Mixed n) (IsNumber 0 last_number digits)
+    (reads-map (or_fault (number_of 0 last_number digits) cause.BadNumber) (λ (n : ℕ). tear.Mixed n) (IsNumber 0 last_number digits)
     (NoNumber 0 last_number digits) (reads-number 0 last_number digits))
     (λ t. ((λ h. subst (IsTear word) (sym h.2) (digits, refl, h.1)), mixed-tear digits t)) (λ why. ((λ h. inl (digits, refl, h)), no-mixed-tear digits why)))
 

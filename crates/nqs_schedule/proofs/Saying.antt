@@ -4,6 +4,7 @@ use Rattle.std.proofs.Common.{Bool, true, false, cond, ◌&&◌, arith, nat_le}
 use Rattle.std.specs.Prelude.{codes}
 use Rattle.std.proofs.lemmas.Bool.{and_parts, and_from}
 use Rattle.std.proofs.lemmas.Bool.Decides.{nat_tests}
+use Rattle.nqs_base.proofs.Readings.{Reads, given, reads-bind, reads-map}
 use Rattle.nqs_base.specs.Name.{IsName}
 use Rattle.nqs_types.specs.declared.world.WorldEvent.{WorldEvent}
 use Rattle.nqs_words.specs.Values.{name_of}
@@ -16,7 +17,7 @@ use Rattle.nqs_schedule.specs.declared.plan.Verb.{Verb}
 use Rattle.nqs_schedule.specs.declared.plan.Verb.TheVariants as verb
 use Rattle.nqs_schedule.specs.declared.line.Says.{Says}
 use Rattle.nqs_schedule.specs.declared.line.Says.TheVariants.{Nothing, Hosts, Event}
-use Rattle.nqs_schedule.specs.Words.{Read, ◌>>=◌, or_cause, no_word}
+use Rattle.nqs_schedule.specs.Words.{Read, ◌>>=◌, or_fault, no_word}
 use Rattle.nqs_schedule.specs.declared.plan.Plan.{Plan}
 use Rattle.nqs_schedule.specs.Plans.{verb_of, plan_of}
 use Rattle.nqs_schedule.specs.Events.{text_of_word, words_behind, qmgr_text, event_of}
@@ -25,7 +26,7 @@ use Rattle.nqs_schedule.specs.Forms.{verb_text, form_of}
 use Rattle.nqs_schedule.specs.Spelled.{IsNone, HasBadQuote, Spells, Faults}
 use Rattle.nqs_schedule.specs.Sayings.{is_of_site, IsNewHost, NoNewHost, NameHosts, NameNoHosts, HostsSay, HostsFault, FirstSays, WordsSay, NamesSite}
 use Rattle.nqs_schedule.specs.Sayings.{FirstFaults, WordsFault, ReadsWords}
-use Rattle.nqs_schedule.proofs.Readings.{Reads, given, apart, reads-Ok, reads-Err, reads-bind, reads-map, reads-cause, reads-same}
+use Rattle.nqs_schedule.proofs.Readings.{apart, reads-Ok, reads-Err, reads-cause, reads-same}
 use Rattle.nqs_schedule.proofs.Leaves.{pick}
 use Rattle.nqs_schedule.proofs.Verbs.{events_are_read}
 
@@ -79,7 +80,7 @@ verb-said verb.Show = refl
 abbrev IsVerb : List ℕ → Verb → Type 0
 IsVerb word v = word ≡ verb_text v
 
-reads-verb : (word : List ℕ) → Reads (or_cause (verb_of word) cause.UnknownWord) (IsVerb word) (IsNone (IsVerb word) cause.UnknownWord)
+reads-verb : (word : List ℕ) → Reads (or_fault (verb_of word) cause.UnknownWord) (IsVerb word) (IsNone (IsVerb word) cause.UnknownWord)
 reads-verb word = reads-cause (verb_of word) (IsVerb word) cause.UnknownWord (λ v. (verb-is word v, (λ e. ap verb_of e ∙ verb-said v)))
 
 -- ---- hosts
@@ -253,7 +254,7 @@ says-event : (site : List (List ℕ)) (line : List ℕ) (ws : LineWords) (v : Ve
 says-event site line ws v says h = by (plan_of site ws v) h
   where
     by : (r : Read Plan) → (r >>= (λ p. told (event_of line ws p))) ≡ Ok says → (e : WorldEvent) × (says ≡ Event e)
-    by (Ok p) e = (event_of line ws p, sym (given (Event (event_of line ws p)) says e))
+    by (Ok p) e = (event_of line ws p, given (Event (event_of line ws p)) says e)
     by (Err x) e = absurd (apart says x (sym e))
 
 reads-event : (site : List (List ℕ)) (line : List ℕ) (ws : LineWords) (v : Verb)
@@ -365,7 +366,7 @@ reads-words : (site : List (List ℕ)) (is_open : Bool) (line : List ℕ) (words
 unfolding words_say nothing_said
 reads-words site is_open line [] bad = reads-none bad
 reads-words site is_open line (word ∷ words) bad =
-    reads-bind (or_cause (verb_of word.text) cause.UnknownWord) (λ v. verb_says site is_open line (behind word words bad) v) (IsVerb word.text)
+    reads-bind (or_fault (verb_of word.text) cause.UnknownWord) (λ v. verb_says site is_open line (behind word words bad) v) (IsVerb word.text)
     (IsNone (IsVerb word.text) cause.UnknownWord)
     (λ v says. IsFirst site is_open word words bad line v says) (λ v why. FirstFaults site is_open bad v (texts words) why) (reads-verb word.text)
     (reads-first site is_open line word words bad)

@@ -3,19 +3,20 @@ use Rattle.std.proofs.Common.{◌≡◌, ◌⊎◌, inl, inr, ℕ, zero, suc, �
 use Rattle.std.proofs.Common.{Err, Bool, true, false, cond, ◌||◌, is_some, arith, nat_lt}
 use Rattle.std.specs.Prelude.{slice_get}
 use Rattle.std.proofs.lemmas.Bool.{ltb-true, ltb-false}
+use Rattle.nqs_base.proofs.Readings.{Reads, reads-bind}
 use Rattle.nqs_types.specs.declared.world.WorldEvent.{WorldEvent}
 use Rattle.nqs_words.specs.Values.{name_of, named_of, number_of}
 use Rattle.nqs_schedule.specs.declared.cause.Cause.{Cause}
 use Rattle.nqs_schedule.specs.declared.cause.Cause.TheVariants as cause
 use Rattle.nqs_schedule.specs.declared.words.LineWord.{LineWord}
 use Rattle.nqs_schedule.specs.declared.words.LineWords.{LineWords}
-use Rattle.nqs_schedule.specs.Words.{Read, ◌>>=◌, or_cause, no_word, text_or, text_at, name_at, number_at, host_of, host_at, or_bad_request, request_at}
+use Rattle.nqs_schedule.specs.Words.{Read, ◌>>=◌, or_fault, no_word, text_or, text_at, name_at, number_at, host_of, host_at, or_bad_request, request_at}
 use Rattle.nqs_schedule.specs.Words.{disk_of, disk_at, tear_of, tear_at, short_enough, output_at, nothing_at, all_good}
 use Rattle.nqs_schedule.specs.Events.{text_of_word, text_in, bytes_at, words_behind, qmgr_text}
 use Rattle.nqs_schedule.specs.Forms.{Form, never, done, host, name, request, number, disk, tear, text, words, outputs, rest}
 use Rattle.nqs_schedule.specs.Spelled.{IsNameWord, NoName, IsNumber, NoNumber, IsHost, NoHost, IsId, NoId, IsDisk, NoDisk, IsTear, NoTear, IsText, NoText}
 use Rattle.nqs_schedule.specs.Spelled.{IsShort, IsTooLong, FirstIs, FirstFault, IsOver, IsNotOver, HasBadQuote, AreOutputs, AreNoOutputs, Spells, Faults}
-use Rattle.nqs_schedule.proofs.Readings.{Reads, reads-Ok, reads-Err, reads-bind, reads-then, reads-after, reads-same}
+use Rattle.nqs_schedule.proofs.Readings.{reads-Ok, reads-Err, reads-then, reads-after, reads-same}
 use Rattle.nqs_schedule.proofs.Leaves.{reads-name, reads-number, reads-host, reads-id, reads-disk, reads-tear}
 
 -- ---- the words from a place on
@@ -205,9 +206,9 @@ handed (Ok a) = refl
 handed (Err x) = refl
 
 host-word : (site : List (List ℕ)) (ws : LineWords) (i : ℕ) → host_at site ws i
-    ≡ (text_at ws i >>= (λ word. or_cause (name_of word) cause.BadName >>= host_of site))
+    ≡ (text_at ws i >>= (λ word. or_fault (name_of word) cause.BadName >>= host_of site))
 unfolding host_at name_at
-host-word site ws i = joined (text_at ws i) (λ word. or_cause (name_of word) cause.BadName) (host_of site)
+host-word site ws i = joined (text_at ws i) (λ word. or_fault (name_of word) cause.BadName) (host_of site)
 
 pub reads-form : (site : List (List ℕ)) (line : List ℕ) (ws : LineWords) (form : Form) (i : ℕ)
     → Reads (read_form site line ws form i) (Spells site (qmgr_text line ws) ws.bad form (words_behind ws i)) (Faults site ws.bad form (words_behind ws i))
@@ -216,12 +217,12 @@ reads-form site line ws (never why) i = reads-Err {A = WorldEvent} why
 reads-form site line ws (done e) i = reads-then (nothing_at ws i) e (IsOver ws.bad (words_behind ws i)) (IsNotOver ws.bad (words_behind ws i))
     (reads-nothing ws i)
 reads-form site line ws (host f) i =
-    rw (host-word site ws i) (slot ws i (λ word. or_cause (name_of word) cause.BadName >>= host_of site) (IsHost site) (NoHost site)
+    rw (host-word site ws i) (slot ws i (λ word. or_fault (name_of word) cause.BadName >>= host_of site) (IsHost site) (NoHost site)
     (λ h. read_form site line ws (f h) (suc i))
     (λ h more e. Spells site (qmgr_text line ws) ws.bad (f h) more e) (λ h more why. Faults site ws.bad (f h) more why) (reads-host site)
     (λ h. reads-form site line ws (f h) (suc i)))
 reads-form site line ws (name f) i =
-    slot ws i (λ word. or_cause (name_of word) cause.BadName) IsNameWord NoName (λ n. read_form site line ws (f n) (suc i))
+    slot ws i (λ word. or_fault (name_of word) cause.BadName) IsNameWord NoName (λ n. read_form site line ws (f n) (suc i))
     (λ n more e. Spells site (qmgr_text line ws) ws.bad (f n) more e) (λ n more why. Faults site ws.bad (f n) more why) reads-name
     (λ n. reads-form site line ws (f n) (suc i))
 reads-form site line ws (request f) i =
@@ -230,11 +231,11 @@ reads-form site line ws (request f) i =
     (λ id more e. Spells site (qmgr_text line ws) ws.bad (f id) more e) (λ id more why. Faults site ws.bad (f id) more why) (reads-id site)
     (λ id. reads-form site line ws (f id) (suc i))
 reads-form site line ws (number low high f) i =
-    slot ws i (λ word. or_cause (number_of low high word) cause.BadNumber) (IsNumber low high) (NoNumber low high) (λ n. read_form site line ws (f n) (suc i))
+    slot ws i (λ word. or_fault (number_of low high word) cause.BadNumber) (IsNumber low high) (NoNumber low high) (λ n. read_form site line ws (f n) (suc i))
     (λ n more e. Spells site (qmgr_text line ws) ws.bad (f n) more e) (λ n more why. Faults site ws.bad (f n) more why) (reads-number low high)
     (λ n. reads-form site line ws (f n) (suc i))
 reads-form site line ws (disk f) i =
-    slot ws i (λ word. or_cause (disk_of word) cause.UnknownWord) IsDisk NoDisk (λ d. read_form site line ws (f d) (suc i))
+    slot ws i (λ word. or_fault (disk_of word) cause.UnknownWord) IsDisk NoDisk (λ d. read_form site line ws (f d) (suc i))
     (λ d more e. Spells site (qmgr_text line ws) ws.bad (f d) more e) (λ d more why. Faults site ws.bad (f d) more why) reads-disk
     (λ d. reads-form site line ws (f d) (suc i))
 reads-form site line ws (tear f) i =

@@ -1,6 +1,7 @@
 -- The line of a verb is read by the verb's form.
 use Rattle.std.proofs.Common.{◌≡◌, ℕ, List, refl, ap, sym, ◌∙◌, Some, None, Option, Ok, Err}
 use Rattle.std.specs.Prelude.{slice_get}
+use Rattle.nqs_base.proofs.Readings.{refused}
 use Rattle.nqs_types.specs.declared.world.WorldEvent.{WorldEvent}
 use Rattle.nqs_types.specs.declared.world.WorldEvent.TheVariants as event
 use Rattle.nqs_schedule.specs.declared.cause.Cause.{Cause}
@@ -21,7 +22,7 @@ use Rattle.nqs_schedule.specs.Events.{text_in, bytes_at, event_of}
 use Rattle.nqs_schedule.specs.Says.{event_says}
 use Rattle.nqs_schedule.specs.Forms.{words, form_of}
 use Rattle.nqs_schedule.specs.Spelled.{as_event, ReadsEvents}
-use Rattle.nqs_schedule.proofs.Readings.{refused, apart}
+use Rattle.nqs_schedule.proofs.Readings.{apart}
 use Rattle.nqs_schedule.proofs.Spelling.{outputs_at, read_form, reads-form}
 
 -- one step of two readings at once
@@ -95,7 +96,7 @@ read-event : (r answer : Read WorldEvent) → (r >>= said) ≡ as_event answer �
 read-event (Ok a) (Ok b) e = ap (λ (x : WorldEvent). Ok x) (one_event a b e)
 read-event (Ok a) (Err x) e = absurd (apart (Event a) x e)
 read-event (Err x) (Ok b) e = absurd (apart (Event b) x (sym e))
-read-event (Err x) (Err y) e = ap (λ (c : Cause). Err c) (refused {A = Says} x y e)
+read-event (Err x) (Err y) e = ap (λ (c : Cause). Err c) (sym (refused {A = Says} x y e))
 
 event-read : (r answer : Read WorldEvent) → r ≡ answer → (r >>= said) ≡ as_event answer
 event-read r (Ok a) e = ap (λ (x : Read WorldEvent). x >>= said) e

@@ -15,7 +15,7 @@ use Rattle.nqs_schedule.specs.declared.line.Says.TheVariants.{Nothing, Hosts, Ev
 use Rattle.nqs_schedule.specs.declared.line.ReadError.{ReadError}
 use Rattle.nqs_schedule.specs.declared.line.ReadError.TheVariants.{Bad, Memory}
 use Rattle.nqs_schedule.specs.Lines.{line_words}
-use Rattle.nqs_schedule.specs.Words.{Read, ◌>>=◌, or_cause, no_word}
+use Rattle.nqs_schedule.specs.Words.{Read, ◌>>=◌, or_fault, no_word}
 use Rattle.nqs_schedule.specs.Plans.{verb_of, plan_of}
 use Rattle.nqs_schedule.specs.Events.{event_of}
 
@@ -70,7 +70,7 @@ verb_says site is_open line ws v = if is_hosts v && is_open then hosts_say ws el
 -- what a line says by its first word, or nothing where it has no word
 abbrev pub first_says : List (List ℕ) → Bool → List ℕ → LineWords → Option LineWord → Read Says
 first_says site is_open line ws None = if ws.bad then Err cause.BadQuote else Ok Nothing
-first_says site is_open line ws (Some word) = or_cause (verb_of word.text) cause.UnknownWord >>= (λ v. verb_says site is_open line ws v)
+first_says site is_open line ws (Some word) = or_fault (verb_of word.text) cause.UnknownWord >>= (λ v. verb_says site is_open line ws v)
 
 -- what a line says that is no remark
 unfoldable pub words_say : List (List ℕ) → Bool → List ℕ → LineWords → Read Says

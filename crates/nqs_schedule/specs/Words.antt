@@ -2,6 +2,7 @@
 use Rattle.std.specs.Prelude.{ℕ, Bool, ◌||◌, nat_lt, List, length, take, drop, codes, Option, Some, None, is_some, if◌then◌else◌, Ok, Err, slice_get}
 use Rattle.std.specs.List.{position}
 use Rattle.std.specs.declared.result.Result.{Result}
+pub use Rattle.nqs_base.specs.Reads.{◌>>=◌, or_fault}
 use Rattle.nqs_base.specs.Same.{name_eq}
 use Rattle.nqs_types.specs.declared.ids.HostId.{HostId}
 use Rattle.nqs_types.specs.declared.ids.RequestId.{RequestId}
@@ -20,17 +21,6 @@ use Rattle.nqs_schedule.specs.declared.words.LineWords.{LineWords}
 -- what a part of a line gives, or the first cause why it is bad
 abbrev pub Read : Type 0 → Type 0
 Read A = Result A Cause
-
-infixl 10 ◌>>=◌
--- one step and then the next, where the first succeeds
-abbrev pub ◌>>=◌ : {A B : Type 0} → Read A → (A → Read B) → Read B
-◌>>=◌ {A} {B} (Ok a) f = f a
-◌>>=◌ {A} {B} (Err e) f = Err e
-
--- what stands there, or the cause
-abbrev pub or_cause : {A : Type 0} → Option A → Cause → Read A
-or_cause {A} (Some a) e = Ok a
-or_cause {A} None e = Err e
 
 -- why there is no further word
 abbrev pub no_word : Bool → Cause
@@ -55,13 +45,13 @@ text_there ws i = do
 unfoldable pub name_at : LineWords → ℕ → Read (List ℕ)
 name_at ws i = do
   text ← text_at ws i
-  or_cause (name_of text) cause.BadName
+  or_fault (name_of text) cause.BadName
 
 -- the number at a place, within two bounds
 unfoldable pub number_at : ℕ → ℕ → LineWords → ℕ → Read ℕ
 number_at low high ws i = do
   text ← text_at ws i
-  or_cause (number_of low high text) cause.BadNumber
+  or_fault (number_of low high text) cause.BadNumber
 
 -- a place of the site, which has at most 16 hosts
 abbrev pub as_host : Option ℕ → Read HostId
@@ -103,7 +93,7 @@ disk_of text =
 unfoldable pub disk_at : LineWords → ℕ → Read Which
 disk_at ws i = do
   text ← text_at ws i
-  or_cause (disk_of text) cause.UnknownWord
+  or_fault (disk_of text) cause.UnknownWord
 
 -- what stands behind `mixed:`
 unfoldable pub mixed_of : List ℕ → Option (List ℕ)
@@ -112,7 +102,7 @@ mixed_of text = if name_eq (codes "mixed:") (take 6 text) then Some (drop 6 text
 -- the tear of this number, where it is one of 64 bits
 abbrev pub as_mixed : Option (List ℕ) → Read Tear
 as_mixed None = Err cause.UnknownWord
-as_mixed (Some number) = or_cause (number_of 0 18446744073709551615 number) cause.BadNumber >>= (λ n. Ok (tear.Mixed n))
+as_mixed (Some number) = or_fault (number_of 0 18446744073709551615 number) cause.BadNumber >>= (λ n. Ok (tear.Mixed n))
 
 -- which image a word says that a stop leaves
 unfoldable pub tear_of : List ℕ → Read Tear

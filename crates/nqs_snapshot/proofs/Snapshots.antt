@@ -1,6 +1,7 @@
 -- What the whole list is read as, and what an answer tells.
 use Rattle.std.proofs.Common.{◌≡◌, ◌≢◌, ℕ, Bool, true, false, cond, List, refl, sym, ap, ◌∙◌, subst, Ok, Err, IfOk, IfErr}
 use Rattle.std.specs.declared.result.Result.{Result}
+use Rattle.nqs_base.proofs.Readings.{given, bound, bind}
 use Rattle.nqs_base.specs.Want.{want}
 use Rattle.nqs_base.specs.declared.extent.Extent.{Extent}
 use Rattle.nqs_state.specs.State.{State, content}
@@ -9,8 +10,6 @@ use Rattle.nqs_records.specs.declared.fault.RecordFault.{RecordFault}
 use Rattle.nqs_records.specs.declared.fault.RecordFault.TheVariants.{Short, Kind, BadField, Trailing, Memory}
 use Rattle.nqs_records.specs.Reading.{Read, is_memory, Answers}
 use Rattle.nqs_records.specs.Changes.{AreBytes}
-use Rattle.nqs_records.proofs.IsRead.{bound}
-use Rattle.nqs_records.proofs.Chains.{bind, same_Ok}
 use Rattle.nqs_rules.specs.InOrder.{IsInOrder, IsConsistent}
 use Rattle.nqs_snapshot.specs.Sound.{is_sound}
 use Rattle.nqs_snapshot.specs.Spelling.{state_field}
@@ -24,7 +23,7 @@ sound_one : (s t : State Extent) → or_bad s ≡ Ok t → (is_sound s ≡ true)
 sound_one s t e = by (is_sound s) e
   where
     by : (b : Bool) → ◌≡◌ {A = Read (State Extent)} (cond b (Ok s) (Err (BadField 0))) (Ok t) → (b ≡ true) × (s ≡ t)
-    by true f = (refl, same_Ok s t f)
+    by true f = (refl, sym (given s t f))
     by false f = cc
 
 is_spelled : (bytes : List ℕ) (s : State Extent) → AreBytes bytes → snapshot_of bytes ≡ Ok s → IsSpelledBy bytes s
@@ -40,7 +39,7 @@ spelled_is : (bytes : List ℕ) (s : State Extent) → AreBytes bytes → IsSpel
 unfolding snapshot_of
 spelled_is bytes s fits is =
     let sound = (sound_is_in_order s).1 (is.1.order, is.1.consistent) in
-    bind (whole_of bytes) (λ p. or_bad (state_of p)) (parts_of s) s (spelled_whole bytes s fits is.0 is.1.stands) (rw sound refl)
+    bind (whole_of bytes) (λ p. or_bad (state_of p)) (parts_of s) (Ok s) (spelled_whole bytes s fits is.0 is.1.stands) (rw sound refl)
 
 -- what was written of such a state reads back
 pub reads_back : (bytes : List ℕ) (s : State Extent) → AreBytes bytes → bytes ≡ state_field s → MayStand s → IsInOrder s → IsConsistent s
@@ -53,7 +52,7 @@ reads_the_spelling bytes s fits = (λ e. is_spelled bytes s fits e, λ is. spell
 
 pub spells_one : SpellsOne
 spells_one bytes s t fits may other is also =
-    ap state_of (same_Ok (parts_of s) (parts_of t) (sym (spelled_whole bytes s fits is may) ∙ spelled_whole bytes t fits also other))
+    ap state_of (sym (given (parts_of s) (parts_of t) (sym (spelled_whole bytes s fits is may) ∙ spelled_whole bytes t fits also other)))
 
 -- ---- what the call answers
 

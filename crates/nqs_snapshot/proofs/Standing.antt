@@ -27,7 +27,7 @@ use Rattle.nqs_rules.specs.InOrder.{is_dest_right, is_refused_right, is_queue_ri
 use Rattle.nqs_rules.specs.InOrder.{is_hand_right, is_stage_right, is_file_right}
 use Rattle.nqs_rules.proofs.Chains.{each, chained}
 use Rattle.nqs_rules.proofs.RowFacts.{row_is, promise_is}
-use Rattle.nqs_rules.proofs.StateFacts.{sites_are}
+use Rattle.nqs_rules.proofs.StateFacts.{sites_are, host_below}
 use Rattle.nqs_rules.proofs.QueuesOrder.{queue_is}
 use Rattle.nqs_rules.proofs.RowsOrder.{hand_is}
 use Rattle.nqs_rules.proofs.HandoversOrder.{found_peer, known_host}
@@ -54,34 +54,28 @@ many_right : {V : Type 0} (P R : V → Type 0) (p : V → Bool) → ((v : V) →
     → list_all p vs ≡ true → IsMany R vs
 many_right P R p to vs typed one = many_both P R p p (λ v is k _. to v is k) vs typed one one
 
-lower : (n m : ℕ) → nat_lt n m ≡ true → nat_le m 16 ≡ true → nat_lt n 16 ≡ true
-lower n m less few = grind (arith, nat_tests)
-
 hops_few : (b : Bool) (n : ℕ) → (if b then nat_lt n 32 else nat_le n 32) ≡ true → nat_le n 32 ≡ true
 hops_few true n h = grind (arith, nat_tests)
 hops_few false n h = h
 
 module _ (s : State Extent) (h : IsInOrder s) where
-  host_stands : (x : HostId) → is_site_host x s ≡ true → IsHost x
-  host_stands x is = lower x.0 (length s.site) is (sites_are s h.site).few
-
   peer_stands : (x : HostId) (p : Peer → Bool) → passes p (find_peer x s) ≡ true → IsHost x
-  peer_stands x p is = let known = found_peer p x s is in host_stands x (known_host s h x known.0 known.1)
+  peer_stands x p is = let known = found_peer p x s is in host_below s x h.site (known_host s h x known.0 known.1)
 
   id_stands : (id : RequestId) → is_id_right s id ≡ true → IsId id
-  id_stands id is = let k = and_parts (is_site_host id.host s) (is_sane_id id) is in (k.1, host_stands id.host k.0)
+  id_stands id is = let k = and_parts (is_site_host id.host s) (is_sane_id id) is in (k.1, host_below s id.host h.site k.0)
 
   queue_stands : (q : QueueDef) → IsTypedQueue q → is_queue_right s q ≡ true → IsQueue q
   queue_stands q typed is =
       let k = queue_is s q is in (
         (typed.0.0, k.priority, typed.0.1, typed.0.2, typed.0.3),
         typed.1,
-        many_right IsTypedDest IsDest (is_dest_right s) (λ d name host. (name, host_stands d.host host)) q.dests typed.2 k.dests,
+        many_right IsTypedDest IsDest (is_dest_right s) (λ d name host. (name, host_below s d.host h.site host)) q.dests typed.2 k.dests,
         typed.3,
       )
 
   refused_stands : (r : Refused) → IsTypedRefused r → is_refused_right s r ≡ true → IsRefused r
-  refused_stands r typed is = ((typed.0, host_stands r.dest.host is), typed.1)
+  refused_stands r typed is = ((typed.0, host_below s r.dest.host h.site is), typed.1)
 
   row_stands : (r : Row Extent) → IsTypedRow r → is_row_right s r ≡ true → nat_le r.script.length 32768 ≡ true → IsRow r
   row_stands r typed is short =
@@ -120,7 +114,7 @@ module _ (s : State Extent) (h : IsInOrder s) where
       ∷ list_all (λ (f : FileOut Extent). nat_le f.bytes.length 32768) s.files ∷ []
       ) short in (
         (
-          host_stands s.me (sites_are s h.site).me,
+          host_below s s.me h.site (sites_are s h.site).me,
           typed.0.0,
           many_right IsTypedQueue IsQueue (is_queue_right s) queue_stands s.queues typed.0.1 h.queues,
           typed.0.2,

@@ -2,6 +2,7 @@
 use Rattle.std.proofs.Common.{◌≡◌, ℕ, ◌+◌, Bool, true, false, cond, nat_lt, List, [], ◌∷◌, ◌++◌, length, refl, sym, ap, ◌∙◌, subst, arith}
 use Rattle.std.proofs.Common.{append-nil, Ok, Err}
 use Rattle.std.proofs.lemmas.Bool.{ltb-false}
+use Rattle.nqs_base.proofs.Readings.{bound, bind}
 use Rattle.nqs_base.specs.declared.extent.Extent.{Extent}
 use Rattle.nqs_state.specs.State.{State}
 use Rattle.nqs_codec.specs.Fields.{u8_field, u16_field, u32_field, u64_field, short_field}
@@ -11,10 +12,10 @@ use Rattle.nqs_records.specs.Changes.{AreBytes}
 use Rattle.nqs_records.specs.Spelling.{fields, opt_field}
 use Rattle.nqs_records.specs.Values.{IsU16, IsU32, IsU64, IsOpt, IsHost}
 use Rattle.nqs_base.specs.Name.{IsName}
-use Rattle.nqs_records.proofs.IsRead.{IsRead, bound}
+use Rattle.nqs_records.proofs.IsRead.{IsRead}
 use Rattle.nqs_records.proofs.Numbers.{u16_read, u32_read, u64_read}
 use Rattle.nqs_records.proofs.Named.{name_read}
-use Rattle.nqs_records.proofs.Chains.{bind, both_read, mapped_read, last_read, opt_read}
+use Rattle.nqs_records.proofs.Chains.{both_read, mapped_read, last_read, opt_read}
 use Rattle.nqs_records.proofs.PartLaws.{host_law}
 use Rattle.nqs_records.proofs.Spelled.{nothing_left, none_behind}
 use Rattle.nqs_snapshot.specs.declared.parts.SitePart.{SitePart}

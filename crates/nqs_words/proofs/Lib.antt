@@ -2,5 +2,4 @@ pub mod Names
 pub mod Steps
 pub mod Seconds
 pub mod Requests
-pub mod Readings
 pub mod Missing

@@ -1,5 +1,4 @@
 pub mod Words
-pub mod Reads
 pub mod Keywords
 pub mod Values
 pub mod Quoted

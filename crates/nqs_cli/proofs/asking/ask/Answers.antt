@@ -1,7 +1,8 @@
 use Rattle.std.proofs.Common.{inl, inr, ◌∷◌, [], ℕ, List, None, Err, refl, ap, subst, ◌∙◌, map, string_bytes}
 use Rattle.nqs_outside.proofs.Told.{extends_none, extends_then}
+use Rattle.nqs_outside.specs.Streams.{fed, sunk}
 use Rattle.nqs_clients.specs.Client as client
-use Rattle.nqs_clients.specs.Sides.{fed, sunk, wired}
+use Rattle.nqs_clients.specs.Sides.{wired}
 use Rattle.nqs_cli.specs.Parts.{wire_told, wire_of}
 use Rattle.nqs_cli.specs.Runs.{lent_and_back, no_parts}
 use Rattle.nqs_cli.proofs.Wanting.{wanting}

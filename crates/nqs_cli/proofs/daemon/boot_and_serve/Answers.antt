@@ -1,9 +1,8 @@
-use Rattle.std.proofs.Common.{◌∙◌, ap, refl, sym, subst, arith}
+use Rattle.std.proofs.Common.{ap, refl, sym, subst, arith}
 use Rattle.nqs_types.specs.declared.change.Change.TheVariants.{Boot}
 use Rattle.nqs_rules.specs.Applied.{applied}
 use Rattle.nqs_outside.specs.Causes.{Rose}
-use Rattle.nqs_outside.proofs.Roses.{rose_since}
-use Rattle.nqs_store.specs.Disks.{histories_of}
+use Rattle.nqs_store.specs.Disks.{disk_at, histories_of}
 use Rattle.nqs_node.specs.Nodes.{active_of, history_of, Tells}
 use Rattle.nqs_node.proofs.Booting.{active_told}
 use Rattle.nqs_serve.specs.Ends.{EndsWith, stops}
@@ -13,36 +12,38 @@ use Rattle.nqs_serve.specs.Nodes.{IsAt}
 use Rattle.nqs_serve.specs.Runs.{idle, Ran}
 use Rattle.nqs_cli.specs.Parts.{disks_told, wire_told}
 use Rattle.nqs_cli.specs.Daemons.{Outside, outside, telling_of, here_of, Leaves}
-use Rattle.nqs_cli.proofs.Serving.{leaves, ends_as, since_boot, there_since, failed_since, served_since, not_booted, has_served}
+use Rattle.nqs_cli.proofs.Serving.{leaves, ends_as, since_boot, not_booted, has_served}
 use Rattle.nqs_cli.proofs.daemon.boot_and_serve.Goals as goal
 
+pub boot_loaded-requires : goal.boot_loaded-requires
+boot_loaded-requires g c = let loaded = c.requires.loaded in record { sound = loaded.1.sound; running = loaded.1.running }
+
+pub serve-end-requires-clause-sound : goal.serve-end-requires-clause-sound
+serve-end-requires-clause-sound g c = let loaded = c.requires.loaded in (c.in-Ok.ensures.booted loaded.0 loaded.1).sound
+
+pub serve-end-requires-clause-running : goal.serve-end-requires-clause-running
+serve-end-requires-clause-running g c = let loaded = c.requires.loaded in (c.in-Ok.ensures.booted loaded.0 loaded.1).running
+
 pub returns-in-Err : goal.returns-in-Err
-returns-in-Err g c = λ me names disks checked.
-    let read = disks_told g.D.Disk.history g.D.Disk.faults c.args.disks in
-    let back = disks_told g.D.Disk.history g.D.Disk.faults c.in-Err.disks in
-    let was : Outside = outside disks
+returns-in-Err g c = λ me names disks loaded here.
+    let was : Outside = outside (disks_told g.D.Disk.history g.D.Disk.faults disks)
     (wire_told g.W.Wire.received g.W.Wire.sent g.W.Wire.receive_faults g.W.Wire.send_faults c.args.wire.now)
     (g.L.Launcher.asked c.args.launcher.now) (g.P.Printer.prints c.args.printer.now) (g.O.Outlet.filings c.args.outlet.now)
     (g.C.Clock.given c.args.clock.now) in
-    let now : Outside = outside back
+    let now : Outside = outside (disks_told g.D.Disk.history g.D.Disk.faults c.in-Err.disks)
     (wire_told g.W.Wire.received g.W.Wire.sent g.W.Wire.receive_faults g.W.Wire.send_faults c.args.wire.now)
     (g.L.Launcher.asked c.args.launcher.now) (g.P.Printer.prints c.args.printer.now) (g.O.Outlet.filings c.args.outlet.now)
     (g.C.Clock.given c.args.clock.now) in
-    let unbooted = c.in-Err.ensures.unbooted in
+    let unbooted = c.in-Err.ensures.unbooted disks loaded in
     not_booted g.D.Disk.tells me names c.args.turns was now c.in-Err.fault c.status_of_fault.result c.status_of_fault.ensures (refl, refl)
-    (λ which is. rose_since _ _ _ (checked.later which) (unbooted.failed which is))
-    (λ yes. failed_since disks read back (checked.same yes) (
-      λ a named. (unbooted.broken_off yes a named, λ s there. unbooted.any_moment yes s there a named),
-      unbooted.untouched
-          yes,
-    ))
-    (λ yes which place is. let ours = checked.ours yes in unbooted.never yes ours.0 (there_since disks read (checked.same yes) ours.0 ours.1) which place is)
-    (λ yes is which. unbooted.memory yes is which ∙ checked.same yes which)
+    unbooted.failed
+    (λ yes. (λ a named. (unbooted.broken_off yes a named, λ s there. unbooted.any_moment yes s there a named), unbooted.untouched yes))
+    (λ yes which place is. let ours = here yes in unbooted.never yes ours.0 ours.1 which place is)
+    unbooted.memory
 
 pub returns : goal.returns
-returns g c = λ me names disks checked.
-    let read = disks_told g.D.Disk.history g.D.Disk.faults c.args.disks in
-    let was : Outside = outside disks
+returns g c = λ me names disks loaded here.
+    let was : Outside = outside (disks_told g.D.Disk.history g.D.Disk.faults disks)
     (wire_told g.W.Wire.received g.W.Wire.sent g.W.Wire.receive_faults g.W.Wire.send_faults c.args.wire.now)
     (g.L.Launcher.asked c.args.launcher.now) (g.P.Printer.prints c.args.printer.now) (g.O.Outlet.filings c.args.outlet.now)
     (g.C.Clock.given c.args.clock.now) in
@@ -50,23 +51,24 @@ returns g c = λ me names disks checked.
     (wire_told g.W.Wire.received g.W.Wire.sent g.W.Wire.receive_faults g.W.Wire.send_faults c.serve-end.new.wire)
     (g.L.Launcher.asked c.serve-end.new.launcher) (g.P.Printer.prints c.serve-end.new.printer) (g.O.Outlet.filings c.serve-end.new.outlet)
     (g.C.Clock.given c.serve-end.new.clock) in
+    let booted = c.in-Ok.ensures.booted disks loaded in
     has_served g.D.Disk.tells me names c.args.turns was now c.serve-end.result c.status_of_serve.result c.status_of_serve.ensures
-    (served_since g.D.Disk.tells me names c.args.turns was now read c.serve-end.result checked.same (λ yes.
-    let ours = checked.ours yes in
+    (λ yes.
+    let ours = here yes in
     let s = ours.0 in
-    let there = there_since disks read (checked.same yes) s ours.1 in
-    let told = c.in-Ok.ensures.booted.told yes s there in
+    let there = ours.1 in
+    let told = booted.told yes s there in
     let named = active_told _ s there in
     let u = applied Boot s in
     let run = c.serve-end.ensures.run yes u told in
-    let here = ap here_of told.is in
+    let place = ap here_of told.is in
     let moved = subst (λ (h : Here). Ran h run.0 (idle u) run.1 run.2 (telling_of was) (telling_of now)
     × EndsWith (Tells c.serve-end.new.node) (IsAt c.serve-end.new.node) (history_of c.serve-end.new.node) c.serve-end.result c.args.turns
     (stops h (idle u) run.0) run.1 run.2)
-    here (run.3, run.4) in
+    place (run.3, run.4) in
     let passes = subst (λ (h : Here). TellsThroughout (active_of c.in-Ok.node) (history_of c.in-Ok.node) (history_of c.serve-end.new.node)
     (IsPassed h (idle u) run.0 run.2.moments))
-    here run.5 in (
+    place run.5 in (
       s,
       there,
       ours.2,
@@ -86,13 +88,13 @@ returns g c = λ me names disks checked.
           named.1,
           since_boot named.0 (active_of c.in-Ok.node) _ (history_of c.in-Ok.node) (history_of c.serve-end.new.node)
               (histories_of g.D.Disk.history c.close.result) s run.0 run.2.moments (λ which. ap g.D.Disk.history (c.close.ensures which))
-              (c.in-Ok.ensures.booted.active yes named.0 named.1) (c.in-Ok.ensures.booted.any_moment yes s there named.0 named.1) passes,
+              (booted.active yes named.0 named.1) (booted.any_moment yes s there named.0 named.1) passes,
         ),
       ),
-    )))
+    ))
     c.serve-end.ensures.wire_fault
     (λ is. let rose = (c.serve-end.ensures.disk_fault is).1 in (
       rose.0,
-      subst (λ d. Rose (disks.faults rose.0) (g.D.Disk.faults d)) (sym (c.close.ensures rose.0))
-          (omega (arith, checked.later rose.0, c.in-Ok.ensures.booted.later rose.0, rose.1)),
+      subst (λ d. Rose (g.D.Disk.faults (disk_at rose.0 disks)) (g.D.Disk.faults d)) (sym (c.close.ensures rose.0))
+          (omega (arith, booted.later rose.0, rose.1)),
     ))

@@ -1,5 +1,5 @@
 use Rattle.std.proofs.Common.{inl, inr, ◌∷◌, [], None, refl, sym, subst, arith, map, string_bytes}
-use Rattle.nqs_clients.specs.Sides.{fed, sunk}
+use Rattle.nqs_outside.specs.Streams.{fed, sunk}
 use Rattle.nqs_cli.specs.Parts.{disks_of, wire_of}
 use Rattle.nqs_cli.specs.Runs.{Place, DoesOrWants}
 use Rattle.nqs_cli.specs.declared.form.Form.{Form}

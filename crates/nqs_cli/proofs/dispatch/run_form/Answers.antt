@@ -1,7 +1,7 @@
 use Rattle.std.proofs.Common.{◌≡◌, ◌∷◌, [], ℕ, List, String, Global, Some, refl, sym, ap, subst, ◌∙◌, map, string_bytes}
 use Rattle.std.proofs.lemmas.List.{nil_from_length}
 use Rattle.nqs_outside.proofs.Told.{extends_none}
-use Rattle.nqs_clients.specs.Sides.{fed, sunk}
+use Rattle.nqs_outside.specs.Streams.{fed, sunk}
 use Rattle.nqs_clients.specs.declared.status.NqsStatus.TheVariants.{BadWords}
 use Rattle.nqs_cli.specs.Runs.{RunsForm, RunsWords, no_parts}
 use Rattle.nqs_cli.proofs.dispatch.run_form.Goals as goal

@@ -1,6 +1,6 @@
 use Rattle.std.proofs.Common.{◌≡◌, inl, inr, ◌∷◌, [], Err, refl, sym, ap, map, string_bytes}
 use Rattle.nqs_outside.proofs.Told.{extends_same, extends_then}
-use Rattle.nqs_clients.specs.Sides.{fed, sunk}
+use Rattle.nqs_outside.specs.Streams.{fed, sunk}
 use Rattle.nqs_cli.specs.Runs.{no_parts, behind_site, host_named}
 use Rattle.nqs_cli.specs.Parts.{names_of}
 use Rattle.nqs_cli.proofs.Wanting.{wanting, runs_within}

@@ -1,7 +1,7 @@
 use Rattle.std.proofs.Common.{Option, refl, subst, map, string_bytes}
 use Rattle.nqs_types.specs.declared.ids.HostId.{HostId}
 use Rattle.nqs_outside.proofs.Told.{extends_none}
-use Rattle.nqs_clients.specs.Sides.{fed, sunk}
+use Rattle.nqs_outside.specs.Streams.{fed, sunk}
 use Rattle.nqs_clients.specs.declared.status.NqsStatus.TheVariants.{BadWords}
 use Rattle.nqs_cli.specs.Runs.{RunsAt, no_parts}
 use Rattle.nqs_cli.proofs.dispatch.run_named.Goals as goal

@@ -11,7 +11,8 @@ use Rattle.nqs_rules.specs.Fits.{runs, is_idle, may_hop, row_passes, device_fits
 use Rattle.nqs_rules.specs.Fits.{is_site_host, is_unknown, offer_full}
 use Rattle.nqs_rules.proofs.Chains.{each}
 use Rattle.nqs_rules.proofs.PathStands.{path_stands}
-use Rattle.nqs_host_laws.proofs.Stands.{parts_stand, counts_few, site_host, peer_host, hand_host, promise_host, stage_host, hands_are, row_id}
+use Rattle.nqs_rules.proofs.StateFacts.{host_below}
+use Rattle.nqs_host_laws.proofs.Stands.{parts_stand, counts_few, peer_host, hand_host, promise_host, stage_host, hands_are, row_id}
 use Rattle.nqs_host_laws.proofs.laws.fitting_changes_may_stand.Goals as goal
 
 pub carried_stands-requires-clause-host : goal.carried_stands-requires-clause-host
@@ -20,7 +21,7 @@ carried_stands-requires-clause-host c =
     let s = content c.args.state.now in
     let k = each (has_queue a.queue s) (passes (is_open_number a.number) (find_peer a.peer s) ∷ not (has_promise a.peer a.number s)
     ∷ is_site_host a.carried.id.host s ∷ is_unknown a.carried.id s ∷ not (offer_full a.peer s) ∷ not (arrivals_used s) ∷ []) (rw a.is at c.requires.fits) in
-    site_host s c.requires.order a.carried.id.host k.1.1.1.0
+    host_below s a.carried.id.host c.requires.order.site k.1.1.1.0
 
 pub returns-in-Deleted : goal.returns-in-Deleted
 returns-in-Deleted c =

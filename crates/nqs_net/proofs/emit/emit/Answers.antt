@@ -1,6 +1,6 @@
 use Rattle.std.proofs.Common.{length, sym}
 use Rattle.std.proofs.lemmas.Result.{err_from_is_err_and}
-use Rattle.nqs_net.specs.Lists.{seen_from}
+use Rattle.nqs_laws.specs.Outputs.{seen_from}
 use Rattle.nqs_net.proofs.Fronts.{shown_as, shown_before, first_shown}
 use Rattle.nqs_net.proofs.emit.emit.Goals as goal
 

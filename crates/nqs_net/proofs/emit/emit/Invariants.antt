@@ -1,6 +1,6 @@
 use Rattle.std.proofs.Common.{◌≡◌, List, ◌++◌, length}
 use Rattle.nqs_types.specs.declared.world.Seen.{Seen}
-use Rattle.nqs_net.specs.Lists.{sent_in, seen_from}
+use Rattle.nqs_laws.specs.Outputs.{sent_in, seen_from}
 use Rattle.nqs_net.specs.Turns.{IsSameTurn}
 use Rattle.nqs_net.proofs.emit.emit.Given as goal
 

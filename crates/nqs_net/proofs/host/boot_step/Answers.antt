@@ -10,7 +10,8 @@ use Rattle.nqs_disk.specs.MemDisk as mem
 use Rattle.nqs_store.specs.Disks.{disk_at, histories_of}
 use Rattle.nqs_store.specs.Sound.{IsSoundHost}
 use Rattle.nqs_node.specs.Nodes.{history_of, content_of, is_stopped}
-use Rattle.nqs_net.specs.Lists.{sent_in, seen_from, GrowsByFront}
+use Rattle.nqs_laws.specs.Outputs.{sent_in, seen_from}
+use Rattle.nqs_net.specs.Lists.{GrowsByFront}
 use Rattle.nqs_net.specs.Followed.{GoOn, Follows}
 use Rattle.nqs_net.specs.Worlds.{IsDown, active_in}
 use Rattle.nqs_net.proofs.Fronts.{none_shown, shown_as, shown_before}

@@ -1,6 +1,6 @@
 use Rattle.std.proofs.Common.{true, false, sym, subst}
+use Rattle.nqs_outside.specs.Streams.{sunk}
 use Rattle.nqs_network_runs.specs.Running.{Runs}
-use Rattle.nqs_network_runs.specs.Sunk.{sunk}
 use Rattle.nqs_network_runs.proofs.run.run.Goals as goal
 
 pub returns-then-summary : goal.returns-then-summary

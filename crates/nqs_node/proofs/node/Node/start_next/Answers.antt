@@ -1,4 +1,4 @@
-use Rattle.std.proofs.Common.{◌++◌, IsTrue, IfSome, List, [], ℕ, is_some, map, refl, sym, ap, subst, ◌∙◌}
+use Rattle.std.proofs.Common.{◌++◌, IsTrue, IfSome, List, [], ℕ, is_some, map, refl, sym, ap, subst, ◌∙◌, le_refl}
 use Rattle.std.specs.List.{AllByRecursion}
 use Rattle.std.proofs.lemmas.List.{append-nil}
 use Rattle.nqs_rules.specs.Fits.{fits}
@@ -14,7 +14,7 @@ use Rattle.nqs_node.specs.Reading.{AreShort}
 use Rattle.nqs_back.proofs.Plans.{bare_step, alike_step, fewer_left, one_back}
 use Rattle.nqs_node.proofs.Bare.{picked_bare, started_bare, bare_none, alike_none}
 use Rattle.nqs_node.specs.declared.fault.NodeFault.TheVariants as node
-use Rattle.nqs_node.proofs.Places.{no_error, at_most_itself, node_memory, node_stopped}
+use Rattle.nqs_node.proofs.Places.{no_error, node_memory, node_stopped}
 use Rattle.nqs_node.proofs.Still.{no_refusal, takes_still, refuses_still, wants_still, carries_true, leaves_true}
 use Rattle.nqs_node.proofs.Planning.{next_is, at_next, none_next, may_be_done, does}
 use Rattle.nqs_node.proofs.Resting.{none_found}
@@ -55,7 +55,7 @@ returns-in-Ok-None-clause-leaves g c = record {
   stops = record {
     running = c.if-self.false;
     broken = λ which is. absurd (no_error _ _ is);
-    later = λ which. at_most_itself _;
+    later = λ which. le_refl _;
     fuse = λ yes which i. refl;
   };
   unsaid = tt;

@@ -1,7 +1,7 @@
 -- What a reading gives and which faults it has, as two relations. Readings are joined as their
 -- relations are.
 use Rattle.std.proofs.Common.{◌≡◌, ◌⊎◌, inl, inr, ◌↔◌, Option, Some, None, Result, Ok, Err, refl, ap, sym}
-use Rattle.nqs_words.specs.Reads.{◌>>=◌, or_fault}
+use Rattle.nqs_base.specs.Reads.{◌>>=◌, or_fault}
 
 -- it gives just these values, and has just these faults
 abbrev pub Reads : {A E : Type 0} → Result A E → (A → Type 0) → (E → Type 0) → Type 0
