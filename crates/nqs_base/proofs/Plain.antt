@@ -1,6 +1,6 @@
 -- Small facts of numbers, tests and lists, for the proofs of all crates.
 use Rattle.std.proofs.Common.{◌≡◌, ℕ, zero, suc, ◌+◌, ◌<◌, ◌≤◌, nat_lt, Bool, true, false, ◌&&◌, cond, List, [], ◌∷◌, ◌++◌, map, length, take, drop, find, sum}
-use Rattle.std.proofs.Common.{get_or, slice_get, Option, None, Some, is_some, option_map, Err, IsErrOf, IsTrue, refl, sym, ap, ◌∙◌, arith, length-append}
+use Rattle.std.proofs.Common.{get_or, slice_get, Option, None, Some, is_some, option_map, Result, Ok, Err, OnOk, IsErrOf, IsTrue, refl, sym, ap, ◌∙◌, arith, length-append}
 use Rattle.std.specs.List.{list_all, AllByRecursion}
 use Rattle.std.proofs.lemmas.Bool.{and_from}
 use Rattle.std.proofs.lemmas.Bool.Decides.{nat_tests}
@@ -38,6 +38,16 @@ is_some-option_map m (Some v) = refl
 -- the same error, of another answer
 pub same_error : {T U E : Type 0} (d e : E) → IsErrOf {T = T} (Err d) e → IsErrOf {T = U} (Err d) e
 same_error d e is = let same : d ≡ e = cc in ap Err same
+
+-- what holds of an answer, from what holds of it
+pub on_ok : {T E : Type 0} (r : Result T E) (P S : Type 0) → (P → S) → OnOk r P → OnOk r S
+on_ok (Ok x) P S to p = to p
+on_ok (Err e) P S to p = tt
+
+-- what holds anyway holds of an answer
+pub anyway : {T E P : Type 0} (r : Result T E) → P → OnOk r P
+anyway (Ok x) p = p
+anyway (Err e) p = tt
 
 -- ---- lists
 

@@ -1,6 +1,6 @@
 -- What a reading gives and which faults it has, as two relations. Readings are joined as their
 -- relations are.
-use Rattle.std.proofs.Common.{◌≡◌, ◌⊎◌, inl, inr, ◌↔◌, Option, Some, None, Result, Ok, Err, refl, ap, sym}
+use Rattle.std.proofs.Common.{◌≡◌, ◌⊎◌, inl, inr, ◌↔◌, Bool, true, false, cond, Option, Some, None, Result, Ok, Err, refl, ap, sym, ◌∙◌}
 use Rattle.nqs_base.specs.Reads.{◌>>=◌, or_fault}
 
 -- it gives just these values, and has just these faults
@@ -28,6 +28,33 @@ bind r f a s e g = rw e g
 
 pub fail : {A B E : Type 0} (r : Result A E) (f : A → Result B E) (x : E) → r ≡ Err x → (r >>= f) ≡ Err x
 fail r f x e = rw e refl
+
+-- ---- answers that are apart
+
+-- what is given isn't refused
+pub apart : {A E : Type 0} (a : A) (x : E) → ◌≡◌ {A = Result A E} (Ok a) (Err x) → ⊥
+apart a x e = cc
+
+-- a reading doesn't both give and refuse
+pub never : {A E : Type 0} (r : Result A E) (a : A) (x : E) → r ≡ Ok a → r ≡ Err x → ⊥
+never r a x gives refuses = apart a x (sym gives ∙ refuses)
+
+-- ---- ways out of a test
+
+-- what a test lets pass
+pub passed : {A E : Type 0} (t : Bool) (x : E) (a b : A) → ◌≡◌ {A = Result A E} (cond t (Ok a) (Err x)) (Ok b) → (t ≡ true) × (a ≡ b)
+passed true x a b e = (refl, cc)
+passed false x a b e = cc
+
+-- what a test for a fault lets pass
+pub faultless : {A E : Type 0} (t : Bool) (x : E) (a b : A) → ◌≡◌ {A = Result A E} (cond t (Err x) (Ok a)) (Ok b) → (t ≡ false) × (a ≡ b)
+faultless true x a b e = cc
+faultless false x a b e = (refl, cc)
+
+-- what a test leaves there
+pub found : {A : Type 0} (t : Bool) (a b : A) → cond t (Some a) None ≡ Some b → (t ≡ true) × (a ≡ b)
+found true a b e = (refl, cc)
+found false a b e = cc
 
 -- ---- joined relations
 
