@@ -39,11 +39,6 @@ is_some-option_map m (Some v) = refl
 pub same_error : {T U E : Type 0} (d e : E) → IsErrOf {T = T} (Err d) e → IsErrOf {T = U} (Err d) e
 same_error d e is = let same : d ≡ e = cc in ap Err same
 
--- what holds of an answer, from what holds of it
-pub on_ok : {T E : Type 0} (r : Result T E) (P S : Type 0) → (P → S) → OnOk r P → OnOk r S
-on_ok (Ok x) P S to p = to p
-on_ok (Err e) P S to p = tt
-
 -- what holds anyway holds of an answer
 pub anyway : {T E P : Type 0} (r : Result T E) → P → OnOk r P
 anyway (Ok x) p = p
