@@ -6,6 +6,7 @@ use Rattle.std.proofs.lemmas.Bool.Decides.{nat_tests}
 use Rattle.std.proofs.lemmas.List.{length-drop, length-append, take-append-le, drop-append-le, take-append-drop}
 use Rattle.std.specs.List.{list_all}
 use Rattle.nqs_base.specs.Name.{is_letter}
+use Rattle.nqs_base.proofs.Readings.{found}
 use Rattle.nqs_base.specs.Path.{is_path}
 use Rattle.nqs_types.specs.declared.fault.WordsCause.{WordsCause}
 use Rattle.nqs_types.specs.declared.fault.WordsCause.TheVariants as cause
@@ -43,10 +44,6 @@ name_sane (b ∷ bs) h =
     let seen = and_from (is_name_byte b) (list_all is_name_byte bs) (letter_seen b parts.0) (list_all-weaker is_word_byte is_name_byte byte_seen bs parts.1) in
     chained (nat_le 1 (length (b ∷ bs))) (nat_le (length (b ∷ bs)) 15 ∷ list_all is_name_byte (b ∷ bs) ∷ [])
     (le-leb 1 (length (b ∷ bs)) (omega arith), (whole.1, (seen, tt)))
-
-found : {A : Type 0} (t : Bool) (a b : A) → cond t (Some a) None ≡ Some b → (t ≡ true) × (a ≡ b)
-found true a b e = (refl, cc)
-found false a b e = cc
 
 pub name_is_sane : (bytes name : List ℕ) → name_of bytes ≡ Some name → is_sane_name name ≡ true
 unfolding name_of

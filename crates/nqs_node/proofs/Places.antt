@@ -1,6 +1,5 @@
 -- Lists by places, and reads from a store that hasn't changed.
-use Rattle.std.proofs.Common.{Err, Ok, IsErrOf, OnOk}
-use Rattle.std.specs.declared.result.Result.{Result}
+use Rattle.std.proofs.Common.{Err, Ok, IsErrOf}
 use Rattle.std.proofs.Common.{◌≡◌, ℕ, zero, suc, ◌<◌, ◌≤◌, List, [], ◌∷◌, length, get_or, slice_set, refl, sym, ap, subst, ◌∙◌, arith}
 use Rattle.std.specs.List.{AllByRecursion}
 use Rattle.nqs_outside.proofs.Roses.{rose_since}
@@ -52,10 +51,6 @@ module _ {D : Type 0} {g : disk.Ghosts D} where
   }
 
 -- an answer is one or the other
-
-pub on_ok : {T E P : Type 0} (r : Result T E) → P → OnOk r P
-on_ok (Ok x) p = p
-on_ok (Err e) p = tt
 
 pub no_error : {T E : Type 0} (x : T) (e : E) → IsErrOf {T = T} {E = E} (Ok x) e → ⊥
 no_error x e is = let no : ⊥ = cc in no

@@ -1,7 +1,7 @@
-use Rattle.std.proofs.Common.{◌≡◌, ℕ, ◌+◌, ◌<◌, List, length, arith, refl, ap, ◌∙◌, sym, subst, Some, None, Option, Result, Ok, Err, cond, Bool, true, false}
+use Rattle.std.proofs.Common.{◌≡◌, ℕ, ◌+◌, ◌<◌, List, length, arith, refl, ap, ◌∙◌, sym, subst, Some, None, Option, Result, Ok, Err, cond, true, false}
 use Rattle.std.proofs.Common.{nat_lt, slice_range}
 use Rattle.std.proofs.lemmas.Bool.Decides.{nat_tests}
-use Rattle.nqs_base.proofs.Readings.{bound, bind, reads-or_fault}
+use Rattle.nqs_base.proofs.Readings.{bound, bind, passed, faultless, reads-or_fault}
 use Rattle.nqs_types.specs.declared.ids.Named.{Named}
 use Rattle.nqs_types.specs.declared.fault.GrammarFault.{GrammarFault}
 use Rattle.nqs_types.specs.declared.fault.GrammarFault.TheVariants as fault
@@ -120,32 +120,24 @@ means-head ks line place head = (
   (λ h. bind (word_at line place) (head_of ks line) head.word (Ok head) ((means-word line place head.word).1 h.next) (head_of-has ks line place head h)),
 )
 
-tested : {A : Type 0} (t : Bool) (x : GrammarFault) (a b : A) → cond t (Err x) (Ok a) ≡ Ok b → (t ≡ false) × (b ≡ a)
-tested true x a b e = cc
-tested false x a b e = (refl, cc)
-
 pub means-bare : {B : Type 0} (head : Head) (f : ℕ → Read B) (Q : B → Type 0) → Means (f head.word.end) Q
     → Means (bare head >>= f) (λ (b : B). HasNoValue head × Q b)
 unfolding bare
 means-bare {B} head f Q hf b = (
   (λ e.
       let d = bound (cond (nat_lt head.stem head.word.end) (Err (fault.Extra head.word.start)) (Ok head.word.end)) f b e in
-      let t = tested (nat_lt head.stem head.word.end) (fault.Extra head.word.start) head.word.end d.0 d.1 in
+      let t = faultless (nat_lt head.stem head.word.end) (fault.Extra head.word.start) head.word.end d.0 d.1 in
       let none = t.0 in
-      (grind (arith, nat_tests), (hf b).0 (ap f (sym t.1) ∙ d.2))),
+      (grind (arith, nat_tests), (hf b).0 (ap f t.1 ∙ d.2))),
   (λ h. let past = h.0 in let none : nat_lt head.stem head.word.end ≡ false = grind (arith, nat_tests) in rw none ((hf b).1 h.1)),
 )
 
 -- ---- values
 
-valued-test : {A : Type 0} (t : Bool) (x : GrammarFault) (a b : A) → cond t (Ok a) (Err x) ≡ Ok b → (t ≡ true) × (a ≡ b)
-valued-test true x a b e = (refl, cc)
-valued-test false x a b e = cc
-
 pub value_at-Ok : (head : Head) (place : ℕ) → value_at head ≡ Ok place → (head.stem < head.word.end) × (head.stem + 1 ≡ place)
 unfolding value_at
 value_at-Ok head place e =
-    let t = valued-test (nat_lt head.stem head.word.end) (fault.Missing head.word.end) (head.stem + 1) place e in
+    let t = passed (nat_lt head.stem head.word.end) (fault.Missing head.word.end) (head.stem + 1) place e in
     let some = t.0 in
     (grind (arith, nat_tests), t.1)
 

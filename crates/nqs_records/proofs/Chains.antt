@@ -4,7 +4,7 @@ use Rattle.std.proofs.Common.{◌≡◌, ℕ, zero, suc, ◌+◌, Bool, true, fa
 use Rattle.std.proofs.Common.{◌∙◌, subst, arith, length-append, append_assoc, append-nil, Ok, Err}
 use Rattle.std.specs.Prelude.{flat_map}
 use Rattle.std.specs.List.{AllByRecursion}
-use Rattle.nqs_base.proofs.Readings.{given, bound, bind}
+use Rattle.nqs_base.proofs.Readings.{given, bound, bind, passed}
 use Rattle.nqs_base.proofs.Plain.{rest_behind}
 use Rattle.nqs_codec.specs.Fields.{bool_field}
 use Rattle.nqs_codec.specs.Takes.{Stands}
@@ -14,7 +14,6 @@ use Rattle.nqs_records.specs.Fields.{bool_at, opt_at}
 use Rattle.nqs_records.specs.Values.{IsOpt, IsList}
 use Rattle.nqs_records.specs.Spelling.{opt_field}
 use Rattle.nqs_records.specs.Changes.{AreBytes}
-use Rattle.nqs_records.specs.declared.fault.RecordFault.{RecordFault}
 use Rattle.nqs_records.specs.declared.fault.RecordFault.TheVariants.{BadField}
 use Rattle.nqs_records.proofs.IsRead.{IsRead}
 use Rattle.nqs_records.proofs.Named.{bool_read}
@@ -67,18 +66,14 @@ pub mapped_read : {A B : Type 0} {IsA : A → Type 0} {fa : A → List ℕ} {ra 
     → IsRead IsA fa ra → IsRead IsB fb (mapped make ra)
 mapped_read IsB fb make part again to from spelled one = mapped_where IsB fb make part again to from (λ a is. spelled a) one
 
-tested : {A : Type 0} (t : Bool) (x : RecordFault) (a b : A) → cond t (Ok a) (Err x) ≡ Ok b → (t ≡ true) × (a ≡ b)
-tested true x a b e = (refl, cc)
-tested false x a b e = cc
-
 pub within_read : {A : Type 0} {IsA : A → Type 0} {f : A → List ℕ} {r : Reading A} (test : A → Bool) → ((a : A) → IsTrue (test a) → IsA a) → IsRead IsA f r
     → IsRead (λ a. IsTrue (test a)) f (within test r)
 within_read {A} {IsA} {f} {r} test fits_it one = record {
   found = λ bytes place value next fits e.
       let a = bound (r bytes place) (λ a. cond (test a.0) (Ok a) (Err (BadField place))) (value, next) e in
       let here = one.found bytes place a.0.0 a.0.1 fits a.1 in
-      let passed = tested (test a.0.0) (BadField place) a.0 (value, next) a.2 in
-      subst (Found (λ (v : A). IsTrue (test v)) f bytes place) passed.1 (passed.0, here.1);
+      let p = passed (test a.0.0) (BadField place) a.0 (value, next) a.2 in
+      subst (Found (λ (v : A). IsTrue (test v)) f bytes place) p.1 (p.0, here.1);
   taken = λ bytes rest place value fits is_value is.
       bind (r bytes place) _ _ _ (one.taken bytes rest place value fits (fits_it value is_value) is) (rw is_value refl);
 }

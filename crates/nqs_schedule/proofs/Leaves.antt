@@ -5,7 +5,7 @@ use Rattle.std.specs.Prelude.{codes}
 use Rattle.std.specs.List.{position}
 use Rattle.std.proofs.lemmas.Bool.Decides.{nat_tests}
 use Rattle.std.proofs.lemmas.Bool.{lt-ltb, ltb-true}
-use Rattle.nqs_base.proofs.Readings.{Reads, given, refused, reads-bind, reads-map}
+use Rattle.nqs_base.proofs.Readings.{Reads, given, refused, apart, passed, reads-bind, reads-map}
 use Rattle.nqs_base.specs.Same.{name_eq, name_exact}
 use Rattle.nqs_types.specs.declared.ids.HostId.{HostId}
 use Rattle.nqs_types.specs.declared.ids.RequestId.{RequestId}
@@ -24,7 +24,7 @@ use Rattle.nqs_schedule.specs.Words.{Read, ◌>>=◌, or_fault, as_host, host_of
 use Rattle.nqs_schedule.specs.Forms.{last_number}
 use Rattle.nqs_schedule.specs.Spelled.{IsNone, IsNameWord, NoName, IsNumber, NoNumber, IsPlace, NoPlace, IsHost, NoHost, IsId, NoId, disk_text, IsDisk, NoDisk}
 use Rattle.nqs_schedule.specs.Spelled.{IsMixed, IsTear, NoTear}
-use Rattle.nqs_schedule.proofs.Readings.{apart, reads-Ok, reads-Err, reads-one, reads-cause, reads-same}
+use Rattle.nqs_schedule.proofs.Readings.{reads-Ok, reads-Err, reads-one, reads-cause, reads-same}
 
 pub reads-name : (word : List ℕ) → Reads (or_fault (name_of word) cause.BadName) (IsNameWord word) (NoName word)
 reads-name word = reads-cause (name_of word) (IsNameWord word) cause.BadName
@@ -36,17 +36,13 @@ reads-number low high word = reads-cause (number_of low high word) (IsNumber low
 
 -- ---- hosts
 
-tested : {A : Type 0} (t : Bool) (a b : A) (c : Cause) → cond t (Ok a) (Err c) ≡ Ok b → (t ≡ true) × (a ≡ b)
-tested true a b c e = (refl, sym (given a b e))
-tested false a b c e = absurd (apart b c (sym e))
-
 untested : {A : Type 0} (t : Bool) (a : A) (c why : Cause) → cond t (Ok a) (Err c) ≡ Err why → why ≡ c
 untested true a c why e = absurd (apart a why e)
 untested {A} false a c why e = refused {A = A} c why e
 
 placed : (o : Option ℕ) (h : HostId) → as_host o ≡ Ok h → (o ≡ Some h.0) × (h.0 < 16)
 placed (Some i) h e =
-    let t = tested (nat_lt i 16) (record { 0 = i }) h cause.NoSuchHost e in
+    let t = passed (nat_lt i 16) cause.NoSuchHost (record { 0 = i }) h e in
     let less : i < 16 = ltb-true i 16 t.0 in
     let same : i ≡ h.0 = ap (λ (x : HostId). x.0) t.1 in
     (ap (λ (n : ℕ). Some n) same, subst (λ (n : ℕ). n < 16) same less)

@@ -2,10 +2,11 @@
 use Rattle.std.proofs.Common.{◌≡◌, ℕ, suc, ◌+◌, List, [], ◌∷◌, ◌++◌, length, get_or, Ok, Err, refl, sym, subst, ap, ◌∙◌, ◌⊎◌, inl, inr, append_assoc, arith}
 use Rattle.std.specs.List.{flat_map}
 use Rattle.std.proofs.lemmas.List.{length-append, get_or_at}
+use Rattle.nqs_base.proofs.Readings.{bound, never}
 use Rattle.nqs_schedule.specs.declared.cause.Cause.{Cause}
 use Rattle.nqs_schedule.specs.declared.cause.Cause.TheVariants as cause
 use Rattle.nqs_schedule.specs.declared.line.Says.{Says}
-use Rattle.nqs_schedule.specs.Words.{Read, ◌>>=◌}
+use Rattle.nqs_schedule.specs.Words.{Read}
 use Rattle.nqs_schedule.specs.Says.{line_says}
 use Rattle.nqs_schedule.specs.Schedule.{State, start, after, lines_say, ended, IsLine, AreLines, Front, BeginsBad, IsSchedule, IsFirstBad}
 
@@ -23,16 +24,8 @@ parts_once (a ∷ l) (b ∷ m) x y h k e =
 line_parts : (l m x y : List ℕ) → IsLine l → IsLine m → ended l ++ x ≡ ended m ++ y → (l ≡ m) × (x ≡ y)
 line_parts l m x y h k e = parts_once l m x y h k (sym (append_assoc l (10 ∷ []) x) ∙ e ∙ append_assoc m (10 ∷ []) y)
 
--- a step that succeeded
-step : (r : Read Says) (f : Says → Read State) (u : State) → (r >>= f) ≡ Ok u → (x : Says) × (r ≡ Ok x) × (f x ≡ Ok u)
-step (Ok x) f u e = (x, refl, e)
-step (Err why) f u e = cc
-
 one_state : (s t : State) → ◌≡◌ {A = Read State} (Ok s) (Ok t) → s ≡ t
 one_state s t e = cc
-
-never : (r : Read Says) (x : Says) (why : Cause) → r ≡ Ok x → r ≡ Err why → ⊥
-never r x why a b = let no : ◌≡◌ {A = Read Says} (Ok x) (Err why) = sym a ∙ b in cc
 
 one_said : (r : Read Says) (x y : Says) → r ≡ Ok x → r ≡ Ok y → x ≡ y
 one_said r x y a b = let same : ◌≡◌ {A = Read Says} (Ok x) (Ok y) = sym a ∙ b in cc
@@ -67,18 +60,18 @@ same_front : (s : State) (ls ms : List (List ℕ)) (t u : State) (r q : List ℕ
 unfolding lines_say
 same_front s [] [] t u r q h k a b x y e = (refl, one_state t u (sym a ∙ b), e)
 same_front s [] (m ∷ ms) t u r q h k a b x y e =
-    let d = step (line_says s.site s.is_open m) (λ w. lines_say (after s w) ms) u b in
+    let d = bound (line_says s.site s.is_open m) (λ w. lines_say (after s w) ms) u b in
     let at : IsEnd s r = subst (λ (z : State). IsEnd z r) (sym (one_state s t a)) x in
     absurd (no_line s m (flat_map ended ms ++ q) r d.0 k.0 d.1 (e ∙ append_assoc (ended m) (flat_map ended ms) q) at)
 same_front s (l ∷ ls) [] t u r q h k a b x y e =
-    let d = step (line_says s.site s.is_open l) (λ w. lines_say (after s w) ls) t a in
+    let d = bound (line_says s.site s.is_open l) (λ w. lines_say (after s w) ls) t a in
     let at : IsEnd s q = subst (λ (z : State). IsEnd z q) (sym (one_state s u b)) y in
     absurd (no_line s l (flat_map ended ls ++ r) q d.0 h.0 d.1 (sym e ∙ append_assoc (ended l) (flat_map ended ls) r) at)
 same_front s (l ∷ ls) (m ∷ ms) t u r q h k a b x y e =
     let parts = line_parts l m (flat_map ended ls ++ r) (flat_map ended ms ++ q) h.0 k.0
     (sym (append_assoc (ended l) (flat_map ended ls) r) ∙ e ∙ append_assoc (ended m) (flat_map ended ms) q) in
-    let c = step (line_says s.site s.is_open l) (λ w. lines_say (after s w) ls) t a in
-    let d = step (line_says s.site s.is_open m) (λ w. lines_say (after s w) ms) u b in
+    let c = bound (line_says s.site s.is_open l) (λ w. lines_say (after s w) ls) t a in
+    let d = bound (line_says s.site s.is_open m) (λ w. lines_say (after s w) ms) u b in
     let said = one_said (line_says s.site s.is_open l) c.0 d.0 c.1 (ap (line_says s.site s.is_open) parts.0 ∙ d.1) in
     let goes : lines_say (after s c.0) ms ≡ Ok u = ap (λ (w : Says). lines_say (after s w) ms) said ∙ d.2 in
     let others = same_front (after s c.0) ls ms t u r q h.1 k.1 c.2 goes x y parts.1 in

@@ -1,12 +1,9 @@
 -- Readings by their answers: of one thing, behind a test, and with one cause to refuse.
 use Rattle.std.proofs.Common.{◌≡◌, ◌⊎◌, inl, inr, ◌↔◌, refl, ap, sym, ◌∙◌, Some, Option, Ok, Err}
-use Rattle.nqs_base.proofs.Readings.{Reads, given, refused, bound, failed, reads-bind, reads-or_fault}
+use Rattle.nqs_base.proofs.Readings.{Reads, given, refused, bound, failed, apart, reads-bind, reads-or_fault}
 use Rattle.nqs_schedule.specs.declared.cause.Cause.{Cause}
 use Rattle.nqs_schedule.specs.Words.{Read, ◌>>=◌, or_fault}
 use Rattle.nqs_schedule.specs.Spelled.{IsNone}
-
-pub apart : {A : Type 0} (a : A) (x : Cause) → ◌≡◌ {A = Read A} (Ok a) (Err x) → ⊥
-apart a x e = cc
 
 pub reads-Ok : {A : Type 0} (a : A) → Reads {E = Cause} (Ok a) (λ (b : A). b ≡ a) (λ why. ⊥)
 reads-Ok {A} a = ((λ b. ((λ e. given a b e), (λ e. ap (λ (c : A). Ok c) (sym e)))), (λ why. ((λ e. apart a why e), (λ h. absurd h))))

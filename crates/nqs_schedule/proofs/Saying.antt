@@ -4,7 +4,7 @@ use Rattle.std.proofs.Common.{Bool, true, false, cond, ◌&&◌, arith, nat_le}
 use Rattle.std.specs.Prelude.{codes}
 use Rattle.std.proofs.lemmas.Bool.{and_parts, and_from}
 use Rattle.std.proofs.lemmas.Bool.Decides.{nat_tests}
-use Rattle.nqs_base.proofs.Readings.{Reads, given, reads-bind, reads-map}
+use Rattle.nqs_base.proofs.Readings.{Reads, given, apart, reads-bind, reads-map}
 use Rattle.nqs_base.specs.Name.{IsName}
 use Rattle.nqs_types.specs.declared.world.WorldEvent.{WorldEvent}
 use Rattle.nqs_words.specs.Values.{name_of}
@@ -26,7 +26,7 @@ use Rattle.nqs_schedule.specs.Forms.{verb_text, form_of}
 use Rattle.nqs_schedule.specs.Spelled.{IsNone, HasBadQuote, Spells, Faults}
 use Rattle.nqs_schedule.specs.Sayings.{is_of_site, IsNewHost, NoNewHost, NameHosts, NameNoHosts, HostsSay, HostsFault, FirstSays, WordsSay, NamesSite}
 use Rattle.nqs_schedule.specs.Sayings.{FirstFaults, WordsFault, ReadsWords}
-use Rattle.nqs_schedule.proofs.Readings.{apart, reads-Ok, reads-Err, reads-cause, reads-same}
+use Rattle.nqs_schedule.proofs.Readings.{reads-Ok, reads-Err, reads-cause, reads-same}
 use Rattle.nqs_schedule.proofs.Leaves.{pick}
 use Rattle.nqs_schedule.proofs.Verbs.{events_are_read}
 

@@ -1,7 +1,7 @@
 -- The line of a verb is read by the verb's form.
 use Rattle.std.proofs.Common.{◌≡◌, ℕ, List, refl, ap, sym, ◌∙◌, Some, None, Option, Ok, Err}
 use Rattle.std.specs.Prelude.{slice_get}
-use Rattle.nqs_base.proofs.Readings.{refused}
+use Rattle.nqs_base.proofs.Readings.{refused, apart}
 use Rattle.nqs_types.specs.declared.world.WorldEvent.{WorldEvent}
 use Rattle.nqs_types.specs.declared.world.WorldEvent.TheVariants as event
 use Rattle.nqs_schedule.specs.declared.cause.Cause.{Cause}
@@ -22,7 +22,6 @@ use Rattle.nqs_schedule.specs.Events.{text_in, bytes_at, event_of}
 use Rattle.nqs_schedule.specs.Says.{event_says}
 use Rattle.nqs_schedule.specs.Forms.{words, form_of}
 use Rattle.nqs_schedule.specs.Spelled.{as_event, ReadsEvents}
-use Rattle.nqs_schedule.proofs.Readings.{apart}
 use Rattle.nqs_schedule.proofs.Spelling.{outputs_at, read_form, reads-form}
 
 -- one step of two readings at once

@@ -16,7 +16,7 @@ use Rattle.nqs_node.specs.Reading.{AreShort}
 use Rattle.nqs_node.specs.declared.fault.NodeFault.{NodeFault}
 use Rattle.nqs_node.specs.declared.fault.NodeFault.TheVariants as node
 use Rattle.nqs_node.specs.declared.node.Node.{Node}
-use Rattle.nqs_node.proofs.Places.{on_ok}
+use Rattle.nqs_base.proofs.Plain.{anyway}
 pub use Rattle.nqs_node.proofs.Places.{no_error}
 use Rattle.nqs_serve.specs.Leaves.{Cuts, Leaves, TakesStep}
 use Rattle.nqs_serve.specs.Sends.{AreRight}
@@ -33,7 +33,7 @@ pub none_left : {D T E : Type 0} {g : disk.Ghosts D} (node : Node D g) (failed :
 none_left node failed result none sound running = record {
   sound = sound;
   site = refl;
-  running = on_ok result running;
+  running = anyway result running;
   later = λ which. omega arith;
   broken = λ is. absurd (none is);
 }
@@ -55,7 +55,7 @@ pub left_as : {D T U E F : Type 0} {g : disk.Ghosts D} (a b : Node D g) (failed 
 left_as a b failed lost x result none left = record {
   sound = left.sound;
   site = left.site;
-  running = on_ok result left.running;
+  running = anyway result left.running;
   later = left.later;
   broken = λ is. absurd (none is);
 }

@@ -39,7 +39,8 @@ use Rattle.nqs_store.specs.declared.fault.StoreFault.{StoreFault}
 use Rattle.nqs_store.specs.declared.fault.StoreFault.TheVariants as store
 use Rattle.nqs_store.specs.Calls.{state_after, IsLeft, MayStop, KeepsChange, Records, Commits, TurnsOver, Checkpoints}
 use Rattle.nqs_store.specs.Steps.{IsTextOf}
-use Rattle.nqs_store.proofs.Results.{ok_one, ok_three, err_one, either_way}
+use Rattle.std.proofs.lemmas.Result.{on_ok_weaker, on_err_weaker}
+use Rattle.nqs_store.proofs.Results.{ok_three, either_way}
 use Rattle.nqs_store.proofs.HostRuns.{none_stops, behind_stops, runs_none, moments_none, no_pending}
 use Rattle.nqs_store.proofs.Committed.{quiet}
 use Rattle.nqs_store.proofs.TellsNow.{told_now}
@@ -65,8 +66,7 @@ module _ {D : Type 0} {g : disk.Ghosts D} {E : Type 0} (r : Result (Unit {0}) E)
 
     pub here_broken : OnErr r (Changing StopsShort old now puts host later)
         → OnErr r (CommitsBy StopsShort (active_of old) puts (history_of old) (history_of now))
-    here_broken = err_one r (Changing StopsShort old now puts host later) (CommitsBy StopsShort (active_of old) puts (history_of old) (history_of now))
-        (λ c. here_by old now puts host later not_due c)
+    here_broken = on_err_weaker r (λ c. here_by old now puts host later not_due c)
 
     pub here_moments : OnOk r (Changing (λ planned run. run ≡ planned) old now puts host later) → OnErr r (Changing StopsShort old now puts host later)
         → Tells old host → Keeping (active_of old) puts (history_of old) (history_of now) (plain_of old host) later
@@ -102,8 +102,7 @@ module _ {D : Type 0} {g : disk.Ghosts D} {E : Type 0} (r : Result (Unit {0}) E)
 
     pub there_broken : OnErr r (Changing StopsShort mid now puts host later)
         → OnErr r (CommitsBy StopsShort (active_of old) puts (history_of old) (history_of now))
-    there_broken = err_one r (Changing StopsShort mid now puts host later) (CommitsBy StopsShort (active_of old) puts (history_of old) (history_of now))
-        (λ c. there_by old mid now puts host later snapshot due turned t (λ planned run short. behind_stops
+    there_broken = on_err_weaker r (λ c. there_by old mid now puts host later snapshot due turned t (λ planned run short. behind_stops
         (checkpoint_calls (active_of old) snapshot) planned run short) c)
 
     pub there_moments : OnOk r (Changing (λ planned run. run ≡ planned) mid now puts host later) → OnErr r (Changing StopsShort mid now puts host later)
@@ -140,15 +139,11 @@ module _ {D : Type 0} {g : disk.Ghosts D} (old now : Store D g) (puts : List (Li
 module _ {D : Type 0} {g : disk.Ghosts D} {E : Type 0} (r : Result (Unit {0}) E) (old now : Store D g) (host : Host) (snapshot : List ℕ) where
   pub turn_made : OnOk r (Turning (λ planned run. run ≡ planned) old now snapshot host)
       → OnOk r (Runs (history_of old) (history_of now) (checkpoint_calls (active_of old) snapshot))
-  turn_made = ok_one r (Turning (λ planned run. run ≡ planned) old now snapshot host)
-      (Runs (history_of old) (history_of now) (checkpoint_calls (active_of old) snapshot))
-      (λ t. subst (Runs (history_of old) (history_of now)) t.stands t.made)
+  turn_made = on_ok_weaker r (λ t. subst (Runs (history_of old) (history_of now)) t.stands t.made)
 
   pub turn_broken : OnErr r (Turning StopsShort old now snapshot host)
       → OnErr r ((run : List HostCall) × StopsShort (checkpoint_calls (active_of old) snapshot) run × Runs (history_of old) (history_of now) run)
-  turn_broken = err_one r (Turning StopsShort old now snapshot host)
-      ((run : List HostCall) × StopsShort (checkpoint_calls (active_of old) snapshot) run × Runs (history_of old) (history_of now) run)
-      (λ t. (t.run, t.stands, t.made))
+  turn_broken = on_err_weaker r (λ t. (t.run, t.stands, t.made))
 
   pub turn_moments : OnOk r (Turning (λ planned run. run ≡ planned) old now snapshot host) → OnErr r (Turning StopsShort old now snapshot host)
       → snapshot_of snapshot ≡ Ok host → Tells old host
@@ -158,8 +153,7 @@ module _ {D : Type 0} {g : disk.Ghosts D} {E : Type 0} (r : Result (Unit {0}) E)
       (λ t. (t.run, t.made, (t.at reads tells).told)) (λ t. (t.run, t.made, (t.at reads tells).told)) made broken
 
   pub turn_told : now.spool ≡ old.spool → OnOk r (Tells now host) → OnOk r (Tells now host × (plain_of now host ≡ plain_of old host))
-  turn_told same = ok_one r (Tells now host) (Tells now host × (plain_of now host ≡ plain_of old host))
-      (λ t. (t, ap (λ s. map_state (bytes_at (content (g.history (spool.disk_of s)))) host) same))
+  turn_told same = on_ok_weaker r (λ t. (t, ap (λ s. map_state (bytes_at (content (g.history (spool.disk_of s)))) host) same))
 
 -- and none
 module _ {D : Type 0} {g : disk.Ghosts D} (yes : IsTrue g.tells) (old : Store D g) (host : Host) (tells : Tells old host) where
@@ -297,8 +291,7 @@ module _ {D : Type 0} {g : disk.Ghosts D} {E : Type 0} (old now : Store D g) (ch
         filled = λ told tells. k.filled told (tells_mid told tells);
         kept = λ told tells. subst (λ p. OnOk r (plain_of now host ≡ p)) same (k.kept told (tells_mid told tells));
         told = λ told tells. k.told told (tells_mid told tells);
-        active = ok_one r (active_of now ≡ recorded (active_of mid)) (active_of now ≡ recorded (ready (active_of old)))
-            (λ at. at ∙ ap recorded (t.active ∙ sym (there (active_of old) due))) k.active;
+        active = on_ok_weaker r (λ at. at ∙ ap recorded (t.active ∙ sym (there (active_of old) due))) k.active;
         plain = λ told tells.
             subst (λ p. OnOk r (plain_of now (applied after host) ≡ applied (filled change puts) p)) same (k.plain told (tells_mid told tells));
       }

@@ -5,6 +5,7 @@ use Rattle.std.specs.List.{position_or_len}
 use Rattle.std.proofs.lemmas.Bool.{and_parts, and_from, eqb-true, le-leb, lt-ltb, ltb-false, leb-true}
 use Rattle.std.proofs.lemmas.List.{append-nil, length-append, take_at, drop_at}
 use Rattle.nqs_base.proofs.Plain.{lt_itself}
+use Rattle.nqs_base.proofs.Readings.{found}
 use Rattle.nqs_base.specs.Name.{IsName, is_digit}
 use Rattle.nqs_types.specs.declared.ids.Named.{Named}
 use Rattle.nqs_text.specs.Number.{decimal, first_other, AreDigits}
@@ -68,10 +69,6 @@ named-point front behind h =
 seq_in : (o : Option ℕ) (x y : ℕ) → o ≡ Some x → o ≡ Some y → x ≡ y
 seq_in o x y a b = let same : ◌≡◌ {A = Option ℕ} (Some x) (Some y) = sym a ∙ b in cc
 
-tested-Some : (t : Bool) (n m : ℕ) → cond t (Some n) None ≡ Some m → (t ≡ true) × (m ≡ n)
-tested-Some true n m e = (refl, cc)
-tested-Some false n m e = cc
-
 none_other : (o : Option ℕ) → is_none o ≡ true → o ≡ None
 none_other None h = refl
 none_other (Some n) h = cc
@@ -88,10 +85,10 @@ are (b ∷ bs) h = ap is_none h.1
 pub number-is : (low high : ℕ) (text : List ℕ) (n : ℕ) → number_of low high text ≡ Some n → AreDigits text × (n ≡ decimal text) × (low ≤ n) × (n ≤ high)
 unfolding number_of
 number-is low high text n e =
-    let d = tested-Some (are_digits text && (nat_le low (decimal text) && nat_le (decimal text) high)) (decimal text) n e in
+    let d = found (are_digits text && (nat_le low (decimal text) && nat_le (decimal text) high)) (decimal text) n e in
     let p = and_parts (are_digits text) (nat_le low (decimal text) && nat_le (decimal text) high) d.0 in
     let q = and_parts (nat_le low (decimal text)) (nat_le (decimal text) high) p.1 in
-    (digits_of text p.0, d.1, omega (arith, d.1, leb-true low (decimal text) q.0), omega (arith, d.1, leb-true (decimal text) high q.1))
+    (digits_of text p.0, sym d.1, omega (arith, d.1, leb-true low (decimal text) q.0), omega (arith, d.1, leb-true (decimal text) high q.1))
 
 pub is-number : (low high : ℕ) (text : List ℕ) (n : ℕ) → AreDigits text → n ≡ decimal text → low ≤ n → n ≤ high → number_of low high text ≡ Some n
 unfolding number_of
@@ -120,13 +117,9 @@ no-seq text never = by (seq_of text) refl
     by None is = refl
     by (Some n) is = absurd (never n (seq-is text n is))
 
-named-Some : (t : Bool) (a b : List ℕ) → cond t (Some a) None ≡ Some b → (t ≡ true) × (b ≡ a)
-named-Some true a b e = (refl, cc)
-named-Some false a b e = cc
-
 pub name-is : (text name : List ℕ) → name_of text ≡ Some name → IsName text × (name ≡ text)
 unfolding name_of
-name-is text name e = let d = named-Some (is_name text) text name e in (passing_name text d.0, d.1)
+name-is text name e = let d = found (is_name text) text name e in (passing_name text d.0, sym d.1)
 
 pub is-name : (text : List ℕ) → IsName text → name_of text ≡ Some text
 unfolding name_of

@@ -14,7 +14,8 @@ use Rattle.nqs_node.specs.Carried.{Kept, after_kept, IsMade, IsCutBy, IsBlown}
 use Rattle.nqs_node.proofs.Performing.{still_broken_off, still_one, same_plain, none_kept, some_kept, made_since, broken_since, cut_since, moments_since}
 use Rattle.nqs_node.proofs.Performing.{read_failed}
 use Rattle.nqs_outside.proofs.Roses.{rose_since}
-use Rattle.nqs_node.proofs.Places.{no_error, not_both, on_ok}
+use Rattle.nqs_base.proofs.Plain.{anyway}
+use Rattle.nqs_node.proofs.Places.{no_error, not_both}
 use Rattle.nqs_node.proofs.Performing.{plain_since}
 use Rattle.nqs_node.proofs.perform.perform.Goals as goal
 
@@ -96,8 +97,8 @@ returns-in-Some-clause-fills g c =
     record {
       as_many = fills.as_many;
       alike = fills.alike;
-      filled = λ yes host told live. on_ok c.keep.result (fills.filled yes host told live);
-      short = λ few was. on_ok c.keep.result (fills.short few was);
+      filled = λ yes host told live. anyway c.keep.result (fills.filled yes host told live);
+      short = λ few was. anyway c.keep.result (fills.short few was);
     }
 
 pub returns-in-Some-clause-performs : goal.returns-in-Some-clause-performs

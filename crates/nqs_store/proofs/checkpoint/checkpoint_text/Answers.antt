@@ -1,6 +1,6 @@
 use Rattle.std.proofs.Common.{rules}
 use Rattle.nqs_state.specs.State.{content}
-use Rattle.nqs_store.proofs.Results.{ok_any}
+use Rattle.nqs_base.proofs.Plain.{anyway}
 use Rattle.nqs_store.proofs.ShortParts.{parts_are_short}
 use Rattle.nqs_store.proofs.checkpoint.checkpoint_text.Goals as goal
 
@@ -8,6 +8,6 @@ pub returns : goal.returns
 returns c = record {
   text = search rules;
   begins = search rules;
-  reads = ok_any c.snapshot_text.result _ (c.in_ok-write_state.ensures.reads_back c.requires.sound.consistent
+  reads = anyway c.snapshot_text.result (c.in_ok-write_state.ensures.reads_back c.requires.sound.consistent
       (parts_are_short (content c.args.state.now) c.requires.sound.short));
 }

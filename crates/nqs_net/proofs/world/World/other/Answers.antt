@@ -1,11 +1,7 @@
-use Rattle.std.proofs.Common.{Result, Ok, Err, OnOk}
+use Rattle.nqs_base.proofs.Plain.{anyway}
 use Rattle.nqs_net.proofs.Following.{follow_selves, follow_each}
 use Rattle.nqs_net.proofs.Placing.{tears_as_long}
 use Rattle.nqs_net.proofs.world.World.other.Goals as goal
-
-anyway : {T E P : Type 0} (r : Result T E) → P → OnOk r P
-anyway (Ok x) p = p
-anyway (Err e) p = tt
 
 pub returns-in-Deliver-clause-follow : goal.returns-in-Deliver-clause-follow
 returns-in-Deliver-clause-follow c = λ network stands. let world = c.args.self.now in

@@ -4,7 +4,7 @@ use Rattle.std.proofs.lemmas.List.{take_all}
 use Rattle.nqs_rules.specs.Run.{states_of}
 use Rattle.nqs_rules_table.specs.Standing.{StandForEach}
 use Rattle.nqs_net.specs.Followed.{disks_in}
-use Rattle.nqs_node.proofs.Places.{on_ok}
+use Rattle.nqs_base.proofs.Plain.{anyway}
 use Rattle.nqs_net.proofs.Following.{disks_back}
 use Rattle.nqs_net.proofs.Showing.{at_place, as_many, stand_more, as_many_stand, few_hosts}
 use Rattle.nqs_net.proofs.world.World.table.Goals as goal
@@ -68,5 +68,5 @@ returns-clause-rows c = λ network world.
     (subst (λ ps. StandForEach c.loop-slot.states.items ps) all now.1))
 
 pub returns-clause-disks : goal.returns-clause-disks
-returns-clause-disks c = let slots = c.args.self.now.slots in on_ok c.table_of.result
+returns-clause-disks c = let slots = c.args.self.now.slots in anyway c.table_of.result
     (disks_back slots.items c.loop-slot.slot-items slots.len (omega (arith, slots.ok.0)) c.loop-slot.invariant.disks)
