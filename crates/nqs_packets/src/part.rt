@@ -3,16 +3,19 @@
 
 ghost use Rattle.std.specs.Prelude.{◌≡◌};
 ghost use Rattle.nqs_rules.specs.Sane.{is_offer_refusal};
-ghost use Rattle.nqs_records.specs.Reading.{Answers, repeated, within};
+ghost use Rattle.nqs_records.specs.Reading.{Answers, within};
 ghost use Rattle.nqs_records.specs.Fields.{u16_at, u32_at};
 ghost use Rattle.nqs_records.specs.Values.{is_at_most};
 ghost use Rattle.nqs_packets.specs.Parts.{number_at, cause_at, run_at, bytes_at, is_any, tool_at, is_word_count, words_at};
 
 use nqs_base::{Bytes, Items};
 use nqs_codec::rest_at;
-use nqs_records::{RecordFault, read_u8, read_u16, read_u32, read_u64};
+use nqs_records::{Read, RecordFault, read_u8, read_u16, read_u32, read_u64, repeat};
 use nqs_types::Tool;
 use std::alloc::Global;
+
+/// The form that values have in datagrams.
+pub(crate) struct InDatagram;
 
 #[tactic(auto, unfolding(crate::specs::Parts::number_at))]
 pub(crate) fn read_number(bytes: &[u8], place: u64) -> Result<(u64, u64), RecordFault>
@@ -142,24 +145,12 @@ fn read_word_count(bytes: &[u8], place: u64, tool: Tool) -> Result<(u16, u64), R
     }
 }
 
-fn repeat_words(
-    alloc: Global,
-    bytes: &[u8],
-    place: u64,
-    count: u16,
-) -> Result<(Items<Bytes>, u64), RecordFault>
-    ensures { Answers (repeated count (bytes_at is_any) bytes.now place) result }
-{
-    let mut words = Vec::new(alloc);
-    let mut here = place;
-    let mut left = count;
-    while left > 0 {
-        let (word, next) = read_bytes(alloc, bytes, here)?;
-        words.push(word)?;
-        here = next;
-        left -= 1;
+impl Read<InDatagram> for Bytes {
+    ghost at = { bytes_at is_any };
+
+    fn read(alloc: Global, bytes: &[u8], place: u64) -> Result<(Bytes, u64), RecordFault> {
+        read_bytes(alloc, bytes, place)
     }
-    Ok((Items::from_vec(words), here))
 }
 
 #[tactic(auto, unfolding(crate::specs::Parts::words_at))]
@@ -172,5 +163,5 @@ pub(crate) fn read_words(
     ensures { Answers (words_at tool bytes.now place) result }
 {
     let (count, next) = read_word_count(bytes, place, tool)?;
-    repeat_words(alloc, bytes, next, count)
+    repeat::<InDatagram, Bytes>(alloc, bytes, next, u64::from(count))
 }

@@ -1,7 +1,7 @@
 //! Kinds of datagram, put at the end of a list: the fields alone. After `Memory` a part of them may
 //! stand there.
 
-ghost use Rattle.std.specs.Prelude.{◌≡◌, ◌∷◌, [], ◌<◌, ◌^◌, length, flat_map};
+ghost use Rattle.std.specs.Prelude.{◌≡◌, ◌∷◌, [], ◌<◌, ◌^◌, length};
 ghost use Rattle.std.specs.List.{AllByRecursion};
 ghost use Rattle.nqs_base.specs.Path.{IsPath};
 ghost use Rattle.nqs_codec.specs.Fields.{u8_field, u16_field, u64_field, bytes_field, short_field, bool_field};
@@ -11,9 +11,10 @@ ghost use Rattle.nqs_records.specs.Spelling.{fields, id_field, carried_field};
 ghost use Rattle.nqs_records.specs.Values.{IsCarried};
 ghost use Rattle.nqs_packets.specs.Spelling.{tool_number, words_field};
 
+use crate::part::InDatagram;
 use nqs_base::{Bytes, Memory, Name};
 use nqs_codec::{put_bool, put_bytes, put_name, put_path, put_u8, put_u16, put_u64};
-use nqs_records::{put_carried, put_id};
+use nqs_records::{Put, put_carried, put_each, put_id};
 use nqs_types::{Carried, RequestId, Tool};
 
 #[tactic(auto, using(crate::proofs::Joined::joined))]
@@ -78,16 +79,14 @@ fn tool_number(tool: Tool) -> u8
     }
 }
 
-fn put_each_word(words: &[Bytes], out: &mut Vec<u8>) -> Result<(), Memory>
-    requires { AllByRecursion IsLong words.now }
-    ensures { Adds out.old.items (flat_map bytes_field words.now) result out.new.items }
-{
-    let mut rest = words;
-    while let Some((word, more)) = rest.split_first() {
-        put_bytes(word.as_slice(), out)?;
-        rest = more;
+impl Put<InDatagram> for Bytes {
+    ghost field = { bytes_field };
+
+    ghost IsPut = { IsLong };
+
+    fn put(&self, out: &mut Vec<u8>) -> Result<(), Memory> {
+        put_bytes(self.as_slice(), out)
     }
-    Ok(())
 }
 
 #[tactic(auto, using(crate::proofs::Joined::joined), unfolding(crate::specs::Spelling::words_field))]
@@ -97,7 +96,7 @@ fn put_words(words: &[Bytes], out: &mut Vec<u8>) -> Result<(), Memory>
     ensures { Adds out.old.items (words_field words.now) result out.new.items }
 {
     put_u16(words.len() as u16, out)?;
-    put_each_word(words, out)
+    put_each::<InDatagram, Bytes>(words, out)
 }
 
 #[tactic(auto, using(crate::proofs::Joined::joined))]

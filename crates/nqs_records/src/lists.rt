@@ -1,7 +1,7 @@
-//! Lists of records: a count of one byte, and as many values.
+//! Values one behind the other, and the lists of records: a count of one byte, and as many values.
 
 ghost use Rattle.std.specs.Prelude.{◌≡◌};
-ghost use Rattle.nqs_records.specs.Reading.{Answers, repeated, counted, within};
+ghost use Rattle.nqs_records.specs.Reading.{Reading, Answers, repeated, counted, within};
 ghost use Rattle.nqs_records.specs.Fields.{u8_at, name_at};
 ghost use Rattle.nqs_records.specs.Values.{is_at_most, is_site_count};
 ghost use Rattle.nqs_records.specs.Parts.{part_at, hand_at};
@@ -10,68 +10,78 @@ use crate::fault::RecordFault;
 use crate::field::{read_name, read_u8};
 use crate::job::read_u8_at_most;
 use crate::part::{read_hand, read_part};
-use nqs_base::{Items, ListOf, NameList};
+use nqs_base::{Items, ListOf, Name, NameList};
 use nqs_types::{HostId, OutPart, PeerNumber};
 use std::alloc::Global;
 
-fn repeat_names(
-    alloc: Global,
-    bytes: &[u8],
-    place: u64,
-    count: u8,
-) -> Result<(NameList, u64), RecordFault>
-    ensures { Answers (repeated count name_at bytes.now place) result }
-{
-    let mut names = Vec::new(alloc);
-    let mut here = place;
-    let mut left = count;
-    while left > 0 {
-        let (name, next) = read_name(bytes, here)?;
-        names.push(name)?;
-        here = next;
-        left -= 1;
-    }
-    Ok((ListOf::from_vec(names), here))
+/// The form that values have in records.
+pub struct InRecord;
+
+/// A value that is read at a place of bytes, with the place behind it. It may have several forms.
+pub trait Read<F>: Drop {
+    ghost at: { Reading Self };
+
+    /// The value at the place.
+    fn read(alloc: Global, bytes: &[u8], place: u64) -> Result<(Self, u64), RecordFault>
+        ensures { Answers (at bytes.now place) result };
 }
 
-fn repeat_parts(
-    alloc: Global,
-    bytes: &[u8],
-    place: u64,
-    count: u8,
-) -> Result<(Items<OutPart>, u64), RecordFault>
-    ensures { Answers (repeated count part_at bytes.now place) result }
-{
-    let mut parts = Vec::new(alloc);
-    let mut here = place;
-    let mut left = count;
-    while left > 0 {
-        let (part, next) = read_part(alloc, bytes, here)?;
-        parts.push(part)?;
-        here = next;
-        left -= 1;
+impl Read<InRecord> for Name {
+    ghost at = { name_at };
+
+    fn read(_alloc: Global, bytes: &[u8], place: u64) -> Result<(Name, u64), RecordFault> {
+        read_name(bytes, place)
     }
-    Ok((Items::from_vec(parts), here))
 }
 
-fn repeat_hands(
+impl Read<InRecord> for OutPart {
+    ghost at = { part_at };
+
+    fn read(alloc: Global, bytes: &[u8], place: u64) -> Result<(OutPart, u64), RecordFault> {
+        read_part(alloc, bytes, place)
+    }
+}
+
+impl Read<InRecord> for PeerNumber {
+    ghost at = { hand_at };
+
+    fn read(_alloc: Global, bytes: &[u8], place: u64) -> Result<(PeerNumber, u64), RecordFault> {
+        read_hand(bytes, place)
+    }
+}
+
+/// So many values, one behind the other.
+pub fn repeat<F, T: Read<F>>(
     alloc: Global,
     bytes: &[u8],
     place: u64,
-    count: u8,
-) -> Result<(ListOf<PeerNumber>, u64), RecordFault>
-    ensures { Answers (repeated count hand_at bytes.now place) result }
+    count: u64,
+) -> Result<(Items<T>, u64), RecordFault>
+    ensures { Answers (repeated count T.at bytes.now place) result }
 {
-    let mut hands = Vec::new(alloc);
+    let mut items = Vec::new(alloc);
     let mut here = place;
     let mut left = count;
     while left > 0 {
-        let (hand, next) = read_hand(bytes, here)?;
-        hands.push(hand)?;
+        let (item, next) = T::read(alloc, bytes, here)?;
+        items.push(item)?;
         here = next;
         left -= 1;
     }
-    Ok((ListOf::from_vec(hands), here))
+    Ok((Items::from_vec(items), here))
+}
+
+/// The same of small values.
+pub fn repeat_small<F, T: Read<F> + Copy>(
+    alloc: Global,
+    bytes: &[u8],
+    place: u64,
+    count: u64,
+) -> Result<(ListOf<T>, u64), RecordFault>
+    ensures { Answers (repeated count T.at bytes.now place) result }
+{
+    let (items, end) = repeat::<F, T>(alloc, bytes, place, count)?;
+    Ok((ListOf::from_vec(items.into_vec()), end))
 }
 
 fn read_site_count(bytes: &[u8], place: u64, me: HostId) -> Result<(u8, u64), RecordFault>
@@ -95,7 +105,7 @@ pub(crate) fn read_site_names(
     ensures { Answers (counted (within (is_site_count me) u8_at) name_at bytes.now place) result }
 {
     let (count, next) = read_site_count(bytes, place, me)?;
-    repeat_names(alloc, bytes, next, count)
+    repeat_small::<InRecord, Name>(alloc, bytes, next, u64::from(count))
 }
 
 // At most two outputs.
@@ -107,7 +117,7 @@ pub(crate) fn read_parts(
     ensures { Answers (counted (within (is_at_most 2) u8_at) part_at bytes.now place) result }
 {
     let (count, next) = read_u8_at_most(bytes, place, 2)?;
-    repeat_parts(alloc, bytes, next, count)
+    repeat::<InRecord, OutPart>(alloc, bytes, next, u64::from(count))
 }
 
 pub(crate) fn read_hands(
@@ -118,5 +128,5 @@ pub(crate) fn read_hands(
     ensures { Answers (counted u8_at hand_at bytes.now place) result }
 {
     let (count, next) = read_u8(bytes, place)?;
-    repeat_hands(alloc, bytes, next, count)
+    repeat_small::<InRecord, PeerNumber>(alloc, bytes, next, u64::from(count))
 }

@@ -13,7 +13,7 @@ ghost use Rattle.nqs_records.specs.Changes.{spelling};
 ghost use Rattle.nqs_records.specs.Spelling.{fields, id_field};
 ghost use Rattle.nqs_records.specs.Values.{IsJob, IsCarried, IsPart};
 
-use crate::put_lists::{put_hands, put_names, put_parts};
+use crate::put_lists::put_list;
 use crate::put_parts::{put_carried, put_extent, put_id, put_job, put_opt_name};
 use nqs_base::{Extent, Memory, Name};
 use nqs_codec::{put_name, put_path, put_u8, put_u64};
@@ -48,7 +48,7 @@ pub(crate) fn put_site(me: HostId, site: &[Name], out: &mut Vec<u8>) -> Result<(
 {
     put_u8(1, out)?;
     put_u8(me.0, out)?;
-    put_names(site, out)
+    put_list(site, out)
 }
 
 #[tactic(auto, using(crate::proofs::Joined::joined), unfolding(crate::specs::Changes::spelling))]
@@ -88,7 +88,7 @@ pub(crate) fn put_ended(id: RequestId, outputs: &[OutPart], out: &mut Vec<u8>) -
 {
     put_u8(6, out)?;
     put_id(id, out)?;
-    put_parts(outputs, out)
+    put_list(outputs, out)
 }
 
 #[tactic(auto, using(crate::proofs::Joined::joined), unfolding(crate::specs::Changes::spelling))]
@@ -136,7 +136,7 @@ pub(crate) fn put_hands_silent(
 {
     put_u8(13, out)?;
     put_u64(until, out)?;
-    put_hands(hands, out)
+    put_list(hands, out)
 }
 
 #[tactic(auto, using(crate::proofs::Joined::joined), unfolding(crate::specs::Changes::spelling))]

@@ -8,9 +8,10 @@ ghost use Rattle.nqs_rules.specs.Conf.{is_wait};
 ghost use Rattle.nqs_rules.specs.Fits.{is_site_host};
 ghost use Rattle.nqs_rules.specs.InOrder.{is_default_there, is_site_right, are_lists_short, are_parameters_right, is_peer_right};
 
-use crate::field::Put;
+use crate::lists::InSnapshot;
 use nqs_base::{Key, Keyed};
 use nqs_base_tables::Table;
+use nqs_records::Put;
 use nqs_state::HostState;
 use nqs_types::{HostId, Peer};
 
@@ -18,7 +19,7 @@ use nqs_types::{HostId, Peer};
 pub(crate) const LAST_SEQ: u32 = 4_294_967_294;
 
 /// A value of a table that the rules ask something of.
-pub(crate) trait Right: Put {
+pub(crate) trait Right: Put<InSnapshot> {
     ghost right: { State Extent → Self → Bool };
 
     fn is_right(&self, state: &HostState) -> bool

@@ -8,10 +8,10 @@ ghost use Rattle.nqs_rules.specs.Sane.{is_sane_job};
 ghost use Rattle.nqs_base.specs.Path.{is_path};
 ghost use Rattle.nqs_snapshot.specs.Spelling.{phase_number, hand_field, promise_field, peer_field, stage_field, file_field};
 
-use crate::field::Put;
+use crate::lists::InSnapshot;
 use nqs_base::{Bytes, Memory};
 use nqs_codec::{put_name, put_path, put_u8, put_u64};
-use nqs_records::{put_extent, put_id};
+use nqs_records::{Put, put_extent, put_id};
 use nqs_types::{FileOut, Hand, Peer, Phase, Promise, Stage};
 
 fn phase_number(phase: Phase) -> u8
@@ -23,7 +23,7 @@ fn phase_number(phase: Phase) -> u8
     }
 }
 
-impl Put for Hand {
+impl Put<InSnapshot> for Hand {
     ghost field = { hand_field };
 
     ghost IsPut = { λ _. ⊤ };
@@ -39,7 +39,7 @@ impl Put for Hand {
     }
 }
 
-impl Put for Promise {
+impl Put<InSnapshot> for Promise {
     ghost field = { promise_field };
 
     ghost IsPut = { λ p. IsTrue (is_sane_job p.row.job) };
@@ -52,7 +52,7 @@ impl Put for Promise {
     }
 }
 
-impl Put for Peer {
+impl Put<InSnapshot> for Peer {
     ghost field = { peer_field };
 
     ghost IsPut = { λ _. ⊤ };
@@ -76,7 +76,7 @@ fn put_right_path(path: &Bytes, out: &mut Vec<u8>) -> Result<(), Memory>
     Ok(())
 }
 
-impl Put for Stage {
+impl Put<InSnapshot> for Stage {
     ghost field = { stage_field };
 
     ghost IsPut = { λ t. IsTrue (is_path t.path) };
@@ -90,7 +90,7 @@ impl Put for Stage {
     }
 }
 
-impl Put for FileOut {
+impl Put<InSnapshot> for FileOut {
     ghost field = { file_field };
 
     ghost IsPut = { λ f. IsTrue (is_path f.path) };

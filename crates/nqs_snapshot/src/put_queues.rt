@@ -6,10 +6,11 @@ ghost use Rattle.nqs_records.specs.Adds.{Adds};
 ghost use Rattle.nqs_records.specs.Spelling.{fields, opt_field};
 ghost use Rattle.nqs_snapshot.specs.Spelling.{kind_number, access_field, limits_field, dest_field, settings_field, queue_field, complex_field, device_field};
 
-use crate::field::{Put, put_list};
+use crate::field::put_list;
+use crate::lists::InSnapshot;
 use nqs_base::{Memory, Name};
 use nqs_codec::{put_bool, put_name, put_u8, put_u16};
-use nqs_records::put_opt_u64;
+use nqs_records::{Put, put_opt_u64};
 use nqs_types::{Access, ComplexDef, Dest, DeviceDef, Kind, Limits, QueueDef};
 
 fn kind_number(kind: Kind) -> u8
@@ -97,7 +98,7 @@ fn put_settings(def: &QueueDef, out: &mut Vec<u8>) -> Result<(), Memory>
     put_bounds(def, out)
 }
 
-impl Put for Name {
+impl Put<InSnapshot> for Name {
     ghost field = { short_field };
 
     ghost IsPut = { λ _. ⊤ };
@@ -108,7 +109,7 @@ impl Put for Name {
     }
 }
 
-impl Put for Dest {
+impl Put<InSnapshot> for Dest {
     ghost field = { dest_field };
 
     ghost IsPut = { λ _. ⊤ };
@@ -118,7 +119,7 @@ impl Put for Dest {
     }
 }
 
-impl Put for QueueDef {
+impl Put<InSnapshot> for QueueDef {
     ghost field = { queue_field };
 
     ghost IsPut = { λ _. ⊤ };
@@ -132,7 +133,7 @@ impl Put for QueueDef {
     }
 }
 
-impl Put for ComplexDef {
+impl Put<InSnapshot> for ComplexDef {
     ghost field = { complex_field };
 
     ghost IsPut = { λ _. ⊤ };
@@ -145,7 +146,7 @@ impl Put for ComplexDef {
     }
 }
 
-impl Put for DeviceDef {
+impl Put<InSnapshot> for DeviceDef {
     ghost field = { device_field };
 
     ghost IsPut = { λ _. ⊤ };

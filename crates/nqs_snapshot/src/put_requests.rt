@@ -9,12 +9,13 @@ ghost use Rattle.nqs_rules.specs.Sane.{is_sane_job};
 ghost use Rattle.nqs_base.specs.Name.{IsName};
 ghost use Rattle.nqs_snapshot.specs.Spelling.{state_number, hold_number, refused_field, course_field, row_field};
 
-use crate::field::{Put, put_list};
+use crate::field::put_list;
+use crate::lists::InSnapshot;
 use crate::put_queues::put_dest;
 use crate::typed::job_stands;
 use nqs_base::{Memory, Name};
 use nqs_codec::{put_bool, put_name, put_u8, put_u16, put_u64};
-use nqs_records::{put_extent, put_id, put_job, put_opt_name};
+use nqs_records::{Put, put_extent, put_id, put_job, put_opt_name};
 use nqs_types::{Hold, Job, Refused, Row, RowState};
 
 fn state_number(state: RowState) -> u8
@@ -45,7 +46,7 @@ fn put_sane_job(job: &Job, out: &mut Vec<u8>) -> Result<(), Memory>
     put_job(job, out)
 }
 
-impl Put for Refused {
+impl Put<InSnapshot> for Refused {
     ghost field = { refused_field };
 
     ghost IsPut = { λ _. ⊤ };
@@ -88,7 +89,7 @@ fn put_course(row: &Row, out: &mut Vec<u8>) -> Result<(), Memory>
     put_counts(row, out)
 }
 
-impl Put for Row {
+impl Put<InSnapshot> for Row {
     ghost field = { row_field };
 
     ghost IsPut = { λ r. IsTrue (is_sane_job r.job) };

@@ -4,9 +4,10 @@ ghost use Rattle.std.specs.Prelude.{◌≡◌};
 ghost use Rattle.nqs_records.specs.Reading.{Answers};
 ghost use Rattle.nqs_snapshot.specs.Readings.{phase_of, phase_at, hand_at, promise_at, peer_at, stage_at, file_at};
 
-use crate::lists::Read;
+use crate::lists::InSnapshot;
 use nqs_records::{
-    RecordFault, read_extent, read_host, read_id, read_name, read_path, read_u8_at_most, read_u64,
+    Read, RecordFault, read_extent, read_host, read_id, read_name, read_path, read_u8_at_most,
+    read_u64,
 };
 use nqs_types::{FileOut, Hand, Peer, Phase, Promise, Row, Stage};
 use std::alloc::Global;
@@ -28,7 +29,7 @@ fn read_phase(bytes: &[u8], place: u64) -> Result<(Phase, u64), RecordFault>
     Ok((phase_of(number), next))
 }
 
-impl Read for Hand {
+impl Read<InSnapshot> for Hand {
     ghost at = { hand_at };
 
     #[tactic(auto, unfolding(crate::specs::Readings::hand_at))]
@@ -51,7 +52,7 @@ impl Read for Hand {
     }
 }
 
-impl Read for Promise {
+impl Read<InSnapshot> for Promise {
     ghost at = { promise_at };
 
     #[tactic(auto, unfolding(crate::specs::Readings::promise_at))]
@@ -63,7 +64,7 @@ impl Read for Promise {
     }
 }
 
-impl Read for Peer {
+impl Read<InSnapshot> for Peer {
     ghost at = { peer_at };
 
     #[tactic(auto, unfolding(crate::specs::Readings::peer_at))]
@@ -84,7 +85,7 @@ impl Read for Peer {
     }
 }
 
-impl Read for Stage {
+impl Read<InSnapshot> for Stage {
     ghost at = { stage_at };
 
     #[tactic(auto, unfolding(crate::specs::Readings::stage_at))]
@@ -103,7 +104,7 @@ impl Read for Stage {
     }
 }
 
-impl Read for FileOut {
+impl Read<InSnapshot> for FileOut {
     ghost at = { file_at };
 
     #[tactic(auto, unfolding(crate::specs::Readings::file_at))]

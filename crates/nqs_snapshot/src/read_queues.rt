@@ -5,10 +5,10 @@ ghost use Rattle.nqs_records.specs.Reading.{Answers};
 ghost use Rattle.nqs_records.specs.Fields.{u16_at, name_at, opt_at};
 ghost use Rattle.nqs_snapshot.specs.Readings.{many_at, kind_of, kind_at, access_at, limits_at, dest_at, settings_at, queue_at, complex_at, device_at};
 
-use crate::lists::{Read, read_list};
+use crate::lists::{InSnapshot, read_list};
 use nqs_base::Name;
 use nqs_records::{
-    RecordFault, read_bool, read_host, read_name, read_opt_u64, read_u8_at_most, read_u16,
+    Read, RecordFault, read_bool, read_host, read_name, read_opt_u64, read_u8_at_most, read_u16,
 };
 use nqs_types::{Access, ComplexDef, Dest, DeviceDef, Kind, Limits, QueueDef};
 use std::alloc::Global;
@@ -105,7 +105,7 @@ fn read_settings(bytes: &[u8], place: u64) -> Result<(Settings, u64), RecordFaul
     Ok((settings, place))
 }
 
-impl Read for Name {
+impl Read<InSnapshot> for Name {
     ghost at = { name_at };
 
     fn read(_alloc: Global, bytes: &[u8], place: u64) -> Result<(Name, u64), RecordFault> {
@@ -122,7 +122,7 @@ pub(crate) fn read_dest(bytes: &[u8], place: u64) -> Result<(Dest, u64), RecordF
     Ok((Dest { queue, host }, end))
 }
 
-impl Read for Dest {
+impl Read<InSnapshot> for Dest {
     ghost at = { dest_at };
 
     fn read(_alloc: Global, bytes: &[u8], place: u64) -> Result<(Dest, u64), RecordFault> {
@@ -130,7 +130,7 @@ impl Read for Dest {
     }
 }
 
-impl Read for QueueDef {
+impl Read<InSnapshot> for QueueDef {
     ghost at = { queue_at };
 
     #[tactic(auto, unfolding(crate::specs::Readings::queue_at))]
@@ -157,7 +157,7 @@ impl Read for QueueDef {
     }
 }
 
-impl Read for ComplexDef {
+impl Read<InSnapshot> for ComplexDef {
     ghost at = { complex_at };
 
     #[tactic(auto, unfolding(crate::specs::Readings::complex_at))]
@@ -174,7 +174,7 @@ impl Read for ComplexDef {
     }
 }
 
-impl Read for DeviceDef {
+impl Read<InSnapshot> for DeviceDef {
     ghost at = { device_at };
 
     #[tactic(auto, unfolding(crate::specs::Readings::device_at))]

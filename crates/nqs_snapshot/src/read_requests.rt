@@ -4,12 +4,12 @@ ghost use Rattle.std.specs.Prelude.{◌≡◌};
 ghost use Rattle.nqs_records.specs.Reading.{Answers};
 ghost use Rattle.nqs_snapshot.specs.Readings.{row_state_of, row_state_at, hold_of, hold_at, refused_at, course_at, row_at};
 
-use crate::lists::{Read, read_list};
+use crate::lists::{InSnapshot, read_list};
 use crate::read_queues::read_dest;
 use nqs_base::Name;
 use nqs_records::{
-    RecordFault, read_bool, read_extent, read_id, read_job, read_name, read_opt_name, read_u8,
-    read_u8_at_most, read_u16, read_u64,
+    Read, RecordFault, read_bool, read_extent, read_id, read_job, read_name, read_opt_name,
+    read_u8, read_u8_at_most, read_u16, read_u64,
 };
 use nqs_types::{Hold, Refused, Row, RowState};
 use std::alloc::Global;
@@ -64,7 +64,7 @@ fn read_hold(bytes: &[u8], place: u64) -> Result<(Hold, u64), RecordFault>
     Ok((hold_of(number), next))
 }
 
-impl Read for Refused {
+impl Read<InSnapshot> for Refused {
     ghost at = { refused_at };
 
     #[tactic(auto, unfolding(crate::specs::Readings::refused_at))]
@@ -102,7 +102,7 @@ fn read_course(bytes: &[u8], place: u64) -> Result<(Course, u64), RecordFault>
     Ok((course, place))
 }
 
-impl Read for Row {
+impl Read<InSnapshot> for Row {
     ghost at = { row_at };
 
     #[tactic(auto, unfolding(crate::specs::Readings::row_at))]

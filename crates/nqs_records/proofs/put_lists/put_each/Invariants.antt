@@ -1,7 +1,7 @@
 use Rattle.std.proofs.Common.{◌≡◌, ◌++◌, length}
 use Rattle.std.specs.Prelude.{flat_map}
 use Rattle.std.specs.List.{AllByRecursion}
-use Rattle.nqs_snapshot.proofs.field.put_each.Given as goal
+use Rattle.nqs_records.proofs.put_lists.put_each.Given as goal
 
 -- what is there and the rest are the whole
 abbrev pub invariant-loop-item : goal.invariant-loop-item

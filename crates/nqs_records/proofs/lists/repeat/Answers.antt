@@ -2,7 +2,7 @@ use Rattle.std.proofs.Common.{◌≡◌, ℕ, suc, ◌-◌, Ok, refl, sym, ap, �
 use Rattle.std.proofs.lemmas.Result.{err_from_is_err_and}
 use Rattle.nqs_records.specs.Reading.{repeated}
 use Rattle.nqs_records.proofs.Fronts.{after, one_more, stops, all_read}
-use Rattle.nqs_snapshot.proofs.lists.repeat.Goals as goal
+use Rattle.nqs_records.proofs.lists.repeat.Goals as goal
 
 pub returns-in_err-item : goal.returns-in_err-item
 returns-in_err-item g c =
