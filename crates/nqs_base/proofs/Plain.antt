@@ -1,8 +1,9 @@
 -- Small facts of numbers, tests and lists, for the proofs of all crates.
-use Rattle.std.proofs.Common.{◌≡◌, ℕ, zero, suc, ◌+◌, ◌<◌, ◌≤◌, nat_lt, Bool, true, false, ◌&&◌, cond, List, [], ◌∷◌, ◌++◌, map, length, take, drop, find, sum}
-use Rattle.std.proofs.Common.{get_or, slice_get, Option, None, Some, is_some, option_map, Result, Ok, Err, OnOk, IsErrOf, IsTrue, refl, sym, ap, ◌∙◌, arith, length-append}
-use Rattle.std.specs.List.{list_all, AllByRecursion}
-use Rattle.std.proofs.lemmas.Bool.{and_from}
+use Rattle.std.proofs.Common.{◌≡◌, ℕ, zero, suc, ◌+◌, ◌<◌, ◌≤◌, nat_lt, Bool, true, false, ◌&&◌, cond, List, [], ◌∷◌, ◌++◌, map, length, take, drop, find}
+use Rattle.std.proofs.Common.{sum, get_or, slice_get, Option, None, Some, is_some, option_map, Result, Ok, Err, OnOk, IsErrOf, IsTrue, refl, sym, ap, ◌∙◌}
+use Rattle.std.proofs.Common.{arith, length-append, ◌-◌, true≢false, ◌||◌, filter, subst}
+use Rattle.std.specs.List.{list_all, AllByRecursion, list_any}
+use Rattle.std.proofs.lemmas.Bool.{and_from, and_parts, or_from}
 use Rattle.std.proofs.lemmas.Bool.Decides.{nat_tests}
 use Rattle.std.proofs.lemmas.Option.{same_Some, none-some}
 use Rattle.std.proofs.lemmas.List.{drop-drop, drop_at}
@@ -17,6 +18,13 @@ lt_itself a = grind (arith, nat_tests)
 -- of two numbers only one is below the other
 pub no_two : {P : Type 0} (a b : ℕ) → a < b → b ≤ a → P
 no_two a b less past = absurd (omega arith)
+
+-- what is left of a number behind one below it, and behind another
+pub one_left : (m k : ℕ) → nat_lt k m ≡ true → m - k ≡ suc (m - (k + 1))
+one_left m k h = grind (arith, nat_tests)
+
+pub none_left : (m k : ℕ) → nat_lt k m ≡ false → m - k ≡ 0
+none_left m k h = grind (arith, nat_tests)
 
 -- a test that passes doesn't fail
 pub refuted : (test : Bool) → IsTrue test → test ≡ false → ⊥
@@ -79,6 +87,45 @@ found_passes test (x ∷ vs) v h = by (test x) refl (found_passes test vs v) h
     by true e rest h = ap test (sym (same_Some x v h)) ∙ e
     by false e rest h = rest h
 
+-- what is found and kept is found in what is kept
+pub find_in_filter : {V : Type 0} (test keep : V → Bool) (vs : List V) (v : V) → find test vs ≡ Some v → keep v ≡ true → find test (filter keep vs) ≡ Some v
+find_in_filter test keep [] v e k = absurd (none-some v e)
+find_in_filter test keep (x ∷ vs) v e k = by (keep x) refl (test x) refl e (find_in_filter test keep vs v)
+  where
+    by : (a : Bool) → keep x ≡ a → (b : Bool) → test x ≡ b → cond b (Some x) (find test vs) ≡ Some v
+        → (find test vs ≡ Some v → keep v ≡ true → find test (filter keep vs) ≡ Some v) → find test (cond a (x ∷ filter keep vs) (filter keep vs)) ≡ Some v
+    by true f true g e rest = ap (λ b. cond b (Some x) (find test (filter keep vs))) g ∙ e
+    by true f false g e rest = ap (λ b. cond b (Some x) (find test (filter keep vs))) g ∙ rest e k
+    by false f true g e rest = absurd (true≢false (sym k ∙ (ap keep (sym (same_Some x v e)) ∙ f)))
+    by false f false g e rest = rest e k
+
+-- a test is passed by one of those that are kept where it is by one of all, if all that pass are
+-- kept
+pub any_kept : {V : Type 0} (test keep : V → Bool) → ((v : V) → test v ≡ true → keep v ≡ true) → (vs : List V) → list_any test (filter keep vs)
+    ≡ list_any test vs
+any_kept test keep wide [] = refl
+any_kept test keep wide (x ∷ vs) = by (keep x) refl (test x) refl (any_kept test keep wide vs)
+  where
+    by : (b : Bool) → keep x ≡ b → (c : Bool) → test x ≡ c → list_any test (filter keep vs) ≡ list_any test vs
+        → list_any test (cond b (x ∷ filter keep vs) (filter keep vs)) ≡ (c || list_any test vs)
+    by true e c k rest = (λ j. k j || rest j)
+    by false e true k rest = absurd (true≢false (sym (wide x k) ∙ e))
+    by false e false k rest = rest
+
+-- none passes what the one at each place doesn't
+pub any_false : {V : Type 0} (p : V → Bool) (vs : List V) → ((n : ℕ) (v : V) → slice_get vs n ≡ Some v → p v ≡ false) → list_any p vs ≡ false
+any_false p [] none = refl
+any_false p (v ∷ vs) none = or_from (p v) (list_any p vs) (none 0 v refl) (any_false p vs (λ n w at. none (suc n) w at))
+
+-- where nothing passes a test, nothing passes a narrower one
+pub none_narrower : {V : Type 0} (t u : V → Bool) → ((v : V) → t v ≡ false → u v ≡ false) → (vs : List V) → list_any t vs ≡ false → list_any u vs ≡ false
+none_narrower t u narrower [] none = refl
+none_narrower t u narrower (x ∷ vs) none = by (t x) refl none (none_narrower t u narrower vs)
+  where
+    by : (b : Bool) → t x ≡ b → (b || list_any t vs) ≡ false → (list_any t vs ≡ false → list_any u vs ≡ false) → list_any u (x ∷ vs) ≡ false
+    by true e none rest = absurd (true≢false none)
+    by false e none rest = ap (λ b. b || list_any u vs) (narrower x e) ∙ rest none
+
 -- all pass what each passes
 pub all-true : {V : Type 0} (vs : List V) → list_all (λ _. true) vs ≡ true
 all-true [] = refl
@@ -93,6 +140,22 @@ all_places p (v ∷ vs) h = and_from (p v) (list_all p vs) (h 0 v refl) (all_pla
 pub all_weaker : {V : Type 0} (P Q : V → Type 0) → ((v : V) → P v → Q v) → (vs : List V) → AllByRecursion P vs → AllByRecursion Q vs
 all_weaker P Q f [] all = tt
 all_weaker P Q f (v ∷ vs) all = (f v all.0, all_weaker P Q f vs all.1)
+
+-- what each has, the one at a place has
+pub all_at : {V : Type 0} (P : V → Type 0) (vs : List V) (n : ℕ) (v : V) → AllByRecursion P vs → slice_get vs n ≡ Some v → P v
+all_at P [] n v all e = absurd (none-some v e)
+all_at P (x ∷ vs) zero v all e = subst P (same_Some x v e) all.0
+all_at P (x ∷ vs) (suc n) v all e = all_at P vs n v all.1 e
+
+-- what each that passes a test has
+pub each_is : {V : Type 0} (p : V → Bool) (Is : V → Type 0) → ((v : V) → p v ≡ true → Is v) → (vs : List V) → list_all p vs ≡ true → AllByRecursion Is vs
+each_is p Is to [] all = tt
+each_is p Is to (v ∷ vs) all = let k = and_parts (p v) (list_all p vs) all in (to v k.0, each_is p Is to vs k.1)
+
+-- the test that each that has something passes
+pub all_pass : {V : Type 0} (P : V → Type 0) (q : V → Bool) → ((v : V) → P v → q v ≡ true) → (vs : List V) → AllByRecursion P vs → list_all q vs ≡ true
+all_pass P q to [] all = refl
+all_pass P q to (v ∷ vs) all = and_from (q v) (list_all q vs) (to v all.0) (all_pass P q to vs all.1)
 
 -- a sum, its first part aside
 pub sum_cons : {V : Type 0} (w : V → ℕ) (v : V) (vs : List V) → sum (map w (v ∷ vs)) ≡ w v + sum (map w vs)

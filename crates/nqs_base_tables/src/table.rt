@@ -3,7 +3,7 @@
 ghost use Rattle.std.specs.Prelude.{◌≡◌, ℕ, ◌+◌, ◌-◌, ◌≤◌, ◌<◌, [], ◌∷◌, ◌++◌, length, map, position, find, Some, None, OnOk, OnErr, IsOk, IfSome, Bool};
 ghost use Rattle.std.specs.Prelude.{Option, Contains, filter, if◌then◌else◌, slice_get, slice_set, remove, true, false};
 ghost use Rattle.std.specs.Option.{option_copied, option_map};
-ghost use Rattle.nqs_base_tables.specs.Table.{has_key, change_first, without_first, better, best_from};
+ghost use Rattle.nqs_base_tables.specs.Table.{has_key, change_first, without_first, is_beaten, with_value, best_from};
 ghost use Rattle.std.specs.List.{filter_map, list_all, list_any};
 ghost use Rattle.std.specs.Fn.{FnOnceReturnsAtMut, FnReturnsAt, FnReturnsAtPair};
 ghost use Rattle.std.specs.Map.Calls.{CalledAtPair};
@@ -244,7 +244,7 @@ impl<K: Key, V: Keyed<K> + Drop> Table<K, V> {
     }
 
     /// The best of the values that pass, with its place: none that passes beats it, and of several
-    /// such it is the first.
+    /// such it is the first. A value that the best so far beats isn't tested.
     pub fn best<P: Fn(&V) -> bool, B: Fn(&V, &V) -> bool>(
         &self,
         passes: P,
@@ -262,34 +262,43 @@ impl<K: Key, V: Keyed<K> + Drop> Table<K, V> {
         while place > 0 {
             place -= 1;
             slot = self.slots.previous(slot);
-            let value = self.slots.value(slot);
-            if passes(value) {
-                best = better(place, value, best, &beats);
-            }
+            best = with_value(place, self.slots.value(slot), best, &passes, &beats);
         }
         best
     }
 }
 
-// The better of a value and the best of the later ones.
-fn better<'a, V, B: Fn(&V, &V) -> bool>(
+// Whether the best so far beats the value.
+fn is_beaten<V, B: Fn(&V, &V) -> bool>(value: &V, best: Option<(usize, &V)>, beats: &B) -> bool
+    requires { B.IsAlwaysCallable beats.now }
+    ensures { (b : V → V → Bool) → ((u v : V) (r : Bool) → FnReturnsAtPair B.Fn beats.now u v r → r ≡ b u v)
+        → result ≡ is_beaten b value.now (option_map (λ x. (x.0, x.1.now)) best.entry) }
+{
+    match best {
+        None => false,
+        Some((_, other)) => beats(other, value),
+    }
+}
+
+// The better of a value, if it passes, and the best of the later ones.
+fn with_value<'a, V, P: Fn(&V) -> bool, B: Fn(&V, &V) -> bool>(
     place: usize,
     value: &'a V,
     best: Option<(usize, &'a V)>,
+    passes: &P,
     beats: &B,
 ) -> Option<(usize, &'a V)>
-    requires { B.IsAlwaysCallable beats.now }
-    ensures { (b : V → V → Bool) → ((u v : V) (r : Bool) → FnReturnsAtPair B.Fn beats.now u v r → r ≡ b u v)
-        → option_map (λ x. (x.0, x.1.now)) result ≡ better b (place, value.now) (option_map (λ x. (x.0, x.1.now)) best.entry) }
+    requires passes { P.IsAlwaysCallable passes.now }
+    requires beats { B.IsAlwaysCallable beats.now }
+    ensures { (p : V → Bool) (b : V → V → Bool) → ((v : V) (r : Bool) → FnReturnsAt P.Fn passes.now v r → r ≡ p v)
+        → ((u v : V) (r : Bool) → FnReturnsAtPair B.Fn beats.now u v r → r ≡ b u v)
+        → option_map (λ x. (x.0, x.1.now)) result ≡ with_value p b (place, value.now) (option_map (λ x. (x.0, x.1.now)) best.entry) }
 {
-    match best {
-        None => Some((place, value)),
-        Some((later, other)) => {
-            if beats(other, value) {
-                Some((later, other))
-            } else {
-                Some((place, value))
-            }
-        }
+    if is_beaten(value, best, beats) {
+        return best;
     }
+    if passes(value) {
+        return Some((place, value));
+    }
+    best
 }

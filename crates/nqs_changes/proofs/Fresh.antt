@@ -6,6 +6,7 @@ use Rattle.nqs_state.specs.State.{State}
 use Rattle.nqs_types.specs.Ids.{peer_number_eq, peer_number_exact, stage_key}
 use Rattle.nqs_state.specs.Keys.{is_hand, is_stage, is_file}
 use Rattle.nqs_base.specs.Path.{is_path}
+use Rattle.nqs_base.proofs.Plain.{none_narrower}
 use Rattle.nqs_types.specs.declared.ids.HostId.{HostId}
 use Rattle.nqs_types.specs.declared.request.Hand.{Hand}
 use Rattle.nqs_types.specs.declared.request.Peer.{Peer}
@@ -15,15 +16,6 @@ use Rattle.nqs_rules.specs.Routing.{is_hand_to}
 use Rattle.nqs_rules.specs.InOrder.{IsInOrder, is_given, is_file_right, is_stage_right, is_stage_given}
 use Rattle.nqs_rules.proofs.KeyFacts.{none_from_all}
 use Rattle.nqs_rules.proofs.OutputsOrder.{not_given}
-
--- where nothing passes a test, nothing passes a narrower one
-pub none_narrower : {V : Type 0} (t u : V → Bool) → ((v : V) → t v ≡ false → u v ≡ false) → (vs : List V) → list_any t vs ≡ false → list_any u vs ≡ false
-none_narrower t u narrower [] none = refl
-none_narrower t u narrower (x ∷ vs) none = by (t x) refl none (none_narrower t u narrower vs)
-  where
-    by : (b : Bool) → t x ≡ b → (b || list_any t vs) ≡ false → (list_any t vs ≡ false → list_any u vs ≡ false) → list_any u (x ∷ vs) ≡ false
-    by true e none rest = absurd (true≢false none)
-    by false e none rest = ap (λ b. b || list_any u vs) (narrower x e) ∙ rest none
 
 -- where nothing passes a test, nothing does in a part of the list
 pub none_filtered : {V : Type 0} (t keep : V → Bool) (vs : List V) → list_any t vs ≡ false → list_any t (filter keep vs) ≡ false

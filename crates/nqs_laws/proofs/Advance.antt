@@ -44,6 +44,7 @@ use Rattle.nqs_rules.proofs.PeersOrder.{get-other}
 use Rattle.nqs_rules.proofs.HandoversOrder.{not_committed, still_offered, silent_one}
 use Rattle.nqs_rules.proofs.ConsistentOrder.{silent_calm_one}
 use Rattle.nqs_rules.proofs.OutputsKept.{file_keeps, outputs_keep}
+use Rattle.nqs_rules.proofs.OutputsOrder.{put_twice}
 use Rattle.nqs_laws.specs.Loads.{sent_load}
 use Rattle.nqs_laws.proofs.Frame.{put_state, put-same}
 use Rattle.nqs_laws.proofs.Sound.{get-here}
@@ -55,7 +56,7 @@ use Rattle.nqs_laws.proofs.Views.{Pledging, host_exact, host_same}
 use Rattle.nqs_laws.proofs.Turns.{to_move, from_move, deleted_move, offers_by, sources, silent_source}
 use Rattle.nqs_laws.proofs.Targets.{targets, silent_target, fewer, lone_kept}
 use Rattle.nqs_laws.proofs.Paired.{At, IsPaired, Turn, GuardsOf, IsOne, turn_paired}
-use Rattle.nqs_laws.proofs.PairedRuns.{one_side, put-twice, silent_guards}
+use Rattle.nqs_laws.proofs.PairedRuns.{one_side, silent_guards}
 use Rattle.nqs_laws.proofs.Tabled.{Place, Nowhere, Sits, Arrives, row_in, Table, IsTabled, IsHeldMove, held_or, updated, placed_at, rows_tabled}
 
 -- the last number given grows
@@ -319,7 +320,7 @@ silent_tabled until (n ∷ ks) states packets h s there me o calm fit k table to
         (λ l. still_offered s o n l) ks rest) (turn_paired states packets h s u there to from turn guards k) (row_table h u table) first in
         same_table (put_state h z states) (row_table h z (row_table h u table)) (row_table h z table)
         (λ x. updated_twice h (find_row x u) (find_row x z) (table x))
-        (subst (λ l. IsTabled l (row_table h z (row_table h u table))) (put-twice h.0 z u states) rest_told)
+        (subst (λ l. IsTabled l (row_table h z (row_table h u table))) (put_twice h.0 (λ _. u) z states) rest_told)
       where
         gone : (x : Request) → find_row x s ≡ None → changed_at y.id requeued_row x (find_row x s) ≡ None
         gone x none = ap (changed_at y.id requeued_row x) none ∙ changed_none y.id requeued_row x

@@ -7,7 +7,7 @@ use Rattle.std.proofs.lemmas.List.{map-append}
 use Rattle.std.proofs.lemmas.List.Folds.{list_any-append}
 use Rattle.std.specs.List.{list_any, AllByRecursion}
 use Rattle.nqs_types.specs.Ids.{id_eq, id_exact}
-use Rattle.nqs_base.proofs.Plain.{all_weaker}
+use Rattle.nqs_base.proofs.Plain.{all_weaker, find_in_filter}
 use Rattle.nqs_state.specs.State.{Plain}
 use Rattle.nqs_state.specs.Keys.{is_row}
 use Rattle.nqs_types.specs.declared.ids.HostId.{HostId}
@@ -285,17 +285,6 @@ module _ (states : List Plain) (table : Table) (told : IsTabled states table) (o
           → (t (g x) || list_any t (map g vs)) ≡ true
       by true e rest = or_left (t (g x)) (list_any t (map g vs)) (ap (λ y. t (g y)) (same_Some x v e) ∙ k)
       by false e rest = or_right (t (g x)) (list_any t (map g vs)) (rest e k)
-
-  find_in_filter : (u keep : Pledging → Bool) (ps : List Pledging) (p : Pledging) → find u ps ≡ Some p → keep p ≡ true → find u (filter keep ps) ≡ Some p
-  find_in_filter u keep [] p e k = absurd (none-some p e)
-  find_in_filter u keep (q ∷ ps) p e k = by (keep q) refl (u q) refl e (find_in_filter u keep ps p)
-    where
-      by : (a : Bool) → keep q ≡ a → (b : Bool) → u q ≡ b → cond b (Some q) (find u ps) ≡ Some p
-          → (find u ps ≡ Some p → keep p ≡ true → find u (filter keep ps) ≡ Some p) → find u (cond a (q ∷ filter keep ps) (filter keep ps)) ≡ Some p
-      by true f true g e rest = ap (λ b. cond b (Some q) (find u (filter keep ps))) g ∙ e
-      by true f false g e rest = ap (λ b. cond b (Some q) (find u (filter keep ps))) g ∙ rest e k
-      by false f true g e rest = absurd (true≢false (sym k ∙ (ap keep (sym (same_Some q p e)) ∙ f)))
-      by false f false g e rest = rest e k
 
   listed_there : (x : Request) (t : Place) → table x ≡ t → (t ≡ Nowhere → ⊥) → list_any (λ (e : Entry). id_eq x e.id) (entries states) ≡ true
   listed_there x Nowhere e some = absurd (some refl)

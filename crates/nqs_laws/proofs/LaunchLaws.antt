@@ -43,8 +43,9 @@ use Rattle.nqs_laws.proofs.Away.{new_away}
 use Rattle.nqs_laws.proofs.LicensedRuns.{IsHistory, history_keeps}
 use Rattle.nqs_laws.proofs.Walks.{pending_at, pending-append, launches-append}
 use Rattle.nqs_laws.proofs.Launched.{Launching, Nothing, One, seen_by, way_launches, idle_launches}
-use Rattle.nqs_laws.proofs.LaunchRuns.{IsGiven, IsPast, HasLaunches, all_past, quiet_more, launch_more, kept_more}
+use Rattle.nqs_laws.proofs.LaunchRuns.{IsGiven, IsPast, HasLaunches, quiet_more, launch_more, kept_more}
 use Rattle.std.proofs.lemmas.List.{append-nil}
+use Rattle.nqs_base.proofs.Plain.{all_weaker}
 
 -- where requests lie
 
@@ -148,7 +149,7 @@ module _ (site : List (List ℕ)) (first : List Plain) (m : Moment) (sound : IsS
         subst (HasLaunches first states) (append_assoc m.notes (note ∷ []) (Saw y ∷ []))
         (launch_more first states (m.notes ++ note ∷ []) kept y l tells h begun (told states begun)
         (lies_given site (silent m h s (why_by way) c) then_sound then_net r.id (row_entry h (started_row device r)) lies)
-        (subst (AllByRecursion _) same (all_past (IsPast m.states) _ (λ q p e.
+        (subst (AllByRecursion _) same (all_weaker (IsPast m.states) _ (λ q p e.
         (let less = p.before (row_entry h r) ((λ j. entry_of (e j) m.states) ∙ before) in omega (arith, less))) (launches m.notes) k.has.past)) still_calm)
 
   made_more : ((c : Change (List ℕ)) → change_by way ≡ Some c → Suits s c) → Launching h s (length m.packets) way

@@ -5,6 +5,7 @@ use Rattle.std.proofs.lemmas.Bool.{and_parts, and_from, eqb-true, eq-eqb, or_fro
 use Rattle.std.proofs.lemmas.Option.{same_Some, none-some}
 use Rattle.std.proofs.lemmas.List.{append-nil}
 use Rattle.std.specs.List.{list_any, cons_option, AllByRecursion}
+use Rattle.nqs_base.proofs.Plain.{all_weaker}
 use Rattle.nqs_types.specs.Ids.{id_eq, id_exact}
 use Rattle.nqs_state.specs.State.{Plain}
 use Rattle.nqs_types.specs.declared.ids.HostId.{HostId}
@@ -56,10 +57,6 @@ pub record HasLaunches (first states : List Plain) (ns : List Note) : Type 0 whe
   pub started : AreStarted first ns
 
 -- lists of launches
-
-pub all_past : (P Q : Launch → Type 0) → ((l : Launch) → P l → Q l) → (ls : List Launch) → AllByRecursion P ls → AllByRecursion Q ls
-all_past P Q f [] all = tt
-all_past P Q f (l ∷ ls) all = (f l all.0, all_past P Q f ls all.1)
 
 past_added : (P : Launch → Type 0) (ls : List Launch) (l : Launch) → AllByRecursion P ls → P l → AllByRecursion P (ls ++ l ∷ [])
 past_added P [] l all p = (p, tt)
@@ -239,7 +236,7 @@ module _ (site : List (List ℕ)) (first : List Plain) (m : Moment) (sound : IsS
       record {
         leads = replayed-append m.notes (note ∷ []) first ∙ after;
         distinct = ap (are_distinct same_launch) same ∙ p.distinct;
-        past = subst (AllByRecursion (IsPast later)) (sym same) (all_past (IsPast m.states) (IsPast later) past_kept (launches m.notes) p.past);
+        past = subst (AllByRecursion (IsPast later)) (sym same) (all_weaker (IsPast m.states) (IsPast later) past_kept (launches m.notes) p.past);
         apart = λ x. apart-append x m.notes (note ∷ []) first false (p.apart x) ((λ t. absurd (true≢false (sym t))), tt);
         pending = λ x q. by x (pending_at x first false m.notes) refl (sym
             (pending-append x m.notes (note ∷ []) first false ∙ (λ j. pending_at x first false m.notes

@@ -4,6 +4,7 @@ use Rattle.std.proofs.Common.{suc, refl, sym, ap, subst, ◌∙◌, if◌then◌
 use Rattle.std.proofs.lemmas.Bool.{and_from, eq-eqb}
 use Rattle.std.proofs.lemmas.Option.{same_Some, none-some}
 use Rattle.std.specs.List.{list_any, AllByRecursion}
+use Rattle.nqs_base.proofs.Plain.{all_at}
 use Rattle.nqs_types.specs.Ids.{peer_number_eq, peer_number_exact, hand_key}
 use Rattle.nqs_state.specs.State.{Plain}
 use Rattle.nqs_state.specs.Keys.{is_hand, is_promise}
@@ -224,11 +225,6 @@ sent_before (x ∷ xs) ys (suc k) v e = by (sent_before xs ys k v e)
         → ((i : ℕ) × (slice_get (x ∷ xs) i ≡ Some v)) ⊎ ((i : ℕ) × (slice_get ys i ≡ Some v))
     by (inl (i, f)) = inl (suc i, f)
     by (inr f) = inr f
-
-pub all_at : {V : Type 0} (P : V → Type 0) (vs : List V) (k : ℕ) (v : V) → AllByRecursion P vs → slice_get vs k ≡ Some v → P v
-all_at P [] k v all e = absurd (none-some v e)
-all_at P (x ∷ vs) zero v all e = subst P (same_Some x v e) all.0
-all_at P (x ∷ vs) (suc k) v all e = all_at P vs k v all.1 e
 
 pub more_words : (states : List Plain) (packets sent : List Message) → IsPaired states packets → AllByRecursion (IsTrueWord states) sent
     → IsPaired states (packets ++ sent)

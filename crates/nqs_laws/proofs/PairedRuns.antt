@@ -1,6 +1,6 @@
 -- What holds of each pair of hosts and of each message holds at every moment of a run.
 use Rattle.std.proofs.Common.{◌≡◌, ℕ, ◌<◌, ◌⊎◌, inl, inr, Bool, true, false, if◌then◌else◌, List, [], ◌∷◌, ◌++◌, map, find, slice_get, Option, None, Some}
-use Rattle.std.proofs.Common.{zero, suc, refl, sym, ap, subst, ◌∙◌}
+use Rattle.std.proofs.Common.{refl, sym, ap, subst, ◌∙◌}
 use Rattle.std.proofs.lemmas.Bool.{and_parts}
 use Rattle.std.specs.List.{list_all, AllByRecursion, filter_map, cons_option}
 use Rattle.nqs_state.specs.State.{Plain}
@@ -23,7 +23,6 @@ use Rattle.nqs_types.specs.declared.event.Output.{Output}
 use Rattle.nqs_types.specs.declared.event.Output.TheVariants as out
 use Rattle.nqs_rules.specs.Tests.{is_offered, is_running, same_host}
 use Rattle.nqs_rules.specs.Find.{find_row, find_hand}
-use Rattle.nqs_rules.specs.Edits.{change_at}
 use Rattle.nqs_rules.specs.Handover.{carried_of}
 use Rattle.nqs_rules.specs.Routing.{is_hand_to}
 use Rattle.nqs_rules.specs.Applied.{applied, hand_silent, hands_silent, may_start_again}
@@ -36,6 +35,7 @@ use Rattle.nqs_rules.specs.InOrder.{IsInOrder, IsConsistent}
 use Rattle.nqs_rules.proofs.ListFacts.{list_all-weaker}
 use Rattle.nqs_rules.proofs.HandoversOrder.{not_committed, offer_or_none, still_offered, silent_one}
 use Rattle.nqs_rules.proofs.ConsistentOrder.{silent_calm_one}
+use Rattle.nqs_rules.proofs.OutputsOrder.{put_twice}
 use Rattle.nqs_laws.proofs.Frame.{Moment, put_state, put-same, WasSent, Comes, Way, Taken, Begun, Booted, change_by, outputs_by, sent_in}
 use Rattle.nqs_laws.proofs.Sound.{IsHost, IsSound, Keeps, Suits, get-here}
 use Rattle.nqs_laws.specs.Loads.{Load, offered_load, sent_load}
@@ -63,12 +63,6 @@ pub silent_or_one : (c : Change (List ℕ)) → IsOne c ⊎ ((until : ℕ) × (k
 silent_or_one (HandsSilent until ks) = inr (until, ks, refl)
 silent_or_one (Edited e) = inl (λ until ks e. let no : ⊥ = cc in no)
 silent_or_one c = inl (λ until ks e. let no : ⊥ = cc in no)
-
--- a state that is put twice
-pub put-twice : {V : Type 0} (n : ℕ) (u v : V) (vs : List V) → change_at n (λ _. u) (change_at n (λ _. v) vs) ≡ change_at n (λ _. u) vs
-put-twice n u v [] = refl
-put-twice zero u v (x ∷ vs) = refl
-put-twice (suc n) u v (x ∷ vs) = ap (λ l. x ∷ l) (put-twice n u v vs)
 
 -- a silent offer may be taken back
 pub silent_guards : (until : ℕ) (states : List Plain) (packets : List Message) (h : HostId) (s : Plain) (there : At states h s) (o : IsInOrder s)
@@ -111,7 +105,7 @@ silent_paired until (n ∷ ks) states packets h s there o calm fit k =
           side = inl (λ a. refl);
         } in
         let guards : Guards states h s to from = silent_guards until states packets h s there o k n y e opens in
-        subst (λ l. IsPaired l packets) (put-twice h.0 (hands_silent until ks u) u states)
+        subst (λ l. IsPaired l packets) (put_twice h.0 (λ _. u) (hands_silent until ks u) states)
         (again (put_state h u states) packets h u (get-here h.0 u s states there) (silent_one s o n y e opens until)
         (silent_calm_one s o calm n y e opens until)
         (list_all-weaker (λ l. not_committed (find_hand l.peer l.number s)) (λ l. not_committed (find (is_hand l) (without_first (is_hand n) s.hands)))

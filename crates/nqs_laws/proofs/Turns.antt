@@ -1,9 +1,10 @@
 -- What each change of a host makes of its part of the pairs.
-use Rattle.std.proofs.Common.{◌≡◌, ℕ, ◌+◌, ◌-◌, Bool, true, false, cond, not, ◌&&◌, ◌==◌, nat_lt, List, [], ◌∷◌, ◌++◌, filter, find, Option, None, Some}
+use Rattle.std.proofs.Common.{◌≡◌, ℕ, ◌+◌, ◌-◌, Bool, true, false, not, ◌&&◌, ◌==◌, nat_lt, List, [], ◌∷◌, ◌++◌, filter, find, Option, None, Some}
 use Rattle.std.proofs.Common.{true≢false, refl, sym, ap, subst, ◌∙◌, if◌then◌else◌}
 use Rattle.std.proofs.lemmas.Bool.{and_parts, eqb-true, not-true, false_from_ne_true}
-use Rattle.std.proofs.lemmas.Option.{same_Some, none-some}
+use Rattle.std.proofs.lemmas.Option.{same_Some}
 use Rattle.std.specs.List.{list_any}
+use Rattle.nqs_base.proofs.Plain.{find_in_filter}
 use Rattle.nqs_types.specs.Ids.{id_eq, id_exact}
 use Rattle.nqs_state.specs.State.{Plain}
 use Rattle.nqs_base_tables.specs.Table.{without_first}
@@ -225,25 +226,12 @@ keyed u y b hands found lone = find-without same_host (λ (z : Hand). z.peer) ho
 
 -- two offers to different hosts are of different requests
 module _ (s : Plain) (h : IsInOrder s) where
-  in_filter : (t : Hand → Bool) (hands : List Hand) (y : Hand) → find t hands ≡ Some y → is_offered_hand y ≡ true
-      → find t (filter is_offered_hand hands) ≡ Some y
-  in_filter t [] y found is = absurd (none-some y found)
-  in_filter t (z ∷ hands) y found is = by (is_offered_hand z) refl (t z) refl found (in_filter t hands y)
-    where
-      by : (a : Bool) → is_offered_hand z ≡ a → (b : Bool) → t z ≡ b → cond b (Some z) (find t hands) ≡ Some y
-          → (find t hands ≡ Some y → is_offered_hand y ≡ true → find t (filter is_offered_hand hands) ≡ Some y)
-          → find t (cond a (z ∷ filter is_offered_hand hands) (filter is_offered_hand hands)) ≡ Some y
-      by true e true f found rest = ap (λ b. cond b (Some z) (find t (filter is_offered_hand hands))) f ∙ found
-      by true e false f found rest = ap (λ b. cond b (Some z) (find t (filter is_offered_hand hands))) f ∙ rest found is
-      by false e true f found rest = absurd (true≢false (sym is ∙ (ap is_offered_hand (sym (same_Some z y found)) ∙ e)))
-      by false e false f found rest = rest found is
-
   same_offer : (u v : Hand → Bool) (y z : Hand) → find u s.hands ≡ Some y → find v s.hands ≡ Some z → is_offered_hand y ≡ true → is_offered_hand z ≡ true
       → id_eq z.id y.id ≡ true → y ≡ z
   same_offer u v y z found there a b same =
       let L = filter is_offered_hand s.hands in
-      let p = found_by_key id_eq (λ (w : Hand). w.id) id_exact same_id u L y (in_filter u s.hands y found a) h.offers in
-      let q = found_by_key id_eq (λ (w : Hand). w.id) id_exact same_id v L z (in_filter v s.hands z there b) h.offers in
+      let p = found_by_key id_eq (λ (w : Hand). w.id) id_exact same_id u L y (find_in_filter u is_offered_hand s.hands y found a) h.offers in
+      let q = found_by_key id_eq (λ (w : Hand). w.id) id_exact same_id v L z (find_in_filter v is_offered_hand s.hands z there b) h.offers in
       same_Some y z (sym p ∙ (ap (λ i. find (λ (w : Hand). id_eq i w.id) L) (sym (id_exact z.id y.id same)) ∙ q))
 
   -- the offer to another host is of another request

@@ -27,6 +27,7 @@ use Rattle.nqs_store.specs.Formatted.{IsFormatted}
 use Rattle.nqs_store.specs.Images.{IsTold}
 use Rattle.nqs_store.specs.Sound.{IsSoundHost}
 use Rattle.nqs_store.specs.declared.disks.Disks.{Disks}
+use Rattle.nqs_store.proofs.LeftAlone.{unused}
 use Rattle.nqs_node.specs.Nodes.{history_of, fails_of, active_of, content_of, Tells}
 use Rattle.nqs_node.specs.declared.node.Node.{Node}
 use Rattle.nqs_net.specs.Worlds.{IsDisk, AreInTurn, AreDisks, IsUp, IsSlot, AreSlots}
@@ -36,10 +37,6 @@ use Rattle.nqs_net.specs.declared.slot.UpHost.{UpHost}
 use Rattle.nqs_net.proofs.Coming.{told_here, uncalled_quiet}
 use Rattle.nqs_net.proofs.Turning.{kept_up}
 use Rattle.nqs_net.specs.Pasts.{HasCome}
-
--- an empty disk before any call
-abbrev pub unused : History
-unused = record { start = []; calls = [] }
 
 -- a disk that is as it was made
 still : (disk : MemDisk) → mem.history_of disk ≡ unused → ((i : ℕ) → mem.fails_of disk i ≡ false) → IsDisk None 0 (mem.history_of disk) (mem.fails_of disk)

@@ -1,12 +1,13 @@
 -- The parts of a run, and the disks after it.
 use Rattle.std.proofs.Common.{◌≡◌, ◌+◌, Bool, true, false, List, [], ◌++◌, length, refl, sym, ap, ◌∙◌}
-use Rattle.std.proofs.lemmas.List.{append_assoc, append-nil, length-append}
+use Rattle.std.proofs.lemmas.List.{append_assoc, length-append}
 use Rattle.nqs_types.specs.declared.world.Which.{Which}
 use Rattle.nqs_types.specs.declared.world.Which.TheVariants.{Root, Spool}
 use Rattle.nqs_outside.specs.History.{Call, History, moment, extended}
 use Rattle.nqs_rules.specs.Journals.{journal_on}
 use Rattle.nqs_store.specs.Hosts.{HostCall, same_disk, on, part}
 use Rattle.nqs_store.proofs.HostRuns.{part_own, part_other, part_append}
+use Rattle.nqs_store.proofs.Runs.{none_more}
 
 -- a journal stands on neither of the other disks
 
@@ -35,15 +36,12 @@ ran_more old xs ys which = ap (extended (old which)) (part_append which xs ys) �
     let e : extended h (part which xs ++ part which ys) ≡ extended (extended h (part which xs)) (part which ys) =
     λ j. record { start = h.start; calls = sym (append_assoc h.calls (part which xs) (part which ys)) j } in e)
 
-none_more : (h : History) → extended h [] ≡ h
-none_more h = ap (λ (l : List Call). let e : History = record { start = h.start; calls = l } in e) (append-nil h.calls)
-
 pub ran_none : (old : Which → History) (which : Which) → ran old [] which ≡ old which
-ran_none old which = none_more (old which)
+ran_none old which = sym (none_more (old which))
 
 -- a disk that has no part in a run stays
 pub ran_still : (old : Which → History) (run : List HostCall) (which : Which) → part which run ≡ [] → ran old run which ≡ old which
-ran_still old run which none = ap (extended (old which)) none ∙ none_more (old which)
+ran_still old run which none = ap (extended (old which)) none ∙ sym (none_more (old which))
 
 -- calls of one disk
 

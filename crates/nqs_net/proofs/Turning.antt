@@ -22,6 +22,7 @@ use Rattle.nqs_rules.specs.Stepped.{Stepped, shown, stored_parts}
 use Rattle.nqs_rules.specs.Notes.{Why, Note, Saw, Kept, saws, sights}
 use Rattle.nqs_rules.specs.World.{fuse_of, World as Network, Host, Ran, seen_of, Fate, Made, StoppedBefore, StoppedAfter, fate, host_of, put_host, emits}
 use Rattle.nqs_rules.specs.World.{ready, recorded, cut_off, stopped, used, change_fated, makes_change, carries_out, steps, then_noted, then_ran}
+use Rattle.nqs_rules.proofs.OutputsOrder.{put_twice}
 use Rattle.nqs_store.specs.Active.{IsActive, ready as ready_in, recorded as recorded_in}
 use Rattle.nqs_store.specs.Commits.{IsKept, IsCutAt}
 use Rattle.nqs_store.specs.Disks.{disk_at, histories_of, failing_of, contents}
@@ -33,7 +34,6 @@ use Rattle.nqs_disk.specs.contracts.mem_disk.MemDiskDisk.TheImpl.{ghosts}
 use Rattle.nqs_node.specs.declared.node.Node.{Node}
 use Rattle.nqs_store.specs.Sound.{IsSoundHost}
 use Rattle.nqs_laws.proofs.Frame.{emits_notes, emits_world}
-use Rattle.nqs_laws.proofs.PairedRuns.{put-twice}
 use Rattle.nqs_laws.proofs.Sound.{get-here}
 use Rattle.nqs_laws.proofs.Told.{all_seen, sights-append}
 use Rattle.nqs_laws.proofs.AlikeRuns.{ready_tear}
@@ -63,7 +63,7 @@ pub same_after : (h : HostId) (w v u : Network) → IsSameBut h w v → IsSameBu
 same_after h w v u a b = record { hosts = λ host. b.hosts host ∙ a.hosts host; site = b.site ∙ a.site; now = b.now ∙ a.now }
 
 same_put : (h : HostId) (x : Host) (w : Network) → IsSameBut h w (put_host h x w)
-same_put h x w = record { hosts = λ host. put-twice h.0 host x w.hosts; site = refl; now = refl }
+same_put h x w = record { hosts = λ host. put_twice h.0 (λ _. x) host w.hosts; site = refl; now = refl }
 
 module _ (h : HostId) (w : Network) where
   -- a host is put at the place, and outputs go out
@@ -84,7 +84,7 @@ module _ (h : HostId) (w : Network) where
         subst (λ (v : Network). Turns h P tear packets before after w (record { world = v; notes = notes ++ (emits h os (put_host h x w)).notes }))
         (sym (emits_world h os (put_host h x w))) (record {
           at = record { host = x; stands = p; faces = record { there = get-here h.0 x host w.hosts there; tear = same; packets = sent } };
-          rest = record { hosts = λ y. put-twice h.0 y x w.hosts; site = refl; now = refl };
+          rest = record { hosts = λ y. put_twice h.0 (λ _. x) y w.hosts; site = refl; now = refl };
           seen = saw ∙ (λ j. before ++ (sym shows j ++ sym (emits_seen h os (put_host h x w)) j))
               ∙ ap (λ l. before ++ l) (sym (sights-append notes (emits h os (put_host h x w)).notes));
         })

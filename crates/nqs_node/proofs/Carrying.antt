@@ -4,6 +4,7 @@ use Rattle.std.proofs.Common.{◌≡◌, ℕ, zero, suc, true, List, [], ◌∷�
 use Rattle.std.specs.List.{AllByRecursion, list_all}
 use Rattle.std.proofs.lemmas.Bool.{and_parts, and_from}
 use Rattle.std.proofs.lemmas.List.Folds.{list_all-append}
+use Rattle.nqs_base.proofs.Plain.{each_is}
 use Rattle.nqs_types.specs.declared.event.Output.{Output}
 use Rattle.nqs_types.specs.declared.event.Output.TheVariants.{Send, Launch, Print, File}
 use Rattle.nqs_types.specs.declared.event.PlanRead.{PlanRead}
@@ -16,7 +17,6 @@ use Rattle.nqs_spool.proofs.Lists.{all_has}
 use Rattle.nqs_store.specs.Live.{live}
 use Rattle.nqs_store.specs.Sound.{is_short_extent}
 use Rattle.nqs_store.specs.Told.{Host}
-use Rattle.nqs_store.proofs.ShortExtents.{each_passes}
 use Rattle.nqs_node.specs.Reading.{read_into, AreLiveReads, IsShortRead, carries_short, sends_short, AreShort}
 
 -- reads of live extents
@@ -24,7 +24,7 @@ pub reads_short : (host : Host) → list_all is_short_extent (live host) ≡ tru
     → AllByRecursion IsShortRead reads
 reads_short host short [] alive = tt
 reads_short host short (read ∷ reads) alive = (
-  all_has (λ x. is_short_extent x ≡ true) (live host) read.extent (each_passes is_short_extent
+  all_has (λ x. is_short_extent x ≡ true) (live host) read.extent (each_is is_short_extent (λ x. is_short_extent x ≡ true) (λ x k. k)
       (live host) short) alive.0,
   reads_short host short reads alive.1,
 )

@@ -8,6 +8,7 @@ use Rattle.std.proofs.Math.Bool.{and_comm, and-false}
 use Rattle.std.specs.Cmp.Lexicographic.{nat_list_eq_equiv}
 use Rattle.std.specs.List.{list_any, list_all}
 use Rattle.nqs_base.specs.Same.{name_eq, name_exact}
+use Rattle.nqs_base.proofs.Plain.{none_narrower}
 use Rattle.nqs_state.specs.State.{State}
 use Rattle.nqs_state.specs.Keys.{is_queue}
 use Rattle.nqs_types.specs.declared.request.Row.{Row}
@@ -35,7 +36,6 @@ use Rattle.nqs_index.proofs.Numbers.{number-map, any_number, number_split, numbe
 use Rattle.nqs_order.specs.ByIndex.{user_allows, running_once, fewer_run, running_in_batch, fewer_in_batch, complex_allows, is_within_limits, free_device}
 use Rattle.nqs_order.specs.ByIndex.{kind_allows, is_eligible}
 use Rattle.nqs_order.specs.Waiting.{is_waiting}
-use Rattle.nqs_order.proofs.BestLemmas.{none-passes}
 
 name_turned : (a b : List ℕ) → name_eq a b ≡ name_eq b a
 name_turned a b = nat_list_eq_equiv.symm a b
@@ -78,7 +78,7 @@ has_batch ds q = list_any (is_batch_of q) ds
 -- no queue of the name is there
 none_named : (q : List ℕ) (ds : List QueueDef) → list_any (name_eq q) (names ds) ≡ false → has_batch ds q ≡ false
 none_named q ds none =
-    none-passes (is_batch_of q) (λ d. name_eq q d.name) (λ d h. ap (λ b. is_batch d.kind && b) (name_turned d.name q ∙ h) ∙ and-false (is_batch d.kind)) ds
+    none_narrower (λ d. name_eq q d.name) (is_batch_of q) (λ d h. ap (λ b. is_batch d.kind && b) (name_turned d.name q ∙ h) ∙ and-false (is_batch d.kind)) ds
     (sym (list_any-map (λ (d : QueueDef). d.name) (name_eq q) ds) ∙ none)
 
 -- where no two queues have one name, the one that is found is the batch queue

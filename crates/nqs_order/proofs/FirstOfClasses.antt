@@ -8,6 +8,7 @@ use Rattle.std.proofs.Math.Bool.{and-false}
 use Rattle.std.proofs.lemmas.Bool.Decides.{nat_tests}
 use Rattle.std.proofs.lemmas.Option.{same_Some}
 use Rattle.nqs_base.specs.Same.{name_eq, number_exact}
+use Rattle.nqs_base.proofs.Plain.{any_false, none_narrower}
 use Rattle.nqs_types.specs.Ids.{id_eq, id_exact}
 use Rattle.nqs_types.specs.declared.request.Row.{Row}
 use Rattle.nqs_types.specs.declared.request.Promise.{Promise}
@@ -40,8 +41,7 @@ use Rattle.nqs_order.specs.ByIndex.{earlier, is_ahead, better_of, first_among, f
 use Rattle.nqs_index.proofs.Numbers.{number-map, any_number}
 use Rattle.nqs_index.proofs.OrderLemmas.{before, order_is, key_itself, once, chain, before_itself, before_once, before_chain}
 use Rattle.nqs_index.proofs.ClassLemmas.{class_itself}
-use Rattle.nqs_order.proofs.BestLemmas.{none-passes}
-use Rattle.nqs_order.proofs.KeyedPlaces.{any_at, any_false, any_of, none_at, distinct_front, place_again, position_again}
+use Rattle.nqs_order.proofs.KeyedPlaces.{any_at, any_of, none_at, distinct_front, place_again, position_again}
 use Rattle.nqs_order.proofs.CountsOfRows.{eligible_is}
 use Rattle.nqs_order.proofs.FirstOfLine.{is_of, led, row_of, is_wrong, is_better, IsThere, told, passed_over, first_least, first_there, first_some}
 
@@ -134,7 +134,7 @@ module _ {E : Type 0} (index : Index) (s : State E) (d : QueueDef) (now : ℕ) w
   -- the row of a class that isn't allowed may not start
   refused : (c : Class) → class_allows index d now s any_open c ≡ false → (o : Option (ℕ × Row E)) (es : List Entry)
       → list_any (is_wrong index s d now c) es ≡ false → list_any (is_better index s d now o) es ≡ false
-  refused c isnt o = none-passes (is_better index s d now o) (is_wrong index s d now c) (λ e right. by e right (startable index d now s e.id) refl)
+  refused c isnt o = none_narrower (is_wrong index s d now c) (is_better index s d now o) (λ e right. by e right (startable index d now s e.id) refl)
     where
       by : (e : Entry) → is_wrong index s d now c e ≡ false → (f : Option (ℕ × Row E)) → startable index d now s e.id ≡ f → (is_some f && leads o e.key) ≡ false
       by e right None is = refl
@@ -145,7 +145,7 @@ module _ {E : Type 0} (index : Index) (s : State E) (d : QueueDef) (now : ℕ) w
   -- what doesn't lead the one doesn't lead what is as good
   no_more : (o best : Option (ℕ × Row E)) → IsAsGood o best → (es : List Entry) → list_any (is_better index s d now best) es ≡ false
       → list_any (is_better index s d now o) es ≡ false
-  no_more o best good = none-passes (is_better index s d now o) (is_better index s d now best)
+  no_more o best good = none_narrower (is_better index s d now best) (is_better index s d now o)
       (λ e isnt. by (is_some (startable index d now s e.id)) (leads best e.key) (leads o e.key) (good e.key) isnt)
     where
       by : (a b c : Bool) → (b ≡ false → c ≡ false) → (a && b) ≡ false → (a && c) ≡ false

@@ -3,7 +3,7 @@ use Rattle.std.proofs.Common.{◌≡◌, ℕ, ◌+◌, suc, zero, Bool, true, fa
 use Rattle.std.proofs.Common.{slice_get, refl, sym, ap, ◌∙◌, arith, true≢false}
 use Rattle.std.specs.Prelude.{cond}
 use Rattle.std.specs.List.{list_any, position_or_len}
-use Rattle.std.proofs.lemmas.Bool.{and_parts, or_parts, or_from, not-true}
+use Rattle.std.proofs.lemmas.Bool.{and_parts, or_parts, not-true}
 use Rattle.std.proofs.lemmas.Bool.Decides.{nat_tests}
 use Rattle.std.proofs.lemmas.List.Folds.{list_any-append}
 use Rattle.std.proofs.lemmas.Option.{same_Some, none-some}
@@ -17,10 +17,6 @@ module _ {A : Type 0} where
   pub any_at : (p q : A → Bool) (xs : List A) → ((n : ℕ) (x : A) → slice_get xs n ≡ Some x → p x ≡ q x) → list_any p xs ≡ list_any q xs
   any_at p q [] same = refl
   any_at p q (x ∷ xs) same = (λ j. same 0 x refl j || any_at p q xs (λ n y at. same (suc n) y at) j)
-
-  pub any_false : (p : A → Bool) (xs : List A) → ((n : ℕ) (x : A) → slice_get xs n ≡ Some x → p x ≡ false) → list_any p xs ≡ false
-  any_false p [] none = refl
-  any_false p (x ∷ xs) none = or_from (p x) (list_any p xs) (none 0 x refl) (any_false p xs (λ n y at. none (suc n) y at))
 
   pub none_at : (p : A → Bool) (xs : List A) (n : ℕ) (x : A) → list_any p xs ≡ false → slice_get xs n ≡ Some x → p x ≡ false
   none_at p [] n x none at = absurd (none-some x at)

@@ -1,4 +1,3 @@
-pub mod BestLemmas
 pub mod Candidates
 pub mod CountsOfRows
 pub mod FirstOfClasses

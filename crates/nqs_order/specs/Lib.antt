@@ -1,4 +1,3 @@
-pub mod Best
 pub mod ByIndex
 pub mod KeyOrder
 pub mod Places

@@ -16,7 +16,6 @@ ghost use Rattle.nqs_order.specs.ByIndex.{is_within_limits, is_free_device, free
 ghost use Rattle.nqs_order.specs.ByIndex.{first_in, is_open, has_open, class_served, class_allows, first_of, leads, earlier, is_ahead, better_of};
 ghost use Rattle.nqs_order.specs.ByIndex.{first_among, first_eligible, has_first, has_eligible, may_start, is_candidate, next_queue, choice_for, pick};
 
-use crate::best::best_of;
 use crate::choice::{is_greater, move_to, print_on};
 use crate::eligible::is_waiting;
 use nqs_base::{Name, has_name};
@@ -483,8 +482,7 @@ fn next_queue<'a>(index: &Index, now: u64, state: &'a HostState) -> Option<(usiz
     ensures { option_map (λ p. (p.0, p.1.now)) result ≡ next_queue index.now now (content state.now) }
 {
     let batch = fewer_in_batch(index, state);
-    best_of(
-        &state.queues,
+    state.queues.best(
         |queue: &QueueDef| is_candidate(index, batch, now, state, queue),
         |one: &QueueDef, other: &QueueDef| is_greater(one, other),
     )

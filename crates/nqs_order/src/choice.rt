@@ -5,7 +5,6 @@ ghost use Rattle.std.specs.Option.{option_map};
 ghost use Rattle.nqs_state.specs.State.{content};
 ghost use Rattle.nqs_rules.specs.Order.{is_greater, is_candidate, next_queue, print_on, is_local, move_to, choice_for, pick};
 
-use crate::best::best_of;
 use crate::eligible::{any_waiting, first_row, has_eligible};
 use crate::limits::is_within_limits;
 use nqs_devices::free_device;
@@ -36,8 +35,7 @@ pub(crate) fn is_greater(one: &QueueDef, other: &QueueDef) -> bool
 fn next_queue(state: &HostState, now: u64) -> Option<(usize, &QueueDef)>
     ensures { option_map (λ p. (p.0, p.1.now)) result ≡ next_queue now (content state.now) }
 {
-    best_of(
-        &state.queues,
+    state.queues.best(
         |queue: &QueueDef| is_candidate(state, queue, now),
         |one: &QueueDef, other: &QueueDef| is_greater(one, other),
     )

@@ -8,7 +8,6 @@ ghost use Rattle.nqs_rules.specs.Order.{is_active_of, below, kind_allows, is_eli
 ghost use Rattle.nqs_order.specs.Waiting.{is_waiting};
 ghost use Rattle.nqs_order.specs.Places.{first_place};
 
-use crate::best::best_of;
 use crate::limits::is_active_in;
 use nqs_base::Name;
 use nqs_devices::free_device;
@@ -112,8 +111,7 @@ pub(crate) fn first_row<'a>(
 ) -> Option<(usize, &'a Row)>
     ensures { option_map (λ p. (p.0, p.1.now)) result ≡ first_eligible queue.now now (content state.now) }
 {
-    best_of(
-        state.rows.table(),
+    state.rows.best(
         |row: &Row| is_eligible(state, queue, now, row),
         |one: &Row, other: &Row| comes_before(one, other),
     )

@@ -7,7 +7,6 @@
 //! in the order of the rows. `nqs_rules/specs/Order.antt` has the rules.
 #![tactic(auto)]
 
-mod best;
 mod by_index;
 mod choice;
 mod eligible;

@@ -52,7 +52,7 @@ version_one rest fits = by_version 1 rest fits
 
 -- ---- the second byte
 
-one_byte : message_of (1 ∷ []) ≡ Err (fault.Short 1)
+pub one_byte : message_of (1 ∷ []) ≡ Err (fault.Short 1)
 unfolding message_of rest_of message_at kind_at u8_at number_at
 one_byte = refl
 

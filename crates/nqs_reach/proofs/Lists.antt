@@ -1,5 +1,5 @@
 -- What a test keeps of a list, where the list changes at what the test doesn't keep.
-use Rattle.std.proofs.Common.{◌≡◌, ℕ, ◌+◌, Bool, true, false, cond, ◌||◌, List, [], ◌∷◌, ◌++◌, filter, find, Option, None, Some, true≢false, zero, suc, refl}
+use Rattle.std.proofs.Common.{◌≡◌, ℕ, ◌+◌, Bool, true, false, cond, ◌||◌, List, [], ◌∷◌, ◌++◌, filter, find, Option, None, Some, true≢false, refl}
 use Rattle.std.proofs.Common.{sym, ap, ◌∙◌}
 use Rattle.std.proofs.Common.{if◌then◌else◌}
 use Rattle.std.proofs.lemmas.Bool.{or_parts, or_from, false_from_ne_true}
@@ -7,7 +7,6 @@ use Rattle.std.proofs.lemmas.Option.{same_Some, none-some}
 use Rattle.std.specs.List.{list_any}
 use Rattle.std.specs.Option.{IfSome}
 use Rattle.nqs_base_tables.specs.Table.{change_first, without_first, better, best_from}
-use Rattle.nqs_rules.specs.Edits.{change_at}
 
 module _ {V : Type 0} where
   -- what is kept
@@ -68,16 +67,6 @@ module _ {V : Type 0} where
       by false rest = rest
 
   -- what some or none pass
-
-  pub any_kept : (test keep : V → Bool) → ((v : V) → test v ≡ true → keep v ≡ true) → (vs : List V) → list_any test (filter keep vs) ≡ list_any test vs
-  any_kept test keep wide [] = refl
-  any_kept test keep wide (x ∷ vs) = by (keep x) refl (test x) refl (any_kept test keep wide vs)
-    where
-      by : (b : Bool) → keep x ≡ b → (c : Bool) → test x ≡ c → list_any test (filter keep vs) ≡ list_any test vs
-          → list_any test (cond b (x ∷ filter keep vs) (filter keep vs)) ≡ (c || list_any test vs)
-      by true e c k rest = (λ j. k j || rest j)
-      by false e true k rest = absurd (true≢false (sym (wide x k) ∙ e))
-      by false e false k rest = rest
 
   pub find_kept : (test keep : V → Bool) → ((v : V) → test v ≡ true → keep v ≡ true) → (vs : List V) → find test (filter keep vs) ≡ find test vs
   find_kept test keep wide [] = refl
@@ -153,9 +142,3 @@ module _ {V : Type 0} where
           → list_any other (if b then f x ∷ vs else x ∷ change_first test f vs) ≡ false
       by true p rest = or_from (other (f x)) (list_any other vs) (never x) p.1
       by false p rest = or_from (other x) (list_any other (change_first test f vs)) p.0 (rest p.1)
-
-  -- what is put at a place stands there, whatever changed there before
-  pub put_twice : (n : ℕ) (f : V → V) (v : V) (vs : List V) → change_at n (λ _. v) (change_at n f vs) ≡ change_at n (λ _. v) vs
-  put_twice n f v [] = refl
-  put_twice zero f v (x ∷ vs) = refl
-  put_twice (suc n) f v (x ∷ vs) = ap (λ l. x ∷ l) (put_twice n f v vs)

@@ -51,10 +51,10 @@ use Rattle.nqs_rules.proofs.ListFacts.{found_passes}
 use Rattle.nqs_rules.proofs.RowChanges.{noted_kept}
 use Rattle.nqs_rules.proofs.RowFacts.{same_it, same_id}
 use Rattle.nqs_rules.proofs.Sublists.{part_none, without_part, filter_part}
+use Rattle.nqs_rules.proofs.OutputsOrder.{put_twice}
 use Rattle.nqs_reach.specs.Reach.{is_offered_to, is_given_to, is_promised_to, is_in_reach, hands_beside, promises_beside, stages_beside}
 use Rattle.nqs_reach.specs.Reach.{rows_beside, running_rows, lasting, KeepsSettings, IsWithinReach}
 use Rattle.nqs_reach.proofs.Lists.{kept_none, kept_without, kept_changed, kept_filter, kept_added, any_of_found, found_before, any_changed, none_changed}
-use Rattle.nqs_reach.proofs.Lists.{put_twice}
 
 -- the parts of a state that a message may change
 record Parts (E : Type 0) : Type 0 where

@@ -5,6 +5,7 @@ use Rattle.std.proofs.Common.{cond, if◌then◌else◌}
 use Rattle.std.proofs.lemmas.Bool.{and_parts, or_parts, or_from, not-true, not-false, not_from_false, not_from_true}
 use Rattle.std.proofs.lemmas.List.{append-nil, append_assoc}
 use Rattle.std.specs.List.{list_any, list_all}
+use Rattle.nqs_base.proofs.Plain.{any_kept}
 use Rattle.nqs_state.specs.State.{State, Plain}
 use Rattle.nqs_state.specs.Keys.{is_row}
 use Rattle.nqs_types.specs.Ids.{id_eq, id_exact}
@@ -29,7 +30,7 @@ use Rattle.nqs_rules.proofs.StateFacts.{keys_are}
 use Rattle.nqs_rules.proofs.Sublists.{part_none, filter_part}
 use Rattle.nqs_reach.specs.Deliveries.{Delivery, is_from, after_message, after_messages}
 use Rattle.nqs_reach.specs.Reach.{is_in_reach, is_in_reach_or_new, is_promised_to, running_rows, KeepsSettings, IsWithin, IsWithinReachInTheEnd}
-use Rattle.nqs_reach.proofs.Lists.{kept_filter, any_kept, find_kept}
+use Rattle.nqs_reach.proofs.Lists.{kept_filter, find_kept}
 use Rattle.nqs_reach.proofs.Messages.{NoneOffered, Reached, reached}
 
 module _ {E : Type 0} where

@@ -1,5 +1,5 @@
 -- What besides holds of a state at every moment stays so: the sorts of changes.
-use Rattle.std.proofs.Common.{◌≡◌, ℕ, ◌≤◌, Bool, true, false, cond, not, ◌&&◌, ◌||◌, nat_le, List, [], ◌∷◌, ◌++◌, map, filter, find, Some, refl, sym, ap, ◌∙◌}
+use Rattle.std.proofs.Common.{◌≡◌, ℕ, ◌≤◌, Bool, true, false, cond, not, ◌&&◌, ◌||◌, nat_le, List, [], ◌∷◌, ◌++◌, map, find, Some, refl, sym, ap, ◌∙◌}
 use Rattle.std.proofs.Common.{arith, if◌then◌else◌}
 use Rattle.std.proofs.lemmas.Bool.{and_parts, and_from, or_left, or_right, leb-true, le-leb, not-true, not_from_false}
 use Rattle.std.proofs.lemmas.Option.{same_Some}
@@ -17,7 +17,7 @@ use Rattle.nqs_rules.specs.Find.{find_row}
 use Rattle.nqs_rules.specs.Edits.{change_row}
 use Rattle.nqs_rules.specs.Applied.{is_offered_for}
 use Rattle.nqs_rules.specs.InOrder.{IsConsistent, are_distinct, is_doom_right, is_hold_right, has_hand, is_promise_free, is_hand_of_given}
-use Rattle.nqs_rules.proofs.Chains.{imply, differ}
+use Rattle.nqs_rules.proofs.Chains.{imply}
 use Rattle.nqs_rules.proofs.Sublists.{IsPart, part_all}
 use Rattle.nqs_rules.proofs.ListFacts.{list_all-weaker, list_all-changed, list_all-found}
 use Rattle.nqs_rules.proofs.ListMaps.{list_any-map}
@@ -25,17 +25,6 @@ use Rattle.nqs_rules.proofs.KeyFacts.{all-both, all-added, all_from_none}
 
 module _ {V : Type 0} where
   -- what a test finds is still there
-
-  pub any-filter_kept : (t keep : V → Bool) → ((v : V) → t v ≡ true → keep v ≡ true) → (vs : List V) → list_any t vs ≡ true → list_any t (filter keep vs) ≡ true
-  any-filter_kept t keep stays [] h = h
-  any-filter_kept t keep stays (x ∷ vs) h = by (t x) refl (keep x) refl h (any-filter_kept t keep stays vs)
-    where
-      by : (b : Bool) → t x ≡ b → (c : Bool) → keep x ≡ c → (b || list_any t vs) ≡ true → (list_any t vs ≡ true → list_any t (filter keep vs) ≡ true)
-          → list_any t (cond c (x ∷ filter keep vs) (filter keep vs)) ≡ true
-      by true e true f h rest = or_left (t x) (list_any t (filter keep vs)) e
-      by true e false f h rest = differ (keep x) (stays x e) f
-      by false e true f h rest = or_right (t x) (list_any t (filter keep vs)) (rest h)
-      by false e false f h rest = rest h
 
   pub any-changed_other : (t u : V → Bool) (g : V → V) (vs : List V) (x : V) → find u vs ≡ Some x → t x ≡ false → list_any t vs ≡ true
       → list_any t (change_first u g vs) ≡ true

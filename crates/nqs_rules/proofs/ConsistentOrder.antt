@@ -8,6 +8,7 @@ use Rattle.std.specs.List.{list_any, list_all, filter_map}
 use Rattle.std.specs.Option.{IfSome}
 use Rattle.nqs_state.specs.State.{State}
 use Rattle.nqs_base.specs.Same.{name_eq}
+use Rattle.nqs_base.proofs.Plain.{any_kept}
 use Rattle.nqs_types.specs.Ids.{id_eq, id_exact}
 use Rattle.nqs_base_tables.specs.Table.{without_first}
 use Rattle.nqs_state.specs.Keys.{is_row, is_hand, is_promise}
@@ -42,7 +43,7 @@ use Rattle.nqs_rules.proofs.RowFacts.{same_id, row_is}
 use Rattle.nqs_rules.proofs.RowChanges.{noted_kept, routing_is, ready_queued}
 use Rattle.nqs_rules.proofs.RowKinds.{found_row}
 use Rattle.nqs_rules.proofs.HandoversOrder.{routes, silent_one, still_offered, not_committed, offer_or_none}
-use Rattle.nqs_rules.proofs.Consistent.{any-filter_kept, any-changed_other, any-without_found, all-changed_alone, same_core, IsCalm, row_calm, row_joins}
+use Rattle.nqs_rules.proofs.Consistent.{any-changed_other, any-without_found, all-changed_alone, same_core, IsCalm, row_calm, row_joins}
 use Rattle.nqs_rules.proofs.Consistent.{promises_stay, seq_grows, hand_stays, other_offer}
 
 module _ {E : Type 0} where
@@ -78,8 +79,8 @@ module _ {E : Type 0} where
           doomed = part_all is_doom_right part c.doomed;
           held = part_all is_hold_right part c.held;
           routing = all-both (has_hand s) (λ r. not (id_eq id r.id)) (has_hand t)
-              (λ r k other. hand_stays s t r (any-filter_kept (is_offered_for r.id) (λ x. not (is_offered_for id x))
-              (λ x. other_offer id r x (not-true (id_eq id r.id) other)) s.hands) k)
+              (λ r k other. hand_stays s t r (λ has. any_kept (is_offered_for r.id) (λ x. not (is_offered_for id x))
+              (λ x. other_offer id r x (not-true (id_eq id r.id) other)) s.hands ∙ has) k)
               (without_first (is_row id) s.rows) (part_all (has_hand s) part c.routing) (others id);
           promises = c.promises;
           given = part_all (is_hand_of_given s) (filter_part (λ x. not (is_offered_for id x)) s.hands) c.given;

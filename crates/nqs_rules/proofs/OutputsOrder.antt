@@ -37,6 +37,12 @@ get-changed n f [] = refl
 get-changed zero f (v ∷ vs) = refl
 get-changed (suc n) f (v ∷ vs) = get-changed n f vs
 
+-- what is put at a place stands there, whatever changed there before
+pub put_twice : {V : Type 0} (n : ℕ) (f : V → V) (v : V) (vs : List V) → change_at n (λ _. v) (change_at n f vs) ≡ change_at n (λ _. v) vs
+put_twice n f v [] = refl
+put_twice zero f v (x ∷ vs) = refl
+put_twice (suc n) f v (x ∷ vs) = ap (λ l. x ∷ l) (put_twice n f v vs)
+
 -- the counter itself was given to none, and is given by the next one
 pub not_given : (n : ℕ) → is_given n n ≡ false
 not_given n = false_from_ne_true (is_given n n) (λ h. let k = ltb-true n n (and_parts (nat_le 1 n) (nat_lt n n) h).1 in omega arith)

@@ -1,10 +1,10 @@
 -- What a state in order says of each of its requests, outputs and files.
-use Rattle.std.proofs.Common.{◌≡◌, Bool, true, IsTrue, List, [], ◌∷◌}
+use Rattle.std.proofs.Common.{IsTrue}
 use Rattle.std.proofs.lemmas.Bool.{and_parts, and_from}
-use Rattle.std.specs.List.{list_all, AllByRecursion}
+use Rattle.std.specs.List.{AllByRecursion}
 use Rattle.nqs_base.specs.declared.extent.Extent.{Extent}
 use Rattle.nqs_base.specs.Path.{is_path}
-use Rattle.nqs_base.proofs.Plain.{all_weaker}
+use Rattle.nqs_base.proofs.Plain.{all_weaker, each_is}
 use Rattle.nqs_state.specs.State.{State}
 use Rattle.nqs_types.specs.declared.request.Row.{Row}
 use Rattle.nqs_types.specs.declared.request.Promise.{Promise}
@@ -19,11 +19,6 @@ use Rattle.nqs_records.specs.Values.{IsJob}
 use Rattle.nqs_records.proofs.SaneLaws.{path_sane}
 use Rattle.nqs_types.specs.declared.request.Job.{Job}
 use Rattle.nqs_snapshot.specs.Values.{IsRow, IsPromise, IsStage, IsFile, MayStand}
-
--- what each that passes a test is
-pub each_is : {V : Type 0} (p : V → Bool) (Is : V → Type 0) → ((v : V) → p v ≡ true → Is v) → (vs : List V) → list_all p vs ≡ true → AllByRecursion Is vs
-each_is p Is to [] all = tt
-each_is p Is to (v ∷ vs) all = let k = and_parts (p v) (list_all p vs) all in (to v k.0, each_is p Is to vs k.1)
 
 module _ (s : State Extent) (h : IsInOrder s) where
   pub rows_sane : AllByRecursion (λ (r : Row Extent). IsTrue (is_sane_job r.job)) s.rows

@@ -1,11 +1,12 @@
 -- The values of a state in order have fields, where its scripts and outputs are short.
-use Rattle.std.proofs.Common.{◌≡◌, ℕ, Bool, true, false, nat_lt, nat_le, List, [], ◌∷◌, length, refl, arith}
+use Rattle.std.proofs.Common.{◌≡◌, ℕ, Bool, true, false, nat_lt, nat_le, List, [], ◌∷◌, length, arith}
 use Rattle.std.specs.Prelude.{if◌then◌else◌}
-use Rattle.std.proofs.lemmas.Bool.{and_parts, and_from}
+use Rattle.std.proofs.lemmas.Bool.{and_parts}
 use Rattle.std.proofs.lemmas.Bool.Decides.{nat_tests}
 use Rattle.std.specs.List.{list_all, AllByRecursion}
 use Rattle.nqs_base.specs.declared.extent.Extent.{Extent}
 use Rattle.nqs_base.specs.Path.{is_path}
+use Rattle.nqs_base.proofs.Plain.{all_pass}
 use Rattle.nqs_types.specs.declared.ids.Dest.{Dest}
 use Rattle.nqs_types.specs.declared.ids.HostId.{HostId}
 use Rattle.nqs_types.specs.declared.ids.RequestId.{RequestId}
@@ -140,22 +141,18 @@ module _ (s : State Extent) (h : IsInOrder s) where
 
 -- what has a field is short
 
-all_short : {V : Type 0} (P : V → Type 0) (q : V → Bool) → ((v : V) → P v → q v ≡ true) → (vs : List V) → AllByRecursion P vs → list_all q vs ≡ true
-all_short P q to [] all = refl
-all_short P q to (v ∷ vs) all = and_from (q v) (list_all q vs) (to v all.0) (all_short P q to vs all.1)
-
 pub stands_short : (s : State Extent) → MayStand s → HasShortParts s
 stands_short s h = chained (list_all (λ (r : Row Extent). nat_le r.script.length 32768) s.rows) (
     list_all (λ (p : Promise Extent). nat_le p.row.script.length 32768) s.promises
     ∷ list_all (λ (t : Stage Extent). nat_le t.bytes.length 32768) s.stages
     ∷ list_all (λ (f : FileOut Extent). nat_le f.bytes.length 32768) s.files ∷ []
     ) (
-      all_short IsRow (λ (r : Row Extent). nat_le r.script.length 32768) (λ r k. k.4.1) s.rows h.1.0.1,
+      all_pass IsRow (λ (r : Row Extent). nat_le r.script.length 32768) (λ r k. k.4.1) s.rows h.1.0.1,
       (
-        all_short IsPromise (λ (p : Promise Extent). nat_le p.row.script.length 32768) (λ p k. k.2.4.1) s.promises h.1.2.1,
+        all_pass IsPromise (λ (p : Promise Extent). nat_le p.row.script.length 32768) (λ p k. k.2.4.1) s.promises h.1.2.1,
         (
-          all_short IsStage (λ (t : Stage Extent). nat_le t.bytes.length 32768) (λ t k. k.3.1) s.stages h.2.1.1,
-          (all_short IsFile (λ (f : FileOut Extent). nat_le f.bytes.length 32768) (λ f k. k.2.1) s.files h.2.2.1, tt),
+          all_pass IsStage (λ (t : Stage Extent). nat_le t.bytes.length 32768) (λ t k. k.3.1) s.stages h.2.1.1,
+          (all_pass IsFile (λ (f : FileOut Extent). nat_le f.bytes.length 32768) (λ f k. k.2.1) s.files h.2.2.1, tt),
         ),
       ),
     )

@@ -166,10 +166,6 @@ all_with P live more x at new all = rw at.within (all_put P at.front at.back x n
 pub all_without : (P : Extent → Type 0) (live more : List Extent) (x : Extent) → IsWith live x more → AllByRecursion P more → AllByRecursion P live
 all_without P live more x at all = rw at.without (all_cut P at.front at.back x (rw at.within at all)).1
 
-pub all_map : (P Q : Extent → Type 0) (live : List Extent) → ((x : Extent) → P x → Q x) → AllByRecursion P live → AllByRecursion Q live
-all_map P Q [] from all = tt
-all_map P Q (x ∷ live) from all = (from x all.0, all_map P Q live from all.1)
-
 pub has_with : (live more : List Extent) (x : Extent) → IsWith live x more → Has more x
 has_with live more x at = rw at.within (has_put at.front at.back x x (inl refl))
 

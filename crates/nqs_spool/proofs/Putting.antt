@@ -1,6 +1,7 @@
 -- What a put leaves of a spool.
 use Rattle.std.proofs.Common.{◌≡◌, ◌==◌, Bool, false, ℕ, ◌<◌, ◌≤◌, IsTrue, List, [], ◌∷◌, length, refl, sym, ap, ◌∙◌, subst, arith}
 use Rattle.nqs_base.specs.declared.extent.Extent.{Extent}
+use Rattle.nqs_base.proofs.Plain.{all_weaker}
 use Rattle.nqs_outside.specs.History.{Call, History, extended, content, moment, EachSince, BreaksOff}
 use Rattle.nqs_outside.specs.declared.disk.Disk as disk
 use Rattle.nqs_spool.specs.Puts.{written_through, put_calls}
@@ -10,7 +11,7 @@ use Rattle.nqs_spool.specs.Slots.{first_fit}
 use Rattle.nqs_spool.specs.declared.live.LiveExtents.{LiveExtents}
 use Rattle.nqs_spool.specs.Spooled.{history_of, place_for, Tells}
 use Rattle.nqs_spool.specs.declared.spool.Spool.{Spool}
-use Rattle.nqs_spool.proofs.Lists.{all_has, all_with, all_map, covers_put, empty_put, least_of_live, clear_of_none}
+use Rattle.nqs_spool.proofs.Lists.{all_has, all_with, covers_put, empty_put, least_of_live, clear_of_none}
 use Rattle.nqs_spool.proofs.Kept.{fit_is_least, kept_some}
 use Rattle.nqs_spool.proofs.Writing.{held_throughout, held_after, quiet_after, length_after}
 
@@ -67,8 +68,8 @@ module _ {D : Type 0} {g : disk.Ghosts D} (spool : Spool D g) where
       within = λ told.
           let size = length_after (history_of spool) place bytes (within told) (history_of spool') (made told) in
           all_with (λ y. past y ≤ length (content (history_of spool'))) extents more new at' (omega (arith, size))
-          (all_map (λ y. past y ≤ length (content (history_of spool))) (λ y. past y ≤ length (content (history_of spool'))) extents
-          (λ y le. omega (arith, le, size)) (tells.within told));
+          (all_weaker (λ y. past y ≤ length (content (history_of spool))) (λ y. past y ≤ length (content (history_of spool')))
+          (λ y le. omega (arith, le, size)) extents (tells.within told));
       quiet = λ told. quiet_after (history_of spool) place bytes (tells.quiet told) (within told) (history_of spool') (made told);
     }
 

@@ -1,6 +1,6 @@
 -- Outputs and the numbers that are left for them.
 use Rattle.std.proofs.Common.{◌≡◌, ◌∙◌, ℕ, ◌+◌, ◌-◌, zero, suc, Bool, true, false, nat_lt, List, [], ◌∷◌, take, if◌then◌else◌, refl, sym, ap, arith}
-use Rattle.std.proofs.lemmas.Bool.Decides.{nat_tests}
+use Rattle.nqs_base.proofs.Plain.{one_left, none_left}
 use Rattle.nqs_rules.specs.Tests.{last_u64}
 use Rattle.nqs_rules.specs.Stage.{Part, numbered}
 
@@ -17,12 +17,6 @@ module _ (m : ℕ) where
   kept counter n [] = []
   kept counter n (p ∷ ps) = if nat_lt (counter + n) m then p ∷ kept counter (n + 1) ps else []
 
-  none_left : (k : ℕ) → nat_lt k m ≡ false → m - k ≡ 0
-  none_left k h = grind (arith, nat_tests)
-
-  one_left : (k : ℕ) → nat_lt k m ≡ true → m - k ≡ suc (m - (k + 1))
-  one_left k h = grind (arith, nat_tests)
-
   kept-take : (counter n : ℕ) (ps : List Part) → kept counter n ps ≡ take (m - (counter + n)) ps
   kept-take counter n [] = sym (take_none (m - (counter + n)))
   kept-take counter n (p ∷ ps) = by (nat_lt (counter + n) m) refl (kept-take counter (n + 1) ps)
@@ -31,8 +25,8 @@ module _ (m : ℕ) where
           → (if b then p ∷ kept counter (n + 1) ps else []) ≡ take (m - (counter + n)) (p ∷ ps)
       by true e rest =
           let next : (counter + n) + 1 ≡ counter + (n + 1) = omega arith in
-          ap (λ l. p ∷ l) rest ∙ ap (λ k. take (suc (m - k)) (p ∷ ps)) (sym next) ∙ ap (λ k. take k (p ∷ ps)) (sym (one_left (counter + n) e))
-      by false e rest = ap (λ k. take k (p ∷ ps)) (sym (none_left (counter + n) e))
+          ap (λ l. p ∷ l) rest ∙ ap (λ k. take (suc (m - k)) (p ∷ ps)) (sym next) ∙ ap (λ k. take k (p ∷ ps)) (sym (one_left m (counter + n) e))
+      by false e rest = ap (λ k. take k (p ∷ ps)) (sym (none_left m (counter + n) e))
 
 -- as many outputs are kept as numbers are left
 pub numbered-take : (counter : ℕ) (ps : List Part) → numbered counter 0 ps ≡ take (last_u64 - counter) ps

@@ -25,16 +25,6 @@ module _ {V : Type 0} (test : V → Bool) where
       by true e h rest = ap (λ b. cond b (Some w) (find test vs)) passes
       by false e h rest = ap (λ b. cond b (Some x) (find test (change_first test (λ _. w) vs))) e ∙ rest h
 
-  -- where none is found, none goes
-  pub none_goes : (vs : List V) → find test vs ≡ None → vs ≡ without_first test vs
-  none_goes [] h = refl
-  none_goes (x ∷ vs) h = by (test x) h (none_goes vs)
-    where
-      by : (b : Bool) → cond b (Some x) (find test vs) ≡ None → (find test vs ≡ None → vs ≡ without_first test vs)
-          → x ∷ vs ≡ (if b then vs else x ∷ without_first test vs)
-      by true h rest = absurd (none-some x (sym h))
-      by false h rest = ap (λ l. x ∷ l) (rest h)
-
 module _ {E : Type 0} where
   -- where there is no seat, there is no row
   pub no_row : (o : Option (Row E)) → None ≡ option_map seat_of o → o ≡ None

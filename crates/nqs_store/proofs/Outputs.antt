@@ -1,9 +1,9 @@
 -- The extents of a job's outputs.
 use Rattle.std.proofs.Common.{◌≡◌, ℕ, zero, suc, ◌+◌, ◌-◌, Bool, true, false, cond, nat_lt, List, [], ◌∷◌, ◌++◌, map, take, drop, take-append-drop, Option}
-use Rattle.std.proofs.Common.{None, Some, refl, sym, ap, subst, ◌∙◌, arith, append_assoc}
-use Rattle.std.proofs.lemmas.Bool.{ltb-true, ltb-false}
+use Rattle.std.proofs.Common.{None, Some, refl, sym, ap, subst, ◌∙◌, append_assoc}
 use Rattle.std.proofs.lemmas.List.{append-nil, map-append}
 use Rattle.nqs_base.specs.declared.extent.Extent.{Extent}
+use Rattle.nqs_base.proofs.Plain.{one_left, none_left}
 use Rattle.nqs_types.specs.declared.ids.RequestId.{RequestId}
 use Rattle.nqs_types.specs.declared.request.Peer.{Peer}
 use Rattle.nqs_types.specs.declared.change.OutPart.{OutPart}
@@ -19,19 +19,13 @@ use Rattle.nqs_store.specs.Accounts.{Adds, Takes}
 use Rattle.nqs_store.specs.Frees.{numbers_left, stages_left}
 use Rattle.nqs_store.proofs.Extents.{adds-before, adds-behind, adds-end, takes-before, takes-behind, takes-end}
 
-left_is : (n : ℕ) → nat_lt n last_u64 ≡ true → last_u64 - n ≡ suc (last_u64 - (n + 1))
-left_is n lt = let k = ltb-true n last_u64 lt in omega (arith, k)
-
-none_left : (n : ℕ) → nat_lt n last_u64 ≡ false → last_u64 - n ≡ 0
-none_left n past = let k = ltb-false n last_u64 past in omega (arith, k)
-
 -- one more where there is a number, and none else
 taken_next : (n : ℕ) (x : Extent) (xs front : List Extent) → nat_lt n last_u64 ≡ true
     → (front ++ x ∷ []) ++ take (last_u64 - (n + 1)) xs ≡ front ++ take (last_u64 - n) (x ∷ xs)
-taken_next n x xs front lt = append_assoc front (x ∷ []) (take (last_u64 - (n + 1)) xs) ∙ ap (λ m. front ++ take m (x ∷ xs)) (sym (left_is n lt))
+taken_next n x xs front lt = append_assoc front (x ∷ []) (take (last_u64 - (n + 1)) xs) ∙ ap (λ m. front ++ take m (x ∷ xs)) (sym (one_left last_u64 n lt))
 
 taken_none : (n : ℕ) (x : Extent) (xs front : List Extent) → nat_lt n last_u64 ≡ false → front ++ take (last_u64 - n) xs ≡ front ++ take (last_u64 - n) (x ∷ xs)
-taken_none n x xs front past = ap (λ m. front ++ take m xs) (none_left n past) ∙ sym (ap (λ m. front ++ take m (x ∷ xs)) (none_left n past))
+taken_none n x xs front past = ap (λ m. front ++ take m xs) (none_left last_u64 n past) ∙ sym (ap (λ m. front ++ take m (x ∷ xs)) (none_left last_u64 n past))
 
 module _ (id : RequestId) where
   -- what outputs leave, whose extents go behind those of files

@@ -1,8 +1,9 @@
 -- Each extent of a host is short: those that it had are, and so is what a change stores.
-use Rattle.std.proofs.Common.{◌≡◌, Bool, true, List, [], ◌∷◌, map, refl, sym, subst}
+use Rattle.std.proofs.Common.{◌≡◌, true, List, [], ◌∷◌, map, refl, subst}
 use Rattle.std.specs.List.{AllByRecursion, list_all}
-use Rattle.std.proofs.lemmas.Bool.{and_parts, and_from}
+use Rattle.std.proofs.lemmas.Bool.{and_from}
 use Rattle.nqs_base.specs.declared.extent.Extent.{Extent}
+use Rattle.nqs_base.proofs.Plain.{each_is, all_pass}
 use Rattle.nqs_types.specs.declared.change.OutPart.{OutPart}
 use Rattle.nqs_types.specs.declared.change.Change.{Change}
 use Rattle.nqs_types.specs.declared.change.Change.TheVariants.{Submitted, Ended, Promised, StageGot, Boot}
@@ -11,8 +12,7 @@ use Rattle.nqs_rules.specs.Fits.{fits}
 use Rattle.nqs_rules.specs.Stepped.{part_bytes, stored_parts}
 use Rattle.nqs_records.specs.Values.{IsPart}
 use Rattle.nqs_records.specs.Changes.{MayStand}
-use Rattle.nqs_spool.specs.Extents.{IsWith}
-use Rattle.nqs_spool.proofs.Lists.{all_put, all_has, has_all}
+use Rattle.nqs_spool.proofs.Lists.{all_has, has_all, all_with}
 use Rattle.nqs_store.specs.Accounts.{Adds}
 use Rattle.nqs_store.specs.Frees.{gone}
 use Rattle.nqs_store.specs.Live.{live}
@@ -21,24 +21,10 @@ use Rattle.nqs_store.specs.Told.{Host}
 use Rattle.nqs_store.proofs.Accounts.{accounted}
 use Rattle.nqs_store.proofs.Extents.{takes_all}
 
--- a list whose members all pass a test, as a fact of each
-pub each_passes : {A : Type 0} (test : A → Bool) (xs : List A) → list_all test xs ≡ true → AllByRecursion (λ x. test x ≡ true) xs
-each_passes test [] all = tt
-each_passes test (x ∷ xs) all = let both = and_parts (test x) (list_all test xs) all in (both.0, each_passes test xs both.1)
-
-all_pass : {A : Type 0} (test : A → Bool) (xs : List A) → AllByRecursion (λ x. test x ≡ true) xs → list_all test xs ≡ true
-all_pass test [] each = refl
-all_pass test (x ∷ xs) each = and_from (test x) (list_all test xs) each.0 (all_pass test xs each.1)
-
 -- what is put in passes as well
-
-with_all : (P : Extent → Type 0) (live : List Extent) (x : Extent) (more : List Extent) → IsWith live x more → P x → AllByRecursion P live
-    → AllByRecursion P more
-with_all P live x more at new all = subst (AllByRecursion P) (sym at.within) (all_put P at.front at.back x new (subst (AllByRecursion P) at.without all))
-
 adds_all : (P : Extent → Type 0) (live xs more : List Extent) → Adds live xs more → AllByRecursion P xs → AllByRecursion P live → AllByRecursion P more
 adds_all P live [] more is each all = subst (AllByRecursion P) is all
-adds_all P live (x ∷ xs) more adds each all = adds_all P adds.0 xs more adds.2 each.1 (with_all P live x adds.0 adds.1 each.0 all)
+adds_all P live (x ∷ xs) more adds each all = adds_all P adds.0 xs more adds.2 each.1 (all_with P live adds.0 x adds.1 each.0 all)
 
 -- what a change stores that may stand in a record
 
@@ -61,8 +47,8 @@ pub live_short : (change : Change Extent) (s : Host) → fits change s ≡ true 
 live_short change s fit stands short =
     let P : Extent → Type 0 = λ x. is_short_extent x ≡ true in
     let account = accounted change s fit in
-    let stored = each_passes is_short_extent (stored_parts change) (stored_short change stands) in
-    let more = adds_all P (live s) (stored_parts change) account.more account.adds stored (each_passes is_short_extent (live s) short) in
+    let stored = each_is is_short_extent P (λ x k. k) (stored_parts change) (stored_short change stands) in
+    let more = adds_all P (live s) (stored_parts change) account.more account.adds stored (each_is is_short_extent P (λ x k. k) (live s) short) in
     let fewer = takes_all P account.more (gone change s) account.fewer account.takes more in
-    all_pass is_short_extent (live (applied change s))
+    all_pass P is_short_extent (λ x k. k) (live (applied change s))
     (has_all P (live (applied change s)) (λ x has. all_has P account.fewer x fewer ((account.order.same x).0 has)))

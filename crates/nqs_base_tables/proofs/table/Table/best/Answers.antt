@@ -1,10 +1,10 @@
-use Rattle.std.proofs.Common.{◌≡◌, ◌-◌, ◌∙◌, Some, length, slice_get, sym, ap, refl, arith}
+use Rattle.std.proofs.Common.{◌≡◌, ◌-◌, ◌∙◌, Some, length, slice_get, sym, ap, arith}
 use Rattle.std.specs.Map.{values_of}
 use Rattle.std.proofs.lemmas.List.{length-map, drop_all}
 use Rattle.nqs_base_tables.specs.Slots.{live, filled}
 use Rattle.nqs_base_tables.specs.Table.{best_from}
 use Rattle.nqs_base_tables.proofs.SlotLemmas.{filled-all}
-use Rattle.nqs_base_tables.proofs.BestLemmas.{taken, passed_over}
+use Rattle.nqs_base_tables.proofs.BestLemmas.{scanned}
 use Rattle.nqs_base_tables.proofs.table.Table.best.Goals as goal
 
 pub loop-place-init : goal.loop-place-init
@@ -28,23 +28,6 @@ previous-slot-requires-clause-some g c = omega arith
 pub previous-slot-requires-clause-within : goal.previous-slot-requires-clause-within
 previous-slot-requires-clause-within g c = c.loop-place.invariant.slots
 
-pub loop-place-preserved-then-passes : goal.loop-place-preserved-then-passes
-loop-place-preserved-then-passes g c = record {
-  within = omega arith;
-  stands = omega arith;
-  slots = omega arith;
-  best = λ p b says beats.
-      let stood : filled c.self.inside.slots.entries c.previous-slot.result ≡ c.loop-place.place - 1 = omega arith in
-      let at : slice_get c.args.self.now.items (c.loop-place.place - 1) ≡ Some c.value-value.result.now =
-      ap (λ r. slice_get r.items (c.loop-place.place - 1)) (sym c.self.view_is)
-      ∙ ap (slice_get (values_of (live c.self.inside.slots.entries))) (sym stood) ∙ c.value-value.ensures in
-      let told : c.passes.result ≡ p c.value-value.result.now = says _ _ (record
-      { shown = c.value-value.result; shows = refl; says = record { met = c.passes.ensures } }) in
-      c.better-best.ensures b beats
-      ∙ taken p b c.args.self.now.items c.loop-place.place c.value-value.result.now c.loop-place-test.true at (sym told ∙ c.if-passes.true) _
-      (c.loop-place.invariant.best p b says beats);
-}
-
 pub loop-place-preserved : goal.loop-place-preserved
 loop-place-preserved g c = record {
   within = omega arith;
@@ -52,11 +35,10 @@ loop-place-preserved g c = record {
   slots = omega arith;
   best = λ p b says beats.
       let stood : filled c.self.inside.slots.entries c.previous-slot.result ≡ c.loop-place.place - 1 = omega arith in
-      let at : slice_get c.args.self.now.items (c.loop-place.place - 1) ≡ Some c.value-value.result.now =
+      let at : slice_get c.args.self.now.items (c.loop-place.place - 1) ≡ Some c.value.result.now =
       ap (λ r. slice_get r.items (c.loop-place.place - 1)) (sym c.self.view_is)
-      ∙ ap (slice_get (values_of (live c.self.inside.slots.entries))) (sym stood) ∙ c.value-value.ensures in
-      let told : c.passes.result ≡ p c.value-value.result.now = says _ _ (record
-      { shown = c.value-value.result; shows = refl; says = record { met = c.passes.ensures } }) in
-      c.loop-place.invariant.best p b says beats
-      ∙ passed_over p b c.args.self.now.items c.loop-place.place c.value-value.result.now c.loop-place-test.true at (sym told ∙ c.if-passes.false);
+      ∙ ap (slice_get (values_of (live c.self.inside.slots.entries))) (sym stood) ∙ c.value.ensures in
+      c.with_value-best.ensures p b says beats
+      ∙ scanned p b c.args.self.now.items c.loop-place.place c.value.result.now c.loop-place-test.true at _
+      (c.loop-place.invariant.best p b says beats);
 }

@@ -1,15 +1,16 @@
 use Rattle.std.proofs.Common.{◌∙◌, ap, sym, subst, find, map}
+use Rattle.nqs_base_tables.proofs.TableLemmas.{without_first-none}
 use Rattle.nqs_index.specs.Indexed.{IsMore}
 use Rattle.nqs_index.specs.Seats.{seat_of}
 use Rattle.nqs_state.specs.Keys.{is_row}
-use Rattle.nqs_state.proofs.RowLemmas.{no_row, none_goes, gone}
+use Rattle.nqs_state.proofs.RowLemmas.{no_row, gone}
 use Rattle.nqs_state.proofs.rows.Rows.remove_key.Goals as goal
 
 pub returns-in_default-clause-items : goal.returns-in_default-clause-items
 returns-in_default-clause-items c =
     let test = is_row c.args.key.now in
-    none_goes test c.args.self.now.items
-    (ap (λ r. find test r.items) (sym c.self.view_is) ∙ no_row (find test c.self.inside.table.items) (sym c.in_default.is ∙ c.seat_at.ensures))
+    sym (without_first-none test c.args.self.now.items
+    (ap (λ r. find test r.items) (sym c.self.view_is) ∙ no_row (find test c.self.inside.table.items) (sym c.in_default.is ∙ c.seat_at.ensures)))
 
 pub invariant_of-self : goal.invariant_of-self
 invariant_of-self c =

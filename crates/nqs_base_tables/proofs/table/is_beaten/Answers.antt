@@ -1,7 +1,7 @@
 use Rattle.std.proofs.Common.{◌≡◌, ◌∙◌, ap, sym, refl}
 use Rattle.std.specs.Option.{option_map}
-use Rattle.nqs_order.specs.Best.{is_beaten}
-use Rattle.nqs_order.proofs.best.is_beaten.Goals as goal
+use Rattle.nqs_base_tables.specs.Table.{is_beaten}
+use Rattle.nqs_base_tables.proofs.table.is_beaten.Goals as goal
 
 pub returns-in-Some : goal.returns-in-Some
 returns-in-Some g c b says =

@@ -1,6 +1,6 @@
 use Rattle.std.proofs.Common.{◌≡◌, ◌∙◌, sym, refl}
-use Rattle.nqs_order.proofs.BestLemmas.{beaten, taken, passed_over}
-use Rattle.nqs_order.proofs.best.with_value.Goals as goal
+use Rattle.nqs_base_tables.proofs.BestLemmas.{beaten, taken, passed_over}
+use Rattle.nqs_base_tables.proofs.table.with_value.Goals as goal
 
 pub returns-then-is_beaten : goal.returns-then-is_beaten
 returns-then-is_beaten g c p b says beats = beaten p b (c.args.place, c.args.value.now) _ (sym (c.is_beaten.ensures b beats) ∙ c.if-is_beaten.true)
