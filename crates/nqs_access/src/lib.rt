@@ -12,7 +12,7 @@ mod way;
 
 pub use apply::apply_access;
 pub use check::check_access;
-pub use names::{drop_name, known_queue, place_of};
+pub use names::{drop_name, known_queue};
 pub use nqs_types::{Entry, Rank};
 pub use ranks::{may_command, rank};
 pub use way::may_use;

@@ -3,7 +3,7 @@
 //! A name is 1 to 15 bytes: a letter, then letters, digits, `_` and `-`. Names are compared by
 //! bytes.
 
-ghost use Rattle.std.specs.Prelude.{◌≡◌, ℕ, List, length, take, nat_eq};
+ghost use Rattle.std.specs.Prelude.{◌≡◌, ◌<◌, ℕ, List, length, take, nat_eq, position, IfSome};
 ghost use Rattle.std.specs.List.{list_any, AllByRecursion};
 ghost use Rattle.std.specs.Cmp.{partial_equiv_from_equiv};
 ghost use Rattle.std.specs.Cmp.Lexicographic.{pointwise, nat_list_eq_equiv};
@@ -130,6 +130,14 @@ pub fn has_name(names: &[Name], wanted: &Name) -> bool
     ensures { result ≡ list_any (name_eq wanted.now) names.now }
 {
     names.iter().any(|name| *wanted == *name)
+}
+
+/// The place of the name in the list, from 0: the first, if it stands there more than once.
+pub fn place_of(names: &[Name], wanted: &Name) -> Option<usize>
+    ensures place { result ≡ position (name_eq wanted.now) names.now }
+    ensures within { IfSome result (λ place. place < length names.now) }
+{
+    names.iter().position(|name| *wanted == *name)
 }
 
 /// Reads the name, whose type says that it is one: for callers that need its contract.

@@ -1,11 +1,12 @@
 -- Putting and taking undo each other, for bytes that are taken by their extent.
 use Rattle.std.proofs.Common.{◌≡◌, ℕ, ◌+◌, List, ◌++◌, length, take, drop, refl, sym, ap, ◌∙◌, Result, Ok, Err}
 use Rattle.std.proofs.lemmas.List.{drop_at}
+use Rattle.nqs_base.specs.Extents.{extent_bytes}
 use Rattle.nqs_base.specs.Path.{IsPath}
 use Rattle.nqs_base.specs.declared.extent.Extent.{Extent}
 use Rattle.nqs_base.proofs.Plain.{rest_behind}
 use Rattle.nqs_codec.specs.Fields.{bytes_field, short_field}
-use Rattle.nqs_codec.specs.Takes.{Stands, StandsNone, TakesBytes, TakesPath, IsLong, IsExtentAt, extent_bytes}
+use Rattle.nqs_codec.specs.Takes.{Stands, StandsNone, TakesBytes, TakesPath, IsLong, IsExtentAt}
 use Rattle.nqs_codec.specs.Laws.{IsOne, IsReadInPlace, HasOneAnswer, extent_of}
 use Rattle.nqs_codec.proofs.One.{one_bytes, one_short}
 use Rattle.nqs_codec.proofs.Shorts.{short_lies, bytes_lie}

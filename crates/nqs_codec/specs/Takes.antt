@@ -1,7 +1,8 @@
 -- What taking a field from a place answers. The cases of each definition exclude each other.
-use Rattle.std.specs.Prelude.{◌≡◌, ◌⊎◌, ℕ, ◌+◌, ◌<◌, ◌≤◌, ◌^◌, Bool, true, List, [], ◌∷◌, ◌++◌, length, take, drop, Ok, Err}
+use Rattle.std.specs.Prelude.{◌≡◌, ◌⊎◌, ℕ, ◌+◌, ◌<◌, ◌≤◌, ◌^◌, Bool, true, List, [], ◌∷◌, ◌++◌, length, drop, Ok, Err}
 use Rattle.std.specs.declared.result.Result.{Result}
 use Rattle.nqs_base.specs.Name.{IsName, IsFirstBad}
+use Rattle.nqs_base.specs.Extents.{extent_bytes}
 use Rattle.nqs_base.specs.Path.{IsPath, IsFirstBadOfPath, PathAllowedBelow, has_parent}
 use Rattle.nqs_base.specs.declared.extent.Extent.{Extent}
 use Rattle.nqs_base.specs.declared.name.Name.{Name}
@@ -23,10 +24,6 @@ StandsNone {A} IsValue field bytes place = (value : A) (rest : List ℕ) → IsV
 abbrev pub TakesNumber : ℕ → (ℕ → List ℕ) → List ℕ → ℕ → Result (ℕ × ℕ) Short → Type 0
 TakesNumber limit field bytes place (Ok (value, next)) = (value < limit) × Stands bytes place (field value) next
 TakesNumber limit field bytes place (Err short) = (short.0 ≡ length bytes) × StandsNone (λ n. n < limit) field bytes place
-
--- the bytes of an extent
-abbrev pub extent_bytes : List ℕ → Extent → List ℕ
-extent_bytes bytes extent = take extent.length (drop extent.place bytes)
 
 -- the extent begins at the place, and its bytes are all there
 pub record IsExtentAt (bytes : List ℕ) (place : ℕ) (extent : Extent) : Type 0 where

@@ -7,8 +7,7 @@ ghost use Rattle.nqs_rules.specs.Conf.{lists_dest, no_host_cause, dest_list, cre
 ghost use Rattle.nqs_rules.specs.Find.{meant_dest};
 ghost use Rattle.nqs_rules.specs.Tests.{same_dest};
 
-use nqs_access::place_of;
-use nqs_base::{ListOf, Name, Spare};
+use nqs_base::{ListOf, Name, Spare, place_of};
 use nqs_state::HostState;
 use nqs_types::{Dest, DestList, HostId, NamedDest, QueueDef, Refusal};
 use std::alloc::Global;

@@ -1,13 +1,13 @@
 //! A host as it is formatted. `nqs_rules/specs/Format.antt` has the rule.
 
-ghost use Rattle.std.specs.Prelude.{◌≡◌, ◌∷◌, [], codes, IfOk, map};
+ghost use Rattle.std.specs.Prelude.{◌≡◌, ◌∷◌, [], IfOk, map};
 ghost use Rattle.nqs_state.specs.State.{content};
 ghost use Rattle.nqs_rules.specs.Format.{no_limits, new_peer, first_queue, formatted};
 
 use nqs_base::{ListOf, Memory, Name, NameList, Spare};
 use nqs_base_tables::Table;
 use nqs_state::{HostState, PeerList, Rows};
-use nqs_types::{Access, HostId, Kind, Limits, Peer, QueueDef};
+use nqs_types::{Access, HostId, Kind, Limits, Peer, QueueDef, batch, root};
 use std::alloc::Global;
 
 /// Requests that may run at once.
@@ -24,24 +24,6 @@ const NEW_PEER: Peer = Peer {
     stage_next: 1,
     stage_got: 0,
 };
-
-fn batch() -> Name
-    ensures { result ≡ codes "batch" }
-{
-    match Name::read(b"batch") {
-        Ok(name) => name,
-        Err(_) => unreachable!(),
-    }
-}
-
-fn root() -> Name
-    ensures { result ≡ codes "root" }
-{
-    match Name::read(b"root") {
-        Ok(name) => name,
-        Err(_) => unreachable!(),
-    }
-}
 
 // The queue that a formatted host has.
 fn first_queue(alloc: Global) -> QueueDef

@@ -5,13 +5,13 @@ ghost use Rattle.std.specs.Prelude.{◌≡◌, OnOk, IsTrue};
 ghost use Rattle.nqs_state.specs.State.{content};
 ghost use Rattle.nqs_handover.specs.Opened.{may_count_hops};
 
-use nqs_base::{ListOf, Memory, Name};
+use nqs_base::{ListOf, Memory};
 use nqs_builders::{add, host, job, queue, row, text};
 use nqs_handover::{on_commit, on_inquire, on_offer, on_ready, on_tick, open_hand};
 use nqs_state::{HostState, Rows};
 use nqs_types::{
     Body, Carried, Change, Dest, Hand, HostId, Kind, Output, Peer, Phase, Plan, Promise, QueueDef,
-    RequestId, Row,
+    RequestId, Row, batch,
 };
 use std::alloc::Global;
 use std::rt::HostRuntime;
@@ -27,14 +27,6 @@ const PEER: Peer = Peer {
     stage_next: 1,
     stage_got: 0,
 };
-
-// The name of the hosts, of the queue, and of all else.
-fn batch() -> Name {
-    match Name::read(b"batch") {
-        Ok(name) => name,
-        Err(_) => unreachable!(),
-    }
-}
 
 fn pipe_queue(alloc: Global, dests: ListOf<Dest>) -> QueueDef {
     let mut queue = queue(alloc, batch());

@@ -4,16 +4,9 @@ use nqs_base::{Bytes, Items, ListOf, Memory, Name};
 use nqs_builders::{add, add_row, host, queue, row};
 use nqs_lists::{show_lines, stat_lines};
 use nqs_state::HostState;
-use nqs_types::{ComplexDef, DeviceDef, Hold, QueueDef, Row};
+use nqs_types::{ComplexDef, DeviceDef, Hold, QueueDef, Row, batch};
 use std::alloc::Global;
 use std::rt::HostRuntime;
-
-fn batch() -> Name {
-    match Name::read(b"batch") {
-        Ok(name) => name,
-        Err(_) => unreachable!(),
-    }
-}
 
 fn ann() -> Name {
     match Name::read(b"ann") {

@@ -1,11 +1,9 @@
 //! Each call that takes memory, once.
 
-use nqs_base::{Bytes, Extent, Items, ListOf, Memory, Name};
+use nqs_base::{Bytes, Extent, Items, ListOf, Memory, Name, copy_bytes};
 use nqs_base_tables::Table;
 use nqs_builders::{add, job, text};
-use nqs_plans::{
-    add_kept, change_storing, copy_bytes, copy_carried, copy_job, fold_each, no_extent, says,
-};
+use nqs_plans::{add_kept, change_storing, copy_carried, copy_job, fold_each, no_extent, says};
 use nqs_types::{Carried, Change, DeviceDef, HostId, Job, Output, Plan, PlanRead, RequestId};
 use std::alloc::Global;
 use std::rt::HostRuntime;

@@ -1,10 +1,12 @@
 //! A handover of two hosts in the table: where its request lies, and the order of the rows.
 
-use nqs_base::{Memory, Name};
+use nqs_base::Memory;
 use nqs_builders::{add, add_row, host, row};
 use nqs_rules_table::table_of;
 use nqs_state::HostState;
-use nqs_types::{Hand, Hold, HostId, NetState, Phase, Promise, RequestId, Row, RowState, TableRow};
+use nqs_types::{
+    Hand, Hold, HostId, NetState, Phase, Promise, RequestId, Row, RowState, TableRow, batch,
+};
 use std::alloc::Global;
 use std::rt::HostRuntime;
 
@@ -12,16 +14,9 @@ const ALPHA: HostId = HostId(0);
 
 const BETA: HostId = HostId(1);
 
-fn name() -> Name {
-    match Name::read(b"batch") {
-        Ok(name) => name,
-        Err(_) => unreachable!(),
-    }
-}
-
 // A request that was started twice and lost once.
 fn known(alloc: Global, host: HostId, seq: u32, state: RowState) -> Row {
-    let mut row = row(alloc, seq, name(), name());
+    let mut row = row(alloc, seq, batch(), batch());
     row.id.host = host;
     row.state = state;
     row.starts = 2;
@@ -40,7 +35,7 @@ fn hand(number: u64, seq: u32, phase: Phase) -> Hand {
         peer: BETA,
         number,
         id: RequestId { seq, host: ALPHA },
-        queue: name(),
+        queue: batch(),
         since: 0,
         phase,
     }
@@ -90,9 +85,9 @@ fn listed(id: RequestId, host: HostId, state: NetState) -> TableRow {
     TableRow {
         id,
         host,
-        queue: name(),
+        queue: batch(),
         state,
-        owner: name(),
+        owner: batch(),
         starts: 2,
         lost: 1,
     }

@@ -7,11 +7,12 @@ ghost use Rattle.nqs_rules.specs.Step.{show_lines};
 ghost use Rattle.nqs_rules.specs.Text.{kind_text, queue_line, device_line, complex_line, manager_line, operator_line, user_text, default_text, parameter_lines};
 ghost use Rattle.nqs_lists.specs.Lists.{spaced};
 
-use crate::words::{copy_text, decimal, either, id_text, joined, six_words, with_names, with_word};
-use nqs_base::{Bytes, Items, Memory, Name};
+use crate::words::{either, id_text, joined, six_words, with_names, with_word};
+use nqs_base::{Bytes, Items, Memory, Name, bytes_of};
 use nqs_devices::runs_on;
 use nqs_plans::fold_each;
 use nqs_state::HostState;
+use nqs_text::digits;
 use nqs_types::{ComplexDef, DeviceDef, Kind, QueueDef, Row};
 use std::alloc::Global;
 
@@ -28,10 +29,10 @@ fn kind_text(kind: Kind) -> &'static [u8]
 fn queue_line(alloc: Global, queue: &QueueDef) -> Result<Bytes, Memory>
     ensures { IfOk result (λ line. line ≡ queue_line queue.now) }
 {
-    let priority = decimal(alloc, u64::from(queue.priority))?;
-    let run_limit = decimal(alloc, u64::from(queue.run_limit))?;
+    let priority = digits(alloc, u64::from(queue.priority))?;
+    let run_limit = digits(alloc, u64::from(queue.run_limit))?;
     six_words(
-        copy_text(alloc, queue.name.as_bytes())?,
+        bytes_of(alloc, queue.name.as_bytes())?,
         kind_text(queue.kind),
         either(queue.enabled, b"enabled", b"disabled"),
         either(queue.started, b"started", b"stopped"),
@@ -68,7 +69,7 @@ fn user_text(alloc: Global, state: &HostState, device: &Name) -> Result<Bytes, M
     );
     match user {
         Some((_, row)) => id_text(alloc, state.site.as_slice(), row.id),
-        None => copy_text(alloc, b"free"),
+        None => bytes_of(alloc, b"free"),
     }
 }
 
@@ -77,7 +78,7 @@ fn device_line(alloc: Global, state: &HostState, device: &DeviceDef) -> Result<B
     ensures { IfOk result (λ line. line ≡ device_line (content state.now) device.now) }
 {
     let user = user_text(alloc, state, &device.name)?;
-    let line = copy_text(alloc, device.name.as_bytes())?;
+    let line = bytes_of(alloc, device.name.as_bytes())?;
     let line = with_word(line, device.forms.as_bytes())?;
     let line = with_word(line, either(device.enabled, b"enabled", b"disabled"))?;
     with_word(line, user.as_slice())
@@ -110,8 +111,8 @@ fn device_lines(alloc: Global, state: &HostState) -> Result<Items<Bytes>, Memory
 fn complex_head(alloc: Global, complex: &ComplexDef) -> Result<Bytes, Memory>
     ensures { IfOk result (λ line. line ≡ complex.now.name ++ spaced (decimal complex.now.limit)) }
 {
-    let limit = decimal(alloc, u64::from(complex.limit))?;
-    with_word(copy_text(alloc, complex.name.as_bytes())?, limit.as_slice())
+    let limit = digits(alloc, u64::from(complex.limit))?;
+    with_word(bytes_of(alloc, complex.name.as_bytes())?, limit.as_slice())
 }
 
 // A complex, its limit, and its queues.
@@ -172,7 +173,7 @@ fn manager_lines(alloc: Global, state: &HostState) -> Result<Items<Bytes>, Memor
 fn number_line(alloc: Global, name: &[u8], number: u64) -> Result<Bytes, Memory>
     ensures { IfOk result (λ line. line ≡ name.now ++ decimal number) }
 {
-    let number = decimal(alloc, number)?;
+    let number = digits(alloc, number)?;
     joined(alloc, name, number.as_slice())
 }
 
@@ -181,7 +182,7 @@ fn default_line(alloc: Global, state: &HostState) -> Result<Bytes, Memory>
 {
     match &state.default_queue {
         Some(queue) => joined(alloc, b"default_queue ", queue.as_bytes()),
-        None => copy_text(alloc, b"default_queue none"),
+        None => bytes_of(alloc, b"default_queue none"),
     }
 }
 

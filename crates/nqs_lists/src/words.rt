@@ -1,6 +1,5 @@
 //! Words, and lines of them.
 ghost use Rattle.std.specs.Prelude.{◌≡◌, ◌++◌, ◌∷◌, [], flat_map, IfOk};
-ghost use Rattle.std.specs.Fmt.{decimal};
 ghost use Rattle.nqs_rules.specs.Handover.{name_at};
 ghost use Rattle.nqs_rules.specs.Text.{id_text, words, either};
 ghost use Rattle.nqs_lists.specs.Lists.{spaced};
@@ -8,14 +7,6 @@ ghost use Rattle.nqs_lists.specs.Lists.{spaced};
 use nqs_base::{Bytes, ListOf, Memory, Name};
 use nqs_types::RequestId;
 use std::alloc::Global;
-
-/// The decimal digits of a number.
-pub(crate) fn decimal(alloc: Global, number: u64) -> Result<Bytes, Memory>
-    ensures { IfOk result (λ text. text ≡ decimal number) }
-{
-    let text = format!(in alloc; "{number}")?;
-    Ok(ListOf::from_vec(text.into_bytes()))
-}
 
 /// The name of the host at a place of the site, and nothing where there is none.
 fn name_at(site: &[Name], place: usize) -> &[u8]
@@ -81,13 +72,6 @@ pub(crate) fn with_names(line: Bytes, names: &[Name]) -> Result<Bytes, Memory>
         line = with_word(line, name.as_bytes())?;
     }
     Ok(line)
-}
-
-/// The same text.
-pub(crate) fn copy_text(alloc: Global, text: &[u8]) -> Result<Bytes, Memory>
-    ensures { IfOk result (λ copy. copy ≡ text.now) }
-{
-    Ok(ListOf::from_vec(Vec::from_slice(alloc, text)?))
 }
 
 /// One text and then the other.

@@ -7,7 +7,7 @@ ghost use Rattle.nqs_net.specs.Deeds.{arrival, deed_of, plain_deed};
 
 use crate::deed::Deed;
 use crate::packets::{newest_between, packet_at};
-use nqs_base::{Bytes, Memory, Name};
+use nqs_base::{Bytes, Memory, Name, copy_bytes};
 use nqs_language_acts::{qdel_command, qmgr_command, qstat_command, qsub_command, submit_command};
 use nqs_types::{Command, Event, HostId, Message, RequestId, WorldEvent};
 use std::alloc::Global;
@@ -24,12 +24,6 @@ fn ask(now: u64, host: HostId, user: &Name, command: Command) -> Option<(HostId,
         command,
     };
     Some((host, Deed::Take(event)))
-}
-
-fn copy(alloc: Global, bytes: &Bytes) -> Result<Bytes, Memory>
-    ensures { IfOk result (λ copy. copy ≡ bytes.now) }
-{
-    Ok(Bytes::from_vec(Vec::from_slice(alloc, bytes.as_slice())?))
 }
 
 // What comes to one host by an event whose words need no reading.
@@ -74,8 +68,8 @@ fn end(
         id,
         start,
         status,
-        out: copy(alloc, out)?,
-        err: copy(alloc, err)?,
+        out: copy_bytes(out)?,
+        err: copy_bytes(err)?,
     };
     Ok(Some((host, Deed::Take(event))))
 }

@@ -1,16 +1,9 @@
 //! Copies of what a plan holds.
 ghost use Rattle.std.specs.Prelude.{◌≡◌, IfOk};
 
-use nqs_base::{Bytes, ListOf, Memory};
+use nqs_base::{ListOf, Memory};
 use nqs_types::{Carried, Job};
 use std::alloc::Global;
-
-/// The same bytes.
-pub fn copy_bytes(bytes: &Bytes) -> Result<Bytes, Memory>
-    ensures { IfOk result (λ copy. copy ≡ bytes.now) }
-{
-    Ok(bytes.clone()?)
-}
 
 /// The same job.
 pub fn copy_job(job: &Job) -> Result<Job, Memory>

@@ -10,7 +10,7 @@ mod each;
 mod look;
 mod plan;
 
-pub use copies::{copy_bytes, copy_carried, copy_job};
+pub use copies::{copy_carried, copy_job};
 pub use each::fold_each;
 pub use look::refusal_number;
 pub use plan::{add, add_kept, change_alone, change_storing, message, no_extent, quiet, says};

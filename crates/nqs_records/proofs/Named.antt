@@ -7,7 +7,7 @@ use Rattle.std.proofs.lemmas.Bool.Decides.{nat_tests}
 use Rattle.nqs_base.specs.Name.{IsName, allowed_at}
 use Rattle.nqs_base.specs.Path.{IsPath, path_allowed_at, has_parent}
 use Rattle.nqs_codec.specs.Fields.{u8_field, short_field, bool_field}
-use Rattle.nqs_codec.specs.Takes.{Stands, TakesBool, TakesName, TakesPath, IsOther, IsCutShort, IsBadLength, IsShortAt, extent_bytes}
+use Rattle.nqs_codec.specs.Takes.{Stands, TakesBool, TakesName, TakesPath, IsOther, IsCutShort, IsBadLength, IsShortAt}
 use Rattle.nqs_codec.specs.Laws.{IsReadBack}
 use Rattle.nqs_codec.specs.declared.fault.FieldFault.{FieldFault}
 use Rattle.nqs_codec.specs.declared.fault.FieldFault.TheVariants.{Short, Bad}

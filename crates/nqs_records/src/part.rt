@@ -1,7 +1,8 @@
 //! What records are made of: hosts, requests, extents, paths, jobs and what may be left out.
 
 ghost use Rattle.std.specs.Prelude.{◌≡◌, ◌<◌};
-ghost use Rattle.nqs_codec.specs.Takes.{IsExtentAt, extent_bytes};
+ghost use Rattle.nqs_base.specs.Extents.{extent_bytes};
+ghost use Rattle.nqs_codec.specs.Takes.{IsExtentAt};
 ghost use Rattle.nqs_records.specs.Reading.{Answers};
 ghost use Rattle.nqs_records.specs.Fields.{u64_at, name_at, path_at, opt_at};
 ghost use Rattle.nqs_records.specs.Parts.{host_at, seq_at, id_at, extent_at, part_at, hand_at};

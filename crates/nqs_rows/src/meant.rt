@@ -5,7 +5,7 @@ ghost use Rattle.std.specs.Option.{option_copied};
 ghost use Rattle.nqs_state.specs.State.{content};
 ghost use Rattle.nqs_rules.specs.Find.{meant_request, meant_row};
 
-use nqs_access::place_of;
+use nqs_base::place_of;
 use nqs_state::HostState;
 use nqs_types::{HostId, Named, RequestId, Row};
 

@@ -3,14 +3,14 @@
 //! specs/Generated.antt has it.
 
 ghost use Rattle.std.specs.Prelude.{◌≡◌, ◌++◌, ◌%◌, ◌<◌, ◌≤◌, codes, OnOk, IfOk};
-ghost use Rattle.std.specs.Fmt.{decimal};
 ghost use Rattle.nqs_schedule.specs.Generated.{host_name, root_line, qsub, link_line, set_up, for_hosts, piped, submitted_once, stopped, choice, drawn};
 ghost use Rattle.nqs_schedule.specs.Generated.{drawn_from, generator_of, booted, generated, generated_site};
 
 use crate::reader::Schedule;
-use nqs_base::{Bytes, Items, Memory, Name, NameList};
+use nqs_base::{Bytes, Items, Memory, Name, NameList, bytes_of};
 use nqs_query::{put_decimal, put_text};
-use nqs_types::{HostId, WorldEvent};
+use nqs_text::digits;
+use nqs_types::{HostId, WorldEvent, root};
 use nqs_words::name_of;
 use rand_core::SeedableRng;
 use rand_core::utils::NextWord;
@@ -24,29 +24,6 @@ fn user() -> Name
         Ok(name) => name,
         Err(_) => unreachable!(),
     }
-}
-
-fn root() -> Name
-    ensures { result ≡ codes "root" }
-{
-    match Name::read(b"root") {
-        Ok(name) => name,
-        Err(_) => unreachable!(),
-    }
-}
-
-fn copied(alloc: Global, bytes: &[u8]) -> Result<Bytes, Memory>
-    ensures { IfOk result (λ copy. copy ≡ bytes.now) }
-{
-    Ok(Bytes::from_vec(Vec::from_slice(alloc, bytes)?))
-}
-
-fn digits(alloc: Global, number: u64) -> Result<Bytes, Memory>
-    ensures { IfOk result (λ text. text ≡ decimal number) }
-{
-    let mut text = Vec::new(alloc);
-    put_decimal(alloc, number, &mut text)?;
-    Ok(Bytes::from_vec(text))
 }
 
 fn put_host_name(alloc: Global, place: u8, out: &mut Vec<u8>) -> Result<(), Memory>
@@ -87,9 +64,9 @@ fn add_set_up(
     ensures { OnOk result (events.new ≡ events.old ++ set_up hosts host) }
 {
     events.push(root_line(host, link_line(alloc, (host + 1) % hosts)?))?;
-    events.push(root_line(host, copied(alloc, b"enable queue link")?))?;
-    events.push(root_line(host, copied(alloc, b"start queue link")?))?;
-    events.push(root_line(host, copied(alloc, b"start queue batch")?))?;
+    events.push(root_line(host, bytes_of(alloc, b"enable queue link")?))?;
+    events.push(root_line(host, bytes_of(alloc, b"start queue link")?))?;
+    events.push(root_line(host, bytes_of(alloc, b"start queue batch")?))?;
     Ok(())
 }
 
@@ -109,9 +86,9 @@ fn piped(alloc: Global, host: u8, word: u32) -> Result<WorldEvent, Memory>
     ensures { IfOk result (λ e. e ≡ piped host word) }
 {
     let mut words = Items::new(alloc);
-    words.push(copied(alloc, b"-q")?)?;
-    words.push(copied(alloc, b"link")?)?;
-    words.push(copied(alloc, b"-p")?)?;
+    words.push(bytes_of(alloc, b"-q")?)?;
+    words.push(bytes_of(alloc, b"link")?)?;
+    words.push(bytes_of(alloc, b"-p")?)?;
     words.push(digits(alloc, u64::from(word / 4096 % 64))?)?;
     Ok(qsub(host, words, alloc))
 }
@@ -121,7 +98,7 @@ fn submitted_once(alloc: Global, host: u8) -> Result<WorldEvent, Memory>
     ensures { IfOk result (λ e. e ≡ submitted_once host) }
 {
     let mut words = Items::new(alloc);
-    words.push(copied(alloc, b"-nr")?)?;
+    words.push(bytes_of(alloc, b"-nr")?)?;
     Ok(qsub(host, words, alloc))
 }
 

@@ -5,21 +5,15 @@ ghost use Rattle.nqs_schedule.specs.Events.{bytes_at, words_behind, text_of_word
 
 use crate::plan::Plan;
 use crate::words::{LineWord, LineWords};
-use nqs_base::{Bytes, Items, Memory};
+use nqs_base::{Bytes, Items, Memory, bytes_of};
 use nqs_types::WorldEvent;
 use std::alloc::Global;
-
-fn copied(alloc: Global, bytes: &[u8]) -> Result<Bytes, Memory>
-    ensures { IfOk result (λ copy. copy ≡ bytes.now) }
-{
-    Ok(Bytes::from_vec(Vec::from_slice(alloc, bytes)?))
-}
 
 fn bytes_at(alloc: Global, words: &LineWords, place: usize) -> Result<Bytes, Memory>
     ensures { IfOk result (λ bytes. bytes ≡ bytes_at words.now place) }
 {
     match words.words.as_slice().get(place) {
-        Some(word) => copied(alloc, word.text.as_slice()),
+        Some(word) => bytes_of(alloc, word.text.as_slice()),
         None => Ok(Bytes::new(alloc)),
     }
 }
@@ -29,7 +23,7 @@ fn texts(alloc: Global, words: &[LineWord]) -> Result<Items<Bytes>, Memory>
 {
     let mut texts = Items::new(alloc);
     for i in 0..words.len() {
-        texts.push(copied(alloc, words[i].text.as_slice())?)?;
+        texts.push(bytes_of(alloc, words[i].text.as_slice())?)?;
     }
     Ok(texts)
 }
@@ -60,7 +54,7 @@ fn qmgr_text(alloc: Global, line: &[u8], words: &LineWords) -> Result<Bytes, Mem
     match words.words.as_slice().get(2) {
         Some(word) => {
             let end = word.end.min(line.len());
-            copied(alloc, without_spaces(&line[end..]))
+            bytes_of(alloc, without_spaces(&line[end..]))
         }
         None => Ok(Bytes::new(alloc)),
     }

@@ -1,7 +1,7 @@
 //! What the words of a line say, by their places from 0, with the first cause why not. No call
 //! takes memory.
 
-ghost use Rattle.std.specs.Prelude.{◌≡◌, ◌<◌, ◌≤◌, Some, is_some, IfOk, IfSome, codes, length, take, drop};
+ghost use Rattle.std.specs.Prelude.{◌≡◌, ◌≤◌, Some, is_some, IfOk, codes, take, drop};
 ghost use Rattle.std.specs.List.{position};
 ghost use Rattle.nqs_base.specs.Same.{name_eq};
 ghost use Rattle.nqs_schedule.specs.Words.{no_word, text_there, name_at, number_at, host_of, host_at, request_at, disk_of, disk_at, mixed_of, as_mixed};
@@ -9,7 +9,7 @@ ghost use Rattle.nqs_schedule.specs.Words.{tear_of, tear_at, output_at, nothing_
 
 use crate::cause::Cause;
 use crate::words::LineWords;
-use nqs_base::{Name, Tear};
+use nqs_base::{Name, Tear, place_of};
 use nqs_types::{HostId, RequestId, Which};
 use nqs_words::{name_of, named_of, number_of};
 
@@ -63,18 +63,11 @@ pub(crate) fn number_at(low: u64, high: u64, words: &LineWords, place: usize) ->
     }
 }
 
-fn place_of_host(site: &[Name], name: &Name) -> Option<usize>
-    ensures place { result ≡ position (name_eq name.now) site.now }
-    ensures bound { IfSome result (λ place. place < length site.now) }
-{
-    site.iter().position(|host| *host == *name)
-}
-
 /// Is there a host of this name?
 pub(crate) fn is_host(site: &[Name], name: &Name) -> bool
     ensures { result ≡ is_some (position (name_eq name.now) site.now) }
 {
-    place_of_host(site, name).is_some()
+    place_of(site, name).is_some()
 }
 
 // The host of this name.
@@ -82,7 +75,7 @@ pub(crate) fn is_host(site: &[Name], name: &Name) -> bool
 fn host_of(site: &[Name], name: &Name) -> Result<HostId, Cause>
     ensures { result ≡ host_of site.now name.now }
 {
-    let Some(place) = place_of_host(site, name) else {
+    let Some(place) = place_of(site, name) else {
         return Err(Cause::NoSuchHost);
     };
     if place < 16 {

@@ -8,8 +8,8 @@ ghost use Rattle.nqs_rules.specs.Stepped.{plan_of, says};
 ghost use Rattle.nqs_plans.specs.More.{with_more};
 ghost use Rattle.nqs_stage.specs.Files.{HasDistinctStages};
 
-use nqs_base::{Keyed, ListOf, Memory};
-use nqs_plans::{add_kept, copy_bytes, fold_each, message, quiet};
+use nqs_base::{Keyed, ListOf, Memory, copy_bytes};
+use nqs_plans::{add_kept, fold_each, message, quiet};
 use nqs_state::HostState;
 use nqs_types::{Body, FileOut, HostId, Output, PeerNumber, Plan, Stage};
 use std::alloc::Global;

@@ -14,8 +14,8 @@ ghost use Rattle.nqs_stage.specs.Files.{ending};
 
 use crate::due::is_stage_to;
 use crate::part::{Part, keep_numbered, parts_of};
-use nqs_base::{Bytes, Items, Memory, Rest};
-use nqs_plans::{add, copy_bytes, message, no_extent, quiet};
+use nqs_base::{Bytes, Items, Memory, Rest, copy_bytes};
+use nqs_plans::{add, message, no_extent, quiet};
 use nqs_routing::find_peer;
 use nqs_state::HostState;
 use nqs_types::{Body, Change, HostId, OutPart, Output, Plan, RequestId, Row, Stage};

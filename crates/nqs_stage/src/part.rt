@@ -3,8 +3,7 @@ ghost use Rattle.std.specs.Prelude.{◌≡◌, ◌+◌, ◌++◌, ◌≤◌, len
 ghost use Rattle.nqs_rules.specs.Tests.{last_u64};
 ghost use Rattle.nqs_rules.specs.Stage.{part_to, parts_of, numbered};
 
-use nqs_base::{Bytes, ListOf, Memory};
-use nqs_plans::copy_bytes;
+use nqs_base::{Bytes, ListOf, Memory, copy_bytes};
 use nqs_types::Job;
 use std::alloc::Global;
 use std::marker::Model;

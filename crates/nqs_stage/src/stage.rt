@@ -10,8 +10,8 @@ ghost use Rattle.nqs_types.specs.declared.event.Output.TheVariants.{File};
 ghost use Rattle.nqs_stage.specs.Files.{HasDistinctStages};
 
 use crate::due::add_next;
-use nqs_base::{Bytes, ListOf, Memory};
-use nqs_plans::{add, change_alone, change_storing, copy_bytes, message, no_extent, quiet, says};
+use nqs_base::{Bytes, ListOf, Memory, copy_bytes};
+use nqs_plans::{add, change_alone, change_storing, message, no_extent, quiet, says};
 use nqs_routing::find_peer;
 use nqs_state::HostState;
 use nqs_types::{Body, Change, HostId, Output, PeerNumber, Plan};

@@ -6,8 +6,8 @@ ghost use Rattle.nqs_rules.specs.Stepped.{plan_of};
 ghost use Rattle.nqs_step.specs.Asked.{asked};
 
 use crate::reply::{Asker, refuse, reply_to};
-use nqs_base::{Bytes, ListOf, Memory, Name};
-use nqs_plans::{add, change_storing, copy_bytes, no_extent};
+use nqs_base::{Bytes, ListOf, Memory, Name, copy_bytes};
+use nqs_plans::{add, change_storing, no_extent};
 use nqs_rows::check_submit;
 use nqs_state::HostState;
 use nqs_types::{Change, Job, Plan, Refusal, Reply, RequestId, Submission};

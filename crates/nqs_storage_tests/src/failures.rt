@@ -11,7 +11,7 @@ ghost use Rattle.nqs_store.specs.Disks.{disk_at};
 ghost use Rattle.nqs_store.specs.Sound.{IsSoundHost};
 ghost use Rattle.nqs_node.specs.Nodes.{content_of};
 
-use crate::node::{batch, formatted, root, start_queue, submission, submit};
+use crate::node::{formatted, start_queue, submission, submit};
 use nqs_base::{Bytes, Tear};
 use nqs_disk::{Lack, MemDisk};
 use nqs_journal::{Journal, JournalFault, format};
@@ -20,7 +20,8 @@ use nqs_outside::{Disk, Fused};
 use nqs_state::HostState;
 use nqs_store::{Disks, LoadFault, Store, StoreFault, read_only};
 use nqs_types::{
-    Command, Event, HostId, Job, Limits, Output, RequestId, RowState, Submission, Which,
+    Command, Event, HostId, Job, Limits, Output, RequestId, RowState, Submission, Which, batch,
+    root,
 };
 use std::alloc::Global;
 use std::rt::HostRuntime;

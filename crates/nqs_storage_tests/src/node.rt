@@ -1,6 +1,6 @@
 //! A host in memory: formatted, booted, and asked for a job that it starts.
 
-ghost use Rattle.std.specs.Prelude.{◌≡◌, [], IfOk, IsTrue, codes};
+ghost use Rattle.std.specs.Prelude.{◌≡◌, [], IfOk, IsTrue};
 ghost use Rattle.nqs_types.specs.declared.world.Which.{Which};
 ghost use Rattle.nqs_outside.specs.History.{IsQuiet};
 ghost use Rattle.nqs_disk.specs.MemDisk.{history_of as history_of_disk};
@@ -9,11 +9,13 @@ ghost use Rattle.nqs_store.specs.Disks.{disk_at};
 ghost use Rattle.nqs_store.specs.Sound.{IsSoundHost};
 ghost use Rattle.nqs_node.specs.Nodes.{content_of};
 
-use nqs_base::{Bytes, Memory, Name};
+use nqs_base::{Bytes, Memory};
 use nqs_disk::MemDisk;
 use nqs_node::Node;
 use nqs_store::{Disks, StoreFault, format};
-use nqs_types::{Command, ConfEdit, Edit, Event, HostId, Job, Limits, Output, Submission};
+use nqs_types::{
+    Command, ConfEdit, Edit, Event, HostId, Job, Limits, Output, Submission, batch, root,
+};
 use std::alloc::Global;
 use std::rt::HostRuntime;
 
@@ -22,25 +24,6 @@ const SCRIPT: &[u8] = b"echo done\n";
 // Whether the submission and the start of its queue are taken, whether each of the three looks
 // started something, how many requests there are then, and whether the node is stopped.
 type Seen = ([bool; 2], [Option<bool>; 3], usize, bool);
-
-// The queue that a host has when it is formatted, and a user of this name.
-pub(crate) fn batch() -> Name
-    ensures { result ≡ codes "batch" }
-{
-    match Name::read(b"batch") {
-        Ok(name) => name,
-        Err(_) => unreachable!(),
-    }
-}
-
-pub(crate) fn root() -> Name
-    ensures { result ≡ codes "root" }
-{
-    match Name::read(b"root") {
-        Ok(name) => name,
-        Err(_) => unreachable!(),
-    }
-}
 
 fn empty_disks(alloc: Global) -> Disks<MemDisk>
     ensures { (which : Which) → history_of_disk (disk_at which result) ≡ record { start = []; calls = [] } }

@@ -17,5 +17,5 @@ pub returns-in-None : goal.returns-in-None
 returns-in-None c =
     let s = content c.args.state.now in
     let best = c.in-None.ensures (runs_on c.args.device.now) (λ _ _. false) (λ v r ran. search rules) (λ u v r ran. search rules) in
-    subst (λ o. IfOk c.copy_text.result (λ text. text ≡ user_text s.site o)) (ap (option_map (λ p. p.1)) best ∙ first-best (runs_on c.args.device.now) 0 s.rows)
+    subst (λ o. IfOk c.bytes_of.result (λ text. text ≡ user_text s.site o)) (ap (option_map (λ p. p.1)) best ∙ first-best (runs_on c.args.device.now) 0 s.rows)
     (search rules)
