@@ -1,5 +1,5 @@
 -- The events that a daemon takes are sane, and right.
-use Rattle.std.proofs.Common.{◌≡◌, ℕ, List, length, refl, sym, ◌∙◌, true, ◌&&◌, ◌==◌, IsTrue, IfSome}
+use Rattle.std.proofs.Common.{◌≡◌, ℕ, List, [], get_or, length, refl, sym, ◌∙◌, true, ◌&&◌, ◌==◌, IsTrue, IfSome}
 use Rattle.std.proofs.lemmas.Bool.{and_parts, and_from, or_right}
 use Rattle.nqs_types.specs.declared.message.Tool.{Tool}
 use Rattle.nqs_types.specs.declared.message.Tool.TheVariants.{Qsub, Qstat, Qdel, Qmgr, Tick}
@@ -16,7 +16,7 @@ use Rattle.nqs_records.proofs.SaneLaws.{path_sane, carried_sane}
 use Rattle.nqs_packets.specs.Values.{IsBody, MaySend}
 use Rattle.nqs_language_acts.specs.Laws.{SubmissionsAreSane, EditsAreSane, ListsAreSane, DeletionsAreSane}
 use Rattle.nqs_back.specs.Back.{comes_back}
-use Rattle.nqs_serve.specs.Events.{Here, line_in, command_of, are_of_site, is_for, event_by, event_of, at_moment}
+use Rattle.nqs_serve.specs.Events.{Here, command_of, are_of_site, is_for, event_by, event_of, at_moment}
 use Rattle.nqs_serve.specs.Runs.{event_back}
 use Rattle.nqs_serve.specs.Sends.{has_number, is_right_id, is_right_event}
 use Rattle.nqs_serve.specs.declared.comeback.Comeback.{Comeback}
@@ -120,7 +120,7 @@ module _ (submissions : SubmissionsAreSane) (edits : EditsAreSane) (lists : List
   sane_command user Qsub words script = submissions user words script
   sane_command user Qstat words script = lists words
   sane_command user Qdel words script = deletions words
-  sane_command user Qmgr words script = edits (line_in words)
+  sane_command user Qmgr words script = edits (get_or words 0 [])
   sane_command user Tick words script = refl
 
   sane_by : (hosts : ℕ) (m : Message) (b : Body) → IsBody b → (is_sane_message hosts m ≡ true) → IfSome (event_by m b) (λ e. IsTrue (is_sane_event hosts e))
