@@ -6,7 +6,7 @@ use Rattle.std.specs.declared.result.Result.{Result}
 use Rattle.nqs_outside.specs.declared.whole.ReadStop.{ReadStop}
 use Rattle.nqs_outside.specs.declared.whole.ReadStop.TheVariants.{Fault, TooLong, Memory}
 use Rattle.nqs_outside.specs.Causes.{Rose}
-use Rattle.nqs_outside.specs.Streams.{Fed, IsUnread, Sunk}
+use Rattle.nqs_outside.specs.Streams.{Fed, IsUnread, ReadsWhole, ReadsTooMuch, Sunk}
 use Rattle.nqs_types.specs.declared.event.Reply.TheVariants.{UnreadWords}
 use Rattle.nqs_types.specs.declared.fault.WordsFault.{WordsFault}
 use Rattle.nqs_types.specs.declared.fault.WordsCause.TheVariants.{ScriptTooLong}
@@ -15,7 +15,7 @@ use Rattle.nqs_types.specs.declared.message.Tool.TheVariants.{Qsub}
 use Rattle.nqs_rules.specs.Transcript.{reply_text}
 use Rattle.nqs_clients.specs.Errand.{errand_of}
 use Rattle.nqs_clients.specs.Exchange.{Exchanges}
-use Rattle.nqs_clients.specs.Sides.{Wired, IsSilent, ReadsScript, ReadsTooMuch, IsUnwritten, Writes, FailsWriting}
+use Rattle.nqs_clients.specs.Sides.{Wired, IsSilent, IsUnwritten, Writes, FailsWriting}
 use Rattle.nqs_clients.specs.declared.answer.Answer.{Answer}
 use Rattle.nqs_clients.specs.declared.datagram.WaitStop.TheVariants as stop
 use Rattle.nqs_clients.specs.declared.errand.Errand.{Errand}
@@ -32,14 +32,14 @@ too_long_text = reply_text [] (UnreadWords too_long)
 
 -- the source is read for qsub alone
 abbrev pub HasScript : Tool → Fed → List ℕ → Type 0
-HasScript Qsub source script = ReadsScript source script
+HasScript Qsub source script = ReadsWhole 32768 source script
 HasScript _ source script = IsUnread source × (script ≡ [])
 
 -- what comes of a source by reading it
 abbrev pub TakesScript : Tool → Fed → Result (Vec ℕ) ReadStop → Type 0
 TakesScript tool source (Ok script) = HasScript tool source script.items
 TakesScript tool source (Err Fault) = (tool ≡ Qsub) × Rose source.faults source.faults_now
-TakesScript tool source (Err TooLong) = (tool ≡ Qsub) × ReadsTooMuch source
+TakesScript tool source (Err TooLong) = (tool ≡ Qsub) × ReadsTooMuch 32768 source
 TakesScript tool source (Err (Memory memory)) = Unit {0}
 
 -- An answer was written whole, and it ends as the answer says; or a front of it was.
@@ -70,7 +70,7 @@ EndsScripted port e source wire sink result = (script : List ℕ) × HasScript e
 
 -- the script of a submission is too long, and nothing is sent
 abbrev pub IsTooLong : Errand → Fed → Wired → Type 0
-IsTooLong e source wire = (e.tool ≡ Qsub) × ReadsTooMuch source × IsSilent wire
+IsTooLong e source wire = (e.tool ≡ Qsub) × ReadsTooMuch 32768 source × IsSilent wire
 
 -- it is refused with the line that says so, or a front of that was written
 abbrev pub EndsRefused : Errand → Fed → Wired → Sunk → NqsStatus → Type 0

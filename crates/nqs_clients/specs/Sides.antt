@@ -1,9 +1,9 @@
 -- What the client's wire tells, before and after, and what was read and written.
 use Rattle.std.specs.Prelude.{◌≡◌, ℕ, ◌≤◌, List, length, take}
 use Rattle.std.specs.declared.option.Option.{Option}
-use Rattle.std.specs.Io.KnownBytes.{Appends, Consumes, IsAtEnd}
+use Rattle.std.specs.Io.KnownBytes.{Appends}
 use Rattle.nqs_outside.specs.Asked.{Arrival, Packet}
-use Rattle.nqs_outside.specs.Streams.{Fed, Sunk, SinkFailed}
+use Rattle.nqs_outside.specs.Streams.{Sunk, SinkFailed}
 
 -- what a wire has received and sent, and its counts of faults
 pub record Wired : Type 0 where
@@ -34,14 +34,6 @@ wired received sent receive_faults send_faults old new =
 abbrev pub IsSilent : Wired → Type 0
 IsSilent wire = (wire.received_now ≡ wire.received) × (wire.sent_now ≡ wire.sent) × (wire.receive_faults_now ≡ wire.receive_faults)
     × (wire.send_faults_now ≡ wire.send_faults)
-
--- the source was read to its end, and this is what it gave
-abbrev pub ReadsScript : Fed → List ℕ → Type 0
-ReadsScript source script = Consumes source.left source.left_now script × IsAtEnd source.left_now × (length script ≤ 32768)
-
--- one byte more than the longest script was read
-abbrev pub ReadsTooMuch : Fed → Type 0
-ReadsTooMuch source = (bytes : List ℕ) × Consumes source.left source.left_now bytes × (length bytes ≡ 32769)
 
 -- nothing was written
 abbrev pub IsUnwritten : Sunk → Type 0

@@ -17,7 +17,6 @@ use std::alloc::Global;
 
 /// A disk in memory, of at most 2^40 bytes. A fuse has one of its calls fail, and each later one.
 /// Beside it one call may be set to fail alone.
-#[derive(Drop)]
 pub struct MemDisk {
     alloc: Global,
     start: Vec<u8>,
@@ -30,6 +29,23 @@ pub struct MemDisk {
     ghost replayed: { (after (fresh start.items) (calls_of calls.items)).content ≡ content.items },
     ghost sound: { IsTrue (is_sound start.items (calls_of calls.items)) },
     ghost small: { length content.items ≤ 2 ^ 40 },
+}
+
+// Written out, so that it is let go by a call, and not field by field in each function that owns
+// one.
+impl Drop for MemDisk {
+    fn drop(self) {
+        let MemDisk {
+            alloc: _,
+            start: _,
+            content: _,
+            calls: _,
+            fuse: _,
+            once: _,
+            faults: _,
+            lack: _,
+        } = self;
+    }
 }
 
 impl MemDisk {

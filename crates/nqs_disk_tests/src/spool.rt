@@ -99,6 +99,43 @@ fn lengths(rt: HostRuntime) -> Result<(), Fail> {
     Ok(())
 }
 
+// Puts so many bytes, one by one: is each behind the one before?
+fn puts_bytes(spool: &mut Spool<MemDisk>, count: u64) -> bool {
+    for place in 0..count {
+        if spool.put(b"x") != Ok(at(place, 1)) {
+            return false;
+        }
+    }
+    true
+}
+
+fn frees_bytes(spool: &mut Spool<MemDisk>, count: u64) {
+    for place in 0..count {
+        spool.free(&at(place, 1));
+    }
+}
+
+fn grows_and_shrinks(alloc: Global) -> Option<([bool; 3], Put)> {
+    let mut spool = opened(alloc)?;
+    let is_put = puts_bytes(&mut spool, 1_000);
+    let is_low = spool.height() <= 14;
+    frees_bytes(&mut spool, 500);
+    let is_lower = spool.height() <= 12;
+    let next = spool.put(b"x");
+    let_go(spool);
+    Some(([is_put, is_low, is_lower], next))
+}
+
+// A tree of 1,000 slots whose sides differ by at most one is no higher than 14, and one of 500 than
+// 12.
+#[test]
+fn stays_low(rt: HostRuntime) {
+    assert_eq!(rt;
+        grows_and_shrinks(rt.alloc()),
+        Some(([true; 3], Ok(at(0, 1))))
+    );
+}
+
 /// A tear, what it leaves of `gone` and `live` where a put of `new` over `gone` fails, in its write
 /// or in its sync, and what of `live` where a put of `more` behind it does.
 static LEFT: [(Tear, &[u8], &[u8]); 4] = [

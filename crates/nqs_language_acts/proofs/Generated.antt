@@ -7,7 +7,7 @@ use Rattle.std.proofs.lemmas.List.Folds.{list_all-append}
 use Rattle.std.specs.List.{list_all}
 use Rattle.nqs_types.specs.declared.world.WorldEvent.{WorldEvent}
 use Rattle.nqs_types.specs.declared.world.WorldEvent.TheVariants as event
-use Rattle.nqs_schedule.specs.Generated.{host, host_name, root_line, link_line, set_up, for_hosts, piped, submitted_once, drawn, drawn_from, generator_of}
+use Rattle.nqs_schedule.specs.Generated.{host_name, root_line, link_line, set_up, for_hosts, piped, submitted_once, drawn, drawn_from, generator_of}
 use Rattle.nqs_schedule.specs.Generated.{booted, generated, generated_site}
 use Rattle.nqs_language_acts.specs.Acts.{is_sane_line}
 use Rattle.nqs_language_acts.specs.Laws.{GeneratedSchedulesAreSane, GeneratedSitesAreRight}
@@ -54,11 +54,11 @@ unfolding drawn
 drawn_short hosts k word =
     either (nat_lt kind 4) (short (piped a word) tt)
     (either (kind == 4) (short (submitted_once a) tt)
-    (either (nat_lt kind 11) (short (event.Newest (host a) (host ((a + 1) % hosts))) tt)
-    (either (kind == 11) (short (event.Tick (host a)) tt)
-    (either (kind == 12) (short (event.Finish (host a)) tt)
-    (either (kind == 13) (either (word / 65536 % 4 == 0) (short (event.Crash (host a)) tt) (short (event.Boot (host a)) tt))
-    (either (kind == 14) (short (event.Boot (host a)) tt) (short (event.Clock (30 * k)) tt)))))))
+    (either (nat_lt kind 11) (short (event.Newest (host_at a) (host_at ((a + 1) % hosts))) tt)
+    (either (kind == 11) (short (event.Tick (host_at a)) tt)
+    (either (kind == 12) (short (event.Finish (host_at a)) tt)
+    (either (kind == 13) (either (word / 65536 % 4 == 0) (short (event.Crash (host_at a)) tt) (short (event.Boot (host_at a)) tt))
+    (either (kind == 14) (short (event.Boot (host_at a)) tt) (short (event.Clock (30 * k)) tt)))))))
   where
     kind : ℕ
     kind = word % 16

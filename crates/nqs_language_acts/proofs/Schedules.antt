@@ -1,13 +1,13 @@
 -- Each event of a schedule is within the limits, and its site has 1 to 16 hosts.
 use Rattle.std.proofs.Common.{◌≡◌, ℕ, ◌+◌, ◌<◌, ◌≤◌, Bool, true, false, cond, ◌&&◌, nat_le, nat_lt, List, [], ◌∷◌, ◌++◌, length, drop, slice_get, refl, subst}
-use Rattle.std.proofs.Common.{◌∙◌, arith, Option, Some, None, is_some, Ok, Err, IfOk}
+use Rattle.std.proofs.Common.{◌∙◌, arith, Option, Some, None, Ok, Err, IfOk}
 use Rattle.std.proofs.lemmas.Bool.{and_from, le-leb, ltb-false, leb-false}
 use Rattle.std.proofs.lemmas.List.{length-append}
 use Rattle.std.proofs.lemmas.List.Folds.{list_all-map}
-use Rattle.std.specs.List.{list_all, position}
-use Rattle.nqs_base.specs.Same.{name_eq}
+use Rattle.std.specs.List.{list_all}
 use Rattle.nqs_types.specs.declared.world.WorldEvent.{WorldEvent}
 use Rattle.nqs_types.specs.declared.world.WorldEvent.TheVariants as event
+use Rattle.nqs_rules.specs.Find.{has_name}
 use Rattle.nqs_rules.specs.Sane.{is_short_output}
 use Rattle.nqs_rules.proofs.KeyFacts.{all-added}
 use Rattle.nqs_laws.specs.Sane.{IsSite, is_sane_act}
@@ -118,7 +118,7 @@ plan_fits site line ws verb.Show = each_step (Fits line ws) (nothing_at ws 1) _ 
 further : (site : List (List ℕ)) (name : Option (List ℕ)) → IfOk (further_host site name) (λ n. length site < 16)
 further site None = tt
 further site (Some name) =
-    unless Room (is_some (position (name_eq name) site)) cause.HostTwice _ (λ once.
+    unless Room (has_name site name) cause.HostTwice _ (λ once.
     unless Room (nat_le 16 (length site)) cause.TooManyHosts (Ok name) (λ few. leb-false 16 (length site) few))
   where
     Room : List ℕ → Type 0

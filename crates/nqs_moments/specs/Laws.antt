@@ -2,8 +2,8 @@
 use Rattle.std.specs.Prelude.{◌≡◌, ℕ, ◌≤◌, List, ◌++◌, Ok}
 use Rattle.std.specs.declared.result.Result.{Result}
 use Rattle.nqs_moments.specs.declared.moment.MomentFault.{MomentFault}
-use Rattle.nqs_text.specs.Dates.{date_text}
-use Rattle.nqs_moments.specs.Moment.{IsMoment, ReadsMoment, PrintsMoment, last_moment}
+use Rattle.nqs_text.specs.Dates.{date_text, last_moment}
+use Rattle.nqs_moments.specs.Moment.{IsMoment, ReadsMoment, PrintsMoment}
 
 -- a printed text reads as the moment that was printed
 abbrev pub PrintedReadsBack : Type 0

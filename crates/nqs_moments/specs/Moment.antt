@@ -4,7 +4,7 @@ use Rattle.std.specs.Prelude.{Ok, Err}
 use Rattle.std.specs.declared.result.Result.{Result}
 use Rattle.jiff_core.specs.Calendar.{IsDate, days_from_civil}
 use Rattle.nqs_base.specs.Name.{is_digit}
-use Rattle.nqs_text.specs.Dates.{moment_text}
+use Rattle.nqs_text.specs.Dates.{last_moment, moment_text}
 use Rattle.nqs_moments.specs.declared.moment.MomentFault.{MomentFault}
 use Rattle.nqs_moments.specs.declared.moment.MomentFault.TheVariants.{Form, Range}
 use Rattle.nqs_moments.specs.declared.moment.PrintFault.{PrintFault}
@@ -54,10 +54,6 @@ abbrev pub ReadsMoment : List ℕ → Result ℕ MomentFault → Type 0
 ReadsMoment bytes (Ok moment) = IsMoment bytes moment
 ReadsMoment bytes (Err (Form place)) = moment_misfit bytes ≡ Some place
 ReadsMoment bytes (Err Range) = (moment_misfit bytes ≡ None) × ((moment : ℕ) → IsMoment bytes moment → ⊥)
-
--- the first second of the last day that is printed, 9999-12-31
-abbrev pub last_moment : ℕ
-last_moment = 253402214400
 
 -- what printing a moment behind the old bytes answers
 abbrev pub PrintsMoment : List ℕ → ℕ → Result (Unit {0}) PrintFault → List ℕ → Type 0

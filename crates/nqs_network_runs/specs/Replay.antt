@@ -1,9 +1,9 @@
 -- How a run of the program ends, by its status: what was read, what was written, and which disks
 -- are left.
 use Rattle.std.specs.Prelude.{◌≡◌, ℕ, ◌≤◌, ◌⊎◌, Bool, List, [], length, Option, Some, None}
-use Rattle.std.specs.Io.KnownBytes.{Appends, Consumes, IsAtEnd}
+use Rattle.std.specs.Io.KnownBytes.{Appends}
 use Rattle.nqs_outside.specs.Causes.{Rose}
-use Rattle.nqs_outside.specs.Streams.{Fed, IsUnread, Sunk, SinkFailed}
+use Rattle.nqs_outside.specs.Streams.{Fed, IsUnread, ReadsWhole, ReadsTooMuch, Sunk, SinkFailed}
 use Rattle.nqs_disk.specs.declared.mem_disk.MemDisk.{MemDisk}
 use Rattle.nqs_store.specs.declared.disks.Disks.{Disks}
 use Rattle.nqs_schedule.specs.declared.cause.Cause.{Cause}
@@ -52,11 +52,7 @@ Plays summary input sink old new (status.Unparsed refused) = ⊥
 
 -- the source was read to its end, and this is what it gave
 abbrev pub Reads : Fed → List ℕ → Type 0
-Reads source input = Consumes source.left source.left_now input × IsAtEnd source.left_now × (length input ≤ 16777216)
-
--- one byte more than the longest schedule was read
-abbrev pub ReadsTooMuch : Fed → Type 0
-ReadsTooMuch source = (bytes : List ℕ) × Consumes source.left source.left_now bytes × (length bytes ≡ 16777217)
+Reads source input = ReadsWhole 16777216 source input
 
 -- nothing was written, and no disk was added
 abbrev pub IsUntouched : Sunk → Left → Left → Type 0
@@ -65,7 +61,7 @@ IsUntouched sink old new = WritesNothing sink × (new ≡ old)
 -- how a run of the schedule that the source gives ends
 abbrev pub EndsRead : Bool → Fed → Sunk → Left → Left → Status → Type 0
 EndsRead summary source sink old new status.ReadFault = Rose source.faults source.faults_now × IsUntouched sink old new
-EndsRead summary source sink old new status.TooLong = ReadsTooMuch source × IsUntouched sink old new
+EndsRead summary source sink old new status.TooLong = ReadsTooMuch 16777216 source × IsUntouched sink old new
 EndsRead summary source sink old new status.Done = (input : List ℕ) × Reads source input × Plays summary input sink old new status.Done
 EndsRead summary source sink old new status.BadSchedule = (input : List ℕ) × Reads source input × Plays summary input sink old new status.BadSchedule
 EndsRead summary source sink old new status.WriteFault = (input : List ℕ) × Reads source input × Plays summary input sink old new status.WriteFault

@@ -1,6 +1,7 @@
 -- What a source and a sink tell of themselves, before and after.
-use Rattle.std.specs.Prelude.{◌≡◌, ◌⊎◌, ℕ, List}
+use Rattle.std.specs.Prelude.{◌≡◌, ◌⊎◌, ℕ, ◌+◌, ◌≤◌, List, length}
 use Rattle.std.specs.declared.option.Option.{Option}
+use Rattle.std.specs.Io.KnownBytes.{Consumes, IsAtEnd}
 use Rattle.nqs_outside.specs.Causes.{Rose}
 
 -- what a source has left, and its count of faults
@@ -17,6 +18,14 @@ fed left faults old new = record { left = left old; left_now = left new; faults 
 -- no byte of the source was asked for
 abbrev pub IsUnread : Fed → Type 0
 IsUnread source = (source.left_now ≡ source.left) × (source.faults_now ≡ source.faults)
+
+-- the source was read to its end, and this is what it gave, no more than the limit
+abbrev pub ReadsWhole : ℕ → Fed → List ℕ → Type 0
+ReadsWhole limit source bytes = Consumes source.left source.left_now bytes × IsAtEnd source.left_now × (length bytes ≤ limit)
+
+-- one byte more than the limit was read
+abbrev pub ReadsTooMuch : ℕ → Fed → Type 0
+ReadsTooMuch limit source = (bytes : List ℕ) × Consumes source.left source.left_now bytes × (length bytes ≡ limit + 1)
 
 -- what a sink has taken, and its counts
 pub record Sunk : Type 0 where

@@ -15,20 +15,11 @@ use Rattle.nqs_packets.specs.Values.{IsShort, IsBody}
 use Rattle.nqs_packets.specs.Messages.{offers_of_site, WhatIsReadIsSane, is_short_body, WhatIsReadIsShort, IsTypedJob, IsSaid, WhatIsSaneMaySend}
 use Rattle.nqs_packets.proofs.Spelled.{is_spelled}
 
-body_sane : (hosts : ℕ) (b : Body) → IsBody b → offers_of_site hosts b ≡ true → is_sane_body hosts b ≡ true
+pub body_sane : (hosts : ℕ) (b : Body) → IsBody b → offers_of_site hosts b ≡ true → is_sane_body hosts b ≡ true
 body_sane hosts (Offer n q c s) ok of_site = and_from _ _ (and_from _ _ (and_from _ _ ok.0.0 (carried_sane c ok.2)) of_site) ok.3.0
-body_sane hosts (Ready n) ok of_site = refl
 body_sane hosts (Refused n cause) ok of_site = and_from _ _ ok.0.0 ok.1.0
-body_sane hosts (Commit n) ok of_site = refl
-body_sane hosts (Done n) ok of_site = refl
-body_sane hosts (Inquire n) ok of_site = refl
-body_sane hosts (Abort n) ok of_site = refl
 body_sane hosts (Stage n path output) ok of_site = and_from _ _ (and_from _ _ ok.0.0 (path_sane path ok.1)) ok.2.0
-body_sane hosts (Staged n) ok of_site = refl
-body_sane hosts (Ask port token user tool words script) ok of_site = refl
-body_sane hosts (Answer token good text) ok of_site = refl
-body_sane hosts (Ended port id start status output error) ok of_site = refl
-body_sane hosts (EndedAck id start) ok of_site = refl
+body_sane hosts _ ok of_site = refl
 
 pub what_is_read_is_sane : WhatIsReadIsSane
 what_is_read_is_sane bytes m hosts fits is of_site =

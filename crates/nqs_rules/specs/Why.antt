@@ -2,7 +2,7 @@
 -- destinations.
 use Rattle.std.specs.Prelude.{ℕ, ◌==◌, nat_le, if◌then◌else◌, List, [], ◌∷◌, ◌++◌, map, codes, Option, None, Some}
 use Rattle.std.specs.Fmt.{decimal}
-use Rattle.nqs_text.specs.Dates.{date_text}
+use Rattle.nqs_text.specs.Dates.{date_text, last_moment}
 use Rattle.nqs_state.specs.State.{State}
 use Rattle.nqs_rules.specs.Tests.{is_queued}
 use Rattle.nqs_rules.specs.Find.{find_queue}
@@ -21,13 +21,9 @@ use Rattle.nqs_types.specs.declared.reason.Reason.TheVariants.{RunLimit, Complex
 use Rattle.nqs_types.specs.declared.reason.DestAnswer.{DestAnswer}
 use Rattle.nqs_types.specs.declared.reason.DestAnswer.TheVariants.{Refused, NoHost, NoNumberLeft, HandingOver, WaitedFor, MayBeTried}
 
--- the first second of the last day that has a date, 9999-12-31
-abbrev pub last_dated : ℕ
-last_dated = 253402214400
-
 -- a moment as its date, and past the last day that has one as its seconds since 1970
 abbrev pub when_text : ℕ → Text
-when_text moment = if nat_le moment last_dated then date_text moment else decimal moment
+when_text moment = if nat_le moment last_moment then date_text moment else decimal moment
 
 -- a limit that is reached: its number, and whose it is
 abbrev pub limit_text : Text → ℕ → Text → Text → Text

@@ -7,6 +7,7 @@ use Rattle.std.proofs.lemmas.Bool.Decides.{nat_tests}
 use Rattle.nqs_base.proofs.Readings.{Reads, given, apart, reads-bind, reads-map}
 use Rattle.nqs_base.specs.Name.{IsName}
 use Rattle.nqs_types.specs.declared.world.WorldEvent.{WorldEvent}
+use Rattle.nqs_rules.specs.Find.{has_name}
 use Rattle.nqs_words.specs.Values.{name_of}
 use Rattle.nqs_words.proofs.Requests.{name-is, is-name, named}
 use Rattle.nqs_schedule.specs.declared.cause.Cause.{Cause}
@@ -24,7 +25,7 @@ use Rattle.nqs_schedule.specs.Events.{text_of_word, words_behind, qmgr_text, eve
 use Rattle.nqs_schedule.specs.Says.{further_host, hosts_from, some_hosts, hosts_of, is_hosts, hosts_say, event_says, verb_says, words_say}
 use Rattle.nqs_schedule.specs.Forms.{verb_text, form_of}
 use Rattle.nqs_schedule.specs.Spelled.{IsNone, HasBadQuote, Spells, Faults}
-use Rattle.nqs_schedule.specs.Sayings.{is_of_site, IsNewHost, NoNewHost, NameHosts, NameNoHosts, HostsSay, HostsFault, FirstSays, WordsSay, NamesSite}
+use Rattle.nqs_schedule.specs.Sayings.{IsNewHost, NoNewHost, NameHosts, NameNoHosts, HostsSay, HostsFault, FirstSays, WordsSay, NamesSite}
 use Rattle.nqs_schedule.specs.Sayings.{FirstFaults, WordsFault, ReadsWords}
 use Rattle.nqs_schedule.proofs.Readings.{reads-Ok, reads-Err, reads-cause, reads-same}
 use Rattle.nqs_schedule.proofs.Leaves.{pick}
@@ -112,27 +113,27 @@ takes site word is = reads-same {A = List ℕ} (Ok word) (λ n. n ≡ word) (IsH
   where
     never : (why : Cause) → NoNewHost site word why → ⊥
     never why (inl h) = h.0 is.name
-    never why (inr (inl h)) = both_ways (is_of_site site word) h.1 is.new
+    never why (inr (inl h)) = both_ways (has_name site word) h.1 is.new
     never why (inr (inr h)) = few_full (length site) is.few h.2
 
 tested_host : Bool → Bool → List ℕ → Read (List ℕ)
 tested_host t u word = cond t (Err cause.HostTwice) (cond u (Err cause.TooManyHosts) (Ok word))
 
-reads-tested : (site : List (List ℕ)) (word : List ℕ) → IsName word → (t u : Bool) → is_of_site site word ≡ t → nat_le 16 (length site) ≡ u
+reads-tested : (site : List (List ℕ)) (word : List ℕ) → IsName word → (t u : Bool) → has_name site word ≡ t → nat_le 16 (length site) ≡ u
     → Reads (tested_host t u word) (IsHere site word) (NoNewHost site word)
 unfolding tested_host
-reads-tested site word n true u here many = refuses site word cause.HostTwice (λ h. both_ways (is_of_site site word) here h.new) (inr (inl (n, here, refl))) one
+reads-tested site word n true u here many = refuses site word cause.HostTwice (λ h. both_ways (has_name site word) here h.new) (inr (inl (n, here, refl))) one
   where
     one : (why : Cause) → NoNewHost site word why → why ≡ cause.HostTwice
     one why (inl h) = absurd (h.0 n)
     one why (inr (inl h)) = h.2
-    one why (inr (inr h)) = absurd (both_ways (is_of_site site word) here h.1)
+    one why (inr (inr h)) = absurd (both_ways (has_name site word) here h.1)
 reads-tested site word n false true here many = refuses site word cause.TooManyHosts (λ h. few_full (length site) h.few (full (length site) many))
     (inr (inr (n, here, full (length site) many, refl))) one
   where
     one : (why : Cause) → NoNewHost site word why → why ≡ cause.TooManyHosts
     one why (inl h) = absurd (h.0 n)
-    one why (inr (inl h)) = absurd (both_ways (is_of_site site word) h.1 here)
+    one why (inr (inl h)) = absurd (both_ways (has_name site word) h.1 here)
     one why (inr (inr h)) = h.3
 reads-tested site word n false false here many = takes site word (record { name = n; new = here; few = pass (length site) many })
 
@@ -148,7 +149,7 @@ reads-new site word = by (named word)
     by : (IsName word × (name_of word ≡ Some word)) ⊎ ((IsName word → ⊥) × (name_of word ≡ None))
         → Reads (further_host site (name_of word)) (IsHere site word) (NoNewHost site word)
     by (inl n) = subst (λ (o : Option (List ℕ)). Reads (further_host site o) (IsHere site word) (NoNewHost site word)) (sym n.1)
-        (reads-tested site word n.0 (is_of_site site word) (nat_le 16 (length site)) refl refl)
+        (reads-tested site word n.0 (has_name site word) (nat_le 16 (length site)) refl refl)
     by (inr n) = subst (λ (o : Option (List ℕ)). Reads (further_host site o) (IsHere site word) (NoNewHost site word)) (sym n.1)
         (refuses site word cause.BadName (λ h. n.0 h.name) (inl (n.0, refl)) (unnamed n.0))
 

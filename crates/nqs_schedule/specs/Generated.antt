@@ -4,13 +4,9 @@ use Rattle.std.specs.Fmt.{decimal}
 use Rattle.rand_core.specs.Pcg32Seed.{pcg32_seed}
 use Rattle.rand_pcg.specs.Lcg.{Lcg}
 use Rattle.rand_pcg.specs.Pcg.{pcg32, pcg32_of_seed}
-use Rattle.nqs_types.specs.declared.ids.HostId.{HostId}
 use Rattle.nqs_types.specs.declared.world.WorldEvent.{WorldEvent}
 use Rattle.nqs_types.specs.declared.world.WorldEvent.TheVariants as event
-
--- the host of a place
-abbrev pub host : ℕ → HostId
-host i = record { 0 = i }
+use Rattle.nqs_rules.specs.Find.{host_at}
 
 -- the hosts are `h0`, `h1` and so on
 abbrev pub host_name : ℕ → List ℕ
@@ -18,7 +14,7 @@ host_name i = codes "h" ++ decimal i
 
 -- a line of qmgr, typed by root at a host
 abbrev pub root_line : ℕ → List ℕ → WorldEvent
-root_line i text = event.Qmgr (host i) (codes "root") text
+root_line i text = event.Qmgr (host_at i) (codes "root") text
 
 -- a pipe queue to the batch queue of another host
 abbrev pub link_line : ℕ → List ℕ
@@ -41,7 +37,7 @@ priority_of word = word / 4096 % 64
 
 -- a submission of an empty script by the user `u`, with these options
 abbrev pub qsub : ℕ → List (List ℕ) → WorldEvent
-qsub a words = event.Qsub (host a) (codes "u") [] words
+qsub a words = event.Qsub (host_at a) (codes "u") [] words
 
 -- a submission to the pipe queue
 abbrev pub piped : ℕ → ℕ → WorldEvent
@@ -53,18 +49,18 @@ submitted_once a = qsub a (codes "-nr" ∷ [])
 
 -- a stop of the host, by one word of four, and else a boot
 abbrev pub stopped : ℕ → ℕ → WorldEvent
-stopped a word = if word / 65536 % 4 == 0 then event.Crash (host a) else event.Boot (host a)
+stopped a word = if word / 65536 % 4 == 0 then event.Crash (host_at a) else event.Boot (host_at a)
 
 -- the event of a number from 0 to 15, at a host and the next one
 abbrev pub choice : ℕ → ℕ → ℕ → ℕ → ℕ → WorldEvent
 choice k kind word a b =
     if nat_lt kind 4 then piped a word else
     (if kind == 4 then submitted_once a else
-    (if nat_lt kind 11 then event.Newest (host a) (host b) else
-    (if kind == 11 then event.Tick (host a) else
-    (if kind == 12 then event.Finish (host a) else
+    (if nat_lt kind 11 then event.Newest (host_at a) (host_at b) else
+    (if kind == 11 then event.Tick (host_at a) else
+    (if kind == 12 then event.Finish (host_at a) else
     (if kind == 13 then stopped a word else
-    (if kind == 14 then event.Boot (host a) else event.Clock (30 * k)))))))
+    (if kind == 14 then event.Boot (host_at a) else event.Clock (30 * k)))))))
 
 -- the k-th event, by its word
 unfoldable pub drawn : ℕ → ℕ → ℕ → WorldEvent
@@ -81,7 +77,7 @@ generator_of seed = pcg32_of_seed (pcg32_seed 16 seed)
 
 -- a boot of the host
 abbrev pub booted : ℕ → List WorldEvent
-booted i = event.Boot (host i) ∷ []
+booted i = event.Boot (host_at i) ∷ []
 
 -- the whole schedule: each host is set up, the events are drawn, each host is booted, and the table
 -- is shown

@@ -1,8 +1,7 @@
 -- What the words of a line say, or their first fault, apart from how they are read.
-use Rattle.std.specs.Prelude.{◌≡◌, ◌≢◌, ◌⊎◌, ◌↔◌, ◌<◌, ◌≤◌, ℕ, Bool, true, false, List, [], ◌∷◌, ◌++◌, length, is_some, Ok, Err}
-use Rattle.std.specs.List.{position}
-use Rattle.nqs_base.specs.Same.{name_eq}
+use Rattle.std.specs.Prelude.{◌≡◌, ◌≢◌, ◌⊎◌, ◌↔◌, ◌<◌, ◌≤◌, ℕ, Bool, true, false, List, [], ◌∷◌, ◌++◌, length, Ok, Err}
 use Rattle.nqs_base.specs.Name.{IsName}
+use Rattle.nqs_rules.specs.Find.{has_name}
 use Rattle.nqs_schedule.specs.declared.cause.Cause.{Cause}
 use Rattle.nqs_schedule.specs.declared.cause.Cause.TheVariants as cause
 use Rattle.nqs_schedule.specs.declared.words.LineWords.{LineWords}
@@ -18,22 +17,18 @@ use Rattle.nqs_schedule.specs.Spelled.{HasBadQuote, Spells, Faults}
 
 -- ---- hosts NAME..
 
--- whether the site has a host of this name
-abbrev pub is_of_site : List (List ℕ) → List ℕ → Bool
-is_of_site site word = is_some (position (name_eq word) site)
-
 -- a name that the site doesn't have, which has fewer than sixteen
 pub record IsNewHost (site : List (List ℕ)) (word : List ℕ) : Type 0 where
   pub name : IsName word
-  pub new : is_of_site site word ≡ false
+  pub new : has_name site word ≡ false
   pub few : length site < 16
 
 -- why a word names no further host: it is no name, the site has it, or the site has sixteen
 abbrev pub NoNewHost : List (List ℕ) → List ℕ → Cause → Type 0
 NoNewHost site word why =
     ((IsName word → ⊥) × (why ≡ cause.BadName))
-    ⊎ (IsName word × (is_of_site site word ≡ true) × (why ≡ cause.HostTwice))
-    ⊎ (IsName word × (is_of_site site word ≡ false) × (16 ≤ length site) × (why ≡ cause.TooManyHosts))
+    ⊎ (IsName word × (has_name site word ≡ true) × (why ≡ cause.HostTwice))
+    ⊎ (IsName word × (has_name site word ≡ false) × (16 ≤ length site) × (why ≡ cause.TooManyHosts))
 
 -- the words name the hosts of a site, behind those that it has
 abbrev pub NameHosts : List (List ℕ) → List (List ℕ) → List (List ℕ) → Type 0

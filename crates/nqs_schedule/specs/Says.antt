@@ -1,9 +1,8 @@
 -- What a line says: nothing, the hosts of the site, or an event.
-use Rattle.std.specs.Prelude.{◌≡◌, ℕ, Bool, true, false, ◌&&◌, ◌==◌, nat_le, List, [], ◌∷◌, ◌++◌, length, drop, Option, Some, None, is_some, if◌then◌else◌, Ok}
+use Rattle.std.specs.Prelude.{◌≡◌, ℕ, Bool, true, false, ◌&&◌, ◌==◌, nat_le, List, [], ◌∷◌, ◌++◌, length, drop, Option, Some, None, if◌then◌else◌, Ok}
 use Rattle.std.specs.Prelude.{Err, slice_get}
-use Rattle.std.specs.List.{position}
 use Rattle.std.specs.declared.result.Result.{Result}
-use Rattle.nqs_base.specs.Same.{name_eq}
+use Rattle.nqs_rules.specs.Find.{has_name}
 use Rattle.nqs_words.specs.Values.{name_of}
 use Rattle.nqs_schedule.specs.declared.cause.Cause.TheVariants as cause
 use Rattle.nqs_schedule.specs.declared.words.LineWord.{LineWord}
@@ -22,7 +21,7 @@ use Rattle.nqs_schedule.specs.Events.{event_of}
 -- a further host of a site
 abbrev pub further_host : List (List ℕ) → Option (List ℕ) → Read (List ℕ)
 further_host site None = Err cause.BadName
-further_host site (Some name) = if is_some (position (name_eq name) site) then Err cause.HostTwice else
+further_host site (Some name) = if has_name site name then Err cause.HostTwice else
     (if nat_le 16 (length site) then Err cause.TooManyHosts else Ok name)
 
 -- the hosts that words name, behind those of a site

@@ -3,6 +3,7 @@ use Rattle.std.specs.Prelude.{◌≡◌, ◌≢◌, ◌⊎◌, ℕ, ◌+◌, Boo
 use Rattle.std.specs.List.{flat_map}
 use Rattle.std.specs.declared.result.Result.{Result}
 use Rattle.nqs_types.specs.declared.world.WorldEvent.{WorldEvent}
+pub use Rattle.nqs_rules.specs.Transcript.{line as ended}
 use Rattle.nqs_schedule.specs.declared.cause.Cause.{Cause}
 use Rattle.nqs_schedule.specs.declared.cause.Cause.TheVariants as cause
 use Rattle.nqs_schedule.specs.declared.line.Says.{Says}
@@ -34,10 +35,6 @@ after s (Event e) = record { site = s.site; events = s.events ++ e ∷ []; is_op
 unfoldable pub lines_say : State → List (List ℕ) → Read State
 lines_say s [] = Ok s
 lines_say s (line ∷ lines) = line_says s.site s.is_open line >>= (λ says. lines_say (after s says) lines)
-
--- a line with its end
-abbrev pub ended : List ℕ → List ℕ
-ended line = line ++ 10 ∷ []
 
 -- no line feed is in it
 abbrev pub IsLine : List ℕ → Type 0

@@ -9,9 +9,9 @@ ghost use Rattle.nqs_base.specs.Want.{want};
 use crate::cause::Cause;
 use crate::event::event_of;
 use crate::plan::{Verb, plan_of, verb_of};
-use crate::values::{is_host, text_there};
+use crate::values::text_there;
 use crate::words::{LineWords, line_words};
-use nqs_base::{Memory, Name, NameList};
+use nqs_base::{Memory, Name, NameList, has_name};
 use nqs_types::WorldEvent;
 use nqs_words::name_of;
 use std::alloc::{AllocFailed, Global};
@@ -47,7 +47,7 @@ fn further_host(site: &[Name], text: &[u8]) -> Result<Name, Cause>
     let Some(name) = name_of(text) else {
         return Err(Cause::BadName);
     };
-    if is_host(site, &name) {
+    if has_name(site, &name) {
         return Err(Cause::HostTwice);
     }
     if site.len() >= 16 {

@@ -1,7 +1,7 @@
 //! What the words of a line say, by their places from 0, with the first cause why not. No call
 //! takes memory.
 
-ghost use Rattle.std.specs.Prelude.{◌≡◌, ◌≤◌, Some, is_some, IfOk, codes, take, drop};
+ghost use Rattle.std.specs.Prelude.{◌≡◌, ◌≤◌, Some, IfOk, codes, take, drop};
 ghost use Rattle.std.specs.List.{position};
 ghost use Rattle.nqs_base.specs.Same.{name_eq};
 ghost use Rattle.nqs_schedule.specs.Words.{no_word, text_there, name_at, number_at, host_of, host_at, request_at, disk_of, disk_at, mixed_of, as_mixed};
@@ -61,13 +61,6 @@ pub(crate) fn number_at(low: u64, high: u64, words: &LineWords, place: usize) ->
         },
         None => Err(no_word(words)),
     }
-}
-
-/// Is there a host of this name?
-pub(crate) fn is_host(site: &[Name], name: &Name) -> bool
-    ensures { result ≡ is_some (position (name_eq name.now) site.now) }
-{
-    place_of(site, name).is_some()
 }
 
 // The host of this name.

@@ -1,5 +1,5 @@
 -- The events that a daemon takes are sane, and right.
-use Rattle.std.proofs.Common.{◌≡◌, ℕ, List, length, refl, sym, ◌∙◌, true, ◌&&◌, ◌==◌, IsTrue, IfSome}
+use Rattle.std.proofs.Common.{◌≡◌, ℕ, List, [], get_or, length, refl, sym, ◌∙◌, true, ◌&&◌, ◌==◌, IsTrue, IfSome}
 use Rattle.std.proofs.lemmas.Bool.{and_parts, and_from, or_right}
 use Rattle.nqs_types.specs.declared.message.Tool.{Tool}
 use Rattle.nqs_types.specs.declared.message.Tool.TheVariants.{Qsub, Qstat, Qdel, Qmgr, Tick}
@@ -11,12 +11,13 @@ use Rattle.nqs_types.specs.declared.event.Event.TheVariants as event
 use Rattle.nqs_state.specs.State.{Plain}
 use Rattle.nqs_rules.specs.Shutdowns.{shuts_down}
 use Rattle.nqs_rules.specs.Tests.{same_host}
-use Rattle.nqs_rules.specs.Sane.{is_of_site, is_sane_body, is_sane_message, is_sane_command, is_sane_event}
-use Rattle.nqs_records.proofs.SaneLaws.{path_sane, carried_sane}
+use Rattle.nqs_rules.specs.Sane.{is_of_site, is_sane_message, is_sane_command, is_sane_event}
 use Rattle.nqs_packets.specs.Values.{IsBody, MaySend}
+use Rattle.nqs_packets.specs.Messages.{offers_of_site}
+use Rattle.nqs_packets.proofs.SaneLaws.{body_sane}
 use Rattle.nqs_language_acts.specs.Laws.{SubmissionsAreSane, EditsAreSane, ListsAreSane, DeletionsAreSane}
 use Rattle.nqs_back.specs.Back.{comes_back}
-use Rattle.nqs_serve.specs.Events.{Here, line_in, command_of, are_of_site, is_for, event_by, event_of, at_moment}
+use Rattle.nqs_serve.specs.Events.{Here, command_of, are_of_site, is_for, event_by, event_of, at_moment}
 use Rattle.nqs_serve.specs.Runs.{event_back}
 use Rattle.nqs_serve.specs.Sends.{has_number, is_right_id, is_right_event}
 use Rattle.nqs_serve.specs.declared.comeback.Comeback.{Comeback}
@@ -77,20 +78,10 @@ is_back (comeback.Printed id start) = refl
 is_back (comeback.Written file) = refl
 is_back (comeback.Unwritten file) = refl
 
-sane_body : (hosts : ℕ) (b : Body) → IsBody b → are_of_site hosts b ≡ true → is_sane_body hosts b ≡ true
-sane_body hosts (Offer n q c s) ok of_site = and_from _ _ (and_from _ _ (and_from _ _ ok.0.0 (carried_sane c ok.2)) of_site) ok.3.0
-sane_body hosts (Ready n) ok of_site = refl
-sane_body hosts (Refused n cause) ok of_site = and_from _ _ ok.0.0 ok.1.0
-sane_body hosts (Commit n) ok of_site = refl
-sane_body hosts (Done n) ok of_site = refl
-sane_body hosts (Inquire n) ok of_site = refl
-sane_body hosts (Abort n) ok of_site = refl
-sane_body hosts (Stage n path output) ok of_site = and_from _ _ (and_from _ _ ok.0.0 (path_sane path ok.1)) ok.2.0
-sane_body hosts (Staged n) ok of_site = refl
-sane_body hosts (Ask port token user tool words script) ok of_site = refl
-sane_body hosts (Answer token good text) ok of_site = refl
-sane_body hosts (Ended port id start status output error) ok of_site = refl
-sane_body hosts (EndedAck id start) ok of_site = refl
+-- where all its requests are of the site, the one that it offers is
+offers_here : (hosts : ℕ) (b : Body) → are_of_site hosts b ≡ true → offers_of_site hosts b ≡ true
+offers_here hosts (Offer n q c s) of_site = of_site
+offers_here hosts _ of_site = refl
 
 right_by : (hosts : ℕ) (m : Message) (b : Body) → IsBody b → has_number b ≡ has_number m.body → is_of_site hosts m.from ≡ true → are_of_site hosts b ≡ true
     → IfSome (event_by m b) (λ e. IsTrue (is_right_event hosts e))
@@ -120,7 +111,7 @@ module _ (submissions : SubmissionsAreSane) (edits : EditsAreSane) (lists : List
   sane_command user Qsub words script = submissions user words script
   sane_command user Qstat words script = lists words
   sane_command user Qdel words script = deletions words
-  sane_command user Qmgr words script = edits (line_in words)
+  sane_command user Qmgr words script = edits (get_or words 0 [])
   sane_command user Tick words script = refl
 
   sane_by : (hosts : ℕ) (m : Message) (b : Body) → IsBody b → (is_sane_message hosts m ≡ true) → IfSome (event_by m b) (λ e. IsTrue (is_sane_event hosts e))
@@ -144,4 +135,4 @@ module _ (submissions : SubmissionsAreSane) (edits : EditsAreSane) (lists : List
       let hosts = length here.site in
       let outer = and_parts (same_host here.me m.to && is_of_site hosts m.from) (are_of_site hosts m.body) is in
       let inner = and_parts (same_host here.me m.to) (is_of_site hosts m.from) outer.0 in
-      sane_by hosts m m.body may.2 (and_from _ _ inner.1 (sane_body hosts m.body may.2 outer.1))
+      sane_by hosts m m.body may.2 (and_from _ _ inner.1 (body_sane hosts m.body may.2 (offers_here hosts m.body outer.1)))

@@ -1,5 +1,5 @@
 -- The event that an arrival is, if it is one. An event that waits has the moment 0.
-use Rattle.std.specs.Prelude.{ℕ, ◌&&◌, nat_le, Bool, true, false, if◌then◌else◌, List, [], ◌∷◌, length, Ok, Err}
+use Rattle.std.specs.Prelude.{ℕ, ◌&&◌, nat_le, Bool, true, false, if◌then◌else◌, List, [], get_or, length, Ok, Err}
 use Rattle.std.specs.declared.option.Option.{Option}
 use Rattle.std.specs.declared.option.Option.TheVariants.{None, Some}
 use Rattle.std.specs.declared.result.Result.{Result}
@@ -33,17 +33,12 @@ pub record Here : Type 0 where
 abbrev pub is_whole : List ℕ → Bool
 is_whole bytes = nat_le (length bytes) 49152
 
--- the words of qmgr are one, its line
-abbrev pub line_in : List (List ℕ) → List ℕ
-line_in [] = []
-line_in (line ∷ words) = line
-
--- what is asked for by a tool's words
+-- what is asked for by a tool's words; those of qmgr are one, its line
 abbrev pub command_of : List ℕ → Tool → List (List ℕ) → List ℕ → Command
 command_of user Qsub words script = qsub_command user words script
 command_of user Qstat words script = of_words (asks_list (stat_of words))
 command_of user Qdel words script = of_words (delete_of words)
-command_of user Qmgr words script = of_line (qmgr_line (line_in words))
+command_of user Qmgr words script = of_line (qmgr_line (get_or words 0 []))
 command_of user Tick words script = command.Tick
 
 -- the hosts of its requests are of the site

@@ -1,7 +1,7 @@
 //! The event that a message is, and its moment.
 
-ghost use Rattle.std.specs.Prelude.{◌≡◌, IfOk};
-ghost use Rattle.nqs_serve.specs.Events.{line_in, command_of, are_of_site, event_of, at_moment};
+ghost use Rattle.std.specs.Prelude.{◌≡◌, [], get_or, IfOk};
+ghost use Rattle.nqs_serve.specs.Events.{command_of, are_of_site, event_of, at_moment};
 
 use nqs_base::{Bytes, Memory, Name};
 use nqs_language_acts::{qdel_command, qmgr_command, qstat_command, qsub_command};
@@ -10,7 +10,7 @@ use std::alloc::Global;
 
 // The line of qmgr, which is its one word.
 fn line_in(words: &[Bytes]) -> &[u8]
-    ensures { result.now ≡ line_in words.now }
+    ensures { result.now ≡ get_or words.now 0 [] }
 {
     match words.split_first() {
         Some((line, _)) => line.as_slice(),

@@ -110,6 +110,11 @@ impl LiveExtents {
         self.tree.first_fit(u64::from(count), self.end)
     }
 
+    /// How high the tree is that keeps them.
+    pub(crate) fn height(&self) -> u8 {
+        self.tree.height()
+    }
+
     // Whether the extent meets none.
     fn is_clear(&self, extent: &Extent) -> bool
         requires { past extent.now < 2 ^ 64 }
@@ -200,46 +205,5 @@ fn keep_room(rooms: &mut Vec<Room>, room: Option<Room>)
         if rooms.len() < rooms.capacity() {
             rooms.push(room).unwrap();
         }
-    }
-}
-
-#[cfg(test)]
-mod tests {
-    use super::*;
-    use std::test::Fail;
-
-    // One byte more at the least place.
-    fn put_byte(live: &mut LiveExtents) -> Result<Extent, Fail> {
-        let room = live.take_room()?;
-        let place = live.least_place(1);
-        if place > 10_000 {
-            return Err("place")?;
-        }
-        let extent = Extent { place, length: 1 };
-        live.insert(room, extent);
-        Ok(extent)
-    }
-
-    // A tree of 1,000 slots whose sides differ by at most one is no higher than 14, and one of 500
-    // than 12.
-    #[test]
-    fn stays_low(rt: HostRuntime) -> Result<(), Fail> {
-        let mut live = LiveExtents::new(rt.alloc());
-        for place in 0..1_000u64 {
-            assert_eq!(rt; put_byte(&mut live)?, Extent { place, length: 1 });
-        }
-        assert!(rt; live.tree.height() <= 14);
-        for place in 0..500u64 {
-            live.remove(&Extent { place, length: 1 });
-        }
-        assert!(rt; live.tree.height() <= 12);
-        assert_eq!(rt;
-            put_byte(&mut live)?,
-            Extent {
-                place: 0,
-                length: 1
-            }
-        );
-        Ok(())
     }
 }

@@ -194,6 +194,12 @@ impl<D: Disk> Spool<D> {
         }
     }
 
+    /// How high the tree is that keeps the live extents. What a put or a free looks at grows with
+    /// it.
+    pub fn height(&self) -> u8 {
+        self.live.height()
+    }
+
     /// Hands the disk back.
     pub fn close(self) -> D
         ensures { result ≡ disk_of self }

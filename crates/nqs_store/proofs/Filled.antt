@@ -1,5 +1,5 @@
 -- A change whose extents were filled in.
-use Rattle.std.proofs.Common.{◌≡◌, ℕ, List, [], ◌∷◌, map, drop, length, IsTrue, refl, sym, ap, subst, ◌∙◌, arith}
+use Rattle.std.proofs.Common.{◌≡◌, ℕ, List, [], ◌∷◌, map, drop, get_or, length, IsTrue, refl, sym, ap, subst, ◌∙◌, arith}
 use Rattle.std.specs.List.{AllByRecursion}
 use Rattle.std.proofs.lemmas.List.{length-map}
 use Rattle.nqs_state.specs.State.{State}
@@ -63,7 +63,7 @@ one_stored x [] many = absurd (omega (arith, many))
 one_stored x (y ∷ []) many = refl
 one_stored x (y ∷ z ∷ xs) many = absurd (omega (arith, many))
 
-one_put : (puts : List (List ℕ)) (x : Extent) → AsMany puts (x ∷ []) → Rattle.nqs_rules.specs.Filled.first_put puts ∷ [] ≡ puts
+one_put : (puts : List (List ℕ)) (x : Extent) → AsMany puts (x ∷ []) → get_or puts 0 [] ∷ [] ≡ puts
 one_put [] x many = absurd (omega (arith, many))
 one_put (put ∷ []) x many = refl
 one_put (put ∷ other ∷ puts) x many = absurd (omega (arith, many))

@@ -57,3 +57,7 @@ day_text year second = second_text year.0 (month_of 11 year.0 1 year.1) second
 -- the text of a moment, up to the end of the year 9999
 unfoldable pub date_text : ℕ → List ℕ
 date_text moment = day_text (year_of 8029 1970 (moment / 86400)) (moment % 86400)
+
+-- the first second of the last day that has a date, 9999-12-31
+abbrev pub last_moment : ℕ
+last_moment = 253402214400
