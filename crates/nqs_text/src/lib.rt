@@ -1,8 +1,8 @@
 //! Plain numbers as texts.
 #![tactic(auto)]
 
-mod digits;
 mod number;
+mod printed;
 
-pub use digits::digits;
 pub use number::{NumberFault, decimal, read_u64};
+pub use printed::digits;
