@@ -1,5 +1,5 @@
 -- What is kept, seen from before the reads that come first.
-use Rattle.std.proofs.Common.{◌≡◌, ℕ, Bool, IsTrue, List, Option, option_map, None, Some, sym, ap, subst, ◌∙◌, refl}
+use Rattle.std.proofs.Common.{◌≡◌, ℕ, Bool, IsTrue, List, Option, option_map, None, Some, sym, ap, subst, ◌∙◌}
 use Rattle.nqs_state.specs.State.{Plain}
 use Rattle.nqs_base.specs.declared.extent.Extent.{Extent}
 use Rattle.nqs_types.specs.declared.change.Change.{Change}
@@ -39,8 +39,7 @@ read_failed P fault Spool only e then = then e
 -- no call was made
 pub still_broken_off : (a : Active) (old now : Which → History) → ((which : Which) → now which ≡ old which) → (kept : Kept) → IsBrokenOff a old now kept
 still_broken_off a old now same None = same
-still_broken_off a old now same (Some c) = subst (λ (h : Which → History). CommitsBy StopsShort a (stored_parts c) old h) (λ j which. sym (same which) j)
-    (idle_by a old old (stored_parts c) (λ _. refl))
+still_broken_off a old now same (Some c) = idle_by a old now (stored_parts c) same
 
 module _ {D : Type 0} {g : disk.Ghosts D} (old mid : Store D g) (same : (which : Which) → history_of mid which ≡ history_of old which) where
   pub still_one : (host : Host) → IsTrue g.tells → Tells old host → (kept : Kept)
