@@ -10,9 +10,10 @@ use Rattle.nqs_state.specs.Keys.{is_row}
 use Rattle.nqs_types.specs.declared.ids.RequestId.{RequestId}
 use Rattle.nqs_types.specs.declared.request.Row.{Row}
 use Rattle.nqs_types.specs.declared.change.Change.TheVariants.{Boot}
+use Rattle.nqs_state.specs.Least.{runs_now}
 use Rattle.nqs_rules.specs.Tests.{passes, is_running}
 use Rattle.nqs_rules.specs.Edits.{change_row, drop_row}
-use Rattle.nqs_rules.specs.Fits.{row_passes, runs}
+use Rattle.nqs_rules.specs.Fits.{row_passes}
 use Rattle.nqs_rules.specs.Applied.{applied, may_start_again, lost_row, booted_row}
 use Rattle.nqs_rules.specs.InOrder.{IsInOrder, are_distinct}
 use Rattle.nqs_rules.proofs.Sublists.{without_part, part_all}
@@ -61,31 +62,31 @@ module _ {E : Type 0} where
   module _ (id : RequestId) (s : State E) where
     -- it is booted once
     booted_once : applied Boot (request_booted id s) ≡ applied Boot s
-    booted_once = by (row_passes runs id s) refl (row_passes may_start_again id s) refl
+    booted_once = by (row_passes runs_now id s) refl (row_passes may_start_again id s) refl
       where
-        by : (b : Bool) → row_passes runs id s ≡ b → (c : Bool) → row_passes may_start_again id s ≡ c
+        by : (b : Bool) → row_passes runs_now id s ≡ b → (c : Bool) → row_passes may_start_again id s ≡ c
             → applied Boot (if b then (if c then change_row id lost_row s else drop_row id s) else s) ≡ applied Boot s
         by true e true f = ap (λ rows. record s { rows = rows }) (filter_map-changed booted_row (is_row id) lost_row s.rows (λ r found.
-            let run = ap (passes runs) (sym found) ∙ e in
+            let run = ap (passes runs_now) (sym found) ∙ e in
             let again = ap (passes may_start_again) (sym found) ∙ f in
             sym (λ j. if run j then (if again j then Some (lost_row r) else None) else Some r)))
         by true e false f = ap (λ rows. record s { rows = rows }) (filter_map-without booted_row (is_row id) s.rows (λ r found.
-            let run = ap (passes runs) (sym found) ∙ e in
+            let run = ap (passes runs_now) (sym found) ∙ e in
             let gone = ap (passes may_start_again) (sym found) ∙ f in
             (λ j. if run j then (if gone j then Some (lost_row r) else None) else Some r)))
         by false e c f = refl
 
     module _ (h : IsInOrder s) where
       pub request_order : IsInOrder (request_booted id s)
-      request_order = by (row_passes runs id s) refl (row_passes may_start_again id s) refl
+      request_order = by (row_passes runs_now id s) refl (row_passes may_start_again id s) refl
         where
-          by : (b : Bool) → row_passes runs id s ≡ b → (c : Bool) → row_passes may_start_again id s ≡ c
+          by : (b : Bool) → row_passes runs_now id s ≡ b → (c : Bool) → row_passes may_start_again id s ≡ c
               → IsInOrder (if b then (if c then change_row id lost_row s else drop_row id s) else s)
           by true e true f = row_changed s id lost_row h (λ r. refl) (λ r found k.
-              lost_right s r k (ap (passes runs) (sym found) ∙ e) (and_parts (r.job.rerun && not r.doomed) (nat_lt r.starts 65535)
+              lost_right s r k (ap (passes runs_now) (sym found) ∙ e) (and_parts (r.job.rerun && not r.doomed) (nat_lt r.starts 65535)
               (ap (passes may_start_again) (sym found) ∙ f)).1)
-              (λ r. refl) (unoffered runs id s h running_unrouted e)
-          by true e false f = row_dropped s id h (unoffered runs id s h running_unrouted e)
+              (λ r. refl) (unoffered runs_now id s h running_unrouted e)
+          by true e false f = row_dropped s id h (unoffered runs_now id s h running_unrouted e)
           by false e c f = h
 
       module _ (ids : List RequestId) where
@@ -100,16 +101,16 @@ module _ {E : Type 0} where
 
         -- the request that doesn't run need not be listed
         idle : (rows : List (Row E)) → are_distinct id_eq (map (λ r. r.id) rows) ≡ true → list_all (runs_in (id ∷ ids)) rows ≡ true
-            → passes runs (find (is_row id) rows) ≡ false → list_all (runs_in ids) rows ≡ true
+            → passes runs_now (find (is_row id) rows) ≡ false → list_all (runs_in ids) rows ≡ true
         idle [] d k e = refl
         idle (r ∷ rows) d k e = by (id_eq id r.id) refl (and_parts (not (list_any (id_eq r.id) (map (λ r. r.id) rows)))
             (are_distinct id_eq (map (λ r. r.id) rows)) d) (and_parts (runs_in (id ∷ ids) r) (list_all (runs_in (id ∷ ids)) rows) k) e (idle rows)
           where
             by : (b : Bool) → id_eq id r.id ≡ b → (not (list_any (id_eq r.id) (map (λ r. r.id) rows)) ≡ true)
                 × (are_distinct id_eq (map (λ r. r.id) rows) ≡ true) → (runs_in (id ∷ ids) r ≡ true) × (list_all (runs_in (id ∷ ids)) rows ≡ true)
-                → passes runs (cond b (Some r) (find (is_row id) rows)) ≡ false
-                → (are_distinct id_eq (map (λ r. r.id) rows) ≡ true → list_all (runs_in (id ∷ ids)) rows ≡ true → passes runs (find (is_row id) rows) ≡ false
-                → list_all (runs_in ids) rows ≡ true) → (runs_in ids r && list_all (runs_in ids) rows) ≡ true
+                → passes runs_now (cond b (Some r) (find (is_row id) rows)) ≡ false
+                → (are_distinct id_eq (map (λ r. r.id) rows) ≡ true → list_all (runs_in (id ∷ ids)) rows ≡ true
+                → passes runs_now (find (is_row id) rows) ≡ false → list_all (runs_in ids) rows ≡ true) → (runs_in ids r && list_all (runs_in ids) rows) ≡ true
             by true f d k e rest =
                 let none : list_any (is_row id) rows ≡ false = sym (list_any-map (λ r. r.id) (id_eq id) rows)
                 ∙ ap (λ i. list_any (id_eq i) (map (λ r. r.id) rows)) (id_exact id r.id f) ∙ not-true _ d.0 in
@@ -118,13 +119,13 @@ module _ {E : Type 0} where
             by false f d k e rest = and_from (runs_in ids r) (list_all (runs_in ids) rows) (other r k.0 (not_from_false (id_eq id r.id) f)) (rest d.1 k.1 e)
 
         fewer_run : runs_only (id ∷ ids) s ≡ true → runs_only ids (request_booted id s) ≡ true
-        fewer_run k = by (row_passes runs id s) refl (row_passes may_start_again id s)
+        fewer_run k = by (row_passes runs_now id s) refl (row_passes may_start_again id s)
           where
             distinct : are_distinct id_eq (map (λ r. r.id) s.rows) ≡ true
             distinct = (keys_are s h.keys).rows
 
-            by : (b : Bool) → row_passes runs id s ≡ b → (c : Bool) → runs_only ids (if b then (if c then change_row id lost_row s else drop_row id s) else s)
-                ≡ true
+            by : (b : Bool) → row_passes runs_now id s ≡ b → (c : Bool)
+                → runs_only ids (if b then (if c then change_row id lost_row s else drop_row id s) else s) ≡ true
             by true e true = all-changed_alone id_eq id_exact (λ r. r.id) id lost_row (runs_in (id ∷ ids)) (runs_in ids)
                 (λ r n q. other r q (not_from_false (id_eq id r.id) n)) (λ r q. refl) s.rows distinct k
             by true e false = others (without_first (is_row id) s.rows) (part_all (runs_in (id ∷ ids)) (without_part (is_row id) s.rows) k)

@@ -7,9 +7,10 @@ use Rattle.nqs_types.specs.declared.ids.RequestId.{RequestId}
 use Rattle.nqs_types.specs.declared.request.Row.{Row}
 use Rattle.nqs_types.specs.declared.change.Change.{Change}
 use Rattle.nqs_types.specs.declared.change.Change.TheVariants.{Started, Boot}
+use Rattle.nqs_state.specs.Least.{runs_now}
 use Rattle.nqs_rules.specs.Tests.{is_running}
 use Rattle.nqs_rules.specs.Edits.{change_row, drop_row}
-use Rattle.nqs_rules.specs.Fits.{row_passes, runs}
+use Rattle.nqs_rules.specs.Fits.{row_passes}
 use Rattle.nqs_rules.specs.Applied.{may_start_again, lost_row}
 
 module _ {E : Type 0} where
@@ -29,7 +30,7 @@ module _ {E : Type 0} where
 
   -- what a boot makes of one request
   abbrev pub request_booted : RequestId → State E → State E
-  request_booted id s = if row_passes runs id s then (if row_passes may_start_again id s then change_row id lost_row s else drop_row id s) else s
+  request_booted id s = if row_passes runs_now id s then (if row_passes may_start_again id s then change_row id lost_row s else drop_row id s) else s
 
   -- one after the other
   abbrev pub requests_booted : List RequestId → State E → State E

@@ -5,10 +5,11 @@ ghost use Rattle.std.specs.List.{list_all};
 ghost use Rattle.nqs_state.specs.State.{content};
 ghost use Rattle.nqs_rules.specs.InOrder.{IsInOrder};
 ghost use Rattle.nqs_rules.specs.Sane.{has_path};
-ghost use Rattle.nqs_rules.specs.Fits.{row_passes, runs};
+ghost use Rattle.nqs_rules.specs.Fits.{row_passes};
 ghost use Rattle.nqs_rules.specs.Edits.{drop_row};
 ghost use Rattle.nqs_rules.specs.Applied.{add_file, add_stage, add_output, add_outputs, stage_counted, stage_got};
 ghost use Rattle.nqs_types.specs.declared.change.OutPart.{OutPart};
+ghost use Rattle.nqs_state.specs.Least.{runs_now};
 
 use crate::peers::change_peer;
 use nqs_base::{Bytes, Extent, Items, Rest};
@@ -100,7 +101,7 @@ pub fn ended(state: &mut HostState, id: RequestId, outputs: Items<OutPart>)
     requires files { length outputs ≤ state.old.files.spare }
     requires stages { length outputs ≤ state.old.stages.spare }
     requires order { IsInOrder (content state.old) }
-    requires runs { IsTrue (row_passes runs id (content state.old)) }
+    requires runs { IsTrue (row_passes runs_now id (content state.old)) }
     requires paths { IsTrue (list_all has_path outputs) }
     ensures { content state.new ≡ add_outputs id outputs (drop_row id (content state.old)) }
 {

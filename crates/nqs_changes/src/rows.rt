@@ -3,10 +3,11 @@
 ghost use Rattle.std.specs.Prelude.{◌≡◌, ◌+◌, ◌<◌, ◌≤◌, ◌^◌, length, IsTrue, find};
 ghost use Rattle.nqs_state.specs.State.{content};
 ghost use Rattle.nqs_state.specs.Keys.{is_row};
+ghost use Rattle.nqs_state.specs.Least.{runs_now};
 ghost use Rattle.nqs_rules.specs.Tests.{is_ready, last_seq, last_u64};
 ghost use Rattle.nqs_rules.specs.Edits.{change_row, drop_row};
 ghost use Rattle.nqs_rules.specs.Rows.{next_arrival};
-ghost use Rattle.nqs_rules.specs.Fits.{row_passes, runs, may_hop};
+ghost use Rattle.nqs_rules.specs.Fits.{row_passes, may_hop};
 ghost use Rattle.nqs_rules.specs.InOrder.{IsInOrder};
 ghost use Rattle.nqs_rules.specs.Applied.{new_row, submitted, deleted, doomed_row, started_row, requeued_row, moved_local, held_far};
 
@@ -18,7 +19,7 @@ use std::alloc::Global;
 
 /// Whether the host has the request, and it runs.
 pub fn row_runs(state: &HostState, id: &RequestId) -> bool
-    ensures { result ≡ row_passes runs id.now (content state.now) }
+    ensures { result ≡ row_passes runs_now id.now (content state.now) }
 {
     match state.rows.get(id) {
         Some(row) => row.state == RowState::Running,

@@ -4,7 +4,7 @@ use Rattle.nqs_state.specs.State.{State}
 use Rattle.nqs_access.proofs.Found.{queue_there, queue_missing}
 use Rattle.nqs_rules.specs.Causes.{Cause, cause, first_refusal}
 use Rattle.nqs_rules.specs.Find.{find_queue, find_peer, has_promise}
-use Rattle.nqs_rules.specs.Rows.{causes_of}
+use Rattle.nqs_rules.specs.Rows.{causes_of, job_causes}
 use Rattle.nqs_rules.specs.Handover.{closes, offer_entry_causes, offer_causes, offer_by, on_offer, send_ready, send_refused}
 use Rattle.nqs_rules.specs.Stepped.{Stepped, says, makes}
 use Rattle.nqs_types.specs.declared.ids.HostId.{HostId}
@@ -13,7 +13,8 @@ use Rattle.nqs_types.specs.declared.queue.QueueDef.{QueueDef}
 use Rattle.nqs_types.specs.declared.refusal.Refusal.{Refusal}
 use Rattle.nqs_types.specs.declared.refusal.Refusal.TheVariants.{NoQueue}
 use Rattle.nqs_types.specs.declared.change.Change.TheVariants.{Promised}
-use Rattle.nqs_handover.specs.Offers.{by_number, way_causes, host_causes, into_causes}
+use Rattle.nqs_types.specs.declared.rule.Entry.TheVariants.{FromPipe}
+use Rattle.nqs_handover.specs.Offers.{by_number, host_causes, into_causes}
 
 third : {A : Type 0} (a b : Bool) (x y z : A) → a ≡ false → b ≡ false → (if a then x else (if b then y else z)) ≡ z
 third a b x y z p q = (λ j. if p j then x else (if q j then y else z))
@@ -22,7 +23,7 @@ module _ {E : Type 0} (s : State E) (peer : HostId) (queue : List ℕ) (c : Carr
   abbrev into_part : Bool → Option QueueDef → List Cause
   into_part there found = cause (not there) (NoQueue queue) ∷ causes_of (offer_entry_causes c) found ++ host_causes peer s
 
-  pub into_found : (d : QueueDef) → Some d ≡ find_queue queue s → first_refusal (way_causes d c.job ++ host_causes peer s)
+  pub into_found : (d : QueueDef) → Some d ≡ find_queue queue s → first_refusal (job_causes d c.job FromPipe ++ host_causes peer s)
       ≡ first_refusal (into_causes peer queue c s)
   into_found d h = (λ i. first_refusal (into_part (sym (queue_there queue s d (sym h)) i) (h i)))
 

@@ -5,14 +5,9 @@ use Rattle.nqs_rules.specs.Causes.{Cause, cause, refusal_number}
 use Rattle.nqs_rules.specs.Find.{has_queue, find_queue}
 use Rattle.nqs_rules.specs.Fits.{offer_full}
 use Rattle.nqs_rules.specs.Rows.{causes_of, arrivals_used}
-use Rattle.nqs_rules.specs.Access.{entry_causes}
-use Rattle.nqs_rules.specs.Limits.{over_causes}
 use Rattle.nqs_rules.specs.Handover.{offer_entry_causes}
 use Rattle.nqs_types.specs.declared.ids.HostId.{HostId}
-use Rattle.nqs_types.specs.declared.request.Job.{Job}
 use Rattle.nqs_types.specs.declared.request.Carried.{Carried}
-use Rattle.nqs_types.specs.declared.queue.QueueDef.{QueueDef}
-use Rattle.nqs_types.specs.declared.rule.Entry.TheVariants.{FromPipe}
 use Rattle.nqs_types.specs.declared.refusal.Refusal.{Refusal}
 use Rattle.nqs_types.specs.declared.refusal.Refusal.TheVariants.{NoQueue, HostFull, NumbersUsed}
 
@@ -20,10 +15,6 @@ use Rattle.nqs_types.specs.declared.refusal.Refusal.TheVariants.{NoQueue, HostFu
 abbrev pub by_number : Result (Unit {0}) Refusal → Result (Unit {0}) ℕ
 by_number (Ok done) = Ok done
 by_number (Err refusal) = Err (refusal_number refusal)
-
--- why a job isn't let into a queue from a pipe queue
-abbrev pub way_causes : QueueDef → Job → List Cause
-way_causes d job = entry_causes d job.owner FromPipe ++ over_causes d job.limits
 
 module _ {E : Type 0} where
   -- why the host has no room or no number for an offered request

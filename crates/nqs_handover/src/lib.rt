@@ -15,7 +15,7 @@ mod receiver;
 mod source;
 mod tick;
 
-pub use offer::{check_way, on_offer};
+pub use offer::on_offer;
 pub use open::{dest_at, offer_row, open_hand};
 pub use receiver::{on_abort, on_commit};
 pub use source::{on_done, on_inquire, on_ready, on_refused};

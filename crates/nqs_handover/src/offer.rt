@@ -4,16 +4,15 @@ ghost use Rattle.nqs_state.specs.State.{content};
 ghost use Rattle.nqs_rules.specs.Causes.{first_refusal};
 ghost use Rattle.nqs_rules.specs.Find.{has_row, find_peer};
 ghost use Rattle.nqs_rules.specs.Handover.{closes, is_not_given_here, offer_causes, on_offer, send_ready};
+ghost use Rattle.nqs_rules.specs.Rows.{job_causes};
 ghost use Rattle.nqs_types.specs.declared.change.Change.TheVariants.{Promised};
 ghost use Rattle.nqs_rules.specs.Stepped.{plan_of, makes};
-ghost use Rattle.nqs_handover.specs.Offers.{by_number, way_causes, host_causes, into_causes};
+ghost use Rattle.nqs_handover.specs.Offers.{by_number, host_causes, into_causes};
 
-use nqs_access::may_use;
 use nqs_base::{Bytes, ListOf, Memory, Name};
-use nqs_limits::over_limits;
 use nqs_plans::{add, change_storing, copy_carried, message, no_extent, refusal_number, says};
 use nqs_routing::{find_peer, has_promise};
-use nqs_rows::{check_arrivals, offer_full};
+use nqs_rows::{check_arrivals, check_job, offer_full};
 use nqs_state::HostState;
 use nqs_types::{Body, Carried, Change, Entry, HostId, Job, Plan, QueueDef, Refusal, RequestId};
 use std::alloc::Global;
@@ -39,15 +38,6 @@ fn is_not_given_here(state: &HostState, id: RequestId) -> bool
     state.me == id.host && state.seq < id.seq
 }
 
-/// Whether a job may come into the queue from a pipe queue: the first refusal of the way in and of
-/// the limits.
-pub fn check_way(queue: &QueueDef, job: &Job) -> Result<(), Refusal>
-    ensures { result ≡ first_refusal (way_causes queue.now job.now) }
-{
-    may_use(queue, &job.owner, Entry::FromPipe)?;
-    over_limits(queue, &job.limits)
-}
-
 fn check_host(state: &HostState, peer: HostId) -> Result<(), Refusal>
     ensures { result ≡ first_refusal (host_causes peer (content state.now)) }
 {
@@ -58,9 +48,9 @@ fn check_host(state: &HostState, peer: HostId) -> Result<(), Refusal>
 }
 
 fn check_found(state: &HostState, peer: HostId, queue: &QueueDef, job: &Job) -> Result<(), Refusal>
-    ensures { result ≡ first_refusal (way_causes queue.now job.now ++ host_causes peer (content state.now)) }
+    ensures { result ≡ first_refusal (job_causes queue.now job.now Entry.FromPipe ++ host_causes peer (content state.now)) }
 {
-    check_way(queue, job)?;
+    check_job(queue, job, Entry::FromPipe)?;
     check_host(state, peer)
 }
 

@@ -22,8 +22,8 @@ use Rattle.nqs_rules.specs.Tests.{passes}
 use Rattle.nqs_rules.specs.Causes.{Cause, first_refusal}
 use Rattle.nqs_rules.specs.Find.{peer_number, request_of, host_named, find_row, row_of, meant_row, has_promise, has_stage, find_peer}
 use Rattle.nqs_rules.specs.Rows.{named_causes}
-use Rattle.nqs_rules.specs.Fits.{is_site_host, row_passes, hand_passes, is_offered_hand, are_offered}
-use Rattle.nqs_rules.specs.InOrder.{IsInOrder, is_row_right, is_hand_given, is_hand_right, is_promise_open, is_promise_right, is_stage_given, is_stage_right}
+use Rattle.nqs_rules.specs.Fits.{is_site_host, row_passes, hand_passes, is_offered_hand, are_offered, is_open_number}
+use Rattle.nqs_rules.specs.InOrder.{IsInOrder, is_row_right, is_hand_given, is_hand_right, is_promise_right, is_stage_given, is_stage_right}
 use Rattle.nqs_rules.specs.Sane.{is_sane_id, has_path}
 use Rattle.nqs_rules.specs.Stepped.{part_bytes}
 use Rattle.nqs_rules.proofs.KeyFacts.{found_any}
@@ -72,7 +72,7 @@ module _ {E : Type 0} (s : State E) (h : IsInOrder s) where
 
   pub promise_host : (peer : HostId) (number : ℕ) → has_promise peer number s ≡ true → IsHost peer
   promise_host peer number there =
-      keyed_host promise_key (is_promise_right s) (λ p k. peer_host (is_promise_open p.number) p.peer (promise_is s p k).opens) s.promises h.promises
+      keyed_host promise_key (is_promise_right s) (λ p k. peer_host (is_open_number p.number) p.peer (promise_is s p k).opens) s.promises h.promises
       (peer_number peer number) (λ _. true)
       (found_any (is_promise (peer_number peer number)) s.promises there)
 

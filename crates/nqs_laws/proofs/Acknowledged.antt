@@ -37,13 +37,13 @@ use Rattle.nqs_rules.specs.World.{World, Act, new_world, boot_output, sent_by}
 use Rattle.nqs_rules.specs.Run.{happens, run, states_of}
 use Rattle.nqs_rules.proofs.RowFacts.{same_id}
 use Rattle.nqs_rules.specs.Notes.{Note, Saw, Kept, saws}
+use Rattle.nqs_rules.specs.Picked.{PlainRow}
 use Rattle.nqs_laws.specs.History.{history}
 use Rattle.nqs_laws.specs.Sane.{AreSane, IsSite}
 use Rattle.nqs_laws.specs.Words.{replayed}
 use Rattle.nqs_laws.specs.Launches.{is_acknowledged, lies, was_taken_out}
 use Rattle.nqs_laws.proofs.Frame.{Moment, put_state, put-same, Way, Taken, Begun, Booted, change_by, why_by, seen_from, kept_of, IsIdle}
 use Rattle.nqs_laws.proofs.Told.{at-value}
-use Rattle.nqs_laws.proofs.RowTests.{PlainRow}
 use Rattle.nqs_laws.proofs.Sent.{is_fine_output, Begins, Launches, Prints, Holds, Moves, Opens, begins, step_fine}
 use Rattle.nqs_laws.proofs.Sound.{IsSound, Keeps, Suits, me_is, event_sane, all_sane, get-here, runs_keep}
 use Rattle.nqs_laws.proofs.After.{Request}

@@ -25,6 +25,7 @@ use Rattle.nqs_types.specs.declared.change.Change.{Change}
 use Rattle.nqs_types.specs.declared.change.Change.TheVariants.{Site, Submitted, Deleted, Ended, Edited, HandOpened, HandCommitted, HandRefused, HandsSilent}
 use Rattle.nqs_types.specs.declared.change.Change.TheVariants.{HandDone, Promised, Accepted, Dropped, StageGot}
 use Rattle.nqs_types.specs.declared.message.Message.{Message}
+use Rattle.nqs_state.proofs.LeastLemmas.{found_id}
 use Rattle.nqs_rules.specs.Tests.{same_host}
 use Rattle.nqs_rules.specs.Find.{peer_number, has_row, find_row, find_hand, find_promise, meant_request}
 use Rattle.nqs_rules.specs.Conf.{conf_applied}
@@ -45,11 +46,11 @@ use Rattle.nqs_rules.proofs.HandoversOrder.{not_committed, still_offered, silent
 use Rattle.nqs_rules.proofs.ConsistentOrder.{silent_calm_one}
 use Rattle.nqs_rules.proofs.OutputsKept.{file_keeps, outputs_keep}
 use Rattle.nqs_rules.proofs.OutputsOrder.{put_twice}
+use Rattle.nqs_rules.specs.Picked.{PlainRow}
 use Rattle.nqs_laws.specs.Loads.{sent_load}
 use Rattle.nqs_laws.proofs.Frame.{put_state, put-same}
 use Rattle.nqs_laws.proofs.Sound.{get-here}
-use Rattle.nqs_laws.proofs.RowTests.{PlainRow}
-use Rattle.nqs_laws.proofs.After.{Request, id_of, changed_at, after, row_after, silent_found}
+use Rattle.nqs_laws.proofs.After.{Request, changed_at, after, row_after, silent_found}
 use Rattle.nqs_laws.proofs.Spares.{IsNew, changed_none, grows}
 use Rattle.nqs_laws.proofs.Pair.{Move, Stays, Withdraws, Finishes, Pledges, Drops}
 use Rattle.nqs_laws.proofs.Views.{Pledging, host_exact, host_same}
@@ -219,7 +220,7 @@ module _ (states : List Plain) (packets : List Message) (paired : IsPaired state
       none : (y : Option PlainRow) → find_row x s' ≡ y → x.host ≡ h → s'.seq < x.seq → y ≡ None
       none None e here few = refl
       none (Some r) e here few =
-          let id : x ≡ r.id = id_of x s'.rows r e in
+          let id : x ≡ r.id = found_id x s'.rows r e in
           let given = (row_is s' r (list_all-found (is_row_right s') (is_row x) s'.rows r o'.rows e)).given in
           let mine : same_host s'.me r.id.host ≡ true = ap (same_host s'.me) (sym (me' ∙ (me ∙ (sym here ∙ ap (λ (i : Request). i.host) id))))
           ∙ host_same s'.me in

@@ -3,7 +3,7 @@ use Rattle.std.proofs.Common.{◌≡◌, ℕ, ◌+◌, Bool, true, false, cond, 
 use Rattle.std.proofs.Common.{ap, ◌∙◌, if◌then◌else◌}
 use Rattle.std.proofs.lemmas.Option.{none-some}
 use Rattle.std.specs.List.{list_any}
-use Rattle.std.specs.Option.{option_map, option_and_then, IfSome}
+use Rattle.std.specs.Option.{option_map, option_and_then, IfSome, option_or}
 use Rattle.nqs_base.specs.Same.{name_eq}
 use Rattle.nqs_types.specs.Ids.{id_eq, id_exact}
 use Rattle.nqs_state.specs.State.{Plain}
@@ -31,6 +31,7 @@ use Rattle.nqs_types.specs.declared.change.Change.{Change}
 use Rattle.nqs_types.specs.declared.change.Change.TheVariants.{Site, Submitted, Deleted, Doomed, Started, Ended, Unlaunched, Boot, Edited, HandOpened}
 use Rattle.nqs_types.specs.declared.change.Change.TheVariants.{HandCommitted, HandRefused, HandsSilent, HandDone, Promised, Accepted, Dropped, MovedLocal}
 use Rattle.nqs_types.specs.declared.change.Change.TheVariants.{RefusedLocal, HeldFar, StageGot, StageGone, FileGone}
+use Rattle.nqs_state.proofs.LeastLemmas.{found_id}
 use Rattle.nqs_rules.specs.Tests.{is_running}
 use Rattle.nqs_rules.specs.Find.{peer_number, has_row, find_row, find_hand, find_promise, meant_request}
 use Rattle.nqs_rules.specs.Edits.{drop_row, change_peer}
@@ -44,13 +45,12 @@ use Rattle.nqs_rules.specs.Applied.{started_row, routing_row, requeued_row, move
 use Rattle.nqs_rules.specs.Applied.{hands_silent, drop_promise, accepted}
 use Rattle.nqs_rules.specs.Fits.{fits}
 use Rattle.nqs_rules.specs.InOrder.{IsInOrder, are_distinct}
-use Rattle.nqs_rules.proofs.ListFacts.{found_passes}
 use Rattle.nqs_rules.proofs.RowFacts.{same_id}
 use Rattle.nqs_rules.proofs.RowChanges.{noted_kept}
 use Rattle.nqs_rules.proofs.StateFacts.{keys_are}
 use Rattle.nqs_rules.proofs.OutputsKept.{file_keeps, outputs_keep}
-use Rattle.nqs_laws.proofs.RowTests.{PlainRow}
-use Rattle.nqs_laws.proofs.Found.{only, first_of_two, find-added, find-without, find-changed, find-mapped, find-filtered}
+use Rattle.nqs_rules.specs.Picked.{PlainRow}
+use Rattle.nqs_laws.proofs.Found.{only, find-added, find-without, find-changed, find-mapped, find-filtered}
 use Rattle.nqs_laws.proofs.Found.{find-filter_mapped}
 
 abbrev pub Request : Type 0
@@ -107,13 +107,13 @@ silents_after until (k ∷ ks) s x o = silents_after until ks (hand_silent until
 
 abbrev pub accepted_after : Option (Promise (List ℕ)) → Request → Option PlainRow → Option PlainRow
 accepted_after None x o = o
-accepted_after (Some p) x o = first_of_two o (if id_eq x p.row.id then Some (requeued_row p.row) else None)
+accepted_after (Some p) x o = option_or o (if id_eq x p.row.id then Some (requeued_row p.row) else None)
 
 abbrev pub submitted_row : List ℕ → Job → List ℕ → Plain → PlainRow
 submitted_row queue job script s = new_row (first_carried (next_id s) job) queue (s.arrivals + 1) script
 
 abbrev pub after : Change (List ℕ) → Plain → Request → Option PlainRow → Option PlainRow
-after (Submitted queue job script) s x o = first_of_two o (if id_eq x (next_id s) then Some (submitted_row queue job script s) else None)
+after (Submitted queue job script) s x o = option_or o (if id_eq x (next_id s) then Some (submitted_row queue job script s) else None)
 after (Deleted id) s x o = without_at id x o
 after (Doomed id) s x o = changed_at id doomed_row x o
 after (Started id device) s x o = changed_at id (started_row device) x o
@@ -134,9 +134,6 @@ after c s x o = o
 abbrev IsIn : List PlainRow → Type 0
 IsIn rows = are_distinct id_eq (map (λ (r : PlainRow). r.id) rows) ≡ true
 
-pub id_of : (id : Request) (rows : List PlainRow) (r : PlainRow) → find (is_row id) rows ≡ Some r → id ≡ r.id
-id_of id rows r e = id_exact id r.id (found_passes (is_row id) rows r e)
-
 without_found : (id x : Request) (rows : List PlainRow) → IsIn rows → find (is_row x) (without_first (is_row id) rows) ≡ without_at id x (find (is_row x) rows)
 without_found id x rows d = of (find (is_row id) rows) refl
   where
@@ -147,7 +144,7 @@ without_found id x rows d = of (find (is_row id) rows) refl
     of : (o : Option PlainRow) → find (is_row id) rows ≡ o → find (is_row x) (without_first (is_row id) rows) ≡ without_at id x (find (is_row x) rows)
     of None e = ap (find (is_row x)) (without_first-none (is_row id) rows e) ∙ none e (id_eq x id) refl
     of (Some r) e = find-without id_eq (λ (r : PlainRow). r.id) id_exact same_id (is_row id) r x rows e d
-        ∙ ap (λ i. if id_eq x i then None else find (is_row x) rows) (sym (id_of id rows r e))
+        ∙ ap (λ i. if id_eq x i then None else find (is_row x) rows) (sym (found_id id rows r e))
 
 changed_found : (id : Request) (f : PlainRow → PlainRow) → ((r : PlainRow) → (f r).id ≡ r.id) → (x : Request) (rows : List PlainRow) → IsIn rows
     → find (is_row x) (change_first (is_row id) f rows) ≡ changed_at id f x (find (is_row x) rows)
@@ -167,10 +164,10 @@ changed_found id f keeps x rows d = of (find (is_row id) rows) refl
     of None e = ap (find (is_row x)) (change_first-none (is_row id) f rows e) ∙ none e (id_eq x id) refl
     of (Some r) e =
         find-changed id_eq (λ (r : PlainRow). r.id) id_exact same_id f keeps (is_row id) r x rows e d
-        ∙ (ap (λ i. if id_eq x i then Some (f r) else find (is_row x) rows) (sym (id_of id rows r e)) ∙ some r e (id_eq x id) refl)
+        ∙ (ap (λ i. if id_eq x i then Some (f r) else find (is_row x) rows) (sym (found_id id rows r e)) ∙ some r e (id_eq x id) refl)
 
 added_found : (r : PlainRow) (x : Request) (rows : List PlainRow) → find (is_row x) (rows ++ r ∷ [])
-    ≡ first_of_two (find (is_row x) rows) (if id_eq x r.id then Some r else None)
+    ≡ option_or (find (is_row x) rows) (if id_eq x r.id then Some r else None)
 added_found r x rows = find-added (is_row x) rows r
 
 pub noted_id : (dests : List _) (dest : _) (refusal : ℕ) (r : PlainRow) → (refusal_noted dests dest refusal r).id ≡ r.id
@@ -270,7 +267,7 @@ module _ (x : Request) where
   accepted_found n (Some p) s = by (has_row p.row.id s) refl
     where
       there : has_row p.row.id s ≡ true → (b : Bool) → id_eq x p.row.id ≡ b
-          → find (is_row x) s.rows ≡ first_of_two (find (is_row x) s.rows) (if b then Some (requeued_row p.row) else None)
+          → find (is_row x) s.rows ≡ option_or (find (is_row x) s.rows) (if b then Some (requeued_row p.row) else None)
       there has true same = some (find (is_row x) s.rows) refl
         where
           none : find (is_row x) s.rows ≡ None → ⊥
@@ -285,12 +282,12 @@ module _ (x : Request) where
                   by true h e rest = none-some r (sym e)
                   by false h e rest = rest h e
 
-          some : (o : Option PlainRow) → find (is_row x) s.rows ≡ o → o ≡ first_of_two o (Some (requeued_row p.row))
+          some : (o : Option PlainRow) → find (is_row x) s.rows ≡ o → o ≡ option_or o (Some (requeued_row p.row))
           some None e = absurd (none e)
           some (Some r) e = refl
       there has false same = some (find (is_row x) s.rows)
         where
-          some : (o : Option PlainRow) → o ≡ first_of_two o None
+          some : (o : Option PlainRow) → o ≡ option_or o None
           some None = refl
           some (Some r) = refl
 

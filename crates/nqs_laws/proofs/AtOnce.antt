@@ -41,12 +41,12 @@ use Rattle.nqs_rules.proofs.ListFacts.{list_all-found}
 use Rattle.nqs_rules.proofs.KeyFacts.{filter_all}
 use Rattle.nqs_rules.proofs.FindKept.{all-filter_map, all-mapped}
 use Rattle.nqs_rules.specs.Notes.{ByEvent}
+use Rattle.nqs_rules.specs.Picked.{PlainRow}
 use Rattle.nqs_laws.specs.Sane.{AreSane, IsSite}
 use Rattle.nqs_laws.specs.Handovers.{IsStateOf}
 use Rattle.nqs_laws.specs.AtOnce.{is_run, is_waiting, runs, waits_in, runs_on_in, NoneAt, LeavesNone, has_no_silence, tick_moment, TakesBackAll}
 use Rattle.nqs_laws.proofs.Frame.{Moment, silent, Way, Taken, Begun, Booted, change_by, why_by}
 use Rattle.nqs_laws.proofs.Told.{at-value}
-use Rattle.nqs_laws.proofs.RowTests.{PlainRow}
 use Rattle.nqs_laws.proofs.Sound.{IsSound, Suits, some-if, sound_frames, run_sound, get-here}
 use Rattle.nqs_laws.proofs.Makes.{Follows, step_makes}
 use Rattle.nqs_laws.proofs.After.{Request}

@@ -32,7 +32,7 @@ use Rattle.nqs_rules.specs.Find.{find_queue, find_peer}
 use Rattle.nqs_rules.specs.Devices.{free_device}
 use Rattle.nqs_rules.specs.Routing.{destination}
 use Rattle.nqs_rules.specs.Order.{is_local, print_on, move_to, choice_for, pick}
-use Rattle.nqs_rules.specs.Picked.{IsPicked}
+use Rattle.nqs_rules.specs.Picked.{IsPicked, PlainRow}
 use Rattle.nqs_rules.specs.Handover.{opened_with, open_hand}
 use Rattle.nqs_rules.specs.Start.{launching, printing, holding, moving_by, moving, local_causes, with_row, device_at, dest_at, started, start_by, start}
 use Rattle.nqs_rules.specs.Starts.{after_change}
@@ -48,7 +48,6 @@ use Rattle.nqs_rules.proofs.Until.{steady}
 use Rattle.nqs_rules.proofs.PeersOrder.{get-other}
 use Rattle.nqs_laws.proofs.Frame.{Moment, moment, put_state, Way, Taken, Begun, Booted, change_by}
 use Rattle.nqs_laws.proofs.Makes.{Answers, Obeys, Follows, step_makes}
-use Rattle.nqs_laws.proofs.RowTests.{PlainRow}
 use Rattle.nqs_laws.proofs.Sound.{IsSound, Keeps, Suits, some-if, get-here}
 use Rattle.nqs_laws.proofs.Views.{host_exact, host_same}
 use Rattle.nqs_laws.proofs.Hands.{Opens, hands_kept}

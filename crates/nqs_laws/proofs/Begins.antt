@@ -70,7 +70,8 @@ module _ (now : ℕ) (s : Plain) (steady : IsSteady s) (c : Choice) (p : IsPicke
       ∙ ap (λ o. is_some (option_and_then (λ q. slice_get q.devices device) o)) (queue_found now s steady c p) ∙ e
 
   at_dest : (f : _ → Stepped (List ℕ)) (dest : ℕ) → is_some (slice_get d.dests dest) ≡ true → is_some (option_map f (dest_at dest r s)) ≡ true
-  at_dest f dest e = is_some-option_map f (dest_at dest r s) ∙ ap (λ o. is_some (option_and_then (λ q. slice_get q.dests dest) o)) (queue_found now s steady c p) ∙ e
+  at_dest f dest e = is_some-option_map f (dest_at dest r s)
+      ∙ ap (λ o. is_some (option_and_then (λ q. slice_get q.dests dest) o)) (queue_found now s steady c p) ∙ e
 
 begins : (now : ℕ) (s : Plain) → IsSteady s → (c : Choice) → IsPicked now s c → is_some (started c now s) ≡ true
 begins now s steady (Launch row) p = of_row now s steady (Launch row) p (λ q. Some (launching q s)) refl

@@ -19,13 +19,13 @@ use Rattle.nqs_rules.specs.Tests.{passes, is_committed, same_host}
 use Rattle.nqs_rules.specs.Find.{find_row, find_hand, host_at}
 use Rattle.nqs_rules.specs.Fits.{is_committed_hand}
 use Rattle.nqs_rules.specs.InOrder.{IsInOrder, are_distinct}
-use Rattle.nqs_rules.specs.Net.{Entry, entry_in, row_entry, promise_entry, is_committed_at, is_arriving, arriving, entries_at, entries_from, entries, is_table}
+use Rattle.nqs_rules.specs.Net.{Entry, entry_in, row_entry, promise_entry, is_committed_to, is_arriving, arriving, entries_at, entries_from, entries, is_table}
 use Rattle.nqs_rules.specs.Net.{entry_of}
 use Rattle.nqs_rules.proofs.ListFacts.{found_passes, found_again}
 use Rattle.nqs_rules.proofs.RowFacts.{same_id}
 use Rattle.nqs_rules.proofs.StateFacts.{keys_are}
 use Rattle.nqs_rules.proofs.Sublists.{part_distinct, map_part, filter_part}
-use Rattle.nqs_laws.proofs.RowTests.{PlainRow}
+use Rattle.nqs_rules.specs.Picked.{PlainRow}
 use Rattle.nqs_laws.proofs.After.{Request}
 use Rattle.nqs_laws.proofs.Pair.{Offer, NoOffer, Open, Given}
 use Rattle.nqs_laws.proofs.Views.{Pledging, offered, promise_of, IsLone, host_exact, host_same}
@@ -98,7 +98,7 @@ module _ (states : List Plain) (table : Table) (told : IsTabled states table) (o
             phase Committed f g = f
             phase Offered f g = absurd (true≢false (sym g))
 
-        of : (x : Option Plain) → slice_get states p.peer.0 ≡ x → passes (is_committed_at h p.number) x ≡ true → table p.row.id ≡ Arrives p.peer h p.row
+        of : (x : Option Plain) → slice_get states p.peer.0 ≡ x → passes (is_committed_to h p.number) x ≡ true → table p.row.id ≡ Arrives p.peer h p.row
         of None e k = absurd (true≢false (sym k))
         of (Some u) e k = by u e (find_hand h p.number u) refl k
 
@@ -320,8 +320,8 @@ module _ (states : List Plain) (table : Table) (told : IsTabled states table) (o
                   → list_any (λ (e : Entry). id_eq x e.id) (entries states) ≡ true
               named number true is k =
                   let peer : a ≡ p.peer = host_exact a p.peer (found_passes (λ (q : Pledging). same_host a q.peer) t.promises p g) in
-                  let comes : is_arriving states b p ≡ true = (λ j. passes (is_committed_at b (number j)) (slice_get states (sym peer j).0))
-                  ∙ (ap (passes (is_committed_at b n)) sat ∙ committed_hand s (orders a s sat) b n id queue f) in
+                  let comes : is_arriving states b p ≡ true = (λ j. passes (is_committed_to b (number j)) (slice_get states (sym peer j).0))
+                  ∙ (ap (passes (is_committed_to b n)) sat ∙ committed_hand s (orders a s sat) b n id queue f) in
                   let z : 0 + b.0 ≡ b.0 = omega arith in
                   somewhere (λ (e : Entry). id_eq x e.id) 0 states b.0 t tat
                   ((λ j. list_any (λ (e : Entry). id_eq x e.id) (entries_at states (host_at (z j)) t))

@@ -23,6 +23,7 @@ use Rattle.nqs_types.specs.declared.message.Message.{Message}
 use Rattle.nqs_types.specs.declared.event.Command.{Command}
 use Rattle.nqs_types.specs.declared.event.Command.TheVariants as command
 use Rattle.nqs_types.specs.declared.event.Event.{Event}
+use Rattle.nqs_state.proofs.LeastLemmas.{found_id}
 use Rattle.nqs_types.specs.declared.event.Event.TheVariants as event
 use Rattle.nqs_types.specs.declared.table_row.NetState.TheVariants as net
 use Rattle.nqs_rules.specs.Tests.{passes, is_routing, is_running, is_unheld, same_host}
@@ -41,13 +42,13 @@ use Rattle.nqs_rules.proofs.RowChanges.{routing_is}
 use Rattle.nqs_rules.proofs.StateFacts.{keys_are}
 use Rattle.nqs_rules.proofs.StartIs.{StartsRow, start_is}
 use Rattle.nqs_rules.proofs.Until.{steady}
+use Rattle.nqs_rules.specs.Picked.{PlainRow}
 use Rattle.nqs_laws.specs.Licensed.{LicensesMessage, LicensesTick, LicensesCommand, LicensesEnd, LicensesEvent, LicensesStart, LicensesBoot, Licenses, LiesWith}
 use Rattle.nqs_laws.specs.Licensed.{IsLicensed}
 use Rattle.nqs_laws.specs.Loads.{kept_load}
 use Rattle.nqs_laws.proofs.Frame.{Way, Taken, Begun, Booted, change_by, why_by}
 use Rattle.nqs_laws.proofs.Sound.{some-if}
-use Rattle.nqs_laws.proofs.RowTests.{PlainRow}
-use Rattle.nqs_laws.proofs.After.{Request, id_of, submitted_row, after, row_after}
+use Rattle.nqs_laws.proofs.After.{Request, submitted_row, after, row_after}
 use Rattle.nqs_laws.proofs.Spares.{IsNew, grows}
 use Rattle.nqs_laws.proofs.Makes.{Answers, Obeys, Follows, step_makes}
 use Rattle.nqs_laws.proofs.Views.{Pledging, host_exact, host_same}
@@ -179,7 +180,7 @@ module _ (s : Plain) (o : IsInOrder s) (x : Request) where
     where
       of : (m : Option Request) → meant_request id s ≡ m → row_of m s ≡ Some r → meant_request id s ≡ Some x
       of None f g = absurd (none-some r g)
-      of (Some rid) f g = f ∙ ap Some (id_of rid s.rows r g ∙ sym same)
+      of (Some rid) f g = f ∙ ap Some (found_id rid s.rows r g ∙ sym same)
 
   delete_licence : (now : ℕ) (id : Named) (forced : Bool) (r : PlainRow) → meant_row id s ≡ Some r → (b : Bool) (k : Kind)
       → Turns (if b then Doomed r.id else Deleted r.id) s x k → LicensesCommand now (command.Delete id forced) s x k
@@ -262,7 +263,7 @@ module _ (s : Plain) (o : IsInOrder s) (x : Request) where
   end_licence : (id : Request) (start : ℕ) (r : PlainRow) → find_row id s ≡ Some r → is_start start r ≡ true → (k : Kind) → (x ≡ r.id) → k ≡ End
       → LicensesEnd id start s x k
   end_licence id start r found is k same e = subst (LicensesEnd id start s x) (sym e)
-      (same ∙ sym (id_of id s.rows r found), ap (passes (is_start start)) found ∙ is)
+      (same ∙ sym (found_id id s.rows r found), ap (passes (is_start start)) found ∙ is)
 
   ended_kind : (id : Request) (parts : List _) (k : Kind) → Turns (Ended id parts) s x k → (x ≡ id) × (k ≡ End)
   ended_kind id parts End t = (t, refl)
@@ -278,7 +279,7 @@ module _ (s : Plain) (o : IsInOrder s) (x : Request) where
   event_licence (event.Ended now port id start status output error) c f k t =
       (let g = ended_kind f.1.id f.0 k (subst (λ y. Turns y s x k) f.4 t) in end_licence id start f.1 f.2 f.3 k g.0 g.1)
   event_licence (event.Unlaunched now id start) c f k t = (let g = unlaunched_kind id k (subst (λ y. Turns y s x k) f.3 t) in
-      end_licence id start f.0 f.1 f.2 k (g.0 ∙ id_of id s.rows f.0 f.1) g.1)
+      end_licence id start f.0 f.1 f.2 k (g.0 ∙ found_id id s.rows f.0 f.1) g.1)
   event_licence (event.Written now file) c f k t = absurd (subst (λ y. Turns y s x k) f t)
   event_licence (event.Unwritten now file) c f k t = absurd f
   event_licence (event.Tick now) c f k t = tick_licence now f.0 k (subst (λ y. Turns y s x k) f.1 t)

@@ -3,9 +3,10 @@ use Rattle.std.proofs.Common.{◌≡◌, Bool, true, false, cond, not, List, [],
 use Rattle.std.proofs.lemmas.Bool.{and_parts, or_parts, not-true}
 use Rattle.std.proofs.lemmas.Option.{same_Some, none-some}
 use Rattle.std.specs.List.{list_any, filter_map, cons_option}
-use Rattle.std.specs.Option.{option_map, option_and_then, IfSome}
+use Rattle.std.specs.Option.{option_map, option_and_then, IfSome, option_or}
 use Rattle.nqs_base_tables.specs.Table.{has_key, change_first, without_first}
 use Rattle.nqs_rules.specs.InOrder.{are_distinct}
+use Rattle.nqs_rules.proofs.KeyFacts.{found_key}
 
 module _ {V : Type 0} where
   -- a value, if it passes
@@ -13,12 +14,7 @@ module _ {V : Type 0} where
   only keep None = None
   only keep (Some v) = if keep v then Some v else None
 
-  -- the first of two
-  abbrev pub first_of_two : Option V → Option V → Option V
-  first_of_two None o = o
-  first_of_two (Some v) o = Some v
-
-  pub find-added : (t : V → Bool) (vs : List V) (y : V) → find t (vs ++ y ∷ []) ≡ first_of_two (find t vs) (if t y then Some y else None)
+  pub find-added : (t : V → Bool) (vs : List V) (y : V) → find t (vs ++ y ∷ []) ≡ option_or (find t vs) (if t y then Some y else None)
   find-added t [] y = by (t y)
     where
       by : (b : Bool) → cond b (Some y) None ≡ (if b then Some y else None)
@@ -26,21 +22,12 @@ module _ {V : Type 0} where
       by false = refl
   find-added t (v ∷ vs) y = by (t v) (find-added t vs y)
     where
-      by : (b : Bool) → find t (vs ++ y ∷ []) ≡ first_of_two (find t vs) (if t y then Some y else None)
-          → cond b (Some v) (find t (vs ++ y ∷ [])) ≡ first_of_two (cond b (Some v) (find t vs)) (if t y then Some y else None)
+      by : (b : Bool) → find t (vs ++ y ∷ []) ≡ option_or (find t vs) (if t y then Some y else None)
+          → cond b (Some v) (find t (vs ++ y ∷ [])) ≡ option_or (cond b (Some v) (find t vs)) (if t y then Some y else None)
       by true rest = refl
       by false rest = rest
 
 module _ {K V : Type 0} (eq : K → K → Bool) (key : V → K) (exact : (a b : K) → eq a b ≡ true → a ≡ b) (same : (a : K) → eq a a ≡ true) where
-  key_of_found : (t : K → Bool) (u : V → Bool) (vs : List V) (v : V) → find u vs ≡ Some v → list_any t (map key vs) ≡ false → t (key v) ≡ false
-  key_of_found t u [] v found none = absurd (none-some v found)
-  key_of_found t u (x ∷ vs) v found none = by (u x) (or_parts (t (key x)) (list_any t (map key vs)) none) found (key_of_found t u vs v)
-    where
-      by : (b : Bool) → (t (key x) ≡ false) × (list_any t (map key vs) ≡ false) → cond b (Some x) (find u vs) ≡ Some v
-          → (find u vs ≡ Some v → list_any t (map key vs) ≡ false → t (key v) ≡ false) → t (key v) ≡ false
-      by true p found rest = ap (λ y. t (key y)) (sym (same_Some x v found)) ∙ p.0
-      by false p found rest = rest found p.1
-
   none_of_key : (k : K) (vs : List V) → list_any (eq k) (map key vs) ≡ false → find (has_key eq key k) vs ≡ None
   none_of_key k [] h = refl
   none_of_key k (v ∷ vs) h = let p = or_parts (eq k (key v)) (list_any (eq k) (map key vs)) h in
@@ -60,7 +47,7 @@ module _ {K V : Type 0} (eq : K → K → Bool) (key : V → K) (exact : (a b : 
   -- the key of one found later is another
   other : (k : K) (v x : V) (u : V → Bool) (vs : List V) → eq k (key v) ≡ true → find u vs ≡ Some x → list_any (eq (key v)) (map key vs) ≡ false
       → eq k (key x) ≡ false
-  other k v x u vs e found h = ap (λ j. eq j (key x)) (exact k (key v) e) ∙ key_of_found (eq (key v)) u vs x found h
+  other k v x u vs e found h = ap (λ j. eq j (key x)) (exact k (key v) e) ∙ found_key key u (eq (key v)) vs x found h
 
   pub find-without : (u : V → Bool) (x : V) (k : K) (vs : List V) → find u vs ≡ Some x → are_distinct eq (map key vs) ≡ true
       → find (has_key eq key k) (without_first u vs) ≡ (if eq k (key x) then None else find (has_key eq key k) vs)

@@ -21,7 +21,7 @@ use Rattle.nqs_rules.specs.World.{ready, cut_off, recorded}
 use Rattle.nqs_rules.specs.World.{seen_output, sent_by, emits, change_fated, makes_change, carries_out, steps, starts, all_starts, left_of}
 use Rattle.nqs_rules.specs.World.{halted_host, halts, takes_up}
 use Rattle.nqs_rules.specs.World.{taken_by, takes, finishes, finishes_up, delivers, packet_at, last_of, is_between, newest_between, boot_output, boots_down}
-use Rattle.nqs_rules.specs.World.{boots, crashes_up, runs_now, is_less_row, fused_host, fuses}
+use Rattle.nqs_rules.specs.World.{boots, crashes_up, fused_host, fuses}
 use Rattle.nqs_rules.specs.Run.{states_of, happens, run}
 use Rattle.nqs_rules.specs.Notes.{Why, ByEvent, ByStart, ByBoot, Note, Saw, Kept, saws}
 pub use Rattle.nqs_laws.specs.Outputs.{sent_in, seen_from}
@@ -35,6 +35,7 @@ use Rattle.nqs_types.specs.declared.event.Event.{Event}
 use Rattle.nqs_types.specs.declared.event.Event.TheVariants as event
 use Rattle.nqs_types.specs.declared.event.Output.{Output}
 use Rattle.nqs_types.specs.declared.world.Seen.{Seen}
+use Rattle.nqs_state.specs.Least.{runs_now, is_less_row}
 use Rattle.nqs_types.specs.declared.world.Seen.TheVariants as seen
 
 -- what laws look at: the states of the hosts, all packets ever sent, and what happened so far

@@ -33,10 +33,10 @@ use Rattle.nqs_rules.proofs.Chains.{each}
 use Rattle.nqs_rules.proofs.KeyFacts.{none_found}
 use Rattle.nqs_rules.proofs.StartIs.{StartsRow, start_is}
 use Rattle.nqs_rules.proofs.Until.{steady}
+use Rattle.nqs_rules.specs.Picked.{PlainRow}
 use Rattle.nqs_laws.proofs.Frame.{WasSent, Comes, Way, Taken, Begun, Booted, change_by}
 use Rattle.nqs_laws.proofs.Sound.{some-if}
 use Rattle.nqs_laws.specs.Loads.{offered_load, sent_load}
-use Rattle.nqs_laws.proofs.RowTests.{PlainRow}
 use Rattle.nqs_laws.proofs.Makes.{HasHand, Answers, Obeys, Follows, step_makes}
 use Rattle.nqs_laws.proofs.Pair.{NoOffer, Open, IsTaken, Move, Stays, Withdraws, Commits, Finishes, Pledges, Accepts, Drops, May, MayOffer, MayWithdraw}
 use Rattle.nqs_laws.proofs.Pair.{MayCommit, MayFinish, MayAccept, MayDrop}

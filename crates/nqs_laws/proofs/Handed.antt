@@ -3,6 +3,7 @@ use Rattle.std.proofs.Common.{◌≡◌, ℕ, ◌<◌, ◌≤◌, inl, inr, Bool
 use Rattle.std.proofs.Common.{ap, subst, ◌∙◌, arith, if◌then◌else◌}
 use Rattle.std.proofs.lemmas.Bool.{and_parts, eq-eqb}
 use Rattle.std.proofs.lemmas.Option.{same_Some}
+use Rattle.std.specs.Option.{option_or}
 use Rattle.nqs_base.proofs.Plain.{other_fails}
 use Rattle.nqs_types.specs.Ids.{id_eq, id_exact}
 use Rattle.nqs_state.specs.State.{Plain}
@@ -12,18 +13,18 @@ use Rattle.nqs_types.specs.declared.request.Hand.{Hand}
 use Rattle.nqs_types.specs.declared.request.Phase.TheVariants.{Offered}
 use Rattle.nqs_types.specs.declared.change.Change.TheVariants.{HandCommitted, Accepted}
 use Rattle.nqs_types.specs.declared.message.Message.{Message}
+use Rattle.nqs_state.proofs.LeastLemmas.{found_id}
 use Rattle.nqs_rules.specs.Tests.{is_offered, is_routing, same_host}
 use Rattle.nqs_rules.specs.Find.{peer_number, find_row, find_hand, find_promise, has_row}
 use Rattle.nqs_rules.specs.Applied.{applied, requeued_row, hand_committed, accepted, drop_promise}
 use Rattle.nqs_rules.specs.Fits.{fits}
 use Rattle.nqs_rules.specs.InOrder.{IsInOrder, IsConsistent}
 use Rattle.nqs_rules.proofs.RowFacts.{same_id}
+use Rattle.nqs_rules.specs.Picked.{PlainRow}
 use Rattle.nqs_laws.specs.Loads.{Load, offered_load, kept_load}
 use Rattle.nqs_laws.proofs.Frame.{put_state}
 use Rattle.nqs_laws.proofs.Sound.{get-here}
-use Rattle.nqs_laws.proofs.RowTests.{PlainRow}
-use Rattle.nqs_laws.proofs.Found.{first_of_two}
-use Rattle.nqs_laws.proofs.After.{Request, id_of, without_at, committed_after, accepted_after, row_after}
+use Rattle.nqs_laws.proofs.After.{Request, without_at, committed_after, accepted_after, row_after}
 use Rattle.nqs_laws.proofs.Makes.{HasHand}
 use Rattle.nqs_laws.proofs.Pair.{Offer, NoOffer, Open, Given, NoPledge, Pledged, pair, Ok, Stays, Commits, Accepts, moved, May, MayCommit, MayAccept, given}
 use Rattle.nqs_laws.proofs.Views.{Pledging, phase_seen, offer_seen, offered, pledge_seen, promise_of, pledged, next_of, closed_of, pair_of, host_exact}
@@ -117,7 +118,7 @@ module _ (states : List Plain) (packets : List Message) (paired : IsPaired state
     committed_request = hand.hand.id
 
     row_id : hand.hand.id ≡ row.0.id
-    row_id = id_of hand.hand.id s.rows row.0 row.1
+    row_id = found_id hand.hand.id s.rows row.0 row.1
 
     pub promised_id : promise.0.row.id ≡ hand.hand.id
     promised_id = ap (λ (l : Load). l.carried.id) promise.3 ∙ sym row_id
@@ -308,7 +309,7 @@ module _ (states : List Plain) (packets : List Message) (paired : IsPaired state
     accepted_table = put_place pledge.0.row.id (Sits h (requeued_row pledge.0.row)) table
 
     row_then : (x : Request) → find_row x (applied (Accepted peer number) s)
-        ≡ first_of_two (find_row x s) (if id_eq x pledge.0.row.id then Some (requeued_row pledge.0.row) else None)
+        ≡ option_or (find_row x s) (if id_eq x pledge.0.row.id then Some (requeued_row pledge.0.row) else None)
     row_then x = row_after x (Accepted peer number) s o fit ∙ ap (λ y. accepted_after y x (find_row x s)) pledge.1
 
     pub accepted_tabled : IsTabled (put_state h (applied (Accepted peer number) s) states) accepted_table
@@ -335,13 +336,13 @@ module _ (states : List Plain) (packets : List Message) (paired : IsPaired state
                 by false = refl
 
         here_row : (x : Request) (c : Bool) → id_eq x pledge.0.row.id ≡ c
-            → first_of_two (find_row x s) (if c then Some (requeued_row pledge.0.row) else None)
+            → option_or (find_row x s) (if c then Some (requeued_row pledge.0.row) else None)
             ≡ row_in h (if c then Sits h (requeued_row pledge.0.row) else table x)
-        here_row x true e = ap (λ y. first_of_two y (Some (requeued_row pledge.0.row))) (ap (λ i. find_row i s) (id_exact x pledge.0.row.id e) ∙ not_a_row)
+        here_row x true e = ap (λ y. option_or y (Some (requeued_row pledge.0.row))) (ap (λ i. find_row i s) (id_exact x pledge.0.row.id e) ∙ not_a_row)
             ∙ sym (row_of_sits h (requeued_row pledge.0.row))
         here_row x false e = alone (find_row x s) ∙ told.rows h s there x
           where
-            alone : (y : Option PlainRow) → first_of_two y None ≡ y
+            alone : (y : Option PlainRow) → option_or y None ≡ y
             alone None = refl
             alone (Some r) = refl
 

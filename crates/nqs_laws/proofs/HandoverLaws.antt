@@ -1,6 +1,6 @@
 -- Handovers in every world that a run reaches.
 use Rattle.std.proofs.Common.{◌≡◌, ℕ, ◌+◌, ◌<◌, ◌≤◌, Bool, true, false, ◌||◌, ◌==◌, nat_le, nat_lt, List, length, slice_get, Option, None, Some}
-use Rattle.std.proofs.Common.{is_some, zero, suc, true≢false, refl, sym, ap, subst, ◌∙◌, arith, if◌then◌else◌}
+use Rattle.std.proofs.Common.{is_some, true≢false, refl, sym, ap, subst, ◌∙◌, arith, if◌then◌else◌}
 use Rattle.std.proofs.lemmas.Bool.{and_parts, or_left, or_right, or_from, eqb-true, eq-eqb, leb-true, leb-false, ltb-true, le-leb, lt-ltb, not-true}
 use Rattle.std.proofs.lemmas.Bool.{false_from_ne_true}
 use Rattle.std.proofs.lemmas.Option.{none-some, same_Some}
@@ -17,6 +17,7 @@ use Rattle.nqs_types.specs.declared.request.Phase.{Phase}
 use Rattle.nqs_types.specs.declared.request.Phase.TheVariants.{Offered, Committed}
 use Rattle.nqs_types.specs.declared.message.Message.{Message}
 use Rattle.nqs_types.specs.declared.message.Body.{Body}
+use Rattle.nqs_state.proofs.LeastLemmas.{found_id}
 use Rattle.nqs_types.specs.declared.message.Body.TheVariants as body
 use Rattle.nqs_rules.specs.Tests.{passes, is_offered, is_committed, same_host}
 use Rattle.nqs_rules.specs.Find.{peer_number, has_row, find_row, find_hand, find_promise, has_promise, find_peer}
@@ -29,16 +30,16 @@ use Rattle.nqs_rules.proofs.KeyFacts.{place_below, found_any, any_found}
 use Rattle.nqs_rules.proofs.RowFacts.{same_id}
 use Rattle.nqs_rules.proofs.ListFacts.{list_all-found}
 use Rattle.nqs_rules.proofs.StateFacts.{sites_are}
+use Rattle.nqs_rules.specs.Net.{is_committed_to}
+use Rattle.nqs_rules.specs.Picked.{PlainRow}
 use Rattle.nqs_laws.specs.History.{history}
 use Rattle.nqs_laws.specs.Sane.{AreSane, IsSite}
-use Rattle.nqs_laws.specs.Handovers.{IsStateOf, WasSent as WasSentIn, is_open, is_committed_to, is_closed_for, is_taken_for, AreInStep, IsTrueOf}
+use Rattle.nqs_laws.specs.Handovers.{IsStateOf, WasSent as WasSentIn, is_open, is_closed_for, is_taken_for, AreInStep, IsTrueOf}
 use Rattle.nqs_laws.specs.Loads.{Load, offered_load, kept_load, sent_load, load_of, promised_load, errand, handed_errand, promised_errand}
 use Rattle.nqs_laws.specs.Between.{is_next_open, HasGivenNumber}
-use Rattle.nqs_laws.proofs.Frame.{Moment, moment, WasSent as Sent}
-use Rattle.nqs_laws.proofs.RowTests.{PlainRow}
+use Rattle.nqs_laws.proofs.Frame.{Moment, moment, WasSent as Sent, packet_sent}
 use Rattle.nqs_laws.proofs.Sound.{IsSound, run_sound}
 use Rattle.nqs_laws.proofs.Makes.{HasHand}
-use Rattle.nqs_laws.proofs.After.{id_of}
 use Rattle.nqs_laws.proofs.Pair.{Offer, NoOffer, Open, Given, Pledge, NoPledge, Pledged, IsTaken, IsNoPledge, IsNoOffer, IsGiven, IsOf, IsPromisedAs, Agrees}
 use Rattle.nqs_laws.proofs.Pair.{OfferOk, PledgeOk, Ok}
 use Rattle.nqs_laws.proofs.Views.{Pledging, offered, promise_of, pledge_seen, pledged, peer_field, next_field, closed_field, next_of, closed_of, pair_of}
@@ -274,7 +275,7 @@ module _ (site : List (List ℕ)) (m : Moment) (sound : IsSound site m) (net : I
             let o = open_load a b s t sat tat n is in
             let same : offered_load o.0.hand.queue o.1 ≡ sent_load queue c script =
             same_Some (offered_load o.0.hand.queue o.1) (sent_load queue c script) (sym o.4 ∙ carried) in
-            let key : c.id ≡ o.0.hand.id = ap (λ (l : Load). l.carried.id) (sym same) ∙ sym (id_of o.0.hand.id s.rows o.1 o.2) in
+            let key : c.id ≡ o.0.hand.id = ap (λ (l : Load). l.carried.id) (sym same) ∙ sym (found_id o.0.hand.id s.rows o.1 o.2) in
             (o.1, ap (λ i. find_row i s) key ∙ o.2)
 
         here : net.table c.id ≡ Sits a row.0
@@ -339,10 +340,6 @@ module _ (site : List (List ℕ)) (m : Moment) (sound : IsSound site m) (net : I
 
 -- worlds that a run reaches
 
-pub was_sent : (w : World) (m : Message) → WasSentIn w m → Sent m w.packets
-was_sent w m (zero, e) = absurd (none-some m e)
-was_sent w m (suc k, e) = (k, e)
-
 module _ (site : List (List ℕ)) (few : IsSite site) (acts : List Act) (sane : AreSane acts) where
   abbrev world : World
   world = (run acts (new_world site)).world
@@ -360,11 +357,11 @@ module _ (site : List (List ℕ)) (few : IsSite site) (acts : List Act) (sane : 
   all_in_step a b s t sat tat = in_step site end sound_end history_end.net a b s t sat tat
 
   pub all_true : (m : Message) → WasSentIn world m → (s t : Plain) → IsStateOf world m.from s → IsStateOf world m.to t → IsTrueOf m.body m.from m.to s t
-  all_true m sent s t sat tat = words_are_true site end sound_end history_end.net m (was_sent world m sent) s t sat tat
+  all_true m sent s t sat tat = words_are_true site end sound_end history_end.net m (packet_sent sent.0 world m sent.1) s t sat tat
 
   pub all_numbered : (m : Message) → WasSentIn world m → (s t : Plain) → IsStateOf world m.from s → IsStateOf world m.to t
       → HasGivenNumber m.body m.from m.to s t
-  all_numbered m sent s t sat tat = words_are_numbered site end sound_end history_end.net m (was_sent world m sent) s t sat tat
+  all_numbered m sent s t sat tat = words_are_numbered site end sound_end history_end.net m (packet_sent sent.0 world m sent.1) s t sat tat
 
   pub all_next : (a b : HostId) (s t : Plain) → IsStateOf world a s → IsStateOf world b t → (n : ℕ) → has_promise a n t ≡ true
       → is_next_open n (find_peer a t) ≡ true

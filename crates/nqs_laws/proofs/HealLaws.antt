@@ -12,8 +12,9 @@ use Rattle.nqs_rules.specs.Starts.{after_step}
 use Rattle.nqs_rules.specs.Step.{step, on_message}
 use Rattle.nqs_rules.specs.World.{World, Act, new_world}
 use Rattle.nqs_rules.specs.Run.{run}
+use Rattle.nqs_rules.specs.Net.{is_committed_to}
 use Rattle.nqs_laws.specs.Sane.{AreSane, IsSite}
-use Rattle.nqs_laws.specs.Handovers.{IsStateOf, WasSent, is_open, is_committed_to, is_closed_for, is_taken_for, IsTrueOf}
+use Rattle.nqs_laws.specs.Handovers.{IsStateOf, WasSent, is_open, is_closed_for, is_taken_for, IsTrueOf}
 use Rattle.nqs_laws.specs.Sending.{word, Sends}
 use Rattle.nqs_laws.proofs.Sound.{IsHost, run_sound}
 use Rattle.nqs_laws.proofs.HandoverLaws.{given_hand, all_in_step, all_true}

@@ -3,7 +3,7 @@ use Rattle.std.proofs.Common.{◌≡◌, ℕ, ◌+◌, Bool, true, false, not, �
 use Rattle.std.proofs.Common.{◌∙◌, if◌then◌else◌}
 use Rattle.std.proofs.lemmas.Bool.{and_parts, or_left, or_right}
 use Rattle.std.proofs.lemmas.Option.{same_Some}
-use Rattle.std.specs.Option.{IfSome, option_map, option_and_then}
+use Rattle.std.specs.Option.{IfSome, option_map, option_and_then, option_or}
 use Rattle.nqs_types.specs.Ids.{id_eq, id_exact}
 use Rattle.nqs_base.specs.Same.{name_eq}
 use Rattle.nqs_state.specs.Keys.{is_promise, is_queue}
@@ -39,14 +39,14 @@ use Rattle.nqs_rules.specs.InOrder.{IsInOrder, IsConsistent, is_promise_free}
 use Rattle.nqs_rules.specs.Step.{step}
 use Rattle.nqs_rules.proofs.ListFacts.{list_all-found}
 use Rattle.nqs_rules.proofs.Until.{steady}
+use Rattle.nqs_rules.specs.Picked.{PlainRow}
 use Rattle.nqs_laws.specs.HeldBy.{is_systems, is_held, has_cause, HoldsForCause}
 use Rattle.nqs_laws.proofs.Frame.{Way, Taken, Begun, Booted, change_by}
-use Rattle.nqs_laws.proofs.RowTests.{PlainRow}
 use Rattle.nqs_laws.proofs.Sound.{some-if}
 use Rattle.nqs_laws.proofs.Makes.{Follows, step_makes, is_new_or_far, follows_other}
 use Rattle.nqs_laws.proofs.After.{Request, meant_after, edit_after, back_row, committed_after, refused_after, silent_after, silents_after, accepted_after}
 use Rattle.nqs_laws.proofs.After.{submitted_row, after, row_after}
-use Rattle.nqs_laws.proofs.Found.{only, first_of_two}
+use Rattle.nqs_laws.proofs.Found.{only}
 use Rattle.nqs_laws.proofs.Kept.{OfMoments}
 use Rattle.nqs_laws.proofs.TooFar.{holds_far}
 
@@ -102,7 +102,7 @@ module _ (right : PlainRow → Bool) where
   stays : (f : PlainRow → PlainRow) → ((r : PlainRow) → is_held (f r) ≡ is_held r) → Keeps f
   stays f same r k = or_left (is_held r) (right (f r)) (sym (same r) ∙ k)
 
-  first_right : (o p : Option PlainRow) → IfSome p (λ r. is_held r ≡ false) → IsRight o (first_of_two o p)
+  first_right : (o p : Option PlainRow) → IfSome p (λ r. is_held r ≡ false) → IsRight o (option_or o p)
   first_right None None f = tt
   first_right None (Some r) f = λ k. absurd (true≢false (sym k ∙ f))
   first_right (Some q) p f = λ k. or_left (is_held q) (right q) k

@@ -16,6 +16,7 @@ use Rattle.nqs_types.specs.declared.world.Seen.{Seen}
 use Rattle.nqs_types.specs.declared.world.Seen.TheVariants as seen
 use Rattle.nqs_types.specs.declared.world.Which.{Which}
 use Rattle.nqs_base.specs.declared.tear.Tear.{Tear}
+use Rattle.nqs_state.specs.Least.{runs_now, is_less_row}
 use Rattle.nqs_rules.specs.Applied.{applied}
 use Rattle.nqs_rules.specs.Edits.{change_at}
 use Rattle.nqs_rules.specs.Step.{step}
@@ -26,7 +27,7 @@ use Rattle.nqs_rules.specs.World.{World, Host, Ran, Fate, Made, StoppedBefore, S
 use Rattle.nqs_rules.specs.World.{Ticks, Clock, Fuse, Crashes, Boots, Shows, fate, host_of, ready, cut_off, recorded, fused_host}
 use Rattle.nqs_rules.specs.World.{put_host, seeing, unseen, stopped, used, emits, change_fated, makes_change, carries_out, steps, starts, all_starts, left_of}
 use Rattle.nqs_rules.specs.World.{halted_host, halts, takes_up, taken_by, takes, finishes, finishes_up, delivers, packet_at, newest_between}
-use Rattle.nqs_rules.specs.World.{boot_output, boots_down, boots, crashes_up, runs_now, is_less_row}
+use Rattle.nqs_rules.specs.World.{boot_output, boots_down, boots, crashes_up}
 use Rattle.nqs_rules.specs.Run.{happens, run}
 use Rattle.nqs_laws.proofs.Frame.{emits_world}
 use Rattle.nqs_laws.proofs.WholeEvents.{begins, starts_of}

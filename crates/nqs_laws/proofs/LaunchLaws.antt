@@ -31,7 +31,6 @@ use Rattle.nqs_laws.specs.Words.{replayed}
 use Rattle.nqs_laws.specs.Launches.{Launch, launched, launches, IsStarted, IsStartedIn}
 use Rattle.nqs_laws.proofs.Frame.{Moment, put_state, put-same, silent, Way, change_by, why_by, kept_of}
 use Rattle.nqs_laws.proofs.Sound.{IsSound, Keeps, Suits, sound_frames, get-here, runs_keep}
-use Rattle.nqs_laws.proofs.RowTests.{PlainRow}
 use Rattle.nqs_laws.proofs.After.{Request, changed_at, row_after}
 use Rattle.nqs_laws.proofs.StartLaws.{IsNever, is_never, never_keeps, new_never}
 use Rattle.nqs_laws.proofs.Paired.{At}
@@ -46,6 +45,7 @@ use Rattle.nqs_laws.proofs.Launched.{Launching, Nothing, One, seen_by, way_launc
 use Rattle.nqs_laws.proofs.LaunchRuns.{IsGiven, IsPast, HasLaunches, quiet_more, launch_more, kept_more}
 use Rattle.std.proofs.lemmas.List.{append-nil}
 use Rattle.nqs_base.proofs.Plain.{all_weaker}
+use Rattle.nqs_rules.specs.Picked.{PlainRow}
 
 -- where requests lie
 

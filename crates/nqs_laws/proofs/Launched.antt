@@ -26,9 +26,9 @@ use Rattle.nqs_rules.specs.Stepped.{Stepped, shown}
 use Rattle.nqs_rules.specs.World.{boot_output, sent_by}
 use Rattle.nqs_rules.proofs.ListFacts.{list_all-weaker}
 use Rattle.nqs_rules.specs.Notes.{Saw, saws}
+use Rattle.nqs_rules.specs.Picked.{PlainRow}
 use Rattle.nqs_laws.specs.Launches.{launched, launches, IsStarted, IsStartedIn}
 use Rattle.nqs_laws.proofs.Frame.{Moment, Way, Taken, Begun, Booted, change_by, outputs_by, first_by, seen_from, IsIdle}
-use Rattle.nqs_laws.proofs.RowTests.{PlainRow}
 use Rattle.nqs_laws.proofs.Sent.{is_fine_output, Begins, Launches, Prints, Holds, Moves, Opens, begins, step_fine}
 use Rattle.nqs_laws.proofs.Sound.{IsSound, event_sane, all_sane}
 

@@ -22,9 +22,10 @@ use Rattle.nqs_rules.specs.InOrder.{IsInOrder}
 use Rattle.nqs_rules.proofs.KeyFacts.{all_get}
 use Rattle.nqs_rules.proofs.StartIs.{StartsRow, start_is}
 use Rattle.nqs_rules.proofs.Until.{steady}
+use Rattle.nqs_rules.specs.Picked.{PlainRow}
 use Rattle.nqs_laws.specs.Words.{body_passes, offers_pass}
 use Rattle.nqs_laws.proofs.Frame.{WasSent, Comes, Way, Taken, Begun, Booted, change_by}
-use Rattle.nqs_laws.proofs.RowTests.{PlainRow, NewPasses}
+use Rattle.nqs_laws.proofs.RowTests.{NewPasses}
 use Rattle.nqs_laws.proofs.Sound.{some-if}
 use Rattle.nqs_laws.proofs.Makes.{Answers, Obeys, Follows, step_makes}
 

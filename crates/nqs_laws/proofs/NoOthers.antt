@@ -30,6 +30,7 @@ use Rattle.nqs_rules.proofs.RowFacts.{same_id}
 use Rattle.nqs_rules.proofs.StartIs.{StartsRow, start_is}
 use Rattle.nqs_rules.proofs.Until.{steady}
 use Rattle.nqs_rules.specs.Notes.{Note, Saw, Kept, saws}
+use Rattle.nqs_rules.specs.Picked.{PlainRow}
 use Rattle.nqs_laws.specs.History.{history}
 use Rattle.nqs_laws.specs.Sane.{AreSane, IsSite}
 use Rattle.nqs_laws.specs.Words.{replayed}
@@ -38,7 +39,6 @@ use Rattle.nqs_laws.specs.Numbers.{numbers_given, next_numbered}
 use Rattle.nqs_laws.specs.CutOff.{stops_now, was_cut_off}
 use Rattle.nqs_laws.proofs.Frame.{Moment, put_state, put-same, silent, cut, Way, Taken, Begun, Booted, change_by, why_by, seen_from, kept_of}
 use Rattle.nqs_laws.proofs.Sound.{IsSound, KeepsStops, Suits, some-if, sound_frames, new_sound, stops_keep}
-use Rattle.nqs_laws.proofs.RowTests.{PlainRow}
 use Rattle.nqs_laws.proofs.Makes.{Follows, step_makes, BringsNone, is_new_or_far, follows_other}
 use Rattle.nqs_laws.proofs.After.{Request}
 use Rattle.nqs_laws.proofs.Views.{host_same}

@@ -5,6 +5,7 @@ use Rattle.std.proofs.lemmas.Bool.{and_parts, and_from, leb-true, le-leb, eqb-tr
 use Rattle.std.proofs.lemmas.Option.{same_Some, none-some}
 use Rattle.std.proofs.lemmas.List.Folds.{list_all-append}
 use Rattle.std.specs.List.{list_all}
+use Rattle.std.specs.Option.{option_or}
 use Rattle.nqs_types.specs.Ids.{id_eq}
 use Rattle.nqs_state.specs.Keys.{is_row}
 use Rattle.nqs_state.specs.State.{Plain}
@@ -18,6 +19,7 @@ use Rattle.nqs_types.specs.declared.change.Change.{Change}
 use Rattle.nqs_types.specs.declared.change.Change.TheVariants.{Submitted, Edited, HandOpened}
 use Rattle.nqs_types.specs.declared.message.Message.{Message}
 use Rattle.nqs_types.specs.declared.message.Body.{Body}
+use Rattle.nqs_state.proofs.LeastLemmas.{found_id}
 use Rattle.nqs_types.specs.declared.message.Body.TheVariants as body
 use Rattle.nqs_rules.specs.Tests.{passes}
 use Rattle.nqs_rules.specs.Edits.{change_at}
@@ -36,6 +38,7 @@ use Rattle.nqs_rules.proofs.FindKept.{all-mapped}
 use Rattle.nqs_rules.proofs.PeersOrder.{get-other}
 use Rattle.nqs_rules.proofs.RowFacts.{same_id}
 use Rattle.nqs_rules.proofs.RowKinds.{found_row}
+use Rattle.nqs_rules.specs.Picked.{PlainRow}
 use Rattle.nqs_laws.specs.History.{history}
 use Rattle.nqs_laws.specs.Sane.{AreSane, IsSite}
 use Rattle.nqs_laws.specs.Words.{body_passes, offers_pass}
@@ -43,12 +46,11 @@ use Rattle.nqs_laws.specs.Launches.{lies}
 use Rattle.nqs_laws.specs.Numbers.{was_numbered, requests_in, AreNumbered, numbers_given, next_numbered, NumbersMove, NewAreNumbered}
 use Rattle.nqs_laws.proofs.Frame.{Moment, moment, put_state, silent, Way, change_by, why_by, outputs_by, sent_in}
 use Rattle.nqs_laws.proofs.Told.{at-value}
-use Rattle.nqs_laws.proofs.RowTests.{PlainRow, IsKept, AllPass, change_passes}
+use Rattle.nqs_laws.proofs.RowTests.{IsKept, AllPass, change_passes}
 use Rattle.nqs_laws.proofs.Sent.{is_fine_message}
 use Rattle.nqs_laws.proofs.Sound.{IsSound, Keeps, Suits, sound_frames, me_is, way_sends, get-here, runs_keep}
 use Rattle.nqs_laws.proofs.NewRows.{row_passes, carried_passes}
-use Rattle.nqs_laws.proofs.After.{Request, id_of, submitted_row, row_after}
-use Rattle.nqs_laws.proofs.Found.{first_of_two}
+use Rattle.nqs_laws.proofs.After.{Request, submitted_row, row_after}
 use Rattle.nqs_laws.proofs.Paired.{At}
 use Rattle.nqs_laws.proofs.Advance.{seq_after, seq_grows}
 use Rattle.nqs_laws.proofs.TabledRuns.{new_state}
@@ -195,7 +197,7 @@ module _ (site : List (List ℕ)) (m : Moment) (k : IsSound site m) (p : IsNumbe
     opened_numbered (HandOpened peer number id queue since) fit =
         let may = each (row_may (may_hop {E = List ℕ}) id s) (passes (is_next number) (find_peer peer s) ∷ _ ∷ []) fit in
         let r = found_row may_hop id s may.0 in
-        ap (was_numbered after) (id_of id s.rows r.0 r.1) ∙ list_all-found (is_row_numbered after) (is_row id) s.rows r.0
+        ap (was_numbered after) (found_id id s.rows r.0 r.1) ∙ list_all-found (is_row_numbered after) (is_row id) s.rows r.0
         (known_later (applied c s) grows s (p.hosts h.0 s there)).rows.rows r.1
     opened_numbered d fit = tt
 
@@ -320,7 +322,7 @@ module _ (site : List (List ℕ)) (first : List Plain) (m : Moment) (sound : IsS
           absurd (omega (arith, few))
 
   one_found : (queue : List ℕ) (job : Job) (script : List ℕ) (o : Option PlainRow)
-      → (r : PlainRow) × (first_of_two o (if id_eq (next_id s) (next_id s) then Some (submitted_row queue job script s) else None) ≡ Some r)
+      → (r : PlainRow) × (option_or o (if id_eq (next_id s) (next_id s) then Some (submitted_row queue job script s) else None) ≡ Some r)
   one_found queue job script None = (
     submitted_row queue job script s,
     ap (λ (b : Bool). if b then Some (submitted_row queue job script s) else None)

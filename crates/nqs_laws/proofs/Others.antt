@@ -15,6 +15,7 @@ use Rattle.nqs_types.specs.declared.event.Event.{Event}
 use Rattle.nqs_types.specs.declared.event.Event.TheVariants as event
 use Rattle.nqs_types.specs.declared.event.Output.{Output}
 use Rattle.nqs_types.specs.declared.world.Seen.{Seen}
+use Rattle.nqs_state.specs.Least.{runs_now, is_less_row}
 use Rattle.nqs_types.specs.declared.world.Seen.TheVariants as seen
 use Rattle.nqs_rules.specs.Applied.{applied}
 use Rattle.nqs_rules.specs.Step.{step}
@@ -26,7 +27,7 @@ use Rattle.nqs_rules.specs.World.{Ticks, Clock, Fuse, Crashes, Boots, Shows, no_
 use Rattle.nqs_rules.specs.World.{ready, cut_off, recorded}
 use Rattle.nqs_rules.specs.World.{put_host, seeing, unseen, stopped, used, emits, change_fated, makes_change, carries_out, steps, starts, all_starts, left_of}
 use Rattle.nqs_rules.specs.World.{halted_host, halts, takes_up, taken_by, takes, finishes, finishes_up, delivers, packet_at, newest_between}
-use Rattle.nqs_rules.specs.World.{boot_output, boots_down, boots, crashes_up, runs_now, is_less_row, fused_host}
+use Rattle.nqs_rules.specs.World.{boot_output, boots_down, boots, crashes_up, fused_host}
 use Rattle.nqs_rules.proofs.StepHalts.{step-halts}
 use Rattle.nqs_rules.proofs.PeersOrder.{get-other}
 use Rattle.nqs_laws.specs.Whole.{after, IsSafe, taker, receiver}

@@ -28,11 +28,11 @@ use Rattle.nqs_rules.proofs.ListFacts.{found_passes}
 use Rattle.nqs_rules.proofs.StateFacts.{keys_are}
 use Rattle.nqs_rules.proofs.PeersOrder.{get-other}
 use Rattle.nqs_rules.proofs.RowFacts.{same_peer_number}
+use Rattle.nqs_rules.specs.Picked.{PlainRow}
 pub use Rattle.nqs_laws.specs.Closed.{HasState as At}
 use Rattle.nqs_laws.proofs.Frame.{put_state, WasSent}
 use Rattle.nqs_laws.proofs.Sound.{get-here}
 use Rattle.nqs_laws.specs.Loads.{Load, offered_load, kept_load, sent_load}
-use Rattle.nqs_laws.proofs.RowTests.{PlainRow}
 use Rattle.nqs_laws.proofs.Makes.{HasHand}
 use Rattle.nqs_laws.proofs.Pair.{Open, Given, NoPledge, Pledged, Pair, OfferOf, ReadyFor, RefusedOf, CommitOf, DoneOf, AbortOf, IsNoPledge, Ok, Holds, Move}
 use Rattle.nqs_laws.proofs.Pair.{Stays, moved, May, moved-ok, moved-holds, pair}

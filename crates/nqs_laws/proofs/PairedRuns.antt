@@ -36,10 +36,10 @@ use Rattle.nqs_rules.proofs.ListFacts.{list_all-weaker}
 use Rattle.nqs_rules.proofs.HandoversOrder.{not_committed, offer_or_none, still_offered, silent_one}
 use Rattle.nqs_rules.proofs.ConsistentOrder.{silent_calm_one}
 use Rattle.nqs_rules.proofs.OutputsOrder.{put_twice}
+use Rattle.nqs_rules.specs.Picked.{PlainRow}
 use Rattle.nqs_laws.proofs.Frame.{Moment, put_state, put-same, WasSent, Comes, Way, Taken, Begun, Booted, change_by, outputs_by, sent_in}
 use Rattle.nqs_laws.proofs.Sound.{IsHost, IsSound, Keeps, Suits, get-here}
 use Rattle.nqs_laws.specs.Loads.{Load, offered_load, sent_load}
-use Rattle.nqs_laws.proofs.RowTests.{PlainRow}
 use Rattle.nqs_laws.proofs.Sent.{begins}
 use Rattle.nqs_laws.proofs.Pair.{Open, Move, Stays, Withdraws, May, MayWithdraw}
 use Rattle.nqs_laws.proofs.Views.{IsLone, phase_seen, offer_seen, offered, pair_of, next_of, host_exact, hand_to_peer, routing_of}

@@ -13,7 +13,7 @@ use Rattle.nqs_rules.specs.Starts.{after_change}
 use Rattle.nqs_rules.specs.Tests.{passes}
 use Rattle.nqs_rules.specs.World.{World, Host, Ran, Act, Asks, Ends, Finishes, Fails, Writes, Leaves, Delivers, Newest, Ticks, Clock, Fuse, Crashes, Boots}
 use Rattle.nqs_rules.specs.World.{Shows, host_of, seeing, takes_up, taken_by, takes, finishes, finishes_up, delivers, packet_at, is_between, newest_between}
-use Rattle.nqs_rules.specs.World.{boot_output, boots_down, boots, runs_now, is_less_row, new_world}
+use Rattle.nqs_rules.specs.World.{boot_output, boots_down, boots, new_world}
 use Rattle.nqs_rules.specs.Run.{states_of, happens, run_of}
 use Rattle.nqs_rules.proofs.BestLaws.{best_is_some}
 use Rattle.nqs_rules.proofs.ChangesOrder.{applied_order}
@@ -33,6 +33,7 @@ use Rattle.nqs_types.specs.declared.message.Message.{Message}
 use Rattle.nqs_types.specs.declared.change.Change.{Change}
 use Rattle.nqs_types.specs.declared.change.Change.TheVariants.{Boot}
 use Rattle.nqs_types.specs.declared.event.Event.{Event}
+use Rattle.nqs_state.specs.Least.{runs_now, is_less_row}
 use Rattle.nqs_types.specs.declared.event.Event.TheVariants as event
 use Rattle.nqs_types.specs.declared.world.Seen.TheVariants as seen
 

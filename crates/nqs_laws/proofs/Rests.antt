@@ -16,7 +16,7 @@ use Rattle.nqs_rules.specs.World.{ready, cut_off, recorded}
 use Rattle.nqs_rules.specs.World.{emits, change_fated, makes_change, carries_out, steps, starts, all_starts, left_of, halted_host, halts, takes_up}
 use Rattle.nqs_rules.proofs.ChangesOrder.{applied_order}
 use Rattle.nqs_rules.proofs.StartIs.{start_is}
-use Rattle.nqs_rules.proofs.Until.{steady, start_lowers}
+use Rattle.nqs_rules.proofs.Until.{steady, start_lowers, idle}
 use Rattle.nqs_laws.proofs.Frame.{world_of, emits_world}
 use Rattle.nqs_laws.proofs.Sound.{get-here}
 use Rattle.nqs_types.specs.declared.ids.HostId.{HostId}
@@ -76,13 +76,6 @@ begun now s order x e =
     subst (λ o. IsInOrder (after_change o s) × (starts_left (after_change o s) < starts_left s)) (sym is.makes)
     (applied_order c s order is.may.1 is.may.0, start_lowers now s x c order e is.makes)
 
-idle : (now : ℕ) (s : Plain) → IsInOrder s → starts_left s ≤ 0 → start now s ≡ None
-idle now s order few = by (start now s) refl
-  where
-    by : (o : Option (Stepped (List ℕ))) → start now s ≡ o → start now s ≡ None
-    by None e = e
-    by (Some x) e = absurd (let less : starts_left (after_change x.change s) < starts_left s = (begun now s order x e).1 in omega arith)
-
 abbrev Few : HostId → ℕ → World → Type 0
 Few h n w = Holds h (λ s. IsInOrder s × (starts_left s ≤ n)) w
 
@@ -117,7 +110,7 @@ starts_now (suc n) h w = of (host_of h w) (starts_now n h)
     of (Some host) rest = by host host.up (start w.now host.state) rest
 
 starts_rest : (n : ℕ) (h : HostId) (w : World) → Few h n w → Rests h w.now (starts n h w).world
-starts_rest zero h w few = λ g at up. (let k = few g at up in (k.0, idle w.now g.state k.0 k.1))
+starts_rest zero h w few = λ g at up. (let k = few g at up in (k.0, idle w.now g.state (steady g.state k.0) k.1))
 starts_rest (suc n) h w few = of (host_of h w) refl (starts_rest n h)
   where
     by : (host : Host) → host_of h w ≡ Some host → (up : Bool) → host.up ≡ up → (o : Option (Stepped (List ℕ))) → start w.now host.state ≡ o

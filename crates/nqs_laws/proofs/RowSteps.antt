@@ -29,6 +29,7 @@ use Rattle.nqs_types.specs.declared.change.Change.TheVariants.{Site, Submitted, 
 use Rattle.nqs_types.specs.declared.change.Change.TheVariants.{HandCommitted, HandRefused, HandsSilent, HandDone, Promised, Accepted, Dropped, MovedLocal}
 use Rattle.nqs_types.specs.declared.change.Change.TheVariants.{RefusedLocal, HeldFar, StageGot, StageGone, FileGone}
 use Rattle.nqs_types.specs.declared.table_row.NetState.{NetState}
+use Rattle.nqs_state.specs.Least.{runs_now}
 use Rattle.nqs_types.specs.declared.table_row.NetState.TheVariants as net
 use Rattle.nqs_rules.specs.Tests.{passes, is_ready, is_queued, is_routing, is_running, is_unheld}
 use Rattle.nqs_rules.specs.Find.{peer_number, has_queue, find_row, find_hand, find_peer, meant_request}
@@ -38,7 +39,7 @@ use Rattle.nqs_rules.specs.Rows.{hold_causes, release_causes, move_causes, held_
 use Rattle.nqs_rules.specs.Routing.{is_hand_to, held_where, all_refused, with_refusal, refusal_noted, dests_for}
 use Rattle.nqs_rules.specs.Applied.{next_id, may_start_again, lost_row, booted_row, doomed_row, started_row, routing_row, requeued_row, moved_local}
 use Rattle.nqs_rules.specs.Applied.{local_refused, held_far, hand_silent}
-use Rattle.nqs_rules.specs.Fits.{fits, edit_fits, row_passes, runs, is_idle, may_hop, is_next, device_fits, hand_passes, is_offered_hand}
+use Rattle.nqs_rules.specs.Fits.{fits, edit_fits, row_passes, is_idle, may_hop, is_next, device_fits, hand_passes, is_offered_hand}
 use Rattle.nqs_rules.specs.InOrder.{IsInOrder, IsConsistent, is_hold_right}
 use Rattle.nqs_rules.specs.Text.{seen_state}
 use Rattle.nqs_rules.specs.Net.{row_entry}
@@ -53,8 +54,8 @@ use Rattle.nqs_rules.proofs.StateFacts.{keys_are}
 use Rattle.nqs_rules.proofs.RowFacts.{same_peer_number}
 use Rattle.nqs_rules.proofs.HandoversOrder.{not_committed, offer_or_none, still_offered, silent_one}
 use Rattle.nqs_rules.proofs.ConsistentOrder.{silent_calm_one}
+use Rattle.nqs_rules.specs.Picked.{PlainRow}
 use Rattle.nqs_laws.specs.Licensed.{IsHanded, IsPromised, LicensesEdit}
-use Rattle.nqs_laws.proofs.RowTests.{PlainRow}
 use Rattle.nqs_laws.proofs.Found.{find-without}
 use Rattle.nqs_laws.proofs.After.{Request, without_at, changed_at, meant_after, edit_after, back_row, refused_after, silent_after, silents_after, after}
 use Rattle.nqs_laws.proofs.After.{silent_found}
@@ -170,8 +171,9 @@ module _ (h : HostId) where
     ready_seen : is_ready r ≡ true → seen_state r ≡ net.Queued
     ready_seen k = seen_queued r (ready_queued r k) (and_parts (is_queued r.state) (is_unheld r.hold) k).1
 
-    ended_step : (c : Change (List ℕ)) (id : Request) → (x ≡ id → Turns c s x End) → row_passes runs id s ≡ true → RowStep c s x r (without_at id x (Some r))
-    ended_step c id turns fit = without_step c id End (λ e. (turns, seen_running r (running_is r.state (passing runs id fit e))))
+    ended_step : (c : Change (List ℕ)) (id : Request) → (x ≡ id → Turns c s x End) → row_passes runs_now id s ≡ true
+        → RowStep c s x r (without_at id x (Some r))
+    ended_step c id turns fit = without_step c id End (λ e. (turns, seen_running r (running_is r.state (passing runs_now id fit e))))
 
     boot_step : RowStep Boot s x r (booted_row r)
     boot_step = by (is_running r.state) refl (may_start_again r) refl
@@ -403,7 +405,7 @@ module _ (h : HostId) where
     row_step (Deleted id) fit inside = without_step s order calm x r found (Deleted id) id Delete
         (λ e. ((λ same. same), seen_idle r (not-true (is_running r.state) (passing s order calm x r found is_idle id fit e))))
     row_step (Doomed id) fit inside = changed_step s order calm x r found (Doomed id) id doomed_row Doom
-        (λ e. ((λ same. same), (seen_running r (running_is r.state (passing s order calm x r found runs id fit e)), refl)))
+        (λ e. ((λ same. same), (seen_running r (running_is r.state (passing s order calm x r found runs_now id fit e)), refl)))
     row_step (Started id device) fit inside =
         changed_step s order calm x r found (Started id device) id (started_row device) Start
         (λ e. (

@@ -10,7 +10,6 @@ use Rattle.nqs_state.specs.Keys.{is_row, is_promise}
 use Rattle.nqs_types.specs.declared.ids.PeerNumber.{PeerNumber}
 use Rattle.nqs_types.specs.declared.ids.RequestId.{RequestId}
 use Rattle.nqs_types.specs.declared.ids.Dest.{Dest}
-use Rattle.nqs_types.specs.declared.request.Row.{Row}
 use Rattle.nqs_types.specs.declared.request.Hand.{Hand}
 use Rattle.nqs_types.specs.declared.request.Promise.{Promise}
 use Rattle.nqs_types.specs.declared.edit.ConfEdit.{ConfEdit}
@@ -46,9 +45,7 @@ use Rattle.nqs_rules.proofs.KeyFacts.{all-added}
 use Rattle.nqs_rules.proofs.FindKept.{all-filter_map, all-mapped}
 use Rattle.nqs_rules.proofs.Sublists.{part_all, without_part, filter_part}
 use Rattle.nqs_rules.proofs.OutputsKept.{file_keeps, outputs_keep}
-
-abbrev pub PlainRow : Type 0
-PlainRow = Row (List ℕ)
+use Rattle.nqs_rules.specs.Picked.{PlainRow}
 
 -- what a row keeps while it lies with a host
 abbrev pub core : PlainRow → RequestId × Bool × List ℕ

@@ -6,6 +6,7 @@ use Rattle.std.proofs.lemmas.Option.{same_Some}
 use Rattle.std.proofs.lemmas.Cmp.{nat_list_eq_equiv}
 use Rattle.std.proofs.lemmas.List.Folds.{list_all-append}
 use Rattle.std.specs.List.{list_all, AllByRecursion}
+use Rattle.std.specs.Option.{option_or}
 use Rattle.nqs_base.specs.Same.{name_eq, name_exact}
 use Rattle.nqs_types.specs.Ids.{id_eq, id_exact}
 use Rattle.nqs_state.specs.Keys.{is_row, is_promise}
@@ -20,6 +21,7 @@ use Rattle.nqs_types.specs.declared.message.Message.{Message}
 use Rattle.nqs_types.specs.declared.message.Body.{Body}
 use Rattle.nqs_types.specs.declared.message.Body.TheVariants as body
 use Rattle.nqs_types.specs.declared.world.Seen.{Seen}
+use Rattle.nqs_state.proofs.LeastLemmas.{found_id}
 use Rattle.nqs_rules.specs.Tests.{passes}
 use Rattle.nqs_rules.specs.Edits.{change_at}
 use Rattle.nqs_rules.specs.Find.{peer_number}
@@ -33,17 +35,17 @@ use Rattle.nqs_rules.proofs.KeyFacts.{all_get}
 use Rattle.nqs_rules.proofs.PeersOrder.{get-other}
 use Rattle.nqs_rules.proofs.RowFacts.{same_id}
 use Rattle.nqs_rules.specs.Notes.{Why, Note, Saw, Kept, saws}
+use Rattle.nqs_rules.specs.Picked.{PlainRow}
 use Rattle.nqs_laws.specs.History.{history}
 use Rattle.nqs_laws.specs.Sane.{AreSane, IsSite}
 use Rattle.nqs_laws.specs.Words.{replayed}
 use Rattle.nqs_laws.specs.Numbers.{numbers_given, next_numbered}
 use Rattle.nqs_laws.specs.Scripts.{submitted_script, AreKept}
-use Rattle.nqs_laws.proofs.Frame.{Moment, moment, put_state, put-same, Way, change_by, why_by, outputs_by, sent_in, kept_of}
-use Rattle.nqs_laws.proofs.RowTests.{PlainRow, IsKept, AllPass, change_passes}
+use Rattle.nqs_laws.proofs.Frame.{Moment, moment, put_state, put-same, Way, change_by, why_by, outputs_by, sent_in, kept_of, packet_sent}
+use Rattle.nqs_laws.proofs.RowTests.{IsKept, AllPass, change_passes}
 use Rattle.nqs_laws.proofs.Sound.{IsSound, Keeps, Suits, get-here, runs_keep}
 use Rattle.nqs_laws.proofs.NewRows.{row_passes}
-use Rattle.nqs_laws.proofs.After.{Request, id_of}
-use Rattle.nqs_laws.proofs.Found.{first_of_two}
+use Rattle.nqs_laws.proofs.After.{Request}
 use Rattle.nqs_laws.proofs.Paired.{At}
 use Rattle.nqs_laws.proofs.PairedRuns.{IsOfRow, sent_offers}
 use Rattle.nqs_laws.proofs.TabledRuns.{new_state, new_net}
@@ -52,31 +54,30 @@ use Rattle.nqs_laws.proofs.LicensedRuns.{IsHistory, history_keeps}
 use Rattle.nqs_laws.proofs.Launched.{seen_by}
 use Rattle.nqs_laws.proofs.LaunchRuns.{IsGiven, given_kept, never_new}
 use Rattle.nqs_laws.proofs.Numbered.{last_at, moves, next_is, later_is}
-use Rattle.nqs_laws.proofs.HandoverLaws.{was_sent}
 
 -- scripts of longer histories
 
 script_of : (x : Request) (h : HostId) (states : List Plain) (c : Change (List ℕ)) (ns : List Note) (why : Why) (a b : Option (List ℕ))
-    → submitted_script x (change_at h.0 (applied c) states) ns ≡ first_of_two a b
-    → submitted_script x states (Kept h why c ∷ ns) ≡ first_of_two (submitted_script x states (Kept h why c ∷ [])) (first_of_two a b)
+    → submitted_script x (change_at h.0 (applied c) states) ns ≡ option_or a b
+    → submitted_script x states (Kept h why c ∷ ns) ≡ option_or (submitted_script x states (Kept h why c ∷ [])) (option_or a b)
 script_of x h states (Submitted queue job script) ns why a b e = by (id_eq x (next_numbered h states))
   where
     by : (t : Bool) → (if t then Some script else submitted_script x (change_at h.0 (applied (Submitted queue job script)) states) ns)
-        ≡ first_of_two (if t then Some script else None) (first_of_two a b)
+        ≡ option_or (if t then Some script else None) (option_or a b)
     by true = refl
     by false = e
 script_of x h states c ns why a b e = e
 
-first_assoc : (a b c : Option (List ℕ)) → first_of_two (first_of_two a b) c ≡ first_of_two a (first_of_two b c)
+first_assoc : (a b c : Option (List ℕ)) → option_or (option_or a b) c ≡ option_or a (option_or b c)
 first_assoc None b c = refl
 first_assoc (Some v) b c = refl
 
-first_none : (a : Option (List ℕ)) → first_of_two a None ≡ a
+first_none : (a : Option (List ℕ)) → option_or a None ≡ a
 first_none None = refl
 first_none (Some v) = refl
 
 script_more : (x : Request) (a b : List Note) (states : List Plain) → submitted_script x states (a ++ b)
-    ≡ first_of_two (submitted_script x states a) (submitted_script x (replayed a states) b)
+    ≡ option_or (submitted_script x states a) (submitted_script x (replayed a states) b)
 script_more x [] b states = refl
 script_more x (Saw y ∷ a) b states = script_more x a b states
 script_more x (Kept h why c ∷ a) b states =
@@ -84,7 +85,7 @@ script_more x (Kept h why c ∷ a) b states =
     let one = submitted_script x states (Kept h why c ∷ []) in
     script_of x h states c (a ++ b) why (submitted_script x later a) (submitted_script x (replayed a later) b) (script_more x a b later)
     ∙ (sym (first_assoc one (submitted_script x later a) (submitted_script x (replayed a later) b))
-    ∙ ap (λ o. first_of_two o (submitted_script x (replayed a later) b)) (ap (first_of_two one) (sym (first_none (submitted_script x later a)))
+    ∙ ap (λ o. option_or o (submitted_script x (replayed a later) b)) (ap (option_or one) (sym (first_none (submitted_script x later a)))
     ∙ sym (script_of x h states c a why (submitted_script x later a) None (sym (first_none (submitted_script x later a))))))
 
 sights_tell_none : (x : Request) (states : List Plain) (xs : List Seen) → submitted_script x states (saws xs) ≡ None
@@ -159,12 +160,12 @@ module _ (site : List (List ℕ)) (first : List Plain) (m : Moment) (sound : IsS
   abbrev states : List Plain
   states = put_state h (after_change o s) m.states
 
-  now_is : (x : Request) → now x ≡ first_of_two (before x) (submitted_script x m.states (kept_of h (why_by way) o ++ saws xs))
+  now_is : (x : Request) → now x ≡ option_or (before x) (submitted_script x m.states (kept_of h (why_by way) o ++ saws xs))
   now_is x = script_more x m.notes (kept_of h (why_by way) o ++ saws xs) first
-      ∙ ap (λ l. first_of_two (before x) (submitted_script x l (kept_of h (why_by way) o ++ saws xs))) k.history.leads
+      ∙ ap (λ l. option_or (before x) (submitted_script x l (kept_of h (why_by way) o ++ saws xs))) k.history.leads
 
   more : (x : Request) (a : List ℕ) → before x ≡ Some a → now x ≡ Some a
-  more x a e = now_is x ∙ ap (λ p. first_of_two p (submitted_script x m.states (kept_of h (why_by way) o ++ saws xs))) e
+  more x a e = now_is x ∙ ap (λ p. option_or p (submitted_script x m.states (kept_of h (why_by way) o ++ saws xs))) e
 
   -- what a submission adds
 
@@ -182,7 +183,7 @@ module _ (site : List (List ℕ)) (first : List Plain) (m : Moment) (sound : IsS
   new_script : (queue : List ℕ) (job : Job) (script : List ℕ) → o ≡ Some (Submitted queue job script) → now (next_id s) ≡ Some script
   new_script queue job script e =
       now_is (next_id s)
-      ∙ (ap (λ p. first_of_two p (submitted_script (next_id s) m.states (kept_of h (why_by way) o ++ saws xs))) (fresh (Submitted queue job script) e)
+      ∙ (ap (λ p. option_or p (submitted_script (next_id s) m.states (kept_of h (why_by way) o ++ saws xs))) (fresh (Submitted queue job script) e)
       ∙ (ap (λ p. submitted_script (next_id s) m.states (kept_of h (why_by way) p ++ saws xs)) e
       ∙ ap (λ b. if b then Some script else submitted_script (next_id s) (change_at h.0 (applied (Submitted queue job script)) m.states) (saws xs))
       (ap (id_eq (next_id s)) (sym (next_same (Submitted queue job script) e)) ∙ same_id (next_id s))))
@@ -253,7 +254,7 @@ module _ (site : List (List ℕ)) (first : List Plain) (m : Moment) (sound : IsS
       new None f e = absurd (true≢false (sym e ∙ ap is_some (sights_tell_none x m.states xs)))
       new (Some c) f e = let q = added x c e in new_given c f x q.0 q.1
 
-      by : (p : Option (List ℕ)) → before x ≡ p → is_some (first_of_two p (submitted_script x m.states (kept_of h (why_by way) o ++ saws xs))) ≡ true
+      by : (p : Option (List ℕ)) → before x ≡ p → is_some (option_or p (submitted_script x m.states (kept_of h (why_by way) o ++ saws xs))) ≡ true
           → IsGiven x states
       by (Some a) e t = old (ap is_some e) o refl
       by None e t = new o refl t
@@ -305,12 +306,12 @@ scripted_keeps site first = record {
 pub run_scripted : (site : List (List ℕ)) → IsSite site → (acts : List Act) → AreSane acts
     → AreKept (states_of (new_world site)) (history acts (new_world site)) (run acts (new_world site)).world
 run_scripted site few acts sane = record {
-  rows = λ h s at x r found. (let name = id_of x s.rows r found in
+  rows = λ h s at x r found. (let name = found_id x s.rows r found in
       ap (λ y. submitted_script y (states_of (new_world site)) (history acts (new_world site))) name
       ∙ expected _ r.script (list_all-found _ (is_row x) s.rows r (q.hosts h.0 s at).rows found));
   promises = λ h s at from number p found. expected _ p.row.script (list_all-found _ (is_promise (peer_number from number)) s.promises p
       (q.hosts h.0 s at).promises found);
-  offers = λ m number queue c script sent e. (let at = was_sent (run acts (new_world site)).world m sent in
+  offers = λ m number queue c script sent e. (let at = packet_sent sent.0 (run acts (new_world site)).world m sent.1 in
       expected _ script (ap (is_scripted_body (λ x. submitted_script x (states_of (new_world site)) (history acts (new_world site)))) (sym e)
       ∙ all_get _ (run acts (new_world site)).world.packets at.0 m q.packets at.1));
 }

@@ -50,7 +50,7 @@ use Rattle.nqs_rules.specs.Causes.{Cause, first_refusal, refusal_number}
 use Rattle.nqs_rules.specs.Find.{peer_number, find_queue, find_row, meant_row, find_hand, has_promise, has_stage, find_peer, host_at}
 use Rattle.nqs_rules.specs.Access.{rank, may_command}
 use Rattle.nqs_rules.specs.Rows.{queue_meant, submit_causes, delete_causes}
-use Rattle.nqs_rules.specs.Fits.{fits, row_passes, may_hop, is_next, edit_causes, is_site_host}
+use Rattle.nqs_rules.specs.Fits.{fits, row_passes, may_hop, is_next, edit_causes, is_site_host, is_open_number}
 use Rattle.nqs_rules.specs.Routing.{is_hand_to}
 use Rattle.nqs_rules.specs.Sane.{is_of_site, is_short_script, is_short_output, is_sane_carried, is_sane_id, is_sane_job, is_offer_refusal, is_sane_command}
 use Rattle.nqs_rules.specs.Sane.{is_sane_body, is_sane_message, is_sane_event}
@@ -70,7 +70,7 @@ use Rattle.nqs_rules.specs.Step.{stat_causes}
 use Rattle.nqs_rules.specs.Step.{ticked, on_allowed, on_message, is_start, ended_by, acknowledged, unlaunched_by, step}
 use Rattle.nqs_rules.specs.Text.{stat_lines}
 use Rattle.nqs_rules.specs.World.{sent_by, body_number}
-use Rattle.nqs_rules.specs.InOrder.{IsInOrder, is_row_right, is_promise_right, is_promise_open, is_hand_right, is_hand_given, is_stage_right, is_stage_given}
+use Rattle.nqs_rules.specs.InOrder.{IsInOrder, is_row_right, is_promise_right, is_hand_right, is_hand_given, is_stage_right, is_stage_given}
 use Rattle.nqs_rules.specs.InOrder.{is_given, is_peer_right, is_routing_row}
 use Rattle.nqs_rules.proofs.Chains.{each, chained, implied}
 use Rattle.nqs_rules.proofs.ListFacts.{list_all-found, list_all-weaker, found_again}
@@ -82,9 +82,10 @@ use Rattle.nqs_rules.proofs.RowFacts.{row_is, promise_is, same_id}
 use Rattle.nqs_rules.proofs.RowsOrder.{hand_is}
 use Rattle.nqs_rules.proofs.RowChanges.{waits, few_hops, routing_is, ready_queued}
 use Rattle.nqs_types.specs.Ids.{id_eq, id_exact}
+use Rattle.nqs_rules.specs.Picked.{PlainRow}
 use Rattle.nqs_laws.specs.Words.{body_passes}
 use Rattle.nqs_laws.proofs.Frame.{sent_in}
-use Rattle.nqs_laws.proofs.RowTests.{PlainRow, AllPass}
+use Rattle.nqs_laws.proofs.RowTests.{AllPass}
 use Rattle.nqs_laws.proofs.Sides.{AreShort}
 
 -- small facts
@@ -401,7 +402,7 @@ module _ (s : Plain) (h : IsInOrder s) where
 
     inquiry_fine : (p : Promise (List ℕ)) → is_promise_right s p ≡ true → is_fine (send_inquire s p) ≡ true
     inquiry_fine p right = let k = promise_is s p right in
-        sends p.peer (body.Inquire p.number) refl refl (near p.peer p.number (passes_near (is_promise_open p.number) p.peer k.opens) k.some)
+        sends p.peer (body.Inquire p.number) refl refl (near p.peer p.number (passes_near (is_open_number p.number) p.peer k.opens) k.some)
 
     tick_fine : (now : ℕ) → AreFine (ticked now s).outputs
     tick_fine now =

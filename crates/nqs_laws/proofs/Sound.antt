@@ -42,12 +42,13 @@ use Rattle.nqs_rules.proofs.StartIs.{StartsRow, start_is}
 use Rattle.nqs_rules.proofs.Until.{steady}
 use Rattle.nqs_rules.proofs.Formatted.{formatted_order}
 use Rattle.nqs_rules.specs.Notes.{Note, Saw}
+use Rattle.nqs_rules.specs.Picked.{PlainRow}
 use Rattle.nqs_laws.specs.History.{history}
 use Rattle.nqs_laws.specs.Words.{body_passes}
 use Rattle.nqs_laws.specs.Sane.{AreSane}
 use Rattle.nqs_laws.proofs.Frame.{Moment, moment, put_state, Comes, Way, Taken, Begun, Booted, change_by, why_by, outputs_by, sent_in, IsIdle, noted, silent}
 use Rattle.nqs_laws.proofs.Frame.{whole, cut, Frames, Steps, steps_of, run_kept}
-use Rattle.nqs_laws.proofs.RowTests.{PlainRow, IsKept, NewPasses, AllPass, change_passes}
+use Rattle.nqs_laws.proofs.RowTests.{IsKept, NewPasses, AllPass, change_passes}
 use Rattle.nqs_laws.proofs.Sides.{head, head_kept, AreShort, short_kept}
 use Rattle.nqs_laws.proofs.Sent.{is_short_change, is_fine_message, all_sent, step_fine, start_sends, step_stores}
 

@@ -24,6 +24,7 @@ use Rattle.nqs_types.specs.declared.change.Change.{Change}
 use Rattle.nqs_types.specs.declared.change.Change.TheVariants.{Site, Submitted, Deleted, Doomed, Started, Ended, Unlaunched, Boot, Edited, HandOpened}
 use Rattle.nqs_types.specs.declared.change.Change.TheVariants.{HandCommitted, HandRefused, HandsSilent, HandDone, Promised, Accepted, Dropped, MovedLocal}
 use Rattle.nqs_types.specs.declared.change.Change.TheVariants.{RefusedLocal, HeldFar, StageGot, StageGone, FileGone}
+use Rattle.nqs_state.specs.Least.{runs_now}
 use Rattle.nqs_rules.specs.Tests.{passes, is_ready, is_routing, is_running, is_queued, is_unheld}
 use Rattle.nqs_rules.specs.Find.{has_queue, find_row, find_hand, find_promise, find_peer, meant_request, meant_row, row_of}
 use Rattle.nqs_rules.specs.Causes.{Cause}
@@ -31,16 +32,16 @@ use Rattle.nqs_rules.specs.Rows.{named_causes, idle_causes, hold_causes, release
 use Rattle.nqs_rules.specs.Rows.{with_priority}
 use Rattle.nqs_rules.specs.Applied.{next_id, may_start_again, lost_row, doomed_row, started_row, routing_row, requeued_row, moved_local, local_refused}
 use Rattle.nqs_rules.specs.Applied.{held_far, hand_silent}
-use Rattle.nqs_rules.specs.Fits.{fits, edit_fits, row_passes, runs, may_hop, is_next, device_fits}
+use Rattle.nqs_rules.specs.Fits.{fits, edit_fits, row_passes, may_hop, is_next, device_fits}
 use Rattle.nqs_rules.specs.Routing.{is_hand_to}
 use Rattle.nqs_rules.specs.InOrder.{IsInOrder, IsConsistent, is_hold_right}
 use Rattle.nqs_rules.proofs.Chains.{each}
 use Rattle.nqs_rules.proofs.ConfOrder.{Allows, none_holds}
 use Rattle.nqs_rules.proofs.ListFacts.{list_all-found}
-use Rattle.nqs_rules.proofs.RowChanges.{routing_is, running_is, ready_queued}
-use Rattle.nqs_rules.proofs.RowKinds.{found_row}
+use Rattle.nqs_rules.proofs.RowChanges.{routing_is}
+use Rattle.nqs_rules.proofs.RowKinds.{found_row, running_unrouted, ready_unrouted}
 use Rattle.nqs_rules.proofs.EditOrder.{may_move}
-use Rattle.nqs_laws.proofs.RowTests.{PlainRow}
+use Rattle.nqs_rules.specs.Picked.{PlainRow}
 use Rattle.nqs_laws.proofs.After.{Request, without_at, changed_at, meant_after, edit_after, committed_after, back_row, refused_after, silent_after}
 use Rattle.nqs_laws.proofs.After.{silents_after, accepted_after, submitted_row, after}
 
@@ -183,12 +184,6 @@ module _ (s : Plain) (h : IsInOrder s) (calm : IsConsistent s) (x : Request) (r 
   without_other : (id : Request) → id_eq x id ≡ false → without_at id x (Some r) ≡ Some r
   without_other id e = ap (λ b. if b then None else Some r) e
 
-  runs_idle : (q : PlainRow) → is_running q.state ≡ true → is_routing q.state ≡ false
-  runs_idle q k = ap is_routing (running_is q.state k)
-
-  ready_idle : (q : PlainRow) → is_ready q ≡ true → is_routing q.state ≡ false
-  ready_idle q k = ap is_routing (ready_queued q k)
-
   meant_other : (id : Named) (causes : PlainRow → List Cause) (f : PlainRow → PlainRow)
       → ((q : PlainRow) (rid : Request) → find_row rid s ≡ Some q → Allows (causes q) → is_routing q.state ≡ false)
       → Allows (named_causes id causes (meant_row id s)) → meant_after (meant_request id s) f x (Some r) ≡ Some r
@@ -225,15 +220,15 @@ module _ (s : Plain) (h : IsInOrder s) (calm : IsConsistent s) (x : Request) (r 
   spares (Site me site) fit plain = refl
   spares (Submitted queue job script) fit plain = refl
   spares (Deleted id) fit plain = absurd plain
-  spares (Doomed id) fit plain = changed_other id doomed_row (passes_other runs id runs_idle fit)
+  spares (Doomed id) fit plain = changed_other id doomed_row (passes_other runs_now id running_unrouted fit)
   spares (Started id device) fit plain = changed_other id (started_row device)
-      (passes_other is_ready id ready_idle (and_parts (row_passes is_ready id s) (device_fits device s) fit).0)
-  spares (Ended id parts) fit plain = without_other id (passes_other runs id runs_idle fit)
-  spares (Unlaunched id) fit plain = without_other id (passes_other runs id runs_idle fit)
+      (passes_other is_ready id ready_unrouted (and_parts (row_passes is_ready id s) (device_fits device s) fit).0)
+  spares (Ended id parts) fit plain = without_other id (passes_other runs_now id running_unrouted fit)
+  spares (Unlaunched id) fit plain = without_other id (passes_other runs_now id running_unrouted fit)
   spares Boot fit plain = ap (λ b. if b then (if may_start_again r then Some (lost_row r) else None) else Some r) (ap is_running (routing_is r.state routes))
   spares (Edited e) fit plain = edit_spares e fit
   spares (HandOpened peer number id queue since) fit plain =
-      changed_other id routing_row (passes_other may_hop id (λ q k. ready_idle q (and_parts (is_ready q) (nat_lt q.hops 32) k).0)
+      changed_other id routing_row (passes_other may_hop id (λ q k. ready_unrouted q (and_parts (is_ready q) (nat_lt q.hops 32) k).0)
       (each (row_passes (may_hop {E = List ℕ}) id s) (passes (is_next number) (find_peer peer s) ∷ not (list_any (is_hand_to peer) s.hands) ∷ []) fit).0)
   spares (HandCommitted peer number) fit plain = absurd plain
   spares (HandRefused peer number refusal) fit plain = absurd plain
@@ -247,10 +242,10 @@ module _ (s : Plain) (h : IsInOrder s) (calm : IsConsistent s) (x : Request) (r 
       of (Some p) = refl
   spares (Dropped peer number) fit plain = refl
   spares (MovedLocal id queue) fit plain =
-      changed_other id (moved_local queue (s.arrivals + 1)) (passes_other may_hop id (λ q k. ready_idle q (and_parts (is_ready q) (nat_lt q.hops 32) k).0)
+      changed_other id (moved_local queue (s.arrivals + 1)) (passes_other may_hop id (λ q k. ready_unrouted q (and_parts (is_ready q) (nat_lt q.hops 32) k).0)
       (each (row_passes (may_hop {E = List ℕ}) id s) (has_queue queue s ∷ not (arrivals_used s) ∷ []) fit).0)
-  spares (RefusedLocal id queue refusal) fit plain = changed_other id (local_refused queue refusal s) (passes_other is_ready id ready_idle fit)
-  spares (HeldFar id) fit plain = changed_other id held_far (passes_other is_ready id ready_idle fit)
+  spares (RefusedLocal id queue refusal) fit plain = changed_other id (local_refused queue refusal s) (passes_other is_ready id ready_unrouted fit)
+  spares (HeldFar id) fit plain = changed_other id held_far (passes_other is_ready id ready_unrouted fit)
   spares (StageGot peer number path bytes) fit plain = refl
   spares (StageGone peer number) fit plain = refl
   spares (FileGone file) fit plain = refl

@@ -61,8 +61,8 @@ use Rattle.nqs_rules.proofs.ListFacts.{found_again, list_all-weaker, not_true}
 use Rattle.nqs_rules.proofs.FindKept.{all-mapped}
 use Rattle.nqs_rules.proofs.HandoversOrder.{not_committed, offer_or_none, still_offered, silent_one}
 use Rattle.nqs_rules.proofs.ConsistentOrder.{silent_calm_one}
+use Rattle.nqs_rules.specs.Picked.{PlainRow}
 use Rattle.nqs_laws.specs.Loads.{Load, offered_load, kept_load, sent_load}
-use Rattle.nqs_laws.proofs.RowTests.{PlainRow}
 use Rattle.nqs_laws.proofs.Makes.{HasHand}
 use Rattle.nqs_laws.proofs.Sent.{Begins, Launches, Prints, Holds as HoldsFar, Moves, Opens}
 use Rattle.nqs_laws.proofs.Pair.{Offer, NoOffer, Open, Given, Pledge, NoPledge, Pledged, Pair, OfferOf, ReadyFor, CommitOf, DoneOf, IsNoOffer, Ok as IsPairOk}

@@ -49,11 +49,12 @@ use Rattle.nqs_laws.specs.Words.{is_counted, is_never_lost, is_carried_counted, 
 use Rattle.nqs_laws.proofs.Frame.{Moment, moment, put_state, Way, Taken, Begun, Booted, change_by, why_by, outputs_by, first_by, sent_in, seen_from, kept_of}
 use Rattle.nqs_laws.proofs.Frame.{IsIdle}
 use Rattle.nqs_laws.proofs.Told.{all_seen, sights-append}
-use Rattle.nqs_laws.proofs.RowTests.{PlainRow, IsKept, NewPasses, AllPass, change_passes}
+use Rattle.nqs_laws.proofs.RowTests.{IsKept, NewPasses, AllPass, change_passes}
 use Rattle.nqs_laws.proofs.Sent.{is_fine_message, is_fine_output, Begins, Launches, Prints, Holds, Moves, Opens, begins, step_fine}
 use Rattle.nqs_laws.proofs.Sound.{IsSound, Keeps, Suits, event_sane, all_sane, way_sends, get-here, runs_keep, run_sound}
 use Rattle.nqs_laws.proofs.NewRows.{row_passes, carried_passes}
 use Rattle.nqs_rules.proofs.PeersOrder.{get-other}
+use Rattle.nqs_rules.specs.Picked.{PlainRow}
 use Rattle.nqs_laws.proofs.Views.{host_same}
 
 -- all entries

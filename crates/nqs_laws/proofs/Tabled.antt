@@ -10,10 +10,10 @@ use Rattle.nqs_types.specs.declared.message.Message.{Message}
 use Rattle.nqs_rules.specs.Tests.{same_host}
 use Rattle.nqs_rules.specs.Find.{find_row}
 use Rattle.nqs_rules.proofs.PeersOrder.{get-other}
+use Rattle.nqs_rules.specs.Picked.{PlainRow}
 use Rattle.nqs_laws.specs.Loads.{kept_load}
 use Rattle.nqs_laws.proofs.Frame.{put_state}
 use Rattle.nqs_laws.proofs.Sound.{get-here}
-use Rattle.nqs_laws.proofs.RowTests.{PlainRow}
 use Rattle.nqs_laws.proofs.After.{Request}
 use Rattle.nqs_laws.proofs.Pair.{Offer, NoOffer, Open, Given, NoPledge, Pledged, pair, Ok, Move, Stays, Offers, Withdraws, Commits, Finishes, Pledges, Accepts}
 use Rattle.nqs_laws.proofs.Pair.{Drops, moved, May}

@@ -28,13 +28,13 @@ use Rattle.nqs_rules.proofs.ListFacts.{list_all-found, list_all-weaker}
 use Rattle.nqs_rules.proofs.StateFacts.{sites_are}
 use Rattle.nqs_rules.proofs.RowsOrder.{hand_is}
 use Rattle.nqs_rules.proofs.HandoversOrder.{not_committed, offer_or_none}
+use Rattle.nqs_rules.specs.Picked.{PlainRow}
 use Rattle.nqs_laws.specs.History.{history}
 use Rattle.nqs_laws.specs.Sane.{AreSane, IsSite}
 use Rattle.nqs_laws.specs.Loads.{Load, kept_load}
 use Rattle.nqs_laws.proofs.Frame.{Moment, moment, put_state, put-same, Way, change_by}
 use Rattle.nqs_laws.proofs.Sides.{head_kept}
 use Rattle.nqs_laws.proofs.Sound.{IsSound, Keeps, Suits, me_is, host_kept, runs_keep}
-use Rattle.nqs_laws.proofs.RowTests.{PlainRow}
 use Rattle.nqs_laws.proofs.After.{Request}
 use Rattle.nqs_laws.proofs.Makes.{HasHand}
 use Rattle.nqs_laws.proofs.Pair.{Ok}

@@ -22,10 +22,11 @@ use Rattle.nqs_rules.specs.Routing.{is_hand_to, close}
 use Rattle.nqs_rules.specs.Applied.{applied, is_offered_for, committed, new_row, requeued_row, hand_committed, hand_refused, hand_silent, drop_promise}
 use Rattle.nqs_rules.specs.Applied.{accepted, is_promise_of}
 use Rattle.nqs_rules.specs.Fits.{fits, row_passes, may_hop, is_next, is_open_number, is_site_host, is_unknown, offer_full}
-use Rattle.nqs_rules.specs.InOrder.{IsInOrder, is_promise_open, is_promise_right}
+use Rattle.nqs_rules.specs.InOrder.{IsInOrder, is_promise_right}
 use Rattle.nqs_rules.proofs.Chains.{each}
 use Rattle.nqs_rules.proofs.ListFacts.{found_passes, list_all-found, map-changed}
 use Rattle.std.proofs.lemmas.List.{map-append}
+use Rattle.std.specs.Option.{option_or}
 use Rattle.nqs_rules.specs.Edits.{change_at}
 use Rattle.nqs_rules.specs.InOrder.{are_distinct}
 use Rattle.nqs_rules.proofs.ListMaps.{list_any-map}
@@ -33,7 +34,7 @@ use Rattle.nqs_rules.proofs.KeyFacts.{found_any, distinct-added}
 use Rattle.nqs_rules.proofs.Sublists.{part_distinct, map_part, without_part, filter_part}
 use Rattle.nqs_rules.proofs.RowFacts.{promise_is}
 use Rattle.nqs_laws.specs.Loads.{sent_load}
-use Rattle.nqs_laws.proofs.Found.{only, first_of_two, find-added, find-without, find-filtered}
+use Rattle.nqs_laws.proofs.Found.{only, find-added, find-without, find-filtered}
 use Rattle.nqs_laws.proofs.Pair.{NoOffer, Pledge, NoPledge, Move, Stays, Pledges, Accepts, Drops, moved, pair, closed_by}
 use Rattle.nqs_laws.proofs.Views.{Pledging, pledge_seen, promise_of, pledged, peer_field, closed_field, closed_of, IsLone, IsTarget, Target, host_exact}
 use Rattle.nqs_laws.proofs.Views.{host_same, host_turned, promise_peer, promise_number, promise_to_peer, field_kept, field_other, field_here}
@@ -65,7 +66,7 @@ module _ (s : Plain) (h : IsInOrder s) where
   pub sender_known : (k : PeerNumber) (p : Pledging) → find (is_promise k) s.promises ≡ Some p → KeptPeer s k.peer
   sender_known k p found =
       let right = promise_is s p (list_all-found (is_promise_right s) (is_promise k) s.promises p h.promises found) in
-      subst (KeptPeer s) (sym (promise_peer s h k p found)) (known_peer s p.peer (is_promise_open p.number) right.opens)
+      subst (KeptPeer s) (sym (promise_peer s h k p found)) (known_peer s p.peer (is_open_number p.number) right.opens)
 
   -- a promise goes, and its number is closed
   gone_target : (k : PeerNumber) (p : Pledging) → find (is_promise k) s.promises ≡ Some p → (m : Move) → IsTarget m → (m ≡ Stays → ⊥)
@@ -152,12 +153,12 @@ module _ (s : Plain) (h : IsInOrder s) where
       left = find-filtered same_host (λ (q : Pledging). q.peer) host_exact host_same (λ p. not (is_promise_of peer p)) a s.promises h.promisers
 
       there : promise_of a (applied (Promised peer number queue c script) s)
-          ≡ first_of_two (only (λ p. not (is_promise_of peer p)) (promise_of a s))
+          ≡ option_or (only (λ p. not (is_promise_of peer p)) (promise_of a s))
           (if same_host a peer then Some (record { peer = peer; number = number; row = new_row c queue (s.arrivals + 1) script }) else None)
       there =
           find-added (is_promise_of a) (filter (λ p. not (is_promise_of peer p)) s.promises)
           (record { peer = peer; number = number; row = new_row c queue (s.arrivals + 1) script })
-          ∙ ap (λ o. first_of_two o (if same_host a peer then Some (record { peer = peer; number = number; row = new_row c queue (s.arrivals + 1) script }) else
+          ∙ ap (λ o. option_or o (if same_host a peer then Some (record { peer = peer; number = number; row = new_row c queue (s.arrivals + 1) script }) else
           None)) left
 
       by : (d : Bool) → same_host a peer ≡ d → Target s (applied (Promised peer number queue c script) s) a
@@ -166,7 +167,7 @@ module _ (s : Plain) (h : IsInOrder s) where
           let here : a ≡ peer = host_exact a peer e in
           let known = known_peer s peer (is_open_number number) may in
           record {
-            pledge = ap pledge_seen (there ∙ (ap (λ o. first_of_two o (if same_host a peer then Some new else None)) (old (promise_of a s) refl)
+            pledge = ap pledge_seen (there ∙ (ap (λ o. option_or o (if same_host a peer then Some new else None)) (old (promise_of a s) refl)
                 ∙ ap (λ z. if z then Some new else None) e));
             closed = ap (λ i. closed_of i (applied (Promised peer number queue c script) s)) here
                 ∙ field_here closed_field 0 peer.0 (number - 1) (close (number - 1)) s.peers known.0 known.1 (λ q. refl);
@@ -179,20 +180,20 @@ module _ (s : Plain) (h : IsInOrder s) where
           old (Some p) f = ap (λ z. if not z then Some p else None) (ap (λ i. same_host i p.peer) (sym (host_exact a peer e))
               ∙ found_passes (is_promise_of a) s.promises p f)
       by false e = record {
-        pledge = ap pledge_seen (there ∙ (ap (λ z. first_of_two (only (λ p. not (is_promise_of peer p)) (promise_of a s)) (if z then Some new else None)) e
+        pledge = ap pledge_seen (there ∙ (ap (λ z. option_or (only (λ p. not (is_promise_of peer p)) (promise_of a s)) (if z then Some new else None)) e
             ∙ kept (promise_of a s) refl));
         closed = field_other closed_field 0 peer.0 a.0 (close (number - 1)) s.peers
             (λ same. true≢false (sym (ap (λ n. n == peer.0) (sym same) ∙ host_same peer) ∙ e));
         is = tt;
-        stays = λ f. there ∙ (ap (λ z. first_of_two (only (λ p. not (is_promise_of peer p)) (promise_of a s)) (if z then Some new else None)) e
+        stays = λ f. there ∙ (ap (λ z. option_or (only (λ p. not (is_promise_of peer p)) (promise_of a s)) (if z then Some new else None)) e
             ∙ kept (promise_of a s) refl);
       }
         where
-          kept : (o : Option Pledging) → promise_of a s ≡ o → first_of_two (only (λ p. not (is_promise_of peer p)) o) None ≡ o
+          kept : (o : Option Pledging) → promise_of a s ≡ o → option_or (only (λ p. not (is_promise_of peer p)) o) None ≡ o
           kept None f = refl
           kept (Some p) f =
               let at : a ≡ p.peer = host_exact a p.peer (found_passes (is_promise_of a) s.promises p f) in
-              ap (λ z. first_of_two (if not z then Some p else None) None) (ap (same_host peer) (sym at) ∙ host_turned a peer e)
+              ap (λ z. option_or (if not z then Some p else None) None) (ap (same_host peer) (sym at) ∙ host_turned a peer e)
 
   -- what each change makes of the receiver's part
   pub targets : (c : Change (List ℕ)) → fits c s ≡ true → ((until : ℕ) (ks : List PeerNumber) → c ≡ HandsSilent until ks → ⊥) → (a : HostId)

@@ -21,7 +21,7 @@ use Rattle.nqs_rules.specs.Find.{find_row, find_peer}
 use Rattle.nqs_rules.specs.Devices.{free_device}
 use Rattle.nqs_rules.specs.Routing.{destination}
 use Rattle.nqs_rules.specs.Order.{is_local, print_on, move_to, choice_for, pick}
-use Rattle.nqs_rules.specs.Picked.{IsPicked}
+use Rattle.nqs_rules.specs.Picked.{IsPicked, PlainRow}
 use Rattle.nqs_rules.specs.Handover.{opened_with, open_hand}
 use Rattle.nqs_rules.specs.Start.{launching, printing, holding, moving_by, moving, local_causes, with_row, device_at, dest_at, started, start_by, start}
 use Rattle.nqs_rules.specs.Stepped.{Stepped}
@@ -29,7 +29,6 @@ use Rattle.nqs_rules.proofs.ListFacts.{found_again}
 use Rattle.nqs_rules.proofs.StartIs.{IsSteady}
 use Rattle.nqs_rules.proofs.PickLaws.{picked_is}
 use Rattle.nqs_laws.proofs.Sent.{mapped}
-use Rattle.nqs_laws.proofs.RowTests.{PlainRow}
 
 -- a choice of a row that came too far
 far_of : (k : Kind) (d : QueueDef) (now : ℕ) (s : Plain) (at : ℕ) (r : PlainRow) (place : ℕ) → choice_for k d now s at r ≡ Some (choice.TooFar place)

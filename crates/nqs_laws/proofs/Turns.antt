@@ -4,6 +4,7 @@ use Rattle.std.proofs.Common.{true≢false, refl, sym, ap, subst, ◌∙◌, if�
 use Rattle.std.proofs.lemmas.Bool.{and_parts, eqb-true, not-true, false_from_ne_true}
 use Rattle.std.proofs.lemmas.Option.{same_Some}
 use Rattle.std.specs.List.{list_any}
+use Rattle.std.specs.Option.{option_or}
 use Rattle.nqs_base.proofs.Plain.{find_in_filter}
 use Rattle.nqs_types.specs.Ids.{id_eq, id_exact}
 use Rattle.nqs_state.specs.State.{Plain}
@@ -31,6 +32,7 @@ use Rattle.nqs_types.specs.declared.change.Change.{Change}
 use Rattle.nqs_types.specs.declared.change.Change.TheVariants.{Site, Submitted, Deleted, Doomed, Started, Ended, Unlaunched, Boot, Edited, HandOpened}
 use Rattle.nqs_types.specs.declared.change.Change.TheVariants.{HandCommitted, HandRefused, HandsSilent, HandDone, Promised, Accepted, Dropped, MovedLocal}
 use Rattle.nqs_types.specs.declared.change.Change.TheVariants.{RefusedLocal, HeldFar, StageGot, StageGone, FileGone}
+use Rattle.nqs_state.proofs.LeastLemmas.{found_id}
 use Rattle.nqs_rules.specs.Tests.{passes, is_routing, is_offered, same_host, last_u64}
 use Rattle.nqs_rules.specs.Find.{peer_number, has_row, find_row, find_hand, find_promise, find_peer, meant_request}
 use Rattle.nqs_rules.specs.Edits.{change_peer, drop_row}
@@ -52,10 +54,10 @@ use Rattle.nqs_rules.proofs.Sublists.{part_distinct, map_part, without_part}
 use Rattle.nqs_rules.proofs.RowFacts.{same_id}
 use Rattle.nqs_rules.proofs.RowKinds.{found_row}
 use Rattle.nqs_rules.proofs.OutputsKept.{file_keeps, outputs_keep}
+use Rattle.nqs_rules.specs.Picked.{PlainRow}
 use Rattle.nqs_laws.specs.Loads.{offered_load, sent_load}
-use Rattle.nqs_laws.proofs.RowTests.{PlainRow}
-use Rattle.nqs_laws.proofs.Found.{only, first_of_two, find-added, find-without, find-changed, find-filtered}
-use Rattle.nqs_laws.proofs.After.{Request, id_of, without_at, changed_at, back_row, refused_after, committed_after, after, row_after, silent_found}
+use Rattle.nqs_laws.proofs.Found.{only, find-added, find-without, find-changed, find-filtered}
+use Rattle.nqs_laws.proofs.After.{Request, without_at, changed_at, back_row, refused_after, committed_after, after, row_after, silent_found}
 use Rattle.nqs_laws.proofs.Spares.{IsPlain, spares}
 use Rattle.nqs_laws.proofs.Pair.{Offer, NoOffer, Open, Given, NoPledge, Move, Stays, Offers, Withdraws, Commits, Finishes, Pledges, Accepts, Drops, moved, pair}
 use Rattle.nqs_laws.proofs.Pair.{given}
@@ -382,7 +384,7 @@ module _ (s : Plain) (h : IsInOrder s) (calm : IsConsistent s) (lone : IsLone s.
           phase : (p : Phase) → there.0.phase ≡ p → is_offered p ≡ true → given (phase_seen p there.0 (find_row there.0.id s))
               ≡ Given there.0.number there.0.id there.0.queue
           phase Offered e o = let r = routing_of s h (is_hand (peer_number peer number)) there.0 there.1 (ap is_offered e) in
-              ap (λ q. given (phase_seen Offered there.0 q)) r.1 ∙ ap (λ i. Given there.0.number i there.0.queue) (sym (id_of there.0.id s.rows r.0 r.1))
+              ap (λ q. given (phase_seen Offered there.0 q)) r.1 ∙ ap (λ i. Given there.0.number i there.0.queue) (sym (found_id there.0.id s.rows r.0 r.1))
           phase Committed e o = absurd (true≢false (sym o))
 
       by : (c : Bool) → same_host b peer ≡ c → Source s (applied (HandCommitted peer number) s) b (if c then Commits else Stays)
@@ -451,7 +453,7 @@ module _ (s : Plain) (h : IsInOrder s) (calm : IsConsistent s) (lone : IsLone s.
       may = each (row_passes (may_hop {E = List ℕ}) id s) (passes (is_next number) (find_peer peer s) ∷ not (list_any (is_hand_to peer) s.hands) ∷ []) fit
 
       added : find (is_hand_to b) (s.hands ++ record { peer = peer; number = number; id = id; queue = queue; since = since; phase = Offered } ∷ [])
-          ≡ first_of_two (find (is_hand_to b) s.hands) (if same_host b peer then
+          ≡ option_or (find (is_hand_to b) s.hands) (if same_host b peer then
           Some (record { peer = peer; number = number; id = id; queue = queue; since = since; phase = Offered }) else None)
       added = find-added (is_hand_to b) s.hands (record { peer = peer; number = number; id = id; queue = queue; since = since; phase = Offered })
 
@@ -479,7 +481,7 @@ module _ (s : Plain) (h : IsInOrder s) (calm : IsConsistent s) (lone : IsLone s.
           let next_is : next_of b s ≡ number = ap (λ i. next_of i s) here ∙ (ap (peer_field next_field 1) peer_at.1 ∙ number_is) in
           subst (Source s (applied (HandOpened peer number id queue since) s) b) (sym (ap (offers_by queue) row.1)) (record {
             offer = ap (λ o. offer_seen o (applied (HandOpened peer number id queue since) s))
-                (added ∙ (ap (λ o. first_of_two o (if same_host b peer then Some new else None)) none ∙ ap (λ z. if z then Some new else None) e))
+                (added ∙ (ap (λ o. option_or o (if same_host b peer then Some new else None)) none ∙ ap (λ z. if z then Some new else None) e))
                 ∙ (ap (phase_seen Offered new) new_row ∙ ap (λ n. Open n (offered_load queue row.0)) (sym next_is));
             next = ap (λ i. next_of i (applied (HandOpened peer number id queue since) s)) here
                 ∙ (field_here next_field 1 peer.0 (number + 1) (λ p. record p { next = number + 1 }) s.peers peer_at.0 peer_at.1 (λ q. refl)
@@ -488,12 +490,12 @@ module _ (s : Plain) (h : IsInOrder s) (calm : IsConsistent s) (lone : IsLone s.
           })
       by false e = stays_source s (applied (HandOpened peer number id queue since) s) b
           (stands_in (applied (HandOpened peer number id queue since) s) b
-          (added ∙ (ap (λ z. first_of_two (find (is_hand_to b) s.hands) (if z then Some new else None)) e ∙ alone (find (is_hand_to b) s.hands)))
+          (added ∙ (ap (λ z. option_or (find (is_hand_to b) s.hands) (if z then Some new else None)) e ∙ alone (find (is_hand_to b) s.hands)))
           (λ z r at is row routes. row_spared (HandOpened peer number id queue since) fit tt z.id r row routes))
           (field_other next_field 1 peer.0 b.0 (λ p. record p { next = number + 1 }) s.peers
           (λ same. true≢false (sym (ap (λ n. n == peer.0) (sym same) ∙ host_same peer) ∙ e)))
         where
-          alone : (o : Option Hand) → first_of_two o None ≡ o
+          alone : (o : Option Hand) → option_or o None ≡ o
           alone None = refl
           alone (Some y) = refl
 

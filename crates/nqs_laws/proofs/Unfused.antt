@@ -4,11 +4,11 @@ use Rattle.nqs_state.specs.State.{Plain}
 use Rattle.nqs_types.specs.declared.world.Which.{Which}
 use Rattle.nqs_types.specs.declared.world.Which.TheVariants.{Root, First, Second, Spool}
 use Rattle.nqs_rules.specs.Journals.{active, resting, is_due}
-use Rattle.nqs_rules.specs.World.{Host, Fuses, Made, StoppedBefore, StoppedAfter, no_fuses, fate, fate_of_record, fuse_of, falls, falls_at_gate, keeps_gate}
+use Rattle.nqs_rules.specs.World.{Host, Fuses, Made, StoppedBefore, StoppedAfter, no_fuses, fate, fate_of_record, falls, falls_at_gate, keeps_gate, of_disk}
 use Rattle.nqs_rules.specs.World.{falls_at_root, falls_at_journal, burnt_at, spool_calls, turns_over, ready, used}
 
 -- no disk has a fuse
-none_at : (disk : Which) (f : Fuses) → f ≡ no_fuses → fuse_of disk f ≡ None
+none_at : (disk : Which) (f : Fuses) → f ≡ no_fuses → of_disk disk f ≡ None
 none_at Root f none = ap (λ f. f.root) none
 none_at First f none = ap (λ f. f.first) none
 none_at Second f none = ap (λ f. f.second) none
@@ -36,7 +36,7 @@ ready_none h none = by (is_due h.records)
 
 record_made : (puts : List (List ℕ)) (h : Host) → h.fuses ≡ no_fuses → fate_of_record puts h ≡ Made
 record_made puts h none =
-    let fuse = fuse_of (active h.root) h.fuses in
+    let fuse = of_disk (active h.root) h.fuses in
     ap (λ k. if falls k (spool_calls puts) then StoppedBefore
     else (if falls fuse 4 then (if falls_at_gate fuse && keeps_gate h.tear then StoppedAfter else StoppedBefore) else Made)) (none_at Spool h.fuses none)
     ∙ ap (λ k. if falls k 4 then (if falls_at_gate k && keeps_gate h.tear then StoppedAfter else StoppedBefore) else Made)

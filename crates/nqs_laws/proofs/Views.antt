@@ -25,8 +25,8 @@ use Rattle.nqs_rules.proofs.Chains.{implied}
 use Rattle.nqs_rules.proofs.ListFacts.{found_passes, list_all-found}
 use Rattle.nqs_rules.proofs.RowsOrder.{hand_is}
 pub use Rattle.nqs_rules.proofs.PeersOrder.{same_host_exact as host_exact}
+use Rattle.nqs_rules.specs.Picked.{PlainRow}
 use Rattle.nqs_laws.specs.Loads.{offered_load, kept_load}
-use Rattle.nqs_laws.proofs.RowTests.{PlainRow}
 use Rattle.nqs_laws.proofs.Pair.{Offer, NoOffer, Open, Given, Pledge, NoPledge, Pledged, Pair, Move, Stays, Offers, Withdraws, Commits, Finishes, Pledges}
 use Rattle.nqs_laws.proofs.Pair.{Accepts, Drops, moved, pair}
 

@@ -4,6 +4,7 @@ use Rattle.std.proofs.Common.{subst, ◌∙◌, arith, if◌then◌else◌}
 use Rattle.std.proofs.lemmas.Bool.{and_parts, and_from, ltb-true, false_from_ne_true}
 use Rattle.std.proofs.lemmas.List.Folds.{list_all-append}
 use Rattle.std.specs.List.{list_all}
+use Rattle.std.specs.Option.{option_or}
 use Rattle.nqs_base.proofs.Plain.{item_at}
 use Rattle.nqs_state.specs.Keys.{is_hand}
 use Rattle.nqs_state.specs.State.{Plain}
@@ -34,14 +35,15 @@ use Rattle.nqs_rules.proofs.KeyFacts.{all_get}
 use Rattle.nqs_rules.proofs.StepHalts.{step-halts}
 use Rattle.nqs_rules.proofs.StartIs.{IsStart, StartsRow, start_is}
 use Rattle.nqs_rules.proofs.Until.{steady}
+use Rattle.nqs_rules.specs.Net.{is_committed_to}
 use Rattle.nqs_laws.specs.History.{history}
 use Rattle.nqs_laws.specs.Sane.{is_sane_act, AreSane, IsSite}
-use Rattle.nqs_laws.specs.Handovers.{IsStateOf, WasSent, is_open, is_committed_to, is_closed_for}
+use Rattle.nqs_laws.specs.Handovers.{IsStateOf, WasSent, is_open, is_closed_for}
 use Rattle.nqs_laws.specs.Sending.{word, Sends}
 use Rattle.nqs_laws.specs.Whole.{after, is_up, IfUpAfter, IsSentBetween, WasSentBetween, SendsThen, HoldsAt, IsSettledInThree, IsVerdict}
 use Rattle.nqs_laws.proofs.Frame.{moment, packet_sent, state_at}
 use Rattle.nqs_laws.proofs.Sound.{IsSound, run_sound}
-use Rattle.nqs_laws.proofs.Found.{first_of_two, find-added}
+use Rattle.nqs_laws.proofs.Found.{find-added}
 use Rattle.nqs_laws.proofs.HandoverLaws.{all_in_step, all_true}
 use Rattle.nqs_laws.proofs.Closing.{run-append}
 use Rattle.nqs_laws.proofs.HealLaws.{asks, commits, inquiry, commit, commit_leaves, abort_leaves, done_leaves}
@@ -73,7 +75,7 @@ not_given_kept : (to : HostId) (n : ℕ) (s : Plain) → IsInOrder s → (now : 
 not_given_kept to n s order now x begun none = begun_is (λ t. is_committed_to to n t ≡ false) s order now x begun by
   where
     opened : (y : Hand) → y.phase ≡ Offered → (o : Option Hand) → passes is_committed_hand o ≡ false → (b : Bool)
-        → passes is_committed_hand (first_of_two o (if b then Some y else None)) ≡ false
+        → passes is_committed_hand (option_or o (if b then Some y else None)) ≡ false
     opened y is (Some z) k b = k
     opened y is None k true = ap (λ p. is_committed_hand (record y { phase = p })) is
     opened y is None k false = refl

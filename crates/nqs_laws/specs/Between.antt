@@ -8,9 +8,10 @@ use Rattle.nqs_types.specs.declared.ids.HostId.{HostId}
 use Rattle.nqs_types.specs.declared.request.Peer.{Peer}
 use Rattle.nqs_types.specs.declared.message.Message.{Message}
 use Rattle.nqs_types.specs.declared.message.Body.{Body}
+use Rattle.nqs_rules.specs.Net.{is_committed_to}
 use Rattle.nqs_types.specs.declared.message.Body.TheVariants as body
 use Rattle.nqs_laws.specs.Each.{InEachWorld}
-use Rattle.nqs_laws.specs.Handovers.{IsStateOf, WasSent, is_open, is_committed_to}
+use Rattle.nqs_laws.specs.Handovers.{IsStateOf, WasSent, is_open}
 use Rattle.nqs_laws.specs.Loads.{load_of, promised_load, handed_errand, promised_errand}
 
 -- something said of two hosts, a source in state s and a receiver in state t

@@ -3,7 +3,7 @@ use Rattle.std.specs.Prelude.{◌≡◌, ℕ, ◌+◌, Bool, true, false, ◌||�
 use Rattle.nqs_state.specs.State.{Plain}
 use Rattle.nqs_rules.specs.Tests.{passes}
 use Rattle.nqs_rules.specs.Find.{find_hand, has_promise, find_peer}
-use Rattle.nqs_rules.specs.Fits.{is_offered_hand, is_committed_hand}
+use Rattle.nqs_rules.specs.Fits.{is_offered_hand}
 use Rattle.nqs_rules.specs.Handover.{closes, was_given}
 use Rattle.nqs_rules.specs.World.{World, packet_at}
 use Rattle.nqs_rules.specs.Run.{states_of}
@@ -12,6 +12,7 @@ use Rattle.nqs_types.specs.declared.ids.HostId.{HostId}
 use Rattle.nqs_types.specs.declared.request.Peer.{Peer}
 use Rattle.nqs_types.specs.declared.message.Message.{Message}
 use Rattle.nqs_types.specs.declared.message.Body.{Body}
+use Rattle.nqs_rules.specs.Net.{is_committed_to}
 use Rattle.nqs_types.specs.declared.message.Body.TheVariants as body
 
 -- the host has this state in the world
@@ -25,10 +26,6 @@ WasSent w m = (k : ℕ) × (packet_at k w ≡ Some m)
 -- of the sender: its handover to this host under this number is offered
 abbrev pub is_open : HostId → ℕ → Plain → Bool
 is_open to n s = passes is_offered_hand (find_hand to n s)
-
--- of the sender: its handover to this host under this number is committed
-abbrev pub is_committed_to : HostId → ℕ → Plain → Bool
-is_committed_to to n s = passes is_committed_hand (find_hand to n s)
 
 -- of the receiver: the number of this sender is closed
 abbrev pub is_closed_for : HostId → ℕ → Plain → Bool

@@ -4,9 +4,10 @@ use Rattle.std.specs.Option.{option_map}
 use Rattle.std.specs.List.{list_any}
 use Rattle.nqs_rules.specs.Tests.{passes}
 use Rattle.nqs_rules.specs.World.{World, Host, Act, Asks, Ends, Finishes, Fails, Writes, Leaves, Delivers, Newest, Ticks, Boots, host_of, packet_at}
-use Rattle.nqs_rules.specs.World.{newest_between, runs_now}
+use Rattle.nqs_rules.specs.World.{newest_between}
 use Rattle.nqs_types.specs.declared.ids.HostId.{HostId}
 use Rattle.nqs_types.specs.declared.message.Message.{Message}
+use Rattle.nqs_state.specs.Least.{runs_now}
 
 -- the host that a packet goes to, if there is a packet
 abbrev pub receiver : Option Message → Option HostId

@@ -10,8 +10,9 @@ ghost use Rattle.nqs_types.specs.declared.event.Event.TheVariants.{Arrived, Tick
 ghost use Rattle.nqs_rules.specs.Find.{has_promise, find_hand};
 ghost use Rattle.nqs_rules.specs.Starts.{after_step};
 ghost use Rattle.nqs_rules.specs.Step.{step};
+ghost use Rattle.nqs_rules.specs.Net.{is_committed_to};
 ghost use Rattle.nqs_laws.specs.Each.{InEachWorld};
-ghost use Rattle.nqs_laws.specs.Handovers.{IsStateOf, WasSent, is_committed_to};
+ghost use Rattle.nqs_laws.specs.Handovers.{IsStateOf, WasSent};
 ghost use Rattle.nqs_laws.specs.Sending.{word, Sends};
 
 /// A tick inquires after each promise, and commits each committed handover again.

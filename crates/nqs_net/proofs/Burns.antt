@@ -11,13 +11,13 @@ use Rattle.nqs_outside.specs.History.{Call, write, sync, History, moment, extend
 use Rattle.nqs_journal.specs.Plan.{append_calls, begin_calls, front_calls}
 use Rattle.nqs_journal.specs.Text.{snapshot_front}
 use Rattle.nqs_rules.specs.Journals.{is_second, active, byte_of, is_due}
-use Rattle.nqs_rules.specs.World.{Host, falls, burnt, spool_calls, fuse_of, calling, turns_over, ready, wrote, used}
+use Rattle.nqs_rules.specs.World.{Host, falls, burnt, spool_calls, calling, turns_over, ready, wrote, used, of_disk}
 use Rattle.nqs_store.specs.Active.{Active, journal_of, other_of, turned_to, ready as ready_in}
 use Rattle.nqs_store.specs.Commits.{AreClear, IsPast, IsKept, record_moment}
 use Rattle.nqs_store.specs.Hosts.{HostCall, same_disk, on, part}
 use Rattle.nqs_store.specs.Plan.{puts_calls, checkpoint_calls, due_calls, commit_calls}
 use Rattle.nqs_store.proofs.HostRuns.{part_own, part_other, part_append}
-use Rattle.nqs_net.specs.Worlds.{calls_of, IsFuse, AreInTurn, IsDisk, AreDisks, active_in}
+use Rattle.nqs_net.specs.Worlds.{IsFuse, AreInTurn, IsDisk, AreDisks, active_in}
 use Rattle.nqs_net.proofs.Fates.{clear_falls}
 use Rattle.nqs_net.proofs.Parts.{root_other, spool_other, journal_not_root, journal_not_spool, ran, ran_more, ran_still}
 use Rattle.nqs_net.proofs.Parts.{ran_same}
@@ -84,20 +84,20 @@ module _ (fuse : Option ℕ) (calls : ℕ) (h k : History) (fails now : ℕ → 
 -- the same disks, where no call was made
 pub same_disks : (host : Host) (fails now_fails : Which → ℕ → Bool) (old now : Which → History) → AreDisks host old fails
     → ((which : Which) (i : ℕ) → now_fails which i ≡ fails which i) → ((which : Which) → now which ≡ old which) → AreDisks host now now_fails
-same_disks host fails now_fails old now disks same idle which = after_none (fuse_of which host.fuses) (calls_of which host.calls) (old which) (now which)
+same_disks host fails now_fails old now disks same idle which = after_none (of_disk which host.fuses) (of_disk which host.calls) (old which) (now which)
     (fails which) (now_fails which) [] (same which) (disks which) (idle which)
 
 -- calls of one disk that weren't to fail
 module _ (host : Host) (fails : Which → ℕ → Bool) (old : Which → History) (disks : AreDisks host old fails) (disk : Which) (n : ℕ) (calls : List Call)
     (count : length calls ≡ n) (turn : AreInTurn calls) (clear : AreClear (fails disk) (moment (old disk)) n) where
-  made : IsDisk (burnt n (fuse_of disk host.fuses)) (calls_of disk host.calls + n) (ran old (on disk calls) disk) (fails disk)
-  made = after_calls (fuse_of disk host.fuses) (calls_of disk host.calls) (old disk) (ran old (on disk calls) disk) (fails disk) (fails disk) calls
-      (λ i. refl) (disks disk) n (ran_same old disk calls) count turn (clear_falls (fuse_of disk host.fuses) (moment (old disk)) n (fails disk)
+  made : IsDisk (burnt n (of_disk disk host.fuses)) (of_disk disk host.calls + n) (ran old (on disk calls) disk) (fails disk)
+  made = after_calls (of_disk disk host.fuses) (of_disk disk host.calls) (old disk) (ran old (on disk calls) disk) (fails disk) (fails disk) calls
+      (λ i. refl) (disks disk) n (ran_same old disk calls) count turn (clear_falls (of_disk disk host.fuses) (moment (old disk)) n (fails disk)
       (disks disk).fuse clear)
 
   still : (which : Which) → same_disk which disk ≡ false
-      → IsDisk (fuse_of which host.fuses) (calls_of which host.calls) (ran old (on disk calls) which) (fails which)
-  still which other = after_none (fuse_of which host.fuses) (calls_of which host.calls) (old which) (ran old (on disk calls) which) (fails which) (fails which)
+      → IsDisk (of_disk which host.fuses) (of_disk which host.calls) (ran old (on disk calls) which) (fails which)
+  still which other = after_none (of_disk which host.fuses) (of_disk which host.calls) (old which) (ran old (on disk calls) which) (fails which) (fails which)
       [] (λ i. refl) (disks which) (ran_other old which disk calls other)
 
 calling_disks : (host : Host) (fails : Which → ℕ → Bool) (old : Which → History) → AreDisks host old fails → (disk : Which) (n : ℕ) (calls : List Call)

@@ -8,7 +8,7 @@ use Rattle.nqs_types.specs.declared.world.Which.TheVariants.{Root}
 use Rattle.nqs_outside.specs.History.{History, moment}
 use Rattle.nqs_rules.specs.Journals.{active, is_due}
 use Rattle.nqs_rules.specs.World.{Host, Fate, Made, StoppedBefore, StoppedAfter, falls, falls_at_gate, falls_at_journal, falls_at_root, keeps_gate, spool_calls}
-use Rattle.nqs_rules.specs.World.{fuse_of, turns_over, torn_over, ready, cut_off, fate_of_record, fate}
+use Rattle.nqs_rules.specs.World.{turns_over, torn_over, ready, cut_off, fate_of_record, fate, of_disk}
 use Rattle.nqs_store.specs.Active.{Active, other_of}
 use Rattle.nqs_store.specs.Commits.{AreClear, FailsFirst, IsPast}
 use Rattle.nqs_node.specs.Carried.{IsBlown}
@@ -62,9 +62,9 @@ record_fate spool journal gate = if spool then StoppedBefore else (if journal th
 
 -- the calls of a change without a checkpoint
 module _ (r : Host) (puts : List (List ℕ)) (at_spool at_journal : ℕ) (spool_fails journal_fails : ℕ → Bool) (spool : IsFuse r.fuses.spool at_spool spool_fails)
-    (journal : IsFuse (fuse_of (active r.root) r.fuses) at_journal journal_fails) where
+    (journal : IsFuse (of_disk (active r.root) r.fuses) at_journal journal_fails) where
   abbrev fuse : Option ℕ
-  fuse = fuse_of (active r.root) r.fuses
+  fuse = of_disk (active r.root) r.fuses
 
   abbrev gate_kept : Bool
   gate_kept = falls_at_gate fuse && keeps_gate r.tear
@@ -107,13 +107,13 @@ module _ (host : Host) (fails : Which → ℕ → Bool) (old : Which → History
   by_checkpoint due falls = if due && falls then StoppedBefore else fate_of_record puts (ready host)
 
   pub journal_clear : AreClear (fails (other_of a)) (moment (old (other_of a))) 2 → falls_at_journal host ≡ false
-  journal_clear clear = clear_falls (fuse_of (other_of a) host.fuses) (moment (old (other_of a))) 2 (fails (other_of a)) (disks (other_of a)).fuse clear
+  journal_clear clear = clear_falls (of_disk (other_of a) host.fuses) (moment (old (other_of a))) 2 (fails (other_of a)) (disks (other_of a)).fuse clear
 
   pub root_clear : AreClear (fails Root) (moment (old Root)) 2 → falls_at_root host ≡ false
   root_clear clear = clear_falls host.fuses.root (moment (old Root)) 2 (fails Root) (disks Root).fuse clear
 
   pub journal_falls : (at : ℕ) → FailsFirst (fails (other_of a)) (moment (old (other_of a))) 2 at → falls_at_journal host ≡ true
-  journal_falls at first = ap (λ f. falls f 2) (first_falls (fuse_of (other_of a) host.fuses) (moment (old (other_of a))) 2 at (fails (other_of a))
+  journal_falls at first = ap (λ f. falls f 2) (first_falls (of_disk (other_of a) host.fuses) (moment (old (other_of a))) 2 at (fails (other_of a))
       (disks (other_of a)).fuse first) ∙ falls_within at 2 first.within
 
   pub root_falls : (at : ℕ) → FailsFirst (fails Root) (moment (old Root)) 2 at → falls_at_root host ≡ true

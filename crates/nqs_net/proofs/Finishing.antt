@@ -12,10 +12,11 @@ use Rattle.nqs_types.specs.declared.request.Row.{Row}
 use Rattle.nqs_types.specs.declared.message.Message.{Message}
 use Rattle.nqs_base.specs.declared.tear.Tear.{Tear}
 use Rattle.nqs_types.specs.declared.world.Seen.{Seen}
+use Rattle.nqs_state.specs.Least.{runs_now, is_less_row}
 use Rattle.nqs_types.specs.declared.world.Seen.TheVariants as seen
 use Rattle.nqs_rules.specs.Plain.{map_row}
 use Rattle.nqs_rules.specs.Tests.{is_running}
-use Rattle.nqs_rules.specs.World.{Host, World as Network, is_less_id, runs_now, is_less_row, takes_up, finishes, finishes_up, seeing}
+use Rattle.nqs_rules.specs.World.{Host, World as Network, is_less_id, takes_up, finishes, finishes_up, seeing}
 use Rattle.nqs_rules.proofs.ListMaps.{best_from-map, at_place}
 use Rattle.nqs_disk.specs.contracts.mem_disk.MemDiskDisk.TheImpl.{ghosts}
 use Rattle.nqs_disk.specs.declared.lack.Lack.{Lack}

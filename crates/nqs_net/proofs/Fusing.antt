@@ -7,8 +7,8 @@ use Rattle.nqs_types.specs.declared.world.Which.{Which}
 use Rattle.nqs_types.specs.declared.world.Which.TheVariants.{Root, First, Second, Spool}
 use Rattle.nqs_outside.specs.History.{History, moment}
 use Rattle.nqs_rules.specs.Edits.{change_at}
-use Rattle.nqs_rules.specs.World.{Host, fuse_of, fused_host}
-use Rattle.nqs_net.specs.Worlds.{calls_of, IsFuse, AreInTurn, IsDisk, AreDisks, IsSlot, AreSlots}
+use Rattle.nqs_rules.specs.World.{Host, fused_host, of_disk}
+use Rattle.nqs_net.specs.Worlds.{IsFuse, AreInTurn, IsDisk, AreDisks, IsSlot, AreSlots}
 use Rattle.nqs_net.specs.declared.slot.Slot.{Slot}
 
 -- no call that was made was to fail
@@ -18,7 +18,7 @@ none_blown (Some left) made fails is i below = is.1 i ∙ (let e : nat_le (made 
 
 pub none_failed : (host : Host) (h : Which → History) (fails : Which → ℕ → Bool) → AreDisks host h fails → (which : Which) (i : ℕ) → i < moment (h which)
     → fails which i ≡ false
-none_failed host h fails are which = none_blown (fuse_of which host.fuses) (moment (h which)) (fails which) (are which).fuse
+none_failed host h fails are which = none_blown (of_disk which host.fuses) (moment (h which)) (fails which) (are which).fuse
 
 module _ (left : Option ℕ) (made : ℕ) (h k : History) (fails now : ℕ → Bool) (is : IsDisk left made h fails) (same : k ≡ h) where
   set_disk : (calls : ℕ) → ((i : ℕ) → now i ≡ nat_le (moment h + (max calls 1 - 1)) i) → IsDisk (Some (max calls 1)) made k now
@@ -42,11 +42,11 @@ module _ (left : Option ℕ) (made : ℕ) (h k : History) (fails now : ℕ → B
 module _ (host : Host) (calls : ℕ) (tear : Tear) (h k : Which → History) (fails now : Which → ℕ → Bool) (are : AreDisks host h fails)
     (same : (d : Which) → k d ≡ h d) where
   kept : (d which : Which) → d ≢ which → ((d : Which) → d ≢ which → (i : ℕ) → now d i ≡ fails d i)
-      → IsDisk (fuse_of d host.fuses) (calls_of d host.calls) (k d) (now d)
-  kept d which other keeps = keep_disk (fuse_of d host.fuses) (calls_of d host.calls) (h d) (k d) (fails d) (now d) (are d) (same d) (keeps d other)
+      → IsDisk (of_disk d host.fuses) (of_disk d host.calls) (k d) (now d)
+  kept d which other keeps = keep_disk (of_disk d host.fuses) (of_disk d host.calls) (h d) (k d) (fails d) (now d) (are d) (same d) (keeps d other)
 
-  put : (d : Which) → ((i : ℕ) → now d i ≡ nat_le (moment (h d) + (max calls 1 - 1)) i) → IsDisk (Some (max calls 1)) (calls_of d host.calls) (k d) (now d)
-  put d sets = set_disk (fuse_of d host.fuses) (calls_of d host.calls) (h d) (k d) (fails d) (now d) (are d) (same d) calls sets
+  put : (d : Which) → ((i : ℕ) → now d i ≡ nat_le (moment (h d) + (max calls 1 - 1)) i) → IsDisk (Some (max calls 1)) (of_disk d host.calls) (k d) (now d)
+  put d sets = set_disk (of_disk d host.fuses) (of_disk d host.calls) (h d) (k d) (fails d) (now d) (are d) (same d) calls sets
 
   pub fused_disks : (which : Which) → ((i : ℕ) → now which i ≡ nat_le (moment (h which) + (max calls 1 - 1)) i)
       → ((d : Which) → d ≢ which → (i : ℕ) → now d i ≡ fails d i) → AreDisks (fused_host which calls tear host) k now

@@ -19,7 +19,7 @@ use Rattle.nqs_disk.specs.declared.mem_disk.MemDisk.{MemDisk}
 use Rattle.nqs_rules.specs.Applied.{applied}
 use Rattle.nqs_rules.specs.Stepped.{stored_parts}
 use Rattle.nqs_rules.specs.Notes.{Saw, ByBoot}
-use Rattle.nqs_rules.specs.World.{fuse_of, World as Network, Host, Ran, seen_of, stopped, used, all_starts, halted_host, halts, crashes_up, makes_change}
+use Rattle.nqs_rules.specs.World.{World as Network, Host, Ran, seen_of, stopped, used, all_starts, halted_host, halts, crashes_up, makes_change, of_disk}
 use Rattle.nqs_rules.specs.World.{boot_output, unseen}
 use Rattle.nqs_store.specs.Active.{IsActive, ready, recorded}
 use Rattle.nqs_store.specs.Disks.{disk_at, histories_of, failing_of}
@@ -139,7 +139,7 @@ module _ (h : HostId) (w : Network) (host : Host) (tear : Tear) (packets : List 
         → Turns h (IsSlot slot) tear packets before after w (makes_change h host ByBoot Boot (seen.Boot h ∷ []) (filter_map boot_output host.state.rows) w)
     boot_cut now slot which starved before after saw torn_now fed (inl hungry) = absurd (true≢false (sym hungry ∙ fed))
     boot_cut now slot which starved before after saw torn_now fed (inr (inl blown)) =
-        absurd (unblown (fuse_of which host.fuses) (old which) (fails which) (is.disks which).fuse blown)
+        absurd (unblown (of_disk which host.fuses) (old which) (fails which) (is.disks which).fuse blown)
     boot_cut now slot which starved before after saw torn_now fed (inr (inr cut)) =
         cut_turn h w host tear packets faces (seen.Boot h ∷ []) (filter_map boot_output host.state.rows) ByBoot Boot fails old is.disks now before after saw
         slot which torn_now (down_quiet disks host is Root) is.root cut

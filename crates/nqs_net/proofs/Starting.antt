@@ -32,6 +32,7 @@ use Rattle.nqs_node.specs.Nodes.{content_of}
 use Rattle.nqs_node.specs.declared.node.Node.{Node}
 use Rattle.nqs_rules.specs.Stepped.{map_stepped}
 use Rattle.nqs_rules.proofs.StartPlain.{start-map}
+use Rattle.nqs_rules.proofs.Until.{idle}
 use Rattle.nqs_net.specs.Worlds.{IsUp, IsSlot}
 use Rattle.nqs_net.specs.Turns.{IsDownSlot, IsAt, Turns, Starts}
 use Rattle.nqs_net.specs.declared.slot.Slot.{Slot}
@@ -87,21 +88,11 @@ module _ (h : HostId) (w : Network) (host : Host) (there : host_of h w ≡ Some 
       (fated (fate (stored_parts is.change) host) is.change (map shown x.outputs) (stays host.state calm is.row is.found is.ready is.change is.starts)
       (lower host.state calm is.row is.found is.ready is.change is.starts))
 
-  idle : starts_left host.state ≤ 0 → start w.now host.state ≡ None
-  idle few = by (start w.now host.state) refl
-    where
-      by : (o : Option (Stepped (List ℕ))) → start w.now host.state ≡ o → start w.now host.state ≡ None
-      by None e = e
-      by (Some x) e =
-          let is = start_is w.now host.state x calm e in
-          let less = lower host.state calm is.row is.found is.ready is.change is.starts in
-          absurd (let no : ⊥ = omega (arith, less, few) in no)
-
 -- more than there may be changes nothing
 enough : (n m : ℕ) (h : HostId) (w : Network) (host : Host) → host_of h w ≡ Some host → IsSteady host.state → starts_left host.state ≤ n
     → starts_left host.state ≤ m → starts n h w ≡ starts m h w
-enough zero m h w host there calm few also = sym (none_starts m h w host there (idle h w host there calm few))
-enough (suc n) zero h w host there calm few also = none_starts (suc n) h w host there (idle h w host there calm also)
+enough zero m h w host there calm few also = sym (none_starts m h w host there (idle w.now host.state calm few))
+enough (suc n) zero h w host there calm few also = none_starts (suc n) h w host there (idle w.now host.state calm also)
 enough (suc n) (suc m) h w host there calm few also = ap (by_host n h w) there ∙ of host.up (enough n m) ∙ sym (ap (by_host m h w) there)
   where
     next : (v : Network) → Lowered h host.state v → ((h : HostId) (w : Network) (host : Host) → host_of h w ≡ Some host → IsSteady host.state

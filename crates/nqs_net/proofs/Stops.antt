@@ -9,7 +9,7 @@ use Rattle.nqs_outside.specs.History.{State, History, extended, fresh, state, co
 use Rattle.nqs_outside.proofs.Images.{fresh_image}
 use Rattle.nqs_disk.specs.Torn.{torn}
 use Rattle.nqs_rules.specs.Journals.{is_second, active, is_due, names_same, torn_root}
-use Rattle.nqs_rules.specs.World.{Host, Fate, Made, StoppedBefore, StoppedAfter, spool_calls, keeps_gate, fuse_of, falls_at_journal, falls_at_root, turns_over}
+use Rattle.nqs_rules.specs.World.{Host, Fate, Made, StoppedBefore, StoppedAfter, spool_calls, keeps_gate, falls_at_journal, falls_at_root, turns_over, of_disk}
 use Rattle.nqs_rules.specs.World.{torn_over, ready, recorded, cut_off, fate_of_record, fate}
 use Rattle.nqs_laws.proofs.AlikeRuns.{ready_tear}
 use Rattle.nqs_storage_tears.specs.Roots.{turning}
@@ -112,9 +112,9 @@ module _ (host : Host) (fails : Which → ℕ → Bool) (old : Which → History
     spool_fuse : IsFuse r.fuses.spool (moment (old Spool)) (fails Spool)
     spool_fuse = subst (λ t. IsFuse r.fuses.spool t (fails Spool)) (spool_then old a []) (ready_disks host fails old disks [] past Spool).fuse
 
-    journal_fuse : IsFuse (fuse_of (active r.root) r.fuses) (record_moment a old) (fails (journal_of (ready_in a)))
-    journal_fuse = subst (λ j. IsFuse (fuse_of j r.fuses) (record_moment a old) (fails (journal_of (ready_in a)))) (sym (ap journal_of (ready_active host)))
-        (subst (λ t. IsFuse (fuse_of (journal_of (ready_in a)) r.fuses) t (fails (journal_of (ready_in a)))) (journal_then old a [])
+    journal_fuse : IsFuse (of_disk (active r.root) r.fuses) (record_moment a old) (fails (journal_of (ready_in a)))
+    journal_fuse = subst (λ j. IsFuse (of_disk j r.fuses) (record_moment a old) (fails (journal_of (ready_in a)))) (sym (ap journal_of (ready_active host)))
+        (subst (λ t. IsFuse (of_disk (journal_of (ready_in a)) r.fuses) t (fails (journal_of (ready_in a)))) (journal_then old a [])
         (ready_disks host fails old disks [] past (journal_of (ready_in a))).fuse)
 
     -- not kept
@@ -189,6 +189,6 @@ module _ (host : Host) (fails : Which → ℕ → Bool) (old : Which → History
       past_fate host fails old disks puts kept.past
       ∙ made_record r puts (moment (old Spool)) (record_moment a old) (fails Spool) (fails (journal_of (ready_in a)))
       (subst (λ t. IsFuse r.fuses.spool t (fails Spool)) (spool_then old a []) (fuses Spool).fuse)
-      (subst (λ j. IsFuse (fuse_of j r.fuses) (record_moment a old) (fails (journal_of (ready_in a)))) (sym (ap journal_of (ready_active host)))
-      (subst (λ t. IsFuse (fuse_of (journal_of (ready_in a)) r.fuses) t (fails (journal_of (ready_in a)))) (journal_then old a [])
+      (subst (λ j. IsFuse (of_disk j r.fuses) (record_moment a old) (fails (journal_of (ready_in a)))) (sym (ap journal_of (ready_active host)))
+      (subst (λ t. IsFuse (of_disk (journal_of (ready_in a)) r.fuses) t (fails (journal_of (ready_in a)))) (journal_then old a [])
       (fuses (journal_of (ready_in a))).fuse)) kept.spool kept.journal

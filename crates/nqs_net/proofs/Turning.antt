@@ -20,7 +20,7 @@ use Rattle.nqs_rules.specs.Applied.{applied}
 use Rattle.nqs_rules.specs.Starts.{after_change, after_step}
 use Rattle.nqs_rules.specs.Stepped.{Stepped, shown, stored_parts}
 use Rattle.nqs_rules.specs.Notes.{Why, Note, Saw, Kept, saws, sights}
-use Rattle.nqs_rules.specs.World.{fuse_of, World as Network, Host, Ran, seen_of, Fate, Made, StoppedBefore, StoppedAfter, fate, host_of, put_host, emits}
+use Rattle.nqs_rules.specs.World.{World as Network, Host, Ran, seen_of, Fate, Made, StoppedBefore, StoppedAfter, fate, host_of, put_host, emits, of_disk}
 use Rattle.nqs_rules.specs.World.{ready, recorded, cut_off, stopped, used, change_fated, makes_change, carries_out, steps, then_noted, then_ran}
 use Rattle.nqs_rules.proofs.OutputsOrder.{put_twice}
 use Rattle.nqs_store.specs.Active.{IsActive, ready as ready_in, recorded as recorded_in}
@@ -273,7 +273,7 @@ module _ (h : HostId) (w : Network) (host : Host) (tear : Tear) (packets : List 
       → Turns h (IsSlot slot) tear packets before after w (steps h host why x w)
   stopped_step now slot which starved before after saw is fed quiet holds (inl hungry) = absurd (true≢false (sym hungry ∙ fed))
   stopped_step now slot which starved before after saw is fed quiet holds (inr (inl blown)) =
-      absurd (unblown (fuse_of which host.fuses) (old which) (fails which) (disks which).fuse blown)
+      absurd (unblown (of_disk which host.fuses) (old which) (fails which) (disks which).fuse blown)
   stopped_step now slot which starved before after saw is fed quiet holds (inr (inr cut)) =
       cut_step now slot which before after saw is quiet holds cut
 

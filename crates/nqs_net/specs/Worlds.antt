@@ -1,13 +1,13 @@
 -- A world in memory, and the pure machine that it stands for.
 use Rattle.std.specs.Prelude.{◌≡◌, ℕ, ◌+◌, ◌-◌, ◌≤◌, nat_le, Bool, true, false, List, [], ◌∷◌, Option, None, Some}
 use Rattle.nqs_types.specs.declared.world.Which.{Which}
-use Rattle.nqs_types.specs.declared.world.Which.TheVariants.{Root, First, Second, Spool}
+use Rattle.nqs_types.specs.declared.world.Which.TheVariants.{Root}
 use Rattle.nqs_base.specs.declared.tear.Tear.{Tear}
 use Rattle.nqs_outside.specs.History.{Call, write, sync, History, content, moment}
 use Rattle.nqs_disk.specs.MemDisk as mem
 use Rattle.nqs_disk.specs.declared.mem_disk.MemDisk.{MemDisk}
 use Rattle.nqs_rules.specs.Journals.{is_second}
-use Rattle.nqs_rules.specs.World.{Calls, Host, World as Network, fuse_of}
+use Rattle.nqs_rules.specs.World.{Host, World as Network, of_disk}
 use Rattle.nqs_store.specs.Active.{Active, IsActive}
 use Rattle.nqs_store.specs.Disks.{histories_of, failing_of, contents}
 use Rattle.nqs_store.specs.declared.disks.Disks.{Disks}
@@ -24,13 +24,6 @@ use Rattle.nqs_net.specs.declared.world.World.{World}
 -- the active journal of a host
 abbrev pub active_in : Host → Active
 active_in host = record { second = is_second host.root; records = host.records }
-
--- how many calls were made of a disk
-abbrev pub calls_of : Which → Calls → ℕ
-calls_of Root calls = calls.root
-calls_of First calls = calls.first
-calls_of Second calls = calls.second
-calls_of Spool calls = calls.spool
 
 -- After so many calls, this many are left until one is to fail, and each later one.
 abbrev pub IsFuse : Option ℕ → ℕ → (ℕ → Bool) → Type 0
@@ -51,7 +44,7 @@ pub record IsDisk (left : Option ℕ) (made : ℕ) (h : History) (fails : ℕ �
 
 -- each disk has made as many calls as the host says, and has the fuse that it says
 abbrev pub AreDisks : Host → (Which → History) → (Which → ℕ → Bool) → Type 0
-AreDisks host histories fails = (which : Which) → IsDisk (fuse_of which host.fuses) (calls_of which host.calls) (histories which) (fails which)
+AreDisks host histories fails = (which : Which) → IsDisk (of_disk which host.fuses) (of_disk which host.calls) (histories which) (fails which)
 
 -- A node that is up. Its root holds what the host says, and its active journal is the host's. At
 -- each moment since its disks were new or torn, whatever images they may leave then tell the state

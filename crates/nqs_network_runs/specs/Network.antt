@@ -9,8 +9,9 @@ use Rattle.nqs_state.specs.State.{Plain}
 use Rattle.nqs_rules.specs.Find.{has_row, has_promise, find_hand, find_peer, find_promise}
 use Rattle.nqs_rules.specs.Handover.{is_not_given_here}
 use Rattle.nqs_rules.specs.World.{World}
+use Rattle.nqs_rules.specs.Net.{is_committed_to}
 use Rattle.nqs_laws.specs.Between.{HasGivenNumber, PromisesAreNext, PromisesAgree, PromisesAreMeant}
-use Rattle.nqs_laws.specs.Handovers.{IsStateOf, WasSent, is_open, is_committed_to, is_last_given, AreInStep, IsTrueOf}
+use Rattle.nqs_laws.specs.Handovers.{IsStateOf, WasSent, is_open, is_last_given, AreInStep, IsTrueOf}
 use Rattle.nqs_laws.specs.Sending.{word}
 use Rattle.nqs_laws.specs.Whole.{IsVerdict, IsSettledInThree}
 

@@ -7,54 +7,32 @@ use Rattle.nqs_state.specs.State.{Plain}
 use Rattle.nqs_base.specs.declared.extent.Extent.{Extent}
 use Rattle.nqs_types.specs.declared.change.Change.{Change}
 use Rattle.nqs_types.specs.declared.world.Which.{Which}
-use Rattle.nqs_types.specs.declared.world.Which.TheVariants.{First, Second, Spool}
+use Rattle.nqs_types.specs.declared.world.Which.TheVariants.{First, Second}
 use Rattle.nqs_outside.specs.History.{State, History, state, after, IsImage, IsQuiet}
 use Rattle.nqs_outside.specs.declared.disk.Disk as disk
-use Rattle.nqs_journal.specs.Plan.{append_calls}
 use Rattle.nqs_rules.specs.Applied.{applied}
 use Rattle.nqs_rules.specs.Journals.{journal_on}
 use Rattle.nqs_rules.specs.Stepped.{stored_parts}
-use Rattle.nqs_store.specs.Active.{Active, journal_of, ready}
+use Rattle.nqs_store.specs.Active.{Active}
 use Rattle.nqs_store.specs.Commits.{EachImage, Keeping}
 use Rattle.nqs_store.specs.Sound.{IsSoundHost}
 use Rattle.nqs_store.specs.Told.{Host}
 use Rattle.nqs_store.specs.Stores.{history_of, plain_of, Tells}
 use Rattle.nqs_store.specs.declared.store.Store.{Store}
 use Rattle.nqs_store.specs.Images.{IsTold}
-use Rattle.nqs_store.specs.Hosts.{HostCall, Runs, StopsShort, on, part}
-use Rattle.nqs_store.specs.Plan.{CommitsBy, due_calls, puts_calls, change_calls, commit_calls}
+use Rattle.nqs_store.specs.Hosts.{HostCall, Runs, StopsShort, part}
 use Rattle.nqs_store.proofs.EachDisk.{each_disk}
-use Rattle.nqs_store.proofs.HostRuns.{none_stops}
 use Rattle.nqs_store.proofs.Kept.{idle_commits, left_alone}
 use Rattle.nqs_store.proofs.Runs.{none_more}
 use Rattle.nqs_store.proofs.TellsNow.{told_now, active_quiet}
+use Rattle.nqs_store.proofs.Composed.{none_begun}
 use Rattle.nqs_node.specs.Carried.{Kept, IsOneOrOther}
 use Rattle.nqs_node.specs.Makes.{Makes}
 
 -- no call of a commit was made
 
-none_begun : (a : Active) (snapshot places : List ℕ) (puts : List (List ℕ)) (gate : ℕ) (payload : List ℕ)
-    → StopsShort (commit_calls a snapshot places puts gate payload) []
-none_begun a snapshot places puts gate payload =
-    none_stops (due_calls a snapshot) (change_calls (ready a) places puts gate payload)
-    (none_stops (on Spool (puts_calls places puts)) (on (journal_of (ready a)) (append_calls gate payload)) tt)
-
 none_runs : (old : Which → History) → Runs old old []
 none_runs old which = none_more (old which)
-
-pub none_broken : (a : Active) (puts : List (List ℕ)) (old : Which → History) → CommitsBy StopsShort a puts old old
-none_broken a puts old =
-    let places : List ℕ = map (λ (l : List ℕ). 0) puts in
-    record {
-      snapshot = [];
-      places = places;
-      gate = 0;
-      payload = [];
-      run = [];
-      many = length-map puts (λ (l : List ℕ). 0);
-      stands = none_begun a [] places puts 0 [];
-      made = none_runs old;
-    }
 
 -- A change is to be kept, and no call of its commit was made yet: quiet disks that tell a state
 -- still tell it.

@@ -4,7 +4,7 @@ use Rattle.std.proofs.Common.{◌≡◌, ℕ, Bool, true, false, not, ◌&&◌, 
 use Rattle.std.proofs.Common.{◌∙◌}
 use Rattle.std.proofs.Common.{if◌then◌else◌, true≢false}
 use Rattle.std.specs.List.{list_any, AllByRecursion}
-use Rattle.std.specs.Option.{IfSome, option_map, option_and_then}
+use Rattle.std.specs.Option.{IfSome, option_map, option_and_then, option_or}
 use Rattle.std.proofs.lemmas.Bool.{and_parts, or_parts, or_from}
 use Rattle.std.proofs.Math.Bool.{and-false}
 use Rattle.std.proofs.lemmas.Option.{same_Some, none-some}
@@ -19,7 +19,7 @@ use Rattle.nqs_index.specs.Keys.{is_before, key_of}
 use Rattle.nqs_index.specs.Lines.{IsInOrder, StandsBehind, same_key}
 use Rattle.nqs_index.specs.declared.class.Class.{Class}
 use Rattle.nqs_index.specs.Classes.{class_eq, class_exact, class_of}
-use Rattle.nqs_order.specs.ByIndex.{is_eligible, with_row, if_passes, startable, found_or, first_in, leads, is_ahead}
+use Rattle.nqs_order.specs.ByIndex.{is_eligible, with_row, if_passes, startable, first_in, leads, is_ahead}
 use Rattle.nqs_index.proofs.OrderLemmas.{key_exact, not_itself, chain}
 
 turned : (b : Bool) → not b ≡ false → b ≡ true
@@ -123,7 +123,7 @@ module _ {E : Type 0} (index : Index) (s : State E) (d : QueueDef) (now : ℕ) w
         parts = or_parts (is_wrong c e) (list_any (is_wrong c) es) right
 
         by : (f : Option (ℕ × Row E)) → startable index d now s e.id ≡ f → list_any (is_better (first_in index d now s es)) es ≡ false
-            → list_any (is_better (found_or f (first_in index d now s es))) (e ∷ es) ≡ false
+            → list_any (is_better (option_or f (first_in index d now s es))) (e ∷ es) ≡ false
         by None is rest = or_from (is_better (first_in index d now s es) e) (list_any (is_better (first_in index d now s es)) es)
             (ap (λ o. is_some o && leads (first_in index d now s es) e.key) is) rest
         by (Some q) is rest =
@@ -138,7 +138,7 @@ module _ {E : Type 0} (index : Index) (s : State E) (d : QueueDef) (now : ℕ) w
         parts = or_parts (is_wrong c e) (list_any (is_wrong c) es) right
 
         by : (f : Option (ℕ × Row E)) → startable index d now s e.id ≡ f → IfSome (first_in index d now s es) IsThere
-            → IfSome (found_or f (first_in index d now s es)) IsThere
+            → IfSome (option_or f (first_in index d now s es)) IsThere
         by None is rest = rest
         by (Some q) is rest = (told c e q parts.0 is).there
 
@@ -148,6 +148,6 @@ module _ {E : Type 0} (index : Index) (s : State E) (d : QueueDef) (now : ℕ) w
   first_some (e ∷ es) = by (startable index d now s e.id) (first_some es)
     where
       by : (f : Option (ℕ × Row E)) → is_some (first_in index d now s es) ≡ list_any (λ e. is_some (startable index d now s e.id)) es
-          → is_some (found_or f (first_in index d now s es)) ≡ (is_some f || list_any (λ e. is_some (startable index d now s e.id)) es)
+          → is_some (option_or f (first_in index d now s es)) ≡ (is_some f || list_any (λ e. is_some (startable index d now s e.id)) es)
       by None rest = rest
       by (Some q) rest = refl

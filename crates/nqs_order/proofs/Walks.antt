@@ -2,7 +2,7 @@
 use Rattle.std.proofs.Common.{◌≡◌, ℕ, ◌+◌, ◌-◌, ◌<◌, ◌≤◌, Bool, true, false, ◌&&◌, nat_lt, List, ◌∷◌, drop, Option, None, Some, is_some, slice_get, refl, sym}
 use Rattle.std.proofs.Common.{ap}
 use Rattle.std.proofs.Common.{◌∙◌, arith, true≢false}
-use Rattle.std.specs.Option.{option_map}
+use Rattle.std.specs.Option.{option_map, option_or}
 use Rattle.std.proofs.lemmas.Bool.Decides.{nat_tests}
 use Rattle.nqs_base_tables.proofs.TableLemmas.{drop-at}
 use Rattle.nqs_state.specs.State.{State}
@@ -11,7 +11,7 @@ use Rattle.nqs_types.specs.declared.request.Row.{Row}
 use Rattle.nqs_index.specs.declared.index.Index.{Index}
 use Rattle.nqs_index.specs.declared.line.Entry.{Entry}
 use Rattle.nqs_index.specs.declared.classes.ClassLine.{ClassLine}
-use Rattle.nqs_order.specs.ByIndex.{running_once, fewer_run, running_in_batch, fewer_in_batch, startable, found_or, first_in, better_of, first_among}
+use Rattle.nqs_order.specs.ByIndex.{running_once, fewer_run, running_in_batch, fewer_in_batch, startable, first_in, better_of, first_among}
 
 less_than : (m n left : ℕ) → n ≡ m → n < left → nat_lt m left ≡ true
 less_than m n left is less = grind (arith, nat_tests)
@@ -45,24 +45,24 @@ module _ {E : Type 0} (index : Index) (d : QueueDef) (now : ℕ) (s : State E) (
   abbrev rest : Option (ℕ × Row E)
   rest = first_in index d now s (drop (i + 1) es)
 
-  one_looked_at : (e : Entry) → slice_get es i ≡ Some e → found_or (startable index d now s e.id) rest ≡ first_in index d now s (drop i es)
+  one_looked_at : (e : Entry) → slice_get es i ≡ Some e → option_or (startable index d now s e.id) rest ≡ first_in index d now s (drop i es)
   one_looked_at e at = sym (ap (first_in index d now s) (drop-at es i e at))
 
   module _ {X : Type 0} (f : ℕ × X → ℕ × Row E) (o : Option (ℕ × X)) (e : Entry) (at : slice_get es i ≡ Some e)
       (is : option_map f o ≡ startable index d now s e.id) where
     -- an entry whose row may not start
     pub first_on : is_some o ≡ false → rest ≡ first_in index d now s (drop i es)
-    first_on none = of o none ∙ ap (λ o. found_or o rest) is ∙ one_looked_at e at
+    first_on none = of o none ∙ ap (λ o. option_or o rest) is ∙ one_looked_at e at
       where
-        of : (o : Option (ℕ × X)) → is_some o ≡ false → rest ≡ found_or (option_map f o) rest
+        of : (o : Option (ℕ × X)) → is_some o ≡ false → rest ≡ option_or (option_map f o) rest
         of None h = refl
         of (Some p) h = absurd (true≢false h)
 
     -- one whose row may
     pub first_found : is_some o ≡ true → option_map f o ≡ first_in index d now s (drop i es)
-    first_found some = of o some ∙ ap (λ o. found_or o rest) is ∙ one_looked_at e at
+    first_found some = of o some ∙ ap (λ o. option_or o rest) is ∙ one_looked_at e at
       where
-        of : (o : Option (ℕ × X)) → is_some o ≡ true → option_map f o ≡ found_or (option_map f o) rest
+        of : (o : Option (ℕ × X)) → is_some o ≡ true → option_map f o ≡ option_or (option_map f o) rest
         of None h = absurd (true≢false (sym h))
         of (Some p) h = refl
 

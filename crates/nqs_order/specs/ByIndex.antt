@@ -3,7 +3,7 @@
 use Rattle.std.specs.Prelude.{ℕ, ◌-◌, Bool, true, false, not, ◌&&◌, ◌||◌, ◌==◌, nat_lt, nat_le, if◌then◌else◌, List, [], ◌∷◌, length, position, slice_get}
 use Rattle.std.specs.Prelude.{Option, None, Some, is_some}
 use Rattle.std.specs.List.{list_all, list_any}
-use Rattle.std.specs.Option.{option_map, option_and_then}
+use Rattle.std.specs.Option.{option_map, option_and_then, option_or}
 use Rattle.nqs_base_tables.specs.Table.{best_from}
 use Rattle.nqs_state.specs.State.{State}
 use Rattle.nqs_state.specs.Keys.{is_row}
@@ -114,15 +114,10 @@ module _ {E : Type 0} where
   abbrev pub startable : Index → QueueDef → ℕ → State E → RequestId → Option (ℕ × Row E)
   startable index d now s id = option_and_then (if_passes (is_eligible index d now s)) (option_and_then (with_row s) (position (is_row id) s.rows))
 
-  -- what was found, or else another one
-  abbrev pub found_or : Option (ℕ × Row E) → Option (ℕ × Row E) → Option (ℕ × Row E)
-  found_or None other = other
-  found_or (Some p) other = Some p
-
   -- the row of the first entry whose row may start, with its place
   abbrev pub first_in : Index → QueueDef → ℕ → State E → List Entry → Option (ℕ × Row E)
   first_in index d now s [] = None
-  first_in index d now s (e ∷ es) = found_or (startable index d now s e.id) (first_in index d now s es)
+  first_in index d now s (e ∷ es) = option_or (startable index d now s e.id) (first_in index d now s es)
 
   -- a destination may be tried by a request that none has refused
   abbrev pub is_open : ℕ → State E → Dest → Bool

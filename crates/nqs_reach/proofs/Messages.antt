@@ -1,6 +1,6 @@
 -- What one message makes of a state: it stays within reach of its sender.
-use Rattle.std.proofs.Common.{◌≡◌, ℕ, ◌+◌, ◌-◌, ◌≤◌, Bool, true, false, not, ◌||◌, ◌==◌, nat_lt, List, [], ◌∷◌, ◌++◌, map, filter, find, Option, None, Some, le_refl}
-use Rattle.std.proofs.Common.{option_map, Result, Ok, Err, true≢false, refl, sym, ap, subst, ◌∙◌, arith, if◌then◌else◌}
+use Rattle.std.proofs.Common.{◌≡◌, ℕ, ◌+◌, ◌-◌, ◌≤◌, Bool, true, false, not, ◌||◌, ◌==◌, nat_lt, List, [], ◌∷◌, ◌++◌, map, filter, find, Option, None, Some}
+use Rattle.std.proofs.Common.{le_refl, option_map, Result, Ok, Err, true≢false, refl, sym, ap, subst, ◌∙◌, arith, if◌then◌else◌}
 use Rattle.std.proofs.lemmas.Bool.{and_parts, and_from, or_parts, or_from, or_left, or_right, not_from_true, false_from_ne_true}
 use Rattle.std.proofs.lemmas.List.{append-nil}
 use Rattle.std.proofs.lemmas.List.Folds.{list_any-append}
@@ -26,13 +26,14 @@ use Rattle.nqs_types.specs.declared.refusal.Refusal.TheVariants.{NoQueue, HostFu
 use Rattle.nqs_types.specs.declared.change.OutPart.{OutPart}
 use Rattle.nqs_types.specs.declared.change.Change.TheVariants.{Accepted, Dropped, StageGot, StageGone}
 use Rattle.nqs_types.specs.declared.message.Body.{Body}
+use Rattle.nqs_state.specs.Least.{runs_now}
 use Rattle.nqs_types.specs.declared.message.Body.TheVariants as body
 use Rattle.nqs_types.specs.declared.event.Output.TheVariants as out
 use Rattle.nqs_rules.specs.Tests.{passes, is_running, is_offered, last_u64}
 use Rattle.nqs_rules.specs.Causes.{Cause, cause, first_refusal}
 use Rattle.nqs_rules.specs.Find.{has_row, find_row, has_promise, has_stage, find_hand, find_promise, find_peer, peer_number, has_queue, find_queue}
 use Rattle.nqs_rules.specs.Edits.{change_at, change_peer}
-use Rattle.nqs_rules.specs.Fits.{runs, offer_full}
+use Rattle.nqs_rules.specs.Fits.{offer_full}
 use Rattle.nqs_rules.specs.Routing.{is_hand_to, close, dests_for, refusal_noted}
 use Rattle.nqs_rules.specs.Rows.{causes_of, arrivals_used}
 use Rattle.nqs_rules.specs.Applied.{is_offered_for, is_promise_of, committed, requeued_row, new_row, drop_hand, drop_promise, hand_committed}
@@ -221,7 +222,7 @@ module _ {E : Type 0} where
       left = λ id has. or_left (has_row id t) (list_any (is_given_to peer id) t.hands) (ap (list_any (is_row id)) rows ∙ has);
       came = λ id none new. ap (list_any (is_row id)) rows ∙ new;
       offers = λ id none. ap (list_any (is_offered_for id)) hands ∙ none;
-      running = λ none. ap (filter runs) rows;
+      running = λ none. ap (filter runs_now) rows;
       lasts = λ distinct id r q. same_row (find_row id s) (find_row id t) (ap (find (is_row id)) rows) r q;
     }
 
@@ -256,7 +257,7 @@ module _ {E : Type 0} where
         left = λ id has. by id has (id_eq id h.id) refl;
         came = λ id none new. part_none (is_row id) (without_part (is_row h.id) s.rows) new;
         offers = λ id none. none_changed (is_hand (peer_number peer n)) (is_offered_for id) committed (λ x. refl) s.hands none;
-        running = λ none. kept_without runs (is_row h.id) s.rows (idle none);
+        running = λ none. kept_without runs_now (is_row h.id) s.rows (idle none);
         lasts = λ distinct id r q found there. stays distinct id r q found there (id_eq id h.id) refl;
       }
         where
@@ -295,7 +296,7 @@ module _ {E : Type 0} where
             (any-changed id_eq (λ r. r.id) id_exact same_id (is_row h.id) waits same_request id s.rows ∙ has);
         came = λ id none new. any-changed id_eq (λ r. r.id) id_exact same_id (is_row h.id) waits same_request id s.rows ∙ new;
         offers = λ id none. part_none (is_offered_for id) (without_part (is_hand (peer_number peer n)) s.hands) none;
-        running = λ none. kept_changed runs (is_row h.id) waits (λ r e. queued r) s.rows (idle none);
+        running = λ none. kept_changed runs_now (is_row h.id) waits (λ r e. queued r) s.rows (idle none);
         lasts = λ distinct id r q found there. stays id r q found there (id_eq id h.id) refl;
       }
         where
@@ -321,7 +322,7 @@ module _ {E : Type 0} where
           stays id r q found there false e = same_row (find_row id s) (find (is_row id) rows)
               (found_other id_eq (λ r. r.id) id_exact waits same_request id h.id s.rows e) r q found there
 
-          queued : (r : Row E) → runs (waits r) ≡ false
+          queued : (r : Row E) → runs_now (waits r) ≡ false
           queued r = noted_kept (λ y. is_running y.state) (λ y l. refl) (λ y. refl) (dests_for r s) (record { queue = h.queue; host = h.peer }) refusal
               (requeued_row r)
 
@@ -418,7 +419,7 @@ module _ {E : Type 0} where
               (id_eq id p.row.id || false) new (or_from (id_eq id p.row.id) false (false_from_ne_true (id_eq id p.row.id) (λ e.
               true≢false (sym promised_it ∙ ap (λ i. list_any (is_promised_to peer i) s.promises) (sym (id_exact id p.row.id e)) ∙ none))) refl);
           offers = λ id none. none;
-          running = λ none. kept_added runs s.rows (requeued_row p.row) refl;
+          running = λ none. kept_added runs_now s.rows (requeued_row p.row) refl;
           lasts = λ distinct id r q found there. ap lasting (same_Some q r (sym there ∙ found_before (is_row id) s.rows (requeued_row p.row ∷ []) r found));
         }
 

@@ -14,11 +14,11 @@ use Rattle.nqs_types.specs.declared.ids.RequestId.{RequestId}
 use Rattle.nqs_types.specs.declared.request.Row.{Row}
 use Rattle.nqs_types.specs.declared.rule.Rank.TheVariants.{Manager, Operator, User}
 use Rattle.nqs_types.specs.declared.event.Command.{Command}
+use Rattle.nqs_state.specs.Least.{runs_now}
 use Rattle.nqs_rules.specs.Tests.{is_running}
 use Rattle.nqs_rules.specs.Access.{rank, may_command}
 use Rattle.nqs_rules.specs.Applied.{is_offered_for}
 use Rattle.nqs_rules.specs.Find.{has_row, find_row, has_name}
-use Rattle.nqs_rules.specs.Fits.{runs}
 use Rattle.nqs_rules.specs.InOrder.{IsInOrder, are_distinct}
 use Rattle.nqs_rules.proofs.KeyFacts.{none_from_all}
 use Rattle.nqs_rules.proofs.ListFacts.{not_true}
@@ -131,26 +131,26 @@ module _ {E : Type 0} where
 
   -- running requests of a host in order
 
-  found_running : (id : RequestId) (rows : List (Row E)) → are_distinct id_eq (map (λ r. r.id) rows) ≡ true → list_any (is_row id) (filter runs rows) ≡ true
+  found_running : (id : RequestId) (rows : List (Row E)) → are_distinct id_eq (map (λ r. r.id) rows) ≡ true → list_any (is_row id) (filter runs_now rows) ≡ true
       → (r : Row E) × (find (is_row id) rows ≡ Some r) × (is_running r.state ≡ true)
   found_running id [] distinct h = absurd (true≢false (sym h))
   found_running id (x ∷ rows) distinct h =
-      by (is_row id x) refl (runs x) refl (and_parts (not (list_any (id_eq x.id) (map (λ r. r.id) rows)))
+      by (is_row id x) refl (runs_now x) refl (and_parts (not (list_any (id_eq x.id) (map (λ r. r.id) rows)))
       (are_distinct id_eq (map (λ r. r.id) rows)) distinct) h
       (found_running id rows)
     where
-      by : (b : Bool) → is_row id x ≡ b → (c : Bool) → runs x ≡ c
+      by : (b : Bool) → is_row id x ≡ b → (c : Bool) → runs_now x ≡ c
           → (not (list_any (id_eq x.id) (map (λ r. r.id) rows)) ≡ true) × (are_distinct id_eq (map (λ r. r.id) rows) ≡ true)
-          → list_any (is_row id) (cond c (x ∷ filter runs rows) (filter runs rows)) ≡ true
-          → (are_distinct id_eq (map (λ r. r.id) rows) ≡ true → list_any (is_row id) (filter runs rows) ≡ true
+          → list_any (is_row id) (cond c (x ∷ filter runs_now rows) (filter runs_now rows)) ≡ true
+          → (are_distinct id_eq (map (λ r. r.id) rows) ≡ true → list_any (is_row id) (filter runs_now rows) ≡ true
           → (r : Row E) × (find (is_row id) rows ≡ Some r) × (is_running r.state ≡ true))
           → (r : Row E) × (cond b (Some x) (find (is_row id) rows) ≡ Some r) × (is_running r.state ≡ true)
       by true e true k d h rest = (x, refl, k)
       by true e false k d h rest =
           let none : list_any (is_row id) rows ≡ false = sym (list_any-map (λ r. r.id) (id_eq id) rows)
           ∙ ap (λ i. list_any (id_eq i) (map (λ r. r.id) rows)) (id_exact id x.id e) ∙ not-true _ d.0 in
-          absurd (true≢false (sym h ∙ part_none (is_row id) (filter_part runs rows) none))
-      by false e true k d h rest = rest d.1 (ap (λ b. b || list_any (is_row id) (filter runs rows)) (sym e) ∙ h)
+          absurd (true≢false (sym h ∙ part_none (is_row id) (filter_part runs_now rows) none))
+      by false e true k d h rest = rest d.1 (ap (λ b. b || list_any (is_row id) (filter runs_now rows)) (sym e) ∙ h)
       by false e false k d h rest = rest d.1 h
 
   pub none_offered : (s : State E) → IsInOrder s → NoneOffered s

@@ -14,11 +14,12 @@ use Rattle.nqs_types.specs.declared.request.Peer.{Peer}
 use Rattle.nqs_types.specs.declared.request.Stage.{Stage}
 use Rattle.nqs_types.specs.declared.request.FileOut.{FileOut}
 use Rattle.nqs_types.specs.declared.event.Output.{Output}
+use Rattle.nqs_state.specs.Least.{runs_now}
 use Rattle.nqs_types.specs.declared.event.Output.TheVariants as out
 use Rattle.nqs_rules.specs.Applied.{is_offered_for, is_promise_of}
 use Rattle.nqs_rules.specs.Edits.{change_at}
 use Rattle.nqs_rules.specs.Find.{has_row}
-use Rattle.nqs_rules.specs.Fits.{runs, is_committed_hand}
+use Rattle.nqs_rules.specs.Fits.{is_committed_hand}
 use Rattle.nqs_rules.specs.Routing.{is_hand_to}
 use Rattle.nqs_rules.specs.Stage.{is_stage_to}
 use Rattle.nqs_rules.specs.Tests.{same_host}
@@ -70,7 +71,7 @@ module _ {E : Type 0} where
 
   -- the rows that run
   abbrev pub running_rows : State E → List (Row E)
-  running_rows s = filter runs s.rows
+  running_rows s = filter runs_now s.rows
 
   -- a row but for what an answer to its offer may change: its state, its hold and its refusals
   abbrev pub lasting : Row E → Row E

@@ -11,7 +11,7 @@ use Rattle.nqs_rules.specs.Tests.{passes}
 use Rattle.nqs_rules.specs.Causes.{Cause, cause, first_refusal}
 use Rattle.nqs_rules.specs.Find.{find_queue, meant_row}
 use Rattle.nqs_rules.specs.Rows.{causes_of, arrivals_used, idle_causes, move_entry_causes, move_causes, is_host_full, numbers_used, queue_entry_causes}
-use Rattle.nqs_rules.specs.Rows.{submit_causes_at, is_pipe_named, named_causes, rows_causes}
+use Rattle.nqs_rules.specs.Rows.{submit_causes_at, named_causes, rows_causes}
 use Rattle.nqs_types.specs.declared.ids.Named.{Named}
 use Rattle.nqs_types.specs.declared.request.Job.{Job}
 use Rattle.nqs_types.specs.declared.request.Row.{Row}
@@ -19,6 +19,7 @@ use Rattle.nqs_types.specs.declared.queue.QueueDef.{QueueDef}
 use Rattle.nqs_types.specs.declared.refusal.Refusal.{Refusal}
 use Rattle.nqs_types.specs.declared.refusal.Refusal.TheVariants.{NoQueue, WrongKind, HostFull, NumbersUsed}
 use Rattle.nqs_types.specs.declared.edit.RowsEdit.TheVariants.{AbortQueue, MoveRequest}
+use Rattle.nqs_rules.specs.Conf.{is_pipe_queue}
 
 -- where nothing is refused the last cause doesn't hold
 last_fails : (cs : List Cause) (b : Bool) (r : Refusal) → IsTrue (is_ok (first_refusal (cs ++ cause b r ∷ []))) → b ≡ false
@@ -59,10 +60,10 @@ module _ {E : Type 0} (s : State E) where
   move_absent id r q h = (λ i. first_refusal (move_part id r q (sym (queue_missing q s (sym h)) i) (h i)))
 
   abbrev abort_part : List ℕ → Bool → Option QueueDef → List Cause
-  abort_part q there found = cause (not there) (NoQueue q) ∷ cause (passes is_pipe_named found) WrongKind ∷ []
+  abort_part q there found = cause (not there) (NoQueue q) ∷ cause (passes is_pipe_queue found) WrongKind ∷ []
 
   pub abort_found : (q : List ℕ) (d : QueueDef) → Some d ≡ find_queue q s
-      → first_refusal (cause (is_pipe_named d) WrongKind ∷ []) ≡ first_refusal (rows_causes (AbortQueue q) s)
+      → first_refusal (cause (is_pipe_queue d) WrongKind ∷ []) ≡ first_refusal (rows_causes (AbortQueue q) s)
   abort_found q d h = (λ i. first_refusal (abort_part q (sym (queue_there q s d (sym h)) i) (h i)))
 
   pub abort_absent : (q : List ℕ) → None ≡ find_queue q s → Err (NoQueue q) ≡ first_refusal (rows_causes (AbortQueue q) s)

@@ -2,19 +2,10 @@
 use Rattle.std.specs.Prelude.{ℕ, ◌+◌, List, [], ◌++◌}
 use Rattle.nqs_state.specs.State.{State}
 use Rattle.nqs_rules.specs.Causes.{Cause}
-use Rattle.nqs_rules.specs.Access.{entry_causes}
-use Rattle.nqs_rules.specs.Limits.{over_causes}
 use Rattle.nqs_rules.specs.Rows.{idle_causes, hold_causes, release_causes, move_causes, held_row, released_row, moved_row, with_priority}
-use Rattle.nqs_types.specs.declared.request.Job.{Job}
 use Rattle.nqs_types.specs.declared.request.Row.{Row}
-use Rattle.nqs_types.specs.declared.queue.QueueDef.{QueueDef}
-use Rattle.nqs_types.specs.declared.rule.Entry.{Entry}
 use Rattle.nqs_types.specs.declared.edit.RowsEdit.{RowsEdit}
 use Rattle.nqs_types.specs.declared.edit.RowsEdit.TheVariants.{AbortQueue, HoldRequest, ReleaseRequest, MoveRequest, ModifyRequest}
-
--- why a job isn't let into a queue
-abbrev pub job_causes : QueueDef → Job → Entry → List Cause
-job_causes d job entry = entry_causes d job.owner entry ++ over_causes d job.limits
 
 module _ {E : Type 0} where
   -- why the row of an edit's request refuses it

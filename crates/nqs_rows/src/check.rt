@@ -6,7 +6,8 @@ ghost use Rattle.nqs_rules.specs.Causes.{cause, first_refusal};
 ghost use Rattle.nqs_rules.specs.Find.{meant_row};
 ghost use Rattle.nqs_rules.specs.Access.{rank, is_plain_user};
 ghost use Rattle.nqs_rules.specs.Rows.{arrivals_used, delete_row_causes, delete_causes, named_causes, idle_causes, hold_causes, release_causes};
-ghost use Rattle.nqs_rules.specs.Rows.{move_entry_causes, move_causes, is_pipe_named, rows_causes};
+ghost use Rattle.nqs_rules.specs.Rows.{move_entry_causes, move_causes, rows_causes};
+ghost use Rattle.nqs_rules.specs.Conf.{is_pipe_queue};
 ghost use Rattle.nqs_rows.specs.OneRow.{row_causes};
 
 use crate::entry::check_job;
@@ -127,7 +128,7 @@ fn check_named(state: &HostState, request: &Named, edit: &RowsEdit) -> Result<()
 }
 
 fn check_kind(queue: &QueueDef) -> Result<(), Refusal>
-    ensures { result ≡ first_refusal (cause (is_pipe_named queue.now) Refusal.WrongKind ∷ []) }
+    ensures { result ≡ first_refusal (cause (is_pipe_queue queue.now) Refusal.WrongKind ∷ []) }
 {
     if queue.kind == Kind::Pipe {
         return Err(Refusal::WrongKind);

@@ -2,7 +2,7 @@
 
 ghost use Rattle.std.specs.Prelude.{◌≡◌};
 ghost use Rattle.nqs_rules.specs.Causes.{first_refusal};
-ghost use Rattle.nqs_rows.specs.OneRow.{job_causes};
+ghost use Rattle.nqs_rules.specs.Rows.{job_causes};
 
 use nqs_access::may_use;
 use nqs_limits::over_limits;
@@ -10,7 +10,7 @@ use nqs_types::{Entry, Job, QueueDef, Refusal};
 
 /// Whether a job is let into the queue: whether its owner is, and then whether its limits are
 /// within the queue's.
-pub(crate) fn check_job(queue: &QueueDef, job: &Job, entry: Entry) -> Result<(), Refusal>
+pub fn check_job(queue: &QueueDef, job: &Job, entry: Entry) -> Result<(), Refusal>
     ensures { result ≡ first_refusal (job_causes queue.now job.now entry) }
 {
     may_use(queue, &job.owner, entry)?;

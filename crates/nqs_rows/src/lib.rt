@@ -15,6 +15,7 @@ mod submit;
 
 pub use apply::apply_rows;
 pub use check::{check_delete, check_rows};
+pub use entry::check_job;
 pub use meant::meant_row;
 pub use room::{arrivals_used, check_arrivals, is_host_full, offer_full};
 pub use submit::check_submit;

@@ -27,6 +27,7 @@ use Rattle.nqs_types.specs.declared.change.Change.{Change}
 use Rattle.nqs_types.specs.declared.change.Change.TheVariants.{Site, Submitted, Deleted, Doomed, Started, Ended, Unlaunched, Boot, Edited, HandOpened}
 use Rattle.nqs_types.specs.declared.change.Change.TheVariants.{HandCommitted, HandRefused, HandsSilent, HandDone, Promised, Accepted, Dropped, MovedLocal}
 use Rattle.nqs_types.specs.declared.change.Change.TheVariants.{RefusedLocal, HeldFar, StageGot, StageGone, FileGone}
+use Rattle.nqs_state.specs.Least.{runs_now}
 use Rattle.nqs_rules.specs.Tests.{passes, is_ready, is_running, is_queued, is_unheld, is_offered, is_committed}
 use Rattle.nqs_rules.specs.Find.{peer_number, find_hand, find_peer}
 use Rattle.nqs_rules.specs.Edits.{change_row, change_peer, drop_row}
@@ -38,7 +39,7 @@ use Rattle.nqs_rules.specs.Rows.{with_priority, next_arrival}
 use Rattle.nqs_rules.specs.Routing.{dests_for, is_hand_to}
 use Rattle.nqs_rules.specs.Applied.{applied, edit_applied, access_applied, doomed_row, started_row, held_far, moved_local, local_refused, hand_committed}
 use Rattle.nqs_rules.specs.Applied.{hand_refused, accepted}
-use Rattle.nqs_rules.specs.Fits.{fits, edit_fits, is_committed_hand, runs, may_hop, is_next, row_passes, device_fits}
+use Rattle.nqs_rules.specs.Fits.{fits, edit_fits, is_committed_hand, may_hop, is_next, row_passes, device_fits}
 use Rattle.nqs_rules.specs.InOrder.{IsInOrder, IsConsistent}
 use Rattle.nqs_rules.proofs.Chains.{each}
 use Rattle.nqs_rules.proofs.Sublists.{without_part, filter_part}
@@ -114,9 +115,9 @@ module _ {E : Type 0} (s : State E) (h : IsInOrder s) (c : IsConsistent s) where
   applied_consistent (Submitted queue job script) fit = submitted_calm s h c queue job script
   applied_consistent (Deleted id) fit = deleted_calm s h c id
   applied_consistent (Doomed id) fit =
-      let r = found_row runs id s fit in
+      let r = found_row runs_now id s fit in
       row_stays s id doomed_row c (λ q e k. record {
-        doomed = or_left (is_running q.state) (not true) (ap runs (same_Some q r.0 (sym e ∙ r.1)) ∙ r.2);
+        doomed = or_left (is_running q.state) (not true) (ap runs_now (same_Some q r.0 (sym e ∙ r.1)) ∙ r.2);
         held =
             k.held;
         routing = k.routing;

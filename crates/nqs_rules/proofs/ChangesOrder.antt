@@ -13,6 +13,7 @@ use Rattle.nqs_types.specs.declared.change.Change.{Change}
 use Rattle.nqs_types.specs.declared.change.Change.TheVariants.{Site, Submitted, Deleted, Doomed, Started, Ended, Unlaunched, Boot, Edited, HandOpened}
 use Rattle.nqs_types.specs.declared.change.Change.TheVariants.{HandCommitted, HandRefused, HandsSilent, HandDone, Promised, Accepted, Dropped, MovedLocal}
 use Rattle.nqs_types.specs.declared.change.Change.TheVariants.{RefusedLocal, HeldFar, StageGot, StageGone, FileGone}
+use Rattle.nqs_state.specs.Least.{runs_now}
 use Rattle.nqs_rules.specs.Tests.{passes, is_ready, last_seq}
 use Rattle.nqs_rules.specs.Find.{peer_number, has_queue, has_promise, find_hand, find_promise, find_peer}
 use Rattle.nqs_rules.specs.Edits.{drop_row, change_peer}
@@ -20,7 +21,7 @@ use Rattle.nqs_rules.specs.Rows.{arrivals_used, is_host_full}
 use Rattle.nqs_rules.specs.Routing.{is_hand_to}
 use Rattle.nqs_rules.specs.Sane.{is_sane_edit, has_path, is_sane_change}
 use Rattle.nqs_rules.specs.Applied.{dropped, applied, edit_applied, doomed_row, held_far, hand_committed, hand_refused, accepted}
-use Rattle.nqs_rules.specs.Fits.{fits, edit_fits, is_offered_hand, runs, may_hop, is_next, is_open_number, is_site_host, is_unknown, offer_full, row_passes}
+use Rattle.nqs_rules.specs.Fits.{fits, edit_fits, is_offered_hand, may_hop, is_next, is_open_number, is_site_host, is_unknown, offer_full, row_passes}
 use Rattle.nqs_rules.specs.Fits.{hand_passes, device_fits}
 use Rattle.nqs_rules.specs.InOrder.{IsInOrder}
 use Rattle.nqs_rules.proofs.Chains.{each}
@@ -68,13 +69,13 @@ module _ {E : Type 0} where
       let p = each (has_queue queue s) (not (is_host_full s) ∷ nat_lt s.seq last_seq ∷ not (arrivals_used s) ∷ []) fit in
       submitted_order s h queue job script sane p.0 (not-true (is_host_full s) p.1.0) p.1.1.0 (not-true (arrivals_used s) p.1.1.1.0)
   applied_order (Deleted id) s h sane fit = deleted_order s h id
-  applied_order (Doomed id) s h sane fit = row_changed s id doomed_row h (λ q. refl) (λ q e k. k) (λ q. refl) (unoffered runs id s h running_unrouted fit)
+  applied_order (Doomed id) s h sane fit = row_changed s id doomed_row h (λ q. refl) (λ q e k. k) (λ q. refl) (unoffered runs_now id s h running_unrouted fit)
   applied_order (Started id device) s h sane fit = let p = and_parts (row_passes is_ready id s) (device_fits device s) fit in
       started_order s h id device p.0 p.1
   applied_order (Ended id parts) s h sane fit =
-      outputs_added (drop_row id s) id parts (row_dropped s id h (unoffered runs id s h running_unrouted fit))
+      outputs_added (drop_row id s) id parts (row_dropped s id h (unoffered runs_now id s h running_unrouted fit))
       (and_parts (nat_le (length parts) 2) (list_all has_path parts) sane).1
-  applied_order (Unlaunched id) s h sane fit = row_dropped s id h (unoffered runs id s h running_unrouted fit)
+  applied_order (Unlaunched id) s h sane fit = row_dropped s id h (unoffered runs_now id s h running_unrouted fit)
   applied_order Boot s h sane fit = rows_booted s h
   applied_order (Edited e) s h sane fit = edit_order e s h sane fit
   applied_order (HandOpened peer number id queue since) s h sane fit =

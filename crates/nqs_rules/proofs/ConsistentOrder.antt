@@ -31,9 +31,9 @@ use Rattle.nqs_rules.specs.Routing.{dests_for, refusal_noted, close}
 use Rattle.nqs_rules.specs.Applied.{is_offered_for, committed, submitted, deleted, may_start_again, lost_row, booted_row, routing_row, requeued_row, drop_hand}
 use Rattle.nqs_rules.specs.Applied.{hand_opened, hand_committed, hand_refused, hand_silent, hands_silent, is_promise_of, promised, drop_promise, accepted}
 use Rattle.nqs_rules.specs.Applied.{dropped}
-use Rattle.nqs_rules.specs.Fits.{row_passes, may_hop, is_offered_hand, are_offered, hand_passes}
+use Rattle.nqs_rules.specs.Fits.{row_passes, may_hop, is_offered_hand, are_offered, hand_passes, is_id_given}
 use Rattle.nqs_rules.specs.InOrder.{IsInOrder, IsConsistent, are_distinct, is_doom_right, is_hold_right, has_hand, is_promise_free, is_hand_of_given}
-use Rattle.nqs_rules.specs.InOrder.{is_id_given, is_row_right}
+use Rattle.nqs_rules.specs.InOrder.{is_row_right}
 use Rattle.nqs_rules.proofs.Sublists.{without_part, filter_part, part_all}
 use Rattle.nqs_rules.proofs.ListFacts.{found_passes, list_all-weaker, list_all-changed, list_all-found}
 use Rattle.nqs_rules.proofs.KeyFacts.{all-both, all-added, any-before, all_from_none, gone_without, turned}

@@ -18,6 +18,7 @@ use Rattle.nqs_types.specs.declared.edit.DevicesEdit.TheVariants.{DeleteDevice, 
 use Rattle.nqs_types.specs.declared.edit.RowsEdit.{RowsEdit}
 use Rattle.nqs_types.specs.declared.edit.RowsEdit.TheVariants.{AbortQueue, HoldRequest, ReleaseRequest, MoveRequest, ModifyRequest}
 use Rattle.nqs_types.specs.declared.refusal.Refusal.TheVariants.{NoQueue, QueueInUse, NoDevice, DeviceBusy}
+use Rattle.nqs_state.specs.Least.{runs_now}
 use Rattle.nqs_rules.specs.Tests.{passes, is_ready, same_host, last_seq}
 use Rattle.nqs_rules.specs.Causes.{cause, first_refusal}
 use Rattle.nqs_rules.specs.Find.{has_queue, has_device, find_peer}
@@ -27,7 +28,7 @@ use Rattle.nqs_rules.specs.Limits.{limits_causes}
 use Rattle.nqs_rules.specs.Devices.{devices_causes}
 use Rattle.nqs_rules.specs.Rows.{hold_causes, release_causes, move_causes, idle_causes, rows_causes, arrivals_used}
 use Rattle.nqs_rules.specs.Routing.{is_hand_to}
-use Rattle.nqs_rules.specs.Fits.{is_idle, runs, may_hop, is_next, is_open_number, is_site_host, device_fits, edit_causes, fits}
+use Rattle.nqs_rules.specs.Fits.{is_idle, may_hop, is_next, is_open_number, is_site_host, device_fits, edit_causes, fits}
 use Rattle.nqs_rules.specs.Plain.{map_state}
 use Rattle.nqs_rules.specs.Stepped.{map_change}
 use Rattle.nqs_rules.proofs.FoundPlain.{row_passes-map, has_row-map, has_promise-map, has_stage-map, has_file-map, held_count-map, held_in-map}
@@ -76,14 +77,14 @@ module _ {E F : Type 0} (f : E → F) where
   fits-state (Submitted queue job script) s = ap (λ n. has_queue queue s && not (nat_le 10000 n) && nat_lt s.seq last_seq && not (arrivals_used s))
       (held_count-map f s)
   fits-state (Deleted id) s = row_passes-map f is_idle id s
-  fits-state (Doomed id) s = row_passes-map f runs id s
+  fits-state (Doomed id) s = row_passes-map f runs_now id s
   fits-state (Started id device) s = (λ j. row_passes-map f is_ready id s j && device-map device j)
     where
       device-map : (d : Option (List ℕ)) → device_fits d (map_state f s) ≡ device_fits d s
       device-map None = refl
       device-map (Some d) = ap (λ b. has_device d s && not b) (is_busy-map f d s)
-  fits-state (Ended id parts) s = row_passes-map f runs id s
-  fits-state (Unlaunched id) s = row_passes-map f runs id s
+  fits-state (Ended id parts) s = row_passes-map f runs_now id s
+  fits-state (Unlaunched id) s = row_passes-map f runs_now id s
   fits-state (Edited e) s = ap (λ cs. is_ok (first_refusal cs)) (edit_causes-map e s)
   fits-state (HandOpened peer number id queue since) s = ap (λ b. b && passes (is_next number) (find_peer peer s) && not (list_any (is_hand_to peer) s.hands))
       (row_passes-map f may_hop id s)

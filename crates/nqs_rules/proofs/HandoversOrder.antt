@@ -28,7 +28,7 @@ use Rattle.nqs_rules.specs.Sane.{is_sane_job, is_sane_id, is_sane_carried}
 use Rattle.nqs_rules.specs.Applied.{committed, new_row, routing_row, requeued_row, drop_hand, hand_opened, hand_committed, hand_refused, hand_silent}
 use Rattle.nqs_rules.specs.Applied.{hands_silent, is_promise_of, drop_promise, add_promised, accepted, dropped, promised}
 use Rattle.nqs_rules.specs.Fits.{is_offered_hand, row_passes, hand_passes, may_hop, is_next, is_open_number, is_site_host, is_unknown, offer_full, are_offered}
-use Rattle.nqs_rules.specs.InOrder.{IsInOrder, same_number, is_id_right, is_hand_given, is_peer_right, is_promise_open, is_row_right, is_hand_right}
+use Rattle.nqs_rules.specs.InOrder.{IsInOrder, same_number, is_id_right, is_hand_given, is_peer_right, is_row_right, is_hand_right}
 use Rattle.nqs_rules.specs.InOrder.{is_routing_row, is_promise_right}
 use Rattle.nqs_rules.proofs.Chains.{each, implied}
 use Rattle.nqs_rules.proofs.Sublists.{filter_part}
@@ -209,7 +209,7 @@ module _ {E : Type 0} where
             (le-leb (s.arrivals + 1) (s.arrivals + 1) (omega arith)) (sym as_often) (lt-ltb c.lost 65535 (omega (arith, fewer, as_often))) values.1.1.1.1.0;
         queued = refl;
         some = le-leb 1 number (omega (arith, some));
-        opens = ap (passes (is_promise_open number)) (get-changed peer.0 (close (number - 1)) s.peers ∙ ap (option_map (close (number - 1))) found.1)
+        opens = ap (passes (is_open_number number)) (get-changed peer.0 (close (number - 1)) s.peers ∙ ap (option_map (close (number - 1))) found.1)
             ∙ not_from_false (nat_le number (number - 1)) (lt-leb number (number - 1) (omega (arith, some)));
       })) (others_only peer s.promises) (arrival_new s2 b) (lt-ltb (held_count s3) 10000 (omega (arith, free)))
 

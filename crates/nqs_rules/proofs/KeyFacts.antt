@@ -206,9 +206,9 @@ module _ {K V : Type 0} (eq : K → K → Bool) (key : V → K) (exact : (a b : 
           and_from (not (list_any (eq (key x)) (map key (change_first test g vs) ++ zs))) (are_distinct eq (map key (change_first test g vs) ++ zs))
           (not_from_false _ (any-renamed (eq (key x)) vs (turned eq exact same k (key x) p.0) (not-true _ q.0))) (rest p.1 q.1)
 
--- the key of one that goes is none of those that stay
-module _ {K V : Type 0} (eq : K → K → Bool) (key : V → K) (exact : (a b : K) → eq a b ≡ true → a ≡ b) (same : (a : K) → eq a a ≡ true) (test : V → Bool) where
-  found_key : (t : K → Bool) (vs : List V) (v : V) → find test vs ≡ Some v → list_any t (map key vs) ≡ false → t (key v) ≡ false
+-- a value that is found under a test has no key that none has
+module _ {K V : Type 0} (key : V → K) (test : V → Bool) where
+  pub found_key : (t : K → Bool) (vs : List V) (v : V) → find test vs ≡ Some v → list_any t (map key vs) ≡ false → t (key v) ≡ false
   found_key t [] v found none = absurd (none-some v found)
   found_key t (x ∷ vs) v found none = by (test x) (or_parts (t (key x)) (list_any t (map key vs)) none) (found_key t vs v) found
     where
@@ -217,6 +217,8 @@ module _ {K V : Type 0} (eq : K → K → Bool) (key : V → K) (exact : (a b : 
       by true p rest found = ap (λ y. t (key y)) (sym (same_Some x v found)) ∙ p.0
       by false p rest found = rest found p.1
 
+-- the key of one that goes is none of those that stay
+module _ {K V : Type 0} (eq : K → K → Bool) (key : V → K) (exact : (a b : K) → eq a b ≡ true → a ≡ b) (same : (a : K) → eq a a ≡ true) (test : V → Bool) where
   pub key_gone : (vs : List V) (v : V) → find test vs ≡ Some v → are_distinct eq (map key vs) ≡ true
       → list_any (eq (key v)) (map key (without_first test vs)) ≡ false
   key_gone [] v found h = absurd (none-some v found)
@@ -228,7 +230,7 @@ module _ {K V : Type 0} (eq : K → K → Bool) (key : V → K) (exact : (a b : 
           → list_any (eq (key v)) (map key (if b then vs else x ∷ without_first test vs)) ≡ false
       by true p rest found = ap (λ y. list_any (eq (key y)) (map key vs)) (sym (same_Some x v found)) ∙ not-true _ p.0
       by false p rest found = or_from (eq (key v) (key x)) (list_any (eq (key v)) (map key (without_first test vs)))
-          (turned eq exact same (key x) (key v) (found_key (eq (key x)) vs v found (not-true _ p.0))) (rest found p.1)
+          (turned eq exact same (key x) (key v) (found_key key test (eq (key x)) vs v found (not-true _ p.0))) (rest found p.1)
 
   pub key_gone_behind : (zs : List K) (vs : List V) (v : V) → find test vs ≡ Some v → are_distinct eq (zs ++ map key vs) ≡ true
       → list_any (eq (key v)) (zs ++ map key (without_first test vs)) ≡ false
@@ -236,5 +238,5 @@ module _ {K V : Type 0} (eq : K → K → Bool) (key : V → K) (exact : (a b : 
   key_gone_behind (z ∷ zs) vs v found h =
       let p = and_parts (not (list_any (eq z) (zs ++ map key vs))) (are_distinct eq (zs ++ map key vs)) h in
       let none = (or_parts (list_any (eq z) zs) (list_any (eq z) (map key vs)) (sym (list_any-append (eq z) zs (map key vs)) ∙ not-true _ p.0)).1 in
-      or_from (eq (key v) z) (list_any (eq (key v)) (zs ++ map key (without_first test vs))) (turned eq exact same z (key v) (found_key (eq z) vs v found none))
-      (key_gone_behind zs vs v found p.1)
+      or_from (eq (key v) z) (list_any (eq (key v)) (zs ++ map key (without_first test vs)))
+      (turned eq exact same z (key v) (found_key key test (eq z) vs v found none)) (key_gone_behind zs vs v found p.1)

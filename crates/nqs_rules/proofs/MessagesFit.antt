@@ -25,6 +25,7 @@ use Rattle.nqs_types.specs.declared.change.Change.TheVariants.{Unlaunched, Accep
 use Rattle.nqs_types.specs.declared.message.Body.{Body}
 use Rattle.nqs_types.specs.declared.message.Body.TheVariants as body
 use Rattle.nqs_types.specs.declared.event.Event.{Event}
+use Rattle.nqs_state.specs.Least.{runs_now}
 use Rattle.nqs_types.specs.declared.event.Event.TheVariants as event
 use Rattle.nqs_types.specs.declared.event.Output.TheVariants as out
 use Rattle.nqs_rules.specs.Tests.{passes, is_running, is_offered, is_committed, same_host}
@@ -33,7 +34,7 @@ use Rattle.nqs_rules.specs.Find.{peer_number, has_queue, find_queue, has_row, fi
 use Rattle.nqs_rules.specs.Rows.{causes_of, arrivals_used}
 use Rattle.nqs_rules.specs.Routing.{is_closed}
 use Rattle.nqs_rules.specs.Sane.{is_of_site, is_short_script, is_sane_carried, is_sane_job, has_path, is_sane_body, is_sane_event}
-use Rattle.nqs_rules.specs.Fits.{is_offered_hand, is_committed_hand, is_open_number, is_new_stage, is_site_host, is_unknown, offer_full, runs}
+use Rattle.nqs_rules.specs.Fits.{is_offered_hand, is_committed_hand, is_open_number, is_new_stage, is_site_host, is_unknown, offer_full}
 use Rattle.nqs_rules.specs.Stepped.{quiet, says, makes, ready}
 use Rattle.nqs_rules.specs.Handover.{closes, was_given, send_abort, send_done, send_ready, named_of, is_not_given_here, offer_entry_causes, offer_causes}
 use Rattle.nqs_rules.specs.Handover.{offer_by, on_offer, ready_phase, ready_with, on_ready, refused_phase, refused_with, on_refused, on_commit, done_phase}
@@ -249,7 +250,7 @@ module _ {E : Type 0} (s : State E) (h : IsInOrder s) where
           let few = parts.0 in
           let part = numbered_part (first_number s r.id) 0 (parts_of r.job output error) in
           let fewer = part_length part in (
-            passes_found runs s r found (and_parts (is_running r.state) (r.starts == start) e).0,
+            passes_found runs_now s r found (and_parts (is_running r.state) (r.starts == start) e).0,
             and_from (nat_le (length (kept_parts s r output error)) 2) (list_all has_path (kept_parts s r output error))
                 (le-leb (length (kept_parts s r output error)) 2 (omega (arith, few, fewer))) (part_all has_path part parts.1),
           )
@@ -264,7 +265,7 @@ module _ {E : Type 0} (s : State E) (h : IsInOrder s) where
     where
       by : (r : Row E) → find_row id s ≡ Some r → (b : Bool) → is_start start r ≡ b
           → Fitting s (if b then makes {E = E} (Unlaunched id) (ready (out.Unlaunched id start) ∷ []) else quiet).change
-      by r found true e = (ap (passes runs) found ∙ (and_parts (is_running r.state) (r.starts == start) e).0, refl)
+      by r found true e = (ap (passes runs_now) found ∙ (and_parts (is_running r.state) (r.starts == start) e).0, refl)
       by r found false e = tt
 
       of : (o : Option (Row E)) → find_row id s ≡ o → Fitting s (unlaunched_by o id start).change

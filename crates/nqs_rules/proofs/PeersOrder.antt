@@ -22,7 +22,7 @@ use Rattle.nqs_rules.specs.Applied.{drop_promise, is_promise_of}
 use Rattle.nqs_rules.specs.Edits.{change_at, change_peer}
 use Rattle.nqs_rules.specs.Find.{find_peer, held_count}
 use Rattle.nqs_rules.specs.InOrder.{IsInOrder, are_distinct, same_number, arrivals_of, promisers, is_given, is_peer_right, is_hand_given, is_stage_given}
-use Rattle.nqs_rules.specs.InOrder.{is_promise_open, is_hand_right, is_promise_right, is_stage_right}
+use Rattle.nqs_rules.specs.InOrder.{is_hand_right, is_promise_right, is_stage_right}
 use Rattle.nqs_rules.proofs.Sublists.{IsPart, without_part, map_part, part_behind, part_length, part_all, part_distinct}
 use Rattle.nqs_rules.proofs.ListFacts.{list_all-weaker}
 use Rattle.nqs_rules.proofs.KeyFacts.{all-both, all-added, distinct-added}
@@ -30,6 +30,7 @@ use Rattle.nqs_rules.proofs.StateFacts.{parameters_kept, sites_are, sites_right,
 use Rattle.nqs_rules.proofs.SameBut.{with_requests}
 use Rattle.nqs_rules.proofs.RowFacts.{same_it, same_peer_number, Keeps, promise_is, promise_right, row_kept, rows_kept}
 use Rattle.nqs_rules.proofs.RowsOrder.{hand_is, hand_right}
+use Rattle.nqs_rules.specs.Fits.{is_open_number}
 
 module _ {V : Type 0} where
   length-at : (n : ℕ) (f : V → V) (vs : List V) → length (change_at n f vs) ≡ length vs
@@ -80,7 +81,7 @@ pub record Counts (p q : Peer) : Type 0 where
 module _ {E : Type 0} where
   -- what is known of one peer changes: its counters don't fall, and the promises' numbers stay open
   pub peer_changed : (s : State E) (host : HostId) (f : Peer → Peer) → IsInOrder s → ((p : Peer) → find_peer host s ≡ Some p → Counts p (f p))
-      → list_all (λ p. passes (is_promise_open p.number) (find_peer p.peer (change_peer host f s))) s.promises ≡ true → IsInOrder (change_peer host f s)
+      → list_all (λ p. passes (is_open_number p.number) (find_peer p.peer (change_peer host f s))) s.promises ≡ true → IsInOrder (change_peer host f s)
   peer_changed s host f h counts opens =
       let t : State E = change_peer host f s in
       let site = sites_are s h.site in
@@ -100,7 +101,7 @@ module _ {E : Type 0} where
         queues = h.queues;
         complexes = h.complexes;
         rows = rows_kept s t keeps s.rows h.rows;
-        promises = all-both (is_promise_right s) (λ p. passes (is_promise_open p.number) (find_peer p.peer t))
+        promises = all-both (is_promise_right s) (λ p. passes (is_open_number p.number) (find_peer p.peer t))
             (is_promise_right t) promise s.promises h.promises opens;
         promisers = h.promisers;
         hands = list_all-weaker (is_hand_right s) (is_hand_right t) hand s.hands h.hands;
@@ -139,7 +140,7 @@ module _ {E : Type 0} where
           (get-kept (is_stage_given x.number) (is_stage_given x.number) host.0 x.peer.0 f s.peers
           (λ q found g. given_more x.number q.stage_next (f q).stage_next (counts q found).stage_next g) (λ q g. g) p.1)
 
-      promise : (p : Promise E) → is_promise_right s p ≡ true → passes (is_promise_open p.number) (find_peer p.peer (change_peer host f s)) ≡ true
+      promise : (p : Promise E) → is_promise_right s p ≡ true → passes (is_open_number p.number) (find_peer p.peer (change_peer host f s)) ≡ true
           → is_promise_right (change_peer host f s) p ≡ true
       promise p k opens =
           let t : State E = change_peer host f s in
@@ -151,8 +152,8 @@ module _ {E : Type 0} where
   pub peer_counted : (s : State E) (host : HostId) (f : Peer → Peer) → IsInOrder s → ((p : Peer) → find_peer host s ≡ Some p → Counts p (f p))
       → ((p : Peer) → (f p).closed ≡ p.closed) → IsInOrder (change_peer host f s)
   peer_counted s host f h counts closed = peer_changed s host f h counts (list_all-weaker (is_promise_right s)
-      (λ p. passes (is_promise_open p.number) (find_peer p.peer (change_peer host f s))) (λ p k.
-      get-kept (is_promise_open p.number) (is_promise_open p.number) host.0 p.peer.0 f s.peers (λ q found g. ap (λ n. not (nat_le p.number n)) (closed q) ∙ g)
+      (λ p. passes (is_open_number p.number) (find_peer p.peer (change_peer host f s))) (λ p k.
+      get-kept (is_open_number p.number) (is_open_number p.number) host.0 p.peer.0 f s.peers (λ q found g. ap (λ n. not (nat_le p.number n)) (closed q) ∙ g)
       (λ q g. g) (promise_is s p k).opens) s.promises h.promises)
 
   -- numbers of a host that has no promise may be closed
@@ -161,9 +162,9 @@ module _ {E : Type 0} where
   peer_closed s host number h none =
       let t : State E = change_peer host (close number) s in
       peer_changed s host (close number) h (λ p found. record { next = omega arith; stage_next = omega arith })
-      (all-both (is_promise_right s) (λ p. not (is_promise_of host p)) (λ p. passes (is_promise_open p.number) (find_peer p.peer t)) (λ p k other.
+      (all-both (is_promise_right s) (λ p. not (is_promise_of host p)) (λ p. passes (is_open_number p.number) (find_peer p.peer t)) (λ p k other.
       let apart : host.0 ≡ p.peer.0 → ⊥ = λ e. true≢false (sym (same_it host.0) ∙ ap (λ m. host.0 == m) e ∙ not-true (is_promise_of host p) other) in
-      ap (passes (is_promise_open p.number)) (get-other host.0 p.peer.0 (close number) s.peers apart) ∙ (promise_is s p k).opens) s.promises h.promises none)
+      ap (passes (is_open_number p.number)) (get-other host.0 p.peer.0 (close number) s.peers apart) ∙ (promise_is s p k).opens) s.promises h.promises none)
 
   -- fewer promises
   pub promises_part : (s : State E) (ps : List (Promise E)) → IsPart ps s.promises → IsInOrder s → IsInOrder (record s { promises = ps })

@@ -1,7 +1,6 @@
 -- A reason looks at no stored part, and what is told of a request neither.
-use Rattle.std.proofs.Common.{◌≡◌, ℕ, not, ◌&&◌, ◌||◌, nat_lt, nat_le, List, [], ◌∷◌, ◌++◌, map, length, filter, find, position, Option, None, Some, is_some}
+use Rattle.std.proofs.Common.{◌≡◌, ℕ, ◌&&◌, nat_lt, [], ◌∷◌, ◌++◌, map, length, filter, find, Option, None, Some}
 use Rattle.std.proofs.Common.{refl, ap, ◌∙◌, unwrap_or, if◌then◌else◌}
-use Rattle.nqs_base.specs.Same.{name_eq}
 use Rattle.nqs_state.specs.State.{State}
 use Rattle.nqs_types.specs.declared.ids.HostId.{HostId}
 use Rattle.nqs_types.specs.declared.ids.Dest.{Dest}
@@ -10,41 +9,26 @@ use Rattle.nqs_types.specs.declared.request.Row.{Row}
 use Rattle.nqs_types.specs.declared.queue.Kind.{Kind}
 use Rattle.nqs_types.specs.declared.queue.Kind.TheVariants.{Batch, Device, Pipe}
 use Rattle.nqs_types.specs.declared.queue.QueueDef.{QueueDef}
-use Rattle.nqs_types.specs.declared.queue.ComplexDef.{ComplexDef}
-use Rattle.nqs_rules.specs.Tests.{passes, is_ready, same_host}
-use Rattle.nqs_rules.specs.Find.{has_name, find_queue, find_device, find_peer}
+use Rattle.nqs_rules.specs.Tests.{same_host}
+use Rattle.nqs_rules.specs.Find.{find_queue, find_peer}
 use Rattle.nqs_rules.specs.Routing.{refuses}
-use Rattle.nqs_rules.specs.Devices.{can_serve}
-use Rattle.nqs_rules.specs.Order.{below, is_active_in, is_active_of, runs_in, runs_in_batch, complex_allows, kind_allows, is_eligible, comes_before}
+use Rattle.nqs_rules.specs.Order.{below, is_active_in, is_active_of, runs_in_batch, comes_before}
 use Rattle.nqs_rules.specs.Plain.{map_row, map_state}
 use Rattle.nqs_index.proofs.Numbers.{number-map}
-use Rattle.nqs_rules.proofs.FoundPlain.{is_busy-map}
 use Rattle.nqs_types.specs.declared.reason.Reason.TheVariants.{QueueStopped, UserLimit, RunLimit, ComplexLimit, GlobalLimit, NoDevice, Next}
 use Rattle.nqs_types.specs.declared.reason.DestAnswer.TheVariants.{MayBeTried}
 use Rattle.nqs_rules.specs.Answers.{refusal_conditions, peer_conditions, answer_of}
 use Rattle.nqs_rules.specs.Reasons.{first_failing, row_conditions, kind_conditions, conditions, goes_first, next_in, reason_in, reason_of, waits_before}
 use Rattle.nqs_rules.specs.Reasons.{count_before}
 use Rattle.nqs_rules.specs.Why.{reason_line, dest_lines, before_lines, why_lines}
+use Rattle.nqs_rules.proofs.StartPlain.{complex_allows-map, kind_allows-map, eligible-map}
 
 module _ {E F : Type 0} (f : E → F) (now : ℕ) (s : State E) where
-  complex_allows-map : (q : List ℕ) (c : ComplexDef) → complex_allows q (map_state f s) c ≡ complex_allows q s c
-  complex_allows-map q c = ap (λ n. not (has_name c.queues q) || nat_lt n c.limit) (number-map (map_row f) (runs_in c) s.rows)
-
-  kind_allows-map : (k : Kind) (d : QueueDef) (r : Row E) → kind_allows k d now (map_state f s) (map_row f r) ≡ kind_allows k d now s r
-  kind_allows-map Batch d r = refl
-  kind_allows-map Device d r =
-      (λ j. is_some (position (λ device. passes (can_serve r.job.forms) (find_device device s) && not (is_busy-map f device s j)) d.devices))
-  kind_allows-map Pipe d r = refl
-
-  eligible-map : (d : QueueDef) (r : Row E) → is_eligible d now (map_state f s) (map_row f r) ≡ is_eligible d now s r
-  eligible-map d r = (λ j. name_eq d.name r.queue && is_ready r && nat_le r.job.earliest now
-      && below (number-map (map_row f) (is_active_of d.name r.job.owner) s.rows j) d.user_limit && kind_allows-map d.kind d r j)
-
   module _ (d : QueueDef) (r : Row E) where
     kind_conditions-map : (k : Kind) → kind_conditions k d now (map_state f s) (map_row f r) ≡ kind_conditions k d now s r
-    kind_conditions-map Batch = (λ j. map (λ c. (complex_allows-map d.name c j, ComplexLimit c.name c.limit)) s.complexes
+    kind_conditions-map Batch = (λ j. map (λ c. (complex_allows-map f d.name s c j, ComplexLimit c.name c.limit)) s.complexes
         ++ (nat_lt (number-map (map_row f) (runs_in_batch (map_state f s)) s.rows j) s.global_limit, GlobalLimit s.global_limit) ∷ [])
-    kind_conditions-map Device = (λ j. (kind_allows-map Device d r j, NoDevice r.job.forms) ∷ [])
+    kind_conditions-map Device = (λ j. (kind_allows-map f Device d now s r j, NoDevice r.job.forms) ∷ [])
     kind_conditions-map Pipe = refl
 
     conditions-map : conditions d now (map_state f s) (map_row f r) ≡ conditions d now s r
@@ -56,7 +40,7 @@ module _ {E F : Type 0} (f : E → F) (now : ℕ) (s : State E) where
     next-map : next_in d now (map_state f s) (map_row f r) ≡ next_in d now s r
     next-map =
         ap Next (number-map (map_row f) (goes_first d now (map_state f s) (map_row f r)) s.rows
-        ∙ (λ j. length (filter (λ other. comes_before other r && eligible-map d other j) s.rows)))
+        ∙ (λ j. length (filter (λ other. comes_before other r && eligible-map f d now s other j) s.rows)))
 
   pub reason-map : (r : Row E) → reason_of now (map_state f s) (map_row f r) ≡ reason_of now s r
   reason-map r = of (find_queue r.queue s)

@@ -17,12 +17,12 @@ use Rattle.nqs_types.specs.declared.request.RowState.{RowState}
 use Rattle.nqs_types.specs.declared.request.RowState.TheVariants.{Queued, Routing, Running}
 use Rattle.nqs_rules.specs.Tests.{is_running, is_routing, is_queued, is_ready, is_unheld}
 use Rattle.nqs_rules.specs.Find.{has_queue}
-use Rattle.nqs_rules.specs.Fits.{is_site_host}
+use Rattle.nqs_rules.specs.Fits.{is_site_host, is_id_given}
 use Rattle.nqs_rules.specs.Rows.{doomed_in, released_row, with_priority}
 use Rattle.nqs_rules.specs.Sane.{is_sane_job}
 use Rattle.nqs_rules.specs.Routing.{is_present, with_refusal, all_refused, held_where, refusal_noted}
 use Rattle.nqs_rules.specs.Applied.{new_row, started_row, may_start_again, lost_row, booted_row, routing_row, requeued_row}
-use Rattle.nqs_rules.specs.InOrder.{is_id_right, is_id_given, is_device_there, is_refused_right, has_no_device, is_count_right, is_hop_right, is_row_right}
+use Rattle.nqs_rules.specs.InOrder.{is_id_right, is_device_there, is_refused_right, has_no_device, is_count_right, is_hop_right, is_row_right}
 use Rattle.nqs_rules.proofs.Chains.{each, chained}
 use Rattle.nqs_rules.proofs.Sublists.{filter_part, part_all}
 use Rattle.nqs_rules.proofs.KeyFacts.{all-added}

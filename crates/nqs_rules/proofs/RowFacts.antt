@@ -14,10 +14,10 @@ pub use Rattle.nqs_index.proofs.RunLemmas.{id_itself as same_id}
 use Rattle.nqs_rules.specs.Tests.{passes, is_queued, same_host}
 use Rattle.nqs_rules.specs.Find.{has_queue, has_device, find_peer}
 use Rattle.nqs_rules.specs.Sane.{is_sane_job, is_sane_id}
-use Rattle.nqs_rules.specs.InOrder.{is_id_right, is_id_given, is_device_there, is_refused_right, is_count_right, is_hop_right, is_row_right, is_promise_right}
-use Rattle.nqs_rules.specs.InOrder.{is_promise_open}
+use Rattle.nqs_rules.specs.InOrder.{is_id_right, is_device_there, is_refused_right, is_count_right, is_hop_right, is_row_right, is_promise_right}
 use Rattle.nqs_rules.proofs.Chains.{each, chained, imply}
 use Rattle.nqs_rules.proofs.ListFacts.{list_all-weaker}
+use Rattle.nqs_rules.specs.Fits.{is_open_number, is_id_given}
 
 module _ {E : Type 0} where
   pub record IsRow (s : State E) (r : Row E) : Type 0 where
@@ -65,15 +65,15 @@ module _ {E : Type 0} where
     pub row : is_row_right s p.row ≡ true
     pub queued : is_queued p.row.state ≡ true
     pub some : nat_le 1 p.number ≡ true
-    pub opens : passes (is_promise_open p.number) (find_peer p.peer s) ≡ true
+    pub opens : passes (is_open_number p.number) (find_peer p.peer s) ≡ true
 
   pub promise_is : (s : State E) (p : Promise E) → is_promise_right s p ≡ true → IsPromise s p
   promise_is s p h =
-      let q = each (is_row_right s p.row) (is_queued p.row.state ∷ nat_le 1 p.number ∷ passes (is_promise_open p.number) (find_peer p.peer s) ∷ []) h in
+      let q = each (is_row_right s p.row) (is_queued p.row.state ∷ nat_le 1 p.number ∷ passes (is_open_number p.number) (find_peer p.peer s) ∷ []) h in
       record { row = q.0; queued = q.1.0; some = q.1.1.0; opens = q.1.1.1.0 }
 
   pub promise_right : (s : State E) (p : Promise E) → IsPromise s p → is_promise_right s p ≡ true
-  promise_right s p h = chained (is_row_right s p.row) (is_queued p.row.state ∷ nat_le 1 p.number ∷ passes (is_promise_open p.number) (find_peer p.peer s) ∷ [])
+  promise_right s p h = chained (is_row_right s p.row) (is_queued p.row.state ∷ nat_le 1 p.number ∷ passes (is_open_number p.number) (find_peer p.peer s) ∷ [])
       (h.row, (h.queued, (h.some, (h.opens, tt))))
 
   -- a row stays right where its queue and its device stay
@@ -122,7 +122,7 @@ module _ {E : Type 0} where
         queued = q.queued;
         some = q.some;
         opens =
-            subst (λ l. passes (is_promise_open p.number) (find_peer p.peer (record t { peers = l })) ≡ true) (sym peers) q.opens;
+            subst (λ l. passes (is_open_number p.number) (find_peer p.peer (record t { peers = l })) ≡ true) (sym peers) q.opens;
       })
 
 pub same_it : (n : ℕ) → (n == n) ≡ true

@@ -159,7 +159,8 @@ module _ (now : ℕ) (s : Plain) (steady : IsSteady s) (x : Stepped (List ℕ)) 
   free : (device : ℕ) (n : List ℕ) → free_device d r.job.forms s ≡ Some device → device_at device r s ≡ Some n → device_fits (Some n) s ≡ true
   free device n chosen at =
       let tried : IsAt (is_free_device r.job.forms s) d.devices device = position_at (is_free_device r.job.forms s) d.devices device chosen in
-      let is : tried.value ≡ n = same_Some tried.value n (sym tried.at ∙ ap (option_and_then (λ q. slice_get q.devices device)) (sym (queue_found now s steady c p)) ∙ at) in
+      let queued = ap (option_and_then (λ (q : QueueDef). slice_get q.devices device)) (sym (queue_found now s steady c p)) in
+      let is : tried.value ≡ n = same_Some tried.value n (sym tried.at ∙ queued ∙ at) in
       let parts = and_parts (passes (can_serve r.job.forms) (find_device tried.value s)) (not (is_busy tried.value s)) tried.passes in
       ap (λ m. has_device m s && not (is_busy m s)) (sym is) ∙ and_from (has_device tried.value s) (not (is_busy tried.value s))
       (known tried.value (find_device tried.value s) refl parts.0) parts.1

@@ -37,7 +37,7 @@ use Rattle.nqs_rules.proofs.FoundPlain.{is_busy-map}
 module _ {E F : Type 0} (f : E → F) where
   -- limits
 
-  complex_allows-map : (q : List ℕ) (s : State E) (c : ComplexDef) → complex_allows q (map_state f s) c ≡ complex_allows q s c
+  pub complex_allows-map : (q : List ℕ) (s : State E) (c : ComplexDef) → complex_allows q (map_state f s) c ≡ complex_allows q s c
   complex_allows-map q s c = ap (λ n. not (has_name c.queues q) || nat_lt n c.limit) (number-map (map_row f) (runs_in c) s.rows)
 
   within-map : (d : QueueDef) (s : State E) → is_within_limits d (map_state f s) ≡ is_within_limits d s
@@ -51,12 +51,13 @@ module _ {E F : Type 0} (f : E → F) where
   free_device-map : (d : QueueDef) (forms : Option (List ℕ)) (s : State E) → free_device d forms (map_state f s) ≡ free_device d forms s
   free_device-map d forms s = (λ j. position (λ device. passes (can_serve forms) (find_device device s) && not (is_busy-map f device s j)) d.devices)
 
-  kind_allows-map : (k : Kind) (d : QueueDef) (now : ℕ) (s : State E) (r : Row E) → kind_allows k d now (map_state f s) (map_row f r) ≡ kind_allows k d now s r
+  pub kind_allows-map : (k : Kind) (d : QueueDef) (now : ℕ) (s : State E) (r : Row E) → kind_allows k d now (map_state f s) (map_row f r)
+      ≡ kind_allows k d now s r
   kind_allows-map Batch d now s r = refl
   kind_allows-map Device d now s r = ap is_some (free_device-map d r.job.forms s)
   kind_allows-map Pipe d now s r = refl
 
-  eligible-map : (d : QueueDef) (now : ℕ) (s : State E) (r : Row E) → is_eligible d now (map_state f s) (map_row f r) ≡ is_eligible d now s r
+  pub eligible-map : (d : QueueDef) (now : ℕ) (s : State E) (r : Row E) → is_eligible d now (map_state f s) (map_row f r) ≡ is_eligible d now s r
   eligible-map d now s r = (λ j. name_eq d.name r.queue && is_ready r && nat_le r.job.earliest now
       && below (number-map (map_row f) (is_active_of d.name r.job.owner) s.rows j) d.user_limit && kind_allows-map d.kind d now s r j)
 

@@ -19,6 +19,7 @@ use Rattle.nqs_types.specs.declared.change.Change.{Change}
 use Rattle.nqs_types.specs.declared.change.Change.TheVariants.{Deleted, Doomed, Edited}
 use Rattle.nqs_types.specs.declared.event.Submission.{Submission}
 use Rattle.nqs_types.specs.declared.event.Command.{Command}
+use Rattle.nqs_state.specs.Least.{runs_now}
 use Rattle.nqs_types.specs.declared.event.Command.TheVariants as command
 use Rattle.nqs_types.specs.declared.event.Reply.TheVariants as reply
 use Rattle.nqs_rules.specs.Tests.{passes, is_running, is_offered, last_seq}
@@ -27,7 +28,7 @@ use Rattle.nqs_rules.specs.Find.{peer_number, has_queue, find_queue, find_row, r
 use Rattle.nqs_rules.specs.Access.{rank, command_causes}
 use Rattle.nqs_rules.specs.Rows.{queue_meant, causes_of, queue_entry_causes, submit_causes_at, delete_causes, is_host_full, numbers_used, arrivals_used}
 use Rattle.nqs_rules.specs.Sane.{is_asked_job, is_short_script, is_sane_command, is_sane_change}
-use Rattle.nqs_rules.specs.Fits.{fits, edit_causes, is_offered_hand, hand_passes, runs, is_idle, row_passes}
+use Rattle.nqs_rules.specs.Fits.{fits, edit_causes, is_offered_hand, hand_passes, is_idle, row_passes}
 use Rattle.nqs_rules.specs.Stepped.{Stepped, makes}
 use Rattle.nqs_rules.specs.Handover.{later, is_silent, silent_hands, silence}
 use Rattle.nqs_rules.specs.Step.{Asker, reply_to, answer_to, kill, kills_of, stat_causes, unless_refused, submit_to, on_submit, delete_row, delete_meant}
@@ -102,7 +103,7 @@ module _ {E : Type 0} where
           where
             by : (b : Bool) → is_running r.state ≡ b → Fitting s (if b then makes (Doomed r.id) (reply_to a (reply.Signalled r.id) ∷ kill r ∷ []) else
                 makes (Deleted r.id) (reply_to a (reply.Deleted r.id) ∷ [])).change
-            by true e = (passes_found runs s r found e, refl)
+            by true e = (passes_found runs_now s r found e, refl)
             by false e = (passes_found is_idle s r found (not_from_false (is_running r.state) e), refl)
 
         at : (rid : RequestId) (o : Option (Row E)) → find_row rid s ≡ o → Fitting s (delete_meant a id o).change

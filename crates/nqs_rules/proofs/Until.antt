@@ -57,7 +57,8 @@ module _ (now : ℕ) where
   none_starts zero s e = refl
   none_starts (suc n) s e = ap (Going n s) e
 
-  idle : (s : Plain) → IsSteady s → starts_left s ≤ 0 → start now s ≡ None
+  -- where no start is left, nothing starts
+  pub idle : (s : Plain) → IsSteady s → starts_left s ≤ 0 → start now s ≡ None
   idle s calm few = by (start now s) refl
     where
       by : (o : Option (Stepped (List ℕ))) → start now s ≡ o → start now s ≡ None

@@ -25,6 +25,7 @@ use Rattle.nqs_types.specs.declared.change.Change.TheVariants.{HandCommitted, Ha
 use Rattle.nqs_types.specs.declared.change.Change.TheVariants.{RefusedLocal, HeldFar, StageGot, StageGone, FileGone}
 use Rattle.nqs_types.specs.declared.edit.Edit.{Edit}
 use Rattle.nqs_types.specs.declared.edit.Edit.TheVariants.{Conf, Limits as LimitsOf, Access as AccessOf, Devices as DevicesOf, Rows as RowsOf}
+use Rattle.nqs_state.specs.Least.{runs_now}
 
 -- whether a hand's peer hasn't promised yet
 abbrev pub is_offered_hand : Hand → Bool
@@ -47,10 +48,6 @@ abbrev pub is_new_stage : ℕ → Peer → Bool
 is_new_stage number p = nat_lt p.stage_got number
 
 module _ {E : Type 0} where
-  -- whether a request runs
-  abbrev pub runs : Row E → Bool
-  runs r = is_running r.state
-
   -- whether a request doesn't run
   abbrev pub is_idle : Row E → Bool
   is_idle r = not (is_running r.state)
@@ -88,9 +85,13 @@ module _ {E : Type 0} where
   abbrev pub edit_fits : Edit → State E → Bool
   edit_fits e s = is_ok (first_refusal (edit_causes e s))
 
+  -- the request's number was given, if it is of this host
+  abbrev pub is_id_given : State E → RequestId → Bool
+  is_id_given s id = not (same_host s.me id.host) || nat_le id.seq s.seq
+
   -- the request isn't known here, as a row or as a number that was never given
   abbrev pub is_unknown : RequestId → State E → Bool
-  is_unknown id s = not (has_row id s) && (not (same_host s.me id.host) || nat_le id.seq s.seq)
+  is_unknown id s = not (has_row id s) && is_id_given s id
 
   -- whether a host is of the site
   abbrev pub is_site_host : HostId → State E → Bool
@@ -107,10 +108,10 @@ module _ {E F : Type 0} where
   fits (Site _ _) s = false
   fits (Submitted queue _ _) s = has_queue queue s && not (is_host_full s) && nat_lt s.seq last_seq && not (arrivals_used s)
   fits (Deleted id) s = row_passes is_idle id s
-  fits (Doomed id) s = row_passes runs id s
+  fits (Doomed id) s = row_passes runs_now id s
   fits (Started id device) s = row_passes is_ready id s && device_fits device s
-  fits (Ended id _) s = row_passes runs id s
-  fits (Unlaunched id) s = row_passes runs id s
+  fits (Ended id _) s = row_passes runs_now id s
+  fits (Unlaunched id) s = row_passes runs_now id s
   fits Boot s = true
   fits (Edited e) s = edit_fits e s
   fits (HandOpened peer number id _ _) s = row_passes may_hop id s && passes (is_next number) (find_peer peer s) && not (list_any (is_hand_to peer) s.hands)

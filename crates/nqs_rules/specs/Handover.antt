@@ -7,9 +7,7 @@ use Rattle.nqs_types.specs.declared.ids.Named.{Named}
 use Rattle.nqs_rules.specs.Tests.{passes, is_offered, same_host, last_u64}
 use Rattle.nqs_rules.specs.Causes.{Cause, cause, first_refusal, refusal_number}
 use Rattle.nqs_rules.specs.Find.{has_queue, find_queue, has_row, find_row, find_hand, has_promise, find_peer, peer_number}
-use Rattle.nqs_rules.specs.Access.{entry_causes}
-use Rattle.nqs_rules.specs.Limits.{over_causes}
-use Rattle.nqs_rules.specs.Rows.{causes_of, arrivals_used}
+use Rattle.nqs_rules.specs.Rows.{causes_of, arrivals_used, job_causes}
 use Rattle.nqs_rules.specs.Routing.{is_closed}
 use Rattle.nqs_rules.specs.Fits.{offer_full}
 use Rattle.nqs_rules.specs.Stepped.{Stepped, Pending, quiet, says, makes, message, ready}
@@ -108,7 +106,7 @@ module _ {E : Type 0} where
 
 -- what keeps an offered request out of a queue: its access, and then its limits
 abbrev pub offer_entry_causes : Carried → QueueDef → List Cause
-offer_entry_causes c d = entry_causes d c.job.owner FromPipe ++ over_causes d c.job.limits
+offer_entry_causes c d = job_causes d c.job FromPipe
 
 module _ {E : Type 0} where
   -- the causes for which an offer is refused, in order

@@ -10,9 +10,8 @@ use Rattle.nqs_rules.specs.Find.{has_queue, has_device, find_row, find_peer, hel
 use Rattle.nqs_rules.specs.Conf.{is_wait, at_most}
 use Rattle.nqs_rules.specs.Sane.{is_sane_job, is_sane_id}
 use Rattle.nqs_base.specs.Path.{is_path}
-use Rattle.nqs_rules.specs.Routing.{is_closed}
 use Rattle.nqs_rules.specs.Applied.{is_offered_for}
-use Rattle.nqs_rules.specs.Fits.{is_site_host, is_offered_hand}
+use Rattle.nqs_rules.specs.Fits.{is_site_host, is_offered_hand, is_open_number, is_id_given}
 use Rattle.nqs_types.specs.declared.ids.HostId.{HostId}
 use Rattle.nqs_types.specs.declared.ids.RequestId.{RequestId}
 use Rattle.nqs_types.specs.declared.ids.Dest.{Dest}
@@ -58,10 +57,6 @@ is_hand_given number p = is_given number p.next
 abbrev pub is_stage_given : ℕ → Peer → Bool
 is_stage_given number p = is_given number p.stage_next
 
--- a promise's number isn't closed yet
-abbrev pub is_promise_open : ℕ → Peer → Bool
-is_promise_open number p = not (is_closed number p)
-
 module _ {E : Type 0} where
   -- names are there
 
@@ -93,10 +88,6 @@ module _ {E : Type 0} where
   abbrev pub is_id_right : State E → RequestId → Bool
   is_id_right s id = is_site_host id.host s && is_sane_id id
 
-  -- the request's number was given, if it is of this host
-  abbrev pub is_id_given : State E → RequestId → Bool
-  is_id_given s id = not (same_host s.me id.host) || nat_le id.seq s.seq
-
   -- a device that is named is there
   abbrev pub is_device_there : Option (List ℕ) → State E → Bool
   is_device_there None s = true
@@ -123,7 +114,7 @@ module _ {E : Type 0} where
 
   -- a promise's row is queued, its number isn't closed
   abbrev pub is_promise_right : State E → Promise E → Bool
-  is_promise_right s p = is_row_right s p.row && is_queued p.row.state && nat_le 1 p.number && passes (is_promise_open p.number) (find_peer p.peer s)
+  is_promise_right s p = is_row_right s p.row && is_queued p.row.state && nat_le 1 p.number && passes (is_open_number p.number) (find_peer p.peer s)
 
   -- whether a request is being handed over
   abbrev pub is_routing_row : Row E → Bool

@@ -53,12 +53,12 @@ abbrev pub promise_entry : HostId → Promise (List ℕ) → Entry
 promise_entry h p = entry_in h Arriving p.row
 
 -- the sender of a promise has committed its handover to this host
-abbrev pub is_committed_at : HostId → ℕ → Plain → Bool
-is_committed_at receiver number sender = passes is_committed_hand (find_hand receiver number sender)
+abbrev pub is_committed_to : HostId → ℕ → Plain → Bool
+is_committed_to receiver number sender = passes is_committed_hand (find_hand receiver number sender)
 
 -- whether a promise's request is its host's already: the peer's hand is committed
 abbrev pub is_arriving : List Plain → HostId → Promise (List ℕ) → Bool
-is_arriving states h p = passes (is_committed_at h p.number) (slice_get states p.peer.0)
+is_arriving states h p = passes (is_committed_to h p.number) (slice_get states p.peer.0)
 
 -- the promises of a host whose requests are its own already
 abbrev pub arriving : List Plain → HostId → Plain → List (Promise (List ℕ))

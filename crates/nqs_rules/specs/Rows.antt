@@ -2,11 +2,12 @@
 use Rattle.std.specs.Prelude.{ℕ, ◌+◌, Bool, true, not, ◌&&◌, ◌||◌, nat_le, if◌then◌else◌, List, [], ◌∷◌, ◌++◌, map, Option, None, Some}
 use Rattle.nqs_base.specs.Same.{name_eq}
 use Rattle.nqs_state.specs.State.{State}
-use Rattle.nqs_rules.specs.Tests.{passes, is_running, is_routing, is_unheld, is_pipe, last_u64, last_seq}
+use Rattle.nqs_rules.specs.Tests.{passes, is_running, is_routing, is_unheld, last_u64, last_seq}
 use Rattle.nqs_rules.specs.Causes.{Cause, cause}
 use Rattle.nqs_rules.specs.Find.{has_queue, find_queue, meant_request, meant_row, held_count}
 use Rattle.nqs_rules.specs.Edits.{change_row}
 use Rattle.nqs_rules.specs.Access.{entry_causes, rank, is_plain_user}
+use Rattle.nqs_rules.specs.Conf.{is_pipe_queue}
 use Rattle.nqs_rules.specs.Limits.{over_causes}
 use Rattle.nqs_types.specs.declared.ids.RequestId.{RequestId}
 use Rattle.nqs_types.specs.declared.ids.Named.{Named}
@@ -14,6 +15,7 @@ use Rattle.nqs_types.specs.declared.request.Job.{Job}
 use Rattle.nqs_types.specs.declared.request.Row.{Row}
 use Rattle.nqs_types.specs.declared.request.Hold.TheVariants.{No, User}
 use Rattle.nqs_types.specs.declared.queue.QueueDef.{QueueDef}
+use Rattle.nqs_types.specs.declared.rule.Entry.{Entry}
 use Rattle.nqs_types.specs.declared.rule.Entry.TheVariants.{Direct, FromPipe}
 use Rattle.nqs_types.specs.declared.refusal.Refusal.TheVariants.{NoQueue, NoDefault, NoRequest, NotOwner, RequestRouting, RequestRunning, NotHeld, IsHeld}
 use Rattle.nqs_types.specs.declared.refusal.Refusal.TheVariants.{WrongKind, HostFull, NumbersUsed}
@@ -44,9 +46,13 @@ module _ {E : Type 0} where
   abbrev pub numbers_used : State E → Bool
   numbers_used s = nat_le last_seq s.seq || arrivals_used s
 
+-- why a job isn't let into a queue
+abbrev pub job_causes : QueueDef → Job → Entry → List Cause
+job_causes d job entry = entry_causes d job.owner entry ++ over_causes d job.limits
+
 -- why a user's job isn't let into a queue
 abbrev pub queue_entry_causes : Job → QueueDef → List Cause
-queue_entry_causes job d = entry_causes d job.owner Direct ++ over_causes d job.limits
+queue_entry_causes job d = job_causes d job Direct
 
 module _ {E : Type 0} where
   -- what keeps a job out of the queue that is meant
@@ -91,21 +97,17 @@ module _ {E : Type 0} where
 
   -- the way of a row's job into a queue from another one
   abbrev pub move_entry_causes : Row E → QueueDef → List Cause
-  move_entry_causes r d = entry_causes d r.job.owner FromPipe ++ over_causes d r.job.limits
+  move_entry_causes r d = job_causes d r.job FromPipe
 
   -- what keeps a request from being moved to a queue
   abbrev pub move_causes : Named → List ℕ → State E → Row E → List Cause
   move_causes id q s r =
       cause (not (has_queue q s)) (NoQueue q) ∷ idle_causes id r ++ causes_of (move_entry_causes r) (find_queue q s) ++ cause (arrivals_used s) NumbersUsed ∷ []
 
--- whether a queue carries requests to other queues
-abbrev pub is_pipe_named : QueueDef → Bool
-is_pipe_named d = is_pipe d.kind
-
 module _ {E : Type 0} where
   -- the causes for which an edit of requests is refused, in order
   abbrev pub rows_causes : RowsEdit → State E → List Cause
-  rows_causes (AbortQueue q) s = cause (not (has_queue q s)) (NoQueue q) ∷ cause (passes is_pipe_named (find_queue q s)) WrongKind ∷ []
+  rows_causes (AbortQueue q) s = cause (not (has_queue q s)) (NoQueue q) ∷ cause (passes is_pipe_queue (find_queue q s)) WrongKind ∷ []
   rows_causes (HoldRequest id) s = named_causes id (hold_causes id) (meant_row id s)
   rows_causes (ReleaseRequest id) s = named_causes id (release_causes id) (meant_row id s)
   rows_causes (MoveRequest id q) s = named_causes id (move_causes id q s) (meant_row id s)

@@ -1,6 +1,6 @@
 -- What a host starts.
 use Rattle.std.specs.Prelude.{ℕ, ◌+◌, not, List, [], ◌∷◌, ◌++◌, slice_get, Option, None, Some, Result, Ok, Err}
-use Rattle.std.specs.Option.{option_map, option_and_then}
+use Rattle.std.specs.Option.{option_map, option_and_then, option_or}
 use Rattle.nqs_state.specs.State.{State}
 use Rattle.nqs_rules.specs.Causes.{Cause, cause, first_refusal, refusal_number}
 use Rattle.nqs_rules.specs.Find.{has_queue, find_queue}
@@ -20,15 +20,10 @@ use Rattle.nqs_types.specs.declared.change.Change.TheVariants.{Started, HeldFar,
 use Rattle.nqs_types.specs.declared.event.LaunchOrder.{LaunchOrder}
 use Rattle.nqs_types.specs.declared.event.Output.TheVariants as out
 
--- a number, or else another one, if any
-abbrev pub or_else : Option ℕ → Option ℕ → Option ℕ
-or_else None d = d
-or_else (Some n) d = Some n
-
 -- a request's limits, and where it states none the queue's
 abbrev pub limits_of : Limits → Option QueueDef → Limits
 limits_of l None = l
-limits_of l (Some d) = record { cpu = or_else l.cpu d.limits.cpu; memory = or_else l.memory d.limits.memory }
+limits_of l (Some d) = record { cpu = option_or l.cpu d.limits.cpu; memory = option_or l.memory d.limits.memory }
 
 module _ {E : Type 0} where
   -- what the launcher of a job is told

@@ -37,25 +37,27 @@ use Rattle.nqs_types.specs.declared.event.Command.{Command}
 use Rattle.nqs_types.specs.declared.event.Event.{Event}
 use Rattle.nqs_types.specs.declared.event.Event.TheVariants as event
 use Rattle.nqs_types.specs.declared.event.Output.{Output}
+use Rattle.nqs_state.specs.Least.{runs_now, is_less_row}
 use Rattle.nqs_types.specs.declared.event.Output.TheVariants as out
 
 -- a script, an output or a text
 abbrev pub Bytes : Type 0
 Bytes = List ℕ
 
+-- something of each disk of a host
+pub record OfDisks (A : Type 0) : Type 0 where
+  pub root : A
+  pub first : A
+  pub second : A
+  pub spool : A
+
 -- for each disk of a host: the calls left until its fuse, or none
-pub record Fuses : Type 0 where
-  pub root : Option ℕ
-  pub first : Option ℕ
-  pub second : Option ℕ
-  pub spool : Option ℕ
+abbrev pub Fuses : Type 0
+Fuses = OfDisks (Option ℕ)
 
 -- for each disk of a host: its writes and syncs since it was new or last became the image of a stop
-pub record Calls : Type 0 where
-  pub root : ℕ
-  pub first : ℕ
-  pub second : ℕ
-  pub spool : ℕ
+abbrev pub Calls : Type 0
+Calls = OfDisks ℕ
 
 -- A host: whether it is up, its state, the states that its disks told before since they were new or
 -- last became the image of a stop, the last of them first, what its next stop leaves of a write,
@@ -196,12 +198,12 @@ spool_calls [] = 0
 spool_calls ([] ∷ puts) = spool_calls puts
 spool_calls ((b ∷ bs) ∷ puts) = 2 + spool_calls puts
 
--- the fuse of a disk
-abbrev pub fuse_of : Which → Fuses → Option ℕ
-fuse_of Root f = f.root
-fuse_of First f = f.first
-fuse_of Second f = f.second
-fuse_of Spool f = f.spool
+-- what is of a disk
+abbrev pub of_disk : {A : Type 0} → Which → OfDisks A → A
+of_disk Root all = all.root
+of_disk First all = all.first
+of_disk Second all = all.second
+of_disk Spool all = all.spool
 
 -- the fuses after so many calls of a disk
 abbrev pub burnt_at : Which → ℕ → Fuses → Fuses
@@ -232,7 +234,7 @@ ready h = if is_due h.records then turns_over h else h
 
 -- a fuse falls among a checkpoint's calls of the other journal
 abbrev pub falls_at_journal : Host → Bool
-falls_at_journal h = falls (fuse_of (resting h.root) h.fuses) 2
+falls_at_journal h = falls (of_disk (resting h.root) h.fuses) 2
 
 -- a fuse falls among a checkpoint's calls of the root
 abbrev pub falls_at_root : Host → Bool
@@ -242,7 +244,7 @@ falls_at_root h = falls h.fuses.root 2
 -- journal
 abbrev pub fate_of_record : List Bytes → Host → Fate
 fate_of_record puts h =
-    let fuse = fuse_of (active h.root) h.fuses in
+    let fuse = of_disk (active h.root) h.fuses in
     if falls h.fuses.spool (spool_calls puts) then StoppedBefore
     else (if falls fuse 4 then (if falls_at_gate fuse && keeps_gate h.tear then StoppedAfter else StoppedBefore) else Made)
 
@@ -427,14 +429,6 @@ abbrev pub takes : HostId → Event → World → Ran
 takes h e w = taken_by (host_of h w) h (λ host. takes_up h host e) w
 
 -- the least running request of a host, by the host of its submission and then by its number
-
--- whether a request runs
-abbrev pub runs_now : Row Bytes → Bool
-runs_now r = is_running r.state
-
--- the order of requests that a host has
-abbrev pub is_less_row : Row Bytes → Row Bytes → Bool
-is_less_row a b = is_less_id a.id b.id
 
 -- a job ends, with status 0; of a host that runs none it is seen that it is idle
 abbrev pub finishes : HostId → Host → Option (ℕ × Row Bytes) → World → Ran

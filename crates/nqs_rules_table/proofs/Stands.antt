@@ -7,7 +7,7 @@ use Rattle.nqs_state.specs.declared.state.HostState.{HostState}
 use Rattle.nqs_rules.specs.Plain.{map_row, map_promise, map_state}
 use Rattle.nqs_rules.specs.Tests.{passes}
 use Rattle.nqs_rules.specs.Find.{host_at}
-use Rattle.nqs_rules.specs.Net.{row_entry, promise_entry, is_committed_at, is_arriving, entries_at, by_request, table_row, table_at, table_from, table}
+use Rattle.nqs_rules.specs.Net.{row_entry, promise_entry, is_committed_to, is_arriving, entries_at, by_request, table_row, table_at, table_from, table}
 use Rattle.nqs_rules.proofs.ListMaps.{map-mapped}
 use Rattle.nqs_rules_table.specs.Standing.{StandsFor, StandForEach}
 use Rattle.nqs_rules_table.specs.Shown.{no_bytes, bare}
@@ -25,11 +25,11 @@ kept-alike p q g h m tests same (a ∷ xs) =
     by false rest = rest
 
 committed-bare : (h : HostId) (n : ℕ) (states : List HostState) (plains : List Plain) → StandForEach states plains → (i : ℕ)
-    → passes (is_committed_at h n) (slice_get plains i) ≡ passes (is_committed_at h n) (slice_get (map bare states) i)
+    → passes (is_committed_to h n) (slice_get plains i) ≡ passes (is_committed_to h n) (slice_get (map bare states) i)
 committed-bare h n [] [] stand i = refl
 committed-bare h n [] (plain ∷ plains) stand i = absurd stand
 committed-bare h n (state ∷ states) [] stand i = absurd stand
-committed-bare h n (state ∷ states) (plain ∷ plains) stand zero = ap (is_committed_at h n) (sym stand.0.1)
+committed-bare h n (state ∷ states) (plain ∷ plains) stand zero = ap (is_committed_to h n) (sym stand.0.1)
 committed-bare h n (state ∷ states) (plain ∷ plains) stand (suc i) = committed-bare h n states plains stand.1 i
 
 module _ (states : List HostState) (plains : List Plain) (stand : StandForEach states plains) (h : HostId) where

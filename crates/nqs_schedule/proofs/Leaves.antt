@@ -13,6 +13,7 @@ use Rattle.nqs_types.specs.declared.ids.Named.{Named}
 use Rattle.nqs_base.specs.declared.tear.Tear.{Tear}
 use Rattle.nqs_base.specs.declared.tear.Tear.TheVariants as tear
 use Rattle.nqs_types.specs.declared.world.Which.{Which}
+use Rattle.nqs_rules.specs.Tests.{last_u64}
 use Rattle.nqs_types.specs.declared.world.Which.TheVariants as which
 use Rattle.nqs_words.specs.Values.{name_of, named_of, number_of}
 use Rattle.nqs_words.specs.declared.values.NotNamed.{NotNamed}
@@ -21,7 +22,6 @@ use Rattle.nqs_words.proofs.Requests.{name-is, is-name, number-is, is-number, re
 use Rattle.nqs_schedule.specs.declared.cause.Cause.{Cause}
 use Rattle.nqs_schedule.specs.declared.cause.Cause.TheVariants as cause
 use Rattle.nqs_schedule.specs.Words.{Read, ◌>>=◌, or_fault, as_host, host_of, or_bad_request, disk_of, mixed_of, tear_of}
-use Rattle.nqs_schedule.specs.Forms.{last_number}
 use Rattle.nqs_schedule.specs.Spelled.{IsNone, IsNameWord, NoName, IsNumber, NoNumber, IsPlace, NoPlace, IsHost, NoHost, IsId, NoId, disk_text, IsDisk, NoDisk}
 use Rattle.nqs_schedule.specs.Spelled.{IsMixed, IsTear, NoTear}
 use Rattle.nqs_schedule.proofs.Readings.{reads-Ok, reads-Err, reads-one, reads-cause, reads-same}
@@ -127,7 +127,7 @@ reads-disk word = reads-cause (disk_of word) (IsDisk word) cause.UnknownWord (λ
 -- ---- tears
 
 abbrev number_tear : List ℕ → Read Tear
-number_tear digits = or_fault (number_of 0 last_number digits) cause.BadNumber >>= (λ n. Ok (tear.Mixed n))
+number_tear digits = or_fault (number_of 0 last_u64 digits) cause.BadNumber >>= (λ n. Ok (tear.Mixed n))
 
 abbrev first_byte : List ℕ → ℕ
 first_byte l = get_or l 0 0
@@ -154,13 +154,13 @@ new-tear (tear.Mixed n) h = absurd (new_mixed h.0 h.1)
 mixed-once : (digits others : List ℕ) → codes "mixed:" ++ digits ≡ codes "mixed:" ++ others → others ≡ digits
 mixed-once digits others e = sym (ap (drop 6) e)
 
-mixed-tear : (digits : List ℕ) (t : Tear) → IsTear (codes "mixed:" ++ digits) t → (n : ℕ) × IsNumber 0 last_number digits n × (t ≡ tear.Mixed n)
+mixed-tear : (digits : List ℕ) (t : Tear) → IsTear (codes "mixed:" ++ digits) t → (n : ℕ) × IsNumber 0 last_u64 digits n × (t ≡ tear.Mixed n)
 mixed-tear digits tear.Old h = absurd (old_mixed digits (sym h))
 mixed-tear digits tear.New h = absurd (new_mixed digits (sym h))
-mixed-tear digits (tear.Mixed n) h = (n, subst (λ (d : List ℕ). IsNumber 0 last_number d n) (mixed-once digits h.0 h.1) h.2, refl)
+mixed-tear digits (tear.Mixed n) h = (n, subst (λ (d : List ℕ). IsNumber 0 last_u64 d n) (mixed-once digits h.0 h.1) h.2, refl)
 
-no-mixed-tear : (digits : List ℕ) (why : Cause) → NoTear (codes "mixed:" ++ digits) why → NoNumber 0 last_number digits why
-no-mixed-tear digits why (inl h) = subst (λ (d : List ℕ). NoNumber 0 last_number d why) (mixed-once digits h.0 h.1) h.2
+no-mixed-tear : (digits : List ℕ) (why : Cause) → NoTear (codes "mixed:" ++ digits) why → NoNumber 0 last_u64 digits why
+no-mixed-tear digits why (inl h) = subst (λ (d : List ℕ). NoNumber 0 last_u64 d why) (mixed-once digits h.0 h.1) h.2
 no-mixed-tear digits why (inr h) = absurd (h.2 digits refl)
 
 no-known-tear : (word : List ℕ) (why : Cause) → (word ≡ codes "old") ⊎ (word ≡ codes "new") → NoTear word why → ⊥
@@ -187,10 +187,10 @@ reads-mixed : (digits : List ℕ) → Reads (tear_of (codes "mixed:" ++ digits))
 reads-mixed digits =
     let word = codes "mixed:" ++ digits in
     subst (λ (m : Read Tear). Reads m (IsTear word) (NoTear word)) (sym (tear-mixed digits))
-    (reads-same (number_tear digits) (λ t. (n : ℕ) × IsNumber 0 last_number digits n × (t ≡ tear.Mixed n)) (IsTear word) (NoNumber 0 last_number digits)
+    (reads-same (number_tear digits) (λ t. (n : ℕ) × IsNumber 0 last_u64 digits n × (t ≡ tear.Mixed n)) (IsTear word) (NoNumber 0 last_u64 digits)
     (NoTear word)
-    (reads-map (or_fault (number_of 0 last_number digits) cause.BadNumber) (λ (n : ℕ). tear.Mixed n) (IsNumber 0 last_number digits)
-    (NoNumber 0 last_number digits) (reads-number 0 last_number digits))
+    (reads-map (or_fault (number_of 0 last_u64 digits) cause.BadNumber) (λ (n : ℕ). tear.Mixed n) (IsNumber 0 last_u64 digits)
+    (NoNumber 0 last_u64 digits) (reads-number 0 last_u64 digits))
     (λ t. ((λ h. subst (IsTear word) (sym h.2) (digits, refl, h.1)), mixed-tear digits t)) (λ why. ((λ h. inl (digits, refl, h)), no-mixed-tear digits why)))
 
 -- none of the three

@@ -40,7 +40,8 @@ reads-one {A} m P c ok one = (ok, (λ why. ((λ e. ((λ a p. apart a why (sym ((
     back why (Err x) is n = is ∙ ap (λ (y : Cause). Err y) (one x is ∙ sym n.1)
 
 pub reads-cause : {A : Type 0} (o : Option A) (P : A → Type 0) (c : Cause) → ((a : A) → o ≡ Some a ↔ P a) → Reads (or_fault o c) P (IsNone P c)
-reads-cause {A} o P c some = reads-one (or_fault o c) P c (λ a. ((λ e. (some a).0 (((reads-or_fault o c).0 a).0 e)), (λ p. let is = (some a).1 p in rw is refl)))
+reads-cause {A} o P c some = reads-one (or_fault o c) P c
+    (λ a. ((λ e. (some a).0 (((reads-or_fault o c).0 a).0 e)), (λ p. let is = (some a).1 p in rw is refl)))
     (λ why e. (((reads-or_fault o c).1 why).0 e).1)
 
 -- the same said in other words

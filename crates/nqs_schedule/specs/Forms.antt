@@ -5,6 +5,7 @@ use Rattle.nqs_types.specs.declared.ids.RequestId.{RequestId}
 use Rattle.nqs_base.specs.declared.tear.Tear.{Tear}
 use Rattle.nqs_types.specs.declared.world.Which.{Which}
 use Rattle.nqs_types.specs.declared.world.WorldEvent.{WorldEvent}
+use Rattle.nqs_rules.specs.Tests.{last_u64}
 use Rattle.nqs_types.specs.declared.world.WorldEvent.TheVariants as event
 use Rattle.nqs_schedule.specs.declared.cause.Cause.{Cause}
 use Rattle.nqs_schedule.specs.declared.cause.Cause.TheVariants as cause
@@ -61,10 +62,6 @@ verb_text verb.Crash = codes "crash"
 verb_text verb.Boot = codes "boot"
 verb_text verb.Show = codes "show"
 
--- the greatest number of 64 bits
-abbrev pub last_number : ℕ
-last_number = 18446744073709551615
-
 -- what follows the first word; a line of hosts is no event
 unfoldable pub form_of : Verb → Form
 form_of verb.Hosts = never cause.LateHosts
@@ -76,13 +73,13 @@ form_of verb.Qdel = host (λ h. name (λ user. words (λ asked. event.Qdel h use
 form_of verb.End = host (λ h. request (λ id. number 0 65535 (λ start. number 0 255 (λ status. outputs (λ out err. event.End h id start status out err)))))
 form_of verb.Finish = host (λ h. done (event.Finish h))
 form_of verb.Fail = host (λ h. request (λ id. number 0 65535 (λ start. done (event.Fail h id start))))
-form_of verb.Written = host (λ h. number 0 last_number (λ file. done (event.Written h file)))
-form_of verb.Unwritten = host (λ h. number 0 last_number (λ file. done (event.Unwritten h file)))
-form_of verb.Deliver = number 1 last_number (λ packet. done (event.Deliver packet))
+form_of verb.Written = host (λ h. number 0 last_u64 (λ file. done (event.Written h file)))
+form_of verb.Unwritten = host (λ h. number 0 last_u64 (λ file. done (event.Unwritten h file)))
+form_of verb.Deliver = number 1 last_u64 (λ packet. done (event.Deliver packet))
 form_of verb.Newest = host (λ one. host (λ other. done (event.Newest one other)))
 form_of verb.Tick = host (λ h. done (event.Tick h))
-form_of verb.Clock = number 0 last_number (λ moment. done (event.Clock moment))
-form_of verb.Fuse = host (λ h. disk (λ d. number 0 last_number (λ calls. tear (λ t. done (event.Fuse h d calls t)))))
+form_of verb.Clock = number 0 last_u64 (λ moment. done (event.Clock moment))
+form_of verb.Fuse = host (λ h. disk (λ d. number 0 last_u64 (λ calls. tear (λ t. done (event.Fuse h d calls t)))))
 form_of verb.Crash = host (λ h. done (event.Crash h))
 form_of verb.Boot = host (λ h. done (event.Boot h))
 form_of verb.Show = done event.Show

@@ -13,6 +13,7 @@ use Rattle.nqs_types.specs.declared.world.Which.{Which}
 use Rattle.nqs_types.specs.declared.world.Which.TheVariants as which
 use Rattle.nqs_types.specs.declared.world.WorldEvent.{WorldEvent}
 use Rattle.nqs_text.specs.Number.{decimal, AreDigits}
+use Rattle.nqs_rules.specs.Tests.{last_u64}
 use Rattle.nqs_words.specs.Spelled.{IsRequest}
 use Rattle.nqs_schedule.specs.declared.cause.Cause.{Cause}
 use Rattle.nqs_schedule.specs.declared.cause.Cause.TheVariants as cause
@@ -23,7 +24,7 @@ use Rattle.nqs_schedule.specs.declared.line.Says.TheVariants.{Event}
 use Rattle.nqs_schedule.specs.Words.{Read, no_word}
 use Rattle.nqs_schedule.specs.Events.{words_behind, qmgr_text}
 use Rattle.nqs_schedule.specs.Says.{event_says}
-use Rattle.nqs_schedule.specs.Forms.{Form, never, done, host, name, request, number, disk, tear, text, words, outputs, rest, last_number, form_of}
+use Rattle.nqs_schedule.specs.Forms.{Form, never, done, host, name, request, number, disk, tear, text, words, outputs, rest, form_of}
 
 -- ---- one word
 
@@ -94,12 +95,12 @@ IsMixed word digits = word ≡ codes "mixed:" ++ digits
 abbrev pub IsTear : List ℕ → Tear → Type 0
 IsTear word tear.Old = word ≡ codes "old"
 IsTear word tear.New = word ≡ codes "new"
-IsTear word (tear.Mixed n) = (digits : List ℕ) × IsMixed word digits × IsNumber 0 last_number digits n
+IsTear word (tear.Mixed n) = (digits : List ℕ) × IsMixed word digits × IsNumber 0 last_u64 digits n
 
 -- `mixed:` without a number, or none of the three
 abbrev pub NoTear : List ℕ → Cause → Type 0
 NoTear word why =
-    ((digits : List ℕ) × IsMixed word digits × NoNumber 0 last_number digits why)
+    ((digits : List ℕ) × IsMixed word digits × NoNumber 0 last_u64 digits why)
     ⊎ ((word ≢ codes "old") × (word ≢ codes "new") × ((digits : List ℕ) → IsMixed word digits → ⊥) × (why ≡ cause.UnknownWord))
 
 -- the word may be any, and these are its bytes

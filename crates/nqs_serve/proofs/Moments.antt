@@ -15,15 +15,15 @@ use Rattle.nqs_rules.specs.Starts.{after_change, after_starts, after_step, start
 use Rattle.nqs_rules.specs.Stepped.{Stepped, stored_parts}
 use Rattle.nqs_rules.proofs.StartIs.{IsSteady}
 use Rattle.nqs_outside.specs.Asked.{Arrival}
-use Rattle.nqs_outside.specs.History.{History, extended, state, after as after_calls, IsImage}
+use Rattle.nqs_outside.specs.History.{History, state, after as after_calls, IsImage}
 use Rattle.nqs_outside.specs.declared.disk.Disk as disk
-use Rattle.nqs_outside.proofs.Histories.{after-append, state-extended, goes_on}
+use Rattle.nqs_outside.proofs.Histories.{after-append, state-extended}
 use Rattle.nqs_store.specs.Active.{Active, ready, recorded}
 use Rattle.nqs_store.specs.Commits.{EachImage, Keeping}
 use Rattle.nqs_store.specs.Hosts.{HostCall, part, Runs, EachPrefix}
 use Rattle.nqs_store.specs.Images.{IsTold, TellsOneOf}
 use Rattle.nqs_store.proofs.Runs.{none_more}
-use Rattle.nqs_store.proofs.HostRuns.{part_append}
+use Rattle.nqs_store.proofs.HostRuns.{part_append, runs_both}
 use Rattle.nqs_node.specs.Carried.{Kept, after_kept, IsOneOrOther, started}
 use Rattle.nqs_node.specs.Nodes.{active_of, content_of, history_of}
 use Rattle.nqs_node.specs.declared.node.Node.{Node}
@@ -41,10 +41,6 @@ use Rattle.nqs_serve.proofs.Starting.{one_start, none_started, after_more}
 -- calls of the disks, one list after the other
 
 module _ (old mid now : Which → History) (xs ys : List HostCall) (one : Runs old mid xs) (two : Runs mid now ys) where
-  runs_then : Runs old now (xs ++ ys)
-  runs_then which = goes_on (old which) (mid which) (now which) (part which xs) (part which ys) (one which) (two which)
-      ∙ ap (extended (old which)) (sym (part_append which xs ys))
-
   -- what the disks may leave after some of the later calls
   later_state : (which : Which) (n : ℕ) → after_calls (state (old which)) (part which (take (length xs + n) (xs ++ ys))) ≡ after_calls (state (mid which))
       (part which (take n ys))
@@ -164,7 +160,7 @@ pub through_then : (a b c : Active) (old mid now : Which → History) (P : Plain
 through_then a b c old mid now P one two = (
   one.0 ++ two.0,
   made_then a b c one.0 two.0 one.1 two.1,
-  runs_then old mid now one.0 two.0 one.2 two.2,
+  runs_both old mid now one.0 two.0 one.2 two.2,
   each_then old mid now one.0 two.0 one.2 two.2 _ one.3 two.3,
 )
 

@@ -39,6 +39,7 @@ use Rattle.nqs_laws.proofs.RowTests.{AllPass}
 use Rattle.nqs_laws.proofs.Sides.{AreShort}
 use Rattle.nqs_laws.proofs.Sent.{is_fine_message, is_good_output, GoesBack, all_good, all_sent, step_good, start_good, step_fine, start_sends}
 use Rattle.nqs_back.specs.Bare.{emptied, without_bytes}
+use Rattle.nqs_back.proofs.Plans.{sent_twice}
 use Rattle.nqs_node.specs.Carried.{started}
 use Rattle.nqs_node.specs.Reading.{carries_short, sends_short, AreShort as AreShortOutputs}
 use Rattle.nqs_serve.specs.Sends.{has_number, is_right_id, bare, is_right_message, is_right_output, AreRight, is_right_event}
@@ -59,18 +60,14 @@ abbrev any : Carried → Bool
 any c = true
 
 module _ (hosts : ℕ) where
-  body_bare : (b : Body) → sent_with [] (sent_with [] b) ≡ sent_with [] b
-  body_bare (Offer n queue c script) = refl
-  body_bare (Stage n path bytes) = refl
-  body_bare b = refl
-
   number_bare : (b : Body) → has_number (sent_with [] b) ≡ has_number b
   number_bare (Offer n queue c script) = refl
   number_bare (Stage n path bytes) = refl
   number_bare b = refl
 
   message_bare : (m : Message) → is_right_message hosts (bare m) ≡ is_right_message hosts m
-  message_bare m = λ j. is_of_site hosts m.to && number_bare m.body j && is_sane_message hosts (record { from = m.from; to = m.to; body = body_bare m.body j })
+  message_bare m = λ j. is_of_site hosts m.to && number_bare m.body j
+      && is_sane_message hosts (record { from = m.from; to = m.to; body = sent_twice [] [] m.body j })
 
   output_bare : (o : Output) → is_right_output hosts (without_bytes o) ≡ is_right_output hosts o
   output_bare (out.Send m) = message_bare m

@@ -21,9 +21,9 @@ use Rattle.nqs_types.specs.declared.queue.QueueDef.{QueueDef}
 use Rattle.nqs_state.specs.State.{State}
 use Rattle.nqs_rules.specs.Tests.{passes, is_routing}
 use Rattle.nqs_rules.specs.Find.{find_peer}
-use Rattle.nqs_rules.specs.Fits.{is_site_host}
+use Rattle.nqs_rules.specs.Fits.{is_site_host, is_open_number}
 use Rattle.nqs_rules.specs.Sane.{is_sane_id}
-use Rattle.nqs_rules.specs.InOrder.{IsInOrder, is_given, is_hand_given, is_stage_given, is_promise_open}
+use Rattle.nqs_rules.specs.InOrder.{IsInOrder, is_given, is_hand_given, is_stage_given}
 use Rattle.nqs_rules.specs.InOrder.{is_dest_right, is_refused_right, is_queue_right, is_id_right, is_row_right, is_promise_right}
 use Rattle.nqs_rules.specs.InOrder.{is_hand_right, is_stage_right, is_file_right}
 use Rattle.nqs_rules.proofs.Chains.{each, chained}
@@ -96,7 +96,7 @@ module _ (s : State Extent) (h : IsInOrder s) where
   promise_stands : (p : Promise Extent) → IsTypedPromise p → is_promise_right s p ≡ true → nat_le p.row.script.length 32768 ≡ true → IsPromise p
   promise_stands p typed is short =
       let k = promise_is s p is in
-      (peer_stands p.peer (is_promise_open p.number) k.opens, typed.0, row_stands p.row typed.1 k.row short)
+      (peer_stands p.peer (is_open_number p.number) k.opens, typed.0, row_stands p.row typed.1 k.row short)
 
   stage_stands : (t : Stage Extent) → IsTypedStage t → is_stage_right s t ≡ true → nat_le t.bytes.length 32768 ≡ true → IsStage t
   stage_stands t typed is short =

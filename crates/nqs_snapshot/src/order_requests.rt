@@ -5,9 +5,10 @@ ghost use Rattle.std.specs.List.{list_all};
 ghost use Rattle.nqs_state.specs.State.{content};
 ghost use Rattle.nqs_rules.specs.Find.{find_peer, find_row};
 ghost use Rattle.nqs_rules.specs.Tests.{passes};
-ghost use Rattle.nqs_rules.specs.InOrder.{is_given, is_hand_given, is_stage_given, is_routing_row, is_refused_right, is_id_right, is_id_given};
+ghost use Rattle.nqs_rules.specs.InOrder.{is_given, is_hand_given, is_stage_given, is_routing_row, is_refused_right, is_id_right};
 ghost use Rattle.nqs_rules.specs.InOrder.{is_device_there, is_count_right, is_hop_right, is_row_right, is_promise_right, is_hand_right, is_stage_right};
 ghost use Rattle.nqs_rules.specs.InOrder.{is_file_right};
+ghost use Rattle.nqs_rules.specs.Fits.{is_id_given};
 
 use crate::order::{LAST_SEQ, Right, is_site_host};
 use nqs_routing::{find_peer, is_open_number};

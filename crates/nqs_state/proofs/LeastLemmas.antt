@@ -5,6 +5,7 @@ use Rattle.std.specs.Prelude.{cond}
 use Rattle.std.specs.Option.{option_map}
 use Rattle.std.proofs.lemmas.Bool.Decides.{nat_tests}
 use Rattle.std.proofs.lemmas.Option.{same_Some, none-some}
+use Rattle.nqs_base.proofs.Plain.{found_passes}
 use Rattle.nqs_base_tables.specs.Table.{better, best_from}
 use Rattle.nqs_types.specs.Ids.{id_eq, id_exact}
 use Rattle.nqs_types.specs.RowStates.{is_running}
@@ -53,13 +54,8 @@ module _ {E : Type 0} where
       by false e isnt o rest = rest
 
   -- the row that is found has the request
-  found_id : (id : RequestId) (rows : List (Row E)) (r : Row E) → find (is_row id) rows ≡ Some r → id ≡ r.id
-  found_id id [] r h = absurd (none-some r h)
-  found_id id (v ∷ vs) r h = by (id_eq id v.id) refl h (found_id id vs r)
-    where
-      by : (b : Bool) → id_eq id v.id ≡ b → cond b (Some v) (find (is_row id) vs) ≡ Some r → (find (is_row id) vs ≡ Some r → id ≡ r.id) → id ≡ r.id
-      by true e is rest = id_exact id v.id e ∙ ap (λ (w : Row E). w.id) (same_Some v r is)
-      by false e is rest = rest is
+  pub found_id : (id : RequestId) (rows : List (Row E)) (r : Row E) → find (is_row id) rows ≡ Some r → id ≡ r.id
+  found_id id rows r h = id_exact id r.id (found_passes (is_row id) rows r h)
 
   -- a running row that is found by its request, where none that runs is less, is the least
   found_least : (id : RequestId) (n : ℕ) (rows : List (Row E)) (r : Row E) → number (λ r. runs_now r && is_less_id r.id id) rows ≡ 0

@@ -12,12 +12,14 @@ ghost use Rattle.nqs_rules.specs.Stepped.{plan_of};
 ghost use Rattle.nqs_step.specs.Started.{used_causes, started_row};
 
 use nqs_base::{ListOf, Memory, Name};
-use nqs_handover::{check_way, dest_at, offer_row};
+use nqs_handover::{dest_at, offer_row};
 use nqs_order::pick_next;
 use nqs_plans::{add_kept, change_alone, refusal_number};
-use nqs_rows::check_arrivals;
+use nqs_rows::{check_arrivals, check_job};
 use nqs_state::HostState;
-use nqs_types::{Change, Choice, Dest, LaunchOrder, Limits, Output, Plan, QueueDef, Refusal, Row};
+use nqs_types::{
+    Change, Choice, Dest, Entry, LaunchOrder, Limits, Output, Plan, QueueDef, Refusal, Row,
+};
 use std::alloc::Global;
 
 // The request's limits, and where it states none the queue's.
@@ -111,7 +113,7 @@ fn device_at<'a>(state: &'a HostState, row: &Row, place: usize) -> Option<&'a Na
 fn check_found(state: &HostState, queue: &QueueDef, row: &Row) -> Result<(), Refusal>
     ensures { result ≡ first_refusal (move_entry_causes row.now queue.now ++ used_causes (content state.now)) }
 {
-    check_way(queue, &row.job)?;
+    check_job(queue, &row.job, Entry::FromPipe)?;
     check_arrivals(state)
 }
 

@@ -58,7 +58,8 @@ module _ (byte : ℕ) (bytes : List ℕ) where
       ∙ by (n % 2 == 1)
       ∙ ap (λ first. first ∷ bytes) (ap (λ m. torn_byte m byte new) (no_bits n))
     where
-      by : (b : Bool) → take (if b then suc (length bytes) else suc (length bytes)) (torn_byte (bits n 0) byte new ∷ bytes) ≡ torn_byte (bits n 0) byte new ∷ bytes
+      by : (b : Bool) → take (if b then suc (length bytes) else suc (length bytes)) (torn_byte (bits n 0) byte new ∷ bytes)
+          ≡ torn_byte (bits n 0) byte new ∷ bytes
       by true = ap (λ l. torn_byte (bits n 0) byte new ∷ l) (take_all bytes)
       by false = ap (λ l. torn_byte (bits n 0) byte new ∷ l) (take_all bytes)
 

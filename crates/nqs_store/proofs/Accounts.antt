@@ -4,7 +4,7 @@ use Rattle.std.proofs.Common.{◌≡◌, ℕ, ◌+◌, Bool, true, false, cond, 
 use Rattle.std.proofs.Common.{Some, None, refl, sym, ap, subst, ◌∙◌, append_assoc}
 use Rattle.std.specs.List.{filter_map, cons_option}
 use Rattle.std.proofs.lemmas.List.{map-append}
-use Rattle.nqs_base_tables.specs.Table.{change_first, without_first}
+use Rattle.nqs_base_tables.specs.Table.{without_first}
 use Rattle.nqs_state.specs.Keys.{is_row, is_promise, is_stage, is_file}
 use Rattle.nqs_base.specs.declared.extent.Extent.{Extent}
 use Rattle.nqs_types.specs.declared.ids.HostId.{HostId}
@@ -46,6 +46,8 @@ use Rattle.nqs_rules.specs.Applied.{doomed_row, started_row, may_start_again, lo
 use Rattle.nqs_rules.specs.Applied.{hand_silent, hands_silent, is_promise_of, accepted, moved_local, local_refused, held_far, access_applied, edit_applied}
 use Rattle.nqs_rules.specs.Applied.{applied, drop_hand, drop_promise}
 use Rattle.nqs_rules.specs.Stepped.{stored_parts}
+use Rattle.nqs_rules.proofs.ListFacts.{map-changed}
+use Rattle.nqs_rules.proofs.FindKept.{map-kept}
 use Rattle.nqs_store.specs.Told.{Host}
 use Rattle.nqs_store.specs.Live.{row_part, promise_part, stage_part, file_part, output_parts, live}
 use Rattle.nqs_store.specs.Accounts.{Adds, Takes, IsRearranged}
@@ -80,19 +82,6 @@ module _ (s now : Host) where
     order = in_order _ (live now) (λ j. map row_part now.rows ++ (promises j ++ outs j));
   }
 
-change_first-part : {V : Type 0} (part : V → Extent) (test : V → Bool) (f : V → V) → ((v : V) → part (f v) ≡ part v) → (vs : List V)
-    → map part (change_first test f vs) ≡ map part vs
-change_first-part part test f keeps [] = refl
-change_first-part {V} part test f keeps (v ∷ vs) = by (test v) (change_first-part part test f keeps vs)
-  where
-    by : (b : Bool) → map part (change_first test f vs) ≡ map part vs → map part (cond b (f v ∷ vs) (v ∷ change_first test f vs)) ≡ part v ∷ map part vs
-    by true rest = ap (λ x. x ∷ map part vs) (keeps v)
-    by false rest = ap (λ l. part v ∷ l) rest
-
-map-part : {V : Type 0} (part : V → Extent) (f : V → V) → ((v : V) → part (f v) ≡ part v) → (vs : List V) → map part (map f vs) ≡ map part vs
-map-part part f keeps [] = refl
-map-part part f keeps (v ∷ vs) = λ j. keeps v j ∷ map-part part f keeps vs j
-
 boot_takes : (rs : List (Row Extent)) → Takes (map row_part rs) (map row_part (filter goes_at_boot rs)) (map row_part (filter_map booted_row rs))
 boot_takes [] = refl
 boot_takes (r ∷ rs) = by (is_running r.state) (may_start_again r) (boot_takes rs)
@@ -119,7 +108,7 @@ doomed-part q r = by (is_running r.state && Rattle.nqs_base.specs.Same.name_eq q
 row_changed : (id : RequestId) (f : Row Extent → Row Extent) → ((r : Row Extent) → row_part (f r) ≡ row_part r) → (s : Host)
     → AreAccounted (live s) (live (change_row id f s)) [] []
 row_changed id f keeps s = same s (change_row id f s) (ap (λ l. l ++ (map promise_part s.promises ++ output_parts s))
-    (sym (change_first-part row_part (is_row id) f keeps s.rows)))
+    (sym (map-changed row_part (is_row id) f keeps s.rows)))
 
 row_dropped : (id : RequestId) (s now : Host) → now.rows ≡ without_first (is_row id) s.rows → map promise_part s.promises ≡ map promise_part now.promises
     → output_parts s ≡ output_parts now → AreAccounted (live s) (live now) [] (part_of row_part (find_row id s))
@@ -153,7 +142,7 @@ meant_accounted (Some id) f keeps s = row_changed id f keeps s
 
 rows_accounted : (e : RowsEdit) (s : Host) → AreAccounted (live s) (live (rows_applied e s)) [] []
 rows_accounted (AbortQueue q) s = same s (rows_applied (AbortQueue q) s) (ap (λ l. l ++ (map promise_part s.promises ++ output_parts s))
-    (sym (map-part row_part (doomed_in q) (doomed-part q) s.rows)))
+    (sym (map-kept row_part (doomed_in q) (doomed-part q) s.rows)))
 rows_accounted (HoldRequest id) s = meant_accounted (meant_request id s) held_row (λ r. refl) s
 rows_accounted (ReleaseRequest id) s = meant_accounted (meant_request id s) released_row (λ r. refl) s
 rows_accounted (MoveRequest id q) s = meant_accounted (meant_request id s) (moved_row q (s.arrivals + 1)) (λ r. refl) (next_arrival s)
@@ -186,7 +175,7 @@ silent_live until (k ∷ ks) s = silent_live until ks (hand_silent until k (find
   where
     one : (o : Option Hand) → live (hand_silent until k o s) ≡ live s
     one None = refl
-    one (Some h) = ap (λ l. l ++ (map promise_part s.promises ++ output_parts s)) (change_first-part row_part (is_row h.id) requeued_row (λ r. refl) s.rows)
+    one (Some h) = ap (λ l. l ++ (map promise_part s.promises ++ output_parts s)) (map-changed row_part (is_row h.id) requeued_row (λ r. refl) s.rows)
 
 -- a promise becomes a row
 accepted_accounted : (k : PeerNumber) (o : Option (Promise Extent)) (s : Host) → find (is_promise k) s.promises ≡ o
@@ -347,7 +336,7 @@ accounted (Unlaunched id) s fine = row_dropped id s (applied (Unlaunched id) s) 
 accounted Boot s fine = rows_go s (applied Boot s) _ (boot_takes s.rows) refl refl
 accounted (Edited e) s fine = edit_accounted e s
 accounted (HandOpened peer number id queue since) s fine = same s (applied (HandOpened peer number id queue since) s)
-    (ap (λ l. l ++ (map promise_part s.promises ++ output_parts s)) (sym (change_first-part row_part (is_row id) routing_row (λ r. refl) s.rows)))
+    (ap (λ l. l ++ (map promise_part s.promises ++ output_parts s)) (sym (map-changed row_part (is_row id) routing_row (λ r. refl) s.rows)))
 accounted (HandCommitted peer number) s fine = committed_accounted (peer_number peer number) (find_hand peer number s) s
 accounted (HandRefused peer number refusal) s fine = refused_accounted (peer_number peer number) refusal (find_hand peer number s) s
 accounted (HandsSilent until hands) s fine = same s (hands_silent until hands s) (sym (silent_live until hands s))

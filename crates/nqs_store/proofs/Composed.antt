@@ -91,9 +91,12 @@ many_calls a places puts gate payload = omega (
   length_on (journal_of a) (append_calls gate payload),
 )
 
-pub idle_stops : (a : Active) (places : List ℕ) (puts : List (List ℕ)) → HostStops (commit_calls a [] places puts 0 []) []
-idle_stops a places puts = none_stops (due_calls a []) (change_calls (ready a) places puts 0 [])
-    (none_stops (on Spool (puts_calls places puts)) (on (journal_of (ready a)) (append_calls 0 [])) tt)
+-- no call of a commit was made
+pub none_begun : (a : Active) (snapshot places : List ℕ) (puts : List (List ℕ)) (gate : ℕ) (payload : List ℕ)
+    → HostStops (commit_calls a snapshot places puts gate payload) []
+none_begun a snapshot places puts gate payload =
+    none_stops (due_calls a snapshot) (change_calls (ready a) places puts gate payload)
+    (none_stops (on Spool (puts_calls places puts)) (on (journal_of (ready a)) (append_calls gate payload)) tt)
 
 -- nothing was done
 pub idle_by : (a : Active) (old now : Which → History) (puts : List (List ℕ)) → ((w : Which) → now w ≡ old w) → CommitsBy HostStops a puts old now
@@ -104,7 +107,7 @@ idle_by a old now puts same = record {
   payload = [];
   run = [];
   many = length-map puts (λ _. 0);
-  stands = idle_stops a (map (λ _. 0) puts) puts;
+  stands = none_begun a [] (map (λ _. 0) puts) puts 0 [];
   made = runs_none old now same;
 }
 
@@ -124,7 +127,7 @@ module _ {D : Type 0} {g : disk.Ghosts D} where
         payload = [];
         run = [];
         many = length-map puts (λ _. 0);
-        begun = inr (idle_stops a places puts);
+        begun = inr (none_begun a [] places puts 0 []);
         made = runs_none (history_of old) now same;
         told = m.told;
         settled = m.settled;

@@ -2,12 +2,13 @@ use Rattle.std.proofs.Common.{nat_le, not, length, [], ◌∷◌}
 use Rattle.std.proofs.lemmas.Bool.{and_parts}
 use Rattle.std.specs.List.{list_any, list_all}
 use Rattle.nqs_state.specs.State.{content}
+use Rattle.nqs_state.specs.Least.{runs_now}
 use Rattle.nqs_rules.specs.Tests.{is_ready, passes}
 use Rattle.nqs_rules.specs.Find.{has_queue, has_promise, find_peer}
 use Rattle.nqs_rules.specs.Rows.{arrivals_used}
 use Rattle.nqs_rules.specs.Routing.{is_hand_to}
 use Rattle.nqs_rules.specs.Sane.{has_path}
-use Rattle.nqs_rules.specs.Fits.{runs, is_idle, may_hop, row_passes, device_fits, is_offered_hand, is_committed_hand, is_next, is_open_number, is_new_stage}
+use Rattle.nqs_rules.specs.Fits.{is_idle, may_hop, row_passes, device_fits, is_offered_hand, is_committed_hand, is_next, is_open_number, is_new_stage}
 use Rattle.nqs_rules.specs.Fits.{is_site_host, is_unknown, offer_full}
 use Rattle.nqs_rules.proofs.Chains.{each}
 use Rattle.nqs_rules.proofs.PathStands.{path_stands}
@@ -31,7 +32,7 @@ returns-in-Deleted c =
 pub returns-in-Doomed : goal.returns-in-Doomed
 returns-in-Doomed c =
     let a = c.in-Doomed in
-    rw a.is (row_id (content c.args.state.now) c.requires.order runs a.field-0 (rw a.is at c.requires.fits))
+    rw a.is (row_id (content c.args.state.now) c.requires.order runs_now a.field-0 (rw a.is at c.requires.fits))
 
 pub returns-in-Started : goal.returns-in-Started
 returns-in-Started c =
@@ -48,14 +49,14 @@ returns-in-Ended c =
     let a = c.in-Ended in
     let k = and_parts (nat_le (length a.outputs) 2) (list_all has_path a.outputs) (rw a.is at c.requires.sane) in
     rw a.is (
-      row_id (content c.args.state.now) c.requires.order runs a.id (rw a.is at c.requires.fits),
+      row_id (content c.args.state.now) c.requires.order runs_now a.id (rw a.is at c.requires.fits),
       (k.0, parts_stand a.outputs k.1 (rw a.is at c.requires.extents)),
     )
 
 pub returns-in-Unlaunched : goal.returns-in-Unlaunched
 returns-in-Unlaunched c =
     let a = c.in-Unlaunched in
-    rw a.is (row_id (content c.args.state.now) c.requires.order runs a.field-0 (rw a.is at c.requires.fits))
+    rw a.is (row_id (content c.args.state.now) c.requires.order runs_now a.field-0 (rw a.is at c.requires.fits))
 
 pub returns-in-HandOpened : goal.returns-in-HandOpened
 returns-in-HandOpened c =

@@ -1,6 +1,6 @@
 use Rattle.std.proofs.Common.{◌∙◌, Err, refl, sym, ap, subst}
+use Rattle.nqs_rules.specs.World.{of_disk}
 use Rattle.nqs_disk.specs.MemDisk as mem
-use Rattle.nqs_rules.specs.World.{fuse_of}
 use Rattle.nqs_store.specs.Disks.{histories_of, failing_of}
 use Rattle.nqs_net.specs.Worlds.{IsDown}
 use Rattle.nqs_net.proofs.Fates.{unblown}
@@ -17,7 +17,7 @@ pub unread-requires : goal.unread-requires
 unread-requires c =
     let is = subst (λ d. IsDown d c.requires.0) (sym c.deref_mut.ensures.value) c.requires.1 in
     let disks = c.deref_mut.result.now in record {
-      whole = λ which e. unblown (fuse_of which c.requires.0.fuses) (histories_of mem.history_of disks which) (failing_of mem.fails_of disks which)
+      whole = λ which e. unblown (of_disk which c.requires.0.fuses) (histories_of mem.history_of disks which) (failing_of mem.fails_of disks which)
           (is.disks which).fuse ((c.in-Err.ensures.failed which (ap Err e)).blown refl);
       told = λ which place e. c.in-Err.ensures.never refl c.requires.0.state is.tells which place (ap Err e);
     }

@@ -1,5 +1,5 @@
 use Rattle.std.proofs.Common.{◌∙◌, Err, refl, sym, ap, subst}
-use Rattle.nqs_rules.specs.World.{fuse_of}
+use Rattle.nqs_rules.specs.World.{of_disk}
 use Rattle.nqs_node.specs.Nodes.{history_of, fails_of, content_of, is_stopped}
 use Rattle.nqs_store.specs.Sound.{IsSoundHost}
 use Rattle.nqs_net.specs.Worlds.{IsUp}
@@ -16,7 +16,7 @@ invariant_of-up c = record {
 pub unread-requires : goal.unread-requires
 unread-requires c =
     let is = subst (λ n. IsUp n c.requires.0) (sym c.deref_mut.ensures.value) c.requires.1 in record {
-      whole = λ which e. unblown (fuse_of which c.requires.0.fuses) (history_of c.deref_mut.result.now which) (fails_of c.deref_mut.result.now which)
+      whole = λ which e. unblown (of_disk which c.requires.0.fuses) (history_of c.deref_mut.result.now which) (fails_of c.deref_mut.result.now which)
           (is.disks which).fuse ((c.in-Err.ensures.failed which (ap Err e)).blown refl);
       told = λ which place e. c.in-Err.ensures.never refl c.requires.0.state is.tells which place (ap Err e);
     }

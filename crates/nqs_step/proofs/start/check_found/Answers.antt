@@ -6,11 +6,11 @@ use Rattle.nqs_rows.proofs.Refusals.{passed, refused}
 use Rattle.nqs_step.specs.Started.{used_causes}
 use Rattle.nqs_step.proofs.start.check_found.Goals as goal
 
-pub returns-in_err-check_way : goal.returns-in_err-check_way
-returns-in_err-check_way c =
+pub returns-in_err-check_job : goal.returns-in_err-check_job
+returns-in_err-check_job c =
     let p = err_from_is_err_and c.from_residual.result c.from_residual.ensures.1 in
-    rw (p.1, p.2) (refused (move_entry_causes c.args.row.now c.args.queue.now) (used_causes (content c.args.state.now)) _ c.in_err-check_way.ensures)
+    rw (p.1, p.2) (refused (move_entry_causes c.args.row.now c.args.queue.now) (used_causes (content c.args.state.now)) _ c.in_err-check_job.ensures)
 
 pub returns : goal.returns
 returns c = c.check_arrivals.ensures ∙ sym (passed (move_entry_causes c.args.row.now c.args.queue.now)
-    (used_causes (content c.args.state.now)) c.in_ok-check_way.ensures)
+    (used_causes (content c.args.state.now)) c.in_ok-check_job.ensures)
