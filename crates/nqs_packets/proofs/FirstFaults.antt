@@ -1,11 +1,11 @@
 -- Each fault beside that of a field comes exactly where bytes are so.
 use Rattle.std.proofs.Common.{◌≡◌, ◌≢◌, ℕ, ◌+◌, ◌<◌, Bool, true, false, cond, ◌==◌, nat_lt, List, [], ◌∷◌, ◌++◌, length, drop, refl, sym, ap, ◌∙◌, subst, arith}
-use Rattle.std.proofs.Common.{length-append, ne_eqb, Ok, Err}
+use Rattle.std.proofs.Common.{ne_eqb, Ok, Err}
 use Rattle.std.specs.Prelude.{⊤}
 use Rattle.std.specs.declared.result.Result.{Result}
-use Rattle.std.proofs.lemmas.Bool.{eqb-true, ltb-true, lt-ltb}
+use Rattle.std.proofs.lemmas.Bool.{eqb-true, ltb-true}
 use Rattle.std.proofs.lemmas.List.{length-drop}
-use Rattle.std.proofs.lemmas.Bool.Decides.{nat_tests}
+use Rattle.nqs_base.proofs.Readings.{bind, fail}
 use Rattle.nqs_types.specs.declared.message.Message.{Message}
 use Rattle.nqs_codec.specs.Fields.{u8_field}
 use Rattle.nqs_records.specs.declared.fault.RecordFault.TheVariants as record_fault
@@ -13,21 +13,20 @@ use Rattle.nqs_records.specs.Reading.{◌>>=◌, Read, numbered}
 use Rattle.nqs_records.specs.Fields.{u8_at, number_at}
 use Rattle.nqs_records.specs.Parts.{host_at}
 use Rattle.nqs_records.specs.Changes.{AreBytes}
+use Rattle.nqs_records.specs.Whole.{IsFollowed}
 use Rattle.nqs_records.proofs.Numbers.{u8_read}
-use Rattle.nqs_records.proofs.FirstFaults.{step, u8_first}
+use Rattle.nqs_records.proofs.FirstFaults.{u8_first}
+use Rattle.nqs_records.proofs.Whole.{followed_by}
 use Rattle.nqs_packets.specs.declared.fault.PacketFault.{PacketFault}
 use Rattle.nqs_packets.specs.declared.fault.PacketFault.TheVariants as fault
 use Rattle.nqs_packets.specs.Bodies.{bodies, no_body}
 use Rattle.nqs_packets.specs.Spelling.{spelling}
 use Rattle.nqs_packets.specs.Values.{MaySend}
 use Rattle.nqs_packets.specs.Reading.{or_packet_fault, is_kind, kind_at, message_at, rest_of, message_of}
-use Rattle.nqs_packets.specs.Faults.{HasOtherVersion, HasOtherKind, IsFollowed, FirstFaults}
-use Rattle.nqs_packets.proofs.MessageLaws.{behind, message_found, message_taken}
+use Rattle.nqs_packets.specs.Faults.{HasOtherVersion, HasOtherKind, FirstFaults}
+use Rattle.nqs_packets.proofs.MessageLaws.{behind, message_law}
 use Rattle.nqs_packets.proofs.Fields.{IsField, then, host_fields}
 use Rattle.nqs_packets.proofs.Bodies.{body_fields}
-
-stop : {E A B : Type 0} (r : Result A E) (f : A → Result B E) (x : E) → r ≡ Err x → (r >>= f) ≡ Err x
-stop r f x e = ap (λ y. y >>= f) e
 
 u8_second : (v k : ℕ) (rest : List ℕ) → AreBytes (v ∷ k ∷ rest) → u8_at (v ∷ k ∷ rest) 1 ≡ Ok (k, 2)
 unfolding u8_field
@@ -41,8 +40,8 @@ no_bytes = refl
 
 by_version : (v : ℕ) (rest : List ℕ) → AreBytes (v ∷ rest) → message_of (v ∷ rest) ≡ cond (v == 1) (or_packet_fault (rest_of (v ∷ rest) 1)) (Err fault.Version)
 unfolding message_of
-by_version v rest fits = step (or_packet_fault (u8_at (v ∷ rest) 0)) (λ w. cond (w.0 == 1) (or_packet_fault (rest_of (v ∷ rest) w.1)) (Err fault.Version))
-    (v, 1) (ap or_packet_fault (u8_first v rest fits))
+by_version v rest fits = bind (or_packet_fault (u8_at (v ∷ rest) 0)) (λ w. cond (w.0 == 1) (or_packet_fault (rest_of (v ∷ rest) w.1)) (Err fault.Version))
+    (v, 1) _ (ap or_packet_fault (u8_first v rest fits)) refl
 
 other_version : (v : ℕ) (rest : List ℕ) → AreBytes (v ∷ rest) → (v == 1) ≡ false → message_of (v ∷ rest) ≡ Err fault.Version
 other_version v rest fits is = by_version v rest fits ∙ ap (λ (t : Bool). cond t (or_packet_fault (rest_of (v ∷ rest) 1)) (Err fault.Version)) is
@@ -58,14 +57,14 @@ one_byte = refl
 
 by_kind : (k : ℕ) (rest : List ℕ) → AreBytes (1 ∷ k ∷ rest) → kind_at (1 ∷ k ∷ rest) 1 ≡ cond (is_kind k) (Ok (k, 2)) (Err (record_fault.Kind 1))
 unfolding kind_at
-by_kind k rest fits = step (u8_at (1 ∷ k ∷ rest) 1) (λ kind. cond (is_kind kind.0) (Ok kind) (Err (record_fault.Kind 1))) (k, 2) (u8_second 1 k rest fits)
+by_kind k rest fits = bind (u8_at (1 ∷ k ∷ rest) 1) (λ kind. cond (is_kind kind.0) (Ok kind) (Err (record_fault.Kind 1))) (k, 2) _ (u8_second 1 k rest fits) refl
 
 abbrev kind_or : ℕ → Bool → Read (ℕ × ℕ)
 kind_or k t = cond t (Ok (k, 2)) (Err (record_fault.Kind 1))
 
 stops : (bytes : List ℕ) → kind_at bytes 1 ≡ Err (record_fault.Kind 1) → rest_of bytes 1 ≡ Err (record_fault.Kind 1)
 unfolding rest_of message_at
-stops bytes e = stop (message_at bytes 1) _ _ (stop (kind_at bytes 1) _ _ e)
+stops bytes e = fail (message_at bytes 1) _ _ (fail (kind_at bytes 1) _ _ e)
 
 other_kind : (k : ℕ) (rest : List ℕ) → AreBytes (1 ∷ k ∷ rest) → is_kind k ≡ false → message_of (1 ∷ k ∷ rest) ≡ Err fault.Kind
 other_kind k rest fits is = version_one (k ∷ rest) fits ∙ ap or_packet_fault (stops (1 ∷ k ∷ rest) (by_kind k rest fits ∙ ap (kind_or k) is))
@@ -92,7 +91,7 @@ message_fields : (k : ℕ) (rest : List ℕ) → AreBytes (1 ∷ k ∷ rest) →
 unfolding message_at ends_of
 message_fields k rest fits is =
     let bytes = 1 ∷ k ∷ rest in
-    subst (IsField bytes) (sym (step (kind_at bytes 1) (λ kind. ends_of bytes kind.0 kind.1) (k, 2) (by_kind k rest fits ∙ ap (kind_or k) is)))
+    subst (IsField bytes) (sym (bind (kind_at bytes 1) (λ kind. ends_of bytes kind.0 kind.1) (k, 2) (ends_of bytes k 2) (by_kind k rest fits ∙ ap (kind_or k) is) refl))
     (ends_fields bytes k 2 is)
 
 -- what an answer tells of the bytes
@@ -102,19 +101,20 @@ Tells bytes (Err (fault.Short end)) = end ≡ length bytes
 Tells bytes (Err fault.Version) = HasOtherVersion bytes
 Tells bytes (Err fault.Kind) = HasOtherKind bytes
 Tells bytes (Err (fault.BadField place)) = ⊤
-Tells bytes (Err (fault.Trailing place)) = IsFollowed bytes place
+Tells bytes (Err (fault.Trailing place)) = IsFollowed MaySend spelling bytes place
 Tells bytes (Err (fault.Memory memory)) = ⊥
 
 size : (m : Message) → 1 + length (behind m) ≡ length (spelling m)
 unfolding spelling u8_field
 size m = omega arith
 
-followed : (tail : List ℕ) (m : Message) (n : ℕ) → AreBytes (1 ∷ tail) → message_at (1 ∷ tail) 1 ≡ Ok (m, n) → n < length (1 ∷ tail) → IsFollowed (1 ∷ tail) n
+followed : (tail : List ℕ) (m : Message) (n : ℕ) → AreBytes (1 ∷ tail) → message_at (1 ∷ tail) 1 ≡ Ok (m, n) → n < length (1 ∷ tail)
+    → IsFollowed MaySend spelling (1 ∷ tail) n
 unfolding spelling u8_field
 followed tail m n fits e less =
-    let here = message_found (1 ∷ tail) 1 m n fits e in
+    let here = message_law.found (1 ∷ tail) 1 m n fits e in
     record {
-      message = m;
+      value = m;
       may = here.0;
       rest = drop n (1 ∷ tail);
       some = omega (arith, length-drop n (1 ∷ tail), less);
@@ -178,17 +178,13 @@ trailing_of : (m : Message) (rest : List ℕ) → AreBytes (spelling m ++ rest) 
 unfolding spelling rest_of u8_field
 trailing_of m rest fits may some =
     let tail = behind m ++ rest in
-    let there = message_taken m (1 ∷ tail) rest 1 fits may refl in
-    let over = lt-ltb (1 + length (behind m)) (length (1 ∷ tail)) (omega (arith, length-append (behind m) rest, some)) in
     version_one tail fits
-    ∙ ap or_packet_fault
-    (step (message_at (1 ∷ tail) 1) (λ v. cond (nat_lt v.1 (length (1 ∷ tail))) (Err (record_fault.Trailing v.1)) (Ok v.0)) _ there
-    ∙ ap (λ (t : Bool). cond t (Err (record_fault.Trailing (1 + length (behind m)))) (Ok m)) over)
+    ∙ ap or_packet_fault (followed_by message_law (1 ∷ tail) rest 1 m fits may refl some)
     ∙ ap (λ (n : ℕ). Err (fault.Trailing n)) (size m)
 
-trailing_is : (bytes : List ℕ) (place : ℕ) → AreBytes bytes → IsFollowed bytes place → message_of bytes ≡ Err (fault.Trailing place)
+trailing_is : (bytes : List ℕ) (place : ℕ) → AreBytes bytes → IsFollowed MaySend spelling bytes place → message_of bytes ≡ Err (fault.Trailing place)
 trailing_is bytes place fits f =
-    ap message_of f.text ∙ trailing_of f.message f.rest (subst AreBytes f.text fits) f.may f.some ∙ ap (λ (n : ℕ). Err (fault.Trailing n)) (sym f.is_place)
+    ap message_of f.text ∙ trailing_of f.value f.rest (subst AreBytes f.text fits) f.may f.some ∙ ap (λ (n : ℕ). Err (fault.Trailing n)) (sym f.is_place)
 
 pub first_faults : FirstFaults
 first_faults bytes fits = record {

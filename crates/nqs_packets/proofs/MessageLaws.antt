@@ -1,7 +1,7 @@
 -- A message behind the version is read as it is spelled.
 use Rattle.std.proofs.Common.{◌≡◌, ℕ, ◌+◌, ◌<◌, ◌^◌, true, cond, List, [], ◌∷◌, ◌++◌, length, drop, refl, sym, ap, ◌∙◌, subst, arith, length-append}
 use Rattle.std.proofs.Common.{append_assoc, append-nil, Ok, Err}
-use Rattle.nqs_base.proofs.Readings.{given, bound, bind}
+use Rattle.nqs_base.proofs.Readings.{given, bound, bind, passed}
 use Rattle.nqs_base.proofs.Plain.{rest_behind}
 use Rattle.nqs_types.specs.declared.message.Body.{Body}
 use Rattle.nqs_types.specs.declared.message.Body.TheVariants.{Offer, Ready, Refused, Commit, Done, Inquire, Abort, Stage, Staged, Ask, Answer, Ended, EndedAck}
@@ -15,6 +15,7 @@ use Rattle.nqs_records.specs.Fields.{u8_at}
 use Rattle.nqs_records.specs.Parts.{host_at}
 use Rattle.nqs_records.specs.Spelling.{fields}
 use Rattle.nqs_records.specs.Changes.{AreBytes}
+use Rattle.nqs_records.proofs.IsRead.{IsRead}
 use Rattle.nqs_records.proofs.Numbers.{u8_read}
 use Rattle.nqs_records.proofs.Numbered.{numbered_finds}
 use Rattle.nqs_records.proofs.Chains.{Found}
@@ -23,7 +24,6 @@ use Rattle.nqs_packets.specs.Bodies.{bodies, no_body}
 use Rattle.nqs_packets.specs.Spelling.{kind_of, body_field}
 use Rattle.nqs_packets.specs.Values.{IsBody, MaySend}
 use Rattle.nqs_packets.specs.Reading.{is_kind, kind_at, message_at}
-use Rattle.nqs_packets.proofs.PartLaws.{passed}
 use Rattle.nqs_packets.proofs.BodyLaws.{tagged, bodies_find, body_taken}
 
 -- what stands behind the version
@@ -44,7 +44,7 @@ same_tag : (b : Body) (k : ℕ) (args : List ℕ) → tagged b ≡ u8_field k ++
 unfolding u8_field
 same_tag b k args e = (cc, cc)
 
-pub message_found : (bytes : List ℕ) (place : ℕ) (m : Message) (next : ℕ) → AreBytes bytes → message_at bytes place ≡ Ok (m, next)
+message_found : (bytes : List ℕ) (place : ℕ) (m : Message) (next : ℕ) → AreBytes bytes → message_at bytes place ≡ Ok (m, next)
     → Found MaySend behind bytes place (m, next)
 unfolding message_at
 message_found bytes place m next fits e =
@@ -89,7 +89,7 @@ kind_taken b bytes rest place fits is =
 four : (place : ℕ) (a b c d : List ℕ) → place + length a + length b + length c + length d ≡ place + length (a ++ (b ++ (c ++ (d ++ []))))
 four place a b c d = omega (arith, length-append a (b ++ (c ++ (d ++ []))), length-append b (c ++ (d ++ [])), length-append c (d ++ []), length-append d [])
 
-pub message_taken : (m : Message) (bytes rest : List ℕ) (place : ℕ) → AreBytes bytes → MaySend m → drop place bytes ≡ behind m ++ rest
+message_taken : (m : Message) (bytes rest : List ℕ) (place : ℕ) → AreBytes bytes → MaySend m → drop place bytes ≡ behind m ++ rest
     → message_at bytes place ≡ Ok (m, place + length (behind m))
 unfolding message_at
 message_taken m bytes rest place fits ok is =
@@ -107,3 +107,9 @@ message_taken m bytes rest place fits ok is =
     (bind (numbered bodies (kind_of m.body) no_body bytes (place + length k + length f + length t)) _ _ _
     (body_taken m.body bytes rest (place + length k + length f + length t) fits ok.2 at_body)
     (ap (λ (n : ℕ). Ok (m, n)) (four place k f t b)))))
+
+pub message_law : IsRead MaySend behind message_at
+message_law = record {
+  found = λ bytes place m next fits e. message_found bytes place m next fits e;
+  taken = λ bytes rest place m fits ok is. message_taken m bytes rest place fits ok is;
+}

@@ -1,31 +1,27 @@
 -- The laws of what datagrams have beside the fields of records.
-use Rattle.std.proofs.Common.{◌≡◌, ℕ, zero, suc, ◌+◌, ◌<◌, ◌≤◌, ◌^◌, Bool, true, false, cond, nat_lt, nat_le, IsTrue, List, ◌++◌, length, take, drop, refl, sym}
+use Rattle.std.proofs.Common.{◌≡◌, ℕ, zero, suc, ◌+◌, ◌<◌, ◌≤◌, ◌^◌, Bool, cond, nat_lt, nat_le, IsTrue, List, ◌++◌, length, take, drop, refl, sym}
 use Rattle.std.proofs.Common.{ap, ◌∙◌, subst, arith, length-append, take_at, length-take-le, Ok, Err}
 use Rattle.std.specs.Prelude.{⊤}
 use Rattle.std.proofs.lemmas.Bool.{and_parts, ltb-false}
 use Rattle.std.proofs.lemmas.Bool.Decides.{nat_tests}
-use Rattle.nqs_base.proofs.Readings.{bound, bind}
+use Rattle.nqs_base.proofs.Readings.{bound, bind, passed, faultless}
 use Rattle.nqs_types.specs.declared.message.Tool.{Tool}
 use Rattle.nqs_types.specs.declared.message.Tool.TheVariants.{Qsub, Qstat, Qdel, Qmgr, Tick}
 use Rattle.nqs_rules.specs.Sane.{is_offer_refusal}
 use Rattle.nqs_codec.specs.Fields.{u8_field, u32_field, u64_field, bytes_field}
 use Rattle.nqs_codec.specs.Takes.{IsLong}
 use Rattle.nqs_codec.proofs.Places.{part_stands}
-use Rattle.nqs_records.specs.declared.fault.RecordFault.{RecordFault}
 use Rattle.nqs_records.specs.declared.fault.RecordFault.TheVariants.{BadField, Short}
-use Rattle.nqs_records.specs.Reading.{Reading, Read, within}
+use Rattle.nqs_records.specs.Reading.{Reading, within}
 use Rattle.nqs_records.specs.Values.{is_at_most}
 use Rattle.nqs_records.proofs.IsRead.{IsRead}
 use Rattle.nqs_records.proofs.Numbers.{u8_read, u16_read, u32_read, u64_read}
 use Rattle.nqs_records.proofs.Chains.{Found, both_read, within_read, counted_read, mapped_where}
 use Rattle.nqs_records.proofs.ShapeLaws.{same_read}
+use Rattle.nqs_records.proofs.Whole.{not_short}
 use Rattle.nqs_packets.specs.Parts.{is_number, number_at, cause_at, run_at, bytes_at, is_any, is_tool, tool_of, tool_at, is_word_count, words_at}
 use Rattle.nqs_packets.specs.Spelling.{tool_number, words_field}
 use Rattle.nqs_packets.specs.Values.{IsNumber, IsCause, IsShort, AreWords}
-
-pub passed : {A : Type 0} (t : Bool) (x : RecordFault) (a b : A) → ◌≡◌ {A = Read A} (cond t (Ok a) (Err x)) (Ok b) → (t ≡ true) × (a ≡ b)
-passed true x a b e = (refl, cc)
-passed false x a b e = cc
 
 -- a value of its kind that passes a test
 tested_read : {A : Type 0} {IsA : A → Type 0} {f : A → List ℕ} {r : Reading A} (test : A → Bool) → IsRead IsA f r
@@ -52,19 +48,12 @@ cause_law = tested_read is_offer_refusal u8_read
 
 -- ---- bytes
 
-unread : (t : Bool) (x : RecordFault) (a b : List ℕ × ℕ) → ◌≡◌ {A = Read (List ℕ × ℕ)} (cond t (Err x) (Ok a)) (Ok b) → (t ≡ false) × (a ≡ b)
-unread true x a b e = cc
-unread false x a b e = (refl, cc)
-
-not_short : (m n : ℕ) → n ≤ m → nat_lt m n ≡ false
-not_short m n long = grind (arith, nat_tests)
-
 run_read : (count : ℕ) → IsRead (λ (l : List ℕ). length l ≡ count) (λ l. l) (run_at count)
 unfolding run_at
 run_read count = record {
   found = λ bytes place value next fits e.
       let rest = drop place bytes in
-      let p = unread (nat_lt (length rest) count) (Short (length bytes)) (take count rest, place + count) (value, next) e in
+      let p = faultless (nat_lt (length rest) count) (Short (length bytes)) (take count rest, place + count) (value, next) e in
       let long = ltb-false (length rest) count p.0 in
       subst (Found (λ (l : List ℕ). length l ≡ count) (λ l. l) bytes place) p.1
       (length-take-le count rest long, part_stands bytes place count (take count rest) refl long);

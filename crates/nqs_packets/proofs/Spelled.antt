@@ -1,30 +1,24 @@
 -- Bytes are read as a message exactly where they are its spelling.
-use Rattle.std.proofs.Common.{◌≡◌, ℕ, ◌+◌, Bool, true, false, cond, ◌==◌, nat_lt, List, [], ◌++◌, length, drop, refl, sym, ap, ◌∙◌, subst, arith, append-nil}
+use Rattle.std.proofs.Common.{◌≡◌, ℕ, Bool, true, false, cond, ◌==◌, List, ◌++◌, drop, refl, sym, ap, ◌∙◌, arith}
 use Rattle.std.proofs.Common.{Ok, Err, IfOk, IfErr}
 use Rattle.std.specs.declared.result.Result.{Result}
-use Rattle.std.proofs.lemmas.Bool.{eqb-true, ltb-false}
-use Rattle.nqs_base.proofs.Readings.{bound, bind}
+use Rattle.std.proofs.lemmas.Bool.{eqb-true}
+use Rattle.nqs_base.proofs.Readings.{bound, bind, never}
 use Rattle.nqs_base.proofs.Plain.{rest_behind}
 use Rattle.nqs_types.specs.declared.message.Message.{Message}
 use Rattle.nqs_codec.specs.Fields.{u8_field}
-use Rattle.nqs_records.specs.declared.fault.RecordFault.{RecordFault}
-use Rattle.nqs_records.specs.declared.fault.RecordFault.TheVariants.{Trailing}
 use Rattle.nqs_records.specs.Reading.{Read}
 use Rattle.nqs_records.specs.Fields.{u8_at}
 use Rattle.nqs_records.specs.Changes.{AreBytes}
 use Rattle.nqs_records.proofs.Numbers.{u8_read}
-use Rattle.nqs_records.proofs.Spelled.{nothing_left, none_behind}
+use Rattle.nqs_records.proofs.Whole.{alone_found, alone_taken}
 use Rattle.nqs_packets.specs.declared.fault.PacketFault.{PacketFault}
 use Rattle.nqs_packets.specs.declared.fault.PacketFault.TheVariants.{Version}
 use Rattle.nqs_packets.specs.Spelling.{spelling}
 use Rattle.nqs_packets.specs.Values.{MaySend}
-use Rattle.nqs_packets.specs.Reading.{or_packet_fault, message_at, rest_of, message_of, is_fault_of_memory, AnswersPacket}
+use Rattle.nqs_packets.specs.Reading.{or_packet_fault, rest_of, message_of, is_fault_of_memory, AnswersPacket}
 use Rattle.nqs_packets.specs.Messages.{ReadsTheSpelling, IsSpelledBy, SpellsNone}
-use Rattle.nqs_packets.proofs.MessageLaws.{behind, message_found, message_taken}
-
-whole : (t : Bool) (x : RecordFault) (a b : Message) → ◌≡◌ {A = Read Message} (cond t (Err x) (Ok a)) (Ok b) → (t ≡ false) × (a ≡ b)
-whole true x a b e = cc
-whole false x a b e = (refl, cc)
+use Rattle.nqs_packets.proofs.MessageLaws.{behind, message_law}
 
 packet_Ok : {A : Type 0} (r : Read A) (a : A) → or_packet_fault r ≡ Ok a → r ≡ Ok a
 packet_Ok (Ok b) a e = cc
@@ -36,13 +30,11 @@ of_version false r m e = cc
 
 rest_spelled : (bytes : List ℕ) (place : ℕ) (m : Message) → AreBytes bytes → rest_of bytes place ≡ Ok m → (drop place bytes ≡ behind m) × MaySend m
 unfolding rest_of
-rest_spelled bytes place m fits e =
-    let v = bound (message_at bytes place) (λ v. cond (nat_lt v.1 (length bytes)) (Err (Trailing v.1)) (Ok v.0)) m e in
-    let end = whole (nat_lt v.0.1 (length bytes)) (Trailing v.0.1) v.0.0 m v.2 in
-    let here = message_found bytes place v.0.0 v.0.1 fits v.1 in
-    let left = nothing_left v.0.1 bytes (ltb-false v.0.1 (length bytes) end.0) in
-    let text = here.1.text ∙ ap (λ (l : List ℕ). behind v.0.0 ++ l) left ∙ append-nil (behind v.0.0) in
-    (text ∙ ap behind end.1, subst MaySend end.1 here.0)
+rest_spelled bytes place m fits e = alone_found message_law bytes place m fits e
+
+spelled_rest : (bytes : List ℕ) (place : ℕ) (m : Message) → AreBytes bytes → drop place bytes ≡ behind m → MaySend m → rest_of bytes place ≡ Ok m
+unfolding rest_of
+spelled_rest bytes place m fits is ok = alone_taken message_law bytes place m fits is ok
 
 pub is_spelled : (bytes : List ℕ) (m : Message) → AreBytes bytes → message_of bytes ≡ Ok m → (bytes ≡ spelling m) × MaySend m
 unfolding message_of spelling
@@ -54,12 +46,9 @@ is_spelled bytes m fits e =
     (first.text ∙ (λ j. u8_field (eqb-true v.0.0 1 p.0 j) ++ later.0 j), later.1)
 
 pub spelled_is : (bytes : List ℕ) (m : Message) → AreBytes bytes → bytes ≡ spelling m → MaySend m → message_of bytes ≡ Ok m
-unfolding message_of rest_of spelling u8_field
+unfolding message_of spelling u8_field
 spelled_is bytes m fits is ok =
-    let next = rest_behind bytes 0 (u8_field 1) (behind m) is in
-    let there = message_taken m bytes [] 1 fits ok (next ∙ sym (append-nil (behind m))) in
-    let rest : rest_of bytes 1 ≡ Ok m = bind (message_at bytes 1) _ _ _ there
-    (rw (none_behind (1 + length (behind m)) (length bytes) (omega (arith, ap length is))) refl) in
+    let rest = spelled_rest bytes 1 m fits (rest_behind bytes 0 (u8_field 1) (behind m) is) ok in
     bind (or_packet_fault (u8_at bytes 0)) _ _ _ (ap or_packet_fault (u8_read.taken bytes (behind m) 0 1 fits (omega arith) is)) (ap or_packet_fault rest)
 
 pub reads_the_spelling : ReadsTheSpelling
@@ -72,11 +61,7 @@ pub if_read : (bytes : List ℕ) (answer : Result Message PacketFault) → AreBy
 if_read bytes (Ok m) fits answers = is_spelled bytes m fits (sym (answers refl))
 if_read bytes (Err fault) fits answers = tt
 
-apart : (m : Message) (fault : PacketFault) (r : Result Message PacketFault) → Err fault ≡ r → r ≡ Ok m → ⊥
-apart m fault (Ok d) e f = cc
-apart m fault (Err x) e f = cc
-
 pub if_refused : (bytes : List ℕ) (answer : Result Message PacketFault) → AreBytes bytes → AnswersPacket (message_of bytes) answer
     → IfErr answer (λ fault. is_fault_of_memory fault ≡ false → SpellsNone bytes)
 if_refused bytes (Ok m) fits answers = tt
-if_refused bytes (Err fault) fits answers = λ other m ok is. apart m fault (message_of bytes) (answers other) (spelled_is bytes m fits is ok)
+if_refused bytes (Err fault) fits answers = λ other m ok is. never (message_of bytes) m fault (spelled_is bytes m fits is ok) (sym (answers other))

@@ -1,8 +1,8 @@
 -- Which bytes have which first fault, apart from how they are read.
-use Rattle.std.specs.Prelude.{◌≡◌, ◌≢◌, ◌↔◌, ℕ, ◌<◌, false, List, [], ◌∷◌, ◌++◌, length, Err}
-use Rattle.nqs_types.specs.declared.message.Message.{Message}
+use Rattle.std.specs.Prelude.{◌≡◌, ◌≢◌, ◌↔◌, ℕ, false, List, [], ◌∷◌, length, Err}
 use Rattle.nqs_base.specs.Want.{want}
 use Rattle.nqs_records.specs.Changes.{AreBytes}
+use Rattle.nqs_records.specs.Whole.{IsFollowed}
 use Rattle.nqs_packets.specs.declared.fault.PacketFault.TheVariants as fault
 use Rattle.nqs_packets.specs.Spelling.{spelling}
 use Rattle.nqs_packets.specs.Values.{MaySend}
@@ -19,21 +19,12 @@ HasOtherKind [] = ⊥
 HasOtherKind (version ∷ []) = ⊥
 HasOtherKind (version ∷ kind ∷ rest) = (version ≡ 1) × (is_kind kind ≡ false)
 
--- a message ends at the place, and the bytes don't
-pub record IsFollowed (bytes : List ℕ) (place : ℕ) : Type 0 where
-  pub message : Message
-  pub may : MaySend message
-  pub rest : List ℕ
-  pub some : 0 < length rest
-  pub text : bytes ≡ spelling message ++ rest
-  pub is_place : place ≡ length (spelling message)
-
 -- Each fault beside that of a field comes exactly where bytes are so; bytes that end too early are
 -- short at their end.
 pub record HasFirstFaults (bytes : List ℕ) : Type 0 where
   pub version : message_of bytes ≡ Err fault.Version ↔ HasOtherVersion bytes
   pub kind : message_of bytes ≡ Err fault.Kind ↔ HasOtherKind bytes
-  pub trailing : (place : ℕ) → message_of bytes ≡ Err (fault.Trailing place) ↔ IsFollowed bytes place
+  pub trailing : (place : ℕ) → message_of bytes ≡ Err (fault.Trailing place) ↔ IsFollowed MaySend spelling bytes place
   pub short : (end : ℕ) → message_of bytes ≡ Err (fault.Short end) → end ≡ length bytes
   pub memory : message_of bytes ≢ Err (fault.Memory want)
 

@@ -1,10 +1,10 @@
 -- A whole datagram, read as a message.
-use Rattle.std.specs.Prelude.{◌≡◌, ℕ, Bool, true, false, ◌&&◌, ◌==◌, nat_le, nat_lt, List, length, if◌then◌else◌, Ok, Err}
+use Rattle.std.specs.Prelude.{◌≡◌, ℕ, Bool, true, false, ◌&&◌, ◌==◌, nat_le, List, if◌then◌else◌, Ok, Err}
 use Rattle.std.specs.declared.result.Result.{Result}
 use Rattle.nqs_types.specs.declared.message.Message.{Message}
 use Rattle.nqs_records.specs.declared.fault.RecordFault.{RecordFault}
 use Rattle.nqs_records.specs.declared.fault.RecordFault.TheVariants as record_fault
-use Rattle.nqs_records.specs.Reading.{◌>>=◌, Read, Reading, numbered}
+use Rattle.nqs_records.specs.Reading.{◌>>=◌, Read, Reading, alone, numbered}
 use Rattle.nqs_records.specs.Fields.{u8_at}
 use Rattle.nqs_records.specs.Parts.{host_at}
 use Rattle.nqs_packets.specs.declared.fault.PacketFault.{PacketFault}
@@ -45,9 +45,7 @@ message_at bytes place = do
 
 -- a message, and nothing behind it
 unfoldable pub rest_of : List ℕ → ℕ → Read Message
-rest_of bytes place = do
-  message ← message_at bytes place
-  if nat_lt message.1 (length bytes) then Err (record_fault.Trailing message.1) else Ok message.0
+rest_of bytes place = alone message_at bytes place
 
 -- the message of these bytes, or the first fault from the left
 unfoldable pub message_of : List ℕ → Result Message PacketFault

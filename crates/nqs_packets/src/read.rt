@@ -11,7 +11,8 @@ use crate::kinds::{
     read_abort, read_answer, read_ask, read_commit, read_done, read_ended, read_ended_ack,
     read_inquire, read_offer, read_ready, read_refused, read_stage, read_staged,
 };
-use nqs_records::{RecordFault, read_host, read_u8};
+use crate::part::InDatagram;
+use nqs_records::{Read, RecordFault, read_alone, read_host, read_u8};
 use nqs_types::{Body, Message};
 use std::alloc::Global;
 
@@ -49,26 +50,24 @@ fn read_kind(bytes: &[u8], place: u64) -> Result<(u8, u64), RecordFault>
     }
 }
 
-#[tactic(auto, unfolding(crate::specs::Reading::message_at))]
-fn read_behind(alloc: Global, bytes: &[u8], place: u64) -> Result<(Message, u64), RecordFault>
-    ensures { Answers (message_at bytes.now place) result }
-{
-    let (kind, place) = read_kind(bytes, place)?;
-    let (from, place) = read_host(bytes, place)?;
-    let (to, place) = read_host(bytes, place)?;
-    let (body, place) = read_body(alloc, kind, bytes, place)?;
-    Ok((Message { from, to, body }, place))
+impl Read<InDatagram> for Message {
+    ghost at = { message_at };
+
+    #[tactic(auto, unfolding(crate::specs::Reading::message_at))]
+    fn read(alloc: Global, bytes: &[u8], place: u64) -> Result<(Message, u64), RecordFault> {
+        let (kind, place) = read_kind(bytes, place)?;
+        let (from, place) = read_host(bytes, place)?;
+        let (to, place) = read_host(bytes, place)?;
+        let (body, place) = read_body(alloc, kind, bytes, place)?;
+        Ok((Message { from, to, body }, place))
+    }
 }
 
 #[tactic(auto, unfolding(crate::specs::Reading::rest_of))]
 fn read_rest(alloc: Global, bytes: &[u8], place: u64) -> Result<Message, RecordFault>
     ensures { Answers (rest_of bytes.now place) result }
 {
-    let (message, end) = read_behind(alloc, bytes, place)?;
-    if end < bytes.len() as u64 {
-        return Err(RecordFault::Trailing(end));
-    }
-    Ok(message)
+    read_alone::<InDatagram, Message>(alloc, bytes, place)
 }
 
 #[tactic(auto, unfolding(crate::specs::Reading::message_of))]

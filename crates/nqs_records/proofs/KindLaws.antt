@@ -1,5 +1,5 @@
 -- Each kind of record is read as it is spelled: the table's rows and the entries of changes agree.
-use Rattle.std.proofs.Common.{rules, ◌≡◌, ℕ, ◌+◌, List, [], ◌++◌, length, drop, refl, Ok}
+use Rattle.std.proofs.Common.{rules, ◌≡◌, ℕ, [], refl}
 use Rattle.std.specs.List.{AllByRecursion}
 use Rattle.nqs_base.proofs.Readings.{bind}
 use Rattle.nqs_types.specs.declared.change.Change.TheVariants.{Boot}
@@ -7,9 +7,8 @@ use Rattle.nqs_records.specs.Tables.{values_at, IsEntry, entry_field}
 use Rattle.nqs_records.specs.KindFields.{IsValue, value_field, value_at}
 use Rattle.nqs_records.specs.KindTable.{HostChange, kinds, hand_kinds, host_kinds, kind_entry}
 use Rattle.nqs_records.specs.Kinds.{no_kind, change_at}
-use Rattle.nqs_records.specs.Changes.{AreBytes, MayStand, spelling}
+use Rattle.nqs_records.specs.Changes.{MayStand, spelling}
 use Rattle.nqs_records.proofs.IsRead.{IsRead}
-use Rattle.nqs_records.proofs.Chains.{Found}
 use Rattle.nqs_records.proofs.KindFieldLaws.{is_any, kind_fields_are_read}
 use Rattle.nqs_records.proofs.Tables.{IsMade, IsRow, IsTable, IsNever, table_law, named}
 
@@ -39,15 +38,7 @@ pub limited : (c : HostChange) → MayStand c ≡ IsEntry IsValue (kind_entry c)
 limited Boot = refl
 limited c = refl
 
-change_law : IsRead MayStand spelling change_at
+pub change_law : IsRead MayStand spelling change_at
 unfolding change_at
 change_law = named MayStand spelling change_at limited spelled
     (table_law IsValue value_field value_at is_any kind_fields_are_read kind_entry kinds (λ at. no_kind) kinds_agree no_change)
-
-pub change_found : (bytes : List ℕ) (place : ℕ) (c : HostChange) (next : ℕ) → AreBytes bytes → change_at bytes place ≡ Ok (c, next)
-    → Found MayStand spelling bytes place (c, next)
-change_found bytes place c next fits is = change_law.found bytes place c next fits is
-
-pub change_taken : (c : HostChange) (bytes rest : List ℕ) (place : ℕ) → AreBytes bytes → MayStand c → drop place bytes ≡ spelling c ++ rest
-    → change_at bytes place ≡ Ok (c, place + length (spelling c))
-change_taken c bytes rest place fits ok is = change_law.taken bytes rest place c fits ok is

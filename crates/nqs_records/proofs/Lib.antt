@@ -11,6 +11,7 @@ pub mod EditFieldLaws
 pub mod EditLaws
 pub mod KindFieldLaws
 pub mod KindLaws
+pub mod Whole
 pub mod Spelled
 pub mod Joined
 pub mod SaneLaws

@@ -1,12 +1,11 @@
 -- Which bytes have which first fault, apart from how they are read.
 use Rattle.std.specs.Prelude.{◌≡◌, ◌≢◌, ◌↔◌, ℕ, ◌<◌, Bool, false, List, [], ◌∷◌, ◌++◌, length, Err}
-use Rattle.nqs_base.specs.declared.extent.Extent.{Extent}
 use Rattle.nqs_base.specs.Want.{want}
-use Rattle.nqs_types.specs.declared.change.Change.{Change}
 use Rattle.nqs_records.specs.Tables.{has_code}
 use Rattle.nqs_records.specs.KindTable.{kinds}
 use Rattle.nqs_records.specs.Kinds.{record_of}
-use Rattle.nqs_records.specs.Changes.{spelling, MayStand, AreBytes, SpellsNone}
+use Rattle.nqs_records.specs.Changes.{spelling, MayStand, AreBytes}
+use Rattle.nqs_records.specs.Whole.{IsFollowed, IsCut, SpellsNoneWith}
 use Rattle.nqs_records.specs.declared.fault.RecordFault.{RecordFault}
 use Rattle.nqs_records.specs.declared.fault.RecordFault.TheVariants.{Short, Kind, BadField, Trailing, Memory}
 
@@ -18,28 +17,6 @@ is_kind kind = has_code kinds kind
 abbrev pub HasOtherKind : List ℕ → Type 0
 HasOtherKind [] = ⊥
 HasOtherKind (kind ∷ rest) = is_kind kind ≡ false
-
--- a change ends at the place, and the bytes don't
-pub record IsFollowed (bytes : List ℕ) (place : ℕ) : Type 0 where
-  pub change : Change Extent
-  pub may : MayStand change
-  pub rest : List ℕ
-  pub some : 0 < length rest
-  pub text : bytes ≡ spelling change ++ rest
-  pub is_place : place ≡ length (spelling change)
-
--- the bytes of a change, cut off before their end
-pub record IsCut (bytes : List ℕ) : Type 0 where
-  pub change : Change Extent
-  pub may : MayStand change
-  pub rest : List ℕ
-  pub fits : AreBytes rest
-  pub some : 0 < length rest
-  pub text : bytes ++ rest ≡ spelling change
-
--- whatever bytes follow these, no change has them as its spelling
-abbrev pub SpellsNoneWith : List ℕ → Type 0
-SpellsNoneWith bytes = (more : List ℕ) → AreBytes more → SpellsNone (bytes ++ more)
 
 -- a fault that no further bytes mend
 abbrev pub IsFinal : RecordFault → Type 0
@@ -53,11 +30,11 @@ IsFinal (Memory memory) = ⊥
 -- change cut off too. A fault else is final.
 pub record HasFirstFaults (bytes : List ℕ) : Type 0 where
   pub kind : (place : ℕ) → record_of bytes ≡ Err (Kind place) ↔ (place ≡ 0) × HasOtherKind bytes
-  pub trailing : (place : ℕ) → record_of bytes ≡ Err (Trailing place) ↔ IsFollowed bytes place
+  pub trailing : (place : ℕ) → record_of bytes ≡ Err (Trailing place) ↔ IsFollowed MayStand spelling bytes place
   pub short : (end : ℕ) → record_of bytes ≡ Err (Short end) → end ≡ length bytes
-  pub cut : IsCut bytes → record_of bytes ≡ Err (Short (length bytes))
-  pub field : (place : ℕ) → record_of bytes ≡ Err (BadField place) → (place < length bytes) × SpellsNoneWith bytes
-  pub final : (fault : RecordFault) → IsFinal fault → record_of bytes ≡ Err fault → SpellsNoneWith bytes
+  pub cut : IsCut MayStand spelling bytes → record_of bytes ≡ Err (Short (length bytes))
+  pub field : (place : ℕ) → record_of bytes ≡ Err (BadField place) → (place < length bytes) × SpellsNoneWith MayStand spelling bytes
+  pub final : (fault : RecordFault) → IsFinal fault → record_of bytes ≡ Err fault → SpellsNoneWith MayStand spelling bytes
   pub still : (fault : RecordFault) → IsFinal fault → record_of bytes ≡ Err fault → (more : List ℕ) → record_of (bytes ++ more) ≡ Err fault
   pub memory : record_of bytes ≢ Err (Memory want)
 

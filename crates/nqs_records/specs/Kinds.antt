@@ -1,11 +1,11 @@
 -- How records are read: a kind, and its fields.
-use Rattle.std.specs.Prelude.{ℕ, nat_lt, List, length, if◌then◌else◌, Ok, Err}
-use Rattle.nqs_records.specs.Reading.{Read, Reading, ◌>>=◌}
+use Rattle.std.specs.Prelude.{ℕ, List, Err}
+use Rattle.nqs_records.specs.Reading.{Read, Reading, ◌>>=◌, alone}
 use Rattle.nqs_records.specs.Fields.{u8_at}
 use Rattle.nqs_records.specs.Tables.{by_code}
 use Rattle.nqs_records.specs.KindFields.{value_at}
 use Rattle.nqs_records.specs.KindTable.{HostChange, kinds}
-use Rattle.nqs_records.specs.declared.fault.RecordFault.TheVariants.{Kind, Trailing}
+use Rattle.nqs_records.specs.declared.fault.RecordFault.TheVariants.{Kind}
 
 -- no change is of this kind
 abbrev pub no_kind : Reading HostChange
@@ -19,6 +19,4 @@ change_at bytes place = do
 
 -- the whole list as one record
 unfoldable pub record_of : List ℕ → Read HostChange
-record_of bytes = do
-  change ← change_at bytes 0
-  if nat_lt change.1 (length bytes) then Err (Trailing change.1) else Ok change.0
+record_of bytes = alone change_at bytes 0

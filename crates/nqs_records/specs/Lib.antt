@@ -15,4 +15,5 @@ pub mod KindTable
 pub mod Kinds
 pub mod Extents
 pub mod Changes
+pub mod Whole
 pub mod Faults

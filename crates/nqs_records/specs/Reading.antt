@@ -1,10 +1,10 @@
 -- Readings: a value that stands at a place of bytes and the place behind it, or the first fault
 -- from the left.
-use Rattle.std.specs.Prelude.{◌≡◌, ℕ, zero, suc, Bool, true, false, List, [], ◌∷◌, Option, Some, None, if◌then◌else◌, Ok, Err}
+use Rattle.std.specs.Prelude.{◌≡◌, ℕ, zero, suc, Bool, true, false, nat_lt, List, [], ◌∷◌, length, Option, Some, None, if◌then◌else◌, Ok, Err}
 use Rattle.std.specs.declared.result.Result.{Result}
 pub use Rattle.nqs_base.specs.Reads.{◌>>=◌}
 use Rattle.nqs_records.specs.declared.fault.RecordFault.{RecordFault}
-use Rattle.nqs_records.specs.declared.fault.RecordFault.TheVariants.{BadField, Memory}
+use Rattle.nqs_records.specs.declared.fault.RecordFault.TheVariants.{BadField, Trailing, Memory}
 
 -- a value, or a fault
 abbrev pub Read : Type 0 → Type 0
@@ -32,6 +32,12 @@ abbrev pub within : {A : Type 0} → (A → Bool) → Reading A → Reading A
 within {A} test reading bytes place = do
   a ← reading bytes place
   if test a.0 then Ok a else Err (BadField place)
+
+-- a value, and nothing behind it
+abbrev pub alone : {A : Type 0} → Reading A → List ℕ → ℕ → Read A
+alone {A} reading bytes place = do
+  a ← reading bytes place
+  if nat_lt a.1 (length bytes) then Err (Trailing a.1) else Ok a.0
 
 -- so many values
 unfoldable pub repeated : {A : Type 0} → ℕ → Reading A → Reading (List A)

@@ -1,7 +1,8 @@
-//! Values one behind the other, and the lists of records: a count of one byte, and as many values.
+//! Values that are read, one behind the other or alone, and the lists of records: a count of one
+//! byte, and as many values.
 
 ghost use Rattle.std.specs.Prelude.{◌≡◌};
-ghost use Rattle.nqs_records.specs.Reading.{Reading, Answers, repeated, counted, within};
+ghost use Rattle.nqs_records.specs.Reading.{Reading, Answers, alone, repeated, counted, within};
 ghost use Rattle.nqs_records.specs.Fields.{u8_at, name_at};
 ghost use Rattle.nqs_records.specs.Values.{is_at_most, is_site_count};
 ghost use Rattle.nqs_records.specs.Parts.{part_at, hand_at};
@@ -48,6 +49,17 @@ impl Read<InRecord> for PeerNumber {
     fn read(_alloc: Global, bytes: &[u8], place: u64) -> Result<(PeerNumber, u64), RecordFault> {
         read_hand(bytes, place)
     }
+}
+
+/// A value, and nothing behind it.
+pub fn read_alone<F, T: Read<F>>(alloc: Global, bytes: &[u8], place: u64) -> Result<T, RecordFault>
+    ensures { Answers (alone T.at bytes.now place) result }
+{
+    let (value, end) = T::read(alloc, bytes, place)?;
+    if end < bytes.len() as u64 {
+        return Err(RecordFault::Trailing(end));
+    }
+    Ok(value)
 }
 
 /// So many values, one behind the other.

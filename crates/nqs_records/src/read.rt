@@ -2,7 +2,7 @@
 
 ghost use Rattle.std.specs.Prelude.{◌≡◌, ◌≢◌, IfOk, IfErr};
 ghost use Rattle.nqs_records.specs.Reading.{Answers};
-ghost use Rattle.nqs_records.specs.Kinds.{record_of};
+ghost use Rattle.nqs_records.specs.Kinds.{change_at, record_of};
 ghost use Rattle.nqs_records.specs.Changes.{ReadsTheSpelling, IsSpelledBy, SpellsNone, WhatMayStandIsSane};
 ghost use Rattle.nqs_records.specs.Faults.{FirstFaults};
 ghost use Rattle.nqs_records.specs.declared.fault.RecordFault.TheVariants.{Memory};
@@ -10,20 +10,26 @@ ghost use Rattle.nqs_base.specs.Want.{want};
 
 use crate::fault::RecordFault;
 use crate::field::read_u8;
+use crate::lists::{InRecord, Read, read_alone};
 use crate::request_kinds::read_kind;
 use nqs_types::Change;
 use std::alloc::Global;
 
-#[tactic(auto, unfolding(crate::specs::Kinds::change_at, crate::specs::Kinds::record_of))]
+impl Read<InRecord> for Change {
+    ghost at = { change_at };
+
+    #[tactic(auto, unfolding(crate::specs::Kinds::change_at))]
+    fn read(alloc: Global, bytes: &[u8], place: u64) -> Result<(Change, u64), RecordFault> {
+        let (kind, place) = read_u8(bytes, place)?;
+        read_kind(alloc, kind, bytes, place)
+    }
+}
+
+#[tactic(auto, unfolding(crate::specs::Kinds::record_of))]
 fn read_record(alloc: Global, bytes: &[u8]) -> Result<Change, RecordFault>
     ensures { Answers (record_of bytes.now) result }
 {
-    let (kind, place) = read_u8(bytes, 0)?;
-    let (change, end) = read_kind(alloc, kind, bytes, place)?;
-    if end < bytes.len() as u64 {
-        return Err(RecordFault::Trailing(end));
-    }
-    Ok(change)
+    read_alone::<InRecord, Change>(alloc, bytes, 0)
 }
 
 /// Reads the whole list as one record. A fault other than `Memory` is the first from the left, as

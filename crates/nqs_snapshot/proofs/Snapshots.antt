@@ -1,15 +1,16 @@
 -- What the whole list is read as, and what an answer tells.
-use Rattle.std.proofs.Common.{◌≡◌, ◌≢◌, ℕ, Bool, true, false, cond, List, refl, sym, ap, ◌∙◌, subst, Ok, Err, IfOk, IfErr}
+use Rattle.std.proofs.Common.{◌≡◌, ◌≢◌, ℕ, List, refl, sym, ap, ◌∙◌, subst, Ok, Err, IfOk, IfErr}
 use Rattle.std.specs.declared.result.Result.{Result}
-use Rattle.nqs_base.proofs.Readings.{given, bound, bind}
+use Rattle.nqs_base.proofs.Readings.{given, bound, bind, never, passed}
 use Rattle.nqs_base.specs.Want.{want}
 use Rattle.nqs_base.specs.declared.extent.Extent.{Extent}
 use Rattle.nqs_state.specs.State.{State, content}
 use Rattle.nqs_state.specs.declared.state.HostState.{HostState}
 use Rattle.nqs_records.specs.declared.fault.RecordFault.{RecordFault}
-use Rattle.nqs_records.specs.declared.fault.RecordFault.TheVariants.{Short, Kind, BadField, Trailing, Memory}
-use Rattle.nqs_records.specs.Reading.{Read, is_memory, Answers}
+use Rattle.nqs_records.specs.declared.fault.RecordFault.TheVariants.{BadField, Memory}
+use Rattle.nqs_records.specs.Reading.{Answers}
 use Rattle.nqs_records.specs.Changes.{AreBytes}
+use Rattle.nqs_records.proofs.Spelled.{not_memory}
 use Rattle.nqs_rules.specs.InOrder.{IsInOrder, IsConsistent}
 use Rattle.nqs_snapshot.specs.Sound.{is_sound}
 use Rattle.nqs_snapshot.specs.Spelling.{state_field}
@@ -19,19 +20,12 @@ use Rattle.nqs_snapshot.specs.Laws.{IsSpelledBy, ReadsTheSpelling, SpellsOne, Sp
 use Rattle.nqs_snapshot.proofs.StateLaws.{parts_of, whole_spelled, spelled_whole}
 use Rattle.nqs_snapshot.proofs.SoundLaws.{sound_is_in_order}
 
-sound_one : (s t : State Extent) → or_bad s ≡ Ok t → (is_sound s ≡ true) × (s ≡ t)
-sound_one s t e = by (is_sound s) e
-  where
-    by : (b : Bool) → ◌≡◌ {A = Read (State Extent)} (cond b (Ok s) (Err (BadField 0))) (Ok t) → (b ≡ true) × (s ≡ t)
-    by true f = (refl, sym (given s t f))
-    by false f = cc
-
 is_spelled : (bytes : List ℕ) (s : State Extent) → AreBytes bytes → snapshot_of bytes ≡ Ok s → IsSpelledBy bytes s
 unfolding snapshot_of
 is_spelled bytes s fits e =
     let p = bound (whole_of bytes) (λ p. or_bad (state_of p)) s e in
     let here = whole_spelled bytes p.0 fits p.1 in
-    let one = sound_one (state_of p.0) s p.2 in
+    let one = passed (is_sound (state_of p.0)) (BadField 0) (state_of p.0) s p.2 in
     let right = (sound_is_in_order (state_of p.0)).0 one.0 in
     subst (IsSpelledBy bytes) one.1 (here.0, record { stands = here.1; order = right.0; consistent = right.1 })
 
@@ -61,19 +55,8 @@ pub if_read : (bytes : List ℕ) (answer : Result HostState RecordFault) → Are
 if_read bytes (Ok state) fits answers = is_spelled bytes (content state) fits (sym (answers refl))
 if_read bytes (Err fault) fits answers = tt
 
-not_memory : (fault : RecordFault) → fault ≢ Memory want → is_memory {A = State Extent} (Err fault) ≡ false
-not_memory (Short place) other = refl
-not_memory (Kind place) other = refl
-not_memory (BadField place) other = refl
-not_memory (Trailing place) other = refl
-not_memory (Memory memory) other = absurd (other refl)
-
-apart : (s : State Extent) (fault : RecordFault) (r : Read (State Extent)) → Err fault ≡ r → r ≡ Ok s → ⊥
-apart s fault (Ok d) e f = cc
-apart s fault (Err x) e f = cc
-
 pub if_refused : (bytes : List ℕ) (answer : Result HostState RecordFault) → AreBytes bytes → Answers (snapshot_of bytes) (told_by answer)
     → IfErr answer (λ fault. fault ≢ Memory want → SpellsNone bytes)
 if_refused bytes (Ok state) fits answers = tt
 if_refused bytes (Err fault) fits answers = λ other s is.
-    apart s fault (snapshot_of bytes) (answers (not_memory fault other)) (spelled_is bytes s fits is)
+    never (snapshot_of bytes) s fault (spelled_is bytes s fits is) (sym (answers (not_memory fault other)))

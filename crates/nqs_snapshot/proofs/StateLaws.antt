@@ -1,13 +1,8 @@
 -- Bytes are read as a state exactly where they are its spelling.
-use Rattle.std.proofs.Common.{◌≡◌, ℕ, ◌+◌, Bool, true, false, cond, nat_lt, List, [], ◌∷◌, ◌++◌, length, refl, sym, ap, ◌∙◌, subst, arith}
-use Rattle.std.proofs.Common.{append-nil, Ok, Err}
-use Rattle.std.proofs.lemmas.Bool.{ltb-false}
-use Rattle.nqs_base.proofs.Readings.{bound, bind}
+use Rattle.std.proofs.Common.{◌≡◌, ℕ, List, [], ◌∷◌, refl, Ok}
 use Rattle.nqs_base.specs.declared.extent.Extent.{Extent}
 use Rattle.nqs_state.specs.State.{State}
 use Rattle.nqs_codec.specs.Fields.{u8_field, u16_field, u32_field, u64_field, short_field}
-use Rattle.nqs_records.specs.declared.fault.RecordFault.{RecordFault}
-use Rattle.nqs_records.specs.declared.fault.RecordFault.TheVariants.{Trailing}
 use Rattle.nqs_records.specs.Changes.{AreBytes}
 use Rattle.nqs_records.specs.Spelling.{fields, opt_field}
 use Rattle.nqs_records.specs.Values.{IsU16, IsU32, IsU64, IsOpt, IsHost}
@@ -17,7 +12,7 @@ use Rattle.nqs_records.proofs.Numbers.{u16_read, u32_read, u64_read}
 use Rattle.nqs_records.proofs.Named.{name_read}
 use Rattle.nqs_records.proofs.Chains.{both_read, mapped_read, last_read, opt_read}
 use Rattle.nqs_records.proofs.PartLaws.{host_law}
-use Rattle.nqs_records.proofs.Spelled.{nothing_left, none_behind}
+use Rattle.nqs_records.proofs.Whole.{alone_found, alone_taken}
 use Rattle.nqs_snapshot.specs.declared.parts.SitePart.{SitePart}
 use Rattle.nqs_snapshot.specs.declared.parts.RequestPart.{RequestPart}
 use Rattle.nqs_snapshot.specs.declared.parts.DealingPart.{DealingPart}
@@ -138,22 +133,10 @@ parts_of s = record {
 
 -- ---- the whole list
 
-whole : (t : Bool) (x : RecordFault) (a b : Parts) → cond t (Err x) (Ok a) ≡ Ok b → (t ≡ false) × (a ≡ b)
-whole true x a b e = cc
-whole false x a b e = (refl, cc)
-
 pub whole_spelled : (bytes : List ℕ) (p : Parts) → AreBytes bytes → whole_of bytes ≡ Ok p → (bytes ≡ state_field (state_of p)) × MayStand (state_of p)
 unfolding whole_of
-whole_spelled bytes p fits e =
-    let v = bound (parts_at bytes 0) (λ v. cond (nat_lt v.1 (length bytes)) (Err (Trailing v.1)) (Ok v.0)) p e in
-    let end = whole (nat_lt v.0.1 (length bytes)) (Trailing v.0.1) v.0.0 p v.2 in
-    let here = parts_law.found bytes 0 v.0.0 v.0.1 fits v.1 in
-    let left = nothing_left v.0.1 bytes (ltb-false v.0.1 (length bytes) end.0) in
-    let text = here.1.text ∙ ap (λ (l : List ℕ). state_field (state_of v.0.0) ++ l) left ∙ append-nil (state_field (state_of v.0.0)) in
-    (text ∙ ap (λ (q : Parts). state_field (state_of q)) end.1, subst (λ (q : Parts). MayStand (state_of q)) end.1 here.0)
+whole_spelled bytes p fits e = alone_found parts_law bytes 0 p fits e
 
 pub spelled_whole : (bytes : List ℕ) (s : State Extent) → AreBytes bytes → bytes ≡ state_field s → MayStand s → whole_of bytes ≡ Ok (parts_of s)
 unfolding whole_of
-spelled_whole bytes s fits is ok =
-    let there = parts_law.taken bytes [] 0 (parts_of s) fits ok (is ∙ sym (append-nil (state_field s))) in
-    bind (parts_at bytes 0) _ _ _ there (rw (none_behind (0 + length (state_field s)) (length bytes) (omega (arith, ap length is))) refl)
+spelled_whole bytes s fits is ok = alone_taken parts_law bytes 0 (parts_of s) fits is ok

@@ -1,10 +1,10 @@
 -- What bytes are read as: the parts of a state one behind the other, then the state, where it is
 -- sound and nothing follows.
-use Rattle.std.specs.Prelude.{ℕ, nat_lt, List, length, if◌then◌else◌, Option, Ok, Err}
+use Rattle.std.specs.Prelude.{ℕ, List, if◌then◌else◌, Option, Ok, Err}
 use Rattle.nqs_base.specs.declared.extent.Extent.{Extent}
 use Rattle.nqs_state.specs.State.{State}
-use Rattle.nqs_records.specs.declared.fault.RecordFault.TheVariants.{BadField, Trailing}
-use Rattle.nqs_records.specs.Reading.{◌>>=◌, Read, Reading, mapped, both}
+use Rattle.nqs_records.specs.declared.fault.RecordFault.TheVariants.{BadField}
+use Rattle.nqs_records.specs.Reading.{◌>>=◌, Read, Reading, mapped, both, alone}
 use Rattle.nqs_records.specs.Fields.{u16_at, u32_at, u64_at, opt_at, name_at}
 use Rattle.nqs_records.specs.Parts.{host_at}
 use Rattle.nqs_snapshot.specs.declared.parts.SitePart.{SitePart}
@@ -92,9 +92,7 @@ or_bad s = if is_sound s then Ok s else Err (BadField 0)
 
 -- the parts that stand in the whole list
 unfoldable pub whole_of : List ℕ → Read Parts
-whole_of bytes = do
-  parts ← parts_at bytes 0
-  if nat_lt parts.1 (length bytes) then Err (Trailing parts.1) else Ok parts.0
+whole_of bytes = alone parts_at bytes 0
 
 -- the whole list as one state
 unfoldable pub snapshot_of : List ℕ → Read (State Extent)

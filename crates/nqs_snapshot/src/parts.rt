@@ -3,9 +3,9 @@
 ghost use Rattle.nqs_records.specs.Reading.{Answers};
 ghost use Rattle.nqs_snapshot.specs.Reading.{site_at, requests_at, dealings_at, counters_at, parts_at};
 
-use crate::lists::{read_list, read_many};
+use crate::lists::{InSnapshot, read_list, read_many};
 use nqs_base::{Items, Name, NameList};
-use nqs_records::{RecordFault, read_host, read_opt_name, read_u16, read_u32, read_u64};
+use nqs_records::{Read, RecordFault, read_host, read_opt_name, read_u16, read_u32, read_u64};
 use nqs_state::PeerList;
 use nqs_types::{ComplexDef, DeviceDef, FileOut, Hand, HostId, Promise, QueueDef, Row, Stage};
 use std::alloc::Global;
@@ -135,24 +135,21 @@ fn read_counters(bytes: &[u8], place: u64) -> Result<(CounterPart, u64), RecordF
     Ok((part, place))
 }
 
-/// The parts of a state at the place.
-#[tactic(auto, unfolding(crate::specs::Reading::parts_at))]
-pub(crate) fn read_parts(
-    alloc: Global,
-    bytes: &[u8],
-    place: u64,
-) -> Result<(Parts, u64), RecordFault>
-    ensures { Answers (parts_at bytes.now place) result }
-{
-    let (site, place) = read_site(alloc, bytes, place)?;
-    let (requests, place) = read_requests(alloc, bytes, place)?;
-    let (dealings, place) = read_dealings(alloc, bytes, place)?;
-    let (counters, place) = read_counters(bytes, place)?;
-    let parts = Parts {
-        site,
-        requests,
-        dealings,
-        counters,
-    };
-    Ok((parts, place))
+impl Read<InSnapshot> for Parts {
+    ghost at = { parts_at };
+
+    #[tactic(auto, unfolding(crate::specs::Reading::parts_at))]
+    fn read(alloc: Global, bytes: &[u8], place: u64) -> Result<(Parts, u64), RecordFault> {
+        let (site, place) = read_site(alloc, bytes, place)?;
+        let (requests, place) = read_requests(alloc, bytes, place)?;
+        let (dealings, place) = read_dealings(alloc, bytes, place)?;
+        let (counters, place) = read_counters(bytes, place)?;
+        let parts = Parts {
+            site,
+            requests,
+            dealings,
+            counters,
+        };
+        Ok((parts, place))
+    }
 }

@@ -6,15 +6,16 @@ ghost use Rattle.nqs_state.specs.State.{content};
 ghost use Rattle.nqs_records.specs.Reading.{Answers};
 ghost use Rattle.nqs_records.specs.declared.fault.RecordFault.TheVariants.{Memory};
 ghost use Rattle.nqs_snapshot.specs.Values.{MayStand};
-ghost use Rattle.nqs_snapshot.specs.Reading.{parts_at, state_of, or_bad, whole_of, snapshot_of};
+ghost use Rattle.nqs_snapshot.specs.Reading.{state_of, or_bad, whole_of, snapshot_of};
 ghost use Rattle.nqs_rules.specs.InOrder.{IsInOrder, IsConsistent};
 ghost use Rattle.nqs_snapshot.specs.Sound.{HasShortParts};
 ghost use Rattle.nqs_snapshot.specs.Laws.{IsSpelledBy, SpellsNone, told_by};
 
 use crate::build::build;
-use crate::parts::{Parts, read_parts};
+use crate::lists::InSnapshot;
+use crate::parts::Parts;
 use crate::sound::may_go_on;
-use nqs_records::RecordFault;
+use nqs_records::{RecordFault, read_alone};
 use nqs_state::HostState;
 use std::alloc::Global;
 
@@ -23,11 +24,7 @@ use std::alloc::Global;
 fn read_whole(alloc: Global, bytes: &[u8]) -> Result<Parts, RecordFault>
     ensures { Answers (whole_of bytes.now) result }
 {
-    let (parts, end) = read_parts(alloc, bytes, 0)?;
-    if end < bytes.len() as u64 {
-        return Err(RecordFault::Trailing(end));
-    }
-    Ok(parts)
+    read_alone::<InSnapshot, Parts>(alloc, bytes, 0)
 }
 
 // The state of the parts, where a host may go on from it.
