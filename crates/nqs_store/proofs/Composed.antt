@@ -15,7 +15,7 @@ use Rattle.nqs_rules.specs.World.{spool_calls}
 use Rattle.nqs_snapshot.specs.Reading.{snapshot_of}
 use Rattle.nqs_store.specs.Told.{Host}
 use Rattle.nqs_store.specs.Active.{Active, journal_of, other_of, turned_to, ready}
-use Rattle.nqs_store.specs.Hosts.{HostCall, on, part, Runs, StopsShort as HostStops}
+use Rattle.nqs_store.specs.Hosts.{HostCall, failed_on, on, part, Runs, StopsShort as HostStops}
 use Rattle.nqs_store.specs.Plan.{puts_calls, change_calls, checkpoint_calls, due_calls, commit_calls, CommitsBy}
 use Rattle.nqs_store.specs.Images.{IsTold, TellsOneOf}
 use Rattle.nqs_store.specs.Moments.{Moments}
@@ -27,11 +27,12 @@ use Rattle.nqs_store.specs.Stores.{Tells, plain_of, history_of, active_of}
 use Rattle.nqs_store.specs.declared.store.Store.{Store}
 use Rattle.nqs_store.proofs.HostRuns.{part_own, part_append, runs_both, runs_none, length_on, moments_both, moments_weaker, moments_none}
 use Rattle.nqs_store.proofs.HostRuns.{no_pending}
-use Rattle.nqs_store.proofs.HostRuns.{behind_stops, before_stops, none_stops, stops_size}
+use Rattle.nqs_store.proofs.HostRuns.{none_stops, stops_size}
 use Rattle.nqs_store.proofs.EachDisk.{root_is_no_journal, root_apart, spool_apart}
 use Rattle.nqs_store.proofs.Committed.{quiet}
 use Rattle.nqs_store.proofs.TellsNow.{told_now}
 use Rattle.nqs_store.proofs.Changed.{part_apart}
+use Rattle.nqs_store.proofs.Runs.{stops_before, stops_behind}
 
 -- where no checkpoint is due
 module _ (a : Active) (not_due : is_due a.records ≡ false) where
@@ -227,7 +228,7 @@ module _ {D : Type 0} {g : disk.Ghosts D} where
 
     turn_stops : HostStops (commit_calls a' snapshot no_places puts 0 []) t.run
     turn_stops = subst (λ l. HostStops l t.run) (sym (there_calls a' due snapshot no_places puts 0 []))
-        (before_stops (checkpoint_calls a' snapshot) (change_calls (turned_to a') no_places puts 0 []) t.run t.stands)
+        (stops_before failed_on (checkpoint_calls a' snapshot) (change_calls (turned_to a') no_places puts 0 []) t.run t.stands)
 
     pub turn_by : CommitsBy HostStops a' puts (history_of old) (history_of now)
     turn_by = record {
@@ -267,16 +268,7 @@ module _ {D : Type 0} {g : disk.Ghosts D} where
     pub turn_cut : (fails : Which → ℕ → Bool) (before : Plain) (which : Which) → IsTurnCut a' fails (history_of old) (history_of now) before which
         → IsCutAt a' fails puts (history_of old) (history_of now) before later which
     turn_cut fails before which (inl cut) =
-        subst (IsCutAt a' fails puts (history_of old) (history_of now) before later) (sym cut.0) (by (not a'.second) refl (inl (
-          refl,
-          record {
-            due = due;
-            at = cut.1.at;
-            failed = cut.1.failed;
-            root = cut.1.root;
-            told = cut.1.told;
-          },
-        )))
+        subst (IsCutAt a' fails puts (history_of old) (history_of now) before later) (sym cut.0) (by (not a'.second) refl (inl (refl, due, cut.1)))
       where
         by : (b : Bool) → not a'.second ≡ b → IsCutOn a' fails puts (history_of old) (history_of now) before later (not a'.second)
             → IsCutAt a' fails puts (history_of old) (history_of now) before later (journal_on (not a'.second))
@@ -284,14 +276,7 @@ module _ {D : Type 0} {g : disk.Ghosts D} where
             (subst (IsCutOn a' fails puts (history_of old) (history_of now) before later) is cut)
         by false is cut = subst (λ c. IsCutAt a' fails puts (history_of old) (history_of now) before later (journal_on c)) (sym is)
             (subst (IsCutOn a' fails puts (history_of old) (history_of now) before later) is cut)
-    turn_cut fails before which (inr cut) = subst (IsCutAt a' fails puts (history_of old) (history_of now) before later) (sym cut.0) (record {
-      due = due;
-      other = cut.1.other;
-      at = cut.1.at;
-      failed = cut.1.failed;
-      pending = cut.1.pending;
-      told = cut.1.told;
-    })
+    turn_cut fails before which (inr cut) = subst (IsCutAt a' fails puts (history_of old) (history_of now) before later) (sym cut.0) (due, cut.1)
 
   -- the calls of a checkpoint, and then those of the change
   module _ (old mid now : Store D g) (puts : List (List ℕ)) (host : Host) (later : Plain) (snapshot : List ℕ) (due : is_due (active_of old).records ≡ true)
@@ -346,7 +331,7 @@ module _ {D : Type 0} {g : disk.Ghosts D} where
           begun = subst (λ l. IsBegun l (checkpoint_calls b snapshot ++ c.run)) (sym (whole_is c.places c.gate c.payload))
               (elim (begins _ c.run c.stands) [
                 | inl is ↦ inl (ap (λ l. checkpoint_calls b snapshot ++ l) is)
-                | inr is ↦ inr (behind_stops (checkpoint_calls b snapshot) _ c.run is)
+                | inr is ↦ inr (stops_behind failed_on (checkpoint_calls b snapshot) _ c.run is)
               ]);
           made = runs_both (history_of old) (history_of mid) (history_of now) (checkpoint_calls b snapshot) c.run checkpoint_run c.made;
           told = m.told;

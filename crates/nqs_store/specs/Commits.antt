@@ -107,10 +107,9 @@ pub record IsAtHostGate (a : Active) (now : Which → History) (before after : P
       (λ image. (images : Which → List ℕ) → AreImages now images (journal_of a) image → IsTold images before × IsActive images a)
       (λ image. (images : Which → List ℕ) → AreImages now images (journal_of a) image → IsTold images after × IsActive images (recorded a))
 
-module _ (a : Active) (fails : Which → ℕ → Bool) (puts : List (List ℕ)) (old now : Which → History) (before after : Plain) where
+module _ (a : Active) (fails : Which → ℕ → Bool) (old now : Which → History) (before : Plain) where
   -- A call of a checkpoint failed, by which the other journal is written. The active one stays.
   pub record IsCutAtOther : Type 0 where
-    pub due : IsTrue (is_due a.records)
     pub at : ℕ
     pub failed : FailsFirst (fails (other_of a)) (moment (old (other_of a))) 2 at
     pub root : now Root ≡ old Root
@@ -119,13 +118,13 @@ module _ (a : Active) (fails : Which → ℕ → Bool) (puts : List (List ℕ)) 
   -- A call of a checkpoint failed, by which the root is turned over. Only its first byte is
   -- pending, and whichever journal it names tells the state before the change.
   pub record IsCutAtRoot : Type 0 where
-    pub due : IsTrue (is_due a.records)
     pub other : AreClear (fails (other_of a)) (moment (old (other_of a))) 2
     pub at : ℕ
     pub failed : FailsFirst (fails Root) (moment (old Root)) 2 at
     pub pending : state (now Root) ≡ record { synced = content (old Root); content = turned (content (old Root)); ranges = (0, 1) ∷ [] }
     pub told : EachImage now (λ images. IsTold images before × IsActive images (named_in (images Root) a))
 
+module _ (a : Active) (fails : Which → ℕ → Bool) (puts : List (List ℕ)) (old now : Which → History) (before after : Plain) where
   -- a call of the spool failed
   pub record IsCutAtSpool : Type 0 where
     pub past : IsPast a fails old
@@ -145,13 +144,15 @@ module _ (a : Active) (fails : Which → ℕ → Bool) (puts : List (List ℕ)) 
     pub told : at < 2 → LeavesHost now before (ready a)
     pub gate : 2 ≤ at → IsAtHostGate (ready a) now before after
 
-  -- a call of one of the journals, of that on `second` or of the other, cut a commit off
+  -- a call of one of the journals, of that on `second` or of the other, cut a commit off: one of a
+  -- checkpoint, which was due, or one of the record
   abbrev pub IsCutOn : Bool → Type 0
-  IsCutOn second = ((not a.second ≡ second) × IsCutAtOther) ⊎ (((ready a).second ≡ second) × IsCutAtRecord)
+  IsCutOn second = ((not a.second ≡ second) × IsTrue (is_due a.records) × IsCutAtOther a fails old now before)
+      ⊎ (((ready a).second ≡ second) × IsCutAtRecord)
 
-  -- a call of this disk cut a commit off
+  -- a call of this disk cut a commit off; one of the root, where a checkpoint was due
   abbrev pub IsCutAt : Which → Type 0
-  IsCutAt Root = IsCutAtRoot
+  IsCutAt Root = IsTrue (is_due a.records) × IsCutAtRoot a fails old now before
   IsCutAt First = IsCutOn false
   IsCutAt Second = IsCutOn true
   IsCutAt Spool = IsCutAtSpool
