@@ -1,5 +1,5 @@
 -- What is kept, seen from before the reads that come first.
-use Rattle.std.proofs.Common.{◌≡◌, ℕ, Bool, IsTrue, List, Option, option_map, None, Some, sym, ap, subst, ◌∙◌}
+use Rattle.std.proofs.Common.{◌≡◌, ℕ, Bool, IsTrue, List, Option, option_map, None, Some, refl, sym, ap, subst, ◌∙◌}
 use Rattle.nqs_base.specs.Extents.{extent_bytes}
 use Rattle.nqs_state.specs.State.{Plain}
 use Rattle.nqs_base.specs.declared.extent.Extent.{Extent}
@@ -23,7 +23,8 @@ use Rattle.nqs_store.specs.Told.{Host}
 use Rattle.nqs_store.specs.declared.store.Store.{Store}
 use Rattle.nqs_store.specs.declared.fault.StoreFault.{StoreFault}
 use Rattle.nqs_store.specs.declared.fault.StoreFault.TheVariants.{Disk}
-use Rattle.nqs_node.proofs.Nothing.{none_broken, none_one, all_quiet, told_images}
+use Rattle.nqs_store.proofs.Composed.{idle_by}
+use Rattle.nqs_node.proofs.Nothing.{none_one, all_quiet, told_images}
 use Rattle.nqs_node.specs.Carried.{Kept, IsMade, IsCutBy, IsBrokenOff, IsOneOrOther}
 use Rattle.nqs_node.specs.Planned.{IsKeptWith}
 
@@ -39,7 +40,7 @@ read_failed P fault Spool only e then = then e
 pub still_broken_off : (a : Active) (old now : Which → History) → ((which : Which) → now which ≡ old which) → (kept : Kept) → IsBrokenOff a old now kept
 still_broken_off a old now same None = same
 still_broken_off a old now same (Some c) = subst (λ (h : Which → History). CommitsBy StopsShort a (stored_parts c) old h) (λ j which. sym (same which) j)
-    (none_broken a (stored_parts c) old)
+    (idle_by a old old (stored_parts c) (λ which. refl))
 
 module _ {D : Type 0} {g : disk.Ghosts D} (old mid : Store D g) (same : (which : Which) → history_of mid which ≡ history_of old which) where
   pub still_one : (host : Host) → IsTrue g.tells → Tells old host → (kept : Kept)

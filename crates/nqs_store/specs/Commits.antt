@@ -1,5 +1,5 @@
 -- What a commit leaves of a host's disks: the calls that it made, and where a stop cut it off.
-use Rattle.std.specs.Prelude.{◌≡◌, ◌≢◌, ◌⊎◌, ℕ, ◌+◌, ◌<◌, ◌≤◌, true, false, Bool, IsTrue, not, if◌then◌else◌, List, [], ◌∷◌, ◌++◌, length, take}
+use Rattle.std.specs.Prelude.{◌≡◌, ◌≢◌, ◌⊎◌, ℕ, ◌+◌, ◌<◌, ◌≤◌, true, false, Bool, IsTrue, not, if◌then◌else◌, List, [], ◌∷◌, ◌++◌, take}
 use Rattle.nqs_state.specs.State.{Plain}
 use Rattle.nqs_types.specs.declared.world.Which.{Which}
 use Rattle.nqs_types.specs.declared.world.Which.TheVariants.{Root, First, Second, Spool}
@@ -10,7 +10,7 @@ use Rattle.nqs_journal.specs.Plan.{begin_calls}
 use Rattle.nqs_rules.specs.Journals.{is_due, turned, byte_of}
 use Rattle.nqs_rules.specs.World.{spool_calls}
 use Rattle.nqs_store.specs.Active.{Active, IsActive, journal_of, other_of, ready, recorded, named_in}
-use Rattle.nqs_store.specs.Hosts.{HostCall, StopsShort, Runs, EachPrefix, part}
+use Rattle.nqs_store.specs.Hosts.{HostCall, StopsShort, EachPrefix, part}
 use Rattle.nqs_store.specs.Images.{IsTold, TellsOneOf}
 use Rattle.nqs_store.specs.Plan.{CommitsBy, due_calls, commit_calls}
 
@@ -80,17 +80,11 @@ before_record a snapshot old = extended (old (journal_of (ready a))) (part (jour
 -- state before the change or the one after it, and at most one of the disks has writes pending.
 -- Where all were made, the journal has one record more.
 pub record Keeping (a : Active) (puts : List (List ℕ)) (old now : Which → History) (before later : Plain) : Type 0 where
-  pub snapshot : List ℕ
-  pub places : List ℕ
-  pub gate : ℕ
-  pub payload : List ℕ
-  pub run : List HostCall
-  pub many : length places ≡ length puts
-  pub begun : IsBegun (commit_calls a snapshot places puts gate payload) run
-  pub made : Runs old now run
-  pub told : EachPrefix old run (TellsOneOf before later)
-  pub settled : (j : ℕ) (v w : Which) → v ≢ w → IsSettled old (take j run) v ⊎ IsSettled old (take j run) w
-  pub one_more : run ≡ commit_calls a snapshot places puts gate payload → HasOneMore (before_record a snapshot old) (now (journal_of (ready a)))
+  pub calls : CommitsBy IsBegun a puts old now
+  pub told : EachPrefix old calls.run (TellsOneOf before later)
+  pub settled : (j : ℕ) (v w : Which) → v ≢ w → IsSettled old (take j calls.run) v ⊎ IsSettled old (take j calls.run) w
+  pub one_more : calls.run ≡ commit_calls a calls.snapshot calls.places puts calls.gate calls.payload
+      → HasOneMore (before_record a calls.snapshot old) (now (journal_of (ready a)))
 
 -- Whatever images the disks may leave now tell the state, and this is the active journal.
 abbrev pub LeavesHost : (Which → History) → Plain → Active → Type 0
